@@ -1,0 +1,127 @@
+//! The order of rows.
+ghost use Rattle.std.specs.Prelude.{◌≡◌, ℕ, length, map, Some};
+ghost use Rattle.span_core.specs.Block.{block, digit, marker};
+ghost use Rattle.span_core.specs.Order.{IsOrderOf, Finds, earlier_of, RowsAreOrdered};
+
+use crate::{Row, Span};
+use std::cmp::Ordering;
+
+impl Ord for Row {
+    ghost use Rattle.span_core.specs.Order.{row_cmp};
+    ghost use Rattle.span_core.specs.TotalLaws.{rows_total};
+    ghost use Rattle.std.proofs.Common.{rules};
+    ghost use Rattle.std.specs.Cmp.Rules.{comparing};
+
+    ghost cmp = { row_cmp };
+
+    ghost total = { rows_total };
+
+    ghost matches_partial_cmp = { Prim.search (comparing, rules) };
+
+    ghost matches_eq = { Prim.search (comparing, rules) };
+
+    fn cmp(&self, other: &Row) -> Ordering {
+        compare(self, other)
+    }
+}
+
+impl PartialOrd for Row {
+    ghost use Rattle.span_core.specs.Order.{row_cmp};
+    ghost use Rattle.span_core.specs.TotalLaws.{rows_total};
+    ghost use Rattle.std.specs.Ordering.{as_partial_cmp};
+    ghost use Rattle.std.specs.Prelude.{refl};
+    ghost use Rattle.std.specs.Cmp.{po};
+
+    ghost partial_cmp = { as_partial_cmp row_cmp };
+
+    ghost laws = { po rows_total (λ x y. refl) };
+
+    fn partial_cmp(&self, other: &Row) -> Option<Ordering> {
+        Some(self.cmp(other))
+    }
+}
+
+impl PartialEq for Row {
+    ghost use Rattle.span_core.specs.Order.{row_cmp};
+    ghost use Rattle.span_core.specs.TotalLaws.{rows_total};
+    ghost use Rattle.std.specs.Ordering.{eq_by_cmp};
+    ghost use Rattle.std.specs.Cmp.{eq_by_cmp_equiv, partial_equiv_from_equiv};
+
+    ghost eq = { eq_by_cmp row_cmp };
+
+    ghost laws = { partial_equiv_from_equiv (eq_by_cmp_equiv rows_total) };
+
+    fn eq(&self, other: &Row) -> bool {
+        self.cmp(other).is_eq()
+    }
+}
+
+impl Eq for Row {
+    ghost use Rattle.span_core.specs.TotalLaws.{rows_total};
+    ghost use Rattle.std.proofs.lemmas.Cmp.{eq_by_cmp_equiv};
+
+    ghost laws = { eq_by_cmp_equiv rows_total };
+}
+
+/// The order of rows is a strict total order.
+pub fn rows_are_ordered()
+    ensures { RowsAreOrdered }
+{}
+
+/// The order of two rows: the shorter comes first, and rows of one length are in block order.
+pub fn compare(a: &Row, b: &Row) -> Ordering
+    ensures { IsOrderOf result a.now b.now }
+{
+    let a = a.spans();
+    let b = b.spans();
+    match a.len().cmp(&b.len()) {
+        Ordering::Equal => match difference(a, b) {
+            None => Ordering::Equal,
+            Some((_, order)) => order,
+        },
+        order => order,
+    }
+}
+
+/// The first position at which the blocks of two rows differ, and the order that follows.
+fn difference(a: &[Span], b: &[Span]) -> Option<(u32, Ordering)>
+    requires { length a.now ≡ length b.now }
+    ensures { Finds (block (map Some a.now)) (block (map Some b.now)) result }
+{
+    let mut found = None;
+    for k in (0..a.len()).rev() {
+        found = earlier(span_difference(a[k], b[k]), found);
+    }
+    found
+}
+
+/// The first position at which the markers of one variable make a difference.
+fn span_difference(a: Span, b: Span) -> Option<(u32, Ordering)>
+    ensures { Finds (digit (Some a)) (digit (Some b)) result }
+{
+    earlier(
+        marker_difference(a.start, b.start),
+        marker_difference(a.end, b.end),
+    )
+}
+
+/// The first position at which one marker, which stands at `a` and at `b`, makes a difference.
+fn marker_difference(a: u32, b: u32) -> Option<(u32, Ordering)>
+    ensures { (bit : ℕ) → Finds (marker bit a) (marker bit b) result }
+{
+    match a.cmp(&b) {
+        Ordering::Equal => None,
+        order => Some((a.min(b), order)),
+    }
+}
+
+/// The first of two differences.
+fn earlier(front: Option<(u32, Ordering)>, back: Option<(u32, Ordering)>) -> Option<(u32, Ordering)>
+    ensures { result ≡ earlier_of front back }
+{
+    match (front, back) {
+        (Some(front), Some(back)) => Some(if back.0 < front.0 { back } else { front }),
+        (None, back) => back,
+        (front, None) => front,
+    }
+}
