@@ -3,7 +3,7 @@ ghost use Rattle.std.specs.Prelude.{◌≡◌, ℕ, ◌*◌, ◌<◌, ◌≤◌,
 ghost use Rattle.std.specs.Int.{bit_at};
 ghost use Rattle.span_core.specs.declared.span.Span.{Span};
 ghost use Rattle.span_core.specs.Block.{block};
-ghost use Rattle.span_core.specs.Blocks.{Ascends, listed, IsRowOf, BlocksTellRows};
+ghost use Rattle.span_core.specs.Blocks.{Ascends, listed, IsRowOf, HaveFault, BlocksTellRows, FaultsTellNoRow};
 
 use crate::{MOST_VARIABLES, Marks, Row, Span};
 
@@ -14,6 +14,7 @@ impl Row {
         requires ascending { Ascends blocks.now }
         ensures some { IfSome result (λ row. IsRowOf v blocks.now row) }
         ensures none { IfNone result ((row : List (Option Span)) → ¬ IsRowOf v blocks.now row) }
+        ensures fault { IfNone result (HaveFault v blocks.now) }
     {
         let mut row = Row::empty();
         for k in 0..v {
@@ -57,4 +58,10 @@ fn place_of(blocks: &[(u32, Marks)], bit: usize) -> Option<u32>
 /// The blocks of a row determine it, and `Row::marks_at` says how a row determines its blocks.
 pub fn blocks_tell_rows()
     ensures { BlocksTellRows }
+{}
+
+/// Blocks are those of no row exactly where some variable is not opened once and closed once at
+/// the same position or a later one, or a bit of no variable is set.
+pub fn faults_tell_no_row()
+    ensures { FaultsTellNoRow }
 {}

@@ -6,6 +6,7 @@ use Rattle.span_core.specs.declared.span.Span.{Span}
 use Rattle.span_core.specs.Block.{opening_bit, closing_bit}
 use Rattle.span_core.specs.Blocks.{listed}
 use Rattle.span_core.proofs.BlockBits.{bit_positive}
+use Rattle.span_core.proofs.BlockFaults.{fault_found}
 use Rattle.span_core.proofs.RowOfBlocks.{IsListed, never_opens, never_closes, never_backward, only_more, listed_more, row_is, row_is_not}
 use Rattle.span_core.proofs.row.Row.of_blocks.Goals as goal
 
@@ -18,6 +19,17 @@ returns-in_err-end-clause-none c = rw c.from_residual-in_err-end.ensures (never_
 pub returns-then-end-start-clause-none : goal.returns-then-end-start-clause-none
 returns-then-end-start-clause-none c =
     never_backward c.args.v c.loop-k.k c.in_ok-start.start c.in_ok-end.end c.args.blocks.now (omega arith) c.in_ok-start.ensures.some c.in_ok-end.ensures.some c.if-end-start.true
+
+pub returns-in_err-start-clause-fault : goal.returns-in_err-start-clause-fault
+returns-in_err-start-clause-fault c = rw c.from_residual.ensures (fault_found c.args.v c.args.blocks.now (never_opens c.args.v c.loop-k.k c.args.blocks.now (omega arith) c.in_err-start.ensures.none))
+
+pub returns-in_err-end-clause-fault : goal.returns-in_err-end-clause-fault
+returns-in_err-end-clause-fault c = rw c.from_residual-in_err-end.ensures (fault_found c.args.v c.args.blocks.now (never_closes c.args.v c.loop-k.k c.args.blocks.now (omega arith) c.in_err-end.ensures.none))
+
+pub returns-then-end-start-clause-fault : goal.returns-then-end-start-clause-fault
+returns-then-end-start-clause-fault c =
+    fault_found c.args.v c.args.blocks.now
+    (never_backward c.args.v c.loop-k.k c.in_ok-start.start c.in_ok-end.end c.args.blocks.now (omega arith) c.in_ok-start.ensures.some c.in_ok-end.ensures.some c.if-end-start.true)
 
 pub loop-k-preserved : goal.loop-k-preserved
 loop-k-preserved c =
@@ -42,3 +54,6 @@ returns-else-has_blocks-clause-none c =
     let ends : c.loop-k.k ≡ c.args.v = omega arith in
     row_is_not c.args.v c.args.blocks.now c.loop-k.row c.requires.ascending (iff_false c.has_blocks.ensures c.if-has_blocks.false)
     (λ row h. c.loop-k.invariant.only row h ∙ ap (λ n. take n row) ends)
+
+pub returns-else-has_blocks-clause-fault : goal.returns-else-has_blocks-clause-fault
+returns-else-has_blocks-clause-fault c = fault_found c.args.v c.args.blocks.now (returns-else-has_blocks-clause-none c)
