@@ -8,7 +8,7 @@ use Rattle.std.proofs.lemmas.Nat.Bits.{bit_at-zero, bit_at_cat_low, bit_at_cat_h
 use Rattle.span_core.specs.declared.span.Span.{Span}
 use Rattle.span_core.specs.Block.{IsTotal, digit, opening_bit, closing_bit, markers_from, block}
 use Rattle.span_core.specs.BlockLaws.{markers_are, markers_below}
-use Rattle.span_core.specs.Blocks.{listed, IsRowOf}
+use Rattle.span_core.specs.Blocks.{listed, IsRowOfBlocks}
 
 -- ---- one digit
 
@@ -83,7 +83,7 @@ block_closes v k at row d s h l is =
     let e : closing_bit v k ≡ 2 * (v - (k + 1)) + 0 = omega arith in
     ap (bit_at (block row at)) e ∙ row_bit v k 0 at row d h l (omega arith) ∙ ap (λ o. bit_at (digit o at) 0) is ∙ digit_closes s at
 
-module _ (v k : ℕ) (blocks : List (ℕ × ℕ)) (row : List (Option Span)) (d : Option Span) (s : Span) (h : IsRowOf v blocks row) (l : k < v) (is : get_or row k d ≡ Some s) where
+module _ (v k : ℕ) (blocks : List (ℕ × ℕ)) (row : List (Option Span)) (d : Option Span) (s : Span) (h : IsRowOfBlocks v blocks row) (l : k < v) (is : get_or row k d ≡ Some s) where
   pub row_opens : (at : ℕ) → bit_at (listed blocks at) (opening_bit v k) ≡ from_bool (s.start == at)
   row_opens at = ap (λ n. bit_at n (opening_bit v k)) (sym (h.blocks_are at)) ∙ block_opens v k at row d s h.variables l is
 

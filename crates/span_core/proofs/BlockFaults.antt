@@ -11,7 +11,7 @@ use Rattle.std.proofs.lemmas.Nat.Bits.{bit_at-lt, bit_at-zero, bit_at_above, sam
 use Rattle.span_core.specs.declared.span.Span.{Span}
 use Rattle.span_core.specs.Block.{IsTotal, opening_bit, closing_bit, block}
 use Rattle.span_core.specs.BlockLaws.{block_below}
-use Rattle.span_core.specs.Blocks.{listed, IsRowOf, IsMarked, IsMarkedOnce, IsOpenedAndClosed, HaveFault, FaultsTellNoRow}
+use Rattle.span_core.specs.Blocks.{listed, IsRowOfBlocks, IsMarked, IsMarkedOnce, IsOpenedAndClosed, HaveFault, FaultsTellNoRow}
 use Rattle.span_core.proofs.BlockBits.{span_at, row_opens, row_closes, start_is, end_is, set_here, block_opens, block_closes}
 use Rattle.span_core.proofs.ListedBlocks.{past_listed, listed_past}
 
@@ -180,7 +180,7 @@ module _ (v : ℕ) (blocks : List (ℕ × ℕ)) where
           bit_at_above (block made_row at) (2 * v) bit (block_below v at made_row made_length) le ∙ sym (zero_or_one (bit_at (listed blocks at) bit) (bit_at-lt (listed blocks at) bit) (none bit at le)))
     ]
 
-    made_is : IsRowOf v blocks made_row
+    made_is : IsRowOfBlocks v blocks made_row
     made_is = record {
       variables = made_length;
       total = λ k d l. let c = made_at k d (omega (arith, made_length)) in ap is_some c.1;
@@ -191,7 +191,7 @@ module _ (v : ℕ) (blocks : List (ℕ × ℕ)) where
 
 module _ (v : ℕ) (blocks : List (ℕ × ℕ)) where
   abbrev NoRow : Type 0
-  NoRow = (row : List (Option Span)) → IsRowOf v blocks row → ⊥
+  NoRow = (row : List (Option Span)) → IsRowOfBlocks v blocks row → ⊥
 
   opened_and_closed : (k : ℕ) → Decided (IsOpenedAndClosed v k blocks) → ((IsOpenedAndClosed v k blocks → ⊥) → ⊥) → IsOpenedAndClosed v k blocks
   opened_and_closed k (inl c) h = c
@@ -216,7 +216,7 @@ module _ (v : ℕ) (blocks : List (ℕ × ℕ)) where
   fault_found refuse = fault_from refuse (search_below Unopened unopened v)
 
   -- each variable of a row is opened and closed
-  row_opened_and_closed : (row : List (Option Span)) → IsRowOf v blocks row → (k : ℕ) → k < v → IsOpenedAndClosed v k blocks
+  row_opened_and_closed : (row : List (Option Span)) → IsRowOfBlocks v blocks row → (k : ℕ) → k < v → IsOpenedAndClosed v k blocks
   row_opened_and_closed row h k l =
       let s = span_at row k None h.total (omega (arith, h.variables)) in
       record {

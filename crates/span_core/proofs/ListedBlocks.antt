@@ -4,14 +4,14 @@ use Rattle.std.specs.Prelude.{if◌then◌else◌, ◌==◌}
 use Rattle.std.proofs.lemmas.Bool.{cases_eq, eq-eqb, ne_eqb, cond_both}
 use Rattle.span_core.specs.Blocks.{Ascends, listed}
 
-adjacent : (bs : List (ℕ × ℕ)) (j : ℕ) (d : ℕ × ℕ) → Ascends bs → suc j < length bs → (get_or bs j d).0 < (get_or bs (suc j) d).0
+pub adjacent : (bs : List (ℕ × ℕ)) (j : ℕ) (d : ℕ × ℕ) → Ascends bs → suc j < length bs → (get_or bs j d).0 < (get_or bs (suc j) d).0
 adjacent bs j d h l = subst (λ (n : ℕ). (get_or bs j d).0 < (get_or bs n d).0) (add-one j) (h j d (omega arith))
 
-tail_ascends : (b : ℕ × ℕ) (bs : List (ℕ × ℕ)) → Ascends (b ∷ bs) → Ascends bs
+pub tail_ascends : (b : ℕ × ℕ) (bs : List (ℕ × ℕ)) → Ascends (b ∷ bs) → Ascends bs
 tail_ascends b bs h = λ k d l. let e : suc k ≡ k + 1 = omega arith in
     subst (λ (n : ℕ). (get_or bs k d).0 < (get_or bs n d).0) e (adjacent (b ∷ bs) (suc k) d h (omega arith))
 
-first_below : (b : ℕ × ℕ) (bs : List (ℕ × ℕ)) (j : ℕ) (d : ℕ × ℕ) → Ascends (b ∷ bs) → j < length bs → b.0 < (get_or bs j d).0
+pub first_below : (b : ℕ × ℕ) (bs : List (ℕ × ℕ)) (j : ℕ) (d : ℕ × ℕ) → Ascends (b ∷ bs) → j < length bs → b.0 < (get_or bs j d).0
 first_below b bs zero d h l = adjacent (b ∷ bs) zero d h (omega arith)
 first_below b bs (suc j) d h l =
     let before : b.0 < (get_or bs j d).0 = first_below b bs j d h (omega arith) in

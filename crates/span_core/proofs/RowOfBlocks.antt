@@ -8,24 +8,24 @@ use Rattle.std.proofs.lemmas.List.Elements.{All-push}
 use Rattle.span_core.specs.declared.span.Span.{Span}
 use Rattle.span_core.specs.Block.{IsTotal, opening_bit, closing_bit, markers_from, block}
 use Rattle.span_core.specs.OrderLaws.{marker_other, span_eq}
-use Rattle.span_core.specs.Blocks.{Ascends, listed, IsRowOf}
+use Rattle.span_core.specs.Blocks.{Ascends, listed, IsRowOfBlocks}
 use Rattle.span_core.proofs.BlockBits.{span_at, row_opens, row_closes, start_is, end_is, set_here}
 use Rattle.span_core.proofs.ListedBlocks.{listed_at, agrees}
 
 -- ---- where there is no row
 
-pub never_opens : (v k : ℕ) (blocks : List (ℕ × ℕ)) → k < v → ((at : ℕ) → bit_at (listed blocks at) (opening_bit v k) ≡ 0) → (row : List (Option Span)) → IsRowOf v blocks row → ⊥
+pub never_opens : (v k : ℕ) (blocks : List (ℕ × ℕ)) → k < v → ((at : ℕ) → bit_at (listed blocks at) (opening_bit v k) ≡ 0) → (row : List (Option Span)) → IsRowOfBlocks v blocks row → ⊥
 never_opens v k blocks l none row h =
     let s = span_at row k None h.total (omega (arith, h.variables)) in
     omega (arith, none s.0.start, row_opens v k blocks row None s.0 h l s.1 s.0.start, set_here s.0.start)
 
-pub never_closes : (v k : ℕ) (blocks : List (ℕ × ℕ)) → k < v → ((at : ℕ) → bit_at (listed blocks at) (closing_bit v k) ≡ 0) → (row : List (Option Span)) → IsRowOf v blocks row → ⊥
+pub never_closes : (v k : ℕ) (blocks : List (ℕ × ℕ)) → k < v → ((at : ℕ) → bit_at (listed blocks at) (closing_bit v k) ≡ 0) → (row : List (Option Span)) → IsRowOfBlocks v blocks row → ⊥
 never_closes v k blocks l none row h =
     let s = span_at row k None h.total (omega (arith, h.variables)) in
     omega (arith, none s.0.end, row_closes v k blocks row None s.0 h l s.1 s.0.end, set_here s.0.end)
 
 pub never_backward : (v k start end : ℕ) (blocks : List (ℕ × ℕ)) → k < v → bit_at (listed blocks start) (opening_bit v k) ≡ 1 → bit_at (listed blocks end) (closing_bit v k) ≡ 1 → end < start
-    → (row : List (Option Span)) → IsRowOf v blocks row → ⊥
+    → (row : List (Option Span)) → IsRowOfBlocks v blocks row → ⊥
 never_backward v k start end blocks l opens closes back row h =
     let s = span_at row k None h.total (omega (arith, h.variables)) in
     omega (arith, start_is v k blocks row None s.0 h l s.1 start opens, end_is v k blocks row None s.0 h l s.1 end closes, s.0.ordered)
@@ -34,7 +34,7 @@ never_backward v k start end blocks l opens closes back row h =
 
 -- one variable more of it
 pub only_more : (v k : ℕ) (blocks : List (ℕ × ℕ)) (so_far : List (Option Span)) (s : Span) → k < v → bit_at (listed blocks s.start) (opening_bit v k) ≡ 1 → bit_at (listed blocks s.end) (closing_bit v k) ≡ 1
-    → (row : List (Option Span)) → IsRowOf v blocks row → so_far ≡ take k row → so_far ++ Some s ∷ [] ≡ take (k + 1) row
+    → (row : List (Option Span)) → IsRowOfBlocks v blocks row → so_far ≡ take k row → so_far ++ Some s ∷ [] ≡ take (k + 1) row
 only_more v k blocks so_far s l opens closes row h e =
     let t = span_at row k (Some s) h.total (omega (arith, h.variables)) in
     let same : t.0 ≡ s = span_eq t.0 s (start_is v k blocks row (Some s) t.0 h l t.1 s.start opens) (end_is v k blocks row (Some s) t.0 h l t.1 s.end closes) in
@@ -66,7 +66,7 @@ listed_present blocks None h = absurd h
 listed_present blocks (Some s) h = refl
 
 -- the row has the blocks
-pub row_is : (v : ℕ) (blocks : List (ℕ × ℕ)) (row : List (Option Span)) → length row ≡ v → All (IsListed blocks) row → All (λ b. block row b.0 ≡ b.1) blocks → IsRowOf v blocks row
+pub row_is : (v : ℕ) (blocks : List (ℕ × ℕ)) (row : List (Option Span)) → length row ≡ v → All (IsListed blocks) row → All (λ b. block row b.0 ≡ b.1) blocks → IsRowOfBlocks v blocks row
 row_is v blocks row h marked each = record {
   variables = h;
   total = λ k d l. listed_present blocks (get_or row k d) (marked k d l);
@@ -75,7 +75,7 @@ row_is v blocks row h marked each = record {
 
 -- no other row has them
 pub row_is_not : (v : ℕ) (blocks : List (ℕ × ℕ)) (so_far : List (Option Span)) → Ascends blocks → (All (λ b. block so_far b.0 ≡ b.1) blocks → ⊥)
-    → ((row : List (Option Span)) → IsRowOf v blocks row → so_far ≡ take v row) → (row : List (Option Span)) → IsRowOf v blocks row → ⊥
+    → ((row : List (Option Span)) → IsRowOfBlocks v blocks row → so_far ≡ take v row) → (row : List (Option Span)) → IsRowOfBlocks v blocks row → ⊥
 row_is_not v blocks so_far up wrong only row h =
     let same : so_far ≡ row = only row h ∙ take_all v row (omega (arith, h.variables)) in
     wrong (λ j d l. ap (λ r. block r (get_or blocks j d).0) same ∙ h.blocks_are (get_or blocks j d).0 ∙ listed_at blocks j d up l)

@@ -3,7 +3,7 @@ ghost use Rattle.std.specs.Prelude.{◌≡◌, ℕ, ◌*◌, ◌<◌, ◌≤◌,
 ghost use Rattle.std.specs.Int.{bit_at};
 ghost use Rattle.span_core.specs.declared.span.Span.{Span};
 ghost use Rattle.span_core.specs.Block.{block};
-ghost use Rattle.span_core.specs.Blocks.{Ascends, listed, IsRowOf, HaveFault, BlocksTellRows, FaultsTellNoRow};
+ghost use Rattle.span_core.specs.Blocks.{Ascends, listed, IsRowOfBlocks, HaveFault, BlocksTellRows, RowsTellBlocks, FaultsTellNoRow};
 
 use crate::{MOST_VARIABLES, Marks, Row, Span};
 
@@ -12,8 +12,8 @@ impl Row {
     pub fn of_blocks(v: usize, blocks: &[(u32, Marks)]) -> Option<Row>
         requires few { v ≤ MOST_VARIABLES }
         requires ascending { Ascends blocks.now }
-        ensures some { IfSome result (λ row. IsRowOf v blocks.now row) }
-        ensures none { IfNone result ((row : List (Option Span)) → ¬ IsRowOf v blocks.now row) }
+        ensures some { IfSome result (λ row. IsRowOfBlocks v blocks.now row) }
+        ensures none { IfNone result ((row : List (Option Span)) → ¬ IsRowOfBlocks v blocks.now row) }
         ensures fault { IfNone result (HaveFault v blocks.now) }
     {
         let mut row = Row::empty();
@@ -57,7 +57,8 @@ fn place_of(blocks: &[(u32, Marks)], bit: usize) -> Option<u32>
 
 /// The blocks of a row determine it, and `Row::marks_at` says how a row determines its blocks.
 pub fn blocks_tell_rows()
-    ensures { BlocksTellRows }
+    ensures rows { BlocksTellRows }
+    ensures blocks { RowsTellBlocks }
 {}
 
 /// Blocks are those of no row exactly where some variable is not opened once and closed once at
