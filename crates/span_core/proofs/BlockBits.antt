@@ -6,7 +6,8 @@ use Rattle.std.specs.Option.{IsSome}
 use Rattle.std.proofs.lemmas.Bool.{cases_eq, eq-eqb, ne_eqb, false≢true}
 use Rattle.std.proofs.lemmas.Nat.Bits.{bit_at-zero, bit_at_cat_low, bit_at_cat_high}
 use Rattle.span_core.specs.declared.span.Span.{Span}
-use Rattle.span_core.specs.Block.{IsTotal, digit, opening_bit, closing_bit, markers_from, block}
+use Rattle.span_core.specs.Block.{IsTotal, opening_bit, closing_bit, markers_from, block}
+use Rattle.span_core.specs.Digits.{digit}
 use Rattle.span_core.specs.BlockLaws.{markers_are, markers_below}
 use Rattle.span_core.specs.Blocks.{listed, IsRowOfBlocks}
 

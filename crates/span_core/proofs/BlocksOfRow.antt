@@ -6,8 +6,8 @@ use Rattle.std.proofs.lemmas.Bool.{cases_eq, cases_lt, eq-eqb, ne_eqb}
 use Rattle.std.proofs.lemmas.List.Elements.{All-cons}
 use Rattle.span_core.specs.declared.span.Span.{Span}
 use Rattle.span_core.specs.Block.{IsTotal, block}
-use Rattle.span_core.specs.Order.{past}
-use Rattle.span_core.specs.TotalLaws.{markers_past}
+use Rattle.span_core.specs.Comparison.{past}
+use Rattle.span_core.specs.ComparisonLaws.{markers_past}
 use Rattle.span_core.specs.Blocks.{Ascends, listed, IsRowOfBlocks, IsBlockList, RowsTellBlocks}
 use Rattle.span_core.proofs.ListedBlocks.{adjacent, first_below, tail_ascends}
 

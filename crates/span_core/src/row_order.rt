@@ -1,20 +1,22 @@
 //! The order of rows.
 ghost use Rattle.std.specs.Prelude.{◌≡◌, ℕ, length, map, Some};
-ghost use Rattle.span_core.specs.Block.{block, digit, marker};
-ghost use Rattle.span_core.specs.Order.{IsOrderOf, Finds, earlier_of, RowsAreOrdered};
+ghost use Rattle.span_core.specs.Block.{block, marker};
+ghost use Rattle.span_core.specs.Digits.{digit};
+ghost use Rattle.span_core.specs.Order.{IsOrderOf, RowsAreOrdered};
+ghost use Rattle.span_core.specs.Comparison.{Finds, earlier_of};
 
 use crate::{Row, Span};
 use std::cmp::Ordering;
 
 impl Ord for Row {
-    ghost use Rattle.span_core.specs.Order.{row_cmp};
-    ghost use Rattle.span_core.specs.TotalLaws.{rows_total};
+    ghost use Rattle.span_core.specs.Comparison.{row_cmp};
+    ghost use Rattle.span_core.specs.ComparisonLaws.{row_cmp_total};
     ghost use Rattle.std.proofs.Common.{rules};
     ghost use Rattle.std.specs.Cmp.Rules.{comparing};
 
     ghost cmp = { row_cmp };
 
-    ghost total = { rows_total };
+    ghost total = { row_cmp_total };
 
     ghost matches_partial_cmp = { Prim.search (comparing, rules) };
 
@@ -26,15 +28,15 @@ impl Ord for Row {
 }
 
 impl PartialOrd for Row {
-    ghost use Rattle.span_core.specs.Order.{row_cmp};
-    ghost use Rattle.span_core.specs.TotalLaws.{rows_total};
+    ghost use Rattle.span_core.specs.Comparison.{row_cmp};
+    ghost use Rattle.span_core.specs.ComparisonLaws.{row_cmp_total};
     ghost use Rattle.std.specs.Ordering.{as_partial_cmp};
     ghost use Rattle.std.specs.Prelude.{refl};
     ghost use Rattle.std.specs.Cmp.{po};
 
     ghost partial_cmp = { as_partial_cmp row_cmp };
 
-    ghost laws = { po rows_total (λ x y. refl) };
+    ghost laws = { po row_cmp_total (λ x y. refl) };
 
     fn partial_cmp(&self, other: &Row) -> Option<Ordering> {
         Some(self.cmp(other))
@@ -42,14 +44,14 @@ impl PartialOrd for Row {
 }
 
 impl PartialEq for Row {
-    ghost use Rattle.span_core.specs.Order.{row_cmp};
-    ghost use Rattle.span_core.specs.TotalLaws.{rows_total};
+    ghost use Rattle.span_core.specs.Comparison.{row_cmp};
+    ghost use Rattle.span_core.specs.ComparisonLaws.{row_cmp_total};
     ghost use Rattle.std.specs.Ordering.{eq_by_cmp};
     ghost use Rattle.std.specs.Cmp.{eq_by_cmp_equiv, partial_equiv_from_equiv};
 
     ghost eq = { eq_by_cmp row_cmp };
 
-    ghost laws = { partial_equiv_from_equiv (eq_by_cmp_equiv rows_total) };
+    ghost laws = { partial_equiv_from_equiv (eq_by_cmp_equiv row_cmp_total) };
 
     fn eq(&self, other: &Row) -> bool {
         self.cmp(other).is_eq()
@@ -57,10 +59,10 @@ impl PartialEq for Row {
 }
 
 impl Eq for Row {
-    ghost use Rattle.span_core.specs.TotalLaws.{rows_total};
+    ghost use Rattle.span_core.specs.ComparisonLaws.{row_cmp_total};
     ghost use Rattle.std.proofs.lemmas.Cmp.{eq_by_cmp_equiv};
 
-    ghost laws = { eq_by_cmp_equiv rows_total };
+    ghost laws = { eq_by_cmp_equiv row_cmp_total };
 }
 
 /// The order of rows is a strict total order.
