@@ -8,7 +8,11 @@ ghost use Rattle.span_core.specs.Blocks.{Ascends, listed, IsRowOfBlocks, HaveFau
 use crate::{MOST_VARIABLES, Marks, Row, Span};
 
 impl Row {
-    /// The row of `v` variables that has these blocks and no others. None where there is no such row.
+    /// The row of `v` variables that has these blocks at these positions, and no markers elsewhere.
+    ///
+    /// None exactly where there is no such row: some variable is not opened once and closed once at
+    /// the same position or a later one, or a bit of no variable is set. The positions of `blocks`
+    /// ascend strictly; an empty block among them says no more than its absence.
     pub fn of_blocks(v: usize, blocks: &[(u32, Marks)]) -> Option<Row>
         requires few { v ≤ MOST_VARIABLES }
         requires ascending { Ascends blocks.now }
@@ -32,7 +36,7 @@ impl Row {
         }
     }
 
-    /// Whether each of these blocks is the row's at its position.
+    /// Whether each of these blocks is the row's own at its position.
     fn has_blocks(&self, blocks: &[(u32, Marks)]) -> bool
         ensures { IsTrue result ↔ All (λ b. block self.now b.0 ≡ b.1) blocks.now }
     {
@@ -40,7 +44,7 @@ impl Row {
     }
 }
 
-/// A position at which the marker of this bit stands.
+/// The first position at which the marker of this bit stands.
 fn place_of(blocks: &[(u32, Marks)], bit: usize) -> Option<u32>
     requires bit { bit < 2 * MOST_VARIABLES }
     requires ascending { Ascends blocks.now }
@@ -55,14 +59,17 @@ fn place_of(blocks: &[(u32, Marks)], bit: usize) -> Option<u32>
     None
 }
 
-/// The blocks of a row determine it, and `Row::marks_at` says how a row determines its blocks.
+/// A law: rows and blocks determine each other.
+///
+/// Rows of one length with the same block at each position are one, and each total row is that of
+/// one list of blocks, none of them empty.
 pub fn blocks_tell_rows()
     ensures rows { BlocksTellRows }
     ensures blocks { RowsTellBlocks }
 {}
 
-/// Blocks are those of no row exactly where some variable is not opened once and closed once at
-/// the same position or a later one, or a bit of no variable is set.
+/// A law: blocks are those of no row exactly where some variable is not opened once and closed once
+/// at the same position or a later one, or a bit of no variable is set.
 pub fn faults_tell_no_row()
     ensures { FaultsTellNoRow }
 {}

@@ -1,13 +1,14 @@
-//! The order of rows.
-ghost use Rattle.std.specs.Prelude.{◌≡◌, ℕ, length, map, Some};
+//! Block order, the order of rows.
+ghost use Rattle.std.specs.Prelude.{◌≡◌, ℕ, length, map, Some, OnOk, IsSorted};
 ghost use Rattle.span_core.specs.Block.{block, marker};
 ghost use Rattle.span_core.specs.Digits.{digit};
 ghost use Rattle.span_core.specs.Order.{IsOrderOf, RowsAreOrdered};
-ghost use Rattle.span_core.specs.Comparison.{Finds, earlier_of};
+ghost use Rattle.span_core.specs.Comparison.{Finds, RowCmpIsOrder, earlier_of, row_cmp};
 
 use crate::{Row, Span};
 use std::cmp::Ordering;
 
+/// Block order, by which std sorts rows.
 impl Ord for Row {
     ghost use Rattle.span_core.specs.Comparison.{row_cmp};
     ghost use Rattle.span_core.specs.ComparisonLaws.{row_cmp_total};
@@ -65,12 +66,18 @@ impl Eq for Row {
     ghost laws = { eq_by_cmp_equiv row_cmp_total };
 }
 
-/// The order of rows is a strict total order.
+/// A law: the order of rows is a strict total one, and the function by which std compares rows
+/// answers by it.
 pub fn rows_are_ordered()
-    ensures { RowsAreOrdered }
+    ensures order { RowsAreOrdered }
+    ensures comparison { RowCmpIsOrder }
 {}
 
-/// The order of two rows: the shorter comes first, and rows of one length are in block order.
+/// The order of two rows. One with fewer variables comes first, and rows with equally many are in
+/// block order: at the first position at which their blocks differ, the first row has the greater.
+///
+/// For one variable that is the order by start and then by end. For more it is not the order of the
+/// lists of spans.
 pub fn compare(a: &Row, b: &Row) -> Ordering
     ensures { IsOrderOf result a.now b.now }
 {
@@ -97,7 +104,7 @@ fn difference(a: &[Span], b: &[Span]) -> Option<(u32, Ordering)>
     found
 }
 
-/// The first position at which the markers of one variable make a difference.
+/// The first position at which the markers of one variable differ, and the order that follows.
 fn span_difference(a: Span, b: Span) -> Option<(u32, Ordering)>
     ensures { Finds (digit (Some a)) (digit (Some b)) result }
 {
@@ -107,7 +114,7 @@ fn span_difference(a: Span, b: Span) -> Option<(u32, Ordering)>
     )
 }
 
-/// The first position at which one marker, which stands at `a` and at `b`, makes a difference.
+/// The same for one marker, which stands at `a` in the first row and at `b` in the second.
 fn marker_difference(a: u32, b: u32) -> Option<(u32, Ordering)>
     ensures { (bit : ℕ) → Finds (marker bit a) (marker bit b) result }
 {
@@ -117,7 +124,7 @@ fn marker_difference(a: u32, b: u32) -> Option<(u32, Ordering)>
     }
 }
 
-/// The first of two differences.
+/// The first of two differences. At the same position the one in front decides: its bits are higher.
 fn earlier(front: Option<(u32, Ordering)>, back: Option<(u32, Ordering)>) -> Option<(u32, Ordering)>
     ensures { result ≡ earlier_of front back }
 {
@@ -125,5 +132,66 @@ fn earlier(front: Option<(u32, Ordering)>, back: Option<(u32, Ordering)>) -> Opt
         (Some(front), Some(back)) => Some(if back.0 < front.0 { back } else { front }),
         (None, back) => back,
         (front, None) => front,
+    }
+}
+
+#[cfg(test)]
+mod tests {
+    use super::*;
+    use std::alloc::AllocError;
+    use std::test::Fail;
+
+    /// std's sort puts rows in block order.
+    fn sort(rows: &mut Vec<Row>) -> Result<(), AllocError>
+        ensures { OnOk result (IsSorted row_cmp rows.new.items) }
+    {
+        rows.sort()
+    }
+
+    fn row(x: Span, y: Span, z: Span) -> Row {
+        let mut row = Row::empty();
+        row.push(x);
+        row.push(y);
+        row.push(z);
+        row
+    }
+
+    /// At position 0 the first row opens x and z, and the second x alone. As lists of spans they
+    /// stand the other way round.
+    #[test]
+    fn sorts_by_blocks(rt: HostRuntime) -> Result<(), Fail> {
+        let first = || row(Span::new(0, 1), Span::new(1, 2), Span::new(0, 1));
+        let second = || row(Span::new(0, 1), Span::new(1, 1), Span::new(1, 1));
+        assert_eq!(rt; compare(&first(), &second()), Ordering::Less);
+        let mut rows = Vec::new(rt.alloc());
+        rows.push(second())?;
+        rows.push(first())?;
+        sort(&mut rows)?;
+        assert_eq!(rt; rows.len(), 2);
+        assert_eq!(rt; rows[0], first());
+        assert_eq!(rt; rows[1], second());
+        Ok(())
+    }
+
+    /// One variable: by start, and then by end.
+    #[test]
+    fn orders_one_variable_by_start_and_end(rt: HostRuntime) {
+        let spans = [
+            Span::new(0, 0),
+            Span::new(0, 2),
+            Span::new(1, 1),
+            Span::new(1, 3),
+        ];
+        for (i, a) in spans.iter().enumerate() {
+            for (j, b) in spans.iter().enumerate() {
+                assert_eq!(rt; compare(&one(*a), &one(*b)), i.cmp(&j));
+            }
+        }
+    }
+
+    fn one(x: Span) -> Row {
+        let mut row = Row::empty();
+        row.push(x);
+        row
     }
 }
