@@ -1,15 +1,15 @@
 -- Blocks are those of a row, or have a fault: which of the two can be found by looking at finitely many positions and bits.
-use Rattle.std.proofs.Common.{◌≡◌, ℕ, zero, suc, ◌+◌, ◌-◌, ◌*◌, ◌/◌, ◌%◌, ◌^◌, ◌<◌, ◌≤◌, ◌⊎◌, ◌↔◌, List, [], ◌∷◌, length, get_or, map, refl, sym, ap, ◌∙◌, subst, inl, inr, arith, Option, Some, None}
+use Rattle.std.proofs.Common.{◌≡◌, ℕ, zero, suc, ◌+◌, ◌-◌, ◌*◌, ◌/◌, ◌%◌, ◌^◌, ◌<◌, ◌≤◌, ◌⊎◌, List, length, get_or, map, refl, sym, ap, ◌∙◌, subst, inl, inr, arith, Option, Some, None}
 use Rattle.std.specs.Prelude.{◌==◌}
 use Rattle.std.specs.Int.{bit_at, from_bool}
-use Rattle.std.specs.Option.{IsSome, is_some}
+use Rattle.std.specs.Option.{is_some}
 use Rattle.std.proofs.lemmas.Bool.{cases_lt, cases_eq, ne_eqb}
 use Rattle.std.proofs.Math.Nat.{pow-succ'}
 use Rattle.std.specs.List.{range_with_len}
 use Rattle.std.proofs.lemmas.List.FromFn.{get_or-map-range_with_len, length-map-range_with_len}
 use Rattle.std.proofs.lemmas.Nat.Bits.{bit_at-lt, bit_at-zero, bit_at_above, same_from_bits}
 use Rattle.span_core.specs.declared.span.Span.{Span}
-use Rattle.span_core.specs.Block.{IsTotal, opening_bit, closing_bit, block}
+use Rattle.span_core.specs.Block.{opening_bit, closing_bit, block}
 use Rattle.span_core.specs.BlockLaws.{block_below}
 use Rattle.span_core.specs.Blocks.{listed, IsRowOfBlocks, IsMarked, IsMarkedOnce, IsOpenedAndClosed, HaveFault, FaultsTellNoRow}
 use Rattle.span_core.proofs.BlockBits.{span_at, row_opens, row_closes, start_is, end_is, set_here, block_opens, block_closes}

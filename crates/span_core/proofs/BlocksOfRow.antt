@@ -1,14 +1,14 @@
 -- The one list of blocks that a row has.
 use Rattle.std.proofs.Common.{◌≡◌, ℕ, zero, suc, ◌+◌, ◌<◌, ◌≤◌, List, [], ◌∷◌, length, get_or, refl, sym, ap, ◌∙◌, subst, inl, inr, arith, add-one, Option}
-use Rattle.std.specs.Prelude.{if◌then◌else◌, ◌==◌}
+use Rattle.std.specs.Prelude.{if◌then◌else◌}
 use Rattle.std.specs.List.{All}
 use Rattle.std.proofs.lemmas.Bool.{cases_eq, cases_lt, eq-eqb, ne_eqb}
 use Rattle.std.proofs.lemmas.List.Elements.{All-cons}
 use Rattle.span_core.specs.declared.span.Span.{Span}
-use Rattle.span_core.specs.Block.{IsTotal, block}
+use Rattle.span_core.specs.Block.{block}
 use Rattle.span_core.specs.Comparison.{past}
 use Rattle.span_core.specs.ComparisonLaws.{markers_past}
-use Rattle.span_core.specs.Blocks.{Ascends, listed, IsRowOfBlocks, IsBlockList, RowsTellBlocks}
+use Rattle.span_core.specs.Blocks.{Ascends, listed, IsBlockList, RowsTellBlocks}
 use Rattle.span_core.proofs.ListedBlocks.{adjacent, first_below, tail_ascends}
 
 -- ---- what is listed, from the front

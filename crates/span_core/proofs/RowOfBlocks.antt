@@ -6,7 +6,7 @@ use Rattle.std.specs.Option.{IsSome}
 use Rattle.std.proofs.lemmas.List.{take_more, take_all}
 use Rattle.std.proofs.lemmas.List.Elements.{All-push}
 use Rattle.span_core.specs.declared.span.Span.{Span}
-use Rattle.span_core.specs.Block.{IsTotal, opening_bit, closing_bit, markers_from, block}
+use Rattle.span_core.specs.Block.{opening_bit, closing_bit, markers_from, block}
 use Rattle.span_core.specs.OrderLaws.{marker_other, span_eq}
 use Rattle.span_core.specs.Blocks.{Ascends, listed, IsRowOfBlocks}
 use Rattle.span_core.proofs.BlockBits.{span_at, row_opens, row_closes, start_is, end_is, set_here}

@@ -1,5 +1,5 @@
 -- The fields of a name determine it, and it determines them.
-use Rattle.std.proofs.Common.{◌≡◌, ℕ, ◌-◌, ◌≤◌, List, [], ◌∷◌, ◌++◌, length, take, true, ◌&&◌, arith, refl, sym, subst, ap, ◌∙◌, length-take, length-append}
+use Rattle.std.proofs.Common.{◌≡◌, ℕ, ◌-◌, ◌≤◌, List, [], ◌∷◌, length, take, true, ◌&&◌, arith, refl, sym, subst, ap, ◌∙◌, length-take, length-append}
 use Rattle.std.specs.Prelude.{replicate, IsTrue, nat_lt}
 use Rattle.std.specs.List.{list_all}
 use Rattle.std.proofs.lemmas.List.{take_at, length-replicate}
