@@ -1,1 +1,5 @@
+pub mod AnswerLaws
+pub mod CapturesLaws
+pub mod ExprTrees
+pub mod FitLaws
 pub mod Trees
