@@ -1,5 +1,13 @@
 pub mod AnswerLaws
 pub mod CapturesLaws
+pub mod ExprLaws
 pub mod ExprTrees
 pub mod FitLaws
+pub mod GatheredLaws
+pub mod HasLaws
+pub mod NameLaws
+pub mod NodeExprs
+pub mod NodeParts
+pub mod Nodes
+pub mod TreeLaws
 pub mod Trees

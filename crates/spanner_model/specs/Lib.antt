@@ -6,6 +6,7 @@ pub mod Expression
 pub mod Fit
 pub mod Functional
 pub mod Laws
+pub mod Gathered
 pub mod Lists
 pub mod Sound
 pub mod Tree

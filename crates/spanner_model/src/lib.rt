@@ -3,10 +3,12 @@
 
 pub use expression::{Expr, Exprs};
 pub use formula::{Atom, Formula, Parts};
+pub use gathering::{gather, variables};
 pub use query::{Lets, Query};
 
 mod expression;
 mod formula;
+mod gathering;
 pub mod laws;
 mod query;
 
