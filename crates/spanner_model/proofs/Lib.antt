@@ -1,5 +1,6 @@
 pub mod AnswerLaws
 pub mod CapturesLaws
+pub mod Deciding
 pub mod ExprLaws
 pub mod ExprTrees
 pub mod FitLaws
@@ -9,5 +10,7 @@ pub mod NameLaws
 pub mod NodeExprs
 pub mod NodeParts
 pub mod Nodes
+pub mod PartLaws
+pub mod RowOrder
 pub mod TreeLaws
 pub mod Trees

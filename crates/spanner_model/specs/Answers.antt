@@ -1,11 +1,10 @@
 -- The rows of a query's answers in block order, and pages of them.
 --   The order and the pages are this project's own.
 use Rattle.std.specs.Prelude.{◌≡◌, ℕ, ◌<◌, ◌↔◌, Bool, List, [], ◌∷◌, ◌++◌, length, take, Option, Some, None, IsTrue}
-use Rattle.std.specs.List.{AllByRecursion}
 use Rattle.span_core.specs.declared.span.Span.{Span}
 use Rattle.span_core.specs.NameSets.{Ascending}
 use Rattle.span_core.specs.Order.{StandsBefore}
-use Rattle.spanner_model.specs.Lists.{Has}
+use Rattle.spanner_model.specs.Lists.{Has, IsInOrder}
 use Rattle.spanner_model.specs.Captures.{VarName, Mapping, row_of}
 use Rattle.spanner_model.specs.Expression.{QueryTree}
 use Rattle.spanner_model.specs.Answer.{IsAnswer, IsResultVar}
@@ -23,13 +22,12 @@ abbrev pub IsAnswerRow : QueryTree → List ℕ → List VarName → SpanRow →
 IsAnswerRow q d names row = (m : Mapping) × IsAnswer q d m × (row ≡ row_of names m)
 
 -- each row stands before all later ones
-abbrev pub IsInBlockOrder : List SpanRow → Type 0
-IsInBlockOrder [] = Unit {0}
-IsInBlockOrder (r ∷ rows) = AllByRecursion (StandsBefore r) rows × IsInBlockOrder rows
+abbrev pub AreInBlockOrder : List SpanRow → Type 0
+AreInBlockOrder = IsInOrder StandsBefore
 
 -- all answers, each once, in block order
 pub record AreAnswers (q : QueryTree) (d : List ℕ) (names : List VarName) (rows : List SpanRow) : Type 0 where
-  pub in_order : IsInBlockOrder rows
+  pub in_order : AreInBlockOrder rows
   pub each_answers : (row : SpanRow) → Has rows row → IsAnswerRow q d names row
   pub all_there : (row : SpanRow) → IsAnswerRow q d names row → Has rows row
 
@@ -45,3 +43,8 @@ abbrev pub IsPage : QueryTree → List ℕ → List VarName → Option SpanRow �
 IsPage q d names after limit page more =
     (rows : List SpanRow) × (rest : List SpanRow) × AreAnswers q d names rows × IsRest after rows rest
     × (page ≡ take limit rest) × (IsTrue more ↔ (limit < length rest))
+
+-- the row after which the page that follows begins: the last of this page, or where it is empty the row before
+abbrev pub page_end : List SpanRow → Option SpanRow → Option SpanRow
+page_end [] after = after
+page_end (r ∷ page) after = page_end page (Some r)
