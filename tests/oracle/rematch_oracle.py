@@ -14,6 +14,7 @@ with the program. Tests import `run`, which reads no file by itself.
 Python 3.8, standard library.
 """
 import json
+import os
 import re
 import sys
 from typing import NamedTuple
@@ -847,26 +848,28 @@ def fetch_file(name, limit):
     return data
 
 
+def put(number, data):
+    """Whether all bytes could be written; what is empty is not written at all."""
+    try:
+        while data:
+            data = data[os.write(number, data):]
+        return True
+    except OSError:
+        return False
+
+
 def main():
     try:
         words = [word.encode('utf-8', 'surrogateescape').decode('utf-8') for word in sys.argv[1:]]
     except UnicodeDecodeError:
         return 10
     status, out, notes = run(words, fetch_file)
-    try:
-        sys.stdout.buffer.write(out)
-        sys.stdout.buffer.flush()
-    except (OSError, AttributeError):  # AttributeError: standard output is closed
+    if not put(1, out):
         status, notes = WRITE, b'write failed\n'
-        sys.stdout = None
-    try:
-        sys.stderr.buffer.write(notes)
-        sys.stderr.buffer.flush()
-    except (OSError, AttributeError):
-        status = status or WRITE
-        sys.stderr = None
+    if not put(2, notes) and status == 0:
+        status = WRITE
     return status
 
 
 if __name__ == '__main__':
-    sys.exit(main())
+    os._exit(main())  # without Python's own flush of streams that may be closed
