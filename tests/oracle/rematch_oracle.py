@@ -38,7 +38,8 @@ NO_SPANS = frozenset()
 class Meaning:
     def __init__(self, document):
         self.document = document
-        self.known = {}
+        self.known = {}  # what fits where
+        self.of_lets = {}  # the answers of lets
 
     def fits(self, formula, i):
         """All pairs of an end and a mapping with which the formula fits from i on."""
@@ -96,7 +97,9 @@ class Meaning:
         if isinstance(expr, Atom):
             return self.atom(expr)
         if isinstance(expr, Named):
-            return self.answers(lets[expr.place][1], lets)
+            if expr not in self.of_lets:
+                self.of_lets[expr] = self.answers(lets[expr.place][1], lets)
+            return self.of_lets[expr]
         if isinstance(expr, Project):
             return {frozenset(pair for pair in spans if pair[0] in expr.keep)
                     for spans in self.answers(expr.part, lets)}
