@@ -167,3 +167,160 @@ fn names_input_twice(query: &QuerySource<'_>, document: &str) -> bool
         QuerySource::Named(name) => *name == "-" && document == "-",
     }
 }
+
+#[cfg(test)]
+mod tests {
+    use super::*;
+    use std::alloc::AllocError;
+    use std::test::Fail;
+
+    // Words, between bars, and what is made of them: the query, with an `@` before a name; the
+    // document; the limit; the cursor; the form; and `texts`.
+    const ACCEPTED: [(&str, &str); 35] = [
+        ("-e|/a/", "/a/ - all start Spans"),
+        ("-e|/a/|D", "/a/ D all start Spans"),
+        ("D|-e|/a/", "/a/ D all start Spans"),
+        ("-q|Q|D", "@Q D all start Spans"),
+        ("-q|Q", "@Q - all start Spans"),
+        ("-q|-|D", "@- D all start Spans"),
+        ("-q|Q|-", "@Q - all start Spans"),
+        // One `=` after the letter is dropped.
+        ("-e/a/", "/a/ - all start Spans"),
+        ("-e=/a/", "/a/ - all start Spans"),
+        ("-e|=/a/", "=/a/ - all start Spans"),
+        ("-e==/a/", "=/a/ - all start Spans"),
+        ("-e=-x", "-x - all start Spans"),
+        ("-e-x", "-x - all start Spans"),
+        // The empty text, and a lone hyphen, are values.
+        ("-e=", " - all start Spans"),
+        ("-e|", " - all start Spans"),
+        ("-e|-", "- - all start Spans"),
+        ("-e|/a/|-a|-", "/a/ - all - Spans"),
+        ("-e|/a/|-a=", "/a/ - all  Spans"),
+        // A number may have a plus and zeros before it.
+        ("-e|/a/|-n2", "/a/ - 2 start Spans"),
+        ("-e|/a/|-n=2", "/a/ - 2 start Spans"),
+        ("-e|/a/|-n|+2", "/a/ - 2 start Spans"),
+        ("-e|/a/|-n|002", "/a/ - 2 start Spans"),
+        ("-e|/a/|-n|0", "/a/ - 0 start Spans"),
+        (
+            "-e|/a/|-n|18446744073709551615",
+            "/a/ - 18446744073709551615 start Spans",
+        ),
+        ("-e|/a/|-a|start", "/a/ - all start Spans"),
+        ("-e|/a/|-a|c1;x:0-1", "/a/ - all c1;x:0-1 Spans"),
+        ("-e|/a/|-f|spans", "/a/ - all start Spans"),
+        ("-e|/a/|-f=table", "/a/ - all start Table"),
+        ("-e|/a/|-fjson", "/a/ - all start Json"),
+        ("-te|/a/", "/a/ - all start Spans texts"),
+        ("-et|/a/", "t /a/ all start Spans"),
+        // After `--` all is DOC.
+        ("-e|/a/|--|-", "/a/ - all start Spans"),
+        ("-e|/a/|--|--", "/a/ -- all start Spans"),
+        ("-e|/a/|--|-t", "/a/ -t all start Spans"),
+        ("-e|/a/|help", "/a/ help all start Spans"),
+    ];
+
+    const REFUSED: [&str; 42] = [
+        // Exactly one of -e and -q.
+        "",
+        "D",
+        "-t",
+        "-e|/a/|-q|Q|D",
+        // Standard input is not named twice.
+        "-q|-",
+        "-q|-|-",
+        "-q=-|--|-",
+        // A value that is no form, and one that is no number.
+        "-e|/a/|-f|csv",
+        "-e|/a/|-f|Spans",
+        "-e|/a/|-f=",
+        "-e|/a/|-n=-2",
+        "-e|/a/|-n|2 ",
+        "-e|/a/|-n| 2",
+        "-e|/a/|-n|0x2",
+        "-e|/a/|-n|+",
+        "-e|/a/|-n=",
+        "-e|/a/|-n|18446744073709551616",
+        // A missing value, and one that begins with a hyphen.
+        "-e",
+        "-e|/a/|-n",
+        "-e|-x",
+        "-e|--",
+        "-e|/a/|-n|-2",
+        "-e|/a/|-a|-5",
+        "-e|/a/|-a|--",
+        // Repeats.
+        "-e|/a/|-e|/b/",
+        "-e|/a/|-t|-t",
+        "-e|/a/|-tt",
+        "-e|/a/|-n|1|-n|1",
+        "-e|/a/|D|D",
+        "--|-e|/a/",
+        // What the command does not have.
+        "-e|/a/|-x",
+        "-e|/a/|--texts",
+        "-e|/a/|--query",
+        "-e|/a/|-t=yes",
+        "-V",
+        "-e|/a/|--version",
+        // Help.
+        "-h",
+        "-th",
+        "--help",
+        "-e|/a/|--help",
+        "-e|/a/|-h|D",
+        "-hh",
+    ];
+
+    fn words_of(alloc: Global, text: &str) -> Result<Vec<String>, AllocError> {
+        let mut words = Vec::new(alloc);
+        for word in text.split('|') {
+            words.push(String::from_str(alloc, word)?)?;
+        }
+        Ok(words)
+    }
+
+    fn shown(alloc: Global, request: &Request<'_>) -> Result<String, AllocError> {
+        let mut text = match request.query {
+            QuerySource::Given(text) => String::from_str(alloc, text)?,
+            QuerySource::Named(name) => format!(in alloc; "@{name}")?,
+        };
+        let document = request.document;
+        text.push(' ')?;
+        text.push_str(document)?;
+        match request.limit {
+            Some(limit) => text.push_str(format!(in alloc; " {limit}")?.as_str())?,
+            None => text.push_str(" all")?,
+        }
+        let after = request.after.unwrap_or("start");
+        let form = request.form;
+        text.push_str(format!(in alloc; " {after} {form:?}")?.as_str())?;
+        if request.texts {
+            text.push_str(" texts")?;
+        }
+        Ok(text)
+    }
+
+    #[test]
+    fn reads_words(rt: HostRuntime) -> Result<(), Fail> {
+        let alloc = rt.alloc();
+        for (text, want) in ACCEPTED {
+            let words = words_of(alloc, text)?;
+            match read_request(alloc, &words) {
+                Ok(request) => {
+                    assert_eq!(rt; shown(alloc, &request)?.as_str(), want, "at {text}");
+                }
+                Err(fault) => assert_eq!(rt; Some(fault), None, "at {text}"),
+            }
+        }
+        for text in REFUSED {
+            let words = words_of(alloc, text)?;
+            let refused = Err(WordsFault::Refused);
+            assert_eq!(rt; read_request(alloc, &words), refused, "at {text}");
+        }
+        let none = Vec::new(alloc);
+        assert_eq!(rt; read_request(alloc, &none), Err(WordsFault::Refused));
+        Ok(())
+    }
+}
