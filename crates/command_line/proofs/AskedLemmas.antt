@@ -1,9 +1,9 @@
 -- What the words ask for, by what the command makes of them.
-use Rattle.std.proofs.Common.{◌≡◌, ◌≢◌, ◌==◌, ℕ, refl, List, [], ◌∷◌, length, Option, None, rules}
+use Rattle.std.proofs.Common.{◌≡◌, ◌≢◌, refl, List, [], ◌∷◌, None, rules}
 use Rattle.clap.specs.Words.{Text, Kinds}
 use Rattle.command_line.specs.Command.{found, refusals}
 use Rattle.command_line.specs.Given.{given_by}
-use Rattle.command_line.specs.Asked.{Asked, asked, asked_by}
+use Rattle.command_line.specs.Asked.{asked, asked_by}
 
 pub asked_when_taken : (words : List Text) → refusals words ≡ [] → asked words ≡ asked_by (given_by (found words))
 unfolding asked

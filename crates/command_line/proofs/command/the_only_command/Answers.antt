@@ -1,7 +1,6 @@
-use Rattle.std.proofs.Common.{◌≡◌, ◌∙◌, ap, true, codes}
-use Rattle.clap.specs.Words.{App, Rule, app_of, new_app, new_rule, with_rule}
-use Rattle.clap.specs.Simple.{on_top}
-use Rattle.command_line.specs.Command.{the_command, option_rule, flag_rule}
+use Rattle.std.proofs.Common.{◌≡◌, ◌∙◌, ap}
+use Rattle.clap.specs.Words.{App, Rule, with_rule}
+use Rattle.command_line.specs.Command.{the_command}
 use Rattle.command_line.proofs.command.the_only_command.Goals as goal
 
 -- a command to which a rule was added
