@@ -1,0 +1,16 @@
+pub mod AnswerLaws
+pub mod CapturesLaws
+pub mod Deciding
+pub mod ExprLaws
+pub mod ExprTrees
+pub mod FitLaws
+pub mod GatheredLaws
+pub mod HasLaws
+pub mod NameLaws
+pub mod NodeExprs
+pub mod NodeParts
+pub mod Nodes
+pub mod PartLaws
+pub mod RowOrder
+pub mod TreeLaws
+pub mod Trees
