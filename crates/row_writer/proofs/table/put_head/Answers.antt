@@ -10,6 +10,6 @@ loop-k-preserved c =
     record {
       written = field_more 9 (take c.loop-k.end c.loop-k.buffer) (take c.put_byte-end.result c.put_byte-end.new.buffer) (take c.put_bytes-end-in-loop-k.result c.put_bytes-end-in-loop-k.new.buffer) name _ _ _
           c.put_byte-end.ensures.text c.put_bytes-end-in-loop-k.ensures.text
-          (at_drop c.args.vars.now c.loop-k.k name (c.at-in-loop-k.ensures ∙ ap Some (sym c.as_bytes-in-loop-k.ensures.value))) c.loop-k.invariant.written;
+          (at_drop c.args.vars.now c.loop-k.k name (c.at-in-loop-k.ensures.value ∙ ap Some (sym c.as_bytes-in-loop-k.ensures.value))) c.loop-k.invariant.written;
       room = omega (arith, c.loop-k.invariant.room, c.put_byte-end.ensures.end, c.put_bytes-end-in-loop-k.ensures.end, short);
     }
