@@ -1,18 +1,17 @@
 -- The formulas of the tests are well built, and have one name.
-use Rattle.std.proofs.Common.{◌≡◌, ℕ, ◌<◌, ◌≤◌, Bool, true, false, [], ◌∷◌, length, IsTrue, inl, inr, refl, sym, ap, ◌∙◌, subst, arith}
-use Rattle.std.specs.Ordering.{nat_cmp, eq_by_cmp, is_eq}
+use Rattle.std.proofs.Common.{◌≡◌, ℕ, ◌<◌, true, false, [], ◌∷◌, length, inl, inr, refl, sym, ap, ◌∙◌, arith}
+use Rattle.std.specs.Ordering.{nat_cmp, is_eq}
 use Rattle.std.specs.Cmp.{nat_cmp_total, unsigned_tied}
 use Rattle.std.specs.FinSet as set
 use Rattle.std.specs.FinSet.{contains-empty}
 use Rattle.std.proofs.lemmas.Cmp.{tied_itself}
 use Rattle.std.proofs.lemmas.Bool.{eqb-true}
-use Rattle.std.specs.Option.{ForSome}
 use Rattle.span_core.specs.declared.TheConstants.{MOST_VARIABLES}
 use Rattle.spanner_model.specs.Lists.{AtMost}
-use Rattle.spanner_model.specs.Tree.{Tree, one}
+use Rattle.spanner_model.specs.Tree.{Tree}
 use Rattle.spanner_model.specs.Captures.{VarName}
 use Rattle.spanner_model.specs.Functional.{HasVar}
-use Rattle.spanner_model.specs.WellBuilt.{IsByteClass, IsVariable, IsBuilt, IsWellBuilt}
+use Rattle.spanner_model.specs.WellBuilt.{IsVariable, IsBuilt, IsWellBuilt}
 use Rattle.spanner_model.specs.Examples.{byte, x}
 use Rattle.spanner_model.proofs.ExampleLaws.{byte_has}
 use Rattle.functional_check.specs.Samples.{x_letter, two_captures, repeated_capture, one_arm, both_arms}
