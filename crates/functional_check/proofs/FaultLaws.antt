@@ -1,17 +1,12 @@
 -- Functional formulas have no fault, and others have one.
-use Rattle.std.proofs.Common.{◌≡◌, ℕ, zero, suc, ◌+◌, ◌<◌, ◌⊎◌, ◌↔◌, List, [], ◌∷◌, ◌++◌, length, take, Option, Some, None, Result, Ok, Err, inl, inr, refl, sym, ap, ◌∙◌, subst, arith}
-use Rattle.std.specs.Prelude.{slice_get}
-use Rattle.std.specs.Option.{MatchOption}
-use Rattle.spanner_model.specs.Lists.{Has}
-use Rattle.spanner_model.specs.Tree.{Tree, empty, one, cat_end, cat, alt_end, alt, rep, cap, cat_all, alt_all}
+use Rattle.std.proofs.Common.{◌≡◌, ℕ, ◌↔◌, Option, inl, inr, refl, sym, ap, ◌∙◌}
+use Rattle.spanner_model.specs.Tree.{Tree, empty, one, cat_end, cat, alt_end, alt, rep, cap}
 use Rattle.spanner_model.specs.Captures.{VarName}
 use Rattle.spanner_model.specs.Functional.{HasVar, AgreesWithArms, IsFunctional}
 use Rattle.spanner_model.proofs.FitLaws.{first_has}
-use Rattle.spanner_model.proofs.Deciding.{Told, told_var}
-use Rattle.spanner_model.proofs.TreeLaws.{parts_have, part_has}
 use Rattle.functional_check.specs.declared.checking.CheckFault.{CheckFault}
 use Rattle.functional_check.specs.declared.checking.CheckFault.TheVariants.{BoundTwice, UnderRepeat, ArmsDiffer}
-use Rattle.functional_check.specs.Faults.{IsLeast, IsLeastOf, InExactlyOne, InTwoParts, SetsApart, OwnFault, HasFunctionalParts, IsFaultOver, InnerFault, IsFault}
+use Rattle.functional_check.specs.Faults.{IsLeast, InExactlyOne, InTwoParts, SetsApart, OwnFault, HasFunctionalParts, IsFaultOver, InnerFault, IsFault}
 use Rattle.functional_check.proofs.LeastLaws.{least_one}
 
 abbrev pub SameVars : Tree → Tree → Type 0

@@ -1,5 +1,5 @@
 -- Least names.
-use Rattle.std.proofs.Common.{◌≡◌, ℕ, zero, suc, ◌+◌, ◌<◌, ◌⊎◌, ◌↔◌, Bool, true, false, List, [], ◌∷◌, length, take, Option, Some, None, IsTrue, Contains, is_some, inl, inr, refl, sym, ap, ◌∙◌, subst, arith}
+use Rattle.std.proofs.Common.{◌≡◌, ℕ, zero, suc, ◌⊎◌, ◌↔◌, Bool, true, false, List, [], ◌∷◌, length, take, Option, Some, None, IsTrue, Contains, is_some, inl, inr, refl, sym, ap, ◌∙◌, subst, arith}
 use Rattle.std.specs.Prelude.{slice_get}
 use Rattle.std.specs.List.{AllByRecursion}
 use Rattle.std.specs.Option.{IfSome, IfNone}
@@ -15,7 +15,7 @@ use Rattle.std.proofs.lemmas.Map.Lookups.{exact_bytes}
 use Rattle.span_core.specs.NameSets.{name_cmp, Ascending, by_order}
 use Rattle.spanner_model.specs.Captures.{VarName}
 use Rattle.spanner_model.specs.Lists.{Has, AtMost}
-use Rattle.functional_check.specs.Faults.{IsLeast, IsLeastOf, InExactlyOne}
+use Rattle.functional_check.specs.Faults.{IsLeast, IsLeastOf}
 use Rattle.functional_check.specs.Names.{IsIn, smaller_of}
 
 -- ---- order

@@ -1,5 +1,5 @@
 -- Faults of concatenations and alternations, part by part.
-use Rattle.std.proofs.Common.{◌≡◌, ℕ, zero, suc, ◌+◌, ◌<◌, ◌≤◌, ◌⊎◌, ◌↔◌, Bool, true, false, List, [], ◌∷◌, ◌++◌, length, take, Option, Some, None, Result, Ok, Err, inl, inr, refl, sym, ap, ◌∙◌, subst, arith}
+use Rattle.std.proofs.Common.{◌≡◌, ℕ, zero, suc, ◌+◌, ◌≤◌, ◌⊎◌, ◌↔◌, true, List, [], ◌∷◌, ◌++◌, length, take, Option, Some, None, Result, Ok, Err, inl, inr, refl, sym, ap, ◌∙◌, subst}
 use Rattle.std.specs.Prelude.{slice_get}
 use Rattle.std.specs.Option.{MatchOption, IfSome, IfNone}
 use Rattle.spanner_model.proofs.GatheredLaws.{in_more, parts_in_turn, gathered_next, gathered_same}
@@ -8,14 +8,14 @@ use Rattle.std.proofs.lemmas.List.{take_all}
 use Rattle.span_core.specs.declared.TheConstants.{MOST_VARIABLES}
 use Rattle.spanner_model.specs.Lists.{Has, AtMost}
 use Rattle.spanner_model.specs.Gathered.{Adds, HaveRoom}
-use Rattle.spanner_model.specs.Tree.{Tree, cat_end, cat, alt_end, alt, rep, cap, cat_all, alt_all}
+use Rattle.spanner_model.specs.Tree.{Tree, alt_end, cat_all, alt_all}
 use Rattle.spanner_model.specs.Captures.{VarName}
 use Rattle.spanner_model.specs.Functional.{HasVar, AgreesWithArms, IsFunctional}
-use Rattle.spanner_model.proofs.Deciding.{Told, told_var}
+use Rattle.spanner_model.proofs.Deciding.{told_var}
 use Rattle.spanner_model.proofs.HasLaws.{Has-append_cases, Has-slice_get, Has-take}
 use Rattle.spanner_model.proofs.TreeLaws.{parts_have, part_has, arms_have, take_at_more}
 use Rattle.functional_check.specs.declared.checking.CheckFault.{CheckFault}
-use Rattle.functional_check.specs.declared.checking.CheckFault.TheVariants.{BoundTwice, UnderRepeat, ArmsDiffer}
+use Rattle.functional_check.specs.declared.checking.CheckFault.TheVariants.{BoundTwice, ArmsDiffer}
 use Rattle.functional_check.specs.Faults.{IsLeast, IsLeastOf, InExactlyOne, InTwoParts, SetsApart, OwnFault, HasFunctionalParts, InnerFault, IsFault}
 use Rattle.functional_check.specs.Checked.{Checked}
 use Rattle.functional_check.specs.Names.{smaller_of}

@@ -1,11 +1,11 @@
 -- What a check of a formula answers.
-use Rattle.std.specs.Prelude.{◌≡◌, ℕ, ◌⊎◌, ◌↔◌, List, Result, MatchResult}
+use Rattle.std.specs.Prelude.{◌≡◌, ◌⊎◌, ◌↔◌, List, Result, MatchResult}
 use Rattle.spanner_model.specs.Tree.{Tree}
 use Rattle.spanner_model.specs.Captures.{VarName}
 use Rattle.spanner_model.specs.Lists.{Has}
 use Rattle.spanner_model.specs.Functional.{HasVar, IsFunctional}
 use Rattle.functional_check.specs.declared.checking.CheckFault.{CheckFault}
-use Rattle.functional_check.specs.declared.checking.CheckFault.TheVariants.{BoundTwice, UnderRepeat, ArmsDiffer}
+use Rattle.functional_check.specs.declared.checking.CheckFault.TheVariants.{BoundTwice, UnderRepeat}
 use Rattle.functional_check.specs.Faults.{IsLeast, IsFault}
 
 -- the variables of a functional formula, or its fault

@@ -2,3 +2,4 @@ pub mod Checked
 pub mod Faults
 pub mod Laws
 pub mod Names
+pub mod Samples

@@ -6,3 +6,5 @@ pub use checking::{CheckFault, check};
 mod checking;
 pub mod laws;
 mod names;
+#[cfg(test)]
+mod tests;

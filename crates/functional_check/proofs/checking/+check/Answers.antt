@@ -1,4 +1,4 @@
-use Rattle.std.proofs.Common.{◌≡◌, ◌+◌, ◌<◌, length, Some, sym, ap, ◌∙◌, subst, arith}
+use Rattle.std.proofs.Common.{ap, ◌∙◌, subst, arith}
 use Rattle.spanner_model.specs.Tree.{cat_all, alt_all}
 use Rattle.spanner_model.specs.View.{tree_of, trees_of}
 use Rattle.spanner_model.specs.Functional.{HasVar}
@@ -9,7 +9,7 @@ use Rattle.spanner_model.proofs.Trees.{tree_of-Cat, tree_of-Alt}
 use Rattle.spanner_model.specs.WellBuilt.{IsWellBuilt}
 use Rattle.spanner_model.proofs.Nodes.{nodes}
 use Rattle.functional_check.proofs.LeastLaws.{at_most_less}
-use Rattle.functional_check.proofs.PartFaults.{few_part, cat_fault, alt_fault, functional_next, room_next, twice_next, vars_next, cat_done_fault, cat_done, arms_begin, arms_next, alt_done_fault, alt_done, checked_err}
+use Rattle.functional_check.proofs.PartFaults.{few_part, cat_fault, alt_fault, functional_next, room_next, twice_next, vars_next, cat_done_fault, cat_done, arms_next, alt_done_fault, alt_done, checked_err}
 use Rattle.span_core.specs.declared.TheConstants.{MOST_VARIABLES}
 use Rattle.functional_check.proofs.checking.+check.Goals as goal
 

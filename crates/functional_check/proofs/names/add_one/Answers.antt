@@ -1,4 +1,4 @@
-use Rattle.std.proofs.Common.{◌≡◌, IsTrue, Bool, true, false, sym, ◌∙◌, arith}
+use Rattle.std.proofs.Common.{◌≡◌, true, false, sym, ◌∙◌, arith}
 use Rattle.spanner_model.specs.Captures.{VarName}
 use Rattle.spanner_model.proofs.GatheredLaws.{gathered_name, gathered_all}
 use Rattle.functional_check.proofs.names.add_one.Goals as goal

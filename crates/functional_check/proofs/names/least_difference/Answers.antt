@@ -1,7 +1,5 @@
-use Rattle.std.proofs.Common.{◌⊎◌}
-use Rattle.spanner_model.specs.Captures.{VarName}
 use Rattle.spanner_model.specs.Lists.{Has}
-use Rattle.std.proofs.Common.{Option, sym, subst}
+use Rattle.std.proofs.Common.{sym, subst}
 use Rattle.functional_check.specs.Faults.{IsLeastOf, InExactlyOne}
 use Rattle.functional_check.proofs.LeastLaws.{least_both}
 use Rattle.functional_check.proofs.names.least_difference.Goals as goal
