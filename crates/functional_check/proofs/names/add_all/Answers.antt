@@ -8,7 +8,7 @@ use Rattle.functional_check.proofs.names.add_all.Goals as goal
 pub add_one-requires : goal.add_one-requires
 add_one-requires c =
     let names = c.args.names.now in
-    let has = Has-slice_get names c.loop-k.k c.at.result.now c.at.ensures in (
+    let has = Has-slice_get names c.loop-k.k c.at.result.now c.at.ensures.value in (
       c.requires.0,
       c.requires.1,
       λ x a. c.requires.2 x (elim a [
@@ -19,4 +19,4 @@ add_one-requires c =
 
 pub loop-k-preserved : goal.loop-k-preserved
 loop-k-preserved c =
-    gathered_next (λ (y : VarName) (x : VarName). y ≡ x) Has names_in_turn c.args.names.now c.loop-k.k c.at.result.now c.args.into.now c.loop-k.into c.add_one.new.into c.at.ensures c.loop-k.invariant c.add_one.ensures
+    gathered_next (λ (y : VarName) (x : VarName). y ≡ x) Has names_in_turn c.args.names.now c.loop-k.k c.at.result.now c.args.into.now c.loop-k.into c.add_one.new.into c.at.ensures.value c.loop-k.invariant c.add_one.ensures

@@ -12,7 +12,7 @@ pub returns-then-has-inside : goal.returns-then-has-inside
 returns-then-has-inside c =
     let names = c.args.names.now in
     let name = c.at-name.result.now in
-    least_at names c.loop-k.k name (IsIn c.args.inside c.args.others.now) c.len-k-end.ensures.ascending c.at-name.ensures (Has-slice_get names c.loop-k.k name c.at-name.ensures)
+    least_at names c.loop-k.k name (IsIn c.args.inside c.args.others.now) c.len-k-end.ensures.ascending c.at-name.ensures.value (Has-slice_get names c.loop-k.k name c.at-name.ensures.value)
     (is_in c.has.result c.args.inside c.args.others.now name c.has.ensures c.if-has-inside.true) c.loop-k.invariant
 
 pub loop-k-preserved : goal.loop-k-preserved
@@ -20,8 +20,8 @@ loop-k-preserved c =
     let names = c.args.names.now in
     let name = c.at-name.result.now in
     let not_here = is_not_in c.has.result c.args.inside c.args.others.now name c.has.ensures c.if-has-inside.false in
-    let is = get_or_from_slice_get names c.loop-k.k name name c.at-name.ensures in
-    λ x h inside. elim (Has-take_more_cases names c.loop-k.k name x (slice_get_within names c.loop-k.k name c.at-name.ensures) h) [
+    let is = get_or_from_slice_get names c.loop-k.k name name c.at-name.ensures.value in
+    λ x h inside. elim (Has-take_more_cases names c.loop-k.k name x (slice_get_within names c.loop-k.k name c.at-name.ensures.value) h) [
       | inl before ↦ c.loop-k.invariant x before inside
       | inr here ↦ not_here (subst (λ (w : VarName). IsIn c.args.inside c.args.others.now w) (sym here ∙ is) inside)
     ]
