@@ -1,29 +1,14 @@
 -- The formulas of the tests are well built, and have one name.
-use Rattle.std.proofs.Common.{◌≡◌, ℕ, ◌<◌, true, false, [], ◌∷◌, length, inl, inr, refl, sym, ap, ◌∙◌, arith}
-use Rattle.std.specs.Ordering.{nat_cmp, is_eq}
-use Rattle.std.specs.Cmp.{nat_cmp_total, unsigned_tied}
-use Rattle.std.specs.FinSet as set
-use Rattle.std.specs.FinSet.{contains-empty}
-use Rattle.std.proofs.lemmas.Cmp.{tied_itself}
-use Rattle.std.proofs.lemmas.Bool.{eqb-true}
+use Rattle.std.proofs.Common.{◌≡◌, ℕ, ◌<◌, [], ◌∷◌, inl, inr, arith}
 use Rattle.span_core.specs.declared.TheConstants.{MOST_VARIABLES}
 use Rattle.spanner_model.specs.Lists.{AtMost}
 use Rattle.spanner_model.specs.Tree.{Tree}
 use Rattle.spanner_model.specs.Captures.{VarName}
 use Rattle.spanner_model.specs.Functional.{HasVar}
-use Rattle.spanner_model.specs.WellBuilt.{IsVariable, IsBuilt, IsWellBuilt}
-use Rattle.spanner_model.specs.Examples.{byte, x}
-use Rattle.spanner_model.proofs.ExampleLaws.{byte_has}
+use Rattle.spanner_model.specs.WellBuilt.{IsBuilt, IsWellBuilt}
+use Rattle.spanner_model.specs.Examples.{x}
+use Rattle.spanner_model.proofs.SampleLaws.{byte_built, x_variable}
 use Rattle.functional_check.specs.Samples.{x_letter, two_captures, repeated_capture, one_arm, both_arms}
-
-byte_built : (code : ℕ) → code < 256 → IsBuilt (byte code)
-byte_built code small = (
-  λ e. let f : false ≡ true = sym (contains-empty nat_cmp code) ∙ ap (λ s. set.contains {R = nat_cmp} s code) (sym e) ∙ byte_has code code ∙ ap is_eq (tied_itself nat_cmp_total code) in absurd (cc),
-  λ b h. let same : b ≡ code = eqb-true b code (sym (unsigned_tied b code) ∙ sym (byte_has code b) ∙ h) in omega (arith, same, small),
-)
-
-x_variable : IsVariable x
-x_variable = (refl, λ e. let long : 1 ≡ 4 = ap length e in absurd (omega (arith, long)))
 
 x_built : (code : ℕ) → code < 256 → IsBuilt (x_letter code)
 x_built code small = (byte_built code small, x_variable)

@@ -13,5 +13,6 @@ pub mod NodeParts
 pub mod Nodes
 pub mod PartLaws
 pub mod RowOrder
+pub mod SampleLaws
 pub mod TreeLaws
 pub mod Trees

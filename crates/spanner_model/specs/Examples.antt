@@ -7,7 +7,7 @@ use Rattle.span_core.specs.ByteSets.{bytes_between}
 use Rattle.span_core.specs.Order.{StandsBefore}
 use Rattle.spanner_model.specs.Tree.{Tree, one, cat_all, alt_all, rep, cap}
 use Rattle.spanner_model.specs.Captures.{VarName}
-use Rattle.spanner_model.specs.Expression.{ExprTree, QueryTree, atom, join_all, project}
+use Rattle.spanner_model.specs.Expression.{ExprTree, QueryTree, atom, named, join_all, project}
 use Rattle.spanner_model.specs.Answers.{SpanRow, IsAnswerRow, AreAnswers}
 
 -- the byte of this code, and any byte but the end of a line
@@ -117,3 +117,7 @@ ProjectedToNone = IsAnswerRow (query (project [] (free (cap x a)))) (codes "aa")
 abbrev pub BlocksBeforeTuples : Type 0
 BlocksBeforeTuples =
     StandsBefore (Some (span 0 1) ∷ (Some (span 1 1) ∷ (Some (span 0 1) ∷ []))) (Some (span 0 1) ∷ (Some (span 1 0) ∷ (Some (span 1 0) ∷ [])))
+
+-- let w = /!x{a}/; project x (w)
+abbrev pub named_and_kept : QueryTree
+named_and_kept = record { lets = (codes "w", free (cap x a)) ∷ []; body = project (x ∷ []) (named 0) }

@@ -21,3 +21,6 @@ pub const MOST_NESTED_FORMULAS: usize = 500;
 
 /// The most unions, joins and projections that may stand inside each other in one expression.
 pub const MOST_NESTED_EXPRESSIONS: usize = 600;
+
+#[cfg(test)]
+mod tests;
