@@ -29,6 +29,7 @@ pub fn add_one(name: &Name, into: &mut VarSet)
     prove!(added);
 }
 
+/// Whether a name is in a set.
 pub fn has(names: &VarSet, name: &Name) -> bool
     ensures { IsTrue result ↔ Has names.now name.now }
 {

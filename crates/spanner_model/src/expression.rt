@@ -50,6 +50,7 @@ impl Exprs {
         }
     }
 
+    /// How many expressions stand in the list.
     pub fn len(&self) -> usize
         ensures { result ≡ length (exprs_of self.now) }
     {

@@ -49,6 +49,7 @@ impl Parts {
         }
     }
 
+    /// How many formulas stand in the list.
     pub fn len(&self) -> usize
         ensures { result ≡ length (trees_of self.now) }
     {

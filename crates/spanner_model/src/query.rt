@@ -42,6 +42,7 @@ impl Lets {
         }
     }
 
+    /// How many `let`s there are.
     pub fn len(&self) -> usize
         ensures { result ≡ length (lets_of self.now) }
     {
