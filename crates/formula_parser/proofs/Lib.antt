@@ -1,0 +1,9 @@
+pub mod RunLaws
+pub mod EscapeLaws
+pub mod HeadLaws
+pub mod RepeatLaws
+pub mod ClassLaws
+pub mod Bytes
+pub mod StepLaws
+pub mod ReadsSpelled
+pub mod SpelledRead

@@ -6,7 +6,7 @@ use Rattle.formula_parser.specs.declared.fault.FormulaFault.{FormulaFault}
 use Rattle.formula_parser.specs.declared.fault.FormulaFault.TheVariants.{Unexpected, Unclosed, BadEscape, BadRepeat, DoubleRepeat, Anchor, NameTooLong, ReservedName, TooDeep}
 use Rattle.formula_parser.specs.Runs.{begins_with, StandsAt}
 use Rattle.formula_parser.specs.Escapes.{Elem, IsEscape}
-use Rattle.formula_parser.specs.Names.{HasHead}
+use Rattle.formula_parser.specs.Names.{HasHead, head_text}
 use Rattle.formula_parser.specs.Repeats.{IsRepeat, IsSign}
 use Rattle.formula_parser.specs.Classes.{HasClassFault}
 use Rattle.formula_parser.specs.Spells.{IsPlain}
@@ -31,10 +31,6 @@ Opening = Opener × ℕ
 abbrev pub innermost : ℕ → List Opening → ℕ
 innermost from [] = from
 innermost from (o ∷ os) = o.1
-
--- the head of a capture, from the `!` to the `{`
-abbrev pub head_text : List ℕ → List ℕ
-head_text x = 33 ∷ (x ++ 123 ∷ [])
 
 -- The bytes from the slash at `from` to before p leave these openers open, the innermost first.
 pub data Reads (text : List ℕ) (from : ℕ) : ℕ → List Opening → Mark → Type 0 where

@@ -6,7 +6,7 @@ use Rattle.spanner_model.specs.WellBuilt.{IsVariable}
 use Rattle.formula_parser.specs.Sets.{Bytes, single, all_but_newline}
 use Rattle.formula_parser.specs.Runs.{begins}
 use Rattle.formula_parser.specs.Escapes.{Elem, elem_set, is_between, IsEscape}
-use Rattle.formula_parser.specs.Names.{HasHead}
+use Rattle.formula_parser.specs.Names.{HasHead, head_text}
 use Rattle.formula_parser.specs.Repeats.{IsRepeat}
 use Rattle.formula_parser.specs.Classes.{IsClass}
 
@@ -32,10 +32,13 @@ abbrev pub IsNoneOf : ℕ → List ℕ → Type 0
 IsNoneOf b [] = Unit {0}
 IsNoneOf b (c ∷ cs) = (b ≢ c) × IsNoneOf b cs
 
--- a byte below C0 that stands for itself: none of / ( ) [ ] { } | * + ? . ^ $ ! and the backslash
+-- / ( ) [ ] { } | * + ? . ^ $ ! and the backslash
+abbrev pub specials : List ℕ
+specials = 47 ∷ 40 ∷ 41 ∷ 91 ∷ 93 ∷ 123 ∷ 125 ∷ 124 ∷ 42 ∷ 43 ∷ 63 ∷ 46 ∷ 94 ∷ 36 ∷ 33 ∷ 92 ∷ []
+
+-- a byte below C0 that stands for itself
 abbrev pub IsLiteral : ℕ → Type 0
-IsLiteral b =
-    IsNoneOf b (47 ∷ 40 ∷ 41 ∷ 91 ∷ 93 ∷ 123 ∷ 125 ∷ 124 ∷ 42 ∷ 43 ∷ 63 ∷ 46 ∷ 94 ∷ 36 ∷ 33 ∷ 92 ∷ []) × (b < 192)
+IsLiteral b = IsNoneOf b specials × (b < 192)
 
 -- a byte that follows the first one of a character of UTF-8
 abbrev pub is_tail : ℕ → Bool
@@ -81,7 +84,7 @@ mutual
     group_of : {room : ℕ} {t after : List ℕ} {fs : List Tree} → SpellsAlt room t fs (41 ∷ after) →
         SpellsUnit (suc room) (40 ∷ (t ++ 41 ∷ [])) (alt_tree fs) after
     capture_of : {room : ℕ} {x t after : List ℕ} {fs : List Tree} → IsVariable x → SpellsAlt room t fs (125 ∷ after) →
-        SpellsUnit (suc room) ((33 ∷ (x ++ 123 ∷ [])) ++ (t ++ 125 ∷ [])) (cap x (alt_tree fs)) after
+        SpellsUnit (suc room) (head_text x ++ (t ++ 125 ∷ [])) (cap x (alt_tree fs)) after
 
 -- the byte, where it is there
 abbrev pub given : Bool → ℕ → List ℕ
