@@ -7,3 +7,5 @@ pub mod Bytes
 pub mod StepLaws
 pub mod ReadsSpelled
 pub mod SpelledRead
+pub mod FaultLaws
+pub mod FaultsMet

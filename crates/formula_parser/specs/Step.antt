@@ -12,7 +12,7 @@ use Rattle.formula_parser.specs.Tokens.{escape_at, head_at, Bounds, bounds_at, t
 use Rattle.formula_parser.specs.ClassStep.{class_at}
 use Rattle.formula_parser.specs.Spells.{bytes_tree}
 use Rattle.formula_parser.specs.Faults.{Opener, slash, group, capture}
-use Rattle.formula_parser.specs.Nest.{Frame, Last, start, unit, repeated, Nest, whole, with_unit, with_repeat, opened, next_arm}
+use Rattle.formula_parser.specs.Nest.{Frame, Last, start, unit, repeated, Nest, whole, with_unit, with_repeat, opened, next_arm, outermost}
 
 -- a formula, and whether it is tied to the end
 abbrev pub Body : Type 0
@@ -133,3 +133,20 @@ EndsAfter (suc steps) at text n r =
 
 abbrev pub Ends : ℕ → List ℕ → Nest → Result (Body × ℕ) FormulaFault → Type 0
 Ends at text n r = (steps : ℕ) × EndsAfter steps at text n r
+
+-- how many bytes stand between the slash and the formula: a `^` where it is tied
+abbrev pub tie_len : Bool → ℕ
+tie_len true = 1
+tie_len false = 0
+
+-- a `^` stands straight after the slash
+abbrev pub is_tied : List ℕ → ℕ → Bool
+is_tied text from = begins_with 94 (drop (from + 1) text)
+
+-- where the formula begins
+abbrev pub start_at : List ℕ → ℕ → ℕ
+start_at text from = from + 1 + tie_len (is_tied text from)
+
+-- Reading from the slash at `from` ends with r.
+abbrev pub Reading : List ℕ → ℕ → Result (Body × ℕ) FormulaFault → Type 0
+Reading text from r = Ends (start_at text from) (drop (start_at text from) text) (outermost from) r
