@@ -9,3 +9,5 @@ pub mod ReadsSpelled
 pub mod SpelledRead
 pub mod FaultLaws
 pub mod FaultsMet
+pub mod GrammarLaws
+pub mod EachText

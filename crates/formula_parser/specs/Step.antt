@@ -10,7 +10,7 @@ use Rattle.formula_parser.specs.Runs.{begins_with}
 use Rattle.formula_parser.specs.Escapes.{Elem, elem_set}
 use Rattle.formula_parser.specs.Tokens.{escape_at, head_at, Bounds, bounds_at, tails}
 use Rattle.formula_parser.specs.ClassStep.{class_at}
-use Rattle.formula_parser.specs.Spells.{bytes_tree}
+use Rattle.formula_parser.specs.Spells.{AtomTree, bytes_tree}
 use Rattle.formula_parser.specs.Faults.{Opener, slash, group, capture}
 use Rattle.formula_parser.specs.Nest.{Frame, Last, start, unit, repeated, Nest, whole, with_unit, with_repeat, opened, next_arm, outermost}
 
@@ -150,3 +150,7 @@ start_at text from = from + 1 + tie_len (is_tied text from)
 -- Reading from the slash at `from` ends with r.
 abbrev pub Reading : List ℕ → ℕ → Result (Body × ℕ) FormulaFault → Type 0
 Reading text from r = Ends (start_at text from) (drop (start_at text from) text) (outermost from) r
+
+-- the atom of a formula that is read
+abbrev pub atom_of : Bool → Body → AtomTree
+atom_of tied body = record { from_start = tied; to_end = body.1; formula = body.0 }
