@@ -1,6 +1,7 @@
 -- Each text has a tree or a fault.
 use Rattle.std.proofs.Common.{◌≡◌, ℕ, zero, suc, ◌+◌, ◌-◌, ◌<◌, ◌≤◌, ◌⊎◌, inl, inr, Bool, true, false, List, [], ◌∷◌, ◌++◌, length, drop, length-drop, Option, Some, None, Result, Ok, Err, ap, subst, sym, refl, ◌∙◌, arith, length-append, nat_lt, if◌then◌else◌}
 use Rattle.std.specs.Str.{bytes_eq}
+use Rattle.span_core.specs.Names.{is_name}
 use Rattle.spanner_model.specs.Tree.{Tree}
 use Rattle.spanner_model.specs.WellBuilt.{none_word}
 use Rattle.formula_parser.specs.declared.fault.FormulaFault.{FormulaFault}
@@ -65,10 +66,11 @@ bang_within : (at : ℕ) (s : List ℕ) (n : Nest) (found : Option (List ℕ)) �
 bang_within at s n None e = (omega arith, omega arith)
 bang_within at s n (Some x) e =
     let h = head_is s x e in
-    if_both (nat_lt 32 (length x)) _ _ (IsWithin (suc (length s))) tt
+    if_both (is_name x) _ _ (IsWithin (suc (length s)))
     (if_both (bytes_eq x none_word) _ _ (IsWithin (suc (length s))) tt
     (if_both (nat_lt (length n.below) 100) _ _ (IsWithin (suc (length s)))
     (omega arith, omega (arith, ap length h.1, length-append x (123 ∷ h.0))) tt))
+    tt
 
 tie_within : (at : ℕ) (s : List ℕ) (below : List Frame) (opener : Opener) (place : ℕ) (arms parts : List Tree) (last : Last) →
     IsWithin (suc (length s)) (ties at s (at_piece below opener place arms parts last))
@@ -76,7 +78,7 @@ tie_within at s below slash place arms parts last = if_both (begins_with 47 s) _
 tie_within at s below group place arms parts last = tt
 tie_within at s below (capture x) place arms parts last = tt
 
-within : {c : ℕ} → Byte c → (at : ℕ) (s : List ℕ) (below : List Frame) (opener : Opener) (place : ℕ) (arms parts : List Tree) (last : Last) →
+pub within : {c : ℕ} → Byte c → (at : ℕ) (s : List ℕ) (below : List Frame) (opener : Opener) (place : ℕ) (arms parts : List Tree) (last : Last) →
     IsWithin (suc (length s)) (step at (c ∷ s) (at_piece below opener place arms parts last))
 within is_slash at s below slash place arms parts last = tt
 within is_slash at s below group place arms parts last = tt
@@ -114,7 +116,7 @@ within (is_wide {b = b} big) at s below opener place arms parts last =
     subst (IsWithin (suc (length s))) (sym (wide_step at b s (at_piece below opener place arms parts last) big.1))
     (omega arith, omega (arith, ap length r.splits, length-append (tails s) r.rest))
 
-within_here : (at : ℕ) (rest : List ℕ) (n : Nest) → IsWithin (length rest) (step at rest n)
+pub within_here : (at : ℕ) (rest : List ℕ) (n : Nest) → IsWithin (length rest) (step at rest n)
 within_here at [] n = tt
 within_here at (c ∷ s) n = within (byte_of c) at s n.below n.top.opener n.top.place n.top.arms n.top.parts n.last
 

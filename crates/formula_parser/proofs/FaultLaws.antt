@@ -1,6 +1,7 @@
 -- A fault is what reading answers.
 use Rattle.std.proofs.Common.{◌≡◌, ◌≢◌, ℕ, zero, suc, ◌+◌, ◌<◌, ◌≤◌, Bool, true, false, List, [], ◌∷◌, ◌++◌, length, drop, drop-drop, Option, Some, None, Result, Ok, Err, ap, subst, sym, refl, ◌∙◌, arith, nat_lt, append_assoc, if◌then◌else◌}
 use Rattle.std.proofs.lemmas.Bool.Decides.{nat_tests}
+use Rattle.std.specs.Str.{bytes_eq}
 use Rattle.spanner_model.specs.Tree.{Tree, one, rep, cap}
 use Rattle.spanner_model.specs.WellBuilt.{IsVariable, none_word}
 use Rattle.formula_parser.specs.declared.fault.FormulaFault.{FormulaFault}
@@ -20,7 +21,7 @@ use Rattle.formula_parser.proofs.EscapeLaws.{Escaped, escape_is}
 use Rattle.formula_parser.proofs.HeadLaws as heads
 use Rattle.formula_parser.proofs.RepeatLaws.{BoundsText, bounds_is}
 use Rattle.formula_parser.proofs.ClassLaws.{class_fault_read}
-use Rattle.formula_parser.proofs.ReadsSpelled.{at_piece, plain_step, repeat_step, open_step, head_step, head_bangs, variable_opens, name_word}
+use Rattle.formula_parser.proofs.ReadsSpelled.{at_piece, plain_step, repeat_step, open_step, head_step, head_bangs, variable_opens, name_word, long_no_name}
 
 abbrev pub mark_of : Last → Mark
 mark_of start = at_start
@@ -271,7 +272,9 @@ brace_stops text from p os rest h stands never (Some b) is =
     absurd (never (123 ∷ g.text) b.least b.most g.is (g.rest, stands ∙ ap (λ y. 123 ∷ y) g.splits))
 
 long_bangs : (p : ℕ) (x : List ℕ) (n : Nest) → 32 < length x → bangs p (Some x) n ≡ stops (Err (NameTooLong p))
-long_bangs p x n long = grind (arith, nat_tests)
+long_bangs p x n long =
+    ap (λ b. if b then (if bytes_eq x none_word then stops (Err (ReservedName p)) else opens (capture x) p (length x + 2) n) else stops (Err (NameTooLong p)))
+    (long_no_name x long)
 
 -- A fault is the answer of reading.
 pub fault_ends : (text : List ℕ) (from : ℕ) {e : FormulaFault} → HasFault text from e → Reading text from (Err e)

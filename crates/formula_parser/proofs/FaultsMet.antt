@@ -3,6 +3,7 @@ use Rattle.std.proofs.Common.{◌≡◌, ◌≢◌, ℕ, zero, suc, ◌+◌, ◌
 use Rattle.std.specs.Str.{bytes_eq}
 use Rattle.std.proofs.lemmas.Bool.Decides.{nat_tests}
 use Rattle.std.proofs.lemmas.Slice.Eq.{bytes_eq-Decides}
+use Rattle.span_core.specs.Names.{is_name}
 use Rattle.spanner_model.specs.Tree.{Tree, one, rep, cap}
 use Rattle.spanner_model.specs.WellBuilt.{IsVariable, none_word}
 use Rattle.formula_parser.specs.declared.fault.FormulaFault.{FormulaFault}
@@ -25,7 +26,7 @@ use Rattle.formula_parser.proofs.HeadLaws as heads
 use Rattle.formula_parser.proofs.HeadLaws.{byte_front}
 use Rattle.formula_parser.proofs.RepeatLaws.{BoundsText, bounds_is, bounds_exactly, bounds_at_least, bounds_between}
 use Rattle.formula_parser.proofs.ClassLaws.{ClassText, class_is, class_fault_is}
-use Rattle.formula_parser.proofs.ReadsSpelled.{at_piece, literal_step, wide_step, head_length}
+use Rattle.formula_parser.proofs.ReadsSpelled.{at_piece, literal_step, wide_step, head_length, long_word}
 use Rattle.formula_parser.proofs.SpelledRead.{variable_of}
 use Rattle.formula_parser.proofs.FaultLaws.{mark_of, openings, IsInner, IsSound, count_openings, place_is_innermost, plain_start, tied_start}
 
@@ -145,18 +146,18 @@ bang_meets text from p s below opener place arms parts last None is stands few s
 bang_meets text from p s below opener place arms parts last (Some x) is stands few sound reads =
     let h = heads.head_is s x is in
     let here : drop p text ≡ head_text x ++ h.0 = stands ∙ ap (λ y. 33 ∷ y) (h.1 ∙ sym (append_assoc x (123 ∷ []) h.0)) in
-    if_meets (nat_lt 32 (length x)) _ _ (Meets text from p)
-    (λ long. name_too_long reads stands x h (grind (arith, nat_tests)))
-    (λ short. if_meets (bytes_eq x none_word) _ _ (Meets text from p)
+    if_meets (is_name x) _ _ (Meets text from p)
+    (λ name. if_meets (bytes_eq x none_word) _ _ (Meets text from p)
     (λ none.
     let same : x ≡ none_word = (bytes_eq-Decides x none_word).0 none in
     reserved_name reads (h.0, here ∙ ap (λ y. head_text y ++ h.0) same))
     (λ other.
-    let variable = variable_of x h.2 short other in
+    let variable = variable_of x name other in
     opens_meets text from p (length x + 2) (capture x) below opener place arms parts last tt few sound
     (λ room. subst (λ k. Reads text from (p + k) ((capture x, p) ∷ openings below opener place) at_start) (head_length x)
     (head_read reads room variable (h.0, here)))
     (λ deep. capture_too_deep reads deep x variable (h.0, here))))
+    (λ long. name_too_long reads stands x h (long_word x h.2 long))
 
 tie_meets : (text : List ℕ) (from p : ℕ) (s : List ℕ) (below : List Frame) (opener : Opener) (place : ℕ) (arms parts : List Tree) (last : Last) →
     drop p text ≡ 36 ∷ s → IsSound from below opener place → Reads text from p (openings below opener place) (mark_of last) →

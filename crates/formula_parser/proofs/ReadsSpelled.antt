@@ -1,5 +1,5 @@
 -- What is spelled is read.
-use Rattle.std.proofs.Common.{◌≡◌, ◌≢◌, ◌&&◌, ℕ, zero, suc, ◌+◌, ◌<◌, ◌≤◌, Bool, true, false, List, [], ◌∷◌, ◌++◌, length, drop, take, Option, Some, None, Result, Ok, Err, ap, subst, sym, refl, ◌∙◌, append_assoc, arith, length-append, nat_lt}
+use Rattle.std.proofs.Common.{◌≡◌, ◌≢◌, ◌&&◌, ℕ, zero, suc, ◌+◌, ◌<◌, ◌≤◌, Bool, true, false, List, [], ◌∷◌, ◌++◌, length, drop, take, Option, Some, None, Result, Ok, Err, ap, subst, sym, refl, ◌∙◌, append_assoc, arith, length-append, nat_lt, if◌then◌else◌}
 use Rattle.std.proofs.lemmas.List.{append-nil}
 use Rattle.std.proofs.lemmas.Bool.Decides.{nat_tests}
 use Rattle.std.proofs.lemmas.Slice.Eq.{bytes_eq-Decides}
@@ -9,6 +9,7 @@ use Rattle.spanner_model.specs.WellBuilt.{IsVariable, none_word}
 use Rattle.span_core.specs.Names.{is_name, is_name_start, is_name_byte}
 use Rattle.std.specs.List.{list_all}
 use Rattle.std.proofs.lemmas.Bool.{and_parts}
+use Rattle.formula_parser.specs.declared.fault.FormulaFault.TheVariants.{NameTooLong, ReservedName}
 use Rattle.formula_parser.specs.Faults.{Opener, slash, group, capture}
 use Rattle.formula_parser.specs.Nest.{Frame, Last, start, unit, repeated, Nest, held, whole_seq, whole_alt, whole, with_unit, with_repeat, opened, next_arm, settled, outermost}
 use Rattle.formula_parser.specs.Step.{Next, goes, stops, step, braces, repeats, escapes, bangs, classes, widens, opens, end_len, Ends, EndsAfter}
@@ -50,6 +51,20 @@ word_name (c ∷ x) h few =
     let fits : nat_lt (length x) 32 ≡ true = grind (arith, nat_tests) in
     ap (λ b. b && (is_name_start c && list_all is_name_byte x)) fits ∙ h
 
+-- a word that is no name is too long
+pub long_word : (x : List ℕ) → is_word x ≡ true → is_name x ≡ false → 32 < length x
+long_word x word other = by (nat_lt 32 (length x)) refl
+  where
+    by : (b : Bool) → nat_lt 32 (length x) ≡ b → 32 < length x
+    by true e = grind (arith, nat_tests)
+    by false e = let same = word_name x word (grind (arith, nat_tests)) in absurd (cc)
+
+pub long_no_name : (x : List ℕ) → 32 < length x → is_name x ≡ false
+long_no_name [] long = refl
+long_no_name (c ∷ x) long =
+    let full : nat_lt (length x) 32 ≡ false = grind (arith, nat_tests) in
+    ap (λ b. b && (is_name_start c && list_all is_name_byte x)) full
+
 -- texts that differ are told apart
 pub texts_differ : (x y : List ℕ) → (x ≡ y → ⊥) → bytes_eq x y ≡ false
 texts_differ x y differ = by (bytes_eq x y) refl
@@ -64,10 +79,8 @@ head_bangs at x rest n word = ap (λ y. bangs at y n) (head_read ((x ++ 123 ∷ 
 
 pub variable_opens : (at : ℕ) (x : List ℕ) (n : Nest) → IsVariable x → bangs at (Some x) n ≡ opens (capture x) at (length x + 2) n
 variable_opens at x n variable =
-    let few = (name_word x variable.0).1 in
-    let short : nat_lt 32 (length x) ≡ false = grind (arith, nat_tests) in
-    let other = texts_differ x none_word variable.1 in
-    grind (arith, short, other)
+    let deep : Bool → Next = λ b. if b then stops (Err (ReservedName at)) else opens (capture x) at (length x + 2) n in
+    ap (λ b. if b then deep (bytes_eq x none_word) else stops (Err (NameTooLong at))) variable.0 ∙ ap deep (texts_differ x none_word variable.1)
 
 pub head_length : (x : List ℕ) → length (head_text x) ≡ length x + 2
 head_length x = omega (arith, length-append x (123 ∷ []))
@@ -168,55 +181,55 @@ mutual
       ((es ps : List Tree) (l : Last) → whole_alt es (whole_seq ps l) ≡ alt_tree (arms ++ fs) →
       Ends (at + length t) rest (at_piece below opener place es ps l) r) →
       Ends at (t ++ rest) (at_piece below opener place arms [] start) r
-  reads_alt (lone_arm {after = rest} {fs = fs} s) r at below opener place arms deep then =
+  reads_alt (lone_arm {after = rest} {fs = fs} s) r at below opener place arms deep next =
       reads_seq s r at below opener place arms [] start refl deep
-      (λ ps l fresh is. then arms ps l (whole_alt_is arms _ ∙ ap (λ x. alt_tree (arms ++ x ∷ [])) (whole_seq_is ps l fresh ∙ ap seq_tree is)))
-  reads_alt (more_arms {t = t} {u = u} {after = rest} {fs = fs} {gs = gs} s others) r at below opener place arms deep then =
+      (λ ps l fresh is. next arms ps l (whole_alt_is arms _ ∙ ap (λ x. alt_tree (arms ++ x ∷ [])) (whole_seq_is ps l fresh ∙ ap seq_tree is)))
+  reads_alt (more_arms {t = t} {u = u} {after = rest} {fs = fs} {gs = gs} s others) r at below opener place arms deep next =
       ends_split at t (124 ∷ u) rest _ r (reads_seq s r at below opener place arms [] start refl deep
       (λ ps l fresh is.
       ends_more (at + length t) 1 (124 ∷ (u ++ rest)) (at_piece below opener place arms ps l) _ r refl
       (reads_alt others r (at + length t + 1) below opener place (arms ++ whole_seq ps l ∷ []) deep
       (λ es qs k same. ends_at (at + length (t ++ 124 ∷ u)) (at + length t + 1 + length u) rest _ r (omega (arith, length-append t (124 ∷ u)))
-      (then es qs k (same ∙ ap alt_tree (append_assoc arms _ gs ∙ ap (λ x. arms ++ x ∷ gs) (whole_seq_is ps l fresh ∙ ap seq_tree is))))))))
+      (next es qs k (same ∙ ap alt_tree (append_assoc arms _ gs ∙ ap (λ x. arms ++ x ∷ gs) (whole_seq_is ps l fresh ∙ ap seq_tree is))))))))
 
   pub reads_seq : {room : ℕ} {t rest : List ℕ} {fs : List Tree} → SpellsSeq room t fs rest → (r : Answer) (at : ℕ)
       (below : List Frame) (opener : Opener) (place : ℕ) (arms parts : List Tree) (last : Last) → IsFresh parts last → length below + room ≡ 100 →
       ((ps : List Tree) (l : Last) → IsFresh ps l → held ps l ≡ held parts last ++ fs →
       Ends (at + length t) rest (at_piece below opener place arms ps l) r) →
       Ends at (t ++ rest) (at_piece below opener place arms parts last) r
-  reads_seq (no_piece {after = rest}) r at below opener place arms parts last fresh deep then =
-      ends_at (at + 0) at rest _ r (omega arith) (then parts last fresh (sym (append-nil _)))
-  reads_seq (more_pieces {t = t} {u = u} {after = rest} {f = f} {fs = fs} p s) r at below opener place arms parts last fresh deep then =
+  reads_seq (no_piece {after = rest}) r at below opener place arms parts last fresh deep next =
+      ends_at (at + 0) at rest _ r (omega arith) (next parts last fresh (sym (append-nil _)))
+  reads_seq (more_pieces {t = t} {u = u} {after = rest} {f = f} {fs = fs} p s) r at below opener place arms parts last fresh deep next =
       ends_split at t u rest _ r (reads_piece p r at below opener place arms parts last deep
       (λ ps l still is. reads_seq s r (at + length t) below opener place arms ps l still deep
       (λ qs k still' is'. ends_at (at + length (t ++ u)) (at + length t + length u) rest _ r (omega (arith, length-append t u))
-      (then qs k still' (is' ∙ ap (λ x. x ++ fs) is ∙ append_assoc (held parts last) (f ∷ []) fs)))))
+      (next qs k still' (is' ∙ ap (λ x. x ++ fs) is ∙ append_assoc (held parts last) (f ∷ []) fs)))))
 
   pub reads_piece : {room : ℕ} {t rest : List ℕ} {f : Tree} → SpellsPiece room t f rest → (r : Answer) (at : ℕ)
       (below : List Frame) (opener : Opener) (place : ℕ) (arms parts : List Tree) (last : Last) → length below + room ≡ 100 →
       ((ps : List Tree) (l : Last) → IsFresh ps l → held ps l ≡ held parts last ++ f ∷ [] →
       Ends (at + length t) rest (at_piece below opener place arms ps l) r) →
       Ends at (t ++ rest) (at_piece below opener place arms parts last) r
-  reads_piece (once {after = rest} {f = f} u) r at below opener place arms parts last deep then =
-      reads_unit u r at (at_piece below opener place arms parts last) deep (then (held parts last) (unit f) tt refl)
-  reads_piece (again {t = t} {u = v} {after = rest} {f = f} {least = least} {most = most} u sign) r at below opener place arms parts last deep then =
+  reads_piece (once {after = rest} {f = f} u) r at below opener place arms parts last deep next =
+      reads_unit u r at (at_piece below opener place arms parts last) deep (next (held parts last) (unit f) tt refl)
+  reads_piece (again {t = t} {u = v} {after = rest} {f = f} {least = least} {most = most} u sign) r at below opener place arms parts last deep next =
       ends_split at t v rest _ r (reads_unit u r at (at_piece below opener place arms parts last) deep
       (ends_token (at + length t) v rest _ (at_piece below opener place arms (held parts last) (repeated (rep f least most))) r
       (repeat_step sign (at + length t) rest below opener place arms (held parts last) f)
       (ends_at (at + length (t ++ v)) (at + length t + length v) rest _ r (omega (arith, length-append t v))
-      (then (held parts last) (repeated (rep f least most)) tt refl))))
+      (next (held parts last) (repeated (rep f least most)) tt refl))))
 
   pub reads_unit : {room : ℕ} {t rest : List ℕ} {f : Tree} → SpellsUnit room t f rest → (r : Answer) (at : ℕ) (n : Nest) →
       length n.below + room ≡ 100 → Ends (at + length t) rest (with_unit f n) r → Ends at (t ++ rest) n r
-  reads_unit (plain {t = t} {after = rest} {f = f} p) r at n deep then = ends_token at t rest n (with_unit f n) r (plain_step p at n) then
-  reads_unit (group_of {room = room} {t = t} {after = rest} {fs = fs} alt) r at n deep then =
+  reads_unit (plain {t = t} {after = rest} {f = f} p) r at n deep next = ends_token at t rest n (with_unit f n) r (plain_step p at n) next
+  reads_unit (group_of {room = room} {t = t} {after = rest} {fs = fs} alt) r at n deep next =
       ends_more at 1 (40 ∷ ((t ++ 41 ∷ []) ++ rest)) n _ r (open_step at ((t ++ 41 ∷ []) ++ rest) n (omega arith))
       (ends_split (at + 1) t (41 ∷ []) rest _ r
       (reads_alt alt r (at + 1) (settled n.top n.last ∷ n.below) group at [] (omega arith)
       (λ es ps l is. ends_more (at + 1 + length t) 1 (41 ∷ rest) _ _ r refl
       (ends_at (at + length (40 ∷ (t ++ 41 ∷ []))) (at + 1 + length t + 1) rest _ r (omega (arith, length-append t (41 ∷ [])))
-      (subst (λ x. Ends (at + length (40 ∷ (t ++ 41 ∷ []))) rest (with_unit x n) r) (sym is) then)))))
-  reads_unit (capture_of {room = room} {x = x} {t = t} {after = rest} {fs = fs} variable alt) r at n deep then =
+      (subst (λ x. Ends (at + length (40 ∷ (t ++ 41 ∷ []))) rest (with_unit x n) r) (sym is) next)))))
+  reads_unit (capture_of {room = room} {x = x} {t = t} {after = rest} {fs = fs} variable alt) r at n deep next =
       let u = head_text x in
       let all = u ++ (t ++ 125 ∷ []) in
       ends_split at u (t ++ 125 ∷ []) rest n r
@@ -225,7 +238,7 @@ mutual
       (reads_alt alt r (at + length u) (settled n.top n.last ∷ n.below) (capture x) at [] (omega arith)
       (λ es ps l is. ends_more (at + length u + length t) 1 (125 ∷ rest) _ _ r refl
       (ends_at (at + length all) (at + length u + length t + 1) rest _ r (omega (arith, length-append u (t ++ 125 ∷ []), length-append t (125 ∷ [])))
-      (subst (λ y. Ends (at + length all) rest (with_unit (cap x y) n) r) (sym is) then))))))
+      (subst (λ y. Ends (at + length all) rest (with_unit (cap x y) n) r) (sym is) next))))))
 
 -- What is spelled is read: the formula between the slashes, and the place after the closing one.
 pub reads_spelled : (t : List ℕ) (fs : List Tree) (tied : Bool) (after : List ℕ) (at place : ℕ) → SpellsAlt 100 t fs (given tied 36 ++ 47 ∷ after) →

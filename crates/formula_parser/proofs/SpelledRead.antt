@@ -4,6 +4,7 @@ use Rattle.std.specs.Str.{bytes_eq}
 use Rattle.std.proofs.lemmas.List.{append-nil, take-append-drop, length-take}
 use Rattle.std.proofs.lemmas.Bool.Decides.{nat_tests}
 use Rattle.std.proofs.lemmas.Slice.Eq.{bytes_eq-Decides}
+use Rattle.span_core.specs.Names.{is_name}
 use Rattle.spanner_model.specs.Tree.{Tree, empty, one, rep, cap, cat_all, alt_all}
 use Rattle.spanner_model.specs.WellBuilt.{IsVariable, none_word}
 use Rattle.formula_parser.specs.declared.fault.FormulaFault.{FormulaFault}
@@ -13,7 +14,7 @@ use Rattle.formula_parser.specs.Step.{Body, Next, goes, stops, step, repeats, br
 use Rattle.formula_parser.specs.Sets.{Bytes, single, all_but_newline}
 use Rattle.formula_parser.specs.Runs.{begins_with}
 use Rattle.formula_parser.specs.Escapes.{Elem, elem_set}
-use Rattle.formula_parser.specs.Names.{is_word, HasHead, head_text}
+use Rattle.formula_parser.specs.Names.{HasHead, head_text}
 use Rattle.formula_parser.specs.Repeats.{IsRepeat, star, plus, maybe}
 use Rattle.formula_parser.specs.Tokens.{escape_at, head_at, Bounds, bounds_at, tails}
 use Rattle.formula_parser.specs.ClassStep.{class_at}
@@ -24,7 +25,7 @@ use Rattle.formula_parser.proofs.EscapeLaws.{Escaped, escape_is}
 use Rattle.formula_parser.proofs.HeadLaws.{head_read, head_is, byte_front}
 use Rattle.formula_parser.proofs.RepeatLaws.{BoundsText, bounds_is}
 use Rattle.formula_parser.proofs.ClassLaws.{ClassText, class_is}
-use Rattle.formula_parser.proofs.ReadsSpelled.{at_piece, IsFresh, literal_step, wide_step, whole_seq_is, whole_alt_is, word_name, head_length}
+use Rattle.formula_parser.proofs.ReadsSpelled.{at_piece, IsFresh, literal_step, wide_step, whole_seq_is, whole_alt_is, head_length}
 
 -- the whole arms of a frame, a bar after each
 pub data SpellsArms : ℕ → List ℕ → List Tree → List ℕ → Type 0 where
@@ -350,11 +351,9 @@ opens_grows at len rest after room t below opener place arms parts last inner is
     (subst (λ x. IsOpen x t below opener arms parts last (opener_text inner ++ after)) one (subst (IsOpen room t below opener arms parts last) splits o))))
     (λ full. tt)
 
--- a word that is short enough and not the reserved one
-pub variable_of : (x : List ℕ) → is_word x ≡ true → nat_lt 32 (length x) ≡ false → bytes_eq x none_word ≡ false → IsVariable x
-variable_of x word short other =
-    let few : length x ≤ 32 = grind (arith, nat_tests) in
-    (word_name x word few, λ e. let same = (bytes_eq-Decides x none_word).1 e in absurd (cc))
+-- a name that is not the reserved word
+pub variable_of : (x : List ℕ) → is_name x ≡ true → bytes_eq x none_word ≡ false → IsVariable x
+variable_of x name other = (name, λ e. let same = (bytes_eq-Decides x none_word).1 e in absurd (cc))
 
 bang_grows : (at : ℕ) (s : List ℕ) (room : ℕ) (t : List ℕ) (below : List Frame) (opener : Opener) (place : ℕ) (arms parts : List Tree) (last : Last)
     (found : Option (List ℕ)) → head_at s ≡ found → IsOpen room t below opener arms parts last (33 ∷ s) →
@@ -364,10 +363,11 @@ bang_grows at s room t below opener place arms parts last None e o =
     (bang (λ x h. let same = head_read s x h in absurd (cc))) o
 bang_grows at s room t below opener place arms parts last (Some x) e o =
     let h = head_is s x e in
-    if_grows (nat_lt 32 (length x)) _ _ (Grows t (33 ∷ s)) (λ long. tt)
-    (λ short. if_grows (bytes_eq x none_word) _ _ (Grows t (33 ∷ s)) (λ none. tt)
-    (λ other. opens_grows at (length x + 2) (33 ∷ s) h.0 room t below opener place arms parts last (capture x) (variable_of x h.2 short other)
+    if_grows (is_name x) _ _ (Grows t (33 ∷ s))
+    (λ name. if_grows (bytes_eq x none_word) _ _ (Grows t (33 ∷ s)) (λ none. tt)
+    (λ other. opens_grows at (length x + 2) (33 ∷ s) h.0 room t below opener place arms parts last (capture x) (variable_of x name other)
     (ap (λ y. 33 ∷ y) (h.1 ∙ sym (append_assoc x (123 ∷ []) h.0))) (sym (head_length x)) o))
+    (λ long. tt)
 
 escape_grows : (at : ℕ) (s : List ℕ) (room : ℕ) (t : List ℕ) (below : List Frame) (opener : Opener) (place : ℕ) (arms parts : List Tree) (last : Last)
     (found : Option (Elem × ℕ)) → escape_at s ≡ found → IsOpen room t below opener arms parts last (92 ∷ s) →

@@ -1,6 +1,7 @@
 -- One step of reading: what the next token makes of what is open.
 use Rattle.std.specs.Prelude.{◌≡◌, ℕ, zero, suc, ◌+◌, Bool, true, false, ◌==◌, nat_lt, nat_le, List, [], ◌∷◌, length, drop, Option, Some, None, Result, Ok, Err, if◌then◌else◌}
 use Rattle.std.specs.Str.{bytes_eq}
+use Rattle.span_core.specs.Names.{is_name}
 use Rattle.spanner_model.specs.Tree.{Tree, one, rep, cap}
 use Rattle.spanner_model.specs.WellBuilt.{none_word}
 use Rattle.formula_parser.specs.declared.fault.FormulaFault.{FormulaFault}
@@ -55,9 +56,8 @@ classes (Err e) n = stops (Err e)
 abbrev pub bangs : ℕ → Option (List ℕ) → Nest → Next
 bangs at None n = goes 1 (with_unit (one (single 33)) n)
 bangs at (Some x) n =
-    if nat_lt 32 (length x) then stops (Err (NameTooLong at))
-    else if bytes_eq x none_word then stops (Err (ReservedName at))
-    else opens (capture x) at (length x + 2) n
+    if is_name x then (if bytes_eq x none_word then stops (Err (ReservedName at)) else opens (capture x) at (length x + 2) n)
+    else stops (Err (NameTooLong at))
 
 -- what a frame is in the frame around it, once it is closed
 abbrev pub leaves : Tree → List Frame → ℕ → Next
