@@ -1,0 +1,13 @@
+pub mod RunLaws
+pub mod EscapeLaws
+pub mod HeadLaws
+pub mod RepeatLaws
+pub mod ClassLaws
+pub mod Bytes
+pub mod StepLaws
+pub mod ReadsSpelled
+pub mod SpelledRead
+pub mod FaultLaws
+pub mod FaultsMet
+pub mod GrammarLaws
+pub mod EachText
