@@ -11,3 +11,4 @@ pub mod Tokens
 pub mod ClassStep
 pub mod Nest
 pub mod Step
+pub mod View
