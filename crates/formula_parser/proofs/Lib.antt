@@ -11,3 +11,4 @@ pub mod FaultLaws
 pub mod FaultsMet
 pub mod GrammarLaws
 pub mod EachText
+pub mod TurnLaws

@@ -12,3 +12,4 @@ pub mod ClassStep
 pub mod Nest
 pub mod Step
 pub mod View
+pub mod Turn

@@ -42,7 +42,7 @@ pub(crate) struct Nest {
     pub(crate) last: Last,
 }
 
-fn put(parts: &mut Parts, part: Formula) -> Result<(), OutOfMemory>
+pub(crate) fn put(parts: &mut Parts, part: Formula) -> Result<(), OutOfMemory>
     ensures { OnOk result (trees_of parts.new ≡ trees_of parts.old ++ tree_of part ∷ []) }
 {
     match parts.push(part) {
