@@ -1,1 +1,17 @@
+pub mod AnswerLaws
+pub mod CapturesLaws
+pub mod Deciding
+pub mod ExampleLaws
+pub mod ExprLaws
+pub mod ExprTrees
+pub mod FitLaws
+pub mod GatheredLaws
+pub mod HasLaws
+pub mod NameLaws
+pub mod NodeExprs
+pub mod NodeParts
+pub mod Nodes
+pub mod PartLaws
+pub mod RowOrder
+pub mod TreeLaws
 pub mod Trees

@@ -1,7 +1,15 @@
+pub mod Answer
+pub mod Answers
 pub mod Captures
+pub mod Examples
+pub mod ExprView
+pub mod Expression
 pub mod Fit
 pub mod Functional
+pub mod Laws
+pub mod Gathered
 pub mod Lists
+pub mod Sound
 pub mod Tree
 pub mod View
 pub mod WellBuilt

@@ -1,5 +1,5 @@
 -- Which formulas are well built.
-use Rattle.std.specs.Prelude.{◌≡◌, ℕ, suc, ◌<◌, ◌≤◌, max, List, [], ◌∷◌, Option, IsTrue}
+use Rattle.std.specs.Prelude.{◌≡◌, ℕ, suc, ◌<◌, ◌≤◌, max, List, Option, IsTrue, codes}
 use Rattle.std.specs.Option.{ForSome}
 use Rattle.std.specs.Ordering.{nat_cmp}
 use Rattle.std.specs.FinSet as set
@@ -10,7 +10,7 @@ use Rattle.spanner_model.specs.Captures.{VarName}
 
 -- the word `none`
 abbrev pub none_word : List ℕ
-none_word = 110 ∷ 111 ∷ 110 ∷ 101 ∷ []
+none_word = codes "none"
 
 -- bytes, of which there is one at least
 abbrev pub IsByteClass : set.FinSet nat_cmp → Type 0

@@ -1,0 +1,267 @@
+-- The variables of expressions.
+use Rattle.std.proofs.Common.{◌≡◌, ℕ, zero, suc, ◌+◌, ◌<◌, ◌≤◌, ◌⊎◌, ◌↔◌, Bool, true, false, List, [], ◌∷◌, ◌++◌, length, length-append, Option, Some, None, inl, inr, refl, sym, ap, ◌∙◌, subst, arith, add-one}
+use Rattle.std.specs.Prelude.{slice_get, nat_eq, MatchBool, if◌then◌else◌}
+use Rattle.std.specs.Option.{IsSomeAnd, ForSome}
+use Rattle.std.proofs.lemmas.Bool.Decides.{nat_tests}
+use Rattle.span_core.specs.declared.TheConstants.{MOST_VARIABLES}
+use Rattle.spanner_model.specs.Lists.{Has, AtMost}
+use Rattle.spanner_model.specs.Captures.{VarName}
+use Rattle.spanner_model.specs.Functional.{HasVar}
+use Rattle.spanner_model.specs.Expression.{ExprTree, QueryTree, atom, named, union_end, union, join_end, join, project, union_all, join_all}
+use Rattle.spanner_model.specs.Answer.{VarOf, vars_of_lets, IsResultVar}
+use Rattle.spanner_model.specs.Sound.{IsFreeName, AgreesWithParts, IsSoundExpr, AreUnited, AreJoined, IsSoundUnder, NameIn, NameInLets, NameOf, IsSound}
+use Rattle.spanner_model.specs.Gathered.{vars_in, HaveRoom}
+use Rattle.spanner_model.proofs.Nodes.{expr_nodes}
+
+abbrev pub LetVars : Type 1
+LetVars = ℕ → VarName → Type 0
+
+-- the lets have the same variables
+abbrev pub SameVars : LetVars → LetVars → Type 0
+SameVars V W = (k : ℕ) (x : VarName) → V k x ↔ W k x
+
+-- ---- the same variables of lets make the same variables of expressions
+
+pub var_same : (V W : LetVars) → SameVars V W → (e : ExprTree) (x : VarName) → VarOf V e x → VarOf W e x
+var_same V W same (atom s t f) x h = h
+var_same V W same (named k) x h = (same k x).0 h
+var_same V W same union_end x h = h
+var_same V W same (union e rest) x (inl h) = inl (var_same V W same e x h)
+var_same V W same (union e rest) x (inr h) = inr (var_same V W same rest x h)
+var_same V W same join_end x h = h
+var_same V W same (join e rest) x (inl h) = inl (var_same V W same e x h)
+var_same V W same (join e rest) x (inr h) = inr (var_same V W same rest x h)
+var_same V W same (project kept e) x h = h
+
+pub turned : (V W : LetVars) → SameVars V W → SameVars W V
+turned V W same k x = ((same k x).1, (same k x).0)
+
+agrees_same : (V W : LetVars) → SameVars V W → (e rest : ExprTree) → ((x : VarName) → VarOf V e x ↔ VarOf V rest x) → (x : VarName) → VarOf W e x ↔ VarOf W rest x
+agrees_same V W same e rest h x = (
+  λ v. var_same V W same rest x ((h x).0 (var_same W V (turned V W same) e x v)),
+  λ v. var_same V W same e x ((h x).1 (var_same W V (turned V W same) rest x v)),
+)
+
+pub AgreesWithParts-same : (V W : LetVars) → SameVars V W → (e rest : ExprTree) → AgreesWithParts V e rest → AgreesWithParts W e rest
+AgreesWithParts-same V W same e (atom s t f) h = agrees_same V W same e (atom s t f) h
+AgreesWithParts-same V W same e (named k) h = agrees_same V W same e (named k) h
+AgreesWithParts-same V W same e union_end h = tt
+AgreesWithParts-same V W same e (union g rest) h = agrees_same V W same e (union g rest) h
+AgreesWithParts-same V W same e join_end h = agrees_same V W same e join_end h
+AgreesWithParts-same V W same e (join g rest) h = agrees_same V W same e (join g rest) h
+AgreesWithParts-same V W same e (project kept g) h = agrees_same V W same e (project kept g) h
+
+mutual
+  pub sound_same : (V W : LetVars) → SameVars V W → (n : ℕ) (e : ExprTree) → IsSoundExpr V n e → IsSoundExpr W n e
+  sound_same V W same n (atom s t f) h = h
+  sound_same V W same n (named k) h = h
+  sound_same V W same n union_end h = h
+  sound_same V W same n (union e rest) h = (sound_same V W same n e h.0, united_same V W same n rest h.1, h.2, AgreesWithParts-same V W same e rest h.3)
+  sound_same V W same n join_end h = h
+  sound_same V W same n (join e rest) h = (sound_same V W same n e h.0, joined_same V W same n rest h.1, h.2)
+  sound_same V W same n (project kept e) h = (sound_same V W same n e h.0, λ x a. (var_same V W same e x (h.1 x a).0, (h.1 x a).1))
+
+  united_same : (V W : LetVars) → SameVars V W → (n : ℕ) (e : ExprTree) → AreUnited V n e → AreUnited W n e
+  united_same V W same n union_end h = h
+  united_same V W same n (union e rest) h = (sound_same V W same n e h.0, united_same V W same n rest h.1, AgreesWithParts-same V W same e rest h.2)
+  united_same V W same n _ h = absurd h
+
+  joined_same : (V W : LetVars) → SameVars V W → (n : ℕ) (e : ExprTree) → AreJoined V n e → AreJoined W n e
+  joined_same V W same n join_end h = h
+  joined_same V W same n (join e rest) h = (sound_same V W same n e h.0, joined_same V W same n rest h.1)
+  joined_same V W same n _ h = absurd h
+
+-- ---- parts
+
+united_part : (V : LetVars) (n : ℕ) (es : List ExprTree) (e : ExprTree) → AreUnited V n (union_all es) → Has es e → IsSoundExpr V n e
+united_part V n [] e h has = absurd has
+united_part V n (g ∷ es) e h (inl a) = subst (IsSoundExpr V n) a h.0
+united_part V n (g ∷ es) e h (inr a) = united_part V n es e h.1 a
+
+joined_part : (V : LetVars) (n : ℕ) (es : List ExprTree) (e : ExprTree) → AreJoined V n (join_all es) → Has es e → IsSoundExpr V n e
+joined_part V n [] e h has = absurd has
+joined_part V n (g ∷ es) e h (inl a) = subst (IsSoundExpr V n) a h.0
+joined_part V n (g ∷ es) e h (inr a) = joined_part V n es e h.1 a
+
+-- the parts of a sound union, and of a sound join, are sound
+pub union_part : (V : LetVars) (n : ℕ) (es : List ExprTree) (e : ExprTree) → IsSoundExpr V n (union_all es) → Has es e → IsSoundExpr V n e
+union_part V n [] e h has = absurd has
+union_part V n (g ∷ es) e h (inl a) = subst (IsSoundExpr V n) a h.0
+union_part V n (g ∷ es) e h (inr a) = united_part V n es e h.1 a
+
+pub join_part : (V : LetVars) (n : ℕ) (es : List ExprTree) (e : ExprTree) → IsSoundExpr V n (join_all es) → Has es e → IsSoundExpr V n e
+join_part V n [] e h has = absurd has
+join_part V n (g ∷ es) e h (inl a) = subst (IsSoundExpr V n) a h.0
+join_part V n (g ∷ es) e h (inr a) = joined_part V n es e h.1 a
+
+pub union_two : (V : LetVars) (n : ℕ) (es : List ExprTree) → IsSoundExpr V n (union_all es) → 2 ≤ length es
+union_two V n [] h = absurd h
+union_two V n (e ∷ []) h = absurd (h.2 refl)
+union_two V n (e ∷ g ∷ es) h = omega arith
+
+pub join_two : (V : LetVars) (n : ℕ) (es : List ExprTree) → IsSoundExpr V n (join_all es) → 2 ≤ length es
+join_two V n [] h = absurd h
+join_two V n (e ∷ []) h = absurd (h.2 refl)
+join_two V n (e ∷ g ∷ es) h = omega arith
+
+-- a union and a join of the same parts have the same variables and the same size
+pub union_vars : (V : LetVars) (es : List ExprTree) (x : VarName) → VarOf V (join_all es) x ↔ VarOf V (union_all es) x
+union_vars V [] x = (λ h. h, λ h. h)
+union_vars V (e ∷ es) x = (
+  λ h. elim h as (λ _. VarOf V e x ⊎ VarOf V (union_all es) x) [ inl a ↦ inl a | inr b ↦ inr ((union_vars V es x).0 b) ],
+  λ h. elim h as (λ _. VarOf V e x ⊎ VarOf V (join_all es) x) [ inl a ↦ inl a | inr b ↦ inr ((union_vars V es x).1 b) ],
+)
+
+pub union_size : (es : List ExprTree) → expr_nodes (union_all es) ≡ expr_nodes (join_all es)
+union_size [] = refl
+union_size (e ∷ es) = ap (λ n. 1 + expr_nodes e + n) (union_size es)
+
+pub part_size : (es : List ExprTree) (e : ExprTree) → Has es e → expr_nodes e < expr_nodes (join_all es)
+part_size [] e h = absurd h
+part_size (g ∷ es) e (inl a) = omega (arith, ap expr_nodes a)
+part_size (g ∷ es) e (inr a) = omega (arith, part_size es e a)
+
+pub join_part_var : (V : LetVars) (es : List ExprTree) (e : ExprTree) (x : VarName) → Has es e → VarOf V e x → VarOf V (join_all es) x
+join_part_var V [] e x has v = absurd has
+join_part_var V (g ∷ es) e x (inl a) v = inl (subst (λ (w : ExprTree). VarOf V w x) (sym a) v)
+join_part_var V (g ∷ es) e x (inr a) v = inr (join_part_var V es e x a v)
+
+pub join_var_part : (V : LetVars) (es : List ExprTree) (x : VarName) → VarOf V (join_all es) x → (e : ExprTree) × Has es e × VarOf V e x
+join_var_part V [] x h = absurd h
+join_var_part V (g ∷ es) x (inl a) = (g, inl refl, a)
+join_var_part V (g ∷ es) x (inr b) = let p = join_var_part V es x b in (p.0, inr p.1, p.2)
+
+-- ---- variables are names of atoms
+
+-- the variables of a sound expression are names of its atoms, or variables of the lets
+mutual
+  pub var_named : (V : LetVars) (N : VarName → Type 0) → ((k : ℕ) (x : VarName) → V k x → N x) → (n : ℕ) (e : ExprTree) (x : VarName) → IsSoundExpr V n e → VarOf V e x → NameIn e x ⊎ N x
+  var_named V N known n (atom s t f) x h v = inl v
+  var_named V N known n (named k) x h v = inr (known k x v)
+  var_named V N known n union_end x h v = absurd h
+  var_named V N known n (union e rest) x h (inl v) = elim (var_named V N known n e x h.0 v) as (λ _. (NameIn e x ⊎ NameIn rest x) ⊎ N x) [ inl a ↦ inl (inl a) | inr b ↦ inr b ]
+  var_named V N known n (union e rest) x h (inr v) = elim (united_named V N known n rest x h.1 v) as (λ _. (NameIn e x ⊎ NameIn rest x) ⊎ N x) [ inl a ↦ inl (inr a) | inr b ↦ inr b ]
+  var_named V N known n join_end x h v = absurd h
+  var_named V N known n (join e rest) x h (inl v) = elim (var_named V N known n e x h.0 v) as (λ _. (NameIn e x ⊎ NameIn rest x) ⊎ N x) [ inl a ↦ inl (inl a) | inr b ↦ inr b ]
+  var_named V N known n (join e rest) x h (inr v) = elim (joined_named V N known n rest x h.1 v) as (λ _. (NameIn e x ⊎ NameIn rest x) ⊎ N x) [ inl a ↦ inl (inr a) | inr b ↦ inr b ]
+  var_named V N known n (project kept e) x h v = var_named V N known n e x h.0 (h.1 x v).0
+
+  united_named : (V : LetVars) (N : VarName → Type 0) → ((k : ℕ) (x : VarName) → V k x → N x) → (n : ℕ) (e : ExprTree) (x : VarName) → AreUnited V n e → VarOf V e x → NameIn e x ⊎ N x
+  united_named V N known n union_end x h v = absurd v
+  united_named V N known n (union e rest) x h (inl v) = elim (var_named V N known n e x h.0 v) as (λ _. (NameIn e x ⊎ NameIn rest x) ⊎ N x) [ inl a ↦ inl (inl a) | inr b ↦ inr b ]
+  united_named V N known n (union e rest) x h (inr v) = elim (united_named V N known n rest x h.1 v) as (λ _. (NameIn e x ⊎ NameIn rest x) ⊎ N x) [ inl a ↦ inl (inr a) | inr b ↦ inr b ]
+  united_named V N known n _ x h v = absurd h
+
+  joined_named : (V : LetVars) (N : VarName → Type 0) → ((k : ℕ) (x : VarName) → V k x → N x) → (n : ℕ) (e : ExprTree) (x : VarName) → AreJoined V n e → VarOf V e x → NameIn e x ⊎ N x
+  joined_named V N known n join_end x h v = absurd v
+  joined_named V N known n (join e rest) x h (inl v) = elim (var_named V N known n e x h.0 v) as (λ _. (NameIn e x ⊎ NameIn rest x) ⊎ N x) [ inl a ↦ inl (inl a) | inr b ↦ inr b ]
+  joined_named V N known n (join e rest) x h (inr v) = elim (joined_named V N known n rest x h.1 v) as (λ _. (NameIn e x ⊎ NameIn rest x) ⊎ N x) [ inl a ↦ inl (inr a) | inr b ↦ inr b ]
+  joined_named V N known n _ x h v = absurd h
+
+let_named : (lets : List (VarName × ExprTree)) (k : ℕ) (l : VarName × ExprTree) (x : VarName) → slice_get lets k ≡ Some l → NameIn l.1 x → NameInLets lets x
+let_named [] k l x at h = absurd (cc)
+let_named (m ∷ lets) zero l x at h = inl (let e : m ≡ l = cc in subst (λ (w : VarName × ExprTree). NameIn w.1 x) (sym e) h)
+let_named (m ∷ lets) (suc k) l x at h = inr (let_named lets k l x at h)
+
+-- the variables of lets are names of their atoms
+module _ (lets : List (VarName × ExprTree)) (sound : (k : ℕ) → ForSome (slice_get lets k) (λ l. IsSoundUnder lets k l.1)) where
+  lets_named_one : (n : ℕ) (o : Option (VarName × ExprTree)) (x : VarName) → slice_get lets n ≡ o → ((k : ℕ) (x : VarName) → vars_of_lets lets n k x → NameInLets lets x) →
+      IsSomeAnd o (λ l. VarOf (vars_of_lets lets n) l.1 x) → NameInLets lets x
+  lets_named_one n None x at before h = absurd h
+  lets_named_one n (Some l) x at before h =
+      elim (var_named (vars_of_lets lets n) (NameInLets lets) before n l.1 x (sound n l at).0 h) as (λ _. NameInLets lets x) [ inl a ↦ let_named lets n l x at a | inr b ↦ b ]
+
+  lets_named_by : (b : Bool) (P Q R : Type 0) → (P → R) → (Q → R) → MatchBool b P Q → R
+  lets_named_by true P Q R f g h = f h
+  lets_named_by false P Q R f g h = g h
+
+  pub lets_named : (n k : ℕ) (x : VarName) → vars_of_lets lets n k x → NameInLets lets x
+  lets_named zero k x h = absurd h
+  lets_named (suc n) k x h =
+      lets_named_by (nat_eq k n) (IsSomeAnd (slice_get lets n) (λ l. VarOf (vars_of_lets lets n) l.1 x)) (vars_of_lets lets n k x) (NameInLets lets x)
+      (lets_named_one n (slice_get lets n) x refl (lets_named n)) (lets_named n k x) h
+
+-- ---- the variables of lets, kept in a list
+
+-- the kept sets are the variables of the first lets
+abbrev pub Knows : List (VarName × ExprTree) → List (List VarName) → Type 0
+Knows lets known = SameVars (vars_in known) (vars_of_lets lets (length known))
+
+eq_suc : (j n : ℕ) → nat_eq (suc j) (suc n) ≡ nat_eq j n
+eq_suc j n = grind (arith, nat_tests)
+
+suc_not_zero : (j : ℕ) → nat_eq (suc j) 0 ≡ false
+suc_not_zero j = grind (arith, nat_tests)
+
+zero_not_suc : (n : ℕ) → nat_eq 0 (suc n) ≡ false
+zero_not_suc n = grind (arith, nat_tests)
+
+slice_get_push : {X : Type 0} (xs : List X) (y : X) (j : ℕ) → slice_get (xs ++ y ∷ []) j ≡ (if nat_eq j (length xs) then Some y else slice_get xs j)
+slice_get_push [] y zero = refl
+slice_get_push [] y (suc j) = ap (λ b. if b then Some y else None) (sym (suc_not_zero j))
+slice_get_push (x ∷ xs) y zero = ap (λ b. if b then Some y else Some x) (sym (zero_not_suc (length xs)))
+slice_get_push (x ∷ xs) y (suc j) = slice_get_push xs y j ∙ ap (λ b. if b then Some y else slice_get xs j) (sym (eq_suc j (length xs)))
+
+knows_by : (b : Bool) (names : List VarName) (p : Option (List VarName)) (o : Option (VarName × ExprTree)) (l : VarName × ExprTree) (V : LetVars) (Q : Type 0) (x : VarName) →
+    o ≡ Some l → (Has names x ↔ VarOf V l.1 x) → (IsSomeAnd p (λ ns. Has ns x) ↔ Q) →
+    IsSomeAnd (if b then Some names else p) (λ ns. Has ns x) ↔ MatchBool b (IsSomeAnd o (λ m. VarOf V m.1 x)) Q
+knows_by true names p o l V Q x at here before = subst (λ w. Has names x ↔ IsSomeAnd w (λ m. VarOf V m.1 x)) (sym at) here
+knows_by false names p o l V Q x at here before = before
+
+-- one more
+pub knows_more : (lets : List (VarName × ExprTree)) (known : List (List VarName)) (l : VarName × ExprTree) (names : List VarName) →
+    slice_get lets (length known) ≡ Some l → Knows lets known → ((x : VarName) → Has names x ↔ VarOf (vars_in known) l.1 x) → Knows lets (known ++ names ∷ [])
+knows_more lets known l names at knows is j x =
+    let n = length known in
+    let V = vars_of_lets lets n in
+    let long : length (known ++ names ∷ []) ≡ suc n = omega (arith, length-append known (names ∷ [])) in
+    let here : Has names x ↔ VarOf V l.1 x = (
+      λ h. var_same (vars_in known) V knows l.1 x ((is x).0 h),
+      λ h. (is x).1 (var_same V (vars_in known) (turned (vars_in known) V knows) l.1 x h),
+    ) in
+    let step = knows_by (nat_eq j n) names (slice_get known j) (slice_get lets n) l V (V j x) x at here (knows j x) in
+    subst (λ m. vars_in (known ++ names ∷ []) j x ↔ vars_of_lets lets m j x) (sym long)
+    (subst (λ o. IsSomeAnd o (λ ns. Has ns x) ↔ vars_of_lets lets (suc n) j x) (sym (slice_get_push known names j)) step)
+
+-- what is asked where the variables of an expression are gathered
+pub record Asked (known : List (List VarName)) (e : ExprTree) : Type 0 where
+  pub sound : IsSoundExpr (vars_in known) (length known) e
+  pub room : HaveRoom [] (VarOf (vars_in known) e)
+
+asked : (q : QueryTree) (known : List (List VarName)) (n : ℕ) (e : ExprTree) → IsSound q → length known ≡ n → Knows q.lets known → IsSoundUnder q.lets n e →
+    ((x : VarName) → NameIn e x → NameOf q x) → Asked known e
+asked q known n e s long knows under in_q =
+    let V = vars_of_lets q.lets (length known) in
+    let sound = subst (λ m. IsSoundExpr (vars_of_lets q.lets m) m e) (sym long) under.0 in
+    let named : (x : VarName) → ⊥ ⊎ VarOf (vars_in known) e x → NameOf q x = λ x h. elim h as (λ _. NameOf q x) [
+      | inl a ↦ absurd a
+      | inr v ↦ elim (var_named V (NameInLets q.lets) (lets_named q.lets s.sound_lets (length known)) (length known) e x sound (var_same (vars_in known) V knows e x v)) as (λ _. NameOf q x) [
+        | inl a ↦ in_q x a
+        | inr b ↦ inl b
+      ]
+    ] in
+    record {
+      sound = sound_same V (vars_in known) (turned (vars_in known) V knows) (length known) e sound;
+      room = (s.few.0, s.few.1, λ x h. s.few.2 x (named x h));
+    }
+
+pub asked_let : (q : QueryTree) (known : List (List VarName)) (k : ℕ) (l : VarName × ExprTree) → IsSound q → length known ≡ k → Knows q.lets known → slice_get q.lets k ≡ Some l → Asked known l.1
+asked_let q known k l s long knows at = asked q known k l.1 s long knows (s.sound_lets k l at) (λ x h. inl (let_named q.lets k l x at h))
+
+pub asked_body : (q : QueryTree) (known : List (List VarName)) → IsSound q → length known ≡ length q.lets → Knows q.lets known → Asked known q.body
+asked_body q known s long knows = asked q known (length q.lets) q.body s long knows s.sound_body (λ x h. inr h)
+
+-- the variables of the body are those of the result
+pub result_vars : (q : QueryTree) (known : List (List VarName)) (x : VarName) → length known ≡ length q.lets → Knows q.lets known → VarOf (vars_in known) q.body x ↔ IsResultVar q x
+result_vars q known x long knows =
+    let same : SameVars (vars_in known) (vars_of_lets q.lets (length q.lets)) = subst (λ n. SameVars (vars_in known) (vars_of_lets q.lets n)) long knows in (
+      λ h. var_same (vars_in known) (vars_of_lets q.lets (length q.lets)) same q.body x h,
+      λ h. var_same (vars_of_lets q.lets (length q.lets)) (vars_in known) (turned (vars_in known) (vars_of_lets q.lets (length q.lets)) same) q.body x h,
+    )
+
+pub knows_none : (lets : List (VarName × ExprTree)) → Knows lets []
+knows_none lets k x = (λ h. absurd (none k x h), λ h. absurd h)
+  where
+    none : (k : ℕ) (x : VarName) → vars_in [] k x → ⊥
+    none zero x h = h
+    none (suc k) x h = h

@@ -1,0 +1,32 @@
+-- Expressions and queries as trees: what the code's `Expr` and `Query` stand for.
+use Rattle.std.specs.Prelude.{ℕ, Bool, List, [], ◌∷◌}
+use Rattle.spanner_model.specs.Tree.{Tree}
+use Rattle.spanner_model.specs.Captures.{VarName}
+
+pub data ExprTree : Type 0 where
+  -- tied to the document's start, tied to its end, the formula
+  atom : Bool → Bool → Tree → ExprTree
+  -- the let of this number, counted from 0
+  named : ℕ → ExprTree
+  -- a union: its first part and the parts that follow; `union_end` is that none follows
+  union_end : ExprTree
+  union : ExprTree → ExprTree → ExprTree
+  -- a join, likewise
+  join_end : ExprTree
+  join : ExprTree → ExprTree → ExprTree
+  -- a projection: the variables that are kept
+  project : List VarName → ExprTree → ExprTree
+
+-- the named expressions in order, and the body
+pub record QueryTree : Type 0 where
+  pub lets : List (VarName × ExprTree)
+  pub body : ExprTree
+
+-- the union, and the join, of these parts
+abbrev pub union_all : List ExprTree → ExprTree
+union_all [] = union_end
+union_all (e ∷ es) = union e (union_all es)
+
+abbrev pub join_all : List ExprTree → ExprTree
+join_all [] = join_end
+join_all (e ∷ es) = join e (join_all es)

@@ -1,0 +1,74 @@
+-- Laws that the meaning has.
+use Rattle.std.specs.Prelude.{◌≡◌, None, Some, ℕ, ◌+◌, ◌≤◌, ◌↔◌, Bool, List, ◌++◌, length, Option}
+use Rattle.span_core.specs.declared.span.Span.{Span}
+use Rattle.spanner_model.specs.Lists.{Has}
+use Rattle.spanner_model.specs.Tree.{Tree}
+use Rattle.spanner_model.specs.Captures.{VarName, Captures, Captured, Mapping}
+use Rattle.spanner_model.specs.Expression.{ExprTree, QueryTree, union_all, join_all}
+use Rattle.spanner_model.specs.Answer.{VarOf, IsRestriction, Answer, vars_of_lets, answers_of_lets, IsAnswer, IsResultVar}
+use Rattle.spanner_model.specs.Answers.{SpanRow, AreResultNames, AreAnswers, IsPage, page_end}
+use Rattle.spanner_model.specs.Fit.{Fit}
+use Rattle.spanner_model.specs.Functional.{HasVar, IsFunctional}
+use Rattle.spanner_model.specs.Sound.{IsSound}
+
+-- a fit of a functional formula captures the formula's variables, and no others
+abbrev pub FunctionalFitsHaveTheVariables : Type 0
+FunctionalFitsHaveTheVariables =
+    (f : Tree) (d : List ℕ) (i j : ℕ) (m : Captures) → IsFunctional f → Fit f d i j m → (x : VarName) → Captured m x ↔ HasVar f x
+
+-- a part that fits does not end before it begins, and it ends in the document where it begins there
+abbrev pub FitsLieInTheDocument : Type 0
+FitsLieInTheDocument =
+    (f : Tree) (d : List ℕ) (i j : ℕ) (m : Captures) → i ≤ length d → Fit f d i j m → (i ≤ j) × (j ≤ length d)
+
+-- an answer gives a span to no name but the result's variables
+abbrev pub AnswersAreAbsentOutside : Type 0
+AnswersAreAbsentOutside =
+    (q : QueryTree) (d : List ℕ) (m : Mapping) → IsAnswer q d m → (x : VarName) → ¬ IsResultVar q x → m x ≡ None
+
+-- an answer of a sound query gives a span to each of the result's variables
+abbrev pub AnswersGiveEachVariable : Type 0
+AnswersGiveEachVariable =
+    (q : QueryTree) (d : List ℕ) (m : Mapping) → IsSound q → IsAnswer q d m → (x : VarName) → IsResultVar q x → (s : Span) × (m x ≡ Some s)
+
+-- a mapping is an answer of a union where it is one of some part
+abbrev pub UnionsAnswerForSomePart : Type 0
+UnionsAnswerForSomePart =
+    (lets : List (VarName × ExprTree)) (d : List ℕ) (n : ℕ) (parts : List ExprTree) (m : Mapping) →
+    let answers = Answer (vars_of_lets lets n) (answers_of_lets lets d n) d in
+    answers (union_all parts) m ↔ ((e : ExprTree) × Has parts e × answers e m)
+
+-- a mapping is an answer of a join where it is absent outside the variables of all parts, and its
+-- restriction to each part's variables is an answer of that part
+abbrev pub JoinsAnswerForEachPart : Type 0
+JoinsAnswerForEachPart =
+    (lets : List (VarName × ExprTree)) (d : List ℕ) (n : ℕ) (parts : List ExprTree) (m : Mapping) →
+    let vars = VarOf (vars_of_lets lets n) in
+    let answers = Answer (vars_of_lets lets n) (answers_of_lets lets d n) d in
+    answers (join_all parts) m
+    ↔ (((x : VarName) → ¬ vars (join_all parts) x → m x ≡ None)
+    × ((e : ExprTree) → Has parts e → (r : Mapping) × IsRestriction (vars e) m r × answers e r))
+
+-- two lists that are the names of a query's result are equal
+abbrev pub ResultNamesAreOne : Type 0
+ResultNamesAreOne =
+    (q : QueryTree) (names others : List VarName) → AreResultNames q names → AreResultNames q others → names ≡ others
+
+-- two lists that are all answers are equal
+abbrev pub AnswersAreOne : Type 0
+AnswersAreOne =
+    (q : QueryTree) (d : List ℕ) (names : List VarName) (rows others : List SpanRow) →
+    AreAnswers q d names rows → AreAnswers q d names others → rows ≡ others
+
+-- two pages after the same row with the same limit are equal
+abbrev pub PagesAreOne : Type 0
+PagesAreOne =
+    (q : QueryTree) (d : List ℕ) (names : List VarName) (after : Option SpanRow) (limit : ℕ) (page other : List SpanRow) (more more' : Bool) →
+    IsPage q d names after limit page more → IsPage q d names after limit other more' → (page ≡ other) × (more ≡ more')
+
+-- a page, and the page that follows it, are one page of both limits together
+abbrev pub PagesJoin : Type 0
+PagesJoin =
+    (q : QueryTree) (d : List ℕ) (names : List VarName) (after : Option SpanRow) (a b : ℕ) (page next : List SpanRow) (more more' : Bool) →
+    IsPage q d names after a page more → IsPage q d names (page_end page after) b next more' →
+    IsPage q d names after (a + b) (page ++ next) more'
