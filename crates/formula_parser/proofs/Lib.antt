@@ -12,3 +12,5 @@ pub mod FaultsMet
 pub mod GrammarLaws
 pub mod EachText
 pub mod TurnLaws
+pub mod ClassSets
+pub mod BuiltLaws

@@ -1,14 +1,16 @@
-use Rattle.std.proofs.Common.{rules, ◌≡◌, ◌∙◌, ◌<◌, ◌≤◌, length, drop, sym, subst, arith, IfOk, Result}
+use Rattle.std.proofs.Common.{◌≡◌, ◌∙◌, ◌<◌, ◌≤◌, length, drop, sym, subst, arith, IfOk, Result}
+use Rattle.std.proofs.lemmas.Option.{slice_get_within}
 use Rattle.spanner_model.specs.declared.formula.Atom.{Atom}
 use Rattle.formula_parser.specs.Nest.{outermost}
 use Rattle.formula_parser.specs.Step.{Reading, Ends, is_tied}
 use Rattle.formula_parser.specs.Turn.{AnswersBody}
 use Rattle.formula_parser.proofs.TurnLaws.{start_within, answer_found, answer_only, answer_fault}
+use Rattle.formula_parser.proofs.BuiltLaws.{text_of, answer_built}
 use Rattle.formula_parser.proofs.reader.read_atom.Goals as goal
 
 pub read_by_turns-requires : goal.read_by_turns-requires
 read_by_turns-requires c =
-    let h : c.args.from < length c.args.text.now = search rules in
+    let h = slice_get_within c.args.text.now c.args.from 47 c.requires.slash in
     subst (λ p. p ≤ length c.args.text.now) (sym c.start_at.ensures) (start_within c.args.text.now c.args.from h)
 
 pub returns-clause-found : goal.returns-clause-found
@@ -39,4 +41,7 @@ returns-clause-fault c =
     (subst (λ p. AnswersBody c.read_by_turns.result (Ends p (drop p text) (outermost from))) c.start_at.ensures c.read_by_turns.ensures.ends)
 
 pub returns-clause-built : goal.returns-clause-built
-returns-clause-built c = let h = c.type_inv.text in ?
+returns-clause-built c =
+    let text = c.args.text.now in
+    let from = c.args.from in
+    answer_built text from c.read_by_turns.result (returns-clause-found c) (text_of text (λ i. omega (arith, c.type_inv.text i)))
