@@ -1,0 +1,197 @@
+//! Block order, the order of rows.
+ghost use Rattle.std.specs.Prelude.{◌≡◌, ℕ, length, map, Some, OnOk, IsSorted};
+ghost use Rattle.span_core.specs.Block.{block, marker};
+ghost use Rattle.span_core.specs.Digits.{digit};
+ghost use Rattle.span_core.specs.Order.{IsOrderOf, RowsAreOrdered};
+ghost use Rattle.span_core.specs.Comparison.{Finds, RowCmpIsOrder, earlier_of, row_cmp};
+
+use crate::{Row, Span};
+use std::cmp::Ordering;
+
+/// Block order, by which std sorts rows.
+impl Ord for Row {
+    ghost use Rattle.span_core.specs.Comparison.{row_cmp};
+    ghost use Rattle.span_core.specs.ComparisonLaws.{row_cmp_total};
+    ghost use Rattle.std.proofs.Common.{rules};
+    ghost use Rattle.std.specs.Cmp.Rules.{comparing};
+
+    ghost cmp = { row_cmp };
+
+    ghost total = { row_cmp_total };
+
+    ghost matches_partial_cmp = { Prim.search (comparing, rules) };
+
+    ghost matches_eq = { Prim.search (comparing, rules) };
+
+    fn cmp(&self, other: &Row) -> Ordering {
+        compare(self, other)
+    }
+}
+
+impl PartialOrd for Row {
+    ghost use Rattle.span_core.specs.Comparison.{row_cmp};
+    ghost use Rattle.span_core.specs.ComparisonLaws.{row_cmp_total};
+    ghost use Rattle.std.specs.Ordering.{as_partial_cmp};
+    ghost use Rattle.std.specs.Prelude.{refl};
+    ghost use Rattle.std.specs.Cmp.{po};
+
+    ghost partial_cmp = { as_partial_cmp row_cmp };
+
+    ghost laws = { po row_cmp_total (λ x y. refl) };
+
+    fn partial_cmp(&self, other: &Row) -> Option<Ordering> {
+        Some(self.cmp(other))
+    }
+}
+
+impl PartialEq for Row {
+    ghost use Rattle.span_core.specs.Comparison.{row_cmp};
+    ghost use Rattle.span_core.specs.ComparisonLaws.{row_cmp_total};
+    ghost use Rattle.std.specs.Ordering.{eq_by_cmp};
+    ghost use Rattle.std.specs.Cmp.{eq_by_cmp_equiv, partial_equiv_from_equiv};
+
+    ghost eq = { eq_by_cmp row_cmp };
+
+    ghost laws = { partial_equiv_from_equiv (eq_by_cmp_equiv row_cmp_total) };
+
+    fn eq(&self, other: &Row) -> bool {
+        self.cmp(other).is_eq()
+    }
+}
+
+impl Eq for Row {
+    ghost use Rattle.span_core.specs.ComparisonLaws.{row_cmp_total};
+    ghost use Rattle.std.proofs.lemmas.Cmp.{eq_by_cmp_equiv};
+
+    ghost laws = { eq_by_cmp_equiv row_cmp_total };
+}
+
+/// A law: the order of rows is a strict total one, and the function by which std compares rows
+/// answers by it.
+pub fn rows_are_ordered()
+    ensures order { RowsAreOrdered }
+    ensures comparison { RowCmpIsOrder }
+{}
+
+/// The order of two rows. One with fewer variables comes first, and rows with equally many are in
+/// block order: at the first position at which their blocks differ, the first row has the greater.
+///
+/// For one variable that is the order by start and then by end. For more it is not the order of the
+/// lists of spans.
+pub fn compare(a: &Row, b: &Row) -> Ordering
+    ensures { IsOrderOf result a.now b.now }
+{
+    let a = a.spans();
+    let b = b.spans();
+    match a.len().cmp(&b.len()) {
+        Ordering::Equal => match difference(a, b) {
+            None => Ordering::Equal,
+            Some((_, order)) => order,
+        },
+        order => order,
+    }
+}
+
+/// The first position at which the blocks of two rows differ, and the order that follows.
+fn difference(a: &[Span], b: &[Span]) -> Option<(u32, Ordering)>
+    requires { length a.now ≡ length b.now }
+    ensures { Finds (block (map Some a.now)) (block (map Some b.now)) result }
+{
+    let mut found = None;
+    for k in (0..a.len()).rev() {
+        found = earlier(span_difference(a[k], b[k]), found);
+    }
+    found
+}
+
+/// The first position at which the markers of one variable differ, and the order that follows.
+fn span_difference(a: Span, b: Span) -> Option<(u32, Ordering)>
+    ensures { Finds (digit (Some a)) (digit (Some b)) result }
+{
+    earlier(
+        marker_difference(a.start, b.start),
+        marker_difference(a.end, b.end),
+    )
+}
+
+/// The same for one marker, which stands at `a` in the first row and at `b` in the second.
+fn marker_difference(a: u32, b: u32) -> Option<(u32, Ordering)>
+    ensures { (bit : ℕ) → Finds (marker bit a) (marker bit b) result }
+{
+    match a.cmp(&b) {
+        Ordering::Equal => None,
+        order => Some((a.min(b), order)),
+    }
+}
+
+/// The first of two differences. At the same position the one in front decides: its bits are higher.
+fn earlier(front: Option<(u32, Ordering)>, back: Option<(u32, Ordering)>) -> Option<(u32, Ordering)>
+    ensures { result ≡ earlier_of front back }
+{
+    match (front, back) {
+        (Some(front), Some(back)) => Some(if back.0 < front.0 { back } else { front }),
+        (None, back) => back,
+        (front, None) => front,
+    }
+}
+
+#[cfg(test)]
+mod tests {
+    use super::*;
+    use std::alloc::AllocError;
+    use std::test::Fail;
+
+    /// std's sort puts rows in block order.
+    fn sort(rows: &mut Vec<Row>) -> Result<(), AllocError>
+        ensures { OnOk result (IsSorted row_cmp rows.new.items) }
+    {
+        rows.sort()
+    }
+
+    fn row(x: Span, y: Span, z: Span) -> Row {
+        let mut row = Row::empty();
+        row.push(x);
+        row.push(y);
+        row.push(z);
+        row
+    }
+
+    /// At position 0 the first row opens x and z, and the second x alone. As lists of spans they
+    /// stand the other way round.
+    #[test]
+    fn sorts_by_blocks(rt: HostRuntime) -> Result<(), Fail> {
+        let first = || row(Span::new(0, 1), Span::new(1, 2), Span::new(0, 1));
+        let second = || row(Span::new(0, 1), Span::new(1, 1), Span::new(1, 1));
+        assert_eq!(rt; compare(&first(), &second()), Ordering::Less);
+        let mut rows = Vec::new(rt.alloc());
+        rows.push(second())?;
+        rows.push(first())?;
+        sort(&mut rows)?;
+        assert_eq!(rt; rows.len(), 2);
+        assert_eq!(rt; rows[0], first());
+        assert_eq!(rt; rows[1], second());
+        Ok(())
+    }
+
+    /// One variable: by start, and then by end.
+    #[test]
+    fn orders_one_variable_by_start_and_end(rt: HostRuntime) {
+        let spans = [
+            Span::new(0, 0),
+            Span::new(0, 2),
+            Span::new(1, 1),
+            Span::new(1, 3),
+        ];
+        for (i, a) in spans.iter().enumerate() {
+            for (j, b) in spans.iter().enumerate() {
+                assert_eq!(rt; compare(&one(*a), &one(*b)), i.cmp(&j));
+            }
+        }
+    }
+
+    fn one(x: Span) -> Row {
+        let mut row = Row::empty();
+        row.push(x);
+        row
+    }
+}
