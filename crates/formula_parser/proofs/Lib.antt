@@ -8,6 +8,7 @@ pub mod ClassRead
 pub mod ClassTexts
 pub mod ClassFaults
 pub mod ClassLaws
+pub mod ClassTurns
 pub mod Bytes
 pub mod StepLaws
 pub mod ReadsSpelled
@@ -16,3 +17,5 @@ pub mod FaultLaws
 pub mod FaultsMet
 pub mod GrammarLaws
 pub mod EachText
+pub mod TurnLaws
+pub mod BuiltLaws

@@ -1,6 +1,6 @@
 -- The longest run at the front of a text, and what follows it.
-use Rattle.std.proofs.Common.{◌≡◌, ℕ, Bool, true, false, cond, ◌&&◌, List, [], ◌∷◌, ◌++◌, length, drop, take, ap, refl, sym, ◌∙◌, subst}
-use Rattle.std.specs.List.{take_while, list_all}
+use Rattle.std.proofs.Common.{◌≡◌, ℕ, zero, suc, Bool, true, false, cond, ◌&&◌, List, [], ◌∷◌, ◌++◌, length, drop, take, ap, refl, sym, ◌∙◌, subst}
+use Rattle.std.specs.List.{take_while, list_all, prefix_len}
 use Rattle.std.proofs.lemmas.List.Sums.{take_while-cons}
 use Rattle.std.proofs.lemmas.Bool.{and_parts}
 use Rattle.formula_parser.specs.Runs.{begins}
@@ -45,3 +45,12 @@ run_is p (c ∷ u) after all stops =
 -- what follows the longest run
 pub run_rest : (p : ℕ → Bool) (t x : List ℕ) (r : Run p t x) → drop (length x) t ≡ r.rest
 run_rest p t x r = ap (drop (length x)) r.splits ∙ after_token x r.rest
+
+take_again : (k : ℕ) (t : List ℕ) → take (length (take k t)) t ≡ take k t
+take_again zero t = refl
+take_again (suc k) [] = refl
+take_again (suc k) (c ∷ t) = ap (λ x. c ∷ x) (take_again k t)
+
+-- the longest run, by its length
+pub take_run : (p : ℕ → Bool) (t : List ℕ) → take (length (take_while p t)) t ≡ take_while p t
+take_run p t = take_again (prefix_len p t) t

@@ -11,3 +11,6 @@ pub mod Tokens
 pub mod ClassStep
 pub mod Nest
 pub mod Step
+pub mod View
+pub mod ClassView
+pub mod Turn

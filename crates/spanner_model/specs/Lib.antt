@@ -1,6 +1,7 @@
 pub mod Answer
 pub mod Answers
 pub mod Captures
+pub mod Examples
 pub mod ExprView
 pub mod Expression
 pub mod Fit

@@ -6,6 +6,7 @@ pub use formula::{Atom, Formula, Parts};
 pub use gathering::{gather, variables};
 pub use query::{Lets, Query};
 
+pub mod examples;
 mod expression;
 mod formula;
 mod gathering;

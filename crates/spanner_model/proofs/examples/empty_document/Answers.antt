@@ -1,0 +1,44 @@
+use Rattle.std.proofs.Common.{◌≡◌, ◌≢◌, ℕ, suc, ◌+◌, ◌≤◌, ◌&&◌, Bool, not, true, false, List, [], ◌∷◌, ◌++◌, length, Some, None, refl, inl, inr, sym, ap, ◌∙◌, subst, arith, IsTrue}
+use Rattle.std.specs.Prelude.{slice_get, codes}
+use Rattle.std.specs.Ordering.{nat_cmp}
+use Rattle.std.specs.Cmp.{nat_cmp_total}
+use Rattle.std.specs.FinSet as set
+use Rattle.std.specs.FinSet.{contains-difference}
+use Rattle.span_core.specs.declared.span.Span.{Span}
+use Rattle.span_core.specs.ByteSets.{bytes_between, contains-bytes_between}
+use Rattle.span_core.specs.OrderLaws.{span_eq}
+use Rattle.spanner_model.specs.Lists.{Has}
+use Rattle.spanner_model.specs.Tree.{Tree, one, cat, cat_end, cat_all, alt_all, cap, rep}
+use Rattle.spanner_model.specs.Captures.{VarName, Captures, Captured, Mapping, span_of, row_of}
+use Rattle.spanner_model.specs.Functional.{HasVar}
+use Rattle.spanner_model.specs.Fit.{Fit, Times}
+use Rattle.spanner_model.specs.Expression.{ExprTree, QueryTree, atom, project, join, join_end, join_all}
+use Rattle.spanner_model.specs.Answer.{IsAnswer, IsRestriction, FitsSomewhere}
+use Rattle.spanner_model.specs.Answers.{SpanRow, IsAnswerRow, AreAnswers}
+use Rattle.spanner_model.specs.Examples.{a, b, c, byte, dot, star, plus, x, y, span, free, query, row1, row2}
+use Rattle.spanner_model.proofs.AnswerLaws.{span_of-absent}
+use Rattle.spanner_model.proofs.FitLaws.{fit_le}
+use Rattle.spanner_model.proofs.ExampleLaws.{byte_has, fits_one, fits_byte, fits_end, fits_cat, fits_cap, no_times, more_times, fits_rep, answers_free, restricts_itself, apart_none, none_apart, x_not_y, apart_xy, x_alone}
+use Rattle.spanner_model.proofs.examples.empty_document.Goals as goal
+
+abbrev q : QueryTree
+q = query (free (cap x (star a)))
+
+here : IsAnswerRow q [] (x ∷ []) (row1 (span 0 0))
+here = answers_free (cap x (star a)) [] 0 0 ((x, span 0 0) ∷ []) (x ∷ []) (fits_cap x (star a) [] 0 0 [] (fits_rep a 0 0 [] 0 0 (omega arith) (no_times (Fit a []) 0)) (λ n. n)) (omega arith)
+
+alone : (row : SpanRow) → IsAnswerRow q [] (x ∷ []) row → row ≡ row1 (span 0 0)
+alone row (m, h, e) =
+    let fits = h.3 in
+    let starts : fits.0.start ≡ 0 = omega (arith, fits.2, h.4, fit_le (cap x (star a)) [] h.0 h.1 h.2 h.3) in
+    let ends : fits.0.end ≡ 0 = omega (arith, fits.3, h.4) in
+    let same : fits.0 ≡ span 0 0 = span_eq fits.0 (span 0 0) starts ends in
+    let is : m x ≡ Some fits.0 = h.7 x ∙ ap (λ (k : Captures). span_of k x) fits.6 in
+    e ∙ ap (λ s. s ∷ []) (is ∙ ap Some same)
+
+pub returns : goal.returns
+returns args = record {
+  in_order = (tt, tt);
+  each_answers = λ row h. elim h as (λ _. IsAnswerRow q [] (x ∷ []) row) [ inl e ↦ subst (IsAnswerRow q [] (x ∷ [])) e here | inr n ↦ absurd n ];
+  all_there = λ row h. inl (sym (alone row h));
+}

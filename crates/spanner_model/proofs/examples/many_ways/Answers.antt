@@ -1,0 +1,41 @@
+use Rattle.std.proofs.Common.{◌≡◌, ◌≢◌, ℕ, suc, ◌+◌, ◌≤◌, ◌&&◌, Bool, not, true, false, List, [], ◌∷◌, ◌++◌, length, Some, None, refl, inl, inr, sym, ap, ◌∙◌, subst, arith, IsTrue}
+use Rattle.std.specs.Prelude.{slice_get, codes}
+use Rattle.std.specs.Ordering.{nat_cmp}
+use Rattle.std.specs.Cmp.{nat_cmp_total}
+use Rattle.std.specs.FinSet as set
+use Rattle.std.specs.FinSet.{contains-difference}
+use Rattle.span_core.specs.declared.span.Span.{Span}
+use Rattle.span_core.specs.ByteSets.{bytes_between, contains-bytes_between}
+use Rattle.span_core.specs.OrderLaws.{span_eq}
+use Rattle.spanner_model.specs.Lists.{Has}
+use Rattle.spanner_model.specs.Tree.{Tree, one, cat, cat_end, cat_all, alt_all, cap, rep}
+use Rattle.spanner_model.specs.Captures.{VarName, Captures, Captured, Mapping, span_of, row_of}
+use Rattle.spanner_model.specs.Functional.{HasVar}
+use Rattle.spanner_model.specs.Fit.{Fit, Times}
+use Rattle.spanner_model.specs.Expression.{ExprTree, QueryTree, atom, project, join, join_end, join_all}
+use Rattle.spanner_model.specs.Answer.{IsAnswer, IsRestriction, FitsSomewhere}
+use Rattle.spanner_model.specs.Answers.{SpanRow, IsAnswerRow, AreAnswers}
+use Rattle.spanner_model.specs.Examples.{a, b, c, byte, dot, star, plus, x, y, span, free, query, row1, row2}
+use Rattle.spanner_model.proofs.AnswerLaws.{span_of-absent}
+use Rattle.spanner_model.proofs.FitLaws.{fit_le}
+use Rattle.spanner_model.proofs.ExampleLaws.{byte_has, fits_one, fits_byte, fits_end, fits_cat, fits_cap, no_times, more_times, fits_rep, answers_free, restricts_itself, apart_none, none_apart, x_not_y, apart_xy, x_alone}
+use Rattle.spanner_model.proofs.examples.many_ways.Goals as goal
+
+abbrev d : List ℕ
+d = codes "aaa"
+
+abbrev g : Tree
+g = alt_all (a ∷ (cat_all (a ∷ (a ∷ [])) ∷ []))
+
+abbrev f : Tree
+f = cat_all (cap x a ∷ (star g ∷ []))
+
+at_place : (i : ℕ) → slice_get d i ≡ Some 97 → i + 1 ≤ 3 → IsAnswerRow (query (free f)) d (x ∷ []) (row1 (span i 1))
+at_place i at le =
+    answers_free f d i (i + 1) ((x, span i 1) ∷ []) (x ∷ [])
+    (fits_cat (cap x a) (cat (star g) cat_end) d i (i + 1) (i + 1) ((x, span i 1) ∷ []) [] (fits_cap x a d i 1 [] (fits_byte 97 d i at) (λ n. n))
+    (fits_cat (star g) cat_end d (i + 1) (i + 1) (i + 1) [] [] (fits_rep g 0 0 d (i + 1) (i + 1) (omega arith) (no_times (Fit g d) (i + 1))) (fits_end d (i + 1)) (none_apart []))
+    (apart_none ((x, span i 1) ∷ []))) le
+
+pub returns : goal.returns
+returns args = (at_place 0 refl (omega arith), at_place 1 refl (omega arith), at_place 2 refl (omega arith))

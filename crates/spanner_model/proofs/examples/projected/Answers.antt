@@ -1,0 +1,48 @@
+use Rattle.std.proofs.Common.{◌≡◌, ◌≢◌, ℕ, suc, ◌+◌, ◌≤◌, ◌&&◌, Bool, not, true, false, List, [], ◌∷◌, ◌++◌, length, Some, None, refl, inl, inr, sym, ap, ◌∙◌, subst, arith, IsTrue}
+use Rattle.std.specs.Prelude.{slice_get, codes}
+use Rattle.std.specs.Ordering.{nat_cmp}
+use Rattle.std.specs.Cmp.{nat_cmp_total}
+use Rattle.std.specs.FinSet as set
+use Rattle.std.specs.FinSet.{contains-difference}
+use Rattle.span_core.specs.declared.span.Span.{Span}
+use Rattle.span_core.specs.ByteSets.{bytes_between, contains-bytes_between}
+use Rattle.span_core.specs.OrderLaws.{span_eq}
+use Rattle.spanner_model.specs.Lists.{Has}
+use Rattle.spanner_model.specs.Tree.{Tree, one, cat, cat_end, cat_all, alt_all, cap, rep}
+use Rattle.spanner_model.specs.Captures.{VarName, Captures, Captured, Mapping, span_of, row_of}
+use Rattle.spanner_model.specs.Functional.{HasVar}
+use Rattle.spanner_model.specs.Fit.{Fit, Times}
+use Rattle.spanner_model.specs.Expression.{ExprTree, QueryTree, atom, project, join, join_end, join_all}
+use Rattle.spanner_model.specs.Answer.{IsAnswer, IsRestriction, FitsSomewhere}
+use Rattle.spanner_model.specs.Answers.{SpanRow, IsAnswerRow, AreAnswers}
+use Rattle.spanner_model.specs.Examples.{a, b, c, byte, dot, star, plus, x, y, span, free, query, row1, row2}
+use Rattle.spanner_model.proofs.AnswerLaws.{span_of-absent}
+use Rattle.spanner_model.proofs.FitLaws.{fit_le}
+use Rattle.spanner_model.proofs.ExampleLaws.{byte_has, fits_one, fits_byte, fits_end, fits_cat, fits_cap, no_times, more_times, fits_rep, answers_free, restricts_itself, apart_none, none_apart, x_not_y, apart_xy, x_alone}
+use Rattle.spanner_model.proofs.examples.projected.Goals as goal
+
+abbrev d : List ℕ
+d = codes "abb"
+
+abbrev one_x : Captures
+one_x = (x, span 0 1) ∷ []
+
+abbrev one_y : Captures
+one_y = (y, span 1 0) ∷ []
+
+abbrev both : Captures
+both = (x, span 0 1) ∷ ((y, span 1 0) ∷ [])
+
+fit : Fit (cat_all (cap x a ∷ (cap y (star b) ∷ []))) d 0 1 both
+fit =
+    let right = fits_cat (cap y (star b)) cat_end d 1 1 1 one_y [] (fits_cap y (star b) d 1 0 [] (fits_rep b 0 0 d 1 1 (omega arith) (no_times (Fit b d) 1)) (λ n. n)) (fits_end d 1) (apart_none one_y) in
+    fits_cat (cap x a) (cat (cap y (star b)) cat_end) d 0 1 1 one_x one_y (fits_cap x a d 0 1 [] (fits_byte 97 d 0 refl) (λ n. n)) right (apart_xy (span 0 1) (span 1 0))
+
+kept : IsRestriction (Has (x ∷ [])) (span_of both) (span_of one_x)
+kept z = (
+  λ h. elim h as (λ _. span_of one_x z ≡ span_of both z) [ inl e ↦ subst (λ (w : VarName). span_of one_x w ≡ span_of both w) e refl | inr n ↦ absurd n ],
+  λ out. span_of-absent one_x z (λ h. out (inl (x_alone (span 0 1) z h))),
+)
+
+pub returns : goal.returns
+returns args = (span_of one_x, (span_of both, (0, 1, both, fit, omega arith, λ t. absurd (cc), λ t. absurd (cc), λ z. refl), kept), refl)

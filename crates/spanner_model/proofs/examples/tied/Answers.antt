@@ -1,0 +1,46 @@
+use Rattle.std.proofs.Common.{◌≡◌, ◌≢◌, ℕ, suc, ◌+◌, ◌≤◌, ◌&&◌, Bool, not, true, false, List, [], ◌∷◌, ◌++◌, length, Some, None, refl, inl, inr, sym, ap, ◌∙◌, subst, arith, IsTrue}
+use Rattle.std.specs.Prelude.{slice_get, codes}
+use Rattle.std.specs.Ordering.{nat_cmp}
+use Rattle.std.specs.Cmp.{nat_cmp_total}
+use Rattle.std.specs.FinSet as set
+use Rattle.std.specs.FinSet.{contains-difference}
+use Rattle.span_core.specs.declared.span.Span.{Span}
+use Rattle.span_core.specs.ByteSets.{bytes_between, contains-bytes_between}
+use Rattle.span_core.specs.OrderLaws.{span_eq}
+use Rattle.spanner_model.specs.Lists.{Has}
+use Rattle.spanner_model.specs.Tree.{Tree, one, cat, cat_end, cat_all, alt_all, cap, rep}
+use Rattle.spanner_model.specs.Captures.{VarName, Captures, Captured, Mapping, span_of, row_of}
+use Rattle.spanner_model.specs.Functional.{HasVar}
+use Rattle.spanner_model.specs.Fit.{Fit, Times}
+use Rattle.spanner_model.specs.Expression.{ExprTree, QueryTree, atom, project, join, join_end, join_all}
+use Rattle.spanner_model.specs.Answer.{IsAnswer, IsRestriction, FitsSomewhere}
+use Rattle.spanner_model.specs.Answers.{SpanRow, IsAnswerRow, AreAnswers}
+use Rattle.spanner_model.specs.Examples.{a, b, c, byte, dot, star, plus, x, y, span, free, query, row1, row2}
+use Rattle.spanner_model.proofs.AnswerLaws.{span_of-absent}
+use Rattle.spanner_model.proofs.FitLaws.{fit_le}
+use Rattle.spanner_model.proofs.ExampleLaws.{byte_has, fits_one, fits_byte, fits_end, fits_cat, fits_cap, no_times, more_times, fits_rep, answers_free, restricts_itself, apart_none, none_apart, x_not_y, apart_xy, x_alone}
+use Rattle.spanner_model.proofs.examples.tied.Goals as goal
+
+abbrev d : List ℕ
+d = codes "aa"
+
+abbrev all_x : Captures
+all_x = (x, span 0 2) ∷ []
+
+run : Times (Fit a d) 2 0 2 []
+run = more_times (Fit a d) 1 0 1 2 (fits_byte 97 d 0 refl) (more_times (Fit a d) 0 1 2 2 (fits_byte 97 d 1 refl) (no_times (Fit a d) 2))
+
+fit : Fit (cap x (star a)) d 0 2 all_x
+fit = fits_cap x (star a) d 0 2 [] (fits_rep a 0 2 d 0 2 (omega arith) run) (λ n. n)
+
+no_less : IsAnswerRow (query (atom true true (cap x (star a)))) d (x ∷ []) (row1 (span 0 1)) → ⊥
+no_less (m, h, e) =
+    let fits = h.3 in
+    let ends : h.1 ≡ 2 = h.6 refl in
+    let is : m x ≡ Some fits.0 = h.7 x ∙ ap (λ (k : Captures). span_of k x) fits.6 in
+    let row : m x ≡ Some (span 0 1) = (let f : row1 (span 0 1) ≡ m x ∷ [] = e in cc) in
+    let same : fits.0 ≡ span 0 1 = (let f : Some fits.0 ≡ Some (span 0 1) = sym is ∙ row in cc) in
+    omega (arith, ends, fits.3, ap (λ (s : Span). s.end) same)
+
+pub returns : goal.returns
+returns args = ((span_of all_x, (0, 2, all_x, fit, omega arith, λ t. refl, λ t. refl, λ z. refl), refl), no_less)
