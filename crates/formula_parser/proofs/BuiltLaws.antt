@@ -49,9 +49,11 @@ dot_built =
 
 escape_has : {e : List ℕ} {x : Elem} → IsEscape e x → (b : ℕ) × (set.contains (elem_set x) b ≡ true)
 escape_has a_digit = (48, has_between 48 57 48 (omega arith) (omega arith))
-escape_has a_word_byte =
-    (48, has_first (set.union digits (bytes_between 65 90)) (set.union (single 95) (bytes_between 97 122)) 48
-    (has_first digits (bytes_between 65 90) 48 (has_between 48 57 48 (omega arith) (omega arith))))
+escape_has a_word_byte = (
+  48,
+  has_first (set.union digits (bytes_between 65 90)) (set.union (single 95) (bytes_between 97 122)) 48
+      (has_first digits (bytes_between 65 90) 48 (has_between 48 57 48 (omega arith) (omega arith))),
+)
 escape_has a_space = (9, has_first (bytes_between 9 13) (single 32) 9 (has_between 9 13 9 (omega arith) (omega arith)))
 escape_has newline = (10, has_single 10)
 escape_has tab = (9, has_single 9)

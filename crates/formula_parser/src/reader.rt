@@ -15,7 +15,7 @@ ghost use Rattle.formula_parser.specs.Step.{goes, step, repeats, braces, opens, 
 
 use crate::class::class_at;
 use crate::fault::FormulaFault;
-use crate::nest::{put, Last, Nest, Opener};
+use crate::nest::{Last, Nest, Opener, put};
 use crate::tokens::{begins_with, bounds_at, escape_at, head_at, tails};
 use span_core::{ByteSet, Name, OutOfMemory};
 use spanner_model::{Atom, Formula, Parts};
@@ -97,12 +97,7 @@ fn no_repeat(at: usize, nest: &Nest) -> FormulaFault
 }
 
 /// A `{`, before the text `others`.
-fn brace(
-    alloc: Global,
-    at: usize,
-    others: &[u8],
-    nest: &mut Nest,
-) -> Result<Turn, FormulaFault>
+fn brace(alloc: Global, at: usize, others: &[u8], nest: &mut Nest) -> Result<Turn, FormulaFault>
     ensures { IsStep result (braces at (bounds_at others.now) (nest_of nest.old)) (nest_of nest.new) }
 {
     match bounds_at(others) {
@@ -274,12 +269,7 @@ fn wide(alloc: Global, first: u8, others: &[u8], nest: &mut Nest) -> Result<Turn
 }
 
 /// Reads the next token, which begins the rest of the text.
-fn take_turn(
-    alloc: Global,
-    at: usize,
-    rest: &[u8],
-    nest: &mut Nest,
-) -> Result<Turn, FormulaFault>
+fn take_turn(alloc: Global, at: usize, rest: &[u8], nest: &mut Nest) -> Result<Turn, FormulaFault>
     requires { at + length rest.now ≤ usize.MAX }
     ensures { IsStep result (step at rest.now (nest_of nest.old)) (nest_of nest.new) }
 {
@@ -342,11 +332,7 @@ fn read_by_turns(
 fn end_len(to_end: bool) -> usize
     ensures { result ≡ end_len to_end }
 {
-    if to_end {
-        2
-    } else {
-        1
-    }
+    if to_end { 2 } else { 1 }
 }
 
 /// Whether a `^` stands straight after the slash at `from`.
