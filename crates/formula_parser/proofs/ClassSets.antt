@@ -1,5 +1,5 @@
 -- The sets that classes stand for.
-use Rattle.std.proofs.Common.{◌≡◌, ◌≢◌, ℕ, zero, suc, ◌+◌, ◌*◌, ◌-◌, ◌<◌, ◌≤◌, Bool, true, false, not, ◌&&◌, ◌||◌, ◌==◌, nat_le, Option, Some, None, IsTrue, List, [], ◌∷◌, ◌++◌, ap, sym, refl, ◌∙◌, subst, arith, if◌then◌else◌}
+use Rattle.std.proofs.Common.{◌≡◌, ◌≢◌, ℕ, ◌+◌, ◌*◌, ◌-◌, ◌<◌, Bool, true, false, not, ◌||◌, ◌==◌, nat_le, Some, None, IsTrue, List, ap, sym, refl, ◌∙◌, arith, if◌then◌else◌}
 use Rattle.std.specs.Ordering.{nat_cmp, eq_by_cmp}
 use Rattle.std.specs.Cmp.{nat_cmp_total}
 use Rattle.std.specs.FinSet as set
@@ -8,8 +8,8 @@ use Rattle.std.proofs.lemmas.Bool.{and_parts}
 use Rattle.std.proofs.lemmas.Bool.Decides.{nat_tests}
 use Rattle.span_core.specs.ByteSets.{bytes_between}
 use Rattle.span_core.specs.ByteWordLaws.{contains-bytes_between}
-use Rattle.formula_parser.specs.Sets.{Bytes, single, others, digits, word_bytes, spaces}
-use Rattle.formula_parser.specs.Escapes.{Elem, byte, kind, elem_set, is_between, hex_value, is_punctuation, IsEscape, a_digit, a_word_byte, a_space, newline, tab, carriage_return, hex, itself}
+use Rattle.formula_parser.specs.Sets.{Bytes, single, others, digits}
+use Rattle.formula_parser.specs.Escapes.{Elem, byte, kind, elem_set, is_between, hex_value, IsEscape, a_digit, a_word_byte, a_space, newline, tab, carriage_return, hex, itself}
 use Rattle.formula_parser.specs.Classes.{IsElem, plain, escaped, AreRange, range_set, SpellsItem, lone, range, SpellsItems, one_item, more_items, SpellsClass, of_items, of_others}
 
 pub union_empty : (s : Bytes) → set.union set.empty s ≡ s

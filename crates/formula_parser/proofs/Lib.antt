@@ -2,6 +2,11 @@ pub mod RunLaws
 pub mod EscapeLaws
 pub mod HeadLaws
 pub mod RepeatLaws
+pub mod ClassBytes
+pub mod ClassSets
+pub mod ClassRead
+pub mod ClassTexts
+pub mod ClassFaults
 pub mod ClassLaws
 pub mod Bytes
 pub mod StepLaws

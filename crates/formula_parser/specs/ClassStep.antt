@@ -1,12 +1,12 @@
 -- The reader of a class, one element after another.
-use Rattle.std.specs.Prelude.{◌≡◌, ℕ, zero, suc, ◌+◌, ◌-◌, Bool, true, false, ◌==◌, nat_le, List, [], ◌∷◌, drop, Option, Some, None, Result, Ok, Err, if◌then◌else◌}
+use Rattle.std.specs.Prelude.{ℕ, zero, suc, ◌+◌, ◌-◌, Bool, true, false, ◌==◌, nat_le, List, [], ◌∷◌, drop, Option, Some, None, Result, Ok, Err, if◌then◌else◌}
 use Rattle.std.specs.FinSet as set
 use Rattle.formula_parser.specs.declared.fault.FormulaFault.{FormulaFault}
 use Rattle.formula_parser.specs.declared.fault.FormulaFault.TheVariants.{Unexpected, Unclosed, BadEscape, BadRange}
 use Rattle.formula_parser.specs.Sets.{Bytes, others}
 use Rattle.formula_parser.specs.Runs.{begins_with}
 use Rattle.formula_parser.specs.Escapes.{Elem, byte, kind, elem_set}
-use Rattle.formula_parser.specs.Classes.{range_set, begins_range, Within, no_item, after_elem, after_dash, after_range}
+use Rattle.formula_parser.specs.Classes.{range_set, Within, no_item, after_elem, after_dash, after_range}
 use Rattle.formula_parser.specs.Tokens.{escape_at}
 
 -- so many bytes are read, and these are the set of the items before the last element and the last thing read; or the class ends here; or it has a fault
