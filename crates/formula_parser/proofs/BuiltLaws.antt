@@ -14,7 +14,7 @@ use Rattle.spanner_model.specs.WellBuilt.{IsByteClass, AreRepeatNumbers, IsBuilt
 use Rattle.spanner_model.specs.View.{tree_of}
 use Rattle.spanner_model.specs.declared.formula.Atom.{Atom}
 use Rattle.formula_parser.specs.declared.fault.FormulaFault.{FormulaFault}
-use Rattle.formula_parser.specs.View.{atom_tree}
+use Rattle.formula_parser.specs.AtomView.{atom_tree}
 use Rattle.formula_parser.specs.Sets.{Bytes, single, others, all_but_newline, digits, word_bytes, spaces}
 use Rattle.formula_parser.specs.Escapes.{Elem, byte, kind, elem_set, IsEscape, a_digit, a_word_byte, a_space, newline, tab, carriage_return, hex, itself}
 use Rattle.formula_parser.specs.Names.{head_text}

@@ -17,5 +17,4 @@ pub mod FaultsMet
 pub mod GrammarLaws
 pub mod EachText
 pub mod TurnLaws
-pub mod ClassSets
 pub mod BuiltLaws

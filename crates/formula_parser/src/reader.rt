@@ -9,8 +9,9 @@ ghost use Rattle.formula_parser.specs.Faults.{HasFault};
 ghost use Rattle.formula_parser.specs.Nest.{outermost, with_unit, next_arm};
 ghost use Rattle.formula_parser.specs.Tokens.{escape_at, head_at, bounds_at, tails};
 ghost use Rattle.formula_parser.specs.ClassStep.{class_at};
-ghost use Rattle.formula_parser.specs.View.{atom_tree, nest_of, opener_of};
-ghost use Rattle.formula_parser.specs.Turn.{IsStep, AnswersBody, Answers};
+ghost use Rattle.formula_parser.specs.AtomView.{atom_tree, Answers};
+ghost use Rattle.formula_parser.specs.View.{nest_of, opener_of};
+ghost use Rattle.formula_parser.specs.Turn.{IsStep, AnswersBody};
 ghost use Rattle.formula_parser.specs.Step.{goes, step, repeats, braces, opens, escapes, classes, bangs, closes_group, closes_capture, closes_atom, ties, widens, is_tied, start_at, end_len, Ends};
 
 use crate::class::class_at;
