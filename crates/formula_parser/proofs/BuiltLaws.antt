@@ -14,7 +14,7 @@ use Rattle.spanner_model.specs.WellBuilt.{IsByteClass, AreRepeatNumbers, IsBuilt
 use Rattle.spanner_model.specs.View.{tree_of}
 use Rattle.spanner_model.specs.declared.formula.Atom.{Atom}
 use Rattle.formula_parser.specs.declared.fault.FormulaFault.{FormulaFault}
-use Rattle.formula_parser.specs.View.{atom_tree}
+use Rattle.formula_parser.specs.AtomView.{atom_tree}
 use Rattle.formula_parser.specs.Sets.{Bytes, single, others, all_but_newline, digits, word_bytes, spaces}
 use Rattle.formula_parser.specs.Escapes.{Elem, byte, kind, elem_set, IsEscape, a_digit, a_word_byte, a_space, newline, tab, carriage_return, hex, itself}
 use Rattle.formula_parser.specs.Names.{head_text}
@@ -49,9 +49,11 @@ dot_built =
 
 escape_has : {e : List ℕ} {x : Elem} → IsEscape e x → (b : ℕ) × (set.contains (elem_set x) b ≡ true)
 escape_has a_digit = (48, has_between 48 57 48 (omega arith) (omega arith))
-escape_has a_word_byte =
-    (48, has_first (set.union digits (bytes_between 65 90)) (set.union (single 95) (bytes_between 97 122)) 48
-    (has_first digits (bytes_between 65 90) 48 (has_between 48 57 48 (omega arith) (omega arith))))
+escape_has a_word_byte = (
+  48,
+  has_first (set.union digits (bytes_between 65 90)) (set.union (single 95) (bytes_between 97 122)) 48
+      (has_first digits (bytes_between 65 90) 48 (has_between 48 57 48 (omega arith) (omega arith))),
+)
 escape_has a_space = (9, has_first (bytes_between 9 13) (single 32) 9 (has_between 9 13 9 (omega arith) (omega arith)))
 escape_has newline = (10, has_single 10)
 escape_has tab = (9, has_single 9)
@@ -134,24 +136,28 @@ plain_good dot text = (dot_built, omega arith)
 plain_good (escape is) text = (escape_built is, omega arith)
 plain_good (class is) text = (class_built is, omega arith)
 
+some_most : (least most : ℕ) → least ≤ most → most ≤ 1000 → ForSome (Some most) (λ b. (least ≤ b) × (b ≤ 1000))
+some_most least most le small b e = let same : most ≡ b = cc in (omega arith, omega arith)
+
 repeat_numbers : {u : List ℕ} {least : ℕ} {most : Option ℕ} → IsRepeat u least most → AreRepeatNumbers least most
-repeat_numbers star = (omega arith, tt)
-repeat_numbers plus = (omega arith, tt)
-repeat_numbers maybe = (omega arith, (omega arith, omega arith))
-repeat_numbers (exactly is) = let small = is.small in (small, (omega arith, small))
-repeat_numbers (at_least is) = (is.small, tt)
-repeat_numbers (between is are le) = (is.small, (le, are.small))
+repeat_numbers star = (omega arith, λ b e. absurd (cc))
+repeat_numbers plus = (omega arith, λ b e. absurd (cc))
+repeat_numbers maybe = (omega arith, some_most 0 1 (omega arith) (omega arith))
+repeat_numbers (exactly {m = m} is) = (is.small, some_most m m (omega arith) is.small)
+repeat_numbers (at_least is) = (is.small, λ b e. absurd (cc))
+repeat_numbers (between {m = m} {k = k} is are le) = (is.small, some_most m k le are.small)
+
+pieces_seq : (room : ℕ) (fs : List Tree) → AreGood (4 * room + 3) fs → IsGood (4 * room + 4) (seq_tree fs)
+pieces_seq room fs pieces =
+    let good = seq_good (4 * room + 3) fs pieces in
+    let depth = good.1 in
+    (good.0, omega arith)
 
 mutual
   alt_built : {room : ℕ} {t after : List ℕ} {fs : List Tree} → SpellsAlt room t fs after → IsText t → AreGood (4 * room + 4) fs
-  alt_built (lone_arm s) text = (seq_built s text, tt)
-  alt_built (more_arms {t = t} {u = u} s rest) text = (seq_built s (text_first t (124 ∷ u) text), alt_built rest (text_second t (124 ∷ u) text).1)
-
-  seq_built : {room : ℕ} {t after : List ℕ} {fs : List Tree} → SpellsSeq room t fs after → IsText t → IsGood (4 * room + 4) (seq_tree fs)
-  seq_built {room = room} {fs = fs} s text =
-      let good = seq_good (4 * room + 3) fs (pieces_built s text) in
-      let depth = good.1 in
-      (good.0, omega arith)
+  alt_built (lone_arm {room = room} {fs = fs} s) text = (pieces_seq room fs (pieces_built s text), tt)
+  alt_built (more_arms {room = room} {t = t} {u = u} {fs = fs} s rest) text =
+      (pieces_seq room fs (pieces_built s (text_first t (124 ∷ u) text)), alt_built rest (text_second t (124 ∷ u) text).1)
 
   pieces_built : {room : ℕ} {t after : List ℕ} {fs : List Tree} → SpellsSeq room t fs after → IsText t → AreGood (4 * room + 3) fs
   pieces_built no_piece text = tt
@@ -166,23 +172,23 @@ mutual
 
   unit_built : {room : ℕ} {t after : List ℕ} {f : Tree} → SpellsUnit room t f after → IsText t → IsGood (4 * room + 2) f
   unit_built (plain is) text = let good = plain_good is text in let depth = good.1 in (good.0, omega arith)
-  unit_built (group_of {room = room} {t = t} {fs = fs} alt) text =
-      let good = alt_good (4 * room + 4) fs (alt_built alt (text_first t (41 ∷ []) text.1)) in
+  unit_built (group_of {room = room} {t = t} {fs = fs} arms) text =
+      let good = alt_good (4 * room + 4) fs (alt_built arms (text_first t (41 ∷ []) text.1)) in
       let depth = good.1 in
       (good.0, omega arith)
-  unit_built (capture_of {room = room} {x = x} {t = t} {fs = fs} variable alt) text =
-      let good = alt_good (4 * room + 4) fs (alt_built alt (text_first t (125 ∷ []) (text_second (head_text x) (t ++ 125 ∷ []) text))) in
+  unit_built (capture_of {room = room} {x = x} {t = t} {fs = fs} variable arms) text =
+      let good = alt_good (4 * room + 4) fs (alt_built arms (text_first t (125 ∷ []) (text_second (head_text x) (t ++ 125 ∷ []) text))) in
       let depth = good.1 in
       ((good.0, variable), omega arith)
 
 -- An atom's formula is well built.
 pub atom_built : (text : List ℕ) (from : ℕ) (x : AtomTree × ℕ) → IsAtomAt text from x → IsText text → IsWellBuilt x.0.formula
-atom_built text from x (u, v, stands, (t, fs, text_is, alt, tree), after) bytes =
+atom_built text from x (u, v, stands, (t, fs, text_is, arms, tree), after) bytes =
     let s = given x.0.from_start 94 in
     let e = given x.0.to_end 36 in
     let here : IsText ((s ++ (t ++ e)) ++ 47 ∷ v) = subst (λ y. IsText (y ++ 47 ∷ v)) text_is (subst IsText stands (text_from (from + 1) text bytes)) in
     let middle = text_first t e (text_second s (t ++ e) (text_first (s ++ (t ++ e)) (47 ∷ v) here)) in
-    let good = alt_good 404 fs (alt_built alt middle) in
+    let good = alt_good 404 fs (alt_built arms middle) in
     let depth = good.1 in
     subst IsWellBuilt (sym tree) (good.0, omega arith)
 

@@ -42,6 +42,7 @@ head_is t x e = by (is_word run && begins_with 123 (drop (length run) t)) refl e
   where
     run : List ℕ
     run = take_while is_name_byte t
+
     by : (b : Bool) → (is_word run && begins_with 123 (drop (length run) t)) ≡ b → (if b then Some run else None) ≡ Some x → HasHead t x
     by false f g = absurd (cc)
     by true f g =

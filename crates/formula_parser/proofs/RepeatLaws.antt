@@ -41,6 +41,7 @@ number_is t x e = by (nat_le 1 (length d) && nat_le (length d) 4 && nat_le (valu
   where
     d : List ℕ
     d = take_while is_digit t
+
     by : (b : Bool) → (nat_le 1 (length d) && nat_le (length d) 4 && nat_le (value_after 0 d) 1000) ≡ b →
         (if b then Some (value_after 0 d, length d) else None) ≡ Some x → NumberText t x.0 x.1
     by false f g = absurd (cc)

@@ -8,8 +8,8 @@ use Rattle.formula_parser.specs.Nest.{Nest}
 use Rattle.formula_parser.specs.Step.{Body, Next, goes, stops, step, is_tied, start_at, Reading, Ends, EndsAfter}
 use Rattle.formula_parser.specs.Spells.{AtomTree, IsAtomAt}
 use Rattle.formula_parser.specs.Faults.{HasFault}
-use Rattle.formula_parser.specs.View.{atom_tree}
-use Rattle.formula_parser.specs.Turn.{IsStep, AnswersBody, Answers}
+use Rattle.formula_parser.specs.AtomView.{atom_tree, Answers}
+use Rattle.formula_parser.specs.Turn.{IsStep, AnswersBody}
 use Rattle.formula_parser.proofs.HeadLaws.{byte_front}
 use Rattle.formula_parser.proofs.FaultLaws.{plain_start, tied_start}
 use Rattle.formula_parser.proofs.FaultsMet.{ends_fault}

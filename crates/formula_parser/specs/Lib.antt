@@ -7,6 +7,7 @@ pub mod Classes
 pub mod Spells
 pub mod Faults
 pub mod Laws
+pub mod AtomView
 pub mod Tokens
 pub mod ClassStep
 pub mod Nest

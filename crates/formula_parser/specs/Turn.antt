@@ -6,8 +6,6 @@ use Rattle.formula_parser.specs.declared.fault.FormulaFault.{FormulaFault}
 use Rattle.formula_parser.specs.declared.fault.FormulaFault.TheVariants.{OutOfMemory}
 use Rattle.formula_parser.specs.declared.reader.Turn.{Turn}
 use Rattle.formula_parser.specs.declared.reader.Turn.TheVariants.{Took, Done}
-use Rattle.formula_parser.specs.Spells.{AtomTree}
-use Rattle.formula_parser.specs.View.{atom_tree}
 use Rattle.formula_parser.specs.Nest.{Nest}
 use Rattle.formula_parser.specs.Step.{Body, Next, goes, stops}
 
@@ -23,9 +21,3 @@ abbrev pub AnswersBody : Result (Atom × ℕ) FormulaFault → (Result (Body × 
 AnswersBody (Ok x) P = P (Ok ((tree_of x.0.formula, x.0.to_end), x.1))
 AnswersBody (Err OutOfMemory) P = Unit {0}
 AnswersBody (Err fault) P = P (Err fault)
-
--- P of the answer, where memory lasts
-abbrev pub Answers : Result (Atom × ℕ) FormulaFault → (Result (AtomTree × ℕ) FormulaFault → Type 0) → Type 0
-Answers (Ok x) P = P (Ok (atom_tree x.0, x.1))
-Answers (Err OutOfMemory) P = Unit {0}
-Answers (Err fault) P = P (Err fault)

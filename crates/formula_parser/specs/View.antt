@@ -2,7 +2,6 @@
 use Rattle.std.specs.Prelude.{◌≡◌, ℕ, ◌+◌, List, map, reverse, Option, Some, None, Result, Ok, Err}
 use Rattle.spanner_model.specs.Tree.{Tree}
 use Rattle.spanner_model.specs.View.{tree_of, trees_of}
-use Rattle.spanner_model.specs.declared.formula.Atom.{Atom}
 use Rattle.formula_parser.specs.declared.tokens.Elem.{Elem as CodeElem}
 use Rattle.formula_parser.specs.declared.tokens.Elem.TheVariants as code_elem
 use Rattle.formula_parser.specs.declared.tokens.Bounds.{Bounds as CodeBounds}
@@ -14,13 +13,8 @@ use Rattle.formula_parser.specs.declared.nest.Last.TheVariants as code_last
 use Rattle.formula_parser.specs.declared.nest.Nest.{Nest as CodeNest}
 use Rattle.formula_parser.specs.Escapes.{Elem, byte, kind}
 use Rattle.formula_parser.specs.Tokens.{Bounds}
-use Rattle.formula_parser.specs.Spells.{AtomTree}
 use Rattle.formula_parser.specs.Faults.{Opener, slash, group, capture}
 use Rattle.formula_parser.specs.Nest.{Frame, Last, start, unit, repeated, Nest}
-
--- the tree of an atom
-abbrev pub atom_tree : Atom → AtomTree
-atom_tree a = record { from_start = a.from_start; to_end = a.to_end; formula = tree_of a.formula }
 
 abbrev pub elem_of : CodeElem → Elem
 elem_of (code_elem.Byte b) = byte b

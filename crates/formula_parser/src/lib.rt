@@ -2,16 +2,17 @@
 #![tactic(auto)]
 
 pub use fault::FormulaFault;
-pub use laws::each_text_has_a_tree_or_a_fault;
-pub use laws::no_text_has_a_tree_and_a_fault;
-pub use laws::no_text_has_two_faults;
-pub use laws::no_text_has_two_trees;
+pub use laws::{
+    each_text_has_a_tree_or_a_fault, no_text_has_a_tree_and_a_fault, no_text_has_two_faults,
+    no_text_has_two_trees,
+};
 pub use reader::read_atom;
-
 
 mod class;
 mod fault;
 mod laws;
 mod nest;
 mod reader;
+#[cfg(test)]
+mod tests;
 mod tokens;

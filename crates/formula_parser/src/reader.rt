@@ -9,13 +9,14 @@ ghost use Rattle.formula_parser.specs.Faults.{HasFault};
 ghost use Rattle.formula_parser.specs.Nest.{outermost, with_unit, next_arm};
 ghost use Rattle.formula_parser.specs.Tokens.{escape_at, head_at, bounds_at, tails};
 ghost use Rattle.formula_parser.specs.ClassStep.{class_at};
-ghost use Rattle.formula_parser.specs.View.{atom_tree, nest_of, opener_of};
-ghost use Rattle.formula_parser.specs.Turn.{IsStep, AnswersBody, Answers};
+ghost use Rattle.formula_parser.specs.AtomView.{atom_tree, Answers};
+ghost use Rattle.formula_parser.specs.View.{nest_of, opener_of};
+ghost use Rattle.formula_parser.specs.Turn.{IsStep, AnswersBody};
 ghost use Rattle.formula_parser.specs.Step.{goes, step, repeats, braces, opens, escapes, classes, bangs, closes_group, closes_capture, closes_atom, ties, widens, is_tied, start_at, end_len, Ends};
 
 use crate::class::class_at;
 use crate::fault::FormulaFault;
-use crate::nest::{put, Last, Nest, Opener};
+use crate::nest::{Last, Nest, Opener, put};
 use crate::tokens::{begins_with, bounds_at, escape_at, head_at, tails};
 use span_core::{ByteSet, Name, OutOfMemory};
 use spanner_model::{Atom, Formula, Parts};
@@ -97,12 +98,7 @@ fn no_repeat(at: usize, nest: &Nest) -> FormulaFault
 }
 
 /// A `{`, before the text `others`.
-fn brace(
-    alloc: Global,
-    at: usize,
-    others: &[u8],
-    nest: &mut Nest,
-) -> Result<Turn, FormulaFault>
+fn brace(alloc: Global, at: usize, others: &[u8], nest: &mut Nest) -> Result<Turn, FormulaFault>
     ensures { IsStep result (braces at (bounds_at others.now) (nest_of nest.old)) (nest_of nest.new) }
 {
     match bounds_at(others) {
@@ -274,12 +270,7 @@ fn wide(alloc: Global, first: u8, others: &[u8], nest: &mut Nest) -> Result<Turn
 }
 
 /// Reads the next token, which begins the rest of the text.
-fn take_turn(
-    alloc: Global,
-    at: usize,
-    rest: &[u8],
-    nest: &mut Nest,
-) -> Result<Turn, FormulaFault>
+fn take_turn(alloc: Global, at: usize, rest: &[u8], nest: &mut Nest) -> Result<Turn, FormulaFault>
     requires { at + length rest.now ≤ usize.MAX }
     ensures { IsStep result (step at rest.now (nest_of nest.old)) (nest_of nest.new) }
 {
@@ -342,11 +333,7 @@ fn read_by_turns(
 fn end_len(to_end: bool) -> usize
     ensures { result ≡ end_len to_end }
 {
-    if to_end {
-        2
-    } else {
-        1
-    }
+    if to_end { 2 } else { 1 }
 }
 
 /// Whether a `^` stands straight after the slash at `from`.

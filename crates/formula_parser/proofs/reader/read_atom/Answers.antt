@@ -18,9 +18,9 @@ returns-clause-found c =
     let text = c.args.text.now in
     let from = c.args.from in
     let ends : AnswersBody c.read_by_turns.result (Reading text from) =
-        subst (λ p. AnswersBody c.read_by_turns.result (Ends p (drop p text) (outermost from))) c.start_at.ensures c.read_by_turns.ensures.ends in
+    subst (λ p. AnswersBody c.read_by_turns.result (Ends p (drop p text) (outermost from))) c.start_at.ensures c.read_by_turns.ensures.ends in
     let tied : IfOk c.read_by_turns.result (λ x. x.0.from_start ≡ is_tied text from) =
-        subst (λ b. IfOk c.read_by_turns.result (λ x. x.0.from_start ≡ b)) c.is_tied-from_start.ensures c.read_by_turns.ensures.tied in
+    subst (λ b. IfOk c.read_by_turns.result (λ x. x.0.from_start ≡ b)) c.is_tied-from_start.ensures c.read_by_turns.ensures.tied in
     answer_found text from c.read_by_turns.result ends tied
 
 pub returns-clause-only : goal.returns-clause-only
@@ -28,9 +28,9 @@ returns-clause-only c =
     let text = c.args.text.now in
     let from = c.args.from in
     let ends : AnswersBody c.read_by_turns.result (Reading text from) =
-        subst (λ p. AnswersBody c.read_by_turns.result (Ends p (drop p text) (outermost from))) c.start_at.ensures c.read_by_turns.ensures.ends in
+    subst (λ p. AnswersBody c.read_by_turns.result (Ends p (drop p text) (outermost from))) c.start_at.ensures c.read_by_turns.ensures.ends in
     let tied : IfOk c.read_by_turns.result (λ x. x.0.from_start ≡ is_tied text from) =
-        subst (λ b. IfOk c.read_by_turns.result (λ x. x.0.from_start ≡ b)) c.is_tied-from_start.ensures c.read_by_turns.ensures.tied in
+    subst (λ b. IfOk c.read_by_turns.result (λ x. x.0.from_start ≡ b)) c.is_tied-from_start.ensures c.read_by_turns.ensures.tied in
     answer_only text from c.read_by_turns.result ends (answer_found text from c.read_by_turns.result ends tied)
 
 pub returns-clause-fault : goal.returns-clause-fault

@@ -5,7 +5,8 @@ use Rattle.std.specs.Cmp.{nat_cmp_total}
 use Rattle.std.specs.FinSet as set
 use Rattle.std.specs.FinSet.{contains-difference}
 use Rattle.span_core.specs.declared.span.Span.{Span}
-use Rattle.span_core.specs.ByteSets.{bytes_between, contains-bytes_between}
+use Rattle.span_core.specs.ByteSets.{bytes_between}
+use Rattle.span_core.specs.ByteWordLaws.{contains-bytes_between}
 use Rattle.span_core.specs.OrderLaws.{span_eq}
 use Rattle.spanner_model.specs.Lists.{Has}
 use Rattle.spanner_model.specs.Tree.{Tree, one, cat, cat_end, cat_all, alt_all, cap, rep}
