@@ -58,14 +58,7 @@ const CLASSES: [(&[u8], usize, &[(u8, u8)]); 42] = [
     (
         b"{}()|*+?.$!]",
         13,
-        &[
-            (33, 33),
-            (36, 36),
-            (40, 43),
-            (46, 46),
-            (63, 63),
-            (123, 125),
-        ],
+        &[(33, 33), (36, 36), (40, 43), (46, 46), (63, 63), (123, 125)],
     ),
 ];
 
@@ -113,7 +106,10 @@ const FAULTS: [(&[u8], FormulaFault); 44] = [
     (b"\\d-\\w]", FormulaFault::BadRange { at: 8 }),
     (b"\\d-9]", FormulaFault::BadRange { at: 8 }),
     (b"^\\x00-\\xff]", FormulaFault::BadRange { at: 7 }),
-    (b"^\\x00-\\x7f\\x80-\\xff]", FormulaFault::BadRange { at: 7 }),
+    (
+        b"^\\x00-\\x7f\\x80-\\xff]",
+        FormulaFault::BadRange { at: 7 },
+    ),
     (b"^\\x00-\\xff]/", FormulaFault::BadRange { at: 7 }),
 ];
 
@@ -131,7 +127,8 @@ fn is_class(text: &[u8], len: usize, runs: &[(u8, u8)]) -> bool {
     match read(text) {
         Some(Ok((set, taken))) => {
             taken == len
-                && (0..=255).all(|b| set.contains(b) == runs.iter().any(|run| run.0 <= b && b <= run.1))
+                && (0..=255).all(|b| set.contains(b)
+                    == runs.iter().any(|run| run.0 <= b && b <= run.1))
         }
         _ => false,
     }
