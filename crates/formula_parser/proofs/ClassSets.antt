@@ -1,5 +1,5 @@
 -- The sets that classes stand for.
-use Rattle.std.proofs.Common.{◌≡◌, ◌≢◌, ℕ, ◌+◌, ◌*◌, ◌-◌, ◌<◌, Bool, true, false, not, ◌||◌, ◌==◌, nat_le, Some, None, IsTrue, List, ap, sym, refl, ◌∙◌, arith, if◌then◌else◌}
+use Rattle.std.proofs.Common.{◌≡◌, ◌≢◌, ℕ, ◌+◌, ◌*◌, ◌-◌, ◌<◌, Bool, true, false, not, ◌||◌, ◌==◌, nat_le, Some, None, IsTrue, ◌↔◌, List, ap, sym, refl, ◌∙◌, arith, if◌then◌else◌}
 use Rattle.std.specs.Ordering.{nat_cmp, eq_by_cmp}
 use Rattle.std.specs.Cmp.{nat_cmp_total}
 use Rattle.std.specs.FinSet as set
@@ -29,6 +29,14 @@ some_counted s some = by (set.len s == 0) refl
     by : (b : Bool) → (set.len s == 0) ≡ b → (set.len s == 0) ≡ false
     by true e = absurd (some (counts_none s e))
     by false e = e
+
+pub counted : (b : Bool) (s : Bytes) → IsTrue b ↔ (s ≡ set.empty) → b ≡ (set.len s == 0)
+counted true s h = sym (none_counted s (h.0 refl))
+counted false s h = by (set.len s == 0) refl
+  where
+    by : (v : Bool) → (set.len s == 0) ≡ v → false ≡ (set.len s == 0)
+    by true e = let no : IsTrue false = h.1 (counts_none s e) in absurd (cc)
+    by false e = sym e
 
 -- each member is a byte
 abbrev pub AreBytes : Bytes → Type 0

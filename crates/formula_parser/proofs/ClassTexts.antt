@@ -232,7 +232,7 @@ end_meets negated text from p t s after_range h e = record {
 pub wide_step : (from p b : ℕ) (t : List ℕ) (s : Bytes) (w : Within) → b ≢ 93 → b ≢ 91 → b ≢ 47 → 128 ≤ b → class_step from p (b ∷ t) s w ≡ fails (Unexpected p)
 wide_step from p b t s w n1 n2 n3 big = grind (arith, nat_tests)
 
-plain_may : (w : Within) (b : ℕ) (t : List ℕ) → b ≢ 45 → MayTake w (b ∷ t)
+pub plain_may : (w : Within) (b : ℕ) (t : List ℕ) → b ≢ 45 → MayTake w (b ∷ t)
 plain_may no_item b t h = tt
 plain_may (after_elem y q) b t h = grind (arith, nat_tests)
 plain_may (after_dash y q) b t h = tt

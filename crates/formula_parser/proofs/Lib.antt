@@ -8,6 +8,7 @@ pub mod ClassRead
 pub mod ClassTexts
 pub mod ClassFaults
 pub mod ClassLaws
+pub mod ClassTurns
 pub mod Bytes
 pub mod StepLaws
 pub mod ReadsSpelled

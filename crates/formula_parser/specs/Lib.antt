@@ -13,4 +13,5 @@ pub mod ClassStep
 pub mod Nest
 pub mod Step
 pub mod View
+pub mod ClassView
 pub mod Turn
