@@ -1,0 +1,17 @@
+pub mod Sets
+pub mod Runs
+pub mod Escapes
+pub mod Names
+pub mod Repeats
+pub mod Classes
+pub mod Spells
+pub mod Faults
+pub mod Laws
+pub mod AtomView
+pub mod Tokens
+pub mod ClassStep
+pub mod Nest
+pub mod Step
+pub mod View
+pub mod ClassView
+pub mod Turn
