@@ -4,14 +4,14 @@
 //! It prints how many bytes the lines have.
 #![tactic(auto)]
 
+ghost use Rattle.std.specs.Prelude.{◌≡◌, IsTrue, length};
+ghost use Rattle.std.specs.List.{list_all};
+ghost use Rattle.cell_text.specs.Cells.{ends_by};
+
 use row_cursor::fits;
 use row_writer::{json_line, spans_line, table_line};
 use span_core::{Name, OutOfMemory, Row, Span, VarSet};
 use std::alloc::Global;
-
-ghost use Rattle.std.specs.Prelude.{◌≡◌, IsTrue, length};
-ghost use Rattle.std.specs.List.{list_all};
-ghost use Rattle.cell_text.specs.Cells.{ends_by};
 
 /// The length of the document that the rows are of.
 const DOCUMENT_BYTES: u32 = 1_000_000;
@@ -89,7 +89,14 @@ fn variables() -> VarSet {
     vars
 }
 
-fn write_row(alloc: Global, vars: &VarSet, row: &Row, doc: &[u8], form: Form, out: &mut Vec<u8>) -> Result<(), OutOfMemory>
+fn write_row(
+    alloc: Global,
+    vars: &VarSet,
+    row: &Row,
+    doc: &[u8],
+    form: Form,
+    out: &mut Vec<u8>,
+) -> Result<(), OutOfMemory>
     requires lengths { length row.now ≡ length vars.now }
     requires inside { IsTrue (list_all (ends_by (length doc.now)) row.now) }
 {
