@@ -1,20 +1,19 @@
 -- What the code reads of a class, token by token.
-use Rattle.std.proofs.Common.{◌≡◌, ◌≢◌, ℕ, zero, suc, ◌+◌, ◌-◌, ◌<◌, ◌≤◌, Bool, true, false, List, [], ◌∷◌, ◌++◌, length, drop, drop-drop, Option, Some, None, Result, Ok, Err, IfOk, ap, sym, refl, ◌∙◌, subst, arith, length-append, if◌then◌else◌}
+use Rattle.std.proofs.Common.{◌≡◌, ℕ, zero, suc, ◌+◌, ◌<◌, ◌≤◌, Bool, true, false, List, [], ◌∷◌, length, drop, drop-drop, Option, Some, None, Result, Ok, Err, IfOk, ap, sym, refl, ◌∙◌, subst, arith, length-append, if◌then◌else◌}
 use Rattle.std.specs.FinSet as set
-use Rattle.std.proofs.lemmas.Bool.Decides.{nat_tests}
 use Rattle.formula_parser.specs.declared.fault.FormulaFault.{FormulaFault}
-use Rattle.formula_parser.specs.declared.fault.FormulaFault.TheVariants.{Unexpected, Unclosed, BadEscape, BadRange}
+use Rattle.formula_parser.specs.declared.fault.FormulaFault.TheVariants.{Unclosed, BadRange}
 use Rattle.formula_parser.specs.Sets.{Bytes}
 use Rattle.formula_parser.specs.Runs.{begins_with}
-use Rattle.formula_parser.specs.Escapes.{Elem, byte, elem_set}
+use Rattle.formula_parser.specs.Escapes.{Elem, byte}
 use Rattle.formula_parser.specs.Tokens.{escape_at}
-use Rattle.formula_parser.specs.Classes.{IsElem, plain, Within, no_item, after_elem, after_dash, after_range, range_set}
+use Rattle.formula_parser.specs.Classes.{plain, Within, no_item, after_elem, after_dash, after_range, range_set}
 use Rattle.formula_parser.specs.ClassStep.{ClassNext, goes_on, closes, fails, are_range, takes_elem, takes_dash, takes_end, class_step, closed_class, items_at, class_at}
-use Rattle.formula_parser.proofs.EscapeLaws.{Escaped, escape_is}
+use Rattle.formula_parser.proofs.EscapeLaws.{escape_is}
 use Rattle.formula_parser.proofs.ClassBytes.{ClassByte, is_end, is_bracket, is_slash, is_backslash, is_dash, is_wide, is_plain, class_byte}
 use Rattle.formula_parser.proofs.ClassRead.{elem_step, after_step, items_step, class_of}
 use Rattle.formula_parser.proofs.ClassTexts.{wide_step, plain_may}
-use Rattle.formula_parser.proofs.ClassLaws.{ClassText, class_is}
+use Rattle.formula_parser.proofs.ClassLaws.{class_is}
 
 -- a step takes a byte at least, and no more than there are
 abbrev pub Fits : List ℕ → ClassNext → Type 0

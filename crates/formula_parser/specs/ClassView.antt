@@ -1,6 +1,5 @@
 -- What the code's types of a class stand for.
 use Rattle.std.specs.Prelude.{ℕ, Some, Result, Ok, Err}
-use Rattle.std.specs.FinSet as set
 use Rattle.formula_parser.specs.declared.fault.FormulaFault.{FormulaFault}
 use Rattle.formula_parser.specs.declared.class.ClassLast.{ClassLast}
 use Rattle.formula_parser.specs.declared.class.ClassLast.TheVariants as code_last

@@ -1,9 +1,9 @@
-use Rattle.std.proofs.Common.{rules, ◌≡◌, ◌+◌, ◌≤◌, ◌<◌, length, drop, arith, ap, sym, ◌∙◌, Some}
+use Rattle.std.proofs.Common.{rules, ◌+◌, drop, arith, sym, ◌∙◌}
 use Rattle.std.proofs.lemmas.Result.{err_from_is_err_and}
 use Rattle.formula_parser.specs.Classes as classes
 use Rattle.formula_parser.specs.ClassView.{last_of}
 use Rattle.formula_parser.specs.View.{elem_of}
-use Rattle.formula_parser.proofs.ClassTurns.{goes_read, token_fits, fails_read, closes_read, closes_fits}
+use Rattle.formula_parser.proofs.ClassTurns.{goes_read, token_fits, fails_read, closes_read}
 use Rattle.formula_parser.proofs.class.read_items.Goals as goal
 
 pub returns-in_err-elem : goal.returns-in_err-elem

@@ -1,4 +1,4 @@
-use Rattle.std.proofs.Common.{◌≡◌, ℕ, ◌+◌, ◌-◌, ◌≤◌, length, drop}
+use Rattle.std.proofs.Common.{◌≡◌, ◌+◌, ◌-◌, ◌≤◌, length, drop}
 use Rattle.std.specs.FinSet as set
 use Rattle.formula_parser.specs.Classes.{no_item}
 use Rattle.formula_parser.specs.ClassStep.{items_at}
