@@ -1,8 +1,6 @@
 //! Reads a class, one element after another.
-ghost use Rattle.std.specs.Prelude.{◌≡◌, ℕ, ◌+◌, ◌-◌, ◌<◌, ◌≤◌, length, drop, IfOk, Some, None, if◌then◌else◌, ◌==◌, ◌∷◌};
+ghost use Rattle.std.specs.Prelude.{◌≡◌, ℕ, ◌+◌, ◌<◌, ◌≤◌, ◌==◌, length, Some, None, IfOk, if◌then◌else◌};
 ghost use Rattle.std.specs.FinSet as set;
-ghost use Rattle.formula_parser.specs.Sets.{others};
-ghost use Rattle.formula_parser.specs.Escapes.{byte};
 ghost use Rattle.formula_parser.specs.Classes.{range_set, no_item};
 ghost use Rattle.formula_parser.specs.ClassStep.{are_range, takes_elem, takes_dash, takes_end, class_step, closed_class, items_at, class_at};
 ghost use Rattle.formula_parser.specs.Tokens.{escape_at};

@@ -9,6 +9,8 @@ pub use laws::{
 pub use reader::read_atom;
 
 mod class;
+#[cfg(test)]
+mod class_tests;
 mod fault;
 mod laws;
 mod nest;
