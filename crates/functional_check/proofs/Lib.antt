@@ -1,0 +1,4 @@
+pub mod FaultLaws
+pub mod LeastLaws
+pub mod PartFaults
+pub mod SampleLaws

@@ -1,0 +1,5 @@
+pub mod Checked
+pub mod Faults
+pub mod Laws
+pub mod Names
+pub mod Samples

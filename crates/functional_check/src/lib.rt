@@ -1,0 +1,10 @@
+//! Which formulas are functional.
+#![tactic(auto)]
+
+pub use checking::{CheckFault, check};
+
+mod checking;
+pub mod laws;
+mod names;
+#[cfg(test)]
+mod tests;
