@@ -1,6 +1,6 @@
 -- What is spelled is well built.
-use Rattle.std.proofs.Common.{◌≡◌, ◌≢◌, ℕ, zero, suc, ◌+◌, ◌*◌, ◌<◌, ◌≤◌, max, Bool, true, false, not, ◌&&◌, ◌||◌, nat_le, List, [], ◌∷◌, ◌++◌, length, drop, get_or, map, Option, Some, None, IsTrue, IfOk, Result, Ok, Err, ap, sym, refl, ◌∙◌, subst, arith}
-use Rattle.std.specs.Ordering.{nat_cmp, eq_by_cmp}
+use Rattle.std.proofs.Common.{◌≡◌, ℕ, zero, suc, ◌+◌, ◌*◌, ◌<◌, ◌≤◌, true, false, not, ◌&&◌, ◌||◌, List, [], ◌∷◌, ◌++◌, drop, get_or, map, Option, Some, IfOk, Result, Ok, Err, ap, sym, ◌∙◌, subst, arith}
+use Rattle.std.specs.Ordering.{nat_cmp}
 use Rattle.std.specs.Cmp.{nat_cmp_total}
 use Rattle.std.specs.FinSet as set
 use Rattle.std.specs.FinSet.{contains-union, contains-difference, contains-insert, contains-empty}
@@ -9,18 +9,18 @@ use Rattle.std.proofs.lemmas.Bool.{true≢false}
 use Rattle.std.proofs.lemmas.Bool.Decides.{nat_tests}
 use Rattle.span_core.specs.ByteSets.{bytes_between}
 use Rattle.span_core.specs.ByteWordLaws.{contains-bytes_between}
-use Rattle.spanner_model.specs.Tree.{Tree, empty, one, cat_end, cat, alt_end, alt, rep, cap, cat_all, alt_all}
+use Rattle.spanner_model.specs.Tree.{Tree, one, cat_all, alt_all}
 use Rattle.spanner_model.specs.WellBuilt.{IsByteClass, AreRepeatNumbers, IsBuilt, AreParts, AreArms, nesting, IsWellBuilt}
 use Rattle.spanner_model.specs.View.{tree_of}
 use Rattle.spanner_model.specs.declared.formula.Atom.{Atom}
 use Rattle.formula_parser.specs.declared.fault.FormulaFault.{FormulaFault}
 use Rattle.formula_parser.specs.AtomView.{atom_tree}
-use Rattle.formula_parser.specs.Sets.{Bytes, single, others, all_but_newline, digits, word_bytes, spaces}
-use Rattle.formula_parser.specs.Escapes.{Elem, byte, kind, elem_set, IsEscape, a_digit, a_word_byte, a_space, newline, tab, carriage_return, hex, itself}
+use Rattle.formula_parser.specs.Sets.{Bytes, single, all_but_newline, digits}
+use Rattle.formula_parser.specs.Escapes.{Elem, elem_set, IsEscape, a_digit, a_word_byte, a_space, newline, tab, carriage_return, hex, itself}
 use Rattle.formula_parser.specs.Names.{head_text}
-use Rattle.formula_parser.specs.Repeats.{IsNumber, IsRepeat, star, plus, maybe, exactly, at_least, between}
-use Rattle.formula_parser.specs.Spells.{AtomTree, seq_tree, alt_tree, bytes_tree, IsPlain, literal, wide, bang, dot, escape, class, SpellsAlt, SpellsSeq, SpellsPiece, SpellsUnit, lone_arm, more_arms, no_piece, more_pieces, once, again, plain, group_of, capture_of, given, IsAtomAt}
-use Rattle.formula_parser.proofs.ClassSets.{AreBytes, single_bytes, others_bytes, escape_bytes}
+use Rattle.formula_parser.specs.Repeats.{IsRepeat, star, plus, maybe, exactly, at_least, between}
+use Rattle.formula_parser.specs.Spells.{AtomTree, seq_tree, alt_tree, IsPlain, literal, wide, bang, dot, escape, class, SpellsAlt, SpellsSeq, SpellsPiece, SpellsUnit, lone_arm, more_arms, no_piece, more_pieces, once, again, plain, group_of, capture_of, given, IsAtomAt}
+use Rattle.formula_parser.proofs.ClassSets.{single_bytes, others_bytes, escape_bytes}
 use Rattle.formula_parser.proofs.ClassLaws.{class_built}
 
 -- a set with a member is not empty

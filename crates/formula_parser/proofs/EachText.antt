@@ -1,5 +1,5 @@
 -- Each text has a tree or a fault.
-use Rattle.std.proofs.Common.{◌≡◌, ℕ, zero, suc, ◌+◌, ◌-◌, ◌<◌, ◌≤◌, ◌⊎◌, inl, inr, Bool, true, false, List, [], ◌∷◌, ◌++◌, length, drop, length-drop, Option, Some, None, Result, Ok, Err, ap, subst, sym, refl, ◌∙◌, arith, length-append, nat_lt, if◌then◌else◌}
+use Rattle.std.proofs.Common.{◌≡◌, ℕ, zero, suc, ◌+◌, ◌<◌, ◌≤◌, ◌⊎◌, inl, inr, Bool, true, false, List, [], ◌∷◌, length, drop, length-drop, Option, Some, None, Result, Ok, Err, ap, subst, sym, refl, arith, length-append, nat_lt, if◌then◌else◌}
 use Rattle.std.specs.Str.{bytes_eq}
 use Rattle.span_core.specs.Names.{is_name}
 use Rattle.spanner_model.specs.Tree.{Tree}
@@ -13,14 +13,14 @@ use Rattle.formula_parser.specs.Escapes.{Elem}
 use Rattle.formula_parser.specs.Tokens.{escape_at, head_at, Bounds, bounds_at, tails}
 use Rattle.formula_parser.specs.ClassStep.{class_at}
 use Rattle.formula_parser.specs.Spells.{AtomTree, is_tail, IsAtomAt}
-use Rattle.formula_parser.specs.Step.{Next, goes, stops, step, repeats, braces, opens, escapes, classes, bangs, ties, end_len, atom_of, is_tied, start_at, Reading, Ends, EndsAfter}
+use Rattle.formula_parser.specs.Step.{Next, goes, stops, step, repeats, braces, escapes, classes, bangs, ties, end_len, atom_of, is_tied, start_at, Reading, Ends}
 use Rattle.formula_parser.specs.Laws.{HasTreeOrFault}
 use Rattle.formula_parser.proofs.Bytes.{Byte, is_slash, is_open, is_close, is_bracket, is_bracket_close, is_brace, is_brace_close, is_bar, is_star, is_plus, is_maybe, is_dot, is_caret, is_dollar, is_bang, is_backslash, is_literal, is_wide, byte_of}
-use Rattle.formula_parser.proofs.RunLaws.{Run, run_of}
-use Rattle.formula_parser.proofs.EscapeLaws.{Escaped, escape_is}
+use Rattle.formula_parser.proofs.RunLaws.{run_of}
+use Rattle.formula_parser.proofs.EscapeLaws.{escape_is}
 use Rattle.formula_parser.proofs.HeadLaws.{head_is}
-use Rattle.formula_parser.proofs.RepeatLaws.{BoundsText, bounds_is}
-use Rattle.formula_parser.proofs.ClassLaws.{ClassText, class_is}
+use Rattle.formula_parser.proofs.RepeatLaws.{bounds_is}
+use Rattle.formula_parser.proofs.ClassLaws.{class_is}
 use Rattle.formula_parser.proofs.StepLaws.{Answer, ends_more}
 use Rattle.formula_parser.proofs.ReadsSpelled.{at_piece, literal_step, wide_step}
 use Rattle.formula_parser.proofs.FaultsMet.{ends_fault}

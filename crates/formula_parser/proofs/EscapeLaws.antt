@@ -1,5 +1,5 @@
 -- What is an escape is read as one, and the other way round.
-use Rattle.std.proofs.Common.{◌≡◌, ◌≢◌, ℕ, zero, suc, ◌+◌, ◌*◌, Bool, true, false, List, [], ◌∷◌, ◌++◌, length, Option, Some, None, IsTrue, ap, sym, refl, ◌∙◌, arith, ◌==◌, subst, if◌then◌else◌}
+use Rattle.std.proofs.Common.{◌≡◌, ℕ, suc, Bool, true, false, List, [], ◌∷◌, ◌++◌, length, Option, Some, None, ap, refl, ◌∙◌, arith, ◌==◌, subst, if◌then◌else◌}
 use Rattle.std.proofs.lemmas.Bool.Decides.{nat_tests}
 use Rattle.formula_parser.specs.Sets.{digits, word_bytes, spaces}
 use Rattle.formula_parser.specs.Escapes.{Elem, byte, kind, is_punctuation, hex_value, IsEscape, a_digit, a_word_byte, a_space, newline, tab, carriage_return, hex, itself}

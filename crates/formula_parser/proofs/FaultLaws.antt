@@ -1,25 +1,23 @@
 -- A fault is what reading answers.
-use Rattle.std.proofs.Common.{◌≡◌, ◌≢◌, ℕ, zero, suc, ◌+◌, ◌<◌, ◌≤◌, Bool, true, false, List, [], ◌∷◌, ◌++◌, length, drop, drop-drop, Option, Some, None, Result, Ok, Err, ap, subst, sym, refl, ◌∙◌, arith, nat_lt, append_assoc, if◌then◌else◌}
+use Rattle.std.proofs.Common.{◌≡◌, ℕ, suc, ◌+◌, ◌<◌, true, false, List, [], ◌∷◌, ◌++◌, length, drop, Option, Some, None, Ok, Err, ap, subst, sym, refl, ◌∙◌, arith, if◌then◌else◌}
 use Rattle.std.proofs.lemmas.Bool.Decides.{nat_tests}
 use Rattle.std.specs.Str.{bytes_eq}
-use Rattle.spanner_model.specs.Tree.{Tree, one, rep, cap}
-use Rattle.spanner_model.specs.WellBuilt.{IsVariable, none_word}
+use Rattle.spanner_model.specs.Tree.{Tree, rep, cap}
+use Rattle.spanner_model.specs.WellBuilt.{none_word}
 use Rattle.formula_parser.specs.declared.fault.FormulaFault.{FormulaFault}
 use Rattle.formula_parser.specs.declared.fault.FormulaFault.TheVariants.{Unexpected, Unclosed, BadEscape, BadRepeat, DoubleRepeat, Anchor, NameTooLong, ReservedName, TooDeep}
 use Rattle.formula_parser.specs.Runs.{begins_with, StandsAt}
-use Rattle.formula_parser.specs.Nest.{Frame, Last, start, unit, repeated, Nest, whole, with_unit, with_repeat, opened, next_arm, outermost}
-use Rattle.formula_parser.specs.Step.{Next, goes, stops, step, braces, repeats, opens, escapes, classes, bangs, ties, tie_len, is_tied, start_at, Reading, Ends, EndsAfter}
-use Rattle.formula_parser.specs.Sets.{single}
+use Rattle.formula_parser.specs.Nest.{Frame, Last, start, unit, repeated, Nest, whole, with_unit, opened, next_arm, outermost}
+use Rattle.formula_parser.specs.Step.{goes, stops, step, braces, opens, escapes, classes, bangs, tie_len, is_tied, start_at, Reading, Ends}
 use Rattle.formula_parser.specs.Escapes.{Elem, IsEscape}
-use Rattle.formula_parser.specs.Names.{HasHead, head_text}
+use Rattle.formula_parser.specs.Names.{head_text}
 use Rattle.formula_parser.specs.Repeats.{IsRepeat, IsSign, star_sign, plus_sign, maybe_sign, brace_sign}
-use Rattle.formula_parser.specs.Tokens.{escape_at, head_at, Bounds, bounds_at}
-use Rattle.formula_parser.specs.Spells.{IsPlain}
+use Rattle.formula_parser.specs.Tokens.{escape_at, Bounds, bounds_at}
 use Rattle.formula_parser.specs.Faults.{Mark, at_start, after_unit, after_repeat, Opener, slash, group, capture, Opening, innermost, Reads, slash_read, tie_read, unit_read, repeat_read, bar_read, open_read, head_read, close_read, brace_read, HasFault, nothing_to_repeat, nothing_to_close, no_capture_to_close, no_class_to_close, capture_for_group, group_for_capture, slash_inside, text_ends, no_escape, in_class, no_repeat, repeat_twice, tie_late, tie_inside, tie_early, name_too_long, reserved_name, group_too_deep, capture_too_deep}
 use Rattle.formula_parser.proofs.StepLaws.{Answer, ends_on}
-use Rattle.formula_parser.proofs.EscapeLaws.{Escaped, escape_is}
+use Rattle.formula_parser.proofs.EscapeLaws.{escape_is}
 use Rattle.formula_parser.proofs.HeadLaws as heads
-use Rattle.formula_parser.proofs.RepeatLaws.{BoundsText, bounds_is}
+use Rattle.formula_parser.proofs.RepeatLaws.{bounds_is}
 use Rattle.formula_parser.proofs.ClassLaws.{class_fault_read}
 use Rattle.formula_parser.proofs.ReadsSpelled.{at_piece, plain_step, repeat_step, open_step, head_step, head_bangs, variable_opens, name_word, long_no_name}
 

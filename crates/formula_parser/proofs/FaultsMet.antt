@@ -1,31 +1,31 @@
 -- What reading answers is a fault.
-use Rattle.std.proofs.Common.{◌≡◌, ◌≢◌, ℕ, zero, suc, ◌+◌, ◌<◌, ◌≤◌, Bool, true, false, List, [], ◌∷◌, ◌++◌, length, drop, drop-drop, Option, Some, None, Result, Ok, Err, ap, subst, sym, refl, ◌∙◌, arith, nat_lt, append_assoc, if◌then◌else◌}
+use Rattle.std.proofs.Common.{◌≡◌, ℕ, zero, suc, ◌+◌, ◌<◌, ◌≤◌, Bool, true, false, List, [], ◌∷◌, ◌++◌, length, drop, drop-drop, Option, Some, None, Result, Ok, Err, ap, subst, sym, refl, ◌∙◌, arith, nat_lt, append_assoc, if◌then◌else◌}
 use Rattle.std.specs.Str.{bytes_eq}
 use Rattle.std.proofs.lemmas.Bool.Decides.{nat_tests}
 use Rattle.std.proofs.lemmas.Slice.Eq.{bytes_eq-Decides}
 use Rattle.span_core.specs.Names.{is_name}
-use Rattle.spanner_model.specs.Tree.{Tree, one, rep, cap}
-use Rattle.spanner_model.specs.WellBuilt.{IsVariable, none_word}
+use Rattle.spanner_model.specs.Tree.{Tree, one}
+use Rattle.spanner_model.specs.WellBuilt.{none_word}
 use Rattle.formula_parser.specs.declared.fault.FormulaFault.{FormulaFault}
-use Rattle.formula_parser.specs.declared.fault.FormulaFault.TheVariants.{Unexpected, Unclosed, BadEscape, BadRepeat, DoubleRepeat, Anchor, NameTooLong, ReservedName, TooDeep}
+use Rattle.formula_parser.specs.declared.fault.FormulaFault.TheVariants.{Unclosed, TooDeep}
 use Rattle.formula_parser.specs.Runs.{begins_with, StandsAt}
-use Rattle.formula_parser.specs.Nest.{Frame, Last, start, unit, repeated, Nest, whole, with_unit, with_repeat, opened, next_arm, outermost}
-use Rattle.formula_parser.specs.Step.{Next, goes, stops, step, braces, repeats, opens, escapes, classes, bangs, ties, is_tied, start_at, Reading, Ends, EndsAfter}
+use Rattle.formula_parser.specs.Nest.{Frame, Last, start, unit, repeated, Nest, with_unit, opened, outermost}
+use Rattle.formula_parser.specs.Step.{Next, goes, stops, step, braces, repeats, opens, escapes, classes, bangs, ties, is_tied, start_at, Reading, EndsAfter}
 use Rattle.formula_parser.specs.Sets.{Bytes, single, all_but_newline}
-use Rattle.formula_parser.specs.Escapes.{Elem, elem_set, IsEscape}
-use Rattle.formula_parser.specs.Names.{HasHead, head_text}
+use Rattle.formula_parser.specs.Escapes.{Elem, elem_set}
+use Rattle.formula_parser.specs.Names.{head_text}
 use Rattle.formula_parser.specs.Repeats.{IsRepeat, star, plus, maybe, exactly, at_least, between, IsSign, star_sign, plus_sign, maybe_sign, brace_sign}
 use Rattle.formula_parser.specs.Tokens.{escape_at, head_at, Bounds, bounds_at, tails}
 use Rattle.formula_parser.specs.ClassStep.{class_at}
 use Rattle.formula_parser.specs.Spells.{is_tail, bytes_tree, IsPlain, literal, wide, bang, dot, escape, class}
-use Rattle.formula_parser.specs.Faults.{Mark, at_start, after_unit, after_repeat, Opener, slash, group, capture, Opening, innermost, Reads, slash_read, tie_read, unit_read, repeat_read, bar_read, open_read, head_read, close_read, brace_read, HasFault, nothing_to_repeat, nothing_to_close, no_capture_to_close, no_class_to_close, capture_for_group, group_for_capture, slash_inside, text_ends, no_escape, in_class, no_repeat, repeat_twice, tie_late, tie_inside, tie_early, name_too_long, reserved_name, group_too_deep, capture_too_deep}
+use Rattle.formula_parser.specs.Faults.{Mark, at_start, after_unit, after_repeat, Opener, slash, group, capture, Opening, Reads, slash_read, tie_read, unit_read, repeat_read, bar_read, open_read, head_read, close_read, brace_read, HasFault, nothing_to_repeat, nothing_to_close, no_capture_to_close, no_class_to_close, capture_for_group, group_for_capture, slash_inside, text_ends, no_escape, in_class, no_repeat, repeat_twice, tie_late, tie_inside, tie_early, name_too_long, reserved_name, group_too_deep, capture_too_deep}
 use Rattle.formula_parser.proofs.Bytes.{Byte, is_slash, is_open, is_close, is_bracket, is_bracket_close, is_brace, is_brace_close, is_bar, is_star, is_plus, is_maybe, is_dot, is_caret, is_dollar, is_bang, is_backslash, is_literal, is_wide, byte_of}
-use Rattle.formula_parser.proofs.RunLaws.{Run, run_of}
-use Rattle.formula_parser.proofs.EscapeLaws.{Escaped, escape_is, escape_read}
+use Rattle.formula_parser.proofs.RunLaws.{run_of}
+use Rattle.formula_parser.proofs.EscapeLaws.{escape_is, escape_read}
 use Rattle.formula_parser.proofs.HeadLaws as heads
 use Rattle.formula_parser.proofs.HeadLaws.{byte_front}
-use Rattle.formula_parser.proofs.RepeatLaws.{BoundsText, bounds_is, bounds_exactly, bounds_at_least, bounds_between}
-use Rattle.formula_parser.proofs.ClassLaws.{ClassText, class_is, class_fault_is}
+use Rattle.formula_parser.proofs.RepeatLaws.{bounds_is, bounds_exactly, bounds_at_least, bounds_between}
+use Rattle.formula_parser.proofs.ClassLaws.{class_is, class_fault_is}
 use Rattle.formula_parser.proofs.ReadsSpelled.{at_piece, literal_step, wide_step, head_length, long_word}
 use Rattle.formula_parser.proofs.SpelledRead.{variable_of}
 use Rattle.formula_parser.proofs.FaultLaws.{mark_of, openings, IsInner, IsSound, count_openings, place_is_innermost, plain_start, tied_start}

@@ -1,12 +1,10 @@
 -- The relations of the grammar and of the faults, by what reading answers.
-use Rattle.std.proofs.Common.{◌≡◌, ℕ, zero, suc, ◌+◌, Bool, true, false, List, [], ◌∷◌, ◌++◌, length, drop, drop-drop, Result, Ok, Err, sym, subst, ◌∙◌, ap, arith, refl, append_assoc, length-append}
+use Rattle.std.proofs.Common.{◌≡◌, ℕ, zero, suc, ◌+◌, Bool, true, false, List, ◌∷◌, ◌++◌, length, drop, drop-drop, Ok, Err, sym, subst, ◌∙◌, ap, arith, refl, append_assoc, length-append}
 use Rattle.spanner_model.specs.Tree.{Tree}
-use Rattle.formula_parser.specs.declared.fault.FormulaFault.{FormulaFault}
 use Rattle.formula_parser.specs.Runs.{begins_with}
 use Rattle.formula_parser.specs.Nest.{Nest, outermost}
-use Rattle.formula_parser.specs.Step.{Body, atom_of, tie_len, end_len, is_tied, start_at, Reading, step, Ends, EndsAfter}
-use Rattle.formula_parser.specs.Spells.{AtomTree, alt_tree, SpellsAlt, given, Spells, IsAtomAt}
-use Rattle.formula_parser.specs.Faults.{HasFault}
+use Rattle.formula_parser.specs.Step.{Body, atom_of, tie_len, end_len, is_tied, start_at, Reading, Ends, EndsAfter}
+use Rattle.formula_parser.specs.Spells.{AtomTree, alt_tree, SpellsAlt, given, IsAtomAt}
 use Rattle.formula_parser.specs.Laws.{HasOneTree, HasNoTreeWithFault, HasOneFault}
 use Rattle.formula_parser.proofs.HeadLaws.{byte_front}
 use Rattle.formula_parser.proofs.StepLaws.{Answer, one_end}

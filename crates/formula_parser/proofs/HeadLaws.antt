@@ -1,13 +1,13 @@
 -- The head of a capture is read as one, and the other way round.
-use Rattle.std.proofs.Common.{◌≡◌, ℕ, Bool, true, false, ◌&&◌, ◌==◌, List, [], ◌∷◌, ◌++◌, length, drop, Option, Some, None, IsTrue, ap, refl, sym, ◌∙◌, subst, if◌then◌else◌, arith}
+use Rattle.std.proofs.Common.{◌≡◌, ℕ, Bool, true, false, ◌&&◌, List, [], ◌∷◌, ◌++◌, length, drop, Option, Some, None, ap, refl, sym, ◌∙◌, subst, if◌then◌else◌, arith}
 use Rattle.std.specs.List.{take_while, list_all}
 use Rattle.std.proofs.lemmas.Bool.{and_parts}
 use Rattle.std.proofs.lemmas.Bool.Decides.{nat_tests}
 use Rattle.span_core.specs.Names.{is_name_start, is_name_byte}
-use Rattle.formula_parser.specs.Runs.{begins, begins_with}
+use Rattle.formula_parser.specs.Runs.{begins_with}
 use Rattle.formula_parser.specs.Names.{is_word, HasHead}
 use Rattle.formula_parser.specs.Tokens.{head_at}
-use Rattle.formula_parser.proofs.RunLaws.{Run, run_of, run_is, run_rest, after_token}
+use Rattle.formula_parser.proofs.RunLaws.{run_of, run_is, run_rest, after_token}
 
 start_continues : (c : ℕ) → is_name_start c ≡ true → is_name_byte c ≡ true
 start_continues c h = grind (arith, nat_tests)

@@ -1,24 +1,23 @@
 -- What is spelled is read.
-use Rattle.std.proofs.Common.{◌≡◌, ◌≢◌, ◌&&◌, ℕ, zero, suc, ◌+◌, ◌<◌, ◌≤◌, Bool, true, false, List, [], ◌∷◌, ◌++◌, length, drop, take, Option, Some, None, Result, Ok, Err, ap, subst, sym, refl, ◌∙◌, append_assoc, arith, length-append, nat_lt, if◌then◌else◌}
+use Rattle.std.proofs.Common.{◌≡◌, ◌&&◌, ℕ, suc, ◌+◌, ◌<◌, ◌≤◌, Bool, true, false, List, [], ◌∷◌, ◌++◌, length, Option, Some, None, Ok, Err, ap, subst, sym, refl, ◌∙◌, append_assoc, arith, length-append, nat_lt, if◌then◌else◌}
 use Rattle.std.proofs.lemmas.List.{append-nil}
 use Rattle.std.proofs.lemmas.Bool.Decides.{nat_tests}
 use Rattle.std.proofs.lemmas.Slice.Eq.{bytes_eq-Decides}
 use Rattle.std.specs.Str.{bytes_eq}
-use Rattle.spanner_model.specs.Tree.{Tree, empty, one, rep, cap, cat_all, alt_all}
+use Rattle.spanner_model.specs.Tree.{Tree, one, rep, cap, cat_all}
 use Rattle.spanner_model.specs.WellBuilt.{IsVariable, none_word}
 use Rattle.span_core.specs.Names.{is_name, is_name_start, is_name_byte}
 use Rattle.std.specs.List.{list_all}
 use Rattle.std.proofs.lemmas.Bool.{and_parts}
 use Rattle.formula_parser.specs.declared.fault.FormulaFault.TheVariants.{NameTooLong, ReservedName}
 use Rattle.formula_parser.specs.Faults.{Opener, slash, group, capture}
-use Rattle.formula_parser.specs.Nest.{Frame, Last, start, unit, repeated, Nest, held, whole_seq, whole_alt, whole, with_unit, with_repeat, opened, next_arm, settled, outermost}
-use Rattle.formula_parser.specs.Step.{Next, goes, stops, step, braces, repeats, escapes, bangs, classes, widens, opens, end_len, Ends, EndsAfter}
-use Rattle.formula_parser.specs.Sets.{single, all_but_newline}
+use Rattle.formula_parser.specs.Nest.{Frame, Last, start, unit, repeated, Nest, held, whole_seq, whole_alt, with_unit, with_repeat, opened, settled, outermost}
+use Rattle.formula_parser.specs.Step.{Next, goes, stops, step, braces, escapes, bangs, classes, widens, opens, end_len, Ends}
+use Rattle.formula_parser.specs.Sets.{single}
 use Rattle.formula_parser.specs.Tokens.{head_at, bounds_at, tails}
 use Rattle.formula_parser.specs.Names.{HasHead, head_text, is_word}
 use Rattle.formula_parser.specs.Repeats.{IsRepeat, star, plus, maybe, exactly, at_least, between}
-use Rattle.formula_parser.specs.Spells.{AtomTree, seq_tree, alt_tree, specials, IsLiteral, is_tail, bytes_tree, IsPlain, literal, wide, bang, dot, escape, class, SpellsAlt, SpellsSeq, SpellsPiece, SpellsUnit, lone_arm, more_arms, no_piece, more_pieces, once, again, plain, group_of, capture_of, given}
-use Rattle.formula_parser.proofs.Bytes.{IsWide}
+use Rattle.formula_parser.specs.Spells.{seq_tree, alt_tree, IsLiteral, is_tail, IsPlain, literal, wide, bang, dot, escape, class, SpellsAlt, SpellsSeq, SpellsPiece, SpellsUnit, lone_arm, more_arms, no_piece, more_pieces, once, again, plain, group_of, capture_of, given}
 use Rattle.formula_parser.proofs.RunLaws.{run_is, after_token}
 use Rattle.formula_parser.proofs.EscapeLaws.{escape_read}
 use Rattle.formula_parser.proofs.HeadLaws.{head_read, head_is}

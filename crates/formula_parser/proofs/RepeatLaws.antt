@@ -1,12 +1,12 @@
 -- The braces of a repeat are read, and the other way round.
-use Rattle.std.proofs.Common.{◌≡◌, ℕ, suc, ◌+◌, ◌≤◌, Bool, true, false, ◌&&◌, ◌==◌, nat_le, List, [], ◌∷◌, ◌++◌, length, drop, Option, Some, None, IsTrue, ap, refl, sym, ◌∙◌, subst, if◌then◌else◌, arith, length-append, append_assoc}
+use Rattle.std.proofs.Common.{◌≡◌, ℕ, suc, ◌+◌, ◌≤◌, Bool, true, false, ◌&&◌, ◌==◌, nat_le, List, [], ◌∷◌, ◌++◌, length, drop, Option, Some, None, ap, refl, sym, ◌∙◌, subst, if◌then◌else◌, arith, length-append, append_assoc}
 use Rattle.std.specs.List.{take_while, list_all}
 use Rattle.std.proofs.lemmas.Bool.{and_parts}
 use Rattle.std.proofs.lemmas.Bool.Decides.{nat_tests}
 use Rattle.formula_parser.specs.Runs.{begins, begins_with}
 use Rattle.formula_parser.specs.Repeats.{is_digit, value_after, IsNumber, IsRepeat, exactly, at_least, between}
 use Rattle.formula_parser.specs.Tokens.{number_at, Bounds, between_at, most_at, rest_at, bounds_after, bounds_at}
-use Rattle.formula_parser.proofs.RunLaws.{Run, run_of, run_is, run_rest, after_token}
+use Rattle.formula_parser.proofs.RunLaws.{run_of, run_is, after_token}
 use Rattle.formula_parser.proofs.HeadLaws.{byte_front}
 
 -- the choice that `number_at` makes

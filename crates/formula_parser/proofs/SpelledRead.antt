@@ -1,30 +1,30 @@
 -- What is read is spelled.
-use Rattle.std.proofs.Common.{◌≡◌, ◌≢◌, ℕ, zero, suc, ◌+◌, ◌<◌, ◌≤◌, Bool, true, false, List, [], ◌∷◌, ◌++◌, length, drop, take, Option, Some, None, Result, Ok, Err, ap, subst, sym, refl, ◌∙◌, append_assoc, arith, length-append, nat_lt, ◌-◌, if◌then◌else◌, min}
+use Rattle.std.proofs.Common.{◌≡◌, ℕ, zero, suc, ◌+◌, ◌<◌, ◌≤◌, Bool, true, false, List, [], ◌∷◌, ◌++◌, length, drop, take, Option, Some, None, Result, Ok, Err, ap, subst, sym, refl, ◌∙◌, append_assoc, arith, length-append, nat_lt, ◌-◌, if◌then◌else◌}
 use Rattle.std.specs.Str.{bytes_eq}
 use Rattle.std.proofs.lemmas.List.{append-nil, take-append-drop, length-take}
 use Rattle.std.proofs.lemmas.Bool.Decides.{nat_tests}
 use Rattle.std.proofs.lemmas.Slice.Eq.{bytes_eq-Decides}
 use Rattle.span_core.specs.Names.{is_name}
-use Rattle.spanner_model.specs.Tree.{Tree, empty, one, rep, cap, cat_all, alt_all}
+use Rattle.spanner_model.specs.Tree.{Tree, one, rep, cap}
 use Rattle.spanner_model.specs.WellBuilt.{IsVariable, none_word}
 use Rattle.formula_parser.specs.declared.fault.FormulaFault.{FormulaFault}
 use Rattle.formula_parser.specs.Faults.{Opener, slash, group, capture}
-use Rattle.formula_parser.specs.Nest.{Frame, Last, start, unit, repeated, Nest, held, whole_seq, whole_alt, whole, with_unit, with_repeat, opened, next_arm, settled, outermost}
-use Rattle.formula_parser.specs.Step.{Body, Next, goes, stops, step, repeats, braces, opens, escapes, classes, bangs, ties, widens, end_len, Ends, EndsAfter}
+use Rattle.formula_parser.specs.Nest.{Frame, Last, start, unit, repeated, Nest, held, whole_seq, whole_alt, with_unit, opened, outermost}
+use Rattle.formula_parser.specs.Step.{Body, Next, goes, stops, step, repeats, braces, opens, escapes, classes, bangs, ties, end_len, Ends, EndsAfter}
 use Rattle.formula_parser.specs.Sets.{Bytes, single, all_but_newline}
 use Rattle.formula_parser.specs.Runs.{begins_with}
 use Rattle.formula_parser.specs.Escapes.{Elem, elem_set}
-use Rattle.formula_parser.specs.Names.{HasHead, head_text}
+use Rattle.formula_parser.specs.Names.{head_text}
 use Rattle.formula_parser.specs.Repeats.{IsRepeat, star, plus, maybe}
 use Rattle.formula_parser.specs.Tokens.{escape_at, head_at, Bounds, bounds_at, tails}
 use Rattle.formula_parser.specs.ClassStep.{class_at}
-use Rattle.formula_parser.specs.Spells.{seq_tree, alt_tree, IsLiteral, is_tail, bytes_tree, IsPlain, literal, wide, bang, dot, escape, class, SpellsAlt, SpellsSeq, SpellsPiece, SpellsUnit, lone_arm, more_arms, no_piece, more_pieces, once, again, plain, group_of, capture_of, given}
+use Rattle.formula_parser.specs.Spells.{seq_tree, alt_tree, is_tail, bytes_tree, IsPlain, literal, wide, bang, dot, escape, class, SpellsAlt, SpellsSeq, SpellsPiece, SpellsUnit, lone_arm, more_arms, no_piece, more_pieces, once, again, plain, group_of, capture_of, given}
 use Rattle.formula_parser.proofs.Bytes.{Byte, is_slash, is_open, is_close, is_bracket, is_bracket_close, is_brace, is_brace_close, is_bar, is_star, is_plus, is_maybe, is_dot, is_caret, is_dollar, is_bang, is_backslash, is_literal, is_wide, byte_of}
-use Rattle.formula_parser.proofs.RunLaws.{Run, run_of, after_token, the_token}
-use Rattle.formula_parser.proofs.EscapeLaws.{Escaped, escape_is}
+use Rattle.formula_parser.proofs.RunLaws.{run_of, after_token, the_token}
+use Rattle.formula_parser.proofs.EscapeLaws.{escape_is}
 use Rattle.formula_parser.proofs.HeadLaws.{head_read, head_is, byte_front}
-use Rattle.formula_parser.proofs.RepeatLaws.{BoundsText, bounds_is}
-use Rattle.formula_parser.proofs.ClassLaws.{ClassText, class_is}
+use Rattle.formula_parser.proofs.RepeatLaws.{bounds_is}
+use Rattle.formula_parser.proofs.ClassLaws.{class_is}
 use Rattle.formula_parser.proofs.ReadsSpelled.{at_piece, IsFresh, literal_step, wide_step, whole_seq_is, whole_alt_is, head_length}
 
 -- the whole arms of a frame, a bar after each

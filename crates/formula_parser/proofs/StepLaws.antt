@@ -1,8 +1,8 @@
 -- Steps, one after another.
-use Rattle.std.proofs.Common.{◌≡◌, ℕ, zero, suc, ◌+◌, List, drop, drop-drop, Result, Ok, Err, ap, subst, sym, ◌∙◌, arith}
+use Rattle.std.proofs.Common.{◌≡◌, ℕ, zero, suc, ◌+◌, List, drop, drop-drop, Result, Ok, Err, ap, subst, sym, ◌∙◌}
 use Rattle.formula_parser.specs.declared.fault.FormulaFault.{FormulaFault}
 use Rattle.formula_parser.specs.Nest.{Nest}
-use Rattle.formula_parser.specs.Step.{Body, Next, goes, stops, step, end_len, Ends, EndsAfter}
+use Rattle.formula_parser.specs.Step.{Body, goes, step, end_len, Ends, EndsAfter}
 
 -- the answer of reading: a formula, whether it is tied to the end, and the place after it; or a fault
 abbrev pub Answer : Type 0

@@ -1,11 +1,11 @@
 -- Turns of the code, and what the code answers.
-use Rattle.std.proofs.Common.{◌≡◌, ℕ, ◌+◌, ◌<◌, ◌≤◌, Bool, true, false, List, ◌∷◌, length, drop, length-drop, Result, Ok, Err, sym, subst, ◌∙◌, ap, arith, refl, IfOk, IfErr, ◌⊎◌, inl, inr}
+use Rattle.std.proofs.Common.{◌≡◌, ℕ, ◌+◌, ◌<◌, ◌≤◌, Bool, true, false, List, length, drop, length-drop, Result, Ok, Err, sym, subst, ap, arith, refl, IfOk, IfErr, ◌⊎◌, inl, inr}
 use Rattle.spanner_model.specs.View.{tree_of}
 use Rattle.spanner_model.specs.declared.formula.Atom.{Atom}
 use Rattle.formula_parser.specs.declared.fault.FormulaFault.{FormulaFault}
 use Rattle.formula_parser.specs.declared.fault.FormulaFault.TheVariants.{OutOfMemory}
 use Rattle.formula_parser.specs.Nest.{Nest}
-use Rattle.formula_parser.specs.Step.{Body, Next, goes, stops, step, is_tied, start_at, Reading, Ends, EndsAfter}
+use Rattle.formula_parser.specs.Step.{Body, goes, step, is_tied, start_at, Reading, Ends}
 use Rattle.formula_parser.specs.Spells.{AtomTree, IsAtomAt}
 use Rattle.formula_parser.specs.Faults.{HasFault}
 use Rattle.formula_parser.specs.AtomView.{atom_tree, Answers}

@@ -2,9 +2,9 @@
 use Rattle.std.specs.Prelude.{◌≡◌, ◌≢◌, ℕ, ◌+◌, ◌≤◌, ◌<◌, Bool, true, false, not, ◌==◌, List, [], ◌∷◌, ◌++◌, length, drop, if◌then◌else◌}
 use Rattle.std.specs.FinSet as set
 use Rattle.span_core.specs.ByteSets.{bytes_between}
-use Rattle.formula_parser.specs.Sets.{Bytes, single, others}
+use Rattle.formula_parser.specs.Sets.{Bytes, others}
 use Rattle.formula_parser.specs.Runs.{begins_with, StandsAt}
-use Rattle.formula_parser.specs.Escapes.{Elem, byte, kind, elem_set, IsEscape}
+use Rattle.formula_parser.specs.Escapes.{Elem, byte, elem_set, IsEscape}
 use Rattle.formula_parser.specs.declared.fault.FormulaFault.{FormulaFault}
 use Rattle.formula_parser.specs.declared.fault.FormulaFault.TheVariants.{Unexpected, Unclosed, BadEscape, BadRange}
 

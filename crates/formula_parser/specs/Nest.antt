@@ -1,7 +1,7 @@
 -- What is open at a place of the text, with what has been read of it.
 use Rattle.std.specs.Prelude.{◌≡◌, ℕ, Bool, true, false, List, [], ◌∷◌, ◌++◌}
 use Rattle.spanner_model.specs.Tree.{Tree, empty, cat_all, alt_all}
-use Rattle.formula_parser.specs.Faults.{Opener, slash, group, capture}
+use Rattle.formula_parser.specs.Faults.{Opener, slash}
 
 -- an opener, its place, the whole arms since then, and the whole pieces of the arm that is being read
 pub record Frame : Type 0 where

@@ -1,5 +1,5 @@
 -- One step of reading: what the next token makes of what is open.
-use Rattle.std.specs.Prelude.{◌≡◌, ℕ, zero, suc, ◌+◌, Bool, true, false, ◌==◌, nat_lt, nat_le, List, [], ◌∷◌, length, drop, Option, Some, None, Result, Ok, Err, if◌then◌else◌}
+use Rattle.std.specs.Prelude.{◌≡◌, ℕ, zero, suc, ◌+◌, Bool, true, false, ◌==◌, nat_lt, List, [], ◌∷◌, length, drop, Option, Some, None, Result, Ok, Err, if◌then◌else◌}
 use Rattle.std.specs.Str.{bytes_eq}
 use Rattle.span_core.specs.Names.{is_name}
 use Rattle.spanner_model.specs.Tree.{Tree, one, rep, cap}
@@ -13,7 +13,7 @@ use Rattle.formula_parser.specs.Tokens.{escape_at, head_at, Bounds, bounds_at, t
 use Rattle.formula_parser.specs.ClassStep.{class_at}
 use Rattle.formula_parser.specs.Spells.{AtomTree, bytes_tree}
 use Rattle.formula_parser.specs.Faults.{Opener, slash, group, capture}
-use Rattle.formula_parser.specs.Nest.{Frame, Last, start, unit, repeated, Nest, whole, with_unit, with_repeat, opened, next_arm, outermost}
+use Rattle.formula_parser.specs.Nest.{Frame, start, unit, repeated, Nest, whole, with_unit, with_repeat, opened, next_arm, outermost}
 
 -- a formula, and whether it is tied to the end
 abbrev pub Body : Type 0

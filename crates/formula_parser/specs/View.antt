@@ -1,6 +1,5 @@
 -- What the code's own types stand for.
-use Rattle.std.specs.Prelude.{◌≡◌, ℕ, ◌+◌, List, map, reverse, Option, Some, None, Result, Ok, Err}
-use Rattle.spanner_model.specs.Tree.{Tree}
+use Rattle.std.specs.Prelude.{ℕ, map, reverse, Option, Some, None}
 use Rattle.spanner_model.specs.View.{tree_of, trees_of}
 use Rattle.formula_parser.specs.declared.tokens.Elem.{Elem as CodeElem}
 use Rattle.formula_parser.specs.declared.tokens.Elem.TheVariants as code_elem

@@ -1,223 +1,193 @@
 //! What the reader answers at texts whose answers were worked out by hand.
 use crate::fault::FormulaFault;
 use crate::reader::read_atom;
+use span_core::ByteSet;
 use spanner_model::{Atom, Formula};
 use std::alloc::Global;
-use std::test::Fail;
 
-/// Texts that have a fault.
-const FAULTS: [(&[u8], FormulaFault); 107] = [
-    (b"/*a/", FormulaFault::Unexpected { at: 1 }),
-    (b"/+/", FormulaFault::Unexpected { at: 1 }),
-    (b"/?/", FormulaFault::Unexpected { at: 1 }),
-    (b"/{2}/", FormulaFault::Unexpected { at: 1 }),
-    (b"/{/", FormulaFault::Unexpected { at: 1 }),
-    (b"/a|*/", FormulaFault::Unexpected { at: 3 }),
-    (b"/(*)/", FormulaFault::Unexpected { at: 2 }),
-    (b"/(a|{1})/", FormulaFault::Unexpected { at: 4 }),
-    (b"/!x{+}/", FormulaFault::Unexpected { at: 4 }),
-    (b"/^*/", FormulaFault::Unexpected { at: 2 }),
-    (b"/)/", FormulaFault::Unexpected { at: 1 }),
-    (b"/a)/", FormulaFault::Unexpected { at: 2 }),
-    (b"/}/", FormulaFault::Unexpected { at: 1 }),
-    (b"/a}/", FormulaFault::Unexpected { at: 2 }),
-    (b"/]/", FormulaFault::Unexpected { at: 1 }),
-    (b"/(a]/", FormulaFault::Unexpected { at: 3 }),
-    (b"/a*]/", FormulaFault::Unexpected { at: 3 }),
-    (b"/", FormulaFault::Unclosed { at: 0 }),
-    (b"/a", FormulaFault::Unclosed { at: 0 }),
-    (b"/a|", FormulaFault::Unclosed { at: 0 }),
-    (b"/(a/", FormulaFault::Unclosed { at: 1 }),
-    (b"/(a", FormulaFault::Unclosed { at: 1 }),
-    (b"/((a)/", FormulaFault::Unclosed { at: 1 }),
-    (b"/((a/", FormulaFault::Unclosed { at: 2 }),
-    (b"/!x{a/", FormulaFault::Unclosed { at: 1 }),
-    (b"/!x{a", FormulaFault::Unclosed { at: 1 }),
-    (b"/!x{", FormulaFault::Unclosed { at: 1 }),
-    (b"/!x{a)/", FormulaFault::Unclosed { at: 1 }),
-    (b"/(a}/", FormulaFault::Unclosed { at: 1 }),
-    (b"/(!x{a)}/", FormulaFault::Unclosed { at: 2 }),
-    (b"/!x{(a}/", FormulaFault::Unclosed { at: 4 }),
-    (b"/(a)(b/", FormulaFault::Unclosed { at: 4 }),
-    (b"/\\q/", FormulaFault::BadEscape { at: 1 }),
-    (b"/\\D/", FormulaFault::BadEscape { at: 1 }),
-    (b"/\\b/", FormulaFault::BadEscape { at: 1 }),
-    (b"/\\0/", FormulaFault::BadEscape { at: 1 }),
-    (b"/\\ /", FormulaFault::BadEscape { at: 1 }),
-    (b"/\\x4/", FormulaFault::BadEscape { at: 1 }),
-    (b"/\\xg0/", FormulaFault::BadEscape { at: 1 }),
-    (b"/\\x0g/", FormulaFault::BadEscape { at: 1 }),
-    (b"/\\", FormulaFault::BadEscape { at: 1 }),
-    (b"/a(\\x/", FormulaFault::BadEscape { at: 3 }),
-    (b"/a{/", FormulaFault::BadRepeat { at: 2 }),
-    (b"/a{", FormulaFault::BadRepeat { at: 2 }),
-    (b"/a{}/", FormulaFault::BadRepeat { at: 2 }),
-    (b"/a{,3}/", FormulaFault::BadRepeat { at: 2 }),
-    (b"/a{1,2,3}/", FormulaFault::BadRepeat { at: 2 }),
-    (b"/a{3,2}/", FormulaFault::BadRepeat { at: 2 }),
-    (b"/a{1001}/", FormulaFault::BadRepeat { at: 2 }),
-    (b"/a{00001}/", FormulaFault::BadRepeat { at: 2 }),
-    (b"/a{1,1001}/", FormulaFault::BadRepeat { at: 2 }),
-    (b"/a{1 }/", FormulaFault::BadRepeat { at: 2 }),
-    (b"/a{x}/", FormulaFault::BadRepeat { at: 2 }),
-    (b"/a{1", FormulaFault::BadRepeat { at: 2 }),
-    (b"/a{1,/", FormulaFault::BadRepeat { at: 2 }),
-    (b"/(a){-1}/", FormulaFault::BadRepeat { at: 4 }),
-    (b"/a**/", FormulaFault::DoubleRepeat { at: 3 }),
-    (b"/a*+/", FormulaFault::DoubleRepeat { at: 3 }),
-    (b"/a+?/", FormulaFault::DoubleRepeat { at: 3 }),
-    (b"/a{2}{3}/", FormulaFault::DoubleRepeat { at: 5 }),
-    (b"/a*{zz/", FormulaFault::DoubleRepeat { at: 3 }),
-    (b"/a{1,}*/", FormulaFault::DoubleRepeat { at: 6 }),
-    (b"/a$b/", FormulaFault::Anchor { at: 2 }),
-    (b"/a^/", FormulaFault::Anchor { at: 2 }),
-    (b"/^^a/", FormulaFault::Anchor { at: 2 }),
-    (b"/(^a)/", FormulaFault::Anchor { at: 2 }),
-    (b"/(a$)/", FormulaFault::Anchor { at: 3 }),
-    (b"/a|^b/", FormulaFault::Anchor { at: 3 }),
-    (b"/$$/", FormulaFault::Anchor { at: 1 }),
-    (b"/a$", FormulaFault::Anchor { at: 2 }),
-    (b"/a$)/", FormulaFault::Anchor { at: 2 }),
-    (b"/!x{a$}/", FormulaFault::Anchor { at: 5 }),
-    (b"/(a$/", FormulaFault::Anchor { at: 3 }),
-    (b"/a$*/", FormulaFault::Anchor { at: 2 }),
-    (
-        b"/!aaaaaaaaaaaaaaaaaaaaaaaaaaaaaaaaa{a}/",
-        FormulaFault::NameTooLong { at: 1 },
-    ),
-    (
-        b"/(!aaaaaaaaaaaaaaaaaaaaaaaaaaaaaaaaa{a})/",
-        FormulaFault::NameTooLong { at: 2 },
-    ),
-    (b"/!none{a}/", FormulaFault::ReservedName { at: 1 }),
-    (b"/!none{", FormulaFault::ReservedName { at: 1 }),
-    (b"/!x{!none{a}}/", FormulaFault::ReservedName { at: 4 }),
-    (
-        b"/(((((((((((((((((((((((((((((((((((((((((((((((((((((((((((((((((((((((((((((((((((((((((((((((((((((/",
-        FormulaFault::TooDeep { at: 101 },
-    ),
-    (
-        b"/((((((((((((((((((((((((((((((((((((((((((((((((((((((((((((((((((((((((((((((((((((((((((((((((((((!x{",
-        FormulaFault::TooDeep { at: 101 },
-    ),
-    (
-        b"/((((((((((((((((((((((((((((((((((((((((((((((((((((((((((((((((((((((((((((((((((((((((((((((((((((!none{",
-        FormulaFault::ReservedName { at: 101 },
-    ),
-    (
-        b"/((((((((((((((((((((((((((((((((((((((((((((((((((((((((((((((((((((((((((((((((((((((((((((((((((((!aaaaaaaaaaaaaaaaaaaaaaaaaaaaaaaaa{",
-        FormulaFault::NameTooLong { at: 101 },
-    ),
-    (b"/[/", FormulaFault::Unclosed { at: 1 }),
-    (b"/[", FormulaFault::Unclosed { at: 1 }),
-    (b"/[^", FormulaFault::Unclosed { at: 1 }),
-    (b"/[a/]/", FormulaFault::Unclosed { at: 1 }),
-    (b"/[a-/", FormulaFault::Unclosed { at: 1 }),
-    (b"/[a-", FormulaFault::Unclosed { at: 1 }),
-    (b"/(a[b/", FormulaFault::Unclosed { at: 3 }),
-    (b"/[]/", FormulaFault::Unexpected { at: 2 }),
-    (b"/[^]/", FormulaFault::Unexpected { at: 3 }),
-    (b"/[]a]/", FormulaFault::Unexpected { at: 2 }),
-    (b"/[a[b]]/", FormulaFault::Unexpected { at: 3 }),
-    (b"/[a-[b]]/", FormulaFault::Unexpected { at: 4 }),
-    (b"/[a\xC3\xA9]/", FormulaFault::Unexpected { at: 3 }),
-    (b"/[a-\xC3\xA9]/", FormulaFault::Unexpected { at: 4 }),
-    (b"/[z-a]/", FormulaFault::BadRange { at: 2 }),
-    (b"/[a-\\d]/", FormulaFault::BadRange { at: 2 }),
-    (b"/[\\d-z]/", FormulaFault::BadRange { at: 2 }),
-    (b"/[ab-a]/", FormulaFault::BadRange { at: 3 }),
-    (b"/[^\\x00-\\xff]/", FormulaFault::BadRange { at: 1 }),
-    (
-        b"/[^\\x00-\\x7f\\x80-\\xff]/",
-        FormulaFault::BadRange { at: 1 },
-    ),
-    (b"/[a\\q]/", FormulaFault::BadEscape { at: 3 }),
-    (b"/[a-\\q]/", FormulaFault::BadEscape { at: 4 }),
-    (b"/[\\x]/", FormulaFault::BadEscape { at: 2 }),
-    (b"/[a]]/", FormulaFault::Unexpected { at: 4 }),
-];
+/// Lines: a fault, its place, and a text that has it.
+const FAULTS: &str = "\
+Unexpected 1 /*a/
+Unexpected 1 /+/
+Unexpected 1 /?/
+Unexpected 1 /{2}/
+Unexpected 1 /{/
+Unexpected 3 /a|*/
+Unexpected 2 /(*)/
+Unexpected 4 /(a|{1})/
+Unexpected 4 /!x{+}/
+Unexpected 2 /^*/
+Unexpected 1 /)/
+Unexpected 2 /a)/
+Unexpected 1 /}/
+Unexpected 2 /a}/
+Unexpected 1 /]/
+Unexpected 3 /(a]/
+Unexpected 3 /a*]/
+Unclosed 0 /
+Unclosed 0 /a
+Unclosed 0 /a|
+Unclosed 1 /(a/
+Unclosed 1 /(a
+Unclosed 1 /((a)/
+Unclosed 2 /((a/
+Unclosed 1 /!x{a/
+Unclosed 1 /!x{a
+Unclosed 1 /!x{
+Unclosed 1 /!x{a)/
+Unclosed 1 /(a}/
+Unclosed 2 /(!x{a)}/
+Unclosed 4 /!x{(a}/
+Unclosed 4 /(a)(b/
+BadEscape 1 /\\q/
+BadEscape 1 /\\D/
+BadEscape 1 /\\b/
+BadEscape 1 /\\0/
+BadEscape 1 /\\ /
+BadEscape 1 /\\x4/
+BadEscape 1 /\\xg0/
+BadEscape 1 /\\x0g/
+BadEscape 1 /\\
+BadEscape 3 /a(\\x/
+BadRepeat 2 /a{/
+BadRepeat 2 /a{
+BadRepeat 2 /a{}/
+BadRepeat 2 /a{,3}/
+BadRepeat 2 /a{1,2,3}/
+BadRepeat 2 /a{3,2}/
+BadRepeat 2 /a{1001}/
+BadRepeat 2 /a{00001}/
+BadRepeat 2 /a{1,1001}/
+BadRepeat 2 /a{1 }/
+BadRepeat 2 /a{x}/
+BadRepeat 2 /a{1
+BadRepeat 2 /a{1,/
+BadRepeat 4 /(a){-1}/
+DoubleRepeat 3 /a**/
+DoubleRepeat 3 /a*+/
+DoubleRepeat 3 /a+?/
+DoubleRepeat 5 /a{2}{3}/
+DoubleRepeat 3 /a*{zz/
+DoubleRepeat 6 /a{1,}*/
+Anchor 2 /a$b/
+Anchor 2 /a^/
+Anchor 2 /^^a/
+Anchor 2 /(^a)/
+Anchor 3 /(a$)/
+Anchor 3 /a|^b/
+Anchor 1 /$$/
+Anchor 2 /a$
+Anchor 2 /a$)/
+Anchor 5 /!x{a$}/
+Anchor 3 /(a$/
+Anchor 2 /a$*/
+NameTooLong 1 /!aaaaaaaaaaaaaaaaaaaaaaaaaaaaaaaaa{a}/
+NameTooLong 2 /(!aaaaaaaaaaaaaaaaaaaaaaaaaaaaaaaaa{a})/
+ReservedName 1 /!none{a}/
+ReservedName 1 /!none{
+ReservedName 4 /!x{!none{a}}/
+TooDeep 101 /(((((((((((((((((((((((((((((((((((((((((((((((((((((((((((((((((((((((((((((((((((((((((((((((((((((/
+TooDeep 101 /((((((((((((((((((((((((((((((((((((((((((((((((((((((((((((((((((((((((((((((((((((((((((((((((((((!x{
+ReservedName 101 /((((((((((((((((((((((((((((((((((((((((((((((((((((((((((((((((((((((((((((((((((((((((((((((((((((!none{
+NameTooLong 101 /((((((((((((((((((((((((((((((((((((((((((((((((((((((((((((((((((((((((((((((((((((((((((((((((((((!aaaaaaaaaaaaaaaaaaaaaaaaaaaaaaaaa{
+Unclosed 1 /[/
+Unclosed 1 /[
+Unclosed 1 /[^
+Unclosed 1 /[a/]/
+Unclosed 1 /[a-/
+Unclosed 1 /[a-
+Unclosed 3 /(a[b/
+Unexpected 2 /[]/
+Unexpected 3 /[^]/
+Unexpected 2 /[]a]/
+Unexpected 3 /[a[b]]/
+Unexpected 4 /[a-[b]]/
+Unexpected 3 /[aé]/
+Unexpected 4 /[a-é]/
+BadRange 2 /[z-a]/
+BadRange 2 /[a-\\d]/
+BadRange 2 /[\\d-z]/
+BadRange 3 /[ab-a]/
+BadRange 1 /[^\\x00-\\xff]/
+BadRange 1 /[^\\x00-\\x7f\\x80-\\xff]/
+BadEscape 3 /[a\\q]/
+BadEscape 4 /[a-\\q]/
+BadEscape 2 /[\\x]/
+Unexpected 4 /[a]]/
+";
 
-/// Texts that are atoms, and the place after the closing slash.
-const ATOMS: [(&[u8], usize); 27] = [
-    (b"//", 2),
-    (b"/^/", 3),
-    (b"/$/", 3),
-    (b"/^$/", 4),
-    (b"/a/b/", 3),
-    (b"/a!/", 4),
-    (b"/!/", 3),
-    (b"/!{3}/", 6),
-    (b"/!1x{2}/", 8),
-    (b"/a|/", 4),
-    (b"/()/", 4),
-    (b"/(a)*/", 6),
-    (b"/a{1000}/", 9),
-    (b"/a{0}/", 6),
-    (b"/a{2,}/", 7),
-    (b"/a{0,1000}/", 11),
-    (b"/a{0002}/", 9),
-    (b"/!x{a}/", 7),
-    (b"/!x1_{a}/", 9),
-    (b"/!aaaaaaaaaaaaaaaaaaaaaaaaaaaaaaaa{a}/", 38),
-    (b"/\xC3\xA9+/", 5),
-    (
-        b"/(((((((((((((((((((((((((((((((((((((((((((((((((((((((((((((((((((((((((((((((((((((((((((((((((((())))))))))))))))))))))))))))))))))))))))))))))))))))))))))))))))))))))))))))))))))))))))))))))))))))/",
-        202,
-    ),
-    (b"/a/", 3),
-    (b"/[a]/", 5),
-    (b"/[a-]/", 6),
-    (b"/[^^]/", 6),
-    (b"/\\//", 4),
-];
+/// Lines: the place after the closing slash, and the text of an atom.
+const ATOMS: &str = "\
+2 //
+3 /^/
+3 /$/
+4 /^$/
+3 /a/b/
+4 /a!/
+3 /!/
+6 /!{3}/
+8 /!1x{2}/
+4 /a|/
+4 /()/
+6 /(a)*/
+9 /a{1000}/
+6 /a{0}/
+7 /a{2,}/
+11 /a{0,1000}/
+9 /a{0002}/
+7 /!x{a}/
+9 /!x1_{a}/
+38 /!aaaaaaaaaaaaaaaaaaaaaaaaaaaaaaaa{a}/
+5 /é+/
+202 /(((((((((((((((((((((((((((((((((((((((((((((((((((((((((((((((((((((((((((((((((((((((((((((((((((())))))))))))))))))))))))))))))))))))))))))))))))))))))))))))))))))))))))))))))))))))))))))))))))))))/
+3 /a/
+5 /[a]/
+6 /[a-]/
+6 /[^^]/
+4 /\\//
+";
 
-/// Texts of one byte set, and the first and last byte of each of its runs.
-const SETS: [(&[u8], &[(u8, u8)]); 41] = [
-    (b"/a/", &[(97, 97)]),
-    (b"/ /", &[(32, 32)]),
-    (b"/./", &[(0, 9), (11, 255)]),
-    (b"/\\d/", &[(48, 57)]),
-    (b"/\\w/", &[(48, 57), (65, 90), (95, 95), (97, 122)]),
-    (b"/\\s/", &[(9, 13), (32, 32)]),
-    (b"/\\n/", &[(10, 10)]),
-    (b"/\\t/", &[(9, 9)]),
-    (b"/\\r/", &[(13, 13)]),
-    (b"/\\x41/", &[(65, 65)]),
-    (b"/\\xfF/", &[(255, 255)]),
-    (b"/\\x00/", &[(0, 0)]),
-    (b"/\\./", &[(46, 46)]),
-    (b"/\\\\/", &[(92, 92)]),
-    (b"/\\//", &[(47, 47)]),
-    (b"/\\_/", &[(95, 95)]),
-    (b"/\\~/", &[(126, 126)]),
-    (b"/-/", &[(45, 45)]),
-    (b"/!/", &[(33, 33)]),
-    (b"/[a]/", &[(97, 97)]),
-    (b"/[a-c]/", &[(97, 99)]),
-    (b"/[^a-c]/", &[(0, 96), (100, 255)]),
-    (b"/[a-c-e]/", &[(45, 45), (97, 99), (101, 101)]),
-    (b"/[a-]/", &[(45, 45), (97, 97)]),
-    (b"/[-a]/", &[(45, 45), (97, 97)]),
-    (b"/[--a]/", &[(45, 97)]),
-    (b"/[+--]/", &[(43, 45)]),
-    (b"/[^-a]/", &[(0, 44), (46, 96), (98, 255)]),
-    (b"/[a^]/", &[(94, 94), (97, 97)]),
-    (b"/[^^]/", &[(0, 93), (95, 255)]),
-    (b"/[\\]]/", &[(93, 93)]),
-    (b"/[.]/", &[(46, 46)]),
-    (b"/[$*(]/", &[(36, 36), (40, 40), (42, 42)]),
-    (b"/[\\d\\s]/", &[(9, 13), (32, 32), (48, 57)]),
-    (b"/[\\x41-\\x43]/", &[(65, 67)]),
-    (b"/[a-a]/", &[(97, 97)]),
-    (
-        b"/[\\w-]/",
-        &[(45, 45), (48, 57), (65, 90), (95, 95), (97, 122)],
-    ),
-    (b"/[\\n-\\r]/", &[(10, 13)]),
-    (b"/\x80/", &[(128, 128)]),
-    (b"/\xC3/", &[(195, 195)]),
-    (b"/\x07/", &[(7, 7)]),
-];
+/// Lines: the runs of a set of bytes, and a text that stands for it.
+const SETS: &str = "\
+97-97 /a/
+32-32 / /
+0-9,11-255 /./
+48-57 /\\d/
+48-57,65-90,95-95,97-122 /\\w/
+9-13,32-32 /\\s/
+10-10 /\\n/
+9-9 /\\t/
+13-13 /\\r/
+65-65 /\\x41/
+255-255 /\\xfF/
+0-0 /\\x00/
+46-46 /\\./
+92-92 /\\\\/
+47-47 /\\//
+95-95 /\\_/
+126-126 /\\~/
+45-45 /-/
+33-33 /!/
+97-97 /[a]/
+97-99 /[a-c]/
+0-96,100-255 /[^a-c]/
+45-45,97-99,101-101 /[a-c-e]/
+45-45,97-97 /[a-]/
+45-45,97-97 /[-a]/
+45-97 /[--a]/
+43-45 /[+--]/
+0-44,46-96,98-255 /[^-a]/
+94-94,97-97 /[a^]/
+0-93,95-255 /[^^]/
+93-93 /[\\]]/
+46-46 /[.]/
+36-36,40-40,42-42 /[$*(]/
+9-13,32-32,48-57 /[\\d\\s]/
+65-67 /[\\x41-\\x43]/
+97-97 /[a-a]/
+45-45,48-57,65-90,95-95,97-122 /[\\w-]/
+10-13 /[\\n-\\r]/
+";
 
 /// What is read of the text from this place on; None where no slash stands there.
 fn read_from(
@@ -245,31 +215,97 @@ fn end_from(alloc: Global, text: &[u8], from: usize) -> Option<usize> {
     }
 }
 
-/// Whether the text is one set, of exactly the bytes of these runs.
-fn is_set(alloc: Global, text: &[u8], runs: &[(u8, u8)]) -> bool {
+fn set_of(formula: &Formula) -> Option<ByteSet> {
+    match formula {
+        Formula::One(set) => Some(*set),
+        _ => None,
+    }
+}
+
+fn set_from(alloc: Global, text: &[u8]) -> Option<ByteSet> {
     match read_from(alloc, text, 0) {
-        Some(
-            Ok(
-                (
-                    Atom {
-                        formula: Formula::One(set),
-                        ..
-                    },
-                    _,
-                ),
-            ),
-        ) => {
-            (0..=255).all(|b| set.contains(b) == runs.iter().any(|run| run.0 <= b && b <= run.1))
+        Some(Ok((atom, _))) => set_of(&atom.formula),
+        _ => None,
+    }
+}
+
+/// The fault of this name.
+fn fault_named(name: &str, at: usize) -> Option<FormulaFault> {
+    match name {
+        "Unexpected" => Some(FormulaFault::Unexpected { at }),
+        "Unclosed" => Some(FormulaFault::Unclosed { at }),
+        "BadEscape" => Some(FormulaFault::BadEscape { at }),
+        "BadRange" => Some(FormulaFault::BadRange { at }),
+        "BadRepeat" => Some(FormulaFault::BadRepeat { at }),
+        "DoubleRepeat" => Some(FormulaFault::DoubleRepeat { at }),
+        "Anchor" => Some(FormulaFault::Anchor { at }),
+        "NameTooLong" => Some(FormulaFault::NameTooLong { at }),
+        "ReservedName" => Some(FormulaFault::ReservedName { at }),
+        "TooDeep" => Some(FormulaFault::TooDeep { at }),
+        _ => None,
+    }
+}
+
+fn is_within(b: u8, run: &str) -> bool {
+    match run.split_once('-') {
+        Some((low, high)) => {
+            low.parse::<u8>().is_ok_and(|low| low <= b)
+                && high.parse::<u8>().is_ok_and(|high| b <= high)
         }
-        _ => false,
+        None => false,
+    }
+}
+
+/// Whether the set has exactly the bytes of these runs.
+fn has_runs(set: ByteSet, runs: &str) -> bool {
+    (0..=255).all(|b| set.contains(b) == runs.split(',').any(|run| is_within(b, run)))
+}
+
+fn is_fault_line(alloc: Global, line: &str) -> bool {
+    let Some((name, rest)) = line.split_once(' ') else {
+        return false;
+    };
+    let Some((at, text)) = rest.split_once(' ') else {
+        return false;
+    };
+    let Ok(at) = at.parse::<usize>() else {
+        return false;
+    };
+    let fault = fault_named(name, at);
+    fault.is_some() && fault_from(alloc, text.as_bytes(), 0) == fault
+}
+
+fn is_atom_line(alloc: Global, line: &str) -> bool {
+    match line.split_once(' ') {
+        Some((end, text)) => end_from(alloc, text.as_bytes(), 0) == end.parse::<usize>().ok(),
+        None => false,
+    }
+}
+
+fn is_set_line(alloc: Global, line: &str) -> bool {
+    match line.split_once(' ') {
+        Some((runs, text)) => {
+            set_from(alloc, text.as_bytes()).is_some_and(|set| has_runs(set, runs))
+        }
+        None => false,
     }
 }
 
 #[test]
-fn faults_are_found(rt: HostRuntime) -> Result<(), Fail> {
-    for (text, fault) in FAULTS {
-        assert_eq!(rt; fault_from(rt.alloc(), text, 0), Some(fault), "in {text:?}");
+fn texts_are_read(rt: HostRuntime) {
+    for line in FAULTS.lines() {
+        assert!(rt; is_fault_line(rt.alloc(), line), "at {line}");
     }
+    for line in ATOMS.lines() {
+        assert!(rt; is_atom_line(rt.alloc(), line), "at {line}");
+    }
+    for line in SETS.lines() {
+        assert!(rt; is_set_line(rt.alloc(), line), "at {line}");
+    }
+}
+
+#[test]
+fn places_count_from_the_text(rt: HostRuntime) {
     assert_eq!(rt;
         fault_from(rt.alloc(), b"xx/(a/", 2),
         Some(FormulaFault::Unclosed { at: 3 })
@@ -278,22 +314,8 @@ fn faults_are_found(rt: HostRuntime) -> Result<(), Fail> {
         fault_from(rt.alloc(), b"xx/a", 2),
         Some(FormulaFault::Unclosed { at: 2 })
     );
-    Ok(())
-}
-
-#[test]
-fn atoms_end_after_their_slash(rt: HostRuntime) -> Result<(), Fail> {
-    for (text, end) in ATOMS {
-        assert_eq!(rt; end_from(rt.alloc(), text, 0), Some(end), "in {text:?}");
-    }
     assert_eq!(rt; end_from(rt.alloc(), b"xx/a/yy", 2), Some(5));
-    Ok(())
-}
-
-#[test]
-fn sets_have_their_bytes(rt: HostRuntime) -> Result<(), Fail> {
-    for (text, runs) in SETS {
-        assert!(rt; is_set(rt.alloc(), text, runs), "in {text:?}");
-    }
-    Ok(())
+    // A byte of 80 or more alone, and one that another follows.
+    assert_eq!(rt; end_from(rt.alloc(), b"/\x80+\xC3\xA9\xA9/", 0), Some(7));
+    assert!(rt; set_from(rt.alloc(), b"/\xC3/").is_some_and(|set| has_runs(set, "195-195")));
 }

@@ -1,6 +1,5 @@
-use Rattle.std.proofs.Common.{◌≡◌, ◌∙◌, ◌<◌, ◌≤◌, length, drop, sym, subst, arith, IfOk, Result}
+use Rattle.std.proofs.Common.{◌≡◌, ◌≤◌, length, drop, sym, subst, arith, IfOk}
 use Rattle.std.proofs.lemmas.Option.{slice_get_within}
-use Rattle.spanner_model.specs.declared.formula.Atom.{Atom}
 use Rattle.formula_parser.specs.Nest.{outermost}
 use Rattle.formula_parser.specs.Step.{Reading, Ends, is_tied}
 use Rattle.formula_parser.specs.Turn.{AnswersBody}

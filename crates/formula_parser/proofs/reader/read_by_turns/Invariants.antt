@@ -1,4 +1,4 @@
-use Rattle.std.proofs.Common.{ℕ, ◌≤◌, ◌+◌, ◌-◌, length, drop, Result}
+use Rattle.std.proofs.Common.{ℕ, ◌≤◌, ◌-◌, length, drop, Result}
 use Rattle.formula_parser.specs.declared.fault.FormulaFault.{FormulaFault}
 use Rattle.formula_parser.specs.Nest.{outermost}
 use Rattle.formula_parser.specs.View.{nest_of}
