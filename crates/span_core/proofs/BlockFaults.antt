@@ -37,22 +37,22 @@ module _ (P : ℕ → Type 0) (decide : (k : ℕ) → Decided (P k)) where
   search_below zero = inr (λ k l p. omega arith)
   search_below (suc n) = one_more n (search_below n) (decide n)
 
-both : (P Q : Type 0) → Decided P → Decided Q → Decided (P × Q)
-both P Q (inl p) (inl q) = inl (p, q)
-both P Q (inl p) (inr refuted) = inr (λ h. refuted h.1)
-both P Q (inr refuted) d = inr (λ h. refuted h.0)
+decide_both : (P Q : Type 0) → Decided P → Decided Q → Decided (P × Q)
+decide_both P Q (inl p) (inl q) = inl (p, q)
+decide_both P Q (inl p) (inr refuted) = inr (λ h. refuted h.1)
+decide_both P Q (inr refuted) d = inr (λ h. refuted h.0)
 
-negated : (P : Type 0) → Decided P → Decided (P → ⊥)
-negated P (inl p) = inr (λ refuted. refuted p)
-negated P (inr refuted) = inl refuted
+decide_not : (P : Type 0) → Decided P → Decided (P → ⊥)
+decide_not P (inl p) = inr (λ refuted. refuted p)
+decide_not P (inr refuted) = inl refuted
 
-at_most : (a b : ℕ) → Decided (a ≤ b)
-at_most a b = elim (cases_lt b a) [ inl l ↦ inr (λ h. omega (arith, l, h)) | inr l ↦ inl (omega (arith, l)) ]
+decide_le : (a b : ℕ) → Decided (a ≤ b)
+decide_le a b = elim (cases_lt b a) [ inl l ↦ inr (λ h. omega (arith, l, h)) | inr l ↦ inl (omega (arith, l)) ]
 
 -- ---- the bits of the blocks
 
-marked : (blocks : List (ℕ × ℕ)) (bit at : ℕ) → Decided (IsMarked blocks bit at)
-marked blocks bit at = elim (cases_eq (bit_at (listed blocks at) bit) 1) [ inl e ↦ inl e | inr ne ↦ inr ne ]
+decide_marked : (blocks : List (ℕ × ℕ)) (bit at : ℕ) → Decided (IsMarked blocks bit at)
+decide_marked blocks bit at = elim (cases_eq (bit_at (listed blocks at) bit) 1) [ inl e ↦ inl e | inr ne ↦ inr ne ]
 
 never_past : (blocks : List (ℕ × ℕ)) (bit at : ℕ) → past_listed blocks ≤ at → IsMarked blocks bit at → ⊥
 never_past blocks bit at h m = omega (arith, m, ap (λ n. bit_at n bit) (listed_past blocks at h), bit_at-zero bit)
@@ -61,8 +61,8 @@ never_past blocks bit at h m = omega (arith, m, ap (λ n. bit_at n bit) (listed_
 inside : (blocks : List (ℕ × ℕ)) (bit at : ℕ) → IsMarked blocks bit at → at < past_listed blocks
 inside blocks bit at m = elim (cases_lt at (past_listed blocks)) [ inl l ↦ l | inr l ↦ absurd (never_past blocks bit at (omega (arith, l)) m) ]
 
-not_equal : (a b : ℕ) → Decided (a ≡ b → ⊥)
-not_equal a b = elim (cases_eq a b) [ inl e ↦ inr (λ ne. ne e) | inr ne ↦ inl ne ]
+decide_ne : (a b : ℕ) → Decided (a ≡ b → ⊥)
+decide_ne a b = elim (cases_eq a b) [ inl e ↦ inr (λ ne. ne e) | inr ne ↦ inl ne ]
 
 module _ (blocks : List (ℕ × ℕ)) (bit : ℕ) where
   abbrev Once : Type 0
@@ -71,16 +71,16 @@ module _ (blocks : List (ℕ × ℕ)) (bit : ℕ) where
   abbrev MarkedElsewhere : ℕ → ℕ → Type 0
   MarkedElsewhere at other = IsMarked blocks bit other × (other ≡ at → ⊥)
 
-  once_of : (at : ℕ) → IsMarked blocks bit at → FoundBelow (MarkedElsewhere at) (λ other. both (IsMarked blocks bit other) (other ≡ at → ⊥) (marked blocks bit other) (not_equal other at)) (past_listed blocks) → Decided Once
+  once_of : (at : ℕ) → IsMarked blocks bit at → FoundBelow (MarkedElsewhere at) (λ other. decide_both (IsMarked blocks bit other) (other ≡ at → ⊥) (decide_marked blocks bit other) (decide_ne other at)) (past_listed blocks) → Decided Once
   once_of at m (inl f) = inr (λ h. f.2.1 (h.1.1 f.0 f.2.0 ∙ sym (h.1.1 at m)))
   once_of at m (inr none) = inl (at, (m, λ other o. elim (cases_eq other at) [ inl e ↦ e | inr ne ↦ absurd (none other (inside blocks bit other o) (o, ne)) ]))
 
-  once_from : FoundBelow (IsMarked blocks bit) (marked blocks bit) (past_listed blocks) → Decided Once
-  once_from (inl f) = once_of f.0 f.2 (search_below (MarkedElsewhere f.0) (λ other. both (IsMarked blocks bit other) (other ≡ f.0 → ⊥) (marked blocks bit other) (not_equal other f.0)) (past_listed blocks))
+  once_from : FoundBelow (IsMarked blocks bit) (decide_marked blocks bit) (past_listed blocks) → Decided Once
+  once_from (inl f) = once_of f.0 f.2 (search_below (MarkedElsewhere f.0) (λ other. decide_both (IsMarked blocks bit other) (other ≡ f.0 → ⊥) (decide_marked blocks bit other) (decide_ne other f.0)) (past_listed blocks))
   once_from (inr none) = inr (λ h. none h.0 (inside blocks bit h.0 h.1.0) h.1.0)
 
-  once : Decided Once
-  once = once_from (search_below (IsMarked blocks bit) (marked blocks bit) (past_listed blocks))
+  decide_once : Decided Once
+  decide_once = once_from (search_below (IsMarked blocks bit) (decide_marked blocks bit) (past_listed blocks))
 
 -- ---- the variables
 
@@ -88,13 +88,13 @@ module _ (v k : ℕ) (blocks : List (ℕ × ℕ)) where
   variable_from : Decided (Once blocks (opening_bit v k)) → Decided (Once blocks (closing_bit v k)) → Decided (IsOpenedAndClosed v k blocks)
   variable_from (inr refuted) d = inr (λ h. refuted (h.start, h.opened))
   variable_from (inl o) (inr refuted) = inr (λ h. refuted (h.end, h.closed))
-  variable_from (inl o) (inl c) = elim (at_most o.0 c.0) [
+  variable_from (inl o) (inl c) = elim (decide_le o.0 c.0) [
     | inl le ↦ inl (record { start = o.0; end = c.0; opened = o.1; closed = c.1; ordered = le })
     | inr refuted ↦ inr (λ h. refuted (omega (arith, h.ordered, o.1.1 h.start h.opened.0, c.1.1 h.end h.closed.0)))
   ]
 
-  variable : Decided (IsOpenedAndClosed v k blocks)
-  variable = variable_from (once blocks (opening_bit v k)) (once blocks (closing_bit v k))
+  decide_variable : Decided (IsOpenedAndClosed v k blocks)
+  decide_variable = variable_from (decide_once blocks (opening_bit v k)) (decide_once blocks (closing_bit v k))
 
 -- ---- the bits of no variable
 
@@ -106,21 +106,21 @@ module _ (v : ℕ) (blocks : List (ℕ × ℕ)) where
   abbrev IsForeign : ℕ → ℕ → Type 0
   IsForeign at bit = (2 * v ≤ bit) × IsMarked blocks bit at
 
-  foreign : (at bit : ℕ) → Decided (IsForeign at bit)
-  foreign at bit = both (2 * v ≤ bit) (IsMarked blocks bit at) (at_most (2 * v) bit) (marked blocks bit at)
+  decide_foreign : (at bit : ℕ) → Decided (IsForeign at bit)
+  decide_foreign at bit = decide_both (2 * v ≤ bit) (IsMarked blocks bit at) (decide_le (2 * v) bit) (decide_marked blocks bit at)
 
   abbrev HasForeign : ℕ → Type 0
   HasForeign at = (bit : ℕ) × IsForeign at bit
 
-  foreign_from : (at : ℕ) → FoundBelow (IsForeign at) (foreign at) (listed blocks at) → Decided (HasForeign at)
+  foreign_from : (at : ℕ) → FoundBelow (IsForeign at) (decide_foreign at) (listed blocks at) → Decided (HasForeign at)
   foreign_from at (inl f) = inl (f.0, f.2)
   foreign_from at (inr none) = inr (λ h. elim (cases_lt h.0 (listed blocks at)) [
     | inl l ↦ none h.0 l h.1
     | inr l ↦ omega (arith, h.1.1, bit_at_above (listed blocks at) h.0 h.0 (omega (arith, l, below_pow h.0)) (omega arith))
   ])
 
-  has_foreign : (at : ℕ) → Decided (HasForeign at)
-  has_foreign at = foreign_from at (search_below (IsForeign at) (foreign at) (listed blocks at))
+  decide_has_foreign : (at : ℕ) → Decided (HasForeign at)
+  decide_has_foreign at = foreign_from at (search_below (IsForeign at) (decide_foreign at) (listed blocks at))
 
 -- ---- blocks without a fault are those of a row
 
@@ -138,25 +138,25 @@ bit_of blocks bit place at m = elim (cases_eq place at) [
 ]
 
 module _ (v : ℕ) (blocks : List (ℕ × ℕ)) where
-  abbrev place_of : {k : ℕ} → Decided (IsOpenedAndClosed v k blocks) → Option Span
-  place_of (inl c) = Some (span_of c)
-  place_of (inr refuted) = None
+  abbrev span_if : {k : ℕ} → Decided (IsOpenedAndClosed v k blocks) → Option Span
+  span_if (inl c) = Some (span_of c)
+  span_if (inr refuted) = None
 
   abbrev made_row : List (Option Span)
-  made_row = map (λ k. place_of (variable v k blocks)) (range_with_len 0 v)
+  made_row = map (λ k. span_if (decide_variable v k blocks)) (range_with_len 0 v)
 
   module _ (each : (k : ℕ) → k < v → IsOpenedAndClosed v k blocks) (none : (bit at : ℕ) → 2 * v ≤ bit → IsMarked blocks bit at → ⊥) where
     made_length : length made_row ≡ v
-    made_length = length-map-range_with_len (λ k. place_of (variable v k blocks)) 0 v
+    made_length = length-map-range_with_len (λ k. span_if (decide_variable v k blocks)) 0 v
 
-    placed : (k : ℕ) (d : Decided (IsOpenedAndClosed v k blocks)) → IsOpenedAndClosed v k blocks → (c : IsOpenedAndClosed v k blocks) × (place_of d ≡ Some (span_of c))
+    placed : (k : ℕ) (d : Decided (IsOpenedAndClosed v k blocks)) → IsOpenedAndClosed v k blocks → (c : IsOpenedAndClosed v k blocks) × (span_if d ≡ Some (span_of c))
     placed k (inl c) h = (c, refl)
     placed k (inr refuted) h = absurd (refuted h)
 
     made_at : (k : ℕ) (d : Option Span) → k < v → (c : IsOpenedAndClosed v k blocks) × (get_or made_row k d ≡ Some (span_of c))
     made_at k d l =
-        let is : get_or made_row k d ≡ place_of (variable v k blocks) = get_or-map-range_with_len (λ k. place_of (variable v k blocks)) 0 v k k d l (omega arith) in
-        let c = placed k (variable v k blocks) (each k l) in
+        let is : get_or made_row k d ≡ span_if (decide_variable v k blocks) = get_or-map-range_with_len (λ k. span_if (decide_variable v k blocks)) 0 v k k d l (omega arith) in
+        let c = placed k (decide_variable v k blocks) (each k l) in
         (c.0, is ∙ c.1)
 
     opening_made : (k at : ℕ) → k < v → bit_at (block made_row at) (opening_bit v k) ≡ bit_at (listed blocks at) (opening_bit v k)
@@ -200,20 +200,20 @@ module _ (v : ℕ) (blocks : List (ℕ × ℕ)) where
   abbrev Unopened : ℕ → Type 0
   Unopened k = IsOpenedAndClosed v k blocks → ⊥
 
-  unopened : (k : ℕ) → Decided (Unopened k)
-  unopened k = negated (IsOpenedAndClosed v k blocks) (variable v k blocks)
+  decide_unopened : (k : ℕ) → Decided (Unopened k)
+  decide_unopened k = decide_not (IsOpenedAndClosed v k blocks) (decide_variable v k blocks)
 
-  fault_in_bits : NoRow → ((k : ℕ) → k < v → Unopened k → ⊥) → FoundBelow (HasForeign v blocks) (has_foreign v blocks) (past_listed blocks) → HaveFault v blocks
+  fault_in_bits : NoRow → ((k : ℕ) → k < v → Unopened k → ⊥) → FoundBelow (HasForeign v blocks) (decide_has_foreign v blocks) (past_listed blocks) → HaveFault v blocks
   fault_in_bits refuse each (inl f) = inr (f.2.0, f.0, f.2.1.0, f.2.1.1)
   fault_in_bits refuse each (inr none) =
-      absurd (refuse (made_row v blocks) (made_is v blocks (λ k l. opened_and_closed k (variable v k blocks) (each k l)) (λ bit at le m. none at (inside blocks bit at m) (bit, (le, m)))))
+      absurd (refuse (made_row v blocks) (made_is v blocks (λ k l. opened_and_closed k (decide_variable v k blocks) (each k l)) (λ bit at le m. none at (inside blocks bit at m) (bit, (le, m)))))
 
-  fault_from : NoRow → FoundBelow Unopened unopened v → HaveFault v blocks
+  fault_from : NoRow → FoundBelow Unopened decide_unopened v → HaveFault v blocks
   fault_from refuse (inl f) = inl (f.0, f.1, f.2)
-  fault_from refuse (inr each) = fault_in_bits refuse each (search_below (HasForeign v blocks) (has_foreign v blocks) (past_listed blocks))
+  fault_from refuse (inr each) = fault_in_bits refuse each (search_below (HasForeign v blocks) (decide_has_foreign v blocks) (past_listed blocks))
 
   pub fault_found : NoRow → HaveFault v blocks
-  fault_found refuse = fault_from refuse (search_below Unopened unopened v)
+  fault_found refuse = fault_from refuse (search_below Unopened decide_unopened v)
 
   -- each variable of a row is opened and closed
   row_opened_and_closed : (row : List (Option Span)) → IsRowOfBlocks v blocks row → (k : ℕ) → k < v → IsOpenedAndClosed v k blocks

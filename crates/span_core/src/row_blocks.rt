@@ -73,3 +73,22 @@ pub fn blocks_tell_rows()
 pub fn faults_tell_no_row()
     ensures { FaultsTellNoRow }
 {}
+
+#[cfg(test)]
+mod tests {
+    use super::*;
+
+    /// `x=0-2 y=2-2`: at 2 both end, and y starts too.
+    #[test]
+    fn reads_a_row_back(rt: HostRuntime) {
+        let at_two = Marks::closing(0, 2)
+            .with(Marks::opening(1, 2))
+            .with(Marks::closing(1, 2));
+        assert_eq!(rt; at_two.number(), 7);
+        let mut row = Row::empty();
+        row.push(Span::new(0, 2));
+        row.push(Span::new(2, 2));
+        let blocks = [(0, Marks::opening(0, 2)), (2, at_two)];
+        assert_eq!(rt; Row::of_blocks(2, &blocks), Some(row));
+    }
+}

@@ -1,5 +1,5 @@
 -- Fits, made step by step.
-use Rattle.std.proofs.Common.{◌≡◌, ℕ, zero, suc, ◌+◌, ◌<◌, ◌≤◌, ◌||◌, Bool, true, false, List, [], ◌∷◌, ◌++◌, length, get_or, Option, Some, None, IsTrue, inl, inr, refl, sym, ap, ◌∙◌, subst, arith}
+use Rattle.std.proofs.Common.{◌≡◌, ℕ, suc, ◌+◌, ◌≤◌, ◌||◌, Bool, true, false, List, [], ◌∷◌, ◌++◌, length, get_or, Some, None, IsTrue, inl, inr, refl, sym, ap, ◌∙◌, arith}
 use Rattle.std.specs.Prelude.{slice_get}
 use Rattle.std.specs.Ordering.{nat_cmp, eq_by_cmp, is_eq}
 use Rattle.std.specs.Cmp.{nat_cmp_total}
@@ -8,9 +8,9 @@ use Rattle.std.specs.FinSet.{FinSet, contains-insert, contains-empty}
 use Rattle.std.proofs.lemmas.Cmp.{tied_itself}
 use Rattle.span_core.specs.declared.span.Span.{Span}
 use Rattle.spanner_model.specs.Tree.{Tree, one, cat, cat_end, rep, cap}
-use Rattle.spanner_model.specs.Captures.{VarName, Captures, Captured, AreApart, Mapping, span_of, row_of}
+use Rattle.spanner_model.specs.Captures.{VarName, Captures, Captured, AreApart, span_of, row_of}
 use Rattle.spanner_model.specs.Fit.{Piece, Times, Fit}
-use Rattle.spanner_model.specs.Answers.{SpanRow, IsAnswerRow}
+use Rattle.spanner_model.specs.Answers.{IsAnswerRow}
 use Rattle.spanner_model.specs.Examples.{byte, span, free, query, x, y}
 use Rattle.spanner_model.specs.Answer.{IsRestriction}
 use Rattle.spanner_model.proofs.AnswerLaws.{span_of-absent}

@@ -1,15 +1,13 @@
 -- The variables of expressions.
-use Rattle.std.proofs.Common.{◌≡◌, ℕ, zero, suc, ◌+◌, ◌<◌, ◌≤◌, ◌⊎◌, ◌↔◌, Bool, true, false, List, [], ◌∷◌, ◌++◌, length, length-append, Option, Some, None, inl, inr, refl, sym, ap, ◌∙◌, subst, arith, add-one}
+use Rattle.std.proofs.Common.{◌≡◌, ℕ, zero, suc, ◌+◌, ◌<◌, ◌≤◌, ◌⊎◌, ◌↔◌, Bool, true, false, List, [], ◌∷◌, ◌++◌, length, length-append, Option, Some, None, inl, inr, refl, sym, ap, ◌∙◌, subst, arith}
 use Rattle.std.specs.Prelude.{slice_get, nat_eq, MatchBool, if◌then◌else◌}
 use Rattle.std.specs.Option.{IsSomeAnd, ForSome}
 use Rattle.std.proofs.lemmas.Bool.Decides.{nat_tests}
-use Rattle.span_core.specs.declared.TheConstants.{MOST_VARIABLES}
-use Rattle.spanner_model.specs.Lists.{Has, AtMost}
+use Rattle.spanner_model.specs.Lists.{Has}
 use Rattle.spanner_model.specs.Captures.{VarName}
-use Rattle.spanner_model.specs.Functional.{HasVar}
 use Rattle.spanner_model.specs.Expression.{ExprTree, QueryTree, atom, named, union_end, union, join_end, join, project, union_all, join_all}
 use Rattle.spanner_model.specs.Answer.{VarOf, vars_of_lets, IsResultVar}
-use Rattle.spanner_model.specs.Sound.{IsFreeName, AgreesWithParts, IsSoundExpr, AreUnited, AreJoined, IsSoundUnder, NameIn, NameInLets, NameOf, IsSound}
+use Rattle.spanner_model.specs.Sound.{AgreesWithParts, IsSoundExpr, AreUnited, AreJoined, IsSoundUnder, NameIn, NameInLets, NameOf, IsSound}
 use Rattle.spanner_model.specs.Gathered.{vars_in, HaveRoom}
 use Rattle.spanner_model.proofs.Nodes.{expr_nodes}
 

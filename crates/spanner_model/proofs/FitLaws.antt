@@ -57,7 +57,7 @@ fit_only_vars (cap y f) d i j m h x a =
     ]
 
 -- of arms that agree each has a variable that some has
-first_has : (f rest : Tree) (x : VarName) → AgreesWithArms f rest → HasVar f x ⊎ HasVar rest x → HasVar f x
+pub first_has : (f rest : Tree) (x : VarName) → AgreesWithArms f rest → HasVar f x ⊎ HasVar rest x → HasVar f x
 first_has f rest x agree (inl a) = a
 first_has f empty x agree (inr b) = absurd b
 first_has f (one set) x agree (inr b) = absurd b

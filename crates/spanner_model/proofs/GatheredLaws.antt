@@ -1,16 +1,16 @@
 -- Names added in turn.
-use Rattle.std.proofs.Common.{◌≡◌, ℕ, suc, ◌+◌, ◌<◌, ◌≤◌, ◌⊎◌, ◌↔◌, Bool, true, false, List, [], ◌∷◌, ◌++◌, length, take, Some, Contains, inl, inr, refl, sym, subst, arith, IsTrue}
+use Rattle.std.proofs.Common.{◌≡◌, ℕ, ◌+◌, ◌<◌, ◌≤◌, ◌⊎◌, ◌↔◌, Bool, true, false, List, [], ◌∷◌, ◌++◌, length, take, Some, Contains, inl, inr, refl, sym, subst, arith, IsTrue}
 use Rattle.std.specs.Bool.{OnTrue, OnFalse}
 use Rattle.span_core.specs.declared.TheConstants.{MOST_VARIABLES}
 use Rattle.span_core.specs.NameSets.{Ascending, with_name}
 use Rattle.spanner_model.specs.Captures.{VarName}
 use Rattle.std.specs.Prelude.{slice_get}
 use Rattle.spanner_model.specs.Lists.{Has}
-use Rattle.spanner_model.specs.Tree.{Tree, cat_all}
+use Rattle.spanner_model.specs.Tree.{cat_all}
 use Rattle.spanner_model.specs.Functional.{HasVar}
 use Rattle.spanner_model.specs.Expression.{join_all}
 use Rattle.spanner_model.specs.Answer.{VarOf}
-use Rattle.spanner_model.specs.Gathered.{Adds, AddsSome, HaveRoom, Gathered}
+use Rattle.spanner_model.specs.Gathered.{Adds, HaveRoom, Gathered}
 use Rattle.spanner_model.proofs.HasLaws.{distinct-le, Contains-Has, Has-slice_get, Has-take, Has-append_left, Has-append_right, Has-append_cases}
 use Rattle.spanner_model.proofs.TreeLaws.{take_at_more, parts_have, part_has}
 use Rattle.spanner_model.proofs.ExprLaws.{LetVars, join_part_var, join_var_part}

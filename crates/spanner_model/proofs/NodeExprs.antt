@@ -5,7 +5,7 @@ use Rattle.std.specs.Option.{IsSomeAnd}
 use Rattle.std.proofs.lemmas.Option.{slice_get-get_or}
 use Rattle.spanner_model.specs.Lists.{Has}
 use Rattle.spanner_model.specs.Captures.{VarName}
-use Rattle.spanner_model.specs.Expression.{ExprTree, named, union_all, join_all}
+use Rattle.spanner_model.specs.Expression.{ExprTree, union_all, join_all}
 use Rattle.spanner_model.specs.ExprView.{expr_of, exprs_of}
 use Rattle.spanner_model.specs.Answer.{VarOf}
 use Rattle.spanner_model.specs.Sound.{IsSoundExpr}

@@ -1,9 +1,9 @@
 -- Unions and joins of any number of parts.
-use Rattle.std.proofs.Common.{◌≡◌, ℕ, ◌⊎◌, ◌↔◌, List, [], ◌∷◌, None, inl, inr, refl, sym, ◌∙◌, subst}
+use Rattle.std.proofs.Common.{◌≡◌, ℕ, List, [], ◌∷◌, None, inl, inr, refl, sym, ◌∙◌, subst}
 use Rattle.spanner_model.specs.Lists.{Has}
 use Rattle.spanner_model.specs.Captures.{VarName, Mapping}
 use Rattle.spanner_model.specs.Expression.{ExprTree, union_all, join_all}
-use Rattle.spanner_model.specs.Answer.{VarOf, IsRestriction, Answer, vars_of_lets, answers_of_lets}
+use Rattle.spanner_model.specs.Answer.{VarOf, IsRestriction, Answer, vars_of_lets}
 use Rattle.spanner_model.proofs.Deciding.{Told, told_of, told_lets}
 use Rattle.spanner_model.proofs.ExprLaws.{join_part_var}
 

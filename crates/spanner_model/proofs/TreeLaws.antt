@@ -1,14 +1,12 @@
 -- The parts of concatenations and alternations.
 use Rattle.std.proofs.Common.{◌≡◌, ℕ, suc, ◌+◌, ◌<◌, ◌≤◌, ◌⊎◌, ◌↔◌, List, [], ◌∷◌, ◌++◌, length, get_or, take, drop, Some, inl, inr, refl, sym, ap, ◌∙◌, subst, arith, add-one, drop-cons}
 use Rattle.std.specs.Prelude.{slice_get}
-use Rattle.std.specs.List.{AllByRecursion}
 use Rattle.std.proofs.lemmas.List.{take_more}
-use Rattle.std.proofs.lemmas.Option.{slice_get_within, slice_get-get_or, get_or_from_slice_get}
+use Rattle.std.proofs.lemmas.Option.{slice_get_within, get_or_from_slice_get}
 use Rattle.spanner_model.specs.Lists.{Has}
-use Rattle.spanner_model.specs.Tree.{Tree, cat, alt, cat_end, alt_end, cat_all, alt_all}
+use Rattle.spanner_model.specs.Tree.{Tree, cat_all, alt_all}
 use Rattle.spanner_model.specs.Captures.{VarName}
 use Rattle.spanner_model.specs.Functional.{HasVar}
-use Rattle.spanner_model.specs.declared.TheConstants.{MOST_NESTED_FORMULAS}
 use Rattle.spanner_model.specs.WellBuilt.{IsBuilt, AreParts, AreArms, nesting, IsWellBuilt}
 use Rattle.spanner_model.proofs.Nodes.{nodes}
 

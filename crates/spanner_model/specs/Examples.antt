@@ -1,6 +1,5 @@
 -- The meaning on small documents.
-use Rattle.std.specs.Prelude.{ℕ, ◌+◌, Bool, true, false, List, [], ◌∷◌, Option, Some, None, codes}
-use Rattle.std.specs.Ordering.{nat_cmp}
+use Rattle.std.specs.Prelude.{ℕ, ◌+◌, true, false, [], ◌∷◌, Some, None, codes}
 use Rattle.std.specs.FinSet as set
 use Rattle.std.proofs.Math.Nat.{le-add_right}
 use Rattle.span_core.specs.declared.span.Span.{Span}

@@ -1,5 +1,5 @@
 -- Sets of names with more names.
-use Rattle.std.specs.Prelude.{ℕ, ◌⊎◌, ◌↔◌, Bool, List, length, slice_get, MatchBool}
+use Rattle.std.specs.Prelude.{ℕ, ◌⊎◌, ◌↔◌, Bool, List, slice_get, MatchBool}
 use Rattle.std.specs.Option.{IsSomeAnd}
 use Rattle.span_core.specs.declared.TheConstants.{MOST_VARIABLES}
 use Rattle.spanner_model.specs.Lists.{Has, AtMost}

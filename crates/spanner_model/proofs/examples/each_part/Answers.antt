@@ -1,9 +1,8 @@
-use Rattle.spanner_model.proofs.ExampleLaws.{fits_one, fits_byte, fits_end, fits_cat, fits_cap, no_times, more_times, fits_rep, answers_free}
-use Rattle.std.proofs.Common.{◌≡◌, ℕ, suc, ◌+◌, ◌≤◌, List, [], ◌∷◌, length, Some, refl, inl, inr, sym, ap, ◌∙◌, subst, arith, true, false, IsTrue}
+use Rattle.spanner_model.proofs.ExampleLaws.{fits_byte, fits_cap, no_times, more_times, fits_rep, answers_free}
+use Rattle.std.proofs.Common.{◌≡◌, ℕ, suc, ◌+◌, ◌≤◌, List, [], ◌∷◌, Some, refl, arith}
 use Rattle.std.specs.Prelude.{slice_get, codes}
-use Rattle.spanner_model.specs.Tree.{Tree, cat_all, cap}
+use Rattle.spanner_model.specs.Tree.{cap}
 use Rattle.spanner_model.specs.Fit.{Fit, Times}
-use Rattle.spanner_model.specs.Captures.{Captures}
 use Rattle.spanner_model.specs.Examples.{a, star, x, span, free, query, row1}
 use Rattle.spanner_model.specs.Answers.{IsAnswerRow}
 use Rattle.spanner_model.proofs.examples.each_part.Goals as goal

@@ -1,3 +1,4 @@
+<<<<<<< HEAD
 use Rattle.std.proofs.Common.{◌≡◌, ◌≢◌, ℕ, suc, ◌+◌, ◌≤◌, ◌&&◌, Bool, not, true, false, List, [], ◌∷◌, ◌++◌, length, Some, None, refl, inl, inr, sym, ap, ◌∙◌, subst, arith, IsTrue}
 use Rattle.std.specs.Prelude.{slice_get, codes}
 use Rattle.std.specs.Ordering.{nat_cmp}
@@ -7,19 +8,18 @@ use Rattle.std.specs.FinSet.{contains-difference}
 use Rattle.span_core.specs.declared.span.Span.{Span}
 use Rattle.span_core.specs.ByteSets.{bytes_between}
 use Rattle.span_core.specs.ByteWordLaws.{contains-bytes_between}
+=======
+use Rattle.std.proofs.Common.{◌≡◌, [], ◌∷◌, Some, inl, inr, sym, ap, ◌∙◌, subst, arith}
+>>>>>>> 6063707142e60cac5327b4118f3297644b99550b
 use Rattle.span_core.specs.OrderLaws.{span_eq}
-use Rattle.spanner_model.specs.Lists.{Has}
-use Rattle.spanner_model.specs.Tree.{Tree, one, cat, cat_end, cat_all, alt_all, cap, rep}
-use Rattle.spanner_model.specs.Captures.{VarName, Captures, Captured, Mapping, span_of, row_of}
-use Rattle.spanner_model.specs.Functional.{HasVar}
-use Rattle.spanner_model.specs.Fit.{Fit, Times}
-use Rattle.spanner_model.specs.Expression.{ExprTree, QueryTree, atom, project, join, join_end, join_all}
-use Rattle.spanner_model.specs.Answer.{IsAnswer, IsRestriction, FitsSomewhere}
-use Rattle.spanner_model.specs.Answers.{SpanRow, IsAnswerRow, AreAnswers}
-use Rattle.spanner_model.specs.Examples.{a, b, c, byte, dot, star, plus, x, y, span, free, query, row1, row2}
-use Rattle.spanner_model.proofs.AnswerLaws.{span_of-absent}
+use Rattle.spanner_model.specs.Tree.{cap}
+use Rattle.spanner_model.specs.Captures.{Captures, span_of}
+use Rattle.spanner_model.specs.Fit.{Fit}
+use Rattle.spanner_model.specs.Expression.{QueryTree}
+use Rattle.spanner_model.specs.Answers.{SpanRow, IsAnswerRow}
+use Rattle.spanner_model.specs.Examples.{a, star, x, span, free, query, row1}
 use Rattle.spanner_model.proofs.FitLaws.{fit_le}
-use Rattle.spanner_model.proofs.ExampleLaws.{byte_has, fits_one, fits_byte, fits_end, fits_cat, fits_cap, no_times, more_times, fits_rep, answers_free, restricts_itself, apart_none, none_apart, x_not_y, apart_xy, x_alone}
+use Rattle.spanner_model.proofs.ExampleLaws.{fits_cap, no_times, fits_rep, answers_free}
 use Rattle.spanner_model.proofs.examples.empty_document.Goals as goal
 
 abbrev q : QueryTree

@@ -1,3 +1,4 @@
+<<<<<<< HEAD
 use Rattle.std.proofs.Common.{◌≡◌, ◌≢◌, ℕ, suc, ◌+◌, ◌≤◌, ◌&&◌, Bool, not, true, false, List, [], ◌∷◌, ◌++◌, length, Some, None, refl, inl, inr, sym, ap, ◌∙◌, subst, arith, IsTrue}
 use Rattle.std.specs.Prelude.{slice_get, codes}
 use Rattle.std.specs.Ordering.{nat_cmp}
@@ -20,6 +21,13 @@ use Rattle.spanner_model.specs.Examples.{a, b, c, byte, dot, star, plus, x, y, s
 use Rattle.spanner_model.proofs.AnswerLaws.{span_of-absent}
 use Rattle.spanner_model.proofs.FitLaws.{fit_le}
 use Rattle.spanner_model.proofs.ExampleLaws.{byte_has, fits_one, fits_byte, fits_end, fits_cat, fits_cap, no_times, more_times, fits_rep, answers_free, restricts_itself, apart_none, none_apart, x_not_y, apart_xy, x_alone}
+=======
+use Rattle.std.proofs.Common.{ℕ, List, [], ◌∷◌, None, refl, arith}
+use Rattle.std.specs.Prelude.{codes}
+use Rattle.spanner_model.specs.Captures.{Captures, span_of}
+use Rattle.spanner_model.specs.Examples.{a, x, span}
+use Rattle.spanner_model.proofs.ExampleLaws.{fits_byte, fits_cap}
+>>>>>>> 6063707142e60cac5327b4118f3297644b99550b
 use Rattle.spanner_model.proofs.examples.projected_to_none.Goals as goal
 
 abbrev d : List ℕ

@@ -1,8 +1,5 @@
-use Rattle.std.proofs.Common.{◌≡◌, ℕ, ◌↔◌, length}
-use Rattle.spanner_model.specs.Captures.{VarName}
+use Rattle.std.proofs.Common.{◌≡◌, length}
 use Rattle.spanner_model.specs.ExprView.{query_of}
-use Rattle.spanner_model.specs.Answer.{vars_of_lets}
-use Rattle.spanner_model.specs.Gathered.{vars_in}
 use Rattle.spanner_model.proofs.ExprLaws.{Knows}
 use Rattle.spanner_model.proofs.gathering.variables.Given as goal
 

@@ -1,0 +1,6 @@
+use Rattle.spanner_model.specs.View.{tree_of}
+use Rattle.functional_check.proofs.PartFaults.{checked_tells}
+use Rattle.functional_check.proofs.checking.check.Goals as goal
+
+pub returns-clause-functional : goal.returns-clause-functional
+returns-clause-functional c = checked_tells (tree_of c.args.formula.now) c.check_formula.result c.check_formula.ensures

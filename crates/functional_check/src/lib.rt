@@ -1,0 +1,8 @@
+//! Which formulas are functional.
+#![tactic(auto)]
+
+pub use checking::{CheckFault, check};
+
+mod checking;
+pub mod laws;
+mod names;

@@ -1,0 +1,6 @@
+pub mod Faults
+pub mod Shelf
+pub mod Sink
+pub mod MemoryShelf
+pub mod MemorySink
+pub mod Status

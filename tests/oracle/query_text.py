@@ -1,0 +1,517 @@
+"""What the text of a query says: its tree, or the one fault that is told.
+
+The first half of the reference: trees, the reader of formulas, the reader of queries, and the rules
+that a tree must keep. Each section states its rules in words and then says them once more in Python.
+"""
+import re
+from typing import NamedTuple
+
+MOST_VARIABLES = 16
+MOST_OPEN = 100  # groups and captures of a formula, parentheses of a query
+LONGEST_NAME = 32
+LARGEST_REPEAT = 1000
+LONGEST_QUERY = 65536
+QUERY = 3  # the exit status of a query that is refused
+
+
+class Refusal(Exception):
+    """The run ends with this status and this note, and no row is written."""
+
+    def __init__(self, status, note):
+        super().__init__(note)
+        self.status = status
+        self.note = note
+
+
+def fault(what, at=None):
+    """The query is refused, mostly at a byte offset of the whole text."""
+    return Refusal(QUERY, 'query: ' + what + ('' if at is None else ' at %d' % at))
+
+
+# --- Trees ---------------------------------------------------------------------------------------
+#
+# A formula is the empty string, one byte of a set, a concatenation, an alternation, a repeat with a
+# least and perhaps a greatest number of times, or a capture. An expression is an atom, the name of
+# a `let`, a union, a join or a projection.
+
+class Empty(NamedTuple):
+    pass
+
+
+class One(NamedTuple):
+    bytes: frozenset
+
+
+class Cat(NamedTuple):
+    parts: tuple
+
+
+class Alt(NamedTuple):
+    parts: tuple
+
+
+class Rep(NamedTuple):
+    part: object
+    least: int
+    most: object  # None: without end
+
+
+class Cap(NamedTuple):
+    name: str
+    part: object
+
+
+class Atom(NamedTuple):
+    from_start: bool
+    to_end: bool
+    formula: object
+
+
+class Named(NamedTuple):
+    place: int
+
+
+class Union(NamedTuple):
+    parts: tuple
+
+
+class Join(NamedTuple):
+    parts: tuple
+
+
+class Project(NamedTuple):
+    keep: frozenset
+    part: object
+
+
+class Query(NamedTuple):
+    lets: tuple  # pairs of a name and an expression
+    body: object
+
+
+# --- Reading an atom -----------------------------------------------------------------------------
+#
+#   atom   = "/" ["^"] alt ["$"] "/"
+#   alt    = seq { "|" seq }
+#   seq    = { piece }
+#   piece  = unit [ repeat ]
+#   unit   = "(" alt ")" | "!" name "{" alt "}" | "." | class | escape | literal
+#   repeat = "*" | "+" | "?" | "{" num "}" | "{" num "," "}" | "{" num "," num "}"
+#   class  = "[" ["^"] item { item } "]"
+#   item   = elem [ "-" elem ]
+#
+# The text is read from left to right, and the first place that allows no reading decides the fault.
+# What is not closed is told at its opener: the slash, the parenthesis, the `!` or the bracket.
+
+DIGITS = frozenset(b'0123456789')
+WORD_BYTES = DIGITS | frozenset(b'ABCDEFGHIJKLMNOPQRSTUVWXYZ_abcdefghijklmnopqrstuvwxyz')
+SPACES = frozenset(b'\t\n\x0b\x0c\r ')
+ANY_BYTE = frozenset(range(256))
+ESCAPED = {ord('d'): DIGITS, ord('w'): WORD_BYTES, ord('s'): SPACES,
+           ord('n'): frozenset(b'\n'), ord('t'): frozenset(b'\t'), ord('r'): frozenset(b'\r')}
+PUNCTUATION = frozenset(range(0x21, 0x30)) | frozenset(range(0x3a, 0x41)) \
+    | frozenset(range(0x5b, 0x61)) | frozenset(range(0x7b, 0x7f))
+HEX = frozenset(b'0123456789ABCDEFabcdef')
+REPEAT = re.compile(rb'\{([0-9]{1,4})(?:(,)([0-9]{1,4})?)?\}')
+NAME = re.compile(rb'[A-Za-z_][A-Za-z0-9_]*')
+KEYWORDS = ('let', 'union', 'join', 'project', 'none')
+
+
+def cat_of(parts):
+    return Empty() if not parts else parts[0] if len(parts) == 1 else Cat(tuple(parts))
+
+
+def alt_of(parts):
+    return parts[0] if len(parts) == 1 else Alt(tuple(parts))
+
+
+class AtomReader:
+    """Reads the atom whose slash stands at `start`."""
+
+    def __init__(self, text, start):
+        self.text = text
+        self.start = start
+        self.at = start + 1
+        self.openers = [start]  # of the slash, and of the groups and captures that are open
+        self.tied = False  # a `$` has been read as an anchor
+
+    def byte(self, ahead=0):
+        """The byte that is so far ahead, or None at the text's end."""
+        at = self.at + ahead
+        return self.text[at] if at < len(self.text) else None
+
+    def read(self):
+        from_start = self.byte() == ord('^')
+        if from_start:
+            self.at += 1
+        formula = self.alt(ord('/'))
+        return Atom(from_start, self.tied, formula), self.at
+
+    def alt(self, closing):
+        """Reads up to the byte that closes the innermost opener, and past it."""
+        arms = []
+        parts = []
+        last = 'start'  # what was read last in this seq: its start, a unit, a repeat
+        while True:
+            at = self.at
+            byte = self.byte()
+            if byte is None:
+                raise fault('not closed', self.openers[-1])
+            if byte == closing:
+                self.at += 1
+                arms.append(cat_of(parts))
+                return alt_of(arms)
+            if byte == ord('/'):
+                raise fault('not closed', self.openers[-1])
+            if byte in b')}':
+                if closing == ord('/'):
+                    raise fault('unexpected', at)
+                raise fault('not closed', self.openers[-1])
+            if byte == ord('|'):
+                self.at += 1
+                arms.append(cat_of(parts))
+                parts, last = [], 'start'
+            elif byte in b'*+?{':
+                if last == 'start':
+                    raise fault('unexpected', at)
+                if last == 'repeat':
+                    raise fault('repeat after repeat', at)
+                parts[-1] = Rep(parts[-1], *self.repeat())
+                last = 'repeat'
+            elif byte == ord('$') and closing == ord('/') and self.byte(1) == closing:
+                self.at += 1
+                self.tied = True
+            else:
+                parts.append(self.unit(byte))
+                last = 'unit'
+
+    def repeat(self):
+        sign = self.byte()
+        if sign != ord('{'):
+            self.at += 1
+            return {'*': (0, None), '+': (1, None), '?': (0, 1)}[chr(sign)]
+        found = REPEAT.match(self.text, self.at)
+        if not found:
+            raise fault('bad repeat', self.at)
+        least = int(found.group(1))
+        most = least if not found.group(2) else int(found.group(3)) if found.group(3) else None
+        if least > LARGEST_REPEAT or (most is not None and not least <= most <= LARGEST_REPEAT):
+            raise fault('bad repeat', self.at)
+        self.at = found.end()
+        return least, most
+
+    def unit(self, byte):
+        at = self.at
+        if byte in b'^$':
+            raise fault('anchor', at)
+        if byte == ord(']'):
+            raise fault('unexpected', at)
+        if byte == ord('('):
+            self.open(at)
+            self.at += 1
+            inner = self.alt(ord(')'))
+            self.openers.pop()
+            return inner
+        if byte == ord('!'):
+            name = self.capture_name()
+            if name is not None:
+                if len(name) > LONGEST_NAME:
+                    raise fault('name too long', at)
+                if name == 'none':
+                    raise fault('reserved name', at)
+                self.open(at)
+                self.at += 1 + len(name) + 1
+                inner = self.alt(ord('}'))
+                self.openers.pop()
+                return Cap(name, inner)
+        if byte == ord('['):
+            return self.bracket()
+        if byte == ord('\\'):
+            return One(self.escape())
+        self.at += 1
+        if byte == ord('.'):
+            return One(ANY_BYTE - {0x0a})
+        if byte >= 0xc0:  # a character of UTF-8 is one unit: its first byte and all that go with it
+            while self.byte() is not None and 0x80 <= self.byte() <= 0xbf:
+                self.at += 1
+        return cat_of([One(frozenset([b])) for b in self.text[at:self.at]])
+
+    def open(self, at):
+        if len(self.openers) > MOST_OPEN:  # the slash is not counted
+            raise fault('too deep', at)
+        self.openers.append(at)
+
+    def capture_name(self):
+        """The name of the capture that begins here; None where the `!` is a plain byte."""
+        found = NAME.match(self.text, self.at + 1)
+        if found and self.text[found.end():found.end() + 1] == b'{':
+            return found.group().decode()
+        return None
+
+    def escape(self):
+        """The bytes of the escape that begins here."""
+        letter = self.byte(1)
+        if letter in ESCAPED:
+            self.at += 2
+            return ESCAPED[letter]
+        if letter == ord('x') and self.byte(2) in HEX and self.byte(3) in HEX:
+            self.at += 4
+            return frozenset([int(self.text[self.at - 2:self.at], 16)])
+        if letter in PUNCTUATION:
+            self.at += 2
+            return frozenset([letter])
+        raise fault('bad escape', self.at)
+
+    def bracket(self):
+        start = self.at
+        self.openers.append(start)
+        self.at += 1
+        negated = self.byte() == ord('^')
+        if negated:
+            self.at += 1
+        members = None
+        while self.byte() != ord(']') or members is None:
+            at = self.at
+            low = self.elem()
+            if self.byte() == ord('-') and self.byte(1) != ord(']'):
+                self.at += 1
+                high = self.elem()
+                if len(low) != 1 or len(high) != 1 or min(low) > min(high):
+                    raise fault('bad range', at)
+                low = frozenset(range(min(low), min(high) + 1))
+            members = low if members is None else members | low
+        self.at += 1
+        self.openers.pop()
+        if negated:
+            members = ANY_BYTE - members
+        if not members:
+            raise fault('bad range', start)
+        return One(members)
+
+    def elem(self):
+        byte = self.byte()
+        if byte is None or byte == ord('/'):
+            raise fault('not closed', self.openers[-1])
+        if byte in b'][' or byte >= 0x80:
+            raise fault('unexpected', self.at)
+        if byte == ord('\\'):
+            return self.escape()
+        self.at += 1
+        return frozenset([byte])
+
+
+# --- Reading a query -----------------------------------------------------------------------------
+#
+#   query = { "let" name "=" expr ";" } expr
+#   expr  = conj { "union" conj }
+#   conj  = unit { "join" unit }
+#   unit  = atom | name | "(" expr ")" | "project" keep "(" expr ")"
+#   keep  = "none" | name { "," name }
+#
+# Space, tab, line feed and carriage return may stand between tokens. A word is a longest run of name
+# bytes. The five words of the grammar are no names.
+
+class QueryReader:
+    def __init__(self, text):
+        self.text = text
+        self.at = 0
+        self.open = 0  # parentheses
+        self.lets = []
+        self.atoms = []
+        self.kept = []  # the names of each projection
+
+    def read(self):
+        while self.word() == 'let':
+            self.skip('let')
+            self.lets.append(self.let())
+        body = self.expr()
+        if self.at < len(self.text):
+            raise self.unexpected()
+        return Query(tuple(self.lets), body)
+
+    def let(self):
+        name = self.name()
+        if name in dict(self.lets):
+            raise fault('name twice', self.at)
+        self.skip(name)
+        self.token('=')
+        expr = self.expr()
+        self.token(';')
+        return name, expr
+
+    def expr(self):
+        parts = [self.conj()]
+        while self.word() == 'union':
+            self.skip('union')
+            parts.append(self.conj())
+        return parts[0] if len(parts) == 1 else Union(tuple(parts))
+
+    def conj(self):
+        parts = [self.unit()]
+        while self.word() == 'join':
+            self.skip('join')
+            parts.append(self.unit())
+        return parts[0] if len(parts) == 1 else Join(tuple(parts))
+
+    def unit(self):
+        self.space()
+        if self.sees('/'):
+            atom, self.at = AtomReader(self.text, self.at).read()
+            self.atoms.append(atom)
+            self.space()
+            return atom
+        if self.sees('('):
+            return self.parenthesised()
+        if self.word() == 'project':
+            self.skip('project')
+            keep = self.keep()
+            return Project(keep, self.parenthesised())
+        name = self.name()
+        for place, (known, _) in enumerate(self.lets):
+            if known == name:
+                self.skip(name)
+                return Named(place)
+        raise fault('unknown name', self.at)
+
+    def parenthesised(self):
+        self.space()
+        if not self.sees('('):
+            raise self.unexpected()
+        if self.open == MOST_OPEN:
+            raise fault('too deep', self.at)
+        self.open += 1
+        self.token('(')
+        expr = self.expr()
+        self.token(')')
+        self.open -= 1
+        return expr
+
+    def keep(self):
+        if self.word() == 'none':
+            self.skip('none')
+            return frozenset()
+        names = []
+        while True:
+            names.append(self.name())
+            self.skip(names[-1])
+            if not self.sees(','):
+                break
+            self.token(',')
+        self.kept.append(frozenset(names))
+        return frozenset(names)
+
+    # Tokens.
+
+    def space(self):
+        while self.at < len(self.text) and self.text[self.at] in b' \t\n\r':
+            self.at += 1
+
+    def sees(self, sign):
+        return self.text[self.at:self.at + 1] == sign.encode()
+
+    def token(self, sign):
+        self.space()
+        if not self.sees(sign):
+            raise self.unexpected()
+        self.skip(sign)
+
+    def skip(self, token):
+        self.at += len(token)
+        self.space()
+
+    def word(self):
+        """The word that stands here, or None."""
+        self.space()
+        found = NAME.match(self.text, self.at)
+        return found.group().decode() if found else None
+
+    def name(self):
+        """The name that must stand here."""
+        word = self.word()
+        if word is None or word in KEYWORDS:
+            raise self.unexpected()
+        if len(word) > LONGEST_NAME:
+            raise fault('name too long', self.at)
+        return word
+
+    def unexpected(self):
+        return fault('unexpected', self.at)
+
+
+# --- What a readable query may be refused for ----------------------------------------------------
+#
+# A formula is functional where the arms of each alternation have equal variables, the parts of each
+# concatenation have none in common, nothing under a repeat has a variable, and no capture stands in
+# one of its own name. The first fault counts: parts from left to right, then the formula itself.
+
+def captures(formula):
+    """All names of the formula's captures."""
+    if isinstance(formula, Cap):
+        return {formula.name} | captures(formula.part)
+    if isinstance(formula, Rep):
+        return captures(formula.part)
+    if isinstance(formula, (Cat, Alt)):
+        return set().union(*map(captures, formula.parts))
+    return set()
+
+
+def check(formula):
+    """The variables of a functional formula."""
+    if isinstance(formula, Cap):
+        inner = check(formula.part)
+        if formula.name in inner:
+            raise fault('variable %s twice' % formula.name)
+        return inner | {formula.name}
+    if isinstance(formula, Rep):
+        inner = check(formula.part)
+        if inner:
+            raise fault('variable %s under a repeat' % min(inner))
+        return inner
+    if isinstance(formula, Cat):
+        parts = [check(part) for part in formula.parts]
+        names = sorted(name for part in parts for name in part)
+        for name, following in zip(names, names[1:]):
+            if name == following:
+                raise fault('variable %s twice' % name)
+        return set(names)
+    if isinstance(formula, Alt):
+        arms = [check(arm) for arm in formula.parts]
+        for arm in arms[1:]:
+            if arm != arms[0]:
+                raise fault('variable %s not in every arm' % min(arm ^ arms[0]))
+        return arms[0]
+    return set()
+
+
+def variables(expr, of_lets):
+    """The variables of a sound expression, given those of the lets before it."""
+    if isinstance(expr, Atom):
+        return check(expr.formula)
+    if isinstance(expr, Named):
+        return of_lets[expr.place]
+    if isinstance(expr, Project):
+        inner = variables(expr.part, of_lets)
+        if expr.keep - inner:
+            raise fault('no variable %s to keep' % min(expr.keep - inner))
+        return set(expr.keep)
+    parts = [variables(part, of_lets) for part in expr.parts]
+    if isinstance(expr, Union):
+        for part in parts[1:]:
+            if part != parts[0]:
+                raise fault('variable %s not on both sides of union' % min(part ^ parts[0]))
+    return set().union(*parts)
+
+
+def read_query(text):
+    """The tree of the text and the result's variables, or the one fault that is told."""
+    if len(text) > LONGEST_QUERY:
+        raise fault('longer than %d bytes' % LONGEST_QUERY)
+    reader = QueryReader(text)
+    query = reader.read()
+    names = set().union(*(captures(atom.formula) for atom in reader.atoms))
+    if any(len(names) > MOST_VARIABLES for names in reader.kept + [names]):
+        raise fault('more than %d variables' % MOST_VARIABLES)
+    of_lets = []
+    for _, expr in query.lets:
+        of_lets.append(variables(expr, of_lets))
+    return query, sorted(variables(query.body, of_lets))

@@ -1,0 +1,372 @@
+#!/usr/bin/env python3
+"""A small reference of rematch, by brute force and from the meaning alone.
+
+It takes the words that the program takes and gives what the program must give: the rows on standard
+output, one line of notes on standard error, and the exit status.
+
+    rematch_oracle.py (-e TEXT | -q NAME) [-n K] [-a CURSOR] [-f spans|table|json] [-t] [DOC]
+
+Nothing here is clever. A formula is tried at every place of the document, every way in which it fits
+is listed, the rows are put into a set and sorted. So it is slow, and easy to compare with the rules:
+each section states its rules in words and then says them once more in Python. It shares no code with
+the program. query_text.py beside it reads the query. Tests import `run`, which reads no file by itself.
+
+Python 3.8, standard library.
+"""
+import json
+import os
+import re
+import sys
+from typing import NamedTuple
+
+from query_text import (LONGEST_QUERY, Alt, Atom, Cat, Empty, Named, One, Project, Refusal, Rep, Union,
+                        fault, read_query)
+
+LONGEST_DOCUMENT = 1 << 28
+LARGEST_PLACE = (1 << 32) - 1
+WORDS, READ, LONG, CURSOR, WRITE = 2, 5, 6, 7, 8  # exit statuses
+
+
+# --- The meaning ---------------------------------------------------------------------------------
+#
+# A formula fits a part i-j of the document with a mapping from variables to spans. A mapping is
+# written here as a set of pairs (name, (start, end)).
+
+NO_SPANS = frozenset()
+
+
+class Meaning:
+    def __init__(self, document):
+        self.document = document
+        self.known = {}  # what fits where
+        self.of_lets = {}  # the answers of lets
+
+    def fits(self, formula, i):
+        """All pairs of an end and a mapping with which the formula fits from i on."""
+        key = id(formula), i
+        if key not in self.known:
+            self.known[key] = self.fits_anew(formula, i)
+        return self.known[key]
+
+    def fits_anew(self, formula, i):
+        if isinstance(formula, Empty):
+            return {(i, NO_SPANS)}
+        if isinstance(formula, One):
+            here = i < len(self.document) and self.document[i] in formula.bytes
+            return {(i + 1, NO_SPANS)} if here else set()
+        if isinstance(formula, Cat):
+            ways = {(i, NO_SPANS)}
+            for part in formula.parts:
+                ways = self.followed(ways, part)
+            return ways
+        if isinstance(formula, Alt):
+            return set().union(*(self.fits(arm, i) for arm in formula.parts))
+        if isinstance(formula, Rep):
+            return self.repeated(formula, i)
+        return {(j, spans | {(formula.name, (i, j))}) for j, spans in self.fits(formula.part, i)}
+
+    def followed(self, ways, part):
+        """Each way, followed by each way in which the part fits where it ends."""
+        return {(k, spans | more) for j, spans in ways for k, more in self.fits(part, j)}
+
+    def repeated(self, formula, i):
+        """What some permitted number of pieces gives."""
+        found = set()
+        ways = {(i, NO_SPANS)}
+        seen = set()  # the ways of each number of pieces, which go round in the end
+        count = 0
+        while formula.most is None or count <= formula.most:
+            if count >= formula.least:
+                found |= ways
+                if frozenset(ways) in seen:
+                    break
+                seen.add(frozenset(ways))
+            if not ways:
+                break
+            ways = self.followed(ways, formula.part)
+            count += 1
+        return found
+
+    def atom(self, atom):
+        starts = [0] if atom.from_start else range(len(self.document) + 1)
+        return {spans for i in starts for j, spans in self.fits(atom.formula, i)
+                if not atom.to_end or j == len(self.document)}
+
+    def answers(self, expr, lets):
+        """All mappings that the expression has as answers."""
+        if isinstance(expr, Atom):
+            return self.atom(expr)
+        if isinstance(expr, Named):
+            if expr not in self.of_lets:
+                self.of_lets[expr] = self.answers(lets[expr.place][1], lets)
+            return self.of_lets[expr]
+        if isinstance(expr, Project):
+            return {frozenset(pair for pair in spans if pair[0] in expr.keep)
+                    for spans in self.answers(expr.part, lets)}
+        parts = [self.answers(part, lets) for part in expr.parts]
+        if isinstance(expr, Union):
+            return set().union(*parts)
+        joined = parts[0]
+        for part in parts[1:]:
+            joined = natural_join(joined, part)
+        return joined
+
+
+def natural_join(left, right):
+    """The mappings over the variables of both whose restrictions stand on either side."""
+    if not left or not right:
+        return set()
+    shared = {name for name, _ in next(iter(left))} & {name for name, _ in next(iter(right))}
+    by_shared = {}
+    for spans in right:
+        by_shared.setdefault(frozenset(p for p in spans if p[0] in shared), []).append(spans)
+    return {spans | other for spans in left
+            for other in by_shared.get(frozenset(p for p in spans if p[0] in shared), [])}
+
+
+# --- The order of rows ---------------------------------------------------------------------------
+#
+# The variables are sorted by name; variable k of v has the opening bit 2(v-k)-1 and the closing bit
+# 2(v-k)-2. The block of a row at a position is the sum of the bits of what opens or closes there. A
+# row stands before another where, at the first position at which their blocks differ, its block is
+# the greater.
+
+def order(row):
+    """A key by which Python's tuples compare as the rows do."""
+    blocks = {}
+    for k, (start, end) in enumerate(row):
+        opening = 2 * (len(row) - k) - 1
+        blocks[start] = blocks.get(start, 0) + 2 ** opening
+        blocks[end] = blocks.get(end, 0) + 2 ** (opening - 1)
+    # Where one row has a block and the other has none, the one with the block is first: so the
+    # smaller position is first, and at one position the greater block.
+    return [(at, -block) for at, block in sorted(blocks.items())]
+
+
+def all_rows(query, names, document):
+    """The answers of the query, in order; a row lists the spans by ascending names."""
+    found = Meaning(document).answers(query.body, query.lets)
+    return sorted((tuple(dict(spans)[name] for name in names) for spans in found), key=order)
+
+
+def page(rows, after, limit):
+    """The first rows after the row `after`, and whether more remain."""
+    rest = [row for row in rows if after is None or order(after) < order(row)]
+    limit = len(rest) if limit is None else limit
+    return rest[:limit], len(rest) > limit
+
+
+# --- Texts ---------------------------------------------------------------------------------------
+
+CURSOR_PART = re.compile(r';([A-Za-z_][A-Za-z0-9_]{0,31}):(0|[1-9][0-9]*)-(0|[1-9][0-9]*)')
+
+
+def cursor_text(names, row):
+    return 'c1' + ''.join(';%s:%d-%d' % ((name,) + span) for name, span in zip(names, row))
+
+
+def read_cursor(text, names):
+    """The row of a cursor text over exactly these names."""
+    if not text.startswith('c1'):
+        raise Refusal(CURSOR, 'cursor: not a cursor')
+    found = []
+    at = 2
+    while at < len(text):
+        part = CURSOR_PART.match(text, at)
+        start, end = (int(part.group(2)), int(part.group(3))) if part else (1, 0)
+        if not start <= end <= LARGEST_PLACE:
+            raise Refusal(CURSOR, 'cursor: not a cursor')
+        found.append((part.group(1), (start, end)))
+        at = part.end()
+    if [name for name, _ in found] != names:
+        raise Refusal(CURSOR, 'cursor: other variables')
+    return tuple(span for _, span in found)
+
+
+def text_form(data):
+    """The bytes of a span in visible ASCII."""
+    short = {0x5c: '\\\\', 0x22: '\\"', 0x0a: '\\n', 0x09: '\\t', 0x0d: '\\r'}
+    return ''.join(short.get(b) or (chr(b) if 0x20 <= b <= 0x7e else '\\x%02x' % b) for b in data)
+
+
+def lines_of(names, rows, document, form, texts):
+    """The page as text."""
+    def text(span):
+        return text_form(document[span[0]:span[1]])
+
+    def cell(span):
+        return '%d-%d' % span + ('"%s"' % text(span) if texts else '')
+
+    lines = []
+    if form == 'table':
+        lines.append('\t'.join(names) or '()')
+    for row in rows:
+        if form == 'json':
+            members = {name: list(span) + ([text(span)] if texts else [])
+                       for name, span in zip(names, row)}
+            lines.append(json.dumps(members, separators=(',', ':')))
+        elif form == 'table':
+            lines.append('\t'.join(map(cell, row)) or '()')
+        else:
+            lines.append(' '.join(n + '=' + cell(s) for n, s in zip(names, row)) or '()')
+    return ''.join(line + '\n' for line in lines).encode()
+
+
+# --- The command line ----------------------------------------------------------------------------
+#
+# Five options that take one text each, one flag, and at most one document. Long options are there
+# for none of them, so every word that begins with `--` is refused, but for `--` itself, after which
+# all words are documents.
+
+OPTIONS = 'eqnaf'
+FLAGS = 't'
+NUMBER = re.compile(r'\+?[0-9]+')
+
+
+class Request(NamedTuple):
+    query: object  # the text, or None
+    query_name: object
+    limit: object
+    after: object
+    form: str
+    texts: bool
+    document: str
+
+
+def found_words(words):
+    """What the words give for each option, the flag and `DOC`; None where they are refused."""
+    found = {}
+    waiting = None  # an option whose value is the next word
+    only_documents = False
+    for word in words:
+        if not only_documents and word == '--':
+            only_documents = True
+        elif not only_documents and word.startswith('--'):
+            return None
+        elif not only_documents and word.startswith('-') and word != '-':
+            if waiting:
+                return None
+            letters = word[1:]
+            while letters and letters[0] in FLAGS:
+                if letters[0] in found:
+                    return None
+                found[letters[0]] = True
+                letters = letters[1:]
+            if letters:
+                option, value = letters[0], letters[1:]
+                if option not in OPTIONS or option in found:
+                    return None
+                if value:  # one `=` after the letter is dropped
+                    found[option] = value[1:] if value.startswith('=') else value
+                else:
+                    waiting = option
+        elif waiting and not only_documents:
+            found[waiting] = word
+            waiting = None
+        elif 'DOC' in found or waiting:
+            return None
+        else:
+            found['DOC'] = word
+    return None if waiting else found
+
+
+def read_words(words):
+    found = found_words(words)
+    if found is None or ('e' in found) == ('q' in found):
+        raise Refusal(WORDS, 'bad command line')
+    limit = found.get('n')
+    if limit is not None:
+        if not NUMBER.fullmatch(limit) or int(limit) >= 1 << 64:
+            raise Refusal(WORDS, 'bad command line')
+        limit = int(limit)
+    form = found.get('f', 'spans')
+    document = found.get('DOC', '-')
+    if form not in ('spans', 'table', 'json') or found.get('q') == document == '-':
+        raise Refusal(WORDS, 'bad command line')
+    return Request(found.get('e'), found.get('q'), limit, found.get('a'), form, 't' in found, document)
+
+
+# --- A run ---------------------------------------------------------------------------------------
+#
+# The first that applies is answered: the words; the reading of the query; its text and its checks;
+# the cursor's text; the reading of the document; the cursor's place; the rows.
+
+class TooLong(Exception):
+    """More bytes were found than may be read."""
+
+
+def page_of(words, fetch):
+    """What a run writes and notes; `fetch(name, limit)` reads, or raises OSError or TooLong."""
+    request = read_words(words)
+    if request.query is not None:
+        text = request.query.encode()
+    else:
+        try:
+            text = fetch(request.query_name, LONGEST_QUERY)
+        except OSError:
+            raise Refusal(READ, 'read failed: query')
+        except TooLong:
+            raise fault('longer than %d bytes' % LONGEST_QUERY)
+    query, names = read_query(text)
+    after = None
+    if request.after not in (None, 'start'):
+        after = read_cursor(request.after, names)
+    try:
+        document = fetch(request.document, LONGEST_DOCUMENT)
+    except OSError:
+        raise Refusal(READ, 'read failed: document')
+    except TooLong:
+        raise Refusal(LONG, 'document longer than %d bytes' % LONGEST_DOCUMENT)
+    if after is not None and any(end > len(document) for _, end in after):
+        raise Refusal(CURSOR, 'cursor: past the document')
+    rows, more = page(all_rows(query, names, document), after, request.limit)
+    note = 'end'
+    if more:
+        note = 'more ' + (cursor_text(names, rows[-1]) if rows else request.after or 'start')
+    return lines_of(names, rows, document, request.form, request.texts), note
+
+
+def run(words, fetch):
+    """The exit status, the bytes of standard output and the note's line of a run."""
+    sys.setrecursionlimit(20000)
+    try:
+        out, note = page_of(words, fetch)
+        return 0, out, note.encode() + b'\n'
+    except Refusal as refusal:
+        return refusal.status, b'', refusal.note.encode() + b'\n'
+
+
+def fetch_file(name, limit):
+    stream = sys.stdin.buffer if name == '-' else open(name, 'rb')
+    with stream:
+        data = stream.read(limit + 1)
+    if len(data) > limit:
+        raise TooLong
+    return data
+
+
+def put(number, data):
+    """Whether all bytes could be written; what is empty is not written at all."""
+    try:
+        while data:
+            data = data[os.write(number, data):]
+        return True
+    except OSError:
+        return False
+
+
+def main():
+    try:
+        words = [word.encode('utf-8', 'surrogateescape').decode('utf-8') for word in sys.argv[1:]]
+    except UnicodeDecodeError:
+        return 10
+    status, out, notes = run(words, fetch_file)
+    if not put(1, out):
+        status, notes = WRITE, b'write failed\n'
+    if not put(2, notes) and status == 0:
+        status = WRITE
+    return status
+
+
+if __name__ == '__main__':
+    os._exit(main())  # without Python's own flush of streams that may be closed
