@@ -1,16 +1,4 @@
-<<<<<<< HEAD
-use Rattle.std.proofs.Common.{◌≡◌, ◌≢◌, ℕ, suc, ◌+◌, ◌≤◌, ◌&&◌, Bool, not, true, false, List, [], ◌∷◌, ◌++◌, length, Some, None, refl, inl, inr, sym, ap, ◌∙◌, subst, arith, IsTrue}
-use Rattle.std.specs.Prelude.{slice_get, codes}
-use Rattle.std.specs.Ordering.{nat_cmp}
-use Rattle.std.specs.Cmp.{nat_cmp_total}
-use Rattle.std.specs.FinSet as set
-use Rattle.std.specs.FinSet.{contains-difference}
-use Rattle.span_core.specs.declared.span.Span.{Span}
-use Rattle.span_core.specs.ByteSets.{bytes_between}
-use Rattle.span_core.specs.ByteWordLaws.{contains-bytes_between}
-=======
 use Rattle.std.proofs.Common.{◌≡◌, [], ◌∷◌, Some, inl, inr, sym, ap, ◌∙◌, subst, arith}
->>>>>>> 6063707142e60cac5327b4118f3297644b99550b
 use Rattle.span_core.specs.OrderLaws.{span_eq}
 use Rattle.spanner_model.specs.Tree.{cap}
 use Rattle.spanner_model.specs.Captures.{Captures, span_of}

@@ -7,15 +7,8 @@ use Rattle.std.specs.FinSet.{contains-difference}
 use Rattle.span_core.specs.declared.span.Span.{Span}
 use Rattle.span_core.specs.ByteSets.{bytes_between}
 use Rattle.span_core.specs.ByteWordLaws.{contains-bytes_between}
-<<<<<<< HEAD
-use Rattle.span_core.specs.OrderLaws.{span_eq}
-use Rattle.spanner_model.specs.Lists.{Has}
-use Rattle.spanner_model.specs.Tree.{Tree, one, cat, cat_end, cat_all, alt_all, cap, rep}
-use Rattle.spanner_model.specs.Captures.{VarName, Captures, Captured, Mapping, span_of, row_of}
-=======
 use Rattle.spanner_model.specs.Tree.{Tree, one, cat, cat_end, cat_all, cap}
 use Rattle.spanner_model.specs.Captures.{Captures, span_of}
->>>>>>> 6063707142e60cac5327b4118f3297644b99550b
 use Rattle.spanner_model.specs.Functional.{HasVar}
 use Rattle.spanner_model.specs.Fit.{Fit}
 use Rattle.spanner_model.specs.Expression.{ExprTree, join_all}

@@ -1,33 +1,10 @@
 use Rattle.std.proofs.Common.{◌≡◌, ℕ, ◌+◌, ◌≤◌, List, [], ◌∷◌, Some, refl, arith}
 use Rattle.std.specs.Prelude.{slice_get, codes}
-<<<<<<< HEAD
-use Rattle.std.specs.Ordering.{nat_cmp}
-use Rattle.std.specs.Cmp.{nat_cmp_total}
-use Rattle.std.specs.FinSet as set
-use Rattle.std.specs.FinSet.{contains-difference}
-use Rattle.span_core.specs.declared.span.Span.{Span}
-use Rattle.span_core.specs.ByteSets.{bytes_between}
-use Rattle.span_core.specs.ByteWordLaws.{contains-bytes_between}
-use Rattle.span_core.specs.OrderLaws.{span_eq}
-use Rattle.spanner_model.specs.Lists.{Has}
-use Rattle.spanner_model.specs.Tree.{Tree, one, cat, cat_end, cat_all, alt_all, cap, rep}
-use Rattle.spanner_model.specs.Captures.{VarName, Captures, Captured, Mapping, span_of, row_of}
-use Rattle.spanner_model.specs.Functional.{HasVar}
-use Rattle.spanner_model.specs.Fit.{Fit, Times}
-use Rattle.spanner_model.specs.Expression.{ExprTree, QueryTree, atom, project, join, join_end, join_all}
-use Rattle.spanner_model.specs.Answer.{IsAnswer, IsRestriction, FitsSomewhere}
-use Rattle.spanner_model.specs.Answers.{SpanRow, IsAnswerRow, AreAnswers}
-use Rattle.spanner_model.specs.Examples.{a, b, c, byte, dot, star, plus, x, y, span, free, query, row1, row2}
-use Rattle.spanner_model.proofs.AnswerLaws.{span_of-absent}
-use Rattle.spanner_model.proofs.FitLaws.{fit_le}
-use Rattle.spanner_model.proofs.ExampleLaws.{byte_has, fits_one, fits_byte, fits_end, fits_cat, fits_cap, no_times, more_times, fits_rep, answers_free, restricts_itself, apart_none, none_apart, x_not_y, apart_xy, x_alone}
-=======
 use Rattle.spanner_model.specs.Tree.{Tree, cat, cat_end, cat_all, alt_all, cap}
 use Rattle.spanner_model.specs.Fit.{Fit}
 use Rattle.spanner_model.specs.Answers.{IsAnswerRow}
 use Rattle.spanner_model.specs.Examples.{a, star, x, span, free, query, row1}
 use Rattle.spanner_model.proofs.ExampleLaws.{fits_byte, fits_end, fits_cat, fits_cap, no_times, fits_rep, answers_free, apart_none, none_apart}
->>>>>>> 6063707142e60cac5327b4118f3297644b99550b
 use Rattle.spanner_model.proofs.examples.many_ways.Goals as goal
 
 abbrev d : List ℕ

@@ -1,21 +1,6 @@
 use Rattle.std.proofs.Common.{◌≡◌, ℕ, suc, ◌+◌, ◌≤◌, List, [], ◌∷◌, Some, refl, arith}
 use Rattle.std.specs.Prelude.{slice_get, codes}
-<<<<<<< HEAD
-use Rattle.std.specs.Ordering.{nat_cmp}
-use Rattle.std.specs.Cmp.{nat_cmp_total}
-use Rattle.std.specs.FinSet as set
-use Rattle.std.specs.FinSet.{contains-difference}
-use Rattle.span_core.specs.declared.span.Span.{Span}
-use Rattle.span_core.specs.ByteSets.{bytes_between}
-use Rattle.span_core.specs.ByteWordLaws.{contains-bytes_between}
-use Rattle.span_core.specs.OrderLaws.{span_eq}
-use Rattle.spanner_model.specs.Lists.{Has}
-use Rattle.spanner_model.specs.Tree.{Tree, one, cat, cat_end, cat_all, alt_all, cap, rep}
-use Rattle.spanner_model.specs.Captures.{VarName, Captures, Captured, Mapping, span_of, row_of}
-use Rattle.spanner_model.specs.Functional.{HasVar}
-=======
 use Rattle.spanner_model.specs.Tree.{cat, cat_end, cat_all, cap}
->>>>>>> 6063707142e60cac5327b4118f3297644b99550b
 use Rattle.spanner_model.specs.Fit.{Fit, Times}
 use Rattle.spanner_model.specs.Answers.{IsAnswerRow}
 use Rattle.spanner_model.specs.Examples.{a, b, plus, x, y, span, free, query, row2}

@@ -1,18 +1,5 @@
-<<<<<<< HEAD
-use Rattle.std.proofs.Common.{◌≡◌, ◌≢◌, ℕ, suc, ◌+◌, ◌≤◌, ◌&&◌, Bool, not, true, false, List, [], ◌∷◌, ◌++◌, length, Some, None, refl, inl, inr, sym, ap, ◌∙◌, subst, arith, IsTrue}
-use Rattle.std.specs.Prelude.{slice_get, codes}
-use Rattle.std.specs.Ordering.{nat_cmp}
-use Rattle.std.specs.Cmp.{nat_cmp_total}
-use Rattle.std.specs.FinSet as set
-use Rattle.std.specs.FinSet.{contains-difference}
-use Rattle.span_core.specs.declared.span.Span.{Span}
-use Rattle.span_core.specs.ByteSets.{bytes_between}
-use Rattle.span_core.specs.ByteWordLaws.{contains-bytes_between}
-use Rattle.span_core.specs.OrderLaws.{span_eq}
-=======
 use Rattle.std.proofs.Common.{◌≡◌, ℕ, List, [], ◌∷◌, refl, inl, inr, subst, arith}
 use Rattle.std.specs.Prelude.{codes}
->>>>>>> 6063707142e60cac5327b4118f3297644b99550b
 use Rattle.spanner_model.specs.Lists.{Has}
 use Rattle.spanner_model.specs.Tree.{cat, cat_end, cat_all, cap}
 use Rattle.spanner_model.specs.Captures.{VarName, Captures, span_of}

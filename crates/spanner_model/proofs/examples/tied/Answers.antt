@@ -1,18 +1,8 @@
 use Rattle.std.proofs.Common.{◌≡◌, ℕ, true, List, [], ◌∷◌, Some, refl, sym, ap, ◌∙◌, arith}
 use Rattle.std.specs.Prelude.{codes}
 use Rattle.span_core.specs.declared.span.Span.{Span}
-<<<<<<< HEAD
-use Rattle.span_core.specs.ByteSets.{bytes_between}
-use Rattle.span_core.specs.ByteWordLaws.{contains-bytes_between}
-use Rattle.span_core.specs.OrderLaws.{span_eq}
-use Rattle.spanner_model.specs.Lists.{Has}
-use Rattle.spanner_model.specs.Tree.{Tree, one, cat, cat_end, cat_all, alt_all, cap, rep}
-use Rattle.spanner_model.specs.Captures.{VarName, Captures, Captured, Mapping, span_of, row_of}
-use Rattle.spanner_model.specs.Functional.{HasVar}
-=======
 use Rattle.spanner_model.specs.Tree.{cap}
 use Rattle.spanner_model.specs.Captures.{Captures, span_of}
->>>>>>> 6063707142e60cac5327b4118f3297644b99550b
 use Rattle.spanner_model.specs.Fit.{Fit, Times}
 use Rattle.spanner_model.specs.Expression.{atom}
 use Rattle.spanner_model.specs.Answers.{IsAnswerRow}
