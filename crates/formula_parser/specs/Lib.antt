@@ -15,3 +15,6 @@ pub mod Step
 pub mod View
 pub mod ClassView
 pub mod Turn
+pub mod Printed
+pub mod PrinterView
+pub mod PrintedLaws
