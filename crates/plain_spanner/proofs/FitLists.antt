@@ -1,0 +1,209 @@
+-- Lists of fits, of which those with the same captures stand together.
+use Rattle.std.proofs.Common.{◌≡◌, ℕ, ◌≤◌, ◌⊎◌, List, [], ◌∷◌, ◌++◌, length, take, Some, inl, inr, refl, sym, ap, ◌∙◌, subst, arith, append_assoc}
+use Rattle.std.specs.Prelude.{slice_get}
+use Rattle.span_core.specs.declared.span.Span.{Span}
+use Rattle.span_core.specs.OrderLaws.{span_eq}
+use Rattle.spanner_model.specs.Lists.{Has}
+use Rattle.spanner_model.specs.Captures.{VarName, Captures, AreApart}
+use Rattle.spanner_model.specs.Tree.{Tree, cap, cat_all, alt_all}
+use Rattle.spanner_model.specs.Fit.{Piece, Then, Nothing, Fit}
+use Rattle.spanner_model.specs.Functional.{HasVar, IsFunctional}
+use Rattle.spanner_model.proofs.FitLaws.{fit_only_vars, fit_le, fit_within}
+use Rattle.spanner_model.proofs.HasLaws.{Has-append_left, Has-append_right, Has-append_cases}
+use Rattle.plain_spanner.specs.Listed.{Tells, FromSome, EndAndCaptures, CapturesAndEnds, HasFit, Continued, AreWithin, LeadsOn, CapturedTo, CapturedAt, CapturedFrom}
+use Rattle.plain_spanner.proofs.PartLists.{append_nil, arm_of, of_arm, parts_apart}
+
+-- ---- branches
+
+pub fit_append_left : (xs ys : List CapturesAndEnds) (f : EndAndCaptures) → HasFit xs f → HasFit (xs ++ ys) f
+fit_append_left xs ys f h = (h.0, Has-append_left xs ys (f.1, h.0) h.1, h.2)
+
+pub fit_append_right : (xs ys : List CapturesAndEnds) (f : EndAndCaptures) → HasFit ys f → HasFit (xs ++ ys) f
+fit_append_right xs ys f h = (h.0, Has-append_right xs ys (f.1, h.0) h.1, h.2)
+
+pub fit_append_cases : (xs ys : List CapturesAndEnds) (f : EndAndCaptures) → HasFit (xs ++ ys) f → HasFit xs f ⊎ HasFit ys f
+fit_append_cases xs ys f h = elim (Has-append_cases xs ys (f.1, h.0) h.1) as (λ _. HasFit xs f ⊎ HasFit ys f) [ inl a ↦ inl (h.0, a, h.2) | inr b ↦ inr (h.0, b, h.2) ]
+
+pub fits_appended : (xs ys new : List CapturesAndEnds) (Q : EndAndCaptures → Type 0) → new ≡ xs ++ ys → Tells (HasFit ys) Q → Tells (HasFit new) (λ f. HasFit xs f ⊎ Q f)
+fits_appended xs ys new Q is h = record {
+  each_so = λ f a. elim (fit_append_cases xs ys f (subst (λ zs. HasFit zs f) is a)) as (λ _. HasFit xs f ⊎ Q f) [ inl b ↦ inl b | inr b ↦ inr (h.each_so f b) ];
+  all_there = λ f a. subst (λ zs. HasFit zs f) (sym is) (elim a as (λ _. HasFit (xs ++ ys) f) [
+    | inl b ↦ fit_append_left xs ys f b
+    | inr b ↦ fit_append_right xs ys f (h.all_there f b)
+  ]);
+}
+
+-- the fits of one branch
+pub of_branch : (m : Captures) (ends : List ℕ) (f : EndAndCaptures) → HasFit ((m, ends) ∷ []) f → (m ≡ f.1) × Has ends f.0
+of_branch m ends f h = elim h.1 as (λ _. (m ≡ f.1) × Has ends f.0) [
+  | inl e ↦ (ap (λ (b : CapturesAndEnds). b.0) e, subst (λ (xs : List ℕ). Has xs f.0) (sym (ap (λ (b : CapturesAndEnds). b.1) e)) h.2)
+  | inr n ↦ absurd n
+]
+
+pub branch_of : (m : Captures) (ends : List ℕ) (f : EndAndCaptures) → m ≡ f.1 → Has ends f.0 → HasFit ((m, ends) ∷ []) f
+branch_of m ends f e h = (ends, inl (ap (λ (n : Captures). let b : CapturesAndEnds = (n, ends) in b) e), h)
+
+pub fits_of_branch : (b : CapturesAndEnds) → Tells (HasFit (b ∷ [])) (λ f. (b.0 ≡ f.1) × Has b.1 f.0)
+fits_of_branch b = record { each_so = λ f h. of_branch b.0 b.1 f h; all_there = λ f h. branch_of b.0 b.1 f h.0 h.1 }
+
+pub no_fits : (f : EndAndCaptures) → HasFit [] f → ⊥
+no_fits f h = h.1
+
+-- ---- fits that go on
+
+pub goes_nowhere : (firsts reached : List CapturesAndEnds) → reached ≡ firsts → Tells (HasFit reached) (Continued (HasFit firsts) Nothing)
+goes_nowhere firsts reached is = record {
+  each_so = λ f h. (f.0, f.1, [], subst (λ (xs : List CapturesAndEnds). HasFit xs f) is h, (refl, refl), sym (append_nil f.1));
+  all_there = λ f h.
+      let e : h.1 ≡ f.1 = sym (h.5 ∙ ap (λ n. h.1 ++ n) h.4.1 ∙ append_nil h.1) in
+      subst (λ (xs : List CapturesAndEnds). HasFit xs f) (sym is)
+      (subst (λ n. HasFit firsts (f.0, n)) e (subst (λ k. HasFit firsts (k, h.1)) h.4.0 h.3));
+}
+
+module _ (A : EndAndCaptures → Type 0) (P Q R : Piece) (to : (i j : ℕ) (m : Captures) → R i j m → Then P Q i j m) where
+  pub goes_on : ((i k j : ℕ) (m n : Captures) → P i k m → Q k j n → AreApart m n) → ((i j : ℕ) (m : Captures) → Then P Q i j m → R i j m) →
+      (xs ys : List CapturesAndEnds) → Tells (HasFit xs) (Continued A P) → Tells (HasFit ys) (Continued (HasFit xs) Q) → Tells (HasFit ys) (Continued A R)
+  goes_on apart from xs ys first next = record {
+    each_so = λ f h.
+        let a = next.each_so f h in
+        let b = first.each_so (a.0, a.1) a.3 in (
+          b.0,
+          b.1,
+          b.2 ++ a.2,
+          b.3,
+          from b.0 f.0 (b.2 ++ a.2) (a.0, b.2, a.2, b.4, a.4, apart b.0 a.0 f.0 b.2 a.2 b.4 a.4, refl),
+          a.5 ∙ ap (λ n. n ++ a.2) b.5 ∙ append_assoc b.1 b.2 a.2,
+        );
+    all_there = λ f h.
+        let s = to h.0 f.0 h.2 h.4 in
+        next.all_there f (
+          s.0,
+          h.1 ++ s.1,
+          s.2,
+          first.all_there (s.0, h.1 ++ s.1) (h.0, h.1, s.1, h.3, s.3, refl),
+          s.4,
+          h.5 ∙ ap (λ n. h.1 ++ n) s.6 ∙ sym (append_assoc h.1 s.1 s.2),
+        );
+  }
+
+  -- where there is none none goes on
+  pub goes_on_none : (xs : List CapturesAndEnds) → xs ≡ [] → Tells (HasFit xs) (Continued A P) → Tells (HasFit xs) (Continued A R)
+  goes_on_none xs none first = record {
+    each_so = λ f h. absurd (no_fits f (subst (λ (ys : List CapturesAndEnds). HasFit ys f) none h));
+    all_there = λ f h.
+        let s = to h.0 f.0 h.2 h.4 in
+        let here = first.all_there (s.0, h.1 ++ s.1) (h.0, h.1, s.1, h.3, s.3, refl) in
+        absurd (no_fits (s.0, h.1 ++ s.1) (subst (λ (ys : List CapturesAndEnds). HasFit ys (s.0, h.1 ++ s.1)) none here));
+  }
+
+pub go_within : (A : EndAndCaptures → Type 0) (P : Piece) (n : ℕ) (xs : List CapturesAndEnds) → ((i j : ℕ) (m : Captures) → i ≤ n → P i j m → j ≤ n) → ((f : EndAndCaptures) → A f → f.0 ≤ n) →
+    Tells (HasFit xs) (Continued A P) → AreWithin n xs
+go_within A P n xs stays within all f h = let a = all.each_so f h in stays a.0 f.0 a.2 (within (a.0, a.1) a.3) a.4
+
+-- ---- parts, arms and captures
+
+-- captures of a part are none of those of the parts before it
+pub turn_apart : (d : List ℕ) (ts : List Tree) (k : ℕ) (t : Tree) → slice_get ts k ≡ Some t → IsFunctional (cat_all ts) →
+    (i n j : ℕ) (m m' : Captures) → Fit (cat_all (take k ts)) d i n m → Fit t d n j m' → AreApart m m'
+turn_apart d ts k t at ok i n j m m' p q x a b = parts_apart ts k t at ok x (fit_only_vars (cat_all (take k ts)) d i n m p x a) (fit_only_vars t d n j m' q x b)
+
+pub arms_go_on : (d : List ℕ) (ts : List Tree) (A H : EndAndCaptures → Type 0) → Tells H (FromSome (λ (t : Tree) (f : EndAndCaptures). Continued A (Fit t d) f) ts) → Tells H (Continued A (Fit (alt_all ts) d))
+arms_go_on d ts A H all = record {
+  each_so = λ f h. let s = all.each_so f h in let a = s.2 in (a.0, a.1, a.2, a.3, of_arm d ts s.0 a.0 f.0 a.2 s.1 a.4, a.5);
+  all_there = λ f h. let t = arm_of d ts h.0 f.0 h.2 h.4 in all.all_there f (t.0, t.1, (h.0, h.1, h.2, h.3, t.2, h.5));
+}
+
+-- a fit goes on from a fit of this branch
+abbrev pub GoesFrom : Piece → CapturesAndEnds → EndAndCaptures → Type 0
+GoesFrom P b f = (k : ℕ) × (m2 : Captures) × Has b.1 k × P k f.0 m2 × (f.1 ≡ b.0 ++ m2)
+
+pub branches_go_on : (P : Piece) (firsts : List CapturesAndEnds) (H : EndAndCaptures → Type 0) → Tells H (FromSome (GoesFrom P) firsts) → Tells H (Continued (HasFit firsts) P)
+branches_go_on P firsts H all = record {
+  each_so = λ f h. let s = all.each_so f h in let g = s.2 in (g.0, s.0.0, g.1, (s.0.1, s.1, g.2), g.3, g.4);
+  all_there = λ f h. all.all_there f ((h.1, h.3.0), h.3.1, (h.0, h.2, h.3.2, h.4, h.5));
+}
+
+-- a branch of a piece that captures nothing
+pub bare_branch : (P : Piece) (bare : (i j : ℕ) (m : Captures) → P i j m → m ≡ []) (b : CapturesAndEnds) (later : List ℕ) → Tells (Has later) (LeadsOn P b.1) → Tells (HasFit ((b.0, later) ∷ [])) (GoesFrom P b)
+bare_branch P bare b later all = record {
+  each_so = λ f h.
+      let o = of_branch b.0 later f h in
+      let a = all.each_so f.0 o.1 in
+      (a.0, [], a.1, a.2, sym o.0 ∙ sym (append_nil b.0));
+  all_there = λ f h.
+      let e : h.1 ≡ [] = bare h.0 f.0 h.1 h.3 in
+      branch_of b.0 later f (sym (h.4 ∙ ap (λ n. b.0 ++ n) e ∙ append_nil b.0)) (all.all_there f.0 (h.0, h.2, subst (λ n. P h.0 f.0 n) e h.3));
+}
+
+-- the fits of a capture from a place, from the fits of what it captures
+pub named_from : (x : VarName) (P : Piece) (m0 : Captures) (i : ℕ) (inner : List CapturesAndEnds) → Tells (HasFit inner) (Continued (HasFit (([], i ∷ []) ∷ [])) P) →
+    (f : EndAndCaptures) → (FromSome (CapturedAt x i m0) inner f → CapturedFrom x P m0 i f) × (CapturedFrom x P m0 i f → FromSome (CapturedAt x i m0) inner f)
+named_from x P m0 i inner all f = (
+  λ h.
+      let a = all.each_so (h.2.0, h.0.0) (h.0.1, h.1, h.2.1) in
+      let o = of_branch [] (i ∷ []) (a.0, a.1) a.3 in
+      let place : i ≡ a.0 = elim o.1 as (λ _. i ≡ a.0) [ inl e ↦ e | inr n ↦ absurd n ] in
+      let captured : h.0.0 ≡ a.2 = a.5 ∙ ap (λ n. n ++ a.2) (sym o.0) in
+      (h.2.0, h.0.0, subst (λ n. P i h.2.0 n) (sym captured) (subst (λ k. P k h.2.0 a.2) (sym place) a.4), h.2.2),
+  λ h.
+      let here = all.all_there (h.0, h.1) (i, [], h.1, branch_of [] (i ∷ []) (i, []) refl (inl refl), h.2, refl) in
+      ((h.1, here.0), here.1, (h.0, here.2, h.3)),
+)
+
+-- a capture of a piece, from the branches of the firsts
+pub captures_go_on : (d : List ℕ) (x : VarName) (g : Tree) (firsts : List CapturesAndEnds) (H : EndAndCaptures → Type 0) → (HasVar g x → ⊥) →
+    Tells H (FromSome (λ (b : CapturesAndEnds) (f : EndAndCaptures). FromSome (CapturedFrom x (Fit g d) b.0) b.1 f) firsts) → Tells H (Continued (HasFit firsts) (Fit (cap x g) d))
+captures_go_on d x g firsts H fresh all = record {
+  each_so = λ f h.
+      let s = all.each_so f h in
+      let b = s.0 in
+      let i = s.2.0 in
+      let p = s.2.2 in
+      let to = p.3 in
+      let j : p.0 ≡ f.0 = sym (ap (λ (e : EndAndCaptures). e.0) to.3) in
+      let m : f.1 ≡ b.0 ++ (x, to.0) ∷ p.1 = ap (λ (e : EndAndCaptures). e.1) to.3 in
+      let fits = subst (λ n. Fit g d i n p.1) j p.2 in
+      (i, b.0, (x, to.0) ∷ p.1, (b.1, s.1, s.2.1), (to.0, p.1, to.1, to.2 ∙ j, fits, λ a. fresh (fit_only_vars g d i f.0 p.1 fits x a), refl), m);
+  all_there = λ f h.
+      let c = h.4 in
+      let e : f ≡ (f.0, h.1 ++ (x, c.0) ∷ c.1) = ap (λ (n : Captures). let r : EndAndCaptures = (f.0, n) in r) (h.5 ∙ ap (λ n. h.1 ++ n) c.6) in
+      all.all_there f ((h.1, h.3.0), h.3.1, (h.0, h.3.2, (f.0, c.1, c.4, (c.0, c.2, c.3, e))));
+}
+
+-- a capture that ends here, of one span
+pub spanned : (x : VarName) (i j : ℕ) (m0 m1 : Captures) (s : Span) → s.start ≡ i → s.end ≡ j → Tells (HasFit ((m0 ++ (x, s) ∷ m1, j ∷ []) ∷ [])) (CapturedTo x i m0 m1 j)
+spanned x i j m0 m1 s start end = record {
+  each_so = λ f h.
+      let o = of_branch (m0 ++ (x, s) ∷ m1) (j ∷ []) f h in
+      let place : j ≡ f.0 = elim o.1 as (λ _. j ≡ f.0) [ inl e ↦ e | inr n ↦ absurd n ] in
+      (s, start, end, sym (λ k. (place k, o.0 k)));
+  all_there = λ f h.
+      let same : s ≡ h.0 = span_eq s h.0 (start ∙ sym h.1) (end ∙ sym h.2) in
+      let captures : m0 ++ (x, s) ∷ m1 ≡ f.1 = ap (λ (t : Span). m0 ++ (x, t) ∷ m1) same ∙ sym (ap (λ (e : EndAndCaptures). e.1) h.3) in
+      branch_of (m0 ++ (x, s) ∷ m1) (j ∷ []) f captures (inl (sym (ap (λ (e : EndAndCaptures). e.0) h.3)));
+}
+
+-- the fit of nothing at a place
+pub here_within : (place n : ℕ) → place ≤ n → AreWithin n (([], place ∷ []) ∷ [])
+here_within place n le f h =
+    let o = of_branch [] (place ∷ []) f h in
+    let e : place ≡ f.0 = elim o.1 as (λ _. place ≡ f.0) [ inl e ↦ e | inr no_more ↦ absurd no_more ] in
+    omega arith
+
+-- fits from a place end behind it, and in the document
+pub inner_within : (g : Tree) (d : List ℕ) (place most : ℕ) (inner : List CapturesAndEnds) → place ≤ length d → length d ≤ most → Tells (HasFit inner) (Continued (HasFit (([], place ∷ []) ∷ [])) (Fit g d)) →
+    (f : EndAndCaptures) → HasFit inner f → (place ≤ f.0) × (f.0 ≤ most)
+inner_within g d place most inner le short all f h =
+    let a = all.each_so f h in
+    let o = of_branch [] (place ∷ []) (a.0, a.1) a.3 in
+    let e : place ≡ a.0 = elim o.1 as (λ _. place ≡ a.0) [ inl e ↦ e | inr no_more ↦ absurd no_more ] in
+    let lo = fit_le g d a.0 f.0 a.2 a.4 in
+    let hi = fit_within g d a.0 f.0 a.2 (omega arith) a.4 in
+    (omega arith, omega arith)
+
+pub named_tells : (x : VarName) (P : Piece) (m0 : Captures) (i : ℕ) (inner : List CapturesAndEnds) → Tells (HasFit inner) (Continued (HasFit (([], i ∷ []) ∷ [])) P) → Tells (FromSome (CapturedAt x i m0) inner) (CapturedFrom x P m0 i)
+named_tells x P m0 i inner all = record { each_so = λ f h. (named_from x P m0 i inner all f).0 h; all_there = λ f h. (named_from x P m0 i inner all f).1 h }
+
+-- what goes on from nothing captures what goes on alone
+pub here_captures : (place : ℕ) (k : EndAndCaptures) (m m2 : Captures) → HasFit (([], place ∷ []) ∷ []) k → m ≡ k.1 ++ m2 → m ≡ m2
+here_captures place k m m2 here is = is ∙ ap (λ (n : Captures). n ++ m2) (sym (of_branch [] (place ∷ []) k here).0)

@@ -1,0 +1,10 @@
+pub mod TableLaws
+pub mod TellsLaws
+pub mod BareLaws
+pub mod JoinLaws
+pub mod JoinTables
+pub mod PartLists
+pub mod RepeatLaws
+pub mod RowLaws
+pub mod EndLaws
+pub mod FitLists

@@ -1,0 +1,208 @@
+use Rattle.std.proofs.Common.{◌≡◌, ℕ, ◌+◌, ◌≤◌, ◌⊎◌, List, [], ◌∷◌, length, get_or, take, drop, IfOk, inl, inr, refl, sym, ap, ◌∙◌, subst, arith}
+use Rattle.std.proofs.Math.Seq.{take-length}
+use Rattle.std.proofs.lemmas.Option.{slice_get_within, get_or_from_slice_get}
+use Rattle.spanner_model.specs.Lists.{Has}
+use Rattle.spanner_model.specs.Captures.{Captures}
+use Rattle.spanner_model.specs.View.{tree_of, trees_of}
+use Rattle.spanner_model.specs.Tree.{Tree, cap, cat_all}
+use Rattle.spanner_model.specs.Fit.{Fit}
+use Rattle.spanner_model.specs.WellBuilt.{IsWellBuilt}
+use Rattle.spanner_model.specs.Functional.{IsFunctional}
+use Rattle.spanner_model.proofs.FitLaws.{fit_within}
+use Rattle.spanner_model.proofs.HasLaws.{Has-slice_get, Has-get_or}
+use Rattle.spanner_model.proofs.NodeParts.{has_parts}
+use Rattle.spanner_model.proofs.Nodes.{nodes}
+use Rattle.spanner_model.proofs.TreeLaws.{part_nodes}
+use Rattle.spanner_model.proofs.Trees.{tree_of-One, tree_of-Empty, tree_of-Cat, tree_of-Alt, tree_of-Rep, tree_of-Cap}
+use Rattle.plain_spanner.specs.declared.TheConstants.{MOST_DOCUMENT_BYTES}
+use Rattle.plain_spanner.specs.Listed.{Tells, FromSome, EndAndCaptures, CapturesAndEnds, IsBare, HasFit, Continued, AreWithin, CapturedFrom, CapturedAt}
+use Rattle.plain_spanner.proofs.BareLaws.{bare_same}
+use Rattle.plain_spanner.proofs.PartLists.{cat_more_split, cat_more_join, cat_begins, functional_part, functional_arm}
+use Rattle.plain_spanner.proofs.TellsLaws.{tells_or, tells_only, from_none, from_more, from_all, empty_list}
+use Rattle.plain_spanner.proofs.FitLists.{fits_appended, no_fits, goes_nowhere, goes_on, goes_on_none, go_within, turn_apart, arms_go_on, named_tells, captures_go_on, here_within, inner_within}
+use Rattle.plain_spanner.proofs.fits.+fits.Goals as goal
+
+pub go_on-in_turn-requires : goal.go_on-in_turn-requires
+go_on-in_turn-requires t c =
+    let p = has_parts c.args.formula.now c.in-Cat.parts (inl c.in-Cat.is) in
+    let e = ap tree_of c.in-Cat.is ∙ tree_of-Cat c.in-Cat.parts in
+    (omega (arith, p.size), (p.built c.requires.built, (subst IsFunctional e c.requires.functional, (c.requires.short, c.requires.within))))
+
+pub go_on-by_arms-requires : goal.go_on-by_arms-requires
+go_on-by_arms-requires t c =
+    let p = has_parts c.args.formula.now c.in-Alt.parts (inr c.in-Alt.is) in
+    let e = ap tree_of c.in-Alt.is ∙ tree_of-Alt c.in-Alt.parts in
+    (omega (arith, p.size), (p.built c.requires.built, (subst IsFunctional e c.requires.functional, (c.requires.short, c.requires.within))))
+
+pub go_on-go_on_bare-requires-clause-bare : goal.go_on-go_on_bare-requires-clause-bare
+go_on-go_on_bare-requires-clause-bare t c =
+    let p = has_parts c.args.formula.now c.in-Alt.parts (inr c.in-Alt.is) in
+    (bare_same (tree_of c.args.formula.now) (cat_all (trees_of c.in-Alt.parts)) p.vars).0 (c.are_bare.ensures.0 c.if-are_bare.true)
+
+pub go_on-go_on_bare-requires-in-Empty-clause-bare : goal.go_on-go_on_bare-requires-in-Empty-clause-bare
+go_on-go_on_bare-requires-in-Empty-clause-bare t c =
+    elim c.in-Empty.is as (λ _. IsBare (tree_of c.args.formula.now)) [
+      | inl e ↦ subst IsBare (sym (ap tree_of e ∙ tree_of-Empty)) (λ x v. v)
+      | inr r ↦ elim r as (λ _. IsBare (tree_of c.args.formula.now)) [
+        | inl o ↦ subst IsBare (sym (ap tree_of o.1 ∙ tree_of-One o.0)) (λ x v. v)
+        | inr p ↦
+            let e = ap tree_of p.3 ∙ tree_of-Rep p.0 p.1 p.2 in
+            subst IsBare (sym e) (subst IsFunctional e c.requires.functional).1
+      ]
+    ]
+
+pub go_on-captured-requires : goal.go_on-captured-requires
+go_on-captured-requires t c =
+    let e = ap tree_of c.in-Cap.is ∙ tree_of-Cap c.in-Cap.name c.in-Cap.sub ∙ ap (λ x. cap c.in-Cap.name (tree_of x)) (sym c.deref.ensures) in
+    let w = subst IsWellBuilt e c.requires.built in
+    let n = ap nodes e in
+    let deep = w.1 in
+    (omega (arith, n), ((w.0.0, omega (arith, deep)), (subst IsFunctional e c.requires.functional, (c.requires.short, c.requires.within))))
+
+pub go_on-returns-in-Cat : goal.go_on-returns-in-Cat
+go_on-returns-in-Cat t c =
+    let e = ap tree_of c.in-Cat.is ∙ tree_of-Cat c.in-Cat.parts in
+    subst (λ (f : Tree). IfOk c.in_turn.result (λ v. Tells (HasFit v.items) (Continued (HasFit c.args.firsts.now) (Fit f c.args.doc.now)))) (sym e) c.in_turn.ensures
+
+pub go_on-returns-else-are_bare : goal.go_on-returns-else-are_bare
+go_on-returns-else-are_bare t c =
+    let e = ap tree_of c.in-Alt.is ∙ tree_of-Alt c.in-Alt.parts in
+    subst (λ (f : Tree). IfOk c.by_arms.result (λ v. Tells (HasFit v.items) (Continued (HasFit c.args.firsts.now) (Fit f c.args.doc.now)))) (sym e) c.by_arms.ensures
+
+pub go_on-returns-in-Cap : goal.go_on-returns-in-Cap
+go_on-returns-in-Cap t c =
+    let e = ap tree_of c.in-Cap.is ∙ tree_of-Cap c.in-Cap.name c.in-Cap.sub ∙ ap (λ x. cap c.in-Cap.name (tree_of x)) (sym c.deref.ensures) in
+    subst (λ (f : Tree). IfOk c.captured.result (λ v. Tells (HasFit v.items) (Continued (HasFit c.args.firsts.now) (Fit f c.args.doc.now)))) (sym e) c.captured.ensures
+
+pub in_turn-go_on-requires : goal.in_turn-go_on-requires
+in_turn-go_on-requires t c =
+    let ts = trees_of c.args.parts.now in
+    let d = c.args.doc.now in
+    let g = cat_all (take c.loop-k.k ts) in
+    let u = tree_of c.at.result.now in
+    let has = Has-slice_get ts c.loop-k.k u c.at.ensures in
+    let within = go_within (HasFit c.args.firsts.now) (Fit g d) (length d) c.loop-k.reached.items (λ i j m le h. fit_within g d i j m le h) c.requires.within c.loop-k.invariant in
+    (omega (arith, part_nodes ts u has), (c.requires.built u has, (functional_part ts u has c.requires.functional, (c.requires.short, subst (λ (xs : List CapturesAndEnds). AreWithin (length d) xs) (sym c.deref.ensures.value) within))))
+
+pub in_turn-loop-k-init : goal.in_turn-loop-k-init
+in_turn-loop-k-init t c = goes_nowhere c.args.firsts.now c.in_ok-reached.reached.items c.in_ok-reached.ensures
+
+pub in_turn-loop-k-preserved : goal.in_turn-loop-k-preserved
+in_turn-loop-k-preserved t c =
+    let ts = trees_of c.args.parts.now in
+    let d = c.args.doc.now in
+    let k = c.loop-k.k in
+    let u = tree_of c.at.result.now in
+    let next = subst (λ (xs : List CapturesAndEnds). Tells (HasFit c.in_ok-reached-2.reached.items) (Continued (HasFit xs) (Fit u d))) c.deref.ensures.value c.in_ok-reached-2.ensures in
+    goes_on (HasFit c.args.firsts.now) (Fit (cat_all (take k ts)) d) (Fit u d) (Fit (cat_all (take (k + 1) ts)) d) (λ i j m h. cat_more_split d ts k u i j m c.at.ensures h)
+    (turn_apart d ts k u c.at.ensures c.requires.functional) (λ i j m h. cat_more_join d ts k u i j m c.at.ensures h) c.loop-k.reached.items c.in_ok-reached-2.reached.items c.loop-k.invariant next
+
+pub in_turn-returns-then-is_empty : goal.in_turn-returns-then-is_empty
+in_turn-returns-then-is_empty t c =
+    let ts = trees_of c.args.parts.now in
+    let d = c.args.doc.now in
+    let k = c.loop-k.k in
+    let none : c.loop-k.reached.items ≡ [] = empty_list c.loop-k.reached.items c.loop-k.reached.len (omega (arith, c.loop-k.reached.ok.0)) c.if-is_empty.ensures in
+    goes_on_none (HasFit c.args.firsts.now) (Fit (cat_all (take k ts)) d) (Fit (cat_all (drop k ts)) d) (Fit (cat_all ts) d) (λ i j m h. cat_begins d ts k i j m h) c.loop-k.reached.items none c.loop-k.invariant
+
+pub in_turn-returns : goal.in_turn-returns
+in_turn-returns t c =
+    let ts = trees_of c.args.parts.now in
+    let e : c.loop-k.k ≡ length ts = omega arith in
+    subst (λ (us : List Tree). Tells (HasFit c.loop-k.reached.items) (Continued (HasFit c.args.firsts.now) (Fit (cat_all us) c.args.doc.now))) (ap (λ n. take n ts) e ∙ take-length ts) c.loop-k.invariant
+
+pub by_arms-go_on-requires : goal.by_arms-go_on-requires
+by_arms-go_on-requires t c =
+    let ts = trees_of c.args.parts.now in
+    let u = tree_of c.at.result.now in
+    let has = Has-slice_get ts c.loop-k.k u c.at.ensures in
+    (omega (arith, part_nodes ts u has), (c.requires.built u has, (functional_arm ts u has c.requires.functional, (c.requires.short, c.requires.within))))
+
+pub by_arms-loop-k-init : goal.by_arms-loop-k-init
+by_arms-loop-k-init t c =
+    let R = λ (v : Tree) (f : EndAndCaptures). Continued (HasFit c.args.firsts.now) (Fit v c.args.doc.now) f in
+    subst (λ (xs : List CapturesAndEnds). Tells (HasFit xs) (λ f. HasFit [] f ⊎ FromSome R [] f)) (sym c.new-all.ensures.items) (from_none R (HasFit []))
+
+pub by_arms-loop-k-preserved : goal.by_arms-loop-k-preserved
+by_arms-loop-k-preserved t c =
+    let ts = trees_of c.args.parts.now in
+    let u = tree_of c.at.result.now in
+    let R = λ (v : Tree) (f : EndAndCaptures). Continued (HasFit c.args.firsts.now) (Fit v c.args.doc.now) f in
+    from_more R (HasFit []) (HasFit c.loop-k.all.items) (HasFit c.append.new.self.items) ts c.loop-k.k u u (slice_get_within ts c.loop-k.k u c.at.ensures) (sym (get_or_from_slice_get ts c.loop-k.k u u c.at.ensures)) c.loop-k.invariant
+    (fits_appended c.loop-k.all.items c.in_ok-others.others.items c.append.new.self.items (R u) c.in_ok-append.ensures.items c.in_ok-others.ensures)
+
+pub by_arms-returns : goal.by_arms-returns
+by_arms-returns t c =
+    let ts = trees_of c.args.parts.now in
+    let d = c.args.doc.now in
+    let R = λ (v : Tree) (f : EndAndCaptures). Continued (HasFit c.args.firsts.now) (Fit v d) f in
+    arms_go_on d ts (HasFit c.args.firsts.now) (HasFit c.loop-k.all.items)
+    (tells_only (HasFit c.loop-k.all.items) (HasFit []) (FromSome R ts) no_fits (from_all R (HasFit []) (HasFit c.loop-k.all.items) ts c.loop-k.k (omega arith) (omega arith) c.loop-k.invariant))
+
+pub captured-add_captured-requires : goal.captured-add_captured-requires
+captured-add_captured-requires t c =
+    let b = c.first-item.result in
+    let here : Has c.args.firsts.now b = subst (λ (x : CapturesAndEnds). Has c.args.firsts.now x) (sym c.first-item.is) (Has-get_or c.args.firsts.now c.loop-first.first-index b c.loop-first-test.true) in
+    let within : (k : ℕ) → Has b.1 k → k ≤ length c.args.doc.now = λ k h. c.requires.within (k, b.0) (b.1, here, h) in
+    (omega arith, (c.requires.built, (c.requires.functional.0, (c.requires.short, within))))
+
+pub captured-loop-first-init : goal.captured-loop-first-init
+captured-loop-first-init t c =
+    let R = λ (b : CapturesAndEnds) (f : EndAndCaptures). FromSome (CapturedFrom c.args.name.now (Fit (tree_of c.args.sub.now) c.args.doc.now) b.0) b.1 f in
+    subst (λ (xs : List CapturesAndEnds). Tells (HasFit xs) (λ f. HasFit [] f ⊎ FromSome R [] f)) (sym c.new-all.ensures.items) (from_none R (HasFit []))
+
+pub captured-loop-first-preserved : goal.captured-loop-first-preserved
+captured-loop-first-preserved t c =
+    let R = λ (b : CapturesAndEnds) (f : EndAndCaptures). FromSome (CapturedFrom c.args.name.now (Fit (tree_of c.args.sub.now) c.args.doc.now) b.0) b.1 f in
+    from_more R (HasFit []) (HasFit c.loop-first.all.items) (HasFit c.add_captured.new.all.items) c.args.firsts.now c.loop-first.first-index c.first-item.result c.first-item.result c.loop-first-test.true c.first-item.is
+    c.loop-first.invariant c.in_ok-add_captured.ensures
+
+pub captured-returns : goal.captured-returns
+captured-returns t c =
+    let R = λ (b : CapturesAndEnds) (f : EndAndCaptures). FromSome (CapturedFrom c.args.name.now (Fit (tree_of c.args.sub.now) c.args.doc.now) b.0) b.1 f in
+    captures_go_on c.args.doc.now c.args.name.now (tree_of c.args.sub.now) c.args.firsts.now (HasFit c.loop-first.all.items) c.requires.functional.1
+    (tells_only (HasFit c.loop-first.all.items) (HasFit []) (FromSome R c.args.firsts.now) no_fits
+    (from_all R (HasFit []) (HasFit c.loop-first.all.items) c.args.firsts.now c.loop-first.first-index c.loop-first.auto.first-index-end c.loop-first-test.false c.loop-first.invariant))
+
+pub add_captured-go_on-requires : goal.add_captured-go_on-requires
+add_captured-go_on-requires t c =
+    let places = c.ends-places.result.now in
+    let place = get_or places c.loop-place.place-index 0 in
+    let le = c.requires.within place (subst (λ (xs : List ℕ). Has xs place) c.ends-places.ensures (Has-get_or places c.loop-place.place-index 0 c.loop-place-test.true)) in
+    let within = subst (λ (b : CapturesAndEnds). AreWithin (length c.args.doc.now) (b ∷ [])) (sym c.in_ok-at.ensures) (here_within place (length c.args.doc.now) le) in
+    (omega arith, (c.requires.built, (c.requires.functional, (c.requires.short, within))))
+
+pub add_captured-add_named-requires : goal.add_captured-add_named-requires
+add_captured-add_named-requires t c =
+    let g = tree_of c.args.sub.now in
+    let d = c.args.doc.now in
+    let places = c.ends-places.result.now in
+    let place = get_or places c.loop-place.place-index 0 in
+    let le = c.requires.within place (subst (λ (xs : List ℕ). Has xs place) c.ends-places.ensures (Has-get_or places c.loop-place.place-index 0 c.loop-place-test.true)) in
+    let inner = subst (λ (b : CapturesAndEnds). Tells (HasFit c.in_ok-inner.inner.items) (Continued (HasFit (b ∷ [])) (Fit g d))) c.in_ok-at.ensures c.in_ok-inner.ensures in
+    λ f h. inner_within g d place MOST_DOCUMENT_BYTES c.in_ok-inner.inner.items le c.requires.short inner f (subst (λ (xs : List CapturesAndEnds). HasFit xs f) c.deref.ensures.value h)
+
+pub add_captured-loop-place-init : goal.add_captured-loop-place-init
+add_captured-loop-place-init t c = from_none (CapturedFrom c.args.name.now (Fit (tree_of c.args.sub.now) c.args.doc.now) c.args.first.now.0) (HasFit c.args.all.now.items)
+
+pub add_captured-loop-place-preserved : goal.add_captured-loop-place-preserved
+add_captured-loop-place-preserved t c =
+    let x = c.args.name.now in
+    let g = tree_of c.args.sub.now in
+    let d = c.args.doc.now in
+    let m0 = c.args.first.now.0 in
+    let places = c.ends-places.result.now in
+    let i = get_or places c.loop-place.place-index 0 in
+    let inner = c.in_ok-inner.inner.items in
+    let new = c.add_named.new.all.items in
+    let all = subst (λ (b : CapturesAndEnds). Tells (HasFit inner) (Continued (HasFit (b ∷ [])) (Fit g d))) c.in_ok-at.ensures c.in_ok-inner.ensures in
+    let added = subst (λ (m : Captures). Tells (HasFit new) (λ f. HasFit c.loop-place.all.items f ⊎ FromSome (CapturedAt x i m) c.deref.result.now f)) c.captures-2.ensures c.in_ok-add_named.ensures in
+    let added' = subst (λ (xs : List CapturesAndEnds). Tells (HasFit new) (λ f. HasFit c.loop-place.all.items f ⊎ FromSome (CapturedAt x i m0) xs f)) c.deref.ensures.value added in
+    from_more (CapturedFrom x (Fit g d) m0) (HasFit c.args.all.now.items) (HasFit c.loop-place.all.items) (HasFit new) places c.loop-place.place-index i 0 c.loop-place-test.true refl c.loop-place.invariant
+    (tells_or (HasFit new) (HasFit c.loop-place.all.items) (FromSome (CapturedAt x i m0) inner) (CapturedFrom x (Fit g d) m0 i) added' (named_tells x (Fit g d) m0 i inner all))
+
+pub add_captured-returns : goal.add_captured-returns
+add_captured-returns t c =
+    let R = CapturedFrom c.args.name.now (Fit (tree_of c.args.sub.now) c.args.doc.now) c.args.first.now.0 in
+    let all = from_all R (HasFit c.args.all.now.items) (HasFit c.loop-place.all.items) c.ends-places.result.now c.loop-place.place-index c.loop-place.auto.place-index-end c.loop-place-test.false c.loop-place.invariant in
+    subst (λ (xs : List ℕ). Tells (HasFit c.loop-place.all.items) (λ f. HasFit c.args.all.now.items f ⊎ FromSome R xs f)) c.ends-places.ensures all

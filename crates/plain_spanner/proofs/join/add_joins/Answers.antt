@@ -1,0 +1,39 @@
+use Rattle.std.proofs.Common.{ℕ, ◌⊎◌, ◌↔◌, Vec, Global, List, Option, sym, subst}
+use Rattle.std.specs.Option.{IsSomeAnd}
+use Rattle.std.proofs.lemmas.Option.{slice_get_within}
+use Rattle.spanner_model.specs.Lists.{Has}
+use Rattle.spanner_model.specs.Answers.{SpanRow}
+use Rattle.plain_spanner.specs.Listed.{Tells, FromSome}
+use Rattle.plain_spanner.specs.Tables.{IsPlaceOf, JoinsWith, JoinsRow, kept_row}
+use Rattle.plain_spanner.proofs.TellsLaws.{tells_or, tells_unchanged}
+use Rattle.plain_spanner.proofs.JoinLaws.{joins_found, joins_nothing}
+use Rattle.plain_spanner.proofs.join.add_joins.Goals as goal
+
+pub add_joined-requires-clause-within : goal.add_joined-requires-clause-within
+add_joined-requires-clause-within c = λ p h.
+    let here = subst (λ (xs : List ℕ). Has xs p) c.deref.ensures.value h in
+    let place = (c.requires.places c.row_with-key.result p).0 (subst (λ (o : Option (Vec ℕ Global)). IsSomeAnd o (λ v. Has v.items p)) c.in-Some.ensures.value here) in
+    slice_get_within c.args.right.now.rows.items p place.0 place.1
+
+pub returns-in_default : goal.returns-in_default
+returns-in_default c =
+    tells_unchanged (Has c.args.rows.now.items) (JoinsRow c.args.names.now c.args.left_names.now c.args.right.now.names c.args.right.now.rows.items c.args.row.now)
+    (joins_nothing c.args.names.now c.args.left_names.now c.args.right.now.names c.args.shared.now c.args.right.now.rows.items c.args.row.now c.requires.shared (λ p place.
+    let key = subst (λ (k : SpanRow). IsPlaceOf c.args.right.now.names c.args.shared.now c.args.right.now.rows.items k p) (sym c.row_with-key.ensures) place in
+    let there = (c.requires.places c.row_with-key.result p).1 key in
+    subst (λ (o : Option (Vec ℕ Global)). IsSomeAnd o (λ v. Has v.items p)) (sym c.in_default.ensures.value) there))
+
+pub returns : goal.returns
+returns c =
+    let names = c.args.names.now in
+    let V = c.args.left_names.now in
+    let W = c.args.right.now.names in
+    let rights = c.args.right.now.rows.items in
+    let a = c.args.row.now in
+    let shared = c.args.shared.now in
+    let places = c.in-Some.found.now.items in
+    let found : (p : ℕ) → Has places p ↔ IsPlaceOf W shared rights (kept_row V shared a) p = λ p.
+    subst (λ (k : SpanRow). Has places p ↔ IsPlaceOf W shared rights k p) c.row_with-key.ensures
+    (subst (λ (o : Option (Vec ℕ Global)). IsSomeAnd o (λ v. Has v.items p) ↔ IsPlaceOf W shared rights c.row_with-key.result p) (sym c.in-Some.ensures.value) (c.requires.places c.row_with-key.result p)) in
+    let added = subst (λ (xs : List ℕ). Tells (Has c.add_joined.new.rows.items) (λ r. Has c.args.rows.now.items r ⊎ FromSome (JoinsWith names V W a rights) xs r)) c.deref.ensures.value c.in_ok-add_joined.ensures in
+    tells_or (Has c.add_joined.new.rows.items) (Has c.args.rows.now.items) (FromSome (JoinsWith names V W a rights) places) (JoinsRow names V W rights a) added (joins_found names V W shared rights a places c.requires.shared found)

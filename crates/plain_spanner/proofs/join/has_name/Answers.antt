@@ -1,0 +1,9 @@
+use Rattle.std.proofs.Common.{Bool, ◌↔◌, sym, subst}
+use Rattle.std.specs.Prelude.{IsTrue}
+use Rattle.spanner_model.specs.Lists.{Has}
+use Rattle.plain_spanner.proofs.JoinLaws.{found_has}
+use Rattle.plain_spanner.proofs.join.has_name.Goals as goal
+
+pub returns : goal.returns
+returns c =
+    subst (λ (b : Bool). IsTrue b ↔ Has c.args.names.now c.args.name.now) (sym c.is_some.ensures) (found_has c.args.names.now c.args.name.now c.find.result c.find.ensures.some c.find.ensures.none)

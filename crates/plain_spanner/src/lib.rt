@@ -1,0 +1,18 @@
+//! All answers of a query on a document, computed straight from the meaning.
+#![tactic(auto)]
+
+pub use answers::all;
+
+mod answers;
+mod bare;
+mod ends;
+mod fits;
+mod join;
+mod order;
+mod repeats;
+mod rows;
+mod table;
+mod tables;
+
+/// The most bytes of a document.
+pub const MOST_DOCUMENT_BYTES: usize = 268_435_456;
