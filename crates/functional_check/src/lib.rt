@@ -5,6 +5,6 @@ pub use checking::{CheckFault, check};
 
 mod checking;
 pub mod laws;
-mod names;
+pub mod names;
 #[cfg(test)]
 mod tests;

@@ -48,7 +48,7 @@ pub fn least(names: &VarSet) -> Option<Name>
 }
 
 /// The least name of a set that is in another one, or where `inside` is false, that is not.
-fn least_where(names: &VarSet, others: &VarSet, inside: bool) -> Option<Name>
+pub fn least_where(names: &VarSet, others: &VarSet, inside: bool) -> Option<Name>
     ensures { IsLeastOf (λ x. Has names.now x × IsIn inside others.now x) result }
 {
     for k in 0..names.len() {
