@@ -1,0 +1,31 @@
+use Rattle.std.proofs.Common.{arith, take, []}
+use Rattle.spanner_model.specs.ExprView.{expr_of, lets_of, query_of}
+use Rattle.spanner_model.specs.Captures.{VarName}
+use Rattle.spanner_model.specs.Expression.{ExprTree}
+use Rattle.spanner_model.specs.Sound.{NameIn, NameInLets}
+use Rattle.spanner_model.proofs.GatheredLaws.{gathered_next, gathered_no_more}
+use Rattle.query_parser.proofs.ReachLaws.{let_in_turn}
+use Rattle.query_parser.proofs.KnownLaws.{few_names, many_names}
+use Rattle.query_parser.proofs.check.has_few_names.Goals as goal
+
+pub gather_names-requires : goal.gather_names-requires
+gather_names-requires c = (c.loop-k.k, c.requires.0 c.loop-k.k (c.at.result.now.0, expr_of c.at.result.now.1) c.at.ensures)
+
+pub returns-then-not-gather_names : goal.returns-then-not-gather_names
+returns-then-not-gather_names c =
+    let q = query_of c.args.query.now in
+    let l : VarName × ExprTree = (c.at.result.now.0, expr_of c.at.result.now.1) in
+    many_names q c.gather_names.new.into
+    (gathered_no_more (λ (l : VarName × ExprTree) (x : VarName). NameIn l.1 x) NameInLets let_in_turn q.lets c.loop-k.k l [] c.loop-k.names c.gather_names.new.into c.at.ensures c.loop-k.invariant
+    c.if-not-gather_names.ensures)
+
+pub loop-k-preserved : goal.loop-k-preserved
+loop-k-preserved c =
+    let l : VarName × ExprTree = (c.at.result.now.0, expr_of c.at.result.now.1) in
+    gathered_next (λ (l : VarName × ExprTree) (x : VarName). NameIn l.1 x) NameInLets let_in_turn (lets_of c.args.query.now.lets) c.loop-k.k l [] c.loop-k.names c.gather_names.new.into c.at.ensures c.loop-k.invariant
+    c.if-not-gather_names.ensures
+
+pub returns : goal.returns
+returns c =
+    few_names (query_of c.args.query.now) c.loop-k.k c.loop-k.names c.gather_names-all.new.into c.gather_names-all.result (omega (arith, c.len-k-end.ensures, c.loop-k-test.false)) c.loop-k.invariant
+    c.gather_names-all.ensures (omega (arith, c.len.ensures.value, c.len.ensures.few))

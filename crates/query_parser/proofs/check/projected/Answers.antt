@@ -1,0 +1,8 @@
+use Rattle.std.proofs.Common.{refl, ◌⊎◌, inl, inr}
+use Rattle.spanner_model.specs.Lists.{Has}
+use Rattle.query_parser.proofs.Lists.{is_in}
+use Rattle.query_parser.proofs.check.projected.Goals as goal
+
+pub returns-in-None : goal.returns-in-None
+returns-in-None c =
+    (c.copy.ensures, λ x h. elim (is_in c.args.vars.now x) as (λ _. Has c.args.vars.now x) [ inl g ↦ g | inr n ↦ absurd (c.in-None.ensures x (h, n)) ])

@@ -1,0 +1,13 @@
+pub mod Tokens
+pub mod Spells
+pub mod Reads
+pub mod TreeFaults
+pub mod Faults
+pub mod Laws
+pub mod Answers
+pub mod Nest
+pub mod Step
+pub mod View
+pub mod Turn
+pub mod Numbers
+pub mod Formed

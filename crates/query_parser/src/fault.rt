@@ -1,0 +1,52 @@
+//! Why a text is no sound query.
+ghost use Rattle.std.specs.Prelude.{◌≡◌};
+ghost use Rattle.query_parser.specs.declared.fault.QueryFault.TheVariants.{OutOfMemory};
+
+use formula_parser::FormulaFault;
+use functional_check::CheckFault;
+use span_core::{Name, OutOfMemory};
+
+/// The first fault of a text. Places count bytes from 0. The faults have the public numbers 1 to 12,
+/// in this order.
+///
+/// A text that is too long has no other fault. In any other, a fault that is met when the text is read
+/// from left to right comes first, then too many variables, and then the faults that a whole tree has:
+/// those of the `let`s in order and then of the body, in each expression those of its parts from left to
+/// right and then its own.
+#[derive(Clone, Copy, Debug)]
+pub enum QueryFault {
+    /// 1: the fault of an atom. It is never `FormulaFault::OutOfMemory`.
+    Formula(FormulaFault),
+    /// 2: an atom whose formula is not functional.
+    Check(CheckFault),
+    /// 3: a token that no rule allows, or a byte that begins none; or the text's end, at its length.
+    Unexpected { at: usize },
+    /// 4: a name as a unit without a `let` of that name that was ended by `;` before it.
+    UnknownName { at: usize },
+    /// 5: after `let`, a name that an earlier `let` has.
+    NameTwice { at: usize },
+    /// 6: a word of more than 32 bytes where a name is allowed.
+    NameTooLong { at: usize },
+    /// 7: a union, at its first part whose variables are not those of part 1: the least name that is in
+    /// exactly one of the two.
+    UnionVariables { var: Name },
+    /// 8: the least name that a projection keeps and its inner expression does not have.
+    UnknownVariable { var: Name },
+    /// 9: a projection keeps more than `MOST_VARIABLES` distinct names, or the captures of all atoms
+    /// have more.
+    TooManyVariables,
+    /// 10: the text has more than `MOST_TEXT_BYTES` bytes.
+    TooLong,
+    /// 11: a `(` that would be the 101st open at once, those of projections included.
+    TooDeep { at: usize },
+    /// 12: want of memory.
+    OutOfMemory,
+}
+
+impl From<OutOfMemory> for QueryFault {
+    ghost from_gives = { λ _ e. e ≡ OutOfMemory };
+
+    fn from(_e: OutOfMemory) -> QueryFault {
+        QueryFault::OutOfMemory
+    }
+}

@@ -1,0 +1,27 @@
+//! Laws of the grammar and of its faults, each the contract of a function that does nothing.
+ghost use Rattle.query_parser.specs.Laws.{HasOneQuery, HasNoQueryWithReadFault, HasOneReadFault, HasNoQueryWithFault, HasOneFault};
+
+/// No text spells two queries.
+pub fn no_text_spells_two_queries()
+    ensures { HasOneQuery }
+{}
+
+/// No text that spells a query has a fault that is met when it is read.
+pub fn no_text_is_read_and_has_a_fault_of_reading()
+    ensures { HasNoQueryWithReadFault }
+{}
+
+/// No text has two faults that are met when it is read.
+pub fn no_text_has_two_faults_of_reading()
+    ensures { HasOneReadFault }
+{}
+
+/// No text of a sound query has a fault.
+pub fn no_text_has_a_query_and_a_fault()
+    ensures { HasNoQueryWithFault }
+{}
+
+/// No text has two faults.
+pub fn no_text_has_two_faults()
+    ensures { HasOneFault }
+{}

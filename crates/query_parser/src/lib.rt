@@ -1,0 +1,27 @@
+//! The text of a query and its tree.
+#![tactic(auto)]
+
+pub use fault::QueryFault;
+pub use laws::{
+    no_text_has_a_query_and_a_fault, no_text_has_two_faults, no_text_has_two_faults_of_reading,
+    no_text_is_read_and_has_a_fault_of_reading, no_text_spells_two_queries,
+};
+pub use reader::read_query;
+
+mod check;
+mod fault;
+mod laws;
+mod named;
+mod nest;
+mod reader;
+mod tokens;
+mod turns;
+
+/// The most bytes that the text of a query may have.
+pub const MOST_TEXT_BYTES: usize = 65_536;
+
+/// The most parentheses that may be open at once.
+pub const MOST_OPEN: usize = 100;
+
+#[cfg(test)]
+mod tests;

@@ -1,0 +1,183 @@
+//! What has been read of a query before a place of its text.
+ghost use Rattle.std.specs.Prelude.{◌≡◌, ◌++◌, [], ◌∷◌, OnOk, IfOk};
+ghost use Rattle.spanner_model.specs.ExprView.{expr_of, exprs_of};
+ghost use Rattle.query_parser.specs.Nest.{outermost, empty_frame, whole_conj, whole_expr, whole, keeping, closed, next_unit, next_conj, opened, wants_unit};
+ghost use Rattle.query_parser.specs.View.{frame_of, last_of, nest_of};
+
+use crate::named::Named;
+use span_core::{Name, OutOfMemory, VarSet};
+use spanner_model::{Expr, Exprs};
+use std::alloc::Global;
+use std::mem;
+
+/// What an open parenthesis keeps, where it is that of a projection; the conjunctions that stand whole
+/// since then, and the units before the last one.
+#[derive(Drop)]
+pub(crate) struct Frame {
+    pub(crate) kept: Option<VarSet>,
+    pub(crate) conjs: Exprs,
+    pub(crate) units: Exprs,
+}
+
+/// The last thing read.
+#[derive(Drop)]
+pub(crate) enum Last {
+    /// Nothing since the start, or since the end of a let.
+    Start,
+    Let,
+    /// The name of a let.
+    LetName,
+    /// Something that a unit has to follow.
+    Before,
+    Unit(Expr),
+    Project,
+    KeepNone,
+    /// A name that a projection keeps.
+    Kept,
+    /// A comma after such a name.
+    Comma,
+}
+
+#[derive(Drop)]
+pub(crate) struct Nest {
+    pub(crate) named: Named,
+    /// The name of the let that is being read.
+    pub(crate) current: Option<Name>,
+    /// The frames that are open, the innermost apart from the others.
+    pub(crate) below: Vec<Frame>,
+    pub(crate) top: Frame,
+    pub(crate) last: Last,
+    /// The names that the projection keeps whose names are being read.
+    pub(crate) kept: VarSet,
+    /// Whether some projection keeps too many names.
+    pub(crate) many: bool,
+}
+
+fn put(parts: &mut Exprs, part: Expr) -> Result<(), OutOfMemory>
+    ensures { OnOk result (exprs_of parts.new ≡ exprs_of parts.old ++ expr_of part ∷ []) }
+{
+    match parts.push(part) {
+        Ok(()) => Ok(()),
+        Err(_) => Err(OutOfMemory),
+    }
+}
+
+/// The conjunction of these units and a last one.
+fn whole_conj(units: Exprs, last: Expr) -> Result<Expr, OutOfMemory>
+    ensures { IfOk result (λ e. expr_of e ≡ whole_conj (exprs_of units) (expr_of last)) }
+{
+    if units.len() > 0 {
+        let mut units = units;
+        put(&mut units, last)?;
+        return Ok(Expr::Join(units));
+    }
+    Ok(last)
+}
+
+/// The expression of these conjunctions and a last one.
+fn whole_expr(conjs: Exprs, last: Expr) -> Result<Expr, OutOfMemory>
+    ensures { IfOk result (λ e. expr_of e ≡ whole_expr (exprs_of conjs) (expr_of last)) }
+{
+    if conjs.len() > 0 {
+        let mut conjs = conjs;
+        put(&mut conjs, last)?;
+        return Ok(Expr::Union(conjs));
+    }
+    Ok(last)
+}
+
+/// What a projection, or a group, has of an expression.
+fn keeping(alloc: Global, kept: Option<VarSet>, expr: Expr) -> Result<Expr, OutOfMemory>
+    ensures { IfOk result (λ e. expr_of e ≡ keeping kept (expr_of expr)) }
+{
+    match kept {
+        None => Ok(expr),
+        Some(kept) => match Box::new(alloc, expr) {
+            Ok(sub) => Ok(Expr::Project(kept, sub)),
+            Err(_) => Err(OutOfMemory),
+        },
+    }
+}
+
+impl Frame {
+    pub(crate) fn new(alloc: Global, kept: Option<VarSet>) -> Frame
+        ensures { frame_of result ≡ empty_frame kept }
+    {
+        Frame {
+            kept,
+            conjs: Exprs::new(alloc),
+            units: Exprs::new(alloc),
+        }
+    }
+
+    /// The expression in the frame, where this is its last unit.
+    pub(crate) fn whole(self, last: Expr) -> Result<Expr, OutOfMemory>
+        ensures { IfOk result (λ e. expr_of e ≡ whole (frame_of self) (expr_of last)) }
+    {
+        let conj = whole_conj(self.units, last)?;
+        whole_expr(self.conjs, conj)
+    }
+
+    /// What the frame is in the one around it.
+    pub(crate) fn closed(self, alloc: Global, last: Expr) -> Result<Expr, OutOfMemory>
+        ensures { IfOk result (λ e. expr_of e ≡ closed (frame_of self) (expr_of last)) }
+    {
+        let Frame { kept, conjs, units } = self;
+        let conj = whole_conj(units, last)?;
+        let expr = whole_expr(conjs, conj)?;
+        keeping(alloc, kept, expr)
+    }
+}
+
+impl Nest {
+    pub(crate) fn new(alloc: Global) -> Nest
+        ensures { nest_of result ≡ outermost }
+    {
+        Nest {
+            named: Named::new(alloc),
+            current: None,
+            below: Vec::new(alloc),
+            top: Frame::new(alloc, None),
+            last: Last::Start,
+            kept: VarSet::empty(),
+            many: false,
+        }
+    }
+
+    /// Whether a unit is due.
+    pub(crate) fn wants_unit(&self) -> bool
+        ensures { result ≡ wants_unit (last_of self.now.kept self.now.last) }
+    {
+        matches!(self.last, Last::Start | Last::Before)
+    }
+
+    /// A `join` after this unit.
+    pub(crate) fn next_unit(&mut self, unit: Expr) -> Result<(), OutOfMemory>
+        ensures { OnOk result (nest_of self.new ≡ next_unit (expr_of unit) (nest_of self.old)) }
+    {
+        self.last = Last::Before;
+        put(&mut self.top.units, unit)
+    }
+
+    /// A `union` after this unit.
+    pub(crate) fn next_conj(&mut self, alloc: Global, unit: Expr) -> Result<(), OutOfMemory>
+        ensures { OnOk result (nest_of self.new ≡ next_conj (expr_of unit) (nest_of self.old)) }
+    {
+        self.last = Last::Before;
+        let units = mem::replace(&mut self.top.units, Exprs::new(alloc));
+        let conj = whole_conj(units, unit)?;
+        put(&mut self.top.conjs, conj)
+    }
+
+    /// A parenthesis, which keeps these names where it is that of a projection.
+    pub(crate) fn open(&mut self, alloc: Global, kept: Option<VarSet>) -> Result<(), OutOfMemory>
+        ensures { OnOk result (nest_of self.new ≡ opened kept (nest_of self.old)) }
+    {
+        self.last = Last::Before;
+        let outer = mem::replace(&mut self.top, Frame::new(alloc, kept));
+        match self.below.push(outer) {
+            Ok(()) => Ok(()),
+            Err(_) => Err(OutOfMemory),
+        }
+    }
+}

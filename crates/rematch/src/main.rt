@@ -1,0 +1,61 @@
+//! `rematch`: regular document spanners on a file or on standard input.
+//!
+//! The words are taken from the system, and the run is that of `rematch_program` over the files, the
+//! standard input, the standard output for rows and the standard error for the one note.
+#![tactic(auto)]
+
+ghost use Rattle.std.specs.Prelude.{◌≡◌, ◌<◌};
+
+use rematch_program::run;
+use rm_outside::{FileShelf, NoteSink, OutSink, Status};
+use span_core::Steps;
+use std::env;
+use std::io::ErrorKind;
+use std::marker::Brand;
+use std::process::ExitCode;
+use std::sync::ledger::{Blank, Ledger};
+
+/// The exit status where the words cannot be had from the system, and memory is not wanting.
+const NO_WORDS: u8 = 10;
+
+fn main(rt: HostRuntime) -> ExitCode {
+    let alloc = rt.alloc();
+    let args = match env::args(&rt) {
+        Ok(args) => args,
+        Err(error) => {
+            let memory = error.kind() == ErrorKind::OutOfMemory;
+            let status = if memory {
+                Status::Memory.exit_status()
+            } else {
+                NO_WORDS
+            };
+            return ExitCode::from(status);
+        }
+    };
+    let words = match args.skip(1).collect::<Vec<String>>(alloc) {
+        Ok(words) => words,
+        Err(_) => return ExitCode::from(Status::Memory.exit_status()),
+    };
+    let status = run_outside::<Brand>(&rt, Blank::new(1), &words);
+    ExitCode::from(status.exit_status())
+}
+
+/// Runs over the files and the standard streams.
+fn run_outside<L: Ledger>(rt: &HostRuntime, blank: Blank, words: &[String]) -> Status
+    requires name { blank.name ≡ L.name }
+    requires parts { blank.parts ≡ L.parts }
+    requires some { 0 < L.parts }
+{
+    let mut steps = Steps::<L>::new(blank);
+    let mut shelf = FileShelf::new(rt);
+    let mut out = OutSink::new(rt.stdout());
+    let mut notes = NoteSink::new(rt.stderr());
+    run(
+        rt.alloc(),
+        words,
+        &mut shelf,
+        &mut out,
+        &mut notes,
+        &mut steps,
+    )
+}

@@ -1,0 +1,70 @@
+-- Puts one after another.
+use Rattle.std.proofs.Common.{◌≡◌, ℕ, List, [], ◌++◌, Option, ap, ◌∙◌, sym, refl, subst, append_assoc, append-nil}
+use Rattle.std.proofs.KnownBytes.{Appends-nil, Appends-trans}
+use Rattle.std.specs.Io.KnownBytes.{Appends}
+use Rattle.rm_outside.specs.Sink.{AppendsPart, IsPrefixOf}
+use Rattle.rematch_program.specs.Change.{Change, change, Passes, SoFar}
+
+-- a part of xs is a part of xs and ys
+pub part_more : (old new : Option (List ℕ)) (xs ys : List ℕ) → AppendsPart old new xs → AppendsPart old new (xs ++ ys)
+part_more old new xs ys p = record {
+  part = p.part;
+  added = p.added;
+  prefix = record { rest = p.prefix.rest ++ ys; joined = sym (append_assoc p.part p.prefix.rest ys) ∙ ap (λ zs. zs ++ ys) p.prefix.joined };
+}
+
+-- xs and then a part of ys
+pub part_after : (old mid new : Option (List ℕ)) (xs ys : List ℕ) → Appends old mid xs → AppendsPart mid new ys → AppendsPart old new (xs ++ ys)
+part_after old mid new xs ys whole p = record {
+  part = xs ++ p.part;
+  added = Appends-trans old mid new xs p.part whole p.added;
+  prefix = record { rest = p.prefix.rest; joined = append_assoc xs p.part p.prefix.rest ∙ ap (λ zs. xs ++ zs) p.prefix.joined };
+}
+
+-- nothing is a part of anything
+pub part_nothing : (o : Option (List ℕ)) (xs : List ℕ) → AppendsPart o o xs
+part_nothing o xs = record { part = []; added = Appends-nil o; prefix = record { rest = xs; joined = refl } }
+
+-- xs, and then what a line passes on
+pub passes_after : (old mid new : Option (List ℕ)) (before then after from : ℕ) (xs line left : List ℕ) → Appends old mid xs → Passes [] line left (change mid new then after) → Passes xs line left (change old new before from)
+passes_after old mid new before then after from xs line left whole p = record {
+  sent = xs ++ p.sent;
+  adds = Appends-trans old mid new xs p.sent whole p.adds;
+  joined = append_assoc xs p.sent left ∙ ap (λ zs. xs ++ zs) p.joined;
+}
+
+-- ---- a text that is put line by line
+
+pub so_far_first : (o : Option (List ℕ)) (waiting left whole : List ℕ) → waiting ≡ [] → left ≡ whole → SoFar o o waiting left whole
+so_far_first o waiting left whole none is = record { sent = []; adds = Appends-nil o; joined = ap (λ xs. xs ++ left) none ∙ is }
+
+pub so_far_more : (old mid new : Option (List ℕ)) (before after : ℕ) (waiting waiting' line left left' whole : List ℕ) →
+    SoFar old mid waiting left whole → left ≡ line ++ left' → Passes waiting line waiting' (change mid new before after) → SoFar old new waiting' left' whole
+so_far_more old mid new before after waiting waiting' line left left' whole s is p = record {
+  sent = s.sent ++ p.sent;
+  adds = Appends-trans old mid new s.sent p.sent s.adds p.adds;
+  joined =
+      append_assoc s.sent p.sent (waiting' ++ left')
+      ∙ ap (λ xs. s.sent ++ xs) (sym (append_assoc p.sent waiting' left') ∙ ap (λ xs. xs ++ left') p.joined ∙ append_assoc waiting line left' ∙ ap (λ xs. waiting ++ xs) (sym is))
+      ∙ s.joined;
+}
+
+-- where a line is not passed on whole
+pub so_far_part : (old mid new : Option (List ℕ)) (waiting line left left' whole : List ℕ) →
+    SoFar old mid waiting left whole → left ≡ line ++ left' → AppendsPart mid new (waiting ++ line) → AppendsPart old new whole
+so_far_part old mid new waiting line left left' whole s is p =
+    let whole_is : (s.sent ++ (waiting ++ line)) ++ left' ≡ whole =
+    append_assoc s.sent (waiting ++ line) left' ∙ ap (λ xs. s.sent ++ xs) (append_assoc waiting line left' ∙ ap (λ xs. waiting ++ xs) (sym is)) ∙ s.joined in
+    let part : AppendsPart old new ((s.sent ++ (waiting ++ line)) ++ left') =
+    part_more old new (s.sent ++ (waiting ++ line)) left' (part_after old mid new s.sent (waiting ++ line) s.adds p) in
+    subst (λ (xs : List ℕ). AppendsPart old new xs) whole_is part
+
+-- where nothing is left but what waits
+pub so_far_whole : (old mid new : Option (List ℕ)) (waiting left whole : List ℕ) → SoFar old mid waiting left whole → left ≡ [] → Appends mid new waiting → Appends old new whole
+so_far_whole old mid new waiting left whole s none p =
+    let whole_is : s.sent ++ waiting ≡ whole = ap (λ xs. s.sent ++ xs) (sym (append-nil waiting) ∙ ap (λ xs. waiting ++ xs) (sym none)) ∙ s.joined in
+    subst (λ (xs : List ℕ). Appends old new xs) whole_is (Appends-trans old mid new s.sent waiting s.adds p)
+
+pub so_far_last : (old mid new : Option (List ℕ)) (waiting left whole : List ℕ) → SoFar old mid waiting left whole → AppendsPart mid new waiting → AppendsPart old new whole
+so_far_last old mid new waiting left whole s p =
+    so_far_part old mid new waiting [] left left whole s refl (subst (λ (xs : List ℕ). AppendsPart mid new xs) (sym (append-nil waiting)) p)

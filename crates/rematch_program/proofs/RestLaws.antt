@@ -1,0 +1,102 @@
+-- The rows after a row, and the first of them.
+use Rattle.std.proofs.Common.{◌≡◌, ℕ, zero, suc, ◌+◌, ◌<◌, ◌≤◌, ◌↔◌, ◌⊎◌, Bool, true, false, List, [], ◌∷◌, ◌++◌, length, take, drop, Option, Some, None, IsTrue, inl, inr, refl, sym, ap, ◌∙◌, subst, arith, length-take}
+use Rattle.std.specs.Prelude.{slice_get}
+use Rattle.std.proofs.lemmas.List.{take-append-drop, take_all}
+use Rattle.std.specs.List.{AllByRecursion}
+use Rattle.span_core.specs.Order.{StandsBefore}
+use Rattle.span_core.specs.OrderLaws.{stands_transitive}
+use Rattle.spanner_model.specs.Lists.{Has, IsInOrder}
+use Rattle.spanner_model.specs.Captures.{VarName}
+use Rattle.spanner_model.specs.Expression.{QueryTree}
+use Rattle.spanner_model.specs.Answers.{SpanRow, AreInBlockOrder, AreAnswers, IsRest, IsPage}
+use Rattle.spanner_model.proofs.HasLaws.{Has-take, Has-slice_get, Has-append_right}
+use Rattle.row_cursor.specs.CursorTexts.{AreParts, IsCursorText}
+use Rattle.rematch_program.specs.Pages.{AllFit, AreAsWide, FitsPage, IsAfter, IsPageOf, first_rows}
+
+-- ---- the search
+
+-- what holds of each element holds of a member
+all_has : (P : SpanRow → Type 0) (rows : List SpanRow) (r : SpanRow) → AllByRecursion P rows → Has rows r → P r
+all_has P [] r a h = absurd h
+all_has P (x ∷ rows) r a (inl e) = subst P e a.0
+all_has P (x ∷ rows) r a (inr h) = all_has P rows r a.1 h
+
+-- the row at a place stands after, so do all that follow it
+pub all_after : (after x : SpanRow) (rows : List SpanRow) (m : ℕ) → AreInBlockOrder rows → slice_get rows m ≡ Some x → StandsBefore after x → (r : SpanRow) → Has (drop m rows) r → StandsBefore after r
+all_after after x [] m up at h r has = absurd (cc)
+all_after after x (y ∷ rows) zero up at h r (inl e) = let same : y ≡ x = cc in subst (StandsBefore after) (sym same ∙ e) h
+all_after after x (y ∷ rows) zero up at h r (inr has) =
+    let same : y ≡ x = cc in
+    stands_transitive after x r h (subst (λ (z : SpanRow). StandsBefore z r) same (all_has (StandsBefore y) rows r up.0 has))
+all_after after x (y ∷ rows) (suc m) up at h r has = all_after after x rows m up.1 at h r has
+
+-- the row at a place does not, so does none before it
+pub none_after : (after x : SpanRow) (rows : List SpanRow) (m : ℕ) → AreInBlockOrder rows → slice_get rows m ≡ Some x → ¬ StandsBefore after x → (r : SpanRow) → Has (take (suc m) rows) r → ¬ StandsBefore after r
+none_after after x [] m up at never r has before = absurd (cc)
+none_after after x (y ∷ rows) zero up at never r (inl e) before = let same : y ≡ x = cc in never (subst (StandsBefore after) (sym e ∙ same) before)
+none_after after x (y ∷ rows) zero up at never r (inr has) before = absurd has
+none_after after x (y ∷ rows) (suc m) up at never r (inl e) before =
+    never (stands_transitive after y x (subst (StandsBefore after) (sym e) before) (all_has (StandsBefore y) rows x up.0 (Has-slice_get rows m x at)))
+none_after after x (y ∷ rows) (suc m) up at never r (inr has) before = none_after after x rows m up.1 at never r has before
+
+pub none_before : (after x : SpanRow) (rows : List SpanRow) (m k : ℕ) → k ≡ suc m → AreInBlockOrder rows → slice_get rows m ≡ Some x → ¬ StandsBefore after x → (r : SpanRow) → Has (take k rows) r → ¬ StandsBefore after r
+none_before after x rows m k is up at never r has = none_after after x rows m up at never r (subst (λ (n : ℕ). Has (take n rows) r) is has)
+
+-- a cut at which the rows in front do not stand after, and those behind do
+pub rest_at : (after : SpanRow) (rows : List SpanRow) (k : ℕ) → ((r : SpanRow) → Has (take k rows) r → ¬ StandsBefore after r) → ((r : SpanRow) → Has (drop k rows) r → StandsBefore after r) →
+    IsRest (Some after) rows (drop k rows)
+rest_at after rows k front behind = (take k rows, sym (take-append-drop k rows), front, behind)
+
+pub Has-drop : (rows : List SpanRow) (k : ℕ) (r : SpanRow) → Has (drop k rows) r → Has rows r
+Has-drop rows zero r h = h
+Has-drop [] (suc k) r h = h
+Has-drop (x ∷ rows) (suc k) r h = inr (Has-drop rows k r h)
+
+-- ---- the page
+
+pub Has-first : (limit : Option ℕ) (rows : List SpanRow) (r : SpanRow) → Has (first_rows limit rows) r → Has rows r
+Has-first None rows r h = h
+Has-first (Some limit) rows r h = Has-take rows limit r h
+
+pub Has-rest : (after : Option SpanRow) (rows rest : List SpanRow) (r : SpanRow) → IsRest after rows rest → Has rest r → Has rows r
+Has-rest None rows rest r is h = subst (λ (rs : List SpanRow). Has rs r) is h
+Has-rest (Some after) rows rest r is h = subst (λ (rs : List SpanRow). Has rs r) (sym is.1) (Has-append_right is.0 rest r h)
+
+first_is : (q : QueryTree) (d : List ℕ) (names : List VarName) (after : Option SpanRow) (limit : Option ℕ) (rows rest : List SpanRow) (more : Bool) →
+    AreAnswers q d names rows → IsRest after rows rest → IsTrue more ↔ (length (first_rows limit rest) < length rest) → IsPageOf q d names after limit (first_rows limit rest) more
+first_is q d names after (Some limit) rows rest more a is m = (
+  rows,
+  rest,
+  a,
+  is,
+  refl,
+  (λ t. let h = m.0 t in omega (arith, h, length-take limit rest), λ h. m.1 (omega (arith, h, length-take limit rest))),
+)
+first_is q d names after None rows rest true a is m = let h = m.0 refl in absurd (omega (arith, h))
+first_is q d names after None rows rest false a is m = (
+  length rest,
+  (rows, rest, a, is, sym (take_all (length rest) rest (omega arith)), (λ t. absurd (cc), λ h. absurd (omega (arith, h)))),
+  refl,
+)
+
+pub page_is : (q : QueryTree) (d : List ℕ) (names : List VarName) (after : Option SpanRow) (limit : Option ℕ) (rows rest page : List SpanRow) (more : Bool) →
+    AreAnswers q d names rows → IsRest after rows rest → page ≡ first_rows limit rest → IsTrue more ↔ (length page < length rest) → IsPageOf q d names after limit page more
+page_is q d names after limit rows rest page more a is first m =
+    subst (λ (p : List SpanRow). IsPageOf q d names after limit p more) (sym first)
+    (first_is q d names after limit rows rest more a is (subst (λ (p : List SpanRow). IsTrue more ↔ (length p < length rest)) first m))
+
+-- the rows of the page are answers
+pub page_rows_fit : (width n : ℕ) (after : Option SpanRow) (limit : Option ℕ) (rows rest page : List SpanRow) → AllFit width n rows → IsRest after rows rest → page ≡ first_rows limit rest → AllFit width n page
+page_rows_fit width n after limit rows rest page fit is first row h = fit row (Has-rest after rows rest row is (Has-first limit rest row (subst (λ (p : List SpanRow). Has p row) first h)))
+
+parts_long : (names : List VarName) (row : SpanRow) → AreParts names row → length row ≡ length names
+parts_long [] [] h = refl
+parts_long [] (s ∷ row) h = absurd h
+parts_long (x ∷ names) [] h = absurd h
+parts_long (x ∷ names) (s ∷ row) h = ap suc (parts_long names row h.2)
+
+-- the row of a cursor is as wide as the answers
+pub as_wide : (names : List VarName) (n : ℕ) (text : Option (List ℕ)) (after : Option SpanRow) (rows : List SpanRow) → IsAfter names text after → AllFit (length names) n rows → AreAsWide after rows
+as_wide names n text None rows h fit = tt
+as_wide names n None (Some row) rows h fit = absurd h
+as_wide names n (Some text) (Some row) rows h fit = λ r has. (fit r has).lengths ∙ sym (parts_long names row h.parts_are)

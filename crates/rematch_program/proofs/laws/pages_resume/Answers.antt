@@ -1,0 +1,5 @@
+use Rattle.rematch_program.proofs.ResumeLaws as law
+use Rattle.rematch_program.proofs.laws.pages_resume.Goals as goal
+
+pub returns : goal.returns
+returns c = law.pages_resume

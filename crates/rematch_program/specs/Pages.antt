@@ -1,0 +1,96 @@
+-- The page that a run writes: its rows, its text, and the note at its end.
+use Rattle.std.specs.Prelude.{◌≡◌, ℕ, Bool, true, false, IsTrue, List, [], ◌∷◌, ◌++◌, Option, Some, None, codes, length, take, unwrap_or, if◌then◌else◌}
+use Rattle.std.specs.Borrow.{Bor}
+use Rattle.std.specs.List.{flat_map, list_all}
+use Rattle.span_core.specs.declared.span.Span.{Span}
+use Rattle.spanner_model.specs.Lists.{Has}
+use Rattle.spanner_model.specs.Captures.{VarName}
+use Rattle.spanner_model.specs.Expression.{QueryTree}
+use Rattle.spanner_model.specs.Answers.{SpanRow, IsPage}
+use Rattle.cell_text.specs.Cells.{ends_by}
+use Rattle.row_cursor.specs.CursorTexts.{cursor_text, IsCursorText}
+use Rattle.row_writer.specs.Lines.{spans_text, head_text, table_text}
+use Rattle.row_writer.specs.JsonLines.{json_text}
+use Rattle.command_line.specs.declared.request.Form.{Form}
+use Rattle.command_line.specs.declared.request.Form.TheVariants as form
+use Rattle.rematch_program.specs.Notes.{line}
+
+-- ---- where the page begins
+
+-- the row that a cursor's text is that of; none, for the start, where no text is given
+abbrev pub IsAfter : List VarName → Option (List ℕ) → Option SpanRow → Type 0
+IsAfter names None None = Unit {0}
+IsAfter names None (Some row) = ⊥
+IsAfter names (Some text) None = ⊥
+IsAfter names (Some text) (Some row) = IsCursorText names row text
+
+-- no span of the row ends past n
+abbrev pub is_inside : ℕ → SpanRow → Bool
+is_inside n row = list_all (ends_by n) row
+
+abbrev pub cursor_fits : ℕ → Option SpanRow → Bool
+cursor_fits n None = true
+cursor_fits n (Some row) = is_inside n row
+
+-- a row that is lent
+abbrev pub row_behind : Option (Bor SpanRow) → Option SpanRow
+row_behind None = None
+row_behind (Some row) = Some row.now
+
+-- ---- the rows of the page
+
+-- a page with a limit, or without one that after which no row remains
+abbrev pub IsPageOf : QueryTree → List ℕ → List VarName → Option SpanRow → Option ℕ → List SpanRow → Bool → Type 0
+IsPageOf q d names after (Some limit) rows more = IsPage q d names after limit rows more
+IsPageOf q d names after None rows more = (limit : ℕ) × IsPage q d names after limit rows more × (more ≡ false)
+
+-- the first rows, all of them without a limit
+abbrev pub first_rows : Option ℕ → List SpanRow → List SpanRow
+first_rows None rows = rows
+first_rows (Some limit) rows = take limit rows
+
+-- ---- the text of the page
+
+-- the line of a row
+abbrev pub row_text : Form → Bool → List VarName → List ℕ → SpanRow → List ℕ
+row_text form.Spans texts names d row = spans_text names row d texts
+row_text form.Table texts names d row = table_text row d texts
+row_text form.Json texts names d row = json_text names row d texts
+
+-- what stands before all rows
+abbrev pub page_head : Form → List VarName → List ℕ
+page_head form.Spans names = []
+page_head form.Table names = head_text names
+page_head form.Json names = []
+
+-- the head, and a line for each row
+abbrev pub page_text : Form → Bool → List VarName → List ℕ → List SpanRow → List ℕ
+page_text form texts names d rows = page_head form names ++ flat_map (row_text form texts names d) rows
+
+-- ---- the note at its end
+
+-- the text of the last row that was written; where none was, the text that was given, or the word `start`
+abbrev pub next_cursor : List VarName → Option (List ℕ) → List SpanRow → List ℕ
+next_cursor names given [] = unwrap_or given (codes "start")
+next_cursor names given (row ∷ rows) = next_cursor names (Some (cursor_text names row)) rows
+
+abbrev pub last_note : List VarName → Option (List ℕ) → List SpanRow → Bool → List ℕ
+last_note names given rows more = if more then line (codes "more " ++ next_cursor names given rows) else line (codes "end")
+
+-- ---- what is known of a page's rows
+
+-- a span for each variable, none of which ends past n
+pub record FitsPage (width n : ℕ) (row : SpanRow) : Type 0 where
+  pub lengths : length row ≡ width
+  pub inside : IsTrue (is_inside n row)
+
+abbrev pub AllFit : ℕ → ℕ → List SpanRow → Type 0
+AllFit width n rows = (row : SpanRow) → Has rows row → FitsPage width n row
+
+abbrev pub AreLong : ℕ → List SpanRow → Type 0
+AreLong width rows = (row : SpanRow) → Has rows row → length row ≡ width
+
+-- the rows have as many spans as the row of the cursor
+abbrev pub AreAsWide : Option SpanRow → List SpanRow → Type 0
+AreAsWide None rows = Unit {0}
+AreAsWide (Some after) rows = AreLong (length after) rows

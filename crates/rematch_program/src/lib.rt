@@ -1,0 +1,27 @@
+//! A run of the program, over any shelf and any sinks.
+//!
+//! `run` goes from the words after the program's name to the status with which the program ends. Its
+//! one contract is the relation `Run`: what is fetched, what is written, and which status with which
+//! note comes when, in terms of what a query means and never of how it is evaluated.
+#![tactic(auto)]
+
+pub use laws::pages_resume;
+pub use top::run;
+
+mod ending;
+mod gather;
+mod laws;
+mod lines;
+mod notes;
+mod page;
+mod rest;
+mod top;
+
+/// The most bytes of a query's text.
+pub const QUERY_LIMIT: u64 = 65_536;
+
+/// The most bytes of a document.
+pub const DOCUMENT_LIMIT: u64 = 268_435_456;
+
+#[cfg(test)]
+mod tests;

@@ -1,0 +1,387 @@
+//! Runs over the shelf and the sinks in memory.
+ghost use Rattle.std.specs.Prelude.{◌≡◌, ◌<◌};
+
+use crate::run;
+use rm_outside::{MemoryShelf, MemorySink, Status};
+use span_core::Steps;
+use std::alloc::Global;
+use std::marker::Brand;
+use std::sync::ledger::{Blank, Ledger};
+use std::test::Fail;
+
+/// The query that the shelf holds under the name Q.
+const QUERY: &[u8] = b"let w = /!x{[a-z]+}/; project x (w join /!x{..}!y{\\d}/)";
+
+/// Words with `~` between, the document that the shelf holds under the name D, and what comes.
+const ROWS: [(&str, &[u8], Status, &[u8], &[u8]); 37] = [
+    // Spans line by line, in block order; the empty ones too, and each once.
+    (
+        "-e~/!x{a*}/~D",
+        b"aa",
+        Status::Done,
+        b"x=0-0\nx=0-1\nx=0-2\nx=1-1\nx=1-2\nx=2-2\n",
+        b"end\n",
+    ),
+    ("-e~/!x{a*}/~D", b"", Status::Done, b"x=0-0\n", b"end\n"),
+    ("-e~/^!x{a*}$/~D", b"aa", Status::Done, b"x=0-2\n", b"end\n"),
+    (
+        "-e~/!x{a}(a|aa)*/~D",
+        b"aaa",
+        Status::Done,
+        b"x=0-1\nx=1-2\nx=2-3\n",
+        b"end\n",
+    ),
+    (
+        "-e~/!x{a+}!y{b+}/~D",
+        b"aabb",
+        Status::Done,
+        b"x=0-2 y=2-3\nx=0-2 y=2-4\nx=1-2 y=2-3\nx=1-2 y=2-4\n",
+        b"end\n",
+    ),
+    ("-e~/ab/~D", b"xxab", Status::Done, b"()\n", b"end\n"),
+    ("-e~/ab/~D", b"xx", Status::Done, b"", b"end\n"),
+    (
+        "-e~/!x{[ab]+}/ join /!x{.}b/~D",
+        b"aab",
+        Status::Done,
+        b"x=1-2\n",
+        b"end\n",
+    ),
+    (
+        "-e~project x (/!x{a}!y{b*}/)~D",
+        b"abb",
+        Status::Done,
+        b"x=0-1\n",
+        b"end\n",
+    ),
+    ("-q~Q~D", b"ab1", Status::Done, b"x=0-2\n", b"end\n"),
+    (
+        "-e~/!x{é+}/~D",
+        b"\xc3\xa9\xc3\xa9",
+        Status::Done,
+        b"x=0-2\nx=0-4\nx=2-4\n",
+        b"end\n",
+    ),
+    // Pages.
+    (
+        "-e~/!x{a*}/~-n~2~D",
+        b"aa",
+        Status::Done,
+        b"x=0-0\nx=0-1\n",
+        b"more c1;x:0-1\n",
+    ),
+    (
+        "-e~/!x{a*}/~-a~c1;x:0-1~D",
+        b"aa",
+        Status::Done,
+        b"x=0-2\nx=1-1\nx=1-2\nx=2-2\n",
+        b"end\n",
+    ),
+    (
+        "-e~/!x{a*}/~-n~6~D",
+        b"aa",
+        Status::Done,
+        b"x=0-0\nx=0-1\nx=0-2\nx=1-1\nx=1-2\nx=2-2\n",
+        b"end\n",
+    ),
+    (
+        "-e~/!x{a*}/~-n~0~D",
+        b"aa",
+        Status::Done,
+        b"",
+        b"more start\n",
+    ),
+    (
+        "-e~/!x{a*}/~-n~0~-a~c1;x:0-1~D",
+        b"aa",
+        Status::Done,
+        b"",
+        b"more c1;x:0-1\n",
+    ),
+    (
+        "-e~/!x{a*}/~-n~0~-a~c1;x:2-2~D",
+        b"aa",
+        Status::Done,
+        b"",
+        b"end\n",
+    ),
+    (
+        "-e~/!x{a*}/~-n~1~-a~start~D",
+        b"aa",
+        Status::Done,
+        b"x=0-0\n",
+        b"more c1;x:0-0\n",
+    ),
+    // A cursor that is no answer, and those that are refused.
+    (
+        "-e~/!x{a}/~-a~c1;x:0-2~D",
+        b"aab",
+        Status::Done,
+        b"x=1-2\n",
+        b"end\n",
+    ),
+    (
+        "-e~/!x{a}/~-a~c1;x:0-9~D",
+        b"aab",
+        Status::Cursor,
+        b"",
+        b"cursor: past the document\n",
+    ),
+    (
+        "-e~/!x{a}/~-a~c1;y:0-1~D",
+        b"aab",
+        Status::Cursor,
+        b"",
+        b"cursor: other variables\n",
+    ),
+    (
+        "-e~/!x{a}/~-a~c1;x:2-1~D",
+        b"aab",
+        Status::Cursor,
+        b"",
+        b"cursor: not a cursor\n",
+    ),
+    // The cursor's text is read before the document is fetched.
+    (
+        "-e~/!x{a}/~-a~c1~E",
+        b"aab",
+        Status::Cursor,
+        b"",
+        b"cursor: other variables\n",
+    ),
+    // Forms.
+    (
+        "-e~/^!x{a*}$/~-f~json~D",
+        b"aa",
+        Status::Done,
+        b"{\"x\":[0,2]}\n",
+        b"end\n",
+    ),
+    (
+        "-e~/ab/~-f~json~D",
+        b"xxab",
+        Status::Done,
+        b"{}\n",
+        b"end\n",
+    ),
+    (
+        "-e~/!x{a+}!y{b+}/~-f~table~-n~1~D",
+        b"aabb",
+        Status::Done,
+        b"x\ty\n0-2\t2-3\n",
+        b"more c1;x:0-2;y:2-3\n",
+    ),
+    ("-e~/ab/~-f~table~D", b"xx", Status::Done, b"()\n", b"end\n"),
+    (
+        "-e~/!x{.\\n}/~-t~D",
+        b"a\n",
+        Status::Done,
+        b"x=0-2\"a\\n\"\n",
+        b"end\n",
+    ),
+    (
+        "-e~/!x{.\\n}/~-f~json~-t~D",
+        b"a\n",
+        Status::Done,
+        b"{\"x\":[0,2,\"a\\\\n\"]}\n",
+        b"end\n",
+    ),
+    // Words, queries and names that are refused.
+    ("", b"", Status::Words, b"", b"bad command line\n"),
+    (
+        "-e~/a/~-q~Q~D",
+        b"",
+        Status::Words,
+        b"",
+        b"bad command line\n",
+    ),
+    (
+        "-e~/!x{a}/ union /!y{a}/~D",
+        b"a",
+        Status::Query,
+        b"",
+        b"query: variable x not on both sides of union\n",
+    ),
+    (
+        "-e~/a**/~D",
+        b"a",
+        Status::Query,
+        b"",
+        b"query: repeat after repeat at 3\n",
+    ),
+    (
+        "-e~/a/ join b~D",
+        b"a",
+        Status::Query,
+        b"",
+        b"query: unknown name at 9\n",
+    ),
+    (
+        "-e~/a/~E",
+        b"a",
+        Status::Read,
+        b"",
+        b"read failed: document\n",
+    ),
+    ("-q~R~E", b"a", Status::Read, b"", b"read failed: query\n"),
+    ("-q~R~D", b"a", Status::Read, b"", b"read failed: query\n"),
+];
+
+fn words_of(alloc: Global, line: &str) -> Result<Vec<String>, Fail> {
+    let mut words = Vec::new(alloc);
+    for word in line.split('~') {
+        if !word.is_empty() {
+            words.push(String::from_str(alloc, word)?)?;
+        }
+    }
+    Ok(words)
+}
+
+/// A shelf with a document under the name D and a query under the name Q.
+fn shelf_of(alloc: Global, document: &[u8], failing: Vec<u64>) -> Result<MemoryShelf, Fail> {
+    let mut shelf = MemoryShelf::new(alloc, failing);
+    shelf.hold("D", document)?;
+    shelf.hold("Q", QUERY)?;
+    Ok(shelf)
+}
+
+fn sink_of(alloc: Global, failing: Vec<(u64, usize)>) -> Result<MemorySink, Fail> {
+    Ok(MemorySink::new(alloc, 200_000, failing)?)
+}
+
+fn runs<L: Ledger>(
+    alloc: Global,
+    blank: Blank,
+    words: &[String],
+    mut shelf: MemoryShelf,
+    mut out: MemorySink,
+    mut notes: MemorySink,
+) -> (Status, MemorySink, MemorySink)
+    requires name { blank.name ≡ L.name }
+    requires parts { blank.parts ≡ L.parts }
+    requires some { 0 < L.parts }
+{
+    let mut steps = Steps::<L>::new(blank);
+    let status = run(alloc, words, &mut shelf, &mut out, &mut notes, &mut steps);
+    (status, out, notes)
+}
+
+#[test]
+fn rows(rt: HostRuntime) -> Result<(), Fail> {
+    let alloc = rt.alloc();
+    for (line, document, status, out, notes) in ROWS {
+        let words = words_of(alloc, line)?;
+        let shelf = shelf_of(alloc, document, Vec::new(alloc))?;
+        let out_sink = sink_of(alloc, Vec::new(alloc))?;
+        let note_sink = sink_of(alloc, Vec::new(alloc))?;
+        let ended = runs::<Brand>(alloc, Blank::new(1), &words, shelf, out_sink, note_sink);
+        assert_eq!(rt; ended.0, status, "at {line}");
+        assert_eq!(rt; ended.1.bytes(), out, "at {line}");
+        assert_eq!(rt; ended.2.bytes(), notes, "at {line}");
+    }
+    Ok(())
+}
+
+/// Words, the fetches that fail, how many bytes out's and notes' put 0 take before they fail, and what
+/// comes on `aa`.
+const FAULTS: [(
+    &str,
+    &[u64],
+    Option<usize>,
+    Option<usize>,
+    Status,
+    &str,
+    &str,
+); 6] = [
+    (
+        "-e~/!x{a*}/~D",
+        &[],
+        Some(7),
+        None,
+        Status::Write,
+        "x=0-0\nx",
+        "write failed\n",
+    ),
+    (
+        "-e~/!x{a*}/~D",
+        &[],
+        Some(7),
+        Some(3),
+        Status::Write,
+        "x=0-0\nx",
+        "wri",
+    ),
+    (
+        "-e~/!x{a*}/~D",
+        &[],
+        None,
+        Some(0),
+        Status::Write,
+        "x=0-0\nx=0-1\nx=0-2\nx=1-1\nx=1-2\nx=2-2\n",
+        "",
+    ),
+    ("-e~/a**/~D", &[], None, Some(2), Status::Query, "", "qu"),
+    (
+        "-q~Q~D",
+        &[0],
+        None,
+        None,
+        Status::Read,
+        "",
+        "read failed: query\n",
+    ),
+    (
+        "-q~Q~D",
+        &[1],
+        None,
+        None,
+        Status::Read,
+        "",
+        "read failed: document\n",
+    ),
+];
+
+/// That put 0 fails after so many bytes.
+fn first_fails(alloc: Global, taken: Option<usize>) -> Result<Vec<(u64, usize)>, Fail> {
+    let mut failing = Vec::new(alloc);
+    if let Some(count) = taken {
+        failing.push((0, count))?;
+    }
+    Ok(failing)
+}
+
+#[test]
+fn faults(rt: HostRuntime) -> Result<(), Fail> {
+    let alloc = rt.alloc();
+    for (line, fetches, out_takes, notes_take, status, out, notes) in FAULTS {
+        let words = words_of(alloc, line)?;
+        let shelf = shelf_of(alloc, b"aa", fetches.to_vec(alloc)?)?;
+        let out_sink = sink_of(alloc, first_fails(alloc, out_takes)?)?;
+        let note_sink = sink_of(alloc, first_fails(alloc, notes_take)?)?;
+        let ended = runs::<Brand>(alloc, Blank::new(1), &words, shelf, out_sink, note_sink);
+        assert_eq!(rt; ended.0, status, "at {line}");
+        assert_eq!(rt; ended.1.bytes(), out.as_bytes(), "at {line}");
+        assert_eq!(rt; ended.2.bytes(), notes.as_bytes(), "at {line}");
+    }
+    Ok(())
+}
+
+/// Ten thousand rows go in two puts of whole lines, of which the second fails.
+#[test]
+fn second_put_fails(rt: HostRuntime) -> Result<(), Fail> {
+    let alloc = rt.alloc();
+    let words = words_of(alloc, "-e~/!x{a}/~D")?;
+    let mut document = Vec::new(alloc);
+    document.resize(10_000, b'a')?;
+    let shelf = shelf_of(alloc, document.as_slice(), Vec::new(alloc))?;
+    let mut failing = Vec::new(alloc);
+    failing.push((1, 0))?;
+    let out = sink_of(alloc, failing)?;
+    let notes = sink_of(alloc, Vec::new(alloc))?;
+    let ended = runs::<Brand>(alloc, Blank::new(1), &words, shelf, out, notes);
+    assert_eq!(rt; ended.0, Status::Write);
+    assert_eq!(rt; ended.1.bytes().len(), 65_535);
+    assert!(rt; ended.1.bytes().ends_with(b"\nx=5645-5646\n"));
+    assert_eq!(rt; ended.2.bytes(), b"write failed\n".as_slice());
+    Ok(())
+}
