@@ -1,5 +1,5 @@
 -- Between the cases of a run.
-use Rattle.std.proofs.Common.{◌≡◌, ◌≤◌, ℕ, Option, List, arith, subst, sym, true, false}
+use Rattle.std.proofs.Common.{◌≡◌, ◌≤◌, ℕ, Option, List, arith, subst}
 use Rattle.rm_outside.specs.Faults.{Rose}
 use Rattle.rm_outside.specs.declared.status.Status.{Status}
 use Rattle.command_line.specs.Asked.{Asked}
@@ -7,7 +7,7 @@ use Rattle.spanner_model.specs.Captures.{VarName}
 use Rattle.spanner_model.specs.Expression.{QueryTree}
 use Rattle.spanner_model.specs.Answers.{SpanRow}
 use Rattle.rematch_program.specs.Change.{Change}
-use Rattle.rematch_program.specs.Run.{Text, Store, store, FromPlace, FromQuery, FromText}
+use Rattle.rematch_program.specs.Run.{Text, store, FromPlace, FromQuery, FromText}
 use Rattle.rematch_program.specs.Run.{document_failed, document_too_long, out_of_memory, found, no_cursor, other_variables, placed, query_refused, understood}
 
 pub rose_earlier : (a b c : ℕ) → a ≤ b → Rose b c → Rose a c

@@ -1,9 +1,9 @@
 -- A run whose way is clear ends with the whole page.
-use Rattle.std.proofs.Common.{ℕ, ◌≡◌, ◌<◌, ◌≤◌, ◌⊎◌, ◌∙◌, inl, inr, refl, sym, ap, subst, List, Bool, Option, Some, None, IfSome, true, false, length, arith}
+use Rattle.std.proofs.Common.{ℕ, ◌≡◌, ◌<◌, ◌⊎◌, ◌∙◌, inl, inr, refl, sym, ap, subst, List, Bool, Option, Some, None, IfSome, true, false, length, arith}
 use Rattle.std.proofs.lemmas.Option.{same_Some}
 use Rattle.rm_outside.specs.declared.status.Status.{Status}
 use Rattle.rm_outside.specs.declared.status.Status.TheVariants as status
-use Rattle.command_line.specs.Asked.{Asked, Query, Itself, HeldBy, asked}
+use Rattle.command_line.specs.Asked.{Asked, Query, Itself, HeldBy}
 use Rattle.spanner_model.specs.Captures.{VarName}
 use Rattle.spanner_model.specs.Expression.{QueryTree}
 use Rattle.spanner_model.specs.Answers.{SpanRow, AreResultNames}
@@ -11,8 +11,8 @@ use Rattle.spanner_model.proofs.NameLaws.{same_names}
 use Rattle.row_cursor.specs.CursorTexts.{IsCursorText}
 use Rattle.row_cursor.proofs.Whole.{one_cursor}
 use Rattle.rematch_program.specs.declared.TheConstants.{QUERY_LIMIT, DOCUMENT_LIMIT}
-use Rattle.rematch_program.specs.Change.{Change, Adds, Failed}
-use Rattle.rematch_program.specs.Pages.{IsAfter, cursor_fits, IsPageOf, page_text, last_note}
+use Rattle.rematch_program.specs.Change.{Change, Adds}
+use Rattle.rematch_program.specs.Pages.{IsAfter, IsPageOf, page_text, last_note}
 use Rattle.rematch_program.specs.Run.{Text, Store, FromPage, FromDocument, FromPlace, FromQuery, FromText, FromAsked, FromWords, Reports, Run}
 use Rattle.rematch_program.specs.Run.{whole, write_failed, out_of_memory, past_the_document, answered, document_failed, document_too_long, found, no_cursor, other_variables, placed}
 use Rattle.rematch_program.specs.Run.{query_refused, understood, given, query_failed, query_too_long, fetched, refused, accepted, cut}

@@ -2,8 +2,8 @@
 use Rattle.std.proofs.Common.{◌≡◌, ℕ, List, [], ◌++◌, Option, ap, ◌∙◌, sym, refl, subst, append_assoc, append-nil}
 use Rattle.std.proofs.KnownBytes.{Appends-nil, Appends-trans}
 use Rattle.std.specs.Io.KnownBytes.{Appends}
-use Rattle.rm_outside.specs.Sink.{AppendsPart, IsPrefixOf}
-use Rattle.rematch_program.specs.Change.{Change, change, Passes, SoFar}
+use Rattle.rm_outside.specs.Sink.{AppendsPart}
+use Rattle.rematch_program.specs.Change.{change, Passes, SoFar}
 
 -- a part of xs is a part of xs and ys
 pub part_more : (old new : Option (List ℕ)) (xs ys : List ℕ) → AppendsPart old new xs → AppendsPart old new (xs ++ ys)

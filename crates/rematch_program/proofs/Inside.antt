@@ -1,6 +1,6 @@
 -- The spans of answers end in the document.
-use Rattle.std.proofs.Common.{◌≡◌, ℕ, zero, suc, ◌<◌, ◌≤◌, ◌⊎◌, Bool, true, false, List, [], ◌∷◌, ◌++◌, length, map, Option, Some, None, IsTrue, inl, inr, refl, sym, ◌∙◌, subst, arith}
-use Rattle.std.specs.Prelude.{slice_get, nat_eq, nat_le, MatchBool, if◌then◌else◌}
+use Rattle.std.proofs.Common.{◌≡◌, ℕ, zero, suc, ◌<◌, ◌≤◌, ◌⊎◌, Bool, true, false, List, [], ◌∷◌, ◌++◌, length, map, Option, Some, None, inl, inr, refl, sym, ◌∙◌, subst, arith}
+use Rattle.std.specs.Prelude.{slice_get, nat_eq, MatchBool, if◌then◌else◌}
 use Rattle.std.specs.Option.{IsSomeAnd}
 use Rattle.std.specs.List.{list_all}
 use Rattle.std.specs.Str.{bytes_eq}
@@ -13,7 +13,7 @@ use Rattle.spanner_model.specs.Captures.{VarName, Captures, Mapping, span_of, ro
 use Rattle.spanner_model.specs.Fit.{Piece, Times, Fit}
 use Rattle.spanner_model.specs.Expression.{ExprTree, QueryTree, atom, named, union_end, union, join_end, join, project}
 use Rattle.spanner_model.specs.Answer.{VarOf, Answer, vars_of_lets, answers_of_lets, IsAnswer}
-use Rattle.spanner_model.specs.Answers.{SpanRow, AreAnswers, IsAnswerRow}
+use Rattle.spanner_model.specs.Answers.{SpanRow, AreAnswers}
 use Rattle.spanner_model.proofs.FitLaws.{fit_le, fit_within}
 use Rattle.cell_text.specs.Cells.{ends_by}
 use Rattle.rematch_program.specs.Pages.{FitsPage}

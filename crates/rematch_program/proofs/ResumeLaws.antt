@@ -1,5 +1,5 @@
 -- A page's own cursor stands for its end.
-use Rattle.std.proofs.Common.{◌≡◌, ℕ, zero, suc, ◌+◌, ◌≤◌, ◌<◌, ◌^◌, List, [], ◌∷◌, ◌++◌, Bool, length, take, map, Option, Some, None, IsTrue, inl, inr, refl, sym, ◌∙◌, subst, arith}
+use Rattle.std.proofs.Common.{◌≡◌, ℕ, ◌≤◌, List, [], ◌∷◌, Bool, length, map, Option, Some, None, IsTrue, inl, inr, refl, sym, subst, arith}
 use Rattle.span_core.specs.declared.span.Span.{Span}
 use Rattle.span_core.specs.Names.{is_name}
 use Rattle.command_line.specs.Asked.{cursor_of}
@@ -11,9 +11,9 @@ use Rattle.spanner_model.specs.Answers.{SpanRow, AreResultNames, IsPage, page_en
 use Rattle.spanner_model.proofs.AnswerLaws.{query_given}
 use Rattle.spanner_model.proofs.HasLaws.{Has-take}
 use Rattle.spanner_model.proofs.RowOrder.{pages_join}
-use Rattle.row_cursor.specs.CursorTexts.{cursor_text, IsKept, AreParts, IsCursorText}
+use Rattle.row_cursor.specs.CursorTexts.{cursor_text, IsKept, AreParts}
 use Rattle.rematch_program.specs.declared.TheConstants.{DOCUMENT_LIMIT}
-use Rattle.rematch_program.specs.Pages.{IsAfter, next_cursor}
+use Rattle.rematch_program.specs.Pages.{IsAfter}
 use Rattle.rematch_program.specs.Resume.{note_cursor, PagesResume}
 use Rattle.rematch_program.proofs.Completeness.{after_one}
 use Rattle.rematch_program.proofs.Inside.{EndsBy, query_ends}

@@ -1,6 +1,5 @@
 -- How the work ended, before its note is written.
 use Rattle.std.specs.Prelude.{List, ℕ}
-use Rattle.std.specs.String.{string_bytes}
 use Rattle.rematch_program.specs.declared.ending.Note.{Note}
 use Rattle.rematch_program.specs.declared.ending.Note.TheVariants.{Line, Made}
 

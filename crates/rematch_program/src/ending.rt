@@ -13,6 +13,7 @@ pub enum Note {
 }
 
 impl Note {
+    /// The note's line, its end included.
     pub fn as_bytes(&self) -> &[u8]
         ensures { result.now ≡ note_bytes self.now }
     {

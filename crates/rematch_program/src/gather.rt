@@ -19,6 +19,7 @@ pub struct Gather {
 }
 
 impl Gather {
+    /// Nothing waits, and the room that is ever needed is made.
     pub fn new(alloc: Global) -> Result<Gather, OutOfMemory>
         ensures { IfOk result (λ g. g.waiting.items ≡ []) }
     {

@@ -1,11 +1,11 @@
-use Rattle.std.proofs.Common.{rules, arith, refl, sym, ap, ◌∙◌, ◌++◌, ◌≤◌, subst, length, drop}
+use Rattle.std.proofs.Common.{rules, arith, refl, sym, ap, ◌∙◌, ◌++◌, subst}
 use Rattle.std.specs.List.{flat_map}
 use Rattle.command_line.specs.Asked.{request_view}
 use Rattle.spanner_model.specs.Lists.{Has}
 use Rattle.spanner_model.proofs.HasLaws.{Has-get_or}
-use Rattle.rematch_program.specs.Pages.{page_head, page_text, row_text}
-use Rattle.rematch_program.proofs.Gathers.{so_far_first, so_far_more, so_far_part, so_far_whole, so_far_last}
-use Rattle.rematch_program.proofs.PageLaws.{lines_at, lines_end}
+use Rattle.rematch_program.specs.Pages.{page_head, row_text}
+use Rattle.rematch_program.proofs.Gathers.{so_far_first, so_far_more, so_far_part, so_far_last}
+use Rattle.rematch_program.proofs.PageLaws.{lines_at}
 use Rattle.rematch_program.proofs.page.put_page.Goals as goal
 
 pub loop-k-init : goal.loop-k-init

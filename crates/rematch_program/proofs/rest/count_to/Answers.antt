@@ -1,4 +1,4 @@
-use Rattle.std.proofs.Common.{arith, sym, subst, ◌≡◌, ◌≤◌, ℕ, ◌+◌, suc, length, take, drop, IsTrue, false}
+use Rattle.std.proofs.Common.{arith, sym, subst, ◌≡◌, ℕ, drop}
 use Rattle.spanner_model.specs.Lists.{Has}
 use Rattle.spanner_model.specs.Answers.{SpanRow}
 use Rattle.span_core.specs.Order.{StandsBefore}
