@@ -45,12 +45,14 @@ impl Branch {
         })
     }
 
+    /// What the fits of this branch capture, in the order of the formula.
     pub fn captures(&self) -> &[(Name, Span)]
         ensures { result.now ≡ self.now.0 }
     {
         &self.captures
     }
 
+    /// Where the fits of this branch end, in bytes from 0.
     pub fn ends(&self) -> &[usize]
         ensures { result.now ≡ self.now.1 }
     {

@@ -29,6 +29,7 @@ impl Reached {
         }
     }
 
+    /// How many ends were reached so far.
     pub fn len(&self) -> usize
         ensures { result ≡ length self.now.ends.items }
     {
@@ -43,6 +44,7 @@ impl Reached {
         &self.ends[done..]
     }
 
+    /// All ends that were reached, in the order in which they were.
     pub fn into_ends(self) -> Vec<usize>
         ensures { result.items ≡ self.ends.items }
     {
