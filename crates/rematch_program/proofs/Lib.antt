@@ -6,3 +6,4 @@ pub mod PageLaws
 pub mod QueryLaws
 pub mod RestLaws
 pub mod ResumeLaws
+pub mod ResultNames

@@ -15,6 +15,7 @@ use Rattle.row_cursor.specs.CursorTexts.{cursor_text, IsKept, AreParts}
 use Rattle.rematch_program.specs.declared.TheConstants.{DOCUMENT_LIMIT}
 use Rattle.rematch_program.specs.Pages.{IsAfter}
 use Rattle.rematch_program.specs.Resume.{note_cursor, PagesResume}
+use Rattle.rematch_program.proofs.ResultNames.{result_named}
 use Rattle.rematch_program.proofs.Completeness.{after_one}
 use Rattle.rematch_program.proofs.Inside.{EndsBy, query_ends}
 use Rattle.rematch_program.proofs.RestLaws.{Has-rest}
@@ -60,7 +61,8 @@ resumes names given after (row ∷ page) h kept =
     resumes names (Some (cursor_text names row)) (Some row) page (record { parts_are = kept row (inl refl); spelled = refl }) (λ r has. kept r (inr has))
 
 pub pages_resume : PagesResume
-pages_resume q d names given after a page more sound few are named begins p =
+pages_resume q d names given after a page more sound few are begins p =
+    let named = λ (x : VarName) (h : Has names x). result_named q x sound ((are.1 x).0 h) in
     let there = resumes names given after page begins (page_kept q d names after a page more sound few are named p) in (
       there,
       λ resumed b next more' taken n.

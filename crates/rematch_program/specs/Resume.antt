@@ -1,8 +1,6 @@
 -- Runs that are resumed at their own cursors.
-use Rattle.std.specs.Prelude.{ℕ, ◌+◌, ◌≤◌, List, ◌++◌, Bool, Option, Some, IsTrue, length}
+use Rattle.std.specs.Prelude.{ℕ, ◌+◌, ◌≤◌, List, ◌++◌, Bool, Option, Some, length}
 use Rattle.command_line.specs.Asked.{cursor_of}
-use Rattle.span_core.specs.Names.{is_name}
-use Rattle.spanner_model.specs.Lists.{Has}
 use Rattle.spanner_model.specs.Captures.{VarName}
 use Rattle.spanner_model.specs.Expression.{QueryTree}
 use Rattle.spanner_model.specs.Sound.{IsSound}
@@ -19,7 +17,7 @@ note_cursor names given page = cursor_of (Some (next_cursor names given page))
 abbrev pub PagesResume : Type 0
 PagesResume =
     (q : QueryTree) (d : List ℕ) (names : List VarName) (given : Option (List ℕ)) (after : Option SpanRow) (a : ℕ) (page : List SpanRow) (more : Bool) →
-    IsSound q → length d ≤ DOCUMENT_LIMIT → AreResultNames q names → ((x : VarName) → Has names x → IsTrue (is_name x)) →
+    IsSound q → length d ≤ DOCUMENT_LIMIT → AreResultNames q names →
     IsAfter names given after → IsPage q d names after a page more →
     IsAfter names (note_cursor names given page) (page_end page after)
     × ((resumed : Option SpanRow) (b : ℕ) (next : List SpanRow) (more' : Bool) → IsAfter names (note_cursor names given page) resumed →
