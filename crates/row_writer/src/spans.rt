@@ -10,17 +10,18 @@ use crate::room::line_room;
 use crate::shown::put_shown;
 use cell_text::{put_byte, put_bytes};
 use span_core::{Name, OutOfMemory, Row, Span, VarSet};
+use std::alloc::Allocator;
 
 /// Appends the spans line of a row: `x=0-2 y=2-3`, with `texts` `x=0-2"ab" y=2-3"c"`, and `()` without variables.
 ///
 /// Offsets count bytes from 0. A text stands in its printable form: `\\`, `\"`, `\n`, `\t`, `\r` and `\xhh`.
 /// An absent span is `-`.
-pub fn spans_line(
+pub fn spans_line<A: Allocator>(
     vars: &VarSet,
     row: &Row,
     doc: &[u8],
     texts: bool,
-    out: &mut Vec<u8>,
+    out: &mut Vec<u8, A>,
 ) -> Result<(), OutOfMemory>
     requires lengths { length row.now ≡ length vars.now }
     requires inside { IsTrue (list_all (ends_by (length doc.now)) row.now) }

@@ -10,9 +10,10 @@ use crate::room::line_room;
 use crate::shown::put_shown;
 use cell_text::{put_byte, put_bytes};
 use span_core::{MOST_NAME_BYTES, OutOfMemory, Row, VarSet};
+use std::alloc::Allocator;
 
 /// Appends the head of the table: the names with a tab between, and `()` without variables.
-pub fn table_head(vars: &VarSet, out: &mut Vec<u8>) -> Result<(), OutOfMemory>
+pub fn table_head<A: Allocator>(vars: &VarSet, out: &mut Vec<u8, A>) -> Result<(), OutOfMemory>
     ensures ok { OnOk result (out.new.items ≡ out.old.items ++ head_text vars.now) }
     ensures err { OnErr result (out.new.items ≡ out.old.items) }
 {
@@ -42,12 +43,12 @@ fn put_head(vars: &VarSet, buffer: &mut [u8], at: usize) -> usize
 /// Appends the line of a row in the table: its cells with a tab between, and `()` without variables.
 ///
 /// A cell is `start-end`, with `texts` followed by the text in quotes, as in a spans line.
-pub fn table_line(
+pub fn table_line<A: Allocator>(
     vars: &VarSet,
     row: &Row,
     doc: &[u8],
     texts: bool,
-    out: &mut Vec<u8>,
+    out: &mut Vec<u8, A>,
 ) -> Result<(), OutOfMemory>
     requires lengths { length row.now ≡ length vars.now }
     requires inside { IsTrue (list_all (ends_by (length doc.now)) row.now) }

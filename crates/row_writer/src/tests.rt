@@ -1,6 +1,7 @@
 //! Lines to the byte, worked out by hand.
 use crate::{json_line, spans_line, table_head, table_line};
-use span_core::{Name, Row, Span, VarSet};
+use linked_list_allocator::LocalHeap;
+use span_core::{Name, OutOfMemory, Row, Span, VarSet};
 use std::test::Fail;
 
 /// The text form of the bytes 0 to 255.
@@ -69,5 +70,30 @@ fn each_byte(rt: HostRuntime) -> Result<(), Fail> {
     expected.extend_from_slice(EACH_BYTE)?;
     expected.extend_from_slice(b"\"\n")?;
     assert_eq!(rt; out.as_slice(), expected.as_slice());
+    Ok(())
+}
+
+/// Over a heap whose one block is taken each line is refused, and leaves the text before it.
+#[test]
+fn refused(rt: HostRuntime) -> Result<(), Fail> {
+    let vars = names(&[b"x"]);
+    let mut row = Row::empty();
+    row.push(Span::new(0, 2));
+    let (doc, lack) = (b"ab", Err(OutOfMemory));
+    let heap = LocalHeap::new(rt.alloc(), 16)?;
+    let mut out = Vec::new(&heap);
+    out.extend_from_slice(b"eight...")?;
+    assert_eq!(rt; vars.len(), 1);
+    assert_eq!(rt; spans_line(&vars, &row, doc, true, &mut out), lack);
+    assert_eq!(rt; out.as_slice(), b"eight...".as_slice());
+    assert_eq!(rt; table_head(&vars, &mut out), lack);
+    assert_eq!(rt; out.as_slice(), b"eight...".as_slice());
+    assert_eq!(rt; table_line(&vars, &row, doc, true, &mut out), lack);
+    assert_eq!(rt; out.as_slice(), b"eight...".as_slice());
+    assert_eq!(rt;
+        json_line(rt.alloc(), &vars, &row, doc, true, &mut out),
+        lack
+    );
+    assert_eq!(rt; out.as_slice(), b"eight...".as_slice());
     Ok(())
 }
