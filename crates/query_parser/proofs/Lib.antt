@@ -19,3 +19,5 @@ pub mod SameLaws
 pub mod SoundQuery
 pub mod KnownLaws
 pub mod ReadLaws
+pub mod PrintedParts
+pub mod SoundFormed

@@ -11,3 +11,5 @@ pub mod View
 pub mod Turn
 pub mod Numbers
 pub mod Formed
+pub mod Printed
+pub mod PrinterView

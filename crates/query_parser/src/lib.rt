@@ -6,6 +6,7 @@ pub use laws::{
     no_text_has_a_query_and_a_fault, no_text_has_two_faults, no_text_has_two_faults_of_reading,
     no_text_is_read_and_has_a_fault_of_reading, no_text_spells_two_queries,
 };
+pub use printer::print_query;
 pub use reader::read_query;
 
 mod check;
@@ -13,6 +14,7 @@ mod fault;
 mod laws;
 mod named;
 mod nest;
+mod printer;
 mod reader;
 mod tokens;
 mod turns;

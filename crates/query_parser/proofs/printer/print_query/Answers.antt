@@ -1,0 +1,6 @@
+use Rattle.spanner_model.specs.ExprView.{query_of}
+use Rattle.query_parser.proofs.SoundFormed.{query_is_formed}
+use Rattle.query_parser.proofs.printer.print_query.Goals as goal
+
+pub push_query-done-requires : goal.push_query-done-requires
+push_query-done-requires c = query_is_formed (query_of c.args.query.now) c.requires
