@@ -21,3 +21,7 @@ pub mod KnownLaws
 pub mod ReadLaws
 pub mod PrintedParts
 pub mod SoundFormed
+pub mod PrintedTokens
+pub mod KeptNames
+pub mod PrintedSpelled
+pub mod PrintedQueries

@@ -13,3 +13,4 @@ pub mod Numbers
 pub mod Formed
 pub mod Printed
 pub mod PrinterView
+pub mod PrintedLaws

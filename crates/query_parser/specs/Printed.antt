@@ -1,5 +1,6 @@
 -- The printed forms of expressions and of queries.
 use Rattle.std.specs.Prelude.{ℕ, suc, ◌≤◌, max, Bool, true, false, List, [], ◌∷◌, ◌++◌, Option, unwrap_or, slice_get, codes}
+use Rattle.std.specs.Option.{ForSome}
 use Rattle.span_core.specs.NameSets.{AreVariables}
 use Rattle.spanner_model.specs.Captures.{VarName}
 use Rattle.spanner_model.specs.Expression.{ExprTree, QueryTree, atom, named, union_end, union, join_end, join, project}
@@ -111,3 +112,10 @@ KeepsSets (union e rest) = KeepsSets e × KeepsSets rest
 KeepsSets join_end = Unit {0}
 KeepsSets (join e rest) = KeepsSets e × KeepsSets rest
 KeepsSets (project kept e) = AreVariables kept × KeepsSets e
+
+-- the same of each let and of the body
+abbrev pub IsShallowQuery : QueryTree → Type 0
+IsShallowQuery q = ((k : ℕ) → ForSome (slice_get q.lets k) (λ l. IsShallow l.1)) × IsShallow q.body
+
+abbrev pub KeepsSetsOnly : QueryTree → Type 0
+KeepsSetsOnly q = ((k : ℕ) → ForSome (slice_get q.lets k) (λ l. KeepsSets l.1)) × KeepsSets q.body
