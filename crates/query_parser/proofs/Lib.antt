@@ -25,3 +25,4 @@ pub mod PrintedTokens
 pub mod KeptNames
 pub mod PrintedSpelled
 pub mod PrintedQueries
+pub mod PrintedSets

@@ -44,7 +44,7 @@ names_spelled [] free u xs (ts, lexes, s) = (ts, subst (λ v. Lexes v ts) (sym (
 names_spelled (x ∷ rest) free u xs (ts, lexes, s) =
     let here = free x (inl refl) in
     let r = names_spelled rest (λ y h. free y (inr h)) (u ++ (44 ∷ [] ++ x)) (xs ++ x ∷ [])
-        (ts ++ comma ∷ name_token x ∷ [], lexes_more u (44 ∷ []) x ts (name_token x ∷ []) comma lexes (λ after. lexed_sign 44 comma after refl) (λ after. refl) (λ after stops. lexed_name x after here stops), more_names s here) in
+    (ts ++ comma ∷ name_token x ∷ [], lexes_more u (44 ∷ []) x ts (name_token x ∷ []) comma lexes (λ after. lexed_sign 44 comma after refl) (λ after. refl) (λ after stops. lexed_name x after here stops), more_names s here) in
     (r.0, subst (λ v. Lexes v r.0) (more_texts u (44 ∷ []) x rest) r.1, subst (SpellsNames r.0) (append_assoc xs (x ∷ []) rest) r.2)
 
 keep_spelled : (kept : List VarName) → ((x : VarName) → Has kept x → IsFreeName x) → AreVariables kept → (ts : List Token) × Lexes (keep_text kept) ts × SpellsKeep ts kept
@@ -136,6 +136,48 @@ module _ (names known : List VarName) (n : ℕ)
   join_of_parts e rest [] is more = absurd (more (sym is))
   join_of_parts e rest (f ∷ fs) is more = ap (join e) is
 
+  -- the first part
+  first_conj : (room : ℕ) (u : List ℕ) (e : ExprTree) → AsConj room u e → ConjsText room u (e ∷ [])
+  first_conj room u e (ts, es, lexes, s, is) = (ts, lexes, subst (λ f. SpellsExpr known room ts (f ∷ [])) is (lone_conj s))
+
+  first_unit : (room : ℕ) (u : List ℕ) (e : ExprTree) → AsUnit room u e → UnitsText room u (e ∷ [])
+  first_unit room u e (ts, lexes, s) = (ts, lexes, lone_unit s)
+
+  -- all parts of a union, and of a join
+  abbrev pub Conjs : ℕ → List ℕ → List ExprTree → ExprTree → Type 0
+  Conjs room u fs rest = (es : List ExprTree) × ConjsText room u (fs ++ es) × (union_all es ≡ rest)
+
+  abbrev pub Units : ℕ → List ℕ → List ExprTree → ExprTree → Type 0
+  Units room u fs rest = (es : List ExprTree) × UnitsText room u (fs ++ es) × (join_all es ≡ rest)
+
+  no_conj : (room : ℕ) (u : List ℕ) (fs : List ExprTree) → ConjsText room u fs → Conjs room (u ++ []) fs union_end
+  no_conj room u fs (ts, lexes, s) = ([], (ts, subst (λ v. Lexes v ts) (sym (append-nil u)) lexes, subst (SpellsExpr known room ts) (sym (append-nil fs)) s), refl)
+
+  no_unit : (room : ℕ) (u : List ℕ) (fs : List ExprTree) → UnitsText room u fs → Units room (u ++ []) fs join_end
+  no_unit room u fs (ts, lexes, s) = ([], (ts, subst (λ v. Lexes v ts) (sym (append-nil u)) lexes, subst (SpellsConj known room ts) (sym (append-nil fs)) s), refl)
+
+  conjs_after : (room : ℕ) (u v : List ℕ) (rest : List (List ℕ)) (fs : List ExprTree) (e tree : ExprTree) →
+      Conjs room ((u ++ (codes " union " ++ v)) ++ further (codes " union ") rest) (fs ++ e ∷ []) tree → Conjs room (u ++ further (codes " union ") (v ∷ rest)) fs (union e tree)
+  conjs_after room u v rest fs e tree (es, (ts, lexes, s), is) = (
+    e ∷ es,
+    (ts, subst (λ w. Lexes w ts) (more_texts u (codes " union ") v rest) lexes, subst (SpellsExpr known room ts) (append_assoc fs (e ∷ []) es) s),
+    ap (union e) is,
+  )
+
+  units_after : (room : ℕ) (u v : List ℕ) (rest : List (List ℕ)) (fs : List ExprTree) (e tree : ExprTree) →
+      Units room ((u ++ (codes " join " ++ v)) ++ further (codes " join ") rest) (fs ++ e ∷ []) tree → Units room (u ++ further (codes " join ") (v ∷ rest)) fs (join e tree)
+  units_after room u v rest fs e tree (es, (ts, lexes, s), is) = (
+    e ∷ es,
+    (ts, subst (λ w. Lexes w ts) (more_texts u (codes " join ") v rest) lexes, subst (SpellsConj known room ts) (append_assoc fs (e ∷ []) es) s),
+    ap (join e) is,
+  )
+
+  whole_union : (room : ℕ) (u : List ℕ) (e rest : ExprTree) → rest ≢ union_end → Conjs room u (e ∷ []) rest → AsExpr room u (union e rest)
+  whole_union room u e rest more (es, (ts, lexes, s), is) = (ts, e ∷ es, lexes, s, union_of_parts e rest es is more)
+
+  whole_join : (room : ℕ) (u : List ℕ) (e rest : ExprTree) → rest ≢ join_end → Units room u (e ∷ []) rest → AsConj room u (join e rest)
+  whole_join room u e rest more (es, (ts, lexes, s), is) = (ts, e ∷ es, lexes, s, join_of_parts e rest es is more)
+
   named_text : (room k : ℕ) → k < n → AsUnit room (unwrap_or (slice_get names k) []) (named k)
   named_text room k within =
       let (x, there, here, free) = told k within in
@@ -165,48 +207,36 @@ module _ (names known : List VarName) (n : ℕ)
     spelled (named k) c sets few room h = named_text room k c
     spelled union_end c sets few room h = absurd c
     spelled (union e rest) c sets few room h =
-        let (us, es, lexes, s, is) = in_union room (most_open e) (printed names e) e (shape e) (spelled e c.0 sets.0 (omega arith)) (omega arith) in
-        let start : ConjsText room (wrapped (wraps_in_union (shape e)) (printed names e)) (e ∷ []) = (us, lexes, subst (λ f. SpellsExpr known room us (f ∷ [])) is (lone_conj s)) in
-        let (ts, fs, all, spells, same) = conjs_spelled rest c.1 sets.1 (omega arith) room (omega arith) (wrapped (wraps_in_union (shape e)) (printed names e)) (e ∷ []) start in
-        (ts, e ∷ fs, all, spells, union_of_parts e rest fs same c.2)
+        let u = wrapped (wraps_in_union (shape e)) (printed names e) in
+        let here = in_union room (most_open e) (printed names e) e (shape e) (spelled e c.0 sets.0 (omega arith)) (omega arith) in
+        whole_union room (u ++ further (codes " union ") (conj_texts names rest)) e rest c.2
+        (conjs_spelled rest c.1 sets.1 (omega arith) room (omega arith) u (e ∷ []) (first_conj room u e here))
     spelled join_end c sets few room h = absurd c
     spelled (join e rest) c sets few room h =
-        let (us, lexes, s) = in_join room (most_open e) (printed names e) e (shape e) (spelled e c.0 sets.0 (omega arith)) (omega arith) in
-        let start : UnitsText room (wrapped (wraps_in_join (shape e)) (printed names e)) (e ∷ []) = (us, lexes, lone_unit s) in
-        let (ts, fs, all, spells, same) = units_spelled rest c.1 sets.1 (omega arith) room (omega arith) (wrapped (wraps_in_join (shape e)) (printed names e)) (e ∷ []) start in
-        (ts, e ∷ fs, all, spells, join_of_parts e rest fs same c.2)
+        let u = wrapped (wraps_in_join (shape e)) (printed names e) in
+        let here = in_join room (most_open e) (printed names e) e (shape e) (spelled e c.0 sets.0 (omega arith)) (omega arith) in
+        whole_join room (u ++ further (codes " join ") (unit_texts names rest)) e rest c.2
+        (units_spelled rest c.1 sets.1 (omega arith) room (omega arith) u (e ∷ []) (first_unit room u e here))
     spelled (project kept e) c sets few zero h = absurd (omega arith)
     spelled (project kept e) c sets few (suc room) h =
         projected_text room kept (printed names e) e c.1 sets.0 (forms_expr room (printed names e) e (shape e) (spelled e c.0 sets.1 few room (omega arith)))
 
     conjs_spelled : (e : ExprTree) → AreUnitedFormed n e → KeepsSets e → most_in_atoms e ≤ 100 → (room : ℕ) → most_open e ≤ room → (u : List ℕ) (fs : List ExprTree) → ConjsText room u fs →
-        (ts : List Token) × (es : List ExprTree) × Lexes (u ++ further (codes " union ") (conj_texts names e)) ts × SpellsExpr known room ts (fs ++ es) × (union_all es ≡ e)
-    conjs_spelled union_end c sets few room h u fs (ts, lexes, s) =
-        (ts, [], subst (λ v. Lexes v ts) (sym (append-nil u)) lexes, subst (SpellsExpr known room ts) (sym (append-nil fs)) s, refl)
+        Conjs room (u ++ further (codes " union ") (conj_texts names e)) fs e
+    conjs_spelled union_end c sets few room h u fs before = no_conj room u fs before
     conjs_spelled (union e rest) c sets few room h u fs before =
         let v = wrapped (wraps_in_union (shape e)) (printed names e) in
         let here = in_union room (most_open e) (printed names e) e (shape e) (spelled e c.0 sets.0 (omega arith)) (omega arith) in
-        let (ts, es, all, spells, same) = conjs_spelled rest c.1 sets.1 (omega arith) room (omega arith) (u ++ (codes " union " ++ v)) (fs ++ e ∷ []) (next_conj room u v fs e before here) in (
-          ts,
-          e ∷ es,
-          subst (λ w. Lexes w ts) (more_texts u (codes " union ") v (conj_texts names rest)) all,
-          subst (SpellsExpr known room ts) (append_assoc fs (e ∷ []) es) spells,
-          ap (union e) same,
-        )
+        conjs_after room u v (conj_texts names rest) fs e rest
+        (conjs_spelled rest c.1 sets.1 (omega arith) room (omega arith) (u ++ (codes " union " ++ v)) (fs ++ e ∷ []) (next_conj room u v fs e before here))
     conjs_spelled _ c sets few room h u fs before = absurd c
 
     units_spelled : (e : ExprTree) → AreJoinedFormed n e → KeepsSets e → most_in_atoms e ≤ 100 → (room : ℕ) → most_open e ≤ room → (u : List ℕ) (fs : List ExprTree) → UnitsText room u fs →
-        (ts : List Token) × (es : List ExprTree) × Lexes (u ++ further (codes " join ") (unit_texts names e)) ts × SpellsConj known room ts (fs ++ es) × (join_all es ≡ e)
-    units_spelled join_end c sets few room h u fs (ts, lexes, s) =
-        (ts, [], subst (λ v. Lexes v ts) (sym (append-nil u)) lexes, subst (SpellsConj known room ts) (sym (append-nil fs)) s, refl)
+        Units room (u ++ further (codes " join ") (unit_texts names e)) fs e
+    units_spelled join_end c sets few room h u fs before = no_unit room u fs before
     units_spelled (join e rest) c sets few room h u fs before =
         let v = wrapped (wraps_in_join (shape e)) (printed names e) in
         let here = in_join room (most_open e) (printed names e) e (shape e) (spelled e c.0 sets.0 (omega arith)) (omega arith) in
-        let (ts, es, all, spells, same) = units_spelled rest c.1 sets.1 (omega arith) room (omega arith) (u ++ (codes " join " ++ v)) (fs ++ e ∷ []) (next_unit room u v fs e before here) in (
-          ts,
-          e ∷ es,
-          subst (λ w. Lexes w ts) (more_texts u (codes " join ") v (unit_texts names rest)) all,
-          subst (SpellsConj known room ts) (append_assoc fs (e ∷ []) es) spells,
-          ap (join e) same,
-        )
+        units_after room u v (unit_texts names rest) fs e rest
+        (units_spelled rest c.1 sets.1 (omega arith) room (omega arith) (u ++ (codes " join " ++ v)) (fs ++ e ∷ []) (next_unit room u v fs e before here))
     units_spelled _ c sets few room h u fs before = absurd c
