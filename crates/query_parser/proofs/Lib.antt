@@ -26,3 +26,7 @@ pub mod KeptNames
 pub mod PrintedSpelled
 pub mod PrintedQueries
 pub mod PrintedSets
+pub mod ToldNames
+pub mod ToldFormulas
+pub mod ToldQueries
+pub mod EachQueryText
