@@ -17,6 +17,8 @@ mod laws;
 mod named;
 mod nest;
 mod printer;
+#[cfg(test)]
+mod printer_tests;
 mod reader;
 mod tokens;
 mod turns;
