@@ -99,7 +99,7 @@ most_in_atoms join_end = 0
 most_in_atoms (join e rest) = max (most_in_atoms e) (most_in_atoms rest)
 most_in_atoms (project kept e) = most_in_atoms e
 
--- the printed form nests within the limits of what is read
+-- the printed form nests within the limits of what is read, which are the same for a query and for an atom
 abbrev pub IsShallow : ExprTree → Type 0
 IsShallow e = (most_open e ≤ MOST_OPEN) × (most_in_atoms e ≤ MOST_OPEN)
 

@@ -62,7 +62,9 @@ impl Shape {
 
 /// Appends the printed form of a query, or answers that memory ran out and leaves `out` as it was.
 ///
-/// The recursion is as deep as expressions stand inside each other.
+/// Each `let` is followed by one space, and the body by nothing. The printed form may be longer, and nest
+/// deeper, than what is read. The recursion is as deep as unions, joins and projections stand inside each
+/// other, in a sound query at most 600.
 pub fn print_query(query: &Query, out: &mut Vec<u8>) -> Result<(), OutOfMemory>
     requires { IsSound (query_of query.now) }
     ensures ok { OnOk result (out.new.items ≡ out.old.items ++ query_text (query_of query.now)) }
