@@ -1,6 +1,6 @@
 -- Each text of bytes is that of a sound query or has a fault.
-use Rattle.std.proofs.Common.{◌≡◌, ◌⊎◌, ℕ, zero, suc, ◌+◌, ◌-◌, ◌<◌, ◌≤◌, Bool, true, false, ◌&&◌, nat_lt, List, [], ◌∷◌, ◌++◌, length, drop, length-drop, length-append, Option, Some, None, Result, Ok, Err, inl, inr, refl, sym, ap, ◌∙◌, subst, arith, cond, get_or, if◌then◌else◌}
-use Rattle.std.specs.List.{All, take_while, list_all}
+use Rattle.std.proofs.Common.{◌≡◌, ◌⊎◌, ℕ, zero, suc, ◌+◌, ◌<◌, ◌≤◌, Bool, true, false, nat_lt, List, [], ◌∷◌, length, drop, length-drop, length-append, Option, Some, None, Ok, Err, inl, inr, refl, sym, ap, ◌∙◌, subst, arith, cond, get_or, if◌then◌else◌}
+use Rattle.std.specs.List.{All, take_while}
 use Rattle.std.proofs.lemmas.Bool.Decides.{nat_tests}
 use Rattle.std.proofs.lemmas.List.{get_or_past}
 use Rattle.std.proofs.lemmas.List.Elements.{All-get_or}
@@ -20,7 +20,7 @@ use Rattle.formula_parser.proofs.EachText as atoms
 use Rattle.query_parser.specs.declared.TheConstants.{MOST_TEXT_BYTES}
 use Rattle.query_parser.specs.declared.fault.QueryFault.{QueryFault}
 use Rattle.query_parser.specs.declared.fault.QueryFault.TheVariants.{Formula, Unexpected, TooManyVariables, TooLong}
-use Rattle.query_parser.specs.Tokens.{Token, atom_token, word_token}
+use Rattle.query_parser.specs.Tokens.{atom_token, word_token}
 use Rattle.query_parser.specs.Spells.{SpellsQuery}
 use Rattle.query_parser.specs.Reads.{start_read, unexpected}
 use Rattle.query_parser.specs.Faults.{IsReadFault, KeepsTooMany, HasFault, IsQueryText, too_long, unreadable, too_many_kept, too_many_captured, not_sound}
@@ -31,7 +31,7 @@ use Rattle.query_parser.specs.Laws.{IsReadOrRefused, HasQueryOrFault}
 use Rattle.query_parser.proofs.TextLaws.{Answer, ends_spelled}
 use Rattle.query_parser.proofs.FaultLaws.{ends_fault, ends_kept}
 use Rattle.query_parser.proofs.SoundQuery.{query_formed, sound_query}
-use Rattle.query_parser.proofs.StepLaws.{Front, blank, slash, starts, sign, stray, front_of, slashes, blank_step, word_step, sign_step, stray_step, start_continues, ends_more, ends_atom, atom_due}
+use Rattle.query_parser.proofs.StepLaws.{Front, blank, slash, starts, sign, stray, front_of, blank_step, word_step, sign_step, stray_step, start_continues, ends_more, ends_atom, atom_due}
 use Rattle.query_parser.proofs.ToldQueries.{told_names, QueryPassesOrFault, query_passes_or_fault}
 
 -- ---- steps

@@ -1,6 +1,6 @@
 -- The printed forms of the code's expressions, and of their parts in turn.
-use Rattle.std.proofs.Common.{◌≡◌, ℕ, zero, suc, ◌+◌, ◌<◌, ◌≤◌, Bool, true, false, ◌==◌, List, [], ◌∷◌, ◌++◌, length, drop, map, Some, Result, Ok, Err, ap, sym, refl, ◌∙◌, arith, append_assoc, if◌then◌else◌}
-use Rattle.std.specs.Prelude.{slice_get, nat_lt, codes, unwrap_or}
+use Rattle.std.proofs.Common.{◌≡◌, ℕ, ◌+◌, ◌<◌, ◌≤◌, Bool, true, false, ◌==◌, List, [], ◌∷◌, ◌++◌, length, drop, map, Some, Result, Ok, Err, ap, sym, refl, ◌∙◌, arith, append_assoc, if◌then◌else◌}
+use Rattle.std.specs.Prelude.{slice_get, nat_lt, codes}
 use Rattle.std.specs.Option.{option_map}
 use Rattle.std.specs.Result.{OnOk}
 use Rattle.std.proofs.lemmas.Bool.Decides.{nat_tests}
@@ -16,7 +16,6 @@ use Rattle.spanner_model.proofs.ExprTrees.{expr_of-Union, expr_of-Join}
 use Rattle.spanner_model.proofs.TreeLaws.{split_at}
 use Rattle.formula_parser.specs.Printed.{wrapped}
 use Rattle.formula_parser.proofs.PrintedTrees.{appended, ended}
-use Rattle.query_parser.specs.Spells.{names_of}
 use Rattle.query_parser.specs.Printed.{a_join, a_union, shape, wraps_in_union, wraps_in_join, further, joined, keep_text, printed, conj_texts, unit_texts, lets_text, let_text}
 
 -- five texts, one after another

@@ -1,5 +1,5 @@
 -- The printed form of a query spells it: its lets, one after another, and its body.
-use Rattle.std.proofs.Common.{◌≡◌, ℕ, zero, suc, ◌+◌, ◌≤◌, ◌<◌, List, [], ◌∷◌, ◌++◌, length, Some, ap, refl, sym, subst, ◌∙◌, arith, append_assoc, inl, inr}
+use Rattle.std.proofs.Common.{◌≡◌, ℕ, zero, suc, ◌<◌, List, [], ◌∷◌, ◌++◌, length, Some, refl, sym, subst, ◌∙◌, arith, append_assoc, inl, inr}
 use Rattle.std.specs.Prelude.{codes, slice_get}
 use Rattle.std.proofs.lemmas.List.{append-nil}
 use Rattle.spanner_model.specs.Captures.{VarName}
@@ -8,12 +8,12 @@ use Rattle.spanner_model.specs.Sound.{IsFreeName, IsSound}
 use Rattle.spanner_model.specs.Expression.{ExprTree, QueryTree}
 use Rattle.query_parser.specs.declared.TheConstants.{MOST_OPEN}
 use Rattle.query_parser.specs.Tokens.{Token, let_word, name_token, equals, semicolon, HasTokens}
-use Rattle.query_parser.specs.Spells.{union_tree, SpellsExpr, names_of, SpellsLets, no_let, more_lets, SpellsQuery}
+use Rattle.query_parser.specs.Spells.{union_tree, SpellsExpr, names_of, SpellsLets, no_let, more_lets}
 use Rattle.query_parser.specs.Printed.{shape, printed, let_text, lets_text, query_text, KeepsSets, IsShallow, IsShallowQuery, KeepsSetsOnly}
 use Rattle.query_parser.specs.Formed.{IsFormed}
 use Rattle.query_parser.specs.PrintedLaws.{QueriesSpell, QueriesAreRead}
 use Rattle.query_parser.proofs.SoundFormed.{query_is_formed}
-use Rattle.query_parser.proofs.PrintedTokens.{Lexed, LexedAlways, Lexes, lexed_both, lexed_name, lexed_let, lexed_equals, lexed_semicolon, lexed_whole}
+use Rattle.query_parser.proofs.PrintedTokens.{LexedAlways, Lexes, lexed_both, lexed_name, lexed_let, lexed_equals, lexed_semicolon, lexed_whole}
 use Rattle.query_parser.proofs.PrintedSpelled.{spelled, forms_expr}
 
 abbrev Lets : Type 0

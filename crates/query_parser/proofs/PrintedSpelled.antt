@@ -1,5 +1,5 @@
 -- A printed form spells its query.
-use Rattle.std.proofs.Common.{◌≡◌, ◌≢◌, ℕ, zero, suc, ◌+◌, ◌≤◌, ◌<◌, Bool, true, false, List, [], ◌∷◌, ◌++◌, length, Some, ap, refl, sym, subst, ◌∙◌, arith, append_assoc, inl, inr}
+use Rattle.std.proofs.Common.{◌≡◌, ◌≢◌, ℕ, zero, suc, ◌≤◌, ◌<◌, false, List, [], ◌∷◌, ◌++◌, length, Some, ap, refl, sym, subst, ◌∙◌, arith, append_assoc, inl, inr}
 use Rattle.std.specs.Prelude.{codes, slice_get, unwrap_or}
 use Rattle.std.proofs.lemmas.List.{append-nil}
 use Rattle.span_core.specs.declared.TheConstants.{MOST_VARIABLES}
@@ -14,13 +14,12 @@ use Rattle.formula_parser.specs.Printed as formulas
 use Rattle.formula_parser.specs.Runs.{begins}
 use Rattle.formula_parser.specs.Spells.{AtomTree}
 use Rattle.formula_parser.specs.Printed.{wrapped, wrapped_open, atom_text}
-use Rattle.query_parser.specs.declared.TheConstants.{MOST_OPEN}
 use Rattle.query_parser.specs.Tokens.{Token, atom_token, union_word, join_word, project_word, none_word, name_token, open_paren, close_paren, comma}
-use Rattle.query_parser.specs.Spells.{union_tree, join_tree, with_names, SpellsNames, one_name, more_names, SpellsKeep, keeps_none, keeps_names, SpellsExpr, lone_conj, more_conjs, SpellsConj, lone_unit, more_units, SpellsUnit, atom_unit, named_unit, group_of, projection_of}
+use Rattle.query_parser.specs.Spells.{union_tree, join_tree, SpellsNames, one_name, more_names, SpellsKeep, keeps_none, keeps_names, SpellsExpr, lone_conj, more_conjs, SpellsConj, lone_unit, more_units, SpellsUnit, atom_unit, named_unit, group_of, projection_of}
 use Rattle.query_parser.specs.Formed.{IsFormed, AreUnitedFormed, AreJoinedFormed}
-use Rattle.query_parser.specs.Printed.{Shape, a_unit, a_join, a_union, shape, wraps_in_union, wraps_in_join, further, joined, keep_text, printed, conj_texts, unit_texts, most_open, most_in_atoms, KeepsSets}
+use Rattle.query_parser.specs.Printed.{Shape, a_unit, a_join, a_union, shape, wraps_in_union, wraps_in_join, further, keep_text, printed, conj_texts, unit_texts, most_open, most_in_atoms, KeepsSets}
 use Rattle.query_parser.proofs.KeptNames.{ascending_names}
-use Rattle.query_parser.proofs.PrintedTokens.{Lexed, LexedAlways, Lexes, lexed_both, lexed_sign, lexed_name, lexed_none, lexed_atom, lexed_union, lexed_join, lexed_project, lexed_open, lexed_group}
+use Rattle.query_parser.proofs.PrintedTokens.{LexedAlways, Lexes, lexed_both, lexed_sign, lexed_name, lexed_none, lexed_atom, lexed_union, lexed_join, lexed_project, lexed_open, lexed_group}
 
 -- one text more, after the text that stands between
 lexes_more : (u between v : List ℕ) (ts us : List Token) (b : Token) → Lexes u ts → LexedAlways between (b ∷ []) → ((after : List ℕ) → begins is_name_byte (between ++ after) ≡ false) → Lexes v us →

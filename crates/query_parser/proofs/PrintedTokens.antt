@@ -1,5 +1,5 @@
 -- The tokens of printed forms.
-use Rattle.std.proofs.Common.{◌≡◌, ℕ, suc, ◌+◌, ◌≤◌, Bool, true, false, ◌&&◌, nat_lt, List, [], ◌∷◌, ◌++◌, length, drop, IsTrue, Some, ap, refl, sym, subst, ◌∙◌, arith, append_assoc, length-append, inl, inr, if◌then◌else◌}
+use Rattle.std.proofs.Common.{◌≡◌, ℕ, ◌+◌, ◌≤◌, true, false, ◌&&◌, nat_lt, List, [], ◌∷◌, ◌++◌, length, drop, IsTrue, Some, ap, refl, sym, subst, ◌∙◌, arith, append_assoc, length-append, inl, inr}
 use Rattle.std.specs.Prelude.{codes}
 use Rattle.std.specs.List.{list_all}
 use Rattle.std.specs.Str.{bytes_eq}
@@ -18,7 +18,7 @@ use Rattle.formula_parser.specs.Printed.{tied_text, atom_text}
 use Rattle.formula_parser.specs.Printed as formulas
 use Rattle.formula_parser.proofs.RunLaws.{after_token}
 use Rattle.formula_parser.proofs.PrintLaws.{printed_spells}
-use Rattle.query_parser.specs.Tokens.{Token, atom_token, let_word, union_word, join_word, project_word, none_word, name_token, equals, semicolon, open_paren, close_paren, comma, word_token, sign_token, is_blank, TokenAt, atom_at, word_at, sign_at, HasTokens, text_ends, blank_first, token_first}
+use Rattle.query_parser.specs.Tokens.{Token, atom_token, let_word, union_word, join_word, project_word, none_word, name_token, equals, semicolon, open_paren, close_paren, word_token, sign_token, is_blank, atom_at, word_at, sign_at, HasTokens, text_ends, blank_first, token_first}
 use Rattle.query_parser.proofs.Lists.{eq_false}
 use Rattle.query_parser.proofs.TextLaws.{word_by}
 

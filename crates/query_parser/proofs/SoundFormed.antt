@@ -1,6 +1,5 @@
 -- What is sound is formed.
-use Rattle.std.proofs.Common.{ℕ, ◌≤◌, ◌<◌, List, length, Some, arith}
-use Rattle.std.proofs.lemmas.Option.{slice_get_within}
+use Rattle.std.proofs.Common.{ℕ, ◌≤◌, length, arith}
 use Rattle.spanner_model.specs.Captures.{VarName}
 use Rattle.spanner_model.specs.Expression.{ExprTree, QueryTree, atom, named, union_end, union, join_end, join, project}
 use Rattle.spanner_model.specs.Answer.{vars_of_lets}

@@ -1,5 +1,5 @@
 -- A formula is functional or has a fault.
-use Rattle.std.proofs.Common.{◌≡◌, ◌≢◌, ◌⊎◌, ◌↔◌, ℕ, List, [], ◌∷◌, ◌++◌, inl, inr, refl, sym, subst}
+use Rattle.std.proofs.Common.{◌⊎◌, ◌↔◌, List, [], ◌∷◌, ◌++◌, inl, inr, refl}
 use Rattle.spanner_model.specs.Captures.{VarName}
 use Rattle.spanner_model.specs.Lists.{Has}
 use Rattle.spanner_model.specs.Tree.{Tree, empty, one, cat_end, cat, alt_end, alt, rep, cap}

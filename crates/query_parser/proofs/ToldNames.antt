@@ -1,5 +1,5 @@
 -- Whether names have a property can be told, and so the least of them that has it; and whether names are too many.
-use Rattle.std.proofs.Common.{◌≡◌, ℕ, zero, suc, ◌+◌, ◌<◌, ◌≤◌, ◌⊎◌, ◌↔◌, ◌||◌, Bool, true, false, nat_lt, List, [], ◌∷◌, ◌++◌, length, Option, Some, None, inl, inr, refl, sym, ap, ◌∙◌, subst, arith}
+use Rattle.std.proofs.Common.{◌≡◌, ◌≤◌, ◌⊎◌, ◌↔◌, ◌||◌, Bool, true, false, nat_lt, List, [], ◌∷◌, length, Option, Some, None, inl, inr, refl, sym, ◌∙◌, subst, arith}
 use Rattle.std.specs.Cmp.Lexicographic.{nat_list_cmp_total}
 use Rattle.std.specs.declared.cmp.Ordering.TheVariants.{Less, Equal}
 use Rattle.std.proofs.lemmas.Cmp.{tied_itself}
@@ -9,14 +9,14 @@ use Rattle.span_core.specs.NameSets.{name_cmp, with_name, Ascending}
 use Rattle.span_core.proofs.NameSetLaws.{with_ascends, none_are_variables}
 use Rattle.spanner_model.specs.Captures.{VarName}
 use Rattle.spanner_model.specs.Lists.{Has, AtMost}
-use Rattle.spanner_model.proofs.Deciding.{Told, told_name}
+use Rattle.spanner_model.proofs.Deciding.{Told}
 use Rattle.spanner_model.proofs.HasLaws.{distinct-le}
 use Rattle.spanner_model.proofs.NameLaws.{with_cases, with_here, with_there, ascending-distinct}
 use Rattle.functional_check.specs.Faults.{IsLeast, IsLeastOf, InExactlyOne}
 use Rattle.functional_check.specs.Names.{smaller_of}
 use Rattle.functional_check.proofs.LeastLaws.{least_both, least_same, at_most_less}
 use Rattle.query_parser.specs.Reads.{is_among, finds_room}
-use Rattle.query_parser.proofs.Lists.{has_among, among_not, room_keeps}
+use Rattle.query_parser.proofs.Lists.{among_not, room_keeps}
 
 -- ---- told
 

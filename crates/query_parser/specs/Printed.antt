@@ -1,5 +1,5 @@
 -- The printed forms of expressions and of queries.
-use Rattle.std.specs.Prelude.{ℕ, suc, ◌≤◌, max, Bool, true, false, List, [], ◌∷◌, ◌++◌, Option, unwrap_or, slice_get, codes}
+use Rattle.std.specs.Prelude.{ℕ, suc, ◌≤◌, max, Bool, true, false, List, [], ◌∷◌, ◌++◌, unwrap_or, slice_get, codes}
 use Rattle.std.specs.Option.{ForSome}
 use Rattle.span_core.specs.NameSets.{AreVariables}
 use Rattle.spanner_model.specs.Captures.{VarName}

@@ -1,4 +1,4 @@
-use Rattle.std.proofs.Common.{◌≡◌, ◌+◌, ◌*◌, [], ◌∷◌, ◌++◌, length, map, ap, subst, sym, refl, ◌∙◌, arith}
+use Rattle.std.proofs.Common.{[], ◌∷◌, length, map, ap, subst, ◌∙◌, arith}
 use Rattle.std.specs.Prelude.{codes}
 use Rattle.std.proofs.lemmas.List.{take_all}
 use Rattle.spanner_model.specs.Expression.{union_all, join_all}
