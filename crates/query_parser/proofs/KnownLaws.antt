@@ -1,5 +1,5 @@
 -- The names of a query's atoms, and the variables of the lets that are known.
-use Rattle.std.proofs.Common.{◌≡◌, ℕ, zero, suc, ◌+◌, ◌<◌, ◌≤◌, ◌⊎◌, ◌↔◌, Bool, true, false, List, [], ◌∷◌, ◌++◌, length, take, Option, Some, None, IsTrue, inl, inr, refl, sym, ap, ◌∙◌, subst, arith}
+use Rattle.std.proofs.Common.{◌≡◌, ℕ, ◌+◌, ◌<◌, ◌≤◌, ◌⊎◌, ◌↔◌, Bool, true, false, List, [], ◌∷◌, ◌++◌, length, take, Option, Some, None, IsTrue, inl, inr, refl, sym, subst, arith}
 use Rattle.std.specs.Prelude.{slice_get}
 use Rattle.std.specs.Option.{IsSomeAnd}
 use Rattle.std.proofs.lemmas.List.{take_all}
@@ -8,7 +8,7 @@ use Rattle.spanner_model.specs.Lists.{Has, AtMost}
 use Rattle.spanner_model.specs.Captures.{VarName}
 use Rattle.spanner_model.specs.Expression.{ExprTree, QueryTree}
 use Rattle.spanner_model.specs.Sound.{NameIn, NameInLets, NameOf}
-use Rattle.spanner_model.specs.Gathered.{Adds, HaveRoom, Gathered, vars_in}
+use Rattle.spanner_model.specs.Gathered.{Adds, Gathered, vars_in}
 use Rattle.spanner_model.proofs.HasLaws.{Has-slice_get}
 use Rattle.functional_check.proofs.LeastLaws.{at_most_less}
 use Rattle.std.proofs.Common.{nat_lt, length-append}
@@ -21,7 +21,6 @@ use Rattle.query_parser.proofs.SameLaws.{same_passes, same_fault}
 use Rattle.query_parser.specs.Formed.{InReach, IsFormed, PassesQuery}
 use Rattle.query_parser.proofs.FormedLaws.{get_last}
 use Rattle.query_parser.proofs.ReachLaws.{let_in_turn, reaches}
-use Rattle.spanner_model.proofs.GatheredLaws.{NamesInTurn}
 
 -- what was gathered of all lets and of the body
 pub few_names : (q : QueryTree) (k : ℕ) (old new : List VarName) (r : Bool) → length q.lets ≤ k → Adds [] (NameInLets (take k q.lets)) old → Gathered old (NameIn q.body) r new →

@@ -1,10 +1,10 @@
 -- What expressions reach, and their parts.
-use Rattle.std.proofs.Common.{◌≡◌, ℕ, zero, suc, ◌+◌, ◌<◌, ◌≤◌, ◌⊎◌, ◌↔◌, List, [], ◌∷◌, ◌++◌, length, take, inl, inr, refl, sym, ap, ◌∙◌, subst, arith, Some}
+use Rattle.std.proofs.Common.{◌≡◌, ℕ, ◌<◌, ◌↔◌, List, [], ◌∷◌, length, take, inl, inr, refl, sym, subst, arith, Some}
 use Rattle.std.specs.Prelude.{slice_get}
 use Rattle.span_core.specs.declared.TheConstants.{MOST_VARIABLES}
 use Rattle.spanner_model.specs.Lists.{Has, AtMost}
 use Rattle.spanner_model.specs.Gathered.{Adds, HaveRoom, vars_in}
-use Rattle.spanner_model.specs.Expression.{ExprTree, union_end, union, join_end, join, union_all, join_all}
+use Rattle.spanner_model.specs.Expression.{ExprTree, union_all, join_all}
 use Rattle.spanner_model.specs.Captures.{VarName}
 use Rattle.spanner_model.specs.Answer.{VarOf}
 use Rattle.spanner_model.specs.Sound.{NameIn, NameInLets}

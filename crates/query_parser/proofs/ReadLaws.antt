@@ -11,7 +11,7 @@ use Rattle.formula_parser.specs.declared.fault.FormulaFault.{FormulaFault}
 use Rattle.formula_parser.specs.declared.fault.FormulaFault.TheVariants as formula_fault
 use Rattle.formula_parser.specs.Classes as classes
 use Rattle.formula_parser.specs.Faults as atoms
-use Rattle.query_parser.specs.Nest.{Body, outermost}
+use Rattle.query_parser.specs.Nest.{outermost}
 use Rattle.query_parser.specs.Step.{Ends}
 use Rattle.query_parser.specs.Turn.{AnswersBody}
 use Rattle.query_parser.specs.Reads.{start_read}
@@ -28,7 +28,7 @@ use Rattle.query_parser.specs.declared.TheConstants.{MOST_TEXT_BYTES}
 use Rattle.query_parser.specs.declared.fault.QueryFault.{QueryFault}
 use Rattle.query_parser.specs.declared.fault.QueryFault.TheVariants.{Formula, Check, Unexpected, UnknownName, NameTwice, NameTooLong, UnionVariables, UnknownVariable, TooManyVariables, TooLong, TooDeep, OutOfMemory}
 use Rattle.query_parser.specs.Reads.{Refusal, unexpected, name_too_long, name_twice, unknown_name, too_deep}
-use Rattle.query_parser.specs.TreeFaults.{OwnFault, IsFaultOver, InnerFault, IsExprFault, IsLetFault, IsTreeFault}
+use Rattle.query_parser.specs.TreeFaults.{OwnFault, InnerFault, IsExprFault, IsTreeFault}
 use Rattle.query_parser.specs.Faults.{refused, IsReadFault, bad_atom, atom_out_of_place, token_refused, no_token, not_whole, HasFault, too_long, unreadable, too_many_kept, too_many_captured, not_sound, IsQueryText}
 use Rattle.query_parser.specs.Answers.{IsAnswer, IsRead}
 use Rattle.query_parser.proofs.GrammarLaws.{one_query}

@@ -137,7 +137,7 @@ ends_atom text at q a n m r is found moves (steps, e) = (suc steps, inr (is, (a,
 pub at_blank : (text : List ℕ) (at : ℕ) (n : Nest) → BlankAt text at → step at (drop at text) n ≡ goes 1 n
 at_blank text at n (c, (rest, stands), b) = ap (λ t. step at t n) stands ∙ blank_step at c rest n b
 
-start_continues : (c : ℕ) → is_name_start c ≡ true → is_name_byte c ≡ true
+pub start_continues : (c : ℕ) → is_name_start c ≡ true → is_name_byte c ≡ true
 start_continues c h = grind (arith, nat_tests)
 
 -- what the token at a place does

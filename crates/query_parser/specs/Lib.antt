@@ -11,3 +11,6 @@ pub mod View
 pub mod Turn
 pub mod Numbers
 pub mod Formed
+pub mod Printed
+pub mod PrinterView
+pub mod PrintedLaws

@@ -1,5 +1,6 @@
 //! Laws of the grammar and of its faults, each the contract of a function that does nothing.
-ghost use Rattle.query_parser.specs.Laws.{HasOneQuery, HasNoQueryWithReadFault, HasOneReadFault, HasNoQueryWithFault, HasOneFault};
+ghost use Rattle.query_parser.specs.Laws.{HasOneQuery, HasNoQueryWithReadFault, HasOneReadFault, HasNoQueryWithFault, HasOneFault, HasQueryOrFault, IsReadOrRefused};
+ghost use Rattle.query_parser.specs.PrintedLaws.{QueriesSpell, QueriesAreRead};
 
 /// No text spells two queries.
 pub fn no_text_spells_two_queries()
@@ -24,4 +25,23 @@ pub fn no_text_has_a_query_and_a_fault()
 /// No text has two faults.
 pub fn no_text_has_two_faults()
     ensures { HasOneFault }
+{}
+
+/// Each text, of whatever numbers, spells a query, has a fault that is met when it is read, or has a
+/// projection that keeps too many names.
+pub fn each_text_is_read_or_refused()
+    ensures { IsReadOrRefused }
+{}
+
+/// Each text of bytes is that of a sound query or has a fault.
+pub fn each_text_has_a_query_or_a_fault()
+    ensures { HasQueryOrFault }
+{}
+
+/// The printed form of a sound query with at most 100 parentheses open at once, and at most 100
+/// parentheses and captures in each atom, spells it. Where it has no more bytes than a text may have, it
+/// is a text of that query, so that reading it gives this query and no other.
+pub fn printed_forms_spell_their_queries()
+    ensures queries { QueriesSpell }
+    ensures texts { QueriesAreRead }
 {}

@@ -1,20 +1,20 @@
-use Rattle.std.proofs.Common.{◌≡◌, ◌+◌, ◌*◌, ◌<◌, ◌≤◌, length, Some, [], sym, ap, ◌∙◌, subst, arith, take, inl, List, ◌↔◌}
+use Rattle.std.proofs.Common.{length, Some, sym, ap, ◌∙◌, subst, arith, inl, List, ◌↔◌}
 use Rattle.spanner_model.specs.Lists.{Has, AtMost}
 use Rattle.span_core.specs.declared.TheConstants.{MOST_VARIABLES}
-use Rattle.spanner_model.specs.Expression.{ExprTree, named, union_all, join_all}
+use Rattle.spanner_model.specs.Expression.{named, union_all, join_all}
 use Rattle.spanner_model.specs.ExprView.{expr_of, exprs_of}
 use Rattle.spanner_model.specs.Gathered.{vars_in}
 use Rattle.spanner_model.proofs.HasLaws.{Has-slice_get}
 use Rattle.spanner_model.proofs.Nodes.{expr_nodes}
 use Rattle.spanner_model.proofs.ExprLaws.{part_size, union_size}
 use Rattle.spanner_model.proofs.ExprTrees.{expr_of-Union, expr_of-Join, expr_of-Named}
-use Rattle.query_parser.specs.Formed.{IsFormed, InReach, Checked}
+use Rattle.query_parser.specs.Formed.{IsFormed, InReach}
 use Rattle.spanner_model.specs.Captures.{VarName}
 use Rattle.spanner_model.specs.Answer.{VarOf}
 use Rattle.spanner_model.specs.Sound.{IsSoundExpr}
 use Rattle.spanner_model.proofs.NodeExprs.{named_vars}
 use Rattle.query_parser.specs.TreeFaults.{Passes}
-use Rattle.query_parser.proofs.CheckLaws.{HasVars, part_of, part_is, union_inner, join_inner, pass_next, union_begin, union_next, union_done_fault, union_done, join_next, join_done, checked_err}
+use Rattle.query_parser.proofs.CheckLaws.{HasVars, part_of, part_is, union_inner, join_inner, pass_next, union_next, union_done_fault, union_done, join_next, join_done, checked_err}
 use Rattle.query_parser.proofs.ReachLaws.{union_formed, join_formed, few_united, few_part, room_next}
 use Rattle.query_parser.proofs.check.+check.Goals as goal
 

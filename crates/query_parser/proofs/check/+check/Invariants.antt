@@ -1,6 +1,5 @@
-use Rattle.std.proofs.Common.{◌+◌, ◌*◌, [], take, Some, ◌≡◌, length, None, IsTrue}
-use Rattle.std.specs.Prelude.{slice_get}
-use Rattle.spanner_model.specs.Expression.{ExprTree, join_all}
+use Rattle.std.proofs.Common.{◌+◌, ◌*◌, [], take}
+use Rattle.spanner_model.specs.Expression.{join_all}
 use Rattle.spanner_model.specs.ExprView.{expr_of, exprs_of}
 use Rattle.spanner_model.specs.Answer.{VarOf}
 use Rattle.spanner_model.specs.Gathered.{Adds, vars_in}

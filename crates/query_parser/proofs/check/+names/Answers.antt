@@ -1,7 +1,5 @@
-use Rattle.std.proofs.Common.{◌≡◌, ◌+◌, ◌*◌, length, ap, sym, ◌∙◌, subst, arith, ◌↔◌}
-use Rattle.spanner_model.specs.Lists.{Has}
-use Rattle.spanner_model.specs.Captures.{VarName}
-use Rattle.spanner_model.specs.Expression.{ExprTree, union_all, join_all}
+use Rattle.std.proofs.Common.{ap, sym, ◌∙◌, subst, arith, ◌↔◌}
+use Rattle.spanner_model.specs.Expression.{join_all}
 use Rattle.spanner_model.specs.ExprView.{expr_of, exprs_of}
 use Rattle.spanner_model.specs.Sound.{NameIn}
 use Rattle.spanner_model.proofs.HasLaws.{Has-slice_get}

@@ -1,17 +1,17 @@
-use Rattle.std.proofs.Common.{◌≡◌, ◌↔◌, ℕ, ◌+◌, ◌<◌, ◌≤◌, ◌⊎◌, inl, inr, List, [], ◌∷◌, ◌++◌, length, length-append, sym, ap, ◌∙◌, subst, arith}
+use Rattle.std.proofs.Common.{◌≡◌, ◌↔◌, ℕ, inr, List, [], ◌∷◌, ◌++◌, length, sym, ap, ◌∙◌, subst, arith}
 use Rattle.std.proofs.lemmas.Option.{slice_get_within}
 use Rattle.span_core.specs.declared.TheConstants.{MOST_VARIABLES}
 use Rattle.spanner_model.specs.Lists.{Has, AtMost}
 use Rattle.spanner_model.specs.Captures.{VarName}
 use Rattle.spanner_model.specs.Expression.{ExprTree}
-use Rattle.spanner_model.specs.ExprView.{expr_of, lets_of, query_of}
+use Rattle.spanner_model.specs.ExprView.{expr_of, query_of}
 use Rattle.spanner_model.specs.Gathered.{vars_in}
 use Rattle.spanner_model.specs.Answer.{VarOf}
 use Rattle.spanner_model.specs.Sound.{NameInLets}
 use Rattle.spanner_model.proofs.ExprLaws.{Knows}
 use Rattle.query_parser.specs.TreeFaults.{Passes, LetPasses, IsExprFault}
 use Rattle.query_parser.specs.Formed.{IsFormed, InReach}
-use Rattle.query_parser.proofs.KnownLaws.{let_reach, body_reach, let_fault, known_next, body_fault, all_pass}
+use Rattle.query_parser.proofs.KnownLaws.{let_reach, let_fault, known_next, body_fault, all_pass}
 use Rattle.query_parser.proofs.check.check_query.Goals as goal
 
 pub check_expr-requires-clause-formed : goal.check_expr-requires-clause-formed

@@ -1,4 +1,4 @@
-use Rattle.std.proofs.Common.{arith, take, []}
+use Rattle.std.proofs.Common.{arith, []}
 use Rattle.spanner_model.specs.ExprView.{expr_of, lets_of, query_of}
 use Rattle.spanner_model.specs.Captures.{VarName}
 use Rattle.spanner_model.specs.Expression.{ExprTree}

@@ -1,4 +1,4 @@
-use Rattle.std.proofs.Common.{refl, ◌⊎◌, inl, inr}
+use Rattle.std.proofs.Common.{inl, inr}
 use Rattle.spanner_model.specs.Lists.{Has}
 use Rattle.query_parser.proofs.Lists.{is_in}
 use Rattle.query_parser.proofs.check.projected.Goals as goal
