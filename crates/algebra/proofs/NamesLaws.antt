@@ -1,0 +1,45 @@
+-- Names of two sets.
+use Rattle.std.proofs.Common.{◌≡◌, ℕ, suc, ◌+◌, ◌<◌, ◌≤◌, ◌⊎◌, Bool, true, false, List, [], ◌∷◌, length, inl, inr, refl, sym, ap, subst, arith, ◌∙◌}
+use Rattle.std.specs.Prelude.{IsTrue, Contains}
+use Rattle.std.specs.Bool.{OnTrue}
+use Rattle.std.specs.FinSet as set
+use Rattle.std.specs.declared.cmp.Ordering.{Ordering}
+use Rattle.std.specs.declared.cmp.Ordering.TheVariants.{Less, Equal, Greater}
+use Rattle.span_core.specs.NameSets.{by_order, name_cmp, with_name}
+use Rattle.spanner_model.specs.Captures.{VarName}
+use Rattle.spanner_model.specs.Lists.{Has}
+use Rattle.spanner_model.proofs.HasLaws.{Contains-Has}
+use Rattle.algebra.specs.JoinedNames.{all_names}
+
+pub truly : {P : Type 0} (b : Bool) → IsTrue b → OnTrue b P → P
+truly true t p = p
+truly false t p = absurd (let e : false ≡ true = t in cc)
+
+-- a name that is put in is one more, or was there
+one_more : (x : VarName) (names : List VarName) → (length (with_name x names) ≡ suc (length names)) ⊎ (Has names x × (length (with_name x names) ≡ length names))
+one_more x [] = inl refl
+one_more x (y ∷ names) = go (name_cmp x y) refl (one_more x names)
+  where
+    go : (o : Ordering) → name_cmp x y ≡ o → (length (with_name x names) ≡ suc (length names)) ⊎ (Has names x × (length (with_name x names) ≡ length names)) →
+        (length (by_order o (x ∷ (y ∷ names)) (y ∷ names) (y ∷ with_name x names)) ≡ suc (suc (length names)))
+        ⊎ (Has (y ∷ names) x × (length (by_order o (x ∷ (y ∷ names)) (y ∷ names) (y ∷ with_name x names)) ≡ suc (length names)))
+    go Less e rest = inl refl
+    go Equal e rest = inr (inl (sym (set.slice_cmp-IsAntisymmetric set.nat_cmp-IsAntisymmetric x y e)), refl)
+    go Greater e (inl l) = inl (ap suc l)
+    go Greater e (inr r) = inr (inr r.0, ap suc r.1)
+
+no_fewer : (names more : List VarName) → length names ≤ length (all_names names more)
+no_fewer names [] = omega arith
+no_fewer names (x ∷ more) =
+    elim (one_more x names) as (λ _. length names ≤ length (all_names (with_name x names) more)) [
+      | inl l ↦ omega (arith, l, no_fewer (with_name x names) more)
+      | inr r ↦ omega (arith, r.1, no_fewer (with_name x names) more)
+    ]
+
+pub room_or_there : (names : List VarName) (x : VarName) (more : List VarName) (most : ℕ) → length (all_names (with_name x names) more) ≤ most →
+    Contains names x ⊎ (length names < most)
+room_or_there names x more most le =
+    elim (one_more x names) [
+      | inl l ↦ inr (omega (arith, l, no_fewer (with_name x names) more, le))
+      | inr r ↦ inl (Contains-Has names x r.0)
+    ]

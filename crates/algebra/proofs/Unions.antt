@@ -1,0 +1,184 @@
+-- What a union, and an automaton with other blocks, accept.
+use Rattle.std.proofs.Common.{◌≡◌, ℕ, zero, suc, ◌+◌, ◌<◌, ◌≤◌, ◌⊎◌, List, length, inl, inr, refl, sym, ap, subst, arith, ◌∙◌}
+use Rattle.std.specs.Prelude.{map, nat_eq, if◌then◌else◌}
+use Rattle.std.proofs.lemmas.Bool.{eq-eqb, ne_eqb}
+use Rattle.spanner_model.specs.Lists.{Has}
+use Rattle.marked_automaton.specs.declared.way.Way.{Way}
+use Rattle.marked_automaton.specs.declared.way.Stop.{Stop}
+use Rattle.marked_automaton.specs.Automaton.{Automaton, ReadsByte, Walk, Accepts}
+use Rattle.marked_automaton.specs.Automaton.{IsWhole}
+use Rattle.marked_automaton.specs.Laws.{AgreeOn, ProjectionLaw}
+use Rattle.algebra.specs.Operations.{moved_way, moved_stop, union_of}
+use Rattle.marked_automaton.specs.Marks.{remarked_way, remarked_stop, remarked}
+use Rattle.algebra.specs.Laws.{UnionLaw}
+use Rattle.algebra.proofs.Steps.{compared}
+use Rattle.algebra.proofs.HasLemmas.{has_left, has_right, has_cases, has_map, map_cases}
+use Rattle.algebra.proofs.Walks.{walk_more, walk_same, walk_stays}
+
+-- a walk by moved ways
+moved_walk : (k : ℕ) (ways : List Way) (d : List ℕ) (w : ℕ → ℕ) (n i p q : ℕ) → Walk ways d w i n p q → Walk (map (moved_way k) ways) d w i n (k + p) (k + q)
+moved_walk k ways d w zero i p q h = ap (◌+◌ k) h
+moved_walk k ways d w (suc n) i p q h =
+    (moved_way k h.0, has_map (moved_way k) ways h.0 h.1, ap (◌+◌ k) h.2, h.3, h.4, moved_walk k ways d w n (suc i) h.0.to q h.5)
+
+-- and back
+walk_moved : (k : ℕ) (ways : List Way) (d : List ℕ) (w : ℕ → ℕ) (n i p q r : ℕ) → r ≡ k + p → Walk (map (moved_way k) ways) d w i n r q →
+    (t : ℕ) × (q ≡ k + t) × Walk ways d w i n p t
+walk_moved k ways d w zero i p q r at h = (p, sym h ∙ at, refl)
+walk_moved k ways d w (suc n) i p q r at h =
+    let y = map_cases (moved_way k) ways h.0 h.1 in
+    let from = ap (λ (g : Way). g.from) y.2 in
+    let to = ap (λ (g : Way). g.to) y.2 in
+    let rest = walk_moved k ways d w n (suc i) y.0.to q h.0.to (sym to) h.5 in (
+      rest.0,
+      rest.1,
+      (y.0, y.1, omega (arith, from, h.2, at), ap (λ (g : Way). g.marks) y.2 ∙ h.3, subst (λ (g : Way). ReadsByte d i g.bytes) (sym y.2) h.4, rest.2),
+    )
+
+module _ (A B : Automaton) (a : IsWhole A) (b : IsWhole B) (d : List ℕ) (w : ℕ → ℕ) where
+  in_first : Accepts A d w → Accepts (union_of A B) d w
+  in_first h = (
+    h.0,
+    h.1,
+    has_left A.starts (map (◌+◌ A.states) B.starts) h.0 h.2,
+    has_left A.stops (map (moved_stop A.states) B.stops) h.1 h.3,
+    walk_more A.ways (union_of A B).ways d w (has_left A.ways (map (moved_way A.states) B.ways)) (length d) 0 h.0 h.1.state h.4,
+    h.5,
+  )
+
+  in_second : Accepts B d w → Accepts (union_of A B) d w
+  in_second h = (
+    A.states + h.0,
+    moved_stop A.states h.1,
+    has_right A.starts (map (◌+◌ A.states) B.starts) (A.states + h.0) (has_map (◌+◌ A.states) B.starts h.0 h.2),
+    has_right A.stops (map (moved_stop A.states) B.stops) (moved_stop A.states h.1) (has_map (moved_stop A.states) B.stops h.1 h.3),
+    walk_more (map (moved_way A.states) B.ways) (union_of A B).ways d w (has_right A.ways (map (moved_way A.states) B.ways)) (length d) 0
+        (A.states + h.0) (A.states + h.1.state) (moved_walk A.states B.ways d w (length d) 0 h.0 h.1.state h.4),
+    h.5,
+  )
+
+  stays_first : (y : Way) → Has (union_of A B).ways y → y.from < A.states → Has A.ways y × (y.to < A.states)
+  stays_first y h l =
+      elim (has_cases A.ways (map (moved_way A.states) B.ways) y h) [
+        | inl x ↦ (x, a.tos y x)
+        | inr x ↦ let r = map_cases (moved_way A.states) B.ways y x in absurd (omega (arith, ap (λ (g : Way). g.from) r.2, l))
+      ]
+
+  stays_second : (y : Way) → Has (union_of A B).ways y → A.states ≤ y.from → Has (map (moved_way A.states) B.ways) y × (A.states ≤ y.to)
+  stays_second y h l =
+      elim (has_cases A.ways (map (moved_way A.states) B.ways) y h) [
+        | inl x ↦ absurd (omega (arith, a.froms y x, l))
+        | inr x ↦ let r = map_cases (moved_way A.states) B.ways y x in (x, omega (arith, ap (λ (g : Way). g.to) r.2))
+      ]
+
+  of_union : Accepts (union_of A B) d w → Accepts A d w ⊎ Accepts B d w
+  of_union h =
+      elim (has_cases A.starts (map (◌+◌ A.states) B.starts) h.0 h.2) [
+        | inl s ↦
+            let r = walk_stays A.ways (union_of A B).ways (λ x. x < A.states) d w stays_first (length d) 0 h.0 h.1.state (a.starts h.0 s) h.4 in
+            elim (has_cases A.stops (map (moved_stop A.states) B.stops) h.1 h.3) [
+              | inl x ↦ inl (h.0, h.1, s, x, r.0, h.5)
+              | inr x ↦ let m = map_cases (moved_stop A.states) B.stops h.1 x in absurd (omega (arith, ap (λ (g : Stop). g.state) m.2, r.1))
+            ]
+        | inr s ↦
+            let p = map_cases (◌+◌ A.states) B.starts h.0 s in
+            let r = walk_stays (map (moved_way A.states) B.ways) (union_of A B).ways (λ x. A.states ≤ x) d w stays_second (length d) 0 h.0 h.1.state (omega (arith, p.2)) h.4 in
+            let t = walk_moved A.states B.ways d w (length d) 0 p.0 h.1.state h.0 (sym p.2) r.0 in
+            elim (has_cases A.stops (map (moved_stop A.states) B.stops) h.1 h.3) [
+              | inl x ↦ absurd (omega (arith, a.stops h.1 x, r.1))
+              | inr x ↦
+                  let m = map_cases (moved_stop A.states) B.stops h.1 x in
+                  let same : t.0 ≡ m.0.state = omega (arith, ap (λ (g : Stop). g.state) m.2, t.1) in
+                  inr (p.0, m.0, p.1, m.1, subst (λ x. Walk B.ways d w 0 (length d) p.0 x) same t.2, ap (λ (g : Stop). g.marks) m.2 ∙ h.5)
+            ]
+      ]
+
+pub union_law : UnionLaw
+union_law A B a b d w = (of_union A B a b d w, λ h. elim h [ inl x ↦ in_first A B a b d w x | inr x ↦ in_second A B a b d w x ])
+
+-- the word that has m at k, and is v elsewhere
+abbrev put : (ℕ → ℕ) → ℕ → ℕ → ℕ → ℕ
+put v k m p = if nat_eq k p then m else v p
+
+module _ (e : ℕ → ℕ) (ways : List Way) (d : List ℕ) where
+  remarked_walk : (w v : ℕ → ℕ) (n i p q : ℕ) → ((r : ℕ) → i ≤ r → r < i + n → w r ≡ e (v r)) → Walk ways d v i n p q → Walk (map (remarked_way e) ways) d w i n p q
+  remarked_walk w v zero i p q same h = h
+  remarked_walk w v (suc n) i p q same h = (
+    remarked_way e h.0,
+    has_map (remarked_way e) ways h.0 h.1,
+    h.2,
+    ap e h.3 ∙ sym (same i (omega arith) (omega arith)),
+    h.4,
+    remarked_walk w v n (suc i) h.0.to q (λ r l u. same r (omega (arith, l)) (omega (arith, u))) h.5,
+  )
+
+  walk_remarked : (w : ℕ → ℕ) (n i p q : ℕ) → Walk (map (remarked_way e) ways) d w i n p q →
+      (v : ℕ → ℕ) × Walk ways d v i n p q × ((r : ℕ) → i ≤ r → r < i + n → w r ≡ e (v r))
+  walk_remarked w zero i p q h = (w, h, λ r l u. absurd (omega (arith, l, u)))
+  walk_remarked w (suc n) i p q h =
+      let y = map_cases (remarked_way e) ways h.0 h.1 in
+      let rest = walk_remarked w n (suc i) h.0.to q h.5 in
+      let v : ℕ → ℕ = put rest.0 i y.0.marks in
+      let here : v i ≡ y.0.marks = ap (λ b. if b then y.0.marks else rest.0 i) (eq-eqb i i refl) in
+      let later : (r : ℕ) → i < r → v r ≡ rest.0 r = λ r l. ap (λ b. if b then y.0.marks else rest.0 r) (ne_eqb i r (λ at. omega (arith, at, l))) in
+      let first : w i ≡ e (v i) = sym h.3 ∙ (sym (ap (λ (g : Way). g.marks) y.2) ∙ ap e (sym here)) in (
+        v,
+        (
+          y.0,
+          y.1,
+          ap (λ (g : Way). g.from) y.2 ∙ h.2,
+          sym here,
+          subst (λ (g : Way). ReadsByte d i g.bytes) (sym y.2) h.4,
+          walk_same ways d rest.0 v n (suc i) y.0.to q (λ r l u. sym (later r (omega (arith, l))))
+              (subst (λ x. Walk ways d rest.0 (suc i) n x q) (sym (ap (λ (g : Way). g.to) y.2)) rest.1),
+        ),
+        λ r l u. elim (compared r i) [
+          | inl less ↦ absurd (omega (arith, l, less))
+          | inr c ↦ elim c [
+            | inl at ↦ subst (λ x. w x ≡ e (v x)) (sym at) first
+            | inr more ↦ rest.2 r (omega (arith, more)) (omega (arith, u)) ∙ ap e (sym (later r more))
+          ]
+        ],
+      )
+
+module _ (A : Automaton) (e : ℕ → ℕ) (d : List ℕ) (w : ℕ → ℕ) where
+  of_remarked : Accepts (remarked e A) d w → (v : ℕ → ℕ) × Accepts A d v × AgreeOn d w (λ p. e (v p))
+  of_remarked h =
+      let x = map_cases (remarked_stop e) A.stops h.1 h.3 in
+      let r = walk_remarked e A.ways d w (length d) 0 h.0 h.1.state h.4 in
+      let v : ℕ → ℕ = put r.0 (length d) x.0.marks in
+      let here : v (length d) ≡ x.0.marks = ap (λ b. if b then x.0.marks else r.0 (length d)) (eq-eqb (length d) (length d) refl) in
+      let before : (p : ℕ) → p < length d → v p ≡ r.0 p = λ p l. ap (λ b. if b then x.0.marks else r.0 p) (ne_eqb (length d) p (λ at. omega (arith, at, l))) in
+      let last : w (length d) ≡ e (v (length d)) = sym h.5 ∙ (sym (ap (λ (g : Stop). g.marks) x.2) ∙ ap e (sym here)) in (
+        v,
+        (
+          h.0,
+          x.0,
+          h.2,
+          x.1,
+          walk_same A.ways d r.0 v (length d) 0 h.0 x.0.state (λ p l u. sym (before p (omega (arith, u))))
+              (subst (λ q. Walk A.ways d r.0 0 (length d) h.0 q) (sym (ap (λ (g : Stop). g.state) x.2)) r.1),
+          sym here,
+        ),
+        λ p l. elim (compared p (length d)) [
+          | inl less ↦ r.2 p (omega arith) (omega (arith, less)) ∙ ap e (sym (before p less))
+          | inr c ↦ elim c [
+            | inl at ↦ subst (λ x. w x ≡ e (v x)) (sym at) last
+            | inr more ↦ absurd (omega (arith, l, more))
+          ]
+        ],
+      )
+
+  to_remarked : (v : ℕ → ℕ) × Accepts A d v × AgreeOn d w (λ p. e (v p)) → Accepts (remarked e A) d w
+  to_remarked h =
+      let a = h.1 in (
+        a.0,
+        remarked_stop e a.1,
+        a.2,
+        has_map (remarked_stop e) A.stops a.1 a.3,
+        remarked_walk e A.ways d w h.0 (length d) 0 a.0 a.1.state (λ r l u. h.2 r (omega (arith, u))) a.4,
+        ap e a.5 ∙ sym (h.2 (length d) (omega arith)),
+      )
+
+pub projection_law : ProjectionLaw
+projection_law A e d w = (of_remarked A e d w, to_remarked A e d w)

@@ -1,0 +1,55 @@
+use Rattle.std.proofs.Common.{◌≡◌, ℕ, ◌+◌, ◌*◌, ◌^◌, ◌<◌, ◌++◌, List, [], length, map, take, get_or, refl, sym, ap, subst, arith, ◌∙◌, append_assoc}
+use Rattle.std.specs.Prelude.{slice_get, Some}
+use Rattle.std.specs.List.{flat_map}
+use Rattle.std.proofs.lemmas.List.{append-nil}
+use Rattle.std.proofs.lemmas.Option.{slice_get-get_or}
+use Rattle.spanner_model.specs.Lists.{Has}
+use Rattle.marked_automaton.specs.declared.way.Stop.{Stop}
+use Rattle.algebra.specs.declared.halves.HalfStop.{HalfStop}
+use Rattle.algebra.specs.declared.pairs.Pair.{Pair}
+use Rattle.algebra.specs.Pairs.{HasAllButStops, IsStopAt, Matched, PairStop, half_at, pair_of, pairs, stop_at, stop_pair, stops_at_pair, stops_meet}
+use Rattle.algebra.proofs.Followed.{matched_append}
+use Rattle.algebra.proofs.Searched.{rows_more, row_has, read_pair}
+use Rattle.algebra.proofs.Assembled.{stops_match}
+use Rattle.algebra.proofs.assembly.add_stops.Goals as goal
+
+pub add_stops_at-requires-clause-marks : goal.add_stops_at-requires-clause-marks
+add_stops_at-requires-clause-marks c = λ x y hx hy.
+    subst (λ v. x.stop.marks + y.stop.marks < 2 ^ (2 * v)) (sym (ap length c.loop-state.invariant.names))
+    (c.requires.marks x y (row_has half_at _ c.args.xs.now x (subst (λ (zs : List HalfStop). Has zs x) c.stops_from.ensures hx)).0
+    (row_has half_at _ c.args.ys.now y (subst (λ (zs : List HalfStop). Has zs y) c.stops_from-in-loop-state.ensures hy)).0)
+
+pub loop-state-preserved : goal.loop-state-preserved
+loop-state-preserved c =
+    let inv = c.loop-state.invariant in
+    let xs = c.args.xs.now in
+    let ys = c.args.ys.now in
+    let found = c.args.found.now in
+    let i = c.loop-state.state in
+    let k : Pair = get_or found i (pair_of 0 0) in
+    let at : slice_get found i ≡ Some k = slice_get-get_or found i (pair_of 0 0) c.loop-state-test.true in
+    let is : k ≡ get_or found i k = read_pair found found i (pair_of 0 0) k refl c.loop-state-test.true in
+    let ok = c.in_ok-add_stops_at.ensures in
+    let rows : pairs stops_meet stop_pair c.stops_from-in-loop-state.result.now c.stops_from.result.now ≡ stops_at_pair xs ys k =
+    (λ j. pairs stops_meet stop_pair (c.stops_from-in-loop-state.ensures j) (c.stops_from.ensures j)) in
+    let here = stops_at_pair xs ys k in
+    let before = flat_map (stops_at_pair xs ys) (take i found) in
+    let more : flat_map (stops_at_pair xs ys) (take (i + 1) found) ≡ before ++ here =
+    ap (λ zs. flat_map (stops_at_pair xs ys) (take (i + 1) zs)) (sym (append-nil found)) ∙ rows_more (stops_at_pair xs ys) found [] i k c.loop-state-test.true is in
+    let new = map (stop_at i) here in
+    record {
+      names = c.add_stops_at.ensures.names ∙ inv.names;
+      stops = (
+        inv.stops.0 ++ new,
+        ok.stops ∙ (ap (λ zs. c.loop-state.automaton.graph.stops ++ map (stop_at i) zs) rows
+            ∙ (ap (λ zs. zs ++ new) inv.stops.1 ∙ append_assoc c.args.automaton.now.graph.stops inv.stops.0 new)),
+        subst (λ (zs : List PairStop). Matched (IsStopAt found) zs (inv.stops.0 ++ new)) (sym more)
+            (matched_append (IsStopAt found) before here inv.stops.0 new inv.stops.2 (stops_match found i k xs ys at)),
+      );
+      same = record {
+        states = ok.same.states ∙ inv.same.states;
+        starts = ok.same.starts ∙ inv.same.starts;
+        ways = ok.same.ways ∙ inv.same.ways;
+        idle = ok.same.idle ∙ inv.same.idle;
+      };
+    }

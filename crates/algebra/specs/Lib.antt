@@ -1,0 +1,9 @@
+pub mod JoinedMarks
+pub mod JoinedNames
+pub mod Laws
+pub mod Moved
+pub mod Operations
+pub mod Pairs
+pub mod Renaming
+pub mod Rows
+pub mod Sides

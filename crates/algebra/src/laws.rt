@@ -1,0 +1,33 @@
+//! Laws of the operations, each the contract of a function that does nothing.
+ghost use Rattle.algebra.specs.Laws.{JoinLaws, ReductOfJoin, ReductOfUnion, UnionLaw};
+ghost use Rattle.algebra.specs.Rows.{BlocksAgree, BlocksAreJoined};
+
+/// A union accepts what one of its parts accepts.
+pub fn unions_accept_what_a_part_accepts()
+    ensures { UnionLaw }
+{}
+
+/// A join accepts what words of its parts, that go together, make.
+pub fn joins_accept_what_both_accept()
+    ensures { JoinLaws }
+{}
+
+/// The union of reducts reduces the union.
+pub fn unions_of_reducts()
+    ensures { ReductOfUnion }
+{}
+
+/// The join of reducts reduces the join.
+pub fn joins_of_reducts()
+    ensures { ReductOfJoin }
+{}
+
+/// The blocks of two rows agree at all positions exactly where their shared variables have equal spans.
+pub fn blocks_agree_where_shared_spans_are_equal()
+    ensures { BlocksAgree }
+{}
+
+/// What the blocks of two rows are together is the block of the row that has the spans of both.
+pub fn joined_blocks_are_those_of_the_merged_row()
+    ensures { BlocksAreJoined }
+{}

@@ -1,0 +1,12 @@
+//! Union, projection and join of automata.
+#![tactic(auto)]
+
+pub use operations::{join, project, union};
+
+mod assembly;
+mod halves;
+pub mod laws;
+mod moved;
+mod operations;
+mod pairs;
+mod renaming;

@@ -1,0 +1,97 @@
+//! Union, projection and join.
+ghost use Rattle.std.specs.Prelude.{◌≡◌, ℕ, ◌+◌, ◌*◌, ◌≤◌, IfOk, IfErr, List, length};
+ghost use Rattle.span_core.specs.declared.TheConstants.{MOST_VARIABLES};
+ghost use Rattle.spanner_model.specs.Lists.{Has};
+ghost use Rattle.marked_automaton.specs.Faults.{IsSizeFaultOf, IsSizeFaultWithin};
+ghost use Rattle.marked_automaton.specs.Marks.{left_of, remarked};
+ghost use Rattle.marked_automaton.specs.Reduct.{Reduces};
+ghost use Rattle.algebra.specs.JoinedMarks.{agree_on, joined};
+ghost use Rattle.algebra.specs.JoinedNames.{all_names};
+ghost use Rattle.algebra.specs.Operations.{join_of, union_of};
+
+use crate::assembly::assembled;
+use crate::halves::side_of;
+use crate::moved::{add_part, ways_of_both};
+use crate::pairs::Search;
+use crate::renaming::names_of_both;
+use marked_automaton::{Automaton, MOST_STATES, MOST_WAYS, SizeFault};
+use span_core::{OutOfMemory, VarSet};
+use std::alloc::Global;
+
+/// The automaton that accepts what `a` or `b` accepts (Fagin et al. 2015, union of spanners). The states of
+/// `b` stand behind those of `a`, and each is idle where it was.
+///
+/// `States` comes exactly where the numbers of states are together more than `MOST_STATES`, and `Ways`
+/// exactly where these are not and the ways are more than `MOST_WAYS`.
+pub fn union(alloc: Global, a: &Automaton, b: &Automaton) -> Result<Automaton, SizeFault>
+    requires { a.now.names ≡ b.now.names }
+    ensures names { IfOk result (λ u. u.names ≡ a.now.names) }
+    ensures reduct { IfOk result (λ u. Reduces u.graph (union_of a.now.graph b.now.graph)) }
+    ensures fault { IfErr result (λ e. IsSizeFaultOf (a.now.graph.states + b.now.graph.states) (length a.now.graph.ways + length b.now.graph.ways) e) }
+{
+    let states = a.states() + b.states();
+    let ways = a.ways().len() + b.ways().len();
+    if states > MOST_STATES {
+        return Err(SizeFault::States {
+            count: u64::from(states),
+        });
+    }
+    if ways > MOST_WAYS {
+        return Err(SizeFault::Ways { count: ways as u64 });
+    }
+    let mut whole = Automaton::with_ways(
+        alloc,
+        a.vars().copy(),
+        states,
+        ways_of_both(alloc, a, b)?,
+    )?;
+    add_part(&mut whole, a, 0)?;
+    add_part(&mut whole, b, a.states())?;
+    Ok(whole)
+}
+
+/// The automaton that accepts what is left of the words of `a` on the kept variables (projection).
+pub fn project(alloc: Global, a: &Automaton, keep: &VarSet) -> Result<Automaton, OutOfMemory>
+    requires { (x : List ℕ) → Has keep.now x → Has a.now.names x }
+    ensures names { IfOk result (λ p. p.names ≡ keep.now) }
+    ensures reduct { IfOk result (λ p. Reduces p.graph (remarked (left_of a.now.names keep.now) a.now.graph)) }
+{
+    // What `states` says of each automaton holds of this one.
+    let _states = a.states();
+    a.erase(alloc, keep)
+}
+
+/// The automaton that accepts what words of `a` and of `b`, that agree on the shared variables, are
+/// together (natural join). Its states are pairs; two ways go together where their markers agree on the
+/// shared variables and their byte sets meet. It has only the pairs that are reached from its starts. A
+/// pair is idle exactly where both its states are.
+///
+/// `States` comes only where the product of the numbers of states is more than `MOST_STATES`, and `Ways`
+/// only where the pairs of ways that go together are more than `MOST_WAYS`.
+pub fn join(alloc: Global, a: &Automaton, b: &Automaton) -> Result<Automaton, SizeFault>
+    requires { length (all_names a.now.names b.now.names) ≤ MOST_VARIABLES }
+    ensures names { IfOk result (λ j. j.names ≡ all_names a.now.names b.now.names) }
+    ensures reduct { IfOk result (λ j. Reduces j.graph
+        (join_of (agree_on a.now.names b.now.names j.names) (joined a.now.names b.now.names j.names) a.now.graph b.now.graph)) }
+    ensures fault { IfErr result (λ e. IsSizeFaultWithin (a.now.graph.states * b.now.graph.states)
+        (length (join_of (agree_on a.now.names b.now.names (all_names a.now.names b.now.names)) (joined a.now.names b.now.names (all_names a.now.names b.now.names)) a.now.graph b.now.graph).ways) e) }
+{
+    let _both = (a.states(), b.states());
+    let all = names_of_both(a.vars(), b.vars());
+    let left = side_of(alloc, a, &all, a.vars(), true, b.vars())?;
+    let right = side_of(alloc, b, &all, a.vars(), false, a.vars())?;
+    let mut search = Search::new(alloc);
+    search.find_all(a.starts(), b.starts())?;
+    let starts = search.found.len() as u32;
+    search.follow_all(left.ways.as_slice(), right.ways.as_slice())?;
+    assembled(
+        alloc,
+        all,
+        search,
+        starts,
+        a,
+        b,
+        left.stops.as_slice(),
+        right.stops.as_slice(),
+    )
+}

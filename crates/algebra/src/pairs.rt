@@ -1,0 +1,180 @@
+//! The pairs of states of a join, and the ways between them.
+ghost use Rattle.std.specs.Prelude.{◌≡◌, ℕ, ◌+◌, ◌*◌, ◌<◌, ◌≤◌, ◌^◌, ◌⊎◌, ◌++◌, List, [], ◌∷◌, length, slice_get, Some, OnOk, IfOk, IfErr};
+ghost use Rattle.std.specs.List.{flat_map};
+ghost use Rattle.std.specs.List.Sorted.{IsNonDecreasingBy};
+ghost use Rattle.spanner_model.specs.Lists.{AreDistinct, Has};
+ghost use Rattle.marked_automaton.specs.declared.TheConstants.{MOST_STATES};
+ghost use Rattle.marked_automaton.specs.Faults.{IsSizeFaultWithin};
+ghost use Rattle.algebra.specs.Pairs.{AreStarted, AreWithin, HaveSameRows, IsFollowed, IsRefusalOf, IsStartRefusal, half_from, pair_of, pairs, those_at, way_pair, ways_at, ways_meet, ways_with};
+
+use crate::halves::HalfWay;
+use indexmap::IndexSet;
+use marked_automaton::{MOST_STATES, MOST_WAYS, SizeFault, Way};
+use span_core::Marks;
+use std::alloc::Global;
+
+/// A state of each side.
+#[derive(Clone, Copy, Debug, PartialEq, Eq, Hash)]
+pub(crate) struct Pair {
+    pub(crate) left: u32,
+    pub(crate) right: u32,
+}
+
+/// The pairs that are found, numbered in the order in which they were, and the ways from those that are
+/// followed.
+#[derive(Drop)]
+pub(crate) struct Search {
+    pub(crate) found: IndexSet<Pair>,
+    pub(crate) ways: Vec<Way>,
+}
+
+/// The ways from a state, of ways in the order of the states that they lead from.
+fn ways_from(ways: &[HalfWay], state: u32) -> &[HalfWay]
+    requires { IsNonDecreasingBy half_from ways.now }
+    ensures { result.now ≡ those_at half_from state ways.now }
+{
+    let low = ways.partition_point(|half| half.way.from < state);
+    let high = ways.partition_point(|half| half.way.from <= state);
+    &ways[low..high]
+}
+
+impl Search {
+    /// Nothing is found.
+    pub(crate) fn new(alloc: Global) -> Search
+        ensures found { result.found.keys ≡ [] }
+        ensures ways { result.ways.items ≡ [] }
+    {
+        Search {
+            found: IndexSet::new(alloc),
+            ways: Vec::new(alloc),
+        }
+    }
+
+    /// Finds all pairs of these states.
+    pub(crate) fn find_all(&mut self, lefts: &[u32], rights: &[u32]) -> Result<(), SizeFault>
+        ensures started { OnOk result (AreStarted lefts.now rights.now self.old.found.keys self.new.found.keys) }
+        ensures ways { self.new.ways.items ≡ self.old.ways.items }
+        ensures fault { IfErr result (λ e. IsStartRefusal lefts.now rights.now self.old.found.keys e) }
+    {
+        for left in lefts {
+            self.find_with(*left, rights)?;
+        }
+        Ok(())
+    }
+
+    /// Finds the pairs of this state of the first side and of these of the second.
+    fn find_with(&mut self, left: u32, rights: &[u32]) -> Result<(), SizeFault>
+        ensures started { OnOk result (AreStarted (left ∷ []) rights.now self.old.found.keys self.new.found.keys) }
+        ensures ways { self.new.ways.items ≡ self.old.ways.items }
+        ensures fault { IfErr result (λ e. IsStartRefusal (left ∷ []) rights.now self.old.found.keys e) }
+    {
+        for right in rights {
+            self.number_of(Pair {
+                left,
+                right: *right,
+            })?;
+        }
+        Ok(())
+    }
+
+    /// Follows each pair that is found, also those that are found meanwhile.
+    pub(crate) fn follow_all(&mut self, xs: &[HalfWay], ys: &[HalfWay]) -> Result<(), SizeFault>
+        requires left { IsNonDecreasingBy half_from xs.now }
+        requires right { IsNonDecreasingBy half_from ys.now }
+        requires marks { (x y : HalfWay) → Has xs.now x → Has ys.now y → x.way.marks + y.way.marks < 2 ^ 32 }
+        requires few { length self.old.found.keys ≤ MOST_STATES }
+        ensures apart { OnOk result (AreDistinct self.new.found.keys) }
+        ensures followed { OnOk result (IsFollowed (flat_map (ways_at xs.now ys.now) self.new.found.keys) self.old.found.keys self.old.ways.items self.new.found.keys self.new.ways.items) }
+        ensures fault { IfErr result (λ e. (all1 all2 : List HalfWay) → HaveSameRows half_from xs.now all1 → HaveSameRows half_from ys.now all2 → IsRefusalOf (pairs ways_meet way_pair all2 all1) self.old.found.keys self.old.ways.items e) }
+    {
+        let mut done = 0;
+        while done < self.found.len() {
+            let pair = self.found.as_slice()[done];
+            self.follow_pair(
+                done as u32,
+                ways_from(xs, pair.left),
+                ways_from(ys, pair.right),
+            )?;
+            done += 1;
+        }
+        Ok(())
+    }
+
+    /// The number of a pair, which is found now if it was not.
+    fn number_of(&mut self, pair: Pair) -> Result<u32, SizeFault>
+        ensures number { IfOk result (λ i. slice_get self.new.found.keys i ≡ Some pair) }
+        ensures grows { OnOk result ((found : List Pair) × (self.new.found.keys ≡ self.old.found.keys ++ found)) }
+        ensures only { OnOk result ((k : Pair) → Has self.new.found.keys k → Has self.old.found.keys k ⊎ (k ≡ pair)) }
+        ensures few { OnOk result (length self.new.found.keys ≤ MOST_STATES) }
+        ensures within { OnOk result ((n1 n2 : ℕ) → AreWithin n1 n2 self.old.found.keys → pair.left < n1 → pair.right < n2 → AreWithin n1 n2 self.new.found.keys) }
+        ensures ways { self.new.ways.items ≡ self.old.ways.items }
+        ensures fault { IfErr result (λ e. (n1 n2 w : ℕ) → AreWithin n1 n2 self.old.found.keys → pair.left < n1 → pair.right < n2 → IsSizeFaultWithin (n1 * n2) w e) }
+    {
+        let (number, _) = self.found.insert_full(pair)?;
+        let count = self.found.len();
+        if count > MOST_STATES as usize {
+            return Err(SizeFault::States {
+                count: count as u64,
+            });
+        }
+        Ok(number as u32)
+    }
+
+    /// Makes the way of two that lead from the pair of this number, if they go together.
+    fn follow_both(&mut self, from: u32, x: &HalfWay, y: &HalfWay) -> Result<(), SizeFault>
+        requires from { slice_get self.old.found.keys from ≡ Some (pair_of x.now.way.from y.now.way.from) }
+        requires marks { x.now.way.marks + y.now.way.marks < 2 ^ 32 }
+        ensures followed { OnOk result (IsFollowed (ways_with x.now (y.now ∷ [])) self.old.found.keys self.old.ways.items self.new.found.keys self.new.ways.items) }
+        ensures fault { IfErr result (λ e. IsRefusalOf (ways_with x.now (y.now ∷ [])) self.old.found.keys self.old.ways.items e) }
+    {
+        if x.shared.number() != y.shared.number() {
+            return Ok(());
+        }
+        let bytes = x.way.bytes.meet(&y.way.bytes);
+        if bytes.is_empty() {
+            return Ok(());
+        }
+        let to = self.number_of(Pair {
+            left: x.way.to,
+            right: y.way.to,
+        })?;
+        self.ways.push(Way {
+            from,
+            marks: Marks::of(x.way.marks.number() + y.way.marks.number()),
+            bytes,
+            to,
+        })?;
+        Ok(())
+    }
+
+    /// Makes the ways of one way of the first side and of ways of the second, from the pair of this number.
+    fn follow_way(&mut self, from: u32, x: &HalfWay, ys: &[HalfWay]) -> Result<(), SizeFault>
+        requires from { (y : HalfWay) → Has ys.now y → slice_get self.old.found.keys from ≡ Some (pair_of x.now.way.from y.way.from) }
+        requires marks { (y : HalfWay) → Has ys.now y → x.now.way.marks + y.way.marks < 2 ^ 32 }
+        ensures followed { OnOk result (IsFollowed (ways_with x.now ys.now) self.old.found.keys self.old.ways.items self.new.found.keys self.new.ways.items) }
+        ensures fault { IfErr result (λ e. IsRefusalOf (ways_with x.now ys.now) self.old.found.keys self.old.ways.items e) }
+    {
+        for y in ys {
+            self.follow_both(from, x, y)?;
+        }
+        Ok(())
+    }
+
+    /// Makes the ways of all of these, which lead from the states of the pair of this number.
+    fn follow_pair(&mut self, from: u32, xs: &[HalfWay], ys: &[HalfWay]) -> Result<(), SizeFault>
+        requires from { (x y : HalfWay) → Has xs.now x → Has ys.now y → slice_get self.old.found.keys from ≡ Some (pair_of x.way.from y.way.from) }
+        requires marks { (x y : HalfWay) → Has xs.now x → Has ys.now y → x.way.marks + y.way.marks < 2 ^ 32 }
+        ensures followed { OnOk result (IsFollowed (pairs ways_meet way_pair ys.now xs.now) self.old.found.keys self.old.ways.items self.new.found.keys self.new.ways.items) }
+        ensures fault { IfErr result (λ e. IsRefusalOf (pairs ways_meet way_pair ys.now xs.now) self.old.found.keys self.old.ways.items e) }
+    {
+        for x in xs {
+            self.follow_way(from, x, ys)?;
+            if self.ways.len() > MOST_WAYS {
+                return Err(SizeFault::Ways {
+                    count: self.ways.len() as u64,
+                });
+            }
+        }
+        Ok(())
+    }
+}

@@ -1,0 +1,78 @@
+//! Markers of the variables of one set as markers of those of another.
+ghost use Rattle.std.specs.Prelude.{◌≡◌, ℕ, ◌<◌, ◌≤◌, List, length, map, IfOk, Some};
+ghost use Rattle.std.specs.Option.{ForSome};
+ghost use Rattle.spanner_model.specs.Lists.{Has};
+ghost use Rattle.span_core.specs.declared.TheConstants.{MOST_VARIABLES};
+ghost use Rattle.algebra.specs.JoinedNames.{all_names};
+ghost use Rattle.algebra.specs.Renaming.{bits_up, moved_marks, shift_of};
+
+use span_core::{Marks, Name, OutOfMemory, VarSet};
+use std::alloc::Global;
+
+/// The names of both sets.
+pub(crate) fn names_of_both(a: &VarSet, b: &VarSet) -> VarSet
+    requires { length (all_names a.now b.now) ≤ MOST_VARIABLES }
+    ensures { result ≡ all_names a.now b.now }
+{
+    let mut names = a.copy();
+    for k in 0..b.len() {
+        names.add(*b.at(k));
+    }
+    names
+}
+
+/// For each of `all` how far up its two bits stand in markers over `names`; nothing for one that is not
+/// there, or that `other` has although it is not wanted, or lacks although it is.
+pub(crate) fn shifts(
+    alloc: Global,
+    all: &VarSet,
+    names: &VarSet,
+    other: &VarSet,
+    wanted: bool,
+) -> Result<Vec<Option<u32>>, OutOfMemory>
+    ensures { IfOk result (λ v. v.items ≡ map (shift_of names.now other.now wanted) all.now) }
+{
+    let mut shifts = Vec::new(alloc);
+    for k in 0..all.len() {
+        shifts.push(shift(all.at(k), names, other, wanted))?;
+    }
+    Ok(shifts)
+}
+
+fn shift(name: &Name, names: &VarSet, other: &VarSet, wanted: bool) -> Option<u32>
+    ensures { result ≡ shift_of names.now other.now wanted name.now }
+{
+    let is_there = other.find(name).is_some();
+    if is_there != wanted {
+        return None;
+    }
+    let len = names.len();
+    match names.find(name) {
+        Some(k) => Some(2 * (len - k - 1) as u32),
+        None => None,
+    }
+}
+
+/// The markers that have the bits of these, two after two, which stand so far up.
+pub(crate) fn moved(shifts: &[Option<u32>], marks: Marks) -> Marks
+    requires few { length shifts.now ≤ MOST_VARIABLES }
+    requires small { (s : ℕ) → Has shifts.now (Some s) → s < 32 }
+    ensures { result ≡ moved_marks shifts.now marks }
+{
+    let mut number = 0;
+    for shift in shifts {
+        number = number * 4 + bits(*shift, marks.number());
+    }
+    Marks::of(number)
+}
+
+fn bits(shift: Option<u32>, number: u32) -> u32
+    requires { ForSome shift (λ s. s < 32) }
+    ensures value { result ≡ bits_up shift number }
+    ensures small { result < 4 }
+{
+    match shift {
+        Some(shift) => (number >> shift) % 4,
+        None => 0,
+    }
+}

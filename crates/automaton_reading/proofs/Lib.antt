@@ -1,0 +1,4 @@
+pub mod Determined
+pub mod Lists
+pub mod Matching
+pub mod MeasureLaws

@@ -1,0 +1,12 @@
+pub mod Automaton
+pub mod Codes
+pub mod Faults
+pub mod Inside
+pub mod Marks
+pub mod Reduct
+pub mod Laws
+pub mod Images
+pub mod Reach
+pub mod Trimmed
+pub mod Erased
+pub mod Accepting

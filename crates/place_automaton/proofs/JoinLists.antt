@@ -1,0 +1,77 @@
+-- Lists as loops go through them, and markers that are put before and behind.
+use Rattle.std.proofs.Common.{◌≡◌, ℕ, zero, suc, ◌+◌, ◌<◌, List, [], ◌∷◌, ◌++◌, length, get_or, take, drop, map, Option, Some, None, false, inl, refl, sym, ap, ◌∙◌, arith}
+use Rattle.std.specs.Prelude.{slice_set, if◌then◌else◌, ◌||◌}
+use Rattle.std.specs.List.{flat_map}
+use Rattle.std.specs.Option.{option_or}
+use Rattle.std.proofs.lemmas.Bool.{eq-eqb}
+use Rattle.std.proofs.lemmas.List.{take_more, map-append, append_assoc, flat_map_more}
+use Rattle.spanner_model.specs.Lists.{Has}
+use Rattle.marked_automaton.specs.declared.way.Stop.{Stop}
+use Rattle.place_automaton.specs.declared.piece.Entry.{Entry}
+use Rattle.place_automaton.specs.Places.{entry_with, stop_with, either_once, add_once}
+use Rattle.place_automaton.specs.Ends.{null_of}
+
+module _ {X : Type 0} (f : X → X) where
+  -- what is still to come is as it was
+  pub rest_same : (xs ys : List X) (i : ℕ) (d : X) → i < length xs → ys ≡ map f (take i xs) ++ drop i xs → get_or ys i d ≡ get_or xs i d
+  rest_same [] ys i d l e = absurd (omega (arith, l))
+  rest_same (x ∷ xs) ys zero d l e = ap (λ zs. get_or zs 0 d) e
+  rest_same (x ∷ xs) ys (suc i) d l e = ap (λ zs. get_or zs (suc i) d) e ∙ rest_same xs (map f (take i xs) ++ drop i xs) i d (omega (arith, l)) refl
+
+  pub map_next : (xs ys : List X) (i j : ℕ) (v d : X) → i < length xs → j ≡ suc i → ys ≡ map f (take i xs) ++ drop i xs → v ≡ f (get_or xs i d) →
+      slice_set ys i v ≡ map f (take j xs) ++ drop j xs
+  map_next [] ys i j v d l n e at = absurd (omega (arith, l))
+  map_next (x ∷ xs) ys zero j v d l n e at =
+      ap (λ zs. slice_set zs 0 v) e ∙ (ap (λ w. w ∷ xs) at ∙ ap (λ k. map f (take k (x ∷ xs)) ++ drop k (x ∷ xs)) (sym n))
+  map_next (x ∷ xs) ys (suc i) j v d l n e at =
+      ap (λ zs. slice_set zs (suc i) v) e
+      ∙ (ap (λ zs. f x ∷ zs) (map_next xs (map f (take i xs) ++ drop i xs) i (suc i) v d (omega (arith, l)) refl refl at)
+      ∙ ap (λ k. map f (take k (x ∷ xs)) ++ drop k (x ∷ xs)) (sym n))
+
+-- one more is pushed
+pub pushed_next : {X Y : Type 0} (f : X → Y) (xs : List X) (i : ℕ) (x : X) (old now : List Y) → i < length xs → x ≡ get_or xs i x →
+    now ≡ old ++ map f (take i xs) → now ++ f x ∷ [] ≡ old ++ map f (take (i + 1) xs)
+pushed_next f xs i x old now l at e =
+    ap (λ ys. ys ++ f x ∷ []) e
+    ∙ (append_assoc old (map f (take i xs)) (f x ∷ [])
+    ∙ ap (λ ys. old ++ ys) (sym (map-append f (take i xs) (x ∷ [])) ∙ ap (map f) (ap (λ y. take i xs ++ y ∷ []) at ∙ sym (take_more xs i x l))))
+
+pub pushed_list : {X Y : Type 0} (f : X → List Y) (xs : List X) (i : ℕ) (x : X) (old now : List Y) → i < length xs → x ≡ get_or xs i x →
+    now ≡ old ++ flat_map f (take i xs) → now ++ f x ≡ old ++ flat_map f (take (i + 1) xs)
+pushed_list f xs i x old now l at e =
+    ap (λ ys. ys ++ f x) e
+    ∙ (flat_map_more f old (take i xs) x
+    ∙ ap (λ ys. old ++ flat_map f ys) (ap (λ y. take i xs ++ y ∷ []) at ∙ sym (take_more xs i x l)))
+
+-- no markers change nothing
+pub entries_same : (m : ℕ) (es : List Entry) → m ≡ 0 → es ≡ map (entry_with m) es
+entries_same m [] z = refl
+entries_same m (e ∷ es) z =
+    let same : e.marks ≡ m + e.marks = omega (arith, z) in
+    let f : ℕ → Entry = λ n. record { marks = n; bytes = e.bytes; to = e.to } in
+    ap (λ x. x ∷ es) (ap f same) ∙ ap (λ xs. entry_with m e ∷ xs) (entries_same m es z)
+
+pub stops_same : (m : ℕ) (ss : List Stop) → m ≡ 0 → ss ≡ map (stop_with m) ss
+stops_same m [] z = refl
+stops_same m (s ∷ ss) z =
+    let same : s.marks ≡ s.marks + m = omega (arith, z) in
+    let f : ℕ → Stop = λ n. record { state = s.state; marks = n } in
+    ap (λ x. x ∷ ss) (ap f same) ∙ ap (λ xs. stop_with m s ∷ xs) (stops_same m ss z)
+
+pub append_nil : {X : Type 0} (xs : List X) → xs ++ [] ≡ xs
+append_nil [] = refl
+append_nil (x ∷ xs) = ap (λ ys. x ∷ ys) (append_nil xs)
+
+-- blocks of either, where they are the same
+pub either_of : (a b : Option ℕ) → ((m n : ℕ) → Has (null_of a) m → Has (null_of b) n → m ≡ n) → null_of (option_or a b) ≡ either_once (null_of a) (null_of b)
+either_of None b same = refl
+either_of (Some m) None same = refl
+either_of (Some m) (Some n) same =
+    let e : m ≡ n = same m n (inl refl) (inl refl) in
+    ap (λ x. x ∷ []) e ∙ sym (ap (λ b. if (b || false) then n ∷ [] else m ∷ n ∷ []) (eq-eqb m n e))
+
+pub zero_of : (a : Option ℕ) (z : ℕ) → z ≡ 0 → ((m : ℕ) → Has (null_of a) m → m ≡ 0) → z ∷ [] ≡ add_once 0 (null_of a)
+zero_of None z e zeros = ap (λ x. x ∷ []) e
+zero_of (Some m) z e zeros =
+    let f : m ≡ 0 = zeros m (inl refl) in
+    ap (λ x. x ∷ []) (e ∙ sym f) ∙ sym (ap (λ b. if (b || false) then m ∷ [] else 0 ∷ m ∷ []) (eq-eqb 0 m (sym f)))

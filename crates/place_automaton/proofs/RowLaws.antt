@@ -1,0 +1,78 @@
+-- Parts one after another, as they are joined from the last to the first.
+use Rattle.std.specs.Prelude.{nat_le, if◌then◌else◌}
+use Rattle.std.proofs.lemmas.Bool.{leb-true, leb-false}
+use Rattle.std.proofs.Common.{◌≡◌, ℕ, zero, suc, ◌+◌, ◌-◌, ◌<◌, ◌≤◌, Bool, true, false, List, [], ◌∷◌, ◌++◌, length, length-append, append_assoc, refl, sym, ap, ◌∙◌, subst, arith}
+use Rattle.place_automaton.specs.Ends.{Ends, cat_ends, opt_ends, JoinAsSums, IsUnmarked, row_ends, row_ways, RowJoins, less_one}
+use Rattle.place_automaton.specs.Places.{ways_between}
+
+module _ (r k : ℕ) (P : Ends) (Ps : List Ends) (Q : Ends) where
+  abbrev pub Rest : Ends
+  Rest = row_ends (r - suc k) Ps Q
+
+  none_left : r ≤ k → r - k ≡ 0
+  none_left h = omega (arith, h)
+
+  none_after : r ≤ k → r - suc k ≡ 0
+  none_after h = omega (arith, h)
+
+  more_left : k < r → r - k ≡ suc (r - suc k)
+  more_left h = omega (arith, h)
+
+  less_left : less_one (r - k) ≡ r - suc k
+  less_left = go (r - k) refl
+    where
+      go : (n : ℕ) → r - k ≡ n → less_one n ≡ r - suc k
+      go zero e = omega (arith, e)
+      go (suc n) e = omega (arith, e)
+
+  pub next_optional : r ≤ k → row_ends (r - k) (P ∷ Ps) Q ≡ opt_ends (cat_ends P Rest)
+  next_optional h =
+      ap (λ n. row_ends n (P ∷ Ps) Q) (none_left h) ∙ ap (λ n. opt_ends (cat_ends P (row_ends n Ps Q))) (sym (none_after h))
+
+  pub next_required : k < r → row_ends (r - k) (P ∷ Ps) Q ≡ cat_ends P Rest
+  next_required h = ap (λ n. row_ends n (P ∷ Ps) Q) (more_left h)
+
+  pub next_ways : row_ways (r - k) (P ∷ Ps) Q ≡ row_ways (r - suc k) Ps Q ++ ways_between P.last Rest.first
+  next_ways = ap (λ n. row_ways n Ps Q ++ ways_between P.last (row_ends n Ps Q).first) less_left
+
+  pub next_joins : RowJoins (r - k) (P ∷ Ps) Q → JoinAsSums P Rest
+  next_joins h = go (r - k) refl h
+    where
+      go : (n : ℕ) → r - k ≡ n → RowJoins n (P ∷ Ps) Q → JoinAsSums P Rest
+      go zero e j = subst (λ m. JoinAsSums P (row_ends m Ps Q)) (let f : 0 ≡ r - suc k = omega (arith, e) in f) j.0
+      go (suc n) e j = subst (λ m. JoinAsSums P (row_ends m Ps Q)) (let f : n ≡ r - suc k = omega (arith, e) in f) j.0
+
+  pub next_bare : r ≤ k → RowJoins (r - k) (P ∷ Ps) Q → IsUnmarked (cat_ends P Rest)
+  next_bare h j =
+      subst (λ m. IsUnmarked (cat_ends P (row_ends m Ps Q))) (sym (none_after h))
+      (let g : RowJoins 0 (P ∷ Ps) Q = subst (λ n. RowJoins n (P ∷ Ps) Q) (none_left h) j in g.1)
+
+-- the parts that are left
+pub row_joins_rest : (r : ℕ) (Ps Qs : List Ends) (Q : Ends) → RowJoins r (Ps ++ Qs) Q → RowJoins (r - length Ps) Qs Q
+row_joins_rest r [] Qs Q h = subst (λ n. RowJoins n Qs Q) (let e : r ≡ r - 0 = omega arith in e) h
+row_joins_rest zero (P ∷ Ps) Qs Q h =
+    subst (λ n. RowJoins n Qs Q) (let e : 0 - length Ps ≡ 0 - suc (length Ps) = omega arith in e) (row_joins_rest zero Ps Qs Q h.2)
+row_joins_rest (suc r) (P ∷ Ps) Qs Q h =
+    subst (λ n. RowJoins n Qs Q) (let e : r - length Ps ≡ suc r - suc (length Ps) = omega arith in e) (row_joins_rest r Ps Qs Q h.2)
+
+-- one part is taken from the end of those that wait
+module _ (r : ℕ) (all now new done : List Ends) (P Q : Ends) (whole : all ≡ now ++ done) (taken : now ≡ new ++ P ∷ []) where
+  pub taken_whole : all ≡ new ++ P ∷ done
+  taken_whole = whole ∙ (ap (λ ps. ps ++ done) taken ∙ append_assoc new (P ∷ []) done)
+
+  taken_length : length now ≡ suc (length new)
+  taken_length = ap length taken ∙ (length-append new (P ∷ []) ∙ (let e : length new + 1 ≡ suc (length new) = omega arith in e))
+
+  pub taken_rest : row_ends (r - length now) done Q ≡ row_ends (r - suc (length new)) done Q
+  taken_rest = ap (λ n. row_ends (r - n) done Q) taken_length
+
+  pub taken_ways : row_ways (r - length now) done Q ≡ row_ways (r - suc (length new)) done Q
+  taken_ways = ap (λ n. row_ways (r - n) done Q) taken_length
+
+  pub taken_joins : RowJoins r all Q → RowJoins (r - length new) (P ∷ done) Q
+  taken_joins h = row_joins_rest r new (P ∷ done) Q (subst (λ ps. RowJoins r ps Q) taken_whole h)
+
+pub next_row : (r k : ℕ) (P : Ends) (Ps : List Ends) (Q : Ends) (b : Bool) → b ≡ nat_le r k →
+    (if b then opt_ends (cat_ends P (row_ends (r - suc k) Ps Q)) else cat_ends P (row_ends (r - suc k) Ps Q)) ≡ row_ends (r - k) (P ∷ Ps) Q
+next_row r k P Ps Q true e = sym (next_optional r k P Ps Q (leb-true r k (sym e)))
+next_row r k P Ps Q false e = sym (next_required r k P Ps Q (leb-false r k (sym e)))

@@ -1,0 +1,61 @@
+-- The formulas of the tests may be made.
+use Rattle.std.proofs.Common.{◌≡◌, ℕ, ◌≤◌, [], ◌∷◌, Some, inl, inr, arith}
+use Rattle.span_core.specs.declared.TheConstants.{MOST_VARIABLES}
+use Rattle.spanner_model.specs.Captures.{VarName}
+use Rattle.spanner_model.specs.Examples.{a, x}
+use Rattle.spanner_model.specs.Functional.{HasVar}
+use Rattle.spanner_model.specs.Lists.{AtMost}
+use Rattle.spanner_model.specs.Tree.{Tree}
+use Rattle.spanner_model.specs.WellBuilt.{IsBuilt, AreRepeatNumbers}
+use Rattle.spanner_model.proofs.SampleLaws.{byte_built, x_variable}
+use Rattle.place_automaton.specs.Examples.{maybe, times, star_in_x}
+use Rattle.place_automaton.specs.Samples.{IsSample, long, wide}
+
+some_is : (m n : ℕ) → Some m ≡ Some n → m ≡ n
+some_is m n e = cc
+
+numbers : (least most : ℕ) → least ≤ most → most ≤ 1000 → AreRepeatNumbers least (Some most)
+numbers least most l h = (omega (arith, l, h), λ b e. let f = some_is most b e in (omega (arith, l, f), omega (arith, h, f)))
+
+times_built : (n : ℕ) (f : Tree) → n ≤ 1000 → IsBuilt f → IsBuilt (times n f)
+times_built n f h b = (b, numbers n n (omega arith) h)
+
+maybe_built : (f : Tree) → IsBuilt f → IsBuilt (maybe f)
+maybe_built f b = (b, numbers 0 1 (omega arith) (omega arith))
+
+bare : (f : Tree) → ((y : VarName) → HasVar f y → ⊥) → AtMost MOST_VARIABLES (HasVar f)
+bare f none = ([], omega arith, λ y h. absurd (none y h))
+
+a_built : IsBuilt a
+a_built = byte_built 97 (omega arith)
+
+none_long : (y : VarName) → HasVar long y → ⊥
+none_long y (inl h) = h
+none_long y (inr (inl h)) = h
+none_long y (inr (inr h)) = h
+
+pub long_sample : IsSample long
+long_sample = (
+  ((times_built 19 (times 1000 a) (omega arith) (times_built 1000 a (omega arith) a_built), (times_built 999 a (omega arith) a_built, tt), λ e. absurd (cc)), omega arith),
+  (((tt, λ y h. h), λ y h. h), ((tt, λ y h. h), tt, λ y h k. k), λ y h k. h),
+  bare long none_long,
+)
+
+none_wide : (n : ℕ) (y : VarName) → HasVar (wide n) y → ⊥
+none_wide n y (inl h) = h
+none_wide n y (inr (inl h)) = h
+none_wide n y (inr (inr h)) = h
+
+pub wide_sample : (n : ℕ) → n ≤ 1000 → IsSample (wide n)
+wide_sample n h = (
+  ((times_built 1000 (maybe a) (omega arith) (maybe_built a a_built), (times_built n (maybe a) h (maybe_built a a_built), tt), λ e. absurd (cc)), omega arith),
+  (((tt, λ y h. h), λ y h. h), (((tt, λ y h. h), λ y h. h), tt, λ y h k. k), λ y h k. h),
+  bare (wide n) (none_wide n),
+)
+
+pub star_sample : IsSample star_in_x
+star_sample = (
+  (((a_built, (omega arith, λ b e. absurd (cc))), x_variable), omega arith),
+  ((tt, λ y h. h), λ h. h),
+  (x ∷ [], omega arith, λ y h. elim h [ inl e ↦ inl e | inr n ↦ absurd n ]),
+)

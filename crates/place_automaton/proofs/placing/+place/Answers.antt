@@ -1,0 +1,354 @@
+use Rattle.std.proofs.Common.{◌≡◌, ℕ, ◌+◌, ◌*◌, ◌≤◌, List, [], ◌∷◌, ◌++◌, Option, max, map, IfOk, length, take, refl, sym, ap, ◌∙◌, subst, arith}
+use Rattle.std.proofs.Math.Seq.{take-length}
+use Rattle.marked_automaton.specs.declared.TheConstants.{MOST_STATES}
+use Rattle.spanner_model.specs.Functional.{IsFunctional}
+use Rattle.spanner_model.specs.Lists.{Has}
+use Rattle.spanner_model.specs.Tree.{cap, rep, cat_all, alt_all}
+use Rattle.spanner_model.specs.View.{tree_of, trees_of}
+use Rattle.spanner_model.specs.WellBuilt.{IsWellBuilt}
+use Rattle.spanner_model.proofs.HasLaws.{Has-slice_get}
+use Rattle.spanner_model.proofs.Nodes.{nodes}
+use Rattle.spanner_model.proofs.TreeLaws.{part_nodes, arms_nodes, parts_well_built, arms_well_built}
+use Rattle.spanner_model.proofs.Trees.{tree_of-One, tree_of-Cat, tree_of-Alt, tree_of-Cap}
+use Rattle.place_automaton.specs.Counts.{counts}
+use Rattle.place_automaton.specs.declared.placing.Draft.{Draft}
+use Rattle.place_automaton.specs.Drafts.{AreNamed, HasPlaced, copies_of, places_of}
+use Rattle.place_automaton.specs.Ends.{Ends, IsUnmarked, RowJoins, again_ends, ends_of, nothing_ends, row_ends, row_ways}
+use Rattle.place_automaton.specs.Places.{Places, repeated, ways_between}
+use Rattle.place_automaton.specs.Words.{opening_of, closing_of}
+use Rattle.place_automaton.proofs.ArmLaws.{arms_null, arms_next}
+use Rattle.place_automaton.proofs.BuiltRepeats.{ordered_repeats}
+use Rattle.place_automaton.proofs.CapPlaces.{cap_apart, cap_null, cap_first, cap_last}
+use Rattle.place_automaton.proofs.CountLaws.{counted, null_zero}
+use Rattle.place_automaton.proofs.DraftRows.{IsRow, copies_next, ok_both, parts_next, parts_joins, placers, row_done}
+use Rattle.place_automaton.proofs.FineLaws.{VarBits, built_classes, fine_places, fine_unmarked}
+use Rattle.place_automaton.proofs.PartBuilt.{functional_part, functional_arm, named_part, named_arm, all_classes}
+use Rattle.place_automaton.proofs.PlaceNumbers.{copies_room, copies_total, place_count, repeated_places, turn_total, parts_room, arms_room}
+use Rattle.place_automaton.proofs.Ranges.{places_lie}
+use Rattle.place_automaton.proofs.RepeatPlaces.{again_done, bounded_places, flat_done, none_placed, nothing_done}
+use Rattle.place_automaton.proofs.Rows.{copies, in_turn, parts_row}
+use Rattle.place_automaton.proofs.Unmarked.{AllUnmarked, copies_unmarked, nothing_unmarked, row_joins}
+use Rattle.place_automaton.proofs.placing.+place.Goals as goal
+
+pub place-place_parts-requires : goal.place-place_parts-requires
+place-place_parts-requires t c =
+    let ts = trees_of c.in-Cat.parts in
+    let e = ap tree_of c.in-Cat.is ∙ tree_of-Cat c.in-Cat.parts in (
+      omega (arith, ap nodes e),
+      (
+        parts_well_built ts (subst IsWellBuilt e c.requires.built),
+        (
+          subst IsFunctional e c.requires.functional,
+          (
+            c.requires.distinct,
+            (subst (AreNamed c.args.vars.now) e c.requires.named, subst (λ f. c.args.draft.now.next + (counts f).places ≤ MOST_STATES) e c.requires.room),
+          ),
+        ),
+      ),
+    )
+
+pub place-place_arms-requires : goal.place-place_arms-requires
+place-place_arms-requires t c =
+    let ts = trees_of c.in-Alt.arms in
+    let e = ap tree_of c.in-Alt.is ∙ tree_of-Alt c.in-Alt.arms in (
+      omega (arith, ap nodes e, arms_nodes ts),
+      (
+        arms_well_built ts (subst IsWellBuilt e c.requires.built),
+        (
+          subst IsFunctional e c.requires.functional,
+          (
+            c.requires.distinct,
+            (subst (AreNamed c.args.vars.now) e c.requires.named, subst (λ f. c.args.draft.now.next + (counts f).places ≤ MOST_STATES) e c.requires.room),
+          ),
+        ),
+      ),
+    )
+
+pub place-captured-requires-clause-null : goal.place-captured-requires-clause-null
+place-captured-requires-clause-null t c =
+    let x = c.in-Cap.name in
+    let f = tree_of c.deref-in-Cap.result.now in
+    let e = ap tree_of c.in-Cap.is ∙ tree_of-Cap x c.in-Cap.sub ∙ ap (λ y. cap x (tree_of y)) (sym c.deref-in-Cap.ensures) in
+    cap_null c.args.vars.now x f (subst IsFunctional e c.requires.functional) (built_classes f (subst IsWellBuilt e c.requires.built).0.0)
+    (subst (AreNamed c.args.vars.now) e c.requires.named) c.args.draft.now.next c.in_ok-piece-in-Cap.piece c.in_ok-piece-in-Cap.ensures.ends
+
+pub place-captured-requires-clause-apart : goal.place-captured-requires-clause-apart
+place-captured-requires-clause-apart t c =
+    let x = c.in-Cap.name in
+    let f = tree_of c.deref-in-Cap.result.now in
+    let e = ap tree_of c.in-Cap.is ∙ tree_of-Cap x c.in-Cap.sub ∙ ap (λ y. cap x (tree_of y)) (sym c.deref-in-Cap.ensures) in
+    cap_apart c.args.vars.now x f (subst IsFunctional e c.requires.functional) (built_classes f (subst IsWellBuilt e c.requires.built).0.0)
+    (subst (AreNamed c.args.vars.now) e c.requires.named) c.args.draft.now.next c.in_ok-piece-in-Cap.piece c.in_ok-piece-in-Cap.ensures.ends
+
+pub place-captured-requires-clause-first : goal.place-captured-requires-clause-first
+place-captured-requires-clause-first t c =
+    let x = c.in-Cap.name in
+    let f = tree_of c.deref-in-Cap.result.now in
+    let e = ap tree_of c.in-Cap.is ∙ tree_of-Cap x c.in-Cap.sub ∙ ap (λ y. cap x (tree_of y)) (sym c.deref-in-Cap.ensures) in
+    cap_first c.args.vars.now x f (subst IsFunctional e c.requires.functional) (built_classes f (subst IsWellBuilt e c.requires.built).0.0)
+    (subst (AreNamed c.args.vars.now) e c.requires.named) c.args.draft.now.next c.in_ok-piece-in-Cap.piece c.in_ok-piece-in-Cap.ensures.ends
+
+pub place-captured-requires-clause-last : goal.place-captured-requires-clause-last
+place-captured-requires-clause-last t c =
+    let x = c.in-Cap.name in
+    let f = tree_of c.deref-in-Cap.result.now in
+    let e = ap tree_of c.in-Cap.is ∙ tree_of-Cap x c.in-Cap.sub ∙ ap (λ y. cap x (tree_of y)) (sym c.deref-in-Cap.ensures) in
+    cap_last c.args.vars.now x f (subst IsFunctional e c.requires.functional) (built_classes f (subst IsWellBuilt e c.requires.built).0.0)
+    (subst (AreNamed c.args.vars.now) e c.requires.named) c.args.draft.now.next c.in_ok-piece-in-Cap.piece c.in_ok-piece-in-Cap.ensures.ends
+
+pub place-returns-in-One : goal.place-returns-in-One
+place-returns-in-One t c =
+    let names = c.args.vars.now in
+    let e = ap tree_of c.in-One.is ∙ tree_of-One c.in-One.bytes in
+    subst (λ f. IfOk c.place_one.result (HasPlaced (places_of names f c.args.draft.now.next) c.args.draft.now c.place_one.new.draft)) (sym e) (c.place_one.ensures names)
+
+pub place_arms-place-requires : goal.place_arms-place-requires
+place_arms-place-requires t c =
+    let names = c.args.vars.now in
+    let ts = trees_of c.args.arms.now in
+    let k = c.loop-k.k in
+    let f = tree_of c.at.result.now in
+    let has = Has-slice_get ts k f c.at.ensures in
+    let front = take k ts in (
+      omega (arith, part_nodes ts f has),
+      (
+        c.requires.built f has,
+        (
+          functional_arm ts f has c.requires.functional,
+          (
+            c.requires.distinct,
+            (
+              λ x v. c.requires.named x (named_arm ts f has x v),
+              omega (arith, c.loop-k.invariant.next, place_count (opening_of names) (closing_of names) (alt_all front) c.args.draft.now.next, arms_room front, arms_room ts, parts_room ts k f c.at.ensures, c.requires.room),
+            ),
+          ),
+        ),
+      ),
+    )
+
+pub place_arms-alt-requires : goal.place_arms-alt-requires
+place_arms-alt-requires t c =
+    let ts = trees_of c.args.arms.now in
+    let f = tree_of c.at.result.now in
+    let inv = c.loop-k.invariant in
+    arms_null c.args.vars.now c.requires.distinct ts c.requires.functional c.requires.built c.requires.named c.loop-k.k c.args.draft.now.next f
+    c.loop-k.all.null c.in_ok-arm.arm.null c.loop-k.draft.next c.at.ensures (ap (λ (E : Ends). E.null) inv.ends) inv.next (ap (λ (E : Ends). E.null) c.in_ok-arm.ensures.ends)
+
+pub place_arms-loop-k-preserved : goal.place_arms-loop-k-preserved
+place_arms-loop-k-preserved t c =
+    let names = c.args.vars.now in
+    let ts = trees_of c.args.arms.now in
+    let f = tree_of c.at.result.now in
+    let has = Has-slice_get ts c.loop-k.k f c.at.ensures in
+    let small = λ (n : ℕ). (counted names c.requires.distinct f (functional_arm ts f has c.requires.functional) (ordered_repeats f (c.requires.built f has))
+    (λ x v. c.requires.named x (named_arm ts f has x v)) n).1 in
+    arms_next names ts c.loop-k.k c.args.draft.now.next f c.args.draft.now c.loop-k.draft c.place.new.draft c.loop-k.all c.in_ok-arm.arm c.in_ok-all.all
+    c.at.ensures refl small c.loop-k.invariant c.in_ok-arm.ensures c.in_ok-all.ensures
+
+pub place_parts-place-requires : goal.place_parts-place-requires
+place_parts-place-requires t c =
+    let names = c.args.vars.now in
+    let ts = trees_of c.args.parts.now in
+    let k = c.loop-k.k in
+    let f = tree_of c.at.result.now in
+    let has = Has-slice_get ts k f c.at.ensures in (
+      omega (arith, part_nodes ts f has),
+      (
+        c.requires.built f has,
+        (
+          functional_part ts f has c.requires.functional,
+          (
+            c.requires.distinct,
+            (
+              λ x v. c.requires.named x (named_part ts f has x v),
+              omega (arith, c.loop-k.invariant.next, turn_total (opening_of names) (closing_of names) (take k ts) c.args.draft.now.next, parts_room ts k f c.at.ensures, c.requires.room),
+            ),
+          ),
+        ),
+      ),
+    )
+
+pub place_parts-loop-k-preserved : goal.place_parts-loop-k-preserved
+place_parts-loop-k-preserved t c =
+    let ts = trees_of c.args.parts.now in
+    parts_next c.args.vars.now ts c.loop-k.k c.args.draft.now.next (tree_of c.at.result.now) c.args.draft.now c.loop-k.draft c.place.new.draft
+    c.loop-k.pieces.items c.push.new.self.items c.in_ok-piece.piece c.at.ensures refl c.loop-k.invariant c.in_ok-piece.ensures c.in_ok-push.ensures.items
+
+pub place_parts-join_row-requires : goal.place_parts-join_row-requires
+place_parts-join_row-requires t c =
+    let names = c.args.vars.now in
+    let ts = trees_of c.args.parts.now in
+    let n = c.args.draft.now.next in
+    let at : c.loop-k.k ≡ length ts = omega (arith, c.len-k-end.ensures) in
+    let all : take c.loop-k.k ts ≡ ts = ap (λ k. take k ts) at ∙ take-length ts in
+    let pieces = c.loop-k.invariant.pieces ∙ ap (λ us. map ends_of (in_turn (placers names us) n)) all in
+    let joins = parts_joins names ts c.requires.functional (all_classes ts c.requires.built) c.requires.named n in
+    subst (λ (Q : Ends). RowJoins c.len-2.result c.loop-k.pieces.items Q) (sym c.nothing.ensures)
+    (subst (λ (r : ℕ). RowJoins r c.loop-k.pieces.items nothing_ends) (sym c.len-2.ensures) (subst (λ (xs : List Ends). RowJoins (length ts) xs nothing_ends) (sym pieces) joins))
+
+pub place_parts-returns : goal.place_parts-returns
+place_parts-returns t c =
+    let names = c.args.vars.now in
+    let ts = trees_of c.args.parts.now in
+    let a = c.args.draft.now in
+    let at : c.loop-k.k ≡ length ts = omega (arith, c.len-k-end.ensures) in
+    let all : take c.loop-k.k ts ≡ ts = ap (λ k. take k ts) at ∙ take-length ts in
+    let row = subst (λ us. IsRow (in_turn (placers names us) a.next) a c.loop-k.draft c.loop-k.pieces.items) all c.loop-k.invariant in
+    let new : Draft = record { next = c.loop-k.draft.next; ways = c.join_row.new.ways } in
+    let xs = c.loop-k.pieces.items in
+    ok_both c.join_row.result (λ (p : Ends). p ≡ row_ends c.len-2.result xs c.nothing.result) (λ (p : Ends). HasPlaced (places_of names (cat_all ts) a.next) a new p)
+    (c.join_row.new.ways.items ≡ c.loop-k.draft.ways.items ++ row_ways c.len-2.result xs c.nothing.result)
+    (λ p ends ways. row_done (length ts) (in_turn (placers names ts) a.next) (places_of names (cat_all ts) a.next) a c.loop-k.draft new xs p
+    (parts_row (opening_of names) (closing_of names) ts a.next) row
+    (ends ∙ (ap (λ (r : ℕ). row_ends r xs c.nothing.result) c.len-2.ensures ∙ ap (λ (Q : Ends). row_ends (length ts) xs Q) c.nothing.ensures)) refl
+    (ways ∙ (ap (λ (r : ℕ). c.loop-k.draft.ways.items ++ row_ways r xs c.nothing.result) c.len-2.ensures ∙ ap (λ (Q : Ends). c.loop-k.draft.ways.items ++ row_ways (length ts) xs Q) c.nothing.ensures)))
+    c.join_row.ensures.ends c.join_row.ensures.ways
+
+pub place_repeat-returns-then-copies-eq0 : goal.place_repeat-returns-then-copies-eq0
+place_repeat-returns-then-copies-eq0 t c =
+    let F = places_of c.args.vars.now (tree_of c.args.sub.now) in
+    let k = c.args.draft.now.next in
+    nothing_done (repeated c.args.least c.args.most F k) c.args.draft.now c.nothing.result
+    (none_placed F k c.args.least c.args.most (sym c.copies_of-copies.ensures ∙ c.if-copies-eq0.true) (λ m e. (c.requires.built.0.1.1 m e).0)) c.nothing.ensures
+
+pub place_repeat-place-requires : goal.place_repeat-place-requires
+place_repeat-place-requires t c =
+    let f = tree_of c.args.sub.now in
+    let w = c.requires.built in
+    let a = (counts f).places in
+    let n = c.copies_of-copies.result in
+    let all : (counts (rep f c.args.least c.args.most)).places ≡ n * a =
+    repeated_places c.args.least c.args.most (counts f) (λ m e. (w.0.1.1 m e).0) ∙ ap (λ m. m * a) (sym c.copies_of-copies.ensures) in
+    let some : 0 + 1 ≤ n = omega (arith, c.if-copies-eq0.false) in (
+      omega arith,
+      (
+        (w.0.0, omega (arith, w.1)),
+        (
+          c.requires.functional.0,
+          (
+            c.requires.distinct,
+            (c.requires.named, omega (arith, c.requires.room, all, copies_room 0 n a some)),
+          ),
+        ),
+      ),
+    )
+
+pub place_repeat-opt_if-requires : goal.place_repeat-opt_if-requires
+place_repeat-opt_if-requires t c = λ z m h.
+    let f = tree_of c.args.sub.now in
+    sym (null_zero c.args.vars.now c.requires.distinct f c.requires.functional.0 (ordered_repeats f (c.requires.built.0.0, omega (arith, c.requires.built.1))) c.requires.functional.1 c.args.draft.now.next m
+    (subst (λ (E : Ends). Has E.null m) c.in_ok-first.ensures.ends h))
+
+pub place_repeat-returns-then-draft-before : goal.place_repeat-returns-then-draft-before
+place_repeat-returns-then-draft-before t c =
+    let names = c.args.vars.now in
+    let f = tree_of c.args.sub.now in
+    let F = places_of names f in
+    let k = c.args.draft.now.next in
+    let built : IsWellBuilt f = (c.requires.built.0.0, omega (arith, c.requires.built.1)) in
+    let ord = ordered_repeats f built in
+    flat_done F k c.args.least c.args.most c.args.draft.now c.place.new.draft c.in_ok-first.first c.opt_if.result
+    (places_lie (opening_of names) (closing_of names) f k) (counted names c.requires.distinct f c.requires.functional.0 ord c.requires.named k).1
+    (null_zero names c.requires.distinct f c.requires.functional.0 ord c.requires.functional.1 k) c.in_ok-first.ensures c.if-draft-before.true c.opt_if.ensures
+
+pub place_repeat-place-requires-in-loop-copy : goal.place_repeat-place-requires-in-loop-copy
+place_repeat-place-requires-in-loop-copy t c =
+    let names = c.args.vars.now in
+    let f = tree_of c.args.sub.now in
+    let F = places_of names f in
+    let k = c.args.draft.now.next in
+    let w = c.requires.built in
+    let a = (counts f).places in
+    let n = c.copies_of-copies.result in
+    let i = c.loop-copy._copy in
+    let all : (counts (rep f c.args.least c.args.most)).places ≡ n * a =
+    repeated_places c.args.least c.args.most (counts f) (λ m e. (w.0.1.1 m e).0) ∙ ap (λ m. m * a) (sym c.copies_of-copies.ensures) in
+    let some : i + 1 ≤ n = omega arith in (
+      omega arith,
+      (
+        (w.0.0, omega (arith, w.1)),
+        (
+          c.requires.functional.0,
+          (
+            c.requires.distinct,
+            (
+              c.requires.named,
+              omega (arith, c.requires.room, all, c.loop-copy.invariant.next, copies_total F a (place_count (opening_of names) (closing_of names) f) i k, copies_room i n a some),
+            ),
+          ),
+        ),
+      ),
+    )
+
+pub place_repeat-loop-copy-preserved : goal.place_repeat-loop-copy-preserved
+place_repeat-loop-copy-preserved t c =
+    copies_next (places_of c.args.vars.now (tree_of c.args.sub.now)) c.loop-copy._copy c.args.draft.now.next c.args.draft.now c.loop-copy.draft c.place-in-loop-copy.new.draft
+    c.loop-copy.pieces.items c.push-in-loop-copy.new.self.items c.in_ok-piece.piece refl c.loop-copy.invariant c.in_ok-piece.ensures c.in_ok-push-2.ensures.items
+
+pub place_repeat-join_row-requires : goal.place_repeat-join_row-requires
+place_repeat-join_row-requires t c =
+    let names = c.args.vars.now in
+    let f = tree_of c.args.sub.now in
+    let F = places_of names f in
+    let bare : (j : ℕ) → IsUnmarked (ends_of (F j)) = λ j.
+    fine_unmarked (VarBits names f) (λ i b. c.requires.functional.1 b.0 b.1) (F j) (fine_places names f c.requires.functional.0 (built_classes f c.requires.built.0.0) c.requires.named j) in
+    row_joins c.from-in-Some.result c.loop-copy.pieces.items c.nothing-in-Some.result
+    (subst AllUnmarked (sym c.loop-copy.invariant.pieces) (copies_unmarked F bare c.loop-copy._copy c.args.draft.now.next))
+    (subst IsUnmarked (sym c.nothing-in-Some.ensures) nothing_unmarked)
+
+pub place_repeat-join_again-requires : goal.place_repeat-join_again-requires
+place_repeat-join_again-requires t c =
+    let names = c.args.vars.now in
+    let f = tree_of c.args.sub.now in
+    let F = places_of names f in
+    let bare : (j : ℕ) → IsUnmarked (ends_of (F j)) = λ j.
+    fine_unmarked (VarBits names f) (λ i b. c.requires.functional.1 b.0 b.1) (F j) (fine_places names f c.requires.functional.0 (built_classes f c.requires.built.0.0) c.requires.named j) in
+    subst AllUnmarked (sym c.loop-copy.invariant.pieces) (copies_unmarked F bare c.loop-copy._copy c.args.draft.now.next)
+
+pub place_repeat-returns-in-Some : goal.place_repeat-returns-in-Some
+place_repeat-returns-in-Some t c =
+    let F = places_of c.args.vars.now (tree_of c.args.sub.now) in
+    let a = c.args.draft.now in
+    let least = c.args.least in
+    let most = c.args.most in
+    let m = c.in-Some.field-0 in
+    let le : least ≤ m = (c.requires.built.0.1.1 m c.in-Some.is).0 in
+    let n = c.copies_of-copies.result in
+    let many : n ≡ m = c.copies_of-copies.ensures ∙ ap (copies_of least) c.in-Some.is in
+    let some : 1 ≤ n = omega (arith, c.if-copies-eq0.false) in
+    let at : c.loop-copy._copy ≡ m = omega (arith, many, c.loop-copy-test.false, c.loop-copy.auto._copy-end some) in
+    let xs = c.loop-copy.pieces.items in
+    let row = subst (λ (j : ℕ). IsRow (copies F j a.next) a c.loop-copy.draft xs) at c.loop-copy.invariant in
+    let new : Draft = record { next = c.loop-copy.draft.next; ways = c.join_row.new.ways } in
+    let W = repeated least most F a.next in
+    let is = ap (λ (o : Option ℕ). repeated least o F a.next) c.in-Some.is ∙ bounded_places F least m a.next le in
+    let r = c.from-in-Some.result in
+    let Q = c.nothing-in-Some.result in
+    ok_both c.join_row.result (λ (p : Ends). p ≡ row_ends r xs Q) (λ (p : Ends). HasPlaced W a new p)
+    (c.join_row.new.ways.items ≡ c.loop-copy.draft.ways.items ++ row_ways r xs Q)
+    (λ p ends ways. row_done least (copies F m a.next) W a c.loop-copy.draft new xs p is row
+    (ends ∙ (ap (λ (r : ℕ). row_ends r xs Q) c.from-in-Some.ensures ∙ ap (λ (Q : Ends). row_ends least xs Q) c.nothing-in-Some.ensures)) refl
+    (ways ∙ (ap (λ (r : ℕ). c.loop-copy.draft.ways.items ++ row_ways r xs Q) c.from-in-Some.ensures ∙ ap (λ (Q : Ends). c.loop-copy.draft.ways.items ++ row_ways least xs Q) c.nothing-in-Some.ensures)))
+    c.join_row.ensures.ends c.join_row.ensures.ways
+
+pub place_repeat-returns-in-None : goal.place_repeat-returns-in-None
+place_repeat-returns-in-None t c =
+    let F = places_of c.args.vars.now (tree_of c.args.sub.now) in
+    let a = c.args.draft.now in
+    let b = c.loop-copy.draft in
+    let least = c.args.least in
+    let n = c.copies_of-copies.result in
+    let many : n ≡ max least 1 = c.copies_of-copies.ensures ∙ ap (copies_of least) c.in-None.is in
+    let at : c.loop-copy._copy ≡ max least 1 = omega (arith, many, c.loop-copy-test.false, c.loop-copy.auto._copy-end (omega (arith, many))) in
+    let xs = c.loop-copy.pieces.items in
+    let new : Draft = record { next = b.next; ways = c.join_again.new.ways } in
+    let r = c.from-in-None.result in
+    let is = ap (λ (o : Option ℕ). repeated least o F a.next) c.in-None.is in
+    let Ends' : ℕ → Ends → Type 0 = λ r p. (front : List Ends) (last : Ends) → xs ≡ front ++ last ∷ [] → p ≡ row_ends r front (again_ends r last) in
+    let Ways' : ℕ → Type 0 = λ r. (front : List Ends) (last : Ends) → xs ≡ front ++ last ∷ [] →
+    c.join_again.new.ways.items ≡ (b.ways.items ++ ways_between last.last last.first) ++ row_ways r front (again_ends r last) in
+    ok_both c.join_again.result (Ends' r) (λ (p : Ends). HasPlaced (repeated least c.args.most F a.next) a new p) (Ways' r)
+    (λ p ends ways. subst (λ (W : Places). HasPlaced W a new p) (sym is)
+    (again_done F least a.next c.loop-copy._copy a b new xs p at c.loop-copy.invariant refl
+    (subst (λ (r : ℕ). Ends' r p) c.from-in-None.ensures ends) (subst Ways' c.from-in-None.ensures ways)))
+    c.join_again.ensures.ends c.join_again.ensures.ways

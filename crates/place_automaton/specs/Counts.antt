@@ -1,0 +1,74 @@
+-- The numbers of an atom's automaton, by the formula alone.
+use Rattle.std.specs.Prelude.{ℕ, zero, suc, ◌+◌, ◌-◌, ◌*◌, max, Option, Some, None, Bool, if◌then◌else◌}
+use Rattle.spanner_model.specs.Tree.{Tree, empty, one, cat_end, cat, alt_end, alt, rep, cap}
+
+pub record PlaceCounts : Type 0 where
+  pub places : ℕ
+  -- 1 where the empty string fits, else 0
+  pub null : ℕ
+  pub first : ℕ
+  pub last : ℕ
+  pub follow : ℕ
+
+abbrev pub counts_nothing : PlaceCounts
+counts_nothing = record { places = 0; null = 1; first = 0; last = 0; follow = 0 }
+
+abbrev pub counts_never : PlaceCounts
+counts_never = record { places = 0; null = 0; first = 0; last = 0; follow = 0 }
+
+abbrev pub counts_one : PlaceCounts
+counts_one = record { places = 1; null = 0; first = 1; last = 1; follow = 0 }
+
+abbrev pub counts_cat : PlaceCounts → PlaceCounts → PlaceCounts
+counts_cat a b = record {
+  places = a.places + b.places;
+  null = a.null * b.null;
+  first = a.first + a.null * b.first;
+  last = b.last + a.last * b.null;
+  follow = a.follow + b.follow + a.last * b.first;
+}
+
+abbrev pub counts_alt : PlaceCounts → PlaceCounts → PlaceCounts
+counts_alt a b = record {
+  places = a.places + b.places;
+  null = max a.null b.null;
+  first = a.first + b.first;
+  last = a.last + b.last;
+  follow = a.follow + b.follow;
+}
+
+abbrev pub counts_opt : PlaceCounts → PlaceCounts
+counts_opt a = record { places = a.places; null = 1; first = a.first; last = a.last; follow = a.follow }
+
+abbrev pub counts_plus : PlaceCounts → PlaceCounts
+counts_plus a = record { places = a.places; null = a.null; first = a.first; last = a.last; follow = a.follow + a.last * a.first }
+
+abbrev pub counts_copies : ℕ → PlaceCounts → PlaceCounts → PlaceCounts
+counts_copies zero a b = b
+counts_copies (suc n) a b = counts_cat a (counts_copies n a b)
+
+abbrev pub counts_at_most : ℕ → PlaceCounts → PlaceCounts
+counts_at_most zero a = counts_nothing
+counts_at_most (suc n) a = counts_opt (counts_cat a (counts_at_most n a))
+
+abbrev pub counts_repeated : ℕ → Option ℕ → PlaceCounts → PlaceCounts
+counts_repeated zero None a = counts_opt (counts_plus a)
+counts_repeated (suc n) None a = counts_copies n a (counts_plus a)
+counts_repeated n (Some most) a = counts_copies n a (counts_at_most (most - n) a)
+
+abbrev pub counts : Tree → PlaceCounts
+counts empty = counts_nothing
+counts (one set) = counts_one
+counts cat_end = counts_nothing
+counts (cat f rest) = counts_cat (counts f) (counts rest)
+counts alt_end = counts_never
+counts (alt f rest) = counts_alt (counts f) (counts rest)
+counts (rep f least most) = counts_repeated least most (counts f)
+counts (cap x f) = counts f
+
+abbrev pub count_states : Bool → Bool → Tree → ℕ
+count_states from_start to_end f = 1 + (counts f).places + (if to_end then 0 else 1)
+
+abbrev pub count_ways : Bool → Bool → Tree → ℕ
+count_ways from_start to_end f =
+    (counts f).first + (counts f).follow + (if from_start then 0 else 1) + (if to_end then 0 else (counts f).last + 1 + (counts f).null)

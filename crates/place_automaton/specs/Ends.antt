@@ -1,0 +1,94 @@
+-- What stands at the two ends of a part of a formula whose places are numbered.
+use Rattle.std.specs.Prelude.{◌≡◌, ℕ, zero, suc, ◌+◌, ◌⊎◌, List, [], ◌∷◌, ◌++◌, map, Option, Some, None, bit_or, ◌==◌, if◌then◌else◌}
+use Rattle.std.specs.List.{flat_map}
+use Rattle.spanner_model.specs.Lists.{Has}
+use Rattle.marked_automaton.specs.declared.way.Way.{Way}
+use Rattle.marked_automaton.specs.declared.way.Stop.{Stop}
+use Rattle.marked_automaton.specs.Automaton.{ByteClass}
+use Rattle.place_automaton.specs.declared.piece.Entry.{Entry}
+use Rattle.place_automaton.specs.Places.{Places, ways_between, entry_with, stop_with, add_once, either_once, sums}
+
+pub record Ends : Type 0 where
+  -- the blocks with which the empty string fits
+  pub null : List ℕ
+  pub first : List Entry
+  pub last : List Stop
+
+-- a block, if there is one
+abbrev pub null_of : Option ℕ → List ℕ
+null_of None = []
+null_of (Some m) = m ∷ []
+
+abbrev pub ends_of : Places → Ends
+ends_of P = record { null = P.null; first = P.first; last = P.last }
+
+abbrev pub nothing_ends : Ends
+nothing_ends = record { null = 0 ∷ []; first = []; last = [] }
+
+abbrev pub never_ends : Ends
+never_ends = record { null = []; first = []; last = [] }
+
+abbrev pub one_ends : ByteClass → ℕ → Ends
+one_ends set k = record { null = []; first = record { marks = 0; bytes = set; to = k } ∷ []; last = record { state = k; marks = 0 } ∷ [] }
+
+abbrev pub cat_ends : Ends → Ends → Ends
+cat_ends P Q = record {
+  null = sums P.null Q.null;
+  first = P.first ++ flat_map (λ m. map (entry_with m) Q.first) P.null;
+  last = Q.last ++ flat_map (λ m. map (stop_with m) P.last) Q.null;
+}
+
+abbrev pub alt_ends : Ends → Ends → Ends
+alt_ends P Q = record { null = either_once P.null Q.null; first = P.first ++ Q.first; last = P.last ++ Q.last }
+
+abbrev pub opt_ends : Ends → Ends
+opt_ends P = record { null = add_once 0 P.null; first = P.first; last = P.last }
+
+abbrev pub cap_ends : ℕ → ℕ → Ends → Ends
+cap_ends opening closing P = record {
+  null = map (◌+◌ (opening + closing)) P.null;
+  first = map (entry_with opening) P.first;
+  last = map (stop_with closing) P.last;
+}
+
+-- a block that stands at one of the ends
+abbrev pub MarkOf : Ends → ℕ → Type 0
+MarkOf P m = Has P.null m ⊎ (((e : Entry) × Has P.first e × (e.marks ≡ m)) ⊎ ((s : Stop) × Has P.last s × (s.marks ≡ m)))
+
+-- the two blocks have no marker in common, so that what both have is their sum
+abbrev pub JoinAsSum : ℕ → ℕ → Type 0
+JoinAsSum m n = bit_or m n ≡ m + n
+
+-- the blocks of the one and of the other
+abbrev pub JoinAsSums : Ends → Ends → Type 0
+JoinAsSums P Q = (m n : ℕ) → MarkOf P m → MarkOf Q n → JoinAsSum m n
+
+-- no marker stands at the ends
+abbrev pub IsUnmarked : Ends → Type 0
+IsUnmarked P = (m : ℕ) → MarkOf P m → m ≡ 0
+
+-- parts one after another, of which so many are required and the others may stand only where all before
+-- them do; last comes Q
+abbrev pub row_ends : ℕ → List Ends → Ends → Ends
+row_ends required [] Q = Q
+row_ends zero (P ∷ Ps) Q = opt_ends (cat_ends P (row_ends zero Ps Q))
+row_ends (suc required) (P ∷ Ps) Q = cat_ends P (row_ends required Ps Q)
+
+abbrev pub less_one : ℕ → ℕ
+less_one zero = zero
+less_one (suc n) = n
+
+-- the ways between such parts
+abbrev pub row_ways : ℕ → List Ends → Ends → List Way
+row_ways required [] Q = []
+row_ways required (P ∷ Ps) Q = row_ways (less_one required) Ps Q ++ ways_between P.last (row_ends (less_one required) Ps Q).first
+
+-- each of such parts shares no marker with what comes after it, and one that may be left out has none
+abbrev pub RowJoins : ℕ → List Ends → Ends → Type 0
+RowJoins required [] Q = Unit {0}
+RowJoins zero (P ∷ Ps) Q = JoinAsSums P (row_ends zero Ps Q) × IsUnmarked (cat_ends P (row_ends zero Ps Q)) × RowJoins zero Ps Q
+RowJoins (suc required) (P ∷ Ps) Q = JoinAsSums P (row_ends required Ps Q) × Unit {0} × RowJoins required Ps Q
+
+-- a part that comes again and again, or not at all where none is required
+abbrev pub again_ends : ℕ → Ends → Ends
+again_ends required P = if required == 0 then opt_ends P else P

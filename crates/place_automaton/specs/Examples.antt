@@ -1,0 +1,37 @@
+-- Worked numbers.
+use Rattle.std.specs.Prelude.{◌≡◌, ℕ, [], ◌∷◌, Some, false, length}
+use Rattle.spanner_model.specs.Tree.{Tree, rep, cap}
+use Rattle.spanner_model.specs.Examples.{a, star, x}
+use Rattle.marked_automaton.specs.Automaton.{Automaton}
+use Rattle.place_automaton.specs.Counts.{count_states, count_ways}
+use Rattle.place_automaton.specs.Words.{atom_automaton}
+
+-- so many times
+abbrev pub times : ℕ → Tree → Tree
+times n f = rep f n (Some n)
+
+-- once at most
+abbrev pub maybe : Tree → Tree
+maybe f = rep f 0 (Some 1)
+
+-- !x{a*}
+abbrev pub star_in_x : Tree
+star_in_x = cap x (star a)
+
+-- (a{1000}){20}
+abbrev pub many_a : Tree
+many_a = times 20 (times 1000 a)
+
+-- ((a?){1000}){3}
+abbrev pub many_optional : Tree
+many_optional = times 3 (times 1000 (maybe a))
+
+abbrev pub star_automaton : Automaton
+star_automaton = atom_automaton (x ∷ []) false false star_in_x
+
+abbrev pub CountsOfTheExamples : Type 0
+CountsOfTheExamples =
+    (star_automaton.states ≡ 3) × (length star_automaton.ways ≡ 6)
+    × (count_states false false star_in_x ≡ 3) × (count_ways false false star_in_x ≡ 6)
+    × (count_states false false many_a ≡ 20002)
+    × (count_ways false false many_optional ≡ 4504503)

@@ -1,0 +1,14 @@
+pub mod Atom
+pub mod Capped
+pub mod Codes
+pub mod CountLaw
+pub mod Counts
+pub mod Drafts
+pub mod Ends
+pub mod Examples
+pub mod Made
+pub mod Places
+pub mod Reads
+pub mod Samples
+pub mod Sequential
+pub mod Words

@@ -1,0 +1,25 @@
+-- Formulas of the tests.
+use Rattle.std.specs.Prelude.{ℕ, [], ◌∷◌}
+use Rattle.span_core.specs.declared.TheConstants.{MOST_VARIABLES}
+use Rattle.spanner_model.specs.Examples.{a}
+use Rattle.spanner_model.specs.Functional.{HasVar, IsFunctional}
+use Rattle.spanner_model.specs.Lists.{AtMost}
+use Rattle.spanner_model.specs.Tree.{Tree, empty, cat_all}
+use Rattle.spanner_model.specs.WellBuilt.{IsWellBuilt}
+use Rattle.place_automaton.specs.Examples.{maybe, times}
+
+-- (a{1000}){19}a{999}
+abbrev pub long : Tree
+long = cat_all (times 19 (times 1000 a) ∷ (times 999 a ∷ []))
+
+-- (a?){1000}(a?){n}
+abbrev pub wide : ℕ → Tree
+wide n = cat_all (times 1000 (maybe a) ∷ (times n (maybe a) ∷ []))
+
+-- ((){1000}){1000}, many times
+abbrev pub nothing_often : Tree
+nothing_often = times 1000 (times 1000 (times 1000 (times 1000 empty)))
+
+-- what is asked of a formula whose automaton is made
+abbrev pub IsSample : Tree → Type 0
+IsSample f = IsWellBuilt f × IsFunctional f × AtMost MOST_VARIABLES (HasVar f)

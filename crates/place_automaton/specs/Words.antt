@@ -1,0 +1,45 @@
+-- The words of rows.
+use Rattle.std.specs.Prelude.{◌≡◌, ℕ, ◌+◌, ◌*◌, ◌^◌, ◌≤◌, ◌↔◌, Bool, List, [], ◌∷◌, length, if◌then◌else◌}
+use Rattle.std.specs.Str.{bytes_eq}
+use Rattle.spanner_model.specs.Answer.{FitsSomewhere}
+use Rattle.spanner_model.specs.Captures.{VarName, Mapping, row_of}
+use Rattle.spanner_model.specs.Functional.{HasVar}
+use Rattle.place_automaton.specs.Sequential.{HasOrderedRepeats}
+use Rattle.spanner_model.specs.Lists.{Has, AreDistinct}
+use Rattle.span_core.specs.Block.{block}
+use Rattle.spanner_model.specs.Answers.{SpanRow}
+use Rattle.spanner_model.specs.Tree.{Tree}
+use Rattle.place_automaton.specs.Atom.{automaton_of_atom, AreBytes}
+use Rattle.marked_automaton.specs.Automaton.{Automaton, Accepts, IsWhole}
+use Rattle.place_automaton.specs.Sequential.{IsSequential}
+
+-- the bit of a variable's opening, and of its closing
+abbrev pub opening_of : List VarName → VarName → ℕ
+opening_of [] x = 0
+opening_of (y ∷ ys) x = if bytes_eq y x then 2 ^ (2 * length ys + 1) else opening_of ys x
+
+abbrev pub closing_of : List VarName → VarName → ℕ
+closing_of [] x = 0
+closing_of (y ∷ ys) x = if bytes_eq y x then 2 ^ (2 * length ys) else closing_of ys x
+
+-- w gives each position of the document the block of the row there
+abbrev pub IsWordOf : SpanRow → List ℕ → (ℕ → ℕ) → Type 0
+IsWordOf row d w = (p : ℕ) → p ≤ length d → w p ≡ block row p
+
+-- w is the word of the row of an answer
+abbrev pub IsAnswerWord : List VarName → Bool → Bool → Tree → List ℕ → (ℕ → ℕ) → Type 0
+IsAnswerWord names from_start to_end f d w =
+    (m : Mapping) × FitsSomewhere from_start to_end f d m × IsWordOf (row_of names m) d w
+
+abbrev pub atom_automaton : List VarName → Bool → Bool → Tree → Automaton
+atom_automaton names from_start to_end f = automaton_of_atom (opening_of names) (closing_of names) from_start to_end f
+
+abbrev pub AtomRowLaw : Type 0
+AtomRowLaw =
+    (names : List VarName) (from_start to_end : Bool) (f : Tree) → AreDistinct names → ((x : VarName) → HasVar f x → Has names x) →
+    IsSequential f → HasOrderedRepeats f → (d : List ℕ) → AreBytes d → (w : ℕ → ℕ) →
+    Accepts (atom_automaton names from_start to_end f) d w ↔ IsAnswerWord names from_start to_end f d w
+
+-- the automaton of an atom has no state outside of its states
+abbrev pub WholeLaw : Type 0
+WholeLaw = (names : List VarName) (from_start to_end : Bool) (f : Tree) → IsWhole (atom_automaton names from_start to_end f)

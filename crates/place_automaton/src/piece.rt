@@ -1,0 +1,258 @@
+//! Parts of a formula whose places are numbered.
+ghost use Rattle.std.specs.Prelude.{◌≡◌, ℕ, ◌+◌, List, [], ◌∷◌, ◌++◌, ◌<◌, length, map, IfOk, OnOk, IsTrue, bit_or, if◌then◌else◌};
+ghost use Rattle.spanner_model.specs.Lists.{Has};
+ghost use Rattle.place_automaton.specs.Ends.{nothing_ends, never_ends, one_ends, cat_ends, alt_ends, opt_ends, cap_ends, JoinAsSum, JoinAsSums, IsUnmarked, MarkOf, Ends, RowJoins, again_ends, row_ends, row_ways};
+ghost use Rattle.marked_automaton.specs.declared.way.Stop.{Stop};
+ghost use Rattle.marked_automaton.specs.Automaton.{IsBlockOf};
+ghost use Rattle.place_automaton.specs.Atom.{way_after, way_from_first};
+ghost use Rattle.place_automaton.specs.Made.{end_stops, with_stops};
+ghost use Rattle.place_automaton.specs.Places.{ways_between};
+
+use crate::BEFORE;
+use crate::joins::{all_entries, all_stops, both, mark_entries, mark_stops, push_ways};
+use crate::outer::{add_last_stops, push_from_before, push_into_after, push_past_places};
+use marked_automaton::{Automaton, Stop, Way};
+use span_core::{ByteSet, Marks, OutOfMemory};
+use std::alloc::Global;
+use std::marker::Model;
+
+/// A way into a place from whatever stands before it.
+#[derive(Clone, Copy)]
+pub struct Entry {
+    /// The markers that are passed on the way.
+    pub marks: Marks,
+    /// The bytes of the place.
+    pub bytes: ByteSet,
+    /// The place.
+    pub to: u32,
+}
+
+/// The two ends of a part of a formula, whose places are numbered: the markers with which it fits the
+/// empty string if it does, the ways into the places that it begins with, and the places that it ends
+/// with.
+#[derive(Drop)]
+pub(crate) struct Piece {
+    null: Option<Marks>,
+    first: Vec<Entry>,
+    last: Vec<Stop>,
+}
+
+impl Model for Piece {
+    ghost use Rattle.place_automaton.specs.Ends.{Ends, null_of};
+
+    ghost Value = { Ends };
+
+    ghost use Rattle.place_automaton.specs.Codes.{ends_code};
+
+    ghost coded = { ends_code };
+
+    ghost view = { λ p. record { null = null_of p.null; first = p.first.items; last = p.last.items } };
+}
+
+impl Piece {
+    /// The empty formula.
+    pub(crate) fn nothing(alloc: Global) -> Piece
+        ensures { result ≡ nothing_ends }
+    {
+        Piece {
+            null: Some(Marks::none()),
+            first: Vec::new(alloc),
+            last: Vec::new(alloc),
+        }
+    }
+
+    /// An alternation of no arms.
+    pub(crate) fn never(alloc: Global) -> Piece
+        ensures { result ≡ never_ends }
+    {
+        Piece {
+            null: None,
+            first: Vec::new(alloc),
+            last: Vec::new(alloc),
+        }
+    }
+
+    /// One of these bytes, at the place of this number.
+    pub(crate) fn one(alloc: Global, bytes: &ByteSet, place: u32) -> Result<Piece, OutOfMemory>
+        ensures { IfOk result (λ p. p ≡ one_ends bytes.now place) }
+    {
+        let mut first = Vec::new(alloc);
+        first.push(Entry {
+            marks: Marks::none(),
+            bytes: *bytes,
+            to: place,
+        })?;
+        let mut last = Vec::new(alloc);
+        last.push(Stop {
+            state: place,
+            marks: Marks::none(),
+        })?;
+        Ok(Piece {
+            null: None,
+            first,
+            last,
+        })
+    }
+
+    /// This and then the rest. The ways between them are added.
+    pub(crate) fn cat(self, rest: Piece, ways: &mut Vec<Way>) -> Result<Piece, OutOfMemory>
+        requires { JoinAsSums self rest }
+        ensures ends { IfOk result (λ p. p ≡ cat_ends self rest) }
+        ensures ways { OnOk result (ways.new.items ≡ ways.old.items ++ ways_between self.last rest.first) }
+    {
+        push_ways(&self.last, &rest.first, ways)?;
+        let null = both(self.null, rest.null);
+        let first = all_entries(self.first, self.null, rest.first)?;
+        let last = all_stops(rest.last, rest.null, self.last)?;
+        Ok(Piece { null, first, last })
+    }
+
+    /// This and then the rest, or nothing if that may be. The ways between them are added.
+    fn before(self, rest: Piece, optional: bool, ways: &mut Vec<Way>) -> Result<Piece, OutOfMemory>
+        requires joins { JoinAsSums self rest }
+        requires bare { IsTrue optional → IsUnmarked (cat_ends self rest) }
+        ensures ends { IfOk result (λ p. p ≡ (if optional then opt_ends (cat_ends self rest) else cat_ends self rest)) }
+        ensures ways { OnOk result (ways.new.items ≡ ways.old.items ++ ways_between self.last rest.first) }
+    {
+        let both = self.cat(rest, ways)?;
+        Ok(both.opt_if(optional))
+    }
+
+    /// This or the other.
+    pub(crate) fn alt(self, other: Piece) -> Result<Piece, OutOfMemory>
+        requires { (m n : ℕ) → Has self.null m → Has other.null n → m ≡ n }
+        ensures { IfOk result (λ p. p ≡ alt_ends self other) }
+    {
+        let null = self.null.or(other.null);
+        let mut first = self.first;
+        let mut others = other.first;
+        first.append(&mut others)?;
+        let mut last = self.last;
+        let mut ends = other.last;
+        last.append(&mut ends)?;
+        Ok(Piece { null, first, last })
+    }
+
+    /// This or nothing.
+    pub(crate) fn opt(self) -> Piece
+        requires { (m : ℕ) → Has self.null m → m ≡ 0 }
+        ensures { result ≡ opt_ends self }
+    {
+        Piece {
+            null: Some(Marks::none()),
+            first: self.first,
+            last: self.last,
+        }
+    }
+
+    /// This, or nothing if that may be.
+    pub(crate) fn opt_if(self, optional: bool) -> Piece
+        requires { IsTrue optional → (m : ℕ) → Has self.null m → m ≡ 0 }
+        ensures { result ≡ (if optional then opt_ends self else self) }
+    {
+        if optional { self.opt() } else { self }
+    }
+
+    /// Adds the ways from this to itself.
+    pub(crate) fn push_again(&self, ways: &mut Vec<Way>) -> Result<(), OutOfMemory>
+        requires { JoinAsSums self.now self.now }
+        ensures { OnOk result (ways.new.items ≡ ways.old.items ++ ways_between self.now.last self.now.first) }
+    {
+        push_ways(&self.last, &self.first, ways)
+    }
+
+    /// Adds the ways from Before into the first places.
+    pub(crate) fn push_firsts(&self, ways: &mut Vec<Way>) -> Result<(), OutOfMemory>
+        ensures { OnOk result (ways.new.items ≡ ways.old.items ++ map way_from_first self.now.first) }
+    {
+        push_from_before(&self.first, ways)
+    }
+
+    /// Adds the ways into After, whose number is given: from each last place, and from Before where the
+    /// empty string fits.
+    pub(crate) fn push_afters(&self, after: u32, ways: &mut Vec<Way>) -> Result<(), OutOfMemory>
+        ensures { OnOk result (ways.new.items ≡ ways.old.items ++ map (way_after after) (end_stops self.now)) }
+    {
+        push_into_after(&self.last, after, ways)?;
+        match self.null {
+            Some(marks) => push_past_places(marks, after, ways),
+            None => Ok(()),
+        }
+    }
+
+    /// Adds the ends of the last places, and that of Before where the empty string fits.
+    pub(crate) fn add_stops(&self, automaton: &mut Automaton) -> Result<(), OutOfMemory>
+        requires state { (x : Stop) → Has (end_stops self.now) x → x.state < automaton.old.graph.states }
+        requires marks { (x : Stop) → Has (end_stops self.now) x → IsBlockOf (length automaton.old.names) x.marks }
+        ensures names { automaton.new.names ≡ automaton.old.names }
+        ensures ok { OnOk result (automaton.new.graph ≡ with_stops (end_stops self.now) automaton.old.graph) }
+    {
+        add_last_stops(&self.last, automaton)?;
+        match self.null {
+            Some(marks) => automaton.add_stop(Stop {
+                state: BEFORE,
+                marks,
+            }),
+            None => Ok(()),
+        }
+    }
+
+    /// This in a capture, whose markers are these.
+    pub(crate) fn captured(self, opening: Marks, closing: Marks) -> Piece
+        requires apart { JoinAsSum opening closing }
+        requires null { (m : ℕ) → Has self.null m → bit_or (opening + closing) m ≡ opening + closing + m }
+        requires first { (m : ℕ) → MarkOf self m → JoinAsSum opening m }
+        requires last { (m : ℕ) → MarkOf self m → JoinAsSum m closing }
+        ensures { result ≡ cap_ends opening closing self }
+    {
+        let null = match self.null {
+            None => None,
+            Some(marks) => Some(opening.with(closing).with(marks)),
+        };
+        let mut first = self.first;
+        mark_entries(opening, &mut first);
+        let mut last = self.last;
+        mark_stops(closing, &mut last);
+        Piece { null, first, last }
+    }
+}
+
+/// The pieces one after another and then the rest, where the first so many are required and each other
+/// may stand only where all before it do. The ways between them are added.
+pub(crate) fn join_row(
+    mut pieces: Vec<Piece>,
+    required: usize,
+    rest: Piece,
+    ways: &mut Vec<Way>,
+) -> Result<Piece, OutOfMemory>
+    requires { RowJoins required pieces.items rest }
+    ensures ends { IfOk result (λ p. p ≡ row_ends required pieces.items rest) }
+    ensures ways { OnOk result (ways.new.items ≡ ways.old.items ++ row_ways required pieces.items rest) }
+{
+    let mut row = rest;
+    while let Some(piece) = pieces.pop() {
+        let optional = pieces.len() >= required;
+        row = piece.before(row, optional, ways)?;
+    }
+    Ok(row)
+}
+
+/// The pieces one after another, of which the last may come again and again, and may be left out where
+/// none is required. No markers stand in them.
+pub(crate) fn join_again(
+    alloc: Global,
+    mut pieces: Vec<Piece>,
+    required: usize,
+    ways: &mut Vec<Way>,
+) -> Result<Piece, OutOfMemory>
+    requires { (P : Ends) → Has pieces.items P → IsUnmarked P }
+    ensures ends { IfOk result (λ p. (front : List Ends) (last : Ends) → pieces.items ≡ front ++ last ∷ [] → p ≡ row_ends required front (again_ends required last)) }
+    ensures ways { OnOk result ((front : List Ends) (last : Ends) → pieces.items ≡ front ++ last ∷ []
+        → ways.new.items ≡ (ways.old.items ++ ways_between last.last last.first) ++ row_ways required front (again_ends required last)) }
+{
+    let Some(last) = pieces.pop() else {
+        return Ok(Piece::nothing(alloc));
+    };
+    last.push_again(ways)?;
+    join_row(pieces, required, last.opt_if(required == 0), ways)
+}

@@ -1,0 +1,185 @@
+//! The places of a formula.
+ghost use Rattle.std.specs.Prelude.{◌≡◌, ℕ, ◌+◌, ◌≤◌, IfOk, List};
+ghost use Rattle.spanner_model.specs.Captures.{VarName};
+ghost use Rattle.spanner_model.specs.Functional.{IsFunctional};
+ghost use Rattle.spanner_model.specs.Lists.{Has, AreDistinct};
+ghost use Rattle.spanner_model.specs.Tree.{Tree, one, rep, cat_all, alt_all};
+ghost use Rattle.spanner_model.specs.View.{tree_of, trees_of};
+ghost use Rattle.spanner_model.specs.WellBuilt.{IsWellBuilt};
+ghost use Rattle.marked_automaton.specs.declared.TheConstants.{MOST_STATES};
+ghost use Rattle.place_automaton.specs.Counts.{counts};
+ghost use Rattle.place_automaton.specs.Drafts.{AreNamed, HasPlaced, copies_of, places_of};
+ghost use Rattle.place_automaton.specs.Ends.{MarkOf, JoinAsSum, cap_ends};
+ghost use Rattle.place_automaton.specs.Words.{opening_of, closing_of};
+
+use crate::piece::{Piece, join_again, join_row};
+use marked_automaton::Way;
+use span_core::{ByteSet, Marks, Name, OutOfMemory, VarSet};
+use spanner_model::{Formula, Parts};
+use std::alloc::Global;
+
+/// An automaton that is being made.
+#[derive(Drop)]
+pub(crate) struct Draft {
+    /// The number of the next place.
+    pub(crate) next: u32,
+    /// The ways between places.
+    pub(crate) ways: Vec<Way>,
+}
+
+/// Places the formula, and adds the ways between its places.
+#[cycle(place)]
+pub(crate) fn place(
+    alloc: Global,
+    vars: &VarSet,
+    formula: &Formula,
+    draft: &mut Draft,
+) -> Result<Piece, OutOfMemory>
+    requires built { IsWellBuilt (tree_of formula.now) }
+    requires functional { IsFunctional (tree_of formula.now) }
+    requires distinct { AreDistinct vars.now }
+    requires named { AreNamed vars.now (tree_of formula.now) }
+    requires room { draft.old.next + (counts (tree_of formula.now)).places ≤ MOST_STATES }
+    ensures { IfOk result (HasPlaced (places_of vars.now (tree_of formula.now) draft.old.next) draft.old draft.new) }
+{
+    match formula {
+        Formula::Empty => Ok(Piece::nothing(alloc)),
+        Formula::One(bytes) => place_one(alloc, bytes, draft),
+        Formula::Cat(parts) => place_parts(alloc, vars, parts, draft),
+        Formula::Alt(arms) => place_arms(alloc, vars, arms, draft),
+        Formula::Rep(sub, least, most) => place_repeat(alloc, vars, sub, *least, *most, draft),
+        Formula::Cap(name, sub) => {
+            let piece = place(alloc, vars, sub, draft)?;
+            Ok(captured(vars, name, piece))
+        }
+    }
+}
+
+/// Places one byte.
+fn place_one(alloc: Global, bytes: &ByteSet, draft: &mut Draft) -> Result<Piece, OutOfMemory>
+    requires { draft.old.next + 1 ≤ MOST_STATES }
+    ensures { (names : List VarName) → IfOk result (HasPlaced (places_of names (one bytes.now) draft.old.next) draft.old draft.new) }
+{
+    let piece = Piece::one(alloc, bytes, draft.next)?;
+    draft.next += 1;
+    Ok(piece)
+}
+
+/// Places the parts of a concatenation, and joins them.
+#[cycle(place)]
+fn place_parts(
+    alloc: Global,
+    vars: &VarSet,
+    parts: &Parts,
+    draft: &mut Draft,
+) -> Result<Piece, OutOfMemory>
+    requires built { (f : Tree) → Has (trees_of parts.now) f → IsWellBuilt f }
+    requires functional { IsFunctional (cat_all (trees_of parts.now)) }
+    requires distinct { AreDistinct vars.now }
+    requires named { AreNamed vars.now (cat_all (trees_of parts.now)) }
+    requires room { draft.old.next + (counts (cat_all (trees_of parts.now))).places ≤ MOST_STATES }
+    ensures { IfOk result (HasPlaced (places_of vars.now (cat_all (trees_of parts.now)) draft.old.next) draft.old draft.new) }
+{
+    let mut pieces = Vec::with_capacity(alloc, parts.len())?;
+    for k in 0..parts.len() {
+        let piece = place(alloc, vars, parts.at(k), draft)?;
+        pieces.push(piece)?;
+    }
+    join_row(pieces, parts.len(), Piece::nothing(alloc), &mut draft.ways)
+}
+
+/// Places the arms of an alternation.
+#[cycle(place)]
+fn place_arms(
+    alloc: Global,
+    vars: &VarSet,
+    arms: &Parts,
+    draft: &mut Draft,
+) -> Result<Piece, OutOfMemory>
+    requires built { (f : Tree) → Has (trees_of arms.now) f → IsWellBuilt f }
+    requires functional { IsFunctional (alt_all (trees_of arms.now)) }
+    requires distinct { AreDistinct vars.now }
+    requires named { AreNamed vars.now (alt_all (trees_of arms.now)) }
+    requires room { draft.old.next + (counts (alt_all (trees_of arms.now))).places ≤ MOST_STATES }
+    ensures { IfOk result (HasPlaced (places_of vars.now (alt_all (trees_of arms.now)) draft.old.next) draft.old draft.new) }
+{
+    let mut all = Piece::never(alloc);
+    for k in 0..arms.len() {
+        let arm = place(alloc, vars, arms.at(k), draft)?;
+        all = all.alt(arm)?;
+    }
+    Ok(all)
+}
+
+/// Places a repetition, written out as copies of its formula. Where a copy has no place the others add
+/// nothing, and are left out.
+#[cycle(place)]
+fn place_repeat(
+    alloc: Global,
+    vars: &VarSet,
+    sub: &Formula,
+    least: u16,
+    most: Option<u16>,
+    draft: &mut Draft,
+) -> Result<Piece, OutOfMemory>
+    requires built { IsWellBuilt (rep (tree_of sub.now) least most) }
+    requires functional { IsFunctional (rep (tree_of sub.now) least most) }
+    requires distinct { AreDistinct vars.now }
+    requires named { AreNamed vars.now (tree_of sub.now) }
+    requires room { draft.old.next + (counts (rep (tree_of sub.now) least most)).places ≤ MOST_STATES }
+    ensures { IfOk result (HasPlaced (places_of vars.now (rep (tree_of sub.now) least most) draft.old.next) draft.old draft.new) }
+{
+    let copies = copies_of(least, most);
+    if copies == 0 {
+        return Ok(Piece::nothing(alloc));
+    }
+    let before = draft.next;
+    let first = place(alloc, vars, sub, draft)?;
+    if draft.next == before {
+        return Ok(first.opt_if(least == 0));
+    }
+    let mut pieces = Vec::with_capacity(alloc, usize::from(copies))?;
+    pieces.push(first)?;
+    for _copy in 1..copies {
+        let piece = place(alloc, vars, sub, draft)?;
+        pieces.push(piece)?;
+    }
+    match most {
+        Some(_) => join_row(
+            pieces,
+            usize::from(least),
+            Piece::nothing(alloc),
+            &mut draft.ways,
+        ),
+        None => join_again(alloc, pieces, usize::from(least), &mut draft.ways),
+    }
+}
+
+/// How many copies of its formula a repetition is written out as.
+fn copies_of(least: u16, most: Option<u16>) -> u16
+    ensures { result ≡ copies_of least most }
+{
+    match most {
+        Some(most) => most,
+        None => least.max(1),
+    }
+}
+
+/// The piece in a capture of this name.
+fn captured(vars: &VarSet, name: &Name, piece: Piece) -> Piece
+    requires distinct { AreDistinct vars.now }
+    requires named { Has vars.now name.now }
+    requires null { (m : ℕ) → Has piece.null m → JoinAsSum (opening_of vars.now name.now + closing_of vars.now name.now) m }
+    requires apart { JoinAsSum (opening_of vars.now name.now) (closing_of vars.now name.now) }
+    requires first { (m : ℕ) → MarkOf piece m → JoinAsSum (opening_of vars.now name.now) m }
+    requires last { (m : ℕ) → MarkOf piece m → JoinAsSum m (closing_of vars.now name.now) }
+    ensures { result ≡ cap_ends (opening_of vars.now name.now) (closing_of vars.now name.now) piece }
+{
+    match vars.find(name) {
+        Some(k) => {
+            let count = vars.len();
+            piece.captured(Marks::opening(k, count), Marks::closing(k, count))
+        }
+        None => piece,
+    }
+}

@@ -1,0 +1,218 @@
+//! Numbers that are worked out by hand, automata at the limits, and a small one way by way.
+ghost use Rattle.std.specs.Prelude.{◌≡◌, IfOk, IfSome, [], ◌∷◌, None};
+ghost use Rattle.spanner_model.specs.Examples.{a, x};
+ghost use Rattle.spanner_model.specs.Tree.{empty};
+ghost use Rattle.spanner_model.specs.View.{tree_of, trees_of};
+ghost use Rattle.place_automaton.specs.Examples.{maybe, times, star_in_x};
+ghost use Rattle.place_automaton.specs.Samples.{IsSample, long, wide, nothing_often};
+
+use crate::{count, of_atom};
+use marked_automaton::{Automaton, SizeFault};
+use span_core::{ByteSet, Name, OutOfMemory};
+use spanner_model::{Atom, Formula, Parts};
+use std::alloc::Global;
+
+fn letter() -> Formula
+    ensures { tree_of result ≡ a }
+{
+    Formula::One(ByteSet::single(b'a'))
+}
+
+fn times(alloc: Global, formula: Formula, n: u16) -> Result<Formula, OutOfMemory>
+    ensures { IfOk result (λ f. tree_of f ≡ times n (tree_of formula)) }
+{
+    Ok(Formula::Rep(Box::new(alloc, formula)?, n, Some(n)))
+}
+
+fn maybe(alloc: Global, formula: Formula) -> Result<Formula, OutOfMemory>
+    ensures { IfOk result (λ f. tree_of f ≡ maybe (tree_of formula)) }
+{
+    Ok(Formula::Rep(Box::new(alloc, formula)?, 0, Some(1)))
+}
+
+fn two(alloc: Global, first: Formula, second: Formula) -> Result<Parts, OutOfMemory>
+    ensures { IfOk result (λ parts. trees_of parts ≡ tree_of first ∷ (tree_of second ∷ [])) }
+{
+    let mut parts = Parts::new(alloc);
+    if parts.push(first).is_err() {
+        return Err(OutOfMemory);
+    }
+    if parts.push(second).is_err() {
+        return Err(OutOfMemory);
+    }
+    Ok(parts)
+}
+
+/// `(a{1000}){19}a{999}`
+fn long(alloc: Global) -> Result<Formula, OutOfMemory>
+    ensures { IfOk result (λ f. tree_of f ≡ long) }
+{
+    let thousand = times(alloc, letter(), 1000)?;
+    let front = times(alloc, thousand, 19)?;
+    let back = times(alloc, letter(), 999)?;
+    Ok(Formula::Cat(two(alloc, front, back)?))
+}
+
+/// `(a?){1000}(a?){n}`
+fn wide(alloc: Global, n: u16) -> Result<Formula, OutOfMemory>
+    ensures { IfOk result (λ f. tree_of f ≡ wide n) }
+{
+    let once = maybe(alloc, letter())?;
+    let front = times(alloc, once, 1000)?;
+    let other = maybe(alloc, letter())?;
+    let back = times(alloc, other, n)?;
+    Ok(Formula::Cat(two(alloc, front, back)?))
+}
+
+/// `((((){1000}){1000}){1000}){1000}`
+fn nothing_often(alloc: Global) -> Result<Formula, OutOfMemory>
+    ensures { IfOk result (λ f. tree_of f ≡ nothing_often) }
+{
+    let first = times(alloc, Formula::Empty, 1000)?;
+    let second = times(alloc, first, 1000)?;
+    let third = times(alloc, second, 1000)?;
+    times(alloc, third, 1000)
+}
+
+/// `!x{a*}`
+fn star_in_x(alloc: Global, name: Name) -> Result<Formula, OutOfMemory>
+    requires { name ≡ x }
+    ensures { IfOk result (λ f. tree_of f ≡ star_in_x) }
+{
+    let star = Formula::Rep(Box::new(alloc, letter())?, 0, None);
+    Ok(Formula::Cap(name, Box::new(alloc, star)?))
+}
+
+fn name_x() -> Option<Name>
+    ensures { IfSome result (λ name. name ≡ x) }
+{
+    Name::read(b"x")
+}
+
+/// The numbers of an atom's automaton as it is counted.
+fn counted(formula: Formula, from_start: bool, to_end: bool) -> (u64, u64) {
+    let atom = Atom {
+        from_start,
+        to_end,
+        formula,
+    };
+    let counts = count(&atom);
+    (counts.states, counts.ways)
+}
+
+/// The numbers of an atom's automaton as it is made, or the number with which it is refused.
+fn made(
+    alloc: Global,
+    formula: Formula,
+    from_start: bool,
+    to_end: bool,
+) -> Result<(u64, u64), SizeFault>
+    requires { IsSample (tree_of formula) }
+{
+    let atom = Atom {
+        from_start,
+        to_end,
+        formula,
+    };
+    let automaton = of_atom(alloc, &atom)?;
+    Ok((u64::from(automaton.states()), automaton.ways().len() as u64))
+}
+
+/// Automata at the limits of states and of ways, and beyond.
+fn at_the_limits(alloc: Global) -> Result<[Result<(u64, u64), SizeFault>; 5], OutOfMemory> {
+    let tied = made(alloc, long(alloc)?, true, true);
+    let free = made(alloc, long(alloc)?, false, false);
+    let within = made(alloc, wide(alloc, 999)?, true, true);
+    let past = made(alloc, wide(alloc, 1000)?, true, true);
+    let nothing = made(alloc, nothing_often(alloc)?, false, false);
+    Ok([tied, free, within, past, nothing])
+}
+
+#[test]
+fn makes_what_is_within_the_limits(rt: HostRuntime) {
+    let [tied, free, within, past, nothing] = at_the_limits(rt.alloc()).expect(
+        &rt,
+        "there is memory",
+    );
+    assert_eq!(rt; tied, Ok((20_000, 19_999)));
+    assert_eq!(rt; free, Err(SizeFault::States { count: 20_001 }));
+    assert_eq!(rt; within, Ok((2_000, 1_999_000)));
+    assert_eq!(rt; past, Err(SizeFault::Ways { count: 2_001_000 }));
+    assert_eq!(rt; nothing, Ok((2, 3)));
+}
+
+/// Numbers of the places of repetitions in repetitions.
+fn numbers(alloc: Global) -> Result<[(u64, u64); 3], OutOfMemory> {
+    let once = maybe(alloc, letter())?;
+    let thousand = times(alloc, once, 1000)?;
+    let optional = counted(times(alloc, thousand, 3)?, false, false);
+    let mut formula = letter();
+    for _level in 0..3u32 {
+        formula = times(alloc, formula, 1000)?;
+    }
+    let third = counted(formula, true, true);
+    let mut formula = letter();
+    for _level in 0..8u32 {
+        formula = times(alloc, formula, 1000)?;
+    }
+    let eighth = counted(formula, false, false);
+    Ok([optional, third, eighth])
+}
+
+#[test]
+fn counts_places_and_ways(rt: HostRuntime) {
+    let told = numbers(rt.alloc()).expect(&rt, "there is memory");
+    assert_eq!(rt; told[0], (3_002, 4_504_503));
+    assert_eq!(rt; told[1], (1_000_000_001, 1_000_000_000));
+    assert_eq!(rt; told[2], (u64::MAX, u64::MAX));
+}
+
+/// Whether there is a way between these states with these markers, on each of the letters or on no other.
+fn has_way(automaton: &Automaton, from: u32, marks: u32, to: u32, all: bool) -> bool {
+    for way in automaton.ways() {
+        let same = way.from == from && way.to == to && way.marks.number() == marks;
+        if same && way.bytes.contains(b'a') && way.bytes.contains(b'b') == all {
+            return true;
+        }
+    }
+    false
+}
+
+fn has_stop(automaton: &Automaton, state: u32, marks: u32) -> bool {
+    for stop in automaton.stops() {
+        if stop.state == state && stop.marks.number() == marks {
+            return true;
+        }
+    }
+    false
+}
+
+fn star(alloc: Global, name: Name) -> Result<Automaton, SizeFault>
+    requires { name ≡ x }
+{
+    let atom = Atom {
+        from_start: false,
+        to_end: false,
+        formula: star_in_x(alloc, name)?,
+    };
+    of_atom(alloc, &atom)
+}
+
+#[test]
+fn a_star_in_a_capture(rt: HostRuntime) {
+    let name = name_x().expect(&rt, "x is a name");
+    let automaton = star(rt.alloc(), name).expect(&rt, "there is memory");
+    assert_eq!(rt; automaton.states(), 3);
+    assert_eq!(rt; automaton.ways().len(), 6);
+    assert!(rt; has_way(&automaton, 0, 0, 0, true));
+    assert!(rt; has_way(&automaton, 0, 2, 1, false));
+    assert!(rt; has_way(&automaton, 0, 3, 2, true));
+    assert!(rt; has_way(&automaton, 1, 0, 1, false));
+    assert!(rt; has_way(&automaton, 1, 1, 2, true));
+    assert!(rt; has_way(&automaton, 2, 0, 2, true));
+    assert_eq!(rt; automaton.stops().len(), 3);
+    assert!(rt; has_stop(&automaton, 0, 3));
+    assert!(rt; has_stop(&automaton, 1, 1));
+    assert!(rt; has_stop(&automaton, 2, 0));
+    assert!(rt; automaton.starts() == [0u32].as_slice());
+}

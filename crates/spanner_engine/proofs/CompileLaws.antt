@@ -1,0 +1,454 @@
+-- What is made of the parts of an expression when it is compiled.
+use Rattle.std.proofs.Common.{◌≡◌, ℕ, Bool, true, false, map, length-append, zero, suc, ◌+◌, ◌*◌, ◌≤◌, ◌⊎◌, ◌↔◌, List, [], ◌∷◌, ◌++◌, length, take, drop, Some, inl, inr, refl, sym, ap, subst, arith, ◌∙◌}
+use Rattle.std.specs.Prelude.{slice_get}
+use Rattle.std.specs.FinSet as set
+use Rattle.std.specs.List.{filter}
+use Rattle.std.specs.Ordering.{nat_cmp}
+use Rattle.std.proofs.Math.Seq.{take-length}
+use Rattle.std.proofs.lemmas.List.{take-append-drop, length-map}
+use Rattle.span_core.specs.NameSets.{Ascending}
+use Rattle.span_core.specs.declared.TheConstants.{MOST_VARIABLES}
+use Rattle.spanner_model.specs.Lists.{Has}
+use Rattle.spanner_model.specs.Captures.{VarName, Mapping}
+use Rattle.spanner_model.specs.Expression.{ExprTree, QueryTree, atom, named, union_end, union, join_end, join, project, union_all, join_all}
+use Rattle.spanner_model.specs.Answer.{VarOf, Answer, vars_of_lets, answers_of_lets}
+use Rattle.spanner_model.specs.Sound.{IsSound, IsSoundExpr, AreUnited, AgreesWithParts, NameIn, NameInLets, NameOf}
+use Rattle.spanner_model.proofs.Deciding.{told_lets}
+use Rattle.spanner_model.proofs.ExprLaws.{union_part, join_part, var_named, lets_named}
+use Rattle.spanner_model.proofs.HasLaws.{Has-slice_get, Has-append_left, Has-append_cases, distinct-le}
+use Rattle.spanner_model.proofs.NameLaws.{ascending-distinct, same_names}
+use Rattle.spanner_model.proofs.TreeLaws.{take_at_more}
+use Rattle.marked_automaton.specs.declared.way.Way.{Way}
+use Rattle.marked_automaton.specs.declared.fault.SizeFault.{SizeFault}
+use Rattle.marked_automaton.specs.declared.fault.SizeFault.TheVariants.{States, Ways, OutOfMemory}
+use Rattle.marked_automaton.specs.Automaton.{Automaton, ByteClass, HasByte, IsWhole, IsMarked, Marked}
+use Rattle.marked_automaton.specs.Faults.{IsSizeFaultOf, IsSizeFaultWithin}
+use Rattle.marked_automaton.specs.Laws.{WaysHaveBytes}
+use Rattle.marked_automaton.specs.Reduct.{Reduces, ReducesMarked}
+use Rattle.marked_automaton.proofs.Reducts.{reduct_of_reduct}
+use Rattle.marked_automaton.proofs.Sizes.{reduct_is_no_larger}
+use Rattle.algebra.specs.JoinedMarks.{agree_on, joined}
+use Rattle.algebra.specs.JoinedNames.{all_names}
+use Rattle.algebra.specs.Operations.{union_of, join_of, goes_with, pair_way, has_some, meet, moved_way}
+use Rattle.algebra.proofs.Bytes.{right_true, some_has}
+use Rattle.algebra.proofs.HasLemmas.{map_cases, flat_map_cases}
+use Rattle.algebra.proofs.Joins.{filter_cases}
+use Rattle.algebra.proofs.ReductJoins.{reduct_of_join}
+use Rattle.algebra.proofs.ReductUnions.{reduct_of_union}
+use Rattle.algebra.proofs.Whole.{union_whole, join_whole}
+use Rattle.spanner_engine.specs.Compiling.{IsAsked, AreCompiled, IsCompiledFrom}
+use Rattle.spanner_engine.specs.Kept.{KeepsInOrder}
+use Rattle.spanner_engine.specs.Parts.{IsPartOf, HasLargePartOf, HasSmallAtoms}
+use Rattle.spanner_engine.specs.QueryAutomaton.{of_union, of_join, automaton_of, united, together, of_lets}
+use Rattle.spanner_engine.proofs.Names.{all_ascend, all_are}
+use Rattle.spanner_engine.proofs.PartLaws.{union_push, join_push, union_part_of, join_part_of, union_step, join_step, large_part}
+use Rattle.spanner_engine.proofs.QueryWords.{expr_for, lets_for}
+use Rattle.spanner_engine.proofs.Words.{IsFor}
+
+-- ---- lists of parts
+
+-- a list, taken apart at a place
+pub at_place : {X : Type 0} (xs : List X) (k : ℕ) (x : X) → slice_get xs k ≡ Some x → xs ≡ take k xs ++ x ∷ drop (suc k) xs
+at_place [] k x e = absurd (cc)
+at_place (y ∷ xs) zero x e = let same : y ≡ x = cc in ap (λ z. z ∷ xs) same
+at_place (y ∷ xs) (suc k) x e = ap (λ zs. y ∷ zs) (at_place xs k x e)
+
+-- of a list with a first element
+pub first_taken : {X : Type 0} (xs : List X) (k : ℕ) → 1 ≤ k → 1 ≤ length xs → (x : X) × (rest : List X) × (take k xs ≡ x ∷ rest) × Has xs x
+first_taken [] k l m = absurd (omega (arith, m))
+first_taken (x ∷ xs) zero l m = absurd (omega (arith, l))
+first_taken (x ∷ xs) (suc k) l m = (x, take k xs, refl, inl refl)
+
+-- of parts that agree each has a variable that some has
+first_var : (V : ℕ → VarName → Type 0) (e rest : ExprTree) (x : VarName) → AgreesWithParts V e rest → VarOf V e x ⊎ VarOf V rest x → VarOf V e x
+first_var V e rest x agree (inl a) = a
+first_var V e (atom s t f) x agree (inr b) = (agree x).1 b
+first_var V e (named k) x agree (inr b) = (agree x).1 b
+first_var V e union_end x agree (inr b) = absurd b
+first_var V e (union g r) x agree (inr b) = (agree x).1 b
+first_var V e join_end x agree (inr b) = (agree x).1 b
+first_var V e (join g r) x agree (inr b) = (agree x).1 b
+first_var V e (project kept g) x agree (inr b) = (agree x).1 b
+
+united_var : (V : ℕ → VarName → Type 0) (n : ℕ) (es : List ExprTree) (e : ExprTree) (x : VarName) → AreUnited V n (union_all es) → Has es e → VarOf V e x ↔ VarOf V (union_all es) x
+united_var V n [] e x u has = absurd has
+united_var V n (g ∷ es) e x u (inl i) =
+    subst (λ (w : ExprTree). VarOf V w x ↔ (VarOf V g x ⊎ VarOf V (union_all es) x)) i (λ v. inl v, λ v. first_var V g (union_all es) x u.2 v)
+united_var V n (g ∷ []) e x u (inr has) = absurd has
+united_var V n (g ∷ h ∷ es) e x u (inr has) =
+    let later = united_var V n (h ∷ es) e x u.1 has in
+    (λ v. inr (later.0 v), λ v. later.1 (elim v as (λ _. VarOf V (union_all (h ∷ es)) x) [ inl a ↦ (u.2 x).0 a | inr b ↦ b ]))
+
+-- a part of a union has the union's variables
+pub union_var : (V : ℕ → VarName → Type 0) (n : ℕ) (es : List ExprTree) (e : ExprTree) (x : VarName) → IsSoundExpr V n (union_all es) → Has es e → VarOf V e x ↔ VarOf V (union_all es) x
+union_var V n [] e x u has = absurd has
+union_var V n (g ∷ es) e x u has = united_var V n (g ∷ es) e x (u.0, u.1, u.3) has
+
+union_named : (es : List ExprTree) (e : ExprTree) (x : VarName) → Has es e → NameIn e x → NameIn (union_all es) x
+union_named [] e x h v = absurd h
+union_named (g ∷ es) e x (inl i) v = inl (subst (λ (w : ExprTree). NameIn w x) (sym i) v)
+union_named (g ∷ es) e x (inr h) v = inr (union_named es e x h v)
+
+join_named : (es : List ExprTree) (e : ExprTree) (x : VarName) → Has es e → NameIn e x → NameIn (join_all es) x
+join_named [] e x h v = absurd h
+join_named (g ∷ es) e x (inl i) v = inl (subst (λ (w : ExprTree). NameIn w x) (sym i) v)
+join_named (g ∷ es) e x (inr h) v = inr (join_named es e x h v)
+
+pub asked_united : (q : QueryTree) (n : ℕ) (es : List ExprTree) (e : ExprTree) → Has es e → IsAsked q n (union_all es) → IsAsked q n e
+asked_united q n es e h a =
+    record { sound = a.sound; sound_expr = union_part (vars_of_lets q.lets n) n es e a.sound_expr h; named = λ x v. a.named x (union_named es e x h v) }
+
+pub asked_joined : (q : QueryTree) (n : ℕ) (es : List ExprTree) (e : ExprTree) → Has es e → IsAsked q n (join_all es) → IsAsked q n e
+asked_joined q n es e h a =
+    record { sound = a.sound; sound_expr = join_part (vars_of_lets q.lets n) n es e a.sound_expr h; named = λ x v. a.named x (join_named es e x h v) }
+
+pub asked_sub : (q : QueryTree) (n : ℕ) (kept : List VarName) (e : ExprTree) → IsAsked q n (project kept e) → IsAsked q n e
+asked_sub q n kept e a = record { sound = a.sound; sound_expr = a.sound_expr.0; named = λ x v. a.named x v }
+
+-- ---- keeping in order, and small atoms, of lists of parts
+
+abbrev pub IsFine : ExprTree → Type 0
+IsFine e = KeepsInOrder e × HasSmallAtoms e
+
+union_fine : (es : List ExprTree) → ((e : ExprTree) → Has es e → IsFine e) → IsFine (union_all es)
+union_fine [] h = (tt, tt)
+union_fine (e ∷ es) h = let rest = union_fine es (λ g i. h g (inr i)) in let this = h e (inl refl) in ((this.0, rest.0), (this.1, rest.1))
+
+join_fine : (es : List ExprTree) → ((e : ExprTree) → Has es e → IsFine e) → IsFine (join_all es)
+join_fine [] h = (tt, tt)
+join_fine (e ∷ es) h = let rest = join_fine es (λ g i. h g (inr i)) in let this = h e (inl refl) in ((this.0, rest.0), (this.1, rest.1))
+
+fine_more : (es : List ExprTree) (k : ℕ) (y : ExprTree) → slice_get es k ≡ Some y → ((e : ExprTree) → Has (take k es) e → IsFine e) → IsFine y → (e : ExprTree) → Has (take (k + 1) es) e → IsFine e
+fine_more es k y at h g e i =
+    elim (Has-append_cases (take k es) (y ∷ []) e (subst (λ (zs : List ExprTree). Has zs e) (take_at_more es k y at) i)) as (λ _. IsFine e) [
+      | inl a ↦ h e a
+      | inr b ↦ elim b as (λ _. IsFine e) [ inl same ↦ subst IsFine same g | inr c ↦ absurd c ]
+    ]
+
+-- what is made of the first k of these parts
+pub record UnionSoFar (L : ℕ → Marked) (es : List ExprTree) (k : ℕ) (a : Marked) : Type 0 where
+  pub reduces : ReducesMarked a (automaton_of L (union_all (take k es)))
+  pub fine : (e : ExprTree) → Has (take k es) e → IsFine e
+
+-- what is made of the first k of these parts
+pub record JoinSoFar (L : ℕ → Marked) (es : List ExprTree) (k : ℕ) (a : Marked) : Type 0 where
+  pub reduces : ReducesMarked a (automaton_of L (join_all (take k es)))
+  pub fine : (e : ExprTree) → Has (take k es) e → IsFine e
+
+-- ---- joins of reducts
+
+-- the ways of a join have some byte
+join_bytes : (agree : ℕ → ℕ → Bool) (both : ℕ → ℕ → ℕ) (A B : Automaton) → WaysHaveBytes (join_of agree both A B)
+join_bytes agree both A B y h e =
+    let r = flat_map_cases (λ x. map (pair_way agree both B.states x) (filter (goes_with agree both x) B.ways)) A.ways y h in
+    let s = map_cases (pair_way agree both B.states r.0) (filter (goes_with agree both r.0) B.ways) y r.2 in
+    let go = (filter_cases (goes_with agree both r.0) B.ways s.0 s.1).1 in
+    let some = some_has (meet r.0.bytes s.0.bytes) (right_true (agree r.0.marks s.0.marks) (has_some (meet r.0.bytes s.0.bytes)) go) in
+    let here : HasByte set.empty some.0 = subst (λ (b : ByteClass). HasByte b some.0) (ap (λ (g : Way). g.bytes) s.2 ∙ e) some.1 in
+    let none : set.contains (set.empty {R = nat_cmp}) some.0 ≡ false = set.contains-empty nat_cmp some.0 in
+    absurd (false_true (sym none ∙ here))
+  where
+    false_true : false ≡ true → ⊥
+    false_true f = cc
+
+-- the join over the names of two automata
+abbrev pub join_at : List VarName → List VarName → Automaton → Automaton → Automaton
+join_at ns ms A B = join_of (agree_on ns ms (all_names ns ms)) (joined ns ms (all_names ns ms)) A B
+
+-- ---- compiled parts
+
+module _ (q : QueryTree) (lets : List Marked) (known : AreCompiled q lets) (sound : IsSound q) where
+  abbrev N : ℕ
+  N = length lets
+
+  abbrev V : ℕ → VarName → Type 0
+  V = vars_of_lets q.lets N
+
+  abbrev L : ℕ → Marked
+  L = of_lets q.lets N
+
+  abbrev Lets : ℕ → Mapping → Type 0
+  Lets = answers_of_lets q.lets [] N
+
+  -- names, and that it is whole, of an expression's automaton
+  pub shape : (e : ExprTree) → IsSoundExpr V N e → KeepsInOrder e → IsFor [] (VarOf V e) (Answer V Lets [] e) (automaton_of L e)
+  shape e s g =
+      expr_for [] (λ i b at. absurd (cc)) N V Lets L
+      (lets_for [] (λ i b at. absurd (cc)) q.lets sound.sound_lets N known.few (λ k l b at. (known.keep k l b at).0) N (omega arith)) (told_lets q.lets N) e s g
+
+  -- a variable of the expression is a name of the query
+  pub var_name : (e : ExprTree) → IsAsked q N e → (x : VarName) → VarOf V e x → NameOf q x
+  var_name e a x v =
+      elim (var_named V (NameInLets q.lets) (lets_named q.lets sound.sound_lets N) N e x a.sound_expr v) as (λ _. NameOf q x) [ inl i ↦ a.named x i | inr j ↦ inl j ]
+
+  -- ---- unions
+
+  whole_united : (xs : List ExprTree) (A : Marked) → IsWhole A.graph → ((e : ExprTree) → Has xs e → IsWhole (automaton_of L e).graph) → IsWhole (united L A (union_all xs)).graph
+  whole_united [] A a h = a
+  whole_united (x ∷ xs) A a h =
+      whole_united xs (of_union A (automaton_of L x)) (union_whole A.graph (automaton_of L x).graph a (h x (inl refl))) (λ e i. h e (inr i))
+
+  names_united : (xs : List ExprTree) (A : Marked) → (united L A (union_all xs)).names ≡ A.names
+  names_united [] A = refl
+  names_united (x ∷ xs) A = names_united xs (of_union A (automaton_of L x))
+
+  module _ (es : List ExprTree) (asked : IsAsked q N (union_all es)) (two : 2 ≤ length es) where
+    taken_has : (k : ℕ) (e : ExprTree) → Has (take k es) e → Has es e
+    taken_has k e h = subst (λ (zs : List ExprTree). Has zs e) (take-append-drop k es) (Has-append_left (take k es) (drop k es) e h)
+
+    part_whole : (e : ExprTree) → Has es e → KeepsInOrder e → IsWhole (automaton_of L e).graph
+    part_whole e h g = (shape e (asked_united q N es e h asked).sound_expr g).whole
+
+    prefix_whole : (k : ℕ) → 1 ≤ k → ((e : ExprTree) → Has (take k es) e → IsFine e) → IsWhole (automaton_of L (union_all (take k es))).graph
+    prefix_whole k l fine =
+        let f = first_taken es k l (omega (arith, two)) in
+        let all : (e : ExprTree) → Has (f.0 ∷ f.1) e → IsWhole (automaton_of L e).graph =
+        λ e h. let i = subst (λ (zs : List ExprTree). Has zs e) (sym f.2) h in part_whole e (taken_has k e i) (fine e i).0 in
+        subst (λ (zs : List ExprTree). IsWhole (automaton_of L (union_all zs)).graph) (sym f.2)
+        (whole_united f.1 (automaton_of L f.0) (all f.0 (inl refl)) (λ e h. all e (inr h)))
+
+    -- the names of the first parts are those of each part
+    prefix_names : (k : ℕ) → 1 ≤ k → ((e : ExprTree) → Has (take k es) e → IsFine e) → (y : ExprTree) → Has es y → KeepsInOrder y →
+        (automaton_of L (union_all (take k es))).names ≡ (automaton_of L y).names
+    prefix_names k l fine y h g =
+        let f = first_taken es k l (omega (arith, two)) in
+        let x = f.0 in
+        let i : Has (take k es) x = subst (λ (zs : List ExprTree). Has zs x) (sym f.2) (inl refl) in
+        let a = shape x (asked_united q N es x f.3 asked).sound_expr (fine x i).0 in
+        let b = shape y (asked_united q N es y h asked).sound_expr g in
+        let same : (automaton_of L x).names ≡ (automaton_of L y).names =
+        same_names (automaton_of L x).names (automaton_of L y).names a.ascending b.ascending
+        (λ z v. (b.names z).1 ((union_var V N es y z asked.sound_expr h).1 ((union_var V N es x z asked.sound_expr f.3).0 ((a.names z).0 v))))
+        (λ z v. (a.names z).1 ((union_var V N es x z asked.sound_expr f.3).1 ((union_var V N es y z asked.sound_expr h).0 ((b.names z).0 v)))) in
+        subst (λ (zs : List ExprTree). (automaton_of L (union_all zs)).names ≡ (automaton_of L y).names) (sym f.2) (names_united f.1 (automaton_of L x) ∙ same)
+
+    pub union_first : (x : ExprTree) (a : Marked) → slice_get es 0 ≡ Some x → IsCompiledFrom q N x a → UnionSoFar L es 1 a
+    union_first x a at c = record { reduces = there es at; fine = fine es at }
+      where
+        there : (zs : List ExprTree) → slice_get zs 0 ≡ Some x → ReducesMarked a (automaton_of L (union_all (take 1 zs)))
+        there [] at = absurd (cc)
+        there (z ∷ zs) at = let same : x ≡ z = cc in subst (λ (w : ExprTree). ReducesMarked a (automaton_of L w)) same c.reduces
+
+        fine : (zs : List ExprTree) → slice_get zs 0 ≡ Some x → (e : ExprTree) → Has (take 1 zs) e → IsFine e
+        fine [] at e h = absurd (cc)
+        fine (z ∷ zs) at e h = let same : x ≡ z = cc in elim h as (λ _. IsFine e) [ inl i ↦ subst IsFine (same ∙ i) (c.keeps, c.small) | inr j ↦ absurd j ]
+
+    module _ (k : ℕ) (l : 1 ≤ k) (y : ExprTree) (at : slice_get es k ≡ Some y) (a p : Marked) (so_far : UnionSoFar L es k a) (part : IsCompiledFrom q N y p)
+        (marked_a : IsMarked a) (marked_p : IsMarked p) where
+      abbrev UA : Marked
+      UA = automaton_of L (union_all (take k es))
+
+      abbrev UP : Marked
+      UP = automaton_of L y
+
+      y_has : Has es y
+      y_has = Has-slice_get es k y at
+
+      pub union_names : a.names ≡ p.names
+      union_names = so_far.reduces.0 ∙ (prefix_names k l so_far.fine y y_has part.keeps ∙ sym part.reduces.0)
+
+      union_reduces : Reduces (union_of a.graph p.graph) (union_of UA.graph UP.graph)
+      union_reduces =
+          reduct_of_union a.graph UA.graph p.graph UP.graph marked_a.whole (prefix_whole k l so_far.fine) marked_p.whole (part_whole y y_has part.keeps)
+          so_far.reduces.1 part.reduces.1
+
+      -- with one part more
+      grown : automaton_of L (union_all (take (k + 1) es)) ≡ of_union UA UP
+      grown =
+          let f = first_taken es k l (omega (arith, two)) in
+          ap (λ (zs : List ExprTree). automaton_of L (union_all zs)) (take_at_more es k y at)
+          ∙ (ap (λ (zs : List ExprTree). automaton_of L (union_all (zs ++ y ∷ []))) f.2
+          ∙ (union_push L f.0 f.1 y ∙ ap (λ (zs : List ExprTree). of_union (automaton_of L (union_all zs)) UP) (sym f.2)))
+
+      pub union_next : (u : Marked) → u.names ≡ a.names → Reduces u.graph (union_of a.graph p.graph) → UnionSoFar L es (k + 1) u
+      union_next u names reduces = record {
+        reduces = subst (λ (M : Marked). ReducesMarked u M) (sym grown)
+            (names ∙ so_far.reduces.0, reduct_of_reduct u.graph (union_of a.graph p.graph) (union_of UA.graph UP.graph) reduces union_reduces);
+        fine = fine_more es k y at so_far.fine (part.keeps, part.small);
+      }
+
+      union_is_part : IsPartOf L (union_all es) (of_union UA UP)
+      union_is_part =
+          let f = first_taken es k l (omega (arith, two)) in
+          subst (λ (zs : List ExprTree). IsPartOf L (union_all zs) (of_union UA UP)) (sym (at_place es k y at))
+          (subst (λ (zs : List ExprTree). IsPartOf L (union_all (zs ++ y ∷ drop (suc k) es)) (of_union (automaton_of L (union_all zs)) UP)) (sym f.2)
+          (union_step L f.0 f.1 y (drop (suc k) es)))
+
+      pub union_fault : (fault : SizeFault) → IsSizeFaultOf (a.graph.states + p.graph.states) (length a.graph.ways + length p.graph.ways) fault → HasLargePartOf L (union_all es) fault
+      union_fault (States count) h =
+          let small = reduct_is_no_larger a.graph UA.graph marked_a.whole marked_a.some_byte so_far.reduces.1 in
+          let less = reduct_is_no_larger p.graph UP.graph marked_p.whole marked_p.some_byte part.reduces.1 in
+          (omega (arith, h.0, h.1), (of_union UA UP, union_is_part, omega (arith, h.1, small.0, less.0)))
+      union_fault (Ways count) h =
+          let small = reduct_is_no_larger a.graph UA.graph marked_a.whole marked_a.some_byte so_far.reduces.1 in
+          let less = reduct_is_no_larger p.graph UP.graph marked_p.whole marked_p.some_byte part.reduces.1 in
+          let ways : length (of_union UA UP).graph.ways ≡ length UA.graph.ways + length UP.graph.ways =
+          length-append UA.graph.ways (map (moved_way UA.graph.states) UP.graph.ways) ∙ ap (λ n. length UA.graph.ways + n) (length-map UP.graph.ways (moved_way UA.graph.states)) in
+          (omega (arith, h.1, h.2), (of_union UA UP, union_is_part, omega (arith, h.2, small.1, less.1, ways)))
+      union_fault OutOfMemory h = tt
+
+    pub union_done : (a : Marked) (k : ℕ) → k ≡ length es → UnionSoFar L es k a → IsCompiledFrom q N (union_all es) a
+    union_done a k e s =
+        let all : take k es ≡ es = ap (λ n. take n es) e ∙ take-length es in
+        let fine = union_fine es (λ g h. s.fine g (subst (λ (zs : List ExprTree). Has zs g) (sym all) h)) in
+        record { reduces = subst (λ (zs : List ExprTree). ReducesMarked a (automaton_of L (union_all zs))) all s.reduces; keeps = fine.0; small = fine.1 }
+
+    -- the fault of a part
+    pub union_part_fault : (e : ExprTree) → Has es e → (fault : SizeFault) → HasLargePartOf L e fault → HasLargePartOf L (union_all es) fault
+    union_part_fault e h fault = large_part L e (union_all es) fault (λ M p. union_part_of L es e M h p)
+
+  -- ---- joins
+
+  whole_together : (xs : List ExprTree) (A : Marked) → IsWhole A.graph → ((e : ExprTree) → Has xs e → IsWhole (automaton_of L e).graph) → IsWhole (together L A (join_all xs)).graph
+  whole_together [] A a h = a
+  whole_together (x ∷ xs) A a h =
+      let B = automaton_of L x in
+      let names = all_names A.names B.names in
+      whole_together xs (of_join A B) (join_whole A.graph B.graph a (h x (inl refl)) (agree_on A.names B.names names) (joined A.names B.names names)) (λ e i. h e (inr i))
+
+  ascend_together : (xs : List ExprTree) (A : Marked) → Ascending A.names → Ascending (together L A (join_all xs)).names
+  ascend_together [] A a = a
+  ascend_together (x ∷ xs) A a = ascend_together xs (of_join A (automaton_of L x)) (all_ascend (automaton_of L x).names A.names a)
+
+  names_together : (xs : List ExprTree) (A : Marked) (z : VarName) → Has (together L A (join_all xs)).names z → Has A.names z ⊎ ((e : ExprTree) × Has xs e × Has (automaton_of L e).names z)
+  names_together [] A z h = inl h
+  names_together (x ∷ xs) A z h =
+      elim (names_together xs (of_join A (automaton_of L x)) z h) as (λ _. Has A.names z ⊎ ((e : ExprTree) × Has (x ∷ xs) e × Has (automaton_of L e).names z)) [
+        | inl b ↦ elim ((all_are A.names (automaton_of L x).names z).0 b) as (λ _. Has A.names z ⊎ ((e : ExprTree) × Has (x ∷ xs) e × Has (automaton_of L e).names z)) [
+          | inl c ↦ inl c
+          | inr c ↦ inr (x, inl refl, c)
+        ]
+        | inr b ↦ inr (b.0, inr b.1, b.2)
+      ]
+
+  module _ (es : List ExprTree) (asked : IsAsked q N (join_all es)) (two : 2 ≤ length es) where
+    join_taken_has : (k : ℕ) (e : ExprTree) → Has (take k es) e → Has es e
+    join_taken_has k e h = subst (λ (zs : List ExprTree). Has zs e) (take-append-drop k es) (Has-append_left (take k es) (drop k es) e h)
+
+    join_shape : (e : ExprTree) → Has es e → KeepsInOrder e → IsFor [] (VarOf V e) (Answer V Lets [] e) (automaton_of L e)
+    join_shape e h g = shape e (asked_joined q N es e h asked).sound_expr g
+
+    join_prefix_whole : (k : ℕ) → 1 ≤ k → ((e : ExprTree) → Has (take k es) e → IsFine e) → IsWhole (automaton_of L (join_all (take k es))).graph
+    join_prefix_whole k l fine =
+        let f = first_taken es k l (omega (arith, two)) in
+        let all : (e : ExprTree) → Has (f.0 ∷ f.1) e → IsWhole (automaton_of L e).graph =
+        λ e h. let i = subst (λ (zs : List ExprTree). Has zs e) (sym f.2) h in (join_shape e (join_taken_has k e i) (fine e i).0).whole in
+        subst (λ (zs : List ExprTree). IsWhole (automaton_of L (join_all zs)).graph) (sym f.2)
+        (whole_together f.1 (automaton_of L f.0) (all f.0 (inl refl)) (λ e h. all e (inr h)))
+
+    -- the names of the first parts ascend, and are names of the query
+    join_prefix_names : (k : ℕ) → 1 ≤ k → ((e : ExprTree) → Has (take k es) e → IsFine e) →
+        Ascending (automaton_of L (join_all (take k es))).names × ((z : VarName) → Has (automaton_of L (join_all (take k es))).names z → NameOf q z)
+    join_prefix_names k l fine =
+        let f = first_taken es k l (omega (arith, two)) in
+        let in_part : (e : ExprTree) → Has (f.0 ∷ f.1) e → (z : VarName) → Has (automaton_of L e).names z → NameOf q z =
+        λ e h z v.
+        let i = subst (λ (zs : List ExprTree). Has zs e) (sym f.2) h in
+        let here = join_taken_has k e i in
+        var_name e (asked_joined q N es e here asked) z (((join_shape e here (fine e i).0).names z).0 v) in
+        let first : Has (take k es) f.0 = subst (λ (zs : List ExprTree). Has zs f.0) (sym f.2) (inl refl) in
+        subst (λ (zs : List ExprTree). Ascending (automaton_of L (join_all zs)).names × ((z : VarName) → Has (automaton_of L (join_all zs)).names z → NameOf q z)) (sym f.2) (
+          ascend_together f.1 (automaton_of L f.0) (join_shape f.0 f.3 (fine f.0 first).0).ascending,
+          λ z h. elim (names_together f.1 (automaton_of L f.0) z h) as (λ _. NameOf q z) [ inl b ↦ in_part f.0 (inl refl) z b | inr b ↦ in_part b.0 (inr b.1) z b.2 ],
+        )
+
+    pub join_first : (x : ExprTree) (a : Marked) → slice_get es 0 ≡ Some x → IsCompiledFrom q N x a → JoinSoFar L es 1 a
+    join_first x a at c = record { reduces = there es at; fine = fine es at }
+      where
+        there : (zs : List ExprTree) → slice_get zs 0 ≡ Some x → ReducesMarked a (automaton_of L (join_all (take 1 zs)))
+        there [] at = absurd (cc)
+        there (z ∷ zs) at = let same : x ≡ z = cc in subst (λ (w : ExprTree). ReducesMarked a (automaton_of L w)) same c.reduces
+
+        fine : (zs : List ExprTree) → slice_get zs 0 ≡ Some x → (e : ExprTree) → Has (take 1 zs) e → IsFine e
+        fine [] at e h = absurd (cc)
+        fine (z ∷ zs) at e h = let same : x ≡ z = cc in elim h as (λ _. IsFine e) [ inl i ↦ subst IsFine (same ∙ i) (c.keeps, c.small) | inr j ↦ absurd j ]
+
+    module _ (k : ℕ) (l : 1 ≤ k) (y : ExprTree) (at : slice_get es k ≡ Some y) (a p : Marked) (so_far : JoinSoFar L es k a) (part : IsCompiledFrom q N y p)
+        (marked_a : IsMarked a) (marked_p : IsMarked p) where
+      abbrev JA : Marked
+      JA = automaton_of L (join_all (take k es))
+
+      abbrev JP : Marked
+      JP = automaton_of L y
+
+      join_y_has : Has es y
+      join_y_has = Has-slice_get es k y at
+
+      join_y : IsFor [] (VarOf V y) (Answer V Lets [] y) JP
+      join_y = join_shape y join_y_has part.keeps
+
+      pub join_few : length (all_names a.names p.names) ≤ MOST_VARIABLES
+      join_few =
+          let before = join_prefix_names k l so_far.fine in
+          let ascend : Ascending (all_names JA.names JP.names) = all_ascend JP.names JA.names before.0 in
+          let least = sound.few in
+          let le = distinct-le (all_names JA.names JP.names) least.0 (ascending-distinct (all_names JA.names JP.names) ascend)
+          (λ z h. least.2 z (elim ((all_are JA.names JP.names z).0 h) as (λ _. NameOf q z) [
+            | inl b ↦ before.1 z b
+            | inr b ↦ var_name y (asked_joined q N es y join_y_has asked) z ((join_y.names z).0 b)
+          ])) in
+          let same : length (all_names a.names p.names) ≡ length (all_names JA.names JP.names) =
+          ap (λ (ns : List VarName). length (all_names ns p.names)) so_far.reduces.0 ∙ ap (λ (ns : List VarName). length (all_names JA.names ns)) part.reduces.0 in
+          omega (arith, same, le, least.1)
+
+      join_reduces : Reduces (join_at JA.names JP.names a.graph p.graph) (join_at JA.names JP.names JA.graph JP.graph)
+      join_reduces =
+          let names = all_names JA.names JP.names in
+          reduct_of_join (agree_on JA.names JP.names names) (joined JA.names JP.names names) a.graph JA.graph p.graph JP.graph
+          marked_a.whole (join_prefix_whole k l so_far.fine) marked_p.whole join_y.whole so_far.reduces.1 part.reduces.1
+
+      -- over the same names
+      renamed : (F : Automaton → Type 0) → F (join_at a.names p.names a.graph p.graph) → F (join_at JA.names JP.names a.graph p.graph)
+      renamed F h =
+          subst (λ (ns : List VarName). F (join_at JA.names ns a.graph p.graph)) part.reduces.0
+          (subst (λ (ns : List VarName). F (join_at ns p.names a.graph p.graph)) so_far.reduces.0 h)
+
+      join_grown : automaton_of L (join_all (take (k + 1) es)) ≡ of_join JA JP
+      join_grown =
+          let f = first_taken es k l (omega (arith, two)) in
+          ap (λ (zs : List ExprTree). automaton_of L (join_all zs)) (take_at_more es k y at)
+          ∙ (ap (λ (zs : List ExprTree). automaton_of L (join_all (zs ++ y ∷ []))) f.2
+          ∙ (join_push L f.0 f.1 y ∙ ap (λ (zs : List ExprTree). of_join (automaton_of L (join_all zs)) JP) (sym f.2)))
+
+      pub join_next : (j : Marked) → j.names ≡ all_names a.names p.names → Reduces j.graph (join_at a.names p.names a.graph p.graph) → JoinSoFar L es (k + 1) j
+      join_next j names reduces = record {
+        reduces = subst (λ (M : Marked). ReducesMarked j M) (sym join_grown) (
+          names ∙ (ap (λ (ns : List VarName). all_names ns p.names) so_far.reduces.0 ∙ ap (λ (ns : List VarName). all_names JA.names ns) part.reduces.0),
+          reduct_of_reduct j.graph (join_at JA.names JP.names a.graph p.graph) (join_at JA.names JP.names JA.graph JP.graph)
+              (renamed (λ (B : Automaton). Reduces j.graph B) reduces) join_reduces,
+        );
+        fine = fine_more es k y at so_far.fine (part.keeps, part.small);
+      }
+
+      join_is_part : IsPartOf L (join_all es) (of_join JA JP)
+      join_is_part =
+          let f = first_taken es k l (omega (arith, two)) in
+          subst (λ (zs : List ExprTree). IsPartOf L (join_all zs) (of_join JA JP)) (sym (at_place es k y at))
+          (subst (λ (zs : List ExprTree). IsPartOf L (join_all (zs ++ y ∷ drop (suc k) es)) (of_join (automaton_of L (join_all zs)) JP)) (sym f.2)
+          (join_step L f.0 f.1 y (drop (suc k) es)))
+
+      join_no_larger : ((join_at JA.names JP.names a.graph p.graph).states ≤ (of_join JA JP).graph.states)
+          × (length (join_at JA.names JP.names a.graph p.graph).ways ≤ length (of_join JA JP).graph.ways)
+      join_no_larger =
+          let names = all_names JA.names JP.names in
+          let agree = agree_on JA.names JP.names names in
+          let both = joined JA.names JP.names names in
+          let less = reduct_is_no_larger (join_of agree both a.graph p.graph) (join_of agree both JA.graph JP.graph)
+          (join_whole a.graph p.graph marked_a.whole marked_p.whole agree both) (join_bytes agree both a.graph p.graph) join_reduces in
+          (less.0, less.1)
+
+      pub join_fault : (fault : SizeFault) → IsSizeFaultWithin (a.graph.states * p.graph.states) (length (join_at a.names p.names a.graph p.graph).ways) fault → HasLargePartOf L (join_all es) fault
+      join_fault (States count) h = (h.0, (of_join JA JP, join_is_part, omega (arith, h.1, join_no_larger.0)))
+      join_fault (Ways count) h =
+          let few = renamed (λ (B : Automaton). count ≤ length B.ways) h.1 in
+          (h.0, (of_join JA JP, join_is_part, omega (arith, few, join_no_larger.1)))
+      join_fault OutOfMemory h = tt
+
+    pub join_done : (a : Marked) (k : ℕ) → k ≡ length es → JoinSoFar L es k a → IsCompiledFrom q N (join_all es) a
+    join_done a k e s =
+        let all : take k es ≡ es = ap (λ n. take n es) e ∙ take-length es in
+        let fine = join_fine es (λ g h. s.fine g (subst (λ (zs : List ExprTree). Has zs g) (sym all) h)) in
+        record { reduces = subst (λ (zs : List ExprTree). ReducesMarked a (automaton_of L (join_all zs))) all s.reduces; keeps = fine.0; small = fine.1 }
+
+    pub join_part_fault : (e : ExprTree) → Has es e → (fault : SizeFault) → HasLargePartOf L e fault → HasLargePartOf L (join_all es) fault
+    join_part_fault e h fault = large_part L e (join_all es) fault (λ M p. join_part_of L es e M h p)

@@ -1,0 +1,178 @@
+-- What is made of atoms, names, projections and lets when they are compiled.
+use Rattle.std.proofs.Common.{◌≡◌, ℕ, zero, suc, ◌<◌, ◌≤◌, ◌⊎◌, ◌↔◌, Bool, List, [], ◌∷◌, ◌++◌, length, length-append, Some, inl, inr, refl, sym, ap, subst, arith, ◌∙◌}
+use Rattle.std.specs.Prelude.{slice_get, if◌then◌else◌, min, ◌-◌, ◌^◌}
+use Rattle.std.proofs.Math.Nat.{min-le_left}
+use Rattle.std.proofs.lemmas.Bool.{eq-eqb, ne_eqb, cases_lt}
+use Rattle.span_core.specs.NameSets.{Ascending}
+use Rattle.span_core.specs.declared.TheConstants.{MOST_VARIABLES}
+use Rattle.span_core.proofs.NameSetLaws.{none_are_variables}
+use Rattle.spanner_model.specs.Lists.{Has, AtMost}
+use Rattle.spanner_model.specs.Tree.{Tree}
+use Rattle.spanner_model.specs.Captures.{VarName}
+use Rattle.spanner_model.specs.Functional.{HasVar, IsFunctional}
+use Rattle.spanner_model.specs.WellBuilt.{IsWellBuilt}
+use Rattle.spanner_model.specs.Expression.{ExprTree, QueryTree, atom, project}
+use Rattle.spanner_model.specs.Answer.{vars_of_lets}
+use Rattle.spanner_model.specs.Sound.{IsSound, IsSoundExpr, NameIn, NameInLets}
+use Rattle.spanner_model.proofs.HasLaws.{place_of-Has}
+use Rattle.spanner_model.proofs.NameLaws.{ascending-distinct, same_names}
+use Rattle.marked_automaton.specs.declared.TheConstants.{MOST_STATES, MOST_WAYS}
+use Rattle.marked_automaton.specs.declared.fault.SizeFault.{SizeFault}
+use Rattle.marked_automaton.specs.declared.fault.SizeFault.TheVariants.{States, Ways, OutOfMemory}
+use Rattle.marked_automaton.specs.Automaton.{Marked}
+use Rattle.marked_automaton.specs.Faults.{IsSizeFaultOf}
+use Rattle.marked_automaton.specs.Marks.{left_of, remarked}
+use Rattle.marked_automaton.specs.Reduct.{Reduces, ReducesMarked}
+use Rattle.marked_automaton.proofs.Reducts.{reduct_of_reduct}
+use Rattle.marked_automaton.proofs.ReductOperations.{reduct_of_projection}
+use Rattle.place_automaton.specs.Capped.{capped}
+use Rattle.place_automaton.specs.Counts.{count_states, count_ways}
+use Rattle.place_automaton.specs.Words.{atom_automaton}
+use Rattle.place_automaton.proofs.BuiltRepeats.{ordered_repeats}
+use Rattle.place_automaton.proofs.CountLaws.{count_law}
+use Rattle.spanner_engine.specs.Compiling.{IsAsked, AreCompiled, IsCompiledFrom}
+use Rattle.spanner_engine.specs.Kept.{KeepsInOrder}
+use Rattle.spanner_engine.specs.Parts.{HasLargePartOf, HasSmallAtoms}
+use Rattle.spanner_engine.specs.QueryAutomaton.{with_vars, of_atom, automaton_of, of_lets, of_one_let}
+use Rattle.spanner_engine.proofs.CompileLaws.{shape}
+use Rattle.spanner_engine.proofs.Names.{vars_ascend, vars_are}
+
+-- ---- atoms
+
+module _ (s t : Bool) (f : Tree) (built : IsWellBuilt f) (functional : IsFunctional f) where
+  atom_ascends : Ascending (with_vars [] f)
+  atom_ascends = vars_ascend f [] none_are_variables.ascending
+
+  atom_counts : ((of_atom s t f).graph.states ≡ count_states s t f) × (length (of_atom s t f).graph.ways ≡ count_ways s t f)
+  atom_counts = count_law (with_vars [] f) s t f (ascending-distinct (with_vars [] f) atom_ascends) (λ x h. (vars_are f x).1 h) functional (ordered_repeats f built)
+
+  pub atom_names : (names : List VarName) → Ascending names → ((x : VarName) → Has names x ↔ HasVar f x) → names ≡ with_vars [] f
+  atom_names names up all =
+      same_names names (with_vars [] f) up atom_ascends (λ x h. (vars_are f x).1 ((all x).0 h)) (λ x h. (all x).1 ((vars_are f x).0 h))
+
+  -- an automaton that is made for the atom, and what is left of it
+  pub atom_made : (a c : Marked) → Ascending a.names → ((x : VarName) → Has a.names x ↔ HasVar f x) → Reduces a.graph (atom_automaton a.names s t f) →
+      c.names ≡ a.names → Reduces c.graph a.graph → ReducesMarked c (of_atom s t f)
+  atom_made a c up all made names left =
+      let same = atom_names a.names up all in
+      (names ∙ same, reduct_of_reduct c.graph a.graph (of_atom s t f).graph left (subst (λ (ns : List VarName). Reduces a.graph (atom_automaton ns s t f)) same made))
+
+  pub atom_small : (count_states s t f ≤ MOST_STATES) → (count_ways s t f ≤ MOST_WAYS) → HasSmallAtoms (atom s t f)
+  atom_small h g = (omega (arith, h, atom_counts.0), omega (arith, g, atom_counts.1))
+
+  pub atom_fault : (L : ℕ → Marked) (fault : SizeFault) → IsSizeFaultOf (capped (count_states s t f)) (capped (count_ways s t f)) fault → HasLargePartOf L (atom s t f) fault
+  atom_fault L (States count) h = (omega (arith, h.0, h.1), (of_atom s t f, refl, omega (arith, h.1, min-le_left (count_states s t f) (2 ^ 64 - 1), atom_counts.0)))
+  atom_fault L (Ways count) h = (omega (arith, h.1, h.2), (of_atom s t f, refl, omega (arith, h.2, min-le_left (count_ways s t f) (2 ^ 64 - 1), atom_counts.1)))
+  atom_fault L OutOfMemory h = tt
+
+-- ---- projections
+
+module _ (q : QueryTree) (lets : List Marked) (known : AreCompiled q lets) (kept : List VarName) (e : ExprTree) (asked : IsAsked q (length lets) (project kept e))
+    (a : Marked) (part : IsCompiledFrom q (length lets) e a) where
+  abbrev E : Marked
+  E = automaton_of (of_lets q.lets (length lets)) e
+
+  pub kept_there : (x : VarName) → Has kept x → Has a.names x
+  kept_there x h =
+      let sh = shape q lets known asked.sound e asked.sound_expr.0 part.keeps in
+      subst (λ (ns : List VarName). Has ns x) (sym part.reduces.0) ((sh.names x).1 (asked.sound_expr.1 x h).0)
+
+  pub projected : (p : Marked) → Ascending kept → p.names ≡ kept → Reduces p.graph (remarked (left_of a.names kept) a.graph) → IsCompiledFrom q (length lets) (project kept e) p
+  projected p up names reduces = record {
+    reduces = (
+      names,
+      reduct_of_reduct p.graph (remarked (left_of E.names kept) a.graph) (remarked (left_of E.names kept) E.graph)
+          (subst (λ (ns : List VarName). Reduces p.graph (remarked (left_of ns kept) a.graph)) part.reduces.0 reduces)
+          (reduct_of_projection a.graph E.graph (left_of E.names kept) part.reduces.1),
+    );
+    keeps = (up, part.keeps);
+    small = part.small;
+  }
+
+-- what is too large in what is projected
+pub projection_fault : (L : ℕ → Marked) (kept : List VarName) (e : ExprTree) (fault : SizeFault) → HasLargePartOf L e fault → HasLargePartOf L (project kept e) fault
+projection_fault L kept e (States count) h = (h.0, (h.1.0, inl h.1.1, h.1.2))
+projection_fault L kept e (Ways count) h = (h.0, (h.1.0, inl h.1.1, h.1.2))
+projection_fault L kept e OutOfMemory h = h
+
+-- ---- lets
+
+pub none_compiled : (q : QueryTree) → AreCompiled q []
+none_compiled q = record { few = omega arith; reduce = λ k a at. absurd (cc); keep = λ k l b at. absurd (omega (arith, b)) }
+
+-- under one let more, the lets before it are the same
+let_before : (lets : List (VarName × ExprTree)) (n k : ℕ) → k < n → of_lets lets (suc n) k ≡ of_lets lets n k
+let_before lets n k l = ap (λ b. if b then of_one_let (of_lets lets n) (slice_get lets n) else of_lets lets n k) (ne_eqb k n (λ e. omega (arith, e, l)))
+
+let_here : (lets : List (VarName × ExprTree)) (n : ℕ) (l : VarName × ExprTree) → slice_get lets n ≡ Some l → of_lets lets (suc n) n ≡ automaton_of (of_lets lets n) l.1
+let_here lets n l at =
+    ap (λ b. if b then of_one_let (of_lets lets n) (slice_get lets n) else of_lets lets n n) (eq-eqb n n refl) ∙ ap (of_one_let (of_lets lets n)) at
+
+-- a place in a list with one element more
+push_cases : {X : Type 0} (xs : List X) (x : X) (k : ℕ) (y : X) → slice_get (xs ++ x ∷ []) k ≡ Some y → (slice_get xs k ≡ Some y) × (k < length xs) ⊎ ((k ≡ length xs) × (x ≡ y))
+push_cases [] x zero y e = inr (refl, (let same : x ≡ y = cc in same))
+push_cases [] x (suc k) y e = absurd (cc)
+push_cases (z ∷ xs) x zero y e = inl (e, omega arith)
+push_cases (z ∷ xs) x (suc k) y e =
+    elim (push_cases xs x k y e) as (λ _. (slice_get xs k ≡ Some y) × (suc k < suc (length xs)) ⊎ ((suc k ≡ suc (length xs)) × (x ≡ y))) [
+      | inl a ↦ inl (a.0, omega (arith, a.1))
+      | inr b ↦ inr (omega (arith, b.0), b.1)
+    ]
+
+within : {X : Type 0} (xs : List X) (k : ℕ) (x : X) → slice_get xs k ≡ Some x → k < length xs
+within [] k x e = absurd (cc)
+within (y ∷ xs) zero x e = omega arith
+within (y ∷ xs) (suc k) x e = omega (arith, within xs k x e)
+
+pub one_more : (q : QueryTree) (lets all : List Marked) (l : VarName × ExprTree) (a : Marked) → slice_get q.lets (length lets) ≡ Some l → AreCompiled q lets →
+    IsCompiledFrom q (length lets) l.1 a → all ≡ lets ++ a ∷ [] → AreCompiled q all
+one_more q lets all l a at known made is = subst (AreCompiled q) (sym is) (record { few = few; reduce = reduce; keep = keep })
+  where
+    long : length (lets ++ a ∷ []) ≡ suc (length lets)
+    long = let e = length-append lets (a ∷ []) in omega (arith, e)
+
+    few : length (lets ++ a ∷ []) ≤ length q.lets
+    few = omega (arith, long, within q.lets (length lets) l at)
+
+    reduce : (k : ℕ) (b : Marked) → slice_get (lets ++ a ∷ []) k ≡ Some b → ReducesMarked b (of_lets q.lets (length (lets ++ a ∷ [])) k)
+    reduce k b e =
+        subst (λ n. ReducesMarked b (of_lets q.lets n k)) (sym long) (
+        elim (push_cases lets a k b e) as (λ _. ReducesMarked b (of_lets q.lets (suc (length lets)) k)) [
+          | inl c ↦ subst (λ (M : Marked). ReducesMarked b M) (sym (let_before q.lets (length lets) k c.1)) (known.reduce k b c.0)
+          | inr c ↦ subst (λ n. ReducesMarked b (of_lets q.lets (suc (length lets)) n)) (sym c.0)
+              (subst (λ (M : Marked). ReducesMarked b M) (sym (let_here q.lets (length lets) l at)) (subst (λ (x : Marked). ReducesMarked x (automaton_of (of_lets q.lets (length lets)) l.1)) c.1 made.reduces))
+        ])
+
+    keep : (k : ℕ) (m : VarName × ExprTree) → k < length (lets ++ a ∷ []) → slice_get q.lets k ≡ Some m → KeepsInOrder m.1 × HasSmallAtoms m.1
+    keep k m b e =
+        elim (cases_lt k (length lets)) as (λ _. KeepsInOrder m.1 × HasSmallAtoms m.1) [
+          | inl less ↦ known.keep k m less e
+          | inr le ↦
+              let same : k ≡ length lets = omega (arith, b, long, le) in
+              let one : Some m ≡ Some l = sym e ∙ (ap (λ n. slice_get q.lets n) same ∙ at) in
+              let eq : l ≡ m = cc in
+              subst (λ (x : VarName × ExprTree). KeepsInOrder x.1 × HasSmallAtoms x.1) eq (made.keeps, made.small)
+        ]
+
+-- ---- what is asked of lets and of the body
+
+let_named : (lets : List (VarName × ExprTree)) (k : ℕ) (l : VarName × ExprTree) (x : VarName) → slice_get lets k ≡ Some l → NameIn l.1 x → NameInLets lets x
+let_named [] k l x at h = absurd (cc)
+let_named (m ∷ lets) zero l x at h = inl (let e : m ≡ l = cc in subst (λ (w : VarName × ExprTree). NameIn w.1 x) (sym e) h)
+let_named (m ∷ lets) (suc k) l x at h = inr (let_named lets k l x at h)
+
+pub asked_let : (q : QueryTree) (k : ℕ) (l : VarName × ExprTree) → IsSound q → slice_get q.lets k ≡ Some l → IsAsked q k l.1
+asked_let q k l s at = record { sound = s; sound_expr = (s.sound_lets k l at).0; named = λ x h. inl (let_named q.lets k l x at h) }
+
+pub asked_body : (q : QueryTree) (n : ℕ) → IsSound q → n ≡ length q.lets → IsAsked q n q.body
+asked_body q n s e = record { sound = s; sound_expr = subst (λ m. IsSoundExpr (vars_of_lets q.lets m) m q.body) (sym e) s.sound_body.0; named = λ x h. inr h }
+
+-- all lets are kept in order
+pub lets_keep : (q : QueryTree) (lets : List Marked) → AreCompiled q lets → length lets ≡ length q.lets →
+    (l : VarName × ExprTree) → Has q.lets l → KeepsInOrder l.1 × HasSmallAtoms l.1
+lets_keep q lets known long l h =
+    let p = place_of-Has q.lets l h in known.keep p.0 l (omega (arith, p.1, long)) p.2
+
+-- few variables of an atom
+pub atom_few : (q : QueryTree) (n : ℕ) (s t : Bool) (f : Tree) → IsAsked q n (atom s t f) → AtMost MOST_VARIABLES (HasVar f)
+atom_few q n s t f a = let few = a.sound.few in (few.0, few.1, λ x h. few.2 x (a.named x h))

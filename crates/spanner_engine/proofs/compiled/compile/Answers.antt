@@ -1,0 +1,82 @@
+use Rattle.std.proofs.Common.{◌≡◌, List, [], ◌∷◌, length, sym, ap, ◌∙◌, subst, arith, length-append, inl, inr}
+use Rattle.std.specs.Prelude.{slice_get}
+use Rattle.spanner_model.specs.Captures.{VarName}
+use Rattle.spanner_model.specs.Expression.{ExprTree}
+use Rattle.spanner_model.specs.ExprView.{expr_of, query_of}
+use Rattle.marked_automaton.specs.Automaton.{Marked}
+use Rattle.marked_automaton.specs.Reduct.{ReducesMarked}
+use Rattle.spanner_engine.specs.Compiling.{AreCompiled, IsAsked, IsCompiledFrom}
+use Rattle.spanner_engine.specs.Parts.{HasLargePartOf}
+use Rattle.spanner_engine.specs.QueryAutomaton.{automaton_of, of_lets}
+use Rattle.spanner_engine.proofs.PieceLaws.{none_compiled, one_more, asked_let, asked_body, lets_keep}
+use Rattle.spanner_engine.proofs.compiled.compile.Goals as goal
+
+pub loop-k-init : goal.loop-k-init
+loop-k-init c =
+    let none = c.new-lets.ensures.items in
+    (ap length none, subst (λ (ls : List Marked). AreCompiled (query_of c.args.query.now) ls) (sym none) (none_compiled (query_of c.args.query.now)))
+
+pub expr_automaton-requires-clause-known : goal.expr_automaton-requires-clause-known
+expr_automaton-requires-clause-known c = subst (λ (ls : List Marked). AreCompiled (query_of c.args.query.now) ls) (sym c.deref.ensures.value) c.loop-k.invariant.1
+
+pub expr_automaton-requires-clause-asked : goal.expr_automaton-requires-clause-asked
+expr_automaton-requires-clause-asked c =
+    let q = query_of c.args.query.now in
+    let l : VarName × ExprTree = (c.at.result.now.0, expr_of c.at.result.now.1) in
+    let long : length c.deref.result.now ≡ c.loop-k.k = ap length c.deref.ensures.value ∙ c.loop-k.invariant.0 in
+    subst (λ n. IsAsked q n l.1) (sym long) (asked_let q c.loop-k.k l c.requires c.at.ensures)
+
+pub returns-in-Err-clause-fault : goal.returns-in-Err-clause-fault
+returns-in-Err-clause-fault c =
+    let q = query_of c.args.query.now in
+    let l : VarName × ExprTree = (c.at.result.now.0, expr_of c.at.result.now.1) in
+    let long : length c.deref.result.now ≡ c.loop-k.k = ap length c.deref.ensures.value ∙ c.loop-k.invariant.0 in
+    inl (c.loop-k.k, l, c.at.ensures, subst (λ n. HasLargePartOf (of_lets q.lets n) l.1 c.in-Err.fault) long c.in-Err.ensures.fault)
+
+pub loop-k-preserved : goal.loop-k-preserved
+loop-k-preserved c =
+    let q = query_of c.args.query.now in
+    let lets = c.loop-k.lets.items in
+    let a = c.in-Ok.automaton in
+    let l : VarName × ExprTree = (c.at.result.now.0, expr_of c.at.result.now.1) in
+    let items = c.in_ok-push.ensures.items in
+    let made = subst (λ (ls : List Marked). IsCompiledFrom q (length ls) l.1 a) c.deref.ensures.value c.in-Ok.ensures.made in (
+      omega (arith, ap length items, length-append lets (a ∷ []), c.loop-k.invariant.0),
+      one_more q lets c.push.new.self.items l a (ap (λ n. slice_get q.lets n) c.loop-k.invariant.0 ∙ c.at.ensures) c.loop-k.invariant.1 made items,
+    )
+
+pub expr_automaton-requires-2-clause-known : goal.expr_automaton-requires-2-clause-known
+expr_automaton-requires-2-clause-known c = subst (λ (ls : List Marked). AreCompiled (query_of c.args.query.now) ls) (sym c.deref-2.ensures.value) c.loop-k.invariant.1
+
+pub expr_automaton-requires-2-clause-asked : goal.expr_automaton-requires-2-clause-asked
+expr_automaton-requires-2-clause-asked c =
+    let q = query_of c.args.query.now in
+    let long : length c.deref-2.result.now ≡ length q.lets =
+    omega (arith, ap length c.deref-2.ensures.value, c.loop-k.invariant.0, c.loop-k-test.false, c.loop-k.auto.k-end, c.len-k-end.ensures) in
+    asked_body q (length c.deref-2.result.now) c.requires long
+
+pub returns-in-Ok-expr_automaton-clause-made : goal.returns-in-Ok-expr_automaton-clause-made
+returns-in-Ok-expr_automaton-clause-made c =
+    let q = query_of c.args.query.now in
+    let long : length c.deref-2.result.now ≡ length q.lets =
+    omega (arith, ap length c.deref-2.ensures.value, c.loop-k.invariant.0, c.loop-k-test.false, c.loop-k.auto.k-end, c.len-k-end.ensures) in
+    subst (λ n. ReducesMarked c.in-Ok-expr_automaton.automaton (automaton_of (of_lets q.lets n) q.body)) long c.in-Ok-expr_automaton.ensures.made.reduces
+
+pub returns-in-Ok-expr_automaton-clause-kept : goal.returns-in-Ok-expr_automaton-clause-kept
+returns-in-Ok-expr_automaton-clause-kept c =
+    let q = query_of c.args.query.now in
+    let long : length c.loop-k.lets.items ≡ length q.lets = omega (arith, c.loop-k.invariant.0, c.loop-k-test.false, c.loop-k.auto.k-end, c.len-k-end.ensures) in
+    (λ l h. (lets_keep q c.loop-k.lets.items c.loop-k.invariant.1 long l h).0, c.in-Ok-expr_automaton.ensures.made.keeps)
+
+pub returns-in-Ok-expr_automaton-clause-small : goal.returns-in-Ok-expr_automaton-clause-small
+returns-in-Ok-expr_automaton-clause-small c =
+    let q = query_of c.args.query.now in
+    let long : length c.loop-k.lets.items ≡ length q.lets = omega (arith, c.loop-k.invariant.0, c.loop-k-test.false, c.loop-k.auto.k-end, c.len-k-end.ensures) in
+    (λ l h. (lets_keep q c.loop-k.lets.items c.loop-k.invariant.1 long l h).1, c.in-Ok-expr_automaton.ensures.made.small)
+
+pub returns-clause-fault : goal.returns-clause-fault
+returns-clause-fault c =
+    let q = query_of c.args.query.now in
+    let long : length c.deref-2.result.now ≡ length q.lets =
+    omega (arith, ap length c.deref-2.ensures.value, c.loop-k.invariant.0, c.loop-k-test.false, c.loop-k.auto.k-end, c.len-k-end.ensures) in
+    inr (subst (λ n. HasLargePartOf (of_lets q.lets n) q.body c.in-Err-expr_automaton.fault) long c.in-Err-expr_automaton.ensures.fault)

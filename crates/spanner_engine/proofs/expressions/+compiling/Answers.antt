@@ -1,0 +1,308 @@
+use Rattle.std.proofs.Common.{◌≡◌, ◌<◌, List, length, Some, IfOk, IfErr, sym, ap, ◌∙◌, subst, arith}
+use Rattle.std.specs.Prelude.{slice_get}
+use Rattle.std.proofs.lemmas.Option.{slice_get-get_or}
+use Rattle.spanner_model.specs.Captures.{VarName}
+use Rattle.spanner_model.specs.View.{tree_of}
+use Rattle.spanner_model.specs.Expression.{ExprTree, project}
+use Rattle.spanner_model.specs.ExprView.{expr_of, exprs_of, query_of}
+use Rattle.spanner_model.specs.Answer.{vars_of_lets}
+use Rattle.spanner_model.proofs.HasLaws.{Has-slice_get}
+use Rattle.spanner_model.proofs.Nodes.{expr_nodes}
+use Rattle.spanner_model.proofs.ExprLaws.{union_size, part_size, union_two, join_two}
+use Rattle.spanner_model.proofs.ExprTrees.{expr_of-Atom, expr_of-Named, expr_of-Union, expr_of-Join, expr_of-Project}
+use Rattle.marked_automaton.specs.Automaton.{Marked}
+use Rattle.marked_automaton.specs.Reduct.{Reduces, ReducesMarked}
+use Rattle.marked_automaton.proofs.Reducts.{reduct_of_reduct}
+use Rattle.marked_automaton.proofs.Rearranged.{rearranged_reduces}
+use Rattle.place_automaton.specs.Words.{atom_automaton}
+use Rattle.algebra.specs.JoinedMarks.{agree_on, joined}
+use Rattle.algebra.specs.Operations.{join_of}
+use Rattle.spanner_engine.specs.Compiling.{IsAsked, IsCompiledFrom}
+use Rattle.spanner_engine.specs.Parts.{HasLargePartOf}
+use Rattle.spanner_engine.specs.QueryAutomaton.{of_lets}
+use Rattle.spanner_engine.proofs.CompileLaws.{asked_united, asked_joined, asked_sub, union_first, union_names, union_next, union_fault, union_done, union_part_fault, join_first, join_few, join_next, join_fault, join_done, join_part_fault, join_at}
+use Rattle.spanner_engine.proofs.PieceLaws.{atom_made, atom_small, atom_fault, atom_few, kept_there, projected}
+use Rattle.spanner_engine.proofs.expressions.+compiling.Goals as goal
+
+-- ---- one expression
+
+pub expr_automaton-of_atom-requires : goal.expr_automaton-of_atom-requires
+expr_automaton-of_atom-requires t c =
+    let q = query_of c.args.query.now in
+    let n = length c.args.lets.now in
+    let a = c.in-Atom.atom in
+    let f = tree_of a.formula in
+    let e = ap expr_of c.in-Atom.is ∙ expr_of-Atom a in
+    let asked = subst (IsAsked q n) e c.requires.asked in
+    record { built = asked.sound_expr.0; functional = asked.sound_expr.1; few = atom_few q n a.from_start a.to_end f asked }
+
+pub expr_automaton-returns-in-Err-clause-fault : goal.expr_automaton-returns-in-Err-clause-fault
+expr_automaton-returns-in-Err-clause-fault t c =
+    let q = query_of c.args.query.now in
+    let n = length c.args.lets.now in
+    let a = c.in-Atom.atom in
+    let f = tree_of a.formula in
+    let e = ap expr_of c.in-Atom.is ∙ expr_of-Atom a in
+    let asked = subst (IsAsked q n) e c.requires.asked in
+    subst (λ (w : ExprTree). HasLargePartOf (of_lets q.lets n) w c.in-Err.fault) (sym e)
+    (atom_fault a.from_start a.to_end f asked.sound_expr.0 asked.sound_expr.1 (of_lets q.lets n) c.in-Err.fault c.in-Err.ensures.err)
+
+pub expr_automaton-returns-in_ok-trim-in-Atom-clause-made : goal.expr_automaton-returns-in_ok-trim-in-Atom-clause-made
+expr_automaton-returns-in_ok-trim-in-Atom-clause-made t c =
+    let q = query_of c.args.query.now in
+    let n = length c.args.lets.now in
+    let a = c.in-Atom.atom in
+    let f = tree_of a.formula in
+    let e = ap expr_of c.in-Atom.is ∙ expr_of-Atom a in
+    let asked = subst (IsAsked q n) e c.requires.asked in
+    let whole = c.in-Ok.whole in
+    let left = c.in_ok-trim-in-Atom.field-0 in
+    let of = c.in-Ok.ensures in
+    subst (λ (w : ExprTree). IsCompiledFrom q n w left) (sym e) (record {
+      reduces = atom_made a.from_start a.to_end f asked.sound_expr.0 asked.sound_expr.1 whole left of.names.0 of.names.1
+          (rearranged_reduces whole.graph (atom_automaton whole.names a.from_start a.to_end f) of.reduct) c.in_ok-trim-in-Atom.ensures.names c.in_ok-trim-in-Atom.ensures.reduct;
+      keeps = tt;
+      small = atom_small a.from_start a.to_end f asked.sound_expr.0 asked.sound_expr.1 of.small.0 of.small.1;
+    })
+
+pub expr_automaton-returns-in_ok-copy-in-Named-clause-made : goal.expr_automaton-returns-in_ok-copy-in-Named-clause-made
+expr_automaton-returns-in_ok-copy-in-Named-clause-made t c =
+    let q = query_of c.args.query.now in
+    let n = length c.args.lets.now in
+    let k = c.in-Named.k in
+    let u = c.index-lets-k.result in
+    let e = ap expr_of c.in-Named.is ∙ expr_of-Named k in
+    let within : k < n = (subst (IsAsked q n) e c.requires.asked).sound_expr in
+    let at : slice_get c.args.lets.now k ≡ Some u = slice_get-get_or c.args.lets.now k u within ∙ ap Some (sym c.index-lets-k.is) in
+    let copied : c.in_ok-copy-in-Named.field-0 ≡ u = c.in_ok-copy-in-Named.ensures in
+    subst (λ (w : ExprTree). IsCompiledFrom q n w c.in_ok-copy-in-Named.field-0) (sym e)
+    (record { reduces = subst (λ (a : Marked). ReducesMarked a (of_lets q.lets n k)) (sym copied) (c.requires.known.reduce k u at); keeps = tt; small = tt })
+
+pub expr_automaton-union_automaton-requires : goal.expr_automaton-union_automaton-requires
+expr_automaton-union_automaton-requires t c =
+    let e = ap expr_of c.in-Union.is ∙ expr_of-Union c.in-Union.parts in
+    let size = ap expr_nodes e ∙ union_size (exprs_of c.in-Union.parts) in
+    (omega (arith, size), (c.requires.known, subst (IsAsked (query_of c.args.query.now) (length c.args.lets.now)) e c.requires.asked))
+
+pub expr_automaton-join_automaton-requires : goal.expr_automaton-join_automaton-requires
+expr_automaton-join_automaton-requires t c =
+    let e = ap expr_of c.in-Join.is ∙ expr_of-Join c.in-Join.parts in
+    let size = ap expr_nodes e in
+    (omega (arith, size), (c.requires.known, subst (IsAsked (query_of c.args.query.now) (length c.args.lets.now)) e c.requires.asked))
+
+pub expr_automaton-returns-in-Union-clause-made : goal.expr_automaton-returns-in-Union-clause-made
+expr_automaton-returns-in-Union-clause-made t c =
+    let e = ap expr_of c.in-Union.is ∙ expr_of-Union c.in-Union.parts in
+    subst (λ (w : ExprTree). IfOk c.union_automaton.result (IsCompiledFrom (query_of c.args.query.now) (length c.args.lets.now) w)) (sym e) c.union_automaton.ensures.made
+
+pub expr_automaton-returns-in-Union-clause-fault : goal.expr_automaton-returns-in-Union-clause-fault
+expr_automaton-returns-in-Union-clause-fault t c =
+    let e = ap expr_of c.in-Union.is ∙ expr_of-Union c.in-Union.parts in
+    subst (λ (w : ExprTree). IfErr c.union_automaton.result (HasLargePartOf (of_lets (query_of c.args.query.now).lets (length c.args.lets.now)) w)) (sym e) c.union_automaton.ensures.fault
+
+pub expr_automaton-returns-in-Join-clause-made : goal.expr_automaton-returns-in-Join-clause-made
+expr_automaton-returns-in-Join-clause-made t c =
+    let e = ap expr_of c.in-Join.is ∙ expr_of-Join c.in-Join.parts in
+    subst (λ (w : ExprTree). IfOk c.join_automaton.result (IsCompiledFrom (query_of c.args.query.now) (length c.args.lets.now) w)) (sym e) c.join_automaton.ensures.made
+
+pub expr_automaton-returns-in-Join-clause-fault : goal.expr_automaton-returns-in-Join-clause-fault
+expr_automaton-returns-in-Join-clause-fault t c =
+    let e = ap expr_of c.in-Join.is ∙ expr_of-Join c.in-Join.parts in
+    subst (λ (w : ExprTree). IfErr c.join_automaton.result (HasLargePartOf (of_lets (query_of c.args.query.now).lets (length c.args.lets.now)) w)) (sym e) c.join_automaton.ensures.fault
+
+pub expr_automaton-expr_automaton-requires : goal.expr_automaton-expr_automaton-requires
+expr_automaton-expr_automaton-requires t c =
+    let e = ap expr_of c.in-Project.is ∙ (expr_of-Project c.in-Project.kept c.in-Project.sub ∙ ap (λ x. project c.in-Project.kept (expr_of x)) (sym c.deref.ensures)) in
+    let size = ap expr_nodes e in
+    let a = subst (IsAsked (query_of c.args.query.now) (length c.args.lets.now)) e c.requires.asked in
+    (omega (arith, size), (c.requires.known, asked_sub (query_of c.args.query.now) (length c.args.lets.now) c.in-Project.kept (expr_of c.deref.result.now) a))
+
+pub expr_automaton-project-requires : goal.expr_automaton-project-requires
+expr_automaton-project-requires t c =
+    let q = query_of c.args.query.now in
+    let n = length c.args.lets.now in
+    let g = expr_of c.deref.result.now in
+    let e = ap expr_of c.in-Project.is ∙ (expr_of-Project c.in-Project.kept c.in-Project.sub ∙ ap (λ x. project c.in-Project.kept (expr_of x)) (sym c.deref.ensures)) in
+    let a = subst (IsAsked q n) e c.requires.asked in
+    kept_there q c.args.lets.now c.requires.known c.in-Project.kept g a c.in-Ok-expr_automaton.inner c.in-Ok-expr_automaton.ensures.made
+
+pub expr_automaton-returns-in_ok-project-in-Project-clause-made : goal.expr_automaton-returns-in_ok-project-in-Project-clause-made
+expr_automaton-returns-in_ok-project-in-Project-clause-made t c =
+    let q = query_of c.args.query.now in
+    let n = length c.args.lets.now in
+    let g = expr_of c.deref.result.now in
+    let e = ap expr_of c.in-Project.is ∙ (expr_of-Project c.in-Project.kept c.in-Project.sub ∙ ap (λ x. project c.in-Project.kept (expr_of x)) (sym c.deref.ensures)) in
+    let a = subst (IsAsked q n) e c.requires.asked in
+    let p = c.in_ok-project-in-Project in
+    subst (λ (w : ExprTree). IsCompiledFrom q n w p.field-0) (sym e)
+    (projected q c.args.lets.now c.requires.known c.in-Project.kept g a c.in-Ok-expr_automaton.inner c.in-Ok-expr_automaton.ensures.made p.field-0 c.len.ensures.ascending p.ensures.names p.ensures.reduct)
+
+-- ---- unions
+
+pub union_automaton-at-requires : goal.union_automaton-at-requires
+union_automaton-at-requires t c =
+    let two = union_two (vars_of_lets (query_of c.args.query.now).lets (length c.args.lets.now)) (length c.args.lets.now) (exprs_of c.args.parts.now) c.requires.asked.sound_expr in
+    omega (arith, two)
+
+pub union_automaton-expr_automaton-requires : goal.union_automaton-expr_automaton-requires
+union_automaton-expr_automaton-requires t c =
+    let es = exprs_of c.args.parts.now in
+    let g = expr_of c.at.result.now in
+    let has = Has-slice_get es 0 g c.at.ensures in
+    (omega (arith, part_size es g has), (c.requires.known, asked_united (query_of c.args.query.now) (length c.args.lets.now) es g has c.requires.asked))
+
+pub union_automaton-returns-in-Err-clause-fault : goal.union_automaton-returns-in-Err-clause-fault
+union_automaton-returns-in-Err-clause-fault t c =
+    let q = query_of c.args.query.now in
+    let es = exprs_of c.args.parts.now in
+    let two = union_two (vars_of_lets q.lets (length c.args.lets.now)) (length c.args.lets.now) es c.requires.asked.sound_expr in
+    let g = expr_of c.at.result.now in
+    union_part_fault q c.args.lets.now c.requires.known c.requires.asked.sound es c.requires.asked two g (Has-slice_get es 0 g c.at.ensures) c.in-Err.fault c.in-Err.ensures.fault
+
+pub union_automaton-loop-k-init : goal.union_automaton-loop-k-init
+union_automaton-loop-k-init t c =
+    let q = query_of c.args.query.now in
+    let es = exprs_of c.args.parts.now in
+    let two = union_two (vars_of_lets q.lets (length c.args.lets.now)) (length c.args.lets.now) es c.requires.asked.sound_expr in
+    (omega arith, union_first q c.args.lets.now c.requires.known c.requires.asked.sound es c.requires.asked two (expr_of c.at.result.now) c.in-Ok.first c.at.ensures c.in-Ok.ensures.made)
+
+pub union_automaton-expr_automaton-requires-in-loop-k : goal.union_automaton-expr_automaton-requires-in-loop-k
+union_automaton-expr_automaton-requires-in-loop-k t c =
+    let es = exprs_of c.args.parts.now in
+    let g = expr_of c.at-in-loop-k.result.now in
+    let has = Has-slice_get es c.loop-k.k g c.at-in-loop-k.ensures in
+    (omega (arith, part_size es g has), (c.requires.known, asked_united (query_of c.args.query.now) (length c.args.lets.now) es g has c.requires.asked))
+
+pub union_automaton-returns-in-Err-expr_automaton-clause-fault : goal.union_automaton-returns-in-Err-expr_automaton-clause-fault
+union_automaton-returns-in-Err-expr_automaton-clause-fault t c =
+    let q = query_of c.args.query.now in
+    let es = exprs_of c.args.parts.now in
+    let two = union_two (vars_of_lets q.lets (length c.args.lets.now)) (length c.args.lets.now) es c.requires.asked.sound_expr in
+    let g = expr_of c.at-in-loop-k.result.now in
+    union_part_fault q c.args.lets.now c.requires.known c.requires.asked.sound es c.requires.asked two g (Has-slice_get es c.loop-k.k g c.at-in-loop-k.ensures)
+    c.in-Err-expr_automaton.fault c.in-Err-expr_automaton.ensures.fault
+
+pub union_automaton-returns-clause-made : goal.union_automaton-returns-clause-made
+union_automaton-returns-clause-made t c =
+    let q = query_of c.args.query.now in
+    let es = exprs_of c.args.parts.now in
+    let two = union_two (vars_of_lets q.lets (length c.args.lets.now)) (length c.args.lets.now) es c.requires.asked.sound_expr in
+    let e : c.loop-k.k ≡ length es = omega (arith, two) in
+    union_done q c.args.lets.now c.requires.known c.requires.asked.sound es c.requires.asked two c.loop-k.all c.loop-k.k e c.loop-k.invariant.1
+
+-- ---- joins
+
+pub join_automaton-at-requires : goal.join_automaton-at-requires
+join_automaton-at-requires t c =
+    let two = join_two (vars_of_lets (query_of c.args.query.now).lets (length c.args.lets.now)) (length c.args.lets.now) (exprs_of c.args.parts.now) c.requires.asked.sound_expr in
+    omega (arith, two)
+
+pub join_automaton-expr_automaton-requires : goal.join_automaton-expr_automaton-requires
+join_automaton-expr_automaton-requires t c =
+    let es = exprs_of c.args.parts.now in
+    let g = expr_of c.at.result.now in
+    let has = Has-slice_get es 0 g c.at.ensures in
+    (omega (arith, part_size es g has), (c.requires.known, asked_joined (query_of c.args.query.now) (length c.args.lets.now) es g has c.requires.asked))
+
+pub join_automaton-returns-in-Err-clause-fault : goal.join_automaton-returns-in-Err-clause-fault
+join_automaton-returns-in-Err-clause-fault t c =
+    let q = query_of c.args.query.now in
+    let es = exprs_of c.args.parts.now in
+    let two = join_two (vars_of_lets q.lets (length c.args.lets.now)) (length c.args.lets.now) es c.requires.asked.sound_expr in
+    let g = expr_of c.at.result.now in
+    join_part_fault q c.args.lets.now c.requires.known c.requires.asked.sound es c.requires.asked two g (Has-slice_get es 0 g c.at.ensures) c.in-Err.fault c.in-Err.ensures.fault
+
+pub join_automaton-loop-k-init : goal.join_automaton-loop-k-init
+join_automaton-loop-k-init t c =
+    let q = query_of c.args.query.now in
+    let es = exprs_of c.args.parts.now in
+    let two = join_two (vars_of_lets q.lets (length c.args.lets.now)) (length c.args.lets.now) es c.requires.asked.sound_expr in
+    (omega arith, join_first q c.args.lets.now c.requires.known c.requires.asked.sound es c.requires.asked two (expr_of c.at.result.now) c.in-Ok.first c.at.ensures c.in-Ok.ensures.made)
+
+pub join_automaton-expr_automaton-requires-in-loop-k : goal.join_automaton-expr_automaton-requires-in-loop-k
+join_automaton-expr_automaton-requires-in-loop-k t c =
+    let es = exprs_of c.args.parts.now in
+    let g = expr_of c.at-in-loop-k.result.now in
+    let has = Has-slice_get es c.loop-k.k g c.at-in-loop-k.ensures in
+    (omega (arith, part_size es g has), (c.requires.known, asked_joined (query_of c.args.query.now) (length c.args.lets.now) es g has c.requires.asked))
+
+pub join_automaton-returns-in-Err-expr_automaton-clause-fault : goal.join_automaton-returns-in-Err-expr_automaton-clause-fault
+join_automaton-returns-in-Err-expr_automaton-clause-fault t c =
+    let q = query_of c.args.query.now in
+    let es = exprs_of c.args.parts.now in
+    let two = join_two (vars_of_lets q.lets (length c.args.lets.now)) (length c.args.lets.now) es c.requires.asked.sound_expr in
+    let g = expr_of c.at-in-loop-k.result.now in
+    join_part_fault q c.args.lets.now c.requires.known c.requires.asked.sound es c.requires.asked two g (Has-slice_get es c.loop-k.k g c.at-in-loop-k.ensures)
+    c.in-Err-expr_automaton.fault c.in-Err-expr_automaton.ensures.fault
+
+pub join_automaton-returns-clause-made : goal.join_automaton-returns-clause-made
+join_automaton-returns-clause-made t c =
+    let q = query_of c.args.query.now in
+    let es = exprs_of c.args.parts.now in
+    let two = join_two (vars_of_lets q.lets (length c.args.lets.now)) (length c.args.lets.now) es c.requires.asked.sound_expr in
+    let e : c.loop-k.k ≡ length es = omega (arith, two) in
+    join_done q c.args.lets.now c.requires.known c.requires.asked.sound es c.requires.asked two c.loop-k.all c.loop-k.k e c.loop-k.invariant.1
+
+-- what a step of the loop is given
+pub union_automaton-union-requires : goal.union_automaton-union-requires
+union_automaton-union-requires t c =
+    let q = query_of c.args.query.now in
+    let es = exprs_of c.args.parts.now in
+    let two = union_two (vars_of_lets q.lets (length c.args.lets.now)) (length c.args.lets.now) es c.requires.asked.sound_expr in
+    union_names q c.args.lets.now c.requires.known c.requires.asked.sound es c.requires.asked two c.loop-k.k c.loop-k.invariant.0 (expr_of c.at-in-loop-k.result.now) c.at-in-loop-k.ensures
+    c.loop-k.all c.in-Ok-expr_automaton.part c.loop-k.invariant.1 c.in-Ok-expr_automaton.ensures.made c.states.ensures.marked c.states-in-loop-k.ensures.marked
+
+pub union_automaton-returns-in-Err-union-clause-fault : goal.union_automaton-returns-in-Err-union-clause-fault
+union_automaton-returns-in-Err-union-clause-fault t c =
+    let q = query_of c.args.query.now in
+    let es = exprs_of c.args.parts.now in
+    let two = union_two (vars_of_lets q.lets (length c.args.lets.now)) (length c.args.lets.now) es c.requires.asked.sound_expr in
+    union_fault q c.args.lets.now c.requires.known c.requires.asked.sound es c.requires.asked two c.loop-k.k c.loop-k.invariant.0 (expr_of c.at-in-loop-k.result.now) c.at-in-loop-k.ensures
+    c.loop-k.all c.in-Ok-expr_automaton.part c.loop-k.invariant.1 c.in-Ok-expr_automaton.ensures.made c.states.ensures.marked c.states-in-loop-k.ensures.marked
+    c.in-Err-union.fault c.in-Err-union.ensures.fault
+
+pub union_automaton-loop-k-preserved : goal.union_automaton-loop-k-preserved
+union_automaton-loop-k-preserved t c =
+    let q = query_of c.args.query.now in
+    let es = exprs_of c.args.parts.now in
+    let two = union_two (vars_of_lets q.lets (length c.args.lets.now)) (length c.args.lets.now) es c.requires.asked.sound_expr in (
+      omega arith,
+      union_next q c.args.lets.now c.requires.known c.requires.asked.sound es c.requires.asked two c.loop-k.k c.loop-k.invariant.0 (expr_of c.at-in-loop-k.result.now) c.at-in-loop-k.ensures
+          c.loop-k.all c.in-Ok-expr_automaton.part c.loop-k.invariant.1 c.in-Ok-expr_automaton.ensures.made c.states.ensures.marked c.states-in-loop-k.ensures.marked
+          c.in-Ok-union.both c.in-Ok-union.ensures.names c.in-Ok-union.ensures.reduct,
+    )
+
+pub join_automaton-join-requires : goal.join_automaton-join-requires
+join_automaton-join-requires t c =
+    let q = query_of c.args.query.now in
+    let es = exprs_of c.args.parts.now in
+    let two = join_two (vars_of_lets q.lets (length c.args.lets.now)) (length c.args.lets.now) es c.requires.asked.sound_expr in
+    join_few q c.args.lets.now c.requires.known c.requires.asked.sound es c.requires.asked two c.loop-k.k c.loop-k.invariant.0 (expr_of c.at-in-loop-k.result.now) c.at-in-loop-k.ensures
+    c.loop-k.all c.in-Ok-expr_automaton.part c.loop-k.invariant.1 c.in-Ok-expr_automaton.ensures.made c.states.ensures.marked c.states-in-loop-k.ensures.marked
+
+pub join_automaton-returns-in-Err-join-clause-fault : goal.join_automaton-returns-in-Err-join-clause-fault
+join_automaton-returns-in-Err-join-clause-fault t c =
+    let q = query_of c.args.query.now in
+    let es = exprs_of c.args.parts.now in
+    let two = join_two (vars_of_lets q.lets (length c.args.lets.now)) (length c.args.lets.now) es c.requires.asked.sound_expr in
+    join_fault q c.args.lets.now c.requires.known c.requires.asked.sound es c.requires.asked two c.loop-k.k c.loop-k.invariant.0 (expr_of c.at-in-loop-k.result.now) c.at-in-loop-k.ensures
+    c.loop-k.all c.in-Ok-expr_automaton.part c.loop-k.invariant.1 c.in-Ok-expr_automaton.ensures.made c.states.ensures.marked c.states-in-loop-k.ensures.marked
+    c.in-Err-join.fault c.in-Err-join.ensures.fault
+
+pub join_automaton-loop-k-preserved : goal.join_automaton-loop-k-preserved
+join_automaton-loop-k-preserved t c =
+    let q = query_of c.args.query.now in
+    let es = exprs_of c.args.parts.now in
+    let two = join_two (vars_of_lets q.lets (length c.args.lets.now)) (length c.args.lets.now) es c.requires.asked.sound_expr in
+    let j = c.in-Ok-join.pairs in
+    let names = c.in-Ok-join.ensures.names in
+    let ns = c.loop-k.all.names in
+    let ms = c.in-Ok-expr_automaton.part.names in
+    let reduct : Reduces j.graph (join_at ns ms c.loop-k.all.graph c.in-Ok-expr_automaton.part.graph) =
+    subst (λ (xs : List VarName). Reduces j.graph (join_of (agree_on ns ms xs) (joined ns ms xs) c.loop-k.all.graph c.in-Ok-expr_automaton.part.graph)) names c.in-Ok-join.ensures.reduct in (
+      omega arith,
+      join_next q c.args.lets.now c.requires.known c.requires.asked.sound es c.requires.asked two c.loop-k.k c.loop-k.invariant.0 (expr_of c.at-in-loop-k.result.now) c.at-in-loop-k.ensures
+          c.loop-k.all c.in-Ok-expr_automaton.part c.loop-k.invariant.1 c.in-Ok-expr_automaton.ensures.made c.states.ensures.marked c.states-in-loop-k.ensures.marked
+          c.in_ok-all.all (c.in_ok-all.ensures.names ∙ names)
+          (reduct_of_reduct c.in_ok-all.all.graph j.graph (join_at ns ms c.loop-k.all.graph c.in-Ok-expr_automaton.part.graph) c.in_ok-all.ensures.reduct reduct),
+    )

@@ -1,0 +1,20 @@
+-- What the automaton of a query accepts.
+use Rattle.std.specs.Prelude.{ℕ, ◌↔◌, List}
+use Rattle.spanner_model.specs.Captures.{Mapping, row_of}
+use Rattle.spanner_model.specs.Expression.{QueryTree}
+use Rattle.spanner_model.specs.Answer.{IsAnswer}
+use Rattle.spanner_model.specs.Answers.{AreResultNames}
+use Rattle.spanner_model.specs.Sound.{IsSound}
+use Rattle.marked_automaton.specs.Automaton.{Accepts, IsWhole}
+use Rattle.place_automaton.specs.Atom.{AreBytes}
+use Rattle.place_automaton.specs.Words.{IsWordOf}
+use Rattle.spanner_engine.specs.Kept.{QueryKeepsInOrder}
+use Rattle.spanner_engine.specs.QueryAutomaton.{of_query}
+
+-- its variables are those of the result; its words are those of the rows of answers, and no others
+abbrev pub QueryWords : Type 0
+QueryWords =
+    (q : QueryTree) → IsSound q → QueryKeepsInOrder q →
+    AreResultNames q (of_query q).names × IsWhole (of_query q).graph
+    × ((d : List ℕ) → AreBytes d → (w : ℕ → ℕ) →
+    Accepts (of_query q).graph d w ↔ ((m : Mapping) × IsAnswer q d m × IsWordOf (row_of (of_query q).names m) d w))

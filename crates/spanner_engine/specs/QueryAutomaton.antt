@@ -1,0 +1,76 @@
+-- The automaton of a query, with nothing trimmed: what the numbers of states and ways are counted on.
+use Rattle.std.specs.Prelude.{ℕ, Bool, zero, suc, List, [], Option, Some, None, slice_get, length, nat_eq, if◌then◌else◌}
+use Rattle.span_core.specs.NameSets.{with_name}
+use Rattle.spanner_model.specs.Tree.{Tree, empty, one, cat_end, cat, alt_end, alt, rep, cap}
+use Rattle.spanner_model.specs.Captures.{VarName}
+use Rattle.spanner_model.specs.Expression.{ExprTree, QueryTree, atom, named, union_end, union, join_end, join, project}
+use Rattle.marked_automaton.specs.Automaton.{Marked, bare}
+use Rattle.marked_automaton.specs.Marks.{left_of, remarked}
+use Rattle.place_automaton.specs.Words.{atom_automaton}
+use Rattle.algebra.specs.JoinedMarks.{agree_on, joined}
+use Rattle.algebra.specs.JoinedNames.{all_names}
+use Rattle.algebra.specs.Operations.{union_of, join_of}
+
+-- an ascending list of names, with the variables of a formula
+abbrev pub with_vars : List VarName → Tree → List VarName
+with_vars names empty = names
+with_vars names (one set) = names
+with_vars names cat_end = names
+with_vars names (cat f rest) = with_vars (with_vars names f) rest
+with_vars names alt_end = names
+with_vars names (alt f rest) = with_vars (with_vars names f) rest
+with_vars names (rep f least most) = with_vars names f
+with_vars names (cap x f) = with_vars (with_name x names) f
+
+abbrev pub of_atom : Bool → Bool → Tree → Marked
+of_atom from_start to_end f =
+    let names = with_vars [] f in record { names = names; graph = atom_automaton names from_start to_end f }
+
+abbrev pub of_union : Marked → Marked → Marked
+of_union A B = record { names = A.names; graph = union_of A.graph B.graph }
+
+abbrev pub of_join : Marked → Marked → Marked
+of_join A B =
+    let names = all_names A.names B.names in
+    record { names = names; graph = join_of (agree_on A.names B.names names) (joined A.names B.names names) A.graph B.graph }
+
+abbrev pub of_projection : List VarName → Marked → Marked
+of_projection kept A = record { names = kept; graph = remarked (left_of A.names kept) A.graph }
+
+-- no states
+abbrev pub no_automaton : Marked
+no_automaton = record { names = []; graph = bare 0 }
+
+-- the automaton of an expression, where L has those of the lets; unions and joins are taken from left to right
+module _ (L : ℕ → Marked) where
+  abbrev mutual
+    pub automaton_of : ExprTree → Marked
+    automaton_of (atom s t f) = of_atom s t f
+    automaton_of (named k) = L k
+    automaton_of union_end = no_automaton
+    automaton_of (union e rest) = united (automaton_of e) rest
+    automaton_of join_end = no_automaton
+    automaton_of (join e rest) = together (automaton_of e) rest
+    automaton_of (project kept e) = of_projection kept (automaton_of e)
+
+    -- with the parts of a union that follow
+    pub united : Marked → ExprTree → Marked
+    united A (union e rest) = united (of_union A (automaton_of e)) rest
+    united A _ = A
+
+    -- with the parts of a join that follow
+    pub together : Marked → ExprTree → Marked
+    together A (join e rest) = together (of_join A (automaton_of e)) rest
+    together A _ = A
+
+-- the automata of the first n lets, by number: of each its own, under the lets before it
+abbrev pub of_one_let : (ℕ → Marked) → Option (VarName × ExprTree) → Marked
+of_one_let L None = no_automaton
+of_one_let L (Some l) = automaton_of L l.1
+
+abbrev pub of_lets : List (VarName × ExprTree) → ℕ → ℕ → Marked
+of_lets lets zero k = no_automaton
+of_lets lets (suc n) k = if nat_eq k n then of_one_let (of_lets lets n) (slice_get lets n) else of_lets lets n k
+
+abbrev pub of_query : QueryTree → Marked
+of_query q = automaton_of (of_lets q.lets (length q.lets)) q.body

@@ -1,0 +1,115 @@
+//! The automata of expressions.
+ghost use Rattle.std.specs.Prelude.{◌≡◌, ℕ, List, length, IfOk, IfErr};
+ghost use Rattle.spanner_model.specs.ExprView.{expr_of, exprs_of, query_of};
+ghost use Rattle.spanner_model.specs.Expression.{union_all, join_all};
+ghost use Rattle.spanner_engine.specs.Compiling.{AreCompiled, IsAsked, IsCompiledFrom};
+ghost use Rattle.spanner_engine.specs.Parts.{HasLargePartOf};
+ghost use Rattle.spanner_engine.specs.QueryAutomaton.{of_lets};
+
+use algebra::{join, project, union};
+use marked_automaton::{Automaton, MOST_STATES, SizeFault};
+use place_automaton::of_atom;
+use span_core::MOST_VARIABLES;
+use spanner_model::{Expr, Exprs, Query};
+use std::alloc::Global;
+
+/// The automaton of an expression of the query, where `lets` has those of the `let`s before it.
+#[cycle(compiling)]
+pub fn expr_automaton(
+    alloc: Global,
+    query: &Query,
+    lets: &[Automaton],
+    expr: &Expr,
+) -> Result<Automaton, SizeFault>
+    requires known { AreCompiled (query_of query.now) lets.now }
+    requires asked { IsAsked (query_of query.now) (length lets.now) (expr_of expr.now) }
+    ensures made { IfOk result (IsCompiledFrom (query_of query.now) (length lets.now) (expr_of expr.now)) }
+    ensures fault { IfErr result (HasLargePartOf (of_lets (query_of query.now).lets (length lets.now)) (expr_of expr.now)) }
+{
+    match expr {
+        Expr::Atom(atom) => {
+            let whole = match of_atom(alloc, atom) {
+                Ok(whole) => whole,
+                Err(fault) => return Err(fault),
+            };
+            Ok(whole.trim(alloc)?)
+        }
+        Expr::Named(k) => Ok(lets[*k as usize].copy(alloc)?),
+        Expr::Union(parts) => union_automaton(alloc, query, lets, parts),
+        Expr::Join(parts) => join_automaton(alloc, query, lets, parts),
+        Expr::Project(kept, sub) => {
+            let inner = match expr_automaton(alloc, query, lets, sub) {
+                Ok(inner) => inner,
+                Err(fault) => return Err(fault),
+            };
+            prove!(kept.len() <= MOST_VARIABLES);
+            Ok(project(alloc, &inner, kept)?)
+        }
+    }
+}
+
+/// The automaton of a union, its parts taken from left to right.
+#[cycle(compiling)]
+fn union_automaton(
+    alloc: Global,
+    query: &Query,
+    lets: &[Automaton],
+    parts: &Exprs,
+) -> Result<Automaton, SizeFault>
+    requires known { AreCompiled (query_of query.now) lets.now }
+    requires asked { IsAsked (query_of query.now) (length lets.now) (union_all (exprs_of parts.now)) }
+    ensures made { IfOk result (IsCompiledFrom (query_of query.now) (length lets.now) (union_all (exprs_of parts.now))) }
+    ensures fault { IfErr result (HasLargePartOf (of_lets (query_of query.now).lets (length lets.now)) (union_all (exprs_of parts.now))) }
+{
+    let mut all = match expr_automaton(alloc, query, lets, parts.at(0)) {
+        Ok(first) => first,
+        Err(fault) => return Err(fault),
+    };
+    for k in 1..parts.len() {
+        let part = match expr_automaton(alloc, query, lets, parts.at(k)) {
+            Ok(part) => part,
+            Err(fault) => return Err(fault),
+        };
+        prove!(all.states() <= MOST_STATES);
+        prove!(part.states() <= MOST_STATES);
+        all = match union(alloc, &all, &part) {
+            Ok(both) => both,
+            Err(fault) => return Err(fault),
+        };
+    }
+    Ok(all)
+}
+
+/// The automaton of a join, its parts taken from left to right, with what leads to no end left out after
+/// each.
+#[cycle(compiling)]
+fn join_automaton(
+    alloc: Global,
+    query: &Query,
+    lets: &[Automaton],
+    parts: &Exprs,
+) -> Result<Automaton, SizeFault>
+    requires known { AreCompiled (query_of query.now) lets.now }
+    requires asked { IsAsked (query_of query.now) (length lets.now) (join_all (exprs_of parts.now)) }
+    ensures made { IfOk result (IsCompiledFrom (query_of query.now) (length lets.now) (join_all (exprs_of parts.now))) }
+    ensures fault { IfErr result (HasLargePartOf (of_lets (query_of query.now).lets (length lets.now)) (join_all (exprs_of parts.now))) }
+{
+    let mut all = match expr_automaton(alloc, query, lets, parts.at(0)) {
+        Ok(first) => first,
+        Err(fault) => return Err(fault),
+    };
+    for k in 1..parts.len() {
+        let part = match expr_automaton(alloc, query, lets, parts.at(k)) {
+            Ok(part) => part,
+            Err(fault) => return Err(fault),
+        };
+        prove!(all.states() <= MOST_STATES);
+        prove!(part.states() <= MOST_STATES);
+        let pairs = match join(alloc, &all, &part) {
+            Ok(pairs) => pairs,
+            Err(fault) => return Err(fault),
+        };
+        all = pairs.trim(alloc)?;
+    }
+    Ok(all)
+}
