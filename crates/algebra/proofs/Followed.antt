@@ -68,17 +68,17 @@ followed_none keys ways = record {
   between = tt;
 }
 
-pub followed_then : (r1 r2 : List PairWay) (k1 k2 k3 : List Pair) (w1 w2 w3 : List Way) →
-    IsFollowed r1 k1 w1 k2 w2 → IsFollowed r2 k2 w2 k3 w3 → IsFollowed (r1 ++ r2) k1 w1 k3 w3
-followed_then r1 r2 k1 k2 k3 w1 w2 w3 a b = record {
+pub followed_then : (made1 made2 : List PairWay) (k1 k2 k3 : List Pair) (ways1 ways2 ways3 : List Way) →
+    IsFollowed made1 k1 ways1 k2 ways2 → IsFollowed made2 k2 ways2 k3 ways3 → IsFollowed (made1 ++ made2) k1 ways1 k3 ways3
+followed_then made1 made2 k1 k2 k3 ways1 ways2 ways3 a b = record {
   found = a.found ++ b.found;
   keys = b.keys ∙ (ap (λ k. k ++ b.found) a.keys ∙ append_assoc k1 a.found b.found);
   few = λ h. b.few (a.few h);
-  within = λ n1 n2 h l. b.within n1 n2 (a.within n1 n2 h (λ r x. l r (Has-append_left r1 r2 r x))) (λ r x. l r (Has-append_right r1 r2 r x));
+  within = λ n1 n2 h l. b.within n1 n2 (a.within n1 n2 h (λ r x. l r (Has-append_left made1 made2 r x))) (λ r x. l r (Has-append_right made1 made2 r x));
   new = a.new ++ b.new;
-  ways = b.ways ∙ (ap (λ w. w ++ b.new) a.ways ∙ append_assoc w1 a.new b.new);
-  between = matched_append (IsWayBetween k3) r1 r2 a.new b.new
-      (matched_more (IsWayBetween k2) (IsWayBetween k3) (λ r y m. subst (λ k. IsWayBetween k r y) (sym b.keys) (between_more k2 b.found r y m)) r1 a.new a.between)
+  ways = b.ways ∙ (ap (λ w. w ++ b.new) a.ways ∙ append_assoc ways1 a.new b.new);
+  between = matched_append (IsWayBetween k3) made1 made2 a.new b.new
+      (matched_more (IsWayBetween k2) (IsWayBetween k3) (λ r y m. subst (λ k. IsWayBetween k r y) (sym b.keys) (between_more k2 b.found r y m)) made1 a.new a.between)
       b.between;
 }
 
@@ -117,23 +117,23 @@ module _ {X Y R : Type 0} (test : X → Y → Bool) (make : X → Y → R) where
       ∙ (ap (λ zs. zs ++ pairs test make ys (drop (i + 1) xs)) (pairs_more xs ys i x l is)
       ∙ append_assoc (pairs test make ys (take i xs)) (map (make x) (filter (test x) ys)) (pairs test make ys (drop (i + 1) xs))))
 
-pub refusal_then : (r1 r2 rest : List PairWay) (k1 k2 : List Pair) (w1 w2 : List Way) (e : SizeFault) →
-    IsFollowed r1 k1 w1 k2 w2 → IsRefusalOf r2 k2 w2 e → IsRefusalOf (r1 ++ (r2 ++ rest)) k1 w1 e
-refusal_then r1 r2 rest k1 k2 w1 w2 e a b = λ n1 n2 w h l le.
-    let len : length r1 ≡ length a.new = match_len (IsWayBetween k2) r1 a.new a.between in
-    let l1 : length (r1 ++ (r2 ++ rest)) ≡ length r1 + length (r2 ++ rest) = length-append r1 (r2 ++ rest) in
-    let l2 : length (r2 ++ rest) ≡ length r2 + length rest = length-append r2 rest in
-    let l3 : length w2 ≡ length w1 + length a.new = ap length a.ways ∙ length-append w1 a.new in
-    b n1 n2 w (a.within n1 n2 h (λ r x. l r (Has-append_left r1 (r2 ++ rest) r x)))
-    (λ r x. l r (Has-append_right r1 (r2 ++ rest) r (Has-append_left r2 rest r x))) (omega (arith, len, l1, l2, l3, le))
+pub refusal_then : (made1 made2 rest : List PairWay) (k1 k2 : List Pair) (ways1 ways2 : List Way) (e : SizeFault) →
+    IsFollowed made1 k1 ways1 k2 ways2 → IsRefusalOf made2 k2 ways2 e → IsRefusalOf (made1 ++ (made2 ++ rest)) k1 ways1 e
+refusal_then made1 made2 rest k1 k2 ways1 ways2 e a b = λ n1 n2 w h l le.
+    let len : length made1 ≡ length a.new = match_len (IsWayBetween k2) made1 a.new a.between in
+    let l1 : length (made1 ++ (made2 ++ rest)) ≡ length made1 + length (made2 ++ rest) = length-append made1 (made2 ++ rest) in
+    let l2 : length (made2 ++ rest) ≡ length made2 + length rest = length-append made2 rest in
+    let l3 : length ways2 ≡ length ways1 + length a.new = ap length a.ways ∙ length-append ways1 a.new in
+    b n1 n2 w (a.within n1 n2 h (λ r x. l r (Has-append_left made1 (made2 ++ rest) r x)))
+    (λ r x. l r (Has-append_right made1 (made2 ++ rest) r (Has-append_left made2 rest r x))) (omega (arith, len, l1, l2, l3, le))
 
 -- too many ways are made
-pub refusal_of_ways : (r1 rest : List PairWay) (k1 k2 : List Pair) (w1 w2 : List Way) (count : ℕ) →
-    IsFollowed r1 k1 w1 k2 w2 → MOST_WAYS < count → count ≡ length w2 → IsRefusalOf (r1 ++ rest) k1 w1 (Ways count)
-refusal_of_ways r1 rest k1 k2 w1 w2 count a many is = λ n1 n2 w h l le.
-    let len : length r1 ≡ length a.new = match_len (IsWayBetween k2) r1 a.new a.between in
-    let l1 : length (r1 ++ rest) ≡ length r1 + length rest = length-append r1 rest in
-    let l3 : length w2 ≡ length w1 + length a.new = ap length a.ways ∙ length-append w1 a.new in
+pub refusal_of_ways : (made1 rest : List PairWay) (k1 k2 : List Pair) (ways1 ways2 : List Way) (count : ℕ) →
+    IsFollowed made1 k1 ways1 k2 ways2 → MOST_WAYS < count → count ≡ length ways2 → IsRefusalOf (made1 ++ rest) k1 ways1 (Ways count)
+refusal_of_ways made1 rest k1 k2 ways1 ways2 count a many is = λ n1 n2 w h l le.
+    let len : length made1 ≡ length a.new = match_len (IsWayBetween k2) made1 a.new a.between in
+    let l1 : length (made1 ++ rest) ≡ length made1 + length rest = length-append made1 rest in
+    let l3 : length ways2 ≡ length ways1 + length a.new = ap length a.ways ∙ length-append ways1 a.new in
     (many, omega (arith, len, l1, l3, le, is))
 
 pub no_refusal : (r : List PairWay) (k : List Pair) (w : List Way) → IsRefusalOf r k w OutOfMemory

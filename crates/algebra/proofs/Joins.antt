@@ -13,9 +13,10 @@ use Rattle.marked_automaton.specs.Automaton.{IsWhole}
 use Rattle.algebra.specs.Operations.{meet, has_some, goes_with, pair_way, ends_with, pair_stop, join_of}
 use Rattle.algebra.specs.Laws.{JoinLaw}
 use Rattle.algebra.proofs.Bytes.{both_true, left_true, meet_left, meet_right, in_meet, some_byte}
-use Rattle.algebra.proofs.Steps.{compared}
-use Rattle.algebra.proofs.HasLemmas.{has_map, map_cases, has_flat_map, flat_map_cases}
-use Rattle.algebra.proofs.Walks.{walk_same}
+use Rattle.marked_automaton.proofs.Listed.{compared}
+use Rattle.algebra.proofs.HasLemmas.{has_flat_map, flat_map_cases}
+use Rattle.spanner_model.proofs.HasLaws.{Has-map, Has-map_cases}
+use Rattle.marked_automaton.proofs.Walks.{walk_same}
 
 -- the number of a pair determines it
 pub pair_same : (n p q a b : ℕ) → q < n → b < n → p * n + q ≡ a * n + b → (p ≡ a) × (q ≡ b)
@@ -77,7 +78,7 @@ module _ (agree : ℕ → ℕ → Bool) (both : ℕ → ℕ → ℕ) (A B : Auto
   pair_of : (y : Way) → Has J.ways y → (x1 : Way) × (x2 : Way) × Has A.ways x1 × Has B.ways x2 × (goes_with agree both x1 x2 ≡ true) × (pair_way agree both B.states x1 x2 ≡ y)
   pair_of y h =
       let r = flat_map_cases (λ x. map (pair_way agree both B.states x) (filter (goes_with agree both x) B.ways)) A.ways y h in
-      let s = map_cases (pair_way agree both B.states r.0) (filter (goes_with agree both r.0) B.ways) y r.2 in
+      let s = Has-map_cases (pair_way agree both B.states r.0) (filter (goes_with agree both r.0) B.ways) y r.2 in
       let t = filter_cases (goes_with agree both r.0) B.ways s.0 s.1 in
       (r.0, s.0, r.1, t.0, t.1, s.2)
 
@@ -153,7 +154,7 @@ module _ (agree : ℕ → ℕ → Bool) (both : ℕ → ℕ → ℕ) (A B : Auto
       let ok : goes_with agree both h.0 k.0 ≡ true = both_true (agree h.0.marks k.0.marks) (has_some (meet h.0.bytes k.0.bytes)) fits (some_byte (meet h.0.bytes k.0.bytes) h.4.0 m) in (
         pair_way agree both B.states h.0 k.0,
         has_flat_map (λ x. map (pair_way agree both B.states x) (filter (goes_with agree both x) B.ways)) A.ways h.0 (pair_way agree both B.states h.0 k.0) h.1
-            (has_map (pair_way agree both B.states h.0) (filter (goes_with agree both h.0) B.ways) k.0 (has_filter (goes_with agree both h.0) B.ways k.0 k.1 ok)),
+            (Has-map (pair_way agree both B.states h.0) (filter (goes_with agree both h.0) B.ways) k.0 (has_filter (goes_with agree both h.0) B.ways k.0 k.1 ok)),
         ap (λ x. x * B.states + k.0.from) h.2 ∙ ap (λ y. p * B.states + y) k.2,
         (ap (λ x. both x k.0.marks) h.3 ∙ ap (both (u i)) k.3) ∙ sym g.1,
         (h.4.0, h.4.1, m),
@@ -167,9 +168,9 @@ module _ (agree : ℕ → ℕ → Bool) (both : ℕ → ℕ → ℕ) (A B : Auto
   unfolding Apart
   of_join h =
       let s = flat_map_cases (λ p. map (λ q. p * B.states + q) B.starts) A.starts h.0 h.2 in
-      let t = map_cases (λ q. s.0 * B.states + q) B.starts h.0 s.2 in
+      let t = Has-map_cases (λ q. s.0 * B.states + q) B.starts h.0 s.2 in
       let x = flat_map_cases (λ x. map (pair_stop agree both B.states x) (filter (ends_with agree both x) B.stops)) A.stops h.1 h.3 in
-      let y = map_cases (pair_stop agree both B.states x.0) (filter (ends_with agree both x.0) B.stops) h.1 x.2 in
+      let y = Has-map_cases (pair_stop agree both B.states x.0) (filter (ends_with agree both x.0) B.stops) h.1 x.2 in
       let z = filter_cases (ends_with agree both x.0) B.stops y.0 y.1 in
       let r = apart (length d) 0 s.0 t.0 h.0 h.1.state (b.starts t.0 t.1) (sym t.2) h.4 in
       let same = pair_same B.states x.0.state y.0.state r.2 r.3 (b.stops y.0 z.0) r.7 (ap (λ (g : Stop). g.state) y.2 ∙ r.6) in
@@ -225,9 +226,9 @@ module _ (agree : ℕ → ℕ → Bool) (both : ℕ → ℕ → ℕ) (A B : Auto
       let ok : agree x.1.marks y.1.marks ≡ true = ap (λ m. agree m y.1.marks) x.5 ∙ (ap (agree (u (length d))) y.5 ∙ g.0) in (
         x.0 * B.states + y.0,
         pair_stop agree both B.states x.1 y.1,
-        has_flat_map (λ p. map (λ q. p * B.states + q) B.starts) A.starts x.0 (x.0 * B.states + y.0) x.2 (has_map (λ q. x.0 * B.states + q) B.starts y.0 y.2),
+        has_flat_map (λ p. map (λ q. p * B.states + q) B.starts) A.starts x.0 (x.0 * B.states + y.0) x.2 (Has-map (λ q. x.0 * B.states + q) B.starts y.0 y.2),
         has_flat_map (λ x. map (pair_stop agree both B.states x) (filter (ends_with agree both x) B.stops)) A.stops x.1 (pair_stop agree both B.states x.1 y.1) x.3
-            (has_map (pair_stop agree both B.states x.1) (filter (ends_with agree both x.1) B.stops) y.1 (has_filter (ends_with agree both x.1) B.stops y.1 y.3 ok)),
+            (Has-map (pair_stop agree both B.states x.1) (filter (ends_with agree both x.1) B.stops) y.1 (has_filter (ends_with agree both x.1) B.stops y.1 y.3 ok)),
         together u v (length d) 0 x.0 y.0 x.1.state y.1.state (λ r lo up. h.4 r (omega (arith, up))) x.4 y.4,
         (ap (λ m. both m y.1.marks) x.5 ∙ ap (both (u (length d))) y.5) ∙ sym g.1,
       )

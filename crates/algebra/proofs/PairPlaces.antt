@@ -5,8 +5,8 @@ use Rattle.std.specs.List.{filter, flat_map}
 use Rattle.std.specs.Option.{option_map}
 use Rattle.std.proofs.lemmas.Bool.{eqb-true, eq-eqb}
 use Rattle.algebra.proofs.Bytes.{left_true, right_true, both_true}
-use Rattle.algebra.proofs.Steps.{get_map_cases, get_map}
-use Rattle.algebra.proofs.Steps.{some_same}
+use Rattle.marked_automaton.proofs.Listed.{get_map_cases, get_map}
+use Rattle.marked_automaton.proofs.Listed.{some_same}
 use Rattle.algebra.proofs.ReductUnions.{get_left, get_right, get_append_cases}
 
 pub record Spot : Type 0 where

@@ -13,11 +13,12 @@ use Rattle.marked_automaton.specs.Automaton.{IsWhole}
 use Rattle.algebra.specs.Operations.{meet, has_some, goes_with, pair_way, ends_with, pair_stop, join_of}
 use Rattle.marked_automaton.specs.Reduct.{IsReachedIn, IsReached, HasEnd, Knows, IsReduct}
 use Rattle.algebra.specs.Laws.{ReductOfJoin}
-use Rattle.algebra.proofs.HasLemmas.{has_map, map_cases, has_flat_map, flat_map_cases}
+use Rattle.algebra.proofs.HasLemmas.{has_flat_map, flat_map_cases}
+use Rattle.spanner_model.proofs.HasLaws.{Has-map, Has-map_cases}
 use Rattle.algebra.proofs.Joins.{pair_same, filter_cases, has_filter}
 use Rattle.algebra.proofs.Bytes.{both_true, left_true, right_true, meet_left, meet_right, in_meet, some_byte, some_has}
 use Rattle.algebra.proofs.PairPlaces.{Spot, spots, spot_of, spot_exists, spot_once, find_spot, find_is, find_there}
-use Rattle.algebra.proofs.Steps.{some_same, place_has}
+use Rattle.marked_automaton.proofs.Listed.{some_same, place_has}
 
 -- both, made one
 abbrev pub both_of : Option ℕ → Option ℕ → (ℕ → ℕ → Option ℕ) → Option ℕ
@@ -64,7 +65,7 @@ module _ (agree : ℕ → ℕ → Bool) (both : ℕ → ℕ → ℕ) where
       (x1 : Way) × (x2 : Way) × Has A.ways x1 × Has B.ways x2 × (goes_with agree both x1 x2 ≡ true) × (pair_way agree both B.states x1 x2 ≡ y)
   way_parts A B y h =
       let r = flat_map_cases (λ x. map (pair_way agree both B.states x) (filter (goes_with agree both x) B.ways)) A.ways y h in
-      let s = map_cases (pair_way agree both B.states r.0) (filter (goes_with agree both r.0) B.ways) y r.2 in
+      let s = Has-map_cases (pair_way agree both B.states r.0) (filter (goes_with agree both r.0) B.ways) y r.2 in
       let t = filter_cases (goes_with agree both r.0) B.ways s.0 s.1 in
       (r.0, s.0, r.1, t.0, t.1, s.2)
 
@@ -72,21 +73,21 @@ module _ (agree : ℕ → ℕ → Bool) (both : ℕ → ℕ → ℕ) where
       (x1 : Stop) × (x2 : Stop) × Has A.stops x1 × Has B.stops x2 × (ends_with agree both x1 x2 ≡ true) × (pair_stop agree both B.states x1 x2 ≡ y)
   stop_parts A B y h =
       let r = flat_map_cases (λ x. map (pair_stop agree both B.states x) (filter (ends_with agree both x) B.stops)) A.stops y h in
-      let s = map_cases (pair_stop agree both B.states r.0) (filter (ends_with agree both r.0) B.stops) y r.2 in
+      let s = Has-map_cases (pair_stop agree both B.states r.0) (filter (ends_with agree both r.0) B.stops) y r.2 in
       let t = filter_cases (ends_with agree both r.0) B.stops s.0 s.1 in
       (r.0, s.0, r.1, t.0, t.1, s.2)
 
   numbers_of : (xs ys : List ℕ) (n v : ℕ) → Has (flat_map (λ p. map (λ q. p * n + q) ys) xs) v → (p : ℕ) × (q : ℕ) × Has xs p × Has ys q × (p * n + q ≡ v)
   numbers_of xs ys n v h =
       let r = flat_map_cases (λ p. map (λ q. p * n + q) ys) xs v h in
-      let s = map_cases (λ q. r.0 * n + q) ys v r.2 in
+      let s = Has-map_cases (λ q. r.0 * n + q) ys v r.2 in
       (r.0, s.0, r.1, s.1, s.2)
 
   has_number : (xs ys : List ℕ) (n p q : ℕ) → Has xs p → Has ys q → Has (flat_map (λ p. map (λ q. p * n + q) ys) xs) (p * n + q)
-  has_number xs ys n p q a b = has_flat_map (λ p. map (λ q. p * n + q) ys) xs p (p * n + q) a (has_map (λ q. p * n + q) ys q b)
+  has_number xs ys n p q a b = has_flat_map (λ p. map (λ q. p * n + q) ys) xs p (p * n + q) a (Has-map (λ q. p * n + q) ys q b)
 
   module _ (A1 B1 A2 B2 : Automaton) (wa1 : IsWhole A1) (wb1 : IsWhole B1) (wa2 : IsWhole A2) (wb2 : IsWhole B2)
-      (f1 g1 f2 g2 : ℕ → Option ℕ) (e1 e2 : ℕ → ℕ → ℕ) (r1 : IsReduct A1 B1 f1 g1 e1) (r2 : IsReduct A2 B2 f2 g2 e2) where
+      (f1 g1 f2 g2 : ℕ → Option ℕ) (e1 e2 : ℕ → ℕ → ℕ) (red1 : IsReduct A1 B1 f1 g1 e1) (red2 : IsReduct A2 B2 f2 g2 e2) where
     abbrev A : Automaton
     A = join_of agree both A1 A2
 
@@ -116,7 +117,7 @@ module _ (agree : ℕ → ℕ → Bool) (both : ℕ → ℕ → ℕ) where
     state_cases : (b a : ℕ) → f b ≡ Some a → StateCases b a
     state_cases b a h =
         let r = both_cases (f1 (b / n)) (f2 (b % n)) (λ p q. Some (p * k + q)) a h in
-        (b / n, b % n, r.0, r.1, sym (div-add-mod' b n), r2.from_states (b % n) (r.1, r.3), r.2, r.3, some_same (r.0 * k + r.1) a r.4)
+        (b / n, b % n, r.0, r.1, sym (div-add-mod' b n), red2.from_states (b % n) (r.1, r.3), r.2, r.3, some_same (r.0 * k + r.1) a r.4)
 
     state_some : (b p q x y : ℕ) → b ≡ p * n + q → q < n → f1 p ≡ Some x → f2 q ≡ Some y → f b ≡ Some (x * k + y)
     state_some b p q x y at l fx fy =
@@ -143,21 +144,21 @@ module _ (agree : ℕ → ℕ → Bool) (both : ℕ → ℕ → ℕ) where
     from_states : (b : ℕ) → Knows f b → b < B1.states * B2.states
     from_states b h =
         let s = state_cases b h.0 h.1 in
-        let l = mul-add-lt s.0 n s.1 B1.states (r1.from_states s.0 (s.2, s.6)) s.5 in
+        let l = mul-add-lt s.0 n s.1 B1.states (red1.from_states s.0 (s.2, s.6)) s.5 in
         omega (arith, l, s.4)
 
     to_states : (b a : ℕ) → f b ≡ Some a → a < A1.states * A2.states
     to_states b a h =
         let s = state_cases b a h in
-        let l = mul-add-lt s.2 k s.3 A1.states (r1.to_states s.0 s.2 s.6) (r2.to_states s.1 s.3 s.7) in
+        let l = mul-add-lt s.2 k s.3 A1.states (red1.to_states s.0 s.2 s.6) (red2.to_states s.1 s.3 s.7) in
         omega (arith, l, s.8)
 
     onto : (a : ℕ) → a < A1.states * A2.states → (b : ℕ) × (f b ≡ Some a)
     onto a l =
         let pos : 0 < k = positive k l in
-        let p = r1.onto (a / k) (div_below a k A1.states pos l) in
-        let q = r2.onto (a % k) (mod_below a k pos) in
-        (p.0 * n + q.0, state_some (p.0 * n + q.0) p.0 q.0 (a / k) (a % k) refl (r2.from_states q.0 (a % k, q.1)) p.1 q.1 ∙ ap Some (div-add-mod' a k))
+        let p = red1.onto (a / k) (div_below a k A1.states pos l) in
+        let q = red2.onto (a % k) (mod_below a k pos) in
+        (p.0 * n + q.0, state_some (p.0 * n + q.0) p.0 q.0 (a / k) (a % k) refl (red2.from_states q.0 (a % k, q.1)) p.1 q.1 ∙ ap Some (div-add-mod' a k))
       where
         positive : (k : ℕ) → a < A1.states * k → 0 < k
         positive zero l = absurd (omega (arith, l))
@@ -168,13 +169,13 @@ module _ (agree : ℕ → ℕ → Bool) (both : ℕ → ℕ → ℕ) where
         let s = numbers_of B1.starts B2.starts n b h in
         let l = wb2.starts s.1 s.3 in
         let v = pair_value s.0 s.1 a l (ap f s.4 ∙ at) in
-        subst (Has A.starts) v.4 (has_number A1.starts A2.starts k v.0 v.1 (r1.starts_there s.0 v.0 s.2 v.2) (r2.starts_there s.1 v.1 s.3 v.3))
+        subst (Has A.starts) v.4 (has_number A1.starts A2.starts k v.0 v.1 (red1.starts_there s.0 v.0 s.2 v.2) (red2.starts_there s.1 v.1 s.3 v.3))
 
     starts_back : (a : ℕ) → Has A.starts a → (b : ℕ) × Has B.starts b × (f b ≡ Some a)
     starts_back a h =
         let s = numbers_of A1.starts A2.starts k a h in
-        let p = r1.starts_back s.0 s.2 in
-        let q = r2.starts_back s.1 s.3 in (
+        let p = red1.starts_back s.0 s.2 in
+        let q = red2.starts_back s.1 s.3 in (
           p.0 * n + q.0,
           has_number B1.starts B2.starts n p.0 q.0 p.1 q.1,
           state_some (p.0 * n + q.0) p.0 q.0 s.0 s.1 refl (wb2.starts q.0 q.1) p.2 q.2 ∙ ap Some s.4,
@@ -207,7 +208,7 @@ module _ (agree : ℕ → ℕ → Bool) (both : ℕ → ℕ → ℕ) where
         let at : x.0.state * n + x.1.state ≡ b = ap (λ (g : Stop). g.state) x.5 in
         let l = wb2.stops x.1 x.3 in
         let r = parts_reached x.0.state x.1.state l (way.0, subst (IsReachedIn B way.0) (sym at) way.1) in
-        subst (Knows f) at (known_pair x.0.state x.1.state l (r1.knows_ends x.0.state x.0.marks r.0 x.2) (r2.knows_ends x.1.state x.1.marks r.1 x.3))
+        subst (Knows f) at (known_pair x.0.state x.1.state l (red1.knows_ends x.0.state x.0.marks r.0 x.2) (red2.knows_ends x.1.state x.1.marks r.1 x.3))
 
     knows_before : (y : Way) → Has B.ways y → IsReached B y.from → Knows f y.to → Knows f y.from
     knows_before y h way to =
@@ -217,7 +218,7 @@ module _ (agree : ℕ → ℕ → Bool) (both : ℕ → ℕ → ℕ) where
         let l = wb2.froms x.1 x.3 in
         let r = parts_reached x.0.from x.1.from l (way.0, subst (IsReachedIn B way.0) (sym from_at) way.1) in
         let v = pair_known x.0.to x.1.to (wb2.tos x.1 x.3) (subst (Knows f) (sym to_at) to) in
-        subst (Knows f) from_at (known_pair x.0.from x.1.from l (r1.knows_before x.0 x.2 r.0 v.0) (r2.knows_before x.1 x.3 r.1 v.1))
+        subst (Knows f) from_at (known_pair x.0.from x.1.from l (red1.knows_before x.0 x.2 r.0 v.0) (red2.knows_before x.1 x.3 r.1 v.1))
 
     abbrev SA : List Spot
     SA = way_spots A1 A2
@@ -278,8 +279,8 @@ module _ (agree : ℕ → ℕ → Bool) (both : ℕ → ℕ → ℕ) where
         there : Knows g m → Knows f y.from × Knows f y.to
         there known =
             let v = g_cases m known.0 s.0 s.1 s.4 known.1 in
-            let p = (r1.ways_known s.0 s.2 s.5).0 (v.0, v.2) in
-            let q = (r2.ways_known s.1 s.3 s.6).0 (v.1, v.3) in (
+            let p = (red1.ways_known s.0 s.2 s.5).0 (v.0, v.2) in
+            let q = (red2.ways_known s.1 s.3 s.6).0 (v.1, v.3) in (
               subst (Knows f) (ap (λ (g : Way). g.from) s.8) (known_pair s.2.from s.3.from (wb2.froms s.3 h2) p.0 q.0),
               subst (Knows f) (ap (λ (g : Way). g.to) s.8) (known_pair s.2.to s.3.to (wb2.tos s.3 h2) p.1 q.1),
             )
@@ -288,10 +289,10 @@ module _ (agree : ℕ → ℕ → Bool) (both : ℕ → ℕ → ℕ) where
         back known =
             let from = pair_known s.2.from s.3.from (wb2.froms s.3 h2) (subst (Knows f) (sym (ap (λ (g : Way). g.from) s.8)) known.0) in
             let to = pair_known s.2.to s.3.to (wb2.tos s.3 h2) (subst (Knows f) (sym (ap (λ (g : Way). g.to) s.8)) known.1) in
-            let u = (r1.ways_known s.0 s.2 s.5).1 (from.0, to.0) in
-            let v = (r2.ways_known s.1 s.3 s.6).1 (from.1, to.1) in
-            let z1 = r1.ways_there s.0 s.2 u.0 s.5 u.1 in
-            let z2 = r2.ways_there s.1 s.3 v.0 s.6 v.1 in
+            let u = (red1.ways_known s.0 s.2 s.5).1 (from.0, to.0) in
+            let v = (red2.ways_known s.1 s.3 s.6).1 (from.1, to.1) in
+            let z1 = red1.ways_there s.0 s.2 u.0 s.5 u.1 in
+            let z2 = red2.ways_there s.1 s.3 v.0 s.6 v.1 in
             let ok = together s.2 s.3 z1.0 z2.0 s.7 z1.2 z2.2 z1.5 z2.5 in
             let w = spot_exists (goes_with agree both) (pair_way agree both k) A2.ways A1.ways 0 u.0 v.0 z1.0 z2.0 z1.1 z2.1 ok in
             let found = find_there SA w.0 u.0 v.0 (spot_same u.0 v.0 w.0 w.1) in
@@ -304,8 +305,8 @@ module _ (agree : ℕ → ℕ → Bool) (both : ℕ → ℕ → ℕ) where
         let s = spot_of (goes_with agree both) (pair_way agree both n) B2.ways B1.ways 0 m y at in
         let h2 = place_has B2.ways s.1 s.3 s.6 in
         let v = g_cases m h s.0 s.1 s.4 known in
-        let z1 = r1.ways_there s.0 s.2 v.0 s.5 v.2 in
-        let z2 = r2.ways_there s.1 s.3 v.1 s.6 v.3 in
+        let z1 = red1.ways_there s.0 s.2 v.0 s.5 v.2 in
+        let z2 = red2.ways_there s.1 s.3 v.1 s.6 v.3 in
         let ok = together s.2 s.3 z1.0 z2.0 s.7 z1.2 z2.2 z1.5 z2.5 in (
           pair_way agree both k z1.0 z2.0,
           way_at h v.0 v.1 z1.0 z2.0 v.4 z1.1 z2.1 ok,
@@ -323,12 +324,12 @@ module _ (agree : ℕ → ℕ → Bool) (both : ℕ → ℕ → ℕ) where
         let s = spot_of (goes_with agree both) (pair_way agree both k) A2.ways A1.ways 0 h x at in
         let t = state_cases b x.from image in
         let in2 = wa2.froms s.3 (place_has A2.ways s.1 s.3 s.6) in
-        let same = pair_same k t.2 t.3 s.2.from s.3.from (r2.to_states t.1 t.3 t.7) in2 (t.8 ∙ sym (ap (λ (g : Way). g.from) s.8)) in
+        let same = pair_same k t.2 t.3 s.2.from s.3.from (red2.to_states t.1 t.3 t.7) in2 (t.8 ∙ sym (ap (λ (g : Way). g.from) s.8)) in
         let byte : HasByte (meet s.2.bytes s.3.bytes) c = subst (λ (g : Way). HasByte g.bytes c) (sym s.8) has in
-        let y1 = r1.ways_back t.0 s.0 c s.2 s.5 (t.6 ∙ ap Some same.0) (meet_left s.2.bytes s.3.bytes c byte) in
-        let y2 = r2.ways_back t.1 s.1 c s.3 s.6 (t.7 ∙ ap Some same.1) (meet_right s.2.bytes s.3.bytes c byte) in
-        let z1 = r1.ways_there y1.0 y1.1 s.0 y1.2 y1.5 in
-        let z2 = r2.ways_there y2.0 y2.1 s.1 y2.2 y2.5 in
+        let y1 = red1.ways_back t.0 s.0 c s.2 s.5 (t.6 ∙ ap Some same.0) (meet_left s.2.bytes s.3.bytes c byte) in
+        let y2 = red2.ways_back t.1 s.1 c s.3 s.6 (t.7 ∙ ap Some same.1) (meet_right s.2.bytes s.3.bytes c byte) in
+        let z1 = red1.ways_there y1.0 y1.1 s.0 y1.2 y1.5 in
+        let z2 = red2.ways_there y2.0 y2.1 s.1 y2.2 y2.5 in
         let m1 : y1.1.marks ≡ s.2.marks = sym z1.2 ∙ ap (λ (g : Way). g.marks) (some_same z1.0 s.2 (sym z1.1 ∙ s.5)) in
         let m2 : y2.1.marks ≡ s.3.marks = sym z2.2 ∙ ap (λ (g : Way). g.marks) (some_same z2.0 s.3 (sym z2.1 ∙ s.6)) in
         let fits : agree y1.1.marks y2.1.marks ≡ true =
@@ -353,14 +354,14 @@ module _ (agree : ℕ → ℕ → Bool) (both : ℕ → ℕ → ℕ) where
         let x = stop_parts B1 B2 (record { state = b; marks = m }) h in
         let here : x.0.state * n + x.1.state ≡ b = ap (λ (g : Stop). g.state) x.5 in
         let v = pair_value x.0.state x.1.state a (wb2.stops x.1 x.3) (ap f here ∙ at) in
-        let p : HasEnd A1 v.0 x.0.marks = r1.ends_back x.0.state v.0 x.0.marks v.2 x.2 in
-        let q : HasEnd A2 v.1 x.1.marks = r2.ends_back x.1.state v.1 x.1.marks v.3 x.3 in
+        let p : HasEnd A1 v.0 x.0.marks = red1.ends_back x.0.state v.0 x.0.marks v.2 x.2 in
+        let q : HasEnd A2 v.1 x.1.marks = red2.ends_back x.1.state v.1 x.1.marks v.3 x.3 in
         let z1 : Stop = record { state = v.0; marks = x.0.marks } in
         let z2 : Stop = record { state = v.1; marks = x.1.marks } in
         let marks : both x.0.marks x.1.marks ≡ m = ap (λ (g : Stop). g.marks) x.5 in
         subst (Has A.stops) (λ i. record { state = v.4 i; marks = marks i })
         (has_flat_map (λ x. map (pair_stop agree both k x) (filter (ends_with agree both x) A2.stops)) A1.stops z1 (pair_stop agree both k z1 z2) p
-        (has_map (pair_stop agree both k z1) (filter (ends_with agree both z1) A2.stops) z2 (has_filter (ends_with agree both z1) A2.stops z2 q x.4)))
+        (Has-map (pair_stop agree both k z1) (filter (ends_with agree both z1) A2.stops) z2 (has_filter (ends_with agree both z1) A2.stops z2 q x.4)))
 
     abbrev TA : List Spot
     TA = stop_spots A1 A2
@@ -383,9 +384,9 @@ module _ (agree : ℕ → ℕ → Bool) (both : ℕ → ℕ → ℕ) where
         let here : slice_get TA m ≡ Some (spot s.0 s.1) = s.4 ∙ ap (λ v. Some (spot v s.1)) zero_at in
         let t = state_cases b a at in
         let in2 = wa2.stops s.3 (place_has A2.stops s.1 s.3 s.6) in
-        let same = pair_same k s.2.state s.3.state t.2 t.3 in2 (r2.to_states t.1 t.3 t.7) ((ap (λ (g : Stop). g.state) s.8 ∙ end) ∙ sym t.8) in
-        let y1 = r1.ends_there t.0 t.2 s.0 s.2 t.6 s.5 same.0 in
-        let y2 = r2.ends_there t.1 t.3 s.1 s.3 t.7 s.6 same.1 in
+        let same = pair_same k s.2.state s.3.state t.2 t.3 in2 (red2.to_states t.1 t.3 t.7) ((ap (λ (g : Stop). g.state) s.8 ∙ end) ∙ sym t.8) in
+        let y1 = red1.ends_there t.0 t.2 s.0 s.2 t.6 s.5 same.0 in
+        let y2 = red2.ends_there t.1 t.3 s.1 s.3 t.7 s.6 same.1 in
         let ok : ends_with agree both y1.0 y2.0 ≡ true = ap (λ m. agree m y2.0.marks) y1.3 ∙ (ap (agree s.2.marks) y2.3 ∙ s.7) in
         let w = spot_exists (ends_with agree both) (pair_stop agree both n) B2.stops B1.stops 0 (e1 t.0 s.0) (e2 t.1 s.1) y1.0 y2.0 y1.1 y2.1 ok in
         let zero_there : 0 + e1 t.0 s.0 ≡ e1 t.0 s.0 = omega arith in
@@ -439,8 +440,8 @@ module _ (agree : ℕ → ℕ → Bool) (both : ℕ → ℕ → ℕ) where
         let spots_same : spot (e1 r.0 r.6) (e2 r.1 r.7) ≡ spot (e1 s.0 s.6) (e2 s.1 s.7) = some_same (spot (e1 r.0 r.6) (e2 r.1 r.7)) (spot (e1 s.0 s.6) (e2 s.1 s.7)) (sym r.15 ∙ (ap (slice_get TB) same ∙ s.15)) in
         let one : e1 r.0 r.6 ≡ e1 r.0 s.6 = ap (λ (s : Spot). s.one) spots_same ∙ ap (λ v. e1 v s.6) p in
         let two : e2 r.1 r.7 ≡ e2 r.1 s.7 = ap (λ (s : Spot). s.two) spots_same ∙ ap (λ v. e2 v s.7) q in
-        let a1 : r.6 ≡ s.6 = r1.ends_apart r.0 r.2 r.6 s.6 r.8 s.8 r.4 r.11 r.13 s.11 (s.13 ∙ v) one in
-        let a2 : r.7 ≡ s.7 = r2.ends_apart r.1 r.3 r.7 s.7 r.9 s.9 r.5 r.12 r.14 s.12 (s.14 ∙ w) two in
+        let a1 : r.6 ≡ s.6 = red1.ends_apart r.0 r.2 r.6 s.6 r.8 s.8 r.4 r.11 r.13 s.11 (s.13 ∙ v) one in
+        let a2 : r.7 ≡ s.7 = red2.ends_apart r.1 r.3 r.7 s.7 r.9 s.9 r.5 r.12 r.14 s.12 (s.14 ∙ w) two in
         spot_once (ends_with agree both) (pair_stop agree both k) A2.stops A1.stops 0 m l (spot s.6 s.7)
         (r.10 ∙ (ap (λ u. Some (spot u r.7)) a1 ∙ ap (λ u. Some (spot s.6 u)) a2)) s.10
 
@@ -449,14 +450,14 @@ module _ (agree : ℕ → ℕ → Bool) (both : ℕ → ℕ → ℕ) where
         let t = state_cases b a at in (
           (λ h.
               let s = numbers_of A1.idle A2.idle k a h in
-              let same = pair_same k s.0 s.1 t.2 t.3 (wa2.idles s.1 s.3) (r2.to_states t.1 t.3 t.7) (s.4 ∙ sym t.8) in
+              let same = pair_same k s.0 s.1 t.2 t.3 (wa2.idles s.1 s.3) (red2.to_states t.1 t.3 t.7) (s.4 ∙ sym t.8) in
               subst (Has B.idle) (sym t.4) (has_number B1.idle B2.idle n t.0 t.1
-              ((r1.idles t.0 t.2 t.6).0 (subst (Has A1.idle) same.0 s.2)) ((r2.idles t.1 t.3 t.7).0 (subst (Has A2.idle) same.1 s.3)))),
+              ((red1.idles t.0 t.2 t.6).0 (subst (Has A1.idle) same.0 s.2)) ((red2.idles t.1 t.3 t.7).0 (subst (Has A2.idle) same.1 s.3)))),
           (λ h.
               let s = numbers_of B1.idle B2.idle n b h in
               let same = pair_same n s.0 s.1 t.0 t.1 (wb2.idles s.1 s.3) t.5 (s.4 ∙ t.4) in
               subst (Has A.idle) t.8 (has_number A1.idle A2.idle k t.2 t.3
-              ((r1.idles t.0 t.2 t.6).1 (subst (Has B1.idle) same.0 s.2)) ((r2.idles t.1 t.3 t.7).1 (subst (Has B2.idle) same.1 s.3)))),
+              ((red1.idles t.0 t.2 t.6).1 (subst (Has B1.idle) same.0 s.2)) ((red2.idles t.1 t.3 t.7).1 (subst (Has B2.idle) same.1 s.3)))),
         )
 
     pub joined : IsReduct A B f g e
@@ -478,9 +479,9 @@ module _ (agree : ℕ → ℕ → Bool) (both : ℕ → ℕ → ℕ) where
     }
 
 pub reduct_of_join : ReductOfJoin
-reduct_of_join agree both A1 B1 A2 B2 wa1 wb1 wa2 wb2 r1 r2 = (
-  state_map agree both B2.states A2.states r1.0 r2.0,
-  way_map agree both (way_spots agree both B1 B2) (way_spots agree both A1 A2) r1.1 r2.1,
-  end_map agree both B2.states (stop_spots agree both B1 B2) (stop_spots agree both A1 A2) r1.2 r2.2,
-  joined agree both A1 B1 A2 B2 wa1 wb1 wa2 wb2 r1.0 r1.1 r2.0 r2.1 r1.2 r2.2 r1.3 r2.3,
+reduct_of_join agree both A1 B1 A2 B2 wa1 wb1 wa2 wb2 red1 red2 = (
+  state_map agree both B2.states A2.states red1.0 red2.0,
+  way_map agree both (way_spots agree both B1 B2) (way_spots agree both A1 A2) red1.1 red2.1,
+  end_map agree both B2.states (stop_spots agree both B1 B2) (stop_spots agree both A1 A2) red1.2 red2.2,
+  joined agree both A1 B1 A2 B2 wa1 wb1 wa2 wb2 red1.0 red1.1 red2.0 red2.1 red1.2 red2.2 red1.3 red2.3,
 )

@@ -11,22 +11,22 @@ use Rattle.marked_automaton.specs.Laws.{AgreeOn, ProjectionLaw}
 use Rattle.algebra.specs.Operations.{moved_way, moved_stop, union_of}
 use Rattle.marked_automaton.specs.Marks.{remarked_way, remarked_stop, remarked}
 use Rattle.algebra.specs.Laws.{UnionLaw}
-use Rattle.algebra.proofs.Steps.{compared}
-use Rattle.algebra.proofs.HasLemmas.{has_left, has_right, has_cases, has_map, map_cases}
-use Rattle.algebra.proofs.Walks.{walk_more, walk_same, walk_stays}
+use Rattle.marked_automaton.proofs.Listed.{compared}
+use Rattle.spanner_model.proofs.HasLaws.{Has-append_left, Has-append_right, Has-append_cases, Has-map, Has-map_cases}
+use Rattle.marked_automaton.proofs.Walks.{walk_more, walk_same, walk_stays}
 
 -- a walk by moved ways
 moved_walk : (k : ℕ) (ways : List Way) (d : List ℕ) (w : ℕ → ℕ) (n i p q : ℕ) → Walk ways d w i n p q → Walk (map (moved_way k) ways) d w i n (k + p) (k + q)
 moved_walk k ways d w zero i p q h = ap (◌+◌ k) h
 moved_walk k ways d w (suc n) i p q h =
-    (moved_way k h.0, has_map (moved_way k) ways h.0 h.1, ap (◌+◌ k) h.2, h.3, h.4, moved_walk k ways d w n (suc i) h.0.to q h.5)
+    (moved_way k h.0, Has-map (moved_way k) ways h.0 h.1, ap (◌+◌ k) h.2, h.3, h.4, moved_walk k ways d w n (suc i) h.0.to q h.5)
 
 -- and back
 walk_moved : (k : ℕ) (ways : List Way) (d : List ℕ) (w : ℕ → ℕ) (n i p q r : ℕ) → r ≡ k + p → Walk (map (moved_way k) ways) d w i n r q →
     (t : ℕ) × (q ≡ k + t) × Walk ways d w i n p t
 walk_moved k ways d w zero i p q r at h = (p, sym h ∙ at, refl)
 walk_moved k ways d w (suc n) i p q r at h =
-    let y = map_cases (moved_way k) ways h.0 h.1 in
+    let y = Has-map_cases (moved_way k) ways h.0 h.1 in
     let from = ap (λ (g : Way). g.from) y.2 in
     let to = ap (λ (g : Way). g.to) y.2 in
     let rest = walk_moved k ways d w n (suc i) y.0.to q h.0.to (sym to) h.5 in (
@@ -40,9 +40,9 @@ module _ (A B : Automaton) (a : IsWhole A) (b : IsWhole B) (d : List ℕ) (w : �
   in_first h = (
     h.0,
     h.1,
-    has_left A.starts (map (◌+◌ A.states) B.starts) h.0 h.2,
-    has_left A.stops (map (moved_stop A.states) B.stops) h.1 h.3,
-    walk_more A.ways (union_of A B).ways d w (has_left A.ways (map (moved_way A.states) B.ways)) (length d) 0 h.0 h.1.state h.4,
+    Has-append_left A.starts (map (◌+◌ A.states) B.starts) h.0 h.2,
+    Has-append_left A.stops (map (moved_stop A.states) B.stops) h.1 h.3,
+    walk_more A.ways (union_of A B).ways d w (Has-append_left A.ways (map (moved_way A.states) B.ways)) (length d) 0 h.0 h.1.state h.4,
     h.5,
   )
 
@@ -50,44 +50,44 @@ module _ (A B : Automaton) (a : IsWhole A) (b : IsWhole B) (d : List ℕ) (w : �
   in_second h = (
     A.states + h.0,
     moved_stop A.states h.1,
-    has_right A.starts (map (◌+◌ A.states) B.starts) (A.states + h.0) (has_map (◌+◌ A.states) B.starts h.0 h.2),
-    has_right A.stops (map (moved_stop A.states) B.stops) (moved_stop A.states h.1) (has_map (moved_stop A.states) B.stops h.1 h.3),
-    walk_more (map (moved_way A.states) B.ways) (union_of A B).ways d w (has_right A.ways (map (moved_way A.states) B.ways)) (length d) 0
+    Has-append_right A.starts (map (◌+◌ A.states) B.starts) (A.states + h.0) (Has-map (◌+◌ A.states) B.starts h.0 h.2),
+    Has-append_right A.stops (map (moved_stop A.states) B.stops) (moved_stop A.states h.1) (Has-map (moved_stop A.states) B.stops h.1 h.3),
+    walk_more (map (moved_way A.states) B.ways) (union_of A B).ways d w (Has-append_right A.ways (map (moved_way A.states) B.ways)) (length d) 0
         (A.states + h.0) (A.states + h.1.state) (moved_walk A.states B.ways d w (length d) 0 h.0 h.1.state h.4),
     h.5,
   )
 
   stays_first : (y : Way) → Has (union_of A B).ways y → y.from < A.states → Has A.ways y × (y.to < A.states)
   stays_first y h l =
-      elim (has_cases A.ways (map (moved_way A.states) B.ways) y h) [
+      elim (Has-append_cases A.ways (map (moved_way A.states) B.ways) y h) [
         | inl x ↦ (x, a.tos y x)
-        | inr x ↦ let r = map_cases (moved_way A.states) B.ways y x in absurd (omega (arith, ap (λ (g : Way). g.from) r.2, l))
+        | inr x ↦ let r = Has-map_cases (moved_way A.states) B.ways y x in absurd (omega (arith, ap (λ (g : Way). g.from) r.2, l))
       ]
 
   stays_second : (y : Way) → Has (union_of A B).ways y → A.states ≤ y.from → Has (map (moved_way A.states) B.ways) y × (A.states ≤ y.to)
   stays_second y h l =
-      elim (has_cases A.ways (map (moved_way A.states) B.ways) y h) [
+      elim (Has-append_cases A.ways (map (moved_way A.states) B.ways) y h) [
         | inl x ↦ absurd (omega (arith, a.froms y x, l))
-        | inr x ↦ let r = map_cases (moved_way A.states) B.ways y x in (x, omega (arith, ap (λ (g : Way). g.to) r.2))
+        | inr x ↦ let r = Has-map_cases (moved_way A.states) B.ways y x in (x, omega (arith, ap (λ (g : Way). g.to) r.2))
       ]
 
   of_union : Accepts (union_of A B) d w → Accepts A d w ⊎ Accepts B d w
   of_union h =
-      elim (has_cases A.starts (map (◌+◌ A.states) B.starts) h.0 h.2) [
+      elim (Has-append_cases A.starts (map (◌+◌ A.states) B.starts) h.0 h.2) [
         | inl s ↦
             let r = walk_stays A.ways (union_of A B).ways (λ x. x < A.states) d w stays_first (length d) 0 h.0 h.1.state (a.starts h.0 s) h.4 in
-            elim (has_cases A.stops (map (moved_stop A.states) B.stops) h.1 h.3) [
+            elim (Has-append_cases A.stops (map (moved_stop A.states) B.stops) h.1 h.3) [
               | inl x ↦ inl (h.0, h.1, s, x, r.0, h.5)
-              | inr x ↦ let m = map_cases (moved_stop A.states) B.stops h.1 x in absurd (omega (arith, ap (λ (g : Stop). g.state) m.2, r.1))
+              | inr x ↦ let m = Has-map_cases (moved_stop A.states) B.stops h.1 x in absurd (omega (arith, ap (λ (g : Stop). g.state) m.2, r.1))
             ]
         | inr s ↦
-            let p = map_cases (◌+◌ A.states) B.starts h.0 s in
+            let p = Has-map_cases (◌+◌ A.states) B.starts h.0 s in
             let r = walk_stays (map (moved_way A.states) B.ways) (union_of A B).ways (λ x. A.states ≤ x) d w stays_second (length d) 0 h.0 h.1.state (omega (arith, p.2)) h.4 in
             let t = walk_moved A.states B.ways d w (length d) 0 p.0 h.1.state h.0 (sym p.2) r.0 in
-            elim (has_cases A.stops (map (moved_stop A.states) B.stops) h.1 h.3) [
+            elim (Has-append_cases A.stops (map (moved_stop A.states) B.stops) h.1 h.3) [
               | inl x ↦ absurd (omega (arith, a.stops h.1 x, r.1))
               | inr x ↦
-                  let m = map_cases (moved_stop A.states) B.stops h.1 x in
+                  let m = Has-map_cases (moved_stop A.states) B.stops h.1 x in
                   let same : t.0 ≡ m.0.state = omega (arith, ap (λ (g : Stop). g.state) m.2, t.1) in
                   inr (p.0, m.0, p.1, m.1, subst (λ x. Walk B.ways d w 0 (length d) p.0 x) same t.2, ap (λ (g : Stop). g.marks) m.2 ∙ h.5)
             ]
@@ -105,7 +105,7 @@ module _ (e : ℕ → ℕ) (ways : List Way) (d : List ℕ) where
   remarked_walk w v zero i p q same h = h
   remarked_walk w v (suc n) i p q same h = (
     remarked_way e h.0,
-    has_map (remarked_way e) ways h.0 h.1,
+    Has-map (remarked_way e) ways h.0 h.1,
     h.2,
     ap e h.3 ∙ sym (same i (omega arith) (omega arith)),
     h.4,
@@ -116,7 +116,7 @@ module _ (e : ℕ → ℕ) (ways : List Way) (d : List ℕ) where
       (v : ℕ → ℕ) × Walk ways d v i n p q × ((r : ℕ) → i ≤ r → r < i + n → w r ≡ e (v r))
   walk_remarked w zero i p q h = (w, h, λ r l u. absurd (omega (arith, l, u)))
   walk_remarked w (suc n) i p q h =
-      let y = map_cases (remarked_way e) ways h.0 h.1 in
+      let y = Has-map_cases (remarked_way e) ways h.0 h.1 in
       let rest = walk_remarked w n (suc i) h.0.to q h.5 in
       let v : ℕ → ℕ = put rest.0 i y.0.marks in
       let here : v i ≡ y.0.marks = ap (λ b. if b then y.0.marks else rest.0 i) (eq-eqb i i refl) in
@@ -144,7 +144,7 @@ module _ (e : ℕ → ℕ) (ways : List Way) (d : List ℕ) where
 module _ (A : Automaton) (e : ℕ → ℕ) (d : List ℕ) (w : ℕ → ℕ) where
   of_remarked : Accepts (remarked e A) d w → (v : ℕ → ℕ) × Accepts A d v × AgreeOn d w (λ p. e (v p))
   of_remarked h =
-      let x = map_cases (remarked_stop e) A.stops h.1 h.3 in
+      let x = Has-map_cases (remarked_stop e) A.stops h.1 h.3 in
       let r = walk_remarked e A.ways d w (length d) 0 h.0 h.1.state h.4 in
       let v : ℕ → ℕ = put r.0 (length d) x.0.marks in
       let here : v (length d) ≡ x.0.marks = ap (λ b. if b then x.0.marks else r.0 (length d)) (eq-eqb (length d) (length d) refl) in
@@ -175,7 +175,7 @@ module _ (A : Automaton) (e : ℕ → ℕ) (d : List ℕ) (w : ℕ → ℕ) wher
         a.0,
         remarked_stop e a.1,
         a.2,
-        has_map (remarked_stop e) A.stops a.1 a.3,
+        Has-map (remarked_stop e) A.stops a.1 a.3,
         remarked_walk e A.ways d w h.0 (length d) 0 a.0 a.1.state (λ r l u. h.2 r (omega (arith, u))) a.4,
         ap e a.5 ∙ sym (h.2 (length d) (omega arith)),
       )

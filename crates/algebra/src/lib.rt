@@ -10,3 +10,5 @@ mod moved;
 mod operations;
 mod pairs;
 mod renaming;
+#[cfg(test)]
+mod tests;

@@ -49,20 +49,20 @@ module _ (names keep : List VarName) (places : List ℕ) (ascending : Ascending 
         starts ≡ B.starts → idle ≡ old_idle → B.idle ≡ flagged 0 old_idle → ways2 ≡ map (remarked_way (picked all places)) ways → stops2 ≡ map (remarked_stop (picked all places)) stops →
         graph_of B.states starts ways2 stops2 idle ≡ remarked (left_of names keep) B
     erased_graph all ways ways2 stops stops2 starts idle old_idle n a b s i f w t =
-        let w2 : ways2 ≡ map (remarked_way (picked (length names) places)) B.ways =
+        let q2 : ways2 ≡ map (remarked_way (picked (length names) places)) B.ways =
         w ∙ (ap (λ v. map (remarked_way (picked v places)) ways) n ∙ ap (map (remarked_way (picked (length names) places))) a) in
         let t2 : stops2 ≡ map (remarked_stop (picked (length names) places)) B.stops =
         t ∙ (ap (λ v. map (remarked_stop (picked v places)) stops) n ∙ ap (map (remarked_stop (picked (length names) places))) b) in
-        let w3 : map (remarked_way (picked (length names) places)) B.ways ≡ map (remarked_way left) B.ways =
+        let q3 : map (remarked_way (picked (length names) places)) B.ways ≡ map (remarked_way left) B.ways =
         map_same (remarked_way (picked (length names) places)) (remarked_way left) B.ways
         (λ y h. let to : ℕ → Way = λ m. record { from = y.from; marks = m; bytes = y.bytes; to = y.to } in ap to (left_is y.marks (marked.way_marks y h))) in
         let t3 : map (remarked_stop (picked (length names) places)) B.stops ≡ map (remarked_stop left) B.stops =
         map_same (remarked_stop (picked (length names) places)) (remarked_stop left) B.stops
         (λ x h. let to : ℕ → Stop = λ m. record { state = x.state; marks = m } in ap to (left_is x.marks (marked.stop_marks x h))) in
-        let w4 : ways2 ≡ map (remarked_way left) B.ways = w2 ∙ w3 in
+        let q4 : ways2 ≡ map (remarked_way left) B.ways = q2 ∙ q3 in
         let t4 : stops2 ≡ map (remarked_stop left) B.stops = t2 ∙ t3 in
         let i2 : flagged 0 idle ≡ B.idle = ap (flagged 0) i ∙ sym f in
-        λ k. record { states = B.states; starts = s k; ways = w4 k; stops = t4 k; idle = i2 k }
+        λ k. record { states = B.states; starts = s k; ways = q4 k; stops = t4 k; idle = i2 k }
 
     pub erased_marked : IsMarked (record { names = keep; graph = remarked (left_of names keep) B })
     erased_marked = record {

@@ -32,8 +32,8 @@ module _ (P : ℕ → Type 0) where
     work = refl;
   }
 
-  pub grows_then : (f1 f2 f3 : List Bool) (w1 w2 w3 : List ℕ) → Grows P f1 w1 f2 w2 → Grows P f2 w2 f3 w3 → Grows P f1 w1 f3 w3
-  grows_then f1 f2 f3 w1 w2 w3 a b = record {
+  pub grows_then : (f1 f2 f3 : List Bool) (q1 q2 q3 : List ℕ) → Grows P f1 q1 f2 q2 → Grows P f2 q2 f3 q3 → Grows P f1 q1 f3 q3
+  grows_then f1 f2 f3 q1 q2 q3 a b = record {
     len = b.len ∙ a.len;
     kept = λ p h. b.kept p (a.kept p h);
     only = λ p h. elim (b.only p h) [ inl x ↦ a.only p x | inr y ↦ inr y ];
@@ -49,8 +49,8 @@ module _ (P : ℕ → Type 0) where
     work = b.work ∙ a.work;
   }
 
-pub grows_weaker : (P Q : ℕ → Type 0) → ((p : ℕ) → P p → Q p) → (f1 f2 : List Bool) (w1 w2 : List ℕ) → Grows P f1 w1 f2 w2 → Grows Q f1 w1 f2 w2
-grows_weaker P Q sub f1 f2 w1 w2 a = record {
+pub grows_weaker : (P Q : ℕ → Type 0) → ((p : ℕ) → P p → Q p) → (f1 f2 : List Bool) (q1 q2 : List ℕ) → Grows P f1 q1 f2 q2 → Grows Q f1 q1 f2 q2
+grows_weaker P Q sub f1 f2 q1 q2 a = record {
   len = a.len;
   kept = a.kept;
   only = λ p h. elim (a.only p h) [ inl x ↦ inl x | inr y ↦ inr (sub p y) ];
@@ -102,18 +102,18 @@ module _ (edges : List Edge) (seeds : List ℕ) where
   }
 
   -- one that waited is followed
-  pub search_more : (f1 f2 : List Bool) (w1 w2 : List ℕ) (node : ℕ) (some : List Edge) →
+  pub search_more : (f1 f2 : List Bool) (q1 q2 : List ℕ) (node : ℕ) (some : List Edge) →
       ((e : Edge) → Has some e → Has edges e × (e.from ≡ node)) → ((e : Edge) → Has edges e → e.from ≡ node → Has some e) →
-      IsSearch edges seeds f1 (w1 ++ node ∷ []) → Grows (LeadsHere some) f1 w1 f2 w2 → ((e : Edge) → Has some e → IsFlagged f2 e.to) →
-      IsSearch edges seeds f2 w2
-  search_more f1 f2 w1 w2 node some within all s g found = record {
+      IsSearch edges seeds f1 (q1 ++ node ∷ []) → Grows (LeadsHere some) f1 q1 f2 q2 → ((e : Edge) → Has some e → IsFlagged f2 e.to) →
+      IsSearch edges seeds f2 q2
+  search_more f1 f2 q1 q2 node some within all s g found = record {
     sound = λ p h. elim (g.only p h) [ inl x ↦ s.sound p x | inr y ↦ reach p y ];
     seeded = λ p h. g.kept p (s.seeded p h);
-    flagged = λ p h. elim (g.flagged p h) [ inl x ↦ g.kept p (s.flagged p (Has-append_left w1 (node ∷ []) p x)) | inr y ↦ y ];
+    flagged = λ p h. elim (g.flagged p h) [ inl x ↦ g.kept p (s.flagged p (Has-append_left q1 (node ∷ []) p x)) | inr y ↦ y ];
     closed = λ e h from. elim (g.new_waits e.from from) [
       | inl x ↦ elim (s.closed e h x) [
         | inl to ↦ inl (g.kept e.to to)
-        | inr waits ↦ elim (Has-append_cases w1 (node ∷ []) e.from waits) [
+        | inr waits ↦ elim (Has-append_cases q1 (node ∷ []) e.from waits) [
           | inl a ↦ inr (g.waits e.from a)
           | inr b ↦ elim b [ inl at ↦ inl (found e (all e h (sym at))) | inr n ↦ absurd n ]
         ]
@@ -123,7 +123,7 @@ module _ (edges : List Edge) (seeds : List ℕ) where
   }
     where
       here : Reaches edges seeds node
-      here = s.sound node (s.flagged node (Has-append_right w1 (node ∷ []) node (inl refl)))
+      here = s.sound node (s.flagged node (Has-append_right q1 (node ∷ []) node (inl refl)))
 
       reach : (p : ℕ) → LeadsHere some p → Reaches edges seeds p
       reach p y =

@@ -199,10 +199,10 @@ pub reversed_graph : (A : Automaton) (stops : List Stop) (ways : List Way) (star
     stops2 ≡ map plain_stop starts → idle ≡ replicate A.states false → graph_of A.states starts2 ways2 stops2 idle ≡ reversed A
 reversed_graph A stops ways starts starts2 ways2 stops2 idle a b c s w t i =
     let s2 : starts2 ≡ map (λ (x : Stop). x.state) A.stops = s ∙ ap (map (λ (x : Stop). x.state)) a in
-    let w2 : ways2 ≡ map turned_way A.ways = w ∙ ap (map turned_way) b in
+    let q2 : ways2 ≡ map turned_way A.ways = w ∙ ap (map turned_way) b in
     let t2 : stops2 ≡ map plain_stop A.starts = t ∙ ap (map plain_stop) c in
     let f : flagged 0 idle ≡ [] = ap (flagged 0) i ∙ flagged_none 0 A.states in
-    λ k. record { states = A.states; starts = s2 k; ways = w2 k; stops = t2 k; idle = f k }
+    λ k. record { states = A.states; starts = s2 k; ways = q2 k; stops = t2 k; idle = f k }
 
 -- the same parts make the same automaton
 pub copied : (names names2 : List (List ℕ)) (n : ℕ) (starts starts2 : List ℕ) (ways ways2 : List Way) (stops stops2 : List Stop) (idle idle2 : List Bool) →

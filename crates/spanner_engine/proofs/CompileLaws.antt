@@ -15,7 +15,7 @@ use Rattle.spanner_model.specs.Answer.{VarOf, Answer, vars_of_lets, answers_of_l
 use Rattle.spanner_model.specs.Sound.{IsSound, IsSoundExpr, AreUnited, AgreesWithParts, NameIn, NameInLets, NameOf}
 use Rattle.spanner_model.proofs.Deciding.{told_lets}
 use Rattle.spanner_model.proofs.ExprLaws.{union_part, join_part, var_named, lets_named}
-use Rattle.spanner_model.proofs.HasLaws.{Has-slice_get, Has-append_left, Has-append_cases, distinct-le}
+use Rattle.spanner_model.proofs.HasLaws.{Has-slice_get, Has-append_left, Has-append_cases, Has-map_cases, distinct-le}
 use Rattle.spanner_model.proofs.NameLaws.{ascending-distinct, same_names}
 use Rattle.spanner_model.proofs.TreeLaws.{take_at_more}
 use Rattle.marked_automaton.specs.declared.way.Way.{Way}
@@ -31,7 +31,7 @@ use Rattle.algebra.specs.JoinedMarks.{agree_on, joined}
 use Rattle.algebra.specs.JoinedNames.{all_names}
 use Rattle.algebra.specs.Operations.{union_of, join_of, goes_with, pair_way, has_some, meet, moved_way}
 use Rattle.algebra.proofs.Bytes.{right_true, some_has}
-use Rattle.algebra.proofs.HasLemmas.{map_cases, flat_map_cases}
+use Rattle.algebra.proofs.HasLemmas.{flat_map_cases}
 use Rattle.algebra.proofs.Joins.{filter_cases}
 use Rattle.algebra.proofs.ReductJoins.{reduct_of_join}
 use Rattle.algebra.proofs.ReductUnions.{reduct_of_union}
@@ -141,7 +141,7 @@ pub record JoinSoFar (L : ℕ → Marked) (es : List ExprTree) (k : ℕ) (a : Ma
 join_bytes : (agree : ℕ → ℕ → Bool) (both : ℕ → ℕ → ℕ) (A B : Automaton) → WaysHaveBytes (join_of agree both A B)
 join_bytes agree both A B y h e =
     let r = flat_map_cases (λ x. map (pair_way agree both B.states x) (filter (goes_with agree both x) B.ways)) A.ways y h in
-    let s = map_cases (pair_way agree both B.states r.0) (filter (goes_with agree both r.0) B.ways) y r.2 in
+    let s = Has-map_cases (pair_way agree both B.states r.0) (filter (goes_with agree both r.0) B.ways) y r.2 in
     let go = (filter_cases (goes_with agree both r.0) B.ways s.0 s.1).1 in
     let some = some_has (meet r.0.bytes s.0.bytes) (right_true (agree r.0.marks s.0.marks) (has_some (meet r.0.bytes s.0.bytes)) go) in
     let here : HasByte set.empty some.0 = subst (λ (b : ByteClass). HasByte b some.0) (ap (λ (g : Way). g.bytes) s.2 ∙ e) some.1 in

@@ -1,6 +1,6 @@
 -- What is made of atoms, names, projections and lets when they are compiled.
 use Rattle.std.proofs.Common.{◌≡◌, ℕ, zero, suc, ◌<◌, ◌≤◌, ◌⊎◌, ◌↔◌, Bool, List, [], ◌∷◌, ◌++◌, length, length-append, Some, inl, inr, refl, sym, ap, subst, arith, ◌∙◌}
-use Rattle.std.specs.Prelude.{slice_get, if◌then◌else◌, min, ◌-◌, ◌^◌}
+use Rattle.std.specs.Prelude.{slice_get, if◌then◌else◌, ◌-◌, ◌^◌}
 use Rattle.std.proofs.Math.Nat.{min-le_left}
 use Rattle.std.proofs.lemmas.Bool.{eq-eqb, ne_eqb, cases_lt}
 use Rattle.span_core.specs.NameSets.{Ascending}

@@ -1,5 +1,5 @@
 -- What the automaton of a query accepts.
-use Rattle.std.proofs.Common.{◌≡◌, ℕ, zero, suc, ◌<◌, ◌≤◌, ◌⊎◌, ◌↔◌, Bool, true, false, List, [], ◌∷◌, length, Option, Some, None, inl, inr, refl, sym, arith, ◌∙◌}
+use Rattle.std.proofs.Common.{◌≡◌, ℕ, zero, suc, ◌<◌, ◌≤◌, ◌⊎◌, ◌↔◌, Bool, true, false, List, [], ◌∷◌, length, Option, Some, None, inl, inr, refl, sym, subst, arith, ◌∙◌}
 use Rattle.std.specs.Prelude.{slice_get, nat_eq, MatchBool, if◌then◌else◌}
 use Rattle.std.specs.Option.{IsSomeAnd, ForSome}
 use Rattle.std.proofs.lemmas.Bool.{eqb-false, cases_lt}
@@ -23,7 +23,9 @@ use Rattle.place_automaton.proofs.CountLaws.{functional_sequential}
 use Rattle.place_automaton.proofs.BuiltRepeats.{ordered_repeats}
 use Rattle.place_automaton.proofs.WholeLaws.{whole_law}
 use Rattle.spanner_engine.specs.Kept.{KeepsInOrder, QueryKeepsInOrder}
-use Rattle.spanner_engine.specs.Laws.{QueryWords}
+use Rattle.marked_automaton.specs.Reduct.{ReducesMarked}
+use Rattle.marked_automaton.proofs.ReductWords.{reduct_accepts}
+use Rattle.spanner_engine.specs.Laws.{AcceptsAnswersOf, QueryWords}
 use Rattle.spanner_engine.specs.QueryAutomaton.{with_vars, of_atom, of_union, of_join, automaton_of, united, together, of_lets, of_one_let, of_query}
 use Rattle.spanner_engine.proofs.Ends.{answer_ends}
 use Rattle.spanner_engine.proofs.Names.{vars_ascend, vars_are}
@@ -239,4 +241,18 @@ query_for q s kept d bytes =
 pub query_words : QueryWords
 query_words q s kept =
     let some = query_for q s kept [] (λ i b e. absurd (cc)) in
-    ((some.ascending, some.names), some.whole, λ d bytes. (query_for q s kept d bytes).words)
+    (((some.ascending, some.names), λ d bytes. (query_for q s kept d bytes).words), some.whole)
+
+-- and so does what reduces it
+pub words_of_reduct : (q : QueryTree) → IsSound q → QueryKeepsInOrder q → (A : Marked) → ReducesMarked A (of_query q) → AcceptsAnswersOf q A
+words_of_reduct q s kept A r =
+    let B = of_query q in
+    let of = (query_words q s kept).0 in
+    let names : B.names ≡ A.names = sym r.0 in
+    let same : AcceptsAnswersOf q (record { names = A.names; graph = B.graph }) = subst (λ (ns : List VarName). AcceptsAnswersOf q (record { names = ns; graph = B.graph })) names of in (
+      same.0,
+      λ d bytes w. (
+        λ h. (same.1 d bytes w).0 ((reduct_accepts A.graph B.graph r.1 d w).0 h),
+        λ h. (reduct_accepts A.graph B.graph r.1 d w).1 ((same.1 d bytes w).1 h),
+      ),
+    )

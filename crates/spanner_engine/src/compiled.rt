@@ -3,6 +3,7 @@ ghost use Rattle.std.specs.Prelude.{◌≡◌, ℕ, List, IfOk, IfErr, OnOk};
 ghost use Rattle.spanner_model.specs.ExprView.{query_of};
 ghost use Rattle.spanner_model.specs.Sound.{IsSound};
 ghost use Rattle.marked_automaton.specs.Reduct.{ReducesMarked};
+ghost use Rattle.spanner_engine.specs.Laws.{AcceptsAnswersOf};
 ghost use Rattle.spanner_engine.specs.Kept.{QueryKeepsInOrder};
 ghost use Rattle.spanner_engine.specs.Parts.{AtomsAreSmall, HasLargePart};
 ghost use Rattle.spanner_engine.specs.QueryAutomaton.{of_query};
@@ -27,10 +28,11 @@ pub struct Compiled<'q> {
 /// leads to no end. `States` and `Ways` come only where the automaton of some part of the query, with
 /// nothing left out, has more states than `MOST_STATES`, or more ways than `MOST_WAYS`: the count that
 /// they tell is more than that, and no more than the part's number. An atom that is too large is always
-/// refused.
+/// refused. The automaton accepts the word of a row exactly where the row is an answer, and no other word.
 pub fn compile<'q>(alloc: Global, query: &'q Query) -> Result<Compiled<'q>, SizeFault>
     requires { IsSound (query_of query.now) }
     ensures made { IfOk result (λ c. ReducesMarked c.automaton (of_query (query_of query.now))) }
+    ensures words { IfOk result (λ c. AcceptsAnswersOf (query_of query.now) c.automaton) }
     ensures query { IfOk result (λ c. c.query.now ≡ query.now) }
     ensures kept { OnOk result (QueryKeepsInOrder (query_of query.now)) }
     ensures small { OnOk result (AtomsAreSmall (query_of query.now)) }
@@ -51,6 +53,13 @@ pub fn compile<'q>(alloc: Global, query: &'q Query) -> Result<Compiled<'q>, Size
 }
 
 impl<'q> Compiled<'q> {
+    /// The automaton.
+    pub fn automaton(&self) -> &Automaton
+        ensures { result.now ≡ self.now.automaton }
+    {
+        &self.automaton
+    }
+
     /// The variables of the query's result.
     pub fn vars(&self) -> &VarSet
         ensures { result.now ≡ self.now.automaton.names }

@@ -29,12 +29,12 @@ returns-clause-exactly c =
     let seeds = c.args.seeds.now in
     let p = permutation_placed old sorted c.sort_unstable_by_key.ensures.permutation in
     let f1 = c.find_all.new.self.found.items in
-    let w1 = c.find_all.new.self.waiting.items in
+    let q1 = c.find_all.new.self.waiting.items in
     let f2 = c.follow_all.new.self.found.items in
     let g0 = c.in_ok-find_all.ensures.grows in
-    let g1 = subst (λ f. Grows (Has seeds) f c.in_ok-search.search.waiting.items f1 w1) c.in_ok-search.ensures.found g0 in
-    let g = subst (λ w. Grows (Has seeds) (replicate c.args.nodes false) w f1 w1) c.in_ok-search.ensures.waiting g1 in
-    let start = search_starts c.as_slice.result.now seeds c.args.nodes f1 w1 g c.in_ok-find_all.ensures.found in
+    let g1 = subst (λ f. Grows (Has seeds) f c.in_ok-search.search.waiting.items f1 q1) c.in_ok-search.ensures.found g0 in
+    let g = subst (λ w. Grows (Has seeds) (replicate c.args.nodes false) w f1 q1) c.in_ok-search.ensures.waiting g1 in
+    let start = search_starts c.as_slice.result.now seeds c.args.nodes f1 q1 g c.in_ok-find_all.ensures.found in
     let last : IsSearch sorted seeds f2 [] = subst (λ es. IsSearch es seeds f2 []) c.as_slice.ensures.value (c.in_ok-follow_all.ensures.search seeds start) in
     λ q. (
       (λ h. let r = last.sound q h in (r.0, reaches_more sorted old seeds (has_placed old sorted p.0 p.1) r.0 q r.1)),

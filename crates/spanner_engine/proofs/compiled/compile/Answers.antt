@@ -9,6 +9,7 @@ use Rattle.spanner_engine.specs.Compiling.{AreCompiled, IsAsked, IsCompiledFrom}
 use Rattle.spanner_engine.specs.Parts.{HasLargePartOf}
 use Rattle.spanner_engine.specs.QueryAutomaton.{automaton_of, of_lets}
 use Rattle.spanner_engine.proofs.PieceLaws.{none_compiled, one_more, asked_let, asked_body, lets_keep}
+use Rattle.spanner_engine.proofs.QueryWords.{words_of_reduct}
 use Rattle.spanner_engine.proofs.compiled.compile.Goals as goal
 
 pub loop-k-init : goal.loop-k-init
@@ -80,3 +81,12 @@ returns-clause-fault c =
     let long : length c.deref-2.result.now ≡ length q.lets =
     omega (arith, ap length c.deref-2.ensures.value, c.loop-k.invariant.0, c.loop-k-test.false, c.loop-k.auto.k-end, c.len-k-end.ensures) in
     inr (subst (λ n. HasLargePartOf (of_lets q.lets n) q.body c.in-Err-expr_automaton.fault) long c.in-Err-expr_automaton.ensures.fault)
+
+pub returns-in-Ok-expr_automaton-clause-words : goal.returns-in-Ok-expr_automaton-clause-words
+returns-in-Ok-expr_automaton-clause-words c =
+    let q = query_of c.args.query.now in
+    let long : length c.deref-2.result.now ≡ length q.lets =
+    omega (arith, ap length c.deref-2.ensures.value, c.loop-k.invariant.0, c.loop-k-test.false, c.loop-k.auto.k-end, c.len-k-end.ensures) in
+    let all : length c.loop-k.lets.items ≡ length q.lets = omega (arith, c.loop-k.invariant.0, c.loop-k-test.false, c.loop-k.auto.k-end, c.len-k-end.ensures) in
+    words_of_reduct q c.requires (λ l h. (lets_keep q c.loop-k.lets.items c.loop-k.invariant.1 all l h).0, c.in-Ok-expr_automaton.ensures.made.keeps) c.in-Ok-expr_automaton.automaton
+    (subst (λ n. ReducesMarked c.in-Ok-expr_automaton.automaton (automaton_of (of_lets q.lets n) q.body)) long c.in-Ok-expr_automaton.ensures.made.reduces)

@@ -1,0 +1,222 @@
+//! Small automata, put together by hand.
+ghost use Rattle.std.specs.Prelude.{◌≡◌, ◌+◌, ◌*◌, ◌^◌, ◌<◌, ◌≤◌, ◌↔◌, [], length, IfOk, IsTrue};
+ghost use Rattle.span_core.specs.declared.TheConstants.{MOST_VARIABLES};
+
+use crate::{join, project, union};
+use marked_automaton::{Automaton, SizeFault, Stop, Way};
+use span_core::{ByteSet, MOST_VARIABLES, Marks, Name, Row, Span, VarSet};
+use std::alloc::Global;
+
+/// Whether the markers are of so many variables.
+fn fits(marks: Marks, variables: usize) -> bool
+    requires { variables ≤ MOST_VARIABLES }
+    ensures { IsTrue result ↔ (marks < 2 ^ (2 * variables)) }
+{
+    u64::from(marks.number()) < 1 << (2 * variables)
+}
+
+/// The set of this one name.
+fn named(name: &[u8]) -> VarSet {
+    let mut vars = VarSet::empty();
+    if let Some(name) = Name::read(name) {
+        vars.add(name);
+    }
+    vars
+}
+
+/// Reads one byte from `low` to `high`, with these markers before it and behind it.
+fn reading(
+    alloc: Global,
+    vars: VarSet,
+    before: Marks,
+    low: u8,
+    high: u8,
+    behind: Marks,
+) -> Result<Automaton, SizeFault>
+    requires { low ≤ high }
+    ensures { IfOk result (λ a. a.names ≡ vars) }
+{
+    let variables = vars.len();
+    let bytes = ByteSet::range(low, high);
+    let good = fits(before, variables) && fits(behind, variables) && !bytes.is_empty();
+    let mut automaton = Automaton::new(alloc, vars, 2)?;
+    if good {
+        automaton.add_way(Way {
+            from: 0,
+            marks: before,
+            bytes,
+            to: 1,
+        })?;
+        automaton.add_start(0)?;
+        automaton.add_stop(Stop {
+            state: 1,
+            marks: behind,
+        })?;
+    }
+    Ok(automaton)
+}
+
+/// Reads one byte from `low` to `high`, over no variable.
+fn plain(alloc: Global, low: u8, high: u8) -> Result<Automaton, SizeFault>
+    requires { low ≤ high }
+    ensures { IfOk result (λ a. a.names ≡ []) }
+{
+    reading(
+        alloc,
+        VarSet::empty(),
+        Marks::none(),
+        low,
+        high,
+        Marks::none(),
+    )
+}
+
+/// Captures the byte a as the one variable.
+fn byte_captured(alloc: Global, name: &[u8]) -> Result<Automaton, SizeFault> {
+    reading(
+        alloc,
+        named(name),
+        Marks::opening(0, 1),
+        b'a',
+        b'a',
+        Marks::closing(0, 1),
+    )
+}
+
+/// Captures the empty part before the byte a as the one variable.
+fn nothing_captured(alloc: Global, name: &[u8]) -> Result<Automaton, SizeFault> {
+    reading(
+        alloc,
+        named(name),
+        Marks::opening(0, 1).with(Marks::closing(0, 1)),
+        b'a',
+        b'a',
+        Marks::none(),
+    )
+}
+
+/// The join, where its variables are surely not too many.
+#[tactic(auto, using(crate::proofs::NamesLaws::all_few))]
+fn joined(alloc: Global, a: &Automaton, b: &Automaton) -> Result<Automaton, SizeFault> {
+    if a.vars().len() + b.vars().len() > MOST_VARIABLES {
+        return Err(SizeFault::OutOfMemory);
+    }
+    join(alloc, a, b)
+}
+
+/// Whether the automaton of no variable accepts the document.
+fn accepts(automaton: &Automaton, alloc: Global, doc: &[u8]) -> Result<bool, SizeFault> {
+    if automaton.vars().len() > 0 {
+        return Ok(false);
+    }
+    Ok(automaton.accepts(alloc, &Row::empty(), doc)?)
+}
+
+/// Whether the automaton of one variable accepts the document with this span.
+fn captures(
+    automaton: &Automaton,
+    alloc: Global,
+    span: Span,
+    doc: &[u8],
+) -> Result<bool, SizeFault> {
+    let mut row = Row::empty();
+    row.push(span);
+    if automaton.vars().len() != 1 || span.end as usize > doc.len() {
+        return Ok(false);
+    }
+    Ok(automaton.accepts(alloc, &row, doc)?)
+}
+
+/// Whether the automaton of two variables accepts the document with these spans.
+fn captures_both(
+    automaton: &Automaton,
+    alloc: Global,
+    x: Span,
+    y: Span,
+    doc: &[u8],
+) -> Result<bool, SizeFault> {
+    let mut row = Row::empty();
+    row.push(x);
+    row.push(y);
+    if automaton.vars().len() != 2 {
+        return Ok(false);
+    }
+    if x.end as usize > doc.len() || y.end as usize > doc.len() {
+        return Ok(false);
+    }
+    Ok(automaton.accepts(alloc, &row, doc)?)
+}
+
+#[test]
+fn unions_accept_what_a_part_accepts(rt: HostRuntime) -> Result<(), SizeFault> {
+    let a = plain(rt.alloc(), b'a', b'a')?;
+    let b = plain(rt.alloc(), b'b', b'b')?;
+    let both = union(rt.alloc(), &a, &b)?;
+    assert_eq!(rt; both.states(), 4);
+    assert!(rt; accepts(&both, rt.alloc(), b"a")?);
+    assert!(rt; accepts(&both, rt.alloc(), b"b")?);
+    assert!(rt; !accepts(&both, rt.alloc(), b"c")?);
+    assert!(rt; !accepts(&both, rt.alloc(), b"ab")?);
+    Ok(())
+}
+
+#[test]
+fn unions_are_refused_at_the_limit(rt: HostRuntime) -> Result<(), SizeFault> {
+    let a = Automaton::new(rt.alloc(), VarSet::empty(), 10_000)?;
+    let b = Automaton::new(rt.alloc(), VarSet::empty(), 10_000)?;
+    let more = Automaton::new(rt.alloc(), VarSet::empty(), 10_001)?;
+    assert_eq!(rt; union(rt.alloc(), &a, &b)?.states(), 20_000);
+    assert_eq!(rt;
+        union(rt.alloc(), &a, &more).err(),
+        Some(SizeFault::States { count: 20_001 })
+    );
+    Ok(())
+}
+
+#[test]
+fn joins_read_what_both_read(rt: HostRuntime) -> Result<(), SizeFault> {
+    let a = plain(rt.alloc(), b'a', b'b')?;
+    let b = plain(rt.alloc(), b'b', b'c')?;
+    let both = joined(rt.alloc(), &a, &b)?;
+    assert_eq!(rt; both.states(), 2);
+    assert!(rt; accepts(&both, rt.alloc(), b"b")?);
+    assert!(rt; !accepts(&both, rt.alloc(), b"a")?);
+    assert!(rt; !accepts(&both, rt.alloc(), b"c")?);
+    Ok(())
+}
+
+#[test]
+fn joins_agree_on_shared_variables(rt: HostRuntime) -> Result<(), SizeFault> {
+    let a = byte_captured(rt.alloc(), b"x")?;
+    let b = nothing_captured(rt.alloc(), b"x")?;
+    let alike = joined(rt.alloc(), &a, &a)?;
+    assert!(rt; captures(&alike, rt.alloc(), Span::new(0, 1), b"a")?);
+    assert!(rt; !captures(&alike, rt.alloc(), Span::new(0, 0), b"a")?);
+    let apart = joined(rt.alloc(), &a, &b)?;
+    assert_eq!(rt; apart.ways().len(), 0);
+    assert!(rt; !captures(&apart, rt.alloc(), Span::new(0, 1), b"a")?);
+    Ok(())
+}
+
+#[test]
+fn joins_have_the_variables_of_both(rt: HostRuntime) -> Result<(), SizeFault> {
+    let x = byte_captured(rt.alloc(), b"x")?;
+    let y = nothing_captured(rt.alloc(), b"y")?;
+    let both = joined(rt.alloc(), &y, &x)?;
+    let (byte, nothing) = (Span::new(0, 1), Span::new(0, 0));
+    assert!(rt; captures_both(&both, rt.alloc(), byte, nothing, b"a")?);
+    assert!(rt; !captures_both(&both, rt.alloc(), nothing, byte, b"a")?);
+    let again = joined(rt.alloc(), &both, &x)?;
+    assert!(rt; captures_both(&again, rt.alloc(), byte, nothing, b"a")?);
+    assert!(rt; !captures_both(&again, rt.alloc(), nothing, nothing, b"a")?);
+    Ok(())
+}
+
+#[test]
+fn projections_forget_variables(rt: HostRuntime) -> Result<(), SizeFault> {
+    let x = byte_captured(rt.alloc(), b"x")?;
+    let bare = project(rt.alloc(), &x, &VarSet::empty())?;
+    assert!(rt; accepts(&bare, rt.alloc(), b"a")?);
+    assert!(rt; !accepts(&bare, rt.alloc(), b"b")?);
+    Ok(())
+}
