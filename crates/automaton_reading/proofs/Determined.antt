@@ -11,8 +11,8 @@ use Rattle.marked_automaton.specs.declared.way.Stop.{Stop}
 use Rattle.marked_automaton.specs.Automaton.{Automaton, HasByte, Walk}
 use Rattle.automaton_reading.specs.Chosen.{EndsWith, IsReadFrom, ReadingLaw}
 use Rattle.automaton_reading.specs.Reading.{put_up, put_down, set_of, blocks_down, is_among, Reach, byte_read, ways_taken, reach_with, edges}
-use Rattle.automaton_reading.proofs.Lists.{has_map, map_cases}
-use Rattle.automaton_reading.proofs.Lists.{filter_cases, has_filter, left_true, right_true, both_true, or_left, or_right}
+use Rattle.spanner_model.proofs.HasLaws.{Has-map, Has-map_cases}
+use Rattle.marked_automaton.proofs.Passing.{filter_cases, has_filter, left_true, right_true, both_true, or_left, or_right}
 
 put_up_has : (p : ℕ) (qs : List ℕ) (x : ℕ) → (p ≡ x) ⊎ Has qs x → Has (put_up p qs) x
 put_up_has p [] x h = h
@@ -27,7 +27,7 @@ put_up_has p (q ∷ qs) x h = go (put_up_has p qs x) (nat_lt p q) (nat_eq p q) r
     go rest false false e (inr (inl k)) = inl k
     go rest false false e (inr (inr k)) = inr (rest (inr k))
 
-put_up_cases : (p : ℕ) (qs : List ℕ) (x : ℕ) → Has (put_up p qs) x → (p ≡ x) ⊎ Has qs x
+pub put_up_cases : (p : ℕ) (qs : List ℕ) (x : ℕ) → Has (put_up p qs) x → (p ≡ x) ⊎ Has qs x
 put_up_cases p [] x h = h
 put_up_cases p (q ∷ qs) x h = go (put_up_cases p qs x) (nat_lt p q) (nat_eq p q) h
   where
@@ -51,7 +51,7 @@ put_down_has p (q ∷ qs) x h = go (put_down_has p qs x) (nat_lt q p) (nat_eq p 
     go rest false false e (inr (inl k)) = inl k
     go rest false false e (inr (inr k)) = inr (rest (inr k))
 
-put_down_cases : (p : ℕ) (qs : List ℕ) (x : ℕ) → Has (put_down p qs) x → (p ≡ x) ⊎ Has qs x
+pub put_down_cases : (p : ℕ) (qs : List ℕ) (x : ℕ) → Has (put_down p qs) x → (p ≡ x) ⊎ Has qs x
 put_down_cases p [] x h = h
 put_down_cases p (q ∷ qs) x h = go (put_down_cases p qs x) (nat_lt q p) (nat_eq p q) h
   where
@@ -101,9 +101,9 @@ module _ (A : Automaton) where
   pub edge_way : (set : List ℕ) (b : ℕ) (e : Reach) (q : ℕ) → Has (edges A set (byte_read b)) e → Has e.to q →
       (y : Way) × Has A.ways y × Has set y.from × HasByte y.bytes b × (y.marks ≡ e.marks) × (y.to ≡ q)
   edge_way set b e q h k =
-      let m = map_cases (reach_with (ways_taken A set b)) (blocks_down (map (λ (y : Way). y.marks) (ways_taken A set b))) e h in
+      let m = Has-map_cases (reach_with (ways_taken A set b)) (blocks_down (map (λ (y : Way). y.marks) (ways_taken A set b))) e h in
       let there : Has (reach_with (ways_taken A set b) m.0).to q = subst (λ (r : Reach). Has r.to q) (sym m.2) k in
-      let y = map_cases (λ (y : Way). y.to) (filter (λ y. nat_eq y.marks m.0) (ways_taken A set b)) q
+      let y = Has-map_cases (λ (y : Way). y.to) (filter (λ y. nat_eq y.marks m.0) (ways_taken A set b)) q
       (has_set (map (λ (y : Way). y.to) (filter (λ y. nat_eq y.marks m.0) (ways_taken A set b))) q there) in
       let f = filter_cases (λ (y : Way). nat_eq y.marks m.0) (ways_taken A set b) y.0 y.1 in
       let t = filter_cases (passes set b) A.ways y.0 f.0 in (
@@ -123,17 +123,17 @@ module _ (A : Automaton) where
       (both_true (is_among set y.from) (bytes.contains y.bytes b) (has_among set y.from from) byte) in
       let f = has_filter (λ (z : Way). nat_eq z.marks y.marks) (ways_taken A set b) y t (eq-eqb y.marks y.marks refl) in (
         reach_with (ways_taken A set b) y.marks,
-        has_map (reach_with (ways_taken A set b)) (blocks_down (map (λ (y : Way). y.marks) (ways_taken A set b))) y.marks
-            (blocks_has (map (λ (y : Way). y.marks) (ways_taken A set b)) y.marks (has_map (λ (y : Way). y.marks) (ways_taken A set b) y t)),
+        Has-map (reach_with (ways_taken A set b)) (blocks_down (map (λ (y : Way). y.marks) (ways_taken A set b))) y.marks
+            (blocks_has (map (λ (y : Way). y.marks) (ways_taken A set b)) y.marks (Has-map (λ (y : Way). y.marks) (ways_taken A set b) y t)),
         refl,
         set_has (map (λ (y : Way). y.to) (filter (λ z. nat_eq z.marks y.marks) (ways_taken A set b))) y.to
-            (has_map (λ (y : Way). y.to) (filter (λ z. nat_eq z.marks y.marks) (ways_taken A set b)) y f),
+            (Has-map (λ (y : Way). y.to) (filter (λ z. nat_eq z.marks y.marks) (ways_taken A set b)) y f),
       )
 
   ends_stop : (w : ℕ → ℕ) (i : ℕ) (set : List ℕ) → EndsWith A w i set → (x : Stop) × Has A.stops x × Has set x.state × (x.marks ≡ w i)
   ends_stop w i set h =
-      let m = map_cases (λ m. let r : Reach = record { marks = m; to = [] } in r) (blocks_down (map (λ (x : Stop). x.marks) (filter (λ (x : Stop). is_among set x.state) A.stops))) h.0 h.1 in
-      let x = map_cases (λ (x : Stop). x.marks) (filter (λ (x : Stop). is_among set x.state) A.stops) m.0
+      let m = Has-map_cases (λ m. let r : Reach = record { marks = m; to = [] } in r) (blocks_down (map (λ (x : Stop). x.marks) (filter (λ (x : Stop). is_among set x.state) A.stops))) h.0 h.1 in
+      let x = Has-map_cases (λ (x : Stop). x.marks) (filter (λ (x : Stop). is_among set x.state) A.stops) m.0
       (has_block (map (λ (x : Stop). x.marks) (filter (λ (x : Stop). is_among set x.state) A.stops)) m.0 m.1) in
       let f = filter_cases (λ (x : Stop). is_among set x.state) A.stops x.0 x.1 in
       (x.0, f.0, among_has set x.0.state f.1, x.2 ∙ (ap (λ (r : Reach). r.marks) m.2 ∙ h.2))
@@ -142,9 +142,9 @@ module _ (A : Automaton) where
   stop_ends w i set x h k e =
       let f = has_filter (λ (x : Stop). is_among set x.state) A.stops x h (has_among set x.state k) in (
         record { marks = x.marks; to = [] },
-        has_map (λ m. let r : Reach = record { marks = m; to = [] } in r) (blocks_down (map (λ (x : Stop). x.marks) (filter (λ (x : Stop). is_among set x.state) A.stops))) x.marks
+        Has-map (λ m. let r : Reach = record { marks = m; to = [] } in r) (blocks_down (map (λ (x : Stop). x.marks) (filter (λ (x : Stop). is_among set x.state) A.stops))) x.marks
             (blocks_has (map (λ (x : Stop). x.marks) (filter (λ (x : Stop). is_among set x.state) A.stops)) x.marks
-            (has_map (λ (x : Stop). x.marks) (filter (λ (x : Stop). is_among set x.state) A.stops) x f)),
+            (Has-map (λ (x : Stop). x.marks) (filter (λ (x : Stop). is_among set x.state) A.stops) x f)),
         e,
       )
 

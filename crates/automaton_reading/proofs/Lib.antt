@@ -1,4 +1,3 @@
 pub mod Determined
-pub mod Lists
 pub mod Matching
 pub mod MeasureLaws

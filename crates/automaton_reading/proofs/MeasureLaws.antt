@@ -6,7 +6,6 @@ use Rattle.std.specs.Prelude.{nat_eq, nat_lt, if◌then◌else◌, ◌&&◌, con
 use Rattle.std.specs.FinSet as bytes
 use Rattle.std.specs.List.{filter, flat_map, sum_by}
 use Rattle.std.specs.Str.{bytes_eq}
-use Rattle.std.specs.Option.{unwrap_or}
 use Rattle.std.proofs.lemmas.List.{length-map}
 use Rattle.std.proofs.lemmas.Bool.{cases_order, eqb-true, eqb-false, eq-eqb, lt-ltb, ltb-true}
 use Rattle.std.proofs.lemmas.List.Sums.{sum_by-append}
@@ -18,11 +17,13 @@ use Rattle.marked_automaton.specs.declared.way.Stop.{Stop}
 use Rattle.marked_automaton.specs.Automaton.{Automaton}
 use Rattle.marked_automaton.specs.Images.{IsImage, AllAreReached, LeadsTo}
 use Rattle.marked_automaton.specs.Reduct.{HasEnd, IsReduct}
+use Rattle.marked_automaton.proofs.Listed.{some_same}
 use Rattle.marked_automaton.proofs.ReductWords.{image_law}
 use Rattle.automaton_reading.specs.Measures.{ReductMeasures}
 use Rattle.automaton_reading.specs.Reading.{put_up, put_down, set_of, blocks_down, is_among, Asked, byte_read, rest_taken, ended, asked_same, asked, Reach, ways_taken, reach_with, rest_edge, edges, once, next_sets, Row, row_same, rows_asked, rows_read, row_edges, edges_K, rows_K, weight_K}
-use Rattle.automaton_reading.proofs.Determined.{set_has, has_set, blocks_has, has_block, among_has, has_among}
-use Rattle.automaton_reading.proofs.Lists.{has_map, map_cases, has_flat_map, flat_map_cases, filter_cases, has_filter, left_true, right_true, both_true}
+use Rattle.automaton_reading.proofs.Determined.{put_up_cases, put_down_cases, set_has, has_set, blocks_has, has_block, among_has, has_among}
+use Rattle.spanner_model.proofs.HasLaws.{Has-map, Has-map_cases}
+use Rattle.marked_automaton.proofs.Passing.{has_flat_map, flat_map_cases, filter_cases, has_filter, left_true, right_true, both_true}
 use Rattle.automaton_reading.proofs.Matching.{match_sum, once_has, has_once, once_distinct, length_sum, map_distinct}
 
 -- ---- ascending and descending lists
@@ -54,17 +55,6 @@ up_same (x ∷ xs) (y ∷ ys) a b to back =
 
     before : (z : ℕ) → Has ys z → x ≡ y → Has xs z
     before z h same = elim (back z (inr h)) as (λ _. Has xs z) [ inl e ↦ absurd (omega (arith, b.0 z h, e, same)) | inr k ↦ k ]
-
-put_up_cases : (p : ℕ) (qs : List ℕ) (x : ℕ) → Has (put_up p qs) x → (p ≡ x) ⊎ Has qs x
-put_up_cases p [] x h = h
-put_up_cases p (q ∷ qs) x h = go (put_up_cases p qs x) (nat_lt p q) (nat_eq p q) h
-  where
-    go : (Has (put_up p qs) x → (p ≡ x) ⊎ Has qs x) → (a b : Bool) →
-        Has (if a then p ∷ q ∷ qs else (if b then q ∷ qs else q ∷ put_up p qs)) x → (p ≡ x) ⊎ Has (q ∷ qs) x
-    go rest true b h = h
-    go rest false true h = inr h
-    go rest false false (inl k) = inr (inl k)
-    go rest false false (inr k) = elim (rest k) [ inl e ↦ inl e | inr m ↦ inr (inr m) ]
 
 put_is_up : (p : ℕ) (qs : List ℕ) → IsUp qs → IsUp (put_up p qs)
 put_is_up p [] u = (λ y h. absurd h, tt)
@@ -113,17 +103,6 @@ AllBelow x ys = (y : ℕ) → Has ys y → y < x
 abbrev IsDown : List ℕ → Type 0
 IsDown [] = Unit {0}
 IsDown (x ∷ xs) = AllBelow x xs × IsDown xs
-
-put_down_cases : (p : ℕ) (qs : List ℕ) (x : ℕ) → Has (put_down p qs) x → (p ≡ x) ⊎ Has qs x
-put_down_cases p [] x h = h
-put_down_cases p (q ∷ qs) x h = go (put_down_cases p qs x) (nat_lt q p) (nat_eq p q) h
-  where
-    go : (Has (put_down p qs) x → (p ≡ x) ⊎ Has qs x) → (a b : Bool) →
-        Has (if a then p ∷ q ∷ qs else (if b then q ∷ qs else q ∷ put_down p qs)) x → (p ≡ x) ⊎ Has (q ∷ qs) x
-    go rest true b h = h
-    go rest false true h = inr h
-    go rest false false (inl k) = inr (inl k)
-    go rest false false (inr k) = elim (rest k) [ inl e ↦ inl e | inr m ↦ inr (inr m) ]
 
 put_is_down : (p : ℕ) (qs : List ℕ) → IsDown qs → IsDown (put_down p qs)
 put_is_down p [] u = (λ y h. absurd h, tt)
@@ -178,13 +157,13 @@ module _ (A : Automaton) (S : List ℕ) (b : ℕ) where
   -- a block that members take
   pub mark_leads : (m : ℕ) → Has Marks m → (q : ℕ) × LeadsTo A S b m q
   mark_leads m h =
-      let y = map_cases (λ (y : Way). y.marks) (ways_taken A S b) m (has_block (map (λ (y : Way). y.marks) (ways_taken A S b)) m h) in
+      let y = Has-map_cases (λ (y : Way). y.marks) (ways_taken A S b) m (has_block (map (λ (y : Way). y.marks) (ways_taken A S b)) m h) in
       (y.0.to, subst (λ k. LeadsTo A S b k y.0.to) y.2 (taken_leads y.0 y.1))
 
   pub leads_mark : (m q : ℕ) → LeadsTo A S b m q → Has Marks m
   leads_mark m q l =
       blocks_has (map (λ (y : Way). y.marks) (ways_taken A S b)) m
-      (subst (Has (map (λ (y : Way). y.marks) (ways_taken A S b))) l.4 (has_map (λ (y : Way). y.marks) (ways_taken A S b) l.0 (leads_taken m q l)))
+      (subst (Has (map (λ (y : Way). y.marks) (ways_taken A S b))) l.4 (Has-map (λ (y : Way). y.marks) (ways_taken A S b) l.0 (leads_taken m q l)))
 
   abbrev pub Reached : ℕ → List ℕ
   Reached m = (reach_with (ways_taken A S b) m).to
@@ -194,7 +173,7 @@ module _ (A : Automaton) (S : List ℕ) (b : ℕ) where
     where
       there : Has (Reached m) q → LeadsTo A S b m q
       there h =
-          let y = map_cases (λ (y : Way). y.to) (filter (λ y. nat_eq y.marks m) (ways_taken A S b)) q
+          let y = Has-map_cases (λ (y : Way). y.to) (filter (λ y. nat_eq y.marks m) (ways_taken A S b)) q
           (has_set (map (λ (y : Way). y.to) (filter (λ y. nat_eq y.marks m) (ways_taken A S b))) q h) in
           let f = filter_cases (λ (y : Way). nat_eq y.marks m) (ways_taken A S b) y.0 y.1 in
           subst (λ k. LeadsTo A S b k q) (eqb-true y.0.marks m f.1) (subst (λ p. LeadsTo A S b y.0.marks p) y.2 (taken_leads y.0 f.0))
@@ -204,7 +183,7 @@ module _ (A : Automaton) (S : List ℕ) (b : ℕ) where
           let f = has_filter (λ (z : Way). nat_eq z.marks m) (ways_taken A S b) l.0 (leads_taken m q l) (eq-eqb l.0.marks m l.4) in
           set_has (map (λ (y : Way). y.to) (filter (λ y. nat_eq y.marks m) (ways_taken A S b))) q
           (subst (Has (map (λ (y : Way). y.to) (filter (λ y. nat_eq y.marks m) (ways_taken A S b)))) l.5
-          (has_map (λ (y : Way). y.to) (filter (λ y. nat_eq y.marks m) (ways_taken A S b)) l.0 f))
+          (Has-map (λ (y : Way). y.to) (filter (λ y. nat_eq y.marks m) (ways_taken A S b)) l.0 f))
 
 module _ (A : Automaton) (S : List ℕ) where
   abbrev pub Ends : List ℕ
@@ -215,7 +194,7 @@ module _ (A : Automaton) (S : List ℕ) where
     where
       there : Has Ends m → (a : ℕ) × Has S a × HasEnd A a m
       there h =
-          let x = map_cases (λ (x : Stop). x.marks) (filter (λ (x : Stop). is_among S x.state) A.stops) m
+          let x = Has-map_cases (λ (x : Stop). x.marks) (filter (λ (x : Stop). is_among S x.state) A.stops) m
           (has_block (map (λ (x : Stop). x.marks) (filter (λ (x : Stop). is_among S x.state) A.stops)) m h) in
           let f = filter_cases (λ (x : Stop). is_among S x.state) A.stops x.0 x.1 in
           (x.0.state, among_has S x.0.state f.1, subst (λ k. HasEnd A x.0.state k) x.2 f.0)
@@ -224,7 +203,7 @@ module _ (A : Automaton) (S : List ℕ) where
       back e =
           let f = has_filter (λ (x : Stop). is_among S x.state) A.stops (record { state = e.0; marks = m }) e.2 (has_among S e.0 e.1) in
           blocks_has (map (λ (x : Stop). x.marks) (filter (λ (x : Stop). is_among S x.state) A.stops)) m
-          (has_map (λ (x : Stop). x.marks) (filter (λ (x : Stop). is_among S x.state) A.stops) (record { state = e.0; marks = m }) f)
+          (Has-map (λ (x : Stop). x.marks) (filter (λ (x : Stop). is_among S x.state) A.stops) (record { state = e.0; marks = m }) f)
 
   pub idle_are : (a : ℕ) → Has (filter (is_among A.idle) S) a ↔ (Has S a × Has A.idle a)
   idle_are a =
@@ -264,9 +243,6 @@ row_itself : (r : Row) → row_same r r ≡ true
 row_itself r = both_true (bytes_eq r.set r.set) (asked_same r.ask r.ask) (bytes_itself r.set) (ask_itself r.ask)
 
 -- ---- images
-
-some_same : {X : Type 0} (y x : X) → Some y ≡ Some x → y ≡ x
-some_same y x e = ap (λ o. unwrap_or o y) e
 
 module _ (A B : Automaton) (f g : ℕ → Option ℕ) (e : ℕ → ℕ → ℕ) (r : IsReduct A B f g e) where
   -- a set of A, and a reached set of B whose image it is
@@ -362,19 +338,19 @@ module _ (A B : Automaton) (f g : ℕ → Option ℕ) (e : ℕ → ℕ → ℕ) 
   -- each edge leads to the image of what one leads to
   edge_shadow : (SB SA : List ℕ) → IsShadow SB SA → (a : Asked) (p : Reach) → Has (edges A SA a) p → (q : Reach) × Has (edges B SB a) q × IsShadow q.to p.to
   edge_shadow SB SA s (byte_read c) p h =
-      let m = map_cases (reach_with (ways_taken A SA c)) (Marks A SA c) p h in
+      let m = Has-map_cases (reach_with (ways_taken A SA c)) (Marks A SA c) p h in
       let there = marks_there SB SA s c m.0 m.1 in (
         reach_with (ways_taken B SB c) m.0,
-        has_map (reach_with (ways_taken B SB c)) (Marks B SB c) m.0 there,
+        Has-map (reach_with (ways_taken B SB c)) (Marks B SB c) m.0 there,
         subst (λ (t : Reach). IsShadow (Reached B SB c m.0) t.to) m.2 (shadow_reached SB SA s c m.0),
       )
   edge_shadow SB SA s rest_taken p h =
       rest_shadow (filter (is_among A.idle) SA) (filter (is_among B.idle) SB) (shadow_idle SB SA s) p h
   edge_shadow SB SA s ended p h =
       let ends : ℕ → Reach = λ m. record { marks = m; to = [] } in
-      let m = map_cases ends (Ends A SA) p h in
+      let m = Has-map_cases ends (Ends A SA) p h in
       let there = (ends_are B SB m.0).1 (((law SB SA s).1 m.0).0 ((ends_are A SA m.0).0 m.1)) in
-      (ends m.0, has_map ends (Ends B SB) m.0 there, subst (λ (t : Reach). IsShadow [] t.to) m.2 shadow_none)
+      (ends m.0, Has-map ends (Ends B SB) m.0 there, subst (λ (t : Reach). IsShadow [] t.to) m.2 shadow_none)
 
   -- ---- sets, place by place
 
@@ -388,12 +364,12 @@ module _ (A B : Automaton) (f g : ℕ → Option ℕ) (e : ℕ → ℕ → ℕ) 
   next_covers BS AS a cover SA h =
       let k = has_once bytes_eq same_bytes bytes_itself (targets A AS a) SA h in
       let x = flat_map_cases (λ set. map (λ (t : Reach). t.to) (edges A set a)) AS SA k in
-      let p = map_cases (λ (t : Reach). t.to) (edges A x.0 a) SA x.2 in
+      let p = Has-map_cases (λ (t : Reach). t.to) (edges A x.0 a) SA x.2 in
       let y = cover x.0 x.1 in
       let q = edge_shadow y.0 x.0 y.2 a p.0 p.1 in (
         q.0.to,
         once_has bytes_eq same_bytes bytes_itself (targets B BS a) q.0.to
-            (has_flat_map (λ set. map (λ (t : Reach). t.to) (edges B set a)) BS y.0 q.0.to y.1 (has_map (λ (t : Reach). t.to) (edges B y.0 a) q.0 q.1)),
+            (has_flat_map (λ set. map (λ (t : Reach). t.to) (edges B set a)) BS y.0 q.0.to y.1 (Has-map (λ (t : Reach). t.to) (edges B y.0 a) q.0 q.1)),
         subst (IsShadow q.0.to) p.2 q.2,
       )
 
@@ -437,10 +413,10 @@ module _ (A B : Automaton) (f g : ℕ → Option ℕ) (e : ℕ → ℕ → ℕ) 
   rows_cover BS AS (a ∷ later) cover x h =
       elim (Has-append_cases (map (row_of_set a) AS) (rows_asked A (next_sets A AS a) later) x h) as (λ _. (y : Row) × Has (rows_asked B BS (a ∷ later)) y × IsRowShadow x y) [
         | inl i ↦
-            let s = map_cases (row_of_set a) AS x i in
+            let s = Has-map_cases (row_of_set a) AS x i in
             let t = cover s.0 s.1 in (
               row_of_set a t.0,
-              Has-append_left (map (row_of_set a) BS) (rows_asked B (next_sets B BS a) later) (row_of_set a t.0) (has_map (row_of_set a) BS t.0 t.1),
+              Has-append_left (map (row_of_set a) BS) (rows_asked B (next_sets B BS a) later) (row_of_set a t.0) (Has-map (row_of_set a) BS t.0 t.1),
               record { sets = subst (λ (w : Row). IsShadow t.0 w.set) s.2 t.2; asks = sym (ap (λ (w : Row). w.ask) s.2) },
             )
         | inr j ↦
@@ -456,10 +432,10 @@ module _ (A B : Automaton) (f g : ℕ → Option ℕ) (e : ℕ → ℕ → ℕ) 
       let here = match_sum IsRowShadow (row_edges A) (row_edges B) (map (row_of_set a) AS) (map (row_of_set a) BS)
       (map_distinct (row_of_set a) AS (λ x z i. ap (λ (w : Row). w.set) i) d)
       (λ x h.
-      let s = map_cases (row_of_set a) AS x h in
+      let s = Has-map_cases (row_of_set a) AS x h in
       let t = cover s.0 s.1 in
       let shadow : IsRowShadow x (row_of_set a t.0) = record { sets = subst (λ (w : Row). IsShadow t.0 w.set) s.2 t.2; asks = sym (ap (λ (w : Row). w.ask) s.2) } in
-      (row_of_set a t.0, has_map (row_of_set a) BS t.0 t.1, shadow, row_no_more x (row_of_set a t.0) shadow))
+      (row_of_set a t.0, Has-map (row_of_set a) BS t.0 t.1, shadow, row_no_more x (row_of_set a t.0) shadow))
       row_one in
       let rest = edges_sum (next_sets B BS a) (next_sets A AS a) later (next_distinct AS a) (next_covers BS AS a cover) in
       omega (
@@ -483,11 +459,11 @@ module _ (A B : Automaton) (f g : ℕ → Option ℕ) (e : ℕ → ℕ → ℕ) 
       match_sum (λ SA SB. IsShadow SB SA) (λ (set : List ℕ). 1 + length set) (λ (set : List ℕ). 1 + length set) (once bytes_eq (map (λ (x : Row). x.set) xs)) (once bytes_eq (map (λ (x : Row). x.set) ys))
       (once_distinct bytes_eq same_bytes bytes_itself (map (λ (x : Row). x.set) xs))
       (λ SA h.
-      let x = map_cases (λ (x : Row). x.set) xs SA (has_once bytes_eq same_bytes bytes_itself (map (λ (x : Row). x.set) xs) SA h) in
+      let x = Has-map_cases (λ (x : Row). x.set) xs SA (has_once bytes_eq same_bytes bytes_itself (map (λ (x : Row). x.set) xs) SA h) in
       let t = cover x.0 x.1 in
       let shadow : IsShadow t.0.set SA = subst (IsShadow t.0.set) x.2 t.2.sets in
       let le = shadow_members t.0.set SA shadow in
-      (t.0.set, once_has bytes_eq same_bytes bytes_itself (map (λ (x : Row). x.set) ys) t.0.set (has_map (λ (x : Row). x.set) ys t.0 t.1), shadow, omega (arith, le)))
+      (t.0.set, once_has bytes_eq same_bytes bytes_itself (map (λ (x : Row). x.set) ys) t.0.set (Has-map (λ (x : Row). x.set) ys t.0 t.1), shadow, omega (arith, le)))
       (λ SA TA SB s t. shadow_same SA TA SB s t)
 
   measures : (d : List ℕ) (K : ℕ → Bool) → (edges_K A d K ≤ edges_K B d K) × (rows_K A d K ≤ rows_K B d K) × (weight_K A d K ≤ weight_K B d K)

@@ -11,6 +11,7 @@ pub mod Loops
 pub mod Numbers
 pub mod Parted
 pub mod Parts
+pub mod Passing
 pub mod Permuted
 pub mod Projections
 pub mod Rearranged

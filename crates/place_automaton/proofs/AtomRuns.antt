@@ -12,9 +12,10 @@ use Rattle.place_automaton.specs.Places.{Places, way_into}
 use Rattle.place_automaton.specs.Atom.{way_from_first, way_after, stop_before, unless, place_stops, after_ways, automaton_of_places, AreBytes}
 use Rattle.place_automaton.specs.Reads.{Shown}
 use Rattle.place_automaton.proofs.Blocks.{compared}
-use Rattle.place_automaton.proofs.HasLemmas.{has_left, has_right, has_cases, has_map, map_cases}
+use Rattle.spanner_model.proofs.HasLaws.{Has-append_left, Has-append_right, Has-append_cases, Has-map, Has-map_cases}
 use Rattle.place_automaton.proofs.Ranges.{LiesFrom}
-use Rattle.place_automaton.proofs.Walks.{walk_more, walk_then, Crosses, IsSplit, first_cross}
+use Rattle.marked_automaton.proofs.Walks.{walk_more, walk_then}
+use Rattle.place_automaton.proofs.Walks.{Crosses, IsSplit, first_cross}
 
 unless_cases : {X : Type 0} (b : Bool) (xs : List X) (x : X) → Has (unless b xs) x → (b ≡ false) × Has xs x
 unless_cases true xs x h = absurd h
@@ -91,11 +92,11 @@ module _ (s t : Bool) (P : Places) (lies : LiesFrom 1 P) (d : List ℕ) (w : ℕ
 
   way_cases : (y : Way) → Has A.ways y → WayCases y
   way_cases y h =
-      elim (has_cases P.follow (map way_from_first P.first ++ outer) y h) [
+      elim (Has-append_cases P.follow (map way_from_first P.first ++ outer) y h) [
         | inl f ↦ inr (inr (inl f))
-        | inr b ↦ elim (has_cases (map way_from_first P.first) outer y b) [
-          | inl a ↦ inr (inl (map_cases way_from_first P.first y a))
-          | inr c ↦ elim (has_cases (unless s (idle_way 0 ∷ [])) (unless t (after_ways after P)) y c) [
+        | inr b ↦ elim (Has-append_cases (map way_from_first P.first) outer y b) [
+          | inl a ↦ inr (inl (Has-map_cases way_from_first P.first y a))
+          | inr c ↦ elim (Has-append_cases (unless s (idle_way 0 ∷ [])) (unless t (after_ways after P)) y c) [
             | inl a ↦ let r = unless_cases s (idle_way 0 ∷ []) y a in inl (r.0, elim r.1 [ inl e ↦ e | inr b ↦ absurd b ])
             | inr u ↦ inr (inr (inr (unless_cases t (after_ways after P) y u)))
           ]
@@ -104,30 +105,30 @@ module _ (s t : Bool) (P : Places) (lies : LiesFrom 1 P) (d : List ℕ) (w : ℕ
 
   idle_there : s ≡ false → Has A.ways (idle_way 0)
   idle_there e =
-      has_right P.follow (map way_from_first P.first ++ outer) (idle_way 0)
-      (has_right (map way_from_first P.first) outer (idle_way 0)
-      (has_left (unless s (idle_way 0 ∷ [])) (unless t (after_ways after P)) (idle_way 0) (unless_has s (idle_way 0 ∷ []) (idle_way 0) e (inl refl))))
+      Has-append_right P.follow (map way_from_first P.first ++ outer) (idle_way 0)
+      (Has-append_right (map way_from_first P.first) outer (idle_way 0)
+      (Has-append_left (unless s (idle_way 0 ∷ [])) (unless t (after_ways after P)) (idle_way 0) (unless_has s (idle_way 0 ∷ []) (idle_way 0) e (inl refl))))
 
   first_there : (e : Entry) → Has P.first e → Has A.ways (way_from_first e)
   first_there e h =
-      has_right P.follow (map way_from_first P.first ++ outer) (way_from_first e)
-      (has_left (map way_from_first P.first) outer (way_from_first e) (has_map way_from_first P.first e h))
+      Has-append_right P.follow (map way_from_first P.first ++ outer) (way_from_first e)
+      (Has-append_left (map way_from_first P.first) outer (way_from_first e) (Has-map way_from_first P.first e h))
 
   follow_there : (y : Way) → Has P.follow y → Has A.ways y
-  follow_there y h = has_left P.follow (map way_from_first P.first ++ outer) y h
+  follow_there y h = Has-append_left P.follow (map way_from_first P.first ++ outer) y h
 
   after_there : t ≡ false → (y : Way) → Has (after_ways after P) y → Has A.ways y
   after_there e y h =
-      has_right P.follow (map way_from_first P.first ++ outer) y
-      (has_right (map way_from_first P.first) outer y
-      (has_right (unless s (idle_way 0 ∷ [])) (unless t (after_ways after P)) y (unless_has t (after_ways after P) y e h)))
+      Has-append_right P.follow (map way_from_first P.first ++ outer) y
+      (Has-append_right (map way_from_first P.first) outer y
+      (Has-append_right (unless s (idle_way 0 ∷ [])) (unless t (after_ways after P)) y (unless_has t (after_ways after P) y e h)))
 
   -- the ends of places and of Before are below After
   place_stop_below : (x : Stop) → Has (place_stops P) x → x.state < after
   place_stop_below x h =
-      elim (has_cases P.last (map stop_before P.null) x h) [
+      elim (Has-append_cases P.last (map stop_before P.null) x h) [
         | inl a ↦ omega (arith, (lies.lasts x a).1)
-        | inr b ↦ let r = map_cases stop_before P.null x b in omega (arith, ap (λ (g : Stop). g.state) r.2)
+        | inr b ↦ let r = Has-map_cases stop_before P.null x b in omega (arith, ap (λ (g : Stop). g.state) r.2)
       ]
 
   only_idle_after : (y : Way) → Has A.ways y → y.from ≡ after → idle_way after ≡ y
@@ -140,7 +141,7 @@ module _ (s t : Bool) (P : Places) (lies : LiesFrom 1 P) (d : List ℕ) (w : ℕ
             | inl f ↦ absurd (omega (arith, (lies.froms y f).1, e))
             | inr u ↦ elim u.1 [
               | inl same ↦ same
-              | inr m ↦ let r = map_cases (way_after after) (place_stops P) y m in
+              | inr m ↦ let r = Has-map_cases (way_after after) (place_stops P) y m in
                   absurd (omega (arith, place_stop_below r.0 r.1, ap (λ (g : Way). g.from) r.2, e))
             ]
           ]
@@ -172,10 +173,10 @@ module _ (s t : Bool) (P : Places) (lies : LiesFrom 1 P) (d : List ℕ) (w : ℕ
             | inl f ↦ inl (f, let r = lies.tos y f in (r.0, omega (arith, r.1)))
             | inr u ↦ elim u.1 [
               | inl same ↦ absurd (omega (arith, ap (λ (g : Way). g.from) same, l.1))
-              | inr m ↦ let r = map_cases (way_after after) (place_stops P) y m in
-                  elim (has_cases P.last (map stop_before P.null) r.0 r.1) [
+              | inr m ↦ let r = Has-map_cases (way_after after) (place_stops P) y m in
+                  elim (Has-append_cases P.last (map stop_before P.null) r.0 r.1) [
                     | inl k ↦ inr (r.0, to_after, k, unless_has t (to_after ∷ []) to_after u.0 (inl refl), into_after r.0 ∙ r.2)
-                    | inr k ↦ let x = map_cases stop_before P.null r.0 k in
+                    | inr k ↦ let x = Has-map_cases stop_before P.null r.0 k in
                         absurd (omega (arith, ap (λ (g : Stop). g.state) x.2, ap (λ (g : Way). g.from) r.2, l.0))
                   ]
             ]
@@ -207,21 +208,21 @@ module _ (s t : Bool) (P : Places) (lies : LiesFrom 1 P) (d : List ℕ) (w : ℕ
       elim (way_cases y h) [
         | inl a ↦ inl (unless_has s (idle_way 0 ∷ []) y a.0 (inl a.1), sym (ap (λ (g : Way). g.to) a.1))
         | inr b ↦ elim b [
-          | inl f ↦ inr (record { state = 0; marks = 0 }, f.0, inl refl, has_left P.first (unless t (map null_entry P.null)) f.0 f.1, out_way f.0 ∙ f.2)
+          | inl f ↦ inr (record { state = 0; marks = 0 }, f.0, inl refl, Has-append_left P.first (unless t (map null_entry P.null)) f.0 f.1, out_way f.0 ∙ f.2)
           | inr c ↦ elim c [
             | inl f ↦ absurd (omega (arith, (lies.froms y f).0, l))
             | inr u ↦ elim u.1 [
               | inl same ↦ absurd (omega (arith, ap (λ (g : Way). g.from) same, l))
-              | inr m ↦ let r = map_cases (way_after after) (place_stops P) y m in
-                  elim (has_cases P.last (map stop_before P.null) r.0 r.1) [
+              | inr m ↦ let r = Has-map_cases (way_after after) (place_stops P) y m in
+                  elim (Has-append_cases P.last (map stop_before P.null) r.0 r.1) [
                     | inl k ↦ absurd (omega (arith, (lies.lasts r.0 k).0, ap (λ (g : Way). g.from) r.2, l))
-                    | inr k ↦ let x = map_cases stop_before P.null r.0 k in
+                    | inr k ↦ let x = Has-map_cases stop_before P.null r.0 k in
                         inr (
                           record { state = 0; marks = 0 },
                           null_entry x.0,
                           inl refl,
-                          has_right P.first (unless t (map null_entry P.null)) (null_entry x.0)
-                              (unless_has t (map null_entry P.null) (null_entry x.0) u.0 (has_map null_entry P.null x.0 x.1)),
+                          Has-append_right P.first (unless t (map null_entry P.null)) (null_entry x.0)
+                              (unless_has t (map null_entry P.null) (null_entry x.0) u.0 (Has-map null_entry P.null x.0 x.1)),
                           out_way (null_entry x.0) ∙ (ap (way_after after) x.2 ∙ r.2),
                         )
                   ]
@@ -248,10 +249,10 @@ module _ (s t : Bool) (P : Places) (lies : LiesFrom 1 P) (d : List ℕ) (w : ℕ
 
   stop_cases : (x : Stop) → Has A.stops x → Has P.last x ⊎ (((m : ℕ) × Has P.null m × (stop_before m ≡ x)) ⊎ ((t ≡ false) × (after ≡ x.state) × (0 ≡ x.marks)))
   stop_cases x h =
-      elim (has_cases (place_stops P) (unless t (record { state = after; marks = 0 } ∷ [])) x h) [
-        | inl a ↦ elim (has_cases P.last (map stop_before P.null) x a) [
+      elim (Has-append_cases (place_stops P) (unless t (record { state = after; marks = 0 } ∷ [])) x h) [
+        | inl a ↦ elim (Has-append_cases P.last (map stop_before P.null) x a) [
           | inl b ↦ inl b
-          | inr b ↦ inr (inl (map_cases stop_before P.null x b))
+          | inr b ↦ inr (inl (Has-map_cases stop_before P.null x b))
         ]
         | inr u ↦ let r = unless_cases t (record { state = after; marks = 0 } ∷ []) x u in
             inr (inr (
@@ -386,11 +387,11 @@ module _ (s t : Bool) (P : Places) (lies : LiesFrom 1 P) (d : List ℕ) (w : ℕ
           let none : 0 ≡ c.2.marks = elim c.5 [ inl e ↦ ap (λ (g : Stop). g.marks) e | inr b ↦ absurd b ] in
           let em : c.3.marks ≡ w c.0 = omega (arith, c.7, ap w k, none) in
           let rest : Walk A.ways d w (suc c.0) c.1 c.3.to h.1.state = subst (λ v. Walk A.ways d w (suc v) c.1 c.3.to h.1.state) k c.10 in
-          elim (has_cases P.first (unless t (map null_entry P.null)) c.3 c.6) [
+          elim (Has-append_cases P.first (unless t (map null_entry P.null)) c.3 c.6) [
             | inl f ↦ from_place c.0 c.1 c.3 h.1 c.4 idle.2 empties f em (subst (λ v. ReadsByte d v c.3.bytes) k c.8) rest h.3 h.5
             | inr u ↦
                 let v = unless_cases t (map null_entry P.null) c.3 u in
-                let r = map_cases null_entry P.null c.3 v.1 in
+                let r = Has-map_cases null_entry P.null c.3 v.1 in
                 past_nothing c.0 c.1 r.0 h.1 v.0 c.4 idle.2 empties r.1 (ap (λ (g : Entry). g.marks) r.2 ∙ em)
                 (subst (λ y. Walk A.ways d w (suc c.0) c.1 y h.1.state) (sym (ap (λ (g : Entry). g.to) r.2)) rest) h.3 h.5
           ]
@@ -413,7 +414,7 @@ module _ (s t : Bool) (P : Places) (lies : LiesFrom 1 P) (d : List ℕ) (w : ℕ
     ends_at j x l tj h m e walk = go (compared j (length d))
       where
         stops_left : Has A.stops x
-        stops_left = has_left (place_stops P) (unless t (record { state = after; marks = 0 } ∷ [])) x h
+        stops_left = Has-append_left (place_stops P) (unless t (record { state = after; marks = 0 } ∷ [])) x h
 
         here_at : j ≡ length d → Accepts A d w
         here_at at = (0, x, inl refl, stops_left, subst (λ n. Walk A.ways d w 0 n 0 x.state) at walk, m ∙ ap w at)
@@ -425,12 +426,12 @@ module _ (s t : Bool) (P : Places) (lies : LiesFrom 1 P) (d : List ℕ) (w : ℕ
               0,
               record { state = after; marks = 0 },
               inl refl,
-              has_right (place_stops P) (unless t (record { state = after; marks = 0 } ∷ [])) (record { state = after; marks = 0 })
+              Has-append_right (place_stops P) (unless t (record { state = after; marks = 0 } ∷ [])) (record { state = after; marks = 0 })
                   (unless_has t (record { state = after; marks = 0 } ∷ []) (record { state = after; marks = 0 }) f (inl refl)),
               subst (λ n. Walk A.ways d w 0 n 0 after) len
                   (walk_then A.ways d w j (suc (length d - suc j)) 0 j 0 x.state after zero_at walk (
                     way_after after x,
-                    after_there f (way_after after x) (inr (has_map (way_after after) (place_stops P) x h)),
+                    after_there f (way_after after x) (inr (Has-map (way_after after) (place_stops P) x h)),
                     refl,
                     m,
                     any_byte d ok j less,
@@ -457,13 +458,13 @@ module _ (s t : Bool) (P : Places) (lies : LiesFrom 1 P) (d : List ℕ) (w : ℕ
         go : Shown P d h.0 h.1 w → Accepts A d w
         go (inl a) =
             ends_at h.1 (stop_before (w h.0)) h.3 h.5
-            (has_right P.last (map stop_before P.null) (stop_before (w h.0)) (has_map stop_before P.null (w h.0) a.1)) (ap w a.0) h.8
+            (Has-append_right P.last (map stop_before P.null) (stop_before (w h.0)) (Has-map stop_before P.null (w h.0) a.1)) (ap w a.0) h.8
             (subst (λ n. Walk A.ways d w 0 n 0 0) a.0 before)
         go (inr a) =
             let r = a.2 in
             let len : h.0 + suc a.0 ≡ h.1 = omega (arith, a.1) in
             let at : h.0 ≡ 0 + h.0 = omega arith in
-            ends_at h.1 r.1 h.3 h.5 (has_left P.last (map stop_before P.null) r.1 r.3) r.7 h.8
+            ends_at h.1 r.1 h.3 h.5 (Has-append_left P.last (map stop_before P.null) r.1 r.3) r.7 h.8
             (subst (λ n. Walk A.ways d w 0 n 0 r.1.state) len
             (walk_then A.ways d w h.0 (suc a.0) 0 h.0 0 0 r.1.state at before (
               way_from_first r.0,

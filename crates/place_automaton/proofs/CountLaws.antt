@@ -24,7 +24,7 @@ use Rattle.place_automaton.specs.Reads.{blocks}
 use Rattle.place_automaton.specs.Sequential.{IsSequential}
 use Rattle.place_automaton.specs.Words.{opening_of, closing_of}
 use Rattle.place_automaton.proofs.FormulaShows.{shows_formula}
-use Rattle.place_automaton.proofs.HasLemmas.{has_cases}
+use Rattle.spanner_model.proofs.HasLaws.{Has-append_cases}
 use Rattle.place_automaton.proofs.RowBlocks.{block_at, fit_once, row_blocks, row_same, not_captured, same_name, name_itself}
 use Rattle.place_automaton.proofs.Shows.{sums_cases, once_cases, either_left, either_right}
 
@@ -130,7 +130,7 @@ nothing_lies_within m i j e c h = absurd (subst (λ (m : Captures). Has m c) e h
 
 append_within : (m n t : Captures) (i k j : ℕ) → i ≤ k → k ≤ j → LieWithin m i k → LieWithin n k j → t ≡ m ++ n → LieWithin t i j
 append_within m n t i k j a b lm ln e c h =
-    elim (has_cases m n c (subst (λ (t : Captures). Has t c) e h)) [
+    elim (Has-append_cases m n c (subst (λ (t : Captures). Has t c) e h)) [
       | inl x ↦ let r = lm c x in (r.0, omega (arith, r.1, b), r.2)
       | inr x ↦ let r = ln c x in (omega (arith, r.0, a), r.1, r.2)
     ]

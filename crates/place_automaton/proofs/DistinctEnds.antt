@@ -14,7 +14,7 @@ use Rattle.place_automaton.specs.Places.{Places, Placed, stop_with, cat_places, 
 use Rattle.place_automaton.specs.Sequential.{HasOrderedRepeats}
 use Rattle.place_automaton.specs.Words.{opening_of, closing_of}
 use Rattle.place_automaton.proofs.CountLaws.{HasOneAtMost, Counted, NullIsZero, counted, counted_copies, counted_at_most, counted_plus, null_zero}
-use Rattle.place_automaton.proofs.HasLemmas.{has_cases, map_cases}
+use Rattle.spanner_model.proofs.HasLaws.{Has-append_cases, Has-map_cases}
 use Rattle.place_automaton.proofs.JoinLists.{append_nil}
 use Rattle.place_automaton.proofs.Ranges.{LiesFrom, LieInPlace, places_lie, copies_lie, at_most_lie}
 
@@ -24,7 +24,7 @@ state x = x.state
 pub distinct_append : (xs ys : List ℕ) → AreDistinct xs → AreDistinct ys → ((n : ℕ) → Has xs n → Has ys n → ⊥) → AreDistinct (xs ++ ys)
 distinct_append [] ys dx dy apart = dy
 distinct_append (x ∷ xs) ys dx dy apart = (
-  (λ h. elim (has_cases xs ys x h) [ inl a ↦ dx.0 a | inr b ↦ apart x (inl refl) b ]),
+  (λ h. elim (Has-append_cases xs ys x h) [ inl a ↦ dx.0 a | inr b ↦ apart x (inl refl) b ]),
   distinct_append xs ys dx.1 dy (λ n a b. apart n (inr a) b),
 )
 
@@ -41,8 +41,8 @@ cat_once k P Q lp lq small p q = go Q.null small
   where
     apart : (n : ℕ) → Has (map state Q.last) n → Has (map state P.last) n → ⊥
     apart n a b =
-        let x = map_cases state Q.last n a in
-        let y = map_cases state P.last n b in
+        let x = Has-map_cases state Q.last n a in
+        let y = Has-map_cases state P.last n b in
         omega (arith, (lq.lasts x.0 x.1).0, (lp.lasts y.0 y.1).1, x.2, y.2)
 
     go : (ns : List ℕ) → HasOneAtMost ns → AreDistinct (map state (Q.last ++ flat_map (λ m. map (stop_with m) P.last) ns))
@@ -81,8 +81,8 @@ module _ (names : List VarName) (dis : AreDistinct names) where
   alt_once : (k : ℕ) (P Q : Places) → LiesFrom k P → LiesFrom (k + P.count) Q → EndOnce P → EndOnce Q → AreDistinct (map state (P.last ++ Q.last))
   alt_once k P Q lp lq p q =
       subst AreDistinct (sym (map-append state P.last Q.last)) (distinct_append (map state P.last) (map state Q.last) p q (λ n a b.
-      let x = map_cases state P.last n a in
-      let y = map_cases state Q.last n b in
+      let x = Has-map_cases state P.last n a in
+      let y = Has-map_cases state Q.last n b in
       omega (arith, (lp.lasts x.0 x.1).1, (lq.lasts y.0 y.1).0, x.2, y.2)))
 
   lie : (f : Tree) → LieInPlace (places_of names f)
@@ -130,18 +130,18 @@ module _ (names : List VarName) (dis : AreDistinct names) where
 
       apart : (P : Places) (n : ℕ) → Has (map state (places_of names f 1).last) n → Has (map state (map stop_before P.null)) n → ⊥
       apart P n a b =
-          let x = map_cases state (places_of names f 1).last n a in
-          let y = map_cases state (map stop_before P.null) n b in
-          let z = map_cases stop_before P.null y.0 y.1 in
+          let x = Has-map_cases state (places_of names f 1).last n a in
+          let y = Has-map_cases state (map stop_before P.null) n b in
+          let z = Has-map_cases stop_before P.null y.0 y.1 in
           omega (arith, ((lie f 1).lasts x.0 x.1).0, x.2, y.2, ap state z.2)
 
       behind : (t : Bool) (P : Places) (n : ℕ) → Has (map state (place_stops (places_of names f 1))) n → Has (map state (unless t (record { state = suc (places_of names f 1).count; marks = 0 } ∷ []))) n → ⊥
       behind true P n a b = b
       behind false P n a b =
           let F = places_of names f 1 in
-          let x = map_cases state (place_stops F) n a in
+          let x = Has-map_cases state (place_stops F) n a in
           let at : suc F.count ≡ n = elim b [ inl e ↦ e | inr c ↦ absurd c ] in
-          elim (has_cases F.last (map stop_before F.null) x.0 x.1) [
+          elim (Has-append_cases F.last (map stop_before F.null) x.0 x.1) [
             | inl c ↦ omega (arith, ((lie f 1).lasts x.0 c).1, x.2, at)
-            | inr c ↦ let z = map_cases stop_before F.null x.0 c in omega (arith, ap state z.2, x.2, at)
+            | inr c ↦ let z = Has-map_cases stop_before F.null x.0 c in omega (arith, ap state z.2, x.2, at)
           ]

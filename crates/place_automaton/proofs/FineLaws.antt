@@ -15,7 +15,7 @@ use Rattle.place_automaton.specs.declared.piece.Entry.{Entry}
 use Rattle.place_automaton.specs.Ends.{ends_of, MarkOf, JoinAsSums, IsUnmarked}
 use Rattle.place_automaton.specs.Places.{Places, Placed, ways_between, entry_with, stop_with, nothing_placed, never_placed, one_placed, cat_places, alt_places, opt_places, plus_places, cap_places, plus_placed, copies_then, at_most, repeated, placed}
 use Rattle.place_automaton.specs.Words.{opening_of, closing_of}
-use Rattle.place_automaton.proofs.HasLemmas.{has_cases, map_cases}
+use Rattle.spanner_model.proofs.HasLaws.{Has-append_cases, Has-map_cases}
 use Rattle.place_automaton.proofs.MarkBits.{HasBit, NoBitInCommon, zero_bit, no_bits, apart_sum, sum_bit, IsBitOf, own_apart, bit_tells}
 use Rattle.place_automaton.proofs.Ranges.{entries_of, stops_of, ways_of}
 use Rattle.place_automaton.proofs.Shows.{sums_cases, once_cases, either_cases}
@@ -71,31 +71,31 @@ module _ (B C : Bits) (apart : Apart B C) (P Q : Places) (p : IsFine B P) (q : I
   pub fine_cat : IsFine D (cat_places P Q)
   fine_cat = record {
     nulls = λ m h. let r = sums_cases P.null Q.null m h in sum_within B C r.0 r.1 m apart (p.nulls r.0 r.2) (q.nulls r.1 r.3) r.4;
-    firsts = λ e h. elim (has_cases P.first (flat_map (λ m. map (entry_with m) Q.first) P.null) e h) [
+    firsts = λ e h. elim (Has-append_cases P.first (flat_map (λ m. map (entry_with m) Q.first) P.null) e h) [
       | inl a ↦ left e.marks (p.firsts e a)
       | inr b ↦ let r = entries_of P.null Q.first e b in
           sum_within B C r.0 r.1.marks e.marks apart (p.nulls r.0 r.2) (q.firsts r.1 r.3) (ap (λ (e : Entry). e.marks) r.4)
     ];
-    lasts = λ s h. elim (has_cases Q.last (flat_map (λ m. map (stop_with m) P.last) Q.null) s h) [
+    lasts = λ s h. elim (Has-append_cases Q.last (flat_map (λ m. map (stop_with m) P.last) Q.null) s h) [
       | inl a ↦ right s.marks (q.lasts s a)
       | inr b ↦ let r = stops_of Q.null P.last s b in
           sum_within B C r.1.marks r.0 s.marks apart (p.lasts r.1 r.3) (q.nulls r.0 r.2) (ap (λ (s : Stop). s.marks) r.4)
     ];
-    ways = λ y h. elim (has_cases P.follow (Q.follow ++ ways_between P.last Q.first) y h) [
+    ways = λ y h. elim (Has-append_cases P.follow (Q.follow ++ ways_between P.last Q.first) y h) [
       | inl a ↦ left y.marks (p.ways y a)
-      | inr b ↦ elim (has_cases Q.follow (ways_between P.last Q.first) y b) [
+      | inr b ↦ elim (Has-append_cases Q.follow (ways_between P.last Q.first) y b) [
         | inl a ↦ right y.marks (q.ways y a)
         | inr c ↦ let r = ways_of P.last Q.first y c in
             sum_within B C r.0.marks r.1.marks y.marks apart (p.lasts r.0 r.2) (q.firsts r.1 r.3) (ap (λ (y : Way). y.marks) r.4)
       ]
     ];
-    first_bytes = λ e h. elim (has_cases P.first (flat_map (λ m. map (entry_with m) Q.first) P.null) e h) [
+    first_bytes = λ e h. elim (Has-append_cases P.first (flat_map (λ m. map (entry_with m) Q.first) P.null) e h) [
       | inl a ↦ p.first_bytes e a
       | inr b ↦ let r = entries_of P.null Q.first e b in subst (λ (e : Entry). SomeByte e.bytes) r.4 (q.first_bytes r.1 r.3)
     ];
-    way_bytes = λ y h. elim (has_cases P.follow (Q.follow ++ ways_between P.last Q.first) y h) [
+    way_bytes = λ y h. elim (Has-append_cases P.follow (Q.follow ++ ways_between P.last Q.first) y h) [
       | inl a ↦ p.way_bytes y a
-      | inr b ↦ elim (has_cases Q.follow (ways_between P.last Q.first) y b) [
+      | inr b ↦ elim (Has-append_cases Q.follow (ways_between P.last Q.first) y b) [
         | inl a ↦ q.way_bytes y a
         | inr c ↦ let r = ways_of P.last Q.first y c in subst (λ (y : Way). SomeByte y.bytes) r.4 (q.first_bytes r.1 r.3)
       ]
@@ -119,11 +119,11 @@ module _ (B C : Bits) (apart : Apart B C) (P Q : Places) (p : IsFine B P) (q : I
 fine_alt : (B C : Bits) (P Q : Places) → IsFine B P → IsFine C Q → IsFine (λ i. B i ⊎ C i) (alt_places P Q)
 fine_alt B C P Q p q = record {
   nulls = λ m h i b. elim (either_cases P.null Q.null m h) [ inl a ↦ inl (p.nulls m a i b) | inr a ↦ inr (q.nulls m a i b) ];
-  firsts = λ e h i b. elim (has_cases P.first Q.first e h) [ inl a ↦ inl (p.firsts e a i b) | inr a ↦ inr (q.firsts e a i b) ];
-  lasts = λ s h i b. elim (has_cases P.last Q.last s h) [ inl a ↦ inl (p.lasts s a i b) | inr a ↦ inr (q.lasts s a i b) ];
-  ways = λ y h i b. elim (has_cases P.follow Q.follow y h) [ inl a ↦ inl (p.ways y a i b) | inr a ↦ inr (q.ways y a i b) ];
-  first_bytes = λ e h. elim (has_cases P.first Q.first e h) [ inl a ↦ p.first_bytes e a | inr a ↦ q.first_bytes e a ];
-  way_bytes = λ y h. elim (has_cases P.follow Q.follow y h) [ inl a ↦ p.way_bytes y a | inr a ↦ q.way_bytes y a ];
+  firsts = λ e h i b. elim (Has-append_cases P.first Q.first e h) [ inl a ↦ inl (p.firsts e a i b) | inr a ↦ inr (q.firsts e a i b) ];
+  lasts = λ s h i b. elim (Has-append_cases P.last Q.last s h) [ inl a ↦ inl (p.lasts s a i b) | inr a ↦ inr (q.lasts s a i b) ];
+  ways = λ y h i b. elim (Has-append_cases P.follow Q.follow y h) [ inl a ↦ inl (p.ways y a i b) | inr a ↦ inr (q.ways y a i b) ];
+  first_bytes = λ e h. elim (Has-append_cases P.first Q.first e h) [ inl a ↦ p.first_bytes e a | inr a ↦ q.first_bytes e a ];
+  way_bytes = λ y h. elim (Has-append_cases P.follow Q.follow y h) [ inl a ↦ p.way_bytes y a | inr a ↦ q.way_bytes y a ];
 }
 
 zero_within : (B : Bits) (m : ℕ) → 0 ≡ m → Within B m
@@ -174,23 +174,23 @@ fine_cap : (B : Bits) (o c : ℕ) (P : Places) → Apart (HasBit o) B → Apart 
     IsFine (λ i. (HasBit o i ⊎ HasBit c i) ⊎ B i) (cap_places o c P)
 fine_cap B o c P ao ac own p = record {
   nulls = λ m h.
-      let r = map_cases (◌+◌ (o + c)) P.null m h in
+      let r = Has-map_cases (◌+◌ (o + c)) P.null m h in
       sum_within (λ i. HasBit o i ⊎ HasBit c i) B (o + c) r.0 m (λ i x b. elim x [ inl y ↦ ao i y b | inr y ↦ ac i y b ])
       (λ i b. sum_bit o c i own b) (p.nulls r.0 r.1) r.2;
   firsts = λ e h i b.
-      let r = map_cases (entry_with o) P.first e h in
+      let r = Has-map_cases (entry_with o) P.first e h in
       elim (sum_within (HasBit o) B o r.0.marks e.marks ao (λ i b. b) (p.firsts r.0 r.1) (ap (λ (e : Entry). e.marks) r.2) i b) as (λ _. (HasBit o i ⊎ HasBit c i) ⊎ B i) [
         | inl x ↦ inl (inl x)
         | inr y ↦ inr y
       ];
   lasts = λ s h i b.
-      let r = map_cases (stop_with c) P.last s h in
+      let r = Has-map_cases (stop_with c) P.last s h in
       elim (sum_within B (HasBit c) r.0.marks c s.marks (λ i x y. ac i y x) (p.lasts r.0 r.1) (λ i b. b) (ap (λ (s : Stop). s.marks) r.2) i b) as (λ _. (HasBit o i ⊎ HasBit c i) ⊎ B i) [
         | inl x ↦ inr x
         | inr y ↦ inl (inr y)
       ];
   ways = λ y h i b. inr (p.ways y h i b);
-  first_bytes = λ e h. let r = map_cases (entry_with o) P.first e h in subst (λ (e : Entry). SomeByte e.bytes) r.2 (p.first_bytes r.0 r.1);
+  first_bytes = λ e h. let r = Has-map_cases (entry_with o) P.first e h in subst (λ (e : Entry). SomeByte e.bytes) r.2 (p.first_bytes r.0 r.1);
   way_bytes = p.way_bytes;
 }
 
@@ -205,13 +205,13 @@ module _ (B : Bits) (none : (i : ℕ) → B i → ⊥) where
     nulls = p.nulls;
     firsts = p.firsts;
     lasts = p.lasts;
-    ways = λ y h. elim (has_cases P.follow (ways_between P.last P.first) y h) [
+    ways = λ y h. elim (Has-append_cases P.follow (ways_between P.last P.first) y h) [
       | inl a ↦ p.ways y a
       | inr b ↦ let r = ways_of P.last P.first y b in
           λ i k. elim (sum_within B B r.0.marks r.1.marks y.marks (λ i b c. none i b) (p.lasts r.0 r.2) (p.firsts r.1 r.3) (ap (λ (y : Way). y.marks) r.4) i k) [ inl x ↦ x | inr x ↦ x ]
     ];
     first_bytes = p.first_bytes;
-    way_bytes = λ y h. elim (has_cases P.follow (ways_between P.last P.first) y h) [
+    way_bytes = λ y h. elim (Has-append_cases P.follow (ways_between P.last P.first) y h) [
       | inl a ↦ p.way_bytes y a
       | inr b ↦ let r = ways_of P.last P.first y b in subst (λ (y : Way). SomeByte y.bytes) r.4 (p.first_bytes r.1 r.3)
     ];

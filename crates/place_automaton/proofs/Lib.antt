@@ -10,7 +10,6 @@ pub mod DistinctEnds
 pub mod DraftRows
 pub mod FineLaws
 pub mod FormulaShows
-pub mod HasLemmas
 pub mod JoinLists
 pub mod MadeLaws
 pub mod MarkBits

@@ -21,7 +21,7 @@ use Rattle.place_automaton.specs.Made.{end_stops, outer_ways}
 use Rattle.place_automaton.specs.Places.{Places}
 use Rattle.place_automaton.specs.Words.{atom_automaton}
 use Rattle.place_automaton.proofs.FineLaws.{Within, SomeByte, IsFine, HasClasses, VarBits, fine_places}
-use Rattle.place_automaton.proofs.HasLemmas.{has_left, has_right, has_cases, map_cases}
+use Rattle.spanner_model.proofs.HasLaws.{Has-append_left, Has-append_right, Has-append_cases, Has-map_cases}
 use Rattle.place_automaton.proofs.MarkBits.{below_power, bit_below}
 use Rattle.place_automaton.proofs.WholeLaws.{whole_law}
 
@@ -55,22 +55,22 @@ module _ (names : List VarName) (s t : Bool) (f : Tree) where
 
   pub before_way : s ≡ false → Has A.ways (idle_way 0)
   before_way e =
-      has_right P.follow (map way_from_first P.first ++ (unless s (idle_way 0 ∷ []) ++ outs)) (idle_way 0)
-      (has_right (map way_from_first P.first) (unless s (idle_way 0 ∷ []) ++ outs) (idle_way 0)
-      (has_left (unless s (idle_way 0 ∷ [])) outs (idle_way 0) (unless_has s (idle_way 0 ∷ []) (idle_way 0) e (inl refl))))
+      Has-append_right P.follow (map way_from_first P.first ++ (unless s (idle_way 0 ∷ []) ++ outs)) (idle_way 0)
+      (Has-append_right (map way_from_first P.first) (unless s (idle_way 0 ∷ []) ++ outs) (idle_way 0)
+      (Has-append_left (unless s (idle_way 0 ∷ [])) outs (idle_way 0) (unless_has s (idle_way 0 ∷ []) (idle_way 0) e (inl refl))))
 
   pub after_way : (n : ℕ) → n ≡ 1 + P.count → t ≡ false → Has A.ways (idle_way n)
   after_way n at e =
       let same : suc P.count ≡ n = omega (arith, at) in
       subst (λ (m : ℕ). Has A.ways (idle_way m)) same
-      (has_right P.follow (map way_from_first P.first ++ (unless s (idle_way 0 ∷ []) ++ outs)) (idle_way (suc P.count))
-      (has_right (map way_from_first P.first) (unless s (idle_way 0 ∷ []) ++ outs) (idle_way (suc P.count))
-      (has_right (unless s (idle_way 0 ∷ [])) outs (idle_way (suc P.count)) (unless_has t (after_ways (suc P.count) P) (idle_way (suc P.count)) e (inl refl)))))
+      (Has-append_right P.follow (map way_from_first P.first ++ (unless s (idle_way 0 ∷ []) ++ outs)) (idle_way (suc P.count))
+      (Has-append_right (map way_from_first P.first) (unless s (idle_way 0 ∷ []) ++ outs) (idle_way (suc P.count))
+      (Has-append_right (unless s (idle_way 0 ∷ [])) outs (idle_way (suc P.count)) (unless_has t (after_ways (suc P.count) P) (idle_way (suc P.count)) e (inl refl)))))
 
   -- an end of a place, or of Before, is one of the automaton
   pub stop_there : (E : Ends) (x : Stop) → E ≡ ends_of P → Has (end_stops E) x → Has A.stops x
   stop_there E x is h =
-      has_left (place_stops P) (unless t (record { state = suc P.count; marks = 0 } ∷ [])) x (subst (λ (E : Ends). Has (end_stops E) x) is h)
+      Has-append_left (place_stops P) (unless t (record { state = suc P.count; marks = 0 } ∷ [])) x (subst (λ (E : Ends). Has (end_stops E) x) is h)
 
   module _ (ok : IsFunctional f) (cl : HasClasses f) (vars : AreNamed names f) where
     fine : IsFine (VarBits names f) P
@@ -87,16 +87,16 @@ module _ (names : List VarName) (s t : Bool) (f : Tree) where
 
     place_stop : (x : Stop) → Has (place_stops P) x → x.marks < limit
     place_stop x h =
-        elim (has_cases P.last (map stop_before P.null) x h) [
+        elim (Has-append_cases P.last (map stop_before P.null) x h) [
           | inl a ↦ small x.marks (fine.lasts x a)
-          | inr b ↦ let r = map_cases stop_before P.null x b in
+          | inr b ↦ let r = Has-map_cases stop_before P.null x b in
               let e = ap (λ (x : Stop). x.marks) r.2 in
               omega (arith, e, small r.0 (fine.nulls r.0 r.1))
         ]
 
     pub stop_marks : (x : Stop) → Has A.stops x → x.marks < limit
     stop_marks x h =
-        elim (has_cases (place_stops P) (unless t (record { state = suc P.count; marks = 0 } ∷ [])) x h) [
+        elim (Has-append_cases (place_stops P) (unless t (record { state = suc P.count; marks = 0 } ∷ [])) x h) [
           | inl a ↦ place_stop x a
           | inr b ↦ elim (unless_cases t (record { state = suc P.count; marks = 0 } ∷ []) x b).1 [
             | inl e ↦ omega (arith, ap (λ (x : Stop). x.marks) e, none)
@@ -109,16 +109,16 @@ module _ (names : List VarName) (s t : Bool) (f : Tree) where
 
     way_fits : (y : Way) → Has A.ways y → Fits y
     way_fits y h =
-        elim (has_cases P.follow (map way_from_first P.first ++ (unless s (idle_way 0 ∷ []) ++ outs)) y h) [
+        elim (Has-append_cases P.follow (map way_from_first P.first ++ (unless s (idle_way 0 ∷ []) ++ outs)) y h) [
           | inl a ↦ (small y.marks (fine.ways y a), fine.way_bytes y a)
-          | inr b ↦ elim (has_cases (map way_from_first P.first) (unless s (idle_way 0 ∷ []) ++ outs) y b) [
-            | inl a ↦ let r = map_cases way_from_first P.first y a in
+          | inr b ↦ elim (Has-append_cases (map way_from_first P.first) (unless s (idle_way 0 ∷ []) ++ outs) y b) [
+            | inl a ↦ let r = Has-map_cases way_from_first P.first y a in
                 subst Fits r.2 (small r.0.marks (fine.firsts r.0 r.1), fine.first_bytes r.0 r.1)
-            | inr c ↦ elim (has_cases (unless s (idle_way 0 ∷ [])) outs y c) [
+            | inr c ↦ elim (Has-append_cases (unless s (idle_way 0 ∷ [])) outs y c) [
               | inl a ↦ elim (unless_cases s (idle_way 0 ∷ []) y a).1 [ inl e ↦ subst Fits e (none, all_some) | inr d ↦ absurd d ]
               | inr u ↦ elim (unless_cases t (after_ways (suc P.count) P) y u).1 [
                 | inl e ↦ subst Fits e (none, all_some)
-                | inr m ↦ let r = map_cases (way_after (suc P.count)) (place_stops P) y m in
+                | inr m ↦ let r = Has-map_cases (way_after (suc P.count)) (place_stops P) y m in
                     subst Fits r.2 (place_stop r.0 r.1, all_some)
               ]
             ]

@@ -10,7 +10,8 @@ use Rattle.marked_automaton.specs.declared.way.Stop.{Stop}
 use Rattle.marked_automaton.specs.Automaton.{ByteClass}
 use Rattle.place_automaton.specs.declared.piece.Entry.{Entry}
 use Rattle.place_automaton.specs.Places.{Places, Placed, way_into, ways_between, entry_with, stop_with, cat_places, alt_places, opt_places, plus_places, cap_places, nothing_placed, never_placed, one_placed, cat_placed, plus_placed, copies_then, at_most, repeated, placed}
-use Rattle.place_automaton.proofs.HasLemmas.{has_cases, map_cases, flat_map_cases}
+use Rattle.spanner_model.proofs.HasLaws.{Has-append_cases, Has-map_cases}
+use Rattle.marked_automaton.proofs.Passing.{flat_map_cases}
 
 pub record LiesFrom (k : ℕ) (P : Places) : Type 0 where
   pub firsts : (e : Entry) → Has P.first e → (k ≤ e.to) × (e.to < k + P.count)
@@ -26,21 +27,21 @@ pub entries_of : (ms : List ℕ) (first : List Entry) (e : Entry) → Has (flat_
     (m : ℕ) × (g : Entry) × Has ms m × Has first g × (entry_with m g ≡ e)
 entries_of ms first e h =
     let a = flat_map_cases (λ m. map (entry_with m) first) ms e h in
-    let b = map_cases (entry_with a.0) first e a.2 in
+    let b = Has-map_cases (entry_with a.0) first e a.2 in
     (a.0, b.0, a.1, b.1, b.2)
 
 pub stops_of : (ms : List ℕ) (last : List Stop) (s : Stop) → Has (flat_map (λ m. map (stop_with m) last) ms) s →
     (m : ℕ) × (g : Stop) × Has ms m × Has last g × (stop_with m g ≡ s)
 stops_of ms last s h =
     let a = flat_map_cases (λ m. map (stop_with m) last) ms s h in
-    let b = map_cases (stop_with a.0) last s a.2 in
+    let b = Has-map_cases (stop_with a.0) last s a.2 in
     (a.0, b.0, a.1, b.1, b.2)
 
 pub ways_of : (last : List Stop) (first : List Entry) (y : Way) → Has (ways_between last first) y →
     (s : Stop) × (e : Entry) × Has last s × Has first e × (way_into s e ≡ y)
 ways_of last first y h =
     let a = flat_map_cases (λ s. map (way_into s) first) last y h in
-    let b = map_cases (way_into a.0) first y a.2 in
+    let b = Has-map_cases (way_into a.0) first y a.2 in
     (a.0, b.0, a.1, b.1, b.2)
 
 pub cat_lies : (k : ℕ) (P Q : Places) → LiesFrom k P → LiesFrom (k + P.count) Q → LiesFrom k (cat_places P Q)
@@ -57,7 +58,7 @@ cat_lies k P Q p q = record { firsts = firsts; lasts = lasts; froms = froms; tos
 
     firsts : (e : Entry) → Has (cat_places P Q).first e → (k ≤ e.to) × (e.to < k + (P.count + Q.count))
     firsts e h =
-        elim (has_cases P.first (flat_map (λ m. map (entry_with m) Q.first) P.null) e h) [
+        elim (Has-append_cases P.first (flat_map (λ m. map (entry_with m) Q.first) P.null) e h) [
           | inl a ↦ left e.to (p.firsts e a)
           | inr b ↦ let r = entries_of P.null Q.first e b in
               moved r.1.to e.to (ap (λ (g : Entry). g.to) r.4) (right r.1.to (q.firsts r.1 r.3))
@@ -65,7 +66,7 @@ cat_lies k P Q p q = record { firsts = firsts; lasts = lasts; froms = froms; tos
 
     lasts : (s : Stop) → Has (cat_places P Q).last s → (k ≤ s.state) × (s.state < k + (P.count + Q.count))
     lasts s h =
-        elim (has_cases Q.last (flat_map (λ m. map (stop_with m) P.last) Q.null) s h) [
+        elim (Has-append_cases Q.last (flat_map (λ m. map (stop_with m) P.last) Q.null) s h) [
           | inl a ↦ right s.state (q.lasts s a)
           | inr b ↦ let r = stops_of Q.null P.last s b in
               moved r.1.state s.state (ap (λ (g : Stop). g.state) r.4) (left r.1.state (p.lasts r.1 r.3))
@@ -73,9 +74,9 @@ cat_lies k P Q p q = record { firsts = firsts; lasts = lasts; froms = froms; tos
 
     froms : (y : Way) → Has (cat_places P Q).follow y → (k ≤ y.from) × (y.from < k + (P.count + Q.count))
     froms y h =
-        elim (has_cases P.follow (Q.follow ++ ways_between P.last Q.first) y h) [
+        elim (Has-append_cases P.follow (Q.follow ++ ways_between P.last Q.first) y h) [
           | inl a ↦ left y.from (p.froms y a)
-          | inr b ↦ elim (has_cases Q.follow (ways_between P.last Q.first) y b) [
+          | inr b ↦ elim (Has-append_cases Q.follow (ways_between P.last Q.first) y b) [
             | inl c ↦ right y.from (q.froms y c)
             | inr c ↦ let r = ways_of P.last Q.first y c in
                 moved r.0.state y.from (ap (λ (g : Way). g.from) r.4) (left r.0.state (p.lasts r.0 r.2))
@@ -84,9 +85,9 @@ cat_lies k P Q p q = record { firsts = firsts; lasts = lasts; froms = froms; tos
 
     tos : (y : Way) → Has (cat_places P Q).follow y → (k ≤ y.to) × (y.to < k + (P.count + Q.count))
     tos y h =
-        elim (has_cases P.follow (Q.follow ++ ways_between P.last Q.first) y h) [
+        elim (Has-append_cases P.follow (Q.follow ++ ways_between P.last Q.first) y h) [
           | inl a ↦ left y.to (p.tos y a)
-          | inr b ↦ elim (has_cases Q.follow (ways_between P.last Q.first) y b) [
+          | inr b ↦ elim (Has-append_cases Q.follow (ways_between P.last Q.first) y b) [
             | inl c ↦ right y.to (q.tos y c)
             | inr c ↦ let r = ways_of P.last Q.first y c in
                 moved r.1.to y.to (ap (λ (g : Way). g.to) r.4) (right r.1.to (q.firsts r.1 r.3))
@@ -95,10 +96,10 @@ cat_lies k P Q p q = record { firsts = firsts; lasts = lasts; froms = froms; tos
 
 pub alt_lies : (k : ℕ) (P Q : Places) → LiesFrom k P → LiesFrom (k + P.count) Q → LiesFrom k (alt_places P Q)
 alt_lies k P Q p q = record {
-  firsts = λ e h. elim (has_cases P.first Q.first e h) [ inl a ↦ left e.to (p.firsts e a) | inr b ↦ right e.to (q.firsts e b) ];
-  lasts = λ s h. elim (has_cases P.last Q.last s h) [ inl a ↦ left s.state (p.lasts s a) | inr b ↦ right s.state (q.lasts s b) ];
-  froms = λ y h. elim (has_cases P.follow Q.follow y h) [ inl a ↦ left y.from (p.froms y a) | inr b ↦ right y.from (q.froms y b) ];
-  tos = λ y h. elim (has_cases P.follow Q.follow y h) [ inl a ↦ left y.to (p.tos y a) | inr b ↦ right y.to (q.tos y b) ];
+  firsts = λ e h. elim (Has-append_cases P.first Q.first e h) [ inl a ↦ left e.to (p.firsts e a) | inr b ↦ right e.to (q.firsts e b) ];
+  lasts = λ s h. elim (Has-append_cases P.last Q.last s h) [ inl a ↦ left s.state (p.lasts s a) | inr b ↦ right s.state (q.lasts s b) ];
+  froms = λ y h. elim (Has-append_cases P.follow Q.follow y h) [ inl a ↦ left y.from (p.froms y a) | inr b ↦ right y.from (q.froms y b) ];
+  tos = λ y h. elim (Has-append_cases P.follow Q.follow y h) [ inl a ↦ left y.to (p.tos y a) | inr b ↦ right y.to (q.tos y b) ];
 }
   where
     left : (x : ℕ) → (k ≤ x) × (x < k + P.count) → (k ≤ x) × (x < k + (P.count + Q.count))
@@ -114,12 +115,12 @@ pub plus_lies : (k : ℕ) (P : Places) → LiesFrom k P → LiesFrom k (plus_pla
 plus_lies k P p = record {
   firsts = p.firsts;
   lasts = p.lasts;
-  froms = λ y h. elim (has_cases P.follow (ways_between P.last P.first) y h) [
+  froms = λ y h. elim (Has-append_cases P.follow (ways_between P.last P.first) y h) [
     | inl a ↦ p.froms y a
     | inr b ↦ let r = ways_of P.last P.first y b in
         subst (λ z. (k ≤ z) × (z < k + P.count)) (ap (λ (g : Way). g.from) r.4) (p.lasts r.0 r.2)
   ];
-  tos = λ y h. elim (has_cases P.follow (ways_between P.last P.first) y h) [
+  tos = λ y h. elim (Has-append_cases P.follow (ways_between P.last P.first) y h) [
     | inl a ↦ p.tos y a
     | inr b ↦ let r = ways_of P.last P.first y b in
         subst (λ z. (k ≤ z) × (z < k + P.count)) (ap (λ (g : Way). g.to) r.4) (p.firsts r.1 r.3)
@@ -128,9 +129,9 @@ plus_lies k P p = record {
 
 pub cap_lies : (o c k : ℕ) (P : Places) → LiesFrom k P → LiesFrom k (cap_places o c P)
 cap_lies o c k P p = record {
-  firsts = λ e h. let r = map_cases (entry_with o) P.first e h in
+  firsts = λ e h. let r = Has-map_cases (entry_with o) P.first e h in
       subst (λ z. (k ≤ z) × (z < k + P.count)) (ap (λ (g : Entry). g.to) r.2) (p.firsts r.0 r.1);
-  lasts = λ s h. let r = map_cases (stop_with c) P.last s h in
+  lasts = λ s h. let r = Has-map_cases (stop_with c) P.last s h in
       subst (λ z. (k ≤ z) × (z < k + P.count)) (ap (λ (g : Stop). g.state) r.2) (p.lasts r.0 r.1);
   froms = p.froms;
   tos = p.tos;

@@ -14,17 +14,18 @@ use Rattle.place_automaton.specs.declared.piece.Entry.{Entry}
 use Rattle.place_automaton.specs.Places.{Places, add_once, either_once, sums, nothing_placed, never_placed, one_placed, cat_places, alt_places, opt_places, plus_places, cap_places}
 use Rattle.place_automaton.specs.Reads.{Reads, Shown, blocks}
 use Rattle.place_automaton.proofs.Blocks.{bit_here, bit_apart, cap_block, compared, blocks_append, IsEmptyOutside, DoesNotEndBefore}
-use Rattle.place_automaton.proofs.HasLemmas.{has_map, map_cases, has_flat_map, flat_map_cases}
+use Rattle.spanner_model.proofs.HasLaws.{Has-map, Has-map_cases}
+use Rattle.marked_automaton.proofs.Passing.{has_flat_map, flat_map_cases}
 use Rattle.place_automaton.proofs.PlaceReads.{reads_same, reads_after_null, reads_before_null, reads_across, reads_of_cat, reads_once, reads_again, reads_of_plus, reads_in_cap, reads_of_cap, reads_in_left, reads_in_right, reads_of_alt}
 use Rattle.place_automaton.proofs.Ranges.{LiesFrom}
 
 has_sums : (ms ns : List ℕ) (m n : ℕ) → Has ms m → Has ns n → Has (sums ms ns) (m + n)
-has_sums ms ns m n a b = has_flat_map (λ m. map (◌+◌ m) ns) ms m (m + n) a (has_map (◌+◌ m) ns n b)
+has_sums ms ns m n a b = has_flat_map (λ m. map (◌+◌ m) ns) ms m (m + n) a (Has-map (◌+◌ m) ns n b)
 
 pub sums_cases : (ms ns : List ℕ) (k : ℕ) → Has (sums ms ns) k → (m : ℕ) × (n : ℕ) × Has ms m × Has ns n × (m + n ≡ k)
 sums_cases ms ns k h =
     let a = flat_map_cases (λ m. map (◌+◌ m) ns) ms k h in
-    let b = map_cases (◌+◌ a.0) ns k a.2 in
+    let b = Has-map_cases (◌+◌ a.0) ns k a.2 in
     (a.0, b.0, a.1, b.1, b.2)
 
 only_one : {X : Type 0} (x y : X) → Has (x ∷ []) y → x ≡ y
@@ -431,7 +432,7 @@ module _ (opening closing : VarName → ℕ) (d : List ℕ) where
           go (inl a) =
               let e : opening x + closing x + B h.1 i ≡ B m i =
               omega (arith, s i, bit_here i i (opening x) refl, bit_here j i (closing x) (sym a.0)) in
-              inl (a.0, subst (Has (map (◌+◌ (opening x + closing x)) P.null)) e (has_map (◌+◌ (opening x + closing x)) P.null (B h.1 i) a.1))
+              inl (a.0, subst (Has (map (◌+◌ (opening x + closing x)) P.null)) e (Has-map (◌+◌ (opening x + closing x)) P.null (B h.1 i) a.1))
           go (inr a) =
               inr (
                 a.0,
@@ -446,7 +447,7 @@ module _ (opening closing : VarName → ℕ) (d : List ℕ) where
 
       null : (i m : ℕ) → Has (map (◌+◌ (opening x + closing x)) P.null) m → (c : Captures) × Capturing x X i i c × (B c i ≡ m)
       null i m h =
-          let a = map_cases (◌+◌ (opening x + closing x)) P.null m h in
+          let a = Has-map_cases (◌+◌ (opening x + closing x)) P.null m h in
           let r = sx.null i a.0 a.1 in (
             (x, record { start = i; end = i; ordered = omega arith }) ∷ r.0,
             (record { start = i; end = i; ordered = omega arith }, r.0, refl, refl, r.1, free i i r.0 r.1, refl),

@@ -8,7 +8,7 @@ use Rattle.marked_automaton.specs.declared.way.Stop.{Stop}
 use Rattle.place_automaton.specs.declared.piece.Entry.{Entry}
 use Rattle.place_automaton.specs.Ends.{Ends, ends_of, JoinAsSums, IsUnmarked, cat_ends, opt_ends, row_ends, RowJoins, again_ends, nothing_ends}
 use Rattle.place_automaton.specs.Places.{Placed, entry_with, stop_with}
-use Rattle.place_automaton.proofs.HasLemmas.{has_cases}
+use Rattle.spanner_model.proofs.HasLaws.{Has-append_cases}
 use Rattle.place_automaton.proofs.Ranges.{entries_of, stops_of}
 use Rattle.place_automaton.proofs.Rows.{copies}
 use Rattle.place_automaton.proofs.Shows.{sums_cases, once_cases}
@@ -22,13 +22,13 @@ unmarked_joins P Q p q m n hm hn =
 cat_unmarked : (P Q : Ends) → IsUnmarked P → IsUnmarked Q → IsUnmarked (cat_ends P Q)
 cat_unmarked P Q p q m (inl h) = let r = sums_cases P.null Q.null m h in omega (arith, r.4, p r.0 (inl r.2), q r.1 (inl r.3))
 cat_unmarked P Q p q m (inr (inl h)) =
-    elim (has_cases P.first (flat_map (λ m. map (entry_with m) Q.first) P.null) h.0 h.1) [
+    elim (Has-append_cases P.first (flat_map (λ m. map (entry_with m) Q.first) P.null) h.0 h.1) [
       | inl a ↦ p m (inr (inl (h.0, a, h.2)))
       | inr b ↦ let r = entries_of P.null Q.first h.0 b in
           omega (arith, h.2, ap (λ (e : Entry). e.marks) r.4, p r.0 (inl r.2), q r.1.marks (inr (inl (r.1, r.3, refl))))
     ]
 cat_unmarked P Q p q m (inr (inr h)) =
-    elim (has_cases Q.last (flat_map (λ m. map (stop_with m) P.last) Q.null) h.0 h.1) [
+    elim (Has-append_cases Q.last (flat_map (λ m. map (stop_with m) P.last) Q.null) h.0 h.1) [
       | inl a ↦ q m (inr (inr (h.0, a, h.2)))
       | inr b ↦ let r = stops_of Q.null P.last h.0 b in
           omega (arith, h.2, ap (λ (s : Stop). s.marks) r.4, q r.0 (inl r.2), p r.1.marks (inr (inr (r.1, r.3, refl))))

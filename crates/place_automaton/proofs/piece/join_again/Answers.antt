@@ -1,26 +1,26 @@
 use Rattle.std.proofs.Common.{◌∷◌, [], inl, refl, sym, subst}
 use Rattle.spanner_model.specs.Lists.{Has}
 use Rattle.place_automaton.specs.Ends.{IsUnmarked}
-use Rattle.place_automaton.proofs.HasLemmas.{has_left, has_right}
+use Rattle.spanner_model.proofs.HasLaws.{Has-append_left, Has-append_right}
 use Rattle.place_automaton.proofs.Unmarked.{unmarked_joins, again_unmarked, row_joins}
 use Rattle.place_automaton.proofs.piece.join_again.Goals as goal
 
 pub push_again-requires : goal.push_again-requires
 push_again-requires c =
     let P = c.in-Some.last in
-    let there = c.requires P (subst (λ ps. Has ps P) (sym c.in-Some.ensures.items) (has_right c.pop.new.self.items (P ∷ []) P (inl refl))) in
+    let there = c.requires P (subst (λ ps. Has ps P) (sym c.in-Some.ensures.items) (Has-append_right c.pop.new.self.items (P ∷ []) P (inl refl))) in
     unmarked_joins P P there there
 
 pub opt_if-requires : goal.opt_if-requires
 opt_if-requires c = λ none m h.
     let P = c.in-Some.last in
-    c.requires P (subst (λ ps. Has ps P) (sym c.in-Some.ensures.items) (has_right c.pop.new.self.items (P ∷ []) P (inl refl))) m (inl h)
+    c.requires P (subst (λ ps. Has ps P) (sym c.in-Some.ensures.items) (Has-append_right c.pop.new.self.items (P ∷ []) P (inl refl))) m (inl h)
 
 pub join_row-requires : goal.join_row-requires
 join_row-requires c =
     let P = c.in-Some.last in
     let new = c.pop.new.self.items in
-    let there = c.requires P (subst (λ ps. Has ps P) (sym c.in-Some.ensures.items) (has_right new (P ∷ []) P (inl refl))) in
+    let there = c.requires P (subst (λ ps. Has ps P) (sym c.in-Some.ensures.items) (Has-append_right new (P ∷ []) P (inl refl))) in
     row_joins c.args.required new c.opt_if.result
-    (λ Q h. c.requires Q (subst (λ ps. Has ps Q) (sym c.in-Some.ensures.items) (has_left new (P ∷ []) Q h)))
+    (λ Q h. c.requires Q (subst (λ ps. Has ps Q) (sym c.in-Some.ensures.items) (Has-append_left new (P ∷ []) Q h)))
     (subst IsUnmarked (sym c.opt_if.ensures) (again_unmarked c.args.required P there))
