@@ -3,3 +3,4 @@ pub mod Kept
 pub mod Laws
 pub mod Parts
 pub mod QueryAutomaton
+pub mod Weights
