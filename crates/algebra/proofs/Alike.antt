@@ -1,5 +1,5 @@
 -- Automata that are the same but for the order of their idle states.
-use Rattle.std.proofs.Common.{List, length, get_or, ◌≡◌, ℕ, ◌<◌, ◌↔◌, subst, sym, ap, ◌∙◌}
+use Rattle.std.proofs.Common.{List, length, get_or, ◌≡◌, ℕ, ◌<◌, ◌↔◌, subst, sym}
 use Rattle.spanner_model.specs.Lists.{Has}
 use Rattle.spanner_model.proofs.HasLaws.{Has-map_cases, Has-get_or}
 use Rattle.marked_automaton.specs.declared.way.Way.{Way}
@@ -7,7 +7,7 @@ use Rattle.marked_automaton.specs.declared.way.Stop.{Stop}
 use Rattle.marked_automaton.specs.Automaton.{Automaton, IsWhole}
 use Rattle.marked_automaton.specs.Marks.{remarked, remarked_way, remarked_stop}
 use Rattle.marked_automaton.specs.Reduct.{Reduces}
-use Rattle.marked_automaton.proofs.Rearranged.{reduct_of_itself, some_below}
+use Rattle.marked_automaton.proofs.Rearranged.{reduct_of_itself}
 
 pub record IsAlike (A B : Automaton) : Type 0 where
   pub states : A.states ≡ B.states

@@ -1,9 +1,9 @@
 -- The automaton of the pairs that are found.
-use Rattle.std.proofs.Common.{◌≡◌, ℕ, zero, suc, ◌+◌, ◌*◌, ◌^◌, ◌<◌, ◌≤◌, ◌↔◌, ◌⊎◌, Bool, true, false, List, [], ◌∷◌, ◌++◌, Option, Some, None, length, map, get_or, take, nat_eq, inl, inr, refl, sym, ap, subst, arith, ◌∙◌}
+use Rattle.std.proofs.Common.{◌≡◌, ℕ, ◌+◌, ◌<◌, ◌↔◌, ◌⊎◌, List, [], ◌∷◌, ◌++◌, Some, length, map, inl, inr, refl, sym, ap, subst, arith, ◌∙◌}
 use Rattle.std.specs.Prelude.{slice_get}
 use Rattle.std.specs.List.{filter, flat_map}
 use Rattle.spanner_model.specs.Lists.{Has, AreDistinct}
-use Rattle.spanner_model.proofs.HasLaws.{Has-append_left, Has-append_right, Has-append_cases, Has-map_cases, Has-slice_get}
+use Rattle.spanner_model.proofs.HasLaws.{Has-append_left, Has-append_right, Has-append_cases, Has-map_cases}
 use Rattle.marked_automaton.specs.declared.way.Way.{Way}
 use Rattle.marked_automaton.specs.declared.way.Stop.{Stop}
 use Rattle.marked_automaton.proofs.Listed.{some_same, compared}
@@ -11,9 +11,8 @@ use Rattle.algebra.specs.declared.halves.HalfStop.{HalfStop}
 use Rattle.algebra.specs.declared.pairs.Pair.{Pair}
 use Rattle.marked_automaton.specs.Automaton.{Automaton, HasGraphOf, with_ways}
 use Rattle.algebra.specs.Sides.{IsMadeOf}
-use Rattle.algebra.specs.Pairs.{HasAllButStarts, HasAllButStops, IsIdleHere, IsIdlePair, IsStopAt, Matched, PairStop, half_at, pair_of, pairs, pairs_at, stop_at, stop_pair, stops_at_pair, stops_meet, those_at}
-use Rattle.algebra.proofs.HasLemmas.{flat_map_cases}
-use Rattle.algebra.proofs.Joins.{filter_cases}
+use Rattle.algebra.specs.Pairs.{HasAllButStarts, HasAllButStops, IsIdleHere, IsIdlePair, IsStopAt, Matched, PairStop, half_at, pair_of, stop_at, stop_pair, stops_at_pair, stops_meet, those_at}
+use Rattle.marked_automaton.proofs.Passing.{filter_cases, flat_map_cases}
 use Rattle.algebra.proofs.Searched.{row_has}
 
 pub one_start_more : (old starts new : List ℕ) (i : ℕ) → ((p : ℕ) → Has starts p ↔ (Has old p ⊎ (p < i))) → new ≡ starts ++ i ∷ [] →

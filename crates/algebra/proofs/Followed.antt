@@ -1,7 +1,7 @@
 -- How the search of pairs grows.
-use Rattle.std.proofs.Common.{◌≡◌, ℕ, zero, suc, ◌+◌, ◌*◌, ◌<◌, ◌≤◌, ◌⊎◌, Bool, true, false, List, [], ◌∷◌, ◌++◌, Option, Some, None, length, get_or, take, drop, inl, inr, refl, sym, ap, subst, arith, ◌∙◌, append_assoc, length-append}
+use Rattle.std.proofs.Common.{◌≡◌, ℕ, ◌+◌, ◌*◌, ◌<◌, ◌≤◌, ◌⊎◌, Bool, true, false, List, [], ◌∷◌, ◌++◌, Some, length, get_or, take, drop, inl, inr, refl, sym, ap, subst, arith, ◌∙◌, append_assoc, length-append}
 use Rattle.std.specs.Prelude.{slice_get, map, if◌then◌else◌}
-use Rattle.std.specs.List.{filter, flat_map}
+use Rattle.std.specs.List.{filter}
 use Rattle.std.proofs.lemmas.Grind.{flat_map-append}
 use Rattle.std.proofs.lemmas.List.{append-nil, map-append, take-append-drop}
 use Rattle.std.proofs.lemmas.List.Elements.{filter-append}
@@ -19,12 +19,12 @@ use Rattle.std.proofs.lemmas.List.{take_more}
 use Rattle.marked_automaton.specs.Automaton.{ByteClass}
 use Rattle.marked_automaton.proofs.Listed.{some_same}
 use Rattle.marked_automaton.specs.declared.way.Way.{Way}
-use Rattle.marked_automaton.specs.declared.TheConstants.{MOST_STATES, MOST_WAYS}
+use Rattle.marked_automaton.specs.declared.TheConstants.{MOST_WAYS}
 use Rattle.marked_automaton.specs.declared.fault.SizeFault.{SizeFault}
-use Rattle.marked_automaton.specs.declared.fault.SizeFault.TheVariants.{States, Ways, OutOfMemory}
+use Rattle.marked_automaton.specs.declared.fault.SizeFault.TheVariants.{Ways, OutOfMemory}
 use Rattle.marked_automaton.proofs.Sizes.{no_more}
 use Rattle.algebra.specs.declared.pairs.Pair.{Pair}
-use Rattle.algebra.specs.Pairs.{pair_of, pairs, PairWay, PairStop, IsWayBetween, IsStopAt, Matched, AreWithin, LeadWithin, IsFollowed, IsRefusalOf}
+use Rattle.algebra.specs.Pairs.{pair_of, pairs, PairWay, IsWayBetween, Matched, AreWithin, IsFollowed, IsRefusalOf}
 use Rattle.algebra.specs.Operations.{has_some, is_some_list}
 use Rattle.algebra.proofs.Bytes.{some_has}
 use Rattle.std.specs.Ordering.{nat_cmp, eq_by_cmp}

@@ -1,6 +1,6 @@
 -- What pairs of elements make, gathered by the numbers of the two.
-use Rattle.std.proofs.Common.{◌≡◌, ℕ, zero, suc, ◌+◌, Bool, true, false, List, [], ◌∷◌, ◌++◌, Option, Some, None, length, inl, inr, refl, sym, ap, subst, arith, ◌∙◌}
-use Rattle.std.specs.Prelude.{map, slice_get, nat_eq, if◌then◌else◌, ◌&&◌, ◌||◌, cond}
+use Rattle.std.proofs.Common.{◌≡◌, ℕ, Bool, true, false, List, [], ◌∷◌, ◌++◌, inl, inr, refl, sym, ap, subst, ◌∙◌}
+use Rattle.std.specs.Prelude.{map, nat_eq, ◌&&◌, ◌||◌, cond}
 use Rattle.std.specs.List.{filter, flat_map}
 use Rattle.std.specs.List.Sorted.{IsPermutation}
 use Rattle.std.proofs.lemmas.List.Elements.{filter-append}
@@ -9,7 +9,7 @@ use Rattle.std.proofs.lemmas.Bool.{eqb-true, eq-eqb}
 use Rattle.spanner_model.specs.Lists.{Has, AreDistinct}
 use Rattle.algebra.specs.declared.pairs.Pair.{Pair}
 use Rattle.algebra.specs.Pairs.{pair_of, pairs, those_at, pairs_at}
-use Rattle.algebra.proofs.Bytes.{both_true, left_true, right_true}
+use Rattle.marked_automaton.proofs.Passing.{both_true, left_true, right_true}
 
 module _ {X : Type 0} (t : X → Bool) where
   pub filter_yes : (x : X) (xs : List X) → t x ≡ true → filter t (x ∷ xs) ≡ x ∷ filter t xs

@@ -1,9 +1,8 @@
 -- What the search of a join makes is its reduct.
-use Rattle.std.proofs.Common.{◌≡◌, ℕ, zero, suc, ◌+◌, ◌*◌, ◌^◌, ◌<◌, ◌≤◌, ◌↔◌, ◌⊎◌, Bool, true, false, ◌&&◌, List, [], ◌∷◌, ◌++◌, Option, Some, None, length, length-append, get_or, map, nat_eq, inl, inr, refl, sym, ap, subst, arith, ◌∙◌}
+use Rattle.std.proofs.Common.{◌≡◌, ℕ, ◌+◌, ◌*◌, ◌^◌, ◌<◌, ◌≤◌, ◌↔◌, Bool, true, false, ◌&&◌, List, [], ◌∷◌, ◌++◌, Option, Some, length, length-append, get_or, map, nat_eq, inl, inr, refl, sym, ap, subst, arith, ◌∙◌}
 use Rattle.std.specs.Prelude.{slice_get}
 use Rattle.std.specs.FinSet as set
 use Rattle.std.specs.List.{filter, flat_map}
-use Rattle.std.specs.Ordering.{nat_cmp}
 use Rattle.std.proofs.lemmas.Bool.{eq-eqb}
 use Rattle.std.proofs.lemmas.Cmp.{nat_cmp_total}
 use Rattle.std.proofs.lemmas.List.{map-append, length-map}
@@ -13,7 +12,6 @@ use Rattle.spanner_model.specs.Captures.{VarName}
 use Rattle.spanner_model.specs.Lists.{Has, AreDistinct}
 use Rattle.spanner_model.proofs.HasLaws.{Has-append_left, Has-map, Has-map_cases, Has-slice_get, place_of-Has}
 use Rattle.marked_automaton.specs.declared.way.Way.{Way}
-use Rattle.marked_automaton.specs.declared.way.Stop.{Stop}
 use Rattle.marked_automaton.specs.Automaton.{Automaton, ByteClass, IsMarked, IsWayOf, Marked, all_bytes, idle_way}
 use Rattle.marked_automaton.specs.declared.fault.SizeFault.{SizeFault}
 use Rattle.marked_automaton.specs.declared.fault.SizeFault.TheVariants.{States, Ways, OutOfMemory}
@@ -25,17 +23,15 @@ use Rattle.algebra.specs.declared.halves.HalfStop.{HalfStop}
 use Rattle.algebra.specs.declared.pairs.Pair.{Pair}
 use Rattle.algebra.specs.JoinedMarks.{agree_on, joined}
 use Rattle.algebra.specs.Operations.{ends_with, goes_with, has_some, join_of, meet, pair_stop, pair_way}
-use Rattle.algebra.specs.Pairs.{AreStarted, AreWithin, HaveSameRows, IsFollowed, IsIdlePair, IsStopAt, IsWayBetween, LeadWithin, Matched, PairStop, PairWay, half_at, half_from, pair_of, pairs, pairs_at, stop_pair, stops_at_pair, stops_meet, those_at, way_pair, ways_at, ways_meet}
-use Rattle.algebra.specs.Renaming.{half_stop, half_way, moved_marks}
+use Rattle.algebra.specs.Pairs.{AreStarted, AreWithin, HaveSameRows, IsFollowed, IsIdlePair, IsStopAt, IsWayBetween, LeadWithin, Matched, PairStop, PairWay, half_at, half_from, pair_of, pairs, stop_pair, stops_at_pair, stops_meet, those_at, way_pair, ways_at, ways_meet}
+use Rattle.algebra.specs.Renaming.{half_stop, half_way}
 use Rattle.algebra.specs.Sides.{IsMadeOf, IsSideOf, shifts_of}
-use Rattle.algebra.proofs.Bytes.{both_true, left_true, right_true}
+use Rattle.marked_automaton.proofs.Passing.{both_true, filter_cases, flat_map_cases, has_filter, has_flat_map, right_true}
 use Rattle.algebra.proofs.Followed.{no_bytes, pairs_few, some_bytes}
 use Rattle.algebra.proofs.Gathered.{filter_yes, filter_no, gathered, one_of}
-use Rattle.algebra.proofs.HasLemmas.{has_flat_map, flat_map_cases}
-use Rattle.algebra.proofs.Joins.{filter_cases, has_filter}
 use Rattle.algebra.proofs.Places.{match_from, match_len, match_of, place_there}
 use Rattle.algebra.proofs.ReductUnions.{get_left}
-use Rattle.algebra.proofs.Reached.{AreSides, IsOfFound, coded, coded_stop, coded_way, found_reduces, of_pairs}
+use Rattle.algebra.proofs.Reached.{AreSides, IsOfFound, coded_stop, coded_way, found_reduces, of_pairs}
 use Rattle.algebra.proofs.RenamingLaws.{agree_is, joined_is, joined_small, moved_none}
 use Rattle.algebra.proofs.Searched.{filter_no_more, gathered_ways, row_has, same_rows}
 

@@ -12,9 +12,9 @@ use Rattle.marked_automaton.specs.Automaton.{Automaton, ReadsByte, Walk, Accepts
 use Rattle.marked_automaton.specs.Automaton.{IsWhole}
 use Rattle.algebra.specs.Operations.{meet, has_some, goes_with, pair_way, ends_with, pair_stop, join_of}
 use Rattle.algebra.specs.Laws.{JoinLaw}
-use Rattle.algebra.proofs.Bytes.{both_true, left_true, meet_left, meet_right, in_meet, some_byte}
+use Rattle.algebra.proofs.Bytes.{meet_left, meet_right, in_meet, some_byte}
 use Rattle.marked_automaton.proofs.Listed.{compared}
-use Rattle.algebra.proofs.HasLemmas.{has_flat_map, flat_map_cases}
+use Rattle.marked_automaton.proofs.Passing.{both_true, filter_cases, flat_map_cases, has_filter, has_flat_map, left_true}
 use Rattle.spanner_model.proofs.HasLaws.{Has-map, Has-map_cases}
 use Rattle.marked_automaton.proofs.Walks.{walk_same}
 
@@ -34,29 +34,6 @@ pair_same n p q a b l m e =
         let k : a ≡ p + 1 + (a - suc p) = omega (arith, less) in
         let f : a * n ≡ (p + 1 + (a - suc p)) * n = ap (λ x. x * n) k in
         omega (arith, e, f, l)
-
--- the elements that pass
-pub filter_cases : {X : Type 0} (t : X → Bool) (xs : List X) (x : X) → Has (filter t xs) x → Has xs x × (t x ≡ true)
-filter_cases t [] x h = absurd h
-filter_cases t (y ∷ xs) x h = go (filter_cases t xs x) (t y) refl h
-  where
-    go : (Has (filter t xs) x → Has xs x × (t x ≡ true)) → (b : Bool) → t y ≡ b → Has (cond b (y ∷ filter t xs) (filter t xs)) x → Has (y ∷ xs) x × (t x ≡ true)
-    go rest true at (inl e) = (inl e, ap t (sym e) ∙ at)
-    go rest true at (inr h) = let r = rest h in (inr r.0, r.1)
-    go rest false at h = let r = rest h in (inr r.0, r.1)
-
-pub has_filter : {X : Type 0} (t : X → Bool) (xs : List X) (x : X) → Has xs x → t x ≡ true → Has (filter t xs) x
-has_filter t [] x h e = absurd h
-has_filter t (y ∷ xs) x h e = go (has_filter t xs x) (t y) refl h
-  where
-    go : (Has xs x → t x ≡ true → Has (filter t xs) x) → (b : Bool) → t y ≡ b → Has (y ∷ xs) x → Has (cond b (y ∷ filter t xs) (filter t xs)) x
-    go rest true at (inl f) = inl f
-    go rest true at (inr h) = inr (rest h e)
-    go rest false at (inl f) = absurd (false_true (sym at ∙ (ap t f ∙ e)))
-      where
-        false_true : false ≡ true → ⊥
-        false_true f = cc
-    go rest false at (inr h) = rest h e
 
 abbrev put : (ℕ → ℕ) → ℕ → ℕ → ℕ → ℕ
 put v k m p = if nat_eq k p then m else v p

@@ -3,7 +3,6 @@ pub mod Assembled
 pub mod Bytes
 pub mod Followed
 pub mod Gathered
-pub mod HasLemmas
 pub mod JoinTheory
 pub mod Joins
 pub mod NamesLaws

@@ -4,7 +4,7 @@ use Rattle.std.specs.Prelude.{map, slice_get, nat_eq, if◌then◌else◌, ◌&&
 use Rattle.std.specs.List.{filter, flat_map}
 use Rattle.std.specs.Option.{option_map}
 use Rattle.std.proofs.lemmas.Bool.{eqb-true, eq-eqb}
-use Rattle.algebra.proofs.Bytes.{left_true, right_true, both_true}
+use Rattle.marked_automaton.proofs.Passing.{both_true, left_true, right_true}
 use Rattle.marked_automaton.proofs.Listed.{get_map_cases, get_map}
 use Rattle.marked_automaton.proofs.Listed.{some_same}
 use Rattle.algebra.proofs.ReductUnions.{get_left, get_right, get_append_cases}

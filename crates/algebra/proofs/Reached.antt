@@ -1,5 +1,5 @@
 -- The pairs of some states, among which are all that are reached, are enough of a join.
-use Rattle.std.proofs.Common.{◌≡◌, ℕ, zero, suc, ◌+◌, ◌*◌, ◌/◌, ◌%◌, ◌<◌, ◌↔◌, Bool, true, List, Option, Some, None, length, get_or, refl, sym, ap, subst, arith, ◌∙◌}
+use Rattle.std.proofs.Common.{◌≡◌, ℕ, zero, suc, ◌+◌, ◌*◌, ◌/◌, ◌%◌, ◌<◌, ◌↔◌, List, Option, Some, length, get_or, sym, ap, subst, arith, ◌∙◌}
 use Rattle.std.specs.Prelude.{slice_get, map}
 use Rattle.std.specs.List.{filter, flat_map}
 use Rattle.std.specs.List.Sorted.{IsPermutation}
@@ -10,12 +10,12 @@ use Rattle.spanner_model.proofs.HasLaws.{Has-slice_get, Has-map, Has-map_cases, 
 use Rattle.marked_automaton.specs.declared.way.Way.{Way}
 use Rattle.marked_automaton.specs.declared.way.Stop.{Stop}
 use Rattle.marked_automaton.specs.Automaton.{Automaton, HasByte}
-use Rattle.marked_automaton.specs.Reduct.{IsReachedIn, IsReached, HasEnd, Knows, IsReduct, Reduces}
+use Rattle.marked_automaton.specs.Reduct.{IsReachedIn, IsReached, HasEnd, Knows, Reduces}
 use Rattle.marked_automaton.proofs.Listed.{some_same, get_within, get_map, get_map_cases}
 use Rattle.algebra.specs.declared.pairs.Pair.{Pair}
 use Rattle.algebra.specs.Pairs.{pair_of, PairWay, PairStop, IsWayBetween, IsStopAt, Matched, AreWithin}
 use Rattle.algebra.proofs.Gathered.{one_of}
-use Rattle.algebra.proofs.HasLemmas.{has_flat_map, flat_map_cases}
+use Rattle.marked_automaton.proofs.Passing.{flat_map_cases, has_flat_map}
 use Rattle.algebra.proofs.Joins.{pair_same}
 use Rattle.algebra.proofs.Places as put
 use Rattle.algebra.proofs.Places.{place_in, place_is, place_there, match_of, match_from}

@@ -13,10 +13,10 @@ use Rattle.marked_automaton.specs.Automaton.{IsWhole}
 use Rattle.algebra.specs.Operations.{meet, has_some, goes_with, pair_way, ends_with, pair_stop, join_of}
 use Rattle.marked_automaton.specs.Reduct.{IsReachedIn, IsReached, HasEnd, Knows, IsReduct}
 use Rattle.algebra.specs.Laws.{ReductOfJoin}
-use Rattle.algebra.proofs.HasLemmas.{has_flat_map, flat_map_cases}
+use Rattle.marked_automaton.proofs.Passing.{both_true, filter_cases, flat_map_cases, has_filter, has_flat_map, left_true, right_true}
 use Rattle.spanner_model.proofs.HasLaws.{Has-map, Has-map_cases}
-use Rattle.algebra.proofs.Joins.{pair_same, filter_cases, has_filter}
-use Rattle.algebra.proofs.Bytes.{both_true, left_true, right_true, meet_left, meet_right, in_meet, some_byte, some_has}
+use Rattle.algebra.proofs.Joins.{pair_same}
+use Rattle.algebra.proofs.Bytes.{meet_left, meet_right, in_meet, some_byte, some_has}
 use Rattle.algebra.proofs.PairPlaces.{Spot, spots, spot_of, spot_exists, spot_once, find_spot, find_is, find_there}
 use Rattle.marked_automaton.proofs.Listed.{some_same, place_has}
 

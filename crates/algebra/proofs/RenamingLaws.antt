@@ -1,9 +1,8 @@
 -- The bits of variables under other names.
-use Rattle.std.proofs.Common.{◌≡◌, ℕ, zero, suc, ◌+◌, ◌-◌, ◌*◌, ◌^◌, ◌/◌, ◌%◌, ◌<◌, ◌≤◌, ◌⊎◌, Bool, true, false, ◌&&◌, ◌||◌, List, [], ◌∷◌, ◌++◌, Option, Some, None, length, nat_eq, inl, inr, refl, sym, ap, subst, arith, ◌∙◌}
+use Rattle.std.proofs.Common.{◌≡◌, ℕ, zero, suc, ◌+◌, ◌-◌, ◌*◌, ◌^◌, ◌/◌, ◌%◌, ◌<◌, ◌≤◌, Bool, true, false, ◌&&◌, ◌||◌, List, [], ◌∷◌, ◌++◌, Option, Some, None, length, nat_eq, refl, sym, ap, subst, arith, ◌∙◌}
 use Rattle.std.specs.Prelude.{map, slice_get, if◌then◌else◌, Contains, IfSome, IfNone, is_some}
 use mathlib.Core.Bool.{beq, not}
 use Rattle.std.specs.Str.{bytes_eq}
-use Rattle.std.specs.FinSet as set
 use Rattle.std.proofs.Math.Nat.{mod-eq_of_lt, zero-div}
 use Rattle.std.proofs.lemmas.Nat.{div-mul-add, mod-mul-add, mod-pow-add, div_below, mod_below, pow-add}
 use Rattle.std.proofs.lemmas.Bool.{eq-eqb, ne_eqb, eqb-true}
@@ -13,7 +12,7 @@ use Rattle.spanner_model.specs.Lists.{Has, AreDistinct}
 use Rattle.spanner_model.proofs.HasLaws.{Has-slice_get, Has-map_cases, Contains-Has}
 use Rattle.marked_automaton.specs.Marks.{bits_of}
 use Rattle.marked_automaton.proofs.Erasing.{same_name, name_itself, four_times, digit_before}
-use Rattle.marked_automaton.proofs.Listed.{some_same, get_within}
+use Rattle.marked_automaton.proofs.Listed.{some_same}
 use Rattle.algebra.specs.JoinedMarks.{has_name, agree_on, joined}
 use Rattle.algebra.specs.Renaming.{place_shift, shift_of, bits_up, moved_marks}
 use Rattle.algebra.proofs.Joins.{pair_same}

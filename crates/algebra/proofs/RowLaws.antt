@@ -1,5 +1,5 @@
 -- What blocks say of the spans of two rows.
-use Rattle.std.proofs.Common.{◌≡◌, ℕ, ◌+◌, ◌*◌, ◌^◌, ◌<◌, ◌≤◌, ◌⊎◌, ◌↔◌, Bool, true, false, List, [], ◌∷◌, length, map, Option, Some, None, inl, inr, refl, sym, ap, subst, arith, ◌∙◌}
+use Rattle.std.proofs.Common.{◌≡◌, ℕ, ◌+◌, ◌*◌, ◌^◌, ◌<◌, ◌≤◌, ◌⊎◌, Bool, true, false, List, [], ◌∷◌, length, map, Option, Some, None, inl, inr, refl, sym, ap, subst, arith, ◌∙◌}
 use Rattle.std.specs.Prelude.{if◌then◌else◌, IsTrue, ◌&&◌, ◌||◌, nat_eq, ◌==◌}
 use Rattle.std.specs.Int.{from_bool}
 use Rattle.std.specs.Option.{ForSome}
@@ -11,12 +11,12 @@ use Rattle.span_core.specs.Block.{block}
 use Rattle.span_core.specs.Digits.{digit}
 use Rattle.span_core.specs.OrderLaws.{digits_tell}
 use Rattle.spanner_model.specs.Captures.{VarName, Mapping, row_of}
-use Rattle.spanner_model.specs.Lists.{Has, AreDistinct}
+use Rattle.spanner_model.specs.Lists.{Has}
 use Rattle.marked_automaton.specs.Marks.{bits_of}
 use Rattle.marked_automaton.proofs.Erasing.{same_name, name_itself, digits, block_digits, bits_law}
 use Rattle.algebra.specs.JoinedMarks.{has_name, agree_on, joined}
-use Rattle.algebra.specs.Rows.{BlocksAgree, BlocksAreJoined, LiesWithin, merged}
-use Rattle.algebra.proofs.Bytes.{both_true, left_true, right_true}
+use Rattle.algebra.specs.Rows.{BlocksAgree, BlocksAreJoined, merged}
+use Rattle.marked_automaton.proofs.Passing.{both_true, left_true, right_true}
 
 or_true : (b : Bool) → (b || true) ≡ true
 or_true true = refl

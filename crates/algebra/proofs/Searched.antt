@@ -1,13 +1,12 @@
 -- The search of pairs as a whole.
-use Rattle.std.proofs.Common.{◌≡◌, ℕ, zero, suc, ◌+◌, ◌*◌, ◌<◌, ◌≤◌, ◌⊎◌, Bool, true, false, List, [], ◌∷◌, ◌++◌, Option, Some, None, length, get_or, take, drop, nat_eq, inl, inr, refl, sym, ap, subst, arith, ◌∙◌, append_assoc, length-append}
-use Rattle.std.specs.Prelude.{slice_get, map}
+use Rattle.std.proofs.Common.{◌≡◌, ℕ, zero, suc, ◌+◌, ◌<◌, ◌≤◌, ◌⊎◌, Bool, List, [], ◌∷◌, ◌++◌, length, get_or, take, nat_eq, inl, inr, refl, sym, ap, subst, arith, ◌∙◌, append_assoc}
 use Rattle.std.specs.List.{filter, flat_map}
 use Rattle.std.proofs.lemmas.Grind.{flat_map-append}
 use Rattle.std.proofs.lemmas.List.{append-nil, take_more, take-append-le}
 use Rattle.std.proofs.lemmas.List.Sorted.{length_permutation}
 use Rattle.std.proofs.lemmas.Bool.{eqb-true}
 use Rattle.spanner_model.specs.Lists.{Has, AreDistinct}
-use Rattle.spanner_model.proofs.HasLaws.{Has-append_left, Has-append_right, Has-append_cases, Has-take, Has-take_more_cases}
+use Rattle.spanner_model.proofs.HasLaws.{Has-append_left, Has-append_right, Has-take, Has-take_more_cases}
 use Rattle.marked_automaton.specs.declared.way.Way.{Way}
 use Rattle.marked_automaton.specs.declared.TheConstants.{MOST_STATES}
 use Rattle.marked_automaton.specs.declared.fault.SizeFault.{SizeFault}
@@ -15,9 +14,9 @@ use Rattle.marked_automaton.proofs.Permuted.{permutation_placed, has_placed}
 use Rattle.marked_automaton.proofs.Filtered.{kept_no_more}
 use Rattle.algebra.specs.declared.halves.HalfWay.{HalfWay}
 use Rattle.algebra.specs.declared.pairs.Pair.{Pair}
-use Rattle.algebra.specs.Pairs.{pair_of, pairs, pairs_at, those_at, PairWay, AreStarted, AreWithin, HaveSameRows, IsFollowed, IsRefusalOf, LeadWithin, half_from, way_pair, ways_at, ways_meet}
+use Rattle.algebra.specs.Pairs.{pair_of, pairs, those_at, PairWay, AreStarted, AreWithin, HaveSameRows, IsRefusalOf, half_from, way_pair, ways_at, ways_meet}
 use Rattle.algebra.proofs.Gathered.{one_of, gathered}
-use Rattle.algebra.proofs.Joins.{filter_cases}
+use Rattle.marked_automaton.proofs.Passing.{filter_cases}
 use Rattle.algebra.proofs.Places.{keep_if, filter_is}
 
 pub rows_more : {R : Type 0} (f : Pair → List R) (keys found : List Pair) (done : ℕ) (k : Pair) → done < length keys → k ≡ get_or keys done k →

@@ -2,12 +2,12 @@
 use Rattle.std.proofs.Common.{◌≡◌, ℕ, ◌<◌, Bool, true, false, ◌&&◌, not, List, nat_eq, cond, inl, inr, refl, sym, ap, arith, ◌∙◌}
 use Rattle.std.specs.Prelude.{nat_lt, ◌==◌}
 use Rattle.std.specs.List.{filter}
-use Rattle.std.specs.List.Sorted.{IsStableByKey, ties}
+use Rattle.std.specs.List.Sorted.{IsStableByKey}
 use Rattle.std.specs.Ordering.{nat_cmp, is_lt}
 use Rattle.std.specs.declared.cmp.Ordering.TheVariants.{Less, Equal, Greater}
 use Rattle.std.proofs.lemmas.Bool.{eq-eqb, ne_eqb, lt-ltb, le-ltb}
 use Rattle.marked_automaton.proofs.Listed.{compared}
-use Rattle.algebra.specs.Pairs.{HaveSameRows, those_at}
+use Rattle.algebra.specs.Pairs.{HaveSameRows}
 
 less_is : (a b : ℕ) → a < b → is_lt (nat_cmp a b) ≡ true
 less_is a b l = ap (λ t. is_lt (cond t Less (cond (a == b) Equal Greater))) (lt-ltb a b l)

@@ -140,7 +140,7 @@ stop_at state r = record { state = state; marks = r.marks }
 abbrev pub stops_with : HalfStop → List HalfStop → List PairStop
 stops_with x ys = map (stop_pair x) (filter (stops_meet x) ys)
 
--- nothing but the ends, the starts differs
+-- nothing but the ends differs, and nothing but the starts
 pub record HasAllButStops (A B : Automaton) : Type 0 where
   pub states : A.states ≡ B.states
   pub starts : A.starts ≡ B.starts

@@ -11,7 +11,7 @@ ghost use Rattle.marked_automaton.specs.Faults.{IsSizeFaultWithin};
 ghost use Rattle.algebra.specs.Sides.{IsMadeOf};
 ghost use Rattle.algebra.specs.Pairs.{AreWithin, HasAllButStarts, HasAllButStops, IsIdleHere, IsIdlePair, IsStopAt, Matched, half_at, pairs, stop_at, stop_pair, stops_at_pair, stops_meet, stops_with, those_at};
 
-use crate::halves::HalfStop;
+use crate::halves::{HalfStop, Side};
 use crate::pairs::{Pair, Search};
 use marked_automaton::{Automaton, SizeFault, Stop};
 use span_core::{Marks, OutOfMemory, VarSet};
@@ -26,8 +26,8 @@ pub(crate) fn assembled(
     starts: u32,
     a: &Automaton,
     b: &Automaton,
-    left: &[HalfStop],
-    right: &[HalfStop],
+    left: &Side,
+    right: &Side,
 ) -> Result<Automaton, SizeFault>
     requires few { length vars ≤ MOST_VARIABLES }
     requires few_states { length search.found.keys ≤ MOST_STATES }
@@ -35,18 +35,23 @@ pub(crate) fn assembled(
     requires ways { All (IsWayOf (length search.found.keys) (length vars)) search.ways.items }
     requires within { AreWithin a.now.graph.states b.now.graph.states search.found.keys }
     requires idle { (p : ℕ) → IsIdlePair search.found.keys a.now.graph.idle b.now.graph.idle p → Has search.ways.items (idle_way p) }
-    requires left { IsNonDecreasingBy half_at left.now }
-    requires right { IsNonDecreasingBy half_at right.now }
-    requires marks { (x y : HalfStop) → Has left.now x → Has right.now y → x.stop.marks + y.stop.marks < 2 ^ (2 * length vars) }
+    requires left { IsNonDecreasingBy half_at left.now.stops.items }
+    requires right { IsNonDecreasingBy half_at right.now.stops.items }
+    requires marks { (x y : HalfStop) → Has left.now.stops.items x → Has right.now.stops.items y → x.stop.marks + y.stop.marks < 2 ^ (2 * length vars) }
     ensures names { IfOk result (λ j. j.names ≡ vars) }
-    ensures made { IfOk result (λ j. IsMadeOf search.found.keys starts search.ways.items left.now right.now a.now.graph.idle b.now.graph.idle j.graph) }
+    ensures made { IfOk result (λ j. IsMadeOf search.found.keys starts search.ways.items left.now.stops.items right.now.stops.items a.now.graph.idle b.now.graph.idle j.graph) }
     ensures fault { IfErr result (λ e. IsSizeFaultWithin (length search.found.keys) (length search.ways.items) e) }
 {
     let states = search.found.len() as u32;
     let mut automaton = Automaton::with_ways(alloc, vars, states, search.ways)?;
     let found = search.found.as_slice();
     add_starts(&mut automaton, starts)?;
-    add_stops(&mut automaton, found, left, right)?;
+    add_stops(
+        &mut automaton,
+        found,
+        left.stops.as_slice(),
+        right.stops.as_slice(),
+    )?;
     add_idle(&mut automaton, found, a, b)?;
     Ok(automaton)
 }

@@ -42,17 +42,18 @@ pub(crate) fn side_of(
     alloc: Global,
     automaton: &Automaton,
     all: &VarSet,
-    own: &VarSet,
+    own: &Automaton,
     wanted: bool,
-    other: &VarSet,
+    other: &Automaton,
 ) -> Result<Side, OutOfMemory>
     requires { length all.now ≤ MOST_VARIABLES }
-    ensures { IfOk result (λ s. IsSideOf (shifts_of automaton.now.names own.now wanted all.now) (shifts_of automaton.now.names other.now true all.now) automaton.now.graph s.ways.items s.stops.items) }
+    ensures { IfOk result (λ s. IsSideOf (shifts_of automaton.now.names own.now.names wanted all.now) (shifts_of automaton.now.names other.now.names true all.now) automaton.now.graph s.ways.items s.stops.items) }
 {
     let vars = automaton.vars();
+    // What `len` says of each set holds of this one.
     let _few = vars.len();
-    let brought = shifts(alloc, all, vars, own, wanted)?;
-    let shared = shifts(alloc, all, vars, other, true)?;
+    let brought = shifts(alloc, all, vars, own.vars(), wanted)?;
+    let shared = shifts(alloc, all, vars, other.vars(), true)?;
     let ways = half_ways(
         alloc,
         automaton.ways(),

@@ -20,6 +20,7 @@ pub(crate) fn ways_of_both(
     ensures { IfOk result (λ ways. ways.items ≡ a.now.graph.ways ++ map (moved_way a.now.graph.states) b.now.graph.ways) }
 {
     let by = a.states();
+    // What `states` says of each automaton holds of this one.
     let _whole = b.states();
     let moved = b.ways();
     let mut ways = Vec::with_capacity(alloc, a.ways().len() + moved.len())?;
@@ -44,6 +45,7 @@ pub(crate) fn add_part(whole: &mut Automaton, part: &Automaton, by: u32) -> Resu
     ensures names { whole.new.names ≡ whole.old.names }
     ensures part { OnOk result (IsWithPart by part.now.graph whole.old.graph whole.new.graph) }
 {
+    // What `states` says of each automaton holds of this one.
     let _whole = part.states();
     add_starts(whole, part, by)?;
     add_stops(whole, part, by)?;

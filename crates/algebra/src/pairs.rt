@@ -5,11 +5,12 @@ ghost use Rattle.std.specs.List.Sorted.{IsNonDecreasingBy};
 ghost use Rattle.spanner_model.specs.Lists.{AreDistinct, Has};
 ghost use Rattle.marked_automaton.specs.declared.TheConstants.{MOST_STATES};
 ghost use Rattle.marked_automaton.specs.Faults.{IsSizeFaultWithin};
+ghost use Rattle.algebra.specs.Sides.{IsSearchOf, IsSearchRefusal};
 ghost use Rattle.algebra.specs.Pairs.{AreStarted, AreWithin, HaveSameRows, IsFollowed, IsRefusalOf, IsStartRefusal, half_from, pair_of, pairs, those_at, way_pair, ways_at, ways_meet, ways_with};
 
-use crate::halves::HalfWay;
+use crate::halves::{HalfWay, Side};
 use indexmap::IndexSet;
-use marked_automaton::{MOST_STATES, MOST_WAYS, SizeFault, Way};
+use marked_automaton::{Automaton, MOST_STATES, MOST_WAYS, SizeFault, Way};
 use span_core::Marks;
 use std::alloc::Global;
 
@@ -28,6 +29,28 @@ pub(crate) struct Search {
     pub(crate) ways: Vec<Way>,
 }
 
+/// All pairs that are reached from pairs of starts, and the ways between them. The first pairs, so many as
+/// it says, are those of starts.
+pub(crate) fn searched(
+    alloc: Global,
+    a: &Automaton,
+    b: &Automaton,
+    left: &Side,
+    right: &Side,
+) -> Result<(Search, u32), SizeFault>
+    requires left { IsNonDecreasingBy half_from left.now.ways.items }
+    requires right { IsNonDecreasingBy half_from right.now.ways.items }
+    requires marks { (x y : HalfWay) → Has left.now.ways.items x → Has right.now.ways.items y → x.way.marks + y.way.marks < 2 ^ 32 }
+    ensures searched { IfOk result (λ r. IsSearchOf a.now.graph b.now.graph left.now.ways.items right.now.ways.items r.0.found.keys r.1 r.0.ways.items) }
+    ensures fault { IfErr result (λ e. IsSearchRefusal a.now.graph b.now.graph left.now.ways.items right.now.ways.items e) }
+{
+    let mut search = Search::new(alloc);
+    search.find_all(a.starts(), b.starts())?;
+    let starts = search.found.len() as u32;
+    search.follow_all(left.ways.as_slice(), right.ways.as_slice())?;
+    Ok((search, starts))
+}
+
 /// The ways from a state, of ways in the order of the states that they lead from.
 fn ways_from(ways: &[HalfWay], state: u32) -> &[HalfWay]
     requires { IsNonDecreasingBy half_from ways.now }
@@ -40,7 +63,7 @@ fn ways_from(ways: &[HalfWay], state: u32) -> &[HalfWay]
 
 impl Search {
     /// Nothing is found.
-    pub(crate) fn new(alloc: Global) -> Search
+    fn new(alloc: Global) -> Search
         ensures found { result.found.keys ≡ [] }
         ensures ways { result.ways.items ≡ [] }
     {
@@ -51,7 +74,7 @@ impl Search {
     }
 
     /// Finds all pairs of these states.
-    pub(crate) fn find_all(&mut self, lefts: &[u32], rights: &[u32]) -> Result<(), SizeFault>
+    fn find_all(&mut self, lefts: &[u32], rights: &[u32]) -> Result<(), SizeFault>
         ensures started { OnOk result (AreStarted lefts.now rights.now self.old.found.keys self.new.found.keys) }
         ensures ways { self.new.ways.items ≡ self.old.ways.items }
         ensures fault { IfErr result (λ e. IsStartRefusal lefts.now rights.now self.old.found.keys e) }
@@ -78,7 +101,7 @@ impl Search {
     }
 
     /// Follows each pair that is found, also those that are found meanwhile.
-    pub(crate) fn follow_all(&mut self, xs: &[HalfWay], ys: &[HalfWay]) -> Result<(), SizeFault>
+    fn follow_all(&mut self, xs: &[HalfWay], ys: &[HalfWay]) -> Result<(), SizeFault>
         requires left { IsNonDecreasingBy half_from xs.now }
         requires right { IsNonDecreasingBy half_from ys.now }
         requires marks { (x y : HalfWay) → Has xs.now x → Has ys.now y → x.way.marks + y.way.marks < 2 ^ 32 }

@@ -30,9 +30,8 @@ use Rattle.marked_automaton.proofs.Sizes.{reduct_is_no_larger}
 use Rattle.algebra.specs.JoinedMarks.{agree_on, joined}
 use Rattle.algebra.specs.JoinedNames.{all_names}
 use Rattle.algebra.specs.Operations.{union_of, join_of, goes_with, pair_way, has_some, meet, moved_way}
-use Rattle.algebra.proofs.Bytes.{right_true, some_has}
-use Rattle.algebra.proofs.HasLemmas.{flat_map_cases}
-use Rattle.algebra.proofs.Joins.{filter_cases}
+use Rattle.algebra.proofs.Bytes.{some_has}
+use Rattle.marked_automaton.proofs.Passing.{filter_cases, flat_map_cases, right_true}
 use Rattle.algebra.proofs.ReductJoins.{reduct_of_join}
 use Rattle.algebra.proofs.ReductUnions.{reduct_of_union}
 use Rattle.algebra.proofs.Whole.{union_whole, join_whole}

@@ -1,5 +1,4 @@
-use Rattle.std.proofs.Common.{◌≡◌, ℕ, ◌+◌, ◌<◌, ◌⊎◌, List, [], ◌∷◌, ◌++◌, inl, inr, refl, sym, ap, subst, arith, ◌∙◌}
-use Rattle.spanner_model.specs.Lists.{Has}
+use Rattle.std.proofs.Common.{ap, ◌∙◌}
 use Rattle.marked_automaton.specs.Automaton.{Automaton}
 use Rattle.algebra.proofs.Assembled.{one_start_more}
 use Rattle.algebra.proofs.assembly.add_starts.Goals as goal

@@ -1,13 +1,12 @@
-use Rattle.std.proofs.Common.{◌≡◌, ℕ, ◌+◌, ◌*◌, ◌^◌, ◌<◌, ◌++◌, List, [], length, map, take, get_or, refl, sym, ap, subst, arith, ◌∙◌, append_assoc}
+use Rattle.std.proofs.Common.{◌≡◌, ◌+◌, ◌*◌, ◌^◌, ◌<◌, ◌++◌, List, [], length, map, take, get_or, refl, sym, ap, subst, ◌∙◌, append_assoc}
 use Rattle.std.specs.Prelude.{slice_get, Some}
 use Rattle.std.specs.List.{flat_map}
 use Rattle.std.proofs.lemmas.List.{append-nil}
 use Rattle.std.proofs.lemmas.Option.{slice_get-get_or}
 use Rattle.spanner_model.specs.Lists.{Has}
-use Rattle.marked_automaton.specs.declared.way.Stop.{Stop}
 use Rattle.algebra.specs.declared.halves.HalfStop.{HalfStop}
 use Rattle.algebra.specs.declared.pairs.Pair.{Pair}
-use Rattle.algebra.specs.Pairs.{HasAllButStops, IsStopAt, Matched, PairStop, half_at, pair_of, pairs, stop_at, stop_pair, stops_at_pair, stops_meet}
+use Rattle.algebra.specs.Pairs.{IsStopAt, Matched, PairStop, half_at, pair_of, pairs, stop_at, stop_pair, stops_at_pair, stops_meet}
 use Rattle.algebra.proofs.Followed.{matched_append}
 use Rattle.algebra.proofs.Searched.{rows_more, row_has, read_pair}
 use Rattle.algebra.proofs.Assembled.{stops_match}

@@ -1,4 +1,4 @@
-use Rattle.std.proofs.Common.{◌≡◌, ◌≤◌, ltb, leb, arith, rules}
+use Rattle.std.proofs.Common.{ltb, leb, rules}
 use Rattle.std.proofs.lemmas.List.Sorted.{IsPartitionedBy-ltb, IsPartitionedBy-leb, IsPartitionPoint-from_clause}
 use Rattle.algebra.specs.declared.halves.HalfStop.{HalfStop}
 use Rattle.algebra.specs.Pairs.{half_at}

@@ -1,4 +1,4 @@
-use Rattle.std.proofs.Common.{◌≡◌, ℕ, ◌<◌, ◌+◌, get_or, subst, arith}
+use Rattle.std.proofs.Common.{ℕ, ◌<◌, get_or, subst, arith}
 use Rattle.std.specs.Prelude.{List}
 use Rattle.spanner_model.specs.Lists.{Has}
 use Rattle.spanner_model.proofs.HasLaws.{Has-get_or}

@@ -1,8 +1,4 @@
-use Rattle.std.proofs.Common.{◌≡◌, ℕ, ◌<◌, ◌+◌, ◌∙◌, get_or, subst, sym, ap, length, arith}
-use Rattle.std.specs.Prelude.{List}
-use Rattle.spanner_model.specs.Lists.{Has}
-use Rattle.spanner_model.proofs.HasLaws.{Has-get_or}
-use Rattle.marked_automaton.specs.declared.way.Stop.{Stop}
+use Rattle.std.proofs.Common.{◌∙◌, subst, sym, ap, length, arith}
 use Rattle.marked_automaton.specs.Automaton.{IsBlockOf}
 use Rattle.algebra.proofs.Alike.{Has-item}
 use Rattle.algebra.proofs.moved.add_stops.Goals as goal

@@ -1,4 +1,4 @@
-use Rattle.std.proofs.Common.{◌≡◌, ℕ, ◌<◌, ◌+◌, arith}
+use Rattle.std.proofs.Common.{arith}
 use Rattle.algebra.proofs.Alike.{Has-item}
 use Rattle.algebra.proofs.moved.ways_of_both.Goals as goal
 

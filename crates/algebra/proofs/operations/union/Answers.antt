@@ -1,5 +1,5 @@
-use Rattle.std.proofs.Common.{◌≡◌, ℕ, ◌+◌, ◌++◌, ◌∙◌, List, length, subst, sym, ap, arith}
-use Rattle.std.specs.Prelude.{map, slice_index_or}
+use Rattle.std.proofs.Common.{◌≡◌, ◌+◌, ◌∙◌, List, length, subst, sym, ap, arith}
+use Rattle.std.specs.Prelude.{slice_index_or}
 use Rattle.spanner_model.specs.Lists.{Has}
 use Rattle.spanner_model.proofs.HasLaws.{Has-get_or}
 use Rattle.marked_automaton.specs.declared.way.Way.{Way}

@@ -1,6 +1,5 @@
-use Rattle.std.proofs.Common.{◌≡◌, ℕ, suc, ◌+◌, ◌<◌, ◌≤◌, ◌⊎◌, Bool, true, false, List, [], ◌∷◌, length, drop, get_or, inl, inr, refl, sym, ap, subst, arith, add-one, drop-cons, ◌∙◌}
-use Rattle.std.specs.Prelude.{IsTrue, Contains}
-use Rattle.std.specs.Bool.{OnTrue}
+use Rattle.std.proofs.Common.{◌≡◌, suc, ◌+◌, ◌<◌, ◌⊎◌, ◌∷◌, length, drop, get_or, sym, ap, arith, drop-cons, ◌∙◌}
+use Rattle.std.specs.Prelude.{Contains}
 use Rattle.std.proofs.lemmas.Option.{get_or_from_slice_get}
 use Rattle.span_core.specs.NameSets.{with_name}
 use Rattle.span_core.specs.declared.TheConstants.{MOST_VARIABLES}

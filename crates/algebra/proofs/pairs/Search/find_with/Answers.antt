@@ -1,5 +1,4 @@
-use Rattle.std.proofs.Common.{◌≡◌, ℕ, ◌+◌, ◌*◌, ◌<◌, List, [], ◌∷◌, take, get_or, inl, inr, refl, sym, subst, arith, ◌∙◌}
-use Rattle.spanner_model.specs.Lists.{Has}
+use Rattle.std.proofs.Common.{[], ◌∷◌, take, get_or, inl, refl, ◌∙◌}
 use Rattle.spanner_model.proofs.HasLaws.{Has-slice_get, Has-get_or, Has-take}
 use Rattle.marked_automaton.specs.declared.fault.SizeFault.{SizeFault}
 use Rattle.algebra.specs.Pairs.{IsStartRefusal, pair_of}

@@ -1,14 +1,13 @@
-use Rattle.std.proofs.Common.{◌≡◌, ℕ, ◌+◌, ◌-◌, ◌<◌, ◌≤◌, List, [], ◌∷◌, ◌++◌, length, take, get_or, refl, sym, subst, ap, arith, rules, ◌∙◌, length-append}
+use Rattle.std.proofs.Common.{◌≡◌, ◌+◌, ◌<◌, List, [], ◌++◌, length, take, get_or, sym, subst, ap, arith, rules, ◌∙◌, length-append}
 use Rattle.std.specs.Prelude.{slice_get, Some}
 use Rattle.std.specs.List.{flat_map}
 use Rattle.std.proofs.lemmas.List.{append-nil}
 use Rattle.std.proofs.lemmas.Option.{slice_get-get_or}
-use Rattle.spanner_model.specs.Lists.{Has, AreDistinct}
-use Rattle.marked_automaton.specs.declared.way.Way.{Way}
+use Rattle.spanner_model.specs.Lists.{Has}
 use Rattle.marked_automaton.specs.declared.fault.SizeFault.{SizeFault}
 use Rattle.algebra.specs.declared.halves.HalfWay.{HalfWay}
 use Rattle.algebra.specs.declared.pairs.Pair.{Pair}
-use Rattle.algebra.specs.Pairs.{PairWay, HaveSameRows, IsFollowed, IsRefusalOf, half_from, pair_of, pairs, those_at, way_pair, ways_at, ways_meet}
+use Rattle.algebra.specs.Pairs.{PairWay, HaveSameRows, IsFollowed, IsRefusalOf, half_from, pair_of, pairs, way_pair, ways_at, ways_meet}
 use Rattle.algebra.proofs.Followed.{followed_none, followed_then, refusal_then, handed_on, keys_apart}
 use Rattle.algebra.proofs.Searched.{rows_more, row_has, apart_take, refusal_of_all, read_pair}
 use Rattle.algebra.proofs.pairs.Search.follow_all.Goals as goal

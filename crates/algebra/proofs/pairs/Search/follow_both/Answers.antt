@@ -1,13 +1,12 @@
-use Rattle.std.proofs.Common.{◌≡◌, ℕ, ◌+◌, ◌<◌, Bool, true, false, ◌&&◌, List, [], ◌∷◌, ◌++◌, length, nat_eq, refl, inl, inr, sym, subst, ap, arith, ◌∙◌}
+use Rattle.std.proofs.Common.{◌≡◌, ◌+◌, Bool, true, false, ◌&&◌, List, [], ◌∷◌, ◌++◌, nat_eq, refl, inl, sym, subst, ap, arith, ◌∙◌}
 use Rattle.std.proofs.lemmas.Bool.{eq-eqb, ne_eqb, true≢false}
 use Rattle.std.specs.Prelude.{slice_get, Some}
 use Rattle.spanner_model.specs.Lists.{Has}
 use Rattle.marked_automaton.specs.declared.way.Way.{Way}
 use Rattle.marked_automaton.specs.declared.fault.SizeFault.{SizeFault}
-use Rattle.algebra.specs.declared.pairs.Pair.{Pair}
 use Rattle.algebra.specs.Operations.{has_some, meet}
-use Rattle.algebra.specs.Pairs.{PairWay, IsFollowed, IsRefusalOf, IsWayBetween, AreWithin, LeadWithin, way_pair, ways_meet, ways_with}
-use Rattle.algebra.proofs.Bytes.{both_true}
+use Rattle.algebra.specs.Pairs.{PairWay, IsFollowed, IsRefusalOf, way_pair, ways_meet, ways_with}
+use Rattle.marked_automaton.proofs.Passing.{both_true}
 use Rattle.algebra.proofs.Followed.{followed_none, row_none, row_one, no_bytes, some_bytes, handed_on}
 use Rattle.algebra.proofs.ReductUnions.{get_left}
 use Rattle.algebra.proofs.pairs.Search.follow_both.Goals as goal

@@ -1,9 +1,7 @@
-use Rattle.std.proofs.Common.{◌≡◌, ℕ, ◌+◌, ◌<◌, List, [], ◌∷◌, ◌++◌, take, drop, length, rules, refl, sym, subst, ap, arith, ◌∙◌, append_assoc}
+use Rattle.std.proofs.Common.{◌≡◌, ◌+◌, List, ◌++◌, take, drop, length, rules, refl, sym, subst, arith, ◌∙◌, append_assoc}
 use Rattle.std.specs.Prelude.{slice_get, Some}
-use Rattle.spanner_model.specs.Lists.{Has}
 use Rattle.marked_automaton.specs.declared.fault.SizeFault.{SizeFault}
 use Rattle.marked_automaton.specs.declared.fault.SizeFault.TheVariants.{Ways}
-use Rattle.algebra.specs.declared.halves.HalfWay.{HalfWay}
 use Rattle.algebra.specs.Pairs.{PairWay, IsFollowed, IsRefusalOf, pair_of, pairs, way_pair, ways_meet, ways_with}
 use Rattle.algebra.proofs.Alike.{Has-item}
 use Rattle.algebra.proofs.Followed.{followed_none, followed_then, refusal_then, refusal_of_ways, pairs_more, pairs_split, handed_on}

@@ -1,8 +1,6 @@
-use Rattle.std.proofs.Common.{◌≡◌, ℕ, ◌+◌, ◌<◌, List, [], ◌∷◌, ◌++◌, take, drop, refl, sym, subst, ap, arith, ◌∙◌}
+use Rattle.std.proofs.Common.{◌≡◌, ◌+◌, List, [], ◌∷◌, take, drop, refl, sym, subst}
 use Rattle.std.specs.Prelude.{slice_get, Some}
-use Rattle.spanner_model.specs.Lists.{Has}
 use Rattle.marked_automaton.specs.declared.fault.SizeFault.{SizeFault}
-use Rattle.algebra.specs.declared.halves.HalfWay.{HalfWay}
 use Rattle.algebra.specs.Pairs.{PairWay, IsFollowed, IsRefusalOf, pair_of, way_pair, ways_meet, ways_with}
 use Rattle.algebra.proofs.Alike.{Has-item}
 use Rattle.algebra.proofs.Followed.{followed_none, followed_then, refusal_then, row_more, row_split, handed_on}
