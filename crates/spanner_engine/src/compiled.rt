@@ -57,4 +57,11 @@ impl<'q> Compiled<'q> {
     {
         self.automaton.vars()
     }
+
+    /// The automaton.
+    pub fn automaton(&self) -> &Automaton
+        ensures { result.now ≡ self.now.automaton }
+    {
+        &self.automaton
+    }
 }
