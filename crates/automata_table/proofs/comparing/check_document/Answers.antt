@@ -1,4 +1,4 @@
-use Rattle.std.proofs.Common.{sym, subst, ◌≡◌, ℕ, ◌≤◌, length, List}
+use Rattle.std.proofs.Common.{sym, subst, ℕ, ◌≤◌, length, List}
 use Rattle.std.specs.List.{All}
 use Rattle.span_core.specs.declared.span.Span.{Span}
 use Rattle.automata_table.proofs.comparing.check_document.Goals as goal
