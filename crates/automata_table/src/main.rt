@@ -1,0 +1,89 @@
+//! Checks the automata of queries against the plain evaluator, row by row.
+//!
+//! For each query of a table, and each short document over the table's bytes, every row over the query's
+//! variables is tried: its word must be accepted by the query's automaton exactly where the row is among
+//! the answers that the plain evaluator gives. Then it tells the sizes with which some large queries are
+//! compiled or refused. It prints a line for each query, and last the numbers of rows and answers.
+//!
+//! The exit status is 0 where all agree, and else that of the first case that comes: 1 where something
+//! differs, 2 where memory is wanting, 3 where a line cannot be printed.
+#![tactic(auto)]
+
+mod comparing;
+mod documents;
+mod fault;
+mod rows;
+mod sizes;
+mod texts;
+
+use comparing::{Tally, check_text};
+use fault::Fault;
+use sizes::size_of_text;
+use std::io;
+use std::process::ExitCode;
+use texts::{GROUPS, LARGE};
+
+/// How a run ends.
+#[derive(Clone, Copy)]
+enum Ending {
+    Agrees,
+    Differs,
+    OutOfMemory,
+    NotPrinted,
+}
+
+impl Ending {
+    fn exit_status(self) -> u8 {
+        match self {
+            Ending::Agrees => 0,
+            Ending::Differs => 1,
+            Ending::OutOfMemory => 2,
+            Ending::NotPrinted => 3,
+        }
+    }
+}
+
+fn main(rt: HostRuntime) -> ExitCode {
+    let ending = run(&rt).unwrap_or(Ending::NotPrinted);
+    ExitCode::from(ending.exit_status())
+}
+
+/// Checks the whole table, up to the first text that fails.
+fn run(rt: &HostRuntime) -> io::Result<Ending> {
+    let mut total = Tally::none();
+    for group in &GROUPS {
+        for text in group.texts.lines() {
+            match check_text(rt.alloc(), group.bytes, text) {
+                Ok(tally) => {
+                    let Tally { rows, answers, .. } = tally;
+                    println!(rt; "ok {text} rows {rows} answers {answers}")?;
+                    total = total.plus(tally);
+                }
+                Err(fault) => return ended_by(rt, text, &fault),
+            }
+        }
+    }
+    for text in LARGE.lines() {
+        match size_of_text(rt.alloc(), text) {
+            Ok(size) => println!(rt; "{text} {size}")?,
+            Err(fault) => return ended_by(rt, text, &fault),
+        }
+    }
+    let Tally {
+        queries,
+        rows,
+        answers,
+    } = total;
+    println!(rt; "queries {queries} rows {rows} answers {answers}")?;
+    Ok(Ending::Agrees)
+}
+
+/// Prints the fault of a text, and gives the ending.
+fn ended_by(rt: &HostRuntime, text: &str, fault: &Fault) -> io::Result<Ending> {
+    if matches!(fault, Fault::OutOfMemory) {
+        println!(rt; "out of memory")?;
+        return Ok(Ending::OutOfMemory);
+    }
+    println!(rt; "{text} fails: {fault:?}")?;
+    Ok(Ending::Differs)
+}

@@ -1,0 +1,134 @@
+//! The table of queries.
+
+/// Queries, one a line, and the bytes of the documents on which they are checked.
+pub struct Group {
+    pub bytes: &'static [u8],
+    pub texts: &'static str,
+}
+
+/// The queries whose answers are checked.
+pub static GROUPS: [Group; 7] = [
+    Group {
+        bytes: b"ab",
+        texts: ATOMS,
+    },
+    Group {
+        bytes: b"ab",
+        texts: EXPRESSIONS,
+    },
+    Group {
+        bytes: b"abc",
+        texts: r"/!x{a!y{b}c}/
+/!x{[a-b]+}c/
+/!x{[^b]*}/
+/!x{(a|b|c)b?}/
+/!x{ab.}/ join /!y{.c}/",
+    },
+    Group {
+        bytes: b"a\n",
+        texts: r"/!x{.\n}/
+/!x{[^a]+}/
+/!x{\s}.?/
+/^!x{a.}\n/ union /\n!x{a.}\n/",
+    },
+    Group {
+        bytes: b"a1,",
+        texts: r"let w = /!x{[a-z]+}/; project x (w join /!x{..}!y{\d}/)
+/[^\w]!x{\w+}[^\w]/
+/^(\d+,)*!x{\d+}(,\d+)*$/",
+    },
+    Group {
+        bytes: b"\xc3\xa9",
+        texts: r"/!x{é+}/
+/!x{é?}/
+/!x{[\x80-\xff]+}/",
+    },
+    Group {
+        bytes: b"a!",
+        texts: r"/a!/
+/!x{a!?}/",
+    },
+];
+
+/// Atoms over `a` and `b`.
+const ATOMS: &str = r"/!x{a*}/
+/!x{aba}/
+/!x{a|aa}/
+/^!x{a*}$/
+/^!x{a*}/
+/!x{a*}$/
+/!x{a}(a|aa)*/
+/(!x{a}|!x{aa})b*/
+/!x{|a}/
+/!x{(a|b)*a(a|b)}/
+/(a|b)*a(a|b){2}!x{b}/
+/a*!x{b}a*/
+/ab/
+/^ab$/
+/()/
+/^$/
+/!x{}/
+/^!x{}/
+/!x{}$/
+/^!x{}$/
+/!x{.}/
+/!x{[ab]+}/
+/!x{[^a]}/
+/!x{a?b?}/
+/!x{a{2}}/
+/!x{a{1,2}}b/
+/!x{(ab){2,}}/
+/!x{(a?){2,3}}/
+/!x{(a*)*}/
+/a{0}!x{b{0,2}a}/
+/!x{a}!y{b}/
+/!x{a+}!y{b+}/
+/!x{a*}!y{a*}/
+/^!x{a*}!y{b*}$/
+/!x{}!y{}/
+/!x{!y{a}b}/
+/!x{a!y{b*}}/
+/!x{!y{}}/
+/!x{a}!y{b}|!y{a}!x{b}/
+/!z{!x{a}}!y{b}/
+/!x{!y{a*}!z{b*}}/
+/!x{a*}!y{a*}!z{a*}/";
+
+/// Unions, joins, projections and lets over `a` and `b`.
+const EXPRESSIONS: &str = r"/!x{a}/ union /!x{b}/
+/!x{a}/ union /!x{a}/
+/!x{a}/ union /!x{b}/ union /!x{ab}/
+/a/ join /b/
+/!x{a*}/ join /b/
+/!x{a}/ join /!y{b}/
+/!x{[ab]+}/ join /!x{.}b/
+/!x{}/ join /!x{a*}/
+/!x{a}b/ join /b!x{a}/
+/!x{a}/ join /!x{.}b/ join /a!x{.}/
+/^!x{a*}/ join /!x{a*}b*$/
+/!x{a*}!y{b*}/ join /!x{.*}!y{.+}/
+/!x{a+}!y{b*}/ join /!y{b*}!z{a}/
+/!x{a}/ join (/!y{b}/ union project y (/!y{a}!z{b}/))
+(/!x{a}/ union /!x{aa}/) join (/!x{a+}b/ union /b!x{a+}/)
+(project x (/!x{a*}!y{b}/) union /!x{b}/) join /!x{.}/
+project x (/!x{a}!y{b*}/)
+project none (/!x{a}/)
+project none (/!x{a}/ union /!x{b}/)
+project none (/!x{a}/) union /b/
+project x (/!x{a}!y{b}/ union /!y{a}!x{b}/)
+project x (/!x{a}!y{b}/) union project x (/!y{a}!x{b}/)
+project x (/!x{a*}/ join /!y{b+}/)
+project x (/!x{.}!y{.*}/) join project x (/!y{.*}!x{.}/)
+project x, y (/!x{a}!y{b*}/ join /!y{b*}!z{a}/)
+project y (project x, y (/!x{a*}!y{b*}!z{a*}/))
+let w = /!x{a+}/; w join (w union /!x{b}/)
+let w = /!x{a+}/; let v = /!y{b}/; v
+let w = /!x{a}b/; let v = w union /a!x{b}/; project none (v join w)
+let w = /!x{a}!y{b}/; project x (w) join project y (w)";
+
+/// Queries of large automata, and queries that are refused.
+pub const LARGE: &str = r"/^(a{1000}){19}a{999}$/
+/(a{1000}){20}/
+/((a?){1000}){3}/
+/(a{1000}){10}/ union /(a{1000}){10}/
+let big = /(a{1000}){20}/; /a/";
