@@ -26,7 +26,7 @@ const MANY_VARIABLES: usize = 2;
 
 /// What was checked.
 #[derive(Clone, Copy)]
-pub struct Tally {
+pub(crate) struct Tally {
     pub queries: usize,
     /// The rows that were tried, each on each document.
     pub rows: usize,
@@ -35,7 +35,7 @@ pub struct Tally {
 }
 
 impl Tally {
-    pub fn none() -> Tally {
+    pub(crate) fn none() -> Tally {
         Tally {
             queries: 0,
             rows: 0,
@@ -44,7 +44,7 @@ impl Tally {
     }
 
     /// Both together.
-    pub fn plus(self, other: Tally) -> Tally {
+    pub(crate) fn plus(self, other: Tally) -> Tally {
         Tally {
             queries: self.queries.saturating_add(other.queries),
             rows: self.rows.saturating_add(other.rows),
@@ -54,7 +54,7 @@ impl Tally {
 }
 
 /// Checks the query of a text on all short documents of these bytes.
-pub fn check_text(alloc: Global, bytes: &[u8], text: &str) -> Result<Tally, Fault>
+pub(crate) fn check_text(alloc: Global, bytes: &[u8], text: &str) -> Result<Tally, Fault>
     requires { 0 < length bytes.now }
 {
     let query = read_query(alloc, text.as_bytes())?;

@@ -4,13 +4,13 @@ ghost use Rattle.std.specs.Prelude.{◌≡◌, ◌<◌, length, IfOk};
 use std::alloc::{AllocError, Global};
 
 /// The number of documents of so many bytes, each one of `bytes`.
-pub fn number_of_documents(bytes: &[u8], len: u32) -> usize {
+pub(crate) fn number_of_documents(bytes: &[u8], len: u32) -> usize {
     bytes.len().saturating_pow(len)
 }
 
 /// One of these documents: that of the number's last digits in base `bytes.len()`, so that the numbers
 /// below `number_of_documents` give each once.
-pub fn document_of(
+pub(crate) fn document_of(
     alloc: Global,
     bytes: &[u8],
     len: u32,

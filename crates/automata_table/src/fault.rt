@@ -7,7 +7,7 @@ use std::alloc::AllocError;
 
 /// The first thing that is not as it must be.
 #[derive(Debug, Drop)]
-pub enum Fault {
+pub(crate) enum Fault {
     /// A text of the table is no query.
     Text(QueryFault),
     /// A query of the table has no automaton.

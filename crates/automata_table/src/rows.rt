@@ -8,7 +8,7 @@ use span_core::{Row, Span};
 use std::alloc::{AllocError, Global};
 
 /// The spans of a document of `len` bytes, each once.
-pub fn spans_within(alloc: Global, len: u32) -> Result<Vec<Span>, AllocError>
+pub(crate) fn spans_within(alloc: Global, len: u32) -> Result<Vec<Span>, AllocError>
     ensures some { IfOk result (λ spans. 0 < length spans.items) }
     ensures within { IfOk result (λ spans. All (λ (s : Span). s.end ≤ len) spans.items) }
 {
@@ -23,13 +23,13 @@ pub fn spans_within(alloc: Global, len: u32) -> Result<Vec<Span>, AllocError>
 }
 
 /// The number of rows over so many variables, with these spans.
-pub fn number_of_rows(spans: &[Span], variables: u32) -> usize {
+pub(crate) fn number_of_rows(spans: &[Span], variables: u32) -> usize {
     spans.len().saturating_pow(variables)
 }
 
 /// One of these rows: that of the number's last digits in base `spans.len()`, so that the numbers below
 /// `number_of_rows` give each once.
-pub fn row_of(spans: &[Span], variables: usize, number: usize) -> Row
+pub(crate) fn row_of(spans: &[Span], variables: usize, number: usize) -> Row
     requires some { 0 < length spans.now }
     requires few { variables ≤ MOST_VARIABLES }
     ensures len { length result ≡ variables }

@@ -12,7 +12,7 @@ use std::fmt;
 
 /// What becomes of a query.
 #[derive(Clone, Copy)]
-pub enum Size {
+pub(crate) enum Size {
     /// Its automaton has so many states and ways.
     Compiled { states: u32, ways: usize },
     /// It is refused, with so many states.
@@ -32,7 +32,7 @@ impl fmt::Display for Size {
 }
 
 /// What becomes of the query of a text.
-pub fn size_of_text(alloc: Global, text: &str) -> Result<Size, Fault> {
+pub(crate) fn size_of_text(alloc: Global, text: &str) -> Result<Size, Fault> {
     let query = read_query(alloc, text.as_bytes())?;
     size_of_query(alloc, &query)
 }

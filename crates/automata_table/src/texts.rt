@@ -1,7 +1,7 @@
 //! The table of queries.
 
 /// Queries, one a line, and the bytes of the documents on which they are checked.
-pub struct Group {
+pub(crate) struct Group {
     pub bytes: &'static [u8],
     pub texts: &'static str,
 }
