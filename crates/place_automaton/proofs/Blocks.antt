@@ -6,8 +6,7 @@ use Rattle.span_core.specs.declared.span.Span.{Span}
 use Rattle.spanner_model.specs.Captures.{VarName, Captures}
 use Rattle.spanner_model.specs.Fit.{Piece, Then, Nothing, Times, Fit}
 use Rattle.spanner_model.specs.Tree.{Tree, empty, one, cat_end, cat, alt_end, alt, rep, cap}
-use Rattle.spanner_model.proofs.FitLaws.{fit_le}
-use Rattle.place_automaton.proofs.Times.{times_le}
+use Rattle.spanner_model.proofs.FitLaws.{times_le, fit_le}
 use Rattle.place_automaton.specs.Reads.{blocks}
 
 pub compared : (p k : ℕ) → (p < k) ⊎ ((p ≡ k) ⊎ (k < p))

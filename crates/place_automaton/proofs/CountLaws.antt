@@ -12,8 +12,7 @@ use Rattle.place_automaton.specs.Sequential.{HasOrderedRepeats}
 use Rattle.spanner_model.specs.Lists.{Has, AreDistinct}
 use Rattle.spanner_model.specs.Tree.{Tree, empty, one, cat_end, cat, alt_end, alt, rep, cap}
 use Rattle.span_core.specs.declared.span.Span.{Span}
-use Rattle.spanner_model.proofs.FitLaws.{fit_le, fit_only_vars, fit_all_vars, fit_no_vars}
-use Rattle.place_automaton.proofs.Times.{times_le}
+use Rattle.spanner_model.proofs.FitLaws.{times_le, fit_le, fit_only_vars, fit_all_vars, fit_no_vars}
 use Rattle.span_core.specs.OrderLaws.{span_eq}
 use Rattle.marked_automaton.specs.Automaton.{idle_way}
 use Rattle.place_automaton.specs.Atom.{way_from_first, way_after, stop_before, unless, place_stops, after_ways, automaton_of_places}

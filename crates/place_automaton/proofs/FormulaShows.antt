@@ -5,8 +5,7 @@ use Rattle.spanner_model.specs.Captures.{VarName, Captures, Captured, AreApart}
 use Rattle.spanner_model.specs.Fit.{Piece, Then, Nothing, Times, Fit}
 use Rattle.place_automaton.specs.Sequential.{HasOrderedRepeats}
 use Rattle.spanner_model.specs.Tree.{Tree, empty, one, cat_end, cat, alt_end, alt, rep, cap}
-use Rattle.place_automaton.proofs.Times.{times_le}
-use Rattle.spanner_model.proofs.FitLaws.{fit_le, fit_only_vars, fit_no_vars}
+use Rattle.spanner_model.proofs.FitLaws.{times_le, fit_le, fit_only_vars, fit_no_vars}
 use Rattle.place_automaton.specs.Places.{Places, Placed, nothing_placed, cat_placed, plus_placed, copies_then, at_most, repeated, placed}
 use Rattle.place_automaton.specs.Sequential.{IsSequential}
 use Rattle.place_automaton.proofs.Blocks.{IsEmptyOutside, DoesNotEndBefore, nothing_outside, then_outside, times_outside, fit_outside}

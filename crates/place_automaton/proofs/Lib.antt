@@ -23,7 +23,6 @@ pub mod RowLaws
 pub mod Rows
 pub mod SampleLaws
 pub mod Shows
-pub mod Times
 pub mod Unmarked
 pub mod Walks
 pub mod WholeLaws

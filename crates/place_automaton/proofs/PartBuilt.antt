@@ -1,21 +1,11 @@
--- Parts of what is functional and well built.
+-- The variables of parts, and the classes of parts that are well built.
 use Rattle.std.proofs.Common.{List, [], ◌∷◌, inl, inr, refl, sym, subst}
 use Rattle.spanner_model.specs.Captures.{VarName}
-use Rattle.spanner_model.specs.Functional.{HasVar, IsFunctional}
+use Rattle.spanner_model.specs.Functional.{HasVar}
 use Rattle.spanner_model.specs.Lists.{Has}
 use Rattle.spanner_model.specs.Tree.{Tree, cat_all, alt_all}
 use Rattle.spanner_model.specs.WellBuilt.{IsWellBuilt}
 use Rattle.place_automaton.proofs.FineLaws.{HasClasses, built_classes}
-
-pub functional_part : (ts : List Tree) (t : Tree) → Has ts t → IsFunctional (cat_all ts) → IsFunctional t
-functional_part [] t has ok = absurd has
-functional_part (u ∷ ts) t (inl e) ok = subst IsFunctional e ok.0
-functional_part (u ∷ ts) t (inr has) ok = functional_part ts t has ok.1
-
-pub functional_arm : (ts : List Tree) (t : Tree) → Has ts t → IsFunctional (alt_all ts) → IsFunctional t
-functional_arm [] t has ok = absurd has
-functional_arm (u ∷ ts) t (inl e) ok = subst IsFunctional e ok.0
-functional_arm (u ∷ ts) t (inr has) ok = functional_arm ts t has ok.1
 
 pub named_part : (ts : List Tree) (t : Tree) → Has ts t → (x : VarName) → HasVar t x → HasVar (cat_all ts) x
 named_part [] t has x v = absurd has

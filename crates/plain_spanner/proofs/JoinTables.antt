@@ -18,14 +18,14 @@ use Rattle.std.specs.declared.cmp.Ordering.TheVariants.{Less}
 use Rattle.span_core.specs.Order.{StandsBefore, IsOrderOf}
 use Rattle.span_core.specs.Comparison.{row_cmp}
 use Rattle.span_core.specs.ComparisonLaws.{row_cmp_is}
-use Rattle.spanner_model.specs.Sound.{IsSoundExpr, NameIn, NameInLets, IsSound}
+use Rattle.spanner_model.specs.Sound.{IsSoundExpr, IsSound}
 use Rattle.spanner_model.specs.Answers.{SpanRow, AreInBlockOrder, AreResultNames, AreAnswers}
 use Rattle.spanner_model.proofs.NameLaws.{same_names}
 use Rattle.spanner_model.specs.Gathered.{Adds}
 use Rattle.spanner_model.proofs.HasLaws.{Has-append_cases, Has-append_left, Has-append_right}
 use Rattle.spanner_model.proofs.TreeLaws.{take_at_more}
 use Rattle.spanner_model.proofs.AnswerLaws.{answer_absent, lets_absent}
-use Rattle.spanner_model.proofs.ExprLaws.{join_part_var}
+use Rattle.spanner_model.proofs.ExprLaws.{join_part_var, let_named}
 use Rattle.spanner_model.proofs.GatheredLaws.{in_more, exprs_in_turn}
 use Rattle.spanner_model.proofs.PartLaws.{join_outside, join_each, each_join, told_under}
 use Rattle.plain_spanner.specs.Listed.{Tells}
@@ -189,11 +189,6 @@ tables_more q d tables grown l t at known one is j u place =
     table_is x y e = cc
 
 -- ---- all answers
-
-let_named : (lets : List (VarName × ExprTree)) (k : ℕ) (l : VarName × ExprTree) (x : VarName) → slice_get lets k ≡ Some l → NameIn l.1 x → NameInLets lets x
-let_named [] k l x at h = absurd (cc)
-let_named (m ∷ lets) zero l x at h = inl (let e : m ≡ l = cc in subst (λ (w : VarName × ExprTree). NameIn w.1 x) (sym e) h)
-let_named (m ∷ lets) (suc k) l x at h = inr (let_named lets k l x at h)
 
 pub asked_let : (q : QueryTree) (n k : ℕ) (l : VarName × ExprTree) → IsSound q → n ≡ k → slice_get q.lets k ≡ Some l → IsAsked q n l.1
 asked_let q n k l s e at = record {

@@ -85,17 +85,6 @@ module _ (d : List ℕ) where
   of_arm (u ∷ ts) t i j m (inl e) h = inl (subst (λ (v : Tree). Fit v d i j m) (sym e) h)
   of_arm (u ∷ ts) t i j m (inr has) h = inr (of_arm ts t i j m has h)
 
--- the parts of a functional formula
-pub functional_part : (ts : List Tree) (t : Tree) → Has ts t → IsFunctional (cat_all ts) → IsFunctional t
-functional_part [] t has ok = absurd has
-functional_part (u ∷ ts) t (inl e) ok = subst IsFunctional e ok.0
-functional_part (u ∷ ts) t (inr has) ok = functional_part ts t has ok.1
-
-pub functional_arm : (ts : List Tree) (t : Tree) → Has ts t → IsFunctional (alt_all ts) → IsFunctional t
-functional_arm [] t has ok = absurd has
-functional_arm (u ∷ ts) t (inl e) ok = subst IsFunctional e ok.0
-functional_arm (u ∷ ts) t (inr has) ok = functional_arm ts t has ok.1
-
 -- a part has no variable of those before it
 pub parts_apart : (ts : List Tree) (k : ℕ) (t : Tree) → slice_get ts k ≡ Some t → IsFunctional (cat_all ts) → HaveApartVars (cat_all (take k ts)) t
 parts_apart [] k t at ok x a b = absurd (cc)

@@ -3,15 +3,15 @@ use Rattle.std.proofs.Common.{◌≡◌, ℕ, ◌+◌, ◌⊎◌, ◌↔◌, Boo
 use Rattle.std.specs.Prelude.{slice_get, if◌then◌else◌}
 use Rattle.spanner_model.specs.Lists.{Has}
 use Rattle.spanner_model.specs.Captures.{VarName, Mapping, row_of}
-use Rattle.spanner_model.specs.Expression.{ExprTree, QueryTree, atom, named, union_end, union, join_end, join, project, union_all, join_all}
+use Rattle.spanner_model.specs.Expression.{ExprTree, QueryTree, project, union_all, join_all}
 use Rattle.spanner_model.specs.Answer.{VarOf, IsRestriction, Answer, vars_of_lets, answers_of_lets}
 use Rattle.spanner_model.specs.Answers.{SpanRow}
 use Rattle.spanner_model.specs.Gathered.{HaveRoom}
-use Rattle.spanner_model.specs.Sound.{AgreesWithParts, IsSoundExpr, AreUnited, NameIn, NameOf, IsSound}
+use Rattle.spanner_model.specs.Sound.{NameOf, IsSound}
 use Rattle.spanner_model.proofs.HasLaws.{Has-append_cases, Has-append_left, Has-append_right, Has-take, Has-slice_get}
 use Rattle.spanner_model.proofs.TreeLaws.{take_at_more}
 use Rattle.spanner_model.proofs.NameLaws.{same_names}
-use Rattle.spanner_model.proofs.ExprLaws.{var_named, lets_named, union_part, join_part, join_var_part}
+use Rattle.spanner_model.proofs.ExprLaws.{var_named, lets_named, union_part, join_part, join_var_part, union_var, union_named, join_named}
 use Rattle.spanner_model.proofs.PartLaws.{union_some, some_union}
 use Rattle.plain_spanner.specs.Listed.{Tells, FromSome}
 use Rattle.plain_spanner.specs.Tables.{IsRowOf, IsTable, IsTableOf, IsAsked, has_name, kept_row}
@@ -20,21 +20,11 @@ use Rattle.plain_spanner.proofs.TellsLaws.{tells_same, tells_appended_to}
 
 -- ---- what is asked
 
-name_of_part : (es : List ExprTree) (e : ExprTree) (x : VarName) → Has es e → NameIn e x → NameIn (union_all es) x
-name_of_part [] e x has h = absurd has
-name_of_part (g ∷ es) e x (inl i) h = inl (subst (λ (w : ExprTree). NameIn w x) (sym i) h)
-name_of_part (g ∷ es) e x (inr has) h = inr (name_of_part es e x has h)
-
-name_of_joined : (es : List ExprTree) (e : ExprTree) (x : VarName) → Has es e → NameIn e x → NameIn (join_all es) x
-name_of_joined [] e x has h = absurd has
-name_of_joined (g ∷ es) e x (inl i) h = inl (subst (λ (w : ExprTree). NameIn w x) (sym i) h)
-name_of_joined (g ∷ es) e x (inr has) h = inr (name_of_joined es e x has h)
-
 pub asked_united : (q : QueryTree) (n : ℕ) (es : List ExprTree) (e : ExprTree) → Has es e → IsAsked q n (union_all es) → IsAsked q n e
-asked_united q n es e has a = record { sound = a.sound; sound_expr = union_part (vars_of_lets q.lets n) n es e a.sound_expr has; named = λ x h. a.named x (name_of_part es e x has h) }
+asked_united q n es e has a = record { sound = a.sound; sound_expr = union_part (vars_of_lets q.lets n) n es e a.sound_expr has; named = λ x h. a.named x (union_named es e x has h) }
 
 pub asked_joined : (q : QueryTree) (n : ℕ) (es : List ExprTree) (e : ExprTree) → Has es e → IsAsked q n (join_all es) → IsAsked q n e
-asked_joined q n es e has a = record { sound = a.sound; sound_expr = join_part (vars_of_lets q.lets n) n es e a.sound_expr has; named = λ x h. a.named x (name_of_joined es e x has h) }
+asked_joined q n es e has a = record { sound = a.sound; sound_expr = join_part (vars_of_lets q.lets n) n es e a.sound_expr has; named = λ x h. a.named x (join_named es e x has h) }
 
 pub asked_sub : (q : QueryTree) (n : ℕ) (kept : List VarName) (e : ExprTree) → IsAsked q n (project kept e) → IsAsked q n e
 asked_sub q n kept e a = record { sound = a.sound; sound_expr = a.sound_expr.0; named = a.named }
@@ -102,30 +92,6 @@ kept_all A names rows H all out = record {
 }
 
 -- ---- unions
-
--- of parts that agree each has a variable that some has
-first_var : (V : ℕ → VarName → Type 0) (e rest : ExprTree) (x : VarName) → AgreesWithParts V e rest → VarOf V e x ⊎ VarOf V rest x → VarOf V e x
-first_var V e rest x agree (inl a) = a
-first_var V e (atom s t f) x agree (inr b) = (agree x).1 b
-first_var V e (named k) x agree (inr b) = (agree x).1 b
-first_var V e union_end x agree (inr b) = absurd b
-first_var V e (union g r) x agree (inr b) = (agree x).1 b
-first_var V e join_end x agree (inr b) = (agree x).1 b
-first_var V e (join g r) x agree (inr b) = (agree x).1 b
-first_var V e (project kept g) x agree (inr b) = (agree x).1 b
-
-united_var : (V : ℕ → VarName → Type 0) (n : ℕ) (es : List ExprTree) (e : ExprTree) (x : VarName) → AreUnited V n (union_all es) → Has es e → VarOf V e x ↔ VarOf V (union_all es) x
-united_var V n [] e x u has = absurd has
-united_var V n (g ∷ es) e x u (inl i) =
-    subst (λ (w : ExprTree). VarOf V w x ↔ (VarOf V g x ⊎ VarOf V (union_all es) x)) i (λ v. inl v, λ v. first_var V g (union_all es) x u.2 v)
-united_var V n (g ∷ []) e x u (inr has) = absurd has
-united_var V n (g ∷ h ∷ es) e x u (inr has) =
-    let later = united_var V n (h ∷ es) e x u.1 has in
-    (λ v. inr (later.0 v), λ v. later.1 (elim v as (λ _. VarOf V (union_all (h ∷ es)) x) [ inl a ↦ (u.2 x).0 a | inr b ↦ b ]))
-
-union_var : (V : ℕ → VarName → Type 0) (n : ℕ) (es : List ExprTree) (e : ExprTree) (x : VarName) → IsSoundExpr V n (union_all es) → Has es e → VarOf V e x ↔ VarOf V (union_all es) x
-union_var V n [] e x u has = absurd has
-union_var V n (g ∷ es) e x u has = united_var V n (g ∷ es) e x (u.0, u.1, u.3) has
 
 -- the answers of some of the parts
 abbrev pub SomeAnswers : QueryTree → List ℕ → ℕ → List ExprTree → Mapping → Type 0

@@ -9,7 +9,7 @@ use Rattle.spanner_model.specs.Captures.{VarName}
 use Rattle.spanner_model.specs.Answer.{VarOf}
 use Rattle.spanner_model.specs.Sound.{NameIn, NameInLets}
 use Rattle.spanner_model.proofs.HasLaws.{Has-slice_get, Has-take}
-use Rattle.spanner_model.proofs.ExprLaws.{join_var_part, var_named}
+use Rattle.spanner_model.proofs.ExprLaws.{join_var_part, join_named, var_named}
 use Rattle.spanner_model.proofs.GatheredLaws.{NamesInTurn}
 use Rattle.functional_check.proofs.LeastLaws.{at_most_less}
 use Rattle.query_parser.specs.TreeFaults.{Passes}
@@ -36,11 +36,6 @@ join_formed n [] f e h = absurd h
 join_formed n (g ∷ es) f e (inl is) = subst (IsFormed n) is f.0
 join_formed n (g ∷ es) f e (inr h) = joined_part n es f.1 e h
 
-name_part : (es : List ExprTree) (e : ExprTree) (x : VarName) → Has es e → NameIn e x → NameIn (join_all es) x
-name_part [] e x h n = absurd h
-name_part (g ∷ es) e x (inl is) n = inl (subst (λ w. NameIn w x) (sym is) n)
-name_part (g ∷ es) e x (inr h) n = inr (name_part es e x h n)
-
 names_united : (es : List ExprTree) (x : VarName) → NameIn (join_all es) x → NameIn (union_all es) x
 names_united [] x n = n
 names_united (g ∷ es) x (inl n) = inl n
@@ -51,7 +46,7 @@ few_united known es few =
     at_most_less MOST_VARIABLES (InReach known (join_all es)) (InReach known (union_all es)) (λ x h. elim h [ inl n ↦ inl (names_united es x n) | inr v ↦ inr v ]) few
 
 reach_part : (known : List (List VarName)) (es : List ExprTree) (e : ExprTree) (x : VarName) → Has es e → InReach known e x → InReach known (join_all es) x
-reach_part known es e x h (inl n) = inl (name_part es e x h n)
+reach_part known es e x h (inl n) = inl (join_named es e x h n)
 reach_part known es e x h (inr v) = inr v
 
 pub few_part : (known : List (List VarName)) (es : List ExprTree) (e : ExprTree) → Has es e → AtMost MOST_VARIABLES (InReach known (join_all es)) → AtMost MOST_VARIABLES (InReach known e)
@@ -93,7 +88,7 @@ part_name (g ∷ es) x (inl n) = (g, inl refl, n)
 part_name (g ∷ es) x (inr n) = let (e, h, m) = part_name es x n in (e, inr h, m)
 
 pub name_in_turn : NamesInTurn NameIn (λ es. NameIn (join_all es))
-name_in_turn = record { of_one = λ es e x. name_part es e x; one_of = λ es x. part_name es x }
+name_in_turn = record { of_one = λ es e x. join_named es e x; one_of = λ es x. part_name es x }
 
 -- the names of the atoms of lets, one let after another
 let_name : (lets : List (VarName × ExprTree)) (l : VarName × ExprTree) (x : VarName) → Has lets l → NameIn l.1 x → NameInLets lets x

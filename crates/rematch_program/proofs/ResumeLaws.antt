@@ -9,6 +9,7 @@ use Rattle.spanner_model.specs.Expression.{QueryTree}
 use Rattle.spanner_model.specs.Sound.{IsSound}
 use Rattle.spanner_model.specs.Answers.{SpanRow, AreResultNames, IsPage, page_end}
 use Rattle.spanner_model.proofs.AnswerLaws.{query_given}
+use Rattle.spanner_model.proofs.Ends.{EndsBy, query_ends}
 use Rattle.spanner_model.proofs.HasLaws.{Has-take}
 use Rattle.spanner_model.proofs.RowOrder.{pages_join}
 use Rattle.row_cursor.specs.CursorTexts.{cursor_text, IsKept, AreParts}
@@ -17,7 +18,6 @@ use Rattle.rematch_program.specs.Pages.{IsAfter}
 use Rattle.rematch_program.specs.Resume.{note_cursor, PagesResume}
 use Rattle.rematch_program.proofs.ResultNames.{result_named}
 use Rattle.rematch_program.proofs.Completeness.{after_one}
-use Rattle.rematch_program.proofs.Inside.{EndsBy, query_ends}
 use Rattle.rematch_program.proofs.RestLaws.{Has-rest}
 
 -- ---- the rows of answers can be kept in a cursor

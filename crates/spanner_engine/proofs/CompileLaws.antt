@@ -1,5 +1,5 @@
 -- What is made of the parts of an expression when it is compiled.
-use Rattle.std.proofs.Common.{◌≡◌, ℕ, Bool, true, false, map, length-append, zero, suc, ◌+◌, ◌*◌, ◌≤◌, ◌⊎◌, ◌↔◌, List, [], ◌∷◌, ◌++◌, length, take, drop, Some, inl, inr, refl, sym, ap, subst, arith, ◌∙◌}
+use Rattle.std.proofs.Common.{◌≡◌, ℕ, Bool, true, false, map, length-append, zero, suc, ◌+◌, ◌*◌, ◌≤◌, ◌⊎◌, List, [], ◌∷◌, ◌++◌, length, take, drop, Some, inl, inr, refl, sym, ap, subst, arith, ◌∙◌}
 use Rattle.std.specs.Prelude.{slice_get}
 use Rattle.std.specs.FinSet as set
 use Rattle.std.specs.List.{filter}
@@ -10,11 +10,11 @@ use Rattle.span_core.specs.NameSets.{Ascending}
 use Rattle.span_core.specs.declared.TheConstants.{MOST_VARIABLES}
 use Rattle.spanner_model.specs.Lists.{Has}
 use Rattle.spanner_model.specs.Captures.{VarName, Mapping}
-use Rattle.spanner_model.specs.Expression.{ExprTree, QueryTree, atom, named, union_end, union, join_end, join, project, union_all, join_all}
+use Rattle.spanner_model.specs.Expression.{ExprTree, QueryTree, project, union_all, join_all}
 use Rattle.spanner_model.specs.Answer.{VarOf, Answer, vars_of_lets, answers_of_lets}
-use Rattle.spanner_model.specs.Sound.{IsSound, IsSoundExpr, AreUnited, AgreesWithParts, NameIn, NameInLets, NameOf}
+use Rattle.spanner_model.specs.Sound.{IsSound, IsSoundExpr, NameInLets, NameOf}
 use Rattle.spanner_model.proofs.Deciding.{told_lets}
-use Rattle.spanner_model.proofs.ExprLaws.{union_part, join_part, var_named, lets_named}
+use Rattle.spanner_model.proofs.ExprLaws.{union_part, join_part, union_var, union_named, join_named, var_named, lets_named}
 use Rattle.spanner_model.proofs.HasLaws.{Has-slice_get, Has-append_left, Has-append_cases, Has-map_cases, distinct-le}
 use Rattle.spanner_model.proofs.NameLaws.{ascending-distinct, same_names}
 use Rattle.spanner_model.proofs.TreeLaws.{take_at_more}
@@ -57,41 +57,6 @@ pub first_taken : {X : Type 0} (xs : List X) (k : ℕ) → 1 ≤ k → 1 ≤ len
 first_taken [] k l m = absurd (omega (arith, m))
 first_taken (x ∷ xs) zero l m = absurd (omega (arith, l))
 first_taken (x ∷ xs) (suc k) l m = (x, take k xs, refl, inl refl)
-
--- of parts that agree each has a variable that some has
-first_var : (V : ℕ → VarName → Type 0) (e rest : ExprTree) (x : VarName) → AgreesWithParts V e rest → VarOf V e x ⊎ VarOf V rest x → VarOf V e x
-first_var V e rest x agree (inl a) = a
-first_var V e (atom s t f) x agree (inr b) = (agree x).1 b
-first_var V e (named k) x agree (inr b) = (agree x).1 b
-first_var V e union_end x agree (inr b) = absurd b
-first_var V e (union g r) x agree (inr b) = (agree x).1 b
-first_var V e join_end x agree (inr b) = (agree x).1 b
-first_var V e (join g r) x agree (inr b) = (agree x).1 b
-first_var V e (project kept g) x agree (inr b) = (agree x).1 b
-
-united_var : (V : ℕ → VarName → Type 0) (n : ℕ) (es : List ExprTree) (e : ExprTree) (x : VarName) → AreUnited V n (union_all es) → Has es e → VarOf V e x ↔ VarOf V (union_all es) x
-united_var V n [] e x u has = absurd has
-united_var V n (g ∷ es) e x u (inl i) =
-    subst (λ (w : ExprTree). VarOf V w x ↔ (VarOf V g x ⊎ VarOf V (union_all es) x)) i (λ v. inl v, λ v. first_var V g (union_all es) x u.2 v)
-united_var V n (g ∷ []) e x u (inr has) = absurd has
-united_var V n (g ∷ h ∷ es) e x u (inr has) =
-    let later = united_var V n (h ∷ es) e x u.1 has in
-    (λ v. inr (later.0 v), λ v. later.1 (elim v as (λ _. VarOf V (union_all (h ∷ es)) x) [ inl a ↦ (u.2 x).0 a | inr b ↦ b ]))
-
--- a part of a union has the union's variables
-pub union_var : (V : ℕ → VarName → Type 0) (n : ℕ) (es : List ExprTree) (e : ExprTree) (x : VarName) → IsSoundExpr V n (union_all es) → Has es e → VarOf V e x ↔ VarOf V (union_all es) x
-union_var V n [] e x u has = absurd has
-union_var V n (g ∷ es) e x u has = united_var V n (g ∷ es) e x (u.0, u.1, u.3) has
-
-union_named : (es : List ExprTree) (e : ExprTree) (x : VarName) → Has es e → NameIn e x → NameIn (union_all es) x
-union_named [] e x h v = absurd h
-union_named (g ∷ es) e x (inl i) v = inl (subst (λ (w : ExprTree). NameIn w x) (sym i) v)
-union_named (g ∷ es) e x (inr h) v = inr (union_named es e x h v)
-
-join_named : (es : List ExprTree) (e : ExprTree) (x : VarName) → Has es e → NameIn e x → NameIn (join_all es) x
-join_named [] e x h v = absurd h
-join_named (g ∷ es) e x (inl i) v = inl (subst (λ (w : ExprTree). NameIn w x) (sym i) v)
-join_named (g ∷ es) e x (inr h) v = inr (join_named es e x h v)
 
 pub asked_united : (q : QueryTree) (n : ℕ) (es : List ExprTree) (e : ExprTree) → Has es e → IsAsked q n (union_all es) → IsAsked q n e
 asked_united q n es e h a =

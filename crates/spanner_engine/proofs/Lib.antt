@@ -1,6 +1,5 @@
 pub mod Assoc
 pub mod CompileLaws
-pub mod Ends
 pub mod FarBack
 pub mod Names
 pub mod PartLaws

@@ -13,7 +13,8 @@ use Rattle.spanner_model.specs.Functional.{HasVar, IsFunctional}
 use Rattle.spanner_model.specs.WellBuilt.{IsWellBuilt}
 use Rattle.spanner_model.specs.Expression.{ExprTree, QueryTree, atom, project}
 use Rattle.spanner_model.specs.Answer.{vars_of_lets}
-use Rattle.spanner_model.specs.Sound.{IsSound, IsSoundExpr, NameIn, NameInLets}
+use Rattle.spanner_model.specs.Sound.{IsSound, IsSoundExpr}
+use Rattle.spanner_model.proofs.ExprLaws.{let_named}
 use Rattle.spanner_model.proofs.HasLaws.{place_of-Has}
 use Rattle.spanner_model.proofs.NameLaws.{ascending-distinct, same_names}
 use Rattle.marked_automaton.specs.declared.TheConstants.{MOST_STATES, MOST_WAYS}
@@ -155,11 +156,6 @@ one_more q lets all l a at known made is = subst (AreCompiled q) (sym is) (recor
         ]
 
 -- ---- what is asked of lets and of the body
-
-let_named : (lets : List (VarName × ExprTree)) (k : ℕ) (l : VarName × ExprTree) (x : VarName) → slice_get lets k ≡ Some l → NameIn l.1 x → NameInLets lets x
-let_named [] k l x at h = absurd (cc)
-let_named (m ∷ lets) zero l x at h = inl (let e : m ≡ l = cc in subst (λ (w : VarName × ExprTree). NameIn w.1 x) (sym e) h)
-let_named (m ∷ lets) (suc k) l x at h = inr (let_named lets k l x at h)
 
 pub asked_let : (q : QueryTree) (k : ℕ) (l : VarName × ExprTree) → IsSound q → slice_get q.lets k ≡ Some l → IsAsked q k l.1
 asked_let q k l s at = record { sound = s; sound_expr = (s.sound_lets k l at).0; named = λ x h. inl (let_named q.lets k l x at h) }

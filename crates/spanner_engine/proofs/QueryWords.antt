@@ -14,6 +14,7 @@ use Rattle.spanner_model.specs.Answer.{VarOf, IsRestriction, FitsSomewhere, Answ
 use Rattle.spanner_model.specs.Sound.{IsSound, IsSoundUnder, IsSoundExpr, AreUnited, AreJoined, AgreesWithParts}
 use Rattle.spanner_model.proofs.AnswerLaws.{answer_absent}
 use Rattle.spanner_model.proofs.Deciding.{Told, told_of, told_lets}
+use Rattle.spanner_model.proofs.Ends.{answer_ends}
 use Rattle.spanner_model.proofs.HasLaws.{Has-slice_get}
 use Rattle.spanner_model.proofs.NameLaws.{ascending-distinct}
 use Rattle.marked_automaton.specs.Automaton.{Marked}
@@ -27,7 +28,6 @@ use Rattle.marked_automaton.specs.Reduct.{ReducesMarked}
 use Rattle.marked_automaton.proofs.ReductWords.{reduct_accepts}
 use Rattle.spanner_engine.specs.Laws.{AcceptsAnswersOf, QueryWords}
 use Rattle.spanner_engine.specs.QueryAutomaton.{with_vars, of_atom, of_union, of_join, automaton_of, united, together, of_lets, of_one_let, of_query}
-use Rattle.spanner_engine.proofs.Ends.{answer_ends}
 use Rattle.spanner_engine.proofs.Names.{vars_ascend, vars_are}
 use Rattle.spanner_engine.proofs.Words.{IsFor, for_same, for_union, for_projection, Together, for_join}
 use Rattle.spanner_engine.proofs.Assoc.{together_assoc, told_or}

@@ -9,6 +9,7 @@ use Rattle.span_core.specs.NameSets.{Ascending}
 use Rattle.spanner_model.specs.Lists.{Has}
 use Rattle.spanner_model.specs.Captures.{VarName, Mapping, row_of}
 use Rattle.spanner_model.specs.Answer.{IsRestriction}
+use Rattle.spanner_model.proofs.Ends.{EndsBy}
 use Rattle.spanner_model.proofs.NameLaws.{ascending-distinct, same_names}
 use Rattle.marked_automaton.specs.Automaton.{Accepts, IsWhole, Marked}
 use Rattle.marked_automaton.specs.declared.way.Way.{Way}
@@ -27,7 +28,6 @@ use Rattle.algebra.proofs.Joins.{join_law}
 use Rattle.algebra.proofs.Whole.{union_whole, join_whole}
 use Rattle.algebra.specs.Rows.{LiesWithin, merged}
 use Rattle.spanner_engine.specs.QueryAutomaton.{of_union, of_join, of_projection}
-use Rattle.spanner_engine.proofs.Ends.{EndsBy}
 use Rattle.spanner_engine.proofs.Names.{all_ascend, all_are}
 
 -- M is an automaton for these answers, which give spans to the variables of P alone

@@ -9,6 +9,7 @@ use Rattle.spanner_model.specs.Expression.{ExprTree, QueryTree, atom, named, uni
 use Rattle.span_core.specs.declared.span.Span.{Span}
 use Rattle.spanner_model.specs.Sound.{AgreesWithParts, IsSoundExpr, AreUnited, AreJoined, IsSoundUnder, IsSound}
 use Rattle.spanner_model.specs.Answer.{VarOf, Answer, vars_of_lets, answers_of_lets, IsAnswer, IsResultVar}
+use Rattle.spanner_model.proofs.ExprLaws.{first_var}
 use Rattle.spanner_model.proofs.FitLaws.{fit_only_vars, fit_all_vars}
 
 -- a name that is not captured has no span
@@ -72,17 +73,6 @@ span_of-given (p ∷ c) x h = span_by (bytes_eq p.0 x) p c x (bytes_eq-Decides p
 
 gives_same : (m n : Mapping) (x : VarName) → m x ≡ n x → Gives n x → Gives m x
 gives_same m n x e g = (g.0, e ∙ g.1)
-
--- of parts that agree each has a variable that some has
-first_var : (V : ℕ → VarName → Type 0) (e rest : ExprTree) (x : VarName) → AgreesWithParts V e rest → VarOf V e x ⊎ VarOf V rest x → VarOf V e x
-first_var V e rest x agree (inl a) = a
-first_var V e (atom s t f) x agree (inr b) = (agree x).1 b
-first_var V e (named k) x agree (inr b) = (agree x).1 b
-first_var V e union_end x agree (inr b) = absurd b
-first_var V e (union g r) x agree (inr b) = (agree x).1 b
-first_var V e join_end x agree (inr b) = (agree x).1 b
-first_var V e (join g r) x agree (inr b) = (agree x).1 b
-first_var V e (project kept g) x agree (inr b) = (agree x).1 b
 
 -- under lets that give each of their variables a span
 module _ (V : ℕ → VarName → Type 0) (A : ℕ → Mapping → Type 0) (d : List ℕ) (given : (k : ℕ) (m : Mapping) → A k m → (x : VarName) → V k x → Gives m x) where

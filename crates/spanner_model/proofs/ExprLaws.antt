@@ -129,6 +129,42 @@ join_var_part V [] x h = absurd h
 join_var_part V (g ∷ es) x (inl a) = (g, inl refl, a)
 join_var_part V (g ∷ es) x (inr b) = let p = join_var_part V es x b in (p.0, inr p.1, p.2)
 
+-- of parts that agree each has a variable that some has
+pub first_var : (V : LetVars) (e rest : ExprTree) (x : VarName) → AgreesWithParts V e rest → VarOf V e x ⊎ VarOf V rest x → VarOf V e x
+first_var V e rest x agree (inl a) = a
+first_var V e (atom s t f) x agree (inr b) = (agree x).1 b
+first_var V e (named k) x agree (inr b) = (agree x).1 b
+first_var V e union_end x agree (inr b) = absurd b
+first_var V e (union g r) x agree (inr b) = (agree x).1 b
+first_var V e join_end x agree (inr b) = (agree x).1 b
+first_var V e (join g r) x agree (inr b) = (agree x).1 b
+first_var V e (project kept g) x agree (inr b) = (agree x).1 b
+
+united_var : (V : LetVars) (n : ℕ) (es : List ExprTree) (e : ExprTree) (x : VarName) → AreUnited V n (union_all es) → Has es e → VarOf V e x ↔ VarOf V (union_all es) x
+united_var V n [] e x u has = absurd has
+united_var V n (g ∷ es) e x u (inl i) =
+    subst (λ (w : ExprTree). VarOf V w x ↔ (VarOf V g x ⊎ VarOf V (union_all es) x)) i (λ v. inl v, λ v. first_var V g (union_all es) x u.2 v)
+united_var V n (g ∷ []) e x u (inr has) = absurd has
+united_var V n (g ∷ h ∷ es) e x u (inr has) =
+    let later = united_var V n (h ∷ es) e x u.1 has in
+    (λ v. inr (later.0 v), λ v. later.1 (elim v as (λ _. VarOf V (union_all (h ∷ es)) x) [ inl a ↦ (u.2 x).0 a | inr b ↦ b ]))
+
+-- a part of a sound union has the union's variables
+pub union_var : (V : LetVars) (n : ℕ) (es : List ExprTree) (e : ExprTree) (x : VarName) → IsSoundExpr V n (union_all es) → Has es e → VarOf V e x ↔ VarOf V (union_all es) x
+union_var V n [] e x u has = absurd has
+union_var V n (g ∷ es) e x u has = united_var V n (g ∷ es) e x (u.0, u.1, u.3) has
+
+-- the names of a part are names of a union, and of a join
+pub union_named : (es : List ExprTree) (e : ExprTree) (x : VarName) → Has es e → NameIn e x → NameIn (union_all es) x
+union_named [] e x h v = absurd h
+union_named (g ∷ es) e x (inl i) v = inl (subst (λ (w : ExprTree). NameIn w x) (sym i) v)
+union_named (g ∷ es) e x (inr h) v = inr (union_named es e x h v)
+
+pub join_named : (es : List ExprTree) (e : ExprTree) (x : VarName) → Has es e → NameIn e x → NameIn (join_all es) x
+join_named [] e x h v = absurd h
+join_named (g ∷ es) e x (inl i) v = inl (subst (λ (w : ExprTree). NameIn w x) (sym i) v)
+join_named (g ∷ es) e x (inr h) v = inr (join_named es e x h v)
+
 -- ---- variables are names of atoms
 
 -- the variables of a sound expression are names of its atoms, or variables of the lets
@@ -156,7 +192,7 @@ mutual
   joined_named V N known n (join e rest) x h (inr v) = elim (joined_named V N known n rest x h.1 v) as (λ _. (NameIn e x ⊎ NameIn rest x) ⊎ N x) [ inl a ↦ inl (inr a) | inr b ↦ inr b ]
   joined_named V N known n _ x h v = absurd h
 
-let_named : (lets : List (VarName × ExprTree)) (k : ℕ) (l : VarName × ExprTree) (x : VarName) → slice_get lets k ≡ Some l → NameIn l.1 x → NameInLets lets x
+pub let_named : (lets : List (VarName × ExprTree)) (k : ℕ) (l : VarName × ExprTree) (x : VarName) → slice_get lets k ≡ Some l → NameIn l.1 x → NameInLets lets x
 let_named [] k l x at h = absurd (cc)
 let_named (m ∷ lets) zero l x at h = inl (let e : m ≡ l = cc in subst (λ (w : VarName × ExprTree). NameIn w.1 x) (sym e) h)
 let_named (m ∷ lets) (suc k) l x at h = inr (let_named lets k l x at h)

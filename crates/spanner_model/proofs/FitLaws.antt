@@ -7,7 +7,8 @@ use Rattle.spanner_model.specs.Fit.{Piece, Times, Fit}
 use Rattle.spanner_model.specs.Functional.{HasVar, AgreesWithArms, IsFunctional}
 use Rattle.spanner_model.proofs.CapturesLaws.{Captured-append_left, Captured-append_right, Captured-append_cases}
 
-times_le : (P : Piece) → ((i j : ℕ) (m : Captures) → P i j m → i ≤ j) → (c i j : ℕ) (m : Captures) → Times P c i j m → i ≤ j
+-- pieces one after another do not end before they begin
+pub times_le : (P : Piece) → ((i j : ℕ) (m : Captures) → P i j m → i ≤ j) → (c i j : ℕ) (m : Captures) → Times P c i j m → i ≤ j
 times_le P le zero i j m h = omega arith
 times_le P le (suc c) i j m h = omega (arith, le i h.0 h.1 h.3, times_le P le c h.0 j h.2 h.4)
 

@@ -1,6 +1,7 @@
 pub mod AnswerLaws
 pub mod CapturesLaws
 pub mod Deciding
+pub mod Ends
 pub mod ExampleLaws
 pub mod ExprLaws
 pub mod ExprTrees

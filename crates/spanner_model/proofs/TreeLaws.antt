@@ -6,7 +6,7 @@ use Rattle.std.proofs.lemmas.Option.{slice_get_within, get_or_from_slice_get}
 use Rattle.spanner_model.specs.Lists.{Has}
 use Rattle.spanner_model.specs.Tree.{Tree, cat_all, alt_all}
 use Rattle.spanner_model.specs.Captures.{VarName}
-use Rattle.spanner_model.specs.Functional.{HasVar}
+use Rattle.spanner_model.specs.Functional.{HasVar, IsFunctional}
 use Rattle.spanner_model.specs.WellBuilt.{IsBuilt, AreParts, AreArms, nesting, IsWellBuilt}
 use Rattle.spanner_model.proofs.Nodes.{nodes}
 
@@ -122,3 +122,14 @@ alt_built (t ∷ u ∷ ts) two each = (each t (inl refl), are_arms (u ∷ ts) (�
 pub cat_nesting : (ts : List Tree) (n : ℕ) → 1 ≤ n → ((t : Tree) → Has ts t → nesting t < n) → nesting (cat_all ts) ≤ n
 cat_nesting [] n one each = omega arith
 cat_nesting (t ∷ ts) n one each = omega (arith, each t (inl refl), cat_nesting ts n one (λ u h. each u (inr h)))
+
+-- the parts, and the arms, of a functional formula are functional
+pub functional_part : (ts : List Tree) (t : Tree) → Has ts t → IsFunctional (cat_all ts) → IsFunctional t
+functional_part [] t has ok = absurd has
+functional_part (u ∷ ts) t (inl e) ok = subst IsFunctional e ok.0
+functional_part (u ∷ ts) t (inr has) ok = functional_part ts t has ok.1
+
+pub functional_arm : (ts : List Tree) (t : Tree) → Has ts t → IsFunctional (alt_all ts) → IsFunctional t
+functional_arm [] t has ok = absurd has
+functional_arm (u ∷ ts) t (inl e) ok = subst IsFunctional e ok.0
+functional_arm (u ∷ ts) t (inr has) ok = functional_arm ts t has ok.1

@@ -8,7 +8,7 @@ use Rattle.spanner_model.specs.View.{tree_of, trees_of}
 use Rattle.spanner_model.specs.WellBuilt.{IsWellBuilt}
 use Rattle.spanner_model.proofs.HasLaws.{Has-slice_get}
 use Rattle.spanner_model.proofs.Nodes.{nodes}
-use Rattle.spanner_model.proofs.TreeLaws.{part_nodes, arms_nodes, parts_well_built, arms_well_built}
+use Rattle.spanner_model.proofs.TreeLaws.{part_nodes, arms_nodes, functional_part, functional_arm, parts_well_built, arms_well_built}
 use Rattle.spanner_model.proofs.Trees.{tree_of-One, tree_of-Cat, tree_of-Alt, tree_of-Cap}
 use Rattle.place_automaton.specs.Counts.{counts}
 use Rattle.place_automaton.specs.declared.placing.Draft.{Draft}
@@ -22,7 +22,7 @@ use Rattle.place_automaton.proofs.CapPlaces.{cap_apart, cap_null, cap_first, cap
 use Rattle.place_automaton.proofs.CountLaws.{counted, null_zero}
 use Rattle.place_automaton.proofs.DraftRows.{IsRow, copies_next, ok_both, parts_next, parts_joins, placers, row_done}
 use Rattle.place_automaton.proofs.FineLaws.{VarBits, built_classes, fine_places, fine_unmarked}
-use Rattle.place_automaton.proofs.PartBuilt.{functional_part, functional_arm, named_part, named_arm, all_classes}
+use Rattle.place_automaton.proofs.PartBuilt.{named_part, named_arm, all_classes}
 use Rattle.place_automaton.proofs.PlaceNumbers.{copies_room, copies_total, place_count, repeated_places, turn_total, parts_room, arms_room}
 use Rattle.place_automaton.proofs.Ranges.{places_lie}
 use Rattle.place_automaton.proofs.RepeatPlaces.{again_done, bounded_places, flat_done, none_placed, nothing_done}

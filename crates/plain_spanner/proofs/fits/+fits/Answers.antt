@@ -12,12 +12,12 @@ use Rattle.spanner_model.proofs.FitLaws.{fit_within}
 use Rattle.spanner_model.proofs.HasLaws.{Has-slice_get, Has-get_or}
 use Rattle.spanner_model.proofs.NodeParts.{has_parts}
 use Rattle.spanner_model.proofs.Nodes.{nodes}
-use Rattle.spanner_model.proofs.TreeLaws.{part_nodes}
+use Rattle.spanner_model.proofs.TreeLaws.{part_nodes, functional_part, functional_arm}
 use Rattle.spanner_model.proofs.Trees.{tree_of-One, tree_of-Empty, tree_of-Cat, tree_of-Alt, tree_of-Rep, tree_of-Cap}
 use Rattle.plain_spanner.specs.declared.TheConstants.{MOST_DOCUMENT_BYTES}
 use Rattle.plain_spanner.specs.Listed.{Tells, FromSome, EndAndCaptures, CapturesAndEnds, IsBare, HasFit, Continued, AreWithin, CapturedFrom, CapturedAt}
 use Rattle.plain_spanner.proofs.BareLaws.{bare_same}
-use Rattle.plain_spanner.proofs.PartLists.{cat_more_split, cat_more_join, cat_begins, functional_part, functional_arm}
+use Rattle.plain_spanner.proofs.PartLists.{cat_more_split, cat_more_join, cat_begins}
 use Rattle.plain_spanner.proofs.TellsLaws.{tells_or, tells_only, from_none, from_more, from_all, empty_list}
 use Rattle.plain_spanner.proofs.FitLists.{fits_appended, no_fits, goes_nowhere, goes_on, goes_on_none, go_within, turn_apart, arms_go_on, named_tells, captures_go_on, here_within, inner_within}
 use Rattle.plain_spanner.proofs.fits.+fits.Goals as goal
