@@ -1,12 +1,12 @@
 //! Automata.
-ghost use Rattle.std.specs.Prelude.{◌≡◌, ℕ, ◌+◌, ◌<◌, ◌≤◌, ◌↔◌, ◌⊎◌, IsTrue, IfOk, IfErr, OnOk, OnErr, List, length, map, Some, All};
+ghost use Rattle.std.specs.Prelude.{◌≡◌, ℕ, ◌+◌, ◌<◌, ◌≤◌, ◌↔◌, ◌⊎◌, IsTrue, IsOk, IfOk, IfErr, OnOk, OnErr, List, length, map, Some, All};
 ghost use Rattle.std.specs.Option.{ForSome};
 ghost use Rattle.std.specs.FinSet as set;
 ghost use Rattle.span_core.specs.Block.{block};
 ghost use Rattle.span_core.specs.declared.span.Span.{Span};
 ghost use Rattle.spanner_model.specs.Lists.{Has};
 ghost use Rattle.marked_automaton.specs.declared.TheConstants.{MOST_STATES, MOST_WAYS};
-ghost use Rattle.marked_automaton.specs.Automaton.{Accepts, HasGraphOf, IsBlockOf, IsMarked, TakesNoMarks, bare, idle_way, plain_stop, reversed, turned_way, with_start, with_stop, with_way, with_ways, IsWayOf, AreGrouped};
+ghost use Rattle.marked_automaton.specs.Automaton.{Accepts, HasGraphOf, IsBlockOf, IsMarked, TakesNoMarks, bare, idle_way, plain_stop, reversed, turned_way, with_start, with_states, with_stop, with_way, with_ways, IsWayOf, AreGrouped};
 ghost use Rattle.marked_automaton.specs.Faults.{IsSizeFaultOf};
 ghost use Rattle.marked_automaton.specs.Marks.{left_of, remarked};
 ghost use Rattle.marked_automaton.specs.Reduct.{IsUseful, Rearranges, Reduces};
@@ -113,6 +113,25 @@ impl Automaton {
         self.ways.sort_unstable_by_key(|way| way.from);
     }
 
+    /// Adds so many states, which nothing leads to or from. On refusal nothing is added.
+    /// `SizeFault::States` comes exactly where there would be more than `MOST_STATES`, and tells that
+    /// number; `SizeFault::Ways` never comes.
+    pub fn add_states(&mut self, more: u32) -> Result<(), SizeFault>
+        ensures names { self.new.names ≡ self.old.names }
+        ensures ok { OnOk result (self.new.graph ≡ with_states more self.old.graph) }
+        ensures few { OnOk result (self.old.graph.states + more ≤ MOST_STATES) }
+        ensures err { OnErr result (self.new.graph ≡ self.old.graph) }
+        ensures fault { IfErr result (λ e. IsSizeFaultOf (self.old.graph.states + more) 0 e) }
+    {
+        let count = u64::from(self.states) + u64::from(more);
+        if count > u64::from(MOST_STATES) {
+            return Err(SizeFault::States { count });
+        }
+        self.idle.resize(count as usize, false)?;
+        self.states += more;
+        Ok(())
+    }
+
     /// Adds a start. On refusal nothing is added.
     pub fn add_start(&mut self, state: u32) -> Result<(), OutOfMemory>
         requires { state < self.old.graph.states }
@@ -158,7 +177,7 @@ impl Automaton {
         Ok(())
     }
 
-    /// Makes a state idle, which has its way to itself already. On refusal nothing changes.
+    /// Makes a state idle, which has its way to itself already. It always succeeds.
     pub fn set_idle(&mut self, state: u32) -> Result<(), OutOfMemory>
         requires state { state < self.old.graph.states }
         requires way { Has self.old.graph.ways (idle_way state) }
@@ -166,6 +185,7 @@ impl Automaton {
         ensures graph { HasGraphOf self.new.graph self.old.graph }
         ensures ok { OnOk result ((p : ℕ) → Has self.new.graph.idle p ↔ (Has self.old.graph.idle p ⊎ (p ≡ state))) }
         ensures err { OnErr result (self.new.graph ≡ self.old.graph) }
+        ensures succeeds { IsOk result }
     {
         self.idle[state as usize] = true;
         Ok(())

@@ -158,3 +158,34 @@ fn too_many_states(rt: HostRuntime) -> Result<(), SizeFault> {
     assert_eq!(rt; refused.err(), Some(SizeFault::States { count: 20_001 }));
     Ok(())
 }
+
+#[test]
+fn added_states_are_of_use(rt: HostRuntime) -> Result<(), SizeFault> {
+    let mut automaton = Automaton::new(rt.alloc(), VarSet::empty(), 1)?;
+    automaton.add_states(2)?;
+    assert_eq!(rt; automaton.states(), 3);
+    assert!(rt; add(&mut automaton, 1, Marks::none(), b'a', 2)?);
+    assert!(rt; bound(&mut automaton, 1, 2, Marks::none())?);
+    assert!(rt; accepts(&automaton, rt.alloc(), b"a")?);
+    assert!(rt; !accepts(&automaton, rt.alloc(), b"")?);
+    Ok(())
+}
+
+#[test]
+fn states_are_added_up_to_the_limit(rt: HostRuntime) -> Result<(), SizeFault> {
+    let mut automaton = example(rt.alloc())?;
+    automaton.add_states(MOST_STATES - 4)?;
+    assert_eq!(rt; automaton.states(), 20_000);
+    let refused = automaton.add_states(1);
+    assert_eq!(rt; refused.err(), Some(SizeFault::States { count: 20_001 }));
+    let refused = automaton.add_states(u32::MAX);
+    assert_eq!(rt;
+        refused.err(),
+        Some(SizeFault::States {
+            count: 4_294_987_295
+        })
+    );
+    assert_eq!(rt; automaton.states(), 20_000);
+    assert!(rt; accepts(&automaton, rt.alloc(), b"ab")?);
+    Ok(())
+}
