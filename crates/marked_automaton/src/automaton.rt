@@ -13,6 +13,7 @@ ghost use Rattle.marked_automaton.specs.Reduct.{IsUseful, Rearranges, Reduces};
 
 use crate::accepting::{accepting, some_good};
 use crate::eraser::Eraser;
+use crate::grouping::{are_grouped, stay_grouped};
 use crate::trimming::{Numbers, end_states, flags_of_kept, states_between};
 use crate::{MOST_STATES, MOST_WAYS, SizeFault, Stop, Way};
 use span_core::{Marks, OutOfMemory, Row, VarSet};
@@ -37,11 +38,13 @@ pub struct Automaton {
     stops: Vec<Stop>,
     /// For each state whether it is idle.
     idle: Vec<bool>,
+    /// Whether the ways stand in the order of the states that they lead from.
+    grouped: bool,
 }
 
 impl Model for Automaton {
-    ghost use Rattle.std.specs.Prelude.{◌≡◌, length};
-    ghost use Rattle.marked_automaton.specs.Automaton.{Marked, IsMarked};
+    ghost use Rattle.std.specs.Prelude.{◌≡◌, ◌↔◌, IsTrue, length};
+    ghost use Rattle.marked_automaton.specs.Automaton.{AreGrouped, Marked, IsMarked};
     ghost use Rattle.marked_automaton.specs.Inside.{graph_of};
 
     ghost Value = { Marked };
@@ -52,7 +55,7 @@ impl Model for Automaton {
 
     ghost view = { λ a. record { names = a.vars; graph = graph_of a.states a.starts.items a.ways.items a.stops.items a.idle.items } };
 
-    ghost invariant = { λ a. IsMarked (record { names = a.vars; graph = graph_of a.states a.starts.items a.ways.items a.stops.items a.idle.items }) × (length a.idle.items ≡ a.states) };
+    ghost invariant = { λ a. IsMarked (record { names = a.vars; graph = graph_of a.states a.starts.items a.ways.items a.stops.items a.idle.items }) × (length a.idle.items ≡ a.states) × (IsTrue a.grouped ↔ AreGrouped a.ways.items) };
 }
 
 impl Automaton {
@@ -76,6 +79,7 @@ impl Automaton {
             ways: Vec::new(alloc),
             stops: Vec::new(alloc),
             idle,
+            grouped: true,
         })
     }
 
@@ -98,6 +102,7 @@ impl Automaton {
             });
         }
         let mut automaton = Automaton::new(alloc, vars, states)?;
+        automaton.grouped = are_grouped(ways.as_slice());
         automaton.ways = ways;
         Ok(automaton)
     }
@@ -111,6 +116,15 @@ impl Automaton {
         ensures grouped { AreGrouped self.new.graph.ways }
     {
         self.ways.sort_unstable_by_key(|way| way.from);
+        self.grouped = true;
+    }
+
+    /// Whether the ways stand in the order of the states that they lead from. The automaton keeps count
+    /// of it, so that this takes one step.
+    pub fn is_grouped(&self) -> bool
+        ensures { IsTrue result ↔ AreGrouped self.now.graph.ways }
+    {
+        self.grouped
     }
 
     /// Adds so many states, which nothing leads to or from. On refusal nothing is added.
@@ -161,7 +175,9 @@ impl Automaton {
                 count: self.ways.len() as u64 + 1,
             });
         }
+        let grouped = stay_grouped(self.grouped, self.ways.as_slice(), &way);
         self.ways.push(way)?;
+        self.grouped = grouped;
         Ok(())
     }
 
@@ -267,6 +283,7 @@ impl Automaton {
             ways,
             stops,
             idle,
+            grouped: _,
         } = self;
         let useful = states_between(
             alloc,
@@ -276,13 +293,16 @@ impl Automaton {
             stops.as_slice(),
         )?;
         let kept = Numbers::new(alloc, useful.as_slice())?;
+        let ways = kept.ways(alloc, ways.as_slice())?;
+        let grouped = are_grouped(ways.as_slice());
         Ok(Automaton {
             vars,
             states: kept.count,
             starts: kept.states(alloc, starts.as_slice())?,
-            ways: kept.ways(alloc, ways.as_slice())?,
+            ways,
             stops: kept.stops(alloc, stops.as_slice())?,
             idle: flags_of_kept(alloc, useful.as_slice(), idle.as_slice())?,
+            grouped,
         })
     }
 
@@ -300,6 +320,7 @@ impl Automaton {
             ways: eraser.ways(alloc, self.ways.as_slice())?,
             stops: eraser.stops(alloc, self.stops.as_slice())?,
             idle: copy_of(alloc, self.idle.as_slice())?,
+            grouped: self.grouped,
         })
     }
 
@@ -314,6 +335,7 @@ impl Automaton {
             ways: copy_of(alloc, self.ways.as_slice())?,
             stops: copy_of(alloc, self.stops.as_slice())?,
             idle: copy_of(alloc, self.idle.as_slice())?,
+            grouped: self.grouped,
         })
     }
 
@@ -326,13 +348,16 @@ impl Automaton {
     {
         let mut idle = Vec::new(alloc);
         idle.resize(self.states as usize, false)?;
+        let ways = turned_ways(alloc, self.ways.as_slice())?;
+        let grouped = are_grouped(ways.as_slice());
         Ok(Automaton {
             vars: self.vars.copy(),
             states: self.states,
             starts: end_states(alloc, self.stops.as_slice())?,
-            ways: turned_ways(alloc, self.ways.as_slice())?,
+            ways,
             stops: turned_starts(alloc, self.starts.as_slice())?,
             idle,
+            grouped,
         })
     }
 }

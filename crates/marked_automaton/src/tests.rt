@@ -151,6 +151,22 @@ fn copies_and_groups(rt: HostRuntime) -> Result<(), SizeFault> {
 }
 
 #[test]
+fn tells_whether_ways_are_grouped(rt: HostRuntime) -> Result<(), SizeFault> {
+    let mut automaton = example(rt.alloc())?;
+    assert!(rt; automaton.is_grouped());
+    add(&mut automaton, 0, Marks::none(), b'd', 1)?;
+    assert!(rt; !automaton.is_grouped());
+    add(&mut automaton, 3, Marks::none(), b'e', 3)?;
+    assert!(rt; !automaton.is_grouped());
+    assert!(rt; !automaton.copy(rt.alloc())?.is_grouped());
+    automaton.group_ways();
+    assert!(rt; automaton.is_grouped());
+    assert!(rt; automaton.copy(rt.alloc())?.is_grouped());
+    assert!(rt; automaton.trim(rt.alloc())?.is_grouped());
+    Ok(())
+}
+
+#[test]
 fn too_many_states(rt: HostRuntime) -> Result<(), SizeFault> {
     let most = Automaton::new(rt.alloc(), VarSet::empty(), MOST_STATES)?;
     assert_eq!(rt; most.states(), 20_000);

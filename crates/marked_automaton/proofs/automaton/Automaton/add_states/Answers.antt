@@ -1,6 +1,5 @@
-use Rattle.std.proofs.Common.{◌+◌, length, arith, refl, sym, ap, subst, ◌∙◌}
+use Rattle.std.proofs.Common.{◌+◌, arith, refl, sym, ap, subst, ◌∙◌}
 use Rattle.marked_automaton.specs.Automaton.{Marked, IsMarked, with_states}
-use Rattle.marked_automaton.specs.Inside.{graph_of}
 use Rattle.marked_automaton.proofs.Parts.{grown, more_states_graph, states_are_marked}
 use Rattle.marked_automaton.proofs.automaton.Automaton.add_states.Goals as goal
 
@@ -12,6 +11,7 @@ invariant_of-self-2 c =
     let made = more_states_graph (a.states + c.args.more) c.args.more a.starts.items a.ways.items a.stops.items a.idle.items flags a.states refl same in (
       subst (λ A. IsMarked (record { names = a.vars; graph = A })) (sym made) (states_are_marked _ c.self.invariant.0 c.args.more (omega arith)),
       omega (arith, c.in_ok-resize.ensures.len),
+      c.self.invariant.2,
     )
 
 pub returns-clause-ok : goal.returns-clause-ok
