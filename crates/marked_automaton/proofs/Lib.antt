@@ -22,4 +22,5 @@ pub mod Reducts
 pub mod Reversal
 pub mod Sizes
 pub mod TrimLaws
+pub mod Untrimmed
 pub mod Walks

@@ -270,30 +270,34 @@ impl Automaton {
     }
 
     /// The automaton of the states that lie on some way from a start to an end, with the same accepted
-    /// words. Idle states stay idle. On refusal the automaton is given up.
+    /// words. Idle states stay idle. On refusal the automaton is given up. The ways stay in their memory,
+    /// and an automaton of which each state is kept is handed on as it is.
     pub fn trim(self, alloc: Global) -> Result<Automaton, OutOfMemory>
         ensures names { IfOk result (λ a. a.names ≡ self.names) }
         ensures reduct { IfOk result (λ a. Reduces a.graph self.graph) }
         ensures useful { IfOk result (λ a. (p : ℕ) → p < a.graph.states → IsUseful a.graph p) }
     {
+        let useful = states_between(
+            alloc,
+            self.states,
+            self.starts.as_slice(),
+            self.ways.as_slice(),
+            self.stops.as_slice(),
+        )?;
+        let kept = Numbers::new(alloc, useful.as_slice())?;
+        if kept.count == self.states {
+            return Ok(self);
+        }
         let Automaton {
             vars,
-            states,
+            states: _,
             starts,
             ways,
             stops,
             idle,
             grouped: _,
         } = self;
-        let useful = states_between(
-            alloc,
-            states,
-            starts.as_slice(),
-            ways.as_slice(),
-            stops.as_slice(),
-        )?;
-        let kept = Numbers::new(alloc, useful.as_slice())?;
-        let ways = kept.ways(alloc, ways.as_slice())?;
+        let ways = kept.ways(ways);
         let grouped = are_grouped(ways.as_slice());
         Ok(Automaton {
             vars,

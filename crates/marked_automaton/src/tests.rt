@@ -84,6 +84,10 @@ fn trim_drops_what_leads_nowhere(rt: HostRuntime) -> Result<(), SizeFault> {
     assert_eq!(rt; automaton.ways().len(), 2);
     assert!(rt; accepts(&automaton, rt.alloc(), b"ab")?);
     assert!(rt; !accepts(&automaton, rt.alloc(), b"ac")?);
+    let again = automaton.trim(rt.alloc())?;
+    assert_eq!(rt; again.states(), 3);
+    assert_eq!(rt; again.ways().len(), 2);
+    assert!(rt; accepts(&again, rt.alloc(), b"ab")?);
     Ok(())
 }
 
