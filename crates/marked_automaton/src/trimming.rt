@@ -118,19 +118,21 @@ impl Numbers {
         Ok(kept)
     }
 
-    /// The ways between states that are kept.
-    pub(crate) fn ways(&self, alloc: Global, ways: &[Way]) -> Result<Vec<Way>, AllocError>
-        requires froms { (y : Way) → Has ways.now y → y.from < length self.now.numbers.items }
-        requires tos { (y : Way) → Has ways.now y → y.to < length self.now.numbers.items }
-        ensures { IfOk result (λ kept. kept.items ≡ filter_map (moved_way self.now.numbers.items) ways.now) }
+    /// The ways between states that are kept, in the memory of those that are handed in.
+    pub(crate) fn ways(&self, mut ways: Vec<Way>) -> Vec<Way>
+        requires froms { (y : Way) → Has ways.items y → y.from < length self.now.numbers.items }
+        requires tos { (y : Way) → Has ways.items y → y.to < length self.now.numbers.items }
+        ensures { result.items ≡ filter_map (moved_way self.now.numbers.items) ways.items }
     {
-        let mut kept = Vec::new(alloc);
-        for way in ways {
-            if let Some(moved) = self.way(way) {
-                kept.push(moved)?;
+        let mut count = 0;
+        for k in 0..ways.len() {
+            if let Some(moved) = self.way(&ways[k]) {
+                ways[count] = moved;
+                count += 1;
             }
         }
-        Ok(kept)
+        ways.truncate(count);
+        ways
     }
 
     /// The way between the same states, if both are kept.
