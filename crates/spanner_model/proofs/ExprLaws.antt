@@ -230,7 +230,8 @@ suc_not_zero j = grind (arith, nat_tests)
 zero_not_suc : (n : ℕ) → nat_eq 0 (suc n) ≡ false
 zero_not_suc n = grind (arith, nat_tests)
 
-slice_get_push : {X : Type 0} (xs : List X) (y : X) (j : ℕ) → slice_get (xs ++ y ∷ []) j ≡ (if nat_eq j (length xs) then Some y else slice_get xs j)
+-- a place of a list with one element more
+pub slice_get_push : {X : Type 0} (xs : List X) (y : X) (j : ℕ) → slice_get (xs ++ y ∷ []) j ≡ (if nat_eq j (length xs) then Some y else slice_get xs j)
 slice_get_push [] y zero = refl
 slice_get_push [] y (suc j) = ap (λ b. if b then Some y else None) (sym (suc_not_zero j))
 slice_get_push (x ∷ xs) y zero = ap (λ b. if b then Some y else Some x) (sym (zero_not_suc (length xs)))

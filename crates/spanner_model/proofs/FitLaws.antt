@@ -1,6 +1,6 @@
 -- Laws of `Fit`: a part does not end before it begins, and a functional formula gives each of its variables a span, and no other.
-use Rattle.std.proofs.Common.{◌≡◌, ℕ, zero, suc, ◌<◌, ◌≤◌, ◌⊎◌, List, [], ◌∷◌, length, Some, inl, inr, refl, sym, subst, arith}
-use Rattle.std.specs.Prelude.{slice_get}
+use Rattle.std.proofs.Common.{◌≡◌, ℕ, zero, suc, ◌≤◌, ◌⊎◌, List, [], ◌∷◌, length, inl, inr, refl, sym, subst, arith}
+use Rattle.std.proofs.lemmas.Option.{slice_get_within}
 use Rattle.spanner_model.specs.Tree.{Tree, empty, one, cat_end, cat, alt_end, alt, rep, cap}
 use Rattle.spanner_model.specs.Captures.{VarName, Captures, Captured}
 use Rattle.spanner_model.specs.Fit.{Piece, Times, Fit}
@@ -107,12 +107,6 @@ nothing_captured (c ∷ m) none = absurd (none c.0 (inl refl))
 pub fit_no_vars : (f : Tree) (d : List ℕ) (i j : ℕ) (m : Captures) → ((x : VarName) → HasVar f x → ⊥) → Fit f d i j m → m ≡ []
 fit_no_vars f d i j m none h = nothing_captured m (λ x a. none x (fit_only_vars f d i j m h x a))
 
--- what is at a place is within the list
-read_within : (d : List ℕ) (i b : ℕ) → slice_get d i ≡ Some b → i < length d
-read_within [] i b e = absurd (cc)
-read_within (x ∷ d) zero b e = omega arith
-read_within (x ∷ d) (suc i) b e = omega (arith, read_within d i b e)
-
 pub times_within : (P : Piece) (n : ℕ) → ((i j : ℕ) (m : Captures) → i ≤ n → P i j m → j ≤ n) → (c i j : ℕ) (m : Captures) → i ≤ n → Times P c i j m → j ≤ n
 times_within P n stays zero i j m le h = omega arith
 times_within P n stays (suc c) i j m le h = times_within P n stays c h.0 j h.2 (stays i h.0 h.1 le h.3) h.4
@@ -120,7 +114,7 @@ times_within P n stays (suc c) i j m le h = times_within P n stays c h.0 j h.2 (
 -- a fit that begins in the document ends in it
 pub fit_within : (f : Tree) (d : List ℕ) (i j : ℕ) (m : Captures) → i ≤ length d → Fit f d i j m → j ≤ length d
 fit_within empty d i j m le h = omega arith
-fit_within (one set) d i j m le h = omega (arith, read_within d i h.0 h.1)
+fit_within (one set) d i j m le h = omega (arith, slice_get_within d i h.0 h.1)
 fit_within cat_end d i j m le h = omega arith
 fit_within (cat f rest) d i j m le h = fit_within rest d h.0 j h.2 (fit_within f d i h.0 h.1 le h.3) h.4
 fit_within alt_end d i j m le h = absurd h
