@@ -1,16 +1,15 @@
 -- Least names.
 use Rattle.std.proofs.Common.{◌≡◌, ℕ, zero, suc, ◌⊎◌, ◌↔◌, Bool, true, false, List, [], ◌∷◌, length, take, Option, Some, None, IsTrue, Contains, is_some, inl, inr, refl, sym, ap, ◌∙◌, subst, arith}
 use Rattle.std.specs.Prelude.{slice_get}
-use Rattle.std.specs.List.{AllByRecursion}
 use Rattle.std.specs.Option.{IfSome, IfNone}
 use mathlib.Core.Bool.{beq}
 use Rattle.spanner_model.proofs.HasLaws.{Has-slice_get, Contains-Has}
+use Rattle.spanner_model.proofs.NameLaws.{below_all, not_below_itself, not_both_below}
 use Rattle.std.specs.List.Sorted.{IsStrictlySortedBy}
 use Rattle.std.specs.Ordering.{ordering_reverse}
 use Rattle.std.specs.Cmp.Lexicographic.{nat_list_cmp_total}
 use Rattle.std.specs.declared.cmp.Ordering.{Ordering}
 use Rattle.std.specs.declared.cmp.Ordering.TheVariants.{Less, Equal, Greater}
-use Rattle.std.proofs.lemmas.Cmp.{tied_itself}
 use Rattle.std.proofs.lemmas.Map.Lookups.{exact_bytes}
 use Rattle.span_core.specs.NameSets.{name_cmp, Ascending, by_order}
 use Rattle.spanner_model.specs.Captures.{VarName}
@@ -19,12 +18,6 @@ use Rattle.functional_check.specs.Faults.{IsLeast, IsLeastOf}
 use Rattle.functional_check.specs.Names.{IsIn, smaller_of}
 
 -- ---- order
-
-not_itself : (x : VarName) → name_cmp x x ≡ Less → ⊥
-not_itself x h = let e : Less ≡ Equal = sym h ∙ tied_itself nat_list_cmp_total x in absurd (cc)
-
-not_both : (x y : VarName) → name_cmp x y ≡ Less → name_cmp y x ≡ Less → ⊥
-not_both x y a b = not_itself x (nat_list_cmp_total.trans x y x a b)
 
 turned : (x y : VarName) → name_cmp x y ≡ Greater → name_cmp y x ≡ Less
 turned x y e = nat_list_cmp_total.antisymm y x ∙ ap ordering_reverse e
@@ -57,18 +50,13 @@ least_both P Q (Some x) (Some y) h g = both_by P Q x y (name_cmp x y) refl h g
 
 -- ---- in a set
 
-below_all : (x z : VarName) (names : List VarName) → AllByRecursion (λ y. name_cmp x y ≡ Less) names → Has names z → name_cmp x z ≡ Less
-below_all x z [] a h = absurd h
-below_all x z (y ∷ names) a (inl e) = ap (name_cmp x) (sym e) ∙ a.0
-below_all x z (y ∷ names) a (inr h) = below_all x z names a.1 h
-
 -- what is less than the name at a place stands before that place
 pub lower_in_front : (names : List VarName) (k : ℕ) (name z : VarName) → Ascending names → slice_get names k ≡ Some name → Has names z → name_cmp z name ≡ Less → Has (take k names) z
 unfolding IsStrictlySortedBy
 lower_in_front [] k name z up at h lt = absurd h
-lower_in_front (y ∷ names) zero name z up at (inl e) lt = absurd (let f : y ≡ name = cc in not_itself z (subst (λ (w : VarName). name_cmp z w ≡ Less) (sym f ∙ e) lt))
+lower_in_front (y ∷ names) zero name z up at (inl e) lt = absurd (let f : y ≡ name = cc in not_below_itself z (subst (λ (w : VarName). name_cmp z w ≡ Less) (sym f ∙ e) lt))
 lower_in_front (y ∷ names) zero name z up at (inr h) lt =
-    absurd (let f : y ≡ name = cc in not_both y z (below_all y z names up.0 h) (subst (λ (w : VarName). name_cmp z w ≡ Less) (sym f) lt))
+    absurd (let f : y ≡ name = cc in not_both_below y z (below_all y z names up.0 h) (subst (λ (w : VarName). name_cmp z w ≡ Less) (sym f) lt))
 lower_in_front (y ∷ names) (suc k) name z up at (inl e) lt = inl e
 lower_in_front (y ∷ names) (suc k) name z up at (inr h) lt = inr (lower_in_front names k name z up.1 at h lt)
 

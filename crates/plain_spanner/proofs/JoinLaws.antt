@@ -19,9 +19,11 @@ use Rattle.spanner_model.specs.Gathered.{Adds, HaveRoom}
 use Rattle.spanner_model.proofs.HasLaws.{Has-append_cases, Has-append_left, Has-append_right, place_of-Has, Has-slice_get, Has-take, Contains-Has}
 use Rattle.spanner_model.proofs.TreeLaws.{take_at_more}
 use Rattle.spanner_model.proofs.GatheredLaws.{gathered_name, gathered_all}
+use Rattle.spanner_model.proofs.CapturesLaws.{row_same_on}
+use Rattle.spanner_model.proofs.NameLaws.{list_any-Has, Has-list_any}
 use Rattle.plain_spanner.specs.Listed.{Tells, FromSome}
 use Rattle.plain_spanner.specs.Tables.{IsRowOf, has_name, kept_row, Meet, merged, IsJoined, JoinsWith, JoinsRow, IsPlaceOf}
-use Rattle.plain_spanner.proofs.RowLaws.{row_eq_exact, row_same_on, mapping_of-row_of, mapping_of-outside, has_name-Has, Has-has_name}
+use Rattle.plain_spanner.proofs.RowLaws.{row_eq_exact, mapping_of-row_of, mapping_of-outside}
 
 -- ---- names in turn
 
@@ -63,13 +65,13 @@ JoinOf V A W B m =
     (n1 : Mapping) × (n2 : Mapping) × IsRestriction (Has V) m n1 × A n1 × IsRestriction (Has W) m n2 × B n2 × ((x : VarName) → (Has V x ⊎ Has W x → ⊥) → m x ≡ None)
 
 merged_left : (V W : List VarName) (a b : SpanRow) (x : VarName) → Has V x → merged V W a b x ≡ mapping_of V a x
-merged_left V W a b x h = ap (λ (t : Bool). if t then mapping_of V a x else mapping_of W b x) (has_name-Has V x h)
+merged_left V W a b x h = ap (λ (t : Bool). if t then mapping_of V a x else mapping_of W b x) (list_any-Has V x h)
 
 merged_right : (V W : List VarName) (a b : SpanRow) (x : VarName) → Meet V W a b → Has W x → merged V W a b x ≡ mapping_of W b x
 merged_right V W a b x meet h = by (has_name V x) refl
   where
     by : (t : Bool) → has_name V x ≡ t → (if t then mapping_of V a x else mapping_of W b x) ≡ mapping_of W b x
-    by true e = meet x (Has-has_name V x e) h
+    by true e = meet x (Has-list_any V x e) h
     by false e = refl
 
 -- the mapping of two that agree
@@ -77,13 +79,13 @@ abbrev both_of : List VarName → Mapping → Mapping → Mapping
 both_of V n1 n2 x = if has_name V x then n1 x else n2 x
 
 both_left : (V : List VarName) (n1 n2 : Mapping) (x : VarName) → Has V x → both_of V n1 n2 x ≡ n1 x
-both_left V n1 n2 x h = ap (λ (t : Bool). if t then n1 x else n2 x) (has_name-Has V x h)
+both_left V n1 n2 x h = ap (λ (t : Bool). if t then n1 x else n2 x) (list_any-Has V x h)
 
 both_right : (V : List VarName) (n1 n2 : Mapping) (x : VarName) → (Has V x → n1 x ≡ n2 x) → both_of V n1 n2 x ≡ n2 x
 both_right V n1 n2 x agree = by (has_name V x) refl
   where
     by : (t : Bool) → has_name V x ≡ t → (if t then n1 x else n2 x) ≡ n2 x
-    by true e = agree (Has-has_name V x e)
+    by true e = agree (Has-list_any V x e)
     by false e = refl
 
 module _ (V W names : List VarName) (A B : Mapping → Type 0) (a_out : (m : Mapping) → A m → (x : VarName) → (Has V x → ⊥) → m x ≡ None) (b_out : (m : Mapping) → B m → (x : VarName) → (Has W x → ⊥) → m x ≡ None)
@@ -191,13 +193,13 @@ found_left V W a b x s e = by (has_name V x) refl
   where
     by : (t : Bool) → has_name V x ≡ t → (if t then mapping_of V a x else mapping_of W b x) ≡ mapping_of V a x
     by true h = refl
-    by false h = let clash : None ≡ Some s = sym (mapping_of-outside V a x (λ v. false≢true (sym h ∙ has_name-Has V x v))) ∙ e in absurd (cc)
+    by false h = let clash : None ≡ Some s = sym (mapping_of-outside V a x (λ v. false≢true (sym h ∙ list_any-Has V x v))) ∙ e in absurd (cc)
 
 pub found_right : (V W : List VarName) (a b : SpanRow) (x : VarName) → (Has V x → ⊥) → merged V W a b x ≡ mapping_of W b x
 found_right V W a b x out = by (has_name V x) refl
   where
     by : (t : Bool) → has_name V x ≡ t → (if t then mapping_of V a x else mapping_of W b x) ≡ mapping_of W b x
-    by true h = absurd (out (Has-has_name V x h))
+    by true h = absurd (out (Has-list_any V x h))
     by false h = refl
 
 pub none_either : (r : Option Span) (P Q : Type 0) → (P → ⊥) → IfNone r (Q → ⊥) → IfNone r (P ⊎ Q → ⊥)

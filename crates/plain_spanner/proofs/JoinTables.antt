@@ -1,5 +1,5 @@
 -- Tables of joins, and of lets.
-use Rattle.std.proofs.Common.{◌≡◌, ℕ, zero, suc, ◌+◌, ◌<◌, ◌⊎◌, ◌↔◌, Bool, true, false, List, [], ◌∷◌, ◌++◌, length, length-append, take, Option, Some, None, inl, inr, refl, sym, ap, ◌∙◌, subst, arith}
+use Rattle.std.proofs.Common.{◌≡◌, ℕ, suc, ◌+◌, ◌<◌, ◌⊎◌, ◌↔◌, Bool, true, false, List, [], ◌∷◌, ◌++◌, length, length-append, take, Option, Some, None, inl, inr, refl, sym, ap, ◌∙◌, subst, arith}
 use Rattle.std.specs.Prelude.{slice_get, nat_eq, MatchBool, if◌then◌else◌}
 use Rattle.std.specs.Option.{IsSomeAnd}
 use Rattle.std.proofs.lemmas.Bool.{false≢true, cases_lt}
@@ -25,7 +25,7 @@ use Rattle.spanner_model.specs.Gathered.{Adds}
 use Rattle.spanner_model.proofs.HasLaws.{Has-append_cases, Has-append_left, Has-append_right}
 use Rattle.spanner_model.proofs.TreeLaws.{take_at_more}
 use Rattle.spanner_model.proofs.AnswerLaws.{answer_absent, lets_absent}
-use Rattle.spanner_model.proofs.ExprLaws.{join_part_var, let_named}
+use Rattle.spanner_model.proofs.ExprLaws.{join_part_var, let_named, slice_get_push}
 use Rattle.spanner_model.proofs.GatheredLaws.{in_more, exprs_in_turn}
 use Rattle.spanner_model.proofs.PartLaws.{join_outside, join_each, each_join, told_under}
 use Rattle.plain_spanner.specs.Listed.{Tells}
@@ -139,21 +139,6 @@ number_other j k h = grind (arith, nat_tests)
 
 number_same : (j k : ℕ) → j ≡ k → nat_eq j k ≡ true
 number_same j k h = grind (arith, nat_tests)
-
-eq_suc : (j n : ℕ) → nat_eq (suc j) (suc n) ≡ nat_eq j n
-eq_suc j n = grind (arith, nat_tests)
-
-suc_not_zero : (j : ℕ) → nat_eq (suc j) 0 ≡ false
-suc_not_zero j = grind (arith, nat_tests)
-
-zero_not_suc : (n : ℕ) → nat_eq 0 (suc n) ≡ false
-zero_not_suc n = grind (arith, nat_tests)
-
-slice_get_push : {X : Type 0} (xs : List X) (y : X) (j : ℕ) → slice_get (xs ++ y ∷ []) j ≡ (if nat_eq j (length xs) then Some y else slice_get xs j)
-slice_get_push [] y zero = refl
-slice_get_push [] y (suc j) = ap (λ b. if b then Some y else None) (sym (suc_not_zero j))
-slice_get_push (x ∷ xs) y zero = ap (λ b. if b then Some y else Some x) (sym (zero_not_suc (length xs)))
-slice_get_push (x ∷ xs) y (suc j) = slice_get_push xs y j ∙ ap (λ b. if b then Some y else slice_get xs j) (sym (eq_suc j (length xs)))
 
 pub tables_none : (q : QueryTree) (d : List ℕ) (tables : List Table) → tables ≡ [] → AreTables q d tables
 tables_none q d tables none k t at = absurd (no_place k t (ap (λ (ts : List Table). slice_get ts k) (sym none) ∙ at))

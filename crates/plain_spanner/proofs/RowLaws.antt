@@ -1,5 +1,5 @@
 -- Rows and mappings.
-use Rattle.std.proofs.Common.{◌≡◌, ℕ, zero, suc, ◌+◌, ◌<◌, ◌≤◌, ◌⊎◌, Bool, true, false, ◌||◌, List, [], ◌∷◌, ◌++◌, length, take, Option, Some, None, inl, inr, refl, sym, ap, ◌∙◌, subst, arith}
+use Rattle.std.proofs.Common.{◌≡◌, ℕ, zero, suc, ◌+◌, ◌<◌, ◌≤◌, ◌⊎◌, Bool, true, false, List, [], ◌∷◌, ◌++◌, length, take, Option, Some, None, inl, inr, refl, sym, ap, ◌∙◌, subst, arith}
 use Rattle.std.specs.Prelude.{slice_get, if◌then◌else◌, IsTrue}
 use Rattle.std.specs.Str.{bytes_eq}
 use Rattle.std.proofs.Math.Seq.{take-length}
@@ -22,24 +22,17 @@ use Rattle.spanner_model.specs.Functional.{HasVar}
 use Rattle.spanner_model.specs.Tree.{Tree}
 use Rattle.spanner_model.specs.Fit.{Fit}
 use Rattle.spanner_model.specs.Answer.{FitsSomewhere}
+use Rattle.spanner_model.proofs.CapturesLaws.{row_same, row_same_on}
 use Rattle.spanner_model.proofs.FitLaws.{fit_le, fit_within}
 use Rattle.spanner_model.proofs.HasLaws.{Has-slice_get}
 use Rattle.spanner_model.proofs.TreeLaws.{take_at_more}
 use Rattle.plain_spanner.specs.Listed.{Tells, FromSome, CapturesAndEnds, HasFit, Continued}
-use Rattle.plain_spanner.specs.Tables.{has_name, kept_row, IsRowOf, IsRowOfFits}
+use Rattle.plain_spanner.specs.Tables.{kept_row, IsRowOf, IsRowOfFits}
 use Rattle.plain_spanner.proofs.FitLists.{of_branch, branch_of}
 
 pub row_length : (names : List VarName) (m : Mapping) → length (row_of names m) ≡ length names
 row_length [] m = refl
 row_length (x ∷ names) m = ap suc (row_length names m)
-
--- equal mappings have one row
-pub row_same_on : (names : List VarName) (m n : Mapping) → ((x : VarName) → Has names x → m x ≡ n x) → row_of names m ≡ row_of names n
-row_same_on [] m n e = refl
-row_same_on (y ∷ names) m n e = λ i. e y (inl refl) i ∷ row_same_on names m n (λ x h. e x (inr h)) i
-
-pub row_same : (names : List VarName) (m n : Mapping) → ((x : VarName) → m x ≡ n x) → row_of names m ≡ row_of names n
-row_same names m n e = row_same_on names m n (λ x h. e x)
 
 row_append : (names : List VarName) (y : VarName) (m : Mapping) → row_of (names ++ y ∷ []) m ≡ row_of names m ++ m y ∷ []
 row_append [] y m = refl
@@ -82,24 +75,6 @@ mapping_of-at (y ∷ names) (t ∷ row) (suc k) x s d a b = by (bytes_eq y x) re
     by : (c : Bool) → bytes_eq y x ≡ c → mapping_of names row x ≡ s → (if c then t else mapping_of names row x) ≡ s
     by true e later = absurd (d.0 (subst (Has names) (sym ((bytes_eq-Decides y x).0 e)) (Has-slice_get names k x a)))
     by false e later = later
-
--- a test of membership
-pub has_name-Has : (names : List VarName) (x : VarName) → Has names x → has_name names x ≡ true
-has_name-Has [] x h = absurd h
-has_name-Has (y ∷ names) x (inl e) = ap (λ b. b || has_name names x) ((bytes_eq-Decides y x).1 e)
-has_name-Has (y ∷ names) x (inr h) = by (bytes_eq y x) (has_name names x) (has_name-Has names x h)
-  where
-    by : (a b : Bool) → b ≡ true → (a || b) ≡ true
-    by true b e = refl
-    by false b e = e
-
-pub Has-has_name : (names : List VarName) (x : VarName) → has_name names x ≡ true → Has names x
-Has-has_name [] x h = absurd (cc)
-Has-has_name (y ∷ names) x h = by (bytes_eq y x) refl (Has-has_name names x)
-  where
-    by : (a : Bool) → bytes_eq y x ≡ a → (has_name names x ≡ true → Has names x) → Has (y ∷ names) x
-    by true e later = inl ((bytes_eq-Decides y x).0 e)
-    by false e later = inr (later (ap (λ b. b || has_name names x) (sym e) ∙ h))
 
 pub kept_row-row_of : (names kept : List VarName) (n : Mapping) → ((x : VarName) → Has kept x → Has names x) → kept_row names kept (row_of names n) ≡ row_of kept n
 kept_row-row_of names kept n in_names = row_same_on kept (mapping_of names (row_of names n)) n (λ x h. mapping_of-row_of names n x (in_names x h))

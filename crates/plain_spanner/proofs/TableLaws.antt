@@ -10,12 +10,13 @@ use Rattle.spanner_model.specs.Gathered.{HaveRoom}
 use Rattle.spanner_model.specs.Sound.{NameOf, IsSound}
 use Rattle.spanner_model.proofs.HasLaws.{Has-append_cases, Has-append_left, Has-append_right, Has-take, Has-slice_get}
 use Rattle.spanner_model.proofs.TreeLaws.{take_at_more}
-use Rattle.spanner_model.proofs.NameLaws.{same_names}
+use Rattle.spanner_model.proofs.NameLaws.{same_names, list_any-Has, Has-list_any}
 use Rattle.spanner_model.proofs.ExprLaws.{var_named, lets_named, union_part, join_part, join_var_part, union_var, union_named, join_named}
 use Rattle.spanner_model.proofs.PartLaws.{union_some, some_union}
+use Rattle.spanner_model.proofs.CapturesLaws.{row_same_on}
 use Rattle.plain_spanner.specs.Listed.{Tells, FromSome}
 use Rattle.plain_spanner.specs.Tables.{IsRowOf, IsTable, IsTableOf, IsAsked, has_name, kept_row}
-use Rattle.plain_spanner.proofs.RowLaws.{row_length, row_same_on, kept_row-row_of, has_name-Has, Has-has_name}
+use Rattle.plain_spanner.proofs.RowLaws.{row_length, kept_row-row_of}
 use Rattle.plain_spanner.proofs.TellsLaws.{tells_same, tells_appended_to}
 
 -- ---- what is asked
@@ -59,10 +60,10 @@ table_same V W A B names rows vars to back t = record {
 
 pub restricts : (kept : List VarName) (n : Mapping) → IsRestriction (Has kept) n (λ x. if has_name kept x then n x else None)
 restricts kept n x =
-    (λ h. ap (λ (b : Bool). if b then n x else None) (has_name-Has kept x h), λ out. by (has_name kept x) refl out)
+    (λ h. ap (λ (b : Bool). if b then n x else None) (list_any-Has kept x h), λ out. by (has_name kept x) refl out)
   where
     by : (b : Bool) → has_name kept x ≡ b → (Has kept x → ⊥) → (if b then n x else None) ≡ None
-    by true e out = absurd (out (Has-has_name kept x e))
+    by true e out = absurd (out (Has-list_any kept x e))
     by false e out = refl
 
 module _ (A : Mapping → Type 0) (names kept : List VarName) (rows : List SpanRow) (H : SpanRow → Type 0) (in_names : (x : VarName) → Has kept x → Has names x) where
