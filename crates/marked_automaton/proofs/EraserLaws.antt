@@ -9,6 +9,7 @@ use Rattle.std.specs.Int.Bits.{and_zero_r}
 use Rattle.std.specs.List.{All}
 use Rattle.std.proofs.lemmas.Bool.{cases_lt}
 use Rattle.std.proofs.lemmas.List.{get_or_append_left, get_or-append-add}
+use Rattle.std.proofs.lemmas.Option.{slice_get_within}
 use Rattle.span_core.specs.Block.{opening_bit, closing_bit}
 use Rattle.span_core.specs.BlockLaws.{closing_weight, opening_weight, front_weight}
 use Rattle.span_core.specs.Digits.{weight}
@@ -18,7 +19,7 @@ use Rattle.spanner_model.proofs.HasLaws.{Has-slice_get}
 use Rattle.marked_automaton.specs.Erased.{ArePlaces, picked}
 use Rattle.marked_automaton.specs.Marks.{bits_of, left_of}
 use Rattle.marked_automaton.proofs.Erasing.{digit_before, name_itself, same_name}
-use Rattle.marked_automaton.proofs.Listed.{some_same, get_within}
+use Rattle.marked_automaton.proofs.Listed.{some_same}
 
 -- high bits and low bits
 or_low : (q n x : ℕ) → x < 2 ^ n → bit_or (q * 2 ^ n) x ≡ q * 2 ^ n + x
@@ -95,7 +96,7 @@ bits_at_place (y ∷ ys) x (suc j) m at dis small =
     let other : bytes_eq y x ≡ false = go (bytes_eq y x) refl in
     let low : ℕ = m % 2 ^ (2 * n) in
     let k : ℕ = 2 * (n - (j + 1)) in
-    let within : j < n = get_within ys j x at in
+    let within : j < n = slice_get_within ys j x at in
     let rest = bits_at_place ys x j low at dis.1 (mod-lt m (pow_pos (2 * n))) in
     let split : 2 * n ≡ (2 * j + 2) + k = omega arith in
     let parts : low ≡ (m / 2 ^ k % 2 ^ (2 * j + 2)) * 2 ^ k + m % 2 ^ k = ap (λ i. m % 2 ^ i) split ∙ mod-pow-add m (2 * j + 2) k in
@@ -157,7 +158,7 @@ module _ (names keep : List VarName) (places : List ℕ) (k place : ℕ) (name :
   within_more before i d l =
       elim (pushed_cases places place i d l) as (λ _. get_or (places ++ place ∷ []) i d < length names) [
         | inl a ↦ omega (arith, a.1, before i d a.0)
-        | inr b ↦ omega (arith, b.1, get_within names place name found)
+        | inr b ↦ omega (arith, b.1, slice_get_within names place name found)
       ]
 
 -- a function that is the same on each element

@@ -3,11 +3,11 @@ use Rattle.std.proofs.Common.{◌≡◌, ℕ, zero, suc, ◌+◌, ◌-◌, ◌<�
 use Rattle.std.specs.Prelude.{slice_get}
 use Rattle.std.specs.List.Sorted.{IsPartitionPoint}
 use Rattle.std.proofs.lemmas.Bool.{cases_lt}
-use Rattle.std.proofs.lemmas.Option.{get_or_from_slice_get}
+use Rattle.std.proofs.lemmas.Option.{slice_get_within, get_or_from_slice_get}
 use Rattle.spanner_model.specs.Lists.{Has}
 use Rattle.spanner_model.proofs.HasLaws.{place_of-Has, Has-slice_get}
 use Rattle.marked_automaton.specs.declared.reach.Edge.{Edge}
-use Rattle.marked_automaton.proofs.Listed.{some_same, get_within}
+use Rattle.marked_automaton.proofs.Listed.{some_same}
 
 module _ {X : Type 0} where
   take_place : (xs : List X) (n : ℕ) (x : X) → Has (take n xs) x → (i : ℕ) × (i < n) × (slice_get xs i ≡ Some x)
@@ -56,7 +56,7 @@ module _ (edges : List Edge) (node low high : ℕ) (is_low : IsLow edges node lo
   pub part_within : low ≤ high → (e : Edge) → Has (take (high - low) (drop low edges)) e → Has edges e × (e.from ≡ node)
   part_within le e h =
       let r = part_place edges low (high - low) e h in
-      let here = get_within edges r.0 e r.3 in
+      let here = slice_get_within edges r.0 e r.3 in
       let at : get_or edges r.0 e ≡ e = get_or_from_slice_get edges r.0 e e r.3 in
       let a = ltb-false (get_or edges r.0 e).from node (is_low.1 r.0 e r.1 here) in
       let b = leb-true (get_or edges r.0 e).from node (is_high.0 r.0 e (omega arith) (omega (arith, r.2))) in

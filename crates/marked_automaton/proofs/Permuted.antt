@@ -5,10 +5,10 @@ use Rattle.std.specs.Prelude.{slice_get, nat_eq, if◌then◌else◌}
 use Rattle.std.specs.List.{swap}
 use Rattle.std.specs.List.Sorted.{IsPermutation, apply_swaps, SwapsInRange, IsNonDecreasingBy}
 use Rattle.std.proofs.lemmas.Bool.{eq-eqb, ne_eqb}
-use Rattle.std.proofs.lemmas.Option.{get_or_from_slice_get, slice_get-get_or}
+use Rattle.std.proofs.lemmas.Option.{slice_get_within, get_or_from_slice_get, slice_get-get_or}
 use Rattle.spanner_model.specs.Lists.{Has}
 use Rattle.spanner_model.proofs.HasLaws.{Has-slice_get, place_of-Has}
-use Rattle.marked_automaton.proofs.Listed.{some_same, get_within, same_or_not}
+use Rattle.marked_automaton.proofs.Listed.{some_same, same_or_not}
 
 -- each element of xs stands in ys at the place that g gives, and no other does
 pub record IsPlaced {X : Type 0} (xs ys : List X) (g : ℕ → ℕ) : Type 0 where
@@ -105,7 +105,7 @@ module _ {X : Type 0} where
 
     turned_back : (h : ℕ) (x : X) → slice_get turned h ≡ Some x → (k : ℕ) × (slice_get xs k ≡ Some x) × (exchanged i j k ≡ h)
     turned_back h x e =
-        let within : h < length xs = omega (arith, get_within turned h x e, turned_len) in
+        let within : h < length xs = omega (arith, slice_get_within turned h x e, turned_len) in
         let k = exchanged i j h in
         let there = slice_get-get_or xs k d (exchanged_below i j h (length xs) a b within) in
         let again = turned_there k (get_or xs k d) there in
@@ -163,5 +163,5 @@ module _ {X : Type 0} where
   pub risen : (n : X → ℕ) (xs : List X) → IsNonDecreasingBy n xs → (j k : ℕ) (x y : X) → j < k →
       slice_get xs j ≡ Some x → slice_get xs k ≡ Some y → n x ≤ n y
   risen n xs up j k x y l a b =
-      let le = up j k x (omega arith) (get_within xs k y b) in
+      let le = up j k x (omega arith) (slice_get_within xs k y b) in
       omega (arith, le, ap n (get_or_from_slice_get xs j x x a), ap n (get_or_from_slice_get xs k y x b))

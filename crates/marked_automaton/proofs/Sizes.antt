@@ -11,13 +11,14 @@ use Rattle.std.specs.declared.cmp.Ordering.TheVariants.{Equal}
 use Rattle.span_core.proofs.ByteSetLaws.{same_bytes}
 use Rattle.marked_automaton.specs.Automaton.{ByteClass}
 use Rattle.std.proofs.lemmas.Bool.{lt-ltb, le-ltb, cases_lt}
+use Rattle.std.proofs.lemmas.Option.{slice_get_within}
 use Rattle.spanner_model.specs.Lists.{Has}
 use Rattle.marked_automaton.specs.declared.way.Way.{Way}
 use Rattle.marked_automaton.specs.declared.way.Stop.{Stop}
 use Rattle.marked_automaton.specs.Automaton.{Automaton, HasByte, IsWhole}
 use Rattle.marked_automaton.specs.Laws.{ReductIsNoLarger}
 use Rattle.marked_automaton.specs.Reduct.{IsReduct}
-use Rattle.marked_automaton.proofs.Listed.{compared, some_same, place_has, get_within}
+use Rattle.marked_automaton.proofs.Listed.{compared, some_same, place_has}
 
 -- a set that is not empty has some byte
 some_byte : (bytes : ByteClass) → ¬ (bytes ≡ set.empty) → (c : ℕ) × HasByte bytes c
@@ -123,7 +124,7 @@ module _ (A B : Automaton) (f g : ℕ → Option ℕ) (e : ℕ → ℕ → ℕ) 
       let c = some x.0 there in
       let b = r.onto x.0.from (whole.froms x.0 there) in
       let y = r.ways_back b.0 h c.0 x.0 x.1 b.1 c.1 in
-      (y.0, get_within B.ways y.0 y.1 y.2, y.5))
+      (y.0, slice_get_within B.ways y.0 y.1 y.2, y.5))
       (λ h l k x y. some_same h l (sym x ∙ y))
 
   -- the end of B that is the own of an end of A
@@ -137,7 +138,7 @@ module _ (A B : Automaton) (f g : ℕ → Option ℕ) (e : ℕ → ℕ → ℕ) 
       let x = place_of A.stops k l in
       let b = r.onto x.0.state (whole.stops x.0 (place_has A.stops k x.0 x.1)) in
       let y = r.ends_there b.0 x.0.state k x.0 b.1 x.1 refl in
-      (e b.0 k, get_within B.stops (e b.0 k) y.0 y.1, (x.0, b.0, x.1, b.1, refl)))
+      (e b.0 k, slice_get_within B.stops (e b.0 k) y.0 y.1, (x.0, b.0, x.1, b.1, refl)))
       (λ k l h a c.
       let y = r.ends_there a.1 a.0.state k a.0 a.3 a.2 refl in
       let z = r.ends_there c.1 c.0.state l c.0 c.3 c.2 refl in

@@ -1,9 +1,9 @@
 use Rattle.std.proofs.Common.{◌≡◌, ℕ, ◌+◌, ◌<◌, List, length, get_or, sym, subst, arith, Some}
 use Rattle.std.specs.Prelude.{slice_get}
 use Rattle.std.specs.List.{All}
+use Rattle.std.proofs.lemmas.Option.{slice_get_within}
 use Rattle.spanner_model.proofs.HasLaws.{Contains-Has, Has-slice_get}
 use Rattle.marked_automaton.proofs.EraserLaws.{found_more, within_more}
-use Rattle.marked_automaton.proofs.Listed.{get_within}
 use Rattle.marked_automaton.proofs.eraser.Eraser.new.Goals as goal
 
 pub unreachable-requires : goal.unreachable-requires
@@ -29,5 +29,5 @@ loop-k-preserved c =
 pub returns-clause-places : goal.returns-clause-places
 returns-clause-places c = (
   omega (arith, c.loop-k.invariant.len, c.len-k-end.ensures.value),
-  λ k x at. c.loop-k.invariant.found k x (omega (arith, get_within c.args.keep.now k x at, c.len-k-end.ensures.value)) at,
+  λ k x at. c.loop-k.invariant.found k x (omega (arith, slice_get_within c.args.keep.now k x at, c.len-k-end.ensures.value)) at,
 )
