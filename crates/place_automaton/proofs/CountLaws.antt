@@ -12,6 +12,7 @@ use Rattle.place_automaton.specs.Sequential.{HasOrderedRepeats}
 use Rattle.spanner_model.specs.Lists.{Has, AreDistinct}
 use Rattle.spanner_model.specs.Tree.{Tree, empty, one, cat_end, cat, alt_end, alt, rep, cap}
 use Rattle.span_core.specs.declared.span.Span.{Span}
+use Rattle.spanner_model.proofs.CapturesLaws.{row_same}
 use Rattle.spanner_model.proofs.FitLaws.{times_le, fit_le, fit_only_vars, fit_all_vars, fit_no_vars}
 use Rattle.span_core.specs.OrderLaws.{span_eq}
 use Rattle.marked_automaton.specs.Automaton.{idle_way}
@@ -24,7 +25,7 @@ use Rattle.place_automaton.specs.Sequential.{IsSequential}
 use Rattle.place_automaton.specs.Words.{opening_of, closing_of}
 use Rattle.place_automaton.proofs.FormulaShows.{shows_formula}
 use Rattle.spanner_model.proofs.HasLaws.{Has-append_cases}
-use Rattle.place_automaton.proofs.RowBlocks.{block_at, fit_once, row_blocks, row_same, not_captured, same_name, name_itself}
+use Rattle.place_automaton.proofs.RowBlocks.{block_at, fit_once, row_blocks, not_captured, same_name, name_itself}
 use Rattle.place_automaton.proofs.Shows.{sums_cases, once_cases, either_left, either_right}
 
 pub functional_sequential : (f : Tree) → IsFunctional f → IsSequential f

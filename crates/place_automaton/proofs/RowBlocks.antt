@@ -4,13 +4,13 @@ use Rattle.std.specs.Prelude.{map, nat_eq, if◌then◌else◌}
 use Rattle.std.specs.Str.{bytes_eq}
 use Rattle.std.proofs.lemmas.List.{length-map}
 use Rattle.std.proofs.lemmas.Slice.Eq.{bytes_eq-Decides}
-use Rattle.spanner_model.specs.Captures.{VarName, Captures, Mapping, Captured, AreApart, span_of, row_of}
+use Rattle.spanner_model.specs.Captures.{VarName, Captures, Captured, AreApart, span_of, row_of}
 use Rattle.spanner_model.specs.Fit.{Piece, Times, Fit}
 use Rattle.spanner_model.specs.Lists.{Has, AreDistinct}
 use Rattle.span_core.specs.Block.{opening_bit, closing_bit, marker, markers, markers_from, block}
 use Rattle.spanner_model.specs.Tree.{Tree, empty, one, cat_end, cat, alt_end, alt, rep, cap}
 use Rattle.span_core.specs.declared.span.Span.{Span}
-use Rattle.spanner_model.proofs.CapturesLaws.{Captured-append_cases}
+use Rattle.spanner_model.proofs.CapturesLaws.{Captured-append_cases, row_same}
 use Rattle.spanner_model.proofs.FitLaws.{fit_only_vars}
 use Rattle.place_automaton.specs.Reads.{blocks}
 use Rattle.place_automaton.specs.Words.{opening_of, closing_of, AtomRowLaw}
@@ -150,10 +150,6 @@ module _ (p : ℕ) where
       let rest = row_blocks names m dis once.1 (λ x a. sub x (inr a)) in
       let here = add_row names c.0 c.1 m dis (sub c.0 (inl refl)) once.0 in
       omega (arith, rest, here)
-
-pub row_same : (names : List VarName) (m n : Mapping) → ((x : VarName) → m x ≡ n x) → row_of names m ≡ row_of names n
-row_same [] m n e = refl
-row_same (x ∷ names) m n e = λ i. e x i ∷ row_same names m n e i
 
 pub atom_row_law : AtomRowLaw
 atom_row_law names s t f dis vars seq ord d ok w =

@@ -8,7 +8,7 @@ use Rattle.spanner_model.specs.View.{tree_of, trees_of}
 use Rattle.spanner_model.specs.WellBuilt.{IsWellBuilt}
 use Rattle.spanner_model.proofs.HasLaws.{Has-slice_get}
 use Rattle.spanner_model.proofs.Nodes.{nodes}
-use Rattle.spanner_model.proofs.TreeLaws.{part_nodes, arms_nodes, functional_part, functional_arm, parts_well_built, arms_well_built}
+use Rattle.spanner_model.proofs.TreeLaws.{part_has, arms_have, part_nodes, arms_nodes, functional_part, functional_arm, parts_well_built, arms_well_built}
 use Rattle.spanner_model.proofs.Trees.{tree_of-One, tree_of-Cat, tree_of-Alt, tree_of-Cap}
 use Rattle.place_automaton.specs.Counts.{counts}
 use Rattle.place_automaton.specs.declared.placing.Draft.{Draft}
@@ -22,7 +22,7 @@ use Rattle.place_automaton.proofs.CapPlaces.{cap_apart, cap_null, cap_first, cap
 use Rattle.place_automaton.proofs.CountLaws.{counted, null_zero}
 use Rattle.place_automaton.proofs.DraftRows.{IsRow, copies_next, ok_both, parts_next, parts_joins, placers, row_done}
 use Rattle.place_automaton.proofs.FineLaws.{VarBits, built_classes, fine_places, fine_unmarked}
-use Rattle.place_automaton.proofs.PartBuilt.{named_part, named_arm, all_classes}
+use Rattle.place_automaton.proofs.PartBuilt.{all_classes}
 use Rattle.place_automaton.proofs.PlaceNumbers.{copies_room, copies_total, place_count, repeated_places, turn_total, parts_room, arms_room}
 use Rattle.place_automaton.proofs.Ranges.{places_lie}
 use Rattle.place_automaton.proofs.RepeatPlaces.{again_done, bounded_places, flat_done, none_placed, nothing_done}
@@ -118,7 +118,7 @@ place_arms-place-requires t c =
           (
             c.requires.distinct,
             (
-              λ x v. c.requires.named x (named_arm ts f has x v),
+              λ x v. c.requires.named x ((arms_have ts x).1 (part_has ts f x has v)),
               omega (arith, c.loop-k.invariant.next, place_count (opening_of names) (closing_of names) (alt_all front) c.args.draft.now.next, arms_room front, arms_room ts, parts_room ts k f c.at.ensures, c.requires.room),
             ),
           ),
@@ -141,7 +141,7 @@ place_arms-loop-k-preserved t c =
     let f = tree_of c.at.result.now in
     let has = Has-slice_get ts c.loop-k.k f c.at.ensures in
     let small = λ (n : ℕ). (counted names c.requires.distinct f (functional_arm ts f has c.requires.functional) (ordered_repeats f (c.requires.built f has))
-    (λ x v. c.requires.named x (named_arm ts f has x v)) n).1 in
+    (λ x v. c.requires.named x ((arms_have ts x).1 (part_has ts f x has v))) n).1 in
     arms_next names ts c.loop-k.k c.args.draft.now.next f c.args.draft.now c.loop-k.draft c.place.new.draft c.loop-k.all c.in_ok-arm.arm c.in_ok-all.all
     c.at.ensures refl small c.loop-k.invariant c.in_ok-arm.ensures c.in_ok-all.ensures
 
@@ -160,7 +160,7 @@ place_parts-place-requires t c =
           (
             c.requires.distinct,
             (
-              λ x v. c.requires.named x (named_part ts f has x v),
+              λ x v. c.requires.named x (part_has ts f x has v),
               omega (arith, c.loop-k.invariant.next, turn_total (opening_of names) (closing_of names) (take k ts) c.args.draft.now.next, parts_room ts k f c.at.ensures, c.requires.room),
             ),
           ),
