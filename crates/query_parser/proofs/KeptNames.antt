@@ -1,7 +1,6 @@
 -- Ascending names are the list that is made of them one by one.
 use Rattle.std.proofs.Common.{◌≡◌, List, [], ◌∷◌, ◌++◌, ap, refl, sym, subst, ◌∙◌, append_assoc, inl, inr}
 use Rattle.std.proofs.lemmas.List.{append-nil}
-use Rattle.std.specs.List.{AllByRecursion}
 use Rattle.std.specs.List.Sorted.{IsStrictlySortedBy}
 use Rattle.std.specs.Ordering.{ordering_reverse}
 use Rattle.std.specs.Cmp.Lexicographic.{nat_list_cmp_total}
@@ -9,17 +8,13 @@ use Rattle.std.specs.declared.cmp.Ordering.TheVariants.{Less, Greater}
 use Rattle.span_core.specs.NameSets.{name_cmp, by_order, with_name, Ascending}
 use Rattle.spanner_model.specs.Captures.{VarName}
 use Rattle.spanner_model.specs.Lists.{Has}
+use Rattle.spanner_model.proofs.NameLaws.{below_all}
 use Rattle.query_parser.specs.Spells.{with_names}
 use Rattle.query_parser.proofs.Lists.{has_last}
 
 -- each name of the first list stands before each of the second
 abbrev AllBefore : List VarName → List VarName → Type 0
 AllBefore names xs = (a b : VarName) → Has names a → Has xs b → name_cmp a b ≡ Less
-
-below : (x z : VarName) (names : List VarName) → AllByRecursion (λ y. name_cmp x y ≡ Less) names → Has names z → name_cmp x z ≡ Less
-below x z [] all h = absurd h
-below x z (y ∷ names) all (inl e) = ap (name_cmp x) (sym e) ∙ all.0
-below x z (y ∷ names) all (inr h) = below x z names all.1 h
 
 greater : (x y : VarName) → name_cmp y x ≡ Less → name_cmp x y ≡ Greater
 greater x y e = nat_list_cmp_total.antisymm x y ∙ ap ordering_reverse e
@@ -38,7 +33,7 @@ names_in_turn names (x ∷ xs) before up =
     ∙ names_in_turn (names ++ x ∷ []) xs later up.1 ∙ append_assoc names (x ∷ []) xs
   where
     later : AllBefore (names ++ x ∷ []) xs
-    later a b h k = elim (has_last names x a h) as (λ _. name_cmp a b ≡ Less) [ inl g ↦ before a b g (inr k) | inr e ↦ subst (λ (w : VarName). name_cmp w b ≡ Less) e (below x b xs up.0 k) ]
+    later a b h k = elim (has_last names x a h) as (λ _. name_cmp a b ≡ Less) [ inl g ↦ before a b g (inr k) | inr e ↦ subst (λ (w : VarName). name_cmp w b ≡ Less) e (below_all x b xs up.0 k) ]
 
 pub ascending_names : (xs : List VarName) → Ascending xs → with_names [] xs ≡ xs
 ascending_names xs up = names_in_turn [] xs (λ a b h. absurd h) up

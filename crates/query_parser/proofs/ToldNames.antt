@@ -1,8 +1,6 @@
 -- Whether names have a property can be told, and so the least of them that has it; and whether names are too many.
-use Rattle.std.proofs.Common.{◌≡◌, ◌≤◌, ◌⊎◌, ◌↔◌, ◌||◌, Bool, true, false, nat_lt, List, [], ◌∷◌, length, Option, Some, None, inl, inr, refl, sym, ◌∙◌, subst, arith}
-use Rattle.std.specs.Cmp.Lexicographic.{nat_list_cmp_total}
-use Rattle.std.specs.declared.cmp.Ordering.TheVariants.{Less, Equal}
-use Rattle.std.proofs.lemmas.Cmp.{tied_itself}
+use Rattle.std.proofs.Common.{◌≡◌, ◌≤◌, ◌⊎◌, ◌↔◌, ◌||◌, Bool, true, false, nat_lt, List, [], ◌∷◌, length, Option, Some, None, inl, inr, refl, sym, subst, arith}
+use Rattle.std.specs.declared.cmp.Ordering.TheVariants.{Less}
 use Rattle.std.proofs.lemmas.Bool.Decides.{nat_tests}
 use Rattle.span_core.specs.declared.TheConstants.{MOST_VARIABLES}
 use Rattle.span_core.specs.NameSets.{name_cmp, with_name, Ascending}
@@ -11,7 +9,7 @@ use Rattle.spanner_model.specs.Captures.{VarName}
 use Rattle.spanner_model.specs.Lists.{Has, AtMost}
 use Rattle.spanner_model.proofs.Deciding.{Told}
 use Rattle.spanner_model.proofs.HasLaws.{distinct-le}
-use Rattle.spanner_model.proofs.NameLaws.{with_cases, with_here, with_there, ascending-distinct}
+use Rattle.spanner_model.proofs.NameLaws.{with_cases, with_here, with_there, not_below_itself, ascending-distinct}
 use Rattle.functional_check.specs.Faults.{IsLeast, IsLeastOf, InExactlyOne}
 use Rattle.functional_check.specs.Names.{smaller_of}
 use Rattle.functional_check.proofs.LeastLaws.{least_both, least_same, at_most_less}
@@ -48,11 +46,8 @@ none_apart P Q p q none x = (λ h. held (q x) (λ n. none x (inl (h, n))), λ h.
 
 -- ---- the least name of a list
 
-not_itself : (x : VarName) → name_cmp x x ≡ Less → ⊥
-not_itself x h = let e : Less ≡ Equal = sym h ∙ tied_itself nat_list_cmp_total x in absurd (cc)
-
 least_alone : (P : VarName → Type 0) (y : VarName) → Told (P y) → (o : Option VarName) × IsLeastOf (λ z. (y ≡ z) × P z) o
-least_alone P y (inl p) = (Some y, ((refl, p), λ z h less. not_itself y (subst (λ (w : VarName). name_cmp w y ≡ Less) (sym h.0) less)))
+least_alone P y (inl p) = (Some y, ((refl, p), λ z h less. not_below_itself y (subst (λ (w : VarName). name_cmp w y ≡ Less) (sym h.0) less)))
 least_alone P y (inr n) = (None, λ x h. n (subst P (sym h.0) h.1))
 
 spread : (P : VarName → Type 0) (y : VarName) (names : List VarName) (z : VarName) → (((y ≡ z) × P z) ⊎ (Has names z × P z)) ↔ (Has (y ∷ names) z × P z)
