@@ -1,4 +1,4 @@
-use Rattle.std.proofs.Common.{◌≡◌, ℕ, ◌+◌, ◌*◌, ◌≤◌, ◌++◌, take, drop, length}
+use Rattle.std.proofs.Common.{◌≡◌, ◌+◌, ◌*◌, ◌≤◌, ◌++◌, take, drop, length}
 use Rattle.span_core.specs.declared.TheConstants.{MOST_NAME_BYTES}
 use Rattle.row_writer.specs.Lines.{head_text, more_fields}
 use Rattle.row_writer.proofs.head.put_head.Given as goal

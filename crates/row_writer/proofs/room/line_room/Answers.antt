@@ -1,4 +1,4 @@
-use Rattle.std.proofs.Common.{◌≡◌, ℕ, ◌+◌, Some, arith}
+use Rattle.std.proofs.Common.{Some, arith}
 use Rattle.row_writer.proofs.Fields.{room_step, shown_few}
 use Rattle.row_writer.proofs.room.line_room.Goals as goal
 

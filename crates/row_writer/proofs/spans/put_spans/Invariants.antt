@@ -1,4 +1,4 @@
-use Rattle.std.proofs.Common.{◌≡◌, ℕ, ◌+◌, ◌≤◌, ◌++◌, take, drop, length}
+use Rattle.std.proofs.Common.{◌≡◌, ◌+◌, ◌≤◌, ◌++◌, take, drop, length}
 use Rattle.row_writer.specs.Lines.{spans_text, spans_fields, more_fields}
 use Rattle.row_writer.specs.Room.{fields_room}
 use Rattle.row_writer.proofs.spans.put_spans.Given as goal

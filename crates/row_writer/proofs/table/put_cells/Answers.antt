@@ -1,4 +1,4 @@
-use Rattle.std.proofs.Common.{◌≡◌, ℕ, ◌+◌, ◌++◌, List, Some, take, length, arith}
+use Rattle.std.proofs.Common.{Some, take, length, arith}
 use Rattle.cell_text.specs.Cells.{ends_by}
 use Rattle.row_writer.specs.Lines.{shown}
 use Rattle.row_writer.proofs.Fields.{all_at, field_more, cells_step, room_step}

@@ -1,4 +1,4 @@
-use Rattle.std.proofs.Common.{◌≡◌, ℕ, ◌+◌, ◌≤◌, ◌++◌, take, drop, map, length}
+use Rattle.std.proofs.Common.{◌≡◌, ◌+◌, ◌≤◌, ◌++◌, take, drop, map, length}
 use Rattle.row_writer.specs.Lines.{table_text, shown, more_fields}
 use Rattle.row_writer.specs.Room.{fields_room}
 use Rattle.row_writer.proofs.table.put_cells.Given as goal
