@@ -46,10 +46,15 @@ pub fn compile<'q>(alloc: Global, query: &'q Query) -> Result<Compiled<'q>, Size
         };
         lets.push(automaton)?;
     }
-    match expr_automaton(alloc, query, &lets, &query.body) {
-        Ok(automaton) => Ok(Compiled { query, automaton }),
-        Err(fault) => Err(fault),
-    }
+    let body = match expr_automaton(alloc, query, &lets, &query.body) {
+        Ok(body) => body,
+        Err(refused) => return Err(refused),
+    };
+    drop(lets);
+    Ok(Compiled {
+        query,
+        automaton: body.take(alloc)?,
+    })
 }
 
 impl<'q> Compiled<'q> {

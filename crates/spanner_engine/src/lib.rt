@@ -6,3 +6,4 @@ pub use compiled::{Compiled, compile};
 mod compiled;
 mod expressions;
 pub mod laws;
+mod shared;

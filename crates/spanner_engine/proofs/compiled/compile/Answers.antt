@@ -6,6 +6,7 @@ use Rattle.spanner_model.specs.ExprView.{expr_of, query_of}
 use Rattle.marked_automaton.specs.Automaton.{Marked}
 use Rattle.marked_automaton.specs.Reduct.{ReducesMarked}
 use Rattle.spanner_engine.specs.Compiling.{AreCompiled, IsAsked, IsCompiledFrom}
+use Rattle.spanner_engine.specs.Laws.{AcceptsAnswersOf}
 use Rattle.spanner_engine.specs.Parts.{HasLargePartOf}
 use Rattle.spanner_engine.specs.QueryAutomaton.{automaton_of, of_lets}
 use Rattle.spanner_engine.proofs.PieceLaws.{none_compiled, one_more, asked_let, asked_body, lets_keep}
@@ -56,37 +57,39 @@ expr_automaton-requires-2-clause-asked c =
     omega (arith, ap length c.deref-2.ensures.value, c.loop-k.invariant.0, c.loop-k-test.false, c.loop-k.auto.k-end, c.len-k-end.ensures) in
     asked_body q (length c.deref-2.result.now) c.requires long
 
-pub returns-in-Ok-expr_automaton-clause-made : goal.returns-in-Ok-expr_automaton-clause-made
-returns-in-Ok-expr_automaton-clause-made c =
+pub returns-clause-made : goal.returns-clause-made
+returns-clause-made c =
     let q = query_of c.args.query.now in
     let long : length c.deref-2.result.now ≡ length q.lets =
     omega (arith, ap length c.deref-2.ensures.value, c.loop-k.invariant.0, c.loop-k-test.false, c.loop-k.auto.k-end, c.len-k-end.ensures) in
-    subst (λ n. ReducesMarked c.in-Ok-expr_automaton.automaton (automaton_of (of_lets q.lets n) q.body)) long c.in-Ok-expr_automaton.ensures.made.reduces
+    subst (λ (a : Marked). ReducesMarked a (automaton_of (of_lets q.lets (length q.lets)) q.body)) (sym c.in_ok-take.ensures)
+    (subst (λ n. ReducesMarked c.in-Ok-expr_automaton.body (automaton_of (of_lets q.lets n) q.body)) long c.in-Ok-expr_automaton.ensures.made.reduces)
 
-pub returns-in-Ok-expr_automaton-clause-kept : goal.returns-in-Ok-expr_automaton-clause-kept
-returns-in-Ok-expr_automaton-clause-kept c =
+pub returns-clause-kept : goal.returns-clause-kept
+returns-clause-kept c =
     let q = query_of c.args.query.now in
     let long : length c.loop-k.lets.items ≡ length q.lets = omega (arith, c.loop-k.invariant.0, c.loop-k-test.false, c.loop-k.auto.k-end, c.len-k-end.ensures) in
     (λ l h. (lets_keep q c.loop-k.lets.items c.loop-k.invariant.1 long l h).0, c.in-Ok-expr_automaton.ensures.made.keeps)
 
-pub returns-in-Ok-expr_automaton-clause-small : goal.returns-in-Ok-expr_automaton-clause-small
-returns-in-Ok-expr_automaton-clause-small c =
+pub returns-clause-small : goal.returns-clause-small
+returns-clause-small c =
     let q = query_of c.args.query.now in
     let long : length c.loop-k.lets.items ≡ length q.lets = omega (arith, c.loop-k.invariant.0, c.loop-k-test.false, c.loop-k.auto.k-end, c.len-k-end.ensures) in
     (λ l h. (lets_keep q c.loop-k.lets.items c.loop-k.invariant.1 long l h).1, c.in-Ok-expr_automaton.ensures.made.small)
 
-pub returns-clause-fault : goal.returns-clause-fault
-returns-clause-fault c =
+pub returns-in-Err-expr_automaton-clause-fault : goal.returns-in-Err-expr_automaton-clause-fault
+returns-in-Err-expr_automaton-clause-fault c =
     let q = query_of c.args.query.now in
     let long : length c.deref-2.result.now ≡ length q.lets =
     omega (arith, ap length c.deref-2.ensures.value, c.loop-k.invariant.0, c.loop-k-test.false, c.loop-k.auto.k-end, c.len-k-end.ensures) in
-    inr (subst (λ n. HasLargePartOf (of_lets q.lets n) q.body c.in-Err-expr_automaton.fault) long c.in-Err-expr_automaton.ensures.fault)
+    inr (subst (λ n. HasLargePartOf (of_lets q.lets n) q.body c.in-Err-expr_automaton.refused) long c.in-Err-expr_automaton.ensures.fault)
 
-pub returns-in-Ok-expr_automaton-clause-words : goal.returns-in-Ok-expr_automaton-clause-words
-returns-in-Ok-expr_automaton-clause-words c =
+pub returns-clause-words : goal.returns-clause-words
+returns-clause-words c =
     let q = query_of c.args.query.now in
     let long : length c.deref-2.result.now ≡ length q.lets =
     omega (arith, ap length c.deref-2.ensures.value, c.loop-k.invariant.0, c.loop-k-test.false, c.loop-k.auto.k-end, c.len-k-end.ensures) in
     let all : length c.loop-k.lets.items ≡ length q.lets = omega (arith, c.loop-k.invariant.0, c.loop-k-test.false, c.loop-k.auto.k-end, c.len-k-end.ensures) in
-    words_of_reduct q c.requires (λ l h. (lets_keep q c.loop-k.lets.items c.loop-k.invariant.1 all l h).0, c.in-Ok-expr_automaton.ensures.made.keeps) c.in-Ok-expr_automaton.automaton
-    (subst (λ n. ReducesMarked c.in-Ok-expr_automaton.automaton (automaton_of (of_lets q.lets n) q.body)) long c.in-Ok-expr_automaton.ensures.made.reduces)
+    subst (λ (a : Marked). AcceptsAnswersOf q a) (sym c.in_ok-take.ensures)
+    (words_of_reduct q c.requires (λ l h. (lets_keep q c.loop-k.lets.items c.loop-k.invariant.1 all l h).0, c.in-Ok-expr_automaton.ensures.made.keeps) c.in-Ok-expr_automaton.body
+    (subst (λ n. ReducesMarked c.in-Ok-expr_automaton.body (automaton_of (of_lets q.lets n) q.body)) long c.in-Ok-expr_automaton.ensures.made.reduces))
