@@ -1,5 +1,5 @@
 -- What is made of the parts of an expression when it is compiled.
-use Rattle.std.proofs.Common.{◌≡◌, ℕ, Bool, true, false, map, length-append, zero, suc, ◌+◌, ◌*◌, ◌≤◌, ◌⊎◌, ◌↔◌, List, [], ◌∷◌, ◌++◌, length, take, drop, Some, inl, inr, refl, sym, ap, subst, arith, ◌∙◌}
+use Rattle.std.proofs.Common.{◌≡◌, ℕ, Bool, true, false, map, length-append, zero, suc, ◌+◌, ◌*◌, ◌≤◌, ◌⊎◌, ◌↔◌, List, [], ◌∷◌, ◌++◌, length, take, drop, Option, Some, inl, inr, refl, sym, ap, subst, arith, ◌∙◌}
 use Rattle.std.specs.Prelude.{slice_get}
 use Rattle.std.specs.FinSet as set
 use Rattle.std.specs.List.{filter}
@@ -42,6 +42,7 @@ use Rattle.spanner_engine.specs.QueryAutomaton.{of_union, of_join, automaton_of,
 use Rattle.spanner_engine.proofs.Names.{all_ascend, all_are}
 use Rattle.spanner_engine.proofs.PartLaws.{union_push, join_push, union_part_of, join_part_of, union_step, join_step, large_part}
 use Rattle.spanner_engine.proofs.QueryWords.{expr_for, lets_for}
+use Rattle.spanner_engine.proofs.UseLaws.{union_names_some, join_names_some}
 use Rattle.spanner_engine.proofs.Words.{IsFor}
 
 -- ---- lists of parts
@@ -95,14 +96,14 @@ join_named (g ∷ es) e x (inr h) v = inr (join_named es e x h v)
 
 pub asked_united : (q : QueryTree) (n : ℕ) (es : List ExprTree) (e : ExprTree) → Has es e → IsAsked q n (union_all es) → IsAsked q n e
 asked_united q n es e h a =
-    record { sound = a.sound; sound_expr = union_part (vars_of_lets q.lets n) n es e a.sound_expr h; named = λ x v. a.named x (union_named es e x h v) }
+    record { sound = a.sound; sound_expr = union_part (vars_of_lets q.lets n) n es e a.sound_expr h; named = λ x v. a.named x (union_named es e x h v); spoken = λ k m. a.spoken k ((union_names_some es k).1 (e, h, m)) }
 
 pub asked_joined : (q : QueryTree) (n : ℕ) (es : List ExprTree) (e : ExprTree) → Has es e → IsAsked q n (join_all es) → IsAsked q n e
 asked_joined q n es e h a =
-    record { sound = a.sound; sound_expr = join_part (vars_of_lets q.lets n) n es e a.sound_expr h; named = λ x v. a.named x (join_named es e x h v) }
+    record { sound = a.sound; sound_expr = join_part (vars_of_lets q.lets n) n es e a.sound_expr h; named = λ x v. a.named x (join_named es e x h v); spoken = λ k m. a.spoken k ((join_names_some es k).1 (e, h, m)) }
 
 pub asked_sub : (q : QueryTree) (n : ℕ) (kept : List VarName) (e : ExprTree) → IsAsked q n (project kept e) → IsAsked q n e
-asked_sub q n kept e a = record { sound = a.sound; sound_expr = a.sound_expr.0; named = λ x v. a.named x v }
+asked_sub q n kept e a = record { sound = a.sound; sound_expr = a.sound_expr.0; named = λ x v. a.named x v; spoken = λ k m. a.spoken k m }
 
 -- ---- keeping in order, and small atoms, of lists of parts
 
@@ -156,7 +157,7 @@ join_at ns ms A B = join_of (agree_on ns ms (all_names ns ms)) (joined ns ms (al
 
 -- ---- compiled parts
 
-module _ (q : QueryTree) (lets : List Marked) (known : AreCompiled q lets) (sound : IsSound q) where
+module _ (q : QueryTree) (lets : List (Option Marked)) (known : AreCompiled q lets) (sound : IsSound q) where
   abbrev N : ℕ
   N = length lets
 

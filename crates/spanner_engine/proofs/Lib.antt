@@ -6,4 +6,5 @@ pub mod Names
 pub mod PartLaws
 pub mod PieceLaws
 pub mod QueryWords
+pub mod UseLaws
 pub mod Words

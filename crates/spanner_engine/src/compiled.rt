@@ -9,6 +9,7 @@ ghost use Rattle.spanner_engine.specs.Parts.{AtomsAreSmall, HasLargePart};
 ghost use Rattle.spanner_engine.specs.QueryAutomaton.{of_query};
 
 use crate::expressions::expr_automaton;
+use crate::uses::{last_uses, let_go};
 use marked_automaton::{Automaton, SizeFault};
 use span_core::VarSet;
 use spanner_model::Query;
@@ -38,13 +39,15 @@ pub fn compile<'q>(alloc: Global, query: &'q Query) -> Result<Compiled<'q>, Size
     ensures small { OnOk result (AtomsAreSmall (query_of query.now)) }
     ensures fault { IfErr result (HasLargePart (query_of query.now)) }
 {
+    let last = last_uses(alloc, query)?;
     let mut lets = Vec::new(alloc);
     for k in 0..query.lets.len() {
         let automaton = match expr_automaton(alloc, query, &lets, &query.lets.at(k).1) {
             Ok(automaton) => automaton,
             Err(fault) => return Err(fault),
         };
-        lets.push(automaton)?;
+        lets.push(Some(automaton))?;
+        let_go(&mut lets, &last, k);
     }
     let body = match expr_automaton(alloc, query, &lets, &query.body) {
         Ok(body) => body,

@@ -14,12 +14,13 @@ use span_core::MOST_VARIABLES;
 use spanner_model::{Expr, Exprs, Query};
 use std::alloc::Global;
 
-/// The automaton of an expression of the query, where `lets` has those of the `let`s before it.
+/// The automaton of an expression of the query, where `lets` has those of the `let`s before it: of each that
+/// it names.
 #[cycle(compiling)]
 pub fn expr_automaton(
     alloc: Global,
     query: &Query,
-    lets: &[Shared],
+    lets: &[Option<Shared>],
     expr: &Expr,
 ) -> Result<Shared, SizeFault>
     requires known { AreCompiled (query_of query.now) lets.now }
@@ -36,7 +37,10 @@ pub fn expr_automaton(
             let useful = whole.trim(alloc)?;
             Ok(Shared::new(alloc, useful)?)
         }
-        Expr::Named(k) => Ok(lets[*k as usize].share()?),
+        Expr::Named(k) => match &lets[*k as usize] {
+            Some(automaton) => Ok(automaton.share()?),
+            None => unreachable!(),
+        },
         Expr::Union(parts) => union_automaton(alloc, query, lets, parts),
         Expr::Join(parts) => join_automaton(alloc, query, lets, parts),
         Expr::Project(kept, sub) => {
@@ -56,7 +60,7 @@ pub fn expr_automaton(
 fn union_automaton(
     alloc: Global,
     query: &Query,
-    lets: &[Shared],
+    lets: &[Option<Shared>],
     parts: &Exprs,
 ) -> Result<Shared, SizeFault>
     requires known { AreCompiled (query_of query.now) lets.now }
@@ -90,7 +94,7 @@ fn union_automaton(
 fn join_automaton(
     alloc: Global,
     query: &Query,
-    lets: &[Shared],
+    lets: &[Option<Shared>],
     parts: &Exprs,
 ) -> Result<Shared, SizeFault>
     requires known { AreCompiled (query_of query.now) lets.now }

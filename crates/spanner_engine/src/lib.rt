@@ -7,3 +7,4 @@ mod compiled;
 mod expressions;
 pub mod laws;
 mod shared;
+mod uses;

@@ -1,6 +1,5 @@
-use Rattle.std.proofs.Common.{◌≡◌, ◌<◌, List, length, Some, IfOk, IfErr, sym, ap, ◌∙◌, subst, arith}
-use Rattle.std.specs.Prelude.{slice_get}
-use Rattle.std.proofs.lemmas.Option.{slice_get-get_or}
+use Rattle.std.proofs.Common.{◌≡◌, ◌<◌, List, length, Some, None, IfOk, IfErr, sym, ap, ◌∙◌, subst, arith}
+use Rattle.std.proofs.lemmas.Option.{slice_get-get_or, get_or_from_slice_get}
 use Rattle.spanner_model.specs.Captures.{VarName}
 use Rattle.spanner_model.specs.View.{tree_of}
 use Rattle.spanner_model.specs.Expression.{ExprTree, project, union_all}
@@ -11,13 +10,13 @@ use Rattle.spanner_model.proofs.Nodes.{expr_nodes}
 use Rattle.spanner_model.proofs.ExprLaws.{union_size, part_size, union_two, join_two}
 use Rattle.spanner_model.proofs.ExprTrees.{expr_of-Atom, expr_of-Named, expr_of-Union, expr_of-Join, expr_of-Project}
 use Rattle.marked_automaton.specs.Automaton.{Marked}
-use Rattle.marked_automaton.specs.Reduct.{Reduces, ReducesMarked}
+use Rattle.marked_automaton.specs.Reduct.{Reduces}
 use Rattle.marked_automaton.proofs.Reducts.{reduct_of_reduct}
 use Rattle.marked_automaton.proofs.Rearranged.{rearranged_reduces}
 use Rattle.place_automaton.specs.Words.{atom_automaton}
 use Rattle.algebra.specs.JoinedMarks.{agree_on, joined}
 use Rattle.algebra.specs.Operations.{join_of}
-use Rattle.spanner_engine.specs.Compiling.{IsAsked, IsCompiledFrom}
+use Rattle.spanner_engine.specs.Compiling.{IsAsked, IsCompiledFrom, kept_at}
 use Rattle.spanner_engine.specs.Parts.{HasLargePartOf}
 use Rattle.spanner_engine.specs.QueryAutomaton.{of_lets}
 use Rattle.spanner_engine.proofs.CompileLaws.{asked_united, asked_joined, asked_sub, union_first, union_names, union_next, union_fault, union_done, union_part_fault, join_first, join_few, join_next, join_fault, join_done, join_part_fault, join_at, JoinSoFar}
@@ -66,18 +65,19 @@ expr_automaton-returns-in_ok-new-in-Atom-clause-made t c =
       small = atom_small a.from_start a.to_end f asked.sound_expr.0 asked.sound_expr.1 of.small.0 of.small.1;
     }))
 
-pub expr_automaton-returns-in_ok-share-in-Named-clause-made : goal.expr_automaton-returns-in_ok-share-in-Named-clause-made
-expr_automaton-returns-in_ok-share-in-Named-clause-made t c =
+pub expr_automaton-returns-in_ok-share-in-Some-clause-made : goal.expr_automaton-returns-in_ok-share-in-Some-clause-made
+expr_automaton-returns-in_ok-share-in-Some-clause-made t c =
     let q = query_of c.args.query.now in
     let n = length c.args.lets.now in
     let k = c.in-Named.k in
-    let u = c.index-lets-k.result in
     let e = ap expr_of c.in-Named.is ∙ expr_of-Named k in
     let within : k < n = (subst (IsAsked q n) e c.requires.asked).sound_expr in
-    let at : slice_get c.args.lets.now k ≡ Some u = slice_get-get_or c.args.lets.now k u within ∙ ap Some (sym c.index-lets-k.is) in
-    let shared : c.in_ok-share-in-Named.field-0 ≡ u = c.in_ok-share-in-Named.ensures in
-    subst (λ (w : ExprTree). IsCompiledFrom q n w c.in_ok-share-in-Named.field-0) (sym e)
-    (record { reduces = subst (λ (a : Marked). ReducesMarked a (of_lets q.lets n k)) (sym shared) (c.requires.known.reduce k u at); keeps = tt; small = tt })
+    let u = c.index-lets-k.result in
+    let there : kept_at c.args.lets.now k ≡ Some c.in-Some.automaton =
+    get_or_from_slice_get c.args.lets.now k u None (slice_get-get_or c.args.lets.now k u within ∙ ap Some (sym c.index-lets-k.is)) ∙ c.in-Some.is in
+    subst (λ (a : Marked). IsCompiledFrom q n (expr_of c.args.expr.now) a) (sym c.in_ok-share-in-Some.ensures)
+    (subst (λ (w : ExprTree). IsCompiledFrom q n w c.in-Some.automaton) (sym e)
+    (record { reduces = c.requires.known.reduce k c.in-Some.automaton there; keeps = tt; small = tt }))
 
 pub expr_automaton-union_automaton-requires : goal.expr_automaton-union_automaton-requires
 expr_automaton-union_automaton-requires t c =
