@@ -11,6 +11,7 @@ pub mod Places
 pub mod Reached
 pub mod ReductJoins
 pub mod ReductUnions
+pub mod Rejoined
 pub mod RenamingLaws
 pub mod RowLaws
 pub mod Searched

@@ -5,10 +5,12 @@ pub use operations::{join, project, union};
 
 mod assembly;
 mod halves;
+mod joining;
 pub mod laws;
 mod moved;
 mod operations;
 mod pairs;
 mod renaming;
+mod rows;
 #[cfg(test)]
 mod tests;

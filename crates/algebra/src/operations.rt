@@ -9,11 +9,8 @@ ghost use Rattle.algebra.specs.JoinedMarks.{agree_on, joined};
 ghost use Rattle.algebra.specs.JoinedNames.{all_names};
 ghost use Rattle.algebra.specs.Operations.{join_of, union_of};
 
-use crate::assembly::assembled;
-use crate::halves::side_of;
+use crate::joining::{grouped, join_to};
 use crate::moved::{add_part, ways_of_both};
-use crate::pairs::searched;
-use crate::renaming::names_of_both;
 use marked_automaton::{Automaton, MOST_STATES, MOST_WAYS, SizeFault};
 use span_core::{OutOfMemory, VarSet};
 use std::alloc::Global;
@@ -76,11 +73,11 @@ pub fn join(alloc: Global, a: &Automaton, b: &Automaton) -> Result<Automaton, Si
     ensures fault { IfErr result (λ e. IsSizeFaultWithin (a.now.graph.states * b.now.graph.states)
         (length (join_of (agree_on a.now.names b.now.names (all_names a.now.names b.now.names)) (joined a.now.names b.now.names (all_names a.now.names b.now.names)) a.now.graph b.now.graph).ways) e) }
 {
-    // What `states` says of each automaton holds of these two.
-    let _both = (a.states(), b.states());
-    let all = names_of_both(a.vars(), b.vars());
-    let left = side_of(alloc, a, &all, a, true, b)?;
-    let right = side_of(alloc, b, &all, a, false, a)?;
-    let (search, starts) = searched(alloc, a, b, &left, &right)?;
-    assembled(alloc, all, search, starts, a, b, &left, &right)
+    // What `states` says of each automaton holds of this one.
+    let _whole = b.states();
+    if a.is_grouped() {
+        return join_to(alloc, a, b);
+    }
+    let first = grouped(alloc, a)?;
+    join_to(alloc, &first, b)
 }
