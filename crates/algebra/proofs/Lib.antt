@@ -18,5 +18,5 @@ pub mod Searched
 pub mod Segments
 pub mod Stable
 pub mod Unions
-pub mod Unite
+pub mod United
 pub mod Whole

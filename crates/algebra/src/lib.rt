@@ -1,7 +1,7 @@
 //! Union, projection and join of automata.
 #![tactic(auto)]
 
-pub use operations::{join, project, union};
+pub use operations::{join, project, union, unite};
 
 mod assembly;
 mod halves;

@@ -1,7 +1,8 @@
 //! Union, projection and join.
-ghost use Rattle.std.specs.Prelude.{◌≡◌, ℕ, ◌+◌, ◌*◌, ◌≤◌, IfOk, IfErr, List, length};
+ghost use Rattle.std.specs.Prelude.{◌≡◌, ℕ, ◌+◌, ◌*◌, ◌≤◌, IfOk, IfErr, OnOk, List, length};
 ghost use Rattle.span_core.specs.declared.TheConstants.{MOST_VARIABLES};
 ghost use Rattle.spanner_model.specs.Lists.{Has};
+ghost use Rattle.marked_automaton.specs.declared.TheConstants.{MOST_STATES, MOST_WAYS};
 ghost use Rattle.marked_automaton.specs.Faults.{IsSizeFaultOf, IsSizeFaultWithin};
 ghost use Rattle.marked_automaton.specs.Marks.{left_of, remarked};
 ghost use Rattle.marked_automaton.specs.Reduct.{Reduces};
@@ -10,7 +11,7 @@ ghost use Rattle.algebra.specs.JoinedNames.{all_names};
 ghost use Rattle.algebra.specs.Operations.{join_of, union_of};
 
 use crate::joining::{grouped, join_to};
-use crate::moved::{add_part, ways_of_both};
+use crate::moved::{add_part, add_ways};
 use marked_automaton::{Automaton, MOST_STATES, MOST_WAYS, SizeFault};
 use span_core::{OutOfMemory, VarSet};
 use std::alloc::Global;
@@ -26,6 +27,33 @@ pub fn union(alloc: Global, a: &Automaton, b: &Automaton) -> Result<Automaton, S
     ensures reduct { IfOk result (λ u. Reduces u.graph (union_of a.now.graph b.now.graph)) }
     ensures fault { IfErr result (λ e. IsSizeFaultOf (a.now.graph.states + b.now.graph.states) (length a.now.graph.ways + length b.now.graph.ways) e) }
 {
+    fit_together(a, b)?;
+    unite(a.copy(alloc)?, b)
+}
+
+/// The union of both (Fagin et al. 2015), made in the first: its states, starts, ways and ends stay, and
+/// those of `b` are put behind them. It costs what `b` has. Refused exactly as `union` is; on refusal the
+/// automaton is given up.
+pub fn unite(a: Automaton, b: &Automaton) -> Result<Automaton, SizeFault>
+    requires { a.names ≡ b.now.names }
+    ensures names { IfOk result (λ u. u.names ≡ a.names) }
+    ensures reduct { IfOk result (λ u. Reduces u.graph (union_of a.graph b.now.graph)) }
+    ensures fault { IfErr result (λ e. IsSizeFaultOf (a.graph.states + b.now.graph.states) (length a.graph.ways + length b.now.graph.ways) e) }
+{
+    fit_together(&a, b)?;
+    let by = a.states();
+    let mut whole = a;
+    whole.add_states(b.states())?;
+    add_ways(&mut whole, b, by)?;
+    add_part(&mut whole, b, by)?;
+    Ok(whole)
+}
+
+/// Refuses what is too large for a union.
+fn fit_together(a: &Automaton, b: &Automaton) -> Result<(), SizeFault>
+    ensures few { OnOk result ((a.now.graph.states + b.now.graph.states ≤ MOST_STATES) × (length a.now.graph.ways + length b.now.graph.ways ≤ MOST_WAYS)) }
+    ensures fault { IfErr result (λ e. IsSizeFaultOf (a.now.graph.states + b.now.graph.states) (length a.now.graph.ways + length b.now.graph.ways) e) }
+{
     let states = a.states() + b.states();
     let ways = a.ways().len() + b.ways().len();
     if states > MOST_STATES {
@@ -36,15 +64,7 @@ pub fn union(alloc: Global, a: &Automaton, b: &Automaton) -> Result<Automaton, S
     if ways > MOST_WAYS {
         return Err(SizeFault::Ways { count: ways as u64 });
     }
-    let mut whole = Automaton::with_ways(
-        alloc,
-        a.vars().copy(),
-        states,
-        ways_of_both(alloc, a, b)?,
-    )?;
-    add_part(&mut whole, a, 0)?;
-    add_part(&mut whole, b, a.states())?;
-    Ok(whole)
+    Ok(())
 }
 
 /// The automaton that accepts what is left of the words of `a` on the kept variables (projection).

@@ -1,14 +1,13 @@
-use Rattle.std.proofs.Common.{length-append, ◌≡◌, ◌+◌, ◌*◌, ◌≤◌, List, length, sym, ap, subst, arith, ◌∙◌}
+use Rattle.std.proofs.Common.{length-append, ◌≡◌, ◌*◌, ◌≤◌, List, length, sym, ap, subst, arith, ◌∙◌}
 use Rattle.std.specs.Prelude.{slice_index_or}
 use Rattle.span_core.specs.declared.TheConstants.{MOST_VARIABLES}
-use Rattle.spanner_model.specs.Captures.{VarName}
 use Rattle.spanner_model.proofs.HasLaws.{Has-get_or}
 use Rattle.marked_automaton.specs.declared.fault.SizeFault.{SizeFault}
 use Rattle.marked_automaton.specs.Automaton.{Automaton}
 use Rattle.marked_automaton.specs.Faults.{IsSizeFaultWithin}
 use Rattle.algebra.specs.declared.halves.HalfWay.{HalfWay}
 use Rattle.algebra.specs.JoinedNames.{all_names}
-use Rattle.algebra.specs.Joining.{IsJoinFault, IsJoinOf, join_over}
+use Rattle.algebra.specs.Joining.{IsJoinFault, join_over}
 use Rattle.algebra.specs.Pairs.{HaveSmallMarks, half_at}
 use Rattle.algebra.specs.Sides.{IsMadeOf, half_ways_of}
 use Rattle.algebra.proofs.Followed.{handed_on}

@@ -1,4 +1,4 @@
-use Rattle.std.proofs.Common.{ltb, leb, drop, subst, sym, rules, ◌∙◌}
+use Rattle.std.proofs.Common.{ltb, leb, subst, sym, rules, ◌∙◌}
 use Rattle.std.proofs.lemmas.List.Sorted.{IsPartitionedBy-ltb, IsPartitionedBy-leb, IsPartitionPoint-from_clause, IsNonDecreasingBy-drop}
 use Rattle.algebra.specs.Pairs.{way_from}
 use Rattle.algebra.proofs.Segments.{IsLow, IsHigh, row_is, rises}
