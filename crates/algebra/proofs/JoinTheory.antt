@@ -20,12 +20,13 @@ use Rattle.marked_automaton.specs.Reduct.{Reduces}
 use Rattle.marked_automaton.proofs.Listed.{get_within, some_same}
 use Rattle.algebra.specs.declared.halves.HalfWay.{HalfWay}
 use Rattle.algebra.specs.declared.halves.HalfStop.{HalfStop}
+use Rattle.algebra.specs.declared.halves.Side.{Side}
 use Rattle.algebra.specs.declared.pairs.Pair.{Pair}
 use Rattle.algebra.specs.JoinedMarks.{agree_on, joined}
 use Rattle.algebra.specs.Operations.{ends_with, goes_with, has_some, join_of, meet, pair_stop, pair_way}
 use Rattle.algebra.specs.Pairs.{AreStarted, AreWithin, HaveSameRows, IsFollowed, IsIdlePair, IsStopAt, IsWayBetween, LeadWithin, Matched, PairStop, PairWay, half_at, half_from, pair_of, pairs, stop_pair, stops_at_pair, stops_meet, those_at, way_pair, ways_at, ways_meet}
 use Rattle.algebra.specs.Renaming.{half_stop, half_way}
-use Rattle.algebra.specs.Sides.{IsMadeOf, IsSideOf, shifts_of}
+use Rattle.algebra.specs.Sides.{IsMadeOf, IsSearchRefusal, IsSideOf, half_ways_of, shifts_of}
 use Rattle.marked_automaton.proofs.Passing.{both_true, filter_cases, flat_map_cases, has_filter, has_flat_map, right_true}
 use Rattle.algebra.proofs.Followed.{no_bytes, pairs_few, some_bytes}
 use Rattle.algebra.proofs.Gathered.{filter_yes, filter_no, gathered, one_of}
@@ -33,7 +34,7 @@ use Rattle.algebra.proofs.Places.{match_from, match_len, match_of, place_there}
 use Rattle.algebra.proofs.ReductUnions.{get_left}
 use Rattle.algebra.proofs.Reached.{AreSides, IsOfFound, coded_stop, coded_way, found_reduces, of_pairs}
 use Rattle.algebra.proofs.RenamingLaws.{agree_is, joined_is, joined_small, moved_none}
-use Rattle.algebra.proofs.Searched.{filter_no_more, gathered_ways, row_has, same_rows}
+use Rattle.algebra.proofs.Searched.{filter_no_more, gathered_ways, row_has}
 
 -- pairs of images make what pairs make
 module _ {X Y U V R S : Type 0} (test : U → V → Bool) (make : U → V → R) (code : R → S) (hx : X → U) (hy : Y → V) (test0 : X → Y → Bool) (make0 : X → Y → S) where
@@ -200,11 +201,39 @@ module _ (A B : Marked) (a : IsMarked A) (b : IsMarked B) (all : List VarName) w
   pub within_starts : (keys0 : List Pair) → AreStarted A.graph.starts B.graph.starts [] keys0 → AreWithin n1 n2 keys0
   within_starts keys0 started = λ k h. elim (started.only k h) [ inl n ↦ absurd n | inr r ↦ (a.whole.starts k.left r.0, b.whole.starts k.right r.1) ]
 
-  module _ (xs ys : List HalfWay) (sx sy : List HalfStop) (left : IsSideOf own1 shared1 A.graph xs sx) (right : IsSideOf own2 shared2 B.graph ys sy)
+  -- the ways of the two sides are these, and what they bring is small
+  pub left_ways : (side : Side) → IsSideOf own1 shared1 A.graph side → half_ways_of side A.graph ≡ X
+  left_ways side is = λ i. map (half_way (is.own i) (is.shared i)) A.graph.ways
+
+  pub right_ways : (side : Side) → IsSideOf own2 shared2 B.graph side → half_ways_of side B.graph ≡ Y
+  right_ways side is = λ i. map (half_way (is.own i) (is.shared i)) B.graph.ways
+
+  -- a refusal of the search is one of the join
+  pub refusal : (one two : Side) → IsSideOf own1 shared1 A.graph one → IsSideOf own2 shared2 B.graph two → (e : SizeFault) →
+      IsSearchRefusal A.graph B.graph (half_ways_of one A.graph) (half_ways_of two B.graph) e → IsSizeFaultWithin (n1 * n2) (length J.ways) e
+  refusal one two left right e h =
+      let all_ways : IsSearchRefusal A.graph B.graph X Y e =
+      subst (λ (ys : List HalfWay). IsSearchRefusal A.graph B.graph X ys e) (right_ways two right)
+      (subst (λ (xs : List HalfWay). IsSearchRefusal A.graph B.graph xs (half_ways_of two B.graph) e) (left_ways one left) h) in
+      all_ways (length J.ways) a.whole.starts b.whole.starts lead_within (omega (arith, ways_len))
+
+  module _ (one two : Side) (left : IsSideOf own1 shared1 A.graph one) (right : IsSideOf own2 shared2 B.graph two)
       (keys0 keys : List Pair) (made : List Way) (apart : AreDistinct keys) (started : AreStarted A.graph.starts B.graph.starts [] keys0)
-      (followed : IsFollowed (flat_map (ways_at xs ys) keys) keys0 [] keys made) where
+      (followed : IsFollowed (flat_map (ways_at (half_ways_of one A.graph) (half_ways_of two B.graph)) keys) keys0 [] keys made) where
+    abbrev xs : List HalfWay
+    xs = half_ways_of one A.graph
+
+    abbrev ys : List HalfWay
+    ys = half_ways_of two B.graph
+
+    abbrev sx : List HalfStop
+    sx = one.stops.items
+
+    abbrev sy : List HalfStop
+    sy = two.stops.items
+
     rows : flat_map (ways_at xs ys) keys ≡ flat_map (ways_at X Y) keys
-    rows = λ i. flat_map (λ k. same_rows xs ys X Y left.ways right.ways k i) keys
+    rows = λ i. flat_map (ways_at (left_ways one left i) (right_ways two right i)) keys
 
     stop_rows : flat_map (stops_at_pair sx sy) keys ≡ flat_map (stops_at_pair SX SY) keys
     stop_rows = λ i. flat_map (λ (k : Pair). pairs stops_meet stop_pair (right.stops k.right i) (left.stops k.left i)) keys

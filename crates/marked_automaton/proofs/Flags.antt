@@ -1,5 +1,5 @@
 -- The places of the flags that are set.
-use Rattle.std.proofs.Common.{◌≡◌, ℕ, zero, suc, ◌+◌, ◌<◌, ◌↔◌, ◌⊎◌, Bool, true, false, IsTrue, List, [], ◌∷◌, length, get_or, inl, inr, refl, sym, ap, subst, arith, ◌∙◌}
+use Rattle.std.proofs.Common.{◌≡◌, ℕ, zero, suc, ◌+◌, ◌<◌, ◌↔◌, ◌⊎◌, Bool, true, false, IsTrue, List, [], ◌∷◌, ◌++◌, length, get_or, inl, inr, refl, sym, ap, subst, arith, ◌∙◌}
 use Rattle.std.proofs.Math.ListN.{set}
 use Rattle.std.specs.Prelude.{replicate}
 use Rattle.spanner_model.specs.Lists.{Has}
@@ -50,6 +50,12 @@ flag_at flags p b within e =
 pub flagged_none : (k n : ℕ) → flagged k (replicate n false) ≡ []
 flagged_none k zero = refl
 flagged_none k (suc n) = flagged_none (suc k) n
+
+-- flags that are not set, behind others
+pub flagged_more : (k : ℕ) (flags : List Bool) (n : ℕ) → flagged k (flags ++ replicate n false) ≡ flagged k flags
+flagged_more k [] n = flagged_none k n
+flagged_more k (true ∷ flags) n = ap (λ xs. k ∷ xs) (flagged_more (suc k) flags n)
+flagged_more k (false ∷ flags) n = flagged_more (suc k) flags n
 
 -- with one flag more
 pub set_cases : (flags : List Bool) (i p : ℕ) → get_or (set flags i true) p false ≡ true → (get_or flags p false ≡ true) ⊎ (p ≡ i)

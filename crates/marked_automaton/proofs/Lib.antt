@@ -5,6 +5,7 @@ pub mod Erasing
 pub mod Filtered
 pub mod Flags
 pub mod Gathering
+pub mod Grouped
 pub mod Growing
 pub mod Listed
 pub mod Loops

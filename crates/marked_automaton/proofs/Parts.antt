@@ -2,17 +2,17 @@
 use Rattle.std.proofs.Common.{◌≡◌, ℕ, zero, suc, ◌+◌, ◌*◌, ◌^◌, ◌<◌, ◌≤◌, List, map, [], ◌∷◌, ◌++◌, length, inl, inr, refl, ap, subst, arith, length-append, ◌∙◌, Bool, false, replicate, take, ◌-◌}
 use Rattle.std.specs.Prelude.{All}
 use Rattle.marked_automaton.specs.Inside.{flagged, graph_of}
-use Rattle.marked_automaton.proofs.Flags.{flagged_none}
+use Rattle.marked_automaton.proofs.Flags.{flagged_more, flagged_none}
 use Rattle.std.specs.FinSet as set
 use Rattle.spanner_model.specs.Lists.{Has}
 use Rattle.spanner_model.proofs.HasLaws.{Has-append_left, Has-append_cases, Has-map_cases, Contains-Has}
 use Rattle.std.proofs.Math.Nat.{one-le-pow}
-use Rattle.std.proofs.lemmas.List.{length-map}
+use Rattle.std.proofs.lemmas.List.{length-map, take_all}
 use Rattle.std.proofs.lemmas.List.Elements.{All-contains}
 use Rattle.marked_automaton.specs.declared.TheConstants.{MOST_STATES, MOST_WAYS}
 use Rattle.marked_automaton.specs.declared.way.Way.{Way}
 use Rattle.marked_automaton.specs.declared.way.Stop.{Stop}
-use Rattle.marked_automaton.specs.Automaton.{Automaton, Marked, IsMarked, IsWayOf, IsBlockOf, ByteClass, bare, idle_way, plain_stop, reversed, turned_way, with_start, with_stop, with_way, with_ways}
+use Rattle.marked_automaton.specs.Automaton.{Automaton, Marked, IsMarked, IsWayOf, IsBlockOf, ByteClass, bare, idle_way, plain_stop, reversed, turned_way, with_start, with_states, with_stop, with_way, with_ways}
 
 -- a list with one element more
 more : {X : Type 0} (P : X → Type 0) (xs : List X) (x : X) → ((y : X) → Has xs y → P y) → P x → (y : X) → Has (xs ++ x ∷ []) y → P y
@@ -27,6 +27,16 @@ resized xs ys n m empty none e =
     taken : (n : ℕ) → take n (let e : List Bool = [] in e) ≡ []
     taken zero = refl
     taken (suc n) = refl
+
+-- with room for more flags
+pub grown : (flags more : List Bool) (n m : ℕ) → m ≡ length flags → m ≤ n → more ≡ take n flags ++ replicate (n - m) false → flagged 0 more ≡ flagged 0 flags
+grown flags more n m len le e =
+    let all : take n flags ≡ flags = take_all n flags (omega (arith, len, le)) in
+    ap (flagged 0) (e ∙ ap (λ xs. xs ++ replicate (n - m) false) all) ∙ flagged_more 0 flags (n - m)
+
+pub more_states_graph : (n k : ℕ) (starts : List ℕ) (ways : List Way) (stops : List Stop) (flags more : List Bool) (m : ℕ) → n ≡ m + k →
+    flagged 0 more ≡ flagged 0 flags → graph_of n starts ways stops more ≡ with_states k (graph_of m starts ways stops flags)
+more_states_graph n k starts ways stops flags more m e f = λ i. record { states = e i; starts = starts; ways = ways; stops = stops; idle = f i }
 
 pub new_graph : (n : ℕ) (starts : List ℕ) (ways : List Way) (stops : List Stop) (idle : List Bool) → starts ≡ [] → ways ≡ [] → stops ≡ [] →
     idle ≡ replicate n false → graph_of n starts ways stops idle ≡ bare n
@@ -72,6 +82,23 @@ module _ (A : Marked) (m : IsMarked A) where
       tos = m.whole.tos;
       stops = m.whole.stops;
       idles = m.whole.idles;
+    };
+    way_marks = m.way_marks;
+    stop_marks = m.stop_marks;
+    some_byte = m.some_byte;
+    idle_ways = m.idle_ways;
+  }
+
+  pub states_are_marked : (more : ℕ) → A.graph.states + more ≤ MOST_STATES → IsMarked (record { names = A.names; graph = with_states more A.graph })
+  states_are_marked more few = record {
+    few_states = few;
+    few_ways = m.few_ways;
+    whole = record {
+      starts = λ p h. omega (arith, m.whole.starts p h);
+      froms = λ y h. omega (arith, m.whole.froms y h);
+      tos = λ y h. omega (arith, m.whole.tos y h);
+      stops = λ x h. omega (arith, m.whole.stops x h);
+      idles = λ p h. omega (arith, m.whole.idles p h);
     };
     way_marks = m.way_marks;
     stop_marks = m.stop_marks;

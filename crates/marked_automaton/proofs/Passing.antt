@@ -1,5 +1,5 @@
 -- What a list of lists, and what passes a test, has.
-use Rattle.std.proofs.Common.{◌≡◌, ◌⊎◌, Bool, true, false, List, [], ◌∷◌, ◌++◌, inl, inr, refl, sym, ap, subst, ◌∙◌}
+use Rattle.std.proofs.Common.{◌≡◌, Bool, true, false, List, [], ◌∷◌, inl, inr, refl, sym, ap, subst, ◌∙◌}
 use Rattle.std.specs.Prelude.{◌&&◌, ◌||◌, cond}
 use Rattle.std.specs.List.{filter, flat_map}
 use Rattle.spanner_model.specs.Lists.{Has}

@@ -71,6 +71,10 @@ with_way y A = record { states = A.states; starts = A.starts; ways = A.ways ++ y
 abbrev pub with_stop : Stop → Automaton → Automaton
 with_stop x A = record { states = A.states; starts = A.starts; ways = A.ways; stops = A.stops ++ x ∷ []; idle = A.idle }
 
+-- with so many states more
+abbrev pub with_states : ℕ → Automaton → Automaton
+with_states more A = record { states = A.states + more; starts = A.starts; ways = A.ways; stops = A.stops; idle = A.idle }
+
 -- so many states, and these ways
 abbrev pub with_ways : ℕ → List Way → Automaton
 with_ways n ways = record { states = n; starts = []; ways = ways; stops = []; idle = [] }

@@ -1,18 +1,19 @@
 //! Automata.
-ghost use Rattle.std.specs.Prelude.{◌≡◌, ℕ, ◌+◌, ◌<◌, ◌≤◌, ◌↔◌, ◌⊎◌, IsTrue, IfOk, IfErr, OnOk, OnErr, List, length, map, Some, All};
+ghost use Rattle.std.specs.Prelude.{◌≡◌, ℕ, ◌+◌, ◌<◌, ◌≤◌, ◌↔◌, ◌⊎◌, IsTrue, IsOk, IfOk, IfErr, OnOk, OnErr, List, length, map, Some, All};
 ghost use Rattle.std.specs.Option.{ForSome};
 ghost use Rattle.std.specs.FinSet as set;
 ghost use Rattle.span_core.specs.Block.{block};
 ghost use Rattle.span_core.specs.declared.span.Span.{Span};
 ghost use Rattle.spanner_model.specs.Lists.{Has};
 ghost use Rattle.marked_automaton.specs.declared.TheConstants.{MOST_STATES, MOST_WAYS};
-ghost use Rattle.marked_automaton.specs.Automaton.{Accepts, HasGraphOf, IsBlockOf, IsMarked, TakesNoMarks, bare, idle_way, plain_stop, reversed, turned_way, with_start, with_stop, with_way, with_ways, IsWayOf, AreGrouped};
+ghost use Rattle.marked_automaton.specs.Automaton.{Accepts, HasGraphOf, IsBlockOf, IsMarked, TakesNoMarks, bare, idle_way, plain_stop, reversed, turned_way, with_start, with_states, with_stop, with_way, with_ways, IsWayOf, AreGrouped};
 ghost use Rattle.marked_automaton.specs.Faults.{IsSizeFaultOf};
 ghost use Rattle.marked_automaton.specs.Marks.{left_of, remarked};
 ghost use Rattle.marked_automaton.specs.Reduct.{IsUseful, Rearranges, Reduces};
 
 use crate::accepting::{accepting, some_good};
 use crate::eraser::Eraser;
+use crate::grouping::{are_grouped, stay_grouped};
 use crate::trimming::{Numbers, end_states, flags_of_kept, states_between};
 use crate::{MOST_STATES, MOST_WAYS, SizeFault, Stop, Way};
 use span_core::{Marks, OutOfMemory, Row, VarSet};
@@ -37,11 +38,13 @@ pub struct Automaton {
     stops: Vec<Stop>,
     /// For each state whether it is idle.
     idle: Vec<bool>,
+    /// Whether the ways stand in the order of the states that they lead from.
+    grouped: bool,
 }
 
 impl Model for Automaton {
-    ghost use Rattle.std.specs.Prelude.{◌≡◌, length};
-    ghost use Rattle.marked_automaton.specs.Automaton.{Marked, IsMarked};
+    ghost use Rattle.std.specs.Prelude.{◌≡◌, ◌↔◌, IsTrue, length};
+    ghost use Rattle.marked_automaton.specs.Automaton.{AreGrouped, Marked, IsMarked};
     ghost use Rattle.marked_automaton.specs.Inside.{graph_of};
 
     ghost Value = { Marked };
@@ -52,7 +55,7 @@ impl Model for Automaton {
 
     ghost view = { λ a. record { names = a.vars; graph = graph_of a.states a.starts.items a.ways.items a.stops.items a.idle.items } };
 
-    ghost invariant = { λ a. IsMarked (record { names = a.vars; graph = graph_of a.states a.starts.items a.ways.items a.stops.items a.idle.items }) × (length a.idle.items ≡ a.states) };
+    ghost invariant = { λ a. IsMarked (record { names = a.vars; graph = graph_of a.states a.starts.items a.ways.items a.stops.items a.idle.items }) × (length a.idle.items ≡ a.states) × (IsTrue a.grouped ↔ AreGrouped a.ways.items) };
 }
 
 impl Automaton {
@@ -76,6 +79,7 @@ impl Automaton {
             ways: Vec::new(alloc),
             stops: Vec::new(alloc),
             idle,
+            grouped: true,
         })
     }
 
@@ -98,6 +102,7 @@ impl Automaton {
             });
         }
         let mut automaton = Automaton::new(alloc, vars, states)?;
+        automaton.grouped = are_grouped(ways.as_slice());
         automaton.ways = ways;
         Ok(automaton)
     }
@@ -111,6 +116,34 @@ impl Automaton {
         ensures grouped { AreGrouped self.new.graph.ways }
     {
         self.ways.sort_unstable_by_key(|way| way.from);
+        self.grouped = true;
+    }
+
+    /// Whether the ways stand in the order of the states that they lead from. The automaton keeps count
+    /// of it, so that this takes one step.
+    pub fn is_grouped(&self) -> bool
+        ensures { IsTrue result ↔ AreGrouped self.now.graph.ways }
+    {
+        self.grouped
+    }
+
+    /// Adds so many states, which nothing leads to or from. On refusal nothing is added.
+    /// `SizeFault::States` comes exactly where there would be more than `MOST_STATES`, and tells that
+    /// number; `SizeFault::Ways` never comes.
+    pub fn add_states(&mut self, more: u32) -> Result<(), SizeFault>
+        ensures names { self.new.names ≡ self.old.names }
+        ensures ok { OnOk result (self.new.graph ≡ with_states more self.old.graph) }
+        ensures few { OnOk result (self.old.graph.states + more ≤ MOST_STATES) }
+        ensures err { OnErr result (self.new.graph ≡ self.old.graph) }
+        ensures fault { IfErr result (λ e. IsSizeFaultOf (self.old.graph.states + more) 0 e) }
+    {
+        let count = u64::from(self.states) + u64::from(more);
+        if count > u64::from(MOST_STATES) {
+            return Err(SizeFault::States { count });
+        }
+        self.idle.resize(count as usize, false)?;
+        self.states += more;
+        Ok(())
     }
 
     /// Adds a start. On refusal nothing is added.
@@ -142,7 +175,9 @@ impl Automaton {
                 count: self.ways.len() as u64 + 1,
             });
         }
+        let grouped = stay_grouped(self.grouped, self.ways.as_slice(), &way);
         self.ways.push(way)?;
+        self.grouped = grouped;
         Ok(())
     }
 
@@ -158,7 +193,7 @@ impl Automaton {
         Ok(())
     }
 
-    /// Makes a state idle, which has its way to itself already. On refusal nothing changes.
+    /// Makes a state idle, which has its way to itself already. It always succeeds.
     pub fn set_idle(&mut self, state: u32) -> Result<(), OutOfMemory>
         requires state { state < self.old.graph.states }
         requires way { Has self.old.graph.ways (idle_way state) }
@@ -166,6 +201,7 @@ impl Automaton {
         ensures graph { HasGraphOf self.new.graph self.old.graph }
         ensures ok { OnOk result ((p : ℕ) → Has self.new.graph.idle p ↔ (Has self.old.graph.idle p ⊎ (p ≡ state))) }
         ensures err { OnErr result (self.new.graph ≡ self.old.graph) }
+        ensures succeeds { IsOk result }
     {
         self.idle[state as usize] = true;
         Ok(())
@@ -247,6 +283,7 @@ impl Automaton {
             ways,
             stops,
             idle,
+            grouped: _,
         } = self;
         let useful = states_between(
             alloc,
@@ -256,13 +293,16 @@ impl Automaton {
             stops.as_slice(),
         )?;
         let kept = Numbers::new(alloc, useful.as_slice())?;
+        let ways = kept.ways(alloc, ways.as_slice())?;
+        let grouped = are_grouped(ways.as_slice());
         Ok(Automaton {
             vars,
             states: kept.count,
             starts: kept.states(alloc, starts.as_slice())?,
-            ways: kept.ways(alloc, ways.as_slice())?,
+            ways,
             stops: kept.stops(alloc, stops.as_slice())?,
             idle: flags_of_kept(alloc, useful.as_slice(), idle.as_slice())?,
+            grouped,
         })
     }
 
@@ -280,6 +320,7 @@ impl Automaton {
             ways: eraser.ways(alloc, self.ways.as_slice())?,
             stops: eraser.stops(alloc, self.stops.as_slice())?,
             idle: copy_of(alloc, self.idle.as_slice())?,
+            grouped: self.grouped,
         })
     }
 
@@ -294,6 +335,7 @@ impl Automaton {
             ways: copy_of(alloc, self.ways.as_slice())?,
             stops: copy_of(alloc, self.stops.as_slice())?,
             idle: copy_of(alloc, self.idle.as_slice())?,
+            grouped: self.grouped,
         })
     }
 
@@ -306,13 +348,16 @@ impl Automaton {
     {
         let mut idle = Vec::new(alloc);
         idle.resize(self.states as usize, false)?;
+        let ways = turned_ways(alloc, self.ways.as_slice())?;
+        let grouped = are_grouped(ways.as_slice());
         Ok(Automaton {
             vars: self.vars.copy(),
             states: self.states,
             starts: end_states(alloc, self.stops.as_slice())?,
-            ways: turned_ways(alloc, self.ways.as_slice())?,
+            ways,
             stops: turned_starts(alloc, self.starts.as_slice())?,
             idle,
+            grouped,
         })
     }
 }

@@ -9,6 +9,7 @@ mod accepting;
 mod automaton;
 mod eraser;
 mod fault;
+mod grouping;
 pub mod laws;
 mod reach;
 #[cfg(test)]

@@ -151,10 +151,57 @@ fn copies_and_groups(rt: HostRuntime) -> Result<(), SizeFault> {
 }
 
 #[test]
+fn tells_whether_ways_are_grouped(rt: HostRuntime) -> Result<(), SizeFault> {
+    let mut automaton = example(rt.alloc())?;
+    assert!(rt; automaton.is_grouped());
+    add(&mut automaton, 0, Marks::none(), b'd', 1)?;
+    assert!(rt; !automaton.is_grouped());
+    add(&mut automaton, 3, Marks::none(), b'e', 3)?;
+    assert!(rt; !automaton.is_grouped());
+    assert!(rt; !automaton.copy(rt.alloc())?.is_grouped());
+    automaton.group_ways();
+    assert!(rt; automaton.is_grouped());
+    assert!(rt; automaton.copy(rt.alloc())?.is_grouped());
+    assert!(rt; automaton.trim(rt.alloc())?.is_grouped());
+    Ok(())
+}
+
+#[test]
 fn too_many_states(rt: HostRuntime) -> Result<(), SizeFault> {
     let most = Automaton::new(rt.alloc(), VarSet::empty(), MOST_STATES)?;
     assert_eq!(rt; most.states(), 20_000);
     let refused = Automaton::new(rt.alloc(), VarSet::empty(), 20_001);
     assert_eq!(rt; refused.err(), Some(SizeFault::States { count: 20_001 }));
+    Ok(())
+}
+
+#[test]
+fn added_states_are_of_use(rt: HostRuntime) -> Result<(), SizeFault> {
+    let mut automaton = Automaton::new(rt.alloc(), VarSet::empty(), 1)?;
+    automaton.add_states(2)?;
+    assert_eq!(rt; automaton.states(), 3);
+    assert!(rt; add(&mut automaton, 1, Marks::none(), b'a', 2)?);
+    assert!(rt; bound(&mut automaton, 1, 2, Marks::none())?);
+    assert!(rt; accepts(&automaton, rt.alloc(), b"a")?);
+    assert!(rt; !accepts(&automaton, rt.alloc(), b"")?);
+    Ok(())
+}
+
+#[test]
+fn states_are_added_up_to_the_limit(rt: HostRuntime) -> Result<(), SizeFault> {
+    let mut automaton = example(rt.alloc())?;
+    automaton.add_states(MOST_STATES - 4)?;
+    assert_eq!(rt; automaton.states(), 20_000);
+    let refused = automaton.add_states(1);
+    assert_eq!(rt; refused.err(), Some(SizeFault::States { count: 20_001 }));
+    let refused = automaton.add_states(u32::MAX);
+    assert_eq!(rt;
+        refused.err(),
+        Some(SizeFault::States {
+            count: 4_294_987_295
+        })
+    );
+    assert_eq!(rt; automaton.states(), 20_000);
+    assert!(rt; accepts(&automaton, rt.alloc(), b"ab")?);
     Ok(())
 }

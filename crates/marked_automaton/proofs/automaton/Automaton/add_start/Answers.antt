@@ -11,4 +11,5 @@ invariant_of-self-2 c =
       subst (λ xs. IsMarked (record { names = a.vars; graph = graph_of a.states xs a.ways.items a.stops.items a.idle.items }))
           (sym c.in_ok-push.ensures.items) (start_is_marked _ c.self.invariant.0 c.args.state here),
       c.self.invariant.1,
+      c.self.invariant.2,
     )

@@ -12,4 +12,5 @@ invariant_of-self-2 c =
       subst (λ xs. IsMarked (record { names = a.vars; graph = graph_of a.states a.starts.items a.ways.items xs a.idle.items }))
           (sym c.in_ok-push.ensures.items) (stop_is_marked _ c.self.invariant.0 c.args.stop here marks),
       c.self.invariant.1,
+      c.self.invariant.2,
     )

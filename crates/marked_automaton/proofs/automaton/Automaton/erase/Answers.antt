@@ -1,7 +1,9 @@
 use Rattle.std.proofs.Common.{ℕ, List, length, refl, sym, ap, subst, ◌∙◌}
 use Rattle.marked_automaton.specs.Automaton.{Automaton, Marked, IsMarked}
 use Rattle.marked_automaton.specs.Inside.{graph_of}
-use Rattle.marked_automaton.specs.Marks.{left_of, remarked}
+use Rattle.marked_automaton.specs.Marks.{left_of, remarked, remarked_way}
+use Rattle.marked_automaton.specs.Erased.{picked}
+use Rattle.marked_automaton.proofs.Grouped.{grouped_as_before}
 use Rattle.marked_automaton.proofs.Erased.{erased_graph, erased_marked}
 use Rattle.marked_automaton.proofs.automaton.Automaton.erase.Goals as goal
 
@@ -18,6 +20,8 @@ invariant_of-result c =
           (subst (λ (G : Automaton). IsMarked (record { names = c.args.keep.now; graph = G })) (sym made)
           (erased_marked a.vars c.args.keep.now e.places.items known.ascending known.places B c.self.invariant.0)),
       ap length (c.in_ok-copy_of-2.ensures ∙ c.as_slice-4.ensures.value) ∙ c.self.invariant.1,
+      grouped_as_before a.grouped (remarked_way (picked e.all e.places.items)) (λ y. refl) a.ways.items c.as_slice-2.result.now c.in_ok-ways.field-0.items
+          c.as_slice-2.ensures.value c.in_ok-ways.ensures c.self.invariant.2,
     )
 
 pub returns-clause-graph : goal.returns-clause-graph

@@ -1,4 +1,4 @@
-use Rattle.std.proofs.Common.{subst, rules}
+use Rattle.std.proofs.Common.{refl, subst, rules}
 use Rattle.std.proofs.lemmas.List.Sorted.{IsNonDecreasingBy-from_sort_by_key}
 use Rattle.marked_automaton.specs.declared.way.Way.{Way}
 use Rattle.marked_automaton.specs.Automaton.{Marked}
@@ -17,6 +17,7 @@ invariant_of-self c =
       rearranged_is_marked _ c.self.invariant.0 ways
           (permutation_len a.ways.items ways c.sort_unstable_by_key.ensures.permutation) (has_placed a.ways.items ways p.0 p.1) (placed_has a.ways.items ways p.0 p.1),
       c.self.invariant.1,
+      ((λ t. risen (λ (y : Way). y.from) ways (IsNonDecreasingBy-from_sort_by_key (λ (y : Way). y.from) _ c.sort_unstable_by_key.ensures.sorted (λ a r q k. search rules))), (λ g. refl)),
     )
 
 pub returns-clause-rearranges : goal.returns-clause-rearranges

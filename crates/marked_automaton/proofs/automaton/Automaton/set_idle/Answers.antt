@@ -19,6 +19,7 @@ invariant_of-self c =
             | inr e ↦ (omega (arith, here, e), subst (λ p. Has a.ways.items (idle_way p)) (sym e) way)
           ]),
       length-set a.idle.items c.args.state true ∙ c.self.invariant.1,
+      c.self.invariant.2,
     )
 
 pub returns-clause-ok : goal.returns-clause-ok

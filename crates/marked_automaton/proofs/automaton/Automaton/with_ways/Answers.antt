@@ -1,6 +1,7 @@
-use Rattle.std.proofs.Common.{◌≡◌, ◌≤◌, length, arith, sym, ap, subst, ◌∙◌}
+use Rattle.std.proofs.Common.{◌≡◌, ◌≤◌, ◌↔◌, IsTrue, List, length, arith, sym, ap, subst, ◌∙◌}
 use Rattle.marked_automaton.specs.declared.TheConstants.{MOST_WAYS}
-use Rattle.marked_automaton.specs.Automaton.{Marked, IsMarked, IsWayOf}
+use Rattle.marked_automaton.specs.declared.way.Way.{Way}
+use Rattle.marked_automaton.specs.Automaton.{AreGrouped, Marked, IsMarked, IsWayOf}
 use Rattle.marked_automaton.specs.Inside.{graph_of}
 use Rattle.marked_automaton.proofs.Parts.{ways_are_marked, with_ways_graph, each_way}
 use Rattle.marked_automaton.proofs.automaton.Automaton.with_ways.Goals.{else-len-gt-MOST_WAYS-via-then-len-gt-MOST_WAYS+else-states-le-MOST_STATES, else-len-gt-MOST_WAYS-via-else-len-gt-MOST_WAYS}
@@ -23,4 +24,5 @@ invariant_of-automaton c =
           (ways_are_marked c.args.vars c.args.states c.args.ways.items few few_ways
           (each_way (IsWayOf c.args.states (length c.args.vars)) c.args.ways.items c.requires))),
       c.automaton.invariant.1,
+      subst (λ (xs : List Way). IsTrue c.are_grouped.result ↔ AreGrouped xs) c.as_slice.ensures.value c.are_grouped.ensures,
     )
