@@ -7,7 +7,7 @@ ghost use Rattle.spanner_engine.specs.Parts.{HasLargePartOf};
 ghost use Rattle.spanner_engine.specs.QueryAutomaton.{of_lets};
 
 use crate::shared::Shared;
-use algebra::{join, project, union};
+use algebra::{join, project, unite};
 use marked_automaton::{MOST_STATES, SizeFault};
 use place_automaton::of_atom;
 use span_core::MOST_VARIABLES;
@@ -55,7 +55,7 @@ pub fn expr_automaton(
     }
 }
 
-/// The automaton of a union, its parts taken from left to right.
+/// The automaton of a union, its parts put behind each other from left to right.
 #[cycle(compiling)]
 fn union_automaton(
     alloc: Global,
@@ -80,7 +80,7 @@ fn union_automaton(
         let part = part.as_automaton();
         prove!(all.states() <= MOST_STATES);
         prove!(part.states() <= MOST_STATES);
-        all = match union(alloc, &all, part) {
+        all = match unite(all, part) {
             Ok(both) => both,
             Err(fault) => return Err(fault),
         };

@@ -250,8 +250,8 @@ join_automaton-returns-clause-made t c =
     join_done q c.args.lets.now c.requires.known c.requires.asked.sound es c.requires.asked two c.loop-k.all c.loop-k.k e c.loop-k.invariant.1
 
 -- what a step of the loop is given
-pub union_automaton-union-requires : goal.union_automaton-union-requires
-union_automaton-union-requires t c =
+pub union_automaton-unite-requires : goal.union_automaton-unite-requires
+union_automaton-unite-requires t c =
     let q = query_of c.args.query.now in
     let es = exprs_of c.args.parts.now in
     let two = union_two (vars_of_lets q.lets (length c.args.lets.now)) (length c.args.lets.now) es c.requires.asked.sound_expr in
@@ -259,15 +259,15 @@ union_automaton-union-requires t c =
     union_names q c.args.lets.now c.requires.known c.requires.asked.sound es c.requires.asked two c.loop-k.k c.loop-k.invariant.0 (expr_of c.at-in-loop-k.result.now) c.at-in-loop-k.ensures
     c.loop-k.all c.as_automaton-part.result.now c.loop-k.invariant.1 made c.states.ensures.marked c.states-in-loop-k.ensures.marked
 
-pub union_automaton-returns-in-Err-union-clause-fault : goal.union_automaton-returns-in-Err-union-clause-fault
-union_automaton-returns-in-Err-union-clause-fault t c =
+pub union_automaton-returns-in-Err-unite-clause-fault : goal.union_automaton-returns-in-Err-unite-clause-fault
+union_automaton-returns-in-Err-unite-clause-fault t c =
     let q = query_of c.args.query.now in
     let es = exprs_of c.args.parts.now in
     let two = union_two (vars_of_lets q.lets (length c.args.lets.now)) (length c.args.lets.now) es c.requires.asked.sound_expr in
     let made = subst (λ (a : Marked). IsCompiledFrom q (length c.args.lets.now) (expr_of c.at-in-loop-k.result.now) a) (sym c.as_automaton-part.ensures) c.in-Ok-expr_automaton.ensures.made in
     union_fault q c.args.lets.now c.requires.known c.requires.asked.sound es c.requires.asked two c.loop-k.k c.loop-k.invariant.0 (expr_of c.at-in-loop-k.result.now) c.at-in-loop-k.ensures
     c.loop-k.all c.as_automaton-part.result.now c.loop-k.invariant.1 made c.states.ensures.marked c.states-in-loop-k.ensures.marked
-    c.in-Err-union.fault c.in-Err-union.ensures.fault
+    c.in-Err-unite.fault c.in-Err-unite.ensures.fault
 
 pub union_automaton-loop-k-preserved : goal.union_automaton-loop-k-preserved
 union_automaton-loop-k-preserved t c =
@@ -278,7 +278,7 @@ union_automaton-loop-k-preserved t c =
       omega arith,
       union_next q c.args.lets.now c.requires.known c.requires.asked.sound es c.requires.asked two c.loop-k.k c.loop-k.invariant.0 (expr_of c.at-in-loop-k.result.now) c.at-in-loop-k.ensures
           c.loop-k.all c.as_automaton-part.result.now c.loop-k.invariant.1 made c.states.ensures.marked c.states-in-loop-k.ensures.marked
-          c.in-Ok-union.both c.in-Ok-union.ensures.names c.in-Ok-union.ensures.reduct,
+          c.in-Ok-unite.both c.in-Ok-unite.ensures.names c.in-Ok-unite.ensures.reduct,
     )
 
 pub join_automaton-join-requires : goal.join_automaton-join-requires
