@@ -26,7 +26,8 @@ pub struct Compiled<'q> {
 /// The automaton of a sound query.
 ///
 /// It compiles every `let`, used or not, and then the body, parts from left to right, and leaves out what
-/// leads to no end. `States` and `Ways` come only where the automaton of some part of the query, with
+/// leads to no end. A `let`'s automaton is shared by the expressions that name it, and let go after the
+/// last of them. `States` and `Ways` come only where the automaton of some part of the query, with
 /// nothing left out, has more states than `MOST_STATES`, or more ways than `MOST_WAYS`: the count that
 /// they tell is more than that, and no more than the part's number. An atom that is too large is always
 /// refused. The automaton accepts the word of a row exactly where the row is an answer, and no other word.
