@@ -2,7 +2,7 @@ use Rattle.std.proofs.Common.{◌≡◌, ◌<◌, List, length, Some, None, IfOk
 use Rattle.std.proofs.lemmas.Option.{slice_get-get_or, get_or_from_slice_get}
 use Rattle.spanner_model.specs.Captures.{VarName}
 use Rattle.spanner_model.specs.View.{tree_of}
-use Rattle.spanner_model.specs.Expression.{ExprTree, project, union_all}
+use Rattle.spanner_model.specs.Expression.{ExprTree, project, union_all, join_all}
 use Rattle.spanner_model.specs.ExprView.{expr_of, exprs_of, query_of}
 use Rattle.spanner_model.specs.Answer.{vars_of_lets}
 use Rattle.spanner_model.proofs.HasLaws.{Has-slice_get}
@@ -19,7 +19,7 @@ use Rattle.algebra.specs.Operations.{join_of}
 use Rattle.spanner_engine.specs.Compiling.{IsAsked, IsCompiledFrom, kept_at}
 use Rattle.spanner_engine.specs.Parts.{HasLargePartOf}
 use Rattle.spanner_engine.specs.QueryAutomaton.{of_lets}
-use Rattle.spanner_engine.proofs.CompileLaws.{asked_united, asked_joined, asked_sub, union_first, union_names, union_next, union_fault, union_done, union_part_fault, join_first, join_few, join_next, join_fault, join_done, join_part_fault, join_at, JoinSoFar}
+use Rattle.spanner_engine.proofs.CompileLaws.{asked_united, asked_joined, asked_sub, union_first, union_names, union_next, union_fault, union_done, union_part_fault, join_first, join_few, join_next, join_fault, join_done, join_part_fault, join_at, SoFar}
 use Rattle.spanner_engine.proofs.PieceLaws.{atom_made, atom_small, atom_fault, atom_few, kept_there, projected}
 use Rattle.spanner_engine.proofs.expressions.+compiling.Goals as goal
 
@@ -159,17 +159,15 @@ pub union_automaton-returns-in-Err-clause-fault : goal.union_automaton-returns-i
 union_automaton-returns-in-Err-clause-fault t c =
     let q = query_of c.args.query.now in
     let es = exprs_of c.args.parts.now in
-    let two = union_two (vars_of_lets q.lets (length c.args.lets.now)) (length c.args.lets.now) es c.requires.asked.sound_expr in
     let g = expr_of c.at.result.now in
-    union_part_fault q c.args.lets.now c.requires.known c.requires.asked.sound es c.requires.asked two g (Has-slice_get es 0 g c.at.ensures) c.in-Err.fault c.in-Err.ensures.fault
+    union_part_fault q c.args.lets.now c.requires.known es c.requires.asked g (Has-slice_get es 0 g c.at.ensures) c.in-Err.fault c.in-Err.ensures.fault
 
 pub union_automaton-loop-k-init : goal.union_automaton-loop-k-init
 union_automaton-loop-k-init t c =
     let q = query_of c.args.query.now in
     let es = exprs_of c.args.parts.now in
-    let two = union_two (vars_of_lets q.lets (length c.args.lets.now)) (length c.args.lets.now) es c.requires.asked.sound_expr in
     let made = subst (λ (a : Marked). IsCompiledFrom q (length c.args.lets.now) (expr_of c.at.result.now) a) (sym c.in_ok-all-in-Ok.ensures) c.in-Ok.ensures.made in
-    (omega arith, union_first q c.args.lets.now c.requires.known c.requires.asked.sound es c.requires.asked two (expr_of c.at.result.now) c.in_ok-all-in-Ok.all c.at.ensures made)
+    (omega arith, union_first q c.args.lets.now c.requires.known es c.requires.asked (expr_of c.at.result.now) c.in_ok-all-in-Ok.all c.at.ensures made)
 
 pub union_automaton-expr_automaton-requires-in-loop-k : goal.union_automaton-expr_automaton-requires-in-loop-k
 union_automaton-expr_automaton-requires-in-loop-k t c =
@@ -182,9 +180,8 @@ pub union_automaton-returns-in-Err-expr_automaton-clause-fault : goal.union_auto
 union_automaton-returns-in-Err-expr_automaton-clause-fault t c =
     let q = query_of c.args.query.now in
     let es = exprs_of c.args.parts.now in
-    let two = union_two (vars_of_lets q.lets (length c.args.lets.now)) (length c.args.lets.now) es c.requires.asked.sound_expr in
     let g = expr_of c.at-in-loop-k.result.now in
-    union_part_fault q c.args.lets.now c.requires.known c.requires.asked.sound es c.requires.asked two g (Has-slice_get es c.loop-k.k g c.at-in-loop-k.ensures)
+    union_part_fault q c.args.lets.now c.requires.known es c.requires.asked g (Has-slice_get es c.loop-k.k g c.at-in-loop-k.ensures)
     c.in-Err-expr_automaton.fault c.in-Err-expr_automaton.ensures.fault
 
 pub union_automaton-returns-clause-made : goal.union_automaton-returns-clause-made
@@ -194,7 +191,7 @@ union_automaton-returns-clause-made t c =
     let two = union_two (vars_of_lets q.lets (length c.args.lets.now)) (length c.args.lets.now) es c.requires.asked.sound_expr in
     let e : c.loop-k.k ≡ length es = omega (arith, two) in
     subst (λ (a : Marked). IsCompiledFrom q (length c.args.lets.now) (union_all es) a) (sym c.in_ok-new.ensures)
-    (union_done q c.args.lets.now c.requires.known c.requires.asked.sound es c.requires.asked two c.loop-k.all c.loop-k.k e c.loop-k.invariant.1)
+    (union_done q c.args.lets.now c.requires.known es c.requires.asked c.loop-k.all c.loop-k.k e c.loop-k.invariant.1)
 
 -- ---- joins
 
@@ -214,16 +211,14 @@ pub join_automaton-returns-in-Err-clause-fault : goal.join_automaton-returns-in-
 join_automaton-returns-in-Err-clause-fault t c =
     let q = query_of c.args.query.now in
     let es = exprs_of c.args.parts.now in
-    let two = join_two (vars_of_lets q.lets (length c.args.lets.now)) (length c.args.lets.now) es c.requires.asked.sound_expr in
     let g = expr_of c.at.result.now in
-    join_part_fault q c.args.lets.now c.requires.known c.requires.asked.sound es c.requires.asked two g (Has-slice_get es 0 g c.at.ensures) c.in-Err.fault c.in-Err.ensures.fault
+    join_part_fault q c.args.lets.now c.requires.known es c.requires.asked g (Has-slice_get es 0 g c.at.ensures) c.in-Err.fault c.in-Err.ensures.fault
 
 pub join_automaton-loop-k-init : goal.join_automaton-loop-k-init
 join_automaton-loop-k-init t c =
     let q = query_of c.args.query.now in
     let es = exprs_of c.args.parts.now in
-    let two = join_two (vars_of_lets q.lets (length c.args.lets.now)) (length c.args.lets.now) es c.requires.asked.sound_expr in
-    (omega arith, join_first q c.args.lets.now c.requires.known c.requires.asked.sound es c.requires.asked two (expr_of c.at.result.now) c.in-Ok.first c.at.ensures c.in-Ok.ensures.made)
+    (omega arith, join_first q c.args.lets.now c.requires.known es c.requires.asked (expr_of c.at.result.now) c.in-Ok.first c.at.ensures c.in-Ok.ensures.made)
 
 pub join_automaton-expr_automaton-requires-in-loop-k : goal.join_automaton-expr_automaton-requires-in-loop-k
 join_automaton-expr_automaton-requires-in-loop-k t c =
@@ -236,9 +231,8 @@ pub join_automaton-returns-in-Err-expr_automaton-clause-fault : goal.join_automa
 join_automaton-returns-in-Err-expr_automaton-clause-fault t c =
     let q = query_of c.args.query.now in
     let es = exprs_of c.args.parts.now in
-    let two = join_two (vars_of_lets q.lets (length c.args.lets.now)) (length c.args.lets.now) es c.requires.asked.sound_expr in
     let g = expr_of c.at-in-loop-k.result.now in
-    join_part_fault q c.args.lets.now c.requires.known c.requires.asked.sound es c.requires.asked two g (Has-slice_get es c.loop-k.k g c.at-in-loop-k.ensures)
+    join_part_fault q c.args.lets.now c.requires.known es c.requires.asked g (Has-slice_get es c.loop-k.k g c.at-in-loop-k.ensures)
     c.in-Err-expr_automaton.fault c.in-Err-expr_automaton.ensures.fault
 
 pub join_automaton-returns-clause-made : goal.join_automaton-returns-clause-made
@@ -247,25 +241,23 @@ join_automaton-returns-clause-made t c =
     let es = exprs_of c.args.parts.now in
     let two = join_two (vars_of_lets q.lets (length c.args.lets.now)) (length c.args.lets.now) es c.requires.asked.sound_expr in
     let e : c.loop-k.k ≡ length es = omega (arith, two) in
-    join_done q c.args.lets.now c.requires.known c.requires.asked.sound es c.requires.asked two c.loop-k.all c.loop-k.k e c.loop-k.invariant.1
+    join_done q c.args.lets.now c.requires.known es c.requires.asked c.loop-k.all c.loop-k.k e c.loop-k.invariant.1
 
 -- what a step of the loop is given
 pub union_automaton-unite-requires : goal.union_automaton-unite-requires
 union_automaton-unite-requires t c =
     let q = query_of c.args.query.now in
     let es = exprs_of c.args.parts.now in
-    let two = union_two (vars_of_lets q.lets (length c.args.lets.now)) (length c.args.lets.now) es c.requires.asked.sound_expr in
     let made = subst (λ (a : Marked). IsCompiledFrom q (length c.args.lets.now) (expr_of c.at-in-loop-k.result.now) a) (sym c.as_automaton-part.ensures) c.in-Ok-expr_automaton.ensures.made in
-    union_names q c.args.lets.now c.requires.known c.requires.asked.sound es c.requires.asked two c.loop-k.k c.loop-k.invariant.0 (expr_of c.at-in-loop-k.result.now) c.at-in-loop-k.ensures
+    union_names q c.args.lets.now c.requires.known es c.requires.asked c.loop-k.k c.loop-k.invariant.0 (expr_of c.at-in-loop-k.result.now) c.at-in-loop-k.ensures
     c.loop-k.all c.as_automaton-part.result.now c.loop-k.invariant.1 made c.states.ensures.marked c.states-in-loop-k.ensures.marked
 
 pub union_automaton-returns-in-Err-unite-clause-fault : goal.union_automaton-returns-in-Err-unite-clause-fault
 union_automaton-returns-in-Err-unite-clause-fault t c =
     let q = query_of c.args.query.now in
     let es = exprs_of c.args.parts.now in
-    let two = union_two (vars_of_lets q.lets (length c.args.lets.now)) (length c.args.lets.now) es c.requires.asked.sound_expr in
     let made = subst (λ (a : Marked). IsCompiledFrom q (length c.args.lets.now) (expr_of c.at-in-loop-k.result.now) a) (sym c.as_automaton-part.ensures) c.in-Ok-expr_automaton.ensures.made in
-    union_fault q c.args.lets.now c.requires.known c.requires.asked.sound es c.requires.asked two c.loop-k.k c.loop-k.invariant.0 (expr_of c.at-in-loop-k.result.now) c.at-in-loop-k.ensures
+    union_fault q c.args.lets.now c.requires.known es c.requires.asked c.loop-k.k c.loop-k.invariant.0 (expr_of c.at-in-loop-k.result.now) c.at-in-loop-k.ensures
     c.loop-k.all c.as_automaton-part.result.now c.loop-k.invariant.1 made c.states.ensures.marked c.states-in-loop-k.ensures.marked
     c.in-Err-unite.fault c.in-Err-unite.ensures.fault
 
@@ -273,10 +265,9 @@ pub union_automaton-loop-k-preserved : goal.union_automaton-loop-k-preserved
 union_automaton-loop-k-preserved t c =
     let q = query_of c.args.query.now in
     let es = exprs_of c.args.parts.now in
-    let two = union_two (vars_of_lets q.lets (length c.args.lets.now)) (length c.args.lets.now) es c.requires.asked.sound_expr in
     let made = subst (λ (a : Marked). IsCompiledFrom q (length c.args.lets.now) (expr_of c.at-in-loop-k.result.now) a) (sym c.as_automaton-part.ensures) c.in-Ok-expr_automaton.ensures.made in (
       omega arith,
-      union_next q c.args.lets.now c.requires.known c.requires.asked.sound es c.requires.asked two c.loop-k.k c.loop-k.invariant.0 (expr_of c.at-in-loop-k.result.now) c.at-in-loop-k.ensures
+      union_next q c.args.lets.now c.requires.known es c.requires.asked c.loop-k.k c.loop-k.invariant.0 (expr_of c.at-in-loop-k.result.now) c.at-in-loop-k.ensures
           c.loop-k.all c.as_automaton-part.result.now c.loop-k.invariant.1 made c.states.ensures.marked c.states-in-loop-k.ensures.marked
           c.in-Ok-unite.both c.in-Ok-unite.ensures.names c.in-Ok-unite.ensures.reduct,
     )
@@ -285,20 +276,18 @@ pub join_automaton-join-requires : goal.join_automaton-join-requires
 join_automaton-join-requires t c =
     let q = query_of c.args.query.now in
     let es = exprs_of c.args.parts.now in
-    let two = join_two (vars_of_lets q.lets (length c.args.lets.now)) (length c.args.lets.now) es c.requires.asked.sound_expr in
-    let so_far = subst (λ (a : Marked). JoinSoFar (of_lets q.lets (length c.args.lets.now)) es c.loop-k.k a) (sym c.as_automaton-before.ensures) c.loop-k.invariant.1 in
+    let so_far = subst (λ (a : Marked). SoFar join_all (of_lets q.lets (length c.args.lets.now)) es c.loop-k.k a) (sym c.as_automaton-before.ensures) c.loop-k.invariant.1 in
     let made = subst (λ (a : Marked). IsCompiledFrom q (length c.args.lets.now) (expr_of c.at-in-loop-k.result.now) a) (sym c.as_automaton-part.ensures) c.in-Ok-expr_automaton.ensures.made in
-    join_few q c.args.lets.now c.requires.known c.requires.asked.sound es c.requires.asked two c.loop-k.k c.loop-k.invariant.0 (expr_of c.at-in-loop-k.result.now) c.at-in-loop-k.ensures
+    join_few q c.args.lets.now c.requires.known es c.requires.asked c.loop-k.k c.loop-k.invariant.0 (expr_of c.at-in-loop-k.result.now) c.at-in-loop-k.ensures
     c.as_automaton-before.result.now c.as_automaton-part.result.now so_far made c.states.ensures.marked c.states-in-loop-k.ensures.marked
 
 pub join_automaton-returns-in-Err-join-clause-fault : goal.join_automaton-returns-in-Err-join-clause-fault
 join_automaton-returns-in-Err-join-clause-fault t c =
     let q = query_of c.args.query.now in
     let es = exprs_of c.args.parts.now in
-    let two = join_two (vars_of_lets q.lets (length c.args.lets.now)) (length c.args.lets.now) es c.requires.asked.sound_expr in
-    let so_far = subst (λ (a : Marked). JoinSoFar (of_lets q.lets (length c.args.lets.now)) es c.loop-k.k a) (sym c.as_automaton-before.ensures) c.loop-k.invariant.1 in
+    let so_far = subst (λ (a : Marked). SoFar join_all (of_lets q.lets (length c.args.lets.now)) es c.loop-k.k a) (sym c.as_automaton-before.ensures) c.loop-k.invariant.1 in
     let made = subst (λ (a : Marked). IsCompiledFrom q (length c.args.lets.now) (expr_of c.at-in-loop-k.result.now) a) (sym c.as_automaton-part.ensures) c.in-Ok-expr_automaton.ensures.made in
-    join_fault q c.args.lets.now c.requires.known c.requires.asked.sound es c.requires.asked two c.loop-k.k c.loop-k.invariant.0 (expr_of c.at-in-loop-k.result.now) c.at-in-loop-k.ensures
+    join_fault q c.args.lets.now c.requires.known es c.requires.asked c.loop-k.k c.loop-k.invariant.0 (expr_of c.at-in-loop-k.result.now) c.at-in-loop-k.ensures
     c.as_automaton-before.result.now c.as_automaton-part.result.now so_far made c.states.ensures.marked c.states-in-loop-k.ensures.marked
     c.in-Err-join.fault c.in-Err-join.ensures.fault
 
@@ -306,8 +295,7 @@ pub join_automaton-loop-k-preserved : goal.join_automaton-loop-k-preserved
 join_automaton-loop-k-preserved t c =
     let q = query_of c.args.query.now in
     let es = exprs_of c.args.parts.now in
-    let two = join_two (vars_of_lets q.lets (length c.args.lets.now)) (length c.args.lets.now) es c.requires.asked.sound_expr in
-    let so_far = subst (λ (a : Marked). JoinSoFar (of_lets q.lets (length c.args.lets.now)) es c.loop-k.k a) (sym c.as_automaton-before.ensures) c.loop-k.invariant.1 in
+    let so_far = subst (λ (a : Marked). SoFar join_all (of_lets q.lets (length c.args.lets.now)) es c.loop-k.k a) (sym c.as_automaton-before.ensures) c.loop-k.invariant.1 in
     let made = subst (λ (a : Marked). IsCompiledFrom q (length c.args.lets.now) (expr_of c.at-in-loop-k.result.now) a) (sym c.as_automaton-part.ensures) c.in-Ok-expr_automaton.ensures.made in
     let j = c.in-Ok-join.pairs in
     let names = c.in-Ok-join.ensures.names in
@@ -318,7 +306,7 @@ join_automaton-loop-k-preserved t c =
     let reduct : Reduces j.graph (join_at ns ms a.graph p.graph) =
     subst (λ (xs : List VarName). Reduces j.graph (join_of (agree_on ns ms xs) (joined ns ms xs) a.graph p.graph)) names c.in-Ok-join.ensures.reduct in (
       omega arith,
-      join_next q c.args.lets.now c.requires.known c.requires.asked.sound es c.requires.asked two c.loop-k.k c.loop-k.invariant.0 (expr_of c.at-in-loop-k.result.now) c.at-in-loop-k.ensures
+      join_next q c.args.lets.now c.requires.known es c.requires.asked c.loop-k.k c.loop-k.invariant.0 (expr_of c.at-in-loop-k.result.now) c.at-in-loop-k.ensures
           c.as_automaton-before.result.now c.as_automaton-part.result.now so_far made c.states.ensures.marked c.states-in-loop-k.ensures.marked
           c.in_ok-all.all (ap (λ (m : Marked). m.names) c.in_ok-all.ensures ∙ (c.in_ok-useful.ensures.names ∙ names))
           (subst (λ (m : Marked). Reduces m.graph (join_at ns ms a.graph p.graph)) (sym c.in_ok-all.ensures)
