@@ -1,9 +1,9 @@
 -- What the search of a join makes is its reduct.
-use Rattle.std.proofs.Common.{◌≡◌, ℕ, ◌+◌, ◌*◌, ◌^◌, ◌<◌, ◌≤◌, ◌↔◌, Bool, true, false, ◌&&◌, List, [], ◌∷◌, ◌++◌, Option, Some, length, length-append, get_or, map, nat_eq, inl, inr, refl, sym, ap, subst, arith, ◌∙◌}
+use Rattle.std.proofs.Common.{◌≡◌, ℕ, zero, suc, ◌+◌, ◌*◌, ◌^◌, ◌<◌, ◌≤◌, ◌↔◌, Bool, true, false, ◌&&◌, List, [], ◌∷◌, ◌++◌, Option, Some, length, length-append, get_or, map, nat_eq, inl, inr, refl, sym, ap, subst, arith, ◌∙◌}
 use Rattle.std.specs.Prelude.{slice_get}
 use Rattle.std.specs.FinSet as set
 use Rattle.std.specs.List.{filter, flat_map}
-use Rattle.std.proofs.lemmas.Bool.{eq-eqb}
+use Rattle.std.proofs.lemmas.Bool.{cases_lt, eq-eqb}
 use Rattle.std.proofs.lemmas.Cmp.{nat_cmp_total}
 use Rattle.std.proofs.lemmas.List.{map-append, length-map}
 use Rattle.std.proofs.lemmas.List.Sorted.{length_permutation}
@@ -16,7 +16,7 @@ use Rattle.marked_automaton.specs.Automaton.{Automaton, ByteClass, IsMarked, IsW
 use Rattle.marked_automaton.specs.declared.fault.SizeFault.{SizeFault}
 use Rattle.marked_automaton.specs.declared.fault.SizeFault.TheVariants.{States, Ways, OutOfMemory}
 use Rattle.marked_automaton.specs.Faults.{IsSizeFaultWithin}
-use Rattle.marked_automaton.specs.Reduct.{Reduces}
+use Rattle.marked_automaton.specs.Reduct.{IsReached, Reduces}
 use Rattle.marked_automaton.proofs.Listed.{get_within, some_same}
 use Rattle.algebra.specs.declared.halves.HalfWay.{HalfWay}
 use Rattle.algebra.specs.declared.halves.HalfStop.{HalfStop}
@@ -344,6 +344,20 @@ module _ (A B : Marked) (a : IsMarked A) (b : IsMarked B) (all : List VarName) w
           (λ h. (is.idles i).1 (k, at, h.0, h.1)),
         );
       }
+
+      -- each state is that of a pair of starts, or a way leads to it from a state before it
+      pub reached : (p : ℕ) → p < C.states → IsReached C p
+      reached p l = below (suc p) p (omega arith) (omega (arith, l, is.states))
+        where
+          below : (b p : ℕ) → p < b → p < length keys → IsReached C p
+          below zero p l m = absurd (omega (arith, l))
+          below (suc b) p l m = elim (cases_lt p (length keys0)) [
+            | inl first ↦ (0, (is.starts p).1 first)
+            | inr later ↦
+                let y = followed.led p later m in
+                let r = below b y.0.from (omega (arith, l, y.3)) (omega (arith, m, y.3)) in
+                (suc r.0, (y.0, subst (λ (ws : List Way). Has ws y.0) (sym (is.ways ∙ followed.ways)) y.1, r.1, y.2))
+          ]
 
       pub join_reduces : Reduces C J
       join_reduces = subst (Reduces C) join_is

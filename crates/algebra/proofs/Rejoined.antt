@@ -1,5 +1,5 @@
 -- Joins of automata that reduce others.
-use Rattle.std.proofs.Common.{◌≡◌, ℕ, ◌*◌, Bool, true, List, length, map, refl, sym, ap, subst, ◌∙◌}
+use Rattle.std.proofs.Common.{◌≡◌, ℕ, ◌*◌, ◌<◌, Bool, true, List, length, map, refl, sym, ap, subst, ◌∙◌}
 use Rattle.std.specs.Prelude.{IfErr, IfOk}
 use Rattle.std.specs.List.{filter}
 use Rattle.std.specs.declared.result.Result.{Result}
@@ -12,7 +12,7 @@ use Rattle.marked_automaton.specs.declared.fault.SizeFault.{SizeFault}
 use Rattle.marked_automaton.specs.Automaton.{Automaton, IsMarked, Marked}
 use Rattle.marked_automaton.specs.Faults.{IsSizeFaultWithin}
 use Rattle.marked_automaton.specs.Laws.{WaysHaveBytes}
-use Rattle.marked_automaton.specs.Reduct.{Reduces}
+use Rattle.marked_automaton.specs.Reduct.{IsReached, Reduces}
 use Rattle.marked_automaton.proofs.Passing.{filter_cases, flat_map_cases, right_true}
 use Rattle.marked_automaton.proofs.Rearranged.{reduct_of_itself}
 use Rattle.marked_automaton.proofs.Reducts.{reduct_of_reduct}
@@ -28,9 +28,14 @@ use Rattle.algebra.proofs.Whole.{join_whole}
 
 -- what an automaton of these names is, from what its graph is
 pub join_by : (A B : Marked) (all : List VarName) → all ≡ all_names A.names B.names → (r : Result Marked SizeFault) (P : Automaton → Type 0) →
-    ((C : Automaton) → P C → Reduces C (join_over A B all)) → IfOk r (λ (j : Marked). j.names ≡ all) → IfOk r (λ (j : Marked). P j.graph) → IfOk r (IsJoinOf A B)
-join_by A B all is (Ok j) P h names made = record { names = names ∙ is; reduct = subst (λ ns. Reduces j.graph (join_over A B ns)) (sym names) (h j.graph made) }
-join_by A B all is (Err e) P h names made = tt
+    ((C : Automaton) → P C → Reduces C (join_over A B all)) → ((C : Automaton) → P C → (p : ℕ) → p < C.states → IsReached C p) →
+    IfOk r (λ (j : Marked). j.names ≡ all) → IfOk r (λ (j : Marked). P j.graph) → IfOk r (IsJoinOf A B)
+join_by A B all is (Ok j) P h g names made = record {
+  names = names ∙ is;
+  reduct = subst (λ ns. Reduces j.graph (join_over A B ns)) (sym names) (h j.graph made);
+  reached = g j.graph made;
+}
+join_by A B all is (Err e) P h g names made = tt
 
 pub ok_by : (r : Result Marked SizeFault) (P Q : Marked → Type 0) → ((j : Marked) → P j → Q j) → IfOk r P → IfOk r Q
 ok_by (Ok j) P Q h k = h j k
@@ -49,6 +54,10 @@ module _ (A B : Marked) where
   pub reduct_of : (r : Result Marked SizeFault) → IfOk r (IsJoinOf A B) → IfOk r (λ (j : Marked). Reduces j.graph (join_over A B j.names))
   reduct_of (Ok j) h = h.reduct
   reduct_of (Err e) h = tt
+
+  pub reached_of : (r : Result Marked SizeFault) → IfOk r (IsJoinOf A B) → IfOk r (λ (j : Marked). (p : ℕ) → p < j.graph.states → IsReached j.graph p)
+  reached_of (Ok j) h = h.reached
+  reached_of (Err e) h = tt
 
 -- each way of a join has some byte
 pub join_bytes : (agree : ℕ → ℕ → Bool) (both : ℕ → ℕ → ℕ) (A B : Automaton) → WaysHaveBytes (join_of agree both A B)
@@ -76,6 +85,7 @@ module _ (A1 A2 B1 B2 : Marked) (a1 : IsMarked A1) (a2 : IsMarked A2) (b1 : IsMa
   join_more J j = record {
     names = j.names ∙ names_are;
     reduct = reduct_of_reduct J.graph (join_over A1 A2 J.names) (join_over B1 B2 J.names) j.reduct (over J.names);
+    reached = j.reached;
   }
 
   fault_more : (e : SizeFault) → IsJoinFault A1 A2 e → IsJoinFault B1 B2 e

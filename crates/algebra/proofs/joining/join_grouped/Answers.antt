@@ -1,9 +1,9 @@
 use Rattle.std.proofs.Common.{length-append, ◌≡◌, ◌*◌, ◌≤◌, List, length, sym, ap, subst, arith, ◌∙◌}
-use Rattle.std.specs.Prelude.{slice_index_or}
+use Rattle.std.specs.Prelude.{IfOk, slice_index_or}
 use Rattle.span_core.specs.declared.TheConstants.{MOST_VARIABLES}
 use Rattle.spanner_model.proofs.HasLaws.{Has-get_or}
 use Rattle.marked_automaton.specs.declared.fault.SizeFault.{SizeFault}
-use Rattle.marked_automaton.specs.Automaton.{Automaton}
+use Rattle.marked_automaton.specs.Automaton.{Automaton, Marked}
 use Rattle.marked_automaton.specs.Faults.{IsSizeFaultWithin}
 use Rattle.algebra.specs.declared.halves.HalfWay.{HalfWay}
 use Rattle.algebra.specs.JoinedNames.{all_names}
@@ -132,9 +132,12 @@ returns-clause-join c =
     let s = c.in_ok-search.ensures.searched in
     let keys = c.in_ok-search.search.found.keys in
     let made = c.in_ok-search.search.ways.items in
-    join_by A B all all_are c.assembled.result (λ (C : Automaton). IsMadeOf keys c.in_ok-search.starts made one.stops.items two.stops.items A.graph.idle B.graph.idle C)
-    (λ C is. of.join_reduces A B a b all one two left right s.first keys made s.apart s.started s.followed C (subst (λ n. IsMadeOf keys n made one.stops.items two.stops.items A.graph.idle B.graph.idle C) s.counted is))
-    c.assembled.ensures.names c.assembled.ensures.made
+    let Made : Automaton → Type 0 = λ C. IsMadeOf keys (length s.first) made one.stops.items two.stops.items A.graph.idle B.graph.idle C in
+    join_by A B all all_are c.assembled.result Made
+    (λ C is. of.join_reduces A B a b all one two left right s.first keys made s.apart s.started s.followed C is)
+    (λ C is. of.reached A B a b all one two left right s.first keys made s.apart s.started s.followed C is)
+    c.assembled.ensures.names
+    (subst (λ n. IfOk c.assembled.result (λ (j : Marked). IsMadeOf keys n made one.stops.items two.stops.items A.graph.idle B.graph.idle j.graph)) s.counted c.assembled.ensures.made)
 
 pub returns-clause-fault : goal.returns-clause-fault
 returns-clause-fault c =
