@@ -1,4 +1,5 @@
-use Rattle.algebra.proofs.Rejoined.{first_fault, first_join, names_of, reached_of, reduct_of}
+use Rattle.algebra.proofs.JoinResults.{names_of, reached_of, reduct_of}
+use Rattle.algebra.proofs.Rejoined.{first_fault, first_join}
 use Rattle.algebra.proofs.operations.join.Goals as goal
 
 pub returns-then-is_grouped-clause-names : goal.returns-then-is_grouped-clause-names
