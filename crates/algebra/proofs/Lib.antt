@@ -3,6 +3,7 @@ pub mod Assembled
 pub mod Bytes
 pub mod Followed
 pub mod Gathered
+pub mod JoinResults
 pub mod JoinTheory
 pub mod Joins
 pub mod NamesLaws

@@ -3,7 +3,6 @@ use Rattle.std.proofs.Common.{◌≡◌, ℕ, ◌*◌, Bool, true, List, length,
 use Rattle.std.specs.Prelude.{IfErr, IfOk}
 use Rattle.std.specs.List.{filter}
 use Rattle.std.specs.declared.result.Result.{Result}
-use Rattle.std.specs.declared.result.Result.TheVariants.{Ok, Err}
 use Rattle.std.proofs.lemmas.Bool.{true≢false}
 use Rattle.spanner_model.specs.Captures.{VarName}
 use Rattle.spanner_model.proofs.HasLaws.{Has-map_cases}
@@ -22,33 +21,9 @@ use Rattle.algebra.specs.JoinedNames.{all_names}
 use Rattle.algebra.specs.Joining.{IsGroupedOf, IsJoinFault, IsJoinOf, join_over}
 use Rattle.algebra.specs.Operations.{goes_with, has_some, join_of, meet, pair_way}
 use Rattle.algebra.proofs.Followed.{no_bytes}
-use Rattle.algebra.proofs.JoinTheory.{within_more}
+use Rattle.algebra.proofs.JoinResults.{fault_by, ok_by, within_more}
 use Rattle.algebra.proofs.ReductJoins.{reduct_of_join}
 use Rattle.algebra.proofs.Whole.{join_whole}
-
--- what an automaton of these names is, from what its graph is
-pub join_by : (A B : Marked) (all : List VarName) → all ≡ all_names A.names B.names → (r : Result Marked SizeFault) (P : Automaton → Type 0) →
-    ((C : Automaton) → P C → Reduces C (join_over A B all)) → IfOk r (λ (j : Marked). j.names ≡ all) → IfOk r (λ (j : Marked). P j.graph) → IfOk r (IsJoinOf A B)
-join_by A B all is (Ok j) P h names made = record { names = names ∙ is; reduct = subst (λ ns. Reduces j.graph (join_over A B ns)) (sym names) (h j.graph made) }
-join_by A B all is (Err e) P h names made = tt
-
-pub ok_by : (r : Result Marked SizeFault) (P Q : Marked → Type 0) → ((j : Marked) → P j → Q j) → IfOk r P → IfOk r Q
-ok_by (Ok j) P Q h k = h j k
-ok_by (Err e) P Q h k = tt
-
-pub fault_by : (r : Result Marked SizeFault) (P Q : SizeFault → Type 0) → ((e : SizeFault) → P e → Q e) → IfErr r P → IfErr r Q
-fault_by (Ok j) P Q h f = tt
-fault_by (Err e) P Q h f = h e f
-
--- what a join is, by its clauses
-module _ (A B : Marked) where
-  pub names_of : (r : Result Marked SizeFault) → IfOk r (IsJoinOf A B) → IfOk r (λ (j : Marked). j.names ≡ all_names A.names B.names)
-  names_of (Ok j) h = h.names
-  names_of (Err e) h = tt
-
-  pub reduct_of : (r : Result Marked SizeFault) → IfOk r (IsJoinOf A B) → IfOk r (λ (j : Marked). Reduces j.graph (join_over A B j.names))
-  reduct_of (Ok j) h = h.reduct
-  reduct_of (Err e) h = tt
 
 -- each way of a join has some byte
 pub join_bytes : (agree : ℕ → ℕ → Bool) (both : ℕ → ℕ → ℕ) (A B : Automaton) → WaysHaveBytes (join_of agree both A B)
@@ -76,6 +51,7 @@ module _ (A1 A2 B1 B2 : Marked) (a1 : IsMarked A1) (a2 : IsMarked A2) (b1 : IsMa
   join_more J j = record {
     names = j.names ∙ names_are;
     reduct = reduct_of_reduct J.graph (join_over A1 A2 J.names) (join_over B1 B2 J.names) j.reduct (over J.names);
+    reached = j.reached;
   }
 
   fault_more : (e : SizeFault) → IsJoinFault A1 A2 e → IsJoinFault B1 B2 e

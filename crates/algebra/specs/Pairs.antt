@@ -122,6 +122,8 @@ pub record IsFollowed (made : List PairWay) (keys1 : List Pair) (ways1 : List Wa
   pub new : List Way
   pub ways : ways2 ≡ ways1 ++ new
   pub between : Matched (IsWayBetween keys2) made new
+  -- to each new pair a new way leads from one that was found before
+  pub led : (p : ℕ) → length keys1 ≤ p → p < length keys2 → (y : Way) × Has new y × (y.to ≡ p) × (y.from < p)
 
 -- a refusal where these ways are to be made
 abbrev pub IsRefusalOf : List PairWay → List Pair → List Way → SizeFault → Type 0

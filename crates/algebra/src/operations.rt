@@ -1,11 +1,11 @@
 //! Union, projection and join.
-ghost use Rattle.std.specs.Prelude.{◌≡◌, ℕ, ◌+◌, ◌*◌, ◌≤◌, IfOk, IfErr, OnOk, List, length};
+ghost use Rattle.std.specs.Prelude.{◌≡◌, ℕ, ◌+◌, ◌*◌, ◌<◌, ◌≤◌, IfOk, IfErr, OnOk, List, length};
 ghost use Rattle.span_core.specs.declared.TheConstants.{MOST_VARIABLES};
 ghost use Rattle.spanner_model.specs.Lists.{Has};
 ghost use Rattle.marked_automaton.specs.declared.TheConstants.{MOST_STATES, MOST_WAYS};
 ghost use Rattle.marked_automaton.specs.Faults.{IsSizeFaultOf, IsSizeFaultWithin};
 ghost use Rattle.marked_automaton.specs.Marks.{left_of, remarked};
-ghost use Rattle.marked_automaton.specs.Reduct.{Reduces};
+ghost use Rattle.marked_automaton.specs.Reduct.{IsReached, Reduces};
 ghost use Rattle.algebra.specs.JoinedMarks.{agree_on, joined};
 ghost use Rattle.algebra.specs.JoinedNames.{all_names};
 ghost use Rattle.algebra.specs.Operations.{join_of, union_of};
@@ -90,6 +90,7 @@ pub fn join(alloc: Global, a: &Automaton, b: &Automaton) -> Result<Automaton, Si
     ensures names { IfOk result (λ j. j.names ≡ all_names a.now.names b.now.names) }
     ensures reduct { IfOk result (λ j. Reduces j.graph
         (join_of (agree_on a.now.names b.now.names j.names) (joined a.now.names b.now.names j.names) a.now.graph b.now.graph)) }
+    ensures reached { IfOk result (λ j. (p : ℕ) → p < j.graph.states → IsReached j.graph p) }
     ensures fault { IfErr result (λ e. IsSizeFaultWithin (a.now.graph.states * b.now.graph.states)
         (length (join_of (agree_on a.now.names b.now.names (all_names a.now.names b.now.names)) (joined a.now.names b.now.names (all_names a.now.names b.now.names)) a.now.graph b.now.graph).ways) e) }
 {

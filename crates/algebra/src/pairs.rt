@@ -179,6 +179,7 @@ impl Search {
         ensures number { IfOk result (λ i. slice_get self.new.found.keys i ≡ Some pair) }
         ensures grows { OnOk result ((found : List Pair) × (self.new.found.keys ≡ self.old.found.keys ++ found)) }
         ensures only { OnOk result ((k : Pair) → Has self.new.found.keys k → Has self.old.found.keys k ⊎ (k ≡ pair)) }
+        ensures last { IfOk result (λ i. (p : ℕ) → length self.old.found.keys ≤ p → p < length self.new.found.keys → i ≡ p) }
         ensures few { OnOk result (length self.new.found.keys ≤ MOST_STATES) }
         ensures within { OnOk result ((n1 n2 : ℕ) → AreWithin n1 n2 self.old.found.keys → pair.left < n1 → pair.right < n2 → AreWithin n1 n2 self.new.found.keys) }
         ensures ways { self.new.ways.items ≡ self.old.ways.items }
