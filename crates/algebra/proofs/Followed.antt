@@ -1,16 +1,16 @@
 -- How the search of pairs grows.
-use Rattle.std.proofs.Common.{◌≡◌, ℕ, ◌+◌, ◌*◌, ◌<◌, ◌≤◌, ◌⊎◌, Bool, true, false, List, [], ◌∷◌, ◌++◌, Some, length, get_or, take, drop, inl, inr, refl, sym, ap, subst, arith, ◌∙◌, append_assoc, length-append}
+use Rattle.std.proofs.Common.{◌≡◌, ℕ, suc, ◌+◌, ◌*◌, ◌<◌, ◌≤◌, ◌⊎◌, Bool, true, false, List, [], ◌∷◌, ◌++◌, Some, length, cond, not, get_or, take, drop, inl, inr, refl, sym, ap, subst, arith, ◌∙◌, append_assoc, length-append}
 use Rattle.std.specs.Prelude.{slice_get, map, if◌then◌else◌}
 use Rattle.std.specs.List.{filter}
 use Rattle.std.proofs.lemmas.Grind.{flat_map-append}
 use Rattle.std.proofs.lemmas.List.{append-nil, map-append, take-append-drop}
 use Rattle.std.proofs.lemmas.List.Elements.{filter-append}
 use Rattle.std.specs.FinSet as set
-use Rattle.std.specs.List.{AllByRecursion, IsDistinct, list_any}
-use Rattle.std.specs.Prelude.{IfErr, IsErrAnd}
+use Rattle.std.specs.List.{AllByRecursion, IsDistinct, list_any, position_or_len}
+use Rattle.std.specs.Prelude.{IfErr, IsErrAnd, ◌||◌}
 use Rattle.std.specs.declared.result.Result.{Result}
 use Rattle.std.specs.declared.result.Result.TheVariants.{Ok, Err}
-use Rattle.std.proofs.lemmas.Bool.{true≢false}
+use Rattle.std.proofs.lemmas.Bool.{cases_lt, true≢false}
 use Rattle.std.proofs.lemmas.Nat.{mul-add-lt}
 use Rattle.std.proofs.lemmas.Option.{slice_get-get_or}
 use Rattle.spanner_model.specs.Lists.{Has, AreDistinct}
@@ -66,6 +66,7 @@ followed_none keys ways = record {
   new = [];
   ways = sym (append-nil ways);
   between = tt;
+  led = λ p l m. absurd (omega (arith, l, m));
 }
 
 pub followed_then : (made1 made2 : List PairWay) (k1 k2 k3 : List Pair) (ways1 ways2 ways3 : List Way) →
@@ -80,6 +81,10 @@ followed_then made1 made2 k1 k2 k3 ways1 ways2 ways3 a b = record {
   between = matched_append (IsWayBetween k3) made1 made2 a.new b.new
       (matched_more (IsWayBetween k2) (IsWayBetween k3) (λ r y m. subst (λ k. IsWayBetween k r y) (sym b.keys) (between_more k2 b.found r y m)) made1 a.new a.between)
       b.between;
+  led = λ p l m. elim (cases_lt p (length k2)) [
+    | inl less ↦ let y = a.led p l less in (y.0, Has-append_left a.new b.new y.0 y.1, y.2, y.3)
+    | inr le ↦ let y = b.led p le m in (y.0, Has-append_right a.new b.new y.0 y.1, y.2, y.3)
+  ];
 }
 
 -- the ways of one more element of the second side, and of one more of the first
@@ -194,6 +199,26 @@ with_key_only false keys k x h = elim (Has-append_cases keys (k ∷ []) x h) [
   | inl a ↦ inl a
   | inr b ↦ elim b as (λ _. Has keys x ⊎ (x ≡ k)) [ inl e ↦ inr (sym e) | inr n ↦ absurd n ]
 ]
+
+-- the place of a key that is put in, where the test is that for the key
+module _ (is : Pair → Bool) where
+  none_before : (keys : List Pair) → list_any is keys ≡ false → position_or_len is keys ≡ length keys
+  none_before [] e = refl
+  none_before (x ∷ keys) e = go (is x) refl e (none_before keys)
+    where
+      go : (b : Bool) → is x ≡ b → (b || list_any is keys) ≡ false → (list_any is keys ≡ false → position_or_len is keys ≡ length keys) →
+          position_or_len is (x ∷ keys) ≡ suc (length keys)
+      go true at e rest = absurd (true≢false e)
+      go false at e rest =
+          let step : position_or_len is (x ∷ keys) ≡ 1 + position_or_len is keys = ap (λ b. cond (not b) (1 + position_or_len is keys) 0) at in
+          omega (arith, step, rest e)
+
+  pub with_key_last : (keys : List Pair) (k : Pair) (p : ℕ) → length keys ≤ p → p < length (with_key (list_any is keys) keys k) → position_or_len is keys ≡ p
+  with_key_last keys k p l m = go (list_any is keys) refl m
+    where
+      go : (b : Bool) → list_any is keys ≡ b → p < length (with_key b keys k) → position_or_len is keys ≡ p
+      go true e m = absurd (omega (arith, l, m))
+      go false e m = none_before keys e ∙ omega (arith, l, m, length-append keys (k ∷ []))
 
 -- what a refusal says of the error that is handed on
 pub handed_on : {T : Type 0} (P : SizeFault → Type 0) (r : Result T SizeFault) (e : SizeFault) → IsErrAnd r (λ g. g ≡ e) → P e → IfErr r P

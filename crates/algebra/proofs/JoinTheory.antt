@@ -1,39 +1,44 @@
 -- What the search of a join makes is its reduct.
-use Rattle.std.proofs.Common.{◌≡◌, ℕ, ◌+◌, ◌*◌, ◌^◌, ◌<◌, ◌≤◌, ◌↔◌, Bool, true, false, ◌&&◌, List, [], ◌∷◌, ◌++◌, Option, Some, length, length-append, get_or, map, nat_eq, inl, inr, refl, sym, ap, subst, arith, ◌∙◌}
-use Rattle.std.specs.Prelude.{slice_get}
+use Rattle.std.proofs.Common.{◌≡◌, ℕ, zero, suc, ◌+◌, ◌*◌, ◌^◌, ◌<◌, ◌≤◌, ◌↔◌, Bool, true, false, ◌&&◌, List, [], ◌∷◌, ◌++◌, Option, Some, length, length-append, get_or, map, nat_eq, inl, inr, refl, sym, ap, subst, arith, ◌∙◌}
+use Rattle.std.specs.Prelude.{All, IfErr, IfOk, slice_get, slice_index_or}
+use Rattle.std.specs.declared.result.Result.{Result}
+use Rattle.span_core.specs.declared.TheConstants.{MOST_VARIABLES}
 use Rattle.std.specs.FinSet as set
 use Rattle.std.specs.List.{filter, flat_map}
-use Rattle.std.proofs.lemmas.Bool.{eq-eqb}
+use Rattle.std.proofs.lemmas.Bool.{cases_lt, eq-eqb}
 use Rattle.std.proofs.lemmas.Cmp.{nat_cmp_total}
 use Rattle.std.proofs.lemmas.List.{map-append, length-map}
 use Rattle.std.proofs.lemmas.List.Sorted.{length_permutation}
 use Rattle.std.proofs.lemmas.Option.{slice_get-get_or}
 use Rattle.spanner_model.specs.Captures.{VarName}
-use Rattle.spanner_model.specs.Lists.{Has, AreDistinct}
-use Rattle.spanner_model.proofs.HasLaws.{Has-append_left, Has-map, Has-map_cases, Has-slice_get, place_of-Has}
+use Rattle.spanner_model.specs.Lists.{Has}
+use Rattle.spanner_model.proofs.HasLaws.{Has-append_left, Has-get_or, Has-map, Has-map_cases, Has-slice_get, place_of-Has}
 use Rattle.marked_automaton.specs.declared.way.Way.{Way}
 use Rattle.marked_automaton.specs.Automaton.{Automaton, ByteClass, IsMarked, IsWayOf, Marked, all_bytes, idle_way}
 use Rattle.marked_automaton.specs.declared.fault.SizeFault.{SizeFault}
-use Rattle.marked_automaton.specs.declared.fault.SizeFault.TheVariants.{States, Ways, OutOfMemory}
 use Rattle.marked_automaton.specs.Faults.{IsSizeFaultWithin}
-use Rattle.marked_automaton.specs.Reduct.{Reduces}
+use Rattle.marked_automaton.specs.Reduct.{IsReached, Reduces}
 use Rattle.marked_automaton.proofs.Listed.{get_within, some_same}
 use Rattle.algebra.specs.declared.halves.HalfWay.{HalfWay}
 use Rattle.algebra.specs.declared.halves.HalfStop.{HalfStop}
+use Rattle.algebra.specs.declared.halves.Side.{Side}
 use Rattle.algebra.specs.declared.pairs.Pair.{Pair}
 use Rattle.algebra.specs.JoinedMarks.{agree_on, joined}
+use Rattle.algebra.specs.JoinedNames.{all_names}
+use Rattle.algebra.specs.Joining.{IsJoinFault, IsJoinOf, join_over}
 use Rattle.algebra.specs.Operations.{ends_with, goes_with, has_some, join_of, meet, pair_stop, pair_way}
-use Rattle.algebra.specs.Pairs.{AreStarted, AreWithin, HaveSameRows, IsFollowed, IsIdlePair, IsStopAt, IsWayBetween, LeadWithin, Matched, PairStop, PairWay, half_at, half_from, pair_of, pairs, stop_pair, stops_at_pair, stops_meet, those_at, way_pair, ways_at, ways_meet}
+use Rattle.algebra.specs.Pairs.{AreStarted, AreWithin, HaveSameRows, HaveSmallMarks, IsIdlePair, IsStopAt, IsWayBetween, LeadWithin, Matched, PairStop, PairWay, half_at, half_from, pair_of, pairs, stop_pair, stops_at_pair, stops_meet, those_at, way_pair, ways_at, ways_meet}
 use Rattle.algebra.specs.Renaming.{half_stop, half_way}
-use Rattle.algebra.specs.Sides.{IsMadeOf, IsSideOf, shifts_of}
+use Rattle.algebra.specs.Sides.{IsMadeOf, IsSearchOf, IsSearchRefusal, IsSideOf, half_ways_of, shifts_of}
 use Rattle.marked_automaton.proofs.Passing.{both_true, filter_cases, flat_map_cases, has_filter, has_flat_map, right_true}
 use Rattle.algebra.proofs.Followed.{no_bytes, pairs_few, some_bytes}
 use Rattle.algebra.proofs.Gathered.{filter_yes, filter_no, gathered, one_of}
+use Rattle.algebra.proofs.JoinResults.{fault_by, join_by, within_more}
 use Rattle.algebra.proofs.Places.{match_from, match_len, match_of, place_there}
 use Rattle.algebra.proofs.ReductUnions.{get_left}
 use Rattle.algebra.proofs.Reached.{AreSides, IsOfFound, coded_stop, coded_way, found_reduces, of_pairs}
-use Rattle.algebra.proofs.RenamingLaws.{agree_is, joined_is, joined_small, moved_none}
-use Rattle.algebra.proofs.Searched.{filter_no_more, gathered_ways, row_has, same_rows}
+use Rattle.algebra.proofs.RenamingLaws.{agree_is, joined_is, joined_small, moved_none, power_le}
+use Rattle.algebra.proofs.Searched.{filter_no_more, gathered_ways, row_has}
 
 -- pairs of images make what pairs make
 module _ {X Y U V R S : Type 0} (test : U → V → Bool) (make : U → V → R) (code : R → S) (hx : X → U) (hy : Y → V) (test0 : X → Y → Bool) (make0 : X → Y → S) where
@@ -72,7 +77,7 @@ meet_itself s = set.same_set nat_cmp_total set.nat_cmp-IsAntisymmetric (meet s s
     twice true = refl
     twice false = refl
 
-module _ (A B : Marked) (a : IsMarked A) (b : IsMarked B) (all : List VarName) where
+module _ {A B : Marked} (a : IsMarked A) (b : IsMarked B) (all : List VarName) where
   abbrev own1 : List (Option ℕ)
   own1 = shifts_of A.names A.names true all
 
@@ -85,22 +90,22 @@ module _ (A B : Marked) (a : IsMarked A) (b : IsMarked B) (all : List VarName) w
   abbrev shared2 : List (Option ℕ)
   shared2 = shifts_of B.names A.names true all
 
-  abbrev pub X : List HalfWay
+  abbrev X : List HalfWay
   X = map (half_way own1 shared1) A.graph.ways
 
-  abbrev pub Y : List HalfWay
+  abbrev Y : List HalfWay
   Y = map (half_way own2 shared2) B.graph.ways
 
-  abbrev pub SX : List HalfStop
+  abbrev SX : List HalfStop
   SX = map (half_stop own1 shared1) A.graph.stops
 
-  abbrev pub SY : List HalfStop
+  abbrev SY : List HalfStop
   SY = map (half_stop own2 shared2) B.graph.stops
 
-  abbrev pub R : List PairWay
+  abbrev R : List PairWay
   R = pairs ways_meet way_pair Y X
 
-  abbrev pub S : List PairStop
+  abbrev S : List PairStop
   S = pairs stops_meet stop_pair SY SX
 
   abbrev agree : ℕ → ℕ → Bool
@@ -138,11 +143,11 @@ module _ (A B : Marked) (a : IsMarked A) (b : IsMarked B) (all : List VarName) w
   join_is : K ≡ J
   join_is = λ i. record { states = n1 * n2; starts = J.starts; ways = ways_are i; stops = stops_are i; idle = J.idle }
 
-  pub ways_len : length R ≡ length J.ways
+  ways_len : length R ≡ length J.ways
   ways_len = sym (length-map R (coded_way n2)) ∙ ap length ways_are
 
   -- what the two bring together is small
-  pub way_marks : (x y : HalfWay) → Has X x → Has Y y → x.way.marks + y.way.marks < 2 ^ (2 * length all)
+  way_marks : (x y : HalfWay) → Has X x → Has Y y → x.way.marks + y.way.marks < 2 ^ (2 * length all)
   way_marks x y hx hy =
       let u = Has-map_cases (half_way own1 shared1) A.graph.ways x hx in
       let v = Has-map_cases (half_way own2 shared2) B.graph.ways y hy in
@@ -150,7 +155,7 @@ module _ (A B : Marked) (a : IsMarked A) (b : IsMarked B) (all : List VarName) w
       let s = joined_small A.names B.names u.0.marks v.0.marks (a.way_marks u.0 u.1) (b.way_marks v.0 v.1) all in
       omega (arith, e, s, ap (λ (x : HalfWay). x.way.marks) u.2, ap (λ (x : HalfWay). x.way.marks) v.2)
 
-  pub stop_marks : (x y : HalfStop) → Has SX x → Has SY y → x.stop.marks + y.stop.marks < 2 ^ (2 * length all)
+  stop_marks : (x y : HalfStop) → Has SX x → Has SY y → x.stop.marks + y.stop.marks < 2 ^ (2 * length all)
   stop_marks x y hx hy =
       let u = Has-map_cases (half_stop own1 shared1) A.graph.stops x hx in
       let v = Has-map_cases (half_stop own2 shared2) B.graph.stops y hy in
@@ -176,7 +181,7 @@ module _ (A B : Marked) (a : IsMarked A) (b : IsMarked B) (all : List VarName) w
       let u = Has-map_cases (half_way own2 shared2) B.graph.ways y h in
       (subst (λ (x : HalfWay). x.way.from < n2) u.2 (b.whole.froms u.0 u.1), subst (λ (x : HalfWay). x.way.to < n2) u.2 (b.whole.tos u.0 u.1))
 
-  pub lead_within : LeadWithin n1 n2 R
+  lead_within : LeadWithin n1 n2 R
   lead_within = λ r h.
       let p = way_parts r h in
       let to = ap (λ (r : PairWay). r.to) p.5 in
@@ -197,131 +202,198 @@ module _ (A B : Marked) (a : IsMarked A) (b : IsMarked B) (all : List VarName) w
     idles = b.whole.idles;
   }
 
-  pub within_starts : (keys0 : List Pair) → AreStarted A.graph.starts B.graph.starts [] keys0 → AreWithin n1 n2 keys0
+  within_starts : (keys0 : List Pair) → AreStarted A.graph.starts B.graph.starts [] keys0 → AreWithin n1 n2 keys0
   within_starts keys0 started = λ k h. elim (started.only k h) [ inl n ↦ absurd n | inr r ↦ (a.whole.starts k.left r.0, b.whole.starts k.right r.1) ]
 
-  module _ (xs ys : List HalfWay) (sx sy : List HalfStop) (left : IsSideOf own1 shared1 A.graph xs sx) (right : IsSideOf own2 shared2 B.graph ys sy)
-      (keys0 keys : List Pair) (made : List Way) (apart : AreDistinct keys) (started : AreStarted A.graph.starts B.graph.starts [] keys0)
-      (followed : IsFollowed (flat_map (ways_at xs ys) keys) keys0 [] keys made) where
-    rows : flat_map (ways_at xs ys) keys ≡ flat_map (ways_at X Y) keys
-    rows = λ i. flat_map (λ k. same_rows xs ys X Y left.ways right.ways k i) keys
+  module _ {one two : Side} (left : IsSideOf own1 shared1 A.graph one) (right : IsSideOf own2 shared2 B.graph two) where
+    abbrev xs : List HalfWay
+    xs = half_ways_of one A.graph
 
-    stop_rows : flat_map (stops_at_pair sx sy) keys ≡ flat_map (stops_at_pair SX SY) keys
-    stop_rows = λ i. flat_map (λ (k : Pair). pairs stops_meet stop_pair (right.stops k.right i) (left.stops k.left i)) keys
+    abbrev ys : List HalfWay
+    ys = half_ways_of two B.graph
 
-    starts_within : AreWithin n1 n2 keys0
-    starts_within = within_starts keys0 started
+    abbrev sx : List HalfStop
+    sx = one.stops.items
 
-    in_all : (r : PairWay) → Has (flat_map (ways_at xs ys) keys) r → Has R r
-    in_all r h = gathered_ways keys X Y r apart (subst (λ zs. Has zs r) rows h)
+    abbrev sy : List HalfStop
+    sy = two.stops.items
 
-    pub within : AreWithin n1 n2 keys
-    within = followed.within n1 n2 starts_within (λ r h. lead_within r (in_all r h))
+    -- the ways of the two sides are these, and what they bring is small
+    left_ways : xs ≡ X
+    left_ways = λ i. map (half_way (left.own i) (left.shared i)) A.graph.ways
 
-    between : Matched (IsWayBetween keys) (flat_map (ways_at xs ys) keys) made
-    between = subst (λ (ws : List Way). Matched (IsWayBetween keys) (flat_map (ways_at xs ys) keys) ws) (sym followed.ways) followed.between
+    right_ways : ys ≡ Y
+    right_ways = λ i. map (half_way (right.own i) (right.shared i)) B.graph.ways
 
-    pub ways_fit : (y : Way) → Has made y → IsWayOf (length keys) (length all) y
-    ways_fit y h =
-        let k = place_of-Has made y h in
-        let m = match_from (IsWayBetween keys) (flat_map (ways_at xs ys) keys) made k.0 y between k.2 in
-        let p = way_parts m.0 (in_all m.0 (Has-slice_get (flat_map (ways_at xs ys) keys) k.0 m.0 m.1)) in
-        let s = way_marks p.0 p.1 p.2 p.3 in
-        let marks : p.0.way.marks + p.1.way.marks ≡ y.marks = ap (λ (r : PairWay). r.marks) p.5 ∙ sym m.2.marks in
-        let bytes : meet p.0.way.bytes p.1.way.bytes ≡ y.bytes = ap (λ (r : PairWay). r.bytes) p.5 ∙ sym m.2.bytes in
-        let some : has_some (meet p.0.way.bytes p.1.way.bytes) ≡ true = right_true (nat_eq p.0.shared p.1.shared) (has_some (meet p.0.way.bytes p.1.way.bytes)) p.4 in
-        record {
-          from = get_within keys y.from m.0.from m.2.from;
-          to = get_within keys y.to m.0.to m.2.to;
-          marks = subst (λ v. v < 2 ^ (2 * length all)) marks s;
-          bytes = λ e. let f : true ≡ false = sym some ∙ no_bytes (meet p.0.way.bytes p.1.way.bytes) (bytes ∙ e) in absurd (cc);
+    pub small_marks : length all ≤ MOST_VARIABLES → HaveSmallMarks xs ys
+    small_marks few =
+        let le = power_le (2 * length all) 32 (omega (arith, few)) in
+        subst (λ (zs : List HalfWay). HaveSmallMarks xs zs) (sym right_ways)
+        (subst (λ (zs : List HalfWay). HaveSmallMarks zs Y) (sym left_ways) (λ x y hx hy. omega (arith, way_marks x y hx hy, le)))
+
+    pub small_stop_marks : (x y : HalfStop) → Has sx x → Has sy y → x.stop.marks + y.stop.marks < 2 ^ (2 * length all)
+    small_stop_marks x y hx hy = stop_marks x y (rows_has half_at sx SX left.stops x hx) (rows_has half_at sy SY right.stops y hy)
+
+    -- a refusal of the search is one of the join
+    pub refusal : all ≡ all_names A.names B.names → (e : SizeFault) → IsSearchRefusal A.graph B.graph xs ys e → IsJoinFault A B e
+    refusal all_are e h =
+        let all_ways : IsSearchRefusal A.graph B.graph X Y e =
+        subst (λ (zs : List HalfWay). IsSearchRefusal A.graph B.graph X zs e) right_ways
+        (subst (λ (zs : List HalfWay). IsSearchRefusal A.graph B.graph zs ys e) left_ways h) in
+        subst (λ ns. IsSizeFaultWithin (n1 * n2) (length (join_over A B ns).ways) e) all_are
+        (all_ways (length J.ways) a.whole.starts b.whole.starts lead_within (omega (arith, ways_len)))
+
+    module _ {keys : List Pair} {count : ℕ} {made : List Way} (s : IsSearchOf A.graph B.graph xs ys keys count made) where
+      abbrev keys0 : List Pair
+      keys0 = s.first
+
+      rows : flat_map (ways_at xs ys) keys ≡ flat_map (ways_at X Y) keys
+      rows = λ i. flat_map (ways_at (left_ways i) (right_ways i)) keys
+
+      stop_rows : flat_map (stops_at_pair sx sy) keys ≡ flat_map (stops_at_pair SX SY) keys
+      stop_rows = λ i. flat_map (λ (k : Pair). pairs stops_meet stop_pair (right.stops k.right i) (left.stops k.left i)) keys
+
+      starts_within : AreWithin n1 n2 keys0
+      starts_within = within_starts keys0 s.started
+
+      in_all : (r : PairWay) → Has (flat_map (ways_at xs ys) keys) r → Has R r
+      in_all r h = gathered_ways keys X Y r s.apart (subst (λ zs. Has zs r) rows h)
+
+      pub within : AreWithin n1 n2 keys
+      within = s.followed.within n1 n2 starts_within (λ r h. lead_within r (in_all r h))
+
+      between : Matched (IsWayBetween keys) (flat_map (ways_at xs ys) keys) made
+      between = subst (λ (ws : List Way). Matched (IsWayBetween keys) (flat_map (ways_at xs ys) keys) ws) (sym s.followed.ways) s.followed.between
+
+      ways_fit : (y : Way) → Has made y → IsWayOf (length keys) (length all) y
+      ways_fit y h =
+          let k = place_of-Has made y h in
+          let m = match_from (IsWayBetween keys) (flat_map (ways_at xs ys) keys) made k.0 y between k.2 in
+          let p = way_parts m.0 (in_all m.0 (Has-slice_get (flat_map (ways_at xs ys) keys) k.0 m.0 m.1)) in
+          let small = way_marks p.0 p.1 p.2 p.3 in
+          let marks : p.0.way.marks + p.1.way.marks ≡ y.marks = ap (λ (r : PairWay). r.marks) p.5 ∙ sym m.2.marks in
+          let bytes : meet p.0.way.bytes p.1.way.bytes ≡ y.bytes = ap (λ (r : PairWay). r.bytes) p.5 ∙ sym m.2.bytes in
+          let some : has_some (meet p.0.way.bytes p.1.way.bytes) ≡ true = right_true (nat_eq p.0.shared p.1.shared) (has_some (meet p.0.way.bytes p.1.way.bytes)) p.4 in
+          record {
+            from = get_within keys y.from m.0.from m.2.from;
+            to = get_within keys y.to m.0.to m.2.to;
+            marks = subst (λ v. v < 2 ^ (2 * length all)) marks small;
+            bytes = λ e. let f : true ≡ false = sym some ∙ no_bytes (meet p.0.way.bytes p.1.way.bytes) (bytes ∙ e) in absurd (cc);
+          }
+
+      pub all_fit : All (IsWayOf (length keys) (length all)) made
+      all_fit = λ k d l. ways_fit (slice_index_or made k d) (Has-get_or made k d l)
+
+      -- no more pairs and no more ways than there are in all
+      keys_few : length keys ≤ n1 * n2
+      keys_few = pairs_few n1 n2 keys s.apart within
+
+      made_few : length made ≤ length J.ways
+      made_few =
+          let some = filter (λ (r : PairWay). one_of keys r.from) R in
+          let perm = gathered half_from half_from ways_meet way_pair (λ (r : PairWay). r.from) (λ x y. refl) keys Y X s.apart in
+          let len : length (flat_map (ways_at X Y) keys) ≡ length some = length_permutation some (flat_map (ways_at X Y) keys) perm in
+          let few : length some ≤ length R = filter_no_more (λ (r : PairWay). one_of keys r.from) R in
+          let match : length (flat_map (ways_at xs ys) keys) ≡ length made = match_len (IsWayBetween keys) (flat_map (ways_at xs ys) keys) made between in
+          omega (arith, len, few, match, ap length rows, ways_len)
+
+      one_place : (k : Pair) (i j : ℕ) → slice_get keys i ≡ Some k → slice_get keys j ≡ Some k → i ≡ j
+      one_place k i j p q = some_same i j (sym (place_there keys k i s.apart p) ∙ place_there keys k j s.apart q)
+
+      pub idle_there : (p : ℕ) → IsIdlePair keys A.graph.idle B.graph.idle p → Has made (idle_way p)
+      idle_there p h =
+          let k = h.0 in
+          let wx = a.idle_ways k.left h.2 in
+          let wy = b.idle_ways k.right h.3 in
+          let x = half_way own1 shared1 (idle_way k.left) in
+          let y = half_way own2 shared2 (idle_way k.right) in
+          let hx : Has (those_at half_from k.left X) x = has_filter (λ z. nat_eq (half_from z) k.left) X x (Has-map (half_way own1 shared1) A.graph.ways (idle_way k.left) wx) (eq-eqb k.left k.left refl) in
+          let hy : Has (those_at half_from k.right Y) y = has_filter (λ z. nat_eq (half_from z) k.right) Y y (Has-map (half_way own2 shared2) B.graph.ways (idle_way k.right) wy) (eq-eqb k.right k.right refl) in
+          let some : has_some (meet all_bytes all_bytes) ≡ true = ap has_some (meet_itself all_bytes) ∙ some_bytes all_bytes (a.some_byte (idle_way k.left) wx) in
+          let agrees : nat_eq x.shared y.shared ≡ true = eq-eqb x.shared y.shared (moved_none shared1 ∙ sym (moved_none shared2)) in
+          let ok : ways_meet x y ≡ true = both_true (nat_eq x.shared y.shared) (has_some (meet all_bytes all_bytes)) agrees some in
+          let r = way_pair x y in
+          let here : Has (ways_at X Y k) r = has_flat_map (λ x. map (way_pair x) (filter (ways_meet x) (those_at half_from k.right Y))) (those_at half_from k.left X) x r hx
+          (Has-map (way_pair x) (filter (ways_meet x) (those_at half_from k.right Y)) y (has_filter (ways_meet x) (those_at half_from k.right Y) y hy ok)) in
+          let there : Has (flat_map (ways_at xs ys) keys) r = subst (λ zs. Has zs r) (sym rows) (has_flat_map (ways_at X Y) keys k r (Has-slice_get keys p k h.1) here) in
+          let place = place_of-Has (flat_map (ways_at xs ys) keys) r there in
+          let m = match_of (IsWayBetween keys) (flat_map (ways_at xs ys) keys) made place.0 r between place.2 in
+          let from : m.0.from ≡ p = one_place k m.0.from p m.2.from h.1 in
+          let to : m.0.to ≡ p = one_place k m.0.to p m.2.to h.1 in
+          let marks : m.0.marks ≡ 0 = omega (arith, m.2.marks, moved_none own1, moved_none own2) in
+          let bytes : m.0.bytes ≡ all_bytes = m.2.bytes ∙ meet_itself all_bytes in
+          subst (Has made) (λ i. record { from = from i; marks = marks i; bytes = bytes i; to = to i }) (Has-slice_get made place.0 m.0 m.1)
+
+      pub starts_few : count ≤ length keys
+      starts_few = omega (arith, s.counted, ap length s.followed.keys, length-append s.first s.followed.found)
+
+      module _ {C : Automaton} (is : IsMadeOf keys count made sx sy A.graph.idle B.graph.idle C) where
+        is0 : IsMadeOf keys (length keys0) made sx sy A.graph.idle B.graph.idle C
+        is0 = subst (λ n. IsMadeOf keys n made sx sy A.graph.idle B.graph.idle C) s.counted is
+
+        start_place : (i : ℕ) (k : Pair) → slice_get keys i ≡ Some k → (i < length keys0) ↔ (Has A.graph.starts k.left × Has B.graph.starts k.right)
+        start_place i k at = (
+          (λ l.
+              let d = pair_of 0 0 in
+              let there = slice_get-get_or keys0 i d l in
+              let same : get_or keys0 i d ≡ k = some_same (get_or keys0 i d) k (sym (ap (λ zs. slice_get zs i) s.followed.keys ∙ get_left keys0 s.followed.found i (get_or keys0 i d) there) ∙ at) in
+              elim (s.started.only k (subst (Has keys0) same (Has-slice_get keys0 i (get_or keys0 i d) there))) [ inl n ↦ absurd n | inr r ↦ r ]),
+          (λ h.
+              let has : Has keys0 k = s.started.all k.left k.right h.0 h.1 in
+              let j = place_of-Has keys0 k has in
+              let there : slice_get keys j.0 ≡ Some k = ap (λ zs. slice_get zs j.0) s.followed.keys ∙ get_left keys0 s.followed.found j.0 k j.2 in
+              omega (arith, one_place k i j.0 at there, j.1)),
+        )
+
+        fewer : length keys0 ≤ length keys
+        fewer = omega (arith, ap length s.followed.keys, length-append keys0 s.followed.found)
+
+        of_found : IsOfFound A.graph.starts B.graph.starts R (flat_map (ways_at X Y) keys) S (flat_map (stops_at_pair SX SY) keys) A.graph.idle B.graph.idle keys C
+        of_found = record {
+          apart = s.apart;
+          states = is.states;
+          started = λ p q h k. subst (λ zs. Has zs (pair_of p q)) (sym s.followed.keys) (Has-append_left keys0 s.followed.found (pair_of p q) (s.started.all p q h k));
+          starts = λ i k at. let here = start_place i k at in ((λ h. here.0 ((is0.starts i).0 h)), (λ h. (is0.starts i).1 (here.1 h)));
+          starts_within = λ i h. omega (arith, (is0.starts i).0 h, fewer);
+          ways_are = gathered half_from half_from ways_meet way_pair (λ (r : PairWay). r.from) (λ x y. refl) keys Y X s.apart;
+          ways_match = subst (λ (ws : List Way). Matched (IsWayBetween keys) (flat_map (ways_at X Y) keys) ws) (sym is.ways)
+              (subst (λ (rs : List PairWay). Matched (IsWayBetween keys) rs made) rows between);
+          stops_are = gathered half_at half_at stops_meet stop_pair (λ (r : PairStop). r.at) (λ x y. refl) keys SY SX s.apart;
+          stops_match = subst (λ (rs : List PairStop). Matched (IsStopAt keys) rs C.stops) stop_rows is.stops;
+          idles = λ i k at. (
+            (λ h.
+                let r = (is.idles i).0 h in
+                let same : r.0 ≡ k = some_same r.0 k (sym r.1 ∙ at) in
+                (subst (λ (k : Pair). Has A.graph.idle k.left) same r.2, subst (λ (k : Pair). Has B.graph.idle k.right) same r.3)),
+            (λ h. (is.idles i).1 (k, at, h.0, h.1)),
+          );
         }
 
-    -- no more pairs and no more ways than there are in all
-    pub keys_few : length keys ≤ n1 * n2
-    keys_few = pairs_few n1 n2 keys apart within
+        -- each state is that of a pair of starts, or a way leads to it from a state before it
+        reached : (p : ℕ) → p < C.states → IsReached C p
+        reached p l = below (suc p) p (omega arith) (omega (arith, l, is.states))
+          where
+            below : (b p : ℕ) → p < b → p < length keys → IsReached C p
+            below zero p l m = absurd (omega (arith, l))
+            below (suc b) p l m = elim (cases_lt p (length keys0)) [
+              | inl first ↦ (0, (is0.starts p).1 first)
+              | inr later ↦
+                  let y = s.followed.led p later m in
+                  let r = below b y.0.from (omega (arith, l, y.3)) (omega (arith, m, y.3)) in
+                  (suc r.0, (y.0, subst (λ (ws : List Way). Has ws y.0) (sym (is.ways ∙ s.followed.ways)) y.1, r.1, y.2))
+            ]
 
-    pub made_few : length made ≤ length J.ways
-    made_few =
-        let some = filter (λ (r : PairWay). one_of keys r.from) R in
-        let perm = gathered half_from half_from ways_meet way_pair (λ (r : PairWay). r.from) (λ x y. refl) keys Y X apart in
-        let len : length (flat_map (ways_at X Y) keys) ≡ length some = length_permutation some (flat_map (ways_at X Y) keys) perm in
-        let few : length some ≤ length R = filter_no_more (λ (r : PairWay). one_of keys r.from) R in
-        let match : length (flat_map (ways_at xs ys) keys) ≡ length made = match_len (IsWayBetween keys) (flat_map (ways_at xs ys) keys) made between in
-        omega (arith, len, few, match, ap length rows, ways_len)
+        join_reduces : Reduces C J
+        join_reduces = subst (Reduces C) join_is
+            (found_reduces n1 n2 A.graph.starts B.graph.starts R S A.graph.idle B.graph.idle sides keys within (flat_map (ways_at X Y) keys) (flat_map (stops_at_pair SX SY) keys) C of_found)
 
-    one_place : (k : Pair) (i j : ℕ) → slice_get keys i ≡ Some k → slice_get keys j ≡ Some k → i ≡ j
-    one_place k i j p q = some_same i j (sym (place_there keys k i apart p) ∙ place_there keys k j apart q)
+      pub join_made : all ≡ all_names A.names B.names → (r : Result Marked SizeFault) → IfOk r (λ (j : Marked). j.names ≡ all) →
+          IfOk r (λ (j : Marked). IsMadeOf keys count made sx sy A.graph.idle B.graph.idle j.graph) → IfOk r (IsJoinOf A B)
+      join_made all_are r names is =
+          join_by A B all all_are r (λ C. IsMadeOf keys count made sx sy A.graph.idle B.graph.idle C) (λ C is. join_reduces is) (λ C is. reached is) names is
 
-    pub idle_there : (p : ℕ) → IsIdlePair keys A.graph.idle B.graph.idle p → Has made (idle_way p)
-    idle_there p h =
-        let k = h.0 in
-        let wx = a.idle_ways k.left h.2 in
-        let wy = b.idle_ways k.right h.3 in
-        let x = half_way own1 shared1 (idle_way k.left) in
-        let y = half_way own2 shared2 (idle_way k.right) in
-        let hx : Has (those_at half_from k.left X) x = has_filter (λ z. nat_eq (half_from z) k.left) X x (Has-map (half_way own1 shared1) A.graph.ways (idle_way k.left) wx) (eq-eqb k.left k.left refl) in
-        let hy : Has (those_at half_from k.right Y) y = has_filter (λ z. nat_eq (half_from z) k.right) Y y (Has-map (half_way own2 shared2) B.graph.ways (idle_way k.right) wy) (eq-eqb k.right k.right refl) in
-        let some : has_some (meet all_bytes all_bytes) ≡ true = ap has_some (meet_itself all_bytes) ∙ some_bytes all_bytes (a.some_byte (idle_way k.left) wx) in
-        let agrees : nat_eq x.shared y.shared ≡ true = eq-eqb x.shared y.shared (moved_none shared1 ∙ sym (moved_none shared2)) in
-        let ok : ways_meet x y ≡ true = both_true (nat_eq x.shared y.shared) (has_some (meet all_bytes all_bytes)) agrees some in
-        let r = way_pair x y in
-        let here : Has (ways_at X Y k) r = has_flat_map (λ x. map (way_pair x) (filter (ways_meet x) (those_at half_from k.right Y))) (those_at half_from k.left X) x r hx
-        (Has-map (way_pair x) (filter (ways_meet x) (those_at half_from k.right Y)) y (has_filter (ways_meet x) (those_at half_from k.right Y) y hy ok)) in
-        let there : Has (flat_map (ways_at xs ys) keys) r = subst (λ zs. Has zs r) (sym rows) (has_flat_map (ways_at X Y) keys k r (Has-slice_get keys p k h.1) here) in
-        let place = place_of-Has (flat_map (ways_at xs ys) keys) r there in
-        let m = match_of (IsWayBetween keys) (flat_map (ways_at xs ys) keys) made place.0 r between place.2 in
-        let from : m.0.from ≡ p = one_place k m.0.from p m.2.from h.1 in
-        let to : m.0.to ≡ p = one_place k m.0.to p m.2.to h.1 in
-        let marks : m.0.marks ≡ 0 = omega (arith, m.2.marks, moved_none own1, moved_none own2) in
-        let bytes : m.0.bytes ≡ all_bytes = m.2.bytes ∙ meet_itself all_bytes in
-        subst (Has made) (λ i. record { from = from i; marks = marks i; bytes = bytes i; to = to i }) (Has-slice_get made place.0 m.0 m.1)
-
-    module _ (C : Automaton) (is : IsMadeOf keys (length keys0) made sx sy A.graph.idle B.graph.idle C) where
-      start_place : (i : ℕ) (k : Pair) → slice_get keys i ≡ Some k → (i < length keys0) ↔ (Has A.graph.starts k.left × Has B.graph.starts k.right)
-      start_place i k at = (
-        (λ l.
-            let d = pair_of 0 0 in
-            let there = slice_get-get_or keys0 i d l in
-            let same : get_or keys0 i d ≡ k = some_same (get_or keys0 i d) k (sym (ap (λ zs. slice_get zs i) followed.keys ∙ get_left keys0 followed.found i (get_or keys0 i d) there) ∙ at) in
-            elim (started.only k (subst (Has keys0) same (Has-slice_get keys0 i (get_or keys0 i d) there))) [ inl n ↦ absurd n | inr r ↦ r ]),
-        (λ h.
-            let has : Has keys0 k = started.all k.left k.right h.0 h.1 in
-            let j = place_of-Has keys0 k has in
-            let there : slice_get keys j.0 ≡ Some k = ap (λ zs. slice_get zs j.0) followed.keys ∙ get_left keys0 followed.found j.0 k j.2 in
-            omega (arith, one_place k i j.0 at there, j.1)),
-      )
-
-      fewer : length keys0 ≤ length keys
-      fewer = omega (arith, ap length followed.keys, length-append keys0 followed.found)
-
-      of_found : IsOfFound A.graph.starts B.graph.starts R (flat_map (ways_at X Y) keys) S (flat_map (stops_at_pair SX SY) keys) A.graph.idle B.graph.idle keys C
-      of_found = record {
-        apart = apart;
-        states = is.states;
-        started = λ p q h k. subst (λ zs. Has zs (pair_of p q)) (sym followed.keys) (Has-append_left keys0 followed.found (pair_of p q) (started.all p q h k));
-        starts = λ i k at. let s = start_place i k at in ((λ h. s.0 ((is.starts i).0 h)), (λ h. (is.starts i).1 (s.1 h)));
-        starts_within = λ i h. omega (arith, (is.starts i).0 h, fewer);
-        ways_are = gathered half_from half_from ways_meet way_pair (λ (r : PairWay). r.from) (λ x y. refl) keys Y X apart;
-        ways_match = subst (λ (ws : List Way). Matched (IsWayBetween keys) (flat_map (ways_at X Y) keys) ws) (sym is.ways)
-            (subst (λ (rs : List PairWay). Matched (IsWayBetween keys) rs made) rows between);
-        stops_are = gathered half_at half_at stops_meet stop_pair (λ (r : PairStop). r.at) (λ x y. refl) keys SY SX apart;
-        stops_match = subst (λ (rs : List PairStop). Matched (IsStopAt keys) rs C.stops) stop_rows is.stops;
-        idles = λ i k at. (
-          (λ h.
-              let r = (is.idles i).0 h in
-              let same : r.0 ≡ k = some_same r.0 k (sym r.1 ∙ at) in
-              (subst (λ (k : Pair). Has A.graph.idle k.left) same r.2, subst (λ (k : Pair). Has B.graph.idle k.right) same r.3)),
-          (λ h. (is.idles i).1 (k, at, h.0, h.1)),
-        );
-      }
-
-      pub join_reduces : Reduces C J
-      join_reduces = subst (Reduces C) join_is
-          (found_reduces n1 n2 A.graph.starts B.graph.starts R S A.graph.idle B.graph.idle sides keys within (flat_map (ways_at X Y) keys) (flat_map (stops_at_pair SX SY) keys) C of_found)
-
--- a refusal by fewer states and ways
-pub within_more : (n m v w : ℕ) (e : SizeFault) → n ≤ m → v ≤ w → IsSizeFaultWithin n v e → IsSizeFaultWithin m w e
-within_more n m v w (States count) l k h = (h.0, omega (arith, h.1, l))
-within_more n m v w (Ways count) l k h = (h.0, omega (arith, h.1, k))
-within_more n m v w OutOfMemory l k h = tt
+      pub fault_made : all ≡ all_names A.names B.names → (r : Result Marked SizeFault) → IfErr r (IsSizeFaultWithin (length keys) (length made)) → IfErr r (IsJoinFault A B)
+      fault_made all_are r h =
+          fault_by r (IsSizeFaultWithin (length keys) (length made)) (IsJoinFault A B)
+          (λ e f. subst (λ ns. IsSizeFaultWithin (n1 * n2) (length (join_over A B ns).ways) e) all_are
+          (within_more (length keys) (n1 * n2) (length made) (length J.ways) e keys_few made_few f)) h

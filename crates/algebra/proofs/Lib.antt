@@ -3,6 +3,7 @@ pub mod Assembled
 pub mod Bytes
 pub mod Followed
 pub mod Gathered
+pub mod JoinResults
 pub mod JoinTheory
 pub mod Joins
 pub mod NamesLaws
@@ -11,11 +12,12 @@ pub mod Places
 pub mod Reached
 pub mod ReductJoins
 pub mod ReductUnions
+pub mod Rejoined
 pub mod RenamingLaws
 pub mod RowLaws
 pub mod Searched
 pub mod Segments
 pub mod Stable
 pub mod Unions
-pub mod Unite
+pub mod United
 pub mod Whole

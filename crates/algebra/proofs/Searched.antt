@@ -1,8 +1,8 @@
 -- The search of pairs as a whole.
-use Rattle.std.proofs.Common.{◌≡◌, ℕ, zero, suc, ◌+◌, ◌<◌, ◌≤◌, ◌⊎◌, Bool, List, [], ◌∷◌, ◌++◌, length, get_or, take, nat_eq, inl, inr, refl, sym, ap, subst, arith, ◌∙◌, append_assoc}
+use Rattle.std.proofs.Common.{◌≡◌, ℕ, zero, suc, ◌+◌, ◌<◌, ◌≤◌, ◌⊎◌, Bool, List, [], ◌∷◌, ◌++◌, length, map, get_or, take, nat_eq, inl, inr, refl, sym, ap, subst, arith, ◌∙◌, append_assoc}
 use Rattle.std.specs.List.{filter, flat_map}
 use Rattle.std.proofs.lemmas.Grind.{flat_map-append}
-use Rattle.std.proofs.lemmas.List.{append-nil, take_more, take-append-le}
+use Rattle.std.proofs.lemmas.List.{append-nil, length-map, take_more, take-append-le}
 use Rattle.std.proofs.lemmas.List.Sorted.{length_permutation}
 use Rattle.std.proofs.lemmas.Bool.{eqb-true}
 use Rattle.spanner_model.specs.Lists.{Has, AreDistinct}
@@ -13,8 +13,13 @@ use Rattle.marked_automaton.specs.declared.fault.SizeFault.{SizeFault}
 use Rattle.marked_automaton.proofs.Permuted.{permutation_placed, has_placed}
 use Rattle.marked_automaton.proofs.Filtered.{kept_no_more}
 use Rattle.algebra.specs.declared.halves.HalfWay.{HalfWay}
+use Rattle.marked_automaton.specs.Automaton.{Automaton}
+use Rattle.algebra.specs.declared.halves.Side.{Side}
 use Rattle.algebra.specs.declared.pairs.Pair.{Pair}
-use Rattle.algebra.specs.Pairs.{pair_of, pairs, those_at, PairWay, AreStarted, AreWithin, HaveSameRows, IsRefusalOf, half_from, way_pair, ways_at, ways_meet}
+use Rattle.algebra.specs.Renaming.{half_way}
+use Rattle.algebra.specs.Sides.{half_ways_of}
+use Rattle.algebra.proofs.Segments.{those_map}
+use Rattle.algebra.specs.Pairs.{pair_of, pairs, those_at, PairWay, AreRowsOf, AreStarted, AreWithin, IsRefusalOf, half_from, way_from, way_pair, ways_at, ways_meet}
 use Rattle.algebra.proofs.Gathered.{one_of, gathered}
 use Rattle.marked_automaton.proofs.Passing.{filter_cases}
 use Rattle.algebra.proofs.Places.{keep_if, filter_is}
@@ -44,12 +49,6 @@ apart_take zero keys d = tt
 apart_take (suc n) [] d = tt
 apart_take (suc n) (k ∷ keys) d = ((λ h. d.0 (Has-take keys n k h)), apart_take n keys d.1)
 
--- by rows that are the same the same is made
-pub same_rows : (xs ys all1 all2 : List HalfWay) → HaveSameRows half_from xs all1 → HaveSameRows half_from ys all2 → (k : Pair) → ways_at xs ys k ≡ ways_at all1 all2 k
-same_rows xs ys all1 all2 s t k =
-    ap (λ zs. pairs ways_meet way_pair zs (those_at half_from k.left xs)) (t k.right)
-    ∙ ap (λ zs. pairs ways_meet way_pair (those_at half_from k.right all2) zs) (s k.left)
-
 pub gathered_ways : (keys : List Pair) (all1 all2 : List HalfWay) (r : PairWay) → AreDistinct keys → Has (flat_map (ways_at all1 all2) keys) r → Has (pairs ways_meet way_pair all2 all1) r
 gathered_ways keys all1 all2 r apart h =
     let all = pairs ways_meet way_pair all2 all1 in
@@ -58,18 +57,47 @@ gathered_ways keys all1 all2 r apart h =
     let p = permutation_placed some made (gathered half_from half_from ways_meet way_pair (λ (r : PairWay). r.from) (λ x y. refl) keys all2 all1 apart) in
     (filter_cases (λ (r : PairWay). one_of keys r.from) all r (has_placed some made p.0 p.1 r h)).0
 
-pub refusal_of_all : (xs ys all1 all2 : List HalfWay) (keys k0 : List Pair) (w0 : List Way) (e : SizeFault) →
-    HaveSameRows half_from xs all1 → HaveSameRows half_from ys all2 → AreDistinct keys →
-    IsRefusalOf (flat_map (ways_at xs ys) keys) k0 w0 e → IsRefusalOf (pairs ways_meet way_pair all2 all1) k0 w0 e
-refusal_of_all xs ys all1 all2 keys k0 w0 e s t apart h = λ n1 n2 w within l le.
-    let all = pairs ways_meet way_pair all2 all1 in
+pub refusal_of_all : (xs ys : List HalfWay) (keys k0 : List Pair) (w0 : List Way) (e : SizeFault) → AreDistinct keys →
+    IsRefusalOf (flat_map (ways_at xs ys) keys) k0 w0 e → IsRefusalOf (pairs ways_meet way_pair ys xs) k0 w0 e
+refusal_of_all xs ys keys k0 w0 e apart h = λ n1 n2 w within l le.
+    let all = pairs ways_meet way_pair ys xs in
     let some = filter (λ (r : PairWay). one_of keys r.from) all in
-    let made = flat_map (ways_at all1 all2) keys in
-    let same : flat_map (ways_at xs ys) keys ≡ made = (λ i. flat_map (λ k. same_rows xs ys all1 all2 s t k i) keys) in
-    let perm = gathered half_from half_from ways_meet way_pair (λ (r : PairWay). r.from) (λ x y. refl) keys all2 all1 apart in
+    let made = flat_map (ways_at xs ys) keys in
+    let perm = gathered half_from half_from ways_meet way_pair (λ (r : PairWay). r.from) (λ x y. refl) keys ys xs apart in
     let len : length made ≡ length some = length_permutation some made perm in
     let few : length some ≤ length all = filter_no_more (λ (r : PairWay). one_of keys r.from) all in
-    h n1 n2 w within (λ r x. l r (gathered_ways keys all1 all2 r apart (subst (λ zs. Has zs r) same x))) (omega (arith, ap length same, len, few, le))
+    h n1 n2 w within (λ r x. l r (gathered_ways keys xs ys r apart x)) (omega (arith, len, few, le))
+
+-- nothing is made where a side has nothing
+pub pairs_none : (xs ys : List HalfWay) → ((length xs ≡ 0) ⊎ (length ys ≡ 0)) → pairs ways_meet way_pair ys xs ≡ []
+pairs_none [] ys h = refl
+pairs_none (x ∷ xs) [] h = pairs_none xs [] (inr refl)
+pairs_none (x ∷ xs) (y ∷ ys) (inl e) = absurd (omega (arith, e))
+pairs_none (x ∷ xs) (y ∷ ys) (inr e) = absurd (omega (arith, e))
+
+-- the rows of a pair
+pub row_of_side : (side : Side) (A : Automaton) (p : ℕ) (ws : List Way) → ws ≡ those_at way_from p A.ways →
+    map (half_way side.own.items side.shared.items) ws ≡ those_at half_from p (half_ways_of side A)
+row_of_side side A p ws e =
+    ap (map (half_way side.own.items side.shared.items)) e ∙ those_map half_from (half_way side.own.items side.shared.items) p A.ways
+
+pub row_length : (side : Side) (A : Automaton) (p : ℕ) (ws : List Way) → ws ≡ those_at way_from p A.ways → length ws ≡ length (those_at half_from p (half_ways_of side A))
+row_length side A p ws e =
+    sym (length-map ws (half_way side.own.items side.shared.items)) ∙ ap length (row_of_side side A p ws e)
+
+pub rows_of : (xs ys lefts rights : List HalfWay) (k : Pair) → lefts ≡ those_at half_from k.left xs → rights ≡ those_at half_from k.right ys → AreRowsOf xs ys k lefts rights
+rows_of xs ys lefts rights k l r = record {
+  left = λ x h. row_has half_from k.left xs x (subst (λ (zs : List HalfWay). Has zs x) l h);
+  right = λ y h. row_has half_from k.right ys y (subst (λ (zs : List HalfWay). Has zs y) r h);
+  made = λ i. pairs ways_meet way_pair (r i) (l i);
+}
+
+pub no_rows_of : (xs ys : List HalfWay) (k : Pair) → ((length (those_at half_from k.left xs) ≡ 0) ⊎ (length (those_at half_from k.right ys) ≡ 0)) → AreRowsOf xs ys k [] []
+no_rows_of xs ys k h = record {
+  left = λ x n. absurd n;
+  right = λ y n. absurd n;
+  made = sym (pairs_none (those_at half_from k.left xs) (those_at half_from k.right ys) h);
+}
 
 -- a state of the second side more
 pub started_more : (left : ℕ) (rights : List ℕ) (i right : ℕ) (k1 k2 k3 : List Pair) → i < length rights → get_or rights i 0 ≡ right →

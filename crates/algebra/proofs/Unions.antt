@@ -1,19 +1,15 @@
 -- What a union, and an automaton with other blocks, accept.
 use Rattle.std.proofs.Common.{◌≡◌, ℕ, zero, suc, ◌+◌, ◌<◌, ◌≤◌, ◌⊎◌, List, length, inl, inr, refl, sym, ap, subst, arith, ◌∙◌}
-use Rattle.std.specs.Prelude.{map, nat_eq, if◌then◌else◌}
-use Rattle.std.proofs.lemmas.Bool.{eq-eqb, ne_eqb}
+use Rattle.std.specs.Prelude.{map}
 use Rattle.spanner_model.specs.Lists.{Has}
 use Rattle.marked_automaton.specs.declared.way.Way.{Way}
 use Rattle.marked_automaton.specs.declared.way.Stop.{Stop}
 use Rattle.marked_automaton.specs.Automaton.{Automaton, ReadsByte, Walk, Accepts}
 use Rattle.marked_automaton.specs.Automaton.{IsWhole}
-use Rattle.marked_automaton.specs.Laws.{AgreeOn, ProjectionLaw}
 use Rattle.algebra.specs.Operations.{moved_way, moved_stop, union_of}
-use Rattle.marked_automaton.specs.Marks.{remarked_way, remarked_stop, remarked}
 use Rattle.algebra.specs.Laws.{UnionLaw}
-use Rattle.marked_automaton.proofs.Listed.{compared}
 use Rattle.spanner_model.proofs.HasLaws.{Has-append_left, Has-append_right, Has-append_cases, Has-map, Has-map_cases}
-use Rattle.marked_automaton.proofs.Walks.{walk_more, walk_same, walk_stays}
+use Rattle.marked_automaton.proofs.Walks.{walk_more, walk_stays}
 
 -- a walk by moved ways
 moved_walk : (k : ℕ) (ways : List Way) (d : List ℕ) (w : ℕ → ℕ) (n i p q : ℕ) → Walk ways d w i n p q → Walk (map (moved_way k) ways) d w i n (k + p) (k + q)

@@ -1,5 +1,6 @@
 pub mod JoinedMarks
 pub mod JoinedNames
+pub mod Joining
 pub mod Laws
 pub mod Moved
 pub mod Operations

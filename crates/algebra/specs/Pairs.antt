@@ -1,5 +1,5 @@
 -- The pairs of states of a join, and the ways and ends between them.
-use Rattle.std.specs.Prelude.{◌≡◌, ℕ, ◌+◌, ◌*◌, ◌<◌, ◌≤◌, ◌⊎◌, Bool, ◌&&◌, nat_eq, List, [], ◌∷◌, ◌++◌, length, map, slice_get, Some}
+use Rattle.std.specs.Prelude.{◌≡◌, ℕ, ◌+◌, ◌*◌, ◌^◌, ◌<◌, ◌≤◌, ◌⊎◌, Bool, ◌&&◌, nat_eq, List, [], ◌∷◌, ◌++◌, length, map, slice_get, Some}
 use Rattle.std.specs.List.{filter, flat_map}
 use Rattle.spanner_model.specs.Lists.{Has}
 use Rattle.marked_automaton.specs.declared.way.Way.{Way}
@@ -32,6 +32,9 @@ pub record PairStop : Type 0 where
 abbrev pub pairs : {X Y R : Type 0} → (X → Y → Bool) → (X → Y → R) → List Y → List X → List R
 pairs {X} {Y} test make ys xs = flat_map (λ (x : X). map (make x) (filter (test x) ys)) xs
 
+abbrev pub way_from : Way → ℕ
+way_from y = y.from
+
 abbrev pub half_from : HalfWay → ℕ
 half_from x = x.way.from
 
@@ -49,6 +52,10 @@ way_pair x y = record {
   to = pair_of x.way.to y.way.to;
 }
 
+-- what two of these ways bring together are markers
+abbrev pub HaveSmallMarks : List HalfWay → List HalfWay → Type 0
+HaveSmallMarks xs ys = (x y : HalfWay) → Has xs x → Has ys y → x.way.marks + y.way.marks < 2 ^ 32
+
 abbrev pub stops_meet : HalfStop → HalfStop → Bool
 stops_meet x y = nat_eq x.shared y.shared
 
@@ -62,6 +69,12 @@ those_at at p xs = filter (λ x. nat_eq (at x) p) xs
 -- what the elements at the two states of a pair make
 abbrev pub pairs_at : {X Y R : Type 0} → (X → ℕ) → (Y → ℕ) → (X → Y → Bool) → (X → Y → R) → List X → List Y → Pair → List R
 pairs_at at1 at2 test make xs ys k = pairs test make (those_at at2 k.right ys) (those_at at1 k.left xs)
+
+-- these of the first and these of the second make what is made at the pair
+pub record AreRowsOf (xs ys : List HalfWay) (k : Pair) (lefts rights : List HalfWay) : Type 0 where
+  pub left : (x : HalfWay) → Has lefts x → Has xs x × (half_from x ≡ k.left)
+  pub right : (y : HalfWay) → Has rights y → Has ys y × (half_from y ≡ k.right)
+  pub made : pairs ways_meet way_pair rights lefts ≡ pairs_at half_from half_from ways_meet way_pair xs ys k
 
 -- a way of the automaton whose states are the places of these pairs
 pub record IsWayBetween (keys : List Pair) (r : PairWay) (y : Way) : Type 0 where
@@ -109,6 +122,8 @@ pub record IsFollowed (made : List PairWay) (keys1 : List Pair) (ways1 : List Wa
   pub new : List Way
   pub ways : ways2 ≡ ways1 ++ new
   pub between : Matched (IsWayBetween keys2) made new
+  -- to each new pair a new way leads from one that was found before
+  pub led : (p : ℕ) → length keys1 ≤ p → p < length keys2 → (y : Way) × Has new y × (y.to ≡ p) × (y.from < p)
 
 -- a refusal where these ways are to be made
 abbrev pub IsRefusalOf : List PairWay → List Pair → List Way → SizeFault → Type 0

@@ -1,7 +1,9 @@
 -- Where the bits of variables stand in blocks over others.
-use Rattle.std.specs.Prelude.{ℕ, ◌+◌, ◌*◌, ◌^◌, ◌/◌, ◌%◌, Bool, List, [], ◌∷◌, length, Option, Some, None, if◌then◌else◌}
+use Rattle.std.specs.Prelude.{ℕ, ◌+◌, ◌*◌, ◌^◌, ◌/◌, ◌%◌, ◌<◌, ◌≤◌, Bool, List, [], ◌∷◌, length, Option, Some, None, if◌then◌else◌}
 use Rattle.std.specs.Str.{bytes_eq}
+use Rattle.span_core.specs.declared.TheConstants.{MOST_VARIABLES}
 use Rattle.spanner_model.specs.Captures.{VarName}
+use Rattle.spanner_model.specs.Lists.{Has}
 use Rattle.marked_automaton.specs.declared.way.Way.{Way}
 use Rattle.marked_automaton.specs.declared.way.Stop.{Stop}
 use Rattle.marked_automaton.specs.Marks.{remarked_way, remarked_stop}
@@ -28,6 +30,11 @@ bits_up (Some s) m = m / 2 ^ s % 4
 abbrev pub moved_marks : List (Option ℕ) → ℕ → ℕ
 moved_marks [] m = 0
 moved_marks (s ∷ shifts) m = bits_up s m * 2 ^ (2 * length shifts) + moved_marks shifts m
+
+-- of no more variables than a set has where their bits stand in numbers of 32 bits
+pub record AreShifts (shifts : List (Option ℕ)) : Type 0 where
+  pub few : length shifts ≤ MOST_VARIABLES
+  pub small : (s : ℕ) → Has shifts (Some s) → s < 32
 
 -- the parts of one side with the bits that it brings, and those by which it has to agree
 abbrev pub half_way : List (Option ℕ) → List (Option ℕ) → Way → HalfWay

@@ -11,20 +11,30 @@ use Rattle.marked_automaton.specs.Faults.{IsSizeFaultWithin}
 use Rattle.marked_automaton.specs.Automaton.{Automaton}
 use Rattle.algebra.specs.declared.halves.HalfWay.{HalfWay}
 use Rattle.algebra.specs.declared.halves.HalfStop.{HalfStop}
+use Rattle.algebra.specs.declared.halves.Side.{Side}
 use Rattle.algebra.specs.declared.pairs.Pair.{Pair}
-use Rattle.algebra.specs.Pairs.{AreStarted, HaveSameRows, IsFollowed, IsIdlePair, IsStopAt, LeadWithin, Matched, half_at, half_from, pairs, stops_at_pair, way_pair, ways_at, ways_meet}
-use Rattle.algebra.specs.Renaming.{half_stop, half_way, shift_of}
+use Rattle.algebra.specs.Pairs.{AreStarted, HaveSameRows, IsFollowed, IsIdlePair, IsStopAt, LeadWithin, Matched, half_at, pairs, stops_at_pair, way_pair, ways_at, ways_meet}
+use Rattle.algebra.specs.Renaming.{AreShifts, half_stop, half_way, shift_of}
 
 -- for each of all names where its bits stand
 abbrev pub shifts_of : List VarName → List VarName → Bool → List VarName → List (Option ℕ)
 shifts_of names other wanted all = map (shift_of names other wanted) all
 
--- the ways and the ends of an automaton as those of a side, in the order of their states
-pub record IsSideOf (own shared : List (Option ℕ)) (A : Automaton) (xs : List HalfWay) (ys : List HalfStop) : Type 0 where
-  pub way_order : IsNonDecreasingBy half_from xs
-  pub ways : HaveSameRows half_from xs (map (half_way own shared) A.ways)
-  pub stop_order : IsNonDecreasingBy half_at ys
-  pub stops : HaveSameRows half_at ys (map (half_stop own shared) A.stops)
+-- the places of bits are those of variables
+pub record HasShifts (side : Side) : Type 0 where
+  pub own : AreShifts side.own.items
+  pub shared : AreShifts side.shared.items
+
+-- the ways of an automaton as those of a side
+abbrev pub half_ways_of : Side → Automaton → List HalfWay
+half_ways_of side A = map (half_way side.own.items side.shared.items) A.ways
+
+-- the side has these places of bits, and the ends of an automaton in the order of their states
+pub record IsSideOf (brought agreed : List (Option ℕ)) (A : Automaton) (side : Side) : Type 0 where
+  pub own : side.own.items ≡ brought
+  pub shared : side.shared.items ≡ agreed
+  pub stop_order : IsNonDecreasingBy half_at side.stops.items
+  pub stops : HaveSameRows half_at side.stops.items (map (half_stop brought agreed) A.stops)
 
 -- an automaton whose states are the places of pairs, of which so many are starts
 pub record IsMadeOf (keys : List Pair) (count : ℕ) (made : List Way) (left right : List HalfStop) (idle1 idle2 : List ℕ) (C : Automaton) : Type 0 where
@@ -44,9 +54,9 @@ pub record IsSearchOf (A B : Automaton) (xs ys : List HalfWay) (keys : List Pair
   pub started : AreStarted A.starts B.starts [] first
   pub followed : IsFollowed (flat_map (ways_at xs ys) keys) first [] keys made
 
--- a refusal of a search, told by all ways that there are, in whatever order
+-- a refusal of a search, told by all ways that there are
 abbrev pub IsSearchRefusal : Automaton → Automaton → List HalfWay → List HalfWay → SizeFault → Type 0
 IsSearchRefusal A B xs ys e =
-    (all1 all2 : List HalfWay) → HaveSameRows half_from xs all1 → HaveSameRows half_from ys all2 → (w : ℕ) →
-    ((p : ℕ) → Has A.starts p → p < A.states) → ((q : ℕ) → Has B.starts q → q < B.states) → LeadWithin A.states B.states (pairs ways_meet way_pair all2 all1) →
-    length (pairs ways_meet way_pair all2 all1) ≤ w → IsSizeFaultWithin (A.states * B.states) w e
+    (w : ℕ) → ((p : ℕ) → Has A.starts p → p < A.states) → ((q : ℕ) → Has B.starts q → q < B.states) →
+    LeadWithin A.states B.states (pairs ways_meet way_pair ys xs) → length (pairs ways_meet way_pair ys xs) ≤ w →
+    IsSizeFaultWithin (A.states * B.states) w e

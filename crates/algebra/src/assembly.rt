@@ -9,10 +9,11 @@ ghost use Rattle.marked_automaton.specs.declared.TheConstants.{MOST_STATES};
 ghost use Rattle.marked_automaton.specs.Automaton.{HasGraphOf, IsWayOf, idle_way};
 ghost use Rattle.marked_automaton.specs.Faults.{IsSizeFaultWithin};
 ghost use Rattle.algebra.specs.Sides.{IsMadeOf};
-ghost use Rattle.algebra.specs.Pairs.{AreWithin, HasAllButStarts, HasAllButStops, IsIdleHere, IsIdlePair, IsStopAt, Matched, half_at, pairs, stop_at, stop_pair, stops_at_pair, stops_meet, stops_with, those_at};
+ghost use Rattle.algebra.specs.Pairs.{AreWithin, HasAllButStarts, HasAllButStops, IsIdleHere, IsIdlePair, IsStopAt, Matched, half_at, pairs, stop_at, stop_pair, stops_at_pair, stops_meet, stops_with};
 
 use crate::halves::{HalfStop, Side};
 use crate::pairs::{Pair, Search};
+use crate::rows::stops_from;
 use marked_automaton::{Automaton, SizeFault, Stop};
 use span_core::{Marks, OutOfMemory, VarSet};
 use std::alloc::Global;
@@ -54,16 +55,6 @@ pub(crate) fn assembled(
     )?;
     add_idle(&mut automaton, found, a, b)?;
     Ok(automaton)
-}
-
-/// The ends at a state, of ends in the order of their states.
-fn stops_from(stops: &[HalfStop], state: u32) -> &[HalfStop]
-    requires { IsNonDecreasingBy half_at stops.now }
-    ensures { result.now ≡ those_at half_at state stops.now }
-{
-    let low = stops.partition_point(|half| half.stop.state < state);
-    let high = stops.partition_point(|half| half.stop.state <= state);
-    &stops[low..high]
 }
 
 /// Makes the first `count` states starts.

@@ -1,11 +1,10 @@
-//! The parts of a join's two sides.
-ghost use Rattle.std.specs.Prelude.{◌≡◌, ℕ, ◌<◌, ◌≤◌, length, map, true, IfOk, Some};
+//! The two sides of a join.
+ghost use Rattle.std.specs.Prelude.{◌≡◌, ◌≤◌, length, map, true, IfOk, OnOk};
 ghost use Rattle.std.specs.List.Sorted.{IsNonDecreasingBy};
-ghost use Rattle.spanner_model.specs.Lists.{Has};
 ghost use Rattle.span_core.specs.declared.TheConstants.{MOST_VARIABLES};
-ghost use Rattle.algebra.specs.Pairs.{HaveSameRows, half_at, half_from};
-ghost use Rattle.algebra.specs.Renaming.{half_stop, half_way};
-ghost use Rattle.algebra.specs.Sides.{IsSideOf, shifts_of};
+ghost use Rattle.algebra.specs.Pairs.{HaveSameRows, half_at};
+ghost use Rattle.algebra.specs.Renaming.{AreShifts, half_stop, half_way};
+ghost use Rattle.algebra.specs.Sides.{HasShifts, IsSideOf, shifts_of};
 
 use crate::renaming::{moved, shifts};
 use marked_automaton::{Automaton, Stop, Way};
@@ -31,7 +30,12 @@ pub(crate) struct HalfStop {
 /// One side of a join.
 #[derive(Drop)]
 pub(crate) struct Side {
-    pub(crate) ways: Vec<HalfWay>,
+    /// For each variable of the join how far up its bits stand in the markers of this side, if this side
+    /// brings them.
+    pub(crate) own: Vec<Option<u32>>,
+    /// The same, if both sides have them.
+    pub(crate) shared: Vec<Option<u32>>,
+    /// The ends, in the order of their states.
     pub(crate) stops: Vec<HalfStop>,
 }
 
@@ -47,43 +51,37 @@ pub(crate) fn side_of(
     other: &Automaton,
 ) -> Result<Side, OutOfMemory>
     requires { length all.now ≤ MOST_VARIABLES }
-    ensures { IfOk result (λ s. IsSideOf (shifts_of automaton.now.names own.now.names wanted all.now) (shifts_of automaton.now.names other.now.names true all.now) automaton.now.graph s.ways.items s.stops.items) }
+    ensures side { IfOk result (IsSideOf (shifts_of automaton.now.names own.now.names wanted all.now) (shifts_of automaton.now.names other.now.names true all.now) automaton.now.graph) }
+    ensures shifts { IfOk result HasShifts }
 {
     let vars = automaton.vars();
-    // What `len` says of each set holds of this one.
-    let _few = vars.len();
     let brought = shifts(alloc, all, vars, own.vars(), wanted)?;
     let shared = shifts(alloc, all, vars, other.vars(), true)?;
-    let ways = half_ways(
-        alloc,
-        automaton.ways(),
-        brought.as_slice(),
-        shared.as_slice(),
-    )?;
     let stops = half_stops(
         alloc,
         automaton.stops(),
         brought.as_slice(),
         shared.as_slice(),
     )?;
-    Ok(Side { ways, stops })
+    Ok(Side {
+        own: brought,
+        shared,
+        stops,
+    })
 }
 
-/// The ways of one side, in the order of the states that they lead from.
-pub(crate) fn half_ways(
-    alloc: Global,
+/// Makes of these ways those of a side, in the place of what `halves` had.
+pub(crate) fn put_half_ways(
+    halves: &mut Vec<HalfWay>,
     ways: &[Way],
     own: &[Option<u32>],
     shared: &[Option<u32>],
-) -> Result<Vec<HalfWay>, OutOfMemory>
-    requires few_own { length own.now ≤ MOST_VARIABLES }
-    requires small_own { (s : ℕ) → Has own.now (Some s) → s < 32 }
-    requires few_shared { length shared.now ≤ MOST_VARIABLES }
-    requires small_shared { (s : ℕ) → Has shared.now (Some s) → s < 32 }
-    ensures order { IfOk result (λ v. IsNonDecreasingBy half_from v.items) }
-    ensures rows { IfOk result (λ v. HaveSameRows half_from v.items (map (half_way own.now shared.now) ways.now)) }
+) -> Result<(), OutOfMemory>
+    requires own { AreShifts own.now }
+    requires shared { AreShifts shared.now }
+    ensures { OnOk result (halves.new.items ≡ map (half_way own.now shared.now) ways.now) }
 {
-    let mut halves = Vec::with_capacity(alloc, ways.len())?;
+    halves.clear();
     for way in ways {
         halves.push(HalfWay {
             way: Way {
@@ -95,21 +93,18 @@ pub(crate) fn half_ways(
             shared: moved(shared, way.marks),
         })?;
     }
-    halves.sort_by_key(|half| half.way.from)?;
-    Ok(halves)
+    Ok(())
 }
 
 /// The ends of one side, in the order of their states.
-pub(crate) fn half_stops(
+fn half_stops(
     alloc: Global,
     stops: &[Stop],
     own: &[Option<u32>],
     shared: &[Option<u32>],
 ) -> Result<Vec<HalfStop>, OutOfMemory>
-    requires few_own { length own.now ≤ MOST_VARIABLES }
-    requires small_own { (s : ℕ) → Has own.now (Some s) → s < 32 }
-    requires few_shared { length shared.now ≤ MOST_VARIABLES }
-    requires small_shared { (s : ℕ) → Has shared.now (Some s) → s < 32 }
+    requires own { AreShifts own.now }
+    requires shared { AreShifts shared.now }
     ensures order { IfOk result (λ v. IsNonDecreasingBy half_at v.items) }
     ensures rows { IfOk result (λ v. HaveSameRows half_at v.items (map (half_stop own.now shared.now) stops.now)) }
 {

@@ -1,39 +1,37 @@
 //! Automata put into larger ones, behind states that these have.
-ghost use Rattle.std.specs.Prelude.{◌≡◌, ℕ, ◌+◌, ◌≤◌, ◌<◌, ◌↔◌, ◌⊎◌, OnOk, IfOk, ◌++◌, map};
+ghost use Rattle.std.specs.Prelude.{◌≡◌, ℕ, ◌+◌, ◌≤◌, ◌<◌, ◌↔◌, ◌⊎◌, OnOk, IfErr, length, ◌++◌, map};
 ghost use Rattle.spanner_model.specs.Lists.{Has};
-ghost use Rattle.marked_automaton.specs.declared.TheConstants.{MOST_STATES};
+ghost use Rattle.marked_automaton.specs.declared.TheConstants.{MOST_STATES, MOST_WAYS};
+ghost use Rattle.marked_automaton.specs.declared.fault.SizeFault.TheVariants.{OutOfMemory as WantOfMemory};
 ghost use Rattle.marked_automaton.specs.Automaton.{HasGraphOf, IsMarked, IsWhole, idle_way};
-ghost use Rattle.algebra.specs.Moved.{HasMovedIdle, IsWithPart};
-ghost use Rattle.algebra.specs.Operations.{moved_stop, moved_way};
+ghost use Rattle.algebra.specs.Moved.{HasMovedIdle, IsWithPart, IsWithWays};
+ghost use Rattle.algebra.specs.Operations.{moved_stop};
 
-use marked_automaton::{Automaton, Stop, Way};
+use marked_automaton::{Automaton, SizeFault, Stop, Way};
 use span_core::OutOfMemory;
-use std::alloc::Global;
 
-/// The ways of `a`, and then those of `b` behind the states of `a`.
-pub(crate) fn ways_of_both(
-    alloc: Global,
-    a: &Automaton,
-    b: &Automaton,
-) -> Result<Vec<Way>, OutOfMemory>
-    requires few { a.now.graph.states + b.now.graph.states ≤ MOST_STATES }
-    ensures { IfOk result (λ ways. ways.items ≡ a.now.graph.ways ++ map (moved_way a.now.graph.states) b.now.graph.ways) }
+/// Adds the ways of a part, moved.
+pub(crate) fn add_ways(whole: &mut Automaton, part: &Automaton, by: u32) -> Result<(), SizeFault>
+    requires names { whole.old.names ≡ part.now.names }
+    requires room { by + part.now.graph.states ≤ whole.old.graph.states }
+    requires few { whole.old.graph.states ≤ MOST_STATES }
+    requires few_ways { length whole.old.graph.ways + length part.now.graph.ways ≤ MOST_WAYS }
+    ensures names { whole.new.names ≡ whole.old.names }
+    ensures ways { OnOk result (IsWithWays by part.now.graph whole.old.graph whole.new.graph) }
+    ensures fault { IfErr result (λ e. e ≡ WantOfMemory) }
 {
-    let by = a.states();
     // What `states` says of each automaton holds of this one.
-    let _whole = b.states();
-    let moved = b.ways();
-    let mut ways = Vec::with_capacity(alloc, a.ways().len() + moved.len())?;
-    ways.extend_from_slice(a.ways())?;
-    for way in moved {
-        ways.push(Way {
+    let _whole = part.states();
+    let ways = part.ways();
+    for way in ways {
+        whole.add_way(Way {
             from: by + way.from,
             marks: way.marks,
             bytes: way.bytes,
             to: by + way.to,
         })?;
     }
-    Ok(ways)
+    Ok(())
 }
 
 /// Adds the starts, the ends and the idle states of a part, whose ways are there, moved.

@@ -1,19 +1,17 @@
 //! Union, projection and join.
-ghost use Rattle.std.specs.Prelude.{◌≡◌, ℕ, ◌+◌, ◌*◌, ◌≤◌, IfOk, IfErr, List, length};
+ghost use Rattle.std.specs.Prelude.{◌≡◌, ℕ, ◌+◌, ◌*◌, ◌<◌, ◌≤◌, IfOk, IfErr, OnOk, List, length};
 ghost use Rattle.span_core.specs.declared.TheConstants.{MOST_VARIABLES};
 ghost use Rattle.spanner_model.specs.Lists.{Has};
+ghost use Rattle.marked_automaton.specs.declared.TheConstants.{MOST_STATES, MOST_WAYS};
 ghost use Rattle.marked_automaton.specs.Faults.{IsSizeFaultOf, IsSizeFaultWithin};
 ghost use Rattle.marked_automaton.specs.Marks.{left_of, remarked};
-ghost use Rattle.marked_automaton.specs.Reduct.{Reduces};
+ghost use Rattle.marked_automaton.specs.Reduct.{IsReached, Reduces};
 ghost use Rattle.algebra.specs.JoinedMarks.{agree_on, joined};
 ghost use Rattle.algebra.specs.JoinedNames.{all_names};
 ghost use Rattle.algebra.specs.Operations.{join_of, union_of};
 
-use crate::assembly::assembled;
-use crate::halves::side_of;
-use crate::moved::{add_part, ways_of_both};
-use crate::pairs::searched;
-use crate::renaming::names_of_both;
+use crate::joining::{grouped, join_to};
+use crate::moved::{add_part, add_ways};
 use marked_automaton::{Automaton, MOST_STATES, MOST_WAYS, SizeFault};
 use span_core::{OutOfMemory, VarSet};
 use std::alloc::Global;
@@ -29,6 +27,33 @@ pub fn union(alloc: Global, a: &Automaton, b: &Automaton) -> Result<Automaton, S
     ensures reduct { IfOk result (λ u. Reduces u.graph (union_of a.now.graph b.now.graph)) }
     ensures fault { IfErr result (λ e. IsSizeFaultOf (a.now.graph.states + b.now.graph.states) (length a.now.graph.ways + length b.now.graph.ways) e) }
 {
+    fit_together(a, b)?;
+    unite(a.copy(alloc)?, b)
+}
+
+/// The union of both (Fagin et al. 2015), made in the first: its states, starts, ways and ends stay, and
+/// those of `b` are put behind them. It costs what `b` has. Refused exactly as `union` is; on refusal the
+/// automaton is given up.
+pub fn unite(a: Automaton, b: &Automaton) -> Result<Automaton, SizeFault>
+    requires { a.names ≡ b.now.names }
+    ensures names { IfOk result (λ u. u.names ≡ a.names) }
+    ensures reduct { IfOk result (λ u. Reduces u.graph (union_of a.graph b.now.graph)) }
+    ensures fault { IfErr result (λ e. IsSizeFaultOf (a.graph.states + b.now.graph.states) (length a.graph.ways + length b.now.graph.ways) e) }
+{
+    fit_together(&a, b)?;
+    let by = a.states();
+    let mut whole = a;
+    whole.add_states(b.states())?;
+    add_ways(&mut whole, b, by)?;
+    add_part(&mut whole, b, by)?;
+    Ok(whole)
+}
+
+/// Refuses what is too large for a union.
+fn fit_together(a: &Automaton, b: &Automaton) -> Result<(), SizeFault>
+    ensures few { OnOk result ((a.now.graph.states + b.now.graph.states ≤ MOST_STATES) × (length a.now.graph.ways + length b.now.graph.ways ≤ MOST_WAYS)) }
+    ensures fault { IfErr result (λ e. IsSizeFaultOf (a.now.graph.states + b.now.graph.states) (length a.now.graph.ways + length b.now.graph.ways) e) }
+{
     let states = a.states() + b.states();
     let ways = a.ways().len() + b.ways().len();
     if states > MOST_STATES {
@@ -39,15 +64,7 @@ pub fn union(alloc: Global, a: &Automaton, b: &Automaton) -> Result<Automaton, S
     if ways > MOST_WAYS {
         return Err(SizeFault::Ways { count: ways as u64 });
     }
-    let mut whole = Automaton::with_ways(
-        alloc,
-        a.vars().copy(),
-        states,
-        ways_of_both(alloc, a, b)?,
-    )?;
-    add_part(&mut whole, a, 0)?;
-    add_part(&mut whole, b, a.states())?;
-    Ok(whole)
+    Ok(())
 }
 
 /// The automaton that accepts what is left of the words of `a` on the kept variables (projection).
@@ -73,14 +90,15 @@ pub fn join(alloc: Global, a: &Automaton, b: &Automaton) -> Result<Automaton, Si
     ensures names { IfOk result (λ j. j.names ≡ all_names a.now.names b.now.names) }
     ensures reduct { IfOk result (λ j. Reduces j.graph
         (join_of (agree_on a.now.names b.now.names j.names) (joined a.now.names b.now.names j.names) a.now.graph b.now.graph)) }
+    ensures reached { IfOk result (λ j. (p : ℕ) → p < j.graph.states → IsReached j.graph p) }
     ensures fault { IfErr result (λ e. IsSizeFaultWithin (a.now.graph.states * b.now.graph.states)
         (length (join_of (agree_on a.now.names b.now.names (all_names a.now.names b.now.names)) (joined a.now.names b.now.names (all_names a.now.names b.now.names)) a.now.graph b.now.graph).ways) e) }
 {
-    // What `states` says of each automaton holds of these two.
-    let _both = (a.states(), b.states());
-    let all = names_of_both(a.vars(), b.vars());
-    let left = side_of(alloc, a, &all, a, true, b)?;
-    let right = side_of(alloc, b, &all, a, false, a)?;
-    let (search, starts) = searched(alloc, a, b, &left, &right)?;
-    assembled(alloc, all, search, starts, a, b, &left, &right)
+    // What `states` says of each automaton holds of this one.
+    let _whole = b.states();
+    if a.is_grouped() {
+        return join_to(alloc, a, b);
+    }
+    let first = grouped(alloc, a)?;
+    join_to(alloc, &first, b)
 }

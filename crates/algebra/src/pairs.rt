@@ -1,17 +1,18 @@
 //! The pairs of states of a join, and the ways between them.
 ghost use Rattle.std.specs.Prelude.{◌≡◌, ℕ, ◌+◌, ◌*◌, ◌<◌, ◌≤◌, ◌^◌, ◌⊎◌, ◌++◌, List, [], ◌∷◌, length, slice_get, Some, OnOk, IfOk, IfErr};
 ghost use Rattle.std.specs.List.{flat_map};
-ghost use Rattle.std.specs.List.Sorted.{IsNonDecreasingBy};
 ghost use Rattle.spanner_model.specs.Lists.{AreDistinct, Has};
 ghost use Rattle.marked_automaton.specs.declared.TheConstants.{MOST_STATES};
+ghost use Rattle.marked_automaton.specs.Automaton.{AreGrouped};
 ghost use Rattle.marked_automaton.specs.Faults.{IsSizeFaultWithin};
-ghost use Rattle.algebra.specs.Sides.{IsSearchOf, IsSearchRefusal};
-ghost use Rattle.algebra.specs.Pairs.{AreStarted, AreWithin, HaveSameRows, IsFollowed, IsRefusalOf, IsStartRefusal, half_from, pair_of, pairs, those_at, way_pair, ways_at, ways_meet, ways_with};
+ghost use Rattle.algebra.specs.Sides.{HasShifts, IsSearchOf, IsSearchRefusal, half_ways_of};
+ghost use Rattle.algebra.specs.Pairs.{AreRowsOf, AreStarted, AreWithin, HaveSmallMarks, IsFollowed, IsRefusalOf, IsStartRefusal, pair_of, pairs, way_pair, ways_at, ways_meet, ways_with};
 
-use crate::halves::{HalfWay, Side};
+use crate::halves::{HalfWay, Side, put_half_ways};
+use crate::rows::ways_from;
 use indexmap::IndexSet;
 use marked_automaton::{Automaton, MOST_STATES, MOST_WAYS, SizeFault, Way};
-use span_core::Marks;
+use span_core::{Marks, OutOfMemory};
 use std::alloc::Global;
 
 /// A state of each side.
@@ -29,6 +30,14 @@ pub(crate) struct Search {
     pub(crate) ways: Vec<Way>,
 }
 
+/// The ways at the two states of a pair, as those of a join's sides. They are made for one pair after the
+/// other, in the same memory.
+#[derive(Drop)]
+struct Rows {
+    left: Vec<HalfWay>,
+    right: Vec<HalfWay>,
+}
+
 /// All pairs that are reached from pairs of starts, and the ways between them. The first pairs, so many as
 /// it says, are those of starts.
 pub(crate) fn searched(
@@ -38,27 +47,59 @@ pub(crate) fn searched(
     left: &Side,
     right: &Side,
 ) -> Result<(Search, u32), SizeFault>
-    requires left { IsNonDecreasingBy half_from left.now.ways.items }
-    requires right { IsNonDecreasingBy half_from right.now.ways.items }
-    requires marks { (x y : HalfWay) → Has left.now.ways.items x → Has right.now.ways.items y → x.way.marks + y.way.marks < 2 ^ 32 }
-    ensures searched { IfOk result (λ r. IsSearchOf a.now.graph b.now.graph left.now.ways.items right.now.ways.items r.0.found.keys r.1 r.0.ways.items) }
-    ensures fault { IfErr result (λ e. IsSearchRefusal a.now.graph b.now.graph left.now.ways.items right.now.ways.items e) }
+    requires first { AreGrouped a.now.graph.ways }
+    requires second { AreGrouped b.now.graph.ways }
+    requires left { HasShifts left.now }
+    requires right { HasShifts right.now }
+    requires marks { HaveSmallMarks (half_ways_of left.now a.now.graph) (half_ways_of right.now b.now.graph) }
+    ensures searched { IfOk result (λ r. IsSearchOf a.now.graph b.now.graph (half_ways_of left.now a.now.graph) (half_ways_of right.now b.now.graph) r.0.found.keys r.1 r.0.ways.items) }
+    ensures fault { IfErr result (λ e. IsSearchRefusal a.now.graph b.now.graph (half_ways_of left.now a.now.graph) (half_ways_of right.now b.now.graph) e) }
 {
     let mut search = Search::new(alloc);
     search.find_all(a.starts(), b.starts())?;
     let starts = search.found.len() as u32;
-    search.follow_all(left.ways.as_slice(), right.ways.as_slice())?;
+    search.follow_all(alloc, a, b, left, right)?;
     Ok((search, starts))
 }
 
-/// The ways from a state, of ways in the order of the states that they lead from.
-fn ways_from(ways: &[HalfWay], state: u32) -> &[HalfWay]
-    requires { IsNonDecreasingBy half_from ways.now }
-    ensures { result.now ≡ those_at half_from state ways.now }
-{
-    let low = ways.partition_point(|half| half.way.from < state);
-    let high = ways.partition_point(|half| half.way.from <= state);
-    &ways[low..high]
+impl Rows {
+    /// Makes the rows of this pair, in the place of those that were there. Where one of its states has no
+    /// ways, those of the other are left out.
+    fn put(
+        &mut self,
+        pair: Pair,
+        a: &Automaton,
+        b: &Automaton,
+        left: &Side,
+        right: &Side,
+    ) -> Result<(), OutOfMemory>
+        requires first { AreGrouped a.now.graph.ways }
+        requires second { AreGrouped b.now.graph.ways }
+        requires left { HasShifts left.now }
+        requires right { HasShifts right.now }
+        ensures { OnOk result (AreRowsOf (half_ways_of left.now a.now.graph) (half_ways_of right.now b.now.graph) pair self.new.left.items self.new.right.items) }
+    {
+        let lefts = ways_from(a.ways(), pair.left);
+        let rights = ways_from(b.ways(), pair.right);
+        if lefts.is_empty() || rights.is_empty() {
+            self.left.clear();
+            self.right.clear();
+            return Ok(());
+        }
+        put_half_ways(
+            &mut self.left,
+            lefts,
+            left.own.as_slice(),
+            left.shared.as_slice(),
+        )?;
+        put_half_ways(
+            &mut self.right,
+            rights,
+            right.own.as_slice(),
+            right.shared.as_slice(),
+        )?;
+        Ok(())
+    }
 }
 
 impl Search {
@@ -101,23 +142,33 @@ impl Search {
     }
 
     /// Follows each pair that is found, also those that are found meanwhile.
-    fn follow_all(&mut self, xs: &[HalfWay], ys: &[HalfWay]) -> Result<(), SizeFault>
-        requires left { IsNonDecreasingBy half_from xs.now }
-        requires right { IsNonDecreasingBy half_from ys.now }
-        requires marks { (x y : HalfWay) → Has xs.now x → Has ys.now y → x.way.marks + y.way.marks < 2 ^ 32 }
+    fn follow_all(
+        &mut self,
+        alloc: Global,
+        a: &Automaton,
+        b: &Automaton,
+        left: &Side,
+        right: &Side,
+    ) -> Result<(), SizeFault>
+        requires first { AreGrouped a.now.graph.ways }
+        requires second { AreGrouped b.now.graph.ways }
+        requires left { HasShifts left.now }
+        requires right { HasShifts right.now }
+        requires marks { HaveSmallMarks (half_ways_of left.now a.now.graph) (half_ways_of right.now b.now.graph) }
         requires few { length self.old.found.keys ≤ MOST_STATES }
         ensures apart { OnOk result (AreDistinct self.new.found.keys) }
-        ensures followed { OnOk result (IsFollowed (flat_map (ways_at xs.now ys.now) self.new.found.keys) self.old.found.keys self.old.ways.items self.new.found.keys self.new.ways.items) }
-        ensures fault { IfErr result (λ e. (all1 all2 : List HalfWay) → HaveSameRows half_from xs.now all1 → HaveSameRows half_from ys.now all2 → IsRefusalOf (pairs ways_meet way_pair all2 all1) self.old.found.keys self.old.ways.items e) }
+        ensures followed { OnOk result (IsFollowed (flat_map (ways_at (half_ways_of left.now a.now.graph) (half_ways_of right.now b.now.graph)) self.new.found.keys) self.old.found.keys self.old.ways.items self.new.found.keys self.new.ways.items) }
+        ensures fault { IfErr result (λ e. IsRefusalOf (pairs ways_meet way_pair (half_ways_of right.now b.now.graph) (half_ways_of left.now a.now.graph)) self.old.found.keys self.old.ways.items e) }
     {
+        let mut rows = Rows {
+            left: Vec::new(alloc),
+            right: Vec::new(alloc),
+        };
         let mut done = 0;
         while done < self.found.len() {
             let pair = self.found.as_slice()[done];
-            self.follow_pair(
-                done as u32,
-                ways_from(xs, pair.left),
-                ways_from(ys, pair.right),
-            )?;
+            rows.put(pair, a, b, left, right)?;
+            self.follow_pair(done as u32, rows.left.as_slice(), rows.right.as_slice())?;
             done += 1;
         }
         Ok(())
@@ -128,6 +179,7 @@ impl Search {
         ensures number { IfOk result (λ i. slice_get self.new.found.keys i ≡ Some pair) }
         ensures grows { OnOk result ((found : List Pair) × (self.new.found.keys ≡ self.old.found.keys ++ found)) }
         ensures only { OnOk result ((k : Pair) → Has self.new.found.keys k → Has self.old.found.keys k ⊎ (k ≡ pair)) }
+        ensures last { IfOk result (λ i. (p : ℕ) → length self.old.found.keys ≤ p → p < length self.new.found.keys → i ≡ p) }
         ensures few { OnOk result (length self.new.found.keys ≤ MOST_STATES) }
         ensures within { OnOk result ((n1 n2 : ℕ) → AreWithin n1 n2 self.old.found.keys → pair.left < n1 → pair.right < n2 → AreWithin n1 n2 self.new.found.keys) }
         ensures ways { self.new.ways.items ≡ self.old.ways.items }
@@ -186,7 +238,7 @@ impl Search {
     /// Makes the ways of all of these, which lead from the states of the pair of this number.
     fn follow_pair(&mut self, from: u32, xs: &[HalfWay], ys: &[HalfWay]) -> Result<(), SizeFault>
         requires from { (x y : HalfWay) → Has xs.now x → Has ys.now y → slice_get self.old.found.keys from ≡ Some (pair_of x.way.from y.way.from) }
-        requires marks { (x y : HalfWay) → Has xs.now x → Has ys.now y → x.way.marks + y.way.marks < 2 ^ 32 }
+        requires marks { HaveSmallMarks xs.now ys.now }
         ensures followed { OnOk result (IsFollowed (pairs ways_meet way_pair ys.now xs.now) self.old.found.keys self.old.ways.items self.new.found.keys self.new.ways.items) }
         ensures fault { IfErr result (λ e. IsRefusalOf (pairs ways_meet way_pair ys.now xs.now) self.old.found.keys self.old.ways.items e) }
     {

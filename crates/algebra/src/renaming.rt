@@ -1,10 +1,9 @@
 //! Markers of the variables of one set as markers of those of another.
-ghost use Rattle.std.specs.Prelude.{◌≡◌, ℕ, ◌<◌, ◌≤◌, List, length, map, IfOk, Some};
+ghost use Rattle.std.specs.Prelude.{◌≡◌, ℕ, ◌<◌, ◌≤◌, List, length, map, IfOk};
 ghost use Rattle.std.specs.Option.{ForSome};
-ghost use Rattle.spanner_model.specs.Lists.{Has};
 ghost use Rattle.span_core.specs.declared.TheConstants.{MOST_VARIABLES};
 ghost use Rattle.algebra.specs.JoinedNames.{all_names};
-ghost use Rattle.algebra.specs.Renaming.{bits_up, moved_marks, shift_of};
+ghost use Rattle.algebra.specs.Renaming.{AreShifts, bits_up, moved_marks, shift_of};
 
 use span_core::{Marks, Name, OutOfMemory, VarSet};
 use std::alloc::Global;
@@ -30,8 +29,12 @@ pub(crate) fn shifts(
     other: &VarSet,
     wanted: bool,
 ) -> Result<Vec<Option<u32>>, OutOfMemory>
-    ensures { IfOk result (λ v. v.items ≡ map (shift_of names.now other.now wanted) all.now) }
+    requires { length all.now ≤ MOST_VARIABLES }
+    ensures value { IfOk result (λ v. v.items ≡ map (shift_of names.now other.now wanted) all.now) }
+    ensures fit { IfOk result (λ v. AreShifts v.items) }
 {
+    // What `len` says of each set holds of this one.
+    let _few = names.len();
     let mut shifts = Vec::new(alloc);
     for k in 0..all.len() {
         shifts.push(shift(all.at(k), names, other, wanted))?;
@@ -55,10 +58,12 @@ fn shift(name: &Name, names: &VarSet, other: &VarSet, wanted: bool) -> Option<u3
 
 /// The markers that have the bits of these, two after two, which stand so far up.
 pub(crate) fn moved(shifts: &[Option<u32>], marks: Marks) -> Marks
-    requires few { length shifts.now ≤ MOST_VARIABLES }
-    requires small { (s : ℕ) → Has shifts.now (Some s) → s < 32 }
+    requires { AreShifts shifts.now }
     ensures { result ≡ moved_marks shifts.now marks }
 {
+    if marks.is_none() {
+        return Marks::none();
+    }
     let mut number = 0;
     for shift in shifts {
         number = number * 4 + bits(*shift, marks.number());

@@ -2,8 +2,8 @@
 ghost use Rattle.std.specs.Prelude.{◌≡◌, ◌+◌, ◌*◌, ◌^◌, ◌<◌, ◌≤◌, ◌↔◌, [], length, IfOk, IsTrue};
 ghost use Rattle.span_core.specs.declared.TheConstants.{MOST_VARIABLES};
 
-use crate::{join, project, union};
-use marked_automaton::{Automaton, SizeFault, Stop, Way};
+use crate::{join, project, union, unite};
+use marked_automaton::{Automaton, MOST_STATES, MOST_WAYS, SizeFault, Stop, Way};
 use span_core::{ByteSet, MOST_VARIABLES, Marks, Name, Row, Span, VarSet};
 use std::alloc::Global;
 
@@ -69,6 +69,63 @@ fn plain(alloc: Global, low: u8, high: u8) -> Result<Automaton, SizeFault>
         high,
         Marks::none(),
     )
+}
+
+/// Adds a way without markers that reads this byte, if both states are there.
+fn add(automaton: &mut Automaton, from: u32, byte: u8, to: u32) -> Result<(), SizeFault>
+    ensures names { automaton.new.names ≡ automaton.old.names }
+{
+    let states = automaton.states();
+    let variables = automaton.vars().len();
+    let bytes = ByteSet::range(byte, byte);
+    if from < states && to < states && fits(Marks::none(), variables) && !bytes.is_empty() {
+        automaton.add_way(Way {
+            from,
+            marks: Marks::none(),
+            bytes,
+            to,
+        })?;
+    }
+    Ok(())
+}
+
+/// Has one state and so many ways from it to itself.
+fn looping(alloc: Global, ways: u32) -> Result<Automaton, SizeFault>
+    ensures names { IfOk result (λ a. a.names ≡ []) }
+{
+    let mut automaton = Automaton::new(alloc, VarSet::empty(), 1)?;
+    automaton.add_start(0)?;
+    for _ in 0..ways {
+        add(&mut automaton, 0, b'a', 0)?;
+    }
+    Ok(automaton)
+}
+
+/// Has so many states, to each of which a way leads from the first.
+fn star(alloc: Global, states: u32) -> Result<Automaton, SizeFault> {
+    let mut automaton = Automaton::new(alloc, VarSet::empty(), states)?;
+    if states > 0 {
+        automaton.add_start(0)?;
+    }
+    for state in 0..states {
+        add(&mut automaton, 0, b'a', state)?;
+    }
+    Ok(automaton)
+}
+
+/// Reads two bytes. Its second way stands before its first.
+fn turned(alloc: Global, first: u8, second: u8) -> Result<Automaton, SizeFault> {
+    let mut automaton = Automaton::new(alloc, VarSet::empty(), 3)?;
+    add(&mut automaton, 1, second, 2)?;
+    add(&mut automaton, 0, first, 1)?;
+    if automaton.states() == 3 && fits(Marks::none(), automaton.vars().len()) {
+        automaton.add_start(0)?;
+        automaton.add_stop(Stop {
+            state: 2,
+            marks: Marks::none(),
+        })?;
+    }
+    Ok(automaton)
 }
 
 /// Captures the byte a as the one variable.
@@ -170,6 +227,73 @@ fn unions_are_refused_at_the_limit(rt: HostRuntime) -> Result<(), SizeFault> {
         union(rt.alloc(), &a, &more).err(),
         Some(SizeFault::States { count: 20_001 })
     );
+    Ok(())
+}
+
+#[test]
+fn unions_are_refused_for_their_ways(rt: HostRuntime) -> Result<(), SizeFault> {
+    let a = looping(rt.alloc(), 1_000_001)?;
+    let b = looping(rt.alloc(), 1_000_000)?;
+    assert_eq!(rt; a.ways().len() + b.ways().len(), 2_000_001);
+    let refused = Some(SizeFault::Ways { count: 2_000_001 });
+    assert_eq!(rt; union(rt.alloc(), &a, &b).err(), refused);
+    assert_eq!(rt; unite(a, &b).err(), refused);
+    Ok(())
+}
+
+#[test]
+fn unions_are_made_in_place(rt: HostRuntime) -> Result<(), SizeFault> {
+    let a = plain(rt.alloc(), b'a', b'a')?;
+    let b = plain(rt.alloc(), b'b', b'b')?;
+    let c = plain(rt.alloc(), b'c', b'c')?;
+    let all = unite(unite(a, &b)?, &c)?;
+    assert_eq!(rt; all.states(), 6);
+    assert_eq!(rt; all.ways().len(), 3);
+    assert!(rt; accepts(&all, rt.alloc(), b"a")?);
+    assert!(rt; accepts(&all, rt.alloc(), b"b")?);
+    assert!(rt; accepts(&all, rt.alloc(), b"c")?);
+    assert!(rt; !accepts(&all, rt.alloc(), b"d")?);
+    assert!(rt; !accepts(&all, rt.alloc(), b"ab")?);
+    let more = Automaton::new(rt.alloc(), VarSet::empty(), MOST_STATES)?;
+    assert_eq!(rt;
+        unite(more, &c).err(),
+        Some(SizeFault::States { count: 20_002 })
+    );
+    Ok(())
+}
+
+#[test]
+fn joins_are_refused_for_their_states(rt: HostRuntime) -> Result<(), SizeFault> {
+    let few = star(rt.alloc(), 141)?;
+    assert_eq!(rt; joined(rt.alloc(), &few, &few)?.states(), 19_881);
+    let a = star(rt.alloc(), 142)?;
+    let refused = joined(rt.alloc(), &a, &a).err();
+    assert!(rt;
+        matches!(refused, Some(SizeFault::States { count }) if count > u64::from(MOST_STATES))
+    );
+    Ok(())
+}
+
+#[test]
+fn joins_are_refused_for_their_ways(rt: HostRuntime) -> Result<(), SizeFault> {
+    let a = looping(rt.alloc(), 1415)?;
+    let refused = joined(rt.alloc(), &a, &a).err();
+    assert!(rt; matches!(refused, Some(SizeFault::Ways { count }) if count > MOST_WAYS as u64));
+    Ok(())
+}
+
+#[test]
+fn joins_take_ways_in_any_order(rt: HostRuntime) -> Result<(), SizeFault> {
+    let a = turned(rt.alloc(), b'a', b'b')?;
+    let b = turned(rt.alloc(), b'a', b'c')?;
+    assert!(rt; !a.is_grouped());
+    let both = joined(rt.alloc(), &a, &a)?;
+    assert!(rt; accepts(&both, rt.alloc(), b"ab")?);
+    assert!(rt; !accepts(&both, rt.alloc(), b"a")?);
+    assert!(rt; !accepts(&both, rt.alloc(), b"ba")?);
+    let apart = joined(rt.alloc(), &a, &b)?;
+    assert_eq!(rt; apart.states(), 2);
+    assert!(rt; !accepts(&apart, rt.alloc(), b"ab")?);
     Ok(())
 }
 

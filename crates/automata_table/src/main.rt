@@ -18,7 +18,7 @@ mod texts;
 
 use comparing::{Tally, check_text};
 use fault::Fault;
-use sizes::size_of_text;
+use sizes::{size_of_text, size_of_unused_lets};
 use std::io;
 use std::process::ExitCode;
 use texts::{GROUPS, LARGE};
@@ -68,6 +68,10 @@ fn run(rt: &HostRuntime) -> io::Result<Ending> {
             Ok(size) => println!(rt; "{text} {size}")?,
             Err(fault) => return ended_by(rt, text, &fault),
         }
+    }
+    match size_of_unused_lets(rt.alloc()) {
+        Ok(size) => println!(rt; "unused lets {size}")?,
+        Err(fault) => return ended_by(rt, "unused lets", &fault),
     }
     let Tally {
         queries,

@@ -1,5 +1,7 @@
 //! The table of queries.
 
+use std::alloc::{AllocError, Global};
+
 /// Queries, one a line, and the bytes of the documents on which they are checked.
 pub(crate) struct Group {
     pub bytes: &'static [u8],
@@ -124,11 +126,35 @@ project y (project x, y (/!x{a*}!y{b*}!z{a*}/))
 let w = /!x{a+}/; w join (w union /!x{b}/)
 let w = /!x{a+}/; let v = /!y{b}/; v
 let w = /!x{a}b/; let v = w union /a!x{b}/; project none (v join w)
-let w = /!x{a}!y{b}/; project x (w) join project y (w)";
+let w = /!x{a}!y{b}/; project x (w) join project y (w)
+let w = /!x{a*}/; w join w
+let u = /!x{a+}/; let v = u; v join u
+let u = /!x{a}/; let v = u; let w = v; v union w
+let u = /!x{a}/; let v = /!y{b}/; let w = u; let z = /!x{b+}/; w union z
+let u = /!x{a}/; let v = /!x{b}/; let w = /!x{ab}/; w union u
+let u = /!x{a+}/; let v = u union /!x{b}/; let w = /!y{.}/; let z = v union u; project x (z join w)
+let u = /!y{b}/; let v = /!x{a}!y{b}/; let w = project y (v); w join u
+let u = /!x{a}/; let v = /!x{b}/; let w = u union v; let z = w; u union z union v
+let u = /!x{a}b/; let v = project none (u); let w = v; let z = /b/; u join w join z";
 
 /// Queries of large automata, and queries that are refused.
 pub const LARGE: &str = r"/^(a{1000}){19}a{999}$/
 /(a{1000}){20}/
 /((a?){1000}){3}/
 /(a{1000}){10}/ union /(a{1000}){10}/
-let big = /(a{1000}){20}/; /a/";
+let big = /(a{1000}){20}/; /a/
+let half = /(a{1000}){10}/; let whole = half union half; /a/
+let half = /(a{1000}){9}/; let same = half; half union same";
+
+/// How many `let`s the text of `unused_lets` has.
+const UNUSED_LETS: u32 = 100;
+
+/// Many `let`s of large atoms, and a body that names none of them.
+pub(crate) fn unused_lets(alloc: Global) -> Result<String, AllocError> {
+    let mut text = String::new(alloc);
+    for k in 0..UNUSED_LETS {
+        text.push_str(format!(in alloc; "let big{k} = /(a{{1000}}){{19}}/; ")?.as_str())?;
+    }
+    text.push_str("/a/")?;
+    Ok(text)
+}

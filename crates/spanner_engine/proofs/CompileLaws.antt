@@ -1,5 +1,5 @@
 -- What is made of the parts of an expression when it is compiled.
-use Rattle.std.proofs.Common.{◌≡◌, ℕ, Bool, true, false, map, length-append, zero, suc, ◌+◌, ◌*◌, ◌≤◌, ◌⊎◌, List, [], ◌∷◌, ◌++◌, length, take, drop, Some, inl, inr, refl, sym, ap, subst, arith, ◌∙◌}
+use Rattle.std.proofs.Common.{◌≡◌, ℕ, Bool, true, false, map, length-append, zero, suc, ◌+◌, ◌*◌, ◌≤◌, ◌⊎◌, List, [], ◌∷◌, ◌++◌, length, take, drop, Option, Some, inl, inr, refl, sym, ap, subst, arith, ◌∙◌}
 use Rattle.std.specs.Prelude.{slice_get}
 use Rattle.std.specs.FinSet as set
 use Rattle.std.specs.List.{filter}
@@ -14,7 +14,7 @@ use Rattle.spanner_model.specs.Expression.{ExprTree, QueryTree, project, union_a
 use Rattle.spanner_model.specs.Answer.{VarOf, Answer, vars_of_lets, answers_of_lets}
 use Rattle.spanner_model.specs.Sound.{IsSound, IsSoundExpr, NameInLets, NameOf}
 use Rattle.spanner_model.proofs.Deciding.{told_lets}
-use Rattle.spanner_model.proofs.ExprLaws.{union_part, join_part, union_var, union_named, join_named, var_named, lets_named}
+use Rattle.spanner_model.proofs.ExprLaws.{union_part, join_part, union_var, union_named, join_named, union_two, join_two, var_named, lets_named}
 use Rattle.spanner_model.proofs.HasLaws.{Has-slice_get, Has-append_left, Has-append_cases, Has-map_cases, distinct-le}
 use Rattle.spanner_model.proofs.NameLaws.{ascending-distinct, same_names}
 use Rattle.spanner_model.proofs.TreeLaws.{take_at_more}
@@ -42,6 +42,7 @@ use Rattle.spanner_engine.specs.QueryAutomaton.{of_union, of_join, automaton_of,
 use Rattle.spanner_engine.proofs.Names.{all_ascend, all_are}
 use Rattle.spanner_engine.proofs.PartLaws.{union_push, join_push, union_part_of, join_part_of, union_step, join_step, large_part}
 use Rattle.spanner_engine.proofs.QueryWords.{expr_for, lets_for}
+use Rattle.spanner_engine.proofs.UseLaws.{union_names_some, join_names_some}
 use Rattle.spanner_engine.proofs.Words.{IsFor}
 
 -- ---- lists of parts
@@ -60,14 +61,14 @@ first_taken (x ∷ xs) (suc k) l m = (x, take k xs, refl, inl refl)
 
 pub asked_united : (q : QueryTree) (n : ℕ) (es : List ExprTree) (e : ExprTree) → Has es e → IsAsked q n (union_all es) → IsAsked q n e
 asked_united q n es e h a =
-    record { sound = a.sound; sound_expr = union_part (vars_of_lets q.lets n) n es e a.sound_expr h; named = λ x v. a.named x (union_named es e x h v) }
+    record { sound = a.sound; sound_expr = union_part (vars_of_lets q.lets n) n es e a.sound_expr h; named = λ x v. a.named x (union_named es e x h v); spoken = λ k m. a.spoken k ((union_names_some es k).1 (e, h, m)) }
 
 pub asked_joined : (q : QueryTree) (n : ℕ) (es : List ExprTree) (e : ExprTree) → Has es e → IsAsked q n (join_all es) → IsAsked q n e
 asked_joined q n es e h a =
-    record { sound = a.sound; sound_expr = join_part (vars_of_lets q.lets n) n es e a.sound_expr h; named = λ x v. a.named x (join_named es e x h v) }
+    record { sound = a.sound; sound_expr = join_part (vars_of_lets q.lets n) n es e a.sound_expr h; named = λ x v. a.named x (join_named es e x h v); spoken = λ k m. a.spoken k ((join_names_some es k).1 (e, h, m)) }
 
 pub asked_sub : (q : QueryTree) (n : ℕ) (kept : List VarName) (e : ExprTree) → IsAsked q n (project kept e) → IsAsked q n e
-asked_sub q n kept e a = record { sound = a.sound; sound_expr = a.sound_expr.0; named = λ x v. a.named x v }
+asked_sub q n kept e a = record { sound = a.sound; sound_expr = a.sound_expr.0; named = λ x v. a.named x v; spoken = λ k m. a.spoken k m }
 
 -- ---- keeping in order, and small atoms, of lists of parts
 
@@ -89,15 +90,28 @@ fine_more es k y at h g e i =
       | inr b ↦ elim b as (λ _. IsFine e) [ inl same ↦ subst IsFine same g | inr c ↦ absurd c ]
     ]
 
--- what is made of the first k of these parts
-pub record UnionSoFar (L : ℕ → Marked) (es : List ExprTree) (k : ℕ) (a : Marked) : Type 0 where
-  pub reduces : ReducesMarked a (automaton_of L (union_all (take k es)))
+-- what is made of the first k of these parts, of which `all` makes a union or a join
+pub record SoFar (all : List ExprTree → ExprTree) (L : ℕ → Marked) (es : List ExprTree) (k : ℕ) (a : Marked) : Type 0 where
+  pub reduces : ReducesMarked a (automaton_of L (all (take k es)))
   pub fine : (e : ExprTree) → Has (take k es) e → IsFine e
 
--- what is made of the first k of these parts
-pub record JoinSoFar (L : ℕ → Marked) (es : List ExprTree) (k : ℕ) (a : Marked) : Type 0 where
-  pub reduces : ReducesMarked a (automaton_of L (join_all (take k es)))
-  pub fine : (e : ExprTree) → Has (take k es) e → IsFine e
+module _ (all : List ExprTree → ExprTree) (L : ℕ → Marked) where
+  so_far_first : ((e : ExprTree) → automaton_of L (all (e ∷ [])) ≡ automaton_of L e) → (es : List ExprTree) (x : ExprTree) (a : Marked) → slice_get es 0 ≡ Some x →
+      ReducesMarked a (automaton_of L x) → IsFine x → SoFar all L es 1 a
+  so_far_first alone [] x a at r g = absurd (cc)
+  so_far_first alone (e ∷ es) x a at r g =
+      let same : x ≡ e = cc in record {
+        reduces = subst (λ (M : Marked). ReducesMarked a M) (ap (automaton_of L) same ∙ sym (alone e)) r;
+        fine = λ w h. elim h as (λ _. IsFine w) [ inl i ↦ subst IsFine (same ∙ i) g | inr j ↦ absurd j ];
+      }
+
+  so_far_all : ((es : List ExprTree) → ((e : ExprTree) → Has es e → IsFine e) → IsFine (all es)) → (es : List ExprTree) (k : ℕ) (a : Marked) → k ≡ length es → SoFar all L es k a →
+      ReducesMarked a (automaton_of L (all es)) × IsFine (all es)
+  so_far_all fine es k a e s =
+      let whole : take k es ≡ es = ap (λ n. take n es) e ∙ take-length es in (
+        subst (λ (zs : List ExprTree). ReducesMarked a (automaton_of L (all zs))) whole s.reduces,
+        fine es (λ g h. s.fine g (subst (λ (zs : List ExprTree). Has zs g) (sym whole) h)),
+      )
 
 -- ---- joins of reducts
 
@@ -121,7 +135,7 @@ join_at ns ms A B = join_of (agree_on ns ms (all_names ns ms)) (joined ns ms (al
 
 -- ---- compiled parts
 
-module _ (q : QueryTree) (lets : List Marked) (known : AreCompiled q lets) (sound : IsSound q) where
+module _ (q : QueryTree) (lets : List (Option Marked)) (known : AreCompiled q lets) where
   abbrev N : ℕ
   N = length lets
 
@@ -135,15 +149,15 @@ module _ (q : QueryTree) (lets : List Marked) (known : AreCompiled q lets) (soun
   Lets = answers_of_lets q.lets [] N
 
   -- names, and that it is whole, of an expression's automaton
-  pub shape : (e : ExprTree) → IsSoundExpr V N e → KeepsInOrder e → IsFor [] (VarOf V e) (Answer V Lets [] e) (automaton_of L e)
-  shape e s g =
+  pub shape : IsSound q → (e : ExprTree) → IsSoundExpr V N e → KeepsInOrder e → IsFor [] (VarOf V e) (Answer V Lets [] e) (automaton_of L e)
+  shape sound e s g =
       expr_for [] (λ i b at. absurd (cc)) N V Lets L
       (lets_for [] (λ i b at. absurd (cc)) q.lets sound.sound_lets N known.few (λ k l b at. (known.keep k l b at).0) N (omega arith)) (told_lets q.lets N) e s g
 
   -- a variable of the expression is a name of the query
   pub var_name : (e : ExprTree) → IsAsked q N e → (x : VarName) → VarOf V e x → NameOf q x
   var_name e a x v =
-      elim (var_named V (NameInLets q.lets) (lets_named q.lets sound.sound_lets N) N e x a.sound_expr v) as (λ _. NameOf q x) [ inl i ↦ a.named x i | inr j ↦ inl j ]
+      elim (var_named V (NameInLets q.lets) (lets_named q.lets a.sound.sound_lets N) N e x a.sound_expr v) as (λ _. NameOf q x) [ inl i ↦ a.named x i | inr j ↦ inl j ]
 
   -- ---- unions
 
@@ -156,16 +170,19 @@ module _ (q : QueryTree) (lets : List Marked) (known : AreCompiled q lets) (soun
   names_united [] A = refl
   names_united (x ∷ xs) A = names_united xs (of_union A (automaton_of L x))
 
-  module _ (es : List ExprTree) (asked : IsAsked q N (union_all es)) (two : 2 ≤ length es) where
+  module _ (es : List ExprTree) (asked : IsAsked q N (union_all es)) where
+    union_has_two : 2 ≤ length es
+    union_has_two = union_two V N es asked.sound_expr
+
     taken_has : (k : ℕ) (e : ExprTree) → Has (take k es) e → Has es e
     taken_has k e h = subst (λ (zs : List ExprTree). Has zs e) (take-append-drop k es) (Has-append_left (take k es) (drop k es) e h)
 
     part_whole : (e : ExprTree) → Has es e → KeepsInOrder e → IsWhole (automaton_of L e).graph
-    part_whole e h g = (shape e (asked_united q N es e h asked).sound_expr g).whole
+    part_whole e h g = (shape asked.sound e (asked_united q N es e h asked).sound_expr g).whole
 
     prefix_whole : (k : ℕ) → 1 ≤ k → ((e : ExprTree) → Has (take k es) e → IsFine e) → IsWhole (automaton_of L (union_all (take k es))).graph
     prefix_whole k l fine =
-        let f = first_taken es k l (omega (arith, two)) in
+        let f = first_taken es k l (omega (arith, union_has_two)) in
         let all : (e : ExprTree) → Has (f.0 ∷ f.1) e → IsWhole (automaton_of L e).graph =
         λ e h. let i = subst (λ (zs : List ExprTree). Has zs e) (sym f.2) h in part_whole e (taken_has k e i) (fine e i).0 in
         subst (λ (zs : List ExprTree). IsWhole (automaton_of L (union_all zs)).graph) (sym f.2)
@@ -175,29 +192,21 @@ module _ (q : QueryTree) (lets : List Marked) (known : AreCompiled q lets) (soun
     prefix_names : (k : ℕ) → 1 ≤ k → ((e : ExprTree) → Has (take k es) e → IsFine e) → (y : ExprTree) → Has es y → KeepsInOrder y →
         (automaton_of L (union_all (take k es))).names ≡ (automaton_of L y).names
     prefix_names k l fine y h g =
-        let f = first_taken es k l (omega (arith, two)) in
+        let f = first_taken es k l (omega (arith, union_has_two)) in
         let x = f.0 in
         let i : Has (take k es) x = subst (λ (zs : List ExprTree). Has zs x) (sym f.2) (inl refl) in
-        let a = shape x (asked_united q N es x f.3 asked).sound_expr (fine x i).0 in
-        let b = shape y (asked_united q N es y h asked).sound_expr g in
+        let a = shape asked.sound x (asked_united q N es x f.3 asked).sound_expr (fine x i).0 in
+        let b = shape asked.sound y (asked_united q N es y h asked).sound_expr g in
         let same : (automaton_of L x).names ≡ (automaton_of L y).names =
         same_names (automaton_of L x).names (automaton_of L y).names a.ascending b.ascending
         (λ z v. (b.names z).1 ((union_var V N es y z asked.sound_expr h).1 ((union_var V N es x z asked.sound_expr f.3).0 ((a.names z).0 v))))
         (λ z v. (a.names z).1 ((union_var V N es x z asked.sound_expr f.3).1 ((union_var V N es y z asked.sound_expr h).0 ((b.names z).0 v)))) in
         subst (λ (zs : List ExprTree). (automaton_of L (union_all zs)).names ≡ (automaton_of L y).names) (sym f.2) (names_united f.1 (automaton_of L x) ∙ same)
 
-    pub union_first : (x : ExprTree) (a : Marked) → slice_get es 0 ≡ Some x → IsCompiledFrom q N x a → UnionSoFar L es 1 a
-    union_first x a at c = record { reduces = there es at; fine = fine es at }
-      where
-        there : (zs : List ExprTree) → slice_get zs 0 ≡ Some x → ReducesMarked a (automaton_of L (union_all (take 1 zs)))
-        there [] at = absurd (cc)
-        there (z ∷ zs) at = let same : x ≡ z = cc in subst (λ (w : ExprTree). ReducesMarked a (automaton_of L w)) same c.reduces
+    pub union_first : (x : ExprTree) (a : Marked) → slice_get es 0 ≡ Some x → IsCompiledFrom q N x a → SoFar union_all L es 1 a
+    union_first x a at c = so_far_first union_all L (λ e. refl) es x a at c.reduces (c.keeps, c.small)
 
-        fine : (zs : List ExprTree) → slice_get zs 0 ≡ Some x → (e : ExprTree) → Has (take 1 zs) e → IsFine e
-        fine [] at e h = absurd (cc)
-        fine (z ∷ zs) at e h = let same : x ≡ z = cc in elim h as (λ _. IsFine e) [ inl i ↦ subst IsFine (same ∙ i) (c.keeps, c.small) | inr j ↦ absurd j ]
-
-    module _ (k : ℕ) (l : 1 ≤ k) (y : ExprTree) (at : slice_get es k ≡ Some y) (a p : Marked) (so_far : UnionSoFar L es k a) (part : IsCompiledFrom q N y p)
+    module _ (k : ℕ) (l : 1 ≤ k) (y : ExprTree) (at : slice_get es k ≡ Some y) (a p : Marked) (so_far : SoFar union_all L es k a) (part : IsCompiledFrom q N y p)
         (marked_a : IsMarked a) (marked_p : IsMarked p) where
       abbrev UA : Marked
       UA = automaton_of L (union_all (take k es))
@@ -219,12 +228,12 @@ module _ (q : QueryTree) (lets : List Marked) (known : AreCompiled q lets) (soun
       -- with one part more
       grown : automaton_of L (union_all (take (k + 1) es)) ≡ of_union UA UP
       grown =
-          let f = first_taken es k l (omega (arith, two)) in
+          let f = first_taken es k l (omega (arith, union_has_two)) in
           ap (λ (zs : List ExprTree). automaton_of L (union_all zs)) (take_at_more es k y at)
           ∙ (ap (λ (zs : List ExprTree). automaton_of L (union_all (zs ++ y ∷ []))) f.2
           ∙ (union_push L f.0 f.1 y ∙ ap (λ (zs : List ExprTree). of_union (automaton_of L (union_all zs)) UP) (sym f.2)))
 
-      pub union_next : (u : Marked) → u.names ≡ a.names → Reduces u.graph (union_of a.graph p.graph) → UnionSoFar L es (k + 1) u
+      pub union_next : (u : Marked) → u.names ≡ a.names → Reduces u.graph (union_of a.graph p.graph) → SoFar union_all L es (k + 1) u
       union_next u names reduces = record {
         reduces = subst (λ (M : Marked). ReducesMarked u M) (sym grown)
             (names ∙ so_far.reduces.0, reduct_of_reduct u.graph (union_of a.graph p.graph) (union_of UA.graph UP.graph) reduces union_reduces);
@@ -233,7 +242,7 @@ module _ (q : QueryTree) (lets : List Marked) (known : AreCompiled q lets) (soun
 
       union_is_part : IsPartOf L (union_all es) (of_union UA UP)
       union_is_part =
-          let f = first_taken es k l (omega (arith, two)) in
+          let f = first_taken es k l (omega (arith, union_has_two)) in
           subst (λ (zs : List ExprTree). IsPartOf L (union_all zs) (of_union UA UP)) (sym (at_place es k y at))
           (subst (λ (zs : List ExprTree). IsPartOf L (union_all (zs ++ y ∷ drop (suc k) es)) (of_union (automaton_of L (union_all zs)) UP)) (sym f.2)
           (union_step L f.0 f.1 y (drop (suc k) es)))
@@ -251,11 +260,8 @@ module _ (q : QueryTree) (lets : List Marked) (known : AreCompiled q lets) (soun
           (omega (arith, h.1, h.2), (of_union UA UP, union_is_part, omega (arith, h.2, small.1, less.1, ways)))
       union_fault OutOfMemory h = tt
 
-    pub union_done : (a : Marked) (k : ℕ) → k ≡ length es → UnionSoFar L es k a → IsCompiledFrom q N (union_all es) a
-    union_done a k e s =
-        let all : take k es ≡ es = ap (λ n. take n es) e ∙ take-length es in
-        let fine = union_fine es (λ g h. s.fine g (subst (λ (zs : List ExprTree). Has zs g) (sym all) h)) in
-        record { reduces = subst (λ (zs : List ExprTree). ReducesMarked a (automaton_of L (union_all zs))) all s.reduces; keeps = fine.0; small = fine.1 }
+    pub union_done : (a : Marked) (k : ℕ) → k ≡ length es → SoFar union_all L es k a → IsCompiledFrom q N (union_all es) a
+    union_done a k e s = let made = so_far_all union_all L union_fine es k a e s in record { reduces = made.0; keeps = made.1.0; small = made.1.1 }
 
     -- the fault of a part
     pub union_part_fault : (e : ExprTree) → Has es e → (fault : SizeFault) → HasLargePartOf L e fault → HasLargePartOf L (union_all es) fault
@@ -285,16 +291,19 @@ module _ (q : QueryTree) (lets : List Marked) (known : AreCompiled q lets) (soun
         | inr b ↦ inr (b.0, inr b.1, b.2)
       ]
 
-  module _ (es : List ExprTree) (asked : IsAsked q N (join_all es)) (two : 2 ≤ length es) where
+  module _ (es : List ExprTree) (asked : IsAsked q N (join_all es)) where
+    join_has_two : 2 ≤ length es
+    join_has_two = join_two V N es asked.sound_expr
+
     join_taken_has : (k : ℕ) (e : ExprTree) → Has (take k es) e → Has es e
     join_taken_has k e h = subst (λ (zs : List ExprTree). Has zs e) (take-append-drop k es) (Has-append_left (take k es) (drop k es) e h)
 
     join_shape : (e : ExprTree) → Has es e → KeepsInOrder e → IsFor [] (VarOf V e) (Answer V Lets [] e) (automaton_of L e)
-    join_shape e h g = shape e (asked_joined q N es e h asked).sound_expr g
+    join_shape e h g = shape asked.sound e (asked_joined q N es e h asked).sound_expr g
 
     join_prefix_whole : (k : ℕ) → 1 ≤ k → ((e : ExprTree) → Has (take k es) e → IsFine e) → IsWhole (automaton_of L (join_all (take k es))).graph
     join_prefix_whole k l fine =
-        let f = first_taken es k l (omega (arith, two)) in
+        let f = first_taken es k l (omega (arith, join_has_two)) in
         let all : (e : ExprTree) → Has (f.0 ∷ f.1) e → IsWhole (automaton_of L e).graph =
         λ e h. let i = subst (λ (zs : List ExprTree). Has zs e) (sym f.2) h in (join_shape e (join_taken_has k e i) (fine e i).0).whole in
         subst (λ (zs : List ExprTree). IsWhole (automaton_of L (join_all zs)).graph) (sym f.2)
@@ -304,7 +313,7 @@ module _ (q : QueryTree) (lets : List Marked) (known : AreCompiled q lets) (soun
     join_prefix_names : (k : ℕ) → 1 ≤ k → ((e : ExprTree) → Has (take k es) e → IsFine e) →
         Ascending (automaton_of L (join_all (take k es))).names × ((z : VarName) → Has (automaton_of L (join_all (take k es))).names z → NameOf q z)
     join_prefix_names k l fine =
-        let f = first_taken es k l (omega (arith, two)) in
+        let f = first_taken es k l (omega (arith, join_has_two)) in
         let in_part : (e : ExprTree) → Has (f.0 ∷ f.1) e → (z : VarName) → Has (automaton_of L e).names z → NameOf q z =
         λ e h z v.
         let i = subst (λ (zs : List ExprTree). Has zs e) (sym f.2) h in
@@ -316,18 +325,10 @@ module _ (q : QueryTree) (lets : List Marked) (known : AreCompiled q lets) (soun
           λ z h. elim (names_together f.1 (automaton_of L f.0) z h) as (λ _. NameOf q z) [ inl b ↦ in_part f.0 (inl refl) z b | inr b ↦ in_part b.0 (inr b.1) z b.2 ],
         )
 
-    pub join_first : (x : ExprTree) (a : Marked) → slice_get es 0 ≡ Some x → IsCompiledFrom q N x a → JoinSoFar L es 1 a
-    join_first x a at c = record { reduces = there es at; fine = fine es at }
-      where
-        there : (zs : List ExprTree) → slice_get zs 0 ≡ Some x → ReducesMarked a (automaton_of L (join_all (take 1 zs)))
-        there [] at = absurd (cc)
-        there (z ∷ zs) at = let same : x ≡ z = cc in subst (λ (w : ExprTree). ReducesMarked a (automaton_of L w)) same c.reduces
+    pub join_first : (x : ExprTree) (a : Marked) → slice_get es 0 ≡ Some x → IsCompiledFrom q N x a → SoFar join_all L es 1 a
+    join_first x a at c = so_far_first join_all L (λ e. refl) es x a at c.reduces (c.keeps, c.small)
 
-        fine : (zs : List ExprTree) → slice_get zs 0 ≡ Some x → (e : ExprTree) → Has (take 1 zs) e → IsFine e
-        fine [] at e h = absurd (cc)
-        fine (z ∷ zs) at e h = let same : x ≡ z = cc in elim h as (λ _. IsFine e) [ inl i ↦ subst IsFine (same ∙ i) (c.keeps, c.small) | inr j ↦ absurd j ]
-
-    module _ (k : ℕ) (l : 1 ≤ k) (y : ExprTree) (at : slice_get es k ≡ Some y) (a p : Marked) (so_far : JoinSoFar L es k a) (part : IsCompiledFrom q N y p)
+    module _ (k : ℕ) (l : 1 ≤ k) (y : ExprTree) (at : slice_get es k ≡ Some y) (a p : Marked) (so_far : SoFar join_all L es k a) (part : IsCompiledFrom q N y p)
         (marked_a : IsMarked a) (marked_p : IsMarked p) where
       abbrev JA : Marked
       JA = automaton_of L (join_all (take k es))
@@ -345,7 +346,7 @@ module _ (q : QueryTree) (lets : List Marked) (known : AreCompiled q lets) (soun
       join_few =
           let before = join_prefix_names k l so_far.fine in
           let ascend : Ascending (all_names JA.names JP.names) = all_ascend JP.names JA.names before.0 in
-          let least = sound.few in
+          let least = asked.sound.few in
           let le = distinct-le (all_names JA.names JP.names) least.0 (ascending-distinct (all_names JA.names JP.names) ascend)
           (λ z h. least.2 z (elim ((all_are JA.names JP.names z).0 h) as (λ _. NameOf q z) [
             | inl b ↦ before.1 z b
@@ -369,12 +370,12 @@ module _ (q : QueryTree) (lets : List Marked) (known : AreCompiled q lets) (soun
 
       join_grown : automaton_of L (join_all (take (k + 1) es)) ≡ of_join JA JP
       join_grown =
-          let f = first_taken es k l (omega (arith, two)) in
+          let f = first_taken es k l (omega (arith, join_has_two)) in
           ap (λ (zs : List ExprTree). automaton_of L (join_all zs)) (take_at_more es k y at)
           ∙ (ap (λ (zs : List ExprTree). automaton_of L (join_all (zs ++ y ∷ []))) f.2
           ∙ (join_push L f.0 f.1 y ∙ ap (λ (zs : List ExprTree). of_join (automaton_of L (join_all zs)) JP) (sym f.2)))
 
-      pub join_next : (j : Marked) → j.names ≡ all_names a.names p.names → Reduces j.graph (join_at a.names p.names a.graph p.graph) → JoinSoFar L es (k + 1) j
+      pub join_next : (j : Marked) → j.names ≡ all_names a.names p.names → Reduces j.graph (join_at a.names p.names a.graph p.graph) → SoFar join_all L es (k + 1) j
       join_next j names reduces = record {
         reduces = subst (λ (M : Marked). ReducesMarked j M) (sym join_grown) (
           names ∙ (ap (λ (ns : List VarName). all_names ns p.names) so_far.reduces.0 ∙ ap (λ (ns : List VarName). all_names JA.names ns) part.reduces.0),
@@ -386,7 +387,7 @@ module _ (q : QueryTree) (lets : List Marked) (known : AreCompiled q lets) (soun
 
       join_is_part : IsPartOf L (join_all es) (of_join JA JP)
       join_is_part =
-          let f = first_taken es k l (omega (arith, two)) in
+          let f = first_taken es k l (omega (arith, join_has_two)) in
           subst (λ (zs : List ExprTree). IsPartOf L (join_all zs) (of_join JA JP)) (sym (at_place es k y at))
           (subst (λ (zs : List ExprTree). IsPartOf L (join_all (zs ++ y ∷ drop (suc k) es)) (of_join (automaton_of L (join_all zs)) JP)) (sym f.2)
           (join_step L f.0 f.1 y (drop (suc k) es)))
@@ -408,11 +409,8 @@ module _ (q : QueryTree) (lets : List Marked) (known : AreCompiled q lets) (soun
           (h.0, (of_join JA JP, join_is_part, omega (arith, few, join_no_larger.1)))
       join_fault OutOfMemory h = tt
 
-    pub join_done : (a : Marked) (k : ℕ) → k ≡ length es → JoinSoFar L es k a → IsCompiledFrom q N (join_all es) a
-    join_done a k e s =
-        let all : take k es ≡ es = ap (λ n. take n es) e ∙ take-length es in
-        let fine = join_fine es (λ g h. s.fine g (subst (λ (zs : List ExprTree). Has zs g) (sym all) h)) in
-        record { reduces = subst (λ (zs : List ExprTree). ReducesMarked a (automaton_of L (join_all zs))) all s.reduces; keeps = fine.0; small = fine.1 }
+    pub join_done : (a : Marked) (k : ℕ) → k ≡ length es → SoFar join_all L es k a → IsCompiledFrom q N (join_all es) a
+    join_done a k e s = let made = so_far_all join_all L join_fine es k a e s in record { reduces = made.0; keeps = made.1.0; small = made.1.1 }
 
     pub join_part_fault : (e : ExprTree) → Has es e → (fault : SizeFault) → HasLargePartOf L e fault → HasLargePartOf L (join_all es) fault
     join_part_fault e h fault = large_part L e (join_all es) fault (λ M p. join_part_of L es e M h p)

@@ -5,4 +5,5 @@ pub mod Names
 pub mod PartLaws
 pub mod PieceLaws
 pub mod QueryWords
+pub mod UseLaws
 pub mod Words

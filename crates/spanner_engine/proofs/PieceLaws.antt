@@ -1,6 +1,6 @@
 -- What is made of atoms, names, projections and lets when they are compiled.
-use Rattle.std.proofs.Common.{◌≡◌, ℕ, zero, suc, ◌<◌, ◌≤◌, ◌⊎◌, ◌↔◌, Bool, List, [], ◌∷◌, ◌++◌, length, length-append, Some, inl, inr, refl, sym, ap, subst, arith, ◌∙◌}
-use Rattle.std.specs.Prelude.{slice_get, if◌then◌else◌, ◌-◌, ◌^◌}
+use Rattle.std.proofs.Common.{◌≡◌, ℕ, zero, suc, ◌<◌, ◌≤◌, ◌⊎◌, ◌↔◌, Bool, List, [], ◌∷◌, ◌++◌, length, length-append, Option, Some, None, IsSome, IsNone, inl, inr, refl, sym, ap, subst, arith, ◌∙◌}
+use Rattle.std.specs.Prelude.{slice_get, slice_index, slice_index_or, if◌then◌else◌, ◌-◌, ◌^◌}
 use Rattle.std.proofs.Math.Nat.{min-le_left}
 use Rattle.std.proofs.lemmas.Bool.{eq-eqb, ne_eqb, cases_lt}
 use Rattle.span_core.specs.NameSets.{Ascending}
@@ -31,12 +31,14 @@ use Rattle.place_automaton.specs.Counts.{count_states, count_ways}
 use Rattle.place_automaton.specs.Words.{atom_automaton}
 use Rattle.place_automaton.proofs.BuiltRepeats.{ordered_repeats}
 use Rattle.place_automaton.proofs.CountLaws.{count_law}
-use Rattle.spanner_engine.specs.Compiling.{IsAsked, AreCompiled, IsCompiledFrom}
+use Rattle.spanner_engine.specs.Compiling.{IsAsked, AreCompiled, IsCompiledFrom, kept_at}
 use Rattle.spanner_engine.specs.Kept.{KeepsInOrder}
 use Rattle.spanner_engine.specs.Parts.{HasLargePartOf, HasSmallAtoms}
+use Rattle.spanner_engine.specs.Uses.{AreLastUses, IsNamedFrom}
 use Rattle.spanner_engine.specs.QueryAutomaton.{with_vars, of_atom, automaton_of, of_lets, of_one_let}
 use Rattle.spanner_engine.proofs.CompileLaws.{shape}
 use Rattle.spanner_engine.proofs.Names.{vars_ascend, vars_are}
+use Rattle.spanner_engine.proofs.UseLaws.{last_from, named_before}
 
 -- ---- atoms
 
@@ -68,7 +70,7 @@ module _ (s t : Bool) (f : Tree) (built : IsWellBuilt f) (functional : IsFunctio
 
 -- ---- projections
 
-module _ (q : QueryTree) (lets : List Marked) (known : AreCompiled q lets) (kept : List VarName) (e : ExprTree) (asked : IsAsked q (length lets) (project kept e))
+module _ (q : QueryTree) (lets : List (Option Marked)) (known : AreCompiled q lets) (kept : List VarName) (e : ExprTree) (asked : IsAsked q (length lets) (project kept e))
     (a : Marked) (part : IsCompiledFrom q (length lets) e a) where
   abbrev E : Marked
   E = automaton_of (of_lets q.lets (length lets)) e
@@ -99,7 +101,7 @@ projection_fault L kept e OutOfMemory h = h
 -- ---- lets
 
 pub none_compiled : (q : QueryTree) → AreCompiled q []
-none_compiled q = record { few = omega arith; reduce = λ k a at. absurd (cc); keep = λ k l b at. absurd (omega (arith, b)) }
+none_compiled q = record { few = omega arith; reduce = λ k a at. absurd (cc); there = λ k b m. absurd (omega (arith, b)); keep = λ k l b at. absurd (omega (arith, b)) }
 
 -- under one let more, the lets before it are the same
 let_before : (lets : List (VarName × ExprTree)) (n k : ℕ) → k < n → of_lets lets (suc n) k ≡ of_lets lets n k
@@ -110,14 +112,18 @@ let_here lets n l at =
     ap (λ b. if b then of_one_let (of_lets lets n) (slice_get lets n) else of_lets lets n n) (eq-eqb n n refl) ∙ ap (of_one_let (of_lets lets n)) at
 
 -- a place in a list with one element more
-push_cases : {X : Type 0} (xs : List X) (x : X) (k : ℕ) (y : X) → slice_get (xs ++ x ∷ []) k ≡ Some y → (slice_get xs k ≡ Some y) × (k < length xs) ⊎ ((k ≡ length xs) × (x ≡ y))
-push_cases [] x zero y e = inr (refl, (let same : x ≡ y = cc in same))
-push_cases [] x (suc k) y e = absurd (cc)
-push_cases (z ∷ xs) x zero y e = inl (e, omega arith)
-push_cases (z ∷ xs) x (suc k) y e =
-    elim (push_cases xs x k y e) as (λ _. (slice_get xs k ≡ Some y) × (suc k < suc (length xs)) ⊎ ((suc k ≡ suc (length xs)) × (x ≡ y))) [
-      | inl a ↦ inl (a.0, omega (arith, a.1))
-      | inr b ↦ inr (omega (arith, b.0), b.1)
+pushed_at : {X : Type 0} (xs : List (Option X)) (x : Option X) (k : ℕ) →
+    ((k < length xs) × (slice_index_or (xs ++ x ∷ []) k None ≡ slice_index_or xs k None))
+    ⊎ (((k ≡ length xs) × (slice_index_or (xs ++ x ∷ []) k None ≡ x)) ⊎ ((length xs < k) × (slice_index_or (xs ++ x ∷ []) k None ≡ None)))
+pushed_at [] x zero = inr (inl (refl, refl))
+pushed_at [] x (suc k) = inr (inr (omega arith, refl))
+pushed_at (y ∷ xs) x zero = inl (omega arith, refl)
+pushed_at {X} (y ∷ xs) x (suc k) =
+    elim (pushed_at xs x k) as (λ _. ((suc k < suc (length xs)) × (slice_index_or (xs ++ x ∷ []) k None ≡ slice_index_or xs k None))
+    ⊎ (((suc k ≡ suc (length xs)) × (slice_index_or (xs ++ x ∷ []) k None ≡ x)) ⊎ ((suc (length xs) < suc k) × (slice_index_or (xs ++ x ∷ []) k None ≡ None)))) [
+      | inl a ↦ inl (omega (arith, a.0), a.1)
+      | inr (inl b) ↦ inr (inl (omega (arith, b.0), b.1))
+      | inr (inr b) ↦ inr (inr (omega (arith, b.0), b.1))
     ]
 
 within : {X : Type 0} (xs : List X) (k : ℕ) (x : X) → slice_get xs k ≡ Some x → k < length xs
@@ -125,26 +131,54 @@ within [] k x e = absurd (cc)
 within (y ∷ xs) zero x e = omega arith
 within (y ∷ xs) (suc k) x e = omega (arith, within xs k x e)
 
-pub one_more : (q : QueryTree) (lets all : List Marked) (l : VarName × ExprTree) (a : Marked) → slice_get q.lets (length lets) ≡ Some l → AreCompiled q lets →
-    IsCompiledFrom q (length lets) l.1 a → all ≡ lets ++ a ∷ [] → AreCompiled q all
-one_more q lets all l a at known made is = subst (AreCompiled q) (sym is) (record { few = few; reduce = reduce; keep = keep })
+-- when one let more is compiled, and what no later expression names is let go
+pub one_more : (q : QueryTree) (lets all : List (Option Marked)) (last : List ℕ) (l : VarName × ExprTree) (a : Marked) → slice_get q.lets (length lets) ≡ Some l →
+    AreCompiled q lets → IsCompiledFrom q (length lets) l.1 a → AreLastUses q last → length all ≡ length (lets ++ Some a ∷ []) →
+    ((k : ℕ) → length lets < slice_index last k → kept_at all k ≡ kept_at (lets ++ Some a ∷ []) k) → ((k : ℕ) → slice_index last k ≤ length lets → IsNone (kept_at all k)) →
+    AreCompiled q all
+one_more q lets all last l a at known made uses count kept gone = record { few = few; reduce = reduce; there = there; keep = keep }
   where
-    long : length (lets ++ a ∷ []) ≡ suc (length lets)
-    long = let e = length-append lets (a ∷ []) in omega (arith, e)
+    long : length all ≡ suc (length lets)
+    long = let e = length-append lets (Some a ∷ []) in omega (arith, e, count)
 
-    few : length (lets ++ a ∷ []) ≤ length q.lets
+    few : length all ≤ length q.lets
     few = omega (arith, long, within q.lets (length lets) l at)
 
-    reduce : (k : ℕ) (b : Marked) → slice_get (lets ++ a ∷ []) k ≡ Some b → ReducesMarked b (of_lets q.lets (length (lets ++ a ∷ [])) k)
+    made_here : (k : ℕ) (b : Marked) → kept_at (lets ++ Some a ∷ []) k ≡ Some b → ReducesMarked b (of_lets q.lets (suc (length lets)) k)
+    made_here k b e =
+        elim (pushed_at lets (Some a) k) as (λ _. ReducesMarked b (of_lets q.lets (suc (length lets)) k)) [
+          | inl c ↦ subst (λ (M : Marked). ReducesMarked b M) (sym (let_before q.lets (length lets) k c.0)) (known.reduce k b (sym c.1 ∙ e))
+          | inr (inl c) ↦
+              let both : Some a ≡ Some b = sym c.1 ∙ e in
+              let same : a ≡ b = cc in
+              subst (λ n. ReducesMarked b (of_lets q.lets (suc (length lets)) n)) (sym c.0)
+              (subst (λ (M : Marked). ReducesMarked b M) (sym (let_here q.lets (length lets) l at)) (subst (λ (x : Marked). ReducesMarked x (automaton_of (of_lets q.lets (length lets)) l.1)) same made.reduces))
+          | inr (inr c) ↦ let none : None ≡ Some b = sym c.1 ∙ e in absurd (cc)
+        ]
+
+    reduce : (k : ℕ) (b : Marked) → kept_at all k ≡ Some b → ReducesMarked b (of_lets q.lets (length all) k)
     reduce k b e =
         subst (λ n. ReducesMarked b (of_lets q.lets n k)) (sym long) (
-        elim (push_cases lets a k b e) as (λ _. ReducesMarked b (of_lets q.lets (suc (length lets)) k)) [
-          | inl c ↦ subst (λ (M : Marked). ReducesMarked b M) (sym (let_before q.lets (length lets) k c.1)) (known.reduce k b c.0)
-          | inr c ↦ subst (λ n. ReducesMarked b (of_lets q.lets (suc (length lets)) n)) (sym c.0)
-              (subst (λ (M : Marked). ReducesMarked b M) (sym (let_here q.lets (length lets) l at)) (subst (λ (x : Marked). ReducesMarked x (automaton_of (of_lets q.lets (length lets)) l.1)) c.1 made.reduces))
+        elim (cases_lt (length lets) (slice_index last k)) as (λ _. ReducesMarked b (of_lets q.lets (suc (length lets)) k)) [
+          | inl less ↦ made_here k b (sym (kept k less) ∙ e)
+          | inr le ↦ absurd (is_not_none e (gone k le))
+        ])
+      where
+        is_not_none : {o : Option Marked} → o ≡ Some b → IsNone o → ⊥
+        is_not_none {o} e none = absurd (cc)
+
+    there : (k : ℕ) → k < length all → IsNamedFrom q (length all) k → IsSome (kept_at all k)
+    there k below named =
+        let later : IsNamedFrom q (suc (length lets)) k = subst (λ n. IsNamedFrom q n k) long named in
+        let used = last_from q last (suc (length lets)) k uses (omega (arith, long, few)) later in
+        subst (λ (o : Option Marked). IsSome o) (sym (kept k (omega (arith, used)))) (
+        elim (pushed_at lets (Some a) k) as (λ _. IsSome (kept_at (lets ++ Some a ∷ []) k)) [
+          | inl c ↦ subst (λ (o : Option Marked). IsSome o) (sym c.1) (known.there k c.0 (named_before q (length lets) k later))
+          | inr (inl c) ↦ subst (λ (o : Option Marked). IsSome o) (sym c.1) refl
+          | inr (inr c) ↦ absurd (omega (arith, below, long, c.0))
         ])
 
-    keep : (k : ℕ) (m : VarName × ExprTree) → k < length (lets ++ a ∷ []) → slice_get q.lets k ≡ Some m → KeepsInOrder m.1 × HasSmallAtoms m.1
+    keep : (k : ℕ) (m : VarName × ExprTree) → k < length all → slice_get q.lets k ≡ Some m → KeepsInOrder m.1 × HasSmallAtoms m.1
     keep k m b e =
         elim (cases_lt k (length lets)) as (λ _. KeepsInOrder m.1 × HasSmallAtoms m.1) [
           | inl less ↦ known.keep k m less e
@@ -158,13 +192,13 @@ one_more q lets all l a at known made is = subst (AreCompiled q) (sym is) (recor
 -- ---- what is asked of lets and of the body
 
 pub asked_let : (q : QueryTree) (k : ℕ) (l : VarName × ExprTree) → IsSound q → slice_get q.lets k ≡ Some l → IsAsked q k l.1
-asked_let q k l s at = record { sound = s; sound_expr = (s.sound_lets k l at).0; named = λ x h. inl (let_named q.lets k l x at h) }
+asked_let q k l s at = record { sound = s; sound_expr = (s.sound_lets k l at).0; named = λ x h. inl (let_named q.lets k l x at h); spoken = λ i m. inl (k, l, at, omega arith, m) }
 
 pub asked_body : (q : QueryTree) (n : ℕ) → IsSound q → n ≡ length q.lets → IsAsked q n q.body
-asked_body q n s e = record { sound = s; sound_expr = subst (λ m. IsSoundExpr (vars_of_lets q.lets m) m q.body) (sym e) s.sound_body.0; named = λ x h. inr h }
+asked_body q n s e = record { sound = s; sound_expr = subst (λ m. IsSoundExpr (vars_of_lets q.lets m) m q.body) (sym e) s.sound_body.0; named = λ x h. inr h; spoken = λ i m. inr m }
 
 -- all lets are kept in order
-pub lets_keep : (q : QueryTree) (lets : List Marked) → AreCompiled q lets → length lets ≡ length q.lets →
+pub lets_keep : (q : QueryTree) (lets : List (Option Marked)) → AreCompiled q lets → length lets ≡ length q.lets →
     (l : VarName × ExprTree) → Has q.lets l → KeepsInOrder l.1 × HasSmallAtoms l.1
 lets_keep q lets known long l h =
     let p = place_of-Has q.lets l h in known.keep p.0 l (omega (arith, p.1, long)) p.2

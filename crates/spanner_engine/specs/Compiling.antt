@@ -1,5 +1,5 @@
 -- What is known when an expression of a query is compiled, and what is made of it.
-use Rattle.std.specs.Prelude.{◌≡◌, ℕ, ◌<◌, ◌≤◌, List, length, slice_get, Some}
+use Rattle.std.specs.Prelude.{◌≡◌, ℕ, ◌<◌, ◌≤◌, List, length, slice_get, slice_index_or, Option, Some, None, IsSome}
 use Rattle.spanner_model.specs.Captures.{VarName}
 use Rattle.spanner_model.specs.Expression.{ExprTree, QueryTree}
 use Rattle.spanner_model.specs.Answer.{vars_of_lets}
@@ -9,17 +9,25 @@ use Rattle.marked_automaton.specs.Reduct.{ReducesMarked}
 use Rattle.spanner_engine.specs.Kept.{KeepsInOrder}
 use Rattle.spanner_engine.specs.Parts.{HasSmallAtoms}
 use Rattle.spanner_engine.specs.QueryAutomaton.{automaton_of, of_lets}
+use Rattle.spanner_engine.specs.Uses.{IsNamedFrom, Names}
 
 -- what is asked of an expression that is compiled after n lets of a query
 pub record IsAsked (q : QueryTree) (n : ℕ) (e : ExprTree) : Type 0 where
   pub sound : IsSound q
   pub sound_expr : IsSoundExpr (vars_of_lets q.lets n) n e
   pub named : (x : VarName) → NameIn e x → NameOf q x
+  pub spoken : (k : ℕ) → Names e k → IsNamedFrom q n k
 
--- these are reducts of the automata of the first lets
-pub record AreCompiled (q : QueryTree) (lets : List Marked) : Type 0 where
+-- the automaton of let k, where it is there
+abbrev pub kept_at : List (Option Marked) → ℕ → Option Marked
+kept_at lets k = slice_index_or lets k None
+
+-- of the automata of the first lets: what is there is a reduct of its let's, and each let that a later
+-- expression names is there
+pub record AreCompiled (q : QueryTree) (lets : List (Option Marked)) : Type 0 where
   pub few : length lets ≤ length q.lets
-  pub reduce : (k : ℕ) (a : Marked) → slice_get lets k ≡ Some a → ReducesMarked a (of_lets q.lets (length lets) k)
+  pub reduce : (k : ℕ) (a : Marked) → kept_at lets k ≡ Some a → ReducesMarked a (of_lets q.lets (length lets) k)
+  pub there : (k : ℕ) → k < length lets → IsNamedFrom q (length lets) k → IsSome (kept_at lets k)
   pub keep : (k : ℕ) (l : VarName × ExprTree) → k < length lets → slice_get q.lets k ≡ Some l → KeepsInOrder l.1 × HasSmallAtoms l.1
 
 -- what is made of an expression after n lets

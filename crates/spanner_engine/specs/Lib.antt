@@ -3,4 +3,5 @@ pub mod Kept
 pub mod Laws
 pub mod Parts
 pub mod QueryAutomaton
+pub mod Uses
 pub mod Weights

@@ -6,21 +6,23 @@ ghost use Rattle.spanner_engine.specs.Compiling.{AreCompiled, IsAsked, IsCompile
 ghost use Rattle.spanner_engine.specs.Parts.{HasLargePartOf};
 ghost use Rattle.spanner_engine.specs.QueryAutomaton.{of_lets};
 
-use algebra::{join, project, union};
-use marked_automaton::{Automaton, MOST_STATES, SizeFault};
+use crate::shared::Shared;
+use algebra::{join, project, unite};
+use marked_automaton::{MOST_STATES, SizeFault};
 use place_automaton::of_atom;
 use span_core::MOST_VARIABLES;
 use spanner_model::{Expr, Exprs, Query};
 use std::alloc::Global;
 
-/// The automaton of an expression of the query, where `lets` has those of the `let`s before it.
+/// The automaton of an expression of the query, where `lets` has those of the `let`s before it: of each that
+/// it names.
 #[cycle(compiling)]
 pub fn expr_automaton(
     alloc: Global,
     query: &Query,
-    lets: &[Automaton],
+    lets: &[Option<Shared>],
     expr: &Expr,
-) -> Result<Automaton, SizeFault>
+) -> Result<Shared, SizeFault>
     requires known { AreCompiled (query_of query.now) lets.now }
     requires asked { IsAsked (query_of query.now) (length lets.now) (expr_of expr.now) }
     ensures made { IfOk result (IsCompiledFrom (query_of query.now) (length lets.now) (expr_of expr.now)) }
@@ -32,9 +34,13 @@ pub fn expr_automaton(
                 Ok(whole) => whole,
                 Err(fault) => return Err(fault),
             };
-            Ok(whole.trim(alloc)?)
+            let useful = whole.trim(alloc)?;
+            Ok(Shared::new(alloc, useful)?)
         }
-        Expr::Named(k) => Ok(lets[*k as usize].copy(alloc)?),
+        Expr::Named(k) => match &lets[*k as usize] {
+            Some(automaton) => Ok(automaton.share()?),
+            None => unreachable!(),
+        },
         Expr::Union(parts) => union_automaton(alloc, query, lets, parts),
         Expr::Join(parts) => join_automaton(alloc, query, lets, parts),
         Expr::Project(kept, sub) => {
@@ -43,26 +49,27 @@ pub fn expr_automaton(
                 Err(fault) => return Err(fault),
             };
             prove!(kept.len() <= MOST_VARIABLES);
-            Ok(project(alloc, &inner, kept)?)
+            let left = project(alloc, inner.as_automaton(), kept)?;
+            Ok(Shared::new(alloc, left)?)
         }
     }
 }
 
-/// The automaton of a union, its parts taken from left to right.
+/// The automaton of a union, its parts put behind each other from left to right.
 #[cycle(compiling)]
 fn union_automaton(
     alloc: Global,
     query: &Query,
-    lets: &[Automaton],
+    lets: &[Option<Shared>],
     parts: &Exprs,
-) -> Result<Automaton, SizeFault>
+) -> Result<Shared, SizeFault>
     requires known { AreCompiled (query_of query.now) lets.now }
     requires asked { IsAsked (query_of query.now) (length lets.now) (union_all (exprs_of parts.now)) }
     ensures made { IfOk result (IsCompiledFrom (query_of query.now) (length lets.now) (union_all (exprs_of parts.now))) }
     ensures fault { IfErr result (HasLargePartOf (of_lets (query_of query.now).lets (length lets.now)) (union_all (exprs_of parts.now))) }
 {
     let mut all = match expr_automaton(alloc, query, lets, parts.at(0)) {
-        Ok(first) => first,
+        Ok(first) => first.take(alloc)?,
         Err(fault) => return Err(fault),
     };
     for k in 1..parts.len() {
@@ -70,14 +77,15 @@ fn union_automaton(
             Ok(part) => part,
             Err(fault) => return Err(fault),
         };
+        let part = part.as_automaton();
         prove!(all.states() <= MOST_STATES);
         prove!(part.states() <= MOST_STATES);
-        all = match union(alloc, &all, &part) {
+        all = match unite(all, part) {
             Ok(both) => both,
             Err(fault) => return Err(fault),
         };
     }
-    Ok(all)
+    Ok(Shared::new(alloc, all)?)
 }
 
 /// The automaton of a join, its parts taken from left to right, with what leads to no end left out after
@@ -86,9 +94,9 @@ fn union_automaton(
 fn join_automaton(
     alloc: Global,
     query: &Query,
-    lets: &[Automaton],
+    lets: &[Option<Shared>],
     parts: &Exprs,
-) -> Result<Automaton, SizeFault>
+) -> Result<Shared, SizeFault>
     requires known { AreCompiled (query_of query.now) lets.now }
     requires asked { IsAsked (query_of query.now) (length lets.now) (join_all (exprs_of parts.now)) }
     ensures made { IfOk result (IsCompiledFrom (query_of query.now) (length lets.now) (join_all (exprs_of parts.now))) }
@@ -103,13 +111,15 @@ fn join_automaton(
             Ok(part) => part,
             Err(fault) => return Err(fault),
         };
-        prove!(all.states() <= MOST_STATES);
+        let (before, part) = (all.as_automaton(), part.as_automaton());
+        prove!(before.states() <= MOST_STATES);
         prove!(part.states() <= MOST_STATES);
-        let pairs = match join(alloc, &all, &part) {
+        let pairs = match join(alloc, before, part) {
             Ok(pairs) => pairs,
             Err(fault) => return Err(fault),
         };
-        all = pairs.trim(alloc)?;
+        let useful = pairs.trim(alloc)?;
+        all = Shared::new(alloc, useful)?;
     }
     Ok(all)
 }

@@ -6,3 +6,5 @@ pub use compiled::{Compiled, compile};
 mod compiled;
 mod expressions;
 pub mod laws;
+mod shared;
+mod uses;

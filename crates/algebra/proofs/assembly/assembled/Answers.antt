@@ -1,10 +1,20 @@
-use Rattle.std.proofs.Common.{◌≡◌, List, ◌++◌, rules, subst}
+use Rattle.std.proofs.Common.{◌≡◌, List, ◌++◌, ap, rules, subst, sym, ◌∙◌}
 use Rattle.std.specs.List.{flat_map}
+use Rattle.spanner_model.specs.Lists.{Has}
 use Rattle.marked_automaton.specs.declared.way.Stop.{Stop}
-use Rattle.algebra.specs.Pairs.{IsStopAt, Matched, PairStop, stops_at_pair}
+use Rattle.marked_automaton.specs.declared.way.Way.{Way}
+use Rattle.marked_automaton.specs.Automaton.{Automaton, idle_way}
+use Rattle.algebra.specs.declared.pairs.Pair.{Pair}
+use Rattle.algebra.specs.Pairs.{IsIdlePair, IsStopAt, Matched, PairStop, stops_at_pair}
 use Rattle.algebra.proofs.Assembled.{assembled_made}
 use Rattle.algebra.proofs.Followed.{keys_apart}
 use Rattle.algebra.proofs.assembly.assembled.Goals as goal
+
+pub add_idle-requires-clause-ways : goal.add_idle-requires-clause-ways
+add_idle-requires-clause-ways c = λ p h.
+    let same = c.in_ok-add_stops.ensures.same.ways ∙ (c.in_ok-add_starts.ensures.same.ways ∙ ap (λ (g : Automaton). g.ways) c.in_ok-automaton.ensures.ok.1) in
+    subst (λ (ws : List Way). Has ws (idle_way p)) (sym same)
+    (c.requires.idle p (subst (λ (ks : List Pair). IsIdlePair ks c.args.a.now.graph.idle c.args.b.now.graph.idle p) c.as_slice-found.ensures.keys h))
 
 pub returns-clause-made : goal.returns-clause-made
 returns-clause-made c =

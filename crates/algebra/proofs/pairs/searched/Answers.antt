@@ -1,10 +1,9 @@
-use Rattle.std.proofs.Common.{◌≡◌, ℕ, ◌+◌, ◌*◌, ◌<◌, ◌≤◌, List, [], length, sym, ap, subst, arith, ◌∙◌}
+use Rattle.std.proofs.Common.{◌≡◌, List, [], length, sym, ap, subst, arith, ◌∙◌}
 use Rattle.spanner_model.specs.Lists.{Has}
 use Rattle.marked_automaton.specs.declared.fault.SizeFault.{SizeFault}
-use Rattle.algebra.specs.declared.halves.HalfWay.{HalfWay}
 use Rattle.algebra.specs.declared.pairs.Pair.{Pair}
-use Rattle.algebra.specs.Pairs.{AreWithin, HaveSameRows, half_from, pairs, way_pair, ways_meet}
-use Rattle.algebra.specs.Sides.{IsSearchRefusal}
+use Rattle.algebra.specs.Pairs.{AreWithin}
+use Rattle.algebra.specs.Sides.{IsSearchRefusal, half_ways_of}
 use Rattle.algebra.proofs.Followed.{handed_on}
 use Rattle.algebra.proofs.Searched.{started_within}
 use Rattle.algebra.proofs.pairs.searched.Goals as goal
@@ -13,8 +12,8 @@ pub returns-in_err-find_all-clause-fault : goal.returns-in_err-find_all-clause-f
 returns-in_err-find_all-clause-fault c =
     let A = c.args.a.now.graph in
     let B = c.args.b.now.graph in
-    handed_on (λ (e : SizeFault). IsSearchRefusal A B c.args.left.now.ways.items c.args.right.now.ways.items e) c.from_residual.result c.in_err-find_all.field-0.0 c.from_residual.ensures.1
-    (λ all1 all2 s t w lefts rights lead le.
+    handed_on (λ (e : SizeFault). IsSearchRefusal A B (half_ways_of c.args.left.now A) (half_ways_of c.args.right.now B) e) c.from_residual.result c.in_err-find_all.field-0.0 c.from_residual.ensures.1
+    (λ w lefts rights lead le.
     c.in_err-find_all.ensures.fault A.states B.states w (subst (λ (ks : List Pair). AreWithin A.states B.states ks) (sym c.new-search.ensures.found) (λ k h. absurd h))
     (λ p h. lefts p (subst (λ zs. Has zs p) c.starts.ensures h)) (λ q h. rights q (subst (λ zs. Has zs q) c.starts-2.ensures h)))
 
@@ -24,12 +23,10 @@ returns-in_err-follow_all-clause-fault c =
     let B = c.args.b.now.graph in
     let keys0 = c.find_all.new.self.found.keys in
     let none : c.find_all.new.self.ways.items ≡ [] = c.find_all.ensures.ways ∙ c.new-search.ensures.ways in
-    handed_on (λ (e : SizeFault). IsSearchRefusal A B c.args.left.now.ways.items c.args.right.now.ways.items e) c.from_residual-in_err-follow_all.result c.in_err-follow_all.field-0.0
+    handed_on (λ (e : SizeFault). IsSearchRefusal A B (half_ways_of c.args.left.now A) (half_ways_of c.args.right.now B) e) c.from_residual-in_err-follow_all.result c.in_err-follow_all.field-0.0
     c.from_residual-in_err-follow_all.ensures.1
-    (λ all1 all2 s t w lefts rights lead le.
+    (λ w lefts rights lead le.
     let empty : AreWithin A.states B.states c.new-search.result.found.keys = subst (λ (ks : List Pair). AreWithin A.states B.states ks) (sym c.new-search.ensures.found) (λ k h. absurd h) in
     let within : AreWithin A.states B.states keys0 = started_within c.starts.result.now c.starts-2.result.now c.new-search.result.found.keys keys0 A.states B.states c.in_ok-find_all.ensures.started empty
     (λ p h. lefts p (subst (λ zs. Has zs p) c.starts.ensures h)) (λ q h. rights q (subst (λ zs. Has zs q) c.starts-2.ensures h)) in
-    let left : HaveSameRows half_from c.as_slice.result.now all1 = subst (λ (zs : List HalfWay). HaveSameRows half_from zs all1) (sym c.as_slice.ensures.value) s in
-    let right : HaveSameRows half_from c.as_slice-2.result.now all2 = subst (λ (zs : List HalfWay). HaveSameRows half_from zs all2) (sym c.as_slice-2.ensures.value) t in
-    c.in_err-follow_all.ensures.fault all1 all2 left right A.states B.states w within lead (omega (arith, ap length none, le)))
+    c.in_err-follow_all.ensures.fault A.states B.states w within lead (omega (arith, ap length none, le)))

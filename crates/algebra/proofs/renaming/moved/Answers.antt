@@ -1,11 +1,14 @@
-use Rattle.std.proofs.Common.{◌≡◌, suc, ◌+◌, ◌*◌, ◌^◌, None, take, get_or, ap, subst, arith, ◌∙◌}
+use Rattle.std.proofs.Common.{◌≡◌, suc, ◌+◌, ◌*◌, ◌^◌, None, take, get_or, sym, ap, subst, arith, ◌∙◌}
 use Rattle.std.proofs.lemmas.List.{take_more}
 use Rattle.spanner_model.specs.Lists.{Has}
 use Rattle.spanner_model.proofs.HasLaws.{Has-get_or}
 use Rattle.marked_automaton.proofs.Erasing.{four_times}
 use Rattle.algebra.specs.Renaming.{bits_up, moved_marks}
-use Rattle.algebra.proofs.RenamingLaws.{moved_more, power_le}
+use Rattle.algebra.proofs.RenamingLaws.{moved_more, moved_none, power_le}
 use Rattle.algebra.proofs.renaming.moved.Goals as goal
+
+pub returns-then-is_none : goal.returns-then-is_none
+returns-then-is_none c = c.none.ensures ∙ sym (ap (moved_marks c.args.shifts.now) (c.is_none.ensures.0 c.if-is_none.true) ∙ moved_none c.args.shifts.now)
 
 pub overflow_mul-number : goal.overflow_mul-number
 overflow_mul-number c =

@@ -1,7 +1,10 @@
-use Rattle.std.proofs.Common.{◌≡◌, ◌+◌, ◌<◌, [], ◌∷◌, ◌++◌, length, map, take, get_or, sym, ap, arith, ◌∙◌}
-use Rattle.std.proofs.lemmas.List.{take_more, map-append}
+use Rattle.std.proofs.Common.{◌≡◌, ℕ, ◌+◌, ◌<◌, ◌≤◌, List, [], ◌∷◌, ◌++◌, Option, Some, length, map, take, get_or, sym, ap, subst, arith, ◌∙◌}
+use Rattle.std.proofs.lemmas.List.{length-map, take_all, take_more, map-append}
 use Rattle.std.proofs.lemmas.Option.{get_or_from_slice_get}
+use Rattle.span_core.specs.declared.TheConstants.{MOST_VARIABLES}
+use Rattle.spanner_model.specs.Lists.{Has}
 use Rattle.algebra.specs.Renaming.{shift_of}
+use Rattle.algebra.proofs.RenamingLaws.{shifts_small}
 use Rattle.algebra.proofs.renaming.shifts.Goals as goal
 
 pub loop-k-preserved : goal.loop-k-preserved
@@ -15,3 +18,15 @@ loop-k-preserved c =
     let more : map f (take (k + 1) all) ≡ map f (take k all) ++ f x ∷ [] =
     ap (map f) (take_more all k x within ∙ ap (λ z. take k all ++ z ∷ []) here) ∙ map-append f (take k all) (x ∷ []) in
     c.in_ok-push.ensures.items ∙ ((λ i. c.loop-k.invariant i ++ c.shift.ensures i ∷ []) ∙ sym more)
+
+pub returns-clause-fit : goal.returns-clause-fit
+returns-clause-fit c =
+    let all = c.args.all.now in
+    let names = c.args.names.now in
+    let f = shift_of names c.args.other.now c.args.wanted in
+    let is : c.loop-k.shifts.items ≡ map f all = c.loop-k.invariant ∙ ap (map f) (take_all c.loop-k.k all (omega (arith, c.loop-k-test.false, c.len-k-end.ensures.value))) in
+    let few : length names ≤ MOST_VARIABLES = omega (arith, c.len-few.ensures.few, c.len-few.ensures.value) in
+    record {
+      few = omega (arith, ap length is, length-map all f, c.requires);
+      small = λ s h. shifts_small names c.args.other.now c.args.wanted all s few (subst (λ (zs : List (Option ℕ)). Has zs (Some s)) is h);
+    }

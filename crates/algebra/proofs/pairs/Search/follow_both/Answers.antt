@@ -6,6 +6,7 @@ use Rattle.marked_automaton.specs.declared.way.Way.{Way}
 use Rattle.marked_automaton.specs.declared.fault.SizeFault.{SizeFault}
 use Rattle.algebra.specs.Operations.{has_some, meet}
 use Rattle.algebra.specs.Pairs.{PairWay, IsFollowed, IsRefusalOf, way_pair, ways_meet, ways_with}
+use Rattle.marked_automaton.proofs.Listed.{get_within}
 use Rattle.marked_automaton.proofs.Passing.{both_true}
 use Rattle.algebra.proofs.Followed.{followed_none, row_none, row_one, no_bytes, some_bytes, handed_on}
 use Rattle.algebra.proofs.ReductUnions.{get_left}
@@ -74,4 +75,7 @@ returns-clause-followed c =
         },
         tt,
       );
+      led = λ p l m.
+          let before = get_within old.found.keys c.args.from (way_pair x y).from c.requires.from in
+          (made, inl refl, c.in_ok-to.ensures.last p l m, omega (arith, before, l));
     })

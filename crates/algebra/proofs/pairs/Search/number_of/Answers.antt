@@ -1,7 +1,7 @@
-use Rattle.std.proofs.Common.{List, sym, subst, arith, rules}
+use Rattle.std.proofs.Common.{◌<◌, List, length, sym, subst, arith, rules, ◌∙◌}
 use Rattle.algebra.specs.declared.pairs.Pair.{Pair}
 use Rattle.algebra.specs.Pairs.{AreWithin}
-use Rattle.algebra.proofs.Followed.{pairs_few, keys_apart, with_key_within, with_key_only}
+use Rattle.algebra.proofs.Followed.{pairs_few, keys_apart, with_key_last, with_key_only, with_key_within}
 use Rattle.spanner_model.specs.Lists.{Has}
 use Rattle.algebra.proofs.pairs.Search.number_of.Goals as goal
 
@@ -20,3 +20,7 @@ returns-clause-within c = λ n1 n2 h l r.
 
 pub returns-clause-only : goal.returns-clause-only
 returns-clause-only c = λ k h. with_key_only _ c.args.self.now.found.keys c.args.pair k (subst (λ (ks : List Pair). Has ks k) c.in_ok-number.ensures.keys h)
+
+pub returns-clause-last : goal.returns-clause-last
+returns-clause-last c = λ p l m.
+    c.in_ok-number.ensures.index ∙ with_key_last _ c.args.self.now.found.keys c.args.pair p l (subst (λ (ks : List Pair). p < length ks) c.in_ok-number.ensures.keys m)

@@ -1,0 +1,52 @@
+-- Results of joins, by cases.
+use Rattle.std.proofs.Common.{◌≡◌, ℕ, ◌<◌, ◌≤◌, List, sym, subst, arith, ◌∙◌}
+use Rattle.std.specs.Prelude.{IfErr, IfOk}
+use Rattle.std.specs.declared.result.Result.{Result}
+use Rattle.std.specs.declared.result.Result.TheVariants.{Ok, Err}
+use Rattle.spanner_model.specs.Captures.{VarName}
+use Rattle.marked_automaton.specs.declared.fault.SizeFault.{SizeFault}
+use Rattle.marked_automaton.specs.declared.fault.SizeFault.TheVariants.{States, Ways, OutOfMemory}
+use Rattle.marked_automaton.specs.Automaton.{Automaton, Marked}
+use Rattle.marked_automaton.specs.Faults.{IsSizeFaultWithin}
+use Rattle.marked_automaton.specs.Reduct.{IsReached, Reduces}
+use Rattle.algebra.specs.JoinedNames.{all_names}
+use Rattle.algebra.specs.Joining.{IsJoinOf, join_over}
+
+-- a refusal by fewer states and ways
+pub within_more : (n m v w : ℕ) (e : SizeFault) → n ≤ m → v ≤ w → IsSizeFaultWithin n v e → IsSizeFaultWithin m w e
+within_more n m v w (States count) l k h = (h.0, omega (arith, h.1, l))
+within_more n m v w (Ways count) l k h = (h.0, omega (arith, h.1, k))
+within_more n m v w OutOfMemory l k h = tt
+
+-- what an automaton of these names is, from what its graph is
+pub join_by : (A B : Marked) (all : List VarName) → all ≡ all_names A.names B.names → (r : Result Marked SizeFault) (P : Automaton → Type 0) →
+    ((C : Automaton) → P C → Reduces C (join_over A B all)) → ((C : Automaton) → P C → (p : ℕ) → p < C.states → IsReached C p) →
+    IfOk r (λ (j : Marked). j.names ≡ all) → IfOk r (λ (j : Marked). P j.graph) → IfOk r (IsJoinOf A B)
+join_by A B all is (Ok j) P h g names made = record {
+  names = names ∙ is;
+  reduct = subst (λ ns. Reduces j.graph (join_over A B ns)) (sym names) (h j.graph made);
+  reached = g j.graph made;
+}
+join_by A B all is (Err e) P h g names made = tt
+
+pub ok_by : (r : Result Marked SizeFault) (P Q : Marked → Type 0) → ((j : Marked) → P j → Q j) → IfOk r P → IfOk r Q
+ok_by (Ok j) P Q h k = h j k
+ok_by (Err e) P Q h k = tt
+
+pub fault_by : (r : Result Marked SizeFault) (P Q : SizeFault → Type 0) → ((e : SizeFault) → P e → Q e) → IfErr r P → IfErr r Q
+fault_by (Ok j) P Q h f = tt
+fault_by (Err e) P Q h f = h e f
+
+-- what a join is, by its clauses
+module _ (A B : Marked) where
+  pub names_of : (r : Result Marked SizeFault) → IfOk r (IsJoinOf A B) → IfOk r (λ (j : Marked). j.names ≡ all_names A.names B.names)
+  names_of (Ok j) h = h.names
+  names_of (Err e) h = tt
+
+  pub reduct_of : (r : Result Marked SizeFault) → IfOk r (IsJoinOf A B) → IfOk r (λ (j : Marked). Reduces j.graph (join_over A B j.names))
+  reduct_of (Ok j) h = h.reduct
+  reduct_of (Err e) h = tt
+
+  pub reached_of : (r : Result Marked SizeFault) → IfOk r (IsJoinOf A B) → IfOk r (λ (j : Marked). (p : ℕ) → p < j.graph.states → IsReached j.graph p)
+  reached_of (Ok j) h = h.reached
+  reached_of (Err e) h = tt

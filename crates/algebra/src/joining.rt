@@ -1,0 +1,58 @@
+//! Joins of automata whose ways are grouped by the states that they lead from.
+ghost use Rattle.std.specs.Prelude.{◌≤◌, length, IfErr, IfOk};
+ghost use Rattle.span_core.specs.declared.TheConstants.{MOST_VARIABLES};
+ghost use Rattle.marked_automaton.specs.Automaton.{AreGrouped};
+ghost use Rattle.algebra.specs.JoinedNames.{all_names};
+ghost use Rattle.algebra.specs.Joining.{IsGroupedOf, IsJoinFault, IsJoinOf};
+
+use crate::assembly::assembled;
+use crate::halves::side_of;
+use crate::pairs::searched;
+use crate::renaming::names_of_both;
+use marked_automaton::{Automaton, SizeFault};
+use span_core::OutOfMemory;
+use std::alloc::Global;
+
+/// The same automaton but for the order of its ways, which is that of the states that they lead from.
+pub(crate) fn grouped(alloc: Global, a: &Automaton) -> Result<Automaton, OutOfMemory>
+    ensures { IfOk result (IsGroupedOf a.now) }
+{
+    let mut copy = a.copy(alloc)?;
+    copy.group_ways();
+    // What `states` says of each automaton holds of these two.
+    let _both = (a.states(), copy.states());
+    Ok(copy)
+}
+
+/// The join, where the ways of the first are grouped.
+pub(crate) fn join_to(alloc: Global, a: &Automaton, b: &Automaton) -> Result<Automaton, SizeFault>
+    requires first { AreGrouped a.now.graph.ways }
+    requires few { length (all_names a.now.names b.now.names) ≤ MOST_VARIABLES }
+    ensures join { IfOk result (IsJoinOf a.now b.now) }
+    ensures fault { IfErr result (IsJoinFault a.now b.now) }
+{
+    // What `states` says of each automaton holds of this one.
+    let _whole = a.states();
+    if b.is_grouped() {
+        return join_grouped(alloc, a, b);
+    }
+    let second = grouped(alloc, b)?;
+    join_grouped(alloc, a, &second)
+}
+
+/// The join, where the ways of both are grouped.
+fn join_grouped(alloc: Global, a: &Automaton, b: &Automaton) -> Result<Automaton, SizeFault>
+    requires first { AreGrouped a.now.graph.ways }
+    requires second { AreGrouped b.now.graph.ways }
+    requires few { length (all_names a.now.names b.now.names) ≤ MOST_VARIABLES }
+    ensures join { IfOk result (IsJoinOf a.now b.now) }
+    ensures fault { IfErr result (IsJoinFault a.now b.now) }
+{
+    // What `states` says of each automaton holds of these two.
+    let _both = (a.states(), b.states());
+    let all = names_of_both(a.vars(), b.vars());
+    let left = side_of(alloc, a, &all, a, true, b)?;
+    let right = side_of(alloc, b, &all, a, false, a)?;
+    let (search, starts) = searched(alloc, a, b, &left, &right)?;
+    assembled(alloc, all, search, starts, a, b, &left, &right)
+}

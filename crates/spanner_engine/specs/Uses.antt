@@ -1,0 +1,38 @@
+-- Which lets an expression names, and which expression of a query is the last to name one.
+--   The lets have their numbers, and the body has the number of lets.
+use Rattle.std.specs.Prelude.{◌≡◌, ℕ, ◌≤◌, ◌⊎◌, List, length, slice_get, slice_index, Some}
+use Rattle.spanner_model.specs.Captures.{VarName}
+use Rattle.spanner_model.specs.Lists.{Has}
+use Rattle.spanner_model.specs.Expression.{ExprTree, QueryTree, atom, named, union_end, union, join_end, join, project}
+
+-- the expression speaks of let k
+abbrev pub Names : ExprTree → ℕ → Type 0
+Names (atom s t f) k = ⊥
+Names (named j) k = j ≡ k
+Names union_end k = ⊥
+Names (union e rest) k = Names e k ⊎ Names rest k
+Names join_end k = ⊥
+Names (join e rest) k = Names e k ⊎ Names rest k
+Names (project kept e) k = Names e k
+
+-- one of these parts does
+abbrev pub SomeNames : List ExprTree → ℕ → Type 0
+SomeNames es k = (e : ExprTree) × Has es e × Names e k
+
+-- the expression of number n does, or one that follows it
+abbrev pub IsNamedFrom : QueryTree → ℕ → ℕ → Type 0
+IsNamedFrom q n k =
+    ((j : ℕ) × (l : VarName × ExprTree) × (slice_get q.lets j ≡ Some l) × (n ≤ j) × Names l.1 k)
+    ⊎ Names q.body k
+
+-- no expression that names a let has a number above the let's last one
+pub record AreLastUses (q : QueryTree) (last : List ℕ) : Type 0 where
+  pub long : length last ≡ length q.lets
+  pub lets : (j k : ℕ) (l : VarName × ExprTree) → slice_get q.lets j ≡ Some l → Names l.1 k → j ≤ slice_index last k
+  pub body : (k : ℕ) → Names q.body k → length q.lets ≤ slice_index last k
+
+-- these numbers are no less than before, and at least n where a let is named
+pub record IsNoted (named : ℕ → Type 0) (n : ℕ) (old new : List ℕ) : Type 0 where
+  pub long : length new ≡ length old
+  pub noted : (k : ℕ) → named k → n ≤ slice_index new k
+  pub no_less : (k : ℕ) → slice_index old k ≤ slice_index new k

@@ -1,0 +1,62 @@
+//! Automata that are used in more than one place.
+ghost use Rattle.std.specs.Prelude.{◌≡◌, IfOk};
+
+use marked_automaton::Automaton;
+use span_core::OutOfMemory;
+use std::alloc::Global;
+use std::marker::Model;
+use std::rc::Rc;
+
+/// An automaton with one owner or more, let go with the last. It is seen as the automaton.
+#[derive(Drop)]
+pub struct Shared {
+    automaton: Rc<Automaton, Global>,
+}
+
+impl Model for Shared {
+    ghost use Rattle.marked_automaton.specs.Automaton.{Marked};
+
+    ghost Value = { Marked };
+
+    ghost use Rattle.marked_automaton.specs.Codes.{marked_code};
+
+    ghost coded = { marked_code };
+
+    ghost view = { λ s. s.automaton.value };
+}
+
+impl Shared {
+    /// The automaton, with one owner.
+    pub fn new(alloc: Global, automaton: Automaton) -> Result<Shared, OutOfMemory>
+        ensures { IfOk result (λ s. s ≡ automaton) }
+    {
+        Ok(Shared {
+            automaton: Rc::new(alloc, automaton)?,
+        })
+    }
+
+    /// One owner more. Nothing is copied.
+    pub fn share(&self) -> Result<Shared, OutOfMemory>
+        ensures { IfOk result (λ s. s ≡ self.now) }
+    {
+        Ok(Shared {
+            automaton: self.automaton.clone()?,
+        })
+    }
+
+    pub fn as_automaton(&self) -> &Automaton
+        ensures { result.now ≡ self.now }
+    {
+        Rc::as_ref(&self.automaton)
+    }
+
+    /// The automaton itself where this is its one owner, and else a copy.
+    pub fn take(self, alloc: Global) -> Result<Automaton, OutOfMemory>
+        ensures { IfOk result (λ a. a ≡ self) }
+    {
+        match Rc::try_unwrap(self.automaton) {
+            Ok(automaton) => Ok(automaton),
+            Err(shared) => shared.copy(alloc),
+        }
+    }
+}
