@@ -5,6 +5,9 @@
 //! the answers that the plain evaluator gives. Then it tells the sizes with which some large queries are
 //! compiled or refused. It prints a line for each query, and last the numbers of rows and answers.
 //!
+//! `automata_table TEXT` only tells the size with which the query TEXT is compiled or refused, for
+//! measurements.
+//!
 //! The exit status is 0 where all agree, and else that of the first case that comes: 1 where something
 //! differs, 2 where memory is wanting, 3 where a line cannot be printed.
 #![tactic(auto)]
@@ -48,8 +51,26 @@ fn main(rt: HostRuntime) -> ExitCode {
     ExitCode::from(ending.exit_status())
 }
 
-/// Checks the whole table, up to the first text that fails.
+/// Tells the size of the query that is given, or checks the whole table where none is.
 fn run(rt: &HostRuntime) -> io::Result<Ending> {
+    let words: Vec<String> = std::env::args(rt)?.skip(1).collect(rt.alloc())?;
+    match words.first() {
+        Some(text) => print_size(rt, text),
+        None => check_table(rt),
+    }
+}
+
+/// Prints the size of a text's query.
+fn print_size(rt: &HostRuntime, text: &str) -> io::Result<Ending> {
+    match size_of_text(rt.alloc(), text) {
+        Ok(size) => println!(rt; "{size}")?,
+        Err(fault) => return ended_by(rt, text, &fault),
+    }
+    Ok(Ending::Agrees)
+}
+
+/// Checks the whole table, up to the first text that fails.
+fn check_table(rt: &HostRuntime) -> io::Result<Ending> {
     let mut total = Tally::none();
     for group in &GROUPS {
         for text in group.texts.lines() {

@@ -1,0 +1,84 @@
+#!/usr/bin/env python3
+"""Measures how long queries take to be compiled to automata, and how much memory, where they are large.
+
+    bench/compile.py [--program PATH] [--only NAME ..] [--seconds S] [--times N]
+
+PROGRAM is `automata_table`, which tells the size of the one query that it is given
+(`rt run` in its folder builds it). Python 3.8, standard library; Linux, for the memory.
+"""
+import argparse
+import os
+import subprocess
+import sys
+import threading
+from typing import NamedTuple
+
+ROOT = os.path.dirname(os.path.dirname(os.path.abspath(__file__)))
+
+MOST_WAYS = '/^(a?){1000}(a?){999}$/'  # 2,000 states, 1,999,000 ways: an atom at the limit
+
+
+def lets(number, body, text):
+    """So many lets x0, x1, .. of the same formula, and then the body."""
+    return ''.join('let x%d=%s;' % (i, text) for i in range(number)) + body
+
+
+QUERIES = {
+    'an atom of 20,000 states': '/^(a{1000}){19}a{999}$/',
+    'an atom of 1,999,000 ways': MOST_WAYS,
+    'an atom refused by its count': '/((((a{1000}){1000}){1000}){1000}){1000}/',
+    'two such atoms, joined, no byte in common': MOST_WAYS + ' join ' + MOST_WAYS.replace('a', 'b'),
+    'a let of it, joined with itself': 'let x=' + MOST_WAYS + '; x join x',
+    'a let of it, a thousand times joined with /^$/': 'let x=' + MOST_WAYS + '; /^$/' + ' join x' * 1000,
+    'a union of it and 2,000 small atoms, refused': MOST_WAYS + ' union /^$/' * 2000,
+    'a union of half of it and 1,000 small atoms': '/^(a?){1000}(a?){400}$/' + ' union /^$/' * 1000,
+    'a hundred lets of it that nothing uses': lets(100, '/a/', MOST_WAYS),
+    'four lets of it that all wait for the body': lets(4, '/^$/ join x0 join x1 join x2 join x3', MOST_WAYS),
+    'a thousand names for one let of it': 'let x0=' + MOST_WAYS + ';'
+        + ''.join('let x%d=x%d;' % (i, i - 1) for i in range(1, 1000)) + '/^$/ join x999',
+    'pairs that go on with few of many ways': '/^(%s(A?){300}){5}$/ join /^(%s(B?){300}){5}$/'
+        % (('a?b?c?d?e?f?g?h?i?j?k?l?m?n?o?p?q?r?s?t?u?v?w?x?y?z?',) * 2),
+    'the longest query of small atoms': 'join'.join(['/a/'] * 9000),
+}
+
+
+class Run(NamedTuple):
+    told: str
+    seconds: float
+    peak: int  # KiB
+
+
+def run(program, query, seconds):
+    started = subprocess.Popen([program, query], stdout=subprocess.PIPE, stderr=subprocess.DEVNULL, text=True)
+    timer = threading.Timer(seconds, started.kill)
+    timer.start()
+    told = started.stdout.read().strip()
+    _, status, used = os.wait4(started.pid, 0)
+    timer.cancel()
+    started.returncode = status  # it has been waited for
+    if os.WIFSIGNALED(status):
+        told = 'ended by signal %d' % os.WTERMSIG(status)
+    return Run(told, used.ru_utime + used.ru_stime, used.ru_maxrss)
+
+
+def main():
+    parser = argparse.ArgumentParser(description='Measures how long large queries take to be compiled.')
+    parser.add_argument('--program', default=os.path.join(ROOT, 'crates', 'automata_table', 'out', 'automata_table'))
+    parser.add_argument('--only', nargs='+', metavar='NAME')
+    parser.add_argument('--seconds', type=float, default=120)
+    parser.add_argument('--times', type=int, default=1)
+    given = parser.parse_args()
+    if not os.access(given.program, os.X_OK):
+        sys.exit('automata_table is not built: %s' % given.program)
+    print('load %.2f of %d processors' % (os.getloadavg()[0], os.cpu_count()))
+    print('%-48s %8s %8s %8s  %s' % ('query', 'bytes', 'seconds', 'peak MB', 'told'))
+    for name, query in QUERIES.items():
+        if given.only and not any(word in name for word in given.only):
+            continue
+        best = min((run(given.program, query, given.seconds) for _ in range(given.times)), key=lambda one: one.seconds)
+        print('%-48s %8d %8.2f %8.1f  %s' % (name, len(query), best.seconds, best.peak / 1024, best.told[:60]))
+        sys.stdout.flush()
+
+
+if __name__ == '__main__':
+    main()
