@@ -8,7 +8,7 @@ use Rattle.spanner_model.specs.Lists.{Has}
 pub some_same : {X : Type 0} (y x : X) → Some y ≡ Some x → y ≡ x
 some_same y x e = ap (λ o. unwrap_or o y) e
 
--- `slice_get_within` of std
+-- `slice_get_within` of std, under the name that crates above cite
 pub get_within : {X : Type 0} (xs : List X) (k : ℕ) (x : X) → slice_get xs k ≡ Some x → k < length xs
 get_within xs k x e = slice_get_within xs k x e
 
