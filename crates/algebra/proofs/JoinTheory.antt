@@ -9,7 +9,7 @@ use Rattle.std.proofs.lemmas.Bool.{cases_lt, eq-eqb}
 use Rattle.std.proofs.lemmas.Cmp.{nat_cmp_total}
 use Rattle.std.proofs.lemmas.List.{map-append, length-map}
 use Rattle.std.proofs.lemmas.List.Sorted.{length_permutation}
-use Rattle.std.proofs.lemmas.Option.{slice_get-get_or}
+use Rattle.std.proofs.lemmas.Option.{slice_get_within, slice_get-get_or}
 use Rattle.spanner_model.specs.Captures.{VarName}
 use Rattle.spanner_model.specs.Lists.{Has}
 use Rattle.spanner_model.proofs.HasLaws.{Has-append_left, Has-get_or, Has-map, Has-map_cases, Has-slice_get, place_of-Has}
@@ -18,7 +18,7 @@ use Rattle.marked_automaton.specs.Automaton.{Automaton, ByteClass, IsMarked, IsW
 use Rattle.marked_automaton.specs.declared.fault.SizeFault.{SizeFault}
 use Rattle.marked_automaton.specs.Faults.{IsSizeFaultWithin}
 use Rattle.marked_automaton.specs.Reduct.{IsReached, Reduces}
-use Rattle.marked_automaton.proofs.Listed.{get_within, some_same}
+use Rattle.marked_automaton.proofs.Listed.{some_same}
 use Rattle.algebra.specs.declared.halves.HalfWay.{HalfWay}
 use Rattle.algebra.specs.declared.halves.HalfStop.{HalfStop}
 use Rattle.algebra.specs.declared.halves.Side.{Side}
@@ -275,8 +275,8 @@ module _ {A B : Marked} (a : IsMarked A) (b : IsMarked B) (all : List VarName) w
           let bytes : meet p.0.way.bytes p.1.way.bytes ≡ y.bytes = ap (λ (r : PairWay). r.bytes) p.5 ∙ sym m.2.bytes in
           let some : has_some (meet p.0.way.bytes p.1.way.bytes) ≡ true = right_true (nat_eq p.0.shared p.1.shared) (has_some (meet p.0.way.bytes p.1.way.bytes)) p.4 in
           record {
-            from = get_within keys y.from m.0.from m.2.from;
-            to = get_within keys y.to m.0.to m.2.to;
+            from = slice_get_within keys y.from m.0.from m.2.from;
+            to = slice_get_within keys y.to m.0.to m.2.to;
             marks = subst (λ v. v < 2 ^ (2 * length all)) marks small;
             bytes = λ e. let f : true ≡ false = sym some ∙ no_bytes (meet p.0.way.bytes p.1.way.bytes) (bytes ∙ e) in absurd (cc);
           }

@@ -4,14 +4,14 @@ use Rattle.std.specs.Prelude.{slice_get, map}
 use Rattle.std.specs.List.{filter, flat_map}
 use Rattle.std.specs.List.Sorted.{IsPermutation}
 use Rattle.std.proofs.lemmas.Nat.{div-mul-add, mod-mul-add, div-add-mod', mul-add-lt}
-use Rattle.std.proofs.lemmas.Option.{slice_get-get_or}
+use Rattle.std.proofs.lemmas.Option.{slice_get_within, slice_get-get_or}
 use Rattle.spanner_model.specs.Lists.{Has, AreDistinct}
 use Rattle.spanner_model.proofs.HasLaws.{Has-slice_get, Has-map, Has-map_cases, place_of-Has}
 use Rattle.marked_automaton.specs.declared.way.Way.{Way}
 use Rattle.marked_automaton.specs.declared.way.Stop.{Stop}
 use Rattle.marked_automaton.specs.Automaton.{Automaton, HasByte}
 use Rattle.marked_automaton.specs.Reduct.{IsReachedIn, IsReached, HasEnd, Knows, Reduces}
-use Rattle.marked_automaton.proofs.Listed.{some_same, get_within, get_map, get_map_cases}
+use Rattle.marked_automaton.proofs.Listed.{some_same, get_map, get_map_cases}
 use Rattle.algebra.specs.declared.pairs.Pair.{Pair}
 use Rattle.algebra.specs.Pairs.{pair_of, PairWay, PairStop, IsWayBetween, IsStopAt, Matched, AreWithin}
 use Rattle.algebra.proofs.Gathered.{one_of}
@@ -319,7 +319,7 @@ module _ (n1 n2 : ℕ) (starts1 starts2 : List ℕ) (ways : List PairWay) (stops
     e,
     record {
       from_states = from_states;
-      to_states = λ b a at. let r = f_is b a at in omega (arith, get_within keys a r.0 r.1, found.states);
+      to_states = λ b a at. let r = f_is b a at in omega (arith, slice_get_within keys a r.0 r.1, found.states);
       onto = onto;
       starts_there = starts_there;
       starts_back = starts_back;

@@ -3,6 +3,7 @@ use Rattle.std.proofs.Common.{◌≡◌, ℕ, zero, suc, ◌+◌, ◌-◌, ◌<�
 use Rattle.std.specs.Prelude.{slice_get, map, nat_lt, if◌then◌else◌}
 use Rattle.std.specs.Option.{option_map}
 use Rattle.std.proofs.lemmas.Bool.{lt-ltb, le-ltb, cases_lt}
+use Rattle.std.proofs.lemmas.Option.{slice_get_within}
 use Rattle.marked_automaton.specs.Automaton.{HasByte}
 use Rattle.spanner_model.specs.Lists.{Has}
 use Rattle.marked_automaton.specs.declared.way.Way.{Way}
@@ -51,11 +52,6 @@ sum_left n k f1 f2 b a l e = sum_first n k f1 f2 b l ∙ e
 
 sum_right : (n k : ℕ) (f1 f2 : ℕ → Option ℕ) (b a c : ℕ) → b ≡ n + c → f2 c ≡ Some a → sum_map n k f1 f2 b ≡ Some (k + a)
 sum_right n k f1 f2 b a c at e = sum_second n k f1 f2 b c at ∙ ap (option_map (λ a. k + a)) e
-
-pub get_within : {X : Type 0} (xs : List X) (k : ℕ) (x : X) → slice_get xs k ≡ Some x → k < length xs
-get_within [] k x e = absurd (cc)
-get_within (y ∷ xs) zero x e = omega arith
-get_within (y ∷ xs) (suc k) x e = omega (arith, get_within xs k x e)
 
 pub get_left : {X : Type 0} (xs ys : List X) (k : ℕ) (x : X) → slice_get xs k ≡ Some x → slice_get (xs ++ ys) k ≡ Some x
 get_left [] ys k x e = absurd (cc)
@@ -302,7 +298,7 @@ module _ (A1 B1 A2 B2 : Automaton) (wa1 : IsWhole A1) (wb1 : IsWhole B1) (wa2 : 
                   get_left B1.ways (map (moved_way B1.states) B2.ways) y.0 y.1 y.2,
                   y.3,
                   y.4,
-                  sum_left (length B1.ways) (length A1.ways) g1 g2 y.0 h (get_within B1.ways y.0 y.1 y.2) y.5,
+                  sum_left (length B1.ways) (length A1.ways) g1 g2 y.0 h (slice_get_within B1.ways y.0 y.1 y.2) y.5,
                 )
             | inr d ↦ let v = value_right b d.0 x.from d.1 image in absurd (omega (arith, wa1.froms x (place_has A1.ways h x s.1), v.2))
           ]

@@ -10,13 +10,13 @@ use Rattle.std.proofs.lemmas.List.{length-map}
 use Rattle.spanner_model.specs.Captures.{VarName}
 use Rattle.spanner_model.specs.Lists.{Has, AreDistinct}
 use Rattle.spanner_model.proofs.HasLaws.{Has-slice_get, Has-map_cases, Contains-Has}
+use Rattle.spanner_model.proofs.NameLaws.{Has-list_any, list_any-Has}
 use Rattle.marked_automaton.specs.Marks.{bits_of}
 use Rattle.marked_automaton.proofs.Erasing.{same_name, name_itself, four_times, digit_before}
 use Rattle.marked_automaton.proofs.Listed.{some_same}
 use Rattle.algebra.specs.JoinedMarks.{has_name, agree_on, joined}
 use Rattle.algebra.specs.Renaming.{place_shift, shift_of, bits_up, moved_marks}
 use Rattle.algebra.proofs.Joins.{pair_same}
-use Rattle.algebra.proofs.RowLaws.{has_is, is_has}
 
 false_true : false ≡ true → ⊥
 false_true e = cc
@@ -212,11 +212,11 @@ shift_small names other wanted x s e = go (has_name other x) wanted e
 
 -- what a search for a name tells
 pub found_has : (names : List VarName) (x : VarName) (o : Option ℕ) → IfSome o (λ k. slice_get names k ≡ Some x) → IfNone o (¬ Contains names x) → has_name names x ≡ is_some o
-found_has names x (Some k) some none = has_is names x (Has-slice_get names k x some)
+found_has names x (Some k) some none = list_any-Has names x (Has-slice_get names k x some)
 found_has names x None some none = go (has_name names x) refl
   where
     go : (b : Bool) → has_name names x ≡ b → has_name names x ≡ false
-    go true e = absurd (none (Contains-Has names x (is_has names x e)))
+    go true e = absurd (none (Contains-Has names x (Has-list_any names x e)))
     go false e = e
 
 pub shift_against : (names other : List VarName) (wanted : Bool) (x : VarName) (b : Bool) → has_name other x ≡ b → not (beq b wanted) ≡ true → shift_of names other wanted x ≡ None

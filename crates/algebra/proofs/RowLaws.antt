@@ -12,6 +12,7 @@ use Rattle.span_core.specs.Digits.{digit}
 use Rattle.span_core.specs.OrderLaws.{digits_tell}
 use Rattle.spanner_model.specs.Captures.{VarName, Mapping, row_of}
 use Rattle.spanner_model.specs.Lists.{Has}
+use Rattle.spanner_model.proofs.NameLaws.{Has-list_any, list_any-Has}
 use Rattle.marked_automaton.specs.Marks.{bits_of}
 use Rattle.marked_automaton.proofs.Erasing.{same_name, name_itself, digits, block_digits, bits_law}
 use Rattle.algebra.specs.JoinedMarks.{has_name, agree_on, joined}
@@ -21,20 +22,6 @@ use Rattle.marked_automaton.proofs.Passing.{both_true, left_true, right_true}
 or_true : (b : Bool) → (b || true) ≡ true
 or_true true = refl
 or_true false = refl
-
--- the names among which x is looked for
-pub has_is : (names : List VarName) (x : VarName) → Has names x → has_name names x ≡ true
-has_is [] x h = absurd h
-has_is (y ∷ names) x (inl e) = ap (λ z. bytes_eq z x || has_name names x) e ∙ ap (λ b. b || has_name names x) (name_itself x x refl)
-has_is (y ∷ names) x (inr h) = ap (λ b. bytes_eq y x || b) (has_is names x h) ∙ or_true (bytes_eq y x)
-
-pub is_has : (names : List VarName) (x : VarName) → has_name names x ≡ true → Has names x
-is_has [] x e = absurd (cc)
-is_has (y ∷ names) x e = by (bytes_eq y x) refl (is_has names x) e
-  where
-    by : (b : Bool) → bytes_eq y x ≡ b → (has_name names x ≡ true → Has names x) → (b || has_name names x) ≡ true → Has (y ∷ names) x
-    by true at rest e = inl (same_name y x at)
-    by false at rest e = inr (rest e)
 
 module _ (names1 names2 : List VarName) (m1 m2 : Mapping) where
   -- the blocks of the two rows
@@ -57,10 +44,10 @@ module _ (names1 names2 : List VarName) (m1 m2 : Mapping) where
   joined_bits x p h = by (has_name names1 x) refl
     where
       by : (b : Bool) → has_name names1 x ≡ b → (if b then bits_of names1 (First p) x else bits_of names2 (Second p) x) ≡ digit (if b then m1 x else m2 x) p
-      by true at = first_bits x p (is_has names1 x at)
+      by true at = first_bits x p (Has-list_any names1 x at)
       by false at =
           elim h [
-            | inl f ↦ let e : true ≡ false = sym (has_is names1 x f) ∙ at in absurd (cc)
+            | inl f ↦ let e : true ≡ false = sym (list_any-Has names1 x f) ∙ at in absurd (cc)
             | inr s ↦ second_bits x p s
           ]
 
@@ -83,7 +70,7 @@ module _ (names1 names2 : List VarName) (m1 m2 : Mapping) where
       (if has_name names1 x && has_name names2 x then nat_eq (bits_of names1 (First p) x) (bits_of names2 (Second p) x) else true) ≡ true →
       digit (m1 x) p ≡ digit (m2 x) p
   agree_at x p h g e =
-      let test : (has_name names1 x && has_name names2 x) ≡ true = both_true (has_name names1 x) (has_name names2 x) (has_is names1 x h) (has_is names2 x g) in
+      let test : (has_name names1 x && has_name names2 x) ≡ true = both_true (has_name names1 x) (has_name names2 x) (list_any-Has names1 x h) (list_any-Has names2 x g) in
       let same : nat_eq (bits_of names1 (First p) x) (bits_of names2 (Second p) x) ≡ true =
       sym (ap (λ b. if b then nat_eq (bits_of names1 (First p) x) (bits_of names2 (Second p) x) else true) test) ∙ e in
       sym (first_bits x p h) ∙ (eqb-true (bits_of names1 (First p) x) (bits_of names2 (Second p) x) same ∙ second_bits x p g)
@@ -105,8 +92,8 @@ module _ (names1 names2 : List VarName) (m1 m2 : Mapping) where
       by : (b c : Bool) → has_name names1 x ≡ b → has_name names2 x ≡ c →
           (if b && c then nat_eq (bits_of names1 (First p) x) (bits_of names2 (Second p) x) else true) ≡ true
       by true true at bt =
-          let h = is_has names1 x at in
-          let g = is_has names2 x bt in
+          let h = Has-list_any names1 x at in
+          let g = Has-list_any names2 x bt in
           eq-eqb (bits_of names1 (First p) x) (bits_of names2 (Second p) x) (first_bits x p h ∙ (ap (λ s. digit s p) (same x h g) ∙ sym (second_bits x p g)))
       by true false at bt = refl
       by false true at bt = refl

@@ -2,15 +2,10 @@
 use Rattle.std.proofs.Common.{◌≡◌, ℕ, zero, suc, ◌<◌, ◌⊎◌, List, [], ◌∷◌, length, map, Some, inl, inr, refl, ap, arith}
 use Rattle.std.specs.Prelude.{slice_get}
 use Rattle.std.specs.Option.{unwrap_or}
-use Rattle.std.proofs.lemmas.Option.{slice_get_within}
 use Rattle.spanner_model.specs.Lists.{Has}
 
 pub some_same : {X : Type 0} (y x : X) → Some y ≡ Some x → y ≡ x
 some_same y x e = ap (λ o. unwrap_or o y) e
-
--- `slice_get_within` of std, under the name that crates above cite
-pub get_within : {X : Type 0} (xs : List X) (k : ℕ) (x : X) → slice_get xs k ≡ Some x → k < length xs
-get_within xs k x e = slice_get_within xs k x e
 
 pub compared : (p k : ℕ) → (p < k) ⊎ ((p ≡ k) ⊎ (k < p))
 compared zero zero = inr (inl refl)

@@ -3,6 +3,7 @@ use Rattle.std.proofs.Common.{◌≡◌, ℕ, zero, suc, ◌<◌, ◌≤◌, ◌
 use Rattle.std.specs.Prelude.{slice_get, slice_index, slice_index_or, if◌then◌else◌, ◌-◌, ◌^◌}
 use Rattle.std.proofs.Math.Nat.{min-le_left}
 use Rattle.std.proofs.lemmas.Bool.{eq-eqb, ne_eqb, cases_lt}
+use Rattle.std.proofs.lemmas.Option.{slice_get_within}
 use Rattle.span_core.specs.NameSets.{Ascending}
 use Rattle.span_core.specs.declared.TheConstants.{MOST_VARIABLES}
 use Rattle.span_core.proofs.NameSetLaws.{none_are_variables}
@@ -126,11 +127,6 @@ pushed_at {X} (y ∷ xs) x (suc k) =
       | inr (inr b) ↦ inr (inr (omega (arith, b.0), b.1))
     ]
 
-within : {X : Type 0} (xs : List X) (k : ℕ) (x : X) → slice_get xs k ≡ Some x → k < length xs
-within [] k x e = absurd (cc)
-within (y ∷ xs) zero x e = omega arith
-within (y ∷ xs) (suc k) x e = omega (arith, within xs k x e)
-
 -- when one let more is compiled, and what no later expression names is let go
 pub one_more : (q : QueryTree) (lets all : List (Option Marked)) (last : List ℕ) (l : VarName × ExprTree) (a : Marked) → slice_get q.lets (length lets) ≡ Some l →
     AreCompiled q lets → IsCompiledFrom q (length lets) l.1 a → AreLastUses q last → length all ≡ length (lets ++ Some a ∷ []) →
@@ -142,7 +138,7 @@ one_more q lets all last l a at known made uses count kept gone = record { few =
     long = let e = length-append lets (Some a ∷ []) in omega (arith, e, count)
 
     few : length all ≤ length q.lets
-    few = omega (arith, long, within q.lets (length lets) l at)
+    few = omega (arith, long, slice_get_within q.lets (length lets) l at)
 
     made_here : (k : ℕ) (b : Marked) → kept_at (lets ++ Some a ∷ []) k ≡ Some b → ReducesMarked b (of_lets q.lets (suc (length lets)) k)
     made_here k b e =

@@ -9,8 +9,9 @@ use Rattle.span_core.specs.NameSets.{Ascending}
 use Rattle.spanner_model.specs.Lists.{Has}
 use Rattle.spanner_model.specs.Captures.{VarName, Mapping, row_of}
 use Rattle.spanner_model.specs.Answer.{IsRestriction}
+use Rattle.spanner_model.proofs.CapturesLaws.{row_same_on}
 use Rattle.spanner_model.proofs.Ends.{EndsBy}
-use Rattle.spanner_model.proofs.NameLaws.{ascending-distinct, same_names}
+use Rattle.spanner_model.proofs.NameLaws.{Has-list_any, ascending-distinct, list_any-Has, same_names}
 use Rattle.marked_automaton.specs.Automaton.{Accepts, IsWhole, Marked}
 use Rattle.marked_automaton.specs.declared.way.Way.{Way}
 use Rattle.marked_automaton.specs.declared.way.Stop.{Stop}
@@ -22,7 +23,8 @@ use Rattle.spanner_model.proofs.HasLaws.{Has-map_cases}
 use Rattle.place_automaton.specs.Words.{IsWordOf}
 use Rattle.algebra.specs.JoinedMarks.{has_name, agree_on, joined}
 use Rattle.algebra.specs.JoinedNames.{all_names}
-use Rattle.algebra.proofs.RowLaws.{has_is, is_has, blocks_agree, blocks_are_joined}
+use Rattle.algebra.proofs.Alike.{remarked_whole}
+use Rattle.algebra.proofs.RowLaws.{blocks_agree, blocks_are_joined}
 use Rattle.algebra.proofs.Unions.{union_law}
 use Rattle.algebra.proofs.Joins.{join_law}
 use Rattle.algebra.proofs.Whole.{union_whole, join_whole}
@@ -89,24 +91,7 @@ for_union d P Q A B M N vars a b = record {
         same_names N.names M.names b.ascending a.ascending (λ x h. (a.names x).1 ((vars x).1 ((b.names x).0 h)))
         (λ x h. (b.names x).1 ((vars x).0 ((a.names x).0 h)))
 
--- ---- rows
-
--- mappings that are the same on these names have the same row
-pub row_same : (names : List VarName) (m n : Mapping) → ((x : VarName) → Has names x → m x ≡ n x) → row_of names m ≡ row_of names n
-row_same [] m n h = refl
-row_same (x ∷ names) m n h =
-    ap (λ s. s ∷ row_of names m) (h x (inl refl)) ∙ ap (λ (r : List (Option Span)). n x ∷ r) (row_same names m n (λ y g. h y (inr g)))
-
 -- ---- projection
-
-remarked_whole : (e : ℕ → ℕ) (A : Automaton) → IsWhole A → IsWhole (remarked e A)
-remarked_whole e A h = record {
-  starts = h.starts;
-  froms = λ y g. let r = Has-map_cases (remarked_way e) A.ways y g in subst (λ (x : Way). x.from < A.states) r.2 (h.froms r.0 r.1);
-  tos = λ y g. let r = Has-map_cases (remarked_way e) A.ways y g in subst (λ (x : Way). x.to < A.states) r.2 (h.tos r.0 r.1);
-  stops = λ y g. let r = Has-map_cases (remarked_stop e) A.stops y g in subst (λ (x : Stop). x.state < A.states) r.2 (h.stops r.0 r.1);
-  idles = h.idles;
-}
 
 pub for_projection : (d : List ℕ) (P : VarName → Type 0) (A : Mapping → Type 0) (kept : List VarName) (M : Marked) →
     Ascending kept → ((x : VarName) → Has kept x → P x) → IsFor d P A M →
@@ -122,21 +107,21 @@ for_projection d P A kept M up sub a = record {
 }
   where
     ends : (m : Mapping) → (n : Mapping) × A n × IsRestriction (Has kept) n m → (x : VarName) (s : Span) → m x ≡ Some s → (b : Bool) → has_name kept x ≡ b → s.end ≤ length d
-    ends m h x s is true at = a.ends h.0 h.1 x s (sym ((h.2 x).0 (is_has kept x at)) ∙ is)
+    ends m h x s is true at = a.ends h.0 h.1 x s (sym ((h.2 x).0 (Has-list_any kept x at)) ∙ is)
     ends m h x s is false at =
-        let none : m x ≡ None = (h.2 x).1 (λ g. let e : true ≡ false = sym (has_is kept x g) ∙ at in absurd (cc)) in
+        let none : m x ≡ None = (h.2 x).1 (λ g. let e : true ≡ false = sym (list_any-Has kept x g) ∙ at in absurd (cc)) in
         let both : Some s ≡ None = sym is ∙ none in absurd (cc)
 
     kept_of : Mapping → Mapping
     kept_of n x = if has_name kept x then n x else None
 
     apart : (n : Mapping) (x : VarName) → (Has kept x → ⊥) → (b : Bool) → has_name kept x ≡ b → (if b then n x else None) ≡ None
-    apart n x out true at = absurd (out (is_has kept x at))
+    apart n x out true at = absurd (out (Has-list_any kept x at))
     apart n x out false at = refl
 
     kept_is : (n : Mapping) → IsRestriction (Has kept) n (kept_of n)
     kept_is n x = (
-      λ h. ap (λ b. if b then n x else None) (has_is kept x h),
+      λ h. ap (λ b. if b then n x else None) (list_any-Has kept x h),
       λ out. apart n x out (has_name kept x) refl,
     )
 
@@ -147,7 +132,7 @@ for_projection d P A kept M up sub a = record {
     there w h =
         let v = (projection_law M.graph (left_of M.names kept) d w).0 h in
         let r = (a.words v.0).0 v.1 in
-        let rows : row_of kept r.0 ≡ row_of kept (kept_of r.0) = row_same kept r.0 (kept_of r.0) (λ x g. sym ((kept_is r.0 x).0 g)) in (
+        let rows : row_of kept r.0 ≡ row_of kept (kept_of r.0) = row_same_on kept r.0 (kept_of r.0) (λ x g. sym ((kept_is r.0 x).0 g)) in (
           kept_of r.0,
           (r.0, r.1, kept_is r.0),
           λ p l. v.2 p l ∙ (ap (left_of M.names kept) (r.2 p l) ∙ (erased r.0 p ∙ ap (λ (row : List (Option Span)). block row p) rows)),
@@ -157,7 +142,7 @@ for_projection d P A kept M up sub a = record {
     back w h =
         let n = h.1.0 in
         let v : ℕ → ℕ = block (row_of M.names n) in
-        let rows : row_of kept h.0 ≡ row_of kept n = row_same kept h.0 n (λ x g. (h.1.2 x).0 g) in
+        let rows : row_of kept h.0 ≡ row_of kept n = row_same_on kept h.0 n (λ x g. (h.1.2 x).0 g) in
         (projection_law M.graph (left_of M.names kept) d w).1 (
           v,
           (a.words v).1 (n, h.1.1, λ p l. refl),
@@ -202,7 +187,7 @@ module _ (d : List ℕ) (P Q : VarName → Type 0) (A B : Mapping → Type 0) (M
   -- a merged mapping, restricted
   merged_first : (n1 n2 : Mapping) → A n1 → IsRestriction P (merged M.names n1 n2) n1
   merged_first n1 n2 h x = (
-    λ p. sym (ap (λ c. if c then n1 x else n2 x) (has_is M.names x ((a.names x).1 p))),
+    λ p. sym (ap (λ c. if c then n1 x else n2 x) (list_any-Has M.names x ((a.names x).1 p))),
     λ out. a.absent n1 h x out,
   )
 
@@ -210,25 +195,25 @@ module _ (d : List ℕ) (P Q : VarName → Type 0) (A B : Mapping → Type 0) (M
   merged_second n1 n2 g shared x = (λ q. by (has_name M.names x) refl q, λ out. b.absent n2 g x out)
     where
       by : (c : Bool) → has_name M.names x ≡ c → Q x → n2 x ≡ (if has_name M.names x then n1 x else n2 x)
-      by true at q = sym (shared x (is_has M.names x at) ((b.names x).1 q)) ∙ sym (ap (λ c. if c then n1 x else n2 x) at)
+      by true at q = sym (shared x (Has-list_any M.names x at) ((b.names x).1 q)) ∙ sym (ap (λ c. if c then n1 x else n2 x) at)
       by false at q = sym (ap (λ c. if c then n1 x else n2 x) at)
 
   merged_outside : (n1 n2 : Mapping) → B n2 → (x : VarName) → (P x ⊎ Q x → ⊥) → merged M.names n1 n2 x ≡ None
   merged_outside n1 n2 g x out = by (has_name M.names x) refl
     where
       by : (c : Bool) → has_name M.names x ≡ c → (if has_name M.names x then n1 x else n2 x) ≡ None
-      by true at = absurd (out (inl ((a.names x).0 (is_has M.names x at))))
+      by true at = absurd (out (inl ((a.names x).0 (Has-list_any M.names x at))))
       by false at = ap (λ c. if c then n1 x else n2 x) at ∙ b.absent n2 g x (λ q. out (inr q))
 
   -- the row of a mapping is that of its merged restrictions
   row_merged : (m n1 n2 : Mapping) → IsRestriction P m n1 → IsRestriction Q m n2 → row_of All m ≡ row_of All (merged M.names n1 n2)
-  row_merged m n1 n2 h g = row_same All m (merged M.names n1 n2) (λ x i. by x i (has_name M.names x) refl)
+  row_merged m n1 n2 h g = row_same_on All m (merged M.names n1 n2) (λ x i. by x i (has_name M.names x) refl)
     where
       by : (x : VarName) → Has All x → (c : Bool) → has_name M.names x ≡ c → m x ≡ (if has_name M.names x then n1 x else n2 x)
-      by x i true at = sym ((h x).0 ((a.names x).0 (is_has M.names x at))) ∙ sym (ap (λ c. if c then n1 x else n2 x) at)
+      by x i true at = sym ((h x).0 ((a.names x).0 (Has-list_any M.names x at))) ∙ sym (ap (λ c. if c then n1 x else n2 x) at)
       by x i false at =
           elim ((all_have x).0 i) [
-            | inl f ↦ let e : true ≡ false = sym (has_is M.names x f) ∙ at in absurd (cc)
+            | inl f ↦ let e : true ≡ false = sym (list_any-Has M.names x f) ∙ at in absurd (cc)
             | inr s ↦ sym ((g x).0 ((b.names x).0 s)) ∙ sym (ap (λ c. if c then n1 x else n2 x) at)
           ]
 

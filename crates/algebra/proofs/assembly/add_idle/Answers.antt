@@ -1,9 +1,8 @@
 use Rattle.std.proofs.Common.{get_or, inl, inr, sym, subst, arith, ◌∙◌}
-use Rattle.std.proofs.lemmas.Option.{slice_get-get_or}
+use Rattle.std.proofs.lemmas.Option.{slice_get_within, slice_get-get_or}
 use Rattle.spanner_model.specs.Lists.{Has}
 use Rattle.spanner_model.proofs.HasLaws.{Has-slice_get}
 use Rattle.marked_automaton.specs.Automaton.{idle_way}
-use Rattle.marked_automaton.proofs.Listed.{get_within}
 use Rattle.algebra.specs.declared.pairs.Pair.{Pair}
 use Rattle.algebra.specs.Pairs.{pair_of}
 use Rattle.algebra.proofs.Assembled.{one_idle_more}
@@ -56,6 +55,6 @@ returns-clause-idles c = λ p.
       (λ h. elim ((inv.idles p).0 h) [ inl x ↦ inl x | inr y ↦ inr y.1 ]),
       (λ h. (inv.idles p).1 (elim h [
         | inl x ↦ inl x
-        | inr y ↦ inr (omega (arith, get_within c.args.found.now p y.0 y.1, c.loop-state-test.false), y)
+        | inr y ↦ inr (omega (arith, slice_get_within c.args.found.now p y.0 y.1, c.loop-state-test.false), y)
       ])),
     )

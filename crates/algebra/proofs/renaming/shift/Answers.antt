@@ -1,7 +1,7 @@
 use Rattle.std.proofs.Common.{◌-◌, ◌*◌, Some, sym, ap, arith, ◌∙◌}
 use Rattle.std.specs.Prelude.{is_some}
+use Rattle.std.proofs.lemmas.Option.{slice_get_within}
 use Rattle.spanner_model.proofs.NameLaws.{ascending-distinct}
-use Rattle.marked_automaton.proofs.Listed.{get_within}
 use Rattle.algebra.proofs.RenamingLaws.{found_has, shift_against, shift_as_wanted, shift_at, shift_nowhere}
 use Rattle.algebra.proofs.renaming.shift.Goals as goal
 
@@ -12,10 +12,10 @@ returns-then-is_there-wanted c =
     sym (shift_against c.args.names.now c.args.other.now c.args.wanted x c.is_some-is_there.result has c.if-is_there-wanted.true)
 
 pub overflow_sub-result : goal.overflow_sub-result
-overflow_sub-result c = omega (arith, get_within c.args.names.now c.in-Some.k c.args.name.now c.in-Some.ensures.some, c.len-len.ensures.value)
+overflow_sub-result c = omega (arith, slice_get_within c.args.names.now c.in-Some.k c.args.name.now c.in-Some.ensures.some, c.len-len.ensures.value)
 
 pub overflow_sub-result-in-Some : goal.overflow_sub-result-in-Some
-overflow_sub-result-in-Some c = omega (arith, get_within c.args.names.now c.in-Some.k c.args.name.now c.in-Some.ensures.some, c.len-len.ensures.value)
+overflow_sub-result-in-Some c = omega (arith, slice_get_within c.args.names.now c.in-Some.k c.args.name.now c.in-Some.ensures.some, c.len-len.ensures.value)
 
 pub returns-in-Some : goal.returns-in-Some
 returns-in-Some c =

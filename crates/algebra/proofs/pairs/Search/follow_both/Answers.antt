@@ -1,12 +1,12 @@
 use Rattle.std.proofs.Common.{◌≡◌, ◌+◌, Bool, true, false, ◌&&◌, List, [], ◌∷◌, ◌++◌, nat_eq, refl, inl, sym, subst, ap, arith, ◌∙◌}
 use Rattle.std.proofs.lemmas.Bool.{eq-eqb, ne_eqb, true≢false}
 use Rattle.std.specs.Prelude.{slice_get, Some}
+use Rattle.std.proofs.lemmas.Option.{slice_get_within}
 use Rattle.spanner_model.specs.Lists.{Has}
 use Rattle.marked_automaton.specs.declared.way.Way.{Way}
 use Rattle.marked_automaton.specs.declared.fault.SizeFault.{SizeFault}
 use Rattle.algebra.specs.Operations.{has_some, meet}
 use Rattle.algebra.specs.Pairs.{PairWay, IsFollowed, IsRefusalOf, way_pair, ways_meet, ways_with}
-use Rattle.marked_automaton.proofs.Listed.{get_within}
 use Rattle.marked_automaton.proofs.Passing.{both_true}
 use Rattle.algebra.proofs.Followed.{followed_none, row_none, row_one, no_bytes, some_bytes, handed_on}
 use Rattle.algebra.proofs.ReductUnions.{get_left}
@@ -76,6 +76,6 @@ returns-clause-followed c =
         tt,
       );
       led = λ p l m.
-          let before = get_within old.found.keys c.args.from (way_pair x y).from c.requires.from in
+          let before = slice_get_within old.found.keys c.args.from (way_pair x y).from c.requires.from in
           (made, inl refl, c.in_ok-to.ensures.last p l m, omega (arith, before, l));
     })
