@@ -166,7 +166,7 @@ one_more q lets all last l a at known made uses count kept gone = record { few =
     there : (k : ℕ) → k < length all → IsNamedFrom q (length all) k → IsSome (kept_at all k)
     there k below named =
         let later : IsNamedFrom q (suc (length lets)) k = subst (λ n. IsNamedFrom q n k) long named in
-        let used = last_from q last (suc (length lets)) k uses (omega (arith, long, few)) later in
+        let used = last_from q last (suc (length lets)) k uses later in
         subst (λ (o : Option Marked). IsSome o) (sym (kept k (omega (arith, used)))) (
         elim (pushed_at lets (Some a) k) as (λ _. IsSome (kept_at (lets ++ Some a ∷ []) k)) [
           | inl c ↦ subst (λ (o : Option Marked). IsSome o) (sym c.1) (known.there k c.0 (named_before q (length lets) k later))
@@ -188,10 +188,10 @@ one_more q lets all last l a at known made uses count kept gone = record { few =
 -- ---- what is asked of lets and of the body
 
 pub asked_let : (q : QueryTree) (k : ℕ) (l : VarName × ExprTree) → IsSound q → slice_get q.lets k ≡ Some l → IsAsked q k l.1
-asked_let q k l s at = record { sound = s; sound_expr = (s.sound_lets k l at).0; named = λ x h. inl (let_named q.lets k l x at h); spoken = λ i m. inl (k, l, at, omega arith, m) }
+asked_let q k l s at = record { sound = s; sound_expr = (s.sound_lets k l at).0; named = λ x h. inl (let_named q.lets k l x at h); spoken = λ i m. (k, omega arith, inl (l, at, m)) }
 
 pub asked_body : (q : QueryTree) (n : ℕ) → IsSound q → n ≡ length q.lets → IsAsked q n q.body
-asked_body q n s e = record { sound = s; sound_expr = subst (λ m. IsSoundExpr (vars_of_lets q.lets m) m q.body) (sym e) s.sound_body.0; named = λ x h. inr h; spoken = λ i m. inr m }
+asked_body q n s e = record { sound = s; sound_expr = subst (λ m. IsSoundExpr (vars_of_lets q.lets m) m q.body) (sym e) s.sound_body.0; named = λ x h. inr h; spoken = λ i m. (n, omega arith, inr (e, m)) }
 
 -- all lets are kept in order
 pub lets_keep : (q : QueryTree) (lets : List (Option Marked)) → AreCompiled q lets → length lets ≡ length q.lets →

@@ -1,8 +1,9 @@
 -- What expressions name, and until when their lets are kept.
-use Rattle.std.proofs.Common.{◌≡◌, ℕ, suc, ◌+◌, ◌<◌, ◌≤◌, ◌⊎◌, ◌↔◌, List, [], ◌∷◌, length, take, Option, Some, IsNone, inl, inr, refl, sym, ap, subst, arith, ◌∙◌}
+use Rattle.std.proofs.Common.{◌≡◌, ℕ, suc, ◌+◌, ◌-◌, ◌<◌, ◌≤◌, max, ◌⊎◌, ◌↔◌, List, [], ◌∷◌, ◌++◌, length, take, replicate, Option, Some, IsNone, inl, inr, refl, sym, ap, subst, arith, ◌∙◌}
 use Rattle.std.specs.Prelude.{slice_get, slice_index, slice_set}
+use Rattle.std.proofs.Math.Seq.{take-nil}
 use Rattle.std.proofs.lemmas.Bool.{cases_lt}
-use Rattle.std.proofs.lemmas.List.{length-set, get_or-set_same, get_or-set_other}
+use Rattle.std.proofs.lemmas.List.{length-set, length-replicate, get_or-replicate, get_or_past, get_or-set_same, get_or-set_other}
 use Rattle.std.proofs.lemmas.Option.{slice_get_within}
 use Rattle.spanner_model.specs.Lists.{Has}
 use Rattle.spanner_model.specs.declared.expression.Expr.{Expr}
@@ -11,7 +12,7 @@ use Rattle.spanner_model.specs.declared.expression.Exprs.{Exprs}
 use Rattle.spanner_model.specs.ExprView.{expr_of, exprs_of}
 use Rattle.spanner_model.proofs.ExprLaws.{union_size}
 use Rattle.spanner_model.proofs.ExprTrees.{expr_of-Named, expr_of-Union, expr_of-Join}
-use Rattle.spanner_model.proofs.HasLaws.{Has-append_cases}
+use Rattle.spanner_model.proofs.HasLaws.{Has-append_cases, Has-append_left, Has-append_right}
 use Rattle.spanner_model.proofs.Nodes.{expr_nodes}
 use Rattle.spanner_model.proofs.TreeLaws.{take_at_more}
 use Rattle.spanner_model.specs.Captures.{VarName}
@@ -19,7 +20,7 @@ use Rattle.spanner_model.specs.Expression.{ExprTree, QueryTree, atom, named, uni
 use Rattle.spanner_model.specs.Sound.{IsSoundExpr, AreUnited, AreJoined}
 use Rattle.marked_automaton.specs.Automaton.{Marked}
 use Rattle.spanner_engine.specs.Compiling.{kept_at}
-use Rattle.spanner_engine.specs.Uses.{Names, SomeNames, IsNamedFrom, AreLastUses, IsNoted}
+use Rattle.spanner_engine.specs.Uses.{Names, SomeNames, NamesAt, IsNamedFrom, AreLastUses, IsNoted}
 
 -- ---- what expressions name
 
@@ -90,41 +91,65 @@ parts_name e parts (inr is) =
 pub named_is : (e : Expr) (k : ℕ) → e ≡ Named k → (j : ℕ) → Names (expr_of e) j ↔ (k ≡ j)
 named_is e k is j = subst (λ (t : ExprTree). Names t j ↔ (k ≡ j)) (sym (ap expr_of is ∙ expr_of-Named k)) (λ m. m, λ m. m)
 
--- one of the first k parts and the next, or one of the first k + 1
-some_more : (es : List ExprTree) (k : ℕ) (e : ExprTree) (j : ℕ) → slice_get es k ≡ Some e → SomeNames (take (k + 1) es) j → SomeNames (take k es) j ⊎ Names e j
-some_more es k e j at s =
-    elim (Has-append_cases (take k es) (e ∷ []) s.0 (subst (λ (zs : List ExprTree). Has zs s.0) (take_at_more es k e at) s.1)) as (λ _. SomeNames (take k es) j ⊎ Names e j) [
-      | inl a ↦ inl (s.0, a, s.2)
-      | inr b ↦ elim b as (λ _. SomeNames (take k es) j ⊎ Names e j) [ inl same ↦ inr (subst (λ (w : ExprTree). Names w j) (sym same) s.2) | inr c ↦ absurd c ]
-    ]
+-- one of the first k parts or the next, or one of the first k + 1
+some_more : (es : List ExprTree) (k : ℕ) (e : ExprTree) (j : ℕ) → slice_get es k ≡ Some e → SomeNames (take (k + 1) es) j ↔ (SomeNames (take k es) j ⊎ Names e j)
+some_more es k e j at = (
+  λ s. elim (Has-append_cases (take k es) (e ∷ []) s.0 (subst (λ (zs : List ExprTree). Has zs s.0) more s.1)) as (λ _. SomeNames (take k es) j ⊎ Names e j) [
+    | inl a ↦ inl (s.0, a, s.2)
+    | inr b ↦ elim b as (λ _. SomeNames (take k es) j ⊎ Names e j) [ inl same ↦ inr (subst (λ (w : ExprTree). Names w j) (sym same) s.2) | inr c ↦ absurd c ]
+  ],
+  λ h. elim h as (λ _. SomeNames (take (k + 1) es) j) [
+    | inl s ↦ (s.0, subst (λ (zs : List ExprTree). Has zs s.0) (sym more) (Has-append_left (take k es) (e ∷ []) s.0 s.1), s.2)
+    | inr m ↦ (e, subst (λ (zs : List ExprTree). Has zs e) (sym more) (Has-append_right (take k es) (e ∷ []) e (inl refl)), m)
+  ],
+)
+  where
+    more : take (k + 1) es ≡ take k es ++ e ∷ []
+    more = take_at_more es k e at
 
 -- ---- until when lets are kept
 
 -- what is named from the next number on is named from this one on
 pub named_before : (q : QueryTree) (n k : ℕ) → IsNamedFrom q (suc n) k → IsNamedFrom q n k
-named_before q n k (inl h) = inl (h.0, h.1, h.2, omega (arith, h.3), h.4)
-named_before q n k (inr h) = inr h
+named_before q n k h = (h.0, omega (arith, h.1), h.2)
 
 -- what is named from number n on has its last use there or later
-pub last_from : (q : QueryTree) (last : List ℕ) (n k : ℕ) → AreLastUses q last → n ≤ length q.lets → IsNamedFrom q n k → n ≤ slice_index last k
-last_from q last n k uses few (inl h) = omega (arith, h.3, uses.lets h.0 k h.1 h.2 h.4)
-last_from q last n k uses few (inr h) = omega (arith, few, uses.body k h)
+pub last_from : (q : QueryTree) (last : List ℕ) (n k : ℕ) → AreLastUses q last → IsNamedFrom q n k → n ≤ slice_index last k
+last_from q last n k uses h = omega (arith, h.1, uses.no_later h.0 k h.2)
 
 -- ---- noting uses
 
-pub noted_as : (P Q : ℕ → Type 0) (n : ℕ) (xs ys : List ℕ) → ((k : ℕ) → P k → Q k) → IsNoted Q n xs ys → IsNoted P n xs ys
-noted_as P Q n xs ys as_q h = record { long = h.long; noted = λ k p. h.noted k (as_q k p); no_less = h.no_less }
+pub noted_as : (P Q : ℕ → Type 0) (n : ℕ) (xs ys : List ℕ) → ((k : ℕ) → P k ↔ Q k) → IsNoted Q n xs ys → IsNoted P n xs ys
+noted_as P Q n xs ys same h = record {
+  long = h.long;
+  noted = λ k p. h.noted k ((same k).0 p);
+  no_less = h.no_less;
+  no_more = λ k. elim (h.no_more k) as (λ _. (slice_index ys k ≡ slice_index xs k) ⊎ ((slice_index ys k ≡ n) × P k)) [ inl e ↦ inl e | inr c ↦ inr (c.0, (same k).1 c.1) ];
+}
 
-pub noted_at : (n : ℕ) (xs : List ℕ) (k m : ℕ) → k < length xs → n ≤ m → slice_index xs k ≤ m → IsNoted (λ j. k ≡ j) n xs (slice_set xs k m)
-noted_at n xs k m within least more = record {
+pub noted_at : (n : ℕ) (xs : List ℕ) (k m : ℕ) → k < length xs → m ≡ max (slice_index xs k) n → IsNoted (λ j. k ≡ j) n xs (slice_set xs k m)
+noted_at n xs k m within larger = record {
   long = length-set xs k m;
-  noted = λ j e. subst (λ i. n ≤ slice_index (slice_set xs k m) i) e (omega (arith, least, get_or-set_same xs k m 0 within));
+  noted = λ j e. subst (λ i. n ≤ slice_index (slice_set xs k m) i) e (omega (arith, larger, here));
   no_less = λ j. elim (told_number j k) as (λ _. slice_index xs j ≤ slice_index (slice_set xs k m) j) [
-    | inl e ↦ subst (λ i. slice_index xs i ≤ slice_index (slice_set xs k m) i) (sym e) (omega (arith, more, get_or-set_same xs k m 0 within))
+    | inl e ↦ subst (λ i. slice_index xs i ≤ slice_index (slice_set xs k m) i) (sym e) (omega (arith, larger, here))
     | inr other ↦ omega (arith, get_or-set_other xs k j m 0 other)
+  ];
+  no_more = λ j. elim (told_number j k) as (λ _. NoMore j) [
+    | inl e ↦ subst (λ i. NoMore i) (sym e) (elim (cases_lt (slice_index xs k) n) as (λ _. NoMore k) [
+      | inl less ↦ inr (omega (arith, larger, here, less), refl)
+      | inr le ↦ inl (omega (arith, larger, here, le))
+    ])
+    | inr other ↦ inl (get_or-set_other xs k j m 0 other)
   ];
 }
   where
+    NoMore : ℕ → Type 0
+    NoMore j = (slice_index (slice_set xs k m) j ≡ slice_index xs j) ⊎ ((slice_index (slice_set xs k m) j ≡ n) × (k ≡ j))
+
+    here : slice_index (slice_set xs k m) k ≡ m
+    here = get_or-set_same xs k m 0 within
+
     told_number : (i j : ℕ) → (i ≡ j) ⊎ (i ≡ j → ⊥)
     told_number i j = elim (cases_lt i j) as (λ _. (i ≡ j) ⊎ (i ≡ j → ⊥)) [
       | inl less ↦ inr (λ e. omega (arith, e, less))
@@ -136,40 +161,89 @@ pub noted_more : (es : List ExprTree) (k : ℕ) (e : ExprTree) (n : ℕ) (xs ys 
     IsNoted (SomeNames (take k es)) n xs ys → IsNoted (Names e) n ys zs → IsNoted (SomeNames (take (k + 1) es)) n xs zs
 noted_more es k e n xs ys zs at h g = record {
   long = g.long ∙ h.long;
-  noted = λ j s. elim (some_more es k e j at s) as (λ _. n ≤ slice_index zs j) [ inl a ↦ omega (arith, h.noted j a, g.no_less j) | inr b ↦ g.noted j b ];
+  noted = λ j s. elim ((some_more es k e j at).0 s) as (λ _. n ≤ slice_index zs j) [ inl a ↦ omega (arith, h.noted j a, g.no_less j) | inr b ↦ g.noted j b ];
   no_less = λ j. omega (arith, h.no_less j, g.no_less j);
+  no_more = λ j. elim (g.no_more j) as (λ _. NoMore j) [
+    | inl same ↦ elim (h.no_more j) as (λ _. NoMore j) [ inl before ↦ inl (same ∙ before) | inr c ↦ inr (same ∙ c.0, (some_more es k e j at).1 (inl c.1)) ]
+    | inr c ↦ inr (c.0, (some_more es k e j at).1 (inr c.1))
+  ];
 }
+  where
+    NoMore : ℕ → Type 0
+    NoMore j = (slice_index zs j ≡ slice_index xs j) ⊎ ((slice_index zs j ≡ n) × SomeNames (take (k + 1) es) j)
 
 -- ---- the uses in a query
 
--- the uses in the first n lets are noted
+-- what the expression of number n names: let n, or the body, which is behind the lets
+pub let_names : (q : QueryTree) (n : ℕ) (l : VarName × ExprTree) → slice_get q.lets n ≡ Some l → (k : ℕ) → NamesAt q n k ↔ Names l.1 k
+let_names q n l at k = (
+  λ h. elim h as (λ _. Names l.1 k) [
+    | inl a ↦
+        let both : Some a.0 ≡ Some l = sym a.1 ∙ at in
+        let same : a.0 ≡ l = cc in
+        subst (λ (p : VarName × ExprTree). Names p.1 k) same a.2
+    | inr b ↦ absurd (omega (arith, b.0, slice_get_within q.lets n l at))
+  ],
+  λ m. inl (l, at, m),
+)
+
+pub body_names : (q : QueryTree) (n : ℕ) → n ≡ length q.lets → (k : ℕ) → NamesAt q n k ↔ Names q.body k
+body_names q n end k = (
+  λ h. elim h as (λ _. Names q.body k) [ inl a ↦ absurd (omega (arith, end, slice_get_within q.lets n a.0 a.1)) | inr b ↦ b.1 ],
+  λ m. inr (end, m),
+)
+
+-- the uses in the first n expressions are noted, and nothing else is
 pub record UsesSoFar (q : QueryTree) (n : ℕ) (last : List ℕ) : Type 0 where
   pub long : length last ≡ length q.lets
-  pub lets : (j k : ℕ) (l : VarName × ExprTree) → j < n → slice_get q.lets j ≡ Some l → Names l.1 k → j ≤ slice_index last k
+  pub no_later : (j k : ℕ) → j < n → NamesAt q j k → j ≤ slice_index last k
+  pub named : (k : ℕ) → (slice_index last k ≡ 0) ⊎ NamesAt q (slice_index last k) k
 
-pub none_so_far : (q : QueryTree) (last : List ℕ) → length last ≡ length q.lets → UsesSoFar q 0 last
-none_so_far q last long = record { long = long; lets = λ j k l less at m. absurd (omega (arith, less)) }
-
-pub one_use_more : (q : QueryTree) (n : ℕ) (l : VarName × ExprTree) (last new : List ℕ) → slice_get q.lets n ≡ Some l → UsesSoFar q n last → IsNoted (Names l.1) n last new →
-    UsesSoFar q (n + 1) new
-one_use_more q n l last new at s noted = record { long = noted.long ∙ s.long; lets = lets }
+pub none_so_far : (q : QueryTree) (xs last : List ℕ) (n m : ℕ) → n ≡ length q.lets → xs ≡ [] → m ≡ 0 → last ≡ take n xs ++ replicate (n - m) 0 → UsesSoFar q 0 last
+none_so_far q xs last n m long none zero_long is = record {
+  long = ap length zeros ∙ (length-replicate n 0 ∙ long);
+  no_later = λ j k less m. absurd (omega (arith, less));
+  named = λ k. inl (ap (λ (ys : List ℕ). slice_index ys k) zeros ∙ zero_at n k);
+}
   where
-    lets : (j k : ℕ) (m : VarName × ExprTree) → j < n + 1 → slice_get q.lets j ≡ Some m → Names m.1 k → j ≤ slice_index new k
-    lets j k m less there h =
+    all : n - m ≡ n
+    all = omega (arith, zero_long)
+
+    zeros : last ≡ replicate n 0
+    zeros = is ∙ (ap (λ k. take n xs ++ replicate k 0) all ∙ (ap (λ (ys : List ℕ). take n ys ++ replicate n 0) none ∙ ap (λ (ys : List ℕ). ys ++ replicate n 0) (take-nil n)))
+
+    zero_at : (i k : ℕ) → slice_index (replicate i 0) k ≡ 0
+    zero_at i k = elim (cases_lt k i) as (λ _. slice_index (replicate i 0) k ≡ 0) [
+      | inl less ↦ get_or-replicate i k 0 0 less
+      | inr le ↦ get_or_past (replicate i 0) k 0 (omega (arith, le, length-replicate {A = ℕ} i 0))
+    ]
+
+-- what the next expression names is noted
+pub one_use_more : (q : QueryTree) (n : ℕ) (P : ℕ → Type 0) (last new : List ℕ) → ((k : ℕ) → NamesAt q n k ↔ P k) → UsesSoFar q n last → IsNoted P n last new →
+    UsesSoFar q (n + 1) new
+one_use_more q n P last new names s noted = record { long = noted.long ∙ s.long; no_later = no_later; named = named_there }
+  where
+    no_later : (j k : ℕ) → j < n + 1 → NamesAt q j k → j ≤ slice_index new k
+    no_later j k less h =
         elim (cases_lt j n) as (λ _. j ≤ slice_index new k) [
-          | inl before ↦ omega (arith, s.lets j k m before there h, noted.no_less k)
+          | inl before ↦ omega (arith, s.no_later j k before h, noted.no_less k)
           | inr le ↦
               let same : j ≡ n = omega (arith, less, le) in
-              let both : Some m ≡ Some l = sym there ∙ (ap (λ i. slice_get q.lets i) same ∙ at) in
-              let eq : m ≡ l = cc in
-              omega (arith, same, noted.noted k (subst (λ (p : VarName × ExprTree). Names p.1 k) eq h))
+              omega (arith, same, noted.noted k ((names k).0 (subst (λ i. NamesAt q i k) same h)))
         ]
 
-pub all_uses : (q : QueryTree) (last new : List ℕ) (n : ℕ) → n ≡ length q.lets → UsesSoFar q n last → IsNoted (Names q.body) n last new → AreLastUses q new
-all_uses q last new n e s noted = record {
-  long = noted.long ∙ s.long;
-  lets = λ j k l at m. omega (arith, s.lets j k l (omega (arith, e, slice_get_within q.lets j l at)) at m, noted.no_less k);
-  body = λ k m. omega (arith, e, noted.noted k m);
+    named_there : (k : ℕ) → (slice_index new k ≡ 0) ⊎ NamesAt q (slice_index new k) k
+    named_there k =
+        elim (noted.no_more k) as (λ _. (slice_index new k ≡ 0) ⊎ NamesAt q (slice_index new k) k) [
+          | inl same ↦ subst (λ i. (i ≡ 0) ⊎ NamesAt q i k) (sym same) (s.named k)
+          | inr c ↦ inr (subst (λ i. NamesAt q i k) (sym c.0) ((names k).1 c.1))
+        ]
+
+pub all_uses : (q : QueryTree) (last : List ℕ) (n : ℕ) → n ≡ length q.lets → UsesSoFar q (n + 1) last → AreLastUses q last
+all_uses q last n end s = record {
+  long = s.long;
+  no_later = λ j k m. s.no_later j k (elim m as (λ _. j < n + 1) [ inl a ↦ omega (arith, end, slice_get_within q.lets j a.0 a.1) | inr b ↦ omega (arith, end, b.0) ]) m;
+  named = s.named;
 }
 
 -- ---- letting go

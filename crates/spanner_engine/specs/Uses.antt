@@ -19,20 +19,27 @@ Names (project kept e) k = Names e k
 abbrev pub SomeNames : List ExprTree → ℕ → Type 0
 SomeNames es k = (e : ExprTree) × Has es e × Names e k
 
+-- the expression of number n does
+abbrev pub NamesAt : QueryTree → ℕ → ℕ → Type 0
+NamesAt q n k =
+    ((l : VarName × ExprTree) × (slice_get q.lets n ≡ Some l) × Names l.1 k)
+    ⊎ ((n ≡ length q.lets) × Names q.body k)
+
 -- the expression of number n does, or one that follows it
 abbrev pub IsNamedFrom : QueryTree → ℕ → ℕ → Type 0
-IsNamedFrom q n k =
-    ((j : ℕ) × (l : VarName × ExprTree) × (slice_get q.lets j ≡ Some l) × (n ≤ j) × Names l.1 k)
-    ⊎ Names q.body k
+IsNamedFrom q n k = (j : ℕ) × (n ≤ j) × NamesAt q j k
 
--- no expression that names a let has a number above the let's last one
+-- no expression that names a let has a number above the let's last one,
+-- and each is the number of an expression that names the let, or 0
 pub record AreLastUses (q : QueryTree) (last : List ℕ) : Type 0 where
   pub long : length last ≡ length q.lets
-  pub lets : (j k : ℕ) (l : VarName × ExprTree) → slice_get q.lets j ≡ Some l → Names l.1 k → j ≤ slice_index last k
-  pub body : (k : ℕ) → Names q.body k → length q.lets ≤ slice_index last k
+  pub no_later : (n k : ℕ) → NamesAt q n k → n ≤ slice_index last k
+  pub named : (k : ℕ) → (slice_index last k ≡ 0) ⊎ NamesAt q (slice_index last k) k
 
--- these numbers are no less than before, and at least n where a let is named
+-- these numbers are no less than before, and at least n where a let is named;
+-- and each is what it was before, or n where the let is named
 pub record IsNoted (named : ℕ → Type 0) (n : ℕ) (old new : List ℕ) : Type 0 where
   pub long : length new ≡ length old
   pub noted : (k : ℕ) → named k → n ≤ slice_index new k
   pub no_less : (k : ℕ) → slice_index old k ≤ slice_index new k
+  pub no_more : (k : ℕ) → (slice_index new k ≡ slice_index old k) ⊎ ((slice_index new k ≡ n) × named k)

@@ -10,8 +10,9 @@ use span_core::OutOfMemory;
 use spanner_model::{Expr, Exprs, Query};
 use std::alloc::Global;
 
-/// For each `let` the number of the last expression that names it, and 0 where none does. The `let`s have
-/// their numbers, counted from 0, and the body has the number of `let`s.
+/// For each `let` the number of the last expression that names it, neither less nor more, so that no `let`
+/// is kept longer than it is needed; and 0 where none does, since the expression of number 0 names no `let`.
+/// The `let`s have their numbers, counted from 0, and the body has the number of `let`s.
 pub fn last_uses(alloc: Global, query: &Query) -> Result<Vec<usize>, OutOfMemory>
     requires { IsSound (query_of query.now) }
     ensures { IfOk result (λ last. AreLastUses (query_of query.now) last.items) }
@@ -35,8 +36,8 @@ fn note_uses(expr: &Expr, number: usize, last: &mut [usize])
     match expr {
         Expr::Atom(_) => {}
         Expr::Named(k) => {
-            let k = *k as usize;
-            last[k] = last[k].max(number);
+            let noted = &mut last[*k as usize];
+            *noted = (*noted).max(number);
         }
         Expr::Union(parts) | Expr::Join(parts) => note_parts(parts, number, last),
         Expr::Project(_, sub) => note_uses(sub, number, last),

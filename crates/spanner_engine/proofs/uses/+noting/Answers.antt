@@ -12,15 +12,12 @@ use Rattle.spanner_engine.proofs.uses.+noting.Goals as goal
 pub note_uses-bounds-last-k : goal.note_uses-bounds-last-k
 note_uses-bounds-last-k t c = c.requires c.in-Named.k ((named_is c.args.expr.now c.in-Named.k c.in-Named.is c.in-Named.k).1 refl)
 
-pub note_uses-bounds-last-k-in-Named : goal.note_uses-bounds-last-k-in-Named
-note_uses-bounds-last-k-in-Named t c = c.requires c.in-Named.k ((named_is c.args.expr.now c.in-Named.k c.in-Named.is c.in-Named.k).1 refl)
-
 pub note_uses-returns-in-Named : goal.note_uses-returns-in-Named
 note_uses-returns-in-Named t c =
     let k = c.in-Named.k in
     let within = c.requires k ((named_is c.args.expr.now k c.in-Named.is k).1 refl) in
-    noted_as (Names (expr_of c.args.expr.now)) (λ j. k ≡ j) c.args.number c.args.last.now _ (λ j m. (named_is c.args.expr.now k c.in-Named.is j).0 m)
-    (noted_at c.args.number c.args.last.now k c.max.result within (omega (arith, c.max.ensures)) (omega (arith, c.max.ensures)))
+    noted_as (Names (expr_of c.args.expr.now)) (λ j. k ≡ j) c.args.number c.args.last.now _ (named_is c.args.expr.now k c.in-Named.is)
+    (noted_at c.args.number c.args.last.now k c.max.result within c.max.ensures)
 
 pub note_uses-note_uses-requires : goal.note_uses-note_uses-requires
 note_uses-note_uses-requires t c =
@@ -36,7 +33,7 @@ note_uses-note_parts-requires t c =
 pub note_uses-returns-in-Union : goal.note_uses-returns-in-Union
 note_uses-returns-in-Union t c =
     let p = parts_name c.args.expr.now c.in-Union.parts c.in-Union.is in
-    noted_as (Names (expr_of c.args.expr.now)) (SomeNames (exprs_of c.in-Union.parts)) c.args.number c.args.last.now c.note_parts.new.last (λ k m. (p.1 k).0 m) c.note_parts.ensures
+    noted_as (Names (expr_of c.args.expr.now)) (SomeNames (exprs_of c.in-Union.parts)) c.args.number c.args.last.now c.note_parts.new.last p.1 c.note_parts.ensures
 
 pub note_parts-note_uses-requires : goal.note_parts-note_uses-requires
 note_parts-note_uses-requires t c =
