@@ -19,13 +19,13 @@ Names (project kept e) k = Names e k
 abbrev pub SomeNames : List ExprTree → ℕ → Type 0
 SomeNames es k = (e : ExprTree) × Has es e × Names e k
 
--- the expression of number n does
+-- the expression of number n of the query names let k
 abbrev pub NamesAt : QueryTree → ℕ → ℕ → Type 0
 NamesAt q n k =
     ((l : VarName × ExprTree) × (slice_get q.lets n ≡ Some l) × Names l.1 k)
     ⊎ ((n ≡ length q.lets) × Names q.body k)
 
--- the expression of number n does, or one that follows it
+-- that expression does, or one that follows it
 abbrev pub IsNamedFrom : QueryTree → ℕ → ℕ → Type 0
 IsNamedFrom q n k = (j : ℕ) × (n ≤ j) × NamesAt q j k
 
