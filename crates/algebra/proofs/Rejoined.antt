@@ -36,13 +36,13 @@ join_bytes agree both A B y h e =
     true≢false (sym some ∙ no_bytes bytes (ap (λ (y : Way). y.bytes) s.2 ∙ e))
 
 module _ (A1 A2 B1 B2 : Marked) (a1 : IsMarked A1) (a2 : IsMarked A2) (b1 : IsMarked B1) (b2 : IsMarked B2)
-    (e1 : A1.names ≡ B1.names) (e2 : A2.names ≡ B2.names) (r1 : Reduces A1.graph B1.graph) (r2 : Reduces A2.graph B2.graph) where
+    (e1 : A1.names ≡ B1.names) (e2 : A2.names ≡ B2.names) (first : Reduces A1.graph B1.graph) (second : Reduces A2.graph B2.graph) where
   over : (all : List VarName) → Reduces (join_over A1 A2 all) (join_over B1 B2 all)
   over all =
       let is : join_over A1 A2 all ≡ join_of (agree_on B1.names B2.names all) (joined B1.names B2.names all) A1.graph A2.graph =
       (λ i. join_of (agree_on (e1 i) (e2 i) all) (joined (e1 i) (e2 i) all) A1.graph A2.graph) in
       subst (λ (X : Automaton). Reduces X (join_over B1 B2 all)) (sym is)
-      (reduct_of_join (agree_on B1.names B2.names all) (joined B1.names B2.names all) A1.graph B1.graph A2.graph B2.graph a1.whole b1.whole a2.whole b2.whole r1 r2)
+      (reduct_of_join (agree_on B1.names B2.names all) (joined B1.names B2.names all) A1.graph B1.graph A2.graph B2.graph a1.whole b1.whole a2.whole b2.whole first second)
 
   names_are : all_names A1.names A2.names ≡ all_names B1.names B2.names
   names_are = λ i. all_names (e1 i) (e2 i)

@@ -44,6 +44,7 @@ impl Shared {
         })
     }
 
+    /// The automaton, to look at.
     pub fn as_automaton(&self) -> &Automaton
         ensures { result.now ≡ self.now }
     {
