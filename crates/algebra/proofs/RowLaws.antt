@@ -1,9 +1,8 @@
 -- What blocks say of the spans of two rows.
 use Rattle.std.proofs.Common.{◌≡◌, ℕ, ◌+◌, ◌*◌, ◌^◌, ◌<◌, ◌≤◌, ◌⊎◌, Bool, true, false, List, [], ◌∷◌, length, map, Option, Some, None, inl, inr, refl, sym, ap, subst, arith, ◌∙◌}
-use Rattle.std.specs.Prelude.{if◌then◌else◌, IsTrue, ◌&&◌, ◌||◌, nat_eq, ◌==◌}
+use Rattle.std.specs.Prelude.{if◌then◌else◌, IsTrue, ◌&&◌, nat_eq, ◌==◌}
 use Rattle.std.specs.Int.{from_bool}
 use Rattle.std.specs.Option.{ForSome}
-use Rattle.std.specs.Str.{bytes_eq}
 use Rattle.std.proofs.lemmas.Bool.{cases_lt, eq-eqb, ne_eqb, eqb-true}
 use Rattle.std.proofs.lemmas.List.{length-map}
 use Rattle.span_core.specs.declared.span.Span.{Span}
@@ -14,14 +13,10 @@ use Rattle.spanner_model.specs.Captures.{VarName, Mapping, row_of}
 use Rattle.spanner_model.specs.Lists.{Has}
 use Rattle.spanner_model.proofs.NameLaws.{Has-list_any, list_any-Has}
 use Rattle.marked_automaton.specs.Marks.{bits_of}
-use Rattle.marked_automaton.proofs.Erasing.{same_name, name_itself, digits, block_digits, bits_law}
+use Rattle.marked_automaton.proofs.Erasing.{digits, block_digits, bits_law}
 use Rattle.algebra.specs.JoinedMarks.{has_name, agree_on, joined}
 use Rattle.algebra.specs.Rows.{BlocksAgree, BlocksAreJoined, merged}
 use Rattle.marked_automaton.proofs.Passing.{both_true, left_true, right_true}
-
-or_true : (b : Bool) → (b || true) ≡ true
-or_true true = refl
-or_true false = refl
 
 module _ (names1 names2 : List VarName) (m1 m2 : Mapping) where
   -- the blocks of the two rows

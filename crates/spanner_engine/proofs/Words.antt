@@ -1,5 +1,5 @@
 -- What the automaton of an expression accepts, operation by operation.
-use Rattle.std.proofs.Common.{◌≡◌, ℕ, ◌<◌, ◌≤◌, ◌⊎◌, ◌↔◌, Bool, true, false, List, [], ◌∷◌, length, Option, Some, None, inl, inr, refl, sym, ap, subst, arith, ◌∙◌}
+use Rattle.std.proofs.Common.{◌≡◌, ℕ, ◌≤◌, ◌⊎◌, ◌↔◌, Bool, true, false, List, length, Option, Some, None, inl, inr, refl, sym, ap, subst, arith, ◌∙◌}
 use Rattle.std.specs.Prelude.{if◌then◌else◌, IsTrue}
 use Rattle.std.proofs.lemmas.Bool.{cases_lt}
 use Rattle.std.specs.Option.{ForSome}
@@ -13,13 +13,9 @@ use Rattle.spanner_model.proofs.CapturesLaws.{row_same_on}
 use Rattle.spanner_model.proofs.Ends.{EndsBy}
 use Rattle.spanner_model.proofs.NameLaws.{Has-list_any, ascending-distinct, list_any-Has, same_names}
 use Rattle.marked_automaton.specs.Automaton.{Accepts, IsWhole, Marked}
-use Rattle.marked_automaton.specs.declared.way.Way.{Way}
-use Rattle.marked_automaton.specs.declared.way.Stop.{Stop}
-use Rattle.marked_automaton.specs.Automaton.{Automaton}
-use Rattle.marked_automaton.specs.Marks.{left_of, remarked, remarked_way, remarked_stop}
+use Rattle.marked_automaton.specs.Marks.{left_of}
 use Rattle.marked_automaton.proofs.Erasing.{erasing_law}
 use Rattle.marked_automaton.proofs.Projections.{projection_law}
-use Rattle.spanner_model.proofs.HasLaws.{Has-map_cases}
 use Rattle.place_automaton.specs.Words.{IsWordOf}
 use Rattle.algebra.specs.JoinedMarks.{has_name, agree_on, joined}
 use Rattle.algebra.specs.JoinedNames.{all_names}
