@@ -1,5 +1,5 @@
 -- Names of two sets.
-use Rattle.std.proofs.Common.{◌≡◌, ℕ, suc, ◌+◌, ◌<◌, ◌≤◌, ◌⊎◌, Bool, true, false, List, [], ◌∷◌, length, inl, inr, refl, sym, ap, arith}
+use Rattle.std.proofs.Common.{◌≡◌, ℕ, suc, ◌+◌, ◌<◌, ◌≤◌, ◌⊎◌, Bool, true, false, List, [], ◌∷◌, length, inl, inr, refl, sym, ap, arith, ◌∙◌}
 use Rattle.std.specs.Prelude.{IsTrue, Contains}
 use Rattle.std.specs.Bool.{OnTrue}
 use Rattle.std.specs.FinSet as set
@@ -51,3 +51,7 @@ all_few names (x ∷ more) =
       | inl l ↦ omega (arith, l, all_few (with_name x names) more)
       | inr r ↦ omega (arith, r.1, all_few (with_name x names) more)
     ]
+
+-- all names, by names that are equal
+pub names_by : {all a b names1 names2 : List VarName} → all ≡ all_names a b → a ≡ names1 → b ≡ names2 → all ≡ all_names names1 names2
+names_by e f g = e ∙ (λ i. all_names (f i) (g i))

@@ -7,6 +7,7 @@ use Rattle.spanner_model.specs.Lists.{Has, AreDistinct}
 use Rattle.marked_automaton.specs.declared.way.Way.{Way}
 use Rattle.marked_automaton.specs.declared.TheConstants.{MOST_STATES}
 use Rattle.marked_automaton.specs.declared.fault.SizeFault.{SizeFault}
+use Rattle.marked_automaton.specs.declared.fault.SizeFault.TheVariants.{States}
 use Rattle.marked_automaton.specs.Faults.{IsSizeFaultWithin}
 use Rattle.marked_automaton.specs.Automaton.{Automaton}
 use Rattle.algebra.specs.declared.halves.HalfWay.{HalfWay}
@@ -60,3 +61,7 @@ IsSearchRefusal A B xs ys e =
     (w : ℕ) → ((p : ℕ) → Has A.starts p → p < A.states) → ((q : ℕ) → Has B.starts q → q < B.states) →
     LeadWithin A.states B.states (pairs ways_meet way_pair ys xs) → length (pairs ways_meet way_pair ys xs) ≤ w →
     IsSizeFaultWithin (A.states * B.states) w e
+
+-- a refusal because there may be too many pairs of states: it tells how many there are
+abbrev pub IsProductRefusal : Automaton → Automaton → SizeFault → Type 0
+IsProductRefusal A B e = (MOST_STATES < A.states * B.states) × (e ≡ States (A.states * B.states))

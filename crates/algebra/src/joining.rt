@@ -6,6 +6,7 @@ ghost use Rattle.algebra.specs.JoinedNames.{all_names};
 ghost use Rattle.algebra.specs.Joining.{IsGroupedOf, IsJoinFault, IsJoinOf};
 
 use crate::assembly::assembled;
+use crate::effort::Effort;
 use crate::halves::side_of;
 use crate::pairs::searched;
 use crate::renaming::names_of_both;
@@ -18,41 +19,53 @@ pub(crate) fn grouped(alloc: Global, a: &Automaton) -> Result<Automaton, OutOfMe
     ensures { IfOk result (IsGroupedOf a.now) }
 {
     let mut copy = a.copy(alloc)?;
-    copy.group_ways();
+    copy.group_ways(alloc)?;
     // What `states` says of each automaton holds of these two.
     let _both = (a.states(), copy.states());
     Ok(copy)
 }
 
 /// The join, where the ways of the first are grouped.
-pub(crate) fn join_to(alloc: Global, a: &Automaton, b: &Automaton) -> Result<Automaton, SizeFault>
+pub(crate) fn join_to(
+    alloc: Global,
+    a: &Automaton,
+    b: &Automaton,
+    effort: &mut Effort,
+) -> Result<Automaton, SizeFault>
     requires first { AreGrouped a.now.graph.ways }
     requires few { length (all_names a.now.names b.now.names) ≤ MOST_VARIABLES }
     ensures join { IfOk result (IsJoinOf a.now b.now) }
     ensures fault { IfErr result (IsJoinFault a.now b.now) }
+    ensures effort { effort.new ≤ effort.old }
 {
     // What `states` says of each automaton holds of this one.
     let _whole = a.states();
     if b.is_grouped() {
-        return join_grouped(alloc, a, b);
+        return join_grouped(alloc, a, b, effort);
     }
     let second = grouped(alloc, b)?;
-    join_grouped(alloc, a, &second)
+    join_grouped(alloc, a, &second, effort)
 }
 
 /// The join, where the ways of both are grouped.
-fn join_grouped(alloc: Global, a: &Automaton, b: &Automaton) -> Result<Automaton, SizeFault>
+fn join_grouped(
+    alloc: Global,
+    a: &Automaton,
+    b: &Automaton,
+    effort: &mut Effort,
+) -> Result<Automaton, SizeFault>
     requires first { AreGrouped a.now.graph.ways }
     requires second { AreGrouped b.now.graph.ways }
     requires few { length (all_names a.now.names b.now.names) ≤ MOST_VARIABLES }
     ensures join { IfOk result (IsJoinOf a.now b.now) }
     ensures fault { IfErr result (IsJoinFault a.now b.now) }
+    ensures effort { effort.new ≤ effort.old }
 {
     // What `states` says of each automaton holds of these two.
     let _both = (a.states(), b.states());
     let all = names_of_both(a.vars(), b.vars());
     let left = side_of(alloc, a, &all, a, true, b)?;
     let right = side_of(alloc, b, &all, a, false, a)?;
-    let (search, starts) = searched(alloc, a, b, &left, &right)?;
+    let (search, starts) = searched(alloc, a, b, &left, &right, effort)?;
     assembled(alloc, all, search, starts, a, b, &left, &right)
 }

@@ -1,9 +1,11 @@
 //! Union, projection and join of automata.
 #![tactic(auto)]
 
-pub use operations::{join, project, union, unite};
+pub use effort::Effort;
+pub use operations::{join, join_within, project, union, unite};
 
 mod assembly;
+mod effort;
 mod halves;
 mod joining;
 pub mod laws;

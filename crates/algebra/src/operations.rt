@@ -10,6 +10,7 @@ ghost use Rattle.algebra.specs.JoinedMarks.{agree_on, joined};
 ghost use Rattle.algebra.specs.JoinedNames.{all_names};
 ghost use Rattle.algebra.specs.Operations.{join_of, union_of};
 
+use crate::effort::Effort;
 use crate::joining::{grouped, join_to};
 use crate::moved::{add_part, add_ways};
 use marked_automaton::{Automaton, MOST_STATES, MOST_WAYS, SizeFault};
@@ -85,6 +86,8 @@ pub fn project(alloc: Global, a: &Automaton, keep: &VarSet) -> Result<Automaton,
 ///
 /// `States` comes only where the product of the numbers of states is more than `MOST_STATES`, and `Ways`
 /// only where the pairs of ways that go together are more than `MOST_WAYS`.
+///
+/// Nothing bounds the work: `join_within` takes a bound.
 pub fn join(alloc: Global, a: &Automaton, b: &Automaton) -> Result<Automaton, SizeFault>
     requires { length (all_names a.now.names b.now.names) ≤ MOST_VARIABLES }
     ensures names { IfOk result (λ j. j.names ≡ all_names a.now.names b.now.names) }
@@ -94,11 +97,37 @@ pub fn join(alloc: Global, a: &Automaton, b: &Automaton) -> Result<Automaton, Si
     ensures fault { IfErr result (λ e. IsSizeFaultWithin (a.now.graph.states * b.now.graph.states)
         (length (join_of (agree_on a.now.names b.now.names (all_names a.now.names b.now.names)) (joined a.now.names b.now.names (all_names a.now.names b.now.names)) a.now.graph b.now.graph).ways) e) }
 {
+    join_within(alloc, a, b, &mut Effort::new(u64::MAX))
+}
+
+/// The join of `a` and `b`, as `join` makes it, with a bound on the work. Before it tries the ways at a pair
+/// of states with each other, it takes from `effort` one step for each two that it tries, one of each state,
+/// and one for each way at the two states. Where one of the states has no ways, it takes none. The ends that
+/// go together are not counted.
+///
+/// Where no step is left then, the join is refused with `States` if the product of the numbers of states is
+/// more than `MOST_STATES`, and the count is that product. If the product is not more, the join goes on.
+/// `Ways`, and `States` for the pairs that it found, come as from `join`.
+pub fn join_within(
+    alloc: Global,
+    a: &Automaton,
+    b: &Automaton,
+    effort: &mut Effort,
+) -> Result<Automaton, SizeFault>
+    requires { length (all_names a.now.names b.now.names) ≤ MOST_VARIABLES }
+    ensures names { IfOk result (λ j. j.names ≡ all_names a.now.names b.now.names) }
+    ensures reduct { IfOk result (λ j. Reduces j.graph
+        (join_of (agree_on a.now.names b.now.names j.names) (joined a.now.names b.now.names j.names) a.now.graph b.now.graph)) }
+    ensures reached { IfOk result (λ j. (p : ℕ) → p < j.graph.states → IsReached j.graph p) }
+    ensures fault { IfErr result (λ e. IsSizeFaultWithin (a.now.graph.states * b.now.graph.states)
+        (length (join_of (agree_on a.now.names b.now.names (all_names a.now.names b.now.names)) (joined a.now.names b.now.names (all_names a.now.names b.now.names)) a.now.graph b.now.graph).ways) e) }
+    ensures effort { effort.new ≤ effort.old }
+{
     // What `states` says of each automaton holds of this one.
     let _whole = b.states();
     if a.is_grouped() {
-        return join_to(alloc, a, b);
+        return join_to(alloc, a, b, effort);
     }
     let first = grouped(alloc, a)?;
-    join_to(alloc, &first, b)
+    join_to(alloc, &first, b, effort)
 }

@@ -1,13 +1,14 @@
 //! The pairs of states of a join, and the ways between them.
-ghost use Rattle.std.specs.Prelude.{◌≡◌, ℕ, ◌+◌, ◌*◌, ◌<◌, ◌≤◌, ◌^◌, ◌⊎◌, ◌++◌, List, [], ◌∷◌, length, slice_get, Some, OnOk, IfOk, IfErr};
+ghost use Rattle.std.specs.Prelude.{◌≡◌, ℕ, ◌+◌, ◌-◌, ◌*◌, ◌<◌, ◌≤◌, ◌^◌, ◌⊎◌, ◌++◌, List, [], ◌∷◌, length, slice_get, Some, OnOk, IfOk, IfErr};
 ghost use Rattle.std.specs.List.{flat_map};
 ghost use Rattle.spanner_model.specs.Lists.{AreDistinct, Has};
-ghost use Rattle.marked_automaton.specs.declared.TheConstants.{MOST_STATES};
+ghost use Rattle.marked_automaton.specs.declared.TheConstants.{MOST_STATES, MOST_WAYS};
 ghost use Rattle.marked_automaton.specs.Automaton.{AreGrouped};
 ghost use Rattle.marked_automaton.specs.Faults.{IsSizeFaultWithin};
-ghost use Rattle.algebra.specs.Sides.{HasShifts, IsSearchOf, IsSearchRefusal, half_ways_of};
-ghost use Rattle.algebra.specs.Pairs.{AreRowsOf, AreStarted, AreWithin, HaveSmallMarks, IsFollowed, IsRefusalOf, IsStartRefusal, pair_of, pairs, way_pair, ways_at, ways_meet, ways_with};
+ghost use Rattle.algebra.specs.Sides.{HasShifts, IsProductRefusal, IsSearchOf, IsSearchRefusal, half_ways_of};
+ghost use Rattle.algebra.specs.Pairs.{AreRowsOf, AreStarted, AreWithin, HaveSmallMarks, IsFollowed, IsRefusalOf, IsStartRefusal, pair_of, pairs, steps_of, way_pair, ways_at, ways_meet, ways_with};
 
+use crate::effort::Effort;
 use crate::halves::{HalfWay, Side, put_half_ways};
 use crate::rows::ways_from;
 use indexmap::IndexSet;
@@ -39,13 +40,14 @@ struct Rows {
 }
 
 /// All pairs that are reached from pairs of starts, and the ways between them. The first pairs, so many as
-/// it says, are those of starts.
+/// it says, are those of starts. Where the effort is used up and the pairs may be too many, it is refused.
 pub(crate) fn searched(
     alloc: Global,
     a: &Automaton,
     b: &Automaton,
     left: &Side,
     right: &Side,
+    effort: &mut Effort,
 ) -> Result<(Search, u32), SizeFault>
     requires first { AreGrouped a.now.graph.ways }
     requires second { AreGrouped b.now.graph.ways }
@@ -54,12 +56,26 @@ pub(crate) fn searched(
     requires marks { HaveSmallMarks (half_ways_of left.now a.now.graph) (half_ways_of right.now b.now.graph) }
     ensures searched { IfOk result (λ r. IsSearchOf a.now.graph b.now.graph (half_ways_of left.now a.now.graph) (half_ways_of right.now b.now.graph) r.0.found.keys r.1 r.0.ways.items) }
     ensures fault { IfErr result (λ e. IsSearchRefusal a.now.graph b.now.graph (half_ways_of left.now a.now.graph) (half_ways_of right.now b.now.graph) e) }
+    ensures effort { effort.new ≤ effort.old }
+    ensures steps { IfOk result (λ r. effort.new ≡ effort.old - steps_of (half_ways_of left.now a.now.graph) (half_ways_of right.now b.now.graph) r.0.found.keys) }
 {
     let mut search = Search::new(alloc);
     search.find_all(a.starts(), b.starts())?;
     let starts = search.found.len() as u32;
-    search.follow_all(alloc, a, b, left, right)?;
+    search.follow_all(alloc, a, b, left, right, effort)?;
     Ok((search, starts))
+}
+
+/// Refuses what may have too many pairs of states.
+fn fit_in_pairs(a: &Automaton, b: &Automaton) -> Result<(), SizeFault>
+    ensures few { OnOk result (a.now.graph.states * b.now.graph.states ≤ MOST_STATES) }
+    ensures fault { IfErr result (IsProductRefusal a.now.graph b.now.graph) }
+{
+    let count = u64::from(a.states()) * u64::from(b.states());
+    if count > u64::from(MOST_STATES) {
+        return Err(SizeFault::States { count });
+    }
+    Ok(())
 }
 
 impl Rows {
@@ -77,8 +93,11 @@ impl Rows {
         requires second { AreGrouped b.now.graph.ways }
         requires left { HasShifts left.now }
         requires right { HasShifts right.now }
-        ensures { OnOk result (AreRowsOf (half_ways_of left.now a.now.graph) (half_ways_of right.now b.now.graph) pair self.new.left.items self.new.right.items) }
+        ensures rows { OnOk result (AreRowsOf (half_ways_of left.now a.now.graph) (half_ways_of right.now b.now.graph) pair self.new.left.items self.new.right.items) }
+        ensures few { OnOk result ((length self.new.left.items ≤ MOST_WAYS) × (length self.new.right.items ≤ MOST_WAYS)) }
     {
+        // What `states` says of each automaton holds of these two.
+        let _both = (a.states(), b.states());
         let lefts = ways_from(a.ways(), pair.left);
         let rights = ways_from(b.ways(), pair.right);
         if lefts.is_empty() || rights.is_empty() {
@@ -99,6 +118,18 @@ impl Rows {
             right.shared.as_slice(),
         )?;
         Ok(())
+    }
+
+    /// The steps that it takes to try these: one for each two that may go together, and one for each that
+    /// was made.
+    fn steps(&self) -> u64
+        requires left { length self.now.left.items ≤ MOST_WAYS }
+        requires right { length self.now.right.items ≤ MOST_WAYS }
+        ensures { result ≡ length self.now.left.items * length self.now.right.items + length self.now.left.items + length self.now.right.items }
+    {
+        let lefts = self.left.len() as u64;
+        let rights = self.right.len() as u64;
+        lefts * rights + lefts + rights
     }
 }
 
@@ -141,7 +172,8 @@ impl Search {
         Ok(())
     }
 
-    /// Follows each pair that is found, also those that are found meanwhile.
+    /// Follows each pair that is found, also those that are found meanwhile. The steps of a pair are taken
+    /// from the effort before its ways are tried.
     fn follow_all(
         &mut self,
         alloc: Global,
@@ -149,6 +181,7 @@ impl Search {
         b: &Automaton,
         left: &Side,
         right: &Side,
+        effort: &mut Effort,
     ) -> Result<(), SizeFault>
         requires first { AreGrouped a.now.graph.ways }
         requires second { AreGrouped b.now.graph.ways }
@@ -158,7 +191,9 @@ impl Search {
         requires few { length self.old.found.keys ≤ MOST_STATES }
         ensures apart { OnOk result (AreDistinct self.new.found.keys) }
         ensures followed { OnOk result (IsFollowed (flat_map (ways_at (half_ways_of left.now a.now.graph) (half_ways_of right.now b.now.graph)) self.new.found.keys) self.old.found.keys self.old.ways.items self.new.found.keys self.new.ways.items) }
-        ensures fault { IfErr result (λ e. IsRefusalOf (pairs ways_meet way_pair (half_ways_of right.now b.now.graph) (half_ways_of left.now a.now.graph)) self.old.found.keys self.old.ways.items e) }
+        ensures fault { IfErr result (λ e. IsRefusalOf (pairs ways_meet way_pair (half_ways_of right.now b.now.graph) (half_ways_of left.now a.now.graph)) self.old.found.keys self.old.ways.items e ⊎ IsProductRefusal a.now.graph b.now.graph e) }
+        ensures effort { effort.new ≤ effort.old }
+        ensures steps { OnOk result (effort.new ≡ effort.old - steps_of (half_ways_of left.now a.now.graph) (half_ways_of right.now b.now.graph) self.new.found.keys) }
     {
         let mut rows = Rows {
             left: Vec::new(alloc),
@@ -168,6 +203,10 @@ impl Search {
         while done < self.found.len() {
             let pair = self.found.as_slice()[done];
             rows.put(pair, a, b, left, right)?;
+            effort.spend(rows.steps());
+            if effort.is_spent() {
+                fit_in_pairs(a, b)?;
+            }
             self.follow_pair(done as u32, rows.left.as_slice(), rows.right.as_slice())?;
             done += 1;
         }

@@ -2,7 +2,7 @@
 ghost use Rattle.std.specs.Prelude.{◌≡◌, ◌+◌, ◌*◌, ◌^◌, ◌<◌, ◌≤◌, ◌↔◌, [], length, IfOk, IsTrue};
 ghost use Rattle.span_core.specs.declared.TheConstants.{MOST_VARIABLES};
 
-use crate::{join, project, union, unite};
+use crate::{Effort, join, join_within, project, union, unite};
 use marked_automaton::{Automaton, MOST_STATES, MOST_WAYS, SizeFault, Stop, Way};
 use span_core::{ByteSet, MOST_VARIABLES, Marks, Name, Row, Span, VarSet};
 use std::alloc::Global;
@@ -161,6 +161,30 @@ fn joined(alloc: Global, a: &Automaton, b: &Automaton) -> Result<Automaton, Size
     join(alloc, a, b)
 }
 
+/// The join within this effort, where its variables are surely not too many.
+#[tactic(auto, using(crate::proofs::NamesLaws::all_few))]
+fn joined_within(
+    alloc: Global,
+    a: &Automaton,
+    b: &Automaton,
+    effort: &mut Effort,
+) -> Result<Automaton, SizeFault> {
+    if a.vars().len() + b.vars().len() > MOST_VARIABLES {
+        return Err(SizeFault::OutOfMemory);
+    }
+    join_within(alloc, a, b, effort)
+}
+
+/// Has so many states, and one way: from the first to itself.
+fn idling(alloc: Global, states: u32) -> Result<Automaton, SizeFault> {
+    let mut automaton = Automaton::new(alloc, VarSet::empty(), states)?;
+    if states > 0 {
+        automaton.add_start(0)?;
+    }
+    add(&mut automaton, 0, b'a', 0)?;
+    Ok(automaton)
+}
+
 /// Whether the automaton of no variable accepts the document.
 fn accepts(automaton: &Automaton, alloc: Global, doc: &[u8]) -> Result<bool, SizeFault> {
     if automaton.vars().len() > 0 {
@@ -280,6 +304,72 @@ fn joins_are_refused_for_their_ways(rt: HostRuntime) -> Result<(), SizeFault> {
     let refused = joined(rt.alloc(), &a, &a).err();
     assert!(rt; matches!(refused, Some(SizeFault::Ways { count }) if count > MOST_WAYS as u64));
     Ok(())
+}
+
+#[test]
+fn joins_without_effort_are_refused_for_what_they_may_be(rt: HostRuntime) -> Result<(), SizeFault> {
+    let a = idling(rt.alloc(), 200)?;
+    let b = idling(rt.alloc(), 101)?;
+    assert_eq!(rt; joined(rt.alloc(), &a, &b)?.states(), 1);
+    let mut much = Effort::new(1_000);
+    assert_eq!(rt; joined_within(rt.alloc(), &a, &b, &mut much)?.states(), 1);
+    // Its one pair takes 1 * 1 + 1 + 1 steps.
+    let mut enough = Effort::new(4);
+    assert_eq!(rt; joined_within(rt.alloc(), &a, &b, &mut enough)?.states(), 1);
+    let refused = Some(SizeFault::States { count: 20_200 });
+    for steps in 0..4u64 {
+        let mut few = Effort::new(steps);
+        assert_eq!(rt; joined_within(rt.alloc(), &a, &b, &mut few).err(), refused);
+    }
+    Ok(())
+}
+
+#[test]
+fn joins_without_effort_go_on_where_they_are_small(rt: HostRuntime) -> Result<(), SizeFault> {
+    let a = idling(rt.alloc(), 200)?;
+    let b = idling(rt.alloc(), 100)?;
+    let mut none = Effort::new(0);
+    assert_eq!(rt; joined_within(rt.alloc(), &a, &b, &mut none)?.states(), 1);
+    assert!(rt; none.is_spent());
+    let few = star(rt.alloc(), 141)?;
+    assert_eq!(rt;
+        joined_within(rt.alloc(), &few, &few, &mut none)?.states(),
+        19_881
+    );
+    Ok(())
+}
+
+#[test]
+fn joins_take_a_step_for_each_pair_of_ways(rt: HostRuntime) -> Result<(), SizeFault> {
+    let two = looping(rt.alloc(), 2)?;
+    let three = looping(rt.alloc(), 3)?;
+    // One pair of states: 2 * 3 + 2 + 3 steps.
+    let mut effort = Effort::new(12);
+    joined_within(rt.alloc(), &two, &three, &mut effort)?;
+    assert!(rt; !effort.is_spent());
+    effort.spend(1);
+    assert!(rt; effort.is_spent());
+    // The pairs of the first states and of the second: 1 * 1 + 1 + 1 steps each. That of the third has no
+    // ways, so that two joins take 12.
+    let word = turned(rt.alloc(), b'a', b'b')?;
+    let mut shared = Effort::new(13);
+    joined_within(rt.alloc(), &word, &word, &mut shared)?;
+    joined_within(rt.alloc(), &word, &word, &mut shared)?;
+    assert!(rt; !shared.is_spent());
+    shared.spend(1);
+    assert!(rt; shared.is_spent());
+    Ok(())
+}
+
+#[test]
+fn efforts_are_spent(rt: HostRuntime) {
+    let mut effort = Effort::new(5);
+    effort.spend(4);
+    assert!(rt; !effort.is_spent());
+    effort.spend(u64::MAX);
+    assert!(rt; effort.is_spent());
+    effort.spend(1);
+    assert!(rt; effort.is_spent());
 }
 
 #[test]

@@ -4,7 +4,7 @@ use Rattle.std.proofs.lemmas.Bool.{false≢true}
 use Rattle.std.proofs.Math.ListN.{set, length-set}
 use Rattle.spanner_model.specs.Lists.{Has}
 use Rattle.spanner_model.proofs.HasLaws.{Has-append_left, Has-append_right, Has-append_cases}
-use Rattle.marked_automaton.specs.Reach.{Grows, IsFlagged, unset, IsSearch, Reaches, ReachesIn, LeadsHere}
+use Rattle.marked_automaton.specs.Reach.{Grows, IsFlagged, unset, IsSearch, Reaches, ReachesIn, LeadsOn}
 use Rattle.marked_automaton.specs.declared.reach.Edge.{Edge}
 use Rattle.marked_automaton.proofs.Flags.{set_cases, set_here, set_there}
 
@@ -85,10 +85,10 @@ none_flagged zero p h = false≢true h
 none_flagged (suc n) zero h = false≢true h
 none_flagged (suc n) (suc p) h = none_flagged n p h
 
--- the same edges in another list
-pub reaches_more : (edges more : List Edge) (seeds : List ℕ) → ((e : Edge) → Has edges e → Has more e) → (n p : ℕ) → ReachesIn edges seeds n p → ReachesIn more seeds n p
-reaches_more edges more seeds sub zero p h = h
-reaches_more edges more seeds sub (suc n) p h = (h.0, sub h.0 h.1, reaches_more edges more seeds sub n h.0.from h.2, h.3)
+pub flagged_below : (flags : List Bool) (p : ℕ) → IsFlagged flags p → p < length flags
+flagged_below [] p h = absurd (false≢true h)
+flagged_below (b ∷ flags) zero h = omega arith
+flagged_below (b ∷ flags) (suc p) h = omega (arith, flagged_below flags p h)
 
 module _ (edges : List Edge) (seeds : List ℕ) where
   -- only the seeds are found
@@ -102,11 +102,9 @@ module _ (edges : List Edge) (seeds : List ℕ) where
   }
 
   -- one that waited is followed
-  pub search_more : (f1 f2 : List Bool) (q1 q2 : List ℕ) (node : ℕ) (some : List Edge) →
-      ((e : Edge) → Has some e → Has edges e × (e.from ≡ node)) → ((e : Edge) → Has edges e → e.from ≡ node → Has some e) →
-      IsSearch edges seeds f1 (q1 ++ node ∷ []) → Grows (LeadsHere some) f1 q1 f2 q2 → ((e : Edge) → Has some e → IsFlagged f2 e.to) →
-      IsSearch edges seeds f2 q2
-  search_more f1 f2 q1 q2 node some within all s g found = record {
+  pub search_more : (f1 f2 : List Bool) (q1 q2 : List ℕ) (node : ℕ) → IsSearch edges seeds f1 (q1 ++ node ∷ []) → Grows (LeadsOn edges node) f1 q1 f2 q2 →
+      ((e : Edge) → Has edges e → e.from ≡ node → IsFlagged f2 e.to) → IsSearch edges seeds f2 q2
+  search_more f1 f2 q1 q2 node s g found = record {
     sound = λ p h. elim (g.only p h) [ inl x ↦ s.sound p x | inr y ↦ reach p y ];
     seeded = λ p h. g.kept p (s.seeded p h);
     flagged = λ p h. elim (g.flagged p h) [ inl x ↦ g.kept p (s.flagged p (Has-append_left q1 (node ∷ []) p x)) | inr y ↦ y ];
@@ -115,7 +113,7 @@ module _ (edges : List Edge) (seeds : List ℕ) where
         | inl to ↦ inl (g.kept e.to to)
         | inr waits ↦ elim (Has-append_cases q1 (node ∷ []) e.from waits) [
           | inl a ↦ inr (g.waits e.from a)
-          | inr b ↦ elim b [ inl at ↦ inl (found e (all e h (sym at))) | inr n ↦ absurd n ]
+          | inr b ↦ elim b [ inl at ↦ inl (found e h (sym at)) | inr n ↦ absurd n ]
         ]
       ]
       | inr y ↦ inr y
@@ -125,10 +123,8 @@ module _ (edges : List Edge) (seeds : List ℕ) where
       here : Reaches edges seeds node
       here = s.sound node (s.flagged node (Has-append_right q1 (node ∷ []) node (inl refl)))
 
-      reach : (p : ℕ) → LeadsHere some p → Reaches edges seeds p
-      reach p y =
-          let e = within y.0 y.1 in
-          (suc here.0, (y.0, e.0, subst (ReachesIn edges seeds here.0) (sym e.1) here.1, y.2))
+      reach : (p : ℕ) → LeadsOn edges node p → Reaches edges seeds p
+      reach p y = (suc here.0, (y.0, y.1, subst (ReachesIn edges seeds here.0) (sym y.2) here.1, y.3))
 
   -- where nothing waits all is found
   pub search_ends : (found : List Bool) → IsSearch edges seeds found [] → (p : ℕ) → Reaches edges seeds p → IsFlagged found p

@@ -1,4 +1,6 @@
 pub mod Between
+pub mod Counted
+pub mod Distributing
 pub mod Erased
 pub mod EraserLaws
 pub mod Erasing
@@ -7,10 +9,10 @@ pub mod Flags
 pub mod Gathering
 pub mod Grouped
 pub mod Growing
+pub mod Keeping
 pub mod Listed
 pub mod Loops
 pub mod Numbers
-pub mod Parted
 pub mod Parts
 pub mod Passing
 pub mod Permuted
@@ -21,6 +23,7 @@ pub mod ReductWords
 pub mod Reducts
 pub mod Reversal
 pub mod Sizes
+pub mod Targeted
 pub mod TrimLaws
 pub mod Untrimmed
 pub mod Walks

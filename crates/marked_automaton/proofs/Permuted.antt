@@ -1,9 +1,9 @@
 -- Where the elements of a list stand in a permutation of it.
-use Rattle.std.proofs.Common.{◌≡◌, ℕ, zero, suc, ◌<◌, ◌≤◌, List, [], ◌∷◌, length, get_or, Some, inl, inr, refl, sym, ap, subst, arith, ◌∙◌}
+use Rattle.std.proofs.Common.{◌≡◌, ℕ, zero, suc, ◌<◌, List, [], ◌∷◌, length, get_or, Some, inl, inr, refl, sym, ap, subst, arith, ◌∙◌}
 use Rattle.std.proofs.Math.ListN.{set, length-set}
 use Rattle.std.specs.Prelude.{slice_get, nat_eq, if◌then◌else◌}
 use Rattle.std.specs.List.{swap}
-use Rattle.std.specs.List.Sorted.{IsPermutation, apply_swaps, SwapsInRange, IsNonDecreasingBy}
+use Rattle.std.specs.List.Sorted.{IsPermutation, apply_swaps, SwapsInRange}
 use Rattle.std.proofs.lemmas.Bool.{eq-eqb, ne_eqb}
 use Rattle.std.proofs.lemmas.Option.{slice_get_within, get_or_from_slice_get, slice_get-get_or}
 use Rattle.spanner_model.specs.Lists.{Has}
@@ -158,10 +158,3 @@ module _ {X : Type 0} where
       let k = place_of-Has ys x h in
       let r = p.back k.0 x k.2 in
       Has-slice_get xs r.0 x r.1
-
-  -- what does not fall, at two places
-  pub risen : (n : X → ℕ) (xs : List X) → IsNonDecreasingBy n xs → (j k : ℕ) (x y : X) → j < k →
-      slice_get xs j ≡ Some x → slice_get xs k ≡ Some y → n x ≤ n y
-  risen n xs up j k x y l a b =
-      let le = up j k x (omega arith) (slice_get_within xs k y b) in
-      omega (arith, le, ap n (get_or_from_slice_get xs j x x a), ap n (get_or_from_slice_get xs k y x b))

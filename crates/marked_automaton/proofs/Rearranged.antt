@@ -3,12 +3,13 @@ use Rattle.std.proofs.Common.{◌≡◌, ℕ, ◌<◌, List, Some, None, inl, in
 use Rattle.std.specs.Prelude.{slice_get, if◌then◌else◌}
 use Rattle.std.specs.List.Sorted.{IsPermutation}
 use Rattle.std.proofs.lemmas.Bool.{lt-ltb, le-ltb, cases_lt}
+use Rattle.std.proofs.lemmas.List.Sorted.{IsPermutation-refl}
 use Rattle.spanner_model.specs.Lists.{Has}
 use Rattle.marked_automaton.specs.declared.way.Way.{Way}
 use Rattle.marked_automaton.specs.Automaton.{Automaton, IsWhole}
 use Rattle.marked_automaton.specs.Reduct.{HasEnd, IsReduct, Reduces, Rearranges, same_below}
 use Rattle.spanner_model.proofs.HasLaws.{Has-slice_get}
-use Rattle.marked_automaton.proofs.Permuted.{IsPlaced, permutation_placed, placed_itself}
+use Rattle.marked_automaton.proofs.Permuted.{IsPlaced, permutation_placed}
 use Rattle.marked_automaton.proofs.Listed.{some_same}
 
 pub below_some : (n b : ℕ) → b < n → same_below n b ≡ Some b
@@ -62,9 +63,11 @@ permutation_rearranges B ways whole p =
     let r = permutation_placed B.ways ways p in
     ((λ k. Some (r.0 k)), placed_rearranges B ways r.0 whole r.1)
 
-pub reduct_of_itself : (A : Automaton) → IsWhole A → Reduces A A
-reduct_of_itself A whole =
-    (same_below A.states, (λ k. Some k), (λ b k. k), placed_rearranges A A.ways (λ k. k) whole (placed_itself A.ways))
+pub rearranges_itself : (A : Automaton) → IsWhole A → Rearranges A A
+rearranges_itself A whole = permutation_rearranges A A.ways whole (IsPermutation-refl A.ways)
 
 pub rearranged_reduces : (A B : Automaton) → Rearranges A B → Reduces A B
 rearranged_reduces A B r = (same_below B.states, r.0, (λ b k. k), r.1)
+
+pub reduct_of_itself : (A : Automaton) → IsWhole A → Reduces A A
+reduct_of_itself A whole = rearranged_reduces A A (rearranges_itself A whole)

@@ -2,10 +2,12 @@
 use Rattle.std.specs.Prelude.{◌≡◌, ℕ, ◌≤◌, ◌↔◌, List, length, reverse}
 use Rattle.std.specs.FinSet as set
 use Rattle.std.specs.List.Sorted.{IsPermutation}
-use Rattle.spanner_model.specs.Lists.{Has}
+use Rattle.spanner_model.specs.Captures.{VarName}
+use Rattle.spanner_model.specs.Lists.{Has, AreDistinct}
 use Rattle.marked_automaton.specs.declared.way.Way.{Way}
-use Rattle.marked_automaton.specs.Automaton.{Automaton, Accepts, IsWhole, TakesNoMarks, reversed}
-use Rattle.marked_automaton.specs.Marks.{remarked}
+use Rattle.marked_automaton.specs.declared.way.Stop.{Stop}
+use Rattle.marked_automaton.specs.Automaton.{Automaton, Accepts, IsBlockOf, IsWhole, TakesNoMarks, reversed}
+use Rattle.marked_automaton.specs.Marks.{left_of, remarked}
 use Rattle.marked_automaton.specs.Reduct.{Rearranges, Reduces}
 
 -- each whole automaton is a reduct of itself
@@ -42,6 +44,16 @@ ReductIsNoLarger =
 -- what a projection of a reduct reduces
 abbrev pub ReductOfProjection : Type 0
 ReductOfProjection = (A B : Automaton) (m : ℕ → ℕ) → Reduces A B → Reduces (remarked m A) (remarked m B)
+
+-- the blocks of ways and ends are over so many variables
+pub record AreBlocksOf (v : ℕ) (A : Automaton) : Type 0 where
+  pub ways : (y : Way) → Has A.ways y → IsBlockOf v y.marks
+  pub stops : (x : Stop) → Has A.stops x → IsBlockOf v x.marks
+
+-- a projection that keeps all variables changes nothing
+abbrev pub KeepingLaw : Type 0
+KeepingLaw =
+    (names : List VarName) (A : Automaton) → AreDistinct names → AreBlocksOf (length names) A → remarked (left_of names names) A ≡ A
 
 -- two words are the same on the document
 abbrev pub AgreeOn : List ℕ → (ℕ → ℕ) → (ℕ → ℕ) → Type 0

@@ -10,3 +10,4 @@ pub mod Reach
 pub mod Trimmed
 pub mod Erased
 pub mod Accepting
+pub mod Grouping

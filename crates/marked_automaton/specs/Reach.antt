@@ -1,5 +1,6 @@
 -- What is reached over the edges of a graph, and how a search grows.
-use Rattle.std.specs.Prelude.{◌≡◌, ℕ, zero, suc, ◌+◌, ◌⊎◌, Bool, false, IsTrue, List, [], ◌∷◌, length, slice_index_or, if◌then◌else◌}
+use Rattle.std.specs.Prelude.{◌≡◌, ℕ, zero, suc, ◌+◌, ◌⊎◌, ◌↔◌, Some, slice_get, Vec, Bool, false, IsTrue, List, [], ◌∷◌, length, slice_index_or, if◌then◌else◌}
+use Rattle.std.specs.Global.{Global}
 use Rattle.spanner_model.specs.Lists.{Has}
 use Rattle.marked_automaton.specs.declared.reach.Edge.{Edge}
 
@@ -20,9 +21,13 @@ abbrev pub unset : List Bool → ℕ
 unset [] = 0
 unset (b ∷ flags) = (if b then 0 else 1) + unset flags
 
--- some edge leads to p
-abbrev pub LeadsHere : List Edge → ℕ → Type 0
-LeadsHere edges p = (e : Edge) × Has edges e × (e.to ≡ p)
+-- some edge leads from the node to p
+abbrev pub LeadsOn : List Edge → ℕ → ℕ → Type 0
+LeadsOn edges node p = (e : Edge) × Has edges e × (e.from ≡ node) × (e.to ≡ p)
+
+-- each node's list has what the edges from the node lead to, and nothing else
+abbrev pub AreTargets : List Edge → List (Vec ℕ Global) → Type 0
+AreTargets edges lists = (p : ℕ) (list : Vec ℕ Global) → slice_get lists p ≡ Some list → (q : ℕ) → Has list.items q ↔ LeadsOn edges p q
 
 -- more is found, all of it P, and what is new waits
 pub record Grows (P : ℕ → Type 0) (found : List Bool) (waiting : List ℕ) (found2 : List Bool) (waiting2 : List ℕ) : Type 0 where

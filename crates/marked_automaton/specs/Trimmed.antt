@@ -2,6 +2,8 @@
 use Rattle.std.specs.Prelude.{ℕ, suc, ◌+◌, Bool, ◌&&◌, List, [], ◌∷◌, map, slice_index_or, if◌then◌else◌, Some, None, Option}
 use Rattle.std.specs.List.{filter_map}
 use Rattle.marked_automaton.specs.declared.reach.Edge.{Edge}
+use Rattle.marked_automaton.specs.declared.reach.Direction.{Direction}
+use Rattle.marked_automaton.specs.declared.reach.Direction.TheVariants.{Forward, Back}
 use Rattle.marked_automaton.specs.declared.way.Way.{Way}
 use Rattle.marked_automaton.specs.declared.way.Stop.{Stop}
 use Rattle.marked_automaton.specs.Automaton.{Automaton}
@@ -20,6 +22,14 @@ edges_of ways = map edge_of ways
 
 abbrev pub back_edges_of : List Way → List Edge
 back_edges_of ways = map back_edge_of ways
+
+-- by the direction
+abbrev pub edge_in : Direction → Way → Edge
+edge_in Forward y = edge_of y
+edge_in Back y = back_edge_of y
+
+abbrev pub edges_in : Direction → List Way → List Edge
+edges_in direction ways = map (edge_in direction) ways
 
 abbrev pub states_of : List Stop → List ℕ
 states_of stops = map (λ (x : Stop). x.state) stops

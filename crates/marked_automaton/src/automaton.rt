@@ -13,7 +13,7 @@ ghost use Rattle.marked_automaton.specs.Reduct.{IsUseful, Rearranges, Reduces};
 
 use crate::accepting::{accepting, some_good};
 use crate::eraser::Eraser;
-use crate::grouping::{are_grouped, stay_grouped};
+use crate::grouping::{are_grouped, group, stay_grouped};
 use crate::trimming::{Numbers, end_states, flags_of_kept, states_between};
 use crate::{MOST_STATES, MOST_WAYS, SizeFault, Stop, Way};
 use span_core::{Marks, OutOfMemory, Row, VarSet};
@@ -108,15 +108,21 @@ impl Automaton {
     }
 
     /// Puts the ways in the order of the states that they lead from, which changes no meaning. It takes
-    /// no memory.
-    pub fn group_ways(&mut self)
+    /// time linear in the states and the ways, and memory of two numbers for each state; where they stand
+    /// in order already it takes neither. On refusal nothing has moved.
+    pub fn group_ways(&mut self, alloc: Global) -> Result<(), OutOfMemory>
         ensures names { self.new.names ≡ self.old.names }
-        ensures rearranges { Rearranges self.new.graph self.old.graph }
-        ensures same { (self.new.graph.starts ≡ self.old.graph.starts) × (self.new.graph.stops ≡ self.old.graph.stops) × (self.new.graph.idle ≡ self.old.graph.idle) × (length self.new.graph.ways ≡ length self.old.graph.ways) }
-        ensures grouped { AreGrouped self.new.graph.ways }
+        ensures rearranges { OnOk result (Rearranges self.new.graph self.old.graph) }
+        ensures same { OnOk result ((self.new.graph.starts ≡ self.old.graph.starts) × (self.new.graph.stops ≡ self.old.graph.stops) × (self.new.graph.idle ≡ self.old.graph.idle) × (length self.new.graph.ways ≡ length self.old.graph.ways)) }
+        ensures grouped { OnOk result (AreGrouped self.new.graph.ways) }
+        ensures err { OnErr result (self.new.graph ≡ self.old.graph) }
     {
-        self.ways.sort_unstable_by_key(|way| way.from);
+        if self.grouped {
+            return Ok(());
+        }
+        group(alloc, self.states, self.ways.as_mut_slice())?;
         self.grouped = true;
+        Ok(())
     }
 
     /// Whether the ways stand in the order of the states that they lead from. The automaton keeps count

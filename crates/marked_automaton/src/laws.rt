@@ -1,6 +1,6 @@
 //! Laws of automata and of their reducts, each the contract of a function that does nothing.
 ghost use Rattle.marked_automaton.specs.Images.{ImageLaw};
-ghost use Rattle.marked_automaton.specs.Laws.{ProjectionLaw, RearrangedByPermutation, RearrangedIsReduct, ReductAccepts, ReductIsNoLarger, ReductOfItself, ReductOfProjection, ReductOfReduct, ReversalLaw};
+ghost use Rattle.marked_automaton.specs.Laws.{KeepingLaw, ProjectionLaw, RearrangedByPermutation, RearrangedIsReduct, ReductAccepts, ReductIsNoLarger, ReductOfItself, ReductOfProjection, ReductOfReduct, ReversalLaw};
 ghost use Rattle.marked_automaton.specs.Marks.{ErasingLaw};
 
 /// Each whole automaton is a reduct of itself.
@@ -26,6 +26,11 @@ pub fn a_reduct_is_no_larger()
 /// The projection of a reduct reduces the projection.
 pub fn projections_of_reducts()
     ensures { ReductOfProjection }
+{}
+
+/// A projection that keeps all variables changes nothing.
+pub fn a_projection_to_all_variables_changes_nothing()
+    ensures { KeepingLaw }
 {}
 
 /// A projection accepts what is left of the words.

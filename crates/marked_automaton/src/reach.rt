@@ -1,9 +1,10 @@
 //! Which nodes of a graph are reached from some of them.
-ghost use Rattle.std.specs.Prelude.{◌≡◌, ℕ, ◌<◌, ◌↔◌, List, [], length, replicate, false, IfOk, OnOk};
-ghost use Rattle.std.specs.List.Sorted.{IsNonDecreasingBy};
+ghost use Rattle.std.specs.Prelude.{◌≡◌, ℕ, ◌<◌, ◌↔◌, List, [], length, replicate, false, slice_get, Some, IfOk, OnOk};
 ghost use Rattle.spanner_model.specs.Lists.{Has};
-ghost use Rattle.marked_automaton.specs.Reach.{Grows, IsFlagged, IsSearch, LeadsHere, Reaches};
+ghost use Rattle.marked_automaton.specs.Reach.{AreTargets, Grows, IsFlagged, IsSearch, Reaches};
+ghost use Rattle.marked_automaton.specs.Trimmed.{edge_in, edges_in};
 
+use crate::Way;
 use span_core::OutOfMemory;
 use std::alloc::Global;
 
@@ -16,6 +17,66 @@ pub(crate) struct Edge {
     pub(crate) to: u32,
 }
 
+/// In which direction ways are followed.
+#[derive(Clone, Copy, Debug)]
+pub(crate) enum Direction {
+    /// From where a way begins to where it leads.
+    Forward,
+    /// From where a way leads to where it begins.
+    Back,
+}
+
+impl Direction {
+    /// The edge that a way is in this direction.
+    fn edge(self, way: &Way) -> Edge
+        ensures { result ≡ edge_in self way.now }
+    {
+        match self {
+            Direction::Forward => Edge {
+                from: way.from,
+                to: way.to,
+            },
+            Direction::Back => Edge {
+                from: way.to,
+                to: way.from,
+            },
+        }
+    }
+}
+
+/// For each node a list of the nodes that edges from it lead to, where the ways are followed in this
+/// direction. The time is linear in the nodes and the ways. Only targets are kept, and a list grows by
+/// doubling, so the lists take less than eight bytes a way, and a little for each node.
+fn targets(
+    alloc: Global,
+    nodes: u32,
+    ways: &[Way],
+    direction: Direction,
+) -> Result<Vec<Vec<u32>>, OutOfMemory>
+    requires { (e : Edge) → Has (edges_in direction ways.now) e → e.from < nodes }
+    ensures len { IfOk result (λ targets. length targets.items ≡ nodes) }
+    ensures exactly { IfOk result (λ targets. AreTargets (edges_in direction ways.now) targets.items) }
+{
+    let mut targets = empty_lists(alloc, nodes)?;
+    for way in ways {
+        let edge = direction.edge(way);
+        targets[edge.from as usize].push(edge.to)?;
+    }
+    Ok(targets)
+}
+
+/// So many empty lists.
+fn empty_lists(alloc: Global, count: u32) -> Result<Vec<Vec<u32>>, OutOfMemory>
+    ensures len { IfOk result (λ lists. length lists.items ≡ count) }
+    ensures empty { IfOk result (λ lists. AreTargets [] lists.items) }
+{
+    let mut lists = Vec::with_capacity(alloc, count as usize)?;
+    for _ in 0..count {
+        lists.push(Vec::new(alloc))?;
+    }
+    Ok(lists)
+}
+
 /// The nodes that are found, and those of them whose edges are not followed yet.
 #[derive(Drop)]
 struct Search {
@@ -24,36 +85,27 @@ struct Search {
     waiting: Vec<u32>,
 }
 
-/// For each node below `nodes` whether edges lead to it from a seed. The time is that of sorting the
-/// edges, and a little for each node.
+/// For each node below `nodes` whether the ways lead to it in this direction from a seed. Each way from
+/// a node that is found is followed once, so that the time is linear in the nodes, the seeds and the
+/// ways.
 pub(crate) fn reached(
     alloc: Global,
     nodes: u32,
     seeds: &[u32],
-    edges: Vec<Edge>,
+    ways: &[Way],
+    direction: Direction,
 ) -> Result<Vec<bool>, OutOfMemory>
     requires seeds { (p : ℕ) → Has seeds.now p → p < nodes }
-    requires edges { (e : Edge) → Has edges.items e → e.to < nodes }
+    requires froms { (y : Way) → Has ways.now y → y.from < nodes }
+    requires tos { (y : Way) → Has ways.now y → y.to < nodes }
     ensures len { IfOk result (λ found. length found.items ≡ nodes) }
-    ensures exactly { IfOk result (λ found. (p : ℕ) → IsFlagged found.items p ↔ Reaches edges.items seeds.now p) }
+    ensures exactly { IfOk result (λ found. (p : ℕ) → IsFlagged found.items p ↔ Reaches (edges_in direction ways.now) seeds.now p) }
 {
-    let mut edges = edges;
-    edges.sort_unstable_by_key(|edge| edge.from);
+    let targets = targets(alloc, nodes, ways, direction)?;
     let mut search = Search::new(alloc, nodes)?;
     search.find_all(seeds)?;
-    search.follow_all(edges.as_slice())?;
+    search.follow_all(targets.as_slice())?;
     Ok(search.found)
-}
-
-/// The edges that lead from this node, of edges in the order of the nodes that they lead from.
-fn edges_from(edges: &[Edge], node: u32) -> &[Edge]
-    requires { IsNonDecreasingBy (λ (e : Edge). e.from) edges.now }
-    ensures within { (e : Edge) → Has result.now e → Has edges.now e × (e.from ≡ node) }
-    ensures all { (e : Edge) → Has edges.now e → e.from ≡ node → Has result.now e }
-{
-    let low = edges.partition_point(|edge| edge.from < node);
-    let high = edges.partition_point(|edge| edge.from <= node);
-    &edges[low..high]
 }
 
 impl Search {
@@ -96,27 +148,16 @@ impl Search {
         Ok(())
     }
 
-    /// Finds what these edges lead to.
-    fn follow(&mut self, edges: &[Edge]) -> Result<(), OutOfMemory>
-        requires { (e : Edge) → Has edges.now e → e.to < length self.old.found.items }
-        ensures grows { OnOk result (Grows (LeadsHere edges.now) self.old.found.items self.old.waiting.items self.new.found.items self.new.waiting.items) }
-        ensures found { OnOk result ((e : Edge) → Has edges.now e → IsFlagged self.new.found.items e.to) }
-    {
-        for edge in edges {
-            self.find(edge.to)?;
-        }
-        Ok(())
-    }
-
-    /// Follows the edges from all that waits, until nothing waits.
-    fn follow_all(&mut self, edges: &[Edge]) -> Result<(), OutOfMemory>
-        requires order { IsNonDecreasingBy (λ (e : Edge). e.from) edges.now }
-        requires within { (e : Edge) → Has edges.now e → e.to < length self.old.found.items }
+    /// Follows the edges from all that waits to their targets, until nothing waits.
+    fn follow_all(&mut self, targets: &[Vec<u32>]) -> Result<(), OutOfMemory>
+        requires nodes { length targets.now ≡ length self.old.found.items }
+        requires within { (p : ℕ) (list : _) → slice_get targets.now p ≡ Some list → (q : ℕ) → Has list.items q → q < length self.old.found.items }
+        requires waiting { (p : ℕ) → Has self.old.waiting.items p → IsFlagged self.old.found.items p }
         ensures len { OnOk result (length self.new.found.items ≡ length self.old.found.items) }
-        ensures search { OnOk result ((seeds : List ℕ) → IsSearch edges.now seeds self.old.found.items self.old.waiting.items → IsSearch edges.now seeds self.new.found.items []) }
+        ensures search { OnOk result ((edges : List Edge) (seeds : List ℕ) → AreTargets edges targets.now → IsSearch edges seeds self.old.found.items self.old.waiting.items → IsSearch edges seeds self.new.found.items []) }
     {
         while let Some(node) = self.waiting.pop() {
-            self.follow(edges_from(edges, node))?;
+            self.find_all(targets[node as usize].as_slice())?;
         }
         Ok(())
     }

@@ -149,7 +149,7 @@ fn erase_takes_markers_away(rt: HostRuntime) -> Result<(), SizeFault> {
 #[test]
 fn copies_and_groups(rt: HostRuntime) -> Result<(), SizeFault> {
     let mut automaton = example(rt.alloc())?.copy(rt.alloc())?;
-    automaton.group_ways();
+    automaton.group_ways(rt.alloc())?;
     assert!(rt; accepts(&automaton, rt.alloc(), b"ab")?);
     Ok(())
 }
@@ -163,7 +163,7 @@ fn tells_whether_ways_are_grouped(rt: HostRuntime) -> Result<(), SizeFault> {
     add(&mut automaton, 3, Marks::none(), b'e', 3)?;
     assert!(rt; !automaton.is_grouped());
     assert!(rt; !automaton.copy(rt.alloc())?.is_grouped());
-    automaton.group_ways();
+    automaton.group_ways(rt.alloc())?;
     assert!(rt; automaton.is_grouped());
     assert!(rt; automaton.copy(rt.alloc())?.is_grouped());
     assert!(rt; automaton.trim(rt.alloc())?.is_grouped());

@@ -4,14 +4,15 @@ ghost use Rattle.std.specs.List.{filter_map};
 ghost use Rattle.spanner_model.specs.Lists.{Has};
 ghost use Rattle.marked_automaton.specs.declared.TheConstants.{MOST_STATES};
 ghost use Rattle.marked_automaton.specs.Reach.{IsFlagged};
-ghost use Rattle.marked_automaton.specs.Trimmed.{IsBetween, back_edges_of, both, count_set, edges_of, kept_flags, moved_stop, moved_way, number_of, numbered, states_of};
+ghost use Rattle.marked_automaton.specs.Trimmed.{IsBetween, both, count_set, kept_flags, moved_stop, moved_way, number_of, numbered, states_of};
 
-use crate::reach::{Edge, reached};
+use crate::reach::{Direction, reached};
 use crate::{MOST_STATES, Stop, Way};
 use span_core::OutOfMemory;
 use std::alloc::{AllocError, Global};
 
-/// For each state whether a start leads to it and it leads to an end.
+/// For each state whether a start leads to it and it leads to an end. The time is linear in the states,
+/// the ways, the starts and the ends.
 pub(crate) fn states_between(
     alloc: Global,
     states: u32,
@@ -26,34 +27,10 @@ pub(crate) fn states_between(
     ensures len { IfOk result (λ useful. length useful.items ≡ states) }
     ensures exactly { IfOk result (λ useful. (p : ℕ) → IsFlagged useful.items p ↔ IsBetween starts.now ways.now stops.now p) }
 {
-    let from_starts = reached(alloc, states, starts, edges(alloc, ways)?)?;
+    let from_starts = reached(alloc, states, starts, ways, Direction::Forward)?;
     let ends = end_states(alloc, stops)?;
-    let to_ends = reached(alloc, states, ends.as_slice(), back_edges(alloc, ways)?)?;
+    let to_ends = reached(alloc, states, ends.as_slice(), ways, Direction::Back)?;
     Ok(both_set(alloc, from_starts.as_slice(), to_ends.as_slice())?)
-}
-
-/// The edges of the ways.
-fn edges(alloc: Global, ways: &[Way]) -> Result<Vec<Edge>, AllocError>
-    ensures { IfOk result (λ edges. edges.items ≡ edges_of ways.now) }
-{
-    ways.iter()
-        .map(|way| Edge {
-            from: way.from,
-            to: way.to,
-        })
-        .collect(alloc)
-}
-
-/// The same, turned round.
-fn back_edges(alloc: Global, ways: &[Way]) -> Result<Vec<Edge>, AllocError>
-    ensures { IfOk result (λ edges. edges.items ≡ back_edges_of ways.now) }
-{
-    ways.iter()
-        .map(|way| Edge {
-            from: way.to,
-            to: way.from,
-        })
-        .collect(alloc)
 }
 
 /// The states of the ends.

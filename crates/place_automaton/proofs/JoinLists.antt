@@ -1,10 +1,10 @@
 -- Lists as loops go through them, and markers that are put before and behind.
-use Rattle.std.proofs.Common.{◌≡◌, ℕ, zero, suc, ◌+◌, ◌<◌, List, [], ◌∷◌, ◌++◌, length, get_or, take, drop, map, Option, Some, None, false, inl, refl, sym, ap, ◌∙◌, arith}
+use Rattle.std.proofs.Common.{◌≡◌, ℕ, zero, suc, ◌+◌, ◌-◌, ◌<◌, ◌≤◌, List, [], ◌∷◌, ◌++◌, length, get_or, take, drop, map, Option, Some, None, false, inl, refl, sym, ap, ◌∙◌, arith}
 use Rattle.std.specs.Prelude.{slice_set, if◌then◌else◌, ◌||◌}
 use Rattle.std.specs.List.{flat_map}
 use Rattle.std.specs.Option.{option_or}
 use Rattle.std.proofs.lemmas.Bool.{eq-eqb}
-use Rattle.std.proofs.lemmas.List.{take_more, map-append, append_assoc, flat_map_more}
+use Rattle.std.proofs.lemmas.List.{take_more, map-append, append_assoc, flat_map_more, get_or-drop, get_or-take, get_or_append_left, length-drop, length-take}
 use Rattle.spanner_model.specs.Lists.{Has}
 use Rattle.marked_automaton.specs.declared.way.Stop.{Stop}
 use Rattle.place_automaton.specs.declared.piece.Entry.{Entry}
@@ -75,3 +75,16 @@ zero_of None z e zeros = ap (λ x. x ∷ []) e
 zero_of (Some m) z e zeros =
     let f : m ≡ 0 = zeros m (inl refl) in
     ap (λ x. x ∷ []) (e ∙ sym f) ∙ sym (ap (λ b. if (b || false) then m ∷ [] else 0 ∷ m ∷ []) (eq-eqb 0 m (sym f)))
+
+-- an item between two places of a list, to which others have come
+pub cut_item : {X : Type 0} (xs now more : List X) (from end k : ℕ) (x : X) → from ≤ k → k < end → end ≤ length xs → now ≡ xs ++ more → x ≡ get_or now k x →
+    (k - from < length (take (end - from) (drop from xs))) × (x ≡ get_or (take (end - from) (drop from xs)) (k - from) x)
+cut_item xs now more from end k x low high within e at = (
+  omega (arith, low, high, within, length-take (end - from) (drop from xs), length-drop from xs),
+  at
+      ∙ (ap (λ zs. get_or zs k x) e
+      ∙ (get_or_append_left xs more x k (omega (arith, high, within))
+      ∙ (ap (λ n. get_or xs n x) (let f : k ≡ from + (k - from) = omega (arith, low) in f)
+      ∙ (sym (get_or-drop from xs (k - from) x)
+      ∙ sym (get_or-take (end - from) (drop from xs) (k - from) x (omega (arith, low, high))))))),
+)

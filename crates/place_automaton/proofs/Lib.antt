@@ -13,6 +13,7 @@ pub mod FormulaShows
 pub mod JoinLists
 pub mod MadeLaws
 pub mod MarkBits
+pub mod MoveLaws
 pub mod PartBuilt
 pub mod PlaceNumbers
 pub mod PlaceReads

@@ -1,15 +1,15 @@
 -- The formulas of the tests may be made.
-use Rattle.std.proofs.Common.{◌≡◌, ℕ, ◌≤◌, [], ◌∷◌, Some, inl, inr, arith}
+use Rattle.std.proofs.Common.{◌≡◌, ℕ, ◌≤◌, [], ◌∷◌, Option, Some, None, inl, inr, arith}
 use Rattle.span_core.specs.declared.TheConstants.{MOST_VARIABLES}
 use Rattle.spanner_model.specs.Captures.{VarName}
-use Rattle.spanner_model.specs.Examples.{a, x}
+use Rattle.spanner_model.specs.Examples.{a, b, x}
 use Rattle.spanner_model.specs.Functional.{HasVar}
 use Rattle.spanner_model.specs.Lists.{AtMost}
 use Rattle.spanner_model.specs.Tree.{Tree}
 use Rattle.spanner_model.specs.WellBuilt.{IsBuilt, AreRepeatNumbers}
 use Rattle.spanner_model.proofs.SampleLaws.{byte_built, x_variable}
 use Rattle.place_automaton.specs.Examples.{maybe, times, star_in_x}
-use Rattle.place_automaton.specs.Samples.{IsSample, long, wide}
+use Rattle.place_automaton.specs.Samples.{IsSample, long, wide, a_and_maybe_b, often_in_x}
 
 some_is : (m n : ℕ) → Some m ≡ Some n → m ≡ n
 some_is m n e = cc
@@ -59,3 +59,21 @@ star_sample = (
   ((tt, λ y h. h), λ h. h),
   (x ∷ [], omega arith, λ y h. elim h [ inl e ↦ inl e | inr n ↦ absurd n ]),
 )
+
+none_two : (y : VarName) → HasVar a_and_maybe_b y → ⊥
+none_two y (inl h) = h
+none_two y (inr (inl h)) = h
+none_two y (inr (inr h)) = h
+
+often_sample : (least : ℕ) (most : Option ℕ) → AreRepeatNumbers least most → IsSample (often_in_x least most)
+often_sample least most n = (
+  ((((a_built, (maybe_built b (byte_built 98 (omega arith)), tt), λ e. absurd (cc)), n), x_variable), omega arith),
+  (((tt, ((tt, λ y h. h), tt, λ y h k. k), λ y h k. h), none_two), none_two x),
+  (x ∷ [], omega arith, λ y h. elim h [ inl e ↦ inl e | inr k ↦ absurd (none_two y k) ]),
+)
+
+pub thrice_sample : IsSample (often_in_x 3 (Some 3))
+thrice_sample = often_sample 3 (Some 3) (numbers 3 3 (omega arith) (omega arith))
+
+pub thrice_or_more_sample : IsSample (often_in_x 3 None)
+thrice_or_more_sample = often_sample 3 None (omega arith, λ b e. absurd (cc))

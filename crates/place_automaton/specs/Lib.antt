@@ -7,6 +7,7 @@ pub mod Drafts
 pub mod Ends
 pub mod Examples
 pub mod Made
+pub mod Moves
 pub mod Places
 pub mod Reads
 pub mod Samples

@@ -1,10 +1,10 @@
 -- Formulas of the tests.
-use Rattle.std.specs.Prelude.{ℕ, [], ◌∷◌}
+use Rattle.std.specs.Prelude.{ℕ, [], ◌∷◌, Option}
 use Rattle.span_core.specs.declared.TheConstants.{MOST_VARIABLES}
-use Rattle.spanner_model.specs.Examples.{a}
+use Rattle.spanner_model.specs.Examples.{a, b, x}
 use Rattle.spanner_model.specs.Functional.{HasVar, IsFunctional}
 use Rattle.spanner_model.specs.Lists.{AtMost}
-use Rattle.spanner_model.specs.Tree.{Tree, empty, cat_all}
+use Rattle.spanner_model.specs.Tree.{Tree, empty, cat_all, rep, cap}
 use Rattle.spanner_model.specs.WellBuilt.{IsWellBuilt}
 use Rattle.place_automaton.specs.Examples.{maybe, times}
 
@@ -19,6 +19,14 @@ wide n = cat_all (times 1000 (maybe a) ∷ (times n (maybe a) ∷ []))
 -- ((){1000}){1000}, many times
 abbrev pub nothing_often : Tree
 nothing_often = times 1000 (times 1000 (times 1000 (times 1000 empty)))
+
+-- ab?
+abbrev pub a_and_maybe_b : Tree
+a_and_maybe_b = cat_all (a ∷ (maybe b ∷ []))
+
+-- !x{(ab?){least,most}}
+abbrev pub often_in_x : ℕ → Option ℕ → Tree
+often_in_x least most = cap x (rep a_and_maybe_b least most)
 
 -- what is asked of a formula whose automaton is made
 abbrev pub IsSample : Tree → Type 0

@@ -87,7 +87,7 @@ fn made(alloc: Global, atom: &Atom, room: usize) -> Result<Automaton, OutOfMemor
         return Err(OutOfMemory);
     };
     finish(atom, &piece, after, &mut automaton)?;
-    automaton.group_ways();
+    automaton.group_ways(alloc)?;
     Ok(automaton)
 }
 

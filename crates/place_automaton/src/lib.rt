@@ -8,6 +8,7 @@ mod building;
 mod counting;
 mod joins;
 pub mod laws;
+mod moving;
 mod numbers;
 mod outer;
 mod piece;

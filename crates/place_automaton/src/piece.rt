@@ -1,15 +1,19 @@
 //! Parts of a formula whose places are numbered.
-ghost use Rattle.std.specs.Prelude.{◌≡◌, ℕ, ◌+◌, List, [], ◌∷◌, ◌++◌, ◌<◌, length, map, IfOk, OnOk, IsTrue, bit_or, if◌then◌else◌};
+ghost use Rattle.std.specs.Prelude.{◌≡◌, ℕ, ◌+◌, List, [], ◌∷◌, ◌++◌, ◌<◌, ◌≤◌, length, map, IfOk, OnOk, IsTrue, bit_or, if◌then◌else◌};
 ghost use Rattle.spanner_model.specs.Lists.{Has};
 ghost use Rattle.place_automaton.specs.Ends.{nothing_ends, never_ends, one_ends, cat_ends, alt_ends, opt_ends, cap_ends, JoinAsSum, JoinAsSums, IsUnmarked, MarkOf, Ends, RowJoins, again_ends, row_ends, row_ways};
 ghost use Rattle.marked_automaton.specs.declared.way.Stop.{Stop};
 ghost use Rattle.marked_automaton.specs.Automaton.{IsBlockOf};
 ghost use Rattle.place_automaton.specs.Atom.{way_after, way_from_first};
+ghost use Rattle.marked_automaton.specs.declared.TheConstants.{MOST_STATES};
+ghost use Rattle.place_automaton.specs.declared.piece.Entry.{Entry};
 ghost use Rattle.place_automaton.specs.Made.{end_stops, with_stops};
+ghost use Rattle.place_automaton.specs.Moves.{ends_moved};
 ghost use Rattle.place_automaton.specs.Places.{ways_between};
 
 use crate::BEFORE;
 use crate::joins::{all_entries, all_stops, both, mark_entries, mark_stops, push_ways};
+use crate::moving::{moved_entries, moved_stops};
 use crate::outer::{add_last_stops, push_from_before, push_into_after, push_past_places};
 use marked_automaton::{Automaton, Stop, Way};
 use span_core::{ByteSet, Marks, OutOfMemory};
@@ -195,6 +199,21 @@ impl Piece {
             }),
             None => Ok(()),
         }
+    }
+
+    /// This with other places, whose numbers are greater by so many.
+    pub(crate) fn moved(&self, alloc: Global, by: u32) -> Result<Piece, OutOfMemory>
+        requires firsts { (e : Entry) → Has self.now.first e → e.to + by ≤ MOST_STATES }
+        requires lasts { (s : Stop) → Has self.now.last s → s.state + by ≤ MOST_STATES }
+        ensures { IfOk result (λ p. p ≡ ends_moved by self.now) }
+    {
+        let first = moved_entries(alloc, &self.first, by)?;
+        let last = moved_stops(alloc, &self.last, by)?;
+        Ok(Piece {
+            null: self.null,
+            first,
+            last,
+        })
     }
 
     /// This in a capture, whose markers are these.

@@ -1,5 +1,5 @@
 //! The places of a formula.
-ghost use Rattle.std.specs.Prelude.{◌≡◌, ℕ, ◌+◌, ◌≤◌, IfOk, List};
+ghost use Rattle.std.specs.Prelude.{◌≡◌, ℕ, ◌+◌, ◌-◌, ◌≤◌, IfOk, List, length, take, drop};
 ghost use Rattle.spanner_model.specs.Captures.{VarName};
 ghost use Rattle.spanner_model.specs.Functional.{IsFunctional};
 ghost use Rattle.spanner_model.specs.Lists.{Has, AreDistinct};
@@ -9,9 +9,12 @@ ghost use Rattle.spanner_model.specs.WellBuilt.{IsWellBuilt};
 ghost use Rattle.marked_automaton.specs.declared.TheConstants.{MOST_STATES};
 ghost use Rattle.place_automaton.specs.Counts.{counts};
 ghost use Rattle.place_automaton.specs.Drafts.{AreNamed, HasPlaced, copies_of, places_of};
-ghost use Rattle.place_automaton.specs.Ends.{MarkOf, JoinAsSum, cap_ends};
+ghost use Rattle.place_automaton.specs.Ends.{MarkOf, JoinAsSum, cap_ends, ends_of};
+ghost use Rattle.place_automaton.specs.Moves.{LieBelow, places_moved};
+ghost use Rattle.place_automaton.specs.Places.{Places};
 ghost use Rattle.place_automaton.specs.Words.{opening_of, closing_of};
 
+use crate::moving::push_moved_ways;
 use crate::piece::{Piece, join_again, join_row};
 use marked_automaton::Way;
 use span_core::{ByteSet, Marks, Name, OutOfMemory, VarSet};
@@ -25,6 +28,61 @@ pub(crate) struct Draft {
     pub(crate) next: u32,
     /// The ways between places.
     pub(crate) ways: Vec<Way>,
+}
+
+/// What placing a formula added to a draft.
+#[derive(Clone, Copy)]
+struct Added {
+    /// The number of the first place.
+    first: u32,
+    /// How many places there are.
+    places: u32,
+    /// The index of the first way.
+    from: usize,
+    /// The index behind the last way.
+    end: usize,
+}
+
+impl Draft {
+    /// What has come since the next place had the one number, and the next way the other index.
+    fn added_since(&self, first: u32, from: usize) -> Added
+        requires { first ≤ self.now.next }
+        ensures first { result.first ≡ first }
+        ensures places { first + result.places ≡ self.now.next }
+        ensures from { result.from ≡ from }
+        ensures end { result.end ≡ length self.now.ways.items }
+    {
+        Added {
+            first,
+            places: self.next - first,
+            from,
+            end: self.ways.len(),
+        }
+    }
+
+    /// Places a formula once more, whose ends are those of the piece and which added this. The ends and the
+    /// ways are the same, but for the numbers of the places.
+    fn place_again(
+        &mut self,
+        alloc: Global,
+        piece: &Piece,
+        added: &Added,
+    ) -> Result<Piece, OutOfMemory>
+        requires behind { added.now.first ≤ self.old.next }
+        requires room { self.old.next + added.now.places ≤ MOST_STATES }
+        requires order { added.now.from ≤ added.now.end }
+        requires within { added.now.end ≤ length self.old.ways.items }
+        requires below { LieBelow (added.now.first + added.now.places) piece.now (take (added.now.end - added.now.from) (drop added.now.from self.old.ways.items)) }
+        ensures { (P : Places) → piece.now ≡ ends_of P → added.now.places ≡ P.count
+            → take (added.now.end - added.now.from) (drop added.now.from self.old.ways.items) ≡ P.follow
+            → IfOk result (HasPlaced (places_moved (self.old.next - added.now.first) P) self.old self.new) }
+    {
+        let by = self.next - added.first;
+        let again = piece.moved(alloc, by)?;
+        push_moved_ways(added.from, added.end, by, &mut self.ways)?;
+        self.next += added.places;
+        Ok(again)
+    }
 }
 
 /// Places the formula, and adds the ways between its places.
@@ -133,25 +191,22 @@ fn place_repeat(
     if copies == 0 {
         return Ok(Piece::nothing(alloc));
     }
-    let before = draft.next;
+    let (before, from) = (draft.next, draft.ways.len());
     let first = place(alloc, vars, sub, draft)?;
     if draft.next == before {
         return Ok(first.opt_if(least == 0));
     }
+    let added = draft.added_since(before, from);
     let mut pieces = Vec::with_capacity(alloc, usize::from(copies))?;
     pieces.push(first)?;
     for _copy in 1..copies {
-        let piece = place(alloc, vars, sub, draft)?;
+        let piece = draft.place_again(alloc, &pieces[0], &added)?;
         pieces.push(piece)?;
     }
+    let required = usize::from(least);
     match most {
-        Some(_) => join_row(
-            pieces,
-            usize::from(least),
-            Piece::nothing(alloc),
-            &mut draft.ways,
-        ),
-        None => join_again(alloc, pieces, usize::from(least), &mut draft.ways),
+        Some(_) => join_row(pieces, required, Piece::nothing(alloc), &mut draft.ways),
+        None => join_again(alloc, pieces, required, &mut draft.ways),
     }
 }
 

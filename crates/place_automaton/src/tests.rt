@@ -1,10 +1,10 @@
 //! Numbers that are worked out by hand, automata at the limits, and a small one way by way.
 ghost use Rattle.std.specs.Prelude.{◌≡◌, IfOk, IfSome, [], ◌∷◌, None};
-ghost use Rattle.spanner_model.specs.Examples.{a, x};
+ghost use Rattle.spanner_model.specs.Examples.{a, b, x};
 ghost use Rattle.spanner_model.specs.Tree.{empty};
 ghost use Rattle.spanner_model.specs.View.{tree_of, trees_of};
 ghost use Rattle.place_automaton.specs.Examples.{maybe, times, star_in_x};
-ghost use Rattle.place_automaton.specs.Samples.{IsSample, long, wide, nothing_often};
+ghost use Rattle.place_automaton.specs.Samples.{IsSample, long, wide, nothing_often, a_and_maybe_b, often_in_x};
 
 use crate::{count, of_atom};
 use marked_automaton::{Automaton, SizeFault};
@@ -81,6 +81,29 @@ fn star_in_x(alloc: Global, name: Name) -> Result<Formula, OutOfMemory>
 {
     let star = Formula::Rep(Box::new(alloc, letter())?, 0, None);
     Ok(Formula::Cap(name, Box::new(alloc, star)?))
+}
+
+/// `ab?`
+fn a_and_maybe_b(alloc: Global) -> Result<Formula, OutOfMemory>
+    ensures { IfOk result (λ f. tree_of f ≡ a_and_maybe_b) }
+{
+    let other = maybe(alloc, Formula::One(ByteSet::single(b'b')))?;
+    Ok(Formula::Cat(two(alloc, letter(), other)?))
+}
+
+/// `!x{(ab?){least,most}}`
+fn often_in_x(
+    alloc: Global,
+    name: Name,
+    least: u16,
+    most: Option<u16>,
+) -> Result<Formula, OutOfMemory>
+    requires { name ≡ x }
+    ensures { IfOk result (λ f. tree_of f ≡ often_in_x least most) }
+{
+    let formula = a_and_maybe_b(alloc)?;
+    let often = Formula::Rep(Box::new(alloc, formula)?, least, most);
+    Ok(Formula::Cap(name, Box::new(alloc, often)?))
 }
 
 fn name_x() -> Option<Name>
@@ -215,4 +238,89 @@ fn a_star_in_a_capture(rt: HostRuntime) {
     assert!(rt; has_stop(&automaton, 1, 1));
     assert!(rt; has_stop(&automaton, 2, 0));
     assert!(rt; automaton.starts() == [0u32].as_slice());
+}
+
+/// Whether there is a way between these states with these markers, on this one of the letters and not on
+/// the other.
+fn has_way_on(automaton: &Automaton, letter: u8, from: u32, marks: u32, to: u32) -> bool {
+    for way in automaton.ways() {
+        let same = way.from == from && way.to == to && way.marks.number() == marks;
+        let a = way.bytes.contains(b'a');
+        let b = way.bytes.contains(b'b');
+        if same && a == (letter == b'a') && b == (letter == b'b') {
+            return true;
+        }
+    }
+    false
+}
+
+/// The automaton of `!x{(ab?){least,most}}`, tied to the start and to the end.
+fn often(alloc: Global, name: Name, least: u16, most: Option<u16>) -> Result<Automaton, SizeFault>
+    requires name { name ≡ x }
+    requires sample { IsSample (often_in_x least most) }
+{
+    let atom = Atom {
+        from_start: true,
+        to_end: true,
+        formula: often_in_x(alloc, name, least, most)?,
+    };
+    of_atom(alloc, &atom)
+}
+
+fn thrice(alloc: Global, name: Name) -> Result<Automaton, SizeFault>
+    requires { name ≡ x }
+{
+    often(alloc, name, 3, Some(3))
+}
+
+fn thrice_or_more(alloc: Global, name: Name) -> Result<Automaton, SizeFault>
+    requires { name ≡ x }
+{
+    often(alloc, name, 3, None)
+}
+
+/// Whether the automaton has the ways of `(ab?){3}` in a capture.
+fn has_three_copies(automaton: &Automaton) -> bool {
+    let steps = [
+        (b'a', 0, 2, 1),
+        (b'b', 1, 0, 2),
+        (b'a', 1, 0, 3),
+        (b'a', 2, 0, 3),
+        (b'b', 3, 0, 4),
+        (b'a', 3, 0, 5),
+        (b'a', 4, 0, 5),
+        (b'b', 5, 0, 6),
+    ];
+    for (letter, from, marks, to) in steps {
+        if !has_way_on(automaton, letter, from, marks, to) {
+            return false;
+        }
+    }
+    true
+}
+
+#[test]
+fn copies_in_a_capture(rt: HostRuntime) {
+    let name = name_x().expect(&rt, "x is a name");
+    let automaton = thrice(rt.alloc(), name).expect(&rt, "there is memory");
+    assert_eq!(rt; automaton.states(), 7);
+    assert_eq!(rt; automaton.ways().len(), 8);
+    assert!(rt; has_three_copies(&automaton));
+    assert_eq!(rt; automaton.stops().len(), 2);
+    assert!(rt; has_stop(&automaton, 5, 1));
+    assert!(rt; has_stop(&automaton, 6, 1));
+}
+
+#[test]
+fn copies_that_come_again(rt: HostRuntime) {
+    let name = name_x().expect(&rt, "x is a name");
+    let automaton = thrice_or_more(rt.alloc(), name).expect(&rt, "there is memory");
+    assert_eq!(rt; automaton.states(), 7);
+    assert_eq!(rt; automaton.ways().len(), 10);
+    assert!(rt; has_three_copies(&automaton));
+    assert!(rt; has_way_on(&automaton, b'a', 5, 0, 5));
+    assert!(rt; has_way_on(&automaton, b'a', 6, 0, 5));
+    assert_eq!(rt; automaton.stops().len(), 2);
+    assert!(rt; has_stop(&automaton, 5, 1));
+    assert!(rt; has_stop(&automaton, 6, 1));
 }

@@ -1,20 +1,20 @@
-use Rattle.std.proofs.Common.{◌≡◌, ◌≤◌, length, ap, arith, ◌∙◌}
+use Rattle.std.proofs.Common.{◌≤◌, length, ap, arith}
 use Rattle.span_core.specs.declared.TheConstants.{MOST_VARIABLES}
-use Rattle.algebra.specs.JoinedNames.{all_names}
 use Rattle.algebra.specs.Joining.{IsJoinFault}
 use Rattle.algebra.proofs.Followed.{handed_on}
 use Rattle.algebra.proofs.JoinTheory as of
+use Rattle.algebra.proofs.NamesLaws.{names_by}
 use Rattle.algebra.proofs.joining.join_grouped.Goals as goal
 
 pub searched-requires-clause-marks : goal.searched-requires-clause-marks
 searched-requires-clause-marks c =
-    let all_are : c.names_of_both-all.result ≡ all_names c.args.a.now.names c.args.b.now.names = c.names_of_both-all.ensures ∙ (λ i. all_names (c.vars.ensures i) (c.vars-2.ensures i)) in
+    let all_are = names_by c.names_of_both-all.ensures c.vars.ensures c.vars-2.ensures in
     let few : length c.names_of_both-all.result ≤ MOST_VARIABLES = omega (arith, ap length all_are, c.requires.few) in
     of.small_marks c.states.ensures.marked c.states-2.ensures.marked c.names_of_both-all.result c.in_ok-left.ensures.side c.in_ok-right.ensures.side few
 
 pub returns-in_err-search-clause-fault : goal.returns-in_err-search-clause-fault
 returns-in_err-search-clause-fault c =
-    let all_are : c.names_of_both-all.result ≡ all_names c.args.a.now.names c.args.b.now.names = c.names_of_both-all.ensures ∙ (λ i. all_names (c.vars.ensures i) (c.vars-2.ensures i)) in
+    let all_are = names_by c.names_of_both-all.ensures c.vars.ensures c.vars-2.ensures in
     let e = c.in_err-search.field-0.0 in
     handed_on (IsJoinFault c.args.a.now c.args.b.now) c.from_residual-in_err-search.result e c.from_residual-in_err-search.ensures.1
     (of.refusal c.states.ensures.marked c.states-2.ensures.marked c.names_of_both-all.result c.in_ok-left.ensures.side c.in_ok-right.ensures.side all_are e c.in_err-search.ensures.fault)
@@ -41,12 +41,12 @@ assembled-requires-clause-marks c =
 
 pub returns-clause-join : goal.returns-clause-join
 returns-clause-join c =
-    let all_are : c.names_of_both-all.result ≡ all_names c.args.a.now.names c.args.b.now.names = c.names_of_both-all.ensures ∙ (λ i. all_names (c.vars.ensures i) (c.vars-2.ensures i)) in
+    let all_are = names_by c.names_of_both-all.ensures c.vars.ensures c.vars-2.ensures in
     of.join_made c.states.ensures.marked c.states-2.ensures.marked c.names_of_both-all.result c.in_ok-left.ensures.side c.in_ok-right.ensures.side c.in_ok-search.ensures.searched
     all_are c.assembled.result c.assembled.ensures.names c.assembled.ensures.made
 
 pub returns-clause-fault : goal.returns-clause-fault
 returns-clause-fault c =
-    let all_are : c.names_of_both-all.result ≡ all_names c.args.a.now.names c.args.b.now.names = c.names_of_both-all.ensures ∙ (λ i. all_names (c.vars.ensures i) (c.vars-2.ensures i)) in
+    let all_are = names_by c.names_of_both-all.ensures c.vars.ensures c.vars-2.ensures in
     of.fault_made c.states.ensures.marked c.states-2.ensures.marked c.names_of_both-all.result c.in_ok-left.ensures.side c.in_ok-right.ensures.side c.in_ok-search.ensures.searched
     all_are c.assembled.result c.assembled.ensures.fault

@@ -5,7 +5,7 @@ use Rattle.algebra.specs.declared.pairs.Pair.{Pair}
 use Rattle.algebra.specs.Pairs.{AreWithin}
 use Rattle.algebra.specs.Sides.{IsSearchRefusal, half_ways_of}
 use Rattle.algebra.proofs.Followed.{handed_on}
-use Rattle.algebra.proofs.Searched.{started_within}
+use Rattle.algebra.proofs.Searched.{refusal_within, started_within}
 use Rattle.algebra.proofs.pairs.searched.Goals as goal
 
 pub returns-in_err-find_all-clause-fault : goal.returns-in_err-find_all-clause-fault
@@ -29,4 +29,4 @@ returns-in_err-follow_all-clause-fault c =
     let empty : AreWithin A.states B.states c.new-search.result.found.keys = subst (λ (ks : List Pair). AreWithin A.states B.states ks) (sym c.new-search.ensures.found) (λ k h. absurd h) in
     let within : AreWithin A.states B.states keys0 = started_within c.starts.result.now c.starts-2.result.now c.new-search.result.found.keys keys0 A.states B.states c.in_ok-find_all.ensures.started empty
     (λ p h. lefts p (subst (λ zs. Has zs p) c.starts.ensures h)) (λ q h. rights q (subst (λ zs. Has zs q) c.starts-2.ensures h)) in
-    c.in_err-follow_all.ensures.fault A.states B.states w within lead (omega (arith, ap length none, le)))
+    refusal_within A B (half_ways_of c.args.left.now A) (half_ways_of c.args.right.now B) keys0 c.find_all.new.self.ways.items c.in_err-follow_all.field-0.0 c.in_err-follow_all.ensures.fault w within lead (omega (arith, ap length none, le)))

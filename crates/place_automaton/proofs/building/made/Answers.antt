@@ -105,7 +105,7 @@ returns c =
     c.in_ok-with_capacity.ensures.items c.in_ok-piece.ensures.ways c.in_ok-piece.ensures.next c.in_ok-piece.ensures.ends c.in_ok-push_outer.ensures in
     let bare = c.in-Ok.ensures.ok in
     let done = c.in_ok-finish.ensures in
-    let last = c.group_ways.ensures in
+    let last = c.in_ok-group_ways.ensures in
     let vars : AreNamed names f = λ x v. (c.vars_of-vars.ensures.names x).1 v in
     let same_names : c.group_ways.new.self.names ≡ names = last.names ∙ (done.names ∙ bare.0) in
     let B = c.finish.new.automaton.graph in

@@ -1,4 +1,4 @@
-use Rattle.std.proofs.Common.{◌≡◌, ℕ, ◌+◌, ◌*◌, ◌≤◌, List, [], ◌∷◌, ◌++◌, Option, max, map, IfOk, length, take, refl, sym, ap, ◌∙◌, subst, arith}
+use Rattle.std.proofs.Common.{◌≡◌, ℕ, ◌+◌, ◌-◌, ◌*◌, ◌≤◌, List, [], ◌∷◌, ◌++◌, Option, max, map, IfOk, length, take, drop, refl, sym, ap, ◌∙◌, subst, arith}
 use Rattle.std.proofs.Math.Seq.{take-length}
 use Rattle.marked_automaton.specs.declared.TheConstants.{MOST_STATES}
 use Rattle.spanner_model.specs.Functional.{IsFunctional}
@@ -14,6 +14,7 @@ use Rattle.place_automaton.specs.Counts.{counts}
 use Rattle.place_automaton.specs.declared.placing.Draft.{Draft}
 use Rattle.place_automaton.specs.Drafts.{AreNamed, HasPlaced, copies_of, places_of}
 use Rattle.place_automaton.specs.Ends.{Ends, IsUnmarked, RowJoins, again_ends, ends_of, nothing_ends, row_ends, row_ways}
+use Rattle.place_automaton.specs.Moves.{places_moved}
 use Rattle.place_automaton.specs.Places.{Places, repeated, ways_between}
 use Rattle.place_automaton.specs.Words.{opening_of, closing_of}
 use Rattle.place_automaton.proofs.ArmLaws.{arms_null, arms_next}
@@ -22,6 +23,7 @@ use Rattle.place_automaton.proofs.CapPlaces.{cap_apart, cap_null, cap_first, cap
 use Rattle.place_automaton.proofs.CountLaws.{counted, null_zero}
 use Rattle.place_automaton.proofs.DraftRows.{IsRow, copies_next, ok_both, parts_next, parts_joins, placers, row_done}
 use Rattle.place_automaton.proofs.FineLaws.{VarBits, built_classes, fine_places, fine_unmarked}
+use Rattle.place_automaton.proofs.MoveLaws.{first_below, first_copy, first_ways, once_more, place_moves, some_copy, ways_within}
 use Rattle.place_automaton.proofs.PartBuilt.{all_classes}
 use Rattle.place_automaton.proofs.PlaceNumbers.{copies_room, copies_total, place_count, repeated_places, turn_total, parts_room, arms_room}
 use Rattle.place_automaton.proofs.Ranges.{places_lie}
@@ -251,8 +253,13 @@ place_repeat-returns-then-draft-before t c =
     (places_lie (opening_of names) (closing_of names) f k) (counted names c.requires.distinct f c.requires.functional.0 ord c.requires.named k).1
     (null_zero names c.requires.distinct f c.requires.functional.0 ord c.requires.functional.1 k) c.in_ok-first.ensures c.if-draft-before.true c.opt_if.ensures
 
-pub place_repeat-place-requires-in-loop-copy : goal.place_repeat-place-requires-in-loop-copy
-place_repeat-place-requires-in-loop-copy t c =
+pub place_repeat-index-requires : goal.place_repeat-index-requires
+place_repeat-index-requires t c =
+    let F = places_of c.args.vars.now (tree_of c.args.sub.now) in
+    omega (arith, c.loop-copy.pieces.ok.0, some_copy F c.args.draft.now.next c.loop-copy._copy c.loop-copy.pieces.items c.loop-copy.auto._copy c.loop-copy.invariant.pieces)
+
+pub place_repeat-place_again-requires-clause-room : goal.place_repeat-place_again-requires-clause-room
+place_repeat-place_again-requires-clause-room t c =
     let names = c.args.vars.now in
     let f = tree_of c.args.sub.now in
     let F = places_of names f in
@@ -263,27 +270,57 @@ place_repeat-place-requires-in-loop-copy t c =
     let i = c.loop-copy._copy in
     let all : (counts (rep f c.args.least c.args.most)).places ≡ n * a =
     repeated_places c.args.least c.args.most (counts f) (λ m e. (w.0.1.1 m e).0) ∙ ap (λ m. m * a) (sym c.copies_of-copies.ensures) in
-    let some : i + 1 ≤ n = omega arith in (
-      omega arith,
-      (
-        (w.0.0, omega (arith, w.1)),
-        (
-          c.requires.functional.0,
-          (
-            c.requires.distinct,
-            (
-              c.requires.named,
-              omega (arith, c.requires.room, all, c.loop-copy.invariant.next, copies_total F a (place_count (opening_of names) (closing_of names) f) i k, copies_room i n a some),
-            ),
-          ),
-        ),
-      ),
-    )
+    let some : i + 1 ≤ n = omega arith in
+    omega (arith, c.requires.room, all, c.added_since-added.ensures.places, c.in_ok-first.ensures.next, place_count (opening_of names) (closing_of names) f k, c.loop-copy.invariant.next, copies_total F a (place_count (opening_of names) (closing_of names) f) i k, copies_room i n a some)
+
+pub place_repeat-place_again-requires-clause-within : goal.place_repeat-place_again-requires-clause-within
+place_repeat-place_again-requires-clause-within t c =
+    let a = c.args.draft.now in
+    let added = c.added_since-added in
+    ways_within (places_of c.args.vars.now (tree_of c.args.sub.now)) a.next a.ways.items c.place.new.draft.ways.items c.loop-copy.draft.ways.items
+    added.result.from added.result.end c.in_ok-first.ensures.ways (omega (arith, added.ensures.from, c.len-from.ensures, a.ways.ok.0)) added.ensures.end
+    c.loop-copy._copy c.loop-copy.auto._copy c.loop-copy.invariant.ways
+
+pub place_repeat-place_again-requires-clause-below : goal.place_repeat-place_again-requires-clause-below
+place_repeat-place_again-requires-clause-below t c =
+    let names = c.args.vars.now in
+    let f = tree_of c.args.sub.now in
+    let F = places_of names f in
+    let a = c.args.draft.now in
+    let i = c.loop-copy._copy in
+    let l = c.loop-copy.auto._copy in
+    let row = c.loop-copy.invariant in
+    let added = c.added_since-added in
+    let ways = take (added.result.end - added.result.from) (drop added.result.from c.loop-copy.draft.ways.items) in
+    first_below F a.next (added.result.first + added.result.places) c.index.result.now ways
+    (places_lie (opening_of names) (closing_of names) f a.next) (omega (arith, added.ensures.first, added.ensures.places, c.in_ok-first.ensures.next))
+    (first_copy F a.next i c.loop-copy.pieces.items c.index.result.now l row.pieces c.index.ensures)
+    (first_ways F a.next a.ways.items c.place.new.draft.ways.items c.loop-copy.draft.ways.items
+    added.result.from added.result.end c.in_ok-first.ensures.ways (omega (arith, added.ensures.from, c.len-from.ensures, a.ways.ok.0)) added.ensures.end i l row.ways)
 
 pub place_repeat-loop-copy-preserved : goal.place_repeat-loop-copy-preserved
 place_repeat-loop-copy-preserved t c =
-    copies_next (places_of c.args.vars.now (tree_of c.args.sub.now)) c.loop-copy._copy c.args.draft.now.next c.args.draft.now c.loop-copy.draft c.place-in-loop-copy.new.draft
-    c.loop-copy.pieces.items c.push-in-loop-copy.new.self.items c.in_ok-piece.piece refl c.loop-copy.invariant c.in_ok-piece.ensures c.in_ok-push-2.ensures.items
+    let names = c.args.vars.now in
+    let f = tree_of c.args.sub.now in
+    let F = places_of names f in
+    let a = c.args.draft.now in
+    let i = c.loop-copy._copy in
+    let l = c.loop-copy.auto._copy in
+    let row = c.loop-copy.invariant in
+    let b = c.loop-copy.draft in
+    let added = c.added_since-added in
+    let new = c.place_again.new.self in
+    let piece = c.in_ok-piece.piece in
+    let again : HasPlaced (places_moved (b.next - added.result.first) (F a.next)) b new piece =
+    c.in_ok-piece.ensures (F a.next)
+    (first_copy F a.next i c.loop-copy.pieces.items c.index.result.now l row.pieces c.index.ensures)
+    (omega (arith, added.ensures.places, c.in_ok-first.ensures.next))
+    (first_ways F a.next a.ways.items c.place.new.draft.ways.items b.ways.items
+    added.result.from added.result.end c.in_ok-first.ensures.ways (omega (arith, added.ensures.from, c.len-from.ensures, a.ways.ok.0)) added.ensures.end i l row.ways) in
+    let is = ap (λ (k : ℕ). places_moved (b.next - k) (F a.next)) added.ensures.first
+    ∙ once_more F (place_moves (opening_of names) (closing_of names) f) a.next b.next (omega (arith, row.next)) in
+    copies_next F i a.next a b new c.loop-copy.pieces.items c.push-in-loop-copy.new.self.items piece refl row
+    (subst (λ (P : Places). HasPlaced P b new piece) is again) c.in_ok-push-2.ensures.items
 
 pub place_repeat-join_row-requires : goal.place_repeat-join_row-requires
 place_repeat-join_row-requires t c =
@@ -292,7 +329,7 @@ place_repeat-join_row-requires t c =
     let F = places_of names f in
     let bare : (j : ℕ) → IsUnmarked (ends_of (F j)) = λ j.
     fine_unmarked (VarBits names f) (λ i b. c.requires.functional.1 b.0 b.1) (F j) (fine_places names f c.requires.functional.0 (built_classes f c.requires.built.0.0) c.requires.named j) in
-    row_joins c.from-in-Some.result c.loop-copy.pieces.items c.nothing-in-Some.result
+    row_joins c.from-required.result c.loop-copy.pieces.items c.nothing-in-Some.result
     (subst AllUnmarked (sym c.loop-copy.invariant.pieces) (copies_unmarked F bare c.loop-copy._copy c.args.draft.now.next))
     (subst IsUnmarked (sym c.nothing-in-Some.ensures) nothing_unmarked)
 
@@ -322,13 +359,13 @@ place_repeat-returns-in-Some t c =
     let new : Draft = record { next = c.loop-copy.draft.next; ways = c.join_row.new.ways } in
     let W = repeated least most F a.next in
     let is = ap (λ (o : Option ℕ). repeated least o F a.next) c.in-Some.is ∙ bounded_places F least m a.next le in
-    let r = c.from-in-Some.result in
+    let r = c.from-required.result in
     let Q = c.nothing-in-Some.result in
     ok_both c.join_row.result (λ (p : Ends). p ≡ row_ends r xs Q) (λ (p : Ends). HasPlaced W a new p)
     (c.join_row.new.ways.items ≡ c.loop-copy.draft.ways.items ++ row_ways r xs Q)
     (λ p ends ways. row_done least (copies F m a.next) W a c.loop-copy.draft new xs p is row
-    (ends ∙ (ap (λ (r : ℕ). row_ends r xs Q) c.from-in-Some.ensures ∙ ap (λ (Q : Ends). row_ends least xs Q) c.nothing-in-Some.ensures)) refl
-    (ways ∙ (ap (λ (r : ℕ). c.loop-copy.draft.ways.items ++ row_ways r xs Q) c.from-in-Some.ensures ∙ ap (λ (Q : Ends). c.loop-copy.draft.ways.items ++ row_ways least xs Q) c.nothing-in-Some.ensures)))
+    (ends ∙ (ap (λ (r : ℕ). row_ends r xs Q) c.from-required.ensures ∙ ap (λ (Q : Ends). row_ends least xs Q) c.nothing-in-Some.ensures)) refl
+    (ways ∙ (ap (λ (r : ℕ). c.loop-copy.draft.ways.items ++ row_ways r xs Q) c.from-required.ensures ∙ ap (λ (Q : Ends). c.loop-copy.draft.ways.items ++ row_ways least xs Q) c.nothing-in-Some.ensures)))
     c.join_row.ensures.ends c.join_row.ensures.ways
 
 pub place_repeat-returns-in-None : goal.place_repeat-returns-in-None
@@ -342,7 +379,7 @@ place_repeat-returns-in-None t c =
     let at : c.loop-copy._copy ≡ max least 1 = omega (arith, many, c.loop-copy-test.false, c.loop-copy.auto._copy-end (omega (arith, many))) in
     let xs = c.loop-copy.pieces.items in
     let new : Draft = record { next = b.next; ways = c.join_again.new.ways } in
-    let r = c.from-in-None.result in
+    let r = c.from-required.result in
     let is = ap (λ (o : Option ℕ). repeated least o F a.next) c.in-None.is in
     let Ends' : ℕ → Ends → Type 0 = λ r p. (front : List Ends) (last : Ends) → xs ≡ front ++ last ∷ [] → p ≡ row_ends r front (again_ends r last) in
     let Ways' : ℕ → Type 0 = λ r. (front : List Ends) (last : Ends) → xs ≡ front ++ last ∷ [] →
@@ -350,5 +387,5 @@ place_repeat-returns-in-None t c =
     ok_both c.join_again.result (Ends' r) (λ (p : Ends). HasPlaced (repeated least c.args.most F a.next) a new p) (Ways' r)
     (λ p ends ways. subst (λ (W : Places). HasPlaced W a new p) (sym is)
     (again_done F least a.next c.loop-copy._copy a b new xs p at c.loop-copy.invariant refl
-    (subst (λ (r : ℕ). Ends' r p) c.from-in-None.ensures ends) (subst Ways' c.from-in-None.ensures ways)))
+    (subst (λ (r : ℕ). Ends' r p) c.from-required.ensures ends) (subst Ways' c.from-required.ensures ways)))
     c.join_again.ensures.ends c.join_again.ensures.ways

@@ -1,15 +1,16 @@
 use Rattle.std.proofs.Common.{◌≡◌, ◌⊎◌, List, [], length, map, inl, inr, sym, subst, ap, ◌∙◌}
-use Rattle.std.proofs.lemmas.Bool.{eqb-true}
+use Rattle.std.proofs.lemmas.Bool.{eqb-true, eqb-false}
+use Rattle.marked_automaton.specs.declared.TheConstants.{MOST_WAYS}
 use Rattle.algebra.specs.declared.halves.HalfWay.{HalfWay}
 use Rattle.algebra.specs.Pairs.{AreRowsOf, half_from, those_at, way_from}
 use Rattle.algebra.specs.Renaming.{half_way}
 use Rattle.algebra.specs.Sides.{half_ways_of}
-use Rattle.algebra.proofs.Searched.{no_rows_of, row_length, row_of_side, rows_of}
+use Rattle.algebra.proofs.Searched.{no_rows_of, row_few, row_length, row_of_side, rows_of}
 use Rattle.algebra.proofs.pairs.Rows.put.Goals.{then-is_empty-via-then-is_empty, then-is_empty-via-else-is_empty+then-is_empty-2}
 use Rattle.algebra.proofs.pairs.Rows.put.Goals as goal
 
-pub returns-then-is_empty : goal.returns-then-is_empty
-returns-then-is_empty c =
+pub returns-then-is_empty-clause-rows : goal.returns-then-is_empty-clause-rows
+returns-then-is_empty-clause-rows c =
     let A = c.args.a.now.graph in
     let B = c.args.b.now.graph in
     let xs = half_ways_of c.args.left.now A in
@@ -26,8 +27,8 @@ returns-then-is_empty c =
     subst (λ (zs : List HalfWay). AreRowsOf xs ys k zs c.clear-then-is_empty.new.self.items) (sym c.clear.ensures.items)
     (subst (λ (zs : List HalfWay). AreRowsOf xs ys k [] zs) (sym c.clear-then-is_empty.ensures.items) (no_rows_of xs ys k empty))
 
-pub returns : goal.returns
-returns c =
+pub returns-clause-rows : goal.returns-clause-rows
+returns-clause-rows c =
     let A = c.args.a.now.graph in
     let B = c.args.b.now.graph in
     let k = c.args.pair in
@@ -38,3 +39,15 @@ returns c =
     ∙ row_of_side c.args.left.now A k.left lefts (c.ways_from-lefts.ensures ∙ ap (those_at way_from k.left) c.ways.ensures)))
     (c.in_ok-put_half_ways-2.ensures ∙ ((λ i. map (half_way (c.as_slice-3.ensures.value i) (c.as_slice-4.ensures.value i)) rights)
     ∙ row_of_side c.args.right.now B k.right rights (c.ways_from-rights.ensures ∙ ap (those_at way_from k.right) c.ways-2.ensures)))
+    (λ e. eqb-false (length lefts) 0 (sym c.is_empty.ensures ∙ c.if-is_empty.false)
+    (row_length c.args.left.now A k.left lefts (c.ways_from-lefts.ensures ∙ ap (those_at way_from k.left) c.ways.ensures) ∙ e))
+    (λ e. eqb-false (length rights) 0 (sym c.is_empty-else-is_empty.ensures ∙ c.if-is_empty-2.false)
+    (row_length c.args.right.now B k.right rights (c.ways_from-rights.ensures ∙ ap (those_at way_from k.right) c.ways-2.ensures) ∙ e))
+
+pub returns-clause-few : goal.returns-clause-few
+returns-clause-few c =
+    let A = c.args.a.now.graph in
+    let B = c.args.b.now.graph in (
+      row_few _ _ c.args.pair.left MOST_WAYS A.ways c.ways_from-lefts.result.now _ (c.ways_from-lefts.ensures ∙ ap (those_at way_from c.args.pair.left) c.ways.ensures) c.in_ok-put_half_ways.ensures c.states.ensures.marked.few_ways,
+      row_few _ _ c.args.pair.right MOST_WAYS B.ways c.ways_from-rights.result.now _ (c.ways_from-rights.ensures ∙ ap (those_at way_from c.args.pair.right) c.ways-2.ensures) c.in_ok-put_half_ways-2.ensures c.states-2.ensures.marked.few_ways,
+    )

@@ -1,4 +1,4 @@
-use Rattle.std.proofs.Common.{◌≡◌, ◌+◌, ◌<◌, List, [], ◌++◌, length, take, get_or, sym, subst, ap, arith, rules, ◌∙◌, length-append}
+use Rattle.std.proofs.Common.{◌≡◌, ◌+◌, ◌<◌, ◌⊎◌, inl, List, [], ◌++◌, length, take, get_or, sym, subst, ap, arith, rules, ◌∙◌, length-append}
 use Rattle.std.specs.Prelude.{slice_get, Some}
 use Rattle.std.specs.List.{flat_map}
 use Rattle.std.proofs.lemmas.List.{append-nil}
@@ -7,20 +7,20 @@ use Rattle.spanner_model.specs.Lists.{Has}
 use Rattle.marked_automaton.specs.declared.fault.SizeFault.{SizeFault}
 use Rattle.algebra.specs.declared.halves.HalfWay.{HalfWay}
 use Rattle.algebra.specs.declared.pairs.Pair.{Pair}
-use Rattle.algebra.specs.Pairs.{PairWay, IsFollowed, IsRefusalOf, pair_of, pairs, way_pair, ways_at, ways_meet}
-use Rattle.algebra.specs.Sides.{half_ways_of}
+use Rattle.algebra.specs.Pairs.{PairWay, IsFollowed, IsRefusalOf, pair_of, pairs, steps_at, steps_of, way_pair, ways_at, ways_meet}
+use Rattle.algebra.specs.Sides.{IsProductRefusal, half_ways_of}
 use Rattle.algebra.proofs.Followed.{followed_none, followed_then, refusal_then, handed_on, keys_apart}
-use Rattle.algebra.proofs.Searched.{rows_more, apart_take, refusal_of_all, read_pair}
+use Rattle.algebra.proofs.Searched.{rows_more, steps_more, apart_take, refusal_of_all, read_pair}
 use Rattle.algebra.proofs.pairs.Search.follow_all.Goals as goal
 
 pub loop-done-init : goal.loop-done-init
-loop-done-init c = record { followed = followed_none c.args.self.now.found.keys c.args.self.now.ways.items; within = omega arith }
+loop-done-init c = record { followed = followed_none c.args.self.now.found.keys c.args.self.now.ways.items; within = omega arith; effort = omega arith }
 
 pub follow_pair-requires-clause-from : goal.follow_pair-requires-clause-from
 follow_pair-requires-clause-from c = λ x y hx hy.
     let slice = c.as_slice.result.now in
     let done = c.loop-done.done in
-    let rows = c.in_ok-put.ensures in
+    let rows = c.in_ok-put.ensures.rows in
     let within : done < length slice = omega (arith, c.loop-done-test.true, c.len.ensures.len, ap length c.as_slice.ensures.keys) in
     let left = (rows.left x (subst (λ (zs : List HalfWay). Has zs x) c.as_slice-in-loop-done.ensures.value hx)).1 in
     let right = (rows.right y (subst (λ (zs : List HalfWay). Has zs y) c.as_slice-in-loop-done-2.ensures.value hy)).1 in
@@ -28,7 +28,7 @@ follow_pair-requires-clause-from c = λ x y hx hy.
 
 pub follow_pair-requires-clause-marks : goal.follow_pair-requires-clause-marks
 follow_pair-requires-clause-marks c = λ x y hx hy.
-    let rows = c.in_ok-put.ensures in
+    let rows = c.in_ok-put.ensures.rows in
     c.requires.marks x y (rows.left x (subst (λ (zs : List HalfWay). Has zs x) c.as_slice-in-loop-done.ensures.value hx)).0
     (rows.right y (subst (λ (zs : List HalfWay). Has zs y) c.as_slice-in-loop-done-2.ensures.value hy)).0
 
@@ -44,17 +44,18 @@ returns-in_err-follow_pair-clause-fault c =
     let within : done < length keys = omega (arith, c.loop-done-test.true, c.len.ensures.len) in
     let is : k ≡ get_or keys done k = read_pair c.as_slice.result.now keys done (pair_of 0 0) k c.as_slice.ensures.keys within in
     let rows : pairs ways_meet way_pair c.as_slice-in-loop-done-2.result.now c.as_slice-in-loop-done.result.now ≡ ways_at xs ys k =
-    (λ i. pairs ways_meet way_pair (c.as_slice-in-loop-done-2.ensures.value i) (c.as_slice-in-loop-done.ensures.value i)) ∙ c.in_ok-put.ensures.made in
+    (λ i. pairs ways_meet way_pair (c.as_slice-in-loop-done-2.ensures.value i) (c.as_slice-in-loop-done.ensures.value i)) ∙ c.in_ok-put.ensures.rows.made in
     let before = flat_map (ways_at xs ys) (take done keys) in
     let more : flat_map (ways_at xs ys) (take (done + 1) keys) ≡ before ++ ways_at xs ys k =
     ap (λ zs. flat_map (ways_at xs ys) (take (done + 1) zs)) (sym (append-nil keys)) ∙ rows_more (ways_at xs ys) keys [] done k within is in
     let apart = apart_take (done + 1) keys (keys_apart _ (λ k. search rules) keys c.len.ensures.unique) in
     let e = c.in_err-follow_pair.field-0.0 in
-    handed_on (λ (e : SizeFault). IsRefusalOf (pairs ways_meet way_pair ys xs) k0 w0 e) c.from_residual-in_err-follow_pair.result e c.from_residual-in_err-follow_pair.ensures.1
-    (refusal_of_all xs ys (take (done + 1) keys) k0 w0 e apart
+    handed_on (λ (e : SizeFault). IsRefusalOf (pairs ways_meet way_pair ys xs) k0 w0 e ⊎ IsProductRefusal c.args.a.now.graph c.args.b.now.graph e) c.from_residual-in_err-follow_pair.result e
+    c.from_residual-in_err-follow_pair.ensures.1
+    (inl (refusal_of_all xs ys (take (done + 1) keys) k0 w0 e apart
     (subst (λ (r : List PairWay). IsRefusalOf r k0 w0 e) (ap (λ zs. before ++ zs) (append-nil (ways_at xs ys k)) ∙ sym more)
     (refusal_then before (ways_at xs ys k) [] k0 keys w0 c.loop-done.self.ways.items e c.loop-done.invariant.followed
-    (subst (λ (r : List PairWay). IsRefusalOf r keys c.loop-done.self.ways.items e) rows c.in_err-follow_pair.ensures.fault))))
+    (subst (λ (r : List PairWay). IsRefusalOf r keys c.loop-done.self.ways.items e) rows c.in_err-follow_pair.ensures.fault)))))
 
 pub loop-done-preserved : goal.loop-done-preserved
 loop-done-preserved c =
@@ -70,16 +71,19 @@ loop-done-preserved c =
     let is : k ≡ get_or keys done k = read_pair c.as_slice.result.now keys done (pair_of 0 0) k c.as_slice.ensures.keys within in
     let f = c.in_ok-follow_pair.ensures.followed in
     let rows : pairs ways_meet way_pair c.as_slice-in-loop-done-2.result.now c.as_slice-in-loop-done.result.now ≡ ways_at xs ys k =
-    (λ i. pairs ways_meet way_pair (c.as_slice-in-loop-done-2.ensures.value i) (c.as_slice-in-loop-done.ensures.value i)) ∙ c.in_ok-put.ensures.made in
+    (λ i. pairs ways_meet way_pair (c.as_slice-in-loop-done-2.ensures.value i) (c.as_slice-in-loop-done.ensures.value i)) ∙ c.in_ok-put.ensures.rows.made in
     let before = flat_map (ways_at xs ys) (take done keys) in
     let more : flat_map (ways_at xs ys) (take (done + 1) new.found.keys) ≡ before ++ ways_at xs ys k =
     ap (λ zs. flat_map (ways_at xs ys) (take (done + 1) zs)) f.keys ∙ rows_more (ways_at xs ys) keys f.found done k within is in
+    let spent : steps_of xs ys (take (done + 1) new.found.keys) ≡ steps_of xs ys (take done keys) + steps_at xs ys k =
+    ap (λ zs. steps_of xs ys (take (done + 1) zs)) f.keys ∙ steps_more xs ys keys f.found done k within is in
     let len : length new.found.keys ≡ length keys + length f.found = ap length f.keys ∙ length-append keys f.found in
     record {
       followed = subst (λ (r : List PairWay). IsFollowed r k0 w0 new.found.keys new.ways.items) (sym more)
           (followed_then before (ways_at xs ys k) k0 keys new.found.keys w0 c.loop-done.self.ways.items new.ways.items c.loop-done.invariant.followed
           (subst (λ (r : List PairWay). IsFollowed r keys c.loop-done.self.ways.items new.found.keys new.ways.items) rows f));
       within = omega (arith, within, len);
+      effort = omega (arith, c.spend.ensures, c.steps.ensures, c.in_ok-put.ensures.rows.steps, c.loop-done.invariant.effort, spent);
     }
 
 pub returns-clause-apart : goal.returns-clause-apart

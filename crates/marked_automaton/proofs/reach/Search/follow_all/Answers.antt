@@ -1,27 +1,57 @@
-use Rattle.std.proofs.Common.{◌≡◌, ◌+◌, length, [], ◌∷◌, ◌++◌, ◌∙◌, subst, ap, arith, length-append}
-use Rattle.marked_automaton.specs.Reach.{IsSearch}
-use Rattle.marked_automaton.proofs.Growing.{search_more}
+use Rattle.std.proofs.Common.{◌≡◌, Some, ◌+◌, ◌<◌, length, [], ◌∷◌, ◌++◌, ◌∙◌, inl, inr, refl, subst, sym, ap, arith, length-append}
+use Rattle.std.specs.Prelude.{slice_get}
+use Rattle.std.proofs.lemmas.Option.{slice_get-get_or}
+use Rattle.spanner_model.specs.Lists.{Has}
+use Rattle.spanner_model.proofs.HasLaws.{Has-append_left, Has-append_right}
+use Rattle.marked_automaton.specs.Reach.{Grows, IsSearch, LeadsOn}
+use Rattle.marked_automaton.proofs.Growing.{flagged_below, grows_weaker, search_more}
 use Rattle.marked_automaton.proofs.reach.Search.follow_all.Goals as goal
+use Rattle.marked_automaton.proofs.reach.Search.follow_all.Goals.{After-as_slice}
 
-pub follow-requires : goal.follow-requires
-follow-requires c = λ e h. omega (arith, c.requires.within e (c.edges_from.ensures.within e h).0, c.loop-node.invariant.len)
+there : (c : After-as_slice) → slice_get c.args.targets.now c.in-Some.node ≡ Some c.index-targets-node.result
+there c =
+    let found = c.loop-node.self.found.items in
+    let node = c.in-Some.node in
+    let waits = subst (λ ps. Has ps node) (sym c.in-Some.ensures.items) (Has-append_right c.pop.new.self.items (node ∷ []) node (inl refl)) in
+    let within : node < length c.args.targets.now = omega (arith, flagged_below found node (c.loop-node.invariant.waiting node waits), c.requires.nodes, c.loop-node.invariant.len) in
+    slice_get-get_or c.args.targets.now node c.index-targets-node.result within ∙ ap Some (sym c.index-targets-node.is)
+
+pub bounds-targets-node : goal.bounds-targets-node
+bounds-targets-node c =
+    let found = c.loop-node.self.found.items in
+    let node = c.in-Some.node in
+    let waits = subst (λ ps. Has ps node) (sym c.in-Some.ensures.items) (Has-append_right c.pop.new.self.items (node ∷ []) node (inl refl)) in
+    omega (arith, flagged_below found node (c.loop-node.invariant.waiting node waits), c.requires.nodes, c.loop-node.invariant.len)
+
+pub find_all-requires : goal.find_all-requires
+find_all-requires c = λ q h.
+    let within = c.requires.within c.in-Some.node c.index-targets-node.result (there (goal.at.find_all-requires c).After-as_slice) q (subst (λ qs. Has qs q) c.as_slice.ensures.value h) in
+    omega (arith, within, c.loop-node.invariant.len)
 
 pub loop-node-preserved : goal.loop-node-preserved
 loop-node-preserved c =
-    let edges = c.args.edges.now in
+    let at = there (goal.at.loop-node-preserved c).After-as_slice in
+    let node = c.in-Some.node in
+    let list = c.index-targets-node.result in
     let s1 = c.loop-node.self in
-    let s2 = c.follow.new.self in
-    let g = c.in_ok-follow.ensures.grows in
+    let s2 = c.find_all.new.self in
+    let left = c.pop.new.self.items in
+    let g = subst (λ qs. Grows (Has qs) s1.found.items left s2.found.items s2.waiting.items) c.as_slice.ensures.value c.in_ok-find_all.ensures.grows in
     record {
       len = g.len ∙ c.loop-node.invariant.len;
-      search = λ seeds s.
-          search_more edges seeds s1.found.items s2.found.items c.pop.new.self.items s2.waiting.items c.in-Some.node c.edges_from.result.now
-          c.edges_from.ensures.within c.edges_from.ensures.all
-          (subst (λ w. IsSearch edges seeds s1.found.items w) c.in-Some.ensures.items (c.loop-node.invariant.search seeds s)) g c.in_ok-follow.ensures.found;
+      waiting = λ p h. elim (g.flagged p h) [
+        | inl a ↦ g.kept p (c.loop-node.invariant.waiting p (subst (λ ps. Has ps p) (sym c.in-Some.ensures.items) (Has-append_left left (node ∷ []) p a)))
+        | inr b ↦ b
+      ];
+      search = λ edges seeds exact s.
+          search_more edges seeds s1.found.items s2.found.items left s2.waiting.items node
+          (subst (λ w. IsSearch edges seeds s1.found.items w) c.in-Some.ensures.items (c.loop-node.invariant.search edges seeds exact s))
+          (grows_weaker (Has list.items) (LeadsOn edges node) (λ q h. (exact node list at q).0 h) s1.found.items s2.found.items left s2.waiting.items g)
+          (λ e h from. c.in_ok-find_all.ensures.found e.to (subst (λ qs. Has qs e.to) (sym c.as_slice.ensures.value) ((exact node list at e.to).1 (e, h, from, refl))));
     }
 
 pub loop-node-smaller : goal.loop-node-smaller
 loop-node-smaller c =
-    let g = c.in_ok-follow.ensures.grows in
+    let g = c.in_ok-find_all.ensures.grows in
     let len : length (c.pop.new.self.items ++ c.in-Some.node ∷ []) ≡ length c.pop.new.self.items + 1 = length-append c.pop.new.self.items (c.in-Some.node ∷ []) in
     omega (arith, g.work, len, ap length c.in-Some.ensures.items)

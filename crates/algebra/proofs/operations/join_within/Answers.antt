@@ -1,6 +1,6 @@
 use Rattle.algebra.proofs.JoinResults.{names_of, reached_of, reduct_of}
 use Rattle.algebra.proofs.Rejoined.{first_fault, first_join}
-use Rattle.algebra.proofs.operations.join.Goals as goal
+use Rattle.algebra.proofs.operations.join_within.Goals as goal
 
 pub returns-then-is_grouped-clause-names : goal.returns-then-is_grouped-clause-names
 returns-then-is_grouped-clause-names c = names_of c.args.a.now c.args.b.now c.join_to.result c.join_to.ensures.join
