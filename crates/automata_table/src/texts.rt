@@ -144,7 +144,9 @@ pub const LARGE: &str = r"/^(a{1000}){19}a{999}$/
 /(a{1000}){10}/ union /(a{1000}){10}/
 let big = /(a{1000}){20}/; /a/
 let half = /(a{1000}){10}/; let whole = half union half; /a/
-let half = /(a{1000}){9}/; let same = half; half union same";
+let half = /(a{1000}){9}/; let same = half; half union same
+let a = /^(a?){1000}(a?){999}$/; let b = /^(b?){1000}(b?){999}$/; let c = /^(c?){1000}(c?){999}$/; a union b union c
+let a = /^(a?){1000}(a?){999}$/; let b = /^(b?){1000}(b?){999}$/; let c = /^(c?){1000}(c?){999}$/; (/^$/ join a) union (/^$/ join b) union (/^$/ join c)";
 
 /// How many `let`s the text of `unused_lets` has.
 const UNUSED_LETS: u32 = 100;

@@ -75,15 +75,15 @@ asked_sub q n kept e a = record { sound = a.sound; sound_expr = a.sound_expr.0; 
 abbrev pub IsFine : ExprTree → Type 0
 IsFine e = KeepsInOrder e × HasSmallAtoms e
 
-union_fine : (es : List ExprTree) → ((e : ExprTree) → Has es e → IsFine e) → IsFine (union_all es)
+pub union_fine : (es : List ExprTree) → ((e : ExprTree) → Has es e → IsFine e) → IsFine (union_all es)
 union_fine [] h = (tt, tt)
 union_fine (e ∷ es) h = let rest = union_fine es (λ g i. h g (inr i)) in let this = h e (inl refl) in ((this.0, rest.0), (this.1, rest.1))
 
-join_fine : (es : List ExprTree) → ((e : ExprTree) → Has es e → IsFine e) → IsFine (join_all es)
+pub join_fine : (es : List ExprTree) → ((e : ExprTree) → Has es e → IsFine e) → IsFine (join_all es)
 join_fine [] h = (tt, tt)
 join_fine (e ∷ es) h = let rest = join_fine es (λ g i. h g (inr i)) in let this = h e (inl refl) in ((this.0, rest.0), (this.1, rest.1))
 
-fine_more : (es : List ExprTree) (k : ℕ) (y : ExprTree) → slice_get es k ≡ Some y → ((e : ExprTree) → Has (take k es) e → IsFine e) → IsFine y → (e : ExprTree) → Has (take (k + 1) es) e → IsFine e
+pub fine_more : (es : List ExprTree) (k : ℕ) (y : ExprTree) → slice_get es k ≡ Some y → ((e : ExprTree) → Has (take k es) e → IsFine e) → IsFine y → (e : ExprTree) → Has (take (k + 1) es) e → IsFine e
 fine_more es k y at h g e i =
     elim (Has-append_cases (take k es) (y ∷ []) e (subst (λ (zs : List ExprTree). Has zs e) (take_at_more es k y at) i)) as (λ _. IsFine e) [
       | inl a ↦ h e a
@@ -152,7 +152,7 @@ module _ (q : QueryTree) (lets : List (Option Marked)) (known : AreCompiled q le
   pub shape : IsSound q → (e : ExprTree) → IsSoundExpr V N e → KeepsInOrder e → IsFor [] (VarOf V e) (Answer V Lets [] e) (automaton_of L e)
   shape sound e s g =
       expr_for [] (λ i b at. absurd (cc)) N V Lets L
-      (lets_for [] (λ i b at. absurd (cc)) q.lets sound.sound_lets N known.few (λ k l b at. (known.keep k l b at).0) N (omega arith)) (told_lets q.lets N) e s g
+      (lets_for [] (λ i b at. absurd (cc)) q.lets sound.sound_lets N known.few (λ k l b at. known.keep.0 l (Has-slice_get q.lets k l at)) N (omega arith)) (told_lets q.lets N) e s g
 
   -- a variable of the expression is a name of the query
   pub var_name : (e : ExprTree) → IsAsked q N e → (x : VarName) → VarOf V e x → NameOf q x

@@ -5,5 +5,6 @@ pub mod Names
 pub mod PartLaws
 pub mod PieceLaws
 pub mod QueryWords
+pub mod SizeLaws
 pub mod UseLaws
 pub mod Words

@@ -1,10 +1,10 @@
 -- What expressions name, and until when their lets are kept.
-use Rattle.std.proofs.Common.{◌≡◌, ℕ, suc, ◌+◌, ◌-◌, ◌<◌, ◌≤◌, max, ◌⊎◌, ◌↔◌, List, [], ◌∷◌, ◌++◌, length, take, replicate, Option, Some, IsNone, inl, inr, refl, sym, ap, subst, arith, ◌∙◌}
+use Rattle.std.proofs.Common.{◌≡◌, ℕ, suc, ◌+◌, ◌-◌, ◌<◌, ◌≤◌, max, ◌⊎◌, ◌↔◌, List, [], ◌∷◌, ◌++◌, length, take, replicate, get_or, Option, Some, IsNone, inl, inr, refl, sym, ap, subst, arith, ◌∙◌}
 use Rattle.std.specs.Prelude.{slice_get, slice_index, slice_set}
 use Rattle.std.proofs.Math.Seq.{take-nil}
 use Rattle.std.proofs.lemmas.Bool.{cases_lt}
 use Rattle.std.proofs.lemmas.List.{length-set, length-replicate, get_or-replicate, get_or_past, get_or-set_same, get_or-set_other}
-use Rattle.std.proofs.lemmas.Option.{slice_get_within}
+use Rattle.std.proofs.lemmas.Option.{slice_get_within, slice_get-get_or, get_or_from_slice_get}
 use Rattle.spanner_model.specs.Lists.{Has}
 use Rattle.spanner_model.specs.declared.expression.Expr.{Expr}
 use Rattle.spanner_model.specs.declared.expression.Expr.TheVariants.{Named, Union, Join}
@@ -17,10 +17,11 @@ use Rattle.spanner_model.proofs.Nodes.{expr_nodes}
 use Rattle.spanner_model.proofs.TreeLaws.{take_at_more}
 use Rattle.spanner_model.specs.Captures.{VarName}
 use Rattle.spanner_model.specs.Expression.{ExprTree, QueryTree, atom, named, union_end, union, join_end, join, project, union_all, join_all}
-use Rattle.spanner_model.specs.Sound.{IsSoundExpr, AreUnited, AreJoined}
+use Rattle.spanner_model.specs.Answer.{vars_of_lets}
+use Rattle.spanner_model.specs.Sound.{IsSound, IsSoundExpr, AreUnited, AreJoined}
 use Rattle.marked_automaton.specs.Automaton.{Marked}
 use Rattle.spanner_engine.specs.Compiling.{kept_at}
-use Rattle.spanner_engine.specs.Uses.{Names, SomeNames, NamesAt, IsNamedFrom, AreLastUses, IsNoted}
+use Rattle.spanner_engine.specs.Uses.{Names, SomeNames, NamesAt, NeedsAt, IsNeeded, body_needed, let_needed, IsNamedFrom, AreLastUses, IsNoted}
 
 -- ---- what expressions name
 
@@ -117,6 +118,10 @@ named_before q n k h = (h.0, omega (arith, h.1), h.2)
 pub last_from : (q : QueryTree) (last : List ℕ) (n k : ℕ) → AreLastUses q last → IsNamedFrom q n k → n ≤ slice_index last k
 last_from q last n k uses h = omega (arith, h.1, uses.no_later h.0 k h.2)
 
+-- a let that has a last use is needed
+pub used_needed : (q : QueryTree) (last : List ℕ) (k : ℕ) → AreLastUses q last → (slice_index last k ≡ 0 → ⊥) → IsNeeded q k
+used_needed q last k uses used = elim (uses.named k) as (λ _. IsNeeded q k) [ inl e ↦ absurd (used e) | inr m ↦ let_needed m.0 m.1 ]
+
 -- ---- noting uses
 
 pub noted_as : (P Q : ℕ → Type 0) (n : ℕ) (xs ys : List ℕ) → ((k : ℕ) → P k ↔ Q k) → IsNoted Q n xs ys → IsNoted P n xs ys
@@ -193,18 +198,64 @@ body_names q n end k = (
   λ m. inr (end, m),
 )
 
--- the uses in the first n expressions are noted, and nothing else is
-pub record UsesSoFar (q : QueryTree) (n : ℕ) (last : List ℕ) : Type 0 where
-  pub long : length last ≡ length q.lets
-  pub no_later : (j k : ℕ) → j < n → NamesAt q j k → j ≤ slice_index last k
-  pub named : (k : ℕ) → (slice_index last k ≡ 0) ⊎ NamesAt q (slice_index last k) k
+-- it names lets before it
+names_before : (q : QueryTree) → IsSound q → (n k : ℕ) → NamesAt q n k → k < n
+names_before q sound n k m =
+    elim m as (λ _. k < n) [
+      | inl a ↦ names_below (vars_of_lets q.lets n) n a.0.1 k (sound.sound_lets n a.0 a.1).0 a.2
+      | inr b ↦ omega (arith, b.0, names_below (vars_of_lets q.lets (length q.lets)) (length q.lets) q.body k sound.sound_body.0 b.1)
+    ]
 
-pub none_so_far : (q : QueryTree) (xs last : List ℕ) (n m : ℕ) → n ≡ length q.lets → xs ≡ [] → m ≡ 0 → last ≡ take n xs ++ replicate (n - m) 0 → UsesSoFar q 0 last
-none_so_far q xs last n m long none zero_long is = record {
-  long = ap length zeros ∙ (length-replicate n 0 ∙ long);
-  no_later = λ j k less m. absurd (omega (arith, less));
-  named = λ k. inl (ap (λ (ys : List ℕ). slice_index ys k) zeros ∙ zero_at n k);
+-- ---- what is needed
+
+needed_cases : (q : QueryTree) (k : ℕ) → IsNeeded q k → (k ≡ length q.lets) ⊎ ((n : ℕ) × NeedsAt q n k)
+needed_cases q _ body_needed = inl refl
+needed_cases q _ (let_needed {n} {k} h m) = inr (n, (h, m))
+
+-- the uses in the needed expressions from number n on are noted, and nothing else is
+pub record UsesFrom (q : QueryTree) (n : ℕ) (last : List ℕ) : Type 0 where
+  pub long : length last ≡ length q.lets
+  pub no_later : (j k : ℕ) → n ≤ j → NeedsAt q j k → j ≤ slice_index last k
+  pub named : (k : ℕ) → (slice_index last k ≡ 0) ⊎ NeedsAt q (slice_index last k) k
+
+none_from : (q : QueryTree) (last : List ℕ) (n : ℕ) → n ≡ length q.lets → last ≡ replicate n 0 → UsesFrom q (n + 1) last
+none_from q last n end zeros = record {
+  long = ap length zeros ∙ (length-replicate n 0 ∙ end);
+  no_later = λ j k le m. absurd (elim m.1 as (λ _. ⊥) [ inl a ↦ omega (arith, le, end, slice_get_within q.lets j a.0 a.1) | inr b ↦ omega (arith, le, end, b.0) ]);
+  named = λ k. inl (ap (λ (ys : List ℕ). slice_index ys k) zeros ∙ zero_at k);
 }
+  where
+    zero_at : (k : ℕ) → slice_index (replicate n 0) k ≡ 0
+    zero_at k = elim (cases_lt k n) as (λ _. slice_index (replicate n 0) k ≡ 0) [
+      | inl less ↦ get_or-replicate n k 0 0 less
+      | inr le ↦ get_or_past (replicate n 0) k 0 (omega (arith, le, length-replicate {A = ℕ} n 0))
+    ]
+
+-- what a needed expression names is noted
+pub one_use_more : (q : QueryTree) (n : ℕ) (P : ℕ → Type 0) (last new : List ℕ) → ((k : ℕ) → NamesAt q n k ↔ P k) → IsNeeded q n → UsesFrom q (n + 1) last → IsNoted P n last new →
+    UsesFrom q n new
+one_use_more q n P last new names needed s noted = record { long = noted.long ∙ s.long; no_later = no_later; named = named_there }
+  where
+    no_later : (j k : ℕ) → n ≤ j → NeedsAt q j k → j ≤ slice_index new k
+    no_later j k le h =
+        elim (cases_lt n j) as (λ _. j ≤ slice_index new k) [
+          | inl behind ↦ omega (arith, s.no_later j k (omega (arith, behind)) h, noted.no_less k)
+          | inr ge ↦
+              let same : j ≡ n = omega (arith, ge, le) in
+              omega (arith, same, noted.noted k ((names k).0 (subst (λ i. NamesAt q i k) same h.1)))
+        ]
+
+    named_there : (k : ℕ) → (slice_index new k ≡ 0) ⊎ NeedsAt q (slice_index new k) k
+    named_there k =
+        elim (noted.no_more k) as (λ _. (slice_index new k ≡ 0) ⊎ NeedsAt q (slice_index new k) k) [
+          | inl same ↦ subst (λ i. (i ≡ 0) ⊎ NeedsAt q i k) (sym same) (s.named k)
+          | inr c ↦ inr (subst (λ i. NeedsAt q i k) (sym c.0) (needed, (names k).1 c.1))
+        ]
+
+-- the body's uses, before any other
+pub body_uses : (q : QueryTree) (xs last new : List ℕ) (n m : ℕ) → n ≡ length q.lets → xs ≡ [] → m ≡ 0 → last ≡ take n xs ++ replicate (n - m) 0 → IsNoted (Names q.body) n last new → UsesFrom q n new
+body_uses q xs last new n m end none zero_long is noted =
+    one_use_more q n (Names q.body) last new (body_names q n end) (subst (λ i. IsNeeded q i) (sym end) body_needed) (none_from q last n end zeros) noted
   where
     all : n - m ≡ n
     all = omega (arith, zero_long)
@@ -212,39 +263,34 @@ none_so_far q xs last n m long none zero_long is = record {
     zeros : last ≡ replicate n 0
     zeros = is ∙ (ap (λ k. take n xs ++ replicate k 0) all ∙ (ap (λ (ys : List ℕ). take n ys ++ replicate n 0) none ∙ ap (λ (ys : List ℕ). ys ++ replicate n 0) (take-nil n)))
 
-    zero_at : (i k : ℕ) → slice_index (replicate i 0) k ≡ 0
-    zero_at i k = elim (cases_lt k i) as (λ _. slice_index (replicate i 0) k ≡ 0) [
-      | inl less ↦ get_or-replicate i k 0 0 less
-      | inr le ↦ get_or_past (replicate i 0) k 0 (omega (arith, le, length-replicate {A = ℕ} i 0))
-    ]
+-- a let that is noted is needed
+pub noted_needed : (q : QueryTree) (n : ℕ) (last : List ℕ) → UsesFrom q (n + 1) last → 0 < slice_index last n → IsNeeded q n
+noted_needed q n last s more = elim (s.named n) as (λ _. IsNeeded q n) [ inl e ↦ absurd (omega (arith, e, more)) | inr m ↦ let_needed m.0 m.1 ]
 
--- what the next expression names is noted
-pub one_use_more : (q : QueryTree) (n : ℕ) (P : ℕ → Type 0) (last new : List ℕ) → ((k : ℕ) → NamesAt q n k ↔ P k) → UsesSoFar q n last → IsNoted P n last new →
-    UsesSoFar q (n + 1) new
-one_use_more q n P last new names s noted = record { long = noted.long ∙ s.long; no_later = no_later; named = named_there }
-  where
-    no_later : (j k : ℕ) → j < n + 1 → NamesAt q j k → j ≤ slice_index new k
-    no_later j k less h =
-        elim (cases_lt j n) as (λ _. j ≤ slice_index new k) [
-          | inl before ↦ omega (arith, s.no_later j k before h, noted.no_less k)
-          | inr le ↦
-              let same : j ≡ n = omega (arith, less, le) in
-              omega (arith, same, noted.noted k ((names k).0 (subst (λ i. NamesAt q i k) same h)))
-        ]
-
-    named_there : (k : ℕ) → (slice_index new k ≡ 0) ⊎ NamesAt q (slice_index new k) k
-    named_there k =
-        elim (noted.no_more k) as (λ _. (slice_index new k ≡ 0) ⊎ NamesAt q (slice_index new k) k) [
-          | inl same ↦ subst (λ i. (i ≡ 0) ⊎ NamesAt q i k) (sym same) (s.named k)
-          | inr c ↦ inr (subst (λ i. NamesAt q i k) (sym c.0) ((names k).1 c.1))
-        ]
-
-pub all_uses : (q : QueryTree) (last : List ℕ) (n : ℕ) → n ≡ length q.lets → UsesSoFar q (n + 1) last → AreLastUses q last
-all_uses q last n end s = record {
+-- one that is not is not, and its own names count for nothing
+pub no_use_more : (q : QueryTree) → IsSound q → (n : ℕ) (last : List ℕ) → n < length q.lets → UsesFrom q (n + 1) last → slice_index last n ≡ 0 → UsesFrom q n last
+no_use_more q sound n last within s none = record {
   long = s.long;
-  no_later = λ j k m. s.no_later j k (elim m as (λ _. j < n + 1) [ inl a ↦ omega (arith, end, slice_get_within q.lets j a.0 a.1) | inr b ↦ omega (arith, end, b.0) ]) m;
+  no_later = λ j k le h. elim (cases_lt n j) as (λ _. j ≤ slice_index last k) [
+    | inl behind ↦ s.no_later j k (omega (arith, behind)) h
+    | inr ge ↦ let same : j ≡ n = omega (arith, ge, le) in absurd (unneeded (subst (λ i. IsNeeded q i) same h.0))
+  ];
   named = s.named;
 }
+  where
+    unneeded : IsNeeded q n → ⊥
+    unneeded h =
+        elim (needed_cases q n h) as (λ _. ⊥) [
+          | inl e ↦ omega (arith, e, within)
+          | inr m ↦ let behind = names_before q sound m.0 n m.1.1 in omega (arith, behind, none, s.no_later m.0 n (omega (arith, behind)) m.1)
+        ]
+
+-- what is read at a place
+pub read_at : (xs : List ℕ) (k u : ℕ) → k < length xs → u ≡ get_or xs k u → slice_index xs k ≡ u
+read_at xs k u within is = get_or_from_slice_get xs k u 0 (slice_get-get_or xs k u within ∙ ap Some (sym is))
+
+pub all_uses : (q : QueryTree) (last : List ℕ) (n : ℕ) → n ≡ 0 → UsesFrom q n last → AreLastUses q last
+all_uses q last n zero s = record { long = s.long; no_later = λ j k m. s.no_later j k (omega (arith, zero)) m; named = s.named }
 
 -- ---- letting go
 

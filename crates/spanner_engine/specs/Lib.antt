@@ -1,7 +1,9 @@
 pub mod Compiling
+pub mod Excess
 pub mod Kept
 pub mod Laws
 pub mod Parts
 pub mod QueryAutomaton
+pub mod Sizes
 pub mod Uses
 pub mod Weights

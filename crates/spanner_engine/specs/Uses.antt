@@ -1,4 +1,5 @@
--- Which lets an expression names, and which expression of a query is the last to name one.
+-- Which lets an expression names, which lets the body of a query needs, and which expression is the last
+-- to name one.
 --   The lets have their numbers, and the body has the number of lets.
 use Rattle.std.specs.Prelude.{◌≡◌, ℕ, ◌≤◌, ◌⊎◌, List, length, slice_get, slice_index, Some}
 use Rattle.spanner_model.specs.Captures.{VarName}
@@ -25,16 +26,25 @@ NamesAt q n k =
     ((l : VarName × ExprTree) × (slice_get q.lets n ≡ Some l) × Names l.1 k)
     ⊎ ((n ≡ length q.lets) × Names q.body k)
 
+-- the expression of this number is needed: it is the body, or a let that a needed expression names
+pub data IsNeeded (q : QueryTree) : ℕ → Type 0 where
+  body_needed : IsNeeded q (length q.lets)
+  let_needed : {n k : ℕ} → IsNeeded q n → NamesAt q n k → IsNeeded q k
+
+-- the expression of number n is needed, and names let k
+abbrev pub NeedsAt : QueryTree → ℕ → ℕ → Type 0
+NeedsAt q n k = IsNeeded q n × NamesAt q n k
+
 -- that expression does, or one that follows it
 abbrev pub IsNamedFrom : QueryTree → ℕ → ℕ → Type 0
-IsNamedFrom q n k = (j : ℕ) × (n ≤ j) × NamesAt q j k
+IsNamedFrom q n k = (j : ℕ) × (n ≤ j) × NeedsAt q j k
 
--- no expression that names a let has a number above the let's last one,
--- and each is the number of an expression that names the let, or 0
+-- no needed expression that names a let has a number above the let's last one,
+-- and each is the number of a needed expression that names the let, or 0
 pub record AreLastUses (q : QueryTree) (last : List ℕ) : Type 0 where
   pub long : length last ≡ length q.lets
-  pub no_later : (n k : ℕ) → NamesAt q n k → n ≤ slice_index last k
-  pub named : (k : ℕ) → (slice_index last k ≡ 0) ⊎ NamesAt q (slice_index last k) k
+  pub no_later : (n k : ℕ) → NeedsAt q n k → n ≤ slice_index last k
+  pub named : (k : ℕ) → (slice_index last k ≡ 0) ⊎ NeedsAt q (slice_index last k) k
 
 -- these numbers are no less than before, and at least n where a let is named;
 -- and each is what it was before, or n where the let is named

@@ -3,8 +3,10 @@
 
 pub use compiled::{Compiled, compile};
 
+mod budget;
 mod compiled;
 mod expressions;
 pub mod laws;
 mod shared;
+mod sizes;
 mod uses;

@@ -1,18 +1,24 @@
-//! Which expression of a query is the last to name a `let`.
-ghost use Rattle.std.specs.Prelude.{◌≡◌, ℕ, ◌<◌, ◌≤◌, IfOk, IsNone, length, slice_index};
+//! Which `let`s the body of a query needs, and until when.
+ghost use Rattle.std.specs.Prelude.{◌≡◌, ℕ, ◌<◌, ◌≤◌, IfOk, IsNone, IsTrue, length, slice_index};
 ghost use Rattle.spanner_model.specs.ExprView.{expr_of, exprs_of, query_of};
 ghost use Rattle.spanner_model.specs.Sound.{IsSound};
-ghost use Rattle.spanner_engine.specs.Compiling.{kept_at};
+ghost use Rattle.spanner_engine.specs.Compiling.{IsAtom, kept_at};
 ghost use Rattle.spanner_engine.specs.Uses.{AreLastUses, IsNoted, Names, SomeNames};
 
+use crate::budget::size_of;
 use crate::shared::Shared;
+use place_automaton::count;
 use span_core::OutOfMemory;
 use spanner_model::{Expr, Exprs, Query};
 use std::alloc::Global;
 
-/// For each `let` the number of the last expression that names it, neither less nor more, so that no `let`
-/// is kept longer than it is needed; and 0 where none does, since the expression of number 0 names no `let`.
-/// The `let`s have their numbers, counted from 0, and the body has the number of `let`s.
+/// For each `let` the number of the last expression that names it, of the body and the `let`s that it
+/// needs, so that no `let` is kept longer than it is needed; and 0 where none of them does, since the
+/// expression of number 0 names no `let`. The `let`s have their numbers, counted from 0, and the body has
+/// the number of `let`s.
+///
+/// It goes from the body backwards. A `let` names only `let`s before it, so that all which name a `let`
+/// have been met when its turn comes, and whether it is needed is known by then.
 pub fn last_uses(alloc: Global, query: &Query) -> Result<Vec<usize>, OutOfMemory>
     requires { IsSound (query_of query.now) }
     ensures { IfOk result (λ last. AreLastUses (query_of query.now) last.items) }
@@ -20,10 +26,14 @@ pub fn last_uses(alloc: Global, query: &Query) -> Result<Vec<usize>, OutOfMemory
     let count = query.lets.len();
     let mut last = Vec::new(alloc);
     last.resize(count, 0)?;
-    for k in 0..count {
-        note_uses(&query.lets.at(k).1, k, &mut last);
-    }
     note_uses(&query.body, count, &mut last);
+    let mut left = count;
+    while left > 0 {
+        left -= 1;
+        if last[left] > 0 {
+            note_uses(&query.lets.at(left).1, left, &mut last);
+        }
+    }
     Ok(last)
 }
 
@@ -66,4 +76,38 @@ pub fn let_go(lets: &mut [Option<Shared>], last: &[usize], number: usize)
             lets[k] = None;
         }
     }
+}
+
+/// The most states, ways and ends of `let`s that are held at once: some 110 MB.
+const MOST_HELD: u64 = 2_500_000;
+
+/// Whether a `let` of this expression is left to be made wherever it is named: where it is an atom, and
+/// there is no room for it beside those that are held.
+pub fn is_left(expr: &Expr, lets: &[Option<Shared>]) -> bool
+    ensures { IsTrue result → IsAtom (expr_of expr.now) }
+{
+    match expr {
+        Expr::Atom(atom) => {
+            let counts = count(atom);
+            !has_room(lets, counts.states.saturating_add(counts.ways))
+        }
+        Expr::Named(_) | Expr::Union(_) | Expr::Join(_) | Expr::Project(_, _) => false,
+    }
+}
+
+/// Whether there is room for so many states, ways and ends beside those that are held.
+pub fn has_room(lets: &[Option<Shared>], size: u64) -> bool
+    ensures { IsTrue result → size ≤ 2500000 }
+{
+    held(lets).saturating_add(size) <= MOST_HELD
+}
+
+/// How many states, ways and ends are held, those of an automaton with several owners once.
+fn held(lets: &[Option<Shared>]) -> u64 {
+    let mut all: u64 = 0;
+    for automaton in lets.iter().flatten() {
+        let size = size_of(automaton.as_automaton());
+        all = all.saturating_add(size / automaton.owners() as u64);
+    }
+    all
 }

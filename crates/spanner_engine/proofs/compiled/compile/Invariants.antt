@@ -3,5 +3,5 @@ use Rattle.spanner_model.specs.ExprView.{query_of}
 use Rattle.spanner_engine.specs.Compiling.{AreCompiled}
 use Rattle.spanner_engine.proofs.compiled.compile.Given as goal
 
-abbrev pub invariant-loop-k : goal.invariant-loop-k
-invariant-loop-k l = (length l.lets.items ≡ l.k) × AreCompiled (query_of l.query) l.lets.items
+abbrev pub invariant-loop-let : goal.invariant-loop-let
+invariant-loop-let l = (length l.lets.items ≡ l._let) × AreCompiled (query_of l.query) l.lets.items × (l.budget.excess ≡ l.initial.budget.excess)

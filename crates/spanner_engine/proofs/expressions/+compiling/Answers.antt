@@ -1,4 +1,4 @@
-use Rattle.std.proofs.Common.{◌≡◌, ◌<◌, List, length, Some, None, IfOk, IfErr, sym, ap, ◌∙◌, subst, arith}
+use Rattle.std.proofs.Common.{◌≡◌, ◌<◌, ◌⊎◌, List, length, Some, None, IfOk, IfErr, inl, refl, sym, ap, ◌∙◌, subst, arith}
 use Rattle.std.proofs.lemmas.Option.{slice_get-get_or, get_or_from_slice_get}
 use Rattle.spanner_model.specs.Captures.{VarName}
 use Rattle.spanner_model.specs.View.{tree_of}
@@ -12,21 +12,20 @@ use Rattle.spanner_model.proofs.ExprTrees.{expr_of-Atom, expr_of-Named, expr_of-
 use Rattle.marked_automaton.specs.Automaton.{Marked}
 use Rattle.marked_automaton.specs.Reduct.{Reduces}
 use Rattle.marked_automaton.proofs.Reducts.{reduct_of_reduct}
-use Rattle.marked_automaton.proofs.Rearranged.{rearranged_reduces}
-use Rattle.place_automaton.specs.Words.{atom_automaton}
 use Rattle.algebra.specs.JoinedMarks.{agree_on, joined}
 use Rattle.algebra.specs.Operations.{join_of}
 use Rattle.spanner_engine.specs.Compiling.{IsAsked, IsCompiledFrom, kept_at}
 use Rattle.spanner_engine.specs.Parts.{HasLargePartOf}
 use Rattle.spanner_engine.specs.QueryAutomaton.{of_lets}
 use Rattle.spanner_engine.proofs.CompileLaws.{asked_united, asked_joined, asked_sub, union_first, union_names, union_next, union_fault, union_done, union_part_fault, join_first, join_few, join_next, join_fault, join_done, join_part_fault, join_at, SoFar}
-use Rattle.spanner_engine.proofs.PieceLaws.{atom_made, atom_small, atom_fault, atom_few, kept_there, projected}
+use Rattle.spanner_engine.proofs.PartLaws.{sum_map, still_refused}
+use Rattle.spanner_engine.proofs.PieceLaws.{atom_few, kept_there, left_is_atom, projected, projection_fault}
 use Rattle.spanner_engine.proofs.expressions.+compiling.Goals as goal
 
 -- ---- one expression
 
-pub expr_automaton-of_atom-requires : goal.expr_automaton-of_atom-requires
-expr_automaton-of_atom-requires t c =
+pub expr_automaton-atom_automaton-requires : goal.expr_automaton-atom_automaton-requires
+expr_automaton-atom_automaton-requires t c =
     let q = query_of c.args.query.now in
     let n = length c.args.lets.now in
     let a = c.in-Atom.atom in
@@ -37,33 +36,14 @@ expr_automaton-of_atom-requires t c =
 
 pub expr_automaton-returns-in-Err-clause-fault : goal.expr_automaton-returns-in-Err-clause-fault
 expr_automaton-returns-in-Err-clause-fault t c =
-    let q = query_of c.args.query.now in
-    let n = length c.args.lets.now in
-    let a = c.in-Atom.atom in
-    let f = tree_of a.formula in
-    let e = ap expr_of c.in-Atom.is ∙ expr_of-Atom a in
-    let asked = subst (IsAsked q n) e c.requires.asked in
-    subst (λ (w : ExprTree). HasLargePartOf (of_lets q.lets n) w c.in-Err.fault) (sym e)
-    (atom_fault a.from_start a.to_end f asked.sound_expr.0 asked.sound_expr.1 (of_lets q.lets n) c.in-Err.fault c.in-Err.ensures.err)
+    let L = of_lets (query_of c.args.query.now).lets (length c.args.lets.now) in
+    subst (λ (w : ExprTree). HasLargePartOf L w c.in-Err.fault ⊎ (c.args.budget.now.excess ≡ Some c.in-Err.fault)) (sym (ap expr_of c.in-Atom.is ∙ expr_of-Atom c.in-Atom.atom))
+    (sum_map (λ h. h L) c.in-Err.ensures.fault)
 
-pub expr_automaton-returns-in_ok-new-in-Atom-clause-made : goal.expr_automaton-returns-in_ok-new-in-Atom-clause-made
-expr_automaton-returns-in_ok-new-in-Atom-clause-made t c =
-    let q = query_of c.args.query.now in
-    let n = length c.args.lets.now in
-    let a = c.in-Atom.atom in
-    let f = tree_of a.formula in
-    let e = ap expr_of c.in-Atom.is ∙ expr_of-Atom a in
-    let asked = subst (IsAsked q n) e c.requires.asked in
-    let whole = c.in-Ok.whole in
-    let left = c.in_ok-useful-in-Atom.useful in
-    let of = c.in-Ok.ensures in
-    subst (λ (a : Marked). IsCompiledFrom q n (expr_of c.args.expr.now) a) (sym c.in_ok-new-in-Atom.ensures)
-    (subst (λ (w : ExprTree). IsCompiledFrom q n w left) (sym e) (record {
-      reduces = atom_made a.from_start a.to_end f asked.sound_expr.0 asked.sound_expr.1 whole left of.names.0 of.names.1
-          (rearranged_reduces whole.graph (atom_automaton whole.names a.from_start a.to_end f) of.reduct) c.in_ok-useful-in-Atom.ensures.names c.in_ok-useful-in-Atom.ensures.reduct;
-      keeps = tt;
-      small = atom_small a.from_start a.to_end f asked.sound_expr.0 asked.sound_expr.1 of.small.0 of.small.1;
-    }))
+pub expr_automaton-returns-in-Ok-clause-made : goal.expr_automaton-returns-in-Ok-clause-made
+expr_automaton-returns-in-Ok-clause-made t c =
+    subst (λ (w : ExprTree). IsCompiledFrom (query_of c.args.query.now) (length c.args.lets.now) w c.in-Ok.automaton) (sym (ap expr_of c.in-Atom.is ∙ expr_of-Atom c.in-Atom.atom))
+    (record { reduces = c.in-Ok.ensures.made; keeps = tt; small = c.in-Ok.ensures.small })
 
 pub expr_automaton-returns-in_ok-share-in-Some-clause-made : goal.expr_automaton-returns-in_ok-share-in-Some-clause-made
 expr_automaton-returns-in_ok-share-in-Some-clause-made t c =
@@ -78,6 +58,58 @@ expr_automaton-returns-in_ok-share-in-Some-clause-made t c =
     subst (λ (a : Marked). IsCompiledFrom q n (expr_of c.args.expr.now) a) (sym c.in_ok-share-in-Some.ensures)
     (subst (λ (w : ExprTree). IsCompiledFrom q n w c.in-Some.automaton) (sym e)
     (record { reduces = c.requires.known.reduce k c.in-Some.automaton there; keeps = tt; small = tt }))
+
+pub expr_automaton-left_automaton-requires : goal.expr_automaton-left_automaton-requires
+expr_automaton-left_automaton-requires t c =
+    let q = query_of c.args.query.now in
+    let n = length c.args.lets.now in
+    let k = c.in-Named.k in
+    let asked = subst (IsAsked q n) (ap expr_of c.in-Named.is ∙ expr_of-Named k) c.requires.asked in
+    let u = c.index-lets-k.result in
+    let there : kept_at c.args.lets.now k ≡ None =
+    get_or_from_slice_get c.args.lets.now k u None (slice_get-get_or c.args.lets.now k u asked.sound_expr ∙ ap Some (sym c.index-lets-k.is)) ∙ c.in-None.is in
+    record { sound = asked.sound; atom = left_is_atom q c.args.lets.now k c.requires.known asked there }
+
+pub expr_automaton-returns-in-Ok-left_automaton-clause-made : goal.expr_automaton-returns-in-Ok-left_automaton-clause-made
+expr_automaton-returns-in-Ok-left_automaton-clause-made t c =
+    let q = query_of c.args.query.now in
+    let n = length c.args.lets.now in
+    let k = c.in-Named.k in
+    let e = ap expr_of c.in-Named.is ∙ expr_of-Named k in
+    let within : k < n = (subst (IsAsked q n) e c.requires.asked).sound_expr in
+    subst (λ (w : ExprTree). IsCompiledFrom q n w c.in-Ok-left_automaton.automaton) (sym e)
+    (record { reduces = c.in-Ok-left_automaton.ensures.made n within; keeps = tt; small = tt })
+
+pub expr_automaton-returns-in-Err-left_automaton-clause-fault : goal.expr_automaton-returns-in-Err-left_automaton-clause-fault
+expr_automaton-returns-in-Err-left_automaton-clause-fault t c =
+    let q = query_of c.args.query.now in
+    let n = length c.args.lets.now in
+    let k = c.in-Named.k in
+    let e = ap expr_of c.in-Named.is ∙ expr_of-Named k in
+    let within : k < n = (subst (IsAsked q n) e c.requires.asked).sound_expr in
+    let fault = c.in-Err-left_automaton.fault in
+    subst (λ (w : ExprTree). HasLargePartOf (of_lets q.lets n) w fault ⊎ (c.args.budget.now.excess ≡ Some fault)) (sym e)
+    (sum_map (λ h. h n within) c.in-Err-left_automaton.ensures.fault)
+
+pub expr_automaton-projected-requires : goal.expr_automaton-projected-requires
+expr_automaton-projected-requires t c =
+    let q = query_of c.args.query.now in
+    let n = length c.args.lets.now in
+    let g = expr_of c.deref.result.now in
+    let e = ap expr_of c.in-Project.is ∙ (expr_of-Project c.in-Project.kept c.in-Project.sub ∙ ap (λ x. project c.in-Project.kept (expr_of x)) (sym c.deref.ensures)) in
+    let a = subst (IsAsked q n) e c.requires.asked in
+    kept_there q c.args.lets.now c.requires.known c.in-Project.kept g a c.in-Ok-expr_automaton.inner c.in-Ok-expr_automaton.ensures.made
+
+pub expr_automaton-returns-in-Ok-projected-clause-made : goal.expr_automaton-returns-in-Ok-projected-clause-made
+expr_automaton-returns-in-Ok-projected-clause-made t c =
+    let q = query_of c.args.query.now in
+    let n = length c.args.lets.now in
+    let g = expr_of c.deref.result.now in
+    let e = ap expr_of c.in-Project.is ∙ (expr_of-Project c.in-Project.kept c.in-Project.sub ∙ ap (λ x. project c.in-Project.kept (expr_of x)) (sym c.deref.ensures)) in
+    let a = subst (IsAsked q n) e c.requires.asked in
+    let p = c.in-Ok-projected in
+    subst (λ (w : ExprTree). IsCompiledFrom q n w p.left) (sym e)
+    (projected q c.args.lets.now c.requires.known c.in-Project.kept g a c.in-Ok-expr_automaton.inner c.in-Ok-expr_automaton.ensures.made p.left c.len.ensures.ascending p.ensures.names p.ensures.reduct)
 
 pub expr_automaton-union_automaton-requires : goal.expr_automaton-union_automaton-requires
 expr_automaton-union_automaton-requires t c =
@@ -99,7 +131,7 @@ expr_automaton-returns-in-Union-clause-made t c =
 pub expr_automaton-returns-in-Union-clause-fault : goal.expr_automaton-returns-in-Union-clause-fault
 expr_automaton-returns-in-Union-clause-fault t c =
     let e = ap expr_of c.in-Union.is ∙ expr_of-Union c.in-Union.parts in
-    subst (λ (w : ExprTree). IfErr c.union_automaton.result (HasLargePartOf (of_lets (query_of c.args.query.now).lets (length c.args.lets.now)) w)) (sym e) c.union_automaton.ensures.fault
+    subst (λ (w : ExprTree). IfErr c.union_automaton.result (λ fault. HasLargePartOf (of_lets (query_of c.args.query.now).lets (length c.args.lets.now)) w fault ⊎ (c.args.budget.now.excess ≡ Some fault))) (sym e) c.union_automaton.ensures.fault
 
 pub expr_automaton-returns-in-Join-clause-made : goal.expr_automaton-returns-in-Join-clause-made
 expr_automaton-returns-in-Join-clause-made t c =
@@ -109,7 +141,7 @@ expr_automaton-returns-in-Join-clause-made t c =
 pub expr_automaton-returns-in-Join-clause-fault : goal.expr_automaton-returns-in-Join-clause-fault
 expr_automaton-returns-in-Join-clause-fault t c =
     let e = ap expr_of c.in-Join.is ∙ expr_of-Join c.in-Join.parts in
-    subst (λ (w : ExprTree). IfErr c.join_automaton.result (HasLargePartOf (of_lets (query_of c.args.query.now).lets (length c.args.lets.now)) w)) (sym e) c.join_automaton.ensures.fault
+    subst (λ (w : ExprTree). IfErr c.join_automaton.result (λ fault. HasLargePartOf (of_lets (query_of c.args.query.now).lets (length c.args.lets.now)) w fault ⊎ (c.args.budget.now.excess ≡ Some fault))) (sym e) c.join_automaton.ensures.fault
 
 pub expr_automaton-expr_automaton-requires : goal.expr_automaton-expr_automaton-requires
 expr_automaton-expr_automaton-requires t c =
@@ -118,28 +150,13 @@ expr_automaton-expr_automaton-requires t c =
     let a = subst (IsAsked (query_of c.args.query.now) (length c.args.lets.now)) e c.requires.asked in
     (omega (arith, size), (c.requires.known, asked_sub (query_of c.args.query.now) (length c.args.lets.now) c.in-Project.kept (expr_of c.deref.result.now) a))
 
-pub expr_automaton-project-requires : goal.expr_automaton-project-requires
-expr_automaton-project-requires t c =
-    let q = query_of c.args.query.now in
-    let n = length c.args.lets.now in
-    let g = expr_of c.deref.result.now in
+pub expr_automaton-returns-in-Err-expr_automaton-clause-fault : goal.expr_automaton-returns-in-Err-expr_automaton-clause-fault
+expr_automaton-returns-in-Err-expr_automaton-clause-fault t c =
     let e = ap expr_of c.in-Project.is ∙ (expr_of-Project c.in-Project.kept c.in-Project.sub ∙ ap (λ x. project c.in-Project.kept (expr_of x)) (sym c.deref.ensures)) in
-    let a = subst (IsAsked q n) e c.requires.asked in
-    kept_there q c.args.lets.now c.requires.known c.in-Project.kept g a c.as_automaton.result.now
-    (subst (λ (m : Marked). IsCompiledFrom q n g m) (sym c.as_automaton.ensures) c.in-Ok-expr_automaton.ensures.made)
-
-pub expr_automaton-returns-in_ok-new-in-Project-clause-made : goal.expr_automaton-returns-in_ok-new-in-Project-clause-made
-expr_automaton-returns-in_ok-new-in-Project-clause-made t c =
-    let q = query_of c.args.query.now in
-    let n = length c.args.lets.now in
-    let g = expr_of c.deref.result.now in
-    let e = ap expr_of c.in-Project.is ∙ (expr_of-Project c.in-Project.kept c.in-Project.sub ∙ ap (λ x. project c.in-Project.kept (expr_of x)) (sym c.deref.ensures)) in
-    let a = subst (IsAsked q n) e c.requires.asked in
-    let p = c.in_ok-left-in-Project in
-    let made = subst (λ (m : Marked). IsCompiledFrom q n g m) (sym c.as_automaton.ensures) c.in-Ok-expr_automaton.ensures.made in
-    subst (λ (m : Marked). IsCompiledFrom q n (expr_of c.args.expr.now) m) (sym c.in_ok-new-in-Project.ensures)
-    (subst (λ (w : ExprTree). IsCompiledFrom q n w p.left) (sym e)
-    (projected q c.args.lets.now c.requires.known c.in-Project.kept g a c.as_automaton.result.now made p.left c.len.ensures.ascending p.ensures.names p.ensures.reduct))
+    let L = of_lets (query_of c.args.query.now).lets (length c.args.lets.now) in
+    let fault = c.in-Err-expr_automaton.fault in
+    subst (λ (w : ExprTree). HasLargePartOf L w fault ⊎ (c.args.budget.now.excess ≡ Some fault)) (sym e)
+    (sum_map (projection_fault L c.in-Project.kept (expr_of c.deref.result.now) fault) c.in-Err-expr_automaton.ensures.fault)
 
 -- ---- unions
 
@@ -160,14 +177,14 @@ union_automaton-returns-in-Err-clause-fault t c =
     let q = query_of c.args.query.now in
     let es = exprs_of c.args.parts.now in
     let g = expr_of c.at.result.now in
-    union_part_fault q c.args.lets.now c.requires.known es c.requires.asked g (Has-slice_get es 0 g c.at.ensures) c.in-Err.fault c.in-Err.ensures.fault
+    sum_map (union_part_fault q c.args.lets.now c.requires.known es c.requires.asked g (Has-slice_get es 0 g c.at.ensures) c.in-Err.fault) c.in-Err.ensures.fault
 
 pub union_automaton-loop-k-init : goal.union_automaton-loop-k-init
 union_automaton-loop-k-init t c =
     let q = query_of c.args.query.now in
     let es = exprs_of c.args.parts.now in
-    let made = subst (λ (a : Marked). IsCompiledFrom q (length c.args.lets.now) (expr_of c.at.result.now) a) (sym c.in_ok-all-in-Ok.ensures) c.in-Ok.ensures.made in
-    (omega arith, union_first q c.args.lets.now c.requires.known es c.requires.asked (expr_of c.at.result.now) c.in_ok-all-in-Ok.all c.at.ensures made)
+    let made = subst (λ (a : Marked). IsCompiledFrom q (length c.args.lets.now) (expr_of c.at.result.now) a) (sym c.in_ok-all.ensures) c.in-Ok.ensures.made in
+    (omega arith, union_first q c.args.lets.now c.requires.known es c.requires.asked (expr_of c.at.result.now) c.in_ok-all.all c.at.ensures made, refl)
 
 pub union_automaton-expr_automaton-requires-in-loop-k : goal.union_automaton-expr_automaton-requires-in-loop-k
 union_automaton-expr_automaton-requires-in-loop-k t c =
@@ -181,8 +198,9 @@ union_automaton-returns-in-Err-expr_automaton-clause-fault t c =
     let q = query_of c.args.query.now in
     let es = exprs_of c.args.parts.now in
     let g = expr_of c.at-in-loop-k.result.now in
-    union_part_fault q c.args.lets.now c.requires.known es c.requires.asked g (Has-slice_get es c.loop-k.k g c.at-in-loop-k.ensures)
-    c.in-Err-expr_automaton.fault c.in-Err-expr_automaton.ensures.fault
+    still_refused c.args.budget.now.excess c.loop-k.budget.excess c.in-Err-expr_automaton.fault (c.loop-k.invariant.2 ∙ (c.make.ensures.excess ∙ c.expr_automaton.ensures.excess))
+    (union_part_fault q c.args.lets.now c.requires.known es c.requires.asked g (Has-slice_get es c.loop-k.k g c.at-in-loop-k.ensures) c.in-Err-expr_automaton.fault)
+    c.in-Err-expr_automaton.ensures.fault
 
 pub union_automaton-returns-clause-made : goal.union_automaton-returns-clause-made
 union_automaton-returns-clause-made t c =
@@ -212,13 +230,13 @@ join_automaton-returns-in-Err-clause-fault t c =
     let q = query_of c.args.query.now in
     let es = exprs_of c.args.parts.now in
     let g = expr_of c.at.result.now in
-    join_part_fault q c.args.lets.now c.requires.known es c.requires.asked g (Has-slice_get es 0 g c.at.ensures) c.in-Err.fault c.in-Err.ensures.fault
+    sum_map (join_part_fault q c.args.lets.now c.requires.known es c.requires.asked g (Has-slice_get es 0 g c.at.ensures) c.in-Err.fault) c.in-Err.ensures.fault
 
 pub join_automaton-loop-k-init : goal.join_automaton-loop-k-init
 join_automaton-loop-k-init t c =
     let q = query_of c.args.query.now in
     let es = exprs_of c.args.parts.now in
-    (omega arith, join_first q c.args.lets.now c.requires.known es c.requires.asked (expr_of c.at.result.now) c.in-Ok.first c.at.ensures c.in-Ok.ensures.made)
+    (omega arith, join_first q c.args.lets.now c.requires.known es c.requires.asked (expr_of c.at.result.now) c.in-Ok.first c.at.ensures c.in-Ok.ensures.made, refl)
 
 pub join_automaton-expr_automaton-requires-in-loop-k : goal.join_automaton-expr_automaton-requires-in-loop-k
 join_automaton-expr_automaton-requires-in-loop-k t c =
@@ -232,8 +250,9 @@ join_automaton-returns-in-Err-expr_automaton-clause-fault t c =
     let q = query_of c.args.query.now in
     let es = exprs_of c.args.parts.now in
     let g = expr_of c.at-in-loop-k.result.now in
-    join_part_fault q c.args.lets.now c.requires.known es c.requires.asked g (Has-slice_get es c.loop-k.k g c.at-in-loop-k.ensures)
-    c.in-Err-expr_automaton.fault c.in-Err-expr_automaton.ensures.fault
+    still_refused c.args.budget.now.excess c.loop-k.budget.excess c.in-Err-expr_automaton.fault (c.loop-k.invariant.2 ∙ c.expr_automaton.ensures.excess)
+    (join_part_fault q c.args.lets.now c.requires.known es c.requires.asked g (Has-slice_get es c.loop-k.k g c.at-in-loop-k.ensures) c.in-Err-expr_automaton.fault)
+    c.in-Err-expr_automaton.ensures.fault
 
 pub join_automaton-returns-clause-made : goal.join_automaton-returns-clause-made
 join_automaton-returns-clause-made t c =
@@ -257,9 +276,9 @@ union_automaton-returns-in-Err-unite-clause-fault t c =
     let q = query_of c.args.query.now in
     let es = exprs_of c.args.parts.now in
     let made = subst (λ (a : Marked). IsCompiledFrom q (length c.args.lets.now) (expr_of c.at-in-loop-k.result.now) a) (sym c.as_automaton-part.ensures) c.in-Ok-expr_automaton.ensures.made in
-    union_fault q c.args.lets.now c.requires.known es c.requires.asked c.loop-k.k c.loop-k.invariant.0 (expr_of c.at-in-loop-k.result.now) c.at-in-loop-k.ensures
+    inl (union_fault q c.args.lets.now c.requires.known es c.requires.asked c.loop-k.k c.loop-k.invariant.0 (expr_of c.at-in-loop-k.result.now) c.at-in-loop-k.ensures
     c.loop-k.all c.as_automaton-part.result.now c.loop-k.invariant.1 made c.states.ensures.marked c.states-in-loop-k.ensures.marked
-    c.in-Err-unite.fault c.in-Err-unite.ensures.fault
+    c.in-Err-unite.fault c.in-Err-unite.ensures.fault)
 
 pub union_automaton-loop-k-preserved : goal.union_automaton-loop-k-preserved
 union_automaton-loop-k-preserved t c =
@@ -270,10 +289,11 @@ union_automaton-loop-k-preserved t c =
       union_next q c.args.lets.now c.requires.known es c.requires.asked c.loop-k.k c.loop-k.invariant.0 (expr_of c.at-in-loop-k.result.now) c.at-in-loop-k.ensures
           c.loop-k.all c.as_automaton-part.result.now c.loop-k.invariant.1 made c.states.ensures.marked c.states-in-loop-k.ensures.marked
           c.in-Ok-unite.both c.in-Ok-unite.ensures.names c.in-Ok-unite.ensures.reduct,
+      c.make-in-loop-k.ensures.excess ∙ (c.expr_automaton-in-loop-k.ensures.excess ∙ c.loop-k.invariant.2),
     )
 
-pub join_automaton-join-requires : goal.join_automaton-join-requires
-join_automaton-join-requires t c =
+pub join_automaton-join_within-requires : goal.join_automaton-join_within-requires
+join_automaton-join_within-requires t c =
     let q = query_of c.args.query.now in
     let es = exprs_of c.args.parts.now in
     let so_far = subst (λ (a : Marked). SoFar join_all (of_lets q.lets (length c.args.lets.now)) es c.loop-k.k a) (sym c.as_automaton-before.ensures) c.loop-k.invariant.1 in
@@ -281,15 +301,15 @@ join_automaton-join-requires t c =
     join_few q c.args.lets.now c.requires.known es c.requires.asked c.loop-k.k c.loop-k.invariant.0 (expr_of c.at-in-loop-k.result.now) c.at-in-loop-k.ensures
     c.as_automaton-before.result.now c.as_automaton-part.result.now so_far made c.states.ensures.marked c.states-in-loop-k.ensures.marked
 
-pub join_automaton-returns-in-Err-join-clause-fault : goal.join_automaton-returns-in-Err-join-clause-fault
-join_automaton-returns-in-Err-join-clause-fault t c =
+pub join_automaton-returns-in-Err-join_within-clause-fault : goal.join_automaton-returns-in-Err-join_within-clause-fault
+join_automaton-returns-in-Err-join_within-clause-fault t c =
     let q = query_of c.args.query.now in
     let es = exprs_of c.args.parts.now in
     let so_far = subst (λ (a : Marked). SoFar join_all (of_lets q.lets (length c.args.lets.now)) es c.loop-k.k a) (sym c.as_automaton-before.ensures) c.loop-k.invariant.1 in
     let made = subst (λ (a : Marked). IsCompiledFrom q (length c.args.lets.now) (expr_of c.at-in-loop-k.result.now) a) (sym c.as_automaton-part.ensures) c.in-Ok-expr_automaton.ensures.made in
-    join_fault q c.args.lets.now c.requires.known es c.requires.asked c.loop-k.k c.loop-k.invariant.0 (expr_of c.at-in-loop-k.result.now) c.at-in-loop-k.ensures
+    inl (join_fault q c.args.lets.now c.requires.known es c.requires.asked c.loop-k.k c.loop-k.invariant.0 (expr_of c.at-in-loop-k.result.now) c.at-in-loop-k.ensures
     c.as_automaton-before.result.now c.as_automaton-part.result.now so_far made c.states.ensures.marked c.states-in-loop-k.ensures.marked
-    c.in-Err-join.fault c.in-Err-join.ensures.fault
+    c.in-Err-join_within.fault c.in-Err-join_within.ensures.fault)
 
 pub join_automaton-loop-k-preserved : goal.join_automaton-loop-k-preserved
 join_automaton-loop-k-preserved t c =
@@ -297,18 +317,19 @@ join_automaton-loop-k-preserved t c =
     let es = exprs_of c.args.parts.now in
     let so_far = subst (λ (a : Marked). SoFar join_all (of_lets q.lets (length c.args.lets.now)) es c.loop-k.k a) (sym c.as_automaton-before.ensures) c.loop-k.invariant.1 in
     let made = subst (λ (a : Marked). IsCompiledFrom q (length c.args.lets.now) (expr_of c.at-in-loop-k.result.now) a) (sym c.as_automaton-part.ensures) c.in-Ok-expr_automaton.ensures.made in
-    let j = c.in-Ok-join.pairs in
-    let names = c.in-Ok-join.ensures.names in
+    let j = c.in-Ok-join_within.pairs in
+    let names = c.in-Ok-join_within.ensures.names in
     let a = c.as_automaton-before.result.now in
     let p = c.as_automaton-part.result.now in
     let ns = a.names in
     let ms = p.names in
     let reduct : Reduces j.graph (join_at ns ms a.graph p.graph) =
-    subst (λ (xs : List VarName). Reduces j.graph (join_of (agree_on ns ms xs) (joined ns ms xs) a.graph p.graph)) names c.in-Ok-join.ensures.reduct in (
+    subst (λ (xs : List VarName). Reduces j.graph (join_of (agree_on ns ms xs) (joined ns ms xs) a.graph p.graph)) names c.in-Ok-join_within.ensures.reduct in (
       omega arith,
       join_next q c.args.lets.now c.requires.known es c.requires.asked c.loop-k.k c.loop-k.invariant.0 (expr_of c.at-in-loop-k.result.now) c.at-in-loop-k.ensures
           c.as_automaton-before.result.now c.as_automaton-part.result.now so_far made c.states.ensures.marked c.states-in-loop-k.ensures.marked
           c.in_ok-all.all (ap (λ (m : Marked). m.names) c.in_ok-all.ensures ∙ (c.in_ok-useful.ensures.names ∙ names))
           (subst (λ (m : Marked). Reduces m.graph (join_at ns ms a.graph p.graph)) (sym c.in_ok-all.ensures)
           (reduct_of_reduct c.in_ok-useful.useful.graph j.graph (join_at ns ms a.graph p.graph) c.in_ok-useful.ensures.reduct reduct)),
+      c.make.ensures.excess ∙ (c.read-in-loop-k.ensures.excess ∙ (c.read.ensures.excess ∙ (c.expr_automaton-in-loop-k.ensures.excess ∙ c.loop-k.invariant.2))),
     )

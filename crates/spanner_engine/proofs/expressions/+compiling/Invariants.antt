@@ -1,4 +1,4 @@
-use Rattle.std.proofs.Common.{◌+◌, ◌*◌, ◌≤◌, length}
+use Rattle.std.proofs.Common.{◌≡◌, ◌+◌, ◌*◌, ◌≤◌, length}
 use Rattle.spanner_model.specs.ExprView.{expr_of, exprs_of, query_of}
 use Rattle.spanner_model.specs.Expression.{union_all, join_all}
 use Rattle.spanner_model.proofs.Nodes.{expr_nodes}
@@ -16,7 +16,7 @@ abbrev pub decreases-union_automaton : goal.decreases-union_automaton
 decreases-union_automaton l = 2 * expr_nodes (join_all (exprs_of l.parts.now))
 
 abbrev pub invariant-join_automaton-loop-k : goal.invariant-join_automaton-loop-k
-invariant-join_automaton-loop-k l = (1 ≤ l.k) × SoFar join_all (of_lets (query_of l.query).lets (length l.lets)) (exprs_of l.parts) l.k l.all
+invariant-join_automaton-loop-k l = (1 ≤ l.k) × SoFar join_all (of_lets (query_of l.query).lets (length l.lets)) (exprs_of l.parts) l.k l.all × (l.budget.excess ≡ l.initial.budget.excess)
 
 abbrev pub invariant-union_automaton-loop-k : goal.invariant-union_automaton-loop-k
-invariant-union_automaton-loop-k l = (1 ≤ l.k) × SoFar union_all (of_lets (query_of l.query).lets (length l.lets)) (exprs_of l.parts) l.k l.all
+invariant-union_automaton-loop-k l = (1 ≤ l.k) × SoFar union_all (of_lets (query_of l.query).lets (length l.lets)) (exprs_of l.parts) l.k l.all × (l.budget.excess ≡ l.initial.budget.excess)

@@ -1,44 +1,64 @@
-use Rattle.std.proofs.Common.{◌≡◌, ℕ, ◌+◌, List, length, sym, ap, ◌∙◌, subst, arith}
+use Rattle.std.proofs.Common.{◌≡◌, ℕ, ◌+◌, ◌-◌, ◌<◌, List, length, sym, ap, ◌∙◌, subst, arith}
+use Rattle.std.specs.Prelude.{slice_index}
 use Rattle.std.proofs.lemmas.List.{with_items_is}
 use Rattle.spanner_model.specs.Captures.{VarName}
 use Rattle.spanner_model.specs.Expression.{ExprTree}
 use Rattle.spanner_model.specs.ExprView.{expr_of, query_of}
 use Rattle.spanner_model.specs.Answer.{vars_of_lets}
-use Rattle.spanner_engine.specs.Uses.{AreLastUses, IsNoted, Names}
-use Rattle.spanner_engine.proofs.UseLaws.{UsesSoFar, names_below, let_names, body_names, none_so_far, one_use_more, all_uses}
+use Rattle.spanner_engine.specs.Uses.{IsNoted, Names}
+use Rattle.spanner_engine.proofs.UseLaws.{UsesFrom, names_below, let_names, body_uses, one_use_more, no_use_more, noted_needed, read_at}
 use Rattle.spanner_engine.proofs.uses.last_uses.Goals as goal
-
-pub loop-k-init : goal.loop-k-init
-loop-k-init c = none_so_far (query_of c.args.query.now) c.new-last.result.items c.resize.new.self.items c.len-count.result _ c.len-count.ensures c.new-last.ensures.items c.new-last.ensures.len c.in_ok-resize.ensures.items
 
 pub note_uses-requires : goal.note_uses-requires
 note_uses-requires c =
     let q = query_of c.args.query.now in
+    λ k m. omega (arith, names_below (vars_of_lets q.lets (length q.lets)) (length q.lets) q.body k c.requires.sound_body.0 m, c.len-count.ensures, c.in_ok-resize.ensures.len, ap length c.deref_mut.ensures.value, c.resize.new.self.ok.0)
+
+pub loop-left-init : goal.loop-left-init
+loop-left-init c =
+    let q = query_of c.args.query.now in
+    let n = c.len-count.result in
+    let v = c.resize.new.self in
+    let noted = subst (λ (xs : List ℕ). IsNoted (Names q.body) n xs c.note_uses.new.last) c.deref_mut.ensures.value c.note_uses.ensures in
+    let is = with_items_is v c.note_uses.new.last (noted.long ∙ sym v.ok.0) in (
+      omega arith,
+      subst (λ (xs : List ℕ). UsesFrom q n xs) (sym is) (body_uses q c.new-last.result.items v.items c.note_uses.new.last n _ c.len-count.ensures c.new-last.ensures.items c.new-last.ensures.len c.in_ok-resize.ensures.items noted),
+    )
+
+pub note_uses-requires-then-index-gt0 : goal.note_uses-requires-then-index-gt0
+note_uses-requires-then-index-gt0 c =
+    let q = query_of c.args.query.now in
+    let n = c.loop-left.left - 1 in
     let l : VarName × ExprTree = (c.at.result.now.0, expr_of c.at.result.now.1) in
-    let sound = (c.requires.sound_lets c.loop-k.k l c.at.ensures).0 in
-    λ k m. omega (arith, names_below (vars_of_lets q.lets c.loop-k.k) c.loop-k.k l.1 k sound m, c.loop-k-test.true, c.len-count.ensures, c.loop-k.invariant.long, ap length c.deref_mut.ensures.value)
+    let sound = (c.requires.sound_lets n l c.at.ensures).0 in
+    λ k m. omega (arith, names_below (vars_of_lets q.lets n) n l.1 k sound m, c.loop-left.invariant.0, c.loop-left-test.true, c.len-count.ensures, c.loop-left.invariant.1.long, ap length c.deref_mut-then-index-gt0.ensures.value)
 
-pub loop-k-preserved : goal.loop-k-preserved
-loop-k-preserved c =
+pub loop-left-preserved-then-index-gt0 : goal.loop-left-preserved-then-index-gt0
+loop-left-preserved-then-index-gt0 c =
     let q = query_of c.args.query.now in
+    let n = c.loop-left.left - 1 in
     let l : VarName × ExprTree = (c.at.result.now.0, expr_of c.at.result.now.1) in
-    let v = c.loop-k.last in
-    let noted = subst (λ (xs : List ℕ). IsNoted (Names l.1) c.loop-k.k xs c.note_uses.new.last) c.deref_mut.ensures.value c.note_uses.ensures in
-    let is = with_items_is v c.note_uses.new.last (noted.long ∙ sym v.ok.0) in
-    subst (λ (xs : List ℕ). UsesSoFar q (c.loop-k.k + 1) xs) (sym is) (one_use_more q c.loop-k.k (Names l.1) v.items c.note_uses.new.last (let_names q c.loop-k.k l c.at.ensures) c.loop-k.invariant noted)
+    let v = c.loop-left.last in
+    let new = c.note_uses-then-index-gt0.new.last in
+    let next : c.loop-left.left ≡ n + 1 = omega (arith, c.loop-left-test.true) in
+    let before = subst (λ i. UsesFrom q i v.items) next c.loop-left.invariant.1 in
+    let within : n < length v.items = omega (arith, c.loop-left.invariant.0, c.loop-left-test.true, c.len-count.ensures, c.loop-left.invariant.1.long) in
+    let more : 0 < slice_index v.items n = omega (arith, c.if-index-gt0.true, read_at v.items n c.index.result.now within c.index.ensures) in
+    let noted = subst (λ (xs : List ℕ). IsNoted (Names l.1) n xs new) c.deref_mut-then-index-gt0.ensures.value c.note_uses-then-index-gt0.ensures in
+    let is = with_items_is v new (noted.long ∙ sym v.ok.0) in (
+      omega (arith, c.loop-left.invariant.0),
+      subst (λ (xs : List ℕ). UsesFrom q n xs) (sym is) (one_use_more q n (Names l.1) v.items new (let_names q n l c.at.ensures) (noted_needed q n v.items before more) before noted),
+    )
 
-pub note_uses-requires-2 : goal.note_uses-requires-2
-note_uses-requires-2 c =
+pub loop-left-preserved : goal.loop-left-preserved
+loop-left-preserved c =
     let q = query_of c.args.query.now in
-    λ k m. omega (arith, names_below (vars_of_lets q.lets (length q.lets)) (length q.lets) q.body k c.requires.sound_body.0 m, c.loop-k.invariant.long, ap length c.deref_mut-2.ensures.value)
-
-pub returns : goal.returns
-returns c =
-    let q = query_of c.args.query.now in
-    let v = c.loop-k.last in
-    let noted = subst (λ (xs : List ℕ). IsNoted (Names q.body) c.len-count.result xs c.note_uses-2.new.last) c.deref_mut-2.ensures.value c.note_uses-2.ensures in
-    let is = with_items_is v c.note_uses-2.new.last (noted.long ∙ sym v.ok.0) in
-    let end : c.loop-k.k ≡ c.len-count.result = omega (arith, c.loop-k-test.false, c.loop-k.auto.k-end) in
-    let so_far = subst (λ n. UsesSoFar q n v.items) end c.loop-k.invariant in
-    subst (λ (xs : List ℕ). AreLastUses q xs) (sym is) (all_uses q c.note_uses-2.new.last c.len-count.result c.len-count.ensures
-    (one_use_more q c.len-count.result (Names q.body) v.items c.note_uses-2.new.last (body_names q c.len-count.result c.len-count.ensures) so_far noted))
+    let n = c.loop-left.left - 1 in
+    let v = c.loop-left.last in
+    let next : c.loop-left.left ≡ n + 1 = omega (arith, c.loop-left-test.true) in
+    let before = subst (λ i. UsesFrom q i v.items) next c.loop-left.invariant.1 in
+    let within : n < length v.items = omega (arith, c.loop-left.invariant.0, c.loop-left-test.true, c.len-count.ensures, c.loop-left.invariant.1.long) in
+    let none : slice_index v.items n ≡ 0 = omega (arith, c.if-index-gt0.false, read_at v.items n c.index.result.now within c.index.ensures) in (
+      omega (arith, c.loop-left.invariant.0),
+      no_use_more q c.requires n v.items (omega (arith, c.loop-left.invariant.0, c.loop-left-test.true, c.len-count.ensures)) before none,
+    )
