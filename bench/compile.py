@@ -17,6 +17,9 @@ ROOT = os.path.dirname(os.path.dirname(os.path.abspath(__file__)))
 
 MOST_WAYS = '/^(a?){1000}(a?){999}$/'  # 2,000 states, 1,999,000 ways: an atom at the limit
 
+STARS = '/^' + '(' * 98 + '(a?){140}' + ')*' * 98 + '$/'  # 141 states, 1,930,670 ways, most of them several times
+LETTERS = '/^(%s){5}$/' % ''.join('(%s?)' % letter for letter in 'abcdefghijklmnopqrstuvwxyz')
+
 
 def lets(number, body, text):
     """So many lets x0, x1, .. of the same formula, and then the body."""
@@ -33,7 +36,21 @@ QUERIES = {
     'a union of it and 2,000 small atoms': MOST_WAYS + ' union /^$/' * 2000,
     'a union of half of it and 1,000 small atoms': '/^(a?){1000}(a?){400}$/' + ' union /^$/' * 1000,
     'a hundred lets of it that nothing uses': lets(100, '/a/', MOST_WAYS),
-    'four lets of it that all wait for the body': lets(4, '/^$/ join x0 join x1 join x2 join x3', MOST_WAYS),
+    '1,700 lets of it that nothing uses': lets(1700, '/a/', MOST_WAYS),
+    'four lets of it that the body joins': lets(4, '/^$/ join x0 join x1 join x2 join x3', MOST_WAYS),
+    'four lets of it that the body unites': lets(4, 'x0 union x1 union x2 union x3', MOST_WAYS),
+    'ten lets of it, each joined with /^$/, in a union':
+        lets(10, ' union '.join('(/^$/ join x%d)' % k for k in range(10)), MOST_WAYS),
+    '1,700 atoms of it, joined': ' join '.join([MOST_WAYS] * 1700),
+    'a let of a smaller one, joined with itself in pairs 2,000 times':
+        'let x=%s;' % LETTERS + ' join '.join(['(x join x)'] * 2000),
+    'a chain of 2,500 projections of it': 'let x0=/^(!y{}a?)(a?){1000}(a?){998}$/;'
+        + ''.join('let x%d=project y(x%d);' % (k, k - 1) for k in range(1, 2500)) + '/^$/ join x2499',
+    '19,000 copies of 32,000 parts without a place': '/^((a%s){1000}){19}$/' % ('()' * 32000),
+    'stars, 98 deep, of 140 places': STARS,
+    'a hundred and forty of these, each joined with /^$/, in a union': ' union '.join(['(/^$/ join %s)' % STARS] * 140),
+    'nine lets of a union, each joined with /^$/, in a union':
+        lets(9, ' union '.join('(/^$/ join x%d)' % k for k in range(9)), '/^(a?){1000}(a?){990}$/ union /^$/'),
     'a thousand names for one let of it': 'let x0=' + MOST_WAYS + ';'
         + ''.join('let x%d=x%d;' % (i, i - 1) for i in range(1, 1000)) + '/^$/ join x999',
     'pairs that go on with few of many ways': '/^(%s(A?){300}){5}$/ join /^(%s(B?){300}){5}$/'
