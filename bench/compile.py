@@ -48,6 +48,12 @@ QUERIES = {
         + ''.join('let x%d=project y(x%d);' % (k, k - 1) for k in range(1, 2500)) + '/^$/ join x2499',
     '19,000 copies of 32,000 parts without a place': '/^((a%s){1000}){19}$/' % ('()' * 32000),
     'stars, 98 deep, of 140 places': STARS,
+    'two of such stars that share a byte in few places, joined':
+        ' join '.join('/^%s%s%s$/' % ('(' * 97, '(%s?){45}(z?){4}(%s?){45}(%s?){44}' % tuple(letters), ')*' * 97)
+                      for letters in ('abc', 'def')),
+    'a large let beside a union of two large atoms':
+        'let h=(/^(a?){1000}(a?){990}$/ union /^$/); (h join /^$/) union ((%s union %s) join /^$/) union (h join /^$/)'
+        % (MOST_WAYS, MOST_WAYS.replace('a', 'b')),
     'a hundred and forty of these, each joined with /^$/, in a union': ' union '.join(['(/^$/ join %s)' % STARS] * 140),
     'nine lets of a union, each joined with /^$/, in a union':
         lets(9, ' union '.join('(/^$/ join x%d)' % k for k in range(9)), '/^(a?){1000}(a?){990}$/ union /^$/'),
