@@ -135,7 +135,9 @@ let u = /!x{a}/; let v = /!x{b}/; let w = /!x{ab}/; w union u
 let u = /!x{a+}/; let v = u union /!x{b}/; let w = /!y{.}/; let z = v union u; project x (z join w)
 let u = /!y{b}/; let v = /!x{a}!y{b}/; let w = project y (v); w join u
 let u = /!x{a}/; let v = /!x{b}/; let w = u union v; let z = w; u union z union v
-let u = /!x{a}b/; let v = project none (u); let w = v; let z = /b/; u join w join z";
+let u = /!x{a}b/; let v = project none (u); let w = v; let z = /b/; u join w join z
+let u = /!x{a}!y{b}/; let v = u; let w = project x, y (v); let z = project y (w); w join z
+let u = /!x{a*}!y{b}/; let v = project x, y (u); let w = project x (v); let z = v union /!x{b}!y{a}/; w join z";
 
 /// Queries of large automata, and queries that are refused.
 pub const LARGE: &str = r"/^(a{1000}){19}a{999}$/
@@ -144,6 +146,9 @@ pub const LARGE: &str = r"/^(a{1000}){19}a{999}$/
 /(a{1000}){10}/ union /(a{1000}){10}/
 let big = /(a{1000}){20}/; /a/
 let half = /(a{1000}){10}/; let whole = half union half; /a/
+let a = /(a{1000}){9}/; let b = a; let c = b union a; let d = c union a; b
+let many = /^(a{150})*$/ join /^(a{151})*$/; /a/
+let few = /^(a{1000}){5}b$/ join /^(a{1000}){5}c$/; /a/
 let half = /(a{1000}){9}/; let same = half; half union same
 let a = /^(a?){1000}(a?){999}$/; let b = /^(b?){1000}(b?){999}$/; let c = /^(c?){1000}(c?){999}$/; a union b union c
 let a = /^(a?){1000}(a?){999}$/; let b = /^(b?){1000}(b?){999}$/; let c = /^(c?){1000}(c?){999}$/; (/^$/ join a) union (/^$/ join b) union (/^$/ join c)";

@@ -1,5 +1,5 @@
 -- What is made of the parts of an expression when it is compiled.
-use Rattle.std.proofs.Common.{◌≡◌, ℕ, Bool, true, false, map, length-append, zero, suc, ◌+◌, ◌*◌, ◌≤◌, ◌⊎◌, List, [], ◌∷◌, ◌++◌, length, take, drop, Option, Some, inl, inr, refl, sym, ap, subst, arith, ◌∙◌}
+use Rattle.std.proofs.Common.{◌≡◌, ℕ, Bool, true, false, map, length-append, zero, suc, ◌+◌, ◌*◌, ◌≤◌, ◌⊎◌, List, [], ◌∷◌, ◌++◌, length, take, drop, Some, inl, inr, refl, sym, ap, subst, arith, ◌∙◌}
 use Rattle.std.specs.Prelude.{slice_get}
 use Rattle.std.specs.FinSet as set
 use Rattle.std.specs.List.{filter}
@@ -12,10 +12,10 @@ use Rattle.spanner_model.specs.Lists.{Has}
 use Rattle.spanner_model.specs.Captures.{VarName, Mapping}
 use Rattle.spanner_model.specs.Expression.{ExprTree, QueryTree, project, union_all, join_all}
 use Rattle.spanner_model.specs.Answer.{VarOf, Answer, vars_of_lets, answers_of_lets}
-use Rattle.spanner_model.specs.Sound.{IsSound, IsSoundExpr, NameInLets, NameOf}
+use Rattle.spanner_model.specs.Sound.{NameInLets, NameOf}
 use Rattle.spanner_model.proofs.Deciding.{told_lets}
 use Rattle.spanner_model.proofs.ExprLaws.{union_part, join_part, union_var, union_named, join_named, union_two, join_two, var_named, lets_named}
-use Rattle.spanner_model.proofs.HasLaws.{Has-slice_get, Has-append_left, Has-append_cases, Has-map_cases, distinct-le}
+use Rattle.spanner_model.proofs.HasLaws.{Has-slice_get, Has-append_left, Has-map_cases, distinct-le}
 use Rattle.spanner_model.proofs.NameLaws.{ascending-distinct, same_names}
 use Rattle.spanner_model.proofs.TreeLaws.{take_at_more}
 use Rattle.marked_automaton.specs.declared.way.Way.{Way}
@@ -37,7 +37,8 @@ use Rattle.algebra.proofs.ReductUnions.{reduct_of_union}
 use Rattle.algebra.proofs.Whole.{union_whole, join_whole}
 use Rattle.spanner_engine.specs.Compiling.{IsAsked, AreCompiled, IsCompiledFrom}
 use Rattle.spanner_engine.specs.Kept.{KeepsInOrder}
-use Rattle.spanner_engine.specs.Parts.{IsPartOf, HasLargePartOf, HasSmallAtoms}
+use Rattle.spanner_engine.specs.declared.lets.Let.{Let}
+use Rattle.spanner_engine.specs.Parts.{IsPartOf, HasLargePartOf}
 use Rattle.spanner_engine.specs.QueryAutomaton.{of_union, of_join, automaton_of, united, together, of_lets}
 use Rattle.spanner_engine.proofs.Names.{all_ascend, all_are}
 use Rattle.spanner_engine.proofs.PartLaws.{union_push, join_push, union_part_of, join_part_of, union_step, join_step, large_part}
@@ -59,59 +60,52 @@ first_taken [] k l m = absurd (omega (arith, m))
 first_taken (x ∷ xs) zero l m = absurd (omega (arith, l))
 first_taken (x ∷ xs) (suc k) l m = (x, take k xs, refl, inl refl)
 
-pub asked_united : (q : QueryTree) (n : ℕ) (es : List ExprTree) (e : ExprTree) → Has es e → IsAsked q n (union_all es) → IsAsked q n e
-asked_united q n es e h a =
-    record { sound = a.sound; sound_expr = union_part (vars_of_lets q.lets n) n es e a.sound_expr h; named = λ x v. a.named x (union_named es e x h v); spoken = λ k m. a.spoken k ((union_names_some es k).1 (e, h, m)) }
+union_keeps : (es : List ExprTree) (e : ExprTree) → Has es e → KeepsInOrder (union_all es) → KeepsInOrder e
+union_keeps [] e h g = absurd h
+union_keeps (x ∷ es) e (inl i) g = subst KeepsInOrder i g.0
+union_keeps (x ∷ es) e (inr h) g = union_keeps es e h g.1
 
-pub asked_joined : (q : QueryTree) (n : ℕ) (es : List ExprTree) (e : ExprTree) → Has es e → IsAsked q n (join_all es) → IsAsked q n e
-asked_joined q n es e h a =
-    record { sound = a.sound; sound_expr = join_part (vars_of_lets q.lets n) n es e a.sound_expr h; named = λ x v. a.named x (join_named es e x h v); spoken = λ k m. a.spoken k ((join_names_some es k).1 (e, h, m)) }
+join_keeps : (es : List ExprTree) (e : ExprTree) → Has es e → KeepsInOrder (join_all es) → KeepsInOrder e
+join_keeps [] e h g = absurd h
+join_keeps (x ∷ es) e (inl i) g = subst KeepsInOrder i g.0
+join_keeps (x ∷ es) e (inr h) g = join_keeps es e h g.1
 
-pub asked_sub : (q : QueryTree) (n : ℕ) (kept : List VarName) (e : ExprTree) → IsAsked q n (project kept e) → IsAsked q n e
-asked_sub q n kept e a = record { sound = a.sound; sound_expr = a.sound_expr.0; named = λ x v. a.named x v; spoken = λ k m. a.spoken k m }
+pub asked_united : (q : QueryTree) (lets : List Let) (es : List ExprTree) (e : ExprTree) → Has es e → IsAsked q lets (union_all es) → IsAsked q lets e
+asked_united q lets es e h a = record {
+  sound = a.sound;
+  sound_expr = union_part (vars_of_lets q.lets (length lets)) (length lets) es e a.sound_expr h;
+  keeps = union_keeps es e h a.keeps;
+  named = λ x v. a.named x (union_named es e x h v);
+  spoken = λ k m. a.spoken k ((union_names_some es k).1 (e, h, m));
+}
 
--- ---- keeping in order, and small atoms, of lists of parts
+pub asked_joined : (q : QueryTree) (lets : List Let) (es : List ExprTree) (e : ExprTree) → Has es e → IsAsked q lets (join_all es) → IsAsked q lets e
+asked_joined q lets es e h a = record {
+  sound = a.sound;
+  sound_expr = join_part (vars_of_lets q.lets (length lets)) (length lets) es e a.sound_expr h;
+  keeps = join_keeps es e h a.keeps;
+  named = λ x v. a.named x (join_named es e x h v);
+  spoken = λ k m. a.spoken k ((join_names_some es k).1 (e, h, m));
+}
 
-abbrev pub IsFine : ExprTree → Type 0
-IsFine e = KeepsInOrder e × HasSmallAtoms e
+pub asked_sub : (q : QueryTree) (lets : List Let) (kept : List VarName) (e : ExprTree) → IsAsked q lets (project kept e) → IsAsked q lets e
+asked_sub q lets kept e a = record { sound = a.sound; sound_expr = a.sound_expr.0; keeps = a.keeps.1; named = λ x v. a.named x v; spoken = λ k m. a.spoken k m }
 
-pub union_fine : (es : List ExprTree) → ((e : ExprTree) → Has es e → IsFine e) → IsFine (union_all es)
-union_fine [] h = (tt, tt)
-union_fine (e ∷ es) h = let rest = union_fine es (λ g i. h g (inr i)) in let this = h e (inl refl) in ((this.0, rest.0), (this.1, rest.1))
-
-pub join_fine : (es : List ExprTree) → ((e : ExprTree) → Has es e → IsFine e) → IsFine (join_all es)
-join_fine [] h = (tt, tt)
-join_fine (e ∷ es) h = let rest = join_fine es (λ g i. h g (inr i)) in let this = h e (inl refl) in ((this.0, rest.0), (this.1, rest.1))
-
-pub fine_more : (es : List ExprTree) (k : ℕ) (y : ExprTree) → slice_get es k ≡ Some y → ((e : ExprTree) → Has (take k es) e → IsFine e) → IsFine y → (e : ExprTree) → Has (take (k + 1) es) e → IsFine e
-fine_more es k y at h g e i =
-    elim (Has-append_cases (take k es) (y ∷ []) e (subst (λ (zs : List ExprTree). Has zs e) (take_at_more es k y at) i)) as (λ _. IsFine e) [
-      | inl a ↦ h e a
-      | inr b ↦ elim b as (λ _. IsFine e) [ inl same ↦ subst IsFine same g | inr c ↦ absurd c ]
-    ]
+-- ---- parts so far
 
 -- what is made of the first k of these parts, of which `all` makes a union or a join
-pub record SoFar (all : List ExprTree → ExprTree) (L : ℕ → Marked) (es : List ExprTree) (k : ℕ) (a : Marked) : Type 0 where
-  pub reduces : ReducesMarked a (automaton_of L (all (take k es)))
-  pub fine : (e : ExprTree) → Has (take k es) e → IsFine e
+abbrev pub SoFar : (List ExprTree → ExprTree) → (ℕ → Marked) → List ExprTree → ℕ → Marked → Type 0
+SoFar all L es k a = ReducesMarked a (automaton_of L (all (take k es)))
 
 module _ (all : List ExprTree → ExprTree) (L : ℕ → Marked) where
   so_far_first : ((e : ExprTree) → automaton_of L (all (e ∷ [])) ≡ automaton_of L e) → (es : List ExprTree) (x : ExprTree) (a : Marked) → slice_get es 0 ≡ Some x →
-      ReducesMarked a (automaton_of L x) → IsFine x → SoFar all L es 1 a
-  so_far_first alone [] x a at r g = absurd (cc)
-  so_far_first alone (e ∷ es) x a at r g =
-      let same : x ≡ e = cc in record {
-        reduces = subst (λ (M : Marked). ReducesMarked a M) (ap (automaton_of L) same ∙ sym (alone e)) r;
-        fine = λ w h. elim h as (λ _. IsFine w) [ inl i ↦ subst IsFine (same ∙ i) g | inr j ↦ absurd j ];
-      }
+      ReducesMarked a (automaton_of L x) → SoFar all L es 1 a
+  so_far_first alone [] x a at r = absurd (cc)
+  so_far_first alone (e ∷ es) x a at r =
+      let same : x ≡ e = cc in subst (λ (M : Marked). ReducesMarked a M) (ap (automaton_of L) same ∙ sym (alone e)) r
 
-  so_far_all : ((es : List ExprTree) → ((e : ExprTree) → Has es e → IsFine e) → IsFine (all es)) → (es : List ExprTree) (k : ℕ) (a : Marked) → k ≡ length es → SoFar all L es k a →
-      ReducesMarked a (automaton_of L (all es)) × IsFine (all es)
-  so_far_all fine es k a e s =
-      let whole : take k es ≡ es = ap (λ n. take n es) e ∙ take-length es in (
-        subst (λ (zs : List ExprTree). ReducesMarked a (automaton_of L (all zs))) whole s.reduces,
-        fine es (λ g h. s.fine g (subst (λ (zs : List ExprTree). Has zs g) (sym whole) h)),
-      )
+  so_far_all : (es : List ExprTree) (k : ℕ) (a : Marked) → k ≡ length es → SoFar all L es k a → ReducesMarked a (automaton_of L (all es))
+  so_far_all es k a e s = subst (λ (zs : List ExprTree). ReducesMarked a (automaton_of L (all zs))) (ap (λ n. take n es) e ∙ take-length es) s
 
 -- ---- joins of reducts
 
@@ -135,7 +129,7 @@ join_at ns ms A B = join_of (agree_on ns ms (all_names ns ms)) (joined ns ms (al
 
 -- ---- compiled parts
 
-module _ (q : QueryTree) (lets : List (Option Marked)) (known : AreCompiled q lets) where
+module _ (q : QueryTree) (lets : List Let) (known : AreCompiled q lets) where
   abbrev N : ℕ
   N = length lets
 
@@ -149,13 +143,13 @@ module _ (q : QueryTree) (lets : List (Option Marked)) (known : AreCompiled q le
   Lets = answers_of_lets q.lets [] N
 
   -- names, and that it is whole, of an expression's automaton
-  pub shape : IsSound q → (e : ExprTree) → IsSoundExpr V N e → KeepsInOrder e → IsFor [] (VarOf V e) (Answer V Lets [] e) (automaton_of L e)
-  shape sound e s g =
+  pub shape : (e : ExprTree) → IsAsked q lets e → IsFor [] (VarOf V e) (Answer V Lets [] e) (automaton_of L e)
+  shape e asked =
       expr_for [] (λ i b at. absurd (cc)) N V Lets L
-      (lets_for [] (λ i b at. absurd (cc)) q.lets sound.sound_lets N known.few (λ k l b at. known.keep.0 l (Has-slice_get q.lets k l at)) N (omega arith)) (told_lets q.lets N) e s g
+      (lets_for [] (λ i b at. absurd (cc)) q.lets asked.sound.sound_lets N known.few (λ k l b at. known.keep.0 l (Has-slice_get q.lets k l at)) N (omega arith)) (told_lets q.lets N) e asked.sound_expr asked.keeps
 
   -- a variable of the expression is a name of the query
-  pub var_name : (e : ExprTree) → IsAsked q N e → (x : VarName) → VarOf V e x → NameOf q x
+  pub var_name : (e : ExprTree) → IsAsked q lets e → (x : VarName) → VarOf V e x → NameOf q x
   var_name e a x v =
       elim (var_named V (NameInLets q.lets) (lets_named q.lets a.sound.sound_lets N) N e x a.sound_expr v) as (λ _. NameOf q x) [ inl i ↦ a.named x i | inr j ↦ inl j ]
 
@@ -170,33 +164,31 @@ module _ (q : QueryTree) (lets : List (Option Marked)) (known : AreCompiled q le
   names_united [] A = refl
   names_united (x ∷ xs) A = names_united xs (of_union A (automaton_of L x))
 
-  module _ (es : List ExprTree) (asked : IsAsked q N (union_all es)) where
+  module _ (es : List ExprTree) (asked : IsAsked q lets (union_all es)) where
     union_has_two : 2 ≤ length es
     union_has_two = union_two V N es asked.sound_expr
 
     taken_has : (k : ℕ) (e : ExprTree) → Has (take k es) e → Has es e
     taken_has k e h = subst (λ (zs : List ExprTree). Has zs e) (take-append-drop k es) (Has-append_left (take k es) (drop k es) e h)
 
-    part_whole : (e : ExprTree) → Has es e → KeepsInOrder e → IsWhole (automaton_of L e).graph
-    part_whole e h g = (shape asked.sound e (asked_united q N es e h asked).sound_expr g).whole
+    union_shape : (e : ExprTree) → Has es e → IsFor [] (VarOf V e) (Answer V Lets [] e) (automaton_of L e)
+    union_shape e h = shape e (asked_united q lets es e h asked)
 
-    prefix_whole : (k : ℕ) → 1 ≤ k → ((e : ExprTree) → Has (take k es) e → IsFine e) → IsWhole (automaton_of L (union_all (take k es))).graph
-    prefix_whole k l fine =
+    prefix_whole : (k : ℕ) → 1 ≤ k → IsWhole (automaton_of L (union_all (take k es))).graph
+    prefix_whole k l =
         let f = first_taken es k l (omega (arith, union_has_two)) in
         let all : (e : ExprTree) → Has (f.0 ∷ f.1) e → IsWhole (automaton_of L e).graph =
-        λ e h. let i = subst (λ (zs : List ExprTree). Has zs e) (sym f.2) h in part_whole e (taken_has k e i) (fine e i).0 in
+        λ e h. let i = subst (λ (zs : List ExprTree). Has zs e) (sym f.2) h in (union_shape e (taken_has k e i)).whole in
         subst (λ (zs : List ExprTree). IsWhole (automaton_of L (union_all zs)).graph) (sym f.2)
         (whole_united f.1 (automaton_of L f.0) (all f.0 (inl refl)) (λ e h. all e (inr h)))
 
     -- the names of the first parts are those of each part
-    prefix_names : (k : ℕ) → 1 ≤ k → ((e : ExprTree) → Has (take k es) e → IsFine e) → (y : ExprTree) → Has es y → KeepsInOrder y →
-        (automaton_of L (union_all (take k es))).names ≡ (automaton_of L y).names
-    prefix_names k l fine y h g =
+    prefix_names : (k : ℕ) → 1 ≤ k → (y : ExprTree) → Has es y → (automaton_of L (union_all (take k es))).names ≡ (automaton_of L y).names
+    prefix_names k l y h =
         let f = first_taken es k l (omega (arith, union_has_two)) in
         let x = f.0 in
-        let i : Has (take k es) x = subst (λ (zs : List ExprTree). Has zs x) (sym f.2) (inl refl) in
-        let a = shape asked.sound x (asked_united q N es x f.3 asked).sound_expr (fine x i).0 in
-        let b = shape asked.sound y (asked_united q N es y h asked).sound_expr g in
+        let a = union_shape x f.3 in
+        let b = union_shape y h in
         let same : (automaton_of L x).names ≡ (automaton_of L y).names =
         same_names (automaton_of L x).names (automaton_of L y).names a.ascending b.ascending
         (λ z v. (b.names z).1 ((union_var V N es y z asked.sound_expr h).1 ((union_var V N es x z asked.sound_expr f.3).0 ((a.names z).0 v))))
@@ -204,7 +196,7 @@ module _ (q : QueryTree) (lets : List (Option Marked)) (known : AreCompiled q le
         subst (λ (zs : List ExprTree). (automaton_of L (union_all zs)).names ≡ (automaton_of L y).names) (sym f.2) (names_united f.1 (automaton_of L x) ∙ same)
 
     pub union_first : (x : ExprTree) (a : Marked) → slice_get es 0 ≡ Some x → IsCompiledFrom q N x a → SoFar union_all L es 1 a
-    union_first x a at c = so_far_first union_all L (λ e. refl) es x a at c.reduces (c.keeps, c.small)
+    union_first x a at c = so_far_first union_all L (λ e. refl) es x a at c
 
     module _ (k : ℕ) (l : 1 ≤ k) (y : ExprTree) (at : slice_get es k ≡ Some y) (a p : Marked) (so_far : SoFar union_all L es k a) (part : IsCompiledFrom q N y p)
         (marked_a : IsMarked a) (marked_p : IsMarked p) where
@@ -218,12 +210,12 @@ module _ (q : QueryTree) (lets : List (Option Marked)) (known : AreCompiled q le
       y_has = Has-slice_get es k y at
 
       pub union_names : a.names ≡ p.names
-      union_names = so_far.reduces.0 ∙ (prefix_names k l so_far.fine y y_has part.keeps ∙ sym part.reduces.0)
+      union_names = so_far.0 ∙ (prefix_names k l y y_has ∙ sym part.0)
 
       union_reduces : Reduces (union_of a.graph p.graph) (union_of UA.graph UP.graph)
       union_reduces =
-          reduct_of_union a.graph UA.graph p.graph UP.graph marked_a.whole (prefix_whole k l so_far.fine) marked_p.whole (part_whole y y_has part.keeps)
-          so_far.reduces.1 part.reduces.1
+          reduct_of_union a.graph UA.graph p.graph UP.graph marked_a.whole (prefix_whole k l) marked_p.whole (union_shape y y_has).whole
+          so_far.1 part.1
 
       -- with one part more
       grown : automaton_of L (union_all (take (k + 1) es)) ≡ of_union UA UP
@@ -234,11 +226,9 @@ module _ (q : QueryTree) (lets : List (Option Marked)) (known : AreCompiled q le
           ∙ (union_push L f.0 f.1 y ∙ ap (λ (zs : List ExprTree). of_union (automaton_of L (union_all zs)) UP) (sym f.2)))
 
       pub union_next : (u : Marked) → u.names ≡ a.names → Reduces u.graph (union_of a.graph p.graph) → SoFar union_all L es (k + 1) u
-      union_next u names reduces = record {
-        reduces = subst (λ (M : Marked). ReducesMarked u M) (sym grown)
-            (names ∙ so_far.reduces.0, reduct_of_reduct u.graph (union_of a.graph p.graph) (union_of UA.graph UP.graph) reduces union_reduces);
-        fine = fine_more es k y at so_far.fine (part.keeps, part.small);
-      }
+      union_next u names reduces =
+          subst (λ (M : Marked). ReducesMarked u M) (sym grown)
+          (names ∙ so_far.0, reduct_of_reduct u.graph (union_of a.graph p.graph) (union_of UA.graph UP.graph) reduces union_reduces)
 
       union_is_part : IsPartOf L (union_all es) (of_union UA UP)
       union_is_part =
@@ -249,19 +239,19 @@ module _ (q : QueryTree) (lets : List (Option Marked)) (known : AreCompiled q le
 
       pub union_fault : (fault : SizeFault) → IsSizeFaultOf (a.graph.states + p.graph.states) (length a.graph.ways + length p.graph.ways) fault → HasLargePartOf L (union_all es) fault
       union_fault (States count) h =
-          let small = reduct_is_no_larger a.graph UA.graph marked_a.whole marked_a.some_byte so_far.reduces.1 in
-          let less = reduct_is_no_larger p.graph UP.graph marked_p.whole marked_p.some_byte part.reduces.1 in
+          let small = reduct_is_no_larger a.graph UA.graph marked_a.whole marked_a.some_byte so_far.1 in
+          let less = reduct_is_no_larger p.graph UP.graph marked_p.whole marked_p.some_byte part.1 in
           (omega (arith, h.0, h.1), (of_union UA UP, union_is_part, omega (arith, h.1, small.0, less.0)))
       union_fault (Ways count) h =
-          let small = reduct_is_no_larger a.graph UA.graph marked_a.whole marked_a.some_byte so_far.reduces.1 in
-          let less = reduct_is_no_larger p.graph UP.graph marked_p.whole marked_p.some_byte part.reduces.1 in
+          let small = reduct_is_no_larger a.graph UA.graph marked_a.whole marked_a.some_byte so_far.1 in
+          let less = reduct_is_no_larger p.graph UP.graph marked_p.whole marked_p.some_byte part.1 in
           let ways : length (of_union UA UP).graph.ways ≡ length UA.graph.ways + length UP.graph.ways =
           length-append UA.graph.ways (map (moved_way UA.graph.states) UP.graph.ways) ∙ ap (λ n. length UA.graph.ways + n) (length-map UP.graph.ways (moved_way UA.graph.states)) in
           (omega (arith, h.1, h.2), (of_union UA UP, union_is_part, omega (arith, h.2, small.1, less.1, ways)))
       union_fault OutOfMemory h = tt
 
     pub union_done : (a : Marked) (k : ℕ) → k ≡ length es → SoFar union_all L es k a → IsCompiledFrom q N (union_all es) a
-    union_done a k e s = let made = so_far_all union_all L union_fine es k a e s in record { reduces = made.0; keeps = made.1.0; small = made.1.1 }
+    union_done a k e s = so_far_all union_all L es k a e s
 
     -- the fault of a part
     pub union_part_fault : (e : ExprTree) → Has es e → (fault : SizeFault) → HasLargePartOf L e fault → HasLargePartOf L (union_all es) fault
@@ -291,42 +281,40 @@ module _ (q : QueryTree) (lets : List (Option Marked)) (known : AreCompiled q le
         | inr b ↦ inr (b.0, inr b.1, b.2)
       ]
 
-  module _ (es : List ExprTree) (asked : IsAsked q N (join_all es)) where
+  module _ (es : List ExprTree) (asked : IsAsked q lets (join_all es)) where
     join_has_two : 2 ≤ length es
     join_has_two = join_two V N es asked.sound_expr
 
     join_taken_has : (k : ℕ) (e : ExprTree) → Has (take k es) e → Has es e
     join_taken_has k e h = subst (λ (zs : List ExprTree). Has zs e) (take-append-drop k es) (Has-append_left (take k es) (drop k es) e h)
 
-    join_shape : (e : ExprTree) → Has es e → KeepsInOrder e → IsFor [] (VarOf V e) (Answer V Lets [] e) (automaton_of L e)
-    join_shape e h g = shape asked.sound e (asked_joined q N es e h asked).sound_expr g
+    join_shape : (e : ExprTree) → Has es e → IsFor [] (VarOf V e) (Answer V Lets [] e) (automaton_of L e)
+    join_shape e h = shape e (asked_joined q lets es e h asked)
 
-    join_prefix_whole : (k : ℕ) → 1 ≤ k → ((e : ExprTree) → Has (take k es) e → IsFine e) → IsWhole (automaton_of L (join_all (take k es))).graph
-    join_prefix_whole k l fine =
+    join_prefix_whole : (k : ℕ) → 1 ≤ k → IsWhole (automaton_of L (join_all (take k es))).graph
+    join_prefix_whole k l =
         let f = first_taken es k l (omega (arith, join_has_two)) in
         let all : (e : ExprTree) → Has (f.0 ∷ f.1) e → IsWhole (automaton_of L e).graph =
-        λ e h. let i = subst (λ (zs : List ExprTree). Has zs e) (sym f.2) h in (join_shape e (join_taken_has k e i) (fine e i).0).whole in
+        λ e h. let i = subst (λ (zs : List ExprTree). Has zs e) (sym f.2) h in (join_shape e (join_taken_has k e i)).whole in
         subst (λ (zs : List ExprTree). IsWhole (automaton_of L (join_all zs)).graph) (sym f.2)
         (whole_together f.1 (automaton_of L f.0) (all f.0 (inl refl)) (λ e h. all e (inr h)))
 
     -- the names of the first parts ascend, and are names of the query
-    join_prefix_names : (k : ℕ) → 1 ≤ k → ((e : ExprTree) → Has (take k es) e → IsFine e) →
+    join_prefix_names : (k : ℕ) → 1 ≤ k →
         Ascending (automaton_of L (join_all (take k es))).names × ((z : VarName) → Has (automaton_of L (join_all (take k es))).names z → NameOf q z)
-    join_prefix_names k l fine =
+    join_prefix_names k l =
         let f = first_taken es k l (omega (arith, join_has_two)) in
         let in_part : (e : ExprTree) → Has (f.0 ∷ f.1) e → (z : VarName) → Has (automaton_of L e).names z → NameOf q z =
         λ e h z v.
-        let i = subst (λ (zs : List ExprTree). Has zs e) (sym f.2) h in
-        let here = join_taken_has k e i in
-        var_name e (asked_joined q N es e here asked) z (((join_shape e here (fine e i).0).names z).0 v) in
-        let first : Has (take k es) f.0 = subst (λ (zs : List ExprTree). Has zs f.0) (sym f.2) (inl refl) in
+        let here = join_taken_has k e (subst (λ (zs : List ExprTree). Has zs e) (sym f.2) h) in
+        var_name e (asked_joined q lets es e here asked) z (((join_shape e here).names z).0 v) in
         subst (λ (zs : List ExprTree). Ascending (automaton_of L (join_all zs)).names × ((z : VarName) → Has (automaton_of L (join_all zs)).names z → NameOf q z)) (sym f.2) (
-          ascend_together f.1 (automaton_of L f.0) (join_shape f.0 f.3 (fine f.0 first).0).ascending,
+          ascend_together f.1 (automaton_of L f.0) (join_shape f.0 f.3).ascending,
           λ z h. elim (names_together f.1 (automaton_of L f.0) z h) as (λ _. NameOf q z) [ inl b ↦ in_part f.0 (inl refl) z b | inr b ↦ in_part b.0 (inr b.1) z b.2 ],
         )
 
     pub join_first : (x : ExprTree) (a : Marked) → slice_get es 0 ≡ Some x → IsCompiledFrom q N x a → SoFar join_all L es 1 a
-    join_first x a at c = so_far_first join_all L (λ e. refl) es x a at c.reduces (c.keeps, c.small)
+    join_first x a at c = so_far_first join_all L (λ e. refl) es x a at c
 
     module _ (k : ℕ) (l : 1 ≤ k) (y : ExprTree) (at : slice_get es k ≡ Some y) (a p : Marked) (so_far : SoFar join_all L es k a) (part : IsCompiledFrom q N y p)
         (marked_a : IsMarked a) (marked_p : IsMarked p) where
@@ -340,33 +328,33 @@ module _ (q : QueryTree) (lets : List (Option Marked)) (known : AreCompiled q le
       join_y_has = Has-slice_get es k y at
 
       join_y : IsFor [] (VarOf V y) (Answer V Lets [] y) JP
-      join_y = join_shape y join_y_has part.keeps
+      join_y = join_shape y join_y_has
 
       pub join_few : length (all_names a.names p.names) ≤ MOST_VARIABLES
       join_few =
-          let before = join_prefix_names k l so_far.fine in
+          let before = join_prefix_names k l in
           let ascend : Ascending (all_names JA.names JP.names) = all_ascend JP.names JA.names before.0 in
           let least = asked.sound.few in
           let le = distinct-le (all_names JA.names JP.names) least.0 (ascending-distinct (all_names JA.names JP.names) ascend)
           (λ z h. least.2 z (elim ((all_are JA.names JP.names z).0 h) as (λ _. NameOf q z) [
             | inl b ↦ before.1 z b
-            | inr b ↦ var_name y (asked_joined q N es y join_y_has asked) z ((join_y.names z).0 b)
+            | inr b ↦ var_name y (asked_joined q lets es y join_y_has asked) z ((join_y.names z).0 b)
           ])) in
           let same : length (all_names a.names p.names) ≡ length (all_names JA.names JP.names) =
-          ap (λ (ns : List VarName). length (all_names ns p.names)) so_far.reduces.0 ∙ ap (λ (ns : List VarName). length (all_names JA.names ns)) part.reduces.0 in
+          ap (λ (ns : List VarName). length (all_names ns p.names)) so_far.0 ∙ ap (λ (ns : List VarName). length (all_names JA.names ns)) part.0 in
           omega (arith, same, le, least.1)
 
       join_reduces : Reduces (join_at JA.names JP.names a.graph p.graph) (join_at JA.names JP.names JA.graph JP.graph)
       join_reduces =
           let names = all_names JA.names JP.names in
           reduct_of_join (agree_on JA.names JP.names names) (joined JA.names JP.names names) a.graph JA.graph p.graph JP.graph
-          marked_a.whole (join_prefix_whole k l so_far.fine) marked_p.whole join_y.whole so_far.reduces.1 part.reduces.1
+          marked_a.whole (join_prefix_whole k l) marked_p.whole join_y.whole so_far.1 part.1
 
       -- over the same names
       renamed : (F : Automaton → Type 0) → F (join_at a.names p.names a.graph p.graph) → F (join_at JA.names JP.names a.graph p.graph)
       renamed F h =
-          subst (λ (ns : List VarName). F (join_at JA.names ns a.graph p.graph)) part.reduces.0
-          (subst (λ (ns : List VarName). F (join_at ns p.names a.graph p.graph)) so_far.reduces.0 h)
+          subst (λ (ns : List VarName). F (join_at JA.names ns a.graph p.graph)) part.0
+          (subst (λ (ns : List VarName). F (join_at ns p.names a.graph p.graph)) so_far.0 h)
 
       join_grown : automaton_of L (join_all (take (k + 1) es)) ≡ of_join JA JP
       join_grown =
@@ -376,14 +364,12 @@ module _ (q : QueryTree) (lets : List (Option Marked)) (known : AreCompiled q le
           ∙ (join_push L f.0 f.1 y ∙ ap (λ (zs : List ExprTree). of_join (automaton_of L (join_all zs)) JP) (sym f.2)))
 
       pub join_next : (j : Marked) → j.names ≡ all_names a.names p.names → Reduces j.graph (join_at a.names p.names a.graph p.graph) → SoFar join_all L es (k + 1) j
-      join_next j names reduces = record {
-        reduces = subst (λ (M : Marked). ReducesMarked j M) (sym join_grown) (
-          names ∙ (ap (λ (ns : List VarName). all_names ns p.names) so_far.reduces.0 ∙ ap (λ (ns : List VarName). all_names JA.names ns) part.reduces.0),
-          reduct_of_reduct j.graph (join_at JA.names JP.names a.graph p.graph) (join_at JA.names JP.names JA.graph JP.graph)
-              (renamed (λ (B : Automaton). Reduces j.graph B) reduces) join_reduces,
-        );
-        fine = fine_more es k y at so_far.fine (part.keeps, part.small);
-      }
+      join_next j names reduces =
+          subst (λ (M : Marked). ReducesMarked j M) (sym join_grown) (
+            names ∙ (ap (λ (ns : List VarName). all_names ns p.names) so_far.0 ∙ ap (λ (ns : List VarName). all_names JA.names ns) part.0),
+            reduct_of_reduct j.graph (join_at JA.names JP.names a.graph p.graph) (join_at JA.names JP.names JA.graph JP.graph)
+                (renamed (λ (B : Automaton). Reduces j.graph B) reduces) join_reduces,
+          )
 
       join_is_part : IsPartOf L (join_all es) (of_join JA JP)
       join_is_part =
@@ -410,7 +396,7 @@ module _ (q : QueryTree) (lets : List (Option Marked)) (known : AreCompiled q le
       join_fault OutOfMemory h = tt
 
     pub join_done : (a : Marked) (k : ℕ) → k ≡ length es → SoFar join_all L es k a → IsCompiledFrom q N (join_all es) a
-    join_done a k e s = let made = so_far_all join_all L join_fine es k a e s in record { reduces = made.0; keeps = made.1.0; small = made.1.1 }
+    join_done a k e s = so_far_all join_all L es k a e s
 
     pub join_part_fault : (e : ExprTree) → Has es e → (fault : SizeFault) → HasLargePartOf L e fault → HasLargePartOf L (join_all es) fault
     join_part_fault e h fault = large_part L e (join_all es) fault (λ M p. join_part_of L es e M h p)

@@ -1,6 +1,7 @@
 pub mod Assoc
 pub mod CompileLaws
 pub mod FarBack
+pub mod HeldLaws
 pub mod Names
 pub mod PartLaws
 pub mod PieceLaws

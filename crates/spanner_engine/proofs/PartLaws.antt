@@ -72,12 +72,6 @@ module _ (L : ℕ → Marked) where
   large_part e w (Ways count) up h = (h.0, (h.1.0, up h.1.0 h.1.1, h.1.2))
   large_part e w OutOfMemory up h = h
 
-pub large_union_part : (L : ℕ → Marked) (es : List ExprTree) (e : ExprTree) → Has es e → (fault : SizeFault) → HasLargePartOf L e fault → HasLargePartOf L (union_all es) fault
-large_union_part L es e h fault = large_part L e (union_all es) fault (λ M p. union_part_of L es e M h p)
-
-pub large_join_part : (L : ℕ → Marked) (es : List ExprTree) (e : ExprTree) → Has es e → (fault : SizeFault) → HasLargePartOf L e fault → HasLargePartOf L (join_all es) fault
-large_join_part L es e h fault = large_part L e (join_all es) fault (λ M p. join_part_of L es e M h p)
-
 -- a part that is refused, or a query that is
 pub still_refused : {A B : Type 0} (old now : Option SizeFault) (fault : SizeFault) → now ≡ old → (A → B) → A ⊎ (now ≡ Some fault) → B ⊎ (old ≡ Some fault)
 still_refused old now fault same up (inl a) = inl (up a)

@@ -14,8 +14,10 @@ use Rattle.spanner_model.specs.WellBuilt.{IsWellBuilt}
 use Rattle.spanner_model.specs.Captures.{VarName}
 use Rattle.spanner_model.specs.Expression.{ExprTree, QueryTree, atom, named, union_end, union, join_end, join, project, union_all, join_all}
 use Rattle.spanner_model.specs.Answer.{vars_of_lets}
-use Rattle.spanner_model.specs.Sound.{IsSound, IsSoundExpr, AreUnited, AreJoined}
-use Rattle.spanner_model.proofs.HasLaws.{place_of-Has}
+use Rattle.spanner_model.specs.Sound.{IsSound, IsSoundExpr}
+use Rattle.spanner_model.proofs.HasLaws.{Has-append_cases, Has-slice_get, place_of-Has}
+use Rattle.spanner_model.proofs.Nodes.{expr_nodes}
+use Rattle.spanner_model.proofs.ExprLaws.{union_size, part_size, union_part, join_part, union_two, join_two}
 use Rattle.spanner_model.proofs.TreeLaws.{take_at_more}
 use Rattle.marked_automaton.specs.declared.fault.SizeFault.{SizeFault}
 use Rattle.marked_automaton.specs.declared.fault.SizeFault.TheVariants.{States, Ways, OutOfMemory}
@@ -28,10 +30,12 @@ use Rattle.spanner_engine.specs.Excess.{IsExcessOf}
 use Rattle.spanner_engine.specs.Kept.{KeepsInOrder}
 use Rattle.spanner_engine.specs.Parts.{HasLargePart, HasLargePartOf, HasSmallAtoms, IsPartOf, IsUnionStep, IsJoinStep}
 use Rattle.spanner_engine.specs.QueryAutomaton.{of_atom, of_union, of_join, of_projection, automaton_of, united, together, of_lets}
-use Rattle.spanner_engine.specs.Sizes.{AreSized, AreSizesOf, IsSizedFrom}
+use Rattle.spanner_engine.specs.Sizes.{AreSized, AreSizesOf, IsSizedFrom, all_of, of_two}
+use Rattle.spanner_engine.specs.declared.sizes.Operation.{Operation}
+use Rattle.spanner_engine.specs.declared.sizes.Operation.TheVariants.{Union, Join}
 use Rattle.spanner_engine.specs.declared.sizes.Sizes.{Sizes}
-use Rattle.spanner_engine.proofs.CompileLaws.{IsFine, first_taken, fine_more, union_fine, join_fine}
-use Rattle.spanner_engine.proofs.PartLaws.{union_push, join_push}
+use Rattle.spanner_engine.proofs.CompileLaws.{first_taken}
+use Rattle.spanner_engine.proofs.PartLaws.{union_push, join_push, union_part_of, join_part_of, large_part}
 use Rattle.spanner_engine.proofs.PieceLaws.{atom_counts, let_before, let_here}
 
 -- ---- sizes of one automaton
@@ -56,74 +60,90 @@ projected_sizes kept A s a = record { states = a.states; ways = omega (arith, a.
 pub projected_from : (q : QueryTree) (n : ℕ) (kept : List VarName) (e : ExprTree) (s : Sizes) → Ascending kept → IsSizedFrom q n e s → IsSizedFrom q n (project kept e) s
 projected_from q n kept e s up h = record { sizes = projected_sizes kept (automaton_of (of_lets q.lets n) e) s h.sizes; keeps = (up, h.keeps); small = h.small }
 
+-- ---- parts of a union or a join
+
+-- a part has fewer nodes than the whole, and is sound where the whole is
+pub part_at : (V : ℕ → VarName → Type 0) (n : ℕ) (o : Operation) (es : List ExprTree) (k : ℕ) (e : ExprTree) → slice_get es k ≡ Some e → IsSoundExpr V n (all_of o es) →
+    (expr_nodes e < expr_nodes (all_of o es)) × IsSoundExpr V n e
+part_at V n Union es k e at sound = let h = Has-slice_get es k e at in (omega (arith, part_size es e h, union_size es), union_part V n es e sound h)
+part_at V n Join es k e at sound = let h = Has-slice_get es k e at in (part_size es e h, join_part V n es e sound h)
+
+pub two_parts : (V : ℕ → VarName → Type 0) (n : ℕ) (o : Operation) (es : List ExprTree) → IsSoundExpr V n (all_of o es) → 2 ≤ length es
+two_parts V n Union es sound = union_two V n es sound
+two_parts V n Join es sound = join_two V n es sound
+
+-- what is too large in a part is too large in the whole
+pub large_part_at : (L : ℕ → Marked) (o : Operation) (es : List ExprTree) (k : ℕ) (e : ExprTree) → slice_get es k ≡ Some e → (fault : SizeFault) → HasLargePartOf L e fault →
+    HasLargePartOf L (all_of o es) fault
+large_part_at L Union es k e at fault = large_part L e (union_all es) fault (λ M p. union_part_of L es e M (Has-slice_get es k e at) p)
+large_part_at L Join es k e at fault = large_part L e (join_all es) fault (λ M p. join_part_of L es e M (Has-slice_get es k e at) p)
+
+-- keeping its order, with small atoms
+abbrev IsFine : ExprTree → Type 0
+IsFine e = KeepsInOrder e × HasSmallAtoms e
+
+all_fine : (o : Operation) (es : List ExprTree) → ((e : ExprTree) → Has es e → IsFine e) → IsFine (all_of o es)
+all_fine Union [] h = (tt, tt)
+all_fine Union (e ∷ es) h = let rest = all_fine Union es (λ g i. h g (inr i)) in let this = h e (inl refl) in ((this.0, rest.0), (this.1, rest.1))
+all_fine Join [] h = (tt, tt)
+all_fine Join (e ∷ es) h = let rest = all_fine Join es (λ g i. h g (inr i)) in let this = h e (inl refl) in ((this.0, rest.0), (this.1, rest.1))
+
+fine_more : (es : List ExprTree) (k : ℕ) (y : ExprTree) → slice_get es k ≡ Some y → ((e : ExprTree) → Has (take k es) e → IsFine e) → IsFine y → (e : ExprTree) → Has (take (k + 1) es) e → IsFine e
+fine_more es k y at h g e i =
+    elim (Has-append_cases (take k es) (y ∷ []) e (subst (λ (zs : List ExprTree). Has zs e) (take_at_more es k y at) i)) as (λ _. IsFine e) [
+      | inl a ↦ h e a
+      | inr b ↦ elim b as (λ _. IsFine e) [ inl same ↦ subst IsFine same g | inr c ↦ absurd c ]
+    ]
+
+alone : (L : ℕ → Marked) (o : Operation) (e : ExprTree) → automaton_of L (all_of o (e ∷ [])) ≡ automaton_of L e
+alone L Union e = refl
+alone L Join e = refl
+
+pushed : (L : ℕ → Marked) (o : Operation) (x : ExprTree) (xs : List ExprTree) (y : ExprTree) →
+    automaton_of L (all_of o (x ∷ xs ++ y ∷ [])) ≡ of_two o (automaton_of L (all_of o (x ∷ xs))) (automaton_of L y)
+pushed L Union x xs y = union_push L x xs y
+pushed L Join x xs y = join_push L x xs y
+
 -- ---- sizes of the first parts
 
--- one part more of a union, and of a join
-union_grown : (L : ℕ → Marked) (es : List ExprTree) (k : ℕ) (y : ExprTree) → 1 ≤ k → slice_get es k ≡ Some y →
-    automaton_of L (union_all (take (k + 1) es)) ≡ of_union (automaton_of L (union_all (take k es))) (automaton_of L y)
-union_grown L es k y l at =
+-- one part more
+grown : (L : ℕ → Marked) (o : Operation) (es : List ExprTree) (k : ℕ) (y : ExprTree) → 1 ≤ k → slice_get es k ≡ Some y →
+    automaton_of L (all_of o (take (k + 1) es)) ≡ of_two o (automaton_of L (all_of o (take k es))) (automaton_of L y)
+grown L o es k y l at =
     let f = first_taken es k l (omega (arith, slice_get_within es k y at)) in
-    ap (λ (zs : List ExprTree). automaton_of L (union_all zs)) (take_at_more es k y at)
-    ∙ (ap (λ (zs : List ExprTree). automaton_of L (union_all (zs ++ y ∷ []))) f.2
-    ∙ (union_push L f.0 f.1 y ∙ ap (λ (zs : List ExprTree). of_union (automaton_of L (union_all zs)) (automaton_of L y)) (sym f.2)))
+    ap (λ (zs : List ExprTree). automaton_of L (all_of o zs)) (take_at_more es k y at)
+    ∙ (ap (λ (zs : List ExprTree). automaton_of L (all_of o (zs ++ y ∷ []))) f.2
+    ∙ (pushed L o f.0 f.1 y ∙ ap (λ (zs : List ExprTree). of_two o (automaton_of L (all_of o zs)) (automaton_of L y)) (sym f.2)))
 
-join_grown : (L : ℕ → Marked) (es : List ExprTree) (k : ℕ) (y : ExprTree) → 1 ≤ k → slice_get es k ≡ Some y →
-    automaton_of L (join_all (take (k + 1) es)) ≡ of_join (automaton_of L (join_all (take k es))) (automaton_of L y)
-join_grown L es k y l at =
-    let f = first_taken es k l (omega (arith, slice_get_within es k y at)) in
-    ap (λ (zs : List ExprTree). automaton_of L (join_all zs)) (take_at_more es k y at)
-    ∙ (ap (λ (zs : List ExprTree). automaton_of L (join_all (zs ++ y ∷ []))) f.2
-    ∙ (join_push L f.0 f.1 y ∙ ap (λ (zs : List ExprTree). of_join (automaton_of L (join_all zs)) (automaton_of L y)) (sym f.2)))
-
--- the sizes of the first k of these parts, of which `all` makes a union or a join
-pub record SizedSoFar (all : List ExprTree → ExprTree) (q : QueryTree) (n : ℕ) (es : List ExprTree) (k : ℕ) (s : Sizes) : Type 0 where
-  pub sizes : AreSizesOf (automaton_of (of_lets q.lets n) (all (take k es))) s
+-- the sizes of the first k of these parts
+pub record SizedSoFar (o : Operation) (q : QueryTree) (n : ℕ) (es : List ExprTree) (k : ℕ) (s : Sizes) : Type 0 where
+  pub sizes : AreSizesOf (automaton_of (of_lets q.lets n) (all_of o (take k es))) s
   pub fine : (e : ExprTree) → Has (take k es) e → IsFine e
 
-module _ (q : QueryTree) (n : ℕ) where
+module _ (o : Operation) (q : QueryTree) (n : ℕ) where
   abbrev L : ℕ → Marked
   L = of_lets q.lets n
 
-  sized_first : (all : List ExprTree → ExprTree) → ((e : ExprTree) → automaton_of L (all (e ∷ [])) ≡ automaton_of L e) → (es : List ExprTree) (x : ExprTree) (s : Sizes) → slice_get es 0 ≡ Some x →
-      IsSizedFrom q n x s → SizedSoFar all q n es 1 s
-  sized_first all alone [] x s at h = absurd (cc)
-  sized_first all alone (e ∷ es) x s at h =
+  pub sized_first : (es : List ExprTree) (x : ExprTree) (s : Sizes) → slice_get es 0 ≡ Some x → IsSizedFrom q n x s → SizedSoFar o q n es 1 s
+  sized_first [] x s at h = absurd (cc)
+  sized_first (e ∷ es) x s at h =
       let same : x ≡ e = cc in record {
-        sizes = subst (λ (M : Marked). AreSizesOf M s) (ap (automaton_of L) same ∙ sym (alone e)) h.sizes;
+        sizes = subst (λ (M : Marked). AreSizesOf M s) (ap (automaton_of L) same ∙ sym (alone L o e)) h.sizes;
         fine = λ w i. elim i as (λ _. IsFine w) [ inl j ↦ subst IsFine (same ∙ j) (h.keeps, h.small) | inr j ↦ absurd j ];
       }
 
-  pub union_sized_first : (es : List ExprTree) (x : ExprTree) (s : Sizes) → slice_get es 0 ≡ Some x → IsSizedFrom q n x s → SizedSoFar union_all q n es 1 s
-  union_sized_first es x s at h = sized_first union_all (λ e. refl) es x s at h
+  pub sized_next : (es : List ExprTree) (k : ℕ) → 1 ≤ k → (y : ExprTree) → slice_get es k ≡ Some y → (s t r : Sizes) → IsSizedFrom q n y t → SizedSoFar o q n es k s →
+      ((A B : Marked) → AreSizesOf A s → AreSizesOf B t → AreSizesOf (of_two o A B) r) → SizedSoFar o q n es (k + 1) r
+  sized_next es k l y at s t r part so_far grow = record {
+    sizes = subst (λ (M : Marked). AreSizesOf M r) (sym (grown L o es k y l at)) (grow (automaton_of L (all_of o (take k es))) (automaton_of L y) so_far.sizes part.sizes);
+    fine = fine_more es k y at so_far.fine (part.keeps, part.small);
+  }
 
-  pub join_sized_first : (es : List ExprTree) (x : ExprTree) (s : Sizes) → slice_get es 0 ≡ Some x → IsSizedFrom q n x s → SizedSoFar join_all q n es 1 s
-  join_sized_first es x s at h = sized_first join_all (λ e. refl) es x s at h
-
-  module _ (es : List ExprTree) (k : ℕ) (l : 1 ≤ k) (y : ExprTree) (at : slice_get es k ≡ Some y) (s t r : Sizes) (part : IsSizedFrom q n y t) where
-    pub union_sized_next : SizedSoFar union_all q n es k s → ((A B : Marked) → AreSizesOf A s → AreSizesOf B t → AreSizesOf (of_union A B) r) → SizedSoFar union_all q n es (k + 1) r
-    union_sized_next so_far grow = record {
-      sizes = subst (λ (M : Marked). AreSizesOf M r) (sym (union_grown L es k y l at)) (grow (automaton_of L (union_all (take k es))) (automaton_of L y) so_far.sizes part.sizes);
-      fine = fine_more es k y at so_far.fine (part.keeps, part.small);
-    }
-
-    pub join_sized_next : SizedSoFar join_all q n es k s → ((A B : Marked) → AreSizesOf A s → AreSizesOf B t → AreSizesOf (of_join A B) r) → SizedSoFar join_all q n es (k + 1) r
-    join_sized_next so_far grow = record {
-      sizes = subst (λ (M : Marked). AreSizesOf M r) (sym (join_grown L es k y l at)) (grow (automaton_of L (join_all (take k es))) (automaton_of L y) so_far.sizes part.sizes);
-      fine = fine_more es k y at so_far.fine (part.keeps, part.small);
-    }
-
-  sized_all : (all : List ExprTree → ExprTree) → ((es : List ExprTree) → ((e : ExprTree) → Has es e → IsFine e) → IsFine (all es)) → (es : List ExprTree) (k : ℕ) (s : Sizes) → k ≡ length es →
-      SizedSoFar all q n es k s → IsSizedFrom q n (all es) s
-  sized_all all fine es k s e h =
+  pub sized_whole : (es : List ExprTree) (k : ℕ) (s : Sizes) → k ≡ length es → SizedSoFar o q n es k s → IsSizedFrom q n (all_of o es) s
+  sized_whole es k s e h =
       let whole : take k es ≡ es = ap (λ i. take i es) e ∙ take-length es in
-      let f = fine es (λ g i. h.fine g (subst (λ (zs : List ExprTree). Has zs g) (sym whole) i)) in
-      record { sizes = subst (λ (zs : List ExprTree). AreSizesOf (automaton_of L (all zs)) s) whole h.sizes; keeps = f.0; small = f.1 }
-
-  pub union_sized : (es : List ExprTree) (k : ℕ) (s : Sizes) → k ≡ length es → SizedSoFar union_all q n es k s → IsSizedFrom q n (union_all es) s
-  union_sized es k s e h = sized_all union_all union_fine es k s e h
-
-  pub join_sized : (es : List ExprTree) (k : ℕ) (s : Sizes) → k ≡ length es → SizedSoFar join_all q n es k s → IsSizedFrom q n (join_all es) s
-  join_sized es k s e h = sized_all join_all join_fine es k s e h
+      let f = all_fine o es (λ g i. h.fine g (subst (λ (zs : List ExprTree). Has zs g) (sym whole) i)) in
+      record { sizes = subst (λ (zs : List ExprTree). AreSizesOf (automaton_of L (all_of o zs)) s) whole h.sizes; keeps = f.0; small = f.1 }
 
 -- ---- lets
 
@@ -176,60 +196,27 @@ sized_lets q lets known long l h = let p = place_of-Has q.lets l h in known.keep
 -- ---- what is too large by its sizes
 
 module _ (L : ℕ → Marked) (V : ℕ → VarName → Type 0) (n : ℕ) where
-  -- whether a part follows
-  union_ends : (rest : ExprTree) → AreUnited V n rest → (rest ≡ union_end) ⊎ (rest ≡ union_end → ⊥)
-  union_ends (atom s t f) h = absurd h
-  union_ends (named k) h = absurd h
-  union_ends union_end h = inl refl
-  union_ends (union e rest) h = inr (λ same. cc)
-  union_ends join_end h = absurd h
-  union_ends (join e rest) h = absurd h
-  union_ends (project kept e) h = absurd h
-
-  join_ends : (rest : ExprTree) → AreJoined V n rest → (rest ≡ join_end) ⊎ (rest ≡ join_end → ⊥)
-  join_ends (atom s t f) h = absurd h
-  join_ends (named k) h = absurd h
-  join_ends union_end h = absurd h
-  join_ends (union e rest) h = absurd h
-  join_ends join_end h = inl refl
-  join_ends (join e rest) h = inr (λ same. cc)
-  join_ends (project kept e) h = absurd h
-
   -- the last step gives the whole
-  last_union : (A : Marked) (rest : ExprTree) → AreUnited V n rest → (rest ≡ union_end → ⊥) → IsUnionStep L A rest (united L A rest)
-  last_union A (atom s t f) h more = absurd h
-  last_union A (named k) h more = absurd h
-  last_union A union_end h more = absurd (more refl)
-  last_union A (union e rest) h more =
-      elim (union_ends rest h.1) as (λ _. IsUnionStep L A (union e rest) (united L A (union e rest))) [
-        | inl same ↦ inr (inl (ap (λ (r : ExprTree). united L (of_union A (automaton_of L e)) r) same))
-        | inr other ↦ inr (inr (last_union (of_union A (automaton_of L e)) rest h.1 other))
-      ]
-  last_union A join_end h more = absurd h
-  last_union A (join e rest) h more = absurd h
-  last_union A (project kept e) h more = absurd h
+  last_union : (A : Marked) (e rest : ExprTree) → IsUnionStep L A (union e rest) (united L A (union e rest))
+  last_union A e (union g rest) = inr (inr (last_union (of_union A (automaton_of L e)) g rest))
+  last_union A e _ = inr (inl refl)
 
-  last_join : (A : Marked) (rest : ExprTree) → AreJoined V n rest → (rest ≡ join_end → ⊥) → IsJoinStep L A rest (together L A rest)
-  last_join A (atom s t f) h more = absurd h
-  last_join A (named k) h more = absurd h
-  last_join A union_end h more = absurd h
-  last_join A (union e rest) h more = absurd h
-  last_join A join_end h more = absurd (more refl)
-  last_join A (join e rest) h more =
-      elim (join_ends rest h.1) as (λ _. IsJoinStep L A (join e rest) (together L A (join e rest))) [
-        | inl same ↦ inr (inl (ap (λ (r : ExprTree). together L (of_join A (automaton_of L e)) r) same))
-        | inr other ↦ inr (inr (last_join (of_join A (automaton_of L e)) rest h.1 other))
-      ]
-  last_join A (project kept e) h more = absurd h
+  last_join : (A : Marked) (e rest : ExprTree) → IsJoinStep L A (join e rest) (together L A (join e rest))
+  last_join A e (join g rest) = inr (inr (last_join (of_join A (automaton_of L e)) g rest))
+  last_join A e _ = inr (inl refl)
 
   -- the whole is a part
   whole_part : (e : ExprTree) → IsSoundExpr V n e → IsPartOf L e (automaton_of L e)
   whole_part (atom s t f) h = refl
   whole_part (named k) h = refl
   whole_part union_end h = absurd h
-  whole_part (union e rest) h = inr (last_union (automaton_of L e) rest h.1 h.2)
+  whole_part (union e union_end) h = absurd (h.2 refl)
+  whole_part (union e (union g rest)) h = inr (last_union (automaton_of L e) g rest)
+  whole_part (union e _) h = absurd h.1
   whole_part join_end h = absurd h
-  whole_part (join e rest) h = inr (last_join (automaton_of L e) rest h.1 h.2)
+  whole_part (join e join_end) h = absurd (h.2 refl)
+  whole_part (join e (join g rest)) h = inr (last_join (automaton_of L e) g rest)
+  whole_part (join e _) h = absurd h.1
   whole_part (project kept e) h = inr refl
 
   pub excess_fault : (e : ExprTree) → IsSoundExpr V n e → (s : Sizes) → AreSizesOf (automaton_of L e) s → (fault : SizeFault) → IsExcessOf s (Some fault) → HasLargePartOf L e fault

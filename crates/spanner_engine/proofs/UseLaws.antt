@@ -1,5 +1,5 @@
 -- What expressions name, and until when their lets are kept.
-use Rattle.std.proofs.Common.{◌≡◌, ℕ, suc, ◌+◌, ◌-◌, ◌<◌, ◌≤◌, max, ◌⊎◌, ◌↔◌, List, [], ◌∷◌, ◌++◌, length, take, replicate, get_or, Option, Some, IsNone, inl, inr, refl, sym, ap, subst, arith, ◌∙◌}
+use Rattle.std.proofs.Common.{◌≡◌, ℕ, Bool, true, ◌+◌, ◌-◌, ◌<◌, ◌≤◌, max, ◌⊎◌, ◌↔◌, List, [], ◌∷◌, ◌++◌, length, take, replicate, get_or, Some, inl, inr, refl, sym, ap, subst, arith, ◌∙◌}
 use Rattle.std.specs.Prelude.{slice_get, slice_index, slice_set}
 use Rattle.std.proofs.Math.Seq.{take-nil}
 use Rattle.std.proofs.lemmas.Bool.{cases_lt}
@@ -19,9 +19,7 @@ use Rattle.spanner_model.specs.Captures.{VarName}
 use Rattle.spanner_model.specs.Expression.{ExprTree, QueryTree, atom, named, union_end, union, join_end, join, project, union_all, join_all}
 use Rattle.spanner_model.specs.Answer.{vars_of_lets}
 use Rattle.spanner_model.specs.Sound.{IsSound, IsSoundExpr, AreUnited, AreJoined}
-use Rattle.marked_automaton.specs.Automaton.{Marked}
-use Rattle.spanner_engine.specs.Compiling.{kept_at}
-use Rattle.spanner_engine.specs.Uses.{Names, SomeNames, NamesAt, NeedsAt, IsNeeded, body_needed, let_needed, IsNamedFrom, AreLastUses, IsNoted}
+use Rattle.spanner_engine.specs.Uses.{Names, SomeNames, NamesAt, NeedsAt, IsNeeded, body_needed, let_needed, each_needed, AreLastUses, IsNoted}
 
 -- ---- what expressions name
 
@@ -107,20 +105,6 @@ some_more es k e j at = (
   where
     more : take (k + 1) es ≡ take k es ++ e ∷ []
     more = take_at_more es k e at
-
--- ---- until when lets are kept
-
--- what is named from the next number on is named from this one on
-pub named_before : (q : QueryTree) (n k : ℕ) → IsNamedFrom q (suc n) k → IsNamedFrom q n k
-named_before q n k h = (h.0, omega (arith, h.1), h.2)
-
--- what is named from number n on has its last use there or later
-pub last_from : (q : QueryTree) (last : List ℕ) (n k : ℕ) → AreLastUses q last → IsNamedFrom q n k → n ≤ slice_index last k
-last_from q last n k uses h = omega (arith, h.1, uses.no_later h.0 k h.2)
-
--- a let that has a last use is needed
-pub used_needed : (q : QueryTree) (last : List ℕ) (k : ℕ) → AreLastUses q last → (slice_index last k ≡ 0 → ⊥) → IsNeeded q k
-used_needed q last k uses used = elim (uses.named k) as (λ _. IsNeeded q k) [ inl e ↦ absurd (used e) | inr m ↦ let_needed m.0 m.1 ]
 
 -- ---- noting uses
 
@@ -208,18 +192,19 @@ names_before q sound n k m =
 
 -- ---- what is needed
 
-needed_cases : (q : QueryTree) (k : ℕ) → IsNeeded q k → (k ≡ length q.lets) ⊎ ((n : ℕ) × NeedsAt q n k)
-needed_cases q _ body_needed = inl refl
-needed_cases q _ (let_needed {n} {k} h m) = inr (n, (h, m))
+needed_cases : (q : QueryTree) (every : Bool) (k : ℕ) → IsNeeded q every k → (k ≡ length q.lets) ⊎ (((n : ℕ) × NeedsAt q every n k) ⊎ (every ≡ true))
+needed_cases q every _ body_needed = inl refl
+needed_cases q every _ (let_needed {n} {k} h m) = inr (inl (n, (h, m)))
+needed_cases q every _ (each_needed {k} e l) = inr (inr e)
 
 -- the uses in the needed expressions from number n on are noted, and nothing else is
-pub record UsesFrom (q : QueryTree) (n : ℕ) (last : List ℕ) : Type 0 where
+pub record UsesFrom (q : QueryTree) (every : Bool) (n : ℕ) (last : List ℕ) : Type 0 where
   pub long : length last ≡ length q.lets
-  pub no_later : (j k : ℕ) → n ≤ j → NeedsAt q j k → j ≤ slice_index last k
-  pub named : (k : ℕ) → (slice_index last k ≡ 0) ⊎ NeedsAt q (slice_index last k) k
+  pub no_later : (j k : ℕ) → n ≤ j → NeedsAt q every j k → j ≤ slice_index last k
+  pub named : (k : ℕ) → (slice_index last k ≡ 0) ⊎ NeedsAt q every (slice_index last k) k
 
-none_from : (q : QueryTree) (last : List ℕ) (n : ℕ) → n ≡ length q.lets → last ≡ replicate n 0 → UsesFrom q (n + 1) last
-none_from q last n end zeros = record {
+none_from : (q : QueryTree) (every : Bool) (last : List ℕ) (n : ℕ) → n ≡ length q.lets → last ≡ replicate n 0 → UsesFrom q every (n + 1) last
+none_from q every last n end zeros = record {
   long = ap length zeros ∙ (length-replicate n 0 ∙ end);
   no_later = λ j k le m. absurd (elim m.1 as (λ _. ⊥) [ inl a ↦ omega (arith, le, end, slice_get_within q.lets j a.0 a.1) | inr b ↦ omega (arith, le, end, b.0) ]);
   named = λ k. inl (ap (λ (ys : List ℕ). slice_index ys k) zeros ∙ zero_at k);
@@ -232,11 +217,11 @@ none_from q last n end zeros = record {
     ]
 
 -- what a needed expression names is noted
-pub one_use_more : (q : QueryTree) (n : ℕ) (P : ℕ → Type 0) (last new : List ℕ) → ((k : ℕ) → NamesAt q n k ↔ P k) → IsNeeded q n → UsesFrom q (n + 1) last → IsNoted P n last new →
-    UsesFrom q n new
-one_use_more q n P last new names needed s noted = record { long = noted.long ∙ s.long; no_later = no_later; named = named_there }
+pub one_use_more : (q : QueryTree) (every : Bool) (n : ℕ) (P : ℕ → Type 0) (last new : List ℕ) → ((k : ℕ) → NamesAt q n k ↔ P k) → IsNeeded q every n → UsesFrom q every (n + 1) last → IsNoted P n last new →
+    UsesFrom q every n new
+one_use_more q every n P last new names needed s noted = record { long = noted.long ∙ s.long; no_later = no_later; named = named_there }
   where
-    no_later : (j k : ℕ) → n ≤ j → NeedsAt q j k → j ≤ slice_index new k
+    no_later : (j k : ℕ) → n ≤ j → NeedsAt q every j k → j ≤ slice_index new k
     no_later j k le h =
         elim (cases_lt n j) as (λ _. j ≤ slice_index new k) [
           | inl behind ↦ omega (arith, s.no_later j k (omega (arith, behind)) h, noted.no_less k)
@@ -245,17 +230,17 @@ one_use_more q n P last new names needed s noted = record { long = noted.long �
               omega (arith, same, noted.noted k ((names k).0 (subst (λ i. NamesAt q i k) same h.1)))
         ]
 
-    named_there : (k : ℕ) → (slice_index new k ≡ 0) ⊎ NeedsAt q (slice_index new k) k
+    named_there : (k : ℕ) → (slice_index new k ≡ 0) ⊎ NeedsAt q every (slice_index new k) k
     named_there k =
-        elim (noted.no_more k) as (λ _. (slice_index new k ≡ 0) ⊎ NeedsAt q (slice_index new k) k) [
-          | inl same ↦ subst (λ i. (i ≡ 0) ⊎ NeedsAt q i k) (sym same) (s.named k)
-          | inr c ↦ inr (subst (λ i. NeedsAt q i k) (sym c.0) (needed, (names k).1 c.1))
+        elim (noted.no_more k) as (λ _. (slice_index new k ≡ 0) ⊎ NeedsAt q every (slice_index new k) k) [
+          | inl same ↦ subst (λ i. (i ≡ 0) ⊎ NeedsAt q every i k) (sym same) (s.named k)
+          | inr c ↦ inr (subst (λ i. NeedsAt q every i k) (sym c.0) (needed, (names k).1 c.1))
         ]
 
 -- the body's uses, before any other
-pub body_uses : (q : QueryTree) (xs last new : List ℕ) (n m : ℕ) → n ≡ length q.lets → xs ≡ [] → m ≡ 0 → last ≡ take n xs ++ replicate (n - m) 0 → IsNoted (Names q.body) n last new → UsesFrom q n new
-body_uses q xs last new n m end none zero_long is noted =
-    one_use_more q n (Names q.body) last new (body_names q n end) (subst (λ i. IsNeeded q i) (sym end) body_needed) (none_from q last n end zeros) noted
+pub body_uses : (q : QueryTree) (every : Bool) (xs last new : List ℕ) (n m : ℕ) → n ≡ length q.lets → xs ≡ [] → m ≡ 0 → last ≡ take n xs ++ replicate (n - m) 0 → IsNoted (Names q.body) n last new → UsesFrom q every n new
+body_uses q every xs last new n m end none zero_long is noted =
+    one_use_more q every n (Names q.body) last new (body_names q n end) (subst (λ i. IsNeeded q every i) (sym end) body_needed) (none_from q every last n end zeros) noted
   where
     all : n - m ≡ n
     all = omega (arith, zero_long)
@@ -263,39 +248,37 @@ body_uses q xs last new n m end none zero_long is noted =
     zeros : last ≡ replicate n 0
     zeros = is ∙ (ap (λ k. take n xs ++ replicate k 0) all ∙ (ap (λ (ys : List ℕ). take n ys ++ replicate n 0) none ∙ ap (λ (ys : List ℕ). ys ++ replicate n 0) (take-nil n)))
 
--- a let that is noted is needed
-pub noted_needed : (q : QueryTree) (n : ℕ) (last : List ℕ) → UsesFrom q (n + 1) last → 0 < slice_index last n → IsNeeded q n
-noted_needed q n last s more = elim (s.named n) as (λ _. IsNeeded q n) [ inl e ↦ absurd (omega (arith, e, more)) | inr m ↦ let_needed m.0 m.1 ]
+-- a let is needed where it is noted, or where every one is
+pub noted_needed : (q : QueryTree) (every : Bool) (n : ℕ) (last : List ℕ) → UsesFrom q every (n + 1) last → n < length q.lets → (every ≡ true) ⊎ (0 < slice_index last n) → IsNeeded q every n
+noted_needed q every n last s within (inl e) = each_needed e within
+noted_needed q every n last s within (inr more) = elim (s.named n) as (λ _. IsNeeded q every n) [ inl e ↦ absurd (omega (arith, e, more)) | inr m ↦ let_needed m.0 m.1 ]
 
 -- one that is not is not, and its own names count for nothing
-pub no_use_more : (q : QueryTree) → IsSound q → (n : ℕ) (last : List ℕ) → n < length q.lets → UsesFrom q (n + 1) last → slice_index last n ≡ 0 → UsesFrom q n last
-no_use_more q sound n last within s none = record {
+pub no_use_more : (q : QueryTree) (every : Bool) → IsSound q → (n : ℕ) (last : List ℕ) → n < length q.lets → UsesFrom q every (n + 1) last → (every ≡ true → ⊥) → slice_index last n ≡ 0 → UsesFrom q every n last
+no_use_more q every sound n last within s some none = record {
   long = s.long;
   no_later = λ j k le h. elim (cases_lt n j) as (λ _. j ≤ slice_index last k) [
     | inl behind ↦ s.no_later j k (omega (arith, behind)) h
-    | inr ge ↦ let same : j ≡ n = omega (arith, ge, le) in absurd (unneeded (subst (λ i. IsNeeded q i) same h.0))
+    | inr ge ↦ let same : j ≡ n = omega (arith, ge, le) in absurd (unneeded (subst (λ i. IsNeeded q every i) same h.0))
   ];
   named = s.named;
 }
   where
-    unneeded : IsNeeded q n → ⊥
+    unneeded : IsNeeded q every n → ⊥
     unneeded h =
-        elim (needed_cases q n h) as (λ _. ⊥) [
+        elim (needed_cases q every n h) as (λ _. ⊥) [
           | inl e ↦ omega (arith, e, within)
-          | inr m ↦ let behind = names_before q sound m.0 n m.1.1 in omega (arith, behind, none, s.no_later m.0 n (omega (arith, behind)) m.1)
+          | inr (inl m) ↦ let behind = names_before q sound m.0 n m.1.1 in omega (arith, behind, none, s.no_later m.0 n (omega (arith, behind)) m.1)
+          | inr (inr e) ↦ some e
         ]
 
 -- what is read at a place
 pub read_at : (xs : List ℕ) (k u : ℕ) → k < length xs → u ≡ get_or xs k u → slice_index xs k ≡ u
 read_at xs k u within is = get_or_from_slice_get xs k u 0 (slice_get-get_or xs k u within ∙ ap Some (sym is))
 
-pub all_uses : (q : QueryTree) (last : List ℕ) (n : ℕ) → n ≡ 0 → UsesFrom q n last → AreLastUses q last
-all_uses q last n zero s = record { long = s.long; no_later = λ j k m. s.no_later j k (omega (arith, zero)) m; named = s.named }
+pub all_uses : (q : QueryTree) (every : Bool) (last : List ℕ) (n : ℕ) → n ≡ 0 → UsesFrom q every n last → AreLastUses q every last
+all_uses q every last n zero s = record { long = s.long; no_later = λ j k m. s.no_later j k (omega (arith, zero)) m; named = s.named }
 
--- ---- letting go
-
--- of the first k lets those that are named no more are let go, and of all lets those that are named are kept
-pub record LetGoSoFar (last : List ℕ) (number k : ℕ) (old new : List (Option Marked)) : Type 0 where
-  pub long : length new ≡ length old
-  pub kept : (i : ℕ) → number < slice_index last i → kept_at new i ≡ kept_at old i
-  pub gone : (i : ℕ) → i < k → slice_index last i ≤ number → IsNone (kept_at new i)
+-- a let that has a last use is needed
+pub used_needed : (q : QueryTree) (every : Bool) (last : List ℕ) (k : ℕ) → AreLastUses q every last → (slice_index last k ≡ 0 → ⊥) → IsNeeded q every k
+used_needed q every last k uses used = elim (uses.named k) as (λ _. IsNeeded q every k) [ inl e ↦ absurd (used e) | inr m ↦ let_needed m.0 m.1 ]

@@ -1,5 +1,6 @@
 pub mod Compiling
 pub mod Excess
+pub mod Held
 pub mod Kept
 pub mod Laws
 pub mod Parts

@@ -1,5 +1,6 @@
 //! How much work the automata of a query may cost.
 ghost use Rattle.std.specs.Prelude.{◌≡◌, ◌<◌, ◌+◌, ◌-◌, ◌*◌, ◌^◌, ◌⊎◌, min, length, Some, None, IfErr, OnOk};
+ghost use Rattle.marked_automaton.specs.declared.fault.SizeFault.TheVariants.{OutOfMemory as WantOfMemory};
 ghost use Rattle.spanner_engine.specs.Excess.{IsExcessOf};
 
 use crate::sizes::Sizes;
@@ -22,8 +23,9 @@ const STEPS_TO_READ: u64 = 8;
 pub struct Budget {
     /// What may still be done.
     pub effort: Effort,
-    /// What the sizes of the whole say against it. Where they say nothing the work is not bounded, since
-    /// the atoms, those of one state aside, then have few states together.
+    /// What is answered where nothing is left: what the sizes of the whole say against it. Where they say
+    /// nothing the work is not bounded, since the atoms, those of one state aside, then have few states
+    /// together.
     pub excess: Option<SizeFault>,
 }
 
@@ -36,6 +38,18 @@ impl Budget {
         Budget {
             effort: Effort::new(MOST_STEPS),
             excess: excess_of(sizes),
+        }
+    }
+
+    /// That of making every `let` of a query, the body needs it or not: where it is spent, want of memory is
+    /// answered, which says nothing of the query.
+    pub fn of_every_let() -> Budget
+        ensures excess { result.excess ≡ Some WantOfMemory }
+        ensures effort { result.effort ≡ 320000000 }
+    {
+        Budget {
+            effort: Effort::new(MOST_STEPS),
+            excess: Some(SizeFault::OutOfMemory),
         }
     }
 
@@ -54,6 +68,19 @@ impl Budget {
         match self.excess {
             Some(fault) => Err(fault),
             None => Ok(()),
+        }
+    }
+
+    /// Spends all that is left, and tells what is answered then.
+    pub fn give_up(&mut self) -> SizeFault
+        ensures excess { self.new.excess ≡ self.old.excess }
+        ensures effort { self.new.effort ≡ 0 }
+        ensures fault { (self.old.excess ≡ Some result) ⊎ ((self.old.excess ≡ None) × (result ≡ WantOfMemory)) }
+    {
+        self.effort = Effort::new(0);
+        match self.excess {
+            Some(fault) => fault,
+            None => SizeFault::OutOfMemory,
         }
     }
 

@@ -1,23 +1,26 @@
 //! Queries compiled to automata.
-ghost use Rattle.std.specs.Prelude.{◌≡◌, ℕ, ◌+◌, ◌<◌, ◌⊎◌, List, Some, length, IfOk, IfErr, OnOk};
-ghost use Rattle.spanner_model.specs.ExprView.{query_of};
+ghost use Rattle.std.specs.Prelude.{◌≡◌, ℕ, ◌+◌, ◌<◌, ◌≤◌, ◌⊎◌, List, None, Some, length, IfOk, IfErr, IsFalse, IsTrue, OnOk};
+ghost use Rattle.spanner_model.specs.ExprView.{expr_of, query_of};
 ghost use Rattle.spanner_model.specs.Sound.{IsSound};
+ghost use Rattle.marked_automaton.specs.Automaton.{Marked};
 ghost use Rattle.marked_automaton.specs.Reduct.{ReducesMarked};
-ghost use Rattle.spanner_engine.specs.Compiling.{AreCompiled};
+ghost use Rattle.marked_automaton.specs.declared.fault.SizeFault.TheVariants.{OutOfMemory as WantOfMemory};
+ghost use Rattle.spanner_engine.specs.Compiling.{AreCompiled, AreHeldUntil, IsAsked, MayBeHeld};
+ghost use Rattle.spanner_engine.specs.Held.{all_held, until_at};
 ghost use Rattle.spanner_engine.specs.Laws.{AcceptsAnswersOf};
 ghost use Rattle.spanner_engine.specs.Kept.{QueryKeepsInOrder};
-ghost use Rattle.spanner_engine.specs.Parts.{AtomsAreSmall, HasLargePart};
-ghost use Rattle.spanner_engine.specs.QueryAutomaton.{of_query};
+ghost use Rattle.spanner_engine.specs.Parts.{AtomsAreSmall, HasLargePart, HasLargePartOf};
+ghost use Rattle.spanner_engine.specs.QueryAutomaton.{of_lets, of_query};
 ghost use Rattle.spanner_engine.specs.Uses.{AreLastUses};
 
 use crate::budget::Budget;
 use crate::expressions::expr_automaton;
-use crate::shared::Shared;
+use crate::lets::{Held, Let, has_room, is_left, keep_until, let_go, owner_of};
 use crate::sizes::query_sizes;
-use crate::uses::{has_room, is_left, last_uses, let_go};
-use marked_automaton::{Automaton, SizeFault};
+use crate::uses::last_uses;
+use marked_automaton::{Automaton, MOST_STATES, SizeFault};
 use span_core::VarSet;
-use spanner_model::Query;
+use spanner_model::{Expr, Query};
 use std::alloc::Global;
 
 /// A query, and its automaton.
@@ -31,11 +34,13 @@ pub struct Compiled<'q> {
 /// The automaton of a sound query.
 ///
 /// It first counts how large the automata of the `let`s and of the body are, used or not, and makes none.
-/// Then it compiles the `let`s that the body needs, in their order, and the body, parts from left to right,
-/// and leaves out what leads to no end. A `let`'s automaton is shared by the expressions that name it, and
-/// let go after the last of them. No more than 2,500,000 states, ways and ends of `let`s are held at once:
-/// where one more would pass that, an atom is left to be made where it is named; for any other `let` the
-/// query is refused for its sizes if these pass the limits, and else for want of memory.
+/// Then it compiles the `let`s in their order, and the body, parts from left to right, and leaves out what
+/// leads to no end. Where the body does not need each `let`, this is tried within a budget of its own; where
+/// it costs more, only the `let`s that the body needs are compiled. A `let`'s automaton is shared by the
+/// expressions that name it, and let go after the last of them. No more than 2,500,000 states, ways and ends
+/// of `let`s are held at once: where one more would pass that, an atom is left to be made where it is named;
+/// for any other `let` the query is refused for its sizes if these pass the limits, and else for want of
+/// memory.
 ///
 /// `States` and `Ways` come only where the automaton of some part of the query, with nothing left out, has
 /// more states than `MOST_STATES`, or more ways than `MOST_WAYS`: the count that they tell is more than
@@ -56,65 +61,148 @@ pub fn compile<'q>(alloc: Global, query: &'q Query) -> Result<Compiled<'q>, Size
         Ok(sizes) => sizes,
         Err(fault) => return Err(fault),
     };
+    let last = last_uses(alloc, query, false)?;
+    if last.contains(&0) {
+        let mut trial = Budget::of_every_let();
+        match with_every_let(alloc, query, &mut trial) {
+            Ok(Some(automaton)) => return Ok(Compiled { query, automaton }),
+            Ok(None) => {}
+            Err(fault) => return Err(fault),
+        }
+    }
     let mut budget = Budget::new(sizes);
-    let last = last_uses(alloc, query)?;
+    match query_automaton(alloc, query, false, &last, &mut budget) {
+        Ok(automaton) => Ok(Compiled { query, automaton }),
+        Err(refused) => Err(refused),
+    }
+}
+
+/// The automaton of a query of which every `let` is made, needed or not, or `None` where nothing is left of
+/// the budget before that. It may refuse the query for a `let` that nothing needs.
+fn with_every_let(
+    alloc: Global,
+    query: &Query,
+    budget: &mut Budget,
+) -> Result<Option<Automaton>, SizeFault>
+    requires sound { IsSound (query_of query.now) }
+    requires keep { QueryKeepsInOrder (query_of query.now) }
+    requires excess { budget.old.excess ≡ Some WantOfMemory }
+    ensures made { IfOk result (λ tried. (a : Marked) → tried ≡ Some a → ReducesMarked a (of_query (query_of query.now))) }
+    ensures costly { IfOk result (λ tried. tried ≡ None → budget.new.effort ≡ 0) }
+    ensures fault { IfErr result (HasLargePart (query_of query.now)) }
+{
+    let last = last_uses(alloc, query, true)?;
+    match query_automaton(alloc, query, true, &last, budget) {
+        Ok(automaton) => Ok(Some(automaton)),
+        Err(fault) => {
+            if budget.effort.is_spent() {
+                return Ok(None);
+            }
+            Err(fault)
+        }
+    }
+}
+
+/// The automaton of a query, made of its body and of the `let`s that are needed: of those that the body
+/// needs, or of every one. `last` has their last uses.
+fn query_automaton(
+    alloc: Global,
+    query: &Query,
+    every: bool,
+    last: &[usize],
+    budget: &mut Budget,
+) -> Result<Automaton, SizeFault>
+    requires sound { IsSound (query_of query.now) }
+    requires keep { QueryKeepsInOrder (query_of query.now) }
+    requires uses { AreLastUses (query_of query.now) every last.now }
+    ensures made { IfOk result (λ a. ReducesMarked a (of_query (query_of query.now))) }
+    ensures fault { IfErr result (λ fault. HasLargePart (query_of query.now) fault ⊎ (budget.old.excess ≡ Some fault)) }
+{
     let mut lets = Vec::new(alloc);
     for _let in 0..query.lets.len() {
-        if let Err(fault) = add_let(alloc, query, &last, &mut lets, &mut budget) {
+        if let Err(fault) = add_let(alloc, query, every, last, &mut lets, budget) {
             return Err(fault);
         }
     }
-    let body = match expr_automaton(alloc, query, &lets, &query.body, &mut budget) {
+    let body = match expr_automaton(alloc, query, &lets, &query.body, budget) {
         Ok(body) => body,
         Err(refused) => return Err(refused),
     };
     drop(lets);
-    Ok(Compiled {
-        query,
-        automaton: body.take(alloc)?,
-    })
+    Ok(body.take(alloc)?)
 }
 
-/// Adds the automaton of the next `let`, or a hole where the body does not need it or where it is left to be
-/// made where it is named, and lets go of those that no later expression needs.
+/// Adds what is held of the next `let`, and lets go of what no later expression needs.
 fn add_let(
     alloc: Global,
     query: &Query,
+    every: bool,
     last: &[usize],
-    lets: &mut Vec<Option<Shared>>,
+    lets: &mut Vec<Let>,
     budget: &mut Budget,
 ) -> Result<(), SizeFault>
     requires sound { IsSound (query_of query.now) }
-    requires uses { AreLastUses (query_of query.now) last.now }
+    requires uses { AreLastUses (query_of query.now) every last.now }
     requires known { AreCompiled (query_of query.now) lets.old.items }
+    requires until { AreHeldUntil last.now lets.old.items }
     requires next { length lets.old.items < length (query_of query.now).lets }
     ensures one { OnOk result (length lets.new.items ≡ length lets.old.items + 1) }
     ensures made { OnOk result (AreCompiled (query_of query.now) lets.new.items) }
+    ensures until { OnOk result (AreHeldUntil last.now lets.new.items) }
+    ensures few { OnOk result (all_held lets.new.items ≤ 2500000) }
     ensures fault { IfErr result (λ fault. HasLargePart (query_of query.now) fault ⊎ (budget.old.excess ≡ Some fault)) }
     ensures excess { budget.new.excess ≡ budget.old.excess }
 {
     let k = lets.len();
-    if last[k] == 0 {
-        lets.push(None)?;
-        return Ok(());
-    }
+    let until = last[k];
+    let needed = every || until > 0;
     let expr = &query.lets.at(k).1;
-    if is_left(expr, lets.as_slice()) {
-        lets.push(None)?;
-        return Ok(());
-    }
-    let automaton = match expr_automaton(alloc, query, lets, expr, budget) {
-        Ok(automaton) => automaton,
+    let held = match held_of(alloc, query, lets, expr, needed, until, budget) {
+        Ok(held) => held,
         Err(fault) => return Err(fault),
     };
-    lets.push(Some(automaton))?;
-    let_go(lets, last, k);
-    if has_room(lets.as_slice(), 0) {
+    lets.push(Let { held, until })?;
+    let_go(lets, k);
+    if has_room(lets, 0) {
         return Ok(());
     }
-    match budget.excess {
-        Some(fault) => Err(fault),
-        None => Err(SizeFault::OutOfMemory),
+    Err(budget.give_up())
+}
+
+/// What is held of a `let` of this expression until the expression of number `until`: nothing where it is
+/// not needed, or where it is left to be made where it is named.
+fn held_of(
+    alloc: Global,
+    query: &Query,
+    lets: &mut [Let],
+    expr: &Expr,
+    needed: bool,
+    until: usize,
+    budget: &mut Budget,
+) -> Result<Held, SizeFault>
+    requires known { AreCompiled (query_of query.now) lets.old }
+    requires asked { IsTrue needed → IsAsked (query_of query.now) lets.old (expr_of expr.now) }
+    requires unneeded { IsFalse needed → until ≡ 0 }
+    ensures made { IfOk result (MayBeHeld (query_of query.now) lets.new (expr_of expr.now) until) }
+    ensures known { AreCompiled (query_of query.now) lets.new }
+    ensures long { length lets.new ≡ length lets.old }
+    ensures until { (k : ℕ) → until_at lets.old k ≤ until_at lets.new k }
+    ensures fault { IfErr result (λ fault. HasLargePartOf (of_lets (query_of query.now).lets (length lets.old)) (expr_of expr.now) fault ⊎ (budget.old.excess ≡ Some fault)) }
+    ensures excess { budget.new.excess ≡ budget.old.excess }
+{
+    if !needed || is_left(expr, lets) {
+        return Ok(Held::Nothing);
+    }
+    if let Some(owner) = owner_of(lets, expr) {
+        keep_until(lets, owner, until);
+        return Ok(Held::Same(owner));
+    }
+    match expr_automaton(alloc, query, lets, expr, budget) {
+        Ok(automaton) => {
+            prove!(automaton.as_automaton().states() <= MOST_STATES);
+            Ok(Held::Own(automaton))
+        }
+        Err(fault) => Err(fault),
     }
 }
 

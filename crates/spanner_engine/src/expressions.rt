@@ -1,5 +1,5 @@
 //! The automata of expressions.
-ghost use Rattle.std.specs.Prelude.{◌≡◌, ℕ, ◌<◌, ◌⊎◌, List, Some, length, IfOk, IfErr, OnOk};
+ghost use Rattle.std.specs.Prelude.{◌≡◌, ℕ, ◌<◌, ◌⊎◌, List, Some, length, IfOk, IfErr};
 ghost use Rattle.span_core.specs.declared.TheConstants.{MOST_VARIABLES};
 ghost use Rattle.spanner_model.specs.Captures.{VarName};
 ghost use Rattle.spanner_model.specs.Expression.{atom as atom_tree, named, union_all, join_all};
@@ -14,10 +14,11 @@ ghost use Rattle.marked_automaton.specs.Automaton.{Marked};
 ghost use Rattle.marked_automaton.specs.Marks.{left_of, remarked};
 ghost use Rattle.marked_automaton.specs.Reduct.{Reduces, ReducesMarked};
 ghost use Rattle.spanner_engine.specs.Compiling.{AreCompiled, IsAsked, IsAtomLet, IsCompiledFrom};
-ghost use Rattle.spanner_engine.specs.Parts.{HasLargePartOf, HasSmallAtoms};
+ghost use Rattle.spanner_engine.specs.Parts.{HasLargePartOf};
 ghost use Rattle.spanner_engine.specs.QueryAutomaton.{of_atom as of_atom_tree, of_lets};
 
 use crate::budget::{Budget, size_of};
+use crate::lets::{Let, owner_of, shared_at};
 use crate::shared::Shared;
 use algebra::{join_within, project, unite};
 use marked_automaton::{MOST_STATES, SizeFault};
@@ -27,17 +28,17 @@ use spanner_model::{Atom, Expr, Exprs, Query};
 use std::alloc::Global;
 
 /// The automaton of an expression of the query, where `lets` has those of the `let`s before it: of each that
-/// it names, but for atoms that are left out and made where they are named.
+/// it names, but for atoms that are left to be made where they are named.
 #[cycle(compiling)]
 pub fn expr_automaton(
     alloc: Global,
     query: &Query,
-    lets: &[Option<Shared>],
+    lets: &[Let],
     expr: &Expr,
     budget: &mut Budget,
 ) -> Result<Shared, SizeFault>
     requires known { AreCompiled (query_of query.now) lets.now }
-    requires asked { IsAsked (query_of query.now) (length lets.now) (expr_of expr.now) }
+    requires asked { IsAsked (query_of query.now) lets.now (expr_of expr.now) }
     ensures made { IfOk result (IsCompiledFrom (query_of query.now) (length lets.now) (expr_of expr.now)) }
     ensures fault { IfErr result (λ fault. HasLargePartOf (of_lets (query_of query.now).lets (length lets.now)) (expr_of expr.now) fault ⊎ (budget.old.excess ≡ Some fault)) }
     ensures excess { budget.new.excess ≡ budget.old.excess }
@@ -47,8 +48,8 @@ pub fn expr_automaton(
             Ok(automaton) => Ok(automaton),
             Err(fault) => Err(fault),
         },
-        Expr::Named(k) => match &lets[*k as usize] {
-            Some(automaton) => Ok(automaton.share()?),
+        Expr::Named(k) => match shared_at(lets, *k as usize)? {
+            Some(automaton) => Ok(automaton),
             None => match left_automaton(alloc, query, *k as usize, budget) {
                 Ok(automaton) => Ok(automaton),
                 Err(fault) => Err(fault),
@@ -127,7 +128,6 @@ fn atom_automaton(alloc: Global, atom: &Atom, budget: &mut Budget) -> Result<Sha
     requires functional { IsFunctional (tree_of atom.now.formula) }
     requires few { AtMost MOST_VARIABLES (HasVar (tree_of atom.now.formula)) }
     ensures made { IfOk result (λ a. ReducesMarked a (of_atom_tree atom.now.from_start atom.now.to_end (tree_of atom.now.formula))) }
-    ensures small { OnOk result (HasSmallAtoms (atom_tree atom.now.from_start atom.now.to_end (tree_of atom.now.formula))) }
     ensures fault { IfErr result (λ fault. ((L : ℕ → Marked) → HasLargePartOf L (atom_tree atom.now.from_start atom.now.to_end (tree_of atom.now.formula)) fault) ⊎ (budget.old.excess ≡ Some fault)) }
     ensures excess { budget.new.excess ≡ budget.old.excess }
 {
@@ -148,12 +148,12 @@ fn atom_automaton(alloc: Global, atom: &Atom, budget: &mut Budget) -> Result<Sha
 fn union_automaton(
     alloc: Global,
     query: &Query,
-    lets: &[Option<Shared>],
+    lets: &[Let],
     parts: &Exprs,
     budget: &mut Budget,
 ) -> Result<Shared, SizeFault>
     requires known { AreCompiled (query_of query.now) lets.now }
-    requires asked { IsAsked (query_of query.now) (length lets.now) (union_all (exprs_of parts.now)) }
+    requires asked { IsAsked (query_of query.now) lets.now (union_all (exprs_of parts.now)) }
     ensures made { IfOk result (IsCompiledFrom (query_of query.now) (length lets.now) (union_all (exprs_of parts.now))) }
     ensures fault { IfErr result (λ fault. HasLargePartOf (of_lets (query_of query.now).lets (length lets.now)) (union_all (exprs_of parts.now)) fault ⊎ (budget.old.excess ≡ Some fault)) }
     ensures excess { budget.new.excess ≡ budget.old.excess }
@@ -162,10 +162,10 @@ fn union_automaton(
         Ok(first) => first,
         Err(fault) => return Err(fault),
     };
-    // A `let` has other owners, so that it is copied.
-    let copied = match parts.at(0) {
-        Expr::Named(_) => size_of(first.as_automaton()),
-        _ => 0,
+    // What a `let` holds is copied.
+    let copied = match owner_of(lets, parts.at(0)) {
+        Some(_) => size_of(first.as_automaton()),
+        None => 0,
     };
     if let Err(fault) = budget.make(copied) {
         return Err(fault);
@@ -196,12 +196,12 @@ fn union_automaton(
 fn join_automaton(
     alloc: Global,
     query: &Query,
-    lets: &[Option<Shared>],
+    lets: &[Let],
     parts: &Exprs,
     budget: &mut Budget,
 ) -> Result<Shared, SizeFault>
     requires known { AreCompiled (query_of query.now) lets.now }
-    requires asked { IsAsked (query_of query.now) (length lets.now) (join_all (exprs_of parts.now)) }
+    requires asked { IsAsked (query_of query.now) lets.now (join_all (exprs_of parts.now)) }
     ensures made { IfOk result (IsCompiledFrom (query_of query.now) (length lets.now) (join_all (exprs_of parts.now))) }
     ensures fault { IfErr result (λ fault. HasLargePartOf (of_lets (query_of query.now).lets (length lets.now)) (join_all (exprs_of parts.now)) fault ⊎ (budget.old.excess ≡ Some fault)) }
     ensures excess { budget.new.excess ≡ budget.old.excess }

@@ -7,6 +7,7 @@ mod budget;
 mod compiled;
 mod expressions;
 pub mod laws;
+mod lets;
 mod shared;
 mod sizes;
 mod uses;

@@ -1,5 +1,5 @@
 //! Automata that are used in more than one place.
-ghost use Rattle.std.specs.Prelude.{◌≡◌, ◌<◌, IfOk};
+ghost use Rattle.std.specs.Prelude.{◌≡◌, IfOk};
 
 use marked_automaton::Automaton;
 use span_core::OutOfMemory;
@@ -42,13 +42,6 @@ impl Shared {
         Ok(Shared {
             automaton: self.automaton.clone()?,
         })
-    }
-
-    /// How many owners it has.
-    pub fn owners(&self) -> usize
-        ensures { 0 < result }
-    {
-        Rc::strong_count(&self.automaton)
     }
 
     /// The automaton, to look at.

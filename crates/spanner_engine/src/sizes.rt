@@ -2,7 +2,7 @@
 ghost use Rattle.std.specs.Prelude.{◌≡◌, ℕ, List, length, IfOk, IfErr, OnOk};
 ghost use Rattle.spanner_model.specs.Answer.{vars_of_lets};
 ghost use Rattle.spanner_model.specs.Captures.{VarName};
-ghost use Rattle.spanner_model.specs.Expression.{atom as atom_tree, union_all, join_all};
+ghost use Rattle.spanner_model.specs.Expression.{atom as atom_tree};
 ghost use Rattle.spanner_model.specs.ExprView.{expr_of, exprs_of, query_of};
 ghost use Rattle.spanner_model.specs.Functional.{IsFunctional};
 ghost use Rattle.spanner_model.specs.Sound.{IsSound, IsSoundExpr};
@@ -11,8 +11,8 @@ ghost use Rattle.spanner_model.specs.WellBuilt.{IsWellBuilt};
 ghost use Rattle.marked_automaton.specs.Automaton.{Marked};
 ghost use Rattle.spanner_engine.specs.Kept.{QueryKeepsInOrder};
 ghost use Rattle.spanner_engine.specs.Parts.{AtomsAreSmall, HasLargePart, HasLargePartOf, HasSmallAtoms};
-ghost use Rattle.spanner_engine.specs.QueryAutomaton.{automaton_of, of_atom, of_join, of_lets, of_union};
-ghost use Rattle.spanner_engine.specs.Sizes.{AreSized, AreSizesOf, IsSizedFrom};
+ghost use Rattle.spanner_engine.specs.QueryAutomaton.{automaton_of, of_atom, of_lets};
+ghost use Rattle.spanner_engine.specs.Sizes.{AreSized, AreSizesOf, IsSizedFrom, all_of, of_two};
 
 use marked_automaton::{MOST_STATES, MOST_WAYS, SizeFault};
 use place_automaton::count;
@@ -30,24 +30,28 @@ pub struct Sizes {
     pub ways: u64,
 }
 
-impl Sizes {
-    /// Those of a union with this part.
-    fn united(self, part: Sizes) -> Sizes
-        ensures { (A B : Marked) → AreSizesOf A self → AreSizesOf B part → AreSizesOf (of_union A B) result }
-    {
-        Sizes {
-            states: self.states.saturating_add(part.states),
-            ways: self.ways.saturating_add(part.ways),
-        }
-    }
+/// What an expression makes of its parts.
+#[derive(Clone, Copy)]
+enum Operation {
+    Union,
+    Join,
+}
 
-    /// Those of a join with this part. How many pairs of ways go together no numbers tell.
-    fn joined(self, part: Sizes) -> Sizes
-        ensures { (A B : Marked) → AreSizesOf A self → AreSizesOf B part → AreSizesOf (of_join A B) result }
+impl Sizes {
+    /// Those of the union, or the join, with this part.
+    fn with(self, operation: Operation, part: Sizes) -> Sizes
+        ensures { (A B : Marked) → AreSizesOf A self → AreSizesOf B part → AreSizesOf (of_two operation A B) result }
     {
-        Sizes {
-            states: self.states.saturating_mul(part.states),
-            ways: 0,
+        match operation {
+            Operation::Union => Sizes {
+                states: self.states.saturating_add(part.states),
+                ways: self.ways.saturating_add(part.ways),
+            },
+            Operation::Join => Sizes {
+                states: self.states.saturating_mul(part.states),
+                // How many pairs of ways go together no numbers tell.
+                ways: 0,
+            },
         }
     }
 }
@@ -91,8 +95,8 @@ fn expr_sizes(query: &Query, lets: &[Sizes], expr: &Expr) -> Result<Sizes, SizeF
             Err(fault) => Err(fault),
         },
         Expr::Named(k) => Ok(lets[*k as usize]),
-        Expr::Union(parts) => union_sizes(query, lets, parts),
-        Expr::Join(parts) => join_sizes(query, lets, parts),
+        Expr::Union(parts) => parts_sizes(query, lets, Operation::Union, parts),
+        Expr::Join(parts) => parts_sizes(query, lets, Operation::Join, parts),
         Expr::Project(kept, sub) => {
             let sizes = match expr_sizes(query, lets, sub) {
                 Ok(sizes) => sizes,
@@ -127,13 +131,18 @@ fn atom_sizes(atom: &Atom) -> Result<Sizes, SizeFault>
     })
 }
 
-/// The sizes of a union, its parts taken from left to right.
+/// The sizes of a union or a join, its parts taken from left to right.
 #[cycle(sizing)]
-fn union_sizes(query: &Query, lets: &[Sizes], parts: &Exprs) -> Result<Sizes, SizeFault>
+fn parts_sizes(
+    query: &Query,
+    lets: &[Sizes],
+    operation: Operation,
+    parts: &Exprs,
+) -> Result<Sizes, SizeFault>
     requires known { AreSized (query_of query.now) lets.now }
-    requires sound { IsSoundExpr (vars_of_lets (query_of query.now).lets (length lets.now)) (length lets.now) (union_all (exprs_of parts.now)) }
-    ensures sized { IfOk result (IsSizedFrom (query_of query.now) (length lets.now) (union_all (exprs_of parts.now))) }
-    ensures fault { IfErr result (HasLargePartOf (of_lets (query_of query.now).lets (length lets.now)) (union_all (exprs_of parts.now))) }
+    requires sound { IsSoundExpr (vars_of_lets (query_of query.now).lets (length lets.now)) (length lets.now) (all_of operation (exprs_of parts.now)) }
+    ensures sized { IfOk result (IsSizedFrom (query_of query.now) (length lets.now) (all_of operation (exprs_of parts.now))) }
+    ensures fault { IfErr result (HasLargePartOf (of_lets (query_of query.now).lets (length lets.now)) (all_of operation (exprs_of parts.now))) }
 {
     let mut all = match expr_sizes(query, lets, parts.at(0)) {
         Ok(first) => first,
@@ -144,29 +153,7 @@ fn union_sizes(query: &Query, lets: &[Sizes], parts: &Exprs) -> Result<Sizes, Si
             Ok(part) => part,
             Err(fault) => return Err(fault),
         };
-        all = all.united(part);
-    }
-    Ok(all)
-}
-
-/// The sizes of a join, its parts taken from left to right.
-#[cycle(sizing)]
-fn join_sizes(query: &Query, lets: &[Sizes], parts: &Exprs) -> Result<Sizes, SizeFault>
-    requires known { AreSized (query_of query.now) lets.now }
-    requires sound { IsSoundExpr (vars_of_lets (query_of query.now).lets (length lets.now)) (length lets.now) (join_all (exprs_of parts.now)) }
-    ensures sized { IfOk result (IsSizedFrom (query_of query.now) (length lets.now) (join_all (exprs_of parts.now))) }
-    ensures fault { IfErr result (HasLargePartOf (of_lets (query_of query.now).lets (length lets.now)) (join_all (exprs_of parts.now))) }
-{
-    let mut all = match expr_sizes(query, lets, parts.at(0)) {
-        Ok(first) => first,
-        Err(fault) => return Err(fault),
-    };
-    for k in 1..parts.len() {
-        let part = match expr_sizes(query, lets, parts.at(k)) {
-            Ok(part) => part,
-            Err(fault) => return Err(fault),
-        };
-        all = all.joined(part);
+        all = all.with(operation, part);
     }
     Ok(all)
 }

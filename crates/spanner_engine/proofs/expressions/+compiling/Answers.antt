@@ -1,5 +1,4 @@
 use Rattle.std.proofs.Common.{◌≡◌, ◌<◌, ◌⊎◌, List, length, Some, None, IfOk, IfErr, inl, refl, sym, ap, ◌∙◌, subst, arith}
-use Rattle.std.proofs.lemmas.Option.{slice_get-get_or, get_or_from_slice_get}
 use Rattle.spanner_model.specs.Captures.{VarName}
 use Rattle.spanner_model.specs.View.{tree_of}
 use Rattle.spanner_model.specs.Expression.{ExprTree, project, union_all, join_all}
@@ -14,12 +13,15 @@ use Rattle.marked_automaton.specs.Reduct.{Reduces}
 use Rattle.marked_automaton.proofs.Reducts.{reduct_of_reduct}
 use Rattle.algebra.specs.JoinedMarks.{agree_on, joined}
 use Rattle.algebra.specs.Operations.{join_of}
-use Rattle.spanner_engine.specs.Compiling.{IsAsked, IsCompiledFrom, kept_at}
+use Rattle.spanner_engine.specs.Compiling.{IsAsked, IsCompiledFrom}
+use Rattle.spanner_engine.specs.Held.{kept_at}
 use Rattle.spanner_engine.specs.Parts.{HasLargePartOf}
 use Rattle.spanner_engine.specs.QueryAutomaton.{of_lets}
 use Rattle.spanner_engine.proofs.CompileLaws.{asked_united, asked_joined, asked_sub, union_first, union_names, union_next, union_fault, union_done, union_part_fault, join_first, join_few, join_next, join_fault, join_done, join_part_fault, join_at, SoFar}
 use Rattle.spanner_engine.proofs.PartLaws.{sum_map, still_refused}
-use Rattle.spanner_engine.proofs.PieceLaws.{atom_few, kept_there, left_is_atom, projected, projection_fault}
+use Rattle.spanner_engine.proofs.PieceLaws.{atom_few, kept_there, projected, projection_fault}
+use Rattle.spanner_engine.proofs.HeldLaws.{left_is_atom}
+use Rattle.spanner_engine.proofs.UseLaws.{names_below}
 use Rattle.spanner_engine.proofs.expressions.+compiling.Goals as goal
 
 -- ---- one expression
@@ -31,8 +33,8 @@ expr_automaton-atom_automaton-requires t c =
     let a = c.in-Atom.atom in
     let f = tree_of a.formula in
     let e = ap expr_of c.in-Atom.is ∙ expr_of-Atom a in
-    let asked = subst (IsAsked q n) e c.requires.asked in
-    record { built = asked.sound_expr.0; functional = asked.sound_expr.1; few = atom_few q n a.from_start a.to_end f asked }
+    let asked = subst (IsAsked q c.args.lets.now) e c.requires.asked in
+    record { built = asked.sound_expr.0; functional = asked.sound_expr.1; few = atom_few q c.args.lets.now a.from_start a.to_end f asked }
 
 pub expr_automaton-returns-in-Err-clause-fault : goal.expr_automaton-returns-in-Err-clause-fault
 expr_automaton-returns-in-Err-clause-fault t c =
@@ -43,32 +45,25 @@ expr_automaton-returns-in-Err-clause-fault t c =
 pub expr_automaton-returns-in-Ok-clause-made : goal.expr_automaton-returns-in-Ok-clause-made
 expr_automaton-returns-in-Ok-clause-made t c =
     subst (λ (w : ExprTree). IsCompiledFrom (query_of c.args.query.now) (length c.args.lets.now) w c.in-Ok.automaton) (sym (ap expr_of c.in-Atom.is ∙ expr_of-Atom c.in-Atom.atom))
-    (record { reduces = c.in-Ok.ensures.made; keeps = tt; small = c.in-Ok.ensures.small })
+    c.in-Ok.ensures.made
 
-pub expr_automaton-returns-in_ok-share-in-Some-clause-made : goal.expr_automaton-returns-in_ok-share-in-Some-clause-made
-expr_automaton-returns-in_ok-share-in-Some-clause-made t c =
+pub expr_automaton-returns-in-Some-clause-made : goal.expr_automaton-returns-in-Some-clause-made
+expr_automaton-returns-in-Some-clause-made t c =
     let q = query_of c.args.query.now in
-    let n = length c.args.lets.now in
+    let lets = c.args.lets.now in
     let k = c.in-Named.k in
     let e = ap expr_of c.in-Named.is ∙ expr_of-Named k in
-    let within : k < n = (subst (IsAsked q n) e c.requires.asked).sound_expr in
-    let u = c.index-lets-k.result in
-    let there : kept_at c.args.lets.now k ≡ Some c.in-Some.automaton =
-    get_or_from_slice_get c.args.lets.now k u None (slice_get-get_or c.args.lets.now k u within ∙ ap Some (sym c.index-lets-k.is)) ∙ c.in-Some.is in
-    subst (λ (a : Marked). IsCompiledFrom q n (expr_of c.args.expr.now) a) (sym c.in_ok-share-in-Some.ensures)
-    (subst (λ (w : ExprTree). IsCompiledFrom q n w c.in-Some.automaton) (sym e)
-    (record { reduces = c.requires.known.reduce k c.in-Some.automaton there; keeps = tt; small = tt }))
+    let there : kept_at lets k ≡ Some c.in-Some.automaton = sym c.in_ok-automaton-in-Named.ensures ∙ c.in-Some.is in
+    subst (λ (w : ExprTree). IsCompiledFrom q (length lets) w c.in-Some.automaton) (sym e) (c.requires.known.reduce k c.in-Some.automaton there).0
 
 pub expr_automaton-left_automaton-requires : goal.expr_automaton-left_automaton-requires
 expr_automaton-left_automaton-requires t c =
     let q = query_of c.args.query.now in
-    let n = length c.args.lets.now in
+    let lets = c.args.lets.now in
     let k = c.in-Named.k in
-    let asked = subst (IsAsked q n) (ap expr_of c.in-Named.is ∙ expr_of-Named k) c.requires.asked in
-    let u = c.index-lets-k.result in
-    let there : kept_at c.args.lets.now k ≡ None =
-    get_or_from_slice_get c.args.lets.now k u None (slice_get-get_or c.args.lets.now k u asked.sound_expr ∙ ap Some (sym c.index-lets-k.is)) ∙ c.in-None.is in
-    record { sound = asked.sound; atom = left_is_atom q c.args.lets.now k c.requires.known asked there }
+    let asked = subst (IsAsked q lets) (ap expr_of c.in-Named.is ∙ expr_of-Named k) c.requires.asked in
+    let there : kept_at lets k ≡ None = sym c.in_ok-automaton-in-Named.ensures ∙ c.in-None.is in
+    record { sound = asked.sound; atom = left_is_atom q lets c.requires.known k asked there }
 
 pub expr_automaton-returns-in-Ok-left_automaton-clause-made : goal.expr_automaton-returns-in-Ok-left_automaton-clause-made
 expr_automaton-returns-in-Ok-left_automaton-clause-made t c =
@@ -76,9 +71,9 @@ expr_automaton-returns-in-Ok-left_automaton-clause-made t c =
     let n = length c.args.lets.now in
     let k = c.in-Named.k in
     let e = ap expr_of c.in-Named.is ∙ expr_of-Named k in
-    let within : k < n = (subst (IsAsked q n) e c.requires.asked).sound_expr in
+    let within : k < n = (subst (IsAsked q c.args.lets.now) e c.requires.asked).sound_expr in
     subst (λ (w : ExprTree). IsCompiledFrom q n w c.in-Ok-left_automaton.automaton) (sym e)
-    (record { reduces = c.in-Ok-left_automaton.ensures.made n within; keeps = tt; small = tt })
+    (c.in-Ok-left_automaton.ensures.made n within)
 
 pub expr_automaton-returns-in-Err-left_automaton-clause-fault : goal.expr_automaton-returns-in-Err-left_automaton-clause-fault
 expr_automaton-returns-in-Err-left_automaton-clause-fault t c =
@@ -86,7 +81,7 @@ expr_automaton-returns-in-Err-left_automaton-clause-fault t c =
     let n = length c.args.lets.now in
     let k = c.in-Named.k in
     let e = ap expr_of c.in-Named.is ∙ expr_of-Named k in
-    let within : k < n = (subst (IsAsked q n) e c.requires.asked).sound_expr in
+    let within : k < n = (subst (IsAsked q c.args.lets.now) e c.requires.asked).sound_expr in
     let fault = c.in-Err-left_automaton.fault in
     subst (λ (w : ExprTree). HasLargePartOf (of_lets q.lets n) w fault ⊎ (c.args.budget.now.excess ≡ Some fault)) (sym e)
     (sum_map (λ h. h n within) c.in-Err-left_automaton.ensures.fault)
@@ -97,7 +92,7 @@ expr_automaton-projected-requires t c =
     let n = length c.args.lets.now in
     let g = expr_of c.deref.result.now in
     let e = ap expr_of c.in-Project.is ∙ (expr_of-Project c.in-Project.kept c.in-Project.sub ∙ ap (λ x. project c.in-Project.kept (expr_of x)) (sym c.deref.ensures)) in
-    let a = subst (IsAsked q n) e c.requires.asked in
+    let a = subst (IsAsked q c.args.lets.now) e c.requires.asked in
     kept_there q c.args.lets.now c.requires.known c.in-Project.kept g a c.in-Ok-expr_automaton.inner c.in-Ok-expr_automaton.ensures.made
 
 pub expr_automaton-returns-in-Ok-projected-clause-made : goal.expr_automaton-returns-in-Ok-projected-clause-made
@@ -106,22 +101,22 @@ expr_automaton-returns-in-Ok-projected-clause-made t c =
     let n = length c.args.lets.now in
     let g = expr_of c.deref.result.now in
     let e = ap expr_of c.in-Project.is ∙ (expr_of-Project c.in-Project.kept c.in-Project.sub ∙ ap (λ x. project c.in-Project.kept (expr_of x)) (sym c.deref.ensures)) in
-    let a = subst (IsAsked q n) e c.requires.asked in
+    let a = subst (IsAsked q c.args.lets.now) e c.requires.asked in
     let p = c.in-Ok-projected in
     subst (λ (w : ExprTree). IsCompiledFrom q n w p.left) (sym e)
-    (projected q c.args.lets.now c.requires.known c.in-Project.kept g a c.in-Ok-expr_automaton.inner c.in-Ok-expr_automaton.ensures.made p.left c.len.ensures.ascending p.ensures.names p.ensures.reduct)
+    (projected q c.args.lets.now c.requires.known c.in-Project.kept g a c.in-Ok-expr_automaton.inner c.in-Ok-expr_automaton.ensures.made p.left p.ensures.names p.ensures.reduct)
 
 pub expr_automaton-union_automaton-requires : goal.expr_automaton-union_automaton-requires
 expr_automaton-union_automaton-requires t c =
     let e = ap expr_of c.in-Union.is ∙ expr_of-Union c.in-Union.parts in
     let size = ap expr_nodes e ∙ union_size (exprs_of c.in-Union.parts) in
-    (omega (arith, size), (c.requires.known, subst (IsAsked (query_of c.args.query.now) (length c.args.lets.now)) e c.requires.asked))
+    (omega (arith, size), (c.requires.known, subst (IsAsked (query_of c.args.query.now) c.args.lets.now) e c.requires.asked))
 
 pub expr_automaton-join_automaton-requires : goal.expr_automaton-join_automaton-requires
 expr_automaton-join_automaton-requires t c =
     let e = ap expr_of c.in-Join.is ∙ expr_of-Join c.in-Join.parts in
     let size = ap expr_nodes e in
-    (omega (arith, size), (c.requires.known, subst (IsAsked (query_of c.args.query.now) (length c.args.lets.now)) e c.requires.asked))
+    (omega (arith, size), (c.requires.known, subst (IsAsked (query_of c.args.query.now) c.args.lets.now) e c.requires.asked))
 
 pub expr_automaton-returns-in-Union-clause-made : goal.expr_automaton-returns-in-Union-clause-made
 expr_automaton-returns-in-Union-clause-made t c =
@@ -147,8 +142,8 @@ pub expr_automaton-expr_automaton-requires : goal.expr_automaton-expr_automaton-
 expr_automaton-expr_automaton-requires t c =
     let e = ap expr_of c.in-Project.is ∙ (expr_of-Project c.in-Project.kept c.in-Project.sub ∙ ap (λ x. project c.in-Project.kept (expr_of x)) (sym c.deref.ensures)) in
     let size = ap expr_nodes e in
-    let a = subst (IsAsked (query_of c.args.query.now) (length c.args.lets.now)) e c.requires.asked in
-    (omega (arith, size), (c.requires.known, asked_sub (query_of c.args.query.now) (length c.args.lets.now) c.in-Project.kept (expr_of c.deref.result.now) a))
+    let a = subst (IsAsked (query_of c.args.query.now) c.args.lets.now) e c.requires.asked in
+    (omega (arith, size), (c.requires.known, asked_sub (query_of c.args.query.now) c.args.lets.now c.in-Project.kept (expr_of c.deref.result.now) a))
 
 pub expr_automaton-returns-in-Err-expr_automaton-clause-fault : goal.expr_automaton-returns-in-Err-expr_automaton-clause-fault
 expr_automaton-returns-in-Err-expr_automaton-clause-fault t c =
@@ -170,7 +165,7 @@ union_automaton-expr_automaton-requires t c =
     let es = exprs_of c.args.parts.now in
     let g = expr_of c.at.result.now in
     let has = Has-slice_get es 0 g c.at.ensures in
-    (omega (arith, part_size es g has), (c.requires.known, asked_united (query_of c.args.query.now) (length c.args.lets.now) es g has c.requires.asked))
+    (omega (arith, part_size es g has), (c.requires.known, asked_united (query_of c.args.query.now) c.args.lets.now es g has c.requires.asked))
 
 pub union_automaton-returns-in-Err-clause-fault : goal.union_automaton-returns-in-Err-clause-fault
 union_automaton-returns-in-Err-clause-fault t c =
@@ -178,6 +173,15 @@ union_automaton-returns-in-Err-clause-fault t c =
     let es = exprs_of c.args.parts.now in
     let g = expr_of c.at.result.now in
     sum_map (union_part_fault q c.args.lets.now c.requires.known es c.requires.asked g (Has-slice_get es 0 g c.at.ensures) c.in-Err.fault) c.in-Err.ensures.fault
+
+pub union_automaton-owner_of-requires-clause-named : goal.union_automaton-owner_of-requires-clause-named
+union_automaton-owner_of-requires-clause-named t c =
+    let q = query_of c.args.query.now in
+    let lets = c.args.lets.now in
+    let es = exprs_of c.args.parts.now in
+    let g = expr_of c.at-2.result.now in
+    let asked = asked_united q lets es g (Has-slice_get es 0 g c.at-2.ensures) c.requires.asked in
+    λ k m. names_below (vars_of_lets q.lets (length lets)) (length lets) g k asked.sound_expr m
 
 pub union_automaton-loop-k-init : goal.union_automaton-loop-k-init
 union_automaton-loop-k-init t c =
@@ -191,7 +195,7 @@ union_automaton-expr_automaton-requires-in-loop-k t c =
     let es = exprs_of c.args.parts.now in
     let g = expr_of c.at-in-loop-k.result.now in
     let has = Has-slice_get es c.loop-k.k g c.at-in-loop-k.ensures in
-    (omega (arith, part_size es g has), (c.requires.known, asked_united (query_of c.args.query.now) (length c.args.lets.now) es g has c.requires.asked))
+    (omega (arith, part_size es g has), (c.requires.known, asked_united (query_of c.args.query.now) c.args.lets.now es g has c.requires.asked))
 
 pub union_automaton-returns-in-Err-expr_automaton-clause-fault : goal.union_automaton-returns-in-Err-expr_automaton-clause-fault
 union_automaton-returns-in-Err-expr_automaton-clause-fault t c =
@@ -223,7 +227,7 @@ join_automaton-expr_automaton-requires t c =
     let es = exprs_of c.args.parts.now in
     let g = expr_of c.at.result.now in
     let has = Has-slice_get es 0 g c.at.ensures in
-    (omega (arith, part_size es g has), (c.requires.known, asked_joined (query_of c.args.query.now) (length c.args.lets.now) es g has c.requires.asked))
+    (omega (arith, part_size es g has), (c.requires.known, asked_joined (query_of c.args.query.now) c.args.lets.now es g has c.requires.asked))
 
 pub join_automaton-returns-in-Err-clause-fault : goal.join_automaton-returns-in-Err-clause-fault
 join_automaton-returns-in-Err-clause-fault t c =
@@ -243,7 +247,7 @@ join_automaton-expr_automaton-requires-in-loop-k t c =
     let es = exprs_of c.args.parts.now in
     let g = expr_of c.at-in-loop-k.result.now in
     let has = Has-slice_get es c.loop-k.k g c.at-in-loop-k.ensures in
-    (omega (arith, part_size es g has), (c.requires.known, asked_joined (query_of c.args.query.now) (length c.args.lets.now) es g has c.requires.asked))
+    (omega (arith, part_size es g has), (c.requires.known, asked_joined (query_of c.args.query.now) c.args.lets.now es g has c.requires.asked))
 
 pub join_automaton-returns-in-Err-expr_automaton-clause-fault : goal.join_automaton-returns-in-Err-expr_automaton-clause-fault
 join_automaton-returns-in-Err-expr_automaton-clause-fault t c =

@@ -5,7 +5,7 @@ use Rattle.marked_automaton.specs.Reduct.{ReducesMarked}
 use Rattle.marked_automaton.proofs.Rearranged.{rearranged_reduces}
 use Rattle.place_automaton.specs.Words.{atom_automaton}
 use Rattle.spanner_engine.specs.QueryAutomaton.{of_atom}
-use Rattle.spanner_engine.proofs.PieceLaws.{atom_made, atom_small, atom_fault}
+use Rattle.spanner_engine.proofs.PieceLaws.{atom_made, atom_fault}
 use Rattle.spanner_engine.proofs.expressions.atom_automaton.Goals as goal
 
 pub returns-in-Err-of_atom-clause-fault : goal.returns-in-Err-of_atom-clause-fault
@@ -22,8 +22,3 @@ returns-clause-made c =
     subst (λ (m : Marked). ReducesMarked m (of_atom a.from_start a.to_end f)) (sym c.in_ok-new.ensures)
     (atom_made a.from_start a.to_end f c.requires.built c.requires.functional whole c.in_ok-useful.useful of.names.0 of.names.1
     (rearranged_reduces whole.graph (atom_automaton whole.names a.from_start a.to_end f) of.reduct) c.in_ok-useful.ensures.names c.in_ok-useful.ensures.reduct)
-
-pub returns-clause-small : goal.returns-clause-small
-returns-clause-small c =
-    let a = c.args.atom.now in
-    atom_small a.from_start a.to_end (tree_of a.formula) c.requires.built c.requires.functional c.in-Ok.ensures.small.0 c.in-Ok.ensures.small.1
