@@ -51,6 +51,9 @@ QUERIES = {
     'two of such stars that share a byte in few places, joined':
         ' join '.join('/^%s%s%s$/' % ('(' * 97, '(%s?){45}(z?){4}(%s?){45}(%s?){44}' % tuple(letters), ')*' * 97)
                       for letters in ('abc', 'def')),
+    'the same in a let that nothing uses':
+        'let x=' + ' join '.join('/^%s%s%s$/' % ('(' * 97, '(%s?){45}(z?){4}(%s?){45}(%s?){44}' % tuple(letters), ')*' * 97)
+                                 for letters in ('abc', 'def')) + '; /a/',
     'a large let beside a union of two large atoms':
         'let h=(/^(a?){1000}(a?){990}$/ union /^$/); (h join /^$/) union ((%s union %s) join /^$/) union (h join /^$/)'
         % (MOST_WAYS, MOST_WAYS.replace('a', 'b')),
