@@ -137,7 +137,10 @@ let u = /!y{b}/; let v = /!x{a}!y{b}/; let w = project y (v); w join u
 let u = /!x{a}/; let v = /!x{b}/; let w = u union v; let z = w; u union z union v
 let u = /!x{a}b/; let v = project none (u); let w = v; let z = /b/; u join w join z
 let u = /!x{a}!y{b}/; let v = u; let w = project x, y (v); let z = project y (w); w join z
-let u = /!x{a*}!y{b}/; let v = project x, y (u); let w = project x (v); let z = v union /!x{b}!y{a}/; w join z";
+let u = /!x{a*}!y{b}/; let v = project x, y (u); let w = project x (v); let z = v union /!x{b}!y{a}/; w join z
+/^!x{((((((a|b)*)*)*)*)*)*}$/
+/^!x{((((((a|b)*)*)*)*)*)*}b*$/ join /a*!x{((((((b|a?)*)*)*)*)*)*}/
+/^!x{((((((a|b)*)*)*)*)*)*}((((((b|a)*)*)*)*)*)*!y{}$/ join /!x{a*}b*!y{}$/";
 
 /// Queries of large automata, and queries that are refused.
 pub const LARGE: &str = r"/^(a{1000}){19}a{999}$/
@@ -149,6 +152,7 @@ let half = /(a{1000}){10}/; let whole = half union half; /a/
 let a = /(a{1000}){9}/; let b = a; let c = b union a; let d = c union a; b
 let many = /^(a{150})*$/ join /^(a{151})*$/; /a/
 let few = /^(a{1000}){5}b$/ join /^(a{1000}){5}c$/; /a/
+/^((((a?){20})*)*)*$/
 let half = /(a{1000}){9}/; let same = half; half union same
 let a = /^(a?){1000}(a?){999}$/; let b = /^(b?){1000}(b?){999}$/; let c = /^(c?){1000}(c?){999}$/; a union b union c
 let a = /^(a?){1000}(a?){999}$/; let b = /^(b?){1000}(b?){999}$/; let c = /^(c?){1000}(c?){999}$/; (/^$/ join a) union (/^$/ join b) union (/^$/ join c)";

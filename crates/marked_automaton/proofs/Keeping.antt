@@ -1,5 +1,5 @@
 -- A projection that keeps all variables.
-use Rattle.std.proofs.Common.{◌≡◌, ℕ, suc, ◌+◌, ◌*◌, ◌^◌, ◌/◌, ◌%◌, ◌<◌, Bool, true, false, List, [], ◌∷◌, length, map, inl, inr, refl, sym, ap, subst, arith, mod-lt, ◌∙◌}
+use Rattle.std.proofs.Common.{◌≡◌, ℕ, ◌+◌, ◌*◌, ◌^◌, ◌/◌, ◌%◌, ◌<◌, Bool, true, false, List, [], ◌∷◌, length, map, inl, inr, refl, sym, ap, subst, arith, mod-lt, ◌∙◌}
 use Rattle.std.specs.Prelude.{if◌then◌else◌}
 use Rattle.std.specs.List.{list_any}
 use Rattle.std.specs.Str.{bytes_eq}
@@ -10,12 +10,8 @@ use Rattle.spanner_model.specs.Captures.{VarName}
 use Rattle.spanner_model.specs.Lists.{Has, AreDistinct}
 use Rattle.spanner_model.proofs.HasLaws.{distinct-le}
 use Rattle.spanner_model.proofs.NameLaws.{ascending-distinct, same_names, list_any-Has, Has-list_any}
-use Rattle.marked_automaton.specs.declared.way.Way.{Way}
-use Rattle.marked_automaton.specs.declared.way.Stop.{Stop}
-use Rattle.marked_automaton.specs.Automaton.{Automaton}
-use Rattle.marked_automaton.specs.Laws.{AreBlocksOf, KeepingLaw}
-use Rattle.marked_automaton.specs.Marks.{bits_of, left_of, remarked, remarked_way, remarked_stop}
-use Rattle.marked_automaton.proofs.EraserLaws.{map_same}
+use Rattle.marked_automaton.specs.Laws.{KeepingLaw}
+use Rattle.marked_automaton.specs.Marks.{bits_of, left_of, remarked_way, remarked_stop}
 use Rattle.marked_automaton.proofs.Erasing.{name_itself, same_name}
 
 -- of names that do not have the first, what is left is left of the lower bits

@@ -11,3 +11,4 @@ pub mod Trimmed
 pub mod Erased
 pub mod Accepting
 pub mod Grouping
+pub mod Merged

@@ -11,6 +11,7 @@ mod eraser;
 mod fault;
 mod grouping;
 pub mod laws;
+mod merging;
 mod reach;
 #[cfg(test)]
 mod tests;

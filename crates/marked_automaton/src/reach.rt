@@ -1,6 +1,7 @@
 //! Which nodes of a graph are reached from some of them.
-ghost use Rattle.std.specs.Prelude.{◌≡◌, ℕ, ◌<◌, ◌↔◌, List, [], length, replicate, false, slice_get, Some, IfOk, OnOk};
+ghost use Rattle.std.specs.Prelude.{◌≡◌, ℕ, ◌<◌, ◌≤◌, ◌↔◌, ◌⊎◌, List, [], length, replicate, false, slice_get, Some, IfOk, OnOk};
 ghost use Rattle.spanner_model.specs.Lists.{Has};
+ghost use Rattle.marked_automaton.specs.Inside.{flagged};
 ghost use Rattle.marked_automaton.specs.Reach.{AreTargets, Grows, IsFlagged, IsSearch, Reaches};
 ghost use Rattle.marked_automaton.specs.Trimmed.{edge_in, edges_in};
 
@@ -85,9 +86,11 @@ struct Search {
     waiting: Vec<u32>,
 }
 
-/// For each node below `nodes` whether the ways lead to it in this direction from a seed. Each way from
-/// a node that is found is followed once, so that the time is linear in the nodes, the seeds and the
-/// ways.
+/// For each node below `nodes` whether the ways lead to it in this direction from a seed.
+///
+/// It goes over the ways once, in their order, and is done as soon as all nodes are found, as they soon are
+/// in most automata. Else each way from a node that is found is followed once, over lists of targets. So the
+/// time is linear in the nodes, the seeds and the ways.
 pub(crate) fn reached(
     alloc: Global,
     nodes: u32,
@@ -101,9 +104,13 @@ pub(crate) fn reached(
     ensures len { IfOk result (λ found. length found.items ≡ nodes) }
     ensures exactly { IfOk result (λ found. (p : ℕ) → IsFlagged found.items p ↔ Reaches (edges_in direction ways.now) seeds.now p) }
 {
-    let targets = targets(alloc, nodes, ways, direction)?;
     let mut search = Search::new(alloc, nodes)?;
     search.find_all(seeds)?;
+    search.sweep(ways, direction)?;
+    if search.waiting.len() >= search.found.len() {
+        return Ok(search.found);
+    }
+    let targets = targets(alloc, nodes, ways, direction)?;
     search.follow_all(targets.as_slice())?;
     Ok(search.found)
 }
@@ -144,6 +151,24 @@ impl Search {
     {
         for node in nodes {
             self.find(*node)?;
+        }
+        Ok(())
+    }
+
+    /// Follows each way once, in their order, from what is found by then, until all nodes are found.
+    fn sweep(&mut self, ways: &[Way], direction: Direction) -> Result<(), OutOfMemory>
+        requires { (e : Edge) → Has (edges_in direction ways.now) e → (e.from < length self.old.found.items) × (e.to < length self.old.found.items) }
+        ensures grows { OnOk result (Grows (Reaches (edges_in direction ways.now) (flagged 0 self.old.found.items)) self.old.found.items self.old.waiting.items self.new.found.items self.new.waiting.items) }
+        ensures swept { OnOk result ((length self.new.found.items ≤ length self.new.waiting.items) ⊎ ((e : Edge) → Has (edges_in direction ways.now) e → IsFlagged self.old.found.items e.from → IsFlagged self.new.found.items e.to)) }
+    {
+        for way in ways {
+            if self.waiting.len() >= self.found.len() {
+                return Ok(());
+            }
+            let edge = direction.edge(way);
+            if self.found[edge.from as usize] {
+                self.find(edge.to)?;
+            }
         }
         Ok(())
     }

@@ -122,7 +122,8 @@ fn left_automaton(
     }
 }
 
-/// The automaton of an atom.
+/// The automaton of an atom. Where half of its ways or more stand between the same two states as others, as
+/// nested repetitions make them, those that go alike are made one, since a join tries each with each.
 fn atom_automaton(alloc: Global, atom: &Atom, budget: &mut Budget) -> Result<Shared, SizeFault>
     requires built { IsWellBuilt (tree_of atom.now.formula) }
     requires functional { IsFunctional (tree_of atom.now.formula) }
@@ -140,7 +141,12 @@ fn atom_automaton(alloc: Global, atom: &Atom, budget: &mut Budget) -> Result<Sha
         Err(fault) => return Err(fault),
     };
     let useful = whole.trim(alloc)?;
-    Ok(Shared::new(alloc, useful)?)
+    let states = u64::from(useful.states());
+    if useful.ways().len() as u64 / 2 < states.saturating_mul(states) {
+        return Ok(Shared::new(alloc, useful)?);
+    }
+    let few = useful.merge_ways(alloc)?;
+    Ok(Shared::new(alloc, few)?)
 }
 
 /// The automaton of a union, its parts put behind each other from left to right.
