@@ -51,7 +51,9 @@ QUERIES = {
     'two of such stars that share a byte in few places, joined':
         ' join '.join('/^%s%s%s$/' % ('(' * 97, '(%s?){45}(z?){4}(%s?){45}(%s?){44}' % tuple(letters), ')*' * 97)
                       for letters in ('abc', 'def')),
-    'the same in a let that nothing uses':
+    'two stars of which each pair of places goes on with few of many ways':
+        ' join '.join('/^%s(w%s)(y?){13}%s$/' % ('(' * 98, ('|' + letter) * 120, ')*' * 98) for letter in 'ab'),
+    'two of such stars, in a let that nothing uses':
         'let x=' + ' join '.join('/^%s%s%s$/' % ('(' * 97, '(%s?){45}(z?){4}(%s?){45}(%s?){44}' % tuple(letters), ')*' * 97)
                                  for letters in ('abc', 'def')) + '; /a/',
     'a large let beside a union of two large atoms':
