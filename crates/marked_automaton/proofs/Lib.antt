@@ -11,7 +11,6 @@ pub mod Grouped
 pub mod Growing
 pub mod Keeping
 pub mod Listed
-pub mod MergedWays
 pub mod Loops
 pub mod Numbers
 pub mod Parts

@@ -11,4 +11,3 @@ pub mod Trimmed
 pub mod Erased
 pub mod Accepting
 pub mod Grouping
-pub mod Merged

@@ -14,7 +14,6 @@ ghost use Rattle.marked_automaton.specs.Reduct.{IsUseful, Rearranges, Reduces};
 use crate::accepting::{accepting, some_good};
 use crate::eraser::Eraser;
 use crate::grouping::{are_grouped, group, stay_grouped};
-use crate::merging::merged;
 use crate::trimming::{Numbers, end_states, flags_of_kept, states_between};
 use crate::{MOST_STATES, MOST_WAYS, SizeFault, Stop, Way};
 use span_core::{Marks, OutOfMemory, Row, VarSet};
@@ -313,35 +312,6 @@ impl Automaton {
             ways,
             stops: kept.stops(alloc, stops.as_slice())?,
             idle: flags_of_kept(alloc, useful.as_slice(), idle.as_slice())?,
-            grouped,
-        })
-    }
-
-    /// The automaton in which ways that lead from one state to another with the same markers are one, that
-    /// takes the bytes of all of them: so few are left where many stand between the same two states, as
-    /// nested repetitions make them. Ways from a state to itself stay. On refusal the automaton is given up.
-    pub fn merge_ways(self, alloc: Global) -> Result<Automaton, OutOfMemory>
-        ensures names { IfOk result (λ a. a.names ≡ self.names) }
-        ensures reduct { IfOk result (λ a. Reduces a.graph self.graph) }
-    {
-        let Automaton {
-            vars,
-            states,
-            starts,
-            ways,
-            stops,
-            idle,
-            grouped: _,
-        } = self;
-        let ways = merged(alloc, states, ways.as_slice())?;
-        let grouped = are_grouped(ways.as_slice());
-        Ok(Automaton {
-            vars,
-            states,
-            starts,
-            ways,
-            stops,
-            idle,
             grouped,
         })
     }

@@ -11,7 +11,6 @@ mod eraser;
 mod fault;
 mod grouping;
 pub mod laws;
-mod merging;
 mod reach;
 #[cfg(test)]
 mod tests;

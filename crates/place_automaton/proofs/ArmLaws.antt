@@ -17,7 +17,9 @@ use Rattle.place_automaton.specs.Places.{Places, add_once, either_once, alt_plac
 use Rattle.place_automaton.specs.Sequential.{HasOrderedRepeats}
 use Rattle.place_automaton.proofs.BuiltRepeats.{ordered_repeats}
 use Rattle.place_automaton.proofs.CountLaws.{HasOneAtMost, null_same}
+use Rattle.spanner_model.proofs.HasLaws.{Has-append_left, Has-append_right}
 use Rattle.place_automaton.proofs.JoinLists.{append_nil}
+use Rattle.place_automaton.proofs.LeanLaws.{EndsReach, lean_both, lean_into}
 use Rattle.place_automaton.proofs.Shows.{any_has, either_left, either_right, either_cases}
 
 has_any : (n : ℕ) (ms : List ℕ) → Has ms n → list_any (nat_eq n) ms ≡ true
@@ -127,18 +129,26 @@ module _ (names : List VarName) where
         null_same names dis (alt_all ts) ok (ordered ts built) vars k a b ha' hb'
 
   -- an arm more
-  pub arms_next : (ts : List Tree) (i k : ℕ) (t : Tree) (a b c : Draft) (e f g : Ends) → slice_get ts i ≡ Some t → a.next ≡ k →
+  pub arms_next : (again : Bool) (ts : List Tree) (i k : ℕ) (t : Tree) (a b c : Draft) (e f g : Ends) → slice_get ts i ≡ Some t → a.next ≡ k →
       ((n : ℕ) → HasOneAtMost (places_of names t n).null) →
-      HasPlaced (places_of names (alt_all (take i ts)) k) a b e → HasPlaced (places_of names t b.next) b c f → g ≡ alt_ends e f →
-      HasPlaced (places_of names (alt_all (take (i + 1) ts)) k) a c g
-  arms_next ts i k t a b c e f g at from small h h' is =
+      HasPlaced again (places_of names (alt_all (take i ts)) k) a b e → HasPlaced again (places_of names t b.next) b c f → g ≡ alt_ends e f →
+      HasPlaced again (places_of names (alt_all (take (i + 1) ts)) k) a c g
+  arms_next again ts i k t a b c e f g at from small h h' is =
       let A = places_of names (alt_all (take i ts)) k in
       let T = places_of names t b.next in
+      let W = alt_places A T in
       let here : b.next ≡ k + A.count = omega (arith, h.next, from) in
-      let all : places_of names (alt_all (take (i + 1) ts)) k ≡ alt_places A T =
+      let all : places_of names (alt_all (take (i + 1) ts)) k ≡ W =
       ap (λ us. places_of names (alt_all us) k) (take_at_more ts i t at) ∙ (arms_more (take i ts) t k small ∙ ap (λ n. alt_places A (places_of names t n)) (sym here)) in
-      subst (λ (W : Places). HasPlaced W a c g) (sym all) (record {
+      let left : EndsReach A W = record { firsts = λ e h. Has-append_left A.first T.first e h; lasts = λ s h. Has-append_left A.last T.last s h } in
+      let right : EndsReach T W = record { firsts = λ e h. Has-append_right A.first T.first e h; lasts = λ s h. Has-append_right A.last T.last s h } in
+      subst (λ (V : Places). HasPlaced again V a c g) (sym all) (record {
         ends = is ∙ (ap (λ (E : Ends). alt_ends E f) h.ends ∙ ap (λ (E : Ends). alt_ends (ends_of A) E) h'.ends);
         next = omega (arith, h'.next, h.next);
-        ways = h'.ways ∙ (ap (λ ws. ws ++ T.follow) h.ways ∙ append_assoc a.ways.items A.follow T.follow);
+        ways = (
+          h.ways.0 ++ h'.ways.0,
+          h'.ways.1 ∙ (ap (λ ws. ws ++ h'.ways.0) h.ways.1 ∙ append_assoc a.ways.items h.ways.0 h'.ways.0),
+          lean_both again W A.follow h.ways.0 T.follow h'.ways.0 (lean_into again A again W h.ways.0 (λ yes. (yes, left)) h.ways.2)
+              (lean_into again T again W h'.ways.0 (λ yes. (yes, right)) h'.ways.2),
+        );
       })

@@ -9,7 +9,7 @@ use Rattle.spanner_model.specs.Lists.{Has, AreDistinct}
 use Rattle.spanner_model.specs.Tree.{Tree, cap}
 use Rattle.spanner_model.proofs.HasLaws.{Has-slice_get}
 use Rattle.place_automaton.specs.Drafts.{places_of, AreNamed}
-use Rattle.place_automaton.specs.Ends.{Ends, ends_of, MarkOf, JoinAsSum}
+use Rattle.place_automaton.specs.Ends.{CanCapture, Ends, ends_of, MarkOf}
 use Rattle.place_automaton.specs.Words.{opening_of, closing_of}
 use Rattle.place_automaton.proofs.FineLaws.{IsFine, Within, HasClasses, VarBits, mark_apart, fine_places}
 use Rattle.place_automaton.proofs.MarkBits.{HasBit, apart_sum, sum_bit, own_apart, behind, opening_is, closing_is}
@@ -70,17 +70,13 @@ module _ (names : List VarName) (x : VarName) (f : Tree) (ok : IsFunctional (cap
   close_apart : (i : ℕ) → HasBit c i → VarBits names f i → ⊥
   close_apart = mark_apart names x f c has inside ok.1 (λ i b. inr b)
 
-  pub cap_apart : JoinAsSum o c
-  cap_apart = apart_sum o c (own_apart names x has)
-
-  pub cap_null : (m : ℕ) → Has E.null m → JoinAsSum (o + c) m
-  cap_null m h = apart_sum (o + c) m (λ i a b. elim (sum_bit o c i (own_apart names x has) a) [
-    | inl p ↦ open_apart i p (marks m (inl h) i b)
-    | inr q ↦ close_apart i q (marks m (inl h) i b)
-  ])
-
-  pub cap_first : (m : ℕ) → MarkOf E m → JoinAsSum o m
-  cap_first m h = apart_sum o m (λ i a b. open_apart i a (marks m h i b))
-
-  pub cap_last : (m : ℕ) → MarkOf E m → JoinAsSum m c
-  cap_last m h = apart_sum m c (λ i a b. close_apart i b (marks m h i a))
+  pub can_capture : CanCapture o c E
+  can_capture = record {
+    apart = apart_sum o c (own_apart names x has);
+    null = λ m h. apart_sum (o + c) m (λ i a b. elim (sum_bit o c i (own_apart names x has) a) [
+      | inl p ↦ open_apart i p (marks m (inl h) i b)
+      | inr q ↦ close_apart i q (marks m (inl h) i b)
+    ]);
+    first = λ m h. apart_sum o m (λ i a b. open_apart i a (marks m h i b));
+    last = λ m h. apart_sum m c (λ i a b. close_apart i b (marks m h i a));
+  }

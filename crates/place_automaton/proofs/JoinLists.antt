@@ -1,5 +1,5 @@
 -- Lists as loops go through them, and markers that are put before and behind.
-use Rattle.std.proofs.Common.{◌≡◌, ℕ, zero, suc, ◌+◌, ◌-◌, ◌<◌, ◌≤◌, List, [], ◌∷◌, ◌++◌, length, get_or, take, drop, map, Option, Some, None, false, inl, refl, sym, ap, ◌∙◌, arith}
+use Rattle.std.proofs.Common.{◌≡◌, ℕ, zero, suc, ◌+◌, ◌-◌, ◌<◌, ◌≤◌, List, [], ◌∷◌, ◌++◌, length, get_or, take, drop, map, Bool, Option, Some, None, true, false, inl, refl, sym, ap, ◌∙◌, arith}
 use Rattle.std.specs.Prelude.{slice_set, if◌then◌else◌, ◌||◌}
 use Rattle.std.specs.List.{flat_map}
 use Rattle.std.specs.Option.{option_or}
@@ -7,6 +7,7 @@ use Rattle.std.proofs.lemmas.Bool.{eq-eqb}
 use Rattle.std.proofs.lemmas.List.{take_more, map-append, append_assoc, flat_map_more, get_or-drop, get_or-take, get_or_append_left, length-drop, length-take}
 use Rattle.spanner_model.specs.Lists.{Has}
 use Rattle.marked_automaton.specs.declared.way.Stop.{Stop}
+use Rattle.place_automaton.specs.Atom.{unless}
 use Rattle.place_automaton.specs.declared.piece.Entry.{Entry}
 use Rattle.place_automaton.specs.Places.{entry_with, stop_with, either_once, add_once}
 use Rattle.place_automaton.specs.Ends.{null_of}
@@ -57,6 +58,10 @@ stops_same m (s ∷ ss) z =
     let same : s.marks ≡ s.marks + m = omega (arith, z) in
     let f : ℕ → Stop = λ n. record { state = s.state; marks = n } in
     ap (λ x. x ∷ ss) (ap f same) ∙ ap (λ xs. stop_with m s ∷ xs) (stops_same m ss z)
+
+pub unless_both : {X : Type 0} (b : Bool) (xs ys : List X) → unless b xs ++ unless b ys ≡ unless b (xs ++ ys)
+unless_both true xs ys = refl
+unless_both false xs ys = refl
 
 pub append_nil : {X : Type 0} (xs : List X) → xs ++ [] ≡ xs
 append_nil [] = refl

@@ -9,8 +9,11 @@ pub mod CountLaws
 pub mod DistinctEnds
 pub mod DraftRows
 pub mod FineLaws
+pub mod FittingLaws
 pub mod FormulaShows
 pub mod JoinLists
+pub mod LeanLaws
+pub mod LeanParts
 pub mod MadeLaws
 pub mod MarkBits
 pub mod MoveLaws

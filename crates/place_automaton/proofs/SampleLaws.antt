@@ -9,7 +9,7 @@ use Rattle.spanner_model.specs.Tree.{Tree}
 use Rattle.spanner_model.specs.WellBuilt.{IsBuilt, AreRepeatNumbers}
 use Rattle.spanner_model.proofs.SampleLaws.{byte_built, x_variable}
 use Rattle.place_automaton.specs.Examples.{maybe, times, star_in_x}
-use Rattle.place_automaton.specs.Samples.{IsSample, long, wide, a_and_maybe_b, often_in_x}
+use Rattle.place_automaton.specs.Samples.{IsSample, long, wide, a_and_maybe_b, often_in_x, star_of, stars_of_maybes, stars_of_two}
 
 some_is : (m n : ℕ) → Some m ≡ Some n → m ≡ n
 some_is m n e = cc
@@ -77,3 +77,20 @@ thrice_sample = often_sample 3 (Some 3) (numbers 3 3 (omega arith) (omega arith)
 
 pub thrice_or_more_sample : IsSample (often_in_x 3 None)
 thrice_or_more_sample = often_sample 3 None (omega arith, λ b e. absurd (cc))
+
+star_built : (f : Tree) → IsBuilt f → IsBuilt (star_of f)
+star_built f b = (b, (omega arith, λ m e. absurd (cc)))
+
+pub maybes_sample : IsSample stars_of_maybes
+maybes_sample = (
+  (star_built (star_of (times 3 (maybe a))) (star_built (times 3 (maybe a)) (times_built 3 (maybe a) (omega arith) (maybe_built a a_built))), omega arith),
+  ((((tt, λ y h. h), λ y h. h), λ y h. h), λ y h. h),
+  bare stars_of_maybes (λ y h. h),
+)
+
+pub two_sample : IsSample stars_of_two
+two_sample = (
+  (star_built (star_of a_and_maybe_b) (star_built a_and_maybe_b ((a_built, (maybe_built b (byte_built 98 (omega arith)), tt), λ e. absurd (cc)))), omega arith),
+  (((tt, ((tt, λ y h. h), tt, λ y h k. k), λ y h k. h), none_two), none_two),
+  bare stars_of_two none_two,
+)

@@ -67,6 +67,13 @@ JoinAsSums P Q = (m n : ℕ) → MarkOf P m → MarkOf Q n → JoinAsSum m n
 abbrev pub IsUnmarked : Ends → Type 0
 IsUnmarked P = (m : ℕ) → MarkOf P m → m ≡ 0
 
+-- the markers of a capture have none in common, and none with the part in it
+pub record CanCapture (opening closing : ℕ) (P : Ends) : Type 0 where
+  pub apart : JoinAsSum opening closing
+  pub null : (m : ℕ) → Has P.null m → JoinAsSum (opening + closing) m
+  pub first : (m : ℕ) → MarkOf P m → JoinAsSum opening m
+  pub last : (m : ℕ) → MarkOf P m → JoinAsSum m closing
+
 -- parts one after another, of which so many are required and the others may stand only where all before
 -- them do; last comes Q
 abbrev pub row_ends : ℕ → List Ends → Ends → Ends

@@ -6,6 +6,8 @@ pub mod Counts
 pub mod Drafts
 pub mod Ends
 pub mod Examples
+pub mod Fitting
+pub mod Lean
 pub mod Made
 pub mod Moves
 pub mod Places

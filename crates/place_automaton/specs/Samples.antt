@@ -1,5 +1,5 @@
 -- Formulas of the tests.
-use Rattle.std.specs.Prelude.{ℕ, [], ◌∷◌, Option}
+use Rattle.std.specs.Prelude.{ℕ, [], ◌∷◌, None, Option}
 use Rattle.span_core.specs.declared.TheConstants.{MOST_VARIABLES}
 use Rattle.spanner_model.specs.Examples.{a, b, x}
 use Rattle.spanner_model.specs.Functional.{HasVar, IsFunctional}
@@ -27,6 +27,18 @@ a_and_maybe_b = cat_all (a ∷ (maybe b ∷ []))
 -- !x{(ab?){least,most}}
 abbrev pub often_in_x : ℕ → Option ℕ → Tree
 often_in_x least most = cap x (rep a_and_maybe_b least most)
+
+-- f*
+abbrev pub star_of : Tree → Tree
+star_of f = rep f 0 None
+
+-- (((a?){3})*)*
+abbrev pub stars_of_maybes : Tree
+stars_of_maybes = star_of (star_of (times 3 (maybe a)))
+
+-- ((ab?)*)*
+abbrev pub stars_of_two : Tree
+stars_of_two = star_of (star_of a_and_maybe_b)
 
 -- what is asked of a formula whose automaton is made
 abbrev pub IsSample : Tree → Type 0

@@ -1,5 +1,5 @@
 //! The automaton of an atom.
-ghost use Rattle.std.specs.Prelude.{◌≡◌, ℕ, ◌+◌, ◌<◌, ◌≤◌, ◌↔◌, List, ◌++◌, length, map, Bool, false, if◌then◌else◌, IfOk, IfErr, OnOk};
+ghost use Rattle.std.specs.Prelude.{◌≡◌, ◌+◌, ◌<◌, ◌≤◌, ◌↔◌, ◌++◌, length, map, false, if◌then◌else◌, IfOk, IfErr, OnOk};
 ghost use Rattle.span_core.specs.declared.TheConstants.{MOST_VARIABLES};
 ghost use Rattle.span_core.specs.NameSets.{Ascending};
 ghost use Rattle.spanner_model.specs.Captures.{VarName};
@@ -14,11 +14,12 @@ ghost use Rattle.marked_automaton.specs.Faults.{IsSizeFaultOf};
 ghost use Rattle.marked_automaton.specs.Reduct.{Rearranges};
 ghost use Rattle.place_automaton.specs.Capped.{capped};
 ghost use Rattle.place_automaton.specs.Counts.{count_states, count_ways};
-ghost use Rattle.place_automaton.specs.Made.{IsFinished, IsMade, end_stops, outer_ways};
+ghost use Rattle.place_automaton.specs.Made.{ArePlaced, IsFinished, IsMade, end_stops, outer_ways};
+ghost use Rattle.place_automaton.specs.Drafts.{AreNamed};
 ghost use Rattle.place_automaton.specs.Words.{atom_automaton};
 
 use crate::BEFORE;
-use crate::counting::count;
+use crate::counting::{Counts, count};
 use crate::outer::{add_stop_unless, push_idle_unless, set_idle_unless};
 use crate::piece::Piece;
 use crate::placing::{Draft, place};
@@ -31,8 +32,10 @@ use std::alloc::Global;
 /// markers of its captures on the ways. Its words are those of the rows of the atom's answers.
 ///
 /// State 0 is Before, the states from 1 on are the places, and the last state is After, where the atom is
-/// not tied to the end. It has exactly the states and the ways that `count` tells, grouped by the states
-/// that they lead from.
+/// not tied to the end. It has exactly the states that `count` tells, and no more ways, grouped by the states
+/// that they lead from: a way that a repetition in a repetition would make again is made once
+/// (Brueggemann-Klein, "Regular expressions into finite automata", 1993), but between copies of a formula
+/// that the empty string does not fit.
 ///
 /// `SizeFault::States` and then `SizeFault::Ways` come exactly where `count` tells more than
 /// `MOST_STATES` and `MOST_WAYS`, with the number that it tells.
@@ -42,7 +45,7 @@ pub fn of_atom(alloc: Global, atom: &Atom) -> Result<Automaton, SizeFault>
     requires few { AtMost MOST_VARIABLES (HasVar (tree_of atom.now.formula)) }
     ensures names { IfOk result (λ a. Ascending a.names × ((x : VarName) → Has a.names x ↔ HasVar (tree_of atom.now.formula) x)) }
     ensures reduct { IfOk result (λ a. Rearranges a.graph (atom_automaton a.names atom.now.from_start atom.now.to_end (tree_of atom.now.formula))) }
-    ensures ways { IfOk result (λ a. length a.graph.ways ≡ count_ways atom.now.from_start atom.now.to_end (tree_of atom.now.formula)) }
+    ensures ways { IfOk result (λ a. length a.graph.ways ≤ count_ways atom.now.from_start atom.now.to_end (tree_of atom.now.formula)) }
     ensures grouped { IfOk result (λ a. AreGrouped a.graph.ways) }
     ensures ends { IfOk result (λ a. AreDistinct (map (λ (x : Stop). x.state) a.graph.stops)) }
     ensures small { OnOk result
@@ -61,11 +64,18 @@ pub fn of_atom(alloc: Global, atom: &Atom) -> Result<Automaton, SizeFault>
     if counts.ways > MOST_WAYS as u64 {
         return Err(SizeFault::Ways { count: counts.ways });
     }
-    let automaton = made(alloc, atom, counts.ways as usize)?;
+    let automaton = made(alloc, atom, room_for(&counts))?;
     Ok(automaton)
 }
 
-/// The automaton of an atom that is not too large. Room for so many ways is made at once.
+/// For how many ways there is room at first: for those that are counted, or twice as many as there are pairs
+/// of states, since few ways are made twice.
+fn room_for(counts: &Counts) -> usize {
+    let pairs = counts.states.saturating_mul(counts.states);
+    counts.ways.min(pairs.saturating_mul(2)) as usize
+}
+
+/// The automaton of an atom that is not too large, with room for so many ways at first.
 fn made(alloc: Global, atom: &Atom, room: usize) -> Result<Automaton, OutOfMemory>
     requires built { IsWellBuilt (tree_of atom.now.formula) }
     requires functional { IsFunctional (tree_of atom.now.formula) }
@@ -74,21 +84,39 @@ fn made(alloc: Global, atom: &Atom, room: usize) -> Result<Automaton, OutOfMemor
     ensures { IfOk result (IsMade atom.now.from_start atom.now.to_end (tree_of atom.now.formula)) }
 {
     let vars = vars_of(&atom.formula);
-    let mut draft = Draft {
-        next: 1,
-        ways: Vec::with_capacity(alloc, room)?,
-    };
-    let piece = place(alloc, &vars, &atom.formula, &mut draft)?;
+    let (piece, draft) = placed(alloc, atom, &vars, room)?;
     let after = draft.next;
-    let mut ways = draft.ways;
-    push_outer(atom, &piece, after, &mut ways)?;
     let states = states_of(atom.to_end, after);
-    let Ok(mut automaton) = Automaton::with_ways(alloc, vars, states, ways) else {
+    let Ok(mut automaton) = Automaton::with_ways(alloc, vars, states, draft.ways) else {
         return Err(OutOfMemory);
     };
     finish(atom, &piece, after, &mut automaton)?;
     automaton.group_ways(alloc)?;
     Ok(automaton)
+}
+
+/// The ends of an atom's formula, the number of After, and all ways of the atom's automaton.
+fn placed(
+    alloc: Global,
+    atom: &Atom,
+    vars: &VarSet,
+    room: usize,
+) -> Result<(Piece, Draft), OutOfMemory>
+    requires built { IsWellBuilt (tree_of atom.now.formula) }
+    requires functional { IsFunctional (tree_of atom.now.formula) }
+    requires distinct { AreDistinct vars.now }
+    requires named { AreNamed vars.now (tree_of atom.now.formula) }
+    requires states { count_states atom.now.from_start atom.now.to_end (tree_of atom.now.formula) ≤ MOST_STATES }
+    ensures { IfOk result (λ r. ArePlaced vars.now atom.now.from_start atom.now.to_end (tree_of atom.now.formula) r.0 r.1) }
+{
+    let mut draft = Draft {
+        next: 1,
+        ways: Vec::with_capacity(alloc, room)?,
+    };
+    let piece = place(alloc, vars, &atom.formula, false, &mut draft)?;
+    let after = draft.next;
+    push_outer(atom, &piece, after, &mut draft.ways)?;
+    Ok((piece, draft))
 }
 
 /// The formula's variables.

@@ -6,6 +6,7 @@ pub use counting::{Counts, count};
 
 mod building;
 mod counting;
+mod fitting;
 mod joins;
 pub mod laws;
 mod moving;

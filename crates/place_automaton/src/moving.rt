@@ -1,5 +1,5 @@
 //! Entries, ends and ways whose places get other numbers.
-ghost use Rattle.std.specs.Prelude.{◌≡◌, ℕ, ◌+◌, ◌-◌, ◌≤◌, ◌++◌, length, take, drop, map, IfOk, OnOk};
+ghost use Rattle.std.specs.Prelude.{◌≡◌, ◌+◌, ◌-◌, ◌≤◌, ◌++◌, length, take, drop, map, IfOk, OnOk};
 ghost use Rattle.spanner_model.specs.Lists.{Has};
 ghost use Rattle.marked_automaton.specs.declared.TheConstants.{MOST_STATES};
 ghost use Rattle.marked_automaton.specs.declared.way.Stop.{Stop};

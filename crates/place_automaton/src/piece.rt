@@ -1,10 +1,10 @@
 //! Parts of a formula whose places are numbered.
-ghost use Rattle.std.specs.Prelude.{◌≡◌, ℕ, ◌+◌, List, [], ◌∷◌, ◌++◌, ◌<◌, ◌≤◌, length, map, IfOk, OnOk, IsTrue, bit_or, if◌then◌else◌};
+ghost use Rattle.std.specs.Prelude.{◌≡◌, ℕ, ◌+◌, List, [], ◌∷◌, ◌++◌, ◌<◌, ◌≤◌, length, map, IfOk, OnOk, IsTrue, if◌then◌else◌};
 ghost use Rattle.spanner_model.specs.Lists.{Has};
-ghost use Rattle.place_automaton.specs.Ends.{nothing_ends, never_ends, one_ends, cat_ends, alt_ends, opt_ends, cap_ends, JoinAsSum, JoinAsSums, IsUnmarked, MarkOf, Ends, RowJoins, again_ends, row_ends, row_ways};
+ghost use Rattle.place_automaton.specs.Ends.{CanCapture, nothing_ends, never_ends, one_ends, cat_ends, alt_ends, opt_ends, cap_ends, JoinAsSums, IsUnmarked, Ends, RowJoins, again_ends, row_ends, row_ways};
 ghost use Rattle.marked_automaton.specs.declared.way.Stop.{Stop};
 ghost use Rattle.marked_automaton.specs.Automaton.{IsBlockOf};
-ghost use Rattle.place_automaton.specs.Atom.{way_after, way_from_first};
+ghost use Rattle.place_automaton.specs.Atom.{unless, way_after, way_from_first};
 ghost use Rattle.marked_automaton.specs.declared.TheConstants.{MOST_STATES};
 ghost use Rattle.place_automaton.specs.declared.piece.Entry.{Entry};
 ghost use Rattle.place_automaton.specs.Made.{end_stops, with_stops};
@@ -98,27 +98,41 @@ impl Piece {
         })
     }
 
-    /// This and then the rest. The ways between them are added.
-    pub(crate) fn cat(self, rest: Piece, ways: &mut Vec<Way>) -> Result<Piece, OutOfMemory>
+    /// This and then the rest. The ways between them are added, unless a repetition around both adds them.
+    pub(crate) fn cat(
+        self,
+        rest: Piece,
+        again: bool,
+        ways: &mut Vec<Way>,
+    ) -> Result<Piece, OutOfMemory>
         requires { JoinAsSums self rest }
         ensures ends { IfOk result (λ p. p ≡ cat_ends self rest) }
-        ensures ways { OnOk result (ways.new.items ≡ ways.old.items ++ ways_between self.last rest.first) }
+        ensures ways { OnOk result (ways.new.items ≡ ways.old.items ++ unless again (ways_between self.last rest.first)) }
     {
-        push_ways(&self.last, &rest.first, ways)?;
+        if !again {
+            push_ways(&self.last, &rest.first, ways)?;
+        }
         let null = both(self.null, rest.null);
         let first = all_entries(self.first, self.null, rest.first)?;
         let last = all_stops(rest.last, rest.null, self.last)?;
         Ok(Piece { null, first, last })
     }
 
-    /// This and then the rest, or nothing if that may be. The ways between them are added.
-    fn before(self, rest: Piece, optional: bool, ways: &mut Vec<Way>) -> Result<Piece, OutOfMemory>
+    /// This and then the rest, or nothing if that may be. The ways between them are added, unless a
+    /// repetition around both adds them.
+    fn before(
+        self,
+        rest: Piece,
+        optional: bool,
+        again: bool,
+        ways: &mut Vec<Way>,
+    ) -> Result<Piece, OutOfMemory>
         requires joins { JoinAsSums self rest }
         requires bare { IsTrue optional → IsUnmarked (cat_ends self rest) }
         ensures ends { IfOk result (λ p. p ≡ (if optional then opt_ends (cat_ends self rest) else cat_ends self rest)) }
-        ensures ways { OnOk result (ways.new.items ≡ ways.old.items ++ ways_between self.last rest.first) }
+        ensures ways { OnOk result (ways.new.items ≡ ways.old.items ++ unless again (ways_between self.last rest.first)) }
     {
-        let both = self.cat(rest, ways)?;
+        let both = self.cat(rest, again, ways)?;
         Ok(both.opt_if(optional))
     }
 
@@ -218,10 +232,7 @@ impl Piece {
 
     /// This in a capture, whose markers are these.
     pub(crate) fn captured(self, opening: Marks, closing: Marks) -> Piece
-        requires apart { JoinAsSum opening closing }
-        requires null { (m : ℕ) → Has self.null m → bit_or (opening + closing) m ≡ opening + closing + m }
-        requires first { (m : ℕ) → MarkOf self m → JoinAsSum opening m }
-        requires last { (m : ℕ) → MarkOf self m → JoinAsSum m closing }
+        requires { CanCapture opening closing self }
         ensures { result ≡ cap_ends opening closing self }
     {
         let null = match self.null {
@@ -237,41 +248,47 @@ impl Piece {
 }
 
 /// The pieces one after another and then the rest, where the first so many are required and each other
-/// may stand only where all before it do. The ways between them are added.
+/// may stand only where all before it do. The ways between them are added, unless a repetition around all
+/// adds them.
 pub(crate) fn join_row(
     mut pieces: Vec<Piece>,
     required: usize,
     rest: Piece,
+    again: bool,
     ways: &mut Vec<Way>,
 ) -> Result<Piece, OutOfMemory>
     requires { RowJoins required pieces.items rest }
     ensures ends { IfOk result (λ p. p ≡ row_ends required pieces.items rest) }
-    ensures ways { OnOk result (ways.new.items ≡ ways.old.items ++ row_ways required pieces.items rest) }
+    ensures ways { OnOk result (ways.new.items ≡ ways.old.items ++ unless again (row_ways required pieces.items rest)) }
 {
     let mut row = rest;
     while let Some(piece) = pieces.pop() {
         let optional = pieces.len() >= required;
-        row = piece.before(row, optional, ways)?;
+        row = piece.before(row, optional, again, ways)?;
     }
     Ok(row)
 }
 
 /// The pieces one after another, of which the last may come again and again, and may be left out where
-/// none is required. No markers stand in them.
+/// none is required. No markers stand in them. The ways between them are added, unless a repetition around
+/// all adds them.
 pub(crate) fn join_again(
     alloc: Global,
     mut pieces: Vec<Piece>,
     required: usize,
+    again: bool,
     ways: &mut Vec<Way>,
 ) -> Result<Piece, OutOfMemory>
     requires { (P : Ends) → Has pieces.items P → IsUnmarked P }
     ensures ends { IfOk result (λ p. (front : List Ends) (last : Ends) → pieces.items ≡ front ++ last ∷ [] → p ≡ row_ends required front (again_ends required last)) }
     ensures ways { OnOk result ((front : List Ends) (last : Ends) → pieces.items ≡ front ++ last ∷ []
-        → ways.new.items ≡ (ways.old.items ++ ways_between last.last last.first) ++ row_ways required front (again_ends required last)) }
+        → ways.new.items ≡ (ways.old.items ++ unless again (ways_between last.last last.first)) ++ unless again (row_ways required front (again_ends required last))) }
 {
     let Some(last) = pieces.pop() else {
         return Ok(Piece::nothing(alloc));
     };
-    last.push_again(ways)?;
-    join_row(pieces, required, last.opt_if(required == 0), ways)
+    if !again {
+        last.push_again(ways)?;
+    }
+    join_row(pieces, required, last.opt_if(required == 0), again, ways)
 }

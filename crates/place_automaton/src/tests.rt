@@ -1,10 +1,9 @@
 //! Numbers that are worked out by hand, automata at the limits, and a small one way by way.
 ghost use Rattle.std.specs.Prelude.{◌≡◌, IfOk, IfSome, [], ◌∷◌, None};
 ghost use Rattle.spanner_model.specs.Examples.{a, b, x};
-ghost use Rattle.spanner_model.specs.Tree.{empty};
 ghost use Rattle.spanner_model.specs.View.{tree_of, trees_of};
 ghost use Rattle.place_automaton.specs.Examples.{maybe, times, star_in_x};
-ghost use Rattle.place_automaton.specs.Samples.{IsSample, long, wide, nothing_often, a_and_maybe_b, often_in_x};
+ghost use Rattle.place_automaton.specs.Samples.{IsSample, long, wide, nothing_often, a_and_maybe_b, often_in_x, star_of, stars_of_maybes, stars_of_two};
 
 use crate::{count, of_atom};
 use marked_automaton::{Automaton, SizeFault};
@@ -106,6 +105,30 @@ fn often_in_x(
     Ok(Formula::Cap(name, Box::new(alloc, often)?))
 }
 
+fn star_of(alloc: Global, formula: Formula) -> Result<Formula, OutOfMemory>
+    ensures { IfOk result (λ f. tree_of f ≡ star_of (tree_of formula)) }
+{
+    Ok(Formula::Rep(Box::new(alloc, formula)?, 0, None))
+}
+
+/// `(((a?){3})*)*`
+fn stars_of_maybes(alloc: Global) -> Result<Formula, OutOfMemory>
+    ensures { IfOk result (λ f. tree_of f ≡ stars_of_maybes) }
+{
+    let once = maybe(alloc, letter())?;
+    let thrice = times(alloc, once, 3)?;
+    let inner = star_of(alloc, thrice)?;
+    star_of(alloc, inner)
+}
+
+/// `((ab?)*)*`
+fn stars_of_two(alloc: Global) -> Result<Formula, OutOfMemory>
+    ensures { IfOk result (λ f. tree_of f ≡ stars_of_two) }
+{
+    let inner = star_of(alloc, a_and_maybe_b(alloc)?)?;
+    star_of(alloc, inner)
+}
+
 fn name_x() -> Option<Name>
     ensures { IfSome result (λ name. name ≡ x) }
 {
@@ -188,6 +211,29 @@ fn counts_places_and_ways(rt: HostRuntime) {
     assert_eq!(rt; told[0], (3_002, 4_504_503));
     assert_eq!(rt; told[1], (1_000_000_001, 1_000_000_000));
     assert_eq!(rt; told[2], (u64::MAX, u64::MAX));
+}
+
+/// Stars of stars as they are counted, and as they are made.
+fn stars(alloc: Global) -> Result<[(u64, u64); 2], OutOfMemory> {
+    let maybes = counted(stars_of_maybes(alloc)?, true, true);
+    let two = counted(stars_of_two(alloc)?, true, true);
+    Ok([maybes, two])
+}
+
+fn made_stars(alloc: Global) -> Result<[Result<(u64, u64), SizeFault>; 2], OutOfMemory> {
+    let maybes = made(alloc, stars_of_maybes(alloc)?, true, true);
+    let two = made(alloc, stars_of_two(alloc)?, true, true);
+    Ok([maybes, two])
+}
+
+#[test]
+fn a_star_of_a_star_has_each_way_once(rt: HostRuntime) {
+    let told = stars(rt.alloc()).expect(&rt, "there is memory");
+    assert_eq!(rt; told[0], (4, 24));
+    assert_eq!(rt; told[1], (3, 6));
+    let [maybes, two] = made_stars(rt.alloc()).expect(&rt, "there is memory");
+    assert_eq!(rt; maybes, Ok((4, 12)));
+    assert_eq!(rt; two, Ok((3, 4)));
 }
 
 /// Whether there is a way between these states with these markers, on each of the letters or on no other.

@@ -1,5 +1,5 @@
 //! Queries compiled to automata.
-ghost use Rattle.std.specs.Prelude.{◌≡◌, ℕ, ◌+◌, ◌<◌, ◌≤◌, ◌⊎◌, List, None, Some, length, IfOk, IfErr, IsFalse, IsTrue, OnOk};
+ghost use Rattle.std.specs.Prelude.{◌≡◌, ℕ, ◌+◌, ◌<◌, ◌≤◌, ◌⊎◌, None, Some, length, IfOk, IfErr, IsFalse, IsTrue, OnOk};
 ghost use Rattle.spanner_model.specs.ExprView.{expr_of, query_of};
 ghost use Rattle.spanner_model.specs.Sound.{IsSound};
 ghost use Rattle.marked_automaton.specs.Automaton.{Marked};

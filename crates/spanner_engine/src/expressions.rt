@@ -1,5 +1,5 @@
 //! The automata of expressions.
-ghost use Rattle.std.specs.Prelude.{◌≡◌, ℕ, ◌<◌, ◌⊎◌, List, Some, length, IfOk, IfErr};
+ghost use Rattle.std.specs.Prelude.{◌≡◌, ℕ, ◌<◌, ◌⊎◌, Some, length, IfOk, IfErr};
 ghost use Rattle.span_core.specs.declared.TheConstants.{MOST_VARIABLES};
 ghost use Rattle.spanner_model.specs.Captures.{VarName};
 ghost use Rattle.spanner_model.specs.Expression.{atom as atom_tree, named, union_all, join_all};
@@ -122,8 +122,7 @@ fn left_automaton(
     }
 }
 
-/// The automaton of an atom. Where half of its ways or more stand between the same two states as others, as
-/// nested repetitions make them, those that go alike are made one, since a join tries each with each.
+/// The automaton of an atom, with what leads to no end left out.
 fn atom_automaton(alloc: Global, atom: &Atom, budget: &mut Budget) -> Result<Shared, SizeFault>
     requires built { IsWellBuilt (tree_of atom.now.formula) }
     requires functional { IsFunctional (tree_of atom.now.formula) }
@@ -141,12 +140,7 @@ fn atom_automaton(alloc: Global, atom: &Atom, budget: &mut Budget) -> Result<Sha
         Err(fault) => return Err(fault),
     };
     let useful = whole.trim(alloc)?;
-    let states = u64::from(useful.states());
-    if useful.ways().len() as u64 / 2 < states.saturating_mul(states) {
-        return Ok(Shared::new(alloc, useful)?);
-    }
-    let few = useful.merge_ways(alloc)?;
-    Ok(Shared::new(alloc, few)?)
+    Ok(Shared::new(alloc, useful)?)
 }
 
 /// The automaton of a union, its parts put behind each other from left to right.

@@ -1,7 +1,6 @@
 //! How large the automata of a query are, before any is made.
-ghost use Rattle.std.specs.Prelude.{◌≡◌, ℕ, List, length, IfOk, IfErr, OnOk};
+ghost use Rattle.std.specs.Prelude.{ℕ, length, IfOk, IfErr, OnOk};
 ghost use Rattle.spanner_model.specs.Answer.{vars_of_lets};
-ghost use Rattle.spanner_model.specs.Captures.{VarName};
 ghost use Rattle.spanner_model.specs.Expression.{atom as atom_tree};
 ghost use Rattle.spanner_model.specs.ExprView.{expr_of, exprs_of, query_of};
 ghost use Rattle.spanner_model.specs.Functional.{IsFunctional};

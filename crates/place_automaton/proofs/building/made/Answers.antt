@@ -17,13 +17,15 @@ use Rattle.place_automaton.specs.Words.{opening_of, closing_of, atom_automaton}
 use Rattle.place_automaton.proofs.BuiltRepeats.{ordered_repeats}
 use Rattle.place_automaton.proofs.CountLaws.{count_law}
 use Rattle.place_automaton.proofs.FineLaws.{built_classes}
-use Rattle.place_automaton.proofs.MadeLaws.{made_ways, before_way, after_way, stop_there, stop_marks, is_way, rearranges_like}
+use Rattle.marked_automaton.proofs.Rearranged.{with_these}
+use Rattle.place_automaton.proofs.LeanLaws.{thin_has, thin_length, thin_there}
+use Rattle.place_automaton.proofs.MadeLaws.{before_way, after_way, stop_there, stop_marks, is_way, rearranges_like, rearranges_thinned}
 use Rattle.place_automaton.proofs.PlaceNumbers.{place_count}
 use Rattle.place_automaton.proofs.WholeLaws.{whole_law}
 use Rattle.place_automaton.proofs.building.made.Goals as goal
 
-pub place-requires-clause-distinct : goal.place-requires-clause-distinct
-place-requires-clause-distinct c = ascending-distinct c.vars_of-vars.result c.vars_of-vars.ensures.ascending
+pub placed-requires-clause-distinct : goal.placed-requires-clause-distinct
+placed-requires-clause-distinct c = ascending-distinct c.vars_of-vars.result c.vars_of-vars.ensures.ascending
 
 pub states_of-states-requires : goal.states_of-states-requires
 states_of-states-requires c =
@@ -35,11 +37,9 @@ with_ways-requires c = λ k d l.
     let names = c.vars_of-vars.result in
     let atom = c.args.atom.now in
     let f = tree_of atom.formula in
-    let P = places_of names f 1 in
-    let ws = c.push_outer.new.ways.items in
-    let all = made_ways atom.from_start atom.to_end P c.place.new.draft.next c.in_ok-piece.piece c.in_ok-with_capacity.field-0.items c.place.new.draft.ways.items ws
-    c.in_ok-with_capacity.ensures.items c.in_ok-piece.ensures.ways c.in_ok-piece.ensures.next c.in_ok-piece.ensures.ends c.in_ok-push_outer.ensures in
-    let has = subst (λ (xs : List Way). Has xs (get_or ws k d)) all (Has-get_or ws k d l) in
+    let ws = c.in_ok-piece.draft.ways.items in
+    let thin = c.in_ok-piece.ensures.ways in
+    let has = thin_has (Has ws) (atom_automaton names atom.from_start atom.to_end f).ways ws (get_or ws k d) thin (Has-get_or ws k d l) in
     let states : c.states_of-states.result ≡ (atom_automaton names atom.from_start atom.to_end f).states =
     c.states_of-states.ensures ∙ ap (λ (n : ℕ). n + (if atom.to_end then 0 else 1)) c.in_ok-piece.ensures.next in
     is_way names atom.from_start atom.to_end f c.requires.functional (built_classes f c.requires.built.0) (λ x v. (c.vars_of-vars.ensures.names x).1 v)
@@ -70,25 +70,23 @@ finish-requires-clause-before_way c = λ e.
     let names = c.vars_of-vars.result in
     let atom = c.args.atom.now in
     let f = tree_of atom.formula in
-    let P = places_of names f 1 in
-    let ws = c.push_outer.new.ways.items in
-    let all = made_ways atom.from_start atom.to_end P c.place.new.draft.next c.in_ok-piece.piece c.in_ok-with_capacity.field-0.items c.place.new.draft.ways.items ws
-    c.in_ok-with_capacity.ensures.items c.in_ok-piece.ensures.ways c.in_ok-piece.ensures.next c.in_ok-piece.ensures.ends c.in_ok-push_outer.ensures in
+    let ws = c.in_ok-piece.draft.ways.items in
+    let thin = c.in_ok-piece.ensures.ways in
     let graph = ap (λ (A : Automaton). A.ways) c.in-Ok.ensures.ok.1 in
-    subst (λ (xs : List Way). Has xs (idle_way 0)) (sym (graph ∙ all)) (before_way names atom.from_start atom.to_end f e)
+    subst (λ (xs : List Way). Has xs (idle_way 0)) (sym graph)
+    (thin_there (atom_automaton names atom.from_start atom.to_end f).ways ws (idle_way 0) thin (before_way names atom.from_start atom.to_end f e))
 
 pub finish-requires-clause-after_way : goal.finish-requires-clause-after_way
 finish-requires-clause-after_way c = λ e.
     let names = c.vars_of-vars.result in
     let atom = c.args.atom.now in
     let f = tree_of atom.formula in
-    let P = places_of names f 1 in
-    let ws = c.push_outer.new.ways.items in
-    let all = made_ways atom.from_start atom.to_end P c.place.new.draft.next c.in_ok-piece.piece c.in_ok-with_capacity.field-0.items c.place.new.draft.ways.items ws
-    c.in_ok-with_capacity.ensures.items c.in_ok-piece.ensures.ways c.in_ok-piece.ensures.next c.in_ok-piece.ensures.ends c.in_ok-push_outer.ensures in
+    let ws = c.in_ok-piece.draft.ways.items in
+    let thin = c.in_ok-piece.ensures.ways in
     let graph = ap (λ (A : Automaton). A.ways) c.in-Ok.ensures.ok.1 in
-    subst (λ (xs : List Way). Has xs (idle_way c.place.new.draft.next)) (sym (graph ∙ all))
-    (after_way names atom.from_start atom.to_end f c.place.new.draft.next c.in_ok-piece.ensures.next e)
+    subst (λ (xs : List Way). Has xs (idle_way c.in_ok-piece.draft.next)) (sym graph)
+    (thin_there (atom_automaton names atom.from_start atom.to_end f).ways ws (idle_way c.in_ok-piece.draft.next) thin
+    (after_way names atom.from_start atom.to_end f c.in_ok-piece.draft.next c.in_ok-piece.ensures.next e))
 
 pub returns : goal.returns
 returns c =
@@ -99,10 +97,9 @@ returns c =
     let f = tree_of atom.formula in
     let P = places_of names f 1 in
     let A = atom_automaton names s t f in
-    let ws = c.push_outer.new.ways.items in
-    let after = c.place.new.draft.next in
-    let all = made_ways s t P after c.in_ok-piece.piece c.in_ok-with_capacity.field-0.items c.place.new.draft.ways.items ws
-    c.in_ok-with_capacity.ensures.items c.in_ok-piece.ensures.ways c.in_ok-piece.ensures.next c.in_ok-piece.ensures.ends c.in_ok-push_outer.ensures in
+    let ws = c.in_ok-piece.draft.ways.items in
+    let after = c.in_ok-piece.draft.next in
+    let thin = c.in_ok-piece.ensures.ways in
     let bare = c.in-Ok.ensures.ok in
     let done = c.in_ok-finish.ensures in
     let last = c.in_ok-group_ways.ensures in
@@ -113,7 +110,7 @@ returns c =
     let states : A.states ≡ B.states =
     sym (done.ok.states ∙ (ap (λ (A : Automaton). A.states) bare.1 ∙ (c.states_of-states.ensures ∙ ap (λ (n : ℕ). n + (if t then 0 else 1)) c.in_ok-piece.ensures.next))) in
     let starts : A.starts ≡ B.starts = sym (done.ok.starts ∙ ap (λ (A : Automaton). A.starts ++ 0 ∷ []) bare.1) in
-    let ways : A.ways ≡ B.ways = sym (done.ok.ways ∙ (ap (λ (A : Automaton). A.ways) bare.1 ∙ all)) in
+    let ways : ws ≡ B.ways = sym (done.ok.ways ∙ ap (λ (A : Automaton). A.ways) bare.1) in
     let stops : A.stops ≡ B.stops =
     sym (done.ok.stops ∙ (ap (λ (A : Automaton). A.stops ++ all_stops t after c.in_ok-piece.piece) bare.1
     ∙ (ap (λ (n : ℕ). all_stops t n c.in_ok-piece.piece) next ∙ ap (λ (E : Ends). all_stops t (suc P.count) E) c.in_ok-piece.ensures.ends))) in
@@ -122,13 +119,20 @@ returns c =
       (λ h. elim ((done.ok.idle p).0 h) [ inl a ↦ absurd (none p a) | inr b ↦ subst (λ (n : ℕ). Has (idle_states s t n) p) next b ]),
       (λ h. (done.ok.idle p).1 (inr (subst (λ (n : ℕ). Has (idle_states s t n) p) (sym next) h))),
     ) in
-    let reduct : Rearranges c.group_ways.new.self.graph A = rearranges_like c.group_ways.new.self.graph B A last.rearranges states starts ways stops idle in
+    let reduct : Rearranges c.group_ways.new.self.graph A = rearranges_thinned c.group_ways.new.self.graph A ws (whole_law names s t f) thin
+    (rearranges_like c.group_ways.new.self.graph B (with_these ws A) last.rearranges states starts ways stops idle) in
     let dis = ascending-distinct names c.vars_of-vars.ensures.ascending in
     record {
       ascending = subst Ascending (sym same_names) c.vars_of-vars.ensures.ascending;
       names = subst (λ (ns : List VarName). (x : VarName) → Has ns x ↔ HasVar f x) (sym same_names) c.vars_of-vars.ensures.names;
       reduct = subst (λ (ns : List VarName). Rearranges c.group_ways.new.self.graph (atom_automaton ns s t f)) (sym same_names) reduct;
-      ways = last.same.3 ∙ (ap length (sym ways) ∙ (count_law names s t f dis vars c.requires.functional (ordered_repeats f c.requires.built)).1);
+      ways = omega (
+        arith,
+        last.same.3,
+        ap length ways,
+        thin_length (Has ws) A.ways ws thin,
+        (count_law names s t f dis vars c.requires.functional (ordered_repeats f c.requires.built)).1,
+      );
       grouped = last.grouped;
       stops = last.same.1 ∙ (sym stops ∙ ap (λ (ns : List VarName). (atom_automaton ns s t f).stops) (sym same_names));
     }
