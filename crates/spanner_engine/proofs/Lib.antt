@@ -1,4 +1,5 @@
 pub mod Assoc
+pub mod Combined
 pub mod CompileLaws
 pub mod FarBack
 pub mod HeldLaws

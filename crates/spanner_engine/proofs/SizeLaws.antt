@@ -4,7 +4,6 @@ use Rattle.std.specs.Prelude.{slice_get}
 use Rattle.std.proofs.Math.Seq.{take-length}
 use Rattle.std.proofs.lemmas.Bool.{cases_lt}
 use Rattle.std.proofs.lemmas.List.{length-map}
-use Rattle.std.proofs.lemmas.Option.{slice_get_within}
 use Rattle.std.proofs.Math.Nat.{min-le_left}
 use Rattle.span_core.specs.NameSets.{Ascending}
 use Rattle.spanner_model.specs.Lists.{Has}
@@ -12,12 +11,10 @@ use Rattle.spanner_model.specs.Tree.{Tree}
 use Rattle.spanner_model.specs.Functional.{IsFunctional}
 use Rattle.spanner_model.specs.WellBuilt.{IsWellBuilt}
 use Rattle.spanner_model.specs.Captures.{VarName}
-use Rattle.spanner_model.specs.Expression.{ExprTree, QueryTree, atom, named, union_end, union, join_end, join, project, union_all, join_all}
+use Rattle.spanner_model.specs.Expression.{ExprTree, QueryTree, atom, named, union_end, union, join_end, join, project}
 use Rattle.spanner_model.specs.Answer.{vars_of_lets}
 use Rattle.spanner_model.specs.Sound.{IsSound, IsSoundExpr}
-use Rattle.spanner_model.proofs.HasLaws.{Has-append_cases, Has-slice_get, place_of-Has}
-use Rattle.spanner_model.proofs.Nodes.{expr_nodes}
-use Rattle.spanner_model.proofs.ExprLaws.{union_size, part_size, union_part, join_part, union_two, join_two}
+use Rattle.spanner_model.proofs.HasLaws.{Has-append_cases, place_of-Has}
 use Rattle.spanner_model.proofs.TreeLaws.{take_at_more}
 use Rattle.marked_automaton.specs.declared.fault.SizeFault.{SizeFault}
 use Rattle.marked_automaton.specs.declared.fault.SizeFault.TheVariants.{States, Ways, OutOfMemory}
@@ -30,12 +27,12 @@ use Rattle.spanner_engine.specs.Excess.{IsExcessOf}
 use Rattle.spanner_engine.specs.Kept.{KeepsInOrder}
 use Rattle.spanner_engine.specs.Parts.{HasLargePart, HasLargePartOf, HasSmallAtoms, IsPartOf, IsUnionStep, IsJoinStep}
 use Rattle.spanner_engine.specs.QueryAutomaton.{of_atom, of_union, of_join, of_projection, automaton_of, united, together, of_lets}
-use Rattle.spanner_engine.specs.Sizes.{AreSized, AreSizesOf, IsSizedFrom, all_of, of_two}
-use Rattle.spanner_engine.specs.declared.sizes.Operation.{Operation}
-use Rattle.spanner_engine.specs.declared.sizes.Operation.TheVariants.{Union, Join}
+use Rattle.spanner_engine.specs.Combining.{all_of, of_two}
+use Rattle.spanner_engine.specs.Sizes.{AreSized, AreSizesOf, IsSizedFrom}
+use Rattle.spanner_engine.specs.declared.combining.Operation.{Operation}
+use Rattle.spanner_engine.specs.declared.combining.Operation.TheVariants.{Union, Join}
 use Rattle.spanner_engine.specs.declared.sizes.Sizes.{Sizes}
-use Rattle.spanner_engine.proofs.CompileLaws.{first_taken}
-use Rattle.spanner_engine.proofs.PartLaws.{union_push, join_push, union_part_of, join_part_of, large_part}
+use Rattle.spanner_engine.proofs.Combined.{alone, grown}
 use Rattle.spanner_engine.proofs.PieceLaws.{atom_counts, let_before, let_here}
 
 -- ---- sizes of one automaton
@@ -62,22 +59,6 @@ projected_from q n kept e s up h = record { sizes = projected_sizes kept (automa
 
 -- ---- parts of a union or a join
 
--- a part has fewer nodes than the whole, and is sound where the whole is
-pub part_at : (V : ℕ → VarName → Type 0) (n : ℕ) (o : Operation) (es : List ExprTree) (k : ℕ) (e : ExprTree) → slice_get es k ≡ Some e → IsSoundExpr V n (all_of o es) →
-    (expr_nodes e < expr_nodes (all_of o es)) × IsSoundExpr V n e
-part_at V n Union es k e at sound = let h = Has-slice_get es k e at in (omega (arith, part_size es e h, union_size es), union_part V n es e sound h)
-part_at V n Join es k e at sound = let h = Has-slice_get es k e at in (part_size es e h, join_part V n es e sound h)
-
-pub two_parts : (V : ℕ → VarName → Type 0) (n : ℕ) (o : Operation) (es : List ExprTree) → IsSoundExpr V n (all_of o es) → 2 ≤ length es
-two_parts V n Union es sound = union_two V n es sound
-two_parts V n Join es sound = join_two V n es sound
-
--- what is too large in a part is too large in the whole
-pub large_part_at : (L : ℕ → Marked) (o : Operation) (es : List ExprTree) (k : ℕ) (e : ExprTree) → slice_get es k ≡ Some e → (fault : SizeFault) → HasLargePartOf L e fault →
-    HasLargePartOf L (all_of o es) fault
-large_part_at L Union es k e at fault = large_part L e (union_all es) fault (λ M p. union_part_of L es e M (Has-slice_get es k e at) p)
-large_part_at L Join es k e at fault = large_part L e (join_all es) fault (λ M p. join_part_of L es e M (Has-slice_get es k e at) p)
-
 -- keeping its order, with small atoms
 abbrev IsFine : ExprTree → Type 0
 IsFine e = KeepsInOrder e × HasSmallAtoms e
@@ -95,25 +76,7 @@ fine_more es k y at h g e i =
       | inr b ↦ elim b as (λ _. IsFine e) [ inl same ↦ subst IsFine same g | inr c ↦ absurd c ]
     ]
 
-alone : (L : ℕ → Marked) (o : Operation) (e : ExprTree) → automaton_of L (all_of o (e ∷ [])) ≡ automaton_of L e
-alone L Union e = refl
-alone L Join e = refl
-
-pushed : (L : ℕ → Marked) (o : Operation) (x : ExprTree) (xs : List ExprTree) (y : ExprTree) →
-    automaton_of L (all_of o (x ∷ xs ++ y ∷ [])) ≡ of_two o (automaton_of L (all_of o (x ∷ xs))) (automaton_of L y)
-pushed L Union x xs y = union_push L x xs y
-pushed L Join x xs y = join_push L x xs y
-
 -- ---- sizes of the first parts
-
--- one part more
-grown : (L : ℕ → Marked) (o : Operation) (es : List ExprTree) (k : ℕ) (y : ExprTree) → 1 ≤ k → slice_get es k ≡ Some y →
-    automaton_of L (all_of o (take (k + 1) es)) ≡ of_two o (automaton_of L (all_of o (take k es))) (automaton_of L y)
-grown L o es k y l at =
-    let f = first_taken es k l (omega (arith, slice_get_within es k y at)) in
-    ap (λ (zs : List ExprTree). automaton_of L (all_of o zs)) (take_at_more es k y at)
-    ∙ (ap (λ (zs : List ExprTree). automaton_of L (all_of o (zs ++ y ∷ []))) f.2
-    ∙ (pushed L o f.0 f.1 y ∙ ap (λ (zs : List ExprTree). of_two o (automaton_of L (all_of o zs)) (automaton_of L y)) (sym f.2)))
 
 -- the sizes of the first k of these parts
 pub record SizedSoFar (o : Operation) (q : QueryTree) (n : ℕ) (es : List ExprTree) (k : ℕ) (s : Sizes) : Type 0 where

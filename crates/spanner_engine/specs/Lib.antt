@@ -1,3 +1,4 @@
+pub mod Combining
 pub mod Compiling
 pub mod Excess
 pub mod Held

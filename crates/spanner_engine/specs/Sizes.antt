@@ -1,24 +1,12 @@
 -- What is told of how large the automata of a query are, before any is made.
 use Rattle.std.specs.Prelude.{◌≡◌, ℕ, ◌<◌, ◌≤◌, ◌-◌, ◌^◌, min, List, length, slice_get, Some}
 use Rattle.spanner_model.specs.Captures.{VarName}
-use Rattle.spanner_model.specs.Expression.{ExprTree, QueryTree, union_all, join_all}
+use Rattle.spanner_model.specs.Expression.{ExprTree, QueryTree}
 use Rattle.marked_automaton.specs.Automaton.{Marked}
 use Rattle.spanner_engine.specs.Kept.{KeepsInOrder}
 use Rattle.spanner_engine.specs.Parts.{HasSmallAtoms}
-use Rattle.spanner_engine.specs.QueryAutomaton.{of_union, of_join, automaton_of, of_lets}
-use Rattle.spanner_engine.specs.declared.sizes.Operation.{Operation}
-use Rattle.spanner_engine.specs.declared.sizes.Operation.TheVariants.{Union, Join}
+use Rattle.spanner_engine.specs.QueryAutomaton.{automaton_of, of_lets}
 use Rattle.spanner_engine.specs.declared.sizes.Sizes.{Sizes}
-
--- the expression that an operation makes of parts
-abbrev pub all_of : Operation → List ExprTree → ExprTree
-all_of Union parts = union_all parts
-all_of Join parts = join_all parts
-
--- the automaton that it makes of two
-abbrev pub of_two : Operation → Marked → Marked → Marked
-of_two Union A B = of_union A B
-of_two Join A B = of_join A B
 
 -- the automaton has so many states, or 2^64 - 1 where that is less, and at least so many ways
 pub record AreSizesOf (A : Marked) (s : Sizes) : Type 0 where

@@ -2,7 +2,7 @@
 ghost use Rattle.std.specs.Prelude.{◌≡◌, ℕ, ◌<◌, ◌⊎◌, Some, length, IfOk, IfErr};
 ghost use Rattle.span_core.specs.declared.TheConstants.{MOST_VARIABLES};
 ghost use Rattle.spanner_model.specs.Captures.{VarName};
-ghost use Rattle.spanner_model.specs.Expression.{atom as atom_tree, named, union_all, join_all};
+ghost use Rattle.spanner_model.specs.Expression.{atom as atom_tree, named};
 ghost use Rattle.spanner_model.specs.ExprView.{expr_of, exprs_of, query_of};
 ghost use Rattle.spanner_model.specs.Functional.{HasVar, IsFunctional};
 ghost use Rattle.spanner_model.specs.Lists.{AtMost, Has};
@@ -13,14 +13,16 @@ ghost use Rattle.marked_automaton.specs.declared.fault.SizeFault.TheVariants.{Ou
 ghost use Rattle.marked_automaton.specs.Automaton.{Marked};
 ghost use Rattle.marked_automaton.specs.Marks.{left_of, remarked};
 ghost use Rattle.marked_automaton.specs.Reduct.{Reduces, ReducesMarked};
+ghost use Rattle.spanner_engine.specs.Combining.{all_of};
 ghost use Rattle.spanner_engine.specs.Compiling.{AreCompiled, IsAsked, IsAtomLet, IsCompiledFrom};
 ghost use Rattle.spanner_engine.specs.Parts.{HasLargePartOf};
 ghost use Rattle.spanner_engine.specs.QueryAutomaton.{of_atom as of_atom_tree, of_lets};
 
 use crate::budget::{Budget, size_of};
-use crate::lets::{Let, owner_of, shared_at};
+use crate::combining::{Operation, with_part};
+use crate::lets::{Let, shared_at};
 use crate::shared::Shared;
-use algebra::{join_within, project, unite};
+use algebra::project;
 use marked_automaton::{MOST_STATES, SizeFault};
 use place_automaton::{count, of_atom};
 use span_core::{MOST_VARIABLES, VarSet};
@@ -55,8 +57,10 @@ pub fn expr_automaton(
                 Err(fault) => Err(fault),
             },
         },
-        Expr::Union(parts) => union_automaton(alloc, query, lets, parts, budget),
-        Expr::Join(parts) => join_automaton(alloc, query, lets, parts, budget),
+        Expr::Union(parts) => {
+            parts_automaton(alloc, query, lets, Operation::Union, parts, budget)
+        }
+        Expr::Join(parts) => parts_automaton(alloc, query, lets, Operation::Join, parts, budget),
         Expr::Project(kept, sub) => {
             let inner = match expr_automaton(alloc, query, lets, sub, budget) {
                 Ok(inner) => inner,
@@ -143,67 +147,20 @@ fn atom_automaton(alloc: Global, atom: &Atom, budget: &mut Budget) -> Result<Sha
     Ok(Shared::new(alloc, useful)?)
 }
 
-/// The automaton of a union, its parts put behind each other from left to right.
+/// The automaton of a union or a join, its parts taken from left to right.
 #[cycle(compiling)]
-fn union_automaton(
+fn parts_automaton(
     alloc: Global,
     query: &Query,
     lets: &[Let],
+    operation: Operation,
     parts: &Exprs,
     budget: &mut Budget,
 ) -> Result<Shared, SizeFault>
     requires known { AreCompiled (query_of query.now) lets.now }
-    requires asked { IsAsked (query_of query.now) lets.now (union_all (exprs_of parts.now)) }
-    ensures made { IfOk result (IsCompiledFrom (query_of query.now) (length lets.now) (union_all (exprs_of parts.now))) }
-    ensures fault { IfErr result (λ fault. HasLargePartOf (of_lets (query_of query.now).lets (length lets.now)) (union_all (exprs_of parts.now)) fault ⊎ (budget.old.excess ≡ Some fault)) }
-    ensures excess { budget.new.excess ≡ budget.old.excess }
-{
-    let first = match expr_automaton(alloc, query, lets, parts.at(0), budget) {
-        Ok(first) => first,
-        Err(fault) => return Err(fault),
-    };
-    // What a `let` holds is copied.
-    let copied = match owner_of(lets, parts.at(0)) {
-        Some(_) => size_of(first.as_automaton()),
-        None => 0,
-    };
-    if let Err(fault) = budget.make(copied) {
-        return Err(fault);
-    }
-    let mut all = first.take(alloc)?;
-    for k in 1..parts.len() {
-        let part = match expr_automaton(alloc, query, lets, parts.at(k), budget) {
-            Ok(part) => part,
-            Err(fault) => return Err(fault),
-        };
-        let part = part.as_automaton();
-        if let Err(fault) = budget.make(size_of(part)) {
-            return Err(fault);
-        }
-        prove!(all.states() <= MOST_STATES);
-        prove!(part.states() <= MOST_STATES);
-        all = match unite(all, part) {
-            Ok(both) => both,
-            Err(fault) => return Err(fault),
-        };
-    }
-    Ok(Shared::new(alloc, all)?)
-}
-
-/// The automaton of a join, its parts taken from left to right, with what leads to no end left out after
-/// each.
-#[cycle(compiling)]
-fn join_automaton(
-    alloc: Global,
-    query: &Query,
-    lets: &[Let],
-    parts: &Exprs,
-    budget: &mut Budget,
-) -> Result<Shared, SizeFault>
-    requires known { AreCompiled (query_of query.now) lets.now }
-    requires asked { IsAsked (query_of query.now) lets.now (join_all (exprs_of parts.now)) }
-    ensures made { IfOk result (IsCompiledFrom (query_of query.now) (length lets.now) (join_all (exprs_of parts.now))) }
-    ensures fault { IfErr result (λ fault. HasLargePartOf (of_lets (query_of query.now).lets (length lets.now)) (join_all (exprs_of parts.now)) fault ⊎ (budget.old.excess ≡ Some fault)) }
+    requires asked { IsAsked (query_of query.now) lets.now (all_of operation (exprs_of parts.now)) }
+    ensures made { IfOk result (IsCompiledFrom (query_of query.now) (length lets.now) (all_of operation (exprs_of parts.now))) }
+    ensures fault { IfErr result (λ fault. HasLargePartOf (of_lets (query_of query.now).lets (length lets.now)) (all_of operation (exprs_of parts.now)) fault ⊎ (budget.old.excess ≡ Some fault)) }
     ensures excess { budget.new.excess ≡ budget.old.excess }
 {
     let mut all = match expr_automaton(alloc, query, lets, parts.at(0), budget) {
@@ -215,20 +172,13 @@ fn join_automaton(
             Ok(part) => part,
             Err(fault) => return Err(fault),
         };
-        let (before, part) = (all.as_automaton(), part.as_automaton());
-        prove!(before.states() <= MOST_STATES);
+        let part = part.as_automaton();
+        prove!(all.as_automaton().states() <= MOST_STATES);
         prove!(part.states() <= MOST_STATES);
-        budget.read(before);
-        budget.read(part);
-        let pairs = match join_within(alloc, before, part, &mut budget.effort) {
-            Ok(pairs) => pairs,
+        all = match with_part(alloc, operation, all, part, budget) {
+            Ok(both) => both,
             Err(fault) => return Err(fault),
         };
-        if let Err(fault) = budget.make(size_of(&pairs)) {
-            return Err(fault);
-        }
-        let useful = pairs.trim(alloc)?;
-        all = Shared::new(alloc, useful)?;
     }
     Ok(all)
 }

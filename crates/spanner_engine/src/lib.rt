@@ -4,6 +4,7 @@
 pub use compiled::{Compiled, compile};
 
 mod budget;
+mod combining;
 mod compiled;
 mod expressions;
 pub mod laws;

@@ -51,6 +51,11 @@ impl Shared {
         Rc::as_ref(&self.automaton)
     }
 
+    /// Whether it has more owners than this one.
+    pub(crate) fn has_other_owners(&self) -> bool {
+        Rc::strong_count(&self.automaton) > 1
+    }
+
     /// The automaton itself where this is its one owner, and else a copy.
     pub fn take(self, alloc: Global) -> Result<Automaton, OutOfMemory>
         ensures { IfOk result (λ a. a ≡ self) }

@@ -11,8 +11,10 @@ ghost use Rattle.marked_automaton.specs.Automaton.{Marked};
 ghost use Rattle.spanner_engine.specs.Kept.{QueryKeepsInOrder};
 ghost use Rattle.spanner_engine.specs.Parts.{AtomsAreSmall, HasLargePart, HasLargePartOf, HasSmallAtoms};
 ghost use Rattle.spanner_engine.specs.QueryAutomaton.{automaton_of, of_atom, of_lets};
-ghost use Rattle.spanner_engine.specs.Sizes.{AreSized, AreSizesOf, IsSizedFrom, all_of, of_two};
+ghost use Rattle.spanner_engine.specs.Combining.{all_of, of_two};
+ghost use Rattle.spanner_engine.specs.Sizes.{AreSized, AreSizesOf, IsSizedFrom};
 
+use crate::combining::Operation;
 use marked_automaton::{MOST_STATES, MOST_WAYS, SizeFault};
 use place_automaton::count;
 use span_core::MOST_VARIABLES;
@@ -27,13 +29,6 @@ pub struct Sizes {
     pub states: u64,
     /// No more than the ways.
     pub ways: u64,
-}
-
-/// What an expression makes of its parts.
-#[derive(Clone, Copy)]
-enum Operation {
-    Union,
-    Join,
 }
 
 impl Sizes {

@@ -9,7 +9,8 @@ use Rattle.spanner_model.proofs.ExprTrees.{expr_of-Atom, expr_of-Named, expr_of-
 use Rattle.spanner_engine.specs.QueryAutomaton.{of_lets}
 use Rattle.spanner_engine.specs.declared.sizes.Sizes.{Sizes}
 use Rattle.spanner_engine.proofs.PieceLaws.{projection_fault}
-use Rattle.spanner_engine.proofs.SizeLaws.{projected_from, part_at, two_parts, large_part_at, sized_first, sized_next, sized_whole}
+use Rattle.spanner_engine.proofs.Combined.{large_part_at, part_at, two_parts}
+use Rattle.spanner_engine.proofs.SizeLaws.{projected_from, sized_first, sized_next, sized_whole}
 use Rattle.spanner_engine.proofs.sizes.+sizing.Goals as goal
 
 -- ---- one expression

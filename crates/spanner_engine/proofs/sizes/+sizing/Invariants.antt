@@ -1,7 +1,7 @@
 use Rattle.std.proofs.Common.{◌+◌, ◌*◌, ◌≤◌, length}
 use Rattle.spanner_model.specs.ExprView.{expr_of, exprs_of, query_of}
 use Rattle.spanner_model.proofs.Nodes.{expr_nodes}
-use Rattle.spanner_engine.specs.Sizes.{all_of}
+use Rattle.spanner_engine.specs.Combining.{all_of}
 use Rattle.spanner_engine.proofs.SizeLaws.{SizedSoFar}
 use Rattle.spanner_engine.proofs.sizes.+sizing.Given as goal
 
