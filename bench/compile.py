@@ -56,6 +56,8 @@ QUERIES = {
     'two of such stars, in a let that nothing uses':
         'let x=' + ' join '.join('/^%s%s%s$/' % ('(' * 97, '(%s?){45}(z?){4}(%s?){45}(%s?){44}' % tuple(letters), ')*' * 97)
                                  for letters in ('abc', 'def')) + '; /a/',
+    'two stars of two places, joined with two long alternations':
+        ' join '.join(['/^%sc?b?%s$/' % ('(' * 98, ')*' * 98)] * 2 + ['/^(%s)(%s)$/' % ('|'.join('c' * 1400), '|'.join('b' * 1400))]),
     'a large let beside a union of two large atoms':
         'let h=(/^(a?){1000}(a?){990}$/ union /^$/); (h join /^$/) union ((%s union %s) join /^$/) union (h join /^$/)'
         % (MOST_WAYS, MOST_WAYS.replace('a', 'b')),
