@@ -1,5 +1,5 @@
 //! Markers of the variables of one set as markers of those of another.
-ghost use Rattle.std.specs.Prelude.{◌≡◌, ℕ, ◌<◌, ◌≤◌, List, length, map, IfOk};
+ghost use Rattle.std.specs.Prelude.{◌≡◌, ◌<◌, ◌≤◌, length, map, IfOk};
 ghost use Rattle.std.specs.Option.{ForSome};
 ghost use Rattle.span_core.specs.declared.TheConstants.{MOST_VARIABLES};
 ghost use Rattle.algebra.specs.JoinedNames.{all_names};

@@ -1,5 +1,5 @@
 //! Small automata, put together by hand.
-ghost use Rattle.std.specs.Prelude.{◌≡◌, ◌+◌, ◌*◌, ◌^◌, ◌<◌, ◌≤◌, ◌↔◌, [], length, IfOk, IsTrue};
+ghost use Rattle.std.specs.Prelude.{◌≡◌, ◌+◌, ◌*◌, ◌^◌, ◌<◌, ◌≤◌, ◌↔◌, [], IfOk, IsTrue};
 ghost use Rattle.span_core.specs.declared.TheConstants.{MOST_VARIABLES};
 
 use crate::{Effort, join, join_within, project, union, unite};

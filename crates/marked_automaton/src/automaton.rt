@@ -1,5 +1,5 @@
 //! Automata.
-ghost use Rattle.std.specs.Prelude.{◌≡◌, ℕ, ◌+◌, ◌<◌, ◌≤◌, ◌↔◌, ◌⊎◌, IsTrue, IsOk, IfOk, IfErr, OnOk, OnErr, List, length, map, Some, All};
+ghost use Rattle.std.specs.Prelude.{◌≡◌, ℕ, ◌+◌, ◌<◌, ◌≤◌, ◌↔◌, ◌⊎◌, IsTrue, IsOk, IfOk, IfErr, OnOk, OnErr, List, length, map, All};
 ghost use Rattle.std.specs.Option.{ForSome};
 ghost use Rattle.std.specs.FinSet as set;
 ghost use Rattle.span_core.specs.Block.{block};

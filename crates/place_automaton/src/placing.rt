@@ -1,5 +1,5 @@
 //! The places of a formula.
-ghost use Rattle.std.specs.Prelude.{◌≡◌, ◌+◌, ◌-◌, ◌<◌, ◌≤◌, ◌⊎◌, true, Bool, IfOk, IsTrue, List, None, length, take, drop};
+ghost use Rattle.std.specs.Prelude.{◌≡◌, ◌↔◌, ◌+◌, ◌-◌, ◌<◌, ◌≤◌, ◌⊎◌, true, Bool, IfOk, IsTrue, List, None, length, take, drop};
 ghost use Rattle.spanner_model.specs.Captures.{VarName};
 ghost use Rattle.spanner_model.specs.Functional.{HasVar, IsFunctional};
 ghost use Rattle.spanner_model.specs.Lists.{Has, AreDistinct};
@@ -174,7 +174,7 @@ fn place_parts(
 /// Whether a repetition around the parts leads from this part's ends to its beginnings: the empty string fits
 /// all others. It does not fit so many of the parts.
 fn part_comes_again(again: bool, part: &Formula, hard: usize) -> bool
-    ensures { IsTrue result → IsTrue again × (hard ≡ one_if_hard (tree_of part.now)) }
+    ensures { IsTrue result ↔ (IsTrue again × (hard ≡ one_if_hard (tree_of part.now))) }
 {
     if !again {
         return false;
@@ -189,7 +189,7 @@ fn part_comes_again(again: bool, part: &Formula, hard: usize) -> bool
 /// Whether a repetition around the parts leads from each part's ends to each part's beginnings: the empty
 /// string fits all.
 fn all_come_again(again: bool, hard: usize) -> bool
-    ensures { IsTrue result → IsTrue again × (hard ≡ 0) }
+    ensures { IsTrue result ↔ (IsTrue again × (hard ≡ 0)) }
 {
     again && hard == 0
 }
@@ -298,7 +298,7 @@ fn place_copies(
 /// beginnings. Where the empty string does not fit, it leads to the first copy alone, and nothing is left to
 /// it but where there is one copy.
 fn copies_come_again(again: bool, sub: &Formula, copies: u16) -> bool
-    ensures { IsTrue result → IsTrue again × ((copies ≡ 1) ⊎ (fits_empty (tree_of sub.now) ≡ true)) }
+    ensures { IsTrue result ↔ (IsTrue again × ((copies ≡ 1) ⊎ (fits_empty (tree_of sub.now) ≡ true))) }
 {
     again && (copies == 1 || fits_empty(sub))
 }

@@ -169,7 +169,7 @@ place_parts-place-requires t c =
             (
               λ x v. c.requires.named x (part_has ts f x has v),
               (
-                (λ yes x v. c.requires.plain (c.part_comes_again-part_again.ensures yes).0 x (part_has ts f x has v)),
+                (λ yes x v. c.requires.plain (c.part_comes_again-part_again.ensures.0 yes).0 x (part_has ts f x has v)),
                 omega (arith, c.loop-k.invariant.next, turn_total (opening_of names) (closing_of names) (take k ts) c.args.draft.now.next, parts_room ts k f c.at-part.ensures, c.requires.room),
               ),
             ),
@@ -186,7 +186,7 @@ place_parts-loop-k-preserved t c =
     let n = c.args.draft.now.next in
     let q = c.part_comes_again-part_again.result in
     let into : GoesInto q (places_of names f (n + total (in_turn (placers names (take c.loop-k.k ts)) n))) c.args.again (places_of names (cat_all ts) n) = λ yes.
-    let h = c.part_comes_again-part_again.ensures yes in
+    let h = c.part_comes_again-part_again.ensures.0 yes in
     (h.0, part_reaches names ts c.loop-k.k f (c.requires.plain h.0) c.at-part.ensures (sym c.hard_parts-hard.ensures ∙ h.1) n) in
     parts_next names c.args.again (places_of names (cat_all ts) n) q ts c.loop-k.k n f c.args.draft.now c.loop-k.draft c.place.new.draft
     c.loop-k.pieces.items c.push.new.self.items c.in_ok-piece.piece c.at-part.ensures refl c.loop-k.invariant c.in_ok-piece.ensures into c.in_ok-push.ensures.items
@@ -221,7 +221,7 @@ place_parts-returns t c =
     (parts_row (opening_of names) (closing_of names) ts a.next) row
     (ends ∙ (ap (λ (r : ℕ). row_ends r xs c.nothing.result) c.len-2.ensures ∙ ap (λ (Q : Ends). row_ends (length ts) xs Q) c.nothing.ensures)) refl
     (ways ∙ (ap (λ (r : ℕ). c.loop-k.draft.ways.items ++ unless g (row_ways r xs c.nothing.result)) c.len-2.ensures ∙ ap (λ (Q : Ends). c.loop-k.draft.ways.items ++ unless g (row_ways (length ts) xs Q)) c.nothing.ensures))
-    (λ yes. let h = c.all_come_again-all_again.ensures yes in (h.0, parts_again names ts (c.requires.plain h.0) (sym c.hard_parts-hard.ensures ∙ h.1) a.next)))
+    (λ yes. let h = c.all_come_again-all_again.ensures.0 yes in (h.0, parts_again names ts (c.requires.plain h.0) (sym c.hard_parts-hard.ensures ∙ h.1) a.next)))
     c.join_row.ensures.ends c.join_row.ensures.ways
 
 pub place-returns-in_ok-piece-in-Cap : goal.place-returns-in_ok-piece-in-Cap
@@ -329,7 +329,7 @@ place_copies-loop-copy-init t c =
     let added = c.added_since-added in
     let some : 0 < c.copies_of-copies.result = omega (arith, c.if-copies-eq0.false) in
     let into : GoesInto g (F a.next) c.args.again W = λ yes.
-    let h = c.copies_come_again-copy_again.ensures yes in (
+    let h = c.copies_come_again-copy_again.ensures.0 yes in (
       h.0,
       subst (λ n. EndsReach (F n) W) (let e : a.next + 0 ≡ a.next = omega arith in e)
           (copy_into F c.args.least a.next c.args.most 0 (omega (arith, some, c.copies_of-copies.ensures)) (λ m e. (c.requires.built.0.1.1 m e).0)
@@ -401,7 +401,7 @@ place_copies-loop-copy-preserved t c =
     let is = ap (λ (k : ℕ). places_moved (b.next - k) (F a.next)) added.ensures.first
     ∙ once_more F (place_moves (opening_of names) (closing_of names) f) a.next b.next (omega (arith, row.next)) in
     let into : GoesInto g (F (a.next + total (copies F i a.next))) c.args.again W = λ yes.
-    let h = c.copies_come_again-copy_again.ensures yes in
+    let h = c.copies_come_again-copy_again.ensures.0 yes in
     let many = sym c.copies_of-copies.ensures in (
       h.0,
       copy_into F c.args.least a.next c.args.most i (omega (arith, c.loop-copy-test.true, c.copies_of-copies.ensures)) (λ m e. (c.requires.built.0.1.1 m e).0)
@@ -462,7 +462,7 @@ place_copies-returns-in-Some t c =
     (λ p ends ways. row_done c.args.again W g least (copies F m a.next) a c.loop-copy.draft new xs p is row
     (ends ∙ (ap (λ (r : ℕ). row_ends r xs Q) c.from-required.ensures ∙ ap (λ (Q : Ends). row_ends least xs Q) c.nothing-in-Some.ensures)) refl
     (ways ∙ (ap (λ (r : ℕ). c.loop-copy.draft.ways.items ++ unless g (row_ways r xs Q)) c.from-required.ensures ∙ ap (λ (Q : Ends). c.loop-copy.draft.ways.items ++ unless g (row_ways least xs Q)) c.nothing-in-Some.ensures))
-    (λ yes. let h = c.copies_come_again-copy_again.ensures yes in (
+    (λ yes. let h = c.copies_come_again-copy_again.ensures.0 yes in (
       h.0,
       λ w there. subst (λ (o : Option ℕ). LeadsAgain (repeated least o F a.next) w) (sym c.in-Some.is)
           (bounded_again F least a.next m le (subst (λ j. (j ≡ 1) ⊎ Fits F) many (one_or_fits c.args.vars.now (tree_of c.args.sub.now) n c.requires.functional.1 h.1)) w there),
@@ -490,7 +490,7 @@ place_copies-returns-in-None t c =
     (λ p ends ways. subst (λ (W : Places). HasPlaced c.args.again W a new p) (sym is)
     (again_done c.args.again g F least a.next c.loop-copy._copy a b new xs p at (subst (λ (W : Places). IsRow c.args.again W (copies F c.loop-copy._copy a.next) a b xs) is c.loop-copy.invariant.0) refl
     (subst (λ (r : ℕ). Ends' r p) c.from-required.ensures ends) (subst Ways' c.from-required.ensures ways)
-    (λ yes. let h = c.copies_come_again-copy_again.ensures yes in (
+    (λ yes. let h = c.copies_come_again-copy_again.ensures.0 yes in (
       h.0,
       unbounded_again F least a.next c.loop-copy._copy at
           (subst (λ j. (j ≡ 1) ⊎ Fits F) (many ∙ sym at) (one_or_fits c.args.vars.now (tree_of c.args.sub.now) n c.requires.functional.1 h.1)),
