@@ -1,6 +1,9 @@
 -- What holds of unions and of joins alike.
-use Rattle.std.proofs.Common.{◌≡◌, ℕ, zero, suc, ◌+◌, ◌<◌, ◌≤◌, List, [], ◌∷◌, ◌++◌, length, take, drop, Some, inl, refl, sym, ap, subst, arith, ◌∙◌}
-use Rattle.std.specs.Prelude.{slice_get}
+use Rattle.std.proofs.Common.{◌≡◌, ℕ, zero, suc, ◌+◌, ◌<◌, ◌≤◌, List, [], ◌∷◌, ◌++◌, length, length-append, map, take, drop, Some, inl, refl, sym, ap, subst, arith, ◌∙◌}
+use Rattle.std.specs.Prelude.{slice_get, IfOk}
+use Rattle.std.specs.declared.result.Result.{Result}
+use Rattle.std.specs.declared.result.Result.TheVariants.{Ok, Err}
+use Rattle.std.proofs.lemmas.List.{length-map}
 use Rattle.std.proofs.lemmas.Option.{slice_get_within}
 use Rattle.spanner_model.specs.Lists.{Has}
 use Rattle.spanner_model.specs.Captures.{VarName}
@@ -11,12 +14,14 @@ use Rattle.spanner_model.proofs.Nodes.{expr_nodes}
 use Rattle.spanner_model.proofs.ExprLaws.{union_size, part_size, union_part, join_part, union_two, join_two}
 use Rattle.spanner_model.proofs.TreeLaws.{take_at_more}
 use Rattle.marked_automaton.specs.declared.fault.SizeFault.{SizeFault}
+use Rattle.marked_automaton.specs.declared.fault.SizeFault.TheVariants.{States, Ways, OutOfMemory}
 use Rattle.marked_automaton.specs.Automaton.{Marked}
-use Rattle.spanner_engine.specs.Combining.{all_of, of_two}
+use Rattle.marked_automaton.specs.Faults.{IsSizeFaultOf}
+use Rattle.marked_automaton.specs.Reduct.{Reduces, ReducesMarked}
+use Rattle.algebra.specs.Operations.{moved_way, union_of}
 use Rattle.spanner_engine.specs.Parts.{HasLargePartOf, IsPartOf}
-use Rattle.spanner_engine.specs.QueryAutomaton.{automaton_of}
-use Rattle.spanner_engine.specs.declared.combining.Operation.{Operation}
-use Rattle.spanner_engine.specs.declared.combining.Operation.TheVariants.{Union, Join}
+use Rattle.spanner_engine.specs.QueryAutomaton.{automaton_of, of_union}
+use Rattle.spanner_engine.proofs.Combining.{AreTooLarge, Operation, Union, Join, all_of, of_two}
 use Rattle.spanner_engine.proofs.PartLaws.{union_push, join_push, union_part_of, join_part_of, union_step, join_step, large_part}
 
 -- ---- lists of parts
@@ -84,3 +89,18 @@ step_is_part L o es k y l at =
     subst (λ (zs : List ExprTree). IsPartOf L (all_of o zs) (of_two o (automaton_of L (all_of o (take k es))) (automaton_of L y))) (sym (at_place es k y at))
     (subst (λ (zs : List ExprTree). IsPartOf L (all_of o (zs ++ y ∷ drop (suc k) es)) (of_two o (automaton_of L (all_of o zs)) (automaton_of L y))) (sym f.2)
     (step_of L o f.0 f.1 y (drop (suc k) es)))
+
+-- ---- what a union answers
+
+pub united_made : (A B : Marked) (r : Result Marked SizeFault) → IfOk r (λ (u : Marked). u.names ≡ A.names) → IfOk r (λ (u : Marked). Reduces u.graph (union_of A.graph B.graph)) →
+    IfOk r (λ (u : Marked). ReducesMarked u (of_union A B))
+united_made A B (Ok u) names reduct = (names, reduct)
+united_made A B (Err e) names reduct = tt
+
+-- the count that is told is the number
+pub union_too_large : (A B : Marked) (e : SizeFault) → IsSizeFaultOf (A.graph.states + B.graph.states) (length A.graph.ways + length B.graph.ways) e → AreTooLarge Union A B e
+union_too_large A B (States count) h = (omega (arith, h.0, h.1), omega (arith, h.1))
+union_too_large A B (Ways count) h =
+    let moved = map (moved_way A.graph.states) B.graph.ways in
+    (omega (arith, h.1, h.2), omega (arith, h.2, length-append A.graph.ways moved, length-map B.graph.ways (moved_way A.graph.states)))
+union_too_large A B OutOfMemory h = tt

@@ -16,6 +16,7 @@ use Rattle.spanner_model.proofs.Deciding.{told_lets}
 use Rattle.spanner_model.proofs.ExprLaws.{union_part, join_part, union_var, union_named, join_named, var_named, lets_named}
 use Rattle.spanner_model.proofs.HasLaws.{Has-slice_get, Has-append_cases, Has-append_left, Has-map_cases, distinct-le}
 use Rattle.spanner_model.proofs.NameLaws.{ascending-distinct, same_names}
+use Rattle.spanner_model.proofs.TreeLaws.{take_at_more}
 use Rattle.marked_automaton.specs.declared.way.Way.{Way}
 use Rattle.marked_automaton.specs.declared.fault.SizeFault.{SizeFault}
 use Rattle.marked_automaton.specs.declared.fault.SizeFault.TheVariants.{States, Ways, OutOfMemory}
@@ -32,19 +33,14 @@ use Rattle.marked_automaton.proofs.Passing.{filter_cases, flat_map_cases, right_
 use Rattle.algebra.proofs.ReductJoins.{reduct_of_join}
 use Rattle.algebra.proofs.ReductUnions.{reduct_of_union}
 use Rattle.algebra.proofs.Whole.{union_whole, join_whole}
-use Rattle.spanner_engine.specs.Combining.{AreTooLarge, CanCombine, all_of, of_two}
-use Rattle.spanner_engine.specs.Compiling.{IsAsked, AreCompiled, IsCompiledFrom}
+use Rattle.spanner_engine.specs.Compiling.{IsAsked, AreCompiled, IsCompiledFrom, IsFine}
 use Rattle.spanner_engine.specs.Kept.{KeepsInOrder}
-use Rattle.spanner_engine.specs.declared.lets.Let.{Let}
 use Rattle.spanner_engine.specs.Parts.{HasLargePartOf}
-use Rattle.spanner_engine.specs.Uses.{Names}
-use Rattle.spanner_engine.specs.declared.combining.Operation.{Operation}
-use Rattle.spanner_engine.specs.declared.combining.Operation.TheVariants.{Union, Join}
 use Rattle.spanner_engine.specs.QueryAutomaton.{of_union, of_join, automaton_of, united, together, of_lets}
 use Rattle.spanner_engine.proofs.Names.{all_ascend, all_are}
+use Rattle.spanner_engine.proofs.Combining.{AreTooLarge, CanCombine, Operation, Union, Join, all_of, of_two}
 use Rattle.spanner_engine.proofs.Combined.{alone, first_taken, grown, step_is_part, two_parts}
 use Rattle.spanner_engine.proofs.QueryWords.{expr_for, lets_for}
-use Rattle.spanner_engine.proofs.UseLaws.{union_names_some, join_names_some}
 use Rattle.spanner_engine.proofs.Words.{IsFor}
 
 -- ---- a part of what is asked
@@ -53,32 +49,34 @@ part_sound : (V : ℕ → VarName → Type 0) (n : ℕ) (o : Operation) (es : Li
 part_sound V n Union es e h sound = union_part V n es e sound h
 part_sound V n Join es e h sound = join_part V n es e sound h
 
-part_keeps : (o : Operation) (es : List ExprTree) (e : ExprTree) → Has es e → KeepsInOrder (all_of o es) → KeepsInOrder e
-part_keeps o [] e h g = absurd h
-part_keeps Union (x ∷ es) e (inl i) g = subst KeepsInOrder i g.0
-part_keeps Union (x ∷ es) e (inr h) g = part_keeps Union es e h g.1
-part_keeps Join (x ∷ es) e (inl i) g = subst KeepsInOrder i g.0
-part_keeps Join (x ∷ es) e (inr h) g = part_keeps Join es e h g.1
-
 part_named : (o : Operation) (es : List ExprTree) (e : ExprTree) (x : VarName) → Has es e → NameIn e x → NameIn (all_of o es) x
 part_named Union es e x h v = union_named es e x h v
 part_named Join es e x h v = join_named es e x h v
 
-part_spoken : (o : Operation) (es : List ExprTree) (e : ExprTree) (k : ℕ) → Has es e → Names e k → Names (all_of o es) k
-part_spoken Union es e k h m = (union_names_some es k).1 (e, h, m)
-part_spoken Join es e k h m = (join_names_some es k).1 (e, h, m)
-
-pub asked_part : (o : Operation) (q : QueryTree) (lets : List Let) (es : List ExprTree) (e : ExprTree) → Has es e → IsAsked q lets (all_of o es) → IsAsked q lets e
-asked_part o q lets es e h a = record {
+pub asked_part : (o : Operation) (q : QueryTree) (n : ℕ) (es : List ExprTree) (e : ExprTree) → Has es e → IsAsked q n (all_of o es) → IsAsked q n e
+asked_part o q n es e h a = record {
   sound = a.sound;
-  sound_expr = part_sound (vars_of_lets q.lets (length lets)) (length lets) o es e h a.sound_expr;
-  keeps = part_keeps o es e h a.keeps;
+  sound_expr = part_sound (vars_of_lets q.lets n) n o es e h a.sound_expr;
   named = λ x v. a.named x (part_named o es e x h v);
-  spoken = λ k m. a.spoken k (part_spoken o es e k h m);
 }
 
-pub asked_sub : (q : QueryTree) (lets : List Let) (kept : List VarName) (e : ExprTree) → IsAsked q lets (project kept e) → IsAsked q lets e
-asked_sub q lets kept e a = record { sound = a.sound; sound_expr = a.sound_expr.0; keeps = a.keeps.1; named = λ x v. a.named x v; spoken = λ k m. a.spoken k m }
+pub asked_sub : (q : QueryTree) (n : ℕ) (kept : List VarName) (e : ExprTree) → IsAsked q n (project kept e) → IsAsked q n e
+asked_sub q n kept e a = record { sound = a.sound; sound_expr = a.sound_expr.0; named = λ x v. a.named x v }
+
+-- ---- fine parts
+
+all_fine : (o : Operation) (es : List ExprTree) → ((e : ExprTree) → Has es e → IsFine e) → IsFine (all_of o es)
+all_fine Union [] h = (tt, tt)
+all_fine Union (e ∷ es) h = let rest = all_fine Union es (λ g i. h g (inr i)) in let this = h e (inl refl) in ((this.0, rest.0), (this.1, rest.1))
+all_fine Join [] h = (tt, tt)
+all_fine Join (e ∷ es) h = let rest = all_fine Join es (λ g i. h g (inr i)) in let this = h e (inl refl) in ((this.0, rest.0), (this.1, rest.1))
+
+fine_more : (es : List ExprTree) (k : ℕ) (y : ExprTree) → slice_get es k ≡ Some y → ((e : ExprTree) → Has (take k es) e → IsFine e) → IsFine y → (e : ExprTree) → Has (take (k + 1) es) e → IsFine e
+fine_more es k y at h g e i =
+    elim (Has-append_cases (take k es) (y ∷ []) e (subst (λ (zs : List ExprTree). Has zs e) (take_at_more es k y at) i)) as (λ _. IsFine e) [
+      | inl a ↦ h e a
+      | inr b ↦ elim b as (λ _. IsFine e) [ inl same ↦ subst IsFine same g | inr c ↦ absurd c ]
+    ]
 
 -- ---- unions and joins of reducts
 
@@ -133,7 +131,12 @@ two_reduce Join A B C D a b c d r s =
 
 -- ---- compiled parts
 
-module _ (q : QueryTree) (lets : List Let) (known : AreCompiled q lets) where
+-- what is made of the first k of these parts, after n lets
+pub record SoFar (q : QueryTree) (n : ℕ) (o : Operation) (es : List ExprTree) (k : ℕ) (a : Marked) : Type 0 where
+  pub reduces : ReducesMarked a (automaton_of (of_lets q.lets n) (all_of o (take k es)))
+  pub fine : (e : ExprTree) → Has (take k es) e → IsFine e
+
+module _ (q : QueryTree) (lets : List Marked) (known : AreCompiled q lets) where
   abbrev N : ℕ
   N = length lets
 
@@ -147,13 +150,13 @@ module _ (q : QueryTree) (lets : List Let) (known : AreCompiled q lets) where
   Lets = answers_of_lets q.lets [] N
 
   -- names, and that it is whole, of an expression's automaton
-  pub shape : (e : ExprTree) → IsAsked q lets e → IsFor [] (VarOf V e) (Answer V Lets [] e) (automaton_of L e)
-  shape e asked =
+  pub shape : (e : ExprTree) → IsAsked q N e → KeepsInOrder e → IsFor [] (VarOf V e) (Answer V Lets [] e) (automaton_of L e)
+  shape e asked keeps =
       expr_for [] (λ i b at. absurd (cc)) N V Lets L
-      (lets_for [] (λ i b at. absurd (cc)) q.lets asked.sound.sound_lets N known.few (λ k l b at. known.keep.0 l (Has-slice_get q.lets k l at)) N (omega arith)) (told_lets q.lets N) e asked.sound_expr asked.keeps
+      (lets_for [] (λ i b at. absurd (cc)) q.lets asked.sound.sound_lets N known.few (λ k l b at. (known.fine k l b at).0) N (omega arith)) (told_lets q.lets N) e asked.sound_expr keeps
 
   -- a variable of the expression is a name of the query
-  pub var_name : (e : ExprTree) → IsAsked q lets e → (x : VarName) → VarOf V e x → NameOf q x
+  pub var_name : (e : ExprTree) → IsAsked q N e → (x : VarName) → VarOf V e x → NameOf q x
   var_name e a x v =
       elim (var_named V (NameInLets q.lets) (lets_named q.lets a.sound.sound_lets N) N e x a.sound_expr v) as (λ _. NameOf q x) [ inl i ↦ a.named x i | inr j ↦ inl j ]
 
@@ -192,43 +195,48 @@ module _ (q : QueryTree) (lets : List Let) (known : AreCompiled q lets) where
         | inr b ↦ inr (b.0, inr b.1, b.2)
       ]
 
-  -- what is made of the first k of these parts
-  abbrev pub SoFar : Operation → List ExprTree → ℕ → Marked → Type 0
-  SoFar o es k a = ReducesMarked a (automaton_of L (all_of o (take k es)))
+  pub so_far_first : (o : Operation) (es : List ExprTree) (x : ExprTree) (a : Marked) → slice_get es 0 ≡ Some x → IsCompiledFrom q N x a → SoFar q N o es 1 a
+  so_far_first o [] x a at c = absurd (cc)
+  so_far_first o (e ∷ es) x a at c =
+      let same : x ≡ e = cc in record {
+        reduces = subst (λ (M : Marked). ReducesMarked a M) (ap (automaton_of L) same ∙ sym (alone L o e)) c.reduces;
+        fine = λ w i. elim i as (λ _. IsFine w) [ inl j ↦ subst IsFine (same ∙ j) c.fine | inr j ↦ absurd j ];
+      }
 
-  module _ (o : Operation) (es : List ExprTree) (asked : IsAsked q lets (all_of o es)) where
+  pub so_far_all : (o : Operation) (es : List ExprTree) (a : Marked) (k : ℕ) → k ≡ length es → SoFar q N o es k a → IsCompiledFrom q N (all_of o es) a
+  so_far_all o es a k e s =
+      let whole : take k es ≡ es = ap (λ n. take n es) e ∙ take-length es in record {
+        reduces = subst (λ (zs : List ExprTree). ReducesMarked a (automaton_of L (all_of o zs))) whole s.reduces;
+        fine = all_fine o es (λ g i. s.fine g (subst (λ (zs : List ExprTree). Has zs g) (sym whole) i));
+      }
+
+  -- the first k parts, and the next
+  module _ (o : Operation) (es : List ExprTree) (asked : IsAsked q N (all_of o es)) (k : ℕ) (l : 1 ≤ k)
+      (fine : (e : ExprTree) → Has (take k es) e → IsFine e) where
     has_two : 2 ≤ length es
     has_two = two_parts V N o es asked.sound_expr
 
-    taken_has : (k : ℕ) (e : ExprTree) → Has (take k es) e → Has es e
-    taken_has k e h = subst (λ (zs : List ExprTree). Has zs e) (take-append-drop k es) (Has-append_left (take k es) (drop k es) e h)
+    taken_has : (e : ExprTree) → Has (take k es) e → Has es e
+    taken_has e h = subst (λ (zs : List ExprTree). Has zs e) (take-append-drop k es) (Has-append_left (take k es) (drop k es) e h)
 
-    part_shape : (e : ExprTree) → Has es e → IsFor [] (VarOf V e) (Answer V Lets [] e) (automaton_of L e)
-    part_shape e h = shape e (asked_part o q lets es e h asked)
+    taken_shape : (e : ExprTree) → Has (take k es) e → IsFor [] (VarOf V e) (Answer V Lets [] e) (automaton_of L e)
+    taken_shape e h = shape e (asked_part o q N es e (taken_has e h) asked) (fine e h).0
 
-    prefix_whole : (k : ℕ) → 1 ≤ k → IsWhole (automaton_of L (all_of o (take k es))).graph
-    prefix_whole k l =
+    prefix_whole : IsWhole (automaton_of L (all_of o (take k es))).graph
+    prefix_whole =
         let f = first_taken es k l (omega (arith, has_two)) in
         subst (λ (zs : List ExprTree). IsWhole (automaton_of L (all_of o zs)).graph) (sym f.2)
-        (whole_all o f.0 f.1 (λ e h. (part_shape e (taken_has k e (subst (λ (zs : List ExprTree). Has zs e) (sym f.2) h))).whole))
+        (whole_all o f.0 f.1 (λ e h. (taken_shape e (subst (λ (zs : List ExprTree). Has zs e) (sym f.2) h)).whole))
 
-    pub so_far_first : (x : ExprTree) (a : Marked) → slice_get es 0 ≡ Some x → IsCompiledFrom q N x a → SoFar o es 1 a
-    so_far_first x a at c = subst (λ (zs : List ExprTree). ReducesMarked a (automaton_of L (all_of o zs))) (one_taken es x at) (subst (λ (M : Marked). ReducesMarked a M) (sym (alone L o x)) c)
-      where
-        one_taken : (es : List ExprTree) (x : ExprTree) → slice_get es 0 ≡ Some x → x ∷ [] ≡ take 1 es
-        one_taken [] x at = absurd (cc)
-        one_taken (e ∷ es) x at = let same : x ≡ e = cc in ap (λ z. z ∷ []) same
-
-    pub so_far_all : (a : Marked) (k : ℕ) → k ≡ length es → SoFar o es k a → IsCompiledFrom q N (all_of o es) a
-    so_far_all a k e s = subst (λ (zs : List ExprTree). ReducesMarked a (automaton_of L (all_of o zs))) (ap (λ n. take n es) e ∙ take-length es) s
-
-  -- the names of the first parts of a union are those of each part
-  united_names : (es : List ExprTree) → IsAsked q lets (union_all es) → (k : ℕ) → 1 ≤ k → (y : ExprTree) → Has es y → (automaton_of L (union_all (take k es))).names ≡ (automaton_of L y).names
-  united_names es asked k l y h =
-      let f = first_taken es k l (omega (arith, has_two Union es asked)) in
+  -- the names of the first parts of a union are those of the next
+  united_names : (es : List ExprTree) → IsAsked q N (union_all es) → (k : ℕ) → 1 ≤ k → ((e : ExprTree) → Has (take k es) e → IsFine e) → (y : ExprTree) → Has es y → KeepsInOrder y →
+      (automaton_of L (union_all (take k es))).names ≡ (automaton_of L y).names
+  united_names es asked k l fine y h keeps =
+      let f = first_taken es k l (omega (arith, has_two Union es asked k l fine)) in
       let x = f.0 in
-      let a = part_shape Union es asked x f.3 in
-      let b = part_shape Union es asked y h in
+      let here : Has (take k es) x = subst (λ (zs : List ExprTree). Has zs x) (sym f.2) (inl refl) in
+      let a = taken_shape Union es asked k l fine x here in
+      let b = shape y (asked_part Union q N es y h asked) keeps in
       let same : (automaton_of L x).names ≡ (automaton_of L y).names =
       same_names (automaton_of L x).names (automaton_of L y).names a.ascending b.ascending
       (λ z v. (b.names z).1 ((union_var V N es y z asked.sound_expr h).1 ((union_var V N es x z asked.sound_expr f.3).0 ((a.names z).0 v))))
@@ -236,38 +244,38 @@ module _ (q : QueryTree) (lets : List Let) (known : AreCompiled q lets) where
       subst (λ (zs : List ExprTree). (automaton_of L (union_all zs)).names ≡ (automaton_of L y).names) (sym f.2) (names_united f.1 (automaton_of L x) ∙ same)
 
   -- those of a join ascend, and are names of the query
-  together_names : (es : List ExprTree) → IsAsked q lets (join_all es) → (k : ℕ) → 1 ≤ k →
+  together_names : (es : List ExprTree) → IsAsked q N (join_all es) → (k : ℕ) → 1 ≤ k → ((e : ExprTree) → Has (take k es) e → IsFine e) →
       Ascending (automaton_of L (join_all (take k es))).names × ((z : VarName) → Has (automaton_of L (join_all (take k es))).names z → NameOf q z)
-  together_names es asked k l =
-      let f = first_taken es k l (omega (arith, has_two Join es asked)) in
+  together_names es asked k l fine =
+      let f = first_taken es k l (omega (arith, has_two Join es asked k l fine)) in
+      let there : (e : ExprTree) → Has (f.0 ∷ f.1) e → Has (take k es) e = λ e h. subst (λ (zs : List ExprTree). Has zs e) (sym f.2) h in
       let in_part : (e : ExprTree) → Has (f.0 ∷ f.1) e → (z : VarName) → Has (automaton_of L e).names z → NameOf q z =
-      λ e h z v.
-      let here = taken_has Join es asked k e (subst (λ (zs : List ExprTree). Has zs e) (sym f.2) h) in
-      var_name e (asked_part Join q lets es e here asked) z (((part_shape Join es asked e here).names z).0 v) in
+      λ e h z v. var_name e (asked_part Join q N es e (taken_has Join es asked k l fine e (there e h)) asked) z (((taken_shape Join es asked k l fine e (there e h)).names z).0 v) in
       subst (λ (zs : List ExprTree). Ascending (automaton_of L (join_all zs)).names × ((z : VarName) → Has (automaton_of L (join_all zs)).names z → NameOf q z)) (sym f.2) (
-        ascend_together f.1 (automaton_of L f.0) (part_shape Join es asked f.0 f.3).ascending,
+        ascend_together f.1 (automaton_of L f.0) (taken_shape Join es asked k l fine f.0 (there f.0 (inl refl))).ascending,
         λ z h. elim (names_together f.1 (automaton_of L f.0) z h) as (λ _. NameOf q z) [ inl b ↦ in_part f.0 (inl refl) z b | inr b ↦ in_part b.0 (inr b.1) z b.2 ],
       )
 
   -- the first parts can be combined with the next
-  can_combine : (o : Operation) (es : List ExprTree) → IsAsked q lets (all_of o es) → (k : ℕ) → 1 ≤ k → (y : ExprTree) → Has es y →
+  can_combine : (o : Operation) (es : List ExprTree) → IsAsked q N (all_of o es) → (k : ℕ) → 1 ≤ k → ((e : ExprTree) → Has (take k es) e → IsFine e) → (y : ExprTree) → Has es y → KeepsInOrder y →
       CanCombine o (automaton_of L (all_of o (take k es))) (automaton_of L y)
-  can_combine Union es asked k l y h = united_names es asked k l y h
-  can_combine Join es asked k l y h =
+  can_combine Union es asked k l fine y h keeps = united_names es asked k l fine y h keeps
+  can_combine Join es asked k l fine y h keeps =
       let A = automaton_of L (join_all (take k es)) in
       let B = automaton_of L y in
-      let before = together_names es asked k l in
+      let before = together_names es asked k l fine in
+      let of_y = asked_part Join q N es y h asked in
       let ascend : Ascending (all_names A.names B.names) = all_ascend B.names A.names before.0 in
       let least = asked.sound.few in
       let le = distinct-le (all_names A.names B.names) least.0 (ascending-distinct (all_names A.names B.names) ascend)
       (λ z n. least.2 z (elim ((all_are A.names B.names z).0 n) as (λ _. NameOf q z) [
         | inl b ↦ before.1 z b
-        | inr b ↦ var_name y (asked_part Join q lets es y h asked) z (((part_shape Join es asked y h).names z).0 b)
+        | inr b ↦ var_name y of_y z (((shape y of_y keeps).names z).0 b)
       ])) in
       omega (arith, le, least.1)
 
-  module _ (o : Operation) (es : List ExprTree) (asked : IsAsked q lets (all_of o es)) (k : ℕ) (l : 1 ≤ k) (y : ExprTree) (at : slice_get es k ≡ Some y) (a p : Marked)
-      (so_far : SoFar o es k a) (part : IsCompiledFrom q N y p) (marked_a : IsMarked a) (marked_p : IsMarked p) where
+  module _ (o : Operation) (es : List ExprTree) (asked : IsAsked q N (all_of o es)) (k : ℕ) (l : 1 ≤ k) (y : ExprTree) (at : slice_get es k ≡ Some y) (a p : Marked)
+      (so_far : SoFar q N o es k a) (part : IsCompiledFrom q N y p) where
     abbrev A : Marked
     A = automaton_of L (all_of o (take k es))
 
@@ -279,28 +287,34 @@ module _ (q : QueryTree) (lets : List Let) (known : AreCompiled q lets) where
 
     pub combine : CanCombine o a p
     combine =
-        subst (λ (ns : List VarName). CanCombine o (record { names = ns; graph = a.graph }) p) (sym so_far.0)
-        (subst (λ (ns : List VarName). CanCombine o (record { names = A.names; graph = a.graph }) (record { names = ns; graph = p.graph })) (sym part.0) (of_names o a p A B (can_combine o es asked k l y y_has)))
+        subst (λ (ns : List VarName). CanCombine o (record { names = ns; graph = a.graph }) p) (sym so_far.reduces.0)
+        (subst (λ (ns : List VarName). CanCombine o (record { names = A.names; graph = a.graph }) (record { names = ns; graph = p.graph })) (sym part.reduces.0)
+        (of_names o a p A B (can_combine o es asked k l so_far.fine y y_has part.fine.0)))
       where
         of_names : (o : Operation) (a p A B : Marked) → CanCombine o A B → CanCombine o (record { names = A.names; graph = a.graph }) (record { names = B.names; graph = p.graph })
         of_names Union a p A B h = h
         of_names Join a p A B h = h
 
-    reduce : ReducesMarked (of_two o a p) (of_two o A B)
-    reduce = two_reduce o a A p B marked_a.whole (prefix_whole o es asked k l) marked_p.whole (part_shape o es asked y y_has).whole so_far part
+    module _ (marked : IsMarked a × IsMarked p) where
+      reduce : ReducesMarked (of_two o a p) (of_two o A B)
+      reduce =
+          two_reduce o a A p B marked.0.whole (prefix_whole o es asked k l so_far.fine) marked.1.whole
+          (shape y (asked_part o q N es y y_has asked) part.fine.0).whole so_far.reduces part.reduces
 
-    pub so_far_next : (c : Marked) → ReducesMarked c (of_two o a p) → SoFar o es (k + 1) c
-    so_far_next c r =
-        subst (λ (M : Marked). ReducesMarked c M) (sym (grown L o es k y l at))
-        (r.0 ∙ reduce.0, reduct_of_reduct c.graph (of_two o a p).graph (of_two o A B).graph r.1 reduce.1)
+      pub so_far_next : (c : Marked) → ReducesMarked c (of_two o a p) → SoFar q N o es (k + 1) c
+      so_far_next c r = record {
+        reduces = subst (λ (M : Marked). ReducesMarked c M) (sym (grown L o es k y l at))
+            (r.0 ∙ reduce.0, reduct_of_reduct c.graph (of_two o a p).graph (of_two o A B).graph r.1 reduce.1);
+        fine = fine_more es k y at so_far.fine part.fine;
+      }
 
-    no_larger : ((of_two o a p).graph.states ≤ (of_two o A B).graph.states) × (length (of_two o a p).graph.ways ≤ length (of_two o A B).graph.ways)
-    no_larger =
-        let less = reduct_is_no_larger (of_two o a p).graph (of_two o A B).graph
-        (two_whole o a p marked_a.whole marked_p.whole) (two_bytes o a p marked_a.some_byte marked_p.some_byte) reduce.1 in
-        (less.0, less.1)
+      no_larger : ((of_two o a p).graph.states ≤ (of_two o A B).graph.states) × (length (of_two o a p).graph.ways ≤ length (of_two o A B).graph.ways)
+      no_larger =
+          let less = reduct_is_no_larger (of_two o a p).graph (of_two o A B).graph
+          (two_whole o a p marked.0.whole marked.1.whole) (two_bytes o a p marked.0.some_byte marked.1.some_byte) reduce.1 in
+          (less.0, less.1)
 
-    pub too_large : (fault : SizeFault) → AreTooLarge o a p fault → HasLargePartOf L (all_of o es) fault
-    too_large (States count) h = (h.0, (of_two o A B, step_is_part L o es k y l at, omega (arith, h.1, no_larger.0)))
-    too_large (Ways count) h = (h.0, (of_two o A B, step_is_part L o es k y l at, omega (arith, h.1, no_larger.1)))
-    too_large OutOfMemory h = tt
+      pub too_large : (fault : SizeFault) → AreTooLarge o a p fault → HasLargePartOf L (all_of o es) fault
+      too_large (States count) h = (h.0, (of_two o A B, step_is_part L o es k y l at, omega (arith, h.1, no_larger.0)))
+      too_large (Ways count) h = (h.0, (of_two o A B, step_is_part L o es k y l at, omega (arith, h.1, no_larger.1)))
+      too_large OutOfMemory h = tt

@@ -1,12 +1,10 @@
 pub mod Assoc
 pub mod Combined
+pub mod Combining
 pub mod CompileLaws
 pub mod FarBack
-pub mod HeldLaws
 pub mod Names
 pub mod PartLaws
 pub mod PieceLaws
 pub mod QueryWords
-pub mod SizeLaws
-pub mod UseLaws
 pub mod Words

@@ -1,5 +1,5 @@
 -- Parts of unions and joins.
-use Rattle.std.proofs.Common.{◌≡◌, ◌∙◌, ◌⊎◌, ℕ, List, [], ◌∷◌, ◌++◌, Option, Some, inl, inr, refl, sym, subst}
+use Rattle.std.proofs.Common.{◌≡◌, ℕ, List, [], ◌∷◌, ◌++◌, inl, inr, refl, sym, subst}
 use Rattle.spanner_model.specs.Lists.{Has}
 use Rattle.spanner_model.specs.Expression.{ExprTree, union_all, join_all}
 use Rattle.marked_automaton.specs.declared.fault.SizeFault.{SizeFault}
@@ -71,12 +71,3 @@ module _ (L : ℕ → Marked) where
   large_part e w (States count) up h = (h.0, (h.1.0, up h.1.0 h.1.1, h.1.2))
   large_part e w (Ways count) up h = (h.0, (h.1.0, up h.1.0 h.1.1, h.1.2))
   large_part e w OutOfMemory up h = h
-
--- a part that is refused, or a query that is
-pub still_refused : {A B : Type 0} (old now : Option SizeFault) (fault : SizeFault) → now ≡ old → (A → B) → A ⊎ (now ≡ Some fault) → B ⊎ (old ≡ Some fault)
-still_refused old now fault same up (inl a) = inl (up a)
-still_refused old now fault same up (inr r) = inr (sym same ∙ r)
-
-pub sum_map : {A B C : Type 0} → (A → B) → A ⊎ C → B ⊎ C
-sum_map up (inl a) = inl (up a)
-sum_map up (inr c) = inr c

@@ -1,19 +1,20 @@
 -- What is made of atoms, names, projections and lets when they are compiled.
-use Rattle.std.proofs.Common.{◌≡◌, ℕ, zero, suc, ◌<◌, ◌≤◌, ◌↔◌, Bool, List, [], ◌∷◌, length, Some, inl, inr, refl, sym, ap, subst, arith, ◌∙◌}
+use Rattle.std.proofs.Common.{◌≡◌, ℕ, zero, suc, ◌<◌, ◌≤◌, ◌↔◌, ◌⊎◌, Bool, List, [], ◌∷◌, ◌++◌, length, length-append, Some, inl, inr, refl, sym, ap, subst, arith, ◌∙◌}
 use Rattle.std.specs.Prelude.{slice_get, if◌then◌else◌, ◌-◌, ◌^◌}
 use Rattle.std.proofs.Math.Nat.{min-le_left}
 use Rattle.std.proofs.lemmas.Bool.{eq-eqb, ne_eqb, cases_lt}
+use Rattle.std.proofs.lemmas.Option.{slice_get_within}
 use Rattle.span_core.specs.NameSets.{Ascending}
-use Rattle.span_core.specs.declared.TheConstants.{MOST_VARIABLES}
 use Rattle.span_core.proofs.NameSetLaws.{none_are_variables}
-use Rattle.spanner_model.specs.Lists.{Has, AtMost}
+use Rattle.spanner_model.specs.Lists.{Has}
 use Rattle.spanner_model.specs.Tree.{Tree}
 use Rattle.spanner_model.specs.Captures.{VarName}
 use Rattle.spanner_model.specs.Functional.{HasVar, IsFunctional}
 use Rattle.spanner_model.specs.WellBuilt.{IsWellBuilt}
-use Rattle.spanner_model.specs.Expression.{ExprTree, QueryTree, atom, named, project, union_all, join_all}
+use Rattle.spanner_model.specs.Expression.{ExprTree, QueryTree, atom, project}
 use Rattle.spanner_model.specs.Sound.{IsSound}
 use Rattle.spanner_model.proofs.ExprLaws.{let_named}
+use Rattle.spanner_model.proofs.HasLaws.{place_of-Has}
 use Rattle.spanner_model.proofs.NameLaws.{ascending-distinct, same_names}
 use Rattle.marked_automaton.specs.declared.TheConstants.{MOST_STATES, MOST_WAYS}
 use Rattle.marked_automaton.specs.declared.fault.SizeFault.{SizeFault}
@@ -31,9 +32,8 @@ use Rattle.place_automaton.specs.Counts.{count_states, count_ways}
 use Rattle.place_automaton.specs.Words.{atom_automaton}
 use Rattle.place_automaton.proofs.BuiltRepeats.{ordered_repeats}
 use Rattle.place_automaton.proofs.CountLaws.{count_law}
-use Rattle.spanner_engine.specs.Compiling.{IsAsked, AreCompiled, IsAtom, IsCompiledFrom}
+use Rattle.spanner_engine.specs.Compiling.{IsAsked, AreCompiled, IsCompiledFrom, IsFine}
 use Rattle.spanner_engine.specs.Parts.{HasLargePartOf, HasSmallAtoms}
-use Rattle.spanner_engine.specs.declared.lets.Let.{Let}
 use Rattle.spanner_engine.specs.QueryAutomaton.{with_vars, of_atom, automaton_of, of_lets, of_one_let}
 use Rattle.spanner_engine.proofs.CompileLaws.{asked_sub, shape}
 use Rattle.spanner_engine.proofs.Names.{vars_ascend, vars_are}
@@ -68,23 +68,26 @@ module _ (s t : Bool) (f : Tree) (built : IsWellBuilt f) (functional : IsFunctio
 
 -- ---- projections
 
-module _ (q : QueryTree) (lets : List Let) (known : AreCompiled q lets) (kept : List VarName) (e : ExprTree) (asked : IsAsked q lets (project kept e))
+module _ (q : QueryTree) (lets : List Marked) (known : AreCompiled q lets) (kept : List VarName) (e : ExprTree) (asked : IsAsked q (length lets) (project kept e))
     (a : Marked) (part : IsCompiledFrom q (length lets) e a) where
   abbrev E : Marked
   E = automaton_of (of_lets q.lets (length lets)) e
 
   pub kept_there : (x : VarName) → Has kept x → Has a.names x
   kept_there x h =
-      let sh = shape q lets known e (asked_sub q lets kept e asked) in
-      subst (λ (ns : List VarName). Has ns x) (sym part.0) ((sh.names x).1 (asked.sound_expr.1 x h).0)
+      let sh = shape q lets known e (asked_sub q (length lets) kept e asked) part.fine.0 in
+      subst (λ (ns : List VarName). Has ns x) (sym part.reduces.0) ((sh.names x).1 (asked.sound_expr.1 x h).0)
 
-  pub projected : (p : Marked) → p.names ≡ kept → Reduces p.graph (remarked (left_of a.names kept) a.graph) → IsCompiledFrom q (length lets) (project kept e) p
-  projected p names reduces = (
-    names,
-    reduct_of_reduct p.graph (remarked (left_of E.names kept) a.graph) (remarked (left_of E.names kept) E.graph)
-        (subst (λ (ns : List VarName). Reduces p.graph (remarked (left_of ns kept) a.graph)) part.0 reduces)
-        (reduct_of_projection a.graph E.graph (left_of E.names kept) part.1),
-  )
+  pub projected : (p : Marked) → Ascending kept → p.names ≡ kept → Reduces p.graph (remarked (left_of a.names kept) a.graph) → IsCompiledFrom q (length lets) (project kept e) p
+  projected p up names reduces = record {
+    reduces = (
+      names,
+      reduct_of_reduct p.graph (remarked (left_of E.names kept) a.graph) (remarked (left_of E.names kept) E.graph)
+          (subst (λ (ns : List VarName). Reduces p.graph (remarked (left_of ns kept) a.graph)) part.reduces.0 reduces)
+          (reduct_of_projection a.graph E.graph (left_of E.names kept) part.reduces.1),
+    );
+    fine = ((up, part.fine.0), part.fine.1);
+  }
 
 -- all variables are kept
 pub kept_all : (kept : List VarName) (a : Marked) → IsMarked a → Ascending kept → Ascending a.names → ((x : VarName) → Has kept x → Has a.names x) → length kept ≡ length a.names →
@@ -97,12 +100,6 @@ kept_all kept a marked up vp sub len =
           (subst (λ (G : Automaton). Reduces a.graph G) (sym nothing) (reduct_of_itself a.graph marked.whole)),
     )
 
--- what is too large in what is projected
-pub projection_fault : (L : ℕ → Marked) (kept : List VarName) (e : ExprTree) (fault : SizeFault) → HasLargePartOf L e fault → HasLargePartOf L (project kept e) fault
-projection_fault L kept e (States count) h = (h.0, (h.1.0, inl h.1.1, h.1.2))
-projection_fault L kept e (Ways count) h = (h.0, (h.1.0, inl h.1.1, h.1.2))
-projection_fault L kept e OutOfMemory h = h
-
 -- ---- lets
 
 -- under one let more, the lets before it are the same
@@ -113,42 +110,62 @@ pub let_here : (lets : List (VarName × ExprTree)) (n : ℕ) (l : VarName × Exp
 let_here lets n l at =
     ap (λ b. if b then of_one_let (of_lets lets n) (slice_get lets n) else of_lets lets n n) (eq-eqb n n refl) ∙ ap (of_one_let (of_lets lets n)) at
 
--- under all lets that follow, a let's automaton is the same
-pub let_at : (lets : List (VarName × ExprTree)) (n k : ℕ) (l : VarName × ExprTree) → slice_get lets k ≡ Some l → k < n → of_lets lets n k ≡ automaton_of (of_lets lets k) l.1
-let_at lets zero k l at less = absurd (omega (arith, less))
-let_at lets (suc n) k l at less =
-    elim (cases_lt k n) as (λ _. of_lets lets (suc n) k ≡ automaton_of (of_lets lets k) l.1) [
-      | inl before ↦ let_before lets n k before ∙ let_at lets n k l at before
-      | inr le ↦
-          let same : k ≡ n = omega (arith, le, less) in
-          subst (λ i. of_lets lets (suc i) k ≡ automaton_of (of_lets lets k) l.1) same (let_here lets k l at)
+-- ---- the first lets
+
+pub none_compiled : (q : QueryTree) → AreCompiled q []
+none_compiled q = record { few = omega arith; reduce = λ k a at. absurd (cc); fine = λ k l b at. absurd (omega (arith, b)) }
+
+-- a place in a list with one element more
+pushed_at : {X : Type 0} (xs : List X) (x s : X) (k : ℕ) → slice_get (xs ++ x ∷ []) k ≡ Some s → ((k < length xs) × (slice_get xs k ≡ Some s)) ⊎ ((k ≡ length xs) × (x ≡ s))
+pushed_at [] x s zero at = let same : x ≡ s = cc in inr (refl, same)
+pushed_at [] x s (suc k) at = absurd (cc)
+pushed_at (y ∷ xs) x s zero at = inl (omega arith, at)
+pushed_at (y ∷ xs) x s (suc k) at =
+    elim (pushed_at xs x s k at) as (λ _. ((suc k < suc (length xs)) × (slice_get (y ∷ xs) (suc k) ≡ Some s)) ⊎ ((suc k ≡ suc (length xs)) × (x ≡ s))) [
+      | inl a ↦ inl (omega (arith, a.0), a.1)
+      | inr b ↦ inr (omega (arith, b.0), b.1)
     ]
 
-pub union_no_atom : (es : List ExprTree) → ¬ IsAtom (union_all es)
-union_no_atom [] h = h
-union_no_atom (e ∷ es) h = h
+pub one_more : (q : QueryTree) (lets : List Marked) (l : VarName × ExprTree) (a : Marked) → slice_get q.lets (length lets) ≡ Some l → AreCompiled q lets → IsCompiledFrom q (length lets) l.1 a →
+    AreCompiled q (lets ++ a ∷ [])
+one_more q lets l a at known this = record { few = few; reduce = reduce; fine = fine }
+  where
+    long : length (lets ++ a ∷ []) ≡ suc (length lets)
+    long = let e = length-append lets (a ∷ []) in omega (arith, e)
 
-pub join_no_atom : (es : List ExprTree) → ¬ IsAtom (join_all es)
-join_no_atom [] h = h
-join_no_atom (e ∷ es) h = h
+    few : length (lets ++ a ∷ []) ≤ length q.lets
+    few = omega (arith, long, slice_get_within q.lets (length lets) l at)
 
--- what is asked of an atom holds of each let that is one
-module _ (q : QueryTree) (k : ℕ) (x : VarName) (s t : Bool) (f : Tree) (sound : IsSound q) (at : slice_get q.lets k ≡ Some (x, atom s t f)) where
-  pub let_built : IsWellBuilt f
-  let_built = (sound.sound_lets k (x, atom s t f) at).0.0
+    reduce : (k : ℕ) (b : Marked) → slice_get (lets ++ a ∷ []) k ≡ Some b → ReducesMarked b (of_lets q.lets (length (lets ++ a ∷ [])) k)
+    reduce k b there =
+        subst (λ n. ReducesMarked b (of_lets q.lets n k)) (sym long) (
+        elim (pushed_at lets a b k there) as (λ _. ReducesMarked b (of_lets q.lets (suc (length lets)) k)) [
+          | inl c ↦ subst (λ (M : Marked). ReducesMarked b M) (sym (let_before q.lets (length lets) k c.0)) (known.reduce k b c.1)
+          | inr c ↦
+              subst (λ n. ReducesMarked b (of_lets q.lets (suc (length lets)) n)) (sym c.0)
+              (subst (λ (M : Marked). ReducesMarked b M) (sym (let_here q.lets (length lets) l at))
+              (subst (λ (r : Marked). ReducesMarked r (automaton_of (of_lets q.lets (length lets)) l.1)) c.1 this.reduces))
+        ])
 
-  pub let_functional : IsFunctional f
-  let_functional = (sound.sound_lets k (x, atom s t f) at).0.1
+    fine : (k : ℕ) (m : VarName × ExprTree) → k < length (lets ++ a ∷ []) → slice_get q.lets k ≡ Some m → IsFine m.1
+    fine k m b e =
+        elim (cases_lt k (length lets)) as (λ _. IsFine m.1) [
+          | inl less ↦ known.fine k m less e
+          | inr le ↦
+              let same : k ≡ length lets = omega (arith, b, long, le) in
+              let one : Some m ≡ Some l = sym e ∙ (ap (λ n. slice_get q.lets n) same ∙ at) in
+              let eq : l ≡ m = cc in
+              subst (λ (x : VarName × ExprTree). IsFine x.1) eq this.fine
+        ]
 
-  pub let_few : AtMost MOST_VARIABLES (HasVar f)
-  let_few = let few = sound.few in (few.0, few.1, λ y h. few.2 y (inl (let_named q.lets k (x, atom s t f) y at h)))
+-- all lets are fine
+pub all_lets_fine : (q : QueryTree) (lets : List Marked) → AreCompiled q lets → length lets ≡ length q.lets → (l : VarName × ExprTree) → Has q.lets l → IsFine l.1
+all_lets_fine q lets known long l h = let p = place_of-Has q.lets l h in known.fine p.0 l (omega (arith, p.1, long)) p.2
 
--- what is too large in an atom is too large in the let that it is
-pub named_fault : (L : ℕ → Marked) (k : ℕ) (s t : Bool) (f : Tree) (fault : SizeFault) → L k ≡ of_atom s t f → HasLargePartOf L (atom s t f) fault → HasLargePartOf L (named k) fault
-named_fault L k s t f (States count) e h = (h.0, (h.1.0, h.1.1 ∙ sym e, h.1.2))
-named_fault L k s t f (Ways count) e h = (h.0, (h.1.0, h.1.1 ∙ sym e, h.1.2))
-named_fault L k s t f OutOfMemory e h = h
+-- what is asked of the next let
+pub asked_let : (q : QueryTree) (n : ℕ) (l : VarName × ExprTree) → IsSound q → slice_get q.lets n ≡ Some l → IsAsked q n l.1
+asked_let q n l s at = record { sound = s; sound_expr = (s.sound_lets n l at).0; named = λ x h. inl (let_named q.lets n l x at h) }
 
--- few variables of an atom
-pub atom_few : (q : QueryTree) (lets : List Let) (s t : Bool) (f : Tree) → IsAsked q lets (atom s t f) → AtMost MOST_VARIABLES (HasVar f)
-atom_few q lets s t f a = let few = a.sound.few in (few.0, few.1, λ x h. few.2 x (a.named x h))
+-- what is asked of the body
+pub asked_body : (q : QueryTree) → IsSound q → IsAsked q (length q.lets) q.body
+asked_body q s = record { sound = s; sound_expr = s.sound_body.0; named = λ x h. inr h }

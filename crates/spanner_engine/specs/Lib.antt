@@ -1,11 +1,6 @@
-pub mod Combining
 pub mod Compiling
-pub mod Excess
-pub mod Held
 pub mod Kept
 pub mod Laws
 pub mod Parts
 pub mod QueryAutomaton
-pub mod Sizes
-pub mod Uses
 pub mod Weights

@@ -3,12 +3,8 @@
 
 pub use compiled::{Compiled, compile};
 
-mod budget;
-mod combining;
 mod compiled;
+mod effort;
 mod expressions;
 pub mod laws;
-mod lets;
 mod shared;
-mod sizes;
-mod uses;

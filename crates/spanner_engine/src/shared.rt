@@ -1,6 +1,7 @@
 //! Automata that are used in more than one place.
 ghost use Rattle.std.specs.Prelude.{◌≡◌, IfOk};
 
+use crate::effort::size_of;
 use marked_automaton::Automaton;
 use span_core::OutOfMemory;
 use std::alloc::Global;
@@ -51,9 +52,12 @@ impl Shared {
         Rc::as_ref(&self.automaton)
     }
 
-    /// Whether it has more owners than this one.
-    pub(crate) fn has_other_owners(&self) -> bool {
-        Rc::strong_count(&self.automaton) > 1
+    /// How many states, ways and ends it has, if this is its one owner, and else 0.
+    pub fn own_size(&self) -> u64 {
+        if Rc::strong_count(&self.automaton) > 1 {
+            return 0;
+        }
+        size_of(Rc::as_ref(&self.automaton))
     }
 
     /// The automaton itself where this is its one owner, and else a copy.

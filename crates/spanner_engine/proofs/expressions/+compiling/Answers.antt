@@ -1,239 +1,231 @@
-use Rattle.std.proofs.Common.{◌≡◌, ◌<◌, ◌⊎◌, length, Some, None, IfOk, IfErr, refl, sym, ap, ◌∙◌, subst, arith}
-use Rattle.spanner_model.specs.View.{tree_of}
-use Rattle.spanner_model.specs.Expression.{ExprTree, project}
+use Rattle.std.proofs.Common.{◌≡◌, ◌+◌, ◌<◌, length, Some, sym, ap, ◌∙◌, subst, arith}
+use Rattle.std.specs.Prelude.{slice_get}
+use Rattle.std.proofs.lemmas.Option.{slice_get-get_or}
+use Rattle.spanner_model.specs.Expression.{ExprTree, join_all, project, union_all}
 use Rattle.spanner_model.specs.ExprView.{expr_of, exprs_of, query_of}
 use Rattle.spanner_model.specs.Answer.{vars_of_lets}
 use Rattle.spanner_model.proofs.HasLaws.{Has-slice_get}
-use Rattle.spanner_model.proofs.Nodes.{expr_nodes}
-use Rattle.spanner_model.proofs.ExprTrees.{expr_of-Atom, expr_of-Named, expr_of-Union, expr_of-Join, expr_of-Project}
-use Rattle.marked_automaton.specs.Automaton.{IsMarked, Marked}
+use Rattle.spanner_model.proofs.ExprTrees.{expr_of-Atom, expr_of-Named, expr_of-Project}
+use Rattle.algebra.proofs.Followed.{handed_on}
+use Rattle.algebra.proofs.JoinResults.{ok_by}
 use Rattle.spanner_engine.specs.Compiling.{IsAsked, IsCompiledFrom}
-use Rattle.spanner_engine.specs.Held.{kept_at}
 use Rattle.spanner_engine.specs.Parts.{HasLargePartOf}
 use Rattle.spanner_engine.specs.QueryAutomaton.{of_lets}
 use Rattle.spanner_engine.proofs.Combined.{large_part_at, part_at, two_parts}
-use Rattle.spanner_engine.proofs.CompileLaws.{asked_part, asked_sub, combine, so_far_all, so_far_first, so_far_next, too_large}
-use Rattle.spanner_engine.proofs.PartLaws.{sum_map, still_refused}
-use Rattle.spanner_engine.proofs.PieceLaws.{atom_few, kept_there, projected, projection_fault}
-use Rattle.spanner_engine.proofs.HeldLaws.{left_is_atom}
+use Rattle.spanner_engine.proofs.Combining.{Union, Join}
+use Rattle.spanner_engine.proofs.CompileLaws.{SoFar, asked_part, combine, so_far_all, so_far_first, so_far_next, too_large}
+use Rattle.spanner_engine.proofs.PieceLaws.{kept_there, projected}
 use Rattle.spanner_engine.proofs.expressions.+compiling.Goals as goal
 
 -- ---- one expression
 
-pub expr_automaton-atom_automaton-requires : goal.expr_automaton-atom_automaton-requires
-expr_automaton-atom_automaton-requires t c =
+pub expr_automaton-returns-in-Atom-clause-made : goal.expr_automaton-returns-in-Atom-clause-made
+expr_automaton-returns-in-Atom-clause-made t c =
     let q = query_of c.args.query.now in
     let n = length c.args.lets.now in
     let a = c.in-Atom.atom in
-    let f = tree_of a.formula in
-    let e = ap expr_of c.in-Atom.is ∙ expr_of-Atom a in
-    let asked = subst (IsAsked q c.args.lets.now) e c.requires.asked in
-    record { built = asked.sound_expr.0; functional = asked.sound_expr.1; few = atom_few q c.args.lets.now a.from_start a.to_end f asked }
+    ok_by c.atom_automaton.result _ (IsCompiledFrom q n (expr_of c.args.expr.now))
+    (λ j h. subst (λ (w : ExprTree). IsCompiledFrom q n w j) (sym (ap expr_of c.in-Atom.is ∙ expr_of-Atom a)) (h q n)) c.atom_automaton.ensures.made
 
-pub expr_automaton-returns-in-Err-clause-fault : goal.expr_automaton-returns-in-Err-clause-fault
-expr_automaton-returns-in-Err-clause-fault t c =
-    let L = of_lets (query_of c.args.query.now).lets (length c.args.lets.now) in
-    subst (λ (w : ExprTree). HasLargePartOf L w c.in-Err.fault ⊎ (c.args.budget.now.excess ≡ Some c.in-Err.fault)) (sym (ap expr_of c.in-Atom.is ∙ expr_of-Atom c.in-Atom.atom))
-    (sum_map (λ h. h L) c.in-Err.ensures.fault)
-
-pub expr_automaton-returns-in-Ok-clause-made : goal.expr_automaton-returns-in-Ok-clause-made
-expr_automaton-returns-in-Ok-clause-made t c =
-    subst (λ (w : ExprTree). IsCompiledFrom (query_of c.args.query.now) (length c.args.lets.now) w c.in-Ok.automaton) (sym (ap expr_of c.in-Atom.is ∙ expr_of-Atom c.in-Atom.atom))
-    c.in-Ok.ensures.made
-
-pub expr_automaton-returns-in-Some-clause-made : goal.expr_automaton-returns-in-Some-clause-made
-expr_automaton-returns-in-Some-clause-made t c =
+pub expr_automaton-returns-in_ok-share-in-Named-clause-made : goal.expr_automaton-returns-in_ok-share-in-Named-clause-made
+expr_automaton-returns-in_ok-share-in-Named-clause-made t c =
     let q = query_of c.args.query.now in
     let lets = c.args.lets.now in
     let k = c.in-Named.k in
     let e = ap expr_of c.in-Named.is ∙ expr_of-Named k in
-    let there : kept_at lets k ≡ Some c.in-Some.automaton = sym c.in_ok-automaton-in-Named.ensures ∙ c.in-Some.is in
-    subst (λ (w : ExprTree). IsCompiledFrom q (length lets) w c.in-Some.automaton) (sym e) (c.requires.known.reduce k c.in-Some.automaton there).0
-
-pub expr_automaton-left_automaton-requires : goal.expr_automaton-left_automaton-requires
-expr_automaton-left_automaton-requires t c =
-    let q = query_of c.args.query.now in
-    let lets = c.args.lets.now in
-    let k = c.in-Named.k in
-    let asked = subst (IsAsked q lets) (ap expr_of c.in-Named.is ∙ expr_of-Named k) c.requires.asked in
-    let there : kept_at lets k ≡ None = sym c.in_ok-automaton-in-Named.ensures ∙ c.in-None.is in
-    record { sound = asked.sound; atom = left_is_atom q lets c.requires.known k asked there }
-
-pub expr_automaton-returns-in-Ok-left_automaton-clause-made : goal.expr_automaton-returns-in-Ok-left_automaton-clause-made
-expr_automaton-returns-in-Ok-left_automaton-clause-made t c =
-    let q = query_of c.args.query.now in
-    let n = length c.args.lets.now in
-    let k = c.in-Named.k in
-    let e = ap expr_of c.in-Named.is ∙ expr_of-Named k in
-    let within : k < n = (subst (IsAsked q c.args.lets.now) e c.requires.asked).sound_expr in
-    subst (λ (w : ExprTree). IsCompiledFrom q n w c.in-Ok-left_automaton.automaton) (sym e)
-    (c.in-Ok-left_automaton.ensures.made n within)
-
-pub expr_automaton-returns-in-Err-left_automaton-clause-fault : goal.expr_automaton-returns-in-Err-left_automaton-clause-fault
-expr_automaton-returns-in-Err-left_automaton-clause-fault t c =
-    let q = query_of c.args.query.now in
-    let n = length c.args.lets.now in
-    let k = c.in-Named.k in
-    let e = ap expr_of c.in-Named.is ∙ expr_of-Named k in
-    let within : k < n = (subst (IsAsked q c.args.lets.now) e c.requires.asked).sound_expr in
-    let fault = c.in-Err-left_automaton.fault in
-    subst (λ (w : ExprTree). HasLargePartOf (of_lets q.lets n) w fault ⊎ (c.args.budget.now.excess ≡ Some fault)) (sym e)
-    (sum_map (λ h. h n within) c.in-Err-left_automaton.ensures.fault)
+    let a = c.in_ok-share-in-Named.field-0 in
+    let within : k < length lets = (subst (IsAsked q (length lets)) e c.requires.asked).sound_expr in
+    let there : slice_get lets k ≡ Some a =
+    slice_get-get_or lets k c.index-lets-k.result within ∙ ap Some (sym c.index-lets-k.is ∙ sym c.in_ok-share-in-Named.ensures) in
+    subst (λ (w : ExprTree). IsCompiledFrom q (length lets) w a) (sym e) (record { reduces = c.requires.known.reduce k a there; fine = (tt, tt) })
 
 pub expr_automaton-projected-requires : goal.expr_automaton-projected-requires
 expr_automaton-projected-requires t c =
     let q = query_of c.args.query.now in
-    let n = length c.args.lets.now in
-    let g = expr_of c.deref.result.now in
-    let e = ap expr_of c.in-Project.is ∙ (expr_of-Project c.in-Project.kept c.in-Project.sub ∙ ap (λ x. project c.in-Project.kept (expr_of x)) (sym c.deref.ensures)) in
-    let a = subst (IsAsked q c.args.lets.now) e c.requires.asked in
-    kept_there q c.args.lets.now c.requires.known c.in-Project.kept g a c.in-Ok-expr_automaton.inner c.in-Ok-expr_automaton.ensures.made
+    let lets = c.args.lets.now in
+    let kept = c.in-Project.kept in
+    let e = ap expr_of c.in-Project.is ∙ (expr_of-Project kept c.in-Project.sub ∙ ap (λ x. project kept (expr_of x)) (sym c.deref.ensures)) in
+    let inner = c.in_ok-inner-in-Project in
+    kept_there q lets c.requires.known kept (expr_of c.deref.result.now) (subst (IsAsked q (length lets)) e c.requires.asked) inner.inner inner.ensures.made
 
-pub expr_automaton-returns-in-Ok-projected-clause-made : goal.expr_automaton-returns-in-Ok-projected-clause-made
-expr_automaton-returns-in-Ok-projected-clause-made t c =
-    let q = query_of c.args.query.now in
-    let n = length c.args.lets.now in
-    let g = expr_of c.deref.result.now in
-    let e = ap expr_of c.in-Project.is ∙ (expr_of-Project c.in-Project.kept c.in-Project.sub ∙ ap (λ x. project c.in-Project.kept (expr_of x)) (sym c.deref.ensures)) in
-    let a = subst (IsAsked q c.args.lets.now) e c.requires.asked in
-    let p = c.in-Ok-projected in
-    subst (λ (w : ExprTree). IsCompiledFrom q n w p.left) (sym e)
-    (projected q c.args.lets.now c.requires.known c.in-Project.kept g a c.in-Ok-expr_automaton.inner c.in-Ok-expr_automaton.ensures.made p.left p.ensures.names p.ensures.reduct)
-
-pub expr_automaton-parts_automaton-requires : goal.expr_automaton-parts_automaton-requires
-expr_automaton-parts_automaton-requires t c =
-    let e = ap expr_of c.in-Union.is ∙ expr_of-Union c.in-Union.parts in
-    let size = ap expr_nodes e in
-    (omega (arith, size), (c.requires.known, subst (IsAsked (query_of c.args.query.now) c.args.lets.now) e c.requires.asked))
-
-pub expr_automaton-parts_automaton-requires-in-Join : goal.expr_automaton-parts_automaton-requires-in-Join
-expr_automaton-parts_automaton-requires-in-Join t c =
-    let e = ap expr_of c.in-Join.is ∙ expr_of-Join c.in-Join.parts in
-    let size = ap expr_nodes e in
-    (omega (arith, size), (c.requires.known, subst (IsAsked (query_of c.args.query.now) c.args.lets.now) e c.requires.asked))
-
-pub expr_automaton-returns-in-Union-clause-made : goal.expr_automaton-returns-in-Union-clause-made
-expr_automaton-returns-in-Union-clause-made t c =
-    let e = ap expr_of c.in-Union.is ∙ expr_of-Union c.in-Union.parts in
-    subst (λ (w : ExprTree). IfOk c.parts_automaton.result (IsCompiledFrom (query_of c.args.query.now) (length c.args.lets.now) w)) (sym e) c.parts_automaton.ensures.made
-
-pub expr_automaton-returns-in-Union-clause-fault : goal.expr_automaton-returns-in-Union-clause-fault
-expr_automaton-returns-in-Union-clause-fault t c =
-    let e = ap expr_of c.in-Union.is ∙ expr_of-Union c.in-Union.parts in
-    subst (λ (w : ExprTree). IfErr c.parts_automaton.result (λ fault. HasLargePartOf (of_lets (query_of c.args.query.now).lets (length c.args.lets.now)) w fault ⊎ (c.args.budget.now.excess ≡ Some fault))) (sym e) c.parts_automaton.ensures.fault
-
-pub expr_automaton-returns-in-Join-clause-made : goal.expr_automaton-returns-in-Join-clause-made
-expr_automaton-returns-in-Join-clause-made t c =
-    let e = ap expr_of c.in-Join.is ∙ expr_of-Join c.in-Join.parts in
-    subst (λ (w : ExprTree). IfOk c.parts_automaton-in-Join.result (IsCompiledFrom (query_of c.args.query.now) (length c.args.lets.now) w)) (sym e) c.parts_automaton-in-Join.ensures.made
-
-pub expr_automaton-returns-in-Join-clause-fault : goal.expr_automaton-returns-in-Join-clause-fault
-expr_automaton-returns-in-Join-clause-fault t c =
-    let e = ap expr_of c.in-Join.is ∙ expr_of-Join c.in-Join.parts in
-    subst (λ (w : ExprTree). IfErr c.parts_automaton-in-Join.result (λ fault. HasLargePartOf (of_lets (query_of c.args.query.now).lets (length c.args.lets.now)) w fault ⊎ (c.args.budget.now.excess ≡ Some fault))) (sym e) c.parts_automaton-in-Join.ensures.fault
-
-pub expr_automaton-expr_automaton-requires : goal.expr_automaton-expr_automaton-requires
-expr_automaton-expr_automaton-requires t c =
-    let e = ap expr_of c.in-Project.is ∙ (expr_of-Project c.in-Project.kept c.in-Project.sub ∙ ap (λ x. project c.in-Project.kept (expr_of x)) (sym c.deref.ensures)) in
-    let size = ap expr_nodes e in
-    let a = subst (IsAsked (query_of c.args.query.now) c.args.lets.now) e c.requires.asked in
-    (omega (arith, size), (c.requires.known, asked_sub (query_of c.args.query.now) c.args.lets.now c.in-Project.kept (expr_of c.deref.result.now) a))
-
-pub expr_automaton-returns-in-Err-expr_automaton-clause-fault : goal.expr_automaton-returns-in-Err-expr_automaton-clause-fault
-expr_automaton-returns-in-Err-expr_automaton-clause-fault t c =
-    let e = ap expr_of c.in-Project.is ∙ (expr_of-Project c.in-Project.kept c.in-Project.sub ∙ ap (λ x. project c.in-Project.kept (expr_of x)) (sym c.deref.ensures)) in
-    let L = of_lets (query_of c.args.query.now).lets (length c.args.lets.now) in
-    let fault = c.in-Err-expr_automaton.fault in
-    subst (λ (w : ExprTree). HasLargePartOf L w fault ⊎ (c.args.budget.now.excess ≡ Some fault)) (sym e)
-    (sum_map (projection_fault L c.in-Project.kept (expr_of c.deref.result.now) fault) c.in-Err-expr_automaton.ensures.fault)
-
--- ---- unions and joins
-
-pub parts_automaton-at-requires : goal.parts_automaton-at-requires
-parts_automaton-at-requires t c =
-    let n = length c.args.lets.now in
-    omega (arith, two_parts (vars_of_lets (query_of c.args.query.now).lets n) n c.args.operation (exprs_of c.args.parts.now) c.requires.asked.sound_expr)
-
-pub parts_automaton-expr_automaton-requires : goal.parts_automaton-expr_automaton-requires
-parts_automaton-expr_automaton-requires t c =
+pub expr_automaton-returns-in_ok-projected-in-Project-clause-made : goal.expr_automaton-returns-in_ok-projected-in-Project-clause-made
+expr_automaton-returns-in_ok-projected-in-Project-clause-made t c =
     let q = query_of c.args.query.now in
     let lets = c.args.lets.now in
+    let kept = c.in-Project.kept in
+    let e = ap expr_of c.in-Project.is ∙ (expr_of-Project kept c.in-Project.sub ∙ ap (λ x. project kept (expr_of x)) (sym c.deref.ensures)) in
+    let inner = c.in_ok-inner-in-Project in
+    let p = c.in_ok-projected-in-Project in
+    subst (λ (w : ExprTree). IsCompiledFrom q (length lets) w p.field-0) (sym e)
+    (projected q lets c.requires.known kept (expr_of c.deref.result.now) (subst (IsAsked q (length lets)) e c.requires.asked) inner.inner inner.ensures.made
+    p.field-0 p.ensures.ascending p.ensures.names p.ensures.reduct)
+
+-- ---- a union
+
+pub union_automaton-expr_automaton-requires : goal.union_automaton-expr_automaton-requires
+union_automaton-expr_automaton-requires t c =
+    let q = query_of c.args.query.now in
+    let n = length c.args.lets.now in
     let es = exprs_of c.args.parts.now in
     let g = expr_of c.at.result.now in
-    let part = part_at (vars_of_lets q.lets (length lets)) (length lets) c.args.operation es 0 g c.at.ensures c.requires.asked.sound_expr in
-    (omega (arith, part.0), (c.requires.known, asked_part c.args.operation q lets es g (Has-slice_get es 0 g c.at.ensures) c.requires.asked))
+    let part = part_at (vars_of_lets q.lets n) n Union es 0 g c.at.ensures c.requires.asked.sound_expr in
+    (omega (arith, part.0), (c.requires.known, asked_part Union q n es g (Has-slice_get es 0 g c.at.ensures) c.requires.asked))
 
-pub parts_automaton-returns-in-Err-clause-fault : goal.parts_automaton-returns-in-Err-clause-fault
-parts_automaton-returns-in-Err-clause-fault t c =
+pub union_automaton-returns-in_err-first-clause-fault : goal.union_automaton-returns-in_err-first-clause-fault
+union_automaton-returns-in_err-first-clause-fault t c =
     let L = of_lets (query_of c.args.query.now).lets (length c.args.lets.now) in
-    sum_map (large_part_at L c.args.operation (exprs_of c.args.parts.now) 0 (expr_of c.at.result.now) c.at.ensures c.in-Err.fault) c.in-Err.ensures.fault
-
-pub parts_automaton-loop-k-init : goal.parts_automaton-loop-k-init
-parts_automaton-loop-k-init t c =
-    let q = query_of c.args.query.now in
     let es = exprs_of c.args.parts.now in
-    (omega arith, so_far_first q c.args.lets.now c.requires.known c.args.operation es c.requires.asked (expr_of c.at.result.now) c.in-Ok.first c.at.ensures c.in-Ok.ensures.made, refl)
+    let fault = c.in_err-first.field-0.0 in
+    handed_on (HasLargePartOf L (union_all es)) c.from_residual.result fault c.from_residual.ensures.1
+    (large_part_at L Union es 0 (expr_of c.at.result.now) c.at.ensures fault c.in_err-first.ensures.fault)
 
-pub parts_automaton-expr_automaton-requires-in-loop-k : goal.parts_automaton-expr_automaton-requires-in-loop-k
-parts_automaton-expr_automaton-requires-in-loop-k t c =
+pub union_automaton-loop-k-init : goal.union_automaton-loop-k-init
+union_automaton-loop-k-init t c = (
+  omega arith,
+  so_far_first (query_of c.args.query.now) c.args.lets.now c.requires.known Union (exprs_of c.args.parts.now) (expr_of c.at.result.now) c.in_ok-all.all c.at.ensures (subst (IsCompiledFrom (query_of c.args.query.now) (length c.args.lets.now) (expr_of c.at.result.now)) (sym c.in_ok-all.ensures) c.in_ok-first.ensures.made),
+)
+
+pub union_automaton-expr_automaton-requires-in-loop-k : goal.union_automaton-expr_automaton-requires-in-loop-k
+union_automaton-expr_automaton-requires-in-loop-k t c =
     let q = query_of c.args.query.now in
-    let lets = c.args.lets.now in
+    let n = length c.args.lets.now in
     let es = exprs_of c.args.parts.now in
     let k = c.loop-k.k in
     let g = expr_of c.at-in-loop-k.result.now in
-    let part = part_at (vars_of_lets q.lets (length lets)) (length lets) c.args.operation es k g c.at-in-loop-k.ensures c.requires.asked.sound_expr in
-    (omega (arith, part.0), (c.requires.known, asked_part c.args.operation q lets es g (Has-slice_get es k g c.at-in-loop-k.ensures) c.requires.asked))
+    let part = part_at (vars_of_lets q.lets n) n Union es k g c.at-in-loop-k.ensures c.requires.asked.sound_expr in
+    (omega (arith, part.0), (c.requires.known, asked_part Union q n es g (Has-slice_get es k g c.at-in-loop-k.ensures) c.requires.asked))
 
-pub parts_automaton-returns-in-Err-expr_automaton-clause-fault : goal.parts_automaton-returns-in-Err-expr_automaton-clause-fault
-parts_automaton-returns-in-Err-expr_automaton-clause-fault t c =
+pub union_automaton-returns-in_err-part-clause-fault : goal.union_automaton-returns-in_err-part-clause-fault
+union_automaton-returns-in_err-part-clause-fault t c =
     let L = of_lets (query_of c.args.query.now).lets (length c.args.lets.now) in
-    still_refused c.args.budget.now.excess c.loop-k.budget.excess c.in-Err-expr_automaton.fault (c.loop-k.invariant.2 ∙ c.expr_automaton.ensures.excess)
-    (large_part_at L c.args.operation (exprs_of c.args.parts.now) c.loop-k.k (expr_of c.at-in-loop-k.result.now) c.at-in-loop-k.ensures c.in-Err-expr_automaton.fault)
-    c.in-Err-expr_automaton.ensures.fault
+    let es = exprs_of c.args.parts.now in
+    let fault = c.in_err-part.field-0.0 in
+    handed_on (HasLargePartOf L (union_all es)) c.from_residual-in_err-part.result fault c.from_residual-in_err-part.ensures.1
+    (large_part_at L Union es c.loop-k.k (expr_of c.at-in-loop-k.result.now) c.at-in-loop-k.ensures fault c.in_err-part.ensures.fault)
 
-pub parts_automaton-with_part-requires : goal.parts_automaton-with_part-requires
-parts_automaton-with_part-requires t c =
+pub union_automaton-united-requires : goal.union_automaton-united-requires
+union_automaton-united-requires t c =
     let q = query_of c.args.query.now in
     let lets = c.args.lets.now in
     let es = exprs_of c.args.parts.now in
     let y = expr_of c.at-in-loop-k.result.now in
-    let p = c.as_automaton-part.result.now in
-    let part = subst (λ (a : Marked). IsCompiledFrom q (length lets) y a) (sym c.as_automaton-part.ensures) c.in-Ok-expr_automaton.ensures.made in
-    let marked = subst IsMarked c.as_automaton.ensures c.states.ensures.marked in
-    combine q lets c.requires.known c.args.operation es c.requires.asked c.loop-k.k c.loop-k.invariant.0 y c.at-in-loop-k.ensures c.loop-k.all p c.loop-k.invariant.1 part marked c.states-in-loop-k.ensures.marked
+    let part = subst (IsCompiledFrom q (length lets) y) (sym c.as_automaton-in-loop-k.ensures) c.in_ok-part.ensures.made in
+    combine q lets c.requires.known Union es c.requires.asked c.loop-k.k c.loop-k.invariant.0 y c.at-in-loop-k.ensures c.loop-k.all c.as_automaton-in-loop-k.result.now c.loop-k.invariant.1 part
 
-pub parts_automaton-returns-in-Err-with_part-clause-fault : goal.parts_automaton-returns-in-Err-with_part-clause-fault
-parts_automaton-returns-in-Err-with_part-clause-fault t c =
+pub union_automaton-returns-in_err-all-2-clause-fault : goal.union_automaton-returns-in_err-all-2-clause-fault
+union_automaton-returns-in_err-all-2-clause-fault t c =
     let q = query_of c.args.query.now in
     let lets = c.args.lets.now in
     let es = exprs_of c.args.parts.now in
     let y = expr_of c.at-in-loop-k.result.now in
-    let p = c.as_automaton-part.result.now in
-    let part = subst (λ (a : Marked). IsCompiledFrom q (length lets) y a) (sym c.as_automaton-part.ensures) c.in-Ok-expr_automaton.ensures.made in
-    let marked = subst IsMarked c.as_automaton.ensures c.states.ensures.marked in
-    let fault = c.in-Err-with_part.fault in
-    still_refused c.args.budget.now.excess c.expr_automaton-in-loop-k.new.budget.excess fault (c.expr_automaton-in-loop-k.ensures.excess ∙ (c.loop-k.invariant.2 ∙ c.expr_automaton.ensures.excess))
-    (too_large q lets c.requires.known c.args.operation es c.requires.asked c.loop-k.k c.loop-k.invariant.0 y c.at-in-loop-k.ensures c.loop-k.all p c.loop-k.invariant.1 part marked c.states-in-loop-k.ensures.marked fault)
-    c.in-Err-with_part.ensures.fault
+    let part = subst (IsCompiledFrom q (length lets) y) (sym c.as_automaton-in-loop-k.ensures) c.in_ok-part.ensures.made in
+    let fault = c.in_err-all-2.field-0.0 in
+    handed_on (HasLargePartOf (of_lets q.lets (length lets)) (union_all es)) c.from_residual-in_err-all-2.result fault c.from_residual-in_err-all-2.ensures.1
+    (too_large q lets c.requires.known Union es c.requires.asked c.loop-k.k c.loop-k.invariant.0 y c.at-in-loop-k.ensures c.loop-k.all c.as_automaton-in-loop-k.result.now c.loop-k.invariant.1 part
+    c.in_err-all-2.ensures.marked fault c.in_err-all-2.ensures.fault)
 
-pub parts_automaton-loop-k-preserved : goal.parts_automaton-loop-k-preserved
-parts_automaton-loop-k-preserved t c =
+pub union_automaton-loop-k-preserved : goal.union_automaton-loop-k-preserved
+union_automaton-loop-k-preserved t c =
     let q = query_of c.args.query.now in
     let lets = c.args.lets.now in
     let es = exprs_of c.args.parts.now in
     let y = expr_of c.at-in-loop-k.result.now in
-    let p = c.as_automaton-part.result.now in
-    let part = subst (λ (a : Marked). IsCompiledFrom q (length lets) y a) (sym c.as_automaton-part.ensures) c.in-Ok-expr_automaton.ensures.made in
-    let marked = subst IsMarked c.as_automaton.ensures c.states.ensures.marked in (
-      omega arith,
-      so_far_next q lets c.requires.known c.args.operation es c.requires.asked c.loop-k.k c.loop-k.invariant.0 y c.at-in-loop-k.ensures c.loop-k.all p c.loop-k.invariant.1 part marked c.states-in-loop-k.ensures.marked c.in-Ok-with_part.both c.in-Ok-with_part.ensures.made,
-      c.with_part.ensures.excess ∙ (c.expr_automaton-in-loop-k.ensures.excess ∙ c.loop-k.invariant.2),
-    )
+    let part = subst (IsCompiledFrom q (length lets) y) (sym c.as_automaton-in-loop-k.ensures) c.in_ok-part.ensures.made in
+    let next =
+    so_far_next q lets c.requires.known Union es c.requires.asked c.loop-k.k c.loop-k.invariant.0 y c.at-in-loop-k.ensures c.loop-k.all c.as_automaton-in-loop-k.result.now c.loop-k.invariant.1 part
+    c.in_ok-all-2.ensures.marked c.in_ok-all-2.all c.in_ok-all-2.ensures.made in
+    (omega arith, next)
 
-pub parts_automaton-returns-clause-made : goal.parts_automaton-returns-clause-made
-parts_automaton-returns-clause-made t c =
+pub union_automaton-returns-clause-made : goal.union_automaton-returns-clause-made
+union_automaton-returns-clause-made t c =
     let q = query_of c.args.query.now in
     let n = length c.args.lets.now in
     let es = exprs_of c.args.parts.now in
-    let two = two_parts (vars_of_lets q.lets n) n c.args.operation es c.requires.asked.sound_expr in
-    so_far_all q c.args.lets.now c.requires.known c.args.operation es c.requires.asked c.loop-k.all c.loop-k.k (omega (arith, two)) c.loop-k.invariant.1
+    let two = two_parts (vars_of_lets q.lets n) n Union es c.requires.asked.sound_expr in
+    let whole = so_far_all q c.args.lets.now c.requires.known Union es c.loop-k.all c.loop-k.k (omega (arith, two)) c.loop-k.invariant.1 in
+    subst (IsCompiledFrom q n (union_all es)) (sym c.in_ok-new.ensures) whole
+
+-- ---- a join
+
+pub join_automaton-expr_automaton-requires : goal.join_automaton-expr_automaton-requires
+join_automaton-expr_automaton-requires t c =
+    let q = query_of c.args.query.now in
+    let n = length c.args.lets.now in
+    let es = exprs_of c.args.parts.now in
+    let g = expr_of c.at.result.now in
+    let part = part_at (vars_of_lets q.lets n) n Join es 0 g c.at.ensures c.requires.asked.sound_expr in
+    (omega (arith, part.0), (c.requires.known, asked_part Join q n es g (Has-slice_get es 0 g c.at.ensures) c.requires.asked))
+
+pub join_automaton-returns-in_err-all-clause-fault : goal.join_automaton-returns-in_err-all-clause-fault
+join_automaton-returns-in_err-all-clause-fault t c =
+    let L = of_lets (query_of c.args.query.now).lets (length c.args.lets.now) in
+    let es = exprs_of c.args.parts.now in
+    let fault = c.in_err-all.field-0.0 in
+    handed_on (HasLargePartOf L (join_all es)) c.from_residual.result fault c.from_residual.ensures.1
+    (large_part_at L Join es 0 (expr_of c.at.result.now) c.at.ensures fault c.in_err-all.ensures.fault)
+
+pub join_automaton-loop-k-init : goal.join_automaton-loop-k-init
+join_automaton-loop-k-init t c = (
+  omega arith,
+  so_far_first (query_of c.args.query.now) c.args.lets.now c.requires.known Join (exprs_of c.args.parts.now) (expr_of c.at.result.now) c.in_ok-all.all c.at.ensures c.in_ok-all.ensures.made,
+)
+
+pub join_automaton-expr_automaton-requires-in-loop-k : goal.join_automaton-expr_automaton-requires-in-loop-k
+join_automaton-expr_automaton-requires-in-loop-k t c =
+    let q = query_of c.args.query.now in
+    let n = length c.args.lets.now in
+    let es = exprs_of c.args.parts.now in
+    let k = c.loop-k.k in
+    let g = expr_of c.at-in-loop-k.result.now in
+    let part = part_at (vars_of_lets q.lets n) n Join es k g c.at-in-loop-k.ensures c.requires.asked.sound_expr in
+    (omega (arith, part.0), (c.requires.known, asked_part Join q n es g (Has-slice_get es k g c.at-in-loop-k.ensures) c.requires.asked))
+
+pub join_automaton-returns-in_err-part-clause-fault : goal.join_automaton-returns-in_err-part-clause-fault
+join_automaton-returns-in_err-part-clause-fault t c =
+    let L = of_lets (query_of c.args.query.now).lets (length c.args.lets.now) in
+    let es = exprs_of c.args.parts.now in
+    let fault = c.in_err-part.field-0.0 in
+    handed_on (HasLargePartOf L (join_all es)) c.from_residual-in_err-part.result fault c.from_residual-in_err-part.ensures.1
+    (large_part_at L Join es c.loop-k.k (expr_of c.at-in-loop-k.result.now) c.at-in-loop-k.ensures fault c.in_err-part.ensures.fault)
+
+pub join_automaton-joined-requires : goal.join_automaton-joined-requires
+join_automaton-joined-requires t c =
+    let q = query_of c.args.query.now in
+    let lets = c.args.lets.now in
+    let es = exprs_of c.args.parts.now in
+    let y = expr_of c.at-in-loop-k.result.now in
+    let part = subst (IsCompiledFrom q (length lets) y) (sym c.as_automaton-in-loop-k.ensures) c.in_ok-part.ensures.made in
+    combine q lets c.requires.known Join es c.requires.asked c.loop-k.k c.loop-k.invariant.0 y c.at-in-loop-k.ensures c.as_automaton.result.now c.as_automaton-in-loop-k.result.now (subst (SoFar q (length lets) Join es c.loop-k.k) (sym c.as_automaton.ensures) c.loop-k.invariant.1) part
+
+pub join_automaton-returns-in_err-both-clause-fault : goal.join_automaton-returns-in_err-both-clause-fault
+join_automaton-returns-in_err-both-clause-fault t c =
+    let q = query_of c.args.query.now in
+    let lets = c.args.lets.now in
+    let es = exprs_of c.args.parts.now in
+    let y = expr_of c.at-in-loop-k.result.now in
+    let part = subst (IsCompiledFrom q (length lets) y) (sym c.as_automaton-in-loop-k.ensures) c.in_ok-part.ensures.made in
+    let fault = c.in_err-both.field-0.0 in
+    handed_on (HasLargePartOf (of_lets q.lets (length lets)) (join_all es)) c.from_residual-in_err-both.result fault c.from_residual-in_err-both.ensures.1
+    (too_large q lets c.requires.known Join es c.requires.asked c.loop-k.k c.loop-k.invariant.0 y c.at-in-loop-k.ensures c.as_automaton.result.now c.as_automaton-in-loop-k.result.now (subst (SoFar q (length lets) Join es c.loop-k.k) (sym c.as_automaton.ensures) c.loop-k.invariant.1) part
+    c.in_err-both.ensures.marked fault c.in_err-both.ensures.fault)
+
+pub join_automaton-loop-k-preserved : goal.join_automaton-loop-k-preserved
+join_automaton-loop-k-preserved t c =
+    let q = query_of c.args.query.now in
+    let lets = c.args.lets.now in
+    let es = exprs_of c.args.parts.now in
+    let y = expr_of c.at-in-loop-k.result.now in
+    let part = subst (IsCompiledFrom q (length lets) y) (sym c.as_automaton-in-loop-k.ensures) c.in_ok-part.ensures.made in
+    let next =
+    so_far_next q lets c.requires.known Join es c.requires.asked c.loop-k.k c.loop-k.invariant.0 y c.at-in-loop-k.ensures c.as_automaton.result.now c.as_automaton-in-loop-k.result.now (subst (SoFar q (length lets) Join es c.loop-k.k) (sym c.as_automaton.ensures) c.loop-k.invariant.1) part
+    c.in_ok-both.ensures.marked c.in_ok-both.both c.in_ok-both.ensures.made in
+    (omega arith, subst (SoFar q (length lets) Join es (c.loop-k.k + 1)) (sym c.in_ok-all-2.ensures) next)
+
+pub join_automaton-returns-clause-made : goal.join_automaton-returns-clause-made
+join_automaton-returns-clause-made t c =
+    let q = query_of c.args.query.now in
+    let n = length c.args.lets.now in
+    let es = exprs_of c.args.parts.now in
+    let two = two_parts (vars_of_lets q.lets n) n Join es c.requires.asked.sound_expr in
+    let whole = so_far_all q c.args.lets.now c.requires.known Join es c.loop-k.all c.loop-k.k (omega (arith, two)) c.loop-k.invariant.1 in
+    whole

@@ -1,18 +1,22 @@
-use Rattle.std.proofs.Common.{◌≡◌, ◌+◌, ◌*◌, ◌≤◌, length, take}
+use Rattle.std.proofs.Common.{◌+◌, ◌*◌, ◌≤◌, length}
+use Rattle.spanner_model.specs.Expression.{join_all, union_all}
 use Rattle.spanner_model.specs.ExprView.{expr_of, exprs_of, query_of}
 use Rattle.spanner_model.proofs.Nodes.{expr_nodes}
-use Rattle.marked_automaton.specs.Reduct.{ReducesMarked}
-use Rattle.spanner_engine.specs.Combining.{all_of}
-use Rattle.spanner_engine.specs.QueryAutomaton.{automaton_of, of_lets}
+use Rattle.spanner_engine.proofs.Combining.{Union, Join}
+use Rattle.spanner_engine.proofs.CompileLaws.{SoFar}
 use Rattle.spanner_engine.proofs.expressions.+compiling.Given as goal
 
 abbrev pub decreases-expr_automaton : goal.decreases-expr_automaton
 decreases-expr_automaton l = 2 * expr_nodes (expr_of l.expr.now) + 1
 
-abbrev pub decreases-parts_automaton : goal.decreases-parts_automaton
-decreases-parts_automaton l = 2 * expr_nodes (all_of l.operation (exprs_of l.parts.now))
+abbrev pub decreases-union_automaton : goal.decreases-union_automaton
+decreases-union_automaton l = 2 * expr_nodes (union_all (exprs_of l.parts.now))
 
-abbrev pub invariant-parts_automaton-loop-k : goal.invariant-parts_automaton-loop-k
-invariant-parts_automaton-loop-k l =
-    (1 ≤ l.k) × ReducesMarked l.all (automaton_of (of_lets (query_of l.query).lets (length l.lets)) (all_of l.operation (take l.k (exprs_of l.parts))))
-    × (l.budget.excess ≡ l.initial.budget.excess)
+abbrev pub decreases-join_automaton : goal.decreases-join_automaton
+decreases-join_automaton l = 2 * expr_nodes (join_all (exprs_of l.parts.now))
+
+abbrev pub invariant-union_automaton-loop-k : goal.invariant-union_automaton-loop-k
+invariant-union_automaton-loop-k l = (1 ≤ l.k) × SoFar (query_of l.query) (length l.lets) Union (exprs_of l.parts) l.k l.all
+
+abbrev pub invariant-join_automaton-loop-k : goal.invariant-join_automaton-loop-k
+invariant-join_automaton-loop-k l = (1 ≤ l.k) × SoFar (query_of l.query) (length l.lets) Join (exprs_of l.parts) l.k l.all

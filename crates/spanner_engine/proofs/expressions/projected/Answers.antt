@@ -26,4 +26,4 @@ returns-then-len-clause-reduct c =
 pub returns-clause-reduct : goal.returns-clause-reduct
 returns-clause-reduct c =
     subst (λ (p : Marked). Reduces p.graph (remarked (left_of c.args.inner.names c.args.kept.now) c.args.inner.graph)) (sym c.in_ok-new.ensures)
-    (subst (λ (a : Marked). Reduces c.in_ok-left.left.graph (remarked (left_of a.names c.args.kept.now) a.graph)) c.as_automaton-whole.ensures c.in_ok-left.ensures.reduct)
+    (subst (λ (a : Marked). Reduces c.in_ok-project.field-0.graph (remarked (left_of a.names c.args.kept.now) a.graph)) c.as_automaton-whole.ensures c.in_ok-project.ensures.reduct)

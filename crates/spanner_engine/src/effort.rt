@@ -1,0 +1,34 @@
+//! What compiling a query may cost.
+ghost use Rattle.marked_automaton.specs.Automaton.{IsMarked};
+
+use algebra::Effort;
+use marked_automaton::{Automaton, MOST_STATES, MOST_WAYS};
+use span_core::OutOfMemory;
+
+/// The most steps that compiling one query takes, some seconds of work, so that no text of a query takes
+/// minutes. Where they are spent, want of memory is answered, which needs no cause and says nothing of the
+/// query.
+pub const MOST_STEPS: u64 = 2_000_000_000;
+
+/// What each state, way and end of an automaton costs that is made, in steps.
+const STEPS_TO_MAKE: u64 = 64;
+
+/// How many states, ways and ends an automaton has.
+pub fn size_of(automaton: &Automaton) -> u64
+    ensures marked { IsMarked automaton.now }
+{
+    u64::from(automaton.states())
+        .saturating_add(automaton.ways().len() as u64)
+        .saturating_add(automaton.stops().len() as u64)
+}
+
+/// Spends what it costs to make this automaton. Refused where nothing is left.
+pub fn spend(effort: &mut Effort, automaton: &Automaton) -> Result<(), OutOfMemory>
+    ensures marked { IsMarked automaton.now }
+{
+    effort.spend(size_of(automaton).saturating_mul(STEPS_TO_MAKE));
+    if effort.is_spent() {
+        return Err(OutOfMemory);
+    }
+    Ok(())
+}
