@@ -130,7 +130,7 @@ module _ (A : Automaton) where
             (Has-map (λ (y : Way). y.to) (filter (λ z. nat_eq z.marks y.marks) (ways_taken A set b)) y f),
       )
 
-  ends_stop : (w : ℕ → ℕ) (i : ℕ) (set : List ℕ) → EndsWith A w i set → (x : Stop) × Has A.stops x × Has set x.state × (x.marks ≡ w i)
+  pub ends_stop : (w : ℕ → ℕ) (i : ℕ) (set : List ℕ) → EndsWith A w i set → (x : Stop) × Has A.stops x × Has set x.state × (x.marks ≡ w i)
   ends_stop w i set h =
       let m = Has-map_cases (λ m. let r : Reach = record { marks = m; to = [] } in r) (blocks_down (map (λ (x : Stop). x.marks) (filter (λ (x : Stop). is_among set x.state) A.stops))) h.0 h.1 in
       let x = Has-map_cases (λ (x : Stop). x.marks) (filter (λ (x : Stop). is_among set x.state) A.stops) m.0
@@ -138,7 +138,7 @@ module _ (A : Automaton) where
       let f = filter_cases (λ (x : Stop). is_among set x.state) A.stops x.0 x.1 in
       (x.0, f.0, among_has set x.0.state f.1, x.2 ∙ (ap (λ (r : Reach). r.marks) m.2 ∙ h.2))
 
-  stop_ends : (w : ℕ → ℕ) (i : ℕ) (set : List ℕ) (x : Stop) → Has A.stops x → Has set x.state → x.marks ≡ w i → EndsWith A w i set
+  pub stop_ends : (w : ℕ → ℕ) (i : ℕ) (set : List ℕ) (x : Stop) → Has A.stops x → Has set x.state → x.marks ≡ w i → EndsWith A w i set
   stop_ends w i set x h k e =
       let f = has_filter (λ (x : Stop). is_among set x.state) A.stops x h (has_among set x.state k) in (
         record { marks = x.marks; to = [] },
@@ -153,17 +153,17 @@ module _ (A : Automaton) where
     All i = true
 
     -- these bytes stand in the document from the position i on
-    abbrev IsBehind : List ℕ → ℕ → Type 0
+    abbrev pub IsBehind : List ℕ → ℕ → Type 0
     IsBehind rest i = (k : ℕ) → slice_get rest k ≡ slice_get d (i + k)
 
     -- a member goes on to the end
     abbrev GoesOn : List ℕ → ℕ → List ℕ → Type 0
     GoesOn rest i set = (p : ℕ) × (x : Stop) × Has set p × Has A.stops x × Walk A.ways d w i (length rest) p x.state × (x.marks ≡ w (i + length rest))
 
-    behind_tail : (b : ℕ) (rest : List ℕ) (i : ℕ) → IsBehind (b ∷ rest) i → IsBehind rest (suc i)
+    pub behind_tail : (b : ℕ) (rest : List ℕ) (i : ℕ) → IsBehind (b ∷ rest) i → IsBehind rest (suc i)
     behind_tail b rest i h k = let e : i + suc k ≡ suc i + k = omega arith in h (suc k) ∙ ap (slice_get d) e
 
-    behind_head : (b : ℕ) (rest : List ℕ) (i : ℕ) → IsBehind (b ∷ rest) i → slice_get d i ≡ Some b
+    pub behind_head : (b : ℕ) (rest : List ℕ) (i : ℕ) → IsBehind (b ∷ rest) i → slice_get d i ≡ Some b
     behind_head b rest i h = let e : i + 0 ≡ i = omega arith in sym (h 0 ∙ ap (slice_get d) e)
 
     read_goes : (rest : List ℕ) (i : ℕ) (set : List ℕ) → IsBehind rest i → IsReadFrom A All w rest i false set → GoesOn rest i set

@@ -97,10 +97,10 @@ up_distinct : (xs : List ℕ) → IsUp xs → AreDistinct xs
 up_distinct [] u = tt
 up_distinct (x ∷ xs) u = (λ h. (let l = u.0 x h in omega (arith, l)), up_distinct xs u.1)
 
-abbrev AllBelow : ℕ → List ℕ → Type 0
+abbrev pub AllBelow : ℕ → List ℕ → Type 0
 AllBelow x ys = (y : ℕ) → Has ys y → y < x
 
-abbrev IsDown : List ℕ → Type 0
+abbrev pub IsDown : List ℕ → Type 0
 IsDown [] = Unit {0}
 IsDown (x ∷ xs) = AllBelow x xs × IsDown xs
 
@@ -129,11 +129,11 @@ put_is_down p (q ∷ qs) u = go (put_is_down p qs u.1) (nat_lt q p) (nat_eq p q)
             false_true : false ≡ true → ⊥
             false_true f = cc
 
-blocks_are_down : (xs : List ℕ) → IsDown (blocks_down xs)
+pub blocks_are_down : (xs : List ℕ) → IsDown (blocks_down xs)
 blocks_are_down [] = tt
 blocks_are_down (x ∷ xs) = put_is_down x (blocks_down xs) (blocks_are_down xs)
 
-down_distinct : (xs : List ℕ) → IsDown xs → AreDistinct xs
+pub down_distinct : (xs : List ℕ) → IsDown xs → AreDistinct xs
 down_distinct [] u = tt
 down_distinct (x ∷ xs) u = (λ h. (let l = u.0 x h in omega (arith, l)), down_distinct xs u.1)
 
@@ -211,13 +211,13 @@ module _ (A : Automaton) (S : List ℕ) where
 
 -- ---- equality of sets and of rows
 
-same_bytes : (x y : List ℕ) → bytes_eq x y ≡ true → x ≡ y
+pub same_bytes : (x y : List ℕ) → bytes_eq x y ≡ true → x ≡ y
 same_bytes x y e = (bytes_eq-Decides x y).0 e
 
-bytes_itself : (x : List ℕ) → bytes_eq x x ≡ true
+pub bytes_itself : (x : List ℕ) → bytes_eq x x ≡ true
 bytes_itself x = (bytes_eq-Decides x x).1 refl
 
-same_ask : (a b : Asked) → asked_same a b ≡ true → a ≡ b
+pub same_ask : (a b : Asked) → asked_same a b ≡ true → a ≡ b
 same_ask (byte_read b) (byte_read c) e = ap byte_read (eqb-true b c e)
 same_ask (byte_read b) rest_taken e = absurd (cc)
 same_ask (byte_read b) ended e = absurd (cc)
@@ -228,18 +228,18 @@ same_ask ended (byte_read c) e = absurd (cc)
 same_ask ended rest_taken e = absurd (cc)
 same_ask ended ended e = refl
 
-ask_itself : (a : Asked) → asked_same a a ≡ true
+pub ask_itself : (a : Asked) → asked_same a a ≡ true
 ask_itself (byte_read b) = eq-eqb b b refl
 ask_itself rest_taken = refl
 ask_itself ended = refl
 
-same_row : (r s : Row) → row_same r s ≡ true → r ≡ s
+pub same_row : (r s : Row) → row_same r s ≡ true → r ≡ s
 same_row r s e =
     let sets = same_bytes r.set s.set (left_true (bytes_eq r.set s.set) (asked_same r.ask s.ask) e) in
     let asks = same_ask r.ask s.ask (right_true (bytes_eq r.set s.set) (asked_same r.ask s.ask) e) in
     ap (λ set. let w : Row = record { set = set; ask = r.ask } in w) sets ∙ ap (λ a. let w : Row = record { set = s.set; ask = a } in w) asks
 
-row_itself : (r : Row) → row_same r r ≡ true
+pub row_itself : (r : Row) → row_same r r ≡ true
 row_itself r = both_true (bytes_eq r.set r.set) (asked_same r.ask r.ask) (bytes_itself r.set) (ask_itself r.ask)
 
 -- ---- images

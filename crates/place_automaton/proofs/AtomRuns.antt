@@ -17,18 +17,18 @@ use Rattle.place_automaton.proofs.Ranges.{LiesFrom}
 use Rattle.marked_automaton.proofs.Walks.{walk_more, walk_then}
 use Rattle.place_automaton.proofs.Walks.{Crosses, IsSplit, first_cross}
 
-unless_cases : {X : Type 0} (b : Bool) (xs : List X) (x : X) → Has (unless b xs) x → (b ≡ false) × Has xs x
+pub unless_cases : {X : Type 0} (b : Bool) (xs : List X) (x : X) → Has (unless b xs) x → (b ≡ false) × Has xs x
 unless_cases true xs x h = absurd h
 unless_cases false xs x h = (refl, h)
 
-unless_has : {X : Type 0} (b : Bool) (xs : List X) (x : X) → b ≡ false → Has xs x → Has (unless b xs) x
+pub unless_has : {X : Type 0} (b : Bool) (xs : List X) (x : X) → b ≡ false → Has xs x → Has (unless b xs) x
 unless_has true xs x e h = absurd (cc)
 unless_has false xs x e h = h
 
-not_true : (b : Bool) (A : Type 0) → b ≡ false → IsTrue b → A
+pub not_true : (b : Bool) (A : Type 0) → b ≡ false → IsTrue b → A
 not_true b A e t = absurd (cc)
 
-any_of_all : (b : ℕ) → b < 256 → HasByte all_bytes b
+pub any_of_all : (b : ℕ) → b < 256 → HasByte all_bytes b
 any_of_all b l = let e : contains all_bytes b ≡ true = all_contain b (omega (arith, l)) in cc
 
 byte_at : (d : List ℕ) (i : ℕ) → i < length d → (b : ℕ) × (slice_get d i ≡ Some b)
@@ -36,7 +36,7 @@ byte_at [] i l = absurd (omega (arith, l))
 byte_at (b ∷ d) zero l = (b, refl)
 byte_at (b ∷ d) (suc i) l = byte_at d i (omega (arith, l))
 
-any_byte : (d : List ℕ) → AreBytes d → (i : ℕ) → i < length d → ReadsByte d i all_bytes
+pub any_byte : (d : List ℕ) → AreBytes d → (i : ℕ) → i < length d → ReadsByte d i all_bytes
 any_byte d ok i l = let r = byte_at d i l in (r.0, r.1, any_of_all r.0 (ok i r.0 r.1))
 
 -- w is empty from low up to high
@@ -72,10 +72,10 @@ idle_stays ways d w s only (suc n) i p q at h =
         near (suc k) e = rest t (omega (arith, e, a)) (omega (arith, b))
 
 module _ (s t : Bool) (P : Places) (lies : LiesFrom 1 P) (d : List ℕ) (w : ℕ → ℕ) where
-  abbrev after : ℕ
+  abbrev pub after : ℕ
   after = suc P.count
 
-  abbrev A : Automaton
+  abbrev pub A : Automaton
   A = automaton_of_places s t P
 
   -- the ways that are not between places
@@ -83,14 +83,14 @@ module _ (s t : Bool) (P : Places) (lies : LiesFrom 1 P) (d : List ℕ) (w : ℕ
   outer = unless s (idle_way 0 ∷ []) ++ unless t (after_ways after P)
 
   -- what the ways are
-  abbrev WayCases : Way → Type 0
+  abbrev pub WayCases : Way → Type 0
   WayCases y =
       ((s ≡ false) × (idle_way 0 ≡ y))
       ⊎ (((e : Entry) × Has P.first e × (way_from_first e ≡ y))
       ⊎ (Has P.follow y
       ⊎ ((t ≡ false) × Has (after_ways after P) y)))
 
-  way_cases : (y : Way) → Has A.ways y → WayCases y
+  pub way_cases : (y : Way) → Has A.ways y → WayCases y
   way_cases y h =
       elim (Has-append_cases P.follow (map way_from_first P.first ++ outer) y h) [
         | inl f ↦ inr (inr (inl f))
@@ -103,35 +103,35 @@ module _ (s t : Bool) (P : Places) (lies : LiesFrom 1 P) (d : List ℕ) (w : ℕ
         ]
       ]
 
-  idle_there : s ≡ false → Has A.ways (idle_way 0)
+  pub idle_there : s ≡ false → Has A.ways (idle_way 0)
   idle_there e =
       Has-append_right P.follow (map way_from_first P.first ++ outer) (idle_way 0)
       (Has-append_right (map way_from_first P.first) outer (idle_way 0)
       (Has-append_left (unless s (idle_way 0 ∷ [])) (unless t (after_ways after P)) (idle_way 0) (unless_has s (idle_way 0 ∷ []) (idle_way 0) e (inl refl))))
 
-  first_there : (e : Entry) → Has P.first e → Has A.ways (way_from_first e)
+  pub first_there : (e : Entry) → Has P.first e → Has A.ways (way_from_first e)
   first_there e h =
       Has-append_right P.follow (map way_from_first P.first ++ outer) (way_from_first e)
       (Has-append_left (map way_from_first P.first) outer (way_from_first e) (Has-map way_from_first P.first e h))
 
-  follow_there : (y : Way) → Has P.follow y → Has A.ways y
+  pub follow_there : (y : Way) → Has P.follow y → Has A.ways y
   follow_there y h = Has-append_left P.follow (map way_from_first P.first ++ outer) y h
 
-  after_there : t ≡ false → (y : Way) → Has (after_ways after P) y → Has A.ways y
+  pub after_there : t ≡ false → (y : Way) → Has (after_ways after P) y → Has A.ways y
   after_there e y h =
       Has-append_right P.follow (map way_from_first P.first ++ outer) y
       (Has-append_right (map way_from_first P.first) outer y
       (Has-append_right (unless s (idle_way 0 ∷ [])) (unless t (after_ways after P)) y (unless_has t (after_ways after P) y e h)))
 
   -- the ends of places and of Before are below After
-  place_stop_below : (x : Stop) → Has (place_stops P) x → x.state < after
+  pub place_stop_below : (x : Stop) → Has (place_stops P) x → x.state < after
   place_stop_below x h =
       elim (Has-append_cases P.last (map stop_before P.null) x h) [
         | inl a ↦ omega (arith, (lies.lasts x a).1)
         | inr b ↦ let r = Has-map_cases stop_before P.null x b in omega (arith, ap (λ (g : Stop). g.state) r.2)
       ]
 
-  only_idle_after : (y : Way) → Has A.ways y → y.from ≡ after → idle_way after ≡ y
+  pub only_idle_after : (y : Way) → Has A.ways y → y.from ≡ after → idle_way after ≡ y
   only_idle_after y h e =
       elim (way_cases y h) [
         | inl a ↦ absurd (omega (arith, ap (λ (g : Way). g.from) a.1, e))
@@ -247,7 +247,7 @@ module _ (s t : Bool) (P : Places) (lies : LiesFrom 1 P) (d : List ℕ) (w : ℕ
       (i : ℕ) × (j : ℕ) × (i ≤ j) × (j ≤ length d) × (IsTrue s → i ≡ 0) × (IsTrue t → j ≡ length d) × Shown P d i j w
       × Empties w 0 i × Empties w (suc j) (suc (length d))
 
-  stop_cases : (x : Stop) → Has A.stops x → Has P.last x ⊎ (((m : ℕ) × Has P.null m × (stop_before m ≡ x)) ⊎ ((t ≡ false) × (after ≡ x.state) × (0 ≡ x.marks)))
+  pub stop_cases : (x : Stop) → Has A.stops x → Has P.last x ⊎ (((m : ℕ) × Has P.null m × (stop_before m ≡ x)) ⊎ ((t ≡ false) × (after ≡ x.state) × (0 ≡ x.marks)))
   stop_cases x h =
       elim (Has-append_cases (place_stops P) (unless t (record { state = after; marks = 0 } ∷ [])) x h) [
         | inl a ↦ elim (Has-append_cases P.last (map stop_before P.null) x a) [
