@@ -1,7 +1,7 @@
 -- Automata that are the same but for the order of their idle states.
 use Rattle.std.proofs.Common.{List, length, get_or, ◌≡◌, ℕ, ◌<◌, ◌↔◌, subst, sym}
-use Rattle.spanner_model.specs.Lists.{Has}
-use Rattle.spanner_model.proofs.HasLaws.{Has-map_cases, Has-get_or}
+use Rattle.span_core.specs.Lists.{Has}
+use Rattle.span_core.proofs.HasLaws.{Has-map_cases, Has-get_or}
 use Rattle.marked_automaton.specs.declared.way.Way.{Way}
 use Rattle.marked_automaton.specs.declared.way.Stop.{Stop}
 use Rattle.marked_automaton.specs.Automaton.{Automaton, IsWhole}

@@ -13,8 +13,8 @@ use Rattle.std.specs.declared.result.Result.TheVariants.{Ok, Err}
 use Rattle.std.proofs.lemmas.Bool.{cases_lt, true≢false}
 use Rattle.std.proofs.lemmas.Nat.{mul-add-lt}
 use Rattle.std.proofs.lemmas.Option.{slice_get-get_or}
-use Rattle.spanner_model.specs.Lists.{Has, AreDistinct}
-use Rattle.spanner_model.proofs.HasLaws.{Has-append_left, Has-append_right, Has-append_cases, Has-slice_get}
+use Rattle.span_core.specs.Lists.{Has, AreDistinct}
+use Rattle.span_core.proofs.HasLaws.{Has-append_left, Has-append_right, Has-append_cases, Has-slice_get}
 use Rattle.std.proofs.lemmas.List.{take_more}
 use Rattle.marked_automaton.specs.Automaton.{ByteClass}
 use Rattle.marked_automaton.proofs.Listed.{some_same}

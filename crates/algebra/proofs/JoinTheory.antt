@@ -11,8 +11,8 @@ use Rattle.std.proofs.lemmas.List.{map-append, length-map}
 use Rattle.std.proofs.lemmas.List.Sorted.{length_permutation}
 use Rattle.std.proofs.lemmas.Option.{slice_get_within, slice_get-get_or}
 use Rattle.spanner_model.specs.Captures.{VarName}
-use Rattle.spanner_model.specs.Lists.{Has}
-use Rattle.spanner_model.proofs.HasLaws.{Has-append_left, Has-get_or, Has-map, Has-map_cases, Has-slice_get, place_of-Has}
+use Rattle.span_core.specs.Lists.{Has}
+use Rattle.span_core.proofs.HasLaws.{Has-append_left, Has-get_or, Has-map, Has-map_cases, Has-slice_get, place_of-Has}
 use Rattle.marked_automaton.specs.declared.way.Way.{Way}
 use Rattle.marked_automaton.specs.Automaton.{Automaton, ByteClass, IsMarked, IsWayOf, Marked, all_bytes, idle_way}
 use Rattle.marked_automaton.specs.declared.fault.SizeFault.{SizeFault}

@@ -5,7 +5,7 @@ use Rattle.std.specs.List.{filter}
 use Rattle.std.specs.Option.{unwrap_or}
 use Rattle.std.proofs.lemmas.Bool.{eq-eqb, ne_eqb}
 use Rattle.marked_automaton.specs.Automaton.{HasByte}
-use Rattle.spanner_model.specs.Lists.{Has}
+use Rattle.span_core.specs.Lists.{Has}
 use Rattle.marked_automaton.specs.declared.way.Way.{Way}
 use Rattle.marked_automaton.specs.declared.way.Stop.{Stop}
 use Rattle.marked_automaton.specs.Automaton.{Automaton, ReadsByte, Walk, Accepts}
@@ -15,7 +15,7 @@ use Rattle.algebra.specs.Laws.{JoinLaw}
 use Rattle.algebra.proofs.Bytes.{meet_left, meet_right, in_meet, some_byte}
 use Rattle.marked_automaton.proofs.Listed.{compared}
 use Rattle.marked_automaton.proofs.Passing.{both_true, filter_cases, flat_map_cases, has_filter, has_flat_map, left_true}
-use Rattle.spanner_model.proofs.HasLaws.{Has-map, Has-map_cases}
+use Rattle.span_core.proofs.HasLaws.{Has-map, Has-map_cases}
 use Rattle.marked_automaton.proofs.Walks.{walk_same}
 
 -- the number of a pair determines it

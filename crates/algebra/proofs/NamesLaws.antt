@@ -7,8 +7,8 @@ use Rattle.std.specs.declared.cmp.Ordering.{Ordering}
 use Rattle.std.specs.declared.cmp.Ordering.TheVariants.{Less, Equal, Greater}
 use Rattle.span_core.specs.NameSets.{by_order, name_cmp, with_name}
 use Rattle.spanner_model.specs.Captures.{VarName}
-use Rattle.spanner_model.specs.Lists.{Has}
-use Rattle.spanner_model.proofs.HasLaws.{Contains-Has}
+use Rattle.span_core.specs.Lists.{Has}
+use Rattle.span_core.proofs.HasLaws.{Contains-Has}
 use Rattle.algebra.specs.JoinedNames.{all_names}
 
 pub truly : {P : Type 0} (b : Bool) → IsTrue b → OnTrue b P → P

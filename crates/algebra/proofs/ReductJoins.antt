@@ -5,7 +5,7 @@ use Rattle.std.specs.List.{filter, flat_map}
 use Rattle.std.specs.Option.{unwrap_or}
 use Rattle.std.proofs.lemmas.Nat.{div-mul-add, mod-mul-add, div-add-mod', mul-add-lt, div_below, mod_below}
 use Rattle.marked_automaton.specs.Automaton.{HasByte}
-use Rattle.spanner_model.specs.Lists.{Has}
+use Rattle.span_core.specs.Lists.{Has}
 use Rattle.marked_automaton.specs.declared.way.Way.{Way}
 use Rattle.marked_automaton.specs.declared.way.Stop.{Stop}
 use Rattle.marked_automaton.specs.Automaton.{Automaton}
@@ -14,7 +14,7 @@ use Rattle.algebra.specs.Operations.{meet, has_some, goes_with, pair_way, ends_w
 use Rattle.marked_automaton.specs.Reduct.{IsReachedIn, IsReached, HasEnd, Knows, IsReduct}
 use Rattle.algebra.specs.Laws.{ReductOfJoin}
 use Rattle.marked_automaton.proofs.Passing.{both_true, filter_cases, flat_map_cases, has_filter, has_flat_map, left_true, right_true}
-use Rattle.spanner_model.proofs.HasLaws.{Has-map, Has-map_cases}
+use Rattle.span_core.proofs.HasLaws.{Has-map, Has-map_cases}
 use Rattle.algebra.proofs.Joins.{pair_same}
 use Rattle.algebra.proofs.Bytes.{meet_left, meet_right, in_meet, some_byte, some_has}
 use Rattle.algebra.proofs.PairPlaces.{Spot, spots, spot_of, spot_exists, spot_once, find_spot, find_is, find_there}

@@ -5,7 +5,7 @@ use Rattle.std.specs.List.{filter}
 use Rattle.std.specs.declared.result.Result.{Result}
 use Rattle.std.proofs.lemmas.Bool.{true≢false}
 use Rattle.spanner_model.specs.Captures.{VarName}
-use Rattle.spanner_model.proofs.HasLaws.{Has-map_cases}
+use Rattle.span_core.proofs.HasLaws.{Has-map_cases}
 use Rattle.marked_automaton.specs.declared.way.Way.{Way}
 use Rattle.marked_automaton.specs.declared.fault.SizeFault.{SizeFault}
 use Rattle.marked_automaton.specs.Automaton.{Automaton, IsMarked, Marked}

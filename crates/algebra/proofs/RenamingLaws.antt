@@ -8,8 +8,8 @@ use Rattle.std.proofs.lemmas.Nat.{div-mul-add, mod-mul-add, mod-pow-add, div_bel
 use Rattle.std.proofs.lemmas.Bool.{eq-eqb, ne_eqb, eqb-true}
 use Rattle.std.proofs.lemmas.List.{length-map}
 use Rattle.spanner_model.specs.Captures.{VarName}
-use Rattle.spanner_model.specs.Lists.{Has, AreDistinct}
-use Rattle.spanner_model.proofs.HasLaws.{Has-slice_get, Has-map_cases, Contains-Has}
+use Rattle.span_core.specs.Lists.{Has, AreDistinct}
+use Rattle.span_core.proofs.HasLaws.{Has-slice_get, Has-map_cases, Contains-Has}
 use Rattle.spanner_model.proofs.NameLaws.{Has-list_any, list_any-Has}
 use Rattle.marked_automaton.specs.Marks.{bits_of}
 use Rattle.marked_automaton.proofs.Erasing.{same_name, name_itself, four_times, digit_before}

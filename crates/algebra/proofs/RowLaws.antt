@@ -10,7 +10,7 @@ use Rattle.span_core.specs.Block.{block}
 use Rattle.span_core.specs.Digits.{digit}
 use Rattle.span_core.specs.OrderLaws.{digits_tell}
 use Rattle.spanner_model.specs.Captures.{VarName, Mapping, row_of}
-use Rattle.spanner_model.specs.Lists.{Has}
+use Rattle.span_core.specs.Lists.{Has}
 use Rattle.spanner_model.proofs.NameLaws.{Has-list_any, list_any-Has}
 use Rattle.marked_automaton.specs.Marks.{bits_of}
 use Rattle.marked_automaton.proofs.Erasing.{digits, block_digits, bits_law}

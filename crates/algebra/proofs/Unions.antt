@@ -1,14 +1,14 @@
 -- What a union, and an automaton with other blocks, accept.
 use Rattle.std.proofs.Common.{◌≡◌, ℕ, zero, suc, ◌+◌, ◌<◌, ◌≤◌, ◌⊎◌, List, length, inl, inr, refl, sym, ap, subst, arith, ◌∙◌}
 use Rattle.std.specs.Prelude.{map}
-use Rattle.spanner_model.specs.Lists.{Has}
+use Rattle.span_core.specs.Lists.{Has}
 use Rattle.marked_automaton.specs.declared.way.Way.{Way}
 use Rattle.marked_automaton.specs.declared.way.Stop.{Stop}
 use Rattle.marked_automaton.specs.Automaton.{Automaton, ReadsByte, Walk, Accepts}
 use Rattle.marked_automaton.specs.Automaton.{IsWhole}
 use Rattle.algebra.specs.Operations.{moved_way, moved_stop, union_of}
 use Rattle.algebra.specs.Laws.{UnionLaw}
-use Rattle.spanner_model.proofs.HasLaws.{Has-append_left, Has-append_right, Has-append_cases, Has-map, Has-map_cases}
+use Rattle.span_core.proofs.HasLaws.{Has-append_left, Has-append_right, Has-append_cases, Has-map, Has-map_cases}
 use Rattle.marked_automaton.proofs.Walks.{walk_more, walk_stays}
 
 -- a walk by moved ways

@@ -1,8 +1,8 @@
 -- What the parts of a union make.
 use Rattle.std.proofs.Common.{ℕ, ◌+◌, List, ◌++◌, inl, inr, sym, ap, subst, ◌∙◌}
 use Rattle.std.specs.Prelude.{map}
-use Rattle.spanner_model.specs.Lists.{Has}
-use Rattle.spanner_model.proofs.HasLaws.{Has-append_left, Has-append_right, Has-append_cases, Has-map, Has-map_cases}
+use Rattle.span_core.specs.Lists.{Has}
+use Rattle.span_core.proofs.HasLaws.{Has-append_left, Has-append_right, Has-append_cases, Has-map, Has-map_cases}
 use Rattle.marked_automaton.specs.Automaton.{Automaton, Marked, IsMarked, with_states, idle_way}
 use Rattle.algebra.specs.Moved.{IsWithPart, IsWithWays}
 use Rattle.algebra.specs.Operations.{moved_way, moved_stop, union_of}

@@ -2,13 +2,13 @@
 use Rattle.std.proofs.Common.{◌≡◌, ℕ, ◌+◌, ◌-◌, ◌*◌, ◌<◌, Bool, List, ◌++◌, inl, inr, ap, arith}
 use Rattle.std.specs.Prelude.{map}
 use Rattle.std.specs.List.{filter, flat_map}
-use Rattle.spanner_model.specs.Lists.{Has}
+use Rattle.span_core.specs.Lists.{Has}
 use Rattle.marked_automaton.specs.declared.way.Way.{Way}
 use Rattle.marked_automaton.specs.declared.way.Stop.{Stop}
 use Rattle.marked_automaton.specs.Automaton.{Automaton, IsWhole}
 use Rattle.algebra.specs.Operations.{moved_way, moved_stop, union_of, goes_with, pair_way, ends_with, pair_stop, join_of}
 use Rattle.marked_automaton.proofs.Passing.{filter_cases, flat_map_cases}
-use Rattle.spanner_model.proofs.HasLaws.{Has-append_cases, Has-map_cases}
+use Rattle.span_core.proofs.HasLaws.{Has-append_cases, Has-map_cases}
 
 module _ (A B : Automaton) (a : IsWhole A) (b : IsWhole B) where
   moved_state : (xs : List ℕ) → ((q : ℕ) → Has xs q → q < B.states) → (p : ℕ) → Has (map (◌+◌ A.states) xs) p → p < A.states + B.states

@@ -1,6 +1,6 @@
 -- Automata put into larger ones, behind states that these have.
 use Rattle.std.specs.Prelude.{◌≡◌, ℕ, ◌+◌, ◌↔◌, ◌⊎◌, ◌++◌, map}
-use Rattle.spanner_model.specs.Lists.{Has}
+use Rattle.span_core.specs.Lists.{Has}
 use Rattle.marked_automaton.specs.Automaton.{Automaton}
 use Rattle.algebra.specs.Operations.{moved_stop, moved_way}
 

@@ -1,6 +1,6 @@
 //! Automata put into larger ones, behind states that these have.
 ghost use Rattle.std.specs.Prelude.{◌≡◌, ℕ, ◌+◌, ◌≤◌, ◌<◌, ◌↔◌, ◌⊎◌, OnOk, IfErr, length, ◌++◌, map};
-ghost use Rattle.spanner_model.specs.Lists.{Has};
+ghost use Rattle.span_core.specs.Lists.{Has};
 ghost use Rattle.marked_automaton.specs.declared.TheConstants.{MOST_STATES, MOST_WAYS};
 ghost use Rattle.marked_automaton.specs.declared.fault.SizeFault.TheVariants.{OutOfMemory as WantOfMemory};
 ghost use Rattle.marked_automaton.specs.Automaton.{HasGraphOf, IsMarked, IsWhole, idle_way};

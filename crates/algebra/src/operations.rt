@@ -1,7 +1,7 @@
 //! Union, projection and join.
 ghost use Rattle.std.specs.Prelude.{◌≡◌, ℕ, ◌+◌, ◌*◌, ◌<◌, ◌≤◌, IfOk, IfErr, OnOk, List, length};
 ghost use Rattle.span_core.specs.declared.TheConstants.{MOST_VARIABLES};
-ghost use Rattle.spanner_model.specs.Lists.{Has};
+ghost use Rattle.span_core.specs.Lists.{Has};
 ghost use Rattle.marked_automaton.specs.declared.TheConstants.{MOST_STATES, MOST_WAYS};
 ghost use Rattle.marked_automaton.specs.Faults.{IsSizeFaultOf, IsSizeFaultWithin};
 ghost use Rattle.marked_automaton.specs.Marks.{left_of, remarked};

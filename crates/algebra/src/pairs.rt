@@ -1,7 +1,7 @@
 //! The pairs of states of a join, and the ways between them.
 ghost use Rattle.std.specs.Prelude.{◌≡◌, ℕ, ◌+◌, ◌-◌, ◌*◌, ◌<◌, ◌≤◌, ◌^◌, ◌⊎◌, ◌++◌, List, [], ◌∷◌, length, slice_get, Some, OnOk, IfOk, IfErr};
 ghost use Rattle.std.specs.List.{flat_map};
-ghost use Rattle.spanner_model.specs.Lists.{AreDistinct, Has};
+ghost use Rattle.span_core.specs.Lists.{AreDistinct, Has};
 ghost use Rattle.marked_automaton.specs.declared.TheConstants.{MOST_STATES, MOST_WAYS};
 ghost use Rattle.marked_automaton.specs.Automaton.{AreGrouped};
 ghost use Rattle.marked_automaton.specs.Faults.{IsSizeFaultWithin};

@@ -11,7 +11,7 @@ use marked_automaton::Automaton;
 use plain_spanner::all;
 use query_parser::read_query;
 use span_core::Row;
-use spanner_engine::compile;
+use query_automaton::compile;
 use spanner_model::Query;
 use std::alloc::Global;
 

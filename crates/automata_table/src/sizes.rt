@@ -6,7 +6,7 @@ use crate::fault::Fault;
 use crate::texts::unused_lets;
 use marked_automaton::SizeFault;
 use query_parser::read_query;
-use spanner_engine::compile;
+use query_automaton::compile;
 use spanner_model::Query;
 use std::alloc::Global;
 use std::fmt;

@@ -4,14 +4,14 @@ use Rattle.std.specs.Prelude.{map, nat_eq, nat_lt, if◌then◌else◌, slice_ge
 use Rattle.std.specs.List.{filter}
 use Rattle.std.specs.Option.{unwrap_or}
 use Rattle.std.proofs.lemmas.Bool.{eqb-true, eq-eqb}
-use Rattle.spanner_model.specs.Lists.{Has}
+use Rattle.span_core.specs.Lists.{Has}
 use Rattle.std.specs.FinSet as bytes
 use Rattle.marked_automaton.specs.declared.way.Way.{Way}
 use Rattle.marked_automaton.specs.declared.way.Stop.{Stop}
 use Rattle.marked_automaton.specs.Automaton.{Automaton, HasByte, Walk}
 use Rattle.automaton_reading.specs.Chosen.{EndsWith, IsReadFrom, ReadingLaw}
 use Rattle.automaton_reading.specs.Reading.{put_up, put_down, set_of, blocks_down, is_among, Reach, byte_read, ways_taken, reach_with, edges}
-use Rattle.spanner_model.proofs.HasLaws.{Has-map, Has-map_cases}
+use Rattle.span_core.proofs.HasLaws.{Has-map, Has-map_cases}
 use Rattle.marked_automaton.proofs.Passing.{filter_cases, has_filter, left_true, right_true, both_true, or_left, or_right}
 
 put_up_has : (p : ℕ) (qs : List ℕ) (x : ℕ) → (p ≡ x) ⊎ Has qs x → Has (put_up p qs) x

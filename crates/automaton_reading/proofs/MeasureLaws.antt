@@ -10,8 +10,8 @@ use Rattle.std.proofs.lemmas.List.{length-map}
 use Rattle.std.proofs.lemmas.Bool.{cases_order, eqb-true, eqb-false, eq-eqb, lt-ltb, ltb-true}
 use Rattle.std.proofs.lemmas.List.Sums.{sum_by-append}
 use Rattle.std.proofs.lemmas.Slice.Eq.{bytes_eq-Decides}
-use Rattle.spanner_model.specs.Lists.{Has, AreDistinct}
-use Rattle.spanner_model.proofs.HasLaws.{Has-append_left, Has-append_right, Has-append_cases}
+use Rattle.span_core.specs.Lists.{Has, AreDistinct}
+use Rattle.span_core.proofs.HasLaws.{Has-append_left, Has-append_right, Has-append_cases}
 use Rattle.marked_automaton.specs.declared.way.Way.{Way}
 use Rattle.marked_automaton.specs.declared.way.Stop.{Stop}
 use Rattle.marked_automaton.specs.Automaton.{Automaton}
@@ -22,7 +22,7 @@ use Rattle.marked_automaton.proofs.ReductWords.{image_law}
 use Rattle.automaton_reading.specs.Measures.{ReductMeasures}
 use Rattle.automaton_reading.specs.Reading.{put_up, put_down, set_of, blocks_down, is_among, Asked, byte_read, rest_taken, ended, asked_same, asked, Reach, ways_taken, reach_with, rest_edge, edges, once, next_sets, Row, row_same, rows_asked, rows_read, row_edges, edges_K, rows_K, weight_K}
 use Rattle.automaton_reading.proofs.Determined.{put_up_cases, put_down_cases, set_has, has_set, blocks_has, has_block, among_has, has_among}
-use Rattle.spanner_model.proofs.HasLaws.{Has-map, Has-map_cases}
+use Rattle.span_core.proofs.HasLaws.{Has-map, Has-map_cases}
 use Rattle.marked_automaton.proofs.Passing.{has_flat_map, flat_map_cases, filter_cases, has_filter, left_true, right_true, both_true}
 use Rattle.automaton_reading.proofs.Matching.{match_sum, once_has, has_once, once_distinct, length_sum, map_distinct}
 

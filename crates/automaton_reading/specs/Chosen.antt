@@ -1,7 +1,7 @@
 -- The words that a choice of edges makes.
 use Rattle.std.specs.Prelude.{◌≡◌, ℕ, suc, ◌↔◌, Bool, true, false, List, [], ◌∷◌, ◌||◌}
 use Rattle.std.specs.Bool.{MatchBool}
-use Rattle.spanner_model.specs.Lists.{Has}
+use Rattle.span_core.specs.Lists.{Has}
 use Rattle.marked_automaton.specs.Automaton.{Automaton, Accepts}
 use Rattle.automaton_reading.specs.Reading.{Reach, byte_read, rest_taken, ended, edges, set_of}
 

@@ -12,7 +12,7 @@ use Rattle.spanner_model.specs.declared.formula.Parts.{Parts}
 use Rattle.spanner_model.specs.declared.formula.Formula.TheVariants.{Empty, One, Cat, Alt, Rep, Cap}
 use Rattle.spanner_model.proofs.Trees.{tree_of-Empty, tree_of-One, tree_of-Cat, tree_of-Alt, tree_of-Rep, tree_of-Cap}
 use Rattle.spanner_model.proofs.Nodes.{nodes}
-use Rattle.spanner_model.proofs.HasLaws.{Has-slice_get}
+use Rattle.span_core.proofs.HasLaws.{Has-slice_get}
 use Rattle.spanner_model.proofs.TreeLaws.{split_at, part_nodes, arms_nodes}
 use Rattle.formula_parser.specs.Spells.{given}
 use Rattle.formula_parser.specs.Printed.{IsFront, a_unit, a_repeat, a_cat, an_alt, shape, wraps_arm, wraps_part, wrapped, printed, more_arms}

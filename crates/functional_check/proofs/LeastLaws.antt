@@ -3,7 +3,7 @@ use Rattle.std.proofs.Common.{◌≡◌, ℕ, zero, suc, ◌⊎◌, ◌↔◌, B
 use Rattle.std.specs.Prelude.{slice_get}
 use Rattle.std.specs.Option.{IfSome, IfNone}
 use mathlib.Core.Bool.{beq}
-use Rattle.spanner_model.proofs.HasLaws.{Has-slice_get, Contains-Has}
+use Rattle.span_core.proofs.HasLaws.{Has-slice_get, Contains-Has}
 use Rattle.spanner_model.proofs.NameLaws.{below_all, not_below_itself, not_both_below}
 use Rattle.std.specs.List.Sorted.{IsStrictlySortedBy}
 use Rattle.std.specs.Ordering.{ordering_reverse}
@@ -13,7 +13,7 @@ use Rattle.std.specs.declared.cmp.Ordering.TheVariants.{Less, Equal, Greater}
 use Rattle.std.proofs.lemmas.Map.Lookups.{exact_bytes}
 use Rattle.span_core.specs.NameSets.{name_cmp, Ascending, by_order}
 use Rattle.spanner_model.specs.Captures.{VarName}
-use Rattle.spanner_model.specs.Lists.{Has, AtMost}
+use Rattle.span_core.specs.Lists.{Has, AtMost}
 use Rattle.functional_check.specs.Faults.{IsLeast, IsLeastOf}
 use Rattle.functional_check.specs.Names.{IsIn, smaller_of}
 

@@ -6,13 +6,13 @@ use Rattle.spanner_model.proofs.GatheredLaws.{in_more, parts_in_turn, gathered_n
 use Rattle.std.specs.Result.{IsOk, IsErrAnd}
 use Rattle.std.proofs.lemmas.List.{take_all}
 use Rattle.span_core.specs.declared.TheConstants.{MOST_VARIABLES}
-use Rattle.spanner_model.specs.Lists.{Has, AtMost}
+use Rattle.span_core.specs.Lists.{Has, AtMost}
 use Rattle.spanner_model.specs.Gathered.{Adds, HaveRoom}
 use Rattle.spanner_model.specs.Tree.{Tree, alt_end, cat_all, alt_all}
 use Rattle.spanner_model.specs.Captures.{VarName}
 use Rattle.spanner_model.specs.Functional.{HasVar, AgreesWithArms, IsFunctional}
 use Rattle.spanner_model.proofs.Deciding.{told_var}
-use Rattle.spanner_model.proofs.HasLaws.{Has-append_cases, Has-slice_get, Has-take}
+use Rattle.span_core.proofs.HasLaws.{Has-append_cases, Has-slice_get, Has-take}
 use Rattle.spanner_model.proofs.TreeLaws.{parts_have, part_has, arms_have, take_at_more}
 use Rattle.functional_check.specs.declared.checking.CheckFault.{CheckFault}
 use Rattle.functional_check.specs.declared.checking.CheckFault.TheVariants.{BoundTwice, ArmsDiffer}

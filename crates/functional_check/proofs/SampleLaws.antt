@@ -1,7 +1,7 @@
 -- The formulas of the tests are well built, and have one name.
 use Rattle.std.proofs.Common.{◌≡◌, ℕ, ◌<◌, [], ◌∷◌, inl, inr, arith}
 use Rattle.span_core.specs.declared.TheConstants.{MOST_VARIABLES}
-use Rattle.spanner_model.specs.Lists.{AtMost}
+use Rattle.span_core.specs.Lists.{AtMost}
 use Rattle.spanner_model.specs.Tree.{Tree}
 use Rattle.spanner_model.specs.Captures.{VarName}
 use Rattle.spanner_model.specs.Functional.{HasVar}

@@ -2,7 +2,7 @@
 use Rattle.std.specs.Prelude.{◌≡◌, ◌⊎◌, ◌↔◌, List, Result, MatchResult}
 use Rattle.spanner_model.specs.Tree.{Tree}
 use Rattle.spanner_model.specs.Captures.{VarName}
-use Rattle.spanner_model.specs.Lists.{Has}
+use Rattle.span_core.specs.Lists.{Has}
 use Rattle.spanner_model.specs.Functional.{HasVar, IsFunctional}
 use Rattle.functional_check.specs.declared.checking.CheckFault.{CheckFault}
 use Rattle.functional_check.specs.declared.checking.CheckFault.TheVariants.{BoundTwice, UnderRepeat}

@@ -2,7 +2,7 @@
 use Rattle.std.specs.Prelude.{Bool, true, false, List, Option, Some, None}
 use Rattle.span_core.specs.NameSets.{name_cmp, by_order}
 use Rattle.spanner_model.specs.Captures.{VarName}
-use Rattle.spanner_model.specs.Lists.{Has}
+use Rattle.span_core.specs.Lists.{Has}
 
 -- in the set, or not in it
 abbrev pub IsIn : Bool → List VarName → VarName → Type 0

@@ -2,7 +2,7 @@
 ghost use Rattle.std.specs.Prelude.{◌≡◌, ℕ, ◌<◌, ◌↔◌, List, length, IfOk, IfErr, IsOk, IfSome, IfNone, Some};
 ghost use Rattle.span_core.specs.declared.TheConstants.{MOST_VARIABLES};
 ghost use Rattle.span_core.specs.NameSets.{Ascending};
-ghost use Rattle.spanner_model.specs.Lists.{Has, AtMost};
+ghost use Rattle.span_core.specs.Lists.{Has, AtMost};
 ghost use Rattle.spanner_model.specs.Tree.{Tree, cat_all, alt_all};
 ghost use Rattle.spanner_model.specs.View.{tree_of, trees_of};
 ghost use Rattle.spanner_model.specs.Functional.{HasVar, IsFunctional};

@@ -1,7 +1,7 @@
 //! Least names of sets.
 ghost use Rattle.std.specs.Prelude.{◌≡◌, ℕ, ◌⊎◌, ◌↔◌, IsTrue, IfSome, IfNone, Some, List};
 ghost use Rattle.span_core.specs.NameSets.{Ascending};
-ghost use Rattle.spanner_model.specs.Lists.{Has};
+ghost use Rattle.span_core.specs.Lists.{Has};
 ghost use Rattle.spanner_model.specs.Gathered.{Adds, HaveRoom};
 ghost use Rattle.functional_check.specs.Faults.{IsLeastOf, InExactlyOne};
 ghost use Rattle.functional_check.specs.Names.{IsIn, smaller_of};

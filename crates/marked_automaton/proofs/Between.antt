@@ -1,7 +1,7 @@
 -- The states between starts and ends, by what is reached over edges.
 use Rattle.std.proofs.Common.{◌≡◌, ℕ, ◌<◌, ◌↔◌, Bool, List, length, sym, ap, subst, arith, ◌∙◌}
-use Rattle.spanner_model.specs.Lists.{Has}
-use Rattle.spanner_model.proofs.HasLaws.{Has-map_cases}
+use Rattle.span_core.specs.Lists.{Has}
+use Rattle.span_core.proofs.HasLaws.{Has-map_cases}
 use Rattle.marked_automaton.specs.declared.reach.Direction.TheVariants.{Forward, Back}
 use Rattle.marked_automaton.specs.declared.way.Way.{Way}
 use Rattle.marked_automaton.specs.declared.way.Stop.{Stop}

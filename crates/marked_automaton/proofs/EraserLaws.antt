@@ -14,8 +14,8 @@ use Rattle.span_core.specs.Block.{opening_bit, closing_bit}
 use Rattle.span_core.specs.BlockLaws.{closing_weight, opening_weight, front_weight}
 use Rattle.span_core.specs.Digits.{weight}
 use Rattle.spanner_model.specs.Captures.{VarName}
-use Rattle.spanner_model.specs.Lists.{Has, AreDistinct}
-use Rattle.spanner_model.proofs.HasLaws.{Has-slice_get}
+use Rattle.span_core.specs.Lists.{Has, AreDistinct}
+use Rattle.span_core.proofs.HasLaws.{Has-slice_get}
 use Rattle.marked_automaton.specs.Erased.{ArePlaces, picked}
 use Rattle.marked_automaton.specs.Marks.{bits_of, left_of}
 use Rattle.marked_automaton.proofs.Erasing.{digit_before, name_itself, same_name}

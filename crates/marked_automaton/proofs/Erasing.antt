@@ -10,7 +10,7 @@ use Rattle.span_core.specs.Block.{block, markers_from}
 use Rattle.span_core.specs.BlockLaws.{markers_are, digit_small}
 use Rattle.span_core.specs.Digits.{digit}
 use Rattle.spanner_model.specs.Captures.{VarName, Mapping, row_of}
-use Rattle.spanner_model.specs.Lists.{Has}
+use Rattle.span_core.specs.Lists.{Has}
 use Rattle.marked_automaton.specs.Marks.{bits_of, left_of, ErasingLaw}
 
 pub same_name : (x y : VarName) → bytes_eq x y ≡ true → x ≡ y

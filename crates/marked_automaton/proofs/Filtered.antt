@@ -3,8 +3,8 @@ use Rattle.std.proofs.Common.{◌≡◌, ℕ, zero, suc, ◌≤◌, List, [], �
 use Rattle.std.specs.Prelude.{slice_get}
 use Rattle.std.specs.Option.{option_map}
 use Rattle.std.specs.List.{filter_map, cons_option}
-use Rattle.spanner_model.specs.Lists.{Has}
-use Rattle.spanner_model.proofs.HasLaws.{Has-slice_get, place_of-Has}
+use Rattle.span_core.specs.Lists.{Has}
+use Rattle.span_core.proofs.HasLaws.{Has-slice_get, place_of-Has}
 use Rattle.marked_automaton.proofs.Listed.{some_same}
 
 module _ {X Y : Type 0} (h : X → Option Y) where

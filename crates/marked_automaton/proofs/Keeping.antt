@@ -7,8 +7,8 @@ use Rattle.span_core.specs.NameSets.{Ascending}
 use Rattle.std.proofs.Math.Nat.{div-add-mod}
 use Rattle.std.proofs.lemmas.Nat.{pow_pos}
 use Rattle.spanner_model.specs.Captures.{VarName}
-use Rattle.spanner_model.specs.Lists.{Has, AreDistinct}
-use Rattle.spanner_model.proofs.HasLaws.{distinct-le}
+use Rattle.span_core.specs.Lists.{Has, AreDistinct}
+use Rattle.span_core.proofs.HasLaws.{distinct-le}
 use Rattle.spanner_model.proofs.NameLaws.{ascending-distinct, same_names, list_any-Has, Has-list_any}
 use Rattle.marked_automaton.specs.Laws.{KeepingLaw}
 use Rattle.marked_automaton.specs.Marks.{bits_of, left_of, remarked_way, remarked_stop}

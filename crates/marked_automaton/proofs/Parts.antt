@@ -4,8 +4,8 @@ use Rattle.std.specs.Prelude.{All}
 use Rattle.marked_automaton.specs.Inside.{flagged, graph_of}
 use Rattle.marked_automaton.proofs.Flags.{flagged_more, flagged_none}
 use Rattle.std.specs.FinSet as set
-use Rattle.spanner_model.specs.Lists.{Has}
-use Rattle.spanner_model.proofs.HasLaws.{Has-append_left, Has-append_cases, Has-map_cases, Contains-Has}
+use Rattle.span_core.specs.Lists.{Has}
+use Rattle.span_core.proofs.HasLaws.{Has-append_left, Has-append_cases, Has-map_cases, Contains-Has}
 use Rattle.std.proofs.Math.Nat.{one-le-pow}
 use Rattle.std.proofs.lemmas.List.{length-map, take_all}
 use Rattle.std.proofs.lemmas.List.Elements.{All-contains}

@@ -6,8 +6,8 @@ use Rattle.std.specs.List.{swap}
 use Rattle.std.specs.List.Sorted.{IsPermutation, apply_swaps, SwapsInRange}
 use Rattle.std.proofs.lemmas.Bool.{eq-eqb, ne_eqb}
 use Rattle.std.proofs.lemmas.Option.{slice_get_within, get_or_from_slice_get, slice_get-get_or}
-use Rattle.spanner_model.specs.Lists.{Has}
-use Rattle.spanner_model.proofs.HasLaws.{Has-slice_get, place_of-Has}
+use Rattle.span_core.specs.Lists.{Has}
+use Rattle.span_core.proofs.HasLaws.{Has-slice_get, place_of-Has}
 use Rattle.marked_automaton.proofs.Listed.{some_same, same_or_not}
 
 -- each element of xs stands in ys at the place that g gives, and no other does

@@ -8,7 +8,7 @@ use Rattle.marked_automaton.specs.Automaton.{Automaton, ReadsByte, Walk, Accepts
 use Rattle.marked_automaton.specs.Marks.{remarked_way, remarked_stop, remarked}
 use Rattle.marked_automaton.specs.Laws.{AgreeOn, ProjectionLaw}
 use Rattle.marked_automaton.proofs.Listed.{compared}
-use Rattle.spanner_model.proofs.HasLaws.{Has-map, Has-map_cases}
+use Rattle.span_core.proofs.HasLaws.{Has-map, Has-map_cases}
 use Rattle.marked_automaton.proofs.Walks.{walk_same}
 
 -- the word that has m at k, and is v elsewhere

@@ -1,13 +1,13 @@
 -- The operations of reducts give reducts of the operations.
 use Rattle.std.proofs.Common.{◌≡◌, ℕ, zero, suc, ◌↔◌, Option, Some, sym, ap, subst, ◌∙◌}
-use Rattle.spanner_model.specs.Lists.{Has}
+use Rattle.span_core.specs.Lists.{Has}
 use Rattle.marked_automaton.specs.declared.way.Way.{Way}
 use Rattle.marked_automaton.specs.declared.way.Stop.{Stop}
 use Rattle.marked_automaton.specs.Automaton.{Automaton, HasByte}
 use Rattle.marked_automaton.specs.Marks.{remarked_way, remarked_stop, remarked}
 use Rattle.marked_automaton.specs.Reduct.{IsReachedIn, HasEnd, Knows, IsReduct}
 use Rattle.marked_automaton.specs.Laws.{ReductOfProjection}
-use Rattle.spanner_model.proofs.HasLaws.{Has-map, Has-map_cases}
+use Rattle.span_core.proofs.HasLaws.{Has-map, Has-map_cases}
 use Rattle.marked_automaton.proofs.Listed.{get_map, get_map_cases}
 
 module _ (m : ℕ → ℕ) where

@@ -1,6 +1,6 @@
 -- A reduct accepts what it reduces accepts, and its sets are images.
 use Rattle.std.proofs.Common.{◌≡◌, ℕ, zero, suc, ◌↔◌, List, Option, Some, length, refl, sym, ap, subst, ◌∙◌}
-use Rattle.spanner_model.specs.Lists.{Has}
+use Rattle.span_core.specs.Lists.{Has}
 use Rattle.marked_automaton.specs.declared.way.Way.{Way}
 use Rattle.marked_automaton.specs.Automaton.{Automaton, Walk, Accepts, HasByte}
 use Rattle.marked_automaton.specs.Reduct.{IsReachedIn, HasEnd, Knows, IsReduct}

@@ -4,8 +4,8 @@ use Rattle.std.proofs.Math.ListN.{set}
 use Rattle.std.specs.Prelude.{slice_get}
 use Rattle.std.proofs.lemmas.List.{map_more}
 use Rattle.std.proofs.lemmas.Option.{slice_get-get_or}
-use Rattle.spanner_model.specs.Lists.{Has}
-use Rattle.spanner_model.proofs.HasLaws.{Has-append_cases, Has-append_left, Has-append_right, Has-map_cases}
+use Rattle.span_core.specs.Lists.{Has}
+use Rattle.span_core.proofs.HasLaws.{Has-append_cases, Has-append_left, Has-append_right, Has-map_cases}
 use Rattle.marked_automaton.specs.Reach.{AreTargets}
 use Rattle.marked_automaton.specs.declared.reach.Edge.{Edge}
 use Rattle.marked_automaton.specs.declared.reach.Direction.{Direction}

@@ -1,6 +1,6 @@
 -- The sets of states that a reduct reaches.
 use Rattle.std.specs.Prelude.{◌≡◌, ℕ, ◌↔◌, List, Option, Some}
-use Rattle.spanner_model.specs.Lists.{Has}
+use Rattle.span_core.specs.Lists.{Has}
 use Rattle.marked_automaton.specs.declared.way.Way.{Way}
 use Rattle.marked_automaton.specs.Automaton.{Automaton, HasByte}
 use Rattle.marked_automaton.specs.Reduct.{IsReached, HasEnd, IsReduct}

@@ -3,7 +3,7 @@ use Rattle.std.specs.Prelude.{◌≡◌, ℕ, ◌≤◌, ◌↔◌, List, length
 use Rattle.std.specs.FinSet as set
 use Rattle.std.specs.List.Sorted.{IsPermutation}
 use Rattle.spanner_model.specs.Captures.{VarName}
-use Rattle.spanner_model.specs.Lists.{Has, AreDistinct}
+use Rattle.span_core.specs.Lists.{Has, AreDistinct}
 use Rattle.marked_automaton.specs.declared.way.Way.{Way}
 use Rattle.marked_automaton.specs.declared.way.Stop.{Stop}
 use Rattle.marked_automaton.specs.Automaton.{Automaton, Accepts, IsBlockOf, IsWhole, TakesNoMarks, reversed}

@@ -1,7 +1,7 @@
 -- What is reached over the edges of a graph, and how a search grows.
 use Rattle.std.specs.Prelude.{◌≡◌, ℕ, zero, suc, ◌+◌, ◌⊎◌, ◌↔◌, Some, slice_get, Vec, Bool, false, IsTrue, List, [], ◌∷◌, length, slice_index_or, if◌then◌else◌}
 use Rattle.std.specs.Global.{Global}
-use Rattle.spanner_model.specs.Lists.{Has}
+use Rattle.span_core.specs.Lists.{Has}
 use Rattle.marked_automaton.specs.declared.reach.Edge.{Edge}
 
 -- the flag at p is set

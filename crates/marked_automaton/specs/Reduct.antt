@@ -2,7 +2,7 @@
 --   A way is named by its place in the list of ways. `f` gives the state of A that some states of B stand for,
 --   `g` the way of A that some ways of B stand for. `e b` gives each end of the image of b an end of b of its own.
 use Rattle.std.specs.Prelude.{◌≡◌, ℕ, zero, suc, ◌<◌, ◌↔◌, slice_get, nat_lt, if◌then◌else◌, Some, None, Option}
-use Rattle.spanner_model.specs.Lists.{Has}
+use Rattle.span_core.specs.Lists.{Has}
 use Rattle.marked_automaton.specs.declared.way.Way.{Way}
 use Rattle.marked_automaton.specs.declared.way.Stop.{Stop}
 use Rattle.marked_automaton.specs.Automaton.{Automaton, Marked, HasByte}

@@ -1,7 +1,7 @@
 //! Which states accept what is left of a document, from its end to its start.
 ghost use Rattle.std.specs.Prelude.{◌≡◌, ℕ, ◌^◌, ◌<◌, ◌≤◌, ◌↔◌, IsTrue, length, IfOk};
 ghost use Rattle.span_core.specs.Block.{block};
-ghost use Rattle.spanner_model.specs.Lists.{Has};
+ghost use Rattle.span_core.specs.Lists.{Has};
 ghost use Rattle.marked_automaton.specs.Accepting.{AcceptsFrom, Gathers, Takes};
 ghost use Rattle.marked_automaton.specs.Reach.{IsFlagged};
 

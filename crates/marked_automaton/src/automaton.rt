@@ -4,7 +4,7 @@ ghost use Rattle.std.specs.Option.{ForSome};
 ghost use Rattle.std.specs.FinSet as set;
 ghost use Rattle.span_core.specs.Block.{block};
 ghost use Rattle.span_core.specs.declared.span.Span.{Span};
-ghost use Rattle.spanner_model.specs.Lists.{Has};
+ghost use Rattle.span_core.specs.Lists.{Has};
 ghost use Rattle.marked_automaton.specs.declared.TheConstants.{MOST_STATES, MOST_WAYS};
 ghost use Rattle.marked_automaton.specs.Automaton.{Accepts, HasGraphOf, IsBlockOf, IsMarked, TakesNoMarks, bare, idle_way, plain_stop, reversed, turned_way, with_start, with_states, with_stop, with_way, with_ways, IsWayOf, AreGrouped};
 ghost use Rattle.marked_automaton.specs.Faults.{IsSizeFaultOf};

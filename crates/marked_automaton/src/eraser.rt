@@ -1,7 +1,7 @@
 //! Blocks with the markers of some variables alone.
 ghost use Rattle.std.specs.Prelude.{◌≡◌, ℕ, ◌+◌, ◌-◌, ◌*◌, ◌^◌, ◌<◌, ◌≤◌, List, length, map, All, IfOk, OnOk};
 ghost use Rattle.span_core.specs.NameSets.{Ascending};
-ghost use Rattle.spanner_model.specs.Lists.{Has};
+ghost use Rattle.span_core.specs.Lists.{Has};
 ghost use Rattle.marked_automaton.specs.Erased.{ArePlaces, picked};
 ghost use Rattle.marked_automaton.specs.Marks.{remarked_stop, remarked_way};
 ghost use Rattle.span_core.specs.declared.TheConstants.{MOST_VARIABLES};

@@ -1,6 +1,6 @@
 //! Which nodes of a graph are reached from some of them.
 ghost use Rattle.std.specs.Prelude.{◌≡◌, ℕ, ◌<◌, ◌≤◌, ◌↔◌, ◌⊎◌, List, [], length, replicate, false, slice_get, Some, IfOk, OnOk};
-ghost use Rattle.spanner_model.specs.Lists.{Has};
+ghost use Rattle.span_core.specs.Lists.{Has};
 ghost use Rattle.marked_automaton.specs.Inside.{flagged};
 ghost use Rattle.marked_automaton.specs.Reach.{AreTargets, Grows, IsFlagged, IsSearch, Reaches};
 ghost use Rattle.marked_automaton.specs.Trimmed.{edge_in, edges_in};

@@ -1,7 +1,7 @@
 //! The states that lie between a start and an end, and what is left of an automaton on them.
 ghost use Rattle.std.specs.Prelude.{◌≡◌, ℕ, ◌<◌, ◌≤◌, ◌↔◌, List, length, map, IfOk};
 ghost use Rattle.std.specs.List.{filter_map};
-ghost use Rattle.spanner_model.specs.Lists.{Has};
+ghost use Rattle.span_core.specs.Lists.{Has};
 ghost use Rattle.marked_automaton.specs.declared.TheConstants.{MOST_STATES};
 ghost use Rattle.marked_automaton.specs.Reach.{IsFlagged};
 ghost use Rattle.marked_automaton.specs.Trimmed.{IsBetween, both, count_set, kept_flags, moved_stop, moved_way, number_of, numbered, states_of};

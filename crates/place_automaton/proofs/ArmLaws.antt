@@ -6,7 +6,7 @@ use Rattle.std.proofs.lemmas.Bool.{eq-eqb}
 use Rattle.std.proofs.lemmas.List.{take-append-drop}
 use Rattle.spanner_model.specs.Captures.{VarName}
 use Rattle.spanner_model.specs.Functional.{IsFunctional}
-use Rattle.spanner_model.specs.Lists.{Has, AreDistinct}
+use Rattle.span_core.specs.Lists.{Has, AreDistinct}
 use Rattle.spanner_model.specs.Tree.{Tree, alt_all}
 use Rattle.spanner_model.specs.WellBuilt.{IsWellBuilt}
 use Rattle.spanner_model.proofs.TreeLaws.{split_at, take_at_more}
@@ -17,7 +17,7 @@ use Rattle.place_automaton.specs.Places.{Places, add_once, either_once, alt_plac
 use Rattle.place_automaton.specs.Sequential.{HasOrderedRepeats}
 use Rattle.place_automaton.proofs.BuiltRepeats.{ordered_repeats}
 use Rattle.place_automaton.proofs.CountLaws.{HasOneAtMost, null_same}
-use Rattle.spanner_model.proofs.HasLaws.{Has-append_left, Has-append_right}
+use Rattle.span_core.proofs.HasLaws.{Has-append_left, Has-append_right}
 use Rattle.place_automaton.proofs.JoinLists.{append_nil}
 use Rattle.place_automaton.proofs.LeanLaws.{EndsReach, lean_both, lean_into}
 use Rattle.place_automaton.proofs.Shows.{any_has, either_left, either_right, either_cases}

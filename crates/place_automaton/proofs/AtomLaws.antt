@@ -3,7 +3,7 @@ use Rattle.std.proofs.Common.{◌≡◌, ℕ, ◌≤◌, List, Bool, inl, inr, s
 use Rattle.spanner_model.specs.Captures.{VarName, Captures}
 use Rattle.spanner_model.specs.Fit.{Fit}
 use Rattle.place_automaton.specs.Sequential.{HasOrderedRepeats}
-use Rattle.spanner_model.specs.Lists.{Has}
+use Rattle.span_core.specs.Lists.{Has}
 use Rattle.spanner_model.specs.Tree.{Tree}
 use Rattle.spanner_model.proofs.FitLaws.{fit_le}
 use Rattle.marked_automaton.specs.Automaton.{Accepts}

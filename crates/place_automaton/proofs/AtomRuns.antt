@@ -3,7 +3,7 @@ use Rattle.std.proofs.Common.{◌≡◌, ℕ, zero, suc, ◌+◌, ◌-◌, ◌<�
 use Rattle.std.specs.Prelude.{map, slice_get, IsTrue}
 use Rattle.std.specs.FinSet.{contains}
 use Rattle.span_core.proofs.ByteSetLaws.{all_contain}
-use Rattle.spanner_model.specs.Lists.{Has}
+use Rattle.span_core.specs.Lists.{Has}
 use Rattle.marked_automaton.specs.declared.way.Way.{Way}
 use Rattle.marked_automaton.specs.declared.way.Stop.{Stop}
 use Rattle.marked_automaton.specs.Automaton.{Automaton, HasByte, ReadsByte, Walk, Accepts, all_bytes, idle_way}
@@ -12,7 +12,7 @@ use Rattle.place_automaton.specs.Places.{Places, way_into}
 use Rattle.place_automaton.specs.Atom.{way_from_first, way_after, stop_before, unless, place_stops, after_ways, automaton_of_places, AreBytes}
 use Rattle.place_automaton.specs.Reads.{Shown}
 use Rattle.place_automaton.proofs.Blocks.{compared}
-use Rattle.spanner_model.proofs.HasLaws.{Has-append_left, Has-append_right, Has-append_cases, Has-map, Has-map_cases}
+use Rattle.span_core.proofs.HasLaws.{Has-append_left, Has-append_right, Has-append_cases, Has-map, Has-map_cases}
 use Rattle.place_automaton.proofs.Ranges.{LiesFrom}
 use Rattle.marked_automaton.proofs.Walks.{walk_more, walk_then}
 use Rattle.place_automaton.proofs.Walks.{Crosses, IsSplit, first_cross}

@@ -5,9 +5,9 @@ use Rattle.std.specs.Str.{bytes_eq}
 use Rattle.span_core.specs.Block.{opening_bit, closing_bit}
 use Rattle.spanner_model.specs.Captures.{VarName}
 use Rattle.spanner_model.specs.Functional.{IsFunctional}
-use Rattle.spanner_model.specs.Lists.{Has, AreDistinct}
+use Rattle.span_core.specs.Lists.{Has, AreDistinct}
 use Rattle.spanner_model.specs.Tree.{Tree, cap}
-use Rattle.spanner_model.proofs.HasLaws.{Has-slice_get}
+use Rattle.span_core.proofs.HasLaws.{Has-slice_get}
 use Rattle.place_automaton.specs.Drafts.{places_of, AreNamed}
 use Rattle.place_automaton.specs.Ends.{CanCapture, Ends, ends_of, MarkOf}
 use Rattle.place_automaton.specs.Words.{opening_of, closing_of}

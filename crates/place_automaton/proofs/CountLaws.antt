@@ -9,7 +9,7 @@ use Rattle.spanner_model.specs.Captures.{VarName, Captures, Captured, span_of}
 use Rattle.spanner_model.specs.Fit.{Piece, Times, Fit}
 use Rattle.spanner_model.specs.Functional.{HasVar, IsFunctional}
 use Rattle.place_automaton.specs.Sequential.{HasOrderedRepeats}
-use Rattle.spanner_model.specs.Lists.{Has, AreDistinct}
+use Rattle.span_core.specs.Lists.{Has, AreDistinct}
 use Rattle.spanner_model.specs.Tree.{Tree, empty, one, cat_end, cat, alt_end, alt, rep, cap}
 use Rattle.span_core.specs.declared.span.Span.{Span}
 use Rattle.spanner_model.proofs.CapturesLaws.{row_same}
@@ -24,7 +24,7 @@ use Rattle.place_automaton.specs.Reads.{blocks}
 use Rattle.place_automaton.specs.Sequential.{IsSequential}
 use Rattle.place_automaton.specs.Words.{opening_of, closing_of}
 use Rattle.place_automaton.proofs.FormulaShows.{shows_formula}
-use Rattle.spanner_model.proofs.HasLaws.{Has-append_cases}
+use Rattle.span_core.proofs.HasLaws.{Has-append_cases}
 use Rattle.place_automaton.proofs.RowBlocks.{block_at, fit_once, row_blocks, not_captured, same_name, name_itself}
 use Rattle.place_automaton.proofs.Shows.{sums_cases, once_cases, either_left, either_right}
 

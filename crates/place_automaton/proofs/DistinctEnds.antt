@@ -4,7 +4,7 @@ use Rattle.std.specs.List.{flat_map}
 use Rattle.std.proofs.lemmas.List.{map-append}
 use Rattle.spanner_model.specs.Captures.{VarName}
 use Rattle.spanner_model.specs.Functional.{IsFunctional}
-use Rattle.spanner_model.specs.Lists.{Has, AreDistinct}
+use Rattle.span_core.specs.Lists.{Has, AreDistinct}
 use Rattle.spanner_model.specs.Tree.{Tree, empty, one, cat_end, cat, alt_end, alt, rep, cap}
 use Rattle.marked_automaton.specs.declared.way.Stop.{Stop}
 use Rattle.place_automaton.specs.Atom.{stop_before, unless, place_stops, automaton_of_places}
@@ -14,7 +14,7 @@ use Rattle.place_automaton.specs.Places.{Places, Placed, stop_with, cat_places, 
 use Rattle.place_automaton.specs.Sequential.{HasOrderedRepeats}
 use Rattle.place_automaton.specs.Words.{opening_of, closing_of}
 use Rattle.place_automaton.proofs.CountLaws.{HasOneAtMost, Counted, NullIsZero, counted, counted_copies, counted_at_most, counted_plus, null_zero}
-use Rattle.spanner_model.proofs.HasLaws.{Has-append_cases, Has-map_cases}
+use Rattle.span_core.proofs.HasLaws.{Has-append_cases, Has-map_cases}
 use Rattle.place_automaton.proofs.JoinLists.{append_nil}
 use Rattle.place_automaton.proofs.Ranges.{LiesFrom, LieInPlace, places_lie, copies_lie, at_most_lie}
 

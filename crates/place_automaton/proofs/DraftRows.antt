@@ -4,7 +4,7 @@ use Rattle.std.specs.Prelude.{slice_get, Bool, IsTrue, Result, Ok, Err, IfOk, On
 use Rattle.std.proofs.lemmas.List.{map-append}
 use Rattle.spanner_model.specs.Captures.{VarName}
 use Rattle.spanner_model.specs.Functional.{IsFunctional}
-use Rattle.spanner_model.specs.Lists.{Has}
+use Rattle.span_core.specs.Lists.{Has}
 use Rattle.spanner_model.specs.Tree.{Tree, cat_all}
 use Rattle.spanner_model.proofs.TreeLaws.{take_at_more}
 use Rattle.marked_automaton.specs.declared.way.Way.{Way}

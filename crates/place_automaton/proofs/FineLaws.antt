@@ -5,7 +5,7 @@ use Rattle.std.specs.Int.{bit_at}
 use Rattle.std.specs.FinSet as set
 use Rattle.spanner_model.specs.Captures.{VarName}
 use Rattle.spanner_model.specs.Functional.{HasVar, HaveApartVars, IsFunctional}
-use Rattle.spanner_model.specs.Lists.{Has}
+use Rattle.span_core.specs.Lists.{Has}
 use Rattle.spanner_model.specs.Tree.{Tree, empty, one, cat_end, cat, alt_end, alt, rep, cap}
 use Rattle.spanner_model.specs.WellBuilt.{IsBuilt, AreParts, AreArms}
 use Rattle.marked_automaton.specs.declared.way.Way.{Way}
@@ -15,7 +15,7 @@ use Rattle.place_automaton.specs.declared.piece.Entry.{Entry}
 use Rattle.place_automaton.specs.Ends.{ends_of, MarkOf, JoinAsSums, IsUnmarked}
 use Rattle.place_automaton.specs.Places.{Places, Placed, ways_between, entry_with, stop_with, nothing_placed, never_placed, one_placed, cat_places, alt_places, opt_places, plus_places, cap_places, plus_placed, copies_then, at_most, repeated, placed}
 use Rattle.place_automaton.specs.Words.{opening_of, closing_of}
-use Rattle.spanner_model.proofs.HasLaws.{Has-append_cases, Has-map_cases}
+use Rattle.span_core.proofs.HasLaws.{Has-append_cases, Has-map_cases}
 use Rattle.place_automaton.proofs.MarkBits.{HasBit, NoBitInCommon, zero_bit, no_bits, apart_sum, sum_bit, IsBitOf, own_apart, bit_tells}
 use Rattle.place_automaton.proofs.Ranges.{entries_of, stops_of, ways_of}
 use Rattle.place_automaton.proofs.Shows.{sums_cases, once_cases, either_cases}

@@ -5,7 +5,7 @@ use Rattle.std.specs.List.{flat_map}
 use Rattle.std.specs.Option.{option_or}
 use Rattle.std.proofs.lemmas.Bool.{eq-eqb}
 use Rattle.std.proofs.lemmas.List.{take_more, map-append, append_assoc, flat_map_more, get_or-drop, get_or-take, get_or_append_left, length-drop, length-take}
-use Rattle.spanner_model.specs.Lists.{Has}
+use Rattle.span_core.specs.Lists.{Has}
 use Rattle.marked_automaton.specs.declared.way.Stop.{Stop}
 use Rattle.place_automaton.specs.Atom.{unless}
 use Rattle.place_automaton.specs.declared.piece.Entry.{Entry}

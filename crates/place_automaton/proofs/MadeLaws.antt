@@ -9,7 +9,7 @@ use Rattle.std.specs.FinSet.{contains-empty}
 use Rattle.span_core.proofs.ByteSetLaws.{all_contain}
 use Rattle.spanner_model.specs.Captures.{VarName}
 use Rattle.spanner_model.specs.Functional.{IsFunctional}
-use Rattle.spanner_model.specs.Lists.{Has}
+use Rattle.span_core.specs.Lists.{Has}
 use Rattle.spanner_model.specs.Tree.{Tree}
 use Rattle.marked_automaton.specs.declared.way.Way.{Way}
 use Rattle.marked_automaton.specs.declared.way.Stop.{Stop}
@@ -26,7 +26,7 @@ use Rattle.place_automaton.proofs.FineLaws.{Within, SomeByte, IsFine, HasClasses
 use Rattle.marked_automaton.proofs.Permuted.{IsPlaced}
 use Rattle.marked_automaton.proofs.Rearranged.{below_some, with_these}
 use Rattle.place_automaton.proofs.LeanLaws.{IsElsewhere, thin_append, thin_same, thin_widen}
-use Rattle.spanner_model.proofs.HasLaws.{place_of-Has, Has-append_left, Has-append_right, Has-append_cases, Has-map_cases}
+use Rattle.span_core.proofs.HasLaws.{place_of-Has, Has-append_left, Has-append_right, Has-append_cases, Has-map_cases}
 use Rattle.place_automaton.proofs.MarkBits.{below_power, bit_below}
 use Rattle.place_automaton.proofs.WholeLaws.{whole_law}
 

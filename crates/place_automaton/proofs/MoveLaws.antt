@@ -9,8 +9,8 @@ use Rattle.marked_automaton.specs.declared.way.Way.{Way}
 use Rattle.marked_automaton.specs.declared.way.Stop.{Stop}
 use Rattle.place_automaton.specs.declared.piece.Entry.{Entry}
 use Rattle.place_automaton.specs.Ends.{Ends, ends_of}
-use Rattle.spanner_model.specs.Lists.{Has}
-use Rattle.spanner_model.proofs.HasLaws.{Has-map}
+use Rattle.span_core.specs.Lists.{Has}
+use Rattle.span_core.proofs.HasLaws.{Has-map}
 use Rattle.place_automaton.specs.Lean.{AreLean}
 use Rattle.place_automaton.specs.Moves.{entry_moved, stop_moved, way_moved, places_moved, LieBelow}
 use Rattle.place_automaton.specs.Places.{Places, Placed, way_into, ways_between, entry_with, stop_with, cat_places, alt_places, opt_places, plus_places, cap_places, cat_placed, alt_placed, opt_placed, plus_placed, copies_then, at_most, repeated, placed}

@@ -1,6 +1,6 @@
 -- The classes of parts that are well built.
 use Rattle.std.proofs.Common.{List, [], ◌∷◌, inl, inr, refl}
-use Rattle.spanner_model.specs.Lists.{Has}
+use Rattle.span_core.specs.Lists.{Has}
 use Rattle.spanner_model.specs.Tree.{Tree, cat_all}
 use Rattle.spanner_model.specs.WellBuilt.{IsWellBuilt}
 use Rattle.place_automaton.proofs.FineLaws.{HasClasses, built_classes}

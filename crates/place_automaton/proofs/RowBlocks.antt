@@ -6,7 +6,7 @@ use Rattle.std.proofs.lemmas.List.{length-map}
 use Rattle.std.proofs.lemmas.Slice.Eq.{bytes_eq-Decides}
 use Rattle.spanner_model.specs.Captures.{VarName, Captures, Captured, AreApart, span_of, row_of}
 use Rattle.spanner_model.specs.Fit.{Piece, Times, Fit}
-use Rattle.spanner_model.specs.Lists.{Has, AreDistinct}
+use Rattle.span_core.specs.Lists.{Has, AreDistinct}
 use Rattle.span_core.specs.Block.{opening_bit, closing_bit, marker, markers, markers_from, block}
 use Rattle.spanner_model.specs.Tree.{Tree, empty, one, cat_end, cat, alt_end, alt, rep, cap}
 use Rattle.span_core.specs.declared.span.Span.{Span}

@@ -6,7 +6,7 @@ use Rattle.std.proofs.lemmas.Bool.{eqb-true}
 use Rattle.span_core.specs.declared.span.Span.{Span}
 use Rattle.spanner_model.specs.Captures.{VarName, Captures, Captured, AreApart}
 use Rattle.spanner_model.specs.Fit.{Piece, Then, Nothing, Times, Fit}
-use Rattle.spanner_model.specs.Lists.{Has}
+use Rattle.span_core.specs.Lists.{Has}
 use Rattle.spanner_model.specs.Tree.{one}
 use Rattle.marked_automaton.specs.declared.way.Stop.{Stop}
 use Rattle.marked_automaton.specs.Automaton.{ByteClass, ReadsByte}
@@ -14,7 +14,7 @@ use Rattle.place_automaton.specs.declared.piece.Entry.{Entry}
 use Rattle.place_automaton.specs.Places.{Places, add_once, either_once, sums, nothing_placed, never_placed, one_placed, cat_places, alt_places, opt_places, plus_places, cap_places}
 use Rattle.place_automaton.specs.Reads.{Reads, Shown, blocks}
 use Rattle.place_automaton.proofs.Blocks.{bit_here, bit_apart, cap_block, compared, blocks_append, IsEmptyOutside, DoesNotEndBefore}
-use Rattle.spanner_model.proofs.HasLaws.{Has-map, Has-map_cases}
+use Rattle.span_core.proofs.HasLaws.{Has-map, Has-map_cases}
 use Rattle.marked_automaton.proofs.Passing.{has_flat_map, flat_map_cases}
 use Rattle.place_automaton.proofs.PlaceReads.{reads_same, reads_after_null, reads_before_null, reads_across, reads_of_cat, reads_once, reads_again, reads_of_plus, reads_in_cap, reads_of_cap, reads_in_left, reads_in_right, reads_of_alt}
 use Rattle.place_automaton.proofs.Ranges.{LiesFrom}

@@ -3,12 +3,12 @@ use Rattle.std.proofs.Common.{◌≡◌, ℕ, zero, suc, ◌+◌, Bool, true, fa
 use Rattle.std.specs.Prelude.{bit_or, ◌==◌, if◌then◌else◌}
 use Rattle.std.specs.List.{flat_map}
 use Rattle.std.specs.Int.Bits.{or_zero_l}
-use Rattle.spanner_model.specs.Lists.{Has}
+use Rattle.span_core.specs.Lists.{Has}
 use Rattle.marked_automaton.specs.declared.way.Stop.{Stop}
 use Rattle.place_automaton.specs.declared.piece.Entry.{Entry}
 use Rattle.place_automaton.specs.Ends.{Ends, ends_of, JoinAsSums, IsUnmarked, cat_ends, opt_ends, row_ends, RowJoins, again_ends, nothing_ends}
 use Rattle.place_automaton.specs.Places.{Placed, entry_with, stop_with}
-use Rattle.spanner_model.proofs.HasLaws.{Has-append_cases}
+use Rattle.span_core.proofs.HasLaws.{Has-append_cases}
 use Rattle.place_automaton.proofs.Ranges.{entries_of, stops_of}
 use Rattle.place_automaton.proofs.Rows.{copies}
 use Rattle.place_automaton.proofs.Shows.{sums_cases, once_cases}

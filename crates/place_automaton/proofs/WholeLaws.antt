@@ -1,14 +1,14 @@
 -- The automaton of an atom has no way, end or idle state but of its own states.
 use Rattle.std.proofs.Common.{◌≡◌, ℕ, suc, ◌+◌, ◌<◌, List, [], ◌∷◌, ◌++◌, Bool, true, false, inl, inr, refl, ap, arith}
 use Rattle.std.specs.Prelude.{map, if◌then◌else◌}
-use Rattle.spanner_model.specs.Lists.{Has}
+use Rattle.span_core.specs.Lists.{Has}
 use Rattle.marked_automaton.specs.declared.way.Way.{Way}
 use Rattle.marked_automaton.specs.declared.way.Stop.{Stop}
 use Rattle.marked_automaton.specs.Automaton.{IsWhole, idle_way}
 use Rattle.place_automaton.specs.Places.{Places, placed}
 use Rattle.place_automaton.specs.Atom.{way_from_first, way_after, stop_before, unless, place_stops, after_ways, automaton_of_places}
 use Rattle.place_automaton.specs.Words.{WholeLaw, opening_of, closing_of}
-use Rattle.spanner_model.proofs.HasLaws.{Has-append_cases, Has-map_cases}
+use Rattle.span_core.proofs.HasLaws.{Has-append_cases, Has-map_cases}
 use Rattle.place_automaton.proofs.Ranges.{LiesFrom, places_lie}
 
 unless_cases : {X : Type 0} (b : Bool) (xs : List X) (x : X) → Has (unless b xs) x → (b ≡ false) × Has xs x

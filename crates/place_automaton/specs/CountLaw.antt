@@ -3,7 +3,7 @@ use Rattle.std.specs.Prelude.{◌≡◌, Bool, List, length}
 use Rattle.spanner_model.specs.Captures.{VarName}
 use Rattle.spanner_model.specs.Functional.{HasVar, IsFunctional}
 use Rattle.place_automaton.specs.Sequential.{HasOrderedRepeats}
-use Rattle.spanner_model.specs.Lists.{Has, AreDistinct}
+use Rattle.span_core.specs.Lists.{Has, AreDistinct}
 use Rattle.spanner_model.specs.Tree.{Tree}
 use Rattle.place_automaton.specs.Counts.{count_states, count_ways}
 use Rattle.place_automaton.specs.Words.{atom_automaton}

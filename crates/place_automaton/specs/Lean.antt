@@ -3,7 +3,7 @@
 --   already, as that of a star in a star has, they need not be made twice (Brueggemann-Klein, "Regular
 --   expressions into finite automata", 1993).
 use Rattle.std.specs.Prelude.{◌≡◌, ◌⊎◌, Bool, List, [], ◌∷◌, IsTrue}
-use Rattle.spanner_model.specs.Lists.{Has}
+use Rattle.span_core.specs.Lists.{Has}
 use Rattle.marked_automaton.specs.declared.way.Way.{Way}
 use Rattle.place_automaton.specs.Places.{Places, ways_between}
 

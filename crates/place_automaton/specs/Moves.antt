@@ -1,6 +1,6 @@
 -- Parts whose places get other numbers.
 use Rattle.std.specs.Prelude.{ℕ, ◌+◌, ◌<◌, List, map}
-use Rattle.spanner_model.specs.Lists.{Has}
+use Rattle.span_core.specs.Lists.{Has}
 use Rattle.marked_automaton.specs.declared.way.Way.{Way}
 use Rattle.marked_automaton.specs.declared.way.Stop.{Stop}
 use Rattle.place_automaton.specs.declared.piece.Entry.{Entry}

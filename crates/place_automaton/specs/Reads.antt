@@ -1,7 +1,7 @@
 -- What the places of a formula read.
 use Rattle.std.specs.Prelude.{◌≡◌, ℕ, suc, ◌+◌, ◌⊎◌, List, [], ◌∷◌, if◌then◌else◌, nat_eq}
 use Rattle.spanner_model.specs.Captures.{VarName, Captures}
-use Rattle.spanner_model.specs.Lists.{Has}
+use Rattle.span_core.specs.Lists.{Has}
 use Rattle.marked_automaton.specs.declared.way.Stop.{Stop}
 use Rattle.marked_automaton.specs.Automaton.{ReadsByte, Walk}
 use Rattle.place_automaton.specs.declared.piece.Entry.{Entry}

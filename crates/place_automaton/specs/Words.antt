@@ -5,7 +5,7 @@ use Rattle.spanner_model.specs.Answer.{FitsSomewhere}
 use Rattle.spanner_model.specs.Captures.{VarName, Mapping, row_of}
 use Rattle.spanner_model.specs.Functional.{HasVar}
 use Rattle.place_automaton.specs.Sequential.{HasOrderedRepeats}
-use Rattle.spanner_model.specs.Lists.{Has, AreDistinct}
+use Rattle.span_core.specs.Lists.{Has, AreDistinct}
 use Rattle.span_core.specs.Block.{block}
 use Rattle.spanner_model.specs.Answers.{SpanRow}
 use Rattle.spanner_model.specs.Tree.{Tree}

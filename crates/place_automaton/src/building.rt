@@ -4,7 +4,7 @@ ghost use Rattle.span_core.specs.declared.TheConstants.{MOST_VARIABLES};
 ghost use Rattle.span_core.specs.NameSets.{Ascending};
 ghost use Rattle.spanner_model.specs.Captures.{VarName};
 ghost use Rattle.spanner_model.specs.Functional.{HasVar, IsFunctional};
-ghost use Rattle.spanner_model.specs.Lists.{Has, AreDistinct, AtMost};
+ghost use Rattle.span_core.specs.Lists.{Has, AreDistinct, AtMost};
 ghost use Rattle.spanner_model.specs.View.{tree_of};
 ghost use Rattle.spanner_model.specs.WellBuilt.{IsWellBuilt};
 ghost use Rattle.marked_automaton.specs.declared.TheConstants.{MOST_STATES, MOST_WAYS};

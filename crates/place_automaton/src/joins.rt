@@ -1,7 +1,7 @@
 //! Entries, ends and ways of parts that are put together.
 ghost use Rattle.std.specs.Prelude.{◌≡◌, ℕ, ◌++◌, map, IfOk, OnOk};
 ghost use Rattle.std.specs.List.{flat_map};
-ghost use Rattle.spanner_model.specs.Lists.{Has};
+ghost use Rattle.span_core.specs.Lists.{Has};
 ghost use Rattle.marked_automaton.specs.declared.way.Stop.{Stop};
 ghost use Rattle.place_automaton.specs.declared.piece.Entry.{Entry};
 ghost use Rattle.place_automaton.specs.Ends.{null_of, JoinAsSum};

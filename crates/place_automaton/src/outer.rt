@@ -1,6 +1,6 @@
 //! The ways and the ends of an atom's automaton that are not between places.
 ghost use Rattle.std.specs.Prelude.{◌≡◌, ℕ, ◌<◌, ◌↔◌, ◌⊎◌, [], ◌∷◌, ◌++◌, length, map, false, OnOk};
-ghost use Rattle.spanner_model.specs.Lists.{Has};
+ghost use Rattle.span_core.specs.Lists.{Has};
 ghost use Rattle.marked_automaton.specs.declared.way.Stop.{Stop};
 ghost use Rattle.marked_automaton.specs.Automaton.{HasGraphOf, IsBlockOf, idle_way};
 ghost use Rattle.place_automaton.specs.Atom.{stop_before, unless, way_after, way_from_first};

@@ -1,6 +1,6 @@
 //! Parts of a formula whose places are numbered.
 ghost use Rattle.std.specs.Prelude.{◌≡◌, ℕ, ◌+◌, List, [], ◌∷◌, ◌++◌, ◌<◌, ◌≤◌, length, map, IfOk, OnOk, IsTrue, if◌then◌else◌};
-ghost use Rattle.spanner_model.specs.Lists.{Has};
+ghost use Rattle.span_core.specs.Lists.{Has};
 ghost use Rattle.place_automaton.specs.Ends.{CanCapture, nothing_ends, never_ends, one_ends, cat_ends, alt_ends, opt_ends, cap_ends, JoinAsSums, IsUnmarked, Ends, RowJoins, again_ends, row_ends, row_ways};
 ghost use Rattle.marked_automaton.specs.declared.way.Stop.{Stop};
 ghost use Rattle.marked_automaton.specs.Automaton.{IsBlockOf};

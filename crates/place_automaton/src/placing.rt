@@ -2,7 +2,7 @@
 ghost use Rattle.std.specs.Prelude.{◌≡◌, ◌↔◌, ◌+◌, ◌-◌, ◌<◌, ◌≤◌, ◌⊎◌, true, Bool, IfOk, IsTrue, List, None, length, take, drop};
 ghost use Rattle.spanner_model.specs.Captures.{VarName};
 ghost use Rattle.spanner_model.specs.Functional.{HasVar, IsFunctional};
-ghost use Rattle.spanner_model.specs.Lists.{Has, AreDistinct};
+ghost use Rattle.span_core.specs.Lists.{Has, AreDistinct};
 ghost use Rattle.spanner_model.specs.Tree.{Tree, one, rep, cat_all, alt_all};
 ghost use Rattle.spanner_model.specs.View.{tree_of, trees_of};
 ghost use Rattle.spanner_model.specs.WellBuilt.{IsWellBuilt};

@@ -3,13 +3,13 @@ use Rattle.std.proofs.Common.{◌≡◌, ℕ, ◌≤◌, ◌⊎◌, List, [], �
 use Rattle.std.specs.Prelude.{slice_get}
 use Rattle.span_core.specs.declared.span.Span.{Span}
 use Rattle.span_core.specs.OrderLaws.{span_eq}
-use Rattle.spanner_model.specs.Lists.{Has}
+use Rattle.span_core.specs.Lists.{Has}
 use Rattle.spanner_model.specs.Captures.{VarName, Captures, AreApart}
 use Rattle.spanner_model.specs.Tree.{Tree, cap, cat_all, alt_all}
 use Rattle.spanner_model.specs.Fit.{Piece, Then, Nothing, Fit}
 use Rattle.spanner_model.specs.Functional.{HasVar, IsFunctional}
 use Rattle.spanner_model.proofs.FitLaws.{fit_only_vars, fit_le, fit_within}
-use Rattle.spanner_model.proofs.HasLaws.{Has-append_left, Has-append_right, Has-append_cases}
+use Rattle.span_core.proofs.HasLaws.{Has-append_left, Has-append_right, Has-append_cases}
 use Rattle.plain_spanner.specs.Listed.{Tells, FromSome, EndAndCaptures, CapturesAndEnds, HasFit, Continued, AreWithin, LeadsOn, CapturedTo, CapturedAt, CapturedFrom}
 use Rattle.plain_spanner.proofs.PartLists.{append_nil, arm_of, of_arm, parts_apart}
 

@@ -11,12 +11,12 @@ use Rattle.std.proofs.lemmas.Bool.{cases_lt, false≢true}
 use Rattle.span_core.specs.declared.span.Span.{Span}
 use Rattle.span_core.specs.declared.TheConstants.{MOST_VARIABLES}
 use Rattle.span_core.specs.NameSets.{Ascending, with_name}
-use Rattle.spanner_model.specs.Lists.{Has}
+use Rattle.span_core.specs.Lists.{Has}
 use Rattle.spanner_model.specs.Captures.{VarName, Mapping, row_of, mapping_of}
 use Rattle.spanner_model.specs.Answers.{SpanRow}
 use Rattle.spanner_model.specs.Answer.{IsRestriction}
 use Rattle.spanner_model.specs.Gathered.{Adds, HaveRoom}
-use Rattle.spanner_model.proofs.HasLaws.{Has-append_cases, Has-append_left, Has-append_right, place_of-Has, Has-slice_get, Has-take, Contains-Has}
+use Rattle.span_core.proofs.HasLaws.{Has-append_cases, Has-append_left, Has-append_right, place_of-Has, Has-slice_get, Has-take, Contains-Has}
 use Rattle.spanner_model.proofs.TreeLaws.{take_at_more}
 use Rattle.spanner_model.proofs.GatheredLaws.{gathered_name, gathered_all}
 use Rattle.spanner_model.proofs.CapturesLaws.{row_same_on}

@@ -7,7 +7,7 @@ use Rattle.std.proofs.lemmas.Bool.Decides.{nat_tests}
 use Rattle.std.proofs.lemmas.Option.{slice_get_within}
 use Rattle.span_core.specs.NameSets.{Ascending}
 use Rattle.span_core.proofs.NameSetLaws.{none_are_variables}
-use Rattle.spanner_model.specs.Lists.{Has}
+use Rattle.span_core.specs.Lists.{Has}
 use Rattle.spanner_model.specs.Captures.{VarName, Mapping}
 use Rattle.spanner_model.specs.Expression.{ExprTree, QueryTree, join_all}
 use Rattle.spanner_model.specs.Answer.{VarOf, IsRestriction, Answer, vars_of_lets, answers_of_lets}
@@ -22,7 +22,7 @@ use Rattle.spanner_model.specs.Sound.{IsSoundExpr, IsSound}
 use Rattle.spanner_model.specs.Answers.{SpanRow, AreInBlockOrder, AreResultNames, AreAnswers}
 use Rattle.spanner_model.proofs.NameLaws.{same_names}
 use Rattle.spanner_model.specs.Gathered.{Adds}
-use Rattle.spanner_model.proofs.HasLaws.{Has-append_cases, Has-append_left, Has-append_right}
+use Rattle.span_core.proofs.HasLaws.{Has-append_cases, Has-append_left, Has-append_right}
 use Rattle.spanner_model.proofs.TreeLaws.{take_at_more}
 use Rattle.spanner_model.proofs.AnswerLaws.{answer_absent, lets_absent}
 use Rattle.spanner_model.proofs.ExprLaws.{join_part_var, let_named, slice_get_push}

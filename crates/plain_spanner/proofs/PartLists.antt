@@ -2,13 +2,13 @@
 use Rattle.std.proofs.Common.{◌≡◌, ℕ, zero, suc, ◌+◌, List, [], ◌∷◌, ◌++◌, take, drop, Some, inl, inr, refl, sym, ap, ◌∙◌, subst, append_assoc}
 use Rattle.std.specs.Prelude.{slice_get}
 use Rattle.std.proofs.lemmas.List.{take-append-drop}
-use Rattle.spanner_model.specs.Lists.{Has}
+use Rattle.span_core.specs.Lists.{Has}
 use Rattle.spanner_model.specs.Captures.{Captures, AreApart}
 use Rattle.spanner_model.specs.Tree.{Tree, cat_all, alt_all}
 use Rattle.spanner_model.specs.Fit.{Then, Fit}
 use Rattle.spanner_model.specs.Functional.{HaveApartVars, IsFunctional}
 use Rattle.spanner_model.proofs.CapturesLaws.{Captured-append_left, Captured-append_right, Captured-append_cases}
-use Rattle.spanner_model.proofs.HasLaws.{Has-slice_get}
+use Rattle.span_core.proofs.HasLaws.{Has-slice_get}
 use Rattle.spanner_model.proofs.TreeLaws.{take_at_more, part_has}
 
 pub append_nil : {X : Type 0} (xs : List X) → xs ++ [] ≡ xs

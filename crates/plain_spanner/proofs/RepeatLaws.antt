@@ -4,10 +4,10 @@ use Rattle.std.specs.Option.{ForSome}
 use Rattle.std.proofs.Math.Seq.{take-length}
 use Rattle.std.proofs.lemmas.Bool.{cases_lt}
 use Rattle.std.proofs.lemmas.List.{take-append-drop}
-use Rattle.spanner_model.specs.Lists.{Has}
+use Rattle.span_core.specs.Lists.{Has}
 use Rattle.spanner_model.specs.Captures.{Captures}
 use Rattle.spanner_model.specs.Fit.{Piece, Times}
-use Rattle.spanner_model.proofs.HasLaws.{Has-append_left, Has-append_right, Has-append_cases}
+use Rattle.span_core.proofs.HasLaws.{Has-append_left, Has-append_right, Has-append_cases}
 use Rattle.plain_spanner.specs.Listed.{Tells, Begins, LeadsOn, LeadsTimes, LeadsIn}
 
 module _ (P : Piece) where

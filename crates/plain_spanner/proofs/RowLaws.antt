@@ -13,7 +13,7 @@ use Rattle.span_core.specs.ComparisonLaws.{row_cmp_is}
 use Rattle.std.proofs.lemmas.List.{length-take-le}
 use Rattle.std.proofs.lemmas.Slice.Eq.{bytes_eq-Decides}
 use Rattle.span_core.specs.declared.span.Span.{Span}
-use Rattle.spanner_model.specs.Lists.{Has, AreDistinct}
+use Rattle.span_core.specs.Lists.{Has, AreDistinct}
 use Rattle.spanner_model.specs.Captures.{VarName, Captures, Mapping, span_of, row_of, mapping_of}
 use Rattle.spanner_model.specs.Answers.{SpanRow}
 use Rattle.std.specs.Bool.{OnTrue}
@@ -24,7 +24,7 @@ use Rattle.spanner_model.specs.Fit.{Fit}
 use Rattle.spanner_model.specs.Answer.{FitsSomewhere}
 use Rattle.spanner_model.proofs.CapturesLaws.{row_same, row_same_on}
 use Rattle.spanner_model.proofs.FitLaws.{fit_le, fit_within}
-use Rattle.spanner_model.proofs.HasLaws.{Has-slice_get}
+use Rattle.span_core.proofs.HasLaws.{Has-slice_get}
 use Rattle.spanner_model.proofs.TreeLaws.{take_at_more}
 use Rattle.plain_spanner.specs.Listed.{Tells, FromSome, CapturesAndEnds, HasFit, Continued}
 use Rattle.plain_spanner.specs.Tables.{kept_row, IsRowOf, IsRowOfFits}

@@ -1,7 +1,7 @@
 //! Where fits of formulas without variables end.
 ghost use Rattle.std.specs.Prelude.{◌≡◌, ◌↔◌, ◌⊎◌, ℕ, ◌+◌, ◌<◌, ◌≤◌, [], ◌∷◌, ◌++◌, length, drop, take, map, IfOk, OnOk, IsTrue};
 ghost use Rattle.std.specs.Option.{ForSome};
-ghost use Rattle.spanner_model.specs.Lists.{Has};
+ghost use Rattle.span_core.specs.Lists.{Has};
 ghost use Rattle.spanner_model.specs.View.{tree_of, trees_of};
 ghost use Rattle.spanner_model.specs.Tree.{Tree, one, rep, cat_all, alt_all};
 ghost use Rattle.spanner_model.specs.Fit.{Fit};

@@ -4,7 +4,7 @@ ghost use Rattle.std.specs.Option.{IsSomeAnd};
 ghost use Rattle.std.specs.BTreeMap.{get};
 ghost use Rattle.span_core.specs.Comparison.{row_cmp};
 ghost use Rattle.span_core.specs.NameSets.{Ascending};
-ghost use Rattle.spanner_model.specs.Lists.{Has};
+ghost use Rattle.span_core.specs.Lists.{Has};
 ghost use Rattle.spanner_model.specs.Captures.{VarName};
 ghost use Rattle.spanner_model.specs.Captures.{row_of};
 ghost use Rattle.spanner_model.specs.Answers.{SpanRow};

@@ -1,7 +1,7 @@
 //! A list put in order, with each value once.
 ghost use Rattle.std.specs.Prelude.{◌≡◌, true};
 ghost use Rattle.std.specs.List.Sorted.{IsStrictlySortedBy};
-ghost use Rattle.spanner_model.specs.Lists.{Has};
+ghost use Rattle.span_core.specs.Lists.{Has};
 
 /// Puts the values in order, and keeps each once. Takes no memory.
 pub fn sort_once<T: Ord + Drop>(values: &mut Vec<T>)

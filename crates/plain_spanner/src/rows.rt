@@ -1,6 +1,6 @@
 //! All answers of an atom.
 ghost use Rattle.std.specs.Prelude.{◌≡◌, ◌↔◌, ◌⊎◌, ℕ, ◌<◌, ◌≤◌, List, [], length, IfOk, OnOk, IsTrue};
-ghost use Rattle.spanner_model.specs.Lists.{Has};
+ghost use Rattle.span_core.specs.Lists.{Has};
 ghost use Rattle.spanner_model.specs.View.{tree_of};
 ghost use Rattle.spanner_model.specs.Captures.{VarName, Captured, span_of, row_of};
 ghost use Rattle.spanner_model.specs.Functional.{HasVar, IsFunctional};

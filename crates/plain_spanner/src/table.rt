@@ -1,7 +1,7 @@
 //! Tables of answers.
 ghost use Rattle.std.specs.Prelude.{◌≡◌, ◌≤◌, ℕ, List, [], ◌∷◌, length, IfOk, IfNone};
 ghost use Rattle.span_core.specs.NameSets.{Ascending};
-ghost use Rattle.spanner_model.specs.Lists.{Has};
+ghost use Rattle.span_core.specs.Lists.{Has};
 ghost use Rattle.spanner_model.specs.Captures.{VarName, mapping_of};
 ghost use Rattle.spanner_model.specs.Answers.{SpanRow};
 ghost use Rattle.plain_spanner.specs.Listed.{Tells, FromSome};

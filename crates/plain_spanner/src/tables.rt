@@ -1,6 +1,6 @@
 //! All answers of an expression.
 ghost use Rattle.std.specs.Prelude.{◌≡◌, ◌≤◌, ℕ, List, length, IfOk};
-ghost use Rattle.spanner_model.specs.Lists.{Has};
+ghost use Rattle.span_core.specs.Lists.{Has};
 ghost use Rattle.spanner_model.specs.Captures.{VarName};
 ghost use Rattle.spanner_model.specs.Expression.{ExprTree, union_all, join_all};
 ghost use Rattle.spanner_model.specs.ExprView.{expr_of, exprs_of, query_of};

@@ -4,13 +4,13 @@ use Rattle.std.specs.Prelude.{slice_get}
 use Rattle.std.specs.Option.{MatchOption, IfSome, IfNone}
 use Rattle.std.specs.Result.{IsErrAnd}
 use Rattle.std.proofs.lemmas.List.{take_all}
-use Rattle.spanner_model.specs.Lists.{Has}
+use Rattle.span_core.specs.Lists.{Has}
 use Rattle.spanner_model.specs.Gathered.{Adds}
 use Rattle.spanner_model.specs.Expression.{ExprTree, union_end, union_all, join_all}
 use Rattle.spanner_model.specs.Captures.{VarName}
 use Rattle.spanner_model.specs.Answer.{VarOf}
 use Rattle.spanner_model.specs.Sound.{AgreesWithParts}
-use Rattle.spanner_model.proofs.HasLaws.{Has-append_cases, Has-slice_get}
+use Rattle.span_core.proofs.HasLaws.{Has-append_cases, Has-slice_get}
 use Rattle.spanner_model.proofs.TreeLaws.{take_at_more}
 use Rattle.spanner_model.proofs.ExprLaws.{join_part_var, join_var_part, union_vars}
 use Rattle.spanner_model.proofs.GatheredLaws.{exprs_in_turn, gathered_next, gathered_same}

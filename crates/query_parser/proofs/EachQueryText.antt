@@ -7,7 +7,7 @@ use Rattle.std.proofs.lemmas.List.Elements.{All-get_or}
 use Rattle.std.proofs.lemmas.List.Sums.{take_while-cons}
 use Rattle.span_core.specs.declared.TheConstants.{MOST_VARIABLES}
 use Rattle.span_core.specs.Names.{is_name_byte}
-use Rattle.spanner_model.specs.Lists.{AtMost}
+use Rattle.span_core.specs.Lists.{AtMost}
 use Rattle.spanner_model.specs.Sound.{NameOf}
 use Rattle.spanner_model.specs.Expression.{QueryTree, atom}
 use Rattle.spanner_model.proofs.Deciding.{Told}

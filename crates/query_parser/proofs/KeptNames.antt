@@ -7,7 +7,7 @@ use Rattle.std.specs.Cmp.Lexicographic.{nat_list_cmp_total}
 use Rattle.std.specs.declared.cmp.Ordering.TheVariants.{Less, Greater}
 use Rattle.span_core.specs.NameSets.{name_cmp, by_order, with_name, Ascending}
 use Rattle.spanner_model.specs.Captures.{VarName}
-use Rattle.spanner_model.specs.Lists.{Has}
+use Rattle.span_core.specs.Lists.{Has}
 use Rattle.spanner_model.proofs.NameLaws.{below_all}
 use Rattle.query_parser.specs.Spells.{with_names}
 use Rattle.query_parser.proofs.Lists.{has_last}

@@ -10,8 +10,8 @@ use Rattle.std.proofs.lemmas.Bool.Decides.{nat_tests}
 use Rattle.span_core.specs.declared.TheConstants.{MOST_VARIABLES}
 use Rattle.span_core.specs.NameSets.{name_cmp, by_order, with_name, Ascending}
 use Rattle.span_core.proofs.NameSetLaws.{there_is, with_ascends}
-use Rattle.spanner_model.specs.Lists.{Has, AreDistinct}
-use Rattle.spanner_model.proofs.HasLaws.{Has-Contains, Contains-Has}
+use Rattle.span_core.specs.Lists.{Has, AreDistinct}
+use Rattle.span_core.proofs.HasLaws.{Has-Contains, Contains-Has}
 use Rattle.spanner_model.specs.Captures.{VarName}
 use Rattle.query_parser.specs.Reads.{is_among, finds_room}
 use Rattle.query_parser.specs.Spells.{with_names}

@@ -6,7 +6,7 @@ use Rattle.span_core.specs.declared.TheConstants.{MOST_VARIABLES}
 use Rattle.span_core.specs.Names.{is_name_byte}
 use Rattle.span_core.specs.NameSets.{AreVariables}
 use Rattle.spanner_model.specs.Captures.{VarName}
-use Rattle.spanner_model.specs.Lists.{Has}
+use Rattle.span_core.specs.Lists.{Has}
 use Rattle.spanner_model.specs.Sound.{IsFreeName}
 use Rattle.spanner_model.specs.Expression.{ExprTree, atom, named, union_end, union, join_end, join, project, union_all, join_all}
 use Rattle.spanner_model.specs.WellBuilt.{IsWellBuilt}

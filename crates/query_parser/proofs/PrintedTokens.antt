@@ -8,7 +8,7 @@ use Rattle.std.proofs.lemmas.Bool.{and_parts}
 use Rattle.span_core.specs.declared.TheConstants.{MOST_NAME_BYTES}
 use Rattle.span_core.specs.Names.{is_name, is_name_start, is_name_byte}
 use Rattle.spanner_model.specs.Captures.{VarName}
-use Rattle.spanner_model.specs.Lists.{Has}
+use Rattle.span_core.specs.Lists.{Has}
 use Rattle.spanner_model.specs.Sound.{words, IsFreeName}
 use Rattle.spanner_model.specs.WellBuilt.{IsWellBuilt}
 use Rattle.formula_parser.specs.Names.{is_word}

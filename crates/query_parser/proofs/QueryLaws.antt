@@ -3,7 +3,7 @@ use Rattle.std.proofs.Common.{◌≡◌, inl, inr, ℕ, Bool, true, false, nat_l
 use Rattle.std.specs.Option.{IsSomeAnd}
 use Rattle.std.proofs.lemmas.Bool.Decides.{nat_tests}
 use Rattle.span_core.specs.declared.TheConstants.{MOST_VARIABLES}
-use Rattle.spanner_model.specs.Lists.{AtMost}
+use Rattle.span_core.specs.Lists.{AtMost}
 use Rattle.spanner_model.specs.Captures.{VarName}
 use Rattle.spanner_model.specs.Expression.{ExprTree, QueryTree}
 use Rattle.spanner_model.specs.Answer.{vars_of_lets}

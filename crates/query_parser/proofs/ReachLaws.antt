@@ -2,13 +2,13 @@
 use Rattle.std.proofs.Common.{◌≡◌, ℕ, ◌<◌, ◌↔◌, List, [], ◌∷◌, length, take, inl, inr, refl, sym, subst, arith, Some}
 use Rattle.std.specs.Prelude.{slice_get}
 use Rattle.span_core.specs.declared.TheConstants.{MOST_VARIABLES}
-use Rattle.spanner_model.specs.Lists.{Has, AtMost}
+use Rattle.span_core.specs.Lists.{Has, AtMost}
 use Rattle.spanner_model.specs.Gathered.{Adds, HaveRoom, vars_in}
 use Rattle.spanner_model.specs.Expression.{ExprTree, union_all, join_all}
 use Rattle.spanner_model.specs.Captures.{VarName}
 use Rattle.spanner_model.specs.Answer.{VarOf}
 use Rattle.spanner_model.specs.Sound.{NameIn, NameInLets}
-use Rattle.spanner_model.proofs.HasLaws.{Has-slice_get, Has-take}
+use Rattle.span_core.proofs.HasLaws.{Has-slice_get, Has-take}
 use Rattle.spanner_model.proofs.ExprLaws.{join_var_part, join_named, var_named}
 use Rattle.spanner_model.proofs.GatheredLaws.{NamesInTurn}
 use Rattle.functional_check.proofs.LeastLaws.{at_most_less}

@@ -21,7 +21,7 @@ use Rattle.query_parser.specs.Formed.{IsFormedQuery, PassesQuery}
 use Rattle.query_parser.proofs.SoundQuery.{query_formed, sound_query}
 use Rattle.formula_parser.proofs.BuiltLaws.{IsText}
 use Rattle.span_core.specs.declared.TheConstants.{MOST_VARIABLES}
-use Rattle.spanner_model.specs.Lists.{AtMost}
+use Rattle.span_core.specs.Lists.{AtMost}
 use Rattle.spanner_model.specs.Sound.{IsSound, NameOf}
 use Rattle.query_parser.proofs.TextLaws.{Answer, ends_spelled}
 use Rattle.query_parser.specs.declared.TheConstants.{MOST_TEXT_BYTES}

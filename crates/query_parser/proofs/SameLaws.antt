@@ -1,6 +1,6 @@
 -- Passing and faults do not depend on how the variables of lets are given.
 use Rattle.std.proofs.Common.{ℕ, inl, inr, ◌↔◌}
-use Rattle.spanner_model.specs.Lists.{Has}
+use Rattle.span_core.specs.Lists.{Has}
 use Rattle.spanner_model.specs.Captures.{VarName}
 use Rattle.spanner_model.specs.Expression.{ExprTree, atom, named, union_end, union, join_end, join, project}
 use Rattle.spanner_model.specs.Answer.{VarOf}

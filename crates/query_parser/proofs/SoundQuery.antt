@@ -1,7 +1,7 @@
 -- A query that a text of bytes spells is sound where it passes the checks.
 use Rattle.std.proofs.Common.{◌≡◌, ℕ, suc, ◌≤◌, Bool, true, false, List, [], ◌∷◌, length, Some, slice_get, refl, sym, subst, inl, inr}
 use Rattle.span_core.specs.declared.TheConstants.{MOST_VARIABLES}
-use Rattle.spanner_model.specs.Lists.{Has, AtMost}
+use Rattle.span_core.specs.Lists.{Has, AtMost}
 use Rattle.spanner_model.specs.Captures.{VarName}
 use Rattle.spanner_model.specs.Expression.{ExprTree, QueryTree}
 use Rattle.spanner_model.specs.Answer.{vars_of_lets}

@@ -6,9 +6,9 @@ use Rattle.span_core.specs.declared.TheConstants.{MOST_VARIABLES}
 use Rattle.span_core.specs.NameSets.{name_cmp, with_name, Ascending}
 use Rattle.span_core.proofs.NameSetLaws.{with_ascends, none_are_variables}
 use Rattle.spanner_model.specs.Captures.{VarName}
-use Rattle.spanner_model.specs.Lists.{Has, AtMost}
+use Rattle.span_core.specs.Lists.{Has, AtMost}
 use Rattle.spanner_model.proofs.Deciding.{Told}
-use Rattle.spanner_model.proofs.HasLaws.{distinct-le}
+use Rattle.span_core.proofs.HasLaws.{distinct-le}
 use Rattle.spanner_model.proofs.NameLaws.{with_cases, with_here, with_there, not_below_itself, ascending-distinct}
 use Rattle.functional_check.specs.Faults.{IsLeast, IsLeastOf, InExactlyOne}
 use Rattle.functional_check.specs.Names.{smaller_of}

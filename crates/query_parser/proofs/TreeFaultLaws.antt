@@ -1,6 +1,6 @@
 -- An expression that passes has no fault, and one has one fault at most.
 use Rattle.std.proofs.Common.{◌≡◌, ℕ, Bool, List, ap, refl, sym, ◌∙◌, inl, inr, ◌⊎◌, ◌↔◌}
-use Rattle.spanner_model.specs.Lists.{Has}
+use Rattle.span_core.specs.Lists.{Has}
 use Rattle.spanner_model.specs.Captures.{VarName}
 use Rattle.spanner_model.specs.Tree.{Tree}
 use Rattle.functional_check.specs.declared.checking.CheckFault.{CheckFault}

@@ -1,7 +1,7 @@
 -- The fault of a text that is no sound query.
 use Rattle.std.specs.Prelude.{◌≡◌, ℕ, ◌<◌, ◌≤◌, true, false, List, [], ◌∷◌, length, drop, Err}
 use Rattle.span_core.specs.declared.TheConstants.{MOST_VARIABLES}
-use Rattle.spanner_model.specs.Lists.{AtMost}
+use Rattle.span_core.specs.Lists.{AtMost}
 use Rattle.spanner_model.specs.Expression.{QueryTree}
 use Rattle.spanner_model.specs.Sound.{NameOf, IsSound}
 use Rattle.formula_parser.specs.declared.fault.FormulaFault.{FormulaFault}

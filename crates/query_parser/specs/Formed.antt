@@ -1,7 +1,7 @@
 -- What a query of the grammar has of a sound one: all but what the checks over the tree find.
 use Rattle.std.specs.Prelude.{◌≡◌, ℕ, ◌<◌, List, length, slice_get, Result, MatchResult, ◌⊎◌, ◌↔◌}
 use Rattle.std.specs.Option.{ForSome}
-use Rattle.spanner_model.specs.Lists.{Has}
+use Rattle.span_core.specs.Lists.{Has}
 use Rattle.spanner_model.specs.Captures.{VarName}
 use Rattle.spanner_model.specs.WellBuilt.{IsWellBuilt}
 use Rattle.spanner_model.specs.Expression.{ExprTree, QueryTree, atom, named, union_end, union, join_end, join, project}

@@ -1,7 +1,7 @@
 //! Checks the expressions of a query.
 ghost use Rattle.std.specs.Prelude.{◌≡◌, ℕ, ◌<◌, ◌↔◌, List, length, IsTrue, IfSome, IfNone, Some, OnOk, IfErr, ◌⊎◌};
 ghost use Rattle.span_core.specs.declared.TheConstants.{MOST_VARIABLES};
-ghost use Rattle.spanner_model.specs.Lists.{Has, AtMost};
+ghost use Rattle.span_core.specs.Lists.{Has, AtMost};
 ghost use Rattle.spanner_model.specs.Expression.{ExprTree, union_all, join_all};
 ghost use Rattle.spanner_model.specs.ExprView.{expr_of, exprs_of, query_of};
 ghost use Rattle.spanner_model.specs.Sound.{NameIn, NameOf};

@@ -1,7 +1,7 @@
 //! Prints queries.
 ghost use Rattle.std.specs.Prelude.{◌≡◌, ◌++◌, ◌∷◌, [], ◌<◌, ◌≤◌, length, slice_get, unwrap_or, OnOk, OnErr, if◌then◌else◌};
 ghost use Rattle.span_core.specs.NameSets.{AreVariables};
-ghost use Rattle.spanner_model.specs.Lists.{Has};
+ghost use Rattle.span_core.specs.Lists.{Has};
 ghost use Rattle.spanner_model.specs.Expression.{ExprTree, union_all, join_all, project};
 ghost use Rattle.spanner_model.specs.ExprView.{expr_of, exprs_of, lets_of, query_of};
 ghost use Rattle.spanner_model.specs.Sound.{IsSound};

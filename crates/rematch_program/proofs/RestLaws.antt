@@ -5,11 +5,11 @@ use Rattle.std.proofs.lemmas.List.{take-append-drop, take_all}
 use Rattle.std.specs.List.{AllByRecursion}
 use Rattle.span_core.specs.Order.{StandsBefore}
 use Rattle.span_core.specs.OrderLaws.{stands_transitive}
-use Rattle.spanner_model.specs.Lists.{Has}
+use Rattle.span_core.specs.Lists.{Has}
 use Rattle.spanner_model.specs.Captures.{VarName}
 use Rattle.spanner_model.specs.Expression.{QueryTree}
 use Rattle.spanner_model.specs.Answers.{SpanRow, AreInBlockOrder, AreAnswers, IsRest}
-use Rattle.spanner_model.proofs.HasLaws.{Has-take, Has-slice_get, Has-append_right}
+use Rattle.span_core.proofs.HasLaws.{Has-take, Has-slice_get, Has-append_right}
 use Rattle.row_cursor.specs.CursorTexts.{AreParts}
 use Rattle.rematch_program.specs.Pages.{AllFit, AreAsWide, IsAfter, IsPageOf, first_rows}
 

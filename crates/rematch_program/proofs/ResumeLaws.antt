@@ -3,14 +3,14 @@ use Rattle.std.proofs.Common.{◌≡◌, ℕ, ◌≤◌, List, [], ◌∷◌, Bo
 use Rattle.span_core.specs.declared.span.Span.{Span}
 use Rattle.span_core.specs.Names.{is_name}
 use Rattle.command_line.specs.Asked.{cursor_of}
-use Rattle.spanner_model.specs.Lists.{Has}
+use Rattle.span_core.specs.Lists.{Has}
 use Rattle.spanner_model.specs.Captures.{VarName, Mapping, row_of}
 use Rattle.spanner_model.specs.Expression.{QueryTree}
 use Rattle.spanner_model.specs.Sound.{IsSound}
 use Rattle.spanner_model.specs.Answers.{SpanRow, AreResultNames, IsPage, page_end}
 use Rattle.spanner_model.proofs.AnswerLaws.{query_given}
 use Rattle.spanner_model.proofs.Ends.{EndsBy, query_ends}
-use Rattle.spanner_model.proofs.HasLaws.{Has-take}
+use Rattle.span_core.proofs.HasLaws.{Has-take}
 use Rattle.spanner_model.proofs.RowOrder.{pages_join}
 use Rattle.row_cursor.specs.CursorTexts.{cursor_text, IsKept, AreParts}
 use Rattle.rematch_program.specs.declared.TheConstants.{DOCUMENT_LIMIT}

@@ -1,7 +1,7 @@
 //! The rows of a page, among all answers.
 ghost use Rattle.std.specs.Prelude.{◌≡◌, ℕ, ◌≤◌, Some, drop, length, IsTrue};
 ghost use Rattle.span_core.specs.Order.{StandsBefore};
-ghost use Rattle.spanner_model.specs.Lists.{Has};
+ghost use Rattle.span_core.specs.Lists.{Has};
 ghost use Rattle.spanner_model.specs.Answers.{AreInBlockOrder, IsRest, SpanRow};
 ghost use Rattle.rematch_program.specs.Pages.{AreAsWide, first_rows, row_behind};
 

@@ -5,13 +5,13 @@ use Rattle.span_core.specs.declared.TheConstants.{MOST_VARIABLES}
 use Rattle.span_core.specs.NameSets.{Ascending, with_name}
 use Rattle.spanner_model.specs.Captures.{VarName}
 use Rattle.std.specs.Prelude.{slice_get}
-use Rattle.spanner_model.specs.Lists.{Has}
+use Rattle.span_core.specs.Lists.{Has}
 use Rattle.spanner_model.specs.Tree.{cat_all}
 use Rattle.spanner_model.specs.Functional.{HasVar}
 use Rattle.spanner_model.specs.Expression.{join_all}
 use Rattle.spanner_model.specs.Answer.{VarOf}
 use Rattle.spanner_model.specs.Gathered.{Adds, HaveRoom, Gathered}
-use Rattle.spanner_model.proofs.HasLaws.{distinct-le, Contains-Has, Has-slice_get, Has-take, Has-append_left, Has-append_right, Has-append_cases}
+use Rattle.span_core.proofs.HasLaws.{distinct-le, Contains-Has, Has-slice_get, Has-take, Has-append_left, Has-append_right, Has-append_cases}
 use Rattle.spanner_model.proofs.TreeLaws.{take_at_more, parts_have, part_has}
 use Rattle.spanner_model.proofs.ExprLaws.{LetVars, join_part_var, join_var_part}
 use Rattle.spanner_model.proofs.NameLaws.{ascending-distinct, with_cases, with_here, with_there}

@@ -7,7 +7,6 @@ pub mod ExprLaws
 pub mod ExprTrees
 pub mod FitLaws
 pub mod GatheredLaws
-pub mod HasLaws
 pub mod NameLaws
 pub mod NodeExprs
 pub mod NodeParts

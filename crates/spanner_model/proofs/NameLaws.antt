@@ -11,7 +11,7 @@ use Rattle.std.proofs.lemmas.Map.Lookups.{exact_bytes}
 use Rattle.std.proofs.lemmas.Slice.Eq.{bytes_eq-Decides}
 use Rattle.span_core.specs.NameSets.{name_cmp, Ascending, by_order, with_name}
 use Rattle.spanner_model.specs.Captures.{VarName}
-use Rattle.spanner_model.specs.Lists.{Has, AreDistinct}
+use Rattle.span_core.specs.Lists.{Has, AreDistinct}
 
 with_cases_by : (o : Ordering) (x y z : VarName) (names : List VarName) → name_cmp x y ≡ o → (Has (with_name x names) z → (x ≡ z) ⊎ Has names z) →
     Has (by_order o (x ∷ (y ∷ names)) (y ∷ names) (y ∷ with_name x names)) z → (x ≡ z) ⊎ Has (y ∷ names) z

@@ -6,11 +6,11 @@ use Rattle.std.proofs.lemmas.Bool.{cases_lt}
 use Rattle.std.proofs.lemmas.List.{take-append-drop}
 use Rattle.span_core.specs.Block.{block}
 use Rattle.span_core.specs.Order.{StandsBefore}
-use Rattle.spanner_model.specs.Lists.{Has, IsInOrder}
+use Rattle.span_core.specs.Lists.{Has, IsInOrder}
 use Rattle.spanner_model.specs.Captures.{VarName}
 use Rattle.spanner_model.specs.Expression.{QueryTree}
 use Rattle.spanner_model.specs.Answers.{SpanRow, AreInBlockOrder, AreAnswers, IsRest, IsPage, page_end}
-use Rattle.spanner_model.proofs.HasLaws.{Has-append_right, Has-append_cases}
+use Rattle.span_core.proofs.HasLaws.{Has-append_right, Has-append_cases}
 
 -- ---- of two rows one stands before the other at most
 

@@ -7,7 +7,7 @@ use Rattle.std.specs.FinSet as set
 use Rattle.std.specs.FinSet.{contains-empty}
 use Rattle.std.proofs.lemmas.Cmp.{tied_itself}
 use Rattle.std.proofs.lemmas.Bool.{eqb-true}
-use Rattle.spanner_model.specs.Lists.{Has}
+use Rattle.span_core.specs.Lists.{Has}
 use Rattle.spanner_model.specs.Tree.{cap}
 use Rattle.spanner_model.specs.Captures.{VarName}
 use Rattle.spanner_model.specs.WellBuilt.{IsVariable, IsBuilt, IsWellBuilt}

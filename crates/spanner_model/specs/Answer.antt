@@ -3,7 +3,7 @@
 --   `let`, is this project's own.
 use Rattle.std.specs.Prelude.{◌≡◌, ℕ, zero, suc, slice_get, ◌≤◌, ◌⊎◌, Bool, List, length, None, nat_eq, IsTrue, MatchBool}
 use Rattle.std.specs.Option.{IsSomeAnd}
-use Rattle.spanner_model.specs.Lists.{Has}
+use Rattle.span_core.specs.Lists.{Has}
 use Rattle.spanner_model.specs.Tree.{Tree}
 use Rattle.spanner_model.specs.Expression.{ExprTree, QueryTree, atom, named, union_end, union, join_end, join, project}
 use Rattle.spanner_model.specs.Captures.{VarName, Captures, Mapping, span_of}

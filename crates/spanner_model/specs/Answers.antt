@@ -4,7 +4,7 @@ use Rattle.std.specs.Prelude.{◌≡◌, ℕ, ◌<◌, ◌↔◌, Bool, List, []
 use Rattle.span_core.specs.declared.span.Span.{Span}
 use Rattle.span_core.specs.NameSets.{Ascending}
 use Rattle.span_core.specs.Order.{StandsBefore}
-use Rattle.spanner_model.specs.Lists.{Has, IsInOrder}
+use Rattle.span_core.specs.Lists.{Has, IsInOrder}
 use Rattle.spanner_model.specs.Captures.{VarName, Mapping, row_of}
 use Rattle.spanner_model.specs.Expression.{QueryTree}
 use Rattle.spanner_model.specs.Answer.{IsAnswer, IsResultVar}

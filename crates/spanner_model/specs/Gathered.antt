@@ -2,7 +2,7 @@
 use Rattle.std.specs.Prelude.{ℕ, ◌⊎◌, ◌↔◌, Bool, List, slice_get, MatchBool}
 use Rattle.std.specs.Option.{IsSomeAnd}
 use Rattle.span_core.specs.declared.TheConstants.{MOST_VARIABLES}
-use Rattle.spanner_model.specs.Lists.{Has, AtMost}
+use Rattle.span_core.specs.Lists.{Has, AtMost}
 use Rattle.spanner_model.specs.Captures.{VarName}
 
 -- the old names and those of P, and no others

@@ -1,7 +1,7 @@
 -- Laws that the meaning has.
 use Rattle.std.specs.Prelude.{◌≡◌, None, Some, ℕ, ◌+◌, ◌≤◌, ◌↔◌, Bool, List, ◌++◌, length, Option}
 use Rattle.span_core.specs.declared.span.Span.{Span}
-use Rattle.spanner_model.specs.Lists.{Has}
+use Rattle.span_core.specs.Lists.{Has}
 use Rattle.spanner_model.specs.Tree.{Tree}
 use Rattle.spanner_model.specs.Captures.{VarName, Captures, Captured, Mapping}
 use Rattle.spanner_model.specs.Expression.{ExprTree, QueryTree, union_all, join_all}

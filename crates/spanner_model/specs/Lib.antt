@@ -8,7 +8,6 @@ pub mod Fit
 pub mod Functional
 pub mod Laws
 pub mod Gathered
-pub mod Lists
 pub mod Sound
 pub mod Tree
 pub mod View

@@ -4,7 +4,7 @@ use Rattle.std.specs.Option.{ForSome}
 use Rattle.span_core.specs.Names.{is_name}
 use Rattle.span_core.specs.declared.TheConstants.{MOST_VARIABLES}
 use Rattle.spanner_model.specs.declared.TheConstants.{MOST_NESTED_EXPRESSIONS}
-use Rattle.spanner_model.specs.Lists.{Has, AtMost, AreDistinct}
+use Rattle.span_core.specs.Lists.{Has, AtMost, AreDistinct}
 use Rattle.spanner_model.specs.Captures.{VarName}
 use Rattle.spanner_model.specs.Functional.{HasVar, IsFunctional}
 use Rattle.spanner_model.specs.WellBuilt.{IsWellBuilt}

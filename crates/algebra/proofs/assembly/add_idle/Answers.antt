@@ -1,7 +1,7 @@
 use Rattle.std.proofs.Common.{get_or, inl, inr, sym, subst, arith, ◌∙◌}
 use Rattle.std.proofs.lemmas.Option.{slice_get_within, slice_get-get_or}
-use Rattle.spanner_model.specs.Lists.{Has}
-use Rattle.spanner_model.proofs.HasLaws.{Has-slice_get}
+use Rattle.span_core.specs.Lists.{Has}
+use Rattle.span_core.proofs.HasLaws.{Has-slice_get}
 use Rattle.marked_automaton.specs.Automaton.{idle_way}
 use Rattle.algebra.specs.declared.pairs.Pair.{Pair}
 use Rattle.algebra.specs.Pairs.{pair_of}

@@ -1,5 +1,5 @@
 use Rattle.std.proofs.Common.{◌≡◌, ℕ, ◌<◌, ◌↔◌, ◌⊎◌}
-use Rattle.spanner_model.specs.Lists.{Has}
+use Rattle.span_core.specs.Lists.{Has}
 use Rattle.marked_automaton.specs.Automaton.{HasGraphOf}
 use Rattle.algebra.specs.Pairs.{IsIdlePair}
 use Rattle.algebra.proofs.assembly.add_idle.Given as goal

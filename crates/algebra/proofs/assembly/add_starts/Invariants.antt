@@ -1,5 +1,5 @@
 use Rattle.std.proofs.Common.{◌≡◌, ℕ, ◌<◌, ◌↔◌, ◌⊎◌}
-use Rattle.spanner_model.specs.Lists.{Has}
+use Rattle.span_core.specs.Lists.{Has}
 use Rattle.algebra.specs.Pairs.{HasAllButStarts}
 use Rattle.algebra.proofs.assembly.add_starts.Given as goal
 

@@ -3,7 +3,7 @@ use Rattle.std.specs.Prelude.{slice_get, Some}
 use Rattle.std.specs.List.{flat_map}
 use Rattle.std.proofs.lemmas.List.{append-nil}
 use Rattle.std.proofs.lemmas.Option.{slice_get-get_or}
-use Rattle.spanner_model.specs.Lists.{Has}
+use Rattle.span_core.specs.Lists.{Has}
 use Rattle.algebra.specs.declared.halves.HalfStop.{HalfStop}
 use Rattle.algebra.specs.declared.pairs.Pair.{Pair}
 use Rattle.algebra.specs.Pairs.{IsStopAt, Matched, PairStop, half_at, pair_of, pairs, stop_at, stop_pair, stops_at_pair, stops_meet}

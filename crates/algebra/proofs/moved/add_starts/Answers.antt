@@ -1,7 +1,7 @@
 use Rattle.std.proofs.Common.{ℕ, ◌<◌, get_or, subst, arith}
 use Rattle.std.specs.Prelude.{List}
-use Rattle.spanner_model.specs.Lists.{Has}
-use Rattle.spanner_model.proofs.HasLaws.{Has-get_or}
+use Rattle.span_core.specs.Lists.{Has}
+use Rattle.span_core.proofs.HasLaws.{Has-get_or}
 use Rattle.algebra.proofs.moved.add_starts.Goals as goal
 
 pub overflow_add-by : goal.overflow_add-by

@@ -1,5 +1,5 @@
 use Rattle.std.proofs.Common.{◌≡◌, ◌+◌, ◌∙◌, subst, sym, ap}
-use Rattle.spanner_model.specs.Lists.{Has}
+use Rattle.span_core.specs.Lists.{Has}
 use Rattle.marked_automaton.specs.Automaton.{Automaton, idle_way, with_states}
 use Rattle.algebra.specs.Moved.{IsWithPart, IsWithWays}
 use Rattle.algebra.specs.Operations.{union_of}

@@ -2,8 +2,8 @@ use Rattle.std.proofs.Common.{ap, ◌∙◌, subst, arith}
 use Rattle.spanner_model.specs.Tree.{cat_all, alt_all}
 use Rattle.spanner_model.specs.View.{tree_of, trees_of}
 use Rattle.spanner_model.specs.Functional.{HasVar}
-use Rattle.spanner_model.specs.Lists.{AtMost}
-use Rattle.spanner_model.proofs.HasLaws.{Has-slice_get}
+use Rattle.span_core.specs.Lists.{AtMost}
+use Rattle.span_core.proofs.HasLaws.{Has-slice_get}
 use Rattle.spanner_model.proofs.TreeLaws.{part_nodes, parts_well_built, arms_well_built, arms_two, arms_have, arms_nodes}
 use Rattle.spanner_model.proofs.Trees.{tree_of-Cat, tree_of-Alt}
 use Rattle.spanner_model.specs.WellBuilt.{IsWellBuilt}

@@ -1,7 +1,7 @@
 use Rattle.std.proofs.Common.{◌≡◌, inl, inr, subst}
-use Rattle.spanner_model.specs.Lists.{Has}
+use Rattle.span_core.specs.Lists.{Has}
 use Rattle.spanner_model.specs.Captures.{VarName}
-use Rattle.spanner_model.proofs.HasLaws.{Has-slice_get, Has-take}
+use Rattle.span_core.proofs.HasLaws.{Has-slice_get, Has-take}
 use Rattle.spanner_model.proofs.GatheredLaws.{gathered_next, names_in_turn}
 use Rattle.functional_check.proofs.names.add_all.Goals as goal
 

@@ -1,4 +1,4 @@
-use Rattle.spanner_model.proofs.HasLaws.{Has-slice_get}
+use Rattle.span_core.proofs.HasLaws.{Has-slice_get}
 use Rattle.functional_check.proofs.LeastLaws.{least_head}
 use Rattle.functional_check.proofs.names.least.Goals as goal
 

@@ -1,4 +1,4 @@
-use Rattle.spanner_model.specs.Lists.{Has}
+use Rattle.span_core.specs.Lists.{Has}
 use Rattle.std.proofs.Common.{sym, subst}
 use Rattle.functional_check.specs.Faults.{IsLeastOf, InExactlyOne}
 use Rattle.functional_check.proofs.LeastLaws.{least_both}

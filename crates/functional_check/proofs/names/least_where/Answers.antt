@@ -2,8 +2,8 @@ use Rattle.std.proofs.Common.{◌≡◌, inl, inr, List, take, sym, ◌∙◌, s
 use Rattle.std.proofs.lemmas.List.{take_all}
 use Rattle.std.proofs.lemmas.Option.{slice_get_within, get_or_from_slice_get}
 use Rattle.spanner_model.specs.Captures.{VarName}
-use Rattle.spanner_model.specs.Lists.{Has}
-use Rattle.spanner_model.proofs.HasLaws.{Has-slice_get, Has-take_more_cases}
+use Rattle.span_core.specs.Lists.{Has}
+use Rattle.span_core.proofs.HasLaws.{Has-slice_get, Has-take_more_cases}
 use Rattle.functional_check.specs.Names.{IsIn}
 use Rattle.functional_check.proofs.LeastLaws.{is_in, is_not_in, least_at}
 use Rattle.functional_check.proofs.names.least_where.Goals as goal

@@ -1,6 +1,6 @@
 use Rattle.std.proofs.Common.{sym, subst}
 use Rattle.span_core.specs.declared.TheConstants.{MOST_VARIABLES}
-use Rattle.spanner_model.specs.Lists.{AtMost}
+use Rattle.span_core.specs.Lists.{AtMost}
 use Rattle.spanner_model.specs.Tree.{Tree}
 use Rattle.spanner_model.specs.Functional.{HasVar}
 use Rattle.spanner_model.specs.WellBuilt.{IsWellBuilt}

@@ -1,6 +1,6 @@
 use Rattle.std.proofs.Common.{get_or, inl, inr, refl, sym, subst, ◌∙◌}
 use Rattle.std.proofs.lemmas.Bool.{false≢true}
-use Rattle.spanner_model.proofs.HasLaws.{Has-get_or, Has-take_more_cases}
+use Rattle.span_core.proofs.HasLaws.{Has-get_or, Has-take_more_cases}
 use Rattle.marked_automaton.specs.Reach.{IsFlagged}
 use Rattle.marked_automaton.proofs.accepting.some_good.Goals as goal
 

@@ -1,7 +1,7 @@
 use Rattle.std.proofs.Common.{◌≡◌, ℕ, Some, ◌∙◌, false, [], inl, inr, length, replicate, subst, sym, ap, arith}
 use Rattle.std.proofs.Math.ListN.{length-replicate}
 use Rattle.std.specs.Prelude.{slice_get}
-use Rattle.spanner_model.specs.Lists.{Has}
+use Rattle.span_core.specs.Lists.{Has}
 use Rattle.marked_automaton.specs.Reach.{AreTargets, Grows, Reaches}
 use Rattle.marked_automaton.specs.Trimmed.{edges_in}
 use Rattle.marked_automaton.proofs.Targeted.{edges_below}

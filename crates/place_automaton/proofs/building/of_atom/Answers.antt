@@ -1,5 +1,5 @@
 use Rattle.std.proofs.Common.{List, map, sym, subst}
-use Rattle.spanner_model.specs.Lists.{AreDistinct}
+use Rattle.span_core.specs.Lists.{AreDistinct}
 use Rattle.spanner_model.specs.View.{tree_of}
 use Rattle.spanner_model.proofs.NameLaws.{ascending-distinct}
 use Rattle.marked_automaton.specs.declared.way.Stop.{Stop}

@@ -2,7 +2,7 @@ use Rattle.std.proofs.Common.{◌≡◌, ℕ, ◌+◌, ap, sym, take, ◌∙◌,
 use Rattle.std.specs.Prelude.{nat_eq, Bool, if◌then◌else◌}
 use Rattle.spanner_model.specs.View.{tree_of, trees_of}
 use Rattle.spanner_model.specs.Tree.{alt_all}
-use Rattle.spanner_model.proofs.HasLaws.{Has-slice_get}
+use Rattle.span_core.proofs.HasLaws.{Has-slice_get}
 use Rattle.spanner_model.proofs.Nodes.{nodes}
 use Rattle.spanner_model.proofs.TreeLaws.{take_at_more, part_nodes, arms_nodes}
 use Rattle.spanner_model.proofs.Trees.{tree_of-Alt, tree_of-Cat}

@@ -1,6 +1,6 @@
 use Rattle.std.proofs.Common.{◌<◌, ◌+◌, length, get_or, sym, ap, ◌∙◌, subst, arith, add-one, ℕ}
-use Rattle.spanner_model.specs.Lists.{Has}
-use Rattle.spanner_model.proofs.HasLaws.{Has-get_or}
+use Rattle.span_core.specs.Lists.{Has}
+use Rattle.span_core.proofs.HasLaws.{Has-get_or}
 use Rattle.place_automaton.specs.declared.piece.Entry.{Entry}
 use Rattle.place_automaton.specs.Places.{entry_with}
 use Rattle.place_automaton.proofs.JoinLists.{rest_same, map_next, entries_same}

@@ -1,6 +1,6 @@
 use Rattle.std.proofs.Common.{◌<◌, ◌∷◌, ◌++◌, [], length, sym, ap, ◌∙◌, subst, arith, ℕ}
-use Rattle.spanner_model.specs.Lists.{Has}
-use Rattle.spanner_model.proofs.HasLaws.{Has-get_or}
+use Rattle.span_core.specs.Lists.{Has}
+use Rattle.span_core.proofs.HasLaws.{Has-get_or}
 use Rattle.marked_automaton.specs.declared.way.Way.{Way}
 use Rattle.place_automaton.specs.Places.{way_into}
 use Rattle.place_automaton.proofs.JoinLists.{pushed_next}

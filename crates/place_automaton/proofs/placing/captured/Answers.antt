@@ -1,6 +1,6 @@
 use Rattle.std.proofs.Common.{◌^◌, sym, ap, ◌∙◌, subst, ℕ}
 use Rattle.span_core.specs.Block.{opening_bit, closing_bit}
-use Rattle.spanner_model.proofs.HasLaws.{Contains-Has}
+use Rattle.span_core.proofs.HasLaws.{Contains-Has}
 use Rattle.place_automaton.specs.Ends.{CanCapture, cap_ends}
 use Rattle.place_automaton.specs.Words.{opening_of}
 use Rattle.place_automaton.proofs.CapPlaces.{opening_at, closing_at}

@@ -4,7 +4,7 @@ use Rattle.std.specs.Prelude.{IsTrue}
 use Rattle.std.proofs.lemmas.Bool.{false≢true}
 use Rattle.spanner_model.specs.Tree.{Tree, cat_all, rep}
 use Rattle.spanner_model.specs.View.{tree_of, trees_of}
-use Rattle.spanner_model.proofs.HasLaws.{Has-slice_get}
+use Rattle.span_core.proofs.HasLaws.{Has-slice_get}
 use Rattle.spanner_model.proofs.NodeParts.{has_parts}
 use Rattle.spanner_model.proofs.TreeLaws.{part_nodes}
 use Rattle.spanner_model.proofs.Trees.{tree_of-Rep, tree_of-Cap}

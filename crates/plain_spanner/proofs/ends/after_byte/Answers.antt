@@ -1,5 +1,5 @@
 use Rattle.std.proofs.Common.{[], get_or, refl}
-use Rattle.spanner_model.specs.Lists.{Has}
+use Rattle.span_core.specs.Lists.{Has}
 use Rattle.spanner_model.specs.Tree.{one}
 use Rattle.spanner_model.specs.Fit.{Fit}
 use Rattle.plain_spanner.specs.Listed.{LeadsOn}

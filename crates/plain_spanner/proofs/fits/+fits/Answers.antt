@@ -1,7 +1,7 @@
 use Rattle.std.proofs.Common.{◌≡◌, ℕ, ◌+◌, ◌≤◌, ◌⊎◌, List, [], ◌∷◌, length, get_or, take, drop, IfOk, inl, inr, refl, sym, ap, ◌∙◌, subst, arith}
 use Rattle.std.proofs.Math.Seq.{take-length}
 use Rattle.std.proofs.lemmas.Option.{slice_get_within, get_or_from_slice_get}
-use Rattle.spanner_model.specs.Lists.{Has}
+use Rattle.span_core.specs.Lists.{Has}
 use Rattle.spanner_model.specs.Captures.{Captures}
 use Rattle.spanner_model.specs.View.{tree_of, trees_of}
 use Rattle.spanner_model.specs.Tree.{Tree, cap, cat_all}
@@ -9,7 +9,7 @@ use Rattle.spanner_model.specs.Fit.{Fit}
 use Rattle.spanner_model.specs.WellBuilt.{IsWellBuilt}
 use Rattle.spanner_model.specs.Functional.{IsFunctional}
 use Rattle.spanner_model.proofs.FitLaws.{fit_within}
-use Rattle.spanner_model.proofs.HasLaws.{Has-slice_get, Has-get_or}
+use Rattle.span_core.proofs.HasLaws.{Has-slice_get, Has-get_or}
 use Rattle.spanner_model.proofs.NodeParts.{has_parts}
 use Rattle.spanner_model.proofs.Nodes.{nodes}
 use Rattle.spanner_model.proofs.TreeLaws.{part_nodes, functional_part, functional_arm}

@@ -1,6 +1,6 @@
 use Rattle.std.proofs.Common.{sym, subst}
-use Rattle.spanner_model.specs.Lists.{Has}
-use Rattle.spanner_model.proofs.HasLaws.{Has-get_or}
+use Rattle.span_core.specs.Lists.{Has}
+use Rattle.span_core.proofs.HasLaws.{Has-get_or}
 use Rattle.plain_spanner.specs.Listed.{CapturesAndEnds, HasFit, CapturedAt}
 use Rattle.plain_spanner.proofs.TellsLaws.{from_none, from_more, from_all}
 use Rattle.plain_spanner.proofs.fits.add_named.Goals as goal

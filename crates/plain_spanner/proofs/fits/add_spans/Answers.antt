@@ -1,7 +1,7 @@
 use Rattle.std.proofs.Common.{◌≡◌, ℕ, List, [], ◌∷◌, ◌++◌, ◌⊎◌, get_or, ap, ◌∙◌, subst, refl, arith}
-use Rattle.spanner_model.specs.Lists.{Has}
+use Rattle.span_core.specs.Lists.{Has}
 use Rattle.spanner_model.specs.Captures.{Captures}
-use Rattle.spanner_model.proofs.HasLaws.{Has-get_or}
+use Rattle.span_core.proofs.HasLaws.{Has-get_or}
 use Rattle.plain_spanner.specs.Listed.{Tells, FromSome, CapturesAndEnds, HasFit, CapturedTo}
 use Rattle.plain_spanner.proofs.TellsLaws.{from_none, from_more, from_all}
 use Rattle.plain_spanner.proofs.FitLists.{fits_appended, spanned}

@@ -1,10 +1,10 @@
 use Rattle.std.proofs.Common.{ℕ, List, [], ◌∷◌, ◌⊎◌, sym, subst}
-use Rattle.spanner_model.specs.Lists.{Has}
+use Rattle.span_core.specs.Lists.{Has}
 use Rattle.spanner_model.specs.Captures.{Captures}
 use Rattle.spanner_model.specs.View.{tree_of}
 use Rattle.spanner_model.specs.Fit.{Fit}
 use Rattle.spanner_model.proofs.FitLaws.{fit_no_vars}
-use Rattle.spanner_model.proofs.HasLaws.{Has-get_or}
+use Rattle.span_core.proofs.HasLaws.{Has-get_or}
 use Rattle.plain_spanner.specs.Listed.{Tells, FromSome, CapturesAndEnds, HasFit, LeadsOn}
 use Rattle.plain_spanner.proofs.TellsLaws.{tells_or, tells_only, from_none, from_more, from_all}
 use Rattle.plain_spanner.proofs.FitLists.{GoesFrom, branches_go_on, bare_branch, no_fits}

@@ -1,9 +1,9 @@
 use Rattle.std.proofs.Common.{◌≡◌, ◌⊎◌, List, get_or, Some, refl, sym, ap, ◌∙◌, subst, arith}
 use Rattle.std.specs.Prelude.{slice_get}
 use Rattle.std.proofs.lemmas.Option.{slice_get-get_or}
-use Rattle.spanner_model.specs.Lists.{Has}
+use Rattle.span_core.specs.Lists.{Has}
 use Rattle.spanner_model.specs.Answers.{SpanRow}
-use Rattle.spanner_model.proofs.HasLaws.{Has-get_or, Has-slice_get}
+use Rattle.span_core.proofs.HasLaws.{Has-get_or, Has-slice_get}
 use Rattle.plain_spanner.specs.Listed.{Tells}
 use Rattle.plain_spanner.specs.Tables.{JoinsWith}
 use Rattle.plain_spanner.proofs.TellsLaws.{tells_pushed, from_none, from_more, from_all}

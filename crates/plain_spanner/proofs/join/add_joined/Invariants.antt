@@ -1,5 +1,5 @@
 use Rattle.std.proofs.Common.{◌⊎◌, take}
-use Rattle.spanner_model.specs.Lists.{Has}
+use Rattle.span_core.specs.Lists.{Has}
 use Rattle.plain_spanner.specs.Listed.{Tells, FromSome}
 use Rattle.plain_spanner.specs.Tables.{JoinsWith}
 use Rattle.plain_spanner.proofs.join.add_joined.Given as goal

@@ -1,7 +1,7 @@
 use Rattle.std.proofs.Common.{ℕ, ◌⊎◌, ◌↔◌, Vec, Global, List, Option, sym, subst}
 use Rattle.std.specs.Option.{IsSomeAnd}
 use Rattle.std.proofs.lemmas.Option.{slice_get_within}
-use Rattle.spanner_model.specs.Lists.{Has}
+use Rattle.span_core.specs.Lists.{Has}
 use Rattle.spanner_model.specs.Answers.{SpanRow}
 use Rattle.plain_spanner.specs.Listed.{Tells, FromSome}
 use Rattle.plain_spanner.specs.Tables.{IsPlaceOf, JoinsWith, JoinsRow, kept_row}

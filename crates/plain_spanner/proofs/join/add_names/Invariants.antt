@@ -1,5 +1,5 @@
 use Rattle.std.proofs.Common.{take}
-use Rattle.spanner_model.specs.Lists.{Has}
+use Rattle.span_core.specs.Lists.{Has}
 use Rattle.spanner_model.specs.Gathered.{Adds}
 use Rattle.plain_spanner.proofs.join.add_names.Given as goal
 

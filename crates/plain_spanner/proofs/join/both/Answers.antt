@@ -1,5 +1,5 @@
 use Rattle.std.proofs.Common.{◌≤◌, length, sym, ◌∙◌, arith}
-use Rattle.spanner_model.proofs.HasLaws.{Has-slice_get}
+use Rattle.span_core.proofs.HasLaws.{Has-slice_get}
 use Rattle.plain_spanner.specs.Tables.{merged}
 use Rattle.plain_spanner.proofs.RowLaws.{row_pushed, row_whole, row_so_far}
 use Rattle.plain_spanner.proofs.join.both.Goals.{in-Some, in_default}

@@ -1,6 +1,6 @@
 use Rattle.std.proofs.Common.{Bool, ◌↔◌, sym, subst}
 use Rattle.std.specs.Prelude.{IsTrue}
-use Rattle.spanner_model.specs.Lists.{Has}
+use Rattle.span_core.specs.Lists.{Has}
 use Rattle.plain_spanner.proofs.JoinLaws.{found_has}
 use Rattle.plain_spanner.proofs.join.has_name.Goals as goal
 

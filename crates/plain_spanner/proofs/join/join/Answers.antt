@@ -1,9 +1,9 @@
 use Rattle.std.proofs.Common.{◌<◌, ◌⊎◌, List, [], length, get_or, sym, ap, ◌∙◌, subst, arith}
-use Rattle.spanner_model.specs.Lists.{Has}
+use Rattle.span_core.specs.Lists.{Has}
 use Rattle.spanner_model.specs.Captures.{VarName}
 use Rattle.spanner_model.specs.Answers.{SpanRow}
 use Rattle.spanner_model.specs.Gathered.{Adds, HaveRoom}
-use Rattle.spanner_model.proofs.HasLaws.{Has-get_or}
+use Rattle.span_core.proofs.HasLaws.{Has-get_or}
 use Rattle.plain_spanner.specs.Listed.{Tells, FromSome}
 use Rattle.plain_spanner.specs.Tables.{JoinsRow}
 use Rattle.plain_spanner.proofs.TellsLaws.{tells_only, from_none, from_more, from_all}

@@ -1,5 +1,5 @@
 use Rattle.std.proofs.Common.{[], ◌⊎◌, take}
-use Rattle.spanner_model.specs.Lists.{Has}
+use Rattle.span_core.specs.Lists.{Has}
 use Rattle.plain_spanner.specs.Listed.{Tells, FromSome}
 use Rattle.plain_spanner.specs.Tables.{JoinsRow}
 use Rattle.plain_spanner.proofs.join.join.Given as goal

@@ -1,10 +1,10 @@
 use Rattle.std.proofs.Common.{◌≡◌, ◌+◌, ◌↔◌, List, length, take, sym, ap, ◌∙◌, subst, arith}
 use Rattle.std.proofs.Math.Seq.{take-length}
 use Rattle.std.proofs.lemmas.Bool.{false≢true}
-use Rattle.spanner_model.specs.Lists.{Has}
+use Rattle.span_core.specs.Lists.{Has}
 use Rattle.spanner_model.specs.Captures.{VarName}
 use Rattle.spanner_model.specs.Gathered.{Adds}
-use Rattle.spanner_model.proofs.HasLaws.{Has-slice_get, Has-take}
+use Rattle.span_core.proofs.HasLaws.{Has-slice_get, Has-take}
 use Rattle.plain_spanner.proofs.JoinLaws.{shared_more, shared_same, room_in}
 use Rattle.plain_spanner.proofs.join.names_in_both.Goals.{then-has_name, else-has_name}
 use Rattle.plain_spanner.proofs.join.names_in_both.Goals as goal

@@ -1,5 +1,5 @@
 use Rattle.std.proofs.Common.{ℕ, List, ◌↔◌, take}
-use Rattle.spanner_model.specs.Lists.{Has}
+use Rattle.span_core.specs.Lists.{Has}
 use Rattle.plain_spanner.proofs.join.names_in_both.Given as goal
 
 abbrev pub invariant-loop-k : goal.invariant-loop-k

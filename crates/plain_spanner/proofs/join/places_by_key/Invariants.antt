@@ -2,7 +2,7 @@ use Rattle.std.proofs.Common.{ℕ, ◌<◌, ◌↔◌}
 use Rattle.std.specs.Option.{IsSomeAnd}
 use Rattle.std.specs.BTreeMap.{get}
 use Rattle.span_core.specs.Comparison.{row_cmp}
-use Rattle.spanner_model.specs.Lists.{Has}
+use Rattle.span_core.specs.Lists.{Has}
 use Rattle.spanner_model.specs.Answers.{SpanRow}
 use Rattle.plain_spanner.specs.Tables.{IsPlaceOf}
 use Rattle.plain_spanner.proofs.join.places_by_key.Given as goal

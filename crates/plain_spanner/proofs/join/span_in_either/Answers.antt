@@ -1,5 +1,5 @@
 use Rattle.std.proofs.Common.{sym, ◌∙◌}
-use Rattle.spanner_model.specs.Lists.{Has}
+use Rattle.span_core.specs.Lists.{Has}
 use Rattle.plain_spanner.proofs.JoinLaws.{found_left, found_right, none_either}
 use Rattle.plain_spanner.proofs.join.span_in_either.Goals as goal
 

@@ -1,7 +1,7 @@
 use Rattle.std.proofs.lemmas.List.Filters.{dedup_is}
 use Rattle.std.proofs.lemmas.List.Kept.{Contains-dedup, Contains-from_dedup, IsStrictlySortedBy-dedup}
 use Rattle.std.proofs.lemmas.List.Sorted.{Contains-permutation, IsPermutation-sym}
-use Rattle.spanner_model.proofs.HasLaws.{Has-Contains, Contains-Has}
+use Rattle.span_core.proofs.HasLaws.{Has-Contains, Contains-Has}
 use Rattle.plain_spanner.proofs.order.sort_once.Goals as goal
 
 pub returns : goal.returns

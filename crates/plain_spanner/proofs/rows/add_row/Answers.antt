@@ -1,6 +1,6 @@
 use Rattle.std.proofs.Common.{◌≡◌, ℕ, List, sym, ap, ◌∙◌, subst}
 use Rattle.std.proofs.lemmas.Bool.{false≢true}
-use Rattle.spanner_model.specs.Lists.{Has}
+use Rattle.span_core.specs.Lists.{Has}
 use Rattle.spanner_model.specs.Captures.{Captures, Captured, span_of, row_of}
 use Rattle.plain_spanner.specs.Tables.{IsRowOfFits}
 use Rattle.plain_spanner.proofs.TellsLaws.{tells_pushed, tells_unchanged}

@@ -1,5 +1,5 @@
 use Rattle.spanner_model.specs.View.{tree_of}
-use Rattle.spanner_model.specs.Lists.{Has}
+use Rattle.span_core.specs.Lists.{Has}
 use Rattle.plain_spanner.specs.Listed.{Tells}
 use Rattle.plain_spanner.specs.Tables.{IsRowOf}
 use Rattle.plain_spanner.proofs.RowLaws.{FitsBefore}

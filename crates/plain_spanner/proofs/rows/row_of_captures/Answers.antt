@@ -1,6 +1,6 @@
 use Rattle.std.proofs.Common.{◌≤◌, length, sym, ◌∙◌, arith}
 use Rattle.spanner_model.specs.Captures.{span_of}
-use Rattle.spanner_model.proofs.HasLaws.{Has-slice_get}
+use Rattle.span_core.proofs.HasLaws.{Has-slice_get}
 use Rattle.spanner_model.proofs.AnswerLaws.{span_of-given}
 use Rattle.plain_spanner.proofs.RowLaws.{row_pushed, row_whole, row_so_far}
 use Rattle.plain_spanner.proofs.rows.row_of_captures.Goals.{in-Some, in_default}

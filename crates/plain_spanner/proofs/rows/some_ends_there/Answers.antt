@@ -1,8 +1,8 @@
 use Rattle.std.proofs.Common.{◌≡◌, ℕ, List, length, get_or, take, inl, inr, ap, refl, sym, ◌∙◌, subst, arith}
 use Rattle.std.proofs.Math.Seq.{take-length}
 use Rattle.std.proofs.lemmas.Bool.{false≢true}
-use Rattle.spanner_model.specs.Lists.{Has}
-use Rattle.spanner_model.proofs.HasLaws.{Has-get_or, Has-take_more_cases}
+use Rattle.span_core.specs.Lists.{Has}
+use Rattle.span_core.proofs.HasLaws.{Has-get_or, Has-take_more_cases}
 use Rattle.plain_spanner.proofs.rows.some_ends_there.Goals.{then-not-to_end-via-then-not-to_end, then-not-to_end-via-else-not-to_end+then-known-end}
 use Rattle.plain_spanner.proofs.rows.some_ends_there.Goals as goal
 

@@ -1,6 +1,6 @@
 use Rattle.std.proofs.Common.{ℕ, ◌≡◌, take}
 use Rattle.std.specs.Prelude.{IsTrue}
-use Rattle.spanner_model.specs.Lists.{Has}
+use Rattle.span_core.specs.Lists.{Has}
 use Rattle.plain_spanner.proofs.rows.some_ends_there.Given as goal
 
 abbrev pub invariant-loop-known : goal.invariant-loop-known

@@ -1,6 +1,6 @@
 use Rattle.std.proofs.Common.{◌≤◌, length, sym, ◌∙◌, arith}
 use Rattle.spanner_model.specs.Captures.{mapping_of}
-use Rattle.spanner_model.proofs.HasLaws.{Has-slice_get}
+use Rattle.span_core.proofs.HasLaws.{Has-slice_get}
 use Rattle.plain_spanner.proofs.RowLaws.{row_pushed, row_whole, row_so_far}
 use Rattle.plain_spanner.proofs.table.row_with.Goals.{in-Some, in_default}
 use Rattle.plain_spanner.proofs.table.row_with.Goals as goal

@@ -2,7 +2,7 @@ use Rattle.std.proofs.Common.{◌≡◌, ◌<◌, List, [], length, take, Some, 
 use Rattle.std.specs.Prelude.{slice_get}
 use Rattle.std.proofs.Math.Seq.{take-length}
 use Rattle.std.proofs.lemmas.Option.{slice_get-get_or}
-use Rattle.spanner_model.specs.Lists.{Has}
+use Rattle.span_core.specs.Lists.{Has}
 use Rattle.spanner_model.specs.Captures.{VarName}
 use Rattle.spanner_model.specs.Answers.{SpanRow}
 use Rattle.spanner_model.specs.View.{tree_of}
@@ -10,7 +10,7 @@ use Rattle.spanner_model.specs.Functional.{HasVar}
 use Rattle.spanner_model.specs.Expression.{ExprTree, named, project, union_all, join_all}
 use Rattle.spanner_model.specs.ExprView.{expr_of, exprs_of, query_of}
 use Rattle.spanner_model.specs.Answer.{VarOf, Answer, vars_of_lets, answers_of_lets}
-use Rattle.spanner_model.proofs.HasLaws.{Has-slice_get}
+use Rattle.span_core.proofs.HasLaws.{Has-slice_get}
 use Rattle.spanner_model.proofs.Nodes.{expr_nodes}
 use Rattle.spanner_model.proofs.ExprLaws.{union_size, part_size, union_two}
 use Rattle.spanner_model.proofs.ExprTrees.{expr_of-Atom, expr_of-Named, expr_of-Union, expr_of-Join, expr_of-Project}

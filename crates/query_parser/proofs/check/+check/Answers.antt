@@ -1,10 +1,10 @@
 use Rattle.std.proofs.Common.{length, Some, sym, ap, ◌∙◌, subst, arith, inl, List, ◌↔◌}
-use Rattle.spanner_model.specs.Lists.{Has, AtMost}
+use Rattle.span_core.specs.Lists.{Has, AtMost}
 use Rattle.span_core.specs.declared.TheConstants.{MOST_VARIABLES}
 use Rattle.spanner_model.specs.Expression.{named, union_all, join_all}
 use Rattle.spanner_model.specs.ExprView.{expr_of, exprs_of}
 use Rattle.spanner_model.specs.Gathered.{vars_in}
-use Rattle.spanner_model.proofs.HasLaws.{Has-slice_get}
+use Rattle.span_core.proofs.HasLaws.{Has-slice_get}
 use Rattle.spanner_model.proofs.Nodes.{expr_nodes}
 use Rattle.spanner_model.proofs.ExprLaws.{part_size, union_size}
 use Rattle.spanner_model.proofs.ExprTrees.{expr_of-Union, expr_of-Join, expr_of-Named}

@@ -1,5 +1,5 @@
 use Rattle.std.proofs.Common.{inl, inr}
-use Rattle.spanner_model.specs.Lists.{Has}
+use Rattle.span_core.specs.Lists.{Has}
 use Rattle.query_parser.proofs.Lists.{is_in}
 use Rattle.query_parser.proofs.check.projected.Goals as goal
 

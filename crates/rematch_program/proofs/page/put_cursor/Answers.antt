@@ -1,6 +1,6 @@
 use Rattle.std.proofs.Common.{◌-◌, arith, sym, subst, length}
-use Rattle.spanner_model.specs.Lists.{Has}
-use Rattle.spanner_model.proofs.HasLaws.{Has-get_or}
+use Rattle.span_core.specs.Lists.{Has}
+use Rattle.span_core.proofs.HasLaws.{Has-get_or}
 use Rattle.command_line.specs.Given.{text_behind}
 use Rattle.rematch_program.proofs.PageLaws.{at_place_of, next_is_last}
 use Rattle.rematch_program.proofs.page.put_cursor.Goals as goal

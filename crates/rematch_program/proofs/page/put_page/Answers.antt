@@ -1,8 +1,8 @@
 use Rattle.std.proofs.Common.{rules, arith, refl, sym, ap, ◌∙◌, ◌++◌, subst}
 use Rattle.std.specs.List.{flat_map}
 use Rattle.command_line.specs.Asked.{request_view}
-use Rattle.spanner_model.specs.Lists.{Has}
-use Rattle.spanner_model.proofs.HasLaws.{Has-get_or}
+use Rattle.span_core.specs.Lists.{Has}
+use Rattle.span_core.proofs.HasLaws.{Has-get_or}
 use Rattle.rematch_program.specs.Pages.{page_head, row_text}
 use Rattle.rematch_program.proofs.Gathers.{so_far_first, so_far_more, so_far_part, so_far_last}
 use Rattle.rematch_program.proofs.PageLaws.{lines_at}

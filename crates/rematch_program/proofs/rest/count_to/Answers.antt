@@ -1,8 +1,8 @@
 use Rattle.std.proofs.Common.{arith, sym, subst, ◌≡◌, ℕ, drop}
-use Rattle.spanner_model.specs.Lists.{Has}
+use Rattle.span_core.specs.Lists.{Has}
 use Rattle.spanner_model.specs.Answers.{SpanRow}
 use Rattle.span_core.specs.Order.{StandsBefore}
-use Rattle.spanner_model.proofs.HasLaws.{Has-get_or}
+use Rattle.span_core.proofs.HasLaws.{Has-get_or}
 use Rattle.rematch_program.proofs.PageLaws.{at_place_of}
 use Rattle.rematch_program.proofs.RestLaws.{all_after, none_before, rest_at}
 use Rattle.rematch_program.proofs.rest.count_to.Goals as goal

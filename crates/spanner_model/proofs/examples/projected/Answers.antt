@@ -1,6 +1,6 @@
 use Rattle.std.proofs.Common.{◌≡◌, ℕ, List, [], ◌∷◌, refl, inl, inr, subst, arith}
 use Rattle.std.specs.Prelude.{codes}
-use Rattle.spanner_model.specs.Lists.{Has}
+use Rattle.span_core.specs.Lists.{Has}
 use Rattle.spanner_model.specs.Tree.{cat, cat_end, cat_all, cap}
 use Rattle.spanner_model.specs.Captures.{VarName, Captures, span_of}
 use Rattle.spanner_model.specs.Fit.{Fit}

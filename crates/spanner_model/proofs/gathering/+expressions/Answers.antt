@@ -1,10 +1,10 @@
 use Rattle.std.proofs.Common.{length, arith}
-use Rattle.spanner_model.specs.Lists.{Has}
+use Rattle.span_core.specs.Lists.{Has}
 use Rattle.spanner_model.specs.Expression.{join_all}
 use Rattle.spanner_model.specs.ExprView.{expr_of, exprs_of}
 use Rattle.spanner_model.specs.Answer.{VarOf}
 use Rattle.spanner_model.specs.Gathered.{vars_in}
-use Rattle.spanner_model.proofs.HasLaws.{Has-slice_get}
+use Rattle.span_core.proofs.HasLaws.{Has-slice_get}
 use Rattle.spanner_model.proofs.ExprLaws.{part_size}
 use Rattle.spanner_model.proofs.NodeExprs.{has_exprs, named_vars}
 use Rattle.spanner_model.proofs.GatheredLaws.{gathered_same, gathered_next, gathered_no_more, exprs_in_turn}

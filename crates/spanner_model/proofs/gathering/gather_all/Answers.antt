@@ -1,4 +1,4 @@
-use Rattle.spanner_model.specs.Lists.{Has}
+use Rattle.span_core.specs.Lists.{Has}
 use Rattle.spanner_model.specs.Captures.{VarName}
 use Rattle.spanner_model.proofs.GatheredLaws.{gathered_next, gathered_no_more, names_in_turn}
 use Rattle.std.proofs.Common.{◌≡◌}

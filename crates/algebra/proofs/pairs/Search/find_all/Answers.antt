@@ -1,5 +1,5 @@
 use Rattle.std.proofs.Common.{◌<◌, take, get_or, inl, inr, refl, subst, ◌∙◌}
-use Rattle.spanner_model.proofs.HasLaws.{Has-get_or, Has-take}
+use Rattle.span_core.proofs.HasLaws.{Has-get_or, Has-take}
 use Rattle.marked_automaton.specs.declared.fault.SizeFault.{SizeFault}
 use Rattle.algebra.specs.Pairs.{IsStartRefusal}
 use Rattle.algebra.proofs.Followed.{handed_on}

@@ -1,5 +1,5 @@
 use Rattle.std.proofs.Common.{[], ◌∷◌, take, get_or, inl, refl, ◌∙◌}
-use Rattle.spanner_model.proofs.HasLaws.{Has-slice_get, Has-get_or, Has-take}
+use Rattle.span_core.proofs.HasLaws.{Has-slice_get, Has-get_or, Has-take}
 use Rattle.marked_automaton.specs.declared.fault.SizeFault.{SizeFault}
 use Rattle.algebra.specs.Pairs.{IsStartRefusal, pair_of}
 use Rattle.algebra.proofs.Followed.{handed_on}

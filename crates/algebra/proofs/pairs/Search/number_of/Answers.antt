@@ -2,7 +2,7 @@ use Rattle.std.proofs.Common.{◌<◌, List, length, sym, subst, arith, rules, �
 use Rattle.algebra.specs.declared.pairs.Pair.{Pair}
 use Rattle.algebra.specs.Pairs.{AreWithin}
 use Rattle.algebra.proofs.Followed.{pairs_few, keys_apart, with_key_last, with_key_only, with_key_within}
-use Rattle.spanner_model.specs.Lists.{Has}
+use Rattle.span_core.specs.Lists.{Has}
 use Rattle.algebra.proofs.pairs.Search.number_of.Goals as goal
 
 pub returns-then-count-clause-fault : goal.returns-then-count-clause-fault

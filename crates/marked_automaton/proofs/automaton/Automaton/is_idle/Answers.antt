@@ -1,5 +1,5 @@
 use Rattle.std.proofs.Common.{◌↔◌, ◌<◌, IsTrue, arith, ap, subst}
-use Rattle.spanner_model.specs.Lists.{Has}
+use Rattle.span_core.specs.Lists.{Has}
 use Rattle.marked_automaton.specs.Automaton.{Marked}
 use Rattle.marked_automaton.proofs.Flags.{flag_at}
 use Rattle.marked_automaton.proofs.automaton.Automaton.is_idle.Goals as goal

@@ -1,5 +1,5 @@
 use Rattle.std.proofs.Common.{◌≡◌, ℕ, ◌<◌, true, ◌↔◌, ◌⊎◌, arith, sym, ap, subst, ◌∙◌, inl, inr}
-use Rattle.spanner_model.specs.Lists.{Has}
+use Rattle.span_core.specs.Lists.{Has}
 use Rattle.marked_automaton.specs.Automaton.{Marked, idle_way}
 use Rattle.marked_automaton.specs.Inside.{flagged}
 use Rattle.std.proofs.Math.ListN.{length-set, set}

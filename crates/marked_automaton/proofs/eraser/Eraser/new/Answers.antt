@@ -2,7 +2,7 @@ use Rattle.std.proofs.Common.{◌≡◌, ℕ, ◌+◌, ◌<◌, List, length, ge
 use Rattle.std.specs.Prelude.{slice_get}
 use Rattle.std.specs.List.{All}
 use Rattle.std.proofs.lemmas.Option.{slice_get_within}
-use Rattle.spanner_model.proofs.HasLaws.{Contains-Has, Has-slice_get}
+use Rattle.span_core.proofs.HasLaws.{Contains-Has, Has-slice_get}
 use Rattle.marked_automaton.proofs.EraserLaws.{found_more, within_more}
 use Rattle.marked_automaton.proofs.eraser.Eraser.new.Goals as goal
 

@@ -1,6 +1,6 @@
 use Rattle.std.proofs.Common.{◌≡◌, get_or, inl, inr, subst, sym, arith}
-use Rattle.spanner_model.specs.Lists.{Has}
-use Rattle.spanner_model.proofs.HasLaws.{Has-get_or, Has-take_more_cases}
+use Rattle.span_core.specs.Lists.{Has}
+use Rattle.span_core.proofs.HasLaws.{Has-get_or, Has-take_more_cases}
 use Rattle.marked_automaton.specs.Reach.{IsFlagged}
 use Rattle.marked_automaton.proofs.Growing.{grows_none, grows_then, grows_weaker}
 use Rattle.marked_automaton.proofs.reach.Search.find_all.Goals as goal

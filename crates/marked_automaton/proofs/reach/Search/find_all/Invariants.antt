@@ -1,5 +1,5 @@
 use Rattle.std.proofs.Common.{ℕ, take}
-use Rattle.spanner_model.specs.Lists.{Has}
+use Rattle.span_core.specs.Lists.{Has}
 use Rattle.marked_automaton.specs.Reach.{Grows, IsFlagged}
 use Rattle.marked_automaton.proofs.reach.Search.find_all.Given as goal
 

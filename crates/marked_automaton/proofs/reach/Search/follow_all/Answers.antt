@@ -1,8 +1,8 @@
 use Rattle.std.proofs.Common.{◌≡◌, Some, ◌+◌, ◌<◌, length, [], ◌∷◌, ◌++◌, ◌∙◌, inl, inr, refl, subst, sym, ap, arith, length-append}
 use Rattle.std.specs.Prelude.{slice_get}
 use Rattle.std.proofs.lemmas.Option.{slice_get-get_or}
-use Rattle.spanner_model.specs.Lists.{Has}
-use Rattle.spanner_model.proofs.HasLaws.{Has-append_left, Has-append_right}
+use Rattle.span_core.specs.Lists.{Has}
+use Rattle.span_core.proofs.HasLaws.{Has-append_left, Has-append_right}
 use Rattle.marked_automaton.specs.Reach.{Grows, IsSearch, LeadsOn}
 use Rattle.marked_automaton.proofs.Growing.{flagged_below, grows_weaker, search_more}
 use Rattle.marked_automaton.proofs.reach.Search.follow_all.Goals as goal

@@ -1,5 +1,5 @@
 use Rattle.std.proofs.Common.{◌≡◌, ℕ, ◌+◌, List, length}
-use Rattle.spanner_model.specs.Lists.{Has}
+use Rattle.span_core.specs.Lists.{Has}
 use Rattle.marked_automaton.specs.Reach.{AreTargets, IsFlagged, IsSearch, unset}
 use Rattle.marked_automaton.specs.declared.reach.Edge.{Edge}
 use Rattle.marked_automaton.proofs.reach.Search.follow_all.Given as goal

@@ -1,6 +1,6 @@
 use Rattle.std.proofs.Common.{◌≡◌, ℕ, None, Vec, Global, get_or, sym, ap, arith, ◌∙◌}
 use Rattle.std.proofs.lemmas.List.{get_or_read}
-use Rattle.spanner_model.proofs.HasLaws.{Has-get_or}
+use Rattle.span_core.proofs.HasLaws.{Has-get_or}
 use Rattle.marked_automaton.specs.Trimmed.{number_of}
 use Rattle.marked_automaton.proofs.Loops.{kept_one_more, kept_none_more}
 use Rattle.marked_automaton.proofs.trimming.Numbers.states.Goals.{in-Some+in_ok-push, in_default}

@@ -1,7 +1,7 @@
 use Rattle.std.proofs.Common.{◌≡◌, None, Vec, Global, get_or, sym, ap, subst, arith, ◌∙◌}
 use Rattle.std.proofs.lemmas.List.{get_or_read}
-use Rattle.spanner_model.specs.Lists.{Has}
-use Rattle.spanner_model.proofs.HasLaws.{Has-get_or}
+use Rattle.span_core.specs.Lists.{Has}
+use Rattle.span_core.proofs.HasLaws.{Has-get_or}
 use Rattle.marked_automaton.specs.declared.way.Stop.{Stop}
 use Rattle.marked_automaton.specs.Trimmed.{moved_stop, number_of, stop_at}
 use Rattle.marked_automaton.proofs.Loops.{kept_one_more, kept_none_more}

@@ -1,6 +1,6 @@
 use Rattle.std.proofs.Common.{◌≡◌, ◌+◌, ◌<◌, List, Vec, Global, arith, get_or, length, sym, ap, subst, ◌∙◌}
-use Rattle.spanner_model.specs.Lists.{Has}
-use Rattle.spanner_model.proofs.HasLaws.{Has-get_or}
+use Rattle.span_core.specs.Lists.{Has}
+use Rattle.span_core.proofs.HasLaws.{Has-get_or}
 use Rattle.marked_automaton.specs.declared.way.Way.{Way}
 use Rattle.marked_automaton.specs.Trimmed.{moved_way}
 use Rattle.marked_automaton.proofs.Loops.{IsPacked, packed_next, packed_none, packed_one}

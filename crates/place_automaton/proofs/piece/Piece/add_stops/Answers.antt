@@ -1,11 +1,11 @@
 use Rattle.std.proofs.Common.{◌<◌, length, map, inl, refl, sym, ap, ◌∙◌, subst, ℕ, List, Option}
-use Rattle.spanner_model.specs.Lists.{Has}
+use Rattle.span_core.specs.Lists.{Has}
 use Rattle.marked_automaton.specs.declared.way.Stop.{Stop}
 use Rattle.marked_automaton.specs.Automaton.{Automaton, IsBlockOf}
 use Rattle.place_automaton.specs.Atom.{stop_before}
 use Rattle.place_automaton.specs.Ends.{Ends, null_of}
 use Rattle.place_automaton.specs.Made.{end_stops}
-use Rattle.spanner_model.proofs.HasLaws.{Has-append_left, Has-append_right}
+use Rattle.span_core.proofs.HasLaws.{Has-append_left, Has-append_right}
 use Rattle.place_automaton.proofs.piece.Piece.add_stops.Goals as goal
 
 pub add_last_stops-requires-clause-state : goal.add_last_stops-requires-clause-state

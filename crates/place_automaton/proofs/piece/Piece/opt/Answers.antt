@@ -1,5 +1,5 @@
 use Rattle.std.proofs.Common.{List, sym, ap, ◌∙◌, subst, ℕ, ◌≡◌}
-use Rattle.spanner_model.specs.Lists.{Has}
+use Rattle.span_core.specs.Lists.{Has}
 use Rattle.place_automaton.specs.Ends.{Ends, opt_ends}
 use Rattle.place_automaton.proofs.JoinLists.{zero_of}
 use Rattle.place_automaton.proofs.piece.Piece.opt.Goals as goal

@@ -1,5 +1,5 @@
 use Rattle.std.proofs.Common.{inl, inr, refl, ap, ◌∙◌, subst}
-use Rattle.spanner_model.specs.Lists.{Has}
+use Rattle.span_core.specs.Lists.{Has}
 use Rattle.place_automaton.specs.Ends.{Ends}
 use Rattle.place_automaton.proofs.piece.Piece.push_again.Goals as goal
 

@@ -1,5 +1,5 @@
 use Rattle.std.proofs.Common.{◌≡◌, ℕ, get_or, refl}
-use Rattle.spanner_model.specs.Lists.{Has}
+use Rattle.span_core.specs.Lists.{Has}
 use Rattle.plain_spanner.proofs.TellsLaws.{from_none, from_more, from_all}
 use Rattle.plain_spanner.proofs.EndLaws.{begins_same, begins_then, only_equal}
 use Rattle.plain_spanner.proofs.repeats.Reached.add_all.Goals as goal

@@ -1,5 +1,5 @@
 use Rattle.std.proofs.Common.{◌≡◌, ℕ, ◌⊎◌, take}
-use Rattle.spanner_model.specs.Lists.{Has}
+use Rattle.span_core.specs.Lists.{Has}
 use Rattle.plain_spanner.specs.Listed.{Tells, FromSome, Begins}
 use Rattle.plain_spanner.proofs.repeats.Reached.add_all.Given as goal
 

@@ -1,7 +1,7 @@
 use Rattle.std.proofs.Common.{◌≡◌, List, [], ◌⊎◌, ◌<◌, length, get_or, arith, sym, ap, ◌∙◌, subst}
-use Rattle.spanner_model.specs.Lists.{Has}
+use Rattle.span_core.specs.Lists.{Has}
 use Rattle.spanner_model.specs.Answers.{SpanRow}
-use Rattle.spanner_model.proofs.HasLaws.{Has-get_or}
+use Rattle.span_core.proofs.HasLaws.{Has-get_or}
 use Rattle.plain_spanner.specs.Listed.{Tells, FromSome}
 use Rattle.plain_spanner.specs.Tables.{kept_row}
 use Rattle.plain_spanner.proofs.TellsLaws.{tells_through, tells_only, tells_pushed, from_none, from_more, from_all}

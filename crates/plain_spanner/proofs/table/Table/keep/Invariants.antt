@@ -1,5 +1,5 @@
 use Rattle.std.proofs.Common.{◌≡◌, [], ◌⊎◌, take}
-use Rattle.spanner_model.specs.Lists.{Has}
+use Rattle.span_core.specs.Lists.{Has}
 use Rattle.spanner_model.specs.Answers.{SpanRow}
 use Rattle.plain_spanner.specs.Listed.{Tells, FromSome}
 use Rattle.plain_spanner.specs.Tables.{kept_row}

@@ -1,0 +1,73 @@
+-- Parts of unions and joins.
+use Rattle.std.proofs.Common.{◌≡◌, ℕ, List, [], ◌∷◌, ◌++◌, inl, inr, refl, sym, subst}
+use Rattle.span_core.specs.Lists.{Has}
+use Rattle.spanner_model.specs.Expression.{ExprTree, union_all, join_all}
+use Rattle.marked_automaton.specs.declared.fault.SizeFault.{SizeFault}
+use Rattle.marked_automaton.specs.declared.fault.SizeFault.TheVariants.{States, Ways, OutOfMemory}
+use Rattle.marked_automaton.specs.Automaton.{Marked}
+use Rattle.query_automaton.specs.Parts.{IsPartOf, IsUnionStep, IsJoinStep, HasLargePartOf}
+use Rattle.query_automaton.specs.QueryAutomaton.{of_union, of_join, automaton_of, united, together}
+
+module _ (L : ℕ → Marked) where
+  -- the automata of parts are joined one after another
+  united_push : (xs : List ExprTree) (A : Marked) (y : ExprTree) → united L A (union_all (xs ++ y ∷ [])) ≡ of_union (united L A (union_all xs)) (automaton_of L y)
+  united_push [] A y = refl
+  united_push (x ∷ xs) A y = united_push xs (of_union A (automaton_of L x)) y
+
+  pub union_push : (x : ExprTree) (xs : List ExprTree) (y : ExprTree) →
+      automaton_of L (union_all (x ∷ xs ++ y ∷ [])) ≡ of_union (automaton_of L (union_all (x ∷ xs))) (automaton_of L y)
+  union_push x xs y = united_push xs (automaton_of L x) y
+
+  together_push : (xs : List ExprTree) (A : Marked) (y : ExprTree) → together L A (join_all (xs ++ y ∷ [])) ≡ of_join (together L A (join_all xs)) (automaton_of L y)
+  together_push [] A y = refl
+  together_push (x ∷ xs) A y = together_push xs (of_join A (automaton_of L x)) y
+
+  pub join_push : (x : ExprTree) (xs : List ExprTree) (y : ExprTree) →
+      automaton_of L (join_all (x ∷ xs ++ y ∷ [])) ≡ of_join (automaton_of L (join_all (x ∷ xs))) (automaton_of L y)
+  join_push x xs y = together_push xs (automaton_of L x) y
+
+  -- a part of a part
+  union_step_part : (xs : List ExprTree) (A : Marked) (e : ExprTree) (M : Marked) → Has xs e → IsPartOf L e M → IsUnionStep L A (union_all xs) M
+  union_step_part [] A e M h p = absurd h
+  union_step_part (x ∷ xs) A e M (inl i) p = inl (subst (λ w. IsPartOf L w M) (sym i) p)
+  union_step_part (x ∷ xs) A e M (inr h) p = inr (inr (union_step_part xs (of_union A (automaton_of L x)) e M h p))
+
+  pub union_part_of : (es : List ExprTree) (e : ExprTree) (M : Marked) → Has es e → IsPartOf L e M → IsPartOf L (union_all es) M
+  union_part_of [] e M h p = absurd h
+  union_part_of (x ∷ es) e M (inl i) p = inl (subst (λ w. IsPartOf L w M) (sym i) p)
+  union_part_of (x ∷ es) e M (inr h) p = inr (union_step_part es (automaton_of L x) e M h p)
+
+  join_step_part : (xs : List ExprTree) (A : Marked) (e : ExprTree) (M : Marked) → Has xs e → IsPartOf L e M → IsJoinStep L A (join_all xs) M
+  join_step_part [] A e M h p = absurd h
+  join_step_part (x ∷ xs) A e M (inl i) p = inl (subst (λ w. IsPartOf L w M) (sym i) p)
+  join_step_part (x ∷ xs) A e M (inr h) p = inr (inr (join_step_part xs (of_join A (automaton_of L x)) e M h p))
+
+  pub join_part_of : (es : List ExprTree) (e : ExprTree) (M : Marked) → Has es e → IsPartOf L e M → IsPartOf L (join_all es) M
+  join_part_of [] e M h p = absurd h
+  join_part_of (x ∷ es) e M (inl i) p = inl (subst (λ w. IsPartOf L w M) (sym i) p)
+  join_part_of (x ∷ es) e M (inr h) p = inr (join_step_part es (automaton_of L x) e M h p)
+
+  -- a step is a part
+  union_step_is : (xs : List ExprTree) (A : Marked) (y : ExprTree) (ys : List ExprTree) →
+      IsUnionStep L A (union_all (xs ++ y ∷ ys)) (of_union (united L A (union_all xs)) (automaton_of L y))
+  union_step_is [] A y ys = inr (inl refl)
+  union_step_is (x ∷ xs) A y ys = inr (inr (union_step_is xs (of_union A (automaton_of L x)) y ys))
+
+  pub union_step : (x : ExprTree) (xs : List ExprTree) (y : ExprTree) (ys : List ExprTree) →
+      IsPartOf L (union_all (x ∷ xs ++ y ∷ ys)) (of_union (automaton_of L (union_all (x ∷ xs))) (automaton_of L y))
+  union_step x xs y ys = inr (union_step_is xs (automaton_of L x) y ys)
+
+  join_step_is : (xs : List ExprTree) (A : Marked) (y : ExprTree) (ys : List ExprTree) →
+      IsJoinStep L A (join_all (xs ++ y ∷ ys)) (of_join (together L A (join_all xs)) (automaton_of L y))
+  join_step_is [] A y ys = inr (inl refl)
+  join_step_is (x ∷ xs) A y ys = inr (inr (join_step_is xs (of_join A (automaton_of L x)) y ys))
+
+  pub join_step : (x : ExprTree) (xs : List ExprTree) (y : ExprTree) (ys : List ExprTree) →
+      IsPartOf L (join_all (x ∷ xs ++ y ∷ ys)) (of_join (automaton_of L (join_all (x ∷ xs))) (automaton_of L y))
+  join_step x xs y ys = inr (join_step_is xs (automaton_of L x) y ys)
+
+  -- what is too large in a part is too large in the whole
+  pub large_part : (e w : ExprTree) (fault : SizeFault) → ((M : Marked) → IsPartOf L e M → IsPartOf L w M) → HasLargePartOf L e fault → HasLargePartOf L w fault
+  large_part e w (States count) up h = (h.0, (h.1.0, up h.1.0 h.1.1, h.1.2))
+  large_part e w (Ways count) up h = (h.0, (h.1.0, up h.1.0 h.1.1, h.1.2))
+  large_part e w OutOfMemory up h = h

@@ -1,0 +1,171 @@
+-- What is made of atoms, names, projections and lets when they are compiled.
+use Rattle.std.proofs.Common.{◌≡◌, ℕ, zero, suc, ◌<◌, ◌≤◌, ◌↔◌, ◌⊎◌, Bool, List, [], ◌∷◌, ◌++◌, length, length-append, Some, inl, inr, refl, sym, ap, subst, arith, ◌∙◌}
+use Rattle.std.specs.Prelude.{slice_get, if◌then◌else◌, ◌-◌, ◌^◌}
+use Rattle.std.proofs.Math.Nat.{min-le_left}
+use Rattle.std.proofs.lemmas.Bool.{eq-eqb, ne_eqb, cases_lt}
+use Rattle.std.proofs.lemmas.Option.{slice_get_within}
+use Rattle.span_core.specs.NameSets.{Ascending}
+use Rattle.span_core.proofs.NameSetLaws.{none_are_variables}
+use Rattle.span_core.specs.Lists.{Has}
+use Rattle.spanner_model.specs.Tree.{Tree}
+use Rattle.spanner_model.specs.Captures.{VarName}
+use Rattle.spanner_model.specs.Functional.{HasVar, IsFunctional}
+use Rattle.spanner_model.specs.WellBuilt.{IsWellBuilt}
+use Rattle.spanner_model.specs.Expression.{ExprTree, QueryTree, atom, project}
+use Rattle.spanner_model.specs.Sound.{IsSound}
+use Rattle.spanner_model.proofs.ExprLaws.{let_named}
+use Rattle.span_core.proofs.HasLaws.{place_of-Has}
+use Rattle.spanner_model.proofs.NameLaws.{ascending-distinct, same_names}
+use Rattle.marked_automaton.specs.declared.TheConstants.{MOST_STATES, MOST_WAYS}
+use Rattle.marked_automaton.specs.declared.fault.SizeFault.{SizeFault}
+use Rattle.marked_automaton.specs.declared.fault.SizeFault.TheVariants.{States, Ways, OutOfMemory}
+use Rattle.marked_automaton.specs.Automaton.{Automaton, IsMarked, Marked}
+use Rattle.marked_automaton.specs.Faults.{IsSizeFaultOf}
+use Rattle.marked_automaton.specs.Marks.{left_of, remarked}
+use Rattle.marked_automaton.specs.Reduct.{Reduces, ReducesMarked}
+use Rattle.marked_automaton.proofs.Keeping.{all_kept, keeping_law}
+use Rattle.marked_automaton.proofs.Rearranged.{reduct_of_itself}
+use Rattle.marked_automaton.proofs.Reducts.{reduct_of_reduct}
+use Rattle.marked_automaton.proofs.ReductOperations.{reduct_of_projection}
+use Rattle.place_automaton.specs.Capped.{capped}
+use Rattle.place_automaton.specs.Counts.{count_states, count_ways}
+use Rattle.place_automaton.specs.Words.{atom_automaton}
+use Rattle.place_automaton.proofs.BuiltRepeats.{ordered_repeats}
+use Rattle.place_automaton.proofs.CountLaws.{count_law}
+use Rattle.query_automaton.specs.Compiling.{IsAsked, AreCompiled, IsCompiledFrom, IsFine}
+use Rattle.query_automaton.specs.Parts.{HasLargePartOf, HasSmallAtoms}
+use Rattle.query_automaton.specs.QueryAutomaton.{with_vars, of_atom, automaton_of, of_lets, of_one_let}
+use Rattle.query_automaton.proofs.CompileLaws.{asked_sub, shape}
+use Rattle.query_automaton.proofs.Names.{vars_ascend, vars_are}
+
+-- ---- atoms
+
+module _ (s t : Bool) (f : Tree) (built : IsWellBuilt f) (functional : IsFunctional f) where
+  atom_ascends : Ascending (with_vars [] f)
+  atom_ascends = vars_ascend f [] none_are_variables.ascending
+
+  pub atom_counts : ((of_atom s t f).graph.states ≡ count_states s t f) × (length (of_atom s t f).graph.ways ≡ count_ways s t f)
+  atom_counts = count_law (with_vars [] f) s t f (ascending-distinct (with_vars [] f) atom_ascends) (λ x h. (vars_are f x).1 h) functional (ordered_repeats f built)
+
+  pub atom_names : (names : List VarName) → Ascending names → ((x : VarName) → Has names x ↔ HasVar f x) → names ≡ with_vars [] f
+  atom_names names up all =
+      same_names names (with_vars [] f) up atom_ascends (λ x h. (vars_are f x).1 ((all x).0 h)) (λ x h. (all x).1 ((vars_are f x).0 h))
+
+  -- an automaton that is made for the atom, and what is left of it
+  pub atom_made : (a c : Marked) → Ascending a.names → ((x : VarName) → Has a.names x ↔ HasVar f x) → Reduces a.graph (atom_automaton a.names s t f) →
+      c.names ≡ a.names → Reduces c.graph a.graph → ReducesMarked c (of_atom s t f)
+  atom_made a c up all made names left =
+      let same = atom_names a.names up all in
+      (names ∙ same, reduct_of_reduct c.graph a.graph (of_atom s t f).graph left (subst (λ (ns : List VarName). Reduces a.graph (atom_automaton ns s t f)) same made))
+
+  pub atom_small : (count_states s t f ≤ MOST_STATES) → (count_ways s t f ≤ MOST_WAYS) → HasSmallAtoms (atom s t f)
+  atom_small h g = (omega (arith, h, atom_counts.0), omega (arith, g, atom_counts.1))
+
+  pub atom_fault : (L : ℕ → Marked) (fault : SizeFault) → IsSizeFaultOf (capped (count_states s t f)) (capped (count_ways s t f)) fault → HasLargePartOf L (atom s t f) fault
+  atom_fault L (States count) h = (omega (arith, h.0, h.1), (of_atom s t f, refl, omega (arith, h.1, min-le_left (count_states s t f) (2 ^ 64 - 1), atom_counts.0)))
+  atom_fault L (Ways count) h = (omega (arith, h.1, h.2), (of_atom s t f, refl, omega (arith, h.2, min-le_left (count_ways s t f) (2 ^ 64 - 1), atom_counts.1)))
+  atom_fault L OutOfMemory h = tt
+
+-- ---- projections
+
+module _ (q : QueryTree) (lets : List Marked) (known : AreCompiled q lets) (kept : List VarName) (e : ExprTree) (asked : IsAsked q (length lets) (project kept e))
+    (a : Marked) (part : IsCompiledFrom q (length lets) e a) where
+  abbrev E : Marked
+  E = automaton_of (of_lets q.lets (length lets)) e
+
+  pub kept_there : (x : VarName) → Has kept x → Has a.names x
+  kept_there x h =
+      let sh = shape q lets known e (asked_sub q (length lets) kept e asked) part.fine.0 in
+      subst (λ (ns : List VarName). Has ns x) (sym part.reduces.0) ((sh.names x).1 (asked.sound_expr.1 x h).0)
+
+  pub projected : (p : Marked) → Ascending kept → p.names ≡ kept → Reduces p.graph (remarked (left_of a.names kept) a.graph) → IsCompiledFrom q (length lets) (project kept e) p
+  projected p up names reduces = record {
+    reduces = (
+      names,
+      reduct_of_reduct p.graph (remarked (left_of E.names kept) a.graph) (remarked (left_of E.names kept) E.graph)
+          (subst (λ (ns : List VarName). Reduces p.graph (remarked (left_of ns kept) a.graph)) part.reduces.0 reduces)
+          (reduct_of_projection a.graph E.graph (left_of E.names kept) part.reduces.1),
+    );
+    fine = ((up, part.fine.0), part.fine.1);
+  }
+
+-- all variables are kept
+pub kept_all : (kept : List VarName) (a : Marked) → IsMarked a → Ascending kept → Ascending a.names → ((x : VarName) → Has kept x → Has a.names x) → length kept ≡ length a.names →
+    (a.names ≡ kept) × Reduces a.graph (remarked (left_of a.names kept) a.graph)
+kept_all kept a marked up vp sub len =
+    let same = all_kept kept a.names up vp sub len in
+    let nothing = keeping_law a.names a.graph (ascending-distinct a.names vp) (record { ways = marked.way_marks; stops = marked.stop_marks }) in (
+      sym same,
+      subst (λ (ns : List VarName). Reduces a.graph (remarked (left_of a.names ns) a.graph)) (sym same)
+          (subst (λ (G : Automaton). Reduces a.graph G) (sym nothing) (reduct_of_itself a.graph marked.whole)),
+    )
+
+-- ---- lets
+
+-- under one let more, the lets before it are the same
+pub let_before : (lets : List (VarName × ExprTree)) (n k : ℕ) → k < n → of_lets lets (suc n) k ≡ of_lets lets n k
+let_before lets n k l = ap (λ b. if b then of_one_let (of_lets lets n) (slice_get lets n) else of_lets lets n k) (ne_eqb k n (λ e. omega (arith, e, l)))
+
+pub let_here : (lets : List (VarName × ExprTree)) (n : ℕ) (l : VarName × ExprTree) → slice_get lets n ≡ Some l → of_lets lets (suc n) n ≡ automaton_of (of_lets lets n) l.1
+let_here lets n l at =
+    ap (λ b. if b then of_one_let (of_lets lets n) (slice_get lets n) else of_lets lets n n) (eq-eqb n n refl) ∙ ap (of_one_let (of_lets lets n)) at
+
+-- ---- the first lets
+
+pub none_compiled : (q : QueryTree) → AreCompiled q []
+none_compiled q = record { few = omega arith; reduce = λ k a at. absurd (cc); fine = λ k l b at. absurd (omega (arith, b)) }
+
+-- a place in a list with one element more
+pushed_at : {X : Type 0} (xs : List X) (x s : X) (k : ℕ) → slice_get (xs ++ x ∷ []) k ≡ Some s → ((k < length xs) × (slice_get xs k ≡ Some s)) ⊎ ((k ≡ length xs) × (x ≡ s))
+pushed_at [] x s zero at = let same : x ≡ s = cc in inr (refl, same)
+pushed_at [] x s (suc k) at = absurd (cc)
+pushed_at (y ∷ xs) x s zero at = inl (omega arith, at)
+pushed_at (y ∷ xs) x s (suc k) at =
+    elim (pushed_at xs x s k at) as (λ _. ((suc k < suc (length xs)) × (slice_get (y ∷ xs) (suc k) ≡ Some s)) ⊎ ((suc k ≡ suc (length xs)) × (x ≡ s))) [
+      | inl a ↦ inl (omega (arith, a.0), a.1)
+      | inr b ↦ inr (omega (arith, b.0), b.1)
+    ]
+
+pub one_more : (q : QueryTree) (lets : List Marked) (l : VarName × ExprTree) (a : Marked) → slice_get q.lets (length lets) ≡ Some l → AreCompiled q lets → IsCompiledFrom q (length lets) l.1 a →
+    AreCompiled q (lets ++ a ∷ [])
+one_more q lets l a at known this = record { few = few; reduce = reduce; fine = fine }
+  where
+    long : length (lets ++ a ∷ []) ≡ suc (length lets)
+    long = let e = length-append lets (a ∷ []) in omega (arith, e)
+
+    few : length (lets ++ a ∷ []) ≤ length q.lets
+    few = omega (arith, long, slice_get_within q.lets (length lets) l at)
+
+    reduce : (k : ℕ) (b : Marked) → slice_get (lets ++ a ∷ []) k ≡ Some b → ReducesMarked b (of_lets q.lets (length (lets ++ a ∷ [])) k)
+    reduce k b there =
+        subst (λ n. ReducesMarked b (of_lets q.lets n k)) (sym long) (
+        elim (pushed_at lets a b k there) as (λ _. ReducesMarked b (of_lets q.lets (suc (length lets)) k)) [
+          | inl c ↦ subst (λ (M : Marked). ReducesMarked b M) (sym (let_before q.lets (length lets) k c.0)) (known.reduce k b c.1)
+          | inr c ↦
+              subst (λ n. ReducesMarked b (of_lets q.lets (suc (length lets)) n)) (sym c.0)
+              (subst (λ (M : Marked). ReducesMarked b M) (sym (let_here q.lets (length lets) l at))
+              (subst (λ (r : Marked). ReducesMarked r (automaton_of (of_lets q.lets (length lets)) l.1)) c.1 this.reduces))
+        ])
+
+    fine : (k : ℕ) (m : VarName × ExprTree) → k < length (lets ++ a ∷ []) → slice_get q.lets k ≡ Some m → IsFine m.1
+    fine k m b e =
+        elim (cases_lt k (length lets)) as (λ _. IsFine m.1) [
+          | inl less ↦ known.fine k m less e
+          | inr le ↦
+              let same : k ≡ length lets = omega (arith, b, long, le) in
+              let one : Some m ≡ Some l = sym e ∙ (ap (λ n. slice_get q.lets n) same ∙ at) in
+              let eq : l ≡ m = cc in
+              subst (λ (x : VarName × ExprTree). IsFine x.1) eq this.fine
+        ]
+
+-- all lets are fine
+pub all_lets_fine : (q : QueryTree) (lets : List Marked) → AreCompiled q lets → length lets ≡ length q.lets → (l : VarName × ExprTree) → Has q.lets l → IsFine l.1
+all_lets_fine q lets known long l h = let p = place_of-Has q.lets l h in known.fine p.0 l (omega (arith, p.1, long)) p.2
+
+-- what is asked of the next let
+pub asked_let : (q : QueryTree) (n : ℕ) (l : VarName × ExprTree) → IsSound q → slice_get q.lets n ≡ Some l → IsAsked q n l.1
+asked_let q n l s at = record { sound = s; sound_expr = (s.sound_lets n l at).0; named = λ x h. inl (let_named q.lets n l x at h) }
+
+-- what is asked of the body
+pub asked_body : (q : QueryTree) → IsSound q → IsAsked q (length q.lets) q.body
+asked_body q s = record { sound = s; sound_expr = s.sound_body.0; named = λ x h. inr h }

@@ -1,0 +1,286 @@
+-- What the automaton of an expression accepts, operation by operation.
+use Rattle.std.proofs.Common.{◌≡◌, ℕ, ◌≤◌, ◌⊎◌, ◌↔◌, Bool, true, false, List, length, Option, Some, None, inl, inr, refl, sym, ap, subst, arith, ◌∙◌}
+use Rattle.std.specs.Prelude.{if◌then◌else◌, IsTrue}
+use Rattle.std.proofs.lemmas.Bool.{cases_lt}
+use Rattle.std.specs.Option.{ForSome}
+use Rattle.span_core.specs.declared.span.Span.{Span}
+use Rattle.span_core.specs.Block.{block}
+use Rattle.span_core.specs.NameSets.{Ascending}
+use Rattle.span_core.specs.Lists.{Has}
+use Rattle.spanner_model.specs.Captures.{VarName, Mapping, row_of}
+use Rattle.spanner_model.specs.Answer.{IsRestriction}
+use Rattle.spanner_model.proofs.CapturesLaws.{row_same_on}
+use Rattle.spanner_model.proofs.Ends.{EndsBy}
+use Rattle.spanner_model.proofs.NameLaws.{Has-list_any, ascending-distinct, list_any-Has, same_names}
+use Rattle.marked_automaton.specs.Automaton.{Accepts, IsWhole, Marked}
+use Rattle.marked_automaton.specs.Marks.{left_of}
+use Rattle.marked_automaton.proofs.Erasing.{erasing_law}
+use Rattle.marked_automaton.proofs.Projections.{projection_law}
+use Rattle.place_automaton.specs.Words.{IsWordOf}
+use Rattle.algebra.specs.JoinedMarks.{has_name, agree_on, joined}
+use Rattle.algebra.specs.JoinedNames.{all_names}
+use Rattle.algebra.proofs.Alike.{remarked_whole}
+use Rattle.algebra.proofs.RowLaws.{blocks_agree, blocks_are_joined}
+use Rattle.algebra.proofs.Unions.{union_law}
+use Rattle.algebra.proofs.Joins.{join_law}
+use Rattle.algebra.proofs.Whole.{union_whole, join_whole}
+use Rattle.algebra.specs.Rows.{LiesWithin, merged}
+use Rattle.query_automaton.specs.QueryAutomaton.{of_union, of_join, of_projection}
+use Rattle.query_automaton.proofs.Names.{all_ascend, all_are}
+
+-- M is an automaton for these answers, which give spans to the variables of P alone
+pub record IsFor (d : List ℕ) (P : VarName → Type 0) (A : Mapping → Type 0) (M : Marked) : Type 0 where
+  pub whole : IsWhole M.graph
+  pub ascending : Ascending M.names
+  pub names : (x : VarName) → Has M.names x ↔ P x
+  pub absent : (m : Mapping) → A m → (x : VarName) → (P x → ⊥) → m x ≡ None
+  pub ends : (m : Mapping) → A m → EndsBy (length d) m
+  pub respects : (m n : Mapping) → ((x : VarName) → m x ≡ n x) → A m → A n
+  pub words : (w : ℕ → ℕ) → Accepts M.graph d w ↔ ((m : Mapping) × A m × IsWordOf (row_of M.names m) d w)
+
+pub for_same : (d : List ℕ) (P Q : VarName → Type 0) (A B : Mapping → Type 0) (M : Marked) →
+    ((x : VarName) → P x ↔ Q x) → ((m : Mapping) → A m ↔ B m) → IsFor d P A M → IsFor d Q B M
+for_same d P Q A B M vars answers h = record {
+  whole = h.whole;
+  ascending = h.ascending;
+  names = λ x. (λ a. (vars x).0 ((h.names x).0 a), λ a. (h.names x).1 ((vars x).1 a));
+  absent = λ m b x out. h.absent m ((answers m).1 b) x (λ p. out ((vars x).0 p));
+  ends = λ m b. h.ends m ((answers m).1 b);
+  respects = λ m n same b. (answers n).0 (h.respects m n same ((answers m).1 b));
+  words = λ w. (
+    λ a. let r = (h.words w).0 a in (r.0, (answers r.0).0 r.1, r.2),
+    λ r. (h.words w).1 (r.0, (answers r.0).1 r.1, r.2),
+  );
+}
+
+restriction_same : (R : VarName → Type 0) (n m k : Mapping) → ((x : VarName) → m x ≡ k x) → IsRestriction R n m → IsRestriction R n k
+restriction_same R n m k e h x = (λ r. sym (e x) ∙ (h x).0 r, λ out. sym (e x) ∙ (h x).1 out)
+
+restriction_of_same : (R : VarName → Type 0) (m k n : Mapping) → ((x : VarName) → m x ≡ k x) → IsRestriction R m n → IsRestriction R k n
+restriction_of_same R m k n e h x = (λ r. (h x).0 r ∙ e x, (h x).1)
+
+-- ---- union
+
+pub for_union : (d : List ℕ) (P Q : VarName → Type 0) (A B : Mapping → Type 0) (M N : Marked) → ((x : VarName) → P x ↔ Q x) →
+    IsFor d P A M → IsFor d Q B N → IsFor d P (λ m. A m ⊎ B m) (of_union M N)
+for_union d P Q A B M N vars a b = record {
+  whole = union_whole M.graph N.graph a.whole b.whole;
+  ascending = a.ascending;
+  names = a.names;
+  absent = λ m h x out. elim h [ inl g ↦ a.absent m g x out | inr g ↦ b.absent m g x (λ q. out ((vars x).1 q)) ];
+  ends = λ m h. elim h [ inl g ↦ a.ends m g | inr g ↦ b.ends m g ];
+  respects = λ m n e h. elim h [ inl g ↦ inl (a.respects m n e g) | inr g ↦ inr (b.respects m n e g) ];
+  words = λ w. (
+    λ h. elim ((union_law M.graph N.graph a.whole b.whole d w).0 h) [
+      | inl g ↦ let r = (a.words w).0 g in (r.0, inl r.1, r.2)
+      | inr g ↦ let r = (b.words w).0 g in (r.0, inr r.1, subst (λ (names : List VarName). IsWordOf (row_of names r.0) d w) same r.2)
+    ],
+    λ h. (union_law M.graph N.graph a.whole b.whole d w).1 (elim h.1 [
+      | inl g ↦ inl ((a.words w).1 (h.0, g, h.2))
+      | inr g ↦ inr ((b.words w).1 (h.0, g, subst (λ (names : List VarName). IsWordOf (row_of names h.0) d w) (sym same) h.2))
+    ]),
+  );
+}
+  where
+    same : N.names ≡ M.names
+    same =
+        same_names N.names M.names b.ascending a.ascending (λ x h. (a.names x).1 ((vars x).1 ((b.names x).0 h)))
+        (λ x h. (b.names x).1 ((vars x).0 ((a.names x).0 h)))
+
+-- ---- projection
+
+pub for_projection : (d : List ℕ) (P : VarName → Type 0) (A : Mapping → Type 0) (kept : List VarName) (M : Marked) →
+    Ascending kept → ((x : VarName) → Has kept x → P x) → IsFor d P A M →
+    IsFor d (Has kept) (λ m. (n : Mapping) × A n × IsRestriction (Has kept) n m) (of_projection kept M)
+for_projection d P A kept M up sub a = record {
+  whole = remarked_whole (left_of M.names kept) M.graph a.whole;
+  ascending = up;
+  names = λ x. (λ h. h, λ h. h);
+  absent = λ m h x out. (h.2 x).1 out;
+  ends = λ m h x s is. ends m h x s is (has_name kept x) refl;
+  respects = λ m n e h. (h.0, h.1, restriction_same (Has kept) h.0 m n e h.2);
+  words = λ w. (there w, back w);
+}
+  where
+    ends : (m : Mapping) → (n : Mapping) × A n × IsRestriction (Has kept) n m → (x : VarName) (s : Span) → m x ≡ Some s → (b : Bool) → has_name kept x ≡ b → s.end ≤ length d
+    ends m h x s is true at = a.ends h.0 h.1 x s (sym ((h.2 x).0 (Has-list_any kept x at)) ∙ is)
+    ends m h x s is false at =
+        let none : m x ≡ None = (h.2 x).1 (λ g. let e : true ≡ false = sym (list_any-Has kept x g) ∙ at in absurd (cc)) in
+        let both : Some s ≡ None = sym is ∙ none in absurd (cc)
+
+    kept_of : Mapping → Mapping
+    kept_of n x = if has_name kept x then n x else None
+
+    apart : (n : Mapping) (x : VarName) → (Has kept x → ⊥) → (b : Bool) → has_name kept x ≡ b → (if b then n x else None) ≡ None
+    apart n x out true at = absurd (out (Has-list_any kept x at))
+    apart n x out false at = refl
+
+    kept_is : (n : Mapping) → IsRestriction (Has kept) n (kept_of n)
+    kept_is n x = (
+      λ h. ap (λ b. if b then n x else None) (list_any-Has kept x h),
+      λ out. apart n x out (has_name kept x) refl,
+    )
+
+    erased : (n : Mapping) (p : ℕ) → left_of M.names kept (block (row_of M.names n) p) ≡ block (row_of kept n) p
+    erased n p = erasing_law M.names kept (λ x h. (a.names x).1 (sub x h)) n p
+
+    there : (w : ℕ → ℕ) → Accepts (of_projection kept M).graph d w → (m : Mapping) × ((n : Mapping) × A n × IsRestriction (Has kept) n m) × IsWordOf (row_of kept m) d w
+    there w h =
+        let v = (projection_law M.graph (left_of M.names kept) d w).0 h in
+        let r = (a.words v.0).0 v.1 in
+        let rows : row_of kept r.0 ≡ row_of kept (kept_of r.0) = row_same_on kept r.0 (kept_of r.0) (λ x g. sym ((kept_is r.0 x).0 g)) in (
+          kept_of r.0,
+          (r.0, r.1, kept_is r.0),
+          λ p l. v.2 p l ∙ (ap (left_of M.names kept) (r.2 p l) ∙ (erased r.0 p ∙ ap (λ (row : List (Option Span)). block row p) rows)),
+        )
+
+    back : (w : ℕ → ℕ) → (m : Mapping) × ((n : Mapping) × A n × IsRestriction (Has kept) n m) × IsWordOf (row_of kept m) d w → Accepts (of_projection kept M).graph d w
+    back w h =
+        let n = h.1.0 in
+        let v : ℕ → ℕ = block (row_of M.names n) in
+        let rows : row_of kept h.0 ≡ row_of kept n = row_same_on kept h.0 n (λ x g. (h.1.2 x).0 g) in
+        (projection_law M.graph (left_of M.names kept) d w).1 (
+          v,
+          (a.words v).1 (n, h.1.1, λ p l. refl),
+          λ p l. h.2 p l ∙ (ap (λ (row : List (Option Span)). block row p) rows ∙ sym (erased n p)),
+        )
+
+-- ---- join
+
+-- answers of both parts that agree, put together
+abbrev pub Together : (VarName → Type 0) → (Mapping → Type 0) → (VarName → Type 0) → (Mapping → Type 0) → Mapping → Type 0
+Together P A Q B m =
+    (n1 : Mapping) × (n2 : Mapping) × IsRestriction P m n1 × A n1 × IsRestriction Q m n2 × B n2
+    × ((x : VarName) → (P x ⊎ Q x → ⊥) → m x ≡ None)
+
+module _ (d : List ℕ) (P Q : VarName → Type 0) (A B : Mapping → Type 0) (M N : Marked)
+    (a : IsFor d P A M) (b : IsFor d Q B N) where
+  abbrev All : List VarName
+  All = all_names M.names N.names
+
+  all_have : (x : VarName) → Has All x ↔ (Has M.names x ⊎ Has N.names x)
+  all_have x = all_are M.names N.names x
+
+  within : (R : VarName → Type 0) (C : Mapping → Type 0) (X : Marked) → IsFor d R C X → (m : Mapping) → C m → LiesWithin (length d) X.names m
+  within R C X h m c x g = go (m x) refl
+    where
+      go : (o : Option Span) → m x ≡ o → ForSome o (λ (s : Span). s.end ≤ length d)
+      go None at = λ s e. absurd (cc)
+      go (Some s) at = λ t e. let same : s ≡ t = cc in subst (λ (u : Span). u.end ≤ length d) same (h.ends m c x s at)
+
+  -- what the words of the parts are together
+  joined_row : (n1 n2 : Mapping) (p : ℕ) →
+      joined M.names N.names All (block (row_of M.names n1) p) (block (row_of N.names n2) p) ≡ block (row_of All (merged M.names n1 n2)) p
+  joined_row n1 n2 p = blocks_are_joined M.names N.names All (ascending-distinct M.names a.ascending) (ascending-distinct N.names b.ascending) all_have n1 n2 p
+
+  agree_where : (n1 n2 : Mapping) → A n1 → B n2 →
+      ((p : ℕ) → p ≤ length d → IsTrue (agree_on M.names N.names All (block (row_of M.names n1) p) (block (row_of N.names n2) p)))
+      ↔ ((x : VarName) → Has M.names x → Has N.names x → n1 x ≡ n2 x)
+  agree_where n1 n2 h g =
+      blocks_agree M.names N.names All (ascending-distinct M.names a.ascending) (ascending-distinct N.names b.ascending) all_have n1 n2 (length d)
+      (within P A M a n1 h) (within Q B N b n2 g)
+
+  -- a merged mapping, restricted
+  merged_first : (n1 n2 : Mapping) → A n1 → IsRestriction P (merged M.names n1 n2) n1
+  merged_first n1 n2 h x = (
+    λ p. sym (ap (λ c. if c then n1 x else n2 x) (list_any-Has M.names x ((a.names x).1 p))),
+    λ out. a.absent n1 h x out,
+  )
+
+  merged_second : (n1 n2 : Mapping) → B n2 → ((x : VarName) → Has M.names x → Has N.names x → n1 x ≡ n2 x) → IsRestriction Q (merged M.names n1 n2) n2
+  merged_second n1 n2 g shared x = (λ q. by (has_name M.names x) refl q, λ out. b.absent n2 g x out)
+    where
+      by : (c : Bool) → has_name M.names x ≡ c → Q x → n2 x ≡ (if has_name M.names x then n1 x else n2 x)
+      by true at q = sym (shared x (Has-list_any M.names x at) ((b.names x).1 q)) ∙ sym (ap (λ c. if c then n1 x else n2 x) at)
+      by false at q = sym (ap (λ c. if c then n1 x else n2 x) at)
+
+  merged_outside : (n1 n2 : Mapping) → B n2 → (x : VarName) → (P x ⊎ Q x → ⊥) → merged M.names n1 n2 x ≡ None
+  merged_outside n1 n2 g x out = by (has_name M.names x) refl
+    where
+      by : (c : Bool) → has_name M.names x ≡ c → (if has_name M.names x then n1 x else n2 x) ≡ None
+      by true at = absurd (out (inl ((a.names x).0 (Has-list_any M.names x at))))
+      by false at = ap (λ c. if c then n1 x else n2 x) at ∙ b.absent n2 g x (λ q. out (inr q))
+
+  -- the row of a mapping is that of its merged restrictions
+  row_merged : (m n1 n2 : Mapping) → IsRestriction P m n1 → IsRestriction Q m n2 → row_of All m ≡ row_of All (merged M.names n1 n2)
+  row_merged m n1 n2 h g = row_same_on All m (merged M.names n1 n2) (λ x i. by x i (has_name M.names x) refl)
+    where
+      by : (x : VarName) → Has All x → (c : Bool) → has_name M.names x ≡ c → m x ≡ (if has_name M.names x then n1 x else n2 x)
+      by x i true at = sym ((h x).0 ((a.names x).0 (Has-list_any M.names x at))) ∙ sym (ap (λ c. if c then n1 x else n2 x) at)
+      by x i false at =
+          elim ((all_have x).0 i) [
+            | inl f ↦ let e : true ≡ false = sym (list_any-Has M.names x f) ∙ at in absurd (cc)
+            | inr s ↦ sym ((g x).0 ((b.names x).0 s)) ∙ sym (ap (λ c. if c then n1 x else n2 x) at)
+          ]
+
+  abbrev Words : (ℕ → ℕ) → Type 0
+  Words w = (m : Mapping) × Together P A Q B m × IsWordOf (row_of All m) d w
+
+  there : (w : ℕ → ℕ) → Accepts (of_join M N).graph d w → Words w
+  there w h =
+      let r = (join_law (agree_on M.names N.names All) (joined M.names N.names All) M.graph N.graph a.whole b.whole d w).0 h in
+      let u = (a.words r.0).0 r.2 in
+      let v = (b.words r.1).0 r.3 in
+      let agreeing : (p : ℕ) → p ≤ length d → IsTrue (agree_on M.names N.names All (block (row_of M.names u.0) p) (block (row_of N.names v.0) p)) =
+      λ p l. subst (λ k. IsTrue (agree_on M.names N.names All (block (row_of M.names u.0) p) k)) (v.2 p l)
+      (subst (λ k. IsTrue (agree_on M.names N.names All k (r.1 p))) (u.2 p l) (r.4 p l).0) in
+      let shared = (agree_where u.0 v.0 u.1 v.1).0 agreeing in (
+        merged M.names u.0 v.0,
+        (u.0, v.0, merged_first u.0 v.0 u.1, u.1, merged_second u.0 v.0 v.1 shared, v.1, merged_outside u.0 v.0 v.1),
+        λ p l. (r.4 p l).1
+            ∙ (ap (λ k. joined M.names N.names All k (r.1 p)) (u.2 p l)
+            ∙ (ap (joined M.names N.names All (block (row_of M.names u.0) p)) (v.2 p l) ∙ joined_row u.0 v.0 p)),
+      )
+
+  back : (w : ℕ → ℕ) → Words w → Accepts (of_join M N).graph d w
+  back w h =
+      let t = h.1 in
+      let u : ℕ → ℕ = block (row_of M.names t.0) in
+      let v : ℕ → ℕ = block (row_of N.names t.1) in
+      let shared : (x : VarName) → Has M.names x → Has N.names x → t.0 x ≡ t.1 x =
+      λ x f s. (t.2 x).0 ((a.names x).0 f) ∙ sym ((t.4 x).0 ((b.names x).0 s)) in
+      (join_law (agree_on M.names N.names All) (joined M.names N.names All) M.graph N.graph a.whole b.whole d w).1 (
+        u,
+        v,
+        (a.words u).1 (t.0, t.3, λ p l. refl),
+        (b.words v).1 (t.1, t.5, λ p l. refl),
+        λ p l. (
+          (agree_where t.0 t.1 t.3 t.5).1 shared p l,
+          h.2 p l ∙ (ap (λ (row : List (Option Span)). block row p) (row_merged h.0 t.0 t.1 t.2 t.4) ∙ sym (joined_row t.0 t.1 p)),
+        ),
+      )
+
+  pub for_join : IsFor d (λ x. P x ⊎ Q x) (Together P A Q B) (of_join M N)
+  for_join = record {
+    whole = join_whole M.graph N.graph a.whole b.whole (agree_on M.names N.names All) (joined M.names N.names All);
+    ascending = all_ascend N.names M.names a.ascending;
+    names = λ x. (
+      λ h. elim ((all_have x).0 h) [ inl f ↦ inl ((a.names x).0 f) | inr s ↦ inr ((b.names x).0 s) ],
+      λ h. (all_have x).1 (elim h [ inl f ↦ inl ((a.names x).1 f) | inr s ↦ inr ((b.names x).1 s) ]),
+    );
+    absent = λ m h x out. h.6 x out;
+    ends = ends;
+    respects = λ m n e h. (
+      h.0,
+      h.1,
+      restriction_of_same P m n h.0 e h.2,
+      h.3,
+      restriction_of_same Q m n h.1 e h.4,
+      h.5,
+      λ x out. sym (e x) ∙ h.6 x out,
+    );
+    words = λ w. (there w, back w);
+  }
+    where
+      outside : (m : Mapping) → Together P A Q B m → (x : VarName) (s : Span) → m x ≡ Some s → (s.end ≤ length d → ⊥) → P x ⊎ Q x → ⊥
+      outside m h x s is never (inl p) = never (a.ends h.0 h.3 x s ((h.2 x).0 p ∙ is))
+      outside m h x s is never (inr q) = never (b.ends h.1 h.5 x s ((h.4 x).0 q ∙ is))
+
+      ends : (m : Mapping) → Together P A Q B m → EndsBy (length d) m
+      ends m h x s is =
+          elim (cases_lt (length d) s.end) [
+            | inr le ↦ le
+            | inl past ↦
+                let none : m x ≡ None = h.6 x (outside m h x s is (λ le. omega (arith, le, past))) in
+                let both : Some s ≡ None = sym is ∙ none in absurd (cc)
+          ]

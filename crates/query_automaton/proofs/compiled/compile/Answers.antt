@@ -1,0 +1,56 @@
+use Rattle.std.proofs.Common.{◌≡◌, length, sym, ap, ◌∙◌, subst, inr}
+use Rattle.spanner_model.specs.ExprView.{query_of}
+use Rattle.marked_automaton.specs.Automaton.{Marked}
+use Rattle.marked_automaton.specs.Reduct.{ReducesMarked}
+use Rattle.marked_automaton.proofs.Reducts.{reduct_of_reduct}
+use Rattle.algebra.proofs.Followed.{handed_on}
+use Rattle.query_automaton.specs.Compiling.{IsAsked, IsCompiledFrom}
+use Rattle.query_automaton.specs.Kept.{QueryKeepsInOrder}
+use Rattle.query_automaton.specs.Parts.{HasLargePart, HasLargePartOf}
+use Rattle.query_automaton.specs.QueryAutomaton.{of_lets, of_query}
+use Rattle.query_automaton.proofs.PieceLaws.{all_lets_fine, asked_body}
+use Rattle.query_automaton.proofs.QueryWords.{words_of_reduct}
+use Rattle.query_automaton.proofs.compiled.compile.Goals as goal
+
+pub expr_automaton-requires-clause-asked : goal.expr_automaton-requires-clause-asked
+expr_automaton-requires-clause-asked c =
+    let q = query_of c.args.query.now in
+    let long : length c.deref.result.now ≡ length q.lets = ap length c.deref.ensures.value ∙ c.in_ok-lets.ensures.long in
+    subst (λ n. IsAsked q n q.body) (sym long) (asked_body q c.requires)
+
+pub returns-in_err-body-clause-fault : goal.returns-in_err-body-clause-fault
+returns-in_err-body-clause-fault c =
+    let q = query_of c.args.query.now in
+    let long : length c.deref.result.now ≡ length q.lets = ap length c.deref.ensures.value ∙ c.in_ok-lets.ensures.long in
+    let fault = c.in_err-body.field-0.0 in
+    handed_on (HasLargePart q) c.from_residual-in_err-body.result fault c.from_residual-in_err-body.ensures.1
+    (inr (subst (λ n. HasLargePartOf (of_lets q.lets n) q.body fault) long c.in_err-body.ensures.fault))
+
+pub returns-clause-made : goal.returns-clause-made
+returns-clause-made c =
+    let q = query_of c.args.query.now in
+    let a = c.in_ok-automaton.automaton in
+    let whole = c.in_ok-take.field-0 in
+    let long : length c.deref.result.now ≡ length q.lets = ap length c.deref.ensures.value ∙ c.in_ok-lets.ensures.long in
+    let body : IsCompiledFrom q (length q.lets) q.body c.in_ok-body.body = subst (λ n. IsCompiledFrom q n q.body c.in_ok-body.body) long c.in_ok-body.ensures.made in
+    let made : ReducesMarked whole (of_query q) = subst (λ (m : Marked). ReducesMarked m (of_query q)) (sym c.in_ok-take.ensures) body.reduces in
+    (c.in_ok-automaton.ensures.names ∙ made.0, reduct_of_reduct a.graph whole.graph (of_query q).graph c.in_ok-automaton.ensures.reduct made.1)
+
+pub returns-clause-words : goal.returns-clause-words
+returns-clause-words c =
+    let q = query_of c.args.query.now in
+    let a = c.in_ok-automaton.automaton in
+    let whole = c.in_ok-take.field-0 in
+    let long : length c.deref.result.now ≡ length q.lets = ap length c.deref.ensures.value ∙ c.in_ok-lets.ensures.long in
+    let body : IsCompiledFrom q (length q.lets) q.body c.in_ok-body.body = subst (λ n. IsCompiledFrom q n q.body c.in_ok-body.body) long c.in_ok-body.ensures.made in
+    let made : ReducesMarked whole (of_query q) = subst (λ (m : Marked). ReducesMarked m (of_query q)) (sym c.in_ok-take.ensures) body.reduces in
+    let kept : QueryKeepsInOrder q = (λ l h. (all_lets_fine q c.in_ok-lets.lets.items c.in_ok-lets.ensures.made c.in_ok-lets.ensures.long l h).0, body.fine.0) in
+    words_of_reduct q c.requires kept a (c.in_ok-automaton.ensures.names ∙ made.0, reduct_of_reduct a.graph whole.graph (of_query q).graph c.in_ok-automaton.ensures.reduct made.1)
+
+pub returns-clause-kept : goal.returns-clause-kept
+returns-clause-kept c =
+    (λ l h. (all_lets_fine (query_of c.args.query.now) c.in_ok-lets.lets.items c.in_ok-lets.ensures.made c.in_ok-lets.ensures.long l h).0, c.in_ok-body.ensures.made.fine.0)
+
+pub returns-clause-small : goal.returns-clause-small
+returns-clause-small c =
+    (λ l h. (all_lets_fine (query_of c.args.query.now) c.in_ok-lets.lets.items c.in_ok-lets.ensures.made c.in_ok-lets.ensures.long l h).1, c.in_ok-body.ensures.made.fine.1)

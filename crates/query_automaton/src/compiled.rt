@@ -1,0 +1,96 @@
+//! Queries compiled to automata.
+ghost use Rattle.std.specs.Prelude.{◌≡◌, ℕ, ◌<◌, length, IfOk, IfErr, OnOk};
+ghost use Rattle.spanner_model.specs.ExprView.{query_of};
+ghost use Rattle.spanner_model.specs.Sound.{IsSound};
+ghost use Rattle.marked_automaton.specs.Reduct.{IsUseful, ReducesMarked};
+ghost use Rattle.query_automaton.specs.Compiling.{AreCompiled};
+ghost use Rattle.query_automaton.specs.Laws.{AcceptsAnswersOf};
+ghost use Rattle.query_automaton.specs.Kept.{QueryKeepsInOrder};
+ghost use Rattle.query_automaton.specs.Parts.{AtomsAreSmall, HasLargePart};
+ghost use Rattle.query_automaton.specs.QueryAutomaton.{of_query};
+
+use crate::effort::MOST_STEPS;
+use crate::expressions::expr_automaton;
+use crate::shared::Shared;
+use algebra::Effort;
+use marked_automaton::{Automaton, SizeFault};
+use span_core::VarSet;
+use spanner_model::Query;
+use std::alloc::Global;
+
+/// The most states, ways and ends that the `let`s of a query have together: some 350 MB. Where they have
+/// more, want of memory is answered, which needs no cause and says nothing of the query.
+const MOST_HELD: u64 = 8_000_000;
+
+/// A query, and its automaton.
+#[derive(Drop)]
+pub struct Compiled<'q> {
+    /// The query that it was made from, whose atoms a filter reads.
+    query: &'q Query,
+    automaton: Automaton,
+}
+
+/// The automaton of a sound query.
+///
+/// It compiles each `let` in its turn, used or not, and then the body. A `let`'s automaton is shared by the
+/// expressions that name it. Unions and joins are made of their parts from left to right, and what leads to
+/// no end is left out.
+///
+/// `States` and `Ways` come only where the automaton of some part of the query, with nothing left out, has
+/// more states than `MOST_STATES`, or more ways than `MOST_WAYS`: the count that they tell is more than
+/// that, and no more than the part's number. A query with an atom that is too large is always refused. The
+/// automaton accepts the word of a row exactly where the row is an answer, and no other word; each of its
+/// states lies between a start and an end.
+pub fn compile<'q>(alloc: Global, query: &'q Query) -> Result<Compiled<'q>, SizeFault>
+    requires { IsSound (query_of query.now) }
+    ensures made { IfOk result (λ c. ReducesMarked c.automaton (of_query (query_of query.now))) }
+    ensures words { IfOk result (λ c. AcceptsAnswersOf (query_of query.now) c.automaton) }
+    ensures useful { IfOk result (λ c. (p : ℕ) → p < c.automaton.graph.states → IsUseful c.automaton.graph p) }
+    ensures query { IfOk result (λ c. c.query.now ≡ query.now) }
+    ensures kept { OnOk result (QueryKeepsInOrder (query_of query.now)) }
+    ensures small { OnOk result (AtomsAreSmall (query_of query.now)) }
+    ensures fault { IfErr result (HasLargePart (query_of query.now)) }
+{
+    let mut effort = Effort::new(MOST_STEPS);
+    let lets = let_automata(alloc, query, &mut effort)?;
+    let body = expr_automaton(alloc, query, &lets, &query.body, &mut effort)?;
+    drop(lets);
+    let automaton = body.take(alloc)?.trim(alloc)?;
+    Ok(Compiled { query, automaton })
+}
+
+/// The automata of the `let`s, in their order.
+fn let_automata(alloc: Global, query: &Query, effort: &mut Effort) -> Result<Vec<Shared>, SizeFault>
+    requires { IsSound (query_of query.now) }
+    ensures long { IfOk result (λ lets. length lets.items ≡ length (query_of query.now).lets) }
+    ensures made { IfOk result (λ lets. AreCompiled (query_of query.now) lets.items) }
+    ensures fault { IfErr result (HasLargePart (query_of query.now)) }
+{
+    let mut lets = Vec::new(alloc);
+    let mut held: u64 = 0;
+    for k in 0..query.lets.len() {
+        let automaton = expr_automaton(alloc, query, &lets, &query.lets.at(k).1, effort)?;
+        held = held.saturating_add(automaton.own_size());
+        if held > MOST_HELD {
+            return Err(SizeFault::OutOfMemory);
+        }
+        lets.push(automaton)?;
+    }
+    Ok(lets)
+}
+
+impl<'q> Compiled<'q> {
+    /// The automaton.
+    pub fn automaton(&self) -> &Automaton
+        ensures { result.now ≡ self.now.automaton }
+    {
+        &self.automaton
+    }
+
+    /// The variables of the query's result.
+    pub fn vars(&self) -> &VarSet
+        ensures { result.now ≡ self.now.automaton.names }
+    {
+        self.automaton.vars()
+    }
+}

@@ -1,5 +1,0 @@
-use Rattle.spanner_engine.proofs.QueryWords.{query_words}
-use Rattle.spanner_engine.proofs.laws.queries_accept_the_words_of_their_rows.Goals as goal
-
-pub returns : goal.returns
-returns c = query_words
