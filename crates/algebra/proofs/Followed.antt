@@ -29,7 +29,7 @@ use Rattle.algebra.specs.Operations.{has_some, is_some_list}
 use Rattle.algebra.proofs.Bytes.{some_has}
 use Rattle.std.specs.Ordering.{nat_cmp, eq_by_cmp}
 use Rattle.std.proofs.lemmas.Cmp.{nat_cmp_total}
-use Rattle.algebra.proofs.Gathered.{filter_yes, filter_no}
+use Rattle.marked_automaton.proofs.Segments.{filter_yes, filter_no}
 use Rattle.algebra.proofs.Joins.{pair_same}
 use Rattle.algebra.proofs.Places.{match_len, place_in, place_there}
 use Rattle.algebra.proofs.ReductUnions.{get_left}

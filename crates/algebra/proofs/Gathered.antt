@@ -10,13 +10,7 @@ use Rattle.span_core.specs.Lists.{Has, AreDistinct}
 use Rattle.algebra.specs.declared.pairs.Pair.{Pair}
 use Rattle.algebra.specs.Pairs.{pair_of, pairs, those_at, pairs_at}
 use Rattle.marked_automaton.proofs.Passing.{both_true, left_true, right_true}
-
-module _ {X : Type 0} (t : X → Bool) where
-  pub filter_yes : (x : X) (xs : List X) → t x ≡ true → filter t (x ∷ xs) ≡ x ∷ filter t xs
-  filter_yes x xs e = ap (λ b. cond b (x ∷ filter t xs) (filter t xs)) e
-
-  pub filter_no : (x : X) (xs : List X) → t x ≡ false → filter t (x ∷ xs) ≡ filter t xs
-  filter_no x xs e = ap (λ b. cond b (x ∷ filter t xs) (filter t xs)) e
+use Rattle.marked_automaton.proofs.Segments.{filter_yes, filter_no}
 
 -- of tests of which no element passes both, what passes one is what passes the first, and then the second
 module _ {X : Type 0} (s t : X → Bool) (apart : (x : X) → s x ≡ true → t x ≡ false) where
@@ -171,3 +165,16 @@ module _ {X Y R : Type 0} (at1 : X → ℕ) (at2 : Y → ℕ) (test : X → Y �
       (flat_map (pairs_at at1 at2 test make xs ys) (k ∷ keys)) two
       (subst (λ (zs : List R). IsPermutation (zs ++ filter (λ r. one_of keys (at r)) all) (flat_map (pairs_at at1 at2 test make xs ys) (k ∷ keys))) (sym (at_pair k ys xs))
       (IsPermutation-append_right (pairs_at at1 at2 test make xs ys k) (filter (λ r. one_of keys (at r)) all) (flat_map (pairs_at at1 at2 test make xs ys) keys) rest))
+
+-- the rows of images
+pub those_map : {X Y : Type 0} (at : X → ℕ) (f : Y → X) (p : ℕ) (ys : List Y) → map f (those_at (λ y. at (f y)) p ys) ≡ those_at at p (map f ys)
+those_map at f p [] = refl
+those_map at f p (y ∷ ys) = go (nat_eq (at (f y)) p) refl (those_map at f p ys)
+  where
+    go : (b : Bool) → nat_eq (at (f y)) p ≡ b → map f (those_at (λ y. at (f y)) p ys) ≡ those_at at p (map f ys) →
+        map f (those_at (λ y. at (f y)) p (y ∷ ys)) ≡ those_at at p (map f (y ∷ ys))
+    go true e rest =
+        ap (map f) (filter_yes (λ y. nat_eq (at (f y)) p) y ys e)
+        ∙ (ap (λ zs. f y ∷ zs) rest ∙ sym (filter_yes (λ x. nat_eq (at x) p) (f y) (map f ys) e))
+    go false e rest =
+        ap (map f) (filter_no (λ y. nat_eq (at (f y)) p) y ys e) ∙ (rest ∙ sym (filter_no (λ x. nat_eq (at x) p) (f y) (map f ys) e))

@@ -32,7 +32,8 @@ use Rattle.algebra.specs.Renaming.{half_stop, half_way}
 use Rattle.algebra.specs.Sides.{IsMadeOf, IsSearchOf, IsSearchRefusal, IsSideOf, half_ways_of, shifts_of}
 use Rattle.marked_automaton.proofs.Passing.{both_true, filter_cases, flat_map_cases, has_filter, has_flat_map, right_true}
 use Rattle.algebra.proofs.Followed.{no_bytes, pairs_few, some_bytes}
-use Rattle.algebra.proofs.Gathered.{filter_yes, filter_no, gathered, one_of}
+use Rattle.algebra.proofs.Gathered.{gathered, one_of}
+use Rattle.marked_automaton.proofs.Segments.{filter_yes, filter_no}
 use Rattle.algebra.proofs.JoinResults.{fault_by, join_by, within_more}
 use Rattle.algebra.proofs.Places.{match_from, match_len, match_of, place_there}
 use Rattle.algebra.proofs.ReductUnions.{get_left}

@@ -16,7 +16,6 @@ pub mod Rejoined
 pub mod RenamingLaws
 pub mod RowLaws
 pub mod Searched
-pub mod Segments
 pub mod Stable
 pub mod Unions
 pub mod United

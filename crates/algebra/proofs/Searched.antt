@@ -20,9 +20,8 @@ use Rattle.algebra.specs.declared.halves.Side.{Side}
 use Rattle.algebra.specs.declared.pairs.Pair.{Pair}
 use Rattle.algebra.specs.Renaming.{half_way}
 use Rattle.algebra.specs.Sides.{IsProductRefusal, half_ways_of}
-use Rattle.algebra.proofs.Segments.{those_map}
 use Rattle.algebra.specs.Pairs.{pair_of, pairs, those_at, PairWay, AreRowsOf, AreStarted, AreWithin, IsRefusalOf, LeadWithin, half_from, steps_at, steps_between, steps_of, way_from, way_pair, ways_at, ways_meet}
-use Rattle.algebra.proofs.Gathered.{one_of, gathered}
+use Rattle.algebra.proofs.Gathered.{one_of, gathered, those_map}
 use Rattle.marked_automaton.proofs.Passing.{filter_cases}
 use Rattle.algebra.proofs.Places.{keep_if, filter_is}
 

@@ -10,7 +10,6 @@ ghost use Rattle.algebra.specs.Pairs.{AreRowsOf, AreStarted, AreWithin, HaveSmal
 
 use crate::effort::Effort;
 use crate::halves::{HalfWay, Side, put_half_ways};
-use crate::rows::ways_from;
 use indexmap::IndexSet;
 use marked_automaton::{Automaton, MOST_STATES, MOST_WAYS, SizeFault, Way};
 use span_core::{Marks, OutOfMemory};
@@ -98,8 +97,8 @@ impl Rows {
     {
         // What `states` says of each automaton holds of these two.
         let _both = (a.states(), b.states());
-        let lefts = ways_from(a.ways(), pair.left);
-        let rights = ways_from(b.ways(), pair.right);
+        let lefts = a.ways_from(pair.left);
+        let rights = b.ways_from(pair.right);
         if lefts.is_empty() || rights.is_empty() {
             self.left.clear();
             self.right.clear();

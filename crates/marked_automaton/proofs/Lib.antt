@@ -22,6 +22,7 @@ pub mod ReductOperations
 pub mod ReductWords
 pub mod Reducts
 pub mod Reversal
+pub mod Segments
 pub mod Sizes
 pub mod Targeted
 pub mod TrimLaws

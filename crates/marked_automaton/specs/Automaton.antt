@@ -1,7 +1,8 @@
 -- Automata over markers, and the words that they accept (Florenzano et al. 2018, extended variable-set automata).
 --   A block is a number: the sum of the bits of what opens and closes at one position. A word gives each
 --   position of the document its block, so it is a function from positions, read from 0 to the length.
-use Rattle.std.specs.Prelude.{◌≡◌, ℕ, zero, suc, ◌+◌, ◌*◌, ◌^◌, ◌<◌, ◌≤◌, List, [], ◌∷◌, ◌++◌, length, map, Some, slice_get, IsTrue}
+use Rattle.std.specs.Prelude.{◌≡◌, ℕ, zero, suc, ◌+◌, ◌*◌, ◌^◌, ◌<◌, ◌≤◌, List, [], ◌∷◌, ◌++◌, length, map, nat_eq, Some, slice_get, IsTrue}
+use Rattle.std.specs.List.{filter}
 use Rattle.std.specs.FinSet as set
 use Rattle.std.specs.Ordering.{nat_cmp}
 use Rattle.span_core.specs.ByteSets.{bytes_between}
@@ -118,6 +119,10 @@ TakesNoMarks A = ((y : Way) → Has A.ways y → y.marks ≡ 0) × ((x : Stop) �
 abbrev pub AreGrouped : List Way → Type 0
 AreGrouped ways =
     (j k : ℕ) (x y : Way) → j < k → slice_get ways j ≡ Some x → slice_get ways k ≡ Some y → x.from ≤ y.from
+
+-- those of the ways that lead from this state
+abbrev pub ways_from : List Way → ℕ → List Way
+ways_from ways p = filter (λ y. nat_eq y.from p) ways
 
 -- states + ways + ends
 abbrev pub size : Automaton → ℕ

@@ -6,14 +6,14 @@ ghost use Rattle.span_core.specs.Block.{block};
 ghost use Rattle.span_core.specs.declared.span.Span.{Span};
 ghost use Rattle.span_core.specs.Lists.{Has};
 ghost use Rattle.marked_automaton.specs.declared.TheConstants.{MOST_STATES, MOST_WAYS};
-ghost use Rattle.marked_automaton.specs.Automaton.{Accepts, HasGraphOf, IsBlockOf, IsMarked, TakesNoMarks, bare, idle_way, plain_stop, reversed, turned_way, with_start, with_states, with_stop, with_way, with_ways, IsWayOf, AreGrouped};
+ghost use Rattle.marked_automaton.specs.Automaton.{Accepts, HasGraphOf, IsBlockOf, IsMarked, TakesNoMarks, bare, idle_way, plain_stop, reversed, turned_way, with_start, with_states, with_stop, with_way, with_ways, ways_from, IsWayOf, AreGrouped};
 ghost use Rattle.marked_automaton.specs.Faults.{IsSizeFaultOf};
 ghost use Rattle.marked_automaton.specs.Marks.{left_of, remarked};
 ghost use Rattle.marked_automaton.specs.Reduct.{IsUseful, Rearranges, Reduces};
 
 use crate::accepting::{accepting, some_good};
 use crate::eraser::Eraser;
-use crate::grouping::{are_grouped, group, stay_grouped};
+use crate::grouping::{are_grouped, group, stay_grouped, ways_from};
 use crate::trimming::{Numbers, end_states, flags_of_kept, states_between};
 use crate::{MOST_STATES, MOST_WAYS, SizeFault, Stop, Way};
 use span_core::{Marks, OutOfMemory, Row, VarSet};
@@ -233,6 +233,15 @@ impl Automaton {
         ensures { result.now ≡ self.now.graph.ways }
     {
         self.ways.as_slice()
+    }
+
+    /// The ways from a state, in time logarithmic in the number of all ways. It is for ways that stand in
+    /// the order of the states that they lead from, as `group_ways` puts them.
+    pub fn ways_from(&self, state: u32) -> &[Way]
+        requires { AreGrouped self.now.graph.ways }
+        ensures { result.now ≡ ways_from self.now.graph.ways state }
+    {
+        ways_from(self.ways.as_slice(), state)
     }
 
     /// The starts.

@@ -2,7 +2,7 @@ use Rattle.std.proofs.Common.{ltb, leb, rules, ◌∙◌}
 use Rattle.std.proofs.lemmas.List.Sorted.{IsPartitionPoint-from_clause}
 use Rattle.algebra.specs.declared.halves.HalfStop.{HalfStop}
 use Rattle.algebra.specs.Pairs.{half_at}
-use Rattle.algebra.proofs.Segments.{row_between}
+use Rattle.marked_automaton.proofs.Segments.{row_between}
 use Rattle.algebra.proofs.rows.stops_from.Goals as goal
 
 pub returns : goal.returns
