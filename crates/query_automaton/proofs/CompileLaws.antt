@@ -33,9 +33,8 @@ use Rattle.marked_automaton.proofs.Passing.{filter_cases, flat_map_cases, right_
 use Rattle.algebra.proofs.ReductJoins.{reduct_of_join}
 use Rattle.algebra.proofs.ReductUnions.{reduct_of_union}
 use Rattle.algebra.proofs.Whole.{union_whole, join_whole}
-use Rattle.query_automaton.specs.Compiling.{IsAsked, AreCompiled, IsCompiledFrom, IsFine}
-use Rattle.query_automaton.specs.Kept.{KeepsInOrder}
-use Rattle.query_automaton.specs.Parts.{HasLargePartOf}
+use Rattle.query_automaton.specs.Compiling.{IsAsked, AreCompiled, IsCompiledFrom}
+use Rattle.query_automaton.specs.Parts.{HasLargePartOf, HasSmallAtoms}
 use Rattle.query_automaton.specs.QueryAutomaton.{of_union, of_join, automaton_of, united, together, of_lets}
 use Rattle.query_automaton.proofs.Names.{all_ascend, all_are}
 use Rattle.query_automaton.proofs.Combining.{AreTooLarge, CanCombine, Operation, Union, Join, all_of, of_two}
@@ -63,19 +62,20 @@ asked_part o q n es e h a = record {
 pub asked_sub : (q : QueryTree) (n : ℕ) (kept : List VarName) (e : ExprTree) → IsAsked q n (project kept e) → IsAsked q n e
 asked_sub q n kept e a = record { sound = a.sound; sound_expr = a.sound_expr.0; named = λ x v. a.named x v }
 
--- ---- fine parts
+-- ---- parts with small atoms
 
-all_fine : (o : Operation) (es : List ExprTree) → ((e : ExprTree) → Has es e → IsFine e) → IsFine (all_of o es)
-all_fine Union [] h = (tt, tt)
-all_fine Union (e ∷ es) h = let rest = all_fine Union es (λ g i. h g (inr i)) in let this = h e (inl refl) in ((this.0, rest.0), (this.1, rest.1))
-all_fine Join [] h = (tt, tt)
-all_fine Join (e ∷ es) h = let rest = all_fine Join es (λ g i. h g (inr i)) in let this = h e (inl refl) in ((this.0, rest.0), (this.1, rest.1))
+all_small : (o : Operation) (es : List ExprTree) → ((e : ExprTree) → Has es e → HasSmallAtoms e) → HasSmallAtoms (all_of o es)
+all_small Union [] h = tt
+all_small Union (e ∷ es) h = (h e (inl refl), all_small Union es (λ g i. h g (inr i)))
+all_small Join [] h = tt
+all_small Join (e ∷ es) h = (h e (inl refl), all_small Join es (λ g i. h g (inr i)))
 
-fine_more : (es : List ExprTree) (k : ℕ) (y : ExprTree) → slice_get es k ≡ Some y → ((e : ExprTree) → Has (take k es) e → IsFine e) → IsFine y → (e : ExprTree) → Has (take (k + 1) es) e → IsFine e
-fine_more es k y at h g e i =
-    elim (Has-append_cases (take k es) (y ∷ []) e (subst (λ (zs : List ExprTree). Has zs e) (take_at_more es k y at) i)) as (λ _. IsFine e) [
+small_more : (es : List ExprTree) (k : ℕ) (y : ExprTree) → slice_get es k ≡ Some y → ((e : ExprTree) → Has (take k es) e → HasSmallAtoms e) → HasSmallAtoms y →
+    (e : ExprTree) → Has (take (k + 1) es) e → HasSmallAtoms e
+small_more es k y at h g e i =
+    elim (Has-append_cases (take k es) (y ∷ []) e (subst (λ (zs : List ExprTree). Has zs e) (take_at_more es k y at) i)) as (λ _. HasSmallAtoms e) [
       | inl a ↦ h e a
-      | inr b ↦ elim b as (λ _. IsFine e) [ inl same ↦ subst IsFine same g | inr c ↦ absurd c ]
+      | inr b ↦ elim b as (λ _. HasSmallAtoms e) [ inl same ↦ subst HasSmallAtoms same g | inr c ↦ absurd c ]
     ]
 
 -- ---- unions and joins of reducts
@@ -134,7 +134,7 @@ two_reduce Join A B C D a b c d r s =
 -- what is made of the first k of these parts, after n lets
 pub record SoFar (q : QueryTree) (n : ℕ) (o : Operation) (es : List ExprTree) (k : ℕ) (a : Marked) : Type 0 where
   pub reduces : ReducesMarked a (automaton_of (of_lets q.lets n) (all_of o (take k es)))
-  pub fine : (e : ExprTree) → Has (take k es) e → IsFine e
+  pub small : (e : ExprTree) → Has (take k es) e → HasSmallAtoms e
 
 module _ (q : QueryTree) (lets : List Marked) (known : AreCompiled q lets) where
   abbrev N : ℕ
@@ -150,10 +150,10 @@ module _ (q : QueryTree) (lets : List Marked) (known : AreCompiled q lets) where
   Lets = answers_of_lets q.lets [] N
 
   -- names, and that it is whole, of an expression's automaton
-  pub shape : (e : ExprTree) → IsAsked q N e → KeepsInOrder e → IsFor [] (VarOf V e) (Answer V Lets [] e) (automaton_of L e)
-  shape e asked keeps =
+  pub shape : (e : ExprTree) → IsAsked q N e → IsFor [] (VarOf V e) (Answer V Lets [] e) (automaton_of L e)
+  shape e asked =
       expr_for [] (λ i b at. absurd (cc)) N V Lets L
-      (lets_for [] (λ i b at. absurd (cc)) q.lets asked.sound.sound_lets N known.few (λ k l b at. (known.fine k l b at).0) N (omega arith)) (told_lets q.lets N) e asked.sound_expr keeps
+      (lets_for [] (λ i b at. absurd (cc)) q.lets asked.sound.sound_lets N known.few N (omega arith)) (told_lets q.lets N) e asked.sound_expr
 
   -- a variable of the expression is a name of the query
   pub var_name : (e : ExprTree) → IsAsked q N e → (x : VarName) → VarOf V e x → NameOf q x
@@ -200,19 +200,18 @@ module _ (q : QueryTree) (lets : List Marked) (known : AreCompiled q lets) where
   so_far_first o (e ∷ es) x a at c =
       let same : x ≡ e = cc in record {
         reduces = subst (λ (M : Marked). ReducesMarked a M) (ap (automaton_of L) same ∙ sym (alone L o e)) c.reduces;
-        fine = λ w i. elim i as (λ _. IsFine w) [ inl j ↦ subst IsFine (same ∙ j) c.fine | inr j ↦ absurd j ];
+        small = λ w i. elim i as (λ _. HasSmallAtoms w) [ inl j ↦ subst HasSmallAtoms (same ∙ j) c.small | inr j ↦ absurd j ];
       }
 
   pub so_far_all : (o : Operation) (es : List ExprTree) (a : Marked) (k : ℕ) → k ≡ length es → SoFar q N o es k a → IsCompiledFrom q N (all_of o es) a
   so_far_all o es a k e s =
       let whole : take k es ≡ es = ap (λ n. take n es) e ∙ take-length es in record {
         reduces = subst (λ (zs : List ExprTree). ReducesMarked a (automaton_of L (all_of o zs))) whole s.reduces;
-        fine = all_fine o es (λ g i. s.fine g (subst (λ (zs : List ExprTree). Has zs g) (sym whole) i));
+        small = all_small o es (λ g i. s.small g (subst (λ (zs : List ExprTree). Has zs g) (sym whole) i));
       }
 
   -- the first k parts, and the next
-  module _ (o : Operation) (es : List ExprTree) (asked : IsAsked q N (all_of o es)) (k : ℕ) (l : 1 ≤ k)
-      (fine : (e : ExprTree) → Has (take k es) e → IsFine e) where
+  module _ (o : Operation) (es : List ExprTree) (asked : IsAsked q N (all_of o es)) (k : ℕ) (l : 1 ≤ k) where
     has_two : 2 ≤ length es
     has_two = two_parts V N o es asked.sound_expr
 
@@ -220,7 +219,7 @@ module _ (q : QueryTree) (lets : List Marked) (known : AreCompiled q lets) where
     taken_has e h = subst (λ (zs : List ExprTree). Has zs e) (take-append-drop k es) (Has-append_left (take k es) (drop k es) e h)
 
     taken_shape : (e : ExprTree) → Has (take k es) e → IsFor [] (VarOf V e) (Answer V Lets [] e) (automaton_of L e)
-    taken_shape e h = shape e (asked_part o q N es e (taken_has e h) asked) (fine e h).0
+    taken_shape e h = shape e (asked_part o q N es e (taken_has e h) asked)
 
     prefix_whole : IsWhole (automaton_of L (all_of o (take k es))).graph
     prefix_whole =
@@ -229,14 +228,14 @@ module _ (q : QueryTree) (lets : List Marked) (known : AreCompiled q lets) where
         (whole_all o f.0 f.1 (λ e h. (taken_shape e (subst (λ (zs : List ExprTree). Has zs e) (sym f.2) h)).whole))
 
   -- the names of the first parts of a union are those of the next
-  united_names : (es : List ExprTree) → IsAsked q N (union_all es) → (k : ℕ) → 1 ≤ k → ((e : ExprTree) → Has (take k es) e → IsFine e) → (y : ExprTree) → Has es y → KeepsInOrder y →
+  united_names : (es : List ExprTree) → IsAsked q N (union_all es) → (k : ℕ) → 1 ≤ k → (y : ExprTree) → Has es y →
       (automaton_of L (union_all (take k es))).names ≡ (automaton_of L y).names
-  united_names es asked k l fine y h keeps =
-      let f = first_taken es k l (omega (arith, has_two Union es asked k l fine)) in
+  united_names es asked k l y h =
+      let f = first_taken es k l (omega (arith, has_two Union es asked k l)) in
       let x = f.0 in
       let here : Has (take k es) x = subst (λ (zs : List ExprTree). Has zs x) (sym f.2) (inl refl) in
-      let a = taken_shape Union es asked k l fine x here in
-      let b = shape y (asked_part Union q N es y h asked) keeps in
+      let a = taken_shape Union es asked k l x here in
+      let b = shape y (asked_part Union q N es y h asked) in
       let same : (automaton_of L x).names ≡ (automaton_of L y).names =
       same_names (automaton_of L x).names (automaton_of L y).names a.ascending b.ascending
       (λ z v. (b.names z).1 ((union_var V N es y z asked.sound_expr h).1 ((union_var V N es x z asked.sound_expr f.3).0 ((a.names z).0 v))))
@@ -244,33 +243,33 @@ module _ (q : QueryTree) (lets : List Marked) (known : AreCompiled q lets) where
       subst (λ (zs : List ExprTree). (automaton_of L (union_all zs)).names ≡ (automaton_of L y).names) (sym f.2) (names_united f.1 (automaton_of L x) ∙ same)
 
   -- those of a join ascend, and are names of the query
-  together_names : (es : List ExprTree) → IsAsked q N (join_all es) → (k : ℕ) → 1 ≤ k → ((e : ExprTree) → Has (take k es) e → IsFine e) →
+  together_names : (es : List ExprTree) → IsAsked q N (join_all es) → (k : ℕ) → 1 ≤ k →
       Ascending (automaton_of L (join_all (take k es))).names × ((z : VarName) → Has (automaton_of L (join_all (take k es))).names z → NameOf q z)
-  together_names es asked k l fine =
-      let f = first_taken es k l (omega (arith, has_two Join es asked k l fine)) in
+  together_names es asked k l =
+      let f = first_taken es k l (omega (arith, has_two Join es asked k l)) in
       let there : (e : ExprTree) → Has (f.0 ∷ f.1) e → Has (take k es) e = λ e h. subst (λ (zs : List ExprTree). Has zs e) (sym f.2) h in
       let in_part : (e : ExprTree) → Has (f.0 ∷ f.1) e → (z : VarName) → Has (automaton_of L e).names z → NameOf q z =
-      λ e h z v. var_name e (asked_part Join q N es e (taken_has Join es asked k l fine e (there e h)) asked) z (((taken_shape Join es asked k l fine e (there e h)).names z).0 v) in
+      λ e h z v. var_name e (asked_part Join q N es e (taken_has Join es asked k l e (there e h)) asked) z (((taken_shape Join es asked k l e (there e h)).names z).0 v) in
       subst (λ (zs : List ExprTree). Ascending (automaton_of L (join_all zs)).names × ((z : VarName) → Has (automaton_of L (join_all zs)).names z → NameOf q z)) (sym f.2) (
-        ascend_together f.1 (automaton_of L f.0) (taken_shape Join es asked k l fine f.0 (there f.0 (inl refl))).ascending,
+        ascend_together f.1 (automaton_of L f.0) (taken_shape Join es asked k l f.0 (there f.0 (inl refl))).ascending,
         λ z h. elim (names_together f.1 (automaton_of L f.0) z h) as (λ _. NameOf q z) [ inl b ↦ in_part f.0 (inl refl) z b | inr b ↦ in_part b.0 (inr b.1) z b.2 ],
       )
 
   -- the first parts can be combined with the next
-  can_combine : (o : Operation) (es : List ExprTree) → IsAsked q N (all_of o es) → (k : ℕ) → 1 ≤ k → ((e : ExprTree) → Has (take k es) e → IsFine e) → (y : ExprTree) → Has es y → KeepsInOrder y →
+  can_combine : (o : Operation) (es : List ExprTree) → IsAsked q N (all_of o es) → (k : ℕ) → 1 ≤ k → (y : ExprTree) → Has es y →
       CanCombine o (automaton_of L (all_of o (take k es))) (automaton_of L y)
-  can_combine Union es asked k l fine y h keeps = united_names es asked k l fine y h keeps
-  can_combine Join es asked k l fine y h keeps =
+  can_combine Union es asked k l y h = united_names es asked k l y h
+  can_combine Join es asked k l y h =
       let A = automaton_of L (join_all (take k es)) in
       let B = automaton_of L y in
-      let before = together_names es asked k l fine in
+      let before = together_names es asked k l in
       let of_y = asked_part Join q N es y h asked in
       let ascend : Ascending (all_names A.names B.names) = all_ascend B.names A.names before.0 in
       let least = asked.sound.few in
       let le = distinct-le (all_names A.names B.names) least.0 (ascending-distinct (all_names A.names B.names) ascend)
       (λ z n. least.2 z (elim ((all_are A.names B.names z).0 n) as (λ _. NameOf q z) [
         | inl b ↦ before.1 z b
-        | inr b ↦ var_name y of_y z (((shape y of_y keeps).names z).0 b)
+        | inr b ↦ var_name y of_y z (((shape y of_y).names z).0 b)
       ])) in
       omega (arith, le, least.1)
 
@@ -289,7 +288,7 @@ module _ (q : QueryTree) (lets : List Marked) (known : AreCompiled q lets) where
     combine =
         subst (λ (ns : List VarName). CanCombine o (record { names = ns; graph = a.graph }) p) (sym so_far.reduces.0)
         (subst (λ (ns : List VarName). CanCombine o (record { names = A.names; graph = a.graph }) (record { names = ns; graph = p.graph })) (sym part.reduces.0)
-        (of_names o a p A B (can_combine o es asked k l so_far.fine y y_has part.fine.0)))
+        (of_names o a p A B (can_combine o es asked k l y y_has)))
       where
         of_names : (o : Operation) (a p A B : Marked) → CanCombine o A B → CanCombine o (record { names = A.names; graph = a.graph }) (record { names = B.names; graph = p.graph })
         of_names Union a p A B h = h
@@ -298,14 +297,14 @@ module _ (q : QueryTree) (lets : List Marked) (known : AreCompiled q lets) where
     module _ (marked : IsMarked a × IsMarked p) where
       reduce : ReducesMarked (of_two o a p) (of_two o A B)
       reduce =
-          two_reduce o a A p B marked.0.whole (prefix_whole o es asked k l so_far.fine) marked.1.whole
-          (shape y (asked_part o q N es y y_has asked) part.fine.0).whole so_far.reduces part.reduces
+          two_reduce o a A p B marked.0.whole (prefix_whole o es asked k l) marked.1.whole
+          (shape y (asked_part o q N es y y_has asked)).whole so_far.reduces part.reduces
 
       pub so_far_next : (c : Marked) → ReducesMarked c (of_two o a p) → SoFar q N o es (k + 1) c
       so_far_next c r = record {
         reduces = subst (λ (M : Marked). ReducesMarked c M) (sym (grown L o es k y l at))
             (r.0 ∙ reduce.0, reduct_of_reduct c.graph (of_two o a p).graph (of_two o A B).graph r.1 reduce.1);
-        fine = fine_more es k y at so_far.fine part.fine;
+        small = small_more es k y at so_far.small part.small;
       }
 
       no_larger : ((of_two o a p).graph.states ≤ (of_two o A B).graph.states) × (length (of_two o a p).graph.ways ≤ length (of_two o A B).graph.ways)

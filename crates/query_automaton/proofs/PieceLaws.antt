@@ -32,7 +32,7 @@ use Rattle.place_automaton.specs.Counts.{count_states, count_ways}
 use Rattle.place_automaton.specs.Words.{atom_automaton}
 use Rattle.place_automaton.proofs.BuiltRepeats.{ordered_repeats}
 use Rattle.place_automaton.proofs.CountLaws.{count_law}
-use Rattle.query_automaton.specs.Compiling.{IsAsked, AreCompiled, IsCompiledFrom, IsFine}
+use Rattle.query_automaton.specs.Compiling.{IsAsked, AreCompiled, IsCompiledFrom}
 use Rattle.query_automaton.specs.Parts.{HasLargePartOf, HasSmallAtoms}
 use Rattle.query_automaton.specs.QueryAutomaton.{with_vars, of_atom, automaton_of, of_lets, of_one_let}
 use Rattle.query_automaton.proofs.CompileLaws.{asked_sub, shape}
@@ -75,18 +75,18 @@ module _ (q : QueryTree) (lets : List Marked) (known : AreCompiled q lets) (kept
 
   pub kept_there : (x : VarName) → Has kept x → Has a.names x
   kept_there x h =
-      let sh = shape q lets known e (asked_sub q (length lets) kept e asked) part.fine.0 in
+      let sh = shape q lets known e (asked_sub q (length lets) kept e asked) in
       subst (λ (ns : List VarName). Has ns x) (sym part.reduces.0) ((sh.names x).1 (asked.sound_expr.1 x h).0)
 
-  pub projected : (p : Marked) → Ascending kept → p.names ≡ kept → Reduces p.graph (remarked (left_of a.names kept) a.graph) → IsCompiledFrom q (length lets) (project kept e) p
-  projected p up names reduces = record {
+  pub projected : (p : Marked) → p.names ≡ kept → Reduces p.graph (remarked (left_of a.names kept) a.graph) → IsCompiledFrom q (length lets) (project kept e) p
+  projected p names reduces = record {
     reduces = (
       names,
       reduct_of_reduct p.graph (remarked (left_of E.names kept) a.graph) (remarked (left_of E.names kept) E.graph)
           (subst (λ (ns : List VarName). Reduces p.graph (remarked (left_of ns kept) a.graph)) part.reduces.0 reduces)
           (reduct_of_projection a.graph E.graph (left_of E.names kept) part.reduces.1),
     );
-    fine = ((up, part.fine.0), part.fine.1);
+    small = part.small;
   }
 
 -- all variables are kept
@@ -113,7 +113,7 @@ let_here lets n l at =
 -- ---- the first lets
 
 pub none_compiled : (q : QueryTree) → AreCompiled q []
-none_compiled q = record { few = omega arith; reduce = λ k a at. absurd (cc); fine = λ k l b at. absurd (omega (arith, b)) }
+none_compiled q = record { few = omega arith; reduce = λ k a at. absurd (cc); small = λ k l b at. absurd (omega (arith, b)) }
 
 -- a place in a list with one element more
 pushed_at : {X : Type 0} (xs : List X) (x s : X) (k : ℕ) → slice_get (xs ++ x ∷ []) k ≡ Some s → ((k < length xs) × (slice_get xs k ≡ Some s)) ⊎ ((k ≡ length xs) × (x ≡ s))
@@ -128,7 +128,7 @@ pushed_at (y ∷ xs) x s (suc k) at =
 
 pub one_more : (q : QueryTree) (lets : List Marked) (l : VarName × ExprTree) (a : Marked) → slice_get q.lets (length lets) ≡ Some l → AreCompiled q lets → IsCompiledFrom q (length lets) l.1 a →
     AreCompiled q (lets ++ a ∷ [])
-one_more q lets l a at known this = record { few = few; reduce = reduce; fine = fine }
+one_more q lets l a at known this = record { few = few; reduce = reduce; small = small }
   where
     long : length (lets ++ a ∷ []) ≡ suc (length lets)
     long = let e = length-append lets (a ∷ []) in omega (arith, e)
@@ -147,20 +147,20 @@ one_more q lets l a at known this = record { few = few; reduce = reduce; fine = 
               (subst (λ (r : Marked). ReducesMarked r (automaton_of (of_lets q.lets (length lets)) l.1)) c.1 this.reduces))
         ])
 
-    fine : (k : ℕ) (m : VarName × ExprTree) → k < length (lets ++ a ∷ []) → slice_get q.lets k ≡ Some m → IsFine m.1
-    fine k m b e =
-        elim (cases_lt k (length lets)) as (λ _. IsFine m.1) [
-          | inl less ↦ known.fine k m less e
+    small : (k : ℕ) (m : VarName × ExprTree) → k < length (lets ++ a ∷ []) → slice_get q.lets k ≡ Some m → HasSmallAtoms m.1
+    small k m b e =
+        elim (cases_lt k (length lets)) as (λ _. HasSmallAtoms m.1) [
+          | inl less ↦ known.small k m less e
           | inr le ↦
               let same : k ≡ length lets = omega (arith, b, long, le) in
               let one : Some m ≡ Some l = sym e ∙ (ap (λ n. slice_get q.lets n) same ∙ at) in
               let eq : l ≡ m = cc in
-              subst (λ (x : VarName × ExprTree). IsFine x.1) eq this.fine
+              subst (λ (x : VarName × ExprTree). HasSmallAtoms x.1) eq this.small
         ]
 
--- all lets are fine
-pub all_lets_fine : (q : QueryTree) (lets : List Marked) → AreCompiled q lets → length lets ≡ length q.lets → (l : VarName × ExprTree) → Has q.lets l → IsFine l.1
-all_lets_fine q lets known long l h = let p = place_of-Has q.lets l h in known.fine p.0 l (omega (arith, p.1, long)) p.2
+-- the atoms of all lets are small
+pub all_lets_small : (q : QueryTree) (lets : List Marked) → AreCompiled q lets → length lets ≡ length q.lets → (l : VarName × ExprTree) → Has q.lets l → HasSmallAtoms l.1
+all_lets_small q lets known long l h = let p = place_of-Has q.lets l h in known.small p.0 l (omega (arith, p.1, long)) p.2
 
 -- what is asked of the next let
 pub asked_let : (q : QueryTree) (n : ℕ) (l : VarName × ExprTree) → IsSound q → slice_get q.lets n ≡ Some l → IsAsked q n l.1

@@ -15,7 +15,6 @@ use Rattle.spanner_model.specs.Sound.{IsSound, IsSoundUnder, IsSoundExpr, AreUni
 use Rattle.spanner_model.proofs.AnswerLaws.{answer_absent}
 use Rattle.spanner_model.proofs.Deciding.{Told, told_of, told_lets}
 use Rattle.spanner_model.proofs.Ends.{answer_ends}
-use Rattle.span_core.proofs.HasLaws.{Has-slice_get}
 use Rattle.spanner_model.proofs.NameLaws.{ascending-distinct}
 use Rattle.marked_automaton.specs.Automaton.{Marked}
 use Rattle.place_automaton.specs.Atom.{AreBytes}
@@ -23,7 +22,6 @@ use Rattle.place_automaton.proofs.RowBlocks.{atom_row_law}
 use Rattle.place_automaton.proofs.CountLaws.{functional_sequential}
 use Rattle.place_automaton.proofs.BuiltRepeats.{ordered_repeats}
 use Rattle.place_automaton.proofs.WholeLaws.{whole_law}
-use Rattle.query_automaton.specs.Kept.{KeepsInOrder, QueryKeepsInOrder}
 use Rattle.marked_automaton.specs.Reduct.{ReducesMarked}
 use Rattle.marked_automaton.proofs.ReductWords.{reduct_accepts}
 use Rattle.query_automaton.specs.Laws.{AcceptsAnswersOf, QueryWords}
@@ -115,19 +113,19 @@ module _ (d : List ℕ) (bytes : AreBytes d) (n : ℕ) (V : ℕ → VarName → 
 
   -- what is shown of an expression: as it is, as the parts of a union that follow, and as those of a join
   record AllFor (e : ExprTree) : Type 1 where
-    whole : IsSoundExpr V n e → KeepsInOrder e → IsFor d (VarOf V e) (Answer V A d e) (automaton_of L e)
-    united_parts : (P : VarName → Type 0) (B : Mapping → Type 0) (M : Marked) → AreUnited V n e → KeepsInOrder e → HasVarsOf V P e → IsFor d P B M →
+    whole : IsSoundExpr V n e → IsFor d (VarOf V e) (Answer V A d e) (automaton_of L e)
+    united_parts : (P : VarName → Type 0) (B : Mapping → Type 0) (M : Marked) → AreUnited V n e → HasVarsOf V P e → IsFor d P B M →
         IsFor d P (λ m. B m ⊎ Answer V A d e m) (united L M e)
-    joined_parts : (P : VarName → Type 0) (B : Mapping → Type 0) (M : Marked) → AreJoined V n e → KeepsInOrder e → ((x : VarName) → Told (P x)) →
+    joined_parts : (P : VarName → Type 0) (B : Mapping → Type 0) (M : Marked) → AreJoined V n e → ((x : VarName) → Told (P x)) →
         IsFor d P B M → IsFor d (λ x. P x ⊎ VarOf V e x) (Together P B (VarOf V e) (Answer V A d e)) (together L M e)
 
   -- a part that follows, in front of others
   next_united : (e rest : ExprTree) → AllFor e → AllFor rest → (P : VarName → Type 0) (B : Mapping → Type 0) (M : Marked) →
-      AreUnited V n (union e rest) → KeepsInOrder (union e rest) → HasVarsOf V P (union e rest) → IsFor d P B M →
+      AreUnited V n (union e rest) → HasVarsOf V P (union e rest) → IsFor d P B M →
       IsFor d P (λ m. B m ⊎ Answer V A d (union e rest) m) (united L M (union e rest))
-  next_united e rest first others P B M h g vars b =
-      let more = others.united_parts P (λ m. B m ⊎ Answer V A d e m) (of_union M (automaton_of L e)) h.1 g.1 (after_first P e rest vars h.2)
-      (for_union d P (VarOf V e) B (Answer V A d e) M (automaton_of L e) (first_of P e rest vars h.2) b (first.whole h.0 g.0)) in
+  next_united e rest first others P B M h vars b =
+      let more = others.united_parts P (λ m. B m ⊎ Answer V A d e m) (of_union M (automaton_of L e)) h.1 (after_first P e rest vars h.2)
+      (for_union d P (VarOf V e) B (Answer V A d e) M (automaton_of L e) (first_of P e rest vars h.2) b (first.whole h.0)) in
       for_same d P P (λ m. (B m ⊎ Answer V A d e m) ⊎ Answer V A d rest m) (λ m. B m ⊎ Answer V A d (union e rest) m) (united L M (union e rest))
       (λ x. (λ p. p, λ p. p)) (λ m. (
         λ a. elim a [ inl c ↦ elim c [ inl s ↦ inl s | inr s ↦ inr (inl s) ] | inr c ↦ inr (inr c) ],
@@ -135,13 +133,13 @@ module _ (d : List ℕ) (bytes : AreBytes d) (n : ℕ) (V : ℕ → VarName → 
       )) more
 
   next_joined : (e rest : ExprTree) → AllFor e → AllFor rest → (P : VarName → Type 0) (B : Mapping → Type 0) (M : Marked) →
-      AreJoined V n (join e rest) → KeepsInOrder (join e rest) → ((x : VarName) → Told (P x)) → IsFor d P B M →
+      AreJoined V n (join e rest) → ((x : VarName) → Told (P x)) → IsFor d P B M →
       IsFor d (λ x. P x ⊎ VarOf V (join e rest) x) (Together P B (VarOf V (join e rest)) (Answer V A d (join e rest))) (together L M (join e rest))
-  next_joined e rest first others P B M h g told_p b =
+  next_joined e rest first others P B M h told_p b =
       let Q : VarName → Type 0 = VarOf V e in
       let R : VarName → Type 0 = VarOf V rest in
-      let more = others.joined_parts (λ x. P x ⊎ Q x) (Together P B Q (Answer V A d e)) (of_join M (automaton_of L e)) h.1 g.1
-      (λ x. told_or (told_p x) (told_of V told e x)) (for_join d P Q B (Answer V A d e) M (automaton_of L e) b (first.whole h.0 g.0)) in
+      let more = others.joined_parts (λ x. P x ⊎ Q x) (Together P B Q (Answer V A d e)) (of_join M (automaton_of L e)) h.1
+      (λ x. told_or (told_p x) (told_of V told e x)) (for_join d P Q B (Answer V A d e) M (automaton_of L e) b (first.whole h.0)) in
       for_same d (λ x. (P x ⊎ Q x) ⊎ R x) (λ x. P x ⊎ VarOf V (join e rest) x)
       (Together (λ x. P x ⊎ Q x) (Together P B Q (Answer V A d e)) R (Answer V A d rest)) (Together P B (VarOf V (join e rest)) (Answer V A d (join e rest)))
       (together L M (join e rest))
@@ -156,46 +154,46 @@ module _ (d : List ℕ) (bytes : AreBytes d) (n : ℕ) (V : ℕ → VarName → 
   no_united P B M b =
       for_same d P P B (λ m. B m ⊎ Answer V A d union_end m) M (λ x. (λ p. p, λ p. p)) (λ m. (λ a. inl a, λ a. elim a [ inl c ↦ c | inr c ↦ absurd c ])) b
 
-  one_union : (e rest : ExprTree) → AllFor e → AllFor rest → IsSoundExpr V n (union e rest) → KeepsInOrder (union e rest) →
+  one_union : (e rest : ExprTree) → AllFor e → AllFor rest → IsSoundExpr V n (union e rest) →
       IsFor d (VarOf V (union e rest)) (Answer V A d (union e rest)) (automaton_of L (union e rest))
-  one_union e rest first others h g =
+  one_union e rest first others h =
       let p = of_parts e rest h.3 in
       for_same d (VarOf V e) (VarOf V (union e rest)) (λ m. Answer V A d e m ⊎ Answer V A d rest m) (Answer V A d (union e rest)) (united L (automaton_of L e) rest)
-      p.0 (λ m. (λ a. a, λ a. a)) (others.united_parts (VarOf V e) (Answer V A d e) (automaton_of L e) h.1 g.1 p.1 (first.whole h.0 g.0))
+      p.0 (λ m. (λ a. a, λ a. a)) (others.united_parts (VarOf V e) (Answer V A d e) (automaton_of L e) h.1 p.1 (first.whole h.0))
 
-  one_join : (e rest : ExprTree) → AllFor e → AllFor rest → IsSoundExpr V n (join e rest) → KeepsInOrder (join e rest) →
+  one_join : (e rest : ExprTree) → AllFor e → AllFor rest → IsSoundExpr V n (join e rest) →
       IsFor d (VarOf V (join e rest)) (Answer V A d (join e rest)) (automaton_of L (join e rest))
-  one_join e rest first others h g =
+  one_join e rest first others h =
       for_same d (λ x. VarOf V e x ⊎ VarOf V rest x) (VarOf V (join e rest)) (Together (VarOf V e) (Answer V A d e) (VarOf V rest) (Answer V A d rest))
       (Answer V A d (join e rest)) (together L (automaton_of L e) rest) (λ x. (λ v. v, λ v. v)) (λ m. (λ a. a, λ a. a))
-      (others.joined_parts (VarOf V e) (Answer V A d e) (automaton_of L e) h.1 g.1 (told_of V told e) (first.whole h.0 g.0))
+      (others.joined_parts (VarOf V e) (Answer V A d e) (automaton_of L e) h.1 (told_of V told e) (first.whole h.0))
 
   all_for : (e : ExprTree) → AllFor e
   all_for (atom s t f) = record {
-    whole = λ h g. for_atom d bytes s t f h.0 h.1;
-    united_parts = λ P B M h g v b. absurd h;
-    joined_parts = λ P B M h g v b. absurd h;
+    whole = λ h. for_atom d bytes s t f h.0 h.1;
+    united_parts = λ P B M h v b. absurd h;
+    joined_parts = λ P B M h v b. absurd h;
   }
-  all_for (named k) = record { whole = λ h g. lets k h; united_parts = λ P B M h g v b. absurd h; joined_parts = λ P B M h g v b. absurd h }
-  all_for union_end = record { whole = λ h g. absurd h; united_parts = λ P B M h g v b. no_united P B M b; joined_parts = λ P B M h g v b. absurd h }
+  all_for (named k) = record { whole = λ h. lets k h; united_parts = λ P B M h v b. absurd h; joined_parts = λ P B M h v b. absurd h }
+  all_for union_end = record { whole = λ h. absurd h; united_parts = λ P B M h v b. no_united P B M b; joined_parts = λ P B M h v b. absurd h }
   all_for (union e rest) = record {
     whole = one_union e rest (all_for e) (all_for rest);
     united_parts = next_united e rest (all_for e) (all_for rest);
-    joined_parts = λ P B M h g v b. absurd h;
+    joined_parts = λ P B M h v b. absurd h;
   }
-  all_for join_end = record { whole = λ h g. absurd h; united_parts = λ P B M h g v b. absurd h; joined_parts = λ P B M h g v b. last_join P B M v b }
+  all_for join_end = record { whole = λ h. absurd h; united_parts = λ P B M h v b. absurd h; joined_parts = λ P B M h v b. last_join P B M v b }
   all_for (join e rest) = record {
     whole = one_join e rest (all_for e) (all_for rest);
-    united_parts = λ P B M h g v b. absurd h;
+    united_parts = λ P B M h v b. absurd h;
     joined_parts = next_joined e rest (all_for e) (all_for rest);
   }
   all_for (project kept e) = record {
-    whole = λ h g. for_projection d (VarOf V e) (Answer V A d e) kept (automaton_of L e) g.0 (λ x k. (h.1 x k).0) ((all_for e).whole h.0 g.1);
-    united_parts = λ P B M h g v b. absurd h;
-    joined_parts = λ P B M h g v b. absurd h;
+    whole = λ h. for_projection d (VarOf V e) (Answer V A d e) kept (automaton_of L e) h.2 (λ x k. (h.1 x k).0) ((all_for e).whole h.0);
+    united_parts = λ P B M h v b. absurd h;
+    joined_parts = λ P B M h v b. absurd h;
   }
 
-  pub expr_for : (e : ExprTree) → IsSoundExpr V n e → KeepsInOrder e → IsFor d (VarOf V e) (Answer V A d e) (automaton_of L e)
+  pub expr_for : (e : ExprTree) → IsSoundExpr V n e → IsFor d (VarOf V e) (Answer V A d e) (automaton_of L e)
   expr_for e = (all_for e).whole
 
 -- ---- lets and queries
@@ -207,7 +205,7 @@ some_there (x ∷ xs) (suc n) l e = some_there xs n (omega (arith, l)) e
 
 module _ (d : List ℕ) (bytes : AreBytes d) (lets : List (VarName × ExprTree))
     (sound : (k : ℕ) → ForSome (slice_get lets k) (λ l. IsSoundUnder lets k l.1))
-    (most : ℕ) (within : most ≤ length lets) (kept : (k : ℕ) (l : VarName × ExprTree) → k < most → slice_get lets k ≡ Some l → KeepsInOrder l.1) where
+    (most : ℕ) (within : most ≤ length lets) where
   abbrev LetFor : ℕ → ℕ → Type 0
   LetFor n k = IsFor d (vars_of_lets lets n k) (answers_of_lets lets d n k) (of_lets lets n k)
 
@@ -218,7 +216,7 @@ module _ (d : List ℕ) (bytes : AreBytes d) (lets : List (VarName × ExprTree))
   this_let n before l None at = absurd (some_there lets n (omega (arith, l, within)) at)
   this_let n before l (Some e) at =
       expr_for d bytes n (vars_of_lets lets n) (answers_of_lets lets d n) (of_lets lets n) before (told_lets lets n) e.1
-      (sound n e at).0 (kept n e l at)
+      (sound n e at).0
 
   next_let : (n : ℕ) → ((k : ℕ) → k < n → LetFor n k) → n < most → (k : ℕ) → k < suc n → (b : Bool) → nat_eq k n ≡ b →
       IsFor d (λ x. MatchBool b (IsSomeAnd (slice_get lets n) (λ l. VarOf (vars_of_lets lets n) l.1 x)) (vars_of_lets lets n k x))
@@ -233,21 +231,21 @@ module _ (d : List ℕ) (bytes : AreBytes d) (lets : List (VarName × ExprTree))
   lets_for (suc n) l k below = next_let n (lets_for n (omega (arith, l))) (omega (arith, l)) k below (nat_eq k n) refl
 
 -- the automaton of a query accepts the words of the rows of its answers, and no others
-pub query_for : (q : QueryTree) → IsSound q → QueryKeepsInOrder q → (d : List ℕ) → AreBytes d → IsFor d (IsResultVar q) (IsAnswer q d) (of_query q)
-query_for q s kept d bytes =
+pub query_for : (q : QueryTree) → IsSound q → (d : List ℕ) → AreBytes d → IsFor d (IsResultVar q) (IsAnswer q d) (of_query q)
+query_for q s d bytes =
     expr_for d bytes (length q.lets) (vars_of_lets q.lets (length q.lets)) (answers_of_lets q.lets d (length q.lets)) (of_lets q.lets (length q.lets))
-    (lets_for d bytes q.lets s.sound_lets (length q.lets) (omega arith) (λ k l b at. kept.0 l (Has-slice_get q.lets k l at)) (length q.lets) (omega arith)) (told_lets q.lets (length q.lets)) q.body s.sound_body.0 kept.1
+    (lets_for d bytes q.lets s.sound_lets (length q.lets) (omega arith) (length q.lets) (omega arith)) (told_lets q.lets (length q.lets)) q.body s.sound_body.0
 
 pub query_words : QueryWords
-query_words q s kept =
-    let some = query_for q s kept [] (λ i b e. absurd (cc)) in
-    (((some.ascending, some.names), λ d bytes. (query_for q s kept d bytes).words), some.whole)
+query_words q s =
+    let some = query_for q s [] (λ i b e. absurd (cc)) in
+    (((some.ascending, some.names), λ d bytes. (query_for q s d bytes).words), some.whole)
 
 -- and so does what reduces it
-pub words_of_reduct : (q : QueryTree) → IsSound q → QueryKeepsInOrder q → (A : Marked) → ReducesMarked A (of_query q) → AcceptsAnswersOf q A
-words_of_reduct q s kept A r =
+pub words_of_reduct : (q : QueryTree) → IsSound q → (A : Marked) → ReducesMarked A (of_query q) → AcceptsAnswersOf q A
+words_of_reduct q s A r =
     let B = of_query q in
-    let of = (query_words q s kept).0 in
+    let of = (query_words q s).0 in
     let names : B.names ≡ A.names = sym r.0 in
     let same : AcceptsAnswersOf q (record { names = A.names; graph = B.graph }) = subst (λ (ns : List VarName). AcceptsAnswersOf q (record { names = ns; graph = B.graph })) names of in (
       same.0,

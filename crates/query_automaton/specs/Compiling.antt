@@ -6,24 +6,19 @@ use Rattle.spanner_model.specs.Answer.{vars_of_lets}
 use Rattle.spanner_model.specs.Sound.{IsSound, IsSoundExpr, NameIn, NameOf}
 use Rattle.marked_automaton.specs.Automaton.{Marked}
 use Rattle.marked_automaton.specs.Reduct.{ReducesMarked}
-use Rattle.query_automaton.specs.Kept.{KeepsInOrder}
 use Rattle.query_automaton.specs.Parts.{HasSmallAtoms}
 use Rattle.query_automaton.specs.QueryAutomaton.{automaton_of, of_lets}
-
--- an expression whose projections keep their order, and whose atoms are small
-abbrev pub IsFine : ExprTree → Type 0
-IsFine e = KeepsInOrder e × HasSmallAtoms e
 
 -- what is made of an expression after n lets
 pub record IsCompiledFrom (q : QueryTree) (n : ℕ) (e : ExprTree) (a : Marked) : Type 0 where
   pub reduces : ReducesMarked a (automaton_of (of_lets q.lets n) e)
-  pub fine : IsFine e
+  pub small : HasSmallAtoms e
 
 -- the automata of the first lets of a query
 pub record AreCompiled (q : QueryTree) (lets : List Marked) : Type 0 where
   pub few : length lets ≤ length q.lets
   pub reduce : (k : ℕ) (a : Marked) → slice_get lets k ≡ Some a → ReducesMarked a (of_lets q.lets (length lets) k)
-  pub fine : (k : ℕ) (l : VarName × ExprTree) → k < length lets → slice_get q.lets k ≡ Some l → IsFine l.1
+  pub small : (k : ℕ) (l : VarName × ExprTree) → k < length lets → slice_get q.lets k ≡ Some l → HasSmallAtoms l.1
 
 -- what is asked of an expression that is compiled after n lets of a query
 pub record IsAsked (q : QueryTree) (n : ℕ) (e : ExprTree) : Type 0 where

@@ -8,7 +8,6 @@ use Rattle.spanner_model.specs.Sound.{IsSound}
 use Rattle.marked_automaton.specs.Automaton.{Accepts, IsWhole, Marked}
 use Rattle.place_automaton.specs.Atom.{AreBytes}
 use Rattle.place_automaton.specs.Words.{IsWordOf}
-use Rattle.query_automaton.specs.Kept.{QueryKeepsInOrder}
 use Rattle.query_automaton.specs.QueryAutomaton.{of_query}
 
 -- its variables are those of the query's result; its words are those of the rows of answers, and no others
@@ -20,4 +19,4 @@ AcceptsAnswersOf q A =
 
 -- the automaton of a sound query does, and is whole
 abbrev pub QueryWords : Type 0
-QueryWords = (q : QueryTree) → IsSound q → QueryKeepsInOrder q → AcceptsAnswersOf q (of_query q) × IsWhole (of_query q).graph
+QueryWords = (q : QueryTree) → IsSound q → AcceptsAnswersOf q (of_query q) × IsWhole (of_query q).graph

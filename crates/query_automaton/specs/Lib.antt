@@ -1,5 +1,4 @@
 pub mod Compiling
-pub mod Kept
 pub mod Laws
 pub mod Parts
 pub mod QueryAutomaton

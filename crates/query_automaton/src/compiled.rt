@@ -5,7 +5,6 @@ ghost use Rattle.spanner_model.specs.Sound.{IsSound};
 ghost use Rattle.marked_automaton.specs.Reduct.{IsUseful, ReducesMarked};
 ghost use Rattle.query_automaton.specs.Compiling.{AreCompiled};
 ghost use Rattle.query_automaton.specs.Laws.{AcceptsAnswersOf};
-ghost use Rattle.query_automaton.specs.Kept.{QueryKeepsInOrder};
 ghost use Rattle.query_automaton.specs.Parts.{AtomsAreSmall, HasLargePart};
 ghost use Rattle.query_automaton.specs.QueryAutomaton.{of_query};
 
@@ -47,7 +46,6 @@ pub fn compile<'q>(alloc: Global, query: &'q Query) -> Result<Compiled<'q>, Size
     ensures words { IfOk result (λ c. AcceptsAnswersOf (query_of query.now) c.automaton) }
     ensures useful { IfOk result (λ c. (p : ℕ) → p < c.automaton.graph.states → IsUseful c.automaton.graph p) }
     ensures query { IfOk result (λ c. c.query.now ≡ query.now) }
-    ensures kept { OnOk result (QueryKeepsInOrder (query_of query.now)) }
     ensures small { OnOk result (AtomsAreSmall (query_of query.now)) }
     ensures fault { IfErr result (HasLargePart (query_of query.now)) }
 {

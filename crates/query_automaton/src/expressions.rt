@@ -1,6 +1,5 @@
 //! The automata of expressions.
 ghost use Rattle.std.specs.Prelude.{◌≡◌, ℕ, ◌≤◌, length, IfOk, IfErr};
-ghost use Rattle.span_core.specs.NameSets.{Ascending};
 ghost use Rattle.span_core.specs.declared.TheConstants.{MOST_VARIABLES};
 ghost use Rattle.spanner_model.specs.Captures.{VarName};
 ghost use Rattle.spanner_model.specs.Expression.{QueryTree, atom as atom_tree, join_all, union_all};
@@ -75,7 +74,6 @@ fn projected(
     effort: &mut Effort,
 ) -> Result<Shared, OutOfMemory>
     requires { (x : VarName) → Has kept.now x → Has inner.names x }
-    ensures ascending { Ascending kept.now }
     ensures names { IfOk result (λ p. p.names ≡ kept.now) }
     ensures reduct { IfOk result (λ p. Reduces p.graph (remarked (left_of inner.names kept.now) inner.graph)) }
 {

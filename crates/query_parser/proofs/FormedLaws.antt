@@ -1,7 +1,10 @@
 -- What the grammar spells is formed.
-use Rattle.std.proofs.Common.{◌≡◌, ℕ, zero, suc, ◌+◌, ◌*◌, ◌<◌, ◌≤◌, List, [], ◌∷◌, ◌++◌, length, length-append, Some, slice_get, ap, refl, sym, subst, ◌∙◌, arith, inl, inr, ◌⊎◌}
+use Rattle.std.proofs.Common.{◌≡◌, ℕ, zero, suc, ◌+◌, ◌*◌, ◌<◌, ◌≤◌, List, [], ◌∷◌, ◌++◌, length, length-append, Some, slice_get, get_or, ap, refl, sym, subst, ◌∙◌, arith, inl, inr, ◌⊎◌}
 use Rattle.std.proofs.lemmas.Option.{slice_get_within}
 use Rattle.span_core.specs.Lists.{Has}
+use Rattle.span_core.specs.NameSets.{Ascending, AreVariables}
+use Rattle.span_core.proofs.HasLaws.{Has-get_or}
+use Rattle.span_core.proofs.NameSetLaws.{none_are_variables, with_ascends}
 use Rattle.spanner_model.specs.Captures.{VarName}
 use Rattle.spanner_model.specs.WellBuilt.{IsWellBuilt}
 use Rattle.spanner_model.specs.Expression.{ExprTree, union_end, union, join_end, join, union_all, join_all}
@@ -92,6 +95,19 @@ keep_free : {t : List Token} {kept : List VarName} → SpellsKeep t kept → (x 
 keep_free keeps_none x h = absurd h
 keep_free (keeps_names {xs = xs} s few) x h = elim (kept_from [] xs x h) [ inl g ↦ absurd g | inr g ↦ names_free s x g ]
 
+-- they are a set
+names_ascend : (names xs : List VarName) → Ascending names → Ascending (with_names names xs)
+names_ascend names [] up = up
+names_ascend names (x ∷ xs) up = names_ascend (with_name x names) xs (with_ascends x names up)
+
+keep_set : {t : List Token} {kept : List VarName} → SpellsKeep t kept → AreVariables kept
+keep_set keeps_none = none_are_variables
+keep_set (keeps_names {xs = xs} s few) = record {
+  few = few;
+  ascending = names_ascend [] xs none_are_variables.ascending;
+  named = λ k d l. (keep_free (keeps_names s few) (get_or (with_names [] xs) k d) (Has-get_or (with_names [] xs) k d l)).0;
+}
+
 mutual
   formed_expr : {names : List VarName} {room : ℕ} {t : List Token} {es : List ExprTree} → SpellsExpr names room t es → AtomsBuilt t →
       AllFormed (length names) (3 * room + 1) es × (0 < length es)
@@ -124,7 +140,7 @@ mutual
   formed_unit {names = names} (projection_of {room = room} {t = t} {u = u} {es = es} k s) b =
       let inner = (built_split t (open_paren ∷ (u ++ close_paren ∷ [])) b).1 in
       let x = formed_expr s (built_split u (close_paren ∷ []) inner).0 in
-      let d = formed_union (length names) (3 * room + 1) es x.1 x.0 in ((d.0, keep_free k), omega (arith, d.1))
+      let d = formed_union (length names) (3 * room + 1) es x.1 x.0 in ((d.0, keep_free k, keep_set k), omega (arith, d.1))
 
 -- a whole expression
 pub formed_whole : {names : List VarName} {t : List Token} {es : List ExprTree} → SpellsExpr names MOST_OPEN t es → AtomsBuilt t →

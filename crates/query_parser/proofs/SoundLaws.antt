@@ -14,7 +14,7 @@ mutual
   sound_expr V n (union e rest) b p = (sound_expr V n e b.0 p.0, united V n rest b.1 p.1, b.2, p.2)
   sound_expr V n join_end b p = b
   sound_expr V n (join e rest) b p = (sound_expr V n e b.0 p.0, joined V n rest b.1 p.1, b.2)
-  sound_expr V n (project kept e) b p = (sound_expr V n e b.0 p.0, λ x h. (p.1 x h, b.1 x h))
+  sound_expr V n (project kept e) b p = (sound_expr V n e b.0 p.0, (λ x h. (p.1 x h, b.1 x h)), b.2.ascending)
 
   united : (V : ℕ → VarName → Type 0) (n : ℕ) (e : ExprTree) → AreUnitedFormed n e → Passes V e → AreUnited V n e
   united V n union_end b p = tt

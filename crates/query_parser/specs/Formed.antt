@@ -2,6 +2,7 @@
 use Rattle.std.specs.Prelude.{◌≡◌, ℕ, ◌<◌, List, length, slice_get, Result, MatchResult, ◌⊎◌, ◌↔◌}
 use Rattle.std.specs.Option.{ForSome}
 use Rattle.span_core.specs.Lists.{Has}
+use Rattle.span_core.specs.NameSets.{AreVariables}
 use Rattle.spanner_model.specs.Captures.{VarName}
 use Rattle.spanner_model.specs.WellBuilt.{IsWellBuilt}
 use Rattle.spanner_model.specs.Expression.{ExprTree, QueryTree, atom, named, union_end, union, join_end, join, project}
@@ -22,7 +23,7 @@ abbrev mutual
   IsFormed n (union e rest) = IsFormed n e × AreUnitedFormed n rest × ¬ (rest ≡ union_end)
   IsFormed n join_end = ⊥
   IsFormed n (join e rest) = IsFormed n e × AreJoinedFormed n rest × ¬ (rest ≡ join_end)
-  IsFormed n (project kept e) = IsFormed n e × ((x : VarName) → Has kept x → IsFreeName x)
+  IsFormed n (project kept e) = IsFormed n e × ((x : VarName) → Has kept x → IsFreeName x) × AreVariables kept
 
   -- the parts that follow one of a union
   pub AreUnitedFormed : ℕ → ExprTree → Type 0

@@ -57,7 +57,7 @@ mutual
   sound_same V W same n (union e rest) h = (sound_same V W same n e h.0, united_same V W same n rest h.1, h.2, AgreesWithParts-same V W same e rest h.3)
   sound_same V W same n join_end h = h
   sound_same V W same n (join e rest) h = (sound_same V W same n e h.0, joined_same V W same n rest h.1, h.2)
-  sound_same V W same n (project kept e) h = (sound_same V W same n e h.0, λ x a. (var_same V W same e x (h.1 x a).0, (h.1 x a).1))
+  sound_same V W same n (project kept e) h = (sound_same V W same n e h.0, (λ x a. (var_same V W same e x (h.1 x a).0, (h.1 x a).1)), h.2)
 
   united_same : (V W : LetVars) → SameVars V W → (n : ℕ) (e : ExprTree) → AreUnited V n e → AreUnited W n e
   united_same V W same n union_end h = h

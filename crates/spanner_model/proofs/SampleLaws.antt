@@ -8,6 +8,8 @@ use Rattle.std.specs.FinSet.{contains-empty}
 use Rattle.std.proofs.lemmas.Cmp.{tied_itself}
 use Rattle.std.proofs.lemmas.Bool.{eqb-true}
 use Rattle.span_core.specs.Lists.{Has}
+use Rattle.span_core.specs.NameSets.{Ascending}
+use Rattle.span_core.proofs.NameSetLaws.{none_are_variables, with_ascends}
 use Rattle.spanner_model.specs.Tree.{cap}
 use Rattle.spanner_model.specs.Captures.{VarName}
 use Rattle.spanner_model.specs.WellBuilt.{IsVariable, IsBuilt, IsWellBuilt}
@@ -59,6 +61,9 @@ kept_are : (z : VarName) → Has (x ∷ []) z → VarOf (vars_of_lets named_and_
 kept_are z (inl e) = subst (λ (w : VarName). VarOf (vars_of_lets named_and_kept.lets 1) (named 0) w × IsFreeName w) e (inl refl, x_free)
 kept_are z (inr none) = absurd none
 
+x_ascends : Ascending (x ∷ [])
+x_ascends = with_ascends x [] none_are_variables.ascending
+
 names_free : (z : VarName) → Has (codes "w" ∷ []) z → IsFreeName z
 names_free z (inl e) = subst IsFreeName e (refl, w_no_word)
 names_free z (inr none) = absurd none
@@ -72,7 +77,7 @@ x_alone z (inr none) = absurd none
 pub query_sound : IsSound named_and_kept
 query_sound = record {
   sound_lets = lets_sound;
-  sound_body = ((omega arith, kept_are), omega arith);
+  sound_body = ((omega arith, kept_are, x_ascends), omega arith);
   distinct = (λ h. h, tt);
   free = names_free;
   few = (x ∷ [], omega arith, x_alone);

@@ -2,6 +2,7 @@
 use Rattle.std.specs.Prelude.{◌≡◌, ℕ, suc, ◌<◌, ◌≤◌, ◌⊎◌, ◌↔◌, max, List, [], ◌∷◌, length, map, slice_get, IsTrue, codes}
 use Rattle.std.specs.Option.{ForSome}
 use Rattle.span_core.specs.Names.{is_name}
+use Rattle.span_core.specs.NameSets.{Ascending}
 use Rattle.span_core.specs.declared.TheConstants.{MOST_VARIABLES}
 use Rattle.spanner_model.specs.declared.TheConstants.{MOST_NESTED_EXPRESSIONS}
 use Rattle.span_core.specs.Lists.{Has, AtMost, AreDistinct}
@@ -24,7 +25,8 @@ abbrev pub AgreesWithParts : (ℕ → VarName → Type 0) → ExprTree → ExprT
 AgreesWithParts V e union_end = Unit {0}
 AgreesWithParts V e rest = (x : VarName) → VarOf V e x ↔ VarOf V rest x
 
--- a sound expression under n lets, of which V k has the variables of the let k
+-- a sound expression under n lets, of which V k has the variables of the let k; what a projection keeps is a set, as the list
+-- that ascends strictly
 abbrev mutual
   pub IsSoundExpr : (ℕ → VarName → Type 0) → ℕ → ExprTree → Type 0
   IsSoundExpr V n (atom s t f) = IsWellBuilt f × IsFunctional f
@@ -33,7 +35,7 @@ abbrev mutual
   IsSoundExpr V n (union e rest) = IsSoundExpr V n e × AreUnited V n rest × ¬ (rest ≡ union_end) × AgreesWithParts V e rest
   IsSoundExpr V n join_end = ⊥
   IsSoundExpr V n (join e rest) = IsSoundExpr V n e × AreJoined V n rest × ¬ (rest ≡ join_end)
-  IsSoundExpr V n (project kept e) = IsSoundExpr V n e × ((x : VarName) → Has kept x → VarOf V e x × IsFreeName x)
+  IsSoundExpr V n (project kept e) = IsSoundExpr V n e × ((x : VarName) → Has kept x → VarOf V e x × IsFreeName x) × Ascending kept
 
   -- the parts that follow one of a union
   pub AreUnited : (ℕ → VarName → Type 0) → ℕ → ExprTree → Type 0

@@ -5,10 +5,9 @@ use Rattle.marked_automaton.specs.Reduct.{ReducesMarked}
 use Rattle.marked_automaton.proofs.Reducts.{reduct_of_reduct}
 use Rattle.algebra.proofs.Followed.{handed_on}
 use Rattle.query_automaton.specs.Compiling.{IsAsked, IsCompiledFrom}
-use Rattle.query_automaton.specs.Kept.{QueryKeepsInOrder}
 use Rattle.query_automaton.specs.Parts.{HasLargePart, HasLargePartOf}
 use Rattle.query_automaton.specs.QueryAutomaton.{of_lets, of_query}
-use Rattle.query_automaton.proofs.PieceLaws.{all_lets_fine, asked_body}
+use Rattle.query_automaton.proofs.PieceLaws.{all_lets_small, asked_body}
 use Rattle.query_automaton.proofs.QueryWords.{words_of_reduct}
 use Rattle.query_automaton.proofs.compiled.compile.Goals as goal
 
@@ -44,13 +43,8 @@ returns-clause-words c =
     let long : length c.deref.result.now ≡ length q.lets = ap length c.deref.ensures.value ∙ c.in_ok-lets.ensures.long in
     let body : IsCompiledFrom q (length q.lets) q.body c.in_ok-body.body = subst (λ n. IsCompiledFrom q n q.body c.in_ok-body.body) long c.in_ok-body.ensures.made in
     let made : ReducesMarked whole (of_query q) = subst (λ (m : Marked). ReducesMarked m (of_query q)) (sym c.in_ok-take.ensures) body.reduces in
-    let kept : QueryKeepsInOrder q = (λ l h. (all_lets_fine q c.in_ok-lets.lets.items c.in_ok-lets.ensures.made c.in_ok-lets.ensures.long l h).0, body.fine.0) in
-    words_of_reduct q c.requires kept a (c.in_ok-automaton.ensures.names ∙ made.0, reduct_of_reduct a.graph whole.graph (of_query q).graph c.in_ok-automaton.ensures.reduct made.1)
-
-pub returns-clause-kept : goal.returns-clause-kept
-returns-clause-kept c =
-    (λ l h. (all_lets_fine (query_of c.args.query.now) c.in_ok-lets.lets.items c.in_ok-lets.ensures.made c.in_ok-lets.ensures.long l h).0, c.in_ok-body.ensures.made.fine.0)
+    words_of_reduct q c.requires a (c.in_ok-automaton.ensures.names ∙ made.0, reduct_of_reduct a.graph whole.graph (of_query q).graph c.in_ok-automaton.ensures.reduct made.1)
 
 pub returns-clause-small : goal.returns-clause-small
 returns-clause-small c =
-    (λ l h. (all_lets_fine (query_of c.args.query.now) c.in_ok-lets.lets.items c.in_ok-lets.ensures.made c.in_ok-lets.ensures.long l h).1, c.in_ok-body.ensures.made.fine.1)
+    (λ l h. all_lets_small (query_of c.args.query.now) c.in_ok-lets.lets.items c.in_ok-lets.ensures.made c.in_ok-lets.ensures.long l h, c.in_ok-body.ensures.made.small)

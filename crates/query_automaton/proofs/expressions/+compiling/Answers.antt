@@ -37,7 +37,7 @@ expr_automaton-returns-in_ok-share-in-Named-clause-made t c =
     let within : k < length lets = (subst (IsAsked q (length lets)) e c.requires.asked).sound_expr in
     let there : slice_get lets k ≡ Some a =
     slice_get-get_or lets k c.index-lets-k.result within ∙ ap Some (sym c.index-lets-k.is ∙ sym c.in_ok-share-in-Named.ensures) in
-    subst (λ (w : ExprTree). IsCompiledFrom q (length lets) w a) (sym e) (record { reduces = c.requires.known.reduce k a there; fine = (tt, tt) })
+    subst (λ (w : ExprTree). IsCompiledFrom q (length lets) w a) (sym e) (record { reduces = c.requires.known.reduce k a there; small = tt })
 
 pub expr_automaton-projected-requires : goal.expr_automaton-projected-requires
 expr_automaton-projected-requires t c =
@@ -58,7 +58,7 @@ expr_automaton-returns-in_ok-projected-in-Project-clause-made t c =
     let p = c.in_ok-projected-in-Project in
     subst (λ (w : ExprTree). IsCompiledFrom q (length lets) w p.field-0) (sym e)
     (projected q lets c.requires.known kept (expr_of c.deref.result.now) (subst (IsAsked q (length lets)) e c.requires.asked) inner.inner inner.ensures.made
-    p.field-0 p.ensures.ascending p.ensures.names p.ensures.reduct)
+    p.field-0 p.ensures.names p.ensures.reduct)
 
 -- ---- a union
 

@@ -30,4 +30,4 @@ returns-clause-made c = λ q n.
     atom_made a.from_start a.to_end f c.requires.built c.requires.functional whole trim.field-0 of.names.0 of.names.1
     (rearranged_reduces whole.graph (atom_automaton whole.names a.from_start a.to_end f) of.reduct) trim.ensures.names trim.ensures.reduct in
     let small = atom_small a.from_start a.to_end f c.requires.built c.requires.functional of.small.0 of.small.1 in
-    record { reduces = subst (λ (m : Marked). ReducesMarked m (of_atom a.from_start a.to_end f)) (sym c.in_ok-new.ensures) made; fine = (tt, small) }
+    record { reduces = subst (λ (m : Marked). ReducesMarked m (of_atom a.from_start a.to_end f)) (sym c.in_ok-new.ensures) made; small = small }
