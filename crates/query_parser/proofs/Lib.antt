@@ -25,7 +25,6 @@ pub mod PrintedTokens
 pub mod KeptNames
 pub mod PrintedSpelled
 pub mod PrintedQueries
-pub mod PrintedSets
 pub mod ToldNames
 pub mod ToldFormulas
 pub mod ToldQueries

@@ -1,15 +1,17 @@
 -- The printed form of a query spells it: its lets, one after another, and its body.
-use Rattle.std.proofs.Common.{◌≡◌, ℕ, zero, suc, ◌<◌, List, [], ◌∷◌, ◌++◌, length, Some, refl, sym, subst, ◌∙◌, arith, append_assoc, inl, inr}
+use Rattle.std.proofs.Common.{◌≡◌, ℕ, zero, suc, ◌<◌, ◌≤◌, List, [], ◌∷◌, ◌++◌, length, Some, Result, Ok, Err, refl, sym, subst, ◌∙◌, arith, append_assoc, inl, inr}
 use Rattle.std.specs.Prelude.{codes, slice_get}
+use Rattle.std.specs.Result.{OnOk}
 use Rattle.std.proofs.lemmas.List.{append-nil}
 use Rattle.spanner_model.specs.Captures.{VarName}
 use Rattle.span_core.specs.Lists.{Has, AreDistinct}
 use Rattle.spanner_model.specs.Sound.{IsFreeName, IsSound}
 use Rattle.spanner_model.specs.Expression.{ExprTree, QueryTree}
-use Rattle.query_parser.specs.declared.TheConstants.{MOST_OPEN}
+use Rattle.query_parser.specs.declared.TheConstants.{MOST_OPEN, MOST_TEXT_BYTES}
+use Rattle.query_parser.specs.Faults.{IsQueryText}
 use Rattle.query_parser.specs.Tokens.{Token, let_word, name_token, equals, semicolon, HasTokens}
 use Rattle.query_parser.specs.Spells.{union_tree, SpellsExpr, names_of, SpellsLets, no_let, more_lets}
-use Rattle.query_parser.specs.Printed.{shape, printed, let_text, lets_text, query_text, KeepsSets, IsShallow, IsShallowQuery, KeepsSetsOnly}
+use Rattle.query_parser.specs.Printed.{shape, printed, let_text, lets_text, query_text, IsShallow, IsShallowQuery}
 use Rattle.query_parser.specs.Formed.{IsFormed}
 use Rattle.query_parser.specs.PrintedLaws.{QueriesSpell, QueriesAreRead}
 use Rattle.query_parser.proofs.SoundFormed.{query_is_formed}
@@ -46,10 +48,10 @@ new_name (m ∷ done) l more distinct (inr h) = new_name done l more distinct.1 
 abbrev ExprText : List VarName → List ℕ → ExprTree → Type 0
 ExprText names v e = (us : List Token) × (es : List ExprTree) × Lexes v us × SpellsExpr names MOST_OPEN us es × (union_tree es ≡ e)
 
-expr_text : (done more whole : Lets) → done ++ more ≡ whole → ((x : VarName) → Has (names_of whole) x → IsFreeName x) → (e : ExprTree) → IsFormed (length done) e → KeepsSets e → IsShallow e →
+expr_text : (done more whole : Lets) → done ++ more ≡ whole → ((x : VarName) → Has (names_of whole) x → IsFreeName x) → (e : ExprTree) → IsFormed (length done) e → IsShallow e →
     ExprText (names_of done) (printed (names_of whole) e) e
-expr_text done more whole same free e formed sets shallow =
-    forms_expr names known n told MOST_OPEN (printed names e) e (shape e) (spelled names known n told e formed sets shallow.1 MOST_OPEN shallow.0)
+expr_text done more whole same free e formed shallow =
+    forms_expr names known n told MOST_OPEN (printed names e) e (shape e) (spelled names known n told e formed shallow.1 MOST_OPEN shallow.0)
   where
     names : List VarName
     names = names_of whole
@@ -87,17 +89,17 @@ next_let names u done l (ts, lexed, s) free new (us, es, lexes, x, is) =
       subst (λ e. SpellsLets (ts ++ more) (done ++ (l.0, e) ∷ [])) is (more_lets s free new x),
     )
 
-lets_spelled : (q : QueryTree) → IsSound q → KeepsSetsOnly q → IsShallowQuery q → (more done : Lets) → done ++ more ≡ q.lets → (u : List ℕ) → LetsText u done →
+lets_spelled : (q : QueryTree) → IsSound q → IsShallowQuery q → (more done : Lets) → done ++ more ≡ q.lets → (u : List ℕ) → LetsText u done →
     LetsText (u ++ lets_text (names_of q.lets) more) q.lets
-lets_spelled q sound sets shallow [] done same u (ts, lexed, s) =
+lets_spelled q sound shallow [] done same u (ts, lexed, s) =
     (ts, subst (λ v. LexedAlways v ts) (sym (append-nil u)) lexed, subst (SpellsLets ts) (sym (append-nil done) ∙ same) s)
-lets_spelled q sound sets shallow (l ∷ more) done same u before =
+lets_spelled q sound shallow (l ∷ more) done same u before =
     let names = names_of q.lets in
     let at : slice_get q.lets (length done) ≡ Some l = subst (λ ls. slice_get ls (length done) ≡ Some l) same (get_there done l more) in
     let free : IsFreeName l.0 = sound.free l.0 (subst (λ ls. Has (names_of ls) l.0) same (has_there done l more)) in
     let new = new_name done l more (subst (λ ls. AreDistinct (names_of ls)) (sym same) sound.distinct) in
-    let here = expr_text done (l ∷ more) q.lets same sound.free l.1 ((query_is_formed q sound).0 (length done) l at) (sets.0 (length done) l at) (shallow.0 (length done) l at) in
-    let rest = lets_spelled q sound sets shallow more (done ++ l ∷ []) (append_assoc done (l ∷ []) more ∙ same) (u ++ let_text names l) (next_let names u done l before free new here) in
+    let here = expr_text done (l ∷ more) q.lets same sound.free l.1 ((query_is_formed q sound).0 (length done) l at) (shallow.0 (length done) l at) in
+    let rest = lets_spelled q sound shallow more (done ++ l ∷ []) (append_assoc done (l ∷ []) more ∙ same) (u ++ let_text names l) (next_let names u done l before free new here) in
     (rest.0, subst (λ v. LexedAlways v rest.0) (append_assoc u (let_text names l) (lets_text names more)) rest.1, rest.2)
 
 nothing_lexed : LexedAlways [] []
@@ -106,10 +108,10 @@ nothing_lexed after text p more is has = subst (λ (k : ℕ). HasTokens text k m
 -- ---- a query
 
 pub query_spelled : QueriesSpell
-query_spelled q sound sets shallow =
+query_spelled q sound shallow =
     let names = names_of q.lets in
-    let (ts, lexed, lets) = lets_spelled q sound sets shallow q.lets [] refl [] ([], nothing_lexed, no_let) in
-    let (us, es, lexes, body, is) = expr_text q.lets [] q.lets (append-nil q.lets) sound.free q.body (query_is_formed q sound).1 sets.1 shallow.1 in (
+    let (ts, lexed, lets) = lets_spelled q sound shallow q.lets [] refl [] ([], nothing_lexed, no_let) in
+    let (us, es, lexes, body, is) = expr_text q.lets [] q.lets (append-nil q.lets) sound.free q.body (query_is_formed q sound).1 shallow.1 in (
       ts ++ us,
       lexed_whole (query_text q) (ts ++ us)
           (λ after stops. lexed_both (lets_text names q.lets) (printed names q.body) ts us after (lexed (printed names q.body ++ after)) (lexes after stops)),
@@ -117,4 +119,10 @@ query_spelled q sound sets shallow =
     )
 
 pub query_read : QueriesAreRead
-query_read q sound sets shallow short = (short, query_spelled q sound sets shallow, sound)
+query_read q sound shallow short = (short, query_spelled q sound shallow, sound)
+
+-- what was printed is a text of the query, within the limits
+pub printed_again : {T E : Type 0} (r : Result T E) (q : QueryTree) → IsSound q →
+    OnOk r (IsShallowQuery q → length (query_text q) ≤ MOST_TEXT_BYTES → IsQueryText (query_text q) q)
+printed_again (Ok done) q sound = query_read q sound
+printed_again (Err failed) q sound = tt

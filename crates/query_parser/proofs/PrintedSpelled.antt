@@ -17,7 +17,7 @@ use Rattle.formula_parser.specs.Printed.{wrapped, wrapped_open, atom_text}
 use Rattle.query_parser.specs.Tokens.{Token, atom_token, union_word, join_word, project_word, none_word, name_token, open_paren, close_paren, comma}
 use Rattle.query_parser.specs.Spells.{union_tree, join_tree, SpellsNames, one_name, more_names, SpellsKeep, keeps_none, keeps_names, SpellsExpr, lone_conj, more_conjs, SpellsConj, lone_unit, more_units, SpellsUnit, atom_unit, named_unit, group_of, projection_of}
 use Rattle.query_parser.specs.Formed.{IsFormed, AreUnitedFormed, AreJoinedFormed}
-use Rattle.query_parser.specs.Printed.{Shape, a_unit, a_join, a_union, shape, wraps_in_union, wraps_in_join, further, keep_text, printed, conj_texts, unit_texts, most_open, most_in_atoms, KeepsSets}
+use Rattle.query_parser.specs.Printed.{Shape, a_unit, a_join, a_union, shape, wraps_in_union, wraps_in_join, further, keep_text, printed, conj_texts, unit_texts, most_open, most_in_atoms}
 use Rattle.query_parser.proofs.KeptNames.{ascending_names}
 use Rattle.query_parser.proofs.PrintedTokens.{LexedAlways, Lexes, lexed_both, lexed_sign, lexed_name, lexed_none, lexed_atom, lexed_union, lexed_join, lexed_project, lexed_open, lexed_group}
 
@@ -201,41 +201,41 @@ module _ (names known : List VarName) (n : ℕ)
       )
 
   mutual
-    pub spelled : (e : ExprTree) → IsFormed n e → KeepsSets e → most_in_atoms e ≤ 100 → (room : ℕ) → most_open e ≤ room → Forms room (printed names e) e (shape e)
-    spelled (atom s t f) c sets few room h = atom_text_unit room (record { from_start = s; to_end = t; formula = f }) c few
-    spelled (named k) c sets few room h = named_text room k c
-    spelled union_end c sets few room h = absurd c
-    spelled (union e rest) c sets few room h =
+    pub spelled : (e : ExprTree) → IsFormed n e → most_in_atoms e ≤ 100 → (room : ℕ) → most_open e ≤ room → Forms room (printed names e) e (shape e)
+    spelled (atom s t f) c few room h = atom_text_unit room (record { from_start = s; to_end = t; formula = f }) c few
+    spelled (named k) c few room h = named_text room k c
+    spelled union_end c few room h = absurd c
+    spelled (union e rest) c few room h =
         let u = wrapped (wraps_in_union (shape e)) (printed names e) in
-        let here = in_union room (most_open e) (printed names e) e (shape e) (spelled e c.0 sets.0 (omega arith)) (omega arith) in
+        let here = in_union room (most_open e) (printed names e) e (shape e) (spelled e c.0 (omega arith)) (omega arith) in
         whole_union room (u ++ further (codes " union ") (conj_texts names rest)) e rest c.2
-        (conjs_spelled rest c.1 sets.1 (omega arith) room (omega arith) u (e ∷ []) (first_conj room u e here))
-    spelled join_end c sets few room h = absurd c
-    spelled (join e rest) c sets few room h =
+        (conjs_spelled rest c.1 (omega arith) room (omega arith) u (e ∷ []) (first_conj room u e here))
+    spelled join_end c few room h = absurd c
+    spelled (join e rest) c few room h =
         let u = wrapped (wraps_in_join (shape e)) (printed names e) in
-        let here = in_join room (most_open e) (printed names e) e (shape e) (spelled e c.0 sets.0 (omega arith)) (omega arith) in
+        let here = in_join room (most_open e) (printed names e) e (shape e) (spelled e c.0 (omega arith)) (omega arith) in
         whole_join room (u ++ further (codes " join ") (unit_texts names rest)) e rest c.2
-        (units_spelled rest c.1 sets.1 (omega arith) room (omega arith) u (e ∷ []) (first_unit room u e here))
-    spelled (project kept e) c sets few zero h = absurd (omega arith)
-    spelled (project kept e) c sets few (suc room) h =
-        projected_text room kept (printed names e) e c.1 sets.0 (forms_expr room (printed names e) e (shape e) (spelled e c.0 sets.1 few room (omega arith)))
+        (units_spelled rest c.1 (omega arith) room (omega arith) u (e ∷ []) (first_unit room u e here))
+    spelled (project kept e) c few zero h = absurd (omega arith)
+    spelled (project kept e) c few (suc room) h =
+        projected_text room kept (printed names e) e c.1 c.2 (forms_expr room (printed names e) e (shape e) (spelled e c.0 few room (omega arith)))
 
-    conjs_spelled : (e : ExprTree) → AreUnitedFormed n e → KeepsSets e → most_in_atoms e ≤ 100 → (room : ℕ) → most_open e ≤ room → (u : List ℕ) (fs : List ExprTree) → ConjsText room u fs →
+    conjs_spelled : (e : ExprTree) → AreUnitedFormed n e → most_in_atoms e ≤ 100 → (room : ℕ) → most_open e ≤ room → (u : List ℕ) (fs : List ExprTree) → ConjsText room u fs →
         Conjs room (u ++ further (codes " union ") (conj_texts names e)) fs e
-    conjs_spelled union_end c sets few room h u fs before = no_conj room u fs before
-    conjs_spelled (union e rest) c sets few room h u fs before =
+    conjs_spelled union_end c few room h u fs before = no_conj room u fs before
+    conjs_spelled (union e rest) c few room h u fs before =
         let v = wrapped (wraps_in_union (shape e)) (printed names e) in
-        let here = in_union room (most_open e) (printed names e) e (shape e) (spelled e c.0 sets.0 (omega arith)) (omega arith) in
+        let here = in_union room (most_open e) (printed names e) e (shape e) (spelled e c.0 (omega arith)) (omega arith) in
         conjs_after room u v (conj_texts names rest) fs e rest
-        (conjs_spelled rest c.1 sets.1 (omega arith) room (omega arith) (u ++ (codes " union " ++ v)) (fs ++ e ∷ []) (next_conj room u v fs e before here))
-    conjs_spelled _ c sets few room h u fs before = absurd c
+        (conjs_spelled rest c.1 (omega arith) room (omega arith) (u ++ (codes " union " ++ v)) (fs ++ e ∷ []) (next_conj room u v fs e before here))
+    conjs_spelled _ c few room h u fs before = absurd c
 
-    units_spelled : (e : ExprTree) → AreJoinedFormed n e → KeepsSets e → most_in_atoms e ≤ 100 → (room : ℕ) → most_open e ≤ room → (u : List ℕ) (fs : List ExprTree) → UnitsText room u fs →
+    units_spelled : (e : ExprTree) → AreJoinedFormed n e → most_in_atoms e ≤ 100 → (room : ℕ) → most_open e ≤ room → (u : List ℕ) (fs : List ExprTree) → UnitsText room u fs →
         Units room (u ++ further (codes " join ") (unit_texts names e)) fs e
-    units_spelled join_end c sets few room h u fs before = no_unit room u fs before
-    units_spelled (join e rest) c sets few room h u fs before =
+    units_spelled join_end c few room h u fs before = no_unit room u fs before
+    units_spelled (join e rest) c few room h u fs before =
         let v = wrapped (wraps_in_join (shape e)) (printed names e) in
-        let here = in_join room (most_open e) (printed names e) e (shape e) (spelled e c.0 sets.0 (omega arith)) (omega arith) in
+        let here = in_join room (most_open e) (printed names e) e (shape e) (spelled e c.0 (omega arith)) (omega arith) in
         units_after room u v (unit_texts names rest) fs e rest
-        (units_spelled rest c.1 sets.1 (omega arith) room (omega arith) (u ++ (codes " join " ++ v)) (fs ++ e ∷ []) (next_unit room u v fs e before here))
-    units_spelled _ c sets few room h u fs before = absurd c
+        (units_spelled rest c.1 (omega arith) room (omega arith) (u ++ (codes " join " ++ v)) (fs ++ e ∷ []) (next_unit room u v fs e before here))
+    units_spelled _ c few room h u fs before = absurd c

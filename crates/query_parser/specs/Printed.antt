@@ -1,7 +1,6 @@
 -- The printed forms of expressions and of queries.
 use Rattle.std.specs.Prelude.{ℕ, suc, ◌≤◌, max, Bool, true, false, List, [], ◌∷◌, ◌++◌, unwrap_or, slice_get, codes}
 use Rattle.std.specs.Option.{ForSome}
-use Rattle.span_core.specs.NameSets.{AreVariables}
 use Rattle.spanner_model.specs.Captures.{VarName}
 use Rattle.spanner_model.specs.Expression.{ExprTree, QueryTree, atom, named, union_end, union, join_end, join, project}
 use Rattle.formula_parser.specs.Printed.{wrapped, wrapped_open, atom_text}
@@ -103,19 +102,6 @@ most_in_atoms (project kept e) = most_in_atoms e
 abbrev pub IsShallow : ExprTree → Type 0
 IsShallow e = (most_open e ≤ MOST_OPEN) × (most_in_atoms e ≤ MOST_OPEN)
 
--- what each projection keeps is a set of variables: an ascending list, not too long
-abbrev pub KeepsSets : ExprTree → Type 0
-KeepsSets (atom s t f) = Unit {0}
-KeepsSets (named k) = Unit {0}
-KeepsSets union_end = Unit {0}
-KeepsSets (union e rest) = KeepsSets e × KeepsSets rest
-KeepsSets join_end = Unit {0}
-KeepsSets (join e rest) = KeepsSets e × KeepsSets rest
-KeepsSets (project kept e) = AreVariables kept × KeepsSets e
-
 -- the same of each let and of the body
 abbrev pub IsShallowQuery : QueryTree → Type 0
 IsShallowQuery q = ((k : ℕ) → ForSome (slice_get q.lets k) (λ l. IsShallow l.1)) × IsShallow q.body
-
-abbrev pub KeepsSetsOnly : QueryTree → Type 0
-KeepsSetsOnly q = ((k : ℕ) → ForSome (slice_get q.lets k) (λ l. KeepsSets l.1)) × KeepsSets q.body

@@ -1,6 +1,5 @@
 //! Prints queries.
 ghost use Rattle.std.specs.Prelude.{◌≡◌, ◌++◌, ◌∷◌, [], ◌<◌, ◌≤◌, length, slice_get, unwrap_or, OnOk, OnErr, if◌then◌else◌};
-ghost use Rattle.span_core.specs.NameSets.{AreVariables};
 ghost use Rattle.span_core.specs.Lists.{Has};
 ghost use Rattle.spanner_model.specs.Expression.{ExprTree, union_all, join_all, project};
 ghost use Rattle.spanner_model.specs.ExprView.{expr_of, exprs_of, lets_of, query_of};
@@ -13,7 +12,7 @@ ghost use Rattle.query_parser.specs.Spells.{names_of};
 ghost use Rattle.query_parser.specs.declared.TheConstants.{MOST_TEXT_BYTES};
 ghost use Rattle.query_parser.specs.Faults.{IsQueryText};
 ghost use Rattle.query_parser.specs.Formed.{IsFormed, IsFormedQuery};
-ghost use Rattle.query_parser.specs.Printed.{shape, wraps_in_union, wraps_in_join, keep_text, printed, let_text, query_text, KeepsSets, IsShallowQuery, KeepsSetsOnly};
+ghost use Rattle.query_parser.specs.Printed.{shape, wraps_in_union, wraps_in_join, keep_text, printed, let_text, query_text, IsShallowQuery};
 ghost use Rattle.query_parser.specs.PrinterView.{shape_of};
 
 use formula_parser::print_atom;
@@ -85,7 +84,6 @@ fn push_query(query: &Query, out: &mut Vec<u8>) -> Result<(), OutOfMemory>
     requires { IsFormedQuery (query_of query.now) }
     ensures ok { OnOk result (out.new.items ≡ out.old.items ++ query_text (query_of query.now)) }
     ensures front { IsFront out.old.items out.new.items }
-    ensures sets { OnOk result (KeepsSetsOnly (query_of query.now)) }
 {
     for k in 0..query.lets.len() {
         push_let(query.lets.at(k), &query.lets, out)?;
@@ -98,7 +96,6 @@ fn push_let(named: &(Name, Expr), lets: &Lets, out: &mut Vec<u8>) -> Result<(), 
     requires { IsFormed (length (lets_of lets.now)) (expr_of named.now.1) }
     ensures ok { OnOk result (out.new.items ≡ out.old.items ++ let_text (names_of (lets_of lets.now)) (named.now.0, expr_of named.now.1)) }
     ensures front { IsFront out.old.items out.new.items }
-    ensures sets { OnOk result (KeepsSets (expr_of named.now.1)) }
 {
     push(b"let ", out)?;
     push(named.0.as_bytes(), out)?;
@@ -112,7 +109,6 @@ fn push_expr(expr: &Expr, lets: &Lets, out: &mut Vec<u8>) -> Result<(), OutOfMem
     requires { IsFormed (length (lets_of lets.now)) (expr_of expr.now) }
     ensures ok { OnOk result (out.new.items ≡ out.old.items ++ printed (names_of (lets_of lets.now)) (expr_of expr.now)) }
     ensures front { IsFront out.old.items out.new.items }
-    ensures sets { OnOk result (KeepsSets (expr_of expr.now)) }
 {
     match expr {
         Expr::Atom(atom) => push_atom(atom, out),
@@ -129,7 +125,6 @@ fn push_union(parts: &Exprs, lets: &Lets, out: &mut Vec<u8>) -> Result<(), OutOf
     requires { (e : ExprTree) → Has (exprs_of parts.now) e → IsFormed (length (lets_of lets.now)) e }
     ensures ok { OnOk result (out.new.items ≡ out.old.items ++ printed (names_of (lets_of lets.now)) (union_all (exprs_of parts.now))) }
     ensures front { IsFront out.old.items out.new.items }
-    ensures sets { OnOk result (KeepsSets (union_all (exprs_of parts.now))) }
 {
     for k in 0..parts.len() {
         let part = parts.at(k);
@@ -145,7 +140,6 @@ fn push_join(parts: &Exprs, lets: &Lets, out: &mut Vec<u8>) -> Result<(), OutOfM
     requires { (e : ExprTree) → Has (exprs_of parts.now) e → IsFormed (length (lets_of lets.now)) e }
     ensures ok { OnOk result (out.new.items ≡ out.old.items ++ printed (names_of (lets_of lets.now)) (join_all (exprs_of parts.now))) }
     ensures front { IsFront out.old.items out.new.items }
-    ensures sets { OnOk result (KeepsSets (join_all (exprs_of parts.now))) }
 {
     for k in 0..parts.len() {
         let part = parts.at(k);
@@ -165,7 +159,6 @@ fn push_projection(
     requires { IsFormed (length (lets_of lets.now)) (expr_of sub.now) }
     ensures ok { OnOk result (out.new.items ≡ out.old.items ++ printed (names_of (lets_of lets.now)) (project kept.now (expr_of sub.now))) }
     ensures front { IsFront out.old.items out.new.items }
-    ensures sets { OnOk result (KeepsSets (project kept.now (expr_of sub.now))) }
 {
     push(b"project ", out)?;
     push_keep(kept, out)?;
@@ -180,7 +173,6 @@ fn push_wrapped(wraps: bool, expr: &Expr, lets: &Lets, out: &mut Vec<u8>) -> Res
     requires { IsFormed (length (lets_of lets.now)) (expr_of expr.now) }
     ensures ok { OnOk result (out.new.items ≡ out.old.items ++ wrapped wraps (printed (names_of (lets_of lets.now)) (expr_of expr.now))) }
     ensures front { IsFront out.old.items out.new.items }
-    ensures sets { OnOk result (KeepsSets (expr_of expr.now)) }
 {
     if !wraps {
         return push_expr(expr, lets, out);
@@ -211,7 +203,6 @@ fn push_name(k: u32, lets: &Lets, out: &mut Vec<u8>) -> Result<(), OutOfMemory>
 fn push_keep(kept: &VarSet, out: &mut Vec<u8>) -> Result<(), OutOfMemory>
     ensures ok { OnOk result (out.new.items ≡ out.old.items ++ keep_text kept.now) }
     ensures front { IsFront out.old.items out.new.items }
-    ensures sets { AreVariables kept.now }
 {
     if kept.len() == 0 {
         return push(b"none", out);

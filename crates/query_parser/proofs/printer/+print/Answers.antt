@@ -10,10 +10,9 @@ use Rattle.spanner_model.proofs.ExprTrees.{expr_of-Union, expr_of-Join}
 use Rattle.formula_parser.proofs.PrintedTrees.{front_more}
 use Rattle.query_parser.specs.Spells.{names_of}
 use Rattle.query_parser.specs.Formed.{IsFormed}
-use Rattle.query_parser.specs.Printed.{wraps_in_union, wraps_in_join, keep_text, printed, KeepsSets}
+use Rattle.query_parser.specs.Printed.{wraps_in_union, wraps_in_join, keep_text, printed}
 use Rattle.query_parser.proofs.ReachLaws.{union_formed, join_formed}
 use Rattle.query_parser.proofs.PrintedParts.{conj_text, unit_text, conj_put, unit_put, text_at, texts_put, union_done, join_done, five_on}
-use Rattle.query_parser.proofs.PrintedSets.{union_keeps, join_keeps}
 use Rattle.query_parser.proofs.printer.+print.Goals as goal
 
 pub push_expr-push_union-requires : goal.push_expr-push_union-requires
@@ -63,7 +62,6 @@ push_union-loop-k-preserved t c =
       printed = texts_put c.loop-k.out.items (codes " union ") (map (conj_text names) es) c.loop-k.k (conj_text names e) c.push_given.new.out.items c.push_wrapped.new.out.items _
           (text_at (conj_text names) es c.loop-k.k e c.at-part.ensures) c.in_ok-push_given.ensures.ok
           (conj_put names e c.wraps_in_union.result c.push_given.new.out.items c.push_wrapped.new.out.items w c.in_ok-push_wrapped.ensures.ok) c.loop-k.invariant.printed;
-      sets = union_keeps es c.loop-k.k e c.at-part.ensures c.loop-k.invariant.sets c.in_ok-push_wrapped.ensures.sets;
       front = front_more _ _ _ (front_more _ _ _ c.loop-k.invariant.front c.in_ok-push_given.ensures.front) c.in_ok-push_wrapped.ensures.front;
     }
 
@@ -77,7 +75,6 @@ push_join-loop-k-preserved t c =
       printed = texts_put c.loop-k.out.items (codes " join ") (map (unit_text names) es) c.loop-k.k (unit_text names e) c.push_given.new.out.items c.push_wrapped.new.out.items _
           (text_at (unit_text names) es c.loop-k.k e c.at-part.ensures) c.in_ok-push_given.ensures.ok
           (unit_put names e c.wraps_in_join.result c.push_given.new.out.items c.push_wrapped.new.out.items w c.in_ok-push_wrapped.ensures.ok) c.loop-k.invariant.printed;
-      sets = join_keeps es c.loop-k.k e c.at-part.ensures c.loop-k.invariant.sets c.in_ok-push_wrapped.ensures.sets;
       front = front_more _ _ _ (front_more _ _ _ c.loop-k.invariant.front c.in_ok-push_given.ensures.front) c.in_ok-push_wrapped.ensures.front;
     }
 
@@ -96,11 +93,3 @@ push_projection-returns-clause-ok t c =
     five_on c.push-3.result c.args.out.now.items (codes "project ") (keep_text c.args.kept.now) (codes " (") (printed (names_of (lets_of c.args.lets.now)) (expr_of c.args.sub.now)) (41 ∷ [])
     c.push.new.out.items c.push_keep.new.out.items c.push-2.new.out.items c.push_expr.new.out.items c.push-3.new.out.items c.in_ok-push.ensures.ok c.in_ok-push_keep.ensures.ok
     c.in_ok-push-2.ensures.ok c.in_ok-push_expr.ensures.ok c.push-3.ensures.ok
-
-pub push_union-returns-clause-sets : goal.push_union-returns-clause-sets
-push_union-returns-clause-sets t c =
-    subst (λ es. KeepsSets (union_all es)) (take_all c.loop-k.k (exprs_of c.args.parts.now) (omega (arith, c.loop-k-test.false, c.len-k-end.ensures))) c.loop-k.invariant.sets
-
-pub push_join-returns-clause-sets : goal.push_join-returns-clause-sets
-push_join-returns-clause-sets t c =
-    subst (λ es. KeepsSets (join_all es)) (take_all c.loop-k.k (exprs_of c.args.parts.now) (omega (arith, c.loop-k-test.false, c.len-k-end.ensures))) c.loop-k.invariant.sets

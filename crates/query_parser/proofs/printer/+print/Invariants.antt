@@ -1,11 +1,11 @@
-use Rattle.std.proofs.Common.{◌≡◌, ◌+◌, ◌*◌, ◌++◌, map, take}
+use Rattle.std.proofs.Common.{◌≡◌, ◌+◌, ◌*◌, ◌++◌, map}
 use Rattle.std.specs.Prelude.{codes}
-use Rattle.spanner_model.specs.Expression.{union_all, join_all}
+use Rattle.spanner_model.specs.Expression.{join_all}
 use Rattle.spanner_model.specs.ExprView.{expr_of, exprs_of, lets_of}
 use Rattle.spanner_model.proofs.Nodes.{expr_nodes}
 use Rattle.formula_parser.specs.Printed.{IsFront}
 use Rattle.query_parser.specs.Spells.{names_of}
-use Rattle.query_parser.specs.Printed.{joined, KeepsSets}
+use Rattle.query_parser.specs.Printed.{joined}
 use Rattle.query_parser.proofs.PrintedParts.{texts_from, conj_text, unit_text}
 use Rattle.query_parser.proofs.printer.+print.Given as goal
 
@@ -28,7 +28,6 @@ abbrev pub invariant-push_union-loop-k : goal.invariant-push_union-loop-k
 invariant-push_union-loop-k l = record {
   printed : l.out.items ++ texts_from (codes " union ") l.k (map (conj_text (names_of (lets_of l.lets))) (exprs_of l.parts))
       ≡ l.fn.out.items ++ joined (codes " union ") (map (conj_text (names_of (lets_of l.lets))) (exprs_of l.parts));
-  sets : KeepsSets (union_all (take l.k (exprs_of l.parts)));
   front : IsFront l.fn.out.items l.out.items;
 }
 
@@ -36,6 +35,5 @@ abbrev pub invariant-push_join-loop-k : goal.invariant-push_join-loop-k
 invariant-push_join-loop-k l = record {
   printed : l.out.items ++ texts_from (codes " join ") l.k (map (unit_text (names_of (lets_of l.lets))) (exprs_of l.parts))
       ≡ l.fn.out.items ++ joined (codes " join ") (map (unit_text (names_of (lets_of l.lets))) (exprs_of l.parts));
-  sets : KeepsSets (join_all (take l.k (exprs_of l.parts)));
   front : IsFront l.fn.out.items l.out.items;
 }

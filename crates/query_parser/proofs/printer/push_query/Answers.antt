@@ -6,7 +6,6 @@ use Rattle.formula_parser.proofs.PrintedTrees.{front_more, front_same}
 use Rattle.query_parser.specs.Spells.{names_of}
 use Rattle.query_parser.specs.Printed.{printed}
 use Rattle.query_parser.proofs.PrintedParts.{lets_put, query_put}
-use Rattle.query_parser.proofs.PrintedSets.{no_let_yet, let_keeps, query_keeps}
 use Rattle.query_parser.proofs.SoundFormed.{formed_under}
 use Rattle.query_parser.proofs.printer.push_query.Goals as goal
 
@@ -22,7 +21,6 @@ loop-k-preserved c =
     record {
       printed = lets_put (names_of lets) lets c.loop-k.k (c.at.result.now.0, expr_of c.at.result.now.1) c.loop-k.out.items c.push_let.new.out.items _ c.at.ensures c.in_ok-push_let.ensures.ok
           c.loop-k.invariant.printed;
-      sets = let_keeps lets c.loop-k.k (c.at.result.now.0, expr_of c.at.result.now.1) c.at.ensures c.loop-k.invariant.sets c.in_ok-push_let.ensures.sets;
       front = front_more _ _ _ c.loop-k.invariant.front c.in_ok-push_let.ensures.front;
     }
 
@@ -33,10 +31,4 @@ returns-clause-ok c =
     (omega (arith, c.loop-k-test.false, c.len-k-end.ensures)) c.loop-k.invariant.printed c.push_expr.ensures.ok
 
 pub loop-k-init : goal.loop-k-init
-loop-k-init c =
-    let lets = lets_of c.args.query.now.lets in
-    record { printed = refl; sets = no_let_yet lets; front = front_same c.args.out.now.items }
-
-pub returns-clause-sets : goal.returns-clause-sets
-returns-clause-sets c =
-    query_keeps c.push_expr.result (query_of c.args.query.now) c.loop-k.k (omega (arith, c.loop-k-test.false, c.len-k-end.ensures)) c.loop-k.invariant.sets c.push_expr.ensures.sets
+loop-k-init c = record { printed = refl; front = front_same c.args.out.now.items }

@@ -3,13 +3,11 @@ use Rattle.spanner_model.specs.ExprView.{lets_of}
 use Rattle.formula_parser.specs.Printed.{IsFront}
 use Rattle.query_parser.specs.Spells.{names_of}
 use Rattle.query_parser.specs.Printed.{lets_text}
-use Rattle.query_parser.proofs.PrintedSets.{LetsKeep}
 use Rattle.query_parser.proofs.printer.push_query.Given as goal
 
 abbrev pub invariant-loop-k : goal.invariant-loop-k
 invariant-loop-k l = record {
   printed : l.out.items ++ lets_text (names_of (lets_of l.query.lets)) (drop l.k (lets_of l.query.lets))
       ≡ l.fn.out.items ++ lets_text (names_of (lets_of l.query.lets)) (lets_of l.query.lets);
-  sets : LetsKeep (lets_of l.query.lets) l.k;
   front : IsFront l.fn.out.items l.out.items;
 }
