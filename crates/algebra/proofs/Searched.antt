@@ -20,7 +20,7 @@ use Rattle.algebra.specs.declared.halves.Side.{Side}
 use Rattle.algebra.specs.declared.pairs.Pair.{Pair}
 use Rattle.algebra.specs.Renaming.{half_way}
 use Rattle.algebra.specs.Sides.{IsProductRefusal, half_ways_of}
-use Rattle.algebra.specs.Pairs.{pair_of, pairs, those_at, PairWay, AreRowsOf, AreStarted, AreWithin, IsRefusalOf, LeadWithin, half_from, steps_at, steps_between, steps_of, way_from, way_pair, ways_at, ways_meet}
+use Rattle.algebra.specs.Pairs.{pair_of, pairs, those_at, PairWay, AreRowsOf, AreStarted, AreWithin, IsRefusalOf, LeadWithin, half_from, way_from, way_pair, ways_at, ways_meet}
 use Rattle.algebra.proofs.Gathered.{one_of, gathered, those_map}
 use Rattle.marked_automaton.proofs.Passing.{filter_cases}
 use Rattle.algebra.proofs.Places.{keep_if, filter_is}
@@ -92,25 +92,12 @@ pub row_few : (own shared : List (Option ℕ)) (p most : ℕ) (all ws : List Way
 row_few own shared p most all ws hs row made few =
     omega (arith, ap length made, length-map ws (half_way own shared), ap length row, filter_no_more (λ y. nat_eq (way_from y) p) all, few)
 
--- the steps where a side has nothing, and where both have something
-pub no_steps : (n m : ℕ) → ((n ≡ 0) ⊎ (m ≡ 0)) → 0 ≡ steps_between n m
-no_steps zero m h = refl
-no_steps (suc n) zero h = refl
-no_steps (suc n) (suc m) (inl e) = absurd (omega (arith, e))
-no_steps (suc n) (suc m) (inr e) = absurd (omega (arith, e))
-
-pub some_steps : (n m : ℕ) → ¬ (n ≡ 0) → ¬ (m ≡ 0) → n * m + n + m ≡ steps_between n m
-some_steps zero m l r = absurd (l refl)
-some_steps (suc n) zero l r = absurd (r refl)
-some_steps (suc n) (suc m) l r = refl
-
 pub rows_of : (xs ys lefts rights : List HalfWay) (k : Pair) → lefts ≡ those_at half_from k.left xs → rights ≡ those_at half_from k.right ys →
-    ¬ (length (those_at half_from k.left xs) ≡ 0) → ¬ (length (those_at half_from k.right ys) ≡ 0) → AreRowsOf xs ys k lefts rights
-rows_of xs ys lefts rights k l r some1 some2 = record {
+    AreRowsOf xs ys k lefts rights
+rows_of xs ys lefts rights k l r = record {
   left = λ x h. row_has half_from k.left xs x (subst (λ (zs : List HalfWay). Has zs x) l h);
   right = λ y h. row_has half_from k.right ys y (subst (λ (zs : List HalfWay). Has zs y) r h);
   made = λ i. pairs ways_meet way_pair (r i) (l i);
-  steps = (λ i. length (l i) * length (r i) + length (l i) + length (r i)) ∙ some_steps (length (those_at half_from k.left xs)) (length (those_at half_from k.right ys)) some1 some2;
 }
 
 pub no_rows_of : (xs ys : List HalfWay) (k : Pair) → ((length (those_at half_from k.left xs) ≡ 0) ⊎ (length (those_at half_from k.right ys) ≡ 0)) → AreRowsOf xs ys k [] []
@@ -118,7 +105,6 @@ no_rows_of xs ys k h = record {
   left = λ x n. absurd n;
   right = λ y n. absurd n;
   made = sym (pairs_none (those_at half_from k.left xs) (those_at half_from k.right ys) h);
-  steps = no_steps (length (those_at half_from k.left xs)) (length (those_at half_from k.right ys)) h;
 }
 
 -- a state of the second side more
@@ -186,14 +172,3 @@ pub refusal_within : (A B : Automaton) (xs ys : List HalfWay) (keys : List Pair)
     IsSizeFaultWithin (A.states * B.states) w e
 refusal_within A B xs ys keys ways e (inl h) w within lead few = h A.states B.states w within lead few
 refusal_within A B xs ys keys ways e (inr h) w within lead few = subst (λ (e : SizeFault). IsSizeFaultWithin (A.states * B.states) w e) (sym h.1) (h.0, omega arith)
-
--- one pair more
-pub steps_append : (xs ys : List HalfWay) (keys : List Pair) (k : Pair) → steps_of xs ys (keys ++ k ∷ []) ≡ steps_of xs ys keys + steps_at xs ys k
-steps_append xs ys [] k = omega arith
-steps_append xs ys (key ∷ keys) k = omega (arith, steps_append xs ys keys k)
-
-pub steps_more : (xs ys : List HalfWay) (keys found : List Pair) (done : ℕ) (k : Pair) → done < length keys → k ≡ get_or keys done k →
-    steps_of xs ys (take (done + 1) (keys ++ found)) ≡ steps_of xs ys (take done keys) + steps_at xs ys k
-steps_more xs ys keys found done k l is =
-    ap (steps_of xs ys) (take-append-le (done + 1) keys found (omega (arith, l)) ∙ (take_more keys done k l ∙ ap (λ z. take done keys ++ z ∷ []) (sym is)))
-    ∙ steps_append xs ys (take done keys) k

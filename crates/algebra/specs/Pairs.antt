@@ -70,27 +70,11 @@ those_at at p xs = filter (λ x. nat_eq (at x) p) xs
 abbrev pub pairs_at : {X Y R : Type 0} → (X → ℕ) → (Y → ℕ) → (X → Y → Bool) → (X → Y → R) → List X → List Y → Pair → List R
 pairs_at at1 at2 test make xs ys k = pairs test make (those_at at2 k.right ys) (those_at at1 k.left xs)
 
--- the steps of trying so many ways with so many: one for each two, and one for each; none where a side has none
-abbrev pub steps_between : ℕ → ℕ → ℕ
-steps_between zero m = 0
-steps_between (suc n) zero = 0
-steps_between (suc n) (suc m) = suc n * suc m + suc n + suc m
-
--- the steps at one pair
-abbrev pub steps_at : List HalfWay → List HalfWay → Pair → ℕ
-steps_at xs ys k = steps_between (length (those_at half_from k.left xs)) (length (those_at half_from k.right ys))
-
--- the steps at all pairs
-abbrev pub steps_of : List HalfWay → List HalfWay → List Pair → ℕ
-steps_of xs ys [] = 0
-steps_of xs ys (k ∷ keys) = steps_at xs ys k + steps_of xs ys keys
-
--- these of the first and these of the second make what is made at the pair, in its steps
+-- these of the first and these of the second make what is made at the pair
 pub record AreRowsOf (xs ys : List HalfWay) (k : Pair) (lefts rights : List HalfWay) : Type 0 where
   pub left : (x : HalfWay) → Has lefts x → Has xs x × (half_from x ≡ k.left)
   pub right : (y : HalfWay) → Has rights y → Has ys y × (half_from y ≡ k.right)
   pub made : pairs ways_meet way_pair rights lefts ≡ pairs_at half_from half_from ways_meet way_pair xs ys k
-  pub steps : length lefts * length rights + length lefts + length rights ≡ steps_at xs ys k
 
 -- a way of the automaton whose states are the places of these pairs
 pub record IsWayBetween (keys : List Pair) (r : PairWay) (y : Way) : Type 0 where

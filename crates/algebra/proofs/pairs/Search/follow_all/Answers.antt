@@ -7,10 +7,10 @@ use Rattle.span_core.specs.Lists.{Has}
 use Rattle.marked_automaton.specs.declared.fault.SizeFault.{SizeFault}
 use Rattle.algebra.specs.declared.halves.HalfWay.{HalfWay}
 use Rattle.algebra.specs.declared.pairs.Pair.{Pair}
-use Rattle.algebra.specs.Pairs.{PairWay, IsFollowed, IsRefusalOf, pair_of, pairs, steps_at, steps_of, way_pair, ways_at, ways_meet}
+use Rattle.algebra.specs.Pairs.{PairWay, IsFollowed, IsRefusalOf, pair_of, pairs, way_pair, ways_at, ways_meet}
 use Rattle.algebra.specs.Sides.{IsProductRefusal, half_ways_of}
 use Rattle.algebra.proofs.Followed.{followed_none, followed_then, refusal_then, handed_on, keys_apart}
-use Rattle.algebra.proofs.Searched.{rows_more, steps_more, apart_take, refusal_of_all, read_pair}
+use Rattle.algebra.proofs.Searched.{rows_more, apart_take, refusal_of_all, read_pair}
 use Rattle.algebra.proofs.pairs.Search.follow_all.Goals as goal
 
 pub loop-done-init : goal.loop-done-init
@@ -75,15 +75,13 @@ loop-done-preserved c =
     let before = flat_map (ways_at xs ys) (take done keys) in
     let more : flat_map (ways_at xs ys) (take (done + 1) new.found.keys) ≡ before ++ ways_at xs ys k =
     ap (λ zs. flat_map (ways_at xs ys) (take (done + 1) zs)) f.keys ∙ rows_more (ways_at xs ys) keys f.found done k within is in
-    let spent : steps_of xs ys (take (done + 1) new.found.keys) ≡ steps_of xs ys (take done keys) + steps_at xs ys k =
-    ap (λ zs. steps_of xs ys (take (done + 1) zs)) f.keys ∙ steps_more xs ys keys f.found done k within is in
     let len : length new.found.keys ≡ length keys + length f.found = ap length f.keys ∙ length-append keys f.found in
     record {
       followed = subst (λ (r : List PairWay). IsFollowed r k0 w0 new.found.keys new.ways.items) (sym more)
           (followed_then before (ways_at xs ys k) k0 keys new.found.keys w0 c.loop-done.self.ways.items new.ways.items c.loop-done.invariant.followed
           (subst (λ (r : List PairWay). IsFollowed r keys c.loop-done.self.ways.items new.found.keys new.ways.items) rows f));
       within = omega (arith, within, len);
-      effort = omega (arith, c.spend.ensures, c.steps.ensures, c.in_ok-put.ensures.rows.steps, c.loop-done.invariant.effort, spent);
+      effort = omega (arith, c.spend.ensures, c.loop-done.invariant.effort);
     }
 
 pub returns-clause-apart : goal.returns-clause-apart
