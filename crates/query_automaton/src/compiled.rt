@@ -8,7 +8,7 @@ ghost use Rattle.query_automaton.specs.Laws.{AcceptsAnswersOf};
 ghost use Rattle.query_automaton.specs.Parts.{AtomsAreSmall, HasLargePart};
 ghost use Rattle.query_automaton.specs.QueryAutomaton.{of_query};
 
-use crate::effort::MOST_STEPS;
+use crate::effort::{MOST_STEPS, hold};
 use crate::expressions::expr_automaton;
 use crate::shared::Shared;
 use algebra::Effort;
@@ -16,10 +16,6 @@ use marked_automaton::{Automaton, SizeFault};
 use span_core::VarSet;
 use spanner_model::Query;
 use std::alloc::Global;
-
-/// The most states, ways and ends that the `let`s of a query have together: some 350 MB. Where they have
-/// more, want of memory is answered, which needs no cause and says nothing of the query.
-const MOST_HELD: u64 = 8_000_000;
 
 /// A query, and its automaton.
 #[derive(Drop)]
@@ -50,28 +46,30 @@ pub fn compile<'q>(alloc: Global, query: &'q Query) -> Result<Compiled<'q>, Size
     ensures fault { IfErr result (HasLargePart (query_of query.now)) }
 {
     let mut effort = Effort::new(MOST_STEPS);
-    let lets = let_automata(alloc, query, &mut effort)?;
-    let body = expr_automaton(alloc, query, &lets, &query.body, &mut effort)?;
+    let mut held = 0;
+    let lets = let_automata(alloc, query, &mut held, &mut effort)?;
+    let body = expr_automaton(alloc, query, &lets, &query.body, held, &mut effort)?;
     drop(lets);
     let automaton = body.take(alloc)?.trim(alloc)?;
     Ok(Compiled { query, automaton })
 }
 
-/// The automata of the `let`s, in their order.
-fn let_automata(alloc: Global, query: &Query, effort: &mut Effort) -> Result<Vec<Shared>, SizeFault>
+/// The automata of the `let`s, in their order, which count as held.
+fn let_automata(
+    alloc: Global,
+    query: &Query,
+    held: &mut u64,
+    effort: &mut Effort,
+) -> Result<Vec<Shared>, SizeFault>
     requires { IsSound (query_of query.now) }
     ensures long { IfOk result (λ lets. length lets.items ≡ length (query_of query.now).lets) }
     ensures made { IfOk result (λ lets. AreCompiled (query_of query.now) lets.items) }
     ensures fault { IfErr result (HasLargePart (query_of query.now)) }
 {
     let mut lets = Vec::new(alloc);
-    let mut held: u64 = 0;
     for k in 0..query.lets.len() {
-        let automaton = expr_automaton(alloc, query, &lets, &query.lets.at(k).1, effort)?;
-        held = held.saturating_add(automaton.own_size());
-        if held > MOST_HELD {
-            return Err(SizeFault::OutOfMemory);
-        }
+        let automaton = expr_automaton(alloc, query, &lets, &query.lets.at(k).1, *held, effort)?;
+        *held = hold(*held, automaton.own_size())?;
         lets.push(automaton)?;
     }
     Ok(lets)

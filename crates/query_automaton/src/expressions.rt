@@ -17,7 +17,7 @@ ghost use Rattle.query_automaton.specs.Compiling.{AreCompiled, IsAsked, IsCompil
 ghost use Rattle.query_automaton.specs.Parts.{HasLargePartOf};
 ghost use Rattle.query_automaton.specs.QueryAutomaton.{of_join, of_lets, of_union};
 
-use crate::effort::spend;
+use crate::effort::{hold, size_of, spend};
 use crate::shared::Shared;
 use algebra::{Effort, join_within, project, unite};
 use marked_automaton::{Automaton, MOST_STATES, SizeFault};
@@ -26,13 +26,15 @@ use span_core::{MOST_VARIABLES, OutOfMemory, VarSet};
 use spanner_model::{Atom, Expr, Exprs, Query};
 use std::alloc::Global;
 
-/// The automaton of an expression of the query, where `lets` has those of the `let`s before it.
+/// The automaton of an expression of the query, where `lets` has those of the `let`s before it. So many
+/// states, ways and ends are held already.
 #[cycle(compiling)]
 pub fn expr_automaton(
     alloc: Global,
     query: &Query,
     lets: &[Shared],
     expr: &Expr,
+    held: u64,
     effort: &mut Effort,
 ) -> Result<Shared, SizeFault>
     requires known { AreCompiled (query_of query.now) lets.now }
@@ -43,10 +45,10 @@ pub fn expr_automaton(
     match expr {
         Expr::Atom(atom) => atom_automaton(alloc, atom, effort),
         Expr::Named(k) => Ok(lets[*k as usize].share()?),
-        Expr::Union(parts) => union_automaton(alloc, query, lets, parts, effort),
-        Expr::Join(parts) => join_automaton(alloc, query, lets, parts, effort),
+        Expr::Union(parts) => union_automaton(alloc, query, lets, parts, held, effort),
+        Expr::Join(parts) => join_automaton(alloc, query, lets, parts, held, effort),
         Expr::Project(kept, sub) => {
-            let inner = expr_automaton(alloc, query, lets, sub, effort)?;
+            let inner = expr_automaton(alloc, query, lets, sub, held, effort)?;
             Ok(projected(alloc, inner, kept, effort)?)
         }
     }
@@ -93,6 +95,7 @@ fn union_automaton(
     query: &Query,
     lets: &[Shared],
     parts: &Exprs,
+    held: u64,
     effort: &mut Effort,
 ) -> Result<Shared, SizeFault>
     requires known { AreCompiled (query_of query.now) lets.now }
@@ -100,12 +103,13 @@ fn union_automaton(
     ensures made { IfOk result (IsCompiledFrom (query_of query.now) (length lets.now) (union_all (exprs_of parts.now))) }
     ensures fault { IfErr result (HasLargePartOf (of_lets (query_of query.now).lets (length lets.now)) (union_all (exprs_of parts.now))) }
 {
-    let first = expr_automaton(alloc, query, lets, parts.at(0), effort)?;
+    let first = expr_automaton(alloc, query, lets, parts.at(0), held, effort)?;
     spend(effort, first.as_automaton())?;
     // What a `let` has is copied.
     let mut all = first.take(alloc)?;
     for k in 1..parts.len() {
-        let part = expr_automaton(alloc, query, lets, parts.at(k), effort)?;
+        let waiting = hold(held, size_of(&all))?;
+        let part = expr_automaton(alloc, query, lets, parts.at(k), waiting, effort)?;
         all = united(all, part.as_automaton(), effort)?;
     }
     Ok(Shared::new(alloc, all)?)
@@ -130,6 +134,7 @@ fn join_automaton(
     query: &Query,
     lets: &[Shared],
     parts: &Exprs,
+    held: u64,
     effort: &mut Effort,
 ) -> Result<Shared, SizeFault>
     requires known { AreCompiled (query_of query.now) lets.now }
@@ -137,9 +142,10 @@ fn join_automaton(
     ensures made { IfOk result (IsCompiledFrom (query_of query.now) (length lets.now) (join_all (exprs_of parts.now))) }
     ensures fault { IfErr result (HasLargePartOf (of_lets (query_of query.now).lets (length lets.now)) (join_all (exprs_of parts.now))) }
 {
-    let mut all = expr_automaton(alloc, query, lets, parts.at(0), effort)?;
+    let mut all = expr_automaton(alloc, query, lets, parts.at(0), held, effort)?;
     for k in 1..parts.len() {
-        let part = expr_automaton(alloc, query, lets, parts.at(k), effort)?;
+        let waiting = hold(held, all.own_size())?;
+        let part = expr_automaton(alloc, query, lets, parts.at(k), waiting, effort)?;
         let both = joined(alloc, all.as_automaton(), part.as_automaton(), effort)?;
         all = Shared::new(alloc, both)?;
     }
