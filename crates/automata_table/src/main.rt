@@ -5,6 +5,9 @@
 //! the answers that the plain evaluator gives. Then it tells the sizes with which some large queries are
 //! compiled or refused. It prints a line for each query, and last the numbers of rows and answers.
 //!
+//! That the two agree is proved by the contracts of `compile` and of `plain_spanner::all`. What this shows
+//! is what no contract says: that the calls succeed, on each operation, and are refused at the limits.
+//!
 //! `automata_table TEXT` only tells the size with which the query TEXT is compiled or refused, for
 //! measurements.
 //!
@@ -21,7 +24,7 @@ mod texts;
 
 use comparing::{Tally, check_text};
 use fault::Fault;
-use sizes::{size_of_text, size_of_unused_lets};
+use sizes::size_of_text;
 use std::io;
 use std::process::ExitCode;
 use texts::{GROUPS, LARGE};
@@ -89,10 +92,6 @@ fn check_table(rt: &HostRuntime) -> io::Result<Ending> {
             Ok(size) => println!(rt; "{text} {size}")?,
             Err(fault) => return ended_by(rt, text, &fault),
         }
-    }
-    match size_of_unused_lets(rt.alloc()) {
-        Ok(size) => println!(rt; "unused lets {size}")?,
-        Err(fault) => return ended_by(rt, "unused lets", &fault),
     }
     let Tally {
         queries,

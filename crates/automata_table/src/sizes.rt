@@ -3,7 +3,6 @@ ghost use Rattle.spanner_model.specs.ExprView.{query_of};
 ghost use Rattle.spanner_model.specs.Sound.{IsSound};
 
 use crate::fault::Fault;
-use crate::texts::unused_lets;
 use marked_automaton::SizeFault;
 use query_parser::read_query;
 use query_automaton::compile;
@@ -36,12 +35,6 @@ impl fmt::Display for Size {
 pub(crate) fn size_of_text(alloc: Global, text: &str) -> Result<Size, Fault> {
     let query = read_query(alloc, text.as_bytes())?;
     size_of_query(alloc, &query)
-}
-
-/// What becomes of a query of many large `let`s that nothing names.
-pub(crate) fn size_of_unused_lets(alloc: Global) -> Result<Size, Fault> {
-    let text = unused_lets(alloc)?;
-    size_of_text(alloc, &text)
 }
 
 fn size_of_query(alloc: Global, query: &Query) -> Result<Size, Fault>
