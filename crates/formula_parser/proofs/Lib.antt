@@ -19,10 +19,3 @@ pub mod GrammarLaws
 pub mod EachText
 pub mod TurnLaws
 pub mod BuiltLaws
-pub mod PrintedTrees
-pub mod PrintedSteps
-pub mod PrintedBytes
-pub mod PrintedRuns
-pub mod PrintedSets
-pub mod PrintedSigns
-pub mod PrintLaws

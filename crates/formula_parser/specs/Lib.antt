@@ -15,6 +15,3 @@ pub mod Step
 pub mod View
 pub mod ClassView
 pub mod Turn
-pub mod Printed
-pub mod PrinterView
-pub mod PrintedLaws

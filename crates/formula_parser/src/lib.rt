@@ -6,7 +6,6 @@ pub use laws::{
     each_text_has_a_tree_or_a_fault, no_text_has_a_tree_and_a_fault, no_text_has_two_faults,
     no_text_has_two_trees,
 };
-pub use printer::{print_atom, print_formula, printed_forms_spell_their_trees};
 pub use reader::read_atom;
 
 mod class;
@@ -15,9 +14,6 @@ mod class_tests;
 mod fault;
 mod laws;
 mod nest;
-mod printer;
-#[cfg(test)]
-mod printer_tests;
 mod reader;
 #[cfg(test)]
 mod tests;

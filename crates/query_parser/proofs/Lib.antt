@@ -19,12 +19,6 @@ pub mod SameLaws
 pub mod SoundQuery
 pub mod KnownLaws
 pub mod ReadLaws
-pub mod PrintedParts
-pub mod SoundFormed
-pub mod PrintedTokens
-pub mod KeptNames
-pub mod PrintedSpelled
-pub mod PrintedQueries
 pub mod ToldNames
 pub mod ToldFormulas
 pub mod ToldQueries

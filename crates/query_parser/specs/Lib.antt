@@ -11,6 +11,3 @@ pub mod View
 pub mod Turn
 pub mod Numbers
 pub mod Formed
-pub mod Printed
-pub mod PrinterView
-pub mod PrintedLaws

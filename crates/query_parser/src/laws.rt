@@ -1,6 +1,5 @@
 //! Laws of the grammar and of its faults, each the contract of a function that does nothing.
 ghost use Rattle.query_parser.specs.Laws.{HasOneQuery, HasNoQueryWithReadFault, HasOneReadFault, HasNoQueryWithFault, HasOneFault, HasQueryOrFault, IsReadOrRefused};
-ghost use Rattle.query_parser.specs.PrintedLaws.{QueriesSpell, QueriesAreRead};
 
 /// No text spells two queries.
 pub fn no_text_spells_two_queries()
@@ -36,12 +35,4 @@ pub fn each_text_is_read_or_refused()
 /// Each text of bytes is that of a sound query or has a fault.
 pub fn each_text_has_a_query_or_a_fault()
     ensures { HasQueryOrFault }
-{}
-
-/// The printed form of a sound query with at most 100 parentheses open at once, and at most 100
-/// parentheses and captures in each atom, spells it. Where it has no more bytes than a text may have, it
-/// is a text of that query, so that reading it gives this query and no other.
-pub fn printed_forms_spell_their_queries()
-    ensures queries { QueriesSpell }
-    ensures texts { QueriesAreRead }
 {}

@@ -6,9 +6,7 @@ pub use laws::{
     each_text_has_a_query_or_a_fault, each_text_is_read_or_refused,
     no_text_has_a_query_and_a_fault, no_text_has_two_faults, no_text_has_two_faults_of_reading,
     no_text_is_read_and_has_a_fault_of_reading, no_text_spells_two_queries,
-    printed_forms_spell_their_queries,
 };
-pub use printer::print_query;
 pub use reader::read_query;
 
 mod check;
@@ -16,9 +14,6 @@ mod fault;
 mod laws;
 mod named;
 mod nest;
-mod printer;
-#[cfg(test)]
-mod printer_tests;
 mod reader;
 mod tokens;
 mod turns;

@@ -1,6 +1,0 @@
-use Rattle.std.proofs.Common.{sym, arith}
-use Rattle.formula_parser.proofs.PrintedSteps.{members_none}
-use Rattle.formula_parser.proofs.printer.members.Goals as goal
-
-pub loop-number-init : goal.loop-number-init
-loop-number-init c = record { few = omega arith; counted = sym (members_none c.args.set.now) }

@@ -1,9 +1,0 @@
--- What the printer's own type stands for.
-use Rattle.query_parser.specs.declared.printer.Shape.{Shape as CodeShape}
-use Rattle.query_parser.specs.declared.printer.Shape.TheVariants as code_shape
-use Rattle.query_parser.specs.Printed.{Shape, a_unit, a_join, a_union}
-
-abbrev pub shape_of : CodeShape → Shape
-shape_of code_shape.Unit = a_unit
-shape_of code_shape.Join = a_join
-shape_of code_shape.Union = a_union

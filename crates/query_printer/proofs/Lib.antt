@@ -1,0 +1,13 @@
+pub mod PrintedTrees
+pub mod PrintedSteps
+pub mod PrintedBytes
+pub mod PrintedRuns
+pub mod PrintedByteSets
+pub mod PrintedSigns
+pub mod PrintLaws
+pub mod PrintedParts
+pub mod SoundFormed
+pub mod PrintedTokens
+pub mod KeptNames
+pub mod PrintedSpelled
+pub mod PrintedQueries

@@ -1,0 +1,17 @@
+use Rattle.std.proofs.Common.{arith, ◌∷◌, []}
+use Rattle.query_printer.proofs.PrintedTrees.{front_more}
+use Rattle.query_printer.proofs.PrintedParts.{texts_put, keep_some}
+use Rattle.query_printer.proofs.queries.push_keep.Goals as goal
+
+pub loop-k-preserved : goal.loop-k-preserved
+loop-k-preserved c = record {
+  printed = texts_put c.loop-k.out.items (44 ∷ []) c.args.kept.now c.loop-k.k c.at.result.now c.push_given.new.out.items c.push-in-loop-k.new.out.items _ c.at.ensures.value
+      c.in_ok-push_given.ensures.ok (rw c.as_bytes.ensures.value at c.in_ok-push.ensures.ok) c.loop-k.invariant.printed;
+  front = front_more _ _ _ (front_more _ _ _ c.loop-k.invariant.front c.in_ok-push_given.ensures.front) c.in_ok-push.ensures.front;
+}
+
+pub returns-clause-ok : goal.returns-clause-ok
+returns-clause-ok c =
+    let some = c.if-len-eq0.false in
+    keep_some c.args.kept.now c.args.out.now.items c.loop-k.out.items c.loop-k.k (omega (arith, some, c.len.ensures.value)) (omega (arith, c.loop-k-test.false, c.len-k-end.ensures.value))
+    c.loop-k.invariant.printed

@@ -1,0 +1,244 @@
+//! Prints queries.
+ghost use Rattle.std.specs.Prelude.{◌≡◌, ◌++◌, ◌∷◌, [], ◌<◌, ◌≤◌, length, slice_get, unwrap_or, OnOk, OnErr, if◌then◌else◌};
+ghost use Rattle.span_core.specs.Lists.{Has};
+ghost use Rattle.spanner_model.specs.Expression.{ExprTree, union_all, join_all, project};
+ghost use Rattle.spanner_model.specs.ExprView.{expr_of, exprs_of, lets_of, query_of};
+ghost use Rattle.spanner_model.specs.Sound.{IsSound};
+ghost use Rattle.spanner_model.specs.WellBuilt.{IsWellBuilt};
+ghost use Rattle.spanner_model.specs.View.{tree_of};
+ghost use Rattle.formula_parser.specs.AtomView.{atom_tree};
+ghost use Rattle.query_printer.specs.PrintedFormula.{IsFront, wrapped, atom_text};
+ghost use Rattle.query_parser.specs.Spells.{names_of};
+ghost use Rattle.query_parser.specs.declared.TheConstants.{MOST_TEXT_BYTES};
+ghost use Rattle.query_parser.specs.Faults.{IsQueryText};
+ghost use Rattle.query_parser.specs.Formed.{IsFormed, IsFormedQuery};
+ghost use Rattle.query_printer.specs.PrintedQuery.{shape, wraps_in_union, wraps_in_join, keep_text, printed, let_text, query_text, IsShallowQuery};
+ghost use Rattle.query_printer.specs.QueryShape.{shape_of};
+ghost use Rattle.query_printer.specs.QueryLaws.{QueriesSpell, QueriesAreRead};
+
+use crate::formulas::print_atom;
+use span_core::{Name, OutOfMemory, VarSet};
+use spanner_model::{Atom, Expr, Exprs, Lets, Query};
+
+/// What an expression is, as far as parentheses are concerned.
+#[derive(Clone, Copy, Debug)]
+pub(crate) enum Shape {
+    Unit,
+    Join,
+    Union,
+}
+
+impl Shape {
+    fn of(expr: &Expr) -> Shape
+        ensures { shape_of result ≡ shape (expr_of expr.now) }
+    {
+        match expr {
+            Expr::Atom(_) | Expr::Named(_) | Expr::Project(_, _) => Shape::Unit,
+            Expr::Join(_) => Shape::Join,
+            Expr::Union(_) => Shape::Union,
+        }
+    }
+
+    /// Whether it stands in parentheses among the parts of a union.
+    fn wraps_in_union(self) -> bool
+        ensures { result ≡ wraps_in_union (shape_of self) }
+    {
+        match self {
+            Shape::Unit | Shape::Join => false,
+            Shape::Union => true,
+        }
+    }
+
+    /// Whether it stands in parentheses among the parts of a join.
+    fn wraps_in_join(self) -> bool
+        ensures { result ≡ wraps_in_join (shape_of self) }
+    {
+        match self {
+            Shape::Unit => false,
+            Shape::Join | Shape::Union => true,
+        }
+    }
+}
+
+/// Appends the printed form of a query, or answers that memory ran out and leaves `out` as it was.
+///
+/// Each `let` is followed by one space, and the body by nothing. The printed form may be longer, and nest
+/// deeper, than what is read. The recursion is as deep as unions, joins and projections stand inside each
+/// other, in a sound query at most 600.
+pub fn print_query(query: &Query, out: &mut Vec<u8>) -> Result<(), OutOfMemory>
+    requires { IsSound (query_of query.now) }
+    ensures ok { OnOk result (out.new.items ≡ out.old.items ++ query_text (query_of query.now)) }
+    ensures err { OnErr result (out.new.items ≡ out.old.items) }
+    // Where it nests no deeper than what is read, and is no longer, what was printed is a text of the query.
+    ensures again { OnOk result (IsShallowQuery (query_of query.now) → length (query_text (query_of query.now)) ≤ MOST_TEXT_BYTES →
+        IsQueryText (query_text (query_of query.now)) (query_of query.now)) }
+{
+    let before = out.len();
+    let done = push_query(query, out);
+    if done.is_err() {
+        out.truncate(before);
+    }
+    done
+}
+
+/// The printed form of a sound query with at most 100 parentheses open at once, and at most 100
+/// parentheses and captures in each atom, spells it. Where it has no more bytes than a text may have, it
+/// is a text of that query, so that reading it gives this query and no other.
+pub fn printed_forms_spell_their_queries()
+    ensures queries { QueriesSpell }
+    ensures texts { QueriesAreRead }
+{}
+
+fn push_query(query: &Query, out: &mut Vec<u8>) -> Result<(), OutOfMemory>
+    requires { IsFormedQuery (query_of query.now) }
+    ensures ok { OnOk result (out.new.items ≡ out.old.items ++ query_text (query_of query.now)) }
+    ensures front { IsFront out.old.items out.new.items }
+{
+    for k in 0..query.lets.len() {
+        push_let(query.lets.at(k), &query.lets, out)?;
+    }
+    push_expr(&query.body, &query.lets, out)
+}
+
+/// Appends one of the lets.
+fn push_let(named: &(Name, Expr), lets: &Lets, out: &mut Vec<u8>) -> Result<(), OutOfMemory>
+    requires { IsFormed (length (lets_of lets.now)) (expr_of named.now.1) }
+    ensures ok { OnOk result (out.new.items ≡ out.old.items ++ let_text (names_of (lets_of lets.now)) (named.now.0, expr_of named.now.1)) }
+    ensures front { IsFront out.old.items out.new.items }
+{
+    push(b"let ", out)?;
+    push(named.0.as_bytes(), out)?;
+    push(b" = ", out)?;
+    push_expr(&named.1, lets, out)?;
+    push(b"; ", out)
+}
+
+#[cycle(print)]
+fn push_expr(expr: &Expr, lets: &Lets, out: &mut Vec<u8>) -> Result<(), OutOfMemory>
+    requires { IsFormed (length (lets_of lets.now)) (expr_of expr.now) }
+    ensures ok { OnOk result (out.new.items ≡ out.old.items ++ printed (names_of (lets_of lets.now)) (expr_of expr.now)) }
+    ensures front { IsFront out.old.items out.new.items }
+{
+    match expr {
+        Expr::Atom(atom) => push_atom(atom, out),
+        Expr::Named(k) => push_name(*k, lets, out),
+        Expr::Union(parts) => push_union(parts, lets, out),
+        Expr::Join(parts) => push_join(parts, lets, out),
+        Expr::Project(kept, sub) => push_projection(kept, sub, lets, out),
+    }
+}
+
+/// Appends the parts of a union.
+#[cycle(print)]
+fn push_union(parts: &Exprs, lets: &Lets, out: &mut Vec<u8>) -> Result<(), OutOfMemory>
+    requires { (e : ExprTree) → Has (exprs_of parts.now) e → IsFormed (length (lets_of lets.now)) e }
+    ensures ok { OnOk result (out.new.items ≡ out.old.items ++ printed (names_of (lets_of lets.now)) (union_all (exprs_of parts.now))) }
+    ensures front { IsFront out.old.items out.new.items }
+{
+    for k in 0..parts.len() {
+        let part = parts.at(k);
+        push_given(k > 0, b" union ", out)?;
+        push_wrapped(Shape::of(part).wraps_in_union(), part, lets, out)?;
+    }
+    Ok(())
+}
+
+/// Appends the parts of a join.
+#[cycle(print)]
+fn push_join(parts: &Exprs, lets: &Lets, out: &mut Vec<u8>) -> Result<(), OutOfMemory>
+    requires { (e : ExprTree) → Has (exprs_of parts.now) e → IsFormed (length (lets_of lets.now)) e }
+    ensures ok { OnOk result (out.new.items ≡ out.old.items ++ printed (names_of (lets_of lets.now)) (join_all (exprs_of parts.now))) }
+    ensures front { IsFront out.old.items out.new.items }
+{
+    for k in 0..parts.len() {
+        let part = parts.at(k);
+        push_given(k > 0, b" join ", out)?;
+        push_wrapped(Shape::of(part).wraps_in_join(), part, lets, out)?;
+    }
+    Ok(())
+}
+
+#[cycle(print)]
+fn push_projection(
+    kept: &VarSet,
+    sub: &Expr,
+    lets: &Lets,
+    out: &mut Vec<u8>,
+) -> Result<(), OutOfMemory>
+    requires { IsFormed (length (lets_of lets.now)) (expr_of sub.now) }
+    ensures ok { OnOk result (out.new.items ≡ out.old.items ++ printed (names_of (lets_of lets.now)) (project kept.now (expr_of sub.now))) }
+    ensures front { IsFront out.old.items out.new.items }
+{
+    push(b"project ", out)?;
+    push_keep(kept, out)?;
+    push(b" (", out)?;
+    push_expr(sub, lets, out)?;
+    push(b")", out)
+}
+
+/// Appends an expression, in parentheses where it is to have them.
+#[cycle(print)]
+fn push_wrapped(wraps: bool, expr: &Expr, lets: &Lets, out: &mut Vec<u8>) -> Result<(), OutOfMemory>
+    requires { IsFormed (length (lets_of lets.now)) (expr_of expr.now) }
+    ensures ok { OnOk result (out.new.items ≡ out.old.items ++ wrapped wraps (printed (names_of (lets_of lets.now)) (expr_of expr.now))) }
+    ensures front { IsFront out.old.items out.new.items }
+{
+    if !wraps {
+        return push_expr(expr, lets, out);
+    }
+    push(b"(", out)?;
+    push_expr(expr, lets, out)?;
+    push(b")", out)
+}
+
+fn push_atom(atom: &Atom, out: &mut Vec<u8>) -> Result<(), OutOfMemory>
+    requires { IsWellBuilt (tree_of atom.now.formula) }
+    ensures ok { OnOk result (out.new.items ≡ out.old.items ++ atom_text (atom_tree atom.now)) }
+    ensures front { IsFront out.old.items out.new.items }
+{
+    print_atom(atom, out)
+}
+
+/// Appends the name of let `k`.
+fn push_name(k: u32, lets: &Lets, out: &mut Vec<u8>) -> Result<(), OutOfMemory>
+    requires { k < length (lets_of lets.now) }
+    ensures ok { OnOk result (out.new.items ≡ out.old.items ++ unwrap_or (slice_get (names_of (lets_of lets.now)) k) []) }
+    ensures front { IsFront out.old.items out.new.items }
+{
+    push(lets.at(k as usize).0.as_bytes(), out)
+}
+
+/// Appends the names that a projection keeps.
+fn push_keep(kept: &VarSet, out: &mut Vec<u8>) -> Result<(), OutOfMemory>
+    ensures ok { OnOk result (out.new.items ≡ out.old.items ++ keep_text kept.now) }
+    ensures front { IsFront out.old.items out.new.items }
+{
+    if kept.len() == 0 {
+        return push(b"none", out);
+    }
+    for k in 0..kept.len() {
+        push_given(k > 0, b",", out)?;
+        push(kept.at(k).as_bytes(), out)?;
+    }
+    Ok(())
+}
+
+/// Appends the bytes, where they are to be there.
+fn push_given(there: bool, bytes: &[u8], out: &mut Vec<u8>) -> Result<(), OutOfMemory>
+    ensures ok { OnOk result (out.new.items ≡ out.old.items ++ (if there then bytes.now else [])) }
+    ensures front { IsFront out.old.items out.new.items }
+{
+    if there {
+        return push(bytes, out);
+    }
+    Ok(())
+}
+
+/// Appends bytes, or answers that memory ran out.
+fn push(bytes: &[u8], out: &mut Vec<u8>) -> Result<(), OutOfMemory>
+    ensures ok { OnOk result (out.new.items ≡ out.old.items ++ bytes.now) }
+    ensures front { IsFront out.old.items out.new.items }
+{
+    out.extend_from_slice(bytes)?;
+    Ok(())
+}
