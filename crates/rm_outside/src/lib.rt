@@ -6,9 +6,11 @@
 //! proved, for any reader and any writer of std, to pass on the bytes where these are told.
 #![tactic(auto)]
 
-pub use file_shelf::FileShelf;
+pub use file_shelf::{FileShelf, SystemFile, SystemFiles};
 pub use memory_shelf::MemoryShelf;
 pub use memory_sink::MemorySink;
+pub use open_shelf::OpenShelf;
+pub use opens::Opens;
 pub use shelf::{FetchFault, Shelf};
 pub use sink::{Sink, SinkFailed, SureSink};
 pub use status::Status;
@@ -17,6 +19,8 @@ pub use stream_sink::{NoteSink, OutSink};
 mod file_shelf;
 mod memory_shelf;
 mod memory_sink;
+mod open_shelf;
+mod opens;
 mod shelf;
 mod sink;
 mod status;

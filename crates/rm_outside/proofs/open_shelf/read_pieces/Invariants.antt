@@ -1,0 +1,15 @@
+use Rattle.std.proofs.Common.{◌≡◌, ◌+◌, ◌-◌, ◌≤◌, ℕ, List}
+use Rattle.rm_outside.proofs.Known.{ReadSoFar}
+use Rattle.rm_outside.proofs.open_shelf.read_pieces.Given as goal
+
+abbrev pub invariant-loop-seen : goal.invariant-loop-seen
+invariant-loop-seen g l = record {
+  few : l.seen ≤ l.limit + 1;
+  read : ReadSoFar (g.O.Opened.Read.remaining l.initial.opened) (g.O.Opened.Read.remaining l.opened) l.initial.into.items l.into.items l.seen;
+  kept : g.O.Opens.held l.opens ≡ g.O.Opens.held l.initial.opens;
+  later : (n : List ℕ) → g.O.Opens.faults l.initial.opens n ≤ g.O.Opens.faults l.opens n;
+  count : g.O.Opens.faults l.opens l.name ≡ g.O.Opens.faults l.initial.opens l.name;
+}
+
+abbrev pub decreases-loop-seen : goal.decreases-loop-seen
+decreases-loop-seen g l = l.limit + 1 - l.seen

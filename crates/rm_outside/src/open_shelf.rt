@@ -1,0 +1,223 @@
+//! A shelf over whatever opens names.
+ghost use Rattle.std.specs.Prelude.{◌≡◌, ◌≤◌, ◌++◌, ℕ, List, OnOk, OnErr, IfSome, IsErrOf, length, take, vec_len};
+ghost use Rattle.rm_outside.specs.Faults.{Rose};
+ghost use Rattle.rm_outside.specs.Shelf.{Gains, SeenPast, ByLength, CountsFailure};
+
+use crate::opens::Opens;
+use crate::{FetchFault, Shelf};
+
+/// The most bytes that one read asks for.
+const PIECE: usize = 65536;
+
+/// A shelf whose names are opened, and then read to their end.
+///
+/// What it holds is told where the opener tells it, and its count of faults is the opener's, so that
+/// no fetch fails but by a call of the opener that failed.
+#[derive(Drop)]
+pub struct OpenShelf<O> {
+    pub(crate) opens: O,
+}
+
+impl<O: Opens> OpenShelf<O> {
+    /// The shelf of what this opener opens.
+    pub fn over(opens: O) -> OpenShelf<O>
+        ensures { result.opens ≡ opens }
+    {
+        OpenShelf { opens }
+    }
+}
+
+impl<O: Opens> Shelf for OpenShelf<O> {
+    ghost held = { λ s. O.held s.opens };
+
+    ghost faults = { λ s. O.faults s.opens };
+
+    fn fetch(&mut self, name: &str, limit: u64, into: &mut Vec<u8>) -> Result<(), FetchFault>
+        ensures gains { OnOk result (Gains limit into.old.items into.new.items) }
+        ensures whole { OnOk result (IfSome (O.held self.old.opens name.now) (λ bytes. into.new.items ≡ into.old.items ++ bytes)) }
+        ensures refused { OnErr result (into.new.items ≡ into.old.items) }
+        ensures seen { SeenPast limit result }
+        ensures by_length { IfSome (O.held self.old.opens name.now) (λ bytes. ByLength limit (length bytes) result) }
+        ensures kept { O.held self.new.opens ≡ O.held self.old.opens }
+        ensures later { (n : List ℕ) → O.faults self.old.opens n ≤ O.faults self.new.opens n }
+        ensures failed { IsErrOf result FetchFault.Failed → Rose (O.faults self.old.opens name.now) (O.faults self.new.opens name.now) }
+
+        // The name's count rises at a failure alone.
+        ensures count { CountsFailure (O.faults self.old.opens name.now) (O.faults self.new.opens name.now) result }
+    {
+        match self.opens.open(name) {
+            Ok(mut opened) => read_whole(&mut self.opens, name, &mut opened, limit, into),
+            Err(_) => Err(FetchFault::Failed),
+        }
+    }
+}
+
+// Appends all that is left in what the name was opened to, or nothing.
+fn read_whole<O: Opens>(
+    opens: &mut O,
+    name: &str,
+    opened: &mut O::Opened,
+    limit: u64,
+    into: &mut Vec<u8>,
+) -> Result<(), FetchFault>
+    ensures gains { OnOk result (Gains limit into.old.items into.new.items) }
+    ensures whole { OnOk result (IfSome (O.Opened.remaining opened.old) (λ bytes. into.new.items ≡ into.old.items ++ bytes)) }
+    ensures refused { OnErr result (into.new.items ≡ into.old.items) }
+    ensures seen { SeenPast limit result }
+    ensures by_length { IfSome (O.Opened.remaining opened.old) (λ bytes. ByLength limit (length bytes) result) }
+    ensures kept { O.held opens.new ≡ O.held opens.old }
+    ensures later { (n : List ℕ) → O.faults opens.old n ≤ O.faults opens.new n }
+    ensures count { CountsFailure (O.faults opens.old name.now) (O.faults opens.new name.now) result }
+{
+    let start = into.len();
+    let result = read_pieces(opens, name, opened, limit, into);
+    if result.is_err() {
+        into.truncate(start);
+    }
+    result
+}
+
+// Appends all that is left, or a part of it. A read of no bytes is the end.
+fn read_pieces<O: Opens>(
+    opens: &mut O,
+    name: &str,
+    opened: &mut O::Opened,
+    limit: u64,
+    into: &mut Vec<u8>,
+) -> Result<(), FetchFault>
+    ensures gains { OnOk result (Gains limit into.old.items into.new.items) }
+    ensures whole { OnOk result (IfSome (O.Opened.remaining opened.old) (λ bytes. into.new.items ≡ into.old.items ++ bytes)) }
+    ensures refused { OnErr result (take (vec_len into.old) into.new.items ≡ into.old.items) }
+    ensures seen { SeenPast limit result }
+    ensures by_length { IfSome (O.Opened.remaining opened.old) (λ bytes. ByLength limit (length bytes) result) }
+    ensures kept { O.held opens.new ≡ O.held opens.old }
+    ensures later { (n : List ℕ) → O.faults opens.old n ≤ O.faults opens.new n }
+    ensures count { CountsFailure (O.faults opens.old name.now) (O.faults opens.new name.now) result }
+{
+    let mut buffer = [0u8; PIECE];
+    let mut seen = 0u64;
+    while seen <= limit {
+        let most = (limit - seen).min(PIECE as u64 - 1) as usize + 1;
+        match opens.read(name, opened, &mut buffer[..most]) {
+            Ok(0) => return Ok(()),
+            Ok(count) => {
+                if into.extend_from_slice(&buffer[..count]).is_err() {
+                    return Err(FetchFault::OutOfMemory);
+                }
+                seen += count as u64;
+            }
+            Err(_) => return Err(FetchFault::Failed),
+        }
+    }
+    Err(FetchFault::TooLong { seen })
+}
+
+#[cfg(test)]
+mod tests {
+    use super::*;
+    use std::io;
+    use std::io::{ErrorKind, Read};
+    use std::test::Fail;
+
+    /// By which each name holds the same bytes, which it tells.
+    #[derive(Drop)]
+    struct Held<'a> {
+        bytes: &'a [u8],
+        faults: u64,
+    }
+
+    impl<'a> Opens for Held<'a> {
+        type Opened = &'a [u8];
+
+        ghost held = { λ s _. Some s.bytes.now };
+
+        ghost faults = { λ s _. s.faults };
+
+        fn open(&mut self, _name: &str) -> io::Result<&'a [u8]> {
+            Ok(self.bytes)
+        }
+
+        fn read(&mut self, _name: &str, opened: &mut &'a [u8], buffer: &mut [u8]) -> io::Result<usize> {
+            let result = opened.read(buffer);
+            if result.is_err() {
+                self.faults = self.faults.saturating_add(1);
+            }
+            result
+        }
+    }
+
+    #[test]
+    fn fetches_what_is_told(rt: HostRuntime) -> Result<(), Fail> {
+        let mut shelf = OpenShelf::over(Held {
+            bytes: b"hello",
+            faults: 0,
+        });
+        let mut into = vec![in rt.alloc(); b'x']?;
+        let fault = FetchFault::TooLong { seen: 5 };
+        assert_eq!(rt; shelf.fetch("D", 4, &mut into), Err(fault));
+        assert_eq!(rt; into.as_slice(), b"x".as_slice());
+        assert_eq!(rt; shelf.fetch("D", 5, &mut into), Ok(()));
+        assert_eq!(rt; into.as_slice(), b"xhello".as_slice());
+        assert_eq!(rt; shelf.opens.faults, 0);
+        Ok(())
+    }
+
+    /// A reader that gives a byte at a time, and then fails.
+    #[derive(Drop)]
+    struct Failing(u8);
+
+    impl Read for Failing {
+        fn read(&mut self, buf: &mut [u8]) -> io::Result<usize> {
+            if self.0 == 0 || buf.is_empty() {
+                return Err(io::Error::from(ErrorKind::Other));
+            }
+            self.0 -= 1;
+            buf[0] = self.0;
+            Ok(1)
+        }
+    }
+
+    /// By which each name opens to such a reader.
+    #[derive(Drop)]
+    struct FailsLate {
+        bytes: u8,
+        faults: u64,
+    }
+
+    impl Opens for FailsLate {
+        type Opened = Failing;
+
+        ghost held = { λ _ _. None };
+
+        ghost faults = { λ s _. s.faults };
+
+        fn open(&mut self, _name: &str) -> io::Result<Failing> {
+            Ok(Failing(self.bytes))
+        }
+
+        fn read(&mut self, _name: &str, opened: &mut Failing, buffer: &mut [u8]) -> io::Result<usize> {
+            let result = opened.read(buffer);
+            if result.is_err() {
+                self.faults = self.faults.saturating_add(1);
+            }
+            result
+        }
+    }
+
+    #[test]
+    fn forgets_what_was_read_before_a_fault(rt: HostRuntime) -> Result<(), Fail> {
+        let mut shelf = OpenShelf::over(FailsLate {
+            bytes: 3,
+            faults: 0,
+        });
+        let mut into = vec![in rt.alloc(); b'x']?;
+        assert_eq!(rt; shelf.fetch("D", 9, &mut into), Err(FetchFault::Failed));
+        assert_eq!(rt; shelf.opens.faults, 1);
+        assert_eq!(rt; into.as_slice(), b"x".as_slice());
+        let fault = FetchFault::TooLong { seen: 3 };
+        assert_eq!(rt; shelf.fetch("D", 2, &mut into), Err(fault));
+        assert_eq!(rt; into.as_slice(), b"x".as_slice());
+        assert_eq!(rt; shelf.opens.faults, 1);
+        Ok(())
+    }
+}
