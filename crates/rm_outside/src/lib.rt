@@ -1,9 +1,9 @@
 //! What the program meets outside itself: a shelf of named documents, and sinks for its output.
 //! Both count their faults, so that a failure can be told from a wrong answer.
 //!
-//! `FileShelf`, `OutSink` and `NoteSink` are the trusted edge: no contract can say which bytes
-//! `File::open` and the system's `read` and `write` pass on. The loops above those calls are
-//! proved, for any reader and any writer of std, to pass on the bytes where these are told.
+//! No contract can say which bytes the system's files and streams pass on. So the shelf is proved
+//! over any opener, and the sinks over any writer of std, to pass on the bytes where these are told;
+//! `SystemFiles`, the opener that `FileShelf` has, and what the system does below it are trusted.
 #![tactic(auto)]
 
 pub use file_shelf::{FileShelf, SystemFile, SystemFiles};
