@@ -11,6 +11,7 @@ ghost use Rattle.query_printer.specs.FormulaShape.{shape_of};
 ghost use Rattle.query_printer.specs.FormulaLaws.{FormulasSpell, AtomsSpell, AtomsStand};
 ghost use Rattle.query_printer.specs.PrintedFormula.{IsFront, is_shown, hex_text, byte_text, members, begins_run, run_end, run_text, runs_text, set_text, sign, exactly_text, at_least_text, between_text, shape, wraps_arm, wraps_part, wraps_operand, wrapped, printed, tied_text, atom_text};
 
+use crate::pushing::push;
 use itoa::Buffer;
 use span_core::{ByteSet, Name, OutOfMemory};
 use spanner_model::{Atom, Formula, Parts};
@@ -416,13 +417,4 @@ fn hex_digits(byte: u8) -> [u8; 2]
         Ok(()) => digits,
         Err(_) => unreachable!(),
     }
-}
-
-/// Appends bytes, or answers that memory ran out.
-fn push(bytes: &[u8], out: &mut Vec<u8>) -> Result<(), OutOfMemory>
-    ensures ok { OnOk result (out.new.items ≡ out.old.items ++ bytes.now) }
-    ensures front { IsFront out.old.items out.new.items }
-{
-    out.extend_from_slice(bytes)?;
-    Ok(())
 }

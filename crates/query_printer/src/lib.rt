@@ -9,6 +9,7 @@ pub use queries::{print_query, printed_forms_spell_their_queries};
 #[cfg(test)]
 mod formula_tests;
 mod formulas;
+mod pushing;
 mod queries;
 #[cfg(test)]
 mod query_tests;

@@ -17,6 +17,7 @@ ghost use Rattle.query_printer.specs.QueryShape.{shape_of};
 ghost use Rattle.query_printer.specs.QueryLaws.{QueriesSpell, QueriesAreRead};
 
 use crate::formulas::print_atom;
+use crate::pushing::push;
 use span_core::{Name, OutOfMemory, VarSet};
 use spanner_model::{Atom, Expr, Exprs, Lets, Query};
 
@@ -231,14 +232,5 @@ fn push_given(there: bool, bytes: &[u8], out: &mut Vec<u8>) -> Result<(), OutOfM
     if there {
         return push(bytes, out);
     }
-    Ok(())
-}
-
-/// Appends bytes, or answers that memory ran out.
-fn push(bytes: &[u8], out: &mut Vec<u8>) -> Result<(), OutOfMemory>
-    ensures ok { OnOk result (out.new.items ≡ out.old.items ++ bytes.now) }
-    ensures front { IsFront out.old.items out.new.items }
-{
-    out.extend_from_slice(bytes)?;
     Ok(())
 }
