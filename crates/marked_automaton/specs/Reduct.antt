@@ -64,7 +64,8 @@ Reduces A B = (f : ℕ → Option ℕ) × (g : ℕ → Option ℕ) × (e : ℕ �
 abbrev pub same_below : ℕ → ℕ → Option ℕ
 same_below n b = if nat_lt b n then Some b else None
 
--- the same automaton, but for the order of its ways, and for how often each is there
+-- the same automaton, but for the order of its ways, and for how often each is there; ways that go alike, from one state to
+-- one with the same marks, may be one way with the union of their bytes
 abbrev pub Rearranges : Automaton → Automaton → Type 0
 Rearranges A B = (g : ℕ → Option ℕ) × IsReduct A B (same_below B.states) g (λ b k. k)
 
