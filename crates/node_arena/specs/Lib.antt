@@ -1,0 +1,9 @@
+pub mod Cells
+pub mod Release
+pub mod Nodes
+pub mod Words
+pub mod Rows
+pub mod Closing
+pub mod Copies
+pub mod Copying
+pub mod RowNodes
