@@ -1,0 +1,11 @@
+pub mod Order
+pub mod Grown
+pub mod Forward
+pub mod Source
+pub mod Sets
+pub mod Graph
+pub mod Sound
+pub mod Turn
+pub mod RowLists
+pub mod Loop
+pub mod Listed

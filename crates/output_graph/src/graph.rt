@@ -1,0 +1,242 @@
+//! The layers of a forward pass.
+ghost use Rattle.std.specs.Prelude.{◌≡◌, ◌↔◌, ◌≤◌, ◌<◌, ◌+◌, ◌*◌, ℕ, [], ◌∷◌, map, drop, length, slice_get, Some, OnOk, OnErr, IfOk};
+ghost use Rattle.span_core.specs.Lists.{Has};
+ghost use Rattle.node_arena.specs.Cells.{NamedLink, HasCell};
+ghost use Rattle.output_graph.specs.Source.{Descend};
+ghost use Rattle.output_graph.specs.Graph.{HasWord, sources, targets, sets_of, IsPlace, IsStepped, IsCost, IsReached, AreApart};
+ghost use Rattle.output_graph.specs.Sound.{edges_of, edges_of_ends};
+ghost use Rattle.output_graph.specs.Loop.{AreListed};
+
+use crate::edges::{ACCEPTED, make_edges, make_ends};
+use crate::layer::Layer;
+use crate::row_lists::RowLists;
+use crate::turning::turn_cells;
+use node_arena::Arena;
+use span_core::{Edge, Marks, OutOfMemory, Steps};
+use std::alloc::Global;
+use std::marker::Model;
+use std::mem;
+use std::sync::ledger::Ledger;
+
+/// The words that lead to each set of a layer, and those that lead on from it so far.
+#[derive(Drop)]
+pub struct OutputGraph {
+    arena: Arena,
+    layer: Layer,
+    next: Layer,
+    stepped: usize,
+    at: u32,
+}
+
+impl Model for OutputGraph {
+    ghost use Rattle.output_graph.specs.Graph.{Graph};
+
+    ghost Value = { Graph };
+
+    ghost use Rattle.output_graph.specs.Sound.{IsSound, graph_of};
+
+    ghost view = { λ g. graph_of g.arena g.layer g.next g.stepped g.at };
+
+    ghost invariant = { λ g. IsSound (graph_of g.arena g.layer g.next g.stepped g.at) g.arena.holds };
+}
+
+impl OutputGraph {
+    /// The layer with this one set, which the empty word leads to. It takes 1 step.
+    pub fn start<L: Ledger>(
+        alloc: Global,
+        set: u32,
+        steps: &mut Steps<L>,
+    ) -> Result<OutputGraph, OutOfMemory>
+        ensures sources { IfOk result (λ g. sources g ≡ record { set = set; words = [] ∷ [] } ∷ []) }
+        ensures targets { IfOk result (λ g. g.next ≡ []) }
+        ensures begun { IfOk result (λ g. (g.stepped ≡ 0) × (length g.layer ≡ 1) × (length g.cells ≡ 1)) }
+        ensures steps { OnOk result (steps.new ≡ steps.old + 1) }
+        ensures refused { OnErr result (steps.new ≡ steps.old) }
+    {
+        let mut arena = Arena::new(alloc);
+        let mut layer = Layer::new(alloc);
+        let next = Layer::new(alloc);
+        arena.reserve(1)?;
+        layer.reserve(1)?;
+        layer.cover(set)?;
+        let root = arena.root(steps);
+        layer.put(set, root);
+        Ok(OutputGraph {
+            arena,
+            layer,
+            next,
+            stepped: 0,
+            at: 0,
+        })
+    }
+
+    /// A graph with the same sets, in their order, each with the words that it has, and with as many cells. No source of
+    /// the layer has been stepped. At most 2 steps for each cell, and 1.
+    pub fn copy<L: Ledger>(
+        &self,
+        alloc: Global,
+        steps: &mut Steps<L>,
+    ) -> Result<OutputGraph, OutOfMemory>
+        requires { self.now.stepped ≡ 0 }
+        ensures sources { IfOk result (λ g. sources g ≡ sources self.now) }
+        ensures targets { IfOk result (λ g. g.next ≡ []) }
+        ensures stepped { IfOk result (λ g. g.stepped ≡ 0) }
+        ensures cells { IfOk result (λ g. length g.cells ≡ length self.now.cells) }
+        ensures steps { steps.new ≤ steps.old + 2 * length self.now.cells + 1 }
+        ensures counted { OnOk result (steps.old < steps.new) }
+    {
+        let mut cells = self.layer.cells(alloc)?;
+        let arena = self.arena.copy(alloc, &mut cells, steps)?;
+        let layer = self.layer.with_cells(alloc, &cells)?;
+        arena.is_arena();
+        Ok(OutputGraph {
+            arena,
+            layer,
+            next: Layer::new(alloc),
+            stepped: 0,
+            at: 0,
+        })
+    }
+
+    /// The number of sets in the layer.
+    pub fn layer_len(&self) -> usize
+        ensures { result ≡ length self.now.layer }
+    {
+        self.layer.len()
+    }
+
+    /// Set `k` of the layer.
+    pub fn set_at(&self, k: usize) -> u32
+        requires { k < length self.now.layer }
+        ensures { slice_get (sets_of self.now.layer) k ≡ Some result }
+    {
+        self.layer.at(k).0
+    }
+
+    /// The number of live cells.
+    pub fn live(&self) -> u64
+        ensures { result ≡ length self.now.cells }
+    {
+        self.arena.live()
+    }
+
+    /// What is always true of a graph: the sets of a layer are distinct, each of its words has one path, no word
+    /// leads to two sets, and the cells are those that are reached from the sets.
+    pub fn is_graph(&self)
+        ensures sources { AreApart (sources self.now) }
+        ensures targets { AreApart (targets self.now) }
+        ensures reached { (c : ℕ) → HasCell self.now.cells c ↔ IsReached self.now c }
+    {
+        self.arena.is_arena();
+    }
+
+    /// Goes to the next layer.
+    pub fn next_layer(&mut self)
+        requires { self.old.stepped ≡ length self.old.layer }
+        ensures cells { self.new.cells ≡ self.old.cells }
+        ensures layer { self.new.layer ≡ self.old.next }
+        ensures next { self.new.next ≡ [] }
+        ensures stepped { self.new.stepped ≡ 0 }
+        ensures sources { sources self.new ≡ targets self.old }
+        ensures targets { targets self.new ≡ [] }
+    {
+        mem::swap(&mut self.layer, &mut self.next);
+        self.next.clear();
+        self.stepped = 0;
+    }
+
+    /// Leads the words of source `k` on by its edges, all at this position, and gives up its hold. An edge adds
+    /// one cell at most, and an edge without marks none where its target has no cell yet. After a refusal the
+    /// graph is as it was. At most 2 steps for each edge, 2, and 1 for each cell that is given back.
+    pub fn step_source<L: Ledger>(
+        &mut self,
+        k: usize,
+        at: u32,
+        edges: &[Edge],
+        steps: &mut Steps<L>,
+    ) -> Result<(), OutOfMemory>
+        requires source { k ≡ self.old.stepped }
+        requires left { k < length self.old.layer }
+        requires place { IsPlace self.old at }
+        requires descend { Descend (edges_of edges.now) }
+        ensures stepped { OnOk result (IsStepped self.old at (edges_of edges.now) self.new) }
+        ensures cost { OnOk result (IsCost (length edges.now) (length self.old.cells) (length self.new.cells) steps.old steps.new) }
+        ensures counted { OnOk result (steps.old < steps.new) }
+        ensures refused { OnErr result (self.new ≡ self.old) }
+        ensures uncounted { OnErr result (steps.new ≡ steps.old) }
+    {
+        self.arena.is_arena();
+        self.arena.reserve(edges.len())?;
+        make_room(&mut self.next, edges)?;
+        steps.tick();
+        let source = self.layer.at(k).1;
+        make_edges(&mut self.arena, &mut self.next, source, at, edges, steps);
+        self.stepped = k + 1;
+        self.at = at;
+        Ok(())
+    }
+
+    /// As `step_source`, by ends, which lead to the set 0.
+    pub fn end_source<L: Ledger>(
+        &mut self,
+        k: usize,
+        at: u32,
+        ends: &[Marks],
+        steps: &mut Steps<L>,
+    ) -> Result<(), OutOfMemory>
+        requires source { k ≡ self.old.stepped }
+        requires left { k < length self.old.layer }
+        requires place { IsPlace self.old at }
+        requires descend { Descend (edges_of_ends ends.now) }
+        ensures stepped { OnOk result (IsStepped self.old at (edges_of_ends ends.now) self.new) }
+        ensures cost { OnOk result (IsCost (length ends.now) (length self.old.cells) (length self.new.cells) steps.old steps.new) }
+        ensures counted { OnOk result (steps.old < steps.new) }
+        ensures refused { OnErr result (self.new ≡ self.old) }
+        ensures uncounted { OnErr result (steps.new ≡ steps.old) }
+    {
+        self.arena.is_arena();
+        self.arena.reserve(ends.len())?;
+        self.next.reserve(ends.len())?;
+        self.next.cover(ACCEPTED)?;
+        steps.tick();
+        let source = self.layer.at(k).1;
+        make_ends(&mut self.arena, &mut self.next, source, at, ends, steps);
+        self.stepped = k + 1;
+        self.at = at;
+        Ok(())
+    }
+
+    /// The accepted words, as rows from their beginnings: each once, in block order. All sources have been ended,
+    /// so that no set but that of the ends was reached. It takes no memory. At most 2 steps for each cell, and 2.
+    pub fn turn<L: Ledger>(self, steps: &mut Steps<L>) -> RowLists
+        requires ended { self.stepped ≡ length self.layer }
+        requires accepted { (s : ℕ) → Has (sets_of self.next) s → s ≡ 0 }
+        ensures listed { AreListed (λ w. HasWord (targets self) 0 w) (length self.cells) result.store result.first }
+        ensures steps { steps.new ≤ steps.old + 2 * length self.cells + 2 }
+    {
+        let OutputGraph {
+            arena,
+            layer: _,
+            next,
+            stepped: _,
+            at: _,
+        } = self;
+        arena.is_arena();
+        let accept = next.cell_of(ACCEPTED);
+        let held = accept;
+        turn_cells(arena.close(held, steps), accept, steps)
+    }
+}
+
+/// Makes room for the targets of these edges.
+fn make_room(next: &mut Layer, edges: &[Edge]) -> Result<(), OutOfMemory>
+    ensures pairs { next.new.pairs ≡ next.old.pairs }
+    ensures room { OnOk result (length edges.now ≤ next.new.room) }
+    ensures covered { OnOk result ((e : ℕ × ℕ) → Has (edges_of edges.now) e → e.1 < next.new.known) }
+{
+    next.reserve(edges.len())?;
+    for edge in edges {
+        next.cover(edge.to)?;
+    }
+    Ok(())
+}

@@ -1,0 +1,179 @@
+//! Sets, each with the cell that has its words.
+ghost use Rattle.std.specs.Prelude.{◌≡◌, ◌≤◌, ◌<◌, ◌+◌, ◌^◌, ℕ, [], length, slice_get, Some, IfOk, OnOk, MatchOption};
+ghost use Rattle.output_graph.specs.Forward.{cell_of, set_cell};
+ghost use Rattle.output_graph.specs.Sets.{HasNot, paired, cells_in};
+
+use node_arena::Cell;
+use span_core::OutOfMemory;
+use std::alloc::Global;
+use std::marker::Model;
+
+/// A list of distinct sets, each with a cell. A set is found without a search, as in the sparse sets of
+/// Briggs and Torczon (ACM Letters on Programming Languages and Systems 2, 1993): `places` has its place,
+/// and whatever stands there for a set that is not in the list is no harm, since the list is asked too.
+#[derive(Drop)]
+pub struct Layer {
+    pairs: Vec<(u32, Cell)>,
+    places: Vec<usize>,
+}
+
+impl Model for Layer {
+    ghost use Rattle.std.specs.Prelude.{◌-◌};
+    ghost use Rattle.std.specs.Vec.{vec_len, vec_capacity};
+    ghost use Rattle.output_graph.specs.Sets.{Sets, IsIndexed};
+
+    ghost Value = { Sets };
+
+    ghost view = { λ l. record { pairs = l.pairs.items; room = vec_capacity l.pairs - vec_len l.pairs; known = vec_len l.places } };
+
+    ghost invariant = { λ l. IsIndexed l.pairs.items l.places.items };
+}
+
+impl Layer {
+    /// No sets. Takes no memory.
+    pub fn new(alloc: Global) -> Layer
+        ensures { result.pairs ≡ [] }
+    {
+        Layer {
+            pairs: Vec::new(alloc),
+            places: Vec::new(alloc),
+        }
+    }
+
+    /// The number of sets.
+    pub fn len(&self) -> usize
+        ensures { result ≡ length self.now.pairs }
+    {
+        self.pairs.len()
+    }
+
+    /// Set `k` with its cell.
+    pub fn at(&self, k: usize) -> (u32, Cell)
+        requires { k < length self.now.pairs }
+        ensures pair { slice_get self.now.pairs k ≡ Some result }
+        ensures few { length self.now.pairs < 2 ^ 64 }
+    {
+        self.pairs[k]
+    }
+
+    /// Makes room for `n` more sets.
+    pub fn reserve(&mut self, n: usize) -> Result<(), OutOfMemory>
+        ensures pairs { self.new.pairs ≡ self.old.pairs }
+        ensures room { OnOk result (n ≤ self.new.room) }
+        ensures known { self.new.known ≡ self.old.known }
+    {
+        self.pairs.reserve(n)?;
+        Ok(())
+    }
+
+    /// Makes room for this set's place.
+    pub fn cover(&mut self, set: u32) -> Result<(), OutOfMemory>
+        ensures pairs { self.new.pairs ≡ self.old.pairs }
+        ensures room { self.new.room ≡ self.old.room }
+        ensures known { self.old.known ≤ self.new.known }
+        ensures covered { OnOk result (set < self.new.known) }
+    {
+        let wanted = set as usize + 1;
+        if self.places.len() < wanted {
+            self.places.resize(wanted, 0)?;
+        }
+        Ok(())
+    }
+
+    /// The place of a set, if it is there.
+    fn place_of(&self, set: u32) -> Option<usize>
+        ensures { MatchOption result (HasNot self.now.pairs set) (λ k. (c : ℕ) × (slice_get self.now.pairs k ≡ Some (set, c))) }
+    {
+        let set_place = set as usize;
+        if self.places.len() <= set_place {
+            return None;
+        }
+        let k = self.places[set_place];
+        if self.pairs.len() <= k {
+            return None;
+        }
+        if self.pairs[k].0 != set {
+            return None;
+        }
+        Some(k)
+    }
+
+    /// The cell of a set, if it is there.
+    pub fn cell_of(&self, set: u32) -> Option<Cell>
+        ensures { result ≡ cell_of self.now.pairs set }
+    {
+        match self.place_of(set) {
+            Some(k) => Some(self.pairs[k].1),
+            None => None,
+        }
+    }
+
+    /// Gives the set this cell, in place of the one that it has, if any.
+    pub fn put(&mut self, set: u32, cell: Cell)
+        requires room { 1 ≤ self.old.room }
+        requires covered { set < self.old.known }
+        ensures pairs { self.new.pairs ≡ set_cell self.old.pairs set cell }
+        ensures room { self.old.room ≤ self.new.room + 1 }
+        ensures known { self.new.known ≡ self.old.known }
+    {
+        match self.place_of(set) {
+            Some(k) => self.pairs[k] = (set, cell),
+            None => {
+                self.places[set as usize] = self.pairs.len();
+                self.pairs.push_reserved((set, cell));
+            }
+        }
+    }
+
+    /// The cells of the sets, in their order.
+    pub fn cells(&self, alloc: Global) -> Result<Vec<Cell>, OutOfMemory>
+        ensures { IfOk result (λ cells. cells.items ≡ cells_in self.now.pairs) }
+    {
+        cells_of(alloc, &self.pairs)
+    }
+
+    /// The same sets with other cells, in their order.
+    pub fn with_cells(&self, alloc: Global, cells: &[Cell]) -> Result<Layer, OutOfMemory>
+        requires { length cells.now ≡ length self.now.pairs }
+        ensures { IfOk result (λ layer. layer.pairs ≡ paired self.now.pairs cells.now) }
+    {
+        let pairs = pairs_of(alloc, &self.pairs, cells)?;
+        let mut places = Vec::new(alloc);
+        places.extend_from_slice(&self.places)?;
+        Ok(Layer { pairs, places })
+    }
+
+    /// Leaves no sets, and all room.
+    pub fn clear(&mut self)
+        ensures { self.new.pairs ≡ [] }
+    {
+        self.pairs.clear();
+    }
+}
+
+/// The cells of these sets.
+fn cells_of(alloc: Global, pairs: &[(u32, Cell)]) -> Result<Vec<Cell>, OutOfMemory>
+    ensures { IfOk result (λ cells. cells.items ≡ cells_in pairs.now) }
+{
+    let mut cells = Vec::new(alloc);
+    for pair in pairs {
+        cells.push(pair.1)?;
+    }
+    Ok(cells)
+}
+
+/// These sets with these cells.
+fn pairs_of(
+    alloc: Global,
+    pairs: &[(u32, Cell)],
+    cells: &[Cell],
+) -> Result<Vec<(u32, Cell)>, OutOfMemory>
+    requires { length cells.now ≡ length pairs.now }
+    ensures { IfOk result (λ made. made.items ≡ paired pairs.now cells.now) }
+{
+    let mut made = Vec::new(alloc);
+    for k in 0..pairs.len() {
+        made.push((pairs[k].0, cells[k]))?;
+    }
+    Ok(made)
+}
