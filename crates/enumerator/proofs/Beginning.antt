@@ -1,0 +1,47 @@
+-- An enumerator before the first row.
+use Rattle.std.proofs.Common.{◌≡◌, ℕ, ◌≤◌, List, [], ◌∷◌, ◌++◌, map, refl, sym, ap, ◌∙◌, subst, append-nil, arith}
+use Rattle.std.proofs.Common as common
+use Rattle.span_core.specs.declared.TheConstants.{MOST_VARIABLES}
+use Rattle.span_core.specs.Block.{IsTotal}
+use Rattle.span_core.specs.Lists.{Has}
+use Rattle.node_arena.specs.Words.{Word}
+use Rattle.output_graph.specs.Listed.{Lists, AreLists}
+use Rattle.node_arena.specs.Rows.{rows}
+use Rattle.enumerator.specs.Enumeration.{SpanRow, IsWordOfRow, AreRowsOf, IsRestAfter}
+use Rattle.enumerator.specs.Enumerating.{IsEnumerating}
+use Rattle.enumerator.specs.Rows.{Places, no_places, row_under, rows_of, waiting_rows}
+use Rattle.enumerator.specs.Waiting.{waited}
+use Rattle.enumerator.proofs.Lists.{has_map_cases, has_right, map_same}
+use Rattle.enumerator.proofs.RowLaws.{row_under_agree, waited_stacked, waited_rows}
+use Rattle.enumerator.proofs.Words.{is_row_of_word, fits_word, never_listed}
+
+-- under no markers the places do not matter
+pub any_places : (v : ℕ) (P Q : Places) (ws : List Word) → map (row_under v 0 P) ws ≡ map (row_under v 0 Q) ws
+any_places v P Q ws = map_same (row_under v 0 P) (row_under v 0 Q) (λ w. row_under_agree v 0 P Q w (λ bit h. absurd (never_listed bit 0 h))) ws
+
+pub rows_are : (v : ℕ) (P : Places) (ws : List Word) → ((w : Word) → Has ws w → IsWordOfRow v w) → AreRowsOf v ws (map (row_under v 0 P) ws)
+rows_are v P [] words = tt
+rows_are v P (w ∷ ws) words = (is_row_of_word v P w (words w (common.inl refl)), rows_are v P ws (λ u h. words u (common.inr h)))
+
+pub rest_is_whole : (lists : Lists) (v : ℕ) (P : Places) → waiting_rows lists.store v P (waited 0 lists.first []) ≡ rows_of lists v
+rest_is_whole lists v P =
+    waited_rows lists.store v 0 P lists.first [] ∙ (append-nil (map (row_under v 0 P) (rows lists.store lists.first)) ∙ any_places v P no_places (rows lists.store lists.first))
+
+-- all rows of sound lists are total
+pub whole_total : (lists : Lists) (v : ℕ) → ((w : Word) → Has (rows lists.store lists.first) w → IsWordOfRow v w) → (r : SpanRow) → Has (rows_of lists v) r → IsTotal r
+whole_total lists v words r h =
+    let u = has_map_cases (row_under v 0 no_places) (rows lists.store lists.first) r h in
+    subst IsTotal u.2 (is_row_of_word v no_places u.0 (words u.0 u.1)).total
+
+pub begins : (lists : Lists) (v : ℕ) (P : Places) → v ≤ MOST_VARIABLES → AreLists lists → ((w : Word) → Has (rows lists.store lists.first) w → IsWordOfRow v w) → IsEnumerating lists v P (waited 0 lists.first [])
+begins lists v P few sound words = record {
+  few = few;
+  sound = sound;
+  words = words;
+  stacked = waited_stacked lists.store v 0 lists.first [] tt (λ some. record { there = sound.there; some = some; fit = λ w h. fits_word v w (words w h) });
+  total = λ r h. whole_total lists v words r (subst (λ rs. Has rs r) (rest_is_whole lists v P) h);
+}
+
+-- what is left of the rows are rows
+pub rest_total : (lists : Lists) (v : ℕ) (after : SpanRow) (rest : List SpanRow) → ((w : Word) → Has (rows lists.store lists.first) w → IsWordOfRow v w) → IsRestAfter after (rows_of lists v) rest → (r : SpanRow) → Has rest r → IsTotal r
+rest_total lists v after rest words h r there = whole_total lists v words r (subst (λ rs. Has rs r) (sym h.1) (has_right h.0 rest r there))

@@ -1,0 +1,106 @@
+//! Enumerators.
+ghost use Rattle.std.specs.Prelude.{◌≡◌, ℕ, ◌+◌, ◌*◌, ◌<◌, ◌≤◌, [], ◌∷◌, length, MatchOption};
+ghost use Rattle.span_core.specs.Lists.{Has};
+ghost use Rattle.node_arena.specs.Words.{Word};
+ghost use Rattle.node_arena.specs.Rows.{rows};
+ghost use Rattle.enumerator.specs.Enumeration.{AreInBlockOrder, AreRowsOf, IsRestAfter, IsWordOfRow};
+
+use crate::places::MOST_MARKERS;
+use crate::seeking::seek_row;
+use crate::stack::Stack;
+use crate::walking::{next_row, wait};
+use output_graph::RowLists;
+use span_core::{MOST_VARIABLES, Marks, Row, Steps};
+use std::marker::Model;
+use std::sync::ledger::Ledger;
+
+/// Gives the rows of row lists one by one, in block order, and can go to any place among them.
+///
+/// It is seen as the list of all rows and the list of those that are still to come.
+#[derive(Drop)]
+pub struct Enumerator {
+    lists: RowLists,
+    variables: usize,
+    places: [u32; MOST_MARKERS],
+    stack: Stack,
+}
+
+impl Model for Enumerator {
+    ghost use Rattle.std.specs.Prelude.{length};
+    ghost use Rattle.enumerator.specs.Enumeration.{Enumeration};
+
+    ghost Value = { Enumeration };
+
+    ghost use Rattle.enumerator.specs.Rows.{places_of, rows_of, waiting_rows};
+    ghost use Rattle.enumerator.specs.Enumerating.{IsEnumerating};
+
+    ghost view = { λ e. record {
+      variables = e.variables;
+      cells = length e.lists.store;
+      whole = rows_of e.lists e.variables;
+      rest = waiting_rows e.lists.store e.variables (places_of e.places) e.stack;
+    } };
+
+    ghost invariant = { λ e. IsEnumerating e.lists e.variables (places_of e.places) e.stack };
+}
+
+impl Enumerator {
+    /// An enumerator of the rows of `lists`, which are over `v` variables. It stands before the first.
+    pub fn new(lists: RowLists, v: usize) -> Enumerator
+        requires few { v ≤ MOST_VARIABLES }
+        requires rows { (w : Word) → Has (rows lists.store lists.first) w → IsWordOfRow v w }
+        ensures variables { result.variables ≡ v }
+        ensures cells { result.cells ≡ length lists.store }
+        ensures whole { AreRowsOf v (rows lists.store lists.first) result.whole }
+        ensures order { AreInBlockOrder result.whole }
+        ensures rest { result.rest ≡ result.whole }
+    {
+        lists.are_lists();
+        let mut stack = Stack::new();
+        wait(&mut stack, Marks::none(), lists.first());
+        Enumerator {
+            lists,
+            variables: v,
+            places: [0; MOST_MARKERS],
+            stack,
+        }
+    }
+
+    /// Goes to the first of all rows that stands after the row `after`, which need not be one of
+    /// them, whatever was given before. At most as many steps as there are row cells.
+    pub fn seek<L: Ledger>(&mut self, after: &Row, steps: &mut Steps<L>)
+        requires { length after.now ≡ self.old.variables }
+        ensures variables { self.new.variables ≡ self.old.variables }
+        ensures cells { self.new.cells ≡ self.old.cells }
+        ensures whole { self.new.whole ≡ self.old.whole }
+        ensures rest { IsRestAfter after.now self.old.whole self.new.rest }
+        ensures steps { steps.new ≤ steps.old + self.old.cells }
+    {
+        seek_row(
+            &self.lists,
+            self.variables,
+            after,
+            &mut self.places,
+            &mut self.stack,
+            steps,
+        );
+    }
+
+    /// The next row; None exactly where none is left, and from then on until a seek. It takes no
+    /// memory, and at most two steps for each variable.
+    pub fn next<L: Ledger>(&mut self, steps: &mut Steps<L>) -> Option<Row>
+        ensures variables { self.new.variables ≡ self.old.variables }
+        ensures cells { self.new.cells ≡ self.old.cells }
+        ensures whole { self.new.whole ≡ self.old.whole }
+        ensures rest { MatchOption result ((self.old.rest ≡ []) × (self.new.rest ≡ [])) (λ row. self.old.rest ≡ row ∷ self.new.rest) }
+        ensures steps { steps.new ≤ steps.old + 2 * self.old.variables }
+    {
+        next_row(
+            &self.lists,
+            self.variables,
+            &mut self.places,
+            &mut self.stack,
+            steps,
+        )
+    }
+}

@@ -1,0 +1,79 @@
+//! From one row to the next.
+ghost use Rattle.std.specs.Prelude.{◌≡◌, ℕ, ◌+◌, ◌*◌, ◌<◌, ◌≤◌, List, Option, [], ◌∷◌, ◌++◌, length, MatchOption};
+ghost use Rattle.span_core.specs.Block.{IsTotal};
+ghost use Rattle.span_core.specs.Lists.{Has};
+ghost use Rattle.output_graph.specs.Listed.{AreLists};
+ghost use Rattle.enumerator.specs.Enumeration.{SpanRow};
+ghost use Rattle.enumerator.specs.Rows.{places_of, rows_under, row_of as row_by, waiting_rows};
+ghost use Rattle.enumerator.specs.Waiting.{AreBelow, AreStacked, IsWaiting, left, waited};
+ghost use Rattle.enumerator.specs.declared.stack.TheConstants.{MOST_WAITING};
+
+use crate::places::{MOST_MARKERS, place, row_of};
+use crate::stack::{MOST_WAITING, Stack, Waiting};
+use node_arena::Entry;
+use output_graph::RowLists;
+use span_core::{MOST_VARIABLES, Marks, Row, Steps};
+use std::sync::ledger::Ledger;
+
+/// The first row of what waits, which no longer waits then; None where nothing waits.
+pub(crate) fn next_row<L: Ledger>(
+    lists: &RowLists,
+    v: usize,
+    places: &mut [u32; MOST_MARKERS],
+    stack: &mut Stack,
+    steps: &mut Steps<L>,
+) -> Option<Row>
+    requires few { v ≤ MOST_VARIABLES }
+    requires sound { AreLists lists.now }
+    requires stacked { AreStacked lists.now.store v stack.old }
+    requires total { (r : SpanRow) → Has (waiting_rows lists.now.store v (places_of places.old) stack.old) r → IsTotal r }
+    ensures stacked { AreStacked lists.now.store v stack.new }
+    ensures next { MatchOption result ((stack.old ≡ []) × (stack.new ≡ []))
+        (λ row. waiting_rows lists.now.store v (places_of places.old) stack.old ≡ row ∷ waiting_rows lists.now.store v (places_of places.new) stack.new) }
+    ensures steps { steps.new ≤ steps.old + 2 * v }
+{
+    let waiting = stack.pop()?;
+    settle(lists, v, waiting, places, stack, steps);
+    Some(row_of(v, places))
+}
+
+/// Settles the markers of the first row of `waiting`; its other rows wait then.
+fn settle<L: Ledger>(
+    lists: &RowLists,
+    v: usize,
+    waiting: Waiting,
+    places: &mut [u32; MOST_MARKERS],
+    stack: &mut Stack,
+    steps: &mut Steps<L>,
+) -> Marks
+    requires few { v ≤ MOST_VARIABLES }
+    requires sound { AreLists lists.now }
+    requires waits { IsWaiting lists.now.store v waiting }
+    requires below { AreBelow lists.now.store v waiting.settled stack.old }
+    ensures stacked { AreStacked lists.now.store v stack.new }
+    ensures row { rows_under lists.now.store v (places_of places.old) waiting ++ waiting_rows lists.now.store v (places_of places.old) stack.old
+        ≡ row_by v result (places_of places.new) ∷ waiting_rows lists.now.store v (places_of places.new) stack.new }
+    ensures steps { steps.new ≤ steps.old + 2 * v }
+{
+    let mut settled = waiting.settled;
+    let mut entry = waiting.entry;
+    while let Entry::Row(id) = entry {
+        let cell = lists.at(id, steps);
+        wait(stack, settled, cell.next);
+        place(places, cell.at, cell.marks);
+        settled = settled.with(cell.marks);
+        entry = cell.child;
+    }
+    settled
+}
+
+/// The rows of `entry`, if it has any, wait under these settled markers.
+pub(crate) fn wait(stack: &mut Stack, settled: Marks, entry: Entry)
+    requires { length stack.old < MOST_WAITING }
+    ensures { stack.new ≡ waited settled entry stack.old }
+{
+    if let Entry::Nothing = entry {
+        return;
+    }
+    stack.push(Waiting { settled, entry });
+}
