@@ -1,0 +1,10 @@
+pub mod Ascending
+pub mod CutLaws
+pub mod Gathered
+pub mod SetsLaws
+pub mod RunLaws
+pub mod NamingLaws
+pub mod AddsLaws
+pub mod HeldLaws
+pub mod StayLaws
+pub mod SpreadLaws

@@ -1,0 +1,88 @@
+-- Sets that are kept in an index.
+use Rattle.std.proofs.Common.{◌≡◌, ℕ, zero, suc, ◌+◌, ◌<◌, ◌≤◌, ◌⊎◌, Bool, true, false, List, [], ◌∷◌, ◌++◌, length, map, get_or, Some, inl, inr, refl, sym, ap, subst, arith, ◌∙◌, append_assoc}
+use Rattle.std.specs.Prelude.{if◌then◌else◌, ◌||◌, slice_get, slice_index_or}
+use Rattle.std.specs.List.{list_any, sum_by, IsDistinct}
+use Rattle.std.specs.Str.{bytes_eq}
+use Rattle.std.proofs.lemmas.List.{append-nil, map-append}
+use Rattle.std.proofs.lemmas.List.Sums.{sum_by-append}
+use Rattle.std.proofs.lemmas.Slice.Eq.{bytes_eq-Decides}
+use Rattle.indexmap.specs.IndexSet.{insert_key}
+use Rattle.span_core.specs.Lists.{Has, AreDistinct}
+use Rattle.span_core.proofs.HasLaws.{Has-map, Has-map_cases, Has-append_left}
+use Rattle.set_table.specs.Named.{IsLongerBy}
+use Rattle.set_table.specs.Tabled.{set_at, sets_weight, with_set, with_sets}
+use Rattle.set_table.proofs.Ascending.{all_has}
+
+pub same_bytes : (x y : List ℕ) → bytes_eq x y ≡ true → x ≡ y
+same_bytes x y e = (bytes_eq-Decides x y).0 e
+
+pub bytes_itself : (x : List ℕ) → bytes_eq x x ≡ true
+bytes_itself x = (bytes_eq-Decides x x).1 refl
+
+-- values that are compared by their lists
+module _ {X : Type 0} (f : X → List ℕ) (eq : X → X → Bool) (is : (x y : X) → eq x y ≡ bytes_eq (f x) (f y)) where
+  any_map : (v : X) (vs : List X) → list_any (eq v) vs ≡ list_any (bytes_eq (f v)) (map f vs)
+  any_map v [] = refl
+  any_map v (x ∷ vs) = let rest = any_map v vs in (λ i. is v x i || rest i)
+
+  pub insert_map : (vs : List X) (v : X) → map f (insert_key eq vs v) ≡ with_set (map f vs) (f v)
+  insert_map vs v = go (list_any (eq v) vs) refl
+    where
+      go : (b : Bool) → list_any (eq v) vs ≡ b → map f (insert_key eq vs v) ≡ with_set (map f vs) (f v)
+      go true e =
+          ap (λ (c : Bool). map f (if c then vs else vs ++ v ∷ [])) e
+          ∙ sym (ap (λ (c : Bool). if c then map f vs else map f vs ++ f v ∷ []) (sym (any_map v vs) ∙ e))
+      go false e =
+          ap (λ (c : Bool). map f (if c then vs else vs ++ v ∷ [])) e
+          ∙ (map-append f vs (v ∷ []) ∙ sym (ap (λ (c : Bool). if c then map f vs else map f vs ++ f v ∷ []) (sym (any_map v vs) ∙ e)))
+
+  pub lists_apart : (vs : List X) → IsDistinct eq vs → AreDistinct (map f vs)
+  unfolding IsDistinct
+  lists_apart [] d = tt
+  lists_apart (v ∷ vs) d = (
+    (λ h.
+      let m = Has-map_cases f vs (f v) h in
+      let e : eq v m.0 ≡ false = all_has (λ y. eq v y ≡ false) vs m.0 d.0 m.1 in
+      let t : eq v m.0 ≡ true = is v m.0 ∙ (ap (bytes_eq (f v)) m.2 ∙ bytes_itself (f v)) in
+      differ (sym e ∙ t)),
+    lists_apart vs d.1,
+  )
+    where
+      differ : false ≡ true → ⊥
+      differ e = cc
+
+-- ---- sets with one put in
+
+pub with_set_cases : (sets : List (List ℕ)) (s : List ℕ) → (with_set sets s ≡ sets) ⊎ (with_set sets s ≡ sets ++ s ∷ [])
+with_set_cases sets s = go (list_any (bytes_eq s) sets)
+  where
+    go : (b : Bool) → ((if b then sets else sets ++ s ∷ []) ≡ sets) ⊎ ((if b then sets else sets ++ s ∷ []) ≡ sets ++ s ∷ [])
+    go true = inl refl
+    go false = inr refl
+
+pub longer_itself : {X : Type 0} (xs : List X) → IsLongerBy xs xs
+longer_itself xs = ([], sym (append-nil xs))
+
+pub longer_then : {X : Type 0} (xs ys zs : List X) → IsLongerBy xs ys → IsLongerBy ys zs → IsLongerBy xs zs
+longer_then xs ys zs a b = (a.0 ++ b.0, b.1 ∙ (ap (λ us. us ++ b.0) a.1 ∙ append_assoc xs a.0 b.0))
+
+pub with_set_longer : (sets : List (List ℕ)) (s : List ℕ) → IsLongerBy sets (with_set sets s)
+with_set_longer sets s = elim (with_set_cases sets s) [
+  | inl e ↦ ([], e ∙ sym (append-nil sets))
+  | inr e ↦ (s ∷ [], e)
+]
+
+pub with_sets_longer : (sets more : List (List ℕ)) → IsLongerBy sets (with_sets sets more)
+with_sets_longer sets [] = longer_itself sets
+with_sets_longer sets (s ∷ more) = longer_then sets (with_set sets s) (with_sets (with_set sets s) more) (with_set_longer sets s) (with_sets_longer (with_set sets s) more)
+
+-- a set keeps its number
+pub set_stays : (sets more : List (List ℕ)) (k : ℕ) → k < length sets → set_at (sets ++ more) k ≡ set_at sets k
+set_stays [] more k l = absurd (omega arith)
+set_stays (s ∷ sets) more zero l = refl
+set_stays (s ∷ sets) more (suc k) l = set_stays sets more k (omega (arith, l))
+
+pub at_place : (sets : List (List ℕ)) (k : ℕ) (s : List ℕ) → slice_get sets k ≡ Some s → (set_at sets k ≡ s) × (k < length sets)
+at_place [] k s e = absurd (cc)
+at_place (x ∷ sets) zero s e = (let h : x ≡ s = cc in h, omega arith)
+at_place (x ∷ sets) (suc k) s e = let r = at_place sets k s e in (r.0, omega (arith, r.1))

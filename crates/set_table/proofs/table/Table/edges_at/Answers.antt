@@ -1,0 +1,41 @@
+use Rattle.std.proofs.Common.{◌≡◌, ℕ, ◌+◌, ◌<◌, ◌≤◌, List, Some, length, refl, sym, ap, subst, arith, rules, ◌∙◌}
+use Rattle.std.specs.Prelude.{slice_get}
+use Rattle.std.proofs.lemmas.List.{length-map}
+use Rattle.span_core.proofs.HasLaws.{Has-slice_get}
+use Rattle.marked_automaton.proofs.Listed.{get_map, some_same}
+use Rattle.span_core.specs.declared.edge.Edge.{Edge}
+use Rattle.set_table.specs.declared.answer.Question.TheVariants.{Ends}
+use Rattle.set_table.specs.Tabled.{Asking, HasEdges, HasEnds, Tabled}
+use Rattle.set_table.specs.Answered.{asked_by, asking_of, askings, part}
+use Rattle.set_table.proofs.HeldLaws.{answer_read, edges_are, edges_within, same_asked}
+use Rattle.set_table.proofs.table.Table.edges_at.Goals as goal
+
+pub edges_part-requires : goal.edges_part-requires
+edges_part-requires c =
+    let i = c.self.inside in
+    let s = i.store in
+    let n = c.args.number in
+    let x = c.index-answer.result.now in
+    let within : n < length s.answers.items = let l : n < length (askings s.answers.items) = subst (λ (t : Tabled). n < length t.asked) (sym c.self.view_is) c.requires.within in omega (arith, l, length-map s.answers.items asking_of) in
+    let at : slice_get s.answers.items n ≡ Some x = answer_read s.answers.items n x c.index-answer.ensures within in
+    let has = Has-slice_get s.answers.items n x at in
+    let asked : slice_get c.args.self.now.asked n ≡ Some (asking_of x) = ap (λ (t : Tabled). slice_get t.asked n) (sym c.self.view_is) ∙ get_map asking_of s.answers.items n x at in
+    let kind : x.question ≡ Ends → ⊥ = λ e. c.requires.edges (asking_of x) asked (ap asked_by e) in
+    let bound = edges_within i.automaton.now.graph s.sets s.answers.items s.edges.items s.ends.items s.numbers i.weight x c.self.invariant.held has kind in
+    subst (λ zs. x.first + x.count ≤ length zs) (sym c.as_slice.ensures.value) bound
+
+pub returns : goal.returns
+returns c = λ r h.
+    let i = c.self.inside in
+    let s = i.store in
+    let n = c.args.number in
+    let x = c.index-answer.result.now in
+    let within : n < length s.answers.items = let l : n < length (askings s.answers.items) = subst (λ (t : Tabled). n < length t.asked) (sym c.self.view_is) c.requires.within in omega (arith, l, length-map s.answers.items asking_of) in
+    let at : slice_get s.answers.items n ≡ Some x = answer_read s.answers.items n x c.index-answer.ensures within in
+    let has = Has-slice_get s.answers.items n x at in
+    let asked : slice_get c.args.self.now.asked n ≡ Some (asking_of x) = ap (λ (t : Tabled). slice_get t.asked n) (sym c.self.view_is) ∙ get_map asking_of s.answers.items n x at in
+    let kind : x.question ≡ Ends → ⊥ = λ e. c.requires.edges (asking_of x) asked (ap asked_by e) in
+    let same : asking_of x ≡ r = some_same (asking_of x) r (sym asked ∙ h) in
+    let are = edges_are i.automaton.now.graph i.limit s.sets s.answers.items s.edges.items s.ends.items s.numbers i.weight x c.edges_part.result.now c.self.invariant.held has kind
+        (c.edges_part.ensures ∙ ap (part x.first x.count) c.as_slice.ensures.value) in
+    subst (λ (t : Tabled). HasEdges t r c.edges_part.result.now) c.self.view_is (subst (λ (r : Asking). HasEdges (record { graph = i.automaton.now.graph; limit = i.limit; sets = s.sets; asked = askings s.answers.items }) r c.edges_part.result.now) same are)

@@ -1,0 +1,20 @@
+use Rattle.std.proofs.Common.{◌≡◌, ◌+◌, length, sym, ap, subst, arith, ◌∙◌}
+use Rattle.automaton_reading.specs.Reading.{set_of}
+use Rattle.set_table.proofs.HeldLaws.{held_fresh}
+use Rattle.set_table.proofs.StayLaws.{no_stays}
+use Rattle.set_table.proofs.table.Table.new.Goals as goal
+
+pub invariant_of-result : goal.invariant_of-result
+invariant_of-result g c =
+    let M = c.args.automaton.now in
+    let s = c.in_ok-store.store in
+    record {
+      marked = c.states.ensures.marked;
+      names = omega (arith, c.len.ensures.value, c.len.ensures.few, ap length c.vars.ensures);
+      small = c.requires;
+      light = c.if-weight-limit.false;
+      held = held_fresh M.graph s.sets s.answers.items s.edges.items s.ends.items s.numbers c.in_ok-start.start.items (1 + c.len-2.result) c.states.ensures.marked.whole
+          (c.in_ok-start.ensures ∙ ap set_of c.starts.ensures) c.in_ok-store.ensures.sets c.in_ok-store.ensures.answers c.in_ok-store.ensures.edges c.in_ok-store.ensures.ends c.in_ok-store.ensures.numbers
+          (omega (arith, c.len-2.ensures, c.in_ok-start.start.ok));
+      stays = no_stays M.graph c.args.limit s.sets s.answers.items s.stays.items c.in_ok-store.ensures.answers (c.in_ok-store.ensures.stay_of_each ∙ sym (ap length c.in_ok-store.ensures.sets)) c.in_ok-store.ensures.stays;
+    }

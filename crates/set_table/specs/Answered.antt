@@ -1,0 +1,122 @@
+-- Answers, and where they stand.
+use Rattle.std.specs.Prelude.{◌≡◌, ℕ, suc, ◌+◌, ◌-◌, ◌*◌, ◌^◌, ◌<◌, ◌≤◌, ◌⊎◌, List, [], ◌∷◌, ◌++◌, replicate, map, length, take, drop, slice_get, slice_index, slice_index_or, Some, IsTrue, ◌↔◌}
+use Rattle.std.specs.Ordering.{nat_cmp}
+use Rattle.std.specs.FinSet as bytes
+use Rattle.span_core.specs.declared.edge.Edge.{Edge}
+use Rattle.span_core.specs.Lists.{Has, AreDistinct}
+use Rattle.marked_automaton.specs.Automaton.{Automaton, Marked, IsMarked}
+use Rattle.automaton_reading.specs.Reading.{Asked, byte_read, rest_taken, ended, Reach, edges, set_of}
+use Rattle.set_table.specs.declared.answer.Question.{Question}
+use Rattle.set_table.specs.declared.answer.Question.TheVariants.{Byte, Rest, Ends}
+use Rattle.set_table.specs.declared.answer.Answer.{Answer}
+use Rattle.set_table.specs.declared.store.Store.{Store}
+use Rattle.set_table.specs.Named.{IsLongerBy}
+use Rattle.set_table.specs.Tabled.{Asking, Tabled, IsStateSet, Stays, asked_weight, edge_named, reached, set_at, sets_weight, with_sets}
+
+abbrev pub asked_by : Question → Asked
+asked_by (Byte b) = byte_read b
+asked_by Rest = rest_taken
+asked_by Ends = ended
+
+abbrev pub IsQuestion : Question → Type 0
+IsQuestion (Byte b) = b < 256
+IsQuestion Rest = Unit {0}
+IsQuestion Ends = Unit {0}
+
+abbrev pub asking_of : Answer → Asking
+asking_of x = record { set = x.set; ask = asked_by x.question }
+
+abbrev pub askings : List Answer → List Asking
+askings xs = map asking_of xs
+
+-- the place of a question among those of a set
+abbrev pub place_of : Question → ℕ
+place_of (Byte b) = b
+place_of Rest = 256
+place_of Ends = 257
+
+abbrev pub place_in : ℕ → Question → ℕ
+place_in k q = 272 * k + place_of q
+
+-- numbers with more that are 0, so many in all
+abbrev pub with_places : ℕ → List ℕ → List ℕ
+with_places n numbers = numbers ++ replicate (n - length numbers) 0
+
+abbrev pub end_reach : ℕ → Reach
+end_reach m = record { marks = m; to = [] }
+
+abbrev pub part : {X : Type 0} → ℕ → ℕ → List X → List X
+part first count xs = take count (drop first xs)
+
+-- an answer, in the words of reading
+abbrev pub answer_in : List (List ℕ) → List Edge → List ℕ → Question → ℕ → ℕ → List Reach
+answer_in sets edges ends (Byte b) first count = map (edge_named sets) (part first count edges)
+answer_in sets edges ends Rest first count = map (edge_named sets) (part first count edges)
+answer_in sets edges ends Ends first count = map end_reach (part first count ends)
+
+-- how many there are of what a question is answered by
+abbrev pub room : List Edge → List ℕ → Question → ℕ
+room edges ends (Byte b) = length edges
+room edges ends Rest = length edges
+room edges ends Ends = length ends
+
+pub record IsAnswer (A : Automaton) (sets : List (List ℕ)) (es : List Edge) (ends : List ℕ) (x : Answer) : Type 0 where
+  pub set : x.set < length sets
+  pub question : IsQuestion x.question
+  pub within : x.first + x.count ≤ room es ends x.question
+  pub is : answer_in sets es ends x.question x.first x.count ≡ edges A (set_at sets x.set) (asked_by x.question)
+
+-- what a table holds
+pub record IsHeld (A : Automaton) (sets : List (List ℕ)) (answers : List Answer) (es : List Edge) (ends numbers : List ℕ) (w : ℕ) : Type 0 where
+  pub start : slice_get sets 0 ≡ Some (set_of A.starts)
+  pub states : (s : List ℕ) → Has sets s → IsStateSet A s
+  pub answered : (x : Answer) → Has answers x → IsAnswer A sets es ends x
+  pub targets : (e : Edge) → Has es e → e.to < length sets
+  pub places : length numbers ≡ 272 * length sets
+  pub found : (k : ℕ) (q : Question) (i : ℕ) → k < length sets → IsQuestion q → slice_index numbers (place_in k q) ≡ suc i →
+      (x : Answer) × (slice_get answers i ≡ Some x) × (x.set ≡ k) × (x.question ≡ q)
+  pub there : (i : ℕ) (x : Answer) → slice_get answers i ≡ Some x → slice_index numbers (place_in x.set x.question) ≡ suc i
+  pub weighs : w ≡ sets_weight sets + asked_weight A sets (askings answers)
+  pub few : length sets + length answers + length es + length ends ≤ w
+
+abbrev pub tabled : Automaton → ℕ → Store → Tabled
+tabled A limit s = record { graph = A; limit = limit; sets = s.sets; asked = askings s.answers.items }
+
+abbrev pub Holds : Automaton → Store → ℕ → Type 0
+Holds A s w = IsHeld A s.sets s.answers.items s.edges.items s.ends.items s.numbers w
+
+-- for each set the bytes on which it stays
+pub record AreStays (t : Tabled) (stays : List (bytes.FinSet nat_cmp)) : Type 0 where
+  pub count : length stays ≡ length t.sets
+  pub are : (k b : ℕ) → IsTrue (bytes.contains (slice_index_or stays k bytes.empty) b) ↔ Stays t k b
+
+-- what is true inside of a table
+pub record IsSound (M : Marked) (limit w : ℕ) (s : Store) : Type 0 where
+  pub marked : IsMarked M
+  pub names : length M.names ≤ 16
+  pub small : limit ≤ 100000000
+  pub light : w ≤ limit
+  pub held : Holds M.graph s w
+  pub stays : AreStays (tabled M.graph limit s) s.stays.items
+
+-- what is there once an answer is made, before it is kept
+pub record Adds (A : Automaton) (sets0 sets : List (List ℕ)) (es0 es : List Edge) (ends0 ends : List ℕ) (x : Answer) (w : ℕ) : Type 0 where
+  pub known : sets ≡ with_sets sets0 (reached A (set_at sets0 x.set) (asked_by x.question))
+  pub edges_longer : IsLongerBy es0 es
+  pub ends_longer : IsLongerBy ends0 ends
+  pub within : x.first + x.count ≡ room es ends x.question
+  pub is : answer_in sets es ends x.question x.first x.count ≡ edges A (set_at sets0 x.set) (asked_by x.question)
+  pub targets : (e : Edge) → Has es e → Has es0 e ⊎ (e.to < length sets)
+  pub weighs : sets_weight sets + (1 + length (edges A (set_at sets0 x.set) (asked_by x.question))) ≡ sets_weight sets0 + w
+  pub few : length es + length ends + 1 ≤ length es0 + length ends0 + (1 + length (edges A (set_at sets0 x.set) (asked_by x.question)))
+  pub small : w ≤ 2 ^ 63
+
+-- what a set is asked with: an automaton of few variables, and few sets and edges
+pub record IsReady (M : Marked) (sets : List (List ℕ)) (es : List Edge) (ends : List ℕ) (k : ℕ) : Type 0 where
+  pub marked : IsMarked M
+  pub names : length M.names ≤ 16
+  pub set : k < length sets
+  pub states : (s : List ℕ) → Has sets s → IsStateSet M.graph s
+  pub few_sets : length sets ≤ 100000000
+  pub few_edges : length es ≤ 100000000
+  pub few_ends : length ends ≤ 100000000

@@ -1,0 +1,9 @@
+pub mod Tabled
+pub mod Codes
+pub mod Cut
+pub mod Listed
+pub mod Named
+pub mod Spread
+pub mod Answered
+pub mod Laid
+pub mod Lending

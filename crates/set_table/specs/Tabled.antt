@@ -1,0 +1,132 @@
+-- A table of the sets of states that are reached, and of what was asked of each.
+use Rattle.std.specs.Prelude.{◌≡◌, ℕ, ◌+◌, ◌<◌, ◌≤◌, Bool, true, false, List, [], ◌∷◌, ◌++◌, map, length, nat_eq, slice_get, slice_index_or, Option, None, Some, if◌then◌else◌, ◌&&◌}
+use Rattle.std.specs.List.{filter, list_any, sum_by}
+use Rattle.std.specs.Str.{bytes_eq}
+use Rattle.span_core.specs.declared.edge.Edge.{Edge}
+use Rattle.set_table.specs.declared.fault.TableFault.{TableFault}
+use Rattle.set_table.specs.declared.fault.TableFault.TheVariants.{Full, OutOfMemory}
+use Rattle.span_core.specs.Lists.{Has, AreDistinct, IsInOrder}
+use Rattle.marked_automaton.specs.Automaton.{Automaton}
+use Rattle.automaton_reading.specs.Reading.{Asked, byte_read, rest_taken, ended, asked_same, Reach, edges, is_among, set_of}
+
+-- the number of a set, and what is asked of it
+pub record Asking : Type 0 where
+  pub set : ℕ
+  pub ask : Asked
+
+abbrev pub asking_same : Asking → Asking → Bool
+asking_same r s = nat_eq r.set s.set && asked_same r.ask s.ask
+
+-- the automaton that is read, the greatest weight, the sets in the order of their numbers, and what
+-- was asked, in the order in which it was
+pub record Tabled : Type 0 where
+  pub graph : Automaton
+  pub limit : ℕ
+  pub sets : List (List ℕ)
+  pub asked : List Asking
+
+-- the set of this number
+abbrev pub set_at : List (List ℕ) → ℕ → List ℕ
+set_at sets k = slice_index_or sets k []
+
+-- the sets that an answer leads to; an end leads to none
+abbrev pub reached : Automaton → List ℕ → Asked → List (List ℕ)
+reached A set (byte_read b) = map (λ (e : Reach). e.to) (edges A set (byte_read b))
+reached A set rest_taken = map (λ (e : Reach). e.to) (edges A set rest_taken)
+reached A set ended = []
+
+-- the sets with this one, which comes last if it is new
+abbrev pub with_set : List (List ℕ) → List ℕ → List (List ℕ)
+with_set sets s = if list_any (bytes_eq s) sets then sets else sets ++ s ∷ []
+
+abbrev pub with_sets : List (List ℕ) → List (List ℕ) → List (List ℕ)
+with_sets sets [] = sets
+with_sets sets (s ∷ more) = with_sets (with_set sets s) more
+
+-- the table of the set of the start states alone
+abbrev pub fresh : Automaton → ℕ → Tabled
+fresh A limit = record { graph = A; limit = limit; sets = set_of A.starts ∷ []; asked = [] }
+
+-- the table with this asked for the first time
+abbrev pub asked_first : Tabled → Asking → Tabled
+asked_first t r = record {
+  graph = t.graph;
+  limit = t.limit;
+  sets = with_sets t.sets (reached t.graph (set_at t.sets r.set) r.ask);
+  asked = t.asked ++ r ∷ [];
+}
+
+abbrev pub was_asked : Tabled → Asking → Bool
+was_asked t r = list_any (asking_same r) t.asked
+
+-- the table once this is asked
+abbrev pub once_asked : Tabled → Asking → Tabled
+once_asked t r = if was_asked t r then t else asked_first t r
+
+abbrev pub asking : ℕ → Asked → Asking
+asking set ask = record { set = set; ask = ask }
+
+-- the edges of what was asked
+abbrev pub asked_edges : Automaton → List (List ℕ) → Asking → List Reach
+asked_edges A sets r = edges A (set_at sets r.set) r.ask
+
+abbrev pub sets_weight : List (List ℕ) → ℕ
+sets_weight sets = sum_by (λ set. 1 + length set) sets
+
+abbrev pub asked_weight : Automaton → List (List ℕ) → List Asking → ℕ
+asked_weight A sets asked = sum_by (λ r. 1 + length (asked_edges A sets r)) asked
+
+-- 1 + members of each set, and 1 + edges of all that was asked
+abbrev pub weight : Tabled → ℕ
+weight t = sets_weight t.sets + asked_weight t.graph t.sets t.asked
+
+-- an edge, with the set that its number names
+abbrev pub edge_named : List (List ℕ) → Edge → Reach
+edge_named sets e = record { marks = e.marks; to = set_at sets e.to }
+
+-- these edges are the answer, the greatest marks first
+pub record HasEdges (t : Tabled) (r : Asking) (es : List Edge) : Type 0 where
+  pub named : map (edge_named t.sets) es ≡ asked_edges t.graph t.sets r
+  pub targets : (e : Edge) → Has es e → e.to < length t.sets
+  pub order : IsInOrder (λ (e f : Edge). f.marks < e.marks) es
+
+-- these marks are those of the ends, the greatest first
+pub record HasEnds (t : Tabled) (k : ℕ) (marks : List ℕ) : Type 0 where
+  pub named : map (λ m. record { marks = m; to = [] }) marks ≡ asked_edges t.graph t.sets (asking k ended)
+  pub order : IsInOrder (λ (m n : ℕ). n < m) marks
+
+-- the members that are idle
+abbrev pub idle_of : Tabled → ℕ → List ℕ
+idle_of t k = filter (is_among t.graph.idle) (set_at t.sets k)
+
+-- the number of the set of idle members, and none where no member is idle
+abbrev pub HasRest : Tabled → ℕ → Option ℕ → Type 0
+HasRest t k None = idle_of t k ≡ []
+HasRest t k (Some n) = (slice_get t.sets n ≡ Some (idle_of t k)) × ¬ (idle_of t k ≡ [])
+
+abbrev pub one_edge : ℕ → Edge
+one_edge k = record { marks = 0; to = k }
+
+-- the byte was asked of the set, whose one edge on it takes no marks and leads to the set itself
+pub record Stays (t : Tabled) (k b : ℕ) : Type 0 where
+  pub asked : Has t.asked (asking k (byte_read b))
+  pub itself : asked_edges t.graph t.sets (asking k (byte_read b)) ≡ record { marks = 0; to = set_at t.sets k } ∷ []
+
+-- a refusal to make this table
+abbrev pub IsRefusal : Tabled → TableFault → Type 0
+IsRefusal t (Full w) = (w ≡ weight t) × (t.limit < w)
+IsRefusal t OutOfMemory = Unit {0}
+
+-- the states are those of the automaton, and strictly ascend
+pub record IsStateSet (A : Automaton) (set : List ℕ) : Type 0 where
+  pub order : IsInOrder ◌<◌ set
+  pub states : (p : ℕ) → Has set p → p < A.states
+
+-- what is true of each table
+pub record IsTabled (t : Tabled) : Type 0 where
+  pub start : slice_get t.sets 0 ≡ Some (set_of t.graph.starts)
+  pub sets : (s : List ℕ) → Has t.sets s → IsStateSet t.graph s
+  pub sets_apart : AreDistinct t.sets
+  pub asked : (r : Asking) → Has t.asked r → r.set < length t.sets
+  pub asked_apart : AreDistinct t.asked
+  pub within : weight t ≤ t.limit

@@ -1,0 +1,18 @@
+//! A table that determinises an automaton while a document is read.
+#![tactic(auto)]
+
+pub use fault::TableFault;
+pub use state::TableState;
+pub use table::Table;
+
+mod fault;
+mod answer;
+mod naming;
+mod places;
+mod reaching;
+mod sets;
+mod state;
+mod store;
+mod table;
+#[cfg(test)]
+mod tests;

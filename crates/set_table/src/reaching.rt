@@ -1,0 +1,171 @@
+//! What the members of a set reach.
+ghost use Rattle.std.specs.Prelude.{◌≡◌, ℕ, ◌+◌, ◌<◌, ◌≤◌, ◌∷◌, ◌++◌, ◌^◌, length, map, OnOk, IfOk};
+ghost use Rattle.std.specs.List.{filter, flat_map};
+ghost use Rattle.span_core.specs.Lists.{Has, IsInOrder};
+ghost use Rattle.marked_automaton.specs.Automaton.{AreGrouped};
+ghost use Rattle.automaton_reading.specs.Reading.{is_among, set_of, ways_taken};
+ghost use Rattle.set_table.specs.Cut.{code_of, codes_among, codes_at, codes_on, marks_among};
+
+use marked_automaton::{Automaton, Stop, Way};
+use span_core::OutOfMemory;
+use std::alloc::Global;
+
+/// The set of these states.
+pub(crate) fn start_set(alloc: Global, starts: &[u32]) -> Result<Vec<u32>, OutOfMemory>
+    ensures { IfOk result (λ v. v.items ≡ set_of starts.now) }
+{
+    let mut states = copy_of(alloc, starts)?;
+    states.sort_unstable();
+    states.dedup();
+    Ok(states)
+}
+
+/// The same states.
+fn copy_of(alloc: Global, states: &[u32]) -> Result<Vec<u32>, OutOfMemory>
+    ensures { IfOk result (λ v. v.items ≡ states.now) }
+{
+    let mut copy = Vec::with_capacity(alloc, states.len())?;
+    for state in states {
+        copy.push(*state)?;
+    }
+    Ok(copy)
+}
+
+/// The ways of the members that take the byte, each as the number of its marks and target, in order and
+/// each once. They take the place of what `codes` had.
+pub(crate) fn put_codes(
+    codes: &mut Vec<u64>,
+    automaton: &Automaton,
+    members: &[u32],
+    byte: u8,
+) -> Result<(), OutOfMemory>
+    requires { IsInOrder ◌<◌ members.now }
+    ensures { OnOk result (codes.new.items ≡ set_of (map code_of (ways_taken automaton.now.graph members.now byte))) }
+{
+    codes.clear();
+    if automaton.is_grouped() {
+        put_rows(codes, automaton, members, byte)?;
+    } else {
+        put_among(codes, automaton.ways(), members, byte)?;
+    }
+    put_in_order(codes);
+    Ok(())
+}
+
+/// The marks of the members' ends, each as a number that is less where they are greater, in order and
+/// each once. They take the place of what `codes` had.
+pub(crate) fn put_marks(
+    codes: &mut Vec<u64>,
+    stops: &[Stop],
+    members: &[u32],
+) -> Result<(), OutOfMemory>
+    requires { IsInOrder ◌<◌ members.now }
+    ensures { OnOk result (codes.new.items ≡ set_of (marks_among members.now stops.now)) }
+{
+    codes.clear();
+    put_stops(codes, stops, members)?;
+    put_in_order(codes);
+    Ok(())
+}
+
+/// The idle members of a set.
+pub(crate) fn idle_members(
+    alloc: Global,
+    automaton: &Automaton,
+    members: &[u32],
+) -> Result<Vec<u32>, OutOfMemory>
+    requires { (p : ℕ) → Has members.now p → p < automaton.now.graph.states }
+    ensures { IfOk result (λ v. v.items ≡ filter (is_among automaton.now.graph.idle) members.now) }
+{
+    let mut idle = Vec::new(alloc);
+    for state in members {
+        if automaton.is_idle(*state) {
+            idle.push(*state)?;
+        }
+    }
+    Ok(idle)
+}
+
+/// A way's marks and target as one number, so that numbers ascend where marks descend and then targets
+/// ascend.
+fn code_of(way: &Way) -> u64
+    ensures { result ≡ code_of way.now }
+{
+    let to = way.to;
+    u64::from(u32::MAX - way.marks.number()) * 4_294_967_296 + u64::from(to)
+}
+
+/// Appends the ways that take the byte.
+fn put_row(codes: &mut Vec<u64>, ways: &[Way], byte: u8) -> Result<(), OutOfMemory>
+    ensures { OnOk result (codes.new.items ≡ codes.old.items ++ codes_on byte ways.now) }
+{
+    for way in ways {
+        if way.bytes.contains(byte) {
+            codes.push(code_of(way))?;
+        }
+    }
+    Ok(())
+}
+
+/// Appends the ways of the members that take the byte, where the ways stand in the order of states.
+fn put_rows(
+    codes: &mut Vec<u64>,
+    automaton: &Automaton,
+    members: &[u32],
+    byte: u8,
+) -> Result<(), OutOfMemory>
+    requires { AreGrouped automaton.now.graph.ways }
+    ensures { OnOk result (codes.new.items ≡ codes.old.items ++ flat_map (codes_at automaton.now.graph.ways byte) members.now) }
+{
+    for state in members {
+        put_row(codes, automaton.ways_from(*state), byte)?;
+    }
+    Ok(())
+}
+
+/// Appends the ways of the members that take the byte, by one pass over all ways.
+fn put_among(
+    codes: &mut Vec<u64>,
+    ways: &[Way],
+    members: &[u32],
+    byte: u8,
+) -> Result<(), OutOfMemory>
+    requires { IsInOrder ◌<◌ members.now }
+    ensures { OnOk result (codes.new.items ≡ codes.old.items ++ codes_among members.now byte ways.now) }
+{
+    for way in ways {
+        if has_state(members, way.from) && way.bytes.contains(byte) {
+            codes.push(code_of(way))?;
+        }
+    }
+    Ok(())
+}
+
+/// Appends the marks of the members' ends.
+fn put_stops(codes: &mut Vec<u64>, stops: &[Stop], members: &[u32]) -> Result<(), OutOfMemory>
+    requires { IsInOrder ◌<◌ members.now }
+    ensures { OnOk result (codes.new.items ≡ codes.old.items ++ marks_among members.now stops.now) }
+{
+    for stop in stops {
+        if has_state(members, stop.state) {
+            codes.push(u64::from(u32::MAX - stop.marks.number()))?;
+        }
+    }
+    Ok(())
+}
+
+/// Whether the state is a member.
+fn has_state(members: &[u32], state: u32) -> bool
+    requires { IsInOrder ◌<◌ members.now }
+    ensures { result ≡ is_among members.now state }
+{
+    members.binary_search(&state).is_ok()
+}
+
+/// Puts numbers in order, each once.
+fn put_in_order(codes: &mut Vec<u64>)
+    ensures { codes.new.items ≡ set_of codes.old.items }
+{
+    codes.sort_unstable();
+    codes.dedup();
+}

@@ -1,0 +1,341 @@
+//! What a table holds: sets, edges and answers.
+ghost use Rattle.std.specs.Prelude.{◌≡◌, ℕ, ◌+◌, ◌*◌, ◌^◌, ◌<◌, ◌≤◌, ◌++◌, ◌∷◌, List, [], length, take, slice_set, slice_index_or, ◌↔◌, ◌⊎◌, IsTrue, OnOk, OnErr, IfOk, IfErr};
+ghost use Rattle.std.specs.FinSet as bytes;
+ghost use Rattle.set_table.specs.Answered.{Adds, IsQuestion, IsReady, IsSound, asked_by, askings, part, place_in, room, tabled, with_places};
+ghost use Rattle.span_core.specs.Lists.{Has};
+ghost use Rattle.set_table.specs.Named.{IsLongerBy};
+ghost use Rattle.set_table.specs.Tabled.{IsRefusal, asked_first, asking, one_edge};
+
+use crate::TableFault;
+use crate::answer::{Answer, Question};
+use crate::naming::{put_edges, put_ends, put_rest};
+use crate::reaching::{idle_members, put_codes, put_marks};
+use crate::places::Places;
+use crate::sets::Sets;
+use marked_automaton::Automaton;
+use span_core::{ByteSet, Edge, Marks, OutOfMemory};
+use std::alloc::Global;
+
+/// How many runs of places a set has: 16 for the bytes, and one for its rest and its ends.
+const RUNS: usize = 17;
+
+/// How many places a set has.
+const PLACES: usize = 272;
+
+/// Sets with numbers, and what was asked of them.
+#[derive(Drop)]
+pub(crate) struct Store {
+    pub(crate) sets: Sets,
+    pub(crate) answers: Vec<Answer>,
+    pub(crate) edges: Vec<Edge>,
+    pub(crate) ends: Vec<Marks>,
+    /// For each set and question the number of its answer and 1, or 0 where it has none.
+    pub(crate) numbers: Places,
+    /// For each set the bytes that were asked of it whose only edge takes no marks and leads to the set itself.
+    pub(crate) stays: Vec<ByteSet>,
+    /// Room for what members reach.
+    codes: Vec<u64>,
+}
+
+/// An answer that was added: where it stands, and what it weighs with the sets that are new.
+#[derive(Clone, Copy, Debug)]
+pub(crate) struct Added {
+    pub(crate) first: usize,
+    pub(crate) count: usize,
+    pub(crate) weight: u64,
+}
+
+impl Store {
+    /// One set, of which nothing was asked.
+    pub(crate) fn new(alloc: Global, start: Vec<u32>) -> Result<Store, OutOfMemory>
+        ensures sets { IfOk result (λ s. s.sets ≡ start.items ∷ []) }
+        ensures answers { IfOk result (λ s. s.answers.items ≡ []) }
+        ensures edges { IfOk result (λ s. s.edges.items ≡ []) }
+        ensures ends { IfOk result (λ s. s.ends.items ≡ []) }
+        ensures numbers { IfOk result (λ s. s.numbers ≡ with_places 272 []) }
+        ensures stays { IfOk result (λ s. (k : ℕ) → slice_index_or s.stays.items k bytes.empty ≡ bytes.empty) }
+        ensures stay_of_each { IfOk result (λ s. length s.stays.items ≡ 1) }
+    {
+        let mut sets = Sets::new(alloc);
+        sets.number_of(start)?;
+        let mut numbers = Places::new(alloc)?;
+        numbers.grow(RUNS)?;
+        let mut stays = Vec::new(alloc);
+        put_empty(&mut stays, 1)?;
+        Ok(Store {
+            sets,
+            answers: Vec::new(alloc),
+            edges: Vec::new(alloc),
+            ends: Vec::new(alloc),
+            numbers,
+            stays,
+            codes: Vec::new(alloc),
+        })
+    }
+
+    /// Adds an answer's edges or ends, and the sets that edges lead to, and tells what that weighs. On
+    /// refusal some of them may be there.
+    pub(crate) fn add(
+        &mut self,
+        alloc: Global,
+        automaton: &Automaton,
+        set: u32,
+        question: Question,
+    ) -> Result<Added, OutOfMemory>
+        requires ready { IsReady automaton.now self.old.sets self.old.edges.items self.old.ends.items set }
+        ensures adds { IfOk result (λ r. Adds automaton.now.graph self.old.sets self.new.sets self.old.edges.items self.new.edges.items self.old.ends.items self.new.ends.items (record { set = set; question = question; first = r.first; count = r.count }) r.weight) }
+        ensures sets { IsLongerBy self.old.sets self.new.sets }
+        ensures edges { IsLongerBy self.old.edges.items self.new.edges.items }
+        ensures ends { IsLongerBy self.old.ends.items self.new.ends.items }
+        ensures answers { self.new.answers.items ≡ self.old.answers.items }
+        ensures numbers { self.new.numbers ≡ self.old.numbers }
+        ensures stays { self.new.stays.items ≡ self.old.stays.items }
+    {
+        match question {
+            Question::Byte(byte) => self.add_edges(alloc, automaton, set, byte),
+            Question::Rest => self.add_rest(alloc, automaton, set),
+            Question::Ends => self.add_ends(automaton, set),
+        }
+    }
+
+    /// Adds the edges of a set on a byte, and the sets that they lead to.
+    fn add_edges(
+        &mut self,
+        alloc: Global,
+        automaton: &Automaton,
+        set: u32,
+        byte: u8,
+    ) -> Result<Added, OutOfMemory>
+        requires ready { IsReady automaton.now self.old.sets self.old.edges.items self.old.ends.items set }
+        ensures adds { IfOk result (λ r. Adds automaton.now.graph self.old.sets self.new.sets self.old.edges.items self.new.edges.items self.old.ends.items self.new.ends.items (record { set = set; question = Question.Byte byte; first = r.first; count = r.count }) r.weight) }
+        ensures sets { IsLongerBy self.old.sets self.new.sets }
+        ensures edges { IsLongerBy self.old.edges.items self.new.edges.items }
+        ensures ends { self.new.ends.items ≡ self.old.ends.items }
+        ensures answers { self.new.answers.items ≡ self.old.answers.items }
+        ensures numbers { self.new.numbers ≡ self.old.numbers }
+        ensures stays { self.new.stays.items ≡ self.old.stays.items }
+    {
+        put_codes(
+            &mut self.codes,
+            automaton,
+            self.sets.at(set as usize),
+            byte,
+        )?;
+        let first = self.edges.len();
+        let added = put_edges(
+            alloc,
+            self.codes.as_slice(),
+            &mut self.sets,
+            &mut self.edges,
+        )?;
+        Ok(Added {
+            first,
+            count: self.edges.len() - first,
+            weight: added + 1,
+        })
+    }
+
+    /// Adds the edge of a set to its idle members, where it has any, and their set.
+    fn add_rest(
+        &mut self,
+        alloc: Global,
+        automaton: &Automaton,
+        set: u32,
+    ) -> Result<Added, OutOfMemory>
+        requires ready { IsReady automaton.now self.old.sets self.old.edges.items self.old.ends.items set }
+        ensures adds { IfOk result (λ r. Adds automaton.now.graph self.old.sets self.new.sets self.old.edges.items self.new.edges.items self.old.ends.items self.new.ends.items (record { set = set; question = Question.Rest; first = r.first; count = r.count }) r.weight) }
+        ensures sets { IsLongerBy self.old.sets self.new.sets }
+        ensures edges { IsLongerBy self.old.edges.items self.new.edges.items }
+        ensures ends { self.new.ends.items ≡ self.old.ends.items }
+        ensures answers { self.new.answers.items ≡ self.old.answers.items }
+        ensures numbers { self.new.numbers ≡ self.old.numbers }
+        ensures stays { self.new.stays.items ≡ self.old.stays.items }
+    {
+        let idle = idle_members(alloc, automaton, self.sets.at(set as usize))?;
+        let first = self.edges.len();
+        let added = put_rest(idle, &mut self.sets, &mut self.edges)?;
+        Ok(Added {
+            first,
+            count: self.edges.len() - first,
+            weight: added + 1,
+        })
+    }
+
+    /// Adds the marks of a set's ends.
+    fn add_ends(&mut self, automaton: &Automaton, set: u32) -> Result<Added, OutOfMemory>
+        requires ready { IsReady automaton.now self.old.sets self.old.edges.items self.old.ends.items set }
+        ensures adds { IfOk result (λ r. Adds automaton.now.graph self.old.sets self.new.sets self.old.edges.items self.new.edges.items self.old.ends.items self.new.ends.items (record { set = set; question = Question.Ends; first = r.first; count = r.count }) r.weight) }
+        ensures sets { self.new.sets ≡ self.old.sets }
+        ensures edges { self.new.edges.items ≡ self.old.edges.items }
+        ensures ends { IsLongerBy self.old.ends.items self.new.ends.items }
+        ensures answers { self.new.answers.items ≡ self.old.answers.items }
+        ensures numbers { self.new.numbers ≡ self.old.numbers }
+        ensures stays { self.new.stays.items ≡ self.old.stays.items }
+    {
+        put_marks(
+            &mut self.codes,
+            automaton.stops(),
+            self.sets.at(set as usize),
+        )?;
+        let first = self.ends.len();
+        put_ends(self.codes.as_slice(), &mut self.ends)?;
+        let count = self.ends.len() - first;
+        Ok(Added {
+            first,
+            count,
+            weight: count as u64 + 1,
+        })
+    }
+
+    /// Answers a question that was not asked of the set, where all that is then held weighs no more than
+    /// the limit, and tells what it weighs. On refusal there may be more sets, edges, ends and places.
+    pub(crate) fn answer(
+        &mut self,
+        alloc: Global,
+        automaton: &Automaton,
+        set: u32,
+        question: Question,
+        weight: u64,
+        limit: u64,
+    ) -> Result<u64, TableFault>
+        requires sound { IsSound automaton.now limit weight self.old }
+        requires set { set < length self.old.sets }
+        requires question { IsQuestion question }
+        requires absent { Has (askings self.old.answers.items) (asking set (asked_by question)) → ⊥ }
+        ensures sound { IfOk result (λ w. IsSound automaton.now limit w self.new) }
+        ensures answered { OnOk result (tabled automaton.now.graph limit self.new ≡ asked_first (tabled automaton.now.graph limit self.old) (asking set (asked_by question))) }
+        ensures refused { IfErr result (IsRefusal (asked_first (tabled automaton.now.graph limit self.old) (asking set (asked_by question)))) }
+        ensures sets { IsLongerBy self.old.sets self.new.sets }
+        ensures edges { IsLongerBy self.old.edges.items self.new.edges.items }
+        ensures ends { IsLongerBy self.old.ends.items self.new.ends.items }
+        ensures answers { OnErr result (self.new.answers.items ≡ self.old.answers.items) }
+        ensures numbers { OnErr result (IsLongerBy self.old.numbers self.new.numbers) }
+        ensures stays { OnErr result (IsLongerBy self.old.stays.items self.new.stays.items) }
+    {
+        let added = self.add(alloc, automaton, set, question)?;
+        let weight = weight + added.weight;
+        if weight > limit {
+            return Err(TableFault::Full { weight });
+        }
+        let answer = Answer {
+            set,
+            question,
+            first: added.first as u32,
+            count: added.count as u32,
+        };
+        put_empty(&mut self.stays, self.sets.len())?;
+        self.keep(answer)?;
+        note_stay(&mut self.stays, self.edges.as_slice(), answer);
+        Ok(weight)
+    }
+
+    /// Keeps the first sets, edges and ends alone, so many as it says.
+    pub(crate) fn undo(&mut self, sets: usize, edges: usize, ends: usize)
+        requires { 272 * sets < 2 ^ 64 }
+        ensures sets { self.new.sets ≡ take sets self.old.sets }
+        ensures edges { self.new.edges.items ≡ take edges self.old.edges.items }
+        ensures ends { self.new.ends.items ≡ take ends self.old.ends.items }
+        ensures numbers { self.new.numbers ≡ take (272 * sets) self.old.numbers }
+        ensures stays { self.new.stays.items ≡ take sets self.old.stays.items }
+        ensures answers { self.new.answers.items ≡ self.old.answers.items }
+    {
+        self.sets.truncate(sets);
+        self.edges.truncate(edges);
+        self.ends.truncate(ends);
+        self.numbers.truncate(RUNS * sets);
+        self.stays.truncate(sets);
+    }
+
+    /// Keeps an answer that was added. On refusal there may be more places.
+    pub(crate) fn keep(&mut self, answer: Answer) -> Result<(), OutOfMemory>
+        requires set { answer.set < length self.old.sets }
+        requires question { IsQuestion answer.question }
+        requires places { length self.old.numbers ≤ 272 * length self.old.sets }
+        requires few_sets { length self.old.sets ≤ 200000000 }
+        requires few_answers { length self.old.answers.items ≤ 100000000 }
+        ensures sets { self.new.sets ≡ self.old.sets }
+        ensures edges { self.new.edges.items ≡ self.old.edges.items }
+        ensures ends { self.new.ends.items ≡ self.old.ends.items }
+        ensures answers { OnOk result (self.new.answers.items ≡ self.old.answers.items ++ answer ∷ []) }
+        ensures numbers { OnOk result (self.new.numbers ≡ slice_set (with_places (272 * length self.old.sets) self.old.numbers) (place_in answer.set answer.question) (1 + length self.old.answers.items)) }
+        ensures same { OnErr result (self.new.answers.items ≡ self.old.answers.items) }
+        ensures places { OnErr result (IsLongerBy self.old.numbers self.new.numbers) }
+        ensures stays { self.new.stays.items ≡ self.old.stays.items }
+    {
+        self.numbers.grow(RUNS * self.sets.len())?;
+        let number = self.answers.len() as u32 + 1;
+        self.answers.push(answer)?;
+        let place = place_of(answer.set, answer.question);
+        if let Err(fault) = self.numbers.put(place, number) {
+            self.answers.pop();
+            return Err(fault);
+        }
+        Ok(())
+    }
+}
+
+/// Appends empty sets until there are so many.
+fn put_empty(stays: &mut Vec<ByteSet>, count: usize) -> Result<(), OutOfMemory>
+    requires { length stays.old.items ≤ count }
+    ensures longer { IsLongerBy stays.old.items stays.new.items }
+    ensures same { (k : ℕ) → slice_index_or stays.new.items k bytes.empty ≡ slice_index_or stays.old.items k bytes.empty }
+    ensures count { OnOk result (length stays.new.items ≡ count) }
+{
+    for _ in stays.len()..count {
+        stays.push(ByteSet::empty())?;
+    }
+    Ok(())
+}
+
+/// Notes the byte of an answer whose only edge takes no marks and leads to the set itself.
+fn note_stay(stays: &mut Vec<ByteSet>, edges: &[Edge], answer: Answer)
+    requires set { answer.set < length stays.old.items }
+    requires question { IsQuestion answer.question }
+    requires within { answer.question ≡ Question.Ends ⊎ (answer.first + answer.count ≤ length edges.now) }
+    ensures length { length stays.new.items ≡ length stays.old.items }
+    ensures noted { (k b : ℕ) → IsTrue (bytes.contains (slice_index_or stays.new.items k bytes.empty) b) ↔ (IsTrue (bytes.contains (slice_index_or stays.old.items k bytes.empty) b) ⊎ ((k ≡ answer.set) × (answer.question ≡ Question.Byte b) × (part answer.first answer.count edges.now ≡ one_edge answer.set ∷ []))) }
+{
+    if let Question::Byte(byte) = answer.question {
+        let edges = edges_part(edges, answer.first as usize, answer.count as usize);
+        if leads_back(edges, answer.set) {
+            let at = answer.set as usize;
+            let noted = stays[at].union(&ByteSet::single(byte));
+            stays[at] = noted;
+        }
+    }
+}
+
+/// So many edges, from the first on.
+pub(crate) fn edges_part(edges: &[Edge], first: usize, count: usize) -> &[Edge]
+    requires { first + count ≤ length edges.now }
+    ensures { result.now ≡ part first count edges.now }
+{
+    let (_, rest) = edges.split_at(first);
+    let (edges, _) = rest.split_at(count);
+    edges
+}
+
+/// Whether there is one edge, which takes no marks and leads to this set.
+fn leads_back(edges: &[Edge], set: u32) -> bool
+    ensures { IsTrue result ↔ (edges.now ≡ one_edge set ∷ []) }
+{
+    if edges.len() != 1 {
+        return false;
+    }
+    if edges[0].to != set {
+        return false;
+    }
+    edges[0].marks.is_none()
+}
+
+/// The place of a set's question among the numbers.
+pub(crate) fn place_of(set: u32, question: Question) -> usize
+    ensures { result ≡ place_in set question }
+{
+    let place = match question {
+        Question::Byte(byte) => usize::from(byte),
+        Question::Rest => 256,
+        Question::Ends => 257,
+    };
+    PLACES * set as usize + place
+}

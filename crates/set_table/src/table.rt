@@ -1,0 +1,312 @@
+//! Tables.
+ghost use Rattle.std.specs.Prelude.{◌≡◌, ℕ, ◌+◌, ◌<◌, ◌≤◌, List, [], ◌∷◌, length, IfOk, IfErr, OnOk, OnErr, MatchResult, Some, slice_get, ◌↔◌, IsTrue};
+ghost use Rattle.automaton_reading.specs.Reading.{byte_read, rest_taken, ended};
+ghost use Rattle.std.specs.FinSet as bytes;
+ghost use Rattle.std.specs.Borrow.{sem};
+ghost use Rattle.set_table.specs.Lending.{Leaves};
+ghost use Rattle.span_core.specs.Lists.{Has};
+ghost use Rattle.set_table.specs.Tabled.{Asking, HasEdges, HasEnds, HasRest, IsRefusal, IsStateSet, IsTabled, Stays, asked_first, asking, fresh, once_asked, set_at, weight};
+ghost use Rattle.set_table.specs.Laid.{IsStateOf, taken_up};
+ghost use Rattle.set_table.specs.Answered.{IsQuestion, asked_by, part};
+
+use crate::{TableFault, TableState};
+use crate::answer::Question;
+use crate::reaching::start_set;
+use crate::store::{Store, edges_part, place_of};
+use marked_automaton::Automaton;
+use span_core::{ByteSet, Edge, Marks, OutOfMemory, Steps};
+use std::alloc::Global;
+use std::marker::Model;
+use std::sync::ledger::Ledger;
+
+/// A table determinises an automaton while a document is read: it numbers the sets of states that are
+/// reached and keeps the answers to what was asked of them.
+///
+/// It is seen as the automaton's graph, its limit, the list of the sets in the order of their numbers,
+/// and the list of what was asked in its order. Set 0 is that of the start states.
+#[derive(Drop)]
+pub struct Table<'a> {
+    alloc: Global,
+    automaton: &'a Automaton,
+    limit: u64,
+    weight: u64,
+    store: Store,
+}
+
+impl<'a> Model for Table<'a> {
+    ghost use Rattle.set_table.specs.Tabled.{Tabled};
+    ghost use Rattle.set_table.specs.Codes.{tabled_code};
+
+    ghost Value = { Tabled };
+
+    ghost coded = { tabled_code };
+
+    ghost use Rattle.set_table.specs.Answered.{IsSound, tabled};
+
+    ghost view = { λ t. tabled t.automaton.now.graph t.limit t.store };
+
+    ghost invariant = { λ t. IsSound t.automaton.now t.limit t.weight t.store };
+}
+
+impl<'a> Table<'a> {
+    /// A table that has the set of the start states. 1 step. `TableFault::Full` comes exactly where that
+    /// set weighs more than the limit, and carries its weight.
+    pub fn new<L: Ledger>(
+        alloc: Global,
+        automaton: &'a Automaton,
+        limit: u64,
+        steps: &mut Steps<L>,
+    ) -> Result<Table<'a>, TableFault>
+        requires { limit ≤ 100000000 }
+        ensures ok { IfOk result (λ t. t ≡ fresh automaton.now.graph limit) }
+        ensures within { OnOk result (weight (fresh automaton.now.graph limit) ≤ limit) }
+        ensures refused { IfErr result (IsRefusal (fresh automaton.now.graph limit)) }
+        ensures steps { steps.new ≡ steps.old + 1 }
+    {
+        steps.tick();
+        let _facts = (automaton.states(), automaton.vars().len());
+        let start = start_set(alloc, automaton.starts())?;
+        let weight = 1 + start.len() as u64;
+        if weight > limit {
+            return Err(TableFault::Full { weight });
+        }
+        let store = Store::new(alloc, start)?;
+        Ok(Table {
+            alloc,
+            automaton,
+            limit,
+            weight,
+            store,
+        })
+    }
+
+    /// Lays the table down, so that its automaton is free. It takes no memory.
+    pub fn lay_down(self) -> TableState
+        ensures state { IsStateOf self.entry.graph result }
+        ensures table { taken_up self.entry.graph result ≡ self.entry }
+    {
+        let Table {
+            alloc,
+            automaton: _,
+            limit,
+            weight,
+            store,
+        } = self;
+        TableState {
+            alloc,
+            limit,
+            weight,
+            store,
+        }
+    }
+
+    /// The table that was laid down, as it was; its automaton was equal to this one. It takes no memory.
+    pub fn take_up(automaton: &'a Automaton, state: TableState) -> Table<'a>
+        requires { IsStateOf automaton.now.graph state }
+        ensures { result ≡ taken_up automaton.now.graph state }
+    {
+        let _facts = (automaton.states(), automaton.vars().len());
+        let TableState {
+            alloc,
+            limit,
+            weight,
+            store,
+        } = state;
+        Table {
+            alloc,
+            automaton,
+            limit,
+            weight,
+            store,
+        }
+    }
+
+    /// The number of the set of the start states.
+    pub fn start(&self) -> u32
+        ensures zero { result ≡ 0 }
+        ensures tabled { IsTabled self.now }
+    {
+        let _sets = self.store.sets.len();
+        0
+    }
+
+    /// How many sets there are: they are the numbers below it.
+    pub fn sets(&self) -> usize
+        ensures { result ≡ length self.now.sets }
+    {
+        self.store.sets.len()
+    }
+
+    /// The states of a set, strictly ascending.
+    pub fn members(&self, set: u32) -> &[u32]
+        requires { set < length self.now.sets }
+        ensures members { result.now ≡ set_at self.now.sets set }
+        ensures states { IsStateSet self.now.graph result.now }
+    {
+        self.store.sets.at(set as usize)
+    }
+
+    /// What the table weighs: 1 + members of each set, and 1 + edges of all that was asked.
+    pub fn weight(&self) -> u64
+        ensures value { result ≡ weight self.now }
+        ensures within { result ≤ self.now.limit }
+    {
+        self.weight
+    }
+
+    /// The bytes that were asked of a set before whose only edge takes no marks and leads to the set
+    /// itself: a reader may pass over them.
+    pub fn stays(&self, set: u32) -> ByteSet
+        requires { set < length self.now.sets }
+        ensures { (b : ℕ) → IsTrue (bytes.contains result b) ↔ Stays self.now set b }
+    {
+        self.store.stays[set as usize]
+    }
+
+    /// The edges of a set on a byte: one for each block of marks that some way of a member takes on it,
+    /// to the set of all states that are so reached, the greatest marks first. They are made where they
+    /// were not asked before. 1 step.
+    ///
+    /// `TableFault::Full` comes exactly where the table would weigh more than its limit, and carries what
+    /// it would weigh. After a refusal it is as before.
+    pub fn row<L: Ledger>(
+        &mut self,
+        set: u32,
+        byte: u8,
+        steps: &mut Steps<L>,
+    ) -> Result<&[Edge], TableFault>
+        requires { set < length self.old.sets }
+        ensures* table { sem 𝓛 (Leaves self.entry (λ t. MatchResult result (λ es. (t ≡ once_asked self.old (asking set (byte_read byte))) × HasEdges t (asking set (byte_read byte)) es.now) (λ e. (t ≡ self.old) × IsRefusal (once_asked self.old (asking set (byte_read byte))) e))) }
+        ensures steps { steps.new ≡ steps.old + 1 }
+    {
+        steps.tick();
+        let number = self.ask(set, Question::Byte(byte))?;
+        Ok(self.edges_at(number))
+    }
+
+    /// The set of a set's idle members; none exactly where no member is idle. It is made where it was not
+    /// asked before. 1 step. The refusals are those of `row`.
+    pub fn rest<L: Ledger>(
+        &mut self,
+        set: u32,
+        steps: &mut Steps<L>,
+    ) -> Result<Option<u32>, TableFault>
+        requires { set < length self.old.sets }
+        ensures asked { OnOk result (self.new ≡ once_asked self.old (asking set rest_taken)) }
+        ensures rest { IfOk result (HasRest self.new set) }
+        ensures err { OnErr result (self.new ≡ self.old) }
+        ensures refused { IfErr result (IsRefusal (once_asked self.old (asking set rest_taken))) }
+        ensures steps { steps.new ≡ steps.old + 1 }
+    {
+        steps.tick();
+        let number = self.ask(set, Question::Rest)?;
+        let edges = self.edges_at(number);
+        if edges.is_empty() {
+            Ok(None)
+        } else {
+            Ok(Some(edges[0].to))
+        }
+    }
+
+    /// The distinct marks of the members' ends, the greatest first. They are made where they were not
+    /// asked before. 1 step. The refusals are those of `row`.
+    pub fn ends<L: Ledger>(
+        &mut self,
+        set: u32,
+        steps: &mut Steps<L>,
+    ) -> Result<&[Marks], TableFault>
+        requires { set < length self.old.sets }
+        ensures* table { sem 𝓛 (Leaves self.entry (λ t. MatchResult result (λ ms. (t ≡ once_asked self.old (asking set ended)) × HasEnds t set ms.now) (λ e. (t ≡ self.old) × IsRefusal (once_asked self.old (asking set ended)) e))) }
+        ensures steps { steps.new ≡ steps.old + 1 }
+    {
+        steps.tick();
+        let number = self.ask(set, Question::Ends)?;
+        Ok(self.marks_at(number))
+    }
+
+    /// The number of the answer to a question, which is made now if it was not asked before.
+    fn ask(&mut self, set: u32, question: Question) -> Result<usize, TableFault>
+        requires set { set < length self.old.sets }
+        requires question { IsQuestion question }
+        ensures asked { OnOk result (self.new ≡ once_asked self.old (asking set (asked_by question))) }
+        ensures number { IfOk result (λ i. slice_get self.new.asked i ≡ Some (asking set (asked_by question))) }
+        ensures err { OnErr result (self.new ≡ self.old) }
+        ensures refused { IfErr result (IsRefusal (once_asked self.old (asking set (asked_by question)))) }
+    {
+        let number = self.store.numbers.at(place_of(set, question));
+        if number != 0 {
+            return Ok(number as usize - 1);
+        }
+        self.answer(set, question)
+    }
+
+    /// Makes the answer to a question that was not asked before, and tells its number. After a refusal the
+    /// table is as before.
+    #[cold]
+    #[inline(never)]
+    fn answer(&mut self, set: u32, question: Question) -> Result<usize, TableFault>
+        requires set { set < length self.old.sets }
+        requires question { IsQuestion question }
+        requires absent { Has self.old.asked (asking set (asked_by question)) → ⊥ }
+        ensures asked { OnOk result (self.new ≡ asked_first self.old (asking set (asked_by question))) }
+        ensures number { IfOk result (λ i. slice_get self.new.asked i ≡ Some (asking set (asked_by question))) }
+        ensures err { OnErr result (self.new ≡ self.old) }
+        ensures refused { IfErr result (IsRefusal (asked_first self.old (asking set (asked_by question)))) }
+    {
+        let sets = self.store.sets.len();
+        let edges = self.store.edges.len();
+        let ends = self.store.ends.len();
+        let (alloc, automaton) = (self.alloc, self.automaton);
+        match self
+            .store
+            .answer(alloc, automaton, set, question, self.weight, self.limit)
+        {
+            Ok(weight) => {
+                self.weight = weight;
+                Ok(self.store.answers.len() - 1)
+            }
+            Err(fault) => {
+                self.store.undo(sets, edges, ends);
+                Err(fault)
+            }
+        }
+    }
+
+    /// The edges of an answer.
+    fn edges_at(&self, number: usize) -> &[Edge]
+        requires within { number < length self.now.asked }
+        requires edges { (r : Asking) → slice_get self.now.asked number ≡ Some r → r.ask ≡ ended → ⊥ }
+        ensures { (r : Asking) → slice_get self.now.asked number ≡ Some r → HasEdges self.now r result.now }
+    {
+        let answer = self.store.answers[number];
+        edges_part(
+            self.store.edges.as_slice(),
+            answer.first as usize,
+            answer.count as usize,
+        )
+    }
+
+    /// The marks of an answer.
+    fn marks_at(&self, number: usize) -> &[Marks]
+        requires within { number < length self.now.asked }
+        requires ends { (r : Asking) → slice_get self.now.asked number ≡ Some r → r.ask ≡ ended }
+        ensures { (r : Asking) → slice_get self.now.asked number ≡ Some r → HasEnds self.now r.set result.now }
+    {
+        let answer = self.store.answers[number];
+        marks_part(
+            self.store.ends.as_slice(),
+            answer.first as usize,
+            answer.count as usize,
+        )
+    }
+}
+
+/// So many marks, from the first on.
+fn marks_part(marks: &[Marks], first: usize, count: usize) -> &[Marks]
+    requires { first + count ≤ length marks.now }
+    ensures { result.now ≡ part first count marks.now }
+{
+    let (_, rest) = marks.split_at(first);
+    let (marks, _) = rest.split_at(count);
+    marks
+}
