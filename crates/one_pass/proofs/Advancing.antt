@@ -1,0 +1,101 @@
+-- The bytes of a piece, one after another, where those that change nothing are passed over.
+use Rattle.std.proofs.Common.{◌≡◌, ℕ, suc, ◌+◌, ◌<◌, true, List, [], ◌∷◌, ◌++◌, length, get_or, take, drop, inl, inr, refl, sym, ap, subst, arith, ◌∙◌}
+use Rattle.std.specs.Prelude.{IsTrue, ◌&&◌}
+use Rattle.std.specs.FinSet as bytes
+use Rattle.std.specs.FinSet.{contains-intersection}
+use Rattle.std.specs.Cmp.{nat_cmp_total}
+use Rattle.std.proofs.Math.Seq.{take-length}
+use Rattle.span_core.specs.Lists.{Has}
+use Rattle.span_core.proofs.HasLaws.{Has-take_more_cases}
+use Rattle.marked_automaton.specs.Automaton.{ByteClass}
+use Rattle.marked_automaton.proofs.Passing.{left_true, right_true}
+use Rattle.set_table.specs.declared.fault.TableFault.{TableFault}
+use Rattle.one_pass.specs.Held.{TableView, StaysOn}
+use Rattle.output_graph.specs.Graph.{Source}
+use Rattle.one_pass.specs.Layers.{GraphView, no_source, source_at}
+use Rattle.one_pass.specs.Faults.{IsFaultAt}
+use Rattle.one_pass.specs.Places.{Place, byte_at, bytes_at}
+use Rattle.one_pass.specs.Passes.{AllStayOn, Pass, IsReady, HasRead, HasStopped, Stop}
+use Rattle.one_pass.proofs.Composing.{stopped_before}
+use Rattle.one_pass.proofs.Faulting.{both_read, bytes_more, bytes_split, fault_before, read_none, ready_later, then_fault, then_stopped}
+use Rattle.one_pass.proofs.PlaceLaws.{stays_read}
+
+-- all sets of the layer stay on each of these bytes
+abbrev pub StayOnAll : TableView → GraphView → ByteClass → Type 0
+StayOnAll t g stays = (b : ℕ) → b < 256 → IsTrue (bytes.contains stays b) → AllStayOn t g b
+
+-- so many bytes of the piece have been read
+pub record IsAdvanced (P : Pass) (at : ℕ) (piece : List ℕ) (i : ℕ) (Q : Pass) (stays : ByteClass) : Type 0 where
+  pub read : HasRead P.table.graph (bytes_at at (take i piece)) P Q
+  pub ready : IsReady Q (at + i)
+  pub stay : StayOnAll Q.table Q.graph stays
+
+pub advanced_none : (P : Pass) (at : ℕ) (piece : List ℕ) (stays : ByteClass) → IsReady P at → StayOnAll P.table P.graph stays → IsAdvanced P at piece 0 P stays
+advanced_none P at piece stays ready stay = record {
+  read = read_none P.table.graph P;
+  ready = ready_later P at (at + 0) ready (omega arith);
+  stay = stay;
+}
+
+module _ (P : Pass) (at : ℕ) (piece : List ℕ) (i : ℕ) (Q : Pass) (stays : ByteClass) (past : IsAdvanced P at piece i Q stays) where
+  -- all have been read
+  pub advanced_read : i ≡ length piece → HasRead P.table.graph (bytes_at at piece) P Q
+  advanced_read all =
+      subst (λ xs. HasRead P.table.graph (bytes_at at xs) P Q) (ap (λ j. take j piece) all ∙ take-length piece) past.read
+
+  pub advanced_ready : i ≡ length piece → IsReady Q (at + length piece)
+  advanced_ready all = subst (λ j. IsReady Q (at + j)) all past.ready
+
+  module _ (within : i < length piece) where
+    abbrev b : ℕ
+    b = get_or piece i 0
+
+    abbrev front : List Place
+    front = bytes_at at (take i piece)
+
+    abbrev here : List Place
+    here = byte_at (at + i) b ∷ []
+
+    -- one byte more has been read
+    pub advanced_more : (R : Pass) (later : ByteClass) → HasRead Q.table.graph here Q R → IsReady R (at + i + 1) → StayOnAll R.table R.graph later →
+        IsAdvanced P at piece (i + 1) R later
+    advanced_more R later read ready stay = record {
+      read =
+          subst (λ ps. HasRead P.table.graph ps P R) (sym (bytes_more at piece i within b refl))
+          (both_read front here P Q (at + i) past.read past.ready R read);
+      ready = ready_later R (at + i + 1) (at + (i + 1)) ready (omega arith);
+      stay = stay;
+    }
+
+    -- or passed over
+    pub advanced_over : b < 256 → IsTrue (bytes.contains stays b) → IsAdvanced P at piece (i + 1) Q stays
+    advanced_over small is =
+        advanced_more Q stays (stays_read Q.table.graph (byte_at (at + i) b) Q (λ x h. (past.stay b small is x h).1))
+        (ready_later Q (at + i) (at + i + 1) past.ready (omega arith)) past.stay
+
+    -- it was given up
+    pub advanced_stopped : (after : Stop) → HasStopped Q.table.graph here Q after → HasStopped P.table.graph (bytes_at at piece) P after
+    advanced_stopped after s =
+        subst (λ ps. HasStopped P.table.graph ps P after) (bytes_split at piece i within b refl)
+        (stopped_before P.table.graph (front ++ here) (bytes_at (at + i + 1) (drop (suc i) piece)) P after
+        (then_stopped front here P Q (at + i) past.read past.ready after s))
+
+    pub advanced_fault : (e : TableFault) → IsFaultAt here Q e → IsFaultAt (bytes_at at piece) P e
+    advanced_fault e x =
+        subst (λ ps. IsFaultAt ps P e) (bytes_split at piece i within b refl)
+        (fault_before (front ++ here) (bytes_at (at + i + 1) (drop (suc i) piece)) P e
+        (then_fault front here P Q (at + i) past.read past.ready e x))
+
+-- ---- which bytes change nothing
+
+-- one set more stays on them
+pub stay_more : (t : TableView) (layer : List Source) (k : ℕ) (all one : ByteClass) → k < length layer → (set : ℕ) → set ≡ (source_at layer k).set →
+    ((b : ℕ) → b < 256 → IsTrue (bytes.contains all b) → (x : Source) → Has (take k layer) x → StaysOn t x.set b) →
+    ((b : ℕ) → b < 256 → IsTrue (bytes.contains one b) → StaysOn t set b) →
+    (b : ℕ) → b < 256 → IsTrue (bytes.contains (bytes.intersection all one) b) → (x : Source) → Has (take (k + 1) layer) x → StaysOn t x.set b
+stay_more t layer k all one within set is before now b small h x there =
+    let both : (bytes.contains all b && bytes.contains one b) ≡ true = sym (contains-intersection nat_cmp_total all one b) ∙ h in
+    elim (Has-take_more_cases layer k no_source x within there) as (λ _. StaysOn t x.set b) [
+      | inl old ↦ before b small (left_true (bytes.contains all b) (bytes.contains one b) both) x old
+      | inr e ↦ subst (λ s. StaysOn t s b) (is ∙ ap (λ (y : Source). y.set) e) (now b small (right_true (bytes.contains all b) (bytes.contains one b) both))
+    ]

@@ -1,0 +1,203 @@
+-- A place whose sources have all been stepped has been read; one that was given up has its cause.
+use Rattle.std.proofs.Common.{◌≡◌, ℕ, ◌≤◌, ◌<◌, ◌⊎◌, List, [], ◌∷◌, ◌++◌, length, map, inl, inr, refl, sym, ap, subst, arith, ◌∙◌}
+use Rattle.std.specs.Prelude.{nat_eq, if◌then◌else◌, Bool, true, false}
+use Rattle.std.proofs.lemmas.List.{append-nil}
+use Rattle.span_core.specs.Lists.{Has, AreDistinct}
+use Rattle.span_core.proofs.HasLaws.{Has-append_left, Has-append_right, Has-append_cases, Has-map, Has-map_cases}
+use Rattle.marked_automaton.specs.Automaton.{Automaton}
+use Rattle.automaton_reading.specs.Reading.{Asked, byte_read, rest_taken, ended, Reach, Row, edges, next_sets, rows_asked}
+use Rattle.one_pass.specs.Held.{set_named}
+use Rattle.one_pass.specs.Words.{Word, block_word}
+use Rattle.output_graph.specs.Graph.{Source}
+use Rattle.one_pass.specs.Layers.{GraphView, IsPast, numbers_of}
+use Rattle.one_pass.specs.Places.{Place, Leads, sets_met}
+use Rattle.one_pass.specs.Passes.{Pass, pass, sets_of, Reaches, IsReady, HasGrown, HasRead}
+use Rattle.one_pass.proofs.Sets.{Covers, next_cases, has_next}
+use Rattle.one_pass.proofs.Composing.{grown_none}
+use Rattle.one_pass.proofs.Stepping.{Arrives, HasNext, source_edges, LeadsWith, place_edges, sets_on, IsStepping, met_here}
+
+pub no_marks : (i m : ℕ) (b : ℕ × ℕ) → m ≡ 0 → Has (block_word i m) b → ⊥
+no_marks i m b e h = none (subst (λ k. Has (block_word i k) b) e h)
+  where
+    none : Has (block_word i 0) b → ⊥
+    none k = k
+
+pub block_at : (i m : ℕ) (b : ℕ × ℕ) → Has (block_word i m) b → b.0 ≡ i
+block_at i m b h = go (nat_eq m 0) h
+  where
+    go : (c : Bool) → Has (let w : Word = if c then [] else (i, m) ∷ [] in w) b → b.0 ≡ i
+    go true h = absurd h
+    go false (inl e) = ap (λ (c : ℕ × ℕ). c.0) (sym e)
+    go false (inr h) = absurd h
+
+module _ (A : Automaton) (p : Place) (P : Pass) where
+  abbrev asked_rows : List Row
+  asked_rows = map (λ set. let r : Row = record { set = set; ask = p.ask } in r) (sets_of P)
+
+  rows_here : Covers (rows_asked A (sets_of P) (p.ask ∷ [])) asked_rows
+  rows_here row h = Has-append_left asked_rows [] row h
+
+  module _ (Q : Pass) (all : IsStepping A p P P.graph.layer Q) (g : GraphView) (layer : g.layer ≡ Q.graph.next) (live : g.live ≡ Q.graph.live) where
+    abbrev R : Pass
+    R = pass Q.table g Q.steps
+
+    reach_arrives : (set : List ℕ) (w : Word) → Reaches R set w → Arrives Q set w
+    reach_arrives set w h = (h.0.set, h.2, (h.0, subst (λ xs. Has xs h.0) layer h.1, refl, h.3))
+
+    arrives_reach : (set : List ℕ) (w : Word) → Arrives Q set w → Reaches R set w
+    arrives_reach set w h =
+        (h.2.0, subst (λ xs. Has xs h.2.0) (sym layer) h.2.1, ap (set_named Q.table) h.2.2 ∙ h.1, h.2.3)
+
+    set_next : (set : List ℕ) → Has (sets_of R) set → HasNext Q set
+    set_next set h =
+        let x = Has-map_cases (λ (x : Source). set_named Q.table x.set) g.layer set h in
+        (x.0.set, x.2, Has-map (λ (x : Source). x.set) Q.graph.next x.0 (subst (λ xs. Has xs x.0) layer x.1))
+
+    next_set : (set : List ℕ) → HasNext Q set → Has (sets_of R) set
+    next_set set h =
+        let x = Has-map_cases (λ (x : Source). x.set) Q.graph.next h.0 h.2 in
+        subst (Has (sets_of R)) (ap (set_named Q.table) x.2 ∙ h.1)
+        (Has-map (λ (x : Source). set_named Q.table x.set) g.layer x.0 (subst (λ xs. Has xs x.0) (sym layer) x.1))
+
+    pub place_read : HasRead A (p ∷ []) P R
+    place_read = record {
+      words = λ set w. (there set w, back set w);
+      sets = λ set. (set_there set, set_back set);
+      table = grown;
+      steps = omega (arith, all.spent.steps, all.few, place_edges A p P, live, ap length layer);
+      cells = omega (arith, all.spent.cells, place_edges A p P, live);
+    }
+      where
+        there : (set : List ℕ) (w : Word) → Reaches R set w → (from : List ℕ) × (u v : Word) × Reaches P from u × Leads A (p ∷ []) from v set × (u ++ v ≡ w)
+        there set w h =
+            let l = (all.words set w).0 (reach_arrives set w h) in (
+              set_named P.table l.0.set,
+              l.5,
+              block_word p.at l.2.marks,
+              (l.0, l.1, refl, l.6),
+              (l.2, l.3, [], append-nil (block_word p.at l.2.marks), (refl, l.4)),
+              l.7,
+            )
+
+        back : (set : List ℕ) (w : Word) → (from : List ℕ) × (u v : Word) × Reaches P from u × Leads A (p ∷ []) from v set × (u ++ v ≡ w) → Reaches R set w
+        back set w h =
+            let x = h.3 in
+            let l = h.4 in
+            let v_is : block_word p.at l.0.marks ≡ h.2 = sym (append-nil (block_word p.at l.0.marks)) ∙ (ap (λ r. block_word p.at l.0.marks ++ r) (sym l.4.0) ∙ l.3) in
+            arrives_reach set w ((all.words set w).1 (
+              x.0,
+              x.1,
+              l.0,
+              subst (λ s. Has (edges A s p.ask) l.0) (sym x.2) l.1,
+              l.4.1,
+              h.1,
+              x.3,
+              ap (λ v. h.1 ++ v) v_is ∙ h.5,
+            ))
+
+        set_there : (set : List ℕ) → Has (sets_of R) set → Has (next_sets A (sets_of P) p.ask) set
+        set_there set h =
+            let l = (all.sets set).0 (set_next set h) in
+            subst (Has (next_sets A (sets_of P) p.ask)) l.4
+            (has_next A (sets_of P) p.ask (set_named P.table l.0.set) l.2 (Has-map (λ (x : Source). set_named P.table x.set) P.graph.layer l.0 l.1) l.3)
+
+        set_back : (set : List ℕ) → Has (next_sets A (sets_of P) p.ask) set → Has (sets_of R) set
+        set_back set h =
+            let c = next_cases A (sets_of P) p.ask set h in
+            let x = Has-map_cases (λ (x : Source). set_named P.table x.set) P.graph.layer c.0 c.1 in
+            next_set set ((all.sets set).1 (x.0, x.1, c.2, subst (λ s. Has (edges A s p.ask) c.2) (sym x.2) c.3, c.4))
+
+        grown : HasGrown P.table Q.table (sets_met A (sets_of P) (p.ask ∷ [])) (rows_asked A (sets_of P) (p.ask ∷ []))
+        grown = record {
+          graph = all.spent.table.graph;
+          limit = all.spent.table.limit;
+          kept = all.spent.table.kept;
+          sets = λ set h. elim (all.spent.table.sets set h) as (λ _. Has P.table.sets set ⊎ Has (sets_met A (sets_of P) (p.ask ∷ [])) set) [
+            | inl old ↦ inl old
+            | inr new ↦ inr (met_here A p P set new)
+          ];
+          rows = λ row h. elim (all.spent.table.rows row h) as (λ _. Has P.table.rows row ⊎ Has (rows_asked A (sets_of P) (p.ask ∷ [])) row) [
+            | inl old ↦ inl old
+            | inr new ↦ inr (rows_here row new)
+          ];
+        }
+
+    -- the layer that comes next is ready for a later position, or for the same where no edge has marks
+    pub place_ready : (at later : ℕ) → IsReady P at → at ≤ later →
+        ((x : Source) (e : Reach) (b : ℕ × ℕ) → Has P.graph.layer x → Has (source_edges A p P x) e → Has (block_word p.at e.marks) b → b.0 < later) →
+        (g.stepped ≡ 0) → (g.next ≡ []) → (g.accepted ≡ Q.graph.accepted) → IsReady R later
+    place_ready at later r le blocks stepped next accepted = record {
+      sound = all.spent.sound;
+      given = λ x h. all.given x.set (Has-map (λ (x : Source). x.set) Q.graph.next x (subst (λ xs. Has xs x) layer h));
+      apart = subst (λ xs. AreDistinct (numbers_of xs)) (sym layer) all.apart;
+      fresh = (stepped, next, accepted ∙ all.accepted);
+      past = past;
+    }
+      where
+        past : IsPast g.layer later
+        past x w b h hw hb = by ((all.words (set_named Q.table x.set) w).0 (reach_arrives (set_named Q.table x.set) w (x, h, refl, hw)))
+          where
+            by : LeadsWith A p P P.graph.layer (set_named Q.table x.set) w → b.0 < later
+            by l = elim (Has-append_cases l.5 (block_word p.at l.2.marks) b (subst (λ v. Has v b) (sym l.7) hb)) [
+              | inl old ↦ let k = r.past l.0 l.5 b l.1 l.6 old in omega (arith, k, le)
+              | inr new ↦ blocks l.0 l.2 b l.1 l.3 new
+            ]
+
+  -- ---- a place that changes nothing
+
+  -- each set of the layer has one edge, without marks and to itself
+  abbrev pub AllStay : Type 0
+  AllStay = (x : Source) → Has P.graph.layer x → source_edges A p P x ≡ record { marks = 0; to = set_named P.table x.set } ∷ []
+
+  pub stays_read : AllStay → HasRead A (p ∷ []) P P
+  stays_read stays = record {
+    words = λ set w. (
+      λ h. (
+        set,
+        w,
+        [],
+        h,
+        (
+          record { marks = 0; to = set },
+          subst (λ es. Has es (record { marks = 0; to = set })) (sym (subst (λ s. edges A s p.ask ≡ record { marks = 0; to = s } ∷ []) h.2 (stays h.0 h.1))) (inl refl),
+          [],
+          refl,
+          (refl, refl),
+        ),
+        append-nil w,
+      ),
+      back set w,
+    );
+    sets = λ set. (set_there set, set_back set);
+    table = grown_none P.table (sets_met A (sets_of P) (p.ask ∷ [])) (rows_asked A (sets_of P) (p.ask ∷ []));
+    steps = omega arith;
+    cells = omega arith;
+  }
+    where
+      one : (x : Source) → Has P.graph.layer x → (e : Reach) → Has (source_edges A p P x) e → (e.marks ≡ 0) × (e.to ≡ set_named P.table x.set)
+      one x h e k = elim (subst (λ es. Has es e) (stays x h) k) as (λ _. (e.marks ≡ 0) × (e.to ≡ set_named P.table x.set)) [
+        | inl i ↦ (ap (λ (r : Reach). r.marks) (sym i), ap (λ (r : Reach). r.to) (sym i))
+        | inr n ↦ absurd n
+      ]
+
+      back : (set : List ℕ) (w : Word) → (from : List ℕ) × (u v : Word) × Reaches P from u × Leads A (p ∷ []) from v set × (u ++ v ≡ w) → Reaches P set w
+      back set w h =
+          let x = h.3 in
+          let l = h.4 in
+          let o = one x.0 x.1 l.0 (subst (λ s. Has (edges A s p.ask) l.0) (sym x.2) l.1) in
+          let v_is : [] ≡ h.2 = ap (λ r. block_word p.at 0 ++ r) (sym l.4.0) ∙ (ap (λ m. block_word p.at m ++ l.2) (sym o.0) ∙ l.3) in
+          let same : h.1 ≡ w = sym (append-nil h.1) ∙ (ap (λ v. h.1 ++ v) v_is ∙ h.5) in
+          (x.0, x.1, sym o.1 ∙ l.4.1, subst (Has x.0.words) same x.3)
+
+      set_there : (set : List ℕ) → Has (sets_of P) set → Has (next_sets A (sets_of P) p.ask) set
+      set_there set h =
+          let x = Has-map_cases (λ (x : Source). set_named P.table x.set) P.graph.layer set h in
+          has_next A (sets_of P) p.ask set (record { marks = 0; to = set }) h
+          (subst (λ es. Has es (record { marks = 0; to = set })) (sym (subst (λ s. edges A s p.ask ≡ record { marks = 0; to = s } ∷ []) x.2 (stays x.0 x.1))) (inl refl))
+
+      set_back : (set : List ℕ) → Has (next_sets A (sets_of P) p.ask) set → Has (sets_of P) set
+      set_back set h =
+          let c = next_cases A (sets_of P) p.ask set h in
+          let x = Has-map_cases (λ (x : Source). set_named P.table x.set) P.graph.layer c.0 c.1 in
+          let o = one x.0 x.1 c.2 (subst (λ s. Has (edges A s p.ask) c.2) (sym x.2) c.3) in
+          subst (Has (sets_of P)) (sym o.1 ∙ c.4) (Has-map (λ (x : Source). set_named P.table x.set) P.graph.layer x.0 x.1)

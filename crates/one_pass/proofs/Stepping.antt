@@ -1,0 +1,477 @@
+-- One place: the sources of the layer are stepped one after another.
+use Rattle.std.proofs.Common.{◌≡◌, ℕ, suc, ◌+◌, ◌*◌, ◌≤◌, ◌<◌, ◌⊎◌, List, [], ◌∷◌, ◌++◌, length, get_or, map, inl, inr, refl, sym, ap, subst, arith, ◌∙◌, append_assoc, length-append}
+use Rattle.std.specs.Prelude.{◌↔◌}
+use Rattle.std.specs.List.{sum_by}
+use Rattle.std.proofs.lemmas.List.{append-nil, get_or_append_left}
+use Rattle.std.proofs.lemmas.List.Sums.{sum_by-append}
+use Rattle.span_core.specs.Lists.{Has, AreDistinct}
+use Rattle.span_core.proofs.HasLaws.{Has-append_left, Has-append_right, Has-append_cases, Has-map, Has-map_cases}
+use Rattle.span_core.specs.declared.edge.Edge.{Edge}
+use Rattle.marked_automaton.specs.Automaton.{Automaton, size}
+use Rattle.automaton_reading.specs.Reading.{Asked, byte_read, rest_taken, ended, Reach, Row, edges, next_sets, row_edges, rows_asked}
+use Rattle.automaton_reading.proofs.Matching.{cons_sum}
+use Rattle.one_pass.specs.Held.{TableView, IsSound, AreNumbered, HasMade, IsRefused, IsTooHeavy, row_of, set_named, targets, targets_of, weight_of}
+use Rattle.one_pass.specs.Words.{Word, block_word}
+use Rattle.output_graph.specs.Graph.{Source}
+use Rattle.one_pass.specs.Layers.{GraphView, HasWord, HasCost, Brings, numbers_of}
+use Rattle.one_pass.specs.Places.{Place, edges_read, sets_met}
+use Rattle.one_pass.specs.Passes.{Pass, Stop, pass, sets_of, stop, IsReady, HasGrown, HasStoppedAt, IsExcess}
+use Rattle.one_pass.proofs.Sets.{Covers, has_next, weight_covers}
+use Rattle.one_pass.proofs.Numbered.{edge_reach, reach_edge, numbered_length, named_there}
+use Rattle.one_pass.proofs.Composing.{grown_length, grown_more, grown_named}
+
+pub sum_map : {X Y : Type 0} (f : Y → ℕ) (g : X → Y) (xs : List X) → sum_by f (map g xs) ≡ sum_by (λ x. f (g x)) xs
+sum_map f g [] = refl
+sum_map {X} f g (x ∷ xs) =
+    let h : X → ℕ = λ x. f (g x) in
+    cons_sum f (g x) (map g xs) ∙ (ap (λ n. f (g x) + n) (sum_map f g xs) ∙ sym (cons_sum h x xs))
+
+-- the sets that are reached by what is asked; ends lead to none
+abbrev pub sets_on : Automaton → List (List ℕ) → Asked → List (List ℕ)
+sets_on A sets (byte_read b) = next_sets A sets (byte_read b)
+sets_on A sets rest_taken = next_sets A sets rest_taken
+sets_on A sets ended = []
+
+-- a set of the next layer, and a word of it
+abbrev pub Arrives : Pass → List ℕ → Word → Type 0
+Arrives Q set w = (s : ℕ) × (set_named Q.table s ≡ set) × HasWord Q.graph.next s w
+
+abbrev pub HasNext : Pass → List ℕ → Type 0
+HasNext Q set = (s : ℕ) × (set_named Q.table s ≡ set) × Has (numbers_of Q.graph.next) s
+
+module _ (A : Automaton) (p : Place) (P : Pass) where
+  -- the edges of a source
+  abbrev pub source_edges : Source → List Reach
+  source_edges x = edges A (set_named P.table x.set) p.ask
+
+  -- an edge of one of these sources leads to the set
+  abbrev pub LeadsOn : List Source → List ℕ → Type 0
+  LeadsOn done set = (x : Source) × Has done x × (e : Reach) × Has (source_edges x) e × (e.to ≡ set)
+
+  -- and makes the word
+  abbrev pub LeadsWith : List Source → List ℕ → Word → Type 0
+  LeadsWith done set w =
+      (x : Source) × Has done x × (e : Reach) × Has (source_edges x) e × (e.to ≡ set)
+      × (u : Word) × Has x.words u × (u ++ block_word p.at e.marks ≡ w)
+
+  abbrev pub edges_of : List Source → ℕ
+  edges_of done = sum_by (λ (x : Source). length (source_edges x)) done
+
+  -- these sources have been asked, and the graph has taken what came
+  pub record IsSpending (done : List Source) (Q : Pass) : Type 0 where
+    pub layer : Q.graph.layer ≡ P.graph.layer
+    pub stepped : Q.graph.stepped ≡ length done
+    pub table : HasGrown P.table Q.table (sets_on A (sets_of P) p.ask) (map (λ set. let r : Row = record { set = set; ask = p.ask } in r) (sets_of P))
+    pub sound : IsSound Q.table
+    pub steps :
+        Q.steps + Q.graph.live + length P.table.rows * size A
+        ≤ P.steps + P.graph.live + 3 * length done + 3 * edges_of done + length Q.table.rows * size A
+    pub cells : Q.graph.live ≤ P.graph.live + edges_of done
+
+  -- and they have been stepped
+  pub record IsStepping (done : List Source) (Q : Pass) : Type 0 where
+    pub spent : IsSpending done Q
+    pub accepted : Q.graph.accepted ≡ []
+    pub words : (set : List ℕ) (w : Word) → Arrives Q set w ↔ LeadsWith done set w
+    pub sets : (set : List ℕ) → HasNext Q set ↔ LeadsOn done set
+    pub apart : AreDistinct (numbers_of Q.graph.next)
+    pub given : (s : ℕ) → Has (numbers_of Q.graph.next) s → s < length Q.table.sets
+    pub few : length Q.graph.next ≤ edges_of done
+
+  snoc_edges : (done : List Source) (x : Source) → edges_of (done ++ x ∷ []) ≡ edges_of done + length (source_edges x)
+  snoc_edges done x =
+      let f : Source → ℕ = λ y. length (source_edges y) in
+      let one = cons_sum f x [] in
+      omega (arith, sum_by-append f done (x ∷ []), one)
+
+  snoc_length : (done : List Source) (x : Source) → length (done ++ x ∷ []) ≡ length done + 1
+  snoc_length done x = length-append done (x ∷ [])
+
+  abbrev asked_rows : List Row
+  asked_rows = map (λ set. let r : Row = record { set = set; ask = p.ask } in r) (sets_of P)
+
+  -- what the sources' edges count is what reading this place counts
+  pub place_edges : edges_read A (sets_of P) (p.ask ∷ []) ≡ edges_of P.graph.layer
+  place_edges =
+      let rows : List Row = asked_rows in
+      ap (sum_by (row_edges A)) (append-nil rows)
+      ∙ (sum_map (row_edges A) (λ set. let r : Row = record { set = set; ask = p.ask } in r) (sets_of P)
+      ∙ sum_map (λ set. length (edges A set p.ask)) (λ (x : Source). set_named P.table x.set) P.graph.layer)
+
+  pub met_here : Covers (sets_met A (sets_of P) (p.ask ∷ [])) (sets_on A (sets_of P) p.ask)
+  met_here set h = by p.ask h
+    where
+      by : (a : Asked) → Has (sets_on A (sets_of P) a) set → Has (sets_met A (sets_of P) (a ∷ [])) set
+      by (byte_read b) k = Has-append_right (sets_of P) (next_sets A (sets_of P) (byte_read b)) set k
+      by rest_taken k = Has-append_right (sets_of P) (next_sets A (sets_of P) rest_taken) set k
+      by ended k = absurd k
+
+  -- what was asked for here
+  grown_at : (t u : TableView) → HasGrown t u (sets_on A (sets_of P) p.ask) asked_rows → HasGrown t u (sets_met A (sets_of P) (p.ask ∷ [])) (rows_asked A (sets_of P) (p.ask ∷ []))
+  grown_at t u g =
+      grown_more t u (sets_on A (sets_of P) p.ask) (sets_met A (sets_of P) (p.ask ∷ [])) asked_rows (rows_asked A (sets_of P) (p.ask ∷ [])) g met_here
+      (λ row h. Has-append_left asked_rows [] row h)
+
+  -- nothing has been stepped
+  pub spending_none : (at : ℕ) → IsReady P at → IsSpending [] P
+  spending_none at r = record {
+    layer = refl;
+    stepped = r.fresh.0;
+    table = record { graph = refl; limit = refl; kept = ([], append-nil P.table.sets); sets = λ set h. inl h; rows = λ row h. inl h };
+    sound = r.sound;
+    steps = omega arith;
+    cells = omega arith;
+  }
+
+  pub stepping_none : (at : ℕ) → IsReady P at → IsStepping [] P
+  stepping_none at r = record {
+    spent = spending_none at r;
+    accepted = r.fresh.2;
+    words = λ set w. (λ h. absurd (none_has h.2.0 (subst (λ xs. Has xs h.2.0) r.fresh.1 h.2.1)), λ h. absurd h.1);
+    sets = λ set. (λ h. absurd (none_has_number h.0 (subst (λ xs. Has (numbers_of xs) h.0) r.fresh.1 h.2)), λ h. absurd h.1);
+    apart = subst (λ xs. AreDistinct (numbers_of xs)) (sym r.fresh.1) tt;
+    given = λ s h. absurd (none_has_number s (subst (λ xs. Has (numbers_of xs) s) r.fresh.1 h));
+    few = subst (λ (xs : List Source). length xs ≤ 0) (sym r.fresh.1) (omega arith);
+  }
+    where
+      none_has : (x : Source) → Has [] x → ⊥
+      none_has x h = h
+
+      none_has_number : (s : ℕ) → Has [] s → ⊥
+      none_has_number s h = h
+
+  -- ---- one source more
+
+  module _ (done : List Source) (Q : Pass) (x : Source) (is : P.table.graph ≡ A) (spent : IsSpending done Q) (there : Has P.graph.layer x)
+      (known : x.set < length P.table.sets) where
+    pub named_before : set_named Q.table x.set ≡ set_named P.table x.set
+    named_before = grown_named P.table Q.table (sets_on A (sets_of P) p.ask) asked_rows spent.table x.set known
+
+    graph_is : Q.table.graph ≡ A
+    graph_is = spent.table.graph ∙ is
+
+    abbrev row_here : Row
+    row_here = row_of Q.table x.set p.ask
+
+    set_there : Has (sets_of P) (set_named P.table x.set)
+    set_there = Has-map (λ (y : Source). set_named P.table y.set) P.graph.layer x there
+
+    row_there : Has asked_rows row_here
+    row_there =
+        subst (λ set. Has asked_rows (let r : Row = record { set = set; ask = p.ask } in r)) (sym named_before)
+        (Has-map (λ set. let r : Row = record { set = set; ask = p.ask } in r) (sets_of P) (set_named P.table x.set) set_there)
+
+    target_there : (set : List ℕ) → Has (targets Q.table.graph row_here) set → Has (sets_on A (sets_of P) p.ask) set
+    target_there set h = by p.ask (subst (λ s. Has (targets_of p.ask (edges A s p.ask)) set) named_before (subst (λ B. Has (targets_of p.ask (edges B (set_named Q.table x.set) p.ask)) set) graph_is h))
+      where
+        led : (a : Asked) → Has (map (λ (e : Reach). e.to) (edges A (set_named P.table x.set) a)) set → Has (next_sets A (sets_of P) a) set
+        led a h =
+            let e = Has-map_cases (λ (e : Reach). e.to) (edges A (set_named P.table x.set) a) set h in
+            subst (Has (next_sets A (sets_of P) a)) e.2 (has_next A (sets_of P) a (set_named P.table x.set) e.0 set_there e.1)
+
+        by : (a : Asked) → Has (targets_of a (edges A (set_named P.table x.set) a)) set → Has (sets_on A (sets_of P) a) set
+        by (byte_read b) h = led (byte_read b) h
+        by rest_taken h = led rest_taken h
+        by ended h = h
+
+    module _ (t : TableView) (n : ℕ) (made : HasMade Q.table t row_here Q.steps n) where
+      kept_length : length Q.table.sets ≤ length t.sets
+      kept_length = omega (arith, ap length made.kept.1, length-append Q.table.sets made.kept.0)
+
+      pub named_now : (s : ℕ) → s < length Q.table.sets → set_named t s ≡ set_named Q.table s
+      named_now s h =
+          ap (λ (xs : List (List ℕ)). get_or xs s []) (sym made.kept.1) ∙ get_or_append_left Q.table.sets made.kept.0 [] s h
+
+      -- the sets and rows that the table has with it
+      grown_here : HasGrown P.table t (sets_on A (sets_of P) p.ask) asked_rows
+      grown_here = record {
+        graph = made.graph ∙ spent.table.graph;
+        limit = made.limit ∙ spent.table.limit;
+        kept = (
+          spent.table.kept.0 ++ made.kept.0,
+          sym (append_assoc P.table.sets spent.table.kept.0 made.kept.0) ∙ (ap (λ ss. ss ++ made.kept.0) spent.table.kept.1 ∙ made.kept.1),
+        );
+        sets = λ set h. elim (made.sets set h) as (λ _. Has P.table.sets set ⊎ Has (sets_on A (sets_of P) p.ask) set) [
+          | inl old ↦ spent.table.sets set old
+          | inr new ↦ inr (target_there set new)
+        ];
+        rows = λ row h. rows_now made.rows row h;
+      }
+        where
+          before_or : (row : Row) → Has (Q.table.rows ++ row_here ∷ []) row → Has P.table.rows row ⊎ Has asked_rows row
+          before_or row h = elim (Has-append_cases Q.table.rows (row_here ∷ []) row h) as (λ _. Has P.table.rows row ⊎ Has asked_rows row) [
+            | inl old ↦ spent.table.rows row old
+            | inr new ↦ elim new as (λ _. Has P.table.rows row ⊎ Has asked_rows row) [ inl e ↦ inr (subst (Has asked_rows) e row_there) | inr none ↦ absurd none ]
+          ]
+
+          rows_now :
+              (Has Q.table.rows row_here × (t.rows ≡ Q.table.rows) × (n ≡ Q.steps + 1))
+              ⊎ (¬ Has Q.table.rows row_here × (t.rows ≡ Q.table.rows ++ row_here ∷ []) × (n ≤ Q.steps + (1 + size Q.table.graph))) →
+              (row : Row) → Has t.rows row → Has P.table.rows row ⊎ Has asked_rows row
+          rows_now (inl same) row h = spent.table.rows row (subst (λ rows. Has rows row) same.1 h)
+          rows_now (inr more) row h = before_or row (subst (λ rows. Has rows row) more.1 h)
+
+      -- what making it took
+      made_steps : n + length Q.table.rows * size A ≤ Q.steps + 1 + length t.rows * size A
+      made_steps = by made.rows
+        where
+          size_is : size Q.table.graph ≡ size A
+          size_is = ap size graph_is
+
+          by :
+              (Has Q.table.rows row_here × (t.rows ≡ Q.table.rows) × (n ≡ Q.steps + 1))
+              ⊎ (¬ Has Q.table.rows row_here × (t.rows ≡ Q.table.rows ++ row_here ∷ []) × (n ≤ Q.steps + (1 + size Q.table.graph))) →
+              n + length Q.table.rows * size A ≤ Q.steps + 1 + length t.rows * size A
+          by (inl same) = let e = ap (λ (rows : List Row). length rows * size A) same.1 in omega (arith, e, same.2)
+          by (inr more) =
+              let e = ap (λ (rows : List Row). length rows * size A) more.1 in
+              let l = ap (λ k. k * size A) (length-append Q.table.rows (row_here ∷ [])) in
+              omega (arith, e, l, more.2, size_is)
+
+      -- the graph has taken what came
+      module _ (e : ℕ) (count : e ≡ length (source_edges x)) (g : GraphView) (m : ℕ) (cost : HasCost e Q.graph.live g.live n m) where
+        paid :
+            m + g.live + length P.table.rows * size A
+            ≤ P.steps + P.graph.live + 3 * length (done ++ x ∷ []) + 3 * edges_of (done ++ x ∷ []) + length t.rows * size A
+        paid =
+            let c = cost in
+            omega (arith, c.2, c.3, c.4, made_steps, spent.steps, count, snoc_edges done x, snoc_length done x)
+
+        pub spending_more : g.layer ≡ Q.graph.layer → g.stepped ≡ suc Q.graph.stepped → IsSpending (done ++ x ∷ []) (pass t g m)
+        spending_more layer stepped = record {
+          layer = layer ∙ spent.layer;
+          stepped = stepped ∙ (ap suc spent.stepped ∙ (let e = snoc_length done x in omega (arith, e)));
+          table = grown_here;
+          sound = made.sound;
+          steps = paid;
+          cells = let c = cost in omega (arith, c.2, c.3, spent.cells, count, snoc_edges done x);
+        }
+
+        -- it was given up
+        pub stopped_by_graph : (left : List Source) → done ++ x ∷ left ≡ P.graph.layer → HasStoppedAt A p P (stop t m)
+        stopped_by_graph left all = record {
+          table = grown_at P.table t grown_here;
+          sound = made.sound;
+          made = t.rows;
+          distinct = made.sound.rows;
+          few = omega arith;
+          rows = λ row h. elim (grown_here.rows row h) as (λ _. Has P.table.rows row ⊎ Has (rows_asked A (sets_of P) (p.ask ∷ [])) row) [
+            | inl old ↦ inl old
+            | inr new ↦ inr (Has-append_left asked_rows [] row new)
+          ];
+          steps =
+              let l = length-append (done ++ x ∷ []) left in
+              let f : Source → ℕ = λ y. length (source_edges y) in
+              let s = sum_by-append f (done ++ x ∷ []) left in
+              let a = ap length (append_assoc done (x ∷ []) left ∙ all) in
+              let b = ap edges_of (append_assoc done (x ∷ []) left ∙ all) in
+              omega (arith, paid, l, s, a, b, place_edges);
+        }
+
+    -- the table refused the row
+    pub stopped_by_table : (left : List Source) (n : ℕ) → done ++ x ∷ left ≡ P.graph.layer → IsRefused Q.table row_here Q.steps n → HasStoppedAt A p P (stop Q.table n)
+    stopped_by_table left n all refused = by refused.steps
+      where
+        l : length (done ++ x ∷ left) ≡ length done + suc (length left)
+        l = length-append done (x ∷ left)
+
+        s : edges_of (done ++ x ∷ left) ≡ edges_of done + edges_of (x ∷ left)
+        s = sum_by-append (λ (y : Source). length (source_edges y)) done (x ∷ left)
+
+        before : (row : Row) → Has Q.table.rows row → Has P.table.rows row ⊎ Has (rows_asked A (sets_of P) (p.ask ∷ [])) row
+        before row k = elim (spent.table.rows row k) as (λ _. Has P.table.rows row ⊎ Has (rows_asked A (sets_of P) (p.ask ∷ [])) row) [
+          | inl old ↦ inl old
+          | inr new ↦ inr (Has-append_left asked_rows [] row new)
+        ]
+
+        by : (¬ Has Q.table.rows row_here × (n ≤ Q.steps + (1 + size Q.table.graph))) ⊎ (n ≤ Q.steps + 1) → HasStoppedAt A p P (stop Q.table n)
+        by (inl new) = record {
+          table = grown_at P.table Q.table spent.table;
+          sound = spent.sound;
+          made = row_here ∷ Q.table.rows;
+          distinct = (new.0, spent.sound.rows);
+          few = omega arith;
+          rows = λ row h. elim h as (λ _. Has P.table.rows row ⊎ Has (rows_asked A (sets_of P) (p.ask ∷ [])) row) [
+            | inl e ↦ inr (Has-append_left asked_rows [] row (subst (Has asked_rows) e row_there))
+            | inr k ↦ before row k
+          ];
+          steps =
+              let a = ap length all in
+              let b = ap edges_of all in
+              let z = ap size graph_is in
+              omega (arith, spent.steps, new.1, l, s, a, b, z, place_edges);
+        }
+        by (inr less) = record {
+          table = grown_at P.table Q.table spent.table;
+          sound = spent.sound;
+          made = Q.table.rows;
+          distinct = spent.sound.rows;
+          few = omega arith;
+          rows = before;
+          steps =
+              let a = ap length all in
+              let b = ap edges_of all in
+              omega (arith, spent.steps, less, l, s, a, b, place_edges);
+        }
+
+    -- what was too heavy is no more than reading the place asks for
+    pub heavy_excess : (weight : ℕ) → IsTooHeavy Q.table row_here weight → IsExcess P.table (sets_on A (sets_of P) p.ask) (rows_asked A (sets_of P) (p.ask ∷ [])) weight
+    heavy_excess weight h = record {
+      more = subst (λ l. l < weight) spent.table.limit h.more;
+      most =
+          let same : weight ≤ weight_of P.table.graph (Q.table.sets ++ targets Q.table.graph row_here) (row_here ∷ Q.table.rows) =
+          subst (λ B. weight ≤ weight_of B (Q.table.sets ++ targets Q.table.graph row_here) (row_here ∷ Q.table.rows)) spent.table.graph (omega (arith, h.is)) in
+          let less = weight_covers P.table.graph (P.table.sets ++ sets_on A (sets_of P) p.ask) (Q.table.sets ++ targets Q.table.graph row_here)
+          (P.table.rows ++ rows_asked A (sets_of P) (p.ask ∷ [])) (row_here ∷ Q.table.rows) some_set some_row in
+          omega (arith, less, same);
+    }
+      where
+        some_set : Covers (P.table.sets ++ sets_on A (sets_of P) p.ask) (Q.table.sets ++ targets Q.table.graph row_here)
+        some_set set k =
+            elim (Has-append_cases Q.table.sets (targets Q.table.graph row_here) set k) [
+              | inl old ↦ elim (spent.table.sets set old) [
+                | inl o ↦ Has-append_left P.table.sets (sets_on A (sets_of P) p.ask) set o
+                | inr n ↦ Has-append_right P.table.sets (sets_on A (sets_of P) p.ask) set n
+              ]
+              | inr new ↦ Has-append_right P.table.sets (sets_on A (sets_of P) p.ask) set (target_there set new)
+            ]
+
+        asked_row : (row : Row) → Has asked_rows row → Has (P.table.rows ++ rows_asked A (sets_of P) (p.ask ∷ [])) row
+        asked_row row k = Has-append_right P.table.rows (rows_asked A (sets_of P) (p.ask ∷ [])) row (Has-append_left asked_rows [] row k)
+
+        some_row : Covers (P.table.rows ++ rows_asked A (sets_of P) (p.ask ∷ [])) (row_here ∷ Q.table.rows)
+        some_row row (inl e) = asked_row row (subst (Has asked_rows) e row_there)
+        some_row row (inr k) =
+            elim (spent.table.rows row k) [
+              | inl old ↦ Has-append_left P.table.rows (rows_asked A (sets_of P) (p.ask ∷ [])) row old
+              | inr new ↦ asked_row row new
+            ]
+
+    module _ (t : TableView) (n : ℕ) (made : HasMade Q.table t row_here Q.steps n) where
+      module _ (es : List Edge) (numbered : AreNumbered t es (edges t.graph (set_named t x.set) p.ask)) where
+        edges_are : AreNumbered t es (source_edges x)
+        edges_are =
+            subst (λ s. AreNumbered t es (edges A s p.ask)) (named_now t n made x.set known_now ∙ named_before)
+            (subst (λ B. AreNumbered t es (edges B (set_named t x.set) p.ask)) (made.graph ∙ graph_is) numbered)
+          where
+            known_now : x.set < length Q.table.sets
+            known_now = omega (arith, grown_length P.table Q.table (sets_on A (sets_of P) p.ask) asked_rows spent.table)
+
+        pub edges_count : length es ≡ length (source_edges x)
+        edges_count = numbered_length t es (source_edges x) edges_are
+
+        module _ (past : IsStepping done Q) (g : GraphView) (m : ℕ)
+            (layer : g.layer ≡ Q.graph.layer) (accepted : g.accepted ≡ Q.graph.accepted) (stepped : g.stepped ≡ suc Q.graph.stepped)
+            (words : (s : ℕ) (w : Word) → HasWord g.next s w ↔ (HasWord Q.graph.next s w ⊎ Brings x.words p.at es s w))
+            (sets : (s : ℕ) → Has (numbers_of g.next) s ↔ (Has (numbers_of Q.graph.next) s ⊎ Has (map (λ (e : Edge). e.to) es) s))
+            (few : length g.next ≤ length Q.graph.next + length es)
+            (apart : AreDistinct (numbers_of Q.graph.next) → AreDistinct (numbers_of g.next))
+            (cost : HasCost (length es) Q.graph.live g.live n m) where
+          word_number : (next : List Source) (s : ℕ) (w : Word) → HasWord next s w → Has (numbers_of next) s
+          word_number next s w h = subst (Has (numbers_of next)) h.2 (Has-map (λ (y : Source). y.set) next h.0 h.1)
+
+          -- an edge leads to the set of its number
+          edge_to : (e : Edge) → Has es e → (r : Reach) × Has (source_edges x) r × (e.marks ≡ r.marks) × (e.to < length t.sets) × (set_named t e.to ≡ r.to)
+          edge_to e h =
+              let r = edge_reach t es (source_edges x) e edges_are h in
+              let k = named_there t.sets e.to r.0.to r.3 in
+              (r.0, r.1, r.2, k.0, k.1)
+
+          to_edge : (r : Reach) → Has (source_edges x) r → (e : Edge) × Has es e × (e.marks ≡ r.marks) × (set_named t e.to ≡ r.to)
+          to_edge r h =
+              let e = reach_edge t es (source_edges x) r edges_are h in
+              let k = named_there t.sets e.0.to r.to e.3 in
+              (e.0, e.1, e.2, k.1)
+
+          pub stepping_more : IsStepping (done ++ x ∷ []) (pass t g m)
+          stepping_more = record {
+            spent = spending_more t n made (length es) edges_count g m cost layer stepped;
+            accepted = accepted ∙ past.accepted;
+            words = λ set w. (word_there set w, word_back set w);
+            sets = λ set. (set_here set, set_back set);
+            apart = apart past.apart;
+            given = λ s h. given_now s ((sets s).0 h);
+            few = omega (arith, few, past.few, edges_count, snoc_edges done x);
+          }
+            where
+              given_now : (s : ℕ) → Has (numbers_of Q.graph.next) s ⊎ Has (map (λ (e : Edge). e.to) es) s → s < length t.sets
+              given_now s (inl old) = let l = past.given s old in omega (arith, l, kept_length t n made)
+              given_now s (inr new) =
+                  let e = Has-map_cases (λ (e : Edge). e.to) es s new in
+                  let r = edge_to e.0 e.1 in
+                  subst (λ k. k < length t.sets) e.2 r.3
+
+              word_there : (set : List ℕ) (w : Word) → Arrives (pass t g m) set w → LeadsWith (done ++ x ∷ []) set w
+              word_there set w h = by ((words h.0 w).0 h.2)
+                where
+                  by : HasWord Q.graph.next h.0 w ⊎ Brings x.words p.at es h.0 w → LeadsWith (done ++ x ∷ []) set w
+                  by (inl old) =
+                      let k = past.given h.0 (word_number Q.graph.next h.0 w old) in
+                      let l = (past.words set w).0 (h.0, sym (named_now t n made h.0 k) ∙ h.1, old) in
+                      (l.0, Has-append_left done (x ∷ []) l.0 l.1, l.2, l.3, l.4, l.5, l.6, l.7)
+                  by (inr new) =
+                      let r = edge_to new.0 new.1 in (
+                        x,
+                        Has-append_right done (x ∷ []) x (inl refl),
+                        r.0,
+                        r.1,
+                        sym r.4 ∙ (ap (set_named t) new.2 ∙ h.1),
+                        new.3,
+                        new.4,
+                        ap (λ k. new.3 ++ block_word p.at k) (sym r.2) ∙ new.5,
+                      )
+
+              word_back : (set : List ℕ) (w : Word) → LeadsWith (done ++ x ∷ []) set w → Arrives (pass t g m) set w
+              word_back set w h = by (Has-append_cases done (x ∷ []) h.0 h.1)
+                where
+                  here : (y : Source) → x ≡ y → (r : Reach) → Has (source_edges y) r → r.to ≡ set → (u : Word) → Has y.words u → u ++ block_word p.at r.marks ≡ w → Arrives (pass t g m) set w
+                  here y same r hr to u hu eq =
+                      let e = to_edge r (subst (λ (z : Source). Has (source_edges z) r) (sym same) hr) in (
+                        e.0.to,
+                        e.3 ∙ to,
+                        (words e.0.to w).1 (inr (
+                          e.0,
+                          e.1,
+                          refl,
+                          u,
+                          subst (λ (z : Source). Has z.words u) (sym same) hu,
+                          ap (λ k. u ++ block_word p.at k) e.2 ∙ eq,
+                        )),
+                      )
+
+                  by : Has done h.0 ⊎ Has (x ∷ []) h.0 → Arrives (pass t g m) set w
+                  by (inl old) =
+                      let a = (past.words set w).1 (h.0, old, h.2, h.3, h.4, h.5, h.6, h.7) in
+                      let k = past.given a.0 (word_number Q.graph.next a.0 w a.2) in
+                      (a.0, named_now t n made a.0 k ∙ a.1, (words a.0 w).1 (inl a.2))
+                  by (inr (inl same)) = here h.0 same h.2 h.3 h.4 h.5 h.6 h.7
+                  by (inr (inr none)) = absurd none
+
+              set_here : (set : List ℕ) → HasNext (pass t g m) set → LeadsOn (done ++ x ∷ []) set
+              set_here set h = by ((sets h.0).0 h.2)
+                where
+                  by : Has (numbers_of Q.graph.next) h.0 ⊎ Has (map (λ (e : Edge). e.to) es) h.0 → LeadsOn (done ++ x ∷ []) set
+                  by (inl old) =
+                      let k = past.given h.0 old in
+                      let l = (past.sets set).0 (h.0, sym (named_now t n made h.0 k) ∙ h.1, old) in
+                      (l.0, Has-append_left done (x ∷ []) l.0 l.1, l.2, l.3, l.4)
+                  by (inr new) =
+                      let e = Has-map_cases (λ (e : Edge). e.to) es h.0 new in
+                      let r = edge_to e.0 e.1 in
+                      (x, Has-append_right done (x ∷ []) x (inl refl), r.0, r.1, sym r.4 ∙ (ap (set_named t) e.2 ∙ h.1))
+
+              set_back : (set : List ℕ) → LeadsOn (done ++ x ∷ []) set → HasNext (pass t g m) set
+              set_back set h = by (Has-append_cases done (x ∷ []) h.0 h.1)
+                where
+                  here : (y : Source) → x ≡ y → (r : Reach) → Has (source_edges y) r → r.to ≡ set → HasNext (pass t g m) set
+                  here y same r hr to =
+                      let e = to_edge r (subst (λ (z : Source). Has (source_edges z) r) (sym same) hr) in
+                      (e.0.to, e.3 ∙ to, (sets e.0.to).1 (inr (Has-map (λ (e : Edge). e.to) es e.0 e.1)))
+
+                  by : Has done h.0 ⊎ Has (x ∷ []) h.0 → HasNext (pass t g m) set
+                  by (inl old) =
+                      let a = (past.sets set).1 (h.0, old, h.2, h.3, h.4) in
+                      let k = past.given a.0 a.2 in
+                      (a.0, named_now t n made a.0 k ∙ a.1, (sets a.0).1 (inl a.2))
+                  by (inr (inl same)) = here h.0 same h.2 h.3 h.4
+                  by (inr (inr none)) = absurd none

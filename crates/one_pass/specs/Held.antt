@@ -1,0 +1,87 @@
+-- What a table of sets holds, and what it weighs.
+use Rattle.std.specs.Prelude.{◌≡◌, ℕ, ◌+◌, ◌*◌, ◌≤◌, ◌<◌, ◌⊎◌, List, [], ◌∷◌, ◌++◌, map, length, Option, None, Some, slice_get, slice_index_or}
+use Rattle.std.specs.List.{sum_by}
+use Rattle.std.specs.Str.{bytes_eq}
+use Rattle.span_core.specs.Lists.{Has, AreDistinct}
+use Rattle.span_core.specs.declared.edge.Edge.{Edge}
+use Rattle.marked_automaton.specs.Automaton.{Automaton, size}
+use Rattle.automaton_reading.specs.Reading.{Asked, byte_read, rest_taken, ended, Reach, Row, edges, once, row_edges, row_same, set_of}
+
+-- the automaton, the limit of weight, the sets in the order of their numbers, and what was asked of which set
+pub record TableView : Type 0 where
+  pub graph : Automaton
+  pub limit : ℕ
+  pub sets : List (List ℕ)
+  pub rows : List Row
+
+-- no set has two numbers, and no row stands there twice
+pub record IsSound (t : TableView) : Type 0 where
+  pub sets : AreDistinct t.sets
+  pub rows : AreDistinct t.rows
+
+-- the blocks of edges
+abbrev pub marks_of : List Reach → List ℕ
+marks_of es = map (λ (e : Reach). e.marks) es
+
+-- the set of this number
+abbrev pub set_named : TableView → ℕ → List ℕ
+set_named t k = slice_index_or t.sets k []
+
+abbrev pub row_of : TableView → ℕ → Asked → Row
+row_of t k ask = record { set = set_named t k; ask = ask }
+
+-- the sets that edges lead to; ends lead to none
+abbrev pub targets_of : Asked → List Reach → List (List ℕ)
+targets_of (byte_read b) es = map (λ (e : Reach). e.to) es
+targets_of rest_taken es = map (λ (e : Reach). e.to) es
+targets_of ended es = []
+
+abbrev pub targets : Automaton → Row → List (List ℕ)
+targets A r = targets_of r.ask (edges A r.set r.ask)
+
+-- 1 and the members of each set, and 1 and the edges of each row
+abbrev pub weight_of : Automaton → List (List ℕ) → List Row → ℕ
+weight_of A sets rows =
+    sum_by (λ set. 1 + length set) (once bytes_eq sets) + sum_by (λ r. 1 + row_edges A r) (once row_same rows)
+
+-- the edges lead to the sets of these numbers
+abbrev pub AreNumbered : TableView → List Edge → List Reach → Type 0
+AreNumbered t [] [] = Unit {0}
+AreNumbered t [] (r ∷ rs) = ⊥
+AreNumbered t (e ∷ es) [] = ⊥
+AreNumbered t (e ∷ es) (r ∷ rs) = (e.marks ≡ r.marks) × (slice_get t.sets e.to ≡ Some r.to) × AreNumbered t es rs
+
+-- the one edge without marks to the set of a number, if there is one
+abbrev pub rest_edges : Option ℕ → List Edge
+rest_edges None = []
+rest_edges (Some k) = record { marks = 0; to = k } ∷ []
+
+-- the byte was asked of the set, which has one edge on it, without marks and to itself
+abbrev pub StaysOn : TableView → ℕ → ℕ → Type 0
+StaysOn t k b =
+    Has t.rows (row_of t k (byte_read b)) × (edges t.graph (set_named t k) (byte_read b) ≡ record { marks = 0; to = set_named t k } ∷ [])
+
+-- the row is there: either it was before and nothing changed, or it and the sets that it leads to were added;
+-- that took one step, or at most one more than the size of the automaton
+pub record HasMade (old new : TableView) (row : Row) (before after : ℕ) : Type 0 where
+  pub graph : new.graph ≡ old.graph
+  pub limit : new.limit ≡ old.limit
+  pub kept : (more : List (List ℕ)) × (old.sets ++ more ≡ new.sets)
+  pub sets : (set : List ℕ) → Has new.sets set → Has old.sets set ⊎ Has (targets old.graph row) set
+  pub sound : IsSound new
+  pub rows :
+      (Has old.rows row × (new.rows ≡ old.rows) × (after ≡ before + 1))
+      ⊎ (¬ Has old.rows row × (new.rows ≡ old.rows ++ row ∷ []) × (after ≤ before + (1 + size old.graph)))
+
+-- what the table would hold with the row weighs this much, which is more than the limit
+pub record IsTooHeavy (t : TableView) (row : Row) (weight : ℕ) : Type 0 where
+  pub is : weight ≤ weight_of t.graph (t.sets ++ targets t.graph row) (row ∷ t.rows)
+  pub more : t.limit < weight
+
+-- the row was not made: where it was not there, asking for it took no more steps than making it, and else one
+pub record IsRefused (t : TableView) (row : Row) (before after : ℕ) : Type 0 where
+  pub steps : (¬ Has t.rows row × (after ≤ before + (1 + size t.graph))) ⊎ (after ≤ before + 1)
+
+-- the table of the start states' set alone
+abbrev pub new_table : Automaton → ℕ → TableView
+new_table A limit = record { graph = A; limit = limit; sets = set_of A.starts ∷ []; rows = [] }

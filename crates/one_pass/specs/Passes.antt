@@ -1,0 +1,130 @@
+-- A pass over a document: what it holds between two places, and what reading makes of that.
+use Rattle.std.specs.Prelude.{◌≡◌, ℕ, ◌+◌, ◌*◌, ◌<◌, ◌≤◌, ◌↔◌, ◌⊎◌, List, [], ◌∷◌, ◌++◌, map, length}
+use Rattle.span_core.specs.Lists.{Has, AreDistinct}
+use Rattle.marked_automaton.specs.Automaton.{Automaton, size}
+use Rattle.automaton_reading.specs.Reading.{Row, ended, rows_asked}
+use Rattle.one_pass.specs.Held.{TableView, IsSound, StaysOn, set_named, weight_of}
+use Rattle.one_pass.specs.Words.{Word}
+use Rattle.output_graph.specs.Graph.{Source}
+use Rattle.one_pass.specs.Layers.{GraphView, IsPast, numbers_of}
+use Rattle.one_pass.specs.Places.{Place, Leads, asks, edges_read, end_at, sets_after, sets_met}
+
+-- the table, the graph, and the steps that were taken
+pub record Pass : Type 0 where
+  pub table : TableView
+  pub graph : GraphView
+  pub steps : ℕ
+
+abbrev pub pass : TableView → GraphView → ℕ → Pass
+pass t g n = record { table = t; graph = g; steps = n }
+
+-- the sets of the layer
+abbrev pub sets_of : Pass → List (List ℕ)
+sets_of P = map (λ (x : Source). set_named P.table x.set) P.graph.layer
+
+-- the word reaches the set
+abbrev pub Reaches : Pass → List ℕ → Word → Type 0
+Reaches P set w = (x : Source) × Has P.graph.layer x × (set_named P.table x.set ≡ set) × Has x.words w
+
+-- the sets of the layer are sets of the table
+abbrev pub AreGiven : TableView → GraphView → Type 0
+AreGiven t g = (x : Source) → Has g.layer x → x.set < length t.sets
+
+-- each of them has been asked for the byte, and has one edge on it, without marks and to itself
+abbrev pub AllStayOn : TableView → GraphView → ℕ → Type 0
+AllStayOn t g b = (x : Source) → Has g.layer x → StaysOn t x.set b
+
+-- between two places: no source of the layer has been stepped, and all that it has stands before `at`
+pub record IsReady (P : Pass) (at : ℕ) : Type 0 where
+  pub sound : IsSound P.table
+  pub given : AreGiven P.table P.graph
+  pub apart : AreDistinct (numbers_of P.graph.layer)
+  pub fresh : (P.graph.stepped ≡ 0) × (P.graph.next ≡ []) × (P.graph.accepted ≡ [])
+  pub past : IsPast P.graph.layer at
+
+-- what a caller knows between two places: no source of the layer has been stepped, its sets are sets of the table, and
+-- all that it has stands before `at`
+pub record IsOpen (t : TableView) (g : GraphView) (at : ℕ) : Type 0 where
+  pub fresh : (g.stepped ≡ 0) × (g.next ≡ [])
+  pub given : AreGiven t g
+  pub past : IsPast g.layer at
+
+-- the table has these sets and rows more, or some of them
+pub record HasGrown (old new : TableView) (more_sets : List (List ℕ)) (more_rows : List Row) : Type 0 where
+  pub graph : new.graph ≡ old.graph
+  pub limit : new.limit ≡ old.limit
+  pub kept : (more : List (List ℕ)) × (old.sets ++ more ≡ new.sets)
+  pub sets : (set : List ℕ) → Has new.sets set → Has old.sets set ⊎ Has more_sets set
+  pub rows : (row : Row) → Has new.rows row → Has old.rows row ⊎ Has more_rows row
+
+-- the table keeps what it holds
+pub record HasKept (old new : TableView) : Type 0 where
+  pub graph : new.graph ≡ old.graph
+  pub limit : new.limit ≡ old.limit
+  pub sets : (more : List (List ℕ)) × (old.sets ++ more ≡ new.sets)
+  pub sound : IsSound new
+
+-- the words that reach a set are those that reached one before, with those of a choice of edges behind them
+abbrev pub Extends : Automaton → List Place → Pass → Pass → Type 0
+Extends A ps P Q =
+    (set : List ℕ) (w : Word) →
+    Reaches Q set w ↔ ((from : List ℕ) × (u v : Word) × Reaches P from u × Leads A ps from v set × (u ++ v ≡ w))
+
+-- the places have been read
+pub record HasRead (A : Automaton) (ps : List Place) (P Q : Pass) : Type 0 where
+  pub words : Extends A ps P Q
+  pub sets : (set : List ℕ) → Has (sets_of Q) set ↔ Has (sets_after A (sets_of P) (asks ps)) set
+  pub table : HasGrown P.table Q.table (sets_met A (sets_of P) (asks ps)) (rows_asked A (sets_of P) (asks ps))
+  -- the sizes of the layers and of the graph pay for the steps, with 6 for each edge and the automaton's size
+  -- for each row that was made
+  pub steps :
+      Q.steps + Q.graph.live + 3 * length Q.graph.layer + length P.table.rows * size A
+      ≤ P.steps + P.graph.live + 3 * length P.graph.layer + 6 * edges_read A (sets_of P) (asks ps) + length Q.table.rows * size A
+  pub cells : Q.graph.live ≤ P.graph.live + edges_read A (sets_of P) (asks ps)
+
+-- what is left where reading was given up
+pub record Stop : Type 0 where
+  pub table : TableView
+  pub steps : ℕ
+
+abbrev pub stop : TableView → ℕ → Stop
+stop t n = record { table = t; steps = n }
+
+-- reading was given up: the table keeps what it holds, and the rows that were made then, with the one that was
+-- refused, paid for the steps, with so much for the edges
+pub record StopsWithin (A : Automaton) (ps : List Place) (P : Pass) (for_edges : ℕ) (S : Stop) : Type 0 where
+  pub table : HasGrown P.table S.table (sets_met A (sets_of P) (asks ps)) (rows_asked A (sets_of P) (asks ps))
+  pub sound : IsSound S.table
+  pub made : List Row
+  pub distinct : AreDistinct made
+  pub few : length made ≤ length S.table.rows + 1
+  pub rows : (row : Row) → Has made row → Has P.table.rows row ⊎ Has (rows_asked A (sets_of P) (asks ps)) row
+  pub steps :
+      S.steps + length P.table.rows * size A
+      ≤ P.steps + P.graph.live + 3 * length P.graph.layer + for_edges + length made * size A
+
+-- with 6 for each edge where places are read
+abbrev pub HasStopped : Automaton → List Place → Pass → Stop → Type 0
+HasStopped A ps P S = StopsWithin A ps P (6 * edges_read A (sets_of P) (asks ps)) S
+
+-- and 3 where it was one place
+abbrev pub HasStoppedAt : Automaton → Place → Pass → Stop → Type 0
+HasStoppedAt A p P S = StopsWithin A (p ∷ []) P (3 * edges_read A (sets_of P) (p.ask ∷ [])) S
+
+-- more than the limit, and no more than the table held with these sets and rows
+pub record IsExcess (t : TableView) (sets : List (List ℕ)) (rows : List Row) (weight : ℕ) : Type 0 where
+  pub more : t.limit < weight
+  pub most : weight ≤ weight_of t.graph (t.sets ++ sets) (t.rows ++ rows)
+
+-- the sources of the layer have been ended at n
+pub record HasEnded (A : Automaton) (n : ℕ) (P Q : Pass) : Type 0 where
+  pub words :
+      (w : Word) →
+      Has Q.graph.accepted w ↔ ((from : List ℕ) × (u v : Word) × Reaches P from u × Leads A (end_at n ∷ []) from v [] × (u ++ v ≡ w))
+  pub every : Q.graph.stepped ≡ length Q.graph.layer
+  pub table : HasGrown P.table Q.table [] (rows_asked A (sets_of P) (ended ∷ []))
+  pub sound : IsSound Q.table
+  pub steps :
+      Q.steps + Q.graph.live + length P.table.rows * size A
+      ≤ P.steps + P.graph.live + 3 * length P.graph.layer + 3 * edges_read A (sets_of P) (ended ∷ []) + length Q.table.rows * size A
+  pub cells : Q.graph.live ≤ P.graph.live + edges_read A (sets_of P) (ended ∷ [])

@@ -1,0 +1,76 @@
+//! Reading on where a document grows at its end.
+ghost use Rattle.std.specs.Prelude.{◌≡◌, ℕ, ◌+◌, ◌^◌, ◌≤◌, [], ◌∷◌, length, IfErr, IfOk, OnErr};
+ghost use Rattle.span_core.specs.Lists.{Has};
+ghost use Rattle.automaton_reading.specs.Reading.{ended, rows_asked};
+ghost use Rattle.output_graph.specs.Graph.{sets_of as numbers_in, sources};
+ghost use Rattle.one_pass.specs.Faults.{IsFaultAt, IsFaultOf};
+ghost use Rattle.one_pass.specs.Passes.{HasEnded, HasRead, HasStopped, HasStoppedAt, IsOpen, pass, sets_of, stop};
+ghost use Rattle.one_pass.specs.Places.{bytes_at, end_at};
+ghost use Rattle.one_pass.specs.Seen.{ending_from, held, whole};
+
+use crate::passes::read_piece;
+use crate::places::end_layer;
+use output_graph::OutputGraph;
+use set_table::{Table, TableFault};
+use span_core::Steps;
+use std::alloc::Global;
+use std::sync::ledger::Ledger;
+
+/// Reads a piece of the document, which stands at `at`, at each of its positions. No source of the layer has
+/// been stepped or ended, its sets are sets of the table, and each position in its words stands before `at`; that
+/// is so again behind the piece. After a refusal the graph is given up, and the table keeps what it holds.
+///
+/// With g live cells and l sets in the layer before, g' and l' after (0 where it is refused), e edges that are
+/// read and r rows that the table makes first, or refuses, it takes at most g - g' + 3(l - l') + 6e + r * size
+/// steps. `TableFault::Full` comes only where what the table holds and what reading the piece asks for weigh more
+/// than its limit.
+pub fn advance<L: Ledger>(
+    _alloc: Global,
+    table: &mut Table<'_>,
+    graph: OutputGraph,
+    at: u32,
+    piece: &[u8],
+    steps: &mut Steps<L>,
+) -> Result<OutputGraph, TableFault>
+    requires open { IsOpen (held table.old) (whole graph) at }
+    requires few { at + length piece.now ≤ 2 ^ 28 }
+    ensures read { IfOk result (λ g. HasRead table.old.graph (bytes_at at piece.now) (pass (held table.old) (whole graph) steps.old) (pass (held table.new) (whole g) steps.new)) }
+    ensures open { IfOk result (λ g. IsOpen (held table.new) (whole g) (at + length piece.now)) }
+    ensures stopped { OnErr result (HasStopped table.old.graph (bytes_at at piece.now) (pass (held table.old) (whole graph) steps.old) (stop (held table.new) steps.new)) }
+    ensures cause { IfErr result (λ e. IsFaultAt (bytes_at at piece.now) (pass (held table.old) (whole graph) steps.old) e) }
+{
+    let mut graph = graph;
+    table.start();
+    graph.is_graph();
+    if let Err(fault) = read_piece(table, &mut graph, at, piece, steps) {
+        return Err(fault);
+    }
+    Ok(graph)
+}
+
+/// Ends each source of the layer at `at`, the end of the document, under the conditions of `advance`. No set but
+/// that of the ends is reached, so that the graph may be turned. It takes at most g - g' + 3l + 3e + r * size
+/// steps; the refusals are those of `advance`.
+pub fn finish<L: Ledger>(
+    _alloc: Global,
+    table: &mut Table<'_>,
+    graph: OutputGraph,
+    at: u32,
+    steps: &mut Steps<L>,
+) -> Result<OutputGraph, TableFault>
+    requires open { IsOpen (held table.old) (whole graph) at }
+    requires few { at ≤ 2 ^ 28 }
+    ensures ended { IfOk result (λ g. HasEnded table.old.graph at (pass (held table.old) (whole graph) steps.old) (pass (held table.new) (ending_from (sources graph) g) steps.new)) }
+    ensures every { IfOk result (λ g. g.stepped ≡ length g.layer) }
+    ensures only { IfOk result (λ g. (s : ℕ) → Has (numbers_in g.next) s → s ≡ 0) }
+    ensures stopped { OnErr result (HasStoppedAt table.old.graph (end_at at) (pass (held table.old) (whole graph) steps.old) (stop (held table.new) steps.new)) }
+    ensures cause { IfErr result (λ e. IsFaultOf (held table.old) [] (rows_asked table.old.graph (sets_of (pass (held table.old) (whole graph) steps.old)) (ended ∷ [])) e) }
+{
+    let mut graph = graph;
+    table.start();
+    graph.is_graph();
+    if let Err(fault) = end_layer(table, &mut graph, at, steps) {
+        return Err(fault);
+    }
+    Ok(graph)
+}
