@@ -190,7 +190,7 @@ impl Search {
         ensures followed { OnOk result (IsFollowed (flat_map (ways_at (half_ways_of left.now a.now.graph) (half_ways_of right.now b.now.graph)) self.new.found.keys) self.old.found.keys self.old.ways.items self.new.found.keys self.new.ways.items) }
         ensures fault { IfErr result (λ e. IsRefusalOf (pairs ways_meet way_pair (half_ways_of right.now b.now.graph) (half_ways_of left.now a.now.graph)) self.old.found.keys self.old.ways.items e ⊎ IsProductRefusal a.now.graph b.now.graph e) }
         ensures effort { effort.new ≤ effort.old }
-        {
+    {
         let mut rows = Rows {
             left: Vec::new(alloc),
             right: Vec::new(alloc),

@@ -9,9 +9,9 @@ use crate::fault::Fault;
 use crate::rows::{number_of_rows, row_of, spans_within};
 use marked_automaton::Automaton;
 use plain_spanner::all;
+use query_automaton::compile;
 use query_parser::read_query;
 use span_core::Row;
-use query_automaton::compile;
 use spanner_model::Query;
 use std::alloc::Global;
 

@@ -4,8 +4,8 @@ ghost use Rattle.spanner_model.specs.Sound.{IsSound};
 
 use crate::fault::Fault;
 use marked_automaton::SizeFault;
-use query_parser::read_query;
 use query_automaton::compile;
+use query_parser::read_query;
 use spanner_model::Query;
 use std::alloc::Global;
 use std::fmt;
