@@ -1,5 +1,5 @@
 -- Cells under other names.
-use Rattle.std.proofs.Common.{◌≡◌, ℕ, ◌+◌, ◌-◌, ◌<◌, ◌≤◌, ◌⊎◌, ◌^◌, inl, inr, List, [], ◌∷◌, ◌++◌, map, take, drop, length, Option, Some, None, IsSome, is_some, refl, sym, ap, ap₂, subst, ◌∙◌, arith}
+use Rattle.std.proofs.Common.{◌≡◌, ℕ, ◌-◌, ◌<◌, ◌≤◌, ◌⊎◌, ◌^◌, inl, inr, List, [], ◌∷◌, ◌++◌, map, take, drop, length, Option, Some, None, IsSome, refl, sym, ap, ap₂, subst, ◌∙◌, arith}
 use Rattle.std.proofs.Math.Seq.{take-append_seam}
 use Rattle.std.proofs.lemmas.Bool.{cases_eq}
 use Rattle.std.proofs.lemmas.List.{length-map, get_or_past}
@@ -8,7 +8,7 @@ use Rattle.span_core.specs.Lists.{Has}
 use Rattle.span_core.proofs.HasLaws.{Has-map, Has-map_cases}
 use Rattle.node_arena.specs.declared.TheConstants.{NONE}
 use Rattle.node_arena.specs.declared.node.Node.{Node}
-use Rattle.node_arena.specs.Cells.{NamedLink, Cells, Holds, HasCell, Names, IsNamed, Follows, AreLinked, hold, or_zero}
+use Rattle.node_arena.specs.Cells.{NamedLink, Cells, Holds, HasCell, Names, IsNamed, AreLinked, hold, or_zero}
 use Rattle.node_arena.specs.Nodes.{Nodes, AreNodes, IsKept, node_at, node_of, first_of, number_of, count_of, names_once, named_times, some_positive, count_in, holds_of, seen}
 use Rattle.node_arena.specs.Copies.{renamed, renamed_one, IsOneToOne, IsCopy}
 use Rattle.node_arena.specs.Copying.{copy_in, HaveSlots, moved_node, AreMoved}
@@ -170,10 +170,14 @@ module _ (nodes : Nodes) (newest live : ℕ) (v : Cells) (kept : IsKept nodes ne
   ]
 
   named_copy : (c : ℕ) → IsNamed v.cells c → IsNamed cells (copy c)
-  named_copy c n = (renamed copy n.0, Has-map (renamed copy) v.cells n.0 n.1, elim n.2 as (λ _. Names (renamed copy n.0) (copy c)) [
-    | inl e ↦ inl (ap (renamed_one copy) e)
-    | inr e ↦ inr (ap (renamed_one copy) e)
-  ])
+  named_copy c n = (
+    renamed copy n.0,
+    Has-map (renamed copy) v.cells n.0 n.1,
+    elim n.2 as (λ _. Names (renamed copy n.0) (copy c)) [
+      | inl e ↦ inl (ap (renamed_one copy) e)
+      | inr e ↦ inr (ap (renamed_one copy) e)
+    ],
+  )
 
   pub copies_kept : IsKept copies (copy newest) live copied_cells
   copies_kept = record {

@@ -1,7 +1,7 @@
 -- How a copy is made, cell by cell from the newest on.
 use Rattle.std.proofs.Common.{map as map_list}
-use Rattle.std.proofs.Common.{◌≡◌, ℕ, zero, suc, ◌++◌, take, drop, slice_set, ◌+◌, ◌-◌, ◌<◌, ◌≤◌, ◌⊎◌, inl, inr, List, [], ◌∷◌, length, get_or, Option, Some, None, IsSome, IfSome, is_some, refl, sym, ap, ap₂, subst, ◌∙◌, arith}
-use Rattle.std.proofs.Math.ListN.{set, length-set}
+use Rattle.std.proofs.Common.{◌≡◌, ℕ, zero, suc, ◌++◌, take, drop, slice_set, ◌-◌, ◌<◌, ◌⊎◌, inl, inr, List, [], ◌∷◌, length, get_or, Option, Some, None, IsSome, IfSome, is_some, refl, sym, ap, ap₂, subst, ◌∙◌, arith}
+use Rattle.std.proofs.Math.ListN.{set}
 use Rattle.std.proofs.lemmas.Bool.{cases_eq}
 use Rattle.std.proofs.lemmas.List.{get_or-set_same, get_or-set_other}
 use Rattle.std.specs.FinMap as map
@@ -12,7 +12,6 @@ use Rattle.node_arena.specs.Cells.{NamedLink, Cells, HasCell, AreLinked}
 use Rattle.node_arena.specs.Nodes.{Nodes, IsKept, node_at, node_of, first_of, count_of}
 use Rattle.node_arena.specs.Copying.{HaveSlots, moved_node, AreMoved, copy_in}
 use Rattle.node_arena.proofs.NodeLaws.{node_here, node_past, same_node, some_not_none}
-use Rattle.node_arena.proofs.Counts.{cell_or_not}
 
 -- from the number `at` on there are these cells, so many
 pub record IsLeft (nodes : Nodes) (cells left : List NamedLink) (at number : ℕ) : Type 0 where
@@ -61,10 +60,13 @@ module _ (nodes : Nodes) (cells : List NamedLink) (l : NamedLink) (older : List 
   here_or_past : (c : ℕ) → (HasCell older c → ⊥) → (c ≡ at) ⊎ ((c ≡ at → ⊥) × (HasCell (l ∷ older) c → ⊥))
   here_or_past c out = elim (cases_eq c at) as (λ _. (c ≡ at) ⊎ ((c ≡ at → ⊥) × (HasCell (l ∷ older) c → ⊥))) [
     | inl e ↦ inl e
-    | inr ne ↦ inr (ne, λ h. elim h.1 as (λ _. ⊥) [
-      | inl is ↦ ne (sym h.2 ∙ (sym (ap (λ (x : NamedLink). x.name) is) ∙ sym left.first))
-      | inr there ↦ out (h.0, there, h.2)
-    ])
+    | inr ne ↦ inr (
+      ne,
+      λ h. elim h.1 as (λ _. ⊥) [
+        | inl is ↦ ne (sym h.2 ∙ (sym (ap (λ (x : NamedLink). x.name) is) ∙ sym left.first))
+        | inr there ↦ out (h.0, there, h.2)
+      ],
+    )
   ]
 
 -- there is a cell where some are left

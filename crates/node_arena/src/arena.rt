@@ -177,7 +177,7 @@ impl Arena {
         }
     }
 
-    /// What is always true of an arena. It does nothing.
+    /// What is always true of an arena; among it, that the holds have no cell that is held 0 times. It does nothing.
     pub fn is_arena(&self)
         ensures { IsArena self.now }
     {
@@ -203,8 +203,22 @@ impl Arena {
         nodes.reserve(self.live as usize)?;
         let mut numbers = Vec::new(alloc);
         numbers.resize(self.nodes.capacity(), NONE)?;
-        place_cells(&self.nodes, self.newest, self.live, &mut nodes, &mut numbers, steps);
-        move_nodes(&self.nodes, self.newest, self.live, &mut nodes, &numbers, steps);
+        place_cells(
+            &self.nodes,
+            self.newest,
+            self.live,
+            &mut nodes,
+            &mut numbers,
+            steps,
+        );
+        move_nodes(
+            &self.nodes,
+            self.newest,
+            self.live,
+            &mut nodes,
+            &numbers,
+            steps,
+        );
         replace_cells(&numbers, cells);
         Ok(Arena {
             nodes,

@@ -9,10 +9,10 @@ use Rattle.node_arena.specs.Words.{Word, words, words_from, words_also, block_of
 use Rattle.node_arena.specs.Cells.{NamedLink, Cells, HasCell, Holds, hold, AreLinked, IsArena}
 use Rattle.node_arena.specs.Copies.{renamed, renamed_one, IsOneToOne, IsCopy}
 use Rattle.node_arena.proofs.CopyLaws.{copy_there, copy_of, some_renamed}
-use Rattle.output_graph.specs.Grown.{past, past_at, Closes, IsOpen, IsEarlier, Continues, AreGrown}
-use Rattle.output_graph.specs.Forward.{Layer, cell_of, SetsAreApart}
-use Rattle.output_graph.specs.Graph.{Graph, Source, source_of, sources, sets_of}
-use Rattle.output_graph.specs.Sound.{IsReady, IsSound, left_cells}
+use Rattle.output_graph.specs.Grown.{past, past_at, Closes, IsOpen, IsEarlier, AreGrown}
+use Rattle.output_graph.specs.Forward.{Layer, cell_of}
+use Rattle.output_graph.specs.Graph.{Graph, Source, source_of, sets_of}
+use Rattle.output_graph.specs.Sound.{IsSound, left_cells}
 use Rattle.output_graph.specs.Sets.{IsIndexed, paired, cells_in}
 use Rattle.output_graph.proofs.WordLemmas.{words_here, words_other, past_at_here, past_at_other}
 use Rattle.output_graph.proofs.LayerLaws.{IsLayer, layer_sound, cells_of, has_cell_of, cell_of_pair, pair_of_cell, set_of_cell}
@@ -84,7 +84,7 @@ module _ (copy : ℕ → ℕ) where
         | inl is ↦ subst (λ k. words (renamed copy l ∷ copies) (copy k) ≡ words (l ∷ older) k) is
             (words_here (renamed copy l) copies
             ∙ (ap₂ (λ (xs ys : List Word). xs ++ ys) (from_renamed older copies (block_of l) l.from (λ d e. same d (grown.0.from_there d e)))
-              (also_renamed older copies l.also (λ d e. same d (grown.0.also_there d e)))
+            (also_renamed older copies l.also (λ d e. same d (grown.0.also_there d e)))
             ∙ sym (words_here l older)))
         | inr ne ↦
             let there : HasCell older c = elim h.1 as (λ _. HasCell older c) [
@@ -188,8 +188,11 @@ module _ (copy : ℕ → ℕ) where
   copied_cell_of : (layer : Layer) (s q : ℕ) → cell_of (map (copied_pair copy) layer) s ≡ Some q → (c : ℕ) × (cell_of layer s ≡ Some c) × (copy c ≡ q)
   copied_cell_of [] s q e = absurd (none_some q e)
   copied_cell_of (p ∷ layer) s q e = elim (cases_eq p.0 s) as (λ _. (c : ℕ) × (cell_of (p ∷ layer) s ≡ Some c) × (copy c ≡ q)) [
-    | inl is ↦ (p.1, cond-true (nat_eq p.0 s) (Some p.1) (cell_of layer s) (eq-eqb p.0 s is),
-        some_same (copy p.1) q (sym (cond-true (nat_eq p.0 s) (Some (copy p.1)) (cell_of (map (copied_pair copy) layer) s) (eq-eqb p.0 s is)) ∙ e))
+    | inl is ↦ (
+      p.1,
+      cond-true (nat_eq p.0 s) (Some p.1) (cell_of layer s) (eq-eqb p.0 s is),
+      some_same (copy p.1) q (sym (cond-true (nat_eq p.0 s) (Some (copy p.1)) (cell_of (map (copied_pair copy) layer) s) (eq-eqb p.0 s is)) ∙ e),
+    )
     | inr ne ↦
         let r = copied_cell_of layer s q (sym (cond-false (nat_eq p.0 s) (Some (copy p.1)) (cell_of (map (copied_pair copy) layer) s) (ne_eqb p.0 s ne)) ∙ e) in
         (r.0, cond-false (nat_eq p.0 s) (Some p.1) (cell_of layer s) (ne_eqb p.0 s ne) ∙ r.1, r.2)

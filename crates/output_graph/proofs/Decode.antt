@@ -3,7 +3,7 @@ use Rattle.std.proofs.Common.{◌≡◌, ℕ, ◌<◌, Bool, true, false, List, 
 use Rattle.span_core.specs.Lists.{Has, AreDistinct}
 use Rattle.node_arena.specs.Words.{Word}
 use Rattle.output_graph.specs.Forward.{mark_block}
-use Rattle.output_graph.proofs.HasLemmas.{has_cases, has_map_cases}
+use Rattle.span_core.proofs.HasLaws.{Has-append_cases, Has-map_cases}
 
 abbrev tail_of : Word → Word
 tail_of [] = []
@@ -46,7 +46,7 @@ module _ {X : Type 0} where
   pub distinct_append : (xs ys : List X) → AreDistinct xs → AreDistinct ys → ((x : X) → Has xs x → Has ys x → ⊥) → AreDistinct (xs ++ ys)
   distinct_append [] ys a b f = b
   distinct_append (x ∷ xs) ys a b f = (
-    λ there. elim (has_cases xs ys x there) as (λ _. ⊥) [ inl h ↦ a.0 h | inr h ↦ f x (inl refl) h ],
+    λ there. elim (Has-append_cases xs ys x there) as (λ _. ⊥) [ inl h ↦ a.0 h | inr h ↦ f x (inl refl) h ],
     distinct_append xs ys a.1 b (λ y hx hy. f y (inr hx) hy),
   )
 
@@ -54,7 +54,7 @@ pub distinct_map : (at m : ℕ) (ws : List Word) → ((u : Word) (x : ℕ × ℕ
 distinct_map at m [] below h = tt
 distinct_map at m (w ∷ ws) below h = (
   λ there.
-      let r = has_map_cases (λ (w : Word). w ++ mark_block at m) ws (w ++ mark_block at m) there in
+      let r = Has-map_cases (λ (w : Word). w ++ mark_block at m) ws (w ++ mark_block at m) there in
       let d = decode at m m r.0 w (λ x hx. below r.0 x (inr r.1) hx) (λ x hx. below w x (inl refl) hx) r.2 in
       h.0 (subst (λ x. Has ws x) d.0 r.1),
   distinct_map at m ws (λ u x hu hx. below u x (inr hu) hx) h.1,

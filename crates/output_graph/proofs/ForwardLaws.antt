@@ -5,7 +5,7 @@ use Rattle.span_core.specs.Lists.{Has, AreDistinct}
 use Rattle.node_arena.specs.Words.{Word, words, words_also}
 use Rattle.node_arena.specs.Cells.{NamedLink, HasCell, new_link}
 use Rattle.output_graph.specs.Forward.{Layer, cell_of, set_cell, mark_block, Choice, Chosen, InLayer, AreSources, Stepping}
-use Rattle.output_graph.proofs.HasLemmas.{has_map_cases}
+use Rattle.span_core.proofs.HasLaws.{Has-map_cases}
 use Rattle.output_graph.proofs.WordLemmas.{words_here, words_other, other_name}
 use Rattle.output_graph.proofs.WordCases.{word_by_also, word_by_from, word_cases}
 use Rattle.output_graph.proofs.Decode.{decode, distinct_append, distinct_map}
@@ -82,7 +82,7 @@ module _ (sources left : List ℕ) (W : ℕ → List Word) (at : ℕ) (done : Li
         subst AreDistinct (sym (words_here link cells))
         (distinct_append (map (λ w. w ++ mark_block at e.marks) (words cells e.cell)) (words_also (words cells) (cell_of next e.to)) front back
         (λ w hf hb.
-        let a = has_map_cases (λ (w : Word). w ++ mark_block at e.marks) (words cells e.cell) w hf in
+        let a = Has-map_cases (λ (w : Word). w ++ mark_block at e.marks) (words cells e.cell) w hf in
         let b = also_chosen (cell_of next e.to) w (λ c is h. so_far.sound e.to c w is h) hb in
         let told = choice_told b.0 e b.1 a.0 (so_far.by_sources b.0 b.2) is_source b.4 (subst (λ ws. Has ws a.0) w_is a.1) (b.5 ∙ sym a.2) in
         new b.0 b.2 told.0 told.1))

@@ -6,7 +6,7 @@ use Rattle.node_arena.specs.Cells.{NamedLink, HasCell, Holds, hold, IsLive, held
 use Rattle.output_graph.specs.Forward.{Layer}
 use Rattle.output_graph.specs.Graph.{Graph, Source, source_of, sources, targets, sets_of, AreApart, IsReached, by_source, by_target, by_cell}
 use Rattle.output_graph.specs.Sound.{IsReady, IsSound, left_cells}
-use Rattle.output_graph.proofs.HasLemmas.{has_map_cases}
+use Rattle.span_core.proofs.HasLaws.{Has-map_cases}
 use Rattle.output_graph.proofs.StepLaws.{sets_are_apart}
 use Rattle.output_graph.proofs.LayerLaws.{cells_of, cell_of_pair, pair_of_cell, some_place}
 use Rattle.output_graph.proofs.SteppedLaws.{word_in, has_cell}
@@ -43,13 +43,13 @@ module _ (g : Graph) (holds : Holds) (sound : IsSound g holds) where
   sources_apart = record {
     distinct = subst (λ (xs : List ℕ). AreDistinct xs) (sym (set_names g.cells left)) (distinct_drop g.stepped g.layer sound.sets);
     one_path = λ x h.
-        let p = has_map_cases (source_of g.cells) left x h in
+        let p = Has-map_cases (source_of g.cells) left x h in
         let c = has_cell left p.0 p.1 in
         subst (λ (y : Source). AreDistinct y.words) p.2
         (subst (λ (ws : List Word). AreDistinct ws) (sym (ready.among.between.stepping.source_words p.0.1 c)) (ready.among.apart.one_path p.0.1 (ready.are_sources p.0.1 c)));
     apart = λ s r w hs hr.
-        let p = has_map_cases (source_of g.cells) left hs.0 hs.1 in
-        let q = has_map_cases (source_of g.cells) left hr.0 hr.1 in
+        let p = Has-map_cases (source_of g.cells) left hs.0 hs.1 in
+        let q = Has-map_cases (source_of g.cells) left hr.0 hr.1 in
         let cp = has_cell left p.0 p.1 in
         let cq = has_cell left q.0 q.1 in
         let step = ready.among.between.stepping in
@@ -64,7 +64,7 @@ module _ (g : Graph) (holds : Holds) (sound : IsSound g holds) where
   targets_apart = record {
     distinct = subst (λ (xs : List ℕ). AreDistinct xs) (sym (set_names g.cells g.next)) ready.among.sets;
     one_path = λ x h.
-        let p = has_map_cases (source_of g.cells) g.next x h in
+        let p = Has-map_cases (source_of g.cells) g.next x h in
         subst (λ (y : Source). AreDistinct y.words) p.2 (ready.among.between.stepping.one_path p.0.0 p.0.1 (cell_of_pair g.next p.0 ready.among.sets p.1));
     apart = λ s r w hs hr.
         let a = word_in g.cells g.next s w ready.among.sets hs in
@@ -74,7 +74,7 @@ module _ (g : Graph) (holds : Holds) (sound : IsSound g holds) where
 
   reached_held : (c : ℕ) → 0 < hold holds c → IsReached g c
   reached_held c h = elim (ready.among.held.only c h) as (λ _. IsReached g c) [
-    | inl a ↦ let p = has_map_cases (λ (x : ℕ × ℕ). x.1) left c a in by_source p.0 p.1 p.2
+    | inl a ↦ let p = Has-map_cases (λ (x : ℕ × ℕ). x.1) left c a in by_source p.0 p.1 p.2
     | inr b ↦ by_target (b.0, c) (pair_of_cell g.next b.0 c b.1) refl
   ]
 

@@ -7,7 +7,7 @@ use Rattle.node_arena.specs.Cells.{NamedLink}
 use Rattle.output_graph.specs.Order.{LeadsBefore, AreInOrder}
 use Rattle.output_graph.specs.Grown.{Closes}
 use Rattle.output_graph.specs.Turn.{names, handed}
-use Rattle.output_graph.proofs.HasLemmas.{has_left, has_right, has_cases, has_map, has_map_cases}
+use Rattle.span_core.proofs.HasLaws.{Has-append_left, Has-append_right, Has-append_cases, Has-map, Has-map_cases}
 use Rattle.output_graph.proofs.OrderLemmas.{before_by_lead, in_order_map, in_order_append}
 
 pub names_true : (o : Option ℕ) (c : ℕ) → names o c ≡ true → o ≡ Some c
@@ -38,9 +38,9 @@ module _ (l : NamedLink) (rows : List Word) (c : ℕ) (old : List Word) where
   source_by true f z s ea ef ez h = by_also (names_true l.also c ea) h
   source_by false true true s ea ef ez h = by_from (names_true l.from c ef) (eqb-true l.marks 0 ez) h
   source_by false true false s ea ef ez h =
-      elim (has_cases (map (λ (w : Word). (l.at, l.marks) ∷ w) rows) old s h) as (λ _. Source l rows c old s) [
+      elim (Has-append_cases (map (λ (w : Word). (l.at, l.marks) ∷ w) rows) old s h) as (λ _. Source l rows c old s) [
         | inl b ↦
-            let r = has_map_cases (λ (w : Word). (l.at, l.marks) ∷ w) rows s b in
+            let r = Has-map_cases (λ (w : Word). (l.at, l.marks) ∷ w) rows s b in
             by_marks (names_true l.from c ef) (marked ez) r.0 r.1 r.2
         | inr b ↦ kept b
       ]
@@ -55,7 +55,7 @@ module _ (l : NamedLink) (rows : List Word) (c : ℕ) (old : List Word) where
   unfolding picked
   keeps_by true f z s ea ef ez no_close h = absurd (no_close (inr (names_true l.also c ea)))
   keeps_by false true true s ea ef ez no_close h = absurd (no_close (inl (eqb-true l.marks 0 ez, names_true l.from c ef)))
-  keeps_by false true false s ea ef ez no_close h = has_right (map (λ (w : Word). (l.at, l.marks) ∷ w) rows) old s h
+  keeps_by false true false s ea ef ez no_close h = Has-append_right (map (λ (w : Word). (l.at, l.marks) ∷ w) rows) old s h
   keeps_by false false z s ea ef ez no_close h = h
 
   pub keeps : (s : Word) → (Closes l c → ⊥) → Has old s → Has (handed l rows c old) s
@@ -89,7 +89,7 @@ module _ (l : NamedLink) (rows : List Word) (c : ℕ) (old : List Word) where
   marks_by true f z t ea ef ez is apart some h = absurd (apart (names_true l.also c ea))
   marks_by false true true t ea ef ez is apart some h = let none = eqb-true l.marks 0 ez in absurd (omega arith)
   marks_by false true false t ea ef ez is apart some h =
-      has_left (map (λ (w : Word). (l.at, l.marks) ∷ w) rows) old ((l.at, l.marks) ∷ t) (has_map (λ (w : Word). (l.at, l.marks) ∷ w) rows t h)
+      Has-append_left (map (λ (w : Word). (l.at, l.marks) ∷ w) rows) old ((l.at, l.marks) ∷ t) (Has-map (λ (w : Word). (l.at, l.marks) ∷ w) rows t h)
   marks_by false false z t ea ef ez is apart some h = absurd (names_false l.from c ef is)
 
   pub hands_marks : (t : Word) → l.from ≡ Some c → (l.also ≡ Some c → ⊥) → 0 < l.marks → Has rows t → Has (handed l rows c old) ((l.at, l.marks) ∷ t)
@@ -104,7 +104,7 @@ module _ (l : NamedLink) (rows : List Word) (c : ℕ) (old : List Word) where
   order_by false true false ef ez hr ho lead =
       in_order_append (map (λ (w : Word). (l.at, l.marks) ∷ w) rows) old (in_order_map (l.at, l.marks) rows hr) ho
       (λ x y hx hy.
-      let r = has_map_cases (λ (w : Word). (l.at, l.marks) ∷ w) rows x hx in
+      let r = Has-map_cases (λ (w : Word). (l.at, l.marks) ∷ w) rows x hx in
       subst (λ x'. Rattle.output_graph.specs.Order.Before x' y) r.2 (before_by_lead (l.at, l.marks) r.0 y (lead (names_true l.from c ef) (marked ez) y hy)))
   order_by false false z ef ez hr ho lead = ho
 

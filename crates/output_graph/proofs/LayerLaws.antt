@@ -8,7 +8,7 @@ use Rattle.output_graph.specs.Grown.{past, IsOpen, AreGrown}
 use Rattle.output_graph.specs.Forward.{Layer, cell_of, AreSources, SetsAreApart}
 use Rattle.output_graph.specs.Graph.{Graph, sets_of}
 use Rattle.output_graph.specs.Sound.{IsReady, IsPlaceOf, IsSound, left_cells}
-use Rattle.output_graph.proofs.HasLemmas.{has_cases, has_map_cases}
+use Rattle.span_core.proofs.HasLaws.{Has-append_cases, Has-map_cases}
 use Rattle.output_graph.proofs.WordLemmas.{words_here, words_other, past_more, past_marked}
 use Rattle.output_graph.proofs.Holds.{hold_here, hold_other}
 use Rattle.output_graph.proofs.StepLaws.{sets_are_apart}
@@ -55,7 +55,7 @@ pair_of_cell (p ∷ layer) s c e = elim (cases_eq p.0 s) as (λ _. Has (p ∷ la
 
 pub set_of_cell : (layer : Layer) (c : ℕ) → AreDistinct (sets_of layer) → Has (cells_of layer) c → (s : ℕ) × (cell_of layer s ≡ Some c)
 set_of_cell layer c d h =
-    let r = has_map_cases (λ (p : ℕ × ℕ). p.1) layer c h in
+    let r = Has-map_cases (λ (p : ℕ × ℕ). p.1) layer c h in
     (r.0.0, cell_of_pair layer r.0 d r.1 ∙ ap Some r.2)
 
 -- a cell stands at one set
@@ -87,8 +87,8 @@ module _ (l : NamedLink) (older : List NamedLink) (below : (c : ℕ) (u : Word) 
   from_below None u x (inl e) h = absurd (subst (λ (w : Word). Has w x) (sym e) h)
   from_below None u x (inr none) h = absurd none
   from_below (Some c) u x hu h =
-      let r = has_map_cases (λ (w : Word). w ++ block_of l) (words older c) u hu in
-      elim (has_cases r.0 (block_of l) x (subst (λ (w : Word). Has w x) (sym r.2) h)) as (λ _. x.0 < past (l ∷ older)) [
+      let r = Has-map_cases (λ (w : Word). w ++ block_of l) (words older c) u hu in
+      elim (Has-append_cases r.0 (block_of l) x (subst (λ (w : Word). Has w x) (sym r.2) h)) as (λ _. x.0 < past (l ∷ older)) [
         | inl a ↦ let p = below c r.0 x r.1 a in let q = past_more l older in omega arith
         | inr b ↦ block_below l older (nat_eq l.marks 0) refl x b
       ]
@@ -102,7 +102,7 @@ word_below [] c u x hu h = absurd hu
 word_below (l ∷ older) c u x hu h = elim (cases_eq l.name c) as (λ _. x.0 < past (l ∷ older)) [
   | inl e ↦
       let hu' : Has (words (l ∷ older) l.name) u = subst (λ n. Has (words (l ∷ older) n) u) (sym e) hu in
-      elim (has_cases (words_from (words older) (block_of l) l.from) (words_also (words older) l.also) u (subst (λ ws. Has ws u) (words_here l older) hu')) as (λ _. x.0 < past (l ∷ older)) [
+      elim (Has-append_cases (words_from (words older) (block_of l) l.from) (words_also (words older) l.also) u (subst (λ ws. Has ws u) (words_here l older) hu')) as (λ _. x.0 < past (l ∷ older)) [
         | inl a ↦ from_below l older (word_below older) l.from u x a h
         | inr b ↦ also_below l older (word_below older) l.also u x b h
       ]

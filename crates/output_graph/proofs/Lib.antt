@@ -1,4 +1,3 @@
-pub mod HasLemmas
 pub mod WordLemmas
 pub mod WordCases
 pub mod SetLaws
@@ -26,3 +25,4 @@ pub mod CodeTurn
 pub mod TurnEnds
 pub mod TurnSteps
 pub mod CopyLaws
+pub mod BegunLaws

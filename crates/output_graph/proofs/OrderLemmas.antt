@@ -3,7 +3,7 @@ use Rattle.std.proofs.Common.{ℕ, ◌<◌, ◌≤◌, List, [], ◌∷◌, ◌+
 use Rattle.span_core.specs.Lists.{Has}
 use Rattle.node_arena.specs.Words.{Word}
 use Rattle.output_graph.specs.Order.{LeadsBefore, Before, AreInOrder, Ascends}
-use Rattle.output_graph.proofs.HasLemmas.{has_cases, has_map_cases}
+use Rattle.span_core.proofs.HasLaws.{Has-append_cases, Has-map_cases}
 
 pub ascends_from : (m n : ℕ) (w : Word) → m ≤ n → Ascends n w → Ascends m w
 ascends_from m n [] le h = tt
@@ -21,7 +21,7 @@ pub in_order_map : (x : ℕ × ℕ) (ws : List Word) → AreInOrder ws → AreIn
 in_order_map x [] h = tt
 in_order_map x (w ∷ ws) h = (
   λ v there.
-      let r = has_map_cases (λ (w : Word). x ∷ w) ws v there in
+      let r = Has-map_cases (λ (w : Word). x ∷ w) ws v there in
       subst (λ y. Before (x ∷ w) y) r.2 (inr (refl, h.0 r.0 r.1)),
   in_order_map x ws h.1,
 )
@@ -29,7 +29,7 @@ in_order_map x (w ∷ ws) h = (
 pub in_order_append : (xs ys : List Word) → AreInOrder xs → AreInOrder ys → ((x y : Word) → Has xs x → Has ys y → Before x y) → AreInOrder (xs ++ ys)
 in_order_append [] ys a b f = b
 in_order_append (x ∷ xs) ys a b f = (
-  λ v there. elim (has_cases xs ys v there) as (λ _. Before x v) [
+  λ v there. elim (Has-append_cases xs ys v there) as (λ _. Before x v) [
     | inl h ↦ a.0 v h
     | inr h ↦ f x v (inl refl) h
   ],

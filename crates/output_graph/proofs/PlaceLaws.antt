@@ -8,7 +8,7 @@ use Rattle.output_graph.specs.Grown.{past, AreGrown}
 use Rattle.output_graph.specs.Forward.{Layer, cell_of}
 use Rattle.output_graph.specs.Graph.{Graph, sources, source_of, IsPast, IsPlace}
 use Rattle.output_graph.specs.Sound.{IsPlaceOf, IsSound}
-use Rattle.output_graph.proofs.HasLemmas.{has_left, has_right, has_map_cases}
+use Rattle.span_core.proofs.HasLaws.{Has-append_left, Has-append_right, Has-map_cases}
 use Rattle.output_graph.proofs.WordLemmas.{words_here, words_other, other_name}
 use Rattle.output_graph.proofs.WordCases.{word_by_also, word_by_from, block_some}
 use Rattle.output_graph.proofs.SteppedLaws.{has_source}
@@ -60,7 +60,7 @@ word_here : (m : NamedLink) (older : List NamedLink) → AreGrown (m ∷ older) 
 word_here m older g None is f = (
   [],
   subst (λ ws. Has ws []) (sym (words_here m older))
-      (has_left (words_from (words older) (block_of m) m.from) (words_also (words older) m.also) [] (subst (λ o. Has (words_from (words older) (block_of m) o) []) (sym is) (inl refl))),
+      (Has-append_left (words_from (words older) (block_of m) m.from) (words_also (words older) m.also) [] (subst (λ o. Has (words_from (words older) (block_of m) o) []) (sym is) (inl refl))),
 )
 word_here m older g (Some d) is f = let r = f d (g.0.from_there d is) in (r.0 ++ block_of m, word_by_from m older d r.0 is r.1)
 
@@ -82,7 +82,7 @@ live_word : (cells : List NamedLink) (holds : Holds) → AreGrown cells → {c :
 live_word cells holds g {c = c} (held h) u hu = (c, u, h, hu, λ x hx. hx)
 live_word cells holds g {c = c} (named l hl (inl is) live) u hu =
     let r = live_word cells holds g live (u ++ block_of l) (in_from cells l c u g hl is hu) in
-    (r.0, r.1, r.2, r.3, λ x hx. r.4 x (has_left u (block_of l) x hx))
+    (r.0, r.1, r.2, r.3, λ x hx. r.4 x (Has-append_left u (block_of l) x hx))
 live_word cells holds g {c = c} (named l hl (inr is) live) u hu = live_word cells holds g live u (in_also cells l c u g hl is hu)
 
 past_by : (b : Bool) (m n at : ℕ) → nat_eq m 0 ≡ b → n ≤ at → (0 < m → (k : ℕ) → k < at → k + 1 ≤ at) → (l : ℕ) → (0 < m → l < at) → (if b then n else max n (l + 1)) ≤ at
@@ -107,10 +107,10 @@ module _ (g : Graph) (holds : Holds) (sound : IsSound g holds) (live : (c : ℕ)
       let v = has_word g.cells c grown (named_there g.cells l c grown hl (inl is)) in
       let w = live_word g.cells holds grown ((live l.name).0 (l, hl, refl)) (v.0 ++ block_of l) (in_from g.cells l c v.0 grown hl is v.1) in
       let here : Has (v.0 ++ block_of l) (l.at, l.marks) =
-      has_right v.0 (block_of l) (l.at, l.marks) (subst (λ (b : Word). Has b (l.at, l.marks)) (sym (block_some l g.cells some)) (inl refl)) in
+      Has-append_right v.0 (block_of l) (l.at, l.marks) (subst (λ (b : Word). Has b (l.at, l.marks)) (sym (block_some l g.cells some)) (inl refl)) in
       elim (r.among.held.only w.0 w.2) as (λ _. l.at < at) [
         | inl h ↦
-            let p = has_map_cases (λ (x : ℕ × ℕ). x.1) (drop g.stepped g.layer) w.0 h in
+            let p = Has-map_cases (λ (x : ℕ × ℕ). x.1) (drop g.stepped g.layer) w.0 h in
             past p.0.0 w.1 (l.at, l.marks)
             (source_of g.cells p.0, has_source g.cells (drop g.stepped g.layer) p.0 p.1, refl, subst (λ n. Has (words g.cells n) w.1) (sym p.2) w.3)
             (w.4 (l.at, l.marks) here)

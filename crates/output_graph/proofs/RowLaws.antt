@@ -73,12 +73,12 @@ some_row [] (Row k) made there some = absurd there.1
 some_row (r ∷ older) (Row k) made there some = elim (cases_eq r.name k) as (λ _. (w : Word) × Has (rows (r ∷ older) (Row k)) w) [
   | inl e ↦
       let t = some_row older r.child made.1 made.0.child_there made.0.child_some in
-      let in_map = Rattle.output_graph.proofs.HasLemmas.has_map (λ (w : Word). (r.at, r.marks) ∷ w) (rows older r.child) t.0 t.1 in
+      let in_map = Rattle.span_core.proofs.HasLaws.Has-map (λ (w : Word). (r.at, r.marks) ∷ w) (rows older r.child) t.0 t.1 in
       let is : rows (r ∷ older) (Row k) ≡ map (λ w. (r.at, r.marks) ∷ w) (rows older r.child) ++ rows older r.next =
       ap (λ n. rows (r ∷ older) (Row n)) (sym e) ∙ rows_newest older r in (
         (r.at, r.marks) ∷ t.0,
         subst (λ xs. Has xs ((r.at, r.marks) ∷ t.0)) (sym is)
-            (Rattle.output_graph.proofs.HasLemmas.has_left (map (λ (w : Word). (r.at, r.marks) ∷ w) (rows older r.child)) (rows older r.next) ((r.at, r.marks) ∷ t.0) in_map),
+            (Rattle.span_core.proofs.HasLaws.Has-append_left (map (λ (w : Word). (r.at, r.marks) ∷ w) (rows older r.child)) (rows older r.next) ((r.at, r.marks) ∷ t.0) in_map),
       )
   | inr ne ↦
       let there' : HasRow older k = elim there.1 as (λ _. HasRow older k) [

@@ -6,7 +6,7 @@ use Rattle.node_arena.specs.Words.{Word, words}
 use Rattle.node_arena.specs.Cells.{NamedLink, HasCell, without, IsUnnamed}
 use Rattle.output_graph.specs.Forward.{Layer, cell_of, set_cell, mark_block, Choice, Chosen, InLayer, AreSources, Stepping, SetsAreApart, Growing}
 use Rattle.output_graph.proofs.ReleaseLaws.{words_without, without_keeps, without_less, grown_without, past_at_without}
-use Rattle.output_graph.proofs.HasLemmas.{has_cases}
+use Rattle.span_core.proofs.HasLaws.{Has-append_cases}
 use Rattle.output_graph.proofs.ForwardLaws.{cell_of_set, cell_of_other, choice_told}
 
 some_same : (a b : ℕ) → Some a ≡ Some b → a ≡ b
@@ -100,7 +100,7 @@ pub chosen_below : (sources left : List ℕ) (W : ℕ → List Word) (at : ℕ) 
     AreSources sources W at → Stepping sources left W at done cells next → Chosen W at done s w → Has w x → x.0 < at + 1
 chosen_below sources left W at done cells next s w x apart so_far chosen h =
     let h' : Has (chosen.1 ++ mark_block at chosen.0.marks) x = subst (λ ws. Has ws x) (sym chosen.5) h in
-    elim (has_cases chosen.1 (mark_block at chosen.0.marks) x h') as (λ _. x.0 < at + 1) [
+    elim (Has-append_cases chosen.1 (mark_block at chosen.0.marks) x h') as (λ _. x.0 < at + 1) [
       | inl a ↦ let p = apart.below chosen.0.cell chosen.1 x (so_far.by_sources chosen.0 chosen.2) chosen.4 a in omega arith
       | inr b ↦ let p : x.0 ≡ at = below_by at chosen.0.marks (nat_eq chosen.0.marks 0) x b in omega arith
     ]

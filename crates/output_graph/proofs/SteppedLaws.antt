@@ -8,7 +8,7 @@ use Rattle.output_graph.specs.Forward.{Layer, cell_of, Choice, InLayer, Stepping
 use Rattle.output_graph.specs.Source.{Edges, Descend, with_choices}
 use Rattle.output_graph.specs.Graph.{Graph, Source, source_of, sources, targets, sets_of, HasWord, Brings, IsStepped, IsCost}
 use Rattle.output_graph.specs.Sound.{Among, Amid, IsReady, IsPlaceOf, IsSound, CanEnd, HasEnded, IsSpent, left_cells}
-use Rattle.output_graph.proofs.HasLemmas.{has_map_cases}
+use Rattle.span_core.proofs.HasLaws.{Has-map_cases}
 use Rattle.output_graph.proofs.SourceLaws.{source_begins}
 use Rattle.output_graph.proofs.LayerLaws.{cells_of, cell_of_pair, pair_of_cell}
 
@@ -23,7 +23,7 @@ drop_at (q ∷ layer) (suc k) p e = drop_at layer k p e
 -- the words of a layer, by its sets and by its cells
 pub word_in : (cells : List NamedLink) (layer : Layer) (s : ℕ) (w : Word) → AreDistinct (sets_of layer) → HasWord (map (source_of cells) layer) s w → InLayer cells layer s w
 word_in cells layer s w d (x, has, is, hw) =
-    let r = has_map_cases (source_of cells) layer x has in
+    let r = Has-map_cases (source_of cells) layer x has in
     let set : r.0.0 ≡ s = ap (λ (y : Source). y.set) r.2 ∙ is in
     (r.0.1, subst (λ n. cell_of layer n ≡ Some r.0.1) set (cell_of_pair layer r.0 d r.1), subst (λ (y : Source). Has y.words w) (sym r.2) hw)
 

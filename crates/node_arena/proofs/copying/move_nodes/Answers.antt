@@ -1,4 +1,4 @@
-use Rattle.std.proofs.Common.{◌≡◌, ◌+◌, ◌-◌, ◌<◌, IsSome, ap, subst, sym, ◌∙◌, arith, refl}
+use Rattle.std.proofs.Common.{◌+◌, ◌-◌, IsSome, ap, subst, sym, ◌∙◌, arith}
 use Rattle.std.specs.FinMap as map
 use Rattle.node_arena.specs.Copying.{copy_in}
 use Rattle.node_arena.specs.Nodes.{Nodes}

@@ -1,4 +1,4 @@
-use Rattle.std.proofs.Common.{◌≡◌, ◌+◌, ◌-◌, ◌<◌, IsSome, ap, subst, sym, ◌∙◌, arith, refl}
+use Rattle.std.proofs.Common.{◌+◌, ◌-◌, IsSome, ap, subst, sym, ◌∙◌, arith, refl}
 use Rattle.std.specs.FinMap as map
 use Rattle.node_arena.specs.Nodes.{Nodes}
 use Rattle.node_arena.proofs.CopyLoops.{placing_begins, placing_node, placing_next, placing_ends}

@@ -1,4 +1,4 @@
-use Rattle.std.proofs.Common.{◌+◌, ℕ, get_or, ap, ◌∙◌, arith, add-one, refl}
+use Rattle.std.proofs.Common.{◌+◌, ap, ◌∙◌, arith, add-one}
 use Rattle.node_arena.specs.Copying.{copy_in}
 use Rattle.node_arena.proofs.CopyLoops.{replaced_next}
 use Rattle.node_arena.proofs.copying.replace_cells.Goals as goal

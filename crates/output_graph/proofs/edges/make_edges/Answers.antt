@@ -2,7 +2,7 @@ use Rattle.std.proofs.Common.{◌≡◌, ◌+◌, [], ◌∷◌, ◌++◌, ◌�
 use Rattle.span_core.specs.Lists.{Has}
 use Rattle.output_graph.specs.Source.{Edges}
 use Rattle.output_graph.specs.Sound.{edges_of}
-use Rattle.output_graph.proofs.HasLemmas.{has_right}
+use Rattle.span_core.proofs.HasLaws.{Has-append_right}
 use Rattle.output_graph.proofs.EdgeLaws.{link_there, link_apart, none_ends}
 use Rattle.output_graph.proofs.MakeLaws.{marks_none, marks_some, made_more, made_ends, can_now, last_edge, can_last, edges_cut, edges_all, edges_more, length_edges}
 use Rattle.output_graph.proofs.edges.make_edges.Goals as goal
@@ -17,7 +17,7 @@ pass_on-requires-clause-can g c =
 pub pass_on-requires-clause-covered : goal.pass_on-requires-clause-covered
 pass_on-requires-clause-covered g c =
     let cut = edges_cut c.args.edges.now c.loop-edge.edge-index c.edge-item.result (omega arith) c.edge-item.is in
-    let has : Has (edges_of c.args.edges.now) (c.edge-item.result.marks, c.edge-item.result.to) = rw cut.1 (has_right (edges_of (take c.loop-edge.edge-index c.args.edges.now)) _ _ (inl refl)) in
+    let has : Has (edges_of c.args.edges.now) (c.edge-item.result.marks, c.edge-item.result.to) = rw cut.1 (Has-append_right (edges_of (take c.loop-edge.edge-index c.args.edges.now)) _ _ (inl refl)) in
     let lt = c.requires.covered (c.edge-item.result.marks, c.edge-item.result.to) has in
     let k = c.loop-edge.invariant.known in
     omega arith
@@ -45,7 +45,7 @@ returns-then-is_none-clause-spent g c =
 pub link_edge-cell-requires-clause-covered : goal.link_edge-cell-requires-clause-covered
 link_edge-cell-requires-clause-covered g c =
     let cut = edges_cut c.args.edges.now c.loop-edge.edge-index c.edge-item.result (omega arith) c.edge-item.is in
-    let has : Has (edges_of c.args.edges.now) (c.edge-item.result.marks, c.edge-item.result.to) = rw cut.1 (has_right (edges_of (take c.loop-edge.edge-index c.args.edges.now)) _ _ (inl refl)) in
+    let has : Has (edges_of c.args.edges.now) (c.edge-item.result.marks, c.edge-item.result.to) = rw cut.1 (Has-append_right (edges_of (take c.loop-edge.edge-index c.args.edges.now)) _ _ (inl refl)) in
     let lt = c.requires.covered (c.edge-item.result.marks, c.edge-item.result.to) has in
     let k = c.loop-edge.invariant.known in
     omega arith

@@ -1,4 +1,4 @@
-use Rattle.std.proofs.Common.{◌≡◌, ◌+◌, ◌∷◌, ◌++◌, [], ℕ, List, ap, ◌∙◌}
+use Rattle.std.proofs.Common.{◌∷◌, ◌++◌, [], ℕ, List, ap, ◌∙◌}
 use Rattle.output_graph.proofs.CopyLaws.{cells_more}
 use Rattle.output_graph.proofs.layer.cells_of.Goals as goal
 

@@ -1,4 +1,4 @@
-use Rattle.std.proofs.Common.{◌≡◌, ◌+◌, ◌∷◌, ◌++◌, [], ℕ, List, Vec, get_or, ap, ◌∙◌, refl, arith}
+use Rattle.std.proofs.Common.{◌∷◌, ◌++◌, [], ℕ, List, get_or, ap, ◌∙◌, refl, arith}
 use Rattle.output_graph.specs.Forward.{Layer}
 use Rattle.output_graph.proofs.CopyLaws.{paired_more, paired_all}
 use Rattle.output_graph.proofs.layer.pairs_of.Goals as goal

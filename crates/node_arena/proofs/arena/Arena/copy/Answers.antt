@@ -1,6 +1,6 @@
-use Rattle.std.proofs.Common.{◌≡◌, ◌+◌, ◌*◌, ◌<◌, length, refl, sym, ap, subst, ◌∙◌, arith, ℕ, List, map, take, drop, ◌++◌}
+use Rattle.std.proofs.Common.{◌≡◌, length, sym, ap, subst, ◌∙◌, arith, ℕ, List, map, take, drop, ◌++◌}
 use Rattle.node_arena.specs.Cells.{Cells, HasCell}
-use Rattle.node_arena.specs.Nodes.{Nodes, cells_from, seen}
+use Rattle.node_arena.specs.Nodes.{cells_from, seen}
 use Rattle.node_arena.specs.Copies.{IsCopy}
 use Rattle.node_arena.specs.Copying.{copy_in, HaveSlots}
 use Rattle.node_arena.proofs.CopyLaws.{copy_done, written}
@@ -35,7 +35,7 @@ invariant_of-result g c =
     let len = c.in_ok-resize.ensures.len in
     let all = c.deref.ensures.len in
     (copy_done _ _ c.self.inside.newest _ _ c.move_nodes.new.copies.spare _ c.deref.result.now c.deref-2.result.now c.deref-3.result.now c.self.invariant (omega arith) c.move_nodes.ensures.slots
-        c.move_nodes.ensures.moved (c.deref-2.ensures.value ∙ sym c.deref.ensures.value) (c.deref-3.ensures.value ∙ sym c.deref.ensures.value) c.copied.ensures).kept
+    c.move_nodes.ensures.moved (c.deref-2.ensures.value ∙ sym c.deref.ensures.value) (c.deref-3.ensures.value ∙ sym c.deref.ensures.value) c.copied.ensures).kept
 
 pub returns-clause-copied : goal.returns-clause-copied
 returns-clause-copied g c =
@@ -43,8 +43,8 @@ returns-clause-copied g c =
     let len = c.in_ok-resize.ensures.len in
     let all = c.deref.ensures.len in
     let done =
-        copy_done _ _ c.self.inside.newest _ _ c.move_nodes.new.copies.spare _ c.deref.result.now c.deref-2.result.now c.deref-3.result.now c.self.invariant (omega arith) c.move_nodes.ensures.slots
-        c.move_nodes.ensures.moved (c.deref-2.ensures.value ∙ sym c.deref.ensures.value) (c.deref-3.ensures.value ∙ sym c.deref.ensures.value) c.copied.ensures in
+    copy_done _ _ c.self.inside.newest _ _ c.move_nodes.new.copies.spare _ c.deref.result.now c.deref-2.result.now c.deref-3.result.now c.self.invariant (omega arith) c.move_nodes.ensures.slots
+    c.move_nodes.ensures.moved (c.deref-2.ensures.value ∙ sym c.deref.ensures.value) (c.deref-3.ensures.value ∙ sym c.deref.ensures.value) c.copied.ensures in
     let ok = c.args.cells.now.ok.0 in
     let value = c.deref_mut-2.ensures.value in
     let same = c.replace_cells.auto.cells in

@@ -1,15 +1,13 @@
-use Rattle.std.proofs.Common.{◌≡◌, ℕ, ◌+◌, ◌*◌, ◌<◌, ◌≤◌, [], length, drop, map, refl, sym, ap, subst, ◌∙◌, arith}
-use Rattle.node_arena.specs.Cells.{Cells}
-use Rattle.output_graph.specs.Forward.{Layer}
+use Rattle.std.proofs.Common.{length, drop, map, refl, sym, ap, ◌∙◌, arith}
 use Rattle.output_graph.specs.Graph.{Graph, source_of, sources}
-use Rattle.output_graph.specs.Sound.{IsSound, graph_of}
+use Rattle.output_graph.specs.Sound.{graph_of}
 use Rattle.output_graph.proofs.CopyLaws.{copy_done, layer_there, names_many}
 use Rattle.output_graph.proofs.graph.OutputGraph.copy.Goals as goal
 
 pub copy-requires : goal.copy-requires
 copy-requires g c =
     let start = ap (λ (x : Graph). x.stepped) c.self.view_is ∙ c.requires in
-    record { there = layer_there _ c.self.inside.arena.holds _ c.self.invariant start c.in_ok-cells.ensures; }
+    record { there = layer_there _ c.self.inside.arena.holds _ c.self.invariant start c.in_ok-cells.ensures }
 
 pub returns-in_err-arena-clause-steps : goal.returns-in_err-arena-clause-steps
 returns-in_err-arena-clause-steps g c =

@@ -1,4 +1,4 @@
-use Rattle.std.proofs.Common.{◌≡◌, ◌++◌, ℕ, List, [], sym, ap, ◌∙◌, subst}
+use Rattle.std.proofs.Common.{◌≡◌, ◌++◌, ℕ, List, sym, ap, ◌∙◌, subst}
 use Rattle.output_graph.specs.Forward.{Layer}
 use Rattle.output_graph.specs.Sets.{IsIndexed, paired}
 use Rattle.output_graph.proofs.CopyLaws.{paired_indexed}
