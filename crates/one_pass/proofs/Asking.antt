@@ -1,15 +1,13 @@
 -- What a table answers, in the words of a pass.
-use Rattle.std.proofs.Common.{◌≡◌, ℕ, ◌+◌, ◌<◌, ◌≤◌, ◌⊎◌, List, [], ◌∷◌, length, map, Option, Some, None, inl, inr, refl, sym, ap, subst, arith, ◌∙◌, Result, Ok, Err}
-use Rattle.std.specs.Prelude.{MatchResult, slice_get}
-use Rattle.std.specs.List.{filter}
+use Rattle.std.proofs.Common.{◌≡◌, ℕ, ◌+◌, ◌<◌, List, [], ◌∷◌, length, map, Option, Some, None, inl, inr, refl, sym, ap, subst, arith, ◌∙◌, Result, Ok, Err}
+use Rattle.std.specs.Prelude.{MatchResult}
 use Rattle.std.specs.Borrow.{Bor}
-use Rattle.span_core.specs.Lists.{Has}
 use Rattle.span_core.proofs.HasLaws.{Has-map}
 use Rattle.span_core.specs.declared.edge.Edge.{Edge}
-use Rattle.automaton_reading.specs.Reading.{Asked, byte_read, rest_taken, ended, Reach, edges, is_among, rest_edge}
+use Rattle.automaton_reading.specs.Reading.{Asked, byte_read, rest_taken, ended, Reach, edges, rest_edge}
 use Rattle.set_table.specs.declared.fault.TableFault.{TableFault}
 use Rattle.set_table.specs.declared.fault.TableFault.TheVariants.{Full, OutOfMemory}
-use Rattle.set_table.specs.Tabled.{Asking, HasEdges, HasEnds, HasRest, IsRefusal, IsTabled, Stays, Tabled, asking, idle_of, once_asked, set_at}
+use Rattle.set_table.specs.Tabled.{Asking, HasEdges, HasEnds, HasRest, IsRefusal, IsTabled, Stays, Tabled, asking, idle_of, once_asked}
 use Rattle.output_graph.specs.Graph.{Graph}
 use Rattle.one_pass.specs.Causes.{HasCause}
 use Rattle.one_pass.specs.Held.{AreNumbered, HasMade, StaysOn, marks_of, rest_edges, row_of, set_named}

@@ -1,5 +1,5 @@
 -- A graph shows only the sources that are still to be stepped; a pass sees it with the whole layer.
-use Rattle.std.proofs.Common.{◌≡◌, ℕ, zero, suc, ◌+◌, ◌≤◌, ◌<◌, ◌⊎◌, Bool, true, false, List, [], ◌∷◌, ◌++◌, length, drop, map, Some, inl, inr, refl, sym, ap, subst, arith, ◌∙◌, nat_eq, if◌then◌else◌}
+use Rattle.std.proofs.Common.{◌≡◌, ℕ, zero, suc, ◌+◌, ◌<◌, ◌⊎◌, Bool, true, false, List, [], ◌∷◌, ◌++◌, length, drop, map, Some, inl, inr, refl, sym, ap, subst, arith, ◌∙◌, nat_eq, if◌then◌else◌}
 use Rattle.std.specs.Prelude.{◌↔◌, slice_get}
 use Rattle.std.specs.List.{AllByRecursion}
 use Rattle.std.specs.Option.{unwrap_or}
@@ -272,8 +272,8 @@ pub only_more : (at : ℕ) (g h : Graph) (ms : List ℕ) → ((s : ℕ) → Has 
 only_more at g h ms only step s x = elim ((step.reached s).0 x) as (λ _. s ≡ 0) [
   | inl o ↦ only s o
   | inr e ↦ (
-    let m = Has-map_cases (λ (m : ℕ). let p : ℕ × ℕ = (m, 0) in p) ms e.0 e.1 in
-    sym (ap (λ (p : ℕ × ℕ). p.1) m.2 ∙ e.2))
+      let m = Has-map_cases (λ (m : ℕ). let p : ℕ × ℕ = (m, 0) in p) ms e.0 e.1 in
+      sym (ap (λ (p : ℕ × ℕ). p.1) m.2 ∙ e.2))
 ]
 
 -- before the first is ended

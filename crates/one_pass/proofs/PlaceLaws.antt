@@ -3,9 +3,9 @@ use Rattle.std.proofs.Common.{◌≡◌, ℕ, ◌≤◌, ◌<◌, ◌⊎◌, Lis
 use Rattle.std.specs.Prelude.{nat_eq, if◌then◌else◌, Bool, true, false}
 use Rattle.std.proofs.lemmas.List.{append-nil}
 use Rattle.span_core.specs.Lists.{Has, AreDistinct}
-use Rattle.span_core.proofs.HasLaws.{Has-append_left, Has-append_right, Has-append_cases, Has-map, Has-map_cases}
+use Rattle.span_core.proofs.HasLaws.{Has-append_left, Has-append_cases, Has-map, Has-map_cases}
 use Rattle.marked_automaton.specs.Automaton.{Automaton}
-use Rattle.automaton_reading.specs.Reading.{Asked, byte_read, rest_taken, ended, Reach, Row, edges, next_sets, rows_asked}
+use Rattle.automaton_reading.specs.Reading.{Reach, Row, edges, next_sets, rows_asked}
 use Rattle.one_pass.specs.Held.{set_named}
 use Rattle.one_pass.specs.Words.{Word, block_word}
 use Rattle.output_graph.specs.Graph.{Source}
@@ -14,7 +14,7 @@ use Rattle.one_pass.specs.Places.{Place, Leads, sets_met}
 use Rattle.one_pass.specs.Passes.{Pass, pass, sets_of, Reaches, IsReady, HasGrown, HasRead}
 use Rattle.one_pass.proofs.Sets.{Covers, next_cases, has_next}
 use Rattle.one_pass.proofs.Composing.{grown_none}
-use Rattle.one_pass.proofs.Stepping.{Arrives, HasNext, source_edges, LeadsWith, place_edges, sets_on, IsStepping, met_here}
+use Rattle.one_pass.proofs.Stepping.{Arrives, HasNext, source_edges, LeadsWith, place_edges, IsStepping, met_here}
 
 pub no_marks : (i m : ℕ) (b : ℕ × ℕ) → m ≡ 0 → Has (block_word i m) b → ⊥
 no_marks i m b e h = none (subst (λ k. Has (block_word i k) b) e h)

@@ -1,14 +1,13 @@
 -- The loop over the sources of a layer, with what the graph shows of them.
-use Rattle.std.proofs.Common.{◌≡◌, ℕ, ◌+◌, ◌<◌, ◌≤◌, ◌⊎◌, List, [], ◌∷◌, length, take, inl, inr, refl, sym, ap, subst, arith, ◌∙◌}
+use Rattle.std.proofs.Common.{◌≡◌, ℕ, ◌+◌, ◌<◌, List, [], length, take, inl, inr, refl, sym, subst, arith}
 use Rattle.std.specs.Prelude.{Some, slice_get}
 use Rattle.span_core.specs.Lists.{Has, AreDistinct}
-use Rattle.automaton_reading.specs.Reading.{ended}
 use Rattle.set_table.specs.Tabled.{Tabled}
 use Rattle.output_graph.specs.Graph.{Graph, Source, sets_of, sources, targets}
 use Rattle.output_graph.specs.Sound.{edges_of, edges_of_ends}
 use Rattle.one_pass.specs.Layers.{GraphView, HasStepped, numbers_of, source_at}
-use Rattle.one_pass.specs.Passes.{HasRead, HasStoppedAt, IsReady, Pass, pass, stop}
-use Rattle.one_pass.specs.Places.{Place, end_at}
+use Rattle.one_pass.specs.Passes.{HasStoppedAt, IsReady, pass, stop}
+use Rattle.one_pass.specs.Places.{Place}
 use Rattle.one_pass.specs.Seen.{ending_from, held, stepping_from, whole}
 use Rattle.one_pass.specs.Turned.{HasNotTurned, HasTurned, HasTurnedEnd, IsTurned}
 use Rattle.one_pass.proofs.Ending.{IsEnding, ending_none}

@@ -15,7 +15,7 @@ use Rattle.one_pass.specs.Words.{Word, block_word}
 use Rattle.output_graph.specs.Graph.{Source}
 use Rattle.one_pass.specs.Layers.{GraphView, HasWord, HasCost, Brings, numbers_of}
 use Rattle.one_pass.specs.Places.{Place, edges_read, sets_met}
-use Rattle.one_pass.specs.Passes.{Pass, Stop, pass, sets_of, stop, IsReady, HasGrown, HasStoppedAt, IsExcess}
+use Rattle.one_pass.specs.Passes.{Pass, pass, sets_of, stop, IsReady, HasGrown, HasStoppedAt, IsExcess}
 use Rattle.one_pass.proofs.Sets.{Covers, has_next, weight_covers}
 use Rattle.one_pass.proofs.Numbered.{edge_reach, reach_edge, numbered_length, named_there}
 use Rattle.one_pass.proofs.Composing.{grown_length, grown_more, grown_named}

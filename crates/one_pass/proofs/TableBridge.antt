@@ -1,21 +1,20 @@
 -- A table that notes what it was asked by the sets' numbers, as one that notes the sets.
-use Rattle.std.proofs.Common.{◌≡◌, ℕ, zero, suc, ◌+◌, ◌≤◌, ◌<◌, ◌⊎◌, Bool, true, false, List, [], ◌∷◌, ◌++◌, length, get_or, map, Some, inl, inr, refl, sym, ap, subst, arith, ◌∙◌, append_assoc, length-append}
-use Rattle.std.specs.Prelude.{if◌then◌else◌, nat_eq, slice_get, ◌&&◌, ◌||◌}
+use Rattle.std.proofs.Common.{◌≡◌, ℕ, zero, suc, ◌+◌, ◌<◌, ◌⊎◌, Bool, true, false, List, [], ◌∷◌, ◌++◌, length, get_or, map, Some, inl, inr, refl, sym, ap, subst, arith, ◌∙◌, append_assoc}
+use Rattle.std.specs.Prelude.{if◌then◌else◌, nat_eq, slice_get, ◌||◌}
 use Rattle.std.specs.List.{list_any, sum_by}
 use Rattle.std.specs.Str.{bytes_eq}
 use Rattle.std.proofs.lemmas.Bool.{eqb-true, eq-eqb}
 use Rattle.std.proofs.lemmas.List.{append-nil, get_or_append_left}
-use Rattle.std.proofs.lemmas.List.Sums.{sum_by-append}
 use Rattle.span_core.specs.Lists.{Has, AreDistinct}
 use Rattle.span_core.proofs.HasLaws.{Has-append_left, Has-append_right, Has-append_cases, Has-map, Has-map_cases}
 use Rattle.span_core.specs.declared.edge.Edge.{Edge}
-use Rattle.marked_automaton.specs.Automaton.{Automaton, size}
+use Rattle.marked_automaton.specs.Automaton.{Automaton}
 use Rattle.marked_automaton.proofs.Passing.{both_true, left_true, right_true}
-use Rattle.automaton_reading.specs.Reading.{Asked, asked_same, byte_read, rest_taken, ended, Reach, Row, edges, once, row_edges, row_same, set_of}
+use Rattle.automaton_reading.specs.Reading.{Asked, asked_same, byte_read, rest_taken, ended, Reach, Row, once, row_edges, row_same}
 use Rattle.automaton_reading.proofs.Matching.{once_has}
 use Rattle.automaton_reading.proofs.MeasureLaws.{ask_itself, bytes_itself, row_itself, same_ask, same_bytes, same_row}
-use Rattle.one_pass.specs.Held.{TableView, AreNumbered, HasMade, IsSound, IsTooHeavy, row_of, set_named, targets, weight_of}
-use Rattle.set_table.specs.Tabled.{Asking, Tabled, IsTabled, asked_first, asked_weight, asking, asking_same, edge_named, fresh, once_asked, reached, set_at, sets_weight, was_asked, weight, with_set, with_sets}
+use Rattle.one_pass.specs.Held.{AreNumbered, HasMade, IsSound, IsTooHeavy, row_of, targets}
+use Rattle.set_table.specs.Tabled.{Asking, Tabled, IsTabled, asked_first, asked_weight, asking_same, edge_named, fresh, once_asked, reached, set_at, was_asked, weight, with_set, with_sets}
 use Rattle.one_pass.specs.Builds.{IsNew}
 use Rattle.one_pass.specs.Seen.{held, row_in}
 use Rattle.one_pass.proofs.Composing.{named_apart}

@@ -1,27 +1,25 @@
 -- What is added for a question.
-use Rattle.std.proofs.Common.{◌≡◌, ℕ, zero, suc, ◌+◌, ◌-◌, ◌*◌, ◌^◌, ◌<◌, ◌≤◌, ◌⊎◌, Bool, true, false, cond, List, [], ◌∷◌, ◌++◌, length, map, take, drop, get_or, Some, inl, inr, refl, sym, ap, subst, arith, ◌∙◌, length-append}
+use Rattle.std.proofs.Common.{◌≡◌, ℕ, suc, ◌+◌, ◌-◌, ◌*◌, ◌^◌, ◌<◌, ◌≤◌, ◌⊎◌, Bool, true, false, cond, List, [], ◌∷◌, ◌++◌, length, map, take, drop, get_or, Some, inl, inr, refl, sym, ap, subst, arith, ◌∙◌, length-append}
 use Rattle.std.specs.Prelude.{if◌then◌else◌, nat_eq, nat_lt, ◌&&◌, slice_get}
 use Rattle.std.specs.List.{filter}
 use Rattle.std.specs.FinSet as bytes
 use Rattle.std.proofs.Math.Pow.{pow_mono}
 use Rattle.std.proofs.Math.Seq.{drop-append_seam}
-use Rattle.std.proofs.lemmas.Bool.{eqb-true, eq-eqb}
 use Rattle.std.proofs.lemmas.List.{append-nil, length-map, take_all, take_more}
 use Rattle.std.proofs.lemmas.List.Elements.{filter-append}
 use Rattle.span_core.specs.declared.edge.Edge.{Edge}
 use Rattle.span_core.specs.Lists.{Has, IsInOrder}
 use Rattle.span_core.proofs.HasLaws.{Has-get_or, Has-map, Has-map_cases, Has-append_cases}
-use Rattle.marked_automaton.specs.declared.way.Way.{Way}
 use Rattle.marked_automaton.specs.declared.way.Stop.{Stop}
 use Rattle.marked_automaton.specs.Automaton.{Automaton, Marked, IsMarked}
-use Rattle.marked_automaton.proofs.Passing.{filter_cases, has_filter}
-use Rattle.automaton_reading.specs.Reading.{Asked, byte_read, ended, put_up, set_of, blocks_down, is_among, Reach, ways_taken, rest_edge, edges}
+use Rattle.marked_automaton.proofs.Passing.{filter_cases}
+use Rattle.automaton_reading.specs.Reading.{byte_read, ended, put_up, set_of, blocks_down, is_among, Reach, ways_taken, rest_edge, edges}
 use Rattle.automaton_reading.proofs.Determined.{set_has, has_set}
 use Rattle.set_table.specs.declared.answer.Answer.{Answer}
 use Rattle.set_table.specs.declared.answer.Question.TheVariants.{Ends}
 use Rattle.set_table.specs.Cut.{code_of, cut, mark_of, marks_among, marks_code}
-use Rattle.set_table.specs.Named.{IsLongerBy, PutsEdges}
-use Rattle.set_table.specs.Tabled.{IsStateSet, edge_named, reached, set_at, sets_weight, with_set, with_sets}
+use Rattle.set_table.specs.Named.{PutsEdges}
+use Rattle.set_table.specs.Tabled.{IsStateSet, edge_named, reached, set_at, with_set, with_sets}
 use Rattle.set_table.specs.Answered.{Adds, IsReady, answer_in, asked_by, end_reach, part, room}
 use Rattle.set_table.proofs.Ascending.{Above, all_has, has_all, blocks_are, set_in_order}
 use Rattle.set_table.proofs.CutLaws.{AreNarrow, cut_is}
@@ -80,8 +78,13 @@ narrow_ways M S b marked few y h =
 
 pub codes_few : (M : Marked) (S : List ℕ) (b : ℕ) → IsMarked M → length (set_of (map code_of (ways_taken M.graph S b))) ≤ 2000000
 codes_few M S b marked =
-    omega (arith, length_set (map code_of (ways_taken M.graph S b)), length-map (ways_taken M.graph S b) code_of,
-      filter_le (λ z. is_among S z.from && bytes.contains z.bytes b) M.graph.ways, marked.few_ways)
+    omega (
+      arith,
+      length_set (map code_of (ways_taken M.graph S b)),
+      length-map (ways_taken M.graph S b) code_of,
+      filter_le (λ z. is_among S z.from && bytes.contains z.bytes b) M.graph.ways,
+      marked.few_ways,
+    )
 
 pub edges_cut : (M : Marked) (S : List ℕ) (b : ℕ) → IsMarked M → length M.names ≤ 16 → cut (set_of (map code_of (ways_taken M.graph S b))) ≡ edges M.graph S (byte_read b)
 edges_cut M S b marked few = cut_is (ways_taken M.graph S b) (narrow_ways M S b marked few)
@@ -150,8 +153,8 @@ turned_down : (ns : List ℕ) → IsInOrder ◌<◌ ns → ((n : ℕ) → Has ns
 turned_down [] up small = tt
 turned_down (n ∷ ns) up small = (
   has_all (λ m. m < mark_of n) (map mark_of ns) (λ m h.
-    let k = Has-map_cases mark_of ns m h in
-    omega (arith, k.2, all_has (λ y. n < y) ns k.0 up.0 k.1, small k.0 (inr k.1))),
+      let k = Has-map_cases mark_of ns m h in
+      omega (arith, k.2, all_has (λ y. n < y) ns k.0 up.0 k.1, small k.0 (inr k.1))),
   turned_down ns up.1 (λ k h. small k (inr h)),
 )
 
@@ -166,13 +169,13 @@ module _ (stops : List Stop) (small : (x : Stop) → Has stops x → x.marks < 2
   turned_are =
       blocks_are (map (λ (x : Stop). x.marks) stops) (map mark_of Turned) (turned_down Turned (set_in_order (map marks_code stops)) turned_small)
       (λ m h.
-        let n = Has-map_cases mark_of Turned m h in
-        let x = Has-map_cases marks_code stops n.0 (has_set (map marks_code stops) n.0 n.1) in
-        subst (Has (map (λ (y : Stop). y.marks) stops)) (let e : x.0.marks ≡ m = omega (arith, x.2, n.2, small x.0 x.1) in e) (Has-map (λ (y : Stop). y.marks) stops x.0 x.1))
+      let n = Has-map_cases mark_of Turned m h in
+      let x = Has-map_cases marks_code stops n.0 (has_set (map marks_code stops) n.0 n.1) in
+      subst (Has (map (λ (y : Stop). y.marks) stops)) (let e : x.0.marks ≡ m = omega (arith, x.2, n.2, small x.0 x.1) in e) (Has-map (λ (y : Stop). y.marks) stops x.0 x.1))
       (λ m h.
-        let x = Has-map_cases (λ (y : Stop). y.marks) stops m h in
-        subst (Has (map mark_of Turned)) (let e : mark_of (marks_code x.0) ≡ m = omega (arith, x.2, small x.0 x.1) in e)
-        (Has-map mark_of Turned (marks_code x.0) (set_has (map marks_code stops) (marks_code x.0) (Has-map marks_code stops x.0 x.1))))
+      let x = Has-map_cases (λ (y : Stop). y.marks) stops m h in
+      subst (Has (map mark_of Turned)) (let e : mark_of (marks_code x.0) ≡ m = omega (arith, x.2, small x.0 x.1) in e)
+      (Has-map mark_of Turned (marks_code x.0) (set_has (map marks_code stops) (marks_code x.0) (Has-map marks_code stops x.0 x.1))))
 
 small_stops : (M : Marked) (S : List ℕ) → IsMarked M → length M.names ≤ 16 → (x : Stop) → Has (filter (λ (y : Stop). is_among S y.state) M.graph.stops) x → x.marks < 2 ^ 32
 small_stops M S marked few x h =

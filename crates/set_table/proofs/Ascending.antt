@@ -1,11 +1,11 @@
 -- Lists in a strict order are told by their members.
-use Rattle.std.proofs.Common.{◌≡◌, ℕ, zero, suc, ◌+◌, ◌<◌, ◌≤◌, ◌⊎◌, ltb-true, ltb-false, cond, Bool, true, false, List, [], ◌∷◌, length, inl, inr, refl, sym, ap, subst, arith, ◌∙◌, Contains, eqb}
-use Rattle.std.specs.Prelude.{if◌then◌else◌, nat_eq, nat_lt, ◌↔◌, filter}
+use Rattle.std.proofs.Common.{◌≡◌, ℕ, ◌<◌, ◌≤◌, ◌⊎◌, ltb-true, ltb-false, cond, Bool, true, false, List, [], ◌∷◌, inl, inr, refl, sym, subst, arith, ◌∙◌, Contains, eqb}
+use Rattle.std.specs.Prelude.{if◌then◌else◌, nat_eq, nat_lt}
 use Rattle.std.specs.List.{AllByRecursion, dedup}
 use Rattle.std.specs.List.Sorted.{IsPermutation, IsSorted, IsStrictlySortedBy}
 use Rattle.std.specs.Ordering.{nat_cmp}
 use Rattle.std.specs.declared.cmp.Ordering.TheVariants.{Less, Equal, Greater}
-use Rattle.std.proofs.lemmas.Bool.{cases_lt, cases_order, eqb-true, eqb-false, eq-eqb}
+use Rattle.std.proofs.lemmas.Bool.{cases_lt, eqb-false}
 use Rattle.std.proofs.lemmas.List.Kept.{Contains-dedup_nat, Contains-from_dedup}
 use Rattle.std.proofs.lemmas.List.Sorted.{Contains-permutation, IsPermutation-sym}
 use Rattle.std.proofs.lemmas.Map.Keys.{IsStrictlyIncreasing-dedup, sorted_from_strictly_increasing}
@@ -32,8 +32,8 @@ module _ {X : Type 0} (R : X → X → Type 0) (irreflexive : (x : X) → R x x 
   in_order_same (x ∷ xs) (y ∷ ys) a b there back =
       let e : y ≡ x = first (there x (inl refl)) (back y (inl refl)) in
       let rest = in_order_same xs ys a.1 b.1
-          (λ z h. elim (there z (inr h)) as (λ _. Has ys z) [ inl f ↦ absurd (irreflexive x (subst (R x) (sym f ∙ e) (all_has (R x) xs z a.0 h))) | inr g ↦ g ])
-          (λ z h. elim (back z (inr h)) as (λ _. Has xs z) [ inl f ↦ absurd (irreflexive y (subst (R y) (sym f ∙ sym e) (all_has (R y) ys z b.0 h))) | inr g ↦ g ]) in
+      (λ z h. elim (there z (inr h)) as (λ _. Has ys z) [ inl f ↦ absurd (irreflexive x (subst (R x) (sym f ∙ e) (all_has (R x) xs z a.0 h))) | inr g ↦ g ])
+      (λ z h. elim (back z (inr h)) as (λ _. Has xs z) [ inl f ↦ absurd (irreflexive y (subst (R y) (sym f ∙ sym e) (all_has (R y) ys z b.0 h))) | inr g ↦ g ]) in
       (λ i. sym e i ∷ rest i)
     where
       first : (y ≡ x) ⊎ Has ys x → (x ≡ y) ⊎ Has xs y → y ≡ x
@@ -62,11 +62,13 @@ put_up_in_order p (q ∷ qs) h = go (put_up_in_order p qs h.1) (nat_lt p q) refl
     go rest false l true e = h
     go rest false l false e =
         let no_less : q ≤ p = ltb-false p q l in
-        let other : p ≡ q → ⊥ = eqb-false p q e in
-        (has_all (λ x. q < x) (put_up p qs) (λ x m. elim (put_up_cases p qs x m) as (λ _. q < x) [
-          | inl f ↦ elim (cases_lt q p) as (λ _. q < x) [ inl g ↦ omega (arith, f, g) | inr g ↦ absurd (other (omega (arith, g, no_less))) ]
-          | inr g ↦ all_has (λ y. q < y) qs x h.0 g
-        ]), rest)
+        let other : p ≡ q → ⊥ = eqb-false p q e in (
+          has_all (λ x. q < x) (put_up p qs) (λ x m. elim (put_up_cases p qs x m) as (λ _. q < x) [
+            | inl f ↦ elim (cases_lt q p) as (λ _. q < x) [ inl g ↦ omega (arith, f, g) | inr g ↦ absurd (other (omega (arith, g, no_less))) ]
+            | inr g ↦ all_has (λ y. q < y) qs x h.0 g
+          ]),
+          rest,
+        )
 
 pub set_in_order : (xs : List ℕ) → IsInOrder ◌<◌ (set_of xs)
 set_in_order [] = tt
@@ -84,11 +86,13 @@ put_down_in_order p (q ∷ qs) h = go (put_down_in_order p qs h.1) (nat_lt q p) 
     go rest false l true e = h
     go rest false l false e =
         let no_less : p ≤ q = ltb-false q p l in
-        let other : p ≡ q → ⊥ = eqb-false p q e in
-        (has_all (λ x. x < q) (put_down p qs) (λ x m. elim (put_down_cases p qs x m) as (λ _. x < q) [
-          | inl f ↦ elim (cases_lt p q) as (λ _. x < q) [ inl g ↦ omega (arith, f, g) | inr g ↦ absurd (other (omega (arith, g, no_less))) ]
-          | inr g ↦ all_has (λ y. y < q) qs x h.0 g
-        ]), rest)
+        let other : p ≡ q → ⊥ = eqb-false p q e in (
+          has_all (λ x. x < q) (put_down p qs) (λ x m. elim (put_down_cases p qs x m) as (λ _. x < q) [
+            | inl f ↦ elim (cases_lt p q) as (λ _. x < q) [ inl g ↦ omega (arith, f, g) | inr g ↦ absurd (other (omega (arith, g, no_less))) ]
+            | inr g ↦ all_has (λ y. y < q) qs x h.0 g
+          ]),
+          rest,
+        )
 
 pub blocks_in_order : (xs : List ℕ) → IsInOrder Above (blocks_down xs)
 blocks_in_order [] = tt

@@ -1,7 +1,7 @@
 -- What numbers in order are cut into: for each of the marks the targets.
-use Rattle.std.proofs.Common.{◌≡◌, ℕ, zero, suc, ◌+◌, ◌-◌, ◌*◌, ◌/◌, ◌%◌, ◌^◌, ◌<◌, ◌≤◌, ◌⊎◌, Bool, true, false, List, [], ◌∷◌, length, take, drop, get_or, map, inl, inr, refl, sym, ap, subst, arith, ◌∙◌}
+use Rattle.std.proofs.Common.{◌≡◌, ℕ, ◌^◌, ◌<◌, ◌≤◌, Bool, true, false, List, [], ◌∷◌, map, inl, inr, refl, sym, ap, subst, arith, ◌∙◌}
 use Rattle.std.specs.Prelude.{if◌then◌else◌, nat_eq}
-use Rattle.std.specs.List.{AllByRecursion, filter}
+use Rattle.std.specs.List.{filter}
 use Rattle.std.proofs.lemmas.Bool.{eqb-true, eqb-false, eq-eqb, cases_lt}
 use Rattle.span_core.specs.Lists.{Has, IsInOrder}
 use Rattle.span_core.proofs.HasLaws.{Has-map, Has-map_cases}
@@ -124,11 +124,13 @@ cut_down (n ∷ ns) h = go (cut ns) (cut_down ns h.1) (λ e m. let r = cut_some 
         by true t = down
         by false t =
             let other : marks_of n ≡ e.marks → ⊥ = eqb-false (marks_of n) e.marks t in
-            let less : e.marks < marks_of n = below (low e (inl refl)) other in
-            (has_all (λ m. m < marks_of n) (e.marks ∷ marks_in es) (λ m k. elim k as (λ _. m < marks_of n) [
-              | inl f ↦ omega (arith, f, less)
-              | inr g ↦ omega (arith, less, all_has (λ y. y < e.marks) (marks_in es) m down.0 g)
-            ]), down)
+            let less : e.marks < marks_of n = below (low e (inl refl)) other in (
+              has_all (λ m. m < marks_of n) (e.marks ∷ marks_in es) (λ m k. elim k as (λ _. m < marks_of n) [
+                | inl f ↦ omega (arith, f, less)
+                | inr g ↦ omega (arith, less, all_has (λ y. y < e.marks) (marks_in es) m down.0 g)
+              ]),
+              down,
+            )
           where
             below : {a b : ℕ} → a ≤ b → (b ≡ a → ⊥) → a < b
             below {a} {b} l o = elim (cases_lt a b) as (λ _. a < b) [ inl k ↦ k | inr k ↦ absurd (o (omega (arith, l, k))) ]
@@ -140,9 +142,11 @@ cut_up (x ∷ ns) h small e m = go (λ f k. cut_up ns h.1 (λ n g. small n (inr 
   where
     go : ((f : Reach) → Has (cut ns) f → IsInOrder ◌<◌ f.to) → Joined x (cut ns) e → IsInOrder ◌<◌ e.to
     go rest (alone is) = subst (λ (r : Reach). IsInOrder ◌<◌ r.to) (sym is) (tt, tt)
-    go rest (longer f k same is) = subst (λ (r : Reach). IsInOrder ◌<◌ r.to) (sym is)
-        (has_all (λ q. to_of x < q) f.to (λ q l. let r = has_cut ns f q k l in
-          omega (arith, targets_rise x r.0 (all_has (λ y. x < y) ns r.0 h.0 r.1) (small r.0 (inr r.1)) (same ∙ sym r.2), r.3)), rest f k)
+    go rest (longer f k same is) = subst (λ (r : Reach). IsInOrder ◌<◌ r.to) (sym is) (
+      has_all (λ q. to_of x < q) f.to (λ q l. let r = has_cut ns f q k l in
+          omega (arith, targets_rise x r.0 (all_has (λ y. x < y) ns r.0 h.0 r.1) (small r.0 (inr r.1)) (same ∙ sym r.2), r.3)),
+      rest f k,
+    )
     go rest (there k) = rest e k
 
 -- in a list whose marks descend, marks tell elements
@@ -192,30 +196,30 @@ module _ (ways : List Way) (narrow : AreNarrow ways) where
   marks_are =
       blocks_are (map (λ (y : Way). y.marks) ways) (marks_in (cut Codes)) down
       (λ m h.
-        let e = Has-map_cases (λ (r : Reach). r.marks) (cut Codes) m h in
-        let n = cut_some Codes e.0 e.1 in
-        let y = way_there n.0 n.1 in
-        subst (Has (map (λ (y : Way). y.marks) ways)) (sym (code_marks y.0 y.1) ∙ (ap marks_of y.2 ∙ (n.2 ∙ e.2))) (Has-map (λ (y : Way). y.marks) ways y.0 y.1))
+      let e = Has-map_cases (λ (r : Reach). r.marks) (cut Codes) m h in
+      let n = cut_some Codes e.0 e.1 in
+      let y = way_there n.0 n.1 in
+      subst (Has (map (λ (y : Way). y.marks) ways)) (sym (code_marks y.0 y.1) ∙ (ap marks_of y.2 ∙ (n.2 ∙ e.2))) (Has-map (λ (y : Way). y.marks) ways y.0 y.1))
       (λ m h.
-        let y = Has-map_cases (λ (y : Way). y.marks) ways m h in
-        let e = cut_has Codes (code_of y.0) (code_there y.0 y.1) in
-        subst (Has (marks_in (cut Codes))) (e.2 ∙ (code_marks y.0 y.1 ∙ y.2)) (Has-map (λ (r : Reach). r.marks) (cut Codes) e.0 e.1))
+      let y = Has-map_cases (λ (y : Way). y.marks) ways m h in
+      let e = cut_has Codes (code_of y.0) (code_there y.0 y.1) in
+      subst (Has (marks_in (cut Codes))) (e.2 ∙ (code_marks y.0 y.1 ∙ y.2)) (Has-map (λ (r : Reach). r.marks) (cut Codes) e.0 e.1))
 
   reach_is : (e : Reach) → Has (cut Codes) e → e ≡ reach_with ways e.marks
   reach_is e h =
       let to = set_is (map (λ (y : Way). y.to) (filter (λ (y : Way). nat_eq y.marks e.marks) ways)) e.to (cut_up Codes (set_in_order (map code_of ways)) code_small e h)
-          (λ q k.
-            let n = has_cut Codes e q h k in
-            let y = way_there n.0 n.1 in
-            subst (Has (map (λ (y : Way). y.to) (filter (λ (y : Way). nat_eq y.marks e.marks) ways))) (sym (code_to y.0 y.1) ∙ (ap to_of y.2 ∙ n.3))
-            (Has-map (λ (y : Way). y.to) (filter (λ (y : Way). nat_eq y.marks e.marks) ways) y.0
-              (has_filter (λ (y : Way). nat_eq y.marks e.marks) ways y.0 y.1 (eq-eqb y.0.marks e.marks (sym (code_marks y.0 y.1) ∙ (ap marks_of y.2 ∙ n.2))))))
-          (λ q k.
-            let y = Has-map_cases (λ (y : Way). y.to) (filter (λ (y : Way). nat_eq y.marks e.marks) ways) q k in
-            let f = filter_cases (λ (y : Way). nat_eq y.marks e.marks) ways y.0 y.1 in
-            let r = cut_has Codes (code_of y.0) (code_there y.0 f.0) in
-            let same : r.0 ≡ e = told_by_marks (cut Codes) down r.0 e r.1 h (r.2 ∙ (code_marks y.0 f.0 ∙ eqb-true y.0.marks e.marks f.1)) in
-            subst (λ (x : Reach). Has x.to q) same (subst (Has r.0.to) (code_to y.0 f.0 ∙ y.2) r.3)) in
+      (λ q k.
+      let n = has_cut Codes e q h k in
+      let y = way_there n.0 n.1 in
+      subst (Has (map (λ (y : Way). y.to) (filter (λ (y : Way). nat_eq y.marks e.marks) ways))) (sym (code_to y.0 y.1) ∙ (ap to_of y.2 ∙ n.3))
+      (Has-map (λ (y : Way). y.to) (filter (λ (y : Way). nat_eq y.marks e.marks) ways) y.0
+      (has_filter (λ (y : Way). nat_eq y.marks e.marks) ways y.0 y.1 (eq-eqb y.0.marks e.marks (sym (code_marks y.0 y.1) ∙ (ap marks_of y.2 ∙ n.2))))))
+      (λ q k.
+      let y = Has-map_cases (λ (y : Way). y.to) (filter (λ (y : Way). nat_eq y.marks e.marks) ways) q k in
+      let f = filter_cases (λ (y : Way). nat_eq y.marks e.marks) ways y.0 y.1 in
+      let r = cut_has Codes (code_of y.0) (code_there y.0 f.0) in
+      let same : r.0 ≡ e = told_by_marks (cut Codes) down r.0 e r.1 h (r.2 ∙ (code_marks y.0 f.0 ∙ eqb-true y.0.marks e.marks f.1)) in
+      subst (λ (x : Reach). Has x.to q) same (subst (Has r.0.to) (code_to y.0 f.0 ∙ y.2) r.3)) in
       (λ i. let r : Reach = record { marks = e.marks; to = to i } in r)
 
   -- what the numbers of ways are cut into

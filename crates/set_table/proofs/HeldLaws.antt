@@ -1,22 +1,21 @@
 -- What a table holds, and what it holds once an answer is kept.
 use Rattle.std.proofs.Common.{◌≡◌, ℕ, zero, suc, ◌+◌, ◌-◌, ◌*◌, ◌<◌, ◌≤◌, ◌⊎◌, Bool, true, false, cond, List, [], ◌∷◌, ◌++◌, length, map, take, drop, get_or, set, Some, inl, inr, refl, sym, ap, subst, arith, ◌∙◌, length-append}
-use Rattle.std.specs.Prelude.{if◌then◌else◌, nat_eq, ◌&&◌, ◌||◌, slice_get, slice_index, replicate}
+use Rattle.std.specs.Prelude.{if◌then◌else◌, nat_eq, ◌&&◌, ◌||◌, slice_get, replicate}
 use Rattle.std.specs.List.{filter, list_any, sum_by}
-use Rattle.std.specs.Str.{bytes_eq}
 use Rattle.std.specs.FinSet as bytes
 use Rattle.std.proofs.Math.Seq.{get_or-append_right}
 use Rattle.std.proofs.lemmas.Bool.{eqb-true, eq-eqb, cases_lt}
-use Rattle.std.proofs.lemmas.List.{append-nil, length-map, length-set, length-replicate, get_or-replicate, get_or-set_same, get_or-set_other, get_or_append_left, get_or_past, get_or_read, map-append, take_all}
+use Rattle.std.proofs.lemmas.List.{length-set, length-replicate, get_or-replicate, get_or-set_same, get_or-set_other, get_or_append_left, get_or_past, get_or_read, map-append, take_all}
 use Rattle.std.proofs.lemmas.List.Sums.{sum_by-append}
-use Rattle.std.proofs.lemmas.Option.{slice_get_within, slice_get-get_or}
+use Rattle.std.proofs.lemmas.Option.{slice_get-get_or}
 use Rattle.span_core.specs.declared.edge.Edge.{Edge}
 use Rattle.span_core.specs.Lists.{AreDistinct, Has, IsInOrder}
-use Rattle.span_core.proofs.HasLaws.{Has-map, Has-map_cases, Has-append_cases, Has-append_left, Has-append_right, Has-slice_get, Has-take, place_of-Has}
+use Rattle.span_core.proofs.HasLaws.{Has-map, Has-map_cases, Has-append_cases, Has-slice_get, Has-take, place_of-Has}
 use Rattle.marked_automaton.specs.declared.way.Way.{Way}
 use Rattle.marked_automaton.specs.declared.way.Stop.{Stop}
-use Rattle.marked_automaton.specs.Automaton.{Automaton, IsMarked, IsWhole, Marked}
+use Rattle.marked_automaton.specs.Automaton.{Automaton, IsWhole, Marked}
 use Rattle.marked_automaton.proofs.Listed.{get_map, get_map_cases, same_or_not, some_same}
-use Rattle.marked_automaton.proofs.Passing.{filter_cases, has_filter, left_true, right_true, both_true}
+use Rattle.marked_automaton.proofs.Passing.{filter_cases, left_true, right_true, both_true}
 use Rattle.automaton_reading.specs.Reading.{Asked, byte_read, rest_taken, ended, asked_same, set_of, blocks_down, is_among, Reach, reach_with, rest_edge, ways_taken, edges}
 use Rattle.automaton_reading.proofs.Determined.{has_set}
 use Rattle.set_table.specs.declared.answer.Question.{Question}
@@ -24,7 +23,7 @@ use Rattle.set_table.specs.declared.answer.Question.TheVariants.{Byte, Rest, End
 use Rattle.set_table.specs.declared.answer.Answer.{Answer}
 use Rattle.set_table.specs.declared.store.Store.{Store}
 use Rattle.set_table.specs.Named.{IsLongerBy}
-use Rattle.set_table.specs.Tabled.{Asking, HasEdges, HasEnds, asking, idle_of, IsStateSet, IsTabled, Tabled, asked_edges, asked_first, asked_weight, asking_same, once_asked, was_asked, weight, edge_named, reached, set_at, sets_weight, with_set, with_sets}
+use Rattle.set_table.specs.Tabled.{Asking, HasEdges, HasEnds, asking, idle_of, IsStateSet, IsTabled, Tabled, asked_edges, asked_first, asked_weight, asking_same, once_asked, weight, edge_named, reached, set_at, sets_weight, with_set, with_sets}
 use Rattle.set_table.specs.Answered.{Adds, IsAnswer, IsHeld, IsQuestion, IsSound, tabled, answer_in, asked_by, asking_of, askings, end_reach, part, place_in, place_of, room, with_places}
 use Rattle.set_table.proofs.Ascending.{Above, all_has, has_all, blocks_in_order, set_in_order}
 use Rattle.set_table.proofs.NamingLaws.{named_stay}
@@ -150,10 +149,10 @@ reached_states A whole S states (byte_read b) s h =
     subst (IsStateSet A) is (record {
       order = set_in_order (map (λ (y : Way). y.to) ys);
       states = λ p k.
-        let y = Has-map_cases (λ (y : Way). y.to) ys p (has_set (map (λ (y : Way). y.to) ys) p k) in
-        let f = filter_cases (λ (y : Way). nat_eq y.marks m.0) (ways_taken A S b) y.0 y.1 in
-        let g = filter_cases (λ z. is_among S z.from && bytes.contains z.bytes b) A.ways y.0 f.0 in
-        omega (arith, whole.tos y.0 g.0, y.2);
+          let y = Has-map_cases (λ (y : Way). y.to) ys p (has_set (map (λ (y : Way). y.to) ys) p k) in
+          let f = filter_cases (λ (y : Way). nat_eq y.marks m.0) (ways_taken A S b) y.0 y.1 in
+          let g = filter_cases (λ z. is_among S z.from && bytes.contains z.bytes b) A.ways y.0 f.0 in
+          omega (arith, whole.tos y.0 g.0, y.2);
     })
 reached_states A whole S states rest_taken s h =
     let is = rest_reaches (filter (is_among A.idle) S) s h in
@@ -305,6 +304,7 @@ module _ (A : Automaton) (sets0 sets : List (List ℕ)) (answers0 : List Answer)
           by (inr m) =
               let z : 0 ≡ suc i = sym (places_new (272 * length sets) numbers0 (place_in k q) (omega (arith, m, held.places))) ∙ (sym (elsewhere (place_in k q) other) ∙ e) in
               absurd (omega (arith, z))
+
       go : (place_in k q ≡ Here) ⊎ (place_in k q ≡ Here → ⊥) → (y : Answer) × (slice_get (answers0 ++ x ∷ []) i ≡ Some y) × (y.set ≡ k) × (y.question ≡ q)
       go (inl same) =
           let a = place_apart k x.set q x.question h question same in
@@ -316,12 +316,12 @@ module _ (A : Automaton) (sets0 sets : List (List ℕ)) (answers0 : List Answer)
   there_more : (i : ℕ) (y : Answer) → slice_get (answers0 ++ x ∷ []) i ≡ Some y → get_or Numbers (place_in y.set y.question) 0 ≡ suc i
   there_more i y e = elim (get_cases answers0 x i y e) as (λ _. get_or Numbers (place_in y.set y.question) 0 ≡ suc i) [
     | inl k ↦
-      let has = Has-slice_get answers0 i y k in
-      let a = held.answered y has in
-      let other : place_in y.set y.question ≡ Here → ⊥ = λ same. let p = place_apart y.set x.set y.question x.question a.question question same in
-          absent (subst (Has (askings answers0)) (λ j. let r : Asking = record { set = p.0 j; ask = asked_by (p.1 j) } in r) (Has-map asking_of answers0 y has)) in
-      let b = place_within y.set (length sets0) y.question a.question a.set in
-      elsewhere (place_in y.set y.question) other ∙ (places_old (272 * length sets) numbers0 (place_in y.set y.question) (omega (arith, b, held.places)) ∙ held.there i y k)
+        let has = Has-slice_get answers0 i y k in
+        let a = held.answered y has in
+        let other : place_in y.set y.question ≡ Here → ⊥ = λ same. let p = place_apart y.set x.set y.question x.question a.question question same in
+        absent (subst (Has (askings answers0)) (λ j. let r : Asking = record { set = p.0 j; ask = asked_by (p.1 j) } in r) (Has-map asking_of answers0 y has)) in
+        let b = place_within y.set (length sets0) y.question a.question a.set in
+        elsewhere (place_in y.set y.question) other ∙ (places_old (272 * length sets) numbers0 (place_in y.set y.question) (omega (arith, b, held.places)) ∙ held.there i y k)
     | inr k ↦ ap (λ (z : Answer). get_or Numbers (place_in z.set z.question) 0) (sym k.1) ∙ (here ∙ (let n : 1 + length answers0 ≡ suc i = omega (arith, k.0) in n))
   ]
 
@@ -331,10 +331,10 @@ module _ (A : Automaton) (sets0 sets : List (List ℕ)) (answers0 : List Answer)
       let a : asked_weight A sets (askings (answers0 ++ x ∷ [])) ≡ sum_by f (askings answers0 ++ asking_of x ∷ []) = ap (sum_by f) (map-append asking_of answers0 (x ∷ [])) in
       let b = sum_by-append f (askings answers0) (asking_of x ∷ []) in
       let c = weight_stays A sets0 sets es0 es ends0 ends longer adds.edges_longer adds.ends_longer held.targets (askings answers0)
-          (λ r h. let y = Has-map_cases asking_of answers0 r h in omega (arith, (held.answered y.0 y.1).set, ap (λ (z : Asking). z.set) y.2)) in
+      (λ r h. let y = Has-map_cases asking_of answers0 r h in omega (arith, (held.answered y.0 y.1).set, ap (λ (z : Asking). z.set) y.2)) in
       let d : sum_by f (asking_of x ∷ []) ≡ 1 + length (edges A (set_at sets x.set) (asked_by x.question)) = one (f (asking_of x)) in
       let e : length (edges A (set_at sets x.set) (asked_by x.question)) ≡ length (edges A (set_at sets0 x.set) (asked_by x.question)) =
-          ap (λ zs. length (edges A zs (asked_by x.question))) (set_kept A sets0 sets es0 es ends0 ends longer adds.edges_longer adds.ends_longer held.targets x.set within) in
+      ap (λ zs. length (edges A zs (asked_by x.question))) (set_kept A sets0 sets es0 es ends0 ends longer adds.edges_longer adds.ends_longer held.targets x.set within) in
       omega (arith, a, b, c, d, e, held.weighs, adds.weighs)
     where
       one : (n : ℕ) → sum_by (λ (r : Asking). n) (asking_of x ∷ []) ≡ n
@@ -471,9 +471,9 @@ is_tabled M limit w s sound apart = record {
   sets_apart = apart;
   asked = λ r h. let y = Has-map_cases asking_of s.answers.items r h in omega (arith, (sound.held.answered y.0 y.1).set, ap (λ (z : Asking). z.set) y.2);
   asked_apart = apart_by_places (askings s.answers.items) (λ i j r e f.
-    let x = get_map_cases asking_of s.answers.items i r e in
-    let y = get_map_cases asking_of s.answers.items j r f in
-    places i j x.0 y.0 x.1 y.1 (x.2 ∙ sym y.2));
+      let x = get_map_cases asking_of s.answers.items i r e in
+      let y = get_map_cases asking_of s.answers.items j r f in
+      places i j x.0 y.0 x.1 y.1 (x.2 ∙ sym y.2));
   within = omega (arith, sound.held.weighs, sound.light);
 }
   where
@@ -511,7 +511,7 @@ named_down : (sets : List (List ℕ)) (es : List Edge) → IsInOrder Above (map 
 named_down sets [] h = tt
 named_down sets (e ∷ es) h = (
   has_all (λ (f : Edge). f.marks < e.marks) es (λ f m. all_has (λ n. n < e.marks) (map (λ (r : Reach). r.marks) (map (edge_named sets) es)) f.marks h.0
-    (Has-map (λ (r : Reach). r.marks) (map (edge_named sets) es) (edge_named sets f) (Has-map (edge_named sets) es f m))),
+      (Has-map (λ (r : Reach). r.marks) (map (edge_named sets) es) (edge_named sets f) (Has-map (edge_named sets) es f m))),
   named_down sets es h.1,
 )
 

@@ -1,17 +1,15 @@
 -- Edges that are made one by one.
-use Rattle.std.proofs.Common.{◌≡◌, ℕ, zero, suc, ◌+◌, ◌-◌, ◌*◌, ◌<◌, ◌≤◌, ◌⊎◌, List, [], ◌∷◌, ◌++◌, length, map, take, drop, Some, inl, inr, refl, sym, ap, subst, arith, ◌∙◌, append_assoc, length-append, length-drop}
-use Rattle.std.specs.Prelude.{slice_get}
-use Rattle.std.specs.List.{sum_by}
-use Rattle.std.proofs.Math.Seq.{drop-nil, drop-length}
+use Rattle.std.proofs.Common.{◌≡◌, ℕ, zero, suc, ◌+◌, ◌-◌, ◌*◌, ◌<◌, ◌≤◌, ◌⊎◌, List, [], ◌∷◌, ◌++◌, length, map, take, drop, inl, inr, refl, sym, ap, subst, arith, ◌∙◌, append_assoc, length-append, length-drop}
+use Rattle.std.proofs.Math.Seq.{drop-nil}
 use Rattle.std.proofs.lemmas.List.{append-nil, length-map, map-append}
 use Rattle.std.proofs.lemmas.List.Sums.{sum_by-append}
 use Rattle.span_core.specs.declared.edge.Edge.{Edge}
 use Rattle.span_core.specs.Lists.{Has}
 use Rattle.span_core.proofs.HasLaws.{Has-append_cases}
 use Rattle.automaton_reading.specs.Reading.{Reach}
-use Rattle.set_table.specs.Cut.{cut, to_of}
+use Rattle.set_table.specs.Cut.{cut}
 use Rattle.set_table.specs.Named.{IsLongerBy, PutsEdges, PutsRun, run}
-use Rattle.set_table.specs.Tabled.{edge_named, set_at, sets_weight, with_set, with_sets}
+use Rattle.set_table.specs.Tabled.{edge_named, sets_weight, with_set, with_sets}
 use Rattle.set_table.proofs.SetsLaws.{at_place, longer_itself, longer_then, set_stays, with_set_cases, with_set_longer}
 
 -- what a set weighs where it is put in
@@ -104,14 +102,14 @@ naming_more codes sets0 sets new edges0 edges more at w count added n p =
     record {
       within = omega (arith, p.within, left, n.within);
       known =
-        ap (λ (x : List (List ℕ)). with_sets x (map (λ (e : Reach). e.to) (cut (drop (at + count) codes)))) p.known
-        ∙ (ap (λ (x : List Reach). with_sets sets (map (λ (e : Reach). e.to) x)) (sym cuts) ∙ n.known);
+          ap (λ (x : List (List ℕ)). with_sets x (map (λ (e : Reach). e.to) (cut (drop (at + count) codes)))) p.known
+          ∙ (ap (λ (x : List Reach). with_sets sets (map (λ (e : Reach). e.to) x)) (sym cuts) ∙ n.known);
       made = n.made ++ p.edge ∷ [];
       pushed = p.pushed ∙ (ap (λ (x : List Edge). x ++ p.edge ∷ []) n.pushed ∙ append_assoc edges0 n.made (p.edge ∷ []));
       named =
-        ap (λ (x : List Reach). x ++ cut (drop (at + count) codes)) (map-append (edge_named new) n.made (p.edge ∷ []))
-        ∙ (append_assoc (map (edge_named new) n.made) (edge_named new p.edge ∷ []) (cut (drop (at + count) codes))
-        ∙ ((λ i. stay i ++ last i ∷ cut (drop (at + count) codes)) ∙ (ap (λ (x : List Reach). map (edge_named sets) n.made ++ x) (sym cuts) ∙ n.named)));
+          ap (λ (x : List Reach). x ++ cut (drop (at + count) codes)) (map-append (edge_named new) n.made (p.edge ∷ []))
+          ∙ (append_assoc (map (edge_named new) n.made) (edge_named new p.edge ∷ []) (cut (drop (at + count) codes))
+          ∙ ((λ i. stay i ++ last i ∷ cut (drop (at + count) codes)) ∙ (ap (λ (x : List Reach). map (edge_named sets) n.made ++ x) (sym cuts) ∙ n.named)));
       numbers = λ e h. elim (Has-append_cases n.made (p.edge ∷ []) e h) [
         | inl k ↦ let a = n.numbers e k in omega (arith, a, ap length longer.1, length-append sets longer.0)
         | inr k ↦ elim k as (λ _. e.to < length new) [ inl f ↦ subst (λ (x : Edge). x.to < length new) f there.1 | inr f ↦ absurd f ]

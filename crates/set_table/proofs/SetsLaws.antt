@@ -1,16 +1,15 @@
 -- Sets that are kept in an index.
-use Rattle.std.proofs.Common.{◌≡◌, ℕ, zero, suc, ◌+◌, ◌<◌, ◌≤◌, ◌⊎◌, Bool, true, false, List, [], ◌∷◌, ◌++◌, length, map, get_or, Some, inl, inr, refl, sym, ap, subst, arith, ◌∙◌, append_assoc}
-use Rattle.std.specs.Prelude.{if◌then◌else◌, ◌||◌, slice_get, slice_index_or}
-use Rattle.std.specs.List.{list_any, sum_by, IsDistinct}
+use Rattle.std.proofs.Common.{◌≡◌, ℕ, zero, suc, ◌<◌, ◌⊎◌, Bool, true, false, List, [], ◌∷◌, ◌++◌, length, map, Some, inl, inr, refl, sym, ap, arith, ◌∙◌, append_assoc}
+use Rattle.std.specs.Prelude.{if◌then◌else◌, ◌||◌, slice_get}
+use Rattle.std.specs.List.{list_any, IsDistinct}
 use Rattle.std.specs.Str.{bytes_eq}
 use Rattle.std.proofs.lemmas.List.{append-nil, map-append}
-use Rattle.std.proofs.lemmas.List.Sums.{sum_by-append}
 use Rattle.std.proofs.lemmas.Slice.Eq.{bytes_eq-Decides}
 use Rattle.indexmap.specs.IndexSet.{insert_key}
-use Rattle.span_core.specs.Lists.{Has, AreDistinct}
-use Rattle.span_core.proofs.HasLaws.{Has-map, Has-map_cases, Has-append_left}
+use Rattle.span_core.specs.Lists.{AreDistinct}
+use Rattle.span_core.proofs.HasLaws.{Has-map_cases}
 use Rattle.set_table.specs.Named.{IsLongerBy}
-use Rattle.set_table.specs.Tabled.{set_at, sets_weight, with_set, with_sets}
+use Rattle.set_table.specs.Tabled.{set_at, with_set, with_sets}
 use Rattle.set_table.proofs.Ascending.{all_has}
 
 pub same_bytes : (x y : List ℕ) → bytes_eq x y ≡ true → x ≡ y
@@ -41,10 +40,10 @@ module _ {X : Type 0} (f : X → List ℕ) (eq : X → X → Bool) (is : (x y : 
   lists_apart [] d = tt
   lists_apart (v ∷ vs) d = (
     (λ h.
-      let m = Has-map_cases f vs (f v) h in
-      let e : eq v m.0 ≡ false = all_has (λ y. eq v y ≡ false) vs m.0 d.0 m.1 in
-      let t : eq v m.0 ≡ true = is v m.0 ∙ (ap (bytes_eq (f v)) m.2 ∙ bytes_itself (f v)) in
-      differ (sym e ∙ t)),
+        let m = Has-map_cases f vs (f v) h in
+        let e : eq v m.0 ≡ false = all_has (λ y. eq v y ≡ false) vs m.0 d.0 m.1 in
+        let t : eq v m.0 ≡ true = is v m.0 ∙ (ap (bytes_eq (f v)) m.2 ∙ bytes_itself (f v)) in
+        differ (sym e ∙ t)),
     lists_apart vs d.1,
   )
     where

@@ -1,8 +1,8 @@
 -- Numbers in blocks, place by place.
-use Rattle.std.proofs.Common.{◌≡◌, ℕ, zero, suc, ◌+◌, ◌-◌, ◌*◌, ◌/◌, ◌%◌, ◌<◌, ◌≤◌, ◌⊎◌, List, [], ◌∷◌, ◌++◌, length, take, drop, get_or, set, inl, inr, refl, sym, ap, subst, arith, ◌∙◌, length-append, length-drop, length-take}
+use Rattle.std.proofs.Common.{◌≡◌, ℕ, zero, suc, ◌+◌, ◌-◌, ◌*◌, ◌/◌, ◌%◌, ◌<◌, ◌≤◌, ◌⊎◌, List, [], ◌∷◌, ◌++◌, length, take, drop, get_or, set, inl, inr, refl, sym, ap, arith, ◌∙◌, length-append, length-drop, length-take}
 use Rattle.std.specs.Prelude.{replicate}
 use Rattle.std.proofs.Math.Seq.{get_or-append_right}
-use Rattle.std.proofs.lemmas.List.{append-nil, length-set, length-replicate, get_or-drop, get_or-take, get_or-set_same, get_or-set_other, get_or_append_left, get_or_past, take_all}
+use Rattle.std.proofs.lemmas.List.{length-set, length-replicate, get_or-drop, get_or-take, get_or-set_same, get_or-set_other, get_or_append_left, get_or_past, take_all}
 use Rattle.std.proofs.lemmas.Bool.{cases_lt}
 use Rattle.std.proofs.lemmas.Grind.{same_number_lists}
 use Rattle.marked_automaton.proofs.Listed.{same_or_not}
@@ -121,8 +121,8 @@ spread_grown runs numbers n s l =
     let more : length (with_places n runs) ≡ n = omega (arith, length-append runs (replicate (n - length runs) 0), length-replicate {A = ℕ} (n - length runs) 0, l) in
     let wide : length (with_places (16 * n) Old) ≡ 16 * n = omega (arith, length-append Old (replicate (16 * n - length Old) 0), length-replicate {A = ℕ} (16 * n - length Old) 0, l, len) in
     spread_same (with_places n runs) numbers (with_places (16 * n) Old) (are_within (with_places n runs) numbers new) (omega (arith, wide, more)) (λ i j h m.
-      let run = grown_run runs (n - length runs) i in
-      ap (λ k. get_or numbers (16 * k + j) 0) run ∙ (by i j m (cases_lt i (length runs)) ∙ sym (grown_run Old (16 * n - length Old) (16 * i + j))))
+    let run = grown_run runs (n - length runs) i in
+    ap (λ k. get_or numbers (16 * k + j) 0) run ∙ (by i j m (cases_lt i (length runs)) ∙ sym (grown_run Old (16 * n - length Old) (16 * i + j))))
   where
     by : (i j : ℕ) → j < 16 → (i < length runs) ⊎ (length runs ≤ i) → get_or numbers (16 * get_or runs i 0 + j) 0 ≡ get_or (spread runs numbers) (16 * i + j) 0
     by i j m (inl h) = sym (spread_at runs numbers i j (are_within runs numbers s) h m)
@@ -147,10 +147,10 @@ spread_cut runs numbers n s =
     let new = cut_spread runs numbers n s in
     let len = spread_length runs numbers w in
     spread_same (take n runs) numbers (take (16 * n) Old) (are_within (take n runs) numbers new) (omega (arith, length-take (16 * n) Old, length-take n runs, len)) (λ i j h m.
-      let below : i < n = omega (arith, h, length-take n runs) in
-      let there : i < length runs = omega (arith, h, length-take n runs) in
-      ap (λ k. get_or numbers (16 * k + j) 0) (get_or-take n runs i 0 below)
-      ∙ (sym (spread_at runs numbers i j w there m) ∙ sym (get_or-take (16 * n) Old (16 * i + j) 0 (omega (arith, below, m)))))
+    let below : i < n = omega (arith, h, length-take n runs) in
+    let there : i < length runs = omega (arith, h, length-take n runs) in
+    ap (λ k. get_or numbers (16 * k + j) 0) (get_or-take n runs i 0 below)
+    ∙ (sym (spread_at runs numbers i j w there m) ∙ sym (get_or-take (16 * n) Old (16 * i + j) 0 (omega (arith, below, m)))))
 
 -- ---- a block more, for a run that had that of zeros
 
@@ -183,6 +183,7 @@ module _ (runs numbers : List ℕ) (run : ℕ) (s : IsSpread runs numbers) (with
       by_within : (i : ℕ) → (i ≡ run) ⊎ (i ≡ run → ⊥) → get_or Opened i 0 < s.blocks + 1
       by_within i (inl e) = omega (arith, ap (λ k. get_or Opened k 0) e, opened_here)
       by_within i (inr e) = omega (arith, opened_else i e, s.within i)
+
       by_own : (i j : ℕ) → get_or Opened i 0 ≡ get_or Opened j 0 → 0 < get_or Opened i 0 → (i ≡ run) ⊎ (i ≡ run → ⊥) → (j ≡ run) ⊎ (j ≡ run → ⊥) → i ≡ j
       by_own i j e p (inl a) (inl b) = a ∙ sym b
       by_own i j e p (inl a) (inr b) = absurd (omega (arith, ap (λ k. get_or Opened k 0) a, opened_here, opened_else j b, s.within j, e))
@@ -194,8 +195,8 @@ module _ (runs numbers : List ℕ) (run : ℕ) (s : IsSpread runs numbers) (with
       let w = are_within runs numbers s in
       let len = spread_length runs numbers w in
       spread_same Opened More (spread runs numbers) (are_within Opened More opened) (omega (arith, len, length-set {A = ℕ} runs run s.blocks)) (λ i j h m.
-        let there : i < length runs = omega (arith, h, length-set {A = ℕ} runs run s.blocks) in
-        by i j there m (same_or_not i run))
+      let there : i < length runs = omega (arith, h, length-set {A = ℕ} runs run s.blocks) in
+      by i j there m (same_or_not i run))
     where
       by : (i j : ℕ) → i < length runs → j < 16 → (i ≡ run) ⊎ (i ≡ run → ⊥) → get_or More (16 * get_or Opened i 0 + j) 0 ≡ get_or (spread runs numbers) (16 * i + j) 0
       by i j l m (inl e) =
@@ -236,7 +237,7 @@ module _ (runs numbers : List ℕ) (p n : ℕ) (s : IsSpread runs numbers) (with
       let w = are_within runs numbers s in
       let len = spread_length runs numbers w in
       spread_same runs (set numbers Here n) (set (spread runs numbers) p n) (are_within runs (set numbers Here n) written) (omega (arith, len, length-set {A = ℕ} (spread runs numbers) p n)) (λ i j h m.
-        by i j h m (same_or_not (16 * i + j) p))
+      by i j h m (same_or_not (16 * i + j) p))
     where
       by : (i j : ℕ) → i < length runs → j < 16 → (16 * i + j ≡ p) ⊎ (16 * i + j ≡ p → ⊥) → get_or (set numbers Here n) (16 * get_or runs i 0 + j) 0 ≡ get_or (set (spread runs numbers) p n) (16 * i + j) 0
       by i j l m (inl e) =
@@ -248,9 +249,9 @@ module _ (runs numbers : List ℕ) (p n : ℕ) (s : IsSpread runs numbers) (with
       by i j l m (inr e) =
           let split = place_split p in
           get_or-set_other numbers Here (16 * get_or runs i 0 + j) n 0 (λ same.
-            let block : get_or runs i 0 ≡ get_or runs (p / 16) 0 = omega (arith, same, m) in
-            let run : i ≡ p / 16 = s.own i (p / 16) block (omega (arith, mine, block)) in
-            e (omega (arith, run, same, block, split)))
+          let block : get_or runs i 0 ≡ get_or runs (p / 16) 0 = omega (arith, same, m) in
+          let run : i ≡ p / 16 = s.own i (p / 16) block (omega (arith, mine, block)) in
+          e (omega (arith, run, same, block, split)))
           ∙ (sym (spread_at runs numbers i j (are_within runs numbers s) l m) ∙ sym (get_or-set_other (spread runs numbers) p (16 * i + j) n 0 e))
 
 -- ---- what a vector is when it was made longer

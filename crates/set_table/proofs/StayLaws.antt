@@ -1,6 +1,6 @@
 -- Bytes on which a set stays.
-use Rattle.std.proofs.Common.{◌≡◌, ℕ, zero, suc, ◌+◌, ◌-◌, ◌<◌, ◌≤◌, ◌⊎◌, Bool, true, false, List, [], ◌∷◌, ◌++◌, length, map, get_or, set as put, Some, inl, inr, refl, sym, ap, subst, arith, ◌∙◌, append_assoc, length-append}
-use Rattle.std.specs.Prelude.{slice_get, nat_eq, ◌||◌, IsTrue, ◌↔◌}
+use Rattle.std.proofs.Common.{◌≡◌, ℕ, zero, suc, ◌+◌, ◌-◌, ◌<◌, ◌≤◌, ◌⊎◌, Bool, true, false, List, [], ◌∷◌, ◌++◌, length, map, get_or, set as put, inl, inr, refl, sym, ap, subst, arith, ◌∙◌, append_assoc, length-append}
+use Rattle.std.specs.Prelude.{nat_eq, ◌||◌, IsTrue, ◌↔◌}
 use Rattle.std.specs.Ordering.{nat_cmp}
 use Rattle.std.specs.Cmp.{nat_cmp_total, unsigned_tied}
 use Rattle.std.specs.FinSet.{contains-union, contains-insert, contains-empty}
@@ -21,7 +21,7 @@ use Rattle.set_table.specs.declared.answer.Answer.{Answer}
 use Rattle.set_table.specs.Named.{IsLongerBy}
 use Rattle.set_table.specs.Answered.{AreStays, IsHeld, asked_by, asking_of, askings, part}
 use Rattle.set_table.proofs.HeldLaws.{edges_are, same_asked}
-use Rattle.set_table.specs.Tabled.{Asking, HasEdges, Stays, Tabled, asking, asked_edges, edge_named, one_edge, set_at}
+use Rattle.set_table.specs.Tabled.{Asking, HasEdges, Stays, Tabled, asking, edge_named, one_edge, set_at}
 
 -- a set's number is told by the set
 number_told : (sets : List (List ℕ)) (j k : ℕ) → AreDistinct sets → j < length sets → k < length sets → set_at sets j ≡ set_at sets k → j ≡ k
@@ -88,8 +88,7 @@ is_noted old new set byte s within read is k b = go (same_or_not k set)
     go (inl e) =
         let here : get_or new k bytes.empty ≡ bytes.union s (bytes.insert bytes.empty byte) = ap (λ v. get_or new v bytes.empty) e ∙ (ap (λ v. get_or v set bytes.empty) is ∙ get_or-set_same old set (bytes.union s (bytes.insert bytes.empty byte)) bytes.empty within) in
         let before : s ≡ get_or old k bytes.empty = get_or_read old set s within read bytes.empty ∙ ap (λ v. get_or old v bytes.empty) (sym e) in
-        let told : bytes.contains (get_or new k bytes.empty) b ≡ (bytes.contains (get_or old k bytes.empty) b || nat_eq b byte) = ap (λ v. bytes.contains v b) here ∙ (with_one s byte b ∙ ap (λ v. bytes.contains v b || nat_eq b byte) before) in
-        (
+        let told : bytes.contains (get_or new k bytes.empty) b ≡ (bytes.contains (get_or old k bytes.empty) b || nat_eq b byte) = ap (λ v. bytes.contains v b) here ∙ (with_one s byte b ∙ ap (λ v. bytes.contains v b || nat_eq b byte) before) in (
           (λ t. split (bytes.contains (get_or old k bytes.empty) b) refl (sym told ∙ t)),
           (λ h. told ∙ elim h as (λ _. (bytes.contains (get_or old k bytes.empty) b || nat_eq b byte) ≡ true) [
             | inl f ↦ or_left (bytes.contains (get_or old k bytes.empty) b) (nat_eq b byte) f
@@ -101,8 +100,7 @@ is_noted old new set byte s within read is k b = go (same_or_not k set)
         split true f t = inl f
         split false f t = inr (e, sym (eqb-true b byte t))
     go (inr other) =
-        let same : get_or new k bytes.empty ≡ get_or old k bytes.empty = ap (λ v. get_or v k bytes.empty) is ∙ get_or-set_other old set k (bytes.union s (bytes.insert bytes.empty byte)) bytes.empty other in
-        (
+        let same : get_or new k bytes.empty ≡ get_or old k bytes.empty = ap (λ v. get_or v k bytes.empty) is ∙ get_or-set_other old set k (bytes.union s (bytes.insert bytes.empty byte)) bytes.empty other in (
           (λ t. inl (sym (ap (λ v. bytes.contains v b) same) ∙ t)),
           (λ h. elim h as (λ _. bytes.contains (get_or new k bytes.empty) b ≡ true) [ inl f ↦ ap (λ v. bytes.contains v b) same ∙ f | inr f ↦ absurd (other f.0) ]),
         )
@@ -177,10 +175,11 @@ module _ (A : Automaton) (limit : ℕ) (sets0 sets : List (List ℕ)) (answers0 
       there k b t = elim ((noted k b).0 t) as (λ _. Stays New k b) [
         | inl f ↦ still k b ((old.are k b).0 f)
         | inr f ↦
-          let has : HasEdges New (asking x.set (byte_read b)) (part x.first x.count es) = subst (λ r. HasEdges New r (part x.first x.count es)) (asked_now b f.1) (the_edges b f.1) in
-          let asked : Has (askings (answers0 ++ x ∷ [])) (asking x.set (byte_read b)) = subst (Has (askings (answers0 ++ x ∷ []))) (asked_now b f.1) (Has-map asking_of (answers0 ++ x ∷ []) x (Has-append_right answers0 (x ∷ []) x (inl refl))) in
-          subst (λ s. Stays New s b) (sym f.0) (stays_there New x.set b (part x.first x.count es) asked has f.2)
+            let has : HasEdges New (asking x.set (byte_read b)) (part x.first x.count es) = subst (λ r. HasEdges New r (part x.first x.count es)) (asked_now b f.1) (the_edges b f.1) in
+            let asked : Has (askings (answers0 ++ x ∷ [])) (asking x.set (byte_read b)) = subst (Has (askings (answers0 ++ x ∷ []))) (asked_now b f.1) (Has-map asking_of (answers0 ++ x ∷ []) x (Has-append_right answers0 (x ∷ []) x (inl refl))) in
+            subst (λ s. Stays New s b) (sym f.0) (stays_there New x.set b (part x.first x.count es) asked has f.2)
       ]
+
       here : (k b : ℕ) → Stays New k b → IsTrue (bytes.contains (get_or stays k bytes.empty) b)
       here k b st =
           let y = Has-map_cases asking_of (answers0 ++ x ∷ []) (asking k (byte_read b)) st.asked in
@@ -209,8 +208,7 @@ pub noted_here : (old : List (bytes.FinSet nat_cmp)) (set byte first count : ℕ
     u ≡ bytes.union s one → one ≡ bytes.insert bytes.empty byte → q ≡ Byte byte → fs ≡ part first count es → fs ≡ one_edge set ∷ [] →
     (k b : ℕ) → IsTrue (bytes.contains (get_or (put old set u) k bytes.empty) b) ↔ (IsTrue (bytes.contains (get_or old k bytes.empty) b) ⊎ ((k ≡ set) × (q ≡ Byte b) × (part first count es ≡ one_edge set ∷ [])))
 noted_here old set byte first count s one u q es fs within read union single question edges leads k b =
-    let h = is_noted old (put old set u) set byte s within read (ap (put old set) (union ∙ ap (bytes.union s) single)) k b in
-    (
+    let h = is_noted old (put old set u) set byte s within read (ap (put old set) (union ∙ ap (bytes.union s) single)) k b in (
       (λ t. elim (h.0 t) as (λ _. IsTrue (bytes.contains (get_or old k bytes.empty) b) ⊎ ((k ≡ set) × (q ≡ Byte b) × (part first count es ≡ one_edge set ∷ []))) [
         | inl f ↦ inl f
         | inr f ↦ inr (f.0, question ∙ ap Byte f.1, sym edges ∙ leads)
@@ -242,6 +240,7 @@ empty_more old xs new n e h is pushed = (
     past : (m : ℕ) → get_or (bytes.empty {K = ℕ} {R = nat_cmp} ∷ []) m bytes.empty ≡ bytes.empty
     past zero = refl
     past (suc m) = refl
+
     one : (k : ℕ) → (k < length xs) ⊎ (length xs ≤ k) → get_or (xs ++ bytes.empty ∷ []) k bytes.empty ≡ get_or xs k bytes.empty
     one k (inl l) = get_or_append_left xs (bytes.empty ∷ []) bytes.empty k l
     one k (inr l) = get_or-append_right xs (bytes.empty ∷ []) k bytes.empty l ∙ (past (k - length xs) ∙ sym (get_or_past xs k bytes.empty l))

@@ -1,9 +1,9 @@
 -- Answers, and where they stand.
-use Rattle.std.specs.Prelude.{◌≡◌, ℕ, suc, ◌+◌, ◌-◌, ◌*◌, ◌^◌, ◌<◌, ◌≤◌, ◌⊎◌, List, [], ◌∷◌, ◌++◌, replicate, map, length, take, drop, slice_get, slice_index, slice_index_or, Some, IsTrue, ◌↔◌}
+use Rattle.std.specs.Prelude.{◌≡◌, ℕ, suc, ◌+◌, ◌-◌, ◌*◌, ◌^◌, ◌<◌, ◌≤◌, ◌⊎◌, List, [], ◌++◌, replicate, map, length, take, drop, slice_get, slice_index, slice_index_or, Some, IsTrue, ◌↔◌}
 use Rattle.std.specs.Ordering.{nat_cmp}
 use Rattle.std.specs.FinSet as bytes
 use Rattle.span_core.specs.declared.edge.Edge.{Edge}
-use Rattle.span_core.specs.Lists.{Has, AreDistinct}
+use Rattle.span_core.specs.Lists.{Has}
 use Rattle.marked_automaton.specs.Automaton.{Automaton, Marked, IsMarked}
 use Rattle.automaton_reading.specs.Reading.{Asked, byte_read, rest_taken, ended, Reach, edges, set_of}
 use Rattle.set_table.specs.declared.answer.Question.{Question}

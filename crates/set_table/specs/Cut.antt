@@ -1,5 +1,5 @@
 -- Ways as numbers that ascend where marks descend and then targets ascend, and what such numbers are cut into.
-use Rattle.std.specs.Prelude.{◌≡◌, ℕ, zero, suc, ◌+◌, ◌-◌, ◌*◌, ◌/◌, ◌%◌, ◌^◌, Bool, List, [], ◌∷◌, map, nat_eq, if◌then◌else◌, ◌&&◌}
+use Rattle.std.specs.Prelude.{ℕ, ◌+◌, ◌-◌, ◌*◌, ◌/◌, ◌%◌, List, [], ◌∷◌, map, nat_eq, if◌then◌else◌, ◌&&◌}
 use Rattle.std.specs.List.{filter}
 use Rattle.std.specs.FinSet as bytes
 use Rattle.marked_automaton.specs.declared.way.Way.{Way}

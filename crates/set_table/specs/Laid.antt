@@ -1,5 +1,5 @@
 -- Tables that are laid down.
-use Rattle.std.specs.Prelude.{ℕ, ◌≤◌}
+use Rattle.std.specs.Prelude.{◌≤◌}
 use Rattle.marked_automaton.specs.Automaton.{Automaton}
 use Rattle.set_table.specs.declared.state.TableState.{TableState}
 use Rattle.set_table.specs.Answered.{AreStays, Holds, tabled}

@@ -1,5 +1,5 @@
 -- Numbers in blocks of sixteen.
-use Rattle.std.specs.Prelude.{◌≡◌, ℕ, ◌+◌, ◌*◌, ◌<◌, ◌≤◌, List, [], ◌∷◌, ◌++◌, length, take, drop, slice_index}
+use Rattle.std.specs.Prelude.{◌≡◌, ℕ, ◌*◌, ◌<◌, List, [], ◌∷◌, ◌++◌, length, take, drop, slice_index}
 
 -- the numbers of a block
 abbrev pub block : List ℕ → ℕ → List ℕ

@@ -1,5 +1,5 @@
 -- A table of the sets of states that are reached, and of what was asked of each.
-use Rattle.std.specs.Prelude.{◌≡◌, ℕ, ◌+◌, ◌<◌, ◌≤◌, Bool, true, false, List, [], ◌∷◌, ◌++◌, map, length, nat_eq, slice_get, slice_index_or, Option, None, Some, if◌then◌else◌, ◌&&◌}
+use Rattle.std.specs.Prelude.{◌≡◌, ℕ, ◌+◌, ◌<◌, ◌≤◌, Bool, List, [], ◌∷◌, ◌++◌, map, length, nat_eq, slice_get, slice_index_or, Option, None, Some, if◌then◌else◌, ◌&&◌}
 use Rattle.std.specs.List.{filter, list_any, sum_by}
 use Rattle.std.specs.Str.{bytes_eq}
 use Rattle.span_core.specs.declared.edge.Edge.{Edge}

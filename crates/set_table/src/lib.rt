@@ -5,8 +5,8 @@ pub use fault::TableFault;
 pub use state::TableState;
 pub use table::Table;
 
-mod fault;
 mod answer;
+mod fault;
 mod naming;
 mod places;
 mod reaching;

@@ -84,11 +84,7 @@ impl Places {
 }
 
 /// The block of a run, which has it alone from now on. The numbers stay as they are.
-fn own_block(
-    runs: &mut Vec<u32>,
-    numbers: &mut Vec<u32>,
-    run: usize,
-) -> Result<usize, OutOfMemory>
+fn own_block(runs: &mut Vec<u32>, numbers: &mut Vec<u32>, run: usize) -> Result<usize, OutOfMemory>
     requires spread { IsSpread runs.old.items numbers.old.items }
     requires run { run < length runs.old.items }
     ensures spread { IsSpread runs.new.items numbers.new.items }

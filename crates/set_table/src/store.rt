@@ -9,8 +9,8 @@ ghost use Rattle.set_table.specs.Tabled.{IsRefusal, asked_first, asking, one_edg
 use crate::TableFault;
 use crate::answer::{Answer, Question};
 use crate::naming::{put_edges, put_ends, put_rest};
-use crate::reaching::{idle_members, put_codes, put_marks};
 use crate::places::Places;
+use crate::reaching::{idle_members, put_codes, put_marks};
 use crate::sets::Sets;
 use marked_automaton::Automaton;
 use span_core::{ByteSet, Edge, Marks, OutOfMemory};
@@ -115,12 +115,7 @@ impl Store {
         ensures numbers { self.new.numbers ≡ self.old.numbers }
         ensures stays { self.new.stays.items ≡ self.old.stays.items }
     {
-        put_codes(
-            &mut self.codes,
-            automaton,
-            self.sets.at(set as usize),
-            byte,
-        )?;
+        put_codes(&mut self.codes, automaton, self.sets.at(set as usize), byte)?;
         let first = self.edges.len();
         let added = put_edges(
             alloc,

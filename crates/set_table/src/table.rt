@@ -9,10 +9,10 @@ ghost use Rattle.set_table.specs.Tabled.{Asking, HasEdges, HasEnds, HasRest, IsR
 ghost use Rattle.set_table.specs.Laid.{IsStateOf, taken_up};
 ghost use Rattle.set_table.specs.Answered.{IsQuestion, asked_by, part};
 
-use crate::{TableFault, TableState};
 use crate::answer::Question;
 use crate::reaching::start_set;
 use crate::store::{Store, edges_part, place_of};
+use crate::{TableFault, TableState};
 use marked_automaton::Automaton;
 use span_core::{ByteSet, Edge, Marks, OutOfMemory, Steps};
 use std::alloc::Global;

@@ -1,4 +1,4 @@
-use Rattle.one_pass.proofs.OpenLaws.{open_ready, ready_open}
+use Rattle.one_pass.proofs.OpenLaws.{open_ready}
 use Rattle.one_pass.proofs.pieces.advance.Goals as goal
 
 pub read_piece-requires-clause-ready : goal.read_piece-requires-clause-ready

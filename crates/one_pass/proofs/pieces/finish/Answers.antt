@@ -1,4 +1,4 @@
-use Rattle.one_pass.proofs.OpenLaws.{open_ready, ready_open}
+use Rattle.one_pass.proofs.OpenLaws.{open_ready}
 use Rattle.one_pass.proofs.pieces.finish.Goals as goal
 
 pub end_layer-requires : goal.end_layer-requires

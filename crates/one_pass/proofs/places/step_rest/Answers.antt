@@ -1,4 +1,4 @@
-use Rattle.std.proofs.Common.{◌≡◌, ◌+◌, ◌<◌, length, ap, arith, refl}
+use Rattle.std.proofs.Common.{◌≡◌, ◌<◌, length, ap, arith, refl}
 use Rattle.output_graph.specs.Graph.{sources}
 use Rattle.one_pass.specs.Passes.{pass, stop}
 use Rattle.one_pass.specs.Places.{rest_at}

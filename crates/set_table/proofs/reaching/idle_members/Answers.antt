@@ -1,4 +1,4 @@
-use Rattle.std.proofs.Common.{◌≡◌, ℕ, suc, ◌+◌, Bool, true, false, List, [], ◌∷◌, ◌++◌, cond, get_or, take, length, sym, ap, subst, ◌∙◌, ◌<◌}
+use Rattle.std.proofs.Common.{◌≡◌, ℕ, Bool, true, false, List, [], ◌∷◌, ◌++◌, cond, get_or, take, sym, ap, ◌∙◌}
 use Rattle.std.specs.List.{filter}
 use Rattle.std.proofs.lemmas.List.{append-nil}
 use Rattle.span_core.specs.Lists.{Has}
@@ -31,11 +31,11 @@ loop-state-preserved c =
     let more = filter_more t xs i 0 c.loop-state-test.true in
     elim c.if-is_idle.branch [
       | then-is_idle+in_ok-push w ↦
-        let yes : t x ≡ true = has_among c.args.automaton.now.graph.idle x (c.is_idle.ensures.0 w.if-is_idle.true) in
-        (λ j. (w.idle-is j).items) ∙ (w.in_ok-push.ensures.items ∙ ((λ j. c.loop-state.invariant j ++ x ∷ []) ∙ sym (more ∙ ap (λ b. filter t (take i xs) ++ cond b (x ∷ []) []) yes)))
+          let yes : t x ≡ true = has_among c.args.automaton.now.graph.idle x (c.is_idle.ensures.0 w.if-is_idle.true) in
+          (λ j. (w.idle-is j).items) ∙ (w.in_ok-push.ensures.items ∙ ((λ j. c.loop-state.invariant j ++ x ∷ []) ∙ sym (more ∙ ap (λ b. filter t (take i xs) ++ cond b (x ∷ []) []) yes)))
       | else-is_idle w ↦
-        let not_there : t x ≡ false = not_among c.args.automaton.now.graph.idle x (λ h. differ (sym w.if-is_idle.false ∙ c.is_idle.ensures.1 h)) in
-        (λ j. (w.idle-is j).items) ∙ (c.loop-state.invariant ∙ sym (more ∙ (ap (λ b. filter t (take i xs) ++ cond b (x ∷ []) []) not_there ∙ append-nil (filter t (take i xs)))))
+          let not_there : t x ≡ false = not_among c.args.automaton.now.graph.idle x (λ h. differ (sym w.if-is_idle.false ∙ c.is_idle.ensures.1 h)) in
+          (λ j. (w.idle-is j).items) ∙ (c.loop-state.invariant ∙ sym (more ∙ (ap (λ b. filter t (take i xs) ++ cond b (x ∷ []) []) not_there ∙ append-nil (filter t (take i xs)))))
     ]
   where
     differ : false ≡ true → ⊥

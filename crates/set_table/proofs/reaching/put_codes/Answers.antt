@@ -1,4 +1,4 @@
-use Rattle.std.proofs.Common.{◌≡◌, List, ℕ, sym, ap, ◌∙◌, map, ◌++◌, []}
+use Rattle.std.proofs.Common.{◌≡◌, ap, ◌∙◌, map, ◌++◌}
 use Rattle.std.specs.List.{flat_map}
 use Rattle.automaton_reading.specs.Reading.{set_of, ways_taken}
 use Rattle.set_table.specs.Cut.{code_of, codes_at, codes_among}
@@ -13,10 +13,10 @@ returns c =
     let b = c.args.byte in
     let gathered : set_of c.if-is_grouped.codes.items ≡ set_of (map code_of (ways_taken A members b)) = elim c.if-is_grouped.branch [
       | then-is_grouped+in_ok-put_rows w ↦
-        let e : c.if-is_grouped.codes.items ≡ flat_map (codes_at A.ways b) members = (λ i. (w.codes-is i).items) ∙ (w.in_ok-put_rows.ensures ∙ (λ i. c.clear.ensures.items i ++ flat_map (codes_at A.ways b) members)) in
-        ap set_of e ∙ by_members A members b
+          let e : c.if-is_grouped.codes.items ≡ flat_map (codes_at A.ways b) members = (λ i. (w.codes-is i).items) ∙ (w.in_ok-put_rows.ensures ∙ (λ i. c.clear.ensures.items i ++ flat_map (codes_at A.ways b) members)) in
+          ap set_of e ∙ by_members A members b
       | else-is_grouped+in_ok-put_among w ↦
-        let e : c.if-is_grouped.codes.items ≡ codes_among members b A.ways = (λ i. (w.codes-is i).items) ∙ (w.in_ok-put_among.ensures ∙ (λ i. c.clear.ensures.items i ++ codes_among members b (w.ways.ensures i))) in
-        ap set_of e
+          let e : c.if-is_grouped.codes.items ≡ codes_among members b A.ways = (λ i. (w.codes-is i).items) ∙ (w.in_ok-put_among.ensures ∙ (λ i. c.clear.ensures.items i ++ codes_among members b (w.ways.ensures i))) in
+          ap set_of e
     ] in
     c.put_in_order.ensures ∙ gathered

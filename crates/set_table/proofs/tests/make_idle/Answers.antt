@@ -1,4 +1,4 @@
-use Rattle.std.proofs.Common.{List, [], ◌∷◌, ◌++◌, sym, ap, subst, inl, refl}
+use Rattle.std.proofs.Common.{[], ◌∷◌, sym, subst, inl}
 use Rattle.span_core.specs.Lists.{Has}
 use Rattle.span_core.proofs.HasLaws.{Has-append_right}
 use Rattle.marked_automaton.specs.declared.way.Way.{Way}

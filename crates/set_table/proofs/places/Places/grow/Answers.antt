@@ -1,4 +1,4 @@
-use Rattle.std.proofs.Common.{◌≡◌, ℕ, ◌+◌, ◌-◌, ◌*◌, ◌/◌, ◌%◌, ◌<◌, ◌≤◌, List, length, get_or, set, take, refl, sym, ap, subst, arith, ◌∙◌}
+use Rattle.std.proofs.Common.{ℕ, ◌*◌, ◌≤◌, List, length, sym, ap, subst, arith, ◌∙◌}
 use Rattle.set_table.specs.Answered.{with_places}
 use Rattle.set_table.specs.Spread.{IsSpread, spread}
 use Rattle.set_table.proofs.SpreadLaws.{are_within, grown_items, grown_spread, spread_grown, spread_length}

@@ -1,4 +1,4 @@
-use Rattle.std.proofs.Common.{◌≡◌, ℕ, ◌+◌, ◌-◌, ◌*◌, ◌/◌, ◌%◌, ◌<◌, ◌≤◌, List, length, get_or, set, take, refl, sym, ap, subst, arith, ◌∙◌}
+use Rattle.std.proofs.Common.{ℕ, ◌+◌, ◌*◌, ◌/◌, ◌%◌, ◌<◌, List, length, get_or, set, sym, ap, subst, arith, ◌∙◌}
 use Rattle.set_table.specs.Spread.{spread}
 use Rattle.set_table.proofs.SpreadLaws.{run_of, written_is}
 use Rattle.set_table.proofs.places.Places.put.Goals as goal

@@ -1,4 +1,4 @@
-use Rattle.std.proofs.Common.{◌≡◌, ℕ, ◌<◌, ◌≤◌, List, length, map, refl, sym, ap, subst, arith, rules, ◌∙◌}
+use Rattle.std.proofs.Common.{◌≡◌, ℕ, ◌<◌, List, sym, subst, rules, ◌∙◌}
 use Rattle.span_core.specs.Lists.{Has, IsInOrder}
 use Rattle.automaton_reading.specs.Reading.{set_of}
 use Rattle.set_table.specs.Cut.{marks_among}

@@ -1,4 +1,4 @@
-use Rattle.std.proofs.Common.{◌≡◌, ℕ, ◌<◌, ◌≤◌, List, length, map, refl, sym, ap, subst, arith, rules, ◌∙◌}
+use Rattle.std.proofs.Common.{◌≡◌, length, refl, ap, subst, arith, rules, ◌∙◌}
 use Rattle.std.specs.List.{filter}
 use Rattle.span_core.specs.Lists.{Has}
 use Rattle.automaton_reading.specs.Reading.{is_among, rest_edge}

@@ -1,6 +1,6 @@
-use Rattle.std.proofs.Common.{◌≡◌, ℕ, ◌+◌, ◌*◌, ◌≤◌, List, [], ◌∷◌, ◌++◌, get_or, length, length-append, set, refl, sym, ap, subst, arith, rules, ◌∙◌}
+use Rattle.std.proofs.Common.{◌≡◌, ◌+◌, ◌*◌, [], ◌∷◌, ◌++◌, get_or, length, length-append, set, sym, ap, arith, ◌∙◌}
 use Rattle.set_table.specs.declared.answer.Answer.{Answer}
-use Rattle.set_table.specs.Answered.{AreStays, IsHeld, askings, place_in, tabled, with_places}
+use Rattle.set_table.specs.Answered.{AreStays, askings, place_in, tabled, with_places}
 use Rattle.set_table.specs.Named.{IsLongerBy}
 use Rattle.set_table.proofs.StayLaws.{noted_of, same_stays, stays_more}
 use Rattle.std.specs.FinSet as bytes
@@ -27,7 +27,7 @@ keep-requires-clause-few_sets c =
     let sound = c.requires.sound in
     let x : Answer = record { set = c.args.set; question = c.args.question; first = c.in_ok-added.added.first; count = c.in_ok-added.added.count } in
     let few = few_more M.graph s.sets n.sets s.answers.items s.edges.items n.edges.items s.ends.items n.ends.items s.numbers c.args.weight c.in_ok-added.added.weight x
-        sound.marked.whole sound.held c.in_ok-added.ensures.adds c.requires.set c.requires.question c.requires.absent in
+    sound.marked.whole sound.held c.in_ok-added.ensures.adds c.requires.set c.requires.question c.requires.absent in
     omega (arith, few, sound.small, c.if-weight-limit.false)
 
 pub returns-clause-sound : goal.returns-clause-sound
@@ -40,18 +40,18 @@ returns-clause-sound c =
     let x : Answer = record { set = c.args.set; question = c.args.question; first = c.in_ok-added.added.first; count = c.in_ok-added.added.count } in
     let w = c.args.weight + c.in_ok-added.added.weight in
     let held = held_more M.graph s.sets n.sets s.answers.items s.edges.items n.edges.items s.ends.items n.ends.items s.numbers c.args.weight c.in_ok-added.added.weight x
-        sound.marked.whole sound.held c.in_ok-added.ensures.adds c.requires.set c.requires.question c.requires.absent in
+    sound.marked.whole sound.held c.in_ok-added.ensures.adds c.requires.set c.requires.question c.requires.absent in
     let sets : n.sets ≡ k.sets = sym c.in_ok-keep.ensures.sets in
     let answers : s.answers.items ++ x ∷ [] ≡ k.answers.items = sym (c.in_ok-keep.ensures.answers ∙ (λ i. c.in_ok-added.ensures.answers i ++ x ∷ [])) in
     let longer : IsLongerBy s.sets n.sets = c.in_ok-added.ensures.sets in
     let old : AreStays (tabled M.graph c.args.limit s) s.stays.items = sound.stays in
     let count : length c.note_stay.new.stays.items ≡ length n.sets = omega (arith, c.note_stay.ensures.length, ap length c.in_ok-keep.ensures.stays, c.in_ok-put_empty.ensures.count, c.len.ensures.value) in
     let noted = noted_of s.stays.items k.stays.items c.note_stay.new.stays.items c.args.set c.args.question x.first x.count n.edges.items c.as_slice.result.now
-        (λ j. ap (λ zs. get_or zs j bytes.empty) c.in_ok-keep.ensures.stays ∙ (c.in_ok-put_empty.ensures.same j ∙ ap (λ zs. get_or zs j bytes.empty) c.in_ok-added.ensures.stays))
-        (c.as_slice.ensures.value ∙ c.in_ok-keep.ensures.edges) c.note_stay.ensures.noted in
+    (λ j. ap (λ zs. get_or zs j bytes.empty) c.in_ok-keep.ensures.stays ∙ (c.in_ok-put_empty.ensures.same j ∙ ap (λ zs. get_or zs j bytes.empty) c.in_ok-added.ensures.stays))
+    (c.as_slice.ensures.value ∙ c.in_ok-keep.ensures.edges) c.note_stay.ensures.noted in
     let more : AreStays (record { graph = M.graph; limit = c.args.limit; sets = n.sets; asked = askings (s.answers.items ++ x ∷ []) }) c.note_stay.new.stays.items =
-        stays_more M.graph c.args.limit s.sets n.sets s.answers.items n.edges.items n.ends.items (set (with_places (272 * length n.sets) s.numbers) (place_in c.args.set c.args.question) (1 + length s.answers.items)) w x
-            longer held (λ y h. (sound.held.answered y h).set) c.len.ensures.apart (omega (arith, c.requires.set, ap length longer.1, length-append s.sets longer.0)) s.stays.items c.note_stay.new.stays.items old count noted in
+    stays_more M.graph c.args.limit s.sets n.sets s.answers.items n.edges.items n.ends.items (set (with_places (272 * length n.sets) s.numbers) (place_in c.args.set c.args.question) (1 + length s.answers.items)) w x
+    longer held (λ y h. (sound.held.answered y h).set) c.len.ensures.apart (omega (arith, c.requires.set, ap length longer.1, length-append s.sets longer.0)) s.stays.items c.note_stay.new.stays.items old count noted in
     record {
       marked = sound.marked;
       names = sound.names;

@@ -1,10 +1,10 @@
-use Rattle.std.proofs.Common.{◌≡◌, ℕ, ◌<◌, ◌-◌, ◌*◌, Some, length, get_or, refl, sym, ap, subst, arith, rules, ◌∙◌}
+use Rattle.std.proofs.Common.{◌≡◌, ◌<◌, ◌-◌, Some, length, get_or, sym, ap, subst, ◌∙◌}
 use Rattle.std.specs.Prelude.{slice_get, OnOk, IfErr}
 use Rattle.span_core.specs.Lists.{Has}
 use Rattle.span_core.proofs.HasLaws.{Has-slice_get}
-use Rattle.set_table.specs.Tabled.{Asking, IsRefusal, Tabled, asked_first, asking, once_asked}
-use Rattle.set_table.specs.Answered.{asked_by, askings, place_in}
-use Rattle.set_table.proofs.HeldLaws.{number_absent, number_found, once_is_first, once_is_same, place_within}
+use Rattle.set_table.specs.Tabled.{IsRefusal, Tabled, asking}
+use Rattle.set_table.specs.Answered.{asked_by, place_in}
+use Rattle.set_table.proofs.HeldLaws.{number_absent, number_found, once_is_first, once_is_same}
 use Rattle.set_table.proofs.table.Table.ask.Goals as goal
 
 pub returns-then-number-ne0-clause-number : goal.returns-then-number-ne0-clause-number
@@ -17,8 +17,8 @@ returns-then-number-ne0-clause-number c =
     let within : k < length s.sets = subst (λ (t : Tabled). k < length t.sets) (sym c.self.view_is) c.requires.set in
     let read : get_or s.numbers (place_in k q) 0 ≡ c.at-number.result = sym (c.at-number.ensures ∙ ap (λ p. get_or s.numbers p 0) c.place_of.ensures) in
     let found : slice_get c.args.self.now.asked (c.at-number.result - 1) ≡ Some (asking k (asked_by q)) =
-        ap (λ (t : Tabled). slice_get t.asked (c.at-number.result - 1)) (sym c.self.view_is)
-        ∙ number_found i.automaton.now.graph s.sets s.answers.items s.edges.items s.ends.items s.numbers i.weight k q c.at-number.result held within c.requires.question read c.if-number-ne0.true in
+    ap (λ (t : Tabled). slice_get t.asked (c.at-number.result - 1)) (sym c.self.view_is)
+    ∙ number_found i.automaton.now.graph s.sets s.answers.items s.edges.items s.ends.items s.numbers i.weight k q c.at-number.result held within c.requires.question read c.if-number-ne0.true in
     found
 
 pub returns-then-number-ne0-clause-asked : goal.returns-then-number-ne0-clause-asked
@@ -31,8 +31,8 @@ returns-then-number-ne0-clause-asked c =
     let within : k < length s.sets = subst (λ (t : Tabled). k < length t.sets) (sym c.self.view_is) c.requires.set in
     let read : get_or s.numbers (place_in k q) 0 ≡ c.at-number.result = sym (c.at-number.ensures ∙ ap (λ p. get_or s.numbers p 0) c.place_of.ensures) in
     let found : slice_get c.args.self.now.asked (c.at-number.result - 1) ≡ Some (asking k (asked_by q)) =
-        ap (λ (t : Tabled). slice_get t.asked (c.at-number.result - 1)) (sym c.self.view_is)
-        ∙ number_found i.automaton.now.graph s.sets s.answers.items s.edges.items s.ends.items s.numbers i.weight k q c.at-number.result held within c.requires.question read c.if-number-ne0.true in
+    ap (λ (t : Tabled). slice_get t.asked (c.at-number.result - 1)) (sym c.self.view_is)
+    ∙ number_found i.automaton.now.graph s.sets s.answers.items s.edges.items s.ends.items s.numbers i.weight k q c.at-number.result held within c.requires.question read c.if-number-ne0.true in
     once_is_same c.args.self.now (asking k (asked_by q)) (Has-slice_get c.args.self.now.asked (c.at-number.result - 1) (asking k (asked_by q)) found)
 
 pub answer-requires-clause-absent : goal.answer-requires-clause-absent
@@ -45,7 +45,7 @@ answer-requires-clause-absent c =
     let within : k < length s.sets = subst (λ (t : Tabled). k < length t.sets) (sym c.self.view_is) c.requires.set in
     let read : get_or s.numbers (place_in k q) 0 ≡ c.at-number.result = sym (c.at-number.ensures ∙ ap (λ p. get_or s.numbers p 0) c.place_of.ensures) in
     let absent : Has c.args.self.now.asked (asking k (asked_by q)) → ⊥ = λ h.
-        number_absent i.automaton.now.graph s.sets s.answers.items s.edges.items s.ends.items s.numbers i.weight k q held (read ∙ c.if-number-ne0.false) (subst (λ (t : Tabled). Has t.asked (asking k (asked_by q))) (sym c.self.view_is) h) in
+    number_absent i.automaton.now.graph s.sets s.answers.items s.edges.items s.ends.items s.numbers i.weight k q held (read ∙ c.if-number-ne0.false) (subst (λ (t : Tabled). Has t.asked (asking k (asked_by q))) (sym c.self.view_is) h) in
     absent
 
 pub returns-clause-asked : goal.returns-clause-asked
@@ -58,7 +58,7 @@ returns-clause-asked c =
     let within : k < length s.sets = subst (λ (t : Tabled). k < length t.sets) (sym c.self.view_is) c.requires.set in
     let read : get_or s.numbers (place_in k q) 0 ≡ c.at-number.result = sym (c.at-number.ensures ∙ ap (λ p. get_or s.numbers p 0) c.place_of.ensures) in
     let absent : Has c.args.self.now.asked (asking k (asked_by q)) → ⊥ = λ h.
-        number_absent i.automaton.now.graph s.sets s.answers.items s.edges.items s.ends.items s.numbers i.weight k q held (read ∙ c.if-number-ne0.false) (subst (λ (t : Tabled). Has t.asked (asking k (asked_by q))) (sym c.self.view_is) h) in
+    number_absent i.automaton.now.graph s.sets s.answers.items s.edges.items s.ends.items s.numbers i.weight k q held (read ∙ c.if-number-ne0.false) (subst (λ (t : Tabled). Has t.asked (asking k (asked_by q))) (sym c.self.view_is) h) in
     subst (λ (t : Tabled). OnOk c.answer.result (c.answer.new.self ≡ t)) (sym (once_is_first c.args.self.now (asking k (asked_by q)) absent)) c.answer.ensures.asked
 
 pub returns-clause-refused : goal.returns-clause-refused
@@ -71,5 +71,5 @@ returns-clause-refused c =
     let within : k < length s.sets = subst (λ (t : Tabled). k < length t.sets) (sym c.self.view_is) c.requires.set in
     let read : get_or s.numbers (place_in k q) 0 ≡ c.at-number.result = sym (c.at-number.ensures ∙ ap (λ p. get_or s.numbers p 0) c.place_of.ensures) in
     let absent : Has c.args.self.now.asked (asking k (asked_by q)) → ⊥ = λ h.
-        number_absent i.automaton.now.graph s.sets s.answers.items s.edges.items s.ends.items s.numbers i.weight k q held (read ∙ c.if-number-ne0.false) (subst (λ (t : Tabled). Has t.asked (asking k (asked_by q))) (sym c.self.view_is) h) in
+    number_absent i.automaton.now.graph s.sets s.answers.items s.edges.items s.ends.items s.numbers i.weight k q held (read ∙ c.if-number-ne0.false) (subst (λ (t : Tabled). Has t.asked (asking k (asked_by q))) (sym c.self.view_is) h) in
     subst (λ (t : Tabled). IfErr c.answer.result (IsRefusal t)) (sym (once_is_first c.args.self.now (asking k (asked_by q)) absent)) c.answer.ensures.refused

@@ -1,13 +1,12 @@
-use Rattle.std.proofs.Common.{◌≡◌, ℕ, ◌+◌, ◌<◌, ◌≤◌, List, Some, length, refl, sym, ap, subst, arith, rules, ◌∙◌}
+use Rattle.std.proofs.Common.{◌≡◌, ◌+◌, ◌<◌, ◌≤◌, Some, length, sym, ap, subst, arith, ◌∙◌}
 use Rattle.std.specs.Prelude.{slice_get}
 use Rattle.std.proofs.lemmas.List.{length-map}
 use Rattle.span_core.proofs.HasLaws.{Has-slice_get}
 use Rattle.marked_automaton.proofs.Listed.{get_map, some_same}
-use Rattle.span_core.specs.declared.edge.Edge.{Edge}
 use Rattle.set_table.specs.declared.answer.Question.TheVariants.{Ends}
-use Rattle.set_table.specs.Tabled.{Asking, HasEdges, HasEnds, Tabled}
+use Rattle.set_table.specs.Tabled.{Asking, HasEdges, Tabled}
 use Rattle.set_table.specs.Answered.{asked_by, asking_of, askings, part}
-use Rattle.set_table.proofs.HeldLaws.{answer_read, edges_are, edges_within, same_asked}
+use Rattle.set_table.proofs.HeldLaws.{answer_read, edges_are, edges_within}
 use Rattle.set_table.proofs.table.Table.edges_at.Goals as goal
 
 pub edges_part-requires : goal.edges_part-requires
@@ -37,5 +36,5 @@ returns c = λ r h.
     let kind : x.question ≡ Ends → ⊥ = λ e. c.requires.edges (asking_of x) asked (ap asked_by e) in
     let same : asking_of x ≡ r = some_same (asking_of x) r (sym asked ∙ h) in
     let are = edges_are i.automaton.now.graph i.limit s.sets s.answers.items s.edges.items s.ends.items s.numbers i.weight x c.edges_part.result.now c.self.invariant.held has kind
-        (c.edges_part.ensures ∙ ap (part x.first x.count) c.as_slice.ensures.value) in
+    (c.edges_part.ensures ∙ ap (part x.first x.count) c.as_slice.ensures.value) in
     subst (λ (t : Tabled). HasEdges t r c.edges_part.result.now) c.self.view_is (subst (λ (r : Asking). HasEdges (record { graph = i.automaton.now.graph; limit = i.limit; sets = s.sets; asked = askings s.answers.items }) r c.edges_part.result.now) same are)

@@ -1,12 +1,11 @@
-use Rattle.std.proofs.Common.{◌≡◌, ℕ, ◌+◌, ◌<◌, ◌≤◌, List, Some, length, refl, sym, ap, subst, arith, rules, ◌∙◌}
+use Rattle.std.proofs.Common.{◌≡◌, ◌+◌, ◌<◌, ◌≤◌, Some, length, sym, ap, subst, arith, ◌∙◌}
 use Rattle.std.specs.Prelude.{slice_get}
 use Rattle.std.proofs.lemmas.List.{length-map}
 use Rattle.span_core.proofs.HasLaws.{Has-slice_get}
 use Rattle.marked_automaton.proofs.Listed.{get_map, some_same}
-use Rattle.span_core.specs.declared.edge.Edge.{Edge}
 use Rattle.set_table.specs.declared.answer.Question.TheVariants.{Ends}
-use Rattle.set_table.specs.Tabled.{Asking, HasEdges, HasEnds, Tabled}
-use Rattle.set_table.specs.Answered.{asked_by, asking_of, askings, part}
+use Rattle.set_table.specs.Tabled.{Asking, HasEnds, Tabled}
+use Rattle.set_table.specs.Answered.{asking_of, askings, part}
 use Rattle.set_table.proofs.HeldLaws.{answer_read, ends_are, ends_within, same_asked}
 use Rattle.set_table.proofs.table.Table.marks_at.Goals as goal
 
@@ -37,5 +36,5 @@ returns c = λ r h.
     let kind : x.question ≡ Ends = same_asked x.question Ends (c.requires.ends (asking_of x) asked) in
     let same : asking_of x ≡ r = some_same (asking_of x) r (sym asked ∙ h) in
     let are = ends_are i.automaton.now.graph i.limit s.sets s.answers.items s.edges.items s.ends.items s.numbers i.weight x c.marks_part.result.now c.self.invariant.held has kind
-        (c.marks_part.ensures ∙ ap (part x.first x.count) c.as_slice.ensures.value) in
+    (c.marks_part.ensures ∙ ap (part x.first x.count) c.as_slice.ensures.value) in
     subst (λ (t : Tabled). HasEnds t r.set c.marks_part.result.now) c.self.view_is (subst (λ (r : Asking). HasEnds (record { graph = i.automaton.now.graph; limit = i.limit; sets = s.sets; asked = askings s.answers.items }) r.set c.marks_part.result.now) same are)

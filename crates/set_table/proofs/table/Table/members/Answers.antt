@@ -1,4 +1,4 @@
-use Rattle.std.proofs.Common.{◌≡◌, ◌<◌, length, ℕ, List, [], sym, ap, subst, ◌∙◌}
+use Rattle.std.proofs.Common.{◌<◌, length, [], sym, subst}
 use Rattle.span_core.proofs.HasLaws.{Has-get_or}
 use Rattle.set_table.specs.Tabled.{IsStateSet, Tabled, set_at}
 use Rattle.set_table.proofs.table.Table.members.Goals as goal

@@ -1,4 +1,4 @@
-use Rattle.std.proofs.Common.{◌≡◌, ◌+◌, length, sym, ap, subst, arith, ◌∙◌}
+use Rattle.std.proofs.Common.{◌+◌, length, sym, ap, arith, ◌∙◌}
 use Rattle.automaton_reading.specs.Reading.{set_of}
 use Rattle.set_table.proofs.HeldLaws.{held_fresh}
 use Rattle.set_table.proofs.StayLaws.{no_stays}
