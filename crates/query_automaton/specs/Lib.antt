@@ -1,3 +1,4 @@
+pub mod CompiledQuery
 pub mod Compiling
 pub mod Laws
 pub mod Parts

@@ -3,6 +3,7 @@ ghost use Rattle.std.specs.Prelude.{◌≡◌, ℕ, ◌<◌, length, IfOk, IfErr
 ghost use Rattle.spanner_model.specs.ExprView.{query_of};
 ghost use Rattle.spanner_model.specs.Sound.{IsSound};
 ghost use Rattle.marked_automaton.specs.Reduct.{IsUseful, ReducesMarked};
+ghost use Rattle.query_automaton.specs.CompiledQuery.{IsCompiled};
 ghost use Rattle.query_automaton.specs.Compiling.{AreCompiled};
 ghost use Rattle.query_automaton.specs.Laws.{AcceptsAnswersOf};
 ghost use Rattle.query_automaton.specs.Parts.{AtomsAreSmall, HasLargePart};
@@ -16,13 +17,32 @@ use marked_automaton::{Automaton, SizeFault};
 use span_core::VarSet;
 use spanner_model::Query;
 use std::alloc::Global;
+use std::marker::Model;
 
-/// A query, and its automaton.
+/// A sound query, and its automaton.
 #[derive(Drop)]
 pub struct Compiled<'q> {
     /// The query that it was made from, whose atoms a filter reads.
     query: &'q Query,
     automaton: Automaton,
+}
+
+impl<'q> Model for Compiled<'q> {
+    ghost use Rattle.query_automaton.specs.CompiledQuery.{CompiledQuery, compiled_code};
+
+    ghost Value = { CompiledQuery };
+
+    ghost coded = { compiled_code };
+
+    ghost use Rattle.spanner_model.specs.ExprView.{query_of};
+    ghost use Rattle.query_automaton.specs.CompiledQuery.{IsCompiled};
+
+    ghost view = { λ c. record {
+      query = c.query.now;
+      automaton = c.automaton;
+    } };
+
+    ghost invariant = { λ c. IsCompiled (query_of c.query.now) c.automaton };
 }
 
 /// The automaton of a sound query.
@@ -41,7 +61,7 @@ pub fn compile<'q>(alloc: Global, query: &'q Query) -> Result<Compiled<'q>, Size
     ensures made { IfOk result (λ c. ReducesMarked c.automaton (of_query (query_of query.now))) }
     ensures words { IfOk result (λ c. AcceptsAnswersOf (query_of query.now) c.automaton) }
     ensures useful { IfOk result (λ c. (p : ℕ) → p < c.automaton.graph.states → IsUseful c.automaton.graph p) }
-    ensures query { IfOk result (λ c. c.query.now ≡ query.now) }
+    ensures query { IfOk result (λ c. c.query ≡ query.now) }
     ensures small { OnOk result (AtomsAreSmall (query_of query.now)) }
     ensures fault { IfErr result (HasLargePart (query_of query.now)) }
 {
@@ -78,7 +98,8 @@ fn let_automata(
 impl<'q> Compiled<'q> {
     /// The automaton.
     pub fn automaton(&self) -> &Automaton
-        ensures { result.now ≡ self.now.automaton }
+        ensures automaton { result.now ≡ self.now.automaton }
+        ensures compiled { IsCompiled (query_of self.now.query) self.now.automaton }
     {
         &self.automaton
     }
