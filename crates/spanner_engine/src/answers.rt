@@ -1,0 +1,47 @@
+//! Answers to come.
+ghost use Rattle.std.specs.Prelude.{◌≡◌, ◌+◌, ◌*◌, ◌≤◌, [], ◌∷◌, MatchOption};
+
+use enumerator::Enumerator;
+use span_core::{Row, Steps};
+use std::marker::Model;
+use std::sync::ledger::Ledger;
+
+/// The answers of a query on a document that are still to come, in block order.
+///
+/// It holds the lists of rows that were made of the document, and neither the document nor the query.
+#[derive(Drop)]
+pub struct Answers {
+    rows: Enumerator,
+}
+
+impl Model for Answers {
+    ghost use Rattle.spanner_engine.specs.Left.{AnswersLeft};
+
+    ghost Value = { AnswersLeft };
+
+    ghost view = { λ a. record {
+      variables = a.rows.variables;
+      rest = a.rows.rest;
+    } };
+}
+
+impl Answers {
+    /// The rows that an enumerator will give.
+    pub(crate) fn of(rows: Enumerator) -> Answers
+        ensures variables { result.variables ≡ rows.variables }
+        ensures rest { result.rest ≡ rows.rest }
+    {
+        Answers { rows }
+    }
+
+    /// The next answer; None exactly where none is left, and from then on. It takes no memory, and at
+    /// most two steps for each variable, however large the document is; so it keeps within the four for
+    /// each variable, and four more, that are allowed.
+    pub fn next<L: Ledger>(&mut self, steps: &mut Steps<L>) -> Option<Row>
+        ensures variables { self.new.variables ≡ self.old.variables }
+        ensures rest { MatchOption result ((self.old.rest ≡ []) × (self.new.rest ≡ [])) (λ row. self.old.rest ≡ row ∷ self.new.rest) }
+        ensures steps { steps.new ≤ steps.old + 2 * self.old.variables }
+    {
+        self.rows.next(steps)
+    }
+}

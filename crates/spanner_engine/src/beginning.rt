@@ -1,0 +1,100 @@
+//! Beginning the answers of a query on a document.
+ghost use Rattle.std.specs.Prelude.{◌≡◌, ◌+◌, ◌^◌, ◌≤◌, length, false, IfErr, IfOk, IsErrOf};
+ghost use Rattle.std.specs.Option.{ForSome, IfSome, option_copied};
+ghost use Rattle.spanner_model.specs.Answers.{IsRest};
+ghost use Rattle.spanner_model.specs.ExprView.{query_of};
+ghost use Rattle.spanner_engine.specs.Begun.{IsBeginFault, IsPast, begin_steps, cells_sought};
+ghost use Rattle.spanner_engine.specs.Left.{AreLeft};
+ghost use Rattle.spanner_engine.specs.declared.beginning.BeginFault.TheVariants.{CursorPlace};
+
+use crate::Answers;
+use crate::building::all_answers;
+use crate::place::is_past;
+use enumerator::Enumerator;
+use query_automaton::Compiled;
+use set_table::TableFault;
+use span_core::{Row, Steps};
+use std::alloc::Global;
+use std::sync::ledger::Ledger;
+
+/// How a document is read.
+#[derive(Clone, Copy, Debug, PartialEq, Eq)]
+pub struct Options {
+    /// Whether it is read only at the positions that some atom of the query touches.
+    pub filter: bool,
+    /// The greatest weight of the table that it is read with, from 1 to 100,000,000.
+    pub limit: u64,
+}
+
+/// Why no answers are begun; the first that applies is told.
+#[derive(Clone, Copy, Debug, PartialEq, Eq)]
+pub enum BeginFault {
+    /// A span of the row to begin after ends past the document.
+    CursorPlace,
+    /// The filter of some atom weighs more than the limit: so much.
+    Filter { weight: u64 },
+    /// The table weighs more than the limit: so much.
+    Table { weight: u64 },
+    /// Want of memory.
+    OutOfMemory,
+}
+
+/// The answers of a compiled query on a document that stand after the row `after`, which need not be an
+/// answer, or all of them. All work that grows with the document is done here.
+///
+/// `CursorPlace` comes exactly where a span of `after` ends past the document; no step is taken then.
+/// `Table` comes only where reading the document weighs more than the limit, counted on the query's
+/// automaton with nothing left out: the weight that it tells is more than the limit, and no more than that.
+/// `Filter` does not come while no filter is asked for.
+///
+/// The steps are counted on the same automaton: 8 for each position and one more, 8 for each edge, 1 and
+/// the automaton's size for each row. To go to the place after a row takes one step for each edge and one
+/// more, which is less than the `2v + 1` for each cell and one more that are allowed with v variables.
+pub fn begin<L: Ledger>(
+    alloc: Global,
+    compiled: &Compiled<'_>,
+    doc: &[u8],
+    after: Option<&Row>,
+    options: Options,
+    steps: &mut Steps<L>,
+) -> Result<Answers, BeginFault>
+    requires few { length doc.now ≤ 2 ^ 28 }
+    requires row { IfSome (option_copied after) (λ row. length row ≡ length compiled.now.automaton.names) }
+    requires limit { options.limit ≤ 100000000 }
+    requires whole { options.filter ≡ false }
+    ensures left { IfOk result (λ a. AreLeft (query_of compiled.now.query) doc.now compiled.now.automaton.names (option_copied after.entry) a.rest) }
+    ensures variables { IfOk result (λ a. a.variables ≡ length compiled.now.automaton.names) }
+    ensures place { IsPast (length doc.now) (option_copied after.entry) → IsErrOf result CursorPlace }
+    ensures still { IsErrOf result CursorPlace → steps.new ≡ steps.old }
+    ensures fault { IfErr result (IsBeginFault (query_of compiled.now.query) doc.now (option_copied after.entry) options.limit) }
+    ensures steps { steps.new ≤ steps.old + begin_steps (query_of compiled.now.query) doc.now (option_copied after.entry) }
+{
+    if is_past(after, doc.len()) {
+        return Err(BeginFault::CursorPlace);
+    }
+    let rows = match all_answers(alloc, compiled, doc, options.limit, steps) {
+        Ok(rows) => rows,
+        Err(TableFault::Full { weight }) => return Err(BeginFault::Table { weight }),
+        Err(TableFault::OutOfMemory) => return Err(BeginFault::OutOfMemory),
+    };
+    Ok(Answers::of(from_row(rows, after, steps)))
+}
+
+/// The enumerator at the first row after the given one, or where it stands where none is given.
+fn from_row<L: Ledger>(
+    mut rows: Enumerator,
+    after: Option<&Row>,
+    steps: &mut Steps<L>,
+) -> Enumerator
+    requires row { IfSome (option_copied after) (λ row. length row ≡ rows.variables) }
+    requires first { rows.rest ≡ rows.whole }
+    ensures variables { result.variables ≡ rows.variables }
+    ensures rest { IsRest (option_copied after.entry) rows.whole result.rest }
+    ensures steps { steps.new ≤ steps.old + cells_sought rows.cells (option_copied after.entry) }
+{
+    let Some(row) = after else {
+        return rows;
+    };
+    rows.seek(row, steps);
+    rows
+}

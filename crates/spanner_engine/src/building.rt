@@ -1,0 +1,78 @@
+//! From an automaton and a document to an enumerator of the answers.
+ghost use Rattle.std.specs.Prelude.{◌≡◌, ℕ, ◌+◌, ◌^◌, ◌≤◌, length, IfErr, IfOk};
+ghost use Rattle.span_core.specs.Intervals.{Covers};
+ghost use Rattle.spanner_model.specs.Answers.{AreAnswers};
+ghost use Rattle.spanner_model.specs.ExprView.{query_of};
+ghost use Rattle.automaton_reading.specs.Reading.{edges_K};
+ghost use Rattle.node_arena.specs.Rows.{rows};
+ghost use Rattle.one_pass.specs.Builds.{build};
+ghost use Rattle.one_pass.specs.Faults.{IsReadFault};
+ghost use Rattle.one_pass.specs.Places.{AreReadWords, is_touched};
+ghost use Rattle.spanner_engine.specs.Begun.{all_positions, counted};
+
+use enumerator::Enumerator;
+use marked_automaton::Automaton;
+use one_pass::read_rows;
+use output_graph::RowLists;
+use query_automaton::Compiled;
+use set_table::{Table, TableFault};
+use span_core::{Steps, Touched};
+use std::alloc::Global;
+use std::sync::ledger::Ledger;
+
+/// Reads a document at all its positions, and gives an enumerator of the answers, which stands before
+/// the first.
+pub(crate) fn all_answers<L: Ledger>(
+    alloc: Global,
+    compiled: &Compiled<'_>,
+    doc: &[u8],
+    limit: u64,
+    steps: &mut Steps<L>,
+) -> Result<Enumerator, TableFault>
+    requires few { length doc.now ≤ 2 ^ 28 }
+    requires limit { limit ≤ 100000000 }
+    ensures answers { IfOk result (λ e. AreAnswers (query_of compiled.now.query) doc.now compiled.now.automaton.names e.whole) }
+    ensures rest { IfOk result (λ e. e.rest ≡ e.whole) }
+    ensures variables { IfOk result (λ e. e.variables ≡ length compiled.now.automaton.names) }
+    ensures cells { IfOk result (λ e. e.cells ≤ edges_K (counted (query_of compiled.now.query)) doc.now all_positions + 1) }
+    ensures cause { IfErr result (IsReadFault (counted (query_of compiled.now.query)) all_positions doc.now limit) }
+    ensures steps { steps.new ≤ steps.old + build (counted (query_of compiled.now.query)) doc.now all_positions }
+{
+    let automaton = compiled.automaton();
+    // What holds of each automaton: reading a reduct costs no more.
+    let _facts = automaton.states();
+    let positions = match Touched::all(alloc, doc.len() as u32) {
+        Ok(positions) => positions,
+        Err(_) => return Err(TableFault::OutOfMemory),
+    };
+    let lists = match lists_of(alloc, automaton, doc, &positions, limit, steps) {
+        Ok(lists) => lists,
+        Err(fault) => return Err(fault),
+    };
+    Ok(Enumerator::new(lists, compiled.vars().len()))
+}
+
+/// The lists of the words with which a document is read at some positions. The table that it is read with
+/// weighs no more than `limit`, and is let go.
+fn lists_of<L: Ledger>(
+    alloc: Global,
+    automaton: &Automaton,
+    doc: &[u8],
+    positions: &Touched,
+    limit: u64,
+    steps: &mut Steps<L>,
+) -> Result<RowLists, TableFault>
+    requires few { length doc.now ≤ 2 ^ 28 }
+    requires limit { limit ≤ 100000000 }
+    requires within { (q : ℕ) → Covers positions.now q → q ≤ length doc.now }
+    ensures words { IfOk result (λ lists. AreReadWords automaton.now.graph (is_touched positions.now) doc.now (rows lists.store lists.first)) }
+    ensures cells { IfOk result (λ lists. length lists.store ≤ edges_K automaton.now.graph doc.now (is_touched positions.now) + 1) }
+    ensures cause { IfErr result (IsReadFault automaton.now.graph (is_touched positions.now) doc.now limit) }
+    ensures steps { steps.new ≤ steps.old + build automaton.now.graph doc.now (is_touched positions.now) }
+{
+    let mut table = match Table::new(alloc, automaton, limit, steps) {
+        Ok(table) => table,
+        Err(fault) => return Err(fault),
+    };
+    read_rows(alloc, &mut table, doc, positions, steps)
+}

@@ -1,0 +1,27 @@
+//! Laws of the answers of a query, each the contract of a function that does nothing.
+ghost use Rattle.spanner_engine.specs.Laws.{AllRead, ReductCosts, RowsAfterAreTheRest, RowsAreAnswers, WordsAreOfRows};
+
+/// Read at all positions, an automaton that accepts the words of the rows of answers finds them.
+pub fn all_positions_find_the_answers()
+    ensures { AllRead }
+{}
+
+/// Each word that is read is that of a row.
+pub fn words_that_are_read_are_those_of_rows()
+    ensures { WordsAreOfRows }
+{}
+
+/// The rows of the words that are read, in block order, are the answers of the query.
+pub fn rows_of_words_are_the_answers()
+    ensures { RowsAreAnswers }
+{}
+
+/// The rows of an enumerator after a row are the rest of the answers.
+pub fn rows_after_a_row_are_the_rest()
+    ensures { RowsAfterAreTheRest }
+{}
+
+/// Reading a reduct costs no more than reading what it reduces.
+pub fn reading_a_reduct_costs_no_more()
+    ensures { ReductCosts }
+{}

@@ -1,0 +1,103 @@
+//! The worked examples, by the text of their queries.
+ghost use Rattle.std.specs.Prelude.{◌≡◌, ◌^◌, ◌<◌, ◌≤◌, length};
+
+use crate::{Answers, BeginFault, Options, begin, compile};
+use query_parser::read_query;
+use span_core::{Row, Span, Steps};
+use std::alloc::Global;
+use std::marker::Brand;
+use std::sync::ledger::{Blank, Ledger};
+
+/// More than the rows of any of the examples.
+const MOST_ROWS: u32 = 20;
+
+/// The first variable's spans in the rows that come, each as 100 times its start and its end.
+fn spans<L: Ledger>(
+    alloc: Global,
+    answers: Answers,
+    steps: &mut Steps<L>,
+) -> Result<Vec<u64>, BeginFault> {
+    let mut answers = answers;
+    let mut spans = Vec::new(alloc);
+    for _ in 0..MOST_ROWS {
+        let Some(row) = answers.next(steps) else {
+            return Ok(spans);
+        };
+        if row.len() > 0 {
+            let span = row.at(0);
+            let shown = 100 * u64::from(span.start) + u64::from(span.end);
+            if spans.push(shown).is_err() {
+                return Err(BeginFault::OutOfMemory);
+            }
+        }
+    }
+    Ok(spans)
+}
+
+/// The rows of a query of one variable on a document, after a span of it.
+fn rows_of<L: Ledger>(
+    blank: Blank,
+    alloc: Global,
+    text: &[u8],
+    doc: &[u8],
+    after: Option<Span>,
+    limit: u64,
+) -> Result<Vec<u64>, BeginFault>
+    requires name { blank.name ≡ L.name }
+    requires parts { blank.parts ≡ L.parts }
+    requires some { 0 < L.parts }
+    requires few { length doc.now ≤ 2 ^ 28 }
+    requires limit { limit ≤ 100000000 }
+{
+    let mut steps = Steps::<L>::new(blank);
+    let Ok(query) = read_query(alloc, text) else {
+        return Err(BeginFault::OutOfMemory);
+    };
+    let Ok(compiled) = compile(alloc, &query) else {
+        return Err(BeginFault::OutOfMemory);
+    };
+    let mut row = Row::empty();
+    if let Some(span) = after {
+        row.push(span);
+    }
+    let after = (row.len() > 0 && row.len() == compiled.vars().len()).then_some(&row);
+    let options = Options {
+        filter: false,
+        limit,
+    };
+    let answers = begin(alloc, &compiled, doc, after, options, &mut steps)?;
+    spans(alloc, answers, &mut steps)
+}
+
+#[test]
+fn a_star_gives_its_spans_in_order(rt: HostRuntime) -> Result<(), BeginFault> {
+    let (text, doc) = (b"/!x{a*}/", b"aa");
+    let all = rows_of::<Brand>(Blank::new(1), rt.alloc(), text, doc, None, 8_000_000)?;
+    assert_eq!(rt; all.as_slice(), [0, 1, 2, 101, 102, 202].as_slice());
+    let after = Some(Span::new(0, 1));
+    let rest = rows_of::<Brand>(Blank::new(1), rt.alloc(), text, doc, after, 8_000_000)?;
+    assert_eq!(rt; rest.as_slice(), [2, 101, 102, 202].as_slice());
+    Ok(())
+}
+
+#[test]
+fn a_table_is_refused_by_its_weight(rt: HostRuntime) -> Result<(), BeginFault> {
+    let (text, doc) = (b"/(a|b)*a(a|b){12}!x{c}/", b"aaaaaaaaaaaaac");
+    let read = rows_of::<Brand>(Blank::new(1), rt.alloc(), text, doc, None, 166)?;
+    assert_eq!(rt; read.as_slice(), [1314].as_slice());
+    let full = rows_of::<Brand>(Blank::new(1), rt.alloc(), text, doc, None, 100);
+    assert!(rt; matches!(full, Err(BeginFault::Table { weight: 101..=166 })));
+    Ok(())
+}
+
+#[test]
+fn a_row_may_end_where_the_document_does(rt: HostRuntime) -> Result<(), BeginFault> {
+    let (text, doc) = (b"/!x{a*}/", b"aa");
+    let last = Some(Span::new(2, 2));
+    let none = rows_of::<Brand>(Blank::new(1), rt.alloc(), text, doc, last, 8_000_000)?;
+    assert!(rt; none.is_empty());
+    let past = Some(Span::new(2, 3));
+    let refused = rows_of::<Brand>(Blank::new(1), rt.alloc(), text, doc, past, 8_000_000);
+    assert!(rt; matches!(refused, Err(BeginFault::CursorPlace)));
+    Ok(())
+}
