@@ -12,6 +12,14 @@ option_rule id letter = record (new_rule id) { short = Some letter }
 abbrev pub flag_rule : Text → ℕ → Rule
 flag_rule id letter = record (new_rule id) { short = Some letter; action = Some SetTrue }
 
+-- an option `--name` that takes one text
+abbrev pub long_option_rule : Text → Rule
+long_option_rule name = record (new_rule name) { long = Some name }
+
+-- a flag `--name`
+abbrev pub long_flag_rule : Text → Rule
+long_flag_rule name = record (new_rule name) { long = Some name; action = Some SetTrue }
+
 -- the command's arguments; DOC is the one that has no letter
 abbrev pub the_rules : List Rule
 the_rules =
@@ -21,6 +29,9 @@ the_rules =
     ∷ option_rule (codes "after") 97
     ∷ option_rule (codes "form") 102
     ∷ flag_rule (codes "texts") 116
+    ∷ long_option_rule (codes "max-table")
+    ∷ long_flag_rule (codes "explain")
+    ∷ long_option_rule (codes "trial")
     ∷ new_rule (codes "document")
     ∷ []
 

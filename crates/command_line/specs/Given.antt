@@ -21,6 +21,9 @@ pub record GivenTexts : Type 0 where
   pub after : Option Text
   pub form : Option Text
   pub texts : Bool
+  pub max_table : Option Text
+  pub explain : Bool
+  pub trial : Option Text
   pub document : Option Text
 
 -- what is given by what the command found
@@ -32,6 +35,9 @@ given_by rows = record {
   after = text_given (codes "after") rows;
   form = text_given (codes "form") rows;
   texts = is_given (codes "texts") rows;
+  max_table = text_given (codes "max-table") rows;
+  explain = is_given (codes "explain") rows;
+  trial = text_given (codes "trial") rows;
   document = text_given (codes "document") rows;
 }
 
@@ -48,5 +54,8 @@ given_view g = record {
   after = text_behind g.after;
   form = text_behind g.form;
   texts = g.texts;
+  max_table = text_behind g.max_table;
+  explain = g.explain;
+  trial = text_behind g.trial;
   document = text_behind g.document;
 }

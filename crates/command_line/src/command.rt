@@ -2,7 +2,7 @@
 ghost use Rattle.std.specs.Prelude.{◌≡◌, ◌≢◌, [], codes, map, IfOk, OnOk, string_bytes, IsErrOf, true};
 ghost use Rattle.clap.specs.Words.{app_of, with_rule, rows_of, found_of, new_rule, new_app};
 ghost use Rattle.clap.specs.Simple.{on_top};
-ghost use Rattle.command_line.specs.Command.{option_rule, flag_rule, the_command, refusals, found};
+ghost use Rattle.command_line.specs.Command.{option_rule, flag_rule, long_option_rule, long_flag_rule, the_command, refusals, found};
 
 use crate::WordsFault;
 use clap::error::ErrorKind;
@@ -34,6 +34,29 @@ fn with_flag<'a>(
     command.arg(flag)
 }
 
+// Adds an option `--name` that takes one text.
+fn with_long_option<'a>(
+    alloc: Global,
+    command: Command<'a>,
+    name: &'a str,
+) -> Result<Command<'a>, AllocError>
+    ensures { IfOk result (λ c. app_of c ≡ with_rule (app_of command.entry) (long_option_rule name.entry.now)) }
+{
+    command.arg(Arg::new(alloc, name).long(name))
+}
+
+// Adds a flag `--name`.
+fn with_long_flag<'a>(
+    alloc: Global,
+    command: Command<'a>,
+    name: &'a str,
+) -> Result<Command<'a>, AllocError>
+    ensures { IfOk result (λ c. app_of c ≡ with_rule (app_of command.entry) (long_flag_rule name.entry.now)) }
+{
+    let flag = Arg::new(alloc, name).long(name).action(ArgAction::SetTrue);
+    command.arg(flag)
+}
+
 // Adds an argument that takes one text and stands by itself.
 fn with_positional<'a>(
     alloc: Global,
@@ -62,6 +85,9 @@ fn the_only_command<'a>(alloc: Global) -> Result<Command<'a>, AllocError>
     let command = with_option(alloc, command, "after", 'a')?;
     let command = with_option(alloc, command, "form", 'f')?;
     let command = with_flag(alloc, command, "texts", 't')?;
+    let command = with_long_option(alloc, command, "max-table")?;
+    let command = with_long_flag(alloc, command, "explain")?;
+    let command = with_long_option(alloc, command, "trial")?;
     let command = with_positional(alloc, command, "document")?;
     Ok(command)
 }

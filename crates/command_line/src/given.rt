@@ -18,6 +18,9 @@ pub struct Given<'a> {
     pub after: Option<&'a str>,
     pub form: Option<&'a str>,
     pub texts: bool,
+    pub max_table: Option<&'a str>,
+    pub explain: bool,
+    pub trial: Option<&'a str>,
     pub document: Option<&'a str>,
 }
 
@@ -41,6 +44,9 @@ fn given_of<'a>(matches: &ArgMatches<'a>) -> Given<'a>
         after: text_of(matches, "after"),
         form: text_of(matches, "form"),
         texts: flag_of(matches, "texts"),
+        max_table: text_of(matches, "max-table"),
+        explain: flag_of(matches, "explain"),
+        trial: text_of(matches, "trial"),
         document: text_of(matches, "document"),
     }
 }

@@ -4,8 +4,19 @@
 //! with the program's own checks on what that command finds.
 #![tactic(auto)]
 
-pub use request::{Form, QuerySource, Request, WordsFault, read_request};
+pub use reading::{WordsFault, read_request};
+pub use request::{Form, Mode, QuerySource, Request};
 
 mod command;
 mod given;
+mod reading;
 mod request;
+
+/// The most that a table may weigh, where nothing is said of it.
+pub const DEFAULT_MAX_TABLE: u64 = 8_000_000;
+
+/// The most that can be said of it.
+pub const MOST_MAX_TABLE: u64 = 100_000_000;
+
+/// The most lines of a trial.
+pub const MOST_TRIAL_LINES: u32 = 4_000_000;

@@ -1,34 +1,39 @@
--- A run whose way is clear ends with the whole page.
-use Rattle.std.proofs.Common.{ℕ, ◌≡◌, ◌<◌, ◌⊎◌, ◌∙◌, inl, inr, refl, sym, ap, subst, List, Bool, Option, Some, None, IfSome, true, false, length, arith}
+-- A run whose way is clear ends with all that was asked for.
+use Rattle.std.proofs.Common.{ℕ, ◌≡◌, ◌<◌, ◌≤◌, ◌⊎◌, ◌∙◌, inl, inr, refl, sym, ap, subst, List, Bool, Option, Some, None, IfSome, true, false, length, codes, arith}
 use Rattle.std.proofs.lemmas.Option.{same_Some}
 use Rattle.rm_outside.specs.declared.status.Status.{Status}
 use Rattle.rm_outside.specs.declared.status.Status.TheVariants as status
 use Rattle.command_line.specs.Asked.{Asked, Query, Itself, HeldBy}
+use Rattle.command_line.specs.declared.request.Mode.{Mode}
+use Rattle.command_line.specs.declared.request.Mode.TheVariants as mode
 use Rattle.spanner_model.specs.Captures.{VarName}
 use Rattle.spanner_model.specs.Expression.{QueryTree}
-use Rattle.spanner_model.specs.Answers.{SpanRow, AreResultNames}
+use Rattle.spanner_model.specs.Answers.{SpanRow, AreResultNames, AreAnswers}
 use Rattle.spanner_model.proofs.NameLaws.{same_names}
+use Rattle.marked_automaton.specs.declared.fault.SizeFault.TheVariants.{States, Ways}
+use Rattle.query_automaton.specs.Parts.{HasLargePart}
 use Rattle.row_cursor.specs.CursorTexts.{IsCursorText}
 use Rattle.row_cursor.proofs.Whole.{one_cursor}
+use Rattle.trial_maker.specs.Trial.{trial_text}
 use Rattle.rematch_program.specs.declared.TheConstants.{QUERY_LIMIT, DOCUMENT_LIMIT}
-use Rattle.rematch_program.specs.Change.{Change, Adds}
-use Rattle.rematch_program.specs.Pages.{IsAfter, IsPageOf, page_text, last_note}
-use Rattle.rematch_program.specs.Run.{Text, Store, FromPage, FromDocument, FromPlace, FromQuery, FromText, FromAsked, FromWords, Reports, Run}
-use Rattle.rematch_program.specs.Run.{whole, write_failed, out_of_memory, past_the_document, answered, document_failed, document_too_long, found, no_cursor, other_variables, placed}
-use Rattle.rematch_program.specs.Run.{query_refused, understood, given, query_failed, query_too_long, fetched, refused, accepted, cut}
-use Rattle.rematch_program.specs.Complete.{IsTextOf, IsClear, IsWhole, Completes}
+use Rattle.rematch_program.specs.Change.{Change, Clock, Work, Adds, Failed, clock, work}
+use Rattle.rematch_program.specs.Explained.{explain_text}
+use Rattle.spanner_engine.specs.Begun.{table_weight}
+use Rattle.rematch_program.specs.Limits.{PartsAreSmall}
+use Rattle.rematch_program.specs.Notes.{line}
+use Rattle.rematch_program.specs.Pages.{IsAfter, IsPageOf, cursor_fits, page_text, last_note}
+use Rattle.rematch_program.specs.Steps.{stated_steps}
+use Rattle.rematch_program.specs.Trials.{trial_summary}
+use Rattle.rematch_program.specs.Run.{Text, Store, FromPage, FromAnswers, FromDocument, FromPlace, FromCursor, FromCompiled, FromQuery, FromText, FromAsked, FromWords, IsExplained, IsNotBegun, IsTooLarge, Reports, Run, WantsAnswers}
+use Rattle.rematch_program.specs.Run.{whole, write_failed, out_of_memory, paged, summed, past_the_document, table_full, not_begun, by_states, by_ways, by_memory, answered, document_failed, document_too_long, found, no_cursor, other_variables, placed, page_asked, trial_asked}
+use Rattle.rematch_program.specs.Run.{explained, told_names, too_large, compiled, query_refused, understood, given, query_failed, query_too_long, fetched, refused, accepted, cut}
+use Rattle.rematch_program.specs.Complete.{IsTextOf, IsClear, IsWithinLimits, HasDocument, IsWhole, IsWritten, IsSummed, Completes, PlainCompletes, TrialCompletes, ExplainCompletes}
 
--- how the work ends where the way is clear
-pub record IsServed (a : Asked) (q : QueryTree) (names : List VarName) (after : Option SpanRow) (document : Text) (out : Change) (end : Status) (note : Text) : Type 0 where
+-- a text and a note are whole, or memory was wanting
+pub record AreWhole (text last : Text) (w : Work) (end : Status) (note : Text) : Type 0 where
   pub done : end ≡ status.Done
-  pub rows : List SpanRow
-  pub more : Bool
-  pub page : IsPageOf q document names after a.limit rows more
-  pub text : Adds out (page_text a.form a.texts names document rows)
-  pub says : note ≡ last_note names a.after rows more
-
-abbrev Ended : Asked → QueryTree → List VarName → Option SpanRow → Text → Change → Status → Text → Type 0
-Ended a q names after document out end note = IsServed a q names after document out end note ⊎ (end ≡ status.Memory)
+  pub wrote : Adds w.out text
+  pub says : note ≡ last
 
 told_as : (held : Option Text) (bytes all : Text) → held ≡ Some all → IfSome held (λ all. bytes ≡ all) → bytes ≡ all
 told_as held bytes all is told = let P : Option Text → Type 0 = λ h. IfSome h (λ all. bytes ≡ all) in subst P is told
@@ -53,78 +58,214 @@ row_of_text : (names : List VarName) (text : Text) (after : Option SpanRow) → 
 row_of_text names text None h = absurd h
 row_of_text names text (Some row) h = (row, h)
 
-module _ (words : List Text) (a : Asked) (text : Text) (q : QueryTree) (names : List VarName) (after : Option SpanRow) (document : Text) (s : Store) (out notes : Change) (clear : IsClear words a text q names after document s out notes) where
-  reads_as : (t : Text) → a.after ≡ Some t → (row : SpanRow) × IsCursorText names row t
-  reads_as t is = row_of_text names t after (let P : Option Text → Type 0 = λ o. IsAfter names o after in subst P is clear.begins)
+-- no size is refused
+never_states : (q : QueryTree) → PartsAreSmall q → (count : ℕ) → HasLargePart q (States count) → ⊥
+never_states q small count (inl (k, l, at, (passes, (M, part, le)))) = let few = (small M (inl (k, l, at, part))).0 in absurd (omega (arith, few, passes, le))
+never_states q small count (inr (passes, (M, part, le))) = let few = (small M (inr part)).0 in absurd (omega (arith, few, passes, le))
 
-  from_page : (rows : List SpanRow) (more : Bool) (end : Status) (note : Text) → IsPageOf q document names after a.limit rows more →
-      FromPage (page_text a.form a.texts names document rows) (last_note names a.after rows more) out end note → Ended a q names after document out end note
-  from_page rows more end note page (whole is says adds) = inl (record { done = is; rows = rows; more = more; page = page; text = adds; says = says })
-  from_page rows more end note page (write_failed is failed part) = absurd (clear.written failed)
-  from_page rows more end note page (out_of_memory is part) = inr is.ends
+never_ways : (q : QueryTree) → PartsAreSmall q → (count : ℕ) → HasLargePart q (Ways count) → ⊥
+never_ways q small count (inl (k, l, at, (passes, (M, part, le)))) = let few = (small M (inl (k, l, at, part))).1 in absurd (omega (arith, few, passes, le))
+never_ways q small count (inr (passes, (M, part, le))) = let few = (small M (inr part)).1 in absurd (omega (arith, few, passes, le))
 
-  from_document : (end : Status) (note : Text) → FromDocument a q names after document out end note → Ended a q names after document out end note
-  from_document end note (past_the_document past is quiet) = let both : true ≡ false = sym clear.fits ∙ past in absurd (cc)
-  from_document end note (out_of_memory is quiet) = inr is.ends
-  from_document end note (answered fits rows more page case) = from_page rows more end note page case
+never_too_large : (q : QueryTree) → PartsAreSmall q → (end : Status) (note : Text) → IsTooLarge q end note → end ≡ status.Memory
+never_too_large q small end note (by_states count large is) = absurd (never_states q small count large)
+never_too_large q small end note (by_ways count large is) = absurd (never_ways q small count large)
+never_too_large q small end note (by_memory is) = is.ends
 
-  from_place : (end : Status) (note : Text) → FromPlace a q names after s out end note → Ended a q names after document out end note
-  from_place end note (document_failed failed is quiet) = absurd (clear.fetched failed)
-  from_place end note (document_too_long long is quiet) = let more = longer DOCUMENT_LIMIT (s.held a.document) document clear.held long in let few = clear.few in absurd (omega (arith, more, few))
-  from_place end note (out_of_memory is quiet) = inr is.ends
-  from_place end note (found bytes gives case) =
-      let P : Text → Type 0 = λ d. FromDocument a q names after d out end note in
-      from_document end note (subst P (told_as (s.held a.document) bytes document clear.held gives.told) case)
+-- the answers are begun, unless memory is wanting
+never_unbegun : (q : QueryTree) (after : Option SpanRow) (document : Text) (most : ℕ) (steps : Clock) (end : Status) (note : Text) →
+    cursor_fits (length document) after ≡ true → table_weight q document ≤ most → IsNotBegun q after document most steps end note → end ≡ status.Memory
+never_unbegun q after document most steps end note fits light (past_the_document past is still) = let both : true ≡ false = sym fits ∙ past in absurd (cc)
+never_unbegun q after document most steps end note fits light (table_full inside heavy is few) = absurd (omega (arith, light, heavy))
+never_unbegun q after document most steps end note fits light (by_memory is few) = is.ends
 
-  from_query : (end : Status) (note : Text) → FromQuery a q s out end note → Ended a q names after document out end note
-  from_query end note (no_cursor t is none ends quiet) = let r = reads_as t is in absurd (none names r.0 r.1)
-  from_query end note (other_variables t is own are others row reads differ ends quiet) =
-      let r = reads_as t is in
-      let same : others ≡ names = (one_cursor others names row r.0 t reads r.1).0 in
-      absurd (differ (same ∙ names_one q names own clear.named are))
-  from_query end note (out_of_memory is quiet) = inr is.ends
-  from_query end note (placed own are row begins case) =
-      let same : own ≡ names = names_one q own names are clear.named in
-      let P : List VarName → Type 0 = λ ns. IsAfter ns a.after row in
-      let there : row ≡ after = after_one names a.after after row clear.begins (subst P same begins) in
-      let Q : List VarName → Type 0 = λ ns. FromPlace a q ns row s out end note in
-      let R : Option SpanRow → Type 0 = λ o. FromPlace a q names o s out end note in
-      from_place end note (subst R there (subst Q same case))
+same_lines : (j k : ℕ) → mode.Trial j ≡ mode.Trial k → j ≡ k
+same_lines j k is = cc
 
-  from_text : (end : Status) (note : Text) → FromText a text s out end note → Ended a q names after document out end note
-  from_text end note (query_refused fault only is quiet) = absurd (only.unsound q clear.sound)
-  from_text end note (out_of_memory is quiet) = inr is.ends
-  from_text end note (understood other only case) = let P : QueryTree → Type 0 = λ r. FromQuery a r s out end note in from_query end note (subst P (sym (only.only q clear.sound)) case)
+pub trial_wants : (m : Mode) (lines : ℕ) → m ≡ mode.Trial lines → WantsAnswers m
+trial_wants m lines is = let P : Mode → Type 0 = λ o. WantsAnswers o in subst P (sym is) tt
+
+pub plain_wants : (m : Mode) → m ≡ mode.Plain → WantsAnswers m
+plain_wants m is = let P : Mode → Type 0 = λ o. WantsAnswers o in subst P (sym is) tt
+
+-- from the words to the query; `Goal` is what is to be shown
+module _ (words : List Text) (a : Asked) (text : Text) (q : QueryTree) (names : List VarName) (s : Store) (w : Work) (notes : Change) (clear : IsClear words a text q names s w.out notes) (end : Status) (note : Text) (Goal : Type 0) (memory : end ≡ status.Memory → Goal) (from_query : FromQuery a q s w end note → Goal) where
+  from_text : FromText a text s w end note → Goal
+  from_text (query_refused fault only is quiet) = absurd (only.unsound q clear.sound)
+  from_text (out_of_memory is quiet) = memory is.ends
+  from_text (understood other only case) = let P : QueryTree → Type 0 = λ r. FromQuery a r s w end note in from_query (subst P (sym (only.only q clear.sound)) case)
 
   given_as : (query : Query) → a.query ≡ query → IsTextOf s query text
   given_as query is = let P : Query → Type 0 = λ o. IsTextOf s o text in subst P is clear.given
 
-  from_asked : (end : Status) (note : Text) → FromAsked a s out end note → Ended a q names after document out end note
-  from_asked end note (given own is case) = let P : Text → Type 0 = λ t. FromText a t s out end note in from_text end note (subst P (given_as (Itself own) is) case)
-  from_asked end note (query_failed name is failed ends quiet) = absurd ((given_as (HeldBy name) is).2 failed)
-  from_asked end note (query_too_long name is long ends quiet) =
+  from_asked : FromAsked a s w end note → Goal
+  from_asked (given own is case) = let P : Text → Type 0 = λ t. FromText a t s w end note in from_text (subst P (given_as (Itself own) is) case)
+  from_asked (query_failed name is failed ends quiet) = absurd ((given_as (HeldBy name) is).2 failed)
+  from_asked (query_too_long name is long ends quiet) =
       let told = given_as (HeldBy name) is in let more = longer QUERY_LIMIT (s.held name) text told.0 long in let few = told.1 in absurd (omega (arith, more, few))
-  from_asked end note (out_of_memory is quiet) = inr is.ends
-  from_asked end note (fetched name is own gives case) =
-      let P : Text → Type 0 = λ t. FromText a t s out end note in
-      from_text end note (subst P (told_as (s.held name) own text (given_as (HeldBy name) is).0 gives.told) case)
+  from_asked (out_of_memory is quiet) = memory is.ends
+  from_asked (fetched name is own gives case) =
+      let P : Text → Type 0 = λ t. FromText a t s w end note in
+      from_text (subst P (told_as (s.held name) own text (given_as (HeldBy name) is).0 gives.told) case)
 
-  from_words : (end : Status) (note : Text) → FromWords words s out end note → Ended a q names after document out end note
-  from_words end note (refused none is quiet) = let both : Some a ≡ None = sym clear.accepted ∙ none in absurd (cc)
-  from_words end note (out_of_memory is quiet) = inr is.ends
-  from_words end note (accepted other is case) =
+  from_words : FromWords words s w end note → Goal
+  from_words (refused none is quiet) = let both : Some a ≡ None = sym clear.accepted ∙ none in absurd (cc)
+  from_words (out_of_memory is quiet) = memory is.ends
+  from_words (accepted other is case) =
       let same : other ≡ a = same_Some other a (sym is ∙ clear.accepted) in
-      let P : Asked → Type 0 = λ b. FromAsked b s out end note in
-      from_asked end note (subst P same case)
+      let P : Asked → Type 0 = λ b. FromAsked b s w end note in
+      from_asked (subst P same case)
 
-  reported : (end : Status) (note : Text) (result : Status) → Reports end note notes result → Ended a q names after document out end note → IsWhole a q names after document out notes result ⊎ (result ≡ status.Memory)
-  reported end note result (whole is adds) (inl p) =
-      let P : Text → Type 0 = λ t. Adds notes t in
-      inl (record { done = is ∙ p.done; rows = p.rows; more = p.more; page = p.page; text = p.text; note = subst P p.says adds })
-  reported end note result (whole is adds) (inr memory) = inr (is ∙ memory)
-  reported end note result (cut is failed part) ended = absurd (clear.noted failed)
+from_page : (text last : Text) (steps : ℕ) (w : Work) (end : Status) (note : Text) → ¬ Failed w.out → FromPage text last steps w end note → AreWhole text last w end note ⊎ (end ≡ status.Memory)
+from_page text last steps w end note fine (whole is says adds few) = inl (record { done = is; wrote = adds; says = says })
+from_page text last steps w end note fine (write_failed is failed part few) = absurd (fine failed)
+from_page text last steps w end note fine (out_of_memory is part few) = inr is.ends
 
-pub completes : (words : List Text) (s : Store) (out notes : Change) (result : Status) → Run words s out notes result → Completes words s out notes result
-completes words s out notes result run = λ a text q names after document clear.
-    reported words a text q names after document s out notes clear run.end run.note result run.report
-    (from_words words a text q names after document s out notes clear run.end run.note run.work)
+-- the plain command
+pub record IsServed (a : Asked) (q : QueryTree) (names : List VarName) (after : Option SpanRow) (document : Text) (w : Work) (end : Status) (note : Text) : Type 0 where
+  pub rows : List SpanRow
+  pub more : Bool
+  pub page : IsPageOf q document names after a.limit rows more
+  pub are : AreWhole (page_text a.form a.texts names document rows) (last_note names a.after rows more) w end note
+
+module _ (words : List Text) (a : Asked) (text : Text) (q : QueryTree) (names : List VarName) (s : Store) (w : Work) (notes : Change) (clear : IsClear words a text q names s w.out notes) (end : Status) (note : Text) where
+  module _ (wants : WantsAnswers a.mode) (small : PartsAreSmall q) (Goal : Type 0) (memory : end ≡ status.Memory → Goal) (from_compiled : FromCompiled a q s w end note → Goal) where
+    from_query : FromQuery a q s w end note → Goal
+    from_query (explained is case still) = let P : Mode → Type 0 = λ m. WantsAnswers m in absurd (subst P is wants)
+    from_query (too_large asks why quiet) = memory (never_too_large q small end note why)
+    from_query (out_of_memory is quiet) = memory is.ends
+    from_query (compiled asks few case) = from_compiled case
+
+  module _ (after : Option SpanRow) (document : Text) (limits : IsWithinLimits a q document) (fits : cursor_fits (length document) after ≡ true) (Goal : Type 0) (memory : end ≡ status.Memory → Goal) (from_answers : FromAnswers a q names after document w end note → Goal) where
+    from_document : FromDocument a q names after document w end note → Goal
+    from_document (not_begun why quiet) = memory (never_unbegun q after document a.max_table w.steps end note fits limits.light why)
+    from_document (out_of_memory is quiet) = memory is.ends
+    from_document (answered inside case) = from_answers case
+
+  -- the plain command
+  module _ (after : Option SpanRow) (document : Text) (plain : a.mode ≡ mode.Plain) (has : HasDocument a names after document s) (limits : IsWithinLimits a q document) where
+    abbrev Served : Type 0
+    Served = IsServed a q names after document w end note ⊎ (end ≡ status.Memory)
+
+    page_of : FromAnswers a q names after document w end note → Served
+    page_of (paged is rows more page case) = elim (from_page _ _ _ w end note clear.written case) [
+      | inl are ↦ inl (record { rows = rows; more = more; page = page; are = are })
+      | inr memory ↦ inr memory
+    ]
+    page_of (summed lines is rows answers case) = let both : mode.Plain ≡ mode.Trial lines = sym plain ∙ is in absurd (cc)
+
+    place_of : FromPlace a q names after s w end note → Served
+    place_of (document_failed failed ends quiet) = absurd (has.fetched failed)
+    place_of (document_too_long long ends quiet) = let more = longer DOCUMENT_LIMIT (s.held a.document) document has.held long in let few = has.few in absurd (omega (arith, more, few))
+    place_of (out_of_memory is quiet) = inr is.ends
+    place_of (found bytes gives case) =
+        let P : Text → Type 0 = λ d. FromDocument a q names after d w end note in
+        from_document after document limits has.fits Served (λ m. inr m) page_of (subst P (told_as (s.held a.document) bytes document has.held gives.told) case)
+
+    reads_as : (t : Text) → a.after ≡ Some t → (row : SpanRow) × IsCursorText names row t
+    reads_as t is = row_of_text names t after (let P : Option Text → Type 0 = λ o. IsAfter names o after in subst P is has.begins)
+
+    cursor_of : FromCursor a q names s w end note → Served
+    cursor_of (no_cursor t is none ends quiet) = let r = reads_as t is in absurd (none names r.0 r.1)
+    cursor_of (other_variables t is others row reads differ ends quiet) =
+        let r = reads_as t is in
+        absurd (differ (one_cursor others names row r.0 t reads r.1).0)
+    cursor_of (placed row starts case) =
+        let R : Option SpanRow → Type 0 = λ o. FromPlace a q names o s w end note in
+        place_of (subst R (after_one names a.after after row has.begins starts) case)
+
+    plain_of : FromCompiled a q s w end note → Served
+    plain_of (out_of_memory is quiet) = inr is.ends
+    plain_of (page_asked is own are case) = let P : List VarName → Type 0 = λ ns. FromCursor a q ns s w end note in cursor_of (subst P (names_one q own names are clear.named) case)
+    plain_of (trial_asked lines is own are case) = let both : mode.Plain ≡ mode.Trial lines = sym plain ∙ is in absurd (cc)
+
+    pub served : FromWords words s w end note → Served
+    served case = from_words words a text q names s w notes clear end note Served (λ m. inr m)
+        (from_query (plain_wants a.mode plain) limits.small Served (λ m. inr m) plain_of) case
+
+  -- a trial
+  module _ (lines : ℕ) (trial : a.mode ≡ mode.Trial lines) (limits : IsWithinLimits a q (trial_text lines)) where
+    abbrev Tried : Type 0
+    Tried = ((rows : List SpanRow) × AreAnswers q (trial_text lines) names rows × AreWhole (trial_summary lines names (trial_text lines) rows) (line (codes "end")) w end note) ⊎ (end ≡ status.Memory)
+
+    summary_of : FromAnswers a q names None (trial_text lines) w end note → Tried
+    summary_of (paged is rows more page case) = let both : mode.Plain ≡ mode.Trial lines = sym is ∙ trial in absurd (cc)
+    summary_of (summed own is rows answers case) =
+        let same : own ≡ lines = same_lines own lines (sym is ∙ trial) in
+        let P : ℕ → Type 0 = λ k. FromPage (trial_summary k names (trial_text lines) rows) (line (codes "end")) (stated_steps q names (trial_text lines) None (length rows)) w end note in
+        elim (from_page _ _ _ w end note clear.written (subst P same case)) [
+          | inl are ↦ inl (rows, answers, are)
+          | inr memory ↦ inr memory
+        ]
+
+    trial_of : FromCompiled a q s w end note → Tried
+    trial_of (out_of_memory is quiet) = inr is.ends
+    trial_of (page_asked is own are case) = let both : mode.Plain ≡ mode.Trial lines = sym is ∙ trial in absurd (cc)
+    trial_of (trial_asked own is others are case) =
+        let P : ℕ → Type 0 = λ k. FromDocument a q others None (trial_text k) w end note in
+        let Q : List VarName → Type 0 = λ ns. FromDocument a q ns None (trial_text lines) w end note in
+        from_document None (trial_text lines) limits refl Tried (λ m. inr m) summary_of
+        (subst Q (names_one q others names are clear.named) (subst P (same_lines own lines (sym is ∙ trial)) case))
+
+    pub tried : FromWords words s w end note → Tried
+    tried case = from_words words a text q names s w notes clear end note Tried (λ m. inr m)
+        (from_query (trial_wants a.mode lines trial) limits.small Tried (λ m. inr m) trial_of) case
+
+  -- what the query is
+  module _ (explain : a.mode ≡ mode.Explain) where
+    abbrev Told : Type 0
+    Told = AreWhole (explain_text q names) (line (codes "end")) w end note ⊎ (end ≡ status.Memory)
+
+    told_of : IsExplained q w.out end note → Told
+    told_of (told_names own are page) =
+        let P : List VarName → Type 0 = λ ns. FromPage (explain_text q ns) (line (codes "end")) 0 (work w.out (clock 0 0)) end note in
+        elim (from_page _ _ _ (work w.out (clock 0 0)) end note clear.written (subst P (names_one q own names are clear.named) page)) [
+          | inl all ↦ inl (record { done = all.done; wrote = all.wrote; says = all.says })
+          | inr memory ↦ inr memory
+        ]
+    told_of (by_memory is quiet) = inr is.ends
+
+    lines_of : FromQuery a q s w end note → Told
+    lines_of (explained is case still) = told_of case
+    lines_of (too_large asks why quiet) = let P : Mode → Type 0 = λ m. WantsAnswers m in absurd (subst P explain asks)
+    lines_of (out_of_memory is quiet) = inr is.ends
+    lines_of (compiled asks few case) = let P : Mode → Type 0 = λ m. WantsAnswers m in absurd (subst P explain asks)
+
+    pub explains : FromWords words s w end note → Told
+    explains case = from_words words a text q names s w notes clear end note Told (λ m. inr m) lines_of case
+
+-- with the note
+reported : (text last : Text) (w : Work) (notes : Change) (end result : Status) (note : Text) → ¬ Failed notes → Reports end note notes result → AreWhole text last w end note → (result ≡ status.Done) × Adds w.out text × Adds notes last
+reported text last w notes end result note fine (whole is adds) are =
+    let P : Text → Type 0 = λ t. Adds notes t in (is ∙ are.done, are.wrote, subst P are.says adds)
+reported text last w notes end result note fine (cut is failed part) are = absurd (fine failed)
+
+memory_reported : (notes : Change) (end result : Status) (note : Text) → ¬ Failed notes → Reports end note notes result → end ≡ status.Memory → result ≡ status.Memory
+memory_reported notes end result note fine (whole is adds) memory = is ∙ memory
+memory_reported notes end result note fine (cut is failed part) memory = absurd (fine failed)
+
+module _ (words : List Text) (s : Store) (out notes : Change) (steps : Clock) (result : Status) (run : Run words s out notes steps result) where
+  plain_completes : PlainCompletes words s out notes result
+  plain_completes a text q names after document plain clear has limits =
+      elim (served words a text q names s (work out steps) notes clear run.end run.note after document plain has limits run.done) [
+        | inl p ↦ let r = reported _ _ (work out steps) notes run.end result run.note clear.noted run.report p.are in inl (record { done = r.0; rows = p.rows; more = p.more; page = p.page; text = r.1; note = r.2 })
+        | inr m ↦ inr (memory_reported notes run.end result run.note clear.noted run.report m)
+      ]
+
+  trial_completes : TrialCompletes words s out notes result
+  trial_completes a text q names lines trial clear limits =
+      elim (tried words a text q names s (work out steps) notes clear run.end run.note lines trial limits run.done) [
+        | inl p ↦ let r = reported _ _ (work out steps) notes run.end result run.note clear.noted run.report p.2 in inl (record { rows = p.0; answers = p.1; writes = record { done = r.0; wrote = r.1; note = r.2 } })
+        | inr m ↦ inr (memory_reported notes run.end result run.note clear.noted run.report m)
+      ]
+
+  explain_completes : ExplainCompletes words s out notes result
+  explain_completes a text q names explain clear =
+      elim (explains words a text q names s (work out steps) notes clear run.end run.note explain run.done) [
+        | inl p ↦ let r = reported _ _ (work out steps) notes run.end result run.note clear.noted run.report p in inl (record { done = r.0; wrote = r.1; note = r.2 })
+        | inr m ↦ inr (memory_reported notes run.end result run.note clear.noted run.report m)
+      ]
+
+pub completes : (words : List Text) (s : Store) (out notes : Change) (steps : Clock) (result : Status) → Run words s out notes steps result → Completes words s out notes result
+completes words s out notes steps result run =
+    (plain_completes words s out notes steps result run, trial_completes words s out notes steps result run, explain_completes words s out notes steps result run)

@@ -68,3 +68,11 @@ so_far_whole old mid new waiting left whole s none p =
 pub so_far_last : (old mid new : Option (List ℕ)) (waiting left whole : List ℕ) → SoFar old mid waiting left whole → AppendsPart mid new waiting → AppendsPart old new whole
 so_far_last old mid new waiting left whole s p =
     so_far_part old mid new waiting [] left left whole s refl (subst (λ (xs : List ℕ). AppendsPart mid new xs) (sym (append-nil waiting)) p)
+
+-- what puts of a text have passed on, where nothing of it is left
+pub rows_passed : (mid new : Option (List ℕ)) (waiting waiting' lines : List ℕ) → SoFar mid new waiting' [] (waiting ++ lines) → Passes waiting lines waiting' (change mid new 0 0)
+rows_passed mid new waiting waiting' lines s = record {
+  sent = s.sent;
+  adds = s.adds;
+  joined = ap (λ xs. s.sent ++ xs) (sym (append-nil waiting')) ∙ s.joined;
+}

@@ -11,7 +11,7 @@ use Rattle.spanner_model.proofs.Ends.{EndsBy, query_ends}
 use Rattle.cell_text.specs.Cells.{ends_by}
 use Rattle.rematch_program.specs.Pages.{FitsPage}
 
-span_inside : (n : ℕ) (o : Option Span) → ((s : Span) → o ≡ Some s → s.end ≤ n) → ends_by n o ≡ true
+pub span_inside : (n : ℕ) (o : Option Span) → ((s : Span) → o ≡ Some s → s.end ≤ n) → ends_by n o ≡ true
 span_inside n None h = refl
 span_inside n (Some s) h = let le = h s refl in grind arith
 

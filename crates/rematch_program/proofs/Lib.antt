@@ -1,9 +1,14 @@
-pub mod Cases
-pub mod Completeness
 pub mod Gathers
 pub mod Inside
 pub mod PageLaws
 pub mod QueryLaws
 pub mod RestLaws
-pub mod ResumeLaws
 pub mod ResultNames
+pub mod Completeness
+pub mod Cases
+pub mod ResumeLaws
+pub mod WorkedLaws
+pub mod PageSteps
+pub mod Fits
+pub mod AtomLines
+pub mod SummaryLaws

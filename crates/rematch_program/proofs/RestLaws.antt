@@ -11,41 +11,7 @@ use Rattle.spanner_model.specs.Expression.{QueryTree}
 use Rattle.spanner_model.specs.Answers.{SpanRow, AreInBlockOrder, AreAnswers, IsRest}
 use Rattle.span_core.proofs.HasLaws.{Has-take, Has-slice_get, Has-append_right}
 use Rattle.row_cursor.specs.CursorTexts.{AreParts}
-use Rattle.rematch_program.specs.Pages.{AllFit, AreAsWide, IsAfter, IsPageOf, first_rows}
-
--- ---- the search
-
--- what holds of each element holds of a member
-all_has : (P : SpanRow → Type 0) (rows : List SpanRow) (r : SpanRow) → AllByRecursion P rows → Has rows r → P r
-all_has P [] r a h = absurd h
-all_has P (x ∷ rows) r a (inl e) = subst P e a.0
-all_has P (x ∷ rows) r a (inr h) = all_has P rows r a.1 h
-
--- the row at a place stands after, so do all that follow it
-pub all_after : (after x : SpanRow) (rows : List SpanRow) (m : ℕ) → AreInBlockOrder rows → slice_get rows m ≡ Some x → StandsBefore after x → (r : SpanRow) → Has (drop m rows) r → StandsBefore after r
-all_after after x [] m up at h r has = absurd (cc)
-all_after after x (y ∷ rows) zero up at h r (inl e) = let same : y ≡ x = cc in subst (StandsBefore after) (sym same ∙ e) h
-all_after after x (y ∷ rows) zero up at h r (inr has) =
-    let same : y ≡ x = cc in
-    stands_transitive after x r h (subst (λ (z : SpanRow). StandsBefore z r) same (all_has (StandsBefore y) rows r up.0 has))
-all_after after x (y ∷ rows) (suc m) up at h r has = all_after after x rows m up.1 at h r has
-
--- the row at a place does not, so does none before it
-pub none_after : (after x : SpanRow) (rows : List SpanRow) (m : ℕ) → AreInBlockOrder rows → slice_get rows m ≡ Some x → ¬ StandsBefore after x → (r : SpanRow) → Has (take (suc m) rows) r → ¬ StandsBefore after r
-none_after after x [] m up at never r has before = absurd (cc)
-none_after after x (y ∷ rows) zero up at never r (inl e) before = let same : y ≡ x = cc in never (subst (StandsBefore after) (sym e ∙ same) before)
-none_after after x (y ∷ rows) zero up at never r (inr has) before = absurd has
-none_after after x (y ∷ rows) (suc m) up at never r (inl e) before =
-    never (stands_transitive after y x (subst (StandsBefore after) (sym e) before) (all_has (StandsBefore y) rows x up.0 (Has-slice_get rows m x at)))
-none_after after x (y ∷ rows) (suc m) up at never r (inr has) before = none_after after x rows m up.1 at never r has before
-
-pub none_before : (after x : SpanRow) (rows : List SpanRow) (m k : ℕ) → k ≡ suc m → AreInBlockOrder rows → slice_get rows m ≡ Some x → ¬ StandsBefore after x → (r : SpanRow) → Has (take k rows) r → ¬ StandsBefore after r
-none_before after x rows m k is up at never r has = none_after after x rows m up at never r (subst (λ (n : ℕ). Has (take n rows) r) is has)
-
--- a cut at which the rows in front do not stand after, and those behind do
-pub rest_at : (after : SpanRow) (rows : List SpanRow) (k : ℕ) → ((r : SpanRow) → Has (take k rows) r → ¬ StandsBefore after r) → ((r : SpanRow) → Has (drop k rows) r → StandsBefore after r) →
-    IsRest (Some after) rows (drop k rows)
-rest_at after rows k front behind = (take k rows, sym (take-append-drop k rows), front, behind)
+use Rattle.rematch_program.specs.Pages.{AllFit, HasWidth, IsAfter, IsPageOf, first_rows}
 
 pub Has-drop : (rows : List SpanRow) (k : ℕ) (r : SpanRow) → Has (drop k rows) r → Has rows r
 Has-drop rows zero r h = h
@@ -95,8 +61,9 @@ parts_long [] (s ∷ row) h = absurd h
 parts_long (x ∷ names) [] h = absurd h
 parts_long (x ∷ names) (s ∷ row) h = ap suc (parts_long names row h.2)
 
--- the row of a cursor is as wide as the answers
-pub as_wide : (names : List VarName) (n : ℕ) (text : Option (List ℕ)) (after : Option SpanRow) (rows : List SpanRow) → IsAfter names text after → AllFit (length names) n rows → AreAsWide after rows
-as_wide names n text None rows h fit = tt
-as_wide names n None (Some row) rows h fit = absurd h
-as_wide names n (Some text) (Some row) rows h fit = λ r has. (fit r has).lengths ∙ sym (parts_long names row h.parts_are)
+-- the row of a cursor has a span for each variable
+pub has_width : (names : List VarName) (text : Option (List ℕ)) (after : Option SpanRow) → IsAfter names text after → HasWidth (length names) after
+has_width names None None h = tt
+has_width names None (Some row) h = absurd h
+has_width names (Some text) None h = absurd h
+has_width names (Some text) (Some row) h = parts_long names row h.parts_are

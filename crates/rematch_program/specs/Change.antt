@@ -1,5 +1,5 @@
 -- What a call did to a sink.
-use Rattle.std.specs.Prelude.{◌≡◌, ℕ, List, ◌++◌, Option}
+use Rattle.std.specs.Prelude.{◌≡◌, ◌≤◌, ◌+◌, ℕ, List, ◌++◌, Option}
 use Rattle.std.specs.Io.KnownBytes.{Appends}
 use Rattle.rm_outside.specs.Faults.{Rose}
 use Rattle.rm_outside.specs.Sink.{AppendsPart}
@@ -29,6 +29,34 @@ AddsPart c bytes = AppendsPart c.old c.new bytes
 -- the sink failed
 abbrev pub Failed : Change → Type 0
 Failed c = Rose c.before c.after
+
+-- the counter of steps, before and after
+pub record Clock : Type 0 where
+  pub old : ℕ
+  pub new : ℕ
+
+abbrev pub clock : ℕ → ℕ → Clock
+clock old new = record { old = old; new = new }
+
+-- no step was taken
+abbrev pub StandsStill : Clock → Type 0
+StandsStill c = c.new ≡ c.old
+
+-- at most so many were
+abbrev pub TakesAtMost : Clock → ℕ → Type 0
+TakesAtMost c steps = c.new ≤ c.old + steps
+
+-- what the work did: to out, and to the counter of steps
+pub record Work : Type 0 where
+  pub out : Change
+  pub steps : Clock
+
+abbrev pub work : Change → Clock → Work
+work out steps = record { out = out; steps = steps }
+
+-- nothing: neither was out written nor a step taken
+abbrev pub DidNothing : Work → Type 0
+DidNothing w = IsQuiet w.out × StandsStill w.steps
 
 -- of what waited and a line, a front was added, and the rest is left to wait
 pub record Passes (waiting line left : List ℕ) (c : Change) : Type 0 where

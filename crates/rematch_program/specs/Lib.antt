@@ -2,6 +2,11 @@ pub mod Change
 pub mod Notes
 pub mod Pages
 pub mod Ending
+pub mod Limits
+pub mod Explained
+pub mod Trials
+pub mod Steps
 pub mod Run
 pub mod Complete
 pub mod Resume
+pub mod Examples

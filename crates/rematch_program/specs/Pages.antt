@@ -1,17 +1,16 @@
 -- The page that a run writes: its rows, its text, and the note at its end.
-use Rattle.std.specs.Prelude.{◌≡◌, ℕ, Bool, true, false, IsTrue, List, [], ◌∷◌, ◌++◌, Option, Some, None, codes, length, take, unwrap_or, if◌then◌else◌}
-use Rattle.std.specs.Borrow.{Bor}
-use Rattle.std.specs.List.{flat_map, list_all}
+use Rattle.std.specs.Prelude.{◌≡◌, ℕ, ◌-◌, Bool, true, false, IsTrue, List, [], ◌∷◌, ◌++◌, Option, Some, None, codes, length, take, unwrap_or, if◌then◌else◌}
 use Rattle.span_core.specs.Lists.{Has}
 use Rattle.spanner_model.specs.Captures.{VarName}
 use Rattle.spanner_model.specs.Expression.{QueryTree}
 use Rattle.spanner_model.specs.Answers.{SpanRow, IsPage}
-use Rattle.cell_text.specs.Cells.{ends_by}
 use Rattle.row_cursor.specs.CursorTexts.{cursor_text, IsCursorText}
 use Rattle.row_writer.specs.Lines.{spans_text, head_text, table_text}
 use Rattle.row_writer.specs.JsonLines.{json_text}
 use Rattle.command_line.specs.declared.request.Form.{Form}
 use Rattle.command_line.specs.declared.request.Form.TheVariants as form
+use Rattle.std.specs.List.{flat_map, list_all}
+use Rattle.cell_text.specs.Cells.{ends_by}
 use Rattle.rematch_program.specs.Notes.{line}
 
 -- ---- where the page begins
@@ -27,14 +26,10 @@ IsAfter names (Some text) (Some row) = IsCursorText names row text
 abbrev pub is_inside : ℕ → SpanRow → Bool
 is_inside n row = list_all (ends_by n) row
 
+-- no span of the row that the page begins after ends past n
 abbrev pub cursor_fits : ℕ → Option SpanRow → Bool
 cursor_fits n None = true
 cursor_fits n (Some row) = is_inside n row
-
--- a row that is lent
-abbrev pub row_behind : Option (Bor SpanRow) → Option SpanRow
-row_behind None = None
-row_behind (Some row) = Some row.now
 
 -- ---- the rows of the page
 
@@ -73,10 +68,25 @@ abbrev pub next_cursor : List VarName → Option (List ℕ) → List SpanRow →
 next_cursor names given [] = unwrap_or given (codes "start")
 next_cursor names given (row ∷ rows) = next_cursor names (Some (cursor_text names row)) rows
 
+-- the text of the last row so far, or that which was given
+abbrev pub cursor_given : List VarName → Option SpanRow → Option (List ℕ) → Option (List ℕ)
+cursor_given names None given = given
+cursor_given names (Some row) given = Some (cursor_text names row)
+
+-- one row fewer
+abbrev pub fewer : Option ℕ → Option ℕ
+fewer None = None
+fewer (Some n) = Some (n - 1)
+
 abbrev pub last_note : List VarName → Option (List ℕ) → List SpanRow → Bool → List ℕ
 last_note names given rows more = if more then line (codes "more " ++ next_cursor names given rows) else line (codes "end")
 
 -- ---- what is known of a page's rows
+
+-- the row has so many spans
+abbrev pub HasWidth : ℕ → Option SpanRow → Type 0
+HasWidth v None = Unit {0}
+HasWidth v (Some row) = length row ≡ v
 
 -- a span for each variable, none of which ends past n
 pub record FitsPage (width n : ℕ) (row : SpanRow) : Type 0 where
@@ -85,11 +95,3 @@ pub record FitsPage (width n : ℕ) (row : SpanRow) : Type 0 where
 
 abbrev pub AllFit : ℕ → ℕ → List SpanRow → Type 0
 AllFit width n rows = (row : SpanRow) → Has rows row → FitsPage width n row
-
-abbrev pub AreLong : ℕ → List SpanRow → Type 0
-AreLong width rows = (row : SpanRow) → Has rows row → length row ≡ width
-
--- the rows have as many spans as the row of the cursor
-abbrev pub AreAsWide : Option SpanRow → List SpanRow → Type 0
-AreAsWide None rows = Unit {0}
-AreAsWide (Some after) rows = AreLong (length after) rows

@@ -1,19 +1,29 @@
 -- What a run does: the relation between the words, what the shelf holds, the faults that rose, the
--- bytes added to out and notes, and the status. The first case that applies is taken. Want of memory
+-- bytes added to out and notes, the steps taken, and the status. The first case that applies is taken. Want of memory
 -- may stand in place of any.
 use Rattle.std.specs.Prelude.{◌≡◌, ◌≢◌, ◌<◌, ◌≤◌, ℕ, List, Bool, true, false, Option, Some, None, IfSome, length, codes}
 use Rattle.rm_outside.specs.Faults.{Rose}
 use Rattle.rm_outside.specs.declared.status.Status.{Status}
 use Rattle.rm_outside.specs.declared.status.Status.TheVariants as status
 use Rattle.command_line.specs.Asked.{Asked, Itself, HeldBy, asked}
+use Rattle.command_line.specs.declared.request.Mode.{Mode}
+use Rattle.command_line.specs.declared.request.Mode.TheVariants as mode
 use Rattle.spanner_model.specs.Captures.{VarName}
 use Rattle.spanner_model.specs.Expression.{QueryTree}
-use Rattle.spanner_model.specs.Answers.{SpanRow, AreResultNames}
+use Rattle.spanner_model.specs.Answers.{SpanRow, AreResultNames, AreAnswers}
 use Rattle.query_parser.specs.declared.fault.QueryFault.{QueryFault}
 use Rattle.query_parser.specs.Faults.{IsQueryText, HasFault}
 use Rattle.row_cursor.specs.CursorTexts.{IsCursorText}
 use Rattle.rematch_program.specs.declared.TheConstants.{QUERY_LIMIT, DOCUMENT_LIMIT}
-use Rattle.rematch_program.specs.Change.{Change, IsQuiet, Adds, AddsPart, Failed}
+use Rattle.marked_automaton.specs.declared.fault.SizeFault.TheVariants.{States, Ways}
+use Rattle.query_automaton.specs.Parts.{AtomsAreSmall, HasLargePart}
+use Rattle.trial_maker.specs.Trial.{trial_text}
+use Rattle.rematch_program.specs.Change.{Change, Clock, Work, clock, work, IsQuiet, Adds, AddsPart, Failed, StandsStill, TakesAtMost, DidNothing}
+use Rattle.rematch_program.specs.Explained.{explain_text}
+use Rattle.spanner_engine.specs.Begun.{begin_steps, table_weight}
+use Rattle.rematch_program.specs.Limits.{states_note, ways_note, table_note}
+use Rattle.rematch_program.specs.Steps.{stated_steps}
+use Rattle.rematch_program.specs.Trials.{trial_summary}
 use Rattle.rematch_program.specs.Notes.{line, fault_note}
 use Rattle.rematch_program.specs.Pages.{IsAfter, cursor_fits, IsPageOf, page_text, last_note}
 
@@ -60,60 +70,106 @@ pub record Is (end : Status) (note : Text) (wanted : Status) (text : Text) : Typ
 abbrev pub IsOutOfMemory : Status → Text → Type 0
 IsOutOfMemory end note = Is end note status.Memory (codes "out of memory")
 
--- with the page's text and the note at its end
-pub data FromPage (text last : Text) (out : Change) (end : Status) (note : Text) : Type 0 where
-  whole : end ≡ status.Done → note ≡ last → Adds out text → FromPage text last out end note
-  write_failed : Is end note status.Write (codes "write failed") → Failed out → AddsPart out text → FromPage text last out end note
-  out_of_memory : IsOutOfMemory end note → AddsPart out text → FromPage text last out end note
+-- with the text, the note at its end, and the steps that writing it takes
+pub data FromPage (text last : Text) (steps : ℕ) (w : Work) (end : Status) (note : Text) : Type 0 where
+  whole : end ≡ status.Done → note ≡ last → Adds w.out text → TakesAtMost w.steps steps → FromPage text last steps w end note
+  write_failed : Is end note status.Write (codes "write failed") → Failed w.out → AddsPart w.out text → TakesAtMost w.steps steps →
+      FromPage text last steps w end note
+  out_of_memory : IsOutOfMemory end note → AddsPart w.out text → TakesAtMost w.steps steps → FromPage text last steps w end note
+
+-- with all that is needed: a page of the answers, or the summary of them all
+pub data FromAnswers (a : Asked) (q : QueryTree) (names : List VarName) (after : Option SpanRow) (document : Text) (w : Work) (end : Status) (note : Text) : Type 0 where
+  paged : a.mode ≡ mode.Plain → (rows : List SpanRow) (more : Bool) → IsPageOf q document names after a.limit rows more →
+      FromPage (page_text a.form a.texts names document rows) (last_note names a.after rows more) (stated_steps q names document after (length rows)) w end note →
+      FromAnswers a q names after document w end note
+  summed : (lines : ℕ) → a.mode ≡ mode.Trial lines → (rows : List SpanRow) → AreAnswers q document names rows →
+      FromPage (trial_summary lines names document rows) (line (codes "end")) (stated_steps q names document None (length rows)) w end note →
+      FromAnswers a q names after document w end note
+
+-- no answer is begun with the document: a span of the cursor ends past it, its reading weighs too much, or memory is wanting
+pub data IsNotBegun (q : QueryTree) (after : Option SpanRow) (document : Text) (max_table : ℕ) (steps : Clock) (end : Status) (note : Text) : Type 0 where
+  past_the_document : cursor_fits (length document) after ≡ false → Is end note status.Cursor (codes "cursor: past the document") → StandsStill steps →
+      IsNotBegun q after document max_table steps end note
+  table_full : cursor_fits (length document) after ≡ true → max_table < table_weight q document → Is end note status.Size (table_note max_table) →
+      TakesAtMost steps (begin_steps q document after) → IsNotBegun q after document max_table steps end note
+  by_memory : IsOutOfMemory end note → TakesAtMost steps (begin_steps q document after) → IsNotBegun q after document max_table steps end note
 
 -- with the document
-pub data FromDocument (a : Asked) (q : QueryTree) (names : List VarName) (after : Option SpanRow) (document : Text) (out : Change) (end : Status) (note : Text) : Type 0 where
-  past_the_document : cursor_fits (length document) after ≡ false → Is end note status.Cursor (codes "cursor: past the document") → IsQuiet out →
-      FromDocument a q names after document out end note
-  out_of_memory : IsOutOfMemory end note → IsQuiet out → FromDocument a q names after document out end note
-  answered : cursor_fits (length document) after ≡ true → (rows : List SpanRow) (more : Bool) → IsPageOf q document names after a.limit rows more →
-      FromPage (page_text a.form a.texts names document rows) (last_note names a.after rows more) out end note → FromDocument a q names after document out end note
+pub data FromDocument (a : Asked) (q : QueryTree) (names : List VarName) (after : Option SpanRow) (document : Text) (w : Work) (end : Status) (note : Text) : Type 0 where
+  not_begun : IsNotBegun q after document a.max_table w.steps end note → IsQuiet w.out → FromDocument a q names after document w end note
+  out_of_memory : IsOutOfMemory end note → DidNothing w → FromDocument a q names after document w end note
+  answered : cursor_fits (length document) after ≡ true → FromAnswers a q names after document w end note → FromDocument a q names after document w end note
 
 -- with the place where the page begins
-pub data FromPlace (a : Asked) (q : QueryTree) (names : List VarName) (after : Option SpanRow) (s : Store) (out : Change) (end : Status) (note : Text) : Type 0 where
-  document_failed : FetchFailed s a.document → Is end note status.Read (codes "read failed: document") → IsQuiet out → FromPlace a q names after s out end note
-  document_too_long : IsTooLong s a.document DOCUMENT_LIMIT → Is end note status.Long (codes "document longer than 268435456 bytes") → IsQuiet out →
-      FromPlace a q names after s out end note
-  out_of_memory : IsOutOfMemory end note → IsQuiet out → FromPlace a q names after s out end note
-  found : (document : Text) → Gives s a.document DOCUMENT_LIMIT document → FromDocument a q names after document out end note →
-      FromPlace a q names after s out end note
+pub data FromPlace (a : Asked) (q : QueryTree) (names : List VarName) (after : Option SpanRow) (s : Store) (w : Work) (end : Status) (note : Text) : Type 0 where
+  document_failed : FetchFailed s a.document → Is end note status.Read (codes "read failed: document") → DidNothing w → FromPlace a q names after s w end note
+  document_too_long : IsTooLong s a.document DOCUMENT_LIMIT → Is end note status.Long (codes "document longer than 268435456 bytes") → DidNothing w →
+      FromPlace a q names after s w end note
+  out_of_memory : IsOutOfMemory end note → DidNothing w → FromPlace a q names after s w end note
+  found : (document : Text) → Gives s a.document DOCUMENT_LIMIT document → FromDocument a q names after document w end note →
+      FromPlace a q names after s w end note
 
--- with the query; `names` are those of its result
-pub data FromQuery (a : Asked) (q : QueryTree) (s : Store) (out : Change) (end : Status) (note : Text) : Type 0 where
-  no_cursor : (text : Text) → a.after ≡ Some text → ((names : List VarName) (row : SpanRow) → ¬ IsCursorText names row text) →
-      Is end note status.Cursor (codes "cursor: not a cursor") → IsQuiet out → FromQuery a q s out end note
-  other_variables : (text : Text) → a.after ≡ Some text → (names : List VarName) → AreResultNames q names → (others : List VarName) (row : SpanRow) →
-      IsCursorText others row text → others ≢ names → Is end note status.Cursor (codes "cursor: other variables") → IsQuiet out → FromQuery a q s out end note
-  out_of_memory : IsOutOfMemory end note → IsQuiet out → FromQuery a q s out end note
-  placed : (names : List VarName) → AreResultNames q names → (after : Option SpanRow) → IsAfter names a.after after → FromPlace a q names after s out end note →
-      FromQuery a q s out end note
+-- with the query's automaton, for a page; `names` are those of its result
+pub data FromCursor (a : Asked) (q : QueryTree) (names : List VarName) (s : Store) (w : Work) (end : Status) (note : Text) : Type 0 where
+  no_cursor : (text : Text) → a.after ≡ Some text → ((others : List VarName) (row : SpanRow) → ¬ IsCursorText others row text) →
+      Is end note status.Cursor (codes "cursor: not a cursor") → DidNothing w → FromCursor a q names s w end note
+  other_variables : (text : Text) → a.after ≡ Some text → (others : List VarName) (row : SpanRow) → IsCursorText others row text → others ≢ names →
+      Is end note status.Cursor (codes "cursor: other variables") → DidNothing w → FromCursor a q names s w end note
+  placed : (after : Option SpanRow) → IsAfter names a.after after → FromPlace a q names after s w end note → FromCursor a q names s w end note
+
+-- with the query's automaton; a trial takes the made document, and all of its answers
+pub data FromCompiled (a : Asked) (q : QueryTree) (s : Store) (w : Work) (end : Status) (note : Text) : Type 0 where
+  out_of_memory : IsOutOfMemory end note → DidNothing w → FromCompiled a q s w end note
+  page_asked : a.mode ≡ mode.Plain → (names : List VarName) → AreResultNames q names → FromCursor a q names s w end note → FromCompiled a q s w end note
+  trial_asked : (lines : ℕ) → a.mode ≡ mode.Trial lines → (names : List VarName) → AreResultNames q names →
+      FromDocument a q names None (trial_text lines) w end note → FromCompiled a q s w end note
+
+-- the answers are asked for, on a document that is held or on a made one
+abbrev pub WantsAnswers : Mode → Type 0
+WantsAnswers mode.Plain = Unit {0}
+WantsAnswers mode.Explain = ⊥
+WantsAnswers (mode.Trial lines) = Unit {0}
+
+-- what the query is was told, or memory is wanting
+pub data IsExplained (q : QueryTree) (out : Change) (end : Status) (note : Text) : Type 0 where
+  told_names : (names : List VarName) → AreResultNames q names → FromPage (explain_text q names) (line (codes "end")) 0 (work out (clock 0 0)) end note →
+      IsExplained q out end note
+  by_memory : IsOutOfMemory end note → IsQuiet out → IsExplained q out end note
+
+-- an automaton of the query is too large, or memory is wanting
+pub data IsTooLarge (q : QueryTree) (end : Status) (note : Text) : Type 0 where
+  by_states : (count : ℕ) → HasLargePart q (States count) → Is end note status.Size states_note → IsTooLarge q end note
+  by_ways : (count : ℕ) → HasLargePart q (Ways count) → Is end note status.Size ways_note → IsTooLarge q end note
+  by_memory : IsOutOfMemory end note → IsTooLarge q end note
+
+-- with the query
+pub data FromQuery (a : Asked) (q : QueryTree) (s : Store) (w : Work) (end : Status) (note : Text) : Type 0 where
+  explained : a.mode ≡ mode.Explain → IsExplained q w.out end note → StandsStill w.steps → FromQuery a q s w end note
+  too_large : WantsAnswers a.mode → IsTooLarge q end note → DidNothing w → FromQuery a q s w end note
+  out_of_memory : IsOutOfMemory end note → DidNothing w → FromQuery a q s w end note
+  compiled : WantsAnswers a.mode → AtomsAreSmall q → FromCompiled a q s w end note → FromQuery a q s w end note
 
 -- with the query's text
-pub data FromText (a : Asked) (text : Text) (s : Store) (out : Change) (end : Status) (note : Text) : Type 0 where
-  query_refused : (fault : QueryFault) → IsOnlyFault text fault → Is end note status.Query (fault_note fault) → IsQuiet out → FromText a text s out end note
-  out_of_memory : IsOutOfMemory end note → IsQuiet out → FromText a text s out end note
-  understood : (q : QueryTree) → IsOnlyQuery text q → FromQuery a q s out end note → FromText a text s out end note
+pub data FromText (a : Asked) (text : Text) (s : Store) (w : Work) (end : Status) (note : Text) : Type 0 where
+  query_refused : (fault : QueryFault) → IsOnlyFault text fault → Is end note status.Query (fault_note fault) → DidNothing w → FromText a text s w end note
+  out_of_memory : IsOutOfMemory end note → DidNothing w → FromText a text s w end note
+  understood : (q : QueryTree) → IsOnlyQuery text q → FromQuery a q s w end note → FromText a text s w end note
 
 -- with the words' meaning
-pub data FromAsked (a : Asked) (s : Store) (out : Change) (end : Status) (note : Text) : Type 0 where
-  given : (text : Text) → a.query ≡ Itself text → FromText a text s out end note → FromAsked a s out end note
-  query_failed : (name : Text) → a.query ≡ HeldBy name → FetchFailed s name → Is end note status.Read (codes "read failed: query") → IsQuiet out →
-      FromAsked a s out end note
-  query_too_long : (name : Text) → a.query ≡ HeldBy name → IsTooLong s name QUERY_LIMIT → Is end note status.Query (codes "query: longer than 65536 bytes") → IsQuiet out →
-      FromAsked a s out end note
-  out_of_memory : IsOutOfMemory end note → IsQuiet out → FromAsked a s out end note
-  fetched : (name : Text) → a.query ≡ HeldBy name → (text : Text) → Gives s name QUERY_LIMIT text → FromText a text s out end note → FromAsked a s out end note
+pub data FromAsked (a : Asked) (s : Store) (w : Work) (end : Status) (note : Text) : Type 0 where
+  given : (text : Text) → a.query ≡ Itself text → FromText a text s w end note → FromAsked a s w end note
+  query_failed : (name : Text) → a.query ≡ HeldBy name → FetchFailed s name → Is end note status.Read (codes "read failed: query") → DidNothing w →
+      FromAsked a s w end note
+  query_too_long : (name : Text) → a.query ≡ HeldBy name → IsTooLong s name QUERY_LIMIT → Is end note status.Query (codes "query: longer than 65536 bytes") → DidNothing w →
+      FromAsked a s w end note
+  out_of_memory : IsOutOfMemory end note → DidNothing w → FromAsked a s w end note
+  fetched : (name : Text) → a.query ≡ HeldBy name → (text : Text) → Gives s name QUERY_LIMIT text → FromText a text s w end note → FromAsked a s w end note
 
 -- with the words
-pub data FromWords (words : List Text) (s : Store) (out : Change) (end : Status) (note : Text) : Type 0 where
-  refused : asked words ≡ None → Is end note status.Words (codes "bad command line") → IsQuiet out → FromWords words s out end note
-  out_of_memory : IsOutOfMemory end note → IsQuiet out → FromWords words s out end note
-  accepted : (a : Asked) → asked words ≡ Some a → FromAsked a s out end note → FromWords words s out end note
+pub data FromWords (words : List Text) (s : Store) (w : Work) (end : Status) (note : Text) : Type 0 where
+  refused : asked words ≡ None → Is end note status.Words (codes "bad command line") → DidNothing w → FromWords words s w end note
+  out_of_memory : IsOutOfMemory end note → DidNothing w → FromWords words s w end note
+  accepted : (a : Asked) → asked words ≡ Some a → FromAsked a s w end note → FromWords words s w end note
 
 -- a page whose note failed is a failed write
 abbrev pub status_without_note : Status → Status
@@ -126,8 +182,8 @@ pub data Reports (end : Status) (note : Text) (notes : Change) (result : Status)
   cut : result ≡ status_without_note end → Failed notes → AddsPart notes note → Reports end note notes result
 
 -- a run
-pub record Run (words : List Text) (s : Store) (out notes : Change) (result : Status) : Type 0 where
+pub record Run (words : List Text) (s : Store) (out notes : Change) (steps : Clock) (result : Status) : Type 0 where
   pub end : Status
   pub note : Text
-  pub work : FromWords words s out end note
+  pub done : FromWords words s (work out steps) end note
   pub report : Reports end note notes result

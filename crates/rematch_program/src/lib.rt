@@ -5,16 +5,19 @@
 //! note comes when, in terms of what a query means and never of how it is evaluated.
 #![tactic(auto)]
 
-pub use laws::pages_resume;
+pub use laws::{completeness_follows, pages_resume, worked_examples};
 pub use top::run;
 
 mod ending;
+mod explanation;
 mod gather;
 mod laws;
 mod lines;
 mod notes;
 mod page;
-mod rest;
+mod summary;
+#[cfg(test)]
+mod tests;
 mod top;
 
 /// The most bytes of a query's text.
@@ -22,6 +25,3 @@ pub const QUERY_LIMIT: u64 = 65_536;
 
 /// The most bytes of a document.
 pub const DOCUMENT_LIMIT: u64 = 268_435_456;
-
-#[cfg(test)]
-mod tests;

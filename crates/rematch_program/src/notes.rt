@@ -2,6 +2,7 @@
 ghost use Rattle.std.specs.Prelude.{◌≡◌, ◌++◌, codes, IfOk};
 ghost use Rattle.rematch_program.specs.Notes.{line, at_place, about, formula_note as formula_text, check_note as check_text, fault_note as fault_text};
 ghost use Rattle.rematch_program.specs.Ending.{note_bytes};
+ghost use Rattle.rematch_program.specs.Limits.{table_note as table_text};
 
 use crate::ending::Note;
 use formula_parser::FormulaFault;
@@ -97,4 +98,12 @@ fn note_about(alloc: Global, before: &str, name: &Name, after: &str) -> Result<N
     bytes.extend_from_slice(after.as_bytes())?;
     bytes.push(b'\n')?;
     Ok(Note::Made(bytes))
+}
+
+/// The line of a table that passes its limit.
+pub fn table_note(alloc: Global, limit: u64) -> Result<Note, OutOfMemory>
+    ensures { IfOk result (λ note. note_bytes note ≡ line (table_text limit)) }
+{
+    let text = format!(in alloc; "size: table past {limit}\n")?;
+    Ok(Note::Made(text.into_bytes()))
 }

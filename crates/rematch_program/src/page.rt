@@ -1,26 +1,24 @@
-//! A page of answers: its rows, its text on out, and the note at its end.
-ghost use Rattle.std.specs.Prelude.{◌≡◌, ℕ, ◌<◌, ◌≤◌, ◌↔◌, ◌++◌, [], List, length, IsTrue, IfOk, OnOk, OnErr, IsErrOf};
+//! A page of answers: its rows, one by one, its text on out, and the note at its end.
+ghost use Rattle.std.specs.Prelude.{◌≡◌, ℕ, ◌<◌, ◌≤◌, ◌+◌, ◌*◌, ◌↔◌, ◌++◌, [], List, Some, length, nat_lt, IsTrue, IsFalse, IfOk, OnOk, OnErr, IsErrOf};
+ghost use Rattle.std.specs.List.{flat_map};
 ghost use Rattle.command_line.specs.Asked.{request_view};
 ghost use Rattle.command_line.specs.Given.{text_behind};
-ghost use Rattle.spanner_model.specs.ExprView.{query_of};
-ghost use Rattle.spanner_model.specs.Sound.{IsSound};
-ghost use Rattle.spanner_model.specs.Answers.{AreResultNames};
 ghost use Rattle.rematch_program.specs.Ending.{note_bytes};
-ghost use Rattle.rematch_program.specs.Change.{change, Adds, AddsPart, Failed, Passes};
-ghost use Rattle.rematch_program.specs.Pages.{AllFit, AreLong, IsAfter, FitsPage, cursor_fits, last_note, next_cursor, page_text, row_behind, row_text};
-ghost use Rattle.rematch_program.specs.declared.TheConstants.{DOCUMENT_LIMIT};
-ghost use Rattle.rematch_program.specs.Run.{FromDocument, FromPage};
+ghost use Rattle.rematch_program.specs.Change.{change, clock, work, Adds, AddsPart, Failed, Passes, SoFar};
+ghost use Rattle.rematch_program.specs.Pages.{AllFit, FitsPage, HasWidth, cursor_given, fewer, first_rows, last_note, next_cursor, page_text, row_text};
+ghost use Rattle.rematch_program.specs.Run.{FromPage};
+ghost use Rattle.rematch_program.specs.Steps.{next_steps};
 ghost use Rattle.rematch_program.specs.declared.page.PageFault.TheVariants as fault;
 
 use crate::ending::{Ending, Note};
 use crate::gather::Gather;
 use crate::lines::{put_head, put_row};
-use crate::rest::{first_of, rest_after};
 use command_line::Request;
 use rm_outside::{Sink, SinkFailed, Status};
-use span_core::{OutOfMemory, Row, VarSet};
-use spanner_model::Query;
+use span_core::{OutOfMemory, Row, Steps, VarSet};
+use spanner_engine::Answers;
 use std::alloc::Global;
+use std::sync::ledger::Ledger;
 
 /// Why a page was not written whole.
 #[derive(Clone, Copy, Debug, PartialEq, Eq)]
@@ -47,78 +45,25 @@ impl From<SinkFailed> for PageFault {
     }
 }
 
-/// Answers a query on a document: the page after the cursor is written, unless the cursor's row has a
-/// span that ends past the document.
-pub fn with_document<O: Sink>(
-    alloc: Global,
-    request: &Request<'_>,
-    query: &Query,
-    vars: &VarSet,
-    after: Option<&Row>,
-    document: &[u8],
-    out: &mut O,
-) -> Ending
-    requires sound { IsSound (query_of query.now) }
-    requires names { AreResultNames (query_of query.now) vars.now }
-    requires after { IsAfter vars.now (request_view request.now).after (row_behind after) }
-    requires short { length document.now ≤ DOCUMENT_LIMIT }
-    ensures case { FromDocument (request_view request.now) (query_of query.now) vars.now (row_behind after.entry) document.now
-        (change (O.written out.old) (O.written out.new) (O.faults out.old) (O.faults out.new))
-        result.status (note_bytes result.note) }
-{
-    if !fits_in(after, document) {
-        return Ending::with(Status::Cursor, "cursor: past the document\n");
-    }
-    let rows = match plain_spanner::all(alloc, query, document) {
-        Ok(rows) => rows,
-        Err(OutOfMemory) => return Ending::out_of_memory(),
-    };
-    let rest = rest_after(&rows, after);
-    let page = first_of(rest, request.limit);
-    let more = is_shorter(page, rest);
-    write_page(alloc, request, vars, document, page, more, out)
-}
-
-fn is_shorter(page: &[Row], rest: &[Row]) -> bool
-    ensures { IsTrue result ↔ (length page.now < length rest.now) }
-{
-    page.len() < rest.len()
-}
-
-/// Whether no span of the cursor's row ends past the document.
-fn fits_in(after: Option<&Row>, document: &[u8]) -> bool
-    requires { length document.now ≤ DOCUMENT_LIMIT }
-    ensures { result ≡ cursor_fits (length document.now) (row_behind after.entry) }
-{
-    match after {
-        Some(row) => row_cursor::fits(row, document.len() as u32),
-        None => true,
-    }
-}
-
-/// Writes the page. Its note is made first, so that memory can be wanting before the page is whole, and
-/// not after.
-fn write_page<O: Sink>(
+/// Writes the page. Its note is made before the last put.
+pub fn write_page<O: Sink, L: Ledger>(
     alloc: Global,
     request: &Request<'_>,
     vars: &VarSet,
     document: &[u8],
-    page: &[Row],
-    more: bool,
+    answers: &mut Answers,
     out: &mut O,
+    steps: &mut Steps<L>,
 ) -> Ending
-    requires fit { AllFit (length vars.now) (length document.now) page.now }
-    ensures case { FromPage (page_text (request_view request.now).form (request_view request.now).texts vars.now document.now page.now)
-        (last_note vars.now (request_view request.now).after page.now more)
-        (change (O.written out.old) (O.written out.new) (O.faults out.old) (O.faults out.new))
+    requires fit { AllFit (length vars.now) (length document.now) answers.old.rest }
+    ensures case { FromPage (page_text (request_view request.now).form (request_view request.now).texts vars.now document.now (first_rows (request_view request.now).limit answers.old.rest))
+        (last_note vars.now (request_view request.now).after (first_rows (request_view request.now).limit answers.old.rest) (nat_lt (length (first_rows (request_view request.now).limit answers.old.rest)) (length answers.old.rest)))
+        ((length (first_rows (request_view request.now).limit answers.old.rest) + 1) * next_steps answers.old.variables)
+        (work (change (O.written out.old) (O.written out.new) (O.faults out.old) (O.faults out.new)) (clock steps.old steps.new))
         result.status (note_bytes result.note) }
 {
-    let note = match page_note(alloc, request, vars, page, more) {
-        Ok(note) => note,
-        Err(OutOfMemory) => return Ending::out_of_memory(),
-    };
-    match put_page(alloc, request, vars, document, page, out) {
-        Ok(()) => Ending {
+    match put_page(alloc, request, vars, document, answers, out, steps) {
+        Ok(note) => Ending {
             status: Status::Done,
             note,
         },
@@ -127,84 +72,139 @@ fn write_page<O: Sink>(
     }
 }
 
-/// The note at the end of the page.
-fn page_note(
-    alloc: Global,
-    request: &Request<'_>,
-    vars: &VarSet,
-    page: &[Row],
-    more: bool,
-) -> Result<Note, OutOfMemory>
-    requires lengths { AreLong (length vars.now) page.now }
-    ensures { IfOk result (λ note. note_bytes note ≡ last_note vars.now (request_view request.now).after page.now more) }
-{
-    if !more {
-        return Ok(Note::Line("end\n"));
-    }
-    let mut bytes = Vec::new(alloc);
-    bytes.extend_from_slice(b"more ")?;
-    put_cursor(request.after, vars, page, &mut bytes)?;
-    bytes.push(b'\n')?;
-    Ok(Note::Made(bytes))
-}
-
-/// The cursor of the page that follows.
-fn put_cursor(
-    given: Option<&str>,
-    vars: &VarSet,
-    page: &[Row],
-    bytes: &mut Vec<u8>,
-) -> Result<(), OutOfMemory>
-    requires lengths { AreLong (length vars.now) page.now }
-    ensures { OnOk result (bytes.new.items ≡ bytes.old.items ++ next_cursor vars.now (text_behind given.entry) page.now) }
-{
-    let count = page.len();
-    if count > 0 {
-        return row_cursor::print(&page[count - 1], vars, bytes);
-    }
-    bytes.extend_from_slice(given.unwrap_or("start").as_bytes())?;
-    Ok(())
-}
-
-/// Puts the text of the page.
-fn put_page<O: Sink>(
+/// Puts the text of the page, and gives its note.
+fn put_page<O: Sink, L: Ledger>(
     alloc: Global,
     request: &Request<'_>,
     vars: &VarSet,
     document: &[u8],
-    page: &[Row],
+    answers: &mut Answers,
     out: &mut O,
-) -> Result<(), PageFault>
-    requires fit { AllFit (length vars.now) (length document.now) page.now }
-    ensures whole { OnOk result (Adds (change (O.written out.old) (O.written out.new) (O.faults out.old) (O.faults out.new))
-        (page_text (request_view request.now).form (request_view request.now).texts vars.now document.now page.now)) }
-    ensures part { OnErr result (AddsPart (change (O.written out.old) (O.written out.new) (O.faults out.old) (O.faults out.new))
-        (page_text (request_view request.now).form (request_view request.now).texts vars.now document.now page.now)) }
+    steps: &mut Steps<L>,
+) -> Result<Note, PageFault>
+    requires fit { AllFit (length vars.now) (length document.now) answers.old.rest }
+    ensures whole { OnOk result (Adds (change (O.written out.old) (O.written out.new) (O.faults out.old) (O.faults out.new)) (page_text (request_view request.now).form (request_view request.now).texts vars.now document.now (first_rows (request_view request.now).limit answers.old.rest))) }
+    ensures part { OnErr result (AddsPart (change (O.written out.old) (O.written out.new) (O.faults out.old) (O.faults out.new)) (page_text (request_view request.now).form (request_view request.now).texts vars.now document.now (first_rows (request_view request.now).limit answers.old.rest))) }
     ensures failed { IsErrOf result PageFault.Failed → Failed (change (O.written out.old) (O.written out.new) (O.faults out.old) (O.faults out.new)) }
+    ensures note { IfOk result (λ note. note_bytes note ≡ last_note vars.now (request_view request.now).after (first_rows (request_view request.now).limit answers.old.rest) (nat_lt (length (first_rows (request_view request.now).limit answers.old.rest)) (length answers.old.rest))) }
+    ensures steps { steps.new ≤ steps.old + (length (first_rows (request_view request.now).limit answers.old.rest) + 1) * next_steps answers.old.variables }
 {
     let mut gather = Gather::new(alloc)?;
     let mut line = Vec::new(alloc);
     put_head(request.form, vars, &mut line)?;
     gather.add(&line, out)?;
-    for k in 0..page.len() {
-        let row = &page[k];
-        let put = put_line(
-            alloc,
-            request,
-            vars,
-            document,
-            row,
-            &mut line,
-            &mut gather,
-            out,
-        );
+    let end = match put_rows(
+        alloc,
+        request,
+        vars,
+        document,
+        answers,
+        &mut gather,
+        &mut line,
+        out,
+        steps,
+    ) {
+        Ok(end) => end,
+        Err(fault) => return Err(fault),
+    };
+    let note = page_note(alloc, request, vars, &end)?;
+    match gather.flush(out) {
+        Ok(()) => Ok(note),
+        Err(SinkFailed) => Err(PageFault::Failed),
+    }
+}
+
+/// The note at the end of the page.
+fn page_note(
+    alloc: Global,
+    request: &Request<'_>,
+    vars: &VarSet,
+    end: &PageEnd,
+) -> Result<Note, OutOfMemory>
+    requires width { HasWidth (length vars.now) end.now.last }
+    ensures { IfOk result (λ note. note_bytes note ≡ last_note vars.now (cursor_given vars.now end.now.last (request_view request.now).after) [] end.now.more) }
+{
+    if !end.more {
+        return Ok(Note::Line("end\n"));
+    }
+    let mut bytes = Vec::new(alloc);
+    bytes.extend_from_slice(b"more ")?;
+    match &end.last {
+        Some(row) => row_cursor::print(row, vars, &mut bytes)?,
+        None => bytes.extend_from_slice(request.after.unwrap_or("start").as_bytes())?,
+    }
+    bytes.push(b'\n')?;
+    Ok(Note::Made(bytes))
+}
+
+/// Where the rows of a page end.
+#[derive(Drop)]
+pub struct PageEnd {
+    /// The last row of the page.
+    pub last: Option<Row>,
+    /// Whether more rows remain.
+    pub more: bool,
+}
+
+/// Takes rows up to the limit, one by one, and puts the line of each or lets it wait. The room of the
+/// line before is used again.
+fn put_rows<O: Sink, L: Ledger>(
+    alloc: Global,
+    request: &Request<'_>,
+    vars: &VarSet,
+    document: &[u8],
+    answers: &mut Answers,
+    gather: &mut Gather,
+    line: &mut Vec<u8>,
+    out: &mut O,
+    steps: &mut Steps<L>,
+) -> Result<PageEnd, PageFault>
+    requires fit { AllFit (length vars.now) (length document.now) answers.old.rest }
+    ensures ok { OnOk result (SoFar (O.written out.old) (O.written out.new) gather.new.waiting.items [] (gather.old.waiting.items ++ (flat_map (row_text (request_view request.now).form (request_view request.now).texts vars.now document.now) (first_rows (request_view request.now).limit answers.old.rest)))) }
+    ensures part { OnErr result (AddsPart (change (O.written out.old) (O.written out.new) (O.faults out.old) (O.faults out.new)) (gather.old.waiting.items ++ (flat_map (row_text (request_view request.now).form (request_view request.now).texts vars.now document.now) (first_rows (request_view request.now).limit answers.old.rest)))) }
+    ensures failed { IsErrOf result PageFault.Failed → Failed (change (O.written out.old) (O.written out.new) (O.faults out.old) (O.faults out.new)) }
+    ensures later { O.faults out.old ≤ O.faults out.new }
+    ensures width { IfOk result (λ e. HasWidth (length vars.now) e.last) }
+    ensures cursor { IfOk result (λ e. next_cursor vars.now (cursor_given vars.now e.last (request_view request.now).after) [] ≡ next_cursor vars.now (request_view request.now).after (first_rows (request_view request.now).limit answers.old.rest)) }
+    ensures more { IfOk result (λ e. IsTrue e.more ↔ (length (first_rows (request_view request.now).limit answers.old.rest) < length answers.old.rest)) }
+    ensures steps { steps.new ≤ steps.old + (length (first_rows (request_view request.now).limit answers.old.rest) + 1) * next_steps answers.old.variables }
+{
+    let mut last = None;
+    let mut remaining = request.limit;
+    while goes_on(remaining) {
+        let row = match answers.next(steps) {
+            Some(row) => row,
+            None => return Ok(PageEnd { last, more: false }),
+        };
+        let put = put_line(alloc, request, vars, document, &row, line, gather, out);
         if let Err(fault) = put {
             return Err(fault);
         }
+        last = Some(row);
+        remaining = one_fewer(remaining);
     }
-    match gather.flush(out) {
-        Ok(()) => Ok(()),
-        Err(SinkFailed) => Err(PageFault::Failed),
+    let more = answers.next(steps).is_some();
+    Ok(PageEnd { last, more })
+}
+
+/// Whether a row more may be written.
+fn goes_on(remaining: Option<u64>) -> bool
+    ensures yes { IsTrue result → ¬ (remaining ≡ Some 0) }
+    ensures no { IsFalse result → remaining ≡ Some 0 }
+{
+    match remaining {
+        Some(rows) => rows > 0,
+        None => true,
+    }
+}
+
+fn one_fewer(remaining: Option<u64>) -> Option<u64>
+    requires { ¬ (remaining ≡ Some 0) }
+    ensures { result ≡ fewer remaining }
+{
+    match remaining {
+        Some(rows) => Some(rows - 1),
+        None => None,
     }
 }
 

@@ -13,7 +13,7 @@ use std::test::Fail;
 const QUERY: &[u8] = b"let w = /!x{[a-z]+}/; project x (w join /!x{..}!y{\\d}/)";
 
 /// Words with `~` between, the document that the shelf holds under the name D, and what comes.
-const ROWS: [(&str, &[u8], Status, &[u8], &[u8]); 37] = [
+const ROWS: [(&str, &[u8], Status, &[u8], &[u8]); 46] = [
     // Spans line by line, in block order; the empty ones too, and each once.
     (
         "-e~/!x{a*}/~D",
@@ -184,6 +184,72 @@ const ROWS: [(&str, &[u8], Status, &[u8], &[u8]); 37] = [
         b"a\n",
         Status::Done,
         b"{\"x\":[0,2,\"a\\\\n\"]}\n",
+        b"end\n",
+    ),
+    // Tables and automata within their limits and past them.
+    (
+        "-e~/(a|b)*a(a|b){12}!x{c}/~--max-table~166~D",
+        b"aaaaaaaaaaaaac",
+        Status::Done,
+        b"x=13-14\n",
+        b"end\n",
+    ),
+    (
+        "-e~/(a|b)*a(a|b){12}!x{c}/~--max-table~100~D",
+        b"aaaaaaaaaaaaac",
+        Status::Size,
+        b"",
+        b"size: table past 100\n",
+    ),
+    (
+        "-e~/(a{1000}){20}/~D",
+        b"a",
+        Status::Size,
+        b"",
+        b"size: more than 20000 states\n",
+    ),
+    (
+        "-e~/((a?){1000}){3}/~D",
+        b"a",
+        Status::Size,
+        b"",
+        b"size: more than 2000000 ways\n",
+    ),
+    // What a query is, whatever its size.
+    (
+        "-e~/!x{a*}/~--explain",
+        b"",
+        Status::Done,
+        b"query /!x{a*}/\nvariables x\natom 1 states 3 ways 6\n",
+        b"end\n",
+    ),
+    (
+        "-e~let u = /a{0}/; /((a?){1000}){3}/ union u~--explain",
+        b"",
+        Status::Done,
+        b"query let u = /a{0}/; /((a?){1000}){3}/ union u\nvariables none\natom 1 states 2 ways 3\natom 2 states 3002 ways 4504503\n",
+        b"end\n",
+    ),
+    // Trials on made documents.
+    (
+        "-e~/!user{\\w+} logged in from !ip{\\d+\\.\\d+\\.\\d+\\.\\d+}/~--trial~3",
+        b"",
+        Status::Done,
+        b"lines 3\nbytes 41\nrows 2\nfirst ip=18-26 user=0-2\nlast ip=18-26 user=1-2\n",
+        b"end\n",
+    ),
+    (
+        "-e~/!user{\\w+} logged in from !ip{\\d+\\.\\d+\\.\\d+\\.\\d+}/~--trial~300",
+        b"",
+        Status::Done,
+        b"lines 300\nbytes 4736\nrows 287\nfirst ip=18-26 user=0-2\nlast ip=4707-4717 user=4690-4691\n",
+        b"end\n",
+    ),
+    (
+        "-e~/!x{a}/~--trial~0",
+        b"",
+        Status::Done,
+        b"lines 0\nbytes 0\nrows 0\nfirst none\nlast none\n",
         b"end\n",
     ),
     // Words, queries and names that are refused.

@@ -1,30 +1,42 @@
 //! A run, from the words to the status.
-ghost use Rattle.std.specs.Prelude.{◌≡◌, ◌≤◌, ◌^◌, ℕ, List, map, string_bytes, length, IfOk, IfSome, IsErrOf};
+ghost use Rattle.std.specs.Prelude.{◌≡◌, ◌+◌, ◌≤◌, ◌^◌, ℕ, List, None, map, string_bytes, length, true, IfErr, IfOk, IfSome, IsErrOf, OnOk};
 ghost use Rattle.std.specs.Bool.{OnFalse};
+ghost use Rattle.std.specs.Option.{option_copied};
 ghost use Rattle.rm_outside.specs.Faults.{Rose};
 ghost use Rattle.rm_outside.specs.Shelf.{ByLength};
 ghost use Rattle.command_line.specs.Asked.{request_view};
 ghost use Rattle.spanner_model.specs.ExprView.{query_of};
 ghost use Rattle.spanner_model.specs.Sound.{IsSound};
 ghost use Rattle.spanner_model.specs.Answers.{AreResultNames};
+ghost use Rattle.query_automaton.specs.Parts.{AtomsAreSmall};
+ghost use Rattle.spanner_engine.specs.Begun.{begin_steps};
+ghost use Rattle.spanner_engine.specs.Left.{AreLeft};
+ghost use Rattle.trial_maker.specs.Trial.{trial_text};
+ghost use Rattle.command_line.specs.declared.TheConstants.{MOST_TRIAL_LINES};
 ghost use Rattle.rematch_program.specs.Ending.{note_bytes};
-ghost use Rattle.rematch_program.specs.Change.{change};
-ghost use Rattle.rematch_program.specs.Pages.{IsAfter, row_behind};
+ghost use Rattle.rematch_program.specs.declared.TheConstants.{DOCUMENT_LIMIT};
+ghost use Rattle.rematch_program.specs.Change.{change, clock, work};
+ghost use Rattle.rematch_program.specs.Pages.{HasWidth, IsAfter, cursor_fits};
 ghost use Rattle.rematch_program.specs.Complete.{Completes};
-ghost use Rattle.rematch_program.specs.Run.{FromAsked, FromPlace, FromQuery, FromText, FromWords, Gives, Reports, Run, store};
+ghost use Rattle.rematch_program.specs.Run.{FromAsked, FromCursor, FromDocument, FromPlace, FromQuery, FromText, FromWords, Gives, IsNotBegun, IsTooLarge, Reports, Run, store};
 
 use crate::ending::Ending;
-use crate::notes::fault_note;
-use crate::page::with_document;
+use crate::explanation::write_explanation;
+use crate::notes::{fault_note, table_note};
+use crate::page::write_page;
+use crate::summary::write_summary;
 use crate::{DOCUMENT_LIMIT, QUERY_LIMIT};
-use command_line::{QuerySource, Request, WordsFault, read_request};
+use command_line::{Mode, QuerySource, Request, WordsFault, read_request};
+use marked_automaton::SizeFault;
 use query_parser::{QueryFault, read_query};
 use rm_outside::{FetchFault, Shelf, Sink, Status};
 use row_cursor::CursorFault;
-use span_core::{Row, Steps, VarSet};
-use spanner_model::{Query, variables};
+use span_core::{OutOfMemory, Row, Steps};
+use spanner_engine::{Answers, BeginFault, Compiled, Options, begin, compile};
+use spanner_model::Query;
 use std::alloc::Global;
 use std::sync::ledger::Ledger;
+use trial_maker::trial;
 
 /// Runs the program on the words after its name.
 ///
@@ -34,7 +46,8 @@ use std::sync::ledger::Ledger;
 /// notes gets one line. The page is put on out in whole lines, as many at once as fit 65,536 bytes; a
 /// line that is longer is put alone, and no put is empty.
 ///
-/// No call that is made here is counted, so the counter stands still.
+/// The counter stands still until the document is read. The building, the place of the cursor and the rows
+/// then take at most the steps that are stated.
 pub fn run<S: Shelf, O: Sink, N: Sink, L: Ledger>(
     alloc: Global,
     words: &[String],
@@ -47,16 +60,15 @@ pub fn run<S: Shelf, O: Sink, N: Sink, L: Ledger>(
         (store (S.held shelf.old) (S.faults shelf.old) (S.faults shelf.new))
         (change (O.written out.old) (O.written out.new) (O.faults out.old) (O.faults out.new))
         (change (N.written notes.old) (N.written notes.new) (N.faults notes.old) (N.faults notes.new))
+        (clock steps.old steps.new)
         result }
     ensures complete { Completes (map string_bytes words.now)
         (store (S.held shelf.old) (S.faults shelf.old) (S.faults shelf.new))
         (change (O.written out.old) (O.written out.new) (O.faults out.old) (O.faults out.new))
         (change (N.written notes.old) (N.written notes.new) (N.faults notes.old) (N.faults notes.new))
         result }
-    ensures steps { steps.new ≡ steps.old }
 {
-    let _counter = steps;
-    let ending = with_words(alloc, words, shelf, out);
+    let ending = with_words(alloc, words, shelf, out, steps);
     report(&ending, notes)
 }
 
@@ -73,42 +85,51 @@ fn report<N: Sink>(ending: &Ending, notes: &mut N) -> Status
 }
 
 /// All the work but the note.
-fn with_words<S: Shelf, O: Sink>(
+fn with_words<S: Shelf, O: Sink, L: Ledger>(
     alloc: Global,
     words: &[String],
     shelf: &mut S,
     out: &mut O,
+    steps: &mut Steps<L>,
 ) -> Ending
     ensures case { FromWords (map string_bytes words.now)
         (store (S.held shelf.old) (S.faults shelf.old) (S.faults shelf.new))
-        (change (O.written out.old) (O.written out.new) (O.faults out.old) (O.faults out.new))
+        (work (change (O.written out.old) (O.written out.new) (O.faults out.old) (O.faults out.new)) (clock steps.old steps.new))
         result.status (note_bytes result.note) }
 {
     match read_request(alloc, words) {
-        Ok(request) => with_request(alloc, &request, shelf, out),
+        Ok(request) => with_request(alloc, &request, shelf, out, steps),
         Err(WordsFault::Refused) => Ending::with(Status::Words, "bad command line\n"),
         Err(WordsFault::OutOfMemory) => Ending::out_of_memory(),
     }
 }
 
 /// The query's text is taken from the words, or fetched.
-fn with_request<S: Shelf, O: Sink>(
+fn with_request<S: Shelf, O: Sink, L: Ledger>(
     alloc: Global,
     request: &Request<'_>,
     shelf: &mut S,
     out: &mut O,
+    steps: &mut Steps<L>,
 ) -> Ending
     ensures case { FromAsked (request_view request.now)
         (store (S.held shelf.old) (S.faults shelf.old) (S.faults shelf.new))
-        (change (O.written out.old) (O.written out.new) (O.faults out.old) (O.faults out.new))
+        (work (change (O.written out.old) (O.written out.new) (O.faults out.old) (O.faults out.new)) (clock steps.old steps.new))
         result.status (note_bytes result.note) }
 {
     let name = match request.query {
-        QuerySource::Given(text) => return with_text(alloc, request, text.as_bytes(), shelf, out),
+        QuerySource::Given(text) => return with_text(
+            alloc,
+            request,
+            text.as_bytes(),
+            shelf,
+            out,
+            steps,
+        ),
         QuerySource::Named(name) => name,
     };
     match fetch_all(alloc, shelf, name, QUERY_LIMIT) {
-        Ok(text) => with_text(alloc, request, &text, shelf, out),
+        Ok(text) => with_text(alloc, request, &text, shelf, out, steps),
         Err(FetchFault::Failed) => Ending::with(Status::Read, "read failed: query\n"),
         Err(FetchFault::TooLong { seen: _ }) => {
             Ending::with(Status::Query, "query: longer than 65536 bytes\n")
@@ -118,20 +139,21 @@ fn with_request<S: Shelf, O: Sink>(
 }
 
 /// The query is read.
-fn with_text<S: Shelf, O: Sink>(
+fn with_text<S: Shelf, O: Sink, L: Ledger>(
     alloc: Global,
     request: &Request<'_>,
     text: &[u8],
     shelf: &mut S,
     out: &mut O,
+    steps: &mut Steps<L>,
 ) -> Ending
     ensures case { FromText (request_view request.now) text.now
         (store (S.held shelf.old) (S.faults shelf.old) (S.faults shelf.new))
-        (change (O.written out.old) (O.written out.new) (O.faults out.old) (O.faults out.new))
+        (work (change (O.written out.old) (O.written out.new) (O.faults out.old) (O.faults out.new)) (clock steps.old steps.new))
         result.status (note_bytes result.note) }
 {
     match read_query(alloc, text) {
-        Ok(query) => with_query(alloc, request, &query, shelf, out),
+        Ok(query) => with_query(alloc, request, &query, shelf, out, steps),
         Err(fault) => {
             if wants_memory(&fault) {
                 return Ending::out_of_memory();
@@ -153,61 +175,213 @@ fn wants_memory(fault: &QueryFault) -> bool
     matches!(fault, QueryFault::OutOfMemory)
 }
 
-/// The cursor is read, for a query that is sound.
-fn with_query<S: Shelf, O: Sink>(
+/// What the query is, or the answers that are asked for.
+fn with_query<S: Shelf, O: Sink, L: Ledger>(
     alloc: Global,
     request: &Request<'_>,
     query: &Query,
     shelf: &mut S,
     out: &mut O,
+    steps: &mut Steps<L>,
 ) -> Ending
     requires sound { IsSound (query_of query.now) }
     ensures case { FromQuery (request_view request.now) (query_of query.now)
         (store (S.held shelf.old) (S.faults shelf.old) (S.faults shelf.new))
-        (change (O.written out.old) (O.written out.new) (O.faults out.old) (O.faults out.new))
+        (work (change (O.written out.old) (O.written out.new) (O.faults out.old) (O.faults out.new)) (clock steps.old steps.new))
         result.status (note_bytes result.note) }
 {
-    let vars = match variables(alloc, query) {
-        Ok(vars) => vars,
-        Err(_) => return Ending::out_of_memory(),
-    };
+    match request.mode {
+        Mode::Explain => write_explanation(alloc, query, out),
+        Mode::Plain => match compiled_query(alloc, query) {
+            Ok(compiled) => with_cursor(alloc, request, &compiled, shelf, out, steps),
+            Err(ending) => ending,
+        },
+        Mode::Trial(lines) => match compiled_query(alloc, query) {
+            Ok(compiled) => with_lines(alloc, request, lines, &compiled, out, steps),
+            Err(ending) => ending,
+        },
+    }
+}
+
+/// The query with its automaton, or how a run ends that has none.
+fn compiled_query<'q>(alloc: Global, query: &'q Query) -> Result<Compiled<'q>, Ending>
+    requires sound { IsSound (query_of query.now) }
+    ensures query { IfOk result (λ c. c.query ≡ query.now) }
+    ensures names { IfOk result (λ c. AreResultNames (query_of query.now) c.automaton.names) }
+    ensures small { OnOk result (AtomsAreSmall (query_of query.now)) }
+    ensures ending { IfErr result (λ e. IsTooLarge (query_of query.now) e.status (note_bytes e.note)) }
+{
+    match compile(alloc, query) {
+        Ok(compiled) => Ok(compiled),
+        Err(SizeFault::States { count: _ }) => Err(Ending::with(
+            Status::Size,
+            "size: more than 20000 states\n",
+        )),
+        Err(SizeFault::Ways { count: _ }) => Err(Ending::with(
+            Status::Size,
+            "size: more than 2000000 ways\n",
+        )),
+        Err(SizeFault::OutOfMemory) => Err(Ending::out_of_memory()),
+    }
+}
+
+/// The cursor is read.
+fn with_cursor<S: Shelf, O: Sink, L: Ledger>(
+    alloc: Global,
+    request: &Request<'_>,
+    compiled: &Compiled<'_>,
+    shelf: &mut S,
+    out: &mut O,
+    steps: &mut Steps<L>,
+) -> Ending
+    requires plain { (request_view request.now).mode ≡ Mode.Plain }
+    requires names { AreResultNames (query_of compiled.now.query) compiled.now.automaton.names }
+    ensures case { FromCursor (request_view request.now) (query_of compiled.now.query) compiled.now.automaton.names
+        (store (S.held shelf.old) (S.faults shelf.old) (S.faults shelf.new))
+        (work (change (O.written out.old) (O.written out.new) (O.faults out.old) (O.faults out.new)) (clock steps.old steps.new))
+        result.status (note_bytes result.note) }
+{
     let text = match request.after {
         Some(text) => text,
-        None => return with_place(alloc, request, query, &vars, None, shelf, out),
+        None => return with_place(alloc, request, compiled, None, shelf, out, steps),
     };
-    match row_cursor::read(text.as_bytes(), &vars) {
-        Ok(row) => with_place(alloc, request, query, &vars, Some(&row), shelf, out),
+    match row_cursor::read(text.as_bytes(), compiled.vars()) {
+        Ok(row) => with_place(alloc, request, compiled, Some(&row), shelf, out, steps),
         Err(CursorFault::Syntax) => Ending::with(Status::Cursor, "cursor: not a cursor\n"),
         Err(CursorFault::Variables) => Ending::with(Status::Cursor, "cursor: other variables\n"),
     }
 }
 
-/// The document is fetched, for a query whose result has these variables, and a page that begins after
-/// this row.
-fn with_place<S: Shelf, O: Sink>(
+/// The document is fetched, for a page that begins after this row.
+fn with_place<S: Shelf, O: Sink, L: Ledger>(
     alloc: Global,
     request: &Request<'_>,
-    query: &Query,
-    vars: &VarSet,
+    compiled: &Compiled<'_>,
     after: Option<&Row>,
     shelf: &mut S,
     out: &mut O,
+    steps: &mut Steps<L>,
 ) -> Ending
-    requires sound { IsSound (query_of query.now) }
-    requires names { AreResultNames (query_of query.now) vars.now }
-    requires after { IsAfter vars.now (request_view request.now).after (row_behind after) }
-    ensures case { FromPlace (request_view request.now) (query_of query.now) vars.now (row_behind after.entry)
+    requires plain { (request_view request.now).mode ≡ Mode.Plain }
+    requires names { AreResultNames (query_of compiled.now.query) compiled.now.automaton.names }
+    requires after { IsAfter compiled.now.automaton.names (request_view request.now).after (option_copied after) }
+    ensures case { FromPlace (request_view request.now) (query_of compiled.now.query) compiled.now.automaton.names (option_copied after.entry)
         (store (S.held shelf.old) (S.faults shelf.old) (S.faults shelf.new))
-        (change (O.written out.old) (O.written out.new) (O.faults out.old) (O.faults out.new))
+        (work (change (O.written out.old) (O.written out.new) (O.faults out.old) (O.faults out.new)) (clock steps.old steps.new))
         result.status (note_bytes result.note) }
 {
     match fetch_all(alloc, shelf, request.document, DOCUMENT_LIMIT) {
-        Ok(document) => with_document(alloc, request, query, vars, after, &document, out),
+        Ok(document) => with_document(alloc, request, compiled, after, &document, out, steps),
         Err(FetchFault::Failed) => Ending::with(Status::Read, "read failed: document\n"),
         Err(FetchFault::TooLong { seen: _ }) => {
             Ending::with(Status::Long, "document longer than 268435456 bytes\n")
         }
         Err(FetchFault::OutOfMemory) => Ending::out_of_memory(),
+    }
+}
+
+/// The answers after this row are begun, for a page of them.
+fn with_document<O: Sink, L: Ledger>(
+    alloc: Global,
+    request: &Request<'_>,
+    compiled: &Compiled<'_>,
+    after: Option<&Row>,
+    document: &[u8],
+    out: &mut O,
+    steps: &mut Steps<L>,
+) -> Ending
+    requires plain { (request_view request.now).mode ≡ Mode.Plain }
+    requires names { AreResultNames (query_of compiled.now.query) compiled.now.automaton.names }
+    requires after { IsAfter compiled.now.automaton.names (request_view request.now).after (option_copied after) }
+    requires short { length document.now ≤ DOCUMENT_LIMIT }
+    ensures case { FromDocument (request_view request.now) (query_of compiled.now.query) compiled.now.automaton.names (option_copied after.entry) document.now
+        (work (change (O.written out.old) (O.written out.new) (O.faults out.old) (O.faults out.new)) (clock steps.old steps.new))
+        result.status (note_bytes result.note) }
+{
+    match begun(alloc, request, compiled, after, document, steps) {
+        Ok(mut answers) => write_page(
+            alloc,
+            request,
+            compiled.vars(),
+            document,
+            &mut answers,
+            out,
+            steps,
+        ),
+        Err(ending) => ending,
+    }
+}
+
+/// The document of so many lines is made, and all answers on it are begun, for a summary of them.
+fn with_lines<O: Sink, L: Ledger>(
+    alloc: Global,
+    request: &Request<'_>,
+    lines: u32,
+    compiled: &Compiled<'_>,
+    out: &mut O,
+    steps: &mut Steps<L>,
+) -> Ending
+    requires trial { (request_view request.now).mode ≡ Mode.Trial lines }
+    requires few { lines ≤ MOST_TRIAL_LINES }
+    requires names { AreResultNames (query_of compiled.now.query) compiled.now.automaton.names }
+    ensures case { FromDocument (request_view request.now) (query_of compiled.now.query) compiled.now.automaton.names None (trial_text lines)
+        (work (change (O.written out.old) (O.written out.new) (O.faults out.old) (O.faults out.new)) (clock steps.old steps.new))
+        result.status (note_bytes result.note) }
+{
+    let document = match trial(alloc, lines) {
+        Ok(document) => document,
+        Err(OutOfMemory) => return Ending::out_of_memory(),
+    };
+    match begun(alloc, request, compiled, None, &document, steps) {
+        Ok(mut answers) => write_summary(
+            alloc,
+            lines,
+            compiled.vars(),
+            &document,
+            &mut answers,
+            out,
+            steps,
+        ),
+        Err(ending) => ending,
+    }
+}
+
+/// The answers on a document after a row, or how a run ends that has none.
+fn begun<L: Ledger>(
+    alloc: Global,
+    request: &Request<'_>,
+    compiled: &Compiled<'_>,
+    after: Option<&Row>,
+    document: &[u8],
+    steps: &mut Steps<L>,
+) -> Result<Answers, Ending>
+    requires short { length document.now ≤ DOCUMENT_LIMIT }
+    requires width { HasWidth (length compiled.now.automaton.names) (option_copied after) }
+    ensures fits { OnOk result (cursor_fits (length document.now) (option_copied after.entry) ≡ true) }
+    ensures left { IfOk result (λ a. AreLeft (query_of compiled.now.query) document.now compiled.now.automaton.names (option_copied after.entry) a.rest) }
+    ensures variables { IfOk result (λ a. a.variables ≡ length compiled.now.automaton.names) }
+    ensures ending { IfErr result (λ e. IsNotBegun (query_of compiled.now.query) (option_copied after.entry) document.now (request_view request.now).max_table (clock steps.old steps.new) e.status (note_bytes e.note)) }
+    ensures steps { steps.new ≤ steps.old + begin_steps (query_of compiled.now.query) document.now (option_copied after.entry) }
+{
+    let options = Options {
+        filter: false,
+        limit: request.max_table,
+    };
+    match begin(alloc, compiled, document, after, options, steps) {
+        Ok(answers) => Ok(answers),
+        Err(BeginFault::CursorPlace) => Err(Ending::with(
+            Status::Cursor,
+            "cursor: past the document\n",
+        )),
+        Err(BeginFault::Table { weight: _ }) => match table_note(alloc, request.max_table) {
+            Ok(note) => Err(Ending {
+                status: Status::Size,
+                note,
+            }),
+            Err(OutOfMemory) => Err(Ending::out_of_memory()),
+        },
+        Err(BeginFault::Filter { weight: _ }) => Err(Ending::out_of_memory()),
+        Err(BeginFault::OutOfMemory) => Err(Ending::out_of_memory()),
     }
 }
 

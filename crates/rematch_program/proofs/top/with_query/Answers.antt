@@ -1,19 +1,53 @@
-use Rattle.std.proofs.Common.{rules, Some, None}
-use Rattle.rematch_program.specs.Run.{no_cursor, other_variables, placed}
+use Rattle.std.proofs.Common.{refl, sym, subst}
+use Rattle.command_line.specs.Asked.{request_view}
+use Rattle.spanner_model.specs.declared.query.Query.{Query}
+use Rattle.spanner_model.specs.ExprView.{query_of}
+use Rattle.spanner_model.specs.Answers.{AreResultNames}
+use Rattle.trial_maker.specs.Trial.{trial_text}
+use Rattle.std.proofs.Common.{None}
+use Rattle.rematch_program.specs.Change.{change, clock, work}
+use Rattle.rematch_program.specs.Ending.{note_bytes}
+use Rattle.rematch_program.specs.Run.{FromCursor, FromDocument, compiled, explained, page_asked, store, too_large, trial_asked}
+use Rattle.rematch_program.proofs.Completeness.{plain_wants, trial_wants}
 use Rattle.rematch_program.proofs.top.with_query.Goals as goal
 
-pub returns-in-None : goal.returns-in-None
-returns-in-None g c = record { case = placed c.in-Ok.vars c.in-Ok.ensures None (search rules) c.with_place.ensures.case }
+pub with_cursor-requires-clause-names : goal.with_cursor-requires-clause-names
+with_cursor-requires-clause-names g c =
+    let P : Query → Type 0 = λ q. AreResultNames (query_of q) c.in-Ok.compiled.automaton.names in subst P (sym c.in-Ok.ensures.query) c.in-Ok.ensures.names
 
-pub returns-in-Ok-read : goal.returns-in-Ok-read
-returns-in-Ok-read g c = record { case = placed c.in-Ok.vars c.in-Ok.ensures (Some c.in-Ok-read.row) (search rules) c.with_place-in-Ok-read.ensures.case }
+pub with_lines-requires-clause-names : goal.with_lines-requires-clause-names
+with_lines-requires-clause-names g c =
+    let P : Query → Type 0 = λ q. AreResultNames (query_of q) c.in-Ok-compiled_query.compiled.automaton.names in
+    subst P (sym c.in-Ok-compiled_query.ensures.query) c.in-Ok-compiled_query.ensures.names
 
-pub returns-in-Err-Syntax : goal.returns-in-Err-Syntax
-returns-in-Err-Syntax g c =
-    let none = c.read.ensures.syntax.0 (let is = c.in-Err-Syntax.is in let at = c.in-Err-Syntax.field-0-is in cc) in
-    record { case = no_cursor c.as_bytes.result.now (search rules) none (search rules) (search rules) }
+pub returns-in-Explain : goal.returns-in-Explain
+returns-in-Explain g c = record { case = explained c.in-Explain.is c.write_explanation.ensures.case refl }
 
-pub returns-in-Err-Variables : goal.returns-in-Err-Variables
-returns-in-Err-Variables g c =
-    let other = c.read.ensures.variables.0 (let is = c.in-Err-Variables.is in let at = c.in-Err-Variables.field-0-is in cc) in
-    record { case = other_variables c.as_bytes.result.now (search rules) c.in-Ok.vars c.in-Ok.ensures other.0 other.1.0 other.1.1.0 other.1.1.1 (search rules) (search rules) }
+pub returns-in-Ok : goal.returns-in-Ok
+returns-in-Ok g c =
+    let names = c.in-Ok.compiled.automaton.names in
+    let P : Query → Type 0 = λ q. FromCursor (request_view c.args.request.now) (query_of q) names
+    (store (g.S.Shelf.held c.args.shelf.now) (g.S.Shelf.faults c.args.shelf.now) (g.S.Shelf.faults c.with_cursor.new.shelf))
+    (work (change (g.O.Sink.written c.args.out.now) (g.O.Sink.written c.with_cursor.new.out) (g.O.Sink.faults c.args.out.now) (g.O.Sink.faults c.with_cursor.new.out)) (clock c.args.steps.now c.with_cursor.new.steps))
+    c.with_cursor.result.status (note_bytes c.with_cursor.result.note) in
+    record {
+      case = compiled (plain_wants (request_view c.args.request.now).mode c.in-Plain.is) c.in-Ok.ensures.small
+          (page_asked c.in-Plain.is names c.in-Ok.ensures.names (subst P c.in-Ok.ensures.query c.with_cursor.ensures.case));
+    }
+
+pub returns-in-Err : goal.returns-in-Err
+returns-in-Err g c = record { case = too_large (plain_wants (request_view c.args.request.now).mode c.in-Plain.is) c.in-Err.ensures.ending (refl, refl) }
+
+pub returns-in-Ok-compiled_query : goal.returns-in-Ok-compiled_query
+returns-in-Ok-compiled_query g c =
+    let names = c.in-Ok-compiled_query.compiled.automaton.names in
+    let P : Query → Type 0 = λ q. FromDocument (request_view c.args.request.now) (query_of q) names None (trial_text c.in-Trial.lines)
+    (work (change (g.O.Sink.written c.args.out.now) (g.O.Sink.written c.with_lines.new.out) (g.O.Sink.faults c.args.out.now) (g.O.Sink.faults c.with_lines.new.out)) (clock c.args.steps.now c.with_lines.new.steps))
+    c.with_lines.result.status (note_bytes c.with_lines.result.note) in
+    record {
+      case = compiled (trial_wants (request_view c.args.request.now).mode c.in-Trial.lines c.in-Trial.is) c.in-Ok-compiled_query.ensures.small
+          (trial_asked c.in-Trial.lines c.in-Trial.is names c.in-Ok-compiled_query.ensures.names (subst P c.in-Ok-compiled_query.ensures.query c.with_lines.ensures.case));
+    }
+
+pub returns-in-Err-compiled_query : goal.returns-in-Err-compiled_query
+returns-in-Err-compiled_query g c = record { case = too_large (trial_wants (request_view c.args.request.now).mode c.in-Trial.lines c.in-Trial.is) c.in-Err-compiled_query.ensures.ending (refl, refl) }

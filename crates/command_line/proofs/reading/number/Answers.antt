@@ -1,6 +1,6 @@
 use Rattle.std.proofs.Common.{◌∙◌}
 use Rattle.command_line.proofs.Numbers.{number_read}
-use Rattle.command_line.proofs.request.number.Goals as goal
+use Rattle.command_line.proofs.reading.number.Goals as goal
 
 pub returns : goal.returns
 returns c = c.ok.ensures.value ∙ number_read c.args.text.now c.parse.result c.parse.ensures.value.0

@@ -1,0 +1,106 @@
+-- The lines of atoms, part by part.
+use Rattle.std.proofs.Common.{◌≡◌, ℕ, zero, suc, ◌+◌, ◌≤◌, List, [], ◌∷◌, ◌++◌, Some, length, drop, take, refl, sym, ap, ◌∙◌, subst, arith, length-append}
+use Rattle.std.specs.List.{flat_map}
+use Rattle.std.proofs.lemmas.Grind.{flat_map-append}
+use Rattle.std.specs.Prelude.{slice_get}
+use Rattle.std.proofs.lemmas.List.{append-nil, append_assoc, take_all, take_more}
+use Rattle.std.proofs.lemmas.Option.{slice_get_within, get_or_from_slice_get}
+use Rattle.cell_text.proofs.Lists.{at_drop}
+use Rattle.query_printer.specs.PrintedQuery.{further}
+use Rattle.spanner_model.specs.Captures.{VarName}
+use Rattle.formula_parser.specs.Spells.{AtomTree}
+use Rattle.spanner_model.specs.Expression.{ExprTree, union_all, join_all}
+use Rattle.rematch_program.specs.Explained.{HasLines, atom_line, atom_lines, atoms_among, atoms_in, atoms_of}
+
+pub of_union : (parts : List ExprTree) → atoms_of (union_all parts) ≡ atoms_among parts
+of_union [] = refl
+of_union (e ∷ parts) = ap (λ t. atoms_of e ++ t) (of_union parts)
+
+pub of_join : (parts : List ExprTree) → atoms_of (join_all parts) ≡ atoms_among parts
+of_join [] = refl
+of_join (e ∷ parts) = ap (λ t. atoms_of e ++ t) (of_join parts)
+
+lines_both : (k : ℕ) (xs ys : List AtomTree) → atom_lines k (xs ++ ys) ≡ atom_lines k xs ++ atom_lines (k + length xs) ys
+lines_both k [] ys = let same : k ≡ k + 0 = omega arith in ap (λ n. atom_lines n ys) same
+lines_both k (a ∷ xs) ys =
+    let same : suc k + length xs ≡ k + suc (length xs) = omega arith in
+    ap (λ t. atom_line k a ++ t) (lines_both (suc k) xs ys ∙ ap (λ n. atom_lines (suc k) xs ++ atom_lines n ys) same)
+    ∙ sym (append_assoc (atom_line k a) (atom_lines (suc k) xs) (atom_lines (k + suc (length xs)) ys))
+
+pub no_lines : (before : ℕ) (old : List ℕ) → HasLines before old [] before old
+no_lines before old = record { count = omega arith; lines = sym (append-nil old) }
+
+pub more_lines : (before : ℕ) (old : List ℕ) (xs : List AtomTree) (mid : ℕ) (text : List ℕ) (ys : List AtomTree) (all : ℕ) (new : List ℕ) →
+    HasLines before old xs mid text → HasLines mid text ys all new → HasLines before old (xs ++ ys) all new
+more_lines before old xs mid text ys all new first then_ =
+    let long = length-append xs ys in
+    let c = first.count in
+    let d = then_.count in
+    let on : mid + 1 ≡ before + 1 + length xs = omega (arith, c) in
+    record {
+      count = omega (arith, long, c, d);
+      lines = then_.lines ∙ ap (λ t. t ++ atom_lines (mid + 1) ys) first.lines ∙ append_assoc old (atom_lines (before + 1) xs) (atom_lines (mid + 1) ys)
+          ∙ ap (λ t. old ++ t) (ap (λ n. atom_lines (before + 1) xs ++ atom_lines n ys) on ∙ sym (lines_both (before + 1) xs ys));
+    }
+
+pub one_line : (before : ℕ) (old : List ℕ) (a : AtomTree) (all : ℕ) (new : List ℕ) → all ≡ before + 1 → new ≡ old ++ atom_line (before + 1) a → HasLines before old (a ∷ []) all new
+one_line before old a all new count line = record {
+  count = count;
+  lines = line ∙ ap (λ t. old ++ t) (sym (append-nil (atom_line (before + 1) a)));
+}
+
+-- the elements up to a place, and that which stands there
+take_at : {X : Type 0} (xs : List X) (k : ℕ) (x : X) → slice_get xs k ≡ Some x → take (k + 1) xs ≡ take k xs ++ x ∷ []
+take_at xs k x at = take_more xs k x (slice_get_within xs k x at) ∙ ap (λ y. take k xs ++ y ∷ []) (get_or_from_slice_get xs k x x at)
+
+-- one part more
+pub part_lines : (before : ℕ) (old : List ℕ) (parts : List ExprTree) (k : ℕ) (e : ExprTree) (mid : ℕ) (text : List ℕ) (all : ℕ) (new : List ℕ) → slice_get parts k ≡ Some e →
+    HasLines before old (atoms_among (take k parts)) mid text → HasLines mid text (atoms_of e) all new → HasLines before old (atoms_among (take (k + 1) parts)) all new
+part_lines before old parts k e mid text all new at first then_ =
+    let one : take (k + 1) parts ≡ take k parts ++ e ∷ [] = take_at parts k e at in
+    let atoms : atoms_among (take (k + 1) parts) ≡ atoms_among (take k parts) ++ atoms_of e =
+    ap atoms_among one ∙ flat_map-append atoms_of (take k parts) (e ∷ []) ∙ ap (λ t. atoms_among (take k parts) ++ t) (append-nil (atoms_of e)) in
+    subst (λ xs. HasLines before old xs all new) (sym atoms) (more_lines before old (atoms_among (take k parts)) mid text (atoms_of e) all new first then_)
+
+-- one named expression more
+pub let_lines : (before : ℕ) (old : List ℕ) (lets : List (VarName × ExprTree)) (k : ℕ) (name : VarName) (e : ExprTree) (mid : ℕ) (text : List ℕ) (all : ℕ) (new : List ℕ) → slice_get lets k ≡ Some (name, e) →
+    HasLines before old (atoms_in (take k lets)) mid text → HasLines mid text (atoms_of e) all new → HasLines before old (atoms_in (take (k + 1) lets)) all new
+let_lines before old lets k name e mid text all new at first then_ =
+    let one : take (k + 1) lets ≡ take k lets ++ (name, e) ∷ [] = take_at lets k (name, e) at in
+    let atoms : atoms_in (take (k + 1) lets) ≡ atoms_in (take k lets) ++ atoms_of e =
+    ap atoms_in one ∙ flat_map-append (λ (l : VarName × ExprTree). atoms_of l.1) (take k lets) ((name, e) ∷ []) ∙ ap (λ t. atoms_in (take k lets) ++ t) (append-nil (atoms_of e)) in
+    subst (λ xs. HasLines before old xs all new) (sym atoms) (more_lines before old (atoms_in (take k lets)) mid text (atoms_of e) all new first then_)
+
+-- all of them
+pub all_lets : (before : ℕ) (old : List ℕ) (lets : List (VarName × ExprTree)) (k : ℕ) (all : ℕ) (new : List ℕ) → length lets ≤ k → HasLines before old (atoms_in (take k lets)) all new → HasLines before old (atoms_in lets) all new
+all_lets before old lets k all new past has = subst (λ xs. HasLines before old (atoms_in xs) all new) (take_all k lets past) has
+
+pub all_parts : (before : ℕ) (old : List ℕ) (parts : List ExprTree) (k : ℕ) (all : ℕ) (new : List ℕ) → length parts ≤ k → HasLines before old (atoms_among (take k parts)) all new → HasLines before old (atoms_among parts) all new
+all_parts before old parts k all new past has = subst (λ xs. HasLines before old (atoms_among xs) all new) (take_all k parts past) has
+
+-- one name more
+pub name_next : (old text mid new all x : List ℕ) (names : List VarName) (k : ℕ) → slice_get names k ≡ Some x → mid ≡ text ++ 32 ∷ [] → new ≡ mid ++ x →
+    text ++ further (32 ∷ []) (drop k names) ≡ all → new ++ further (32 ∷ []) (drop (k + 1) names) ≡ all
+name_next old text mid new all x names k at space name is =
+    ap (λ t. t ++ further (32 ∷ []) (drop (k + 1) names)) (name ∙ ap (λ t. t ++ x) space)
+    ∙ append_assoc (text ++ 32 ∷ []) x (further (32 ∷ []) (drop (k + 1) names))
+    ∙ append_assoc text (32 ∷ []) (x ++ further (32 ∷ []) (drop (k + 1) names))
+    ∙ ap (λ t. text ++ t) (sym (ap (further (32 ∷ [])) (at_drop names k x at)))
+    ∙ is
+
+-- the lines that explain a query, as they are appended
+pub explained_text : (head names_head shown shown_names lines t0 t1 t2 t3 t4 t5 t6 : List ℕ) → t0 ≡ [] → t1 ≡ t0 ++ head → t2 ≡ t1 ++ shown → t3 ≡ t2 ++ 10 ∷ names_head →
+    t4 ≡ t3 ++ shown_names → t5 ≡ t4 ++ 10 ∷ [] → t6 ≡ t5 ++ lines →
+    t6 ≡ (((head ++ shown) ++ 10 ∷ []) ++ ((names_head ++ shown_names) ++ 10 ∷ [])) ++ lines
+explained_text head names_head shown shown_names lines t0 t1 t2 t3 t4 t5 t6 e0 e1 e2 e3 e4 e5 e6 =
+    let first : t2 ≡ head ++ shown = e2 ∙ ap (λ t. t ++ shown) (e1 ∙ ap (λ t. t ++ head) e0) in
+    let whole : t6 ≡ (((t2 ++ 10 ∷ names_head) ++ shown_names) ++ 10 ∷ []) ++ lines = e6 ∙ ap (λ t. t ++ lines) (e5 ∙ ap (λ t. t ++ 10 ∷ []) (e4 ∙ ap (λ t. t ++ shown_names) e3)) in
+    let left : (((t2 ++ 10 ∷ names_head) ++ shown_names) ++ 10 ∷ []) ++ lines ≡ t2 ++ (10 ∷ (names_head ++ (shown_names ++ (10 ∷ lines)))) =
+    append_assoc ((t2 ++ 10 ∷ names_head) ++ shown_names) (10 ∷ []) lines
+    ∙ append_assoc (t2 ++ 10 ∷ names_head) shown_names (10 ∷ lines)
+    ∙ append_assoc t2 (10 ∷ names_head) (shown_names ++ (10 ∷ lines)) in
+    let right : (t2 ++ 10 ∷ []) ++ (((names_head ++ shown_names) ++ 10 ∷ []) ++ lines) ≡ t2 ++ (10 ∷ (names_head ++ (shown_names ++ (10 ∷ lines)))) =
+    append_assoc t2 (10 ∷ []) (((names_head ++ shown_names) ++ 10 ∷ []) ++ lines)
+    ∙ ap (λ t. t2 ++ (10 ∷ t)) (append_assoc (names_head ++ shown_names) (10 ∷ []) lines ∙ append_assoc names_head shown_names (10 ∷ lines)) in
+    whole ∙ left ∙ sym right ∙ ap (λ t. (t ++ 10 ∷ []) ++ (((names_head ++ shown_names) ++ 10 ∷ []) ++ lines)) first
+    ∙ sym (append_assoc ((head ++ shown) ++ 10 ∷ []) ((names_head ++ shown_names) ++ 10 ∷ []) lines)

@@ -1,0 +1,43 @@
+use Rattle.std.proofs.Common.{rules, ◌∙◌, arith, sym, ap, subst, IfOk, List}
+use Rattle.span_core.proofs.HasLaws.{Has-slice_get}
+use Rattle.formula_parser.specs.Spells.{AtomTree}
+use Rattle.spanner_model.specs.Expression.{project}
+use Rattle.spanner_model.specs.ExprView.{expr_of, exprs_of}
+use Rattle.spanner_model.proofs.Nodes.{expr_nodes}
+use Rattle.spanner_model.proofs.ExprLaws.{union_size, part_size}
+use Rattle.spanner_model.proofs.ExprTrees.{expr_of-Union, expr_of-Join, expr_of-Project}
+use Rattle.rematch_program.specs.Explained.{HasLines, atoms_of}
+use Rattle.rematch_program.proofs.AtomLines.{of_union, of_join, part_lines}
+use Rattle.rematch_program.proofs.explanation.+atoms.Goals as goal
+
+pub push_atoms-push_parts-requires : goal.push_atoms-push_parts-requires
+push_atoms-push_parts-requires t c =
+    let size = ap expr_nodes (ap expr_of c.in-Union.is ∙ expr_of-Union c.in-Union.parts) ∙ union_size (exprs_of c.in-Union.parts) in
+    omega (arith, size)
+
+pub push_atoms-push_parts-requires-in-Join : goal.push_atoms-push_parts-requires-in-Join
+push_atoms-push_parts-requires-in-Join t c =
+    let size = ap expr_nodes (ap expr_of c.in-Join.is ∙ expr_of-Join c.in-Join.parts) in
+    omega (arith, size)
+
+pub push_atoms-returns-in-Union : goal.push_atoms-returns-in-Union
+push_atoms-returns-in-Union t c =
+    let same = ap atoms_of (ap expr_of c.in-Union.is ∙ expr_of-Union c.in-Union.parts) ∙ of_union (exprs_of c.in-Union.parts) in
+    subst (λ (xs : List AtomTree). IfOk c.push_parts.result (λ all. HasLines c.args.before c.args.text.now.items xs all c.push_parts.new.text.items)) (sym same) c.push_parts.ensures
+
+pub push_atoms-returns-in-Join : goal.push_atoms-returns-in-Join
+push_atoms-returns-in-Join t c =
+    let same = ap atoms_of (ap expr_of c.in-Join.is ∙ expr_of-Join c.in-Join.parts) ∙ of_join (exprs_of c.in-Join.parts) in
+    subst (λ (xs : List AtomTree). IfOk c.push_parts-in-Join.result (λ all. HasLines c.args.before c.args.text.now.items xs all c.push_parts-in-Join.new.text.items)) (sym same) c.push_parts-in-Join.ensures
+
+pub push_parts-push_atoms-requires : goal.push_parts-push_atoms-requires
+push_parts-push_atoms-requires t c =
+    let es = exprs_of c.args.parts.now in
+    let g = expr_of c.at.result.now in
+    let has = Has-slice_get es c.loop-k.k g c.at.ensures in
+    omega (arith, part_size es g has)
+
+pub push_parts-loop-k-preserved : goal.push_parts-loop-k-preserved
+push_parts-loop-k-preserved t c =
+    part_lines c.args.before c.args.text.now.items (exprs_of c.args.parts.now) c.loop-k.k (expr_of c.at.result.now) c.loop-k.atoms c.loop-k.text.items c.in_ok-atoms.atoms c.push_atoms.new.text.items
+    c.at.ensures c.loop-k.invariant c.in_ok-atoms.ensures

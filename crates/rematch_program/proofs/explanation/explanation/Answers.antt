@@ -1,0 +1,18 @@
+use Rattle.std.proofs.Common.{refl}
+use Rattle.std.specs.Prelude.{codes}
+use Rattle.spanner_model.specs.ExprView.{query_of}
+use Rattle.query_printer.specs.PrintedQuery.{query_text}
+use Rattle.rematch_program.specs.Explained.{atoms_in, atoms_of, names_text}
+use Rattle.rematch_program.proofs.AtomLines.{explained_text, more_lines}
+use Rattle.rematch_program.proofs.explanation.explanation.Goals as goal
+
+pub returns : goal.returns
+returns c =
+    let q = query_of c.args.query.now in
+    let lines = more_lines 0 c.push.new.self.items (atoms_in q.lets) c.in_ok-atoms.atoms c.push_let_atoms.new.text.items (atoms_of q.body) c.in_ok-_all._all c.push_atoms.new.text.items c.in_ok-atoms.ensures c.in_ok-_all.ensures in (
+      c.in_ok-vars.vars,
+      c.in_ok-vars.ensures,
+      explained_text (codes "query ") (codes "variables ") (query_text q) (names_text c.in_ok-vars.vars) _ c.new-text.result.items _ _ _ _ _ _
+          c.new-text.ensures.items c.in_ok-extend_from_slice.ensures.items c.in_ok-print_query.ensures.ok c.in_ok-extend_from_slice-2.ensures.items
+          c.in_ok-push_names.ensures c.in_ok-push.ensures.items lines.lines,
+    )

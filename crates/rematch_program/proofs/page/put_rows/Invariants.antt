@@ -1,0 +1,33 @@
+use Rattle.std.proofs.Common.{◌≡◌, ◌≤◌, ◌+◌, ◌*◌, ◌++◌, length}
+use Rattle.std.specs.List.{flat_map}
+use Rattle.command_line.specs.Asked.{request_view}
+use Rattle.rematch_program.specs.Change.{SoFar}
+use Rattle.rematch_program.specs.Pages.{AllFit, HasWidth, cursor_given, first_rows, next_cursor, row_text}
+use Rattle.rematch_program.specs.Steps.{next_steps}
+use Rattle.rematch_program.proofs.page.put_rows.Given as goal
+
+abbrev pub invariant-loop-alloc : goal.invariant-loop-alloc
+invariant-loop-alloc g l = record {
+  so_far :
+      let a = request_view l.request in
+      let text = row_text a.form a.texts l.vars l.document in
+      SoFar (g.O.Sink.written l.fn.out) (g.O.Sink.written l.out) l.gather.waiting.items
+      (flat_map text (first_rows l.remaining l.answers.rest)) (l.fn.gather.waiting.items ++ flat_map text (first_rows a.limit l.fn.answers.rest));
+  later : g.O.Sink.faults l.fn.out ≤ g.O.Sink.faults l.out;
+  fit : AllFit (length l.vars) (length l.document) l.answers.rest;
+  width : HasWidth (length l.vars) l.last;
+  cursor :
+      let a = request_view l.request in
+      next_cursor l.vars (cursor_given l.vars l.last a.after) (first_rows l.remaining l.answers.rest) ≡ next_cursor l.vars a.after (first_rows a.limit l.fn.answers.rest);
+  more :
+      let a = request_view l.request in
+      length l.answers.rest + length (first_rows a.limit l.fn.answers.rest) ≡ length l.fn.answers.rest + length (first_rows l.remaining l.answers.rest);
+  variables : l.answers.variables ≡ l.fn.answers.variables;
+  steps :
+      let a = request_view l.request in
+      l.steps + (length (first_rows l.remaining l.answers.rest) + 1) * next_steps l.fn.answers.variables
+      ≤ l.fn.steps + (length (first_rows a.limit l.fn.answers.rest) + 1) * next_steps l.fn.answers.variables;
+}
+
+abbrev pub decreases-loop-alloc : goal.decreases-loop-alloc
+decreases-loop-alloc g l = length l.answers.rest

@@ -1,0 +1,142 @@
+//! What a query is: its printed form, the variables of its result, and the numbers of its atoms.
+ghost use Rattle.std.specs.Prelude.{◌≡◌, ℕ, ◌+◌, ◌++◌, [], ◌∷◌, List, codes, length, IfOk, OnOk, OnErr, IsErrOf};
+ghost use Rattle.spanner_model.specs.Captures.{VarName};
+ghost use Rattle.spanner_model.specs.ExprView.{expr_of, exprs_of, query_of};
+ghost use Rattle.spanner_model.specs.View.{tree_of};
+ghost use Rattle.spanner_model.specs.Sound.{IsSound};
+ghost use Rattle.spanner_model.specs.Answers.{AreResultNames};
+ghost use Rattle.rematch_program.specs.Change.{change, work, clock};
+ghost use Rattle.rematch_program.specs.Ending.{note_bytes};
+ghost use Rattle.rematch_program.specs.Explained.{HasLines, atom_at, atoms_among, atoms_in, atoms_of, explain_text, names_text};
+ghost use Rattle.rematch_program.specs.Notes.{line};
+ghost use Rattle.rematch_program.specs.Run.{FromPage, IsExplained};
+
+use crate::ending::Ending;
+use place_automaton::{Counts, count};
+use query_printer::print_query;
+use rm_outside::{Sink, SinkFailed, Status};
+use span_core::{OutOfMemory, VarSet};
+use spanner_model::{Atom, Expr, Exprs, Query, variables};
+use std::alloc::Global;
+
+/// Puts the lines that explain a query, all at once. No automaton is made.
+pub fn write_explanation<O: Sink>(alloc: Global, query: &Query, out: &mut O) -> Ending
+    requires sound { IsSound (query_of query.now) }
+    ensures case { IsExplained (query_of query.now)
+        (change (O.written out.old) (O.written out.new) (O.faults out.old) (O.faults out.new))
+        result.status (note_bytes result.note) }
+{
+    match explanation(alloc, query) {
+        Ok(text) => put_text(&text, out),
+        Err(OutOfMemory) => Ending::out_of_memory(),
+    }
+}
+
+/// Puts a text whole.
+fn put_text<O: Sink>(text: &[u8], out: &mut O) -> Ending
+    ensures case { FromPage text.now (line (codes "end")) 0
+        (work (change (O.written out.old) (O.written out.new) (O.faults out.old) (O.faults out.new)) (clock 0 0))
+        result.status (note_bytes result.note) }
+{
+    match out.put(text) {
+        Ok(()) => Ending::with(Status::Done, "end\n"),
+        Err(SinkFailed) => Ending::with(Status::Write, "write failed\n"),
+    }
+}
+
+/// The lines that explain a query.
+fn explanation(alloc: Global, query: &Query) -> Result<Vec<u8>, OutOfMemory>
+    requires { IsSound (query_of query.now) }
+    ensures { IfOk result (λ text. (names : List VarName) × AreResultNames (query_of query.now) names × (text.items ≡ explain_text (query_of query.now) names)) }
+{
+    let vars = variables(alloc, query)?;
+    let mut text = Vec::new(alloc);
+    text.extend_from_slice(b"query ")?;
+    print_query(query, &mut text)?;
+    text.extend_from_slice(b"\nvariables ")?;
+    push_names(&vars, &mut text)?;
+    text.push(b'\n')?;
+    let atoms = push_let_atoms(alloc, query, &mut text)?;
+    let _all = push_atoms(alloc, &query.body, atoms, &mut text)?;
+    Ok(text)
+}
+
+/// Appends the names with a space between, or the word `none`.
+fn push_names(vars: &VarSet, text: &mut Vec<u8>) -> Result<(), OutOfMemory>
+    ensures { OnOk result (text.new.items ≡ text.old.items ++ names_text vars.now) }
+{
+    if vars.len() == 0 {
+        text.extend_from_slice(b"none")?;
+        return Ok(());
+    }
+    text.extend_from_slice(vars.at(0).as_bytes())?;
+    for k in 1..vars.len() {
+        text.push(b' ')?;
+        text.extend_from_slice(vars.at(k).as_bytes())?;
+    }
+    Ok(())
+}
+
+/// Appends the lines of the atoms of all `let`s, and tells how many there are.
+fn push_let_atoms(alloc: Global, query: &Query, text: &mut Vec<u8>) -> Result<u64, OutOfMemory>
+    ensures { IfOk result (λ all. HasLines 0 text.old.items (atoms_in (query_of query.now).lets) all text.new.items) }
+{
+    let mut atoms = 0;
+    for k in 0..query.lets.len() {
+        atoms = push_atoms(alloc, &query.lets.at(k).1, atoms, text)?;
+    }
+    Ok(atoms)
+}
+
+/// Appends the lines of the atoms of an expression, behind so many others, and tells how many there are then.
+#[cycle(atoms)]
+fn push_atoms(
+    alloc: Global,
+    expr: &Expr,
+    before: u64,
+    text: &mut Vec<u8>,
+) -> Result<u64, OutOfMemory>
+    ensures { IfOk result (λ all. HasLines before text.old.items (atoms_of (expr_of expr.now)) all text.new.items) }
+{
+    match expr {
+        Expr::Atom(atom) => push_atom(alloc, atom, before, text),
+        Expr::Named(_) => Ok(before),
+        Expr::Union(parts) => push_parts(alloc, parts, before, text),
+        Expr::Join(parts) => push_parts(alloc, parts, before, text),
+        Expr::Project(_kept, sub) => push_atoms(alloc, sub, before, text),
+    }
+}
+
+/// Appends the lines of the atoms of parts, from left to right.
+#[cycle(atoms)]
+fn push_parts(
+    alloc: Global,
+    parts: &Exprs,
+    before: u64,
+    text: &mut Vec<u8>,
+) -> Result<u64, OutOfMemory>
+    ensures { IfOk result (λ all. HasLines before text.old.items (atoms_among (exprs_of parts.now)) all text.new.items) }
+{
+    let mut atoms = before;
+    for k in 0..parts.len() {
+        atoms = push_atoms(alloc, parts.at(k), atoms, text)?;
+    }
+    Ok(atoms)
+}
+
+/// Appends the line of an atom, behind so many others, and tells how many there are then. The numbers
+/// of more than 2^64 - 1 atoms are not told: memory would be wanting long before.
+fn push_atom(
+    alloc: Global,
+    atom: &Atom,
+    before: u64,
+    text: &mut Vec<u8>,
+) -> Result<u64, OutOfMemory>
+    ensures { IfOk result (λ all. HasLines before text.old.items (atom_at atom.now ∷ []) all text.new.items) }
+{
+    let number = before.checked_add(1).ok_or(OutOfMemory)?;
+    let Counts { states, ways } = count(atom);
+    let shown = format!(in alloc; "atom {number} states {states} ways {ways}\n")?;
+    text.extend_from_slice(shown.as_bytes())?;
+    Ok(number)
+}
