@@ -1,0 +1,135 @@
+//! The readings of a query's documents against their definition.
+ghost use Rattle.std.specs.Prelude.{◌≡◌, ◌<◌, ◌≤◌, length};
+ghost use Rattle.engine_table.specs.declared.reading.TheConstants.{MOST_BYTES};
+
+use crate::definition::words_by_definition;
+use crate::documents::{document_of, number_of_documents};
+use crate::fault::Fault;
+use crate::words::{Block, words_of};
+use marked_automaton::Automaton;
+use one_pass::read_rows;
+use query_automaton::compile;
+use query_parser::read_query;
+use set_table::Table;
+use span_core::{OutOfMemory, Steps, Touched};
+use std::alloc::Global;
+use std::marker::Brand;
+use std::sync::ledger::{Blank, Ledger};
+
+/// The most bytes of a document that is read.
+const MOST_BYTES: u32 = 3;
+
+/// The limit of the tables' weight.
+const LIMIT: u64 = 1_000_000;
+
+/// What was checked.
+#[derive(Clone, Copy)]
+pub(crate) struct Tally {
+    pub queries: usize,
+    /// The documents that were read, each at each set of positions.
+    pub readings: usize,
+    /// The words of the readings at all positions, which are the answers.
+    pub answers: usize,
+}
+
+impl Tally {
+    pub(crate) fn none() -> Tally {
+        Tally {
+            queries: 0,
+            readings: 0,
+            answers: 0,
+        }
+    }
+
+    /// Both together.
+    pub(crate) fn plus(self, other: Tally) -> Tally {
+        Tally {
+            queries: self.queries.saturating_add(other.queries),
+            readings: self.readings.saturating_add(other.readings),
+            answers: self.answers.saturating_add(other.answers),
+        }
+    }
+}
+
+/// Checks the query of a text on all short documents of these bytes.
+pub(crate) fn check_text(alloc: Global, bytes: &[u8], text: &str) -> Result<Tally, Fault>
+    requires { 0 < length bytes.now }
+{
+    let query = read_query(alloc, text.as_bytes())?;
+    let compiled = compile(alloc, &query)?;
+    let mut tally = Tally {
+        queries: 1,
+        readings: 0,
+        answers: 0,
+    };
+    for len in 0..=MOST_BYTES {
+        for number in 0..number_of_documents(bytes, len) {
+            let document = document_of(alloc, bytes, len, number)?;
+            let sets = 1u32 << (len + 1);
+            for positions in 0..sets {
+                let words = check_reading(alloc, compiled.automaton(), &document, len, positions)?;
+                tally = tally.plus(Tally {
+                    queries: 0,
+                    readings: 1,
+                    answers: if positions + 1 == sets { words } else { 0 },
+                });
+            }
+        }
+    }
+    Ok(tally)
+}
+
+/// Checks one reading of a document of `len` bytes, and gives the number of its words.
+fn check_reading(
+    alloc: Global,
+    automaton: &Automaton,
+    document: &[u8],
+    len: u32,
+    positions: u32,
+) -> Result<usize, Fault>
+    requires len { length document.now ≡ len }
+    requires short { len ≤ MOST_BYTES }
+{
+    let read = words_read::<Brand>(alloc, Blank::new(1), automaton, document, positions)?;
+    let defined = words_by_definition(alloc, automaton, document, positions)?;
+    if read != defined {
+        return Err(Fault::Words {
+            document: document.to_vec(alloc)?,
+            positions,
+            read,
+            defined,
+        });
+    }
+    Ok(read.len())
+}
+
+/// The words with which one pass reads a document at the positions whose bits are set.
+fn words_read<L: Ledger>(
+    alloc: Global,
+    blank: Blank,
+    automaton: &Automaton,
+    document: &[u8],
+    positions: u32,
+) -> Result<Vec<Vec<Block>>, Fault>
+    requires name { blank.name ≡ L.name }
+    requires parts { blank.parts ≡ L.parts }
+    requires some { 0 < L.parts }
+    requires short { length document.now ≤ MOST_BYTES }
+{
+    let mut steps = Steps::<L>::new(blank);
+    let chosen = chosen_positions(alloc, document.len() as u32, positions)?;
+    let mut table = Table::new(alloc, automaton, LIMIT, &mut steps)?;
+    let lists = read_rows(alloc, &mut table, document, &chosen, &mut steps)?;
+    words_of(alloc, &lists, &mut steps)
+}
+
+/// The positions from 0 to `n` whose bits are set.
+fn chosen_positions(alloc: Global, n: u32, positions: u32) -> Result<Touched, OutOfMemory> {
+    let mut chosen = Touched::new(alloc);
+    for at in 0..=n {
+        if at < 32 && positions & (1 << at) != 0 {
+            chosen.add(at)?;
+        }
+    }
+    Ok(chosen)
+}
