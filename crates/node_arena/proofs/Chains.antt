@@ -3,7 +3,7 @@ use Rattle.std.proofs.Common.{◌≡◌, ℕ, ◌-◌, ◌<◌, inl, inr, List, 
 use Rattle.std.proofs.lemmas.Bool.{cases_eq}
 use Rattle.std.specs.FinMap as map
 use Rattle.node_arena.proofs.Maps.{empty_at, same_maps}
-use Rattle.node_arena.specs.declared.TheConstants.{NONE}
+use Rattle.node_arena.specs.declared.TheConstants.{NONE, MOST_CELLS}
 use Rattle.node_arena.specs.Cells.{NamedLink, Cells, Holds, HasCell, AreLinked, hold, with_hold}
 use Rattle.node_arena.specs.Nodes.{Nodes, IsKept, node_at, node_of, first_of, number_of, name_of, link_of, cell_before, cells_from, holds_of, count_in, count_of, named_times, some_positive, seen}
 use Rattle.node_arena.proofs.Branches.{if_same, if_apart}
@@ -12,7 +12,7 @@ use Rattle.node_arena.proofs.NodeLaws.{node_here, node_past, node_there, count_k
 use Rattle.node_arena.proofs.Counts.{cell_or_not}
 
 -- the number of a name tells it
-pub name_back : (o : Option ℕ) → ((c : ℕ) → o ≡ Some c → c < NONE) → name_of (number_of o) ≡ o
+pub name_back : (o : Option ℕ) → ((c : ℕ) → o ≡ Some c → c < MOST_CELLS) → name_of (number_of o) ≡ o
 name_back None small = if_same NONE NONE None (Some NONE) refl
 name_back (Some c) small = if_apart c NONE None (Some c) (λ e. let h = small c refl in absurd (omega arith))
 
@@ -20,7 +20,7 @@ pub link_back : (count newer older : ℕ) (l : NamedLink) → name_of (number_of
 link_back count newer older l f a = ap₂ (λ (x y : Option ℕ). let m : NamedLink = record { name = l.name; at = l.at; marks = l.marks; from = x; also = y } in m) f a
 
 pub cells_back : (nodes : Nodes) (count : ℕ → ℕ) (newer : ℕ) (cells : List NamedLink) → ((c : ℕ) → HasCell cells c → map.get nodes c ≡ node_at count newer cells c) → AreLinked cells →
-    ((c : ℕ) → HasCell cells c → c < NONE) → cells_from (length cells) nodes (first_of cells) ≡ cells
+    ((c : ℕ) → HasCell cells c → c < MOST_CELLS) → cells_from (length cells) nodes (first_of cells) ≡ cells
 unfolding cells_from
 cells_back nodes count newer [] stored linked small = refl
 cells_back nodes count newer (l ∷ older) stored linked small =

@@ -6,7 +6,7 @@ use Rattle.std.proofs.lemmas.List.{length-map, get_or_past}
 use Rattle.std.specs.FinMap as fin_map
 use Rattle.span_core.specs.Lists.{Has}
 use Rattle.span_core.proofs.HasLaws.{Has-map, Has-map_cases}
-use Rattle.node_arena.specs.declared.TheConstants.{NONE}
+use Rattle.node_arena.specs.declared.TheConstants.{NONE, MOST_CELLS, MOST_HOLDS}
 use Rattle.node_arena.specs.declared.node.Node.{Node}
 use Rattle.node_arena.specs.Cells.{NamedLink, Cells, Holds, HasCell, Names, IsNamed, AreLinked, hold, or_zero}
 use Rattle.node_arena.specs.Nodes.{Nodes, AreNodes, IsKept, node_at, node_of, first_of, number_of, count_of, names_once, named_times, some_positive, count_in, holds_of, seen}
@@ -185,7 +185,7 @@ module _ (nodes : Nodes) (newest live : ℕ) (v : Cells) (kept : IsKept nodes ne
     first = ap copy kept.first ∙ sym (first_renamed copy none v.cells);
     number = kept.number ∙ sym (length-map v.cells (renamed copy));
     linked = linked_renamed copy v.cells slots.apart kept.linked;
-    small = λ q h. let o = copy_of copy v.cells q h in subst (λ k. k < NONE) o.2 (slots.small o.0 o.1);
+    small = λ q h. let o = copy_of copy v.cells q h in subst (λ k. k < MOST_CELLS) o.2 (slots.small o.0 o.1);
     held_there = λ q some. elim (cell_or_not cells q) as (λ _. HasCell cells q) [
       | inl h ↦ h
       | inr out ↦ let z = hold_else q out in absurd (omega arith)
@@ -196,10 +196,10 @@ module _ (nodes : Nodes) (newest live : ℕ) (v : Cells) (kept : IsKept nodes ne
           subst (λ k. fin_map.get holds k ≡ some_positive (hold holds k)) o.2 (got o.0 o.1 ∙ ap some_positive (sym (hold_same o.0 o.1)))
       | inr out ↦ held_else copies cells cells q out ∙ sym (if_same (hold holds q) 0 None (Some (hold holds q)) (hold_else q out))
     ];
-    few = λ q. elim (cell_or_not cells q) as (λ _. hold holds q ≤ 2 ^ 32) [
+    few = λ q. elim (cell_or_not cells q) as (λ _. hold holds q ≤ MOST_HOLDS) [
       | inl h ↦
           let o = copy_of copy v.cells q h in
-          subst (λ k. hold holds k ≤ 2 ^ 32) o.2 (let s = hold_same o.0 o.1 in let f = kept.few o.0 in omega arith)
+          subst (λ k. hold holds k ≤ MOST_HOLDS) o.2 (let s = hold_same o.0 o.1 in let f = kept.few o.0 in omega arith)
       | inr out ↦ let z = hold_else q out in omega arith
     ];
     kept = λ q h.

@@ -6,7 +6,7 @@ use Rattle.std.proofs.lemmas.Bool.{cases_eq}
 use Rattle.std.proofs.lemmas.List.{get_or-set_same, get_or-set_other}
 use Rattle.std.specs.FinMap as map
 use Rattle.node_arena.proofs.Maps.{insert_here, insert_other, empty_at}
-use Rattle.node_arena.specs.declared.TheConstants.{NONE}
+use Rattle.node_arena.specs.declared.TheConstants.{NONE, MOST_CELLS}
 use Rattle.node_arena.specs.declared.node.Node.{Node}
 use Rattle.node_arena.specs.Cells.{NamedLink, Cells, HasCell, AreLinked}
 use Rattle.node_arena.specs.Nodes.{Nodes, IsKept, node_at, node_of, first_of, count_of}
@@ -97,7 +97,7 @@ slots_none copy copies P empty none = record {
 }
 
 -- one more cell gets a slot
-module _ (copy other : ℕ → ℕ) (copies : Nodes) (P Q : ℕ → Type 0) (a p : ℕ) (put : Node) (slots : HaveSlots copy copies P) (fresh : map.get copies p ≡ None) (small : p < NONE)
+module _ (copy other : ℕ → ℕ) (copies : Nodes) (P Q : ℕ → Type 0) (a p : ℕ) (put : Node) (slots : HaveSlots copy copies P) (fresh : map.get copies p ≡ None) (small : p < MOST_CELLS)
     (here : other a ≡ p) (same : (c : ℕ) → (c ≡ a → ⊥) → other c ≡ copy c) (split : (c : ℕ) → Q c → (c ≡ a) ⊎ ((c ≡ a → ⊥) × P c)) (now : Q a) (still : (c : ℕ) → P c → Q c)
     (new : (c : ℕ) → P c → c ≡ a → ⊥) where
   not_fresh : (k : ℕ) → IsSome (map.get copies k) → k ≡ p → ⊥
@@ -114,7 +114,7 @@ module _ (copy other : ℕ → ℕ) (copies : Nodes) (P Q : ℕ → Type 0) (a p
   slots_more : HaveSlots other (map.insert copies p put) Q
   slots_more = record {
     in_use = more_in_use;
-    small = λ c q. elim (split c q) as (λ _. other c < NONE) [
+    small = λ c q. elim (split c q) as (λ _. other c < MOST_CELLS) [
       | inl e ↦ let is = ap other e ∙ here in omega arith
       | inr r ↦ let is = same c r.0 in let s = slots.small c r.1 in omega arith
     ];
@@ -169,7 +169,7 @@ pub placing_node : (nodes copies : Nodes) (numbers : List ℕ) (cells : List Nam
 placing_node nodes copies numbers cells at number placing some = some_node nodes cells placing.left at number placing.walk some
 
 place_by : (nodes copies : Nodes) (numbers : List ℕ) (cells left : List NamedLink) (at number p : ℕ) (node put : Node) → IsLeft nodes cells left at number →
-    HaveSlots (copy_in numbers) copies (λ c. HasCell cells c × (HasCell left c → ⊥)) → 0 < number → map.get nodes at ≡ Some node → map.get copies p ≡ None → p < NONE → at < length numbers →
+    HaveSlots (copy_in numbers) copies (λ c. HasCell cells c × (HasCell left c → ⊥)) → 0 < number → map.get nodes at ≡ Some node → map.get copies p ≡ None → p < MOST_CELLS → at < length numbers →
     Placing nodes (map.insert copies p put) (set numbers at p) cells node.older (number - 1)
 place_by nodes copies numbers cells [] at number p node put walk slots some e fresh small inside = let n = walk.number_is in absurd (omega arith)
 place_by nodes copies numbers cells (l ∷ older) at number p node put walk slots some e fresh small inside = record {
@@ -187,7 +187,7 @@ place_by nodes copies numbers cells (l ∷ older) at number p node put walk slot
 }
 
 pub placing_next : (nodes copies new : Nodes) (numbers after : List ℕ) (cells : List NamedLink) (at number p k : ℕ) (node put : Node) → Placing nodes copies numbers cells at number → 0 < number →
-    map.get nodes at ≡ Some node → map.get copies p ≡ None → p < NONE → at < length numbers → new ≡ map.insert copies p put → k ≡ p → after ≡ set numbers at k →
+    map.get nodes at ≡ Some node → map.get copies p ≡ None → p < MOST_CELLS → at < length numbers → new ≡ map.insert copies p put → k ≡ p → after ≡ set numbers at k →
     (next : ℕ) → IfSome (map.get nodes at) (λ n. next ≡ n.older) → (rest : ℕ) → rest ≡ number - 1 → Placing nodes new after cells next rest
 placing_next nodes copies new numbers after cells at number p k node put placing some e fresh small inside is ek ea next told rest er =
     let done = place_by nodes copies numbers cells placing.left at number p node put placing.walk placing.placed some e fresh small inside in

@@ -1,9 +1,10 @@
 -- How often links name a cell, and how many cells there are.
-use Rattle.std.proofs.Common.{◌≡◌, ℕ, suc, ◌+◌, ◌-◌, ◌*◌, ◌^◌, ◌<◌, ◌≤◌, ◌⊎◌, inl, inr, List, [], ◌∷◌, map, length, Option, Some, None, Bool, true, false, eqb, ◌||◌, refl, sym, ap, subst, ◌∙◌, arith, ne_eqb}
+use Rattle.std.proofs.Common.{◌≡◌, ℕ, suc, ◌+◌, ◌-◌, ◌^◌, ◌<◌, ◌≤◌, ◌⊎◌, inl, inr, List, [], ◌∷◌, map, length, Option, Some, None, Bool, true, false, eqb, ◌||◌, refl, sym, ap, subst, ◌∙◌, arith, ne_eqb}
 use Rattle.std.proofs.lemmas.Bool.{cases_eq}
 use Rattle.std.proofs.lemmas.Map.Steps.{length-le_from_distinct_below}
 use Rattle.std.specs.List.{IsDistinct, AllByRecursion, list_any}
 use Rattle.span_core.specs.Lists.{Has}
+use Rattle.node_arena.specs.declared.TheConstants.{MOST_CELLS, MOST_HOLDS, DONE}
 use Rattle.node_arena.specs.Cells.{NamedLink, Holds, HasCell, Names, IsNamed, IsUnnamed, AreLinked, hold}
 use Rattle.node_arena.specs.Nodes.{names_once, named_times, count_of}
 use Rattle.node_arena.proofs.Branches.{if_same, if_apart}
@@ -49,10 +50,24 @@ once_at_most o c = elim (names_or_not o c) as (λ _. names_once o c ≤ 1) [
   | inr ne ↦ let is = named_zero o c ne in omega arith
 ]
 
-pub named_few : (cells : List NamedLink) (c : ℕ) → named_times cells c ≤ 2 * length cells
-named_few [] c = omega arith
-named_few (l ∷ older) c =
-    let a = once_at_most l.from c in let b = once_at_most l.also c in let r = named_few older c in omega arith
+-- what a link continues and what it takes along are apart
+link_once : (l : NamedLink) (c : ℕ) → (l.from ≡ Some c → l.also ≡ Some c → ⊥) → names_once l.from c + names_once l.also c ≤ 1
+link_once l c apart = elim (names_or_not l.from c) as (λ _. names_once l.from c + names_once l.also c ≤ 1) [
+  | inl e ↦ let a = named_one l.from c e in let b = named_zero l.also c (apart e) in omega arith
+  | inr ne ↦ let a = named_zero l.from c ne in let b = once_at_most l.also c in omega arith
+]
+
+-- and the oldest link names no cell
+pub named_few : (cells : List NamedLink) (c : ℕ) → AreLinked cells → named_times cells c ≤ length cells - 1
+named_few [] c linked = omega arith
+named_few (l ∷ []) c linked =
+    let a = named_zero l.from c (λ e. (linked.0.from_there c e).1) in
+    let b = named_zero l.also c (λ e. (linked.0.also_there c e).1) in
+    omega arith
+named_few (l ∷ (m ∷ older)) c linked =
+    let a = link_once l c (linked.0.apart c) in
+    let r = named_few (m ∷ older) c linked.1 in
+    omega arith
 
 -- what no link names is named no times
 pub unnamed_none : (cells : List NamedLink) (c : ℕ) → IsUnnamed cells c → named_times cells c ≡ 0
@@ -143,8 +158,15 @@ few_cells cells n linked small =
     omega arith
 
 -- so a count fits
-pub count_fits : (holds : Holds) (cells : List NamedLink) (c : ℕ) → AreLinked cells → ((q : ℕ) → HasCell cells q → q < 2 ^ 32 - 1) → hold holds c ≤ 2 ^ 32 → count_of holds cells c + 1 < 2 ^ 63
+pub count_fits : (holds : Holds) (cells : List NamedLink) (c : ℕ) → AreLinked cells → ((q : ℕ) → HasCell cells q → q < MOST_CELLS) → hold holds c ≤ MOST_HOLDS → count_of holds cells c + 1 < 2 ^ 32
 count_fits holds cells c linked small few =
-    let a = named_few cells c in
-    let b = few_cells cells (2 ^ 32 - 1) linked small in
+    let a = named_few cells c linked in
+    let b = few_cells cells MOST_CELLS linked small in
+    omega arith
+
+-- and is no head where each cell is held once at most
+pub count_low : (holds : Holds) (cells : List NamedLink) (c : ℕ) → AreLinked cells → ((q : ℕ) → HasCell cells q → q < MOST_CELLS) → hold holds c ≤ 1 → count_of holds cells c < DONE
+count_low holds cells c linked small few =
+    let a = named_few cells c linked in
+    let b = few_cells cells MOST_CELLS linked small in
     omega arith

@@ -1,9 +1,9 @@
 -- Cells that are neither held nor named are given back until there is none.
-use Rattle.std.proofs.Common.{◌≡◌, ℕ, ◌+◌, ◌-◌, ◌^◌, ◌<◌, ◌≤◌, if◌then◌else◌, nat_eq, ◌⊎◌, inl, inr, List, [], ◌∷◌, length, Some, IsSome, IfSome, is_some, refl, sym, ap, ap₂, subst, ◌∙◌, arith}
+use Rattle.std.proofs.Common.{◌≡◌, ℕ, ◌+◌, ◌-◌, ◌<◌, ◌≤◌, if◌then◌else◌, nat_eq, ◌⊎◌, inl, inr, List, [], ◌∷◌, length, Some, IsSome, IfSome, is_some, refl, sym, ap, ap₂, subst, ◌∙◌, arith}
 use Rattle.std.proofs.lemmas.Bool.{cases_eq}
 use Rattle.std.specs.FinMap as map
 use Rattle.node_arena.proofs.Maps.{remove_other}
-use Rattle.node_arena.specs.declared.TheConstants.{NONE}
+use Rattle.node_arena.specs.declared.TheConstants.{NONE, MOST_CELLS, MOST_HOLDS}
 use Rattle.node_arena.specs.declared.node.Node.{Node}
 use Rattle.span_core.specs.Lists.{Has}
 use Rattle.node_arena.specs.Cells.{NamedLink, Cells, Holds, HasCell, IsNamed, IsUnnamed, AreLinked, without, hold, with_hold}
@@ -27,11 +27,11 @@ pub record Releasing (nodes : Nodes) (newest live pending : ℕ) (holds : Holds)
   pub number : live ≡ length cells
   pub next : pending ≡ first_waiting waiting
   pub linked : AreLinked cells
-  pub small : (c : ℕ) → HasCell cells c → c < NONE
+  pub small : (c : ℕ) → HasCell cells c → c < MOST_CELLS
   pub held_there : (c : ℕ) → 0 < hold holds c → HasCell cells c
   pub run : (rest : List NamedLink) → Released holds cells rest → Released holds start rest
 
-no_cell : (cells : List NamedLink) → ((c : ℕ) → HasCell cells c → c < NONE) → HasCell cells NONE → ⊥
+no_cell : (cells : List NamedLink) → ((c : ℕ) → HasCell cells c → c < MOST_CELLS) → HasCell cells NONE → ⊥
 no_cell cells small h = let s = small NONE h in absurd (omega arith)
 
 -- the holds after one is given up
@@ -101,7 +101,7 @@ module _ (nodes : Nodes) (newest live : ℕ) (v : Cells) (kept : IsKept nodes ne
 -- the first that waits is freed
 module _ (nodes : Nodes) (newest live p : ℕ) (holds : Holds) (start cells : List NamedLink) (waiting : List ℕ)
     (stored : Stored nodes (count_of holds cells) cells (p ∷ waiting)) (first : newest ≡ first_of cells) (number : live ≡ length cells)
-    (linked : AreLinked cells) (small : (c : ℕ) → HasCell cells c → c < NONE) (held_there : (c : ℕ) → 0 < hold holds c → HasCell cells c)
+    (linked : AreLinked cells) (small : (c : ℕ) → HasCell cells c → c < MOST_CELLS) (held_there : (c : ℕ) → 0 < hold holds c → HasCell cells c)
     (run : (rest : List NamedLink) → Released holds cells rest → Released holds start rest) where
   abbrev counts : ℕ → ℕ
   counts = threaded (p ∷ waiting) (count_of holds cells)
@@ -178,7 +178,7 @@ module _ (nodes : Nodes) (newest live p : ℕ) (holds : Holds) (start cells : Li
         same c = same_count counts (threaded waiting (count_of holds cells)) NONE rest c
             (λ h. sym (threaded_past p waiting (count_of holds cells) c (λ e. without_gone p cells linked (subst (λ x. HasCell rest x) (sym e) h))))
 
-    rest_small : (c : ℕ) → HasCell rest c → c < NONE
+    rest_small : (c : ℕ) → HasCell rest c → c < MOST_CELLS
     rest_small c h = small c (cell_before_without p cells c h)
 
     -- what its names leave of the counts
@@ -221,10 +221,6 @@ module _ (nodes : Nodes) (newest live p : ℕ) (holds : Holds) (start cells : Li
             run = λ last r. run last (one_more p here held_zero unnamed r);
           }
 
-waiting_below : (f : ℕ → ℕ) (cells : List NamedLink) (ws : List ℕ) → AreWaiting f cells ws → ((c : ℕ) → HasCell cells c → c < NONE) → first_waiting ws ≤ NONE
-waiting_below f cells [] each small = omega arith
-waiting_below f cells (w ∷ ws) each small = let s = small w each.0 in omega arith
-
 -- as the loop meets it
 module _ (nodes : Nodes) (newest live pending : ℕ) (holds : Holds) (start : List NamedLink) (r : Releasing nodes newest live pending holds start) where
   some_waits : (pending ≡ NONE → ⊥) → (ws : List ℕ) × Stored nodes (count_of holds r.cells) r.cells (pending ∷ ws)
@@ -264,12 +260,6 @@ module _ (nodes : Nodes) (newest live pending : ℕ) (holds : Holds) (start : Li
         (λ n at. older_end nodes newest live pending holds start r.cells waits stored r.first r.number r.linked r.small r.held_there r.run n at)
 
     module _ (n : Node) (at : map.get nodes pending ≡ Some n) where
-      pub count_fits_32 : n.count < 2 ^ 32
-      count_fits_32 =
-          let e = next_waits nodes newest live pending holds start r.cells waits stored r.first r.number r.linked r.small r.held_there r.run n at in
-          let s = waiting_below (count_of holds r.cells) r.cells waits stored.each.3 r.small in
-          omega arith
-
       pub from_ends : (n1 : Nodes) → n1 ≡ unlinked nodes pending n → IsEnd n1 n.from
       from_ends n1 e1 = subst (λ (m : Nodes). IsEnd m n.from) (sym e1)
           (from_end nodes newest live pending holds start r.cells waits stored r.first r.number r.linked r.small r.held_there r.run n at)
@@ -308,7 +298,7 @@ module _ (nodes : Nodes) (newest live pending : ℕ) (holds : Holds) (start : Li
         | inr some ↦ inl (omega arith)
       ]
 
-  pub release_ends : pending ≡ NONE → ((c : ℕ) → map.get holds c ≡ some_positive (hold holds c)) → ((c : ℕ) → hold holds c ≤ 2 ^ 32) → (spare : ℕ) →
+  pub release_ends : pending ≡ NONE → ((c : ℕ) → map.get holds c ≡ some_positive (hold holds c)) → ((c : ℕ) → hold holds c ≤ MOST_HOLDS) → (spare : ℕ) →
       IsKept nodes newest live (record { cells = r.cells; holds = holds; spare = spare })
   release_ends z proper few spare = record {
     stored = (none_waits z).nodes_are;

@@ -1,7 +1,7 @@
 -- How a copy is made: each cell gets a slot, and then its node is stored there under the numbers of the copies.
 use Rattle.std.specs.Prelude.{◌≡◌, ℕ, ◌<◌, List, Some, IsSome, get_or}
 use Rattle.std.specs.FinMap as map
-use Rattle.node_arena.specs.declared.TheConstants.{NONE}
+use Rattle.node_arena.specs.declared.TheConstants.{NONE, MOST_CELLS}
 use Rattle.node_arena.specs.declared.node.Node.{Node}
 use Rattle.node_arena.specs.Nodes.{Nodes}
 
@@ -12,7 +12,7 @@ copy_in numbers c = get_or numbers c NONE
 -- the slots in use are those of the copies of the cells for which P holds, one each
 pub record HaveSlots (copy : ℕ → ℕ) (copies : Nodes) (P : ℕ → Type 0) : Type 0 where
   pub in_use : (c : ℕ) → P c → IsSome (map.get copies (copy c))
-  pub small : (c : ℕ) → P c → copy c < NONE
+  pub small : (c : ℕ) → P c → copy c < MOST_CELLS
   pub apart : (c d : ℕ) → P c → P d → copy c ≡ copy d → c ≡ d
   pub only : (q : ℕ) → IsSome (map.get copies q) → (c : ℕ) × P c × (copy c ≡ q)
 

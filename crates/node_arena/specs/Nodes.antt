@@ -1,8 +1,8 @@
 -- How the cells are kept: a node in a slot for each, with the numbers of its neighbours by age.
-use Rattle.std.specs.Prelude.{◌≡◌, ◌⊎◌, ℕ, zero, suc, ◌+◌, ◌-◌, ◌^◌, ◌<◌, ◌≤◌, List, [], ◌∷◌, length, Option, Some, None, IsSome, if◌then◌else◌, nat_eq, nat_lt}
+use Rattle.std.specs.Prelude.{◌≡◌, ◌⊎◌, ℕ, zero, suc, ◌+◌, ◌-◌, ◌<◌, ◌≤◌, List, [], ◌∷◌, length, Option, Some, None, IsSome, if◌then◌else◌, nat_eq, nat_lt}
 use Rattle.std.specs.Ordering.{nat_cmp}
 use Rattle.std.specs.FinMap as map
-use Rattle.node_arena.specs.declared.TheConstants.{NONE}
+use Rattle.node_arena.specs.declared.TheConstants.{NONE, MOST_CELLS, MOST_HOLDS}
 use Rattle.node_arena.specs.declared.node.Node.{Node}
 use Rattle.span_core.specs.Lists.{Has}
 use Rattle.node_arena.specs.Cells.{NamedLink, Holds, Cells, HasCell, IsNamed, AreLinked, hold, with_hold}
@@ -57,10 +57,10 @@ pub record IsKept (nodes : Nodes) (newest live : ℕ) (v : Cells) : Type 0 where
   pub first : newest ≡ first_of v.cells
   pub number : live ≡ length v.cells
   pub linked : AreLinked v.cells
-  pub small : (c : ℕ) → HasCell v.cells c → c < NONE
+  pub small : (c : ℕ) → HasCell v.cells c → c < MOST_CELLS
   pub held_there : (c : ℕ) → 0 < hold v.holds c → HasCell v.cells c
   pub proper : (c : ℕ) → map.get v.holds c ≡ some_positive (hold v.holds c)
-  pub few : (c : ℕ) → hold v.holds c ≤ 2 ^ 32
+  pub few : (c : ℕ) → hold v.holds c ≤ MOST_HOLDS
   pub kept : (c : ℕ) → HasCell v.cells c → (0 < hold v.holds c) ⊎ IsNamed v.cells c
 
 abbrev pub link_of : ℕ → Node → NamedLink

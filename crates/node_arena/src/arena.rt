@@ -1,7 +1,8 @@
 //! Counted link cells.
-ghost use Rattle.std.specs.Prelude.{◌≡◌, ◌↔◌, ℕ, ◌+◌, ◌-◌, ◌*◌, ◌^◌, ◌<◌, ◌≤◌, [], ◌∷◌, length, IfSome, IfOk, OnOk, OnErr};
+ghost use Rattle.std.specs.Prelude.{◌≡◌, ◌↔◌, ℕ, ◌+◌, ◌-◌, ◌*◌, ◌<◌, ◌≤◌, [], ◌∷◌, length, IfSome, IfOk, OnOk, OnErr};
 ghost use Rattle.std.specs.FinMap as map;
 ghost use Rattle.span_core.specs.Lists.{Has};
+ghost use Rattle.node_arena.specs.declared.TheConstants.{MOST_HOLDS};
 ghost use Rattle.node_arena.specs.Cells.{HasCell, IsArena, IsLive, hold, with_hold, less_hold, root_link, new_link};
 ghost use Rattle.node_arena.specs.Release.{Released};
 ghost use Rattle.node_arena.specs.Closing.{accepting, first_heads};
@@ -18,7 +19,10 @@ use std::alloc::Global;
 use std::marker::Model;
 use std::sync::ledger::Ledger;
 
-/// Link cells with counts, in a list by age.
+/// Link cells with counts, in a list by age. A cell takes at most 32 bytes, also once marks take 64 bits.
+///
+/// There is room for at most 2^31 - 2^16 cells, fewer than `MOST_CELLS`, and a call for more answers want of memory. A cell is held at
+/// most `MOST_HOLDS` times.
 #[derive(Drop)]
 pub struct Arena {
     nodes: Slots<Node>,
@@ -136,7 +140,7 @@ impl Arena {
     /// One hold of the cell more. It takes 1 step.
     pub fn keep<L: Ledger>(&mut self, cell: Cell, steps: &mut Steps<L>)
         requires there { HasCell self.old.cells cell }
-        requires few { hold self.old.holds cell < 2 ^ 32 }
+        requires few { hold self.old.holds cell < MOST_HOLDS }
         ensures cells { self.new.cells ≡ self.old.cells }
         ensures holds { self.new.holds ≡ with_hold self.old.holds cell (hold self.old.holds cell + 1) }
         ensures spare { self.new.spare ≡ self.old.spare }
@@ -172,7 +176,7 @@ impl Arena {
             } = unlink(&mut self.nodes, pending);
             self.newest = newest_without(newer, older, self.newest);
             self.live -= 1;
-            let next = lower(&mut self.nodes, from, count as u32);
+            let next = lower(&mut self.nodes, from, count);
             pending = lower(&mut self.nodes, also, next);
         }
     }

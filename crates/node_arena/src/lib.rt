@@ -21,5 +21,12 @@ pub use rows::Rows;
 /// The number of no cell.
 pub(crate) const NONE: u32 = 0xffff_ffff;
 
-/// In the closing phase, the count that stands for the head Done. Counts are below it, and `DONE + 1 + k` stands for the row cell k.
-pub(crate) const DONE: u64 = 0x8000_0000_0000_0000;
+/// Cells and row cells have numbers below it, so that there are no more of them than that.
+pub const MOST_CELLS: u32 = 0x7fff_ffff;
+
+/// How often a cell can be held. With as many links that name it, its count still fits into 32 bits.
+pub const MOST_HOLDS: u32 = 0x7fff_ffff;
+
+/// In the closing phase, the count that stands for the head Done. The counts of before are below it, as no cell is held more than once
+/// then, and `DONE + 1 + k` stands for the row cell k.
+pub(crate) const DONE: u32 = 0x8000_0000;
