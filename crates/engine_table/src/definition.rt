@@ -22,11 +22,7 @@ fn is_chosen(positions: u32, at: u32) -> bool {
 }
 
 /// The places of a document, in order.
-fn places_of(
-    alloc: Global,
-    document: &[u8],
-    positions: u32,
-) -> Result<Vec<Place>, AllocError> {
+fn places_of(alloc: Global, document: &[u8], positions: u32) -> Result<Vec<Place>, AllocError> {
     let mut places = Vec::new(alloc);
     let mut in_gap = false;
     let mut at: u32 = 0;
@@ -57,7 +53,14 @@ pub(crate) fn words_by_definition(
     let places = places_of(alloc, document, positions)?;
     let mut words = Vec::new(alloc);
     let starts = automaton.starts().to_vec(alloc)?;
-    list_words(alloc, automaton, &places, &starts, &Vec::new(alloc), &mut words)?;
+    list_words(
+        alloc,
+        automaton,
+        &places,
+        &starts,
+        &Vec::new(alloc),
+        &mut words,
+    )?;
     Ok(words)
 }
 
@@ -125,7 +128,10 @@ fn next_states(
     let mut next = Vec::new(alloc);
     for to in 0..automaton.states() {
         let leads = automaton.ways().iter().any(|way| {
-            way.to == to && way.marks == marks && way.bytes.contains(byte) && states.contains(&way.from)
+            way.to == to
+                && way.marks == marks
+                && way.bytes.contains(byte)
+                && states.contains(&way.from)
         });
         if leads {
             next.push(to)?;
@@ -135,7 +141,11 @@ fn next_states(
 }
 
 /// Those of the states that are idle, ascending.
-fn idle_among(alloc: Global, automaton: &Automaton, states: &[u32]) -> Result<Vec<u32>, AllocError> {
+fn idle_among(
+    alloc: Global,
+    automaton: &Automaton,
+    states: &[u32],
+) -> Result<Vec<u32>, AllocError> {
     let mut idle = Vec::new(alloc);
     for state in 0..automaton.states() {
         if states.contains(&state) && automaton.is_idle(state) {
@@ -147,5 +157,8 @@ fn idle_among(alloc: Global, automaton: &Automaton, states: &[u32]) -> Result<Ve
 
 /// Whether one of the states has an end with these markers.
 fn has_end(automaton: &Automaton, states: &[u32], marks: Marks) -> bool {
-    automaton.stops().iter().any(|stop| stop.marks == marks && states.contains(&stop.state))
+    automaton
+        .stops()
+        .iter()
+        .any(|stop| stop.marks == marks && states.contains(&stop.state))
 }

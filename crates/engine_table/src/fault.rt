@@ -15,7 +15,9 @@ pub(crate) enum Fault {
     /// A query of the table has no automaton.
     Size(SizeFault),
     /// A document's reading weighs too much.
-    Table { weight: u64 },
+    Table {
+        weight: u64,
+    },
     /// The words of a reading at the positions whose bits are set are not those of the definition.
     Words {
         document: Vec<u8>,

@@ -59,7 +59,9 @@ fn run(rt: &HostRuntime) -> io::Result<Ending> {
             match check_text(rt.alloc(), group.bytes, text) {
                 Ok(tally) => {
                     let Tally {
-                        readings, answers, ..
+                        readings,
+                        answers,
+                        ..
                     } = tally;
                     println!(rt; "ok {text} readings {readings} answers {answers}")?;
                     total = total.plus(tally);

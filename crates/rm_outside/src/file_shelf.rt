@@ -3,8 +3,8 @@ ghost use Rattle.std.specs.Prelude.{◌≡◌, ◌≤◌, ◌+◌, ℕ, None};
 ghost use Rattle.rm_outside.specs.Faults.{counted};
 ghost use Rattle.rm_outside.specs.Sink.{CountsErr};
 
-use crate::opens::Opens;
 use crate::open_shelf::OpenShelf;
+use crate::opens::Opens;
 use std::fs::File;
 use std::io;
 use std::io::{Input, Read};

@@ -137,7 +137,12 @@ mod tests {
             Ok(self.bytes)
         }
 
-        fn read(&mut self, _name: &str, opened: &mut &'a [u8], buffer: &mut [u8]) -> io::Result<usize> {
+        fn read(
+            &mut self,
+            _name: &str,
+            opened: &mut &'a [u8],
+            buffer: &mut [u8],
+        ) -> io::Result<usize> {
             let result = opened.read(buffer);
             if result.is_err() {
                 self.faults = self.faults.saturating_add(1);
@@ -195,7 +200,12 @@ mod tests {
             Ok(Failing(self.bytes))
         }
 
-        fn read(&mut self, _name: &str, opened: &mut Failing, buffer: &mut [u8]) -> io::Result<usize> {
+        fn read(
+            &mut self,
+            _name: &str,
+            opened: &mut Failing,
+            buffer: &mut [u8],
+        ) -> io::Result<usize> {
             let result = opened.read(buffer);
             if result.is_err() {
                 self.faults = self.faults.saturating_add(1);

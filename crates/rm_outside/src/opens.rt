@@ -29,7 +29,12 @@ pub trait Opens {
         ensures count { CountsErr (faults self.old name.now) (faults self.new name.now) result };
 
     /// Reads on in what this name was opened to, as the reader's own `read` does.
-    fn read(&mut self, name: &str, opened: &mut Self::Opened, buffer: &mut [u8]) -> io::Result<usize>
+    fn read(
+        &mut self,
+        name: &str,
+        opened: &mut Self::Opened,
+        buffer: &mut [u8],
+    ) -> io::Result<usize>
         ensures bound { ReadsAtMost result buffer.new }
         ensures bytes { ReadConsumes (Self.Opened.remaining opened.old) (Self.Opened.remaining opened.new) result buffer.new }
         ensures kept { held self.new ≡ held self.old }
