@@ -1,5 +1,5 @@
 //! A shelf over whatever opens names.
-ghost use Rattle.std.specs.Prelude.{◌≡◌, ◌≤◌, ◌++◌, ℕ, List, OnOk, OnErr, IfSome, IsErrOf, length, take, vec_len};
+ghost use Rattle.std.specs.Prelude.{◌≡◌, ◌≤◌, ◌++◌, ℕ, List, None, Some, OnOk, OnErr, IfSome, IsErrOf, length, take, vec_len};
 ghost use Rattle.rm_outside.specs.Faults.{Rose};
 ghost use Rattle.rm_outside.specs.Shelf.{Gains, SeenPast, ByLength, CountsFailure};
 
