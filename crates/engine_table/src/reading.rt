@@ -1,5 +1,6 @@
 //! The readings of a query's documents against their definition.
-ghost use Rattle.std.specs.Prelude.{◌≡◌, ◌<◌, ◌≤◌, length};
+ghost use Rattle.std.specs.Prelude.{◌≡◌, ◌<◌, ◌≤◌, ℕ, length, IfOk};
+ghost use Rattle.span_core.specs.Intervals.{Covers};
 ghost use Rattle.engine_table.specs.declared.reading.TheConstants.{MOST_BYTES};
 
 use crate::definition::words_by_definition;
@@ -124,7 +125,10 @@ fn words_read<L: Ledger>(
 }
 
 /// The positions from 0 to `n` whose bits are set.
-fn chosen_positions(alloc: Global, n: u32, positions: u32) -> Result<Touched, OutOfMemory> {
+fn chosen_positions(alloc: Global, n: u32, positions: u32) -> Result<Touched, OutOfMemory>
+    requires { n ≤ MOST_BYTES }
+    ensures { IfOk result (λ chosen. (q : ℕ) → Covers chosen q → q ≤ n) }
+{
     let mut chosen = Touched::new(alloc);
     for at in 0..=n {
         if at < 32 && positions & (1 << at) != 0 {

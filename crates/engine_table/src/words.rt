@@ -1,7 +1,10 @@
 //! The words of row lists.
+ghost use Rattle.std.specs.Prelude.{OnOk};
+ghost use Rattle.node_arena.specs.Rows.{HasRow, IsThere};
+ghost use Rattle.engine_table.specs.Waiting.{AreThere};
 
 use crate::fault::Fault;
-use node_arena::{Entry, RowCell};
+use node_arena::{Entry, RowId};
 use output_graph::RowLists;
 use span_core::Steps;
 use std::alloc::Global;
@@ -38,34 +41,63 @@ pub(crate) fn words_of<L: Ledger>(
         entry: lists.first(),
     })?;
     for _ in 0..MOST_LOOK_UPS {
-        let Some(Waiting { before, entry }) = stack.pop() else {
-            return Ok(words);
-        };
-        match entry {
-            Entry::Nothing => {}
-            Entry::Done => words.push(before)?,
-            Entry::Row(row) => {
-                let RowCell {
-                    at,
-                    marks,
-                    child,
-                    next,
-                } = lists.at(row, steps);
-                let mut word = before.clone()?;
-                word.push(Block {
-                    at,
-                    marks: marks.number(),
-                })?;
-                stack.push(Waiting {
-                    before,
-                    entry: next,
-                })?;
-                stack.push(Waiting {
-                    before: word,
-                    entry: child,
-                })?;
-            }
+        match stack.pop() {
+            Some(waiting) => visit(lists, waiting, &mut stack, &mut words, steps)?,
+            None => return Ok(words),
         }
     }
     Err(Fault::TooManyRows)
+}
+
+/// Lists the row that ends here, or lets the rows of a row cell wait.
+fn visit<L: Ledger>(
+    lists: &RowLists,
+    waiting: Waiting,
+    stack: &mut Vec<Waiting>,
+    words: &mut Vec<Vec<Block>>,
+    steps: &mut Steps<L>,
+) -> Result<(), Fault>
+    requires there { IsThere lists.now.store waiting.entry }
+    requires all { AreThere lists.now.store stack.old.items }
+    ensures { OnOk result (AreThere lists.now.store stack.new.items) }
+{
+    let Waiting { before, entry } = waiting;
+    match entry {
+        Entry::Nothing => Ok(()),
+        Entry::Done => {
+            words.push(before)?;
+            Ok(())
+        }
+        Entry::Row(row) => wait_behind(lists, row, before, stack, steps),
+    }
+}
+
+/// Lets the rows of a row cell wait: those of its child behind its block, and then those of its next.
+fn wait_behind<L: Ledger>(
+    lists: &RowLists,
+    row: RowId,
+    before: Vec<Block>,
+    stack: &mut Vec<Waiting>,
+    steps: &mut Steps<L>,
+) -> Result<(), Fault>
+    requires row { HasRow lists.now.store row }
+    requires all { AreThere lists.now.store stack.old.items }
+    ensures { OnOk result (AreThere lists.now.store stack.new.items) }
+{
+    lists.are_lists();
+    let cell = lists.at(row, steps);
+    let mut word = before.clone()?;
+    word.push(Block {
+        at: cell.at,
+        marks: cell.marks.number(),
+    })?;
+    stack.push(Waiting {
+        before,
+        entry: cell.next,
+    })?;
+    stack.push(Waiting {
+        before: word,
+        entry: cell.child,
+    })?;
+    Ok(())
 }
