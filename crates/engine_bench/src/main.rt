@@ -38,14 +38,14 @@ fn main(rt: HostRuntime) -> anyhow::Result<()> {
 /// What the words ask for.
 fn part_of(words: &[String]) -> Option<Part> {
     match words {
-        [word, values, calls] if word == "slots" => Some(Part::Slots {
+        [word, values, calls] if word.as_str() == "slots" => Some(Part::Slots {
             values: values.parse().ok()?,
             calls: calls.parse().ok()?,
         }),
-        [word, bytes] if word == "rows" => Some(Part::Rows {
+        [word, bytes] if word.as_str() == "rows" => Some(Part::Rows {
             bytes: bytes.parse().ok()?,
         }),
-        [word, lines] if word == "trial" => Some(Part::Trial {
+        [word, lines] if word.as_str() == "trial" => Some(Part::Trial {
             lines: lines.parse().ok()?,
         }),
         _ => None,
