@@ -1,5 +1,6 @@
 //! How long a pass and its rows take.
-ghost use Rattle.std.specs.Prelude.{◌≡◌, ◌<◌};
+ghost use Rattle.std.specs.Prelude.{◌≡◌, ◌<◌, ◌≤◌};
+ghost use Rattle.engine_bench.specs.declared.rows.TheConstants.{MOST_BYTES};
 
 use query_parser::read_query;
 use span_core::Steps;
