@@ -96,6 +96,14 @@ fn let_automata(
 }
 
 impl<'q> Compiled<'q> {
+    /// The query that it was made from.
+    pub fn query(&self) -> &'q Query
+        ensures query { result.now ≡ self.now.query }
+        ensures sound { IsSound (query_of self.now.query) }
+    {
+        self.query
+    }
+
     /// The automaton.
     pub fn automaton(&self) -> &Automaton
         ensures automaton { result.now ≡ self.now.automaton }

@@ -1,0 +1,159 @@
+-- The automaton of a query only waits at the positions that no atom of its text touches.
+use Rattle.std.proofs.Common.{◌≡◌, ℕ, zero, suc, ◌*◌, ◌^◌, ◌/◌, ◌%◌, Bool, true, false, List, [], ◌∷◌, length, Option, Some, None, inl, inr, refl, ap, arith, ◌∙◌}
+use Rattle.std.specs.Prelude.{slice_get, nat_eq, if◌then◌else◌}
+use Rattle.std.specs.Str.{bytes_eq}
+use Rattle.std.specs.Option.{ForSome}
+use Rattle.std.proofs.Math.Nat.{zero-div, zero-mod}
+use Rattle.spanner_model.specs.Captures.{VarName}
+use Rattle.spanner_model.specs.Expression.{ExprTree, atom, named, union_end, union, join_end, join, project}
+use Rattle.spanner_model.specs.Answer.{vars_of_lets}
+use Rattle.span_core.specs.Lists.{Has}
+use Rattle.spanner_model.specs.Sound.{AreJoined, AreUnited, IsSoundExpr, IsSoundUnder}
+use Rattle.span_core.proofs.HasLaws.{Has-slice_get}
+use Rattle.marked_automaton.specs.Automaton.{IsWhole, Marked}
+use Rattle.marked_automaton.specs.Marks.{bits_of, left_of}
+use Rattle.place_automaton.proofs.BuiltRepeats.{ordered_repeats}
+use Rattle.place_automaton.proofs.CountLaws.{functional_sequential}
+use Rattle.place_automaton.proofs.WholeLaws.{whole_law}
+use Rattle.algebra.specs.JoinedMarks.{agree_on, has_name, joined}
+use Rattle.algebra.specs.JoinedNames.{all_names}
+use Rattle.algebra.proofs.Alike.{remarked_whole}
+use Rattle.algebra.proofs.Whole.{join_whole, union_whole}
+use Rattle.query_automaton.specs.QueryAutomaton.{automaton_of, no_automaton, of_join, of_lets, of_one_let, of_projection, of_query, of_union, together, united, with_vars}
+use Rattle.query_automaton.proofs.QueryWords.{words_of_reduct}
+use Rattle.filter_laws.specs.Idling.{WaitsOutside}
+use Rattle.filter_laws.specs.Laws.{QueryReading, QueryWaits}
+use Rattle.filter_laws.specs.Touching.{Contains, IsTouchedBy, SomeAtom}
+use Rattle.filter_laws.proofs.AtomWaiting.{atom_waits}
+use Rattle.filter_laws.proofs.GapReading.{accepts_read, read_accepts}
+use Rattle.filter_laws.proofs.OperationsWait.{join_waits, projection_waits, reduct_waits, union_waits}
+
+-- ---- of no markers nothing is left, and none are joined
+
+bits_zero : (names : List VarName) (x : VarName) → bits_of names 0 x ≡ 0
+bits_zero [] x = refl
+bits_zero (y ∷ ys) x = go (bytes_eq y x) (bits_zero ys x)
+  where
+    go : (b : Bool) → bits_of ys 0 x ≡ 0 → (if b then 0 / 2 ^ (2 * length ys) else bits_of ys (0 % 2 ^ (2 * length ys)) x) ≡ 0
+    go true rest = zero-div (2 ^ (2 * length ys))
+    go false rest = ap (λ m. bits_of ys m x) (zero-mod (2 ^ (2 * length ys))) ∙ rest
+
+left_zero : (names kept : List VarName) → left_of names kept 0 ≡ 0
+left_zero names [] = refl
+left_zero names (x ∷ kept) =
+    let here : bits_of names 0 x * 2 ^ (2 * length kept) ≡ 0 * 2 ^ (2 * length kept) = ap (λ b. b * 2 ^ (2 * length kept)) (bits_zero names x) in
+    omega (arith, here, left_zero names kept)
+
+joined_zero : (names1 names2 all : List VarName) → joined names1 names2 all 0 0 ≡ 0
+joined_zero names1 names2 [] = refl
+joined_zero names1 names2 (x ∷ all) =
+    let one : (if has_name names1 x then bits_of names1 0 x else bits_of names2 0 x) ≡ 0 = go (has_name names1 x) in
+    let here : (if has_name names1 x then bits_of names1 0 x else bits_of names2 0 x) * 2 ^ (2 * length all) ≡ 0 * 2 ^ (2 * length all) =
+    ap (λ b. b * 2 ^ (2 * length all)) one in
+    omega (arith, here, joined_zero names1 names2 all)
+  where
+    go : (b : Bool) → (if b then bits_of names1 0 x else bits_of names2 0 x) ≡ 0
+    go true = bits_zero names1 x
+    go false = bits_zero names2 x
+
+-- ---- expressions
+
+module _ (d : List ℕ) (K : ℕ → Bool) where
+  -- a whole automaton that only waits outside of K
+  abbrev pub Waits : Marked → Type 0
+  Waits M = IsWhole M.graph × WaitsOutside M.graph d K
+
+  abbrev Has_all : ExprTree → Type 0
+  Has_all e = Contains K (λ i. SomeAtom (λ s t f. IsTouchedBy s t f d i) e)
+
+  none_waits : Waits no_automaton
+  none_waits = (
+    record { starts = λ p h. absurd h; froms = λ y h. absurd h; tos = λ y h. absurd h; stops = λ x h. absurd h; idles = λ p h. absurd h },
+    record { states = λ i p k led out. absurd led.1; ways = λ i y k h led byte out. absurd h },
+  )
+
+  two_united : (M N : Marked) → Waits M → Waits N → Waits (of_union M N)
+  two_united M N m n = (union_whole M.graph N.graph m.0 n.0, union_waits M.graph N.graph m.0 n.0 d K m.1 n.1)
+
+  two_joined : (M N : Marked) → Waits M → Waits N → Waits (of_join M N)
+  two_joined M N m n =
+      let all = all_names M.names N.names in (
+        join_whole M.graph N.graph m.0 n.0 (agree_on M.names N.names all) (joined M.names N.names all),
+        join_waits (agree_on M.names N.names all) (joined M.names N.names all) M.graph N.graph m.0 n.0 (joined_zero M.names N.names all) d K m.1 n.1,
+      )
+
+  projected : (kept : List VarName) (M : Marked) → Waits M → Waits (of_projection kept M)
+  projected kept M m = (
+    remarked_whole (left_of M.names kept) M.graph m.0,
+    projection_waits M.graph (left_of M.names kept) (left_zero M.names kept) d K m.1,
+  )
+
+  module _ (V : ℕ → VarName → Type 0) (n : ℕ) (L : ℕ → Marked) (lets : (k : ℕ) → Waits (L k)) where
+    -- what is shown of an expression: as it is, as the parts of a union that follow, and as those of a join
+    record AllWait (e : ExprTree) : Type 0 where
+      whole : IsSoundExpr V n e → Has_all e → Waits (automaton_of L e)
+      united_parts : (M : Marked) → AreUnited V n e → Has_all e → Waits M → Waits (united L M e)
+      joined_parts : (M : Marked) → AreJoined V n e → Has_all e → Waits M → Waits (together L M e)
+
+    all_wait : (e : ExprTree) → AllWait e
+    all_wait (atom s t f) = record {
+      whole = λ h has. (
+        whole_law (with_vars [] f) s t f,
+        atom_waits (with_vars [] f) s t f (functional_sequential f h.1) (ordered_repeats f h.0) d K has,
+      );
+      united_parts = λ M h has m. absurd h;
+      joined_parts = λ M h has m. absurd h;
+    }
+    all_wait (named k) = record { whole = λ h has. lets k; united_parts = λ M h has m. absurd h; joined_parts = λ M h has m. absurd h }
+    all_wait union_end = record { whole = λ h has. absurd h; united_parts = λ M h has m. m; joined_parts = λ M h has m. absurd h }
+    all_wait (union e rest) = record {
+      whole = λ h has. (all_wait rest).united_parts (automaton_of L e) h.1 (λ i t. has i (inr t)) ((all_wait e).whole h.0 (λ i t. has i (inl t)));
+      united_parts = λ M h has m.
+          (all_wait rest).united_parts (of_union M (automaton_of L e)) h.1 (λ i t. has i (inr t))
+          (two_united M (automaton_of L e) m ((all_wait e).whole h.0 (λ i t. has i (inl t))));
+      joined_parts = λ M h has m. absurd h;
+    }
+    all_wait join_end = record { whole = λ h has. absurd h; united_parts = λ M h has m. absurd h; joined_parts = λ M h has m. m }
+    all_wait (join e rest) = record {
+      whole = λ h has. (all_wait rest).joined_parts (automaton_of L e) h.1 (λ i t. has i (inr t)) ((all_wait e).whole h.0 (λ i t. has i (inl t)));
+      united_parts = λ M h has m. absurd h;
+      joined_parts = λ M h has m.
+          (all_wait rest).joined_parts (of_join M (automaton_of L e)) h.1 (λ i t. has i (inr t))
+          (two_joined M (automaton_of L e) m ((all_wait e).whole h.0 (λ i t. has i (inl t))));
+    }
+    all_wait (project kept e) = record {
+      whole = λ h has. projected kept (automaton_of L e) ((all_wait e).whole h.0 has);
+      united_parts = λ M h has m. absurd h;
+      joined_parts = λ M h has m. absurd h;
+    }
+
+    pub expr_waits : (e : ExprTree) → IsSoundExpr V n e → Has_all e → Waits (automaton_of L e)
+    expr_waits e = (all_wait e).whole
+
+  -- ---- lets and queries
+
+  module _ (lets : List (VarName × ExprTree)) (sound : (k : ℕ) → ForSome (slice_get lets k) (λ l. IsSoundUnder lets k l.1))
+      (has : (l : VarName × ExprTree) → Has lets l → Has_all l.1) where
+    one_let : (n : ℕ) (L : ℕ → Marked) → ((k : ℕ) → Waits (L k)) → (o : Option (VarName × ExprTree)) → slice_get lets n ≡ o → Waits (of_one_let L o)
+    one_let n L before None at = none_waits
+    one_let n L before (Some l) at = expr_waits (vars_of_lets lets n) n L before l.1 (sound n l at).0 (has l (Has-slice_get lets n l at))
+
+    pub lets_wait : (n k : ℕ) → Waits (of_lets lets n k)
+    lets_wait zero k = none_waits
+    lets_wait (suc n) k = go (nat_eq k n) (one_let n (of_lets lets n) (lets_wait n) (slice_get lets n) refl) (lets_wait n k)
+      where
+        go : (b : Bool) → Waits (of_one_let (of_lets lets n) (slice_get lets n)) → Waits (of_lets lets n k) →
+            Waits (if b then of_one_let (of_lets lets n) (slice_get lets n) else of_lets lets n k)
+        go true one rest = one
+        go false one rest = rest
+
+pub query_waits : QueryWaits
+query_waits q sound d K has =
+    (expr_waits d K (vars_of_lets q.lets (length q.lets)) (length q.lets) (of_lets q.lets (length q.lets))
+    (lets_wait d K q.lets sound.sound_lets (λ l h i t. has i (inl (l, h, t))) (length q.lets)) q.body sound.sound_body.0 (λ i t. has i (inr t))).1
+
+pub query_reading : QueryReading
+query_reading q sound A marked r d bytes K has w =
+    let words = (words_of_reduct q sound A r).1 d bytes w in
+    let waits = reduct_waits A.graph (of_query q).graph r.1 d K (query_waits q sound d K has) in
+    (λ h. words.0 (read_accepts A.graph marked.idle_ways d bytes K w h), λ h. accepts_read A.graph d K w waits (words.1 h))

@@ -1,0 +1,4 @@
+pub mod Touching
+pub mod Idling
+pub mod Sharing
+pub mod Laws

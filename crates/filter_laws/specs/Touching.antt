@@ -1,0 +1,54 @@
+-- Which positions of a document the atoms of a query touch.
+use Rattle.std.specs.Prelude.{◌≡◌, ℕ, ◌+◌, ◌≤◌, ◌⊎◌, ◌↔◌, Bool, List, length, IsTrue}
+use Rattle.std.specs.List.{sum_by}
+use Rattle.span_core.specs.Lists.{Has}
+use Rattle.spanner_model.specs.Captures.{VarName, Captures}
+use Rattle.spanner_model.specs.Fit.{Fit}
+use Rattle.spanner_model.specs.Tree.{Tree}
+use Rattle.spanner_model.specs.Expression.{ExprTree, QueryTree, atom, named, union_end, union, join_end, join, project}
+
+-- some part, tied as the atom says, fits, and the position is from its start to its end, both included
+abbrev pub IsTouchedBy : Bool → Bool → Tree → List ℕ → ℕ → Type 0
+IsTouchedBy from_start to_end f d i =
+    (a : ℕ) × (b : ℕ) × (c : Captures) × Fit f d a b c × (b ≤ length d)
+    × (IsTrue from_start → a ≡ 0) × (IsTrue to_end → b ≡ length d) × (a ≤ i) × (i ≤ b)
+
+-- it holds of some atom of the expression
+abbrev pub SomeAtom : (Bool → Bool → Tree → Type 0) → ExprTree → Type 0
+SomeAtom P (atom s t f) = P s t f
+SomeAtom P (named k) = ⊥
+SomeAtom P union_end = ⊥
+SomeAtom P (union e rest) = SomeAtom P e ⊎ SomeAtom P rest
+SomeAtom P join_end = ⊥
+SomeAtom P (join e rest) = SomeAtom P e ⊎ SomeAtom P rest
+SomeAtom P (project kept e) = SomeAtom P e
+
+-- of some atom of the query's text, be it of a let, named or not, or of the body
+abbrev pub SomeAtomOf : (Bool → Bool → Tree → Type 0) → QueryTree → Type 0
+SomeAtomOf P q = ((l : VarName × ExprTree) × Has q.lets l × SomeAtom P l.1) ⊎ SomeAtom P q.body
+
+-- what the atoms of the expression come to together
+abbrev pub sum_atoms : (Bool → Bool → Tree → ℕ) → ExprTree → ℕ
+sum_atoms m (atom s t f) = m s t f
+sum_atoms m (named k) = 0
+sum_atoms m union_end = 0
+sum_atoms m (union e rest) = sum_atoms m e + sum_atoms m rest
+sum_atoms m join_end = 0
+sum_atoms m (join e rest) = sum_atoms m e + sum_atoms m rest
+sum_atoms m (project kept e) = sum_atoms m e
+
+-- and those of the query's text
+abbrev pub sum_atoms_of : (Bool → Bool → Tree → ℕ) → QueryTree → ℕ
+sum_atoms_of m q = sum_by (λ (l : VarName × ExprTree). sum_atoms m l.1) q.lets + sum_atoms m q.body
+
+-- some atom of the query's text touches the position
+abbrev pub TouchedOf : QueryTree → List ℕ → ℕ → Type 0
+TouchedOf q d i = SomeAtomOf (λ s t f. IsTouchedBy s t f d i) q
+
+-- K has each position that is P
+abbrev pub Contains : (ℕ → Bool) → (ℕ → Type 0) → Type 0
+Contains K P = (i : ℕ) → P i → IsTrue (K i)
+
+-- K has these positions, and no others
+abbrev pub IsSetOf : (ℕ → Bool) → (ℕ → Type 0) → Type 0
+IsSetOf K P = (i : ℕ) → IsTrue (K i) ↔ P i
