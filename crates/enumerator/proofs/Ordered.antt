@@ -14,7 +14,7 @@ use Rattle.output_graph.specs.RowLists.{AreMade, AreLed}
 use Rattle.enumerator.specs.Enumeration.{SpanRow, IsWordOfRow, AreInBlockOrder}
 use Rattle.enumerator.specs.Rows.{Places, no_places, row_under, rows_of}
 use Rattle.enumerator.proofs.Lists.{has_cases, has_map_cases}
-use Rattle.enumerator.proofs.StoreLaws.{rows_nothing, rows_done}
+use Rattle.output_graph.proofs.RowLaws.{rows_nothing, rows_done}
 use Rattle.enumerator.proofs.SeekLaws.{listed_led}
 use Rattle.enumerator.proofs.Words.{AscendsFrom, AreSome, are_some, ascends_from, listed_here, listed_other, listed_before, is_row_of_word}
 

@@ -20,7 +20,8 @@ use Rattle.enumerator.specs.Rows.{Places, put, row_under, rows_of, waiting_rows,
 use Rattle.enumerator.specs.Waiting.{Fits, IsWaiting, AreBelow, AreStacked, waited}
 use Rattle.enumerator.specs.Seeking.{HasNoBlock, IsNextBlock}
 use Rattle.enumerator.proofs.Lists.{has_cases, has_map_cases, map_same}
-use Rattle.enumerator.proofs.StoreLaws.{reach, rows_at, rows_nothing, rows_done, led_at, child_reach, next_reach, reach_few}
+use Rattle.output_graph.proofs.RowLaws.{rows_at, rows_nothing, rows_done}
+use Rattle.enumerator.proofs.StoreLaws.{reach, led_at, child_reach, next_reach, reach_few}
 use Rattle.enumerator.proofs.RowLaws.{row_under_agree, below_few, below_stacked, waited_stacked, waited_rows}
 use Rattle.enumerator.proofs.Walk.{frame, cell_rows, child_row, next_row, cell_new, cell_below, next_rows_kept, cell_splits}
 use Rattle.enumerator.proofs.Words.{AscendsFrom, listed_here, listed_other, listed_before, ascends_from, is_row_of_word, fits_word}

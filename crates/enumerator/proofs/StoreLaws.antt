@@ -1,5 +1,5 @@
 -- Row cells: what is found, and what it leads to.
-use Rattle.std.proofs.Common.{◌≡◌, ℕ, ◌+◌, ◌<◌, ◌≤◌, List, [], ◌∷◌, ◌++◌, map, length, Some, inl, inr, refl, sym, ap, ap₂, ◌∙◌, subst, arith, if◌then◌else◌, nat_eq, eq-eqb, ne_eqb}
+use Rattle.std.proofs.Common.{◌≡◌, ℕ, ◌+◌, ◌<◌, ◌≤◌, List, [], ◌∷◌, length, Some, inl, inr, refl, sym, ap, ◌∙◌, subst, arith, if◌then◌else◌, nat_eq, eq-eqb, ne_eqb}
 use Rattle.std.proofs.lemmas.Bool.{cases_eq, cond-true, cond-false}
 use Rattle.node_arena.specs.declared.row.Entry.{Entry}
 use Rattle.node_arena.specs.declared.row.Entry.TheVariants.{Nothing, Done, Row}
@@ -8,7 +8,7 @@ use Rattle.node_arena.specs.Words.{Word}
 use Rattle.output_graph.specs.Order.{LeadsBefore}
 use Rattle.node_arena.specs.Rows.{NamedRow, rows, row_at, HasRow, IsThere}
 use Rattle.output_graph.specs.RowLists.{IsMade, AreMade, AreLed}
-use Rattle.enumerator.proofs.Lists.{has_map, has_left}
+use Rattle.output_graph.proofs.RowLaws.{rows_kept, rows_at}
 
 -- how many row cells are older than this one
 abbrev pub age : List NamedRow → ℕ → ℕ
@@ -20,84 +20,6 @@ abbrev pub reach : List NamedRow → Entry → ℕ
 reach store Nothing = 0
 reach store Done = 0
 reach store (Row k) = age store k + 1
-
-pub rows_nothing : (store : List NamedRow) → rows store Nothing ≡ []
-rows_nothing [] = refl
-rows_nothing (r ∷ older) = refl
-
-pub rows_done : (store : List NamedRow) → rows store Done ≡ [] ∷ []
-rows_done [] = refl
-rows_done (r ∷ older) = refl
-
--- a newer row cell changes the rows of no entry that was there
-pub rows_kept : (older : List NamedRow) (r : NamedRow) (e : Entry) → (HasRow older r.name → ⊥) → IsThere older e → rows (r ∷ older) e ≡ rows older e
-rows_kept older r Nothing fresh there = sym (rows_nothing older)
-rows_kept older r Done fresh there = sym (rows_done older)
-rows_kept older r (Row k) fresh there =
-    cond-false (nat_eq r.name k) _ _ (ne_eqb r.name k (λ e. fresh (there.0, there.1, there.2 ∙ sym e)))
-
-pub there_more : (older : List NamedRow) (r : NamedRow) (e : Entry) → IsThere older e → IsThere (r ∷ older) e
-there_more older r Nothing there = tt
-there_more older r Done there = tt
-there_more older r (Row k) there = (there.0, inr there.1, there.2)
-
--- the rows of the newest
-pub rows_newest : (older : List NamedRow) (r : NamedRow) →
-    rows (r ∷ older) (Row r.name) ≡ map (λ w. (r.at, r.marks) ∷ w) (rows older r.child) ++ rows older r.next
-rows_newest older r = cond-true (nat_eq r.name r.name) _ _ (eq-eqb r.name r.name refl)
-
--- a row cell's rows, by its child and its next in the whole store
-pub rows_at : (store : List NamedRow) (k : ℕ) (r : NamedRow) → AreMade store → row_at store k ≡ Some r →
-    (rows store (Row k) ≡ map (λ w. (r.at, r.marks) ∷ w) (rows store r.child) ++ rows store r.next) × IsThere store r.child × IsThere store r.next × (r.child ≡ Nothing → ⊥)
-rows_at [] k r made is = cc
-rows_at (q ∷ older) k r made is = elim (cases_eq q.name k) as
-    (λ _. (rows (q ∷ older) (Row k) ≡ map (λ w. (r.at, r.marks) ∷ w) (rows (q ∷ older) r.child) ++ rows (q ∷ older) r.next) × IsThere (q ∷ older) r.child × IsThere (q ∷ older) r.next × (r.child ≡ Nothing → ⊥)) [
-      | inl e ↦
-          let found : Some q ≡ Some r = sym (cond-true (nat_eq q.name k) (Some q) (row_at older k) (eq-eqb q.name k e)) ∙ is in
-          let same : q ≡ r = cc in
-          let child = rows_kept older q q.child made.0.fresh made.0.child_there in
-          let next = rows_kept older q q.next made.0.fresh made.0.next_there in
-          let here : rows (q ∷ older) (Row k) ≡ map (λ w. (q.at, q.marks) ∷ w) (rows (q ∷ older) q.child) ++ rows (q ∷ older) q.next =
-          ap (λ n. rows (q ∷ older) (Row n)) (sym e) ∙ (rows_newest older q ∙ ap₂ (λ xs ys. map (λ (w : Word). (q.at, q.marks) ∷ w) xs ++ ys) (sym child) (sym next)) in
-          subst (λ (x : NamedRow). (rows (q ∷ older) (Row k) ≡ map (λ w. (x.at, x.marks) ∷ w) (rows (q ∷ older) x.child) ++ rows (q ∷ older) x.next) × IsThere (q ∷ older) x.child × IsThere (q ∷ older) x.next × (x.child ≡ Nothing → ⊥)) same
-          (here, there_more older q q.child made.0.child_there, there_more older q q.next made.0.next_there, made.0.child_some)
-      | inr ne ↦
-          let further : row_at older k ≡ Some r = sym (cond-false (nat_eq q.name k) (Some q) (row_at older k) (ne_eqb q.name k ne)) ∙ is in
-          let t = rows_at older k r made.1 further in
-          let child = rows_kept older q r.child made.0.fresh t.1 in
-          let next = rows_kept older q r.next made.0.fresh t.2 in
-          let skip : rows (q ∷ older) (Row k) ≡ rows older (Row k) = cond-false (nat_eq q.name k) _ _ (ne_eqb q.name k ne) in (
-            skip ∙ (t.0 ∙ ap₂ (λ xs ys. map (λ (w : Word). (r.at, r.marks) ∷ w) xs ++ ys) (sym child) (sym next)),
-            there_more older q r.child t.1,
-            there_more older q r.next t.2,
-            t.3,
-          )
-    ]
-
--- an entry other than Nothing has a row
-pub some_row : (store : List NamedRow) (e : Entry) → AreMade store → IsThere store e → (e ≡ Nothing → ⊥) → (w : Word) × Has (rows store e) w
-some_row store Nothing made there some = absurd (some refl)
-some_row [] Done made there some = ([], inl refl)
-some_row (r ∷ older) Done made there some = ([], inl refl)
-some_row [] (Row k) made there some = absurd there.1
-some_row (r ∷ older) (Row k) made there some = elim (cases_eq r.name k) as (λ _. (w : Word) × Has (rows (r ∷ older) (Row k)) w) [
-  | inl e ↦
-      let t = some_row older r.child made.1 made.0.child_there made.0.child_some in
-      let in_map = has_map (λ (w : Word). (r.at, r.marks) ∷ w) (rows older r.child) t.0 t.1 in
-      let is : rows (r ∷ older) (Row k) ≡ map (λ w. (r.at, r.marks) ∷ w) (rows older r.child) ++ rows older r.next =
-      ap (λ n. rows (r ∷ older) (Row n)) (sym e) ∙ rows_newest older r in (
-        (r.at, r.marks) ∷ t.0,
-        subst (λ xs. Has xs ((r.at, r.marks) ∷ t.0)) (sym is)
-            (has_left (map (λ (w : Word). (r.at, r.marks) ∷ w) (rows older r.child)) (rows older r.next) ((r.at, r.marks) ∷ t.0) in_map),
-      )
-  | inr ne ↦
-      let there' : HasRow older k = elim there.1 as (λ _. HasRow older k) [
-        | inl is ↦ absurd (ne (ap (λ (x : NamedRow). x.name) is ∙ there.2))
-        | inr h ↦ (there.0, h, there.2)
-      ] in
-      let t = some_row older (Row k) made.1 there' some in
-      (t.0, subst (λ xs. Has xs t.0) (sym (cond-false (nat_eq r.name k) _ _ (ne_eqb r.name k ne))) t.1)
-]
 
 -- `next` leads to an older cell, so a chain has no more steps than there are cells
 pub age_less : (store : List NamedRow) (k : ℕ) → HasRow store k → age store k < length store

@@ -14,7 +14,7 @@ use Rattle.enumerator.specs.Rows.{Places, put, row_of, row_under, rows_under, wa
 use Rattle.enumerator.specs.Waiting.{IsNew, left, IsWaiting, AreBelow, AreStacked, waited}
 use Rattle.enumerator.proofs.Lists.{map_map, has_map, has_left, has_right}
 use Rattle.enumerator.proofs.Bits.{new_left, unset_few}
-use Rattle.enumerator.proofs.StoreLaws.{rows_at, rows_done, some_row}
+use Rattle.output_graph.proofs.RowLaws.{rows_at, rows_done, some_row}
 use Rattle.enumerator.proofs.RowLaws.{rows_agree, put_kept, waiting_kept, below_few, below_stacked, waited_below, waited_rows}
 
 abbrev pub frame : ℕ → Entry → Waiting

@@ -1,6 +1,6 @@
 use Rattle.std.proofs.Common.{sym, subst}
 use Rattle.node_arena.specs.Rows.{named_row}
-use Rattle.enumerator.proofs.StoreLaws.{rows_at}
+use Rattle.output_graph.proofs.RowLaws.{rows_at}
 use Rattle.engine_table.specs.Waiting.{AreThere}
 use Rattle.engine_table.proofs.WaitingLaws.{one_more}
 use Rattle.engine_table.proofs.words.wait_behind.Goals as goal
