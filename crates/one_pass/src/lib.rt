@@ -12,3 +12,5 @@ mod passes;
 mod pieces;
 mod places;
 mod reading;
+#[cfg(test)]
+mod tests;
