@@ -28,6 +28,7 @@ pub record Asked : Type 0 where
   pub after : Option Text
   pub form : Form
   pub texts : Bool
+  pub filter : Bool
   pub max_table : ℕ
   pub mode : Mode
 
@@ -125,6 +126,7 @@ asked_by g =
       after = cursor_of g.after;
       form = form;
       texts = g.texts;
+      filter = g.filter;
       max_table = weight;
       mode = mode;
     }))
@@ -152,6 +154,7 @@ request_view r = record {
   after = text_behind r.after;
   form = r.form;
   texts = r.texts;
+  filter = r.filter;
   max_table = r.max_table;
   mode = r.mode;
 }

@@ -29,6 +29,7 @@ the_rules =
     ∷ option_rule (codes "after") 97
     ∷ option_rule (codes "form") 102
     ∷ flag_rule (codes "texts") 116
+    ∷ long_flag_rule (codes "filter")
     ∷ long_option_rule (codes "max-table")
     ∷ long_flag_rule (codes "explain")
     ∷ long_option_rule (codes "trial")

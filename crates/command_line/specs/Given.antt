@@ -21,6 +21,7 @@ pub record GivenTexts : Type 0 where
   pub after : Option Text
   pub form : Option Text
   pub texts : Bool
+  pub filter : Bool
   pub max_table : Option Text
   pub explain : Bool
   pub trial : Option Text
@@ -35,6 +36,7 @@ given_by rows = record {
   after = text_given (codes "after") rows;
   form = text_given (codes "form") rows;
   texts = is_given (codes "texts") rows;
+  filter = is_given (codes "filter") rows;
   max_table = text_given (codes "max-table") rows;
   explain = is_given (codes "explain") rows;
   trial = text_given (codes "trial") rows;
@@ -54,6 +56,7 @@ given_view g = record {
   after = text_behind g.after;
   form = text_behind g.form;
   texts = g.texts;
+  filter = g.filter;
   max_table = text_behind g.max_table;
   explain = g.explain;
   trial = text_behind g.trial;

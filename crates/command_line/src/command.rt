@@ -85,6 +85,7 @@ fn the_only_command<'a>(alloc: Global) -> Result<Command<'a>, AllocError>
     let command = with_option(alloc, command, "after", 'a')?;
     let command = with_option(alloc, command, "form", 'f')?;
     let command = with_flag(alloc, command, "texts", 't')?;
+    let command = with_long_flag(alloc, command, "filter")?;
     let command = with_long_option(alloc, command, "max-table")?;
     let command = with_long_flag(alloc, command, "explain")?;
     let command = with_long_option(alloc, command, "trial")?;

@@ -12,7 +12,7 @@ mod given;
 mod reading;
 mod request;
 
-/// The most that a table may weigh, where nothing is said of it.
+/// The most that a table or a filter may weigh, where nothing is said of it.
 pub const DEFAULT_MAX_TABLE: u64 = 8_000_000;
 
 /// The most that can be said of it.

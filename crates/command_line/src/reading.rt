@@ -54,6 +54,7 @@ fn checked<'a>(given: &Given<'a>) -> Option<Request<'a>>
         after: cursor_asked(given),
         form,
         texts: given.texts,
+        filter: given.filter,
         max_table,
         mode,
     })
@@ -111,7 +112,7 @@ fn form_by_name(text: &str) -> Option<Form>
     None
 }
 
-// The most that the table may weigh, which may be left out.
+// The most that the table and each filter may weigh, which may be left out.
 fn max_table_asked(given: &Given<'_>) -> Option<u64>
     ensures value { result ≡ max_table_of (given_view given.now).max_table }
     ensures light { IfSome result (λ weight. weight ≤ MOST_MAX_TABLE) }
@@ -194,8 +195,8 @@ mod tests {
     use std::test::Fail;
 
     // Words, between bars, and what is made of them: the query, with an `@` before a name; the
-    // document; the limit; the cursor; the form; and `texts`.
-    const ACCEPTED: [(&str, &str); 41] = [
+    // document; the limit; the cursor; the form; and `texts`, `filter`, the weight and the mode.
+    const ACCEPTED: [(&str, &str); 45] = [
         ("-e|/a/", "/a/ - all start Spans"),
         ("-e|/a/|D", "/a/ D all start Spans"),
         ("D|-e|/a/", "/a/ D all start Spans"),
@@ -238,6 +239,17 @@ mod tests {
         ("-e|/a/|--|--", "/a/ -- all start Spans"),
         ("-e|/a/|--|-t", "/a/ -t all start Spans"),
         ("-e|/a/|help", "/a/ help all start Spans"),
+        // The filter goes with each mode.
+        ("-e|/a/|--filter", "/a/ - all start Spans filter"),
+        ("--filter|-te|/a/|D", "/a/ D all start Spans texts filter"),
+        (
+            "-e|/a/|--trial|300|--filter",
+            "/a/ - all start Spans filter Trial(300)",
+        ),
+        (
+            "-e|/a/|--filter|--explain",
+            "/a/ - all start Spans filter Explain",
+        ),
         // The weight of a table, and the modes.
         ("-e|/a/|--max-table|1", "/a/ - all start Spans table 1"),
         (
@@ -253,7 +265,7 @@ mod tests {
         ),
     ];
 
-    const REFUSED: [&str; 54] = [
+    const REFUSED: [&str; 57] = [
         // Exactly one of -e and -q.
         "",
         "D",
@@ -286,6 +298,7 @@ mod tests {
         "-e|/a/|-e|/b/",
         "-e|/a/|-t|-t",
         "-e|/a/|-tt",
+        "-e|/a/|--filter|--filter",
         "-e|/a/|-n|1|-n|1",
         "-e|/a/|D|D",
         "--|-e|/a/",
@@ -294,6 +307,8 @@ mod tests {
         "-e|/a/|--texts",
         "-e|/a/|--query",
         "-e|/a/|-t=yes",
+        "-e|/a/|--filter=yes",
+        "-e|/a/|--filters",
         "-V",
         "-e|/a/|--version",
         // The weight of a table, and the modes.
@@ -343,6 +358,9 @@ mod tests {
         text.push_str(format!(in alloc; " {after} {form:?}")?.as_str())?;
         if request.texts {
             text.push_str(" texts")?;
+        }
+        if request.filter {
+            text.push_str(" filter")?;
         }
         if request.max_table != DEFAULT_MAX_TABLE {
             let weight = request.max_table;

@@ -52,7 +52,10 @@ pub struct Request<'a> {
     pub form: Form,
     /// Whether the spans' texts are written too, of `-t`.
     pub texts: bool,
-    /// The most that the table may weigh, of `--max-table`, from 1 to `MOST_MAX_TABLE`.
+    /// Whether only the positions that some atom touches are read, of `--filter`. The rows are the
+    /// same.
+    pub filter: bool,
+    /// The most that the table and each filter may weigh, of `--max-table`, from 1 to `MOST_MAX_TABLE`.
     /// `DEFAULT_MAX_TABLE` where it is not given.
     pub max_table: u64,
     /// The mode. Where it is not the plain one, none of `-n`, `-a`, `-f`, `-t` and the document is given.

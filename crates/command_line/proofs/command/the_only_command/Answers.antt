@@ -10,7 +10,8 @@ grown before after a r e f = e ∙ ap (λ b. with_rule b r) f
 pub returns : goal.returns
 unfolding the_command
 returns c =
-    grown _ _ _ _ c.in_ok-command-10.ensures
+    grown _ _ _ _ c.in_ok-command-11.ensures
+    (grown _ _ _ _ c.in_ok-command-10.ensures
     (grown _ _ _ _ c.in_ok-command-9.ensures
     (grown _ _ _ _ c.in_ok-command-8.ensures
     (grown _ _ _ _ c.in_ok-command-7.ensures
@@ -19,4 +20,4 @@ returns c =
     (grown _ _ _ _ c.in_ok-command-4.ensures
     (grown _ _ _ _ c.in_ok-command-3.ensures
     (grown _ _ _ _ c.in_ok-command-2.ensures
-    (grown _ _ _ _ c.in_ok-command.ensures c.bare_command-bare.ensures)))))))))
+    (grown _ _ _ _ c.in_ok-command.ensures c.bare_command-bare.ensures))))))))))
