@@ -1,0 +1,11 @@
+pub mod Shares
+pub mod SetLaws
+pub mod ReadingLaws
+pub mod WeightLaws
+pub mod Meetings
+pub mod Turning
+pub mod Alike
+pub mod CostLaws
+pub mod FirstTargets
+pub mod Remembering
+pub mod Results

@@ -1,0 +1,369 @@
+-- What a table has that a document is read by is no more than what the reading comes to.
+use Rattle.std.proofs.Common.{◌≡◌, ℕ, zero, suc, ◌+◌, ◌*◌, ◌<◌, ◌≤◌, ◌⊎◌, List, [], ◌∷◌, ◌++◌, Bool, true, false, Option, Some, map, length, length-append, inl, inr, refl, sym, ap, subst, arith, ◌∙◌}
+use Rattle.std.specs.Prelude.{nat_eq, slice_get, if◌then◌else◌, ◌||◌}
+use Rattle.std.specs.List.{flat_map, list_any, sum_by}
+use Rattle.std.specs.Option.{unwrap_or}
+use Rattle.std.specs.Str.{bytes_eq}
+use Rattle.std.proofs.Math.Nat.{mul-le-mul_left}
+use Rattle.std.proofs.lemmas.Bool.{eq-eqb}
+use Rattle.span_core.specs.Lists.{AreDistinct, Has}
+use Rattle.span_core.proofs.HasLaws.{Has-append_cases, Has-append_left, Has-append_right, Has-get_or, Has-map, Has-map_cases}
+use Rattle.marked_automaton.specs.Automaton.{Automaton, size}
+use Rattle.marked_automaton.proofs.Listed.{some_same}
+use Rattle.marked_automaton.proofs.Passing.{both_true, has_flat_map}
+use Rattle.automaton_reading.specs.Reading.{Asked, Reach, Row, asked_same, byte_read, edges, next_sets, once, row_edges, row_same, rows_asked, set_of}
+use Rattle.automaton_reading.proofs.Matching.{length_sum, match_sum, once_has}
+use Rattle.automaton_reading.proofs.MeasureLaws.{ask_itself, bytes_itself, row_itself, same_bytes, same_row}
+use Rattle.segment_filter.specs.declared.fault.FilterFault.{FilterFault}
+use Rattle.segment_filter.specs.declared.fault.FilterFault.TheVariants.{Full, OutOfMemory}
+use Rattle.segment_filter.specs.Sets.{Extends, IsFullBy}
+use Rattle.segment_filter.specs.Next.{IsNext, IsTarget}
+use Rattle.set_table.specs.Tabled.{Asking, Tabled, fresh, once_asked, asked_edges, asked_first, asking, asking_same, reached, set_at, sets_weight, was_asked, weight, with_set, with_sets}
+use Rattle.segment_filter.specs.Weights.{IsFullWithin, bytes_read, reading_rows, reading_weight, sets_asked, sets_read}
+use Rattle.segment_filter.proofs.SetLaws.{extends_all}
+
+-- ---- tests for equality
+
+asking_itself : (r : Asking) → asking_same r r ≡ true
+asking_itself r = both_true (nat_eq r.set r.set) (asked_same r.ask r.ask) (eq-eqb r.set r.set refl) (ask_itself r.ask)
+
+has_any : {X : Type 0} (same : X → X → Bool) (itself : (x : X) → same x x ≡ true) (xs : List X) (x : X) → Has xs x → list_any (same x) xs ≡ true
+has_any same itself [] x h = absurd h
+has_any {X} same itself (y ∷ xs) x (inl e) = go (same x y) (subst (λ z. same x z ≡ true) (sym e) (itself x)) (list_any (same x) xs)
+  where
+    go : (a : Bool) → a ≡ true → (b : Bool) → (a || b) ≡ true
+    go true e b = refl
+    go false e b = absurd (cc)
+has_any same itself (y ∷ xs) x (inr h) = go (same x y) (list_any (same x) xs) (has_any same itself xs x h)
+  where
+    go : (a b : Bool) → b ≡ true → (a || b) ≡ true
+    go true b e = refl
+    go false b e = e
+
+-- ---- what is met, place by place
+
+module _ (A : Automaton) where
+  -- the set is reached after so many places
+  abbrev pub IsMet : List (List ℕ) → List Asked → ℕ → List ℕ → Type 0
+  IsMet sets asks zero set = Has sets set
+  IsMet sets [] (suc k) set = ⊥
+  IsMet sets (a ∷ later) (suc k) set = IsMet (next_sets A sets a) later k set
+
+  met_set : (sets : List (List ℕ)) (asks : List Asked) (k : ℕ) (set : List ℕ) → IsMet sets asks k set → Has (sets_asked A sets asks) set
+  met_set sets [] zero set h = h
+  met_set sets (a ∷ later) zero set h = Has-append_left sets (sets_asked A (next_sets A sets a) later) set h
+  met_set sets [] (suc k) set h = absurd h
+  met_set sets (a ∷ later) (suc k) set h = Has-append_right sets (sets_asked A (next_sets A sets a) later) set (met_set (next_sets A sets a) later k set h)
+
+  abbrev row_of : Asked → List ℕ → Row
+  row_of a set = record { set = set; ask = a }
+
+  met_row : (sets : List (List ℕ)) (asks : List Asked) (k : ℕ) (set : List ℕ) (a : Asked) → IsMet sets asks k set → slice_get asks k ≡ Some a →
+      Has (rows_asked A sets asks) (row_of a set)
+  met_row sets [] k set a h e = absurd (cc)
+  met_row sets (b ∷ later) zero set a h e =
+      let same : b ≡ a = ap (λ o. unwrap_or o b) e in
+      subst (λ x. Has (rows_asked A sets (b ∷ later)) (row_of x set)) same
+      (Has-append_left (map (row_of b) sets) (rows_asked A (next_sets A sets b) later) (row_of b set) (Has-map (row_of b) sets set h))
+  met_row sets (b ∷ later) (suc k) set a h e =
+      Has-append_right (map (row_of b) sets) (rows_asked A (next_sets A sets b) later) (row_of a set) (met_row (next_sets A sets b) later k set a h e)
+
+  met_next : (sets : List (List ℕ)) (asks : List Asked) (k : ℕ) (set : List ℕ) (a : Asked) (e : Reach) → IsMet sets asks k set → slice_get asks k ≡ Some a →
+      Has (edges A set a) e → IsMet sets asks (suc k) e.to
+  met_next sets [] k set a e h at m = absurd (cc)
+  met_next sets (b ∷ later) zero set a e h at m =
+      let same : b ≡ a = ap (λ o. unwrap_or o b) at in
+      once_has bytes_eq same_bytes bytes_itself (flat_map (λ set. map (λ (x : Reach). x.to) (edges A set b)) sets) e.to
+      (has_flat_map (λ set. map (λ (x : Reach). x.to) (edges A set b)) sets set e.to h (Has-map (λ (x : Reach). x.to) (edges A set b) e (subst (λ c. Has (edges A set c) e) (sym same) m)))
+  met_next sets (b ∷ later) (suc k) set a e h at m = met_next (next_sets A sets b) later k set a e h at m
+
+-- ---- tables
+
+abbrev pub starting : Automaton → List (List ℕ)
+starting A = set_of A.starts ∷ []
+
+-- the sets and rows of a table are those of a reading
+pub record IsWithin (A : Automaton) (d : List ℕ) (t : Tabled) : Type 0 where
+  pub graph : t.graph ≡ A
+  pub sets : (set : List ℕ) → Has t.sets set → Has (sets_read A d) set
+  pub rows : (r : Asking) → Has t.asked r → Has (bytes_read A d) (row_of A r.ask (set_at t.sets r.set))
+  pub below : (r : Asking) → Has t.asked r → r.set < length t.sets
+  pub sets_apart : AreDistinct t.sets
+  pub asked_apart : AreDistinct t.asked
+
+place_one : (xs : List (List ℕ)) (i j : ℕ) → AreDistinct xs → i < length xs → j < length xs → set_at xs i ≡ set_at xs j → i ≡ j
+place_one [] i j d l m e = absurd (omega (arith, l))
+place_one (x ∷ xs) zero zero d l m e = refl
+place_one (x ∷ xs) zero (suc j) d l m e = absurd (d.0 (subst (Has xs) (sym e) (Has-get_or xs j [] (omega (arith, m)))))
+place_one (x ∷ xs) (suc i) zero d l m e = absurd (d.0 (subst (Has xs) e (Has-get_or xs i [] (omega (arith, l)))))
+place_one (x ∷ xs) (suc i) (suc j) d l m e = let r = place_one xs i j d.1 (omega (arith, l)) (omega (arith, m)) e in ap suc r
+
+module _ (A : Automaton) (d : List ℕ) (t : Tabled) (h : IsWithin A d t) where
+  -- a row that was asked for, and the row that it is
+  IsRowOf : Asking → Row → Type 0
+  IsRowOf x y = Has t.asked x × (row_of A x.ask (set_at t.sets x.set) ≡ y)
+
+  sets_no_more : sets_weight t.sets ≤ sum_by (λ set. 1 + length set) (once bytes_eq (sets_read A d))
+  sets_no_more =
+      match_sum (λ (x y : List ℕ). x ≡ y) (λ set. 1 + length set) (λ set. 1 + length set) t.sets (once bytes_eq (sets_read A d)) h.sets_apart
+      (λ x m. (x, once_has bytes_eq same_bytes bytes_itself (sets_read A d) x (h.sets x m), refl, omega arith)) (λ x z y a b. a ∙ sym b)
+
+  one_asking : (x z : Asking) (y : Row) → IsRowOf x y → IsRowOf z y → x ≡ z
+  unfolding IsRowOf
+  one_asking x z y a b =
+      let same = a.1 ∙ sym b.1 in
+      let sets = place_one t.sets x.set z.set h.sets_apart (h.below x a.0) (h.below z b.0) (ap (λ (r : Row). r.set) same) in
+      let asks : x.ask ≡ z.ask = ap (λ (r : Row). r.ask) same in
+      λ i. record { set = sets i; ask = asks i }
+
+  rows_sum : (v : Asking → ℕ) (w : Row → ℕ) → ((x : Asking) → v x ≡ w (row_of A x.ask (set_at t.sets x.set))) → sum_by v t.asked ≤ sum_by w (once row_same (bytes_read A d))
+  unfolding IsRowOf
+  rows_sum v w same =
+      match_sum IsRowOf v w t.asked (once row_same (bytes_read A d)) h.asked_apart
+      (λ x m. (
+        row_of A x.ask (set_at t.sets x.set),
+        once_has row_same same_row row_itself (bytes_read A d) (row_of A x.ask (set_at t.sets x.set)) (h.rows x m),
+        (m, refl),
+        let e = same x in omega (arith, e),
+      )) one_asking
+
+  pub weight_no_more : weight t ≤ reading_weight A d
+  weight_no_more =
+      let rows = rows_sum (λ r. 1 + length (asked_edges t.graph t.sets r)) (λ r. 1 + row_edges A r) (λ x. ap (λ (g : Automaton). 1 + length (edges g (set_at t.sets x.set) x.ask)) h.graph) in
+      omega (arith, sets_no_more, rows)
+
+  pub rows_no_more : length t.asked ≤ reading_rows A d
+  rows_no_more = let rows = rows_sum (λ r. 1) (λ r. 1) (λ x. refl) in omega (arith, rows, length_sum t.asked, length_sum (once row_same (bytes_read A d)))
+
+-- ---- one row more
+
+not_any : (same : List ℕ → List ℕ → Bool) (itself : (x : List ℕ) → same x x ≡ true) (xs : List (List ℕ)) (x : List ℕ) → list_any (same x) xs ≡ false → Has xs x → ⊥
+not_any same itself xs x e h = let f = has_any same itself xs x h in absurd (cc)
+
+distinct_more : {X : Type 0} (xs : List X) (x : X) → AreDistinct xs → (Has xs x → ⊥) → AreDistinct (xs ++ x ∷ [])
+distinct_more [] x d none = (λ h. h, tt)
+distinct_more (y ∷ xs) x d none = (
+  λ h. elim (Has-append_cases xs (x ∷ []) y h) [ inl k ↦ d.0 k | inr k ↦ elim k [ inl e ↦ none (inl (sym e)) | inr n ↦ n ] ],
+  distinct_more xs x d.1 (λ h. none (inr h)),
+)
+
+with_distinct : (sets : List (List ℕ)) (s : List ℕ) → AreDistinct sets → AreDistinct (with_set sets s)
+with_distinct sets s d = go (list_any (bytes_eq s) sets) refl
+  where
+    go : (b : Bool) → list_any (bytes_eq s) sets ≡ b → AreDistinct (if b then sets else sets ++ s ∷ [])
+    go true e = d
+    go false e = distinct_more sets s d (not_any bytes_eq bytes_itself sets s e)
+
+all_distinct : (sets more : List (List ℕ)) → AreDistinct sets → AreDistinct (with_sets sets more)
+all_distinct sets [] d = d
+all_distinct sets (s ∷ more) d = all_distinct (with_set sets s) more (with_distinct sets s d)
+
+with_cases : (sets : List (List ℕ)) (s x : List ℕ) → Has (with_set sets s) x → Has sets x ⊎ (s ≡ x)
+with_cases sets s x h = go (list_any (bytes_eq s) sets) h
+  where
+    go : (b : Bool) → Has (if b then sets else sets ++ s ∷ []) x → Has sets x ⊎ (s ≡ x)
+    go true k = inl k
+    go false k = elim (Has-append_cases sets (s ∷ []) x k) [ inl m ↦ inl m | inr m ↦ elim m [ inl e ↦ inr e | inr n ↦ absurd n ] ]
+
+all_cases : (sets more : List (List ℕ)) (x : List ℕ) → Has (with_sets sets more) x → Has sets x ⊎ Has more x
+all_cases sets [] x h = inl h
+all_cases sets (s ∷ more) x h =
+    elim (all_cases (with_set sets s) more x h) as (λ _. Has sets x ⊎ Has (s ∷ more) x) [
+      | inl k ↦ elim (with_cases sets s x k) as (λ _. Has sets x ⊎ Has (s ∷ more) x) [ inl m ↦ inl m | inr e ↦ inr (inl e) ]
+      | inr k ↦ inr (inr k)
+    ]
+
+asks_at : (d : List ℕ) (k b : ℕ) → slice_get d k ≡ Some b → slice_get (map byte_read d) k ≡ Some (byte_read b)
+asks_at [] k b e = absurd (cc)
+asks_at (c ∷ d) zero b e = ap (λ o. Some (byte_read (unwrap_or o b))) e
+asks_at (c ∷ d) (suc k) b e = asks_at d k b e
+
+pub within_fresh : (t : Tabled) (d : List ℕ) → t ≡ fresh t.graph t.limit → IsWithin t.graph d t
+within_fresh t d is = subst (λ (x : Tabled). IsWithin t.graph d x) (sym is) (record {
+  graph = refl;
+  sets = λ set h. met_set t.graph (starting t.graph) (map byte_read d) 0 set h;
+  rows = λ r h. absurd h;
+  below = λ r h. absurd h;
+  sets_apart = (λ h. h, tt);
+  asked_apart = tt;
+})
+
+pub met_fresh : (t : Tabled) (d : List ℕ) (j : ℕ) → t ≡ fresh t.graph t.limit → j ≡ 0 → IsMet t.graph (starting t.graph) (map byte_read d) 0 (set_at t.sets j)
+met_fresh t d j is e =
+    subst (λ i. IsMet t.graph (starting t.graph) (map byte_read d) 0 (set_at t.sets i)) (sym e)
+    (inl (sym (ap (λ (x : Tabled). set_at x.sets 0) is)))
+
+-- a set of a table that is met at the place k is asked for the byte there
+module _ (A : Automaton) (d : List ℕ) (t : Tabled) (k j b : ℕ) (h : IsWithin A d t) (met : IsMet A (starting A) (map byte_read d) k (set_at t.sets j))
+    (below : j < length t.sets) (at : slice_get d k ≡ Some b) where
+  abbrev r : Asking
+  r = asking j (byte_read b)
+
+  abbrev first : Tabled
+  first = asked_first t r
+
+  grown : Extends first.sets t.sets
+  grown = extends_all t.sets (reached t.graph (set_at t.sets j) (byte_read b))
+
+  new_sets : (set : List ℕ) → Has first.sets set → Has (sets_read A d) set
+  new_sets set m =
+      elim (all_cases t.sets (reached t.graph (set_at t.sets j) (byte_read b)) set m) as (λ _. Has (sets_read A d) set) [
+        | inl o ↦ h.sets set o
+        | inr n ↦
+            let e = Has-map_cases (λ (x : Reach). x.to) (edges t.graph (set_at t.sets j) (byte_read b)) set n in
+            subst (Has (sets_read A d)) e.2
+            (met_set A (starting A) (map byte_read d) (suc k) e.0.to
+            (met_next A (starting A) (map byte_read d) k (set_at t.sets j) (byte_read b) e.0 met (asks_at d k b at)
+            (subst (λ (g : Automaton). Has (edges g (set_at t.sets j) (byte_read b)) e.0) h.graph e.1)))
+      ]
+
+  new_rows : (x : Asking) → Has first.asked x → Has (bytes_read A d) (row_of A x.ask (set_at first.sets x.set)) × (x.set < length first.sets)
+  new_rows x m =
+      elim (Has-append_cases t.asked (r ∷ []) x m) as (λ _. Has (bytes_read A d) (row_of A x.ask (set_at first.sets x.set)) × (x.set < length first.sets)) [
+        | inl o ↦
+            let l = h.below x o in
+            (subst (λ s. Has (bytes_read A d) (row_of A x.ask s)) (sym (grown.1 x.set l)) (h.rows x o), omega (arith, l, grown.0))
+        | inr n ↦ elim n as (λ _. Has (bytes_read A d) (row_of A x.ask (set_at first.sets x.set)) × (x.set < length first.sets)) [
+          | inl e ↦ subst (λ (y : Asking). Has (bytes_read A d) (row_of A y.ask (set_at first.sets y.set)) × (y.set < length first.sets)) e (
+            subst (λ s. Has (bytes_read A d) (row_of A (byte_read b) s)) (sym (grown.1 j below))
+                (met_row A (starting A) (map byte_read d) k (set_at t.sets j) (byte_read b) met (asks_at d k b at)),
+            omega (arith, below, grown.0),
+          )
+          | inr z ↦ absurd z
+        ]
+      ]
+
+  pub within_first : was_asked t r ≡ false → IsWithin A d first
+  within_first none = record {
+    graph = h.graph;
+    sets = new_sets;
+    rows = λ x m. (new_rows x m).0;
+    below = λ x m. (new_rows x m).1;
+    sets_apart = all_distinct t.sets (reached t.graph (set_at t.sets j) (byte_read b)) h.sets_apart;
+    asked_apart = distinct_more t.asked r h.asked_apart (λ m. let e = has_any asking_same asking_itself t.asked r m in absurd (cc));
+  }
+
+  pub within_next : (new : Tabled) → new ≡ once_asked t r → IsWithin A d new
+  within_next new is = subst (λ (x : Tabled). IsWithin A d x) (sym is) (go (was_asked t r) refl)
+    where
+      go : (w : Bool) → was_asked t r ≡ w → IsWithin A d (if w then t else asked_first t r)
+      go true e = h
+      go false e = within_first e
+
+  -- the set that it leads to is met next
+  pub met_then : (sets : List (List ℕ)) (next : Option ℕ) (to : ℕ) → IsNext t j b sets next → next ≡ Some to →
+      IsMet A (starting A) (map byte_read d) (k + 1) (set_at sets to)
+  met_then sets next to go e = by (edges t.graph (set_at t.sets j) (byte_read b)) refl go
+    where
+      by : (es : List Reach) → edges t.graph (set_at t.sets j) (byte_read b) ≡ es → IsTarget sets es next → IsMet A (starting A) (map byte_read d) (k + 1) (set_at sets to)
+      by [] is none = let f = none in absurd (cc)
+      by (x ∷ es) is t2 =
+          let same : t2.0 ≡ to = some_same t2.0 to (sym t2.1 ∙ e) in
+          let there : Has (edges A (set_at t.sets j) (byte_read b)) x =
+          subst (λ (g : Automaton). Has (edges g (set_at t.sets j) (byte_read b)) x) h.graph (subst (λ ys. Has ys x) (sym is) (inl refl)) in
+          let more : suc k ≡ k + 1 = omega arith in
+          subst (IsMet A (starting A) (map byte_read d) (k + 1)) (sym (ap (set_at sets) (sym same) ∙ t2.3))
+          (subst (λ n. IsMet A (starting A) (map byte_read d) n x.to) more
+          (met_next A (starting A) (map byte_read d) k (set_at t.sets j) (byte_read b) x met (asks_at d k b at) there))
+
+  pub full_within : (e : FilterFault) → IsFullBy t r e → IsFullWithin t.limit (reading_weight A d) e
+  full_within (Full w) f = (f.1, let m = weight_no_more A d first (within_first f.0) in omega (arith, f.2, m))
+  full_within OutOfMemory f = tt
+
+  -- the steps of one asking, with as many times the size as rows are there
+  module _ (s0 s1 : ℕ) (again : was_asked t r ≡ true → s1 ≡ s0 + 1) (most : s1 ≤ s0 + 1 + size t.graph) where
+    abbrev Z : ℕ
+    Z = size A
+
+    size_same : size t.graph ≡ Z
+    size_same = ap size h.graph
+
+    pub steps_next : (new : Tabled) → new ≡ once_asked t r → s1 + Z * length t.asked ≤ s0 + 1 + Z * length new.asked
+    steps_next new is = subst (λ (x : Tabled). s1 + Z * length t.asked ≤ s0 + 1 + Z * length x.asked) (sym is) (go (was_asked t r) refl)
+      where
+        go : (w : Bool) → was_asked t r ≡ w → s1 + Z * length t.asked ≤ s0 + 1 + Z * length (if w then t else asked_first t r).asked
+        go true e = omega (arith, again e)
+        go false e =
+            let one : Z * length first.asked ≡ Z * (length t.asked + 1) = ap (λ n. Z * n) (length-append t.asked (r ∷ [])) in
+            omega (arith, most, size_same, one)
+
+    pub steps_refused : s1 + Z * length t.asked ≤ s0 + 1 + Z * reading_rows A d
+    steps_refused = go (was_asked t r) refl
+      where
+        go : (w : Bool) → was_asked t r ≡ w → s1 + Z * length t.asked ≤ s0 + 1 + Z * reading_rows A d
+        go true e = let m = mul-le-mul_left Z (rows_no_more A d t h) in omega (arith, again e, m)
+        go false e =
+            let one : Z * length first.asked ≡ Z * (length t.asked + 1) = ap (λ n. Z * n) (length-append t.asked (r ∷ [])) in
+            let m = mul-le-mul_left Z (rows_no_more A d first (within_first e)) in
+            omega (arith, most, size_same, one, m)
+
+-- ---- a document that is read
+
+-- with a table that was `first`, before k bytes: the set j is the one that is reached, after so many steps
+pub record IsReading (first t : Tabled) (d : List ℕ) (k j s0 s : ℕ) : Type 0 where
+  pub within : IsWithin first.graph d t
+  pub met : IsMet first.graph (starting first.graph) (map byte_read d) k (set_at t.sets j)
+  pub below : j < length t.sets
+  pub limit : t.limit ≡ first.limit
+  pub steps : s ≤ s0 + k + size first.graph * length t.asked
+
+pub reading_starts : (t : Tabled) (d : List ℕ) (j s : ℕ) → t ≡ fresh t.graph t.limit → j ≡ 0 → IsReading t t d 0 j s s
+reading_starts t d j s is e = record {
+  within = within_fresh t d is;
+  met = met_fresh t d j is e;
+  below = let l : length t.sets ≡ 1 = ap (λ (x : Tabled). length x.sets) is in omega (arith, l, e);
+  limit = refl;
+  steps = omega arith;
+}
+
+module _ (first t : Tabled) (d : List ℕ) (k j s0 s : ℕ) (h : IsReading first t d k j s0 s) where
+  pub reading_weighs : weight t ≤ reading_weight first.graph d
+  reading_weighs = weight_no_more first.graph d t h.within
+
+  pub reading_steps : (n : ℕ) → k ≤ n → s ≤ s0 + n + size first.graph * reading_rows first.graph d
+  reading_steps n l =
+      let m = mul-le-mul_left (size first.graph) (rows_no_more first.graph d t h.within) in
+      omega (arith, h.steps, m, l)
+
+  -- one byte more
+  module _ (b s1 : ℕ) (at : slice_get d k ≡ Some b) (again : was_asked t (asking j (byte_read b)) ≡ true → s1 ≡ s + 1) (most : s1 ≤ s + 1 + size t.graph) where
+    module _ (new : Tabled) (is : new ≡ once_asked t (asking j (byte_read b))) where
+      within_new : IsWithin first.graph d new
+      within_new = within_next first.graph d t k j b h.within h.met h.below at new is
+
+      steps_new : s1 ≤ s0 + (k + 1) + size first.graph * length new.asked
+      steps_new = let m = steps_next first.graph d t k j b h.within h.met h.below at s s1 again most new is in omega (arith, h.steps, m)
+
+      limit_new : new.limit ≡ first.limit
+      limit_new = ap (λ (x : Tabled). x.limit) is ∙ (go (was_asked t (asking j (byte_read b))) ∙ h.limit)
+        where
+          go : (w : Bool) → (if w then t else asked_first t (asking j (byte_read b))).limit ≡ t.limit
+          go true = refl
+          go false = refl
+
+      pub reading_next : (next : Option ℕ) (to : ℕ) → IsNext t j b new.sets next → to < length new.sets → next ≡ Some to → IsReading first new d (k + 1) to s0 s1
+      reading_next next to go l e = record {
+        within = within_new;
+        met = met_then first.graph d t k j b h.within h.met h.below at new.sets next to go e;
+        below = l;
+        limit = limit_new;
+        steps = steps_new;
+      }
+
+      pub reading_ends : (n : ℕ) → k < n → (weight new ≤ reading_weight first.graph d) × (s1 ≤ s0 + n + size first.graph * reading_rows first.graph d)
+      reading_ends n l =
+          let m = mul-le-mul_left (size first.graph) (rows_no_more first.graph d new within_new) in
+          (weight_no_more first.graph d new within_new, omega (arith, steps_new, m, l))
+
+    pub reading_refused : (e : FilterFault) → IsFullBy t (asking j (byte_read b)) e → IsFullWithin first.limit (reading_weight first.graph d) e
+    reading_refused e f = subst (λ n. IsFullWithin n (reading_weight first.graph d) e) h.limit (full_within first.graph d t k j b h.within h.met h.below at e f)
+
+    pub refused_steps : (n : ℕ) → k < n → s1 ≤ s0 + n + size first.graph * reading_rows first.graph d
+    refused_steps n l = let m = steps_refused first.graph d t k j b h.within h.met h.below at s s1 again most in omega (arith, h.steps, m, l)
+
+pub fresh_weighs : (A : Automaton) (limit : ℕ) (d : List ℕ) → weight (fresh A limit) ≤ reading_weight A d
+fresh_weighs A limit d = weight_no_more A d (fresh A limit) (within_fresh (fresh A limit) d refl)
+
+pub full_wider : (limit a b : ℕ) (e : FilterFault) → a ≤ b → IsFullWithin limit a e → IsFullWithin limit b e
+full_wider limit a b (Full w) l f = (f.0, omega (arith, f.1, l))
+full_wider limit a b OutOfMemory l f = tt

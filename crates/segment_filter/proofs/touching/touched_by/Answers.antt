@@ -1,0 +1,34 @@
+use Rattle.std.proofs.Common.{◌+◌, ◌≤◌, refl, subst, arith}
+use Rattle.std.specs.Prelude.{reverse}
+use Rattle.segment_filter.specs.Weights.{IsFullWithin, reading_weight}
+use Rattle.set_table.specs.Tabled.{Tabled, fresh, weight}
+use Rattle.segment_filter.proofs.Results.{fault_by}
+use Rattle.segment_filter.proofs.WeightLaws.{fresh_weighs, full_wider}
+use Rattle.segment_filter.proofs.touching.touched_by.Goals as goal
+
+pub returns-in-Err-clause-full : goal.returns-in-Err-clause-full
+returns-in-Err-clause-full g c =
+    let R = c.args.readings.now.backward.graph in
+    let d = c.args.doc.now in
+    let back = reading_weight R (reverse d) in
+    let ahead = reading_weight c.args.readings.now.forward.graph d in
+    full_wider c.args.limit back (back + ahead) c.fault_of.result (omega arith)
+    (c.fault_of.ensures (fresh R c.args.limit) c.args.limit back c.in-Err.ensures.refused refl (fresh_weighs R c.args.limit (reverse d)))
+
+pub returns-in-Err-read_back-clause-full : goal.returns-in-Err-read_back-clause-full
+returns-in-Err-read_back-clause-full g c =
+    let d = c.args.doc.now in
+    let back = reading_weight c.args.readings.now.backward.graph (reverse d) in
+    let ahead = reading_weight c.args.readings.now.forward.graph d in
+    full_wider c.args.limit back (back + ahead) c.in-Err-read_back.fault (omega arith)
+    (subst (λ (t : Tabled). IsFullWithin t.limit (reading_weight t.graph (reverse d)) c.in-Err-read_back.fault) c.in-Ok.ensures.ok c.in-Err-read_back.ensures.full)
+
+pub returns-clause-full : goal.returns-clause-full
+returns-clause-full g c =
+    let d = c.args.doc.now in
+    let back = reading_weight c.args.readings.now.backward.graph (reverse d) in
+    let ahead = reading_weight c.args.readings.now.forward.graph d in
+    let spent = weight c.read_back.new.table in
+    let weighs = subst (λ (t : Tabled). spent ≤ reading_weight t.graph (reverse d)) c.in-Ok.ensures.ok c.in-Ok-read_back.ensures.weight in
+    fault_by c.touched_ahead.result (λ e. IsFullWithin c.args.limit (spent + ahead) e) (λ e. IsFullWithin c.args.limit (back + ahead) e)
+    (λ e h. full_wider c.args.limit (spent + ahead) (back + ahead) e (omega (arith, weighs)) h) c.touched_ahead.ensures.full

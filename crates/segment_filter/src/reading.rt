@@ -1,0 +1,128 @@
+//! Documents read by sets of states.
+ghost use Rattle.std.specs.Prelude.{◌≡◌, ℕ, ◌+◌, ◌*◌, ◌^◌, ◌<◌, ◌≤◌, ◌↔◌, length, reverse, slice_index, IfOk, IfErr, OnOk, IsTrue, ◌⊎◌};
+ghost use Rattle.span_core.specs.Intervals.{Covers};
+ghost use Rattle.span_core.specs.Lists.{IsInOrder};
+ghost use Rattle.marked_automaton.specs.Automaton.{size};
+ghost use Rattle.set_table.specs.Tabled.{fresh, set_at, weight};
+ghost use Rattle.segment_filter.specs.Weights.{IsFullWithin, reading_rows, reading_weight};
+ghost use Rattle.segment_filter.specs.SetNumbers.{numbers_of};
+ghost use Rattle.segment_filter.specs.Remembered.{AreRemembered};
+ghost use Rattle.segment_filter.specs.Sets.{Grows, HaveShared, MeetAt, ReadsAll, TakesNone};
+
+use crate::FilterFault;
+use crate::comparing::Comparisons;
+use crate::numbers::Numbers;
+use crate::sets::Sets;
+use span_core::{OutOfMemory, Steps, Touched};
+use std::alloc::Global;
+use std::sync::ledger::Ledger;
+
+/// Reads the document from its end, and gives the numbers of the sets that are led to, one for each position
+/// from the last on, as long as there are any.
+pub(crate) fn read_back<S: Sets, L: Ledger>(
+    alloc: Global,
+    table: &mut S,
+    doc: &[u8],
+    steps: &mut Steps<L>,
+) -> Result<Numbers, FilterFault>
+    requires plain { TakesNone (S.known table.old).graph }
+    requires fresh { S.known table.old ≡ fresh (S.known table.old).graph (S.known table.old).limit }
+    ensures grows { Grows (S.known table.new) (S.known table.old) }
+    ensures ok { IfOk result (λ kept. ReadsAll (S.known table.new) (reverse doc.now) (numbers_of kept)) }
+    ensures limit { (S.known table.new).limit ≡ (S.known table.old).limit }
+    ensures weight { OnOk result (weight (S.known table.new) ≤ reading_weight (S.known table.old).graph (reverse doc.now)) }
+    ensures full { IfErr result (λ e. IsFullWithin (S.known table.old).limit (reading_weight (S.known table.old).graph (reverse doc.now)) e) }
+    ensures steps { steps.new ≤ steps.old + length doc.now + size (S.known table.old).graph * reading_rows (S.known table.old).graph (reverse doc.now) }
+{
+    let mut set = table.start();
+    let mut kept = Numbers::new(alloc).followed_by(alloc, set)?;
+    for k in 0..doc.len() {
+        let byte = doc[doc.len() - 1 - k];
+        let next = match table.next(set, byte, steps) {
+            Ok(next) => next,
+            Err(fault) => return Err(fault),
+        };
+        set = match next {
+            Some(to) => to,
+            None => return Ok(kept),
+        };
+        kept = kept.followed_by(alloc, set)?;
+    }
+    Ok(kept)
+}
+
+/// Reads the document, and gives the positions at which a state that is led to is also one of those that the
+/// bytes from the end lead back to, and is at most `most`.
+pub(crate) fn meetings<S: Sets, L: Ledger>(
+    alloc: Global,
+    table: &mut S,
+    back: &S,
+    kept: &Numbers,
+    doc: &[u8],
+    most: u32,
+    steps: &mut Steps<L>,
+) -> Result<Touched, FilterFault>
+    requires plain { TakesNone (S.known table.old).graph }
+    requires fresh { S.known table.old ≡ fresh (S.known table.old).graph (S.known table.old).limit }
+    requires kept { ReadsAll (S.known back.now) (reverse doc.now) (numbers_of kept.now) }
+    requires small { length doc.now < 2 ^ 32 }
+    ensures full { IfErr result (λ e. IsFullWithin (S.known table.old).limit (reading_weight (S.known table.old).graph doc.now) e) }
+    ensures steps { steps.new ≤ steps.old + length doc.now + size (S.known table.old).graph * reading_rows (S.known table.old).graph doc.now }
+    ensures ok { IfOk result (λ t. (i : ℕ) → Covers t i ↔ ((i ≤ length doc.now) × MeetAt (S.known table.old).graph (S.known back.now).graph most doc.now i)) }
+{
+    let mut touched = Touched::new(alloc);
+    let mut seen = Comparisons::new(alloc)?;
+    let mut set = table.start();
+    for at in 0..doc.len() {
+        let meets = meet(table, back, kept, set, doc.len() - at, most, &mut seen);
+        mark(&mut touched, meets, at as u32)?;
+        let next = match table.next(set, doc[at], steps) {
+            Ok(next) => next,
+            Err(fault) => return Err(fault),
+        };
+        set = match next {
+            Some(to) => to,
+            None => return Ok(touched),
+        };
+    }
+    let meets = meet(table, back, kept, set, 0, most, &mut seen);
+    mark(&mut touched, meets, doc.len() as u32)?;
+    Ok(touched)
+}
+
+/// Whether a set shares a state with the one that the last `behind` bytes lead back to.
+fn meet<S: Sets>(
+    table: &S,
+    back: &S,
+    kept: &Numbers,
+    set: u32,
+    behind: usize,
+    most: u32,
+    seen: &mut Comparisons,
+) -> bool
+    requires set { (set < length (S.known table.now).sets) × IsInOrder ◌<◌ (set_at (S.known table.now).sets set) }
+    requires kept { behind < length (numbers_of kept.now) → (slice_index (numbers_of kept.now) behind < length (S.known back.now).sets)
+        × IsInOrder ◌<◌ (set_at (S.known back.now).sets (slice_index (numbers_of kept.now) behind)) }
+    requires places { 0 < length seen.old.pairs.items }
+    requires right { AreRemembered most (S.known table.now).sets (S.known back.now).sets seen.old.pairs.items }
+    ensures meets { IsTrue result ↔ ((behind < length (numbers_of kept.now)) × HaveShared most (set_at (S.known table.now).sets set) (set_at (S.known back.now).sets (slice_index (numbers_of kept.now) behind))) }
+    ensures places { 0 < length seen.new.pairs.items }
+    ensures right { AreRemembered most (S.known table.now).sets (S.known back.now).sets seen.new.pairs.items }
+{
+    if behind >= kept.len() {
+        return false;
+    }
+    let other = kept.at(behind);
+    seen.meet(most, set, table.members(set), other, back.members(other))
+}
+
+/// Adds a position, where it is touched, that is greater than each that is there.
+fn mark(touched: &mut Touched, is_touched: bool, at: u32) -> Result<(), OutOfMemory>
+    requires { (q : ℕ) → Covers touched.old q → q < at }
+    ensures { OnOk result ((q : ℕ) → Covers touched.new q ↔ (Covers touched.old q ⊎ (IsTrue is_touched × (q ≡ at)))) }
+{
+    if is_touched {
+        touched.add(at)?;
+    }
+    Ok(())
+}
