@@ -1,7 +1,9 @@
+pub mod AtomWalk
 pub mod Costs
 pub mod FromWords
 pub mod Past
-pub mod Positions
+pub mod ReadAt
+pub mod Results
 pub mod RowLaws
 pub mod Starting
 pub mod WordLaws

@@ -1,5 +1,5 @@
 -- What it costs to begin the answers of a query, and why it is refused.
-use Rattle.std.specs.Prelude.{ℕ, ◌+◌, ◌<◌, ◌≤◌, Bool, true, List, length, Option, Some, None}
+use Rattle.std.specs.Prelude.{ℕ, ◌+◌, ◌<◌, ◌≤◌, Bool, true, false, List, length, Option, Some, None, IsTrue}
 use Rattle.span_core.specs.declared.span.Span.{Span}
 use Rattle.span_core.specs.Lists.{Has}
 use Rattle.spanner_model.specs.Expression.{QueryTree}
@@ -8,6 +8,8 @@ use Rattle.marked_automaton.specs.Automaton.{Automaton}
 use Rattle.automaton_reading.specs.Reading.{edges_K, weight_K}
 use Rattle.query_automaton.specs.QueryAutomaton.{of_query}
 use Rattle.one_pass.specs.Builds.{build}
+use Rattle.filter_laws.specs.Touching.{IsSetOf, SomeAtomOf, TouchedOf, sum_atoms_of}
+use Rattle.segment_filter.specs.Costs.{atom_weight, touching_steps}
 use Rattle.spanner_engine.specs.declared.beginning.BeginFault.{BeginFault}
 use Rattle.spanner_engine.specs.declared.beginning.BeginFault.TheVariants.{CursorPlace, Filter, Table, OutOfMemory}
 
@@ -19,31 +21,47 @@ abbrev pub IsPast : ℕ → Option SpanRow → Type 0
 IsPast n None = ⊥
 IsPast n (Some row) = EndsPast n row
 
+-- the positions at which a document is read: all of them, or with the filter those that some atom of the query's text touches
+abbrev pub IsReadAt : Bool → QueryTree → List ℕ → ℕ → Type 0
+IsReadAt false q d i = i ≤ length d
+IsReadAt true q d i = TouchedOf q d i
+
+-- K is the set of these
+abbrev pub AreRead : Bool → QueryTree → List ℕ → (ℕ → Bool) → Type 0
+AreRead filter q d K = IsSetOf K (IsReadAt filter q d)
+
 -- the automaton that numbers are counted on: that of the query, with nothing left out
 abbrev pub counted : QueryTree → Automaton
 counted q = (of_query q).graph
 
--- every position is read
-abbrev pub all_positions : ℕ → Bool
-all_positions i = true
+-- what a table weighs that holds all that reading the document at these positions needs
+abbrev pub table_weight : QueryTree → List ℕ → (ℕ → Bool) → ℕ
+table_weight q d K = weight_K (counted q) d K
 
--- what a table weighs that holds all that reading the document needs
-abbrev pub table_weight : QueryTree → List ℕ → ℕ
-table_weight q d = weight_K (counted q) d all_positions
+-- to find the positions: nothing where all are read
+abbrev pub filter_steps : Bool → QueryTree → List ℕ → ℕ
+filter_steps false q d = 0
+filter_steps true q d = sum_atoms_of (λ s t f. touching_steps s t f d) q
+
+-- some atom of the query's text passes the limit
+abbrev pub HasHeavyAtom : QueryTree → List ℕ → ℕ → Type 0
+HasHeavyAtom q d limit = SomeAtomOf (λ s t f. limit < atom_weight s t f d) q
 
 -- one step for each cell, to go to the place after a row; none where no row is given
 abbrev pub cells_sought : ℕ → Option SpanRow → ℕ
 cells_sought cells None = 0
 cells_sought cells (Some row) = cells
 
--- to build the rows, of which each cell comes of an edge, but one; and to go to the place after a row
-abbrev pub begin_steps : QueryTree → List ℕ → Option SpanRow → ℕ
-begin_steps q d after =
-    build (counted q) d all_positions + cells_sought (edges_K (counted q) d all_positions + 1) after
+-- to find the positions; to build the rows, of which each cell comes of an edge, but one; and to go to the place after a row
+abbrev pub begin_steps : Bool → QueryTree → List ℕ → (ℕ → Bool) → Option SpanRow → ℕ
+begin_steps filter q d K after =
+    filter_steps filter q d + build (counted q) d K + cells_sought (edges_K (counted q) d K + 1) after
 
--- why nothing is begun: a span ends past the document, or reading weighs more than the limit; want of memory has no cause
-abbrev pub IsBeginFault : QueryTree → List ℕ → Option SpanRow → ℕ → BeginFault → Type 0
-IsBeginFault q d after limit CursorPlace = IsPast (length d) after
-IsBeginFault q d after limit (Filter weight) = ⊥
-IsBeginFault q d after limit (Table weight) = (limit < weight) × (weight ≤ table_weight q d)
-IsBeginFault q d after limit OutOfMemory = Unit {0}
+-- why nothing is begun: a span ends past the document; some atom, or reading at the positions, weighs more than the limit; want of
+-- memory has no cause
+abbrev pub IsBeginFault : QueryTree → List ℕ → Bool → Option SpanRow → ℕ → BeginFault → Type 0
+IsBeginFault q d filter after limit CursorPlace = IsPast (length d) after
+IsBeginFault q d filter after limit (Filter weight) = IsTrue filter × SomeAtomOf (λ s t f. (limit < weight) × (weight ≤ atom_weight s t f d)) q
+IsBeginFault q d filter after limit (Table weight) =
+    (limit < weight) × ((K : ℕ → Bool) → AreRead filter q d K → weight ≤ table_weight q d K)
+IsBeginFault q d filter after limit OutOfMemory = Unit {0}

@@ -1,5 +1,5 @@
 -- From the words with which a document is read to the rows of a query's answers.
-use Rattle.std.specs.Prelude.{ℕ, ◌≤◌, ◌↔◌, Bool, List, length, Some, IsTrue}
+use Rattle.std.specs.Prelude.{ℕ, ◌≤◌, ◌↔◌, Bool, List, length, Some}
 use Rattle.span_core.specs.Lists.{Has}
 use Rattle.spanner_model.specs.Captures.{Mapping, row_of}
 use Rattle.spanner_model.specs.Expression.{QueryTree}
@@ -10,9 +10,7 @@ use Rattle.marked_automaton.specs.Automaton.{Automaton, IsMarked, Marked, size}
 use Rattle.marked_automaton.specs.Reduct.{Reduces}
 use Rattle.automaton_reading.specs.Chosen.{IsReadWith}
 use Rattle.automaton_reading.specs.Reading.{edges_K, weight_K}
-use Rattle.place_automaton.specs.Atom.{AreBytes}
 use Rattle.place_automaton.specs.Words.{IsWordOf}
-use Rattle.query_automaton.specs.Laws.{AcceptsAnswersOf}
 use Rattle.enumerator.specs.Enumeration.{AreInBlockOrder, AreRowsOf, IsRestAfter, IsWordOfRow, SpanRow}
 use Rattle.one_pass.specs.Builds.{build}
 use Rattle.one_pass.specs.Places.{AreReadWords}
@@ -22,12 +20,6 @@ use Rattle.one_pass.specs.Words.{Word}
 abbrev pub ReadsAnswers : QueryTree → Marked → List ℕ → (ℕ → Bool) → Type 0
 ReadsAnswers q A d K =
     (w : ℕ → ℕ) → IsReadWith A.graph K d w ↔ ((m : Mapping) × IsAnswer q d m × IsWordOf (row_of A.names m) d w)
-
--- it does at all positions
-abbrev pub AllRead : Type 0
-AllRead =
-    (q : QueryTree) (A : Marked) → AcceptsAnswersOf q A → (d : List ℕ) → AreBytes d → (K : ℕ → Bool) →
-    ((i : ℕ) → i ≤ length d → IsTrue (K i)) → ReadsAnswers q A d K
 
 -- each word that is read is that of a row
 abbrev pub WordsAreOfRows : Type 0

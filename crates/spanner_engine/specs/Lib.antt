@@ -1,3 +1,4 @@
 pub mod Begun
+pub mod Filtering
 pub mod Laws
 pub mod Left

@@ -1,17 +1,19 @@
 //! Beginning the answers of a query on a document.
-ghost use Rattle.std.specs.Prelude.{◌≡◌, ◌+◌, ◌^◌, ◌≤◌, length, false, IfErr, IfOk, IsErrOf};
+ghost use Rattle.std.specs.Prelude.{◌≡◌, ℕ, ◌+◌, ◌^◌, ◌≤◌, Bool, length, IfErr, IfOk, IsErrOf};
 ghost use Rattle.std.specs.Option.{ForSome, IfSome, option_copied};
 ghost use Rattle.spanner_model.specs.Answers.{IsRest};
 ghost use Rattle.spanner_model.specs.ExprView.{query_of};
-ghost use Rattle.spanner_engine.specs.Begun.{IsBeginFault, IsPast, begin_steps, cells_sought};
+ghost use Rattle.spanner_engine.specs.Begun.{AreRead, IsBeginFault, IsPast, begin_steps, cells_sought};
 ghost use Rattle.spanner_engine.specs.Left.{AreLeft};
 ghost use Rattle.spanner_engine.specs.declared.beginning.BeginFault.TheVariants.{CursorPlace};
 
 use crate::Answers;
 use crate::building::all_answers;
 use crate::place::is_past;
+use crate::positions::positions_read;
 use enumerator::Enumerator;
 use query_automaton::Compiled;
+use segment_filter::FilterFault;
 use set_table::TableFault;
 use span_core::{Row, Steps};
 use std::alloc::Global;
@@ -22,7 +24,7 @@ use std::sync::ledger::Ledger;
 pub struct Options {
     /// Whether it is read only at the positions that some atom of the query touches.
     pub filter: bool,
-    /// The greatest weight of the table that it is read with, from 1 to 100,000,000.
+    /// The greatest weight of the filter of an atom, and of the table that it is read with, from 1 to 100,000,000.
     pub limit: u64,
 }
 
@@ -31,7 +33,7 @@ pub struct Options {
 pub enum BeginFault {
     /// A span of the row to begin after ends past the document.
     CursorPlace,
-    /// The filter of some atom weighs more than the limit: so much.
+    /// What the two readings of some atom meet weighs more than the limit: so much.
     Filter { weight: u64 },
     /// The table weighs more than the limit: so much.
     Table { weight: u64 },
@@ -42,14 +44,19 @@ pub enum BeginFault {
 /// The answers of a compiled query on a document that stand after the row `after`, which need not be an
 /// answer, or all of them. All work that grows with the document is done here.
 ///
+/// With `options.filter` the document is read only at the positions that some atom of the query's text
+/// touches: each atom of each `let`, used or not, and of the body.
+///
 /// `CursorPlace` comes exactly where a span of `after` ends past the document; no step is taken then.
-/// `Table` comes only where reading the document weighs more than the limit, counted on the query's
-/// automaton with nothing left out: the weight that it tells is more than the limit, and no more than that.
-/// `Filter` does not come while no filter is asked for.
+/// `Filter` comes only with the filter, where what the two readings of some atom meet weighs more than the
+/// limit; `Table` only where reading the document at these positions weighs more than the limit, counted on
+/// the query's automaton with nothing left out. The weight that either tells is more than the limit, and no
+/// more than what is weighed.
 ///
 /// The steps are counted on the same automaton: 8 for each position and one more, 8 for each edge, 1 and
-/// the automaton's size for each row. To go to the place after a row takes one step for each edge and one
-/// more, which is less than the `2v + 1` for each cell and one more that are allowed with v variables.
+/// the automaton's size for each row; and with the filter what it takes to find the positions of each atom. To
+/// go to the place after a row takes one step for each edge and one more, which is less than the `2v + 1` for
+/// each cell and one more that are allowed with v variables.
 pub fn begin<L: Ledger>(
     alloc: Global,
     compiled: &Compiled<'_>,
@@ -61,18 +68,23 @@ pub fn begin<L: Ledger>(
     requires few { length doc.now ≤ 2 ^ 28 }
     requires row { IfSome (option_copied after) (λ row. length row ≡ length compiled.now.automaton.names) }
     requires limit { options.limit ≤ 100000000 }
-    requires whole { options.filter ≡ false }
     ensures left { IfOk result (λ a. AreLeft (query_of compiled.now.query) doc.now compiled.now.automaton.names (option_copied after.entry) a.rest) }
     ensures variables { IfOk result (λ a. a.variables ≡ length compiled.now.automaton.names) }
     ensures place { IsPast (length doc.now) (option_copied after.entry) → IsErrOf result CursorPlace }
     ensures still { IsErrOf result CursorPlace → steps.new ≡ steps.old }
-    ensures fault { IfErr result (IsBeginFault (query_of compiled.now.query) doc.now (option_copied after.entry) options.limit) }
-    ensures steps { steps.new ≤ steps.old + begin_steps (query_of compiled.now.query) doc.now (option_copied after.entry) }
+    ensures fault { IfErr result (IsBeginFault (query_of compiled.now.query) doc.now options.filter (option_copied after.entry) options.limit) }
+    ensures steps { (K : ℕ → Bool) → AreRead options.filter (query_of compiled.now.query) doc.now K →
+        steps.new ≤ steps.old + begin_steps options.filter (query_of compiled.now.query) doc.now K (option_copied after.entry) }
 {
     if is_past(after, doc.len()) {
         return Err(BeginFault::CursorPlace);
     }
-    let rows = match all_answers(alloc, compiled, doc, options.limit, steps) {
+    let positions = match positions_read(alloc, compiled.query(), doc, options, steps) {
+        Ok(positions) => positions,
+        Err(FilterFault::Full { weight }) => return Err(BeginFault::Filter { weight }),
+        Err(FilterFault::OutOfMemory) => return Err(BeginFault::OutOfMemory),
+    };
+    let rows = match all_answers(alloc, compiled, doc, positions, options.limit, steps) {
         Ok(rows) => rows,
         Err(TableFault::Full { weight }) => return Err(BeginFault::Table { weight }),
         Err(TableFault::OutOfMemory) => return Err(BeginFault::OutOfMemory),

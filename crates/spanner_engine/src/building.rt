@@ -8,7 +8,8 @@ ghost use Rattle.node_arena.specs.Rows.{rows};
 ghost use Rattle.one_pass.specs.Builds.{build};
 ghost use Rattle.one_pass.specs.Faults.{IsReadFault};
 ghost use Rattle.one_pass.specs.Places.{AreReadWords, is_touched};
-ghost use Rattle.spanner_engine.specs.Begun.{all_positions, counted};
+ghost use Rattle.filter_laws.specs.Touching.{Contains, TouchedOf};
+ghost use Rattle.spanner_engine.specs.Begun.{counted};
 
 use enumerator::Enumerator;
 use marked_automaton::Automaton;
@@ -20,35 +21,31 @@ use span_core::{Steps, Touched};
 use std::alloc::Global;
 use std::sync::ledger::Ledger;
 
-/// Reads a document at all its positions, and gives an enumerator of the answers, which stands before
-/// the first.
+/// Reads a document at some positions, of which each that an atom of the query's text touches is one, and
+/// gives an enumerator of the answers, which stands before the first. The positions are let go.
 pub(crate) fn all_answers<L: Ledger>(
     alloc: Global,
     compiled: &Compiled<'_>,
     doc: &[u8],
+    positions: Touched,
     limit: u64,
     steps: &mut Steps<L>,
 ) -> Result<Enumerator, TableFault>
     requires few { length doc.now ≤ 2 ^ 28 }
     requires limit { limit ≤ 100000000 }
+    requires within { (i : ℕ) → Covers positions i → i ≤ length doc.now }
+    requires touched { Contains (is_touched positions) (TouchedOf (query_of compiled.now.query) doc.now) }
     ensures answers { IfOk result (λ e. AreAnswers (query_of compiled.now.query) doc.now compiled.now.automaton.names e.whole) }
     ensures rest { IfOk result (λ e. e.rest ≡ e.whole) }
     ensures variables { IfOk result (λ e. e.variables ≡ length compiled.now.automaton.names) }
-    ensures cells { IfOk result (λ e. e.cells ≤ edges_K (counted (query_of compiled.now.query)) doc.now all_positions + 1) }
-    ensures cause { IfErr result (IsReadFault (counted (query_of compiled.now.query)) all_positions doc.now limit) }
-    ensures steps { steps.new ≤ steps.old + build (counted (query_of compiled.now.query)) doc.now all_positions }
+    ensures cells { IfOk result (λ e. e.cells ≤ edges_K (counted (query_of compiled.now.query)) doc.now (is_touched positions) + 1) }
+    ensures cause { IfErr result (IsReadFault (counted (query_of compiled.now.query)) (is_touched positions) doc.now limit) }
+    ensures steps { steps.new ≤ steps.old + build (counted (query_of compiled.now.query)) doc.now (is_touched positions) }
 {
     let automaton = compiled.automaton();
     // What holds of each automaton: reading a reduct costs no more.
     let _facts = automaton.states();
-    let positions = match Touched::all(alloc, doc.len() as u32) {
-        Ok(positions) => positions,
-        Err(_) => return Err(TableFault::OutOfMemory),
-    };
-    let lists = match lists_of(alloc, automaton, doc, &positions, limit, steps) {
-        Ok(lists) => lists,
-        Err(fault) => return Err(fault),
-    };
+    let lists = lists_of(alloc, automaton, doc, &positions, limit, steps)?;
     Ok(Enumerator::new(lists, compiled.vars().len()))
 }
 

@@ -1,10 +1,5 @@
 //! Laws of the answers of a query, each the contract of a function that does nothing.
-ghost use Rattle.spanner_engine.specs.Laws.{AllRead, ReductCosts, RowsAfterAreTheRest, RowsAreAnswers, WordsAreOfRows};
-
-/// Read at all positions, an automaton that accepts the words of the rows of answers finds them.
-pub fn all_positions_find_the_answers()
-    ensures { AllRead }
-{}
+ghost use Rattle.spanner_engine.specs.Laws.{ReductCosts, RowsAfterAreTheRest, RowsAreAnswers, WordsAreOfRows};
 
 /// Each word that is read is that of a row.
 pub fn words_that_are_read_are_those_of_rows()

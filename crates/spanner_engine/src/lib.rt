@@ -10,5 +10,6 @@ mod beginning;
 mod building;
 pub mod laws;
 mod place;
+mod positions;
 #[cfg(test)]
 mod tests;

@@ -11,6 +11,18 @@ use std::sync::ledger::{Blank, Ledger};
 /// More than the rows of any of the examples.
 const MOST_ROWS: u32 = 20;
 
+/// A document is read at all positions.
+const WHOLE: Options = Options {
+    filter: false,
+    limit: 8_000_000,
+};
+
+/// It is read at those that an atom touches.
+const FILTERED: Options = Options {
+    filter: true,
+    limit: 8_000_000,
+};
+
 /// The first variable's spans in the rows that come, each as 100 times its start and its end.
 fn spans<L: Ledger>(
     alloc: Global,
@@ -41,13 +53,13 @@ fn rows_of<L: Ledger>(
     text: &[u8],
     doc: &[u8],
     after: Option<Span>,
-    limit: u64,
+    options: Options,
 ) -> Result<Vec<u64>, BeginFault>
     requires name { blank.name ≡ L.name }
     requires parts { blank.parts ≡ L.parts }
     requires some { 0 < L.parts }
     requires few { length doc.now ≤ 2 ^ 28 }
-    requires limit { limit ≤ 100000000 }
+    requires limit { options.limit ≤ 100000000 }
 {
     let mut steps = Steps::<L>::new(blank);
     let Ok(query) = read_query(alloc, text) else {
@@ -61,10 +73,6 @@ fn rows_of<L: Ledger>(
         row.push(span);
     }
     let after = (row.len() > 0 && row.len() == compiled.vars().len()).then_some(&row);
-    let options = Options {
-        filter: false,
-        limit,
-    };
     let answers = begin(alloc, &compiled, doc, after, options, &mut steps)?;
     spans(alloc, answers, &mut steps)
 }
@@ -72,10 +80,10 @@ fn rows_of<L: Ledger>(
 #[test]
 fn a_star_gives_its_spans_in_order(rt: HostRuntime) -> Result<(), BeginFault> {
     let (text, doc) = (b"/!x{a*}/", b"aa");
-    let all = rows_of::<Brand>(Blank::new(1), rt.alloc(), text, doc, None, 8_000_000)?;
+    let all = rows_of::<Brand>(Blank::new(1), rt.alloc(), text, doc, None, WHOLE)?;
     assert_eq!(rt; all.as_slice(), [0, 1, 2, 101, 102, 202].as_slice());
     let after = Some(Span::new(0, 1));
-    let rest = rows_of::<Brand>(Blank::new(1), rt.alloc(), text, doc, after, 8_000_000)?;
+    let rest = rows_of::<Brand>(Blank::new(1), rt.alloc(), text, doc, after, WHOLE)?;
     assert_eq!(rt; rest.as_slice(), [2, 101, 102, 202].as_slice());
     Ok(())
 }
@@ -83,9 +91,19 @@ fn a_star_gives_its_spans_in_order(rt: HostRuntime) -> Result<(), BeginFault> {
 #[test]
 fn a_table_is_refused_by_its_weight(rt: HostRuntime) -> Result<(), BeginFault> {
     let (text, doc) = (b"/(a|b)*a(a|b){12}!x{c}/", b"aaaaaaaaaaaaac");
-    let read = rows_of::<Brand>(Blank::new(1), rt.alloc(), text, doc, None, 166)?;
+    let (enough, less) = (
+        Options {
+            limit: 166,
+            ..WHOLE
+        },
+        Options {
+            limit: 100,
+            ..WHOLE
+        },
+    );
+    let read = rows_of::<Brand>(Blank::new(1), rt.alloc(), text, doc, None, enough)?;
     assert_eq!(rt; read.as_slice(), [1314].as_slice());
-    let full = rows_of::<Brand>(Blank::new(1), rt.alloc(), text, doc, None, 100);
+    let full = rows_of::<Brand>(Blank::new(1), rt.alloc(), text, doc, None, less);
     assert!(rt; matches!(full, Err(BeginFault::Table { weight: 101..=166 })));
     Ok(())
 }
@@ -94,10 +112,27 @@ fn a_table_is_refused_by_its_weight(rt: HostRuntime) -> Result<(), BeginFault> {
 fn a_row_may_end_where_the_document_does(rt: HostRuntime) -> Result<(), BeginFault> {
     let (text, doc) = (b"/!x{a*}/", b"aa");
     let last = Some(Span::new(2, 2));
-    let none = rows_of::<Brand>(Blank::new(1), rt.alloc(), text, doc, last, 8_000_000)?;
+    let none = rows_of::<Brand>(Blank::new(1), rt.alloc(), text, doc, last, WHOLE)?;
     assert!(rt; none.is_empty());
     let past = Some(Span::new(2, 3));
-    let refused = rows_of::<Brand>(Blank::new(1), rt.alloc(), text, doc, past, 8_000_000);
+    let refused = rows_of::<Brand>(Blank::new(1), rt.alloc(), text, doc, past, WHOLE);
     assert!(rt; matches!(refused, Err(BeginFault::CursorPlace)));
+    Ok(())
+}
+
+#[test]
+fn a_filter_leaves_the_answers_as_they_are(rt: HostRuntime) -> Result<(), BeginFault> {
+    let (text, doc) = (b"/!x{a*}/", b"bbb");
+    let empty = rows_of::<Brand>(Blank::new(1), rt.alloc(), text, doc, None, FILTERED)?;
+    assert_eq!(rt; empty.as_slice(), [0, 101, 202, 303].as_slice());
+    let (text, doc) = (b"/!x{aab}/", b"xxxxaabxxxx");
+    let one = rows_of::<Brand>(Blank::new(1), rt.alloc(), text, doc, None, FILTERED)?;
+    assert_eq!(rt; one.as_slice(), [407].as_slice());
+    let little = Options {
+        limit: 3,
+        ..FILTERED
+    };
+    let full = rows_of::<Brand>(Blank::new(1), rt.alloc(), text, doc, None, little);
+    assert!(rt; matches!(full, Err(BeginFault::Filter { weight: 4.. })));
     Ok(())
 }

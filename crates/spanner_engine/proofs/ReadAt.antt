@@ -1,0 +1,127 @@
+-- The positions at which a document is read, as sets.
+use Rattle.std.proofs.Common.{◌≡◌, ℕ, ◌+◌, ◌<◌, ◌≤◌, ◌↔◌, Bool, true, false, List, [], ◌∷◌, length, Option, Some, None, inl, inr, refl, sym, subst, arith}
+use Rattle.std.specs.Prelude.{◌&&◌, ◌||◌, nat_le, IsTrue}
+use Rattle.std.proofs.lemmas.Bool.{le-leb, leb-true, true≢false}
+use Rattle.span_core.specs.Intervals.{Covers}
+use Rattle.spanner_model.specs.Answers.{SpanRow}
+use Rattle.spanner_model.specs.Expression.{ExprTree, QueryTree, atom, join, join_end, named, project, union, union_end}
+use Rattle.spanner_model.specs.Tree.{Tree}
+use Rattle.marked_automaton.proofs.Passing.{both_true, left_true, or_left, or_right, right_true}
+use Rattle.automaton_reading.specs.Reading.{edges_K}
+use Rattle.filter_laws.specs.Touching.{Contains, IsSetOf, SomeAtom, TouchedOf}
+use Rattle.set_table.specs.declared.fault.TableFault.{TableFault}
+use Rattle.set_table.specs.declared.fault.TableFault.TheVariants.{Full}
+use Rattle.one_pass.specs.Builds.{build}
+use Rattle.one_pass.specs.Faults.{IsReadFault}
+use Rattle.one_pass.specs.Places.{is_touched}
+use Rattle.spanner_engine.specs.Begun.{AreRead, IsReadAt, begin_steps, cells_sought, counted, filter_steps, table_weight}
+
+-- ---- sets
+
+-- two sets of the same positions are the same
+same_truth : (a b : Bool) → IsTrue a ↔ IsTrue b → a ≡ b
+same_truth true true h = refl
+same_truth true false h = absurd (true≢false (sym (h.0 refl)))
+same_truth false true h = absurd (true≢false (sym (h.1 refl)))
+same_truth false false h = refl
+
+pub same_set : (P : ℕ → Type 0) (K J : ℕ → Bool) → IsSetOf K P → IsSetOf J P → K ≡ J
+same_set P K J k j = let at : (i : ℕ) → K i ≡ J i = λ i. same_truth (K i) (J i) (λ h. (j i).1 ((k i).0 h), λ h. (k i).1 ((j i).0 h)) in λ x i. at i x
+
+-- ---- intervals
+
+touched_covers : (parts : List (ℕ × ℕ)) (i : ℕ) → IsTrue (is_touched parts i) → Covers parts i
+touched_covers [] i h = absurd (cc)
+touched_covers (part ∷ parts) i h = by (touched_covers parts i) (nat_le part.0 i && nat_le i part.1) refl h
+  where
+    by : (IsTrue (is_touched parts i) → Covers parts i) → (c : Bool) → (nat_le part.0 i && nat_le i part.1) ≡ c → IsTrue (c || is_touched parts i) → Covers (part ∷ parts) i
+    by later true at k = inl (
+      leb-true part.0 i (left_true (nat_le part.0 i) (nat_le i part.1) at),
+      leb-true i part.1 (right_true (nat_le part.0 i) (nat_le i part.1) at),
+    )
+    by later false at k = inr (later k)
+
+covers_touched : (parts : List (ℕ × ℕ)) (i : ℕ) → Covers parts i → IsTrue (is_touched parts i)
+covers_touched [] i h = absurd h
+covers_touched (part ∷ parts) i (inl h) =
+    or_left (nat_le part.0 i && nat_le i part.1) (is_touched parts i) (both_true (nat_le part.0 i) (nat_le i part.1) (le-leb part.0 i h.0) (le-leb i part.1 h.1))
+covers_touched (part ∷ parts) i (inr h) = or_right (nat_le part.0 i && nat_le i part.1) (is_touched parts i) (covers_touched parts i h)
+
+pub covers_all : (parts : List (ℕ × ℕ)) (n i : ℕ) → parts ≡ (0, n) ∷ [] → Covers parts i ↔ (i ≤ n)
+covers_all parts n i are =
+    subst (λ (ps : List (ℕ × ℕ)). Covers ps i ↔ (i ≤ n)) (sym are) (
+      λ h. elim h as (λ _. i ≤ n) [ inl a ↦ a.1 | inr b ↦ absurd b ],
+      λ h. inl (omega arith, h),
+    )
+
+-- ---- within the document
+
+-- what follows for each atom
+some_then : (P : Bool → Bool → Tree → Type 0) (X : Type 0) → ((s t : Bool) (f : Tree) → P s t f → X) → (e : ExprTree) → SomeAtom P e → X
+some_then P X then_ (atom s t f) h = then_ s t f h
+some_then P X then_ (named k) h = absurd h
+some_then P X then_ union_end h = absurd h
+some_then P X then_ (union e rest) (inl h) = some_then P X then_ e h
+some_then P X then_ (union e rest) (inr h) = some_then P X then_ rest h
+some_then P X then_ join_end h = absurd h
+some_then P X then_ (join e rest) (inl h) = some_then P X then_ e h
+some_then P X then_ (join e rest) (inr h) = some_then P X then_ rest h
+some_then P X then_ (project kept e) h = some_then P X then_ e h
+
+pub touched_within : (q : QueryTree) (d : List ℕ) (i : ℕ) → TouchedOf q d i → i ≤ length d
+touched_within q d i (inl h) = some_then _ (i ≤ length d) (λ s t f p. omega (arith, p.4, p.8)) h.0.1 h.2
+touched_within q d i (inr h) = some_then _ (i ≤ length d) (λ s t f p. omega (arith, p.4, p.8)) q.body h
+
+pub read_within : (filter : Bool) (q : QueryTree) (d : List ℕ) (i : ℕ) → IsReadAt filter q d i → i ≤ length d
+read_within false q d i h = h
+read_within true q d i h = touched_within q d i h
+
+pub touched_read : (filter : Bool) (q : QueryTree) (d : List ℕ) (i : ℕ) → TouchedOf q d i → IsReadAt filter q d i
+touched_read false q d i h = touched_within q d i h
+touched_read true q d i h = h
+
+-- ---- the set of the positions that are read
+
+-- p is the query q
+module _ (filter : Bool) (q p : QueryTree) (is : p ≡ q) (d : List ℕ) (parts : List (ℕ × ℕ)) (read : (i : ℕ) → Covers parts i ↔ IsReadAt filter p d i) where
+  are_read : AreRead filter q d (is_touched parts)
+  are_read =
+      subst (λ (r : QueryTree). AreRead filter r d (is_touched parts)) is
+      (λ i. (λ h. (read i).0 (touched_covers parts i h), λ h. covers_touched parts i ((read i).1 h)))
+
+  pub parts_within : (i : ℕ) → Covers parts i → i ≤ length d
+  parts_within i h = read_within filter p d i ((read i).0 h)
+
+  pub parts_contain : Contains (is_touched parts) (TouchedOf q d)
+  parts_contain i h = (are_read i).1 (touched_read filter q d i h)
+
+  -- what holds of it holds of each such set
+  for_each : (P : (ℕ → Bool) → Type 0) → P (is_touched parts) → (K : ℕ → Bool) → AreRead filter q d K → P K
+  for_each P given K are = subst P (same_set (IsReadAt filter q d) (is_touched parts) K are_read are) given
+
+  pub table_cause : (limit weight : ℕ) (fault : TableFault) → fault ≡ Full weight → IsReadFault (counted q) (is_touched parts) d limit fault →
+      (limit < weight) × ((K : ℕ → Bool) → AreRead filter q d K → weight ≤ table_weight q d K)
+  table_cause limit weight fault full cause =
+      let told = subst (IsReadFault (counted q) (is_touched parts) d limit) full cause in
+      (told.0, for_each (λ K. weight ≤ table_weight q d K) told.1)
+
+  first_steps : (old found : ℕ) → found ≤ old + filter_steps filter p d → found ≤ old + filter_steps filter q d
+  first_steps old found le = subst (λ (r : QueryTree). found ≤ old + filter_steps filter r d) is le
+
+  -- where reading ends early
+  pub steps_read : (old found new : ℕ) (after : Option SpanRow) → found ≤ old + filter_steps filter p d → new ≤ found + build (counted q) d (is_touched parts) →
+      (K : ℕ → Bool) → AreRead filter q d K → new ≤ old + begin_steps filter q d K after
+  steps_read old found new after first next =
+      let start = first_steps old found first in for_each (λ K. new ≤ old + begin_steps filter q d K after) (omega (arith, start, next))
+
+  sought_most : (cells most : ℕ) (after : Option SpanRow) → cells ≤ most → cells_sought cells after ≤ cells_sought most after
+  sought_most cells most None le = omega arith
+  sought_most cells most (Some row) le = le
+
+  pub steps_sought : (old found built new cells : ℕ) (after : Option SpanRow) → found ≤ old + filter_steps filter p d → built ≤ found + build (counted q) d (is_touched parts) →
+      cells ≤ edges_K (counted q) d (is_touched parts) + 1 → new ≤ built + cells_sought cells after →
+      (K : ℕ → Bool) → AreRead filter q d K → new ≤ old + begin_steps filter q d K after
+  steps_sought old found built new cells after first next few last =
+      let start = first_steps old found first in
+      let most = sought_most cells (edges_K (counted q) d (is_touched parts) + 1) after few in
+      for_each (λ K. new ≤ old + begin_steps filter q d K after) (omega (arith, start, next, last, most))

@@ -1,0 +1,40 @@
+-- What a walk through the atoms of a query finds, why it ends early, and what it costs.
+use Rattle.std.specs.Prelude.{ℕ, ◌<◌, ◌≤◌, ◌⊎◌, ◌↔◌, Bool, List, IsTrue}
+use Rattle.span_core.specs.Intervals.{Covers}
+use Rattle.spanner_model.specs.Expression.{ExprTree, QueryTree}
+use Rattle.spanner_model.specs.Tree.{Tree}
+use Rattle.query_automaton.specs.Compiling.{IsAsked}
+use Rattle.filter_laws.specs.Touching.{IsTouchedBy, SomeAtom, SomeAtomOf, sum_atoms}
+use Rattle.segment_filter.specs.Costs.{atom_weight, touching_steps}
+use Rattle.segment_filter.specs.declared.fault.FilterFault.{FilterFault}
+use Rattle.segment_filter.specs.declared.fault.FilterFault.TheVariants.{Full, OutOfMemory}
+
+-- the expression stands in a sound query
+abbrev pub IsInSound : ExprTree → Type 0
+IsInSound e = (q : QueryTree) × (n : ℕ) × IsAsked q n e
+
+-- some atom of the expression touches the position
+abbrev pub IsTouchedIn : List ℕ → ExprTree → ℕ → Type 0
+IsTouchedIn d e i = SomeAtom (λ s t f. IsTouchedBy s t f d i) e
+
+-- the positions that the atoms of the expression touch are added
+abbrev pub AddsTouched : List ℕ → ExprTree → List (ℕ × ℕ) → List (ℕ × ℕ) → Type 0
+AddsTouched d e before after = (i : ℕ) → Covers after i ↔ (Covers before i ⊎ IsTouchedIn d e i)
+
+-- the limit is passed by this weight, and the atom weighs no less
+abbrev pub IsFullAtom : List ℕ → ℕ → ℕ → Bool → Bool → Tree → Type 0
+IsFullAtom d limit weight s t f = (limit < weight) × (weight ≤ atom_weight s t f d)
+
+-- some atom of the expression does; want of memory has no cause
+abbrev pub HasFullAtom : List ℕ → ℕ → ExprTree → FilterFault → Type 0
+HasFullAtom d limit e (Full weight) = SomeAtom (IsFullAtom d limit weight) e
+HasFullAtom d limit e OutOfMemory = Unit {0}
+
+-- some atom of the query's text does, which is read by the filter alone
+abbrev pub IsFilterFault : QueryTree → List ℕ → Bool → ℕ → FilterFault → Type 0
+IsFilterFault q d filter limit (Full weight) = IsTrue filter × SomeAtomOf (IsFullAtom d limit weight) q
+IsFilterFault q d filter limit OutOfMemory = Unit {0}
+
+-- to find what the atoms of the expression touch
+abbrev pub steps_in : List ℕ → ExprTree → ℕ
+steps_in d e = sum_atoms (λ s t f. touching_steps s t f d) e
