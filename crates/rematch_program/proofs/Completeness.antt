@@ -1,5 +1,5 @@
 -- A run whose way is clear ends with all that was asked for.
-use Rattle.std.proofs.Common.{ℕ, ◌≡◌, ◌<◌, ◌≤◌, ◌⊎◌, ◌∙◌, inl, inr, refl, sym, ap, subst, List, Bool, Option, Some, None, IfSome, true, false, length, codes, arith}
+use Rattle.std.proofs.Common.{ℕ, ◌≡◌, ◌<◌, ◌≤◌, ◌⊎◌, ◌∙◌, inl, inr, refl, sym, ap, subst, List, Bool, Option, Some, None, IfSome, IsTrue, true, false, length, codes, arith}
 use Rattle.std.proofs.lemmas.Option.{same_Some}
 use Rattle.rm_outside.specs.declared.status.Status.{Status}
 use Rattle.rm_outside.specs.declared.status.Status.TheVariants as status
@@ -16,16 +16,16 @@ use Rattle.row_cursor.specs.CursorTexts.{IsCursorText}
 use Rattle.row_cursor.proofs.Whole.{one_cursor}
 use Rattle.trial_maker.specs.Trial.{trial_text}
 use Rattle.rematch_program.specs.declared.TheConstants.{QUERY_LIMIT, DOCUMENT_LIMIT}
-use Rattle.rematch_program.specs.Change.{Change, Clock, Work, Adds, Failed, clock, work}
+use Rattle.rematch_program.specs.Change.{Change, Clock, Work, Adds, Failed, StandsStill, clock, work}
 use Rattle.rematch_program.specs.Explained.{explain_text}
-use Rattle.spanner_engine.specs.Begun.{table_weight}
+use Rattle.spanner_engine.specs.Begun.{AreRead, HasHeavyAtom, table_weight}
 use Rattle.rematch_program.specs.Limits.{PartsAreSmall}
 use Rattle.rematch_program.specs.Notes.{line}
 use Rattle.rematch_program.specs.Pages.{IsAfter, IsPageOf, cursor_fits, page_text, last_note}
-use Rattle.rematch_program.specs.Steps.{stated_steps}
+use Rattle.rematch_program.specs.Steps.{KeepsWithin, stated_steps}
 use Rattle.rematch_program.specs.Trials.{trial_summary}
 use Rattle.rematch_program.specs.Run.{Text, Store, FromPage, FromAnswers, FromDocument, FromPlace, FromCursor, FromCompiled, FromQuery, FromText, FromAsked, FromWords, IsExplained, IsNotBegun, IsTooLarge, Reports, Run, WantsAnswers}
-use Rattle.rematch_program.specs.Run.{whole, write_failed, out_of_memory, paged, summed, past_the_document, table_full, not_begun, by_states, by_ways, by_memory, answered, document_failed, document_too_long, found, no_cursor, other_variables, placed, page_asked, trial_asked}
+use Rattle.rematch_program.specs.Run.{whole, write_failed, out_of_memory, paged, summed, past_the_document, filter_full, table_full, not_begun, by_states, by_ways, by_memory, answered, document_failed, document_too_long, found, no_cursor, other_variables, placed, page_asked, trial_asked}
 use Rattle.rematch_program.specs.Run.{explained, told_names, too_large, compiled, query_refused, understood, given, query_failed, query_too_long, fetched, refused, accepted, cut}
 use Rattle.rematch_program.specs.Complete.{IsTextOf, IsClear, IsWithinLimits, HasDocument, IsWhole, IsWritten, IsSummed, Completes, PlainCompletes, TrialCompletes, ExplainCompletes}
 
@@ -73,11 +73,13 @@ never_too_large q small end note (by_ways count large is) = absurd (never_ways q
 never_too_large q small end note (by_memory is) = is.ends
 
 -- the answers are begun, unless memory is wanting
-never_unbegun : (q : QueryTree) (after : Option SpanRow) (document : Text) (most : ℕ) (steps : Clock) (end : Status) (note : Text) →
-    cursor_fits (length document) after ≡ true → table_weight q document ≤ most → IsNotBegun q after document most steps end note → end ≡ status.Memory
-never_unbegun q after document most steps end note fits light (past_the_document past is still) = let both : true ≡ false = sym fits ∙ past in absurd (cc)
-never_unbegun q after document most steps end note fits light (table_full inside heavy is few) = absurd (omega (arith, light, heavy))
-never_unbegun q after document most steps end note fits light (by_memory is few) = is.ends
+never_unbegun : (filter : Bool) (q : QueryTree) (after : Option SpanRow) (document : Text) (most : ℕ) (steps : Clock) (end : Status) (note : Text) →
+    cursor_fits (length document) after ≡ true → (IsTrue filter → ¬ HasHeavyAtom q document most) → (K : ℕ → Bool) → AreRead filter q document K → table_weight q document K ≤ most →
+    IsNotBegun filter q after document most steps end note → end ≡ status.Memory
+never_unbegun filter q after document most steps end note fits filtered K reads light (past_the_document past is still) = let both : true ≡ false = sym fits ∙ past in absurd (cc)
+never_unbegun filter q after document most steps end note fits filtered K reads light (filter_full inside wanted heavy is few) = absurd (filtered wanted heavy)
+never_unbegun filter q after document most steps end note fits filtered K reads light (table_full inside heavy is few) = let past = heavy K reads in absurd (omega (arith, light, past))
+never_unbegun filter q after document most steps end note fits filtered K reads light (by_memory is few) = is.ends
 
 same_lines : (j k : ℕ) → mode.Trial j ≡ mode.Trial k → j ≡ k
 same_lines j k is = cc
@@ -116,10 +118,10 @@ module _ (words : List Text) (a : Asked) (text : Text) (q : QueryTree) (names : 
       let P : Asked → Type 0 = λ b. FromAsked b s w end note in
       from_asked (subst P same case)
 
-from_page : (text last : Text) (steps : ℕ) (w : Work) (end : Status) (note : Text) → ¬ Failed w.out → FromPage text last steps w end note → AreWhole text last w end note ⊎ (end ≡ status.Memory)
-from_page text last steps w end note fine (whole is says adds few) = inl (record { done = is; wrote = adds; says = says })
-from_page text last steps w end note fine (write_failed is failed part few) = absurd (fine failed)
-from_page text last steps w end note fine (out_of_memory is part few) = inr is.ends
+from_page : (text last : Text) (Keeps : Clock → Type 0) (w : Work) (end : Status) (note : Text) → ¬ Failed w.out → FromPage text last Keeps w end note → AreWhole text last w end note ⊎ (end ≡ status.Memory)
+from_page text last Keeps w end note fine (whole is says adds few) = inl (record { done = is; wrote = adds; says = says })
+from_page text last Keeps w end note fine (write_failed is failed part few) = absurd (fine failed)
+from_page text last Keeps w end note fine (out_of_memory is part few) = inr is.ends
 
 -- the plain command
 pub record IsServed (a : Asked) (q : QueryTree) (names : List VarName) (after : Option SpanRow) (document : Text) (w : Work) (end : Status) (note : Text) : Type 0 where
@@ -138,7 +140,7 @@ module _ (words : List Text) (a : Asked) (text : Text) (q : QueryTree) (names : 
 
   module _ (after : Option SpanRow) (document : Text) (limits : IsWithinLimits a q document) (fits : cursor_fits (length document) after ≡ true) (Goal : Type 0) (memory : end ≡ status.Memory → Goal) (from_answers : FromAnswers a q names after document w end note → Goal) where
     from_document : FromDocument a q names after document w end note → Goal
-    from_document (not_begun why quiet) = memory (never_unbegun q after document a.max_table w.steps end note fits limits.light why)
+    from_document (not_begun why quiet) = memory (let (K, reads, light) = limits.light in never_unbegun a.filter q after document a.max_table w.steps end note fits limits.filtered K reads light why)
     from_document (out_of_memory is quiet) = memory is.ends
     from_document (answered inside case) = from_answers case
 
@@ -192,7 +194,8 @@ module _ (words : List Text) (a : Asked) (text : Text) (q : QueryTree) (names : 
     summary_of (paged is rows more page case) = let both : mode.Plain ≡ mode.Trial lines = sym is ∙ trial in absurd (cc)
     summary_of (summed own is rows answers case) =
         let same : own ≡ lines = same_lines own lines (sym is ∙ trial) in
-        let P : ℕ → Type 0 = λ k. FromPage (trial_summary k names (trial_text lines) rows) (line (codes "end")) (stated_steps q names (trial_text lines) None (length rows)) w end note in
+        let P : ℕ → Type 0 = λ k. FromPage (trial_summary k names (trial_text lines) rows) (line (codes "end"))
+        (KeepsWithin a.filter q (trial_text lines) (λ K. stated_steps a.filter q names (trial_text lines) K None (length rows))) w end note in
         elim (from_page _ _ _ w end note clear.written (subst P same case)) [
           | inl are ↦ inl (rows, answers, are)
           | inr memory ↦ inr memory
@@ -218,7 +221,7 @@ module _ (words : List Text) (a : Asked) (text : Text) (q : QueryTree) (names : 
 
     told_of : IsExplained q w.out end note → Told
     told_of (told_names own are page) =
-        let P : List VarName → Type 0 = λ ns. FromPage (explain_text q ns) (line (codes "end")) 0 (work w.out (clock 0 0)) end note in
+        let P : List VarName → Type 0 = λ ns. FromPage (explain_text q ns) (line (codes "end")) StandsStill (work w.out (clock 0 0)) end note in
         elim (from_page _ _ _ (work w.out (clock 0 0)) end note clear.written (subst P (names_one q own names are clear.named) page)) [
           | inl all ↦ inl (record { done = all.done; wrote = all.wrote; says = all.says })
           | inr memory ↦ inr memory

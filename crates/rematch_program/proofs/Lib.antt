@@ -12,3 +12,4 @@ pub mod PageSteps
 pub mod Fits
 pub mod AtomLines
 pub mod SummaryLaws
+pub mod HeavyAtoms

@@ -4,13 +4,14 @@ use Rattle.std.proofs.Common.{subst, ◌≡◌, ℕ, zero, suc, ◌+◌, ◌-◌
 use Rattle.std.specs.List.{flat_map}
 use Rattle.std.proofs.lemmas.List.Concat.{flat_map-cons}
 use Rattle.spanner_model.specs.Captures.{VarName}
+use Rattle.spanner_model.specs.Expression.{QueryTree}
 use Rattle.span_core.specs.Lists.{Has}
 use Rattle.spanner_model.specs.Answers.{SpanRow}
 use Rattle.rm_outside.specs.declared.status.Status.{Status}
-use Rattle.rematch_program.specs.Change.{Change, clock, work}
+use Rattle.rematch_program.specs.Change.{Change, TakesAtMost, clock, work}
 use Rattle.rematch_program.specs.Run.{FromPage, whole, write_failed, out_of_memory}
 use Rattle.rematch_program.specs.Pages.{AllFit, FitsPage, fewer, first_rows}
-use Rattle.rematch_program.specs.Steps.{next_steps}
+use Rattle.rematch_program.specs.Steps.{KeepsWithin, next_steps}
 
 pub first_next : (limit : Option ℕ) (row : SpanRow) (rest : List SpanRow) → ¬ (limit ≡ Some 0) → first_rows limit (row ∷ rest) ≡ row ∷ first_rows (fewer limit) rest
 first_next None row rest some = refl
@@ -71,7 +72,12 @@ pub le_self : (n : ℕ) → n ≤ n
 le_self n = omega arith
 
 -- counted from an earlier moment on
-pub page_earlier : (text last : List ℕ) (k b old mid new : ℕ) (out : Change) (end : Status) (note : List ℕ) → mid ≤ old + b → FromPage text last k (work out (clock mid new)) end note → FromPage text last (b + k) (work out (clock old new)) end note
-page_earlier text last k b old mid new out end note few (whole is says adds took) = whole is says adds (omega (arith, few, took))
-page_earlier text last k b old mid new out end note few (write_failed is failed part took) = write_failed is failed part (omega (arith, few, took))
-page_earlier text last k b old mid new out end note few (out_of_memory is part took) = out_of_memory is part (omega (arith, few, took))
+module _ (filter : Bool) (q : QueryTree) (d : List ℕ) (b : (ℕ → Bool) → ℕ) (k old mid new : ℕ) (few : KeepsWithin filter q d b (clock old mid)) where
+  both_within : new ≤ mid + k → KeepsWithin filter q d (λ K. b K + k) (clock old new)
+  both_within took K reads = let first = few K reads in omega (arith, first, took)
+
+  pub page_earlier : (text last : List ℕ) (out : Change) (end : Status) (note : List ℕ) → FromPage text last (λ c. TakesAtMost c k) (work out (clock mid new)) end note →
+      FromPage text last (KeepsWithin filter q d (λ K. b K + k)) (work out (clock old new)) end note
+  page_earlier text last out end note (whole is says adds took) = whole is says adds (both_within took)
+  page_earlier text last out end note (write_failed is failed part took) = write_failed is failed part (both_within took)
+  page_earlier text last out end note (out_of_memory is part took) = out_of_memory is part (both_within took)

@@ -18,7 +18,7 @@ use Rattle.rematch_program.specs.Examples.{NoteExamples, SizeExamples}
 
 pub note_examples : NoteExamples
 unfolding digits
-note_examples = refl
+note_examples = (refl, refl)
 
 -- a small atom without variables, by its counts
 small_counts : (f : Tree) → with_vars [] f ≡ [] → ((x : VarName) → ¬ HasVar f x) → IsFunctional f → HasOrderedRepeats f → AtomsAreSmall (query (free f)) →

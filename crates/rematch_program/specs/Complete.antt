@@ -1,5 +1,5 @@
 -- Where nothing stands in the way, what is asked for is written whole, or memory was wanting.
-use Rattle.std.specs.Prelude.{◌≡◌, ◌≤◌, ◌⊎◌, ℕ, List, Option, Some, None, Bool, true, length, codes}
+use Rattle.std.specs.Prelude.{◌≡◌, ◌≤◌, ◌⊎◌, ℕ, List, Option, Some, None, Bool, true, IsTrue, length, codes}
 use Rattle.rm_outside.specs.declared.status.Status.{Status}
 use Rattle.rm_outside.specs.declared.status.Status.TheVariants as status
 use Rattle.command_line.specs.Asked.{Asked, Query, Itself, HeldBy, asked}
@@ -12,7 +12,7 @@ use Rattle.trial_maker.specs.Trial.{trial_text}
 use Rattle.rematch_program.specs.declared.TheConstants.{QUERY_LIMIT, DOCUMENT_LIMIT}
 use Rattle.rematch_program.specs.Change.{Change, Clock, Adds, Failed}
 use Rattle.rematch_program.specs.Explained.{explain_text}
-use Rattle.spanner_engine.specs.Begun.{table_weight}
+use Rattle.spanner_engine.specs.Begun.{AreRead, HasHeavyAtom, table_weight}
 use Rattle.rematch_program.specs.Limits.{PartsAreSmall}
 use Rattle.rematch_program.specs.Notes.{line}
 use Rattle.rematch_program.specs.Pages.{IsAfter, cursor_fits, IsPageOf, page_text, last_note}
@@ -33,10 +33,11 @@ pub record IsClear (words : List Text) (a : Asked) (text : Text) (q : QueryTree)
   pub written : ¬ Failed out
   pub noted : ¬ Failed notes
 
--- no limit of sizes is passed
+-- no limit of sizes is passed: by no automaton, with the filter by no atom's two readings, and by no table at the positions that are read
 pub record IsWithinLimits (a : Asked) (q : QueryTree) (document : Text) : Type 0 where
   pub small : PartsAreSmall q
-  pub light : table_weight q document ≤ a.max_table
+  pub filtered : IsTrue a.filter → ¬ HasHeavyAtom q document a.max_table
+  pub light : (K : ℕ → Bool) × AreRead a.filter q document K × (table_weight q document K ≤ a.max_table)
 
 -- a document that the shelf tells, within the limit, with no fault counted, and a cursor that fits
 pub record HasDocument (a : Asked) (names : List VarName) (after : Option SpanRow) (document : Text) (s : Store) : Type 0 where

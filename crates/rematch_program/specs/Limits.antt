@@ -25,5 +25,8 @@ states_note = codes "size: more than 20000 states"
 abbrev pub ways_note : List ℕ
 ways_note = codes "size: more than 2000000 ways"
 
+abbrev pub filter_note : ℕ → List ℕ
+filter_note limit = codes "size: filter past " ++ decimal limit
+
 abbrev pub table_note : ℕ → List ℕ
 table_note limit = codes "size: table past " ++ decimal limit

@@ -1,7 +1,7 @@
 -- What a run does: the relation between the words, what the shelf holds, the faults that rose, the
 -- bytes added to out and notes, the steps taken, and the status. The first case that applies is taken. Want of memory
 -- may stand in place of any.
-use Rattle.std.specs.Prelude.{◌≡◌, ◌≢◌, ◌<◌, ◌≤◌, ℕ, List, Bool, true, false, Option, Some, None, IfSome, length, codes}
+use Rattle.std.specs.Prelude.{◌≡◌, ◌≢◌, ◌<◌, ◌≤◌, ℕ, List, Bool, true, false, Option, Some, None, IfSome, IsTrue, length, codes}
 use Rattle.rm_outside.specs.Faults.{Rose}
 use Rattle.rm_outside.specs.declared.status.Status.{Status}
 use Rattle.rm_outside.specs.declared.status.Status.TheVariants as status
@@ -18,11 +18,11 @@ use Rattle.rematch_program.specs.declared.TheConstants.{QUERY_LIMIT, DOCUMENT_LI
 use Rattle.marked_automaton.specs.declared.fault.SizeFault.TheVariants.{States, Ways}
 use Rattle.query_automaton.specs.Parts.{AtomsAreSmall, HasLargePart}
 use Rattle.trial_maker.specs.Trial.{trial_text}
-use Rattle.rematch_program.specs.Change.{Change, Clock, Work, clock, work, IsQuiet, Adds, AddsPart, Failed, StandsStill, TakesAtMost, DidNothing}
+use Rattle.rematch_program.specs.Change.{Change, Clock, Work, clock, work, IsQuiet, Adds, AddsPart, Failed, StandsStill, DidNothing}
 use Rattle.rematch_program.specs.Explained.{explain_text}
-use Rattle.spanner_engine.specs.Begun.{begin_steps, table_weight}
-use Rattle.rematch_program.specs.Limits.{states_note, ways_note, table_note}
-use Rattle.rematch_program.specs.Steps.{stated_steps}
+use Rattle.spanner_engine.specs.Begun.{AreRead, HasHeavyAtom, begin_steps, table_weight}
+use Rattle.rematch_program.specs.Limits.{states_note, ways_note, filter_note, table_note}
+use Rattle.rematch_program.specs.Steps.{KeepsWithin, stated_steps}
 use Rattle.rematch_program.specs.Trials.{trial_summary}
 use Rattle.rematch_program.specs.Notes.{line, fault_note}
 use Rattle.rematch_program.specs.Pages.{IsAfter, cursor_fits, IsPageOf, page_text, last_note}
@@ -70,33 +70,39 @@ pub record Is (end : Status) (note : Text) (wanted : Status) (text : Text) : Typ
 abbrev pub IsOutOfMemory : Status → Text → Type 0
 IsOutOfMemory end note = Is end note status.Memory (codes "out of memory")
 
--- with the text, the note at its end, and the steps that writing it takes
-pub data FromPage (text last : Text) (steps : ℕ) (w : Work) (end : Status) (note : Text) : Type 0 where
-  whole : end ≡ status.Done → note ≡ last → Adds w.out text → TakesAtMost w.steps steps → FromPage text last steps w end note
-  write_failed : Is end note status.Write (codes "write failed") → Failed w.out → AddsPart w.out text → TakesAtMost w.steps steps →
-      FromPage text last steps w end note
-  out_of_memory : IsOutOfMemory end note → AddsPart w.out text → TakesAtMost w.steps steps → FromPage text last steps w end note
+-- with the text, the note at its end, and what the counter of steps keeps to while it is written
+pub data FromPage (text last : Text) (Keeps : Clock → Type 0) (w : Work) (end : Status) (note : Text) : Type 0 where
+  whole : end ≡ status.Done → note ≡ last → Adds w.out text → Keeps w.steps → FromPage text last Keeps w end note
+  write_failed : Is end note status.Write (codes "write failed") → Failed w.out → AddsPart w.out text → Keeps w.steps → FromPage text last Keeps w end note
+  out_of_memory : IsOutOfMemory end note → AddsPart w.out text → Keeps w.steps → FromPage text last Keeps w end note
 
 -- with all that is needed: a page of the answers, or the summary of them all
 pub data FromAnswers (a : Asked) (q : QueryTree) (names : List VarName) (after : Option SpanRow) (document : Text) (w : Work) (end : Status) (note : Text) : Type 0 where
   paged : a.mode ≡ mode.Plain → (rows : List SpanRow) (more : Bool) → IsPageOf q document names after a.limit rows more →
-      FromPage (page_text a.form a.texts names document rows) (last_note names a.after rows more) (stated_steps q names document after (length rows)) w end note →
+      FromPage (page_text a.form a.texts names document rows) (last_note names a.after rows more)
+      (KeepsWithin a.filter q document (λ K. stated_steps a.filter q names document K after (length rows))) w end note →
       FromAnswers a q names after document w end note
   summed : (lines : ℕ) → a.mode ≡ mode.Trial lines → (rows : List SpanRow) → AreAnswers q document names rows →
-      FromPage (trial_summary lines names document rows) (line (codes "end")) (stated_steps q names document None (length rows)) w end note →
+      FromPage (trial_summary lines names document rows) (line (codes "end"))
+      (KeepsWithin a.filter q document (λ K. stated_steps a.filter q names document K None (length rows))) w end note →
       FromAnswers a q names after document w end note
 
--- no answer is begun with the document: a span of the cursor ends past it, its reading weighs too much, or memory is wanting
-pub data IsNotBegun (q : QueryTree) (after : Option SpanRow) (document : Text) (max_table : ℕ) (steps : Clock) (end : Status) (note : Text) : Type 0 where
+-- no answer is begun with the document: a span of the cursor ends past it; with the filter, what the two readings of some atom meet
+-- weighs too much; reading it where it is read does; or memory is wanting
+pub data IsNotBegun (filter : Bool) (q : QueryTree) (after : Option SpanRow) (document : Text) (max_table : ℕ) (steps : Clock) (end : Status) (note : Text) : Type 0 where
   past_the_document : cursor_fits (length document) after ≡ false → Is end note status.Cursor (codes "cursor: past the document") → StandsStill steps →
-      IsNotBegun q after document max_table steps end note
-  table_full : cursor_fits (length document) after ≡ true → max_table < table_weight q document → Is end note status.Size (table_note max_table) →
-      TakesAtMost steps (begin_steps q document after) → IsNotBegun q after document max_table steps end note
-  by_memory : IsOutOfMemory end note → TakesAtMost steps (begin_steps q document after) → IsNotBegun q after document max_table steps end note
+      IsNotBegun filter q after document max_table steps end note
+  filter_full : cursor_fits (length document) after ≡ true → IsTrue filter → HasHeavyAtom q document max_table → Is end note status.Size (filter_note max_table) →
+      KeepsWithin filter q document (λ K. begin_steps filter q document K after) steps → IsNotBegun filter q after document max_table steps end note
+  table_full : cursor_fits (length document) after ≡ true → ((K : ℕ → Bool) → AreRead filter q document K → max_table < table_weight q document K) →
+      Is end note status.Size (table_note max_table) →
+      KeepsWithin filter q document (λ K. begin_steps filter q document K after) steps → IsNotBegun filter q after document max_table steps end note
+  by_memory : IsOutOfMemory end note → KeepsWithin filter q document (λ K. begin_steps filter q document K after) steps →
+      IsNotBegun filter q after document max_table steps end note
 
 -- with the document
 pub data FromDocument (a : Asked) (q : QueryTree) (names : List VarName) (after : Option SpanRow) (document : Text) (w : Work) (end : Status) (note : Text) : Type 0 where
-  not_begun : IsNotBegun q after document a.max_table w.steps end note → IsQuiet w.out → FromDocument a q names after document w end note
+  not_begun : IsNotBegun a.filter q after document a.max_table w.steps end note → IsQuiet w.out → FromDocument a q names after document w end note
   out_of_memory : IsOutOfMemory end note → DidNothing w → FromDocument a q names after document w end note
   answered : cursor_fits (length document) after ≡ true → FromAnswers a q names after document w end note → FromDocument a q names after document w end note
 
@@ -132,7 +138,7 @@ WantsAnswers (mode.Trial lines) = Unit {0}
 
 -- what the query is was told, or memory is wanting
 pub data IsExplained (q : QueryTree) (out : Change) (end : Status) (note : Text) : Type 0 where
-  told_names : (names : List VarName) → AreResultNames q names → FromPage (explain_text q names) (line (codes "end")) 0 (work out (clock 0 0)) end note →
+  told_names : (names : List VarName) → AreResultNames q names → FromPage (explain_text q names) (line (codes "end")) StandsStill (work out (clock 0 0)) end note →
       IsExplained q out end note
   by_memory : IsOutOfMemory end note → IsQuiet out → IsExplained q out end note
 

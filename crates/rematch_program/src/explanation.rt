@@ -5,7 +5,7 @@ ghost use Rattle.spanner_model.specs.ExprView.{expr_of, exprs_of, query_of};
 ghost use Rattle.spanner_model.specs.View.{tree_of};
 ghost use Rattle.spanner_model.specs.Sound.{IsSound};
 ghost use Rattle.spanner_model.specs.Answers.{AreResultNames};
-ghost use Rattle.rematch_program.specs.Change.{change, work, clock};
+ghost use Rattle.rematch_program.specs.Change.{change, work, clock, StandsStill};
 ghost use Rattle.rematch_program.specs.Ending.{note_bytes};
 ghost use Rattle.rematch_program.specs.Explained.{HasLines, atom_at, atoms_among, atoms_in, atoms_of, explain_text, names_text};
 ghost use Rattle.rematch_program.specs.Notes.{line};
@@ -34,7 +34,7 @@ pub fn write_explanation<O: Sink>(alloc: Global, query: &Query, out: &mut O) -> 
 
 /// Puts a text whole.
 fn put_text<O: Sink>(text: &[u8], out: &mut O) -> Ending
-    ensures case { FromPage text.now (line (codes "end")) 0
+    ensures case { FromPage text.now (line (codes "end")) StandsStill
         (work (change (O.written out.old) (O.written out.new) (O.faults out.old) (O.faults out.new)) (clock 0 0))
         result.status (note_bytes result.note) }
 {

@@ -1,8 +1,7 @@
-//! The notes of a query's faults.
+//! The notes of a query's faults, and of a limit that is passed.
 ghost use Rattle.std.specs.Prelude.{◌≡◌, ◌++◌, codes, IfOk};
 ghost use Rattle.rematch_program.specs.Notes.{line, at_place, about, formula_note as formula_text, check_note as check_text, fault_note as fault_text};
 ghost use Rattle.rematch_program.specs.Ending.{note_bytes};
-ghost use Rattle.rematch_program.specs.Limits.{table_note as table_text};
 
 use crate::ending::Note;
 use formula_parser::FormulaFault;
@@ -100,10 +99,10 @@ fn note_about(alloc: Global, before: &str, name: &Name, after: &str) -> Result<N
     Ok(Note::Made(bytes))
 }
 
-/// The line of a table that passes its limit.
-pub fn table_note(alloc: Global, limit: u64) -> Result<Note, OutOfMemory>
-    ensures { IfOk result (λ note. note_bytes note ≡ line (table_text limit)) }
+/// A line with a limit at its end.
+pub fn limit_note(alloc: Global, what: &str, limit: u64) -> Result<Note, OutOfMemory>
+    ensures { IfOk result (λ note. note_bytes note ≡ line (at_place what.now limit)) }
 {
-    let text = format!(in alloc; "size: table past {limit}\n")?;
+    let text = format!(in alloc; "{what}{limit}\n")?;
     Ok(Note::Made(text.into_bytes()))
 }

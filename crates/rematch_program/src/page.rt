@@ -4,7 +4,7 @@ ghost use Rattle.std.specs.List.{flat_map};
 ghost use Rattle.command_line.specs.Asked.{request_view};
 ghost use Rattle.command_line.specs.Given.{text_behind};
 ghost use Rattle.rematch_program.specs.Ending.{note_bytes};
-ghost use Rattle.rematch_program.specs.Change.{change, clock, work, Adds, AddsPart, Failed, Passes, SoFar};
+ghost use Rattle.rematch_program.specs.Change.{change, clock, work, Adds, AddsPart, Failed, Passes, SoFar, TakesAtMost};
 ghost use Rattle.rematch_program.specs.Pages.{AllFit, FitsPage, HasWidth, cursor_given, fewer, first_rows, last_note, next_cursor, page_text, row_text};
 ghost use Rattle.rematch_program.specs.Run.{FromPage};
 ghost use Rattle.rematch_program.specs.Steps.{next_steps};
@@ -58,7 +58,7 @@ pub fn write_page<O: Sink, L: Ledger>(
     requires fit { AllFit (length vars.now) (length document.now) answers.old.rest }
     ensures case { FromPage (page_text (request_view request.now).form (request_view request.now).texts vars.now document.now (first_rows (request_view request.now).limit answers.old.rest))
         (last_note vars.now (request_view request.now).after (first_rows (request_view request.now).limit answers.old.rest) (nat_lt (length (first_rows (request_view request.now).limit answers.old.rest)) (length answers.old.rest)))
-        ((length (first_rows (request_view request.now).limit answers.old.rest) + 1) * next_steps answers.old.variables)
+        (λ spent. TakesAtMost spent ((length (first_rows (request_view request.now).limit answers.old.rest) + 1) * next_steps answers.old.variables))
         (work (change (O.written out.old) (O.written out.new) (O.faults out.old) (O.faults out.new)) (clock steps.old steps.new))
         result.status (note_bytes result.note) }
 {

@@ -1,7 +1,7 @@
 //! A summary of all answers: how many there are, the first and the last.
 ghost use Rattle.std.specs.Prelude.{◌≡◌, ℕ, ◌≤◌, ◌+◌, ◌*◌, ◌++◌, ◌^◌, ◌-◌, [], codes, length, min, slice_get, None, IfOk, IfSome, OnOk};
 ghost use Rattle.spanner_model.specs.Answers.{page_end};
-ghost use Rattle.rematch_program.specs.Change.{change, work, clock};
+ghost use Rattle.rematch_program.specs.Change.{change, work, clock, TakesAtMost};
 ghost use Rattle.rematch_program.specs.Ending.{note_bytes};
 ghost use Rattle.rematch_program.specs.Notes.{line};
 ghost use Rattle.rematch_program.specs.Pages.{AllFit, FitsPage};
@@ -31,7 +31,7 @@ pub fn write_summary<O: Sink, L: Ledger>(
 ) -> Ending
     requires fit { AllFit (length vars.now) (length document.now) answers.old.rest }
     ensures case { FromPage (trial_summary lines vars.now document.now answers.old.rest) (line (codes "end"))
-        ((length answers.old.rest + 1) * next_steps answers.old.variables)
+        (λ spent. TakesAtMost spent ((length answers.old.rest + 1) * next_steps answers.old.variables))
         (work (change (O.written out.old) (O.written out.new) (O.faults out.old) (O.faults out.new)) (clock steps.old steps.new))
         result.status (note_bytes result.note) }
 {

@@ -13,7 +13,7 @@ use std::test::Fail;
 const QUERY: &[u8] = b"let w = /!x{[a-z]+}/; project x (w join /!x{..}!y{\\d}/)";
 
 /// Words with `~` between, the document that the shelf holds under the name D, and what comes.
-const ROWS: [(&str, &[u8], Status, &[u8], &[u8]); 46] = [
+const ROWS: [(&str, &[u8], Status, &[u8], &[u8]); 54] = [
     // Spans line by line, in block order; the empty ones too, and each once.
     (
         "-e~/!x{a*}/~D",
@@ -215,9 +215,60 @@ const ROWS: [(&str, &[u8], Status, &[u8], &[u8]); 46] = [
         b"",
         b"size: more than 2000000 ways\n",
     ),
+    // Only where some atom touches the document; the rows are the same.
+    (
+        "-e~/!x{a*}/~--filter~D",
+        b"bbb",
+        Status::Done,
+        b"x=0-0\nx=1-1\nx=2-2\nx=3-3\n",
+        b"end\n",
+    ),
+    (
+        "-e~/!x{aab}/~--filter~D",
+        b"xxxxaabxxxx",
+        Status::Done,
+        b"x=4-7\n",
+        b"end\n",
+    ),
+    (
+        "-e~/!x{a}/ union /!x{b}/~--filter~D",
+        b"ab",
+        Status::Done,
+        b"x=0-1\nx=1-2\n",
+        b"end\n",
+    ),
+    (
+        "-q~Q~--filter~-n~1~-a~c1;x:0-1~D",
+        b"ab1 cd2",
+        Status::Done,
+        b"x=0-2\n",
+        b"more c1;x:0-2\n",
+    ),
+    // A filter past its limit, which is tried after the cursor's place.
+    (
+        "-e~/!x{a}/~--filter~--max-table~1~D",
+        b"a",
+        Status::Size,
+        b"",
+        b"size: filter past 1\n",
+    ),
+    (
+        "-e~/!x{a}/~--filter~--max-table~1~-a~c1;x:0-9~D",
+        b"a",
+        Status::Cursor,
+        b"",
+        b"cursor: past the document\n",
+    ),
     // What a query is, whatever its size.
     (
         "-e~/!x{a*}/~--explain",
+        b"",
+        Status::Done,
+        b"query /!x{a*}/\nvariables x\natom 1 states 3 ways 6\n",
+        b"end\n",
+    ),
+    (
+        "-e~/!x{a*}/~--explain~--filter",
         b"",
         Status::Done,
         b"query /!x{a*}/\nvariables x\natom 1 states 3 ways 6\n",
@@ -240,6 +291,13 @@ const ROWS: [(&str, &[u8], Status, &[u8], &[u8]); 46] = [
     ),
     (
         "-e~/!user{\\w+} logged in from !ip{\\d+\\.\\d+\\.\\d+\\.\\d+}/~--trial~300",
+        b"",
+        Status::Done,
+        b"lines 300\nbytes 4736\nrows 287\nfirst ip=18-26 user=0-2\nlast ip=4707-4717 user=4690-4691\n",
+        b"end\n",
+    ),
+    (
+        "-e~/!user{\\w+} logged in from !ip{\\d+\\.\\d+\\.\\d+\\.\\d+}/~--trial~300~--filter",
         b"",
         Status::Done,
         b"lines 300\nbytes 4736\nrows 287\nfirst ip=18-26 user=0-2\nlast ip=4707-4717 user=4690-4691\n",

@@ -1,5 +1,5 @@
 //! A run, from the words to the status.
-ghost use Rattle.std.specs.Prelude.{◌≡◌, ◌+◌, ◌≤◌, ◌^◌, ℕ, List, None, map, string_bytes, length, true, IfErr, IfOk, IfSome, IsErrOf, OnOk};
+ghost use Rattle.std.specs.Prelude.{◌≡◌, ◌+◌, ◌≤◌, ◌⊎◌, ℕ, List, None, map, string_bytes, length, true, IfErr, IfOk, IfSome, IsErrOf, OnOk};
 ghost use Rattle.std.specs.Bool.{OnFalse};
 ghost use Rattle.std.specs.Option.{option_copied};
 ghost use Rattle.rm_outside.specs.Faults.{Rose};
@@ -16,13 +16,15 @@ ghost use Rattle.command_line.specs.declared.TheConstants.{MOST_TRIAL_LINES};
 ghost use Rattle.rematch_program.specs.Ending.{note_bytes};
 ghost use Rattle.rematch_program.specs.declared.TheConstants.{DOCUMENT_LIMIT};
 ghost use Rattle.rematch_program.specs.Change.{change, clock, work};
+ghost use Rattle.rematch_program.specs.Notes.{at_place};
+ghost use Rattle.rematch_program.specs.Steps.{KeepsWithin};
 ghost use Rattle.rematch_program.specs.Pages.{HasWidth, IsAfter, cursor_fits};
 ghost use Rattle.rematch_program.specs.Complete.{Completes};
-ghost use Rattle.rematch_program.specs.Run.{FromAsked, FromCursor, FromDocument, FromPlace, FromQuery, FromText, FromWords, Gives, IsNotBegun, IsTooLarge, Reports, Run, store};
+ghost use Rattle.rematch_program.specs.Run.{FromAsked, FromCursor, FromDocument, FromPlace, FromQuery, FromText, FromWords, Gives, Is, IsNotBegun, IsOutOfMemory, IsTooLarge, Reports, Run, store};
 
 use crate::ending::Ending;
 use crate::explanation::write_explanation;
-use crate::notes::{fault_note, table_note};
+use crate::notes::{fault_note, limit_note};
 use crate::page::write_page;
 use crate::summary::write_summary;
 use crate::{DOCUMENT_LIMIT, QUERY_LIMIT};
@@ -41,13 +43,13 @@ use trial_maker::trial;
 /// Runs the program on the words after its name.
 ///
 /// The first of these steps that cannot be taken decides the status: the words, the fetch of the
-/// query, its text, the cursor's text, the fetch of the document, the cursor's place, the page. Want of
-/// memory may stand in place of any of them. Until the page is begun out gets nothing. The work done,
+/// query, its text, the sizes of its automata, the cursor's text, the fetch of the document, the cursor's
+/// place, the filter, the table, the page. Want of memory may stand in place of any of them. Until the page is begun out gets nothing. The work done,
 /// notes gets one line. The page is put on out in whole lines, as many at once as fit 65,536 bytes; a
 /// line that is longer is put alone, and no put is empty.
 ///
-/// The counter stands still until the document is read. The building, the place of the cursor and the rows
-/// then take at most the steps that are stated.
+/// The counter stands still until the document is read. The filter, the building, the place of the cursor
+/// and the rows then take at most the steps that are stated.
 pub fn run<S: Shelf, O: Sink, N: Sink, L: Ledger>(
     alloc: Global,
     words: &[String],
@@ -360,11 +362,12 @@ fn begun<L: Ledger>(
     ensures fits { OnOk result (cursor_fits (length document.now) (option_copied after.entry) ≡ true) }
     ensures left { IfOk result (λ a. AreLeft (query_of compiled.now.query) document.now compiled.now.automaton.names (option_copied after.entry) a.rest) }
     ensures variables { IfOk result (λ a. a.variables ≡ length compiled.now.automaton.names) }
-    ensures ending { IfErr result (λ e. IsNotBegun (query_of compiled.now.query) (option_copied after.entry) document.now (request_view request.now).max_table (clock steps.old steps.new) e.status (note_bytes e.note)) }
-    ensures steps { steps.new ≤ steps.old + begin_steps (query_of compiled.now.query) document.now (option_copied after.entry) }
+    ensures ending { IfErr result (λ e. IsNotBegun (request_view request.now).filter (query_of compiled.now.query) (option_copied after.entry) document.now (request_view request.now).max_table (clock steps.old steps.new) e.status (note_bytes e.note)) }
+    ensures steps { KeepsWithin (request_view request.now).filter (query_of compiled.now.query) document.now
+        (λ K. begin_steps (request_view request.now).filter (query_of compiled.now.query) document.now K (option_copied after.entry)) (clock steps.old steps.new) }
 {
     let options = Options {
-        filter: false,
+        filter: request.filter,
         limit: request.max_table,
     };
     match begin(alloc, compiled, document, after, options, steps) {
@@ -373,15 +376,26 @@ fn begun<L: Ledger>(
             Status::Cursor,
             "cursor: past the document\n",
         )),
-        Err(BeginFault::Table { weight: _ }) => match table_note(alloc, request.max_table) {
-            Ok(note) => Err(Ending {
-                status: Status::Size,
-                note,
-            }),
-            Err(OutOfMemory) => Err(Ending::out_of_memory()),
-        },
-        Err(BeginFault::Filter { weight: _ }) => Err(Ending::out_of_memory()),
+        Err(BeginFault::Filter { weight: _ }) => {
+            Err(past_limit(alloc, "size: filter past ", request.max_table))
+        }
+        Err(BeginFault::Table { weight: _ }) => {
+            Err(past_limit(alloc, "size: table past ", request.max_table))
+        }
         Err(BeginFault::OutOfMemory) => Err(Ending::out_of_memory()),
+    }
+}
+
+/// Something weighs more than the limit, which the note tells.
+fn past_limit(alloc: Global, what: &str, limit: u64) -> Ending
+    ensures { Is result.status (note_bytes result.note) Status.Size (at_place what.now limit) ⊎ IsOutOfMemory result.status (note_bytes result.note) }
+{
+    match limit_note(alloc, what, limit) {
+        Ok(note) => Ending {
+            status: Status::Size,
+            note,
+        },
+        Err(OutOfMemory) => Ending::out_of_memory(),
     }
 }
 

@@ -1,10 +1,11 @@
-use Rattle.std.proofs.Common.{rules, ◌≡◌, ◌<◌, arith, ap, subst, length, refl, Err}
+use Rattle.std.proofs.Common.{rules, inl, inr, arith, ap, subst, length, Err}
 use Rattle.std.specs.Option.{option_copied}
 use Rattle.spanner_model.specs.ExprView.{query_of}
-use Rattle.spanner_engine.specs.Begun.{IsBeginFault, IsPast, table_weight}
+use Rattle.spanner_engine.specs.Begun.{IsBeginFault}
 use Rattle.spanner_engine.specs.declared.beginning.BeginFault.{BeginFault}
-use Rattle.rematch_program.specs.Run.{past_the_document, table_full}
+use Rattle.rematch_program.specs.Run.{past_the_document, filter_full, table_full, by_memory}
 use Rattle.rematch_program.proofs.Fits.{fits_unless_past, past_is_told, wide_enough}
+use Rattle.rematch_program.proofs.HeavyAtoms.{heavy_atom}
 use Rattle.rematch_program.proofs.top.begun.Goals as goal
 
 pub begin-requires-clause-row : goal.begin-requires-clause-row
@@ -15,14 +16,33 @@ returns-in-Ok-clause-fits g c = fits_unless_past (length c.args.document.now) (o
 
 pub returns-in-Err-CursorPlace-clause-ending : goal.returns-in-Err-CursorPlace-clause-ending
 returns-in-Err-CursorPlace-clause-ending g c =
-    let P : BeginFault → Type 0 = λ fault. IsBeginFault (query_of c.args.compiled.now.query) c.args.document.now (option_copied c.args.after) c.args.request.now.max_table fault in
+    let r = c.args.request.now in
+    let P : BeginFault → Type 0 = λ fault. IsBeginFault (query_of c.args.compiled.now.query) c.args.document.now r.filter (option_copied c.args.after) r.max_table fault in
     past_the_document (past_is_told (length c.args.document.now) (option_copied c.args.after) (subst P c.in-Err-CursorPlace.field-0-is c.in-Err-CursorPlace.ensures.fault))
     (record { ends = c.with.ensures.status; says = search rules }) (c.in-Err-CursorPlace.ensures.still (ap Err c.in-Err-CursorPlace.field-0-is))
 
-pub returns-in-Ok-table_note-clause-ending : goal.returns-in-Ok-table_note-clause-ending
-returns-in-Ok-table_note-clause-ending g c =
-    let P : BeginFault → Type 0 = λ fault. IsBeginFault (query_of c.args.compiled.now.query) c.args.document.now (option_copied c.args.after) c.args.request.now.max_table fault in
-    let heavy = subst P c.in-Err-Table.field-0-is c.in-Err-Table.ensures.fault in
-    let (over, within) = heavy in
-    table_full (fits_unless_past (length c.args.document.now) (option_copied c.args.after) (λ past. let is = c.in-Err-Table.ensures.place past in let at = c.in-Err-Table.field-0-is in cc))
-    (omega (arith, over, within)) (record { ends = refl; says = c.in-Ok-table_note.ensures }) c.in-Err-Table.ensures.steps
+pub returns-in-Err-Filter-clause-ending : goal.returns-in-Err-Filter-clause-ending
+returns-in-Err-Filter-clause-ending g c =
+    let q = query_of c.args.compiled.now.query in
+    let d = c.args.document.now in
+    let r = c.args.request.now in
+    let P : BeginFault → Type 0 = λ fault. IsBeginFault q d r.filter (option_copied c.args.after) r.max_table fault in
+    let (wanted, heavy) = subst P c.in-Err-Filter.field-0-is c.in-Err-Filter.ensures.fault in
+    let fits = fits_unless_past (length d) (option_copied c.args.after) (λ past. let is = c.in-Err-Filter.ensures.place past in let at = c.in-Err-Filter.field-0-is in cc) in
+    elim c.past_limit.ensures [
+      | inl is ↦ filter_full fits wanted (heavy_atom q d r.max_table c.in-Err-Filter.field-0-0 heavy) is c.in-Err-Filter.ensures.steps
+      | inr is ↦ by_memory is c.in-Err-Filter.ensures.steps
+    ]
+
+pub returns-in-Err-Table-clause-ending : goal.returns-in-Err-Table-clause-ending
+returns-in-Err-Table-clause-ending g c =
+    let q = query_of c.args.compiled.now.query in
+    let d = c.args.document.now in
+    let r = c.args.request.now in
+    let P : BeginFault → Type 0 = λ fault. IsBeginFault q d r.filter (option_copied c.args.after) r.max_table fault in
+    let (over, within) = subst P c.in-Err-Table.field-0-is c.in-Err-Table.ensures.fault in
+    let fits = fits_unless_past (length d) (option_copied c.args.after) (λ past. let is = c.in-Err-Table.ensures.place past in let at = c.in-Err-Table.field-0-is in cc) in
+    elim c.past_limit-in-Err-Table.ensures [
+      | inl is ↦ table_full fits (λ K reads. let most = within K reads in omega (arith, over, most)) is c.in-Err-Table.ensures.steps
+      | inr is ↦ by_memory is c.in-Err-Table.ensures.steps
+    ]

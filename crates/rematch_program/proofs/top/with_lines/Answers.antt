@@ -4,7 +4,8 @@ use Rattle.spanner_model.specs.Captures.{VarName}
 use Rattle.spanner_model.specs.ExprView.{query_of}
 use Rattle.spanner_model.specs.Answers.{AreAnswers}
 use Rattle.trial_maker.specs.Trial.{trial_text}
-use Rattle.rematch_program.specs.Change.{change, clock, work}
+use Rattle.spanner_engine.specs.Begun.{begin_steps}
+use Rattle.rematch_program.specs.Change.{TakesAtMost, change, clock, work}
 use Rattle.rematch_program.specs.Ending.{note_bytes}
 use Rattle.rematch_program.specs.Notes.{line}
 use Rattle.rematch_program.specs.Pages.{AllFit}
@@ -29,6 +30,7 @@ write_summary-requires g c =
 
 pub returns-in-Ok-begun : goal.returns-in-Ok-begun
 returns-in-Ok-begun g c =
+    let a = request_view c.args.request.now in
     let q = query_of c.args.compiled.now.query in
     let names = c.args.compiled.now.automaton.names in
     let left = c.in-Ok-begun.answers.rest in
@@ -37,15 +39,15 @@ returns-in-Ok-begun g c =
     let end = c.write_summary.result.status in
     let note = note_bytes c.write_summary.result.note in
     let A : List _ → Type 0 = λ rs. AreAnswers q c.deref.result.now names rs in
-    let N : List VarName → Type 0 = λ ns. FromPage (trial_summary c.args.lines ns c.deref-in-Ok-begun.result.now left) (line (codes "end")) ((length left + 1) * next_steps c.in-Ok-begun.answers.variables)
+    let N : List VarName → Type 0 = λ ns. FromPage (trial_summary c.args.lines ns c.deref-in-Ok-begun.result.now left) (line (codes "end")) (λ spent. TakesAtMost spent ((length left + 1) * next_steps c.in-Ok-begun.answers.variables))
     (work out (clock c.begun.new.steps c.write_summary.new.steps)) end note in
-    let D : List ℕ → Type 0 = λ d. FromPage (trial_summary c.args.lines names d left) (line (codes "end")) ((length left + 1) * next_steps c.in-Ok-begun.answers.variables)
+    let D : List ℕ → Type 0 = λ d. FromPage (trial_summary c.args.lines names d left) (line (codes "end")) (λ spent. TakesAtMost spent ((length left + 1) * next_steps c.in-Ok-begun.answers.variables))
     (work out (clock c.begun.new.steps c.write_summary.new.steps)) end note in
-    let V : ℕ → Type 0 = λ v. FromPage (trial_summary c.args.lines names c.deref.result.now left) (line (codes "end")) ((length left + 1) * next_steps v)
+    let V : ℕ → Type 0 = λ v. FromPage (trial_summary c.args.lines names c.deref.result.now left) (line (codes "end")) (λ spent. TakesAtMost spent ((length left + 1) * next_steps v))
     (work out (clock c.begun.new.steps c.write_summary.new.steps)) end note in
     let T : List ℕ → Type 0 = λ d. FromDocument (request_view c.args.request.now) q names None d (work out (clock c.args.steps.now c.write_summary.new.steps)) end note in
     let written = subst V c.in-Ok-begun.ensures.variables (subst D (c.deref-in-Ok-begun.ensures.value ∙ sym c.deref.ensures.value) (subst N c.vars.ensures c.write_summary.ensures.case)) in
     let here : T c.deref.result.now =
     answered c.in-Ok-begun.ensures.fits
-    (summed c.args.lines c.requires.trial left (subst A (sym rest) answers) (page_earlier _ _ _ _ _ _ _ _ _ _ c.in-Ok-begun.ensures.steps written)) in
+    (summed c.args.lines c.requires.trial left (subst A (sym rest) answers) (page_earlier a.filter q c.deref.result.now (λ K. begin_steps a.filter q c.deref.result.now K None) _ _ _ _ c.in-Ok-begun.ensures.steps _ _ _ _ _ written)) in
     record { case = subst T (c.deref.ensures.value ∙ c.in-Ok.ensures.text) here }

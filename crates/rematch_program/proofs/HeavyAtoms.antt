@@ -1,0 +1,29 @@
+-- What holds of some atom of a query.
+use Rattle.std.proofs.Common.{ℕ, ◌<◌, ◌≤◌, inl, inr, Bool, List, arith}
+use Rattle.spanner_model.specs.Tree.{Tree}
+use Rattle.spanner_model.specs.Expression.{ExprTree, QueryTree, atom, named, union_end, union, join_end, join, project}
+use Rattle.filter_laws.specs.Touching.{SomeAtom, SomeAtomOf}
+use Rattle.segment_filter.specs.Costs.{atom_weight}
+use Rattle.spanner_engine.specs.Begun.{HasHeavyAtom}
+
+module _ (P Q : Bool → Bool → Tree → Type 0) (then_ : (s t : Bool) (f : Tree) → P s t f → Q s t f) where
+  some_then : (e : ExprTree) → SomeAtom P e → SomeAtom Q e
+  some_then (atom s t f) h = then_ s t f h
+  some_then (named k) h = absurd h
+  some_then union_end h = absurd h
+  some_then (union e rest) (inl h) = inl (some_then e h)
+  some_then (union e rest) (inr h) = inr (some_then rest h)
+  some_then join_end h = absurd h
+  some_then (join e rest) (inl h) = inl (some_then e h)
+  some_then (join e rest) (inr h) = inr (some_then rest h)
+  some_then (project kept e) h = some_then e h
+
+  some_of_then : (q : QueryTree) → SomeAtomOf P q → SomeAtomOf Q q
+  some_of_then q (inl (l, has, h)) = inl (l, has, some_then l.1 h)
+  some_of_then q (inr h) = inr (some_then q.body h)
+
+-- a weight that passes the limit, and is no more than that of some atom
+pub heavy_atom : (q : QueryTree) (d : List ℕ) (limit weight : ℕ) → SomeAtomOf (λ s t f. (limit < weight) × (weight ≤ atom_weight s t f d)) q → HasHeavyAtom q d limit
+heavy_atom q d limit weight some =
+    some_of_then (λ s t f. (limit < weight) × (weight ≤ atom_weight s t f d)) (λ s t f. limit < atom_weight s t f d)
+    (λ s t f h. let (over, within) = h in omega (arith, over, within)) q some
