@@ -27,7 +27,7 @@ use Rattle.rematch_program.specs.Trials.{trial_summary}
 use Rattle.rematch_program.specs.Run.{Text, Store, FromPage, FromAnswers, FromDocument, FromPlace, FromCursor, FromCompiled, FromQuery, FromText, FromAsked, FromWords, IsExplained, IsNotBegun, IsTooLarge, Reports, Run, WantsAnswers}
 use Rattle.rematch_program.specs.Run.{whole, write_failed, out_of_memory, paged, summed, past_the_document, filter_full, table_full, not_begun, by_states, by_ways, by_memory, answered, document_failed, document_too_long, found, no_cursor, other_variables, placed, page_asked, trial_asked}
 use Rattle.rematch_program.specs.Run.{explained, told_names, too_large, compiled, query_refused, understood, given, query_failed, query_too_long, fetched, refused, accepted, cut}
-use Rattle.rematch_program.specs.Complete.{IsTextOf, IsClear, IsWithinLimits, HasDocument, IsWhole, IsWritten, IsSummed, Completes, PlainCompletes, TrialCompletes, ExplainCompletes}
+use Rattle.rematch_program.specs.Complete.{IsTextOf, IsClear, IsWithinLimits, HasDocument, Completes, PlainCompletes, TrialCompletes, ExplainCompletes}
 
 -- a text and a note are whole, or memory was wanting
 pub record AreWhole (text last : Text) (w : Work) (end : Status) (note : Text) : Type 0 where

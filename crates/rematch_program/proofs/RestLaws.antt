@@ -1,15 +1,11 @@
 -- The rows after a row, and the first of them.
-use Rattle.std.proofs.Common.{◌≡◌, ℕ, zero, suc, ◌<◌, ◌↔◌, Bool, true, false, List, [], ◌∷◌, length, take, drop, Option, Some, None, IsTrue, inl, inr, refl, sym, ap, ◌∙◌, subst, arith, length-take}
-use Rattle.std.specs.Prelude.{slice_get}
-use Rattle.std.proofs.lemmas.List.{take-append-drop, take_all}
-use Rattle.std.specs.List.{AllByRecursion}
-use Rattle.span_core.specs.Order.{StandsBefore}
-use Rattle.span_core.specs.OrderLaws.{stands_transitive}
+use Rattle.std.proofs.Common.{◌≡◌, ℕ, zero, suc, ◌<◌, ◌↔◌, Bool, true, false, List, [], ◌∷◌, length, drop, Option, Some, None, IsTrue, inr, refl, sym, ap, subst, arith, length-take}
+use Rattle.std.proofs.lemmas.List.{take_all}
 use Rattle.span_core.specs.Lists.{Has}
 use Rattle.spanner_model.specs.Captures.{VarName}
 use Rattle.spanner_model.specs.Expression.{QueryTree}
-use Rattle.spanner_model.specs.Answers.{SpanRow, AreInBlockOrder, AreAnswers, IsRest}
-use Rattle.span_core.proofs.HasLaws.{Has-take, Has-slice_get, Has-append_right}
+use Rattle.spanner_model.specs.Answers.{SpanRow, AreAnswers, IsRest}
+use Rattle.span_core.proofs.HasLaws.{Has-take, Has-append_right}
 use Rattle.row_cursor.specs.CursorTexts.{AreParts}
 use Rattle.rematch_program.specs.Pages.{AllFit, HasWidth, IsAfter, IsPageOf, first_rows}
 

@@ -1,12 +1,12 @@
 -- The variables of a sound query's result are names.
-use Rattle.std.proofs.Common.{◌≡◌, ◌⊎◌, inl, inr, ℕ, zero, suc, List, [], ◌∷◌, length, Some, slice_get, refl, subst, IsTrue}
+use Rattle.std.proofs.Common.{◌≡◌, inl, inr, ℕ, suc, List, [], ◌∷◌, length, Some, slice_get, refl, subst, IsTrue}
 use Rattle.span_core.specs.Names.{is_name}
 use Rattle.spanner_model.specs.Captures.{VarName}
 use Rattle.spanner_model.specs.Tree.{Tree, empty, one, cat_end, cat, alt_end, alt, rep, cap}
 use Rattle.spanner_model.specs.Functional.{HasVar}
 use Rattle.spanner_model.specs.WellBuilt.{IsBuilt, AreParts, AreArms}
 use Rattle.spanner_model.specs.Expression.{ExprTree, QueryTree, atom, named, union_end, union, join_end, join, project}
-use Rattle.spanner_model.specs.Answer.{VarOf, vars_of_lets, IsResultVar}
+use Rattle.spanner_model.specs.Answer.{vars_of_lets, IsResultVar}
 use Rattle.spanner_model.specs.Sound.{IsSound, IsSoundExpr, AreUnited, AreJoined, NameIn, NameInLets}
 use Rattle.spanner_model.proofs.ExprLaws.{var_named, lets_named}
 

@@ -1,5 +1,5 @@
 -- What a trial writes: a summary of the answers on a made document.
-use Rattle.std.specs.Prelude.{ℕ, List, [], codes, length, false, Option, None, Some, option_map, slice_get}
+use Rattle.std.specs.Prelude.{ℕ, List, length, false, Option, None, Some, option_map, slice_get}
 use Rattle.spanner_model.specs.Captures.{VarName}
 use Rattle.spanner_model.specs.Answers.{SpanRow, page_end}
 use Rattle.row_writer.specs.Lines.{spans_text}

@@ -1,5 +1,5 @@
 //! A run, from the words to the status.
-ghost use Rattle.std.specs.Prelude.{◌≡◌, ◌+◌, ◌≤◌, ◌⊎◌, ℕ, List, None, map, string_bytes, length, true, IfErr, IfOk, IfSome, IsErrOf, OnOk};
+ghost use Rattle.std.specs.Prelude.{◌≡◌, ◌≤◌, ◌⊎◌, ℕ, List, None, map, string_bytes, length, true, IfErr, IfOk, IfSome, IsErrOf, OnOk};
 ghost use Rattle.std.specs.Bool.{OnFalse};
 ghost use Rattle.std.specs.Option.{option_copied};
 ghost use Rattle.rm_outside.specs.Faults.{Rose};

@@ -1,11 +1,10 @@
-use Rattle.std.proofs.Common.{rules, ◌∙◌, arith, sym, ap, subst, IfOk, List}
+use Rattle.std.proofs.Common.{◌∙◌, arith, sym, ap, subst, IfOk, List}
 use Rattle.span_core.proofs.HasLaws.{Has-slice_get}
 use Rattle.formula_parser.specs.Spells.{AtomTree}
-use Rattle.spanner_model.specs.Expression.{project}
 use Rattle.spanner_model.specs.ExprView.{expr_of, exprs_of}
 use Rattle.spanner_model.proofs.Nodes.{expr_nodes}
 use Rattle.spanner_model.proofs.ExprLaws.{union_size, part_size}
-use Rattle.spanner_model.proofs.ExprTrees.{expr_of-Union, expr_of-Join, expr_of-Project}
+use Rattle.spanner_model.proofs.ExprTrees.{expr_of-Union, expr_of-Join}
 use Rattle.rematch_program.specs.Explained.{HasLines, atoms_of}
 use Rattle.rematch_program.proofs.AtomLines.{of_union, of_join, part_lines}
 use Rattle.rematch_program.proofs.explanation.+atoms.Goals as goal

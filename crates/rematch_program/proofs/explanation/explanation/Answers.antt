@@ -1,4 +1,3 @@
-use Rattle.std.proofs.Common.{refl}
 use Rattle.std.specs.Prelude.{codes}
 use Rattle.spanner_model.specs.ExprView.{query_of}
 use Rattle.query_printer.specs.PrintedQuery.{query_text}

@@ -1,4 +1,4 @@
-use Rattle.std.proofs.Common.{◌≡◌, ◌≤◌, ◌++◌, [], ◌∷◌, drop}
+use Rattle.std.proofs.Common.{◌≡◌, ◌++◌, [], ◌∷◌, drop}
 use Rattle.query_printer.specs.PrintedQuery.{further}
 use Rattle.rematch_program.specs.Explained.{names_text}
 use Rattle.rematch_program.proofs.explanation.push_names.Given as goal

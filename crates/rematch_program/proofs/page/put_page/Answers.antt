@@ -1,8 +1,7 @@
-use Rattle.std.proofs.Common.{rules, refl, sym, ap, ◌∙◌, ◌++◌, [], append-nil}
+use Rattle.std.proofs.Common.{refl, sym, ap, ◌∙◌, ◌++◌, [], append-nil}
 use Rattle.std.specs.List.{flat_map}
 use Rattle.command_line.specs.Asked.{request_view}
-use Rattle.rematch_program.specs.Change.{AddsPart, change}
-use Rattle.rematch_program.specs.Pages.{first_rows, page_head, page_text, row_text}
+use Rattle.rematch_program.specs.Pages.{first_rows, page_head, row_text}
 use Rattle.rematch_program.proofs.Gathers.{part_nothing, rows_passed, so_far_first, so_far_last, so_far_more, so_far_part}
 use Rattle.rematch_program.proofs.PageLaws.{on_err}
 use Rattle.rematch_program.proofs.page.put_page.Goals as goal

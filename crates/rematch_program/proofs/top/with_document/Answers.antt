@@ -1,4 +1,4 @@
-use Rattle.std.proofs.Common.{rules, ◌≡◌, ◌+◌, ◌*◌, ◌<◌, ℕ, List, suc, refl, sym, ap, subst, length, nat_lt}
+use Rattle.std.proofs.Common.{◌+◌, ◌*◌, ℕ, List, suc, refl, sym, subst, length, nat_lt}
 use Rattle.std.proofs.lemmas.Bool.{le-leb, leb-true}
 use Rattle.std.specs.Option.{option_copied}
 use Rattle.command_line.specs.Asked.{request_view}

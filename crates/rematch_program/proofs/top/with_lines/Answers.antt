@@ -1,9 +1,8 @@
-use Rattle.std.proofs.Common.{rules, ◌≡◌, ◌+◌, ◌*◌, ◌∙◌, ℕ, List, None, sym, ap, subst, length, codes}
+use Rattle.std.proofs.Common.{◌+◌, ◌*◌, ◌∙◌, ℕ, List, None, sym, subst, length, codes}
 use Rattle.command_line.specs.Asked.{request_view}
 use Rattle.spanner_model.specs.Captures.{VarName}
 use Rattle.spanner_model.specs.ExprView.{query_of}
 use Rattle.spanner_model.specs.Answers.{AreAnswers}
-use Rattle.trial_maker.specs.Trial.{trial_text}
 use Rattle.spanner_engine.specs.Begun.{begin_steps}
 use Rattle.rematch_program.specs.Change.{TakesAtMost, change, clock, work}
 use Rattle.rematch_program.specs.Ending.{note_bytes}
