@@ -25,6 +25,13 @@ pub(crate) enum Fault {
         read: Vec<Vec<Block>>,
         defined: Vec<Vec<Block>>,
     },
+    /// The words of a document that is read in two pieces, cut there, are not those of the whole.
+    Pieces {
+        document: Vec<u8>,
+        cut: usize,
+        read: Vec<Vec<Block>>,
+        whole: Vec<Vec<Block>>,
+    },
     /// A walk through the rows did not end where it must.
     TooManyRows,
     /// Want of memory.

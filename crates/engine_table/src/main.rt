@@ -3,8 +3,10 @@
 //! For each query of a table, and each short document over the table's bytes, the document is read by the
 //! query's automaton at every set of positions. The words of each reading must be the words that its
 //! definition gives, in block order: this program lists them by going through the places one by one, with
-//! lists of states and no table, graph or cell. It prints a line for each query, and last the numbers of
-//! readings and answers. Then it reads a document that nothing matches, of which one cell alone is kept.
+//! lists of states and no table, graph or cell. A reading at all positions must have the same words where the
+//! document is read in two pieces, wherever it is cut. It prints a line for each query, and last the numbers of
+//! readings, of answers and of readings in pieces. Then it reads a document that nothing matches, of which one
+//! cell alone is kept.
 //!
 //! That the words are these is proved of the crates; that the calls succeed on such inputs is what a run
 //! shows. The exit status is 0 where all agree, and else that of the first case that comes: 1 where
@@ -15,6 +17,7 @@ mod definition;
 mod documents;
 mod fault;
 mod idle;
+mod pieces;
 mod reading;
 mod texts;
 mod words;
@@ -74,8 +77,10 @@ fn run(rt: &HostRuntime) -> io::Result<Ending> {
         queries,
         readings,
         answers,
+        pieces,
     } = total;
     println!(rt; "queries {queries} readings {readings} answers {answers}")?;
+    println!(rt; "in pieces {pieces}")?;
     match cells_after(rt.alloc()) {
         Ok(live) => println!(rt; "live cells {live}")?,
         Err(fault) => return ended_by(rt, "live cells", &fault),

@@ -6,6 +6,7 @@ ghost use Rattle.engine_table.specs.declared.reading.TheConstants.{MOST_BYTES};
 use crate::definition::words_by_definition;
 use crate::documents::{document_of, number_of_documents};
 use crate::fault::Fault;
+use crate::pieces::check_pieces;
 use crate::words::{Block, words_of};
 use marked_automaton::Automaton;
 use one_pass::read_rows;
@@ -18,10 +19,10 @@ use std::marker::Brand;
 use std::sync::ledger::{Blank, Ledger};
 
 /// The most bytes of a document that is read.
-const MOST_BYTES: u32 = 3;
+pub(crate) const MOST_BYTES: u32 = 3;
 
 /// The limit of the tables' weight.
-const LIMIT: u64 = 1_000_000;
+pub(crate) const LIMIT: u64 = 1_000_000;
 
 /// What was checked.
 #[derive(Clone, Copy)]
@@ -31,6 +32,8 @@ pub(crate) struct Tally {
     pub readings: usize,
     /// The words of the readings at all positions, which are the answers.
     pub answers: usize,
+    /// The readings of a document in two pieces, at all positions.
+    pub pieces: usize,
 }
 
 impl Tally {
@@ -39,6 +42,7 @@ impl Tally {
             queries: 0,
             readings: 0,
             answers: 0,
+            pieces: 0,
         }
     }
 
@@ -48,6 +52,7 @@ impl Tally {
             queries: self.queries.saturating_add(other.queries),
             readings: self.readings.saturating_add(other.readings),
             answers: self.answers.saturating_add(other.answers),
+            pieces: self.pieces.saturating_add(other.pieces),
         }
     }
 }
@@ -60,34 +65,50 @@ pub(crate) fn check_text(alloc: Global, bytes: &[u8], text: &str) -> Result<Tall
     let compiled = compile(alloc, &query)?;
     let mut tally = Tally {
         queries: 1,
-        readings: 0,
-        answers: 0,
+        ..Tally::none()
     };
     for len in 0..=MOST_BYTES {
         for number in 0..number_of_documents(bytes, len) {
             let document = document_of(alloc, bytes, len, number)?;
-            let sets = 1u32 << (len + 1);
-            for positions in 0..sets {
-                let words = check_reading(alloc, compiled.automaton(), &document, len, positions)?;
-                tally = tally.plus(Tally {
-                    queries: 0,
-                    readings: 1,
-                    answers: if positions + 1 == sets { words } else { 0 },
-                });
-            }
+            let read = check_document(alloc, compiled.automaton(), &document, len)?;
+            tally = tally.plus(read);
         }
     }
     Ok(tally)
 }
 
-/// Checks one reading of a document of `len` bytes, and gives the number of its words.
+/// Checks the readings of a document of `len` bytes: one at each set of positions, and at all of them those in
+/// two pieces.
+fn check_document(
+    alloc: Global,
+    automaton: &Automaton,
+    document: &[u8],
+    len: u32,
+) -> Result<Tally, Fault>
+    requires len { length document.now ≡ len }
+    requires short { len ≤ MOST_BYTES }
+{
+    let all = (1u32 << (len + 1)) - 1;
+    for positions in 0..all {
+        check_reading(alloc, automaton, document, len, positions)?;
+    }
+    let words = check_reading(alloc, automaton, document, len, all)?;
+    Ok(Tally {
+        queries: 0,
+        readings: all as usize + 1,
+        answers: words.len(),
+        pieces: check_pieces(alloc, automaton, document, &words)?,
+    })
+}
+
+/// Checks one reading of a document of `len` bytes, and gives its words.
 fn check_reading(
     alloc: Global,
     automaton: &Automaton,
     document: &[u8],
     len: u32,
     positions: u32,
-) -> Result<usize, Fault>
+) -> Result<Vec<Vec<Block>>, Fault>
     requires len { length document.now ≡ len }
     requires short { len ≤ MOST_BYTES }
 {
@@ -101,7 +122,7 @@ fn check_reading(
             defined,
         });
     }
-    Ok(read.len())
+    Ok(read)
 }
 
 /// The words with which one pass reads a document at the positions whose bits are set.
