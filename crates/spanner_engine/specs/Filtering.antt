@@ -25,12 +25,12 @@ AddsTouched d e before after = (i : ℕ) → Covers after i ↔ (Covers before i
 abbrev pub IsFullAtom : List ℕ → ℕ → ℕ → Bool → Bool → Tree → Type 0
 IsFullAtom d limit weight s t f = (limit < weight) × (weight ≤ atom_weight s t f d)
 
--- some atom of the expression does; want of memory has no cause
+-- why a walk ends early: some atom of the expression passes the limit so; want of memory has no cause
 abbrev pub HasFullAtom : List ℕ → ℕ → ExprTree → FilterFault → Type 0
 HasFullAtom d limit e (Full weight) = SomeAtom (IsFullAtom d limit weight) e
 HasFullAtom d limit e OutOfMemory = Unit {0}
 
--- some atom of the query's text does, which is read by the filter alone
+-- why the positions are not told: the filter is asked for, and some atom of the query's text passes the limit so
 abbrev pub IsFilterFault : QueryTree → List ℕ → Bool → ℕ → FilterFault → Type 0
 IsFilterFault q d filter limit (Full weight) = IsTrue filter × SomeAtomOf (IsFullAtom d limit weight) q
 IsFilterFault q d filter limit OutOfMemory = Unit {0}
