@@ -3,6 +3,7 @@ ghost use Rattle.std.specs.Prelude.{◌≡◌, ◌<◌, ◌↔◌, ℕ, List, le
 ghost use Rattle.span_core.specs.Lists.{IsInOrder};
 ghost use Rattle.set_table.specs.Tabled.{set_at};
 ghost use Rattle.segment_filter.specs.Sets.{HaveShared};
+ghost use Rattle.segment_filter.specs.declared.comparing.TheConstants.{PLACES};
 ghost use Rattle.segment_filter.specs.Remembered.{AreRemembered, compared};
 
 use crate::sharing::share;
@@ -10,7 +11,7 @@ use span_core::OutOfMemory;
 use std::alloc::Global;
 
 /// How many pairs are remembered at most: each has one place where it may stand.
-const PLACES: usize = 4096;
+pub(crate) const PLACES: usize = 4096;
 
 /// Two sets that were compared, by their numbers, and whether they share a state.
 #[derive(Clone, Copy)]
@@ -29,7 +30,7 @@ pub(crate) struct Comparisons {
 impl Comparisons {
     /// Nothing is compared yet.
     pub(crate) fn new(alloc: Global) -> Result<Comparisons, OutOfMemory>
-        ensures places { IfOk result (λ c. 0 < length c.pairs.items) }
+        ensures places { IfOk result (λ c. length c.pairs.items ≡ PLACES) }
         ensures right { IfOk result (λ c. (most : ℕ) (sets others : List (List ℕ)) → AreRemembered most sets others c.pairs.items) }
     {
         let mut pairs = Vec::new(alloc);
@@ -49,16 +50,16 @@ impl Comparisons {
         other: u32,
         others: &[u32],
     ) -> bool
-        requires places { 0 < length self.old.pairs.items }
+        requires places { length self.old.pairs.items ≡ PLACES }
         requires states { IsInOrder ◌<◌ states.now }
         requires others { IsInOrder ◌<◌ others.now }
-        ensures places { 0 < length self.new.pairs.items }
+        ensures places { length self.new.pairs.items ≡ PLACES }
         ensures right { (A B : List (List ℕ)) → AreRemembered most A B self.old.pairs.items → set < length A → set_at A set ≡ states.now → set_at B other ≡ others.now →
             AreRemembered most A B self.new.pairs.items }
         ensures meets { (A B : List (List ℕ)) → AreRemembered most A B self.old.pairs.items → set_at A set ≡ states.now → set_at B other ≡ others.now →
             IsTrue result ↔ HaveShared most states.now others.now }
     {
-        let place = (set as usize * 1021 + other as usize) % self.pairs.len();
+        let place = (set as usize * 1021 + other as usize) % PLACES;
         if let Some(meets) = told(self.pairs[place], set, other) {
             return meets;
         }

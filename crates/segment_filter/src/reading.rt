@@ -6,6 +6,7 @@ ghost use Rattle.marked_automaton.specs.Automaton.{size};
 ghost use Rattle.set_table.specs.Tabled.{fresh, set_at, weight};
 ghost use Rattle.segment_filter.specs.Weights.{IsFullWithin, reading_rows, reading_weight};
 ghost use Rattle.segment_filter.specs.SetNumbers.{numbers_of};
+ghost use Rattle.segment_filter.specs.declared.comparing.TheConstants.{PLACES};
 ghost use Rattle.segment_filter.specs.Remembered.{AreRemembered};
 ghost use Rattle.segment_filter.specs.Sets.{Grows, HaveShared, MeetAt, ReadsAll, TakesNone};
 
@@ -103,10 +104,10 @@ fn meet<S: Sets>(
     requires set { (set < length (S.known table.now).sets) × IsInOrder ◌<◌ (set_at (S.known table.now).sets set) }
     requires kept { behind < length (numbers_of kept.now) → (slice_index (numbers_of kept.now) behind < length (S.known back.now).sets)
         × IsInOrder ◌<◌ (set_at (S.known back.now).sets (slice_index (numbers_of kept.now) behind)) }
-    requires places { 0 < length seen.old.pairs.items }
+    requires places { length seen.old.pairs.items ≡ PLACES }
     requires right { AreRemembered most (S.known table.now).sets (S.known back.now).sets seen.old.pairs.items }
     ensures meets { IsTrue result ↔ ((behind < length (numbers_of kept.now)) × HaveShared most (set_at (S.known table.now).sets set) (set_at (S.known back.now).sets (slice_index (numbers_of kept.now) behind))) }
-    ensures places { 0 < length seen.new.pairs.items }
+    ensures places { length seen.new.pairs.items ≡ PLACES }
     ensures right { AreRemembered most (S.known table.now).sets (S.known back.now).sets seen.new.pairs.items }
 {
     if behind >= kept.len() {
