@@ -4,12 +4,16 @@
 It takes the words that the program takes and gives what the program must give: the rows on standard
 output, one line of notes on standard error, and the exit status.
 
-    rematch_oracle.py (-e TEXT | -q NAME) [-n K] [-a CURSOR] [-f spans|table|json] [-t] [DOC]
+    rematch_oracle.py (-e TEXT | -q NAME) [-n K] [-a CURSOR] [-f spans|table|json] [-t] [--filter]
+                      [--max-table W] [--explain] [--trial N] [DOC]
 
 Nothing here is clever. A formula is tried at every place of the document, every way in which it fits
 is listed, the rows are put into a set and sorted. So it is slow, and easy to compare with the rules:
 each section states its rules in words and then says them once more in Python. It shares no code with
-the program. query_text.py beside it reads the query. Tests import `run`, which reads no file by itself.
+the program. query_text.py beside it reads the query, modes.py has `--explain` and `--trial`. Tests import
+`run`, which reads no file by itself. It makes no automata: it answers where the program may refuse for the
+size of a union or a join or for a weight, and it reads all positions with `--filter` too, which changes
+no row.
 
 Python 3.8, standard library.
 """
@@ -19,12 +23,14 @@ import re
 import sys
 from typing import NamedTuple
 
+from modes import counts_of, explained, query_atoms, summed, trial_document
 from query_text import (LONGEST_QUERY, Alt, Atom, Cat, Empty, Named, One, Project, Refusal, Rep, Union,
                         fault, read_query)
 
 LONGEST_DOCUMENT = 1 << 28
 LARGEST_PLACE = (1 << 32) - 1
-WORDS, READ, LONG, CURSOR, WRITE = 2, 5, 6, 7, 8  # exit statuses
+WORDS, SIZE, READ, LONG, CURSOR, WRITE = 2, 4, 5, 6, 7, 8  # exit statuses
+MOST_STATES, MOST_WAYS = 20000, 2000000
 
 
 # --- The meaning ---------------------------------------------------------------------------------
@@ -214,13 +220,16 @@ def lines_of(names, rows, document, form, texts):
 
 # --- The command line ----------------------------------------------------------------------------
 #
-# Five options that take one text each, one flag, and at most one document. Long options are there
-# for none of them, so every word that begins with `--` is refused, but for `--` itself, after which
-# all words are documents.
+# Five options of one letter and two long ones that take one text each, one flag of one letter and two
+# long ones, and at most one document. After the word `--` all words are documents.
 
 OPTIONS = 'eqnaf'
 FLAGS = 't'
+LONG_OPTIONS = ('max-table', 'trial')
+LONG_FLAGS = ('filter', 'explain')
 NUMBER = re.compile(r'\+?[0-9]+')
+LARGEST_TABLE = 100000000
+MOST_LINES = 4000000
 
 
 class Request(NamedTuple):
@@ -231,10 +240,12 @@ class Request(NamedTuple):
     form: str
     texts: bool
     document: str
+    explain: bool
+    trial: object  # the number of lines, or None
 
 
 def found_words(words):
-    """What the words give for each option, the flag and `DOC`; None where they are refused."""
+    """What the words give for each option, each flag and `DOC`; None where they are refused."""
     found = {}
     waiting = None  # an option whose value is the next word
     only_documents = False
@@ -242,7 +253,16 @@ def found_words(words):
         if not only_documents and word == '--':
             only_documents = True
         elif not only_documents and word.startswith('--'):
-            return None
+            name, equals, value = word[2:].partition('=')
+            is_flag = name in LONG_FLAGS and not equals
+            if waiting or name in found or not (is_flag or name in LONG_OPTIONS):
+                return None
+            if is_flag:
+                found[name] = True
+            elif equals:
+                found[name] = value
+            else:
+                waiting = name
         elif not only_documents and word.startswith('-') and word != '-':
             if waiting:
                 return None
@@ -270,29 +290,53 @@ def found_words(words):
     return None if waiting else found
 
 
+def number(text, least, most):
+    """The number that an option gives, or None where it is not given."""
+    if text is None:
+        return None
+    if not NUMBER.fullmatch(text) or not least <= int(text) <= most:
+        raise Refusal(WORDS, 'bad command line')
+    return int(text)
+
+
 def read_words(words):
     found = found_words(words)
     if found is None or ('e' in found) == ('q' in found):
         raise Refusal(WORDS, 'bad command line')
-    limit = found.get('n')
-    if limit is not None:
-        if not NUMBER.fullmatch(limit) or int(limit) >= 1 << 64:
-            raise Refusal(WORDS, 'bad command line')
-        limit = int(limit)
+    limit = number(found.get('n'), 0, (1 << 64) - 1)
+    number(found.get('max-table'), 1, LARGEST_TABLE)
+    trial = number(found.get('trial'), 0, MOST_LINES)
     form = found.get('f', 'spans')
     document = found.get('DOC', '-')
-    if form not in ('spans', 'table', 'json') or found.get('q') == document == '-':
+    explain = 'explain' in found
+    has_mode = explain or trial is not None
+    if has_mode and any(key in found for key in ('n', 'a', 'f', 't', 'DOC')):
         raise Refusal(WORDS, 'bad command line')
-    return Request(found.get('e'), found.get('q'), limit, found.get('a'), form, 't' in found, document)
+    if form not in ('spans', 'table', 'json') or explain and trial is not None:
+        raise Refusal(WORDS, 'bad command line')
+    if found.get('q') == document == '-' and not has_mode:
+        raise Refusal(WORDS, 'bad command line')
+    return Request(found.get('e'), found.get('q'), limit, found.get('a'), form, 't' in found, document,
+                   explain, trial)
 
 
 # --- A run ---------------------------------------------------------------------------------------
 #
-# The first that applies is answered: the words; the reading of the query; its text and its checks;
-# the cursor's text; the reading of the document; the cursor's place; the rows.
+# The first that applies is answered: the words; the reading of the query; its text and its checks, and
+# then, where it is asked for, what the query is; the sizes of its atoms; the cursor's text; the reading of
+# the document, or its making; the cursor's place; the rows.
 
 class TooLong(Exception):
     """More bytes were found than may be read."""
+
+
+def refuse_sizes(query):
+    """The first atom that is too large is told."""
+    for states, ways in map(counts_of, query_atoms(query)):
+        if states > MOST_STATES:
+            raise Refusal(SIZE, 'size: more than %d states' % MOST_STATES)
+        if ways > MOST_WAYS:
+            raise Refusal(SIZE, 'size: more than %d ways' % MOST_WAYS)
 
 
 def page_of(words, fetch):
@@ -308,6 +352,13 @@ def page_of(words, fetch):
         except TooLong:
             raise fault('longer than %d bytes' % LONGEST_QUERY)
     query, names = read_query(text)
+    if request.explain:
+        return explained(query, names), 'end'
+    refuse_sizes(query)
+    if request.trial is not None:
+        document = trial_document(request.trial)
+        shown = lines_of(names, all_rows(query, names, document), document, 'spans', False)
+        return summed(request.trial, document, shown.decode().splitlines()), 'end'
     after = None
     if request.after not in (None, 'start'):
         after = read_cursor(request.after, names)

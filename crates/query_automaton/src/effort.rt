@@ -1,5 +1,7 @@
 //! What compiling a query may cost.
-ghost use Rattle.marked_automaton.specs.Automaton.{IsMarked};
+ghost use Rattle.std.specs.Prelude.{◌≡◌, ◌+◌, ◌≤◌, IfOk};
+ghost use Rattle.marked_automaton.specs.Automaton.{IsMarked, size};
+ghost use Rattle.query_automaton.specs.declared.effort.TheConstants.{MOST_HELD};
 
 use algebra::Effort;
 use marked_automaton::{Automaton, MOST_STATES, MOST_WAYS};
@@ -21,6 +23,7 @@ const STEPS_TO_MAKE: u64 = 64;
 /// How many states, ways and ends an automaton has.
 pub fn size_of(automaton: &Automaton) -> u64
     ensures marked { IsMarked automaton.now }
+    ensures most { result ≤ size automaton.now.graph }
 {
     u64::from(automaton.states())
         .saturating_add(automaton.ways().len() as u64)
@@ -28,7 +31,9 @@ pub fn size_of(automaton: &Automaton) -> u64
 }
 
 /// What is held with so many states, ways and ends more. Refused where that is more than `MOST_HELD`.
-pub fn hold(held: u64, more: u64) -> Result<u64, OutOfMemory> {
+pub fn hold(held: u64, more: u64) -> Result<u64, OutOfMemory>
+    ensures { IfOk result (λ all. (all ≡ held + more) × (all ≤ MOST_HELD)) }
+{
     let all = held.saturating_add(more);
     if all > MOST_HELD {
         return Err(OutOfMemory);

@@ -1,5 +1,6 @@
 //! Automata that are used in more than one place.
-ghost use Rattle.std.specs.Prelude.{◌≡◌, IfOk};
+ghost use Rattle.std.specs.Prelude.{◌≡◌, ◌≤◌, IfOk};
+ghost use Rattle.marked_automaton.specs.Automaton.{size};
 
 use crate::effort::size_of;
 use marked_automaton::Automaton;
@@ -53,7 +54,9 @@ impl Shared {
     }
 
     /// How many states, ways and ends it has, if this is its one owner, and else 0.
-    pub fn own_size(&self) -> u64 {
+    pub fn own_size(&self) -> u64
+        ensures { result ≤ size self.now.graph }
+    {
         if Rc::strong_count(&self.automaton) > 1 {
             return 0;
         }

@@ -1,0 +1,185 @@
+"""What `--explain` and `--trial` write, by the rules of docs/FORMATS.md.
+
+The third part of the reference: the printed form of a query, the numbers of an atom's automaton, and
+the document of a trial. Each section states its rules in words and then says them once more in Python.
+"""
+from query_text import Alt, Atom, Cap, Cat, Empty, Join, Named, One, Project, Rep, Union, WORD_BYTES
+
+NOT_LINE_FEED = frozenset(range(256)) - {0x0a}
+MOST_TOLD = (1 << 64) - 1  # the greatest number that is shown
+
+
+# --- The printed form ----------------------------------------------------------------------------
+#
+# A letter, digit, low line or space is itself; line feed, tab and carriage return are \n, \t, \r; any
+# other visible byte has a backslash before it; the rest are \x and two digits. A set of one byte is
+# that byte, all bytes but the line feed are a dot, and any other set is its runs in brackets.
+
+def byte_text(b):
+    short = {0x0a: '\\n', 0x09: '\\t', 0x0d: '\\r'}
+    if b in WORD_BYTES or b == 0x20:
+        return chr(b)
+    return short.get(b) or ('\\' + chr(b) if 0x21 <= b <= 0x7e else '\\x%02x' % b)
+
+
+def runs_of(numbers):
+    """The maximal runs of a set of numbers, ascending."""
+    runs = []
+    for b in sorted(numbers):
+        if runs and runs[-1][1] == b - 1:
+            runs[-1][1] = b
+        else:
+            runs.append([b, b])
+    return runs
+
+
+def set_text(numbers):
+    if len(numbers) == 1:
+        return byte_text(min(numbers))
+    if numbers == NOT_LINE_FEED:
+        return '.'
+    return '[%s]' % ''.join(byte_text(first) + ('-' + byte_text(last) if first < last else '')
+                            for first, last in runs_of(numbers))
+
+
+def sign_of(least, most):
+    usual = {(0, None): '*', (1, None): '+', (0, 1): '?'}
+    if (least, most) in usual:
+        return usual[least, most]
+    if most is None:
+        return '{%d,}' % least
+    return '{%d}' % least if least == most else '{%d,%d}' % (least, most)
+
+
+def formula_text(formula, inside=()):
+    """The printed form, in parentheses where the formula is one of the kinds `inside`."""
+    if isinstance(formula, inside):
+        return '(%s)' % formula_text(formula)
+    if isinstance(formula, Empty):
+        return '()'
+    if isinstance(formula, One):
+        return set_text(formula.bytes)
+    if isinstance(formula, Cat):
+        return ''.join(formula_text(part, (Cat, Alt)) for part in formula.parts)
+    if isinstance(formula, Alt):
+        return '|'.join(formula_text(part, Alt) for part in formula.parts)
+    if isinstance(formula, Rep):
+        return formula_text(formula.part, (Cat, Alt, Rep)) + sign_of(formula.least, formula.most)
+    return '!%s{%s}' % (formula.name, formula_text(formula.part))
+
+
+def expr_text(expr, lets, inside=()):
+    if isinstance(expr, inside):
+        return '(%s)' % expr_text(expr, lets)
+    if isinstance(expr, Atom):
+        return '/%s%s%s/' % ('^' * expr.from_start, formula_text(expr.formula), '$' * expr.to_end)
+    if isinstance(expr, Named):
+        return lets[expr.place][0]
+    if isinstance(expr, Project):
+        return 'project %s (%s)' % (','.join(sorted(expr.keep)) or 'none', expr_text(expr.part, lets))
+    if isinstance(expr, Union):
+        return ' union '.join(expr_text(part, lets, Union) for part in expr.parts)
+    return ' join '.join(expr_text(part, lets, (Union, Join)) for part in expr.parts)
+
+
+def query_text(query):
+    lets = ''.join('let %s = %s; ' % (name, expr_text(expr, query.lets)) for name, expr in query.lets)
+    return lets + expr_text(query.body, query.lets)
+
+
+# --- The numbers of an atom ----------------------------------------------------------------------
+#
+# Each byte set is a place once repetitions are written out: f{m,} is m copies of which the last may be
+# repeated, f{m,k} has k-m copies more, nested so that each may stand only where the one before it does.
+# First, last and follow are counted as lists, by Glushkov's rules.
+
+def parts_of(formula):
+    """Whether the empty string fits, and the numbers of places, firsts, lasts and follows."""
+    if isinstance(formula, Empty):
+        return True, 0, 0, 0, 0
+    if isinstance(formula, One):
+        return False, 1, 1, 1, 0
+    if isinstance(formula, Cap):
+        return parts_of(formula.part)
+    if isinstance(formula, Rep):
+        return repeated(parts_of(formula.part), formula.least, formula.most)
+    joined = beside if isinstance(formula, Cat) else either
+    whole = parts_of(formula.parts[0])
+    for part in formula.parts[1:]:
+        whole = joined(whole, parts_of(part))
+    return whole
+
+
+def beside(f, g):
+    return (f[0] and g[0], f[1] + g[1], f[2] + g[2] * f[0], g[3] + f[3] * g[0],
+            f[4] + g[4] + f[3] * g[2])
+
+
+def either(f, g):
+    return f[0] or g[0], f[1] + g[1], f[2] + g[2], f[3] + g[3], f[4] + g[4]
+
+
+def repeated(f, least, most):
+    nothing = True, 0, 0, 0, 0
+    looped = f[:4] + (f[4] + f[3] * f[2],)
+    if most is None:
+        copies = [f] * (least - 1) + [looped if least else (True,) + looped[1:]]
+    else:
+        tail = nothing
+        for _ in range(most - least):
+            tail = (True,) + beside(f, tail)[1:]
+        copies = [f] * least + [tail] * (most > least)
+    whole = copies[0] if copies else nothing
+    for copy in copies[1:]:
+        whole = beside(whole, copy)
+    return whole
+
+
+def counts_of(atom):
+    fits_empty, places, first, last, follow = parts_of(atom.formula)
+    to_after = 0 if atom.to_end else last + 1 + fits_empty
+    states = 1 + places + (not atom.to_end)
+    ways = first + follow + (not atom.from_start) + to_after
+    return min(states, MOST_TOLD), min(ways, MOST_TOLD)
+
+
+# --- Both modes ----------------------------------------------------------------------------------
+
+def atoms_of(expr):
+    """The atoms of an expression, from left to right."""
+    if isinstance(expr, Atom):
+        return [expr]
+    if isinstance(expr, Named):
+        return []
+    parts = [expr.part] if isinstance(expr, Project) else expr.parts
+    return [atom for part in parts for atom in atoms_of(part)]
+
+
+def query_atoms(query):
+    """Those of all lets in their order, and then those of the body."""
+    exprs = [expr for _, expr in query.lets] + [query.body]
+    return [atom for expr in exprs for atom in atoms_of(expr)]
+
+
+def explained(query, names):
+    lines = ['query ' + query_text(query), 'variables ' + (' '.join(names) or 'none')]
+    for number, atom in enumerate(query_atoms(query), 1):
+        lines.append('atom %d states %d ways %d' % ((number,) + counts_of(atom)))
+    return ''.join(line + '\n' for line in lines).encode()
+
+
+def trial_document(lines):
+    """Each third line, from the first on, tells of a login."""
+    def line(i):
+        if i % 3:
+            return 'tick %d\n' % i
+        return 'u%d logged in from 10.%d.%d.%d\n' % (i % 97, i % 256, i // 7 % 256, i % 10)
+
+    return ''.join(map(line, range(lines))).encode()
+
+
+def summed(lines, document, shown):
+    """The summary of a trial, whose rows are shown as these lines."""
+    first, last = (shown[0], shown[-1]) if shown else ('none', 'none')
+    return ('lines %d\nbytes %d\nrows %d\nfirst %s\nlast %s\n'
+            % (lines, len(document), len(shown), first, last)).encode()
