@@ -1,5 +1,5 @@
 -- Entries that wait, one more or fewer.
-use Rattle.std.proofs.Common.{◌≡◌, List, [], ◌∷◌, ◌++◌, subst}
+use Rattle.std.proofs.Common.{List, [], ◌∷◌, ◌++◌}
 use Rattle.node_arena.specs.Rows.{NamedRow, IsThere}
 use Rattle.engine_table.specs.Waiting.{AreThere}
 use Rattle.engine_table.specs.declared.words.Waiting.{Waiting}
