@@ -5,19 +5,16 @@ use Rattle.std.specs.List.{sum_by}
 use Rattle.std.proofs.lemmas.List.{length-map, take-append-drop, take_all}
 use Rattle.std.proofs.lemmas.Option.{slice_get-map}
 use Rattle.span_core.specs.Intervals.{Covers}
-use Rattle.span_core.specs.Lists.{AtMost, Has}
+use Rattle.span_core.specs.Lists.{Has}
 use Rattle.span_core.proofs.HasLaws.{Has-slice_get}
-use Rattle.span_core.specs.declared.TheConstants.{MOST_VARIABLES}
 use Rattle.spanner_model.specs.Captures.{VarName}
-use Rattle.spanner_model.specs.Expression.{ExprTree, QueryTree, atom, join_all, project, union_all}
-use Rattle.spanner_model.specs.Functional.{HasVar, IsFunctional}
+use Rattle.spanner_model.specs.Expression.{ExprTree, QueryTree, join_all, union_all}
 use Rattle.spanner_model.specs.Sound.{IsSound}
 use Rattle.spanner_model.specs.Tree.{Tree}
-use Rattle.spanner_model.specs.WellBuilt.{IsWellBuilt}
 use Rattle.spanner_model.proofs.TreeLaws.{take_at_more}
 use Rattle.automaton_reading.proofs.Matching.{cons_sum}
 use Rattle.query_automaton.proofs.Combining.{Join, Union}
-use Rattle.query_automaton.proofs.CompileLaws.{asked_part, asked_sub}
+use Rattle.query_automaton.proofs.CompileLaws.{asked_part}
 use Rattle.query_automaton.proofs.PieceLaws.{asked_body, asked_let}
 use Rattle.filter_laws.specs.Touching.{IsTouchedBy, SomeAtom, TouchedOf, sum_atoms}
 use Rattle.segment_filter.specs.declared.fault.FilterFault.{FilterFault}
@@ -34,20 +31,11 @@ union_sound es (q, n, asked) e h = (q, n, asked_part Union q n es e h asked)
 pub join_sound : (es : List ExprTree) → IsInSound (join_all es) → (e : ExprTree) → Has es e → IsInSound e
 join_sound es (q, n, asked) e h = (q, n, asked_part Join q n es e h asked)
 
-pub sub_sound : (kept : List VarName) (e : ExprTree) → IsInSound (project kept e) → IsInSound e
-sub_sound kept e (q, n, asked) = (q, n, asked_sub q n kept e asked)
-
 pub let_sound : (q : QueryTree) (n : ℕ) (l : VarName × ExprTree) → IsSound q → slice_get q.lets n ≡ Some l → IsInSound l.1
 let_sound q n l sound at = (q, n, asked_let q n l sound at)
 
 pub body_sound : (q : QueryTree) → IsSound q → IsInSound q.body
 body_sound q sound = (q, length q.lets, asked_body q sound)
-
--- what is asked of an atom
-pub atom_sound : (s t : Bool) (f : Tree) → IsInSound (atom s t f) → IsWellBuilt f × IsFunctional f × AtMost MOST_VARIABLES (HasVar f)
-atom_sound s t f (q, n, asked) =
-    let few = asked.sound.few in
-    (asked.sound_expr.0, asked.sound_expr.1, (few.0, few.1, λ x h. few.2 x (asked.named x h)))
 
 -- ---- some atom of parts
 
@@ -208,10 +196,6 @@ module _ (d : List ℕ) where
   pub full_let : (limit : ℕ) (q : QueryTree) (k : ℕ) (l : VarName × ExprTree) → slice_get q.lets k ≡ Some l → (fault : FilterFault) → HasFullAtom d limit l.1 fault → IsFilterFault q d true limit fault
   full_let limit q k l at (Full weight) h = (refl, inl (l, Has-slice_get q.lets k l at, h))
   full_let limit q k l at OutOfMemory h = tt
-
-  pub full_body : (limit : ℕ) (q : QueryTree) (fault : FilterFault) → HasFullAtom d limit q.body fault → IsFilterFault q d true limit fault
-  full_body limit q (Full weight) h = (refl, inr h)
-  full_body limit q OutOfMemory h = tt
 
   -- ---- steps
 

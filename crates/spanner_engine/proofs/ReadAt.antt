@@ -47,13 +47,6 @@ covers_touched (part ∷ parts) i (inl h) =
     or_left (nat_le part.0 i && nat_le i part.1) (is_touched parts i) (both_true (nat_le part.0 i) (nat_le i part.1) (le-leb part.0 i h.0) (le-leb i part.1 h.1))
 covers_touched (part ∷ parts) i (inr h) = or_right (nat_le part.0 i && nat_le i part.1) (is_touched parts i) (covers_touched parts i h)
 
-pub covers_all : (parts : List (ℕ × ℕ)) (n i : ℕ) → parts ≡ (0, n) ∷ [] → Covers parts i ↔ (i ≤ n)
-covers_all parts n i are =
-    subst (λ (ps : List (ℕ × ℕ)). Covers ps i ↔ (i ≤ n)) (sym are) (
-      λ h. elim h as (λ _. i ≤ n) [ inl a ↦ a.1 | inr b ↦ absurd b ],
-      λ h. inl (omega arith, h),
-    )
-
 -- ---- within the document
 
 -- what follows for each atom
