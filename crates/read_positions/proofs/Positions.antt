@@ -1,0 +1,121 @@
+-- Whether a position is read can be told.
+use Rattle.std.proofs.Common.{ℕ, suc, ◌<◌, ◌≤◌, Bool, true, false, List, [], length, inr, arith}
+use Rattle.span_core.specs.Lists.{Has}
+use Rattle.span_core.proofs.HasLaws.{place_of-Has}
+use Rattle.spanner_model.specs.Captures.{VarName}
+use Rattle.spanner_model.specs.Tree.{Tree}
+use Rattle.spanner_model.specs.Expression.{ExprTree, QueryTree, atom, named, union_end, union, join_end, join, project}
+use Rattle.spanner_model.specs.Functional.{IsFunctional}
+use Rattle.spanner_model.specs.Sound.{AreJoined, AreUnited, IsSound, IsSoundExpr, IsSoundUnder}
+use Rattle.spanner_model.specs.WellBuilt.{IsWellBuilt}
+use Rattle.place_automaton.specs.Atom.{AreBytes}
+use Rattle.place_automaton.specs.Words.{atom_automaton}
+use Rattle.place_automaton.proofs.BuiltRepeats.{ordered_repeats}
+use Rattle.place_automaton.proofs.CountLaws.{functional_sequential}
+use Rattle.filter_laws.specs.Idling.{IsLed, LeadsOut}
+use Rattle.filter_laws.specs.Sharing.{IsShared, places_of}
+use Rattle.filter_laws.specs.Touching.{IsTouchedBy, SomeAtom, TouchedOf}
+use Rattle.filter_laws.proofs.SharingLaws.{sharing_law}
+use Rattle.spanner_engine.specs.Begun.{IsReadAt}
+use Rattle.read_positions.specs.ReadPositions.{ReadAreASet}
+use Rattle.read_positions.proofs.Deciding.{Decided, decide_below, decide_both, decide_either, decide_le, decide_same, decide_some, is_so, so_where}
+use Rattle.read_positions.proofs.Passing.{decide_led, decide_out}
+
+-- ---- an atom
+
+decide_shared : (s t : Bool) (f : Tree) (d : List ℕ) (i : ℕ) → Decided (IsShared [] s t f d i)
+decide_shared s t f d i =
+    decide_same
+    ((r : ℕ) × (r < suc (places_of [] f)) × (IsLed (atom_automaton [] s t f) d i r × LeadsOut (atom_automaton [] true t f) d i r))
+    (IsShared [] s t f d i) (
+      λ h. (h.0, (let l : h.0 ≤ places_of [] f = omega (arith, h.1) in l), h.2.0, h.2.1),
+      λ h. (h.0, (let l : h.0 < suc (places_of [] f) = omega (arith, h.1) in l), (h.2, h.3)),
+    )
+    (decide_below
+    (λ (r : ℕ). IsLed (atom_automaton [] s t f) d i r × LeadsOut (atom_automaton [] true t f) d i r)
+    (λ r. decide_both
+    (IsLed (atom_automaton [] s t f) d i r)
+    (LeadsOut (atom_automaton [] true t f) d i r)
+    (decide_led (atom_automaton [] s t f) d i r)
+    (decide_out (atom_automaton [] true t f) d i r))
+    (suc (places_of [] f)))
+
+decide_touched : (s t : Bool) (f : Tree) → IsWellBuilt f → IsFunctional f → (d : List ℕ) → AreBytes d → (i : ℕ) → Decided (IsTouchedBy s t f d i)
+decide_touched s t f built functional d bytes i =
+    let law = sharing_law [] s t f (functional_sequential f functional) (ordered_repeats f built) d bytes i in
+    decide_same (IsShared [] s t f d i) (IsTouchedBy s t f d i) (law.1, law.0) (decide_shared s t f d i)
+
+-- ---- the atoms of a sound expression
+
+-- each atom is well built and functional
+abbrev AtomsFit : ExprTree → Type 0
+AtomsFit (atom s t f) = IsWellBuilt f × IsFunctional f
+AtomsFit (named k) = Unit {0}
+AtomsFit union_end = Unit {0}
+AtomsFit (union e rest) = AtomsFit e × AtomsFit rest
+AtomsFit join_end = Unit {0}
+AtomsFit (join e rest) = AtomsFit e × AtomsFit rest
+AtomsFit (project kept e) = AtomsFit e
+
+module _ (V : ℕ → VarName → Type 0) (n : ℕ) where
+  -- in each role in which an expression may stand
+  record Fit (e : ExprTree) : Type 0 where
+    whole : IsSoundExpr V n e → AtomsFit e
+    united : AreUnited V n e → AtomsFit e
+    joined : AreJoined V n e → AtomsFit e
+
+  all_fit : (e : ExprTree) → Fit e
+  all_fit (atom s t f) = record { whole = λ h. h; united = λ h. absurd h; joined = λ h. absurd h }
+  all_fit (named k) = record { whole = λ h. tt; united = λ h. absurd h; joined = λ h. absurd h }
+  all_fit union_end = record { whole = λ h. absurd h; united = λ h. tt; joined = λ h. absurd h }
+  all_fit (union e rest) =
+      let a = all_fit e in
+      let b = all_fit rest in
+      record { whole = λ h. (a.whole h.0, b.united h.1); united = λ h. (a.whole h.0, b.united h.1); joined = λ h. absurd h }
+  all_fit join_end = record { whole = λ h. absurd h; united = λ h. absurd h; joined = λ h. tt }
+  all_fit (join e rest) =
+      let a = all_fit e in
+      let b = all_fit rest in
+      record { whole = λ h. (a.whole h.0, b.joined h.1); united = λ h. absurd h; joined = λ h. (a.whole h.0, b.joined h.1) }
+  all_fit (project kept e) = let a = all_fit e in record { whole = λ h. a.whole h.0; united = λ h. absurd h; joined = λ h. absurd h }
+
+  fits : (e : ExprTree) → IsSoundExpr V n e → AtomsFit e
+  fits e h = (all_fit e).whole h
+
+module _ (P : Bool → Bool → Tree → Type 0) (decide : (s t : Bool) (f : Tree) → IsWellBuilt f → IsFunctional f → Decided (P s t f)) where
+  decide_atoms : (e : ExprTree) → AtomsFit e → Decided (SomeAtom P e)
+  decide_atoms (atom s t f) fit = decide s t f fit.0 fit.1
+  decide_atoms (named k) fit = inr (λ h. h)
+  decide_atoms union_end fit = inr (λ h. h)
+  decide_atoms (union e rest) fit = decide_either (SomeAtom P e) (SomeAtom P rest) (decide_atoms e fit.0) (decide_atoms rest fit.1)
+  decide_atoms join_end fit = inr (λ h. h)
+  decide_atoms (join e rest) fit = decide_either (SomeAtom P e) (SomeAtom P rest) (decide_atoms e fit.0) (decide_atoms rest fit.1)
+  decide_atoms (project kept e) fit = decide_atoms e fit
+
+-- ---- a query
+
+module _ (q : QueryTree) (sound : IsSound q) (d : List ℕ) (bytes : AreBytes d) where
+  let_fits : (l : VarName × ExprTree) → Has q.lets l → AtomsFit l.1
+  let_fits l h =
+      let place = place_of-Has q.lets l h in
+      let under : IsSoundUnder q.lets place.0 l.1 = sound.sound_lets place.0 l place.2 in
+      fits _ _ l.1 under.0
+
+  decide_query : (i : ℕ) → Decided (TouchedOf q d i)
+  decide_query i =
+      let one : (s t : Bool) (f : Tree) → IsWellBuilt f → IsFunctional f → Decided (IsTouchedBy s t f d i) =
+      λ s t f built functional. decide_touched s t f built functional d bytes i in
+      decide_either
+      ((l : VarName × ExprTree) × Has q.lets l × SomeAtom (λ s t f. IsTouchedBy s t f d i) l.1)
+      (SomeAtom (λ s t f. IsTouchedBy s t f d i) q.body)
+      (decide_some (λ (l : VarName × ExprTree). SomeAtom (λ s t f. IsTouchedBy s t f d i) l.1) q.lets
+      (λ l h. decide_atoms (λ s t f. IsTouchedBy s t f d i) one l.1 (let_fits l h)))
+      (decide_atoms (λ s t f. IsTouchedBy s t f d i) one q.body (fits _ _ q.body sound.sound_body.0))
+
+  decide_read : (filter : Bool) (i : ℕ) → Decided (IsReadAt filter q d i)
+  decide_read false i = decide_le i (length d)
+  decide_read true i = decide_query i
+
+pub read_are_a_set : ReadAreASet
+read_are_a_set filter q sound d bytes =
+    (λ i. is_so (decide_read q sound d bytes filter i), λ i. so_where (IsReadAt filter q d i) (decide_read q sound d bytes filter i))
