@@ -1,0 +1,222 @@
+#!/usr/bin/env python3
+"""Seven workloads on rematch and on other tools, as tables.
+
+    bench/workloads.py [--only ABCDEFG] [--times N] [--seconds S] [--program PATH]
+                       [--engine PATH --bodies stay,layer] [--growth] [--instructions]
+
+Each tool gets the same document; what it prints goes to /dev/null, and its rows are counted in a run of
+their own. A figure is the seconds of processor time, the median of N runs, with the most memory.
+
+    rematch     all rows, in order
+    bodies      all rows, in order: another program with rematch's command line and an option --engine BODY;
+                its text is compared with that of rematch to the byte
+    pcre2       all rows: PCRE2's JIT, a callout that notes the groups, (*FAIL), then sorted (others.cpp)
+    perl        all rows, by the same idiom and a hash, without order
+    hyperscan   each end of a match with its leftmost beginning, without captures (others.cpp)
+    re2, rg, pcre2grep    the matches that they give: leftmost, not overlapping
+
+measure.c and others.cpp are built on the way (cc, g++; libpcre2-dev, libhyperscan-dev, libre2-dev of Debian);
+where others.cpp cannot be built, its three are left out. --growth measures rematch on A and C at 1, 2, 4 and 8 times the document, --instructions counts what
+rematch does for a byte and for a row by valgrind's callgrind. Python 3.8, standard library; Linux, a C compiler.
+"""
+import argparse
+import hashlib
+import os
+import re
+import shutil
+import statistics
+import subprocess
+import sys
+import tempfile
+from typing import NamedTuple
+
+import documents
+
+ROOT = os.path.dirname(os.path.dirname(os.path.abspath(__file__)))
+
+
+class Workload(NamedTuple):
+    name: str
+    what: str
+    kind: str
+    size: int
+    seed: int
+    query: str
+    pattern: str  # the same for tools without names
+    row: str  # the row in Perl
+    more: tuple = ()  # words of rematch
+
+
+WORKLOADS = [
+    Workload('A', 'log, user and address', 'log', 291000, 1,
+             r'/!user{\w+} logged in from !ip{\d+\.\d+\.\d+\.\d+}/',
+             r'(\w+) logged in from (\d+\.\d+\.\d+\.\d+)', 'ip=$-[2]-$+[2] user=$-[1]-$+[1]'),
+    Workload('B', 'sparse', 'errors', 64000000, 11, '/!x{ERROR [A-Z]+}/', '(ERROR [A-Z]+)', 'x=$-[1]-$+[1]'),
+    Workload('C', 'dense', 'runs', 20, 5, '/!x{[ab]+}/', '([ab]+)', 'x=$-[1]-$+[1]'),
+    Workload('D', 'two rows of very many', 'same', 500000, 1, '/!x{a*}/', '(a*)', 'x=$-[1]-$+[1]', ('-n', '2')),
+    Workload('E', 'word pairs', 'sentences', 100000, 7, r'/!x{\w+} (\w+ )*!y{\w+}/',
+             r'(\w+) (?:\w+ )*(\w+)', 'x=$-[1]-$+[1] y=$-[2]-$+[2]'),
+    Workload('F', 'motif with a gap', 'bases', 8000000, 13, '/!x{TATA[AT]A}[ACGT]{10,40}!y{CAAT}/',
+             '(TATA[AT]A)[ACGT]{10,40}(CAAT)', 'x=$-[1]-$+[1] y=$-[2]-$+[2]'),
+    Workload('G', 'determinising', 'letters', 2000000, 17, '/(a|b)*a(a|b){12}!x{c}/',
+             '(?:a|b)*a(?:a|b){12}(c)', 'x=$-[1]-$+[1]'),
+]
+
+PERL = r'''
+local $/; open my $file, "<:raw", $ARGV[0] or die; my $document = <$file>; my %%rows;
+$document =~ m~%s(?{ $rows{"%s"} = 1 })(*FAIL)~a;
+print "$_\n" for keys %%rows;
+'''
+
+NO_FAULT = {'pcre2grep': (0, 1), 'rg': (0, 1)}  # 1: no match
+
+
+class Run(NamedTuple):
+    seconds: float
+    peak: float  # MB
+
+
+def commands(work, given, document):
+    """The command of each tool. Those of `others` print the number of rows, the rest a row a line."""
+    rows = ['-e', work.query, *work.more, document]
+    yield 'rematch', [given.program] + rows
+    for body in given.bodies.split(',') if given.engine else []:
+        yield body, [given.engine, '--engine', body] + rows
+    if given.others:
+        for engine in ('pcre2', 'hyperscan', 're2'):
+            yield engine, [given.others, engine, work.pattern, document]
+    yield 'perl', ['perl', '-e', PERL % (work.pattern, work.row), document]
+    yield 'rg', ['rg', '-oaN', '--no-filename', '-e', '(?-u)' + work.pattern, document]
+    yield 'pcre2grep', ['pcre2grep', '--file-offsets', '-e', work.pattern, document]
+
+
+def build(folder):
+    """Builds `measure` into the folder, and `others`, whose path it gives, or None."""
+    here = os.path.dirname(os.path.abspath(__file__))
+    subprocess.run(['cc', '-O2', '-o', os.path.join(folder, 'measure'), os.path.join(here, 'measure.c')], check=True)
+    others = os.path.join(folder, 'others')
+    built = subprocess.run(['g++', '-O3', '-std=c++20', '-o', others, os.path.join(here, 'others.cpp'),
+                            '-lpcre2-8', '-lhs', '-lre2'], stderr=subprocess.DEVNULL, check=False)
+    return others if built.returncode == 0 else None
+
+
+def run(command, given):
+    """One run, or None where it does not end in time or does not go well."""
+    result = os.path.join(given.folder, 'result')
+    subprocess.run([os.path.join(given.folder, 'measure'), '%d' % given.seconds, result] + command,
+                   stdin=subprocess.DEVNULL, stdout=subprocess.DEVNULL, stderr=subprocess.DEVNULL, check=True)
+    with open(result) as file:
+        seconds, peak, status = file.read().split()
+    ended = os.WIFEXITED(int(status)) and os.WEXITSTATUS(int(status)) in NO_FAULT.get(os.path.basename(command[0]), (0,))
+    return Run(float(seconds), int(peak) / 1024) if ended else None
+
+
+def measure(command, given):
+    """The median of the seconds of several runs, and the most memory."""
+    runs = []
+    for _ in range(given.times):
+        one = run(command, given)
+        if one is None:
+            return None
+        runs.append(one)
+    return Run(statistics.median(r.seconds for r in runs), max(r.peak for r in runs))
+
+
+def output(tool, command):
+    """A digest of what the tool prints, and its rows."""
+    digest, lines, last = hashlib.sha256(), 0, b''
+    with subprocess.Popen(command, stdin=subprocess.DEVNULL, stdout=subprocess.PIPE, stderr=subprocess.DEVNULL) as started:
+        for piece in iter(lambda: started.stdout.read(1 << 20), b''):
+            digest.update(piece)
+            lines += piece.count(b'\n')
+            last = piece
+    return digest.digest(), int(last) if tool in ('pcre2', 'hyperscan', 're2') else lines
+
+
+def show(work, given):
+    document = os.path.join(given.folder, work.name)
+    with open(document, 'wb') as out:
+        length = documents.write(work.kind, work.size, work.seed, out)
+    print('\n%s: %s, %d bytes, `%s`\n' % (work.name, work.what, length, ' '.join((work.query,) + work.more)))
+    print('| Tool | Seconds | MB | Rows | Share |\n|---|---|---|---|---|')
+    total = text = None
+    for tool, command in commands(work, given, document):
+        if not shutil.which(command[0]):
+            print('| %s | not installed | | | |' % tool)
+            continue
+        first = run(command, given)
+        if first is None:
+            print('| %s | more than %g | | | |' % (tool, given.seconds))
+            continue
+        best = measure(command, given) or first
+        told, rows = output(tool, command)
+        if tool == 'rematch':
+            total, text = rows, told
+        apart = tool in given.bodies.split(',') and text is not None and told != text
+        share = '%.4g%%' % (100 * rows / total) if total and not work.more else '-'
+        print('| %s | %.3f | %.0f | %d | %s |%s' % (tool, best.seconds, best.peak, rows, share, ' OTHER TEXT' if apart else ''))
+        sys.stdout.flush()
+
+
+def show_growth(given):
+    print('\n| Document | Times | Bytes | Rows | Seconds | ns a byte | ns a row | MB |\n|---|---|---|---|---|---|---|---|')
+    for work in (WORKLOADS[0], WORKLOADS[2]):
+        for times in (1, 2, 4, 8):
+            document = os.path.join(given.folder, 'growth')
+            with open(document, 'wb') as out:
+                length = documents.write(work.kind, work.size * times, work.seed, out)
+            command = [given.program, '-e', work.query, document]
+            best = measure(command, given)
+            rows = output('rematch', command)[1]
+            print('| %s | %d | %d | %d | %.3f | %.0f | %.0f | %.0f |' % (
+                work.name, times, length, rows, best.seconds, best.seconds / length * 1e9, best.seconds / rows * 1e9, best.peak))
+            sys.stdout.flush()
+
+
+def instructions(command):
+    told = subprocess.run(['valgrind', '--tool=callgrind', '--callgrind-out-file=/dev/null'] + command,
+                          stdin=subprocess.DEVNULL, stdout=subprocess.DEVNULL, stderr=subprocess.PIPE, check=True).stderr
+    return int(re.search(rb'Collected : (\d+)', told).group(1))
+
+
+def show_instructions(given):
+    print('\n| Workload | Instructions | a byte | a row |\n|---|---|---|---|')
+    for work in WORKLOADS:
+        if work.name not in given.only:
+            continue
+        document = os.path.join(given.folder, 'counted')
+        with open(document, 'wb') as out:
+            length = documents.write(work.kind, work.size, work.seed, out)
+        command = [given.program, '-e', work.query, *work.more, document]
+        made, rows = instructions(command), output('rematch', command)[1]
+        print('| %s | %d | %.1f | %.1f |' % (work.name, made, made / length, made / rows))
+        sys.stdout.flush()
+
+
+def main():
+    parser = argparse.ArgumentParser(description='Seven workloads on rematch and on other tools.')
+    parser.add_argument('--program', default=os.path.join(ROOT, 'crates', 'rematch', 'out', 'rematch'))
+    parser.add_argument('--engine', help="another program with rematch's command line and an option --engine")
+    parser.add_argument('--bodies', default='stay,layer', help='the bodies of --engine')
+    parser.add_argument('--only', default='ABCDEFG')
+    parser.add_argument('--times', type=int, default=5)
+    parser.add_argument('--seconds', type=float, default=25)
+    parser.add_argument('--growth', action='store_true')
+    parser.add_argument('--instructions', action='store_true')
+    given = parser.parse_args()
+    given.program = os.path.abspath(given.program)
+    print('load %.2f of %d processors' % (os.getloadavg()[0], os.cpu_count()))
+    with tempfile.TemporaryDirectory() as given.folder:
+        given.others = build(given.folder)
+        if given.growth:
+            show_growth(given)
+        elif given.instructions:
+            show_instructions(given)
+        else:
+            for work in WORKLOADS:
+                if work.name in given.only:
+                    show(work, given)
+
+
+if __name__ == '__main__':
+    main()
