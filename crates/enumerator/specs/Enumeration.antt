@@ -10,12 +10,13 @@ use Rattle.node_arena.specs.Words.{Word}
 abbrev pub SpanRow : Type 0
 SpanRow = List (Option Span)
 
--- the rows over so many variables that lie in so many row cells: all, and those to come
+-- the rows over so many variables that lie in so many row cells: all, those to come, and the one that it stands at
 pub record Enumeration : Type 0 where
   pub variables : ℕ
   pub cells : ℕ
   pub whole : List SpanRow
   pub rest : List SpanRow
+  pub row : SpanRow
 
 -- the word has the blocks of a row, each of them once, and no empty one
 abbrev pub IsWordOfRow : ℕ → Word → Type 0

@@ -1,32 +1,35 @@
 //! Enumerators.
-ghost use Rattle.std.specs.Prelude.{◌≡◌, ℕ, ◌+◌, ◌*◌, ◌<◌, ◌≤◌, [], ◌∷◌, length, MatchOption};
+ghost use Rattle.std.specs.Prelude.{◌≡◌, ℕ, ◌+◌, ◌*◌, ◌<◌, ◌≤◌, [], ◌∷◌, length, map, Some, MatchOption};
+ghost use Rattle.std.specs.Bool.{OnTrue, OnFalse};
 ghost use Rattle.span_core.specs.Lists.{Has};
 ghost use Rattle.node_arena.specs.Words.{Word};
 ghost use Rattle.node_arena.specs.Rows.{rows};
 ghost use Rattle.enumerator.specs.Enumeration.{AreInBlockOrder, AreRowsOf, IsRestAfter, IsWordOfRow};
 
-use crate::places::MOST_MARKERS;
+use crate::places::{MOST_MARKERS, row_of};
 use crate::seeking::seek_row;
 use crate::stack::Stack;
 use crate::walking::{next_row, wait};
 use output_graph::RowLists;
-use span_core::{MOST_VARIABLES, Marks, Row, Steps};
+use span_core::{MOST_VARIABLES, Marks, Row, Span, Steps};
 use std::marker::Model;
 use std::sync::ledger::Ledger;
 
 /// Gives the rows of row lists one by one, in block order, and can go to any place among them.
 ///
-/// It is seen as the list of all rows and the list of those that are still to come.
+/// It is seen as the list of all rows, the list of those that are still to come, and the row that it
+/// stands at.
 #[derive(Drop)]
 pub struct Enumerator {
     lists: RowLists,
     variables: usize,
     places: [u32; MOST_MARKERS],
+    spans: [Span; MOST_VARIABLES],
     stack: Stack,
 }
 
 impl Model for Enumerator {
-    ghost use Rattle.std.specs.Prelude.{length};
+    ghost use Rattle.std.specs.Prelude.{length, map, take, Some};
     ghost use Rattle.enumerator.specs.Enumeration.{Enumeration};
 
     ghost Value = { Enumeration };
@@ -39,6 +42,7 @@ impl Model for Enumerator {
       cells = length e.lists.store;
       whole = rows_of e.lists e.variables;
       rest = waiting_rows e.lists.store e.variables (places_of e.places) e.stack;
+      row = map Some (take e.variables e.spans);
     } };
 
     ghost invariant = { λ e. IsEnumerating e.lists e.variables (places_of e.places) e.stack };
@@ -62,6 +66,7 @@ impl Enumerator {
             lists,
             variables: v,
             places: [0; MOST_MARKERS],
+            spans: [Span::new(0, 0); MOST_VARIABLES],
             stack,
         }
     }
@@ -86,6 +91,40 @@ impl Enumerator {
         );
     }
 
+    /// Goes to the next row; false exactly where none is left, and from then on until a seek. It takes no
+    /// memory, and at most two steps for each variable.
+    pub fn advance<L: Ledger>(&mut self, steps: &mut Steps<L>) -> bool
+        ensures variables { self.new.variables ≡ self.old.variables }
+        ensures cells { self.new.cells ≡ self.old.cells }
+        ensures whole { self.new.whole ≡ self.old.whole }
+        ensures next { OnTrue result (self.old.rest ≡ self.new.row ∷ self.new.rest) }
+        ensures none { OnFalse result ((self.old.rest ≡ []) × (self.new.rest ≡ []) × (self.new.row ≡ self.old.row)) }
+        ensures steps { steps.new ≤ steps.old + 2 * self.old.variables }
+    {
+        next_row(
+            &self.lists,
+            self.variables,
+            &mut self.places,
+            &mut self.spans,
+            &mut self.stack,
+            steps,
+        )
+    }
+
+    /// The spans of the row that it stands at; each is empty and at 0 before the first.
+    pub fn spans(&self) -> &[Span]
+        ensures { map Some result.now ≡ self.now.row }
+    {
+        &self.spans[..self.variables]
+    }
+
+    /// The row that it stands at.
+    pub fn row(&self) -> Row
+        ensures { result ≡ self.now.row }
+    {
+        row_of(&self.spans[..self.variables])
+    }
+
     /// The next row; None exactly where none is left, and from then on until a seek. It takes no
     /// memory, and at most two steps for each variable.
     pub fn next<L: Ledger>(&mut self, steps: &mut Steps<L>) -> Option<Row>
@@ -95,12 +134,10 @@ impl Enumerator {
         ensures rest { MatchOption result ((self.old.rest ≡ []) × (self.new.rest ≡ [])) (λ row. self.old.rest ≡ row ∷ self.new.rest) }
         ensures steps { steps.new ≤ steps.old + 2 * self.old.variables }
     {
-        next_row(
-            &self.lists,
-            self.variables,
-            &mut self.places,
-            &mut self.stack,
-            steps,
-        )
+        if self.advance(steps) {
+            Some(self.row())
+        } else {
+            None
+        }
     }
 }

@@ -1,5 +1,6 @@
 //! From one row to the next.
-ghost use Rattle.std.specs.Prelude.{◌≡◌, ℕ, ◌+◌, ◌*◌, ◌<◌, ◌≤◌, List, Option, [], ◌∷◌, ◌++◌, length, MatchOption};
+ghost use Rattle.std.specs.Prelude.{◌≡◌, ℕ, ◌+◌, ◌*◌, ◌<◌, ◌≤◌, List, Option, [], ◌∷◌, ◌++◌, length, map, take, Some};
+ghost use Rattle.std.specs.Bool.{OnTrue, OnFalse};
 ghost use Rattle.span_core.specs.Block.{IsTotal};
 ghost use Rattle.span_core.specs.Lists.{Has};
 ghost use Rattle.output_graph.specs.Listed.{AreLists};
@@ -8,33 +9,37 @@ ghost use Rattle.enumerator.specs.Rows.{places_of, rows_under, row_of as row_by,
 ghost use Rattle.enumerator.specs.Waiting.{AreBelow, AreStacked, IsWaiting, left, waited};
 ghost use Rattle.enumerator.specs.declared.stack.TheConstants.{MOST_WAITING};
 
-use crate::places::{MOST_MARKERS, place, row_of};
+use crate::places::{MOST_MARKERS, place, read_spans};
 use crate::stack::{MOST_WAITING, Stack, Waiting};
 use node_arena::Entry;
 use output_graph::RowLists;
-use span_core::{MOST_VARIABLES, Marks, Row, Steps};
+use span_core::{MOST_VARIABLES, Marks, Span, Steps};
 use std::sync::ledger::Ledger;
 
-/// The first row of what waits, which no longer waits then; None where nothing waits.
+/// Reads the spans of the first row of what waits, which no longer waits then; false where nothing waits.
 pub(crate) fn next_row<L: Ledger>(
     lists: &RowLists,
     v: usize,
     places: &mut [u32; MOST_MARKERS],
+    spans: &mut [Span; MOST_VARIABLES],
     stack: &mut Stack,
     steps: &mut Steps<L>,
-) -> Option<Row>
+) -> bool
     requires few { v ≤ MOST_VARIABLES }
     requires sound { AreLists lists.now }
     requires stacked { AreStacked lists.now.store v stack.old }
     requires total { (r : SpanRow) → Has (waiting_rows lists.now.store v (places_of places.old) stack.old) r → IsTotal r }
     ensures stacked { AreStacked lists.now.store v stack.new }
-    ensures next { MatchOption result ((stack.old ≡ []) × (stack.new ≡ []))
-        (λ row. waiting_rows lists.now.store v (places_of places.old) stack.old ≡ row ∷ waiting_rows lists.now.store v (places_of places.new) stack.new) }
+    ensures next { OnTrue result (waiting_rows lists.now.store v (places_of places.old) stack.old ≡ map Some (take v spans.new) ∷ waiting_rows lists.now.store v (places_of places.new) stack.new) }
+    ensures none { OnFalse result ((stack.old ≡ []) × (stack.new ≡ []) × (spans.new ≡ spans.old)) }
     ensures steps { steps.new ≤ steps.old + 2 * v }
 {
-    let waiting = stack.pop()?;
+    let Some(waiting) = stack.pop() else {
+        return false;
+    };
     settle(lists, v, waiting, places, stack, steps);
-    Some(row_of(v, places))
+    read_spans(v, places, spans);
+    true
 }
 
 /// Settles the markers of the first row of `waiting`; its other rows wait then.

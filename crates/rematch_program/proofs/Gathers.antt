@@ -1,5 +1,8 @@
 -- Puts one after another.
-use Rattle.std.proofs.Common.{◌≡◌, ℕ, List, [], ◌++◌, Option, ap, ◌∙◌, sym, refl, subst, append_assoc, append-nil}
+use Rattle.std.proofs.Common.{◌≡◌, ℕ, List, [], ◌++◌, Option, ap, ◌∙◌, sym, refl, subst, append_assoc, append-nil, ◌+◌, ◌-◌, ◌≤◌, length, take, drop, zero-add, arith}
+use Rattle.std.specs.List.{copy_within}
+use Rattle.std.proofs.lemmas.List.{drop-take, length-drop, length-take-le, take-append-drop, take-take}
+use Rattle.std.proofs.lemmas.List.Edits.{take-paste}
 use Rattle.std.proofs.KnownBytes.{Appends-nil, Appends-trans}
 use Rattle.std.specs.Io.KnownBytes.{Appends}
 use Rattle.rm_outside.specs.Sink.{AppendsPart}
@@ -76,3 +79,28 @@ rows_passed mid new waiting waiting' lines s = record {
   adds = s.adds;
   joined = ap (λ xs. s.sent ++ xs) (sym (append-nil waiting')) ∙ s.joined;
 }
+
+-- ---- a line in its place
+
+-- a line that waits behind those before it
+pub passes_kept : (o : Option (List ℕ)) (before after : ℕ) (waiting line left : List ℕ) → left ≡ waiting ++ line → Passes waiting line left (change o o before after)
+passes_kept o before after waiting line left is = record { sent = []; adds = Appends-nil o; joined = is }
+
+-- those before it are sent, and it waits alone
+pub passes_moved : (old new : Option (List ℕ)) (before after : ℕ) (waiting line sent left : List ℕ) → Appends old new sent → sent ++ left ≡ waiting ++ line → Passes waiting line left (change old new before after)
+passes_moved old new before after waiting line sent left adds joined = record { sent = sent; adds = adds; joined = joined }
+
+-- bytes that are moved to the front
+pub moved_front : (at end : ℕ) (old new : List ℕ) → at ≤ end → end ≤ length old → new ≡ copy_within old at end 0 → take at old ++ take (end - at) new ≡ take end old
+moved_front at end old new low inside is =
+    let n = end - at in
+    let whole : at + n ≡ end = omega arith in
+    let few : n ≤ length (drop at old) = omega (arith, length-drop at old) in
+    let none : 0 ≤ length old = omega arith in
+    let moved : take n new ≡ take n (drop at old) =
+    ap (take n) is ∙ ap (λ k. take k (copy_within old at end 0)) (sym (zero-add n)) ∙ take-paste old 0 (drop at old) n none few in
+    let there : take n (drop at old) ≡ drop at (take end old) = sym (drop-take at n old) ∙ ap (λ k. drop at (take k old)) whole in
+    ap (λ (xs : List ℕ). take at old ++ xs) (moved ∙ there) ∙ ap (λ (xs : List ℕ). xs ++ drop at (take end old)) (sym (take-take at end old low)) ∙ take-append-drop at (take end old)
+
+pub nothing_taken : (n : ℕ) (xs : List ℕ) → take n xs ≡ [] → n ≤ length xs → n ≡ 0
+nothing_taken n xs is inside = omega (arith, length-take-le n xs inside, ap length is)

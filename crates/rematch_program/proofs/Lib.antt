@@ -1,5 +1,6 @@
 pub mod Gathers
 pub mod Inside
+pub mod KeptLines
 pub mod PageLaws
 pub mod QueryLaws
 pub mod RestLaws

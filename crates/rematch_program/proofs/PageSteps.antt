@@ -1,5 +1,6 @@
 -- One row of a page after another.
-use Rattle.std.specs.Prelude.{is_some, MatchOption, ◌↔◌, Bool, IsTrue}
+use Rattle.std.specs.Prelude.{◌↔◌, Bool, true, false, IsTrue}
+use Rattle.std.specs.Bool.{OnTrue, OnFalse}
 use Rattle.std.proofs.Common.{subst, ◌≡◌, ℕ, zero, suc, ◌+◌, ◌-◌, ◌*◌, ◌<◌, ◌≤◌, List, [], ◌∷◌, ◌++◌, length, take, Option, Some, None, refl, sym, ap, ◌∙◌, inl, inr, arith}
 use Rattle.std.specs.List.{flat_map}
 use Rattle.std.proofs.lemmas.List.Concat.{flat_map-cons}
@@ -63,9 +64,9 @@ steps_last old new f M N B same few inv = last_taken old new N ((f + 1) * N) B (
 pub row_cost : (old new v : ℕ) → new ≤ old + 2 * v → new ≤ old + next_steps v
 row_cost old new v few = omega (arith, few)
 
-pub some_more : (more : Bool) (o : Option SpanRow) (coming new : List SpanRow) → more ≡ is_some o → MatchOption o ((coming ≡ []) × (new ≡ [])) (λ row. coming ≡ row ∷ new) → IsTrue more ↔ (0 < length coming)
-some_more more None coming new is h = let none = ap length h.0 in (λ t. absurd (cc), λ l. absurd (omega (arith, none, l)))
-some_more more (Some row) coming new is h = let one = ap length h in (λ t. omega (arith, one), λ l. is)
+pub some_more : (more : Bool) (coming new : List SpanRow) (row : SpanRow) (P Q : Type 0) → OnTrue more (coming ≡ row ∷ new) → OnFalse more ((coming ≡ []) × P × Q) → IsTrue more ↔ (0 < length coming)
+some_more false coming new row P Q some none = let n = ap length none.0 in (λ t. absurd (cc), λ l. absurd (omega (arith, n, l)))
+some_more true coming new row P Q some none = let one = ap length some in (λ t. omega (arith, one), λ l. refl)
 
 pub le_self : (n : ℕ) → n ≤ n
 le_self n = omega arith

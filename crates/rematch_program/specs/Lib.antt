@@ -2,6 +2,7 @@ pub mod Change
 pub mod Notes
 pub mod Pages
 pub mod Ending
+pub mod Kept
 pub mod Limits
 pub mod Explained
 pub mod Trials

@@ -73,6 +73,10 @@ abbrev pub cursor_given : List VarName → Option SpanRow → Option (List ℕ) 
 cursor_given names None given = given
 cursor_given names (Some row) given = Some (cursor_text names row)
 
+-- a row, where there is one
+abbrev pub row_if : Bool → SpanRow → Option SpanRow
+row_if some row = if some then Some row else None
+
 -- one row fewer
 abbrev pub fewer : Option ℕ → Option ℕ
 fewer None = None

@@ -1,58 +1,76 @@
 //! Lines are gathered, and put as whole lines: as many as fit a piece in one put, a longer one alone.
-ghost use Rattle.std.specs.Prelude.{◌≡◌, ◌≤◌, ◌++◌, [], OnOk, OnErr, IfOk, vec_len};
-ghost use Rattle.std.specs.Vec.{vec_capacity};
+ghost use Rattle.std.specs.Prelude.{◌≡◌, ◌+◌, ◌-◌, ◌≤◌, ◌++◌, [], OnOk, OnErr, IfOk, IsTrue, length, map, take, Some, slice_range};
+ghost use Rattle.std.specs.List.{list_all};
+ghost use Rattle.cell_text.specs.Cells.{ends_by};
+ghost use Rattle.row_writer.specs.Kept.{kept_text, line_room};
 ghost use Rattle.rematch_program.specs.Change.{change, Adds, AddsPart, Failed, Passes};
+ghost use Rattle.rematch_program.specs.declared.gather.TheConstants.{LINE_ROOM};
 
+use cell_text::put_bytes;
 use rm_outside::{Sink, SinkFailed};
-use span_core::OutOfMemory;
+use row_writer::KeptLine;
+use span_core::{OutOfMemory, Span};
 use std::alloc::Global;
+use std::marker::Model;
 
 /// The most bytes of a put of several lines.
 pub const PIECE: usize = 65_536;
 
-/// The lines that wait for a put. Once it is made, no call takes memory.
+/// The most room of a line that is written in place, behind those that wait. All spans have this room.
+pub const LINE_ROOM: usize = 2_048;
+
+/// The lines that wait for a put, which are seen. Once it is made, no call takes memory.
 #[derive(Drop)]
 pub struct Gather {
-    pub waiting: Vec<u8>,
-    ghost fits: { vec_len waiting ≤ 65536 },
-    ghost room: { 65536 ≤ vec_capacity waiting },
+    bytes: Vec<u8>,
+    end: usize,
+}
+
+impl Model for Gather {
+    ghost use Rattle.std.specs.Prelude.{◌≡◌, ◌≤◌, List, ℕ, take, length};
+
+    ghost Value = { List ℕ };
+
+    ghost view = { λ g. take g.end g.bytes.items };
+
+    ghost invariant = { λ g. (g.end ≤ 65536) × (length g.bytes.items ≡ 67584) };
 }
 
 impl Gather {
     /// Nothing waits, and the room that is ever needed is made.
     pub fn new(alloc: Global) -> Result<Gather, OutOfMemory>
-        ensures { IfOk result (λ g. g.waiting.items ≡ []) }
+        ensures { IfOk result (λ g. g ≡ []) }
     {
-        let waiting = Vec::with_capacity(alloc, PIECE)?;
-        Ok(Gather { waiting })
+        let bytes = vec![in alloc; 0; PIECE + LINE_ROOM]?;
+        Ok(Gather { bytes, end: 0 })
     }
 
     /// Puts what waits, unless nothing does.
     pub fn flush<O: Sink>(&mut self, out: &mut O) -> Result<(), SinkFailed>
-        ensures ok { OnOk result (Adds (change (O.written out.old) (O.written out.new) (O.faults out.old) (O.faults out.new)) self.old.waiting.items) }
-        ensures empty { OnOk result (self.new.waiting.items ≡ []) }
-        ensures part { OnErr result (AddsPart (change (O.written out.old) (O.written out.new) (O.faults out.old) (O.faults out.new)) self.old.waiting.items) }
+        ensures ok { OnOk result (Adds (change (O.written out.old) (O.written out.new) (O.faults out.old) (O.faults out.new)) self.old) }
+        ensures empty { OnOk result (self.new ≡ []) }
+        ensures part { OnErr result (AddsPart (change (O.written out.old) (O.written out.new) (O.faults out.old) (O.faults out.new)) self.old) }
         ensures failed { OnErr result (Failed (change (O.written out.old) (O.written out.new) (O.faults out.old) (O.faults out.new))) }
         ensures later { O.faults out.old ≤ O.faults out.new }
     {
-        if self.waiting.is_empty() {
+        if self.end == 0 {
             return Ok(());
         }
-        out.put(&self.waiting)?;
-        self.waiting.clear();
+        out.put(&self.bytes[..self.end])?;
+        self.end = 0;
         Ok(())
     }
 
     /// Adds a line.
     #[tactic(auto, using(crate::proofs::Gathers::part_more, crate::proofs::Gathers::part_after, crate::proofs::Gathers::passes_after))]
     pub fn add<O: Sink>(&mut self, line: &[u8], out: &mut O) -> Result<(), SinkFailed>
-        ensures ok { OnOk result (Passes self.old.waiting.items line.now self.new.waiting.items (change (O.written out.old) (O.written out.new) (O.faults out.old) (O.faults out.new))) }
-        ensures part { OnErr result (AddsPart (change (O.written out.old) (O.written out.new) (O.faults out.old) (O.faults out.new)) (self.old.waiting.items ++ line.now)) }
+        ensures ok { OnOk result (Passes self.old line.now self.new (change (O.written out.old) (O.written out.new) (O.faults out.old) (O.faults out.new))) }
+        ensures part { OnErr result (AddsPart (change (O.written out.old) (O.written out.new) (O.faults out.old) (O.faults out.new)) (self.old ++ line.now)) }
         ensures failed { OnErr result (Failed (change (O.written out.old) (O.written out.new) (O.faults out.old) (O.faults out.new))) }
         ensures later { O.faults out.old ≤ O.faults out.new }
     {
-        if line.len() <= PIECE - self.waiting.len() {
-            self.waiting.extend_from_slice(line).unwrap();
+        if line.len() <= PIECE - self.end {
+            self.end = put_bytes(line, self.bytes.as_mut_slice(), self.end);
             return Ok(());
         }
         match self.flush(out) {
@@ -63,8 +81,8 @@ impl Gather {
 
     /// Adds a line where none waits.
     fn begin<O: Sink>(&mut self, line: &[u8], out: &mut O) -> Result<(), SinkFailed>
-        requires { self.old.waiting.items ≡ [] }
-        ensures ok { OnOk result (Passes [] line.now self.new.waiting.items (change (O.written out.old) (O.written out.new) (O.faults out.old) (O.faults out.new))) }
+        requires { self.old ≡ [] }
+        ensures ok { OnOk result (Passes [] line.now self.new (change (O.written out.old) (O.written out.new) (O.faults out.old) (O.faults out.new))) }
         ensures part { OnErr result (AddsPart (change (O.written out.old) (O.written out.new) (O.faults out.old) (O.faults out.new)) line.now) }
         ensures failed { OnErr result (Failed (change (O.written out.old) (O.written out.new) (O.faults out.old) (O.faults out.new))) }
         ensures later { O.faults out.old ≤ O.faults out.new }
@@ -72,7 +90,61 @@ impl Gather {
         if line.len() > PIECE {
             return out.put(line);
         }
-        self.waiting.extend_from_slice(line).unwrap();
+        self.end = put_bytes(line, self.bytes.as_mut_slice(), 0);
         Ok(())
     }
+
+    /// Adds the line of a row. It is written where it waits, and what waits is put first where both are too long.
+    #[inline(always)]
+    pub fn add_row<O: Sink>(
+        &mut self,
+        line: &mut KeptLine,
+        spans: &[Span],
+        document: &[u8],
+        texts: bool,
+        out: &mut O,
+    ) -> Result<(), SinkFailed>
+        requires lengths { length spans.now ≡ length line.old }
+        requires inside { IsTrue (list_all (ends_by (length document.now)) (map Some spans.now)) }
+        requires room { line_room texts spans.now ≤ LINE_ROOM }
+        ensures line { line.new ≡ line.old }
+        ensures ok { OnOk result (Passes self.old (kept_text line.old (map Some spans.now) document.now texts) self.new (change (O.written out.old) (O.written out.new) (O.faults out.old) (O.faults out.new))) }
+        ensures part { OnErr result (AddsPart (change (O.written out.old) (O.written out.new) (O.faults out.old) (O.faults out.new)) (self.old ++ kept_text line.old (map Some spans.now) document.now texts)) }
+        ensures failed { OnErr result (Failed (change (O.written out.old) (O.written out.new) (O.faults out.old) (O.faults out.new))) }
+        ensures later { O.faults out.old ≤ O.faults out.new }
+    {
+        let end = line.put(spans, document, texts, self.bytes.as_mut_slice(), self.end);
+        if end <= PIECE {
+            self.end = end;
+            return Ok(());
+        }
+        match put_before(&mut self.bytes, self.end, end, out) {
+            Ok(()) => {
+                self.end = end - self.end;
+                Ok(())
+            }
+            Err(fault) => Err(fault),
+        }
+    }
+}
+
+/// Puts the bytes before a place, and moves those from there up to `end` to the front.
+fn put_before<O: Sink>(
+    bytes: &mut Vec<u8>,
+    at: usize,
+    end: usize,
+    out: &mut O,
+) -> Result<(), SinkFailed>
+    requires order { at ≤ end }
+    requires inside { end ≤ length bytes.old.items }
+    ensures length { length bytes.new.items ≡ length bytes.old.items }
+    ensures ok { OnOk result (Adds (change (O.written out.old) (O.written out.new) (O.faults out.old) (O.faults out.new)) (take at bytes.old.items)) }
+    ensures moved { OnOk result (take at bytes.old.items ++ take (end - at) bytes.new.items ≡ take end bytes.old.items) }
+    ensures part { OnErr result (AddsPart (change (O.written out.old) (O.written out.new) (O.faults out.old) (O.faults out.new)) (take at bytes.old.items)) }
+    ensures failed { OnErr result (Failed (change (O.written out.old) (O.written out.new) (O.faults out.old) (O.faults out.new))) }
+    ensures later { O.faults out.old ≤ O.faults out.new }
+{
+    out.put(&bytes[..at])?;
+    bytes.copy_within(at..end, 0);
+    Ok(())
 }

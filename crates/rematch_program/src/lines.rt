@@ -1,9 +1,10 @@
 //! The lines of a page, each written with no allocation once the line before it has made the room.
-ghost use Rattle.std.specs.Prelude.{◌≡◌, ℕ, ◌++◌, [], length, IsTrue, OnOk};
+ghost use Rattle.std.specs.Prelude.{◌≡◌, ℕ, ◌++◌, [], length, IsTrue, IfOk, OnOk};
+ghost use Rattle.rematch_program.specs.Kept.{AreHeads};
 ghost use Rattle.rematch_program.specs.Pages.{is_inside, page_head, row_text};
 
 use command_line::Form;
-use row_writer::{json_line, spans_line, table_head, table_line};
+use row_writer::{KeptLine, json_line, spans_line, table_head, table_line};
 use span_core::{OutOfMemory, Row, VarSet};
 use std::alloc::Global;
 
@@ -15,6 +16,17 @@ pub fn put_head(form: Form, vars: &VarSet, line: &mut Vec<u8>) -> Result<(), Out
     match form {
         Form::Table => table_head(vars, line),
         Form::Spans | Form::Json => Ok(()),
+    }
+}
+
+/// What is kept of the lines of rows from one to the next, in the forms that are written in place.
+pub fn kept_line(alloc: Global, form: Form, vars: &VarSet) -> Result<Option<KeptLine>, OutOfMemory>
+    ensures { IfOk result (λ kept. AreHeads form vars.now kept) }
+{
+    match form {
+        Form::Spans => Ok(Some(KeptLine::spans(alloc, vars)?)),
+        Form::Table => Ok(Some(KeptLine::table(alloc, vars)?)),
+        Form::Json => Ok(None),
     }
 }
 

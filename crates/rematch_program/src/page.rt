@@ -5,16 +5,18 @@ ghost use Rattle.command_line.specs.Asked.{request_view};
 ghost use Rattle.command_line.specs.Given.{text_behind};
 ghost use Rattle.rematch_program.specs.Ending.{note_bytes};
 ghost use Rattle.rematch_program.specs.Change.{change, clock, work, Adds, AddsPart, Failed, Passes, SoFar, TakesAtMost};
-ghost use Rattle.rematch_program.specs.Pages.{AllFit, FitsPage, HasWidth, cursor_given, fewer, first_rows, last_note, next_cursor, page_text, row_text};
+ghost use Rattle.rematch_program.specs.Kept.{AreHeads};
+ghost use Rattle.rematch_program.specs.Pages.{AllFit, FitsPage, HasWidth, cursor_given, fewer, first_rows, last_note, next_cursor, page_text, row_if, row_text};
 ghost use Rattle.rematch_program.specs.Run.{FromPage};
 ghost use Rattle.rematch_program.specs.Steps.{next_steps};
 ghost use Rattle.rematch_program.specs.declared.page.PageFault.TheVariants as fault;
 
 use crate::ending::{Ending, Note};
-use crate::gather::Gather;
-use crate::lines::{put_head, put_row};
+use crate::gather::{Gather, LINE_ROOM};
+use crate::lines::{kept_line, put_head, put_row};
 use command_line::Request;
 use rm_outside::{Sink, SinkFailed, Status};
+use row_writer::{KeptLine, kept_room};
 use span_core::{OutOfMemory, Row, Steps, VarSet};
 use spanner_engine::Answers;
 use std::alloc::Global;
@@ -91,6 +93,7 @@ fn put_page<O: Sink, L: Ledger>(
 {
     let mut gather = Gather::new(alloc)?;
     let mut line = Vec::new(alloc);
+    let mut kept = kept_line(alloc, request.form, vars)?;
     put_head(request.form, vars, &mut line)?;
     gather.add(&line, out)?;
     let end = match put_rows(
@@ -100,6 +103,7 @@ fn put_page<O: Sink, L: Ledger>(
         document,
         answers,
         &mut gather,
+        &mut kept,
         &mut line,
         out,
         steps,
@@ -155,13 +159,15 @@ fn put_rows<O: Sink, L: Ledger>(
     document: &[u8],
     answers: &mut Answers,
     gather: &mut Gather,
+    kept: &mut Option<KeptLine>,
     line: &mut Vec<u8>,
     out: &mut O,
     steps: &mut Steps<L>,
 ) -> Result<PageEnd, PageFault>
     requires fit { AllFit (length vars.now) (length document.now) answers.old.rest }
-    ensures ok { OnOk result (SoFar (O.written out.old) (O.written out.new) gather.new.waiting.items [] (gather.old.waiting.items ++ (flat_map (row_text (request_view request.now).form (request_view request.now).texts vars.now document.now) (first_rows (request_view request.now).limit answers.old.rest)))) }
-    ensures part { OnErr result (AddsPart (change (O.written out.old) (O.written out.new) (O.faults out.old) (O.faults out.new)) (gather.old.waiting.items ++ (flat_map (row_text (request_view request.now).form (request_view request.now).texts vars.now document.now) (first_rows (request_view request.now).limit answers.old.rest)))) }
+    requires heads { AreHeads (request_view request.now).form vars.now kept.old }
+    ensures ok { OnOk result (SoFar (O.written out.old) (O.written out.new) gather.new [] (gather.old ++ (flat_map (row_text (request_view request.now).form (request_view request.now).texts vars.now document.now) (first_rows (request_view request.now).limit answers.old.rest)))) }
+    ensures part { OnErr result (AddsPart (change (O.written out.old) (O.written out.new) (O.faults out.old) (O.faults out.new)) (gather.old ++ (flat_map (row_text (request_view request.now).form (request_view request.now).texts vars.now document.now) (first_rows (request_view request.now).limit answers.old.rest)))) }
     ensures failed { IsErrOf result PageFault.Failed → Failed (change (O.written out.old) (O.written out.new) (O.faults out.old) (O.faults out.new)) }
     ensures later { O.faults out.old ≤ O.faults out.new }
     ensures width { IfOk result (λ e. HasWidth (length vars.now) e.last) }
@@ -169,22 +175,33 @@ fn put_rows<O: Sink, L: Ledger>(
     ensures more { IfOk result (λ e. IsTrue e.more ↔ (length (first_rows (request_view request.now).limit answers.old.rest) < length answers.old.rest)) }
     ensures steps { steps.new ≤ steps.old + (length (first_rows (request_view request.now).limit answers.old.rest) + 1) * next_steps answers.old.variables }
 {
-    let mut last = None;
+    let mut some = false;
     let mut remaining = request.limit;
     while goes_on(remaining) {
-        let row = match answers.next(steps) {
-            Some(row) => row,
-            None => return Ok(PageEnd { last, more: false }),
-        };
-        let put = put_line(alloc, request, vars, document, &row, line, gather, out);
+        if !answers.advance(steps) {
+            let last = last_row(some, answers);
+            return Ok(PageEnd { last, more: false });
+        }
+        let put = put_line(
+            alloc, request, vars, document, answers, kept, line, gather, out,
+        );
         if let Err(fault) = put {
             return Err(fault);
         }
-        last = Some(row);
+        some = true;
         remaining = one_fewer(remaining);
     }
-    let more = answers.next(steps).is_some();
+    let last = last_row(some, answers);
+    let more = answers.advance(steps);
     Ok(PageEnd { last, more })
+}
+
+/// The row that was gone to last, if some row was.
+#[inline(never)]
+fn last_row(some: bool, answers: &Answers) -> Option<Row>
+    ensures { result ≡ row_if some answers.now.row }
+{
+    if some { Some(answers.row()) } else { None }
 }
 
 /// Whether a row more may be written.
@@ -208,8 +225,53 @@ fn one_fewer(remaining: Option<u64>) -> Option<u64>
     }
 }
 
-/// Puts the line of a row, or lets it wait. The room of the line before it is used again.
+/// Puts the line of the row that was gone to, or lets it wait. It is written where it waits, if its room is there.
+#[inline(always)]
 fn put_line<O: Sink>(
+    alloc: Global,
+    request: &Request<'_>,
+    vars: &VarSet,
+    document: &[u8],
+    answers: &Answers,
+    kept: &mut Option<KeptLine>,
+    line: &mut Vec<u8>,
+    gather: &mut Gather,
+    out: &mut O,
+) -> Result<(), PageFault>
+    requires fit { FitsPage (length vars.now) (length document.now) answers.now.row }
+    requires heads { AreHeads (request_view request.now).form vars.now kept.old }
+    ensures heads { kept.new ≡ kept.old }
+    ensures ok { OnOk result (Passes gather.old (row_text (request_view request.now).form (request_view request.now).texts vars.now document.now answers.now.row) gather.new
+        (change (O.written out.old) (O.written out.new) (O.faults out.old) (O.faults out.new))) }
+    ensures part { OnErr result (AddsPart (change (O.written out.old) (O.written out.new) (O.faults out.old) (O.faults out.new))
+        (gather.old ++ row_text (request_view request.now).form (request_view request.now).texts vars.now document.now answers.now.row)) }
+    ensures failed { IsErrOf result PageFault.Failed → Failed (change (O.written out.old) (O.written out.new) (O.faults out.old) (O.faults out.new)) }
+    ensures later { O.faults out.old ≤ O.faults out.new }
+{
+    if let Some(kept) = kept {
+        let (_few, spans) = (vars.len(), answers.spans());
+        if kept_room(spans, request.texts) <= LINE_ROOM {
+            return match gather.add_row(kept, spans, document, request.texts, out) {
+                Ok(()) => Ok(()),
+                Err(SinkFailed) => Err(PageFault::Failed),
+            };
+        }
+    }
+    put_apart(
+        alloc,
+        request,
+        vars,
+        document,
+        &answers.row(),
+        line,
+        gather,
+        out,
+    )
+}
+
+/// Puts the line of a row, or lets it wait, after it is made in the room of the line before it.
+#[inline(never)]
+fn put_apart<O: Sink>(
     alloc: Global,
     request: &Request<'_>,
     vars: &VarSet,
@@ -220,10 +282,10 @@ fn put_line<O: Sink>(
     out: &mut O,
 ) -> Result<(), PageFault>
     requires fit { FitsPage (length vars.now) (length document.now) row.now }
-    ensures ok { OnOk result (Passes gather.old.waiting.items (row_text (request_view request.now).form (request_view request.now).texts vars.now document.now row.now) gather.new.waiting.items
+    ensures ok { OnOk result (Passes gather.old (row_text (request_view request.now).form (request_view request.now).texts vars.now document.now row.now) gather.new
         (change (O.written out.old) (O.written out.new) (O.faults out.old) (O.faults out.new))) }
     ensures part { OnErr result (AddsPart (change (O.written out.old) (O.written out.new) (O.faults out.old) (O.faults out.new))
-        (gather.old.waiting.items ++ row_text (request_view request.now).form (request_view request.now).texts vars.now document.now row.now)) }
+        (gather.old ++ row_text (request_view request.now).form (request_view request.now).texts vars.now document.now row.now)) }
     ensures failed { IsErrOf result PageFault.Failed → Failed (change (O.written out.old) (O.written out.new) (O.faults out.old) (O.faults out.new)) }
     ensures later { O.faults out.old ≤ O.faults out.new }
 {

@@ -26,7 +26,7 @@ pub fn put_shown(span: Option<Span>, doc: &[u8], texts: bool, buffer: &mut [u8],
 }
 
 /// Writes the text of a span in quotes.
-fn put_quoted(span: Span, doc: &[u8], buffer: &mut [u8], at: usize) -> usize
+pub fn put_quoted(span: Span, doc: &[u8], buffer: &mut [u8], at: usize) -> usize
     requires inside { span.end ≤ length doc.now }
     requires room { at + 2 + 4 * (span.end - span.start) ≤ length buffer.old }
     ensures end { result ≤ at + 2 + 4 * (span.end - span.start) }

@@ -1,8 +1,9 @@
 //! Answers to come.
-ghost use Rattle.std.specs.Prelude.{◌≡◌, ◌+◌, ◌*◌, ◌≤◌, [], ◌∷◌, MatchOption};
+ghost use Rattle.std.specs.Prelude.{◌≡◌, ◌+◌, ◌*◌, ◌≤◌, [], ◌∷◌, map, Some, MatchOption};
+ghost use Rattle.std.specs.Bool.{OnTrue, OnFalse};
 
 use enumerator::Enumerator;
-use span_core::{Row, Steps};
+use span_core::{Row, Span, Steps};
 use std::marker::Model;
 use std::sync::ledger::Ledger;
 
@@ -22,6 +23,7 @@ impl Model for Answers {
     ghost view = { λ a. record {
       variables = a.rows.variables;
       rest = a.rows.rest;
+      row = a.rows.row;
     } };
 }
 
@@ -34,9 +36,35 @@ impl Answers {
         Answers { rows }
     }
 
+    /// Goes to the next answer; false exactly where none is left, and from then on. It takes no memory, and at
+    /// most two steps for each variable, however large the document is; so it keeps within the four for each
+    /// variable, and four more, that are allowed.
+    #[inline(always)]
+    pub fn advance<L: Ledger>(&mut self, steps: &mut Steps<L>) -> bool
+        ensures variables { self.new.variables ≡ self.old.variables }
+        ensures next { OnTrue result (self.old.rest ≡ self.new.row ∷ self.new.rest) }
+        ensures none { OnFalse result ((self.old.rest ≡ []) × (self.new.rest ≡ []) × (self.new.row ≡ self.old.row)) }
+        ensures steps { steps.new ≤ steps.old + 2 * self.old.variables }
+    {
+        self.rows.advance(steps)
+    }
+
+    /// The spans of the answer that was gone to, in the order of the variables.
+    pub fn spans(&self) -> &[Span]
+        ensures { map Some result.now ≡ self.now.row }
+    {
+        self.rows.spans()
+    }
+
+    /// The answer that was gone to.
+    pub fn row(&self) -> Row
+        ensures { result ≡ self.now.row }
+    {
+        self.rows.row()
+    }
+
     /// The next answer; None exactly where none is left, and from then on. It takes no memory, and at
-    /// most two steps for each variable, however large the document is; so it keeps within the four for
-    /// each variable, and four more, that are allowed.
+    /// most two steps for each variable, as `advance`.
     pub fn next<L: Ledger>(&mut self, steps: &mut Steps<L>) -> Option<Row>
         ensures variables { self.new.variables ≡ self.old.variables }
         ensures rest { MatchOption result ((self.old.rest ≡ []) × (self.new.rest ≡ [])) (λ row. self.old.rest ≡ row ∷ self.new.rest) }
