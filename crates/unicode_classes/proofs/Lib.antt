@@ -1,0 +1,17 @@
+pub mod ByteLaws
+pub mod ClassLaws
+pub mod DigitLaws
+pub mod ExistLaws
+pub mod FitLaws
+pub mod GroupLaws
+pub mod OneRanges
+pub mod PlainLaws
+pub mod PropertyLaws
+pub mod PutLaws
+pub mod RangeLaws
+pub mod SingleBytes
+pub mod SomeSets
+pub mod TreeFits
+pub mod TreeLaws
+pub mod TreesAreOne
+pub mod UnitLaws
