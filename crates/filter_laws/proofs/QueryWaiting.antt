@@ -19,7 +19,8 @@ use Rattle.algebra.specs.JoinedMarks.{agree_on, has_name, joined}
 use Rattle.algebra.specs.JoinedNames.{all_names}
 use Rattle.algebra.proofs.Alike.{remarked_whole}
 use Rattle.algebra.proofs.Whole.{join_whole, union_whole}
-use Rattle.query_automaton.specs.QueryAutomaton.{automaton_of, no_automaton, of_join, of_lets, of_one_let, of_projection, of_query, of_union, together, united, with_vars}
+use Rattle.place_automaton.specs.Variables.{with_vars}
+use Rattle.query_automaton.specs.QueryAutomaton.{automaton_of, no_automaton, of_join, of_lets, of_one_let, of_projection, of_query, of_union, together, united}
 use Rattle.query_automaton.proofs.QueryWords.{words_of_reduct}
 use Rattle.filter_laws.specs.Idling.{WaitsOutside}
 use Rattle.filter_laws.specs.Laws.{QueryReading, QueryWaits}

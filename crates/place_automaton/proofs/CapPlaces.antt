@@ -4,12 +4,12 @@ use Rattle.std.specs.Prelude.{slice_get, if◌then◌else◌}
 use Rattle.std.specs.Str.{bytes_eq}
 use Rattle.span_core.specs.Block.{opening_bit, closing_bit}
 use Rattle.spanner_model.specs.Captures.{VarName}
-use Rattle.spanner_model.specs.Functional.{IsFunctional}
 use Rattle.span_core.specs.Lists.{Has, AreDistinct}
 use Rattle.spanner_model.specs.Tree.{Tree, cap}
 use Rattle.span_core.proofs.HasLaws.{Has-slice_get}
 use Rattle.place_automaton.specs.Drafts.{places_of, AreNamed}
 use Rattle.place_automaton.specs.Ends.{CanCapture, Ends, ends_of, MarkOf}
+use Rattle.place_automaton.specs.Sequential.{HasOrderedRepeats, IsSequential}
 use Rattle.place_automaton.specs.Words.{opening_of, closing_of}
 use Rattle.place_automaton.proofs.FineLaws.{IsFine, Within, HasClasses, VarBits, mark_apart, fine_places}
 use Rattle.place_automaton.proofs.MarkBits.{HasBit, apart_sum, sum_bit, own_apart, behind, opening_is, closing_is}
@@ -40,7 +40,7 @@ closing_at names k x dis at =
     let b = behind_at names k x dis at in
     ap (λ n. 2 ^ n) (let e : closing_bit (length names) k ≡ 2 * behind names x = omega (arith, b) in e) ∙ sym (closing_is names x (Has-slice_get names k x at))
 
-module _ (names : List VarName) (x : VarName) (f : Tree) (ok : IsFunctional (cap x f)) (cl : HasClasses f) (vars : AreNamed names (cap x f)) (k : ℕ) (E : Ends) (is : E ≡ ends_of (places_of names f k)) where
+module _ (names : List VarName) (x : VarName) (f : Tree) (ok : IsSequential (cap x f)) (ord : HasOrderedRepeats f) (cl : HasClasses f) (vars : AreNamed names (cap x f)) (k : ℕ) (E : Ends) (is : E ≡ ends_of (places_of names f k)) where
   abbrev o : ℕ
   o = opening_of names x
 
@@ -54,7 +54,7 @@ module _ (names : List VarName) (x : VarName) (f : Tree) (ok : IsFunctional (cap
   inside y h = vars y (inr h)
 
   fine : IsFine (VarBits names f) (places_of names f k)
-  fine = fine_places names f ok.0 cl inside k
+  fine = fine_places names f ok.0 ord cl inside k
 
   marks : (m : ℕ) → MarkOf E m → Within (VarBits names f) m
   marks m h = go (subst (λ (E : Ends). MarkOf E m) is h)

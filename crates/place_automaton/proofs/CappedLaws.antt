@@ -1,5 +1,5 @@
--- Sums, products and maxima of numbers that are kept up to a greatest one.
-use Rattle.std.proofs.Common.{◌≡◌, ℕ, zero, suc, ◌+◌, ◌-◌, ◌*◌, ◌^◌, ◌≤◌, min, max, inl, inr, refl, sym, ap, ◌∙◌, arith, None}
+-- Sums and products of numbers that are kept up to a greatest one.
+use Rattle.std.proofs.Common.{◌≡◌, ℕ, zero, suc, ◌+◌, ◌-◌, ◌*◌, ◌^◌, ◌≤◌, min, inl, inr, refl, sym, ap, ◌∙◌, arith, None}
 use Rattle.std.proofs.Math.Nat.{mul-le-mul_left, mul-le-mul_right}
 use Rattle.place_automaton.specs.Capped.{capped}
 use Rattle.place_automaton.specs.Counts.{PlaceCounts, counts_plus, counts_copies, counts_repeated}
@@ -8,9 +8,6 @@ use Rattle.place_automaton.proofs.Blocks.{compared}
 module _ (m : ℕ) where
   min_add : (x y : ℕ) → min (min x m + min y m) m ≡ min (x + y) m
   min_add x y = omega arith
-
-  min_max : (x y : ℕ) → max (min x m) (min y m) ≡ min (max x y) m
-  min_max x y = omega arith
 
   min_past : (x : ℕ) → m ≤ x → min x m ≡ m
   min_past x h = omega arith
@@ -50,21 +47,15 @@ module _ (m : ℕ) where
 pub capped_add : (x y : ℕ) → capped (capped x + capped y) ≡ capped (x + y)
 capped_add x y = min_add (2 ^ 64 - 1) x y
 
-pub capped_max : (x y : ℕ) → max (capped x) (capped y) ≡ capped (max x y)
-capped_max x y = min_max (2 ^ 64 - 1) x y
-
 pub capped_mul : (x y : ℕ) → capped (capped x * capped y) ≡ capped (x * y)
 capped_mul x y = min_mul (2 ^ 64 - 1) (omega arith) x y
 
--- a sum, a product and a maximum of kept numbers
+-- a sum and a product of kept numbers
 pub sum_of : (a b x y r : ℕ) → a ≡ capped x → b ≡ capped y → r ≡ min (a + b) (2 ^ 64 - 1) → r ≡ capped (x + y)
 sum_of a b x y r e f g = g ∙ (ap (λ a. capped (a + b)) e ∙ (ap (λ b. capped (capped x + b)) f ∙ capped_add x y))
 
 pub product_of : (a b x y r : ℕ) → a ≡ capped x → b ≡ capped y → r ≡ min (a * b) (2 ^ 64 - 1) → r ≡ capped (x * y)
 product_of a b x y r e f g = g ∙ (ap (λ a. capped (a * b)) e ∙ (ap (λ b. capped (capped x * b)) f ∙ capped_mul x y))
-
-pub max_of : (a b x y r : ℕ) → a ≡ capped x → b ≡ capped y → r ≡ max a b → r ≡ capped (max x y)
-max_of a b x y r e f g = g ∙ (ap (λ a. max a b) e ∙ (ap (λ b. max (capped x) b) f ∙ capped_max x y))
 
 -- a repetition without a greatest number, that has to come once
 pub repeated_once : (n : ℕ) (a : PlaceCounts) → (n ≡ 0 → ⊥) → counts_copies (n - 1) a (counts_plus a) ≡ counts_repeated n None a

@@ -1,10 +1,12 @@
 -- Which markers and bytes stand in the places of a formula: markers of its variables alone, and some byte.
 use Rattle.std.proofs.Common.{◌≡◌, ℕ, zero, suc, ◌+◌, ◌-◌, ◌⊎◌, List, ◌++◌, map, Option, Some, None, inl, inr, refl, sym, ap, ◌∙◌, subst}
+use Rattle.std.specs.Prelude.{Bool, true, false, ◌==◌, ◌≤◌, if◌then◌else◌}
+use Rattle.std.specs.Option.{ForSome}
 use Rattle.std.specs.List.{flat_map}
 use Rattle.std.specs.Int.{bit_at}
 use Rattle.std.specs.FinSet as set
 use Rattle.spanner_model.specs.Captures.{VarName}
-use Rattle.spanner_model.specs.Functional.{HasVar, HaveApartVars, IsFunctional}
+use Rattle.spanner_model.specs.Functional.{HasVar, HaveApartVars}
 use Rattle.span_core.specs.Lists.{Has}
 use Rattle.spanner_model.specs.Tree.{Tree, empty, one, cat_end, cat, alt_end, alt, rep, cap}
 use Rattle.spanner_model.specs.WellBuilt.{IsBuilt, AreParts, AreArms}
@@ -14,9 +16,11 @@ use Rattle.marked_automaton.specs.Automaton.{ByteClass}
 use Rattle.place_automaton.specs.declared.piece.Entry.{Entry}
 use Rattle.place_automaton.specs.Ends.{ends_of, MarkOf, JoinAsSums, IsUnmarked}
 use Rattle.place_automaton.specs.Places.{Places, Placed, ways_between, entry_with, stop_with, nothing_placed, never_placed, one_placed, cat_places, alt_places, opt_places, plus_places, cap_places, plus_placed, copies_then, at_most, repeated, placed}
+use Rattle.place_automaton.specs.Sequential.{HasNoVar, HasOrderedRepeats, IsSequential}
 use Rattle.place_automaton.specs.Words.{opening_of, closing_of}
 use Rattle.span_core.proofs.HasLaws.{Has-append_cases, Has-map_cases}
 use Rattle.place_automaton.proofs.MarkBits.{HasBit, NoBitInCommon, zero_bit, no_bits, apart_sum, sum_bit, IsBitOf, own_apart, bit_tells}
+use Rattle.place_automaton.proofs.OncePlaces.{once_is}
 use Rattle.place_automaton.proofs.Ranges.{entries_of, stops_of, ways_of}
 use Rattle.place_automaton.proofs.Shows.{sums_cases, once_cases, either_cases}
 
@@ -51,7 +55,7 @@ fine_more B C P sub p = record {
   way_bytes = p.way_bytes;
 }
 
-sum_within : (B C : Bits) (a b c : ℕ) → Apart B C → Within B a → Within C b → a + b ≡ c → Within (λ i. B i ⊎ C i) c
+pub sum_within : (B C : Bits) (a b c : ℕ) → Apart B C → Within B a → Within C b → a + b ≡ c → Within (λ i. B i ⊎ C i) c
 sum_within B C a b c apart wa wb e i h =
     elim (sum_bit a b i (λ j x y. apart j (wa j x) (wb j y)) (ap (λ m. bit_at m i) e ∙ h)) [ inl x ↦ inl (wa i x) | inr y ↦ inr (wb i y) ]
 
@@ -126,7 +130,7 @@ fine_alt B C P Q p q = record {
   way_bytes = λ y h. elim (Has-append_cases P.follow Q.follow y h) [ inl a ↦ p.way_bytes y a | inr a ↦ q.way_bytes y a ];
 }
 
-zero_within : (B : Bits) (m : ℕ) → 0 ≡ m → Within B m
+pub zero_within : (B : Bits) (m : ℕ) → 0 ≡ m → Within B m
 zero_within B m e i h = absurd (zero_bit i (ap (λ n. bit_at n i) e ∙ h))
 
 fine_opt : (B : Bits) (P : Places) → IsFine B P → IsFine B (opt_places P)
@@ -300,30 +304,39 @@ module _ (names : List VarName) where
       let e = bit_tells names x b.0 i has (nf b.0 b.1) (of i h) b.2 in
       free (subst (HasVar f) (sym e) b.1)
 
-  pub fine_places : (f : Tree) → IsFunctional f → HasClasses f → AreNamed f → (k : ℕ) → IsFine (VarBits f) (placed (opening_of names) (closing_of names) f k)
-  fine_places empty ok cl vars k = fine_nothing (VarBits empty) k
-  fine_places (one set) ok cl vars k = fine_one (VarBits (one set)) set k cl
-  fine_places cat_end ok cl vars k = fine_nothing (VarBits cat_end) k
-  fine_places (cat f rest) ok cl vars k =
+  fine_repeat : (f : Tree) (n : ℕ) (most : Option ℕ) (F : Placed) → HasNoVar f ⊎ (most ≡ Some 1) → ForSome most (λ b. n ≤ b) →
+      ((k : ℕ) → IsFine (VarBits f) (F k)) → (k : ℕ) → IsFine (VarBits f) (repeated n most F k)
+  fine_repeat f n most F (inl none) le all k = fine_repeated (VarBits f) (λ i b. none b.0 b.1) n most F all k
+  fine_repeat f n most F (inr e) le all k =
+      subst (λ (P : Places). IsFine (VarBits f) P) (sym (ap (λ o. repeated n o F k) e ∙ once_is n F k (le 1 e))) (once (n == 0))
+    where
+      once : (b : Bool) → IsFine (VarBits f) (if b then opt_places (F k) else F k)
+      once true = fine_opt (VarBits f) (F k) (all k)
+      once false = all k
+
+  pub fine_places : (f : Tree) → IsSequential f → HasOrderedRepeats f → HasClasses f → AreNamed f → (k : ℕ) → IsFine (VarBits f) (placed (opening_of names) (closing_of names) f k)
+  fine_places empty ok ord cl vars k = fine_nothing (VarBits empty) k
+  fine_places (one set) ok ord cl vars k = fine_one (VarBits (one set)) set k cl
+  fine_places cat_end ok ord cl vars k = fine_nothing (VarBits cat_end) k
+  fine_places (cat f rest) ok ord cl vars k =
       let P = placed (opening_of names) (closing_of names) f k in
       let Q = placed (opening_of names) (closing_of names) rest (k + P.count) in
       let nf : AreNamed f = λ x h. vars x (inl h) in
       let nr : AreNamed rest = λ x h. vars x (inr h) in
       fine_more (λ i. VarBits f i ⊎ VarBits rest i) (VarBits (cat f rest)) (cat_places P Q)
       (λ i h. elim h as (λ _. VarBits (cat f rest) i) [ inl b ↦ (b.0, inl b.1, b.2) | inr b ↦ (b.0, inr b.1, b.2) ])
-      (fine_cat (VarBits f) (VarBits rest) (vars_apart f rest nf nr ok.2) P Q (fine_places f ok.0 cl.0 nf k) (fine_places rest ok.1 cl.1 nr (k + P.count)))
-  fine_places alt_end ok cl vars k = fine_never (VarBits alt_end) k
-  fine_places (alt f rest) ok cl vars k =
+      (fine_cat (VarBits f) (VarBits rest) (vars_apart f rest nf nr ok.2) P Q (fine_places f ok.0 ord.0 cl.0 nf k) (fine_places rest ok.1 ord.1 cl.1 nr (k + P.count)))
+  fine_places alt_end ok ord cl vars k = fine_never (VarBits alt_end) k
+  fine_places (alt f rest) ok ord cl vars k =
       let P = placed (opening_of names) (closing_of names) f k in
       let Q = placed (opening_of names) (closing_of names) rest (k + P.count) in
       let nf : AreNamed f = λ x h. vars x (inl h) in
       let nr : AreNamed rest = λ x h. vars x (inr h) in
       fine_more (λ i. VarBits f i ⊎ VarBits rest i) (VarBits (alt f rest)) (alt_places P Q)
       (λ i h. elim h as (λ _. VarBits (alt f rest) i) [ inl b ↦ (b.0, inl b.1, b.2) | inr b ↦ (b.0, inr b.1, b.2) ])
-      (fine_alt (VarBits f) (VarBits rest) P Q (fine_places f ok.0 cl.0 nf k) (fine_places rest ok.1 cl.1 nr (k + P.count)))
-  fine_places (rep f least most) ok cl vars k =
-      fine_repeated (VarBits f) (λ i b. ok.1 b.0 b.1) least most (placed (opening_of names) (closing_of names) f) (fine_places f ok.0 cl vars) k
-  fine_places (cap x f) ok cl vars k =
+      (fine_alt (VarBits f) (VarBits rest) P Q (fine_places f ok.0 ord.0 cl.0 nf k) (fine_places rest ok.1 ord.1 cl.1 nr (k + P.count)))
+  fine_places (rep f least most) ok ord cl vars k = fine_repeat f least most (placed (opening_of names) (closing_of names) f) ok.1 ord.1 (fine_places f ok.0 ord.0 cl vars) k
+  fine_places (cap x f) ok ord cl vars k =
       let P = placed (opening_of names) (closing_of names) f k in
       let o = opening_of names x in
       let c = closing_of names x in
@@ -331,4 +344,4 @@ module _ (names : List VarName) where
       let has : Has names x = vars x (inl refl) in
       fine_more (λ i. (HasBit o i ⊎ HasBit c i) ⊎ VarBits f i) (VarBits (cap x f)) (cap_places o c P)
       (λ i h. elim h as (λ _. VarBits (cap x f) i) [ inl b ↦ (x, inl refl, b) | inr b ↦ (b.0, inr b.1, b.2) ])
-      (fine_cap (VarBits f) o c P (mark_apart x f o has nf ok.1 (λ i b. inl b)) (mark_apart x f c has nf ok.1 (λ i b. inr b)) (own_apart names x has) (fine_places f ok.0 cl nf k))
+      (fine_cap (VarBits f) o c P (mark_apart x f o has nf ok.1 (λ i b. inl b)) (mark_apart x f c has nf ok.1 (λ i b. inr b)) (own_apart names x has) (fine_places f ok.0 ord cl nf k))

@@ -1,16 +1,11 @@
 -- Lists as loops go through them, and markers that are put before and behind.
-use Rattle.std.proofs.Common.{◌≡◌, ℕ, zero, suc, ◌+◌, ◌-◌, ◌<◌, ◌≤◌, List, [], ◌∷◌, ◌++◌, length, get_or, take, drop, map, Bool, Option, Some, None, true, false, inl, refl, sym, ap, ◌∙◌, arith}
-use Rattle.std.specs.Prelude.{slice_set, if◌then◌else◌, ◌||◌}
+use Rattle.std.proofs.Common.{◌≡◌, ℕ, zero, suc, ◌+◌, ◌-◌, ◌<◌, ◌≤◌, List, [], ◌∷◌, ◌++◌, length, get_or, take, drop, map, refl, sym, ap, ◌∙◌, arith}
+use Rattle.std.specs.Prelude.{slice_set}
 use Rattle.std.specs.List.{flat_map}
-use Rattle.std.specs.Option.{option_or}
-use Rattle.std.proofs.lemmas.Bool.{eq-eqb}
 use Rattle.std.proofs.lemmas.List.{take_more, map-append, append_assoc, flat_map_more, get_or-drop, get_or-take, get_or_append_left, length-drop, length-take}
-use Rattle.span_core.specs.Lists.{Has}
 use Rattle.marked_automaton.specs.declared.way.Stop.{Stop}
-use Rattle.place_automaton.specs.Atom.{unless}
 use Rattle.place_automaton.specs.declared.piece.Entry.{Entry}
-use Rattle.place_automaton.specs.Places.{entry_with, stop_with, either_once, add_once}
-use Rattle.place_automaton.specs.Ends.{null_of}
+use Rattle.place_automaton.specs.Places.{entry_with, stop_with}
 
 module _ {X : Type 0} (f : X → X) where
   -- what is still to come is as it was
@@ -59,27 +54,9 @@ stops_same m (s ∷ ss) z =
     let f : ℕ → Stop = λ n. record { state = s.state; marks = n } in
     ap (λ x. x ∷ ss) (ap f same) ∙ ap (λ xs. stop_with m s ∷ xs) (stops_same m ss z)
 
-pub unless_both : {X : Type 0} (b : Bool) (xs ys : List X) → unless b xs ++ unless b ys ≡ unless b (xs ++ ys)
-unless_both true xs ys = refl
-unless_both false xs ys = refl
-
 pub append_nil : {X : Type 0} (xs : List X) → xs ++ [] ≡ xs
 append_nil [] = refl
 append_nil (x ∷ xs) = ap (λ ys. x ∷ ys) (append_nil xs)
-
--- blocks of either, where they are the same
-pub either_of : (a b : Option ℕ) → ((m n : ℕ) → Has (null_of a) m → Has (null_of b) n → m ≡ n) → null_of (option_or a b) ≡ either_once (null_of a) (null_of b)
-either_of None b same = refl
-either_of (Some m) None same = refl
-either_of (Some m) (Some n) same =
-    let e : m ≡ n = same m n (inl refl) (inl refl) in
-    ap (λ x. x ∷ []) e ∙ sym (ap (λ b. if (b || false) then n ∷ [] else m ∷ n ∷ []) (eq-eqb m n e))
-
-pub zero_of : (a : Option ℕ) (z : ℕ) → z ≡ 0 → ((m : ℕ) → Has (null_of a) m → m ≡ 0) → z ∷ [] ≡ add_once 0 (null_of a)
-zero_of None z e zeros = ap (λ x. x ∷ []) e
-zero_of (Some m) z e zeros =
-    let f : m ≡ 0 = zeros m (inl refl) in
-    ap (λ x. x ∷ []) (e ∙ sym f) ∙ sym (ap (λ b. if (b || false) then m ∷ [] else 0 ∷ m ∷ []) (eq-eqb 0 m (sym f)))
 
 -- an item between two places of a list, to which others have come
 pub cut_item : {X : Type 0} (xs now more : List X) (from end k : ℕ) (x : X) → from ≤ k → k < end → end ≤ length xs → now ≡ xs ++ more → x ≡ get_or now k x →
@@ -93,3 +70,9 @@ cut_item xs now more from end k x low high within e at = (
       ∙ (sym (get_or-drop from xs (k - from) x)
       ∙ sym (get_or-take (end - from) (drop from xs) (k - from) x (omega (arith, low, high))))))),
 )
+
+-- a list of one
+pub single_is : {X : Type 0} (xs : List X) (d : X) → length xs ≡ 1 → xs ≡ get_or xs 0 d ∷ []
+single_is [] d e = absurd (omega (arith, e))
+single_is (x ∷ []) d e = refl
+single_is (x ∷ y ∷ xs) d e = absurd (omega (arith, e))

@@ -1,6 +1,5 @@
 -- What the automaton of an atom is made of is of its states, its markers and some bytes.
-use Rattle.std.proofs.Common.{◌≡◌, ℕ, zero, suc, ◌+◌, ◌*◌, ◌^◌, ◌<◌, ◌↔◌, Bool, true, false, List, [], ◌∷◌, ◌++◌, length, length-append, append_assoc, map, Some, inl, inr, refl, sym, ap, ◌∙◌, subst, arith}
-use Rattle.std.specs.Prelude.{slice_get}
+use Rattle.std.proofs.Common.{◌≡◌, ℕ, zero, suc, ◌+◌, ◌*◌, ◌^◌, ◌<◌, ◌↔◌, Bool, true, false, List, [], ◌∷◌, ◌++◌, length, map, inl, inr, refl, sym, ap, ◌∙◌, subst, arith}
 use Rattle.std.specs.FinSet as set
 use Rattle.std.specs.Ordering.{nat_cmp}
 use Rattle.std.proofs.Math.Nat.{one-le-pow}
@@ -8,41 +7,30 @@ use Rattle.std.proofs.lemmas.Bool.{false≢true}
 use Rattle.std.specs.FinSet.{contains-empty}
 use Rattle.span_core.proofs.ByteSetLaws.{all_contain}
 use Rattle.spanner_model.specs.Captures.{VarName}
-use Rattle.spanner_model.specs.Functional.{IsFunctional}
 use Rattle.span_core.specs.Lists.{Has}
 use Rattle.spanner_model.specs.Tree.{Tree}
 use Rattle.marked_automaton.specs.declared.way.Way.{Way}
 use Rattle.marked_automaton.specs.declared.way.Stop.{Stop}
-use Rattle.marked_automaton.specs.Automaton.{Automaton, IsWhole, IsWayOf, all_bytes, idle_way}
+use Rattle.marked_automaton.specs.Automaton.{Automaton, IsWayOf, all_bytes, idle_way}
 use Rattle.marked_automaton.specs.Reduct.{IsReachedIn, IsReached, IsReduct, Rearranges, same_below}
 use Rattle.place_automaton.specs.Atom.{way_from_first, way_after, stop_before, unless, place_stops, after_ways, automaton_of_places}
 use Rattle.place_automaton.specs.Drafts.{AreNamed, places_of}
 use Rattle.place_automaton.specs.Ends.{Ends, ends_of}
-use Rattle.place_automaton.specs.Lean.{AreLean, IsThinned}
 use Rattle.place_automaton.specs.Made.{end_stops, outer_ways}
 use Rattle.place_automaton.specs.Places.{Places}
+use Rattle.place_automaton.specs.Sequential.{HasOrderedRepeats, IsSequential}
 use Rattle.place_automaton.specs.Words.{atom_automaton}
 use Rattle.place_automaton.proofs.FineLaws.{Within, SomeByte, IsFine, HasClasses, VarBits, fine_places}
-use Rattle.marked_automaton.proofs.Permuted.{IsPlaced}
-use Rattle.marked_automaton.proofs.Rearranged.{below_some, with_these}
-use Rattle.place_automaton.proofs.LeanLaws.{IsElsewhere, thin_append, thin_same, thin_widen}
-use Rattle.span_core.proofs.HasLaws.{place_of-Has, Has-append_left, Has-append_right, Has-append_cases, Has-map_cases}
+use Rattle.span_core.proofs.HasLaws.{Has-append_left, Has-append_right, Has-append_cases, Has-map_cases}
 use Rattle.place_automaton.proofs.MarkBits.{below_power, bit_below}
 use Rattle.place_automaton.proofs.WholeLaws.{whole_law}
 
--- the ways that came are those of the automaton, each at least once
-pub made_ways : (s t : Bool) (P : Places) (after : ℕ) (E : Ends) (none own added all : List Way) → none ≡ [] → own ≡ none ++ added → AreLean false P added →
-    after ≡ 1 + P.count → E ≡ ends_of P → all ≡ own ++ outer_ways s t after E → IsThinned (Has all) (automaton_of_places s t P).ways all
-made_ways s t P after E none own added all a b lean c d e =
-    let outer = outer_ways s t (suc P.count) (ends_of P) in
-    let is : all ≡ added ++ outer =
-    e ∙ (ap (λ (ws : List Way). ws ++ outer_ways s t after E) (b ∙ ap (λ (ws : List Way). ws ++ added) a)
-    ∙ (ap (λ (n : ℕ). added ++ outer_ways s t n E) (c ∙ (let f : 1 + P.count ≡ suc P.count = omega arith in f)) ∙ ap (λ (E : Ends). added ++ outer_ways s t (suc P.count) E) d)) in
-    subst (λ (ws : List Way). IsThinned (Has ws) (P.follow ++ outer) ws) (sym is)
-    (thin_append (Has (added ++ outer)) P.follow added outer outer
-    (thin_widen (IsElsewhere false P added) (Has (added ++ outer)) P.follow added
-    (λ w m. elim m [ inl there ↦ Has-append_left added outer w there | inr loop ↦ absurd (false≢true loop.0) ]) lean)
-    (thin_same (Has (added ++ outer)) outer))
+-- the ways that came are those of the automaton
+pub made_ways : (s t : Bool) (P : Places) (after : ℕ) (E : Ends) (none own all : List Way) → none ≡ [] → own ≡ none ++ P.follow → after ≡ 1 + P.count → E ≡ ends_of P →
+    all ≡ own ++ outer_ways s t after E → all ≡ (automaton_of_places s t P).ways
+made_ways s t P after E none own all a b c d e =
+    e ∙ (ap (λ (ws : List Way). ws ++ outer_ways s t after E) (b ∙ ap (λ (ws : List Way). ws ++ P.follow) a)
+    ∙ (ap (λ (n : ℕ). P.follow ++ outer_ways s t n E) (c ∙ (let f : 1 + P.count ≡ suc P.count = omega arith in f)) ∙ ap (λ (E : Ends). P.follow ++ outer_ways s t (suc P.count) E) d))
 
 all_some : SomeByte all_bytes
 all_some e = false≢true (sym (ap (λ (b : set.FinSet nat_cmp). set.contains b 0) e ∙ contains-empty nat_cmp 0) ∙ all_contain 0 (omega arith))
@@ -84,9 +72,9 @@ module _ (names : List VarName) (s t : Bool) (f : Tree) where
   stop_there E x is h =
       Has-append_left (place_stops P) (unless t (record { state = suc P.count; marks = 0 } ∷ [])) x (subst (λ (E : Ends). Has (end_stops E) x) is h)
 
-  module _ (ok : IsFunctional f) (cl : HasClasses f) (vars : AreNamed names f) where
+  module _ (ok : IsSequential f) (ord : HasOrderedRepeats f) (cl : HasClasses f) (vars : AreNamed names f) where
     fine : IsFine (VarBits names f) P
-    fine = fine_places names f ok cl vars 1
+    fine = fine_places names f ok ord cl vars 1
 
     abbrev limit : ℕ
     limit = 2 ^ (2 * length names)
@@ -179,85 +167,3 @@ rearranges_like A B C r e0 e1 e2 e3 idle = subst (λ (D : Automaton). Rearranges
           ends_apart = q.ends_apart;
           idles = λ b a e. let i = q.idles b a e in ((λ h. (idle b).0 (i.0 h)), (λ h. i.1 ((idle b).1 h)));
         }
-
--- where what is left out is there
-module _ (all : List Way) where
-  abbrev shifted : (ℕ → ℕ) → ℕ → ℕ → ℕ
-  shifted g h zero = h
-  shifted g h (suc k) = g k
-
-  abbrev IsFrom : List Way → List Way → List Way → (ℕ → ℕ) → Type 0
-  IsFrom front xs ys g =
-      ((k : ℕ) (y : Way) → slice_get xs k ≡ Some y → slice_get all (g k) ≡ Some y)
-      × ((h : ℕ) (x : Way) → slice_get ys h ≡ Some x → (k : ℕ) × (slice_get xs k ≡ Some x) × (g k ≡ length front + h))
-
-  get_behind : (front rest : List Way) (x : Way) → slice_get (front ++ x ∷ rest) (length front) ≡ Some x
-  get_behind [] rest x = refl
-  get_behind (y ∷ front) rest x = get_behind front rest x
-
-  kept : (front xs zs ys : List Way) (x : Way) (g : ℕ → ℕ) → all ≡ front ++ x ∷ zs → ys ≡ x ∷ zs → IsFrom (front ++ x ∷ []) xs zs g →
-      IsFrom front (x ∷ xs) ys (shifted g (length front))
-  kept front xs zs ys x g at is r = (there, λ h y e. back h y (subst (λ vs. slice_get vs h ≡ Some y) is e))
-    where
-      there : (k : ℕ) (y : Way) → slice_get (x ∷ xs) k ≡ Some y → slice_get all (shifted g (length front) k) ≡ Some y
-      there zero y e = ap (λ ws. slice_get ws (length front)) at ∙ (get_behind front zs x ∙ e)
-      there (suc k) y e = r.0 k y e
-
-      back : (h : ℕ) (y : Way) → slice_get (x ∷ zs) h ≡ Some y → (k : ℕ) × (slice_get (x ∷ xs) k ≡ Some y) × (shifted g (length front) k ≡ length front + h)
-      back zero y e = (0, e, omega arith)
-      back (suc h) y e =
-          let b = r.1 h y e in
-          (suc b.0, b.1, omega (arith, b.2, length-append front (x ∷ [])))
-
-  left_out : (front xs ys : List Way) (x : Way) (place : ℕ) (g : ℕ → ℕ) → slice_get all place ≡ Some x → IsFrom front xs ys g → IsFrom front (x ∷ xs) ys (shifted g place)
-  left_out front xs ys x place g at r = (there, λ h y e. let b = r.1 h y e in (suc b.0, b.1, b.2))
-    where
-      there : (k : ℕ) (y : Way) → slice_get (x ∷ xs) k ≡ Some y → slice_get all (shifted g place k) ≡ Some y
-      there zero y e = at ∙ e
-      there (suc k) y e = r.0 k y e
-
-  thinned_from : (front xs ys : List Way) → all ≡ front ++ ys → IsThinned (Has all) xs ys → (g : ℕ → ℕ) × IsFrom front xs ys g
-  thinned_from front [] ys at h = ((λ k. 0), ((λ k y e. absurd (nothing k y e)), (λ k x e. absurd (nothing k x (subst (λ vs. slice_get vs k ≡ Some x) h e)))))
-    where
-      nothing : (k : ℕ) (y : Way) → slice_get [] k ≡ Some y → ⊥
-      nothing k y e = cc
-  thinned_from front (x ∷ xs) ys at (inl a) =
-      let is : all ≡ front ++ x ∷ a.0 = at ∙ ap (λ vs. front ++ vs) a.1 in
-      let r = thinned_from (front ++ x ∷ []) xs a.0 (is ∙ sym (append_assoc front (x ∷ []) a.0)) a.2 in
-      (shifted r.0 (length front), kept front xs a.0 ys x r.0 is a.1 r.1)
-  thinned_from front (x ∷ xs) ys at (inr b) =
-      let r = thinned_from front xs ys at b.1 in
-      let p = place_of-Has all x b.0 in
-      (shifted r.0 p.0, left_out front xs ys x p.0 r.0 p.2 r.1)
-
-pub thinned_placed : (xs ys : List Way) → IsThinned (Has ys) xs ys → (g : ℕ → ℕ) × IsPlaced xs ys g
-thinned_placed xs ys h =
-    let r = thinned_from ys [] xs ys refl h in
-    (r.0, record { there = r.1.0; back = λ h x e. let b = r.1.1 h x e in (b.0, b.1, omega (arith, b.2)) })
-
--- what rearranges the automaton with such ways rearranges it
-pub rearranges_thinned : (A C : Automaton) (ways : List Way) → IsWhole C → IsThinned (Has ways) C.ways ways → Rearranges A (with_these ways C) → Rearranges A C
-rearranges_thinned A C ways whole thin r =
-    let t = thinned_placed C.ways ways thin in
-    let q = r.1 in (
-      (λ k. r.0 (t.0 k)),
-      record {
-        from_states = q.from_states;
-        to_states = q.to_states;
-        onto = q.onto;
-        starts_there = q.starts_there;
-        starts_back = q.starts_back;
-        knows_ends = λ b m reached h. (b, below_some C.states b (whole.stops (record { state = b; marks = m }) h));
-        knows_before = λ y h reached to. (y.from, below_some C.states y.from (whole.froms y h));
-        ways_known = λ k y at. q.ways_known (t.0 k) y (t.1.there k y at);
-        ways_there = λ k y h at e. q.ways_there (t.0 k) y h (t.1.there k y at) e;
-        ways_back = λ b h c x at e byte.
-            let w = q.ways_back b h c x at e byte in
-            let s = t.1.back w.0 w.1 w.2 in
-            (s.0, w.1, s.1, w.3, w.4, ap r.0 s.2 ∙ w.5);
-        ends_back = q.ends_back;
-        ends_there = q.ends_there;
-        ends_apart = q.ends_apart;
-        idles = q.idles;
-      },
-    )

@@ -1,22 +1,18 @@
 -- A formula that is numbered from further on has the same places with greater numbers.
-use Rattle.std.proofs.Common.{◌≡◌, ℕ, zero, suc, ◌+◌, ◌-◌, ◌<◌, ◌≤◌, List, [], ◌∷◌, ◌++◌, length, length-append, get_or, take, drop, map, Bool, Option, Some, None, inl, inr, refl, sym, ap, ◌∙◌, subst, arith}
+use Rattle.std.proofs.Common.{◌≡◌, ℕ, zero, suc, ◌+◌, ◌-◌, ◌<◌, ◌≤◌, List, [], ◌∷◌, ◌++◌, length, length-append, get_or, take, drop, map, Option, Some, None, refl, sym, ap, ◌∙◌, subst, arith}
 use Rattle.std.specs.List.{flat_map}
-use Rattle.std.proofs.Math.Seq.{drop-append_seam}
-use Rattle.std.proofs.lemmas.List.{drop-append-le, length-drop, map-append, take-append-le, take_all}
+use Rattle.std.proofs.Math.Seq.{drop-append_seam, take-append_seam}
+use Rattle.std.proofs.lemmas.List.{map-append}
 use Rattle.spanner_model.specs.Captures.{VarName}
 use Rattle.spanner_model.specs.Tree.{Tree, empty, one, cat_end, cat, alt_end, alt, rep, cap}
 use Rattle.marked_automaton.specs.declared.way.Way.{Way}
 use Rattle.marked_automaton.specs.declared.way.Stop.{Stop}
 use Rattle.place_automaton.specs.declared.piece.Entry.{Entry}
 use Rattle.place_automaton.specs.Ends.{Ends, ends_of}
-use Rattle.span_core.specs.Lists.{Has}
-use Rattle.span_core.proofs.HasLaws.{Has-map}
-use Rattle.place_automaton.specs.Lean.{AreLean}
 use Rattle.place_automaton.specs.Moves.{entry_moved, stop_moved, way_moved, places_moved, LieBelow}
 use Rattle.place_automaton.specs.Places.{Places, Placed, way_into, ways_between, entry_with, stop_with, cat_places, alt_places, opt_places, plus_places, cap_places, cat_placed, alt_placed, opt_placed, plus_placed, copies_then, at_most, repeated, placed}
-use Rattle.place_automaton.proofs.LeanLaws.{IsElsewhere, thin_map}
 use Rattle.place_automaton.proofs.Ranges.{LiesFrom}
-use Rattle.place_automaton.proofs.Rows.{copies}
+use Rattle.place_automaton.proofs.Rows.{copies, follows}
 
 -- numbered from further on, it is the same but for the numbers
 abbrev pub Moves : Placed → Type 0
@@ -47,7 +43,7 @@ module _ (s : ℕ) where
   stops_with : (m : ℕ) (ss : List Stop) → map (stop_with m) (stops ss) ≡ stops (map (stop_with m) ss)
   stops_with m ss = map_past (stop_with m) (stop_moved s) (stop_moved s) (stop_with m) ss (λ x. refl)
 
-  pub between : (last : List Stop) (first : List Entry) → ways_between (stops last) (entries first) ≡ ways (ways_between last first)
+  between : (last : List Stop) (first : List Entry) → ways_between (stops last) (entries first) ≡ ways (ways_between last first)
   between [] first = refl
   between (x ∷ last) first =
       let there = ways_between (stops last) (entries first) in
@@ -168,40 +164,40 @@ module _ (F : Placed) (k : ℕ) where
   first_copy zero xs x l e at = absurd (omega (arith, l))
   first_copy (suc i) xs x l e at = at ∙ ap (λ ys. get_or ys 0 x) e
 
+  module _ (old mid now : List Way) (from end : ℕ) (some : mid ≡ old ++ (F k).follow) (start : from ≡ length old) (stop : end ≡ length mid) where
+    size : end ≡ length old + length (F k).follow
+    size = stop ∙ (ap length some ∙ length-append old (F k).follow)
+
+    pub ways_order : from ≤ end
+    ways_order = omega (arith, start, size)
+
+    all : (i : ℕ) → 1 ≤ i → now ≡ old ++ follows (copies F i k) → (rest : List Way) × (now ≡ old ++ ((F k).follow ++ rest))
+    all zero l e = absurd (omega (arith, l))
+    all (suc i) l e = (follows (copies F i (k + (F k).count)), e)
+
+    pub ways_within : (i : ℕ) → 1 ≤ i → now ≡ old ++ follows (copies F i k) → end ≤ length now
+    ways_within i l e =
+        let a = all i l e in
+        omega (arith, size, ap length a.1, length-append old ((F k).follow ++ a.0), length-append (F k).follow a.0)
+
+    pub first_ways : (i : ℕ) → 1 ≤ i → now ≡ old ++ follows (copies F i k) → take (end - from) (drop from now) ≡ (F k).follow
+    first_ways i l e =
+        let a = all i l e in
+        let n : end - from ≡ length (F k).follow = omega (arith, size, start) in
+        ap (λ m. take m (drop from now)) n
+        ∙ (ap (λ m. take (length (F k).follow) (drop m now)) start
+        ∙ (ap (λ ws. take (length (F k).follow) (drop (length old) ws)) a.1
+        ∙ (ap (take (length (F k).follow)) (drop-append_seam old ((F k).follow ++ a.0))
+        ∙ take-append_seam (F k).follow a.0)))
+
   -- its places
-  pub first_below : (n : ℕ) (x : Ends) (ws : List Way) → LiesFrom k (F k) → n ≡ k + (F k).count → x ≡ ends_of (F k) → ((w : Way) → Has ws w → Has (F k).follow w) →
-      LieBelow n x ws
+  pub first_below : (n : ℕ) (x : Ends) (ws : List Way) → LiesFrom k (F k) → n ≡ k + (F k).count → x ≡ ends_of (F k) → ws ≡ (F k).follow → LieBelow n x ws
   first_below n x ws lies at is are =
-      let here : LieBelow (k + (F k).count) (ends_of (F k)) ws = record {
+      let here : LieBelow (k + (F k).count) (ends_of (F k)) (F k).follow = record {
         firsts = λ e h. (lies.firsts e h).1;
         lasts = λ s h. (lies.lasts s h).1;
-        froms = λ y h. (lies.froms y (are y h)).1;
-        tos = λ y h. (lies.tos y (are y h)).1;
+        froms = λ y h. (lies.froms y h).1;
+        tos = λ y h. (lies.tos y h).1;
       } in
-      subst (λ (m : ℕ). LieBelow m x ws) (sym at) (subst (λ (E : Ends). LieBelow (k + (F k).count) E ws) (sym is) here)
-
--- the ways between two places of a list
-abbrev pub cut : ℕ → ℕ → List Way → List Way
-cut from end ws = take (end - from) (drop from ws)
-
-pub cut_here : (old mid added : List Way) (from end : ℕ) → mid ≡ old ++ added → from ≡ length old → end ≡ length mid → cut from end mid ≡ added
-cut_here old mid added from end some start stop =
-    let n : end - from ≡ length added = omega (arith, start, stop, ap length some, length-append old added) in
-    ap (λ m. take m (drop from mid)) n
-    ∙ (ap (λ m. take (length added) (drop m mid)) start
-    ∙ (ap (λ ws. take (length added) (drop (length old) ws)) some
-    ∙ (ap (take (length added)) (drop-append_seam old added) ∙ take_all (length added) added (omega arith))))
-
-pub cut_before : (ws more : List Way) (from end : ℕ) → from ≤ end → end ≤ length ws → cut from end (ws ++ more) ≡ cut from end ws
-cut_before ws more from end order within =
-    ap (take (end - from)) (drop-append-le from ws more (omega (arith, order, within)))
-    ∙ take-append-le (end - from) (drop from ws) more (omega (arith, order, within, length-drop from ws))
-
--- ways of a part that is moved
-pub lean_moved : (again : Bool) (P : Places) (by : ℕ) (ways : List Way) → AreLean again P ways → AreLean again (places_moved by P) (map (way_moved by) ways)
-lean_moved again P by ways h =
-    thin_map (IsElsewhere again P ways) (IsElsewhere again (places_moved by P) (map (way_moved by) ways)) (way_moved by) P.follow ways
-    (λ w m. elim m [
-      | inl a ↦ inl (Has-map (way_moved by) ways w a)
-      | inr b ↦ inr (b.0, subst (λ ws. Has ws (way_moved by w)) (sym (between by P.last P.first)) (Has-map (way_moved by) (ways_between P.last P.first) w b.1))
-    ]) h
+      subst (λ (m : ℕ). LieBelow m x ws) (sym at) (subst (λ (E : Ends). LieBelow (k + (F k).count) E ws) (sym is)
+      (subst (λ (us : List Way). LieBelow (k + (F k).count) (ends_of (F k)) us) (sym are) here))

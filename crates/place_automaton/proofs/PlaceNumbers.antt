@@ -3,29 +3,16 @@ use Rattle.std.proofs.Common.{◌≡◌, ℕ, zero, suc, ◌+◌, ◌-◌, ◌*�
 use Rattle.std.specs.Prelude.{slice_get, max}
 use Rattle.std.proofs.Math.Nat.{mul-le-mul_right}
 use Rattle.spanner_model.specs.Captures.{VarName}
-use Rattle.spanner_model.specs.Tree.{Tree, empty, one, cat_end, cat, alt_end, alt, rep, cap, cat_all, alt_all}
+use Rattle.spanner_model.specs.Tree.{Tree, cat_all, alt_all}
 use Rattle.place_automaton.specs.Counts.{PlaceCounts, counts, counts_copies, counts_at_most, counts_plus, counts_repeated}
 use Rattle.place_automaton.specs.Drafts.{copies_of}
-use Rattle.place_automaton.specs.Places.{Placed, copies_then, at_most, plus_placed, repeated, placed}
+use Rattle.place_automaton.specs.Places.{Placed, placed}
+use Rattle.place_automaton.proofs.CountLaws.{lengths}
 use Rattle.place_automaton.proofs.Rows.{in_turn, total, copies}
 
 -- it has so many
 abbrev pub HasCount : Placed → ℕ → Type 0
 HasCount F n = (k : ℕ) → (F k).count ≡ n
-
-count_copies : (n : ℕ) (F G : Placed) (a b : PlaceCounts) → HasCount F a.places → HasCount G b.places → HasCount (copies_then n F G) (counts_copies n a b).places
-count_copies zero F G a b f g k = g k
-count_copies (suc n) F G a b f g k = omega (arith, f k, count_copies n F G a b f g (k + (F k).count))
-
-count_at_most : (n : ℕ) (F : Placed) (a : PlaceCounts) → HasCount F a.places → HasCount (at_most n F) (counts_at_most n a).places
-count_at_most zero F a f k = refl
-count_at_most (suc n) F a f k = omega (arith, f k, count_at_most n F a f (k + (F k).count))
-
-count_repeated : (n : ℕ) (most : Option ℕ) (F : Placed) (a : PlaceCounts) → HasCount F a.places → HasCount (repeated n most F) (counts_repeated n most a).places
-count_repeated zero None F a f k = f k
-count_repeated (suc n) None F a f k = count_copies n F (plus_placed F) a (counts_plus a) f f k
-count_repeated zero (Some most) F a f k = count_at_most (most - zero) F a f k
-count_repeated (suc n) (Some most) F a f k = count_copies (suc n) F (at_most (most - suc n) F) a (counts_at_most (most - suc n) a) f (count_at_most (most - suc n) F a f) k
 
 copies_places : (n : ℕ) (a b : PlaceCounts) → (counts_copies n a b).places ≡ n * a.places + b.places
 copies_places zero a b = omega arith
@@ -49,34 +36,27 @@ repeated_places (suc n) (Some most) a h =
     copies_places (suc n) a (counts_at_most m a) ∙ (ap (λ x. suc n * a.places + x) (at_most_places m a) ∙ (f ∙ ap (λ x. x * a.places) e))
 
 module _ (opening closing : VarName → ℕ) where
-  pub place_count : (f : Tree) → HasCount (placed opening closing f) (counts f).places
-  place_count empty k = refl
-  place_count (one set) k = refl
-  place_count cat_end k = refl
-  place_count (cat f rest) k = omega (arith, place_count f k, place_count rest (k + (placed opening closing f k).count))
-  place_count alt_end k = refl
-  place_count (alt f rest) k = omega (arith, place_count f k, place_count rest (k + (placed opening closing f k).count))
-  place_count (rep f least most) k = count_repeated least most (placed opening closing f) (counts f) (place_count f) k
-  place_count (cap x f) k = place_count f k
+  pub place_count : (f : Tree) → HasCount (placed opening closing f) (counts opening closing f).places
+  place_count f k = (lengths opening closing f k).places
 
   -- the parts so far
-  pub turn_total : (ts : List Tree) (k : ℕ) → total (in_turn (map (placed opening closing) ts) k) ≡ (counts (cat_all ts)).places
+  pub turn_total : (ts : List Tree) (k : ℕ) → total (in_turn (map (placed opening closing) ts) k) ≡ (counts opening closing (cat_all ts)).places
   turn_total [] k = refl
   turn_total (t ∷ ts) k = omega (arith, place_count t k, turn_total ts (k + (placed opening closing t k).count))
+
+  -- the places of the parts so far and the next are no more than those of all
+  pub parts_room : (ts : List Tree) (i : ℕ) (t : Tree) → slice_get ts i ≡ Some t → (counts opening closing (cat_all (take i ts))).places + (counts opening closing t).places ≤ (counts opening closing (cat_all ts)).places
+  parts_room [] i t at = absurd (cc)
+  parts_room (u ∷ ts) zero t at = let e : u ≡ t = cc in omega (arith, ap (λ (v : Tree). (counts opening closing v).places) e)
+  parts_room (u ∷ ts) (suc i) t at = omega (arith, parts_room ts i t at)
+
+  pub arms_room : (ts : List Tree) → (counts opening closing (alt_all ts)).places ≡ (counts opening closing (cat_all ts)).places
+  arms_room [] = refl
+  arms_room (t ∷ ts) = omega (arith, arms_room ts)
 
 pub copies_total : (F : Placed) (a : ℕ) → HasCount F a → (n k : ℕ) → total (copies F n k) ≡ n * a
 copies_total F a f zero k = omega arith
 copies_total F a f (suc n) k = omega (arith, f k, copies_total F a f n (k + (F k).count))
-
--- the places of the parts so far and the next are no more than those of all
-pub parts_room : (ts : List Tree) (i : ℕ) (t : Tree) → slice_get ts i ≡ Some t → (counts (cat_all (take i ts))).places + (counts t).places ≤ (counts (cat_all ts)).places
-parts_room [] i t at = absurd (cc)
-parts_room (u ∷ ts) zero t at = let e : u ≡ t = cc in omega (arith, ap (λ (v : Tree). (counts v).places) e)
-parts_room (u ∷ ts) (suc i) t at = omega (arith, parts_room ts i t at)
-
-pub arms_room : (ts : List Tree) → (counts (alt_all ts)).places ≡ (counts (cat_all ts)).places
-arms_room [] = refl
-arms_room (t ∷ ts) = omega (arith, arms_room ts)
 
 -- so many copies and one more are no more than all
 pub copies_room : (i n a : ℕ) → i + 1 ≤ n → i * a + a ≤ n * a

@@ -1,21 +1,15 @@
 -- Repetitions, written out as copies.
-use Rattle.std.proofs.Common.{◌≡◌, ℕ, zero, suc, ◌+◌, ◌-◌, ◌<◌, ◌≤◌, Bool, true, false, List, [], ◌∷◌, ◌++◌, length, map, Option, Some, None, max, inl, inr, refl, sym, ap, ◌∙◌, subst, arith, append_assoc}
-use Rattle.std.specs.Prelude.{IsTrue, ◌==◌, ◌&&◌, if◌then◌else◌}
-use Rattle.std.proofs.lemmas.Bool.{false≢true, ne_eqb}
+use Rattle.std.proofs.Common.{◌≡◌, ℕ, zero, suc, ◌+◌, ◌-◌, ◌≤◌, Bool, true, false, List, [], ◌∷◌, ◌++◌, map, Option, Some, None, max, inl, inr, refl, sym, ap, ◌∙◌, subst, arith, append_assoc}
+use Rattle.std.specs.Prelude.{◌==◌, ◌&&◌, if◌then◌else◌}
+use Rattle.std.proofs.lemmas.Bool.{ne_eqb}
 use Rattle.std.proofs.lemmas.List.{map-append}
-use Rattle.span_core.specs.Lists.{Has}
-use Rattle.span_core.proofs.HasLaws.{Has-append_left, Has-append_right}
-use Rattle.marked_automaton.specs.declared.way.Way.{Way}
-use Rattle.place_automaton.specs.Atom.{unless}
+use Rattle.span_core.specs.Lists.{AreDistinct, Has}
 use Rattle.place_automaton.specs.declared.placing.Draft.{Draft}
 use Rattle.place_automaton.specs.Drafts.{HasPlaced, copies_of}
-use Rattle.place_automaton.specs.Ends.{Ends, cap_ends, ends_of, opt_ends, again_ends, row_ends, row_ways}
-use Rattle.place_automaton.specs.Lean.{IsThinned, LeadsAgain}
-use Rattle.place_automaton.specs.Places.{Places, Placed, ways_between, cap_places, cat_places, opt_places, plus_places, nothing_placed, plus_placed, copies_then, at_most, repeated}
-use Rattle.place_automaton.proofs.CountLaws.{HasOneAtMost}
+use Rattle.place_automaton.specs.Ends.{Ends, ends_of, opt_ends, again_ends, row_ends, row_ways}
+use Rattle.place_automaton.specs.Places.{Places, Placed, ways_between, cat_places, opt_places, plus_places, nothing_placed, plus_placed, copies_then, at_most, repeated}
 use Rattle.place_automaton.proofs.DraftRows.{IsRow}
 use Rattle.place_automaton.proofs.JoinLists.{append_nil}
-use Rattle.place_automaton.proofs.LeanLaws.{EndsReach, IsElsewhere, again_reach, lean_both, lean_unless, none_thinned, thin_append, thin_unless, thin_widen}
 use Rattle.place_automaton.proofs.Ranges.{LiesFrom}
 use Rattle.place_automaton.proofs.Rows.{total, follows, row_places, row_is, row_count, row_follow, total_more, follows_more, copies, copies_more, bounded_row, unbounded_row}
 
@@ -42,7 +36,7 @@ empty_list : {X : Type 0} (xs : List X) → ((x : X) → Has xs x → ⊥) → x
 empty_list [] none = refl
 empty_list (x ∷ xs) none = absurd (none x (inl refl))
 
-pub flat_is : (k : ℕ) (P : Places) → LiesFrom k P → P.count ≡ 0 → HasOneAtMost P.null → ((m : ℕ) → Has P.null m → 0 ≡ m) → (a : Bool) × (P ≡ flat a)
+pub flat_is : (k : ℕ) (P : Places) → LiesFrom k P → P.count ≡ 0 → AreDistinct P.null → ((m : ℕ) → Has P.null m → 0 ≡ m) → (a : Bool) × (P ≡ flat a)
 flat_is k P lies none small zeros = go P.null refl
   where
     first : P.first ≡ []
@@ -60,7 +54,11 @@ flat_is k P lies none small zeros = go P.null refl
         let z : 0 ≡ n = zeros n (subst (λ ms. Has ms n) (sym e) (inl refl)) in
         let f : P.null ≡ 0 ∷ [] = e ∙ ap (λ x. x ∷ []) (sym z) in
         (true, λ i. record { count = none i; null = f i; first = first i; last = last i; follow = follow i })
-    go (n ∷ m ∷ ns) e = absurd (omega (arith, small, ap length e))
+    go (n ∷ m ∷ ns) e =
+        let d : AreDistinct (n ∷ m ∷ ns) = subst AreDistinct e small in
+        let zn : 0 ≡ n = zeros n (subst (λ ms. Has ms n) (sym e) (inl refl)) in
+        let zm : 0 ≡ m = zeros m (subst (λ ms. Has ms m) (sym e) (inr (inl refl))) in
+        absurd (d.0 (inl (sym zm ∙ zn)))
 
 module _ (F : Placed) (k : ℕ) (a : Bool) (is : F k ≡ flat a) where
   no_count : (F k).count ≡ 0
@@ -136,22 +134,17 @@ flat_follow true = refl
 flat_follow false = refl
 
 -- copies without places add nothing
-pub flat_done : (F : Placed) (k least : ℕ) (most : Option ℕ) (q again : Bool) (a b : Draft) (e r : Ends) → LiesFrom k (F k) → HasOneAtMost (F k).null →
-    ((m : ℕ) → Has (F k).null m → 0 ≡ m) → HasPlaced q (F k) a b e → b.next ≡ a.next → r ≡ (if least == 0 then opt_ends e else e) →
-    HasPlaced again (repeated least most F k) a b r
-flat_done F k least most q again a b e r lies small zeros h same is =
+pub flat_done : (F : Placed) (k least : ℕ) (most : Option ℕ) (a b : Draft) (e r : Ends) → LiesFrom k (F k) → AreDistinct (F k).null →
+    ((m : ℕ) → Has (F k).null m → 0 ≡ m) → HasPlaced (F k) a b e → b.next ≡ a.next → r ≡ (if least == 0 then opt_ends e else e) →
+    HasPlaced (repeated least most F k) a b r
+flat_done F k least most a b e r lies small zeros h same is =
     let none : (F k).count ≡ 0 = omega (arith, h.next, same) in
     let f = flat_is k (F k) lies none small zeros in
     let fits = may_be F k f.0 f.1 least in
-    let nothing = none_thinned (IsElsewhere q (F k) h.ways.0) (F k).follow h.ways.0 (ap (λ (P : Places). P.follow) f.1 ∙ flat_follow f.0) h.ways.2 in
-    subst (λ (W : Places). HasPlaced again W a b r) (sym (flat_repeated F k f.0 f.1 least most)) (record {
+    subst (λ (W : Places). HasPlaced W a b r) (sym (flat_repeated F k f.0 f.1 least most)) (record {
       ends = is ∙ (ap (λ (E : Ends). if least == 0 then opt_ends E else E) (h.ends ∙ ap ends_of f.1) ∙ ends_flat (least == 0) f.0);
       next = omega (arith, same, flat_count fits);
-      ways = (
-        [],
-        h.ways.1 ∙ ap (λ ws. a.ways.items ++ ws) nothing,
-        subst (λ ws. IsThinned (IsElsewhere again (flat fits) []) ws []) (sym (flat_follow fits)) refl,
-      );
+      ways = h.ways ∙ (ap (λ ws. a.ways.items ++ ws) (ap (λ (P : Places). P.follow) f.1 ∙ flat_follow f.0) ∙ ap (λ ws. a.ways.items ++ ws) (sym (flat_follow fits)));
     })
 
 -- no copies at all
@@ -161,9 +154,14 @@ none_placed F k (suc n) None e le = absurd (omega (arith, e))
 none_placed F k zero (Some m) e le = ap (λ n. at_most n F k) (let f : m - 0 ≡ 0 = omega (arith, e) in f)
 none_placed F k (suc n) (Some m) e le = absurd (omega (arith, e, le m refl))
 
-pub nothing_done : (again : Bool) (W : Places) (d : Draft) (e : Ends) → W ≡ nothing_placed 0 → e ≡ ends_of (nothing_placed 0) → HasPlaced again W d d e
-nothing_done again W d e is h =
-    subst (λ (V : Places). HasPlaced again V d d e) (sym is) (record { ends = h; next = omega arith; ways = ([], sym (append_nil d.ways.items), refl) })
+pub nothing_done : (W : Places) (d : Draft) (e : Ends) → W ≡ nothing_placed 0 → e ≡ ends_of (nothing_placed 0) → HasPlaced W d d e
+nothing_done W d e is h =
+    subst (λ (V : Places). HasPlaced V d d e) (sym is) (record { ends = h; next = omega arith; ways = sym (append_nil d.ways.items) })
+
+-- a part that may be left out, or may not
+pub once_done : (b : Bool) (P : Places) (a c : Draft) (e p : Ends) → HasPlaced P a c e → p ≡ (if b then opt_ends e else e) → HasPlaced (if b then opt_places P else P) a c p
+once_done true P a c e p h is = record { ends = is ∙ ap opt_ends h.ends; next = h.next; ways = h.ways }
+once_done false P a c e p h is = record { ends = is ∙ h.ends; next = h.next; ways = h.ways }
 
 pub bounded_places : (F : Placed) (n most k : ℕ) → n ≤ most → repeated n (Some most) F k ≡ row_places n (copies F most k) (nothing_placed 0)
 bounded_places F n most k le = is n ∙ bounded_row F n (most - n) most k (omega (arith, le))
@@ -183,7 +181,7 @@ again_is : (b : Bool) (P : Places) →
 again_is true P = (refl, refl, refl)
 again_is false P = (refl, refl, refl)
 
-pub unbounded_places : (F : Placed) (least n k : ℕ) → max least 1 ≡ n + 1 →
+unbounded_places : (F : Placed) (least n k : ℕ) → max least 1 ≡ n + 1 →
     repeated least None F k ≡ row_places least (copies F n k) (again_places least (F (k + total (copies F n k))))
 unbounded_places F zero zero k e = ap (λ j. opt_places (plus_places (F j))) (let f : k ≡ k + 0 = omega arith in f)
 unbounded_places F zero (suc n) k e = absurd (omega (arith, e))
@@ -194,107 +192,39 @@ unbounded_places F (suc m) n k e =
     ∙ (unbounded_row F n (suc m) (plus_placed F) k (omega (arith, e))
     ∙ ap (λ (b : Bool). row_places (suc m) (copies F n k) (if b then opt_places (plus_places P) else plus_places P)) (sym (ne_eqb (suc m) 0 (λ g. omega (arith, g)))))
 
--- the parts of a row, of which the last comes again and again
-pub again_done : (again all_again : Bool) (F : Placed) (least k j : ℕ) (a b c : Draft) (xs : List Ends) (p : Ends) → j ≡ max least 1 →
-    IsRow again (repeated least None F k) (copies F j k) a b xs → c.next ≡ b.next →
+pub again_done : (F : Placed) (least k j : ℕ) (a b c : Draft) (xs : List Ends) (p : Ends) → j ≡ max least 1 → IsRow (copies F j k) a b xs → c.next ≡ b.next →
     ((front : List Ends) (last : Ends) → xs ≡ front ++ last ∷ [] → p ≡ row_ends least front (again_ends least last)) →
     ((front : List Ends) (last : Ends) → xs ≡ front ++ last ∷ [] →
-    c.ways.items ≡ (b.ways.items ++ unless all_again (ways_between last.last last.first)) ++ unless all_again (row_ways least front (again_ends least last))) →
-    (IsTrue all_again → IsTrue again × ((n : ℕ) → n + 1 ≡ j →
-    let P = F (k + total (copies F n k)) in
-    ((w : Way) → LeadsAgain P w → LeadsAgain (repeated least None F k) w)
-    × ((w : Way) → Has (row_ways least (map ends_of (copies F n k)) (ends_of (again_places least P))) w → LeadsAgain (repeated least None F k) w))) →
-    HasPlaced again (repeated least None F k) a c p
-again_done again all_again F least k j a b c xs p many row next ends ways covered =
+    c.ways.items ≡ (b.ways.items ++ ways_between last.last last.first) ++ row_ways least front (again_ends least last)) →
+    HasPlaced (repeated least None F k) a c p
+again_done F least k j a b c xs p many row next ends ways =
     let n = j - 1 in
     let more : n + 1 ≡ j = omega (arith, many) in
-    let W = repeated least None F k in
     let Ps = copies F n k in
     let P = F (k + total Ps) in
     let all : copies F j k ≡ Ps ++ P ∷ [] = ap (λ i. copies F i k) (sym more) ∙ copies_more F n k in
     let Q = again_places least P in
     let q = again_is (least == 0) P in
-    let is : W ≡ row_places least Ps Q = unbounded_places F least n k (sym many ∙ sym more) in
     let front = map ends_of Ps in
     let split : xs ≡ front ++ ends_of P ∷ [] = row.pieces ∙ (ap (map ends_of) all ∙ map-append ends_of Ps (P ∷ [])) in
     let fs = follows Ps in
     let between = ways_between P.last P.first in
-    let rw = row_ways least front (ends_of Q) in
-    let same : row_ways least front (again_ends least (ends_of P)) ≡ rw = ap (λ (E : Ends). row_ways least front E) (sym q.0) in
-    let b' = unless all_again between in
-    let r' = unless all_again rw in
-    let added = row.ways.0 in
+    let rw = row_ways least front (again_ends least (ends_of P)) in
+    let before : b.ways.items ≡ a.ways.items ++ (fs ++ P.follow) = row.ways ∙ ap (λ ws. a.ways.items ++ ws) (ap follows all ∙ follows_more Ps P) in
     let ways' = ways front (ends_of P) split
-    ∙ (ap (λ ws. (b.ways.items ++ b') ++ unless all_again ws) same
-    ∙ (ap (λ ws. (ws ++ b') ++ r') row.ways.1 ∙ (append_assoc (a.ways.items ++ added) b' r' ∙ append_assoc a.ways.items added (b' ++ r')))) in
-    let follow : W.follow ≡ (follows (copies F j k)) ++ (between ++ rw) =
-    ap (λ (V : Places). V.follow) is
-    ∙ (row_follow least Ps Q
-    ∙ (ap (λ ws. fs ++ (ws ++ rw)) q.2
-    ∙ (four fs P.follow between rw ∙ ap (λ ws. ws ++ (between ++ rw)) (sym (ap follows all ∙ follows_more Ps P))))) in
-    record {
-      ends = ends front (ends_of P) split ∙ (ap (λ (E : Ends). row_ends least front E) (sym q.0) ∙ (sym (row_is least Ps Q) ∙ ap ends_of (sym is)));
-      next = omega (arith, next, row.next, ap total all, total_more Ps P, row_count least Ps Q, q.1, ap (λ (V : Places). V.count) is);
-      ways = (
-        added ++ (b' ++ r'),
-        ways',
-        subst (λ ws. IsThinned (IsElsewhere again W (added ++ (b' ++ r'))) ws (added ++ (b' ++ r'))) (sym follow)
-            (lean_both again W (follows (copies F j k)) added (between ++ rw) (b' ++ r') row.ways.2
-            (lean_both again W between b' rw r'
-            (lean_unless again W all_again between (λ yes. let g = covered yes in (g.0, (g.1 n more).0)))
-            (lean_unless again W all_again rw (λ yes. let g = covered yes in (g.0, (g.1 n more).1))))),
-      );
-    }
-  where
-    four : {X : Type 0} (f p b r : List X) → f ++ ((p ++ b) ++ r) ≡ (f ++ p) ++ (b ++ r)
-    four f p b r = ap (λ x. f ++ x) (append_assoc p b r) ∙ sym (append_assoc f p (b ++ r))
-
-pub again_reaches : (b : Bool) (P : Places) → EndsReach P (if b then opt_places (plus_places P) else plus_places P)
-again_reaches true P = record { firsts = λ e h. h; lasts = λ s h. h }
-again_reaches false P = record { firsts = λ e h. h; lasts = λ s h. h }
-
--- one part that comes again and again
-pub star_done : (again : Bool) (F : Placed) (least k : ℕ) (a b c : Draft) (e r : Ends) → least < 2 → HasPlaced true (F k) a b e → c.next ≡ b.next →
-    c.ways.items ≡ b.ways.items ++ unless again (ways_between e.last e.first) → r ≡ (if least == 0 then opt_ends e else e) →
-    HasPlaced again (repeated least None F k) a c r
-star_done again F least k a b c e r few h next ways ends =
-    let P = F k in
-    let Q = again_places least P in
-    let q = again_is (least == 0) P in
-    let is : repeated least None F k ≡ Q = unbounded_places F least 0 k (omega (arith, few)) ∙ ap (λ n. again_places least (F n)) (let g : k + 0 ≡ k = omega arith in g) in
-    let loops = ways_between P.last P.first in
-    let more = unless again loops in
-    let added = h.ways.0 in
-    let all = added ++ more in
-    let reach = again_reaches (least == 0) P in
-    subst (λ (W : Places). HasPlaced again W a c r) (sym is) (record {
-      ends = ends ∙ (ap (λ (E : Ends). if least == 0 then opt_ends E else E) h.ends ∙ sym q.0);
-      next = omega (arith, next, h.next, q.1);
-      ways = (
-        all,
-        ways ∙ (ap (λ (E : Ends). b.ways.items ++ unless again (ways_between E.last E.first)) h.ends ∙ (ap (λ ws. ws ++ more) h.ways.1 ∙ append_assoc a.ways.items added more)),
-        subst (λ ws. IsThinned (IsElsewhere again Q all) ws all) (sym q.2)
-            (thin_append (IsElsewhere again Q all) P.follow added loops more
-            (thin_widen (IsElsewhere true P added) (IsElsewhere again Q all) P.follow added
-            (λ w m. elim m [ inl x ↦ inl (Has-append_left added more w x) | inr l ↦ loop_there again added loops (λ w h. again_reach P Q reach w h) w l.1 ]) h.ways.2)
-            (thin_unless (IsElsewhere again Q all) again loops (λ yes w l. inr (yes, again_reach P Q reach w l)))),
-      );
+    ∙ (ap (λ ws. (ws ++ between) ++ rw) before
+    ∙ (six a.ways.items fs P.follow between rw
+    ∙ (ap (λ ws. a.ways.items ++ (fs ++ (ws ++ rw))) (sym q.2)
+    ∙ (ap (λ (E : Ends). a.ways.items ++ (fs ++ (Q.follow ++ row_ways least front E))) (sym q.0)
+    ∙ ap (λ ws. a.ways.items ++ ws) (sym (row_follow least Ps Q)))))) in
+    subst (λ (W : Places). HasPlaced W a c p) (sym (unbounded_places F least n k (sym many ∙ sym more))) (record {
+      ends = ends front (ends_of P) split ∙ (ap (λ (E : Ends). row_ends least front E) (sym q.0) ∙ sym (row_is least Ps Q));
+      next = omega (arith, next, row.next, ap total all, total_more Ps P, row_count least Ps Q, q.1);
+      ways = ways';
     })
   where
-    loop_there : (g : Bool) (added loops : List Way) → ((w : Way) → Has loops w → LeadsAgain (again_places least (F k)) w) → (w : Way) → Has loops w →
-        IsElsewhere g (again_places least (F k)) (added ++ unless g loops) w
-    loop_there true added loops f w l = inr (refl, f w l)
-    loop_there false added loops f w l = inl (Has-append_right added loops w l)
-
--- a part in a capture, which no repetition makes again
-pub cap_done : (again : Bool) (o c : ℕ) (P : Places) (a b : Draft) (e r : Ends) → HasPlaced false P a b e → r ≡ cap_ends o c e → HasPlaced again (cap_places o c P) a b r
-cap_done again o c P a b e r h is = record {
-  ends = is ∙ ap (cap_ends o c) h.ends;
-  next = h.next;
-  ways = (
-    h.ways.0,
-    h.ways.1,
-    thin_widen (IsElsewhere false P h.ways.0) (IsElsewhere again (cap_places o c P) h.ways.0) P.follow h.ways.0
-        (λ w m. elim m [ inl there ↦ inl there | inr loop ↦ absurd (false≢true loop.0) ]) h.ways.2,
-  );
-}
+    six : {X : Type 0} (a f p b r : List X) → ((a ++ (f ++ p)) ++ b) ++ r ≡ a ++ (f ++ ((p ++ b) ++ r))
+    six a f p b r =
+        append_assoc (a ++ (f ++ p)) b r
+        ∙ (append_assoc a (f ++ p) (b ++ r)
+        ∙ ap (λ x. a ++ x) (append_assoc f p (b ++ r) ∙ ap (λ x. f ++ x) (sym (append_assoc p b r))))

@@ -2,7 +2,7 @@
 use Rattle.std.specs.Prelude.{nat_le, if◌then◌else◌}
 use Rattle.std.proofs.lemmas.Bool.{leb-true, leb-false}
 use Rattle.std.proofs.Common.{◌≡◌, ℕ, zero, suc, ◌+◌, ◌-◌, ◌<◌, ◌≤◌, Bool, true, false, List, [], ◌∷◌, ◌++◌, length, length-append, append_assoc, refl, sym, ap, ◌∙◌, subst, arith}
-use Rattle.place_automaton.specs.Ends.{Ends, cat_ends, opt_ends, JoinAsSums, IsUnmarked, row_ends, row_ways, RowJoins, less_one}
+use Rattle.place_automaton.specs.Ends.{Ends, cat_ends, opt_ends, JoinAsSums, row_ends, row_ways, RowJoins, less_one}
 use Rattle.place_automaton.specs.Places.{ways_between}
 
 module _ (r k : ℕ) (P : Ends) (Ps : List Ends) (Q : Ends) where
@@ -36,24 +36,15 @@ module _ (r k : ℕ) (P : Ends) (Ps : List Ends) (Q : Ends) where
   next_ways = ap (λ n. row_ways n Ps Q ++ ways_between P.last (row_ends n Ps Q).first) less_left
 
   pub next_joins : RowJoins (r - k) (P ∷ Ps) Q → JoinAsSums P Rest
-  next_joins h = go (r - k) refl h
-    where
-      go : (n : ℕ) → r - k ≡ n → RowJoins n (P ∷ Ps) Q → JoinAsSums P Rest
-      go zero e j = subst (λ m. JoinAsSums P (row_ends m Ps Q)) (let f : 0 ≡ r - suc k = omega (arith, e) in f) j.0
-      go (suc n) e j = subst (λ m. JoinAsSums P (row_ends m Ps Q)) (let f : n ≡ r - suc k = omega (arith, e) in f) j.0
-
-  pub next_bare : r ≤ k → RowJoins (r - k) (P ∷ Ps) Q → IsUnmarked (cat_ends P Rest)
-  next_bare h j =
-      subst (λ m. IsUnmarked (cat_ends P (row_ends m Ps Q))) (sym (none_after h))
-      (let g : RowJoins 0 (P ∷ Ps) Q = subst (λ n. RowJoins n (P ∷ Ps) Q) (none_left h) j in g.1)
+  next_joins h = subst (λ m. JoinAsSums P (row_ends m Ps Q)) less_left h.0
 
 -- the parts that are left
 pub row_joins_rest : (r : ℕ) (Ps Qs : List Ends) (Q : Ends) → RowJoins r (Ps ++ Qs) Q → RowJoins (r - length Ps) Qs Q
 row_joins_rest r [] Qs Q h = subst (λ n. RowJoins n Qs Q) (let e : r ≡ r - 0 = omega arith in e) h
 row_joins_rest zero (P ∷ Ps) Qs Q h =
-    subst (λ n. RowJoins n Qs Q) (let e : 0 - length Ps ≡ 0 - suc (length Ps) = omega arith in e) (row_joins_rest zero Ps Qs Q h.2)
+    subst (λ n. RowJoins n Qs Q) (let e : 0 - length Ps ≡ 0 - suc (length Ps) = omega arith in e) (row_joins_rest zero Ps Qs Q h.1)
 row_joins_rest (suc r) (P ∷ Ps) Qs Q h =
-    subst (λ n. RowJoins n Qs Q) (let e : r - length Ps ≡ suc r - suc (length Ps) = omega arith in e) (row_joins_rest r Ps Qs Q h.2)
+    subst (λ n. RowJoins n Qs Q) (let e : r - length Ps ≡ suc r - suc (length Ps) = omega arith in e) (row_joins_rest r Ps Qs Q h.1)
 
 -- one part is taken from the end of those that wait
 module _ (r : ℕ) (all now new done : List Ends) (P Q : Ends) (whole : all ≡ now ++ done) (taken : now ≡ new ++ P ∷ []) where

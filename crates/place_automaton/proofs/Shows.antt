@@ -19,7 +19,7 @@ use Rattle.marked_automaton.proofs.Passing.{has_flat_map, flat_map_cases}
 use Rattle.place_automaton.proofs.PlaceReads.{reads_same, reads_after_null, reads_before_null, reads_across, reads_of_cat, reads_once, reads_again, reads_of_plus, reads_in_cap, reads_of_cap, reads_in_left, reads_in_right, reads_of_alt}
 use Rattle.place_automaton.proofs.Ranges.{LiesFrom}
 
-pub has_sums : (ms ns : List ℕ) (m n : ℕ) → Has ms m → Has ns n → Has (sums ms ns) (m + n)
+has_sums : (ms ns : List ℕ) (m n : ℕ) → Has ms m → Has ns n → Has (sums ms ns) (m + n)
 has_sums ms ns m n a b = has_flat_map (λ m. map (◌+◌ m) ns) ms m (m + n) a (Has-map (◌+◌ m) ns n b)
 
 pub sums_cases : (ms ns : List ℕ) (k : ℕ) → Has (sums ms ns) k → (m : ℕ) × (n : ℕ) × Has ms m × Has ns n × (m + n ≡ k)
@@ -47,7 +47,7 @@ any_has n (m ∷ ms) e = go (any_has n ms) (nat_eq n m) refl e
     go rest true at f = inl (sym (eqb-true n m at))
     go rest false at f = inr (rest f)
 
-pub once_there : (n m : ℕ) (ms : List ℕ) → n ≡ m → Has (add_once n ms) m
+once_there : (n m : ℕ) (ms : List ℕ) → n ≡ m → Has (add_once n ms) m
 once_there n m ms e = go (list_any (nat_eq n) ms) refl
   where
     go : (b : Bool) → list_any (nat_eq n) ms ≡ b → Has (if b then ms else n ∷ ms) m

@@ -64,11 +64,11 @@ row_joins r [] Q ps q = tt
 row_joins zero (P ∷ Ps) Q ps q =
     let p = ps P (inl refl) in
     let rest = row_unmarked zero Ps Q (λ P h. ps P (inr h)) q in
-    (unmarked_joins P (row_ends zero Ps Q) p rest, cat_unmarked P (row_ends zero Ps Q) p rest, row_joins zero Ps Q (λ P h. ps P (inr h)) q)
+    (unmarked_joins P (row_ends zero Ps Q) p rest, row_joins zero Ps Q (λ P h. ps P (inr h)) q)
 row_joins (suc r) (P ∷ Ps) Q ps q =
     let p = ps P (inl refl) in
     let rest = row_unmarked r Ps Q (λ P h. ps P (inr h)) q in
-    (unmarked_joins P (row_ends r Ps Q) p rest, tt, row_joins r Ps Q (λ P h. ps P (inr h)) q)
+    (unmarked_joins P (row_ends r Ps Q) p rest, row_joins r Ps Q (λ P h. ps P (inr h)) q)
 
 pub copies_unmarked : (F : Placed) → ((k : ℕ) → IsUnmarked (ends_of (F k))) → (n k : ℕ) → AllUnmarked (map ends_of (copies F n k))
 copies_unmarked F f zero k P h = absurd h

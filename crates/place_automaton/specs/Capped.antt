@@ -9,7 +9,7 @@ capped n = min n (2 ^ 64 - 1)
 -- each number of the code is the one of the formula, or 2^64 - 1 where that is less
 pub record AreCapped (c : PlaceCounts) (n : Numbers) : Type 0 where
   pub places : n.places ≡ capped c.places
-  pub null : n.null ≡ capped c.null
+  pub null : n.null.items ≡ c.null
   pub first : n.first ≡ capped c.first
   pub last : n.last ≡ capped c.last
   pub follow : n.follow ≡ capped c.follow

@@ -1,16 +1,22 @@
 -- The numbers of an atom are those of its automaton.
-use Rattle.std.specs.Prelude.{◌≡◌, Bool, List, length}
-use Rattle.spanner_model.specs.Captures.{VarName}
-use Rattle.spanner_model.specs.Functional.{HasVar, IsFunctional}
-use Rattle.place_automaton.specs.Sequential.{HasOrderedRepeats}
-use Rattle.span_core.specs.Lists.{Has, AreDistinct}
+use Rattle.std.specs.Prelude.{◌≡◌, Bool, [], length}
+use Rattle.spanner_model.specs.Functional.{IsFunctional}
 use Rattle.spanner_model.specs.Tree.{Tree}
 use Rattle.place_automaton.specs.Counts.{count_states, count_ways}
+use Rattle.place_automaton.specs.PlainCounts.{plain_states, plain_ways}
+use Rattle.place_automaton.specs.Sequential.{HasOrderedRepeats}
+use Rattle.place_automaton.specs.Variables.{with_vars}
 use Rattle.place_automaton.specs.Words.{atom_automaton}
 
+-- whatever the formula
 abbrev pub CountLaw : Type 0
 CountLaw =
-    (names : List VarName) (from_start to_end : Bool) (f : Tree) → AreDistinct names → ((x : VarName) → HasVar f x → Has names x) →
-    IsFunctional f → HasOrderedRepeats f →
-    ((atom_automaton names from_start to_end f).states ≡ count_states from_start to_end f)
-    × (length (atom_automaton names from_start to_end f).ways ≡ count_ways from_start to_end f)
+    (from_start to_end : Bool) (f : Tree) →
+    ((atom_automaton (with_vars [] f) from_start to_end f).states ≡ count_states from_start to_end f)
+    × (length (atom_automaton (with_vars [] f) from_start to_end f).ways ≡ count_ways from_start to_end f)
+
+-- of a functional formula they are those that do not look at markers
+abbrev pub FunctionalCountLaw : Type 0
+FunctionalCountLaw =
+    (from_start to_end : Bool) (f : Tree) → IsFunctional f → HasOrderedRepeats f →
+    (count_states from_start to_end f ≡ plain_states from_start to_end f) × (count_ways from_start to_end f ≡ plain_ways from_start to_end f)

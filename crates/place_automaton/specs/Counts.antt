@@ -1,47 +1,55 @@
 -- The numbers of an atom's automaton, by the formula alone.
-use Rattle.std.specs.Prelude.{ℕ, zero, suc, ◌+◌, ◌-◌, ◌*◌, max, Option, Some, None, Bool, if◌then◌else◌}
+use Rattle.std.specs.Prelude.{ℕ, zero, suc, ◌+◌, ◌-◌, ◌*◌, List, [], ◌∷◌, length, map, Option, Some, None, Bool, if◌then◌else◌}
+use Rattle.spanner_model.specs.Captures.{VarName}
 use Rattle.spanner_model.specs.Tree.{Tree, empty, one, cat_end, cat, alt_end, alt, rep, cap}
+use Rattle.place_automaton.specs.Places.{add_once, either_once, sums}
+use Rattle.place_automaton.specs.Variables.{with_vars}
+use Rattle.place_automaton.specs.Words.{opening_of, closing_of}
 
 pub record PlaceCounts : Type 0 where
   pub places : ℕ
-  -- 1 where the empty string fits, else 0
-  pub null : ℕ
+  -- the blocks with which the empty string fits
+  pub null : List ℕ
   pub first : ℕ
   pub last : ℕ
   pub follow : ℕ
 
 abbrev pub counts_nothing : PlaceCounts
-counts_nothing = record { places = 0; null = 1; first = 0; last = 0; follow = 0 }
+counts_nothing = record { places = 0; null = 0 ∷ []; first = 0; last = 0; follow = 0 }
 
 abbrev pub counts_never : PlaceCounts
-counts_never = record { places = 0; null = 0; first = 0; last = 0; follow = 0 }
+counts_never = record { places = 0; null = []; first = 0; last = 0; follow = 0 }
 
 abbrev pub counts_one : PlaceCounts
-counts_one = record { places = 1; null = 0; first = 1; last = 1; follow = 0 }
+counts_one = record { places = 1; null = []; first = 1; last = 1; follow = 0 }
 
 abbrev pub counts_cat : PlaceCounts → PlaceCounts → PlaceCounts
 counts_cat a b = record {
   places = a.places + b.places;
-  null = a.null * b.null;
-  first = a.first + a.null * b.first;
-  last = b.last + a.last * b.null;
+  null = sums a.null b.null;
+  first = a.first + length a.null * b.first;
+  last = b.last + length b.null * a.last;
   follow = a.follow + b.follow + a.last * b.first;
 }
 
 abbrev pub counts_alt : PlaceCounts → PlaceCounts → PlaceCounts
 counts_alt a b = record {
   places = a.places + b.places;
-  null = max a.null b.null;
+  null = either_once a.null b.null;
   first = a.first + b.first;
   last = a.last + b.last;
   follow = a.follow + b.follow;
 }
 
 abbrev pub counts_opt : PlaceCounts → PlaceCounts
-counts_opt a = record { places = a.places; null = 1; first = a.first; last = a.last; follow = a.follow }
+counts_opt a = record { places = a.places; null = add_once 0 a.null; first = a.first; last = a.last; follow = a.follow }
 
 abbrev pub counts_plus : PlaceCounts → PlaceCounts
 counts_plus a = record { places = a.places; null = a.null; first = a.first; last = a.last; follow = a.follow + a.last * a.first }
+
+-- in a capture, whose two markers have these bits
+abbrev pub counts_cap : ℕ → PlaceCounts → PlaceCounts
+counts_cap both a = record { places = a.places; null = map (◌+◌ both) a.null; first = a.first; last = a.last; follow = a.follow }
 
 abbrev pub counts_copies : ℕ → PlaceCounts → PlaceCounts → PlaceCounts
 counts_copies zero a b = b
@@ -56,19 +64,30 @@ counts_repeated zero None a = counts_opt (counts_plus a)
 counts_repeated (suc n) None a = counts_copies n a (counts_plus a)
 counts_repeated n (Some most) a = counts_copies n a (counts_at_most (most - n) a)
 
-abbrev pub counts : Tree → PlaceCounts
-counts empty = counts_nothing
-counts (one set) = counts_one
-counts cat_end = counts_nothing
-counts (cat f rest) = counts_cat (counts f) (counts rest)
-counts alt_end = counts_never
-counts (alt f rest) = counts_alt (counts f) (counts rest)
-counts (rep f least most) = counts_repeated least most (counts f)
-counts (cap x f) = counts f
+module _ (opening closing : VarName → ℕ) where
+  abbrev pub counts : Tree → PlaceCounts
+  counts empty = counts_nothing
+  counts (one set) = counts_one
+  counts cat_end = counts_nothing
+  counts (cat f rest) = counts_cat (counts f) (counts rest)
+  counts alt_end = counts_never
+  counts (alt f rest) = counts_alt (counts f) (counts rest)
+  counts (rep f least most) = counts_repeated least most (counts f)
+  counts (cap x f) = counts_cap (opening x + closing x) (counts f)
+
+-- where the markers are those of these names
+abbrev pub counts_over : List VarName → Tree → PlaceCounts
+counts_over names f = counts (opening_of names) (closing_of names) f
+
+abbrev pub states_of : Bool → PlaceCounts → ℕ
+states_of to_end c = 1 + c.places + (if to_end then 0 else 1)
+
+abbrev pub ways_of : Bool → Bool → PlaceCounts → ℕ
+ways_of from_start to_end c =
+    c.first + c.follow + (if from_start then 0 else 1) + (if to_end then 0 else c.last + 1 + length c.null)
 
 abbrev pub count_states : Bool → Bool → Tree → ℕ
-count_states from_start to_end f = 1 + (counts f).places + (if to_end then 0 else 1)
+count_states from_start to_end f = states_of to_end (counts_over (with_vars [] f) f)
 
 abbrev pub count_ways : Bool → Bool → Tree → ℕ
-count_ways from_start to_end f =
-    (counts f).first + (counts f).follow + (if from_start then 0 else 1) + (if to_end then 0 else (counts f).last + 1 + (counts f).null)
+count_ways from_start to_end f = ways_of from_start to_end (counts_over (with_vars [] f) f)

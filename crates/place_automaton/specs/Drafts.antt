@@ -1,13 +1,11 @@
 -- What placing a formula adds to an automaton that is being made.
-use Rattle.std.specs.Prelude.{◌≡◌, ℕ, ◌+◌, ◌++◌, max, Bool, List, Option, Some, None}
+use Rattle.std.specs.Prelude.{◌≡◌, ℕ, ◌+◌, ◌++◌, max, List, Option, Some, None}
 use Rattle.spanner_model.specs.Captures.{VarName}
 use Rattle.spanner_model.specs.Functional.{HasVar}
 use Rattle.span_core.specs.Lists.{Has}
 use Rattle.spanner_model.specs.Tree.{Tree}
 use Rattle.place_automaton.specs.declared.placing.Draft.{Draft}
 use Rattle.place_automaton.specs.Ends.{Ends, ends_of}
-use Rattle.marked_automaton.specs.declared.way.Way.{Way}
-use Rattle.place_automaton.specs.Lean.{AreLean}
 use Rattle.place_automaton.specs.Places.{Places, placed}
 use Rattle.place_automaton.specs.Words.{opening_of, closing_of}
 
@@ -19,12 +17,11 @@ places_of names f k = placed (opening_of names) (closing_of names) f k
 abbrev pub AreNamed : List VarName → Tree → Type 0
 AreNamed names f = (x : VarName) → HasVar f x → Has names x
 
--- these places, and the ways between them, have come to the draft, but for those that a repetition around
--- them adds, if one does
-pub record HasPlaced (again : Bool) (P : Places) (old new : Draft) (E : Ends) : Type 0 where
+-- these places, and the ways between them, have come to the draft
+pub record HasPlaced (P : Places) (old new : Draft) (E : Ends) : Type 0 where
   pub ends : E ≡ ends_of P
   pub next : new.next ≡ old.next + P.count
-  pub ways : (added : List Way) × (new.ways.items ≡ old.ways.items ++ added) × AreLean again P added
+  pub ways : new.ways.items ≡ old.ways.items ++ P.follow
 
 -- how many copies of its formula a repetition is written out as
 abbrev pub copies_of : ℕ → Option ℕ → ℕ

@@ -1,5 +1,5 @@
 -- What stands at the two ends of a part of a formula whose places are numbered.
-use Rattle.std.specs.Prelude.{◌≡◌, ℕ, zero, suc, ◌+◌, ◌⊎◌, List, [], ◌∷◌, ◌++◌, map, Option, Some, None, bit_or, ◌==◌, if◌then◌else◌}
+use Rattle.std.specs.Prelude.{◌≡◌, ℕ, zero, suc, ◌+◌, ◌⊎◌, List, [], ◌∷◌, ◌++◌, map, bit_or, ◌==◌, if◌then◌else◌}
 use Rattle.std.specs.List.{flat_map}
 use Rattle.span_core.specs.Lists.{Has}
 use Rattle.marked_automaton.specs.declared.way.Way.{Way}
@@ -13,11 +13,6 @@ pub record Ends : Type 0 where
   pub null : List ℕ
   pub first : List Entry
   pub last : List Stop
-
--- a block, if there is one
-abbrev pub null_of : Option ℕ → List ℕ
-null_of None = []
-null_of (Some m) = m ∷ []
 
 abbrev pub ends_of : Places → Ends
 ends_of P = record { null = P.null; first = P.first; last = P.last }
@@ -90,11 +85,10 @@ abbrev pub row_ways : ℕ → List Ends → Ends → List Way
 row_ways required [] Q = []
 row_ways required (P ∷ Ps) Q = row_ways (less_one required) Ps Q ++ ways_between P.last (row_ends (less_one required) Ps Q).first
 
--- each of such parts shares no marker with what comes after it, and one that may be left out has none
+-- each of such parts shares no marker with what comes after it
 abbrev pub RowJoins : ℕ → List Ends → Ends → Type 0
 RowJoins required [] Q = Unit {0}
-RowJoins zero (P ∷ Ps) Q = JoinAsSums P (row_ends zero Ps Q) × IsUnmarked (cat_ends P (row_ends zero Ps Q)) × RowJoins zero Ps Q
-RowJoins (suc required) (P ∷ Ps) Q = JoinAsSums P (row_ends required Ps Q) × Unit {0} × RowJoins required Ps Q
+RowJoins required (P ∷ Ps) Q = JoinAsSums P (row_ends (less_one required) Ps Q) × RowJoins (less_one required) Ps Q
 
 -- a part that comes again and again, or not at all where none is required
 abbrev pub again_ends : ℕ → Ends → Ends

@@ -1,7 +1,7 @@
 -- Worked numbers.
 use Rattle.std.specs.Prelude.{◌≡◌, ℕ, [], ◌∷◌, Some, false, length}
-use Rattle.spanner_model.specs.Tree.{Tree, rep, cap}
-use Rattle.spanner_model.specs.Examples.{a, star, x}
+use Rattle.spanner_model.specs.Tree.{Tree, empty, cat_all, rep, cap}
+use Rattle.spanner_model.specs.Examples.{a, b, star, x}
 use Rattle.marked_automaton.specs.Automaton.{Automaton}
 use Rattle.place_automaton.specs.Counts.{count_states, count_ways}
 use Rattle.place_automaton.specs.Words.{atom_automaton}
@@ -26,6 +26,10 @@ many_a = times 20 (times 1000 a)
 abbrev pub many_optional : Tree
 many_optional = times 3 (times 1000 (maybe a))
 
+-- a(!x{()})?b
+abbrev pub optional_x : Tree
+optional_x = cat_all (a ∷ (maybe (cap x empty) ∷ (b ∷ [])))
+
 abbrev pub star_automaton : Automaton
 star_automaton = atom_automaton (x ∷ []) false false star_in_x
 
@@ -35,3 +39,4 @@ CountsOfTheExamples =
     × (count_states false false star_in_x ≡ 3) × (count_ways false false star_in_x ≡ 6)
     × (count_states false false many_a ≡ 20002)
     × (count_ways false false many_optional ≡ 4504503)
+    × (count_states false false optional_x ≡ 4) × (count_ways false false optional_x ≡ 6)

@@ -6,12 +6,13 @@ pub mod Counts
 pub mod Drafts
 pub mod Ends
 pub mod Examples
-pub mod Fitting
-pub mod Lean
 pub mod Made
 pub mod Moves
 pub mod Places
+pub mod PlainCounts
 pub mod Reads
+pub mod Refusals
 pub mod Samples
 pub mod Sequential
+pub mod Variables
 pub mod Words

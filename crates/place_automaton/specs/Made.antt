@@ -1,5 +1,5 @@
 -- What comes to an automaton after its places.
-use Rattle.std.specs.Prelude.{◌≡◌, ℕ, ◌+◌, ◌≤◌, ◌↔◌, ◌⊎◌, Bool, List, [], ◌∷◌, ◌++◌, length, map}
+use Rattle.std.specs.Prelude.{◌≡◌, ℕ, ◌↔◌, ◌⊎◌, Bool, List, [], ◌∷◌, ◌++◌, length, map}
 use Rattle.span_core.specs.NameSets.{Ascending}
 use Rattle.spanner_model.specs.Captures.{VarName}
 use Rattle.spanner_model.specs.Functional.{HasVar}
@@ -11,10 +11,7 @@ use Rattle.marked_automaton.specs.Automaton.{Automaton, AreGrouped, Marked, idle
 use Rattle.marked_automaton.specs.Reduct.{Rearranges}
 use Rattle.place_automaton.specs.Atom.{stop_before, unless, way_after, way_from_first}
 use Rattle.place_automaton.specs.Counts.{count_ways}
-use Rattle.place_automaton.specs.declared.placing.Draft.{Draft}
-use Rattle.place_automaton.specs.Drafts.{places_of}
-use Rattle.place_automaton.specs.Ends.{Ends, ends_of}
-use Rattle.place_automaton.specs.Lean.{IsThinned}
+use Rattle.place_automaton.specs.Ends.{Ends}
 use Rattle.place_automaton.specs.Words.{atom_automaton}
 
 -- the ends of the last places, and of Before
@@ -48,18 +45,11 @@ pub record IsFinished (from_start to_end : Bool) (after : ℕ) (P : Ends) (old n
   pub stops : new.stops ≡ old.stops ++ all_stops to_end after P
   pub idle : (p : ℕ) → Has new.idle p ↔ (Has old.idle p ⊎ Has (idle_states from_start to_end after) p)
 
--- the places have come, and all ways of the automaton, each at least once
-pub record ArePlaced (names : List VarName) (from_start to_end : Bool) (f : Tree) (E : Ends) (draft : Draft) : Type 0 where
-  pub ends : E ≡ ends_of (places_of names f 1)
-  pub next : draft.next ≡ 1 + (places_of names f 1).count
-  pub ways : IsThinned (Has draft.ways.items) (atom_automaton names from_start to_end f).ways draft.ways.items
-
--- the automaton of an atom over the variables of its formula, but for the order of the ways, and for ways
--- that are there several times
+-- the automaton of an atom over the variables of its formula, but for the order of the ways
 pub record IsMade (from_start to_end : Bool) (f : Tree) (A : Marked) : Type 0 where
   pub ascending : Ascending A.names
   pub names : (x : VarName) → Has A.names x ↔ HasVar f x
   pub reduct : Rearranges A.graph (atom_automaton A.names from_start to_end f)
-  pub ways : length A.graph.ways ≤ count_ways from_start to_end f
+  pub ways : length A.graph.ways ≡ count_ways from_start to_end f
   pub grouped : AreGrouped A.graph.ways
   pub stops : A.graph.stops ≡ (atom_automaton A.names from_start to_end f).stops

@@ -2,11 +2,12 @@
 use Rattle.std.specs.Prelude.{ℕ, [], ◌∷◌, None, Option}
 use Rattle.span_core.specs.declared.TheConstants.{MOST_VARIABLES}
 use Rattle.spanner_model.specs.Examples.{a, b, x}
-use Rattle.spanner_model.specs.Functional.{HasVar, IsFunctional}
+use Rattle.spanner_model.specs.Functional.{HasVar}
 use Rattle.span_core.specs.Lists.{AtMost}
-use Rattle.spanner_model.specs.Tree.{Tree, empty, cat_all, rep, cap}
+use Rattle.spanner_model.specs.Tree.{Tree, empty, cat_all, alt_all, rep, cap}
 use Rattle.spanner_model.specs.WellBuilt.{IsWellBuilt}
 use Rattle.place_automaton.specs.Examples.{maybe, times}
+use Rattle.place_automaton.specs.Sequential.{IsSequential}
 
 -- (a{1000}){19}a{999}
 abbrev pub long : Tree
@@ -40,6 +41,18 @@ stars_of_maybes = star_of (star_of (times 3 (maybe a)))
 abbrev pub stars_of_two : Tree
 stars_of_two = star_of (star_of a_and_maybe_b)
 
+-- (f{1000}){1000}
+abbrev pub million : Tree → Tree
+million f = times 1000 (times 1000 f)
+
+-- (!x{()})?
+abbrev pub maybe_empty : Tree
+maybe_empty = maybe (cap x empty)
+
+-- !x{a}|b
+abbrev pub x_or_b : Tree
+x_or_b = alt_all (cap x a ∷ (b ∷ []))
+
 -- what is asked of a formula whose automaton is made
 abbrev pub IsSample : Tree → Type 0
-IsSample f = IsWellBuilt f × IsFunctional f × AtMost MOST_VARIABLES (HasVar f)
+IsSample f = IsWellBuilt f × IsSequential f × AtMost MOST_VARIABLES (HasVar f)

@@ -4,22 +4,12 @@ ghost use Rattle.std.specs.List.{flat_map};
 ghost use Rattle.span_core.specs.Lists.{Has};
 ghost use Rattle.marked_automaton.specs.declared.way.Stop.{Stop};
 ghost use Rattle.place_automaton.specs.declared.piece.Entry.{Entry};
-ghost use Rattle.place_automaton.specs.Ends.{null_of, JoinAsSum};
-ghost use Rattle.place_automaton.specs.Places.{sums, way_into, ways_between, entry_with, stop_with};
+ghost use Rattle.place_automaton.specs.Ends.{JoinAsSum};
+ghost use Rattle.place_automaton.specs.Places.{way_into, ways_between, entry_with, stop_with};
 
 use crate::piece::Entry;
 use marked_automaton::{Stop, Way};
 use span_core::{Marks, OutOfMemory};
-
-/// The markers of both, where both are there.
-pub(crate) fn both(front: Option<Marks>, behind: Option<Marks>) -> Option<Marks>
-    requires { (m n : ℕ) → Has (null_of front) m → Has (null_of behind) n → JoinAsSum m n }
-    ensures { null_of result ≡ sums (null_of front) (null_of behind) }
-{
-    let Some(m) = front else { return None };
-    let Some(n) = behind else { return None };
-    Some(m.with(n))
-}
 
 /// Puts the markers in front of those of each entry.
 pub(crate) fn mark_entries(marks: Marks, entries: &mut [Entry])
@@ -47,21 +37,41 @@ pub(crate) fn mark_stops(marks: Marks, stops: &mut [Stop])
     }
 }
 
-/// The entries in front, and where the empty string fits in front those behind too.
+/// The entries in front, and for each set of markers with which the empty string fits in front those behind too.
 pub(crate) fn all_entries(
     front: Vec<Entry>,
-    null: Option<Marks>,
+    null: &[Marks],
     behind: Vec<Entry>,
 ) -> Result<Vec<Entry>, OutOfMemory>
-    requires { (m : ℕ) (e : Entry) → Has (null_of null) m → Has behind.items e → JoinAsSum m e.marks }
-    ensures { IfOk result (λ v. v.items ≡ front.items ++ flat_map (λ m. map (entry_with m) behind.items) (null_of null)) }
+    requires { (m : ℕ) (e : Entry) → Has null.now m → Has behind.items e → JoinAsSum m e.marks }
+    ensures { IfOk result (λ v. v.items ≡ front.items ++ flat_map (λ m. map (entry_with m) behind.items) null.now) }
 {
-    match null {
-        None => Ok(front),
-        Some(marks) => entries_then(front, marks, behind),
+    if null.len() == 1 {
+        return entries_then(front, null[0], behind);
     }
+    let mut all = front;
+    for marks in null {
+        push_entries(*marks, &behind, &mut all)?;
+    }
+    Ok(all)
 }
 
+/// Adds the entries, with the markers in front of those of each.
+fn push_entries(marks: Marks, entries: &[Entry], all: &mut Vec<Entry>) -> Result<(), OutOfMemory>
+    requires { (e : Entry) → Has entries.now e → JoinAsSum marks e.marks }
+    ensures { OnOk result (all.new.items ≡ all.old.items ++ map (entry_with marks) entries.now) }
+{
+    for entry in entries {
+        all.push(Entry {
+            marks: marks.with(entry.marks),
+            bytes: entry.bytes,
+            to: entry.to,
+        })?;
+    }
+    Ok(())
+}
+
+/// The same of one set of markers, in the room of the entries behind.
 fn entries_then(
     mut front: Vec<Entry>,
     marks: Marks,
@@ -78,21 +88,40 @@ fn entries_then(
     Ok(front)
 }
 
-/// The ends behind, and where the empty string fits behind those in front too.
+/// The ends behind, and for each set of markers with which the empty string fits behind those in front too.
 pub(crate) fn all_stops(
     behind: Vec<Stop>,
-    null: Option<Marks>,
+    null: &[Marks],
     front: Vec<Stop>,
 ) -> Result<Vec<Stop>, OutOfMemory>
-    requires { (m : ℕ) (s : Stop) → Has (null_of null) m → Has front.items s → JoinAsSum s.marks m }
-    ensures { IfOk result (λ v. v.items ≡ behind.items ++ flat_map (λ m. map (stop_with m) front.items) (null_of null)) }
+    requires { (m : ℕ) (s : Stop) → Has null.now m → Has front.items s → JoinAsSum s.marks m }
+    ensures { IfOk result (λ v. v.items ≡ behind.items ++ flat_map (λ m. map (stop_with m) front.items) null.now) }
 {
-    match null {
-        None => Ok(behind),
-        Some(marks) => stops_then(behind, marks, front),
+    if null.len() == 1 {
+        return stops_then(behind, null[0], front);
     }
+    let mut all = behind;
+    for marks in null {
+        push_stops(*marks, &front, &mut all)?;
+    }
+    Ok(all)
 }
 
+/// Adds the ends, with the markers behind those of each.
+fn push_stops(marks: Marks, stops: &[Stop], all: &mut Vec<Stop>) -> Result<(), OutOfMemory>
+    requires { (s : Stop) → Has stops.now s → JoinAsSum s.marks marks }
+    ensures { OnOk result (all.new.items ≡ all.old.items ++ map (stop_with marks) stops.now) }
+{
+    for stop in stops {
+        all.push(Stop {
+            state: stop.state,
+            marks: stop.marks.with(marks),
+        })?;
+    }
+    Ok(())
+}
+
+/// The same of one set of markers, in the room of the ends in front.
 fn stops_then(
     mut behind: Vec<Stop>,
     marks: Marks,

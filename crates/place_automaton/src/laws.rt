@@ -1,6 +1,6 @@
 //! Laws of the automata of atoms, each the contract of a function that does nothing.
 ghost use Rattle.place_automaton.specs.Atom.{AtomLaw};
-ghost use Rattle.place_automaton.specs.CountLaw.{CountLaw};
+ghost use Rattle.place_automaton.specs.CountLaw.{CountLaw, FunctionalCountLaw};
 ghost use Rattle.place_automaton.specs.Examples.{CountsOfTheExamples};
 ghost use Rattle.place_automaton.specs.Sequential.{FunctionalIsSequential, WellBuiltRepeats};
 ghost use Rattle.place_automaton.specs.Words.{AtomRowLaw, WholeLaw};
@@ -15,12 +15,17 @@ pub fn atoms_accept_the_words_of_their_rows()
     ensures { AtomRowLaw }
 {}
 
-/// The numbers of an atom, by its formula alone, are those of its automaton.
+/// The numbers of an atom, by its formula alone, are those of its automaton, whatever the formula.
 pub fn counts_are_those_of_the_automaton()
     ensures { CountLaw }
 {}
 
-/// The numbers of three atoms.
+/// The numbers of a functional formula are those that do not look at markers, where null is a yes or a no.
+pub fn counts_of_functional_formulas()
+    ensures { FunctionalCountLaw }
+{}
+
+/// The numbers of four atoms.
 pub fn counts_of_the_examples()
     ensures { CountsOfTheExamples }
 {}

@@ -1,44 +1,54 @@
 //! The numbers of a formula's places.
-ghost use Rattle.std.specs.Prelude.{◌-◌};
-ghost use Rattle.place_automaton.specs.Counts.{PlaceCounts, counts_nothing, counts_never, counts_one, counts_cat, counts_alt, counts_opt, counts_plus, counts_copies, counts_at_most, counts_repeated};
-ghost use Rattle.place_automaton.specs.Capped.{AreCapped};
+ghost use Rattle.std.specs.Prelude.{◌≡◌, ℕ, ◌+◌, ◌-◌, Some, IfOk, if◌then◌else◌};
+ghost use Rattle.span_core.specs.Lists.{Has};
+ghost use Rattle.place_automaton.specs.Capped.{AreCapped, capped};
+ghost use Rattle.place_automaton.specs.Counts.{PlaceCounts, counts_nothing, counts_never, counts_one, counts_cat, counts_alt, counts_opt, counts_plus, counts_cap, counts_copies, counts_at_most, counts_repeated, states_of, ways_of};
+ghost use Rattle.place_automaton.specs.Ends.{JoinAsSum};
+ghost use Rattle.place_automaton.specs.Places.{add_once, sums};
+
+use crate::counting::Counts;
+use crate::null_sets::{
+    add_unless_there, copied_sets, either_of, joined_with, mark_each, only_none, spend,
+};
+use span_core::{Marks, OutOfMemory};
+use std::alloc::Global;
 
 /// The numbers of a formula's places. A number past 2^64 - 1 is kept as 2^64 - 1.
-#[derive(Clone, Copy)]
+#[derive(Drop)]
 pub(crate) struct Numbers {
     /// The places.
     pub(crate) places: u64,
-    /// 1 where the empty string fits, else 0.
-    pub(crate) null: u64,
-    /// The places that a match may begin with.
+    /// The sets of markers with which the empty string fits.
+    pub(crate) null: Vec<Marks>,
+    /// The ways into the places that a match may begin with.
     pub(crate) first: u64,
-    /// The places that a match may end with.
+    /// The ends of the places that a match may end with.
     pub(crate) last: u64,
-    /// The pairs of a place and one that may follow it.
+    /// The ways from a place to one that may follow it.
     pub(crate) follow: u64,
 }
 
 impl Numbers {
     /// Those of the empty formula.
-    pub(crate) fn nothing() -> Numbers
-        ensures { AreCapped counts_nothing result }
+    pub(crate) fn nothing(alloc: Global) -> Result<Numbers, OutOfMemory>
+        ensures { IfOk result (λ n. AreCapped counts_nothing n) }
     {
-        Numbers {
+        Ok(Numbers {
             places: 0,
-            null: 1,
+            null: only_none(alloc)?,
             first: 0,
             last: 0,
             follow: 0,
-        }
+        })
     }
 
     /// Those of an alternation of no arms.
-    pub(crate) fn never() -> Numbers
+    pub(crate) fn never(alloc: Global) -> Numbers
         ensures { AreCapped counts_never result }
     {
         Numbers {
             places: 0,
-            null: 0,
+            null: Vec::new(alloc),
             first: 0,
             last: 0,
             follow: 0,
@@ -46,100 +56,196 @@ impl Numbers {
     }
 
     /// Those of one byte.
-    pub(crate) fn one() -> Numbers
+    pub(crate) fn one(alloc: Global) -> Numbers
         ensures { AreCapped counts_one result }
     {
         Numbers {
             places: 1,
-            null: 0,
+            null: Vec::new(alloc),
             first: 1,
             last: 1,
             follow: 0,
         }
     }
 
-    /// Those of a concatenation of this and the rest.
-    pub(crate) fn cat(self, rest: Numbers) -> Numbers
-        ensures { (a b : PlaceCounts) → AreCapped a self → AreCapped b rest → AreCapped (counts_cat a b) result }
+    /// Those of a concatenation of this and the rest. So many pairs of sets may still be looked at.
+    pub(crate) fn cat(
+        &self,
+        alloc: Global,
+        rest: Numbers,
+        left: &mut u64,
+    ) -> Result<Numbers, OutOfMemory>
+        requires { (m n : ℕ) → Has self.now.null.items m → Has rest.null.items n → JoinAsSum m n }
+        ensures null { IfOk result (λ c. c.null.items ≡ sums self.now.null.items rest.null.items) }
+        ensures capped { (a b : PlaceCounts) → AreCapped a self.now → AreCapped b rest → IfOk result (λ c. AreCapped (counts_cat a b) c) }
     {
+        spend(self.null.len(), rest.null.len(), left)?;
+        let sets = self.null.len() as u64;
+        let rest_sets = rest.null.len() as u64;
         let between = self.last.saturating_mul(rest.first);
-        Numbers {
+        let null = joined_with(alloc, &self.null, rest.null)?;
+        Ok(Numbers {
             places: self.places.saturating_add(rest.places),
-            null: self.null.saturating_mul(rest.null),
-            first: self
-                .first
-                .saturating_add(self.null.saturating_mul(rest.first)),
+            null,
+            first: self.first.saturating_add(sets.saturating_mul(rest.first)),
             last: rest
                 .last
-                .saturating_add(self.last.saturating_mul(rest.null)),
+                .saturating_add(rest_sets.saturating_mul(self.last)),
             follow: self
                 .follow
                 .saturating_add(rest.follow)
                 .saturating_add(between),
-        }
+        })
     }
 
-    /// Those of an alternation of this and the rest.
-    pub(crate) fn alt(self, rest: Numbers) -> Numbers
-        ensures { (a b : PlaceCounts) → AreCapped a self → AreCapped b rest → AreCapped (counts_alt a b) result }
+    /// Those of an alternation of this and the rest. So many pairs of sets may still be looked at.
+    pub(crate) fn alt(self, rest: Numbers, left: &mut u64) -> Result<Numbers, OutOfMemory>
+        ensures { (a b : PlaceCounts) → AreCapped a self → AreCapped b rest → IfOk result (λ c. AreCapped (counts_alt a b) c) }
     {
-        Numbers {
+        let sets = self.null.len();
+        spend(sets, sets.saturating_add(rest.null.len()), left)?;
+        let null = either_of(self.null, rest.null)?;
+        Ok(Numbers {
             places: self.places.saturating_add(rest.places),
-            null: self.null.max(rest.null),
+            null,
             first: self.first.saturating_add(rest.first),
             last: self.last.saturating_add(rest.last),
             follow: self.follow.saturating_add(rest.follow),
-        }
+        })
     }
 
     /// Those of this or nothing.
-    pub(crate) fn opt(self) -> Numbers
-        ensures { (a : PlaceCounts) → AreCapped a self → AreCapped (counts_opt a) result }
+    pub(crate) fn opt(self) -> Result<Numbers, OutOfMemory>
+        ensures null { IfOk result (λ c. c.null.items ≡ add_once 0 self.null.items) }
+        ensures capped { (a : PlaceCounts) → AreCapped a self → IfOk result (λ c. AreCapped (counts_opt a) c) }
     {
-        Numbers { null: 1, ..self }
+        let mut null = self.null;
+        add_unless_there(Marks::none(), &mut null)?;
+        Ok(Numbers {
+            places: self.places,
+            null,
+            first: self.first,
+            last: self.last,
+            follow: self.follow,
+        })
+    }
+
+    /// Those of this, or of nothing too if that may be.
+    pub(crate) fn opt_if(self, optional: bool) -> Result<Numbers, OutOfMemory>
+        ensures { (a : PlaceCounts) → AreCapped a self → IfOk result (λ c. AreCapped (if optional then counts_opt a else a) c) }
+    {
+        if optional { self.opt() } else { Ok(self) }
     }
 
     /// Those of this, once or more.
-    pub(crate) fn plus(self) -> Numbers
-        ensures { (a : PlaceCounts) → AreCapped a self → AreCapped (counts_plus a) result }
+    pub(crate) fn plus(&self, alloc: Global) -> Result<Numbers, OutOfMemory>
+        ensures null { IfOk result (λ c. c.null.items ≡ self.now.null.items) }
+        ensures capped { (a : PlaceCounts) → AreCapped a self.now → IfOk result (λ c. AreCapped (counts_plus a) c) }
     {
         let between = self.last.saturating_mul(self.first);
-        Numbers {
+        Ok(Numbers {
+            places: self.places,
+            null: copied_sets(alloc, &self.null)?,
+            first: self.first,
+            last: self.last,
             follow: self.follow.saturating_add(between),
-            ..self
+        })
+    }
+
+    /// Those of this in a capture with these markers.
+    pub(crate) fn captured(self, both: Marks) -> Numbers
+        requires { (m : ℕ) → Has self.null.items m → JoinAsSum both m }
+        ensures { (a : PlaceCounts) → AreCapped a self → AreCapped (counts_cap both a) result }
+    {
+        let mut null = self.null;
+        mark_each(both, &mut null);
+        Numbers {
+            places: self.places,
+            null,
+            first: self.first,
+            last: self.last,
+            follow: self.follow,
         }
     }
 
-    /// Those of so many copies of this, and then the rest.
-    fn copies(self, count: u16, rest: Numbers) -> Numbers
-        ensures { (a b : PlaceCounts) → AreCapped a self → AreCapped b rest → AreCapped (counts_copies count a b) result }
+    /// Those of so many copies of this, and then the rest. No marker stands in them.
+    fn copies(
+        &self,
+        alloc: Global,
+        count: u16,
+        rest: Numbers,
+        left: &mut u64,
+    ) -> Result<Numbers, OutOfMemory>
+        requires bare { (m : ℕ) → Has self.now.null.items m → m ≡ 0 }
+        requires bare_rest { (m : ℕ) → Has rest.null.items m → m ≡ 0 }
+        ensures { (a b : PlaceCounts) → AreCapped a self.now → AreCapped b rest → IfOk result (λ c. AreCapped (counts_copies count a b) c) }
     {
         let mut numbers = rest;
         for _copy in 0..count {
-            numbers = self.cat(numbers);
+            numbers = self.cat(alloc, numbers, left)?;
         }
-        numbers
+        Ok(numbers)
     }
 
-    /// Those of so many copies of this at most.
-    fn at_most(self, count: u16) -> Numbers
-        ensures { (a : PlaceCounts) → AreCapped a self → AreCapped (counts_at_most count a) result }
+    /// Those of so many copies of this at most. No marker stands in them.
+    fn at_most(&self, alloc: Global, count: u16, left: &mut u64) -> Result<Numbers, OutOfMemory>
+        requires { (m : ℕ) → Has self.now.null.items m → m ≡ 0 }
+        ensures bare { IfOk result (λ c. (m : ℕ) → Has c.null.items m → m ≡ 0) }
+        ensures capped { (a : PlaceCounts) → AreCapped a self.now → IfOk result (λ c. AreCapped (counts_at_most count a) c) }
     {
-        let mut numbers = Numbers::nothing();
+        let mut numbers = Numbers::nothing(alloc)?;
         for _copy in 0..count {
-            numbers = self.cat(numbers).opt();
+            numbers = self.cat(alloc, numbers, left)?.opt()?;
         }
-        numbers
+        Ok(numbers)
     }
 
-    /// Those of a repetition of this.
-    pub(crate) fn repeated(self, least: u16, most: Option<u16>) -> Numbers
-        ensures { (a : PlaceCounts) → AreCapped a self → AreCapped (counts_repeated least most a) result }
+    /// Those of a repetition of this. No marker stands in it.
+    pub(crate) fn repeated(
+        &self,
+        alloc: Global,
+        least: u16,
+        most: Option<u16>,
+        left: &mut u64,
+    ) -> Result<Numbers, OutOfMemory>
+        requires { (m : ℕ) → Has self.now.null.items m → m ≡ 0 }
+        ensures { (a : PlaceCounts) → AreCapped a self.now → IfOk result (λ c. AreCapped (counts_repeated least most a) c) }
     {
         match most {
-            None if least == 0 => self.plus().opt(),
-            None => self.copies(least - 1, self.plus()),
-            Some(most) => self.copies(least, self.at_most(most.saturating_sub(least))),
+            None if least == 0 => self.plus(alloc)?.opt(),
+            None => {
+                let plus = self.plus(alloc)?;
+                self.copies(alloc, least - 1, plus, left)
+            }
+            Some(most) => {
+                let optional = self.at_most(alloc, most.saturating_sub(least), left)?;
+                self.copies(alloc, least, optional, left)
+            }
         }
+    }
+
+    /// The numbers of the automaton of an atom with this formula.
+    pub(crate) fn counts(&self, from_start: bool, to_end: bool) -> Counts
+        ensures states { (a : PlaceCounts) → AreCapped a self.now → result.states ≡ capped (states_of to_end a) }
+        ensures ways { (a : PlaceCounts) → AreCapped a self.now → result.ways ≡ capped (ways_of from_start to_end a) }
+    {
+        let mut states = self.places.saturating_add(1);
+        let mut ways = self.first.saturating_add(self.follow);
+        if !from_start {
+            ways = ways.saturating_add(1);
+        }
+        if !to_end {
+            states = states.saturating_add(1);
+            ways = ways
+                .saturating_add(self.last)
+                .saturating_add(self.null.len() as u64)
+                .saturating_add(1);
+        }
+        Counts { states, ways }
+    }
+
+    /// How many ends the automaton of an atom with this formula has, but for that of After.
+    pub(crate) fn ends(&self) -> u64 {
+        self.last.saturating_add(self.null.len() as u64)
     }
 }

@@ -1,5 +1,5 @@
 //! The ways and the ends of an atom's automaton that are not between places.
-ghost use Rattle.std.specs.Prelude.{◌≡◌, ℕ, ◌<◌, ◌↔◌, ◌⊎◌, [], ◌∷◌, ◌++◌, length, map, false, OnOk};
+ghost use Rattle.std.specs.Prelude.{◌≡◌, ℕ, ◌<◌, ◌↔◌, ◌⊎◌, [], ◌∷◌, ◌++◌, length, map, false, IfOk, OnOk};
 ghost use Rattle.span_core.specs.Lists.{Has};
 ghost use Rattle.marked_automaton.specs.declared.way.Stop.{Stop};
 ghost use Rattle.marked_automaton.specs.Automaton.{HasGraphOf, IsBlockOf, idle_way};
@@ -10,6 +10,7 @@ use crate::BEFORE;
 use crate::piece::Entry;
 use marked_automaton::{Automaton, Stop, Way};
 use span_core::{ByteSet, Marks, OutOfMemory};
+use std::alloc::Global;
 
 /// Adds the ways from Before through these entries.
 pub(crate) fn push_from_before(first: &[Entry], ways: &mut Vec<Way>) -> Result<(), OutOfMemory>
@@ -45,21 +46,18 @@ pub(crate) fn push_into_after(
     Ok(())
 }
 
-/// Adds the way from Before into After, for an empty part.
-pub(crate) fn push_past_places(
-    marks: Marks,
-    after: u32,
-    ways: &mut Vec<Way>,
-) -> Result<(), OutOfMemory>
-    ensures { OnOk result (ways.new.items ≡ ways.old.items ++ way_after after (stop_before marks) ∷ []) }
+/// The ends of Before: one for each set of markers with which the empty string fits.
+pub(crate) fn before_stops(alloc: Global, null: &[Marks]) -> Result<Vec<Stop>, OutOfMemory>
+    ensures { IfOk result (λ v. v.items ≡ map stop_before null.now) }
 {
-    ways.push(Way {
-        from: BEFORE,
-        marks,
-        bytes: ByteSet::all(),
-        to: after,
-    })?;
-    Ok(())
+    let mut stops = Vec::with_capacity(alloc, null.len())?;
+    for marks in null {
+        stops.push(Stop {
+            state: BEFORE,
+            marks: *marks,
+        })?;
+    }
+    Ok(stops)
 }
 
 /// Adds the way of a state to itself, unless the atom is tied there.

@@ -4,17 +4,19 @@ ghost use Rattle.span_core.specs.Lists.{Has};
 ghost use Rattle.place_automaton.specs.Ends.{CanCapture, nothing_ends, never_ends, one_ends, cat_ends, alt_ends, opt_ends, cap_ends, JoinAsSums, IsUnmarked, Ends, RowJoins, again_ends, row_ends, row_ways};
 ghost use Rattle.marked_automaton.specs.declared.way.Stop.{Stop};
 ghost use Rattle.marked_automaton.specs.Automaton.{IsBlockOf};
-ghost use Rattle.place_automaton.specs.Atom.{unless, way_after, way_from_first};
+ghost use Rattle.place_automaton.specs.Atom.{way_after, way_from_first};
 ghost use Rattle.marked_automaton.specs.declared.TheConstants.{MOST_STATES};
 ghost use Rattle.place_automaton.specs.declared.piece.Entry.{Entry};
 ghost use Rattle.place_automaton.specs.Made.{end_stops, with_stops};
 ghost use Rattle.place_automaton.specs.Moves.{ends_moved};
 ghost use Rattle.place_automaton.specs.Places.{ways_between};
 
-use crate::BEFORE;
-use crate::joins::{all_entries, all_stops, both, mark_entries, mark_stops, push_ways};
+use crate::joins::{all_entries, all_stops, mark_entries, mark_stops, push_ways};
 use crate::moving::{moved_entries, moved_stops};
-use crate::outer::{add_last_stops, push_from_before, push_into_after, push_past_places};
+use crate::null_sets::{
+    add_unless_there, copied_sets, either_of, joined_with, mark_each, only_none, spend,
+};
+use crate::outer::{add_last_stops, before_stops, push_from_before, push_into_after};
 use marked_automaton::{Automaton, Stop, Way};
 use span_core::{ByteSet, Marks, OutOfMemory};
 use std::alloc::Global;
@@ -31,18 +33,17 @@ pub struct Entry {
     pub to: u32,
 }
 
-/// The two ends of a part of a formula, whose places are numbered: the markers with which it fits the
-/// empty string if it does, the ways into the places that it begins with, and the places that it ends
-/// with.
+/// The two ends of a part of a formula, whose places are numbered: the sets of markers with which it fits
+/// the empty string, the ways into the places that it begins with, and the places that it ends with.
 #[derive(Drop)]
 pub(crate) struct Piece {
-    null: Option<Marks>,
+    null: Vec<Marks>,
     first: Vec<Entry>,
     last: Vec<Stop>,
 }
 
 impl Model for Piece {
-    ghost use Rattle.place_automaton.specs.Ends.{Ends, null_of};
+    ghost use Rattle.place_automaton.specs.Ends.{Ends};
 
     ghost Value = { Ends };
 
@@ -50,19 +51,19 @@ impl Model for Piece {
 
     ghost coded = { ends_code };
 
-    ghost view = { λ p. record { null = null_of p.null; first = p.first.items; last = p.last.items } };
+    ghost view = { λ p. record { null = p.null.items; first = p.first.items; last = p.last.items } };
 }
 
 impl Piece {
     /// The empty formula.
-    pub(crate) fn nothing(alloc: Global) -> Piece
-        ensures { result ≡ nothing_ends }
+    pub(crate) fn nothing(alloc: Global) -> Result<Piece, OutOfMemory>
+        ensures { IfOk result (λ p. p ≡ nothing_ends) }
     {
-        Piece {
-            null: Some(Marks::none()),
+        Ok(Piece {
+            null: only_none(alloc)?,
             first: Vec::new(alloc),
             last: Vec::new(alloc),
-        }
+        })
     }
 
     /// An alternation of no arms.
@@ -70,7 +71,7 @@ impl Piece {
         ensures { result ≡ never_ends }
     {
         Piece {
-            null: None,
+            null: Vec::new(alloc),
             first: Vec::new(alloc),
             last: Vec::new(alloc),
         }
@@ -92,56 +93,53 @@ impl Piece {
             marks: Marks::none(),
         })?;
         Ok(Piece {
-            null: None,
+            null: Vec::new(alloc),
             first,
             last,
         })
     }
 
-    /// This and then the rest. The ways between them are added, unless a repetition around both adds them.
+    /// This and then the rest. The ways between them are added.
     pub(crate) fn cat(
         self,
+        alloc: Global,
         rest: Piece,
-        again: bool,
         ways: &mut Vec<Way>,
     ) -> Result<Piece, OutOfMemory>
         requires { JoinAsSums self rest }
         ensures ends { IfOk result (λ p. p ≡ cat_ends self rest) }
-        ensures ways { OnOk result (ways.new.items ≡ ways.old.items ++ unless again (ways_between self.last rest.first)) }
+        ensures ways { OnOk result (ways.new.items ≡ ways.old.items ++ ways_between self.last rest.first) }
     {
-        if !again {
-            push_ways(&self.last, &rest.first, ways)?;
-        }
-        let null = both(self.null, rest.null);
-        let first = all_entries(self.first, self.null, rest.first)?;
-        let last = all_stops(rest.last, rest.null, self.last)?;
+        push_ways(&self.last, &rest.first, ways)?;
+        let first = all_entries(self.first, &self.null, rest.first)?;
+        let last = all_stops(rest.last, &rest.null, self.last)?;
+        let null = joined_with(alloc, &self.null, rest.null)?;
         Ok(Piece { null, first, last })
     }
 
-    /// This and then the rest, or nothing if that may be. The ways between them are added, unless a
-    /// repetition around both adds them.
+    /// This and then the rest, or nothing if that may be. The ways between them are added.
     fn before(
         self,
+        alloc: Global,
         rest: Piece,
         optional: bool,
-        again: bool,
         ways: &mut Vec<Way>,
     ) -> Result<Piece, OutOfMemory>
-        requires joins { JoinAsSums self rest }
-        requires bare { IsTrue optional → IsUnmarked (cat_ends self rest) }
+        requires { JoinAsSums self rest }
         ensures ends { IfOk result (λ p. p ≡ (if optional then opt_ends (cat_ends self rest) else cat_ends self rest)) }
-        ensures ways { OnOk result (ways.new.items ≡ ways.old.items ++ unless again (ways_between self.last rest.first)) }
+        ensures ways { OnOk result (ways.new.items ≡ ways.old.items ++ ways_between self.last rest.first) }
     {
-        let both = self.cat(rest, again, ways)?;
-        Ok(both.opt_if(optional))
+        let both = self.cat(alloc, rest, ways)?;
+        both.opt_if(optional)
     }
 
-    /// This or the other.
-    pub(crate) fn alt(self, other: Piece) -> Result<Piece, OutOfMemory>
-        requires { (m n : ℕ) → Has self.null m → Has other.null n → m ≡ n }
+    /// This or the other. So many pairs of sets may still be looked at.
+    pub(crate) fn alt(self, other: Piece, left: &mut u64) -> Result<Piece, OutOfMemory>
         ensures { IfOk result (λ p. p ≡ alt_ends self other) }
     {
-        let null = self.null.or(other.null);
+        let sets = self.null.len();
+        spend(sets, sets.saturating_add(other.null.len()), left)?;
+        let null = either_of(self.null, other.null)?;
         let mut first = self.first;
         let mut others = other.first;
         first.append(&mut others)?;
@@ -152,23 +150,23 @@ impl Piece {
     }
 
     /// This or nothing.
-    pub(crate) fn opt(self) -> Piece
-        requires { (m : ℕ) → Has self.null m → m ≡ 0 }
-        ensures { result ≡ opt_ends self }
+    pub(crate) fn opt(self) -> Result<Piece, OutOfMemory>
+        ensures { IfOk result (λ p. p ≡ opt_ends self) }
     {
-        Piece {
-            null: Some(Marks::none()),
+        let mut null = self.null;
+        add_unless_there(Marks::none(), &mut null)?;
+        Ok(Piece {
+            null,
             first: self.first,
             last: self.last,
-        }
+        })
     }
 
     /// This, or nothing if that may be.
-    pub(crate) fn opt_if(self, optional: bool) -> Piece
-        requires { IsTrue optional → (m : ℕ) → Has self.null m → m ≡ 0 }
-        ensures { result ≡ (if optional then opt_ends self else self) }
+    pub(crate) fn opt_if(self, optional: bool) -> Result<Piece, OutOfMemory>
+        ensures { IfOk result (λ p. p ≡ (if optional then opt_ends self else self)) }
     {
-        if optional { self.opt() } else { self }
+        if optional { self.opt() } else { Ok(self) }
     }
 
     /// Adds the ways from this to itself.
@@ -186,33 +184,35 @@ impl Piece {
         push_from_before(&self.first, ways)
     }
 
-    /// Adds the ways into After, whose number is given: from each last place, and from Before where the
-    /// empty string fits.
-    pub(crate) fn push_afters(&self, after: u32, ways: &mut Vec<Way>) -> Result<(), OutOfMemory>
+    /// Adds the ways into After, whose number is given: from each last place, and from Before, one for
+    /// each set of markers with which the empty string fits.
+    pub(crate) fn push_afters(
+        &self,
+        alloc: Global,
+        after: u32,
+        ways: &mut Vec<Way>,
+    ) -> Result<(), OutOfMemory>
         ensures { OnOk result (ways.new.items ≡ ways.old.items ++ map (way_after after) (end_stops self.now)) }
     {
         push_into_after(&self.last, after, ways)?;
-        match self.null {
-            Some(marks) => push_past_places(marks, after, ways),
-            None => Ok(()),
-        }
+        let stops = before_stops(alloc, &self.null)?;
+        push_into_after(&stops, after, ways)
     }
 
-    /// Adds the ends of the last places, and that of Before where the empty string fits.
-    pub(crate) fn add_stops(&self, automaton: &mut Automaton) -> Result<(), OutOfMemory>
+    /// Adds the ends of the last places, and those of Before.
+    pub(crate) fn add_stops(
+        &self,
+        alloc: Global,
+        automaton: &mut Automaton,
+    ) -> Result<(), OutOfMemory>
         requires state { (x : Stop) → Has (end_stops self.now) x → x.state < automaton.old.graph.states }
         requires marks { (x : Stop) → Has (end_stops self.now) x → IsBlockOf (length automaton.old.names) x.marks }
         ensures names { automaton.new.names ≡ automaton.old.names }
         ensures ok { OnOk result (automaton.new.graph ≡ with_stops (end_stops self.now) automaton.old.graph) }
     {
         add_last_stops(&self.last, automaton)?;
-        match self.null {
-            Some(marks) => automaton.add_stop(Stop {
-                state: BEFORE,
-                marks,
-            }),
-            None => Ok(()),
-        }
+        let stops = before_stops(alloc, &self.null)?;
+        add_last_stops(&stops, automaton)
     }
 
     /// This with other places, whose numbers are greater by so many.
@@ -223,11 +223,8 @@ impl Piece {
     {
         let first = moved_entries(alloc, &self.first, by)?;
         let last = moved_stops(alloc, &self.last, by)?;
-        Ok(Piece {
-            null: self.null,
-            first,
-            last,
-        })
+        let null = copied_sets(alloc, &self.null)?;
+        Ok(Piece { null, first, last })
     }
 
     /// This in a capture, whose markers are these.
@@ -235,10 +232,8 @@ impl Piece {
         requires { CanCapture opening closing self }
         ensures { result ≡ cap_ends opening closing self }
     {
-        let null = match self.null {
-            None => None,
-            Some(marks) => Some(opening.with(closing).with(marks)),
-        };
+        let mut null = self.null;
+        mark_each(opening.with(closing), &mut null);
         let mut first = self.first;
         mark_entries(opening, &mut first);
         let mut last = self.last;
@@ -248,47 +243,43 @@ impl Piece {
 }
 
 /// The pieces one after another and then the rest, where the first so many are required and each other
-/// may stand only where all before it do. The ways between them are added, unless a repetition around all
-/// adds them.
+/// may stand only where all before it do. The ways between them are added.
 pub(crate) fn join_row(
+    alloc: Global,
     mut pieces: Vec<Piece>,
     required: usize,
     rest: Piece,
-    again: bool,
     ways: &mut Vec<Way>,
 ) -> Result<Piece, OutOfMemory>
     requires { RowJoins required pieces.items rest }
     ensures ends { IfOk result (λ p. p ≡ row_ends required pieces.items rest) }
-    ensures ways { OnOk result (ways.new.items ≡ ways.old.items ++ unless again (row_ways required pieces.items rest)) }
+    ensures ways { OnOk result (ways.new.items ≡ ways.old.items ++ row_ways required pieces.items rest) }
 {
     let mut row = rest;
     while let Some(piece) = pieces.pop() {
         let optional = pieces.len() >= required;
-        row = piece.before(row, optional, again, ways)?;
+        row = piece.before(alloc, row, optional, ways)?;
     }
     Ok(row)
 }
 
 /// The pieces one after another, of which the last may come again and again, and may be left out where
-/// none is required. No markers stand in them. The ways between them are added, unless a repetition around
-/// all adds them.
+/// none is required. No markers stand in them.
 pub(crate) fn join_again(
     alloc: Global,
     mut pieces: Vec<Piece>,
     required: usize,
-    again: bool,
     ways: &mut Vec<Way>,
 ) -> Result<Piece, OutOfMemory>
     requires { (P : Ends) → Has pieces.items P → IsUnmarked P }
     ensures ends { IfOk result (λ p. (front : List Ends) (last : Ends) → pieces.items ≡ front ++ last ∷ [] → p ≡ row_ends required front (again_ends required last)) }
     ensures ways { OnOk result ((front : List Ends) (last : Ends) → pieces.items ≡ front ++ last ∷ []
-        → ways.new.items ≡ (ways.old.items ++ unless again (ways_between last.last last.first)) ++ unless again (row_ways required front (again_ends required last))) }
+        → ways.new.items ≡ (ways.old.items ++ ways_between last.last last.first) ++ row_ways required front (again_ends required last)) }
 {
     let Some(last) = pieces.pop() else {
-        return Ok(Piece::nothing(alloc));
+        return Piece::nothing(alloc);
     };
-    if !again {
-        last.push_again(ways)?;
-    }
-    join_row(pieces, required, last.opt_if(required == 0), again, ways)
+    last.push_again(ways)?;
+    let rest = last.opt_if(required == 0)?;
+    join_row(alloc, pieces, required, rest, ways)
 }

@@ -1,22 +1,19 @@
 //! The places of a formula.
-ghost use Rattle.std.specs.Prelude.{◌≡◌, ◌↔◌, ◌+◌, ◌-◌, ◌<◌, ◌≤◌, ◌⊎◌, true, Bool, IfOk, IsTrue, List, None, length, take, drop};
+ghost use Rattle.std.specs.Prelude.{◌≡◌, ◌↔◌, ◌+◌, ◌-◌, ◌≤◌, IfOk, IsTrue, List, Some, length, take, drop};
 ghost use Rattle.spanner_model.specs.Captures.{VarName};
-ghost use Rattle.spanner_model.specs.Functional.{HasVar, IsFunctional};
 ghost use Rattle.span_core.specs.Lists.{Has, AreDistinct};
 ghost use Rattle.spanner_model.specs.Tree.{Tree, one, rep, cat_all, alt_all};
 ghost use Rattle.spanner_model.specs.View.{tree_of, trees_of};
 ghost use Rattle.spanner_model.specs.WellBuilt.{IsWellBuilt};
 ghost use Rattle.marked_automaton.specs.declared.TheConstants.{MOST_STATES};
-ghost use Rattle.place_automaton.specs.Counts.{counts};
+ghost use Rattle.place_automaton.specs.Counts.{counts_over};
 ghost use Rattle.place_automaton.specs.Drafts.{AreNamed, HasPlaced, copies_of, places_of};
 ghost use Rattle.place_automaton.specs.Ends.{CanCapture, cap_ends, ends_of};
-ghost use Rattle.place_automaton.specs.Fitting.{fits_empty, hard, one_if_hard};
-ghost use Rattle.place_automaton.specs.Lean.{AreLean};
 ghost use Rattle.place_automaton.specs.Moves.{LieBelow, places_moved};
 ghost use Rattle.place_automaton.specs.Places.{Places};
+ghost use Rattle.place_automaton.specs.Sequential.{HasNoVar, IsSequential};
 ghost use Rattle.place_automaton.specs.Words.{opening_of, closing_of};
 
-use crate::fitting::{fits_empty, hard_parts};
 use crate::moving::push_moved_ways;
 use crate::piece::{Piece, join_again, join_row};
 use marked_automaton::Way;
@@ -31,6 +28,8 @@ pub(crate) struct Draft {
     pub(crate) next: u32,
     /// The ways between places.
     pub(crate) ways: Vec<Way>,
+    /// How many pairs of sets of markers may still be looked at.
+    pub(crate) left: u64,
 }
 
 /// What placing a formula added to a draft.
@@ -76,9 +75,9 @@ impl Draft {
         requires order { added.now.from ≤ added.now.end }
         requires within { added.now.end ≤ length self.old.ways.items }
         requires below { LieBelow (added.now.first + added.now.places) piece.now (take (added.now.end - added.now.from) (drop added.now.from self.old.ways.items)) }
-        ensures { (again : Bool) (P : Places) → piece.now ≡ ends_of P → added.now.places ≡ P.count
-            → AreLean again P (take (added.now.end - added.now.from) (drop added.now.from self.old.ways.items))
-            → IfOk result (HasPlaced again (places_moved (self.old.next - added.now.first) P) self.old self.new) }
+        ensures { (P : Places) → piece.now ≡ ends_of P → added.now.places ≡ P.count
+            → take (added.now.end - added.now.from) (drop added.now.from self.old.ways.items) ≡ P.follow
+            → IfOk result (HasPlaced (places_moved (self.old.next - added.now.first) P) self.old self.new) }
     {
         let by = self.next - added.first;
         let again = piece.moved(alloc, by)?;
@@ -88,37 +87,34 @@ impl Draft {
     }
 }
 
-/// Places the formula, and adds the ways between its places, but for those that a repetition around it adds,
-/// if one does: the ways from its ends to its beginnings.
+/// Places the formula, and adds the ways between its places.
 #[cycle(place)]
 pub(crate) fn place(
     alloc: Global,
     vars: &VarSet,
     formula: &Formula,
-    again: bool,
     draft: &mut Draft,
 ) -> Result<Piece, OutOfMemory>
     requires built { IsWellBuilt (tree_of formula.now) }
-    requires functional { IsFunctional (tree_of formula.now) }
+    requires sequential { IsSequential (tree_of formula.now) }
     requires distinct { AreDistinct vars.now }
     requires named { AreNamed vars.now (tree_of formula.now) }
-    requires plain { IsTrue again → (x : VarName) → HasVar (tree_of formula.now) x → ⊥ }
-    requires room { draft.old.next + (counts (tree_of formula.now)).places ≤ MOST_STATES }
-    ensures { IfOk result (HasPlaced again (places_of vars.now (tree_of formula.now) draft.old.next) draft.old draft.new) }
+    requires room { draft.old.next + (counts_over vars.now (tree_of formula.now)).places ≤ MOST_STATES }
+    ensures { IfOk result (HasPlaced (places_of vars.now (tree_of formula.now) draft.old.next) draft.old draft.new) }
 {
     match formula {
-        Formula::Empty => Ok(Piece::nothing(alloc)),
+        Formula::Empty => Piece::nothing(alloc),
         Formula::One(bytes) => place_one(alloc, bytes, draft),
-        Formula::Cat(parts) => place_parts(alloc, vars, parts, again, draft),
-        Formula::Alt(arms) => place_arms(alloc, vars, arms, again, draft),
-        Formula::Rep(sub, least, None) if *least < 2 => {
-            place_star(alloc, vars, sub, *least, again, draft)
-        }
+        Formula::Cat(parts) => place_parts(alloc, vars, parts, draft),
+        Formula::Alt(arms) => place_arms(alloc, vars, arms, draft),
         Formula::Rep(sub, least, most) => {
-            place_copies(alloc, vars, sub, *least, *most, again, draft)
+            if is_once(*most) {
+                return place_once(alloc, vars, sub, *least, draft);
+            }
+            place_repeat(alloc, vars, sub, *least, *most, draft)
         }
         Formula::Cap(name, sub) => {
-            let piece = place(alloc, vars, sub, false, draft)?;
+            let piece = place(alloc, vars, sub, draft)?;
             Ok(captured(vars, name, piece))
         }
     }
@@ -127,71 +123,35 @@ pub(crate) fn place(
 /// Places one byte.
 fn place_one(alloc: Global, bytes: &ByteSet, draft: &mut Draft) -> Result<Piece, OutOfMemory>
     requires { draft.old.next + 1 ≤ MOST_STATES }
-    ensures { (names : List VarName) (again : Bool) → IfOk result (HasPlaced again (places_of names (one bytes.now) draft.old.next) draft.old draft.new) }
+    ensures { (names : List VarName) → IfOk result (HasPlaced (places_of names (one bytes.now) draft.old.next) draft.old draft.new) }
 {
     let piece = Piece::one(alloc, bytes, draft.next)?;
     draft.next += 1;
     Ok(piece)
 }
 
-/// Places the parts of a concatenation, and joins them. A repetition around it adds the ways from the ends of
-/// a part to the beginnings of that part where the empty string fits all others, and those between the parts
-/// where it fits all.
+/// Places the parts of a concatenation, and joins them.
 #[cycle(place)]
 fn place_parts(
     alloc: Global,
     vars: &VarSet,
     parts: &Parts,
-    again: bool,
     draft: &mut Draft,
 ) -> Result<Piece, OutOfMemory>
     requires built { (f : Tree) → Has (trees_of parts.now) f → IsWellBuilt f }
-    requires functional { IsFunctional (cat_all (trees_of parts.now)) }
+    requires sequential { IsSequential (cat_all (trees_of parts.now)) }
     requires distinct { AreDistinct vars.now }
     requires named { AreNamed vars.now (cat_all (trees_of parts.now)) }
-    requires plain { IsTrue again → (x : VarName) → HasVar (cat_all (trees_of parts.now)) x → ⊥ }
-    requires room { draft.old.next + (counts (cat_all (trees_of parts.now))).places ≤ MOST_STATES }
-    ensures { IfOk result (HasPlaced again (places_of vars.now (cat_all (trees_of parts.now)) draft.old.next) draft.old draft.new) }
+    requires room { draft.old.next + (counts_over vars.now (cat_all (trees_of parts.now))).places ≤ MOST_STATES }
+    ensures { IfOk result (HasPlaced (places_of vars.now (cat_all (trees_of parts.now)) draft.old.next) draft.old draft.new) }
 {
-    let hard = hard_parts(parts);
     let mut pieces = Vec::with_capacity(alloc, parts.len())?;
     for k in 0..parts.len() {
-        let part = parts.at(k);
-        let part_again = part_comes_again(again, part, hard);
-        let piece = place(alloc, vars, part, part_again, draft)?;
+        let piece = place(alloc, vars, parts.at(k), draft)?;
         pieces.push(piece)?;
     }
-    let all_again = all_come_again(again, hard);
-    join_row(
-        pieces,
-        parts.len(),
-        Piece::nothing(alloc),
-        all_again,
-        &mut draft.ways,
-    )
-}
-
-/// Whether a repetition around the parts leads from this part's ends to its beginnings: the empty string fits
-/// all others. It does not fit so many of the parts.
-fn part_comes_again(again: bool, part: &Formula, hard: usize) -> bool
-    ensures { IsTrue result ↔ (IsTrue again × (hard ≡ one_if_hard (tree_of part.now))) }
-{
-    if !again {
-        return false;
-    }
-    if fits_empty(part) {
-        hard == 0
-    } else {
-        hard == 1
-    }
-}
-
-/// Whether a repetition around the parts leads from each part's ends to each part's beginnings: the empty
-/// string fits all.
-fn all_come_again(again: bool, hard: usize) -> bool
-    ensures { IsTrue result ↔ (IsTrue again × (hard ≡ 0)) }
-{
-    again && hard == 0
+    let rest = Piece::nothing(alloc)?;
+    join_row(alloc, pieces, parts.len(), rest, &mut draft.ways)
 }
 
 /// Places the arms of an alternation.
@@ -200,79 +160,70 @@ fn place_arms(
     alloc: Global,
     vars: &VarSet,
     arms: &Parts,
-    again: bool,
     draft: &mut Draft,
 ) -> Result<Piece, OutOfMemory>
     requires built { (f : Tree) → Has (trees_of arms.now) f → IsWellBuilt f }
-    requires functional { IsFunctional (alt_all (trees_of arms.now)) }
+    requires sequential { IsSequential (alt_all (trees_of arms.now)) }
     requires distinct { AreDistinct vars.now }
     requires named { AreNamed vars.now (alt_all (trees_of arms.now)) }
-    requires plain { IsTrue again → (x : VarName) → HasVar (alt_all (trees_of arms.now)) x → ⊥ }
-    requires room { draft.old.next + (counts (alt_all (trees_of arms.now))).places ≤ MOST_STATES }
-    ensures { IfOk result (HasPlaced again (places_of vars.now (alt_all (trees_of arms.now)) draft.old.next) draft.old draft.new) }
+    requires room { draft.old.next + (counts_over vars.now (alt_all (trees_of arms.now))).places ≤ MOST_STATES }
+    ensures { IfOk result (HasPlaced (places_of vars.now (alt_all (trees_of arms.now)) draft.old.next) draft.old draft.new) }
 {
     let mut all = Piece::never(alloc);
     for k in 0..arms.len() {
-        let arm = place(alloc, vars, arms.at(k), again, draft)?;
-        all = all.alt(arm)?;
+        let arm = place(alloc, vars, arms.at(k), draft)?;
+        all = all.alt(arm, &mut draft.left)?;
     }
     Ok(all)
 }
 
-/// Places a formula that comes again and again, or not at all where `least` is 0. It adds the ways from the
-/// formula's ends to its beginnings, unless a repetition around it does.
+/// Places a formula that comes once, or that may be left out where `least` is 0. Captures may stand in it.
 #[cycle(place)]
-fn place_star(
+fn place_once(
     alloc: Global,
     vars: &VarSet,
     sub: &Formula,
     least: u16,
-    again: bool,
     draft: &mut Draft,
 ) -> Result<Piece, OutOfMemory>
-    requires few { least < 2 }
-    requires built { IsWellBuilt (rep (tree_of sub.now) least None) }
-    requires functional { IsFunctional (rep (tree_of sub.now) least None) }
+    requires built { IsWellBuilt (rep (tree_of sub.now) least (Some 1)) }
+    requires sequential { IsSequential (tree_of sub.now) }
     requires distinct { AreDistinct vars.now }
     requires named { AreNamed vars.now (tree_of sub.now) }
-    requires room { draft.old.next + (counts (rep (tree_of sub.now) least None)).places ≤ MOST_STATES }
-    ensures { IfOk result (HasPlaced again (places_of vars.now (rep (tree_of sub.now) least None) draft.old.next) draft.old draft.new) }
+    requires room { draft.old.next + (counts_over vars.now (rep (tree_of sub.now) least (Some 1))).places ≤ MOST_STATES }
+    ensures { IfOk result (HasPlaced (places_of vars.now (rep (tree_of sub.now) least (Some 1)) draft.old.next) draft.old draft.new) }
 {
-    let piece = place(alloc, vars, sub, true, draft)?;
-    if !again {
-        piece.push_again(&mut draft.ways)?;
-    }
-    Ok(piece.opt_if(least == 0))
+    let piece = place(alloc, vars, sub, draft)?;
+    piece.opt_if(least == 0)
 }
 
-/// Places any other repetition, written out as copies of its formula. Where a copy has no place the others
-/// add nothing, and are left out.
+/// Places any other repetition, written out as copies of its formula, in which no capture stands. Where a
+/// copy has no place the others add nothing, and are left out.
 #[cycle(place)]
-fn place_copies(
+fn place_repeat(
     alloc: Global,
     vars: &VarSet,
     sub: &Formula,
     least: u16,
     most: Option<u16>,
-    again: bool,
     draft: &mut Draft,
 ) -> Result<Piece, OutOfMemory>
     requires built { IsWellBuilt (rep (tree_of sub.now) least most) }
-    requires functional { IsFunctional (rep (tree_of sub.now) least most) }
+    requires sequential { IsSequential (tree_of sub.now) }
+    requires bare { HasNoVar (tree_of sub.now) }
     requires distinct { AreDistinct vars.now }
     requires named { AreNamed vars.now (tree_of sub.now) }
-    requires room { draft.old.next + (counts (rep (tree_of sub.now) least most)).places ≤ MOST_STATES }
-    ensures { IfOk result (HasPlaced again (places_of vars.now (rep (tree_of sub.now) least most) draft.old.next) draft.old draft.new) }
+    requires room { draft.old.next + (counts_over vars.now (rep (tree_of sub.now) least most)).places ≤ MOST_STATES }
+    ensures { IfOk result (HasPlaced (places_of vars.now (rep (tree_of sub.now) least most) draft.old.next) draft.old draft.new) }
 {
     let copies = copies_of(least, most);
     if copies == 0 {
-        return Ok(Piece::nothing(alloc));
+        return Piece::nothing(alloc);
     }
     let (before, from) = (draft.next, draft.ways.len());
-    let copy_again = copies_come_again(again, sub, copies);
-    let first = place(alloc, vars, sub, copy_again, draft)?;
+    let first = place(alloc, vars, sub, draft)?;
     if draft.next == before {
-        return Ok(first.opt_if(least == 0));
+        return first.opt_if(least == 0);
     }
     let added = draft.added_since(before, from);
     let mut pieces = Vec::with_capacity(alloc, usize::from(copies))?;
@@ -283,24 +234,22 @@ fn place_copies(
     }
     let required = usize::from(least);
     match most {
-        Some(_) => join_row(
-            pieces,
-            required,
-            Piece::nothing(alloc),
-            copy_again,
-            &mut draft.ways,
-        ),
-        None => join_again(alloc, pieces, required, copy_again, &mut draft.ways),
+        Some(_) => {
+            let rest = Piece::nothing(alloc)?;
+            join_row(alloc, pieces, required, rest, &mut draft.ways)
+        }
+        None => join_again(alloc, pieces, required, &mut draft.ways),
     }
 }
 
-/// Whether a repetition around so many copies of the formula leads from each copy's ends to each copy's
-/// beginnings. Where the empty string does not fit, it leads to the first copy alone, and nothing is left to
-/// it but where there is one copy.
-fn copies_come_again(again: bool, sub: &Formula, copies: u16) -> bool
-    ensures { IsTrue result ↔ (IsTrue again × ((copies ≡ 1) ⊎ (fits_empty (tree_of sub.now) ≡ true))) }
+/// Whether a repetition comes once at most.
+pub(crate) fn is_once(most: Option<u16>) -> bool
+    ensures { IsTrue result ↔ (most ≡ Some 1) }
 {
-    again && (copies == 1 || fits_empty(sub))
+    match most {
+        Some(most) => most == 1,
+        None => false,
+    }
 }
 
 /// How many copies of its formula a repetition is written out as.

@@ -2,8 +2,8 @@
 ghost use Rattle.std.specs.Prelude.{◌≡◌, IfOk, IfSome, [], ◌∷◌, None};
 ghost use Rattle.spanner_model.specs.Examples.{a, b, x};
 ghost use Rattle.spanner_model.specs.View.{tree_of, trees_of};
-ghost use Rattle.place_automaton.specs.Examples.{maybe, times, star_in_x};
-ghost use Rattle.place_automaton.specs.Samples.{IsSample, long, wide, nothing_often, a_and_maybe_b, often_in_x, star_of, stars_of_maybes, stars_of_two};
+ghost use Rattle.place_automaton.specs.Examples.{maybe, times, star_in_x, optional_x};
+ghost use Rattle.place_automaton.specs.Samples.{IsSample, long, wide, nothing_often, a_and_maybe_b, often_in_x, star_of, stars_of_maybes, stars_of_two, million, x_or_b};
 
 use crate::{count, of_atom};
 use marked_automaton::{Automaton, SizeFault};
@@ -136,14 +136,21 @@ fn name_x() -> Option<Name>
 }
 
 /// The numbers of an atom's automaton as it is counted.
-fn counted(formula: Formula, from_start: bool, to_end: bool) -> (u64, u64) {
+fn counted(
+    alloc: Global,
+    formula: Formula,
+    from_start: bool,
+    to_end: bool,
+) -> Result<(u64, u64), OutOfMemory>
+    requires { IsSample (tree_of formula) }
+{
     let atom = Atom {
         from_start,
         to_end,
         formula,
     };
-    let counts = count(&atom);
-    (counts.states, counts.ways)
+    let counts = count(alloc, &atom)?;
+    Ok((counts.states, counts.ways))
 }
 
 /// The numbers of an atom's automaton as it is made, or the number with which it is refused.
@@ -187,22 +194,44 @@ fn makes_what_is_within_the_limits(rt: HostRuntime) {
     assert_eq!(rt; nothing, Ok((2, 3)));
 }
 
-/// Numbers of the places of repetitions in repetitions.
-fn numbers(alloc: Global) -> Result<[(u64, u64); 3], OutOfMemory> {
+/// `(f{1000}){1000}`
+fn million(alloc: Global, formula: Formula) -> Result<Formula, OutOfMemory>
+    ensures { IfOk result (λ f. tree_of f ≡ million (tree_of formula)) }
+{
+    let thousand = times(alloc, formula, 1000)?;
+    times(alloc, thousand, 1000)
+}
+
+/// `((a?){1000}){3}`
+fn many_maybes(alloc: Global) -> Result<(u64, u64), OutOfMemory> {
     let once = maybe(alloc, letter())?;
     let thousand = times(alloc, once, 1000)?;
-    let optional = counted(times(alloc, thousand, 3)?, false, false);
-    let mut formula = letter();
-    for _level in 0..3u32 {
-        formula = times(alloc, formula, 1000)?;
-    }
-    let third = counted(formula, true, true);
-    let mut formula = letter();
-    for _level in 0..8u32 {
-        formula = times(alloc, formula, 1000)?;
-    }
-    let eighth = counted(formula, false, false);
-    Ok([optional, third, eighth])
+    let all = times(alloc, thousand, 3)?;
+    counted(alloc, all, false, false)
+}
+
+/// `((a{1000}){1000}){1000}`
+fn billion(alloc: Global) -> Result<(u64, u64), OutOfMemory> {
+    let inner = million(alloc, letter())?;
+    let all = times(alloc, inner, 1000)?;
+    counted(alloc, all, true, true)
+}
+
+/// 1000 times, eight times in each other.
+fn vast(alloc: Global) -> Result<(u64, u64), OutOfMemory> {
+    let first = million(alloc, letter())?;
+    let second = million(alloc, first)?;
+    let third = million(alloc, second)?;
+    let all = million(alloc, third)?;
+    counted(alloc, all, false, false)
+}
+
+/// Numbers of the places of repetitions in repetitions.
+fn numbers(alloc: Global) -> Result<[(u64, u64); 3], OutOfMemory> {
+    let maybes = many_maybes(alloc)?;
+    let third = billion(alloc)?;
+    let eighth = vast(alloc)?;
+    Ok([maybes, third, eighth])
 }
 
 #[test]
@@ -215,8 +244,8 @@ fn counts_places_and_ways(rt: HostRuntime) {
 
 /// Stars of stars as they are counted, and as they are made.
 fn stars(alloc: Global) -> Result<[(u64, u64); 2], OutOfMemory> {
-    let maybes = counted(stars_of_maybes(alloc)?, true, true);
-    let two = counted(stars_of_two(alloc)?, true, true);
+    let maybes = counted(alloc, stars_of_maybes(alloc)?, true, true)?;
+    let two = counted(alloc, stars_of_two(alloc)?, true, true)?;
     Ok([maybes, two])
 }
 
@@ -227,13 +256,13 @@ fn made_stars(alloc: Global) -> Result<[Result<(u64, u64), SizeFault>; 2], OutOf
 }
 
 #[test]
-fn a_star_of_a_star_has_each_way_once(rt: HostRuntime) {
+fn a_star_of_a_star_has_the_ways_that_are_counted(rt: HostRuntime) {
     let told = stars(rt.alloc()).expect(&rt, "there is memory");
     assert_eq!(rt; told[0], (4, 24));
     assert_eq!(rt; told[1], (3, 6));
     let [maybes, two] = made_stars(rt.alloc()).expect(&rt, "there is memory");
-    assert_eq!(rt; maybes, Ok((4, 12)));
-    assert_eq!(rt; two, Ok((3, 4)));
+    assert_eq!(rt; maybes, Ok((4, 24)));
+    assert_eq!(rt; two, Ok((3, 6)));
 }
 
 /// Whether there is a way between these states with these markers, on each of the letters or on no other.
@@ -369,4 +398,97 @@ fn copies_that_come_again(rt: HostRuntime) {
     assert_eq!(rt; automaton.stops().len(), 2);
     assert!(rt; has_stop(&automaton, 5, 1));
     assert!(rt; has_stop(&automaton, 6, 1));
+}
+
+/// `a(!x{()})?b`
+fn optional_x(alloc: Global, name: Name) -> Result<Formula, OutOfMemory>
+    requires { name ≡ x }
+    ensures { IfOk result (λ f. tree_of f ≡ optional_x) }
+{
+    let empty = Formula::Cap(name, Box::new(alloc, Formula::Empty)?);
+    let middle = maybe(alloc, empty)?;
+    let mut parts = two(alloc, letter(), middle)?;
+    if parts.push(Formula::One(ByteSet::single(b'b'))).is_err() {
+        return Err(OutOfMemory);
+    }
+    Ok(Formula::Cat(parts))
+}
+
+/// `!x{a}|b`
+fn x_or_b(alloc: Global, name: Name) -> Result<Formula, OutOfMemory>
+    requires { name ≡ x }
+    ensures { IfOk result (λ f. tree_of f ≡ x_or_b) }
+{
+    let first = Formula::Cap(name, Box::new(alloc, letter())?);
+    Ok(Formula::Alt(two(alloc, first, Formula::One(ByteSet::single(b'b')))?))
+}
+
+/// The numbers of `!x{a*}` and of `a(!x{()})?b`, which is tied nowhere.
+fn small_counts(alloc: Global, name: Name) -> Result<[(u64, u64); 2], OutOfMemory>
+    requires { name ≡ x }
+{
+    let star = counted(alloc, star_in_x(alloc, name)?, false, false)?;
+    let optional = counted(alloc, optional_x(alloc, name)?, false, false)?;
+    Ok([star, optional])
+}
+
+#[test]
+fn counts_with_and_without_a_capture(rt: HostRuntime) {
+    let name = name_x().expect(&rt, "x is a name");
+    let [star, optional] = small_counts(rt.alloc(), name).expect(&rt, "there is memory");
+    assert_eq!(rt; star, (3, 6));
+    assert_eq!(rt; optional, (4, 6));
+}
+
+fn optional(alloc: Global, name: Name) -> Result<Automaton, SizeFault>
+    requires { name ≡ x }
+{
+    let atom = Atom {
+        from_start: false,
+        to_end: false,
+        formula: optional_x(alloc, name)?,
+    };
+    of_atom(alloc, &atom)
+}
+
+#[test]
+fn a_capture_that_may_be_absent(rt: HostRuntime) {
+    let name = name_x().expect(&rt, "x is a name");
+    let automaton = optional(rt.alloc(), name).expect(&rt, "there is memory");
+    assert_eq!(rt; automaton.states(), 4);
+    assert_eq!(rt; automaton.ways().len(), 6);
+    assert!(rt; has_way(&automaton, 0, 0, 0, true));
+    assert!(rt; has_way_on(&automaton, b'a', 0, 0, 1));
+    assert!(rt; has_way_on(&automaton, b'b', 1, 0, 2));
+    assert!(rt; has_way_on(&automaton, b'b', 1, 3, 2));
+    assert!(rt; has_way(&automaton, 2, 0, 3, true));
+    assert!(rt; has_way(&automaton, 3, 0, 3, true));
+    assert_eq!(rt; automaton.stops().len(), 2);
+    assert!(rt; has_stop(&automaton, 2, 0));
+    assert!(rt; has_stop(&automaton, 3, 0));
+}
+
+/// The automaton of `!x{a}|b`, tied to the start and to the end.
+fn arms(alloc: Global, name: Name) -> Result<Automaton, SizeFault>
+    requires { name ≡ x }
+{
+    let atom = Atom {
+        from_start: true,
+        to_end: true,
+        formula: x_or_b(alloc, name)?,
+    };
+    of_atom(alloc, &atom)
+}
+
+#[test]
+fn arms_of_which_one_captures(rt: HostRuntime) {
+    let name = name_x().expect(&rt, "x is a name");
+    let automaton = arms(rt.alloc(), name).expect(&rt, "there is memory");
+    assert_eq!(rt; automaton.states(), 3);
+    assert_eq!(rt; automaton.ways().len(), 2);
+    assert!(rt; has_way_on(&automaton, b'a', 0, 2, 1));
+    assert!(rt; has_way_on(&automaton, b'b', 0, 0, 2));
+    assert_eq!(rt; automaton.stops().len(), 2);
+    assert!(rt; has_stop(&automaton, 1, 1));
+    assert!(rt; has_stop(&automaton, 2, 0));
 }

@@ -5,7 +5,6 @@ use Rattle.std.proofs.Math.Nat.{min-le_left}
 use Rattle.std.proofs.lemmas.Bool.{eq-eqb, ne_eqb, cases_lt}
 use Rattle.std.proofs.lemmas.Option.{slice_get_within}
 use Rattle.span_core.specs.NameSets.{Ascending}
-use Rattle.span_core.proofs.NameSetLaws.{none_are_variables}
 use Rattle.span_core.specs.Lists.{Has}
 use Rattle.spanner_model.specs.Tree.{Tree}
 use Rattle.spanner_model.specs.Captures.{VarName}
@@ -20,7 +19,6 @@ use Rattle.marked_automaton.specs.declared.TheConstants.{MOST_STATES, MOST_WAYS}
 use Rattle.marked_automaton.specs.declared.fault.SizeFault.{SizeFault}
 use Rattle.marked_automaton.specs.declared.fault.SizeFault.TheVariants.{States, Ways, OutOfMemory}
 use Rattle.marked_automaton.specs.Automaton.{Automaton, IsMarked, Marked}
-use Rattle.marked_automaton.specs.Faults.{IsSizeFaultOf}
 use Rattle.marked_automaton.specs.Marks.{left_of, remarked}
 use Rattle.marked_automaton.specs.Reduct.{Reduces, ReducesMarked}
 use Rattle.marked_automaton.proofs.Keeping.{all_kept, keeping_law}
@@ -29,23 +27,24 @@ use Rattle.marked_automaton.proofs.Reducts.{reduct_of_reduct}
 use Rattle.marked_automaton.proofs.ReductOperations.{reduct_of_projection}
 use Rattle.place_automaton.specs.Capped.{capped}
 use Rattle.place_automaton.specs.Counts.{count_states, count_ways}
+use Rattle.place_automaton.specs.Refusals.{IsRefusalOf}
+use Rattle.place_automaton.specs.Variables.{with_vars}
 use Rattle.place_automaton.specs.Words.{atom_automaton}
-use Rattle.place_automaton.proofs.BuiltRepeats.{ordered_repeats}
 use Rattle.place_automaton.proofs.CountLaws.{count_law}
+use Rattle.place_automaton.proofs.NameLists.{list_ascends, vars_are}
 use Rattle.query_automaton.specs.Compiling.{IsAsked, AreCompiled, IsCompiledFrom}
 use Rattle.query_automaton.specs.Parts.{HasLargePartOf, HasSmallAtoms}
-use Rattle.query_automaton.specs.QueryAutomaton.{with_vars, of_atom, automaton_of, of_lets, of_one_let}
+use Rattle.query_automaton.specs.QueryAutomaton.{of_atom, automaton_of, of_lets, of_one_let}
 use Rattle.query_automaton.proofs.CompileLaws.{asked_sub, shape}
-use Rattle.query_automaton.proofs.Names.{vars_ascend, vars_are}
 
 -- ---- atoms
 
 module _ (s t : Bool) (f : Tree) (built : IsWellBuilt f) (functional : IsFunctional f) where
   atom_ascends : Ascending (with_vars [] f)
-  atom_ascends = vars_ascend f [] none_are_variables.ascending
+  atom_ascends = list_ascends f
 
   pub atom_counts : ((of_atom s t f).graph.states ≡ count_states s t f) × (length (of_atom s t f).graph.ways ≡ count_ways s t f)
-  atom_counts = count_law (with_vars [] f) s t f (ascending-distinct (with_vars [] f) atom_ascends) (λ x h. (vars_are f x).1 h) functional (ordered_repeats f built)
+  atom_counts = count_law s t f
 
   pub atom_names : (names : List VarName) → Ascending names → ((x : VarName) → Has names x ↔ HasVar f x) → names ≡ with_vars [] f
   atom_names names up all =
@@ -61,7 +60,7 @@ module _ (s t : Bool) (f : Tree) (built : IsWellBuilt f) (functional : IsFunctio
   pub atom_small : (count_states s t f ≤ MOST_STATES) → (count_ways s t f ≤ MOST_WAYS) → HasSmallAtoms (atom s t f)
   atom_small h g = (omega (arith, h, atom_counts.0), omega (arith, g, atom_counts.1))
 
-  pub atom_fault : (L : ℕ → Marked) (fault : SizeFault) → IsSizeFaultOf (capped (count_states s t f)) (capped (count_ways s t f)) fault → HasLargePartOf L (atom s t f) fault
+  pub atom_fault : (L : ℕ → Marked) (fault : SizeFault) → IsRefusalOf (capped (count_states s t f)) (capped (count_ways s t f)) fault → HasLargePartOf L (atom s t f) fault
   atom_fault L (States count) h = (omega (arith, h.0, h.1), (of_atom s t f, refl, omega (arith, h.1, min-le_left (count_states s t f) (2 ^ 64 - 1), atom_counts.0)))
   atom_fault L (Ways count) h = (omega (arith, h.1, h.2), (of_atom s t f, refl, omega (arith, h.2, min-le_left (count_ways s t f) (2 ^ 64 - 1), atom_counts.1)))
   atom_fault L OutOfMemory h = tt

@@ -4,7 +4,6 @@ use Rattle.std.specs.Prelude.{slice_get, nat_eq, MatchBool, if◌then◌else◌}
 use Rattle.std.specs.Option.{IsSomeAnd, ForSome}
 use Rattle.std.proofs.lemmas.Bool.{eqb-false, cases_lt}
 use Rattle.span_core.specs.NameSets.{Ascending}
-use Rattle.span_core.proofs.NameSetLaws.{none_are_variables}
 use Rattle.spanner_model.specs.Tree.{Tree}
 use Rattle.spanner_model.specs.Captures.{VarName, Mapping}
 use Rattle.spanner_model.specs.Functional.{HasVar, IsFunctional}
@@ -25,8 +24,9 @@ use Rattle.place_automaton.proofs.WholeLaws.{whole_law}
 use Rattle.marked_automaton.specs.Reduct.{ReducesMarked}
 use Rattle.marked_automaton.proofs.ReductWords.{reduct_accepts}
 use Rattle.query_automaton.specs.Laws.{AcceptsAnswersOf, QueryWords}
-use Rattle.query_automaton.specs.QueryAutomaton.{with_vars, of_atom, of_union, of_join, automaton_of, united, together, of_lets, of_one_let, of_query}
-use Rattle.query_automaton.proofs.Names.{vars_ascend, vars_are}
+use Rattle.place_automaton.specs.Variables.{with_vars}
+use Rattle.query_automaton.specs.QueryAutomaton.{of_atom, of_union, of_join, automaton_of, united, together, of_lets, of_one_let, of_query}
+use Rattle.place_automaton.proofs.NameLists.{list_ascends, vars_are}
 use Rattle.query_automaton.proofs.Words.{IsFor, for_same, for_union, for_projection, Together, for_join}
 use Rattle.query_automaton.proofs.Assoc.{together_assoc, told_or}
 
@@ -45,7 +45,7 @@ for_atom d bytes s t f built functional = record {
 }
   where
     ascending : Ascending (with_vars [] f)
-    ascending = vars_ascend f [] none_are_variables.ascending
+    ascending = list_ascends f
 
 -- ---- expressions
 

@@ -1,26 +1,15 @@
 -- The automaton of a query, with nothing trimmed: what the numbers of states and ways are counted on.
 use Rattle.std.specs.Prelude.{ℕ, Bool, zero, suc, List, [], Option, Some, None, slice_get, length, nat_eq, if◌then◌else◌}
-use Rattle.span_core.specs.NameSets.{with_name}
-use Rattle.spanner_model.specs.Tree.{Tree, empty, one, cat_end, cat, alt_end, alt, rep, cap}
+use Rattle.spanner_model.specs.Tree.{Tree}
 use Rattle.spanner_model.specs.Captures.{VarName}
 use Rattle.spanner_model.specs.Expression.{ExprTree, QueryTree, atom, named, union_end, union, join_end, join, project}
 use Rattle.marked_automaton.specs.Automaton.{Marked, bare}
 use Rattle.marked_automaton.specs.Marks.{left_of, remarked}
+use Rattle.place_automaton.specs.Variables.{with_vars}
 use Rattle.place_automaton.specs.Words.{atom_automaton}
 use Rattle.algebra.specs.JoinedMarks.{agree_on, joined}
 use Rattle.algebra.specs.JoinedNames.{all_names}
 use Rattle.algebra.specs.Operations.{union_of, join_of}
-
--- an ascending list of names, with the variables of a formula
-abbrev pub with_vars : List VarName → Tree → List VarName
-with_vars names empty = names
-with_vars names (one set) = names
-with_vars names cat_end = names
-with_vars names (cat f rest) = with_vars (with_vars names f) rest
-with_vars names alt_end = names
-with_vars names (alt f rest) = with_vars (with_vars names f) rest
-with_vars names (rep f least most) = with_vars names f
-with_vars names (cap x f) = with_vars (with_name x names) f
 
 abbrev pub of_atom : Bool → Bool → Tree → Marked
 of_atom from_start to_end f =

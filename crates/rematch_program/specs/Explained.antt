@@ -6,9 +6,14 @@ use Rattle.spanner_model.specs.declared.formula.Atom.{Atom}
 use Rattle.spanner_model.specs.Captures.{VarName}
 use Rattle.spanner_model.specs.View.{tree_of}
 use Rattle.spanner_model.specs.Expression.{ExprTree, QueryTree, atom, named, union_end, union, join_end, join, project}
+use Rattle.spanner_model.specs.Functional.{HasVar}
+use Rattle.spanner_model.specs.WellBuilt.{IsWellBuilt}
+use Rattle.span_core.specs.Lists.{AtMost, Has}
+use Rattle.span_core.specs.declared.TheConstants.{MOST_VARIABLES}
 use Rattle.formula_parser.specs.Spells.{AtomTree}
 use Rattle.query_printer.specs.PrintedQuery.{joined, query_text}
 use Rattle.place_automaton.specs.Counts.{count_states, count_ways}
+use Rattle.place_automaton.specs.Sequential.{IsSequential}
 use Rattle.rematch_program.specs.Notes.{line}
 
 -- the atoms of an expression, from left to right
@@ -36,6 +41,13 @@ query_atoms q = atoms_in q.lets ++ atoms_of q.body
 -- the tree of an atom
 abbrev pub atom_at : Atom → AtomTree
 atom_at a = record { from_start = a.from_start; to_end = a.to_end; formula = tree_of a.formula }
+
+-- atoms whose numbers can be told
+abbrev pub IsCounted : AtomTree → Type 0
+IsCounted a = IsWellBuilt a.formula × IsSequential a.formula × AtMost MOST_VARIABLES (HasVar a.formula)
+
+abbrev pub AreCounted : List AtomTree → Type 0
+AreCounted atoms = (a : AtomTree) → Has atoms a → IsCounted a
 
 -- a number, or the greatest of 64 bits where that is less
 abbrev pub shown_number : ℕ → List ℕ

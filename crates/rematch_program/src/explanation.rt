@@ -7,7 +7,7 @@ ghost use Rattle.spanner_model.specs.Sound.{IsSound};
 ghost use Rattle.spanner_model.specs.Answers.{AreResultNames};
 ghost use Rattle.rematch_program.specs.Change.{change, work, clock, StandsStill};
 ghost use Rattle.rematch_program.specs.Ending.{note_bytes};
-ghost use Rattle.rematch_program.specs.Explained.{HasLines, atom_at, atoms_among, atoms_in, atoms_of, explain_text, names_text};
+ghost use Rattle.rematch_program.specs.Explained.{AreCounted, HasLines, IsCounted, atom_at, atoms_among, atoms_in, atoms_of, explain_text, names_text};
 ghost use Rattle.rematch_program.specs.Notes.{line};
 ghost use Rattle.rematch_program.specs.Run.{FromPage, IsExplained};
 
@@ -79,6 +79,7 @@ fn push_names(vars: &VarSet, text: &mut Vec<u8>) -> Result<(), OutOfMemory>
 
 /// Appends the lines of the atoms of all `let`s, and tells how many there are.
 fn push_let_atoms(alloc: Global, query: &Query, text: &mut Vec<u8>) -> Result<u64, OutOfMemory>
+    requires { AreCounted (atoms_in (query_of query.now).lets) }
     ensures { IfOk result (λ all. HasLines 0 text.old.items (atoms_in (query_of query.now).lets) all text.new.items) }
 {
     let mut atoms = 0;
@@ -96,6 +97,7 @@ fn push_atoms(
     before: u64,
     text: &mut Vec<u8>,
 ) -> Result<u64, OutOfMemory>
+    requires { AreCounted (atoms_of (expr_of expr.now)) }
     ensures { IfOk result (λ all. HasLines before text.old.items (atoms_of (expr_of expr.now)) all text.new.items) }
 {
     match expr {
@@ -115,6 +117,7 @@ fn push_parts(
     before: u64,
     text: &mut Vec<u8>,
 ) -> Result<u64, OutOfMemory>
+    requires { AreCounted (atoms_among (exprs_of parts.now)) }
     ensures { IfOk result (λ all. HasLines before text.old.items (atoms_among (exprs_of parts.now)) all text.new.items) }
 {
     let mut atoms = before;
@@ -132,10 +135,11 @@ fn push_atom(
     before: u64,
     text: &mut Vec<u8>,
 ) -> Result<u64, OutOfMemory>
+    requires { IsCounted (atom_at atom.now) }
     ensures { IfOk result (λ all. HasLines before text.old.items (atom_at atom.now ∷ []) all text.new.items) }
 {
     let number = before.checked_add(1).ok_or(OutOfMemory)?;
-    let Counts { states, ways } = count(atom);
+    let Counts { states, ways } = count(alloc, atom)?;
     let shown = format!(in alloc; "atom {number} states {states} ways {ways}\n")?;
     text.extend_from_slice(shown.as_bytes())?;
     Ok(number)

@@ -5,7 +5,6 @@ use Rattle.std.specs.List.{filter}
 use Rattle.std.proofs.Math.Nat.{mul-le-mul_right}
 use Rattle.std.proofs.lemmas.List.{length-map}
 use Rattle.span_core.specs.NameSets.{Ascending}
-use Rattle.span_core.proofs.NameSetLaws.{none_are_variables}
 use Rattle.spanner_model.specs.Captures.{VarName}
 use Rattle.spanner_model.specs.Functional.{HasVar}
 use Rattle.span_core.specs.Lists.{Has}
@@ -21,8 +20,8 @@ use Rattle.marked_automaton.proofs.Sizes.{reduct_is_no_larger}
 use Rattle.place_automaton.specs.Places.{placed}
 use Rattle.place_automaton.specs.Words.{atom_automaton, closing_of, opening_of}
 use Rattle.place_automaton.proofs.Ranges.{places_lie}
-use Rattle.query_automaton.specs.QueryAutomaton.{with_vars}
-use Rattle.query_automaton.proofs.Names.{vars_are, vars_ascend}
+use Rattle.place_automaton.specs.Variables.{with_vars}
+use Rattle.place_automaton.proofs.NameLists.{list_ascends, vars_are}
 use Rattle.segment_filter.specs.Costs.{CostAs, backward_of, forward_of}
 use Rattle.segment_filter.specs.Readings.{CanEnd, HasStepsOf, StepsTo, moves_on, turned}
 use Rattle.segment_filter.specs.Sets.{TakesNone}
@@ -32,7 +31,7 @@ use Rattle.segment_filter.proofs.ReadingLaws.{Plain, plain_none, plain_steps, tu
 -- the names of a formula's variables are one list
 pub names_one : (f : Tree) (names : List VarName) → Ascending names → ((x : VarName) → Has names x ↔ HasVar f x) → names ≡ with_vars [] f
 names_one f names up are =
-    same_names names (with_vars [] f) up (vars_ascend f [] none_are_variables.ascending) (λ z h. (vars_are f z).1 ((are z).0 h)) (λ z h. (are z).1 ((vars_are f z).0 h))
+    same_names names (with_vars [] f) up (list_ascends f) (λ z h. (vars_are f z).1 ((are z).0 h)) (λ z h. (are z).1 ((vars_are f z).0 h))
 
 steps_remarked : (e : ℕ → ℕ) (A : Automaton) (p c q : ℕ) → StepsTo (remarked e A) p c q ↔ StepsTo A p c q
 steps_remarked e A p c q = (

@@ -8,7 +8,7 @@ use Rattle.marked_automaton.specs.Automaton.{Automaton, reversed, size}
 use Rattle.marked_automaton.specs.Marks.{remarked}
 use Rattle.automaton_reading.specs.Reading.{Asked, byte_read, next_sets, once, set_of}
 use Rattle.place_automaton.specs.Words.{atom_automaton}
-use Rattle.query_automaton.specs.QueryAutomaton.{with_vars}
+use Rattle.place_automaton.specs.Variables.{with_vars}
 use Rattle.segment_filter.specs.Weights.{reading_rows, reading_weight}
 
 -- forwards: the atom's automaton without markers

@@ -7,7 +7,7 @@ ghost use Rattle.span_core.specs.Lists.{AtMost};
 ghost use Rattle.spanner_model.specs.View.{tree_of};
 ghost use Rattle.spanner_model.specs.WellBuilt.{IsWellBuilt};
 ghost use Rattle.span_core.specs.declared.TheConstants.{MOST_VARIABLES};
-ghost use Rattle.query_automaton.specs.QueryAutomaton.{with_vars};
+ghost use Rattle.place_automaton.specs.Variables.{with_vars};
 ghost use Rattle.segment_filter.specs.Costs.{CostAs};
 ghost use Rattle.segment_filter.specs.Readings.{moves_on, turned};
 ghost use Rattle.segment_filter.specs.Sets.{AreReadingsOf, TakesNone};

@@ -10,39 +10,46 @@ use Rattle.spanner_model.proofs.NameLaws.{ascending-distinct}
 use Rattle.marked_automaton.specs.declared.way.Way.{Way}
 use Rattle.marked_automaton.specs.Automaton.{Automaton, IsBlockOf, idle_way}
 use Rattle.marked_automaton.specs.Reduct.{Rearranges}
-use Rattle.place_automaton.specs.Drafts.{AreNamed, places_of}
+use Rattle.place_automaton.specs.Counts.{count_ways}
+use Rattle.place_automaton.specs.Drafts.{places_of}
 use Rattle.place_automaton.specs.Ends.{Ends}
 use Rattle.place_automaton.specs.Made.{all_stops, idle_states}
 use Rattle.place_automaton.specs.Words.{opening_of, closing_of, atom_automaton}
 use Rattle.place_automaton.proofs.BuiltRepeats.{ordered_repeats}
 use Rattle.place_automaton.proofs.CountLaws.{count_law}
 use Rattle.place_automaton.proofs.FineLaws.{built_classes}
-use Rattle.marked_automaton.proofs.Rearranged.{with_these}
-use Rattle.place_automaton.proofs.LeanLaws.{thin_has, thin_length, thin_there}
-use Rattle.place_automaton.proofs.MadeLaws.{before_way, after_way, stop_there, stop_marks, is_way, rearranges_like, rearranges_thinned}
+use Rattle.place_automaton.proofs.MadeLaws.{made_ways, before_way, after_way, stop_there, stop_marks, is_way, rearranges_like}
 use Rattle.place_automaton.proofs.PlaceNumbers.{place_count}
+use Rattle.place_automaton.proofs.NameLists.{list_ascends, same_places, vars_are, vars_named}
 use Rattle.place_automaton.proofs.WholeLaws.{whole_law}
 use Rattle.place_automaton.proofs.building.made.Goals as goal
 
-pub placed-requires-clause-distinct : goal.placed-requires-clause-distinct
-placed-requires-clause-distinct c = ascending-distinct c.vars_of-vars.result c.vars_of-vars.ensures.ascending
+pub place-requires-clause-distinct : goal.place-requires-clause-distinct
+place-requires-clause-distinct c =
+    let names = c.vars_of-vars.result in
+    ascending-distinct names (subst Ascending (sym c.vars_of-vars.ensures) (list_ascends (tree_of c.args.atom.now.formula)))
+
+pub place-requires-clause-named : goal.place-requires-clause-named
+place-requires-clause-named c = vars_named (tree_of c.args.atom.now.formula) c.vars_of-vars.result c.vars_of-vars.ensures
 
 pub states_of-states-requires : goal.states_of-states-requires
 states_of-states-requires c =
     let names = c.vars_of-vars.result in
-    omega (arith, c.in_ok-piece.ensures.next, place_count (opening_of names) (closing_of names) (tree_of c.args.atom.now.formula) 1, c.requires.states)
+    omega (arith, c.in_ok-piece.ensures.next, place_count (opening_of names) (closing_of names) (tree_of c.args.atom.now.formula) 1, same_places names (tree_of c.args.atom.now.formula) c.vars_of-vars.ensures, c.requires.states)
 
 pub with_ways-requires : goal.with_ways-requires
 with_ways-requires c = λ k d l.
     let names = c.vars_of-vars.result in
     let atom = c.args.atom.now in
     let f = tree_of atom.formula in
-    let ws = c.in_ok-piece.draft.ways.items in
-    let thin = c.in_ok-piece.ensures.ways in
-    let has = thin_has (Has ws) (atom_automaton names atom.from_start atom.to_end f).ways ws (get_or ws k d) thin (Has-get_or ws k d l) in
+    let P = places_of names f 1 in
+    let ws = c.push_outer.new.ways.items in
+    let all = made_ways atom.from_start atom.to_end P c.place.new.draft.next c.in_ok-piece.piece c.in_ok-with_capacity.field-0.items c.place.new.draft.ways.items ws
+    c.in_ok-with_capacity.ensures.items c.in_ok-piece.ensures.ways c.in_ok-piece.ensures.next c.in_ok-piece.ensures.ends c.in_ok-push_outer.ensures in
+    let has = subst (λ (xs : List Way). Has xs (get_or ws k d)) all (Has-get_or ws k d l) in
     let states : c.states_of-states.result ≡ (atom_automaton names atom.from_start atom.to_end f).states =
     c.states_of-states.ensures ∙ ap (λ (n : ℕ). n + (if atom.to_end then 0 else 1)) c.in_ok-piece.ensures.next in
-    is_way names atom.from_start atom.to_end f c.requires.functional (built_classes f c.requires.built.0) (λ x v. (c.vars_of-vars.ensures.names x).1 v)
+    is_way names atom.from_start atom.to_end f c.requires.sequential (ordered_repeats f c.requires.built) (built_classes f c.requires.built.0) (vars_named f names c.vars_of-vars.ensures)
     c.states_of-states.result (get_or ws k d) states has
 
 pub finish-requires-clause-stops : goal.finish-requires-clause-stops
@@ -63,30 +70,32 @@ finish-requires-clause-marks c = λ x h.
     let f = tree_of atom.formula in
     let there = stop_there names atom.from_start atom.to_end f c.in_ok-piece.piece x c.in_ok-piece.ensures.ends h in
     subst (λ (ns : List VarName). IsBlockOf (length ns) x.marks) (sym c.in-Ok.ensures.ok.0)
-    (stop_marks names atom.from_start atom.to_end f c.requires.functional (built_classes f c.requires.built.0) (λ y v. (c.vars_of-vars.ensures.names y).1 v) x there)
+    (stop_marks names atom.from_start atom.to_end f c.requires.sequential (ordered_repeats f c.requires.built) (built_classes f c.requires.built.0) (vars_named f names c.vars_of-vars.ensures) x there)
 
 pub finish-requires-clause-before_way : goal.finish-requires-clause-before_way
 finish-requires-clause-before_way c = λ e.
     let names = c.vars_of-vars.result in
     let atom = c.args.atom.now in
     let f = tree_of atom.formula in
-    let ws = c.in_ok-piece.draft.ways.items in
-    let thin = c.in_ok-piece.ensures.ways in
+    let P = places_of names f 1 in
+    let ws = c.push_outer.new.ways.items in
+    let all = made_ways atom.from_start atom.to_end P c.place.new.draft.next c.in_ok-piece.piece c.in_ok-with_capacity.field-0.items c.place.new.draft.ways.items ws
+    c.in_ok-with_capacity.ensures.items c.in_ok-piece.ensures.ways c.in_ok-piece.ensures.next c.in_ok-piece.ensures.ends c.in_ok-push_outer.ensures in
     let graph = ap (λ (A : Automaton). A.ways) c.in-Ok.ensures.ok.1 in
-    subst (λ (xs : List Way). Has xs (idle_way 0)) (sym graph)
-    (thin_there (atom_automaton names atom.from_start atom.to_end f).ways ws (idle_way 0) thin (before_way names atom.from_start atom.to_end f e))
+    subst (λ (xs : List Way). Has xs (idle_way 0)) (sym (graph ∙ all)) (before_way names atom.from_start atom.to_end f e)
 
 pub finish-requires-clause-after_way : goal.finish-requires-clause-after_way
 finish-requires-clause-after_way c = λ e.
     let names = c.vars_of-vars.result in
     let atom = c.args.atom.now in
     let f = tree_of atom.formula in
-    let ws = c.in_ok-piece.draft.ways.items in
-    let thin = c.in_ok-piece.ensures.ways in
+    let P = places_of names f 1 in
+    let ws = c.push_outer.new.ways.items in
+    let all = made_ways atom.from_start atom.to_end P c.place.new.draft.next c.in_ok-piece.piece c.in_ok-with_capacity.field-0.items c.place.new.draft.ways.items ws
+    c.in_ok-with_capacity.ensures.items c.in_ok-piece.ensures.ways c.in_ok-piece.ensures.next c.in_ok-piece.ensures.ends c.in_ok-push_outer.ensures in
     let graph = ap (λ (A : Automaton). A.ways) c.in-Ok.ensures.ok.1 in
-    subst (λ (xs : List Way). Has xs (idle_way c.in_ok-piece.draft.next)) (sym graph)
-    (thin_there (atom_automaton names atom.from_start atom.to_end f).ways ws (idle_way c.in_ok-piece.draft.next) thin
-    (after_way names atom.from_start atom.to_end f c.in_ok-piece.draft.next c.in_ok-piece.ensures.next e))
+    subst (λ (xs : List Way). Has xs (idle_way c.place.new.draft.next)) (sym (graph ∙ all))
+    (after_way names atom.from_start atom.to_end f c.place.new.draft.next c.in_ok-piece.ensures.next e)
 
 pub returns : goal.returns
 returns c =
@@ -97,20 +106,23 @@ returns c =
     let f = tree_of atom.formula in
     let P = places_of names f 1 in
     let A = atom_automaton names s t f in
-    let ws = c.in_ok-piece.draft.ways.items in
-    let after = c.in_ok-piece.draft.next in
-    let thin = c.in_ok-piece.ensures.ways in
+    let ws = c.push_outer.new.ways.items in
+    let after = c.place.new.draft.next in
+    let all = made_ways s t P after c.in_ok-piece.piece c.in_ok-with_capacity.field-0.items c.place.new.draft.ways.items ws
+    c.in_ok-with_capacity.ensures.items c.in_ok-piece.ensures.ways c.in_ok-piece.ensures.next c.in_ok-piece.ensures.ends c.in_ok-push_outer.ensures in
     let bare = c.in-Ok.ensures.ok in
     let done = c.in_ok-finish.ensures in
     let last = c.in_ok-group_ways.ensures in
-    let vars : AreNamed names f = λ x v. (c.vars_of-vars.ensures.names x).1 v in
+    let is = c.vars_of-vars.ensures in
+    let ascends : Ascending names = subst Ascending (sym is) (list_ascends f) in
+    let exactly : (x : VarName) → Has names x ↔ HasVar f x = subst (λ (ns : List VarName). (x : VarName) → Has ns x ↔ HasVar f x) (sym is) (vars_are f) in
     let same_names : c.group_ways.new.self.names ≡ names = last.names ∙ (done.names ∙ bare.0) in
     let B = c.finish.new.automaton.graph in
     let next : after ≡ suc P.count = c.in_ok-piece.ensures.next ∙ (let e : 1 + P.count ≡ suc P.count = omega arith in e) in
     let states : A.states ≡ B.states =
     sym (done.ok.states ∙ (ap (λ (A : Automaton). A.states) bare.1 ∙ (c.states_of-states.ensures ∙ ap (λ (n : ℕ). n + (if t then 0 else 1)) c.in_ok-piece.ensures.next))) in
     let starts : A.starts ≡ B.starts = sym (done.ok.starts ∙ ap (λ (A : Automaton). A.starts ++ 0 ∷ []) bare.1) in
-    let ways : ws ≡ B.ways = sym (done.ok.ways ∙ ap (λ (A : Automaton). A.ways) bare.1) in
+    let ways : A.ways ≡ B.ways = sym (done.ok.ways ∙ (ap (λ (A : Automaton). A.ways) bare.1 ∙ all)) in
     let stops : A.stops ≡ B.stops =
     sym (done.ok.stops ∙ (ap (λ (A : Automaton). A.stops ++ all_stops t after c.in_ok-piece.piece) bare.1
     ∙ (ap (λ (n : ℕ). all_stops t n c.in_ok-piece.piece) next ∙ ap (λ (E : Ends). all_stops t (suc P.count) E) c.in_ok-piece.ensures.ends))) in
@@ -119,20 +131,12 @@ returns c =
       (λ h. elim ((done.ok.idle p).0 h) [ inl a ↦ absurd (none p a) | inr b ↦ subst (λ (n : ℕ). Has (idle_states s t n) p) next b ]),
       (λ h. (done.ok.idle p).1 (inr (subst (λ (n : ℕ). Has (idle_states s t n) p) (sym next) h))),
     ) in
-    let reduct : Rearranges c.group_ways.new.self.graph A = rearranges_thinned c.group_ways.new.self.graph A ws (whole_law names s t f) thin
-    (rearranges_like c.group_ways.new.self.graph B (with_these ws A) last.rearranges states starts ways stops idle) in
-    let dis = ascending-distinct names c.vars_of-vars.ensures.ascending in
+    let reduct : Rearranges c.group_ways.new.self.graph A = rearranges_like c.group_ways.new.self.graph B A last.rearranges states starts ways stops idle in
     record {
-      ascending = subst Ascending (sym same_names) c.vars_of-vars.ensures.ascending;
-      names = subst (λ (ns : List VarName). (x : VarName) → Has ns x ↔ HasVar f x) (sym same_names) c.vars_of-vars.ensures.names;
+      ascending = subst Ascending (sym same_names) ascends;
+      names = subst (λ (ns : List VarName). (x : VarName) → Has ns x ↔ HasVar f x) (sym same_names) exactly;
       reduct = subst (λ (ns : List VarName). Rearranges c.group_ways.new.self.graph (atom_automaton ns s t f)) (sym same_names) reduct;
-      ways = omega (
-        arith,
-        last.same.3,
-        ap length ways,
-        thin_length (Has ws) A.ways ws thin,
-        (count_law names s t f dis vars c.requires.functional (ordered_repeats f c.requires.built)).1,
-      );
+      ways = last.same.3 ∙ (ap length (sym ways) ∙ subst (λ (ns : List VarName). length (atom_automaton ns s t f).ways ≡ count_ways s t f) (sym is) (count_law s t f).1);
       grouped = last.grouped;
       stops = last.same.1 ∙ (sym stops ∙ ap (λ (ns : List VarName). (atom_automaton ns s t f).stops) (sym same_names));
     }

@@ -3,7 +3,7 @@ use Rattle.spanner_model.specs.View.{tree_of, trees_of}
 use Rattle.spanner_model.specs.Tree.{cat_all, alt_all}
 use Rattle.spanner_model.proofs.Nodes.{nodes}
 use Rattle.place_automaton.specs.Capped.{AreCapped}
-use Rattle.place_automaton.specs.Counts.{counts}
+use Rattle.place_automaton.specs.Counts.{counts_over}
 use Rattle.place_automaton.proofs.counting.+count.Given as goal
 
 abbrev pub decreases-count_arms : goal.decreases-count_arms
@@ -15,14 +15,14 @@ decreases-count_formula l = 2 * nodes (tree_of l.formula.now) + 1
 abbrev pub decreases-count_parts : goal.decreases-count_parts
 decreases-count_parts l = 2 * nodes (cat_all (trees_of l.parts.now))
 
-abbrev pub invariant-count_arms-loop-left : goal.invariant-count_arms-loop-left
-invariant-count_arms-loop-left l = (l.left ≤ length (trees_of l.arms)) × AreCapped (counts (alt_all (drop l.left (trees_of l.arms)))) l.numbers
+abbrev pub invariant-count_arms-loop-waiting : goal.invariant-count_arms-loop-waiting
+invariant-count_arms-loop-waiting l = (l.waiting ≤ length (trees_of l.arms)) × AreCapped (counts_over l.vars (alt_all (drop l.waiting (trees_of l.arms)))) l.numbers
 
-abbrev pub decreases-count_arms-loop-left : goal.decreases-count_arms-loop-left
-decreases-count_arms-loop-left l = l.left
+abbrev pub decreases-count_arms-loop-waiting : goal.decreases-count_arms-loop-waiting
+decreases-count_arms-loop-waiting l = l.waiting
 
-abbrev pub invariant-count_parts-loop-left : goal.invariant-count_parts-loop-left
-invariant-count_parts-loop-left l = (l.left ≤ length (trees_of l.parts)) × AreCapped (counts (cat_all (drop l.left (trees_of l.parts)))) l.numbers
+abbrev pub invariant-count_parts-loop-waiting : goal.invariant-count_parts-loop-waiting
+invariant-count_parts-loop-waiting l = (l.waiting ≤ length (trees_of l.parts)) × AreCapped (counts_over l.vars (cat_all (drop l.waiting (trees_of l.parts)))) l.numbers
 
-abbrev pub decreases-count_parts-loop-left : goal.decreases-count_parts-loop-left
-decreases-count_parts-loop-left l = l.left
+abbrev pub decreases-count_parts-loop-waiting : goal.decreases-count_parts-loop-waiting
+decreases-count_parts-loop-waiting l = l.waiting

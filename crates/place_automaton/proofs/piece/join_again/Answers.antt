@@ -11,16 +11,11 @@ push_again-requires c =
     let there = c.requires P (subst (λ ps. Has ps P) (sym c.in-Some.ensures.items) (Has-append_right c.pop.new.self.items (P ∷ []) P (inl refl))) in
     unmarked_joins P P there there
 
-pub opt_if-requires : goal.opt_if-requires
-opt_if-requires c = λ none m h.
-    let P = c.in-Some.last in
-    c.requires P (subst (λ ps. Has ps P) (sym c.in-Some.ensures.items) (Has-append_right c.pop.new.self.items (P ∷ []) P (inl refl))) m (inl h)
-
 pub join_row-requires : goal.join_row-requires
 join_row-requires c =
     let P = c.in-Some.last in
     let new = c.pop.new.self.items in
     let there = c.requires P (subst (λ ps. Has ps P) (sym c.in-Some.ensures.items) (Has-append_right new (P ∷ []) P (inl refl))) in
-    row_joins c.args.required new c.opt_if.result
+    row_joins c.args.required new c.in_ok-rest.rest
     (λ Q h. c.requires Q (subst (λ ps. Has ps Q) (sym c.in-Some.ensures.items) (Has-append_left new (P ∷ []) Q h)))
-    (subst IsUnmarked (sym c.opt_if.ensures) (again_unmarked c.args.required P there))
+    (subst IsUnmarked (sym c.in_ok-rest.ensures) (again_unmarked c.args.required P there))

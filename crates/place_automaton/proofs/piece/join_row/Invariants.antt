@@ -1,5 +1,4 @@
 use Rattle.std.proofs.Common.{◌≡◌, ◌-◌, ◌++◌, List, length}
-use Rattle.place_automaton.specs.Atom.{unless}
 use Rattle.place_automaton.specs.Ends.{Ends, row_ends, row_ways}
 use Rattle.place_automaton.proofs.piece.join_row.Given as goal
 
@@ -7,7 +6,7 @@ abbrev pub invariant-loop-piece : goal.invariant-loop-piece
 invariant-loop-piece l =
     (done : List Ends) × (l.fn.pieces.items ≡ l.pieces.items ++ done)
     × (l.row ≡ row_ends (l.required - length l.pieces.items) done l.fn.rest)
-    × (l.ways.items ≡ l.fn.ways.items ++ unless l.again (row_ways (l.required - length l.pieces.items) done l.fn.rest))
+    × (l.ways.items ≡ l.fn.ways.items ++ row_ways (l.required - length l.pieces.items) done l.fn.rest)
 
 abbrev pub decreases-loop-piece : goal.decreases-loop-piece
 decreases-loop-piece l = length l.pieces.items

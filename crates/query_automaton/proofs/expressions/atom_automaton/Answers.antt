@@ -5,12 +5,16 @@ use Rattle.marked_automaton.specs.Reduct.{ReducesMarked}
 use Rattle.marked_automaton.specs.declared.fault.SizeFault.{SizeFault}
 use Rattle.marked_automaton.proofs.Rearranged.{rearranged_reduces}
 use Rattle.place_automaton.specs.Words.{atom_automaton}
+use Rattle.place_automaton.proofs.CountLaws.{functional_sequential}
 use Rattle.algebra.proofs.Followed.{handed_on}
 use Rattle.spanner_model.specs.Expression.{atom}
 use Rattle.query_automaton.specs.Parts.{HasLargePartOf}
 use Rattle.query_automaton.specs.QueryAutomaton.{of_atom}
 use Rattle.query_automaton.proofs.PieceLaws.{atom_made, atom_fault, atom_small}
 use Rattle.query_automaton.proofs.expressions.atom_automaton.Goals as goal
+
+pub of_atom-requires-clause-sequential : goal.of_atom-requires-clause-sequential
+of_atom-requires-clause-sequential c = functional_sequential (tree_of c.args.atom.now.formula) c.requires.functional
 
 pub returns-in_err-whole-clause-fault : goal.returns-in_err-whole-clause-fault
 returns-in_err-whole-clause-fault c =

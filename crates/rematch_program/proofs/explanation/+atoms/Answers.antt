@@ -1,23 +1,31 @@
-use Rattle.std.proofs.Common.{◌∙◌, arith, sym, ap, subst, IfOk, List}
+use Rattle.std.proofs.Common.{◌∙◌, arith, inl, refl, sym, ap, subst, IfOk, List}
 use Rattle.span_core.proofs.HasLaws.{Has-slice_get}
 use Rattle.formula_parser.specs.Spells.{AtomTree}
 use Rattle.spanner_model.specs.ExprView.{expr_of, exprs_of}
 use Rattle.spanner_model.proofs.Nodes.{expr_nodes}
 use Rattle.spanner_model.proofs.ExprLaws.{union_size, part_size}
-use Rattle.spanner_model.proofs.ExprTrees.{expr_of-Union, expr_of-Join}
-use Rattle.rematch_program.specs.Explained.{HasLines, atoms_of}
+use Rattle.spanner_model.proofs.ExprTrees.{expr_of-Atom, expr_of-Union, expr_of-Join}
+use Rattle.rematch_program.specs.Explained.{AreCounted, HasLines, atom_at, atoms_of}
+use Rattle.rematch_program.proofs.CountedAtoms.{part_counted}
 use Rattle.rematch_program.proofs.AtomLines.{of_union, of_join, part_lines}
 use Rattle.rematch_program.proofs.explanation.+atoms.Goals as goal
 
+pub push_atoms-push_atom-requires : goal.push_atoms-push_atom-requires
+push_atoms-push_atom-requires t c =
+    let a = c.in-Atom.atom in
+    subst AreCounted (ap atoms_of (ap expr_of c.in-Atom.is ∙ expr_of-Atom a)) c.requires (atom_at a) (inl refl)
+
 pub push_atoms-push_parts-requires : goal.push_atoms-push_parts-requires
 push_atoms-push_parts-requires t c =
-    let size = ap expr_nodes (ap expr_of c.in-Union.is ∙ expr_of-Union c.in-Union.parts) ∙ union_size (exprs_of c.in-Union.parts) in
-    omega (arith, size)
+    let is = ap expr_of c.in-Union.is ∙ expr_of-Union c.in-Union.parts in
+    let size = ap expr_nodes is ∙ union_size (exprs_of c.in-Union.parts) in
+    (omega (arith, size), subst AreCounted (ap atoms_of is ∙ of_union (exprs_of c.in-Union.parts)) c.requires)
 
 pub push_atoms-push_parts-requires-in-Join : goal.push_atoms-push_parts-requires-in-Join
 push_atoms-push_parts-requires-in-Join t c =
-    let size = ap expr_nodes (ap expr_of c.in-Join.is ∙ expr_of-Join c.in-Join.parts) in
-    omega (arith, size)
+    let is = ap expr_of c.in-Join.is ∙ expr_of-Join c.in-Join.parts in
+    let size = ap expr_nodes is in
+    (omega (arith, size), subst AreCounted (ap atoms_of is ∙ of_join (exprs_of c.in-Join.parts)) c.requires)
 
 pub push_atoms-returns-in-Union : goal.push_atoms-returns-in-Union
 push_atoms-returns-in-Union t c =
@@ -34,7 +42,7 @@ push_parts-push_atoms-requires t c =
     let es = exprs_of c.args.parts.now in
     let g = expr_of c.at.result.now in
     let has = Has-slice_get es c.loop-k.k g c.at.ensures in
-    omega (arith, part_size es g has)
+    (omega (arith, part_size es g has), part_counted es g has c.requires)
 
 pub push_parts-loop-k-preserved : goal.push_parts-loop-k-preserved
 push_parts-loop-k-preserved t c =

@@ -2,8 +2,15 @@ use Rattle.std.specs.Prelude.{codes}
 use Rattle.spanner_model.specs.ExprView.{query_of}
 use Rattle.query_printer.specs.PrintedQuery.{query_text}
 use Rattle.rematch_program.specs.Explained.{atoms_in, atoms_of, names_text}
+use Rattle.rematch_program.proofs.CountedAtoms.{sound_body_counted, sound_lets_counted}
 use Rattle.rematch_program.proofs.AtomLines.{explained_text, more_lines}
 use Rattle.rematch_program.proofs.explanation.explanation.Goals as goal
+
+pub push_let_atoms-requires : goal.push_let_atoms-requires
+push_let_atoms-requires c = sound_lets_counted (query_of c.args.query.now) c.requires
+
+pub push_atoms-requires : goal.push_atoms-requires
+push_atoms-requires c = sound_body_counted (query_of c.args.query.now) c.requires
 
 pub returns : goal.returns
 returns c =

@@ -5,7 +5,7 @@ use Rattle.span_core.specs.Intervals.{Covers}
 use Rattle.place_automaton.specs.Atom.{AreBytes}
 use Rattle.place_automaton.specs.Words.{atom_automaton}
 use Rattle.marked_automaton.specs.Automaton.{size}
-use Rattle.query_automaton.specs.QueryAutomaton.{with_vars}
+use Rattle.place_automaton.specs.Variables.{with_vars}
 use Rattle.spanner_model.specs.View.{tree_of}
 use Rattle.segment_filter.specs.Costs.{backward_of, filter_weight, forward_of, pairs_met}
 use Rattle.segment_filter.specs.Sets.{MeetAt}

@@ -1,15 +1,18 @@
-use Rattle.std.proofs.Common.{◌≡◌, sym, subst, add-one, arith}
+use Rattle.std.proofs.Common.{sym, subst, add-one}
+use Rattle.span_core.specs.Lists.{Has}
 use Rattle.place_automaton.specs.Counts.{counts_cat, counts_at_most}
 use Rattle.place_automaton.specs.Capped.{AreCapped}
+use Rattle.place_automaton.proofs.NullCounts.{AreZero, zero_once, zero_sums}
 use Rattle.place_automaton.proofs.numbers.Numbers.at_most.Goals as goal
 
 pub loop-copy-preserved : goal.loop-copy-preserved
-loop-copy-preserved c = λ a p.
+loop-copy-preserved c =
     let n = c.loop-copy._copy in
-    subst (λ k. AreCapped (counts_at_most k a) c.opt-numbers.result) (sym (add-one n))
-    (c.opt-numbers.ensures (counts_cat a (counts_at_most n a)) (c.cat.ensures a (counts_at_most n a) p (c.loop-copy.invariant a p)))
-
-pub returns : goal.returns
-returns c = λ a p.
-    let e : c.loop-copy._copy ≡ c.args.count = omega arith in
-    subst (λ k. AreCapped (counts_at_most k a) c.loop-copy.numbers) e (c.loop-copy.invariant a p)
+    let i = c.loop-copy.invariant in
+    let both = c.in_ok-cat.field-0 in
+    let bare : AreZero both.null.items = λ m h.
+    zero_sums c.args.self.now.null.items c.loop-copy.numbers.null.items c.requires i.0 m (subst (λ ms. Has ms m) c.in_ok-cat.ensures.null h) in (
+      λ m h. zero_once both.null.items bare m (subst (λ ms. Has ms m) c.in_ok-numbers-2.ensures.null h),
+      λ a p. subst (λ k. AreCapped (counts_at_most k a) c.in_ok-numbers-2.numbers) (sym (add-one n))
+          (c.in_ok-numbers-2.ensures.capped (counts_cat a (counts_at_most n a)) (c.in_ok-cat.ensures.capped a (counts_at_most n a) p (i.1 a p))),
+    )

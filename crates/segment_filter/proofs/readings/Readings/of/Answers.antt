@@ -1,11 +1,15 @@
 use Rattle.std.proofs.Common.{◌≡◌, ◌+◌, ◌-◌, ◌⊎◌, true, false, inl, inr, ◌∙◌}
 use Rattle.std.specs.Prelude.{if◌then◌else◌}
 use Rattle.spanner_model.specs.View.{tree_of}
+use Rattle.place_automaton.proofs.CountLaws.{functional_sequential}
 use Rattle.filter_laws.specs.Sharing.{places_of}
 use Rattle.segment_filter.proofs.ReadingLaws.{last_place, plain_states, readings_made}
 use Rattle.segment_filter.proofs.CostLaws.{costs_made}
 use Rattle.segment_filter.proofs.readings.Readings.of.Goals as goal
 use Rattle.segment_filter.proofs.readings.Readings.of.Goals.{then-atom, else-atom}
+
+pub of_atom-requires-clause-sequential : goal.of_atom-requires-clause-sequential
+of_atom-requires-clause-sequential c = functional_sequential (tree_of c.args.atom.now.formula) c.requires.functional
 
 pub overflow_sub-most : goal.overflow_sub-most
 overflow_sub-most c =

@@ -1,0 +1,128 @@
+//! Lists of marker sets: those with which a formula fits the empty string.
+ghost use Rattle.std.specs.Prelude.{◌≡◌, ℕ, ◌+◌, ◌++◌, ◌∷◌, [], map, nat_eq, IfOk, IsTrue, OnOk};
+ghost use Rattle.std.specs.List.{list_any};
+ghost use Rattle.span_core.specs.Lists.{Has};
+ghost use Rattle.place_automaton.specs.Ends.{JoinAsSum};
+ghost use Rattle.place_automaton.specs.Places.{add_once, either_once, sums};
+
+use span_core::{Marks, OutOfMemory};
+use std::alloc::Global;
+
+/// The most pairs of sets that are looked at while an atom is counted, and again while it is placed. Past
+/// it memory is wanting: a few arms with fourteen captures each, all of which may be absent, come near it.
+pub(crate) const MOST_PAIRS: u64 = 400_000_000;
+
+/// Takes so many times so many pairs from those that may still be looked at.
+pub(crate) fn spend(front: usize, behind: usize, left: &mut u64) -> Result<(), OutOfMemory> {
+    let pairs = (front as u64).saturating_mul(behind as u64);
+    *left = left.checked_sub(pairs).ok_or(OutOfMemory)?;
+    Ok(())
+}
+
+/// The list of the one set without a marker.
+pub(crate) fn only_none(alloc: Global) -> Result<Vec<Marks>, OutOfMemory>
+    ensures { IfOk result (λ v. v.items ≡ 0 ∷ []) }
+{
+    let mut sets = Vec::new(alloc);
+    sets.push(Marks::none())?;
+    Ok(sets)
+}
+
+/// The same sets.
+pub(crate) fn copied_sets(alloc: Global, sets: &[Marks]) -> Result<Vec<Marks>, OutOfMemory>
+    ensures { IfOk result (λ v. v.items ≡ sets.now) }
+{
+    let mut copy = Vec::with_capacity(alloc, sets.len())?;
+    for set in sets {
+        copy.push(*set)?;
+    }
+    Ok(copy)
+}
+
+/// Whether the set is there.
+fn has_set(sets: &[Marks], marks: Marks) -> bool
+    ensures { result ≡ list_any (nat_eq marks) sets.now }
+{
+    for set in sets {
+        if marks.number() == set.number() {
+            return true;
+        }
+    }
+    false
+}
+
+/// Puts the set in front, unless it is there.
+pub(crate) fn add_unless_there(marks: Marks, sets: &mut Vec<Marks>) -> Result<(), OutOfMemory>
+    ensures { OnOk result (sets.new.items ≡ add_once marks sets.old.items) }
+{
+    if has_set(sets, marks) {
+        return Ok(());
+    }
+    sets.insert(0, marks)?;
+    Ok(())
+}
+
+/// Each set of the one or of the other, once.
+pub(crate) fn either_of(
+    mut front: Vec<Marks>,
+    behind: Vec<Marks>,
+) -> Result<Vec<Marks>, OutOfMemory>
+    ensures { IfOk result (λ v. v.items ≡ either_once front.items behind.items) }
+{
+    let mut all = behind;
+    while let Some(marks) = front.pop() {
+        add_unless_there(marks, &mut all)?;
+    }
+    Ok(all)
+}
+
+/// Whether the set without a marker is the only one.
+fn is_only_none(sets: &[Marks]) -> bool
+    ensures { IsTrue result → sets.now ≡ 0 ∷ [] }
+{
+    sets.len() == 1 && sets[0].is_none()
+}
+
+/// Each set of the one, joined with each of the other.
+pub(crate) fn joined_with(
+    alloc: Global,
+    front: &[Marks],
+    mut behind: Vec<Marks>,
+) -> Result<Vec<Marks>, OutOfMemory>
+    requires { (m n : ℕ) → Has front.now m → Has behind.items n → JoinAsSum m n }
+    ensures { IfOk result (λ v. v.items ≡ sums front.now behind.items) }
+{
+    if front.is_empty() {
+        behind.clear();
+        return Ok(behind);
+    }
+    if is_only_none(front) {
+        return Ok(behind);
+    }
+    let mut all = Vec::new(alloc);
+    for marks in front {
+        push_joined(*marks, &behind, &mut all)?;
+    }
+    Ok(all)
+}
+
+/// Adds the sets, each joined with these markers.
+fn push_joined(marks: Marks, behind: &[Marks], all: &mut Vec<Marks>) -> Result<(), OutOfMemory>
+    requires { (n : ℕ) → Has behind.now n → JoinAsSum marks n }
+    ensures { OnOk result (all.new.items ≡ all.old.items ++ map (◌+◌ marks) behind.now) }
+{
+    for set in behind {
+        all.push(marks.with(*set))?;
+    }
+    Ok(())
+}
+
+/// Joins each set with these markers.
+pub(crate) fn mark_each(marks: Marks, sets: &mut [Marks])
+    requires { (n : ℕ) → Has sets.old n → JoinAsSum marks n }
+    ensures { sets.new ≡ map (◌+◌ marks) sets.old }
+{
+    for set in sets.iter_mut() {
+        *set = marks.with(*set);
+    }
+}
