@@ -1,4 +1,4 @@
--- The bytes of a piece, one after another, where those that change nothing are passed over.
+-- The bytes of a piece, one after another.
 use Rattle.std.proofs.Common.{◌≡◌, ℕ, suc, ◌+◌, ◌<◌, true, List, [], ◌∷◌, ◌++◌, length, get_or, take, drop, inl, inr, refl, sym, ap, subst, arith, ◌∙◌}
 use Rattle.std.specs.Prelude.{IsTrue, ◌&&◌}
 use Rattle.std.specs.FinSet as bytes
@@ -20,24 +20,18 @@ use Rattle.one_pass.proofs.Composing.{stopped_before}
 use Rattle.one_pass.proofs.Faulting.{both_read, bytes_more, bytes_split, fault_before, read_none, ready_later, then_fault, then_stopped}
 use Rattle.one_pass.proofs.PlaceLaws.{stays_read}
 
--- all sets of the layer stay on each of these bytes
-abbrev pub StayOnAll : TableView → GraphView → ByteClass → Type 0
-StayOnAll t g stays = (b : ℕ) → b < 256 → IsTrue (bytes.contains stays b) → AllStayOn t g b
-
 -- so many bytes of the piece have been read
-pub record IsAdvanced (P : Pass) (at : ℕ) (piece : List ℕ) (i : ℕ) (Q : Pass) (stays : ByteClass) : Type 0 where
+pub record IsAdvanced (P : Pass) (at : ℕ) (piece : List ℕ) (i : ℕ) (Q : Pass) : Type 0 where
   pub read : HasRead P.table.graph (bytes_at at (take i piece)) P Q
   pub ready : IsReady Q (at + i)
-  pub stay : StayOnAll Q.table Q.graph stays
 
-pub advanced_none : (P : Pass) (at : ℕ) (piece : List ℕ) (stays : ByteClass) → IsReady P at → StayOnAll P.table P.graph stays → IsAdvanced P at piece 0 P stays
-advanced_none P at piece stays ready stay = record {
+pub advanced_none : (P : Pass) (at : ℕ) (piece : List ℕ) → IsReady P at → IsAdvanced P at piece 0 P
+advanced_none P at piece ready = record {
   read = read_none P.table.graph P;
   ready = ready_later P at (at + 0) ready (omega arith);
-  stay = stay;
 }
 
-module _ (P : Pass) (at : ℕ) (piece : List ℕ) (i : ℕ) (Q : Pass) (stays : ByteClass) (past : IsAdvanced P at piece i Q stays) where
+module _ (P : Pass) (at : ℕ) (piece : List ℕ) (i : ℕ) (Q : Pass) (past : IsAdvanced P at piece i Q) where
   -- all have been read
   pub advanced_read : i ≡ length piece → HasRead P.table.graph (bytes_at at piece) P Q
   advanced_read all =
@@ -57,21 +51,13 @@ module _ (P : Pass) (at : ℕ) (piece : List ℕ) (i : ℕ) (Q : Pass) (stays : 
     here = byte_at (at + i) b ∷ []
 
     -- one byte more has been read
-    pub advanced_more : (R : Pass) (later : ByteClass) → HasRead Q.table.graph here Q R → IsReady R (at + i + 1) → StayOnAll R.table R.graph later →
-        IsAdvanced P at piece (i + 1) R later
-    advanced_more R later read ready stay = record {
+    pub advanced_more : (R : Pass) → HasRead Q.table.graph here Q R → IsReady R (at + i + 1) → IsAdvanced P at piece (i + 1) R
+    advanced_more R read ready = record {
       read =
           subst (λ ps. HasRead P.table.graph ps P R) (sym (bytes_more at piece i within b refl))
           (both_read front here P Q (at + i) past.read past.ready R read);
       ready = ready_later R (at + i + 1) (at + (i + 1)) ready (omega arith);
-      stay = stay;
     }
-
-    -- or passed over
-    pub advanced_over : b < 256 → IsTrue (bytes.contains stays b) → IsAdvanced P at piece (i + 1) Q stays
-    advanced_over small is =
-        advanced_more Q stays (stays_read Q.table.graph (byte_at (at + i) b) Q (λ x h. (past.stay b small is x h).1))
-        (ready_later Q (at + i) (at + i + 1) past.ready (omega arith)) past.stay
 
     -- it was given up
     pub advanced_stopped : (after : Stop) → HasStopped Q.table.graph here Q after → HasStopped P.table.graph (bytes_at at piece) P after

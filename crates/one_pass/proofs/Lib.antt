@@ -4,6 +4,7 @@ pub mod Composing
 pub mod Ending
 pub mod Faulting
 pub mod GraphBridge
+pub mod KnownLaws
 pub mod LawProofs
 pub mod Numbered
 pub mod PartLaws
@@ -12,6 +13,7 @@ pub mod PlaceLaws
 pub mod ReadLaws
 pub mod ReadWords
 pub mod Results
+pub mod Running
 pub mod Sets
 pub mod Sources
 pub mod Stepping

@@ -205,10 +205,10 @@ module _ (A : Automaton) (p : Place) (P : Pass) where
           ]
 
           rows_now :
-              (Has Q.table.rows row_here × (t.rows ≡ Q.table.rows) × (n ≡ Q.steps + 1))
+              ((t.rows ≡ Q.table.rows) × (n ≤ Q.steps + 1))
               ⊎ (¬ Has Q.table.rows row_here × (t.rows ≡ Q.table.rows ++ row_here ∷ []) × (n ≤ Q.steps + (1 + size Q.table.graph))) →
               (row : Row) → Has t.rows row → Has P.table.rows row ⊎ Has asked_rows row
-          rows_now (inl same) row h = spent.table.rows row (subst (λ rows. Has rows row) same.1 h)
+          rows_now (inl same) row h = spent.table.rows row (subst (λ rows. Has rows row) same.0 h)
           rows_now (inr more) row h = before_or row (subst (λ rows. Has rows row) more.1 h)
 
       -- what making it took
@@ -219,10 +219,10 @@ module _ (A : Automaton) (p : Place) (P : Pass) where
           size_is = ap size graph_is
 
           by :
-              (Has Q.table.rows row_here × (t.rows ≡ Q.table.rows) × (n ≡ Q.steps + 1))
+              ((t.rows ≡ Q.table.rows) × (n ≤ Q.steps + 1))
               ⊎ (¬ Has Q.table.rows row_here × (t.rows ≡ Q.table.rows ++ row_here ∷ []) × (n ≤ Q.steps + (1 + size Q.table.graph))) →
               n + length Q.table.rows * size A ≤ Q.steps + 1 + length t.rows * size A
-          by (inl same) = let e = ap (λ (rows : List Row). length rows * size A) same.1 in omega (arith, e, same.2)
+          by (inl same) = let e = ap (λ (rows : List Row). length rows * size A) same.0 in omega (arith, e, same.1)
           by (inr more) =
               let e = ap (λ (rows : List Row). length rows * size A) more.1 in
               let l = ap (λ k. k * size A) (length-append Q.table.rows (row_here ∷ [])) in

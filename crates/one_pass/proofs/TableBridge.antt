@@ -35,14 +35,6 @@ same_asking r s e =
 asking_itself : (r : Asking) → asking_same r r ≡ true
 asking_itself r = both_true (nat_eq r.set r.set) (asked_same r.ask r.ask) (eq-eqb r.set r.set refl) (ask_itself r.ask)
 
-any_has : (rs : List Asking) (r : Asking) → list_any (asking_same r) rs ≡ true → Has rs r
-any_has [] r e = absurd (cc)
-any_has (s ∷ rs) r e = by (any_has rs r) (asking_same r s) refl e
-  where
-    by : (list_any (asking_same r) rs ≡ true → Has rs r) → (b : Bool) → asking_same r s ≡ b → (b || list_any (asking_same r) rs) ≡ true → Has (s ∷ rs) r
-    by rest true at e = inl (sym (same_asking r s at))
-    by rest false at e = inr (rest e)
-
 has_any : (rs : List Asking) (r : Asking) → Has rs r → list_any (asking_same r) rs ≡ true
 has_any [] r h = absurd h
 has_any (s ∷ rs) r (inl e) = ap (λ z. asking_same r z || list_any (asking_same r) rs) e ∙ ap (λ b. b || list_any (asking_same r) rs) (asking_itself r)
@@ -135,7 +127,7 @@ module _ (t : Tabled) (tabled : IsTabled t) (r : Asking) (given : r.set < length
         kept = ([], append-nil t.sets);
         sets = λ x h. inl h;
         sound = held_sound t after;
-        rows = inl (Has-map (row_in t.sets) t.asked r (any_has t.asked r at), refl, refl);
+        rows = inl (refl, omega arith);
       }
       by false at after =
           let kept = with_kept (reached t.graph (set_at t.sets r.set) r.ask) t.sets in

@@ -75,21 +75,6 @@ module _ (p : Place) (P : Pass) (at : ℕ) (ready : IsReady P at) (k : ℕ) (Q :
     made_here : HasMade Q.table t (row_of Q.table x.set p.ask) Q.steps n
     made_here = subst (λ row. HasMade Q.table t row Q.steps n) same_row made
 
-    pub turn_row : Has t.rows (row_of t set p.ask)
-    turn_row = subst (λ s. Has t.rows (let r : Row = record { set = s; ask = p.ask } in r)) (sym named) (by made.rows)
-      where
-        named : set_named t set ≡ set_named Q.table set
-        named = ap (λ (xs : List (List ℕ)). get_or xs set []) (sym made.kept.1) ∙ get_or_append_left Q.table.sets made.kept.0 [] set turn_given
-
-        by :
-            (Has Q.table.rows (row_of Q.table set p.ask) × (t.rows ≡ Q.table.rows) × (n ≡ Q.steps + 1))
-            ⊎ (¬ Has Q.table.rows (row_of Q.table set p.ask) × (t.rows ≡ Q.table.rows ++ row_of Q.table set p.ask ∷ []) × (n ≤ Q.steps + (1 + size Q.table.graph))) →
-            Has t.rows (row_of Q.table set p.ask)
-        by (inl same) = subst (λ rows. Has rows (row_of Q.table set p.ask)) (sym same.1) same.0
-        by (inr more) =
-            subst (λ rows. Has rows (row_of Q.table set p.ask)) (sym more.1)
-            (Has-append_right Q.table.rows (row_of Q.table set p.ask ∷ []) (row_of Q.table set p.ask) (inl refl))
-
     -- the edges of the set are those of the source
     pub turn_edges : edges t.graph (set_named t set) p.ask ≡ source_edges P.table.graph p P x
     turn_edges =

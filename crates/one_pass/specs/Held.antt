@@ -61,8 +61,8 @@ abbrev pub StaysOn : TableView → ℕ → ℕ → Type 0
 StaysOn t k b =
     Has t.rows (row_of t k (byte_read b)) × (edges t.graph (set_named t k) (byte_read b) ≡ record { marks = 0; to = set_named t k } ∷ [])
 
--- the row is there: either it was before and nothing changed, or it and the sets that it leads to were added;
--- that took one step, or at most one more than the size of the automaton
+-- what the row tells is known: either nothing changed, or it was not there, and it and the sets that it leads to were
+-- added; that took one step at most, or at most one more than the size of the automaton
 pub record HasMade (old new : TableView) (row : Row) (before after : ℕ) : Type 0 where
   pub graph : new.graph ≡ old.graph
   pub limit : new.limit ≡ old.limit
@@ -70,7 +70,7 @@ pub record HasMade (old new : TableView) (row : Row) (before after : ℕ) : Type
   pub sets : (set : List ℕ) → Has new.sets set → Has old.sets set ⊎ Has (targets old.graph row) set
   pub sound : IsSound new
   pub rows :
-      (Has old.rows row × (new.rows ≡ old.rows) × (after ≡ before + 1))
+      ((new.rows ≡ old.rows) × (after ≤ before + 1))
       ⊎ (¬ Has old.rows row × (new.rows ≡ old.rows ++ row ∷ []) × (after ≤ before + (1 + size old.graph)))
 
 -- what the table would hold with the row weighs this much, which is more than the limit

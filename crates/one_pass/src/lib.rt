@@ -6,6 +6,8 @@ pub use listing::read_rows;
 pub use pieces::{advance, finish};
 pub use reading::read;
 
+mod bytes;
+mod known;
 pub mod laws;
 mod listing;
 mod passes;

@@ -2,11 +2,14 @@
 ghost use Rattle.std.specs.Prelude.{◌≡◌, ℕ, ◌+◌, ◌*◌, ◌^◌, ◌<◌, ◌≤◌, min, [], ◌∷◌, length, IfErr, OnOk, OnErr};
 ghost use Rattle.span_core.specs.Intervals.{AreApart, Covers};
 ghost use Rattle.one_pass.specs.Faults.{IsFaultAt};
+ghost use Rattle.one_pass.specs.Known.{Knows};
 ghost use Rattle.one_pass.specs.Passes.{HasRead, HasStopped, IsReady, pass, stop};
 ghost use Rattle.one_pass.specs.Seen.{held, whole};
 ghost use Rattle.one_pass.specs.Places.{bytes_at, gap_at, part_places, parts_places};
 
-use crate::places::{stays_of, step_byte, step_rest};
+use crate::bytes::read_byte;
+use crate::known::Known;
+use crate::places::step_rest;
 use output_graph::OutputGraph;
 use set_table::{Table, TableFault};
 use span_core::Steps;
@@ -16,26 +19,27 @@ use std::sync::ledger::Ledger;
 pub fn read_piece<L: Ledger>(
     table: &mut Table<'_>,
     graph: &mut OutputGraph,
+    known: &mut Known,
     at: u32,
     piece: &[u8],
     steps: &mut Steps<L>,
 ) -> Result<(), TableFault>
+    requires known { Knows (held table.old) known.old }
     requires ready { IsReady (pass (held table.old) (whole graph.old) steps.old) at }
     requires few { at + length piece.now < 2 ^ 32 }
     ensures read { OnOk result (HasRead table.old.graph (bytes_at at piece.now) (pass (held table.old) (whole graph.old) steps.old) (pass (held table.new) (whole graph.new) steps.new)) }
     ensures ready { OnOk result (IsReady (pass (held table.new) (whole graph.new) steps.new) (at + length piece.now)) }
+    ensures known { OnOk result (Knows (held table.new) known.new) }
     ensures stopped { OnErr result (HasStopped table.old.graph (bytes_at at piece.now) (pass (held table.old) (whole graph.old) steps.old) (stop (held table.new) steps.new)) }
     ensures cause { IfErr result (λ e. IsFaultAt (bytes_at at piece.now) (pass (held table.old) (whole graph.old) steps.old) e) }
 {
-    let mut stays = stays_of(table, graph);
+    table.start();
+    let mut layer = known.stand(table, graph);
     for (i, byte) in piece.iter().enumerate() {
-        if stays.contains(*byte) {
-            continue;
-        }
-        if let Err(fault) = step_byte(table, graph, at + i as u32, *byte, steps) {
-            return Err(fault);
-        }
-        stays = stays_of(table, graph);
+        layer = match read_byte(table, graph, known, layer, at + i as u32, *byte, steps) {
+            Ok(next) => next,
+            Err(fault) => return Err(fault),
+        };
     }
     Ok(())
 }
@@ -64,11 +68,13 @@ fn read_gap<L: Ledger>(
 fn read_part<L: Ledger>(
     table: &mut Table<'_>,
     graph: &mut OutputGraph,
+    known: &mut Known,
     doc: &[u8],
     at: u32,
     part: (u32, u32),
     steps: &mut Steps<L>,
 ) -> Result<(), TableFault>
+    requires known { Knows (held table.old) known.old }
     requires ready { IsReady (pass (held table.old) (whole graph.old) steps.old) at }
     requires later { at ≤ part.0 }
     requires rising { part.0 ≤ part.1 }
@@ -76,6 +82,7 @@ fn read_part<L: Ledger>(
     requires few { length doc.now ≤ 2 ^ 28 }
     ensures read { OnOk result (HasRead table.old.graph (part_places at part doc.now) (pass (held table.old) (whole graph.old) steps.old) (pass (held table.new) (whole graph.new) steps.new)) }
     ensures ready { OnOk result (IsReady (pass (held table.new) (whole graph.new) steps.new) (min (part.1 + 1) (length doc.now))) }
+    ensures known { OnOk result (Knows (held table.new) known.new) }
     ensures stopped { OnErr result (HasStopped table.old.graph (part_places at part doc.now) (pass (held table.old) (whole graph.old) steps.old) (stop (held table.new) steps.new)) }
     ensures cause { IfErr result (λ e. IsFaultAt (part_places at part doc.now) (pass (held table.old) (whole graph.old) steps.old) e) }
 {
@@ -84,17 +91,19 @@ fn read_part<L: Ledger>(
     }
     let first = part.0 as usize;
     let end = (part.1 as usize + 1).min(doc.len());
-    read_piece(table, graph, part.0, &doc[first..end], steps)
+    read_piece(table, graph, known, part.0, &doc[first..end], steps)
 }
 
 /// Reads intervals of positions that ascend, and the gaps before, between and behind them.
 pub fn read_parts<L: Ledger>(
     table: &mut Table<'_>,
     graph: &mut OutputGraph,
+    known: &mut Known,
     doc: &[u8],
     parts: &[(u32, u32)],
     steps: &mut Steps<L>,
 ) -> Result<(), TableFault>
+    requires known { Knows (held table.old) known.old }
     requires ready { IsReady (pass (held table.old) (whole graph.old) steps.old) 0 }
     requires apart { AreApart parts.now }
     requires within { (q : ℕ) → Covers parts.now q → q ≤ length doc.now }
@@ -106,7 +115,7 @@ pub fn read_parts<L: Ledger>(
 {
     let mut at = 0;
     for part in parts {
-        if let Err(fault) = read_part(table, graph, doc, at, *part, steps) {
+        if let Err(fault) = read_part(table, graph, known, doc, at, *part, steps) {
             return Err(fault);
         }
         at = part.1 + 1;

@@ -8,6 +8,7 @@ ghost use Rattle.one_pass.specs.Passes.{HasEnded, HasRead, HasStopped, HasStoppe
 ghost use Rattle.one_pass.specs.Places.{bytes_at, end_at};
 ghost use Rattle.one_pass.specs.Seen.{ending_from, held, whole};
 
+use crate::known::Known;
 use crate::passes::read_piece;
 use crate::places::end_layer;
 use output_graph::OutputGraph;
@@ -25,7 +26,7 @@ use std::sync::ledger::Ledger;
 /// steps. `TableFault::Full` comes only where what the table holds and what reading the piece asks for weigh more
 /// than its limit.
 pub fn advance<L: Ledger>(
-    _alloc: Global,
+    alloc: Global,
     table: &mut Table<'_>,
     graph: OutputGraph,
     at: u32,
@@ -42,7 +43,8 @@ pub fn advance<L: Ledger>(
     let mut graph = graph;
     table.start();
     graph.is_graph();
-    if let Err(fault) = read_piece(table, &mut graph, at, piece, steps) {
+    let mut known = Known::new(alloc);
+    if let Err(fault) = read_piece(table, &mut graph, &mut known, at, piece, steps) {
         return Err(fault);
     }
     Ok(graph)

@@ -10,6 +10,7 @@ ghost use Rattle.output_graph.specs.Graph.{sets_of};
 ghost use Rattle.one_pass.specs.Places.{AreReadWords, is_touched};
 ghost use Rattle.one_pass.specs.Seen.{accepted_words, held};
 
+use crate::known::Known;
 use crate::passes::read_parts;
 use crate::places::end_layer;
 use output_graph::OutputGraph;
@@ -48,7 +49,8 @@ pub fn read<L: Ledger>(
         Ok(graph) => graph,
         Err(OutOfMemory) => return Err(TableFault::OutOfMemory),
     };
-    if let Err(fault) = read_parts(table, &mut graph, doc, positions.parts(), steps) {
+    let mut known = Known::new(alloc);
+    if let Err(fault) = read_parts(table, &mut graph, &mut known, doc, positions.parts(), steps) {
         return Err(fault);
     }
     if let Err(fault) = end_layer(table, &mut graph, doc.len() as u32, steps) {

@@ -15,6 +15,8 @@ pub mod LayerLaws
 pub mod SteppedLaws
 pub mod PlaceLaws
 pub mod GraphLaws
+pub mod ProgramLaws
+pub mod GoingLaws
 pub mod OrderLemmas
 pub mod Handing
 pub mod TurnLaws

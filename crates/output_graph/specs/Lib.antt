@@ -4,6 +4,7 @@ pub mod Forward
 pub mod Source
 pub mod Sets
 pub mod Graph
+pub mod Programs
 pub mod Sound
 pub mod Turn
 pub mod RowLists

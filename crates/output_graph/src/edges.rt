@@ -3,6 +3,8 @@ ghost use Rattle.std.specs.Prelude.{◌≡◌, ◌≤◌, ◌<◌, ◌+◌, ℕ,
 ghost use Rattle.span_core.specs.Lists.{Has};
 ghost use Rattle.node_arena.specs.Cells.{HasCell, hold, with_hold, less_hold, new_link};
 ghost use Rattle.output_graph.specs.Forward.{cell_of, set_cell};
+ghost use Rattle.output_graph.specs.Graph.{sets_of};
+ghost use Rattle.output_graph.specs.Programs.{place_in};
 ghost use Rattle.output_graph.specs.Source.{Edges};
 ghost use Rattle.output_graph.specs.Sound.{CanEnd, HasEnded, IsSpent, edges_of, edges_of_ends};
 
@@ -14,16 +16,18 @@ use std::sync::ledger::Ledger;
 /// The one set of accepted words, which ends lead to.
 pub const ACCEPTED: u32 = 0;
 
-/// One edge, by a new cell for its target.
-fn link_edge<L: Ledger>(
+/// One edge, by a new cell for its target, whose place is known.
+pub fn link_edge<L: Ledger>(
     arena: &mut Arena,
     next: &mut Layer,
     source: Cell,
     at: u32,
     marks: Marks,
     to: u32,
+    place: usize,
     steps: &mut Steps<L>,
 ) -> Cell
+    requires placed { place ≡ place_in (sets_of next.old.pairs) to }
     requires spare { 1 ≤ arena.old.spare }
     requires room { 1 ≤ next.old.room }
     requires covered { to < next.old.known }
@@ -38,21 +42,24 @@ fn link_edge<L: Ledger>(
     ensures known { next.new.known ≡ next.old.known }
     ensures steps { steps.new ≡ steps.old + 1 }
 {
-    let also = next.cell_of(to);
+    let also = next.cell_at(place);
     let cell = arena.link(at, marks, source, also, steps);
-    next.put(to, cell);
+    next.put_at(place, to, cell);
     cell
 }
 
-/// The edge without marks, which is a source's last. The target takes the source's cell, where it has none.
-fn pass_on<L: Ledger>(
+/// The edge without marks, which is a source's last. The target, whose place is known, takes the source's cell, where it
+/// has none.
+pub fn pass_on<L: Ledger>(
     arena: &mut Arena,
     next: &mut Layer,
     source: Cell,
     at: u32,
     to: u32,
+    place: usize,
     steps: &mut Steps<L>,
 )
+    requires placed { place ≡ place_in (sets_of next.old.pairs) to }
     requires can { CanEnd at source ((0, to) ∷ []) arena.old.cells next.old.pairs arena.old.holds }
     requires spare { 1 ≤ arena.old.spare }
     requires room { 1 ≤ next.old.room }
@@ -60,11 +67,15 @@ fn pass_on<L: Ledger>(
     ensures ended { HasEnded at source ((0, to) ∷ []) arena.old.cells next.old.pairs arena.old.holds arena.new.cells next.new.pairs arena.new.holds }
     ensures spent { IsSpent 1 (length arena.old.cells) (length arena.new.cells) steps.old steps.new }
     ensures counted { steps.old ≤ steps.new }
+    ensures next { (c : ℕ) × (next.new.pairs ≡ set_cell next.old.pairs to c) }
+    ensures spare { arena.old.spare ≤ arena.new.spare + 1 }
+    ensures room { next.old.room ≤ next.new.room + 1 }
+    ensures known { next.new.known ≡ next.old.known }
 {
-    match next.cell_of(to) {
-        None => next.put(to, source),
+    match next.cell_at(place) {
+        None => next.put_at(place, to, source),
         Some(_) => {
-            let _cell = link_edge(arena, next, source, at, Marks::none(), to, steps);
+            let _cell = link_edge(arena, next, source, at, Marks::none(), to, place, steps);
             arena.release(source, steps);
         }
     }
@@ -88,10 +99,11 @@ pub fn make_edges<L: Ledger>(
     ensures counted { steps.old ≤ steps.new }
 {
     for edge in edges {
+        let place = next.place_for(edge.to);
         if edge.marks.is_none() {
-            return pass_on(arena, next, source, at, edge.to, steps);
+            return pass_on(arena, next, source, at, edge.to, place, steps);
         }
-        let _cell = link_edge(arena, next, source, at, edge.marks, edge.to, steps);
+        let _cell = link_edge(arena, next, source, at, edge.marks, edge.to, place, steps);
     }
     arena.release(source, steps);
 }
@@ -114,10 +126,11 @@ pub fn make_ends<L: Ledger>(
     ensures counted { steps.old ≤ steps.new }
 {
     for marks in ends {
+        let place = next.place_for(ACCEPTED);
         if marks.is_none() {
-            return pass_on(arena, next, source, at, ACCEPTED, steps);
+            return pass_on(arena, next, source, at, ACCEPTED, place, steps);
         }
-        let _cell = link_edge(arena, next, source, at, *marks, ACCEPTED, steps);
+        let _cell = link_edge(arena, next, source, at, *marks, ACCEPTED, place, steps);
     }
     arena.release(source, steps);
 }

@@ -6,9 +6,12 @@ ghost use Rattle.output_graph.specs.Source.{Descend};
 ghost use Rattle.output_graph.specs.Graph.{HasWord, sources, targets, sets_of, IsPlace, IsStepped, IsCost, IsReached, AreApart};
 ghost use Rattle.output_graph.specs.Sound.{edges_of, edges_of_ends};
 ghost use Rattle.output_graph.specs.Loop.{AreListed};
+ghost use Rattle.output_graph.specs.Programs.{IsRun};
 
 use crate::edges::{ACCEPTED, make_edges, make_ends};
 use crate::layer::Layer;
+use crate::moves::make_all;
+use crate::program::Program;
 use crate::row_lists::RowLists;
 use crate::turning::turn_cells;
 use node_arena::Arena;
@@ -140,8 +143,7 @@ impl OutputGraph {
         ensures sources { sources self.new ≡ targets self.old }
         ensures targets { targets self.new ≡ [] }
     {
-        mem::swap(&mut self.layer, &mut self.next);
-        self.next.clear();
+        exchange(&mut self.layer, &mut self.next);
         self.stepped = 0;
     }
 
@@ -173,6 +175,41 @@ impl OutputGraph {
         make_edges(&mut self.arena, &mut self.next, source, at, edges, steps);
         self.stepped = k + 1;
         self.at = at;
+        Ok(())
+    }
+
+    /// Leads the words of every source of the layer on by a program, all at this position, and goes to the next layer, as
+    /// `step_source` does for one source after another and `next_layer` behind them. After a refusal the graph is as
+    /// it was. At most 2 steps for each edge, 2 for each source, and 1 for each cell that is given back.
+    pub fn step_layer<L: Ledger>(
+        &mut self,
+        at: u32,
+        program: &Program,
+        steps: &mut Steps<L>,
+    ) -> Result<(), OutOfMemory>
+        requires begun { self.old.stepped ≡ 0 }
+        requires every { length program.now.groups ≡ length self.old.layer }
+        requires place { IsPlace self.old at }
+        ensures run { OnOk result (IsRun self.old at program.now.groups self.new steps.old steps.new) }
+        ensures targets { OnOk result (sets_of self.new.layer ≡ program.now.targets) }
+        ensures refused { OnErr result (self.new ≡ self.old) }
+        ensures uncounted { OnErr result (steps.new ≡ steps.old) }
+    {
+        self.arena.is_arena();
+        self.arena.reserve(program.moves.len())?;
+        self.next.reserve(program.moves.len())?;
+        self.next.cover(program.largest)?;
+        make_all(
+            &mut self.arena,
+            &self.layer,
+            &mut self.next,
+            at,
+            self.at,
+            program.counts.as_slice(),
+            program.moves.as_slice(),
+            steps,
+        );
+        exchange(&mut self.layer, &mut self.next);
         Ok(())
     }
 
@@ -226,6 +263,15 @@ impl OutputGraph {
         let held = accept;
         turn_cells(arena.close(held, steps), accept, steps)
     }
+}
+
+/// Makes the next layer the layer, and leaves the next one empty.
+fn exchange(layer: &mut Layer, next: &mut Layer)
+    ensures layer { layer.new.pairs ≡ next.old.pairs }
+    ensures next { next.new.pairs ≡ [] }
+{
+    mem::swap(layer, next);
+    next.clear();
 }
 
 /// Makes room for the targets of these edges.

@@ -1,6 +1,8 @@
 //! Sets, each with the cell that has its words.
 ghost use Rattle.std.specs.Prelude.{◌≡◌, ◌≤◌, ◌<◌, ◌+◌, ◌^◌, ℕ, [], length, slice_get, Some, IfOk, OnOk, MatchOption};
 ghost use Rattle.output_graph.specs.Forward.{cell_of, set_cell};
+ghost use Rattle.output_graph.specs.Graph.{sets_of};
+ghost use Rattle.output_graph.specs.Programs.{place_in};
 ghost use Rattle.output_graph.specs.Sets.{HasNot, paired, cells_in};
 
 use node_arena::Cell;
@@ -116,12 +118,45 @@ impl Layer {
         ensures room { self.old.room ≤ self.new.room + 1 }
         ensures known { self.new.known ≡ self.old.known }
     {
+        let place = self.place_for(set);
+        self.put_at(place, set, cell);
+    }
+
+    /// The place of a set, or how many there are.
+    pub fn place_for(&self, set: u32) -> usize
+        ensures { result ≡ place_in (sets_of self.now.pairs) set }
+    {
         match self.place_of(set) {
-            Some(k) => self.pairs[k] = (set, cell),
-            None => {
-                self.places[set as usize] = self.pairs.len();
-                self.pairs.push_reserved((set, cell));
-            }
+            Some(k) => k,
+            None => self.pairs.len(),
+        }
+    }
+
+    /// The cell of the set of a place, if it is there.
+    pub fn cell_at(&self, place: usize) -> Option<Cell>
+        ensures { (s : ℕ) → place ≡ place_in (sets_of self.now.pairs) s → result ≡ cell_of self.now.pairs s }
+    {
+        if place < self.pairs.len() {
+            Some(self.pairs[place].1)
+        } else {
+            None
+        }
+    }
+
+    /// As `put`, where the place is known.
+    pub fn put_at(&mut self, place: usize, set: u32, cell: Cell)
+        requires placed { place ≡ place_in (sets_of self.old.pairs) set }
+        requires room { 1 ≤ self.old.room }
+        requires covered { set < self.old.known }
+        ensures pairs { self.new.pairs ≡ set_cell self.old.pairs set cell }
+        ensures room { self.old.room ≤ self.new.room + 1 }
+        ensures known { self.new.known ≡ self.old.known }
+    {
+        if place < self.pairs.len() {
+            self.pairs[place] = (set, cell);
+        } else {
+            self.places[set as usize] = self.pairs.len();
+            self.pairs.push_reserved((set, cell));
         }
     }
 

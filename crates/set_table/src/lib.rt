@@ -2,6 +2,7 @@
 #![tactic(auto)]
 
 pub use fault::TableFault;
+pub use sets::Sets;
 pub use state::TableState;
 pub use table::Table;
 

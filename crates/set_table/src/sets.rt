@@ -1,4 +1,4 @@
-//! Sets of states with numbers.
+//! Lists of numbers, each with a number of its own.
 ghost use Rattle.std.specs.Prelude.{◌≡◌, ℕ, ◌+◌, ◌<◌, ◌≤◌, ◌++◌, List, [], length, take, slice_get, Some, OnOk, OnErr, IfOk};
 ghost use Rattle.span_core.specs.Lists.{AreDistinct};
 ghost use Rattle.set_table.specs.Tabled.{set_at, with_set};
@@ -8,9 +8,10 @@ use span_core::OutOfMemory;
 use std::alloc::Global;
 use std::marker::Model;
 
-/// Lists of states, no two of them the same, each with its number: that of its place.
+/// Lists of numbers, as of the states of a set or the sets of a layer, no two of them the same, each with its number:
+/// that of its place.
 #[derive(Drop)]
-pub(crate) struct Sets {
+pub struct Sets {
     index: IndexSet<Vec<u32>>,
 }
 
@@ -25,7 +26,7 @@ impl Model for Sets {
 
 impl Sets {
     /// No set.
-    pub(crate) fn new(alloc: Global) -> Sets
+    pub fn new(alloc: Global) -> Sets
         ensures { result ≡ [] }
     {
         Sets {
@@ -34,7 +35,7 @@ impl Sets {
     }
 
     /// How many there are.
-    pub(crate) fn len(&self) -> usize
+    pub fn len(&self) -> usize
         ensures value { result ≡ length self.now }
         ensures apart { AreDistinct self.now }
     {
@@ -42,7 +43,7 @@ impl Sets {
     }
 
     /// The set of a number.
-    pub(crate) fn at(&self, number: usize) -> &[u32]
+    pub fn at(&self, number: usize) -> &[u32]
         requires { number < length self.now }
         ensures { result.now ≡ set_at self.now number }
     {
@@ -50,7 +51,7 @@ impl Sets {
     }
 
     /// The number of a set, which comes last if it is new. On refusal nothing has changed.
-    pub(crate) fn number_of(&mut self, set: Vec<u32>) -> Result<usize, OutOfMemory>
+    pub fn number_of(&mut self, set: Vec<u32>) -> Result<usize, OutOfMemory>
         ensures sets { OnOk result (self.new ≡ with_set self.old set.items) }
         ensures number { IfOk result (λ k. slice_get self.new k ≡ Some set.items) }
         ensures err { OnErr result (self.new ≡ self.old) }
@@ -60,7 +61,7 @@ impl Sets {
     }
 
     /// Keeps the first sets alone, so many as it says.
-    pub(crate) fn truncate(&mut self, count: usize)
+    pub fn truncate(&mut self, count: usize)
         ensures { self.new ≡ take count self.old }
     {
         self.index.truncate(count);

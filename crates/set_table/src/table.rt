@@ -1,5 +1,5 @@
 //! Tables.
-ghost use Rattle.std.specs.Prelude.{◌≡◌, ℕ, ◌+◌, ◌<◌, ◌≤◌, List, [], ◌∷◌, length, IfOk, IfErr, OnOk, OnErr, MatchResult, Some, slice_get, ◌↔◌, IsTrue};
+ghost use Rattle.std.specs.Prelude.{◌≡◌, ℕ, ◌+◌, ◌<◌, ◌≤◌, List, [], ◌∷◌, length, IfOk, IfErr, IfSome, OnOk, OnErr, MatchResult, Some, slice_get, ◌↔◌, IsTrue};
 ghost use Rattle.automaton_reading.specs.Reading.{byte_read, rest_taken, ended};
 ghost use Rattle.std.specs.FinSet as bytes;
 ghost use Rattle.std.specs.Borrow.{sem};
@@ -182,6 +182,20 @@ impl<'a> Table<'a> {
         steps.tick();
         let number = self.ask(set, Question::Byte(byte))?;
         Ok(self.edges_at(number))
+    }
+
+    /// The edges of a set on a byte, where there is that set and they were asked before. It takes no step: nothing is made.
+    pub fn asked_row(&self, set: u32, byte: u8) -> Option<&[Edge]>
+        ensures { IfSome result (λ es. (set < length self.now.sets) × HasEdges self.now (asking set (byte_read byte)) es.now) }
+    {
+        if self.store.sets.len() <= set as usize {
+            return None;
+        }
+        let number = self.store.numbers.at(place_of(set, Question::Byte(byte)));
+        if number == 0 {
+            return None;
+        }
+        Some(self.edges_at(number as usize - 1))
     }
 
     /// The set of a set's idle members; none exactly where no member is idle. It is made where it was not

@@ -8,7 +8,11 @@ use Rattle.one_pass.specs.Places.{bytes_at, gap_at}
 use Rattle.one_pass.proofs.Composing.{stopped_before}
 use Rattle.one_pass.proofs.Faulting.{both_read, fault_before, then_fault, then_stopped}
 use Rattle.one_pass.proofs.Results.{if_err, on_err, on_ok}
+use Rattle.one_pass.proofs.KnownLaws.{known_read}
 use Rattle.one_pass.proofs.passes.read_part.Goals as goal
+
+pub read_piece-requires-clause-known : goal.read_piece-requires-clause-known
+read_piece-requires-clause-known g c = known_read _ _ _ _ _ _ _ c.in_default.ensures.read.table c.requires.known
 
 pub returns-in-Err-clause-stopped : goal.returns-in-Err-clause-stopped
 returns-in-Err-clause-stopped g c =

@@ -1,3 +1,4 @@
+use Rattle.one_pass.specs.Known.{Knows, Stands}
 use Rattle.one_pass.specs.Seen.{held, whole}
 use Rattle.one_pass.specs.Passes.{pass}
 use Rattle.one_pass.proofs.Advancing.{IsAdvanced}
@@ -5,5 +6,8 @@ use Rattle.one_pass.proofs.passes.read_piece.Given as goal
 
 -- the bytes so far have been read
 abbrev pub invariant-loop-i : goal.invariant-loop-i
-invariant-loop-i g l =
-    IsAdvanced (pass (held l.fn.table) (whole l.fn.graph) l.fn.steps) l.at l.piece l.i (pass (held l.table) (whole l.graph) l.steps) l.stays
+invariant-loop-i g l = record {
+  advanced : IsAdvanced (pass (held l.fn.table) (whole l.fn.graph) l.fn.steps) l.at l.piece l.i (pass (held l.table) (whole l.graph) l.steps);
+  known : Knows (held l.table) l.known;
+  stands : Stands (held l.table) l.graph l.known l.layer;
+}

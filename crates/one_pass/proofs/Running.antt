@@ -1,0 +1,118 @@
+-- A layer that is stepped by a program of its sets' edges has been read.
+use Rattle.std.proofs.Common.{◌≡◌, ℕ, zero, suc, ◌+◌, ◌<◌, ◌≤◌, List, [], ◌∷◌, length, drop, take, map, Some, None, inl, inr, refl, sym, ap, subst, arith, ◌∙◌, add-one}
+use Rattle.std.specs.Prelude.{slice_get}
+use Rattle.std.proofs.lemmas.List.{append-nil, length-map}
+use Rattle.std.proofs.lemmas.Option.{slice_get_within}
+use Rattle.span_core.specs.Lists.{Has}
+use Rattle.span_core.proofs.HasLaws.{Has-map}
+use Rattle.automaton_reading.specs.Reading.{byte_read, edges}
+use Rattle.set_table.specs.Tabled.{Tabled}
+use Rattle.output_graph.specs.Graph.{Graph, IsStepped, Source, sets_of, sources, targets}
+use Rattle.output_graph.specs.Programs.{AreStepped, IsNext, IsRun}
+use Rattle.output_graph.specs.Source.{Edges}
+use Rattle.one_pass.specs.Held.{row_of, set_named}
+use Rattle.one_pass.specs.Known.{AreRows, AreStill}
+use Rattle.one_pass.specs.Layers.{numbers_of}
+use Rattle.one_pass.specs.Passes.{HasRead, IsReady, pass}
+use Rattle.one_pass.specs.Places.{byte_at}
+use Rattle.one_pass.specs.Seen.{held, stepping_from, whole}
+use Rattle.one_pass.specs.Turned.{HasTurned, IsTurned}
+use Rattle.one_pass.proofs.Faulting.{ready_later}
+use Rattle.one_pass.proofs.GraphBridge.{own_cost, turned_none}
+use Rattle.one_pass.proofs.PlaceLaws.{block_at, stays_read}
+use Rattle.one_pass.proofs.Sources.{layer_count, stepping_begun, stepping_turned}
+use Rattle.one_pass.proofs.Stepping.{IsStepping}
+use Rattle.one_pass.proofs.Turns.{turns_read, turns_ready}
+
+drop_first : (xs : List ℕ) (k s : ℕ) (rest : List ℕ) → drop k xs ≡ s ∷ rest → slice_get xs k ≡ Some s
+drop_first [] zero s rest e = cc
+drop_first [] (suc k) s rest e = cc
+drop_first (x ∷ xs) zero s rest e = ap Some (first x s xs rest e)
+  where
+    first : (x y : ℕ) (xs ys : List ℕ) → x ∷ xs ≡ y ∷ ys → x ≡ y
+    first x y xs ys e = cc
+drop_first (x ∷ xs) (suc k) s rest e = drop_first xs k s rest e
+
+drop_rest : (xs : List ℕ) (k s : ℕ) (rest : List ℕ) → drop k xs ≡ s ∷ rest → drop (suc k) xs ≡ rest
+drop_rest [] zero s rest e = cc
+drop_rest [] (suc k) s rest e = cc
+drop_rest (x ∷ xs) zero s rest e = later x s xs rest e
+  where
+    later : (x y : ℕ) (xs ys : List ℕ) → x ∷ xs ≡ y ∷ ys → xs ≡ ys
+    later x y xs ys e = cc
+drop_rest (x ∷ xs) (suc k) s rest e = drop_rest xs k s rest e
+
+module _ (T : Tabled) (G0 : Graph) (n0 at b : ℕ) (ready : IsReady (pass (held T) (whole G0) n0) at) where
+  fresh : IsTurned (sources G0) 0 at G0
+  fresh = turned_none G0 at ready.fresh.0 ready.past
+
+  -- the first so many sources have been stepped
+  abbrev SoFar : ℕ → Graph → ℕ → Type 0
+  SoFar k G n =
+      IsStepping T.graph (byte_at at b) (pass (held T) (whole G0) n0) (take k (sources G0)) (pass (held T) (stepping_from (sources G0) G) n)
+      × IsTurned (sources G0) k at G
+
+  one_more : (k s : ℕ) (group : Edges) (G H : Graph) (n m : ℕ) → slice_get (sets_of G0.layer) k ≡ Some s → Rattle.one_pass.specs.Known.IsRow (held T) b s group → SoFar k G n →
+      IsStepped G at group H → Rattle.output_graph.specs.Graph.IsCost (length group) (length G.cells) (length H.cells) n m → Rattle.output_graph.specs.Graph.AreApart (targets H) → SoFar (k + 1) H m
+  one_more k s group G H n m is row past stepped cost apart =
+      let w : k < length (sets_of G0.layer) = slice_get_within (sets_of G0.layer) k s is in
+      let l : length (sets_of G0.layer) ≡ length G0.layer = length-map G0.layer (λ (p : ℕ × ℕ). p.0) in
+      let turned : HasTurned T T s (byte_read b) at G H n m = record {
+        middle = n;
+        made = record {
+          graph = refl;
+          limit = refl;
+          kept = ([], append-nil T.sets);
+          sets = λ set h. inl h;
+          sound = ready.sound;
+          rows = inl (refl, omega arith);
+        };
+        by = row.by;
+        numbered = row.numbered;
+        stepped = subst (λ (es : Edges). IsStepped G at es H) (sym row.are) stepped;
+        cost = subst (λ j. Rattle.one_pass.specs.Layers.HasCost j (length G.cells) (length H.cells) n m)
+            (ap length (sym row.are) ∙ length-map row.by (λ (e : Rattle.span_core.specs.declared.edge.Edge.Edge). (e.marks, e.to)))
+            (own_cost (length group) (length G.cells) (length H.cells) n m cost);
+      } in
+      stepping_turned T G0 n0 at ready k T G n (omega arith) past.1 s (subst (λ (xs : List ℕ). slice_get xs k ≡ Some s) (fresh.sets ∙ sym past.1.sets) is)
+      (byte_at at b) refl past.0 T H m turned apart.distinct
+
+  going : (groups : List Edges) (sets : List ℕ) (k : ℕ) (G H : Graph) (n m : ℕ) → drop k (sets_of G0.layer) ≡ sets → AreRows (held T) b sets groups → SoFar k G n → AreStepped G at groups H n m →
+      (j : ℕ) × SoFar j H m
+  going [] sets k G H n m is rows past (same, count) = (k, subst (λ j. SoFar k H j) count (subst (λ (X : Graph). SoFar k X n) same past))
+  going (group ∷ groups) [] k G H n m is rows past run = absurd rows
+  going (group ∷ groups) (s ∷ sets) k G H n m is rows past (M, middle, stepped, cost, apart, later) =
+      going groups sets (k + 1) M H middle m (ap (λ j. drop j (sets_of G0.layer)) (add-one k) ∙ drop_rest (sets_of G0.layer) k s sets is) rows.1
+      (one_more k s group G M n middle (drop_first (sets_of G0.layer) k s sets is) rows.0 past stepped cost apart) later
+
+  module _ (groups : List Edges) (H : Graph) (m : ℕ) (rows : AreRows (held T) b (sets_of G0.layer) groups) (run : IsRun G0 at groups H n0 m) where
+    all : (j : ℕ) × SoFar j run.0 m
+    all = going groups (sets_of G0.layer) 0 G0 run.0 n0 m refl rows (stepping_begun T G0 n0 at ready (byte_at at b)) run.1
+
+    every : all.0 ≡ length (sources G0)
+    every =
+        let a = all.1.1.stepped in
+        let c = run.2.every in
+        let d = Rattle.one_pass.proofs.GraphBridge.turned_count (sources G0) all.0 at run.0 all.1.1 in
+        omega arith
+
+    pub run_read : HasRead T.graph (byte_at at b ∷ []) (pass (held T) (whole G0) n0) (pass (held T) (whole H) m)
+    run_read =
+        turns_read (byte_at at b) (pass (held T) (whole G0) n0) at all.0 ready (pass (held T) (stepping_from (sources G0) run.0) m) all.1.0 every
+        (whole H) run.2.sources (ap length run.2.cells)
+
+    pub run_ready : IsReady (pass (held T) (whole H) m) (at + 1)
+    run_ready =
+        turns_ready (byte_at at b) (pass (held T) (whole G0) n0) at all.0 ready (pass (held T) (stepping_from (sources G0) run.0) m) all.1.0 every
+        (whole H) run.2.sources (ap length run.2.cells)
+        (at + 1) (omega arith) (λ x e c h k w. (let same = block_at at e.marks c w in omega (arith, same)))
+        run.2.stepped run.2.targets refl
+
+  -- where each set is still, nothing happens
+  pub still_read : AreStill (held T) b (sets_of G0.layer) → HasRead T.graph (byte_at at b ∷ []) (pass (held T) (whole G0) n0) (pass (held T) (whole G0) n0)
+  still_read still =
+      stays_read T.graph (byte_at at b) (pass (held T) (whole G0) n0)
+      (λ x h. (still x.set (subst (λ (xs : List ℕ). Has xs x.set) (sym fresh.sets) (Has-map (λ (y : Source). y.set) (sources G0) x h))).1)
+
+  pub still_ready : IsReady (pass (held T) (whole G0) n0) (at + 1)
+  still_ready = ready_later (pass (held T) (whole G0) n0) at (at + 1) ready (omega arith)

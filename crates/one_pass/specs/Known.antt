@@ -1,0 +1,69 @@
+-- What is kept of whole layers: what each does on a byte.
+use Rattle.std.specs.Prelude.{◌≡◌, ◌⊎◌, ℕ, ◌+◌, ◌*◌, ◌<◌, ◌≤◌, List, [], ◌∷◌, length, Option, Some, None, slice_get, slice_index_or, IsTrue}
+use Rattle.std.specs.FinSet as bytes
+use Rattle.span_core.specs.Lists.{Has}
+use Rattle.span_core.specs.declared.edge.Edge.{Edge}
+use Rattle.marked_automaton.specs.Automaton.{ByteClass}
+use Rattle.automaton_reading.specs.Reading.{byte_read, edges}
+use Rattle.output_graph.specs.Graph.{Graph, sets_of}
+use Rattle.output_graph.specs.Source.{Edges}
+use Rattle.output_graph.specs.Sound.{edges_of}
+use Rattle.one_pass.specs.declared.known.Known.{Known}
+use Rattle.one_pass.specs.declared.known.KnownStep.{KnownStep}
+use Rattle.one_pass.specs.Held.{TableView, AreNumbered, set_named}
+use Rattle.one_pass.specs.Passes.{AllStayOn}
+use Rattle.one_pass.specs.Seen.{whole}
+
+-- these are the edges of the set of a number on a byte
+pub record IsRow (t : TableView) (b s : ℕ) (group : Edges) : Type 0 where
+  pub given : s < length t.sets
+  pub by : List Edge
+  pub are : edges_of by ≡ group
+  pub numbered : AreNumbered t by (edges t.graph (set_named t s) (byte_read b))
+
+-- and those of each set, in their order
+abbrev pub AreRows : TableView → ℕ → List ℕ → List Edges → Type 0
+AreRows t b [] [] = Unit {0}
+AreRows t b [] (group ∷ groups) = ⊥
+AreRows t b (s ∷ sets) [] = ⊥
+AreRows t b (s ∷ sets) (group ∷ groups) = IsRow t b s group × AreRows t b sets groups
+
+-- each set has one edge on the byte, without marks and to itself
+abbrev pub AreStill : TableView → ℕ → List ℕ → Type 0
+AreStill t b sets =
+    (s : ℕ) → Has sets s → (s < length t.sets) × (edges t.graph (set_named t s) (byte_read b) ≡ record { marks = 0; to = set_named t s } ∷ [])
+
+-- the sets of the layer of a number
+abbrev pub layer_at : List (List ℕ) → ℕ → List ℕ
+layer_at layers k = slice_index_or layers k []
+
+-- a program of the edges of these sets on a byte, and the number of the layer that it leads to
+pub record IsStepOf (t : TableView) (layers : List (List ℕ)) (b : ℕ) (sets : List ℕ) (step : KnownStep) : Type 0 where
+  pub rows : AreRows t b sets step.program.groups
+  pub next : slice_get layers step.next ≡ Some step.program.targets
+
+-- what is entered for a byte of these sets: 0 nothing, 1 that they are still, and else 2 more than the place of a step
+abbrev pub IsEntry : TableView → List (List ℕ) → List KnownStep → ℕ → List ℕ → ℕ → Type 0
+IsEntry t layers steps b sets e =
+    (e ≡ 0) ⊎ (((e ≡ 1) × AreStill t b sets) ⊎ ((p : ℕ) × (step : KnownStep) × (e ≡ p + 2) × (slice_get steps p ≡ Some step) × IsStepOf t layers b sets step))
+
+-- what is entered is true of the table
+pub record IsKnown (t : TableView) (layers : List (List ℕ)) (entries : List ℕ) (steps : List KnownStep) : Type 0 where
+  pub few : length entries ≤ 256 * length layers
+  pub each : (k b e : ℕ) → b < 256 → slice_get entries (256 * k + b) ≡ Some e → IsEntry t layers steps b (layer_at layers k) e
+
+abbrev pub Knows : TableView → Known → Type 0
+Knows t known = IsKnown t known.layers known.entries.items known.steps.items
+
+-- no layer has another number
+abbrev pub KeepsLayers : Known → Known → Type 0
+KeepsLayers old new = (k : ℕ) (sets : List ℕ) → slice_get old.layers k ≡ Some sets → slice_get new.layers k ≡ Some sets
+
+-- it is no less known of any table
+abbrev pub KeepsKnown : Known → Known → Type 0
+KeepsKnown old new = (t : TableView) → Knows t old → Knows t new
+
+-- the layer of the graph has this number; or else its sets stay on the bytes that are kept of it
+abbrev pub Stands : TableView → Graph → Known → Option ℕ → Type 0
+Stands t g known None = (b : ℕ) → b < 256 → IsTrue (bytes.contains known.stays b) → AllStayOn t (whole g) b
+Stands t g known (Some k) = slice_get known.layers k ≡ Some (sets_of g.layer)

@@ -1,0 +1,306 @@
+//! Whole layers, worked out once: what a layer does on a byte.
+ghost use Rattle.std.specs.Prelude.{◌≡◌, ℕ, ◌+◌, ◌*◌, ◌<◌, ◌≤◌, [], ◌∷◌, ◌++◌, length, slice_get, Some, None, IfOk, IfSome, IsTrue};
+ghost use Rattle.output_graph.specs.Graph.{sets_of};
+ghost use Rattle.output_graph.specs.Source.{Edges};
+ghost use Rattle.one_pass.specs.Held.{TableView};
+ghost use Rattle.one_pass.specs.Known.{AreRows, AreStill, IsEntry, IsRow, IsStepOf, KeepsKnown, KeepsLayers, Knows, Stands, layer_at};
+ghost use Rattle.one_pass.specs.Passes.{AreGiven};
+ghost use Rattle.one_pass.specs.Seen.{held, whole};
+
+use crate::places::stays_of;
+use output_graph::{OutputGraph, Program};
+use set_table::{Sets, Table};
+use span_core::{ByteSet, Edge, OutOfMemory};
+use std::alloc::Global;
+
+/// A layer with more sets is not kept: finding the targets of its edges one by one would cost more than a step.
+const MOST_SETS: usize = 256;
+
+/// How many words of four bytes may be kept, about. What comes later is read without being kept.
+const MOST_WORDS: usize = 4_194_304;
+
+/// The words of a step beside those of its edges and sources.
+const STEP_WORDS: usize = 32;
+
+/// How many bytes there are.
+const BYTES: usize = 256;
+
+/// Nothing is known.
+pub const UNKNOWN: u32 = 0;
+
+/// Nothing changes.
+pub const STILL: u32 = 1;
+
+/// What a layer does on a byte, and the number of the layer that it leads to.
+#[derive(Drop)]
+pub struct KnownStep {
+    pub program: Program,
+    pub next: usize,
+}
+
+/// Layers with numbers, by their sets in their order, and what each does on the bytes that were read in it. All of it
+/// is true of the table, which never changes what it has answered; so it may be forgotten at any time, and want of
+/// memory is no refusal.
+#[derive(Drop)]
+pub struct Known {
+    alloc: Global,
+    pub layers: Sets,
+    pub entries: Vec<u32>,
+    pub steps: Vec<KnownStep>,
+    pub stays: ByteSet,
+    left: usize,
+}
+
+impl Known {
+    /// Nothing is known. Takes no memory.
+    pub fn new(alloc: Global) -> Known
+        ensures { (t : TableView) → Knows t result }
+    {
+        Known {
+            alloc,
+            layers: Sets::new(alloc),
+            entries: Vec::new(alloc),
+            steps: Vec::new(alloc),
+            stays: ByteSet::empty(),
+            left: MOST_WORDS,
+        }
+    }
+
+    /// What is entered for a byte of a layer.
+    pub fn entry(&self, layer: usize, byte: u8) -> u32
+        requires { layer < length self.now.layers }
+        ensures { (t : TableView) → Knows t self.now → IsEntry t self.now.layers self.now.steps.items byte (layer_at self.now.layers layer) result }
+    {
+        if self.entries.len() / BYTES <= layer {
+            return UNKNOWN;
+        }
+        self.entries[BYTES * layer + byte as usize]
+    }
+
+    /// Keeps what the layer of a number does on a byte, which has been asked of each of its sets, and where the graph
+    /// stands now.
+    pub fn note(
+        &mut self,
+        table: &Table<'_>,
+        graph: &OutputGraph,
+        before: Option<usize>,
+        byte: u8,
+    ) -> Option<usize>
+        requires known { Knows (held table.now) self.old }
+        requires given { AreGiven (held table.now) (whole graph.now) }
+        requires fresh { graph.now.stepped ≡ 0 }
+        ensures known { Knows (held table.now) self.new }
+        ensures stands { Stands (held table.now) graph.now self.new result }
+    {
+        if let Some(layer) = before {
+            self.learn(table, layer, byte);
+        }
+        self.stand(table, graph)
+    }
+
+    /// The number of the graph's layer. If it has none, the bytes on which the layer stays are kept.
+    pub fn stand(&mut self, table: &Table<'_>, graph: &OutputGraph) -> Option<usize>
+        requires known { Knows (held table.now) self.old }
+        requires given { AreGiven (held table.now) (whole graph.now) }
+        requires fresh { graph.now.stepped ≡ 0 }
+        ensures known { Knows (held table.now) self.new }
+        ensures stands { Stands (held table.now) graph.now self.new result }
+    {
+        if let Some(layer) = self.locate(graph) {
+            return Some(layer);
+        }
+        self.stays = stays_of(table, graph);
+        None
+    }
+
+    /// The number of the graph's layer, if it is kept.
+    fn locate(&mut self, graph: &OutputGraph) -> Option<usize>
+        ensures keeps { KeepsKnown self.old self.new }
+        ensures number { IfSome result (λ k. slice_get self.new.layers k ≡ Some (sets_of graph.now.layer)) }
+    {
+        if graph.layer_len() > MOST_SETS {
+            return None;
+        }
+        match sets_in(self.alloc, graph) {
+            Ok(sets) => self.number(sets),
+            Err(_) => None,
+        }
+    }
+
+    /// The number of the layer of these sets, if it is kept.
+    fn number(&mut self, sets: Vec<u32>) -> Option<usize>
+        ensures keeps { KeepsKnown self.old self.new }
+        ensures layers { KeepsLayers self.old self.new }
+        ensures number { IfSome result (λ k. slice_get self.new.layers k ≡ Some sets.items) }
+    {
+        let size = BYTES + sets.len();
+        if self.left < size {
+            return None;
+        }
+        let known = self.layers.len();
+        let number = match self.layers.number_of(sets) {
+            Ok(number) => number,
+            Err(_) => return None,
+        };
+        if number < known {
+            return Some(number);
+        }
+        self.left -= size;
+        self.make_room();
+        Some(number)
+    }
+
+    /// Entries for all layers, where there is memory.
+    fn make_room(&mut self)
+        ensures keeps { KeepsKnown self.old self.new }
+        ensures layers { self.new.layers ≡ self.old.layers }
+    {
+        let layers = self.layers.len();
+        if layers <= MOST_WORDS && self.entries.len() < BYTES * layers {
+            let _room = self.entries.resize(BYTES * layers, UNKNOWN);
+        }
+    }
+
+    /// Keeps what the layer of a number does on a byte, if each of its sets has been asked for it.
+    fn learn(&mut self, table: &Table<'_>, layer: usize, byte: u8)
+        requires { Knows (held table.now) self.old }
+        ensures { Knows (held table.now) self.new }
+    {
+        if self.layers.len() <= layer {
+            return;
+        }
+        if are_still(table, self.layers.at(layer), byte) {
+            self.enter(table, layer, byte, STILL);
+            return;
+        }
+        if let Some(program) = program_of(self.alloc, table, self.layers.at(layer), byte) {
+            self.learn_step(table, layer, byte, program);
+        }
+    }
+
+    /// Keeps a program of a layer on a byte.
+    fn learn_step(&mut self, table: &Table<'_>, layer: usize, byte: u8, program: Program)
+        requires known { Knows (held table.now) self.old }
+        requires within { layer < length self.old.layers }
+        requires rows { AreRows (held table.now) byte (layer_at self.old.layers layer) program.groups }
+        ensures { Knows (held table.now) self.new }
+    {
+        let size = step_words(&program);
+        if self.left < size {
+            return;
+        }
+        self.left -= size;
+        let Ok(sets) = copied(self.alloc, program.targets()) else {
+            return;
+        };
+        let Some(next) = self.number(sets) else {
+            return;
+        };
+        self.add_step(table, layer, byte, KnownStep { program, next });
+    }
+
+    /// Keeps what a layer does on a byte, where there is memory.
+    fn add_step(&mut self, table: &Table<'_>, layer: usize, byte: u8, step: KnownStep)
+        requires known { Knows (held table.now) self.old }
+        requires within { layer < length self.old.layers }
+        requires step { IsStepOf (held table.now) self.old.layers byte (layer_at self.old.layers layer) step }
+        ensures { Knows (held table.now) self.new }
+    {
+        let place = self.steps.len();
+        if place >= MOST_WORDS {
+            return;
+        }
+        match self.steps.push(step) {
+            Ok(()) => self.enter(table, layer, byte, place as u32 + 2),
+            Err(_) => {}
+        }
+    }
+
+    /// Enters what is known of a byte of a layer, where there is room for it.
+    fn enter(&mut self, table: &Table<'_>, layer: usize, byte: u8, entry: u32)
+        requires known { Knows (held table.now) self.old }
+        requires within { layer < length self.old.layers }
+        requires entry { IsEntry (held table.now) self.old.layers self.old.steps.items byte (layer_at self.old.layers layer) entry }
+        ensures { Knows (held table.now) self.new }
+    {
+        if layer < self.entries.len() / BYTES {
+            self.entries[BYTES * layer + byte as usize] = entry;
+        }
+    }
+}
+
+/// How many words a program takes, about.
+fn step_words(program: &Program) -> usize {
+    STEP_WORDS + 4 * program.edges().min(MOST_WORDS) + 2 * program.sources().min(MOST_WORDS)
+}
+
+/// A copy of these sets.
+fn copied(alloc: Global, sets: &[u32]) -> Result<Vec<u32>, OutOfMemory>
+    ensures { IfOk result (λ copy. copy.items ≡ sets.now) }
+{
+    let mut copy = Vec::new(alloc);
+    copy.extend_from_slice(sets)?;
+    Ok(copy)
+}
+
+/// The sets of the graph's layer, in their order.
+fn sets_in(alloc: Global, graph: &OutputGraph) -> Result<Vec<u32>, OutOfMemory>
+    ensures { IfOk result (λ sets. sets.items ≡ sets_of graph.now.layer) }
+{
+    let mut sets = Vec::new(alloc);
+    for k in 0..graph.layer_len() {
+        sets.push(graph.set_at(k))?;
+    }
+    Ok(sets)
+}
+
+/// Whether each of these sets was asked for the byte, and has one edge on it, without marks and to itself.
+fn are_still(table: &Table<'_>, sets: &[u32], byte: u8) -> bool
+    ensures { IsTrue result → AreStill (held table.now) byte sets.now }
+{
+    for set in sets {
+        if !is_still(table, *set, byte) {
+            return false;
+        }
+    }
+    true
+}
+
+/// Whether a set was asked for the byte, and has one edge on it, without marks and to itself.
+fn is_still(table: &Table<'_>, set: u32, byte: u8) -> bool
+    ensures { IsTrue result → AreStill (held table.now) byte (set ∷ []) }
+{
+    match table.asked_row(set, byte) {
+        Some(edges) => edges.len() == 1 && leads_back(edges[0], set),
+        None => false,
+    }
+}
+
+/// Whether an edge takes no marks and leads to the set.
+fn leads_back(edge: Edge, set: u32) -> bool
+    ensures { IsTrue result → edge ≡ record { marks = 0; to = set } }
+{
+    edge.marks.is_none() && edge.to == set
+}
+
+/// The program of these sets on a byte, if each of them was asked for it.
+fn program_of(alloc: Global, table: &Table<'_>, sets: &[u32], byte: u8) -> Option<Program>
+    ensures { IfSome result (λ p. AreRows (held table.now) byte sets.now p.groups) }
+{
+    let mut program = Program::new(alloc);
+    for set in sets {
+        program = with_row(program, table, *set, byte)?;
+    }
+    Some(program)
+}
+
+/// The program with the edges of one set more, if it was asked for the byte.
+fn with_row(program: Program, table: &Table<'_>, set: u32, byte: u8) -> Option<Program>
+    ensures { IfSome result (λ p. (group : Edges) × IsRow (held table.now) byte set group × (p.groups ≡ program.groups ++ group ∷ [])) }
+{
+    let edges = table.asked_row(set, byte)?;
+    match program.with_source(edges) {
+        Ok(program) => Some(program),
+        Err(_) => None,
+    }
+}

@@ -1,0 +1,58 @@
+use Rattle.std.proofs.Common.{◌≡◌, ℕ, ◌<◌, ◌-◌, Some, length, get_or, sym, ap, subst, arith, ◌∙◌}
+use Rattle.std.specs.Prelude.{slice_get}
+use Rattle.std.proofs.lemmas.Option.{slice_get_within}
+use Rattle.automaton_reading.specs.Reading.{Asked, byte_read, ended}
+use Rattle.set_table.specs.declared.answer.Question.{Question}
+use Rattle.set_table.specs.declared.answer.Question.TheVariants.{Byte}
+use Rattle.set_table.specs.Tabled.{Asking, Tabled, asking}
+use Rattle.set_table.specs.Answered.{place_in}
+use Rattle.set_table.proofs.HeldLaws.{number_found}
+use Rattle.set_table.proofs.table.Table.asked_row.Goals as goal
+
+not_ended : (b : Asked) (r : Asking) (k n : ℕ) → Some (asking k b) ≡ Some r → r.ask ≡ b
+not_ended b r k n e = cc
+
+byte_is_no_end : (b : ℕ) → byte_read b ≡ ended → ⊥
+byte_is_no_end b e = cc
+
+pub edges_at-requires-clause-within : goal.edges_at-requires-clause-within
+edges_at-requires-clause-within c =
+    let i = c.self.inside in
+    let s = i.store in
+    let k = c.args.set in
+    let q : Question = Byte c.args.byte in
+    let within : k < length s.sets = omega (arith, c.if-len-set.false, c.len.ensures.value) in
+    let small : c.args.byte < 256 = c.ranges.byte.fits in
+    let read : get_or s.numbers (place_in k q) 0 ≡ c.at-number.result = sym (c.at-number.ensures ∙ ap (λ p. get_or s.numbers p 0) c.place_of.ensures) in
+    let found : slice_get c.args.self.now.asked (c.at-number.result - 1) ≡ Some (asking k (byte_read c.args.byte)) =
+    ap (λ (t : Tabled). slice_get t.asked (c.at-number.result - 1)) (sym c.self.view_is)
+    ∙ number_found i.automaton.now.graph s.sets s.answers.items s.edges.items s.ends.items s.numbers i.weight k q c.at-number.result c.self.invariant.held within small read c.if-number-eq0.false in
+    slice_get_within c.args.self.now.asked (c.at-number.result - 1) (asking k (byte_read c.args.byte)) found
+
+pub edges_at-requires-clause-edges : goal.edges_at-requires-clause-edges
+edges_at-requires-clause-edges c = λ r there is.
+    let i = c.self.inside in
+    let s = i.store in
+    let k = c.args.set in
+    let q : Question = Byte c.args.byte in
+    let within : k < length s.sets = omega (arith, c.if-len-set.false, c.len.ensures.value) in
+    let small : c.args.byte < 256 = c.ranges.byte.fits in
+    let read : get_or s.numbers (place_in k q) 0 ≡ c.at-number.result = sym (c.at-number.ensures ∙ ap (λ p. get_or s.numbers p 0) c.place_of.ensures) in
+    let found : slice_get c.args.self.now.asked (c.at-number.result - 1) ≡ Some (asking k (byte_read c.args.byte)) =
+    ap (λ (t : Tabled). slice_get t.asked (c.at-number.result - 1)) (sym c.self.view_is)
+    ∙ number_found i.automaton.now.graph s.sets s.answers.items s.edges.items s.ends.items s.numbers i.weight k q c.at-number.result c.self.invariant.held within small read c.if-number-eq0.false in
+    byte_is_no_end c.args.byte (sym (not_ended (byte_read c.args.byte) r k k (sym found ∙ there)) ∙ is)
+
+pub returns : goal.returns
+returns c =
+    let i = c.self.inside in
+    let s = i.store in
+    let k = c.args.set in
+    let q : Question = Byte c.args.byte in
+    let within : k < length s.sets = omega (arith, c.if-len-set.false, c.len.ensures.value) in
+    let small : c.args.byte < 256 = c.ranges.byte.fits in
+    let read : get_or s.numbers (place_in k q) 0 ≡ c.at-number.result = sym (c.at-number.ensures ∙ ap (λ p. get_or s.numbers p 0) c.place_of.ensures) in
+    let found : slice_get c.args.self.now.asked (c.at-number.result - 1) ≡ Some (asking k (byte_read c.args.byte)) =
+    ap (λ (t : Tabled). slice_get t.asked (c.at-number.result - 1)) (sym c.self.view_is)
+    ∙ number_found i.automaton.now.graph s.sets s.answers.items s.edges.items s.ends.items s.numbers i.weight k q c.at-number.result c.self.invariant.held within small read c.if-number-eq0.false in
+    (subst (λ (t : Tabled). k < length t.sets) c.self.view_is within, c.edges_at.ensures (asking k (byte_read c.args.byte)) found)
