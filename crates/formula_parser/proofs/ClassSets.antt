@@ -9,8 +9,9 @@ use Rattle.std.proofs.lemmas.Bool.Decides.{nat_tests}
 use Rattle.span_core.specs.ByteSets.{bytes_between}
 use Rattle.span_core.specs.ByteWordLaws.{contains-bytes_between}
 use Rattle.formula_parser.specs.Sets.{Bytes, single, others, digits}
+use Rattle.formula_parser.specs.Alphabet.{of_bytes}
 use Rattle.formula_parser.specs.Escapes.{Elem, byte, kind, elem_set, is_between, hex_value, IsEscape, a_digit, a_word_byte, a_space, newline, tab, carriage_return, hex, itself}
-use Rattle.formula_parser.specs.Classes.{IsElem, plain, escaped, AreRange, range_set, SpellsItem, lone, range, SpellsItems, one_item, more_items, SpellsClass, of_items, of_others}
+use Rattle.formula_parser.specs.Classes.{IsElem, plain, wide, escaped, AreRange, range_set, SpellsItem, lone, range, SpellsItems, one_item, more_items, SpellsClass, of_items, of_others}
 
 pub union_empty : (s : Bytes) → set.union set.empty s ≡ s
 union_empty s = same_set nat_cmp_total nat_cmp-IsAntisymmetric (set.union set.empty s) s
@@ -42,7 +43,7 @@ counted false s h = by (set.len s == 0) refl
 abbrev pub AreBytes : Bytes → Type 0
 AreBytes s = (q : ℕ) → IsTrue (set.contains s q) → q < 256
 
-or_cases : (a b : Bool) (P : Type 0) → (a ≡ true → P) → (b ≡ true → P) → (a || b) ≡ true → P
+pub or_cases : (a b : Bool) (P : Type 0) → (a ≡ true → P) → (b ≡ true → P) → (a || b) ≡ true → P
 or_cases true b P first second h = first refl
 or_cases false b P first second h = second h
 
@@ -88,8 +89,9 @@ escape_bytes carriage_return = single_bytes 13 (omega arith)
 escape_bytes (hex {h = h} {l = l} {x = x} {y = y} a b) = single_bytes (16 * x + y) (omega (arith, hex_small h x a, hex_small l y b))
 escape_bytes (itself {c = c} p) = single_bytes c (grind (arith, nat_tests, p))
 
-pub elem_bytes : {u : List ℕ} {x : Elem} → IsElem u x → AreBytes (elem_set x)
+pub elem_bytes : {u : List ℕ} {x : Elem} → IsElem of_bytes u x → AreBytes (elem_set x)
 elem_bytes (plain {b = b} small n1 n2 n3 n4) = single_bytes b (omega (arith, small))
+elem_bytes (wide is) = absurd is
 elem_bytes (escaped is) = escape_bytes is
 
 -- the last byte of a range
@@ -100,14 +102,14 @@ range_bytes (byte a) (byte b) le bytes =
 range_bytes (byte a) (kind s) le bytes = absurd le
 range_bytes (kind s) y le bytes = absurd le
 
-item_bytes : {t after : List ℕ} {s : Bytes} → SpellsItem t s after → AreBytes s
+item_bytes : {t after : List ℕ} {s : Bytes} → SpellsItem of_bytes t s after → AreBytes s
 item_bytes (lone is stops) = elem_bytes is
 item_bytes (range {x = x} {y = y} is are le) = range_bytes x y le (elem_bytes are)
 
-items_bytes : {t after : List ℕ} {s : Bytes} → SpellsItems t s after → AreBytes s
+items_bytes : {t after : List ℕ} {s : Bytes} → SpellsItems of_bytes t s after → AreBytes s
 items_bytes (one_item is) = item_bytes is
 items_bytes (more_items {s = s} {r = r} are is) = union_bytes s r (items_bytes are) (item_bytes is)
 
-pub class_bytes : {t after : List ℕ} {s : Bytes} → SpellsClass t s after → AreBytes s
+pub class_bytes : {t after : List ℕ} {s : Bytes} → SpellsClass of_bytes t s after → AreBytes s
 class_bytes (of_items first are) = items_bytes are
 class_bytes (of_others {s = s} are) = others_bytes s

@@ -12,7 +12,7 @@ use Rattle.formula_parser.proofs.RunLaws.{run_of, run_is, run_rest, after_token}
 start_continues : (c : ℕ) → is_name_start c ≡ true → is_name_byte c ≡ true
 start_continues c h = grind (arith, nat_tests)
 
-word_all : (x : List ℕ) → is_word x ≡ true → list_all is_name_byte x ≡ true
+pub word_all : (x : List ℕ) → is_word x ≡ true → list_all is_name_byte x ≡ true
 word_all [] h = refl
 word_all (c ∷ x) h =
     let parts = and_parts (is_name_start c) (list_all is_name_byte x) h in

@@ -19,3 +19,12 @@ pub mod GrammarLaws
 pub mod EachText
 pub mod TurnLaws
 pub mod BuiltLaws
+mod ElemTokens
+mod SetTrees
+mod SignLaws
+mod AllTrees
+mod TheTrees
+mod CharSetLaws
+pub mod InsideLaws
+mod CharTurns
+pub mod AtomLaws

@@ -1,5 +1,5 @@
 -- What the code's types of a class stand for.
-use Rattle.std.specs.Prelude.{ℕ, Some, Result, Ok, Err}
+use Rattle.std.specs.Prelude.{ℕ, Result, Ok, Err}
 use Rattle.formula_parser.specs.declared.fault.FormulaFault.{FormulaFault}
 use Rattle.formula_parser.specs.declared.class.ClassLast.{ClassLast}
 use Rattle.formula_parser.specs.declared.class.ClassLast.TheVariants as code_last
@@ -30,7 +30,7 @@ after_end (Err e) = fails e
 
 -- after a token at the place p that the code found
 abbrev pub after_token : ℕ → Result ClassToken FormulaFault → Bytes → Within → ClassNext
-after_token p (Ok (code_token.Elem x len)) s w = takes_elem p (Some (elem_of x, len)) s w
+after_token p (Ok (code_token.Elem x len)) s w = takes_elem p (elem_of x, len) s w
 after_token p (Ok (code_token.Dash x q)) s w = goes_on 1 s (after_dash (elem_of x) q)
 after_token p (Ok code_token.End) s w = takes_end p s w
 after_token p (Err e) s w = fails e

@@ -1,8 +1,10 @@
 -- What the grammar and the faults have in common.
-use Rattle.std.specs.Prelude.{◌≡◌, ℕ, ◌⊎◌, List}
+use Rattle.std.specs.Prelude.{◌≡◌, ℕ, ◌⊎◌, ◌↔◌, List}
 use Rattle.formula_parser.specs.declared.fault.FormulaFault.{FormulaFault}
-use Rattle.formula_parser.specs.Spells.{AtomTree, IsAtomAt}
-use Rattle.formula_parser.specs.Faults.{HasFault}
+use Rattle.formula_parser.specs.Spells.{AtomTree, IsAtomAt, IsAtomOver}
+use Rattle.formula_parser.specs.Faults.{HasFault, HasFaultOver}
+use Rattle.formula_parser.specs.Alphabet.{of_bytes}
+use Rattle.formula_parser.specs.Signs.{HasNoSign}
 
 -- no text has two trees
 abbrev pub HasOneTree : Type 0
@@ -19,3 +21,8 @@ HasOneFault = (text : List ℕ) (from : ℕ) (e d : FormulaFault) → HasFault t
 -- each text has a tree or a fault
 abbrev pub HasTreeOrFault : Type 0
 HasTreeOrFault = (text : List ℕ) (from : ℕ) → ((x : AtomTree × ℕ) × IsAtomAt text from x) ⊎ ((e : FormulaFault) × HasFault text from e)
+
+-- over a text without the sign nothing else is an atom, or a fault, than over bytes
+pub record KeepsBytes : Type 0 where
+  pub trees : (text : List ℕ) (from : ℕ) (x : AtomTree × ℕ) → HasNoSign text from → IsAtomAt text from x ↔ IsAtomOver of_bytes text from x
+  pub faults : (text : List ℕ) (from : ℕ) (e : FormulaFault) → HasNoSign text from → HasFault text from e ↔ HasFaultOver of_bytes text from e

@@ -5,11 +5,13 @@ use Rattle.span_core.specs.Names.{is_name}
 use Rattle.spanner_model.specs.Tree.{Tree, one, rep, cap}
 use Rattle.spanner_model.specs.WellBuilt.{none_word}
 use Rattle.formula_parser.specs.declared.fault.FormulaFault.{FormulaFault}
-use Rattle.formula_parser.specs.declared.fault.FormulaFault.TheVariants.{Unexpected, Unclosed, BadEscape, BadRepeat, DoubleRepeat, Anchor, NameTooLong, ReservedName, TooDeep}
-use Rattle.formula_parser.specs.Sets.{Bytes, single, all_but_newline}
+use Rattle.formula_parser.specs.declared.fault.FormulaFault.TheVariants.{Unexpected, Unclosed, BadRange, BadRepeat, DoubleRepeat, Anchor, NameTooLong, ReservedName, TooDeep}
+use Rattle.formula_parser.specs.Sets.{Bytes, single}
+use Rattle.formula_parser.specs.Alphabet.{dot_set}
+use Rattle.formula_parser.specs.Dialect.{Dialect, alphabet_of, tree_in, ElemToken, escape_in, is_empty_kind}
 use Rattle.formula_parser.specs.Runs.{begins_with}
-use Rattle.formula_parser.specs.Escapes.{Elem, elem_set}
-use Rattle.formula_parser.specs.Tokens.{escape_at, head_at, Bounds, bounds_at, tails}
+use Rattle.formula_parser.specs.Escapes.{elem_set}
+use Rattle.formula_parser.specs.Tokens.{head_at, Bounds, bounds_at, tails}
 use Rattle.formula_parser.specs.ClassStep.{class_at}
 use Rattle.formula_parser.specs.Spells.{AtomTree, bytes_tree}
 use Rattle.formula_parser.specs.Faults.{Opener, slash, group, capture}
@@ -44,13 +46,13 @@ braces at (Some b) n = repeats at b.len b.least b.most n
 abbrev pub opens : Opener → ℕ → ℕ → Nest → Next
 opens opener at len n = if nat_lt (length n.below) 100 then goes len (opened opener at n) else stops (Err (TooDeep at))
 
-abbrev pub escapes : ℕ → Option (Elem × ℕ) → Nest → Next
-escapes at None n = stops (Err (BadEscape at))
-escapes at (Some x) n = goes x.1 (with_unit (one (elem_set x.0)) n)
+abbrev pub escapes : Dialect → ℕ → ElemToken → Nest → Next
+escapes d at (Ok x) n = if is_empty_kind d x.0 then stops (Err (BadRange at)) else goes x.1 (with_unit (tree_in d (elem_set x.0)) n)
+escapes d at (Err e) n = stops (Err e)
 
-abbrev pub classes : Result (Bytes × ℕ) FormulaFault → Nest → Next
-classes (Ok x) n = goes x.1 (with_unit (one x.0) n)
-classes (Err e) n = stops (Err e)
+abbrev pub classes : Dialect → Result (Bytes × ℕ) FormulaFault → Nest → Next
+classes d (Ok x) n = goes x.1 (with_unit (tree_in d x.0) n)
+classes d (Err e) n = stops (Err e)
 
 -- a `!`, and the word of the capture that it begins
 abbrev pub bangs : ℕ → Option (List ℕ) → Nest → Next
@@ -97,13 +99,13 @@ ties at t n = elim n.top.opener [
 abbrev pub widens : ℕ → List ℕ → Nest → Next
 widens c t n = goes (suc (length t)) (with_unit (bytes_tree (c ∷ t)) n)
 
-abbrev pub step : ℕ → List ℕ → Nest → Next
-step at [] n = stops (Err (Unclosed n.top.place))
-step at (c ∷ t) n =
+abbrev pub step : Dialect → ℕ → List ℕ → Nest → Next
+step d at [] n = stops (Err (Unclosed n.top.place))
+step d at (c ∷ t) n =
     if c == 47 then closes_atom n
     else if c == 40 then opens group at 1 n
     else if c == 41 then closes_group at n
-    else if c == 91 then classes (class_at at t) n
+    else if c == 91 then classes d (class_at d at t) n
     else if c == 93 then stops (Err (Unexpected at))
     else if c == 123 then braces at (bounds_at t) n
     else if c == 125 then closes_capture at n
@@ -111,11 +113,11 @@ step at (c ∷ t) n =
     else if c == 42 then repeats at 1 0 None n
     else if c == 43 then repeats at 1 1 None n
     else if c == 63 then repeats at 1 0 (Some 1) n
-    else if c == 46 then goes 1 (with_unit (one all_but_newline) n)
+    else if c == 46 then goes 1 (with_unit (tree_in d (dot_set (alphabet_of d))) n)
     else if c == 94 then stops (Err (Anchor at))
     else if c == 36 then ties at t n
     else if c == 33 then bangs at (head_at t) n
-    else if c == 92 then escapes at (escape_at t) n
+    else if c == 92 then escapes d at (escape_in d at t) n
     else if nat_lt c 192 then goes 1 (with_unit (one (single c)) n)
     else widens c (tails t) n
 
@@ -125,14 +127,14 @@ end_len true = 2
 end_len false = 1
 
 -- After so many steps more the reading ends with r: a formula, whether it is tied, and the place after the slash; or a fault.
-abbrev pub EndsAfter : ℕ → ℕ → List ℕ → Nest → Result (Body × ℕ) FormulaFault → Type 0
-EndsAfter zero at text n (Ok r) = (step at text n ≡ stops (Ok r.0)) × (r.1 ≡ at + end_len r.0.1)
-EndsAfter zero at text n (Err e) = step at text n ≡ stops (Err e)
-EndsAfter (suc steps) at text n r =
-    (len : ℕ) × (m : Nest) × (step at text n ≡ goes len m) × EndsAfter steps (at + len) (drop len text) m r
+abbrev pub EndsAfter : Dialect → ℕ → ℕ → List ℕ → Nest → Result (Body × ℕ) FormulaFault → Type 0
+EndsAfter d zero at text n (Ok r) = (step d at text n ≡ stops (Ok r.0)) × (r.1 ≡ at + end_len r.0.1)
+EndsAfter d zero at text n (Err e) = step d at text n ≡ stops (Err e)
+EndsAfter d (suc steps) at text n r =
+    (len : ℕ) × (m : Nest) × (step d at text n ≡ goes len m) × EndsAfter d steps (at + len) (drop len text) m r
 
-abbrev pub Ends : ℕ → List ℕ → Nest → Result (Body × ℕ) FormulaFault → Type 0
-Ends at text n r = (steps : ℕ) × EndsAfter steps at text n r
+abbrev pub Ends : Dialect → ℕ → List ℕ → Nest → Result (Body × ℕ) FormulaFault → Type 0
+Ends d at text n r = (steps : ℕ) × EndsAfter d steps at text n r
 
 -- how many bytes stand between the slash and the formula: a `^` where it is tied
 abbrev pub tie_len : Bool → ℕ
@@ -148,8 +150,8 @@ abbrev pub start_at : List ℕ → ℕ → ℕ
 start_at text from = from + 1 + tie_len (is_tied text from)
 
 -- Reading from the slash at `from` ends with r.
-abbrev pub Reading : List ℕ → ℕ → Result (Body × ℕ) FormulaFault → Type 0
-Reading text from r = Ends (start_at text from) (drop (start_at text from) text) (outermost from) r
+abbrev pub Reading : Dialect → List ℕ → ℕ → Result (Body × ℕ) FormulaFault → Type 0
+Reading d text from r = Ends d (start_at text from) (drop (start_at text from) text) (outermost from) r
 
 -- the atom of a formula that is read
 abbrev pub atom_of : Bool → Body → AtomTree

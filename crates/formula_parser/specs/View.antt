@@ -10,6 +10,9 @@ use Rattle.formula_parser.specs.declared.nest.Frame.{Frame as CodeFrame}
 use Rattle.formula_parser.specs.declared.nest.Last.{Last as CodeLast}
 use Rattle.formula_parser.specs.declared.nest.Last.TheVariants as code_last
 use Rattle.formula_parser.specs.declared.nest.Nest.{Nest as CodeNest}
+use Rattle.formula_parser.specs.declared.alphabet.Alphabet.{Alphabet as CodeAlphabet}
+use Rattle.formula_parser.specs.declared.alphabet.Alphabet.TheVariants as code_alphabet
+use Rattle.formula_parser.specs.Alphabet.{Alphabet, of_bytes, of_characters}
 use Rattle.formula_parser.specs.Escapes.{Elem, byte, kind}
 use Rattle.formula_parser.specs.Tokens.{Bounds}
 use Rattle.formula_parser.specs.Faults.{Opener, slash, group, capture}
@@ -43,3 +46,7 @@ frame_of f = record { opener = opener_of f.opener; place = f.place; arms = trees
 -- the code's list has the innermost frame last
 abbrev pub nest_of : CodeNest → Nest
 nest_of n = record { below = map frame_of (reverse n.below.items); top = frame_of n.top; last = last_of n.last }
+
+abbrev pub alphabet_seen : CodeAlphabet → Alphabet
+alphabet_seen code_alphabet.Bytes = of_bytes
+alphabet_seen code_alphabet.Characters = of_characters

@@ -3,7 +3,7 @@ ghost use Rattle.std.specs.Prelude.{◌≡◌, ℕ, ◌+◌, ◌<◌, ◌≤◌,
 ghost use Rattle.std.specs.FinSet as set;
 ghost use Rattle.formula_parser.specs.Classes.{range_set, no_item};
 ghost use Rattle.formula_parser.specs.ClassStep.{are_range, takes_elem, takes_dash, takes_end, class_step, closed_class, items_at, class_at};
-ghost use Rattle.formula_parser.specs.Tokens.{escape_at};
+ghost use Rattle.formula_parser.specs.Dialect.{plain_bytes, escape_in};
 ghost use Rattle.formula_parser.specs.View.{elem_of};
 ghost use Rattle.formula_parser.specs.ClassView.{last_of, after_elem, after_end, after_token};
 
@@ -44,7 +44,7 @@ impl Items {
     /// The items and an element at the place `at`.
     fn with(&self, elem: Elem, at: usize) -> Result<Items, FormulaFault>
         ensures { (len : ℕ)
-            → after_elem len result ≡ takes_elem at (Some (elem_of elem, len)) self.now.set (last_of self.now.last) }
+            → after_elem len result ≡ takes_elem at (elem_of elem, len) self.now.set (last_of self.now.last) }
     {
         match self.last {
             ClassLast::Nothing | ClassLast::Range => Ok(Items {
@@ -105,7 +105,7 @@ fn range(first: &Elem, last: &Elem) -> Option<ByteSet>
 /// The next token of the class whose `[` stands at `from`.
 fn token_at(from: usize, at: usize, rest: &[u8], items: &Items) -> Result<ClassToken, FormulaFault>
     ensures { after_token at result items.now.set (last_of items.now.last)
-        ≡ class_step from at rest.now items.now.set (last_of items.now.last) }
+        ≡ class_step plain_bytes from at rest.now items.now.set (last_of items.now.last) }
 {
     let [c, others @ ..] = rest else {
         return Err(FormulaFault::Unclosed { at: from });
@@ -139,7 +139,7 @@ fn close(
     items: ByteSet,
 ) -> Result<(ByteSet, usize), FormulaFault>
     requires { from ≤ end }
-    ensures { result ≡ closed_class negated from end items }
+    ensures { result ≡ closed_class plain_bytes negated from end items }
 {
     let set = if negated { items.negation() } else { items };
     if is_empty(&set) {
@@ -158,7 +158,7 @@ fn read_items(
 ) -> Result<(ByteSet, usize), FormulaFault>
     requires before { from < first }
     requires within { first + length text.now ≤ usize.MAX }
-    ensures { result ≡ items_at negated from 0 first text.now set.empty no_item }
+    ensures { result ≡ items_at plain_bytes negated from 0 first text.now set.empty no_item }
 {
     let mut items = Items {
         set: ByteSet::empty(),
@@ -186,7 +186,7 @@ fn read_items(
 /// takes with both brackets.
 pub(crate) fn class_at(at: usize, text: &[u8]) -> Result<(ByteSet, usize), FormulaFault>
     requires { at + length text.now < usize.MAX }
-    ensures value { result ≡ class_at at text.now }
+    ensures value { result ≡ class_at plain_bytes at text.now }
     ensures within { IfOk result (λ x. (0 < x.1) × (x.1 ≤ length text.now + 1)) }
 {
     if begins_with(text, b'^') {

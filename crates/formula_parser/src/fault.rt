@@ -5,7 +5,7 @@ ghost use Rattle.formula_parser.specs.declared.fault.FormulaFault.TheVariants.{O
 use span_core::OutOfMemory;
 
 /// The place of the first fault, and which it is. Places count bytes from 0 in the whole text. The
-/// faults have the public numbers 1 to 11, in this order.
+/// faults have the public numbers 1 to 13, in this order.
 ///
 /// An opener is the atom's first slash, a `(`, the `!` of a capture, or a `[`.
 #[derive(Clone, Copy, PartialEq, Eq, Debug)]
@@ -35,6 +35,11 @@ pub enum FormulaFault {
     TooDeep { at: usize },
     /// 11: want of memory.
     OutOfMemory,
+    /// 12: in an atom with the sign, the first byte that begins no character of UTF-8. It comes before
+    /// all other faults of the atom.
+    NotUtf8 { at: usize },
+    /// 13: in an atom with the sign, the backslash of a `\p{NAME}` where no property has the name.
+    UnknownProperty { at: usize },
 }
 
 impl From<OutOfMemory> for FormulaFault {

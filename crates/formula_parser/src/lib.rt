@@ -4,10 +4,15 @@
 pub use fault::FormulaFault;
 pub use laws::{
     each_text_has_a_tree_or_a_fault, no_text_has_a_tree_and_a_fault, no_text_has_two_faults,
-    no_text_has_two_trees,
+    no_text_has_two_trees, texts_without_the_sign_stay,
 };
 pub use reader::read_atom;
 
+mod alphabet;
+mod char_class;
+#[cfg(test)]
+mod char_tests;
+mod characters;
 mod class;
 #[cfg(test)]
 mod class_tests;
@@ -15,6 +20,7 @@ mod fault;
 mod laws;
 mod nest;
 mod reader;
+mod sign;
 #[cfg(test)]
 mod tests;
 mod tokens;

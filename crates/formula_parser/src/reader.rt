@@ -1,22 +1,27 @@
 //! Reads an atom, one token after another.
-ghost use Rattle.std.specs.Prelude.{◌≡◌, ◌+◌, ◌-◌, ◌≤◌, ◌<◌, ◌∷◌, length, drop, ℕ, Some, None, OnOk, IfOk, IfErr, Ok, Err, ◌⊎◌, slice_get};
+ghost use Rattle.std.specs.Prelude.{◌≡◌, ◌+◌, ◌-◌, ◌≤◌, ◌<◌, ◌∷◌, length, take, drop, ℕ, Some, None, OnOk, IfOk, IfErr, Ok, Err, ◌⊎◌, slice_get};
 ghost use Rattle.spanner_model.specs.Tree.{rep, one};
 ghost use Rattle.spanner_model.specs.View.{tree_of};
 ghost use Rattle.spanner_model.specs.WellBuilt.{IsWellBuilt};
 ghost use Rattle.formula_parser.specs.Sets.{single, all_but_newline};
-ghost use Rattle.formula_parser.specs.Spells.{AtomTree, bytes_tree, IsAtomAt};
-ghost use Rattle.formula_parser.specs.Faults.{HasFault};
+ghost use Rattle.formula_parser.specs.Spells.{AtomTree, bytes_tree, IsAtomAt, IsAtomOver};
+ghost use Rattle.formula_parser.specs.Faults.{HasFault, HasFaultOver};
 ghost use Rattle.formula_parser.specs.Nest.{outermost, with_unit, next_arm};
-ghost use Rattle.formula_parser.specs.Tokens.{escape_at, head_at, bounds_at, tails};
+ghost use Rattle.formula_parser.specs.Tokens.{head_at, bounds_at, tails};
+ghost use Rattle.formula_parser.specs.Alphabet.{dot_set};
+ghost use Rattle.formula_parser.specs.Dialect.{Dialect, plain_bytes, alphabet_of, tree_in, Speaks, escape_in};
 ghost use Rattle.formula_parser.specs.ClassStep.{class_at};
 ghost use Rattle.formula_parser.specs.AtomView.{atom_tree, Answers};
-ghost use Rattle.formula_parser.specs.View.{nest_of, opener_of};
+ghost use Rattle.formula_parser.specs.View.{nest_of, opener_of, alphabet_seen};
 ghost use Rattle.formula_parser.specs.Turn.{IsStep, AnswersBody};
 ghost use Rattle.formula_parser.specs.Step.{goes, step, repeats, braces, opens, escapes, classes, bangs, closes_group, closes_capture, closes_atom, ties, widens, is_tied, start_at, end_len, Ends};
 
+use crate::alphabet::Alphabet;
+use crate::characters;
 use crate::class::class_at;
 use crate::fault::FormulaFault;
 use crate::nest::{Last, Nest, Opener, put};
+use crate::sign::sign_len;
 use crate::tokens::{begins_with, bounds_at, escape_at, head_at, tails};
 use span_core::{ByteSet, Name, OutOfMemory};
 use spanner_model::{Atom, Formula, Parts};
@@ -41,12 +46,19 @@ fn all_but_newline() -> ByteSet
     ByteSet::single(b'\n').negation()
 }
 
+/// A unit, in a text of so many bytes.
+pub(crate) fn unit(formula: Formula, len: usize, nest: &mut Nest) -> Result<Turn, FormulaFault>
+    ensures { IsStep result (goes len (with_unit (tree_of formula) (nest_of nest.old))) (nest_of nest.new) }
+{
+    nest.unit(formula)?;
+    Ok(Turn::Took(len))
+}
+
 /// One byte of a set, in a text of so many bytes.
-fn unit(set: ByteSet, len: usize, nest: &mut Nest) -> Result<Turn, FormulaFault>
+fn byte_unit(set: ByteSet, len: usize, nest: &mut Nest) -> Result<Turn, FormulaFault>
     ensures { IsStep result (goes len (with_unit (one set) (nest_of nest.old))) (nest_of nest.new) }
 {
-    nest.unit(Formula::One(set))?;
-    Ok(Turn::Took(len))
+    unit(Formula::One(set), len, nest)
 }
 
 fn repeated(
@@ -192,7 +204,7 @@ fn bang(alloc: Global, at: usize, others: &[u8], nest: &mut Nest) -> Result<Turn
     ensures { IsStep result (bangs at (head_at others.now) (nest_of nest.old)) (nest_of nest.new) }
 {
     match head_at(others) {
-        None => unit(ByteSet::single(b'!'), 1, nest),
+        None => byte_unit(ByteSet::single(b'!'), 1, nest),
         Some(word) => open_capture(alloc, at, word, nest),
     }
 }
@@ -215,24 +227,70 @@ fn open_capture(
     open(alloc, Opener::Capture(name), at, word.len() + 2, nest)
 }
 
-/// A backslash, before the text `others`.
-fn escape(at: usize, others: &[u8], nest: &mut Nest) -> Result<Turn, FormulaFault>
-    ensures { IsStep result (escapes at (escape_at others.now) (nest_of nest.old)) (nest_of nest.new) }
+/// A dot.
+fn dot(alloc: Global, alphabet: Alphabet, nest: &mut Nest) -> Result<Turn, FormulaFault>
+    ensures { (lang : Dialect) → Speaks lang → alphabet_of lang ≡ alphabet_seen alphabet
+        → IsStep result (goes 1 (with_unit (tree_in lang (dot_set (alphabet_of lang))) (nest_of nest.old))) (nest_of nest.new) }
+{
+    match alphabet {
+        Alphabet::Bytes => byte_unit(all_but_newline(), 1, nest),
+        Alphabet::Characters => characters::dot(alloc, nest),
+    }
+}
+
+/// A backslash over bytes, before the text `others`.
+fn byte_escape(at: usize, others: &[u8], nest: &mut Nest) -> Result<Turn, FormulaFault>
+    ensures { IsStep result (escapes plain_bytes at (escape_in plain_bytes at others.now) (nest_of nest.old)) (nest_of nest.new) }
 {
     match escape_at(others) {
-        Some((elem, len)) => unit(elem.set(), len, nest),
+        Some((elem, len)) => byte_unit(elem.set(), len, nest),
         None => Err(FormulaFault::BadEscape { at }),
     }
 }
 
-/// A `[`, before the text `others`.
-fn class(at: usize, others: &[u8], nest: &mut Nest) -> Result<Turn, FormulaFault>
+/// A backslash, before the text `others`.
+fn escape(
+    alloc: Global,
+    alphabet: Alphabet,
+    at: usize,
+    others: &[u8],
+    nest: &mut Nest,
+) -> Result<Turn, FormulaFault>
+    ensures { (lang : Dialect) → Speaks lang → alphabet_of lang ≡ alphabet_seen alphabet
+        → IsStep result (escapes lang at (escape_in lang at others.now) (nest_of nest.old)) (nest_of nest.new) }
+{
+    match alphabet {
+        Alphabet::Bytes => byte_escape(at, others, nest),
+        Alphabet::Characters => characters::escape(alloc, at, others, nest),
+    }
+}
+
+/// A `[` over bytes, before the text `others`.
+fn byte_class(at: usize, others: &[u8], nest: &mut Nest) -> Result<Turn, FormulaFault>
     requires { at + length others.now < usize.MAX }
-    ensures { IsStep result (classes (class_at at others.now) (nest_of nest.old)) (nest_of nest.new) }
+    ensures { IsStep result (classes plain_bytes (class_at plain_bytes at others.now) (nest_of nest.old)) (nest_of nest.new) }
 {
     match class_at(at, others) {
-        Ok((set, len)) => unit(set, len, nest),
+        Ok((set, len)) => byte_unit(set, len, nest),
         Err(fault) => Err(fault),
+    }
+}
+
+/// A `[`, before the text `others`.
+fn class(
+    alloc: Global,
+    alphabet: Alphabet,
+    at: usize,
+    others: &[u8],
+    nest: &mut Nest,
+) -> Result<Turn, FormulaFault>
+    requires { at + length others.now < usize.MAX }
+    ensures { (lang : Dialect) → Speaks lang → alphabet_of lang ≡ alphabet_seen alphabet
+        → IsStep result (classes lang (class_at lang at others.now) (nest_of nest.old)) (nest_of nest.new) }
+{
+    match alphabet {
+        Alphabet::Bytes => byte_class(at, others, nest),
+        Alphabet::Characters => characters::class(alloc, at, others, nest),
     }
 }
 
@@ -270,9 +328,16 @@ fn wide(alloc: Global, first: u8, others: &[u8], nest: &mut Nest) -> Result<Turn
 }
 
 /// Reads the next token, which begins the rest of the text.
-fn take_turn(alloc: Global, at: usize, rest: &[u8], nest: &mut Nest) -> Result<Turn, FormulaFault>
+fn take_turn(
+    alloc: Global,
+    alphabet: Alphabet,
+    at: usize,
+    rest: &[u8],
+    nest: &mut Nest,
+) -> Result<Turn, FormulaFault>
     requires { at + length rest.now ≤ usize.MAX }
-    ensures { IsStep result (step at rest.now (nest_of nest.old)) (nest_of nest.new) }
+    ensures { (lang : Dialect) → Speaks lang → alphabet_of lang ≡ alphabet_seen alphabet
+        → IsStep result (step lang at rest.now (nest_of nest.old)) (nest_of nest.new) }
 {
     let [c, others @ ..] = rest else {
         return Err(FormulaFault::Unclosed { at: nest.top.place });
@@ -281,7 +346,7 @@ fn take_turn(alloc: Global, at: usize, rest: &[u8], nest: &mut Nest) -> Result<T
         b'/' => close_atom(alloc, nest),
         b'(' => open(alloc, Opener::Group, at, 1, nest),
         b')' => close_group(alloc, at, nest),
-        b'[' => class(at, others, nest),
+        b'[' => class(alloc, alphabet, at, others, nest),
         b']' => Err(FormulaFault::Unexpected { at }),
         b'{' => brace(alloc, at, others, nest),
         b'}' => close_capture(alloc, at, nest),
@@ -289,12 +354,12 @@ fn take_turn(alloc: Global, at: usize, rest: &[u8], nest: &mut Nest) -> Result<T
         b'*' => repeat(alloc, at, 1, 0, None, nest),
         b'+' => repeat(alloc, at, 1, 1, None, nest),
         b'?' => repeat(alloc, at, 1, 0, Some(1), nest),
-        b'.' => unit(all_but_newline(), 1, nest),
+        b'.' => dot(alloc, alphabet, nest),
         b'^' => Err(FormulaFault::Anchor { at }),
         b'$' => tie(alloc, at, others, nest),
         b'!' => bang(alloc, at, others, nest),
-        b'\\' => escape(at, others, nest),
-        c if c < 192 => unit(ByteSet::single(c), 1, nest),
+        b'\\' => escape(alloc, alphabet, at, others, nest),
+        c if c < 192 => byte_unit(ByteSet::single(c), 1, nest),
         c => wide(alloc, c, others, nest),
     }
 }
@@ -302,20 +367,22 @@ fn take_turn(alloc: Global, at: usize, rest: &[u8], nest: &mut Nest) -> Result<T
 /// Reads what follows the slash at `from`, from the place `at` on, one turn after another.
 fn read_by_turns(
     alloc: Global,
+    alphabet: Alphabet,
     text: &[u8],
     from: usize,
     at: usize,
     from_start: bool,
 ) -> Result<(Atom, usize), FormulaFault>
     requires { at ≤ length text.now }
-    ensures ends { AnswersBody result (Ends at (drop at text.now) (outermost from)) }
+    ensures ends { (lang : Dialect) → Speaks lang → alphabet_of lang ≡ alphabet_seen alphabet
+        → AnswersBody result (Ends lang at (drop at text.now) (outermost from)) }
     ensures tied { IfOk result (λ x. x.0.from_start ≡ from_start) }
 {
     let mut nest = Nest::new(alloc, from);
     let mut at = at;
     loop {
         let (_, rest) = text.split_at(at);
-        match take_turn(alloc, at, rest, &mut nest)? {
+        match take_turn(alloc, alphabet, at, rest, &mut nest)? {
             Turn::Took(len) => at += len,
             Turn::Done(formula, to_end) => {
                 let atom = Atom {
@@ -353,10 +420,47 @@ fn start_at(text: &[u8], from: usize) -> usize
     from + 1 + usize::from(is_tied(text, from))
 }
 
-/// Reads the atom whose opening slash stands at `from`, and gives the place after its closing slash.
+/// Reads the atom over the alphabet whose opening slash stands at `from`, and gives the place after its
+/// closing slash.
+fn read_over(
+    alloc: Global,
+    alphabet: Alphabet,
+    text: &[u8],
+    from: usize,
+) -> Result<(Atom, usize), FormulaFault>
+    requires slash { slice_get text.now from ≡ Some 47 }
+    ensures found { IfOk result (λ x. IsAtomOver (alphabet_seen alphabet) text.now from (atom_tree x.0, x.1)) }
+    ensures fault { IfErr result (λ e. (e ≡ FormulaFault.OutOfMemory) ⊎ HasFaultOver (alphabet_seen alphabet) text.now from e) }
+    ensures built { IfOk result (λ x. IsWellBuilt (tree_of x.0.formula)) }
+    ensures within { IfOk result (λ x. x.1 ≤ length text.now) }
+{
+    let from_start = is_tied(text, from);
+    read_by_turns(
+        alloc,
+        alphabet,
+        text,
+        from,
+        start_at(text, from),
+        from_start,
+    )
+}
+
+/// The bytes after the slash at `from`, so many of them.
+fn between(text: &[u8], from: usize, len: usize) -> &[u8]
+    requires { from + 1 + len ≤ length text.now }
+    ensures { result.now ≡ take len (drop (from + 1) text.now) }
+{
+    let (_, rest) = text.split_at(from + 1);
+    let (inside, _) = rest.split_at(len);
+    inside
+}
+
+/// Reads the atom whose opening slash stands at `from`, and gives the place after it: behind its closing
+/// slash, or behind the sign `u`, where that follows the slash. With the sign the atom is over
+/// characters.
 ///
-/// Places count bytes from 0. The formula need not be functional. The time is linear in the text's
-/// length.
+/// Places count bytes from 0. The formula need not be functional. But for the trees of sets of characters, the
+/// time is linear in the text's length.
 pub fn read_atom(alloc: Global, text: &[u8], from: usize) -> Result<(Atom, usize), FormulaFault>
     requires slash { slice_get text.now from ≡ Some 47 }
     requires short { length text.now ≤ 65536 }
@@ -368,6 +472,16 @@ pub fn read_atom(alloc: Global, text: &[u8], from: usize) -> Result<(Atom, usize
     ensures fault { IfErr result (λ e. (e ≡ FormulaFault.OutOfMemory) ⊎ HasFault text.now from e) }
     ensures built { IfOk result (λ x. IsWellBuilt (tree_of x.0.formula)) }
 {
-    let from_start = is_tied(text, from);
-    read_by_turns(alloc, text, from, start_at(text, from), from_start)
+    let Some(len) = sign_len(text, from) else {
+        return read_over(alloc, Alphabet::Bytes, text, from);
+    };
+    if let Err(error) = str::from_utf8(between(text, from, len)) {
+        return Err(FormulaFault::NotUtf8 {
+            at: from + 1 + error.valid_up_to(),
+        });
+    }
+    match read_over(alloc, Alphabet::Characters, text, from) {
+        Ok((atom, place)) => Ok((atom, place + 1)),
+        Err(fault) => Err(fault),
+    }
 }

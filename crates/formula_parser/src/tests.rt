@@ -201,14 +201,14 @@ fn read_from(
     }
 }
 
-fn fault_from(alloc: Global, text: &[u8], from: usize) -> Option<FormulaFault> {
+pub(crate) fn fault_from(alloc: Global, text: &[u8], from: usize) -> Option<FormulaFault> {
     match read_from(alloc, text, from) {
         Some(Err(fault)) => Some(fault),
         _ => None,
     }
 }
 
-fn end_from(alloc: Global, text: &[u8], from: usize) -> Option<usize> {
+pub(crate) fn end_from(alloc: Global, text: &[u8], from: usize) -> Option<usize> {
     match read_from(alloc, text, from) {
         Some(Ok((_, end))) => Some(end),
         _ => None,
@@ -242,6 +242,7 @@ fn fault_named(name: &str, at: usize) -> Option<FormulaFault> {
         "NameTooLong" => Some(FormulaFault::NameTooLong { at }),
         "ReservedName" => Some(FormulaFault::ReservedName { at }),
         "TooDeep" => Some(FormulaFault::TooDeep { at }),
+        "UnknownProperty" => Some(FormulaFault::UnknownProperty { at }),
         _ => None,
     }
 }
@@ -261,7 +262,7 @@ fn has_runs(set: ByteSet, runs: &str) -> bool {
     (0..=255).all(|b| set.contains(b) == runs.split(',').any(|run| is_within(b, run)))
 }
 
-fn is_fault_line(alloc: Global, line: &str) -> bool {
+pub(crate) fn is_fault_line(alloc: Global, line: &str) -> bool {
     let Some((name, rest)) = line.split_once(' ') else {
         return false;
     };
@@ -275,14 +276,14 @@ fn is_fault_line(alloc: Global, line: &str) -> bool {
     fault.is_some() && fault_from(alloc, text.as_bytes(), 0) == fault
 }
 
-fn is_atom_line(alloc: Global, line: &str) -> bool {
+pub(crate) fn is_atom_line(alloc: Global, line: &str) -> bool {
     match line.split_once(' ') {
         Some((end, text)) => end_from(alloc, text.as_bytes(), 0) == end.parse::<usize>().ok(),
         None => false,
     }
 }
 
-fn is_set_line(alloc: Global, line: &str) -> bool {
+pub(crate) fn is_set_line(alloc: Global, line: &str) -> bool {
     match line.split_once(' ') {
         Some((runs, text)) => {
             set_from(alloc, text.as_bytes()).is_some_and(|set| has_runs(set, runs))

@@ -62,7 +62,7 @@ fn spaces() -> ByteSet
 }
 
 /// The value of a hexadecimal digit.
-fn hex_value(c: u8) -> Option<u8>
+pub(crate) fn hex_value(c: u8) -> Option<u8>
     ensures value { result ≡ hex_value c }
     ensures small { IfSome result (λ v. v < 16) }
 {
@@ -111,7 +111,7 @@ pub(crate) fn begins_with(text: &[u8], byte: u8) -> bool
     }
 }
 
-fn is_name_byte(c: u8) -> bool
+pub(crate) fn is_name_byte(c: u8) -> bool
     ensures { result ≡ is_name_byte c }
 {
     c.is_ascii_alphanumeric() || c == b'_'
@@ -126,7 +126,7 @@ fn name_run_len(text: &[u8]) -> usize
 }
 
 #[tactic(auto, using(crate::proofs::RunLaws::take_run))]
-fn name_run(text: &[u8]) -> &[u8]
+pub(crate) fn name_run(text: &[u8]) -> &[u8]
     ensures { result.now ≡ take_while is_name_byte text.now }
 {
     let (run, _) = text.split_at(name_run_len(text));

@@ -16,7 +16,7 @@ use Rattle.formula_parser.specs.Spells.{AtomTree, IsAtomAt}
 use Rattle.formula_parser.specs.Faults.{HasFault as HasAtomFault}
 use Rattle.formula_parser.proofs.RunLaws.{run_of}
 use Rattle.formula_parser.proofs.BuiltLaws.{IsText, text_of}
-use Rattle.formula_parser.proofs.EachText as atoms
+use Rattle.formula_parser.proofs.AtomLaws as atoms
 use Rattle.query_parser.specs.declared.TheConstants.{MOST_TEXT_BYTES}
 use Rattle.query_parser.specs.declared.fault.QueryFault.{QueryFault}
 use Rattle.query_parser.specs.declared.fault.QueryFault.TheVariants.{Formula, Unexpected, TooManyVariables, TooLong}
@@ -76,9 +76,9 @@ within at (c ∷ s) n = front_within (front_of c) at s n
 
 -- an atom takes a byte or more
 atom_longer : (text : List ℕ) (at : ℕ) (a : AtomTree) (q : ℕ) → IsAtomAt text at (a, q) → length (drop q text) < length (drop at text)
-atom_longer text at a q (u, v, splits, spelled, here) =
-    let long = ap length splits in
-    omega (arith, length-drop q text, length-drop at text, length-drop (at + 1) text, long, length-append u (47 ∷ v), here)
+atom_longer text at a q is =
+    let e = atoms.atom_ends text at (a, q) is in
+    omega (arith, length-drop q text, length-drop at text, e.moves, e.within)
 
 atom_moves : (a : AtomTree) (n : Nest) → wants_unit n.last ≡ true → move (atom_token a) n ≡ Ok (with_unit (atom a.from_start a.to_end a.formula) n)
 atom_moves a n w = ap (λ b. if b then Ok (with_unit (atom a.from_start a.to_end a.formula) n) else Err unexpected) w

@@ -9,8 +9,7 @@ use Rattle.spanner_model.specs.ExprView.{query_of}
 use Rattle.spanner_model.specs.Answer.{vars_of_lets}
 use Rattle.formula_parser.specs.declared.fault.FormulaFault.{FormulaFault}
 use Rattle.formula_parser.specs.declared.fault.FormulaFault.TheVariants as formula_fault
-use Rattle.formula_parser.specs.Classes as classes
-use Rattle.formula_parser.specs.Faults as atoms
+use Rattle.formula_parser.proofs.AtomLaws.{fault_memory}
 use Rattle.query_parser.specs.Nest.{outermost}
 use Rattle.query_parser.specs.Step.{Ends}
 use Rattle.query_parser.specs.Turn.{AnswersBody}
@@ -38,37 +37,6 @@ use Rattle.query_parser.proofs.QueryLaws.{no_query_with_fault, one_fault}
 abbrev memory_fault : QueryFault
 memory_fault = Formula formula_fault.OutOfMemory
 
-class_memory : {text : List ℕ} {p : ℕ} {e : FormulaFault} → classes.HasClassFault text p e → e ≡ formula_fault.OutOfMemory → ⊥
-class_memory (classes.nothing_in_class a b) e = absurd (cc)
-class_memory (classes.bracket_in_class a b) e = absurd (cc)
-class_memory (classes.wide_in_class a b c) e = absurd (cc)
-class_memory (classes.slash_in_class a b) e = absurd (cc)
-class_memory (classes.text_ends_in_class a b) e = absurd (cc)
-class_memory (classes.no_escape_in_class a b c) e = absurd (cc)
-class_memory (classes.bad_range a b c d) e = absurd (cc)
-class_memory (classes.empty_class a b) e = absurd (cc)
-
-atom_memory : {text : List ℕ} {p : ℕ} {e : FormulaFault} → atoms.HasFault text p e → e ≡ formula_fault.OutOfMemory → ⊥
-atom_memory (atoms.nothing_to_repeat a b c) e = absurd (cc)
-atom_memory (atoms.nothing_to_close a b) e = absurd (cc)
-atom_memory (atoms.no_capture_to_close a b) e = absurd (cc)
-atom_memory (atoms.no_class_to_close a b) e = absurd (cc)
-atom_memory (atoms.capture_for_group a b) e = absurd (cc)
-atom_memory (atoms.group_for_capture a b) e = absurd (cc)
-atom_memory (atoms.slash_inside a b) e = absurd (cc)
-atom_memory (atoms.text_ends a b) e = absurd (cc)
-atom_memory (atoms.no_escape a b c) e = absurd (cc)
-atom_memory (atoms.in_class a b f) e = class_memory f e
-atom_memory (atoms.no_repeat a b c) e = absurd (cc)
-atom_memory (atoms.repeat_twice a b c) e = absurd (cc)
-atom_memory (atoms.tie_late a b) e = absurd (cc)
-atom_memory (atoms.tie_inside a b) e = absurd (cc)
-atom_memory (atoms.tie_early a b c) e = absurd (cc)
-atom_memory (atoms.name_too_long a b x c d) e = absurd (cc)
-atom_memory (atoms.reserved_name a b) e = absurd (cc)
-atom_memory (atoms.group_too_deep a b c) e = absurd (cc)
-atom_memory (atoms.capture_too_deep a b x c d) e = absurd (cc)
-
 refused_memory : (why : Refusal) (p : ℕ) → refused why p ≡ memory_fault → ⊥
 refused_memory unexpected p e = absurd (cc)
 refused_memory name_too_long p e = absurd (cc)
@@ -77,7 +45,7 @@ refused_memory unknown_name p e = absurd (cc)
 refused_memory too_deep p e = absurd (cc)
 
 read_memory : {text : List ℕ} {e : QueryFault} → IsReadFault text e → e ≡ memory_fault → ⊥
-read_memory (bad_atom {e = f} r at w fault) e = atom_memory fault (let same : f ≡ formula_fault.OutOfMemory = cc in same)
+read_memory (bad_atom {e = f} r at w fault) e = fault_memory fault (let same : f ≡ formula_fault.OutOfMemory = cc in same)
 read_memory (atom_out_of_place r at w) e = absurd (cc)
 read_memory (token_refused {p = p} {why = why} r at is) e = refused_memory why p e
 read_memory (no_token r at s) e = absurd (cc)

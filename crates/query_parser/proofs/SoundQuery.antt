@@ -6,7 +6,8 @@ use Rattle.spanner_model.specs.Captures.{VarName}
 use Rattle.spanner_model.specs.Expression.{ExprTree, QueryTree}
 use Rattle.spanner_model.specs.Answer.{vars_of_lets}
 use Rattle.spanner_model.specs.Sound.{IsSound, IsFreeName, NameOf, expr_nesting}
-use Rattle.formula_parser.proofs.BuiltLaws.{IsText, atom_built}
+use Rattle.formula_parser.proofs.BuiltLaws.{IsText}
+use Rattle.formula_parser.proofs.AtomLaws.{atom_built}
 use Rattle.query_parser.specs.Tokens.{Token, TokenAt, atom_at, word_at, sign_at, HasTokens, text_ends, blank_first, token_first}
 use Rattle.query_parser.specs.Spells.{names_of, union_tree, Spells}
 use Rattle.query_parser.specs.Formed.{IsFormed, IsFormedQuery, PassesQuery}

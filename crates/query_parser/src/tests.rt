@@ -19,6 +19,8 @@ fn formula_told(fault: &FormulaFault) -> (u32, usize) {
         FormulaFault::ReservedName { at } => (109, *at),
         FormulaFault::TooDeep { at } => (110, *at),
         FormulaFault::OutOfMemory => (111, 0),
+        FormulaFault::NotUtf8 { at } => (112, *at),
+        FormulaFault::UnknownProperty { at } => (113, *at),
     }
 }
 

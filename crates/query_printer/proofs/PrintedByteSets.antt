@@ -15,6 +15,7 @@ use Rattle.query_printer.specs.PrintedFormula.{members, begins_run, run_end, byt
 use Rattle.formula_parser.proofs.ClassSets.{AreBytes, union_empty}
 use Rattle.query_printer.proofs.PrintedBytes.{byte_plain, byte_elem, byte_begins}
 use Rattle.query_printer.proofs.PrintedRuns.{by_bool, cases, begins_after, end_from, end_to, run_set, runs_set, runs_are, in_single, one_byte, dot_is}
+use Rattle.formula_parser.specs.Alphabet.{of_bytes}
 
 -- ---- first bytes
 
@@ -45,19 +46,19 @@ run_no_caret a e small =
 -- ---- runs
 
 -- a run is an item
-run_item : (a e : ℕ) → a < 256 → e < 256 → a ≤ e → (after : List ℕ) → begins_range after ≡ false → SpellsItem (run_text a e) (run_set a e) after
+run_item : (a e : ℕ) → a < 256 → e < 256 → a ≤ e → (after : List ℕ) → begins_range after ≡ false → SpellsItem of_bytes (run_text a e) (run_set a e) after
 run_item a e small high le after stops =
-    by_bool (λ v. SpellsItem (if v then byte_text a else byte_text a ++ 45 ∷ byte_text e) (if v then single a else bytes_between a e) after) (a == e)
+    by_bool (λ v. SpellsItem of_bytes (if v then byte_text a else byte_text a ++ 45 ∷ byte_text e) (if v then single a else bytes_between a e) after) (a == e)
     (λ h. lone (byte_elem a small) stops) (λ h. range (byte_elem a small) (byte_elem e high) le)
 
 -- no items, or items that stand for the set
 abbrev pub SomeItems : List ℕ → Bytes → List ℕ → Type 0
-SomeItems t s after = ((t ≡ []) × (s ≡ set.empty)) ⊎ SpellsItems t s after
+SomeItems t s after = ((t ≡ []) × (s ≡ set.empty)) ⊎ SpellsItems of_bytes t s after
 
-more_run : (t u after : List ℕ) (s r : Bytes) → SomeItems t s (u ++ after) → SpellsItem u r after → SomeItems (t ++ u) (set.union s r) after
+more_run : (t u after : List ℕ) (s r : Bytes) → SomeItems t s (u ++ after) → SpellsItem of_bytes u r after → SomeItems (t ++ u) (set.union s r) after
 more_run t u after s r (inl none) is =
-    inr (subst (λ x. SpellsItems (x ++ u) (set.union s r) after) (sym none.0)
-    (subst (λ x. SpellsItems u x after) (sym (union_empty r) ∙ ap (λ x. set.union x r) (sym none.1)) (one_item is)))
+    inr (subst (λ x. SpellsItems of_bytes (x ++ u) (set.union s r) after) (sym none.0)
+    (subst (λ x. SpellsItems of_bytes u x after) (sym (union_empty r) ∙ ap (λ x. set.union x r) (sym none.1)) (one_item is)))
 more_run t u after s r (inr are) is = inr (more_items are is)
 
 runs_items : (s : Bytes) (n : ℕ) → n ≤ 256 → (after : List ℕ) → begins_range after ≡ false → SomeItems (runs_text s n) (runs_set s n) after
@@ -84,16 +85,16 @@ runs_no_caret s (suc n) few =
     (by_bool (λ v. begins_with 94 (if v then run_text n (run_end s (255 - n) n) else []) ≡ false) (begins_run s n)
     (λ b. run_no_caret n (run_end s (255 - n) n) (omega arith)) (λ b. refl))
 
-items_there : (s : Bytes) (t after : List ℕ) → s ≢ set.empty → SomeItems t s after → SpellsItems t s after
+items_there : (s : Bytes) (t after : List ℕ) → s ≢ set.empty → SomeItems t s after → SpellsItems of_bytes t s after
 items_there s t after some (inl none) = absurd (some none.1)
 items_there s t after some (inr are) = are
 
 -- the runs in brackets are a class of the set
-class_is : (s : Bytes) → IsByteClass s → (after : List ℕ) → IsPlain (91 ∷ (runs_text s 256 ++ 93 ∷ [])) (one s) after
+class_is : (s : Bytes) → IsByteClass s → (after : List ℕ) → IsPlain of_bytes (91 ∷ (runs_text s 256 ++ 93 ∷ [])) (one s) after
 class_is s built after =
     let items : SomeItems (runs_text s 256) s (93 ∷ after) =
     subst (λ r. SomeItems (runs_text s 256) r (93 ∷ after)) (runs_are s built.1) (runs_items s 256 (omega arith) (93 ∷ after) refl) in
-    class (of_items (runs_no_caret s 256 (omega arith)) (items_there s (runs_text s 256) (93 ∷ after) built.0 items), built.0)
+    class (of_items (runs_no_caret s 256 (omega arith)) (items_there s (runs_text s 256) (93 ∷ after) built.0 items), built.0) refl
 
 -- ---- one byte
 
@@ -138,11 +139,11 @@ one_text b (suc n) past =
     let no : begins_run (single b) n ≡ false = ap (λ v. v && (n == 0 || not (set.contains (single b) (n - 1)))) (in_single b n ∙ h) in
     ap (λ v. runs_text (single b) n ++ (if v then run_text n (run_end (single b) (255 - n) n) else [])) no ∙ append-nil (runs_text (single b) n) ∙ one_text b n low)
 
-one_is : (s : Bytes) → AreBytes s → members s 256 ≡ 1 → (after : List ℕ) → IsPlain (runs_text s 256) (one s) after
+one_is : (s : Bytes) → AreBytes s → members s 256 ≡ 1 → (after : List ℕ) → IsPlain of_bytes (runs_text s 256) (one s) after
 one_is s bytes only after =
     let (b, small, same) = one_byte s bytes only in
-    subst (λ r. IsPlain (runs_text r 256) (one r) after) (sym same)
-    (subst (λ t. IsPlain t (one (single b)) after) (sym (one_text b 256 small)) (byte_plain b small after))
+    subst (λ r. IsPlain of_bytes (runs_text r 256) (one r) after) (sym same)
+    (subst (λ t. IsPlain of_bytes t (one (single b)) after) (sym (one_text b 256 small)) (byte_plain b small after))
 
 -- ---- a set
 
@@ -153,13 +154,13 @@ not_true false e = refl
 equal : (m n : ℕ) → (m == n) ≡ true → m ≡ n
 equal m n h = grind (arith, nat_tests)
 
-pub set_plain : (s : Bytes) → IsByteClass s → (after : List ℕ) → IsPlain (set_text s) (one s) after
+pub set_plain : (s : Bytes) → IsByteClass s → (after : List ℕ) → IsPlain of_bytes (set_text s) (one s) after
 unfolding set_text
 set_plain s built after =
-    by_bool (λ v. IsPlain (if v then runs_text s 256 else if members s 256 == 255 && not (set.contains s 10) then 46 ∷ [] else 91 ∷ (runs_text s 256 ++ 93 ∷ [])) (one s) after)
+    by_bool (λ v. IsPlain of_bytes (if v then runs_text s 256 else if members s 256 == 255 && not (set.contains s 10) then 46 ∷ [] else 91 ∷ (runs_text s 256 ++ 93 ∷ [])) (one s) after)
     (members s 256 == 1) (λ h. one_is s built.1 (equal (members s 256) 1 h) after)
-    (λ h. by_bool (λ v. IsPlain (if v then 46 ∷ [] else 91 ∷ (runs_text s 256 ++ 93 ∷ [])) (one s) after) (members s 256 == 255 && not (set.contains s 10))
+    (λ h. by_bool (λ v. IsPlain of_bytes (if v then 46 ∷ [] else 91 ∷ (runs_text s 256 ++ 93 ∷ [])) (one s) after) (members s 256 == 255 && not (set.contains s 10))
     (λ k.
     let parts = and_parts (members s 256 == 255) (not (set.contains s 10)) k in
-    subst (λ r. IsPlain (46 ∷ []) (one r) after) (sym (dot_is s built.1 (equal (members s 256) 255 parts.0) (not_true (set.contains s 10) parts.1))) dot)
+    subst (λ r. IsPlain of_bytes (46 ∷ []) (one r) after) (sym (dot_is s built.1 (equal (members s 256) 255 parts.0) (not_true (set.contains s 10) parts.1))) (dot refl))
     (λ k. class_is s built after))

@@ -13,6 +13,7 @@ use Rattle.formula_parser.specs.Escapes.{byte, is_between, is_punctuation, hex_v
 use Rattle.formula_parser.specs.Classes.{IsElem, plain, escaped}
 use Rattle.formula_parser.specs.Spells.{IsNoneOf, specials, IsPlain, literal, escape, IsLiteral}
 use Rattle.query_printer.specs.PrintedFormula.{is_shown, hex_text, byte_text}
+use Rattle.formula_parser.specs.Alphabet.{of_bytes}
 
 -- the byte itself, or a backslash and an escape
 pub data IsByteText : ℕ → List ℕ → Type 0 where
@@ -72,18 +73,18 @@ none_of b h (c ∷ cs) all =
 shown_literal : (b : ℕ) → is_shown b ≡ true → IsLiteral b
 shown_literal b h = (none_of b h specials refl, let small = shown_small b h in omega arith)
 
-text_plain : {b : ℕ} {t : List ℕ} → IsByteText b t → (after : List ℕ) → IsPlain t (one (single b)) after
+text_plain : {b : ℕ} {t : List ℕ} → IsByteText b t → (after : List ℕ) → IsPlain of_bytes t (one (single b)) after
 text_plain (shown {b = b} h) after = literal (shown_literal b h)
-text_plain (hidden is) after = escape is
+text_plain {b = b} (hidden is) after = escape (byte b) is (λ h. h) refl
 
-pub byte_plain : (b : ℕ) → b < 256 → (after : List ℕ) → IsPlain (byte_text b) (one (single b)) after
+pub byte_plain : (b : ℕ) → b < 256 → (after : List ℕ) → IsPlain of_bytes (byte_text b) (one (single b)) after
 byte_plain b small after = text_plain (byte_is b small) after
 
-text_elem : {b : ℕ} {t : List ℕ} → IsByteText b t → IsElem t (byte b)
+text_elem : {b : ℕ} {t : List ℕ} → IsByteText b t → IsElem of_bytes t (byte b)
 text_elem (shown {b = b} h) = plain (shown_small b h) (shown_not b 93 h refl) (shown_not b 91 h refl) (shown_not b 92 h refl) (shown_not b 47 h refl)
 text_elem (hidden is) = escaped is
 
-pub byte_elem : (b : ℕ) → b < 256 → IsElem (byte_text b) (byte b)
+pub byte_elem : (b : ℕ) → b < 256 → IsElem of_bytes (byte_text b) (byte b)
 byte_elem b small = text_elem (byte_is b small)
 
 -- it begins with no such byte, whatever follows

@@ -33,6 +33,8 @@ formula_note (formula.Anchor at) = at_place (codes "query: anchor at ") at
 formula_note (formula.NameTooLong at) = at_place (codes "query: name too long at ") at
 formula_note (formula.ReservedName at) = at_place (codes "query: reserved name at ") at
 formula_note (formula.TooDeep at) = at_place (codes "query: too deep at ") at
+formula_note (formula.NotUtf8 at) = at_place (codes "query: not UTF-8 at ") at
+formula_note (formula.UnknownProperty at) = at_place (codes "query: unknown property at ") at
 formula_note formula.OutOfMemory = codes "out of memory"
 
 -- a formula that is not functional

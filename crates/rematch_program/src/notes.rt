@@ -53,6 +53,10 @@ fn formula_note(alloc: Global, fault: FormulaFault) -> Result<Note, OutOfMemory>
         FormulaFault::NameTooLong { at } => note_at(alloc, "query: name too long at ", at),
         FormulaFault::ReservedName { at } => note_at(alloc, "query: reserved name at ", at),
         FormulaFault::TooDeep { at } => note_at(alloc, "query: too deep at ", at),
+        FormulaFault::NotUtf8 { at } => note_at(alloc, "query: not UTF-8 at ", at),
+        FormulaFault::UnknownProperty { at } => {
+            note_at(alloc, "query: unknown property at ", at)
+        }
         FormulaFault::OutOfMemory => Err(OutOfMemory),
     }
 }

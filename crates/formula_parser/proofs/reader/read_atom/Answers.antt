@@ -1,46 +1,52 @@
-use Rattle.std.proofs.Common.{◌≡◌, ◌≤◌, length, drop, sym, subst, arith, IfOk}
-use Rattle.std.proofs.lemmas.Option.{slice_get_within}
-use Rattle.formula_parser.specs.Nest.{outermost}
-use Rattle.formula_parser.specs.Step.{Reading, Ends, is_tied}
-use Rattle.formula_parser.specs.Turn.{AnswersBody}
-use Rattle.formula_parser.proofs.TurnLaws.{start_within, answer_found, answer_only, answer_fault}
-use Rattle.formula_parser.proofs.BuiltLaws.{text_of, answer_built}
+use Rattle.std.proofs.Common.{◌+◌, refl, subst, ap, Ok, Err, inr}
+use Rattle.std.specs.Str.{IsUtf8}
+use Rattle.formula_parser.specs.AtomView.{atom_tree}
+use Rattle.formula_parser.specs.Spells.{over_characters}
+use Rattle.formula_parser.proofs.SignLaws.{unsigned, signed, one_tree, no_tree_with_fault}
+use Rattle.formula_parser.proofs.TheTrees.{the_trees, the_trees_are}
+use Rattle.formula_parser.proofs.TurnLaws.{byte_answer, byte_fault, character_fault, not_utf8_fault, answer_only}
 use Rattle.formula_parser.proofs.reader.read_atom.Goals as goal
 
-pub read_by_turns-requires : goal.read_by_turns-requires
-read_by_turns-requires c =
-    let h = slice_get_within c.args.text.now c.args.from 47 c.requires.slash in
-    subst (λ p. p ≤ length c.args.text.now) (sym c.start_at.ensures) (start_within c.args.text.now c.args.from h)
+pub returns-in_default-clause-found : goal.returns-in_default-clause-found
+returns-in_default-clause-found c =
+    byte_answer c.args.text.now c.args.from c.read_over.result (unsigned c.args.text.now c.args.from c.sign_len.result c.sign_len.ensures.value c.in_default.is) c.read_over.ensures.found
 
-pub returns-clause-found : goal.returns-clause-found
-returns-clause-found c =
-    let text = c.args.text.now in
-    let from = c.args.from in
-    let ends : AnswersBody c.read_by_turns.result (Reading text from) =
-    subst (λ p. AnswersBody c.read_by_turns.result (Ends p (drop p text) (outermost from))) c.start_at.ensures c.read_by_turns.ensures.ends in
-    let tied : IfOk c.read_by_turns.result (λ x. x.0.from_start ≡ is_tied text from) =
-    subst (λ b. IfOk c.read_by_turns.result (λ x. x.0.from_start ≡ b)) c.is_tied-from_start.ensures c.read_by_turns.ensures.tied in
-    answer_found text from c.read_by_turns.result ends tied
+pub returns-in_default-clause-fault : goal.returns-in_default-clause-fault
+returns-in_default-clause-fault c =
+    byte_fault c.args.text.now c.args.from c.read_over.result (unsigned c.args.text.now c.args.from c.sign_len.result c.sign_len.ensures.value c.in_default.is) c.read_over.ensures.fault
 
-pub returns-clause-only : goal.returns-clause-only
-returns-clause-only c =
-    let text = c.args.text.now in
-    let from = c.args.from in
-    let ends : AnswersBody c.read_by_turns.result (Reading text from) =
-    subst (λ p. AnswersBody c.read_by_turns.result (Ends p (drop p text) (outermost from))) c.start_at.ensures c.read_by_turns.ensures.ends in
-    let tied : IfOk c.read_by_turns.result (λ x. x.0.from_start ≡ is_tied text from) =
-    subst (λ b. IfOk c.read_by_turns.result (λ x. x.0.from_start ≡ b)) c.is_tied-from_start.ensures c.read_by_turns.ensures.tied in
-    answer_only text from c.read_by_turns.result ends (answer_found text from c.read_by_turns.result ends tied)
+pub returns-in_default-clause-only : goal.returns-in_default-clause-only
+returns-in_default-clause-only c =
+    answer_only (one_tree the_trees the_trees_are) (no_tree_with_fault the_trees the_trees_are) c.args.text.now c.args.from c.read_over.result
+    (returns-in_default-clause-found c) (returns-in_default-clause-fault c)
 
-pub returns-clause-fault : goal.returns-clause-fault
-returns-clause-fault c =
-    let text = c.args.text.now in
-    let from = c.args.from in
-    answer_fault text from c.read_by_turns.result
-    (subst (λ p. AnswersBody c.read_by_turns.result (Ends p (drop p text) (outermost from))) c.start_at.ensures c.read_by_turns.ensures.ends)
+pub returns-in-Err-clause-fault : goal.returns-in-Err-clause-fault
+returns-in-Err-clause-fault c =
+    inr (not_utf8_fault c.args.text.now c.args.from _ c.between.result.now _ c.valid_up_to.result
+    (signed c.args.text.now c.args.from c.sign_len.result c.in-Some.len c.sign_len.ensures.value c.in-Some.is) c.between.ensures c.in-Err.ensures.cases.1 c.valid_up_to.ensures)
 
-pub returns-clause-built : goal.returns-clause-built
-returns-clause-built c =
-    let text = c.args.text.now in
-    let from = c.args.from in
-    answer_built text from c.read_by_turns.result (returns-clause-found c) (text_of text (λ i. omega (arith, c.type_inv.text i)))
+pub returns-in-Err-clause-only : goal.returns-in-Err-clause-only
+returns-in-Err-clause-only c = λ x is.
+    absurd (no_tree_with_fault the_trees the_trees_are c.args.text.now c.args.from x _ is
+    (not_utf8_fault c.args.text.now c.args.from _ c.between.result.now _ c.valid_up_to.result
+    (signed c.args.text.now c.args.from c.sign_len.result c.in-Some.len c.sign_len.ensures.value c.in-Some.is) c.between.ensures c.in-Err.ensures.cases.1 c.valid_up_to.ensures))
+
+pub returns-in-Ok-clause-found : goal.returns-in-Ok-clause-found
+returns-in-Ok-clause-found c =
+    over_characters (signed c.args.text.now c.args.from c.sign_len.result c.in-Some.len c.sign_len.ensures.value c.in-Some.is)
+    (subst IsUtf8 c.between.ensures c.in_default-from_utf8.ensures.cases.1) c.in-Ok.ensures.found refl
+
+pub returns-in-Ok-clause-only : goal.returns-in-Ok-clause-only
+returns-in-Ok-clause-only c = λ x is.
+    ap Ok (one_tree the_trees the_trees_are c.args.text.now c.args.from (atom_tree c.in-Ok.atom, c.in-Ok.place + 1) x (returns-in-Ok-clause-found c) is)
+
+pub returns-in-Err-read_over-clause-fault : goal.returns-in-Err-read_over-clause-fault
+returns-in-Err-read_over-clause-fault c =
+    character_fault c.args.text.now c.args.from _ c.in-Err-read_over.fault
+    (signed c.args.text.now c.args.from c.sign_len.result c.in-Some.len c.sign_len.ensures.value c.in-Some.is)
+    (subst IsUtf8 c.between.ensures c.in_default-from_utf8.ensures.cases.1) c.in-Err-read_over.ensures.fault
+
+pub returns-in-Err-read_over-clause-only : goal.returns-in-Err-read_over-clause-only
+returns-in-Err-read_over-clause-only c =
+    answer_only (one_tree the_trees the_trees_are) (no_tree_with_fault the_trees the_trees_are) c.args.text.now c.args.from (Err c.in-Err-read_over.fault)
+    tt (returns-in-Err-read_over-clause-fault c)
