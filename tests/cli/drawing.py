@@ -1,7 +1,8 @@
 """Draws random small queries, documents and words, for `fuzz` and for the group `drawn` of `run`.
 
 Most queries are sound: they are made from variables downwards, so that each formula is functional.
-The others are such texts with some bytes or names changed, and mostly refused.
+The others are such texts with some bytes or names changed, and mostly refused. `fuzz` also takes queries
+whose sizes are near their limits.
 """
 import random
 
@@ -70,6 +71,22 @@ class Maker:
                 at = self.pick.randrange(len(text) + 1)
                 text = text[:at] + self.pick.choice(SIGNS) + text[at + self.pick.randrange(3):]
         return text.encode()
+
+    def large(self):
+        """A query some part of which has about as many states or ways as there may be."""
+        pick = self.pick
+        many, few, times = pick.randrange(990, 1001), pick.randrange(100, 200), pick.randrange(1, 4)
+        text = pick.choice([
+            '/^(a{1000}){19}a{%d}$/' % many, '/(a{1000}){19}a{%d}/' % many, '/^(a?){1000}(a?){%d}$/' % many,
+            '/((a?){%d}){%d}/' % (many, times), '/(a{%d}b?){%d}/' % (many, 9 + times), '/[ab]{%d}(a{0,%d}|b)/' % (many, many),
+            '/!x{a{%d}}/ join /!y{[ab]{%d}}/' % (few, few), '/a{%d}b/ join /^b{%d}/ join /a|b/' % (few // 4, few // 4),
+            '/(a{%d}){10}/ union /(b{%d}){10}/' % (many, many)])
+        self.names = ['x', 'y'] if '!' in text else []
+        around = pick.choice(['%s', '%s', '(%s)', 'let w = %s; /a*/', '/b/ join (%s)', 'let w = %s; w join w',
+                              'project none (%s)', 'project none (/!z{a}/) union project none (%s)'])
+        if '%s' != around != '(%s)':
+            self.names = []
+        return (around % text).encode()
 
     def document(self):
         return b''.join(self.pick.choice([b'a', b'a', b'b', b'c', b'\n', 'é'.encode(), b'!'])

@@ -13,7 +13,7 @@ each section states its rules in words and then says them once more in Python. I
 the program. query_text.py beside it reads the query, modes.py has `--explain` and `--trial`. Tests import
 `run`, which reads no file by itself. It makes no automata: it answers where the program may refuse for the
 size of a union or a join or for a weight, and it reads all positions with `--filter` too, which changes
-no row.
+no row. `permitted` has these refusals too, by weights.py, which counts them.
 
 Python 3.8, standard library.
 """
@@ -26,6 +26,7 @@ from typing import NamedTuple
 from modes import counts_of, explained, query_atoms, summed, trial_document
 from query_text import (LONGEST_QUERY, Alt, Atom, Cat, Empty, Named, One, Project, Refusal, Rep, Union,
                         fault, read_query)
+from weights import TooMuch, sizes_of, weights_of
 
 LONGEST_DOCUMENT = 1 << 28
 LARGEST_PLACE = (1 << 32) - 1
@@ -229,6 +230,7 @@ LONG_OPTIONS = ('max-table', 'trial')
 LONG_FLAGS = ('filter', 'explain')
 NUMBER = re.compile(r'\+?[0-9]+')
 LARGEST_TABLE = 100000000
+USUAL_TABLE = 8000000
 MOST_LINES = 4000000
 
 
@@ -242,6 +244,8 @@ class Request(NamedTuple):
     document: str
     explain: bool
     trial: object  # the number of lines, or None
+    filtered: bool
+    most_weight: int
 
 
 def found_words(words):
@@ -304,7 +308,7 @@ def read_words(words):
     if found is None or ('e' in found) == ('q' in found):
         raise Refusal(WORDS, 'bad command line')
     limit = number(found.get('n'), 0, (1 << 64) - 1)
-    number(found.get('max-table'), 1, LARGEST_TABLE)
+    most_weight = number(found.get('max-table'), 1, LARGEST_TABLE)
     trial = number(found.get('trial'), 0, MOST_LINES)
     form = found.get('f', 'spans')
     document = found.get('DOC', '-')
@@ -317,7 +321,7 @@ def read_words(words):
     if found.get('q') == document == '-' and not has_mode:
         raise Refusal(WORDS, 'bad command line')
     return Request(found.get('e'), found.get('q'), limit, found.get('a'), form, 't' in found, document,
-                   explain, trial)
+                   explain, trial, 'filter' in found, most_weight or USUAL_TABLE)
 
 
 # --- A run ---------------------------------------------------------------------------------------
@@ -339,8 +343,22 @@ def refuse_sizes(query):
             raise Refusal(SIZE, 'size: more than %d ways' % MOST_WAYS)
 
 
-def page_of(words, fetch):
-    """What a run writes and notes; `fetch(name, limit)` reads, or raises OSError or TooLong."""
+class Asked(NamedTuple):
+    """Words that are accepted, and a sound query no atom of which is too large, unless it is explained."""
+    request: Request
+    query: object
+    names: list
+
+
+class Ready(NamedTuple):
+    """What is to be answered, once nothing but a weight or the size of a part that is no atom can refuse it."""
+    asked: Asked
+    document: object  # None where none is read
+    after: object
+
+
+def asked_by(words, fetch):
+    """`fetch(name, limit)` reads, or raises OSError or TooLong."""
     request = read_words(words)
     if request.query is not None:
         text = request.query.encode()
@@ -352,16 +370,20 @@ def page_of(words, fetch):
         except TooLong:
             raise fault('longer than %d bytes' % LONGEST_QUERY)
     query, names = read_query(text)
+    if not request.explain:
+        refuse_sizes(query)
+    return Asked(request, query, names)
+
+
+def ready_for(asked, fetch):
+    request = asked.request
     if request.explain:
-        return explained(query, names), 'end'
-    refuse_sizes(query)
+        return Ready(asked, None, None)
     if request.trial is not None:
-        document = trial_document(request.trial)
-        shown = lines_of(names, all_rows(query, names, document), document, 'spans', False)
-        return summed(request.trial, document, shown.decode().splitlines()), 'end'
+        return Ready(asked, trial_document(request.trial), None)
     after = None
     if request.after not in (None, 'start'):
-        after = read_cursor(request.after, names)
+        after = read_cursor(request.after, asked.names)
     try:
         document = fetch(request.document, LONGEST_DOCUMENT)
     except OSError:
@@ -370,6 +392,17 @@ def page_of(words, fetch):
         raise Refusal(LONG, 'document longer than %d bytes' % LONGEST_DOCUMENT)
     if after is not None and any(end > len(document) for _, end in after):
         raise Refusal(CURSOR, 'cursor: past the document')
+    return Ready(asked, document, after)
+
+
+def written(ready):
+    """What is written and noted."""
+    (request, query, names), document, after = ready
+    if request.explain:
+        return explained(query, names), 'end'
+    if request.trial is not None:
+        shown = lines_of(names, all_rows(query, names, document), document, 'spans', False)
+        return summed(request.trial, document, shown.decode().splitlines()), 'end'
     rows, more = page(all_rows(query, names, document), after, request.limit)
     note = 'end'
     if more:
@@ -377,14 +410,72 @@ def page_of(words, fetch):
     return lines_of(names, rows, document, request.form, request.texts), note
 
 
+def refused(refusal):
+    return refusal.status, b'', refusal.note.encode() + b'\n'
+
+
 def run(words, fetch):
     """The exit status, the bytes of standard output and the note's line of a run."""
     sys.setrecursionlimit(20000)
     try:
-        out, note = page_of(words, fetch)
+        out, note = written(ready_for(asked_by(words, fetch), fetch))
         return 0, out, note.encode() + b'\n'
     except Refusal as refusal:
-        return refusal.status, b'', refusal.note.encode() + b'\n'
+        return refused(refusal)
+
+
+# --- All that is permitted -----------------------------------------------------------------------
+#
+# A size refusal may come only where the counted size of some part of the query, the weight of some atom's
+# filter or the weight of the table passes its limit; the program may also have found a way to do with less.
+# So an answer and a refusal can both be right.
+
+def weights_in(ready):
+    return weights_of(ready.asked.query, Meaning(ready.document), ready.asked.request.filtered)
+
+
+def weighed(words, fetch):
+    """What a run weighs; None where it reads nothing, is refused before that, or is too large to be counted."""
+    try:
+        ready = ready_for(asked_by(words, fetch), fetch)
+        return None if ready.asked.request.explain else weights_in(ready)
+    except (Refusal, TooMuch):
+        return None
+
+
+def size_refusals(asked, ready):
+    """The notes that are permitted, since something passes its limit or is too large to be counted here.
+    `ready` is None where another refusal comes before the weights."""
+    parts = sizes_of(asked.query)
+    notes = ['size: more than %d states' % MOST_STATES] * any(states > MOST_STATES for states, _ in parts)
+    notes += ['size: more than %d ways' % MOST_WAYS] * any(ways > MOST_WAYS for _, ways in parts)
+    most = asked.request.most_weight
+    if ready and most < USUAL_TABLE:  # which nothing passes that this reference could answer
+        try:
+            weights = weights_in(ready)
+            is_past, is_filter_past = weights.table > most, any(weight > most for weight in weights.filters)
+        except TooMuch:
+            is_past, is_filter_past = True, asked.request.filtered
+        notes += ['size: table past %d' % most] * is_past + ['size: filter past %d' % most] * is_filter_past
+    return notes
+
+
+def permitted(words, fetch):
+    """All answers that are right, each as `run` gives one; the first is that of `run`. Want of memory aside."""
+    sys.setrecursionlimit(20000)
+    try:
+        asked = asked_by(words, fetch)
+    except Refusal as refusal:
+        return [refused(refusal)]
+    ready = None
+    try:
+        ready = ready_for(asked, fetch)
+        out, note = written(ready)
+        answers = [(0, out, note.encode() + b'\n')]
+    except Refusal as refusal:
+        answers = [refused(refusal)]
+    notes = [] if asked.request.explain else size_refusals(asked, ready)
+    return answers + [refused(Refusal(SIZE, note)) for note in notes]
 
 
 def fetch_file(name, limit):

@@ -416,7 +416,7 @@ const FAULTS: [(
     Status,
     &str,
     &str,
-); 6] = [
+); 19] = [
     (
         "-e~/!x{a*}/~D",
         &[],
@@ -463,6 +463,119 @@ const FAULTS: [(
         "",
         "read failed: document\n",
     ),
+    // A fetch that fails after one that is not made.
+    (
+        "-e~/!x{a}/~D",
+        &[0],
+        None,
+        None,
+        Status::Read,
+        "",
+        "read failed: document\n",
+    ),
+    (
+        "-q~Q~--explain",
+        &[0],
+        None,
+        None,
+        Status::Read,
+        "",
+        "read failed: query\n",
+    ),
+    (
+        "-q~Q~--trial~3",
+        &[1],
+        None,
+        None,
+        Status::Done,
+        "lines 3\nbytes 41\nrows 0\nfirst none\nlast none\n",
+        "end\n",
+    ),
+    (
+        "-e~/!x{a}/~-a~x~D",
+        &[0],
+        None,
+        None,
+        Status::Cursor,
+        "",
+        "cursor: not a cursor\n",
+    ),
+    // A put that takes all and fails, or more than there is.
+    (
+        "-e~/!x{a}/~D",
+        &[],
+        Some(12),
+        None,
+        Status::Write,
+        "x=0-1\nx=1-2\n",
+        "write failed\n",
+    ),
+    (
+        "-e~/!x{a}/~D",
+        &[],
+        None,
+        Some(100),
+        Status::Write,
+        "x=0-1\nx=1-2\n",
+        "end\n",
+    ),
+    // The other forms, and the modes.
+    (
+        "-e~/!x{a}/~-f~table~D",
+        &[],
+        Some(3),
+        None,
+        Status::Write,
+        "x\n0",
+        "write failed\n",
+    ),
+    (
+        "-e~/!x{a}/~-f~json~-t~-n~1~D",
+        &[],
+        Some(8),
+        Some(0),
+        Status::Write,
+        "{\"x\":[0,",
+        "",
+    ),
+    (
+        "-e~/!x{a}/~--explain",
+        &[],
+        Some(9),
+        None,
+        Status::Write,
+        "query /!x",
+        "write failed\n",
+    ),
+    (
+        "-e~/!x{a}/~--trial~0",
+        &[],
+        Some(10),
+        Some(5),
+        Status::Write,
+        "lines 0\nby",
+        "write",
+    ),
+    // What writes no row makes no put that could fail.
+    (
+        "-e~/!x{b}/~D",
+        &[],
+        Some(0),
+        None,
+        Status::Done,
+        "",
+        "end\n",
+    ),
+    (
+        "-e~/!x{a}/~-n~0~D",
+        &[],
+        Some(0),
+        Some(4),
+        Status::Write,
+        "",
+        "more",
+    ),
+    ("-x", &[0], Some(0), Some(0), Status::Words, "", ""),
 ];
 
 /// That put 0 fails after so many bytes.
@@ -490,22 +603,24 @@ fn faults(rt: HostRuntime) -> Result<(), Fail> {
     Ok(())
 }
 
-/// Ten thousand rows go in two puts of whole lines, of which the second fails.
+/// Ten thousand rows go in two puts of whole lines, of which the second fails after so many bytes.
 #[test]
 fn second_put_fails(rt: HostRuntime) -> Result<(), Fail> {
     let alloc = rt.alloc();
     let words = words_of(alloc, "-e~/!x{a}/~D")?;
     let mut document = Vec::new(alloc);
     document.resize(10_000, b'a')?;
-    let shelf = shelf_of(alloc, document.as_slice(), Vec::new(alloc))?;
-    let mut failing = Vec::new(alloc);
-    failing.push((1, 0))?;
-    let out = sink_of(alloc, failing)?;
-    let notes = sink_of(alloc, Vec::new(alloc))?;
-    let ended = runs::<Brand>(alloc, Blank::new(1), &words, shelf, out, notes);
-    assert_eq!(rt; ended.0, Status::Write);
-    assert_eq!(rt; ended.1.bytes().len(), 65_535);
-    assert!(rt; ended.1.bytes().ends_with(b"\nx=5645-5646\n"));
-    assert_eq!(rt; ended.2.bytes(), b"write failed\n".as_slice());
+    for (taken, last) in [(0, "\nx=5645-5646\n"), (7, "\nx=5645-5646\nx=5646-")] {
+        let shelf = shelf_of(alloc, document.as_slice(), Vec::new(alloc))?;
+        let mut failing = Vec::new(alloc);
+        failing.push((1, taken))?;
+        let out = sink_of(alloc, failing)?;
+        let notes = sink_of(alloc, Vec::new(alloc))?;
+        let ended = runs::<Brand>(alloc, Blank::new(1), &words, shelf, out, notes);
+        assert_eq!(rt; ended.0, Status::Write);
+        assert_eq!(rt; ended.1.bytes().len(), 65_535 + taken);
+        assert!(rt; ended.1.bytes().ends_with(last.as_bytes()));
+        assert_eq!(rt; ended.2.bytes(), b"write failed\n".as_slice());
+    }
     Ok(())
 }

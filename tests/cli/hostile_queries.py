@@ -1,0 +1,367 @@
+"""Queries that are made to be hard, always the same ones, each with the answers that are right.
+
+A text is as long, deep or ambiguous as the limits let it be, or one more. Each answer stands here by the rules;
+where a part of the query that is no atom passes a limit of size, or the weight of the table does, the program
+may refuse or may have found a way to do with less, and both answers stand. Want of memory may be answered of
+what needs very much, and stands there too.
+"""
+import random
+from typing import NamedTuple
+
+LONGEST = 65536
+LARGEST_NUMBER = (1 << 64) - 1  # the greatest number of states and ways that is shown
+
+
+class Hostile(NamedTuple):
+    family: str
+    name: str
+    query: bytes
+    document: bytes
+    words: list  # besides those that name the query and the document
+    answers: list  # of (status, out, note), each without its last line feed
+    slow: bool
+
+
+def page(out='', note='end'):
+    return 0, out, note
+
+
+def refused(status, note):
+    return status, '', note
+
+
+NO_ROW, ONE = page(), page('()')
+STATES, WAYS = refused(4, 'size: more than 20000 states'), refused(4, 'size: more than 2000000 ways')
+TABLE, FILTER = refused(4, 'size: table past 8000000'), refused(4, 'size: filter past 8000000')
+MEMORY = refused(9, 'out of memory')
+
+
+def fault(what, at=None):
+    return refused(3, 'query: ' + what + ('' if at is None else ' at %d' % at))
+
+
+def row(*spans):
+    """A spans line of pairs of a name and its two places."""
+    return ' '.join('%s=%d-%d' % span for span in spans)
+
+
+def filled(piece, head='/', tail='/', length=LONGEST):
+    """As many pieces as go into so many bytes, with spaces behind, and their number."""
+    count = (length - len(head.encode()) - len(tail.encode())) // len(piece.encode())
+    text = head + piece * count + tail
+    return text + ' ' * (length - len(text.encode())), count
+
+
+ALL = []
+
+
+def hard(family, name, query, *answers, document=b'a', words=(), slow=False):
+    text = query if isinstance(query, bytes) else query.encode()
+    ALL.append(Hostile(family, name, text, document, list(words), list(answers), slow))
+
+
+NAMES = 'abcdefghijklmnop'  # of sixteen variables
+
+
+def first(count):
+    """The first row alone of so many variables, which are all empty there."""
+    return page(row(*((name, 0, 0) for name in NAMES[:count])), 'more c1' + ''.join(';%s:0-0' % n for n in NAMES[:count]))
+
+
+# --- Deep nesting --------------------------------------------------------------------------------
+
+def nested(times, sign, inner='a'):
+    return '/' + '(' * times + inner + (')' + sign) * times + '/'
+
+
+def nesting():
+    for sign, document in (('*', b'aaa'), ('+', b'aaa'), ('?', b''), ('{1}', b'a'), ('{0,1}', b'')):
+        hard('nesting', 'a hundred groups, each with ' + sign, nested(100, sign), ONE, document=document)
+    hard('nesting', 'a hundred and one', nested(101, '*'), fault('too deep', 101))
+    hard('nesting', 'a hundred stars over a choice', nested(99, '*', 'a|b|()'), ONE, document=200 * b'ab')
+    hard('nesting', 'a hundred stars over the empty string', nested(100, '*', ''), ONE)
+    hard('nesting', 'ninety-eight stars over 140 places', nested(98, '*', '|'.join(140 * 'a')), ONE, document=300 * b'a')
+    doubled = '^' + '(' * 13 + 'a{2}' + '){2}' * 13 + '$'
+    hard('nesting', 'fourteen doublings', '/%s/' % doubled, ONE, document=(1 << 14) * b'a')
+    hard('nesting', 'fourteen doublings, not tied', '/%s/' % doubled[1:-1], ONE, TABLE, document=(1 << 14) * b'a')
+    hard('nesting', 'fifteen doublings', '/(%s){2}/' % doubled[1:-1], STATES)
+    thousands = '(' * 99 + 'a{1000}' + '){1000}' * 99
+    hard('nesting', 'a hundred thousandfold repeats', '/%s/' % thousands, STATES)
+    hard('nesting', 'a hundred thousandfold repeats, explained', '/%s/' % thousands,
+         page('query /%s/\nvariables none\natom 1 states %d ways %d' % (thousands, LARGEST_NUMBER, LARGEST_NUMBER)),
+         words=['--explain'])
+    hard('nesting', 'the same, taken no times', '/(%s){0}a/' % thousands, ONE)
+    hard('nesting', 'a hundred joins in one another', '(/a/ join ' * 100 + '/a/' + ')' * 100, ONE, STATES, WAYS)
+    hard('nesting', 'a hundred unions in one another', '(/a/ union ' * 100 + '/a/' + ')' * 100, ONE)
+    hard('nesting', 'unions and joins in turn', '(/a/ join (/a/ union ' * 50 + '/a/' + '))' * 50, ONE, STATES, WAYS)
+    hard('nesting', 'a hundred projections in one another', 'project x (' * 100 + '/!x{a}/' + ')' * 100,
+         page(row(('x', 0, 1))))
+    hard('nesting', 'a hundred joins of one variable', '(/!x{.}/ join ' * 100 + '/!x{a}/' + ')' * 100,
+         page(row(('x', 0, 1))), STATES, WAYS)
+    inner = ''.join('!%s{z*' % name for name in NAMES)
+    hard('nesting', 'sixteen captures in one another', '/%s%s/' % (inner, '}' * 16), first(16), document=200 * b'z',
+         words=['-n', '1'])
+
+
+# --- Names ---------------------------------------------------------------------------------------
+
+def names():
+    most = ['n' * 31 + name for name in NAMES]
+    text = '/%s/' % ''.join('!%s{z}' % name for name in most)
+    whole = row(*((name, at, at + 1) for at, name in enumerate(most)))
+    hard('names', 'sixteen of 32 bytes', text, page(whole), document=16 * b'z')
+    hard('names', 'sixteen of 32 bytes, resumed', text, page(), document=16 * b'z',
+         words=['-a', 'c1' + ''.join(';%s:%d-%d' % (name, at, at + 1) for at, name in enumerate(most))])
+    hard('names', 'the last has 33', text.replace('!' + most[15], '!n' + most[15]), fault('name too long', 1 + 15 * 36),
+         document=16 * b'z')
+    short = '/%s/' % ''.join('!%s{z}' % name for name in NAMES)
+    hard('names', 'seven hundred atoms of sixteen', ' union '.join(700 * [short]),
+         page(row(*((name, at, at + 1) for at, name in enumerate(NAMES)))), document=16 * b'z')
+    hard('names', 'sixteen, and far behind a seventeenth', short + 65000 * ' ' + 'join /!q{a}/',
+         fault('more than 16 variables'))
+    hard('names', 'a cursor of 15,000 names', '/!x{a}/', refused(7, 'cursor: other variables'),
+         words=['-a', 'c1' + 15000 * ';x:0-0'])
+
+
+# --- One construct, as often as it goes into the longest text -----------------------------------
+
+def long_texts():
+    size = {'.': STATES, 'é': STATES, '!': STATES, r'\.': STATES, r'\d': STATES, '[a]': STATES, '(a)': STATES,
+            '(a|b)': STATES, 'a?': STATES, 'a{1000}': STATES, 'a{0,1000}': STATES, 'a{999,}': STATES, '\x00': STATES,
+            '\x7f': STATES, '€': STATES, 'aé{1}': STATES, '(a|)': WAYS, '(a*|)': WAYS}
+    for piece, answer in size.items():
+        hard('long', 'only %r' % piece, filled(piece)[0], answer)
+    for piece in (r'\x61', '[^a]', '[a-z]', 'a{1}', r'[\n]', '(a{1})'):
+        hard('long', 'only %r' % piece, filled(piece)[0], NO_ROW)
+    for piece in ('()', '|', '()*', '(|)*', '((()))', 'a{0}', '(){1000}', '(a{1000}){0}', '()|', '(()*)+'):
+        hard('long', 'only %r' % piece, filled(piece)[0], ONE)
+    for byte in (0x80, 0xbf, 0xc0, 0xff):
+        hard('long', 'only the byte %02x' % byte, b'/' + bytes([byte]) * (LONGEST - 2) + b'/', STATES)
+    unit = b'\xc3' + 19000 * b'\x80'
+    hard('long', 'one character of 19,001 bytes', b'/' + unit + b'/', ONE, document=unit)
+    hard('long', 'the same, repeated', b'/^' + unit + b'*$/', ONE, document=3 * unit)
+    for piece in ('a-z', r'\x00', r'\w', r'\]', '^', r'\x00-a'):
+        text = filled(piece, '/[a', ']/')[0]
+        hard('long', 'a class of only %r' % piece, text, ONE)
+    hard('long', 'a class of only hyphens', filled('-', '/[', ']/')[0], ONE, document=b'-')
+    hard('long', 'a class of a letter and hyphens', filled('-', '/[a', ']/')[0], fault('bad range', 2))
+    hard('long', 'a class of ranges that fall', filled('z-a', '/[', ']/')[0], fault('bad range', 2))
+    falls = filled('a-z', '/[', 'b-a]/')[0].rstrip()
+    hard('long', 'a range that falls at the end', falls, fault('bad range', len(falls) - 5))
+    for end, note in (('(', 'not closed'), ('[', 'not closed'), ('\\', 'bad escape'), ('*', None), ('!n{', 'not closed')):
+        text = '/' + 'a' * (LONGEST - 1 - len(end)) + end
+        hard('long', 'ends in %r' % end, text, fault(note, LONGEST - len(end)) if note else fault('not closed', 0))
+    hard('long', 'a slash that is not closed', '/' + 'a' * (LONGEST - 1), fault('not closed', 0))
+    hard('long', 'only a backslash and a slash', '/' + 32767 * '\\/' + '\\', fault('bad escape', LONGEST - 1))
+    for space in ' \n':
+        hard('long', 'only %r' % space, space * LONGEST, fault('unexpected', LONGEST))
+    hard('long', 'one byte more', ' ' * (LONGEST + 1), fault('longer than 65536 bytes'))
+    hard('long', 'unions without an end', filled('/a/ union ', '', '')[0], fault('unexpected', LONGEST))
+    hard('long', 'joins without an end', filled('/a/ join ', '', '')[0], fault('unexpected', LONGEST))
+    hard('long', 'lets without an end', filled('let a=/a/;', '', '')[0], fault('name twice', 14))
+    hard('long', 'only unions', filled('/a/union', '', '/a/')[0], ONE, STATES)
+    hard('long', 'only unions of one variable', filled('/!x{a}/union', '', '/!x{a}/')[0], page(row(('x', 0, 1))), STATES)
+    hard('long', 'only joins', filled('/a/join', '', '/a/')[0], ONE, STATES, WAYS)
+    hard('long', 'only joins of a tied atom', filled('/^a$/join', '', '/^a$/')[0], ONE, STATES, WAYS)
+    hard('long', 'only joins of one variable', filled('/!x{.}/join', '', '/!x{a}/')[0], page(row(('x', 0, 1))),
+         STATES, WAYS)
+    hard('long', 'only joins that have no answer', filled('/^a$/join', '', '/^b$/')[0], NO_ROW, STATES, WAYS)
+
+
+# --- Repeats of repeats --------------------------------------------------------------------------
+
+def repeats():
+    hard('repeats', 'a hundred times a hundred, tied', '/^(a{100}){100}$/', ONE, document=10000 * b'a')
+    hard('repeats', 'a hundred times a hundred and one byte less', '/^(a{100}){100}$/', NO_ROW, document=9999 * b'a')
+    hard('repeats', 'a hundred times a hundred, each left out', '/((a?){100}){100}/', WAYS)
+    hard('repeats', 'up to a hundred times up to a hundred', '/(a{0,100}){0,100}/', ONE)
+    hard('repeats', 'ten times up to ten times up to ten', '/^((a{0,10}){0,10}){0,10}$/', ONE, document=999 * b'a')
+    for name, text in (('a star of a star', '(a*)*b'), ('a plus of a plus', '(a+)+b'),
+                       ('both arms alike', '(a|a)*b'), ('one or two', '(a|aa)*b'),
+                       ('four stars beside each other', 'a*a*a*a*b'), ('any bytes, four times', '.*.*.*.*b'),
+                       ('a star of three stars', '((a*)*(a*)*(a*)*)*b')):
+        hard('repeats', name, '/^%s$/' % text, NO_ROW, document=20000 * b'a')
+        hard('repeats', name + ', not tied', '/%s/' % text, NO_ROW, document=20000 * b'a')
+    hard('repeats', 'five hundred left out and five hundred not', '/^(a?){500}a{500}$/', ONE, document=500 * b'a')
+    hard('repeats', 'a thousand alike in both arms', '/^(a|a){1000}$/', ONE, document=1000 * b'a')
+    hard('repeats', 'a row for each way to cut, told once', '/^!x{(a|aa|aaa)*}!y{(a|aa|aaa)*}$/',
+         page(row(('x', 0, 0), ('y', 0, 3000)), 'more c1;x:0-0;y:0-3000'), document=3000 * b'a', words=['-n', '1'])
+    hard('repeats', 'a star of each of many bytes', '/^(%s)*$/' % '|'.join(500 * ['a', 'b']), ONE, document=2000 * b'ab')
+
+
+# --- Every byte ----------------------------------------------------------------------------------
+
+def bytes_of_all():
+    every = bytes(range(256))
+    each = page('\n'.join(row(('x', at, at + 1)) for at in range(256)))
+    hex_of = [r'\x%02x' % byte for byte in range(256)]
+    hard('bytes', 'a class for each byte', '/!x{%s}/' % '|'.join('[%s]' % text for text in hex_of), each, document=every)
+    hard('bytes', 'an atom for each byte', ' union '.join('/!x{%s}/' % text for text in hex_of), each, document=every)
+    hard('bytes', 'a range of all', r'/!x{[\x00-\xff]}/', each, document=every)
+    but_each = '/!x{%s}/' % ''.join('[^%s]' % text for text in hex_of)
+    hard('bytes', 'all but one, 256 times', but_each, NO_ROW, document=every)
+    hard('bytes', 'the same, on the bytes from the last to the first', but_each, page(row(('x', 0, 256))),
+         document=every[::-1])
+    hard('bytes', 'all but each, joined', ' join '.join('/!x{[^%s]}/' % text for text in hex_of), NO_ROW, STATES, WAYS,
+         document=every)
+    hard('bytes', 'no byte', r'/[^\x00-\xff]/', fault('bad range', 1), document=every)
+    hard('bytes', 'all bytes but 255', r'/!x{[^\x00-\xfe]}/', page(row(('x', 255, 256))), document=every)
+    texts = ''.join({9: '\\\\t', 10: '\\\\n', 13: '\\\\r', 34: '\\\\\\"', 92: '\\\\\\\\'}.get(b) or
+                    (chr(b) if 0x20 <= b <= 0x7e else '\\\\x%02x' % b) for b in every)
+    hard('bytes', 'the text of all', r'/^!x{[\x00-\xff]*}$/', page('{"x":[0,256,"%s"]}' % texts), document=every,
+         words=['-f', 'json', '-t'])
+    around = ''.join('!%s{' % name for name in NAMES)
+    hard('bytes', 'sixteen times the text of 100,000 bytes 00', '/^%s[\\x00-\\xff]*%s$/' % (around, '}' * 16),
+         page('{%s}' % ','.join('"%s":[0,100000,"%s"]' % (name, 100000 * '\\\\x00') for name in NAMES)),
+         document=bytes(100000), words=['-f', 'json', '-t'])
+    hard('bytes', 'all but one, 16,383 times, explained', '/%s/' % (16383 * '[^a]'),
+         page('query /%s/\nvariables none\natom 1 states 16385 ways 16386' % (16383 * r'[\x00-\`b-\xff]')),
+         words=['--explain'])
+
+
+# --- Lets ----------------------------------------------------------------------------------------
+
+def lets():
+    thousands = ''.join('let a%d=/!x{a}/;' % k for k in range(3000))
+    hard('lets', 'three thousand atoms', thousands + 'a2999', page(row(('x', 0, 1))))
+    thousand = ''.join('let a%d=/!x{a}/;' % k for k in range(1000))
+    calls = ['a%d' % k for k in range(1000)]
+    hard('lets', 'a thousand, in a union', thousand + ' union '.join(calls), page(row(('x', 0, 1))), STATES)
+    hard('lets', 'a thousand, joined', thousand + ' join '.join(calls), page(row(('x', 0, 1))), STATES, WAYS)
+    for word, answers in (('union', [STATES]), ('join', [STATES, WAYS])):
+        doubled = 'let a0=/!x{a}/;' + ''.join('let a%d=a%d %s a%d;' % (k + 1, k, word, k) for k in range(1500))
+        hard('lets', 'doubled by %s 1,500 times' % word, doubled + 'a1500', page(row(('x', 0, 1))), *answers)
+    large = '/^(a?){1000}(a?){999}$/'
+    for name, count in (('three', 3), ('a thousand', 1000)):
+        hard('lets', name + ' of two million ways, that nothing names',
+             ''.join('let a%d=%s;' % (k, large) for k in range(count)) + '/a/', ONE, MEMORY, slow=True)
+    hard('lets', 'a thousand joins that nothing names',
+         ''.join('let a%d=/!x{a}/ join /!y{a}/;' % k for k in range(1000)) + '/a/', ONE)
+    half = thousands[:thousands.index('let a1500')]
+    hard('lets', 'the 1,501st names what is not there', half + 'let b=c;/a/', fault('unknown name', len(half) + 6))
+
+
+# --- Joins of everything with everything ---------------------------------------------------------
+
+def stars(count):
+    return ' join '.join('/!%s{z*}/' % name for name in NAMES[:count])
+
+
+def joins():
+    hard('joins', 'five free spans', stars(5), first(5), document=b'zz', words=['-n', '1'])
+    hard('joins', 'seven free spans', stars(7), first(7), MEMORY, document=b'zz', words=['-n', '1'], slow=True)
+    for length in (1, 10, 20):
+        hard('joins', 'eight free spans, %d bytes' % length, stars(8), first(8), MEMORY, document=length * b'z',
+             words=['-n', '1'], slow=True)
+    for name, count in (('nine', 9), ('sixteen', 16)):
+        hard('joins', name + ' free spans', stars(count), first(count), STATES, WAYS, MEMORY, document=b'z',
+             words=['-n', '1'], slow=True)
+    hard('joins', 'sixteen at one place', ' join '.join('/^!%s{z}$/' % name for name in NAMES),
+         page(row(*((name, 0, 1) for name in NAMES))), STATES, WAYS, document=b'z')
+    ring = ' join '.join('/!%s{z}!%s{z}/' % pair for pair in zip(NAMES, NAMES[1:] + NAMES[0]))
+    hard('joins', 'a ring that cannot close', ring, NO_ROW, STATES, WAYS, document=40 * b'z')
+    chain = ' join '.join('/!%s{z}!%s{z}/' % pair for pair in zip(NAMES, NAMES[1:]))
+    hard('joins', 'a chain', chain, page(row(*((name, at, at + 1) for at, name in enumerate(NAMES)))), STATES, WAYS,
+         document=16 * b'z')
+    ordered = ' join '.join('/!%s{z+}.*!%s{z+}/' % pair for pair in (('a', 'b'), ('b', 'c'), ('a', 'c')))
+    hard('joins', 'three that share two by two', ordered, page(row(('a', 0, 1), ('b', 1, 2), ('c', 2, 3)),
+                                                            'more c1;a:0-1;b:1-2;c:2-3'), STATES, WAYS,
+         document=60 * b'z', words=['-n', '1'])
+    some = ['let a%d=/!x%d{a}/;' % (k, k) for k in range(16)]
+    pairs = ' union '.join('project none (a%d join a%d)' % (i, j) for i in range(16) for j in range(16))
+    hard('joins', 'each of sixteen with each', ''.join(some) + pairs, ONE, STATES, WAYS)
+    large = '/^(a?){1000}(a?){999}$/'
+    hard('joins', 'a large atom with itself', '%s join %s' % (large, large), ONE, STATES, WAYS, MEMORY, document=b'aa',
+         slow=True)
+    hard('joins', '1,500 large atoms, each joined with the empty string, in a union',
+         ' union '.join(1500 * ['%s join /^$/' % large]), ONE, STATES, WAYS, MEMORY, document=b'', slow=True)
+    hard('joins', '99 large atoms, joined from within', '(%s join ' % large * 99 + large + ')' * 99,
+         ONE, STATES, WAYS, MEMORY, document=b'aa', slow=True)
+    longs = ['/%s{0,150}!%s{[ab]*}%s{0,130}/' % (x, n, y) for x, n, y in ('axb', 'byc')]
+    hard('joins', 'two atoms of many ways', ' join '.join(longs),
+         page(row(('x', 0, 0), ('y', 0, 0)), 'more c1;x:0-0;y:0-0'), STATES, WAYS, document=20 * b'abc', words=['-n', '1'])
+
+
+# --- Unions and projections by the thousand ------------------------------------------------------
+
+def unions():
+    part = 'project x (/!x{a}!y{b*}/)'
+    hard('unions', '1,900 projections', ' union '.join(1900 * [part]), page(row(('x', 0, 1))), STATES, document=b'abb')
+    hard('unions', '1,500 projections onto nothing', ' union '.join(1500 * ['project none (/!x{.}!y{.}/)']), ONE,
+         document=20 * b'a')
+    forms = ['/!x{%s}/' % ''.join('ab'[k >> bit & 1] for bit in range(10)) for k in range(1 << 10)]
+    hard('unions', 'each word of ten bytes', ' union '.join(forms), page(row(('x', 0, 10), )), document=b'abababbbab')
+    hard('unions', 'a projection of each', ' union '.join('project none (%s)' % form for form in forms), ONE,
+         document=b'abababbbab')
+    many = filled('/a/ union ', '', '/a/')[0]
+    hard('unions', '6,553 atoms, each with its filter', many, NO_ROW, document=2000 * b'b', words=['--filter'])
+    hard('unions', '6,553 atoms, each with its filter, a longer document', many, NO_ROW, document=100000 * b'b',
+         words=['--filter'], slow=True)
+    hard('unions', 'of different variables, at the end', '/!x{a}/' + 1000 * ' union /!x{a}/' + ' union /!y{a}/',
+         fault('variable x not on both sides of union'))
+    hard('unions', 'a projection to what is not there, at the end',
+         ' union '.join(1000 * ['project none (/a/)'] + ['project z (/!x{a}/)']), fault('no variable z to keep'))
+
+
+# --- Sixteen captures in each arm ----------------------------------------------------------------
+
+def arms():
+    def arm(turn):
+        return ''.join('!%s{z}' % name for name in NAMES[turn:] + NAMES[:turn])
+
+    def turned(turn):
+        return row(*((name, (at - turn) % 16, (at - turn) % 16 + 1) for at, name in enumerate(NAMES)))
+
+    hard('arms', '750 arms alike', '/%s/' % '|'.join(750 * [arm(0)]), page(turned(0)), document=16 * b'z')
+    hard('arms', 'sixteen orders, forty-five times', '/%s/' % '|'.join(45 * [arm(turn) for turn in range(16)]),
+         page('\n'.join(turned(turn) for turn in range(16))), document=16 * b'z')
+    hard('arms', 'one capture is not in the last arm', '/%s|%s/' % ('|'.join(700 * [arm(0)]), arm(0)[:-5]),
+         fault('variable p not in every arm'))
+    beside = ''.join('!%s{z*}' % name for name in NAMES)
+    hard('arms', 'sixteen free captures beside each other', '/%s/' % beside, first(16), document=3000 * b'z',
+         words=['-n', '1'])
+    hard('arms', 'sixteen free captures beside each other, a longer document', '/%s/' % beside, first(16), MEMORY,
+         document=100000 * b'z', words=['-n', '1'], slow=True)
+    hard('arms', 'sixteen free captures beside each other, 300,000 bytes', '/%s/' % beside, first(16), MEMORY,
+         document=300000 * b'z', words=['-n', '1'], slow=True)
+    hard('arms', 'the same in a hundred arms', '/%s/' % '|'.join(100 * [beside]), first(16), document=20 * b'z',
+         words=['-n', '1'])
+
+
+# --- The worst for reading by sets ---------------------------------------------------------------
+
+def tables():
+    def drawn(length, seed):
+        return bytes(random.Random(seed).choices(b'ab', k=length))
+
+    looking = '/(a|b)*a(a|b){%d}!x{c}/'
+    hard('tables', 'twenty bytes back', looking % 20, NO_ROW, document=drawn(100000, 1))
+    hard('tables', 'twenty bytes back, a long document', looking % 20, NO_ROW, TABLE, document=drawn(2000000, 2),
+         slow=True)
+    hard('tables', 'twenty bytes back, the largest table', looking % 20, NO_ROW, MEMORY,
+         document=drawn(5000000, 3), words=['--max-table', '100000000'], slow=True)
+    hard('tables', 'twenty bytes back, with the filter', looking % 20, NO_ROW, TABLE, FILTER, document=drawn(2000000, 2),
+         words=['--filter'], slow=True)
+    hard('tables', 'a thousand bytes back', looking % 1000, NO_ROW, document=drawn(5000, 4))
+    hard('tables', 'a thousand bytes back, a long document', looking % 1000, NO_ROW, TABLE, document=drawn(200000, 5),
+         slow=True)
+    hard('tables', 'nine thousand bytes back', '/(a|b)*a((a|b){900}){10}!x{c}/', NO_ROW, document=drawn(2000, 6))
+    dense = '/((a|b)*a(a|b){20}|([ab]?){1000}([ab]?){400})!x{c}/'
+    hard('tables', 'a million ways from each set, 40 bytes', dense, NO_ROW, document=drawn(40, 7))
+    hard('tables', 'a million ways from each set, 1,000 bytes', dense, NO_ROW, document=drawn(1000, 7), slow=True)
+    hard('tables', 'the least table', looking % 20, refused(4, 'size: table past 1'), document=b'ab', words=['--max-table', '1'])
+    hard('tables', 'every second byte opens', '/!x{a}.*!y{b}/', page(row(('x', 0, 1), ('y', 1, 2)), 'more c1;x:0-1;y:1-2'),
+         document=50000 * b'ab', words=['-n', '1'])
+    hard('tables', 'three free captures', '/!x{a*}!y{a*}!z{a*}/',
+         page(row(('x', 0, 0), ('y', 0, 0), ('z', 0, 0)), 'more c1;x:0-0;y:0-0;z:0-0'), document=20000 * b'a', words=['-n', '1'])
+    hard('tables', 'three free captures, a long document', '/!x{a*}!y{a*}!z{a*}/',
+         page(row(('x', 0, 0), ('y', 0, 0), ('z', 0, 0)), 'more c1;x:0-0;y:0-0;z:0-0'), MEMORY, document=1000000 * b'a',
+         words=['-n', '1'], slow=True)
+    hard('tables', 'nothing comes of what opens everywhere', '/!x{a+}!y{a+}b/', NO_ROW, MEMORY, document=2000000 * b'a',
+         slow=True)
+    hard('tables', 'the same with the filter', '/!x{a+}!y{a+}b/', NO_ROW, MEMORY, document=2000000 * b'a', words=['--filter'],
+         slow=True)
+
+
+for family in (nesting, names, long_texts, repeats, bytes_of_all, lets, joins, unions, arms, tables):
+    family()
