@@ -1,4 +1,7 @@
 //! To the first row after a given one.
+//!
+//! The lists are gone down beside the blocks of the given row: cells that stand before its next block are passed over,
+//! one that is equal is gone into, and its neighbours wait. Each cell is looked at once at most.
 ghost use Rattle.std.specs.Prelude.{◌≡◌, ℕ, ◌+◌, ◌*◌, ◌<◌, ◌≤◌, ◌⊎◌, IsTrue, ◌↔◌, List, Option, [], ◌∷◌, ◌++◌, length, MatchOption};
 ghost use Rattle.span_core.specs.Block.{IsTotal};
 ghost use Rattle.span_core.specs.Lists.{Has};

@@ -1,4 +1,7 @@
 //! From one row to the next.
+//!
+//! What waits lies on a stack, the next row's part on top. Going down from it, each cell's neighbours wait and its
+//! markers are written into their places: as many cells as the row has markers, whatever the document's size.
 ghost use Rattle.std.specs.Prelude.{◌≡◌, ℕ, ◌+◌, ◌*◌, ◌<◌, ◌≤◌, List, Option, [], ◌∷◌, ◌++◌, length, map, take, Some};
 ghost use Rattle.std.specs.Bool.{OnTrue, OnFalse};
 ghost use Rattle.span_core.specs.Block.{IsTotal};

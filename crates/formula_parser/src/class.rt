@@ -1,4 +1,7 @@
 //! Reads a class, one element after another.
+//!
+//! Whether a `-` is a range or itself depends on what stands before and behind it, so the last element waits until
+//! the next token tells whether it begins a range.
 ghost use Rattle.std.specs.Prelude.{◌≡◌, ℕ, ◌+◌, ◌<◌, ◌≤◌, ◌==◌, length, Some, None, IfOk, if◌then◌else◌};
 ghost use Rattle.std.specs.FinSet as set;
 ghost use Rattle.formula_parser.specs.Classes.{range_set, no_item};

@@ -1,4 +1,8 @@
 //! The text of an atom and its tree.
+//!
+//! A reader goes over the text once, a token a turn, with the open groups on a stack of its own: the limit on open
+//! groups is then an index, and nothing recurses. Each turn is one equation on a step function of `specs/`, which
+//! joins the grammar to the code.
 #![tactic(auto)]
 
 pub use fault::FormulaFault;

@@ -1,4 +1,7 @@
 //! What is open at a place of the text.
+//!
+//! A frame for each open group or capture keeps the arms and pieces that stand whole since it was opened. The last
+//! thing read is kept apart from them, because a repeat may still belong to it.
 ghost use Rattle.std.specs.Prelude.{◌≡◌, ◌<◌, ◌++◌, [], ◌∷◌, length, OnOk, IfOk};
 ghost use Rattle.spanner_model.specs.View.{tree_of, trees_of};
 ghost use Rattle.formula_parser.specs.Nest.{held, whole_seq, whole_alt, whole, outermost, with_unit, opened, next_arm, Left};

@@ -1,4 +1,7 @@
 //! Reads an atom, one token after another.
+//!
+//! The first byte of what is left decides which token it is (`take_turn`), and each token changes the nest by one
+//! function. So the first fault from left to right is the one that the reader stops at, and no token is read twice.
 ghost use Rattle.std.specs.Prelude.{◌≡◌, ◌+◌, ◌-◌, ◌≤◌, ◌<◌, ◌∷◌, length, take, drop, ℕ, Some, None, OnOk, IfOk, IfErr, Ok, Err, ◌⊎◌, slice_get};
 ghost use Rattle.spanner_model.specs.Tree.{rep, one};
 ghost use Rattle.spanner_model.specs.View.{tree_of};

@@ -1,4 +1,8 @@
 //! The tokens that stand for themselves: escapes, the heads of captures, the braces of repeats.
+//!
+//! Each is a function of the text from its first byte on, which answers what the token stands for and how many bytes
+//! it takes, or None. Its equation in `specs/Tokens.antt` is the same function; one pair of lemmas a token joins that
+//! to the grammar.
 ghost use Rattle.std.specs.Prelude.{◌≡◌, ◌+◌, ◌≤◌, ◌<◌, ◌&&◌, ◌-◌, length, drop, nat_le, if◌then◌else◌, Some, None, IfSome};
 ghost use Rattle.std.specs.List.{take_while, list_all};
 ghost use Rattle.std.specs.Option.{option_map};

@@ -1,4 +1,7 @@
 //! Reading a byte by what is known of whole layers.
+//!
+//! Where it is known what the layer does on the byte, one look-up tells it: nothing, or a program that steps all its
+//! sources at once. Else the sources are stepped one by one, and what they did is kept.
 ghost use Rattle.std.specs.Prelude.{◌≡◌, ℕ, ◌+◌, [], ◌∷◌, IfErr, IfOk, IfSome, OnErr, OnOk, Some, None, slice_get};
 ghost use Rattle.output_graph.specs.Graph.{sets_of};
 ghost use Rattle.one_pass.specs.Faults.{IsFaultAt};

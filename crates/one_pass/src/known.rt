@@ -1,4 +1,8 @@
 //! Whole layers, worked out once: what a layer does on a byte.
+//!
+//! A layer, as the list of its sets, has a number, found by hash only where a step led to it that was not known. What
+//! it does on a byte is entered once, in a dense table of layers and bytes. All of it follows from what the table of
+//! sets has answered, which never changes, so that it may be forgotten, or never kept, at any time.
 ghost use Rattle.std.specs.Prelude.{◌≡◌, ℕ, ◌+◌, ◌*◌, ◌<◌, ◌≤◌, [], ◌∷◌, ◌++◌, length, slice_get, Some, None, IfOk, IfSome, IsTrue};
 ghost use Rattle.output_graph.specs.Graph.{sets_of};
 ghost use Rattle.output_graph.specs.Source.{Edges};

@@ -1,4 +1,7 @@
-//! Reading one place after another.
+//! Reading one place after another: pieces of bytes, and gaps between them.
+//!
+//! An interval of positions is read byte by byte, by what is known of whole layers where it is known; a gap takes one
+//! step, in which each set goes to its idle members.
 ghost use Rattle.std.specs.Prelude.{◌≡◌, ℕ, ◌+◌, ◌*◌, ◌^◌, ◌<◌, ◌≤◌, min, [], ◌∷◌, length, IfErr, OnOk, OnErr};
 ghost use Rattle.span_core.specs.Intervals.{AreApart, Covers};
 ghost use Rattle.one_pass.specs.Faults.{IsFaultAt};

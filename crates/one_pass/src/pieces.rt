@@ -1,4 +1,7 @@
 //! Reading on where a document grows at its end.
+//!
+//! A pass is a table and a graph between two places. They are handed in and out, so that a caller keeps them between
+//! the pieces that come.
 ghost use Rattle.std.specs.Prelude.{◌≡◌, ℕ, ◌+◌, ◌^◌, ◌≤◌, [], ◌∷◌, length, IfErr, IfOk, OnErr};
 ghost use Rattle.span_core.specs.Lists.{Has};
 ghost use Rattle.automaton_reading.specs.Reading.{ended, rows_asked};

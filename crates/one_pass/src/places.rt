@@ -1,4 +1,7 @@
-//! Reading at one place.
+//! Reading at one place: each source of the layer is looked up in the table and stepped in the graph.
+//!
+//! A place is a byte, the first position of a gap, or the end; the three differ in what is looked up and in where the
+//! edges lead.
 ghost use Rattle.std.specs.Prelude.{◌≡◌, ℕ, ◌+◌, ◌<◌, [], ◌∷◌, length, IfErr, IsTrue, OnOk, OnErr};
 ghost use Rattle.std.specs.FinSet as bytes;
 ghost use Rattle.span_core.specs.Lists.{Has};

@@ -1,4 +1,4 @@
-//! Reading a whole document.
+//! Reading a whole document: the layer of the empty word, the intervals of positions, and the ends.
 ghost use Rattle.std.specs.Prelude.{◌≡◌, ℕ, ◌+◌, ◌*◌, ◌^◌, ◌≤◌, length, IfErr, IfOk, OnErr};
 ghost use Rattle.span_core.specs.Intervals.{Covers};
 ghost use Rattle.automaton_reading.specs.Reading.{edges_K};

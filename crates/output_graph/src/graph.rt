@@ -1,4 +1,7 @@
 //! The layers of a forward pass.
+//!
+//! The sources of a layer are stepped one after the other, each by its edges at one position; when all are, the next
+//! layer takes the place of this one. Room is made before a source is stepped, so that a refusal changes nothing.
 ghost use Rattle.std.specs.Prelude.{◌≡◌, ◌↔◌, ◌≤◌, ◌<◌, ◌+◌, ◌*◌, ℕ, [], ◌∷◌, map, drop, length, slice_get, Some, OnOk, OnErr, IfOk};
 ghost use Rattle.span_core.specs.Lists.{Has};
 ghost use Rattle.node_arena.specs.Cells.{NamedLink, HasCell};

@@ -1,4 +1,7 @@
 //! The moves of a program, into the next layer.
+//!
+//! What a move does to cells is what an edge does: it links one, joins it to what its target has, or hands the source's
+//! own cell on.
 ghost use Rattle.std.specs.Prelude.{◌≡◌, ◌≤◌, ◌<◌, ◌+◌, ℕ, [], length, OnOk};
 ghost use Rattle.span_core.specs.Lists.{Has};
 ghost use Rattle.node_arena.specs.Cells.{HasCell, IsLive};

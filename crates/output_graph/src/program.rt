@@ -1,4 +1,7 @@
 //! What a whole layer does on a byte, worked out once.
+//!
+//! A program lists the edges of each source with the place of each target in the next layer, or that it is new there: so
+//! that running it looks up no set. It goes where stepping the sources one after the other goes.
 ghost use Rattle.std.specs.Prelude.{◌≡◌, ◌≤◌, ◌<◌, ◌+◌, ℕ, [], ◌∷◌, ◌++◌, length, IfOk, OnOk};
 ghost use Rattle.span_core.specs.Lists.{Has};
 ghost use Rattle.output_graph.specs.Source.{Descend};

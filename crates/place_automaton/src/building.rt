@@ -1,4 +1,7 @@
-//! The automaton of an atom.
+//! The automaton of an atom: counted, placed, given its outer ways, and grouped.
+//!
+//! Ways are collected in one list in the order of the definition and only then handed to the automaton, so that an
+//! atom at the limit holds them once.
 ghost use Rattle.std.specs.Prelude.{◌≡◌, ℕ, ◌+◌, ◌<◌, ◌≤◌, ◌↔◌, List, ◌++◌, length, map, Bool, false, if◌then◌else◌, IfOk, IfErr, OnOk};
 ghost use Rattle.span_core.specs.declared.TheConstants.{MOST_VARIABLES};
 ghost use Rattle.span_core.specs.NameSets.{Ascending};

@@ -1,4 +1,7 @@
 //! The numbers of an atom's automaton, before it is made.
+//!
+//! One walk over the tree tells whether an atom is too large; so nothing that is refused is built. Memory is taken for
+//! null alone, the sets of markers with which a part fits the empty string.
 ghost use Rattle.std.specs.Prelude.{◌≡◌, ℕ, ◌+◌, ◌-◌, ◌^◌, [], min, IfOk};
 ghost use Rattle.span_core.specs.declared.TheConstants.{MOST_VARIABLES};
 ghost use Rattle.span_core.specs.Lists.{AreDistinct, AtMost, Has};

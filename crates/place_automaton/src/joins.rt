@@ -1,4 +1,7 @@
 //! Entries, ends and ways of parts that are put together.
+//!
+//! Markers in front of an entry and behind an end are joined by bits: on sequential formulas the bits are apart, so
+//! that this is the sum of the definition.
 ghost use Rattle.std.specs.Prelude.{◌≡◌, ℕ, ◌++◌, map, IfOk, OnOk};
 ghost use Rattle.std.specs.List.{flat_map};
 ghost use Rattle.span_core.specs.Lists.{Has};

@@ -1,4 +1,8 @@
 //! The automaton of the places of a regex formula (Glushkov 1961).
+//!
+//! Each byte set of the formula, its repetitions written out, is a place, and the automaton steps from place to place
+//! with no empty ways. A part is known by its two sides: where it may begin, where it may end, and with which markers
+//! it fits the empty string. All that a concatenation, an alternation or a repetition needs are those.
 #![tactic(auto)]
 
 pub use building::of_atom;

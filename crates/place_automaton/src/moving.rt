@@ -1,4 +1,7 @@
 //! Entries, ends and ways whose places get other numbers.
+//!
+//! A copy of a formula is the first one with all numbers raised by the same amount, so it costs what it adds and
+//! looks at no formula.
 ghost use Rattle.std.specs.Prelude.{◌≡◌, ◌+◌, ◌-◌, ◌≤◌, ◌++◌, length, take, drop, map, IfOk, OnOk};
 ghost use Rattle.span_core.specs.Lists.{Has};
 ghost use Rattle.marked_automaton.specs.declared.TheConstants.{MOST_STATES};

@@ -1,4 +1,7 @@
-//! The numbers of a formula's places.
+//! The numbers of a formula's places, without the places.
+//!
+//! Places, sides and ways of a part are counted from those of its parts by the rules of the construction, in numbers
+//! that stop at 2^64 - 1: sums and products that stop there tell the least of the true number and the greatest.
 ghost use Rattle.std.specs.Prelude.{◌≡◌, ℕ, ◌+◌, ◌-◌, Some, IfOk, if◌then◌else◌};
 ghost use Rattle.span_core.specs.Lists.{Has};
 ghost use Rattle.place_automaton.specs.Capped.{AreCapped, capped};

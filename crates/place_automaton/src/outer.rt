@@ -1,4 +1,7 @@
 //! The ways and the ends of an atom's automaton that are not between places.
+//!
+//! Before leads into the first places and waits in front of them, After is led to from the last places and waits
+//! behind them: so the atom fits any part of the document. A tie leaves out the wait on its side.
 ghost use Rattle.std.specs.Prelude.{◌≡◌, ℕ, ◌<◌, ◌↔◌, ◌⊎◌, [], ◌∷◌, ◌++◌, length, map, false, IfOk, OnOk};
 ghost use Rattle.span_core.specs.Lists.{Has};
 ghost use Rattle.marked_automaton.specs.declared.way.Stop.{Stop};

@@ -1,4 +1,7 @@
-//! Parts of a formula whose places are numbered.
+//! Parts of a formula whose places are numbered, known by their two sides.
+//!
+//! Joining two pieces adds a way from each end of the front one through each entry of the back one. A side passes a
+//! piece that fits the empty string, once for each set of markers of such a fit, and takes these with it.
 ghost use Rattle.std.specs.Prelude.{◌≡◌, ℕ, ◌+◌, List, [], ◌∷◌, ◌++◌, ◌<◌, ◌≤◌, length, map, IfOk, OnOk, IsTrue, if◌then◌else◌};
 ghost use Rattle.span_core.specs.Lists.{Has};
 ghost use Rattle.place_automaton.specs.Ends.{CanCapture, nothing_ends, never_ends, one_ends, cat_ends, alt_ends, opt_ends, cap_ends, JoinAsSums, IsUnmarked, Ends, RowJoins, again_ends, row_ends, row_ways};

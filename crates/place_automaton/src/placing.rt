@@ -1,4 +1,9 @@
 //! The places of a formula.
+//!
+//! Parts are placed from left to right, so that places are numbered in the order of the text, and then joined from
+//! the last to the first: the sides that grow are then those of the rest, no list is copied at a join, and ways come
+//! in the order of a definition that nests to the right. A repeated formula is gone through once; its further copies
+//! are the first with greater numbers.
 ghost use Rattle.std.specs.Prelude.{◌≡◌, ◌↔◌, ◌+◌, ◌-◌, ◌≤◌, IfOk, IsTrue, List, Some, length, take, drop};
 ghost use Rattle.spanner_model.specs.Captures.{VarName};
 ghost use Rattle.span_core.specs.Lists.{Has, AreDistinct};

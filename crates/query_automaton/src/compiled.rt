@@ -1,4 +1,7 @@
 //! Queries compiled to automata.
+//!
+//! A compiled query keeps the query that it was made from, with the invariant that it is sound and that the automaton
+//! reduces its own: so what reads by the automaton asks nothing of its caller.
 ghost use Rattle.std.specs.Prelude.{◌≡◌, ℕ, ◌<◌, length, IfOk, IfErr, OnOk};
 ghost use Rattle.spanner_model.specs.ExprView.{query_of};
 ghost use Rattle.spanner_model.specs.Sound.{IsSound};

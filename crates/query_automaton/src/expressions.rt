@@ -1,4 +1,7 @@
-//! The automata of expressions.
+//! The automata of expressions, by recursion.
+//!
+//! Unions grow in place behind their first part, joins are trimmed as they are made. What is held while further parts
+//! are compiled is counted, and so is all that is made, against two guards.
 ghost use Rattle.std.specs.Prelude.{◌≡◌, ℕ, ◌≤◌, length, IfOk, IfErr};
 ghost use Rattle.span_core.specs.declared.TheConstants.{MOST_VARIABLES};
 ghost use Rattle.spanner_model.specs.Captures.{VarName};

@@ -1,4 +1,7 @@
 //! From a query to its automaton.
+//!
+//! The tree is gone over once, from the leaves up; what leads to no end is taken away after each atom and each join,
+//! and once more at the end. A `let` is compiled once, in its turn, used or not, and shared by all that name it.
 #![tactic(auto)]
 
 pub use compiled::{Compiled, compile};

@@ -1,4 +1,7 @@
 //! Automata that are used in more than one place.
+//!
+//! A counted pointer that is seen as the automaton itself, so that no definition above speaks of owners. It is taken
+//! out where it has one owner, and copied only where it has more.
 ghost use Rattle.std.specs.Prelude.{◌≡◌, ◌≤◌, IfOk};
 ghost use Rattle.marked_automaton.specs.Automaton.{size};
 

@@ -1,4 +1,7 @@
-//! Checks the expressions of a query.
+//! Checks the expressions of a query, from the leaves up.
+//!
+//! Each expression answers its variables or its first fault; a `let` is checked under those before it, whose variables
+//! are known by number.
 ghost use Rattle.std.specs.Prelude.{◌≡◌, ℕ, ◌<◌, ◌↔◌, List, length, IsTrue, IfSome, IfNone, Some, OnOk, IfErr, ◌⊎◌};
 ghost use Rattle.span_core.specs.declared.TheConstants.{MOST_VARIABLES};
 ghost use Rattle.span_core.specs.Lists.{Has, AtMost};

@@ -1,4 +1,7 @@
 //! The text of a query and its tree.
+//!
+//! Tokens do not depend on the grammar, and what may come next is a function of what was read: so each text has one
+//! first fault. What the grammar spells is then checked as a tree, where names and variables are known.
 #![tactic(auto)]
 
 pub use fault::QueryFault;

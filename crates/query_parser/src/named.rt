@@ -1,4 +1,6 @@
 //! The lets that are ended, with their numbers by name.
+//!
+//! A name means the last `let` before it. In the tree a `let` is a number, so that no later step compares names.
 ghost use Rattle.std.specs.Prelude.{◌≡◌, [], ◌∷◌, ◌++◌, IfOk};
 ghost use Rattle.spanner_model.specs.ExprView.{expr_of, lets_of};
 ghost use Rattle.query_parser.specs.Spells.{names_of};

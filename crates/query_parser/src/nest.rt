@@ -1,4 +1,7 @@
 //! What has been read of a query before a place of its text.
+//!
+//! A frame for each open parenthesis keeps the unions and joins that stand whole so far, and what a projection before
+//! it keeps. The last thing read decides what may come next.
 ghost use Rattle.std.specs.Prelude.{◌≡◌, ◌++◌, [], ◌∷◌, OnOk, IfOk};
 ghost use Rattle.spanner_model.specs.ExprView.{expr_of, exprs_of};
 ghost use Rattle.query_parser.specs.Nest.{outermost, empty_frame, whole_conj, whole_expr, whole, keeping, closed, next_unit, next_conj, opened, wants_unit};

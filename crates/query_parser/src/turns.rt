@@ -1,4 +1,6 @@
-//! The turns of reading a query.
+//! The turns of reading a query: what each token makes of what has been read.
+//!
+//! A token that may not come next is a fault at its first byte, before anything in it is looked at.
 ghost use Rattle.std.specs.Prelude.{◌≡◌, ◌+◌, ◌≤◌, ◌<◌, ◌∷◌, [], ◌⊎◌, length, drop, slice_get, Some, None, if◌then◌else◌, IfOk, IfErr, OnOk, Ok, Err};
 ghost use Rattle.spanner_model.specs.ExprView.{expr_of};
 ghost use Rattle.query_parser.specs.Tokens.{let_word, union_word, join_word, project_word, none_word, name_token, equals, semicolon, open_paren, close_paren, comma, sign_token};

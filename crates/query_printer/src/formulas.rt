@@ -1,4 +1,7 @@
 //! Prints formulas and atoms.
+//!
+//! A set of one byte is that byte, all but the line feed is a dot, all else a class of maximal runs; parentheses stand
+//! only where the grammar needs them. Every byte that is printed is ASCII and none depends on what follows.
 ghost use Rattle.std.specs.Prelude.{◌≡◌, ℕ, ◌+◌, ◌-◌, ◌==◌, ◌++◌, ◌∷◌, [], OnOk, OnErr, if◌then◌else◌};
 ghost use Rattle.std.specs.Fmt.{decimal};
 ghost use Rattle.spanner_model.specs.Tree.{rep, cap, cat_all, alt_all};

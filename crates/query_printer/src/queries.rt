@@ -1,4 +1,7 @@
 //! Prints queries.
+//!
+//! A named expression prints the name of its `let`; a union in a join stands in parentheses, and a join in a union
+//! does not.
 ghost use Rattle.std.specs.Prelude.{◌≡◌, ◌++◌, ◌∷◌, [], ◌<◌, ◌≤◌, length, slice_get, unwrap_or, OnOk, OnErr, if◌then◌else◌};
 ghost use Rattle.span_core.specs.Lists.{Has};
 ghost use Rattle.spanner_model.specs.Expression.{ExprTree, union_all, join_all, project};

@@ -1,4 +1,6 @@
 //! Lines are gathered, and put as whole lines: as many as fit a piece in one put, a longer one alone.
+//!
+//! What was put is always a front of the whole text that ends with a line, whatever fails after it.
 ghost use Rattle.std.specs.Prelude.{◌≡◌, ◌+◌, ◌-◌, ◌≤◌, ◌++◌, [], OnOk, OnErr, IfOk, IsTrue, length, map, take, Some, slice_range};
 ghost use Rattle.std.specs.List.{list_all};
 ghost use Rattle.cell_text.specs.Cells.{ends_by};

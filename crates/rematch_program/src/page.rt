@@ -1,4 +1,7 @@
 //! A page of answers: its rows, one by one, its text on out, and the note at its end.
+//!
+//! A page is never held: each row is asked for when its line is written. The note is made before the last put, so that
+//! want of memory can no more come when all is written.
 ghost use Rattle.std.specs.Prelude.{◌≡◌, ℕ, ◌<◌, ◌≤◌, ◌+◌, ◌*◌, ◌↔◌, ◌++◌, [], List, Some, length, nat_lt, IsTrue, IsFalse, IfOk, OnOk, OnErr, IsErrOf};
 ghost use Rattle.std.specs.List.{flat_map};
 ghost use Rattle.command_line.specs.Asked.{request_view};

@@ -1,4 +1,7 @@
 //! A run, from the words to the status.
+//!
+//! One function a stage, each with the type of its stage in `specs/Run.antt` as its one clause; a stage either ends the
+//! run with a status and a note or hands what it has to the next.
 ghost use Rattle.std.specs.Prelude.{◌≡◌, ◌≤◌, ◌⊎◌, ℕ, List, None, map, string_bytes, length, true, IfErr, IfOk, IfSome, IsErrOf, OnOk};
 ghost use Rattle.std.specs.Bool.{OnFalse};
 ghost use Rattle.std.specs.Option.{option_copied};

@@ -1,4 +1,6 @@
 //! How much room a line needs at most.
+//!
+//! A bound by the row alone, so that one growth serves a line and writing it cannot fail.
 ghost use Rattle.std.specs.Prelude.{◌≡◌, ◌+◌, ◌≤◌, ◌^◌, Some};
 ghost use Rattle.row_writer.specs.Room.{fields_room, shown_room};
 

@@ -1,4 +1,7 @@
 //! Pairs of sets of states that were compared.
+//!
+//! A document has few pairs of sets and many positions, so what a comparison told is remembered, in one of 4,096
+//! places that its two numbers choose. A pair that finds another in its place takes it.
 ghost use Rattle.std.specs.Prelude.{◌≡◌, ◌<◌, ◌↔◌, ℕ, List, length, IfOk, IfSome, IsTrue, Some};
 ghost use Rattle.span_core.specs.Lists.{IsInOrder};
 ghost use Rattle.set_table.specs.Tabled.{set_at};

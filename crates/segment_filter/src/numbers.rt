@@ -1,4 +1,7 @@
 //! Numbers, each kept in as few bytes as the greatest of them takes.
+//!
+//! Most documents lead to fewer than 256 sets: one byte a position is then enough. When a greater number comes all are
+//! widened, at most twice.
 ghost use Rattle.std.specs.Prelude.{◌≡◌, ◌<◌, [], ◌∷◌, ◌++◌, length, slice_index, IfOk};
 ghost use Rattle.segment_filter.specs.SetNumbers.{numbers_of};
 

@@ -1,4 +1,7 @@
-//! Documents read by sets of states.
+//! Documents read by sets of states, from the end and then from the start.
+//!
+//! The reading from the end keeps the number of its set at each position; the one from the start compares its set with
+//! that, position by position, and marks where they meet.
 ghost use Rattle.std.specs.Prelude.{◌≡◌, ℕ, ◌+◌, ◌*◌, ◌^◌, ◌<◌, ◌≤◌, ◌↔◌, length, reverse, slice_index, IfOk, IfErr, OnOk, IsTrue, ◌⊎◌};
 ghost use Rattle.span_core.specs.Intervals.{Covers};
 ghost use Rattle.span_core.specs.Lists.{IsInOrder};

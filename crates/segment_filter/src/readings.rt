@@ -1,4 +1,7 @@
 //! The two automata of an atom by which a document is read forwards and backwards.
+//!
+//! Markers are erased. Turned round, Before does not wait: what leads back to it begins a part there. After counts on
+//! neither side, so that a position behind a part is not touched.
 ghost use Rattle.std.specs.Prelude.{◌≡◌, [], map, IfOk};
 ghost use Rattle.std.specs.List.{filter};
 ghost use Rattle.marked_automaton.specs.Automaton.{turned_way};

@@ -1,4 +1,4 @@
-//! Whether two sets of states share one.
+//! Whether two sets of states share one: two ascending lists, gone down together.
 ghost use Rattle.std.specs.Prelude.{◌<◌, ◌↔◌, IsTrue};
 ghost use Rattle.span_core.specs.Lists.{IsInOrder};
 ghost use Rattle.segment_filter.specs.Sets.{HaveShared};

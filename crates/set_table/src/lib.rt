@@ -1,4 +1,7 @@
 //! A table that determinises an automaton while a document is read.
+//!
+//! Only the sets that the document leads to are made, each with a number, and only the edges that were asked for:
+//! the subset construction, as far as it is needed. What was answered once is looked up, with no hash.
 #![tactic(auto)]
 
 pub use fault::TableFault;

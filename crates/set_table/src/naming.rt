@@ -1,4 +1,6 @@
-//! Edges to numbered sets.
+//! Edges to numbered sets, cut from numbers in order.
+//!
+//! Each run of numbers with the same marks is an edge, and its targets, which ascend, are the set as it is kept.
 ghost use Rattle.std.specs.Prelude.{◌≡◌, ℕ, ◌+◌, ◌<◌, ◌≤◌, ◌^◌, ◌++◌, ◌∷◌, List, [], length, map, take, drop, slice_index, OnOk, IfOk};
 ghost use Rattle.span_core.specs.Lists.{Has};
 ghost use Rattle.automaton_reading.specs.Reading.{Reach, rest_edge};

@@ -1,4 +1,7 @@
-//! Numbers in blocks, of which only those that are not all 0 take room of their own.
+//! Numbers in blocks of 16, of which only those that are not all 0 take room of their own.
+//!
+//! A set is asked for few of its 256 bytes: runs that were never written share one block of zeros. A number is found
+//! by two loads.
 ghost use Rattle.std.specs.Prelude.{◌≡◌, ℕ, ◌+◌, ◌*◌, ◌<◌, ◌≤◌, List, [], length, take, ◌^◌, slice_index, slice_set, OnOk, OnErr, IfOk};
 ghost use Rattle.set_table.specs.Answered.{with_places};
 ghost use Rattle.set_table.specs.Spread.{IsSpread, spread};

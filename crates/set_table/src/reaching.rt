@@ -1,4 +1,7 @@
-//! What the members of a set reach.
+//! What the members of a set reach, as numbers in order.
+//!
+//! A way is coded as one number, its marks turned round above its target: sorted, these numbers come the greatest
+//! marks first and then by target, so that each edge with its set is one run.
 ghost use Rattle.std.specs.Prelude.{◌≡◌, ℕ, ◌+◌, ◌<◌, ◌≤◌, ◌∷◌, ◌++◌, ◌^◌, length, map, OnOk, IfOk};
 ghost use Rattle.std.specs.List.{filter, flat_map};
 ghost use Rattle.span_core.specs.Lists.{Has, IsInOrder};

@@ -1,4 +1,8 @@
-//! What a table holds: sets, edges and answers.
+//! What a table holds: sets, edges and answers, in lists that only grow.
+//!
+//! An answer is a part of the list of edges, and a dense index, 272 places a set, tells its number: 256 bytes, the
+//! rest and the ends. A refusal cuts the lists back to their old lengths. Beside them each set notes the bytes on
+//! which it stays.
 ghost use Rattle.std.specs.Prelude.{◌≡◌, ℕ, ◌+◌, ◌*◌, ◌^◌, ◌<◌, ◌≤◌, ◌++◌, ◌∷◌, List, [], length, take, slice_set, slice_index_or, ◌↔◌, ◌⊎◌, IsTrue, OnOk, OnErr, IfOk, IfErr};
 ghost use Rattle.std.specs.FinSet as bytes;
 ghost use Rattle.set_table.specs.Answered.{Adds, IsQuestion, IsReady, IsSound, asked_by, askings, part, place_in, room, tabled, with_places};

@@ -1,4 +1,7 @@
-//! Tables.
+//! Tables: an automaton, what is held of its sets, and how much that weighs.
+//!
+//! Weight is counted as it is added, so that a look-up is refused exactly where it would pass the limit; what a
+//! refused look-up had added is taken back.
 ghost use Rattle.std.specs.Prelude.{◌≡◌, ℕ, ◌+◌, ◌<◌, ◌≤◌, List, [], ◌∷◌, length, IfOk, IfErr, IfSome, OnOk, OnErr, MatchResult, Some, slice_get, ◌↔◌, IsTrue};
 ghost use Rattle.automaton_reading.specs.Reading.{byte_read, rest_taken, ended};
 ghost use Rattle.std.specs.FinSet as bytes;

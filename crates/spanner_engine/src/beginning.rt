@@ -1,4 +1,7 @@
-//! Beginning the answers of a query on a document.
+//! Beginning the answers of a query on a document: where it is read, reading, and going to the first row wanted.
+//!
+//! Every count and weight is said of the query's automaton with nothing left out, which the query determines; the one
+//! that is read is a reduct, and costs no more.
 ghost use Rattle.std.specs.Prelude.{◌≡◌, ℕ, ◌+◌, ◌^◌, ◌≤◌, Bool, length, IfErr, IfOk, IsErrOf};
 ghost use Rattle.std.specs.Option.{ForSome, IfSome, option_copied};
 ghost use Rattle.spanner_model.specs.Answers.{IsRest};

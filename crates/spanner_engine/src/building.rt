@@ -1,4 +1,7 @@
 //! From an automaton and a document to an enumerator of the answers.
+//!
+//! Here words become rows: what is read has the words of the answers' rows, no two alike and in block order, so the
+//! list of their rows is the list of answers.
 ghost use Rattle.std.specs.Prelude.{◌≡◌, ℕ, ◌+◌, ◌^◌, ◌≤◌, length, IfErr, IfOk};
 ghost use Rattle.span_core.specs.Intervals.{Covers};
 ghost use Rattle.spanner_model.specs.Answers.{AreAnswers};

@@ -1,4 +1,7 @@
 //! The answers of a query on a document, one by one.
+//!
+//! The document is read whole before the first answer comes; then each takes a number of steps that does not depend
+//! on the document. What is refused is refused before: by weight, which the query and the document determine.
 #![tactic(auto)]
 
 pub use answers::Answers;

@@ -1,4 +1,7 @@
-//! The positions at which a document is read.
+//! The positions at which a document is read: all, or what the atoms of the query's text touch.
+//!
+//! Each atom is looked at by itself and their positions are merged. The atoms of every `let` count, used or not, as
+//! all are compiled.
 ghost use Rattle.std.specs.Prelude.{◌≡◌, ℕ, ◌+◌, ◌^◌, ◌≤◌, ◌↔◌, true, length, IfErr, IfOk};
 ghost use Rattle.span_core.specs.Intervals.{Covers};
 ghost use Rattle.span_core.specs.Lists.{Has};
