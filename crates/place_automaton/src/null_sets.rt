@@ -9,7 +9,7 @@ use span_core::{Marks, OutOfMemory};
 use std::alloc::Global;
 
 /// The most pairs of sets that are looked at while an atom is counted, and again while it is placed. Past
-/// it memory is wanting: a few arms with fourteen captures each, all of which may be absent, come near it.
+/// it memory is wanting: a few arms with thirteen captures each, all of which may be absent, come near it.
 pub(crate) const MOST_PAIRS: u64 = 400_000_000;
 
 /// Takes so many times so many pairs from those that may still be looked at.
