@@ -9,7 +9,7 @@ use Rattle.formula_parser.specs.Classes as classes
 use Rattle.formula_parser.specs.Faults as faults
 use Rattle.formula_parser.specs.Signs.{IsInside, nothing, lone, is_sign}
 use Rattle.formula_parser.specs.Spells.{AtomTree, given, Spells, IsAtomOver, IsAtomAt, over_bytes, over_characters}
-use Rattle.formula_parser.specs.Laws.{HasTreeOrFault}
+use Rattle.formula_parser.specs.Laws.{HasOneTree, HasNoTreeWithFault, HasOneFault, HasTreeOrFault}
 use Rattle.formula_parser.proofs.InsideLaws.{inside_append, alt_inside}
 use Rattle.formula_parser.proofs.SignLaws as signed
 use Rattle.formula_parser.proofs.SignLaws.{one_inside}
@@ -18,6 +18,15 @@ use Rattle.formula_parser.proofs.BuiltLaws.{IsText, built_at}
 
 pub each_text : HasTreeOrFault
 each_text = signed.each_text the_trees the_trees_are
+
+pub one_tree : HasOneTree
+one_tree = signed.one_tree the_trees the_trees_are
+
+pub no_tree_with_fault : HasNoTreeWithFault
+no_tree_with_fault = signed.no_tree_with_fault the_trees the_trees_are
+
+pub one_fault : HasOneFault
+one_fault = signed.one_fault the_trees the_trees_are
 
 pub atom_built : (text : List ℕ) (from : ℕ) (x : AtomTree × ℕ) → IsAtomAt text from x → IsText text → IsWellBuilt x.0.formula
 atom_built text from x is bytes = built_at plain_class_trees text from x is bytes

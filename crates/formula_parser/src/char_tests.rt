@@ -60,14 +60,14 @@ const ATOMS: &str = "\
 7 /[é]/u
 10 /[à-ü]/u
 9 /[^é]*/u
-9 /\\p{L}/u
-18 /\\p{Alphabetic}/u
-9 /\\u{0}/u
-14 /\\u{10FFFF}/u
-13 /[\\p{Lu}a]/u
-12 /[^\\p{L}]/u
-13 /[\\p{Lu}-]/u
-5 /^/u
+8 /\\p{L}/u
+17 /\\p{Alphabetic}/u
+8 /\\u{0}/u
+13 /\\u{10FFFF}/u
+12 /[\\p{Lu}a]/u
+11 /[^\\p{L}]/u
+12 /[\\p{Lu}-]/u
+4 /^/u
 ";
 
 /// Lines: the runs of a set of bytes, and a text over characters that stands for it.

@@ -2,7 +2,7 @@
 use Rattle.std.proofs.Common.{◌≡◌, inl, inr, ℕ, zero, suc, ◌+◌, true, false, List, Ok, Err, ap, sym, subst, ◌∙◌}
 use Rattle.spanner_model.specs.Expression.{QueryTree}
 use Rattle.formula_parser.specs.Spells.{AtomTree}
-use Rattle.formula_parser.proofs.GrammarLaws.{one_tree, no_tree_with_fault, one_fault}
+use Rattle.formula_parser.proofs.AtomLaws.{one_tree, no_tree_with_fault, one_fault}
 use Rattle.query_parser.specs.declared.fault.QueryFault.TheVariants.{Formula}
 use Rattle.query_parser.specs.Tokens.{atom_token}
 use Rattle.query_parser.specs.Nest.{Nest, Move, Body, move, outermost}

@@ -7,7 +7,6 @@ use Rattle.spanner_model.specs.Captures.{VarName}
 use Rattle.spanner_model.specs.Expression.{ExprTree, QueryTree, atom, named, union_end, union, join_end, join, project}
 use Rattle.spanner_model.specs.ExprView.{query_of}
 use Rattle.spanner_model.specs.Answer.{vars_of_lets}
-use Rattle.formula_parser.specs.declared.fault.FormulaFault.{FormulaFault}
 use Rattle.formula_parser.specs.declared.fault.FormulaFault.TheVariants as formula_fault
 use Rattle.formula_parser.proofs.AtomLaws.{fault_memory}
 use Rattle.query_parser.specs.Nest.{outermost}

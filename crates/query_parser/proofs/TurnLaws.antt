@@ -10,15 +10,15 @@ use Rattle.query_parser.specs.Reads.{unexpected}
 use Rattle.query_parser.specs.Nest.{Nest, move, with_unit, wants_unit}
 use Rattle.query_parser.specs.Step.{step, Ends}
 use Rattle.query_parser.specs.Turn.{IsTurn, IsEnd, AnswersBody}
+use Rattle.formula_parser.proofs.AtomLaws.{atom_ends}
 use Rattle.query_parser.proofs.TextLaws.{Answer}
 use Rattle.query_parser.proofs.StepLaws.{ends_more, ends_atom, Went, went_blank, went_token, went, atom_due}
 
 -- a token takes a byte or more, and no more than there are
 pub token_within : {text : List ℕ} {p q : ℕ} {t : Token} → TokenAt text p t q → (p < q) × (q ≤ p + length (drop p text))
-token_within {text = text} {p = p} (atom_at (r, stands) (u, v, here, spelled, place)) = (
-  omega (arith, place),
-  omega (arith, place, ap length here, length-append u (47 ∷ v), length-drop (p + 1) text, length-drop p text, ap length stands),
-)
+token_within {text = text} {p = p} (atom_at {a = a} {q = q} (r, stands) found) =
+    let e = atom_ends text p (a, q) found in
+    (omega (arith, e.moves), omega (arith, e.moves, e.within, length-drop p text))
 token_within {text = text} {p = p} (word_at [] (rest, splits, word, last) is) = absurd (cc)
 token_within {text = text} {p = p} (word_at (c ∷ x) (rest, splits, word, last) is) = (omega arith, omega (arith, ap length splits, length-append (c ∷ x) rest))
 token_within {text = text} {p = p} (sign_at (rest, stands) is) = (omega arith, omega (arith, ap length stands))
