@@ -1,5 +1,5 @@
 -- The bytes of a piece, one after another.
-use Rattle.std.proofs.Common.{◌≡◌, ℕ, suc, ◌+◌, ◌<◌, true, List, [], ◌∷◌, ◌++◌, length, get_or, take, drop, inl, inr, refl, sym, ap, subst, arith, ◌∙◌}
+use Rattle.std.proofs.Common.{◌≡◌, ℕ, zero, suc, ◌+◌, ◌-◌, ◌<◌, ◌≤◌, true, List, [], ◌∷◌, ◌++◌, length, get_or, take, drop, inl, inr, refl, sym, ap, subst, arith, ◌∙◌}
 use Rattle.std.specs.Prelude.{IsTrue, ◌&&◌}
 use Rattle.std.specs.FinSet as bytes
 use Rattle.std.specs.FinSet.{contains-intersection}
@@ -12,7 +12,7 @@ use Rattle.marked_automaton.proofs.Passing.{left_true, right_true}
 use Rattle.set_table.specs.declared.fault.TableFault.{TableFault}
 use Rattle.one_pass.specs.Held.{TableView, StaysOn}
 use Rattle.output_graph.specs.Graph.{Source}
-use Rattle.one_pass.specs.Layers.{GraphView, no_source, source_at}
+use Rattle.one_pass.specs.Layers.{no_source, source_at}
 use Rattle.one_pass.specs.Faults.{IsFaultAt}
 use Rattle.one_pass.specs.Places.{Place, byte_at, bytes_at}
 use Rattle.one_pass.specs.Passes.{AllStayOn, Pass, IsReady, HasRead, HasStopped, Stop}
@@ -71,6 +71,23 @@ module _ (P : Pass) (at : ℕ) (piece : List ℕ) (i : ℕ) (Q : Pass) (past : I
         subst (λ ps. IsFaultAt ps P e) (bytes_split at piece i within b refl)
         (fault_before (front ++ here) (bytes_at (at + i + 1) (drop (suc i) piece)) P e
         (then_fault front here P Q (at + i) past.read past.ready e x))
+
+-- so many bytes more, on which nothing changes
+pub advanced_still : (P : Pass) (at : ℕ) (piece : List ℕ) (i n : ℕ) (Q : Pass) → IsAdvanced P at piece i Q → i + n ≤ length piece →
+    ((k : ℕ) → k < n → AllStayOn Q.table Q.graph (get_or piece (i + k) 0)) → IsAdvanced P at piece (i + n) Q
+advanced_still P at piece i zero Q past within still = subst (λ j. IsAdvanced P at piece j Q) (omega arith) past
+advanced_still P at piece i (suc n) Q past within still =
+    subst (λ j. IsAdvanced P at piece j Q) (omega arith)
+    (advanced_more P at piece (i + n) Q (advanced_still P at piece i n Q past (omega arith) (λ k less. still k (omega arith))) (omega arith) Q
+    (stays_read Q.table.graph (byte_at (at + (i + n)) (get_or piece (i + n) 0)) Q (λ x there. (still n (omega arith) x there).1))
+    (ready_later Q (at + i) (at + (i + n) + 1) past.ready (omega arith)))
+
+-- up to a later place, before which nothing changes
+pub advanced_up_to : (P : Pass) (at : ℕ) (piece : List ℕ) (i j : ℕ) (Q : Pass) → IsAdvanced P at piece i Q → i ≤ j → j ≤ length piece →
+    ((k : ℕ) → i ≤ k → k < j → AllStayOn Q.table Q.graph (get_or piece k 0)) → IsAdvanced P at piece j Q
+advanced_up_to P at piece i j Q past later within still =
+    subst (λ m. IsAdvanced P at piece m Q) (omega arith)
+    (advanced_still P at piece i (j - i) Q past (omega arith) (λ k less. still (i + k) (omega arith) (omega arith)))
 
 -- ---- which bytes change nothing
 

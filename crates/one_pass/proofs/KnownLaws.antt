@@ -1,20 +1,18 @@
 -- What is known of whole layers: it stays true while the table grows, and more may be entered.
-use Rattle.std.proofs.Common.{◌≡◌, ◌⊎◌, ℕ, zero, suc, ◌+◌, ◌*◌, ◌<◌, ◌≤◌, Bool, true, false, List, [], ◌∷◌, ◌++◌, length, get_or, set, take, replicate, map, Some, None, inl, inr, refl, sym, ap, subst, arith, ◌∙◌, length-append, ◌-◌, add-one, if◌then◌else◌}
+use Rattle.std.proofs.Common.{◌≡◌, ◌⊎◌, ℕ, zero, suc, ◌+◌, ◌*◌, ◌<◌, ◌≤◌, Bool, true, false, List, [], ◌∷◌, ◌++◌, length, get_or, set, take, replicate, Some, inl, inr, refl, sym, ap, subst, arith, ◌∙◌, length-append, ◌-◌, add-one, if◌then◌else◌}
 use Rattle.std.specs.Prelude.{slice_get}
-use Rattle.std.proofs.lemmas.List.{append-nil, get_or_append_left, take_more}
+use Rattle.std.proofs.lemmas.List.{get_or_append_left, take_more}
 use Rattle.std.proofs.lemmas.Option.{slice_get_within}
 use Rattle.std.proofs.lemmas.Bool.{cases_eq}
 use Rattle.std.specs.List.{list_any}
 use Rattle.std.specs.Str.{bytes_eq}
-use Rattle.span_core.specs.Lists.{Has}
 use Rattle.span_core.proofs.HasLaws.{Has-take_more_cases}
 use Rattle.span_core.specs.declared.edge.Edge.{Edge}
 use Rattle.marked_automaton.specs.Automaton.{Automaton}
 use Rattle.automaton_reading.specs.Reading.{byte_read, Reach, edges}
 use Rattle.set_table.specs.Tabled.{with_set}
 use Rattle.output_graph.specs.Source.{Edges}
-use Rattle.output_graph.specs.Sound.{edges_of}
-use Rattle.output_graph.proofs.SetLaws.{get_left, get_more, get_set_other, get_set_same, take_all}
+use Rattle.output_graph.proofs.SetLaws.{get_left, get_set_other, get_set_same, take_all}
 use Rattle.one_pass.specs.declared.known.KnownStep.{KnownStep}
 use Rattle.one_pass.specs.Held.{TableView, AreNumbered, set_named}
 use Rattle.one_pass.specs.Known.{AreRows, AreStill, IsEntry, IsKnown, IsRow, IsStepOf, layer_at}

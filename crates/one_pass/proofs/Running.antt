@@ -1,16 +1,15 @@
 -- A layer that is stepped by a program of its sets' edges has been read.
-use Rattle.std.proofs.Common.{◌≡◌, ℕ, zero, suc, ◌+◌, ◌<◌, ◌≤◌, List, [], ◌∷◌, length, drop, take, map, Some, None, inl, inr, refl, sym, ap, subst, arith, ◌∙◌, add-one}
+use Rattle.std.proofs.Common.{◌≡◌, ℕ, zero, suc, ◌+◌, ◌<◌, List, [], ◌∷◌, length, drop, take, Some, inl, refl, sym, ap, subst, arith, ◌∙◌, add-one}
 use Rattle.std.specs.Prelude.{slice_get}
 use Rattle.std.proofs.lemmas.List.{append-nil, length-map}
 use Rattle.std.proofs.lemmas.Option.{slice_get_within}
 use Rattle.span_core.specs.Lists.{Has}
 use Rattle.span_core.proofs.HasLaws.{Has-map}
-use Rattle.automaton_reading.specs.Reading.{byte_read, edges}
+use Rattle.automaton_reading.specs.Reading.{byte_read}
 use Rattle.set_table.specs.Tabled.{Tabled}
 use Rattle.output_graph.specs.Graph.{Graph, IsStepped, Source, sets_of, sources, targets}
-use Rattle.output_graph.specs.Programs.{AreStepped, IsNext, IsRun}
+use Rattle.output_graph.specs.Programs.{AreStepped, IsRun}
 use Rattle.output_graph.specs.Source.{Edges}
-use Rattle.one_pass.specs.Held.{row_of, set_named}
 use Rattle.one_pass.specs.Known.{AreRows, AreStill}
 use Rattle.one_pass.specs.Layers.{numbers_of}
 use Rattle.one_pass.specs.Passes.{HasRead, IsReady, pass}
@@ -20,7 +19,7 @@ use Rattle.one_pass.specs.Turned.{HasTurned, IsTurned}
 use Rattle.one_pass.proofs.Faulting.{ready_later}
 use Rattle.one_pass.proofs.GraphBridge.{own_cost, turned_none}
 use Rattle.one_pass.proofs.PlaceLaws.{block_at, stays_read}
-use Rattle.one_pass.proofs.Sources.{layer_count, stepping_begun, stepping_turned}
+use Rattle.one_pass.proofs.Sources.{stepping_begun, stepping_turned}
 use Rattle.one_pass.proofs.Stepping.{IsStepping}
 use Rattle.one_pass.proofs.Turns.{turns_read, turns_ready}
 

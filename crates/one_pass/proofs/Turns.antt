@@ -1,12 +1,11 @@
 -- A turn of the loop over the sources of a layer, in the order in which the code goes.
-use Rattle.std.proofs.Common.{◌≡◌, ℕ, suc, ◌+◌, ◌≤◌, ◌<◌, ◌⊎◌, List, [], ◌∷◌, ◌++◌, length, get_or, take, drop, map, inl, inr, refl, sym, ap, subst, arith, ◌∙◌}
+use Rattle.std.proofs.Common.{◌≡◌, ℕ, suc, ◌+◌, ◌≤◌, ◌<◌, ◌⊎◌, List, [], ◌∷◌, ◌++◌, length, take, drop, map, refl, sym, ap, subst, arith, ◌∙◌}
 use Rattle.std.specs.Prelude.{◌↔◌}
 use Rattle.std.proofs.Math.Seq.{drop-cons, take-length}
-use Rattle.std.proofs.lemmas.List.{get_or_append_left, take-append-drop, take_more}
+use Rattle.std.proofs.lemmas.List.{take-append-drop, take_more}
 use Rattle.span_core.specs.Lists.{Has}
-use Rattle.span_core.proofs.HasLaws.{Has-append_right, Has-get_or}
+use Rattle.span_core.proofs.HasLaws.{Has-get_or}
 use Rattle.span_core.specs.declared.edge.Edge.{Edge}
-use Rattle.marked_automaton.specs.Automaton.{size}
 use Rattle.automaton_reading.specs.Reading.{ended, Reach, Row, edges, rows_asked}
 use Rattle.set_table.specs.declared.fault.TableFault.{TableFault}
 use Rattle.set_table.specs.declared.fault.TableFault.TheVariants.{Full, OutOfMemory}

@@ -3,7 +3,6 @@ use Rattle.std.specs.Prelude.{◌≡◌, ◌⊎◌, ℕ, ◌+◌, ◌*◌, ◌<�
 use Rattle.std.specs.FinSet as bytes
 use Rattle.span_core.specs.Lists.{Has}
 use Rattle.span_core.specs.declared.edge.Edge.{Edge}
-use Rattle.marked_automaton.specs.Automaton.{ByteClass}
 use Rattle.automaton_reading.specs.Reading.{byte_read, edges}
 use Rattle.output_graph.specs.Graph.{Graph, sets_of}
 use Rattle.output_graph.specs.Source.{Edges}

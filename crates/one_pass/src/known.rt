@@ -122,7 +122,7 @@ impl Known {
         ensures keeps { KeepsKnown self.old self.new }
         ensures number { IfSome result (λ k. slice_get self.new.layers k ≡ Some (sets_of graph.now.layer)) }
     {
-        if graph.layer_len() > MOST_SETS {
+        if graph.layer_len() > MOST_SETS || self.left < BYTES {
             return None;
         }
         match sets_in(self.alloc, graph) {

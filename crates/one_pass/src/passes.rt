@@ -1,22 +1,28 @@
 //! Reading one place after another: pieces of bytes, and gaps between them.
 //!
-//! An interval of positions is read byte by byte, by what is known of whole layers where it is known; a gap takes one
-//! step, in which each set goes to its idle members.
-ghost use Rattle.std.specs.Prelude.{◌≡◌, ℕ, ◌+◌, ◌*◌, ◌^◌, ◌<◌, ◌≤◌, min, [], ◌∷◌, length, IfErr, OnOk, OnErr};
+//! An interval of positions is read byte by byte, by what is known of whole layers where it is known. Where nothing has
+//! changed for a while, the next byte on which something may change is searched for (`byte_runs`). A gap takes one step,
+//! in which each set goes to its idle members.
+ghost use Rattle.std.specs.Prelude.{◌≡◌, ℕ, ◌+◌, ◌*◌, ◌^◌, ◌<◌, ◌≤◌, min, [], ◌∷◌, length, slice_index, IfErr, OnOk, OnErr};
 ghost use Rattle.span_core.specs.Intervals.{AreApart, Covers};
 ghost use Rattle.one_pass.specs.Faults.{IsFaultAt};
 ghost use Rattle.one_pass.specs.Known.{Knows};
-ghost use Rattle.one_pass.specs.Passes.{HasRead, HasStopped, IsReady, pass, stop};
+ghost use Rattle.one_pass.specs.Passes.{AllStayOn, AreGiven, HasRead, HasStopped, IsReady, pass, stop};
 ghost use Rattle.one_pass.specs.Seen.{held, whole};
 ghost use Rattle.one_pass.specs.Places.{bytes_at, gap_at, part_places, parts_places};
+ghost use Rattle.one_pass.specs.declared.passes.TheConstants.{QUIET};
 
 use crate::bytes::read_byte;
 use crate::known::Known;
-use crate::places::step_rest;
+use crate::places::{stays_of, step_rest};
+use byte_runs::Skipper;
 use output_graph::OutputGraph;
 use set_table::{Table, TableFault};
 use span_core::Steps;
 use std::sync::ledger::Ledger;
+
+/// After so many bytes that left the layer as it was, the next one that may change something is searched for.
+const QUIET: u32 = 16;
 
 /// Reads a piece of the document, which stands at `at`, at each of its positions.
 pub fn read_piece<L: Ledger>(
@@ -38,13 +44,70 @@ pub fn read_piece<L: Ledger>(
 {
     table.start();
     let mut layer = known.stand(table, graph);
-    for (i, byte) in piece.iter().enumerate() {
-        layer = match read_byte(table, graph, known, layer, at + i as u32, *byte, steps) {
+    let mut skipper = Skipper::new();
+    let mut quiet = 0;
+    let mut i = 0;
+    while i < piece.len() {
+        let here = read_on(table, graph, &mut skipper, piece, i, &mut quiet);
+        if here == piece.len() {
+            break;
+        }
+        let next = match read_byte(
+            table,
+            graph,
+            known,
+            layer,
+            at + here as u32,
+            piece[here],
+            steps,
+        ) {
             Ok(next) => next,
             Err(fault) => return Err(fault),
         };
+        quiet = if next == layer { quiet + 1 } else { 0 };
+        layer = next;
+        i = here + 1;
     }
     Ok(())
+}
+
+/// Where a piece is read on from a place: behind the bytes that change nothing, if the layer has been the same for a
+/// while. `quiet` counts for how many bytes.
+#[inline(always)]
+fn read_on(
+    table: &Table<'_>,
+    graph: &OutputGraph,
+    skipper: &mut Skipper,
+    piece: &[u8],
+    i: usize,
+    quiet: &mut u32,
+) -> usize
+    requires given { AreGiven (held table.now) (whole graph.now) }
+    requires fresh { graph.now.stepped ≡ 0 }
+    requires place { i ≤ length piece.now }
+    requires counted { quiet.old ≤ QUIET }
+    ensures within { result ≤ length piece.now }
+    ensures later { i ≤ result }
+    ensures still { (k : ℕ) → i ≤ k → k < result → AllStayOn (held table.now) (whole graph.now) (slice_index piece.now k) }
+    ensures counted { quiet.new < QUIET }
+{
+    if *quiet < QUIET {
+        return i;
+    }
+    *quiet = 0;
+    i + still_bytes(table, graph, skipper, &piece[i..])
+}
+
+/// How many bytes at the front of a piece change nothing.
+#[inline(never)]
+fn still_bytes(table: &Table<'_>, graph: &OutputGraph, skipper: &mut Skipper, piece: &[u8]) -> usize
+    requires given { AreGiven (held table.now) (whole graph.now) }
+    requires fresh { graph.now.stepped ≡ 0 }
+    ensures within { result ≤ length piece.now }
+    ensures still { (k : ℕ) → k < result → AllStayOn (held table.now) (whole graph.now) (slice_index piece.now k) }
+{
+    let stays = stays_of(table, graph);
+    skipper.first_outside(&stays, piece).unwrap_or(piece.len())
 }
 
 /// Goes to the idle members where `at` is the first position of a gap, which ends before `first`.

@@ -1,4 +1,4 @@
-use Rattle.std.proofs.Common.{◌≡◌, ap, subst, sym, ◌∙◌, Some}
+use Rattle.std.proofs.Common.{◌≡◌, subst, sym, ◌∙◌, Some}
 use Rattle.std.specs.Prelude.{slice_get}
 use Rattle.one_pass.specs.Known.{IsKnown}
 use Rattle.one_pass.proofs.KnownLaws.{known_layer, with_keeps}
