@@ -7,14 +7,18 @@ whose sizes are near their limits.
 import random
 
 LEAVES = ['a', 'b', 'ab', '.', '[ab]', '[^a]', '', r'\w', r'\x62', 'é', '!', '[a-c]', r'\n', '()']
+# Of a formula over characters. These properties have had the same characters for many versions of Unicode, so that
+# the reference, by Python's tables, prints and counts them as the program does.
+WIDE_LEAVES = [r'\u{e9}', '[à-ü]', '[^é]', '[aé]', r'[\p{Zs}a]', r'\p{Zl}', 'é', '.', '.']
 REPEATS = ['*', '+', '?', '{2}', '{1,2}', '{2,}', '{0}', '{0,2}']
-SIGNS = list('/()[]{}|*+?.\\^$!-,;=abx_19 \n') + ['!x{', '{1,', 'union', 'join', 'let ', 'none', 'é']
+SIGNS = list('/()[]{}|*+?.\\^$!-,;=abx_19 \n') + ['!x{', '{1,', 'union', 'join', 'let ', 'none', 'é', '/u', r'\u{']
 
 
 class Maker:
     def __init__(self, seed):
         self.pick = random.Random(seed)
         self.names = []  # the result's variables, if the query is not changed
+        self.leaves = LEAVES
 
     def split(self, names):
         """Two disjoint sets that make the whole."""
@@ -25,7 +29,7 @@ class Maker:
         """A functional formula with just these variables."""
         pick = self.pick
         if not names and (depth == 0 or pick.random() < 0.5):
-            leaf = pick.choice(LEAVES)
+            leaf = pick.choice(self.leaves)
             plain = len(leaf) == 1 or leaf[:1] in ('[', '\\', '(')
             return leaf + (pick.choice(REPEATS) if plain and pick.random() < 0.4 else '')
         kind = pick.random()
@@ -41,7 +45,9 @@ class Maker:
 
     def atom(self, names):
         start, end = ('^' if self.pick.random() < 0.15 else '', '$' if self.pick.random() < 0.15 else '')
-        return '/%s%s%s/' % (start, self.formula(names, self.pick.randrange(4)), end)
+        sign = 'u' if self.pick.random() < 0.2 else ''
+        self.leaves = LEAVES + WIDE_LEAVES if sign else LEAVES
+        return '/%s%s%s/%s' % (start, self.formula(names, self.pick.randrange(4)), end, sign)
 
     def expr(self, names, depth):
         """An expression with just these variables."""

@@ -6,6 +6,8 @@ that a tree must keep. Each section states its rules in words and then says them
 import re
 from typing import NamedTuple
 
+from characters import BYTES, CHARACTERS, numbers, others, property_set, ranges_of, shared, united
+
 MOST_VARIABLES = 16
 MOST_OPEN = 100  # groups and captures of a formula, parentheses of a query
 LONGEST_NAME = 32
@@ -91,7 +93,7 @@ class Query(NamedTuple):
 
 # --- Reading an atom -----------------------------------------------------------------------------
 #
-#   atom   = "/" ["^"] alt ["$"] "/"
+#   atom   = "/" ["^"] alt ["$"] "/" [ "u" ]
 #   alt    = seq { "|" seq }
 #   seq    = { piece }
 #   piece  = unit [ repeat ]
@@ -102,16 +104,31 @@ class Query(NamedTuple):
 #
 # The text is read from left to right, and the first place that allows no reading decides the fault.
 # What is not closed is told at its opener: the slash, the parenthesis, the `!` or the bracket.
+#
+# The closing slash is the first that is not the second byte of a pair; a backslash and the byte after it are a
+# pair. A `u` straight behind it is the sign where no letter, digit or `_` follows. Then the formula is over
+# characters:
+#
+# - What stands between the slashes is UTF-8. The first byte that begins no character is told before all else.
+# - Sets are of characters, also that of the dot and of `[^`. Any character past 7F is an elem.
+# - `\u{H}`, of one to six hexadecimal digits, is a character; `\x` stands for 00 to 7F alone.
+# - `\p{NAME}` is a property. A run of letters, digits and `_` that names none is told as that, at the backslash;
+#   anything else is a bad escape. It is no end of a range.
+# - A set is the formula of its UTF-8 texts, by `characters_tree`.
 
 DIGITS = frozenset(b'0123456789')
 WORD_BYTES = DIGITS | frozenset(b'ABCDEFGHIJKLMNOPQRSTUVWXYZ_abcdefghijklmnopqrstuvwxyz')
 SPACES = frozenset(b'\t\n\x0b\x0c\r ')
-ANY_BYTE = frozenset(range(256))
 ESCAPED = {ord('d'): DIGITS, ord('w'): WORD_BYTES, ord('s'): SPACES,
            ord('n'): frozenset(b'\n'), ord('t'): frozenset(b'\t'), ord('r'): frozenset(b'\r')}
 PUNCTUATION = frozenset(range(0x21, 0x30)) | frozenset(range(0x3a, 0x41)) \
     | frozenset(range(0x5b, 0x61)) | frozenset(range(0x7b, 0x7f))
 HEX = frozenset(b'0123456789ABCDEFabcdef')
+LINE_FEED = ((0x0a, 0x0a),)
+INSIDE = re.compile(rb'(?:[^/\\]|\\.)*', re.DOTALL)
+SIGN = re.compile(rb'/u(?![A-Za-z0-9_])')
+NUMBER_ESCAPE = re.compile(rb'\\u\{([0-9A-Fa-f]{1,6})\}')
+PROPERTY_ESCAPE = re.compile(rb'\\p\{([A-Za-z0-9_]+)\}')
 REPEAT = re.compile(rb'\{([0-9]{1,4})(?:(,)([0-9]{1,4})?)?\}')
 NAME = re.compile(rb'[A-Za-z_][A-Za-z0-9_]*')
 KEYWORDS = ('let', 'union', 'join', 'project', 'none')
@@ -125,11 +142,47 @@ def alt_of(parts):
     return parts[0] if len(parts) == 1 else Alt(tuple(parts))
 
 
+def inside_signed(text, start):
+    """The bytes between the slash at `start` and its closing slash, where the sign follows; else None."""
+    inside = INSIDE.match(text, start + 1)
+    return inside.group() if SIGN.match(text, inside.end()) else None
+
+
+def characters_tree(ranges):
+    """The formula of a set of characters that is not empty: of their texts of one byte, of two, three and four."""
+    arms = []
+    for tails, base, low, high in (0, 0, 0, 0x7f), (1, 0xc0, 0x80, 0x7ff), (2, 0xe0, 0x800, 0xffff), (3, 0xf0, 0x10000, 0x10ffff):
+        part = shared(ranges, ((low, high),))
+        if part:
+            arms.append(strings_tree(tails, base, part))
+    return alt_of(arms)
+
+
+def strings_tree(tails, base, ranges):
+    """The formula of strings of a first byte and so many more, given as numbers of digits to the base 64.
+
+    The first bytes are grouped by equal sets of what follows; each group, by ascending least byte, is its bytes
+    and then the formula of what follows.
+    """
+    if tails == 0:
+        return One(frozenset(base + n for n in numbers(ranges)))
+    unit = 64 ** tails
+    groups = {}  # in the order of the least first byte
+    for first in range(ranges[0][0] // unit, ranges[-1][1] // unit + 1):
+        part = shared(ranges, ((first * unit, first * unit + unit - 1),))
+        if part:
+            follows = tuple((low - first * unit, high - first * unit) for low, high in part)
+            groups.setdefault(follows, []).append(base + first)
+    return alt_of([Cat((One(frozenset(firsts)), strings_tree(tails - 1, 0x80, follows))) for follows, firsts in groups.items()])
+
+
 class AtomReader:
     """Reads the atom whose slash stands at `start`."""
 
     def __init__(self, text, start):
         self.text = text
+        self.signed = inside_signed(text, start)
+        self.whole = BYTES if self.signed is None else CHARACTERS
         self.start = start
         self.at = start + 1
         self.openers = [start]  # of the slash, and of the groups and captures that are open
@@ -141,11 +194,21 @@ class AtomReader:
         return self.text[at] if at < len(self.text) else None
 
     def read(self):
+        if self.signed is not None:
+            try:
+                self.signed.decode()
+            except UnicodeDecodeError as wrong:
+                raise fault('not UTF-8', self.start + 1 + wrong.start)
         from_start = self.byte() == ord('^')
         if from_start:
             self.at += 1
         formula = self.alt(ord('/'))
-        return Atom(from_start, self.tied, formula), self.at
+        end = self.at + (self.signed is not None)
+        return Atom(from_start, self.tied, formula), end
+
+    def tree(self, members):
+        """The formula of a set, of bytes or of characters."""
+        return One(numbers(members)) if self.signed is None else characters_tree(members)
 
     def alt(self, closing):
         """Reads up to the byte that closes the innermost opener, and past it."""
@@ -227,10 +290,13 @@ class AtomReader:
         if byte == ord('['):
             return self.bracket()
         if byte == ord('\\'):
-            return One(self.escape())
+            members, _ = self.escape()
+            if not members:  # a property that no character has
+                raise fault('bad range', at)
+            return self.tree(members)
         self.at += 1
         if byte == ord('.'):
-            return One(ANY_BYTE - {0x0a})
+            return self.tree(others(self.whole, LINE_FEED))
         if byte >= 0xc0:  # a character of UTF-8 is one unit: its first byte and all that go with it
             while self.byte() is not None and 0x80 <= self.byte() <= 0xbf:
                 self.at += 1
@@ -249,17 +315,39 @@ class AtomReader:
         return None
 
     def escape(self):
-        """The bytes of the escape that begins here."""
+        """The set of the escape that begins here, and whether it is one byte or character by its form."""
         letter = self.byte(1)
         if letter in ESCAPED:
             self.at += 2
-            return ESCAPED[letter]
+            return ranges_of(ESCAPED[letter]), letter in b'ntr'
         if letter == ord('x') and self.byte(2) in HEX and self.byte(3) in HEX:
-            self.at += 4
-            return frozenset([int(self.text[self.at - 2:self.at], 16)])
+            number = int(self.text[self.at + 2:self.at + 4], 16)
+            if self.signed is None or number < 0x80:
+                self.at += 4
+                return ((number, number),), True
         if letter in PUNCTUATION:
             self.at += 2
-            return frozenset([letter])
+            return ((letter, letter),), True
+        if self.signed is not None:
+            return self.character_escape()
+        raise fault('bad escape', self.at)
+
+    def character_escape(self):
+        """As `escape`, of those that only a formula over characters has."""
+        found = NUMBER_ESCAPE.match(self.text, self.at)
+        if found:
+            number = int(found.group(1), 16)
+            single = ((number, number),)
+            if shared(CHARACTERS, single):
+                self.at = found.end()
+                return single, True
+        found = PROPERTY_ESCAPE.match(self.text, self.at)
+        if found:
+            members = property_set(found.group(1).decode())
+            if members is None:
+                raise fault('unknown property', self.at)
+            self.at = found.end()
+            return members, False
         raise fault('bad escape', self.at)
 
     def bracket(self):
@@ -272,32 +360,36 @@ class AtomReader:
         members = None
         while self.byte() != ord(']') or members is None:
             at = self.at
-            low = self.elem()
+            low, is_single = self.elem()
             if self.byte() == ord('-') and self.byte(1) != ord(']'):
                 self.at += 1
-                high = self.elem()
-                if len(low) != 1 or len(high) != 1 or min(low) > min(high):
+                high, ends_single = self.elem()
+                if not is_single or not ends_single or low > high:
                     raise fault('bad range', at)
-                low = frozenset(range(min(low), min(high) + 1))
-            members = low if members is None else members | low
+                low = ((low[0][0], high[0][0]),)
+            members = united((members or ()) + low)
         self.at += 1
         self.openers.pop()
-        if negated:
-            members = ANY_BYTE - members
+        members = others(self.whole, members) if negated else shared(self.whole, members)
         if not members:
             raise fault('bad range', start)
-        return One(members)
+        return self.tree(members)
 
     def elem(self):
+        """The set of the elem that begins here, and whether it is one byte or character by its form."""
         byte = self.byte()
         if byte is None or byte == ord('/'):
             raise fault('not closed', self.openers[-1])
-        if byte in b'][' or byte >= 0x80:
+        if byte in b'][' or (byte >= 0x80 and self.signed is None):
             raise fault('unexpected', self.at)
         if byte == ord('\\'):
             return self.escape()
-        self.at += 1
-        return frozenset([byte])
+        length = 1
+        while byte >= 0x80 and self.byte(length) is not None and 0x80 <= self.byte(length) <= 0xbf:
+            length += 1
+        number = ord(self.text[self.at:self.at + length].decode())
+        self.at += length
+        return ((number, number),), True
 
 
 # --- Reading a query -----------------------------------------------------------------------------
