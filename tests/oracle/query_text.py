@@ -319,7 +319,7 @@ class AtomReader:
         letter = self.byte(1)
         if letter in ESCAPED:
             self.at += 2
-            return ranges_of(ESCAPED[letter]), letter in b'ntr'
+            return ranges_of(ESCAPED[letter]), len(ESCAPED[letter]) == 1
         if letter == ord('x') and self.byte(2) in HEX and self.byte(3) in HEX:
             number = int(self.text[self.at + 2:self.at + 4], 16)
             if self.signed is None or number < 0x80:
