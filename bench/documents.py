@@ -11,6 +11,7 @@
     bench/documents.py sentences BYTES     sentences of English words
     bench/documents.py bases BYTES         bases, without lines
     bench/documents.py letters BYTES       letters a and b, with a c about every 1,000 bytes
+    bench/documents.py scripts BYTES       words of five scripts, a script a line
 
 --seed S (1 where none is given) changes all but log and same. The document goes to standard output.
 Python 3.8, standard library.
@@ -118,7 +119,26 @@ def letters(size, seed):
     yield ''.join(made)
 
 
-KINDS = {f.__name__: f for f in (log, sparse, text, dna, errors, runs, same, sentences, bases, letters)}
+SCRIPTS = [line.split() for line in (
+    'naïve café où être garçon Straße über schön año niño coração não święto źródło český příliš',
+    'λόγος θάλασσα ἄνθρωπος ὁδός ήλιος νερό γλώσσα ψυχή άγνωστος καλημέρα σπίτι βιβλίο',
+    'слово язык книга вода солнце человек дорога утро ночь хлеб зима весна письмо окно',
+    'सूर्य पानी किताब भाषा शब्द रात सुबह नदी पर्वत वन मित्र गीत समय',
+    '말 물 바다 하늘 사람 아침 저녁 나무 언어 책상 겨울 노래 시간 별빛')]
+
+
+def scripts(size, seed):
+    """Lines of twelve words of one script."""
+    pick = random.Random(seed)
+    made = 0
+    while made < size:
+        words = SCRIPTS[pick.randrange(5)]
+        line = ' '.join(pick.choice(words) for _ in range(12)) + '\n'
+        made += len(line.encode())
+        yield line
+
+
+KINDS = {f.__name__: f for f in (log, sparse, text, dna, errors, runs, same, sentences, bases, letters, scripts)}
 
 
 def write(kind, size, seed, out):

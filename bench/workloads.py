@@ -1,7 +1,7 @@
 #!/usr/bin/env python3
-"""Seven workloads on rematch and on other tools, as tables.
+"""Eight workloads on rematch and on other tools, as tables.
 
-    bench/workloads.py [--only ABCDEFG] [--times N] [--seconds S] [--program PATH]
+    bench/workloads.py [--only ABCDEFGU] [--times N] [--seconds S] [--program PATH]
                        [--engine PATH --bodies stay,layer] [--growth] [--instructions]
 
 Each tool gets the same document; what it prints goes to /dev/null, and its rows are counted in a run of
@@ -45,6 +45,7 @@ class Workload(NamedTuple):
     pattern: str  # the same for tools without names
     row: str  # the row in Perl
     more: tuple = ()  # words of rematch
+    characters: bool = False  # a pattern over characters, which not all tools are asked for
 
 
 WORKLOADS = [
@@ -60,6 +61,7 @@ WORKLOADS = [
              '(TATA[AT]A)[ACGT]{10,40}(CAAT)', 'x=$-[1]-$+[1] y=$-[2]-$+[2]'),
     Workload('G', 'determinising', 'letters', 2000000, 17, '/(a|b)*a(a|b){12}!x{c}/',
              '(?:a|b)*a(?:a|b){12}(c)', 'x=$-[1]-$+[1]'),
+    Workload('U', 'letters of five scripts', 'scripts', 10000000, 1, r'/!x{\p{L}+}/u', r'(\p{L}+)', '', (), True),
 ]
 
 PERL = r'''
@@ -80,8 +82,14 @@ def commands(work, given, document):
     """The command of each tool. Those of `others` print the number of rows, the rest a row a line."""
     rows = ['-e', work.query, *work.more, document]
     yield 'rematch', [given.program] + rows
-    for body in given.bodies.split(',') if given.engine else []:
+    for body in given.bodies.split(',') if given.engine and not work.characters else []:
         yield body, [given.engine, '--engine', body] + rows
+    if work.characters:
+        if given.others:
+            yield 'pcre2', [given.others, 'pcre2', '(*UTF)' + work.pattern, document]
+        yield 'rg', ['rg', '-oaN', '--no-filename', '-e', work.pattern, document]
+        yield 'pcre2grep', ['pcre2grep', '-u', '--file-offsets', '-e', work.pattern, document]
+        return
     if given.others:
         for engine in ('pcre2', 'hyperscan', 're2'):
             yield engine, [given.others, engine, work.pattern, document]
@@ -194,11 +202,11 @@ def show_instructions(given):
 
 
 def main():
-    parser = argparse.ArgumentParser(description='Seven workloads on rematch and on other tools.')
+    parser = argparse.ArgumentParser(description='Eight workloads on rematch and on other tools.')
     parser.add_argument('--program', default=os.path.join(ROOT, 'crates', 'rematch', 'out', 'rematch'))
     parser.add_argument('--engine', help="another program with rematch's command line and an option --engine")
     parser.add_argument('--bodies', default='stay,layer', help='the bodies of --engine')
-    parser.add_argument('--only', default='ABCDEFG')
+    parser.add_argument('--only', default='ABCDEFGU')
     parser.add_argument('--times', type=int, default=5)
     parser.add_argument('--seconds', type=float, default=25)
     parser.add_argument('--growth', action='store_true')

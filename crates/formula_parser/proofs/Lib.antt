@@ -21,7 +21,7 @@ pub mod TurnLaws
 pub mod BuiltLaws
 mod ElemTokens
 mod SetTrees
-mod SignLaws
+pub mod SignLaws
 mod AllTrees
 mod TheTrees
 mod CharSetLaws

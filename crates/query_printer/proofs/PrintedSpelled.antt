@@ -183,7 +183,7 @@ module _ (names known : List VarName) (n : ℕ)
       (name_token x ∷ [], subst (λ o. Lexes (unwrap_or o []) (name_token x ∷ [])) (sym here) (λ after stops. lexed_name x after free stops), named_unit there)
 
   atom_text_unit : (room : ℕ) (a : AtomTree) → IsWellBuilt a.formula → formulas.most_open a.formula ≤ 100 → AsUnit room (atom_text a) (atom a.from_start a.to_end a.formula)
-  atom_text_unit room a built few = (atom_token a ∷ [], (λ after stops. lexed_atom a after built few), atom_unit)
+  atom_text_unit room a built few = (atom_token a ∷ [], (λ after stops. lexed_atom a after stops built few), atom_unit)
 
   projected_text : (room : ℕ) (kept : List VarName) (u : List ℕ) (e : ExprTree) → ((x : VarName) → Has kept x → IsFreeName x) → AreVariables kept → AsExpr room u e →
       AsUnit (suc room) (codes "project " ++ (keep_text kept ++ (codes " (" ++ (u ++ 41 ∷ [])))) (project kept e)

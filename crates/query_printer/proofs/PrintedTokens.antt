@@ -1,10 +1,11 @@
 -- The tokens of printed forms.
 use Rattle.std.proofs.Common.{◌≡◌, ℕ, ◌+◌, ◌≤◌, true, false, ◌&&◌, nat_lt, List, [], ◌∷◌, ◌++◌, length, drop, IsTrue, Some, ap, refl, sym, subst, ◌∙◌, arith, append_assoc, length-append, inl, inr}
-use Rattle.std.specs.Prelude.{codes}
+use Rattle.std.specs.Prelude.{codes, not, ◌==◌, ◌⊎◌}
 use Rattle.std.specs.List.{list_all}
 use Rattle.std.specs.Str.{bytes_eq}
 use Rattle.std.proofs.lemmas.List.{append-nil, drop-drop, drop_all}
-use Rattle.std.proofs.lemmas.Bool.{and_parts}
+use Rattle.std.proofs.lemmas.Bool.{and_parts, true≢false}
+use Rattle.std.proofs.lemmas.Bool.Decides.{eqb_tells}
 use Rattle.span_core.specs.declared.TheConstants.{MOST_NAME_BYTES}
 use Rattle.span_core.specs.Names.{is_name, is_name_start, is_name_byte}
 use Rattle.spanner_model.specs.Captures.{VarName}
@@ -13,7 +14,11 @@ use Rattle.spanner_model.specs.Sound.{words, IsFreeName}
 use Rattle.spanner_model.specs.WellBuilt.{IsWellBuilt}
 use Rattle.formula_parser.specs.Names.{is_word}
 use Rattle.formula_parser.specs.Runs.{begins}
-use Rattle.formula_parser.specs.Spells.{AtomTree}
+use Rattle.formula_parser.specs.Alphabet.{of_bytes}
+use Rattle.formula_parser.specs.Signs.{HasNoSign, is_sign}
+use Rattle.formula_parser.specs.Spells.{AtomTree, over_bytes}
+use Rattle.formula_parser.proofs.AtomLaws.{spelled_inside}
+use Rattle.formula_parser.proofs.SignLaws.{one_inside}
 use Rattle.query_printer.specs.PrintedFormula.{tied_text, atom_text}
 use Rattle.query_printer.specs.PrintedFormula as formulas
 use Rattle.formula_parser.proofs.RunLaws.{after_token}
@@ -56,12 +61,23 @@ lexed_sign c t after e text p more is has = token_first (sign_at (after, is) e) 
 pub lexed_word : (x : List ℕ) (t : Token) (after : List ℕ) → IsTrue (is_word x) → word_token x ≡ t → begins is_name_byte after ≡ false → Lexed x (t ∷ []) after
 lexed_word x t after w e stops text p more is has = token_first (word_at x (after, is, w, stops) e) has
 
-pub lexed_atom : (a : AtomTree) (after : List ℕ) → IsWellBuilt a.formula → formulas.most_open a.formula ≤ 100 → Lexed (atom_text a) (atom_token a ∷ []) after
-lexed_atom a after built few text p more is has =
+-- what no byte of a name begins is not the sign
+unsigned : (after : List ℕ) → begins is_name_byte after ≡ false → is_sign after ≡ false
+unsigned [] stops = refl
+unsigned (c ∷ t) stops = by (eqb_tells c 117)
+  where
+    by : (((c == 117) ≡ true) × (c ≡ 117)) ⊎ (((c == 117) ≡ false) × ((c ≡ 117) → ⊥)) → is_sign (c ∷ t) ≡ false
+    by (inl is) = absurd (true≢false (subst (λ (x : ℕ). is_name_byte x ≡ false) is.1 stops))
+    by (inr is) = ap (λ x. x && not (begins is_name_byte t)) is.0
+
+pub lexed_atom : (a : AtomTree) (after : List ℕ) → begins is_name_byte after ≡ false → IsWellBuilt a.formula → formulas.most_open a.formula ≤ 100 → Lexed (atom_text a) (atom_token a ∷ []) after
+lexed_atom a after stops built few text p more is has =
     let u = tied_text a in
     let inner : drop (p + 1) text ≡ u ++ 47 ∷ after = dropped text p (47 ∷ []) ((u ++ 47 ∷ []) ++ after) is ∙ append_assoc u (47 ∷ []) after in
     let long : p + length (atom_text a) ≡ p + 1 + length u + 1 = omega (arith, length-append u (47 ∷ [])) in
-    token_first (atom_at ((u ++ 47 ∷ []) ++ after, is) (u, after, inner, printed_spells a after built few, long)) has
+    let spells = printed_spells a after built few in
+    let none : HasNoSign text p = λ w v closed. (let same = one_inside closed.0 (spelled_inside of_bytes u a after spells) v after (sym closed.1 ∙ inner) in ap is_sign same.1 ∙ unsigned after stops) in
+    token_first (atom_at ((u ++ 47 ∷ []) ++ after, is) (over_bytes none (u, after, inner, spells, long))) has
 
 -- ---- names
 

@@ -603,14 +603,21 @@ fn faults(rt: HostRuntime) -> Result<(), Fail> {
     Ok(())
 }
 
-/// Ten thousand rows go in two puts of whole lines, of which the second fails after so many bytes.
+/// What the second of two puts of whole lines takes before it fails, how many bytes are then there, and how
+/// they end.
+const SECOND_PUT: [(usize, usize, &str); 2] = [
+    (0, 65_535, "\nx=5645-5646\n"),
+    (7, 65_542, "\nx=5645-5646\nx=5646-"),
+];
+
+/// Ten thousand rows go in two puts.
 #[test]
 fn second_put_fails(rt: HostRuntime) -> Result<(), Fail> {
     let alloc = rt.alloc();
     let words = words_of(alloc, "-e~/!x{a}/~D")?;
     let mut document = Vec::new(alloc);
     document.resize(10_000, b'a')?;
-    for (taken, last) in [(0, "\nx=5645-5646\n"), (7, "\nx=5645-5646\nx=5646-")] {
+    for (taken, length, last) in SECOND_PUT {
         let shelf = shelf_of(alloc, document.as_slice(), Vec::new(alloc))?;
         let mut failing = Vec::new(alloc);
         failing.push((1, taken))?;
@@ -618,7 +625,7 @@ fn second_put_fails(rt: HostRuntime) -> Result<(), Fail> {
         let notes = sink_of(alloc, Vec::new(alloc))?;
         let ended = runs::<Brand>(alloc, Blank::new(1), &words, shelf, out, notes);
         assert_eq!(rt; ended.0, Status::Write);
-        assert_eq!(rt; ended.1.bytes().len(), 65_535 + taken);
+        assert_eq!(rt; ended.1.bytes().len(), length);
         assert!(rt; ended.1.bytes().ends_with(last.as_bytes()));
         assert_eq!(rt; ended.2.bytes(), b"write failed\n".as_slice());
     }

@@ -1,7 +1,5 @@
 use Rattle.std.proofs.Common.{[], ◌∷◌, length, map, ap, subst, ◌∙◌, arith}
 use Rattle.std.specs.Prelude.{codes}
-use Rattle.std.proofs.lemmas.List.{take_all}
-use Rattle.spanner_model.specs.Expression.{union_all, join_all}
 use Rattle.spanner_model.specs.ExprView.{expr_of, exprs_of, lets_of}
 use Rattle.span_core.proofs.HasLaws.{Has-slice_get}
 use Rattle.spanner_model.proofs.Nodes.{expr_nodes}

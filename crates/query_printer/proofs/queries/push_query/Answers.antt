@@ -1,7 +1,7 @@
 use Rattle.std.proofs.Common.{ℕ, List, length, refl, arith}
 use Rattle.std.proofs.lemmas.Option.{slice_get_within}
 use Rattle.spanner_model.specs.Expression.{ExprTree}
-use Rattle.spanner_model.specs.ExprView.{expr_of, lets_of, query_of}
+use Rattle.spanner_model.specs.ExprView.{expr_of, lets_of}
 use Rattle.query_printer.proofs.PrintedTrees.{front_more, front_same}
 use Rattle.query_parser.specs.Spells.{names_of}
 use Rattle.query_printer.specs.PrintedQuery.{printed}
