@@ -134,6 +134,10 @@ NAME = re.compile(rb'[A-Za-z_][A-Za-z0-9_]*')
 KEYWORDS = ('let', 'union', 'join', 'project', 'none')
 
 
+# of the texts of one to four bytes: the bytes after the first, the first byte of number 0, the characters
+LENGTHS = ((0, 0, 0, 0x7f), (1, 0xc0, 0x80, 0x7ff), (2, 0xe0, 0x800, 0xffff), (3, 0xf0, 0x10000, 0x10ffff))
+
+
 def cat_of(parts):
     return Empty() if not parts else parts[0] if len(parts) == 1 else Cat(tuple(parts))
 
@@ -151,7 +155,7 @@ def inside_signed(text, start):
 def characters_tree(ranges):
     """The formula of a set of characters that is not empty: of their texts of one byte, of two, three and four."""
     arms = []
-    for tails, base, low, high in (0, 0, 0, 0x7f), (1, 0xc0, 0x80, 0x7ff), (2, 0xe0, 0x800, 0xffff), (3, 0xf0, 0x10000, 0x10ffff):
+    for tails, base, low, high in LENGTHS:
         part = shared(ranges, ((low, high),))
         if part:
             arms.append(strings_tree(tails, base, part))
@@ -173,7 +177,8 @@ def strings_tree(tails, base, ranges):
         if part:
             follows = tuple((low - first * unit, high - first * unit) for low, high in part)
             groups.setdefault(follows, []).append(base + first)
-    return alt_of([Cat((One(frozenset(firsts)), strings_tree(tails - 1, 0x80, follows))) for follows, firsts in groups.items()])
+    return alt_of([Cat((One(frozenset(firsts)), strings_tree(tails - 1, 0x80, follows)))
+                   for follows, firsts in groups.items()])
 
 
 class AtomReader:
