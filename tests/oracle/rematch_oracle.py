@@ -10,7 +10,8 @@ output, one line of notes on standard error, and the exit status.
 Nothing here is clever. A formula is tried at every place of the document, every way in which it fits
 is listed, the rows are put into a set and sorted. So it is slow, and easy to compare with the rules:
 each section states its rules in words and then says them once more in Python. It shares no code with
-the program. query_text.py beside it reads the query, modes.py has `--explain` and `--trial`. Tests import
+the program. query_text.py beside it reads the query, by characters.py where that speaks of characters, and
+modes.py has `--explain` and `--trial`. Tests import
 `run`, which reads no file by itself. It makes no automata: it answers where the program may refuse for the
 size of a union or a join or for a weight, and it reads all positions with `--filter` too, which changes
 no row. `permitted` has these refusals too, by weights.py, which counts them.
