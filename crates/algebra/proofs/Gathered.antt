@@ -1,6 +1,6 @@
 -- What pairs of elements make, gathered by the numbers of the two.
 use Rattle.std.proofs.Common.{◌≡◌, ℕ, Bool, true, false, List, [], ◌∷◌, ◌++◌, inl, inr, refl, sym, ap, subst, ◌∙◌}
-use Rattle.std.specs.Prelude.{map, nat_eq, ◌&&◌, ◌||◌, cond}
+use Rattle.std.specs.Prelude.{map, nat_eq, ◌&&◌, ◌||◌}
 use Rattle.std.specs.List.{filter, flat_map}
 use Rattle.std.specs.List.Sorted.{IsPermutation}
 use Rattle.std.proofs.lemmas.List.Elements.{filter-append}

@@ -228,7 +228,7 @@ module _ {A B : Marked} (a : IsMarked A) (b : IsMarked B) (all : List VarName) w
 
     pub small_marks : length all ≤ MOST_VARIABLES → HaveSmallMarks xs ys
     small_marks few =
-        let le = power_le (2 * length all) 32 (omega (arith, few)) in
+        let le = power_le (2 * length all) 64 (omega (arith, few)) in
         subst (λ (zs : List HalfWay). HaveSmallMarks xs zs) (sym right_ways)
         (subst (λ (zs : List HalfWay). HaveSmallMarks zs Y) (sym left_ways) (λ x y hx hy. omega (arith, way_marks x y hx hy, le)))
 

@@ -19,4 +19,5 @@ pub mod Searched
 pub mod Stable
 pub mod Unions
 pub mod United
+pub mod UnionsOver
 pub mod Whole

@@ -1,14 +1,16 @@
 -- Names of two sets.
-use Rattle.std.proofs.Common.{◌≡◌, ℕ, suc, ◌+◌, ◌<◌, ◌≤◌, ◌⊎◌, Bool, true, false, List, [], ◌∷◌, length, inl, inr, refl, sym, ap, arith, ◌∙◌}
+use Rattle.std.proofs.Common.{◌≡◌, ℕ, suc, ◌+◌, ◌<◌, ◌≤◌, ◌⊎◌, ◌↔◌, Bool, true, false, List, [], ◌∷◌, length, inl, inr, refl, sym, ap, subst, arith, ◌∙◌}
 use Rattle.std.specs.Prelude.{IsTrue, Contains}
 use Rattle.std.specs.Bool.{OnTrue}
 use Rattle.std.specs.FinSet as set
 use Rattle.std.specs.declared.cmp.Ordering.{Ordering}
 use Rattle.std.specs.declared.cmp.Ordering.TheVariants.{Less, Equal, Greater}
-use Rattle.span_core.specs.NameSets.{by_order, name_cmp, with_name}
+use Rattle.span_core.specs.NameSets.{Ascending, by_order, name_cmp, with_name}
+use Rattle.span_core.proofs.NameSetLaws.{with_ascends}
 use Rattle.spanner_model.specs.Captures.{VarName}
 use Rattle.span_core.specs.Lists.{Has}
 use Rattle.span_core.proofs.HasLaws.{Contains-Has}
+use Rattle.spanner_model.proofs.NameLaws.{with_cases, with_here, with_there}
 use Rattle.algebra.specs.JoinedNames.{all_names}
 
 pub truly : {P : Type 0} (b : Bool) → IsTrue b → OnTrue b P → P
@@ -55,3 +57,27 @@ all_few names (x ∷ more) =
 -- all names, by names that are equal
 pub names_by : {all a b names1 names2 : List VarName} → all ≡ all_names a b → a ≡ names1 → b ≡ names2 → all ≡ all_names names1 names2
 names_by e f g = e ∙ (λ i. all_names (f i) (g i))
+
+pub all_ascend : (more names : List VarName) → Ascending names → Ascending (all_names names more)
+all_ascend [] names h = h
+all_ascend (x ∷ more) names h = all_ascend more (with_name x names) (with_ascends x names h)
+
+all_keep : (names more : List VarName) (x : VarName) → Has names x → Has (all_names names more) x
+all_keep names [] x h = h
+all_keep names (y ∷ more) x h = all_keep (with_name y names) more x (with_there y x names h)
+
+all_there : (names more : List VarName) (x : VarName) → Has more x → Has (all_names names more) x
+all_there names [] x h = absurd h
+all_there names (y ∷ more) x (inl e) = all_keep (with_name y names) more x (subst (λ z. Has (with_name y names) z) e (with_here y names))
+all_there names (y ∷ more) x (inr h) = all_there (with_name y names) more x h
+
+all_cases : (names more : List VarName) (x : VarName) → Has (all_names names more) x → Has names x ⊎ Has more x
+all_cases names [] x h = inl h
+all_cases names (y ∷ more) x h =
+    elim (all_cases (with_name y names) more x h) [
+      | inl a ↦ elim (with_cases y x names a) [ inl e ↦ inr (inl e) | inr b ↦ inl b ]
+      | inr a ↦ inr (inr a)
+    ]
+
+pub all_are : (names more : List VarName) (x : VarName) → Has (all_names names more) x ↔ (Has names x ⊎ Has more x)
+all_are names more x = (all_cases names more x, λ h. elim h [ inl a ↦ all_keep names more x a | inr a ↦ all_there names more x a ])

@@ -8,6 +8,7 @@ use Rattle.std.proofs.lemmas.Nat.{div-mul-add, mod-mul-add, mod-pow-add, div_bel
 use Rattle.std.proofs.lemmas.Bool.{eq-eqb, ne_eqb, eqb-true}
 use Rattle.std.proofs.lemmas.List.{length-map}
 use Rattle.spanner_model.specs.Captures.{VarName}
+use Rattle.span_core.specs.declared.TheConstants.{MOST_VARIABLES}
 use Rattle.span_core.specs.Lists.{Has, AreDistinct}
 use Rattle.span_core.proofs.HasLaws.{Has-slice_get, Has-map_cases, Contains-Has}
 use Rattle.spanner_model.proofs.NameLaws.{Has-list_any, list_any-Has}
@@ -247,7 +248,7 @@ power_le a b le =
     mul_more x zero l = absurd (omega arith)
     mul_more x (suc y) l = let e : x * suc y ≡ x * y + x = omega arith in omega (arith, e)
 
-pub shifts_small : (names other : List VarName) (wanted : Bool) (all : List VarName) (s : ℕ) → length names ≤ 16 → Has (map (shift_of names other wanted) all) (Some s) → s < 32
+pub shifts_small : (names other : List VarName) (wanted : Bool) (all : List VarName) (s : ℕ) → length names ≤ MOST_VARIABLES → Has (map (shift_of names other wanted) all) (Some s) → s < 64
 shifts_small names other wanted all s few h =
     let r = Has-map_cases (shift_of names other wanted) all (Some s) h in
     omega (arith, few, shift_small names other wanted r.0 s r.2)

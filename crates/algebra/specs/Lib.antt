@@ -8,3 +8,4 @@ pub mod Pairs
 pub mod Renaming
 pub mod Rows
 pub mod Sides
+pub mod Uniting

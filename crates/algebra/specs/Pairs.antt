@@ -1,5 +1,5 @@
 -- The pairs of states of a join, and the ways and ends between them.
-use Rattle.std.specs.Prelude.{◌≡◌, ℕ, zero, suc, ◌+◌, ◌*◌, ◌^◌, ◌<◌, ◌≤◌, ◌⊎◌, Bool, ◌&&◌, nat_eq, List, [], ◌∷◌, ◌++◌, length, map, slice_get, Some}
+use Rattle.std.specs.Prelude.{◌≡◌, ℕ, ◌+◌, ◌*◌, ◌^◌, ◌<◌, ◌≤◌, ◌⊎◌, Bool, ◌&&◌, nat_eq, List, [], ◌∷◌, ◌++◌, length, map, slice_get, Some}
 use Rattle.std.specs.List.{filter, flat_map}
 use Rattle.span_core.specs.Lists.{Has}
 use Rattle.marked_automaton.specs.declared.way.Way.{Way}
@@ -54,7 +54,7 @@ way_pair x y = record {
 
 -- what two of these ways bring together are markers
 abbrev pub HaveSmallMarks : List HalfWay → List HalfWay → Type 0
-HaveSmallMarks xs ys = (x y : HalfWay) → Has xs x → Has ys y → x.way.marks + y.way.marks < 2 ^ 32
+HaveSmallMarks xs ys = (x y : HalfWay) → Has xs x → Has ys y → x.way.marks + y.way.marks < 2 ^ 64
 
 abbrev pub stops_meet : HalfStop → HalfStop → Bool
 stops_meet x y = nat_eq x.shared y.shared

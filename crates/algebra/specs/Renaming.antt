@@ -31,10 +31,10 @@ abbrev pub moved_marks : List (Option ℕ) → ℕ → ℕ
 moved_marks [] m = 0
 moved_marks (s ∷ shifts) m = bits_up s m * 2 ^ (2 * length shifts) + moved_marks shifts m
 
--- of no more variables than a set has where their bits stand in numbers of 32 bits
+-- of no more variables than a set has where their bits stand in numbers of 64 bits
 pub record AreShifts (shifts : List (Option ℕ)) : Type 0 where
   pub few : length shifts ≤ MOST_VARIABLES
-  pub small : (s : ℕ) → Has shifts (Some s) → s < 32
+  pub small : (s : ℕ) → Has shifts (Some s) → s < 64
 
 -- the parts of one side with the bits that it brings, and those by which it has to agree
 abbrev pub half_way : List (Option ℕ) → List (Option ℕ) → Way → HalfWay

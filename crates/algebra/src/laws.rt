@@ -1,10 +1,21 @@
 //! Laws of the operations, each the contract of a function that does nothing.
 ghost use Rattle.algebra.specs.Laws.{JoinLaws, ReductOfJoin, ReductOfUnion, UnionLaw};
 ghost use Rattle.algebra.specs.Rows.{BlocksAgree, BlocksAreJoined};
+ghost use Rattle.algebra.specs.Uniting.{UnionOverLaw, UnionOverSameNames};
 
 /// A union accepts what one of its parts accepts.
 pub fn unions_accept_what_a_part_accepts()
     ensures { UnionLaw }
+{}
+
+/// A union of automata over different variables accepts the words of its parts, over the variables of both.
+pub fn unions_accept_the_words_of_both_over_all_names()
+    ensures { UnionOverLaw }
+{}
+
+/// Where both have the same variables, their blocks stay as they are.
+pub fn unions_over_the_same_names_change_no_block()
+    ensures { UnionOverSameNames }
 {}
 
 /// A join accepts what words of its parts, that go together, make.

@@ -16,3 +16,4 @@ mod renaming;
 mod rows;
 #[cfg(test)]
 mod tests;
+mod uniting;

@@ -1,71 +1,56 @@
 //! Union, projection and join.
-ghost use Rattle.std.specs.Prelude.{◌≡◌, ℕ, ◌+◌, ◌*◌, ◌<◌, ◌≤◌, IfOk, IfErr, OnOk, List, length};
+ghost use Rattle.std.specs.Prelude.{◌≡◌, ℕ, ◌+◌, ◌*◌, ◌<◌, ◌≤◌, IfOk, IfErr, List, length};
 ghost use Rattle.span_core.specs.declared.TheConstants.{MOST_VARIABLES};
 ghost use Rattle.span_core.specs.Lists.{Has};
-ghost use Rattle.marked_automaton.specs.declared.TheConstants.{MOST_STATES, MOST_WAYS};
 ghost use Rattle.marked_automaton.specs.Faults.{IsSizeFaultOf, IsSizeFaultWithin};
 ghost use Rattle.marked_automaton.specs.Marks.{left_of, remarked};
 ghost use Rattle.marked_automaton.specs.Reduct.{IsReached, Reduces};
 ghost use Rattle.algebra.specs.JoinedMarks.{agree_on, joined};
 ghost use Rattle.algebra.specs.JoinedNames.{all_names};
-ghost use Rattle.algebra.specs.Operations.{join_of, union_of};
+ghost use Rattle.algebra.specs.Operations.{join_of};
+ghost use Rattle.algebra.specs.Uniting.{union_over};
 
 use crate::effort::Effort;
 use crate::joining::{grouped, join_to};
-use crate::moved::{add_part, add_ways};
-use marked_automaton::{Automaton, MOST_STATES, MOST_WAYS, SizeFault};
+use crate::renaming::names_of_both;
+use crate::uniting::{appended, fit_together, is_over, over};
+use marked_automaton::{Automaton, SizeFault};
 use span_core::{OutOfMemory, VarSet};
 use std::alloc::Global;
 
-/// The automaton that accepts what `a` or `b` accepts (Fagin et al. 2015, union of spanners). The states of
-/// `b` stand behind those of `a`, and each is idle where it was.
+/// The automaton that accepts what `a` or `b` accepts (Fagin et al. 2015, union of spanners), over the
+/// variables of both. A variable that one of them lacks is absent from what that accepts. The states of `b`
+/// stand behind those of `a`, and each is idle where it was.
 ///
 /// `States` comes exactly where the numbers of states are together more than `MOST_STATES`, and `Ways`
 /// exactly where these are not and the ways are more than `MOST_WAYS`.
 pub fn union(alloc: Global, a: &Automaton, b: &Automaton) -> Result<Automaton, SizeFault>
-    requires { a.now.names ≡ b.now.names }
-    ensures names { IfOk result (λ u. u.names ≡ a.now.names) }
-    ensures reduct { IfOk result (λ u. Reduces u.graph (union_of a.now.graph b.now.graph)) }
+    requires { length (all_names a.now.names b.now.names) ≤ MOST_VARIABLES }
+    ensures names { IfOk result (λ u. u.names ≡ all_names a.now.names b.now.names) }
+    ensures reduct { IfOk result (λ u. Reduces u.graph (union_over a.now b.now u.names)) }
     ensures fault { IfErr result (λ e. IsSizeFaultOf (a.now.graph.states + b.now.graph.states) (length a.now.graph.ways + length b.now.graph.ways) e) }
 {
     fit_together(a, b)?;
-    unite(a.copy(alloc)?, b)
+    unite(alloc, a.copy(alloc)?, b)
 }
 
 /// The union of both (Fagin et al. 2015), made in the first: its states, starts, ways and ends stay, and
-/// those of `b` are put behind them. It costs what `b` has. Refused exactly as `union` is; on refusal the
-/// automaton is given up.
-pub fn unite(a: Automaton, b: &Automaton) -> Result<Automaton, SizeFault>
-    requires { a.names ≡ b.now.names }
-    ensures names { IfOk result (λ u. u.names ≡ a.names) }
-    ensures reduct { IfOk result (λ u. Reduces u.graph (union_of a.graph b.now.graph)) }
+/// those of `b` are put behind them. It costs what `b` has, and what `a` has where `b` has variables that `a`
+/// lacks. Refused exactly as `union` is; on refusal the automaton is given up.
+pub fn unite(alloc: Global, a: Automaton, b: &Automaton) -> Result<Automaton, SizeFault>
+    requires { length (all_names a.names b.now.names) ≤ MOST_VARIABLES }
+    ensures names { IfOk result (λ u. u.names ≡ all_names a.names b.now.names) }
+    ensures reduct { IfOk result (λ u. Reduces u.graph (union_over a b.now u.names)) }
     ensures fault { IfErr result (λ e. IsSizeFaultOf (a.graph.states + b.now.graph.states) (length a.graph.ways + length b.now.graph.ways) e) }
 {
     fit_together(&a, b)?;
-    let by = a.states();
-    let mut whole = a;
-    whole.add_states(b.states())?;
-    add_ways(&mut whole, b, by)?;
-    add_part(&mut whole, b, by)?;
-    Ok(whole)
-}
-
-/// Refuses what is too large for a union.
-fn fit_together(a: &Automaton, b: &Automaton) -> Result<(), SizeFault>
-    ensures few { OnOk result ((a.now.graph.states + b.now.graph.states ≤ MOST_STATES) × (length a.now.graph.ways + length b.now.graph.ways ≤ MOST_WAYS)) }
-    ensures fault { IfErr result (λ e. IsSizeFaultOf (a.now.graph.states + b.now.graph.states) (length a.now.graph.ways + length b.now.graph.ways) e) }
-{
-    let states = a.states() + b.states();
-    let ways = a.ways().len() + b.ways().len();
-    if states > MOST_STATES {
-        return Err(SizeFault::States {
-            count: u64::from(states),
-        });
+    let all = names_of_both(a.vars(), b.vars());
+    let first = over(alloc, a, &all)?;
+    if is_over(b, &all) {
+        return appended(first, b);
     }
-    if ways > MOST_WAYS {
-        return Err(SizeFault::Ways { count: ways as u64 });
-    }
-    Ok(())
+    let second = b.erase(alloc, &all)?;
+    appended(first, &second)
 }
 
 /// The automaton that accepts what is left of the words of `a` on the kept variables (projection).

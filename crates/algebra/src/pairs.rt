@@ -233,7 +233,7 @@ impl Search {
     /// Makes the way of two that lead from the pair of this number, if they go together.
     fn follow_both(&mut self, from: u32, x: &HalfWay, y: &HalfWay) -> Result<(), SizeFault>
         requires from { slice_get self.old.found.keys from ≡ Some (pair_of x.now.way.from y.now.way.from) }
-        requires marks { x.now.way.marks + y.now.way.marks < 2 ^ 32 }
+        requires marks { x.now.way.marks + y.now.way.marks < 2 ^ 64 }
         ensures followed { OnOk result (IsFollowed (ways_with x.now (y.now ∷ [])) self.old.found.keys self.old.ways.items self.new.found.keys self.new.ways.items) }
         ensures fault { IfErr result (λ e. IsRefusalOf (ways_with x.now (y.now ∷ [])) self.old.found.keys self.old.ways.items e) }
     {
@@ -260,7 +260,7 @@ impl Search {
     /// Makes the ways of one way of the first side and of ways of the second, from the pair of this number.
     fn follow_way(&mut self, from: u32, x: &HalfWay, ys: &[HalfWay]) -> Result<(), SizeFault>
         requires from { (y : HalfWay) → Has ys.now y → slice_get self.old.found.keys from ≡ Some (pair_of x.now.way.from y.way.from) }
-        requires marks { (y : HalfWay) → Has ys.now y → x.now.way.marks + y.way.marks < 2 ^ 32 }
+        requires marks { (y : HalfWay) → Has ys.now y → x.now.way.marks + y.way.marks < 2 ^ 64 }
         ensures followed { OnOk result (IsFollowed (ways_with x.now ys.now) self.old.found.keys self.old.ways.items self.new.found.keys self.new.ways.items) }
         ensures fault { IfErr result (λ e. IsRefusalOf (ways_with x.now ys.now) self.old.found.keys self.old.ways.items e) }
     {

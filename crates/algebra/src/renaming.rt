@@ -71,8 +71,8 @@ pub(crate) fn moved(shifts: &[Option<u32>], marks: Marks) -> Marks
     Marks::of(number)
 }
 
-fn bits(shift: Option<u32>, number: u32) -> u32
-    requires { ForSome shift (λ s. s < 32) }
+fn bits(shift: Option<u32>, number: u64) -> u64
+    requires { ForSome shift (λ s. s < 64) }
     ensures value { result ≡ bits_up shift number }
     ensures small { result < 4 }
 {

@@ -1,5 +1,8 @@
 //! Small automata, put together by hand.
-ghost use Rattle.std.specs.Prelude.{◌≡◌, ◌+◌, ◌*◌, ◌^◌, ◌<◌, ◌≤◌, ◌↔◌, [], IfOk, IsTrue};
+ghost use Rattle.std.specs.Prelude.{◌≡◌, ◌+◌, ◌*◌, ◌^◌, ◌<◌, ◌≤◌, ◌↔◌, [], IfOk, IsTrue, length};
+ghost use Rattle.std.specs.Bool.{OnTrue};
+ghost use Rattle.std.specs.Option.{ForSome};
+ghost use Rattle.span_core.specs.declared.span.Span.{Span as SpanOf};
 ghost use Rattle.span_core.specs.declared.TheConstants.{MOST_VARIABLES};
 
 use crate::{Effort, join, join_within, project, union, unite};
@@ -12,7 +15,7 @@ fn fits(marks: Marks, variables: usize) -> bool
     requires { variables ≤ MOST_VARIABLES }
     ensures { IsTrue result ↔ (marks < 2 ^ (2 * variables)) }
 {
-    u64::from(marks.number()) < 1 << (2 * variables)
+    u128::from(marks.number()) < 1 << (2 * variables)
 }
 
 /// The set of this one name.
@@ -152,6 +155,24 @@ fn nothing_captured(alloc: Global, name: &[u8]) -> Result<Automaton, SizeFault> 
     )
 }
 
+/// The union, where its variables are surely not too many.
+#[tactic(auto, using(crate::proofs::NamesLaws::all_few))]
+fn united(alloc: Global, a: &Automaton, b: &Automaton) -> Result<Automaton, SizeFault> {
+    if a.vars().len() + b.vars().len() > MOST_VARIABLES {
+        return Err(SizeFault::OutOfMemory);
+    }
+    union(alloc, a, b)
+}
+
+/// The union made in the first, where its variables are surely not too many.
+#[tactic(auto, using(crate::proofs::NamesLaws::all_few))]
+fn united_in_place(alloc: Global, a: Automaton, b: &Automaton) -> Result<Automaton, SizeFault> {
+    if a.vars().len() + b.vars().len() > MOST_VARIABLES {
+        return Err(SizeFault::OutOfMemory);
+    }
+    unite(alloc, a, b)
+}
+
 /// The join, where its variables are surely not too many.
 #[tactic(auto, using(crate::proofs::NamesLaws::all_few))]
 fn joined(alloc: Global, a: &Automaton, b: &Automaton) -> Result<Automaton, SizeFault> {
@@ -193,6 +214,16 @@ fn accepts(automaton: &Automaton, alloc: Global, doc: &[u8]) -> Result<bool, Siz
     Ok(automaton.accepts(alloc, &Row::empty(), doc)?)
 }
 
+/// Whether a span that is there ends within the document.
+fn lies_within(span: Option<Span>, doc: &[u8]) -> bool
+    ensures { OnTrue result (ForSome span (λ (s : SpanOf). s.end ≤ length doc.now)) }
+{
+    match span {
+        Some(span) => span.end as usize <= doc.len(),
+        None => true,
+    }
+}
+
 /// Whether the automaton of one variable accepts the document with this span.
 fn captures(
     automaton: &Automaton,
@@ -201,7 +232,7 @@ fn captures(
     doc: &[u8],
 ) -> Result<bool, SizeFault> {
     let mut row = Row::empty();
-    row.push(span);
+    row.push(Some(span));
     if automaton.vars().len() != 1 || span.end as usize > doc.len() {
         return Ok(false);
     }
@@ -212,17 +243,14 @@ fn captures(
 fn captures_both(
     automaton: &Automaton,
     alloc: Global,
-    x: Span,
-    y: Span,
+    x: Option<Span>,
+    y: Option<Span>,
     doc: &[u8],
 ) -> Result<bool, SizeFault> {
     let mut row = Row::empty();
     row.push(x);
     row.push(y);
-    if automaton.vars().len() != 2 {
-        return Ok(false);
-    }
-    if x.end as usize > doc.len() || y.end as usize > doc.len() {
+    if automaton.vars().len() != 2 || !lies_within(x, doc) || !lies_within(y, doc) {
         return Ok(false);
     }
     Ok(automaton.accepts(alloc, &row, doc)?)
@@ -232,7 +260,7 @@ fn captures_both(
 fn unions_accept_what_a_part_accepts(rt: HostRuntime) -> Result<(), SizeFault> {
     let a = plain(rt.alloc(), b'a', b'a')?;
     let b = plain(rt.alloc(), b'b', b'b')?;
-    let both = union(rt.alloc(), &a, &b)?;
+    let both = united(rt.alloc(), &a, &b)?;
     assert_eq!(rt; both.states(), 4);
     assert!(rt; accepts(&both, rt.alloc(), b"a")?);
     assert!(rt; accepts(&both, rt.alloc(), b"b")?);
@@ -242,13 +270,33 @@ fn unions_accept_what_a_part_accepts(rt: HostRuntime) -> Result<(), SizeFault> {
 }
 
 #[test]
+fn unions_have_the_variables_of_both(rt: HostRuntime) -> Result<(), SizeFault> {
+    let x = byte_captured(rt.alloc(), b"x")?;
+    let y = nothing_captured(rt.alloc(), b"y")?;
+    let (byte, nothing) = (Some(Span::new(0, 1)), Some(Span::new(0, 0)));
+    for both in [united(rt.alloc(), &x, &y)?, united(rt.alloc(), &y, &x)?] {
+        assert_eq!(rt; both.states(), 4);
+        assert!(rt; captures_both(&both, rt.alloc(), byte, None, b"a")?);
+        assert!(rt; captures_both(&both, rt.alloc(), None, nothing, b"a")?);
+        assert!(rt; !captures_both(&both, rt.alloc(), byte, nothing, b"a")?);
+        assert!(rt; !captures_both(&both, rt.alloc(), None, None, b"a")?);
+    }
+    let both = united(rt.alloc(), &x, &y)?;
+    let again = united(rt.alloc(), &both, &x)?;
+    assert_eq!(rt; again.states(), 6);
+    assert!(rt; captures_both(&again, rt.alloc(), byte, None, b"a")?);
+    assert!(rt; !captures_both(&again, rt.alloc(), nothing, None, b"a")?);
+    Ok(())
+}
+
+#[test]
 fn unions_are_refused_at_the_limit(rt: HostRuntime) -> Result<(), SizeFault> {
     let a = Automaton::new(rt.alloc(), VarSet::empty(), 10_000)?;
     let b = Automaton::new(rt.alloc(), VarSet::empty(), 10_000)?;
     let more = Automaton::new(rt.alloc(), VarSet::empty(), 10_001)?;
-    assert_eq!(rt; union(rt.alloc(), &a, &b)?.states(), 20_000);
+    assert_eq!(rt; united(rt.alloc(), &a, &b)?.states(), 20_000);
     assert_eq!(rt;
-        union(rt.alloc(), &a, &more).err(),
+        united(rt.alloc(), &a, &more).err(),
         Some(SizeFault::States { count: 20_001 })
     );
     Ok(())
@@ -260,8 +308,8 @@ fn unions_are_refused_for_their_ways(rt: HostRuntime) -> Result<(), SizeFault> {
     let b = looping(rt.alloc(), 1_000_000)?;
     assert_eq!(rt; a.ways().len() + b.ways().len(), 2_000_001);
     let refused = Some(SizeFault::Ways { count: 2_000_001 });
-    assert_eq!(rt; union(rt.alloc(), &a, &b).err(), refused);
-    assert_eq!(rt; unite(a, &b).err(), refused);
+    assert_eq!(rt; united(rt.alloc(), &a, &b).err(), refused);
+    assert_eq!(rt; united_in_place(rt.alloc(), a, &b).err(), refused);
     Ok(())
 }
 
@@ -270,7 +318,8 @@ fn unions_are_made_in_place(rt: HostRuntime) -> Result<(), SizeFault> {
     let a = plain(rt.alloc(), b'a', b'a')?;
     let b = plain(rt.alloc(), b'b', b'b')?;
     let c = plain(rt.alloc(), b'c', b'c')?;
-    let all = unite(unite(a, &b)?, &c)?;
+    let two = united_in_place(rt.alloc(), a, &b)?;
+    let all = united_in_place(rt.alloc(), two, &c)?;
     assert_eq!(rt; all.states(), 6);
     assert_eq!(rt; all.ways().len(), 3);
     assert!(rt; accepts(&all, rt.alloc(), b"a")?);
@@ -280,7 +329,7 @@ fn unions_are_made_in_place(rt: HostRuntime) -> Result<(), SizeFault> {
     assert!(rt; !accepts(&all, rt.alloc(), b"ab")?);
     let more = Automaton::new(rt.alloc(), VarSet::empty(), MOST_STATES)?;
     assert_eq!(rt;
-        unite(more, &c).err(),
+        united_in_place(rt.alloc(), more, &c).err(),
         Some(SizeFault::States { count: 20_002 })
     );
     Ok(())
@@ -417,12 +466,29 @@ fn joins_have_the_variables_of_both(rt: HostRuntime) -> Result<(), SizeFault> {
     let x = byte_captured(rt.alloc(), b"x")?;
     let y = nothing_captured(rt.alloc(), b"y")?;
     let both = joined(rt.alloc(), &y, &x)?;
-    let (byte, nothing) = (Span::new(0, 1), Span::new(0, 0));
+    let (byte, nothing) = (Some(Span::new(0, 1)), Some(Span::new(0, 0)));
     assert!(rt; captures_both(&both, rt.alloc(), byte, nothing, b"a")?);
     assert!(rt; !captures_both(&both, rt.alloc(), nothing, byte, b"a")?);
     let again = joined(rt.alloc(), &both, &x)?;
     assert!(rt; captures_both(&again, rt.alloc(), byte, nothing, b"a")?);
     assert!(rt; !captures_both(&again, rt.alloc(), nothing, nothing, b"a")?);
+    Ok(())
+}
+
+/// A variable that is absent on both sides agrees, and one that is absent on one side does not.
+#[test]
+fn joins_agree_on_absent_variables(rt: HostRuntime) -> Result<(), SizeFault> {
+    let x = byte_captured(rt.alloc(), b"x")?;
+    let y = nothing_captured(rt.alloc(), b"y")?;
+    let (byte, nothing) = (Some(Span::new(0, 1)), Some(Span::new(0, 0)));
+    let either = united(rt.alloc(), &x, &y)?;
+    let alike = joined(rt.alloc(), &either, &either)?;
+    assert!(rt; captures_both(&alike, rt.alloc(), byte, None, b"a")?);
+    assert!(rt; captures_both(&alike, rt.alloc(), None, nothing, b"a")?);
+    assert!(rt; !captures_both(&alike, rt.alloc(), byte, nothing, b"a")?);
+    let with_x = joined(rt.alloc(), &either, &x)?;
+    assert!(rt; captures_both(&with_x, rt.alloc(), byte, None, b"a")?);
+    assert!(rt; !captures_both(&with_x, rt.alloc(), None, nothing, b"a")?);
     Ok(())
 }
 

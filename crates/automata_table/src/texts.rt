@@ -6,7 +6,8 @@ pub(crate) struct Group {
     pub texts: &'static str,
 }
 
-/// The queries whose answers are checked: each operation, alone and inside another, and names of names.
+/// The queries whose answers are checked: each operation, alone and inside another, names of names, and captures that may
+/// be left out.
 pub static GROUPS: [Group; 2] = [
     Group {
         bytes: b"ab",
@@ -15,7 +16,11 @@ pub static GROUPS: [Group; 2] = [
 /!x{a*}!y{b*}/ join /!x{.*}!y{.+}/
 (/!x{a}/ union /!x{aa}/) join (/!x{a+}b/ union /b!x{a+}/)
 project none (/!x{a}/ union /!x{b}/)
-let u = /!x{a*}!y{b}/; let v = project x, y (u); let w = project x (v); let z = v union /!x{b}!y{a}/; w join z",
+let u = /!x{a*}!y{b}/; let v = project x, y (u); let w = project x (v); let z = v union /!x{b}!y{a}/; w join z
+/!x{a}|b/
+/(!x{a})?!y{b}/
+/!x{a}/ union /!y{b}/
+let u = /!x{a}(!y{b})?/; u join /!x{.}/",
     },
     Group {
         bytes: b"\xc3\xa9",

@@ -104,12 +104,12 @@ fn list_words(
 }
 
 /// The number of blocks over the automaton's variables.
-fn number_of_blocks(automaton: &Automaton) -> u32 {
-    4u32.saturating_pow(automaton.vars().len() as u32)
+fn number_of_blocks(automaton: &Automaton) -> u64 {
+    4u64.saturating_pow(automaton.vars().len() as u32)
 }
 
 /// The word with one block more, where that is not empty.
-fn with_block(before: &Vec<Block>, at: u32, marks: u32) -> Result<Vec<Block>, AllocError> {
+fn with_block(before: &Vec<Block>, at: u32, marks: u64) -> Result<Vec<Block>, AllocError> {
     let mut word = before.clone()?;
     if marks != 0 {
         word.push(Block { at, marks })?;

@@ -14,7 +14,7 @@ use std::sync::ledger::Ledger;
 #[derive(Clone, Copy, Debug, PartialEq, Eq)]
 pub(crate) struct Block {
     pub at: u32,
-    pub marks: u32,
+    pub marks: u64,
 }
 
 /// The most row cells that are looked at.

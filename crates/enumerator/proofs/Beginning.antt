@@ -1,17 +1,16 @@
 -- An enumerator before the first row.
-use Rattle.std.proofs.Common.{◌≡◌, ℕ, ◌≤◌, List, [], ◌∷◌, ◌++◌, map, refl, sym, ap, ◌∙◌, subst, append-nil, arith}
+use Rattle.std.proofs.Common.{◌≡◌, ℕ, ◌≤◌, List, [], ◌∷◌, map, refl, ◌∙◌, append-nil}
 use Rattle.std.proofs.Common as common
 use Rattle.span_core.specs.declared.TheConstants.{MOST_VARIABLES}
-use Rattle.span_core.specs.Block.{IsTotal}
 use Rattle.span_core.specs.Lists.{Has}
 use Rattle.node_arena.specs.Words.{Word}
 use Rattle.output_graph.specs.Listed.{Lists, AreLists}
 use Rattle.node_arena.specs.Rows.{rows}
-use Rattle.enumerator.specs.Enumeration.{SpanRow, IsWordOfRow, AreRowsOf, IsRestAfter}
+use Rattle.enumerator.specs.Enumeration.{IsWordOfRow, AreRowsOf}
 use Rattle.enumerator.specs.Enumerating.{IsEnumerating}
 use Rattle.enumerator.specs.Rows.{Places, no_places, row_under, rows_of, waiting_rows}
 use Rattle.enumerator.specs.Waiting.{waited}
-use Rattle.enumerator.proofs.Lists.{has_map_cases, has_right, map_same}
+use Rattle.enumerator.proofs.Lists.{map_same}
 use Rattle.enumerator.proofs.RowLaws.{row_under_agree, waited_stacked, waited_rows}
 use Rattle.enumerator.proofs.Words.{is_row_of_word, fits_word, never_listed}
 
@@ -27,21 +26,10 @@ pub rest_is_whole : (lists : Lists) (v : ℕ) (P : Places) → waiting_rows list
 rest_is_whole lists v P =
     waited_rows lists.store v 0 P lists.first [] ∙ (append-nil (map (row_under v 0 P) (rows lists.store lists.first)) ∙ any_places v P no_places (rows lists.store lists.first))
 
--- all rows of sound lists are total
-pub whole_total : (lists : Lists) (v : ℕ) → ((w : Word) → Has (rows lists.store lists.first) w → IsWordOfRow v w) → (r : SpanRow) → Has (rows_of lists v) r → IsTotal r
-whole_total lists v words r h =
-    let u = has_map_cases (row_under v 0 no_places) (rows lists.store lists.first) r h in
-    subst IsTotal u.2 (is_row_of_word v no_places u.0 (words u.0 u.1)).total
-
-pub begins : (lists : Lists) (v : ℕ) (P : Places) → v ≤ MOST_VARIABLES → AreLists lists → ((w : Word) → Has (rows lists.store lists.first) w → IsWordOfRow v w) → IsEnumerating lists v P (waited 0 lists.first [])
-begins lists v P few sound words = record {
+pub begins : (lists : Lists) (v : ℕ) → v ≤ MOST_VARIABLES → AreLists lists → ((w : Word) → Has (rows lists.store lists.first) w → IsWordOfRow v w) → IsEnumerating lists v (waited 0 lists.first [])
+begins lists v few sound words = record {
   few = few;
   sound = sound;
   words = words;
   stacked = waited_stacked lists.store v 0 lists.first [] tt (λ some. record { there = sound.there; some = some; fit = λ w h. fits_word v w (words w h) });
-  total = λ r h. whole_total lists v words r (subst (λ rs. Has rs r) (rest_is_whole lists v P) h);
 }
-
--- what is left of the rows are rows
-pub rest_total : (lists : Lists) (v : ℕ) (after : SpanRow) (rest : List SpanRow) → ((w : Word) → Has (rows lists.store lists.first) w → IsWordOfRow v w) → IsRestAfter after (rows_of lists v) rest → (r : SpanRow) → Has rest r → IsTotal r
-rest_total lists v after rest words h r there = whole_total lists v words r (subst (λ rs. Has rs r) (sym h.1) (has_right h.0 rest r there))

@@ -1,11 +1,10 @@
 -- A graph that is stepped by hand, and the rows of three words.
-use Rattle.std.proofs.Common.{◌≡◌, ℕ, zero, suc, ◌+◌, ◌<◌, ◌≤◌, Bool, true, false, List, [], ◌∷◌, ◌++◌, map, Some, inl, inr, refl, sym, ap, ap₂, ◌∙◌, subst, arith, nat_eq, eqb-true}
+use Rattle.std.proofs.Common.{◌≡◌, ℕ, zero, suc, ◌+◌, ◌<◌, ◌≤◌, Bool, true, false, List, [], ◌∷◌, ◌++◌, map, Some, None, inl, inr, refl, sym, ap, ap₂, ◌∙◌, subst, arith, nat_eq, eqb-true}
 use Rattle.std.specs.Prelude.{if◌then◌else◌, ◌==◌}
 use Rattle.std.specs.List.{All}
-use Rattle.std.specs.Option.{IsSome}
 use Rattle.std.proofs.lemmas.List.Elements.{All-push}
 use Rattle.span_core.specs.declared.span.Span.{Span}
-use Rattle.span_core.specs.Block.{IsTotal, block}
+use Rattle.span_core.specs.Block.{block}
 use Rattle.span_core.specs.Blocks.{Ascends, listed}
 use Rattle.span_core.specs.Lists.{Has}
 use Rattle.node_arena.specs.Rows.{NamedRow, rows}
@@ -41,29 +40,24 @@ past_stepped old new at edges past none stepped s w x h m = elim ((stepped.left.
   ]
 ]
 
--- the words of `!x{a*}` at any place of the document `a`, in order
+-- the words of `!x{a*}` at the front of the document `a`, and the one without markers, in order
 abbrev pub three : List Word
-three = ((0, 3) ∷ []) ∷ ((0, 2) ∷ (1, 1) ∷ []) ∷ ((1, 3) ∷ []) ∷ []
+three = ((0, 3) ∷ []) ∷ ((0, 2) ∷ (1, 1) ∷ []) ∷ [] ∷ []
 
 -- row cells that have these words: of each its child's rows, and then its next's
-pub three_words : (store : List NamedRow) (entry first others begun later second no_other third none : Entry) → first ≡ Done → second ≡ Done → third ≡ Done → no_other ≡ Nothing → none ≡ Nothing
-    → rows store entry ≡ map (λ (w : Word). (0, 3) ∷ w) (rows store first) ++ rows store others → rows store others ≡ map (λ (w : Word). (0, 2) ∷ w) (rows store begun) ++ rows store later
-    → rows store begun ≡ map (λ (w : Word). (1, 1) ∷ w) (rows store second) ++ rows store no_other → rows store later ≡ map (λ (w : Word). (1, 3) ∷ w) (rows store third) ++ rows store none → rows store entry ≡ three
-three_words store entry first others begun later second no_other third none d e f n o p q r s =
+pub three_words : (store : List NamedRow) (entry first others begun third second no_other : Entry) → first ≡ Done → second ≡ Done → third ≡ Done → no_other ≡ Nothing
+    → rows store entry ≡ map (λ (w : Word). (0, 3) ∷ w) (rows store first) ++ rows store others → rows store others ≡ map (λ (w : Word). (0, 2) ∷ w) (rows store begun) ++ rows store third
+    → rows store begun ≡ map (λ (w : Word). (1, 1) ∷ w) (rows store second) ++ rows store no_other → rows store entry ≡ three
+three_words store entry first others begun third second no_other d e f n p q r =
     let one : (x : Entry) → x ≡ Done → rows store x ≡ [] ∷ [] = λ x is. ap (rows store) is ∙ rows_done store in
-    let nil : (x : Entry) → x ≡ Nothing → rows store x ≡ [] = λ x is. ap (rows store) is ∙ rows_nothing store in
-    let ends = s ∙ ap₂ (λ xs ys. map (λ (w : Word). (1, 3) ∷ w) xs ++ ys) (one third f) (nil none o) in
-    let closed = r ∙ ap₂ (λ xs ys. map (λ (w : Word). (1, 1) ∷ w) xs ++ ys) (one second e) (nil no_other n) in
-    let opened = q ∙ ap₂ (λ xs ys. map (λ (w : Word). (0, 2) ∷ w) xs ++ ys) closed ends in
+    let none : rows store no_other ≡ [] = ap (rows store) n ∙ rows_nothing store in
+    let closed = r ∙ ap₂ (λ xs ys. map (λ (w : Word). (1, 1) ∷ w) xs ++ ys) (one second e) none in
+    let opened = q ∙ ap₂ (λ xs ys. map (λ (w : Word). (0, 2) ∷ w) xs ++ ys) closed (one third f) in
     p ∙ ap₂ (λ xs ys. map (λ (w : Word). (0, 3) ∷ w) xs ++ ys) (one first d) opened
 
 -- the row of one span
 abbrev row_with : (start end : ℕ) → start ≤ end → SpanRow
 row_with start end l = let s : Span = record { start = start; end = end; ordered = l } in Some s ∷ []
-
-one_total : (start end : ℕ) (l : start ≤ end) → IsTotal (row_with start end l)
-one_total start end l =
-    let s : Span = record { start = start; end = end; ordered = l } in All-push IsSome [] (Some s) (λ i d h. absurd (omega (arith, h))) refl
 
 one_some : (x : ℕ × ℕ) → 0 < x.1 → All (λ (b : ℕ × ℕ). 0 < b.1) (x ∷ [])
 one_some x l = All-push (λ (b : ℕ × ℕ). 0 < b.1) [] x (λ i d h. absurd (omega (arith, h))) l
@@ -73,7 +67,7 @@ empty_span : (p : ℕ) → IsWordOfRow 1 ((p, 3) ∷ [])
 empty_span p =
     let l : p ≤ p = omega arith in
     let ascends : Ascends ((p, 3) ∷ []) = λ k d h. absurd (omega (arith, h)) in
-    ((ascends, one_some (p, 3) (omega arith)), (row_with p p l, record { variables = refl; total = one_total p p l; blocks_are = λ at. go (p == at) }))
+    ((ascends, one_some (p, 3) (omega arith)), (row_with p p l, record { variables = refl; blocks_are = λ at. go (p == at) }))
   where
     go : (b : Bool) → (if b then 2 else 0) + (if b then 1 else 0) + 0 ≡ (if b then 3 else 0)
     go true = refl
@@ -83,7 +77,7 @@ empty_span p =
 some_span : (p q : ℕ) → p < q → IsWordOfRow 1 ((p, 2) ∷ (q, 1) ∷ [])
 some_span p q less =
     let l : p ≤ q = omega (arith, less) in
-    ((ascends, All-push (λ (b : ℕ × ℕ). 0 < b.1) ((p, 2) ∷ []) (q, 1) (one_some (p, 2) (omega arith)) (omega arith)), (row_with p q l, record { variables = refl; total = one_total p q l; blocks_are = blocks_are }))
+    ((ascends, All-push (λ (b : ℕ × ℕ). 0 < b.1) ((p, 2) ∷ []) (q, 1) (one_some (p, 2) (omega arith)) (omega arith)), (row_with p q l, record { variables = refl; blocks_are = blocks_are }))
   where
     ascends : Ascends ((p, 2) ∷ (q, 1) ∷ [])
     ascends zero d h = less
@@ -98,11 +92,18 @@ some_span p q less =
     blocks_are : (at : ℕ) → block (row_with p q (omega (arith, less))) at ≡ listed ((p, 2) ∷ (q, 1) ∷ []) at
     blocks_are at = go (p == at) (q == at) (λ e f. omega (arith, less, eqb-true p at e, eqb-true q at f))
 
+-- that of no span
+no_span : IsWordOfRow 1 []
+no_span =
+    let ascends : Ascends [] = λ k d h. absurd (omega (arith, h)) in
+    let some : All (λ (b : ℕ × ℕ). 0 < b.1) [] = λ k d h. absurd (omega (arith, h)) in
+    ((ascends, some), (None ∷ [], record { variables = refl; blocks_are = λ at. refl }))
+
 pub three_are_rows : (ws : List Word) (w : Word) → ws ≡ three → Has ws w → IsWordOfRow 1 w
 three_are_rows ws w is h = by (subst (λ (xs : List Word). Has xs w) is h)
   where
     by : Has three w → IsWordOfRow 1 w
     by (inl e) = subst (IsWordOfRow 1) e (empty_span 0)
     by (inr (inl e)) = subst (IsWordOfRow 1) e (some_span 0 1 (omega arith))
-    by (inr (inr (inl e))) = subst (IsWordOfRow 1) e (empty_span 1)
+    by (inr (inr (inl e))) = subst (IsWordOfRow 1) e no_span
     by (inr (inr (inr none))) = absurd none

@@ -1,5 +1,5 @@
 //! Enumerators.
-ghost use Rattle.std.specs.Prelude.{◌≡◌, ℕ, ◌+◌, ◌*◌, ◌<◌, ◌≤◌, [], ◌∷◌, length, map, Some, MatchOption};
+ghost use Rattle.std.specs.Prelude.{◌≡◌, ℕ, ◌+◌, ◌*◌, ◌<◌, ◌≤◌, [], ◌∷◌, length, MatchOption};
 ghost use Rattle.std.specs.Bool.{OnTrue, OnFalse};
 ghost use Rattle.span_core.specs.Lists.{Has};
 ghost use Rattle.node_arena.specs.Words.{Word};
@@ -24,12 +24,12 @@ pub struct Enumerator {
     lists: RowLists,
     variables: usize,
     places: [u32; MOST_MARKERS],
-    spans: [Span; MOST_VARIABLES],
+    spans: [Option<Span>; MOST_VARIABLES],
     stack: Stack,
 }
 
 impl Model for Enumerator {
-    ghost use Rattle.std.specs.Prelude.{length, map, take, Some};
+    ghost use Rattle.std.specs.Prelude.{length, take};
     ghost use Rattle.enumerator.specs.Enumeration.{Enumeration};
 
     ghost Value = { Enumeration };
@@ -42,10 +42,10 @@ impl Model for Enumerator {
       cells = length e.lists.store;
       whole = rows_of e.lists e.variables;
       rest = waiting_rows e.lists.store e.variables (places_of e.places) e.stack;
-      row = map Some (take e.variables e.spans);
+      row = take e.variables e.spans;
     } };
 
-    ghost invariant = { λ e. IsEnumerating e.lists e.variables (places_of e.places) e.stack };
+    ghost invariant = { λ e. IsEnumerating e.lists e.variables e.stack };
 }
 
 impl Enumerator {
@@ -66,7 +66,7 @@ impl Enumerator {
             lists,
             variables: v,
             places: [0; MOST_MARKERS],
-            spans: [Span::new(0, 0); MOST_VARIABLES],
+            spans: [None; MOST_VARIABLES],
             stack,
         }
     }
@@ -111,9 +111,9 @@ impl Enumerator {
         )
     }
 
-    /// The spans of the row that it stands at; each is empty and at 0 before the first.
-    pub fn spans(&self) -> &[Span]
-        ensures { map Some result.now ≡ self.now.row }
+    /// The row that it stands at, as its spans; before the first all are absent.
+    pub fn spans(&self) -> &[Option<Span>]
+        ensures { result.now ≡ self.now.row }
     {
         &self.spans[..self.variables]
     }

@@ -3,7 +3,6 @@
 //! The lists are gone down beside the blocks of the given row: cells that stand before its next block are passed over,
 //! one that is equal is gone into, and its neighbours wait. Each cell is looked at once at most.
 ghost use Rattle.std.specs.Prelude.{◌≡◌, ℕ, ◌+◌, ◌*◌, ◌<◌, ◌≤◌, ◌⊎◌, IsTrue, ◌↔◌, List, Option, [], ◌∷◌, ◌++◌, length, MatchOption};
-ghost use Rattle.span_core.specs.Block.{IsTotal};
 ghost use Rattle.span_core.specs.Lists.{Has};
 ghost use Rattle.output_graph.specs.Listed.{AreLists};
 ghost use Rattle.node_arena.specs.Words.{Word};
@@ -73,7 +72,7 @@ pub(crate) fn seek_row<L: Ledger>(
 #[derive(Clone, Copy)]
 struct Block {
     at: u32,
-    number: u32,
+    number: u64,
 }
 
 /// Whether rows with the block `a` come before those with the block `b` in its place.
@@ -89,9 +88,10 @@ fn next_block(row: &Row, from: u64) -> Option<Block>
 {
     let mut first = None;
     for k in 0..row.len() {
-        let span = row.at(k);
-        first = earlier(from, first, span.start);
-        first = earlier(from, first, span.end);
+        if let Some(span) = row.at(k) {
+            first = earlier(from, first, span.start);
+            first = earlier(from, first, span.end);
+        }
     }
     match first {
         None => None,

@@ -1,4 +1,5 @@
-//! The rows of a graph that is made by hand: those of `!x{a*}` at any place of the document `a`.
+//! The rows of a graph that is made by hand: those of `!x{a*}` at the front of the document `a`, and one without the
+//! span.
 ghost use Rattle.std.specs.Prelude.{◌≡◌, ℕ, ◌<◌, [], ◌∷◌, ◌++◌, map, length, IsTrue, IfSome};
 ghost use Rattle.node_arena.specs.Rows.{IsThere, rows};
 ghost use Rattle.node_arena.specs.Words.{Word};
@@ -20,11 +21,11 @@ const INSIDE: u32 = 1;
 const BEHIND: u32 = 2;
 
 /// Marks: the span begins, it ends, and both.
-const BEGINS: u32 = 2;
+const BEGINS: u64 = 2;
 
-const ENDS: u32 = 1;
+const ENDS: u64 = 1;
 
-const BOTH: u32 = 3;
+const BOTH: u64 = 3;
 
 /// The layer behind the byte.
 fn behind_the_byte<L: Ledger>(alloc: Global, steps: &mut Steps<L>) -> Option<OutputGraph>
@@ -64,7 +65,6 @@ fn accepted<L: Ledger>(mut graph: OutputGraph, steps: &mut Steps<L>) -> Option<R
 {
     for k in 0..graph.layer_len() {
         let marks = match graph.set_at(k) {
-            BEFORE => Marks::of(BOTH),
             INSIDE => Marks::of(ENDS),
             _ => Marks::none(),
         };
@@ -80,7 +80,7 @@ fn cell_with<L: Ledger>(
     lists: &RowLists,
     entry: Entry,
     at: u32,
-    marks: u32,
+    marks: u64,
     steps: &mut Steps<L>,
 ) -> Option<(Entry, Entry)>
     requires { IsThere lists.now.store entry }
@@ -98,37 +98,35 @@ fn cell_with<L: Ledger>(
     Some((cell.child, cell.next))
 }
 
-/// Whether the words are, in this order: both at 0; begins at 0 and ends at 1; both at 1.
+/// Whether the words are, in this order: both at 0; begins at 0 and ends at 1; no marks.
 fn are_the_three<L: Ledger>(lists: &RowLists, steps: &mut Steps<L>) -> Option<bool>
     ensures { IfSome result (λ are. IsTrue are → rows lists.now.store lists.now.first
-        ≡ ((0, 3) ∷ []) ∷ ((0, 2) ∷ (1, 1) ∷ []) ∷ ((1, 3) ∷ []) ∷ []) }
+        ≡ ((0, 3) ∷ []) ∷ ((0, 2) ∷ (1, 1) ∷ []) ∷ [] ∷ []) }
 {
     lists.are_lists();
     let (first, others) = cell_with(lists, lists.first(), 0, BOTH, steps)?;
-    let (begun, others) = cell_with(lists, others, 0, BEGINS, steps)?;
+    let (begun, third) = cell_with(lists, others, 0, BEGINS, steps)?;
     let (second, no_other) = cell_with(lists, begun, 1, ENDS, steps)?;
-    let (third, none) = cell_with(lists, others, 1, BOTH, steps)?;
     let ends = matches!(
         (first, second, third),
         (Entry::Done, Entry::Done, Entry::Done)
     );
-    Some(ends && matches!((no_other, none), (Entry::Nothing, Entry::Nothing)))
+    Some(ends && matches!(no_other, Entry::Nothing))
 }
 
-/// The span of the next row.
-fn next_span<L: Ledger>(rows: &mut Enumerator, steps: &mut Steps<L>) -> Option<(u32, u32)>
+/// The span of the next row, if there is one: None where it is absent.
+fn next_span<L: Ledger>(rows: &mut Enumerator, steps: &mut Steps<L>) -> Option<Option<Span>>
     ensures { rows.new.variables ≡ rows.old.variables }
 {
     let row = rows.next(steps)?;
     if row.len() == 0 {
         return None;
     }
-    let span = row.at(0);
-    Some((span.start, span.end))
+    Some(row.at(0))
 }
 
 /// What five calls give: the spans that come, and None behind them.
-fn five_calls<L: Ledger>(rows: &mut Enumerator, steps: &mut Steps<L>) -> [Option<(u32, u32)>; 5]
+fn five_calls<L: Ledger>(rows: &mut Enumerator, steps: &mut Steps<L>) -> [Option<Option<Span>>; 5]
     ensures { rows.new.variables ≡ rows.old.variables }
 {
     [
@@ -143,9 +141,9 @@ fn five_calls<L: Ledger>(rows: &mut Enumerator, steps: &mut Steps<L>) -> [Option
 /// What five calls give after a seek to the row of this span.
 fn five_after<L: Ledger>(
     rows: &mut Enumerator,
-    span: Span,
+    span: Option<Span>,
     steps: &mut Steps<L>,
-) -> [Option<(u32, u32)>; 5]
+) -> [Option<Option<Span>>; 5]
     requires { rows.old.variables ≡ 1 }
     ensures { rows.new.variables ≡ rows.old.variables }
 {
@@ -156,7 +154,7 @@ fn five_after<L: Ledger>(
 }
 
 /// What five calls give from the first row on, and then after each of four seeks.
-fn told<L: Ledger>(alloc: Global, blank: Blank) -> Option<[[Option<(u32, u32)>; 5]; 5]>
+fn told<L: Ledger>(alloc: Global, blank: Blank) -> Option<[[Option<Option<Span>>; 5]; 5]>
     requires name { blank.name ≡ L.name }
     requires parts { blank.parts ≡ L.parts }
     requires some { 0 < L.parts }
@@ -170,26 +168,28 @@ fn told<L: Ledger>(alloc: Global, blank: Blank) -> Option<[[Option<(u32, u32)>; 
     let mut rows = Enumerator::new(lists, 1);
     Some([
         five_calls(&mut rows, &mut steps),
-        five_after(&mut rows, Span::new(0, 1), &mut steps),
-        five_after(&mut rows, Span::new(0, 5), &mut steps),
-        five_after(&mut rows, Span::new(2, 2), &mut steps),
-        five_after(&mut rows, Span::new(0, 0), &mut steps),
+        five_after(&mut rows, Some(Span::new(0, 1)), &mut steps),
+        five_after(&mut rows, Some(Span::new(2, 2)), &mut steps),
+        five_after(&mut rows, None, &mut steps),
+        five_after(&mut rows, Some(Span::new(0, 0)), &mut steps),
     ])
 }
 
 #[test]
 fn rows_come_in_order_and_after_any_row(rt: HostRuntime) {
-    let none = None::<(u32, u32)>;
+    let none = None::<Option<Span>>;
+    let (empty, whole) = (Some(Some(Span::new(0, 0))), Some(Some(Span::new(0, 1))));
+    let absent = Some(None::<Span>);
     let expected = [
-        [Some((0, 0)), Some((0, 1)), Some((1, 1)), none, none],
+        [empty, whole, absent, none, none],
         // A row of the list.
-        [Some((1, 1)), none, none, none, none],
+        [absent, none, none, none, none],
         // A row between two of them.
-        [Some((1, 1)), none, none, none, none],
-        // A row behind the last.
+        [absent, none, none, none, none],
+        // The last.
         [none, none, none, none, none],
         // And back.
-        [Some((0, 1)), Some((1, 1)), none, none, none],
+        [whole, absent, none, none, none],
     ];
     assert!(rt; told::<Brand>(rt.alloc(), Blank::new(1)) == Some(expected));
 }

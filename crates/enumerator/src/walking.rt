@@ -2,9 +2,8 @@
 //!
 //! What waits lies on a stack, the next row's part on top. Going down from it, each cell's neighbours wait and its
 //! markers are written into their places: as many cells as the row has markers, whatever the document's size.
-ghost use Rattle.std.specs.Prelude.{◌≡◌, ℕ, ◌+◌, ◌*◌, ◌<◌, ◌≤◌, List, Option, [], ◌∷◌, ◌++◌, length, map, take, Some};
+ghost use Rattle.std.specs.Prelude.{◌≡◌, ℕ, ◌+◌, ◌*◌, ◌<◌, ◌≤◌, List, Option, [], ◌∷◌, ◌++◌, length, take};
 ghost use Rattle.std.specs.Bool.{OnTrue, OnFalse};
-ghost use Rattle.span_core.specs.Block.{IsTotal};
 ghost use Rattle.span_core.specs.Lists.{Has};
 ghost use Rattle.output_graph.specs.Listed.{AreLists};
 ghost use Rattle.enumerator.specs.Enumeration.{SpanRow};
@@ -24,28 +23,27 @@ pub(crate) fn next_row<L: Ledger>(
     lists: &RowLists,
     v: usize,
     places: &mut [u32; MOST_MARKERS],
-    spans: &mut [Span; MOST_VARIABLES],
+    spans: &mut [Option<Span>; MOST_VARIABLES],
     stack: &mut Stack,
     steps: &mut Steps<L>,
 ) -> bool
     requires few { v ≤ MOST_VARIABLES }
     requires sound { AreLists lists.now }
     requires stacked { AreStacked lists.now.store v stack.old }
-    requires total { (r : SpanRow) → Has (waiting_rows lists.now.store v (places_of places.old) stack.old) r → IsTotal r }
     ensures stacked { AreStacked lists.now.store v stack.new }
-    ensures next { OnTrue result (waiting_rows lists.now.store v (places_of places.old) stack.old ≡ map Some (take v spans.new) ∷ waiting_rows lists.now.store v (places_of places.new) stack.new) }
+    ensures next { OnTrue result (waiting_rows lists.now.store v (places_of places.old) stack.old ≡ take v spans.new ∷ waiting_rows lists.now.store v (places_of places.new) stack.new) }
     ensures none { OnFalse result ((stack.old ≡ []) × (stack.new ≡ []) × (spans.new ≡ spans.old)) }
     ensures steps { steps.new ≤ steps.old + 2 * v }
 {
     let Some(waiting) = stack.pop() else {
         return false;
     };
-    settle(lists, v, waiting, places, stack, steps);
-    read_spans(v, places, spans);
+    let settled = settle(lists, v, waiting, places, stack, steps);
+    read_spans(v, settled, places, spans);
     true
 }
 
-/// Settles the markers of the first row of `waiting`; its other rows wait then.
+/// Settles the markers of the first row of `waiting`, and tells which it has; its other rows wait then.
 fn settle<L: Ledger>(
     lists: &RowLists,
     v: usize,

@@ -9,7 +9,8 @@ use Rattle.marked_automaton.specs.Automaton.{idle_way}
 use Rattle.place_automaton.specs.Atom.{unless}
 use Rattle.place_automaton.specs.Places.{Places, placed}
 use Rattle.place_automaton.specs.Reads.{Shown}
-use Rattle.place_automaton.specs.Sequential.{HasOrderedRepeats, IsSequential}
+use Rattle.spanner_model.specs.Sequential.{IsSequential}
+use Rattle.place_automaton.specs.Repeats.{HasOrderedRepeats}
 use Rattle.place_automaton.specs.Words.{atom_automaton, closing_of, opening_of}
 use Rattle.place_automaton.proofs.AtomRuns.{after_there, idle_there, unless_cases}
 use Rattle.place_automaton.proofs.FormulaShows.{shows_formula}

@@ -8,17 +8,18 @@ use Rattle.spanner_model.specs.Captures.{VarName}
 use Rattle.spanner_model.specs.Expression.{ExprTree, atom, named, union_end, union, join_end, join, project}
 use Rattle.spanner_model.specs.Answer.{vars_of_lets}
 use Rattle.span_core.specs.Lists.{Has}
-use Rattle.spanner_model.specs.Sound.{AreJoined, AreUnited, IsSoundExpr, IsSoundUnder}
+use Rattle.spanner_model.specs.Sound.{AreJoined, AreUnited, IsSoundExpr, IsSoundUnder, sure_of_lets}
 use Rattle.span_core.proofs.HasLaws.{Has-slice_get}
 use Rattle.marked_automaton.specs.Automaton.{IsWhole, Marked}
 use Rattle.marked_automaton.specs.Marks.{bits_of, left_of}
 use Rattle.place_automaton.proofs.BuiltRepeats.{ordered_repeats}
-use Rattle.place_automaton.proofs.CountLaws.{functional_sequential}
 use Rattle.place_automaton.proofs.WholeLaws.{whole_law}
 use Rattle.algebra.specs.JoinedMarks.{agree_on, has_name, joined}
 use Rattle.algebra.specs.JoinedNames.{all_names}
+use Rattle.algebra.specs.Uniting.{graph_over}
 use Rattle.algebra.proofs.Alike.{remarked_whole}
-use Rattle.algebra.proofs.Whole.{join_whole, union_whole}
+use Rattle.algebra.proofs.UnionsOver.{union_over_whole}
+use Rattle.algebra.proofs.Whole.{join_whole}
 use Rattle.place_automaton.specs.Variables.{with_vars}
 use Rattle.query_automaton.specs.QueryAutomaton.{automaton_of, no_automaton, of_join, of_lets, of_one_let, of_projection, of_query, of_union, together, united}
 use Rattle.query_automaton.proofs.QueryWords.{words_of_reduct}
@@ -73,8 +74,21 @@ module _ (d : List ℕ) (K : ℕ → Bool) where
     record { states = λ i p k led out. absurd led.1; ways = λ i y k h led byte out. absurd h },
   )
 
+  -- over any names
+  over_waits : (all : List VarName) (M : Marked) → Waits M → IsWhole (graph_over all M) × WaitsOutside (graph_over all M) d K
+  over_waits all M m = (
+    remarked_whole (left_of M.names all) M.graph m.0,
+    projection_waits M.graph (left_of M.names all) (left_zero M.names all) d K m.1,
+  )
+
   two_united : (M N : Marked) → Waits M → Waits N → Waits (of_union M N)
-  two_united M N m n = (union_whole M.graph N.graph m.0 n.0, union_waits M.graph N.graph m.0 n.0 d K m.1 n.1)
+  two_united M N m n =
+      let all = all_names M.names N.names in
+      let first = over_waits all M m in
+      let second = over_waits all N n in (
+        union_over_whole M N all m.0 n.0,
+        union_waits (graph_over all M) (graph_over all N) first.0 second.0 d K first.1 second.1,
+      )
 
   two_joined : (M N : Marked) → Waits M → Waits N → Waits (of_join M N)
   two_joined M N m n =
@@ -84,23 +98,20 @@ module _ (d : List ℕ) (K : ℕ → Bool) where
       )
 
   projected : (kept : List VarName) (M : Marked) → Waits M → Waits (of_projection kept M)
-  projected kept M m = (
-    remarked_whole (left_of M.names kept) M.graph m.0,
-    projection_waits M.graph (left_of M.names kept) (left_zero M.names kept) d K m.1,
-  )
+  projected kept M m = over_waits kept M m
 
-  module _ (V : ℕ → VarName → Type 0) (n : ℕ) (L : ℕ → Marked) (lets : (k : ℕ) → Waits (L k)) where
+  module _ (V S : ℕ → VarName → Type 0) (n : ℕ) (L : ℕ → Marked) (lets : (k : ℕ) → Waits (L k)) where
     -- what is shown of an expression: as it is, as the parts of a union that follow, and as those of a join
     record AllWait (e : ExprTree) : Type 0 where
-      whole : IsSoundExpr V n e → Has_all e → Waits (automaton_of L e)
-      united_parts : (M : Marked) → AreUnited V n e → Has_all e → Waits M → Waits (united L M e)
-      joined_parts : (M : Marked) → AreJoined V n e → Has_all e → Waits M → Waits (together L M e)
+      whole : IsSoundExpr V S n e → Has_all e → Waits (automaton_of L e)
+      united_parts : (M : Marked) → AreUnited V S n e → Has_all e → Waits M → Waits (united L M e)
+      joined_parts : (M : Marked) → AreJoined V S n e → Has_all e → Waits M → Waits (together L M e)
 
     all_wait : (e : ExprTree) → AllWait e
     all_wait (atom s t f) = record {
       whole = λ h has. (
         whole_law (with_vars [] f) s t f,
-        atom_waits (with_vars [] f) s t f (functional_sequential f h.1) (ordered_repeats f h.0) d K has,
+        atom_waits (with_vars [] f) s t f h.1 (ordered_repeats f h.0) d K has,
       );
       united_parts = λ M h has m. absurd h;
       joined_parts = λ M h has m. absurd h;
@@ -128,7 +139,7 @@ module _ (d : List ℕ) (K : ℕ → Bool) where
       joined_parts = λ M h has m. absurd h;
     }
 
-    pub expr_waits : (e : ExprTree) → IsSoundExpr V n e → Has_all e → Waits (automaton_of L e)
+    pub expr_waits : (e : ExprTree) → IsSoundExpr V S n e → Has_all e → Waits (automaton_of L e)
     expr_waits e = (all_wait e).whole
 
   -- ---- lets and queries
@@ -137,7 +148,7 @@ module _ (d : List ℕ) (K : ℕ → Bool) where
       (has : (l : VarName × ExprTree) → Has lets l → Has_all l.1) where
     one_let : (n : ℕ) (L : ℕ → Marked) → ((k : ℕ) → Waits (L k)) → (o : Option (VarName × ExprTree)) → slice_get lets n ≡ o → Waits (of_one_let L o)
     one_let n L before None at = none_waits
-    one_let n L before (Some l) at = expr_waits (vars_of_lets lets n) n L before l.1 (sound n l at).0 (has l (Has-slice_get lets n l at))
+    one_let n L before (Some l) at = expr_waits (vars_of_lets lets n) (sure_of_lets lets n) n L before l.1 (sound n l at).0 (has l (Has-slice_get lets n l at))
 
     pub lets_wait : (n k : ℕ) → Waits (of_lets lets n k)
     lets_wait zero k = none_waits
@@ -150,7 +161,7 @@ module _ (d : List ℕ) (K : ℕ → Bool) where
 
 pub query_waits : QueryWaits
 query_waits q sound d K has =
-    (expr_waits d K (vars_of_lets q.lets (length q.lets)) (length q.lets) (of_lets q.lets (length q.lets))
+    (expr_waits d K (vars_of_lets q.lets (length q.lets)) (sure_of_lets q.lets (length q.lets)) (length q.lets) (of_lets q.lets (length q.lets))
     (lets_wait d K q.lets sound.sound_lets (λ l h i t. has i (inl (l, h, t))) (length q.lets)) q.body sound.sound_body.0 (λ i t. has i (inr t))).1
 
 pub query_reading : QueryReading

@@ -10,7 +10,8 @@ use Rattle.marked_automaton.specs.Marks.{remarked}
 use Rattle.marked_automaton.specs.Reduct.{Reduces, ReducesMarked}
 use Rattle.automaton_reading.specs.Chosen.{IsReadWith}
 use Rattle.place_automaton.specs.Atom.{AreBytes}
-use Rattle.place_automaton.specs.Sequential.{HasOrderedRepeats, IsSequential}
+use Rattle.spanner_model.specs.Sequential.{IsSequential}
+use Rattle.place_automaton.specs.Repeats.{HasOrderedRepeats}
 use Rattle.place_automaton.specs.Words.{IsWordOf, atom_automaton}
 use Rattle.algebra.specs.Operations.{union_of, join_of}
 use Rattle.query_automaton.specs.QueryAutomaton.{of_query}

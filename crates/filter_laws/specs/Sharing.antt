@@ -4,7 +4,8 @@ use Rattle.spanner_model.specs.Captures.{VarName}
 use Rattle.spanner_model.specs.Tree.{Tree}
 use Rattle.place_automaton.specs.Atom.{AreBytes}
 use Rattle.place_automaton.specs.Places.{placed}
-use Rattle.place_automaton.specs.Sequential.{HasOrderedRepeats, IsSequential}
+use Rattle.spanner_model.specs.Sequential.{IsSequential}
+use Rattle.place_automaton.specs.Repeats.{HasOrderedRepeats}
 use Rattle.place_automaton.specs.Words.{atom_automaton, closing_of, opening_of}
 use Rattle.filter_laws.specs.Idling.{IsLed, LeadsOut}
 use Rattle.filter_laws.specs.Touching.{IsTouchedBy}

@@ -462,7 +462,7 @@ fn between(text: &[u8], from: usize, len: usize) -> &[u8]
 /// slash, or behind the sign `u`, where that follows the slash. With the sign the atom is over
 /// characters.
 ///
-/// Places count bytes from 0. The formula need not be functional. But for the trees of sets of characters, the
+/// Places count bytes from 0. The formula need not be sequential. But for the trees of sets of characters, the
 /// time is linear in the text's length.
 pub fn read_atom(alloc: Global, text: &[u8], from: usize) -> Result<(Atom, usize), FormulaFault>
     requires slash { slice_get text.now from ≡ Some 47 }

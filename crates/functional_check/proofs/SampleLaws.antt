@@ -4,11 +4,11 @@ use Rattle.span_core.specs.declared.TheConstants.{MOST_VARIABLES}
 use Rattle.span_core.specs.Lists.{AtMost}
 use Rattle.spanner_model.specs.Tree.{Tree}
 use Rattle.spanner_model.specs.Captures.{VarName}
-use Rattle.spanner_model.specs.Functional.{HasVar}
+use Rattle.spanner_model.specs.Sequential.{HasVar}
 use Rattle.spanner_model.specs.WellBuilt.{IsBuilt, IsWellBuilt}
 use Rattle.spanner_model.specs.Examples.{x}
 use Rattle.spanner_model.proofs.SampleLaws.{byte_built, x_variable}
-use Rattle.functional_check.specs.Samples.{x_letter, two_captures, repeated_capture, one_arm, both_arms}
+use Rattle.functional_check.specs.Samples.{x_letter, two_captures, repeated_capture, maybe_captured, one_arm, both_arms}
 
 x_built : (code : ℕ) → code < 256 → IsBuilt (x_letter code)
 x_built code small = (byte_built code small, x_variable)
@@ -18,6 +18,9 @@ two_captures_built = ((x_built 97 (omega arith), (x_built 98 (omega arith), tt),
 
 pub repeated_capture_built : IsWellBuilt repeated_capture
 repeated_capture_built = ((x_built 97 (omega arith), (omega arith, λ b e. absurd (cc))), omega arith)
+
+pub maybe_captured_built : IsWellBuilt maybe_captured
+maybe_captured_built = ((x_built 97 (omega arith), (omega arith, λ b e. (let f : 1 ≡ b = cc in (omega (arith, f), omega (arith, f))))), omega arith)
 
 pub one_arm_built : IsWellBuilt one_arm
 one_arm_built = ((x_built 97 (omega arith), (byte_built 98 (omega arith), tt), λ e. absurd (cc)), omega arith)
@@ -37,6 +40,9 @@ two_captures_few = only_x two_captures (λ z h. elim h [ inl a ↦ x_alone 97 z 
 
 pub repeated_capture_few : AtMost MOST_VARIABLES (HasVar repeated_capture)
 repeated_capture_few = only_x repeated_capture (x_alone 97)
+
+pub maybe_captured_few : AtMost MOST_VARIABLES (HasVar maybe_captured)
+maybe_captured_few = only_x maybe_captured (x_alone 97)
 
 pub one_arm_few : AtMost MOST_VARIABLES (HasVar one_arm)
 one_arm_few = only_x one_arm (λ z h. elim h [ inl a ↦ x_alone 97 z a | inr r ↦ elim r [ inl b ↦ absurd b | inr n ↦ absurd n ] ])

@@ -1,5 +1,5 @@
 -- Formulas of the tests.
-use Rattle.std.specs.Prelude.{ℕ, [], ◌∷◌, None}
+use Rattle.std.specs.Prelude.{ℕ, [], ◌∷◌, None, Some}
 use Rattle.spanner_model.specs.Tree.{Tree, cat_all, alt_all, rep, cap}
 use Rattle.spanner_model.specs.Examples.{byte, x}
 
@@ -11,6 +11,9 @@ two_captures = cat_all (x_letter 97 ∷ (x_letter 98 ∷ []))
 
 abbrev pub repeated_capture : Tree
 repeated_capture = rep (x_letter 97) 0 None
+
+abbrev pub maybe_captured : Tree
+maybe_captured = rep (x_letter 97) 0 (Some 1)
 
 abbrev pub one_arm : Tree
 one_arm = alt_all (x_letter 97 ∷ (byte 98 ∷ []))

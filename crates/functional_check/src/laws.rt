@@ -1,9 +1,9 @@
 //! Laws of faults, each the contract of a function that does nothing.
-ghost use Rattle.functional_check.specs.Laws.{FunctionalHaveNoFault, FaultsAreOne};
+ghost use Rattle.functional_check.specs.Laws.{SequentialHaveNoFault, FaultsAreOne};
 
-/// A functional formula has no fault.
-pub fn functional_have_no_fault()
-    ensures { FunctionalHaveNoFault }
+/// A sequential formula has no fault.
+pub fn sequential_have_no_fault()
+    ensures { SequentialHaveNoFault }
 {}
 
 /// A formula has one fault at most.

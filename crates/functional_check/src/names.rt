@@ -1,9 +1,8 @@
-//! Least names of sets.
-ghost use Rattle.std.specs.Prelude.{◌≡◌, ℕ, ◌⊎◌, ◌↔◌, IsTrue, IfSome, IfNone, Some, List};
-ghost use Rattle.span_core.specs.NameSets.{Ascending};
+//! Sets of names, and their least names.
+ghost use Rattle.std.specs.Prelude.{◌≡◌, ℕ, ◌↔◌, IsTrue, List};
 ghost use Rattle.span_core.specs.Lists.{Has};
 ghost use Rattle.spanner_model.specs.Gathered.{Adds, HaveRoom};
-ghost use Rattle.functional_check.specs.Faults.{IsLeastOf, InExactlyOne};
+ghost use Rattle.functional_check.specs.Faults.{IsLeastOf};
 ghost use Rattle.functional_check.specs.Names.{IsIn, smaller_of};
 
 use span_core::{MOST_VARIABLES, Name, VarSet};
@@ -27,6 +26,20 @@ pub fn add_one(name: &Name, into: &mut VarSet)
     prove!(into.len() <= MOST_VARIABLES);
     let added = into.add(*name);
     prove!(added);
+}
+
+/// The names that two sets share.
+pub fn shared(a: &VarSet, b: &VarSet) -> VarSet
+    ensures { (x : List ℕ) → Has result x ↔ (Has a.now x × Has b.now x) }
+{
+    let mut both = VarSet::empty();
+    for k in 0..a.len() {
+        let name = a.at(k);
+        if has(b, name) {
+            add_one(name, &mut both);
+        }
+    }
+    both
 }
 
 /// Whether a name is in a set.
@@ -79,11 +92,4 @@ pub fn least_shared(a: &VarSet, b: &VarSet) -> Option<Name>
     ensures { IsLeastOf (λ x. Has a.now x × Has b.now x) result }
 {
     least_where(a, b, true)
-}
-
-/// The least name that is in exactly one of two sets.
-pub fn least_difference(a: &VarSet, b: &VarSet) -> Option<Name>
-    ensures { IsLeastOf (InExactlyOne (Has a.now) (Has b.now)) result }
-{
-    smaller(least_where(a, b, false), least_where(b, a, false))
 }

@@ -1,5 +1,5 @@
 -- The automaton with the markers of the kept variables alone.
-use Rattle.std.proofs.Common.{◌≡◌, ℕ, ◌*◌, ◌^◌, ◌/◌, ◌%◌, ◌<◌, Bool, true, false, List, [], ◌∷◌, length, map, refl, sym, ap, subst, arith, ◌∙◌}
+use Rattle.std.proofs.Common.{◌≡◌, ℕ, ◌*◌, ◌^◌, ◌/◌, ◌%◌, ◌<◌, Bool, true, false, List, [], ◌∷◌, Option, length, map, refl, sym, ap, subst, arith, ◌∙◌}
 use Rattle.std.specs.FinSet as set
 use Rattle.std.specs.Prelude.{if◌then◌else◌}
 use Rattle.std.specs.Str.{bytes_eq}
@@ -33,7 +33,7 @@ left_zero names (x ∷ keep) =
     let here : bits_of names 0 x * 2 ^ (2 * length keep) ≡ 0 * 2 ^ (2 * length keep) = ap (λ b. b * 2 ^ (2 * length keep)) (bits_zero names x) in
     omega (arith, here, left_zero names keep)
 
-module _ (names keep : List VarName) (places : List ℕ) (ascending : Ascending names) (are : ArePlaces names keep places) where
+module _ (names keep : List VarName) (places : List (Option ℕ)) (ascending : Ascending names) (are : ArePlaces names keep places) where
   abbrev left : ℕ → ℕ
   left m = left_of names keep m
 

@@ -1,6 +1,7 @@
 -- Digits in base 4 of blocks, taken out and put together.
-use Rattle.std.proofs.Common.{◌≡◌, ℕ, zero, suc, ◌+◌, ◌-◌, ◌*◌, ◌^◌, ◌/◌, ◌%◌, ◌<◌, Bool, true, false, List, [], ◌∷◌, ◌++◌, length, map, get_or, drop, Some, inl, inr, refl, sym, ap, subst, arith, ◌∙◌, length-drop, length-append, mod-lt, ◌⊎◌}
-use Rattle.std.specs.Prelude.{slice_get, bit_or, bit_and, if◌then◌else◌}
+use Rattle.std.proofs.Common.{◌≡◌, ℕ, zero, suc, ◌+◌, ◌-◌, ◌*◌, ◌^◌, ◌/◌, ◌%◌, ◌<◌, Bool, true, false, List, [], ◌∷◌, ◌++◌, length, map, get_or, drop, Option, Some, None, inl, inr, refl, sym, ap, subst, arith, ◌∙◌, length-drop, length-append, mod-lt, ◌⊎◌}
+use Rattle.std.specs.Prelude.{slice_get, bit_or, bit_and, if◌then◌else◌, Contains, IfSome, IfNone}
+use Rattle.std.specs.Option.{ForSome}
 use Rattle.std.specs.Str.{bytes_eq}
 use Rattle.std.proofs.Math.Pow.{shr_mod, mod-mod-pow}
 use Rattle.std.proofs.Math.Seq.{drop-cons}
@@ -15,10 +16,10 @@ use Rattle.span_core.specs.BlockLaws.{closing_weight, opening_weight, front_weig
 use Rattle.span_core.specs.Digits.{weight}
 use Rattle.spanner_model.specs.Captures.{VarName}
 use Rattle.span_core.specs.Lists.{Has, AreDistinct}
-use Rattle.span_core.proofs.HasLaws.{Has-slice_get}
-use Rattle.marked_automaton.specs.Erased.{ArePlaces, picked}
+use Rattle.span_core.proofs.HasLaws.{Contains-Has, Has-slice_get}
+use Rattle.marked_automaton.specs.Erased.{ArePlaces, IsPlaceOf, digit_at, picked}
 use Rattle.marked_automaton.specs.Marks.{bits_of, left_of}
-use Rattle.marked_automaton.proofs.Erasing.{digit_before, name_itself, same_name}
+use Rattle.marked_automaton.proofs.Erasing.{digit_before, name_itself, no_bits, same_name}
 use Rattle.marked_automaton.proofs.Listed.{some_same}
 
 -- high bits and low bits
@@ -72,13 +73,13 @@ module _ (marks k v q : ℕ) (here : k < v) (before : marks ≡ q * 2 ^ (2 * (v 
       ap (λ m. bit_or m (2 ^ closing_bit v k)) opened ∙ (r ∙ omega (arith, e, n, c))
 
 -- one digit more is put
-pub picked_next : (all m k : ℕ) (places : List ℕ) → k < length places →
-    picked all (drop k places) m ≡ (m / 2 ^ (2 * (all - (get_or places k 0 + 1))) % 4) * 2 ^ (2 * (length places - (k + 1))) + picked all (drop (k + 1) places) m
+pub picked_next : (all m k : ℕ) (places : List (Option ℕ)) → k < length places →
+    picked all (drop k places) m ≡ digit_at all (get_or places k None) m * 2 ^ (2 * (length places - (k + 1))) + picked all (drop (k + 1) places) m
 picked_next all m k places l =
     let e : suc k ≡ k + 1 = omega arith in
-    let rest : drop k places ≡ get_or places k 0 ∷ drop (k + 1) places = drop-cons places k 0 l ∙ ap (λ n. get_or places k 0 ∷ drop n places) e in
+    let rest : drop k places ≡ get_or places k None ∷ drop (k + 1) places = drop-cons places k None l ∙ ap (λ n. get_or places k None ∷ drop n places) e in
     let len : length (drop (k + 1) places) ≡ length places - (k + 1) = length-drop (k + 1) places in
-    ap (λ ps. picked all ps m) rest ∙ ap (λ n. (m / 2 ^ (2 * (all - (get_or places k 0 + 1))) % 4) * 2 ^ (2 * n) + picked all (drop (k + 1) places) m) len
+    ap (λ ps. picked all ps m) rest ∙ ap (λ n. digit_at all (get_or places k None) m * 2 ^ (2 * n) + picked all (drop (k + 1) places) m) len
 
 -- the digit of a name that stands at j
 bits_at_place : (names : List VarName) (x : VarName) (j m : ℕ) → slice_get names j ≡ Some x → AreDistinct names → m < 2 ^ (2 * length names) →
@@ -111,26 +112,34 @@ bits_at_place (y ∷ ys) x (suc j) m at dis small =
     go true e = absurd (dis.0 (subst (Has ys) (sym (same_name y x e)) (Has-slice_get ys j x at)))
     go false e = e
 
+bits_at : (names : List VarName) (x : VarName) (place : Option ℕ) (m : ℕ) → IsPlaceOf names x place → AreDistinct names → m < 2 ^ (2 * length names) →
+    bits_of names m x ≡ digit_at (length names) place m
+bits_at names x None m at dis small = no_bits names m x at
+bits_at names x (Some j) m at dis small = bits_at_place names x j m at dis small
+
 -- the digits at the places of the kept names are what is left of a block
-pub picked_is_left : (names kept : List VarName) (places : List ℕ) (m : ℕ) → AreDistinct names → ArePlaces names kept places → m < 2 ^ (2 * length names) →
+pub picked_is_left : (names kept : List VarName) (places : List (Option ℕ)) (m : ℕ) → AreDistinct names → ArePlaces names kept places → m < 2 ^ (2 * length names) →
     picked (length names) places m ≡ left_of names kept m
 picked_is_left names [] [] m dis are small = refl
-picked_is_left names [] (j ∷ places) m dis are small = absurd (omega (arith, are.0))
+picked_is_left names [] (place ∷ places) m dis are small = absurd (omega (arith, are.0))
 picked_is_left names (x ∷ kept) [] m dis are small = absurd (omega (arith, are.0))
-picked_is_left names (x ∷ kept) (j ∷ places) m dis are small =
+picked_is_left names (x ∷ kept) (place ∷ places) m dis are small =
     let len : length places ≡ length kept = omega (arith, are.0) in
     let rest = picked_is_left names kept places m dis (len, λ k y at. are.1 (suc k) y at) small in
-    let here = bits_at_place names x j m (are.1 zero x refl) dis small in
-    ap (λ n. (m / 2 ^ (2 * (length names - (j + 1))) % 4) * 2 ^ (2 * n) + picked (length names) places m) len
+    let here = bits_at names x place m (are.1 zero x refl) dis small in
+    ap (λ n. digit_at (length names) place m * 2 ^ (2 * n) + picked (length names) places m) len
     ∙ (ap (λ d. d * 2 ^ (2 * length kept) + picked (length names) places m) (sym here) ∙ ap (λ r. bits_of names m x * 2 ^ (2 * length kept) + r) rest)
 
-pub picked_small : (all m : ℕ) (places : List ℕ) → picked all places m < 2 ^ (2 * length places)
+digit_below : (all m : ℕ) (place : Option ℕ) → digit_at all place m < 4
+digit_below all m None = omega arith
+digit_below all m (Some j) = mod-lt (m / 2 ^ (2 * (all - (j + 1)))) (let four : 0 < 4 = omega arith in four)
+
+pub picked_small : (all m : ℕ) (places : List (Option ℕ)) → picked all places m < 2 ^ (2 * length places)
 picked_small all m [] = omega arith
-picked_small all m (j ∷ places) =
-    digit_before (m / 2 ^ (2 * (all - (j + 1))) % 4) (picked all places m) (length places) (mod-lt (m / 2 ^ (2 * (all - (j + 1)))) (let four : 0 < 4 = omega arith in four)) (picked_small all m places)
+picked_small all m (place ∷ places) = digit_before (digit_at all place m) (picked all places m) (length places) (digit_below all m place) (picked_small all m places)
 
 -- what stands at a place of a list with one more
-pushed_cases : (places : List ℕ) (place i d : ℕ) → i < length (places ++ place ∷ []) →
+pushed_cases : (places : List (Option ℕ)) (place : Option ℕ) (i : ℕ) (d : Option ℕ) → i < length (places ++ place ∷ []) →
     ((i < length places) × (get_or (places ++ place ∷ []) i d ≡ get_or places i d)) ⊎ ((i ≡ length places) × (get_or (places ++ place ∷ []) i d ≡ place))
 pushed_cases places place i d l =
     let len : length (places ++ place ∷ []) ≡ length places + 1 = length-append places (place ∷ []) in
@@ -141,24 +150,37 @@ pushed_cases places place i d l =
           inr (omega (arith, at), ap (λ n. get_or (places ++ place ∷ []) n d) at ∙ get_or-append-add places (place ∷ []) 0 d)
     ]
 
-module _ (names keep : List VarName) (places : List ℕ) (k place : ℕ) (name : VarName) (len : length places ≡ k) (kept : slice_get keep k ≡ Some name)
-    (found : slice_get names place ≡ Some name) where
-  pub found_more : ((i : ℕ) (x : VarName) → i < k → slice_get keep i ≡ Some x → slice_get names (get_or places i 0) ≡ Some x) →
-      (i : ℕ) (x : VarName) → i < k + 1 → slice_get keep i ≡ Some x → slice_get names (get_or (places ++ place ∷ []) i 0) ≡ Some x
+-- what a search for a name tells
+pub place_found : (names : List VarName) (x : VarName) (place : Option ℕ) → IfSome place (λ k. slice_get names k ≡ Some x) → IfNone place (¬ Contains names x) → IsPlaceOf names x place
+place_found names x None some none = λ h. none (Contains-Has names x h)
+place_found names x (Some j) some none = some
+
+place_within : (names : List VarName) (x : VarName) (place : Option ℕ) → IsPlaceOf names x place → ForSome place (λ j. j < length names)
+place_within names x None at = λ j e. absurd (cc)
+place_within names x (Some j) at = λ k e. let same : j ≡ k = some_number j k e in subst (λ i. i < length names) same (slice_get_within names j x at)
+  where
+    some_number : (j k : ℕ) → Some j ≡ Some k → j ≡ k
+    some_number j k e = cc
+
+module _ (names keep : List VarName) (places : List (Option ℕ)) (k : ℕ) (place : Option ℕ) (name : VarName) (len : length places ≡ k) (kept : slice_get keep k ≡ Some name)
+    (found : IsPlaceOf names name place) where
+  pub found_more : ((i : ℕ) (x : VarName) → i < k → slice_get keep i ≡ Some x → IsPlaceOf names x (get_or places i None)) →
+      (i : ℕ) (x : VarName) → i < k + 1 → slice_get keep i ≡ Some x → IsPlaceOf names x (get_or (places ++ place ∷ []) i None)
   found_more before i x l at =
       let len2 : length (places ++ place ∷ []) ≡ length places + 1 = length-append places (place ∷ []) in
-      elim (pushed_cases places place i 0 (omega (arith, l, len2))) as (λ _. slice_get names (get_or (places ++ place ∷ []) i 0) ≡ Some x) [
-        | inl a ↦ ap (slice_get names) a.1 ∙ before i x (omega (arith, a.0, len)) at
+      elim (pushed_cases places place i None (omega (arith, l, len2))) as (λ _. IsPlaceOf names x (get_or (places ++ place ∷ []) i None)) [
+        | inl a ↦ subst (IsPlaceOf names x) (sym a.1) (before i x (omega (arith, a.0, len)) at)
         | inr b ↦
             let same : i ≡ k = b.0 ∙ len in
-            ap (slice_get names) b.1 ∙ (found ∙ (sym kept ∙ (ap (slice_get keep) (sym same) ∙ at)))
+            let name_is : name ≡ x = some_same name x (sym kept ∙ (ap (slice_get keep) (sym same) ∙ at)) in
+            subst (IsPlaceOf names x) (sym b.1) (subst (λ y. IsPlaceOf names y place) name_is found)
       ]
 
-  pub within_more : All (λ j. j < length names) places → All (λ j. j < length names) (places ++ place ∷ [])
+  pub within_more : All (λ p. ForSome p (λ j. j < length names)) places → All (λ p. ForSome p (λ j. j < length names)) (places ++ place ∷ [])
   within_more before i d l =
-      elim (pushed_cases places place i d l) as (λ _. get_or (places ++ place ∷ []) i d < length names) [
-        | inl a ↦ omega (arith, a.1, before i d a.0)
-        | inr b ↦ omega (arith, b.1, slice_get_within names place name found)
+      elim (pushed_cases places place i d l) as (λ _. ForSome (get_or (places ++ place ∷ []) i d) (λ j. j < length names)) [
+        | inl a ↦ subst (λ p. ForSome p (λ j. j < length names)) (sym a.1) (before i d a.0)
+        | inr b ↦ subst (λ p. ForSome p (λ j. j < length names)) (sym b.1) (place_within names name place found)
       ]
 
 -- a function that is the same on each element

@@ -1,6 +1,7 @@
 -- What is left of a row's blocks.
-use Rattle.std.proofs.Common.{◌≡◌, ℕ, suc, ◌+◌, ◌-◌, ◌*◌, ◌^◌, ◌/◌, ◌%◌, ◌<◌, ◌≤◌, Bool, true, false, List, [], ◌∷◌, Option, length, inl, inr, refl, sym, ap, subst, arith, ◌∙◌}
+use Rattle.std.proofs.Common.{◌≡◌, ℕ, suc, ◌+◌, ◌-◌, ◌*◌, ◌^◌, ◌/◌, ◌%◌, ◌<◌, ◌≤◌, ◌⊎◌, Bool, true, false, List, [], ◌∷◌, Option, None, length, inl, inr, refl, sym, ap, subst, arith, ◌∙◌}
 use Rattle.std.specs.Prelude.{map, if◌then◌else◌}
+use Rattle.std.specs.List.{list_any}
 use Rattle.std.specs.Str.{bytes_eq}
 use Rattle.std.proofs.lemmas.List.{length-map}
 use Rattle.std.proofs.lemmas.Nat.{pow-add, div-mul-add, mod-mul-add}
@@ -11,6 +12,7 @@ use Rattle.span_core.specs.BlockLaws.{markers_are, digit_small}
 use Rattle.span_core.specs.Digits.{digit}
 use Rattle.spanner_model.specs.Captures.{VarName, Mapping, row_of}
 use Rattle.span_core.specs.Lists.{Has}
+use Rattle.spanner_model.proofs.NameLaws.{Has-list_any, list_any-Has}
 use Rattle.marked_automaton.specs.Marks.{bits_of, left_of, ErasingLaw}
 
 pub same_name : (x y : VarName) → bytes_eq x y ≡ true → x ≡ y
@@ -51,6 +53,9 @@ pub digits_small : (row : List (Option Span)) (p : ℕ) → digits row p < 2 ^ (
 digits_small [] p = omega arith
 digits_small (s ∷ row) p = digit_before (digit s p) (digits row p) (length row) (digit_small s p) (digits_small row p)
 
+false_true : false ≡ true → ⊥
+false_true e = cc
+
 -- of a row's number over these names each name has the digit of its span
 pub bits_law : (names : List VarName) (x : VarName) (m : Mapping) (p : ℕ) → Has names x → bits_of names (digits (row_of names m) p) x ≡ digit (m x) p
 bits_law [] x m p h = absurd h
@@ -73,26 +78,45 @@ bits_law (y ∷ ys) x m p h = go (bits_law ys x m p) (bytes_eq y x) refl h
         ∙ (div-mul-add (digit (m y) p) (2 ^ (2 * length ys)) (digits (row_of ys m) p) small
         ∙ ap (λ z. digit (m z) p) (same_name y x e)))
     go rest false e (inl at) = absurd (false_true (sym e ∙ name_itself y x at))
-      where
-        false_true : false ≡ true → ⊥
-        false_true f = cc
     go rest false e (inr k) =
         ap (λ b. if b then digits (row_of (y ∷ ys) m) p / 2 ^ (2 * length ys) else bits_of ys (digits (row_of (y ∷ ys) m) p % 2 ^ (2 * length ys)) x) e
         ∙ (ap (λ v. bits_of ys (v % 2 ^ (2 * length ys)) x) whole
         ∙ (ap (λ v. bits_of ys v x) (mod-mul-add (digit (m y) p) (2 ^ (2 * length ys)) (digits (row_of ys m) p) small)
         ∙ rest k))
 
-left_digits : (names kept : List VarName) → ((x : VarName) → Has kept x → Has names x) → (m : Mapping) (p : ℕ) →
+-- a name that is not there has no bits
+pub no_bits : (names : List VarName) (n : ℕ) (x : VarName) → ¬ Has names x → bits_of names n x ≡ 0
+no_bits [] n x out = refl
+no_bits (y ∷ ys) n x out = go (bytes_eq y x) refl (no_bits ys (n % 2 ^ (2 * length ys)) x (λ h. out (inr h)))
+  where
+    go : (b : Bool) → bytes_eq y x ≡ b → bits_of ys (n % 2 ^ (2 * length ys)) x ≡ 0 →
+        (if b then n / 2 ^ (2 * length ys) else bits_of ys (n % 2 ^ (2 * length ys)) x) ≡ 0
+    go true e rest = absurd (out (inl (same_name y x e)))
+    go false e rest = rest
+
+-- an absent name has none, whether it is there or not
+absent_bits : (names : List VarName) (x : VarName) (m : Mapping) (p : ℕ) → m x ≡ None → bits_of names (digits (row_of names m) p) x ≡ 0
+absent_bits names x m p absent = go (list_any (λ y. bytes_eq y x) names) refl
+  where
+    go : (b : Bool) → list_any (λ y. bytes_eq y x) names ≡ b → bits_of names (digits (row_of names m) p) x ≡ 0
+    go true e = bits_law names x m p (Has-list_any names x e) ∙ ap (λ s. digit s p) absent
+    go false e = no_bits names (digits (row_of names m) p) x (λ h. false_true (sym e ∙ list_any-Has names x h))
+
+any_bits : (names : List VarName) (x : VarName) (m : Mapping) (p : ℕ) → Has names x ⊎ (m x ≡ None) → bits_of names (digits (row_of names m) p) x ≡ digit (m x) p
+any_bits names x m p (inl h) = bits_law names x m p h
+any_bits names x m p (inr absent) = absent_bits names x m p absent ∙ sym (ap (λ s. digit s p) absent)
+
+left_digits : (names kept : List VarName) (m : Mapping) → ((x : VarName) → Has kept x → Has names x ⊎ (m x ≡ None)) → (p : ℕ) →
     left_of names kept (digits (row_of names m) p) ≡ digits (row_of kept m) p
-left_digits names [] sub m p = refl
-left_digits names (x ∷ kept) sub m p =
-    let here = bits_law names x m p (sub x (inl refl)) in
-    let rest = left_digits names kept (λ y h. sub y (inr h)) m p in
+left_digits names [] m there p = refl
+left_digits names (x ∷ kept) m there p =
+    let here = any_bits names x m p (there x (inl refl)) in
+    let rest = left_digits names kept m (λ y h. there y (inr h)) p in
     let len : length (map m kept) ≡ length kept = length-map kept m in
     ap (λ v. v * 2 ^ (2 * length kept) + left_of names kept (digits (row_of names m) p)) here
     ∙ (ap (λ v. digit (m x) p * 2 ^ (2 * length kept) + v) rest
     ∙ ap (λ n. digit (m x) p * 2 ^ (2 * n) + digits (row_of kept m) p) (sym len))
 
 pub erasing_law : ErasingLaw
-erasing_law names kept sub m p =
-    ap (left_of names kept) (block_digits (row_of names m) p) ∙ (left_digits names kept sub m p ∙ sym (block_digits (row_of kept m) p))
+erasing_law names kept m there p =
+    ap (left_of names kept) (block_digits (row_of names m) p) ∙ (left_digits names kept m there p ∙ sym (block_digits (row_of kept m) p))

@@ -1,5 +1,5 @@
 -- Blocks over some names, from blocks over others.
-use Rattle.std.specs.Prelude.{◌≡◌, ℕ, ◌+◌, ◌*◌, ◌^◌, ◌/◌, ◌%◌, List, [], ◌∷◌, length, map, if◌then◌else◌}
+use Rattle.std.specs.Prelude.{◌≡◌, ℕ, ◌⊎◌, ◌+◌, ◌*◌, ◌^◌, ◌/◌, ◌%◌, List, [], ◌∷◌, length, map, None, if◌then◌else◌}
 use Rattle.std.specs.Str.{bytes_eq}
 use Rattle.span_core.specs.Block.{block}
 use Rattle.spanner_model.specs.Captures.{VarName, Mapping, row_of}
@@ -34,8 +34,8 @@ remarked e A = record {
   idle = A.idle;
 }
 
--- what is left of a row's blocks are the blocks of the row's kept part
+-- what is left of a row's blocks are the blocks of the row over the kept names, where those that it had no place for are absent
 abbrev pub ErasingLaw : Type 0
 ErasingLaw =
-    (names kept : List VarName) → ((x : VarName) → Has kept x → Has names x) → (m : Mapping) (p : ℕ) →
+    (names kept : List VarName) (m : Mapping) → ((x : VarName) → Has kept x → Has names x ⊎ (m x ≡ None)) → (p : ℕ) →
     left_of names kept (block (row_of names m) p) ≡ block (row_of kept m) p

@@ -325,9 +325,9 @@ impl Automaton {
         })
     }
 
-    /// The automaton with the markers of the kept variables alone.
+    /// The automaton over the kept variables: the markers of all others are erased. A variable that it
+    /// lacks has no markers.
     pub fn erase(&self, alloc: Global, keep: &VarSet) -> Result<Automaton, OutOfMemory>
-        requires { (x : List ℕ) → Has keep.now x → Has self.now.names x }
         ensures names { IfOk result (λ a. a.names ≡ keep.now) }
         ensures graph { IfOk result (λ a. a.graph ≡ remarked (left_of self.now.names keep.now) self.now.graph) }
     {

@@ -1,8 +1,8 @@
-//! Blocks with the markers of some variables alone.
-ghost use Rattle.std.specs.Prelude.{◌≡◌, ℕ, ◌+◌, ◌-◌, ◌*◌, ◌^◌, ◌<◌, ◌≤◌, List, length, map, All, IfOk, OnOk};
+//! Blocks over other variables.
+ghost use Rattle.std.specs.Prelude.{◌≡◌, ℕ, ◌+◌, ◌-◌, ◌*◌, ◌^◌, ◌<◌, ◌≤◌, length, map, All, IfOk, OnOk};
+ghost use Rattle.std.specs.Option.{ForSome};
 ghost use Rattle.span_core.specs.NameSets.{Ascending};
-ghost use Rattle.span_core.specs.Lists.{Has};
-ghost use Rattle.marked_automaton.specs.Erased.{ArePlaces, picked};
+ghost use Rattle.marked_automaton.specs.Erased.{ArePlaces, digit_at, picked};
 ghost use Rattle.marked_automaton.specs.Marks.{remarked_stop, remarked_way};
 ghost use Rattle.span_core.specs.declared.TheConstants.{MOST_VARIABLES};
 
@@ -10,32 +10,28 @@ use crate::{Stop, Way};
 use span_core::{Marks, OutOfMemory, VarSet};
 use std::alloc::{AllocError, Global};
 
-/// Which variables of a block are kept.
+/// Where variables stand in blocks over others.
 #[derive(Drop)]
 pub(crate) struct Eraser {
-    /// How many variables the block has.
+    /// How many variables the blocks have.
     all: usize,
-    /// The number of each kept variable among them, in the order of the kept.
-    places: Vec<usize>,
+    /// For each variable that is kept its number among them; nothing for one that they lack.
+    places: Vec<Option<usize>>,
     ghost few: { all ≤ MOST_VARIABLES },
     ghost few_kept: { length places.items ≤ MOST_VARIABLES },
-    ghost within: { All (λ j. j < all) places.items },
+    ghost within: { All (λ place. ForSome place (λ j. j < all)) places.items },
 }
 
 impl Eraser {
-    /// Keeps these of the names.
+    /// Keeps these names, of blocks over `names`.
     pub(crate) fn new(alloc: Global, names: &VarSet, keep: &VarSet) -> Result<Eraser, OutOfMemory>
-        requires { (x : List ℕ) → Has keep.now x → Has names.now x }
         ensures all { IfOk result (λ e. e.all ≡ length names.now) }
         ensures places { IfOk result (λ e. ArePlaces names.now keep.now e.places.items) }
         ensures ascending { OnOk result (Ascending names.now) }
     {
         let mut places = Vec::new(alloc);
         for k in 0..keep.len() {
-            match names.find(keep.at(k)) {
-                Some(place) => places.push(place)?,
-                None => unreachable!(),
-            }
+            places.push(names.find(keep.at(k)))?;
         }
         Ok(Eraser {
             all: names.len(),
@@ -50,10 +46,21 @@ impl Eraser {
         let kept = self.places.len();
         let mut left = Marks::none();
         for (k, place) in self.places.iter().enumerate() {
-            let digit = (marks.number() >> (2 * (self.all - (place + 1)))) % 4;
-            left = with_digit(left, digit, k, kept);
+            left = with_digit(left, self.digit(marks, *place), k, kept);
         }
         left
+    }
+
+    /// The markers of the variable at a place, as a digit in base 4.
+    fn digit(&self, marks: Marks, place: Option<usize>) -> u64
+        requires { ForSome place (λ j. j < self.now.all) }
+        ensures value { result ≡ digit_at self.now.all place marks }
+        ensures small { result < 4 }
+    {
+        match place {
+            Some(place) => (marks.number() >> (2 * (self.all - (place + 1)))) % 4,
+            None => 0,
+        }
     }
 
     /// The ways with what is left of their blocks.
@@ -86,7 +93,7 @@ impl Eraser {
 
 /// The markers, and those of variable `k` of `v` that the digit tells: 2 opens it, 1 closes it, 3 does
 /// both. The markers before are of variables before it.
-fn with_digit(marks: Marks, digit: u32, k: usize, v: usize) -> Marks
+fn with_digit(marks: Marks, digit: u64, k: usize, v: usize) -> Marks
     requires variable { k < v }
     requires few { v ≤ MOST_VARIABLES }
     requires digit { digit < 4 }

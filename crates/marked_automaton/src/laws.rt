@@ -38,7 +38,8 @@ pub fn projections_accept_what_is_left()
     ensures { ProjectionLaw }
 {}
 
-/// What is left of a row's blocks are the blocks of the row's kept part.
+/// What is left of a row's blocks are the blocks of the row over the kept variables, in which those that were
+/// not there are absent.
 pub fn kept_marks_are_those_of_the_kept_row()
     ensures { ErasingLaw }
 {}

@@ -45,7 +45,7 @@ fn fits(marks: Marks, variables: usize) -> bool
     requires { variables ≤ MOST_VARIABLES }
     ensures { IsTrue result ↔ (marks < 2 ^ (2 * variables)) }
 {
-    u64::from(marks.number()) < 1 << (2 * variables)
+    u128::from(marks.number()) < 1 << (2 * variables)
 }
 
 /// Whether the automaton of no variable accepts the document.
@@ -122,7 +122,7 @@ fn captures(
     doc: &[u8],
 ) -> Result<bool, SizeFault> {
     let mut row = Row::empty();
-    row.push(span);
+    row.push(Some(span));
     if automaton.vars().len() != 1 || span.end as usize > doc.len() {
         return Ok(false);
     }

@@ -15,9 +15,9 @@ use std::marker::Brand;
 use std::sync::ledger::{Blank, Ledger};
 
 /// Marks: the span begins, and it ends.
-const BEGINS: u32 = 2;
+const BEGINS: u64 = 2;
 
-const ENDS: u32 = 1;
+const ENDS: u64 = 1;
 
 /// The limit of the tables' weight.
 const LIMIT: u64 = 100;
@@ -35,7 +35,7 @@ fn only_x() -> VarSet {
 fn add(
     automaton: &mut Automaton,
     from: u32,
-    marks: u32,
+    marks: u64,
     bytes: ByteSet,
     to: u32,
 ) -> Result<(), SizeFault> {
@@ -53,7 +53,7 @@ fn add(
 }
 
 /// Adds an end, where it may be added.
-fn add_end(automaton: &mut Automaton, state: u32, marks: u32) -> Result<(), SizeFault> {
+fn add_end(automaton: &mut Automaton, state: u32, marks: u64) -> Result<(), SizeFault> {
     let fits = automaton.vars().len() == 1 && marks < 4;
     if state < automaton.states() && fits {
         automaton.add_stop(Stop {
@@ -103,7 +103,7 @@ fn cell_with<L: Ledger>(
     lists: &RowLists,
     entry: Entry,
     at: u32,
-    marks: u32,
+    marks: u64,
     steps: &mut Steps<L>,
 ) -> Option<(Entry, Entry)>
     requires { IsThere lists.now.store entry }

@@ -2,7 +2,7 @@
 use Rattle.std.proofs.Common.{◌≡◌, ℕ, ◌≤◌, List, Bool, inl, inr, sym, ap, subst, arith, ◌∙◌}
 use Rattle.spanner_model.specs.Captures.{VarName, Captures}
 use Rattle.spanner_model.specs.Fit.{Fit}
-use Rattle.place_automaton.specs.Sequential.{HasOrderedRepeats}
+use Rattle.place_automaton.specs.Repeats.{HasOrderedRepeats}
 use Rattle.span_core.specs.Lists.{Has}
 use Rattle.spanner_model.specs.Tree.{Tree}
 use Rattle.spanner_model.proofs.FitLaws.{fit_le}
@@ -10,7 +10,7 @@ use Rattle.marked_automaton.specs.Automaton.{Accepts}
 use Rattle.place_automaton.specs.Atom.{automaton_of_atom, AreBytes, FitsWithBlocks, AtomLaw}
 use Rattle.place_automaton.specs.Places.{Places, placed}
 use Rattle.place_automaton.specs.Reads.{Shown, blocks}
-use Rattle.place_automaton.specs.Sequential.{IsSequential}
+use Rattle.spanner_model.specs.Sequential.{IsSequential}
 use Rattle.place_automaton.proofs.AtomRuns.{accepts_shown, shown_accepts}
 use Rattle.place_automaton.proofs.Blocks.{compared, fit_outside}
 use Rattle.place_automaton.proofs.FormulaShows.{shows_formula}

@@ -1,7 +1,7 @@
 -- Well built formulas have ordered repetitions.
 use Rattle.spanner_model.specs.Tree.{Tree, empty, one, cat_end, cat, alt_end, alt, rep, cap}
 use Rattle.spanner_model.specs.WellBuilt.{IsBuilt, AreParts, AreArms}
-use Rattle.place_automaton.specs.Sequential.{HasOrderedRepeats, WellBuiltRepeats}
+use Rattle.place_automaton.specs.Repeats.{HasOrderedRepeats, WellBuiltRepeats}
 
 mutual
   built_repeats : (f : Tree) → IsBuilt f → HasOrderedRepeats f

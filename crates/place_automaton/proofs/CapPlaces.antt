@@ -9,7 +9,8 @@ use Rattle.spanner_model.specs.Tree.{Tree, cap}
 use Rattle.span_core.proofs.HasLaws.{Has-slice_get}
 use Rattle.place_automaton.specs.Drafts.{places_of, AreNamed}
 use Rattle.place_automaton.specs.Ends.{CanCapture, Ends, ends_of, MarkOf}
-use Rattle.place_automaton.specs.Sequential.{HasOrderedRepeats, IsSequential}
+use Rattle.spanner_model.specs.Sequential.{IsSequential}
+use Rattle.place_automaton.specs.Repeats.{HasOrderedRepeats}
 use Rattle.place_automaton.specs.Words.{opening_of, closing_of}
 use Rattle.place_automaton.proofs.FineLaws.{IsFine, Within, HasClasses, VarBits, mark_apart, fine_places}
 use Rattle.place_automaton.proofs.MarkBits.{HasBit, apart_sum, sum_bit, own_apart, behind, opening_is, closing_is}

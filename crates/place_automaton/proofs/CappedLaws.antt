@@ -50,6 +50,9 @@ capped_add x y = min_add (2 ^ 64 - 1) x y
 pub capped_mul : (x y : ℕ) → capped (capped x * capped y) ≡ capped (x * y)
 capped_mul x y = min_mul (2 ^ 64 - 1) (omega arith) x y
 
+pub capped_small : (x : ℕ) → x ≤ 2 ^ 64 - 1 → x ≡ capped x
+capped_small x h = sym (min_within (2 ^ 64 - 1) x h)
+
 -- a sum and a product of kept numbers
 pub sum_of : (a b x y r : ℕ) → a ≡ capped x → b ≡ capped y → r ≡ min (a + b) (2 ^ 64 - 1) → r ≡ capped (x + y)
 sum_of a b x y r e f g = g ∙ (ap (λ a. capped (a + b)) e ∙ (ap (λ b. capped (capped x + b)) f ∙ capped_add x y))

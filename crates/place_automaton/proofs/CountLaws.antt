@@ -1,29 +1,18 @@
 -- The numbers of a formula are the lengths of the lists of its places.
-use Rattle.std.proofs.Common.{◌≡◌, ℕ, zero, suc, ◌+◌, ◌*◌, ◌-◌, Bool, true, false, List, [], ◌∷◌, ◌++◌, Option, Some, None, length, inl, refl, ap, arith, ◌∙◌}
+use Rattle.std.proofs.Common.{◌≡◌, ℕ, zero, suc, ◌+◌, ◌*◌, ◌-◌, Bool, true, false, List, [], ◌∷◌, ◌++◌, Option, Some, None, length, refl, sym, ap, arith, ◌∙◌}
 use Rattle.std.specs.Prelude.{map, if◌then◌else◌}
 use Rattle.std.specs.List.{flat_map}
 use Rattle.std.proofs.lemmas.List.{length-map}
 use Rattle.spanner_model.specs.Captures.{VarName}
-use Rattle.spanner_model.specs.Functional.{IsFunctional}
 use Rattle.spanner_model.specs.Tree.{Tree, empty, one, cat_end, cat, alt_end, alt, rep, cap}
+use Rattle.marked_automaton.specs.declared.TheConstants.{MOST_WAYS}
 use Rattle.marked_automaton.specs.Automaton.{idle_way}
 use Rattle.place_automaton.specs.Atom.{way_from_first, way_after, stop_before, unless, place_stops, after_ways, automaton_of_places}
 use Rattle.place_automaton.specs.CountLaw.{CountLaw}
-use Rattle.place_automaton.specs.Counts.{PlaceCounts, counts_cat, counts_opt, counts_plus, counts_copies, counts_at_most, counts_repeated, counts, ways_of}
+use Rattle.place_automaton.specs.Counts.{PlaceCounts, counts_cat, counts_opt, counts_plus, counts_copies, counts_at_most, counts_repeated, counts, counts_over, count_ways, has_large_null, ways_of}
 use Rattle.place_automaton.specs.Places.{Places, Placed, add_once, either_once, sums, ways_between, way_into, entry_with, stop_with, cat_places, plus_places, cat_placed, opt_placed, plus_placed, copies_then, at_most, repeated, placed}
-use Rattle.place_automaton.specs.Sequential.{IsSequential}
 use Rattle.place_automaton.specs.Variables.{with_vars}
-use Rattle.place_automaton.specs.Words.{opening_of, closing_of}
-
-pub functional_sequential : (f : Tree) → IsFunctional f → IsSequential f
-functional_sequential empty ok = tt
-functional_sequential (one set) ok = tt
-functional_sequential cat_end ok = tt
-functional_sequential (cat f rest) ok = (functional_sequential f ok.0, functional_sequential rest ok.1, ok.2)
-functional_sequential alt_end ok = tt
-functional_sequential (alt f rest) ok = (functional_sequential f ok.0, functional_sequential rest ok.1)
-functional_sequential (rep f least most) ok = (functional_sequential f ok.0, inl ok.1)
-functional_sequential (cap x f) ok = (functional_sequential f ok.0, ok.1)
+use Rattle.place_automaton.specs.Words.{opening_of, closing_of, atom_automaton}
 
 pub length_append : {X : Type 0} (xs ys : List X) → length (xs ++ ys) ≡ length xs + length ys
 length_append [] ys = omega arith
@@ -179,8 +168,20 @@ ways_lengths s t F c r =
           ap (λ (ms : List ℕ). length ms) r.null,
         )
 
+pub all_ways : (s t : Bool) (f : Tree) → length (atom_automaton (with_vars [] f) s t f).ways ≡ ways_of s t (counts_over (with_vars [] f) f)
+all_ways s t f =
+    let names = with_vars [] f in
+    ways_lengths s t (placed (opening_of names) (closing_of names) f 1) (counts_over names f) (lengths (opening_of names) (closing_of names) f 1)
+
+-- the number of ways, where no null is large and where one is
+pub small_ways : (s t : Bool) (f : Tree) → has_large_null f ≡ false → ways_of s t (counts_over (with_vars [] f) f) ≡ count_ways s t f
+small_ways s t f e = ap (λ (b : Bool). if b then MOST_WAYS + 1 else ways_of s t (counts_over (with_vars [] f) f)) (sym e)
+
+pub large_ways : (s t : Bool) (f : Tree) → has_large_null f ≡ true → MOST_WAYS + 1 ≡ count_ways s t f
+large_ways s t f e = ap (λ (b : Bool). if b then MOST_WAYS + 1 else ways_of s t (counts_over (with_vars [] f) f)) (sym e)
+
 pub count_law : CountLaw
 count_law s t f =
     let names = with_vars [] f in
     let r = lengths (opening_of names) (closing_of names) f 1 in
-    (ap (λ n. 1 + n + (if t then 0 else 1)) r.places, ways_lengths s t (placed (opening_of names) (closing_of names) f 1) (counts (opening_of names) (closing_of names) f) r)
+    (ap (λ n. 1 + n + (if t then 0 else 1)) r.places, λ e. all_ways s t f ∙ small_ways s t f e)

@@ -10,7 +10,8 @@ use Rattle.place_automaton.specs.declared.placing.Draft.{Draft}
 use Rattle.place_automaton.specs.Drafts.{places_of, AreNamed, HasPlaced}
 use Rattle.place_automaton.specs.Ends.{Ends, ends_of, nothing_ends, JoinAsSums, RowJoins, row_ends, row_ways}
 use Rattle.place_automaton.specs.Places.{Places, Placed, nothing_placed}
-use Rattle.place_automaton.specs.Sequential.{HasOrderedRepeats, IsSequential}
+use Rattle.spanner_model.specs.Sequential.{IsSequential}
+use Rattle.place_automaton.specs.Repeats.{HasOrderedRepeats}
 use Rattle.place_automaton.specs.Words.{opening_of, closing_of}
 use Rattle.place_automaton.proofs.FineLaws.{HasClasses, VarBits, vars_apart, fine_places, fine_joins}
 use Rattle.place_automaton.proofs.JoinLists.{append_nil}

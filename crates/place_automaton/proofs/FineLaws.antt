@@ -6,7 +6,7 @@ use Rattle.std.specs.List.{flat_map}
 use Rattle.std.specs.Int.{bit_at}
 use Rattle.std.specs.FinSet as set
 use Rattle.spanner_model.specs.Captures.{VarName}
-use Rattle.spanner_model.specs.Functional.{HasVar, HaveApartVars}
+use Rattle.spanner_model.specs.Sequential.{HasVar, HaveApartVars, HasNoVar, IsSequential}
 use Rattle.span_core.specs.Lists.{Has}
 use Rattle.spanner_model.specs.Tree.{Tree, empty, one, cat_end, cat, alt_end, alt, rep, cap}
 use Rattle.spanner_model.specs.WellBuilt.{IsBuilt, AreParts, AreArms}
@@ -16,7 +16,7 @@ use Rattle.marked_automaton.specs.Automaton.{ByteClass}
 use Rattle.place_automaton.specs.declared.piece.Entry.{Entry}
 use Rattle.place_automaton.specs.Ends.{ends_of, MarkOf, JoinAsSums, IsUnmarked}
 use Rattle.place_automaton.specs.Places.{Places, Placed, ways_between, entry_with, stop_with, nothing_placed, never_placed, one_placed, cat_places, alt_places, opt_places, plus_places, cap_places, plus_placed, copies_then, at_most, repeated, placed}
-use Rattle.place_automaton.specs.Sequential.{HasNoVar, HasOrderedRepeats, IsSequential}
+use Rattle.place_automaton.specs.Repeats.{HasOrderedRepeats}
 use Rattle.place_automaton.specs.Words.{opening_of, closing_of}
 use Rattle.span_core.proofs.HasLaws.{Has-append_cases, Has-map_cases}
 use Rattle.place_automaton.proofs.MarkBits.{HasBit, NoBitInCommon, zero_bit, no_bits, apart_sum, sum_bit, IsBitOf, own_apart, bit_tells}

@@ -3,11 +3,11 @@ use Rattle.std.proofs.Common.{ℕ, zero, suc, ◌+◌, ◌-◌, ◌≤◌, List,
 use Rattle.std.specs.Option.{ForSome, unwrap_or}
 use Rattle.spanner_model.specs.Captures.{VarName, Captures, Captured, AreApart}
 use Rattle.spanner_model.specs.Fit.{Piece, Then, Nothing, Times, Fit}
-use Rattle.place_automaton.specs.Sequential.{HasOrderedRepeats}
+use Rattle.place_automaton.specs.Repeats.{HasOrderedRepeats}
 use Rattle.spanner_model.specs.Tree.{Tree, empty, one, cat_end, cat, alt_end, alt, rep, cap}
 use Rattle.spanner_model.proofs.FitLaws.{times_le, fit_le, fit_only_vars, fit_no_vars}
 use Rattle.place_automaton.specs.Places.{Places, Placed, nothing_placed, cat_placed, plus_placed, copies_then, at_most, repeated, placed}
-use Rattle.place_automaton.specs.Sequential.{IsSequential}
+use Rattle.spanner_model.specs.Sequential.{IsSequential}
 use Rattle.place_automaton.proofs.Blocks.{IsEmptyOutside, DoesNotEndBefore, nothing_outside, then_outside, times_outside, fit_outside}
 use Rattle.place_automaton.proofs.Ranges.{LieInPlace, nothing_lies, plus_lies, copies_lie, at_most_lie, places_lie}
 use Rattle.place_automaton.proofs.Shows.{Shows, CanJoin, Either, IsBlank, AtLeast, AtMost, no_captures, shows_nothing, shows_never, shows_one, shows_then, shows_either, shows_optional, shows_plus, shows_same, shows_capture}

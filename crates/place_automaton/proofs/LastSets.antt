@@ -9,7 +9,8 @@ use Rattle.span_core.proofs.HasLaws.{Has-append_cases, Has-map_cases}
 use Rattle.marked_automaton.specs.declared.way.Stop.{Stop}
 use Rattle.place_automaton.specs.Atom.{place_stops, stop_before, unless}
 use Rattle.place_automaton.specs.Places.{Places, Placed, stop_with, cat_places, nothing_placed, plus_placed, copies_then, at_most, repeated, placed}
-use Rattle.place_automaton.specs.Sequential.{IsSequential, HasOrderedRepeats, HasNoVar}
+use Rattle.spanner_model.specs.Sequential.{IsSequential, HasNoVar}
+use Rattle.place_automaton.specs.Repeats.{HasOrderedRepeats}
 use Rattle.place_automaton.specs.Words.{opening_of, closing_of, atom_automaton}
 use Rattle.place_automaton.proofs.FineLaws.{Bits, Within, Apart, VarBits, AreNamed, vars_apart, mark_apart, sum_within, zero_within}
 use Rattle.place_automaton.proofs.MarkBits.{HasBit}

@@ -9,7 +9,11 @@ pub mod CountLaws
 pub mod DraftRows
 pub mod FineLaws
 pub mod FormulaShows
+pub mod FrontParts
 pub mod JoinLists
+pub mod JoinedCounts
+pub mod LargeFaults
+pub mod LargestNull
 pub mod LastSets
 pub mod MadeLaws
 pub mod MarkBits
@@ -28,7 +32,6 @@ pub mod RowBlocks
 pub mod RowLaws
 pub mod Rows
 pub mod SampleLaws
-pub mod SequentialParts
 pub mod Shows
 pub mod Unmarked
 pub mod Walks

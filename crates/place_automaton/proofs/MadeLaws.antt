@@ -18,7 +18,8 @@ use Rattle.place_automaton.specs.Drafts.{AreNamed, places_of}
 use Rattle.place_automaton.specs.Ends.{Ends, ends_of}
 use Rattle.place_automaton.specs.Made.{end_stops, outer_ways}
 use Rattle.place_automaton.specs.Places.{Places}
-use Rattle.place_automaton.specs.Sequential.{HasOrderedRepeats, IsSequential}
+use Rattle.spanner_model.specs.Sequential.{IsSequential}
+use Rattle.place_automaton.specs.Repeats.{HasOrderedRepeats}
 use Rattle.place_automaton.specs.Words.{atom_automaton}
 use Rattle.place_automaton.proofs.FineLaws.{Within, SomeByte, IsFine, HasClasses, VarBits, fine_places}
 use Rattle.span_core.proofs.HasLaws.{Has-append_left, Has-append_right, Has-append_cases, Has-map_cases}

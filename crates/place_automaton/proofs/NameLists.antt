@@ -4,7 +4,7 @@ use Rattle.span_core.specs.NameSets.{Ascending, with_name}
 use Rattle.span_core.specs.Lists.{Has}
 use Rattle.spanner_model.specs.Tree.{Tree, empty, one, cat_end, cat, alt_end, alt, rep, cap}
 use Rattle.spanner_model.specs.Captures.{VarName}
-use Rattle.spanner_model.specs.Functional.{HasVar}
+use Rattle.spanner_model.specs.Sequential.{HasVar}
 use Rattle.spanner_model.proofs.NameLaws.{with_cases, with_here, with_there}
 use Rattle.span_core.proofs.NameSetLaws.{none_are_variables, with_ascends}
 use Rattle.place_automaton.specs.Counts.{counts_over}

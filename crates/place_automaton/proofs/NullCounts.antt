@@ -1,15 +1,16 @@
 -- The blocks that are counted for the empty string have bits of the formula's variables alone.
-use Rattle.std.proofs.Common.{◌≡◌, ℕ, zero, suc, ◌+◌, List, [], ◌∷◌, drop, inl, inr, refl, sym, ap, ◌∙◌, subst, arith}
+use Rattle.std.proofs.Common.{◌≡◌, ℕ, ◌+◌, List, inl, inr, refl, sym, ap, ◌∙◌, subst, arith}
 use Rattle.std.specs.Prelude.{bit_or}
 use Rattle.std.specs.Int.Bits.{or_zero_l}
 use Rattle.spanner_model.specs.Captures.{VarName}
 use Rattle.span_core.specs.Lists.{Has}
-use Rattle.spanner_model.specs.Tree.{Tree, cat, cap, cat_all}
+use Rattle.spanner_model.specs.Tree.{Tree, cat, cap}
 use Rattle.place_automaton.specs.Counts.{counts_over}
 use Rattle.place_automaton.specs.Drafts.{AreNamed}
 use Rattle.place_automaton.specs.Ends.{JoinAsSum}
 use Rattle.place_automaton.specs.Places.{add_once, sums}
-use Rattle.place_automaton.specs.Sequential.{HasNoVar, HasOrderedRepeats, IsSequential}
+use Rattle.spanner_model.specs.Sequential.{HasNoVar, IsSequential}
+use Rattle.place_automaton.specs.Repeats.{HasOrderedRepeats}
 use Rattle.place_automaton.specs.Words.{opening_of, closing_of}
 use Rattle.place_automaton.proofs.CountLaws.{lengths}
 use Rattle.place_automaton.proofs.FineLaws.{VarBits, Within, mark_apart, vars_apart}
@@ -20,12 +21,6 @@ use Rattle.place_automaton.proofs.Shows.{once_cases, sums_cases}
 -- what is asked of a formula that is counted
 abbrev pub IsCountable : List VarName → Tree → Type 0
 IsCountable names f = IsSequential f × HasOrderedRepeats f × AreNamed names f
-
-pub countable_drop : (names : List VarName) (k : ℕ) (ts : List Tree) → IsCountable names (cat_all ts) → IsCountable names (cat_all (drop k ts))
-countable_drop names zero [] h = h
-countable_drop names zero (t ∷ ts) h = h
-countable_drop names (suc k) [] h = h
-countable_drop names (suc k) (t ∷ ts) h = countable_drop names k ts (h.0.1, h.1.1, λ x v. h.2 x (inr v))
 
 null_within : (names : List VarName) (f : Tree) → IsCountable names f → (m : ℕ) → Has (counts_over names f).null m → Within (VarBits names f) m
 null_within names f ok m h =

@@ -11,7 +11,8 @@ use Rattle.span_core.specs.Lists.{Has, AreDistinct}
 use Rattle.spanner_model.specs.Tree.{Tree, empty, one, cat_end, cat, alt_end, alt, rep, cap}
 use Rattle.span_core.proofs.HasLaws.{Has-append_cases, Has-map_cases}
 use Rattle.place_automaton.specs.Places.{Placed, add_once, either_once, sums, plus_placed, copies_then, at_most, repeated, placed}
-use Rattle.place_automaton.specs.Sequential.{IsSequential, HasOrderedRepeats, HasNoVar}
+use Rattle.spanner_model.specs.Sequential.{IsSequential, HasNoVar}
+use Rattle.place_automaton.specs.Repeats.{HasOrderedRepeats}
 use Rattle.place_automaton.specs.Words.{opening_of, closing_of}
 use Rattle.place_automaton.proofs.FineLaws.{Bits, Within, Apart, VarBits, AreNamed, vars_apart, mark_apart, sum_within, zero_within}
 use Rattle.place_automaton.proofs.MarkBits.{HasBit, NoBitInCommon, bit_cases, apart_sum, sum_bit, own_apart}

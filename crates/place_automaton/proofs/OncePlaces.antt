@@ -8,7 +8,7 @@ use Rattle.place_automaton.specs.Counts.{PlaceCounts, counts_cat, counts_nothing
 use Rattle.place_automaton.specs.Places.{Places, Placed, sums, ways_between, entry_with, stop_with, cat_places, opt_places, nothing_placed, repeated}
 use Rattle.place_automaton.proofs.JoinLists.{append_nil, stops_same}
 
-sums_zero : (ms : List ℕ) → sums ms (0 ∷ []) ≡ ms
+pub sums_zero : (ms : List ℕ) → sums ms (0 ∷ []) ≡ ms
 sums_zero [] = refl
 sums_zero (m ∷ ms) = ap (λ n. n ∷ sums ms (0 ∷ [])) (let e : m + 0 ≡ m = omega arith in e) ∙ ap (λ ns. m ∷ ns) (sums_zero ms)
 
@@ -38,7 +38,7 @@ once_is (suc zero) F k le = cat_nothing (F k) (k + (F k).count) ∙ ap (λ (b : 
 once_is (suc (suc n)) F k le = absurd (omega (arith, le))
 
 -- the same of the numbers
-counts_nothing_behind : (a : PlaceCounts) → counts_cat a counts_nothing ≡ a
+pub counts_nothing_behind : (a : PlaceCounts) → counts_cat a counts_nothing ≡ a
 counts_nothing_behind a = λ i. record {
   places = places i;
   null = sums_zero a.null i;

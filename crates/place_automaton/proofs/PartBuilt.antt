@@ -3,7 +3,7 @@ use Rattle.std.proofs.Common.{List, [], ◌∷◌, inl, inr, refl}
 use Rattle.span_core.specs.Lists.{Has}
 use Rattle.spanner_model.specs.Tree.{Tree, cat_all}
 use Rattle.spanner_model.specs.WellBuilt.{IsWellBuilt}
-use Rattle.place_automaton.specs.Sequential.{HasOrderedRepeats}
+use Rattle.place_automaton.specs.Repeats.{HasOrderedRepeats}
 use Rattle.place_automaton.proofs.BuiltRepeats.{ordered_repeats}
 use Rattle.place_automaton.proofs.FineLaws.{HasClasses, built_classes}
 

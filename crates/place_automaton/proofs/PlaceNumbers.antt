@@ -1,5 +1,5 @@
 -- How many places a formula has, wherever they are numbered from.
-use Rattle.std.proofs.Common.{◌≡◌, ℕ, zero, suc, ◌+◌, ◌-◌, ◌*◌, ◌≤◌, List, [], ◌∷◌, map, take, Option, Some, None, refl, sym, ap, ◌∙◌, arith}
+use Rattle.std.proofs.Common.{◌≡◌, ℕ, zero, suc, ◌+◌, ◌-◌, ◌*◌, ◌≤◌, List, [], ◌∷◌, ◌++◌, map, take, Option, Some, None, refl, sym, ap, ◌∙◌, arith}
 use Rattle.std.specs.Prelude.{slice_get, max}
 use Rattle.std.proofs.Math.Nat.{mul-le-mul_right}
 use Rattle.spanner_model.specs.Captures.{VarName}
@@ -49,6 +49,11 @@ module _ (opening closing : VarName → ℕ) where
   parts_room [] i t at = absurd (cc)
   parts_room (u ∷ ts) zero t at = let e : u ≡ t = cc in omega (arith, ap (λ (v : Tree). (counts opening closing v).places) e)
   parts_room (u ∷ ts) (suc i) t at = omega (arith, parts_room ts i t at)
+
+  -- parts, and one more behind them
+  pub parts_more : (ts : List Tree) (t : Tree) → (counts opening closing (cat_all (ts ++ t ∷ []))).places ≡ (counts opening closing (cat_all ts)).places + (counts opening closing t).places
+  parts_more [] t = omega arith
+  parts_more (u ∷ ts) t = omega (arith, parts_more ts t)
 
   pub arms_room : (ts : List Tree) → (counts opening closing (alt_all ts)).places ≡ (counts opening closing (cat_all ts)).places
   arms_room [] = refl

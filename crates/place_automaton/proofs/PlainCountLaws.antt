@@ -3,28 +3,32 @@ use Rattle.std.proofs.Common.{◌≡◌, ℕ, zero, suc, ◌+◌, ◌*◌, ◌-�
 use Rattle.std.specs.Prelude.{map, max, if◌then◌else◌, ◌||◌}
 use Rattle.std.specs.List.{flat_map}
 use Rattle.std.specs.Str.{bytes_eq}
-use Rattle.std.proofs.lemmas.Bool.{eq-eqb}
+use Rattle.std.proofs.lemmas.Bool.{eq-eqb, le-ltb}
 use Rattle.std.proofs.lemmas.List.{length-map}
 use Rattle.spanner_model.specs.Captures.{VarName, Captures, Captured, span_of}
 use Rattle.spanner_model.specs.Fit.{Piece, Times, Fit}
-use Rattle.spanner_model.specs.Functional.{HasVar, IsFunctional}
-use Rattle.place_automaton.specs.Sequential.{HasOrderedRepeats}
+use Rattle.spanner_model.specs.Sequential.{HasVar}
+use Rattle.spanner_model.specs.Functional.{IsFunctional}
+use Rattle.place_automaton.specs.Repeats.{HasOrderedRepeats}
 use Rattle.span_core.specs.Lists.{Has, AreDistinct}
 use Rattle.spanner_model.specs.Tree.{Tree, empty, one, cat_end, cat, alt_end, alt, rep, cap}
 use Rattle.span_core.specs.declared.span.Span.{Span}
 use Rattle.spanner_model.proofs.CapturesLaws.{row_same}
-use Rattle.spanner_model.proofs.FitLaws.{times_le, fit_le, fit_only_vars, fit_all_vars, fit_no_vars}
+use Rattle.spanner_model.proofs.FitLaws.{times_le, fit_le, fit_only_vars, fit_sure, fit_no_vars}
+use Rattle.spanner_model.proofs.FunctionalLaws.{functional_sequential, functional_sure}
 use Rattle.span_core.specs.OrderLaws.{span_eq}
 use Rattle.marked_automaton.specs.Automaton.{idle_way}
 use Rattle.place_automaton.specs.Atom.{way_from_first, way_after, stop_before, unless, place_stops, after_ways, automaton_of_places}
+use Rattle.place_automaton.specs.declared.TheConstants.{MOST_SETS}
 use Rattle.place_automaton.specs.CountLaw.{FunctionalCountLaw}
+use Rattle.place_automaton.specs.Counts.{null_size, largest_null, largest_null_over}
 use Rattle.place_automaton.specs.PlainCounts.{PlainCounts, plain_nothing, plain_cat, plain_opt, plain_plus, plain_copies, plain_at_most, plain_repeated, plain}
 use Rattle.place_automaton.specs.Places.{Places, Placed, add_once, either_once, sums, ways_between, way_into, entry_with, stop_with, nothing_placed, cat_places, plus_places, cat_placed, opt_placed, plus_placed, copies_then, at_most, repeated, placed}
 use Rattle.place_automaton.specs.Reads.{blocks}
 use Rattle.place_automaton.specs.Words.{opening_of, closing_of}
 use Rattle.place_automaton.specs.Variables.{with_vars}
 use Rattle.spanner_model.proofs.NameLaws.{ascending-distinct}
-use Rattle.place_automaton.proofs.CountLaws.{count_law, functional_sequential, length_append, length_product, mul_same}
+use Rattle.place_automaton.proofs.CountLaws.{count_law, lengths, length_append, length_product, mul_same}
 use Rattle.place_automaton.proofs.FormulaShows.{shows_formula}
 use Rattle.place_automaton.proofs.NameLists.{list_ascends, vars_are}
 use Rattle.span_core.proofs.HasLaws.{Has-append_cases}
@@ -189,10 +193,10 @@ module _ (names : List VarName) (dis : AreDistinct names) where
       go : (o : Option Span) → span_of c x ≡ o → span_of c x ≡ span_of e x
       go None at =
           at ∙ sym (not_captured e x (λ k. none_some the_empty_span
-          (sym at ∙ at_itself f c x hc (fit_all_vars f [] 0 0 c ok hc x (fit_only_vars f [] 0 0 e he x k)))))
+          (sym at ∙ at_itself f c x hc (fit_sure f [] 0 0 c hc x (functional_sure f x ok (fit_only_vars f [] 0 0 e he x k))))))
       go (Some s) at =
           let k = span_captured c x s at in
-          at_itself f c x hc k ∙ sym (at_itself f e x he (fit_all_vars f [] 0 0 e ok he x (fit_only_vars f [] 0 0 c hc x k)))
+          at_itself f c x hc k ∙ sym (at_itself f e x he (fit_sure f [] 0 0 e he x (functional_sure f x ok (fit_only_vars f [] 0 0 c hc x k))))
 
   -- a functional formula fits nothing with one block at most
   pub null_same : (f : Tree) → IsFunctional f → HasOrderedRepeats f → ((x : VarName) → HasVar f x → Has names x) → (k m n : ℕ) →
@@ -313,6 +317,36 @@ module _ (names : List VarName) (dis : AreDistinct names) where
         omega (arith, length-map (P f k).null (◌+◌ (o + c)), r.1),
       )
 
+  -- no null has more than one block
+  abbrev N : Tree → ℕ
+  N = null_size (opening_of names) (closing_of names)
+
+  functional_null : (f : Tree) → IsFunctional f → HasOrderedRepeats f → ((x : VarName) → HasVar f x → Has names x) → N f ≤ 1
+  functional_null f ok ord vars =
+      omega (arith, (counted f ok ord vars 1).1, ap (λ (ms : List ℕ). length ms) (lengths (opening_of names) (closing_of names) f 1).null)
+
+  pub functional_largest : (f : Tree) → IsFunctional f → HasOrderedRepeats f → ((x : VarName) → HasVar f x → Has names x) → (before : ℕ) → before ≤ 1 →
+      largest_null (opening_of names) (closing_of names) before f ≤ 1
+  functional_largest empty ok ord vars before le = omega arith
+  functional_largest (one set) ok ord vars before le = omega arith
+  functional_largest cat_end ok ord vars before le = le
+  functional_largest (cat f rest) ok ord vars before le =
+      let vf : (x : VarName) → HasVar f x → Has names x = λ x h. vars x (inl h) in
+      let here = functional_largest f ok.0 ord.0 vf 1 (omega arith) in
+      let both = product_small before (N f) le (functional_null f ok.0 ord.0 vf) in
+      omega (arith, le, here, functional_largest rest ok.1 ord.1 (λ x h. vars x (inr h)) (before * N f) both)
+  functional_largest alt_end ok ord vars before le = omega arith
+  functional_largest (alt f rest) ok ord vars before le =
+      omega (
+        arith,
+        functional_null (alt f rest) ok ord vars,
+        functional_largest f ok.0 ord.0 (λ x h. vars x (inl h)) 1 (omega arith),
+        functional_largest rest ok.1 ord.1 (λ x h. vars x (inr h)) 1 (omega arith),
+      )
+  functional_largest (rep f least most) ok ord vars before le =
+      omega (arith, functional_null (rep f least most) ok ord vars, functional_largest f ok.0 ord.0 vars 1 (omega arith))
+  functional_largest (cap x f) ok ord vars before le = functional_largest f ok.0 ord (λ y h. vars y (inr h)) 1 (omega arith)
+
 -- the ways of an atom's automaton, by its places
 ways_counted : (s t : Bool) (F : Places) (c : PlainCounts) → CountsAre F c →
     length (automaton_of_places s t F).ways ≡ c.first + c.follow + (if s then 0 else 1) + (if t then 0 else c.last + 1 + c.null)
@@ -342,8 +376,11 @@ ways_counted s t F c r =
 pub functional_counts : FunctionalCountLaw
 functional_counts s t f ok ord =
     let names = with_vars [] f in
+    let dis = ascending-distinct names (list_ascends f) in
+    let vars : (x : VarName) → HasVar f x → Has names x = λ x h. (vars_are f x).1 h in
     let new = count_law s t f in
-    let old = counted names (ascending-distinct names (list_ascends f)) f ok ord (λ x h. (vars_are f x).1 h) 1 in (
+    let old = counted names dis f ok ord vars 1 in
+    let small : largest_null_over names f ≤ MOST_SETS = omega (arith, functional_largest names dis f ok ord vars 1 (omega arith)) in (
       sym new.0 ∙ ap (λ n. 1 + n + (if t then 0 else 1)) old.0.places,
-      sym new.1 ∙ ways_counted s t (placed (opening_of names) (closing_of names) f 1) (plain f) old.0,
+      sym (new.1 (le-ltb MOST_SETS (largest_null_over names f) small)) ∙ ways_counted s t (placed (opening_of names) (closing_of names) f 1) (plain f) old.0,
     )

@@ -1,14 +1,18 @@
 -- The formulas of the tests may be made.
-use Rattle.std.proofs.Common.{◌≡◌, ℕ, ◌≤◌, [], ◌∷◌, Option, Some, None, inl, inr, refl, arith}
+use Rattle.std.proofs.Common.{◌≡◌, ◌∙◌, ℕ, zero, suc, ◌+◌, ◌<◌, ◌≤◌, Bool, true, false, List, [], ◌∷◌, ◌++◌, get_or, length, Option, Some, None, inl, inr, refl, sym, ap, arith}
+use Rattle.std.specs.Prelude.{◌&&◌, ◌||◌, ◌==◌, nat_le}
+use Rattle.std.specs.Int.{is_in_range}
+use Rattle.std.proofs.lemmas.Bool.{le-leb}
+use Rattle.span_core.specs.Names.{is_name}
 use Rattle.span_core.specs.declared.TheConstants.{MOST_VARIABLES}
 use Rattle.spanner_model.specs.Captures.{VarName}
 use Rattle.spanner_model.specs.Examples.{a, b, x}
-use Rattle.spanner_model.specs.Functional.{HasVar}
+use Rattle.spanner_model.specs.Sequential.{HasVar, IsSequential}
 use Rattle.span_core.specs.Lists.{AtMost, Has}
-use Rattle.spanner_model.specs.Tree.{Tree, empty, cap}
-use Rattle.spanner_model.specs.WellBuilt.{IsBuilt, AreRepeatNumbers}
+use Rattle.spanner_model.specs.Tree.{Tree, empty, cap, cat_all}
+use Rattle.spanner_model.specs.WellBuilt.{IsBuilt, AreParts, AreRepeatNumbers, IsVariable}
 use Rattle.spanner_model.proofs.SampleLaws.{byte_built, x_variable}
-use Rattle.place_automaton.specs.Examples.{maybe, times, star_in_x, optional_x}
+use Rattle.place_automaton.specs.Examples.{maybe, times, star_in_x, optional_x, optionals}
 use Rattle.place_automaton.specs.Samples.{IsSample, long, wide, a_and_maybe_b, often_in_x, star_of, stars_of_maybes, stars_of_two, million, nothing_often, maybe_empty, x_or_b}
 
 some_is : (m n : ℕ) → Some m ≡ Some n → m ≡ n
@@ -142,3 +146,84 @@ x_or_b_sample = (
   ((tt, λ h. h), (tt, tt)),
   (x ∷ [], omega arith, λ y h. elim h [ inl k ↦ elim k [ inl e ↦ inl e | inr n ↦ absurd n ] | inr r ↦ elim r [ inl n ↦ absurd n | inr n ↦ absurd n ] ]),
 )
+
+-- ---- captures that may each be absent
+
+abbrev optional_capture : ℕ → Tree
+optional_capture letter = maybe (cap (letter ∷ []) empty)
+
+-- a variable is one of the letters
+letter_of : (n k : ℕ) (y : VarName) → HasVar (cat_all (optionals k n)) y → (j : ℕ) × (k ≤ j) × (j < k + n) × (y ≡ j ∷ [])
+letter_of zero k y h = absurd h
+letter_of (suc n) k y (inl (inl e)) = (k, omega arith, omega arith, sym e)
+letter_of (suc n) k y (inl (inr h)) = absurd h
+letter_of (suc n) k y (inr h) = let r = letter_of n (suc k) y h in (r.0, omega (arith, r.1), omega (arith, r.2), r.3)
+
+same_letter : (j k : ℕ) (y : VarName) → j ∷ [] ≡ y → y ≡ k ∷ [] → j ≡ k
+same_letter j k y e f = ap (λ (ns : List ℕ). get_or ns 0 0) (e ∙ f)
+
+optionals_sequential : (n k : ℕ) → IsSequential (cat_all (optionals k n))
+optionals_sequential zero k = tt
+optionals_sequential (suc n) k = (((tt, λ h. h), inr refl), optionals_sequential n (suc k), λ y a b. elim a [ inl e ↦ apart y e b | inr h ↦ h ])
+  where
+    apart : (y : VarName) → k ∷ [] ≡ y → HasVar (cat_all (optionals (suc k) n)) y → ⊥
+    apart y e b = let r = letter_of n (suc k) y b in omega (arith, r.1, same_letter k r.0 y e r.3)
+
+letter_name : (k : ℕ) → 97 ≤ k → k ≤ 122 → is_name (k ∷ []) ≡ true
+letter_name k l h = go (is_in_range 65 90 k) (is_in_range 97 122 k) (ap (λ b. b && nat_le k 122) (le-leb 97 k l) ∙ le-leb k 122 h)
+  where
+    go : (p q : Bool) → q ≡ true → (((p || q) || (k == 95)) && true) ≡ true
+    go true q e = refl
+    go false true e = refl
+    go false false e = absurd (cc)
+
+letter_variable : (k : ℕ) → 97 ≤ k → k ≤ 122 → IsVariable (k ∷ [])
+letter_variable k l h = (letter_name k l h, λ e. let long : 1 ≡ 4 = ap length e in absurd (omega (arith, long)))
+
+optional_built : (k : ℕ) → 97 ≤ k → k ≤ 122 → IsBuilt (optional_capture k)
+optional_built k l h = maybe_built (cap (k ∷ []) empty) (tt, letter_variable k l h)
+
+optionals_parts : (n k : ℕ) → 97 ≤ k → k + n ≤ 123 → AreParts (cat_all (optionals k n))
+optionals_parts zero k l h = tt
+optionals_parts (suc n) k l h = (optional_built k l (omega (arith, h)), optionals_parts n (suc k) (omega (arith, l)) (omega (arith, h)))
+
+abbrev letters : ℕ → ℕ → List VarName
+letters k zero = []
+letters k (suc n) = (k ∷ []) ∷ letters (suc k) n
+
+letters_many : (n k : ℕ) → length (letters k n) ≡ n
+letters_many zero k = refl
+letters_many (suc n) k = omega (arith, letters_many n (suc k))
+
+letters_all : (n k : ℕ) (y : VarName) → HasVar (cat_all (optionals k n)) y → Has (letters k n) y
+letters_all zero k y h = absurd h
+letters_all (suc n) k y (inl (inl e)) = inl e
+letters_all (suc n) k y (inl (inr h)) = absurd h
+letters_all (suc n) k y (inr h) = inr (letters_all n (suc k) y h)
+
+optionals_few : (n : ℕ) → n ≤ MOST_VARIABLES → AtMost MOST_VARIABLES (HasVar (cat_all (optionals 97 n)))
+optionals_few n h = (letters 97 n, omega (arith, h, letters_many n 97), letters_all n 97)
+
+pub sixteen_sample : IsSample (cat_all (optionals 97 16))
+sixteen_sample = (
+  ((optional_built 97 (omega arith) (omega arith), optionals_parts 15 98 (omega arith) (omega arith), λ e. absurd (cc)), omega arith),
+  optionals_sequential 16 97,
+  optionals_few 16 (omega arith),
+)
+
+pub seventeen_sample : IsSample (cat_all (optionals 97 17))
+seventeen_sample = (
+  ((optional_built 97 (omega arith) (omega arith), optionals_parts 16 98 (omega arith) (omega arith), λ e. absurd (cc)), omega arith),
+  optionals_sequential 17 97,
+  optionals_few 17 (omega arith),
+)
+
+-- one more behind them
+more_optionals : (n k : ℕ) → optionals k (suc n) ≡ optionals k n ++ optional_capture (k + n) ∷ []
+more_optionals zero k = ap (λ j. optional_capture j ∷ []) (let e : k ≡ k + 0 = omega arith in e)
+more_optionals (suc n) k =
+    ap (λ ts. optional_capture k ∷ ts) (more_optionals n (suc k))
+    ∙ ap (λ j. optional_capture k ∷ (optionals (suc k) n ++ optional_capture j ∷ [])) (let e : suc k + n ≡ k + suc n = omega arith in e)
+
+pub optionals_more : (n k : ℕ) → optionals k (n + 1) ≡ optionals k n ++ optional_capture (k + n) ∷ []
+optionals_more n k = ap (λ m. optionals k m) (let e : n + 1 ≡ suc n = omega arith in e) ∙ more_optionals n k

@@ -2,7 +2,7 @@
 use Rattle.std.specs.Prelude.{◌≡◌, ℕ, suc, ◌+◌, ◌<◌, ◌≤◌, ◌↔◌, List, [], ◌∷◌, ◌++◌, length, map, slice_get, Some, Bool, if◌then◌else◌, IsTrue}
 use Rattle.spanner_model.specs.Captures.{VarName, Captures}
 use Rattle.spanner_model.specs.Fit.{Fit}
-use Rattle.place_automaton.specs.Sequential.{HasOrderedRepeats}
+use Rattle.place_automaton.specs.Repeats.{HasOrderedRepeats}
 use Rattle.spanner_model.specs.Tree.{Tree}
 use Rattle.marked_automaton.specs.declared.way.Way.{Way}
 use Rattle.marked_automaton.specs.declared.way.Stop.{Stop}
@@ -10,7 +10,7 @@ use Rattle.marked_automaton.specs.Automaton.{Automaton, Accepts, all_bytes, idle
 use Rattle.place_automaton.specs.declared.piece.Entry.{Entry}
 use Rattle.place_automaton.specs.Places.{Places, placed}
 use Rattle.place_automaton.specs.Reads.{blocks}
-use Rattle.place_automaton.specs.Sequential.{IsSequential}
+use Rattle.spanner_model.specs.Sequential.{IsSequential}
 
 abbrev pub way_from_first : Entry → Way
 way_from_first e = record { from = 0; marks = e.marks; bytes = e.bytes; to = e.to }

@@ -6,9 +6,8 @@ use Rattle.place_automaton.specs.declared.numbers.Numbers.{Numbers}
 abbrev pub capped : ℕ → ℕ
 capped n = min n (2 ^ 64 - 1)
 
--- each number of the code is the one of the formula, or 2^64 - 1 where that is less
+-- each number of the code is the one of the formula, or 2^64 - 1 where that is less; null is the formula's
 pub record AreCapped (c : PlaceCounts) (n : Numbers) : Type 0 where
-  pub places : n.places ≡ capped c.places
   pub null : n.null.items ≡ c.null
   pub first : n.first ≡ capped c.first
   pub last : n.last ≡ capped c.last

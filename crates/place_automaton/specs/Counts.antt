@@ -1,7 +1,9 @@
 -- The numbers of an atom's automaton, by the formula alone.
-use Rattle.std.specs.Prelude.{ℕ, zero, suc, ◌+◌, ◌-◌, ◌*◌, List, [], ◌∷◌, length, map, Option, Some, None, Bool, if◌then◌else◌}
+use Rattle.std.specs.Prelude.{ℕ, zero, suc, ◌+◌, ◌-◌, ◌*◌, max, List, [], ◌∷◌, length, map, nat_lt, Option, Some, None, Bool, if◌then◌else◌}
 use Rattle.spanner_model.specs.Captures.{VarName}
 use Rattle.spanner_model.specs.Tree.{Tree, empty, one, cat_end, cat, alt_end, alt, rep, cap}
+use Rattle.marked_automaton.specs.declared.TheConstants.{MOST_WAYS}
+use Rattle.place_automaton.specs.declared.TheConstants.{MOST_SETS}
 use Rattle.place_automaton.specs.Places.{add_once, either_once, sums}
 use Rattle.place_automaton.specs.Variables.{with_vars}
 use Rattle.place_automaton.specs.Words.{opening_of, closing_of}
@@ -75,9 +77,28 @@ module _ (opening closing : VarName → ℕ) where
   counts (rep f least most) = counts_repeated least most (counts f)
   counts (cap x f) = counts_cap (opening x + closing x) (counts f)
 
+  -- with how many blocks the empty string fits
+  abbrev pub null_size : Tree → ℕ
+  null_size f = length (counts f).null
+
+  -- with how many it fits some part of the formula, or the first parts of a concatenation, joined from left to
+  -- right: the most of these numbers; in the rest of a concatenation, `before` is that of the parts before it
+  abbrev pub largest_null : ℕ → Tree → ℕ
+  largest_null before empty = 1
+  largest_null before (one set) = 0
+  largest_null before cat_end = before
+  largest_null before (cat f rest) = max before (max (largest_null 1 f) (largest_null (before * null_size f) rest))
+  largest_null before alt_end = 0
+  largest_null before (alt f rest) = max (null_size (alt f rest)) (max (largest_null 1 f) (largest_null 1 rest))
+  largest_null before (rep f least most) = max (null_size (rep f least most)) (largest_null 1 f)
+  largest_null before (cap x f) = largest_null 1 f
+
 -- where the markers are those of these names
 abbrev pub counts_over : List VarName → Tree → PlaceCounts
 counts_over names f = counts (opening_of names) (closing_of names) f
+
+abbrev pub largest_null_over : List VarName → Tree → ℕ
+largest_null_over names f = largest_null (opening_of names) (closing_of names) 1 f
 
 abbrev pub states_of : Bool → PlaceCounts → ℕ
 states_of to_end c = 1 + c.places + (if to_end then 0 else 1)
@@ -86,8 +107,14 @@ abbrev pub ways_of : Bool → Bool → PlaceCounts → ℕ
 ways_of from_start to_end c =
     c.first + c.follow + (if from_start then 0 else 1) + (if to_end then 0 else c.last + 1 + length c.null)
 
+-- some part of the formula, or the first parts of a concatenation, have a null with more blocks than are listed
+abbrev pub has_large_null : Tree → Bool
+has_large_null f = nat_lt MOST_SETS (largest_null_over (with_vars [] f) f)
+
 abbrev pub count_states : Bool → Bool → Tree → ℕ
 count_states from_start to_end f = states_of to_end (counts_over (with_vars [] f) f)
 
+-- one more than an automaton may have, where null is large
 abbrev pub count_ways : Bool → Bool → Tree → ℕ
-count_ways from_start to_end f = ways_of from_start to_end (counts_over (with_vars [] f) f)
+count_ways from_start to_end f =
+    if has_large_null f then MOST_WAYS + 1 else ways_of from_start to_end (counts_over (with_vars [] f) f)

@@ -1,7 +1,7 @@
 -- What placing a formula adds to an automaton that is being made.
 use Rattle.std.specs.Prelude.{◌≡◌, ℕ, ◌+◌, ◌++◌, max, List, Option, Some, None}
 use Rattle.spanner_model.specs.Captures.{VarName}
-use Rattle.spanner_model.specs.Functional.{HasVar}
+use Rattle.spanner_model.specs.Sequential.{HasVar}
 use Rattle.span_core.specs.Lists.{Has}
 use Rattle.spanner_model.specs.Tree.{Tree}
 use Rattle.place_automaton.specs.declared.placing.Draft.{Draft}

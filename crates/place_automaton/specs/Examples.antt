@@ -1,5 +1,5 @@
 -- Worked numbers.
-use Rattle.std.specs.Prelude.{◌≡◌, ℕ, [], ◌∷◌, Some, false, length}
+use Rattle.std.specs.Prelude.{◌≡◌, ℕ, zero, suc, List, [], ◌∷◌, Some, true, false, length}
 use Rattle.spanner_model.specs.Tree.{Tree, empty, cat_all, rep, cap}
 use Rattle.spanner_model.specs.Examples.{a, b, star, x}
 use Rattle.marked_automaton.specs.Automaton.{Automaton}
@@ -30,6 +30,11 @@ many_optional = times 3 (times 1000 (maybe a))
 abbrev pub optional_x : Tree
 optional_x = cat_all (a ∷ (maybe (cap x empty) ∷ (b ∷ [])))
 
+-- so many captures of nothing, each of which may be absent; their names are one letter each, from this one on
+abbrev pub optionals : ℕ → ℕ → List Tree
+optionals letter zero = []
+optionals letter (suc n) = maybe (cap (letter ∷ []) empty) ∷ optionals (suc letter) n
+
 abbrev pub star_automaton : Automaton
 star_automaton = atom_automaton (x ∷ []) false false star_in_x
 
@@ -40,3 +45,6 @@ CountsOfTheExamples =
     × (count_states false false many_a ≡ 20002)
     × (count_ways false false many_optional ≡ 4504503)
     × (count_states false false optional_x ≡ 4) × (count_ways false false optional_x ≡ 6)
+    × (count_ways true true (cat_all (optionals 97 16)) ≡ 0)
+    × (count_ways true true (cat_all (optionals 97 17)) ≡ 2000001)
+    × (count_ways true true (cat_all (a ∷ optionals 97 32)) ≡ 1)

@@ -12,7 +12,7 @@ pub mod Places
 pub mod PlainCounts
 pub mod Reads
 pub mod Refusals
+pub mod Repeats
 pub mod Samples
-pub mod Sequential
 pub mod Variables
 pub mod Words

@@ -2,7 +2,7 @@
 use Rattle.std.specs.Prelude.{◌≡◌, ℕ, ◌↔◌, ◌⊎◌, Bool, List, [], ◌∷◌, ◌++◌, length, map}
 use Rattle.span_core.specs.NameSets.{Ascending}
 use Rattle.spanner_model.specs.Captures.{VarName}
-use Rattle.spanner_model.specs.Functional.{HasVar}
+use Rattle.spanner_model.specs.Sequential.{HasVar}
 use Rattle.span_core.specs.Lists.{Has}
 use Rattle.spanner_model.specs.Tree.{Tree}
 use Rattle.marked_automaton.specs.declared.way.Way.{Way}
@@ -10,7 +10,8 @@ use Rattle.marked_automaton.specs.declared.way.Stop.{Stop}
 use Rattle.marked_automaton.specs.Automaton.{Automaton, AreGrouped, Marked, idle_way}
 use Rattle.marked_automaton.specs.Reduct.{Rearranges}
 use Rattle.place_automaton.specs.Atom.{stop_before, unless, way_after, way_from_first}
-use Rattle.place_automaton.specs.Counts.{count_ways}
+use Rattle.place_automaton.specs.Counts.{counts_over, ways_of}
+use Rattle.place_automaton.specs.Variables.{with_vars}
 use Rattle.place_automaton.specs.Ends.{Ends}
 use Rattle.place_automaton.specs.Words.{atom_automaton}
 
@@ -50,6 +51,6 @@ pub record IsMade (from_start to_end : Bool) (f : Tree) (A : Marked) : Type 0 wh
   pub ascending : Ascending A.names
   pub names : (x : VarName) → Has A.names x ↔ HasVar f x
   pub reduct : Rearranges A.graph (atom_automaton A.names from_start to_end f)
-  pub ways : length A.graph.ways ≡ count_ways from_start to_end f
+  pub ways : length A.graph.ways ≡ ways_of from_start to_end (counts_over (with_vars [] f) f)
   pub grouped : AreGrouped A.graph.ways
   pub stops : A.graph.stops ≡ (atom_automaton A.names from_start to_end f).stops

@@ -5,7 +5,7 @@ use Rattle.marked_automaton.specs.declared.fault.SizeFault.TheVariants.{States, 
 use Rattle.marked_automaton.specs.Faults.{IsSizeFaultOf}
 
 -- a number is told only where it passes its limit, the states before the ways; memory may be wanting before
--- the numbers are known
+-- the ways are known
 abbrev pub IsRefusalOf : ℕ → ℕ → SizeFault → Type 0
 IsRefusalOf states ways (States count) = IsSizeFaultOf states ways (States count)
 IsRefusalOf states ways (Ways count) = IsSizeFaultOf states ways (Ways count)

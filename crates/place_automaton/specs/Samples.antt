@@ -2,12 +2,11 @@
 use Rattle.std.specs.Prelude.{ℕ, [], ◌∷◌, None, Option}
 use Rattle.span_core.specs.declared.TheConstants.{MOST_VARIABLES}
 use Rattle.spanner_model.specs.Examples.{a, b, x}
-use Rattle.spanner_model.specs.Functional.{HasVar}
+use Rattle.spanner_model.specs.Sequential.{HasVar, IsSequential}
 use Rattle.span_core.specs.Lists.{AtMost}
 use Rattle.spanner_model.specs.Tree.{Tree, empty, cat_all, alt_all, rep, cap}
 use Rattle.spanner_model.specs.WellBuilt.{IsWellBuilt}
 use Rattle.place_automaton.specs.Examples.{maybe, times}
-use Rattle.place_automaton.specs.Sequential.{IsSequential}
 
 -- (a{1000}){19}a{999}
 abbrev pub long : Tree

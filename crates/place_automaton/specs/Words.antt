@@ -3,15 +3,14 @@ use Rattle.std.specs.Prelude.{◌≡◌, ℕ, ◌+◌, ◌*◌, ◌^◌, ◌≤�
 use Rattle.std.specs.Str.{bytes_eq}
 use Rattle.spanner_model.specs.Answer.{FitsSomewhere}
 use Rattle.spanner_model.specs.Captures.{VarName, Mapping, row_of}
-use Rattle.spanner_model.specs.Functional.{HasVar}
-use Rattle.place_automaton.specs.Sequential.{HasOrderedRepeats}
+use Rattle.spanner_model.specs.Sequential.{HasVar, IsSequential}
+use Rattle.place_automaton.specs.Repeats.{HasOrderedRepeats}
 use Rattle.span_core.specs.Lists.{Has, AreDistinct}
 use Rattle.span_core.specs.Block.{block}
 use Rattle.spanner_model.specs.Answers.{SpanRow}
 use Rattle.spanner_model.specs.Tree.{Tree}
 use Rattle.place_automaton.specs.Atom.{automaton_of_atom, AreBytes}
 use Rattle.marked_automaton.specs.Automaton.{Automaton, Accepts, IsWhole}
-use Rattle.place_automaton.specs.Sequential.{IsSequential}
 
 -- the bit of a variable's opening, and of its closing
 abbrev pub opening_of : List VarName → VarName → ℕ

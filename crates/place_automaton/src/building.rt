@@ -6,7 +6,7 @@ ghost use Rattle.std.specs.Prelude.{◌≡◌, ℕ, ◌+◌, ◌<◌, ◌≤◌,
 ghost use Rattle.span_core.specs.declared.TheConstants.{MOST_VARIABLES};
 ghost use Rattle.span_core.specs.NameSets.{Ascending};
 ghost use Rattle.spanner_model.specs.Captures.{VarName};
-ghost use Rattle.spanner_model.specs.Functional.{HasVar};
+ghost use Rattle.spanner_model.specs.Sequential.{HasVar, IsSequential};
 ghost use Rattle.span_core.specs.Lists.{Has, AreDistinct, AtMost};
 ghost use Rattle.spanner_model.specs.View.{tree_of};
 ghost use Rattle.spanner_model.specs.WellBuilt.{IsWellBuilt};
@@ -18,10 +18,9 @@ ghost use Rattle.place_automaton.specs.Capped.{capped};
 ghost use Rattle.place_automaton.specs.Counts.{count_states, count_ways};
 ghost use Rattle.place_automaton.specs.Made.{IsFinished, IsMade, end_stops, outer_ways};
 ghost use Rattle.place_automaton.specs.Refusals.{IsRefusalOf};
-ghost use Rattle.place_automaton.specs.Sequential.{IsSequential};
 ghost use Rattle.place_automaton.specs.Words.{atom_automaton};
 
-use crate::counting::{Counts, numbers_of};
+use crate::counting::{CountFault, TOO_MANY_WAYS, numbers_of, states_of_atom};
 use crate::null_sets::MOST_PAIRS;
 use crate::outer::{add_stop_unless, push_idle_unless, set_idle_unless};
 use crate::piece::Piece;
@@ -41,7 +40,7 @@ use std::alloc::Global;
 /// that they lead from. A state has an end for each set of markers with which the atom may end there.
 ///
 /// `SizeFault::States` and then `SizeFault::Ways` come where `count` tells more than `MOST_STATES` and
-/// `MOST_WAYS`, with the number that it tells, and only there. Memory may be wanting before the numbers are
+/// `MOST_WAYS`, with the number that it tells, and only there. Memory may be wanting before the ways are
 /// known; it is wanting past `MOST_ENDS` ends, which only captures that may be absent make.
 pub fn of_atom(alloc: Global, atom: &Atom) -> Result<Automaton, SizeFault>
     requires built { IsWellBuilt (tree_of atom.now.formula) }
@@ -59,13 +58,20 @@ pub fn of_atom(alloc: Global, atom: &Atom) -> Result<Automaton, SizeFault>
         (capped (count_states atom.now.from_start atom.now.to_end (tree_of atom.now.formula)))
         (capped (count_ways atom.now.from_start atom.now.to_end (tree_of atom.now.formula))) e) }
 {
-    let Ok(numbers) = numbers_of(alloc, &atom.formula) else {
-        return Err(SizeFault::OutOfMemory);
-    };
-    let Counts { states, ways } = numbers.counts(atom.from_start, atom.to_end);
+    let states = states_of_atom(atom);
     if states > u64::from(MOST_STATES) {
         return Err(SizeFault::States { count: states });
     }
+    let numbers = match numbers_of(alloc, &atom.formula) {
+        Ok(numbers) => numbers,
+        Err(CountFault::LargeNull) => {
+            return Err(SizeFault::Ways {
+                count: TOO_MANY_WAYS,
+            });
+        }
+        Err(CountFault::OutOfMemory) => return Err(SizeFault::OutOfMemory),
+    };
+    let ways = numbers.ways(atom.from_start, atom.to_end);
     if ways > MOST_WAYS as u64 {
         return Err(SizeFault::Ways { count: ways });
     }

@@ -1,29 +1,36 @@
 //! The numbers of an atom's automaton, before it is made.
 //!
-//! One walk over the tree tells whether an atom is too large; so nothing that is refused is built. Memory is taken for
-//! null alone, the sets of markers with which a part fits the empty string.
-ghost use Rattle.std.specs.Prelude.{◌≡◌, ℕ, ◌+◌, ◌-◌, ◌^◌, [], min, IfOk};
+//! Two walks over the tree, one for the states and one for the ways, tell whether an atom is too large; so nothing
+//! that is refused is built. Memory is taken for null alone, the sets of markers with which a part fits the empty
+//! string, and at most `MOST_SETS` of them are listed of each part.
+ghost use Rattle.std.specs.Prelude.{◌≡◌, ℕ, ◌+◌, ◌-◌, ◌^◌, ◌<◌, ◌≤◌, [], length, min, true, false, IfOk, IfErr, OnOk, OnErr};
 ghost use Rattle.span_core.specs.declared.TheConstants.{MOST_VARIABLES};
 ghost use Rattle.span_core.specs.Lists.{AreDistinct, AtMost, Has};
-ghost use Rattle.spanner_model.specs.Functional.{HasVar};
+ghost use Rattle.spanner_model.specs.Sequential.{HasVar, IsSequential};
 ghost use Rattle.spanner_model.specs.Tree.{Tree, cat_all, alt_all};
 ghost use Rattle.spanner_model.specs.View.{tree_of, trees_of};
 ghost use Rattle.spanner_model.specs.WellBuilt.{IsWellBuilt};
-ghost use Rattle.place_automaton.specs.Capped.{AreCapped};
-ghost use Rattle.place_automaton.specs.Counts.{PlaceCounts, counts_cap, counts_over, count_states, count_ways};
+ghost use Rattle.place_automaton.specs.declared.TheConstants.{MOST_SETS};
+ghost use Rattle.place_automaton.specs.declared.counting.CountFault.TheVariants.{LargeNull, OutOfMemory};
+ghost use Rattle.place_automaton.specs.Capped.{AreCapped, capped};
+ghost use Rattle.place_automaton.specs.Counts.{PlaceCounts, counts_cap, counts_over, count_states, count_ways, has_large_null, largest_null_over};
 ghost use Rattle.place_automaton.specs.Drafts.{AreNamed};
 ghost use Rattle.place_automaton.specs.Ends.{JoinAsSum};
-ghost use Rattle.place_automaton.specs.Sequential.{IsSequential};
 ghost use Rattle.place_automaton.specs.Variables.{with_vars};
 ghost use Rattle.place_automaton.specs.Words.{opening_of, closing_of};
 
 use crate::null_sets::MOST_PAIRS;
 use crate::numbers::Numbers;
+use crate::place_count::count_places;
 use crate::placing::is_once;
 use crate::variables::vars_of;
+use marked_automaton::MOST_WAYS;
 use span_core::{Marks, Name, OutOfMemory, VarSet};
 use spanner_model::{Atom, Formula, Parts};
 use std::alloc::Global;
+
+/// The ways that are told of an atom of which null is too large somewhere.
+pub(crate) const TOO_MANY_WAYS: u64 = MOST_WAYS as u64 + 1;
 
 /// The numbers of an atom's automaton. A number past 2^64 - 1 is kept as 2^64 - 1.
 #[derive(Clone, Copy, Debug, PartialEq, Eq)]
@@ -34,11 +41,30 @@ pub struct Counts {
     pub ways: u64,
 }
 
+/// Why the ways of an atom's automaton are not counted.
+pub(crate) enum CountFault {
+    /// Some part of the formula, or the first parts of a concatenation, fits the empty string with more than
+    /// `MOST_SETS` sets of markers.
+    LargeNull,
+    /// Want of memory.
+    OutOfMemory,
+}
+
+impl From<OutOfMemory> for CountFault {
+    ghost from_gives = { λ _ e. e ≡ OutOfMemory };
+
+    fn from(_error: OutOfMemory) -> CountFault {
+        CountFault::OutOfMemory
+    }
+}
+
 /// The numbers of the automaton of an atom, by its formula alone.
 ///
-/// It looks at each formula of the tree once, and counts at most its greatest number of copies for each
+/// It looks at each formula of the tree twice, and counts at most its greatest number of copies for each
 /// repetition. The sets of captures with which the empty string fits are listed, since two arms may have some
-/// in common; memory is taken for them, and is wanting too where too many of them meet in alternations.
+/// in common; memory is taken for them, and is wanting too where too many of them meet in alternations. Where
+/// more than `MOST_SETS` would be listed of one part, or of the first parts of a concatenation, the ways are
+/// told as one more than `MOST_WAYS`.
 pub fn count(alloc: Global, atom: &Atom) -> Result<Counts, OutOfMemory>
     requires built { IsWellBuilt (tree_of atom.now.formula) }
     requires sequential { IsSequential (tree_of atom.now.formula) }
@@ -46,16 +72,36 @@ pub fn count(alloc: Global, atom: &Atom) -> Result<Counts, OutOfMemory>
     ensures states { IfOk result (λ c. c.states ≡ min (count_states atom.now.from_start atom.now.to_end (tree_of atom.now.formula)) (2 ^ 64 - 1)) }
     ensures ways { IfOk result (λ c. c.ways ≡ min (count_ways atom.now.from_start atom.now.to_end (tree_of atom.now.formula)) (2 ^ 64 - 1)) }
 {
-    let numbers = numbers_of(alloc, &atom.formula)?;
-    Ok(numbers.counts(atom.from_start, atom.to_end))
+    let states = states_of_atom(atom);
+    let ways = match numbers_of(alloc, &atom.formula) {
+        Ok(numbers) => numbers.ways(atom.from_start, atom.to_end),
+        Err(CountFault::LargeNull) => TOO_MANY_WAYS,
+        Err(CountFault::OutOfMemory) => return Err(OutOfMemory),
+    };
+    Ok(Counts { states, ways })
 }
 
-/// The numbers of a formula's places.
-pub(crate) fn numbers_of(alloc: Global, formula: &Formula) -> Result<Numbers, OutOfMemory>
+/// The states of the automaton of the atom, or 2^64 - 1 where they are more.
+pub(crate) fn states_of_atom(atom: &Atom) -> u64
+    requires { IsWellBuilt (tree_of atom.now.formula) }
+    ensures { result ≡ capped (count_states atom.now.from_start atom.now.to_end (tree_of atom.now.formula)) }
+{
+    let inner = count_places(&atom.formula).saturating_add(1);
+    if atom.to_end {
+        inner
+    } else {
+        inner.saturating_add(1)
+    }
+}
+
+/// The numbers of a formula.
+pub(crate) fn numbers_of(alloc: Global, formula: &Formula) -> Result<Numbers, CountFault>
     requires built { IsWellBuilt (tree_of formula.now) }
     requires sequential { IsSequential (tree_of formula.now) }
     requires few { AtMost MOST_VARIABLES (HasVar (tree_of formula.now)) }
-    ensures { IfOk result (λ n. AreCapped (counts_over (with_vars [] (tree_of formula.now)) (tree_of formula.now)) n) }
+    ensures ok { IfOk result (λ n. AreCapped (counts_over (with_vars [] (tree_of formula.now)) (tree_of formula.now)) n) }
+    ensures small { OnOk result (has_large_null (tree_of formula.now) ≡ false) }
+    ensures err { IfErr result (λ e. e ≡ LargeNull → has_large_null (tree_of formula.now) ≡ true) }
 {
     let vars = vars_of(formula);
     let mut left = MOST_PAIRS;
@@ -68,24 +114,26 @@ fn count_formula(
     vars: &VarSet,
     formula: &Formula,
     left: &mut u64,
-) -> Result<Numbers, OutOfMemory>
+) -> Result<Numbers, CountFault>
     requires built { IsWellBuilt (tree_of formula.now) }
     requires sequential { IsSequential (tree_of formula.now) }
     requires distinct { AreDistinct vars.now }
     requires named { AreNamed vars.now (tree_of formula.now) }
-    ensures { IfOk result (λ n. AreCapped (counts_over vars.now (tree_of formula.now)) n) }
+    ensures ok { IfOk result (λ n. AreCapped (counts_over vars.now (tree_of formula.now)) n) }
+    ensures small { OnOk result (largest_null_over vars.now (tree_of formula.now) ≤ MOST_SETS) }
+    ensures err { IfErr result (λ e. e ≡ LargeNull → MOST_SETS < largest_null_over vars.now (tree_of formula.now)) }
 {
     match formula {
-        Formula::Empty => Numbers::nothing(alloc),
+        Formula::Empty => Ok(Numbers::nothing(alloc)?),
         Formula::One(_) => Ok(Numbers::one(alloc)),
         Formula::Cat(parts) => count_parts(alloc, vars, parts, left),
         Formula::Alt(arms) => count_arms(alloc, vars, arms, left),
         Formula::Rep(sub, least, most) => {
             let numbers = count_formula(alloc, vars, sub, left)?;
             if is_once(*most) {
-                return numbers.opt_if(*least == 0);
+                return listed(numbers.opt_if(*least == 0)?);
             }
-            numbers.repeated(alloc, *least, *most, left)
+            listed(numbers.repeated(alloc, *least, *most)?)
         }
         Formula::Cap(name, sub) => {
             let numbers = count_formula(alloc, vars, sub, left)?;
@@ -94,26 +142,41 @@ fn count_formula(
     }
 }
 
-/// The numbers of a concatenation.
+/// The numbers, unless null is too large.
+fn listed(numbers: Numbers) -> Result<Numbers, CountFault>
+    ensures ok { IfOk result (λ n. n ≡ numbers) }
+    ensures small { OnOk result (length numbers.null.items ≤ MOST_SETS) }
+    ensures err { OnErr result (MOST_SETS < length numbers.null.items) }
+{
+    if numbers.has_large_null() {
+        return Err(CountFault::LargeNull);
+    }
+    Ok(numbers)
+}
+
+/// The numbers of a concatenation, whose parts are joined from left to right.
 #[cycle(count)]
 fn count_parts(
     alloc: Global,
     vars: &VarSet,
     parts: &Parts,
     left: &mut u64,
-) -> Result<Numbers, OutOfMemory>
+) -> Result<Numbers, CountFault>
     requires built { (f : Tree) → Has (trees_of parts.now) f → IsWellBuilt f }
     requires sequential { IsSequential (cat_all (trees_of parts.now)) }
     requires distinct { AreDistinct vars.now }
     requires named { AreNamed vars.now (cat_all (trees_of parts.now)) }
-    ensures { IfOk result (λ n. AreCapped (counts_over vars.now (cat_all (trees_of parts.now))) n) }
+    ensures ok { IfOk result (λ n. AreCapped (counts_over vars.now (cat_all (trees_of parts.now))) n) }
+    ensures small { OnOk result (largest_null_over vars.now (cat_all (trees_of parts.now)) ≤ MOST_SETS) }
+    ensures err { IfErr result (λ e. e ≡ LargeNull → MOST_SETS < largest_null_over vars.now (cat_all (trees_of parts.now))) }
 {
     let mut numbers = Numbers::nothing(alloc)?;
-    let mut waiting = parts.len();
-    while waiting > 0 {
-        waiting -= 1;
-        let part = count_formula(alloc, vars, parts.at(waiting), left)?;
-        numbers = part.cat(alloc, numbers, left)?;
+    for k in 0..parts.len() {
+        let part = count_formula(alloc, vars, parts.at(k), left)?;
+        if numbers.has_large_join(&part) {
+            return Err(CountFault::LargeNull);
+        }
+        numbers = numbers.cat(alloc, part)?;
     }
     Ok(numbers)
 }
@@ -125,19 +188,21 @@ fn count_arms(
     vars: &VarSet,
     arms: &Parts,
     left: &mut u64,
-) -> Result<Numbers, OutOfMemory>
+) -> Result<Numbers, CountFault>
     requires built { (f : Tree) → Has (trees_of arms.now) f → IsWellBuilt f }
     requires sequential { IsSequential (alt_all (trees_of arms.now)) }
     requires distinct { AreDistinct vars.now }
     requires named { AreNamed vars.now (alt_all (trees_of arms.now)) }
-    ensures { IfOk result (λ n. AreCapped (counts_over vars.now (alt_all (trees_of arms.now))) n) }
+    ensures ok { IfOk result (λ n. AreCapped (counts_over vars.now (alt_all (trees_of arms.now))) n) }
+    ensures small { OnOk result (largest_null_over vars.now (alt_all (trees_of arms.now)) ≤ MOST_SETS) }
+    ensures err { IfErr result (λ e. e ≡ LargeNull → MOST_SETS < largest_null_over vars.now (alt_all (trees_of arms.now))) }
 {
     let mut numbers = Numbers::never(alloc);
     let mut waiting = arms.len();
     while waiting > 0 {
         waiting -= 1;
         let arm = count_formula(alloc, vars, arms.at(waiting), left)?;
-        numbers = arm.alt(numbers, left)?;
+        numbers = listed(arm.alt(numbers, left)?)?;
     }
     Ok(numbers)
 }

@@ -2,7 +2,7 @@
 ghost use Rattle.place_automaton.specs.Atom.{AtomLaw};
 ghost use Rattle.place_automaton.specs.CountLaw.{CountLaw, FunctionalCountLaw};
 ghost use Rattle.place_automaton.specs.Examples.{CountsOfTheExamples};
-ghost use Rattle.place_automaton.specs.Sequential.{FunctionalIsSequential, WellBuiltRepeats};
+ghost use Rattle.place_automaton.specs.Repeats.{WellBuiltRepeats};
 ghost use Rattle.place_automaton.specs.Words.{AtomRowLaw, WholeLaw};
 
 /// The automaton of an atom accepts exactly what the atom's formula fits, with the blocks of the captures.
@@ -15,7 +15,8 @@ pub fn atoms_accept_the_words_of_their_rows()
     ensures { AtomRowLaw }
 {}
 
-/// The numbers of an atom, by its formula alone, are those of its automaton, whatever the formula.
+/// The numbers of an atom, by its formula alone, are those of its automaton, whatever the formula: the states always,
+/// and the ways where no null is too large to be listed.
 pub fn counts_are_those_of_the_automaton()
     ensures { CountLaw }
 {}
@@ -25,7 +26,7 @@ pub fn counts_of_functional_formulas()
     ensures { FunctionalCountLaw }
 {}
 
-/// The numbers of four atoms.
+/// The numbers of a few atoms.
 pub fn counts_of_the_examples()
     ensures { CountsOfTheExamples }
 {}
@@ -33,11 +34,6 @@ pub fn counts_of_the_examples()
 /// The automaton of an atom has no way, end or idle state but of its own states.
 pub fn the_automaton_of_an_atom_is_whole()
     ensures { WholeLaw }
-{}
-
-/// A functional formula is sequential.
-pub fn functional_formulas_are_sequential()
-    ensures { FunctionalIsSequential }
 {}
 
 /// The repetitions of a well built formula have their numbers in order.

@@ -17,6 +17,7 @@ mod null_sets;
 mod numbers;
 mod outer;
 mod piece;
+mod place_count;
 mod placing;
 #[cfg(test)]
 mod tests;
@@ -24,6 +25,10 @@ mod variables;
 
 /// The number of the state Before, in which the automaton of an atom begins.
 pub(crate) const BEFORE: u32 = 0;
+
+/// The most sets of markers that are listed of those with which a part of a formula, or the first parts of a
+/// concatenation, fits the empty string. Past it the ways are not counted, and the atom is refused for them.
+pub const MOST_SETS: usize = 65_536;
 
 /// The most ends of an automaton that is made. Where captures may be absent, a place may have an end for each
 /// set of them.

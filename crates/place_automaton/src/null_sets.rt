@@ -8,11 +8,11 @@ ghost use Rattle.place_automaton.specs.Places.{add_once, either_once, sums};
 use span_core::{Marks, OutOfMemory};
 use std::alloc::Global;
 
-/// The most pairs of sets that are looked at while an atom is counted, and again while it is placed. Past
+/// The most pairs of sets that are compared while an atom is counted, and again while it is placed. Past
 /// it memory is wanting: a few arms with thirteen captures each, all of which may be absent, come near it.
 pub(crate) const MOST_PAIRS: u64 = 400_000_000;
 
-/// Takes so many times so many pairs from those that may still be looked at.
+/// Takes so many times so many pairs from those that may still be compared.
 pub(crate) fn spend(front: usize, behind: usize, left: &mut u64) -> Result<(), OutOfMemory> {
     let pairs = (front as u64).saturating_mul(behind as u64);
     *left = left.checked_sub(pairs).ok_or(OutOfMemory)?;
@@ -86,21 +86,24 @@ fn is_only_none(sets: &[Marks]) -> bool
 /// Each set of the one, joined with each of the other.
 pub(crate) fn joined_with(
     alloc: Global,
-    front: &[Marks],
+    front: Vec<Marks>,
     mut behind: Vec<Marks>,
 ) -> Result<Vec<Marks>, OutOfMemory>
-    requires { (m n : ℕ) → Has front.now m → Has behind.items n → JoinAsSum m n }
-    ensures { IfOk result (λ v. v.items ≡ sums front.now behind.items) }
+    requires { (m n : ℕ) → Has front.items m → Has behind.items n → JoinAsSum m n }
+    ensures { IfOk result (λ v. v.items ≡ sums front.items behind.items) }
 {
     if front.is_empty() {
         behind.clear();
         return Ok(behind);
     }
-    if is_only_none(front) {
+    if is_only_none(&front) {
         return Ok(behind);
     }
+    if is_only_none(&behind) {
+        return Ok(front);
+    }
     let mut all = Vec::new(alloc);
-    for marks in front {
+    for marks in &front {
         push_joined(*marks, &behind, &mut all)?;
     }
     Ok(all)

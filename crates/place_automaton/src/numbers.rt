@@ -1,26 +1,25 @@
-//! The numbers of a formula's places, without the places.
+//! The numbers of what stands between a formula's places and at its ends, without the places.
 //!
-//! Places, sides and ways of a part are counted from those of its parts by the rules of the construction, in numbers
+//! Sides and ways of a part are counted from those of its parts by the rules of the construction, in numbers
 //! that stop at 2^64 - 1: sums and products that stop there tell the least of the true number and the greatest.
-ghost use Rattle.std.specs.Prelude.{◌≡◌, ℕ, ◌+◌, ◌-◌, Some, IfOk, if◌then◌else◌};
+ghost use Rattle.std.specs.Prelude.{◌≡◌, ◌↔◌, ◌<◌, ℕ, ◌+◌, ◌-◌, ◌*◌, Some, length, IfOk, IsTrue, if◌then◌else◌};
+ghost use Rattle.place_automaton.specs.declared.TheConstants.{MOST_SETS};
 ghost use Rattle.span_core.specs.Lists.{Has};
 ghost use Rattle.place_automaton.specs.Capped.{AreCapped, capped};
-ghost use Rattle.place_automaton.specs.Counts.{PlaceCounts, counts_nothing, counts_never, counts_one, counts_cat, counts_alt, counts_opt, counts_plus, counts_cap, counts_copies, counts_at_most, counts_repeated, states_of, ways_of};
+ghost use Rattle.place_automaton.specs.Counts.{PlaceCounts, counts_nothing, counts_never, counts_one, counts_cat, counts_alt, counts_opt, counts_plus, counts_cap, counts_copies, counts_at_most, counts_repeated, ways_of};
 ghost use Rattle.place_automaton.specs.Ends.{JoinAsSum};
 ghost use Rattle.place_automaton.specs.Places.{add_once, sums};
 
-use crate::counting::Counts;
+use crate::MOST_SETS;
 use crate::null_sets::{
     add_unless_there, copied_sets, either_of, joined_with, mark_each, only_none, spend,
 };
 use span_core::{Marks, OutOfMemory};
 use std::alloc::Global;
 
-/// The numbers of a formula's places. A number past 2^64 - 1 is kept as 2^64 - 1.
+/// The numbers of a part of a formula. A number past 2^64 - 1 is kept as 2^64 - 1.
 #[derive(Drop)]
 pub(crate) struct Numbers {
-    /// The places.
-    pub(crate) places: u64,
     /// The sets of markers with which the empty string fits.
     pub(crate) null: Vec<Marks>,
     /// The ways into the places that a match may begin with.
@@ -37,7 +36,6 @@ impl Numbers {
         ensures { IfOk result (λ n. AreCapped counts_nothing n) }
     {
         Ok(Numbers {
-            places: 0,
             null: only_none(alloc)?,
             first: 0,
             last: 0,
@@ -50,7 +48,6 @@ impl Numbers {
         ensures { AreCapped counts_never result }
     {
         Numbers {
-            places: 0,
             null: Vec::new(alloc),
             first: 0,
             last: 0,
@@ -63,7 +60,6 @@ impl Numbers {
         ensures { AreCapped counts_one result }
     {
         Numbers {
-            places: 1,
             null: Vec::new(alloc),
             first: 1,
             last: 1,
@@ -71,24 +67,44 @@ impl Numbers {
         }
     }
 
-    /// Those of a concatenation of this and the rest. So many pairs of sets may still be looked at.
-    pub(crate) fn cat(
-        &self,
-        alloc: Global,
-        rest: Numbers,
-        left: &mut u64,
-    ) -> Result<Numbers, OutOfMemory>
-        requires { (m n : ℕ) → Has self.now.null.items m → Has rest.null.items n → JoinAsSum m n }
-        ensures null { IfOk result (λ c. c.null.items ≡ sums self.now.null.items rest.null.items) }
-        ensures capped { (a b : PlaceCounts) → AreCapped a self.now → AreCapped b rest → IfOk result (λ c. AreCapped (counts_cat a b) c) }
+    /// Those of this once more.
+    fn again(&self, alloc: Global) -> Result<Numbers, OutOfMemory>
+        ensures null { IfOk result (λ c. c.null.items ≡ self.now.null.items) }
+        ensures capped { (a : PlaceCounts) → AreCapped a self.now → IfOk result (λ c. AreCapped a c) }
     {
-        spend(self.null.len(), rest.null.len(), left)?;
+        Ok(Numbers {
+            null: copied_sets(alloc, &self.null)?,
+            first: self.first,
+            last: self.last,
+            follow: self.follow,
+        })
+    }
+
+    /// Whether more sets are there than are listed.
+    pub(crate) fn has_large_null(&self) -> bool
+        ensures { IsTrue result ↔ (MOST_SETS < length self.now.null.items) }
+    {
+        self.null.len() > MOST_SETS
+    }
+
+    /// Whether the sets of this, each joined with each of the rest, are more than are listed.
+    pub(crate) fn has_large_join(&self, rest: &Numbers) -> bool
+        ensures { IsTrue result ↔ (MOST_SETS < length self.now.null.items * length rest.now.null.items) }
+    {
+        self.null.len().saturating_mul(rest.null.len()) > MOST_SETS
+    }
+
+    /// Those of a concatenation of this and the rest.
+    pub(crate) fn cat(self, alloc: Global, rest: Numbers) -> Result<Numbers, OutOfMemory>
+        requires { (m n : ℕ) → Has self.null.items m → Has rest.null.items n → JoinAsSum m n }
+        ensures null { IfOk result (λ c. c.null.items ≡ sums self.null.items rest.null.items) }
+        ensures capped { (a b : PlaceCounts) → AreCapped a self → AreCapped b rest → IfOk result (λ c. AreCapped (counts_cat a b) c) }
+    {
         let sets = self.null.len() as u64;
         let rest_sets = rest.null.len() as u64;
         let between = self.last.saturating_mul(rest.first);
-        let null = joined_with(alloc, &self.null, rest.null)?;
+        let null = joined_with(alloc, self.null, rest.null)?;
         Ok(Numbers {
-            places: self.places.saturating_add(rest.places),
             null,
             first: self.first.saturating_add(sets.saturating_mul(rest.first)),
             last: rest
@@ -101,7 +117,7 @@ impl Numbers {
         })
     }
 
-    /// Those of an alternation of this and the rest. So many pairs of sets may still be looked at.
+    /// Those of an alternation of this and the rest. So many pairs of sets may still be compared.
     pub(crate) fn alt(self, rest: Numbers, left: &mut u64) -> Result<Numbers, OutOfMemory>
         ensures { (a b : PlaceCounts) → AreCapped a self → AreCapped b rest → IfOk result (λ c. AreCapped (counts_alt a b) c) }
     {
@@ -109,7 +125,6 @@ impl Numbers {
         spend(sets, sets.saturating_add(rest.null.len()), left)?;
         let null = either_of(self.null, rest.null)?;
         Ok(Numbers {
-            places: self.places.saturating_add(rest.places),
             null,
             first: self.first.saturating_add(rest.first),
             last: self.last.saturating_add(rest.last),
@@ -125,7 +140,6 @@ impl Numbers {
         let mut null = self.null;
         add_unless_there(Marks::none(), &mut null)?;
         Ok(Numbers {
-            places: self.places,
             null,
             first: self.first,
             last: self.last,
@@ -147,7 +161,6 @@ impl Numbers {
     {
         let between = self.last.saturating_mul(self.first);
         Ok(Numbers {
-            places: self.places,
             null: copied_sets(alloc, &self.null)?,
             first: self.first,
             last: self.last,
@@ -163,7 +176,6 @@ impl Numbers {
         let mut null = self.null;
         mark_each(both, &mut null);
         Numbers {
-            places: self.places,
             null,
             first: self.first,
             last: self.last,
@@ -172,33 +184,27 @@ impl Numbers {
     }
 
     /// Those of so many copies of this, and then the rest. No marker stands in them.
-    fn copies(
-        &self,
-        alloc: Global,
-        count: u16,
-        rest: Numbers,
-        left: &mut u64,
-    ) -> Result<Numbers, OutOfMemory>
+    fn copies(&self, alloc: Global, count: u16, rest: Numbers) -> Result<Numbers, OutOfMemory>
         requires bare { (m : ℕ) → Has self.now.null.items m → m ≡ 0 }
         requires bare_rest { (m : ℕ) → Has rest.null.items m → m ≡ 0 }
         ensures { (a b : PlaceCounts) → AreCapped a self.now → AreCapped b rest → IfOk result (λ c. AreCapped (counts_copies count a b) c) }
     {
         let mut numbers = rest;
         for _copy in 0..count {
-            numbers = self.cat(alloc, numbers, left)?;
+            numbers = self.again(alloc)?.cat(alloc, numbers)?;
         }
         Ok(numbers)
     }
 
     /// Those of so many copies of this at most. No marker stands in them.
-    fn at_most(&self, alloc: Global, count: u16, left: &mut u64) -> Result<Numbers, OutOfMemory>
+    fn at_most(&self, alloc: Global, count: u16) -> Result<Numbers, OutOfMemory>
         requires { (m : ℕ) → Has self.now.null.items m → m ≡ 0 }
         ensures bare { IfOk result (λ c. (m : ℕ) → Has c.null.items m → m ≡ 0) }
         ensures capped { (a : PlaceCounts) → AreCapped a self.now → IfOk result (λ c. AreCapped (counts_at_most count a) c) }
     {
         let mut numbers = Numbers::nothing(alloc)?;
         for _copy in 0..count {
-            numbers = self.cat(alloc, numbers, left)?.opt()?;
+            numbers = self.again(alloc)?.cat(alloc, numbers)?.opt()?;
         }
         Ok(numbers)
     }
@@ -209,7 +215,6 @@ impl Numbers {
         alloc: Global,
         least: u16,
         most: Option<u16>,
-        left: &mut u64,
     ) -> Result<Numbers, OutOfMemory>
         requires { (m : ℕ) → Has self.now.null.items m → m ≡ 0 }
         ensures { (a : PlaceCounts) → AreCapped a self.now → IfOk result (λ c. AreCapped (counts_repeated least most a) c) }
@@ -218,33 +223,30 @@ impl Numbers {
             None if least == 0 => self.plus(alloc)?.opt(),
             None => {
                 let plus = self.plus(alloc)?;
-                self.copies(alloc, least - 1, plus, left)
+                self.copies(alloc, least - 1, plus)
             }
             Some(most) => {
-                let optional = self.at_most(alloc, most.saturating_sub(least), left)?;
-                self.copies(alloc, least, optional, left)
+                let optional = self.at_most(alloc, most.saturating_sub(least))?;
+                self.copies(alloc, least, optional)
             }
         }
     }
 
-    /// The numbers of the automaton of an atom with this formula.
-    pub(crate) fn counts(&self, from_start: bool, to_end: bool) -> Counts
-        ensures states { (a : PlaceCounts) → AreCapped a self.now → result.states ≡ capped (states_of to_end a) }
-        ensures ways { (a : PlaceCounts) → AreCapped a self.now → result.ways ≡ capped (ways_of from_start to_end a) }
+    /// The ways of the automaton of an atom with this formula.
+    pub(crate) fn ways(&self, from_start: bool, to_end: bool) -> u64
+        ensures { (a : PlaceCounts) → AreCapped a self.now → result ≡ capped (ways_of from_start to_end a) }
     {
-        let mut states = self.places.saturating_add(1);
         let mut ways = self.first.saturating_add(self.follow);
         if !from_start {
             ways = ways.saturating_add(1);
         }
         if !to_end {
-            states = states.saturating_add(1);
             ways = ways
                 .saturating_add(self.last)
                 .saturating_add(self.null.len() as u64)
                 .saturating_add(1);
         }
-        Counts { states, ways }
+        ways
     }
 
     /// How many ends the automaton of an atom with this formula has, but for that of After.

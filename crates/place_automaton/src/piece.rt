@@ -116,7 +116,7 @@ impl Piece {
         push_ways(&self.last, &rest.first, ways)?;
         let first = all_entries(self.first, &self.null, rest.first)?;
         let last = all_stops(rest.last, &rest.null, self.last)?;
-        let null = joined_with(alloc, &self.null, rest.null)?;
+        let null = joined_with(alloc, self.null, rest.null)?;
         Ok(Piece { null, first, last })
     }
 
@@ -136,7 +136,7 @@ impl Piece {
         both.opt_if(optional)
     }
 
-    /// This or the other. So many pairs of sets may still be looked at.
+    /// This or the other. So many pairs of sets may still be compared.
     pub(crate) fn alt(self, other: Piece, left: &mut u64) -> Result<Piece, OutOfMemory>
         ensures { IfOk result (λ p. p ≡ alt_ends self other) }
     {

@@ -16,7 +16,7 @@ ghost use Rattle.place_automaton.specs.Drafts.{AreNamed, HasPlaced, copies_of, p
 ghost use Rattle.place_automaton.specs.Ends.{CanCapture, cap_ends, ends_of};
 ghost use Rattle.place_automaton.specs.Moves.{LieBelow, places_moved};
 ghost use Rattle.place_automaton.specs.Places.{Places};
-ghost use Rattle.place_automaton.specs.Sequential.{HasNoVar, IsSequential};
+ghost use Rattle.spanner_model.specs.Sequential.{HasNoVar, IsSequential};
 ghost use Rattle.place_automaton.specs.Words.{opening_of, closing_of};
 
 use crate::moving::push_moved_ways;
@@ -33,7 +33,7 @@ pub(crate) struct Draft {
     pub(crate) next: u32,
     /// The ways between places.
     pub(crate) ways: Vec<Way>,
-    /// How many pairs of sets of markers may still be looked at.
+    /// How many pairs of sets of markers may still be compared.
     pub(crate) left: u64,
 }
 
@@ -258,7 +258,7 @@ pub(crate) fn is_once(most: Option<u16>) -> bool
 }
 
 /// How many copies of its formula a repetition is written out as.
-fn copies_of(least: u16, most: Option<u16>) -> u16
+pub(crate) fn copies_of(least: u16, most: Option<u16>) -> u16
     ensures { result ≡ copies_of least most }
 {
     match most {

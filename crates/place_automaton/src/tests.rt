@@ -1,8 +1,9 @@
 //! Numbers that are worked out by hand, automata at the limits, and a small one way by way.
-ghost use Rattle.std.specs.Prelude.{◌≡◌, IfOk, IfSome, [], ◌∷◌, None};
+ghost use Rattle.std.specs.Prelude.{◌≡◌, ◌≤◌, IfOk, IfSome, [], ◌∷◌, None};
+ghost use Rattle.spanner_model.specs.Tree.{cat_all};
 ghost use Rattle.spanner_model.specs.Examples.{a, b, x};
 ghost use Rattle.spanner_model.specs.View.{tree_of, trees_of};
-ghost use Rattle.place_automaton.specs.Examples.{maybe, times, star_in_x, optional_x};
+ghost use Rattle.place_automaton.specs.Examples.{maybe, times, star_in_x, optional_x, optionals};
 ghost use Rattle.place_automaton.specs.Samples.{IsSample, long, wide, nothing_often, a_and_maybe_b, often_in_x, star_of, stars_of_maybes, stars_of_two, million, x_or_b};
 
 use crate::{count, of_atom};
@@ -266,7 +267,7 @@ fn a_star_of_a_star_has_the_ways_that_are_counted(rt: HostRuntime) {
 }
 
 /// Whether there is a way between these states with these markers, on each of the letters or on no other.
-fn has_way(automaton: &Automaton, from: u32, marks: u32, to: u32, all: bool) -> bool {
+fn has_way(automaton: &Automaton, from: u32, marks: u64, to: u32, all: bool) -> bool {
     for way in automaton.ways() {
         let same = way.from == from && way.to == to && way.marks.number() == marks;
         if same && way.bytes.contains(b'a') && way.bytes.contains(b'b') == all {
@@ -276,7 +277,7 @@ fn has_way(automaton: &Automaton, from: u32, marks: u32, to: u32, all: bool) -> 
     false
 }
 
-fn has_stop(automaton: &Automaton, state: u32, marks: u32) -> bool {
+fn has_stop(automaton: &Automaton, state: u32, marks: u64) -> bool {
     for stop in automaton.stops() {
         if stop.state == state && stop.marks.number() == marks {
             return true;
@@ -317,7 +318,7 @@ fn a_star_in_a_capture(rt: HostRuntime) {
 
 /// Whether there is a way between these states with these markers, on this one of the letters and not on
 /// the other.
-fn has_way_on(automaton: &Automaton, letter: u8, from: u32, marks: u32, to: u32) -> bool {
+fn has_way_on(automaton: &Automaton, letter: u8, from: u32, marks: u64, to: u32) -> bool {
     for way in automaton.ways() {
         let same = way.from == from && way.to == to && way.marks.number() == marks;
         let a = way.bytes.contains(b'a');
@@ -491,4 +492,36 @@ fn arms_of_which_one_captures(rt: HostRuntime) {
     assert_eq!(rt; automaton.stops().len(), 2);
     assert!(rt; has_stop(&automaton, 1, 1));
     assert!(rt; has_stop(&automaton, 2, 0));
+}
+
+/// `(!a{()})?(!b{()})?..`: so many captures of nothing, each of which may be absent.
+fn optionals(alloc: Global, count: u8) -> Result<Formula, OutOfMemory>
+    requires { count ≤ 26 }
+    ensures { IfOk result (λ f. tree_of f ≡ cat_all (optionals 97 count)) }
+{
+    let mut parts = Parts::new(alloc);
+    for k in 0..count {
+        let Some(name) = Name::read(&[b'a' + k]) else {
+            return Err(OutOfMemory);
+        };
+        let nothing = Formula::Cap(name, Box::new(alloc, Formula::Empty)?);
+        if parts.push(maybe(alloc, nothing)?).is_err() {
+            return Err(OutOfMemory);
+        }
+    }
+    Ok(Formula::Cat(parts))
+}
+
+/// Sixteen and seventeen captures that may be absent, with 65,536 and 131,072 sets of markers.
+fn many_sets(alloc: Global) -> Result<[Result<(u64, u64), SizeFault>; 2], OutOfMemory> {
+    let sixteen = made(alloc, optionals(alloc, 16)?, true, true);
+    let seventeen = made(alloc, optionals(alloc, 17)?, true, true);
+    Ok([sixteen, seventeen])
+}
+
+#[test]
+fn refuses_more_sets_than_are_listed(rt: HostRuntime) {
+    let [sixteen, seventeen] = many_sets(rt.alloc()).expect(&rt, "there is memory");
+    assert_eq!(rt; sixteen, Ok((1, 0)));
+    assert_eq!(rt; seventeen, Err(SizeFault::Ways { count: 2_000_001 }));
 }

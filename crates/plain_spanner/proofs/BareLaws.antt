@@ -4,7 +4,7 @@ use Rattle.std.specs.Prelude.{slice_get}
 use Rattle.span_core.specs.Lists.{Has}
 use Rattle.spanner_model.specs.Captures.{VarName}
 use Rattle.spanner_model.specs.Tree.{Tree, cat_all}
-use Rattle.spanner_model.specs.Functional.{HasVar}
+use Rattle.spanner_model.specs.Sequential.{HasVar}
 use Rattle.span_core.proofs.HasLaws.{Has-append_cases, Has-take}
 use Rattle.spanner_model.proofs.TreeLaws.{take_at_more, parts_have, part_has}
 use Rattle.plain_spanner.specs.Listed.{IsBare}

@@ -1,17 +1,17 @@
 -- Lists of fits, of which those with the same captures stand together.
-use Rattle.std.proofs.Common.{◌≡◌, ℕ, ◌≤◌, ◌⊎◌, List, [], ◌∷◌, ◌++◌, length, take, Some, inl, inr, refl, sym, ap, ◌∙◌, subst, arith, append_assoc}
+use Rattle.std.proofs.Common.{◌≡◌, ℕ, zero, suc, ◌≤◌, ◌⊎◌, List, [], ◌∷◌, ◌++◌, length, take, Some, inl, inr, refl, sym, ap, ◌∙◌, subst, arith, append_assoc}
 use Rattle.std.specs.Prelude.{slice_get}
 use Rattle.span_core.specs.declared.span.Span.{Span}
 use Rattle.span_core.specs.OrderLaws.{span_eq}
 use Rattle.span_core.specs.Lists.{Has}
 use Rattle.spanner_model.specs.Captures.{VarName, Captures, AreApart}
-use Rattle.spanner_model.specs.Tree.{Tree, cap, cat_all, alt_all}
-use Rattle.spanner_model.specs.Fit.{Piece, Then, Nothing, Fit}
-use Rattle.spanner_model.specs.Functional.{HasVar, IsFunctional}
+use Rattle.spanner_model.specs.Tree.{Tree, rep, cap, cat_all, alt_all}
+use Rattle.spanner_model.specs.Fit.{Piece, Then, Nothing, Times, Fit}
+use Rattle.spanner_model.specs.Sequential.{HasVar, IsSequential}
 use Rattle.spanner_model.proofs.FitLaws.{fit_only_vars, fit_le, fit_within}
 use Rattle.span_core.proofs.HasLaws.{Has-append_left, Has-append_right, Has-append_cases}
 use Rattle.plain_spanner.specs.Listed.{Tells, FromSome, EndAndCaptures, CapturesAndEnds, HasFit, Continued, AreWithin, LeadsOn, CapturedTo, CapturedAt, CapturedFrom}
-use Rattle.plain_spanner.proofs.PartLists.{append_nil, arm_of, of_arm, parts_apart}
+use Rattle.plain_spanner.proofs.PartLists.{append_nil, one_part, part_one, arm_of, of_arm, parts_apart}
 
 -- ---- branches
 
@@ -42,9 +42,6 @@ of_branch m ends f h = elim h.1 as (λ _. (m ≡ f.1) × Has ends f.0) [
 
 pub branch_of : (m : Captures) (ends : List ℕ) (f : EndAndCaptures) → m ≡ f.1 → Has ends f.0 → HasFit ((m, ends) ∷ []) f
 branch_of m ends f e h = (ends, inl (ap (λ (n : Captures). let b : CapturesAndEnds = (n, ends) in b) e), h)
-
-pub fits_of_branch : (b : CapturesAndEnds) → Tells (HasFit (b ∷ [])) (λ f. (b.0 ≡ f.1) × Has b.1 f.0)
-fits_of_branch b = record { each_so = λ f h. of_branch b.0 b.1 f h; all_there = λ f h. branch_of b.0 b.1 f h.0 h.1 }
 
 pub no_fits : (f : EndAndCaptures) → HasFit [] f → ⊥
 no_fits f h = h.1
@@ -103,7 +100,7 @@ go_within A P n xs stays within all f h = let a = all.each_so f h in stays a.0 f
 -- ---- parts, arms and captures
 
 -- captures of a part are none of those of the parts before it
-pub turn_apart : (d : List ℕ) (ts : List Tree) (k : ℕ) (t : Tree) → slice_get ts k ≡ Some t → IsFunctional (cat_all ts) →
+pub turn_apart : (d : List ℕ) (ts : List Tree) (k : ℕ) (t : Tree) → slice_get ts k ≡ Some t → IsSequential (cat_all ts) →
     (i n j : ℕ) (m m' : Captures) → Fit (cat_all (take k ts)) d i n m → Fit t d n j m' → AreApart m m'
 turn_apart d ts k t at ok i n j m m' p q x a b = parts_apart ts k t at ok x (fit_only_vars (cat_all (take k ts)) d i n m p x a) (fit_only_vars t d n j m' q x b)
 
@@ -112,6 +109,53 @@ arms_go_on d ts A H all = record {
   each_so = λ f h. let s = all.each_so f h in let a = s.2 in (a.0, a.1, a.2, a.3, of_arm d ts s.0 a.0 f.0 a.2 s.1 a.4, a.5);
   all_there = λ f h. let t = arm_of d ts h.0 f.0 h.2 h.4 in all.all_there f (t.0, t.1, (h.0, h.1, h.2, h.3, t.2, h.5));
 }
+
+-- a repetition of once at most is a fit, or where the least number is 0 nothing
+at_most_one : (c : ℕ) → c ≤ 1 → (b : ℕ) → Some 1 ≡ Some b → c ≤ b
+at_most_one c le b e =
+    let one : 1 ≡ b = cc in omega arith
+
+module _ (d : List ℕ) (f : Tree) where
+  once : (c i j : ℕ) (m : Captures) → c ≤ 1 → Times (Fit f d) c i j m → ((c ≡ 0) × Nothing i j m) ⊎ Fit f d i j m
+  once zero i j m le h = inl (refl, h)
+  once (suc zero) i j m le h = inr (one_part d f i j m h)
+  once (suc (suc c)) i j m le h = absurd (omega arith)
+
+  once_is : (least i j : ℕ) (m : Captures) → Fit (rep f least (Some 1)) d i j m → ((least ≡ 0) × Nothing i j m) ⊎ Fit f d i j m
+  once_is least i j m h = elim (once h.0 i j m (h.2 1 refl) h.3) as (λ _. ((least ≡ 0) × Nothing i j m) ⊎ Fit f d i j m) [
+    | inl a ↦ (let le : least ≤ h.0 = h.1 in let none = a.0 in inl (omega arith, a.1))
+    | inr b ↦ inr b
+  ]
+
+  is_once : (least i j : ℕ) (m : Captures) → least ≤ 1 → Fit f d i j m → Fit (rep f least (Some 1)) d i j m
+  is_once least i j m le h = (1, le, at_most_one 1 (omega arith), part_one d f i j m h)
+
+  is_none : (least i j : ℕ) (m : Captures) → least ≡ 0 → Nothing i j m → Fit (rep f least (Some 1)) d i j m
+  is_none least i j m none h = (0, omega arith, at_most_one 0 (omega arith), h)
+
+  pub goes_once : (least : ℕ) (A : EndAndCaptures → Type 0) (xs : List CapturesAndEnds) → least ≡ 1 → Tells (HasFit xs) (Continued A (Fit f d)) → Tells (HasFit xs) (Continued A (Fit (rep f least (Some 1)) d))
+  goes_once least A xs one all = record {
+    each_so = λ g h. let s = all.each_so g h in (s.0, s.1, s.2, s.3, is_once least s.0 g.0 s.2 (omega arith) s.4, s.5);
+    all_there = λ g h. elim (once_is least h.0 g.0 h.2 h.4) as (λ _. HasFit xs g) [
+      | inl a ↦ (let none = a.0 in absurd (omega arith))
+      | inr b ↦ all.all_there g (h.0, h.1, h.2, h.3, b, h.5)
+    ];
+  }
+
+  pub goes_once_or_not : (least : ℕ) (A : EndAndCaptures → Type 0) (xs none all : List CapturesAndEnds) → least ≡ 0 → all ≡ xs ++ none →
+      Tells (HasFit xs) (Continued A (Fit f d)) → Tells (HasFit none) (Continued A Nothing) → Tells (HasFit all) (Continued A (Fit (rep f least (Some 1)) d))
+  goes_once_or_not least A xs none all zero_least is goes stays =
+      let both = fits_appended xs none all (Continued A Nothing) is stays in
+      record {
+        each_so = λ g h. elim (both.each_so g h) as (λ _. Continued A (Fit (rep f least (Some 1)) d) g) [
+          | inl a ↦ (let s = goes.each_so g a in (s.0, s.1, s.2, s.3, is_once least s.0 g.0 s.2 (omega arith) s.4, s.5))
+          | inr s ↦ (s.0, s.1, s.2, s.3, is_none least s.0 g.0 s.2 zero_least s.4, s.5)
+        ];
+        all_there = λ g h. both.all_there g (elim (once_is least h.0 g.0 h.2 h.4) as (λ _. HasFit xs g ⊎ Continued A Nothing g) [
+          | inl a ↦ inr (h.0, h.1, h.2, h.3, a.1, h.5)
+          | inr b ↦ inl (goes.all_there g (h.0, h.1, h.2, h.3, b, h.5))
+        ]);
+      }
 
 -- a fit goes on from a fit of this branch
 abbrev pub GoesFrom : Piece → CapturesAndEnds → EndAndCaptures → Type 0
@@ -203,7 +247,3 @@ inner_within g d place most inner le short all f h =
 
 pub named_tells : (x : VarName) (P : Piece) (m0 : Captures) (i : ℕ) (inner : List CapturesAndEnds) → Tells (HasFit inner) (Continued (HasFit (([], i ∷ []) ∷ [])) P) → Tells (FromSome (CapturedAt x i m0) inner) (CapturedFrom x P m0 i)
 named_tells x P m0 i inner all = record { each_so = λ f h. (named_from x P m0 i inner all f).0 h; all_there = λ f h. (named_from x P m0 i inner all f).1 h }
-
--- what goes on from nothing captures what goes on alone
-pub here_captures : (place : ℕ) (k : EndAndCaptures) (m m2 : Captures) → HasFit (([], place ∷ []) ∷ []) k → m ≡ k.1 ++ m2 → m ≡ m2
-here_captures place k m m2 here is = is ∙ ap (λ (n : Captures). n ++ m2) (sym (of_branch [] (place ∷ []) k here).0)

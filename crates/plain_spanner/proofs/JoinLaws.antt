@@ -8,7 +8,6 @@ use Rattle.std.proofs.lemmas.Cmp.{tied_itself}
 use Rattle.span_core.specs.Comparison.{row_cmp}
 use Rattle.span_core.specs.ComparisonLaws.{row_cmp_total}
 use Rattle.std.proofs.lemmas.Bool.{cases_lt, false≢true}
-use Rattle.span_core.specs.declared.span.Span.{Span}
 use Rattle.span_core.specs.declared.TheConstants.{MOST_VARIABLES}
 use Rattle.span_core.specs.NameSets.{Ascending, with_name}
 use Rattle.span_core.specs.Lists.{Has}
@@ -22,8 +21,8 @@ use Rattle.spanner_model.proofs.GatheredLaws.{gathered_name, gathered_all}
 use Rattle.spanner_model.proofs.CapturesLaws.{row_same_on}
 use Rattle.spanner_model.proofs.NameLaws.{list_any-Has, Has-list_any}
 use Rattle.plain_spanner.specs.Listed.{Tells, FromSome}
-use Rattle.plain_spanner.specs.Tables.{IsRowOf, has_name, kept_row, Meet, merged, IsJoined, JoinsWith, JoinsRow, IsPlaceOf}
-use Rattle.plain_spanner.proofs.RowLaws.{row_eq_exact, mapping_of-row_of, mapping_of-outside}
+use Rattle.plain_spanner.specs.Tables.{IsRowOf, has_name, row_over, Meet, merged, IsJoined, JoinsWith, JoinsRow, IsPlaceOf}
+use Rattle.plain_spanner.proofs.RowLaws.{row_eq_exact, mapping_of-row_of}
 
 -- ---- names in turn
 
@@ -64,7 +63,7 @@ abbrev pub JoinOf : List VarName → (Mapping → Type 0) → List VarName → (
 JoinOf V A W B m =
     (n1 : Mapping) × (n2 : Mapping) × IsRestriction (Has V) m n1 × A n1 × IsRestriction (Has W) m n2 × B n2 × ((x : VarName) → (Has V x ⊎ Has W x → ⊥) → m x ≡ None)
 
-merged_left : (V W : List VarName) (a b : SpanRow) (x : VarName) → Has V x → merged V W a b x ≡ mapping_of V a x
+pub merged_left : (V W : List VarName) (a b : SpanRow) (x : VarName) → Has V x → merged V W a b x ≡ mapping_of V a x
 merged_left V W a b x h = ap (λ (t : Bool). if t then mapping_of V a x else mapping_of W b x) (list_any-Has V x h)
 
 merged_right : (V W : List VarName) (a b : SpanRow) (x : VarName) → Meet V W a b → Has W x → merged V W a b x ≡ mapping_of W b x
@@ -130,12 +129,12 @@ module _ (V W names : List VarName) (A B : Mapping → Type 0) (a_out : (m : Map
 -- ---- keys
 
 -- rows have one key where they meet
-pub meet_of_key : (V W shared : List VarName) (a b : SpanRow) → ((x : VarName) → Has shared x ↔ (Has V x × Has W x)) → kept_row V shared a ≡ kept_row W shared b → Meet V W a b
+pub meet_of_key : (V W shared : List VarName) (a b : SpanRow) → ((x : VarName) → Has shared x ↔ (Has V x × Has W x)) → row_over V shared a ≡ row_over W shared b → Meet V W a b
 meet_of_key V W shared a b are same x v w =
     let h = (are x).1 (v, w) in
     sym (mapping_of-row_of shared (mapping_of V a) x h) ∙ ap (λ (r : SpanRow). mapping_of shared r x) same ∙ mapping_of-row_of shared (mapping_of W b) x h
 
-pub key_of_meet : (V W shared : List VarName) (a b : SpanRow) → ((x : VarName) → Has shared x ↔ (Has V x × Has W x)) → Meet V W a b → kept_row V shared a ≡ kept_row W shared b
+pub key_of_meet : (V W shared : List VarName) (a b : SpanRow) → ((x : VarName) → Has shared x ↔ (Has V x × Has W x)) → Meet V W a b → row_over V shared a ≡ row_over W shared b
 key_of_meet V W shared a b are meet = row_same_on shared (mapping_of V a) (mapping_of W b) (λ x h. let p = (are x).0 h in meet x p.0 p.1)
 
 -- ---- a row and those that it meets
@@ -148,13 +147,13 @@ rows_joined names V W lefts rights H all = record {
 
 -- the places that were found for a row's key are those of the rows that it meets
 pub joins_found : (names V W shared : List VarName) (rights : List SpanRow) (a : SpanRow) (places : List ℕ) → ((x : VarName) → Has shared x ↔ (Has V x × Has W x)) →
-    ((p : ℕ) → Has places p ↔ IsPlaceOf W shared rights (kept_row V shared a) p) → Tells (FromSome (JoinsWith names V W a rights) places) (JoinsRow names V W rights a)
+    ((p : ℕ) → Has places p ↔ IsPlaceOf W shared rights (row_over V shared a) p) → Tells (FromSome (JoinsWith names V W a rights) places) (JoinsRow names V W rights a)
 joins_found names V W shared rights a places are found = record {
   each_so = λ r h.
       let j = h.2 in
       let p = (found h.0).0 h.1 in
       let same : j.0 ≡ p.0 = row_is j.0 p.0 (sym j.1 ∙ p.1) in
-      let key = sym (ap (λ (b : SpanRow). kept_row W shared b) same ∙ p.2) in
+      let key = sym (ap (λ (b : SpanRow). row_over W shared b) same ∙ p.2) in
       (j.0, Has-slice_get rights h.0 j.0 j.1, meet_of_key V W shared a j.0 are key, j.2);
   all_there = λ r h.
       let p = place_of-Has rights h.0 h.1 in
@@ -165,7 +164,7 @@ joins_found names V W shared rights a places are found = record {
     row_is x y e = cc
 
 pub joins_nothing : (names V W shared : List VarName) (rights : List SpanRow) (a : SpanRow) → ((x : VarName) → Has shared x ↔ (Has V x × Has W x)) →
-    ((p : ℕ) → IsPlaceOf W shared rights (kept_row V shared a) p → ⊥) → (r : SpanRow) → JoinsRow names V W rights a r → ⊥
+    ((p : ℕ) → IsPlaceOf W shared rights (row_over V shared a) p → ⊥) → (r : SpanRow) → JoinsRow names V W rights a r → ⊥
 joins_nothing names V W shared rights a are none r h =
     let p = place_of-Has rights h.0 h.1 in none p.0 (h.0, p.2, sym (key_of_meet V W shared a h.0 are h.2))
 
@@ -188,23 +187,12 @@ room_more old mid names k y at room so_far = (
   ],
 )
 
-pub found_left : (V W : List VarName) (a b : SpanRow) (x : VarName) (s : Span) → mapping_of V a x ≡ Some s → merged V W a b x ≡ mapping_of V a x
-found_left V W a b x s e = by (has_name V x) refl
-  where
-    by : (t : Bool) → has_name V x ≡ t → (if t then mapping_of V a x else mapping_of W b x) ≡ mapping_of V a x
-    by true h = refl
-    by false h = let clash : None ≡ Some s = sym (mapping_of-outside V a x (λ v. false≢true (sym h ∙ list_any-Has V x v))) ∙ e in absurd (cc)
-
-pub found_right : (V W : List VarName) (a b : SpanRow) (x : VarName) → (Has V x → ⊥) → merged V W a b x ≡ mapping_of W b x
-found_right V W a b x out = by (has_name V x) refl
+pub merged_outside : (V W : List VarName) (a b : SpanRow) (x : VarName) → (Has V x → ⊥) → merged V W a b x ≡ mapping_of W b x
+merged_outside V W a b x out = by (has_name V x) refl
   where
     by : (t : Bool) → has_name V x ≡ t → (if t then mapping_of V a x else mapping_of W b x) ≡ mapping_of W b x
     by true h = absurd (out (Has-list_any V x h))
     by false h = refl
-
-pub none_either : (r : Option Span) (P Q : Type 0) → (P → ⊥) → IfNone r (Q → ⊥) → IfNone r (P ⊎ Q → ⊥)
-none_either None P Q p q = λ h. elim h [ inl a ↦ p a | inr b ↦ q b ]
-none_either (Some s) P Q p q = tt
 
 pub joined_once : (names V W : List VarName) (a : SpanRow) (rights : List SpanRow) (p : ℕ) (b r : SpanRow) → slice_get rights p ≡ Some b → JoinsWith names V W a rights p r → row_of names (merged V W a b) ≡ r
 joined_once names V W a rights p b r at h =
@@ -262,7 +250,7 @@ module _ {X : Type 0} (items : X → List ℕ) where
       place_by (is_eq (row_cmp key q)) key q place p old_key old_q mid_q new_q after start (key_is key q) (key_tied key q) same mid new none grown
 
 -- one row more whose place is kept under its key
-pub places_of_more : (names key_names : List VarName) (rows : List SpanRow) (k : ℕ) (row key : SpanRow) (Old New : SpanRow → ℕ → Type 0) → slice_get rows k ≡ Some row → key ≡ kept_row names key_names row →
+pub places_of_more : (names key_names : List VarName) (rows : List SpanRow) (k : ℕ) (row key : SpanRow) (Old New : SpanRow → ℕ → Type 0) → slice_get rows k ≡ Some row → key ≡ row_over names key_names row →
     ((q : SpanRow) (p : ℕ) → Old q p ↔ ((p < k) × IsPlaceOf names key_names rows q p)) → ((q : SpanRow) (p : ℕ) → New q p ↔ (Old q p ⊎ ((key ≡ q) × (k ≡ p)))) →
     (q : SpanRow) (p : ℕ) → New q p ↔ ((p < k + 1) × IsPlaceOf names key_names rows q p)
 places_of_more names key_names rows k row key Old New at is old new q p = (
@@ -276,7 +264,7 @@ places_of_more names key_names rows k row key Old New at is old new q p = (
         let l = h.0 in
         let e : k ≡ p = omega arith in
         let same = some_row row h.1.0 (sym at ∙ ap (slice_get rows) e ∙ h.1.1) in
-        inr (is ∙ ap (λ (r : SpanRow). kept_row names key_names r) same ∙ h.1.2, e)
+        inr (is ∙ ap (λ (r : SpanRow). row_over names key_names r) same ∙ h.1.2, e)
   ]),
 )
   where

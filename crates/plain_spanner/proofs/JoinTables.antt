@@ -1,4 +1,4 @@
--- Tables of joins, and of lets.
+-- Tables of unions, of joins, and of lets.
 use Rattle.std.proofs.Common.{◌≡◌, ℕ, suc, ◌+◌, ◌<◌, ◌⊎◌, ◌↔◌, Bool, true, false, List, [], ◌∷◌, ◌++◌, length, length-append, take, Option, Some, None, inl, inr, refl, sym, ap, ◌∙◌, subst, arith}
 use Rattle.std.specs.Prelude.{slice_get, nat_eq, MatchBool, if◌then◌else◌}
 use Rattle.std.specs.Option.{IsSomeAnd}
@@ -9,7 +9,7 @@ use Rattle.span_core.specs.NameSets.{Ascending}
 use Rattle.span_core.proofs.NameSetLaws.{none_are_variables}
 use Rattle.span_core.specs.Lists.{Has}
 use Rattle.spanner_model.specs.Captures.{VarName, Mapping}
-use Rattle.spanner_model.specs.Expression.{ExprTree, QueryTree, join_all}
+use Rattle.spanner_model.specs.Expression.{ExprTree, QueryTree, union_all, join_all}
 use Rattle.spanner_model.specs.Answer.{VarOf, IsRestriction, Answer, vars_of_lets, answers_of_lets}
 use Rattle.std.specs.List.{AllByRecursion}
 use Rattle.std.specs.List.Sorted.{IsStrictlySortedBy}
@@ -18,23 +18,23 @@ use Rattle.std.specs.declared.cmp.Ordering.TheVariants.{Less}
 use Rattle.span_core.specs.Order.{StandsBefore, IsOrderOf}
 use Rattle.span_core.specs.Comparison.{row_cmp}
 use Rattle.span_core.specs.ComparisonLaws.{row_cmp_is}
-use Rattle.spanner_model.specs.Sound.{IsSoundExpr, IsSound}
+use Rattle.spanner_model.specs.Sound.{IsSoundExpr, sure_of_lets, IsSound}
 use Rattle.spanner_model.specs.Answers.{SpanRow, AreInBlockOrder, AreResultNames, AreAnswers}
 use Rattle.spanner_model.proofs.NameLaws.{same_names}
 use Rattle.spanner_model.specs.Gathered.{Adds}
 use Rattle.span_core.proofs.HasLaws.{Has-append_cases, Has-append_left, Has-append_right}
 use Rattle.spanner_model.proofs.TreeLaws.{take_at_more}
 use Rattle.spanner_model.proofs.AnswerLaws.{answer_absent, lets_absent}
-use Rattle.spanner_model.proofs.ExprLaws.{join_part_var, let_named, slice_get_push}
+use Rattle.spanner_model.proofs.ExprLaws.{join_part_var, union_vars, let_named, slice_get_push}
 use Rattle.spanner_model.proofs.GatheredLaws.{in_more, exprs_in_turn}
-use Rattle.spanner_model.proofs.PartLaws.{join_outside, join_each, each_join, told_under}
+use Rattle.spanner_model.proofs.PartLaws.{union_some, some_union, join_outside, join_each, each_join, told_under}
 use Rattle.plain_spanner.specs.Listed.{Tells}
 use Rattle.plain_spanner.specs.declared.table.Table.{Table}
-use Rattle.plain_spanner.specs.Tables.{IsRowOf, IsTable, IsTableOf, IsAsked, AreTables, has_name, IsJoined}
+use Rattle.plain_spanner.specs.Tables.{IsRowOf, IsTable, IsTableOf, IsAsked, AreTables, has_name, IsUnited, IsJoined}
 use Rattle.plain_spanner.proofs.RowLaws.{row_length}
 use Rattle.plain_spanner.proofs.TellsLaws.{tells_same}
 use Rattle.plain_spanner.proofs.JoinLaws.{JoinOf, join_listed}
-use Rattle.plain_spanner.proofs.TableLaws.{restricts}
+use Rattle.plain_spanner.proofs.TableLaws.{restricts, union_listed}
 
 module _ (q : QueryTree) (d : List ℕ) (n : ℕ) where
   abbrev V : ℕ → VarName → Type 0
@@ -53,11 +53,59 @@ module _ (q : QueryTree) (d : List ℕ) (n : ℕ) where
     };
   }
 
+  pub none_table : IsTableOf q d n (union_all []) [] []
+  none_table = record {
+    ascending = none_are_variables.ascending;
+    named = λ x. (λ h. h, λ h. h);
+    listed = record { each_so = λ r h. absurd h; all_there = λ r h. h.1 };
+  }
+
   out_of : (e : ExprTree) (names : List VarName) → ((x : VarName) → Has names x ↔ VarOf V e x) → (m : Mapping) → Answer V A d e m → (x : VarName) → (Has names x → ⊥) → m x ≡ None
   out_of e names named m h x out = answer_absent V A d (lets_absent q.lets d n) e m h x (λ v. out ((named x).1 v))
 
   restricted : (P Q : VarName → Type 0) (m r : Mapping) → ((x : VarName) → P x ↔ Q x) → IsRestriction P m r → IsRestriction Q m r
   restricted P Q m r same h x = (λ v. (h x).0 ((same x).1 v), λ out. (h x).1 (λ p. out ((same x).0 p)))
+
+  -- the union of the parts so far with one more
+  module _ (es : List ExprTree) (e : ExprTree) (left right : List VarName) (left_named : (x : VarName) → Has left x ↔ VarOf V (union_all es) x) (right_named : (x : VarName) → Has right x ↔ VarOf V e x) where
+    some_vars_more : (x : VarName) → VarOf V (union_all (es ++ e ∷ [])) x ↔ (VarOf V (union_all es) x ⊎ VarOf V e x)
+    some_vars_more x =
+        let more = in_more (VarOf V) (λ gs. VarOf V (join_all gs)) (exprs_in_turn V) es e x in (
+          λ v. elim (more.0 ((union_vars V (es ++ e ∷ []) x).1 v)) as (λ _. VarOf V (union_all es) x ⊎ VarOf V e x) [ inl a ↦ inl ((union_vars V es x).0 a) | inr b ↦ inr b ],
+          λ h. (union_vars V (es ++ e ∷ []) x).0 (more.1 (elim h as (λ _. VarOf V (join_all es) x ⊎ VarOf V e x) [ inl a ↦ inl ((union_vars V es x).1 a) | inr b ↦ inr b ])),
+        )
+
+    to_some : (m : Mapping) → Answer V A d (union_all es) m ⊎ Answer V A d e m → Answer V A d (union_all (es ++ e ∷ [])) m
+    to_some m h = elim h as (λ _. Answer V A d (union_all (es ++ e ∷ [])) m) [
+      | inl a ↦ (let p = union_some V A d es m a in some_union V A d (es ++ e ∷ []) m p.0 (Has-append_left es (e ∷ []) p.0 p.1) p.2)
+      | inr b ↦ some_union V A d (es ++ e ∷ []) m e (Has-append_right es (e ∷ []) e (inl refl)) b
+    ]
+
+    of_some : (m : Mapping) → Answer V A d (union_all (es ++ e ∷ [])) m → Answer V A d (union_all es) m ⊎ Answer V A d e m
+    of_some m h =
+        let p = union_some V A d (es ++ e ∷ []) m h in
+        elim (Has-append_cases es (e ∷ []) p.0 p.1) as (λ _. Answer V A d (union_all es) m ⊎ Answer V A d e m) [
+          | inl a ↦ inl (some_union V A d es m p.0 a p.2)
+          | inr b ↦ elim b as (λ _. Answer V A d (union_all es) m ⊎ Answer V A d e m) [
+            | inl i ↦ inr (subst (λ (w : ExprTree). Answer V A d w m) (sym i) p.2)
+            | inr no_more ↦ absurd no_more
+          ]
+        ]
+
+    pub union_more : (names : List VarName) (lefts rights rows : List SpanRow) → IsTableOf q d n (union_all es) left lefts → IsTableOf q d n e right rights → Ascending names → Adds left (Has right) names →
+        Tells (Has rows) (IsUnited names left right lefts rights) → IsTableOf q d n (union_all (es ++ e ∷ [])) names rows
+    union_more names lefts rights rows t u up named all =
+        let B = Answer V A d (union_all es) in
+        let C = Answer V A d e in
+        let listed = union_listed left right names B C (out_of (union_all es) left left_named) (out_of e right right_named) lefts rights (Has rows) t.listed u.listed all in
+        record {
+          ascending = up;
+          named = λ x. (
+            λ h. (some_vars_more x).1 (elim ((named x).0 h) as (λ _. VarOf V (union_all es) x ⊎ VarOf V e x) [ inl a ↦ inl ((left_named x).0 a) | inr b ↦ inr ((right_named x).0 b) ]),
+            λ v. (named x).1 (elim ((some_vars_more x).0 v) as (λ _. Has left x ⊎ Has right x) [ inl a ↦ inl ((left_named x).1 a) | inr b ↦ inr ((right_named x).1 b) ]),
+          );
+          listed = tells_same (Has rows) (IsRowOf (λ m. B m ⊎ C m) names) (IsRowOf (Answer V A d (union_all (es ++ e ∷ []))) names) (λ r h. (h.0, to_some h.0 h.1, h.2)) (λ r h. (h.0, of_some h.0 h.1, h.2)) listed;
+        }
 
   -- the join of the parts so far with one more
   module _ (es : List ExprTree) (e : ExprTree) (left right : List VarName) (left_named : (x : VarName) → Has left x ↔ VarOf V (join_all es) x) (right_named : (x : VarName) → Has right x ↔ VarOf V e x) where
@@ -113,6 +161,12 @@ module _ (q : QueryTree) (d : List ℕ) (n : ℕ) where
           );
           listed = tells_same (Has rows) (IsRowOf J names) (IsRowOf (Answer V A d (join_all (es ++ e ∷ []))) names) (λ r h. (h.0, to_all h.0 h.1, h.2)) (λ r h. (h.0, of_all h.0 h.1, h.2)) listed;
         }
+
+pub union_next : (q : QueryTree) (d : List ℕ) (n : ℕ) (es : List ExprTree) (k : ℕ) (e : ExprTree) (left right names : List VarName) (lefts rights rows : List SpanRow) → slice_get es k ≡ Some e →
+    IsTableOf q d n (union_all (take k es)) left lefts → IsTableOf q d n e right rights → Ascending names → Adds left (Has right) names → Tells (Has rows) (IsUnited names left right lefts rights) →
+    IsTableOf q d n (union_all (take (k + 1) es)) names rows
+union_next q d n es k e left right names lefts rights rows at t u up named all =
+    subst (λ (gs : List ExprTree). IsTableOf q d n (union_all gs) names rows) (sym (take_at_more es k e at)) (union_more q d n (take k es) e left right t.named u.named names lefts rights rows t u up named all)
 
 pub join_next : (q : QueryTree) (d : List ℕ) (n : ℕ) (es : List ExprTree) (k : ℕ) (e : ExprTree) (left right names : List VarName) (lefts rights rows : List SpanRow) → slice_get es k ≡ Some e →
     IsTableOf q d n (join_all (take k es)) left lefts → IsTableOf q d n e right rights → Ascending names → Adds left (Has right) names → Tells (Has rows) (IsJoined names left right lefts rights) →
@@ -178,14 +232,14 @@ tables_more q d tables grown l t at known one is j u place =
 pub asked_let : (q : QueryTree) (n k : ℕ) (l : VarName × ExprTree) → IsSound q → n ≡ k → slice_get q.lets k ≡ Some l → IsAsked q n l.1
 asked_let q n k l s e at = record {
   sound = s;
-  sound_expr = subst (λ m. IsSoundExpr (vars_of_lets q.lets m) m l.1) (sym e) (s.sound_lets k l at).0;
+  sound_expr = subst (λ m. IsSoundExpr (vars_of_lets q.lets m) (sure_of_lets q.lets m) m l.1) (sym e) (s.sound_lets k l at).0;
   named = λ x h. inl (let_named q.lets k l x at h);
 }
 
 pub asked_body : (q : QueryTree) (n : ℕ) → IsSound q → n ≡ length q.lets → IsAsked q n q.body
 asked_body q n s e = record {
   sound = s;
-  sound_expr = subst (λ m. IsSoundExpr (vars_of_lets q.lets m) m q.body) (sym e) s.sound_body.0;
+  sound_expr = subst (λ m. IsSoundExpr (vars_of_lets q.lets m) (sure_of_lets q.lets m) m q.body) (sym e) s.sound_body.0;
   named = λ x h. inr h;
 }
 

@@ -1,3 +1,4 @@
+pub mod SampleLaws
 pub mod TableLaws
 pub mod TellsLaws
 pub mod BareLaws

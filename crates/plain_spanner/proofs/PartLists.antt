@@ -6,7 +6,7 @@ use Rattle.span_core.specs.Lists.{Has}
 use Rattle.spanner_model.specs.Captures.{Captures, AreApart}
 use Rattle.spanner_model.specs.Tree.{Tree, cat_all, alt_all}
 use Rattle.spanner_model.specs.Fit.{Then, Fit}
-use Rattle.spanner_model.specs.Functional.{HaveApartVars, IsFunctional}
+use Rattle.spanner_model.specs.Sequential.{IsSequential, HaveApartVars}
 use Rattle.spanner_model.proofs.CapturesLaws.{Captured-append_left, Captured-append_right, Captured-append_cases}
 use Rattle.span_core.proofs.HasLaws.{Has-slice_get}
 use Rattle.spanner_model.proofs.TreeLaws.{take_at_more, part_has}
@@ -52,12 +52,12 @@ module _ (d : List ℕ) where
         h.6 ∙ ap (λ n. n ++ h.2) g.6 ∙ append_assoc g.1 g.2 h.2,
       )
 
-  one_part : (t : Tree) (i j : ℕ) (m : Captures) → Fit (cat_all (t ∷ [])) d i j m → Fit t d i j m
+  pub one_part : (t : Tree) (i j : ℕ) (m : Captures) → Fit (cat_all (t ∷ [])) d i j m → Fit t d i j m
   one_part t i j m h =
       let e : m ≡ h.1 = h.6 ∙ ap (λ n. h.1 ++ n) h.4.1 ∙ append_nil h.1 in
       subst (λ n. Fit t d i j n) (sym e) (subst (λ k. Fit t d i k h.1) h.4.0 h.3)
 
-  part_one : (t : Tree) (i j : ℕ) (m : Captures) → Fit t d i j m → Fit (cat_all (t ∷ [])) d i j m
+  pub part_one : (t : Tree) (i j : ℕ) (m : Captures) → Fit t d i j m → Fit (cat_all (t ∷ [])) d i j m
   part_one t i j m h = (j, m, [], h, (refl, refl), λ x a b. b, sym (append_nil m))
 
   -- the parts so far, and one more
@@ -86,7 +86,7 @@ module _ (d : List ℕ) where
   of_arm (u ∷ ts) t i j m (inr has) h = inr (of_arm ts t i j m has h)
 
 -- a part has no variable of those before it
-pub parts_apart : (ts : List Tree) (k : ℕ) (t : Tree) → slice_get ts k ≡ Some t → IsFunctional (cat_all ts) → HaveApartVars (cat_all (take k ts)) t
+pub parts_apart : (ts : List Tree) (k : ℕ) (t : Tree) → slice_get ts k ≡ Some t → IsSequential (cat_all ts) → HaveApartVars (cat_all (take k ts)) t
 parts_apart [] k t at ok x a b = absurd (cc)
 parts_apart (u ∷ ts) zero t at ok x a b = a
 parts_apart (u ∷ ts) (suc k) t at ok x (inl a) b = ok.2 x a (part_has ts t x (Has-slice_get ts k t at) b)

@@ -18,7 +18,7 @@ use Rattle.spanner_model.specs.Captures.{VarName, Captures, Mapping, span_of, ro
 use Rattle.spanner_model.specs.Answers.{SpanRow}
 use Rattle.std.specs.Bool.{OnTrue}
 use Rattle.spanner_model.specs.Gathered.{Adds}
-use Rattle.spanner_model.specs.Functional.{HasVar}
+use Rattle.spanner_model.specs.Sequential.{HasVar}
 use Rattle.spanner_model.specs.Tree.{Tree}
 use Rattle.spanner_model.specs.Fit.{Fit}
 use Rattle.spanner_model.specs.Answer.{FitsSomewhere}
@@ -27,7 +27,7 @@ use Rattle.spanner_model.proofs.FitLaws.{fit_le, fit_within}
 use Rattle.span_core.proofs.HasLaws.{Has-slice_get}
 use Rattle.spanner_model.proofs.TreeLaws.{take_at_more}
 use Rattle.plain_spanner.specs.Listed.{Tells, FromSome, CapturesAndEnds, HasFit, Continued}
-use Rattle.plain_spanner.specs.Tables.{kept_row, IsRowOf, IsRowOfFits}
+use Rattle.plain_spanner.specs.Tables.{row_over, IsRowOf, IsRowOfFits}
 use Rattle.plain_spanner.proofs.FitLists.{of_branch, branch_of}
 
 pub row_length : (names : List VarName) (m : Mapping) → length (row_of names m) ≡ length names
@@ -76,8 +76,8 @@ mapping_of-at (y ∷ names) (t ∷ row) (suc k) x s d a b = by (bytes_eq y x) re
     by true e later = absurd (d.0 (subst (Has names) (sym ((bytes_eq-Decides y x).0 e)) (Has-slice_get names k x a)))
     by false e later = later
 
-pub kept_row-row_of : (names kept : List VarName) (n : Mapping) → ((x : VarName) → Has kept x → Has names x) → kept_row names kept (row_of names n) ≡ row_of kept n
-kept_row-row_of names kept n in_names = row_same_on kept (mapping_of names (row_of names n)) n (λ x h. mapping_of-row_of names n x (in_names x h))
+pub row_over-row_of : (names kept : List VarName) (n : Mapping) → ((x : VarName) → Has kept x → Has names x) → row_over names kept (row_of names n) ≡ row_of kept n
+row_over-row_of names kept n in_names = row_same_on kept (mapping_of names (row_of names n)) n (λ x h. mapping_of-row_of names n x (in_names x h))
 
 -- ---- the places that an atom's fits begin at
 
@@ -139,9 +139,9 @@ module _ (to_end : Bool) (f : Tree) (d : List ℕ) (names : List VarName) where
 
 -- ---- rows that grow by spans
 
-pub row_pushed : (names : List VarName) (k : ℕ) (y : VarName) (m : Mapping) (row new : SpanRow) (s : Span) → slice_get names k ≡ Some y → row ≡ row_of (take k names) m → m y ≡ Some s → new ≡ row ++ Some s ∷ [] →
+pub row_pushed : (names : List VarName) (k : ℕ) (y : VarName) (m : Mapping) (row new : SpanRow) (s : Option Span) → slice_get names k ≡ Some y → row ≡ row_of (take k names) m → s ≡ m y → new ≡ row ++ s ∷ [] →
     new ≡ row_of (take (k + 1) names) m
-row_pushed names k y m row new s at so_far is grown = grown ∙ ap (λ (r : SpanRow). r ++ Some s ∷ []) so_far ∙ ap (λ (o : Option Span). row_of (take k names) m ++ o ∷ []) (sym is) ∙ sym (row_more names k y m at)
+row_pushed names k y m row new s at so_far is grown = grown ∙ ap (λ (r : SpanRow). r ++ s ∷ []) so_far ∙ ap (λ (o : Option Span). row_of (take k names) m ++ o ∷ []) is ∙ sym (row_more names k y m at)
 
 pub row_whole : (names : List VarName) (k : ℕ) (m : Mapping) (row : SpanRow) → k ≡ length names → row ≡ row_of (take k names) m → row ≡ row_of names m
 row_whole names k m row e is = is ∙ ap (λ (ns : List VarName). row_of ns m) (ap (λ n. take n names) e ∙ take-length names)

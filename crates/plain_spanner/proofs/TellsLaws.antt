@@ -34,23 +34,20 @@ module _ {X : Type 0} where
     all_there = λ y h. elim h as (λ _. H y) [ inl a ↦ a | inr q ↦ absurd (none y q) ];
   }
 
-  pub tells_appended : (xs ys : List X) → Tells (Has (xs ++ ys)) (λ y. Has xs y ⊎ Has ys y)
-  tells_appended xs ys = record {
-    each_so = λ y h. Has-append_cases xs ys y h;
-    all_there = λ y h. elim h as (λ _. Has (xs ++ ys) y) [ inl a ↦ Has-append_left xs ys y a | inr b ↦ Has-append_right xs ys y b ];
-  }
-
-  pub tells_appended_to : (xs ys new : List X) (Q : X → Type 0) → new ≡ xs ++ ys → Tells (Has ys) Q → Tells (Has new) (λ y. Has xs y ⊎ Q y)
-  tells_appended_to xs ys new Q is h = record {
-    each_so = λ y a. elim (Has-append_cases xs ys y (subst (λ zs. Has zs y) is a)) as (λ _. Has xs y ⊎ Q y) [ inl b ↦ inl b | inr b ↦ inr (h.each_so y b) ];
+  pub tells_both : (xs ys new : List X) (Q R : X → Type 0) → new ≡ xs ++ ys → Tells (Has xs) Q → Tells (Has ys) R → Tells (Has new) (λ y. Q y ⊎ R y)
+  tells_both xs ys new Q R is first next = record {
+    each_so = λ y a. elim (Has-append_cases xs ys y (subst (λ zs. Has zs y) is a)) as (λ _. Q y ⊎ R y) [ inl b ↦ inl (first.each_so y b) | inr b ↦ inr (next.each_so y b) ];
     all_there = λ y a. subst (λ zs. Has zs y) (sym is) (elim a as (λ _. Has (xs ++ ys) y) [
-      | inl b ↦ Has-append_left xs ys y b
-      | inr b ↦ Has-append_right xs ys y (h.all_there y b)
+      | inl b ↦ Has-append_left xs ys y (first.all_there y b)
+      | inr b ↦ Has-append_right xs ys y (next.all_there y b)
     ]);
   }
 
   pub tells_itself : (H : X → Type 0) → Tells H H
   tells_itself H = record { each_so = λ x a. a; all_there = λ x a. a }
+
+  pub tells_appended_to : (xs ys new : List X) (Q : X → Type 0) → new ≡ xs ++ ys → Tells (Has ys) Q → Tells (Has new) (λ y. Has xs y ⊎ Q y)
+  tells_appended_to xs ys new Q is h = tells_both xs ys new (Has xs) Q is (tells_itself (Has xs)) h
 
   -- what was added, in other words
   pub tells_or : (G H Q R : X → Type 0) → Tells G (λ x. H x ⊎ Q x) → Tells Q R → Tells G (λ x. H x ⊎ R x)

@@ -5,7 +5,7 @@ use Rattle.span_core.specs.declared.span.Span.{Span}
 use Rattle.span_core.specs.Lists.{Has}
 use Rattle.spanner_model.specs.Captures.{VarName, Captures}
 use Rattle.spanner_model.specs.Tree.{Tree}
-use Rattle.spanner_model.specs.Functional.{HasVar}
+use Rattle.spanner_model.specs.Sequential.{HasVar}
 use Rattle.spanner_model.specs.Fit.{Piece, Times}
 
 -- H is true of what Q is true of, and of nothing else

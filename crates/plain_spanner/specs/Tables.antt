@@ -1,5 +1,5 @@
 -- Tables of answers: names, and rows over them.
-use Rattle.std.specs.Prelude.{◌≡◌, ℕ, ◌↔◌, Bool, List, length, slice_get, Some, IsTrue, if◌then◌else◌}
+use Rattle.std.specs.Prelude.{◌≡◌, ℕ, ◌↔◌, ◌⊎◌, Bool, List, length, slice_get, Some, IsTrue, if◌then◌else◌}
 use Rattle.std.specs.List.{list_any}
 use Rattle.std.specs.Str.{bytes_eq}
 use Rattle.span_core.specs.NameSets.{Ascending}
@@ -8,9 +8,9 @@ use Rattle.spanner_model.specs.Captures.{VarName, Mapping, span_of, row_of, mapp
 use Rattle.spanner_model.specs.Expression.{QueryTree, ExprTree}
 use Rattle.spanner_model.specs.Answer.{VarOf, Answer, vars_of_lets, answers_of_lets}
 use Rattle.spanner_model.specs.Answers.{SpanRow}
-use Rattle.spanner_model.specs.Sound.{IsSound, IsSoundExpr, NameIn, NameOf}
+use Rattle.spanner_model.specs.Sound.{IsSound, IsSoundExpr, sure_of_lets, NameIn, NameOf}
 use Rattle.plain_spanner.specs.declared.table.Table.{Table}
-use Rattle.plain_spanner.specs.Listed.{Tells, CapturesAndEnds}
+use Rattle.plain_spanner.specs.Listed.{Tells, FromSome, CapturesAndEnds}
 
 -- the row over these names of a mapping of which A is true
 abbrev pub IsRowOf : (Mapping → Type 0) → List VarName → SpanRow → Type 0
@@ -34,11 +34,18 @@ IsTableOf q d n e = IsTable (VarOf (vars_of_lets q.lets n) e) (Answer (vars_of_l
 abbrev pub has_name : List VarName → VarName → Bool
 has_name names x = list_any (λ y. bytes_eq y x) names
 
--- the row over the kept names of a row over these names
-abbrev pub kept_row : List VarName → List VarName → SpanRow → SpanRow
-kept_row names kept row = row_of kept (mapping_of names row)
+-- the row over the other names of a row over these names; a name that stands in the others alone is absent
+abbrev pub row_over : List VarName → List VarName → SpanRow → SpanRow
+row_over names others row = row_of others (mapping_of names row)
 
--- a row over the names V and one over the names W give the names of both the same spans
+abbrev pub IsRowOver : List VarName → List VarName → SpanRow → SpanRow → Type 0
+IsRowOver names others row r = r ≡ row_over names others row
+
+-- the row over these names of a row of one of the lists: of the one the rows are over V, of the other over W
+abbrev pub IsUnited : List VarName → List VarName → List VarName → List SpanRow → List SpanRow → SpanRow → Type 0
+IsUnited names V W lefts rights r = FromSome (IsRowOver V names) lefts r ⊎ FromSome (IsRowOver W names) rights r
+
+-- a row over the names V and one over the names W say the same of the names of both: the same span, or that it is absent
 abbrev pub Meet : List VarName → List VarName → SpanRow → SpanRow → Type 0
 Meet V W a b = (x : VarName) → Has V x → Has W x → mapping_of V a x ≡ mapping_of W b x
 
@@ -57,7 +64,7 @@ AreRows names rows = (r : SpanRow) → Has rows r → length r ≡ length names
 
 -- the row at this place has the key
 abbrev pub IsPlaceOf : List VarName → List VarName → List SpanRow → SpanRow → ℕ → Type 0
-IsPlaceOf names key_names rows key p = (r : SpanRow) × (slice_get rows p ≡ Some r) × (kept_row names key_names r ≡ key)
+IsPlaceOf names key_names rows key p = (r : SpanRow) × (slice_get rows p ≡ Some r) × (row_over names key_names r ≡ key)
 
 -- the row over these names of a and of the row at a place
 abbrev pub JoinsWith : List VarName → List VarName → List VarName → SpanRow → List SpanRow → ℕ → SpanRow → Type 0
@@ -72,7 +79,7 @@ AreTables q d tables =
 -- what is asked of an expression that is worked out after n lets of a query
 pub record IsAsked (q : QueryTree) (n : ℕ) (e : ExprTree) : Type 0 where
   pub sound : IsSound q
-  pub sound_expr : IsSoundExpr (vars_of_lets q.lets n) n e
+  pub sound_expr : IsSoundExpr (vars_of_lets q.lets n) (sure_of_lets q.lets n) n e
   pub named : (x : VarName) → NameIn e x → NameOf q x
 
 -- the row over these names of a and of some row that it meets

@@ -1,16 +1,16 @@
 //! All fits of a formula.
-ghost use Rattle.std.specs.Prelude.{◌≡◌, ◌⊎◌, ℕ, ◌≤◌, ◌<◌, [], ◌∷◌, ◌++◌, length, IfOk, OnOk};
+ghost use Rattle.std.specs.Prelude.{◌≡◌, ◌⊎◌, ℕ, ◌≤◌, [], ◌∷◌, ◌++◌, length, Some, IfOk, OnOk};
 ghost use Rattle.span_core.specs.Lists.{Has};
 ghost use Rattle.spanner_model.specs.Captures.{Captures};
 ghost use Rattle.spanner_model.specs.View.{tree_of, trees_of};
-ghost use Rattle.spanner_model.specs.Tree.{Tree, cap, cat_all, alt_all};
+ghost use Rattle.spanner_model.specs.Tree.{Tree, rep, cap, cat_all, alt_all};
 ghost use Rattle.spanner_model.specs.Fit.{Fit};
 ghost use Rattle.spanner_model.specs.WellBuilt.{IsWellBuilt};
-ghost use Rattle.spanner_model.specs.Functional.{IsFunctional};
+ghost use Rattle.spanner_model.specs.Sequential.{IsSequential};
 ghost use Rattle.plain_spanner.specs.Listed.{Tells, FromSome, IsBare, HasFit, Continued, AreWithin, EndAndCaptures, CapturedFrom, CapturedAt};
 
 use crate::MOST_DOCUMENT_BYTES;
-use crate::bare::are_bare;
+use crate::bare::{are_bare, is_bare};
 use crate::ends::ends;
 use span_core::{Name, OutOfMemory, Span};
 use spanner_model::{Formula, Parts};
@@ -78,7 +78,7 @@ pub fn go_on(
     firsts: &[Branch],
 ) -> Result<Vec<Branch>, OutOfMemory>
     requires built { IsWellBuilt (tree_of formula.now) }
-    requires functional { IsFunctional (tree_of formula.now) }
+    requires sequential { IsSequential (tree_of formula.now) }
     requires short { length doc.now ≤ MOST_DOCUMENT_BYTES }
     requires within { AreWithin (length doc.now) firsts.now }
     ensures { IfOk result (λ v. Tells (HasFit v.items) (Continued (HasFit firsts.now) (Fit (tree_of formula.now) doc.now))) }
@@ -92,10 +92,15 @@ pub fn go_on(
                 by_arms(alloc, parts, doc, firsts)
             }
         }
-        Formula::Cap(name, sub) => captured(alloc, name, sub, doc, firsts),
-        Formula::Empty | Formula::One(_) | Formula::Rep(_, _, _) => {
-            go_on_bare(alloc, formula, doc, firsts)
+        Formula::Rep(sub, least, _) => {
+            if is_bare(sub) {
+                go_on_bare(alloc, formula, doc, firsts)
+            } else {
+                once_at_most(alloc, sub, *least, doc, firsts)
+            }
         }
+        Formula::Cap(name, sub) => captured(alloc, name, sub, doc, firsts),
+        Formula::Empty | Formula::One(_) => go_on_bare(alloc, formula, doc, firsts),
     }
 }
 
@@ -147,7 +152,7 @@ fn in_turn(
     firsts: &[Branch],
 ) -> Result<Vec<Branch>, OutOfMemory>
     requires built { (t : Tree) → Has (trees_of parts.now) t → IsWellBuilt t }
-    requires functional { IsFunctional (cat_all (trees_of parts.now)) }
+    requires sequential { IsSequential (cat_all (trees_of parts.now)) }
     requires short { length doc.now ≤ MOST_DOCUMENT_BYTES }
     requires within { AreWithin (length doc.now) firsts.now }
     ensures { IfOk result (λ v. Tells (HasFit v.items) (Continued (HasFit firsts.now) (Fit (cat_all (trees_of parts.now)) doc.now))) }
@@ -181,7 +186,7 @@ fn by_arms(
     firsts: &[Branch],
 ) -> Result<Vec<Branch>, OutOfMemory>
     requires built { (t : Tree) → Has (trees_of parts.now) t → IsWellBuilt t }
-    requires functional { IsFunctional (alt_all (trees_of parts.now)) }
+    requires sequential { IsSequential (alt_all (trees_of parts.now)) }
     requires short { length doc.now ≤ MOST_DOCUMENT_BYTES }
     requires within { AreWithin (length doc.now) firsts.now }
     ensures { IfOk result (λ v. Tells (HasFit v.items) (Continued (HasFit firsts.now) (Fit (alt_all (trees_of parts.now)) doc.now))) }
@@ -191,6 +196,31 @@ fn by_arms(
         let mut others = go_on(alloc, parts.at(k), doc, firsts)?;
         all.append(&mut others)?;
     }
+    Ok(all)
+}
+
+/// The fits that go on from some of `firsts` by a fit of the formula, or where `least` is 0 by nothing.
+#[cycle(fits)]
+fn once_at_most(
+    alloc: Global,
+    sub: &Formula,
+    least: u16,
+    doc: &[u8],
+    firsts: &[Branch],
+) -> Result<Vec<Branch>, OutOfMemory>
+    requires built { IsWellBuilt (tree_of sub.now) }
+    requires sequential { IsSequential (tree_of sub.now) }
+    requires once { least ≤ 1 }
+    requires short { length doc.now ≤ MOST_DOCUMENT_BYTES }
+    requires within { AreWithin (length doc.now) firsts.now }
+    ensures { IfOk result (λ v. Tells (HasFit v.items) (Continued (HasFit firsts.now) (Fit (rep (tree_of sub.now) least (Some 1)) doc.now))) }
+{
+    let mut all = go_on(alloc, sub, doc, firsts)?;
+    if least > 0 {
+        return Ok(all);
+    }
+    let mut none = copies(alloc, firsts)?;
+    all.append(&mut none)?;
     Ok(all)
 }
 
@@ -204,7 +234,7 @@ fn captured(
     firsts: &[Branch],
 ) -> Result<Vec<Branch>, OutOfMemory>
     requires built { IsWellBuilt (tree_of sub.now) }
-    requires functional { IsFunctional (cap name.now (tree_of sub.now)) }
+    requires sequential { IsSequential (cap name.now (tree_of sub.now)) }
     requires short { length doc.now ≤ MOST_DOCUMENT_BYTES }
     requires within { AreWithin (length doc.now) firsts.now }
     ensures { IfOk result (λ v. Tells (HasFit v.items) (Continued (HasFit firsts.now) (Fit (cap name.now (tree_of sub.now)) doc.now))) }
@@ -227,7 +257,7 @@ fn add_captured(
     first: &Branch,
 ) -> Result<(), OutOfMemory>
     requires built { IsWellBuilt (tree_of sub.now) }
-    requires functional { IsFunctional (tree_of sub.now) }
+    requires sequential { IsSequential (tree_of sub.now) }
     requires short { length doc.now ≤ MOST_DOCUMENT_BYTES }
     requires within { (k : ℕ) → Has first.now.1 k → k ≤ length doc.now }
     ensures { OnOk result (Tells (HasFit all.new.items)

@@ -1,5 +1,5 @@
 //! Joins of tables.
-ghost use Rattle.std.specs.Prelude.{◌≡◌, ◌↔◌, ◌⊎◌, ℕ, ◌<◌, ◌≤◌, List, [], ◌++◌, length, slice_get, Some, IfOk, IfNone, OnOk, IsTrue};
+ghost use Rattle.std.specs.Prelude.{◌≡◌, ◌↔◌, ◌⊎◌, ℕ, ◌<◌, ◌≤◌, List, [], ◌++◌, length, slice_get, Some, IfOk, OnOk, IsTrue};
 ghost use Rattle.std.specs.Option.{IsSomeAnd};
 ghost use Rattle.std.specs.BTreeMap.{get};
 ghost use Rattle.span_core.specs.Comparison.{row_cmp};
@@ -10,15 +10,16 @@ ghost use Rattle.spanner_model.specs.Captures.{row_of};
 ghost use Rattle.spanner_model.specs.Answers.{SpanRow};
 ghost use Rattle.spanner_model.specs.Gathered.{Adds, HaveRoom};
 ghost use Rattle.plain_spanner.specs.Listed.{Tells, FromSome};
-ghost use Rattle.plain_spanner.specs.Tables.{AreRows, kept_row, IsJoined, merged, IsPlaceOf, JoinsWith, JoinsRow};
+ghost use Rattle.plain_spanner.specs.Tables.{AreRows, row_over, IsJoined, merged, IsPlaceOf, JoinsWith, JoinsRow};
 
 use crate::table::{Table, row_with, span_in};
 use span_core::{MOST_VARIABLES, Name, OutOfMemory, Row, Span, VarSet};
 use std::alloc::Global;
 use std::collections::BTreeMap;
 
-/// The rows that two rows make which meet, one of each table. Those of the right table are found by
-/// their spans of the variables that both tables have.
+/// The rows that two rows make which meet, one of each table: a variable that both tables have is
+/// given the same span by both, or is absent from both. Those of the right table are found by what
+/// they say of these variables.
 pub fn join(alloc: Global, left: &Table, right: &Table) -> Result<Table, OutOfMemory>
     requires left { AreRows left.now.names left.now.rows.items }
     requires right { AreRows right.now.names right.now.rows.items }
@@ -61,7 +62,7 @@ fn has_name(names: &VarSet, name: &Name) -> bool
 }
 
 /// Adds the names to a set that has room for them.
-fn add_names(into: &mut VarSet, names: &VarSet)
+pub fn add_names(into: &mut VarSet, names: &VarSet)
     requires { HaveRoom into.old (Has names.now) }
     ensures { Adds into.old (Has names.now) into.new }
 {
@@ -85,8 +86,7 @@ fn places_by_key(
     table: &Table,
     key_names: &VarSet,
 ) -> Result<BTreeMap<Row, Vec<usize>>, OutOfMemory>
-    requires rows { AreRows table.now.names table.now.rows.items }
-    requires names { (x : VarName) → Has key_names.now x → Has table.now.names x }
+    requires { AreRows table.now.names table.now.rows.items }
     ensures { IfOk result (λ m. (key : SpanRow) (p : ℕ) → IsSomeAnd (get row_cmp m key) (λ v. Has v.items p)
         ↔ IsPlaceOf table.now.names key_names.now table.now.rows.items key p) }
 {
@@ -126,7 +126,6 @@ fn add_joins(
 ) -> Result<(), OutOfMemory>
     requires left { length row.now ≡ length left_names.now }
     requires right { AreRows right.now.names right.now.rows.items }
-    requires named { (x : VarName) → Has names.now x → Has left_names.now x ⊎ Has right.now.names x }
     requires shared { (x : VarName) → Has shared.now x ↔ (Has left_names.now x × Has right.now.names x) }
     requires places { (key : SpanRow) (p : ℕ) → IsSomeAnd (get row_cmp places.now key) (λ v. Has v.items p)
         ↔ IsPlaceOf right.now.names shared.now right.now.rows.items key p }
@@ -153,7 +152,6 @@ fn add_joined(
     requires left { length row.now ≡ length left_names.now }
     requires right { AreRows right.now.names right.now.rows.items }
     requires within { (p : ℕ) → Has places.now p → p < length right.now.rows.items }
-    requires named { (x : VarName) → Has names.now x → Has left_names.now x ⊎ Has right.now.names x }
     ensures { OnOk result (Tells (Has rows.new.items) (λ r. Has rows.old.items r
         ⊎ FromSome (JoinsWith names.now left_names.now right.now.names row.now right.now.rows.items) places.now r)) }
 {
@@ -167,19 +165,16 @@ fn add_joined(
 fn both(names: &VarSet, left_names: &VarSet, left: &Row, right_names: &VarSet, right: &Row) -> Row
     requires left { length left.now ≡ length left_names.now }
     requires right { length right.now ≡ length right_names.now }
-    requires named { (x : VarName) → Has names.now x → Has left_names.now x ⊎ Has right_names.now x }
     ensures { result ≡ row_of names.now (merged left_names.now right_names.now left.now right.now) }
 {
     let mut row = Row::empty();
     for k in 0..names.len() {
-        if let Some(span) = span_in_either(left_names, left, right_names, right, names.at(k)) {
-            row.push(span);
-        }
+        row.push(span_in_either(left_names, left, right_names, right, names.at(k)));
     }
     row
 }
 
-/// The span of a name in the left row, or where that has no such name in the right one.
+/// The span of a name in the left row, or where the left names have no such name in the right one.
 fn span_in_either(
     left_names: &VarSet,
     left: &Row,
@@ -189,11 +184,11 @@ fn span_in_either(
 ) -> Option<Span>
     requires left { length left.now ≡ length left_names.now }
     requires right { length right.now ≡ length right_names.now }
-    ensures value { result ≡ merged left_names.now right_names.now left.now right.now name.now }
-    ensures none { IfNone result (¬ (Has left_names.now name.now ⊎ Has right_names.now name.now)) }
+    ensures { result ≡ merged left_names.now right_names.now left.now right.now name.now }
 {
-    match span_in(left, left_names, name) {
-        Some(span) => Some(span),
-        None => span_in(right, right_names, name),
+    if has_name(left_names, name) {
+        span_in(left, left_names, name)
+    } else {
+        span_in(right, right_names, name)
     }
 }

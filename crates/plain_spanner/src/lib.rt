@@ -13,6 +13,9 @@ mod repeats;
 mod rows;
 mod table;
 mod tables;
+#[cfg(test)]
+mod tests;
+mod unite;
 
 /// The most bytes of a document.
 pub const MOST_DOCUMENT_BYTES: usize = 268_435_456;

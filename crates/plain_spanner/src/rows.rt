@@ -2,12 +2,12 @@
 ghost use Rattle.std.specs.Prelude.{◌≡◌, ◌↔◌, ◌⊎◌, ℕ, ◌<◌, ◌≤◌, List, [], length, IfOk, OnOk, IsTrue};
 ghost use Rattle.span_core.specs.Lists.{Has};
 ghost use Rattle.spanner_model.specs.View.{tree_of};
-ghost use Rattle.spanner_model.specs.Captures.{VarName, Captured, span_of, row_of};
-ghost use Rattle.spanner_model.specs.Functional.{HasVar, IsFunctional};
+ghost use Rattle.spanner_model.specs.Captures.{span_of, row_of};
+ghost use Rattle.spanner_model.specs.Sequential.{HasVar, IsSequential};
 ghost use Rattle.spanner_model.specs.WellBuilt.{IsWellBuilt};
 ghost use Rattle.spanner_model.specs.Gathered.{HaveRoom};
 ghost use Rattle.spanner_model.specs.Answer.{FitsSomewhere};
-ghost use Rattle.plain_spanner.specs.Listed.{Tells, FromSome, EndAndCaptures, HasFit};
+ghost use Rattle.plain_spanner.specs.Listed.{Tells, FromSome};
 ghost use Rattle.plain_spanner.specs.Tables.{IsTable, IsRowOfFits};
 
 use crate::MOST_DOCUMENT_BYTES;
@@ -21,7 +21,7 @@ use std::alloc::Global;
 /// The answers of the atom.
 pub fn atom_table(alloc: Global, atom: &Atom, doc: &[u8]) -> Result<Table, OutOfMemory>
     requires built { IsWellBuilt (tree_of atom.now.formula) }
-    requires functional { IsFunctional (tree_of atom.now.formula) }
+    requires sequential { IsSequential (tree_of atom.now.formula) }
     requires room { HaveRoom [] (HasVar (tree_of atom.now.formula)) }
     requires short { length doc.now ≤ MOST_DOCUMENT_BYTES }
     ensures { IfOk result (λ t. IsTable (HasVar (tree_of atom.now.formula))
@@ -58,7 +58,6 @@ fn add_rows(
     to_end: bool,
     end: usize,
 ) -> Result<(), OutOfMemory>
-    requires { (f : EndAndCaptures) (x : VarName) → HasFit found.now f → Has names.now x → Captured f.1 x }
     ensures { OnOk result (Tells (Has rows.new.items)
         (λ r. Has rows.old.items r ⊎ FromSome (IsRowOfFits names.now to_end end) found.now r)) }
 {
@@ -76,7 +75,6 @@ fn add_row(
     to_end: bool,
     end: usize,
 ) -> Result<(), OutOfMemory>
-    requires { (j : ℕ) (x : VarName) → Has branch.now.1 j → Has names.now x → Captured branch.now.0 x }
     ensures { OnOk result (Tells (Has rows.new.items)
         (λ r. Has rows.old.items r ⊎ IsRowOfFits names.now to_end end branch.now r)) }
 {
@@ -99,21 +97,18 @@ fn some_ends_there(ends: &[usize], to_end: bool, end: usize) -> bool
     false
 }
 
-/// The row of these captures.
+/// The row of these captures. A name that is not captured is absent.
 fn row_of_captures(names: &VarSet, captures: &[(Name, Span)]) -> Row
-    requires { (x : VarName) → Has names.now x → Captured captures.now x }
     ensures { result ≡ row_of names.now (span_of captures.now) }
 {
     let mut row = Row::empty();
     for k in 0..names.len() {
-        if let Some(span) = find_span(captures, names.at(k)) {
-            row.push(span);
-        }
+        row.push(find_span(captures, names.at(k)));
     }
     row
 }
 
-/// The span that a name is given.
+/// The span that a name is given, if it is captured.
 fn find_span(captures: &[(Name, Span)], name: &Name) -> Option<Span>
     ensures { result ≡ span_of captures.now name.now }
 {

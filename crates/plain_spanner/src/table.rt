@@ -1,11 +1,11 @@
 //! Tables of answers.
-ghost use Rattle.std.specs.Prelude.{◌≡◌, ◌≤◌, ℕ, List, [], ◌∷◌, length, IfOk, IfNone};
+ghost use Rattle.std.specs.Prelude.{◌≡◌, ◌≤◌, List, [], ◌∷◌, length, IfOk};
 ghost use Rattle.span_core.specs.NameSets.{Ascending};
 ghost use Rattle.span_core.specs.Lists.{Has};
-ghost use Rattle.spanner_model.specs.Captures.{VarName, mapping_of};
+ghost use Rattle.spanner_model.specs.Captures.{mapping_of};
 ghost use Rattle.spanner_model.specs.Answers.{SpanRow};
 ghost use Rattle.plain_spanner.specs.Listed.{Tells, FromSome};
-ghost use Rattle.plain_spanner.specs.Tables.{kept_row, AreRows};
+ghost use Rattle.plain_spanner.specs.Tables.{row_over, IsRowOver, AreRows};
 
 use crate::order::sort_once;
 use span_core::{MOST_VARIABLES, Name, OutOfMemory, Row, Span, VarSet};
@@ -31,52 +31,58 @@ impl Table {
         })
     }
 
-    /// The rows with the kept variables alone, each once.
-    pub fn keep(&self, alloc: Global, kept: &VarSet) -> Result<Table, OutOfMemory>
-        requires rows { AreRows self.now.names self.now.rows.items }
-        requires names { (x : VarName) → Has kept.now x → Has self.now.names x }
-        ensures names { IfOk result (λ t. t.names ≡ kept.now) }
-        ensures ascending { Ascending kept.now }
-        ensures rows { IfOk result
-            (λ t. Tells (Has t.rows.items) (FromSome (λ a r. r ≡ kept_row self.now.names kept.now a) self.now.rows.items)) }
+    /// The table of no variable, with no row.
+    pub fn none(alloc: Global) -> Table
+        ensures names { result.names ≡ [] }
+        ensures rows { result.rows.items ≡ [] }
     {
-        prove!(kept.len() <= MOST_VARIABLES);
+        Table {
+            names: VarSet::empty(),
+            rows: Vec::new(alloc),
+        }
+    }
+
+    /// The rows over these names, each once. A name that is none of the table's is absent.
+    pub fn over(&self, alloc: Global, names: &VarSet) -> Result<Table, OutOfMemory>
+        requires { AreRows self.now.names self.now.rows.items }
+        ensures names { IfOk result (λ t. t.names ≡ names.now) }
+        ensures ascending { Ascending names.now }
+        ensures rows { IfOk result
+            (λ t. Tells (Has t.rows.items) (FromSome (IsRowOver self.now.names names.now) self.now.rows.items)) }
+    {
+        prove!(names.len() <= MOST_VARIABLES);
         let mut rows = Vec::new(alloc);
         for row in &self.rows {
-            rows.push(row_with(row, &self.names, kept))?;
+            rows.push(row_with(row, &self.names, names))?;
         }
         sort_once(&mut rows);
         Ok(Table {
-            names: kept.copy(),
+            names: names.copy(),
             rows,
         })
     }
 }
 
-/// The row over the kept names of a row over these names.
-pub fn row_with(row: &Row, names: &VarSet, kept: &VarSet) -> Row
-    requires long { length row.now ≡ length names.now }
-    requires names { (x : VarName) → Has kept.now x → Has names.now x }
-    ensures { result ≡ kept_row names.now kept.now row.now }
+/// The row over the other names of a row over these names.
+pub fn row_with(row: &Row, names: &VarSet, others: &VarSet) -> Row
+    requires { length row.now ≡ length names.now }
+    ensures { result ≡ row_over names.now others.now row.now }
 {
     let mut result = Row::empty();
-    for k in 0..kept.len() {
-        if let Some(span) = span_in(row, names, kept.at(k)) {
-            result.push(span);
-        }
+    for k in 0..others.len() {
+        result.push(span_in(row, names, others.at(k)));
     }
     result
 }
 
-/// The span of a name in a row over these names.
+/// The span of a name in a row over these names. None where it is absent, and for any other name.
 pub fn span_in(row: &Row, names: &VarSet, name: &Name) -> Option<Span>
     requires { length row.now ≡ length names.now }
-    ensures value { result ≡ mapping_of names.now row.now name.now }
-    ensures none { IfNone result (¬ Has names.now name.now) }
+    ensures { result ≡ mapping_of names.now row.now name.now }
 {
     prove!(names.len() <= MOST_VARIABLES);
     match names.find(name) {
-        Some(place) => Some(row.at(place)),
+        Some(place) => row.at(place),
         None => None,
     }
 }

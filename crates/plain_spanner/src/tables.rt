@@ -8,9 +8,9 @@ ghost use Rattle.plain_spanner.specs.Tables.{IsTableOf, AreTables, IsAsked};
 
 use crate::MOST_DOCUMENT_BYTES;
 use crate::join::join;
-use crate::order::sort_once;
 use crate::rows::atom_table;
 use crate::table::Table;
+use crate::unite::unite;
 use span_core::OutOfMemory;
 use spanner_model::{Expr, Exprs, Query};
 use std::alloc::Global;
@@ -33,13 +33,13 @@ pub fn expr_table(
         Expr::Atom(atom) => atom_table(alloc, atom, doc),
         Expr::Named(k) => {
             let known = &tables[*k as usize];
-            known.keep(alloc, &known.names)
+            known.over(alloc, &known.names)
         }
         Expr::Union(parts) => union_table(alloc, query, tables, parts, doc),
         Expr::Join(parts) => join_table(alloc, query, tables, parts, doc),
         Expr::Project(kept, sub) => {
             let inner = expr_table(alloc, query, tables, sub, doc)?;
-            inner.keep(alloc, kept)
+            inner.over(alloc, kept)
         }
     }
 }
@@ -58,12 +58,11 @@ fn union_table(
     requires short { length doc.now ≤ MOST_DOCUMENT_BYTES }
     ensures { IfOk result (λ t. IsTableOf (query_of query.now) doc.now (length tables.now) (union_all (exprs_of parts.now)) t.names t.rows.items) }
 {
-    let mut all = expr_table(alloc, query, tables, parts.at(0), doc)?;
-    for k in 1..parts.len() {
-        let mut other = expr_table(alloc, query, tables, parts.at(k), doc)?;
-        all.rows.append(&mut other.rows)?;
+    let mut all = Table::none(alloc);
+    for k in 0..parts.len() {
+        let next = expr_table(alloc, query, tables, parts.at(k), doc)?;
+        all = unite(alloc, &all, &next)?;
     }
-    sort_once(&mut all.rows);
     Ok(all)
 }
 

@@ -1,5 +1,5 @@
 -- What unions and joins make of their parts, for both alike.
-use Rattle.std.proofs.Common.{◌≡◌, ◌≤◌, List, length}
+use Rattle.std.proofs.Common.{◌≤◌, List, length}
 use Rattle.span_core.specs.declared.TheConstants.{MOST_VARIABLES}
 use Rattle.spanner_model.specs.Expression.{ExprTree, union_all, join_all}
 use Rattle.marked_automaton.specs.declared.fault.SizeFault.{SizeFault}
@@ -23,9 +23,8 @@ of_two Union A B = of_union A B
 of_two Join A B = of_join A B
 
 -- what is asked of the two
-abbrev pub CanCombine : Operation → Marked → Marked → Type 0
-CanCombine Union A B = A.names ≡ B.names
-CanCombine Join A B = length (all_names A.names B.names) ≤ MOST_VARIABLES
+abbrev pub HaveFewNames : Marked → Marked → Type 0
+HaveFewNames A B = length (all_names A.names B.names) ≤ MOST_VARIABLES
 
 -- what it makes of the two is too large: the count passes the limit, and is no more than the number
 abbrev pub AreTooLarge : Operation → Marked → Marked → SizeFault → Type 0

@@ -1,5 +1,5 @@
 -- What is made of the parts of an expression when it is compiled.
-use Rattle.std.proofs.Common.{◌≡◌, ℕ, Bool, true, false, map, ◌+◌, ◌≤◌, ◌⊎◌, List, [], ◌∷◌, length, take, drop, Some, inl, inr, refl, sym, ap, subst, arith, ◌∙◌}
+use Rattle.std.proofs.Common.{◌≡◌, ℕ, Bool, true, false, map, ◌+◌, ◌≤◌, List, [], ◌∷◌, length, take, drop, Some, inl, inr, refl, sym, ap, subst, arith, ◌∙◌}
 use Rattle.std.specs.Prelude.{slice_get}
 use Rattle.std.specs.FinSet as set
 use Rattle.std.specs.List.{filter}
@@ -8,45 +8,48 @@ use Rattle.std.proofs.Math.Seq.{take-length}
 use Rattle.std.proofs.lemmas.List.{take-append-drop}
 use Rattle.span_core.specs.NameSets.{Ascending}
 use Rattle.span_core.specs.Lists.{Has}
+use Rattle.span_core.specs.declared.TheConstants.{MOST_VARIABLES}
 use Rattle.spanner_model.specs.Captures.{VarName, Mapping}
 use Rattle.spanner_model.specs.Expression.{ExprTree, QueryTree, project, union_all, join_all}
 use Rattle.spanner_model.specs.Answer.{VarOf, Answer, vars_of_lets, answers_of_lets}
-use Rattle.spanner_model.specs.Sound.{IsSoundExpr, NameIn, NameInLets, NameOf}
+use Rattle.spanner_model.specs.Sound.{IsSoundExpr, NameIn, NameInLets, NameOf, sure_of_lets}
 use Rattle.spanner_model.proofs.Deciding.{told_lets}
-use Rattle.spanner_model.proofs.ExprLaws.{union_part, join_part, union_var, union_named, join_named, var_named, lets_named}
+use Rattle.spanner_model.proofs.ExprLaws.{union_part, join_part, union_named, join_named, var_named, lets_named}
 use Rattle.span_core.proofs.HasLaws.{Has-slice_get, Has-append_cases, Has-append_left, Has-map_cases, distinct-le}
-use Rattle.spanner_model.proofs.NameLaws.{ascending-distinct, same_names}
+use Rattle.spanner_model.proofs.NameLaws.{ascending-distinct}
 use Rattle.spanner_model.proofs.TreeLaws.{take_at_more}
 use Rattle.marked_automaton.specs.declared.way.Way.{Way}
 use Rattle.marked_automaton.specs.declared.fault.SizeFault.{SizeFault}
 use Rattle.marked_automaton.specs.declared.fault.SizeFault.TheVariants.{States, Ways, OutOfMemory}
 use Rattle.marked_automaton.specs.Automaton.{Automaton, ByteClass, HasByte, IsWhole, IsMarked, Marked}
 use Rattle.marked_automaton.specs.Laws.{WaysHaveBytes}
+use Rattle.marked_automaton.specs.Marks.{left_of, remarked_way}
 use Rattle.marked_automaton.specs.Reduct.{Reduces, ReducesMarked}
 use Rattle.marked_automaton.proofs.Reducts.{reduct_of_reduct}
 use Rattle.marked_automaton.proofs.Sizes.{reduct_is_no_larger}
 use Rattle.algebra.specs.JoinedMarks.{agree_on, joined}
 use Rattle.algebra.specs.JoinedNames.{all_names}
 use Rattle.algebra.specs.Operations.{union_of, join_of, goes_with, pair_way, has_some, meet, moved_way}
+use Rattle.algebra.specs.Uniting.{graph_over, union_over}
 use Rattle.algebra.proofs.Bytes.{some_has}
 use Rattle.marked_automaton.proofs.Passing.{filter_cases, flat_map_cases, right_true}
 use Rattle.algebra.proofs.ReductJoins.{reduct_of_join}
-use Rattle.algebra.proofs.ReductUnions.{reduct_of_union}
-use Rattle.algebra.proofs.Whole.{union_whole, join_whole}
+use Rattle.algebra.proofs.UnionsOver.{reduct_of_union_over, union_over_whole}
+use Rattle.algebra.proofs.Whole.{join_whole}
 use Rattle.query_automaton.specs.Compiling.{IsAsked, AreCompiled, IsCompiledFrom}
-use Rattle.query_automaton.specs.Parts.{HasLargePartOf, HasSmallAtoms}
+use Rattle.query_automaton.specs.Parts.{HasLargePartOf, HasSmallAtoms, numbers_of}
 use Rattle.query_automaton.specs.QueryAutomaton.{of_union, of_join, automaton_of, united, together, of_lets}
 use Rattle.query_automaton.proofs.Names.{all_ascend, all_are}
-use Rattle.query_automaton.proofs.Combining.{AreTooLarge, CanCombine, Operation, Union, Join, all_of, of_two}
+use Rattle.query_automaton.proofs.Combining.{AreTooLarge, HaveFewNames, Operation, Union, Join, all_of, of_two}
 use Rattle.query_automaton.proofs.Combined.{alone, first_taken, grown, step_is_part, two_parts}
 use Rattle.query_automaton.proofs.QueryWords.{expr_for, lets_for}
 use Rattle.query_automaton.proofs.Words.{IsFor}
 
 -- ---- a part of what is asked
 
-part_sound : (V : ℕ → VarName → Type 0) (n : ℕ) (o : Operation) (es : List ExprTree) (e : ExprTree) → Has es e → IsSoundExpr V n (all_of o es) → IsSoundExpr V n e
-part_sound V n Union es e h sound = union_part V n es e sound h
-part_sound V n Join es e h sound = join_part V n es e sound h
+part_sound : (V S : ℕ → VarName → Type 0) (n : ℕ) (o : Operation) (es : List ExprTree) (e : ExprTree) → Has es e → IsSoundExpr V S n (all_of o es) → IsSoundExpr V S n e
+part_sound V S n Union es e h sound = union_part V S n es e sound h
+part_sound V S n Join es e h sound = join_part V S n es e sound h
 
 part_named : (o : Operation) (es : List ExprTree) (e : ExprTree) (x : VarName) → Has es e → NameIn e x → NameIn (all_of o es) x
 part_named Union es e x h v = union_named es e x h v
@@ -55,7 +58,7 @@ part_named Join es e x h v = join_named es e x h v
 pub asked_part : (o : Operation) (q : QueryTree) (n : ℕ) (es : List ExprTree) (e : ExprTree) → Has es e → IsAsked q n (all_of o es) → IsAsked q n e
 asked_part o q n es e h a = record {
   sound = a.sound;
-  sound_expr = part_sound (vars_of_lets q.lets n) n o es e h a.sound_expr;
+  sound_expr = part_sound (vars_of_lets q.lets n) (sure_of_lets q.lets n) n o es e h a.sound_expr;
   named = λ x v. a.named x (part_named o es e x h v);
 }
 
@@ -102,21 +105,35 @@ union_bytes A B a b y h =
       | inr z ↦ let r = Has-map_cases (moved_way A.states) B.ways y z in λ none. b r.0 r.1 (ap (λ (g : Way). g.bytes) r.2 ∙ none)
     ]
 
+-- those of an automaton over other names have those that they had
+bytes_over : (all : List VarName) (A : Marked) → WaysHaveBytes A.graph → WaysHaveBytes (graph_over all A)
+bytes_over all A a y h =
+    let r = Has-map_cases (remarked_way (left_of A.names all)) A.graph.ways y h in
+    λ none. a r.0 r.1 (ap (λ (g : Way). g.bytes) r.2 ∙ none)
+
 two_whole : (o : Operation) (A B : Marked) → IsWhole A.graph → IsWhole B.graph → IsWhole (of_two o A B).graph
-two_whole Union A B a b = union_whole A.graph B.graph a b
+two_whole Union A B a b = union_over_whole A B (all_names A.names B.names) a b
 two_whole Join A B a b =
     let names = all_names A.names B.names in
     join_whole A.graph B.graph a b (agree_on A.names B.names names) (joined A.names B.names names)
 
 two_bytes : (o : Operation) (A B : Marked) → WaysHaveBytes A.graph → WaysHaveBytes B.graph → WaysHaveBytes (of_two o A B).graph
-two_bytes Union A B a b = union_bytes A.graph B.graph a b
+two_bytes Union A B a b =
+    let all = all_names A.names B.names in
+    union_bytes (graph_over all A) (graph_over all B) (bytes_over all A a) (bytes_over all B b)
 two_bytes Join A B a b =
     let names = all_names A.names B.names in
     join_bytes (agree_on A.names B.names names) (joined A.names B.names names) A.graph B.graph
 
 two_reduce : (o : Operation) (A B C D : Marked) → IsWhole A.graph → IsWhole B.graph → IsWhole C.graph → IsWhole D.graph → ReducesMarked A B → ReducesMarked C D →
     ReducesMarked (of_two o A C) (of_two o B D)
-two_reduce Union A B C D a b c d r s = (r.0, reduct_of_union A.graph B.graph C.graph D.graph a b c d r.1 s.1)
+two_reduce Union A B C D a b c d r s =
+    let names : all_names A.names C.names ≡ all_names B.names D.names =
+    ap (λ (ns : List VarName). all_names ns C.names) r.0 ∙ ap (λ (ns : List VarName). all_names B.names ns) s.0 in (
+      names,
+      subst (λ (ns : List VarName). Reduces (union_over A C ns) (of_union B D).graph) (sym names)
+          (reduct_of_union_over A B C D (all_names B.names D.names) a b c d r.0 s.0 r.1 s.1),
+    )
 two_reduce Join A B C D a b c d r s =
     let names = all_names B.names D.names in
     let reduces : Reduces (join_at B.names D.names A.graph C.graph) (of_join B D).graph =
@@ -128,6 +145,19 @@ two_reduce Join A B C D a b c d r s =
   where
     join_at : List VarName → List VarName → Automaton → Automaton → Automaton
     join_at ns ms X Y = join_of (agree_on ns ms (all_names ns ms)) (joined ns ms (all_names ns ms)) X Y
+
+-- ---- names
+
+-- the names ascend, and each is one of these
+record HasNamesOf (P : VarName → Type 0) (A : Marked) : Type 0 where
+  ascend : Ascending A.names
+  those : (z : VarName) → Has A.names z → P z
+
+two_names : (P : VarName → Type 0) (A B : Marked) → HasNamesOf P A → HasNamesOf P B → Ascending (all_names A.names B.names) × ((z : VarName) → Has (all_names A.names B.names) z → P z)
+two_names P A B a b = (
+  all_ascend B.names A.names a.ascend,
+  λ z h. elim ((all_are A.names B.names z).0 h) as (λ _. P z) [ inl i ↦ a.those z i | inr i ↦ b.those z i ],
+)
 
 -- ---- compiled parts
 
@@ -143,6 +173,9 @@ module _ (q : QueryTree) (lets : List Marked) (known : AreCompiled q lets) where
   abbrev V : ℕ → VarName → Type 0
   V = vars_of_lets q.lets N
 
+  abbrev S : ℕ → VarName → Type 0
+  S = sure_of_lets q.lets N
+
   abbrev L : ℕ → Marked
   L = of_lets q.lets N
 
@@ -152,48 +185,51 @@ module _ (q : QueryTree) (lets : List Marked) (known : AreCompiled q lets) where
   -- names, and that it is whole, of an expression's automaton
   pub shape : (e : ExprTree) → IsAsked q N e → IsFor [] (VarOf V e) (Answer V Lets [] e) (automaton_of L e)
   shape e asked =
-      expr_for [] (λ i b at. absurd (cc)) N V Lets L
+      expr_for [] (λ i b at. absurd (cc)) N V S Lets L
       (lets_for [] (λ i b at. absurd (cc)) q.lets asked.sound.sound_lets N known.few N (omega arith)) (told_lets q.lets N) e asked.sound_expr
 
   -- a variable of the expression is a name of the query
   pub var_name : (e : ExprTree) → IsAsked q N e → (x : VarName) → VarOf V e x → NameOf q x
   var_name e a x v =
-      elim (var_named V (NameInLets q.lets) (lets_named q.lets a.sound.sound_lets N) N e x a.sound_expr v) as (λ _. NameOf q x) [ inl i ↦ a.named x i | inr j ↦ inl j ]
+      elim (var_named V S (NameInLets q.lets) (lets_named q.lets a.sound.sound_lets N) N e x a.sound_expr v) as (λ _. NameOf q x) [ inl i ↦ a.named x i | inr j ↦ inl j ]
+
+  part_names : (e : ExprTree) → IsAsked q N e → HasNamesOf (NameOf q) (automaton_of L e)
+  part_names e a = let s = shape e a in record { ascend = s.ascending; those = λ z h. var_name e a z ((s.names z).0 h) }
 
   -- ---- the automata of the first parts
 
-  whole_united : (xs : List ExprTree) (A : Marked) → IsWhole A.graph → ((e : ExprTree) → Has xs e → IsWhole (automaton_of L e).graph) → IsWhole (united L A (union_all xs)).graph
-  whole_united [] A a h = a
-  whole_united (x ∷ xs) A a h =
-      whole_united xs (of_union A (automaton_of L x)) (two_whole Union A (automaton_of L x) a (h x (inl refl))) (λ e i. h e (inr i))
+  -- an automaton with the parts that follow it
+  abbrev combined : Operation → Marked → List ExprTree → Marked
+  combined Union A xs = united L A (union_all xs)
+  combined Join A xs = together L A (join_all xs)
 
-  whole_together : (xs : List ExprTree) (A : Marked) → IsWhole A.graph → ((e : ExprTree) → Has xs e → IsWhole (automaton_of L e).graph) → IsWhole (together L A (join_all xs)).graph
-  whole_together [] A a h = a
-  whole_together (x ∷ xs) A a h =
-      whole_together xs (of_join A (automaton_of L x)) (two_whole Join A (automaton_of L x) a (h x (inl refl))) (λ e i. h e (inr i))
+  whole_combined : (o : Operation) (xs : List ExprTree) (A : Marked) → IsWhole A.graph → ((e : ExprTree) → Has xs e → IsWhole (automaton_of L e).graph) → IsWhole (combined o A xs).graph
+  whole_combined Union [] A a h = a
+  whole_combined Join [] A a h = a
+  whole_combined Union (x ∷ xs) A a h =
+      whole_combined Union xs (of_union A (automaton_of L x)) (two_whole Union A (automaton_of L x) a (h x (inl refl))) (λ e i. h e (inr i))
+  whole_combined Join (x ∷ xs) A a h =
+      whole_combined Join xs (of_join A (automaton_of L x)) (two_whole Join A (automaton_of L x) a (h x (inl refl))) (λ e i. h e (inr i))
 
   whole_all : (o : Operation) (x : ExprTree) (xs : List ExprTree) → ((e : ExprTree) → Has (x ∷ xs) e → IsWhole (automaton_of L e).graph) → IsWhole (automaton_of L (all_of o (x ∷ xs))).graph
-  whole_all Union x xs h = whole_united xs (automaton_of L x) (h x (inl refl)) (λ e i. h e (inr i))
-  whole_all Join x xs h = whole_together xs (automaton_of L x) (h x (inl refl)) (λ e i. h e (inr i))
+  whole_all Union x xs h = whole_combined Union xs (automaton_of L x) (h x (inl refl)) (λ e i. h e (inr i))
+  whole_all Join x xs h = whole_combined Join xs (automaton_of L x) (h x (inl refl)) (λ e i. h e (inr i))
 
-  names_united : (xs : List ExprTree) (A : Marked) → (united L A (union_all xs)).names ≡ A.names
-  names_united [] A = refl
-  names_united (x ∷ xs) A = names_united xs (of_union A (automaton_of L x))
+  names_combined : (o : Operation) (P : VarName → Type 0) (xs : List ExprTree) (A : Marked) → HasNamesOf P A → ((e : ExprTree) → Has xs e → HasNamesOf P (automaton_of L e)) →
+      HasNamesOf P (combined o A xs)
+  names_combined Union P [] A a h = a
+  names_combined Join P [] A a h = a
+  names_combined Union P (x ∷ xs) A a h =
+      let two = two_names P A (automaton_of L x) a (h x (inl refl)) in
+      names_combined Union P xs (of_union A (automaton_of L x)) (record { ascend = two.0; those = two.1 }) (λ e i. h e (inr i))
+  names_combined Join P (x ∷ xs) A a h =
+      let two = two_names P A (automaton_of L x) a (h x (inl refl)) in
+      names_combined Join P xs (of_join A (automaton_of L x)) (record { ascend = two.0; those = two.1 }) (λ e i. h e (inr i))
 
-  ascend_together : (xs : List ExprTree) (A : Marked) → Ascending A.names → Ascending (together L A (join_all xs)).names
-  ascend_together [] A a = a
-  ascend_together (x ∷ xs) A a = ascend_together xs (of_join A (automaton_of L x)) (all_ascend (automaton_of L x).names A.names a)
-
-  names_together : (xs : List ExprTree) (A : Marked) (z : VarName) → Has (together L A (join_all xs)).names z → Has A.names z ⊎ ((e : ExprTree) × Has xs e × Has (automaton_of L e).names z)
-  names_together [] A z h = inl h
-  names_together (x ∷ xs) A z h =
-      elim (names_together xs (of_join A (automaton_of L x)) z h) as (λ _. Has A.names z ⊎ ((e : ExprTree) × Has (x ∷ xs) e × Has (automaton_of L e).names z)) [
-        | inl b ↦ elim ((all_are A.names (automaton_of L x).names z).0 b) as (λ _. Has A.names z ⊎ ((e : ExprTree) × Has (x ∷ xs) e × Has (automaton_of L e).names z)) [
-          | inl c ↦ inl c
-          | inr c ↦ inr (x, inl refl, c)
-        ]
-        | inr b ↦ inr (b.0, inr b.1, b.2)
-      ]
+  names_all : (o : Operation) (P : VarName → Type 0) (x : ExprTree) (xs : List ExprTree) → ((e : ExprTree) → Has (x ∷ xs) e → HasNamesOf P (automaton_of L e)) →
+      HasNamesOf P (automaton_of L (all_of o (x ∷ xs)))
+  names_all Union P x xs h = names_combined Union P xs (automaton_of L x) (h x (inl refl)) (λ e i. h e (inr i))
+  names_all Join P x xs h = names_combined Join P xs (automaton_of L x) (h x (inl refl)) (λ e i. h e (inr i))
 
   pub so_far_first : (o : Operation) (es : List ExprTree) (x : ExprTree) (a : Marked) → slice_get es 0 ≡ Some x → IsCompiledFrom q N x a → SoFar q N o es 1 a
   so_far_first o [] x a at c = absurd (cc)
@@ -213,65 +249,36 @@ module _ (q : QueryTree) (lets : List Marked) (known : AreCompiled q lets) where
   -- the first k parts, and the next
   module _ (o : Operation) (es : List ExprTree) (asked : IsAsked q N (all_of o es)) (k : ℕ) (l : 1 ≤ k) where
     has_two : 2 ≤ length es
-    has_two = two_parts V N o es asked.sound_expr
+    has_two = two_parts V S N o es asked.sound_expr
 
     taken_has : (e : ExprTree) → Has (take k es) e → Has es e
     taken_has e h = subst (λ (zs : List ExprTree). Has zs e) (take-append-drop k es) (Has-append_left (take k es) (drop k es) e h)
 
-    taken_shape : (e : ExprTree) → Has (take k es) e → IsFor [] (VarOf V e) (Answer V Lets [] e) (automaton_of L e)
-    taken_shape e h = shape e (asked_part o q N es e (taken_has e h) asked)
+    taken_asked : (e : ExprTree) → Has (take k es) e → IsAsked q N e
+    taken_asked e h = asked_part o q N es e (taken_has e h) asked
 
     prefix_whole : IsWhole (automaton_of L (all_of o (take k es))).graph
     prefix_whole =
         let f = first_taken es k l (omega (arith, has_two)) in
         subst (λ (zs : List ExprTree). IsWhole (automaton_of L (all_of o zs)).graph) (sym f.2)
-        (whole_all o f.0 f.1 (λ e h. (taken_shape e (subst (λ (zs : List ExprTree). Has zs e) (sym f.2) h)).whole))
+        (whole_all o f.0 f.1 (λ e h. (shape e (taken_asked e (subst (λ (zs : List ExprTree). Has zs e) (sym f.2) h))).whole))
 
-  -- the names of the first parts of a union are those of the next
-  united_names : (es : List ExprTree) → IsAsked q N (union_all es) → (k : ℕ) → 1 ≤ k → (y : ExprTree) → Has es y →
-      (automaton_of L (union_all (take k es))).names ≡ (automaton_of L y).names
-  united_names es asked k l y h =
-      let f = first_taken es k l (omega (arith, has_two Union es asked k l)) in
-      let x = f.0 in
-      let here : Has (take k es) x = subst (λ (zs : List ExprTree). Has zs x) (sym f.2) (inl refl) in
-      let a = taken_shape Union es asked k l x here in
-      let b = shape y (asked_part Union q N es y h asked) in
-      let same : (automaton_of L x).names ≡ (automaton_of L y).names =
-      same_names (automaton_of L x).names (automaton_of L y).names a.ascending b.ascending
-      (λ z v. (b.names z).1 ((union_var V N es y z asked.sound_expr h).1 ((union_var V N es x z asked.sound_expr f.3).0 ((a.names z).0 v))))
-      (λ z v. (a.names z).1 ((union_var V N es x z asked.sound_expr f.3).1 ((union_var V N es y z asked.sound_expr h).0 ((b.names z).0 v)))) in
-      subst (λ (zs : List ExprTree). (automaton_of L (union_all zs)).names ≡ (automaton_of L y).names) (sym f.2) (names_united f.1 (automaton_of L x) ∙ same)
+    -- names of the query
+    prefix_names : HasNamesOf (NameOf q) (automaton_of L (all_of o (take k es)))
+    prefix_names =
+        let f = first_taken es k l (omega (arith, has_two)) in
+        subst (λ (zs : List ExprTree). HasNamesOf (NameOf q) (automaton_of L (all_of o zs))) (sym f.2)
+        (names_all o (NameOf q) f.0 f.1 (λ e h. part_names e (taken_asked e (subst (λ (zs : List ExprTree). Has zs e) (sym f.2) h))))
 
-  -- those of a join ascend, and are names of the query
-  together_names : (es : List ExprTree) → IsAsked q N (join_all es) → (k : ℕ) → 1 ≤ k →
-      Ascending (automaton_of L (join_all (take k es))).names × ((z : VarName) → Has (automaton_of L (join_all (take k es))).names z → NameOf q z)
-  together_names es asked k l =
-      let f = first_taken es k l (omega (arith, has_two Join es asked k l)) in
-      let there : (e : ExprTree) → Has (f.0 ∷ f.1) e → Has (take k es) e = λ e h. subst (λ (zs : List ExprTree). Has zs e) (sym f.2) h in
-      let in_part : (e : ExprTree) → Has (f.0 ∷ f.1) e → (z : VarName) → Has (automaton_of L e).names z → NameOf q z =
-      λ e h z v. var_name e (asked_part Join q N es e (taken_has Join es asked k l e (there e h)) asked) z (((taken_shape Join es asked k l e (there e h)).names z).0 v) in
-      subst (λ (zs : List ExprTree). Ascending (automaton_of L (join_all zs)).names × ((z : VarName) → Has (automaton_of L (join_all zs)).names z → NameOf q z)) (sym f.2) (
-        ascend_together f.1 (automaton_of L f.0) (taken_shape Join es asked k l f.0 (there f.0 (inl refl))).ascending,
-        λ z h. elim (names_together f.1 (automaton_of L f.0) z h) as (λ _. NameOf q z) [ inl b ↦ in_part f.0 (inl refl) z b | inr b ↦ in_part b.0 (inr b.1) z b.2 ],
-      )
-
-  -- the first parts can be combined with the next
-  can_combine : (o : Operation) (es : List ExprTree) → IsAsked q N (all_of o es) → (k : ℕ) → 1 ≤ k → (y : ExprTree) → Has es y →
-      CanCombine o (automaton_of L (all_of o (take k es))) (automaton_of L y)
-  can_combine Union es asked k l y h = united_names es asked k l y h
-  can_combine Join es asked k l y h =
-      let A = automaton_of L (join_all (take k es)) in
-      let B = automaton_of L y in
-      let before = together_names es asked k l in
-      let of_y = asked_part Join q N es y h asked in
-      let ascend : Ascending (all_names A.names B.names) = all_ascend B.names A.names before.0 in
-      let least = asked.sound.few in
-      let le = distinct-le (all_names A.names B.names) least.0 (ascending-distinct (all_names A.names B.names) ascend)
-      (λ z n. least.2 z (elim ((all_are A.names B.names z).0 n) as (λ _. NameOf q z) [
-        | inl b ↦ before.1 z b
-        | inr b ↦ var_name y of_y z (((shape y of_y).names z).0 b)
-      ])) in
-      omega (arith, le, least.1)
+    -- the first parts and the next have few names together
+    can_combine : (y : ExprTree) → Has es y → HaveFewNames (automaton_of L (all_of o (take k es))) (automaton_of L y)
+    can_combine y h =
+        let A = automaton_of L (all_of o (take k es)) in
+        let B = automaton_of L y in
+        let two = two_names (NameOf q) A B prefix_names (part_names y (asked_part o q N es y h asked)) in
+        let least = asked.sound.few in
+        let le = distinct-le (all_names A.names B.names) least.0 (ascending-distinct (all_names A.names B.names) two.0) (λ z n. least.2 z (two.1 z n)) in
+        omega (arith, le, least.1)
 
   module _ (o : Operation) (es : List ExprTree) (asked : IsAsked q N (all_of o es)) (k : ℕ) (l : 1 ≤ k) (y : ExprTree) (at : slice_get es k ≡ Some y) (a p : Marked)
       (so_far : SoFar q N o es k a) (part : IsCompiledFrom q N y p) where
@@ -284,15 +291,10 @@ module _ (q : QueryTree) (lets : List Marked) (known : AreCompiled q lets) where
     y_has : Has es y
     y_has = Has-slice_get es k y at
 
-    pub combine : CanCombine o a p
+    pub combine : HaveFewNames a p
     combine =
-        subst (λ (ns : List VarName). CanCombine o (record { names = ns; graph = a.graph }) p) (sym so_far.reduces.0)
-        (subst (λ (ns : List VarName). CanCombine o (record { names = A.names; graph = a.graph }) (record { names = ns; graph = p.graph })) (sym part.reduces.0)
-        (of_names o a p A B (can_combine o es asked k l y y_has)))
-      where
-        of_names : (o : Operation) (a p A B : Marked) → CanCombine o A B → CanCombine o (record { names = A.names; graph = a.graph }) (record { names = B.names; graph = p.graph })
-        of_names Union a p A B h = h
-        of_names Join a p A B h = h
+        subst (λ (ns : List VarName). length (all_names ns p.names) ≤ MOST_VARIABLES) (sym so_far.reduces.0)
+        (subst (λ (ns : List VarName). length (all_names A.names ns) ≤ MOST_VARIABLES) (sym part.reduces.0) (can_combine o es asked k l y y_has))
 
     module _ (marked : IsMarked a × IsMarked p) where
       reduce : ReducesMarked (of_two o a p) (of_two o A B)
@@ -314,6 +316,6 @@ module _ (q : QueryTree) (lets : List Marked) (known : AreCompiled q lets) where
           (less.0, less.1)
 
       pub too_large : (fault : SizeFault) → AreTooLarge o a p fault → HasLargePartOf L (all_of o es) fault
-      too_large (States count) h = (h.0, (of_two o A B, step_is_part L o es k y l at, omega (arith, h.1, no_larger.0)))
-      too_large (Ways count) h = (h.0, (of_two o A B, step_is_part L o es k y l at, omega (arith, h.1, no_larger.1)))
+      too_large (States count) h = (h.0, (numbers_of (of_two o A B), step_is_part L o es k y l at, omega (arith, h.1, no_larger.0)))
+      too_large (Ways count) h = (h.0, (numbers_of (of_two o A B), step_is_part L o es k y l at, omega (arith, h.1, no_larger.1)))
       too_large OutOfMemory h = tt

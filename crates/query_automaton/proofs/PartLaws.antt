@@ -5,7 +5,7 @@ use Rattle.spanner_model.specs.Expression.{ExprTree, union_all, join_all}
 use Rattle.marked_automaton.specs.declared.fault.SizeFault.{SizeFault}
 use Rattle.marked_automaton.specs.declared.fault.SizeFault.TheVariants.{States, Ways, OutOfMemory}
 use Rattle.marked_automaton.specs.Automaton.{Marked}
-use Rattle.query_automaton.specs.Parts.{IsPartOf, IsUnionStep, IsJoinStep, HasLargePartOf}
+use Rattle.query_automaton.specs.Parts.{PartNumbers, HasPart, HasUnionStep, HasJoinStep, HasLargePartOf, numbers_of}
 use Rattle.query_automaton.specs.QueryAutomaton.{of_union, of_join, automaton_of, united, together}
 
 module _ (L : ℕ → Marked) where
@@ -27,47 +27,47 @@ module _ (L : ℕ → Marked) where
   join_push x xs y = together_push xs (automaton_of L x) y
 
   -- a part of a part
-  union_step_part : (xs : List ExprTree) (A : Marked) (e : ExprTree) (M : Marked) → Has xs e → IsPartOf L e M → IsUnionStep L A (union_all xs) M
-  union_step_part [] A e M h p = absurd h
-  union_step_part (x ∷ xs) A e M (inl i) p = inl (subst (λ w. IsPartOf L w M) (sym i) p)
-  union_step_part (x ∷ xs) A e M (inr h) p = inr (inr (union_step_part xs (of_union A (automaton_of L x)) e M h p))
+  union_step_part : (xs : List ExprTree) (A : Marked) (e : ExprTree) (n : PartNumbers) → Has xs e → HasPart L e n → HasUnionStep L A (union_all xs) n
+  union_step_part [] A e n h p = absurd h
+  union_step_part (x ∷ xs) A e n (inl i) p = inl (subst (λ w. HasPart L w n) (sym i) p)
+  union_step_part (x ∷ xs) A e n (inr h) p = inr (inr (union_step_part xs (of_union A (automaton_of L x)) e n h p))
 
-  pub union_part_of : (es : List ExprTree) (e : ExprTree) (M : Marked) → Has es e → IsPartOf L e M → IsPartOf L (union_all es) M
-  union_part_of [] e M h p = absurd h
-  union_part_of (x ∷ es) e M (inl i) p = inl (subst (λ w. IsPartOf L w M) (sym i) p)
-  union_part_of (x ∷ es) e M (inr h) p = inr (union_step_part es (automaton_of L x) e M h p)
+  pub union_part_of : (es : List ExprTree) (e : ExprTree) (n : PartNumbers) → Has es e → HasPart L e n → HasPart L (union_all es) n
+  union_part_of [] e n h p = absurd h
+  union_part_of (x ∷ es) e n (inl i) p = inl (subst (λ w. HasPart L w n) (sym i) p)
+  union_part_of (x ∷ es) e n (inr h) p = inr (union_step_part es (automaton_of L x) e n h p)
 
-  join_step_part : (xs : List ExprTree) (A : Marked) (e : ExprTree) (M : Marked) → Has xs e → IsPartOf L e M → IsJoinStep L A (join_all xs) M
-  join_step_part [] A e M h p = absurd h
-  join_step_part (x ∷ xs) A e M (inl i) p = inl (subst (λ w. IsPartOf L w M) (sym i) p)
-  join_step_part (x ∷ xs) A e M (inr h) p = inr (inr (join_step_part xs (of_join A (automaton_of L x)) e M h p))
+  join_step_part : (xs : List ExprTree) (A : Marked) (e : ExprTree) (n : PartNumbers) → Has xs e → HasPart L e n → HasJoinStep L A (join_all xs) n
+  join_step_part [] A e n h p = absurd h
+  join_step_part (x ∷ xs) A e n (inl i) p = inl (subst (λ w. HasPart L w n) (sym i) p)
+  join_step_part (x ∷ xs) A e n (inr h) p = inr (inr (join_step_part xs (of_join A (automaton_of L x)) e n h p))
 
-  pub join_part_of : (es : List ExprTree) (e : ExprTree) (M : Marked) → Has es e → IsPartOf L e M → IsPartOf L (join_all es) M
-  join_part_of [] e M h p = absurd h
-  join_part_of (x ∷ es) e M (inl i) p = inl (subst (λ w. IsPartOf L w M) (sym i) p)
-  join_part_of (x ∷ es) e M (inr h) p = inr (join_step_part es (automaton_of L x) e M h p)
+  pub join_part_of : (es : List ExprTree) (e : ExprTree) (n : PartNumbers) → Has es e → HasPart L e n → HasPart L (join_all es) n
+  join_part_of [] e n h p = absurd h
+  join_part_of (x ∷ es) e n (inl i) p = inl (subst (λ w. HasPart L w n) (sym i) p)
+  join_part_of (x ∷ es) e n (inr h) p = inr (join_step_part es (automaton_of L x) e n h p)
 
   -- a step is a part
   union_step_is : (xs : List ExprTree) (A : Marked) (y : ExprTree) (ys : List ExprTree) →
-      IsUnionStep L A (union_all (xs ++ y ∷ ys)) (of_union (united L A (union_all xs)) (automaton_of L y))
+      HasUnionStep L A (union_all (xs ++ y ∷ ys)) (numbers_of (of_union (united L A (union_all xs)) (automaton_of L y)))
   union_step_is [] A y ys = inr (inl refl)
   union_step_is (x ∷ xs) A y ys = inr (inr (union_step_is xs (of_union A (automaton_of L x)) y ys))
 
   pub union_step : (x : ExprTree) (xs : List ExprTree) (y : ExprTree) (ys : List ExprTree) →
-      IsPartOf L (union_all (x ∷ xs ++ y ∷ ys)) (of_union (automaton_of L (union_all (x ∷ xs))) (automaton_of L y))
+      HasPart L (union_all (x ∷ xs ++ y ∷ ys)) (numbers_of (of_union (automaton_of L (union_all (x ∷ xs))) (automaton_of L y)))
   union_step x xs y ys = inr (union_step_is xs (automaton_of L x) y ys)
 
   join_step_is : (xs : List ExprTree) (A : Marked) (y : ExprTree) (ys : List ExprTree) →
-      IsJoinStep L A (join_all (xs ++ y ∷ ys)) (of_join (together L A (join_all xs)) (automaton_of L y))
+      HasJoinStep L A (join_all (xs ++ y ∷ ys)) (numbers_of (of_join (together L A (join_all xs)) (automaton_of L y)))
   join_step_is [] A y ys = inr (inl refl)
   join_step_is (x ∷ xs) A y ys = inr (inr (join_step_is xs (of_join A (automaton_of L x)) y ys))
 
   pub join_step : (x : ExprTree) (xs : List ExprTree) (y : ExprTree) (ys : List ExprTree) →
-      IsPartOf L (join_all (x ∷ xs ++ y ∷ ys)) (of_join (automaton_of L (join_all (x ∷ xs))) (automaton_of L y))
+      HasPart L (join_all (x ∷ xs ++ y ∷ ys)) (numbers_of (of_join (automaton_of L (join_all (x ∷ xs))) (automaton_of L y)))
   join_step x xs y ys = inr (join_step_is xs (automaton_of L x) y ys)
 
   -- what is too large in a part is too large in the whole
-  pub large_part : (e w : ExprTree) (fault : SizeFault) → ((M : Marked) → IsPartOf L e M → IsPartOf L w M) → HasLargePartOf L e fault → HasLargePartOf L w fault
+  pub large_part : (e w : ExprTree) (fault : SizeFault) → ((n : PartNumbers) → HasPart L e n → HasPart L w n) → HasLargePartOf L e fault → HasLargePartOf L w fault
   large_part e w (States count) up h = (h.0, (h.1.0, up h.1.0 h.1.1, h.1.2))
   large_part e w (Ways count) up h = (h.0, (h.1.0, up h.1.0 h.1.1, h.1.2))
   large_part e w OutOfMemory up h = h

@@ -8,14 +8,12 @@ use Rattle.span_core.specs.NameSets.{Ascending}
 use Rattle.span_core.specs.Lists.{Has}
 use Rattle.spanner_model.specs.Tree.{Tree}
 use Rattle.spanner_model.specs.Captures.{VarName}
-use Rattle.spanner_model.specs.Functional.{HasVar, IsFunctional}
-use Rattle.spanner_model.specs.WellBuilt.{IsWellBuilt}
+use Rattle.spanner_model.specs.Sequential.{HasVar}
 use Rattle.spanner_model.specs.Expression.{ExprTree, QueryTree, atom, project}
 use Rattle.spanner_model.specs.Sound.{IsSound}
 use Rattle.spanner_model.proofs.ExprLaws.{let_named}
 use Rattle.span_core.proofs.HasLaws.{place_of-Has}
 use Rattle.spanner_model.proofs.NameLaws.{ascending-distinct, same_names}
-use Rattle.marked_automaton.specs.declared.TheConstants.{MOST_STATES, MOST_WAYS}
 use Rattle.marked_automaton.specs.declared.fault.SizeFault.{SizeFault}
 use Rattle.marked_automaton.specs.declared.fault.SizeFault.TheVariants.{States, Ways, OutOfMemory}
 use Rattle.marked_automaton.specs.Automaton.{Automaton, IsMarked, Marked}
@@ -30,21 +28,17 @@ use Rattle.place_automaton.specs.Counts.{count_states, count_ways}
 use Rattle.place_automaton.specs.Refusals.{IsRefusalOf}
 use Rattle.place_automaton.specs.Variables.{with_vars}
 use Rattle.place_automaton.specs.Words.{atom_automaton}
-use Rattle.place_automaton.proofs.CountLaws.{count_law}
 use Rattle.place_automaton.proofs.NameLists.{list_ascends, vars_are}
 use Rattle.query_automaton.specs.Compiling.{IsAsked, AreCompiled, IsCompiledFrom}
-use Rattle.query_automaton.specs.Parts.{HasLargePartOf, HasSmallAtoms}
+use Rattle.query_automaton.specs.Parts.{HasLargePartOf, HasSmallAtoms, PartNumbers}
 use Rattle.query_automaton.specs.QueryAutomaton.{of_atom, automaton_of, of_lets, of_one_let}
 use Rattle.query_automaton.proofs.CompileLaws.{asked_sub, shape}
 
 -- ---- atoms
 
-module _ (s t : Bool) (f : Tree) (built : IsWellBuilt f) (functional : IsFunctional f) where
+module _ (s t : Bool) (f : Tree) where
   atom_ascends : Ascending (with_vars [] f)
   atom_ascends = list_ascends f
-
-  pub atom_counts : ((of_atom s t f).graph.states ≡ count_states s t f) × (length (of_atom s t f).graph.ways ≡ count_ways s t f)
-  atom_counts = count_law s t f
 
   pub atom_names : (names : List VarName) → Ascending names → ((x : VarName) → Has names x ↔ HasVar f x) → names ≡ with_vars [] f
   atom_names names up all =
@@ -57,12 +51,12 @@ module _ (s t : Bool) (f : Tree) (built : IsWellBuilt f) (functional : IsFunctio
       let same = atom_names a.names up all in
       (names ∙ same, reduct_of_reduct c.graph a.graph (of_atom s t f).graph left (subst (λ (ns : List VarName). Reduces a.graph (atom_automaton ns s t f)) same made))
 
-  pub atom_small : (count_states s t f ≤ MOST_STATES) → (count_ways s t f ≤ MOST_WAYS) → HasSmallAtoms (atom s t f)
-  atom_small h g = (omega (arith, h, atom_counts.0), omega (arith, g, atom_counts.1))
+  abbrev counted : PartNumbers
+  counted = record { states = count_states s t f; ways = count_ways s t f }
 
   pub atom_fault : (L : ℕ → Marked) (fault : SizeFault) → IsRefusalOf (capped (count_states s t f)) (capped (count_ways s t f)) fault → HasLargePartOf L (atom s t f) fault
-  atom_fault L (States count) h = (omega (arith, h.0, h.1), (of_atom s t f, refl, omega (arith, h.1, min-le_left (count_states s t f) (2 ^ 64 - 1), atom_counts.0)))
-  atom_fault L (Ways count) h = (omega (arith, h.1, h.2), (of_atom s t f, refl, omega (arith, h.2, min-le_left (count_ways s t f) (2 ^ 64 - 1), atom_counts.1)))
+  atom_fault L (States count) h = (omega (arith, h.0, h.1), (counted, refl, omega (arith, h.1, min-le_left (count_states s t f) (2 ^ 64 - 1))))
+  atom_fault L (Ways count) h = (omega (arith, h.1, h.2), (counted, refl, omega (arith, h.2, min-le_left (count_ways s t f) (2 ^ 64 - 1))))
   atom_fault L OutOfMemory h = tt
 
 -- ---- projections

@@ -1,16 +1,16 @@
 -- What the automaton of a query accepts.
-use Rattle.std.proofs.Common.{◌≡◌, ℕ, zero, suc, ◌<◌, ◌≤◌, ◌⊎◌, ◌↔◌, Bool, true, false, List, [], ◌∷◌, length, Option, Some, None, inl, inr, refl, sym, subst, arith, ◌∙◌}
+use Rattle.std.proofs.Common.{◌≡◌, ℕ, zero, suc, ◌<◌, ◌≤◌, ◌⊎◌, Bool, true, false, List, [], ◌∷◌, length, Option, Some, None, inl, inr, refl, sym, subst, arith, ◌∙◌}
 use Rattle.std.specs.Prelude.{slice_get, nat_eq, MatchBool, if◌then◌else◌}
 use Rattle.std.specs.Option.{IsSomeAnd, ForSome}
 use Rattle.std.proofs.lemmas.Bool.{eqb-false, cases_lt}
 use Rattle.span_core.specs.NameSets.{Ascending}
 use Rattle.spanner_model.specs.Tree.{Tree}
 use Rattle.spanner_model.specs.Captures.{VarName, Mapping}
-use Rattle.spanner_model.specs.Functional.{HasVar, IsFunctional}
+use Rattle.spanner_model.specs.Sequential.{HasVar, IsSequential}
 use Rattle.spanner_model.specs.WellBuilt.{IsWellBuilt}
 use Rattle.spanner_model.specs.Expression.{ExprTree, QueryTree, atom, named, union_end, union, join_end, join, project}
 use Rattle.spanner_model.specs.Answer.{VarOf, IsRestriction, FitsSomewhere, Answer, vars_of_lets, answers_of_lets, IsResultVar, IsAnswer}
-use Rattle.spanner_model.specs.Sound.{IsSound, IsSoundUnder, IsSoundExpr, AreUnited, AreJoined, AgreesWithParts}
+use Rattle.spanner_model.specs.Sound.{IsSound, IsSoundUnder, IsSoundExpr, AreUnited, AreJoined, sure_of_lets}
 use Rattle.spanner_model.proofs.AnswerLaws.{answer_absent}
 use Rattle.spanner_model.proofs.Deciding.{Told, told_of, told_lets}
 use Rattle.spanner_model.proofs.Ends.{answer_ends}
@@ -18,7 +18,6 @@ use Rattle.spanner_model.proofs.NameLaws.{ascending-distinct}
 use Rattle.marked_automaton.specs.Automaton.{Marked}
 use Rattle.place_automaton.specs.Atom.{AreBytes}
 use Rattle.place_automaton.proofs.RowBlocks.{atom_row_law}
-use Rattle.place_automaton.proofs.CountLaws.{functional_sequential}
 use Rattle.place_automaton.proofs.BuiltRepeats.{ordered_repeats}
 use Rattle.place_automaton.proofs.WholeLaws.{whole_law}
 use Rattle.marked_automaton.specs.Reduct.{ReducesMarked}
@@ -32,8 +31,8 @@ use Rattle.query_automaton.proofs.Assoc.{together_assoc, told_or}
 
 -- ---- atoms
 
-pub for_atom : (d : List ℕ) → AreBytes d → (s t : Bool) (f : Tree) → IsWellBuilt f → IsFunctional f → IsFor d (HasVar f) (FitsSomewhere s t f d) (of_atom s t f)
-for_atom d bytes s t f built functional = record {
+pub for_atom : (d : List ℕ) → AreBytes d → (s t : Bool) (f : Tree) → IsWellBuilt f → IsSequential f → IsFor d (HasVar f) (FitsSomewhere s t f d) (of_atom s t f)
+for_atom d bytes s t f built sequential = record {
   whole = whole_law (with_vars [] f) s t f;
   ascending = ascending;
   names = vars_are f;
@@ -41,7 +40,7 @@ for_atom d bytes s t f built functional = record {
   ends = λ m h. answer_ends (λ k x. ⊥) (λ k m. ⊥) d (λ k m h. absurd h) (atom s t f) m h;
   respects = λ m n same h. (h.0, h.1, h.2, h.3, h.4, h.5, h.6, λ x. sym (same x) ∙ h.7 x);
   words = atom_row_law (with_vars [] f) s t f (ascending-distinct (with_vars [] f) ascending) (λ x h. (vars_are f x).1 h)
-      (functional_sequential f functional) (ordered_repeats f built) d bytes;
+      sequential (ordered_repeats f built) d bytes;
 }
   where
     ascending : Ascending (with_vars [] f)
@@ -49,43 +48,8 @@ for_atom d bytes s t f built functional = record {
 
 -- ---- expressions
 
--- the parts of a union that follow have the variables of P, if any follows
-abbrev HasVarsOf : (ℕ → VarName → Type 0) → (VarName → Type 0) → ExprTree → Type 0
-HasVarsOf V P union_end = Unit {0}
-HasVarsOf V P rest = (x : VarName) → P x ↔ VarOf V rest x
-
-module _ (d : List ℕ) (bytes : AreBytes d) (n : ℕ) (V : ℕ → VarName → Type 0) (A : ℕ → Mapping → Type 0)
+module _ (d : List ℕ) (bytes : AreBytes d) (n : ℕ) (V S : ℕ → VarName → Type 0) (A : ℕ → Mapping → Type 0)
     (L : ℕ → Marked) (lets : (k : ℕ) → k < n → IsFor d (V k) (A k) (L k)) (told : (k : ℕ) (x : VarName) → Told (V k x)) where
-  -- a part of a union has the variables of the parts before it, and the parts after it too
-  first_of : (P : VarName → Type 0) (e rest : ExprTree) → HasVarsOf V P (union e rest) → AgreesWithParts V e rest → (x : VarName) → P x ↔ VarOf V e x
-  first_of P e union_end h g x = (λ p. elim ((h x).0 p) [ inl v ↦ v | inr v ↦ absurd v ], λ v. (h x).1 (inl v))
-  first_of P e (union f rest) h g x = (λ p. elim ((h x).0 p) [ inl v ↦ v | inr v ↦ (g x).1 v ], λ v. (h x).1 (inl v))
-  first_of P e (atom s t f) h g x = (λ p. elim ((h x).0 p) [ inl v ↦ v | inr v ↦ (g x).1 v ], λ v. (h x).1 (inl v))
-  first_of P e (named k) h g x = (λ p. elim ((h x).0 p) [ inl v ↦ v | inr v ↦ (g x).1 v ], λ v. (h x).1 (inl v))
-  first_of P e join_end h g x = (λ p. elim ((h x).0 p) [ inl v ↦ v | inr v ↦ (g x).1 v ], λ v. (h x).1 (inl v))
-  first_of P e (join f rest) h g x = (λ p. elim ((h x).0 p) [ inl v ↦ v | inr v ↦ (g x).1 v ], λ v. (h x).1 (inl v))
-  first_of P e (project kept f) h g x = (λ p. elim ((h x).0 p) [ inl v ↦ v | inr v ↦ (g x).1 v ], λ v. (h x).1 (inl v))
-
-  -- the parts after it
-  after_first : (P : VarName → Type 0) (e rest : ExprTree) → HasVarsOf V P (union e rest) → AgreesWithParts V e rest → HasVarsOf V P rest
-  after_first P e union_end h g = tt
-  after_first P e (union f rest) h g = λ x. (λ p. elim ((h x).0 p) [ inl v ↦ (g x).0 v | inr v ↦ v ], λ v. (h x).1 (inr v))
-  after_first P e (atom s t f) h g = λ x. (λ p. elim ((h x).0 p) [ inl v ↦ (g x).0 v | inr v ↦ v ], λ v. (h x).1 (inr v))
-  after_first P e (named k) h g = λ x. (λ p. elim ((h x).0 p) [ inl v ↦ (g x).0 v | inr v ↦ v ], λ v. (h x).1 (inr v))
-  after_first P e join_end h g = λ x. (λ p. elim ((h x).0 p) [ inl v ↦ (g x).0 v | inr v ↦ v ], λ v. (h x).1 (inr v))
-  after_first P e (join f rest) h g = λ x. (λ p. elim ((h x).0 p) [ inl v ↦ (g x).0 v | inr v ↦ v ], λ v. (h x).1 (inr v))
-  after_first P e (project kept f) h g = λ x. (λ p. elim ((h x).0 p) [ inl v ↦ (g x).0 v | inr v ↦ v ], λ v. (h x).1 (inr v))
-
-  -- the variables of the first part are those of the union
-  of_parts : (e rest : ExprTree) → AgreesWithParts V e rest → ((x : VarName) → VarOf V e x ↔ (VarOf V e x ⊎ VarOf V rest x)) × HasVarsOf V (VarOf V e) rest
-  of_parts e union_end g = (λ x. (λ v. inl v, λ h. elim h [ inl v ↦ v | inr v ↦ absurd v ]), tt)
-  of_parts e (union f rest) g = (λ x. (λ v. inl v, λ h. elim h [ inl v ↦ v | inr v ↦ (g x).1 v ]), g)
-  of_parts e (atom s t f) g = (λ x. (λ v. inl v, λ h. elim h [ inl v ↦ v | inr v ↦ (g x).1 v ]), g)
-  of_parts e (named k) g = (λ x. (λ v. inl v, λ h. elim h [ inl v ↦ v | inr v ↦ (g x).1 v ]), g)
-  of_parts e join_end g = (λ x. (λ v. inl v, λ h. elim h [ inl v ↦ v | inr v ↦ (g x).1 v ]), g)
-  of_parts e (join f rest) g = (λ x. (λ v. inl v, λ h. elim h [ inl v ↦ v | inr v ↦ (g x).1 v ]), g)
-  of_parts e (project kept f) g = (λ x. (λ v. inl v, λ h. elim h [ inl v ↦ v | inr v ↦ (g x).1 v ]), g)
-
   -- a join with no part that follows
   last_join : (P : VarName → Type 0) (B : Mapping → Type 0) (M : Marked) → ((x : VarName) → Told (P x)) → IsFor d P B M →
       IsFor d (λ x. P x ⊎ VarOf V join_end x) (Together P B (VarOf V join_end) (Answer V A d join_end)) M
@@ -113,27 +77,32 @@ module _ (d : List ℕ) (bytes : AreBytes d) (n : ℕ) (V : ℕ → VarName → 
 
   -- what is shown of an expression: as it is, as the parts of a union that follow, and as those of a join
   record AllFor (e : ExprTree) : Type 1 where
-    whole : IsSoundExpr V n e → IsFor d (VarOf V e) (Answer V A d e) (automaton_of L e)
-    united_parts : (P : VarName → Type 0) (B : Mapping → Type 0) (M : Marked) → AreUnited V n e → HasVarsOf V P e → IsFor d P B M →
-        IsFor d P (λ m. B m ⊎ Answer V A d e m) (united L M e)
-    joined_parts : (P : VarName → Type 0) (B : Mapping → Type 0) (M : Marked) → AreJoined V n e → ((x : VarName) → Told (P x)) →
+    whole : IsSoundExpr V S n e → IsFor d (VarOf V e) (Answer V A d e) (automaton_of L e)
+    united_parts : (P : VarName → Type 0) (B : Mapping → Type 0) (M : Marked) → AreUnited V S n e → IsFor d P B M →
+        IsFor d (λ x. P x ⊎ VarOf V e x) (λ m. B m ⊎ Answer V A d e m) (united L M e)
+    joined_parts : (P : VarName → Type 0) (B : Mapping → Type 0) (M : Marked) → AreJoined V S n e → ((x : VarName) → Told (P x)) →
         IsFor d P B M → IsFor d (λ x. P x ⊎ VarOf V e x) (Together P B (VarOf V e) (Answer V A d e)) (together L M e)
 
   -- a part that follows, in front of others
   next_united : (e rest : ExprTree) → AllFor e → AllFor rest → (P : VarName → Type 0) (B : Mapping → Type 0) (M : Marked) →
-      AreUnited V n (union e rest) → HasVarsOf V P (union e rest) → IsFor d P B M →
-      IsFor d P (λ m. B m ⊎ Answer V A d (union e rest) m) (united L M (union e rest))
-  next_united e rest first others P B M h vars b =
-      let more = others.united_parts P (λ m. B m ⊎ Answer V A d e m) (of_union M (automaton_of L e)) h.1 (after_first P e rest vars h.2)
-      (for_union d P (VarOf V e) B (Answer V A d e) M (automaton_of L e) (first_of P e rest vars h.2) b (first.whole h.0)) in
-      for_same d P P (λ m. (B m ⊎ Answer V A d e m) ⊎ Answer V A d rest m) (λ m. B m ⊎ Answer V A d (union e rest) m) (united L M (union e rest))
-      (λ x. (λ p. p, λ p. p)) (λ m. (
+      AreUnited V S n (union e rest) → IsFor d P B M →
+      IsFor d (λ x. P x ⊎ VarOf V (union e rest) x) (λ m. B m ⊎ Answer V A d (union e rest) m) (united L M (union e rest))
+  next_united e rest first others P B M h b =
+      let more = others.united_parts (λ x. P x ⊎ VarOf V e x) (λ m. B m ⊎ Answer V A d e m) (of_union M (automaton_of L e)) h.1
+      (for_union d P (VarOf V e) B (Answer V A d e) M (automaton_of L e) b (first.whole h.0)) in
+      for_same d (λ x. (P x ⊎ VarOf V e x) ⊎ VarOf V rest x) (λ x. P x ⊎ VarOf V (union e rest) x)
+      (λ m. (B m ⊎ Answer V A d e m) ⊎ Answer V A d rest m) (λ m. B m ⊎ Answer V A d (union e rest) m) (united L M (union e rest))
+      (λ x. (
+        λ a. elim a [ inl c ↦ elim c [ inl s ↦ inl s | inr s ↦ inr (inl s) ] | inr c ↦ inr (inr c) ],
+        λ a. elim a [ inl c ↦ inl (inl c) | inr c ↦ elim c [ inl s ↦ inl (inr s) | inr s ↦ inr s ] ],
+      ))
+      (λ m. (
         λ a. elim a [ inl c ↦ elim c [ inl s ↦ inl s | inr s ↦ inr (inl s) ] | inr c ↦ inr (inr c) ],
         λ a. elim a [ inl c ↦ inl (inl c) | inr c ↦ elim c [ inl s ↦ inl (inr s) | inr s ↦ inr s ] ],
       )) more
 
   next_joined : (e rest : ExprTree) → AllFor e → AllFor rest → (P : VarName → Type 0) (B : Mapping → Type 0) (M : Marked) →
-      AreJoined V n (join e rest) → ((x : VarName) → Told (P x)) → IsFor d P B M →
+      AreJoined V S n (join e rest) → ((x : VarName) → Told (P x)) → IsFor d P B M →
       IsFor d (λ x. P x ⊎ VarOf V (join e rest) x) (Together P B (VarOf V (join e rest)) (Answer V A d (join e rest))) (together L M (join e rest))
   next_joined e rest first others P B M h told_p b =
       let Q : VarName → Type 0 = VarOf V e in
@@ -150,18 +119,17 @@ module _ (d : List ℕ) (bytes : AreBytes d) (n : ℕ) (V : ℕ → VarName → 
       (together_assoc P Q R B (Answer V A d e) (Answer V A d rest) told_p (told_of V told e) (told_of V told rest)) more
 
   -- none follows
-  no_united : (P : VarName → Type 0) (B : Mapping → Type 0) (M : Marked) → IsFor d P B M → IsFor d P (λ m. B m ⊎ Answer V A d union_end m) M
+  no_united : (P : VarName → Type 0) (B : Mapping → Type 0) (M : Marked) → IsFor d P B M →
+      IsFor d (λ x. P x ⊎ VarOf V union_end x) (λ m. B m ⊎ Answer V A d union_end m) M
   no_united P B M b =
-      for_same d P P B (λ m. B m ⊎ Answer V A d union_end m) M (λ x. (λ p. p, λ p. p)) (λ m. (λ a. inl a, λ a. elim a [ inl c ↦ c | inr c ↦ absurd c ])) b
+      for_same d P (λ x. P x ⊎ VarOf V union_end x) B (λ m. B m ⊎ Answer V A d union_end m) M
+      (λ x. (λ p. inl p, λ p. elim p [ inl c ↦ c | inr c ↦ absurd c ])) (λ m. (λ a. inl a, λ a. elim a [ inl c ↦ c | inr c ↦ absurd c ])) b
 
-  one_union : (e rest : ExprTree) → AllFor e → AllFor rest → IsSoundExpr V n (union e rest) →
+  one_union : (e rest : ExprTree) → AllFor e → AllFor rest → IsSoundExpr V S n (union e rest) →
       IsFor d (VarOf V (union e rest)) (Answer V A d (union e rest)) (automaton_of L (union e rest))
-  one_union e rest first others h =
-      let p = of_parts e rest h.3 in
-      for_same d (VarOf V e) (VarOf V (union e rest)) (λ m. Answer V A d e m ⊎ Answer V A d rest m) (Answer V A d (union e rest)) (united L (automaton_of L e) rest)
-      p.0 (λ m. (λ a. a, λ a. a)) (others.united_parts (VarOf V e) (Answer V A d e) (automaton_of L e) h.1 p.1 (first.whole h.0))
+  one_union e rest first others h = others.united_parts (VarOf V e) (Answer V A d e) (automaton_of L e) h.1 (first.whole h.0)
 
-  one_join : (e rest : ExprTree) → AllFor e → AllFor rest → IsSoundExpr V n (join e rest) →
+  one_join : (e rest : ExprTree) → AllFor e → AllFor rest → IsSoundExpr V S n (join e rest) →
       IsFor d (VarOf V (join e rest)) (Answer V A d (join e rest)) (automaton_of L (join e rest))
   one_join e rest first others h =
       for_same d (λ x. VarOf V e x ⊎ VarOf V rest x) (VarOf V (join e rest)) (Together (VarOf V e) (Answer V A d e) (VarOf V rest) (Answer V A d rest))
@@ -171,29 +139,29 @@ module _ (d : List ℕ) (bytes : AreBytes d) (n : ℕ) (V : ℕ → VarName → 
   all_for : (e : ExprTree) → AllFor e
   all_for (atom s t f) = record {
     whole = λ h. for_atom d bytes s t f h.0 h.1;
-    united_parts = λ P B M h v b. absurd h;
+    united_parts = λ P B M h b. absurd h;
     joined_parts = λ P B M h v b. absurd h;
   }
-  all_for (named k) = record { whole = λ h. lets k h; united_parts = λ P B M h v b. absurd h; joined_parts = λ P B M h v b. absurd h }
-  all_for union_end = record { whole = λ h. absurd h; united_parts = λ P B M h v b. no_united P B M b; joined_parts = λ P B M h v b. absurd h }
+  all_for (named k) = record { whole = λ h. lets k h; united_parts = λ P B M h b. absurd h; joined_parts = λ P B M h v b. absurd h }
+  all_for union_end = record { whole = λ h. absurd h; united_parts = λ P B M h b. no_united P B M b; joined_parts = λ P B M h v b. absurd h }
   all_for (union e rest) = record {
     whole = one_union e rest (all_for e) (all_for rest);
     united_parts = next_united e rest (all_for e) (all_for rest);
     joined_parts = λ P B M h v b. absurd h;
   }
-  all_for join_end = record { whole = λ h. absurd h; united_parts = λ P B M h v b. absurd h; joined_parts = λ P B M h v b. last_join P B M v b }
+  all_for join_end = record { whole = λ h. absurd h; united_parts = λ P B M h b. absurd h; joined_parts = λ P B M h v b. last_join P B M v b }
   all_for (join e rest) = record {
     whole = one_join e rest (all_for e) (all_for rest);
-    united_parts = λ P B M h v b. absurd h;
+    united_parts = λ P B M h b. absurd h;
     joined_parts = next_joined e rest (all_for e) (all_for rest);
   }
   all_for (project kept e) = record {
     whole = λ h. for_projection d (VarOf V e) (Answer V A d e) kept (automaton_of L e) h.2 (λ x k. (h.1 x k).0) ((all_for e).whole h.0);
-    united_parts = λ P B M h v b. absurd h;
+    united_parts = λ P B M h b. absurd h;
     joined_parts = λ P B M h v b. absurd h;
   }
 
-  pub expr_for : (e : ExprTree) → IsSoundExpr V n e → IsFor d (VarOf V e) (Answer V A d e) (automaton_of L e)
+  pub expr_for : (e : ExprTree) → IsSoundExpr V S n e → IsFor d (VarOf V e) (Answer V A d e) (automaton_of L e)
   expr_for e = (all_for e).whole
 
 -- ---- lets and queries
@@ -215,7 +183,7 @@ module _ (d : List ℕ) (bytes : AreBytes d) (lets : List (VarName × ExprTree))
       (of_one_let (of_lets lets n) o)
   this_let n before l None at = absurd (some_there lets n (omega (arith, l, within)) at)
   this_let n before l (Some e) at =
-      expr_for d bytes n (vars_of_lets lets n) (answers_of_lets lets d n) (of_lets lets n) before (told_lets lets n) e.1
+      expr_for d bytes n (vars_of_lets lets n) (sure_of_lets lets n) (answers_of_lets lets d n) (of_lets lets n) before (told_lets lets n) e.1
       (sound n e at).0
 
   next_let : (n : ℕ) → ((k : ℕ) → k < n → LetFor n k) → n < most → (k : ℕ) → k < suc n → (b : Bool) → nat_eq k n ≡ b →
@@ -233,7 +201,7 @@ module _ (d : List ℕ) (bytes : AreBytes d) (lets : List (VarName × ExprTree))
 -- the automaton of a query accepts the words of the rows of its answers, and no others
 pub query_for : (q : QueryTree) → IsSound q → (d : List ℕ) → AreBytes d → IsFor d (IsResultVar q) (IsAnswer q d) (of_query q)
 query_for q s d bytes =
-    expr_for d bytes (length q.lets) (vars_of_lets q.lets (length q.lets)) (answers_of_lets q.lets d (length q.lets)) (of_lets q.lets (length q.lets))
+    expr_for d bytes (length q.lets) (vars_of_lets q.lets (length q.lets)) (sure_of_lets q.lets (length q.lets)) (answers_of_lets q.lets d (length q.lets)) (of_lets q.lets (length q.lets))
     (lets_for d bytes q.lets s.sound_lets (length q.lets) (omega arith) (length q.lets) (omega arith)) (told_lets q.lets (length q.lets)) q.body s.sound_body.0
 
 pub query_words : QueryWords

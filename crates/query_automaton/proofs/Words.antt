@@ -11,7 +11,7 @@ use Rattle.spanner_model.specs.Captures.{VarName, Mapping, row_of}
 use Rattle.spanner_model.specs.Answer.{IsRestriction}
 use Rattle.spanner_model.proofs.CapturesLaws.{row_same_on}
 use Rattle.spanner_model.proofs.Ends.{EndsBy}
-use Rattle.spanner_model.proofs.NameLaws.{Has-list_any, ascending-distinct, list_any-Has, same_names}
+use Rattle.spanner_model.proofs.NameLaws.{Has-list_any, ascending-distinct, list_any-Has}
 use Rattle.marked_automaton.specs.Automaton.{Accepts, IsWhole, Marked}
 use Rattle.marked_automaton.specs.Marks.{left_of}
 use Rattle.marked_automaton.proofs.Erasing.{erasing_law}
@@ -19,11 +19,12 @@ use Rattle.marked_automaton.proofs.Projections.{projection_law}
 use Rattle.place_automaton.specs.Words.{IsWordOf}
 use Rattle.algebra.specs.JoinedMarks.{has_name, agree_on, joined}
 use Rattle.algebra.specs.JoinedNames.{all_names}
+use Rattle.algebra.specs.Uniting.{IsAcceptedOver}
 use Rattle.algebra.proofs.Alike.{remarked_whole}
 use Rattle.algebra.proofs.RowLaws.{blocks_agree, blocks_are_joined}
-use Rattle.algebra.proofs.Unions.{union_law}
+use Rattle.algebra.proofs.UnionsOver.{union_over_law, union_over_whole}
 use Rattle.algebra.proofs.Joins.{join_law}
-use Rattle.algebra.proofs.Whole.{union_whole, join_whole}
+use Rattle.algebra.proofs.Whole.{join_whole}
 use Rattle.algebra.specs.Rows.{LiesWithin, merged}
 use Rattle.query_automaton.specs.QueryAutomaton.{of_union, of_join, of_projection}
 use Rattle.query_automaton.proofs.Names.{all_ascend, all_are}
@@ -61,31 +62,51 @@ restriction_of_same R m k n e h x = (λ r. (h x).0 r ∙ e x, (h x).1)
 
 -- ---- union
 
-pub for_union : (d : List ℕ) (P Q : VarName → Type 0) (A B : Mapping → Type 0) (M N : Marked) → ((x : VarName) → P x ↔ Q x) →
-    IsFor d P A M → IsFor d Q B N → IsFor d P (λ m. A m ⊎ B m) (of_union M N)
-for_union d P Q A B M N vars a b = record {
-  whole = union_whole M.graph N.graph a.whole b.whole;
-  ascending = a.ascending;
-  names = a.names;
-  absent = λ m h x out. elim h [ inl g ↦ a.absent m g x out | inr g ↦ b.absent m g x (λ q. out ((vars x).1 q)) ];
+module _ (d : List ℕ) (P : VarName → Type 0) (A : Mapping → Type 0) (M : Marked) (a : IsFor d P A M) (all : List VarName) where
+  -- over any names, the block of an answer is what is left of its block
+  left_over : (m : Mapping) → A m → (p : ℕ) → left_of M.names all (block (row_of M.names m) p) ≡ block (row_of all m) p
+  left_over m h p = erasing_law M.names all m (λ x k. here x (has_name M.names x) refl) p
+    where
+      here : (x : VarName) → (b : Bool) → has_name M.names x ≡ b → Has M.names x ⊎ (m x ≡ None)
+      here x true at = inl (Has-list_any M.names x at)
+      here x false at = inr (a.absent m h x (λ p. let e : true ≡ false = sym (list_any-Has M.names x ((a.names x).1 p)) ∙ at in absurd (cc)))
+
+  over_there : (w : ℕ → ℕ) → IsAcceptedOver all M d w → (m : Mapping) × A m × IsWordOf (row_of all m) d w
+  over_there w h =
+      let r = (a.words h.0).0 h.1 in
+      (r.0, r.1, λ p l. h.2 p l ∙ (ap (left_of M.names all) (r.2 p l) ∙ left_over r.0 r.1 p))
+
+  over_back : (w : ℕ → ℕ) → (m : Mapping) × A m × IsWordOf (row_of all m) d w → IsAcceptedOver all M d w
+  over_back w h =
+      let v : ℕ → ℕ = block (row_of M.names h.0) in
+      (v, (a.words v).1 (h.0, h.1, λ p l. refl), λ p l. h.2 p l ∙ sym (left_over h.0 h.1 p))
+
+pub for_union : (d : List ℕ) (P Q : VarName → Type 0) (A B : Mapping → Type 0) (M N : Marked) →
+    IsFor d P A M → IsFor d Q B N → IsFor d (λ x. P x ⊎ Q x) (λ m. A m ⊎ B m) (of_union M N)
+for_union d P Q A B M N a b = record {
+  whole = union_over_whole M N all a.whole b.whole;
+  ascending = all_ascend N.names M.names a.ascending;
+  names = λ x. (
+    λ h. elim ((all_are M.names N.names x).0 h) [ inl f ↦ inl ((a.names x).0 f) | inr s ↦ inr ((b.names x).0 s) ],
+    λ h. (all_are M.names N.names x).1 (elim h [ inl f ↦ inl ((a.names x).1 f) | inr s ↦ inr ((b.names x).1 s) ]),
+  );
+  absent = λ m h x out. elim h [ inl g ↦ a.absent m g x (λ p. out (inl p)) | inr g ↦ b.absent m g x (λ q. out (inr q)) ];
   ends = λ m h. elim h [ inl g ↦ a.ends m g | inr g ↦ b.ends m g ];
   respects = λ m n e h. elim h [ inl g ↦ inl (a.respects m n e g) | inr g ↦ inr (b.respects m n e g) ];
   words = λ w. (
-    λ h. elim ((union_law M.graph N.graph a.whole b.whole d w).0 h) [
-      | inl g ↦ let r = (a.words w).0 g in (r.0, inl r.1, r.2)
-      | inr g ↦ let r = (b.words w).0 g in (r.0, inr r.1, subst (λ (names : List VarName). IsWordOf (row_of names r.0) d w) same r.2)
+    λ h. elim ((union_over_law M N all a.whole b.whole d w).0 h) [
+      | inl g ↦ let r = over_there d P A M a all w g in (r.0, inl r.1, r.2)
+      | inr g ↦ let r = over_there d Q B N b all w g in (r.0, inr r.1, r.2)
     ],
-    λ h. (union_law M.graph N.graph a.whole b.whole d w).1 (elim h.1 [
-      | inl g ↦ inl ((a.words w).1 (h.0, g, h.2))
-      | inr g ↦ inr ((b.words w).1 (h.0, g, subst (λ (names : List VarName). IsWordOf (row_of names h.0) d w) (sym same) h.2))
+    λ h. (union_over_law M N all a.whole b.whole d w).1 (elim h.1 [
+      | inl g ↦ inl (over_back d P A M a all w (h.0, g, h.2))
+      | inr g ↦ inr (over_back d Q B N b all w (h.0, g, h.2))
     ]),
   );
 }
   where
-    same : N.names ≡ M.names
-    same =
-        same_names N.names M.names b.ascending a.ascending (λ x h. (a.names x).1 ((vars x).1 ((b.names x).0 h)))
-        (λ x h. (b.names x).1 ((vars x).0 ((a.names x).0 h)))
+    all : List VarName
+    all = all_names M.names N.names
 
 -- ---- projection
 
@@ -122,7 +143,7 @@ for_projection d P A kept M up sub a = record {
     )
 
     erased : (n : Mapping) (p : ℕ) → left_of M.names kept (block (row_of M.names n) p) ≡ block (row_of kept n) p
-    erased n p = erasing_law M.names kept (λ x h. (a.names x).1 (sub x h)) n p
+    erased n p = erasing_law M.names kept n (λ x h. inl ((a.names x).1 (sub x h))) p
 
     there : (w : ℕ → ℕ) → Accepts (of_projection kept M).graph d w → (m : Mapping) × ((n : Mapping) × A n × IsRestriction (Has kept) n m) × IsWordOf (row_of kept m) d w
     there w h =

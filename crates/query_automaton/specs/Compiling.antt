@@ -3,7 +3,7 @@ use Rattle.std.specs.Prelude.{◌≡◌, ℕ, ◌<◌, ◌≤◌, List, length, 
 use Rattle.spanner_model.specs.Captures.{VarName}
 use Rattle.spanner_model.specs.Expression.{ExprTree, QueryTree}
 use Rattle.spanner_model.specs.Answer.{vars_of_lets}
-use Rattle.spanner_model.specs.Sound.{IsSound, IsSoundExpr, NameIn, NameOf}
+use Rattle.spanner_model.specs.Sound.{IsSound, IsSoundExpr, NameIn, NameOf, sure_of_lets}
 use Rattle.marked_automaton.specs.Automaton.{Marked}
 use Rattle.marked_automaton.specs.Reduct.{ReducesMarked}
 use Rattle.query_automaton.specs.Parts.{HasSmallAtoms}
@@ -23,5 +23,5 @@ pub record AreCompiled (q : QueryTree) (lets : List Marked) : Type 0 where
 -- what is asked of an expression that is compiled after n lets of a query
 pub record IsAsked (q : QueryTree) (n : ℕ) (e : ExprTree) : Type 0 where
   pub sound : IsSound q
-  pub sound_expr : IsSoundExpr (vars_of_lets q.lets n) n e
+  pub sound_expr : IsSoundExpr (vars_of_lets q.lets n) (sure_of_lets q.lets n) n e
   pub named : (x : VarName) → NameIn e x → NameOf q x

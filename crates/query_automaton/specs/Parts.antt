@@ -1,4 +1,4 @@
--- The automata of all parts of a query: each step of a union or join counts as one.
+-- The numbers of states and ways of all parts of a query: each step of a union or join counts as one.
 use Rattle.std.specs.Prelude.{ℕ, ◌<◌, ◌≤◌, ◌≡◌, ◌⊎◌, Some, slice_get, length}
 use Rattle.spanner_model.specs.Captures.{VarName}
 use Rattle.span_core.specs.Lists.{Has}
@@ -7,34 +7,44 @@ use Rattle.marked_automaton.specs.declared.TheConstants.{MOST_STATES, MOST_WAYS}
 use Rattle.marked_automaton.specs.declared.fault.SizeFault.{SizeFault}
 use Rattle.marked_automaton.specs.declared.fault.SizeFault.TheVariants.{States, Ways, OutOfMemory}
 use Rattle.marked_automaton.specs.Automaton.{Marked}
-use Rattle.query_automaton.specs.QueryAutomaton.{of_atom, of_union, of_join, automaton_of, of_lets}
+use Rattle.place_automaton.specs.Counts.{count_states, count_ways}
+use Rattle.query_automaton.specs.QueryAutomaton.{of_union, of_join, automaton_of, of_lets}
 
+pub record PartNumbers : Type 0 where
+  pub states : ℕ
+  pub ways : ℕ
+
+abbrev pub numbers_of : Marked → PartNumbers
+numbers_of M = record { states = M.graph.states; ways = length M.graph.ways }
+
+-- of a part of the expression these are the numbers: of an atom those that its formula is counted by, of another
+-- part those of its automaton
 module _ (L : ℕ → Marked) where
   abbrev mutual
-    pub IsPartOf : ExprTree → Marked → Type 0
-    IsPartOf (atom s t f) M = M ≡ of_atom s t f
-    IsPartOf (named k) M = M ≡ L k
-    IsPartOf union_end M = ⊥
-    IsPartOf (union e rest) M = IsPartOf e M ⊎ IsUnionStep (automaton_of L e) rest M
-    IsPartOf join_end M = ⊥
-    IsPartOf (join e rest) M = IsPartOf e M ⊎ IsJoinStep (automaton_of L e) rest M
-    IsPartOf (project kept e) M = IsPartOf e M ⊎ (M ≡ automaton_of L (project kept e))
+    pub HasPart : ExprTree → PartNumbers → Type 0
+    HasPart (atom s t f) n = n ≡ record { states = count_states s t f; ways = count_ways s t f }
+    HasPart (named k) n = n ≡ numbers_of (L k)
+    HasPart union_end n = ⊥
+    HasPart (union e rest) n = HasPart e n ⊎ HasUnionStep (automaton_of L e) rest n
+    HasPart join_end n = ⊥
+    HasPart (join e rest) n = HasPart e n ⊎ HasJoinStep (automaton_of L e) rest n
+    HasPart (project kept e) n = HasPart e n ⊎ (n ≡ numbers_of (automaton_of L (project kept e)))
 
-    pub IsUnionStep : Marked → ExprTree → Marked → Type 0
-    IsUnionStep A (union e rest) M =
-        IsPartOf e M ⊎ ((M ≡ of_union A (automaton_of L e)) ⊎ IsUnionStep (of_union A (automaton_of L e)) rest M)
-    IsUnionStep A _ M = ⊥
+    pub HasUnionStep : Marked → ExprTree → PartNumbers → Type 0
+    HasUnionStep A (union e rest) n =
+        HasPart e n ⊎ ((n ≡ numbers_of (of_union A (automaton_of L e))) ⊎ HasUnionStep (of_union A (automaton_of L e)) rest n)
+    HasUnionStep A _ n = ⊥
 
-    pub IsJoinStep : Marked → ExprTree → Marked → Type 0
-    IsJoinStep A (join e rest) M =
-        IsPartOf e M ⊎ ((M ≡ of_join A (automaton_of L e)) ⊎ IsJoinStep (of_join A (automaton_of L e)) rest M)
-    IsJoinStep A _ M = ⊥
+    pub HasJoinStep : Marked → ExprTree → PartNumbers → Type 0
+    HasJoinStep A (join e rest) n =
+        HasPart e n ⊎ ((n ≡ numbers_of (of_join A (automaton_of L e))) ⊎ HasJoinStep (of_join A (automaton_of L e)) rest n)
+    HasJoinStep A _ n = ⊥
 
 -- a size is refused only where some part of the expression passes it; the count passes the limit and is
 -- no more than the part's number
 abbrev pub HasLargePartOf : (ℕ → Marked) → ExprTree → SizeFault → Type 0
-HasLargePartOf L e (States count) = (MOST_STATES < count) × ((M : Marked) × IsPartOf L e M × (count ≤ M.graph.states))
-HasLargePartOf L e (Ways count) = (MOST_WAYS < count) × ((M : Marked) × IsPartOf L e M × (count ≤ length M.graph.ways))
+HasLargePartOf L e (States count) = (MOST_STATES < count) × ((n : PartNumbers) × HasPart L e n × (count ≤ n.states))
+HasLargePartOf L e (Ways count) = (MOST_WAYS < count) × ((n : PartNumbers) × HasPart L e n × (count ≤ n.ways))
 HasLargePartOf L e OutOfMemory = Unit {0}
 
 -- the same of a query: of one of its lets, or of its body
@@ -45,7 +55,7 @@ HasLargePart q fault =
 
 -- each atom of the expression is within the limits
 abbrev pub HasSmallAtoms : ExprTree → Type 0
-HasSmallAtoms (atom s t f) = ((of_atom s t f).graph.states ≤ MOST_STATES) × (length (of_atom s t f).graph.ways ≤ MOST_WAYS)
+HasSmallAtoms (atom s t f) = (count_states s t f ≤ MOST_STATES) × (count_ways s t f ≤ MOST_WAYS)
 HasSmallAtoms (named k) = Unit {0}
 HasSmallAtoms union_end = Unit {0}
 HasSmallAtoms (union e rest) = HasSmallAtoms e × HasSmallAtoms rest

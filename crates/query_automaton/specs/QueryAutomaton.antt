@@ -9,14 +9,15 @@ use Rattle.place_automaton.specs.Variables.{with_vars}
 use Rattle.place_automaton.specs.Words.{atom_automaton}
 use Rattle.algebra.specs.JoinedMarks.{agree_on, joined}
 use Rattle.algebra.specs.JoinedNames.{all_names}
-use Rattle.algebra.specs.Operations.{union_of, join_of}
+use Rattle.algebra.specs.Operations.{join_of}
+use Rattle.algebra.specs.Uniting.{union_over}
 
 abbrev pub of_atom : Bool → Bool → Tree → Marked
 of_atom from_start to_end f =
     let names = with_vars [] f in record { names = names; graph = atom_automaton names from_start to_end f }
 
 abbrev pub of_union : Marked → Marked → Marked
-of_union A B = record { names = A.names; graph = union_of A.graph B.graph }
+of_union A B = let names = all_names A.names B.names in record { names = names; graph = union_over A B names }
 
 abbrev pub of_join : Marked → Marked → Marked
 of_join A B =

@@ -56,7 +56,7 @@ impl<'q> Model for Compiled<'q> {
 ///
 /// `States` and `Ways` come only where the automaton of some part of the query, with nothing left out, has
 /// more states than `MOST_STATES`, or more ways than `MOST_WAYS`: the count that they tell is more than
-/// that, and no more than the part's number. A query with an atom that is too large is always refused. The
+/// that, and no more than the part's number. An atom's numbers are those that its formula is counted by. A query with an atom that is too large is always refused. The
 /// automaton accepts the word of a row exactly where the row is an answer, and no other word; each of its
 /// states lies between a start and an end.
 pub fn compile<'q>(alloc: Global, query: &'q Query) -> Result<Compiled<'q>, SizeFault>

@@ -7,7 +7,7 @@ ghost use Rattle.span_core.specs.declared.TheConstants.{MOST_VARIABLES};
 ghost use Rattle.spanner_model.specs.Captures.{VarName};
 ghost use Rattle.spanner_model.specs.Expression.{QueryTree, atom as atom_tree, join_all, union_all};
 ghost use Rattle.spanner_model.specs.ExprView.{expr_of, exprs_of, query_of};
-ghost use Rattle.spanner_model.specs.Functional.{HasVar, IsFunctional};
+ghost use Rattle.spanner_model.specs.Sequential.{HasVar, IsSequential};
 ghost use Rattle.span_core.specs.Lists.{AtMost, Has};
 ghost use Rattle.spanner_model.specs.View.{tree_of};
 ghost use Rattle.spanner_model.specs.WellBuilt.{IsWellBuilt};
@@ -60,7 +60,7 @@ pub fn expr_automaton(
 /// The automaton of an atom, with what leads to no end left out.
 fn atom_automaton(alloc: Global, atom: &Atom, effort: &mut Effort) -> Result<Shared, SizeFault>
     requires built { IsWellBuilt (tree_of atom.now.formula) }
-    requires functional { IsFunctional (tree_of atom.now.formula) }
+    requires sequential { IsSequential (tree_of atom.now.formula) }
     requires few { AtMost MOST_VARIABLES (HasVar (tree_of atom.now.formula)) }
     ensures made { IfOk result (λ a. (q : QueryTree) (n : ℕ) → IsCompiledFrom q n (atom_tree atom.now.from_start atom.now.to_end (tree_of atom.now.formula)) a) }
     ensures fault { IfErr result (λ fault. (L : ℕ → Marked) → HasLargePartOf L (atom_tree atom.now.from_start atom.now.to_end (tree_of atom.now.formula)) fault) }
@@ -113,21 +113,32 @@ fn union_automaton(
     for k in 1..parts.len() {
         let waiting = hold(held, size_of(&all))?;
         let part = expr_automaton(alloc, query, lets, parts.at(k), waiting, effort)?;
-        all = united(all, part.as_automaton(), effort)?;
+        all = united(alloc, all, part.as_automaton(), effort)?;
     }
     Ok(Shared::new(alloc, all)?)
 }
 
 /// The union of the parts so far with one part more, made in place.
-fn united(all: Automaton, part: &Automaton, effort: &mut Effort) -> Result<Automaton, SizeFault>
-    requires { all.names ≡ part.now.names }
+fn united(
+    alloc: Global,
+    all: Automaton,
+    part: &Automaton,
+    effort: &mut Effort,
+) -> Result<Automaton, SizeFault>
+    requires { length (all_names all.names part.now.names) ≤ MOST_VARIABLES }
     ensures marked { IsMarked all × IsMarked part.now }
     ensures made { IfOk result (λ both. ReducesMarked both (of_union all part.now)) }
     ensures fault { IfErr result (IsSizeFaultWithin (of_union all part.now).graph.states (length (of_union all part.now).graph.ways)) }
 {
     prove!(all.states() <= MOST_STATES);
     spend(effort, part)?;
-    unite(all, part)
+    let before = all.vars().len();
+    let both = unite(alloc, all, part)?;
+    // Over more variables each way is marked anew.
+    if both.vars().len() > before {
+        spend(effort, &both)?;
+    }
+    Ok(both)
 }
 
 /// The automaton of a join, its parts taken from left to right.

@@ -1,195 +1,270 @@
 -- The checks of unions and joins, part by part.
-use Rattle.std.proofs.Common.{◌≡◌, ℕ, zero, suc, ◌+◌, ◌≤◌, ◌↔◌, true, List, [], ◌∷◌, ◌++◌, length, take, Option, Some, None, Result, Ok, Err, inl, inr, refl, sym, subst}
+use Rattle.std.proofs.Common.{◌≡◌, ℕ, zero, suc, ◌+◌, ◌≤◌, ◌⊎◌, ◌↔◌, List, [], ◌∷◌, ◌++◌, length, take, Option, Some, None, Result, Ok, Err, inl, inr, refl, sym, subst}
 use Rattle.std.specs.Prelude.{slice_get}
 use Rattle.std.specs.Option.{MatchOption, IfSome, IfNone}
 use Rattle.std.specs.Result.{IsErrAnd}
 use Rattle.std.proofs.lemmas.List.{take_all}
 use Rattle.span_core.specs.Lists.{Has}
 use Rattle.spanner_model.specs.Gathered.{Adds}
-use Rattle.spanner_model.specs.Expression.{ExprTree, union_end, union_all, join_all}
+use Rattle.spanner_model.specs.Expression.{ExprTree, union_all, join_all}
 use Rattle.spanner_model.specs.Captures.{VarName}
 use Rattle.spanner_model.specs.Answer.{VarOf}
-use Rattle.spanner_model.specs.Sound.{AgreesWithParts}
-use Rattle.span_core.proofs.HasLaws.{Has-append_cases, Has-slice_get}
+use Rattle.spanner_model.specs.Sound.{SureOf, SharesSure}
+use Rattle.span_core.proofs.HasLaws.{Has-append_cases}
 use Rattle.spanner_model.proofs.TreeLaws.{take_at_more}
-use Rattle.spanner_model.proofs.ExprLaws.{join_part_var, join_var_part, union_vars}
-use Rattle.spanner_model.proofs.GatheredLaws.{exprs_in_turn, gathered_next, gathered_same}
-use Rattle.functional_check.specs.Faults.{IsLeast, IsLeastOf, InExactlyOne}
+use Rattle.spanner_model.proofs.ExprLaws.{join_part_var, join_var_part}
+use Rattle.spanner_model.proofs.GatheredLaws.{exprs_in_turn, in_more}
+use Rattle.functional_check.specs.Faults.{IsLeast, IsLeastOf}
 use Rattle.functional_check.proofs.LeastLaws.{least_same}
+use Rattle.query_parser.specs.declared.check.Bound.{Bound}
 use Rattle.query_parser.specs.declared.fault.QueryFault.{QueryFault}
-use Rattle.query_parser.specs.declared.fault.QueryFault.TheVariants.{UnionVariables}
-use Rattle.query_parser.specs.TreeFaults.{Passes, HasPassingParts, PartDiffers, OwnFault, InnerFault, IsExprFault}
-use Rattle.query_parser.specs.Formed.{Checked}
+use Rattle.query_parser.specs.declared.fault.QueryFault.TheVariants.{JoinUnsure}
+use Rattle.query_parser.specs.TreeFaults.{Passes, HasPassingParts, Clashes, ClashesFirst, OwnFault, InnerFault, IsExprFault}
+use Rattle.query_parser.specs.Formed.{IsBoundOf, Checked, IsUnsureIn}
 use Rattle.query_parser.proofs.Lists.{is_in}
+use Rattle.query_parser.proofs.SureLaws.{join_part_sure, join_sure_part, sure_in_turn, union_sure_more}
 
-module _ (V : ℕ → VarName → Type 0) where
+module _ (V S : ℕ → VarName → Type 0) where
   abbrev pub AllPass : List ExprTree → Type 0
-  AllPass es = (e : ExprTree) → Has es e → Passes V e
-
-  abbrev pub SameVars : ExprTree → ExprTree → Type 0
-  SameVars e f = (x : VarName) → VarOf V e x ↔ VarOf V f x
-
-  abbrev pub HasVars : List VarName → ExprTree → Type 0
-  HasVars vars e = (x : VarName) → Has vars x ↔ VarOf V e x
+  AllPass es = (e : ExprTree) → Has es e → Passes V S e
 
   -- the first part that has a fault gives it
-  pub union_inner : (es : List ExprTree) (k : ℕ) (e : ExprTree) (f : QueryFault) → slice_get es k ≡ Some e → AllPass (take k es) → IsExprFault V e f → InnerFault V (union_all es) f
+  pub union_inner : (es : List ExprTree) (k : ℕ) (e : ExprTree) (f : QueryFault) → slice_get es k ≡ Some e → AllPass (take k es) → IsExprFault V S e f → InnerFault V S (union_all es) f
   union_inner [] k e f at ok h = absurd (cc)
-  union_inner (g ∷ es) zero e f at ok h = inl (let is : g ≡ e = cc in subst (λ (w : ExprTree). IsExprFault V w f) (sym is) h)
+  union_inner (g ∷ es) zero e f at ok h = inl (let is : g ≡ e = cc in subst (λ (w : ExprTree). IsExprFault V S w f) (sym is) h)
   union_inner (g ∷ es) (suc k) e f at ok h = inr (ok g (inl refl), union_inner es k e f at (λ w a. ok w (inr a)) h)
 
-  pub join_inner : (es : List ExprTree) (k : ℕ) (e : ExprTree) (f : QueryFault) → slice_get es k ≡ Some e → AllPass (take k es) → IsExprFault V e f → InnerFault V (join_all es) f
+  pub join_inner : (es : List ExprTree) (k : ℕ) (e : ExprTree) (f : QueryFault) → slice_get es k ≡ Some e → AllPass (take k es) → IsExprFault V S e f → InnerFault V S (join_all es) f
   join_inner [] k e f at ok h = absurd (cc)
-  join_inner (g ∷ es) zero e f at ok h = inl (let is : g ≡ e = cc in subst (λ (w : ExprTree). IsExprFault V w f) (sym is) h)
+  join_inner (g ∷ es) zero e f at ok h = inl (let is : g ≡ e = cc in subst (λ (w : ExprTree). IsExprFault V S w f) (sym is) h)
   join_inner (g ∷ es) (suc k) e f at ok h = inr (ok g (inl refl), join_inner es k e f at (λ w a. ok w (inr a)) h)
 
-  union_parts_pass : (es : List ExprTree) → AllPass es → HasPassingParts V (union_all es)
-  union_parts_pass [] ok = tt
-  union_parts_pass (e ∷ es) ok = (ok e (inl refl), union_parts_pass es (λ w a. ok w (inr a)))
-
-  join_passes : (es : List ExprTree) → AllPass es → Passes V (join_all es)
-  join_passes [] ok = tt
-  join_passes (e ∷ es) ok = (ok e (inl refl), join_passes es (λ w a. ok w (inr a)))
-
-  pass_more : (es : List ExprTree) (e : ExprTree) → AllPass es → Passes V e → AllPass (es ++ e ∷ [])
-  pass_more es e ok h u a = elim (Has-append_cases es (e ∷ []) u a) as (λ _. Passes V u) [
+  pass_more : (es : List ExprTree) (e : ExprTree) → AllPass es → Passes V S e → AllPass (es ++ e ∷ [])
+  pass_more es e ok h u a = elim (Has-append_cases es (e ∷ []) u a) as (λ _. Passes V S u) [
     | inl b ↦ ok u b
-    | inr b ↦ elim b as (λ _. Passes V u) [ inl is ↦ subst (Passes V) is h | inr n ↦ absurd n ]
+    | inr b ↦ elim b as (λ _. Passes V S u) [ inl is ↦ subst (Passes V S) is h | inr n ↦ absurd n ]
   ]
 
-  pub pass_next : (es : List ExprTree) (k : ℕ) (e : ExprTree) → slice_get es k ≡ Some e → AllPass (take k es) → Passes V e → AllPass (take (k + 1) es)
+  pub pass_next : (es : List ExprTree) (k : ℕ) (e : ExprTree) → slice_get es k ≡ Some e → AllPass (take k es) → Passes V S e → AllPass (take (k + 1) es)
   pass_next es k e at ok h = subst AllPass (sym (take_at_more es k e at)) (pass_more (take k es) e ok h)
 
-  -- of these parts, what sets the first one apart that has other variables than `first`
-  abbrev pub IsFirstApart : ExprTree → List ExprTree → Option VarName → Type 0
-  IsFirstApart first es found = MatchOption found ((e : ExprTree) → Has es e → SameVars first e) (PartDiffers V first (union_all es))
+  -- ---- unions
 
-  apart_before : (first : ExprTree) (es : List ExprTree) (e : ExprTree) (x : VarName) → PartDiffers V first (union_all es) x → PartDiffers V first (union_all (es ++ e ∷ [])) x
-  apart_before first [] e x h = absurd h
-  apart_before first (u ∷ es) e x (inl h) = inl h
-  apart_before first (u ∷ es) e x (inr h) = inr (h.0, apart_before first es e x h.1)
+  union_passes : (es : List ExprTree) → AllPass es → Passes V S (union_all es)
+  union_passes [] ok = tt
+  union_passes (e ∷ es) ok = (ok e (inl refl), union_passes es (λ w a. ok w (inr a)))
 
-  apart_here : (first : ExprTree) (es : List ExprTree) (e : ExprTree) (x : VarName) → ((u : ExprTree) → Has es u → SameVars first u) →
-      IsLeast (InExactlyOne (VarOf V first) (VarOf V e)) x → PartDiffers V first (union_all (es ++ e ∷ [])) x
-  apart_here first [] e x same h = inl h
-  apart_here first (u ∷ es) e x same h = inr (same u (inl refl), apart_here first es e x (λ w a. same w (inr a)) h)
-
-  -- where no name is in exactly one of two sets, they are equal
-  none_apart : (a b : List VarName) → ((x : VarName) → InExactlyOne (Has a) (Has b) x → ⊥) → (x : VarName) → Has a x ↔ Has b x
-  none_apart a b none x = (
-    λ h. elim (is_in b x) as (λ _. Has b x) [ inl g ↦ g | inr n ↦ absurd (none x (inl (h, n))) ],
-    λ h. elim (is_in a x) as (λ _. Has a x) [ inl g ↦ g | inr n ↦ absurd (none x (inr (h, n))) ],
-  )
-
-  sets_are : (e f : ExprTree) (a b : List VarName) → HasVars a e → HasVars b f → (x : VarName) → InExactlyOne (Has a) (Has b) x ↔ InExactlyOne (VarOf V e) (VarOf V f) x
-  sets_are e f a b is_a is_b x = (
-    λ h. elim h as (λ _. InExactlyOne (VarOf V e) (VarOf V f) x) [
-      | inl p ↦ inl ((is_a x).0 p.0, λ v. p.1 ((is_b x).1 v))
-      | inr p ↦ inr ((is_b x).0 p.0, λ v. p.1 ((is_a x).1 v))
-    ],
-    λ h. elim h as (λ _. InExactlyOne (Has a) (Has b) x) [
-      | inl p ↦ inl ((is_a x).1 p.0, λ v. p.1 ((is_b x).0 v))
-      | inr p ↦ inr ((is_b x).1 p.0, λ v. p.1 ((is_a x).0 v))
-    ],
-  )
-
-  apart_new : (first : ExprTree) (es : List ExprTree) (e : ExprTree) (a b : List VarName) (next : Option VarName) → HasVars a first → HasVars b e →
-      ((u : ExprTree) → Has es u → SameVars first u) → IsLeastOf (InExactlyOne (Has a) (Has b)) next → IsFirstApart first (es ++ e ∷ []) next
-  apart_new first es e a b (Some x) is_a is_b same h =
-      apart_here first es e x same (least_same (InExactlyOne (Has a) (Has b)) (InExactlyOne (VarOf V first) (VarOf V e)) (Some x) (sets_are first e a b is_a is_b) h)
-  apart_new first es e a b None is_a is_b same h = λ u in_es. elim (Has-append_cases es (e ∷ []) u in_es) as (λ _. SameVars first u) [
-    | inl g ↦ same u g
-    | inr g ↦ elim g as (λ _. SameVars first u) [
-      | inl is ↦ subst (SameVars first) is (λ x. (λ v. (is_b x).0 ((none_apart a b h x).0 ((is_a x).1 v)), λ v. (is_a x).0 ((none_apart a b h x).1 ((is_b x).1 v))))
-      | inr n ↦ absurd n
-    ]
-  ]
-
-  apart_more : (first : ExprTree) (es : List ExprTree) (e : ExprTree) (a b : List VarName) (found next : Option VarName) → HasVars a first → HasVars b e →
-      IsFirstApart first es found → IfSome found (λ x. next ≡ Some x) → IfNone found (IsLeastOf (InExactlyOne (Has a) (Has b)) next) → IsFirstApart first (es ++ e ∷ []) next
-  apart_more first es e a b (Some x) next is_a is_b h kept new = subst (IsFirstApart first (es ++ e ∷ [])) (sym kept) (apart_before first es e x h)
-  apart_more first es e a b None next is_a is_b h kept new = apart_new first es e a b next is_a is_b h new
-
-  agrees_all : (first e : ExprTree) (us : List ExprTree) → SameVars first e → ((u : ExprTree) → Has us u → SameVars first u) → AgreesWithParts V e (union_all us)
-  agrees_all first e [] here same = tt
-  agrees_all first e (u ∷ us) here same = λ y. (
-    λ h. inl ((same u (inl refl) y).0 ((here y).1 h)),
-    λ h. let p = join_var_part V (u ∷ us) y ((union_vars V (u ∷ us) y).1 h) in (here y).0 ((same p.0 p.1 y).1 p.2),
-  )
-
-  union_passes : (first : ExprTree) (es : List ExprTree) → AllPass es → ((u : ExprTree) → Has es u → SameVars first u) → Passes V (union_all es)
-  union_passes first [] ok same = tt
-  union_passes first (e ∷ es) ok same =
-      (ok e (inl refl), union_passes first es (λ w a. ok w (inr a)) (λ w a. same w (inr a)), agrees_all first e es (same e (inl refl)) (λ w a. same w (inr a)))
-
-  union_own : (first : ExprTree) (es : List ExprTree) (x : VarName) → slice_get es 0 ≡ Some first → PartDiffers V first (union_all es) x → OwnFault V (union_all es) (UnionVariables x)
-  union_own first [] x at h = absurd h
-  union_own first (e ∷ es) x at (inl h) =
-      absurd (let is : e ≡ first = cc in elim (subst (λ (w : ExprTree). InExactlyOne (VarOf V first) (VarOf V w) x) is h.0) [ inl a ↦ a.1 a.0 | inr a ↦ a.1 a.0 ])
-  union_own first (e ∷ es) x at (inr h) = let is : e ≡ first = cc in subst (λ (w : ExprTree). PartDiffers V w (union_all es) x) (sym is) h.1
-
-  vars_of_union : (first : ExprTree) (es : List ExprTree) (x : VarName) → Has es first → ((u : ExprTree) → Has es u → SameVars first u) → VarOf V first x ↔ VarOf V (union_all es) x
-  vars_of_union first es x there same = (
-    λ h. (union_vars V es x).0 (join_part_var V es first x there h),
-    λ h. let p = join_var_part V es x ((union_vars V es x).1 h) in (same p.0 p.1 x).1 p.2,
-  )
-
-  -- ---- what the check leaves, with `first` the first part
-  pub union_begin : (es : List ExprTree) (first : ExprTree) → slice_get es 0 ≡ Some first → Passes V first → AllPass (take 1 es) × IsFirstApart first (take 1 es) None
-  union_begin es first at ok = (
-    pass_next es 0 first at (λ u h. absurd h) ok,
-    λ u h. elim (subst (λ (us : List ExprTree). Has us u) (take_at_more es 0 first at) h) as (λ _. SameVars first u) [
-      | inl is ↦ subst (SameVars first) is (λ x. (λ v. v, λ v. v))
-      | inr n ↦ absurd n
-    ],
-  )
-
-  pub union_next : (es : List ExprTree) (k : ℕ) (first e : ExprTree) (a b : List VarName) (found next : Option VarName) → slice_get es k ≡ Some e →
-      HasVars a first → HasVars b e → IsFirstApart first (take k es) found →
-      IfSome found (λ x. next ≡ Some x) → IfNone found (IsLeastOf (InExactlyOne (Has a) (Has b)) next) → IsFirstApart first (take (k + 1) es) next
-  union_next es k first e a b found next at is_a is_b h kept new =
-      subst (λ (us : List ExprTree). IsFirstApart first us next) (sym (take_at_more es k e at)) (apart_more first (take k es) e a b found next is_a is_b h kept new)
-
-  pub union_done_fault : (es : List ExprTree) (k : ℕ) (first : ExprTree) (x : VarName) (found : Option VarName) → slice_get es 0 ≡ Some first → length es ≤ k → AllPass (take k es) →
-      IsFirstApart first (take k es) found → found ≡ Some x → IsExprFault V (union_all es) (UnionVariables x)
-  union_done_fault es k first x found at le ok h is =
-      let all : take k es ≡ es = take_all k es le in
-      let apart : PartDiffers V first (union_all es) x = subst (λ (us : List ExprTree). PartDiffers V first (union_all us) x) all (subst (IsFirstApart first (take k es)) is h) in
-      inr (union_parts_pass es (subst AllPass all ok), union_own first es x at apart)
-
-  pub union_done : (es : List ExprTree) (k : ℕ) (first : ExprTree) (vars : List VarName) (found : Option VarName) → slice_get es 0 ≡ Some first → length es ≤ k → AllPass (take k es) →
-      IsFirstApart first (take k es) found → found ≡ None → HasVars vars first → Passes V (union_all es) × HasVars vars (union_all es)
-  union_done es k first vars found at le ok h is are =
-      let all : take k es ≡ es = take_all k es le in
-      let same : (u : ExprTree) → Has es u → SameVars first u =
-      subst (λ (us : List ExprTree). (u : ExprTree) → Has us u → SameVars first u) all (subst (IsFirstApart first (take k es)) is h) in
-      let there : Has es first = Has-slice_get es 0 first at in (
-        union_passes first es (subst AllPass all ok) same,
-        λ x. let v = vars_of_union first es x there same in (λ a. v.0 ((are x).0 a), λ b. (are x).1 (v.1 b)),
+  union_vars_more : (es : List ExprTree) (e : ExprTree) (x : VarName) → VarOf V (union_all (es ++ e ∷ [])) x ↔ (VarOf V (union_all es) x ⊎ VarOf V e x)
+  union_vars_more [] e x = (λ h. elim h [ inl a ↦ inr a | inr n ↦ absurd n ], λ h. elim h [ inl n ↦ absurd n | inr a ↦ inl a ])
+  union_vars_more (g ∷ es) e x =
+      let later = union_vars_more es e x in (
+        λ h. elim h as (λ _. (VarOf V g x ⊎ VarOf V (union_all es) x) ⊎ VarOf V e x) [
+          | inl a ↦ inl (inl a)
+          | inr b ↦ elim (later.0 b) as (λ _. (VarOf V g x ⊎ VarOf V (union_all es) x) ⊎ VarOf V e x) [ inl a ↦ inl (inr a) | inr c ↦ inr c ]
+        ],
+        λ h. elim h as (λ _. VarOf V g x ⊎ VarOf V (union_all (es ++ e ∷ [])) x) [
+          | inl p ↦ elim p as (λ _. VarOf V g x ⊎ VarOf V (union_all (es ++ e ∷ [])) x) [ inl a ↦ inl a | inr b ↦ inr (later.1 (inl b)) ]
+          | inr c ↦ inr (later.1 (inr c))
+        ],
       )
 
-  pub join_next : (es : List ExprTree) (k : ℕ) (e : ExprTree) (vars part all : List VarName) → slice_get es k ≡ Some e → Adds [] (VarOf V (join_all (take k es))) vars →
-      HasVars part e → Adds vars (Has part) all → Adds [] (VarOf V (join_all (take (k + 1) es))) all
-  join_next es k e vars part all at before here added =
-      gathered_next (VarOf V) (λ us. VarOf V (join_all us)) (exprs_in_turn V) es k e [] vars all at before (gathered_same vars all (Has part) (VarOf V e) true here added)
+  -- of one part
+  pub union_begin : (es : List ExprTree) (e : ExprTree) (b : Bound) → slice_get es 0 ≡ Some e → Passes V S e → IsBoundOf V S e b → AllPass (take 1 es) × IsBoundOf V S (union_all (take 1 es)) b
+  union_begin es e b at ok is = (
+    pass_next es 0 e at (λ u h. absurd h) ok,
+    subst (λ (us : List ExprTree). IsBoundOf V S (union_all us) b) (sym (take_at_more es 0 e at))
+        ((λ x. (λ h. inl ((is.0 x).0 h), λ h. (is.0 x).1 (elim h as (λ _. VarOf V e x) [ inl a ↦ a | inr n ↦ absurd n ]))), (λ x. (λ h. ((is.1 x).0 h, tt), λ h. (is.1 x).1 h.0))),
+  )
 
-  pub join_done : (es : List ExprTree) (k : ℕ) (vars : List VarName) → length es ≤ k → AllPass (take k es) → Adds [] (VarOf V (join_all (take k es))) vars →
-      Passes V (join_all es) × HasVars vars (join_all es)
-  join_done es k vars le ok added =
+  -- of one part more
+  pub union_next : (es : List ExprTree) (k : ℕ) (e : ExprTree) (old part new : Bound) → slice_get es k ≡ Some e → IsBoundOf V S (union_all (take k es)) old → IsBoundOf V S e part →
+      Adds old.vars (Has part.vars) new.vars → ((x : VarName) → Has new.sure x ↔ (Has old.sure x × Has part.sure x)) → IsBoundOf V S (union_all (take (k + 1) es)) new
+  union_next es k e old part new at before here vars sure =
+      subst (λ (us : List ExprTree). IsBoundOf V S (union_all us) new) (sym (take_at_more es k e at)) (
+        λ x. (
+          λ h. (union_vars_more (take k es) e x).1 (elim ((vars x).0 h) as (λ _. VarOf V (union_all (take k es)) x ⊎ VarOf V e x) [ inl a ↦ inl ((before.0 x).0 a) | inr b ↦ inr ((here.0 x).0 b) ]),
+          λ h. (vars x).1 (elim ((union_vars_more (take k es) e x).0 h) as (λ _. Has old.vars x ⊎ Has part.vars x) [ inl a ↦ inl ((before.0 x).1 a) | inr b ↦ inr ((here.0 x).1 b) ]),
+        ),
+        λ x. (
+          λ h. let both = (sure x).0 h in (union_sure_more S (take k es) e x).1 ((before.1 x).0 both.0, (here.1 x).0 both.1),
+          λ h. let both = (union_sure_more S (take k es) e x).0 h in (sure x).1 ((before.1 x).1 both.0, (here.1 x).1 both.1),
+        ),
+      )
+
+  pub union_done : (es : List ExprTree) (k : ℕ) (b : Bound) → length es ≤ k → AllPass (take k es) → IsBoundOf V S (union_all (take k es)) b → Passes V S (union_all es) × IsBoundOf V S (union_all es) b
+  union_done es k b le ok is =
       let all : take k es ≡ es = take_all k es le in
-      let these = subst (λ (us : List ExprTree). Adds [] (VarOf V (join_all us)) vars) all added in
-      (join_passes es (subst AllPass all ok), λ x. (λ a. elim ((these x).0 a) as (λ _. VarOf V (join_all es) x) [ inl n ↦ absurd n | inr v ↦ v ], λ v. (these x).1 (inr v)))
+      (union_passes es (subst AllPass all ok), subst (λ (us : List ExprTree). IsBoundOf V S (union_all us) b) all is)
+
+  -- ---- joins
+
+  -- what two parts share is sure in both
+  abbrev pub AreSharing : List ExprTree → Type 0
+  AreSharing [] = Unit {0}
+  AreSharing (e ∷ es) = SharesSure V S e (join_all es) × AreSharing es
+
+  join_passes : (es : List ExprTree) → AllPass es → AreSharing es → Passes V S (join_all es)
+  join_passes [] ok share = tt
+  join_passes (e ∷ es) ok share = (ok e (inl refl), join_passes es (λ w a. ok w (inr a)) share.1, share.0)
+
+  join_parts_pass : (es : List ExprTree) → AllPass es → HasPassingParts V S (join_all es)
+  join_parts_pass [] ok = tt
+  join_parts_pass (e ∷ es) ok = (ok e (inl refl), join_parts_pass es (λ w a. ok w (inr a)))
+
+  abbrev pub ShareSure : ExprTree → ExprTree → Type 0
+  ShareSure g e = (x : VarName) → VarOf V g x → VarOf V e x → SureOf S g x × SureOf S e x
+
+  shares_with : (e : ExprTree) (es : List ExprTree) (g : ExprTree) → SharesSure V S e (join_all es) → Has es g → ShareSure e g
+  shares_with e [] g share h = absurd h
+  shares_with e (u ∷ es) g share (inl is) = subst (ShareSure e) is share.0
+  shares_with e (u ∷ es) g share (inr h) = shares_with e es g share.1 h
+
+  shares_more : (u : ExprTree) (es : List ExprTree) (e : ExprTree) → SharesSure V S u (join_all es) → ShareSure u e → SharesSure V S u (join_all (es ++ e ∷ []))
+  shares_more u [] e share here = (here, tt)
+  shares_more u (g ∷ es) e share here = (share.0, shares_more u es e share.1 here)
+
+  sharing_more : (es : List ExprTree) (e : ExprTree) → AreSharing es → ((g : ExprTree) → Has es g → ShareSure g e) → AreSharing (es ++ e ∷ [])
+  sharing_more [] e share here = (tt, tt)
+  sharing_more (u ∷ es) e share here = (shares_more u es e share.0 (here u (inl refl)), sharing_more es e share.1 (λ g h. here g (inr h)))
+
+  -- the sure variables of each part are variables of it
+  abbrev pub AreSureVars : List ExprTree → Type 0
+  AreSureVars es = (e : ExprTree) → Has es e → (x : VarName) → SureOf S e x → VarOf V e x
+
+  -- where parts share only what is sure in both, a variable that is sure in one is sure in each that has it
+  settled : (es : List ExprTree) → AreSharing es → AreSureVars es → (g h : ExprTree) → Has es g → Has es h → (x : VarName) → VarOf V g x → SureOf S h x → SureOf S g x
+  settled [] share among g h a b x v s = absurd a
+  settled (e ∷ es) share among g h (inl a) (inl b) x v s = subst (λ (w : ExprTree). SureOf S w x) a (subst (λ (w : ExprTree). SureOf S w x) (sym b) s)
+  settled (e ∷ es) share among g h (inl a) (inr b) x v s =
+      subst (λ (w : ExprTree). SureOf S w x) a (shares_with e es h share.0 b x (subst (λ (w : ExprTree). VarOf V w x) (sym a) v) (among h (inr b) x s)).0
+  settled (e ∷ es) share among g h (inr a) (inl b) x v s =
+      (shares_with e es g share.0 a x (subst (λ (w : ExprTree). VarOf V w x) (sym b) (among h (inl b) x s)) v).1
+  settled (e ∷ es) share among g h (inr a) (inr b) x v s = settled es share.1 (λ w c. among w (inr c)) g h a b x v s
+
+  -- of these parts, the first variable that clashes
+  abbrev pub IsFirstClash : List ExprTree → Option VarName → Type 0
+  IsFirstClash es found = MatchOption found (AreSharing es) (ClashesFirst V S [] (join_all es))
+
+  clash_before : (before es : List ExprTree) (e : ExprTree) (x : VarName) → ClashesFirst V S before (join_all es) x → ClashesFirst V S before (join_all (es ++ e ∷ [])) x
+  clash_before before [] e x h = absurd h
+  clash_before before (u ∷ es) e x (inl h) = inl h
+  clash_before before (u ∷ es) e x (inr h) = inr (h.0, clash_before (u ∷ before) es e x h.1)
+
+  -- the parts, the last one first, and those before them
+  abbrev onto : List ExprTree → List ExprTree → List ExprTree
+  onto [] before = before
+  onto (u ∷ es) before = onto es (u ∷ before)
+
+  onto_has : (es before : List ExprTree) (g : ExprTree) → Has (onto es before) g ↔ (Has es g ⊎ Has before g)
+  onto_has [] before g = (λ h. inr h, λ h. elim h [ inl n ↦ absurd n | inr a ↦ a ])
+  onto_has (u ∷ es) before g =
+      let later = onto_has es (u ∷ before) g in (
+        λ h. elim (later.0 h) as (λ _. ((u ≡ g) ⊎ Has es g) ⊎ Has before g) [
+          | inl a ↦ inl (inr a)
+          | inr b ↦ elim b as (λ _. ((u ≡ g) ⊎ Has es g) ⊎ Has before g) [ inl is ↦ inl (inl is) | inr c ↦ inr c ]
+        ],
+        λ h. later.1 (elim h as (λ _. Has es g ⊎ ((u ≡ g) ⊎ Has before g)) [
+          | inl a ↦ elim a as (λ _. Has es g ⊎ ((u ≡ g) ⊎ Has before g)) [ inl is ↦ inr (inl is) | inr b ↦ inl b ]
+          | inr c ↦ inr (inr c)
+        ]),
+      )
+
+  clash_here : (before es : List ExprTree) (e : ExprTree) (x : VarName) → ((g : ExprTree) → Has before g → SharesSure V S g (join_all es)) → AreSharing es →
+      IsLeast (Clashes V S (onto es before) e) x → ClashesFirst V S before (join_all (es ++ e ∷ [])) x
+  clash_here before [] e x share sharing h = inl h
+  clash_here before (u ∷ es) e x share sharing h = inr ((λ y c. c.4 ((share c.0 c.1).0 y c.2 c.3)), clash_here (u ∷ before) es e x next sharing.1 h)
+    where
+      next : (g : ExprTree) → Has (u ∷ before) g → SharesSure V S g (join_all es)
+      next g (inl is) = subst (λ (w : ExprTree). SharesSure V S w (join_all es)) is sharing.0
+      next g (inr has) = (share g has).1
+
+  -- what is unsure in the parts so far and one more clashes there, where none clashed before
+  unsure_clashes : (es : List ExprTree) (e : ExprTree) (old part : Bound) → AreSharing es → AreSureVars es → IsBoundOf V S (join_all es) old → IsBoundOf V S e part →
+      (x : VarName) → IsUnsureIn old part x ↔ Clashes V S (onto es []) e x
+  unsure_clashes es e old part share among before here x = (
+    λ h.
+        let p = join_var_part V es x ((before.0 x).0 h.0) in
+        (p.0, (onto_has es [] p.0).1 (inl p.1), p.2, (here.0 x).0 h.1, λ both. h.2 ((before.1 x).1 (join_part_sure S es p.0 x p.1 both.0), (here.1 x).1 both.1)),
+    λ c.
+        let has = in_parts c.0 c.1 in (
+          (before.0 x).1 (join_part_var V es c.0 x has c.2),
+          (here.0 x).1 c.3,
+          λ both. let q = join_sure_part S es x ((before.1 x).0 both.0) in c.4 (settled es share among c.0 q.0 has q.1 x c.2 q.2, (here.1 x).0 both.1),
+        ),
+  )
+    where
+      in_parts : (g : ExprTree) → Has (onto es []) g → Has es g
+      in_parts g h = elim ((onto_has es [] g).0 h) as (λ _. Has es g) [ inl a ↦ a | inr n ↦ absurd n ]
+
+  -- where nothing is unsure in both, the parts share with the next only what is sure in both
+  none_unsure : (es : List ExprTree) (e : ExprTree) (old part : Bound) → AreSharing es → AreSureVars es → IsBoundOf V S (join_all es) old → IsBoundOf V S e part →
+      ((x : VarName) → IsUnsureIn old part x → ⊥) → (g : ExprTree) → Has es g → ShareSure g e
+  none_unsure es e old part share among before here none g has x v w = by (is_in old.sure x) (is_in part.sure x)
+    where
+      unsure : (Has old.sure x × Has part.sure x → ⊥) → ⊥
+      unsure not = none x ((before.0 x).1 (join_part_var V es g x has v), (here.0 x).1 w, not)
+
+      by : Has old.sure x ⊎ (Has old.sure x → ⊥) → Has part.sure x ⊎ (Has part.sure x → ⊥) → SureOf S g x × SureOf S e x
+      by (inl a) (inl b) = let q = join_sure_part S es x ((before.1 x).0 a) in (settled es share among g q.0 has q.1 x v q.2, (here.1 x).0 b)
+      by (inr n) b = absurd (unsure (λ both. n both.0))
+      by (inl a) (inr n) = absurd (unsure (λ both. n both.1))
+
+  clash_new : (es : List ExprTree) (e : ExprTree) (old part : Bound) (next : Option VarName) → AreSharing es → AreSureVars es → IsBoundOf V S (join_all es) old → IsBoundOf V S e part →
+      IsLeastOf (IsUnsureIn old part) next → IsFirstClash (es ++ e ∷ []) next
+  clash_new es e old part None share among before here h = sharing_more es e share (none_unsure es e old part share among before here h)
+  clash_new es e old part (Some x) share among before here h =
+      clash_here [] es e x (λ g n. absurd n) share (least_same (IsUnsureIn old part) (Clashes V S (onto es []) e) (Some x) (unsure_clashes es e old part share among before here) h)
+
+  clash_more : (es : List ExprTree) (e : ExprTree) (old part : Bound) (found next : Option VarName) → AreSureVars es → IsBoundOf V S (join_all es) old → IsBoundOf V S e part →
+      IsFirstClash es found → IfSome found (λ x. next ≡ Some x) → IfNone found (IsLeastOf (IsUnsureIn old part) next) → IsFirstClash (es ++ e ∷ []) next
+  clash_more es e old part (Some x) next among before here h kept new = subst (IsFirstClash (es ++ e ∷ [])) (sym kept) (clash_before [] es e x h)
+  clash_more es e old part None next among before here h kept new = clash_new es e old part next h among before here new
+
+  pub clash_next : (es : List ExprTree) (k : ℕ) (e : ExprTree) (old part : Bound) (found next : Option VarName) → slice_get es k ≡ Some e → AreSureVars (take k es) →
+      IsBoundOf V S (join_all (take k es)) old → IsBoundOf V S e part → IsFirstClash (take k es) found →
+      IfSome found (λ x. next ≡ Some x) → IfNone found (IsLeastOf (IsUnsureIn old part) next) → IsFirstClash (take (k + 1) es) next
+  clash_next es k e old part found next at among before here h kept new =
+      subst (λ (us : List ExprTree). IsFirstClash us next) (sym (take_at_more es k e at)) (clash_more (take k es) e old part found next among before here h kept new)
+
+  -- a set of one part more
+  added : (P Q R : VarName → Type 0) (old part new : List VarName) → ((x : VarName) → R x ↔ (P x ⊎ Q x)) → ((x : VarName) → Has old x ↔ P x) → ((x : VarName) → Has part x ↔ Q x) →
+      Adds old (Has part) new → (x : VarName) → Has new x ↔ R x
+  added P Q R old part new both is_p is_q adds x = (
+    λ h. (both x).1 (elim ((adds x).0 h) as (λ _. P x ⊎ Q x) [ inl a ↦ inl ((is_p x).0 a) | inr b ↦ inr ((is_q x).0 b) ]),
+    λ h. (adds x).1 (elim ((both x).0 h) as (λ _. Has old x ⊎ Has part x) [ inl a ↦ inl ((is_p x).1 a) | inr b ↦ inr ((is_q x).1 b) ]),
+  )
+
+  pub join_next : (es : List ExprTree) (k : ℕ) (e : ExprTree) (old part new : Bound) → slice_get es k ≡ Some e → IsBoundOf V S (join_all (take k es)) old → IsBoundOf V S e part →
+      Adds old.vars (Has part.vars) new.vars → Adds old.sure (Has part.sure) new.sure → IsBoundOf V S (join_all (take (k + 1) es)) new
+  join_next es k e old part new at before here vars sure =
+      let us = take k es in
+      subst (λ (ws : List ExprTree). IsBoundOf V S (join_all ws) new) (sym (take_at_more es k e at)) (
+        added (VarOf V (join_all us)) (VarOf V e) (VarOf V (join_all (us ++ e ∷ []))) old.vars part.vars new.vars
+            (in_more (VarOf V) (λ ws. VarOf V (join_all ws)) (exprs_in_turn V) us e) before.0 here.0 vars,
+        added (SureOf S (join_all us)) (SureOf S e) (SureOf S (join_all (us ++ e ∷ []))) old.sure part.sure new.sure
+            (in_more (SureOf S) (λ ws. SureOf S (join_all ws)) (sure_in_turn S) us e) before.1 here.1 sure,
+      )
+
+  join_own : (es : List ExprTree) (x : VarName) → ClashesFirst V S [] (join_all es) x → OwnFault V S (join_all es) (JoinUnsure x)
+  join_own [] x h = h
+  join_own (e ∷ es) x (inl h) = absurd h.0.1
+  join_own (e ∷ es) x (inr h) = h.1
+
+  pub join_done_fault : (es : List ExprTree) (k : ℕ) (x : VarName) (found : Option VarName) → length es ≤ k → AllPass (take k es) →
+      IsFirstClash (take k es) found → found ≡ Some x → IsExprFault V S (join_all es) (JoinUnsure x)
+  join_done_fault es k x found le ok h is =
+      let all : take k es ≡ es = take_all k es le in
+      let clash : ClashesFirst V S [] (join_all es) x = subst (λ (us : List ExprTree). ClashesFirst V S [] (join_all us) x) all (subst (IsFirstClash (take k es)) is h) in
+      inr (join_parts_pass es (subst AllPass all ok), join_own es x clash)
+
+  pub join_done : (es : List ExprTree) (k : ℕ) (b : Bound) (found : Option VarName) → length es ≤ k → AllPass (take k es) →
+      IsFirstClash (take k es) found → found ≡ None → IsBoundOf V S (join_all (take k es)) b → Passes V S (join_all es) × IsBoundOf V S (join_all es) b
+  join_done es k b found le ok h is bound =
+      let all : take k es ≡ es = take_all k es le in
+      let share : AreSharing es = subst AreSharing all (subst (IsFirstClash (take k es)) is h) in
+      (join_passes es (subst AllPass all ok) share, subst (λ (us : List ExprTree). IsBoundOf V S (join_all us) b) all bound)
 
   -- an error that is handed on
-  pub checked_err : (e : ExprTree) (r : Result (List VarName) QueryFault) (f : QueryFault) → IsErrAnd r (λ g. g ≡ f) → IsExprFault V e f → Checked V e r
-  checked_err e (Ok vars) f h fault = absurd h
-  checked_err e (Err g) f h fault = subst (IsExprFault V e) (sym h) fault
-
--- the first of some parts
-abbrev pub part_of : List ExprTree → ExprTree
-part_of [] = union_end
-part_of (e ∷ es) = e
-
-pub part_is : (es : List ExprTree) (e : ExprTree) → slice_get es 0 ≡ Some e → part_of es ≡ e
-part_is [] e at = absurd (cc)
-part_is (u ∷ es) e at = let is : u ≡ e = cc in is
+  pub checked_err : (e : ExprTree) (r : Result Bound QueryFault) (f : QueryFault) → IsErrAnd r (λ g. g ≡ f) → IsExprFault V S e f → Checked V S e r
+  checked_err e (Ok b) f h fault = absurd h
+  checked_err e (Err g) f h fault = subst (IsExprFault V S e) (sym h) fault

@@ -1,26 +1,28 @@
 -- The names of a query's atoms, and the variables of the lets that are known.
-use Rattle.std.proofs.Common.{◌≡◌, ℕ, ◌+◌, ◌<◌, ◌≤◌, ◌⊎◌, ◌↔◌, Bool, true, false, List, [], ◌∷◌, ◌++◌, length, take, Option, Some, None, IsTrue, inl, inr, refl, sym, subst, arith}
-use Rattle.std.specs.Prelude.{slice_get}
+use Rattle.std.proofs.Common.{◌≡◌, ℕ, zero, suc, ◌+◌, ◌<◌, ◌≤◌, ◌⊎◌, ◌↔◌, Bool, true, false, List, [], ◌∷◌, ◌++◌, length, take, Option, Some, None, IsTrue, inl, inr, refl, sym, subst, arith}
+use Rattle.std.specs.Prelude.{slice_get, nat_eq, MatchBool, if◌then◌else◌}
 use Rattle.std.specs.Option.{IsSomeAnd}
 use Rattle.std.proofs.lemmas.List.{take_all}
 use Rattle.span_core.specs.declared.TheConstants.{MOST_VARIABLES}
 use Rattle.span_core.specs.Lists.{Has, AtMost}
 use Rattle.spanner_model.specs.Captures.{VarName}
-use Rattle.spanner_model.specs.Expression.{ExprTree, QueryTree}
-use Rattle.spanner_model.specs.Sound.{NameIn, NameInLets, NameOf}
-use Rattle.spanner_model.specs.Gathered.{Adds, Gathered, vars_in}
+use Rattle.spanner_model.specs.Expression.{ExprTree, QueryTree, named}
+use Rattle.spanner_model.specs.Sound.{NameIn, NameInLets, NameOf, SureOf, sure_of_lets}
+use Rattle.spanner_model.specs.Gathered.{Adds, Gathered}
 use Rattle.span_core.proofs.HasLaws.{Has-slice_get}
 use Rattle.functional_check.proofs.LeastLaws.{at_most_less}
 use Rattle.std.proofs.Common.{nat_lt, length-append}
 use Rattle.std.proofs.lemmas.Bool.Decides.{nat_tests}
 use Rattle.spanner_model.specs.Answer.{VarOf, vars_of_lets}
-use Rattle.spanner_model.proofs.ExprLaws.{Knows, knows_more}
+use Rattle.spanner_model.proofs.ExprLaws.{SameVars, var_same, sure_same, turned, slice_get_push}
+use Rattle.query_parser.specs.declared.check.Bound.{Bound}
 use Rattle.query_parser.specs.declared.fault.QueryFault.{QueryFault}
-use Rattle.query_parser.specs.TreeFaults.{Passes, LetPasses, IsExprFault, IsTreeFault}
+use Rattle.query_parser.specs.TreeFaults.{Passes, PassesUnder, IsFaultUnder, LetPasses, IsExprFault, IsTreeFault}
 use Rattle.query_parser.proofs.SameLaws.{same_passes, same_fault}
-use Rattle.query_parser.specs.Formed.{InReach, IsFormed, PassesQuery}
+use Rattle.query_parser.specs.Formed.{InReach, IsFormed, IsBoundOf, HasSureAmongVars, vars_known, sure_known, PassesQuery}
 use Rattle.query_parser.proofs.FormedLaws.{get_last}
 use Rattle.query_parser.proofs.ReachLaws.{let_in_turn, reaches}
+use Rattle.query_parser.proofs.SureLaws.{sure_var}
 
 -- what was gathered of all lets and of the body
 pub few_names : (q : QueryTree) (k : ℕ) (old new : List VarName) (r : Bool) → length q.lets ≤ k → Adds [] (NameInLets (take k q.lets)) old → Gathered old (NameIn q.body) r new →
@@ -45,75 +47,151 @@ many_names q new g = (
       (λ x h. elim h as (λ _. NameOf q x) [ inl n ↦ absurd n | inr n ↦ inl n ]) m)),
 )
 
--- the variables that are known, with one let more
-pub known_push : (known : List (List VarName)) (vars : List VarName) (j : ℕ) (x : VarName) → vars_in (known ++ vars ∷ []) j x → vars_in known j x ⊎ Has vars x
-known_push known vars j x h = by (slice_get (known ++ vars ∷ []) j) refl h
+-- ---- the variables of lets that are known
+
+-- the known ones are the variables, and the sure ones, of the first lets
+pub record Knows (lets : List (VarName × ExprTree)) (known : List Bound) : Type 0 where
+  pub vars : SameVars (vars_known known) (vars_of_lets lets (length known))
+  pub sure : SameVars (sure_known known) (sure_of_lets lets (length known))
+  pub among : HasSureAmongVars known
+
+pub knows_none : (lets : List (VarName × ExprTree)) → Knows lets []
+knows_none lets = record {
+  vars = λ k x. (λ h. absurd (none k (λ b. Has b.vars x) h), λ h. absurd h);
+  sure = λ k x. (λ h. absurd (none k (λ b. Has b.sure x) h), λ h. absurd h);
+  among = λ k x h. absurd (none k (λ b. Has b.sure x) h);
+}
   where
-    by : (found : Option (List VarName)) → slice_get (known ++ vars ∷ []) j ≡ found → IsSomeAnd found (λ names. Has names x) → vars_in known j x ⊎ Has vars x
+    none : (k : ℕ) (P : Bound → Type 0) → IsSomeAnd (slice_get [] k) P → ⊥
+    none zero P h = h
+    none (suc k) P h = h
+
+-- at each place of a list with one more
+more_at : (P : Bound → Type 0) (N : VarName × ExprTree → Type 0) (Q : Type 0) (b : Bool) (new : Bound) (old : Option Bound) (o : Option (VarName × ExprTree)) (l : VarName × ExprTree) →
+    o ≡ Some l → (P new ↔ N l) → (IsSomeAnd old P ↔ Q) → IsSomeAnd (if b then Some new else old) P ↔ MatchBool b (IsSomeAnd o N) Q
+more_at P N Q true new old o l at here before = subst (λ w. P new ↔ IsSomeAnd w N) (sym at) here
+more_at P N Q false new old o l at here before = before
+
+among_at : (x : VarName) (b : Bool) (new : Bound) (old : Option Bound) → (Has new.sure x → Has new.vars x) → (IsSomeAnd old (λ c. Has c.sure x) → IsSomeAnd old (λ c. Has c.vars x)) →
+    IsSomeAnd (if b then Some new else old) (λ c. Has c.sure x) → IsSomeAnd (if b then Some new else old) (λ c. Has c.vars x)
+among_at x true new old here before h = here h
+among_at x false new old here before h = before h
+
+-- one let more
+knows_more : (lets : List (VarName × ExprTree)) (known : List Bound) (l : VarName × ExprTree) (new : Bound) → slice_get lets (length known) ≡ Some l → Knows lets known →
+    IsFormed (length known) l.1 → IsBoundOf (vars_known known) (sure_known known) l.1 new → Knows lets (known ++ new ∷ [])
+knows_more lets known l new at knows formed is = record {
+  vars = λ j x.
+      let here : Has new.vars x ↔ VarOf V l.1 x = (
+        λ h. var_same (vars_known known) V knows.vars l.1 x ((is.0 x).0 h),
+        λ h. (is.0 x).1 (var_same V (vars_known known) (turned (vars_known known) V knows.vars) l.1 x h),
+      ) in
+      subst (λ m. vars_known (known ++ new ∷ []) j x ↔ vars_of_lets lets m j x) (sym long)
+      (subst (λ o. IsSomeAnd o (λ b. Has b.vars x) ↔ vars_of_lets lets (suc n) j x) (sym (slice_get_push known new j))
+      (more_at (λ b. Has b.vars x) (λ m. VarOf V m.1 x) (V j x) (nat_eq j n) new (slice_get known j) (slice_get lets n) l at here (knows.vars j x)));
+  sure = λ j x.
+      let here : Has new.sure x ↔ SureOf S l.1 x = (
+        λ h. sure_same (sure_known known) S knows.sure l.1 x ((is.1 x).0 h),
+        λ h. (is.1 x).1 (sure_same S (sure_known known) (turned (sure_known known) S knows.sure) l.1 x h),
+      ) in
+      subst (λ m. sure_known (known ++ new ∷ []) j x ↔ sure_of_lets lets m j x) (sym long)
+      (subst (λ o. IsSomeAnd o (λ b. Has b.sure x) ↔ sure_of_lets lets (suc n) j x) (sym (slice_get_push known new j))
+      (more_at (λ b. Has b.sure x) (λ m. SureOf S m.1 x) (S j x) (nat_eq j n) new (slice_get known j) (slice_get lets n) l at here (knows.sure j x)));
+  among = λ j x.
+      let here : Has new.sure x → Has new.vars x = λ h. (is.0 x).1 (sure_var (vars_known known) (sure_known known) knows.among n l.1 x formed ((is.1 x).0 h)) in
+      subst (λ o. IsSomeAnd o (λ b. Has b.sure x) → IsSomeAnd o (λ b. Has b.vars x)) (sym (slice_get_push known new j)) (among_at x (nat_eq j n) new (slice_get known j) here (knows.among j x));
+}
+  where
+    n : ℕ
+    n = length known
+
+    V : ℕ → VarName → Type 0
+    V = vars_of_lets lets (length known)
+
+    S : ℕ → VarName → Type 0
+    S = sure_of_lets lets (length known)
+
+    long : length (known ++ new ∷ []) ≡ suc (length known)
+    long = omega (arith, length-append known (new ∷ []))
+
+known_push : (known : List Bound) (new : Bound) (j : ℕ) (x : VarName) → vars_known (known ++ new ∷ []) j x → vars_known known j x ⊎ Has new.vars x
+known_push known new j x h = by (slice_get (known ++ new ∷ []) j) refl h
+  where
+    by : (found : Option Bound) → slice_get (known ++ new ∷ []) j ≡ found → IsSomeAnd found (λ b. Has b.vars x) → vars_known known j x ⊎ Has new.vars x
     by None e h = absurd h
-    by (Some z) e h = elim (get_last known vars z j e) [
-      | inl at ↦ inl (subst (λ o. IsSomeAnd o (λ names. Has names x)) (sym at) h)
-      | inr at ↦ inr (subst (λ (names : List VarName). Has names x) (sym at.1) h)
+    by (Some z) e h = elim (get_last known new z j e) [
+      | inl at ↦ inl (subst (λ o. IsSomeAnd o (λ b. Has b.vars x)) (sym at) h)
+      | inr at ↦ inr (subst (λ (b : Bound). Has b.vars x) (sym at.1) h)
     ]
 
 -- what a let reaches are names of the query
-pub let_reach : (q : QueryTree) (known : List (List VarName)) (k : ℕ) (l : VarName × ExprTree) → slice_get q.lets k ≡ Some l → ((j : ℕ) (x : VarName) → vars_in known j x → NameInLets q.lets x) →
+pub let_reach : (q : QueryTree) (known : List Bound) (k : ℕ) (l : VarName × ExprTree) → slice_get q.lets k ≡ Some l → ((j : ℕ) (x : VarName) → vars_known known j x → NameInLets q.lets x) →
     AtMost MOST_VARIABLES (NameOf q) → AtMost MOST_VARIABLES (InReach known l.1)
 let_reach q known k l at within few =
     at_most_less MOST_VARIABLES (InReach known l.1) (NameOf q)
     (λ x h. elim h as (λ _. NameOf q x) [ inl n ↦ inl (let_in_turn.of_one q.lets l x (Has-slice_get q.lets k l at) n) | inr v ↦ inl (within v.0 x v.1) ]) few
 
-pub body_reach : (q : QueryTree) (known : List (List VarName)) → ((j : ℕ) (x : VarName) → vars_in known j x → NameInLets q.lets x) →
+pub body_reach : (q : QueryTree) (known : List Bound) → ((j : ℕ) (x : VarName) → vars_known known j x → NameInLets q.lets x) →
     AtMost MOST_VARIABLES (NameOf q) → AtMost MOST_VARIABLES (InReach known q.body)
 body_reach q known within few =
     at_most_less MOST_VARIABLES (InReach known q.body) (NameOf q) (λ x h. elim h as (λ _. NameOf q x) [ inl n ↦ inr n | inr v ↦ inl (within v.0 x v.1) ]) few
 
--- the fault of a let is one of the query, where those before it pass
-pub let_fault : (q : QueryTree) (known : List (List VarName)) (k : ℕ) (l : VarName × ExprTree) (e : QueryFault) → slice_get q.lets k ≡ Some l → length known ≡ k → Knows q.lets known →
-    ((j : ℕ) → j < k → LetPasses q.lets j) → IsExprFault (vars_in known) l.1 e → IsTreeFault q e
-let_fault q known k l e at long knows passed fault =
-    let same : IsExprFault (vars_of_lets q.lets (length known)) l.1 e = same_fault (vars_in known) (vars_of_lets q.lets (length known)) knows l.1 e fault in
-    inl (k, passed, subst (λ o. IsSomeAnd o (λ m. IsExprFault (vars_of_lets q.lets k) m.1 e)) (sym at) (subst (λ n. IsExprFault (vars_of_lets q.lets n) l.1 e) long same))
+fault_under : (lets : List (VarName × ExprTree)) (known : List Bound) (k : ℕ) (e : ExprTree) (f : QueryFault) → length known ≡ k → Knows lets known → IsExprFault (vars_known known) (sure_known known) e f → IsFaultUnder lets k e f
+fault_under lets known k e f long knows fault =
+    subst (λ n. IsFaultUnder lets n e f) long
+    (same_fault (vars_known known) (vars_of_lets lets (length known)) (sure_known known) (sure_of_lets lets (length known)) knows.vars knows.sure e f fault)
 
-pub record KnowsMore (q : QueryTree) (known : List (List VarName)) (k : ℕ) : Type 0 where
+passes_under : (lets : List (VarName × ExprTree)) (known : List Bound) (k : ℕ) (e : ExprTree) → length known ≡ k → Knows lets known → Passes (vars_known known) (sure_known known) e → PassesUnder lets k e
+passes_under lets known k e long knows pass =
+    subst (λ n. PassesUnder lets n e) long
+    (same_passes (vars_known known) (vars_of_lets lets (length known)) (sure_known known) (sure_of_lets lets (length known)) knows.vars knows.sure e pass)
+
+-- the fault of a let is one of the query, where those before it pass
+pub let_fault : (q : QueryTree) (known : List Bound) (k : ℕ) (l : VarName × ExprTree) (e : QueryFault) → slice_get q.lets k ≡ Some l → length known ≡ k → Knows q.lets known →
+    ((j : ℕ) → j < k → LetPasses q.lets j) → IsExprFault (vars_known known) (sure_known known) l.1 e → IsTreeFault q e
+let_fault q known k l e at long knows passed fault =
+    inl (k, passed, subst (λ o. IsSomeAnd o (λ m. IsFaultUnder q.lets k m.1 e)) (sym at) (fault_under q.lets known k l.1 e long knows fault))
+
+pub record KnowsMore (q : QueryTree) (known : List Bound) (k : ℕ) : Type 0 where
   pub long : length known ≡ k + 1
   pub knows : Knows q.lets known
   pub passed : (j : ℕ) → j < k + 1 → LetPasses q.lets j
-  pub within : (j : ℕ) (x : VarName) → vars_in known j x → NameInLets q.lets x
+  pub within : (j : ℕ) (x : VarName) → vars_known known j x → NameInLets q.lets x
 
 -- one let more
-pub known_next : (q : QueryTree) (known : List (List VarName)) (k : ℕ) (l : VarName × ExprTree) (vars : List VarName) → slice_get q.lets k ≡ Some l → length known ≡ k → Knows q.lets known →
-    ((j : ℕ) → j < k → LetPasses q.lets j) → ((j : ℕ) (x : VarName) → vars_in known j x → NameInLets q.lets x) → IsFormed k l.1 → Passes (vars_in known) l.1 →
-    ((x : VarName) → Has vars x ↔ VarOf (vars_in known) l.1 x) → KnowsMore q (known ++ vars ∷ []) k
-known_next q known k l vars at long knows passed within formed pass are = record {
-  long = omega (arith, long, length-append known (vars ∷ []));
-  knows = knows_more q.lets known l vars (subst (λ n. slice_get q.lets n ≡ Some l) (sym long) at) knows are;
+pub known_next : (q : QueryTree) (known : List Bound) (k : ℕ) (l : VarName × ExprTree) (new : Bound) → slice_get q.lets k ≡ Some l → length known ≡ k → Knows q.lets known →
+    ((j : ℕ) → j < k → LetPasses q.lets j) → ((j : ℕ) (x : VarName) → vars_known known j x → NameInLets q.lets x) → IsFormed k l.1 →
+    Passes (vars_known known) (sure_known known) l.1 → IsBoundOf (vars_known known) (sure_known known) l.1 new → KnowsMore q (known ++ new ∷ []) k
+known_next q known k l new at long knows passed within formed pass is = record {
+  long = omega (arith, long, length-append known (new ∷ []));
+  knows = knows_more q.lets known l new (subst (λ n. slice_get q.lets n ≡ Some l) (sym long) at) knows (subst (λ n. IsFormed n l.1) (sym long) formed) is;
   passed = λ j below. by j (nat_lt j k) refl below;
-  within = λ j x h. elim (known_push known vars j x h) as (λ _. NameInLets q.lets x) [
+  within = λ j x h. elim (known_push known new j x h) as (λ _. NameInLets q.lets x) [
     | inl old ↦ within j x old
-    | inr new ↦ elim (reaches known l.1 x (subst (λ n. IsFormed n l.1) (sym long) formed) pass ((are x).0 new)) as (λ _. NameInLets q.lets x) [
+    | inr here ↦ elim (reaches known l.1 x pass ((is.0 x).0 here)) as (λ _. NameInLets q.lets x) [
       | inl n ↦ let_in_turn.of_one q.lets l x (Has-slice_get q.lets k l at) n
       | inr v ↦ within v.0 x v.1
     ]
   ];
 }
   where
-    here : Passes (vars_of_lets q.lets k) l.1
-    here = subst (λ n. Passes (vars_of_lets q.lets n) l.1) long (same_passes (vars_in known) (vars_of_lets q.lets (length known)) knows l.1 pass)
-
     by : (j : ℕ) (b : Bool) → nat_lt j k ≡ b → j < k + 1 → LetPasses q.lets j
     by j true e below = passed j (grind (arith, nat_tests))
     by j false e below =
         let same : k ≡ j = grind (arith, nat_tests) in
-        λ m is. let one : l ≡ m = cc in subst (λ (z : VarName × ExprTree). Passes (vars_of_lets q.lets j) z.1) one (subst (λ n. Passes (vars_of_lets q.lets n) l.1) same here)
+        λ m is. let one : l ≡ m = cc in subst (λ (z : VarName × ExprTree). PassesUnder q.lets j z.1) one (subst (λ n. PassesUnder q.lets n l.1) same (passes_under q.lets known k l.1 long knows pass))
 
-pub body_fault : (q : QueryTree) (known : List (List VarName)) (e : QueryFault) → length known ≡ length q.lets → Knows q.lets known → ((j : ℕ) → LetPasses q.lets j) →
-    IsExprFault (vars_in known) q.body e → IsTreeFault q e
-body_fault q known e long knows passed fault =
-    let same : IsExprFault (vars_of_lets q.lets (length known)) q.body e = same_fault (vars_in known) (vars_of_lets q.lets (length known)) knows q.body e fault in
-    inr (passed, subst (λ n. IsExprFault (vars_of_lets q.lets n) q.body e) long same)
+pub body_fault : (q : QueryTree) (known : List Bound) (e : QueryFault) → length known ≡ length q.lets → Knows q.lets known → ((j : ℕ) → LetPasses q.lets j) →
+    IsExprFault (vars_known known) (sure_known known) q.body e → IsTreeFault q e
+body_fault q known e long knows passed fault = inr (passed, fault_under q.lets known (length q.lets) q.body e long knows fault)
 
-pub all_pass : (q : QueryTree) (known : List (List VarName)) → length known ≡ length q.lets → Knows q.lets known → ((j : ℕ) → LetPasses q.lets j) →
-    Passes (vars_in known) q.body → PassesQuery q
-all_pass q known long knows passed pass =
-    (passed, subst (λ n. Passes (vars_of_lets q.lets n) q.body) long (same_passes (vars_in known) (vars_of_lets q.lets (length known)) knows q.body pass))
+pub all_pass : (q : QueryTree) (known : List Bound) → length known ≡ length q.lets → Knows q.lets known → ((j : ℕ) → LetPasses q.lets j) →
+    Passes (vars_known known) (sure_known known) q.body → PassesQuery q
+all_pass q known long knows passed pass = (passed, passes_under q.lets known (length q.lets) q.body long knows pass)
+
+-- what is known of a let is that of its name
+pub named_bound : (known : List Bound) (k : ℕ) (b : Bound) → slice_get known k ≡ Some b → IsBoundOf (vars_known known) (sure_known known) (named k) b
+named_bound known k b at = (
+  λ x. subst (λ o. Has b.vars x ↔ IsSomeAnd o (λ c. Has c.vars x)) (sym at) (λ h. h, λ h. h),
+  λ x. subst (λ o. Has b.sure x ↔ IsSomeAnd o (λ c. Has c.sure x)) (sym at) (λ h. h, λ h. h),
+)

@@ -13,6 +13,7 @@ pub mod SoundLaws
 pub mod TreeFaultLaws
 pub mod QueryLaws
 pub mod FormedLaws
+pub mod SureLaws
 pub mod CheckLaws
 pub mod ReachLaws
 pub mod SameLaws

@@ -7,9 +7,9 @@ use Rattle.span_core.specs.Lists.{AtMost}
 use Rattle.spanner_model.specs.Captures.{VarName}
 use Rattle.spanner_model.specs.Expression.{ExprTree, QueryTree}
 use Rattle.spanner_model.specs.Answer.{vars_of_lets}
-use Rattle.spanner_model.specs.Sound.{IsSound, NameOf}
+use Rattle.spanner_model.specs.Sound.{IsSound, NameOf, sure_of_lets}
 use Rattle.query_parser.specs.declared.fault.QueryFault.{QueryFault}
-use Rattle.query_parser.specs.TreeFaults.{IsExprFault, LetPasses, IsLetFault, IsTreeFault}
+use Rattle.query_parser.specs.TreeFaults.{IsFaultUnder, LetPasses, IsLetFault, IsTreeFault}
 use Rattle.query_parser.specs.Faults.{too_long, unreadable, too_many_kept, too_many_captured, not_sound}
 use Rattle.query_parser.specs.Laws.{HasNoQueryWithFault, HasOneFault}
 use Rattle.query_parser.proofs.SoundLaws.{sound_passes}
@@ -20,25 +20,25 @@ use Rattle.query_parser.proofs.GrammarLaws.{one_query, no_query_with_read_fault,
 let_none : (lets : List (VarName × ExprTree)) (k : ℕ) (e : QueryFault) → LetPasses lets k → IsLetFault lets k e → ⊥
 let_none lets k e p f = by (slice_get lets k) refl f
   where
-    by : (found : Option (VarName × ExprTree)) → slice_get lets k ≡ found → IsSomeAnd found (λ l. IsExprFault (vars_of_lets lets k) l.1 e) → ⊥
+    by : (found : Option (VarName × ExprTree)) → slice_get lets k ≡ found → IsSomeAnd found (λ l. IsFaultUnder lets k l.1 e) → ⊥
     by None is f = absurd f
-    by (Some l) is f = expr_none (vars_of_lets lets k) l.1 e (p l is) f
+    by (Some l) is f = expr_none (vars_of_lets lets k) (sure_of_lets lets k) l.1 e (p l is) f
 
 let_one : (lets : List (VarName × ExprTree)) (k : ℕ) (e d : QueryFault) → IsLetFault lets k e → IsLetFault lets k d → e ≡ d
 let_one lets k e d f g = by (slice_get lets k) f g
   where
-    by : (found : Option (VarName × ExprTree)) → IsSomeAnd found (λ l. IsExprFault (vars_of_lets lets k) l.1 e) → IsSomeAnd found (λ l. IsExprFault (vars_of_lets lets k) l.1 d) → e ≡ d
+    by : (found : Option (VarName × ExprTree)) → IsSomeAnd found (λ l. IsFaultUnder lets k l.1 e) → IsSomeAnd found (λ l. IsFaultUnder lets k l.1 d) → e ≡ d
     by None f g = absurd f
-    by (Some l) f g = expr_one (vars_of_lets lets k) l.1 e d f g
+    by (Some l) f g = expr_one (vars_of_lets lets k) (sure_of_lets lets k) l.1 e d f g
 
 sound_let : (q : QueryTree) → IsSound q → (k : ℕ) → LetPasses q.lets k
-sound_let q s k = λ l is. sound_passes (vars_of_lets q.lets k) k l.1 (s.sound_lets k l is).0
+sound_let q s k = λ l is. sound_passes (vars_of_lets q.lets k) (sure_of_lets q.lets k) k l.1 (s.sound_lets k l is).0
 
 -- a sound query has no fault
 pub sound_none : (q : QueryTree) (e : QueryFault) → IsSound q → IsTreeFault q e → ⊥
 sound_none q e s (inl (k, before, f)) = let_none q.lets k e (sound_let q s k) f
 sound_none q e s (inr (lets, f)) =
-    let n = length q.lets in expr_none (vars_of_lets q.lets n) q.body e (sound_passes (vars_of_lets q.lets n) n q.body s.sound_body.0) f
+    let n = length q.lets in expr_none (vars_of_lets q.lets n) (sure_of_lets q.lets n) q.body e (sound_passes (vars_of_lets q.lets n) (sure_of_lets q.lets n) n q.body s.sound_body.0) f
 
 -- a query has one fault at most
 pub tree_one : (q : QueryTree) (e d : QueryFault) → IsTreeFault q e → IsTreeFault q d → e ≡ d
@@ -50,7 +50,7 @@ tree_one q e d (inl (k, before, f)) (inl (j, earlier, g)) = by (nat_lt k j) refl
     by false h false i = let same : j ≡ k = grind (arith, nat_tests) in let_one q.lets k e d f (subst (λ n. IsLetFault q.lets n d) same g)
 tree_one q e d (inl (k, before, f)) (inr (lets, g)) = absurd (let_none q.lets k e (lets k) f)
 tree_one q e d (inr (lets, f)) (inl (k, before, g)) = absurd (let_none q.lets k d (lets k) g)
-tree_one q e d (inr (lets, f)) (inr (others, g)) = expr_one (vars_of_lets q.lets (length q.lets)) q.body e d f g
+tree_one q e d (inr (lets, f)) (inr (others, g)) = expr_one (vars_of_lets q.lets (length q.lets)) (sure_of_lets q.lets (length q.lets)) q.body e d f g
 
 pub no_query_with_fault : HasNoQueryWithFault
 no_query_with_fault text q e (few, spelled, sound) (too_long long) = absurd (omega arith)

@@ -20,13 +20,13 @@ use Rattle.query_parser.proofs.SoundQuery.{query_formed, sound_query}
 use Rattle.formula_parser.proofs.BuiltLaws.{IsText}
 use Rattle.span_core.specs.declared.TheConstants.{MOST_VARIABLES}
 use Rattle.span_core.specs.Lists.{AtMost}
-use Rattle.spanner_model.specs.Sound.{IsSound, NameOf}
+use Rattle.spanner_model.specs.Sound.{IsSound, NameOf, sure_of_lets}
 use Rattle.query_parser.proofs.TextLaws.{Answer, ends_spelled}
 use Rattle.query_parser.specs.declared.TheConstants.{MOST_TEXT_BYTES}
 use Rattle.query_parser.specs.declared.fault.QueryFault.{QueryFault}
-use Rattle.query_parser.specs.declared.fault.QueryFault.TheVariants.{Formula, Check, Unexpected, UnknownName, NameTwice, NameTooLong, UnionVariables, UnknownVariable, TooManyVariables, TooLong, TooDeep, OutOfMemory}
+use Rattle.query_parser.specs.declared.fault.QueryFault.TheVariants.{Formula, Check, Unexpected, UnknownName, NameTwice, NameTooLong, JoinUnsure, UnknownVariable, TooManyVariables, TooLong, TooDeep, OutOfMemory}
 use Rattle.query_parser.specs.Reads.{Refusal, unexpected, name_too_long, name_twice, unknown_name, too_deep}
-use Rattle.query_parser.specs.TreeFaults.{OwnFault, InnerFault, IsExprFault, IsTreeFault}
+use Rattle.query_parser.specs.TreeFaults.{OwnFault, InnerFault, IsExprFault, IsFaultUnder, IsTreeFault}
 use Rattle.query_parser.specs.Faults.{refused, IsReadFault, bad_atom, atom_out_of_place, token_refused, no_token, not_whole, HasFault, too_long, unreadable, too_many_kept, too_many_captured, not_sound, IsQueryText}
 use Rattle.query_parser.specs.Answers.{IsAnswer, IsRead}
 use Rattle.query_parser.proofs.GrammarLaws.{one_query}
@@ -50,8 +50,8 @@ read_memory (token_refused {p = p} {why = why} r at is) e = refused_memory why p
 read_memory (no_token r at s) e = absurd (cc)
 read_memory (not_whole r at w) e = absurd (cc)
 
-module _ (V : ℕ → VarName → Type 0) where
-  own_memory : (e : ExprTree) → OwnFault V e memory_fault → ⊥
+module _ (V S : ℕ → VarName → Type 0) where
+  own_memory : (e : ExprTree) → OwnFault V S e memory_fault → ⊥
   own_memory (atom s t f) h = h
   own_memory (named k) h = h
   own_memory union_end h = h
@@ -60,11 +60,11 @@ module _ (V : ℕ → VarName → Type 0) where
   own_memory (join e rest) h = h
   own_memory (project kept e) h = h
 
-  over_memory : (e : ExprTree) → (InnerFault V e memory_fault → ⊥) → IsExprFault V e memory_fault → ⊥
+  over_memory : (e : ExprTree) → (InnerFault V S e memory_fault → ⊥) → IsExprFault V S e memory_fault → ⊥
   over_memory e inside (inl i) = inside i
   over_memory e inside (inr o) = own_memory e o.1
 
-  inner_memory : (e : ExprTree) → InnerFault V e memory_fault → ⊥
+  inner_memory : (e : ExprTree) → InnerFault V S e memory_fault → ⊥
   inner_memory (union e rest) (inl f) = over_memory e (inner_memory e) f
   inner_memory (union e rest) (inr i) = inner_memory rest i.1
   inner_memory (join e rest) (inl f) = over_memory e (inner_memory e) f
@@ -75,16 +75,16 @@ module _ (V : ℕ → VarName → Type 0) where
   inner_memory union_end i = i
   inner_memory join_end i = i
 
-  expr_memory : (e : ExprTree) → IsExprFault V e memory_fault → ⊥
+  expr_memory : (e : ExprTree) → IsExprFault V S e memory_fault → ⊥
   expr_memory e = over_memory e (inner_memory e)
 
-let_memory : (lets : List (VarName × ExprTree)) (k : ℕ) (found : Option (VarName × ExprTree)) → IsSomeAnd found (λ (l : VarName × ExprTree). IsExprFault (vars_of_lets lets k) l.1 memory_fault) → ⊥
+let_memory : (lets : List (VarName × ExprTree)) (k : ℕ) (found : Option (VarName × ExprTree)) → IsSomeAnd found (λ (l : VarName × ExprTree). IsFaultUnder lets k l.1 memory_fault) → ⊥
 let_memory lets k None f = f
-let_memory lets k (Some l) f = expr_memory (vars_of_lets lets k) l.1 f
+let_memory lets k (Some l) f = expr_memory (vars_of_lets lets k) (sure_of_lets lets k) l.1 f
 
 tree_memory : (q : QueryTree) → IsTreeFault q memory_fault → ⊥
 tree_memory q (inl (k, before, f)) = let_memory q.lets k _ f
-tree_memory q (inr (lets, f)) = expr_memory (vars_of_lets q.lets (length q.lets)) q.body f
+tree_memory q (inr (lets, f)) = expr_memory (vars_of_lets q.lets (length q.lets)) (sure_of_lets q.lets (length q.lets)) q.body f
 
 -- no text has want of memory of an atom for its fault
 pub never_memory : {text : List ℕ} {e : QueryFault} → HasFault text e → e ≡ memory_fault → ⊥
@@ -121,7 +121,7 @@ answer_err (Unexpected x) r h = h
 answer_err (UnknownName x) r h = h
 answer_err (NameTwice x) r h = h
 answer_err (NameTooLong x) r h = h
-answer_err (UnionVariables x) r h = h
+answer_err (JoinUnsure x) r h = h
 answer_err (UnknownVariable x) r h = h
 answer_err TooManyVariables r h = h
 answer_err TooLong r h = h
@@ -150,7 +150,7 @@ answers_err (Unexpected x) P h = inr h
 answers_err (UnknownName x) P h = inr h
 answers_err (NameTwice x) P h = inr h
 answers_err (NameTooLong x) P h = inr h
-answers_err (UnionVariables x) P h = inr h
+answers_err (JoinUnsure x) P h = inr h
 answers_err (UnknownVariable x) P h = inr h
 answers_err TooManyVariables P h = inr h
 answers_err TooLong P h = inr h

@@ -5,7 +5,7 @@ use Rattle.span_core.specs.Lists.{Has, AtMost}
 use Rattle.spanner_model.specs.Captures.{VarName}
 use Rattle.spanner_model.specs.Expression.{ExprTree, QueryTree}
 use Rattle.spanner_model.specs.Answer.{vars_of_lets}
-use Rattle.spanner_model.specs.Sound.{IsSound, IsFreeName, NameOf, expr_nesting}
+use Rattle.spanner_model.specs.Sound.{IsSound, IsFreeName, NameOf, expr_nesting, sure_of_lets}
 use Rattle.formula_parser.proofs.BuiltLaws.{IsText}
 use Rattle.formula_parser.proofs.AtomLaws.{atom_built}
 use Rattle.query_parser.specs.Tokens.{Token, TokenAt, atom_at, word_at, sign_at, HasTokens, text_ends, blank_first, token_first}
@@ -63,8 +63,8 @@ sound_query text ts q bytes has (t, u, es, splits, s, e, body) passes few =
     let n = length q.lets in
     let formed : IsFormed n q.body = subst (IsFormed n) (sym body) (subst (λ m. IsFormed m (union_tree es)) (names_len q.lets) whole.0) in
     record {
-      sound_lets = λ k l is. let f = formed_lets s built.0 k l is in (sound_expr (vars_of_lets q.lets k) k l.1 f.0 (passes.0 k l is), f.1);
-      sound_body = (sound_expr (vars_of_lets q.lets n) n q.body formed passes.1, subst (λ b. expr_nesting b ≤ 600) (sym body) whole.1);
+      sound_lets = λ k l is. let f = formed_lets s built.0 k l is in (sound_expr (vars_of_lets q.lets k) (sure_of_lets q.lets k) k l.1 f.0 (passes.0 k l is), f.1);
+      sound_body = (sound_expr (vars_of_lets q.lets n) (sure_of_lets q.lets n) n q.body formed passes.1, subst (λ b. expr_nesting b ≤ 600) (sym body) whole.1);
       distinct = (reads_lets s).1.0;
       free = λ x h. let (k, l, at, is) = names_place q.lets x h in subst IsFreeName is (formed_lets s built.0 k l at).2;
       few = few;

@@ -1,16 +1,17 @@
--- A formula is functional or has a fault.
-use Rattle.std.proofs.Common.{◌⊎◌, ◌↔◌, List, [], ◌∷◌, ◌++◌, inl, inr, refl}
+-- A formula is sequential or has a fault.
+use Rattle.std.proofs.Common.{◌≡◌, ◌⊎◌, List, [], ◌∷◌, ◌++◌, Some, inl, inr, refl}
 use Rattle.spanner_model.specs.Captures.{VarName}
 use Rattle.span_core.specs.Lists.{Has}
 use Rattle.spanner_model.specs.Tree.{Tree, empty, one, cat_end, cat, alt_end, alt, rep, cap}
-use Rattle.spanner_model.specs.Functional.{HasVar, AgreesWithArms, IsFunctional}
+use Rattle.spanner_model.specs.Sequential.{HasVar, IsSequential}
 use Rattle.spanner_model.specs.WellBuilt.{IsBuilt, AreParts, AreArms}
 use Rattle.spanner_model.proofs.Deciding.{Told, told_var}
 use Rattle.span_core.proofs.HasLaws.{Has-append_left, Has-append_right, Has-append_cases}
 use Rattle.functional_check.specs.declared.checking.CheckFault.{CheckFault}
-use Rattle.functional_check.specs.declared.checking.CheckFault.TheVariants.{BoundTwice, UnderRepeat, ArmsDiffer}
-use Rattle.functional_check.specs.Faults.{IsLeast, InExactlyOne, InTwoParts, SetsApart, HasFunctionalParts, InnerFault, IsFault}
-use Rattle.query_parser.proofs.ToldNames.{told_both, told_either, told_one, none_apart, least_or_none}
+use Rattle.functional_check.specs.declared.checking.CheckFault.TheVariants.{BoundTwice, UnderRepeat}
+use Rattle.functional_check.specs.Faults.{IsLeast, InTwoParts, HasSequentialParts, InnerFault, IsFault}
+use Rattle.query_parser.proofs.ToldNames.{told_both, told_either, least_or_none}
+use Rattle.query_parser.proofs.SureLaws.{told_most}
 
 -- the names of a formula
 abbrev pub formula_names : Tree → List VarName
@@ -75,116 +76,70 @@ two_var (alt f rest) x h = absurd h
 two_var (rep f least most) x h = absurd h
 two_var (cap y f) x h = absurd h
 
-parts_functional : (f : Tree) → AreParts f → HasFunctionalParts f → ((x : VarName) → InTwoParts f x → ⊥) → IsFunctional f
-parts_functional cat_end c ok none = tt
-parts_functional (cat f rest) c ok none = (ok.0, parts_functional rest c.1 ok.1 (λ x h. none x (inr h)), λ x a b. none x (inl (a, b)))
-parts_functional _ c ok none = absurd c
+parts_sequential : (f : Tree) → AreParts f → HasSequentialParts f → ((x : VarName) → InTwoParts f x → ⊥) → IsSequential f
+parts_sequential cat_end c ok none = tt
+parts_sequential (cat f rest) c ok none = (ok.0, parts_sequential rest c.1 ok.1 (λ x h. none x (inr h)), λ x a b. none x (inl (a, b)))
+parts_sequential _ c ok none = absurd c
 
--- ---- alternations
-
--- the arms all have the variables of the first
-abbrev AllSame : Tree → Tree → Type 0
-AllSame first (alt f rest) = ((y : VarName) → HasVar first y ↔ HasVar f y) × AllSame first rest
-AllSame first _ = Unit {0}
-
-apart_or_same : (first f : Tree) → AreArms f → ((x : VarName) × SetsApart first f x) ⊎ AllSame first f
-apart_or_same first alt_end c = inr tt
-apart_or_same first (alt f rest) c =
-    by (least_or_none (InExactlyOne (HasVar first) (HasVar f)) (told_one (HasVar first) (HasVar f) (told_var first) (told_var f)) (formula_names first ++ formula_names f) listed)
-    (apart_or_same first rest c.1)
-  where
-    listed : (x : VarName) → InExactlyOne (HasVar first) (HasVar f) x → Has (formula_names first ++ formula_names f) x
-    listed x (inl h) = Has-append_left (formula_names first) (formula_names f) x (var_listed first x h.0)
-    listed x (inr h) = Has-append_right (formula_names first) (formula_names f) x (var_listed f x h.0)
-
-    by : ((x : VarName) × IsLeast (InExactlyOne (HasVar first) (HasVar f)) x) ⊎ ((x : VarName) → InExactlyOne (HasVar first) (HasVar f) x → ⊥) →
-        ((x : VarName) × SetsApart first rest x) ⊎ AllSame first rest → ((x : VarName) × SetsApart first (alt f rest) x) ⊎ AllSame first (alt f rest)
-    by (inl h) later = inl (h.0, inl h.1)
-    by (inr none) (inl h) = inl (h.0, inr (none_apart (HasVar first) (HasVar f) (told_var first) (told_var f) none, h.1))
-    by (inr none) (inr same) = inr (none_apart (HasVar first) (HasVar f) (told_var first) (told_var f) none, same)
-apart_or_same first _ c = absurd c
-
--- an arm with the variables of the first agrees with those that follow
-abbrev SameVars : Tree → Tree → Type 0
-SameVars f g = (y : VarName) → HasVar f y ↔ HasVar g y
-
-agrees : (first f rest : Tree) → AreArms rest → SameVars first f → AllSame first rest → AgreesWithArms f rest
-agrees first f alt_end c here same = tt
-agrees first f (alt g rest) c here same = λ y. (
-  λ h. inl ((same.0 y).0 ((here y).1 h)),
-  λ h. (here y).0 (in_first rest c.1 same.1 y (elim h as (λ _. HasVar first y ⊎ HasVar rest y) [ inl a ↦ inl ((same.0 y).1 a) | inr b ↦ inr b ])),
-)
-  where
-    in_first : (rest : Tree) → AreArms rest → AllSame first rest → (y : VarName) → HasVar first y ⊎ HasVar rest y → HasVar first y
-    in_first rest c same y (inl h) = h
-    in_first (alt g rest) c same y (inr (inl h)) = (same.0 y).1 h
-    in_first (alt g rest) c same y (inr (inr h)) = in_first rest c.1 same.1 y (inr h)
-    in_first alt_end c same y (inr h) = absurd h
-    in_first _ c same y (inr h) = absurd c
-agrees first f _ c here same = absurd c
-
-arms_functional : (first f : Tree) → AreArms f → HasFunctionalParts f → AllSame first f → IsFunctional f
-arms_functional first alt_end c ok same = tt
-arms_functional first (alt f rest) c ok same = (ok.0, arms_functional first rest c.1 ok.1 same.1, agrees first f rest c.1 same.0 same.1)
-arms_functional first _ c ok same = absurd c
+arms_sequential : (f : Tree) → AreArms f → HasSequentialParts f → IsSequential f
+arms_sequential alt_end c ok = tt
+arms_sequential (alt f rest) c ok = (ok.0, arms_sequential rest c.1 ok.1)
+arms_sequential _ c ok = absurd c
 
 -- ---- formulas
 
-abbrev pub FunctionalOrFault : Tree → Type 0
-FunctionalOrFault f = IsFunctional f ⊎ ((e : CheckFault) × IsFault f e)
+abbrev pub SequentialOrFault : Tree → Type 0
+SequentialOrFault f = IsSequential f ⊎ ((e : CheckFault) × IsFault f e)
 
 -- the parts of a concatenation, and the arms of an alternation
 abbrev PartsOrFault : Tree → Type 0
-PartsOrFault f = HasFunctionalParts f ⊎ ((e : CheckFault) × InnerFault f e)
+PartsOrFault f = HasSequentialParts f ⊎ ((e : CheckFault) × InnerFault f e)
 
 mutual
-  pub functional_or_fault : (f : Tree) → IsBuilt f → FunctionalOrFault f
-  functional_or_fault empty c = inl tt
-  functional_or_fault (one s) c = inl tt
-  functional_or_fault cat_end c = inl tt
-  functional_or_fault (cat f rest) c = by (functional_or_fault f c.0) (parts_or_fault rest c.1)
+  pub sequential_or_fault : (f : Tree) → IsBuilt f → SequentialOrFault f
+  sequential_or_fault empty c = inl tt
+  sequential_or_fault (one s) c = inl tt
+  sequential_or_fault cat_end c = inl tt
+  sequential_or_fault (cat f rest) c = by (sequential_or_fault f c.0) (parts_or_fault rest c.1)
     where
-      twice : IsFunctional f → HasFunctionalParts rest → ((x : VarName) × IsLeast (InTwoParts (cat f rest)) x) ⊎ ((x : VarName) → InTwoParts (cat f rest) x → ⊥) → FunctionalOrFault (cat f rest)
+      twice : IsSequential f → HasSequentialParts rest → ((x : VarName) × IsLeast (InTwoParts (cat f rest)) x) ⊎ ((x : VarName) → InTwoParts (cat f rest) x → ⊥) → SequentialOrFault (cat f rest)
       twice ok others (inl h) = inr (BoundTwice h.0, inr ((ok, others), h.1))
-      twice ok others (inr none) = inl (ok, parts_functional rest c.1 others (λ x h. none x (inr h)), λ x a b. none x (inl (a, b)))
+      twice ok others (inr none) = inl (ok, parts_sequential rest c.1 others (λ x h. none x (inr h)), λ x a b. none x (inl (a, b)))
 
-      by : FunctionalOrFault f → PartsOrFault rest → FunctionalOrFault (cat f rest)
+      by : SequentialOrFault f → PartsOrFault rest → SequentialOrFault (cat f rest)
       by (inr h) later = inr (h.0, inl (inl h.1))
       by (inl ok) (inr h) = inr (h.0, inl (inr (ok, h.1)))
       by (inl ok) (inl others) =
           twice ok others (least_or_none (InTwoParts (cat f rest)) (told_two (cat f rest)) (formula_names (cat f rest)) (λ x h. var_listed (cat f rest) x (two_var (cat f rest) x h)))
-  functional_or_fault alt_end c = inl tt
-  functional_or_fault (alt f rest) c = by (functional_or_fault f c.0) (arms_or_fault rest c.1)
+  sequential_or_fault alt_end c = inl tt
+  sequential_or_fault (alt f rest) c = by (sequential_or_fault f c.0) (arms_or_fault rest c.1)
     where
-      apart : IsFunctional f → HasFunctionalParts rest → ((x : VarName) × SetsApart f rest x) ⊎ AllSame f rest → FunctionalOrFault (alt f rest)
-      apart ok others (inl h) = inr (ArmsDiffer h.0, inr ((ok, others), h.1))
-      apart ok others (inr same) = inl (ok, arms_functional f rest c.1 others same, agrees f f rest c.1 (λ y. (λ h. h, λ h. h)) same)
-
-      by : FunctionalOrFault f → PartsOrFault rest → FunctionalOrFault (alt f rest)
+      by : SequentialOrFault f → PartsOrFault rest → SequentialOrFault (alt f rest)
       by (inr h) later = inr (h.0, inl (inl h.1))
       by (inl ok) (inr h) = inr (h.0, inl (inr (ok, h.1)))
-      by (inl ok) (inl others) = apart ok others (apart_or_same f rest c.1)
-  functional_or_fault (rep f least most) c = by (functional_or_fault f c.0)
+      by (inl ok) (inl others) = inl (ok, arms_sequential rest c.1 others)
+  sequential_or_fault (rep f least most) c = by (sequential_or_fault f c.0) (told_most most)
     where
-      under : IsFunctional f → ((x : VarName) × IsLeast (HasVar f) x) ⊎ ((x : VarName) → HasVar f x → ⊥) → FunctionalOrFault (rep f least most)
-      under ok (inl h) = inr (UnderRepeat h.0, inr (ok, h.1))
-      under ok (inr none) = inl (ok, none)
+      under : IsSequential f → (most ≡ Some 1 → ⊥) → ((x : VarName) × IsLeast (HasVar f) x) ⊎ ((x : VarName) → HasVar f x → ⊥) → SequentialOrFault (rep f least most)
+      under ok many (inl h) = inr (UnderRepeat h.0, inr (ok, (many, h.1)))
+      under ok many (inr none) = inl (ok, inl none)
 
-      by : FunctionalOrFault f → FunctionalOrFault (rep f least most)
-      by (inr h) = inr (h.0, inl h.1)
-      by (inl ok) = under ok (least_or_none (HasVar f) (told_var f) (formula_names f) (var_listed f))
-  functional_or_fault (cap x f) c = by (functional_or_fault f c.0) (told_var f x)
+      by : SequentialOrFault f → Told (most ≡ Some 1) → SequentialOrFault (rep f least most)
+      by (inr h) once = inr (h.0, inl h.1)
+      by (inl ok) (inl once) = inl (ok, inr once)
+      by (inl ok) (inr many) = under ok many (least_or_none (HasVar f) (told_var f) (formula_names f) (var_listed f))
+  sequential_or_fault (cap x f) c = by (sequential_or_fault f c.0) (told_var f x)
     where
-      by : FunctionalOrFault f → Told (HasVar f x) → FunctionalOrFault (cap x f)
+      by : SequentialOrFault f → Told (HasVar f x) → SequentialOrFault (cap x f)
       by (inr h) own = inr (h.0, inl h.1)
       by (inl ok) (inl h) = inr (BoundTwice x, inr (ok, (refl, h)))
       by (inl ok) (inr none) = inl (ok, none)
 
   parts_or_fault : (f : Tree) → AreParts f → PartsOrFault f
   parts_or_fault cat_end c = inl tt
-  parts_or_fault (cat f rest) c = by (functional_or_fault f c.0) (parts_or_fault rest c.1)
+  parts_or_fault (cat f rest) c = by (sequential_or_fault f c.0) (parts_or_fault rest c.1)
     where
-      by : FunctionalOrFault f → PartsOrFault rest → PartsOrFault (cat f rest)
+      by : SequentialOrFault f → PartsOrFault rest → PartsOrFault (cat f rest)
       by (inr h) later = inr (h.0, inl h.1)
       by (inl ok) (inr h) = inr (h.0, inr (ok, h.1))
       by (inl ok) (inl others) = inl (ok, others)
@@ -192,9 +147,9 @@ mutual
 
   arms_or_fault : (f : Tree) → AreArms f → PartsOrFault f
   arms_or_fault alt_end c = inl tt
-  arms_or_fault (alt f rest) c = by (functional_or_fault f c.0) (arms_or_fault rest c.1)
+  arms_or_fault (alt f rest) c = by (sequential_or_fault f c.0) (arms_or_fault rest c.1)
     where
-      by : FunctionalOrFault f → PartsOrFault rest → PartsOrFault (alt f rest)
+      by : SequentialOrFault f → PartsOrFault rest → PartsOrFault (alt f rest)
       by (inr h) later = inr (h.0, inl h.1)
       by (inl ok) (inr h) = inr (h.0, inr (ok, h.1))
       by (inl ok) (inl others) = inl (ok, others)

@@ -10,7 +10,7 @@ use Rattle.span_core.specs.Lists.{Has, AtMost}
 use Rattle.spanner_model.proofs.Deciding.{Told}
 use Rattle.span_core.proofs.HasLaws.{distinct-le}
 use Rattle.spanner_model.proofs.NameLaws.{with_cases, with_here, with_there, not_below_itself, ascending-distinct}
-use Rattle.functional_check.specs.Faults.{IsLeast, IsLeastOf, InExactlyOne}
+use Rattle.functional_check.specs.Faults.{IsLeast, IsLeastOf}
 use Rattle.functional_check.specs.Names.{smaller_of}
 use Rattle.functional_check.proofs.LeastLaws.{least_both, least_same, at_most_less}
 use Rattle.query_parser.specs.Reads.{is_among, finds_room}
@@ -32,17 +32,10 @@ pub told_not : {P : Type 0} → Told P → Told (¬ P)
 told_not (inl p) = inr (λ n. n p)
 told_not (inr n) = inl n
 
-pub told_one : (P Q : VarName → Type 0) → ((x : VarName) → Told (P x)) → ((x : VarName) → Told (Q x)) → (x : VarName) → Told (InExactlyOne P Q x)
-told_one P Q p q x = told_either (told_both (p x) (told_not (q x))) (told_both (q x) (told_not (p x)))
-
 -- what is told and is not denied holds
 pub held : {P : Type 0} → Told P → ((P → ⊥) → ⊥) → P
 held (inl p) n = p
 held (inr m) n = absurd (n m)
-
--- names that are in exactly one of two sets are none: the sets are equal
-pub none_apart : (P Q : VarName → Type 0) → ((x : VarName) → Told (P x)) → ((x : VarName) → Told (Q x)) → ((x : VarName) → InExactlyOne P Q x → ⊥) → (x : VarName) → P x ↔ Q x
-none_apart P Q p q none x = (λ h. held (q x) (λ n. none x (inl (h, n))), λ h. held (p x) (λ n. none x (inr (h, n))))
 
 -- ---- the least name of a list
 

@@ -7,22 +7,23 @@ use Rattle.std.proofs.lemmas.Bool.Decides.{nat_tests}
 use Rattle.span_core.specs.declared.TheConstants.{MOST_VARIABLES}
 use Rattle.spanner_model.specs.Captures.{VarName}
 use Rattle.span_core.specs.Lists.{Has, AtMost}
-use Rattle.spanner_model.specs.Functional.{IsFunctional}
+use Rattle.spanner_model.specs.Sequential.{IsSequential}
 use Rattle.spanner_model.specs.Tree.{Tree}
 use Rattle.spanner_model.specs.Expression.{ExprTree, QueryTree, atom, named, union_end, union, join_end, join, project}
 use Rattle.spanner_model.specs.Answer.{VarOf, vars_of_lets}
-use Rattle.spanner_model.specs.Sound.{NameIn, NameInLets, NameOf, AgreesWithParts}
+use Rattle.spanner_model.specs.Sound.{NameIn, NameInLets, NameOf, SureOf, SharesSure, sure_of_lets}
 use Rattle.spanner_model.proofs.Deciding.{Told, told_has, told_of, told_lets}
 use Rattle.span_core.proofs.HasLaws.{Has-append_left, Has-append_right, Has-append_cases, Has-slice_get}
-use Rattle.functional_check.specs.Faults.{IsLeast, InExactlyOne, IsFault}
+use Rattle.functional_check.specs.Faults.{IsLeast, IsFault}
 use Rattle.functional_check.specs.declared.checking.CheckFault.{CheckFault}
 use Rattle.functional_check.proofs.LeastLaws.{at_most_less}
 use Rattle.query_parser.specs.declared.fault.QueryFault.{QueryFault}
-use Rattle.query_parser.specs.declared.fault.QueryFault.TheVariants.{Check, UnionVariables, UnknownVariable}
-use Rattle.query_parser.specs.TreeFaults.{Passes, HasPassingParts, PartDiffers, InnerFault, IsExprFault, LetPasses, IsLetFault, IsTreeFault}
+use Rattle.query_parser.specs.declared.fault.QueryFault.TheVariants.{Check, JoinUnsure, UnknownVariable}
+use Rattle.query_parser.specs.TreeFaults.{Passes, PassesUnder, HasPassingParts, Clashes, ClashesFirst, InnerFault, IsExprFault, IsFaultUnder, LetPasses, IsLetFault, IsTreeFault}
 use Rattle.query_parser.specs.Formed.{IsFormed, AreUnitedFormed, AreJoinedFormed, IsFormedQuery, PassesQuery}
-use Rattle.query_parser.proofs.ToldNames.{told_both, told_not, told_one, none_apart, least_or_none, told_few, held}
-use Rattle.query_parser.proofs.ToldFormulas.{formula_names, var_listed, listed_var, functional_or_fault}
+use Rattle.query_parser.proofs.ToldNames.{told_both, told_not, least_or_none, told_few, held}
+use Rattle.query_parser.proofs.SureLaws.{told_sure_of, told_sure_lets}
+use Rattle.query_parser.proofs.ToldFormulas.{formula_names, var_listed, listed_var, sequential_or_fault}
 
 -- ---- the names of expressions: `all` has those of the lets
 
@@ -35,8 +36,9 @@ expr_vars all join_end = []
 expr_vars all (join e rest) = expr_vars all e ++ expr_vars all rest
 expr_vars all (project kept e) = kept
 
--- under lets whose variables can be told and are listed
-module _ (V : ℕ → VarName → Type 0) (told : (k : ℕ) (x : VarName) → Told (V k x)) (all : List VarName) (listed : (k : ℕ) (x : VarName) → V k x → Has all x) where
+-- under lets whose variables, and sure ones, can be told, and whose variables are listed
+module _ (V S : ℕ → VarName → Type 0) (told : (k : ℕ) (x : VarName) → Told (V k x)) (told_sure : (k : ℕ) (x : VarName) → Told (S k x))
+    (all : List VarName) (listed : (k : ℕ) (x : VarName) → V k x → Has all x) where
   vars_listed : (e : ExprTree) (x : VarName) → VarOf V e x → Has (expr_vars all e) x
   vars_listed (atom s t f) x h = var_listed f x h
   vars_listed (named k) x h = listed k x h
@@ -48,66 +50,77 @@ module _ (V : ℕ → VarName → Type 0) (told : (k : ℕ) (x : VarName) → To
   vars_listed (join e rest) x (inr h) = Has-append_right (expr_vars all e) (expr_vars all rest) x (vars_listed rest x h)
   vars_listed (project kept e) x h = h
 
-  abbrev SameVars : ExprTree → ExprTree → Type 0
-  SameVars e f = (y : VarName) → VarOf V e y ↔ VarOf V f y
+  -- ---- what the parts of a join share
 
-  -- the parts all have the variables of the first
-  abbrev AllSame : ExprTree → ExprTree → Type 0
-  AllSame first (union e rest) = SameVars first e × AllSame first rest
-  AllSame first _ = Unit {0}
+  told_shares : (g e : ExprTree) (x : VarName) → Told (SureOf S g x × SureOf S e x)
+  told_shares g e x = told_both (told_sure_of S told_sure g x) (told_sure_of S told_sure e x)
 
-  differs_or_same : (n : ℕ) (first e : ExprTree) → AreUnitedFormed n e → ((x : VarName) × PartDiffers V first e x) ⊎ AllSame first e
-  differs_or_same n first union_end c = inr tt
-  differs_or_same n first (union e rest) c =
-      by (least_or_none (InExactlyOne (VarOf V first) (VarOf V e)) (told_one (VarOf V first) (VarOf V e) (told_of V told first) (told_of V told e)) (expr_vars all first ++ expr_vars all e) both)
-      (differs_or_same n first rest c.1)
+  told_clash_with : (g e : ExprTree) (x : VarName) → Told (VarOf V g x × VarOf V e x × ¬ (SureOf S g x × SureOf S e x))
+  told_clash_with g e x = by (told_of V told g x) (told_of V told e x) (told_not (told_shares g e x))
     where
-      both : (x : VarName) → InExactlyOne (VarOf V first) (VarOf V e) x → Has (expr_vars all first ++ expr_vars all e) x
-      both x (inl h) = Has-append_left (expr_vars all first) (expr_vars all e) x (vars_listed first x h.0)
-      both x (inr h) = Has-append_right (expr_vars all first) (expr_vars all e) x (vars_listed e x h.0)
+      by : Told (VarOf V g x) → Told (VarOf V e x) → Told (¬ (SureOf S g x × SureOf S e x)) → Told (VarOf V g x × VarOf V e x × ¬ (SureOf S g x × SureOf S e x))
+      by (inl a) (inl b) (inl c) = inl (a, b, c)
+      by (inr none) b c = inr (λ h. none h.0)
+      by a (inr none) c = inr (λ h. none h.1)
+      by a b (inr none) = inr (λ h. none h.2)
 
-      same : ((x : VarName) → InExactlyOne (VarOf V first) (VarOf V e) x → ⊥) → SameVars first e
-      same none = none_apart (VarOf V first) (VarOf V e) (told_of V told first) (told_of V told e) none
+  told_clashes : (before : List ExprTree) (e : ExprTree) (x : VarName) → Told (Clashes V S before e x)
+  told_clashes [] e x = inr (λ c. c.1)
+  told_clashes (g ∷ before) e x = by (told_clash_with g e x) (told_clashes before e x)
+    where
+      by : Told (VarOf V g x × VarOf V e x × ¬ (SureOf S g x × SureOf S e x)) → Told (Clashes V S before e x) → Told (Clashes V S (g ∷ before) e x)
+      by (inl h) others = inl (g, inl refl, h.0, h.1, h.2)
+      by (inr apart) (inl c) = inl (c.0, inr c.1, c.2, c.3, c.4)
+      by (inr apart) (inr none) = inr (λ c. elim c.1 [
+        | inl is ↦ (let at : VarOf V g x × ¬ (SureOf S g x × SureOf S e x) = subst (λ (w : ExprTree). VarOf V w x × ¬ (SureOf S w x × SureOf S e x)) (sym is) (c.2, c.4) in apart (at.0, c.3, at.1))
+        | inr has ↦ none (c.0, has, c.2, c.3, c.4)
+      ])
 
-      by : ((x : VarName) × IsLeast (InExactlyOne (VarOf V first) (VarOf V e)) x) ⊎ ((x : VarName) → InExactlyOne (VarOf V first) (VarOf V e) x → ⊥) →
-          ((x : VarName) × PartDiffers V first rest x) ⊎ AllSame first rest → ((x : VarName) × PartDiffers V first (union e rest) x) ⊎ AllSame first (union e rest)
+  -- each part of `before` shares with the parts that follow only what is sure in both
+  abbrev EachShares : List ExprTree → ExprTree → Type 0
+  EachShares before rest = (g : ExprTree) → Has before g → SharesSure V S g rest
+
+  -- and so do these parts with each other
+  abbrev AreSharing : ExprTree → Type 0
+  AreSharing (join e rest) = SharesSure V S e rest × AreSharing rest
+  AreSharing _ = Unit {0}
+
+  shares : (before : List ExprTree) (e : ExprTree) → ((x : VarName) → Clashes V S before e x → ⊥) → (g : ExprTree) → Has before g → (x : VarName) → VarOf V g x → VarOf V e x → SureOf S g x × SureOf S e x
+  shares before e none g has x v w = held (told_shares g e x) (λ not. none x (g, has, v, w, not))
+
+  clashes_or_shares : (n : ℕ) (before : List ExprTree) (rest : ExprTree) → AreJoinedFormed n rest → ((x : VarName) × ClashesFirst V S before rest x) ⊎ (EachShares before rest × AreSharing rest)
+  clashes_or_shares n before join_end c = inr ((λ g has. tt), tt)
+  clashes_or_shares n before (join e rest) c =
+      by (least_or_none (Clashes V S before e) (told_clashes before e) (expr_vars all e) (λ x h. vars_listed e x h.3)) (clashes_or_shares n (e ∷ before) rest c.1)
+    where
+      by : ((x : VarName) × IsLeast (Clashes V S before e) x) ⊎ ((x : VarName) → Clashes V S before e x → ⊥) →
+          ((x : VarName) × ClashesFirst V S (e ∷ before) rest x) ⊎ (EachShares (e ∷ before) rest × AreSharing rest) →
+          ((x : VarName) × ClashesFirst V S before (join e rest) x) ⊎ (EachShares before (join e rest) × AreSharing (join e rest))
       by (inl h) later = inl (h.0, inl h.1)
-      by (inr none) (inl h) = inl (h.0, inr (same none, h.1))
-      by (inr none) (inr others) = inr (same none, others)
-  differs_or_same n first _ c = absurd c
+      by (inr none) (inl h) = inl (h.0, inr (none, h.1))
+      by (inr none) (inr others) = inr ((λ g has. (shares before e none g has, others.0 g (inr has))), (others.0 e (inl refl), others.1))
+  clashes_or_shares n before _ c = absurd c
 
-  in_first : (n : ℕ) (first rest : ExprTree) → AreUnitedFormed n rest → AllSame first rest → (y : VarName) → VarOf V first y ⊎ VarOf V rest y → VarOf V first y
-  in_first n first rest c same y (inl h) = h
-  in_first n first (union g rest) c same y (inr (inl h)) = (same.0 y).1 h
-  in_first n first (union g rest) c same y (inr (inr h)) = in_first n first rest c.1 same.1 y (inr h)
-  in_first n first union_end c same y (inr h) = absurd h
-  in_first n first _ c same y (inr h) = absurd c
+  joined_pass : (n : ℕ) (e : ExprTree) → AreJoinedFormed n e → HasPassingParts V S e → AreSharing e → Passes V S e
+  joined_pass n join_end c ok share = tt
+  joined_pass n (join e rest) c ok share = (ok.0, joined_pass n rest c.1 ok.1 share.1, share.0)
+  joined_pass n _ c ok share = absurd c
 
-  -- a part with the variables of the first agrees with those that follow
-  agrees : (n : ℕ) (first e rest : ExprTree) → AreUnitedFormed n rest → SameVars first e → AllSame first rest → AgreesWithParts V e rest
-  agrees n first e union_end c here same = tt
-  agrees n first e (union g rest) c here same = λ y. (
-    λ h. inl ((same.0 y).0 ((here y).1 h)),
-    λ h. (here y).0 (in_first n first (union g rest) c same y (inr h)),
-  )
-  agrees n first e _ c here same = absurd c
+  united_pass : (n : ℕ) (e : ExprTree) → AreUnitedFormed n e → HasPassingParts V S e → Passes V S e
+  united_pass n union_end c ok = tt
+  united_pass n (union e rest) c ok = (ok.0, united_pass n rest c.1 ok.1)
+  united_pass n _ c ok = absurd c
 
-  united_pass : (n : ℕ) (first e : ExprTree) → AreUnitedFormed n e → HasPassingParts V e → AllSame first e → Passes V e
-  united_pass n first union_end c ok same = tt
-  united_pass n first (union e rest) c ok same = (ok.0, united_pass n first rest c.1 ok.1 same.1, agrees n first e rest c.1 same.0 same.1)
-  united_pass n first _ c ok same = absurd c
+  -- ---- expressions
 
   abbrev pub PassesOrFault : ExprTree → Type 0
-  PassesOrFault e = Passes V e ⊎ ((fault : QueryFault) × IsExprFault V e fault)
+  PassesOrFault e = Passes V S e ⊎ ((fault : QueryFault) × IsExprFault V S e fault)
 
-  -- the parts that follow one of a union, and one of a join
-  abbrev UnitedOrFault : ExprTree → Type 0
-  UnitedOrFault e = HasPassingParts V e ⊎ ((fault : QueryFault) × InnerFault V e fault)
+  -- the parts of a union, and of a join
+  abbrev PartsOrFault : ExprTree → Type 0
+  PartsOrFault e = HasPassingParts V S e ⊎ ((fault : QueryFault) × InnerFault V S e fault)
 
-  abbrev JoinedOrFault : ExprTree → Type 0
-  JoinedOrFault e = Passes V e ⊎ ((fault : QueryFault) × InnerFault V e fault)
-
-  atom_or_fault : (s t : Bool) (f : Tree) → IsFunctional f ⊎ ((e : CheckFault) × IsFault f e) → PassesOrFault (atom s t f)
+  atom_or_fault : (s t : Bool) (f : Tree) → IsSequential f ⊎ ((e : CheckFault) × IsFault f e) → PassesOrFault (atom s t f)
   atom_or_fault s t f (inl ok) = inl ok
   atom_or_fault s t f (inr h) = inr (Check h.0, inr (tt, h.1))
 
@@ -117,29 +130,29 @@ module _ (V : ℕ → VarName → Type 0) (told : (k : ℕ) (x : VarName) → To
 
   mutual
     pub passes_or_fault : (n : ℕ) (e : ExprTree) → IsFormed n e → PassesOrFault e
-    passes_or_fault n (atom s t f) c = atom_or_fault s t f (functional_or_fault f c.0)
+    passes_or_fault n (atom s t f) c = atom_or_fault s t f (sequential_or_fault f c.0)
     passes_or_fault n (named k) c = inl tt
     passes_or_fault n union_end c = inl tt
     passes_or_fault n (union e rest) c = by (passes_or_fault n e c.0) (united_or_fault n rest c.1)
       where
-        differs : Passes V e → HasPassingParts V rest → ((x : VarName) × PartDiffers V e rest x) ⊎ AllSame e rest → PassesOrFault (union e rest)
-        differs ok others (inl h) = inr (UnionVariables h.0, inr ((ok, others), h.1))
-        differs ok others (inr same) = inl (ok, united_pass n e rest c.1 others same, agrees n e e rest c.1 (λ y. (λ h. h, λ h. h)) same)
-
-        by : PassesOrFault e → UnitedOrFault rest → PassesOrFault (union e rest)
+        by : PassesOrFault e → PartsOrFault rest → PassesOrFault (union e rest)
         by (inr h) later = inr (h.0, inl (inl h.1))
         by (inl ok) (inr h) = inr (h.0, inl (inr (ok, h.1)))
-        by (inl ok) (inl others) = differs ok others (differs_or_same n e rest c.1)
+        by (inl ok) (inl others) = inl (ok, united_pass n rest c.1 others)
     passes_or_fault n join_end c = inl tt
     passes_or_fault n (join e rest) c = by (passes_or_fault n e c.0) (joined_or_fault n rest c.1)
       where
-        by : PassesOrFault e → JoinedOrFault rest → PassesOrFault (join e rest)
+        share : Passes V S e → HasPassingParts V S rest → ((x : VarName) × ClashesFirst V S (e ∷ []) rest x) ⊎ (EachShares (e ∷ []) rest × AreSharing rest) → PassesOrFault (join e rest)
+        share ok others (inl h) = inr (JoinUnsure h.0, inr ((ok, others), h.1))
+        share ok others (inr s) = inl (ok, joined_pass n rest c.1 others s.1, s.0 e (inl refl))
+
+        by : PassesOrFault e → PartsOrFault rest → PassesOrFault (join e rest)
         by (inr h) later = inr (h.0, inl (inl h.1))
         by (inl ok) (inr h) = inr (h.0, inl (inr (ok, h.1)))
-        by (inl ok) (inl others) = inl (ok, others)
+        by (inl ok) (inl others) = share ok others (clashes_or_shares n (e ∷ []) rest c.1)
     passes_or_fault n (project kept e) c = by (passes_or_fault n e c.0)
       where
-        missing : Passes V e → ((x : VarName) × IsLeast (IsMissing kept e) x) ⊎ ((x : VarName) → IsMissing kept e x → ⊥) → PassesOrFault (project kept e)
+        missing : Passes V S e → ((x : VarName) × IsLeast (IsMissing kept e) x) ⊎ ((x : VarName) → IsMissing kept e x → ⊥) → PassesOrFault (project kept e)
         missing ok (inl h) = inr (UnknownVariable h.0, inr (ok, h.1))
         missing ok (inr none) = inl (ok, λ x h. held (told_of V told e x) (λ m. none x (h, m)))
 
@@ -147,21 +160,21 @@ module _ (V : ℕ → VarName → Type 0) (told : (k : ℕ) (x : VarName) → To
         by (inr h) = inr (h.0, inl h.1)
         by (inl ok) = missing ok (least_or_none (IsMissing kept e) (λ x. told_both (told_has kept x) (told_not (told_of V told e x))) kept (λ x h. h.0))
 
-    united_or_fault : (n : ℕ) (e : ExprTree) → AreUnitedFormed n e → UnitedOrFault e
+    united_or_fault : (n : ℕ) (e : ExprTree) → AreUnitedFormed n e → PartsOrFault e
     united_or_fault n union_end c = inl tt
     united_or_fault n (union e rest) c = by (passes_or_fault n e c.0) (united_or_fault n rest c.1)
       where
-        by : PassesOrFault e → UnitedOrFault rest → UnitedOrFault (union e rest)
+        by : PassesOrFault e → PartsOrFault rest → PartsOrFault (union e rest)
         by (inr h) later = inr (h.0, inl h.1)
         by (inl ok) (inr h) = inr (h.0, inr (ok, h.1))
         by (inl ok) (inl others) = inl (ok, others)
     united_or_fault n _ c = absurd c
 
-    joined_or_fault : (n : ℕ) (e : ExprTree) → AreJoinedFormed n e → JoinedOrFault e
+    joined_or_fault : (n : ℕ) (e : ExprTree) → AreJoinedFormed n e → PartsOrFault e
     joined_or_fault n join_end c = inl tt
     joined_or_fault n (join e rest) c = by (passes_or_fault n e c.0) (joined_or_fault n rest c.1)
       where
-        by : PassesOrFault e → JoinedOrFault rest → JoinedOrFault (join e rest)
+        by : PassesOrFault e → PartsOrFault rest → PartsOrFault (join e rest)
         by (inr h) later = inr (h.0, inl h.1)
         by (inl ok) (inr h) = inr (h.0, inr (ok, h.1))
         by (inl ok) (inl others) = inl (ok, others)
@@ -211,8 +224,12 @@ lets_listed lets (suc n) k x h = by (nat_eq k n) (slice_get lets n) refl h (lets
 abbrev pub QueryPassesOrFault : QueryTree → Type 0
 QueryPassesOrFault q = PassesQuery q ⊎ ((e : QueryFault) × IsTreeFault q e)
 
-expr_passes_or_fault : (lets : Lets) (n : ℕ) (e : ExprTree) → IsFormed n e → PassesOrFault (vars_of_lets lets n) (told_lets lets n) (lets_vars lets) (lets_listed lets n) e
-expr_passes_or_fault lets n e c = passes_or_fault (vars_of_lets lets n) (told_lets lets n) (lets_vars lets) (lets_listed lets n) n e c
+abbrev UnderLetsOrFault : Lets → ℕ → ExprTree → Type 0
+UnderLetsOrFault lets n e = PassesUnder lets n e ⊎ ((fault : QueryFault) × IsFaultUnder lets n e fault)
+
+expr_passes_or_fault : (lets : Lets) (n : ℕ) (e : ExprTree) → IsFormed n e → UnderLetsOrFault lets n e
+expr_passes_or_fault lets n e c =
+    passes_or_fault (vars_of_lets lets n) (sure_of_lets lets n) (told_lets lets n) (told_sure_lets lets n) (lets_vars lets) (lets_listed lets n) n e c
 
 -- the first let that does not pass, from k on
 abbrev LetsOrFault : Lets → Type 0
@@ -233,9 +250,9 @@ lets_or_fault lets formed (suc fuel) k past before = by (slice_get lets k) refl 
     by None at later = later (more (λ l is. absurd (cc)))
     by (Some l) at later = checked (expr_passes_or_fault lets k l.1 (formed k l at))
       where
-        checked : PassesOrFault (vars_of_lets lets k) (told_lets lets k) (lets_vars lets) (lets_listed lets k) l.1 → LetsOrFault lets
-        checked (inl ok) = later (more (λ m is. let same : l ≡ m = cc in subst (λ (w : VarName × ExprTree). Passes (vars_of_lets lets k) w.1) same ok))
-        checked (inr h) = inr (k, before, (h.0, subst (λ o. IsSomeAnd o (λ m. IsExprFault (vars_of_lets lets k) m.1 h.0)) (sym at) h.1))
+        checked : UnderLetsOrFault lets k l.1 → LetsOrFault lets
+        checked (inl ok) = later (more (λ m is. let same : l ≡ m = cc in subst (λ (w : VarName × ExprTree). PassesUnder lets k w.1) same ok))
+        checked (inr h) = inr (k, before, (h.0, subst (λ o. IsSomeAnd o (λ m. IsFaultUnder lets k m.1 h.0)) (sym at) h.1))
 
 pub query_passes_or_fault : (q : QueryTree) → IsFormedQuery q → QueryPassesOrFault q
 query_passes_or_fault q c = by (lets_or_fault q.lets c.0 (length q.lets) 0 (omega arith) (λ j few. absurd (omega (arith, few))))
@@ -243,7 +260,7 @@ query_passes_or_fault q c = by (lets_or_fault q.lets c.0 (length q.lets) 0 (omeg
     n : ℕ
     n = length q.lets
 
-    body : ((j : ℕ) → LetPasses q.lets j) → PassesOrFault (vars_of_lets q.lets n) (told_lets q.lets n) (lets_vars q.lets) (lets_listed q.lets n) q.body → QueryPassesOrFault q
+    body : ((j : ℕ) → LetPasses q.lets j) → UnderLetsOrFault q.lets n q.body → QueryPassesOrFault q
     body lets (inl ok) = inl (lets, ok)
     body lets (inr h) = inr (h.0, inr (lets, h.1))
 

@@ -1,26 +1,26 @@
 -- The faults of a query that is a tree.
-use Rattle.std.specs.Prelude.{ℕ, ◌<◌, ◌⊎◌, ◌↔◌, List, length, slice_get}
+use Rattle.std.specs.Prelude.{ℕ, ◌<◌, ◌⊎◌, List, [], ◌∷◌, length, slice_get}
 use Rattle.std.specs.Option.{ForSome, IsSomeAnd}
 use Rattle.span_core.specs.Lists.{Has}
 use Rattle.spanner_model.specs.Captures.{VarName}
-use Rattle.spanner_model.specs.Functional.{IsFunctional}
+use Rattle.spanner_model.specs.Sequential.{IsSequential}
 use Rattle.spanner_model.specs.Expression.{ExprTree, QueryTree, atom, named, union_end, union, join_end, join, project}
 use Rattle.spanner_model.specs.Answer.{VarOf, vars_of_lets}
-use Rattle.spanner_model.specs.Sound.{AgreesWithParts}
-use Rattle.functional_check.specs.Faults.{IsFault, IsLeast, InExactlyOne}
+use Rattle.spanner_model.specs.Sound.{SureOf, SharesSure, sure_of_lets}
+use Rattle.functional_check.specs.Faults.{IsFault, IsLeast}
 use Rattle.query_parser.specs.declared.fault.QueryFault.{QueryFault}
-use Rattle.query_parser.specs.declared.fault.QueryFault.TheVariants.{Check, UnionVariables, UnknownVariable}
+use Rattle.query_parser.specs.declared.fault.QueryFault.TheVariants.{Check, JoinUnsure, UnknownVariable}
 
--- V k has the variables of the let k
-module _ (V : ℕ → VarName → Type 0) where
-  -- Formulas are functional, the parts of a union have the same variables, and a projection keeps variables that are there.
+-- V k has the variables, and S k the sure ones, of the let k
+module _ (V S : ℕ → VarName → Type 0) where
+  -- Formulas are sequential, what two parts of a join share is sure in both, and a projection keeps variables that are there.
   abbrev pub Passes : ExprTree → Type 0
-  Passes (atom s t f) = IsFunctional f
+  Passes (atom s t f) = IsSequential f
   Passes (named k) = Unit {0}
   Passes union_end = Unit {0}
-  Passes (union e rest) = Passes e × Passes rest × AgreesWithParts V e rest
+  Passes (union e rest) = Passes e × Passes rest
   Passes join_end = Unit {0}
-  Passes (join e rest) = Passes e × Passes rest
+  Passes (join e rest) = Passes e × Passes rest × SharesSure V S e rest
   Passes (project kept e) = Passes e × ((x : VarName) → Has kept x → VarOf V e x)
 
   -- the parts of an expression pass
@@ -30,17 +30,21 @@ module _ (V : ℕ → VarName → Type 0) where
   HasPassingParts (project kept e) = Passes e
   HasPassingParts _ = Unit {0}
 
-  -- of the parts that follow, x is the least name in exactly one of `first` and the first part that has other variables
-  abbrev pub PartDiffers : ExprTree → ExprTree → VarName → Type 0
-  PartDiffers first (union e rest) x =
-      IsLeast (InExactlyOne (VarOf V first) (VarOf V e)) x
-      ⊎ (((y : VarName) → VarOf V first y ↔ VarOf V e y) × PartDiffers first rest x)
-  PartDiffers first _ x = ⊥
+  -- x clashes at the part e of a join: some part before it has x too, and x is not sure in both
+  abbrev pub Clashes : List ExprTree → ExprTree → VarName → Type 0
+  Clashes before e x = (g : ExprTree) × Has before g × VarOf V g x × VarOf V e x × ¬ (SureOf S g x × SureOf S e x)
+
+  -- of the parts that follow, x is the least variable that clashes at the first at which some does
+  abbrev pub ClashesFirst : List ExprTree → ExprTree → VarName → Type 0
+  ClashesFirst before (join e rest) x =
+      IsLeast (Clashes before e) x
+      ⊎ (((y : VarName) → ¬ Clashes before e y) × ClashesFirst (e ∷ before) rest x)
+  ClashesFirst before _ x = ⊥
 
   -- the fault of an expression itself, where there is none inside it
   abbrev pub OwnFault : ExprTree → QueryFault → Type 0
   OwnFault (atom s t f) (Check e) = IsFault f e
-  OwnFault (union e rest) (UnionVariables x) = PartDiffers e rest x
+  OwnFault (join e rest) (JoinUnsure x) = ClashesFirst (e ∷ []) rest x
   OwnFault (project kept e) (UnknownVariable x) = IsLeast (λ y. Has kept y × ¬ VarOf V e y) x
   OwnFault _ _ = ⊥
 
@@ -59,16 +63,24 @@ module _ (V : ℕ → VarName → Type 0) where
   abbrev pub IsExprFault : ExprTree → QueryFault → Type 0
   IsExprFault e fault = IsFaultOver (InnerFault e fault) e fault
 
+-- the expression passes under the first n lets
+abbrev pub PassesUnder : List (VarName × ExprTree) → ℕ → ExprTree → Type 0
+PassesUnder lets n = Passes (vars_of_lets lets n) (sure_of_lets lets n)
+
+-- its fault under them
+abbrev pub IsFaultUnder : List (VarName × ExprTree) → ℕ → ExprTree → QueryFault → Type 0
+IsFaultUnder lets n = IsExprFault (vars_of_lets lets n) (sure_of_lets lets n)
+
 -- the let k passes
 abbrev pub LetPasses : List (VarName × ExprTree) → ℕ → Type 0
-LetPasses lets k = ForSome (slice_get lets k) (λ l. Passes (vars_of_lets lets k) l.1)
+LetPasses lets k = ForSome (slice_get lets k) (λ l. PassesUnder lets k l.1)
 
 -- the fault of the let k
 abbrev pub IsLetFault : List (VarName × ExprTree) → ℕ → QueryFault → Type 0
-IsLetFault lets k fault = IsSomeAnd (slice_get lets k) (λ l. IsExprFault (vars_of_lets lets k) l.1 fault)
+IsLetFault lets k fault = IsSomeAnd (slice_get lets k) (λ l. IsFaultUnder lets k l.1 fault)
 
 -- the fault of a query: that of its first let that does not pass, or that of its body
 abbrev pub IsTreeFault : QueryTree → QueryFault → Type 0
 IsTreeFault q fault =
     ((k : ℕ) × ((j : ℕ) → j < k → LetPasses q.lets j) × IsLetFault q.lets k fault)
-    ⊎ (((j : ℕ) → LetPasses q.lets j) × IsExprFault (vars_of_lets q.lets (length q.lets)) q.body fault)
+    ⊎ (((j : ℕ) → LetPasses q.lets j) × IsFaultUnder q.lets (length q.lets) q.body fault)

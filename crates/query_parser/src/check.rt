@@ -1,99 +1,173 @@
 //! Checks the expressions of a query, from the leaves up.
 //!
-//! Each expression answers its variables or its first fault; a `let` is checked under those before it, whose variables
-//! are known by number.
-ghost use Rattle.std.specs.Prelude.{◌≡◌, ℕ, ◌<◌, ◌↔◌, List, length, IsTrue, IfSome, IfNone, Some, OnOk, IfErr, ◌⊎◌};
+//! Each expression answers its variables, with those of them that are sure, or its first fault; a `let` is checked
+//! under those before it, whose variables are known by number.
+ghost use Rattle.std.specs.Prelude.{◌≡◌, ℕ, ◌<◌, ◌↔◌, List, [], length, IsTrue, IfSome, IfNone, Some, OnOk, IfErr, ◌⊎◌};
 ghost use Rattle.span_core.specs.declared.TheConstants.{MOST_VARIABLES};
 ghost use Rattle.span_core.specs.Lists.{Has, AtMost};
 ghost use Rattle.spanner_model.specs.Expression.{ExprTree, union_all, join_all};
 ghost use Rattle.spanner_model.specs.ExprView.{expr_of, exprs_of, query_of};
 ghost use Rattle.spanner_model.specs.Sound.{NameIn, NameOf};
-ghost use Rattle.spanner_model.specs.Gathered.{Gathered, vars_in};
-ghost use Rattle.functional_check.specs.Faults.{IsLeastOf, InExactlyOne};
+ghost use Rattle.spanner_model.specs.Gathered.{Adds, HaveRoom, Gathered};
+ghost use Rattle.functional_check.specs.Faults.{IsLeastOf};
 ghost use Rattle.query_parser.specs.TreeFaults.{IsTreeFault};
-ghost use Rattle.query_parser.specs.Formed.{IsFormed, InReach, Checked, IsProjectionOf, IsFormedQuery, PassesQuery};
+ghost use Rattle.query_parser.specs.Formed.{IsFormed, InReach, vars_known, sure_known, HasSureAmongVars, Checked, IsUnsureIn, IsProjectionOf, IsFormedQuery, PassesQuery};
 
 use crate::fault::QueryFault;
-use functional_check::check;
-use functional_check::names::{add_all, least_difference, least_where};
+use functional_check::names::{add_all, least_where, shared};
+use functional_check::{check, sure};
 use span_core::{MOST_VARIABLES, Name, VarSet};
 use spanner_model::{Expr, Exprs, Query, gather};
 use std::alloc::Global;
 
+/// The variables of an expression, and those of them that are sure: each answer gives them a span.
+#[derive(Drop)]
+pub(crate) struct Bound {
+    vars: VarSet,
+    sure: VarSet,
+}
+
+impl Bound {
+    /// Those of a join of no parts.
+    fn none() -> Bound
+        ensures vars { result.vars ≡ [] }
+        ensures sure { result.sure ≡ [] }
+    {
+        Bound {
+            vars: VarSet::empty(),
+            sure: VarSet::empty(),
+        }
+    }
+
+    fn copy(&self) -> Bound
+        ensures vars { result.vars ≡ self.now.vars }
+        ensures sure { result.sure ≡ self.now.sure }
+    {
+        Bound {
+            vars: self.vars.copy(),
+            sure: self.sure.copy(),
+        }
+    }
+
+    /// Makes those of a union of its first parts those of one part more.
+    fn unite(&mut self, part: &Bound)
+        requires { HaveRoom self.old.vars (Has part.now.vars) }
+        ensures vars { Adds self.old.vars (Has part.now.vars) self.new.vars }
+        ensures sure { (x : List ℕ) → Has self.new.sure x ↔ (Has self.old.sure x × Has part.now.sure x) }
+    {
+        add_all(&part.vars, &mut self.vars);
+        self.sure = shared(&self.sure, &part.sure);
+    }
+
+    /// Makes those of a join of its first parts those of one part more.
+    fn join(&mut self, part: &Bound)
+        requires vars { HaveRoom self.old.vars (Has part.now.vars) }
+        requires sure { HaveRoom self.old.sure (Has part.now.sure) }
+        ensures vars { Adds self.old.vars (Has part.now.vars) self.new.vars }
+        ensures sure { Adds self.old.sure (Has part.now.sure) self.new.sure }
+    {
+        add_all(&part.vars, &mut self.vars);
+        add_all(&part.sure, &mut self.sure);
+    }
+
+    /// The least variable that is in both and not sure in both.
+    fn least_unsure(&self, part: &Bound) -> Option<Name>
+        ensures { IsLeastOf (IsUnsureIn self.now part.now) result }
+    {
+        let vars = shared(&self.vars, &part.vars);
+        let sure = shared(&self.sure, &part.sure);
+        least_where(&vars, &sure, false)
+    }
+}
+
 /// The variables of an expression, where `known` has those of the lets of which it may speak, or its
 /// first fault.
 #[cycle(check)]
-pub(crate) fn check_expr(expr: &Expr, known: &[VarSet]) -> Result<VarSet, QueryFault>
+pub(crate) fn check_expr(expr: &Expr, known: &[Bound]) -> Result<Bound, QueryFault>
     requires formed { IsFormed (length known.now) (expr_of expr.now) }
     requires few { AtMost MOST_VARIABLES (InReach known.now (expr_of expr.now)) }
-    ensures { Checked (vars_in known.now) (expr_of expr.now) result }
+    requires among { HasSureAmongVars known.now }
+    ensures { Checked (vars_known known.now) (sure_known known.now) (expr_of expr.now) result }
 {
     match expr {
         Expr::Atom(atom) => match check(&atom.formula) {
-            Ok(vars) => Ok(vars),
+            Ok(vars) => Ok(Bound {
+                vars,
+                sure: sure(&atom.formula),
+            }),
             Err(fault) => Err(QueryFault::Check(fault)),
         },
         Expr::Named(k) => Ok(known[*k as usize].copy()),
         Expr::Union(parts) => check_union(parts, known),
         Expr::Join(parts) => check_join(parts, known),
         Expr::Project(kept, sub) => {
-            let vars = check_expr(sub, known)?;
-            projected(kept, &vars)
+            let bound = check_expr(sub, known)?;
+            projected(kept, &bound)
         }
     }
 }
 
 #[cycle(check)]
-fn check_union(parts: &Exprs, known: &[VarSet]) -> Result<VarSet, QueryFault>
+fn check_union(parts: &Exprs, known: &[Bound]) -> Result<Bound, QueryFault>
     requires some { 0 < length (exprs_of parts.now) }
     requires formed { (e : ExprTree) → Has (exprs_of parts.now) e → IsFormed (length known.now) e }
     requires few { AtMost MOST_VARIABLES (InReach known.now (join_all (exprs_of parts.now))) }
-    ensures { Checked (vars_in known.now) (union_all (exprs_of parts.now)) result }
+    requires among { HasSureAmongVars known.now }
+    ensures { Checked (vars_known known.now) (sure_known known.now) (union_all (exprs_of parts.now)) result }
 {
-    let first = check_expr(parts.at(0), known)?;
-    let mut apart = None;
+    let mut bound = check_expr(parts.at(0), known)?;
     for k in 1..parts.len() {
-        let vars = check_expr(parts.at(k), known)?;
-        apart = first_apart(apart, &first, &vars);
+        let part = check_expr(parts.at(k), known)?;
+        bound.unite(&part);
     }
-    match apart {
-        Some(var) => Err(QueryFault::UnionVariables { var }),
-        None => Ok(first),
-    }
+    Ok(bound)
 }
 
+/// All parts are checked before what they share, so that a part's own fault comes first.
 #[cycle(check)]
-fn check_join(parts: &Exprs, known: &[VarSet]) -> Result<VarSet, QueryFault>
+fn check_join(parts: &Exprs, known: &[Bound]) -> Result<Bound, QueryFault>
     requires formed { (e : ExprTree) → Has (exprs_of parts.now) e → IsFormed (length known.now) e }
     requires few { AtMost MOST_VARIABLES (InReach known.now (join_all (exprs_of parts.now))) }
-    ensures { Checked (vars_in known.now) (join_all (exprs_of parts.now)) result }
+    requires among { HasSureAmongVars known.now }
+    ensures { Checked (vars_known known.now) (sure_known known.now) (join_all (exprs_of parts.now)) result }
 {
-    let mut all = VarSet::empty();
+    let mut bound = Bound::none();
+    let mut clash = None;
     for k in 0..parts.len() {
-        let vars = check_expr(parts.at(k), known)?;
-        add_all(&vars, &mut all);
+        let part = check_expr(parts.at(k), known)?;
+        clash = first_clash(clash, &bound, &part);
+        bound.join(&part);
     }
-    Ok(all)
+    match clash {
+        Some(var) => Err(QueryFault::JoinUnsure { var }),
+        None => Ok(bound),
+    }
 }
 
 /// A projection to these names of an expression with these variables.
-fn projected(kept: &VarSet, vars: &VarSet) -> Result<VarSet, QueryFault>
-    ensures { IsProjectionOf kept.now vars.now result }
+fn projected(kept: &VarSet, bound: &Bound) -> Result<Bound, QueryFault>
+    ensures { IsProjectionOf kept.now bound.now result }
 {
-    match least_where(kept, vars, false) {
+    match least_where(kept, &bound.vars, false) {
         Some(var) => Err(QueryFault::UnknownVariable { var }),
-        None => Ok(kept.copy()),
+        None => Ok(Bound {
+            vars: kept.copy(),
+            sure: shared(kept, &bound.sure),
+        }),
     }
 }
 
-/// A name that sets an earlier part apart from the first one, or else the least that sets this part apart.
-fn first_apart(apart: Option<Name>, first: &VarSet, vars: &VarSet) -> Option<Name>
-    ensures before { IfSome apart (λ x. result ≡ Some x) }
-    ensures here { IfNone apart (IsLeastOf (InExactlyOne (Has first.now) (Has vars.now)) result) }
+/// A variable that clashes at an earlier part, or else the least one that clashes at this part with those
+/// before it.
+///
+/// Where none clashed before, a variable that is sure in one of the earlier parts is sure in each that has it.
+fn first_clash(clash: Option<Name>, before: &Bound, part: &Bound) -> Option<Name>
+    ensures before { IfSome clash (λ x. result ≡ Some x) }
+    ensures here { IfNone clash (IsLeastOf (IsUnsureIn before.now part.now) result) }
 {
-    match apart {
+    match clash {
         Some(var) => Some(var),
-        None => least_difference(first, vars),
+        None => before.least_unsure(part),
     }
 }
 
@@ -151,8 +225,8 @@ pub(crate) fn check_query(alloc: Global, query: &Query) -> Result<(), QueryFault
     let mut known = Vec::new(alloc);
     for k in 0..query.lets.len() {
         match check_expr(&query.lets.at(k).1, &known) {
-            Ok(vars) => {
-                let Ok(()) = known.push(vars) else {
+            Ok(bound) => {
+                let Ok(()) = known.push(bound) else {
                     return Err(QueryFault::OutOfMemory);
                 };
             }

@@ -6,8 +6,8 @@ use formula_parser::FormulaFault;
 use functional_check::CheckFault;
 use span_core::{Name, OutOfMemory};
 
-/// The first fault of a text. Places count bytes from 0. The faults have the public numbers 1 to 12,
-/// in this order.
+/// The first fault of a text. Places count bytes from 0. Each fault has the public number that stands
+/// before it; no fault has the number 7.
 ///
 /// A text that is too long has no other fault. In any other, a fault that is met when the text is read
 /// from left to right comes first, then too many variables, and then the faults that a whole tree has:
@@ -17,7 +17,7 @@ use span_core::{Name, OutOfMemory};
 pub enum QueryFault {
     /// 1: the fault of an atom. It is never `FormulaFault::OutOfMemory`.
     Formula(FormulaFault),
-    /// 2: an atom whose formula is not functional.
+    /// 2: an atom whose formula is not sequential.
     Check(CheckFault),
     /// 3: a token that no rule allows, or a byte that begins none; or the text's end, at its length.
     Unexpected { at: usize },
@@ -27,9 +27,6 @@ pub enum QueryFault {
     NameTwice { at: usize },
     /// 6: a word of more than 32 bytes where a name is allowed.
     NameTooLong { at: usize },
-    /// 7: a union, at its first part whose variables are not those of part 1: the least name that is in
-    /// exactly one of the two.
-    UnionVariables { var: Name },
     /// 8: the least name that a projection keeps and its inner expression does not have.
     UnknownVariable { var: Name },
     /// 9: a projection keeps more than `MOST_VARIABLES` distinct names, or the captures of all atoms
@@ -41,6 +38,9 @@ pub enum QueryFault {
     TooDeep { at: usize },
     /// 12: want of memory.
     OutOfMemory,
+    /// 13: a join, at its first part that has a variable of an earlier part which is not sure in both:
+    /// the least such name.
+    JoinUnsure { var: Name },
 }
 
 impl From<OutOfMemory> for QueryFault {

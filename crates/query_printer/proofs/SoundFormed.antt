@@ -7,7 +7,7 @@ use Rattle.span_core.proofs.HasLaws.{Has-get_or, distinct-le}
 use Rattle.spanner_model.specs.Captures.{VarName}
 use Rattle.spanner_model.specs.Expression.{ExprTree, QueryTree, atom, named, union_end, union, join_end, join, project}
 use Rattle.spanner_model.specs.Answer.{VarOf, vars_of_lets}
-use Rattle.spanner_model.specs.Sound.{IsFreeName, IsSoundExpr, AreUnited, AreJoined, NameIn, NameOf, IsSound}
+use Rattle.spanner_model.specs.Sound.{IsFreeName, sure_of_lets, IsSoundExpr, AreUnited, AreJoined, NameIn, NameOf, IsSound}
 use Rattle.spanner_model.proofs.ExprLaws.{var_named, let_named, lets_named}
 use Rattle.spanner_model.proofs.NameLaws.{ascending-distinct}
 use Rattle.query_parser.specs.Formed.{IsFormed, AreUnitedFormed, AreJoinedFormed, IsFormedQuery}
@@ -21,12 +21,12 @@ kept_set N least kept up are = record {
 }
 
 -- an expression under lets whose variables are of these names, as are those of its atoms
-module _ (V : ℕ → VarName → Type 0) (N : VarName → Type 0) (few : AtMost MOST_VARIABLES N) (known : (k : ℕ) (x : VarName) → V k x → N x) where
-  of_these : (n : ℕ) (e : ExprTree) → ((x : VarName) → NameIn e x → N x) → IsSoundExpr V n e → (x : VarName) → VarOf V e x → N x
-  of_these n e names h x v = elim (var_named V N known n e x h v) as (λ _. N x) [ inl a ↦ names x a | inr b ↦ b ]
+module _ (V S : ℕ → VarName → Type 0) (N : VarName → Type 0) (few : AtMost MOST_VARIABLES N) (known : (k : ℕ) (x : VarName) → V k x → N x) where
+  of_these : (n : ℕ) (e : ExprTree) → ((x : VarName) → NameIn e x → N x) → IsSoundExpr V S n e → (x : VarName) → VarOf V e x → N x
+  of_these n e names h x v = elim (var_named V S N known n e x h v) as (λ _. N x) [ inl a ↦ names x a | inr b ↦ b ]
 
   mutual
-    pub sound_formed : (n : ℕ) (e : ExprTree) → ((x : VarName) → NameIn e x → N x) → IsSoundExpr V n e → IsFormed n e
+    pub sound_formed : (n : ℕ) (e : ExprTree) → ((x : VarName) → NameIn e x → N x) → IsSoundExpr V S n e → IsFormed n e
     sound_formed n (atom s t f) names h = h.0
     sound_formed n (named k) names h = h
     sound_formed n union_end names h = absurd h
@@ -39,20 +39,20 @@ module _ (V : ℕ → VarName → Type 0) (N : VarName → Type 0) (few : AtMost
       kept_set N few kept h.2 (λ x has. ((h.1 x has).1, of_these n e names h.0 x (h.1 x has).0)),
     )
 
-    united_formed : (n : ℕ) (e : ExprTree) → ((x : VarName) → NameIn e x → N x) → AreUnited V n e → AreUnitedFormed n e
+    united_formed : (n : ℕ) (e : ExprTree) → ((x : VarName) → NameIn e x → N x) → AreUnited V S n e → AreUnitedFormed n e
     united_formed n union_end names h = tt
     united_formed n (union e rest) names h = (sound_formed n e (λ x a. names x (inl a)) h.0, united_formed n rest (λ x a. names x (inr a)) h.1)
     united_formed n _ names h = absurd h
 
-    joined_formed : (n : ℕ) (e : ExprTree) → ((x : VarName) → NameIn e x → N x) → AreJoined V n e → AreJoinedFormed n e
+    joined_formed : (n : ℕ) (e : ExprTree) → ((x : VarName) → NameIn e x → N x) → AreJoined V S n e → AreJoinedFormed n e
     joined_formed n join_end names h = tt
     joined_formed n (join e rest) names h = (sound_formed n e (λ x a. names x (inl a)) h.0, joined_formed n rest (λ x a. names x (inr a)) h.1)
     joined_formed n _ names h = absurd h
 
 pub query_is_formed : (q : QueryTree) → IsSound q → IsFormedQuery q
 query_is_formed q s = (
-  λ k l at. sound_formed (vars_of_lets q.lets k) (NameOf q) s.few (lets_have k) k l.1 (λ x h. inl (let_named q.lets k l x at h)) (s.sound_lets k l at).0,
-  sound_formed (vars_of_lets q.lets (length q.lets)) (NameOf q) s.few (lets_have (length q.lets)) (length q.lets) q.body (λ x h. inr h) s.sound_body.0,
+  λ k l at. sound_formed (vars_of_lets q.lets k) (sure_of_lets q.lets k) (NameOf q) s.few (lets_have k) k l.1 (λ x h. inl (let_named q.lets k l x at h)) (s.sound_lets k l at).0,
+  sound_formed (vars_of_lets q.lets (length q.lets)) (sure_of_lets q.lets (length q.lets)) (NameOf q) s.few (lets_have (length q.lets)) (length q.lets) q.body (λ x h. inr h) s.sound_body.0,
 )
   where
     lets_have : (n k : ℕ) (x : VarName) → vars_of_lets q.lets n k x → NameOf q x

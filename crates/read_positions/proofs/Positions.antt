@@ -5,13 +5,12 @@ use Rattle.span_core.proofs.HasLaws.{place_of-Has}
 use Rattle.spanner_model.specs.Captures.{VarName}
 use Rattle.spanner_model.specs.Tree.{Tree}
 use Rattle.spanner_model.specs.Expression.{ExprTree, QueryTree, atom, named, union_end, union, join_end, join, project}
-use Rattle.spanner_model.specs.Functional.{IsFunctional}
+use Rattle.spanner_model.specs.Sequential.{IsSequential}
 use Rattle.spanner_model.specs.Sound.{AreJoined, AreUnited, IsSound, IsSoundExpr, IsSoundUnder}
 use Rattle.spanner_model.specs.WellBuilt.{IsWellBuilt}
 use Rattle.place_automaton.specs.Atom.{AreBytes}
 use Rattle.place_automaton.specs.Words.{atom_automaton}
 use Rattle.place_automaton.proofs.BuiltRepeats.{ordered_repeats}
-use Rattle.place_automaton.proofs.CountLaws.{functional_sequential}
 use Rattle.filter_laws.specs.Idling.{IsLed, LeadsOut}
 use Rattle.filter_laws.specs.Sharing.{IsShared, places_of}
 use Rattle.filter_laws.specs.Touching.{IsTouchedBy, SomeAtom, TouchedOf}
@@ -40,16 +39,16 @@ decide_shared s t f d i =
     (decide_out (atom_automaton [] true t f) d i r))
     (suc (places_of [] f)))
 
-decide_touched : (s t : Bool) (f : Tree) → IsWellBuilt f → IsFunctional f → (d : List ℕ) → AreBytes d → (i : ℕ) → Decided (IsTouchedBy s t f d i)
-decide_touched s t f built functional d bytes i =
-    let law = sharing_law [] s t f (functional_sequential f functional) (ordered_repeats f built) d bytes i in
+decide_touched : (s t : Bool) (f : Tree) → IsWellBuilt f → IsSequential f → (d : List ℕ) → AreBytes d → (i : ℕ) → Decided (IsTouchedBy s t f d i)
+decide_touched s t f built sequential d bytes i =
+    let law = sharing_law [] s t f sequential (ordered_repeats f built) d bytes i in
     decide_same (IsShared [] s t f d i) (IsTouchedBy s t f d i) (law.1, law.0) (decide_shared s t f d i)
 
 -- ---- the atoms of a sound expression
 
--- each atom is well built and functional
+-- each atom is well built and sequential
 abbrev AtomsFit : ExprTree → Type 0
-AtomsFit (atom s t f) = IsWellBuilt f × IsFunctional f
+AtomsFit (atom s t f) = IsWellBuilt f × IsSequential f
 AtomsFit (named k) = Unit {0}
 AtomsFit union_end = Unit {0}
 AtomsFit (union e rest) = AtomsFit e × AtomsFit rest
@@ -57,12 +56,12 @@ AtomsFit join_end = Unit {0}
 AtomsFit (join e rest) = AtomsFit e × AtomsFit rest
 AtomsFit (project kept e) = AtomsFit e
 
-module _ (V : ℕ → VarName → Type 0) (n : ℕ) where
+module _ (V S : ℕ → VarName → Type 0) (n : ℕ) where
   -- in each role in which an expression may stand
   record Fit (e : ExprTree) : Type 0 where
-    whole : IsSoundExpr V n e → AtomsFit e
-    united : AreUnited V n e → AtomsFit e
-    joined : AreJoined V n e → AtomsFit e
+    whole : IsSoundExpr V S n e → AtomsFit e
+    united : AreUnited V S n e → AtomsFit e
+    joined : AreJoined V S n e → AtomsFit e
 
   all_fit : (e : ExprTree) → Fit e
   all_fit (atom s t f) = record { whole = λ h. h; united = λ h. absurd h; joined = λ h. absurd h }
@@ -79,10 +78,10 @@ module _ (V : ℕ → VarName → Type 0) (n : ℕ) where
       record { whole = λ h. (a.whole h.0, b.joined h.1); united = λ h. absurd h; joined = λ h. (a.whole h.0, b.joined h.1) }
   all_fit (project kept e) = let a = all_fit e in record { whole = λ h. a.whole h.0; united = λ h. absurd h; joined = λ h. absurd h }
 
-  fits : (e : ExprTree) → IsSoundExpr V n e → AtomsFit e
+  fits : (e : ExprTree) → IsSoundExpr V S n e → AtomsFit e
   fits e h = (all_fit e).whole h
 
-module _ (P : Bool → Bool → Tree → Type 0) (decide : (s t : Bool) (f : Tree) → IsWellBuilt f → IsFunctional f → Decided (P s t f)) where
+module _ (P : Bool → Bool → Tree → Type 0) (decide : (s t : Bool) (f : Tree) → IsWellBuilt f → IsSequential f → Decided (P s t f)) where
   decide_atoms : (e : ExprTree) → AtomsFit e → Decided (SomeAtom P e)
   decide_atoms (atom s t f) fit = decide s t f fit.0 fit.1
   decide_atoms (named k) fit = inr (λ h. h)
@@ -99,18 +98,18 @@ module _ (q : QueryTree) (sound : IsSound q) (d : List ℕ) (bytes : AreBytes d)
   let_fits l h =
       let place = place_of-Has q.lets l h in
       let under : IsSoundUnder q.lets place.0 l.1 = sound.sound_lets place.0 l place.2 in
-      fits _ _ l.1 under.0
+      fits _ _ _ l.1 under.0
 
   decide_query : (i : ℕ) → Decided (TouchedOf q d i)
   decide_query i =
-      let one : (s t : Bool) (f : Tree) → IsWellBuilt f → IsFunctional f → Decided (IsTouchedBy s t f d i) =
-      λ s t f built functional. decide_touched s t f built functional d bytes i in
+      let one : (s t : Bool) (f : Tree) → IsWellBuilt f → IsSequential f → Decided (IsTouchedBy s t f d i) =
+      λ s t f built sequential. decide_touched s t f built sequential d bytes i in
       decide_either
       ((l : VarName × ExprTree) × Has q.lets l × SomeAtom (λ s t f. IsTouchedBy s t f d i) l.1)
       (SomeAtom (λ s t f. IsTouchedBy s t f d i) q.body)
       (decide_some (λ (l : VarName × ExprTree). SomeAtom (λ s t f. IsTouchedBy s t f d i) l.1) q.lets
       (λ l h. decide_atoms (λ s t f. IsTouchedBy s t f d i) one l.1 (let_fits l h)))
-      (decide_atoms (λ s t f. IsTouchedBy s t f d i) one q.body (fits _ _ q.body sound.sound_body.0))
+      (decide_atoms (λ s t f. IsTouchedBy s t f d i) one q.body (fits _ _ _ q.body sound.sound_body.0))
 
   decide_read : (filter : Bool) (i : ℕ) → Decided (IsReadAt filter q d i)
   decide_read false i = decide_le i (length d)

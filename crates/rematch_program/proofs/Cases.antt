@@ -5,7 +5,7 @@ use Rattle.rm_outside.specs.declared.status.Status.{Status}
 use Rattle.command_line.specs.Asked.{Asked}
 use Rattle.spanner_model.specs.Captures.{VarName}
 use Rattle.spanner_model.specs.Expression.{QueryTree}
-use Rattle.spanner_model.specs.Answers.{SpanRow}
+use Rattle.span_core.specs.declared.kept.Kept.{Kept}
 use Rattle.rematch_program.specs.Change.{Work}
 use Rattle.rematch_program.specs.Run.{Text, store, FromPlace, FromCursor, FromCompiled, FromQuery, FromText}
 use Rattle.rematch_program.specs.Run.{document_failed, document_too_long, out_of_memory, found, no_cursor, other_variables, placed, page_asked, trial_asked, explained, too_large, compiled, query_refused, understood}
@@ -15,7 +15,7 @@ rose_earlier a b c le rose = omega arith
 
 -- faults counted from an earlier moment on
 module _ (a : Asked) (w : Work) (end : Status) (note : Text) (held : Text → Option Text) (before then after : Text → ℕ) (le : (name : Text) → before name ≤ then name) where
-  place_earlier : (q : QueryTree) (names : List VarName) (row : Option SpanRow) → FromPlace a q names row (store held then after) w end note → FromPlace a q names row (store held before after) w end note
+  place_earlier : (q : QueryTree) (names : List VarName) (kept : Option Kept) → FromPlace a q names kept (store held then after) w end note → FromPlace a q names kept (store held before after) w end note
   place_earlier q names row (document_failed rose is quiet) = document_failed (rose_earlier (before a.document) (then a.document) (after a.document) (le a.document) rose) is quiet
   place_earlier q names row (document_too_long long is quiet) = document_too_long long is quiet
   place_earlier q names row (out_of_memory is quiet) = out_of_memory is quiet
@@ -23,7 +23,7 @@ module _ (a : Asked) (w : Work) (end : Status) (note : Text) (held : Text → Op
 
   cursor_earlier : (q : QueryTree) (names : List VarName) → FromCursor a q names (store held then after) w end note → FromCursor a q names (store held before after) w end note
   cursor_earlier q names (no_cursor t given none is quiet) = no_cursor t given none is quiet
-  cursor_earlier q names (other_variables t given others row reads other is quiet) = other_variables t given others row reads other is quiet
+  cursor_earlier q names (other_variables t given others row length reads other is quiet) = other_variables t given others row length reads other is quiet
   cursor_earlier q names (placed row begins case) = placed row begins (place_earlier q names row case)
 
   compiled_earlier : (q : QueryTree) → FromCompiled a q (store held then after) w end note → FromCompiled a q (store held before after) w end note

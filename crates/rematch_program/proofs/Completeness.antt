@@ -1,11 +1,12 @@
 -- A run whose way is clear ends with all that was asked for.
-use Rattle.std.proofs.Common.{ℕ, ◌≡◌, ◌<◌, ◌≤◌, ◌⊎◌, ◌∙◌, inl, inr, refl, sym, ap, subst, List, Bool, Option, Some, None, IfSome, IsTrue, true, false, length, codes, arith}
+use Rattle.std.proofs.Common.{ℕ, ◌≡◌, ◌<◌, ◌≤◌, ◌⊎◌, ◌∙◌, inl, inr, refl, sym, ap, subst, List, Bool, Option, Some, None, IfSome, IsTrue, length, codes, arith}
 use Rattle.std.proofs.lemmas.Option.{same_Some}
 use Rattle.rm_outside.specs.declared.status.Status.{Status}
 use Rattle.rm_outside.specs.declared.status.Status.TheVariants as status
 use Rattle.command_line.specs.Asked.{Asked, Query, Itself, HeldBy}
 use Rattle.command_line.specs.declared.request.Mode.{Mode}
 use Rattle.command_line.specs.declared.request.Mode.TheVariants as mode
+use Rattle.span_core.specs.declared.kept.Kept.{Kept}
 use Rattle.spanner_model.specs.Captures.{VarName}
 use Rattle.spanner_model.specs.Expression.{QueryTree}
 use Rattle.spanner_model.specs.Answers.{SpanRow, AreResultNames, AreAnswers}
@@ -15,17 +16,18 @@ use Rattle.query_automaton.specs.Parts.{HasLargePart}
 use Rattle.row_cursor.specs.CursorTexts.{IsCursorText}
 use Rattle.row_cursor.proofs.Whole.{one_cursor}
 use Rattle.trial_maker.specs.Trial.{trial_text}
+use Rattle.rematch_program.proofs.Fits.{fits_no_other, fits_not_past}
 use Rattle.rematch_program.specs.declared.TheConstants.{QUERY_LIMIT, DOCUMENT_LIMIT}
 use Rattle.rematch_program.specs.Change.{Change, Clock, Work, Adds, Failed, StandsStill, clock, work}
 use Rattle.rematch_program.specs.Explained.{explain_text}
-use Rattle.spanner_engine.specs.Begun.{AreRead, HasHeavyAtom, table_weight}
+use Rattle.spanner_engine.specs.Begun.{AreRead, HasHeavyAtom, row_kept, table_weight}
 use Rattle.rematch_program.specs.Limits.{PartsAreSmall}
 use Rattle.rematch_program.specs.Notes.{line}
-use Rattle.rematch_program.specs.Pages.{IsAfter, IsPageOf, cursor_fits, page_text, last_note}
+use Rattle.rematch_program.specs.Pages.{IsAfter, CursorFits, IsPageOf, page_text, last_note}
 use Rattle.rematch_program.specs.Steps.{KeepsWithin, stated_steps}
 use Rattle.rematch_program.specs.Trials.{trial_summary}
 use Rattle.rematch_program.specs.Run.{Text, Store, FromPage, FromAnswers, FromDocument, FromPlace, FromCursor, FromCompiled, FromQuery, FromText, FromAsked, FromWords, IsExplained, IsNotBegun, IsTooLarge, Reports, Run, WantsAnswers}
-use Rattle.rematch_program.specs.Run.{whole, write_failed, out_of_memory, paged, summed, past_the_document, filter_full, table_full, not_begun, by_states, by_ways, by_memory, answered, document_failed, document_too_long, found, no_cursor, other_variables, placed, page_asked, trial_asked}
+use Rattle.rematch_program.specs.Run.{whole, write_failed, out_of_memory, paged, summed, other_document, past_the_document, filter_full, table_full, not_begun, by_states, by_ways, by_memory, answered, document_failed, document_too_long, found, no_cursor, other_variables, placed, page_asked, trial_asked}
 use Rattle.rematch_program.specs.Run.{explained, told_names, too_large, compiled, query_refused, understood, given, query_failed, query_too_long, fetched, refused, accepted, cut}
 use Rattle.rematch_program.specs.Complete.{IsTextOf, IsClear, IsWithinLimits, HasDocument, Completes, PlainCompletes, TrialCompletes, ExplainCompletes}
 
@@ -41,31 +43,33 @@ told_as held bytes all is told = let P : Option Text → Type 0 = λ h. IfSome h
 longer : (limit : ℕ) (held : Option Text) (all : Text) → held ≡ Some all → IfSome held (λ all. limit < length all) → limit < length all
 longer limit held all is long = let P : Option Text → Type 0 = λ h. IfSome h (λ all. limit < length all) in subst P is long
 
--- a query has one list of names, a cursor's text one row
+-- a query has one list of names; a cursor's text keeps one row, and one length or none
 names_one : (q : QueryTree) (names others : List VarName) → AreResultNames q names → AreResultNames q others → names ≡ others
 names_one q names others a b = same_names names others a.0 b.0 (λ x h. (b.1 x).1 ((a.1 x).0 h)) (λ x h. (a.1 x).1 ((b.1 x).0 h))
 
-pub after_one : (names : List VarName) (text : Option Text) (after other : Option SpanRow) → IsAfter names text after → IsAfter names text other → other ≡ after
+pub after_one : (names : List VarName) (text : Option Text) (after other : Option Kept) → IsAfter names text after → IsAfter names text other → other ≡ after
 after_one names None None None h g = refl
-after_one names None None (Some row) h g = absurd g
-after_one names None (Some row) other h g = absurd h
+after_one names None None (Some kept) h g = absurd g
+after_one names None (Some kept) other h g = absurd h
 after_one names (Some text) None other h g = absurd h
-after_one names (Some text) (Some row) None h g = absurd g
-after_one names (Some text) (Some row) (Some other) h g = ap Some (one_cursor names names other row text g h).1
+after_one names (Some text) (Some kept) None h g = absurd g
+after_one names (Some text) (Some kept) (Some other) h g =
+    let (same_names, same_row, same_length) = one_cursor names names other.row kept.row other.length kept.length text g h in
+    ap Some (λ i. record { row = same_row i; length = same_length i })
 
 -- the row of a text that is given
-row_of_text : (names : List VarName) (text : Text) (after : Option SpanRow) → IsAfter names (Some text) after → (row : SpanRow) × IsCursorText names row text
+row_of_text : (names : List VarName) (text : Text) (after : Option Kept) → IsAfter names (Some text) after → (kept : Kept) × IsCursorText names kept.row kept.length text
 row_of_text names text None h = absurd h
-row_of_text names text (Some row) h = (row, h)
+row_of_text names text (Some kept) h = (kept, h)
 
 -- no size is refused
 never_states : (q : QueryTree) → PartsAreSmall q → (count : ℕ) → HasLargePart q (States count) → ⊥
-never_states q small count (inl (k, l, at, (passes, (M, part, le)))) = let few = (small M (inl (k, l, at, part))).0 in absurd (omega (arith, few, passes, le))
-never_states q small count (inr (passes, (M, part, le))) = let few = (small M (inr part)).0 in absurd (omega (arith, few, passes, le))
+never_states q small count (inl (k, l, at, (passes, (n, part, le)))) = let few = (small n (inl (k, l, at, part))).0 in absurd (omega (arith, few, passes, le))
+never_states q small count (inr (passes, (n, part, le))) = let few = (small n (inr part)).0 in absurd (omega (arith, few, passes, le))
 
 never_ways : (q : QueryTree) → PartsAreSmall q → (count : ℕ) → HasLargePart q (Ways count) → ⊥
-never_ways q small count (inl (k, l, at, (passes, (M, part, le)))) = let few = (small M (inl (k, l, at, part))).1 in absurd (omega (arith, few, passes, le))
-never_ways q small count (inr (passes, (M, part, le))) = let few = (small M (inr part)).1 in absurd (omega (arith, few, passes, le))
+never_ways q small count (inl (k, l, at, (passes, (n, part, le)))) = let few = (small n (inl (k, l, at, part))).1 in absurd (omega (arith, few, passes, le))
+never_ways q small count (inr (passes, (n, part, le))) = let few = (small n (inr part)).1 in absurd (omega (arith, few, passes, le))
 
 never_too_large : (q : QueryTree) → PartsAreSmall q → (end : Status) (note : Text) → IsTooLarge q end note → end ≡ status.Memory
 never_too_large q small end note (by_states count large is) = absurd (never_states q small count large)
@@ -73,10 +77,11 @@ never_too_large q small end note (by_ways count large is) = absurd (never_ways q
 never_too_large q small end note (by_memory is) = is.ends
 
 -- the answers are begun, unless memory is wanting
-never_unbegun : (filter : Bool) (q : QueryTree) (after : Option SpanRow) (document : Text) (most : ℕ) (steps : Clock) (end : Status) (note : Text) →
-    cursor_fits (length document) after ≡ true → (IsTrue filter → ¬ HasHeavyAtom q document most) → (K : ℕ → Bool) → AreRead filter q document K → table_weight q document K ≤ most →
+never_unbegun : (filter : Bool) (q : QueryTree) (after : Option Kept) (document : Text) (most : ℕ) (steps : Clock) (end : Status) (note : Text) →
+    CursorFits (length document) after → (IsTrue filter → ¬ HasHeavyAtom q document most) → (K : ℕ → Bool) → AreRead filter q document K → table_weight q document K ≤ most →
     IsNotBegun filter q after document most steps end note → end ≡ status.Memory
-never_unbegun filter q after document most steps end note fits filtered K reads light (past_the_document past is still) = let both : true ≡ false = sym fits ∙ past in absurd (cc)
+never_unbegun filter q after document most steps end note fits filtered K reads light (other_document kept other is still) = absurd (fits_no_other (length document) after kept fits other)
+never_unbegun filter q after document most steps end note fits filtered K reads light (past_the_document past is still) = absurd (fits_not_past (length document) after fits past)
 never_unbegun filter q after document most steps end note fits filtered K reads light (filter_full inside wanted heavy is few) = absurd (filtered wanted heavy)
 never_unbegun filter q after document most steps end note fits filtered K reads light (table_full inside heavy is few) = let past = heavy K reads in absurd (omega (arith, light, past))
 never_unbegun filter q after document most steps end note fits filtered K reads light (by_memory is few) = is.ends
@@ -124,11 +129,11 @@ from_page text last Keeps w end note fine (write_failed is failed part few) = ab
 from_page text last Keeps w end note fine (out_of_memory is part few) = inr is.ends
 
 -- the plain command
-pub record IsServed (a : Asked) (q : QueryTree) (names : List VarName) (after : Option SpanRow) (document : Text) (w : Work) (end : Status) (note : Text) : Type 0 where
+pub record IsServed (a : Asked) (q : QueryTree) (names : List VarName) (after : Option Kept) (document : Text) (w : Work) (end : Status) (note : Text) : Type 0 where
   pub rows : List SpanRow
   pub more : Bool
-  pub page : IsPageOf q document names after a.limit rows more
-  pub are : AreWhole (page_text a.form a.texts names document rows) (last_note names a.after rows more) w end note
+  pub page : IsPageOf q document names (row_kept after) a.limit rows more
+  pub are : AreWhole (page_text a.form a.texts names document rows) (last_note names (length document) a.after rows more) w end note
 
 module _ (words : List Text) (a : Asked) (text : Text) (q : QueryTree) (names : List VarName) (s : Store) (w : Work) (notes : Change) (clear : IsClear words a text q names s w.out notes) (end : Status) (note : Text) where
   module _ (wants : WantsAnswers a.mode) (small : PartsAreSmall q) (Goal : Type 0) (memory : end ≡ status.Memory → Goal) (from_compiled : FromCompiled a q s w end note → Goal) where
@@ -138,14 +143,14 @@ module _ (words : List Text) (a : Asked) (text : Text) (q : QueryTree) (names : 
     from_query (out_of_memory is quiet) = memory is.ends
     from_query (compiled asks few case) = from_compiled case
 
-  module _ (after : Option SpanRow) (document : Text) (limits : IsWithinLimits a q document) (fits : cursor_fits (length document) after ≡ true) (Goal : Type 0) (memory : end ≡ status.Memory → Goal) (from_answers : FromAnswers a q names after document w end note → Goal) where
+  module _ (after : Option Kept) (document : Text) (limits : IsWithinLimits a q document) (fits : CursorFits (length document) after) (Goal : Type 0) (memory : end ≡ status.Memory → Goal) (from_answers : FromAnswers a q names after document w end note → Goal) where
     from_document : FromDocument a q names after document w end note → Goal
     from_document (not_begun why quiet) = memory (let (K, reads, light) = limits.light in never_unbegun a.filter q after document a.max_table w.steps end note fits limits.filtered K reads light why)
     from_document (out_of_memory is quiet) = memory is.ends
     from_document (answered inside case) = from_answers case
 
   -- the plain command
-  module _ (after : Option SpanRow) (document : Text) (plain : a.mode ≡ mode.Plain) (has : HasDocument a names after document s) (limits : IsWithinLimits a q document) where
+  module _ (after : Option Kept) (document : Text) (plain : a.mode ≡ mode.Plain) (has : HasDocument a names after document s) (limits : IsWithinLimits a q document) where
     abbrev Served : Type 0
     Served = IsServed a q names after document w end note ⊎ (end ≡ status.Memory)
 
@@ -164,17 +169,17 @@ module _ (words : List Text) (a : Asked) (text : Text) (q : QueryTree) (names : 
         let P : Text → Type 0 = λ d. FromDocument a q names after d w end note in
         from_document after document limits has.fits Served (λ m. inr m) page_of (subst P (told_as (s.held a.document) bytes document has.held gives.told) case)
 
-    reads_as : (t : Text) → a.after ≡ Some t → (row : SpanRow) × IsCursorText names row t
+    reads_as : (t : Text) → a.after ≡ Some t → (kept : Kept) × IsCursorText names kept.row kept.length t
     reads_as t is = row_of_text names t after (let P : Option Text → Type 0 = λ o. IsAfter names o after in subst P is has.begins)
 
     cursor_of : FromCursor a q names s w end note → Served
-    cursor_of (no_cursor t is none ends quiet) = let r = reads_as t is in absurd (none names r.0 r.1)
-    cursor_of (other_variables t is others row reads differ ends quiet) =
+    cursor_of (no_cursor t is none ends quiet) = let r = reads_as t is in absurd (none names r.0.row r.0.length r.1)
+    cursor_of (other_variables t is others row length reads differ ends quiet) =
         let r = reads_as t is in
-        absurd (differ (one_cursor others names row r.0 t reads r.1).0)
-    cursor_of (placed row starts case) =
-        let R : Option SpanRow → Type 0 = λ o. FromPlace a q names o s w end note in
-        place_of (subst R (after_one names a.after after row has.begins starts) case)
+        absurd (differ (one_cursor others names row r.0.row length r.0.length t reads r.1).0)
+    cursor_of (placed kept starts case) =
+        let R : Option Kept → Type 0 = λ o. FromPlace a q names o s w end note in
+        place_of (subst R (after_one names a.after after kept has.begins starts) case)
 
     plain_of : FromCompiled a q s w end note → Served
     plain_of (out_of_memory is quiet) = inr is.ends
@@ -207,7 +212,7 @@ module _ (words : List Text) (a : Asked) (text : Text) (q : QueryTree) (names : 
     trial_of (trial_asked own is others are case) =
         let P : ℕ → Type 0 = λ k. FromDocument a q others None (trial_text k) w end note in
         let Q : List VarName → Type 0 = λ ns. FromDocument a q ns None (trial_text lines) w end note in
-        from_document None (trial_text lines) limits refl Tried (λ m. inr m) summary_of
+        from_document None (trial_text lines) limits tt Tried (λ m. inr m) summary_of
         (subst Q (names_one q others names are clear.named) (subst P (same_lines own lines (sym is ∙ trial)) case))
 
     pub tried : FromWords words s w end note → Tried

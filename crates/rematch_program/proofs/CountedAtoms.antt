@@ -4,17 +4,16 @@ use Rattle.span_core.specs.Lists.{AtMost, Has}
 use Rattle.span_core.specs.declared.TheConstants.{MOST_VARIABLES}
 use Rattle.spanner_model.specs.Captures.{VarName}
 use Rattle.spanner_model.specs.Expression.{ExprTree, QueryTree, atom, named, union_end, union, join_end, join, project}
-use Rattle.spanner_model.specs.Sound.{AreJoined, AreUnited, IsSound, IsSoundExpr, NameIn, NameInLets, NameOf}
+use Rattle.spanner_model.specs.Sound.{AreJoined, AreUnited, IsSound, IsSoundExpr, NameIn, NameInLets, NameOf, sure_of_lets}
 use Rattle.spanner_model.specs.Answer.{vars_of_lets}
 use Rattle.span_core.proofs.HasLaws.{Has-append_cases, place_of-Has}
 use Rattle.marked_automaton.proofs.Passing.{flat_map_cases, has_flat_map}
-use Rattle.place_automaton.proofs.CountLaws.{functional_sequential}
 use Rattle.rematch_program.specs.Explained.{AreCounted, IsCounted, atoms_among, atoms_in, atoms_of}
 
-module _ (N : VarName → Type 0) (few : AtMost MOST_VARIABLES N) (V : ℕ → VarName → Type 0) (n : ℕ) where
+module _ (N : VarName → Type 0) (few : AtMost MOST_VARIABLES N) (V S : ℕ → VarName → Type 0) (n : ℕ) where
   mutual
-    of_expr : (e : ExprTree) → IsSoundExpr V n e → ((x : VarName) → NameIn e x → N x) → AreCounted (atoms_of e)
-    of_expr (atom s t f) ok inside a (inl e) = subst IsCounted e (ok.0, functional_sequential f ok.1, (few.0, few.1, λ x h. few.2 x (inside x h)))
+    of_expr : (e : ExprTree) → IsSoundExpr V S n e → ((x : VarName) → NameIn e x → N x) → AreCounted (atoms_of e)
+    of_expr (atom s t f) ok inside a (inl e) = subst IsCounted e (ok.0, ok.1, (few.0, few.1, λ x h. few.2 x (inside x h)))
     of_expr (atom s t f) ok inside a (inr h) = absurd h
     of_expr (named k) ok inside a h = absurd h
     of_expr union_end ok inside a h = absurd h
@@ -31,7 +30,7 @@ module _ (N : VarName → Type 0) (few : AtMost MOST_VARIABLES N) (V : ℕ → V
         ]
     of_expr (project kept e) ok inside a h = of_expr e ok.0 inside a h
 
-    of_united : (e : ExprTree) → AreUnited V n e → ((x : VarName) → NameIn e x → N x) → AreCounted (atoms_of e)
+    of_united : (e : ExprTree) → AreUnited V S n e → ((x : VarName) → NameIn e x → N x) → AreCounted (atoms_of e)
     of_united union_end ok inside a h = absurd h
     of_united (union e rest) ok inside a h =
         elim (Has-append_cases (atoms_of e) (atoms_of rest) a h) [
@@ -44,7 +43,7 @@ module _ (N : VarName → Type 0) (few : AtMost MOST_VARIABLES N) (V : ℕ → V
     of_united (join e rest) ok inside a h = absurd ok
     of_united (project kept e) ok inside a h = absurd ok
 
-    of_joined : (e : ExprTree) → AreJoined V n e → ((x : VarName) → NameIn e x → N x) → AreCounted (atoms_of e)
+    of_joined : (e : ExprTree) → AreJoined V S n e → ((x : VarName) → NameIn e x → N x) → AreCounted (atoms_of e)
     of_joined join_end ok inside a h = absurd h
     of_joined (join e rest) ok inside a h =
         elim (Has-append_cases (atoms_of e) (atoms_of rest) a h) [
@@ -66,10 +65,10 @@ pub sound_lets_counted : (q : QueryTree) → IsSound q → AreCounted (atoms_in 
 sound_lets_counted q sound a h =
     let r = flat_map_cases (λ (l : VarName × ExprTree). atoms_of l.1) q.lets a h in
     let p = place_of-Has q.lets r.0 r.1 in
-    of_expr (NameOf q) sound.few (vars_of_lets q.lets p.0) p.0 r.0.1 (sound.sound_lets p.0 r.0 p.2).0 (λ x v. inl (in_lets q.lets r.0 x r.1 v)) a r.2
+    of_expr (NameOf q) sound.few (vars_of_lets q.lets p.0) (sure_of_lets q.lets p.0) p.0 r.0.1 (sound.sound_lets p.0 r.0 p.2).0 (λ x v. inl (in_lets q.lets r.0 x r.1 v)) a r.2
 
 pub sound_body_counted : (q : QueryTree) → IsSound q → AreCounted (atoms_of q.body)
-sound_body_counted q sound = of_expr (NameOf q) sound.few (vars_of_lets q.lets (length q.lets)) (length q.lets) q.body sound.sound_body.0 (λ x v. inr v)
+sound_body_counted q sound = of_expr (NameOf q) sound.few (vars_of_lets q.lets (length q.lets)) (sure_of_lets q.lets (length q.lets)) (length q.lets) q.body sound.sound_body.0 (λ x v. inr v)
 
 -- of one let, of one part
 pub let_counted : (lets : List (VarName × ExprTree)) (l : VarName × ExprTree) → Has lets l → AreCounted (atoms_in lets) → AreCounted (atoms_of l.1)

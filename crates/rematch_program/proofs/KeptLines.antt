@@ -1,8 +1,8 @@
 -- The lines of a page, where their fields are kept.
-use Rattle.std.proofs.Common.{◌≡◌, ℕ, ◌<◌, ◌≤◌, Bool, List, [], ◌∷◌, length, sym, ap, ◌∙◌, Some}
+use Rattle.std.proofs.Common.{◌≡◌, ℕ, Bool, List, length, ap, ◌∙◌, Some}
 use Rattle.spanner_model.specs.Captures.{VarName}
 use Rattle.spanner_model.specs.Answers.{SpanRow}
-use Rattle.row_writer.specs.Kept.{kept_text, spans_heads, table_heads}
+use Rattle.row_writer.specs.Kept.{kept_text}
 use Rattle.row_writer.proofs.KeptLaws.{kept_spans, kept_table, spans_heads_length, table_heads_length}
 use Rattle.command_line.specs.declared.request.Form.{Form}
 use Rattle.command_line.specs.declared.request.Form.TheVariants as form

@@ -1,3 +1,4 @@
+pub mod AsBeforeLaws
 pub mod AtomLines
 pub mod Cases
 pub mod Completeness

@@ -4,7 +4,7 @@ use Rattle.spanner_model.specs.declared.query.Query.{Query}
 use Rattle.spanner_model.specs.Expression.{QueryTree}
 use Rattle.spanner_model.specs.ExprView.{query_of}
 use Rattle.query_parser.specs.declared.fault.QueryFault.{QueryFault}
-use Rattle.query_parser.specs.declared.fault.QueryFault.TheVariants.{Formula, Check, Unexpected, UnknownName, NameTwice, NameTooLong, UnionVariables, UnknownVariable, TooManyVariables, TooLong, TooDeep, OutOfMemory}
+use Rattle.query_parser.specs.declared.fault.QueryFault.TheVariants.{Formula, Check, Unexpected, UnknownName, NameTwice, NameTooLong, UnknownVariable, TooManyVariables, TooLong, TooDeep, OutOfMemory, JoinUnsure}
 use Rattle.query_parser.specs.Answers.{IsAnswer}
 use Rattle.query_parser.specs.Faults.{HasFault, IsQueryText}
 use Rattle.rematch_program.specs.Run.{IsOnlyQuery, IsOnlyFault}
@@ -30,7 +30,7 @@ answer_is (Unexpected at) r other h = h
 answer_is (UnknownName at) r other h = h
 answer_is (NameTwice at) r other h = h
 answer_is (NameTooLong at) r other h = h
-answer_is (UnionVariables x) r other h = h
+answer_is (JoinUnsure x) r other h = h
 answer_is (UnknownVariable x) r other h = h
 answer_is TooManyVariables r other h = h
 answer_is TooLong r other h = h

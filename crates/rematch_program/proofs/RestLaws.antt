@@ -1,12 +1,14 @@
 -- The rows after a row, and the first of them.
-use Rattle.std.proofs.Common.{◌≡◌, ℕ, zero, suc, ◌<◌, ◌↔◌, Bool, true, false, List, [], ◌∷◌, length, drop, Option, Some, None, IsTrue, inr, refl, sym, ap, subst, arith, length-take}
+use Rattle.std.proofs.Common.{◌≡◌, ℕ, zero, suc, ◌<◌, ◌↔◌, Bool, true, false, List, [], ◌∷◌, length, drop, Option, Some, None, IsTrue, inr, refl, sym, subst, arith, length-take}
 use Rattle.std.proofs.lemmas.List.{take_all}
 use Rattle.span_core.specs.Lists.{Has}
+use Rattle.span_core.specs.declared.kept.Kept.{Kept}
+use Rattle.spanner_engine.specs.Begun.{row_kept}
 use Rattle.spanner_model.specs.Captures.{VarName}
 use Rattle.spanner_model.specs.Expression.{QueryTree}
 use Rattle.spanner_model.specs.Answers.{SpanRow, AreAnswers, IsRest}
 use Rattle.span_core.proofs.HasLaws.{Has-take, Has-append_right}
-use Rattle.row_cursor.specs.CursorTexts.{AreParts}
+use Rattle.row_cursor.specs.CursorTexts.{IsCursorText}
 use Rattle.rematch_program.specs.Pages.{AllFit, HasWidth, IsAfter, IsPageOf, first_rows}
 
 pub Has-drop : (rows : List SpanRow) (k : ℕ) (r : SpanRow) → Has (drop k rows) r → Has rows r
@@ -51,15 +53,13 @@ page_is q d names after limit rows rest page more a is first m =
 pub page_rows_fit : (width n : ℕ) (after : Option SpanRow) (limit : Option ℕ) (rows rest page : List SpanRow) → AllFit width n rows → IsRest after rows rest → page ≡ first_rows limit rest → AllFit width n page
 page_rows_fit width n after limit rows rest page fit is first row h = fit row (Has-rest after rows rest row is (Has-first limit rest row (subst (λ (p : List SpanRow). Has p row) first h)))
 
-parts_long : (names : List VarName) (row : SpanRow) → AreParts names row → length row ≡ length names
-parts_long [] [] h = refl
-parts_long [] (s ∷ row) h = absurd h
-parts_long (x ∷ names) [] h = absurd h
-parts_long (x ∷ names) (s ∷ row) h = ap suc (parts_long names row h.2)
+width_of : (names : List VarName) (row : SpanRow) (kept : Option ℕ) (text : List ℕ) → IsCursorText names row kept text → length row ≡ length names
+width_of names row None text h = h.row_is.lengths
+width_of names row (Some n) text h = h.row_is.lengths
 
--- the row of a cursor has a span for each variable
-pub has_width : (names : List VarName) (text : Option (List ℕ)) (after : Option SpanRow) → IsAfter names text after → HasWidth (length names) after
+-- the row of a cursor has a place for each variable
+pub has_width : (names : List VarName) (text : Option (List ℕ)) (after : Option Kept) → IsAfter names text after → HasWidth (length names) (row_kept after)
 has_width names None None h = tt
-has_width names None (Some row) h = absurd h
+has_width names None (Some kept) h = absurd h
 has_width names (Some text) None h = absurd h
-has_width names (Some text) (Some row) h = parts_long names row h.parts_are
+has_width names (Some text) (Some kept) h = width_of names kept.row kept.length text h

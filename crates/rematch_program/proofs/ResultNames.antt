@@ -3,11 +3,11 @@ use Rattle.std.proofs.Common.{◌≡◌, inl, inr, ℕ, suc, List, [], ◌∷◌
 use Rattle.span_core.specs.Names.{is_name}
 use Rattle.spanner_model.specs.Captures.{VarName}
 use Rattle.spanner_model.specs.Tree.{Tree, empty, one, cat_end, cat, alt_end, alt, rep, cap}
-use Rattle.spanner_model.specs.Functional.{HasVar}
+use Rattle.spanner_model.specs.Sequential.{HasVar}
 use Rattle.spanner_model.specs.WellBuilt.{IsBuilt, AreParts, AreArms}
 use Rattle.spanner_model.specs.Expression.{ExprTree, QueryTree, atom, named, union_end, union, join_end, join, project}
 use Rattle.spanner_model.specs.Answer.{vars_of_lets, IsResultVar}
-use Rattle.spanner_model.specs.Sound.{IsSound, IsSoundExpr, AreUnited, AreJoined, NameIn, NameInLets}
+use Rattle.spanner_model.specs.Sound.{IsSound, IsSoundExpr, AreUnited, AreJoined, NameIn, NameInLets, sure_of_lets}
 use Rattle.spanner_model.proofs.ExprLaws.{var_named, lets_named}
 
 mutual
@@ -36,9 +36,9 @@ mutual
   arms_named (alt f rest) x h (inr v) = arms_named rest x h.1 v
   arms_named _ x h v = absurd h
 
-module _ (V : ℕ → VarName → Type 0) (n : ℕ) where
+module _ (V S : ℕ → VarName → Type 0) (n : ℕ) where
   mutual
-    name_in : (e : ExprTree) (x : VarName) → IsSoundExpr V n e → NameIn e x → IsTrue (is_name x)
+    name_in : (e : ExprTree) (x : VarName) → IsSoundExpr V S n e → NameIn e x → IsTrue (is_name x)
     name_in (atom s t f) x h v = built_named f x h.0.0 v
     name_in (named k) x h v = absurd v
     name_in union_end x h v = absurd h
@@ -49,13 +49,13 @@ module _ (V : ℕ → VarName → Type 0) (n : ℕ) where
     name_in (join e rest) x h (inr v) = joined_in rest x h.1 v
     name_in (project kept e) x h v = name_in e x h.0 v
 
-    united_in : (e : ExprTree) (x : VarName) → AreUnited V n e → NameIn e x → IsTrue (is_name x)
+    united_in : (e : ExprTree) (x : VarName) → AreUnited V S n e → NameIn e x → IsTrue (is_name x)
     united_in union_end x h v = absurd v
     united_in (union e rest) x h (inl v) = name_in e x h.0 v
     united_in (union e rest) x h (inr v) = united_in rest x h.1 v
     united_in _ x h v = absurd h
 
-    joined_in : (e : ExprTree) (x : VarName) → AreJoined V n e → NameIn e x → IsTrue (is_name x)
+    joined_in : (e : ExprTree) (x : VarName) → AreJoined V S n e → NameIn e x → IsTrue (is_name x)
     joined_in join_end x h v = absurd v
     joined_in (join e rest) x h (inl v) = name_in e x h.0 v
     joined_in (join e rest) x h (inr v) = joined_in rest x h.1 v
@@ -68,12 +68,12 @@ let_place (l ∷ lets) x (inl v) = (0, l, refl, v)
 let_place (l ∷ lets) x (inr h) = let (k, m, at, v) = let_place lets x h in (suc k, m, at, v)
 
 let_is_named : (q : QueryTree) (x : VarName) → IsSound q → NameInLets q.lets x → IsTrue (is_name x)
-let_is_named q x s h = let (k, l, at, v) = let_place q.lets x h in name_in (vars_of_lets q.lets k) k l.1 x (s.sound_lets k l at).0 v
+let_is_named q x s h = let (k, l, at, v) = let_place q.lets x h in name_in (vars_of_lets q.lets k) (sure_of_lets q.lets k) k l.1 x (s.sound_lets k l at).0 v
 
 pub result_named : (q : QueryTree) (x : VarName) → IsSound q → IsResultVar q x → IsTrue (is_name x)
 result_named q x s v =
     let n = length q.lets in
-    elim (var_named (vars_of_lets q.lets n) (NameInLets q.lets) (lets_named q.lets s.sound_lets n) n q.body x s.sound_body.0 v) as (λ _. IsTrue (is_name x)) [
-      | inl a ↦ name_in (vars_of_lets q.lets n) n q.body x s.sound_body.0 a
+    elim (var_named (vars_of_lets q.lets n) (sure_of_lets q.lets n) (NameInLets q.lets) (lets_named q.lets s.sound_lets n) n q.body x s.sound_body.0 v) as (λ _. IsTrue (is_name x)) [
+      | inl a ↦ name_in (vars_of_lets q.lets n) (sure_of_lets q.lets n) n q.body x s.sound_body.0 a
       | inr b ↦ let_is_named q x s b
     ]

@@ -6,7 +6,6 @@ use Rattle.spanner_model.specs.Examples.{free, query}
 use Rattle.marked_automaton.specs.declared.TheConstants.{MOST_STATES, MOST_WAYS}
 use Rattle.place_automaton.specs.Counts.{count_states, count_ways}
 use Rattle.place_automaton.specs.Examples.{many_a, many_optional}
-use Rattle.place_automaton.proofs.CountLaws.{count_law}
 use Rattle.query_automaton.specs.Parts.{AtomsAreSmall}
 use Rattle.rematch_program.specs.Examples.{NoteExamples, SizeExamples}
 
@@ -16,9 +15,7 @@ note_examples = (refl, refl)
 
 -- a small atom, by its counts
 small_counts : (f : Tree) → AtomsAreSmall (query (free f)) → (count_states false false f ≤ MOST_STATES) × (count_ways false false f ≤ MOST_WAYS)
-small_counts f small =
-    let law = count_law false false f in
-    (omega (arith, law.0, small.1.0), omega (arith, law.1, small.1.1))
+small_counts f small = small.1
 
 too_many_states : (n : ℕ) → n ≡ 20002 → n ≤ MOST_STATES → ⊥
 too_many_states n is few = absurd (omega (arith, is, few))

@@ -1,9 +1,10 @@
 -- Where nothing stands in the way, what is asked for is written whole, or memory was wanting.
-use Rattle.std.specs.Prelude.{◌≡◌, ◌≤◌, ◌⊎◌, ℕ, List, Option, Some, Bool, true, IsTrue, length, codes}
+use Rattle.std.specs.Prelude.{◌≡◌, ◌≤◌, ◌⊎◌, ℕ, List, Option, Some, Bool, IsTrue, length, codes}
 use Rattle.rm_outside.specs.declared.status.Status.{Status}
 use Rattle.rm_outside.specs.declared.status.Status.TheVariants as status
 use Rattle.command_line.specs.Asked.{Asked, Query, Itself, HeldBy, asked}
 use Rattle.command_line.specs.declared.request.Mode.TheVariants as mode
+use Rattle.span_core.specs.declared.kept.Kept.{Kept}
 use Rattle.spanner_model.specs.Captures.{VarName}
 use Rattle.spanner_model.specs.Expression.{QueryTree}
 use Rattle.spanner_model.specs.Answers.{SpanRow, AreResultNames, AreAnswers}
@@ -12,10 +13,10 @@ use Rattle.trial_maker.specs.Trial.{trial_text}
 use Rattle.rematch_program.specs.declared.TheConstants.{QUERY_LIMIT, DOCUMENT_LIMIT}
 use Rattle.rematch_program.specs.Change.{Change, Clock, Adds, Failed}
 use Rattle.rematch_program.specs.Explained.{explain_text}
-use Rattle.spanner_engine.specs.Begun.{AreRead, HasHeavyAtom, table_weight}
+use Rattle.spanner_engine.specs.Begun.{AreRead, HasHeavyAtom, row_kept, table_weight}
 use Rattle.rematch_program.specs.Limits.{PartsAreSmall}
 use Rattle.rematch_program.specs.Notes.{line}
-use Rattle.rematch_program.specs.Pages.{IsAfter, cursor_fits, IsPageOf, page_text, last_note}
+use Rattle.rematch_program.specs.Pages.{IsAfter, CursorFits, IsPageOf, page_text, last_note}
 use Rattle.rematch_program.specs.Run.{Text, Store, FetchFailed, Run}
 use Rattle.rematch_program.specs.Trials.{trial_summary}
 
@@ -40,21 +41,21 @@ pub record IsWithinLimits (a : Asked) (q : QueryTree) (document : Text) : Type 0
   pub light : (K : ℕ → Bool) × AreRead a.filter q document K × (table_weight q document K ≤ a.max_table)
 
 -- a document that the shelf tells, within the limit, with no fault counted, and a cursor that fits
-pub record HasDocument (a : Asked) (names : List VarName) (after : Option SpanRow) (document : Text) (s : Store) : Type 0 where
+pub record HasDocument (a : Asked) (names : List VarName) (after : Option Kept) (document : Text) (s : Store) : Type 0 where
   pub begins : IsAfter names a.after after
   pub held : s.held a.document ≡ Some document
   pub few : length document ≤ DOCUMENT_LIMIT
-  pub fits : cursor_fits (length document) after ≡ true
+  pub fits : CursorFits (length document) after
   pub fetched : ¬ FetchFailed s a.document
 
 -- the page and its note, whole
-pub record IsWhole (a : Asked) (q : QueryTree) (names : List VarName) (after : Option SpanRow) (document : Text) (out notes : Change) (result : Status) : Type 0 where
+pub record IsWhole (a : Asked) (q : QueryTree) (names : List VarName) (after : Option Kept) (document : Text) (out notes : Change) (result : Status) : Type 0 where
   pub done : result ≡ status.Done
   pub rows : List SpanRow
   pub more : Bool
-  pub page : IsPageOf q document names after a.limit rows more
+  pub page : IsPageOf q document names (row_kept after) a.limit rows more
   pub text : Adds out (page_text a.form a.texts names document rows)
-  pub note : Adds notes (last_note names a.after rows more)
+  pub note : Adds notes (last_note names (length document) a.after rows more)
 
 -- a text and the note `end`, whole
 pub record IsWritten (text : Text) (out notes : Change) (result : Status) : Type 0 where
@@ -70,7 +71,7 @@ pub record IsSummed (lines : ℕ) (q : QueryTree) (names : List VarName) (out no
 
 abbrev pub PlainCompletes : List Text → Store → Change → Change → Status → Type 0
 PlainCompletes words s out notes result =
-    (a : Asked) (text : Text) (q : QueryTree) (names : List VarName) (after : Option SpanRow) (document : Text) →
+    (a : Asked) (text : Text) (q : QueryTree) (names : List VarName) (after : Option Kept) (document : Text) →
     a.mode ≡ mode.Plain → IsClear words a text q names s out notes → HasDocument a names after document s → IsWithinLimits a q document →
     IsWhole a q names after document out notes result ⊎ (result ≡ status.Memory)
 

@@ -6,14 +6,13 @@ use Rattle.spanner_model.specs.declared.formula.Atom.{Atom}
 use Rattle.spanner_model.specs.Captures.{VarName}
 use Rattle.spanner_model.specs.View.{tree_of}
 use Rattle.spanner_model.specs.Expression.{ExprTree, QueryTree, atom, named, union_end, union, join_end, join, project}
-use Rattle.spanner_model.specs.Functional.{HasVar}
+use Rattle.spanner_model.specs.Sequential.{HasVar, IsSequential}
 use Rattle.spanner_model.specs.WellBuilt.{IsWellBuilt}
 use Rattle.span_core.specs.Lists.{AtMost, Has}
 use Rattle.span_core.specs.declared.TheConstants.{MOST_VARIABLES}
 use Rattle.formula_parser.specs.Spells.{AtomTree}
 use Rattle.query_printer.specs.PrintedQuery.{joined, query_text}
 use Rattle.place_automaton.specs.Counts.{count_states, count_ways}
-use Rattle.place_automaton.specs.Sequential.{IsSequential}
 use Rattle.rematch_program.specs.Notes.{line}
 
 -- the atoms of an expression, from left to right

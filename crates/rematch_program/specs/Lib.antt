@@ -1,3 +1,4 @@
+pub mod AsBefore
 pub mod Change
 pub mod Notes
 pub mod Pages

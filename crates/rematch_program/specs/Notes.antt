@@ -5,7 +5,7 @@ use Rattle.span_core.specs.declared.TheConstants.{MOST_VARIABLES}
 use Rattle.formula_parser.specs.declared.fault.FormulaFault.{FormulaFault}
 use Rattle.formula_parser.specs.declared.fault.FormulaFault.TheVariants as formula
 use Rattle.functional_check.specs.declared.checking.CheckFault.{CheckFault}
-use Rattle.functional_check.specs.declared.checking.CheckFault.TheVariants as functional
+use Rattle.functional_check.specs.declared.checking.CheckFault.TheVariants as sequential
 use Rattle.query_parser.specs.declared.fault.QueryFault.{QueryFault}
 use Rattle.query_parser.specs.declared.fault.QueryFault.TheVariants as query
 
@@ -37,11 +37,10 @@ formula_note (formula.NotUtf8 at) = at_place (codes "query: not UTF-8 at ") at
 formula_note (formula.UnknownProperty at) = at_place (codes "query: unknown property at ") at
 formula_note formula.OutOfMemory = codes "out of memory"
 
--- a formula that is not functional
+-- a formula that is not sequential
 abbrev pub check_note : CheckFault → List ℕ
-check_note (functional.BoundTwice x) = about (codes "query: variable ") x (codes " twice")
-check_note (functional.UnderRepeat x) = about (codes "query: variable ") x (codes " under a repeat")
-check_note (functional.ArmsDiffer x) = about (codes "query: variable ") x (codes " not in every arm")
+check_note (sequential.BoundTwice x) = about (codes "query: variable ") x (codes " twice")
+check_note (sequential.UnderRepeat x) = about (codes "query: variable ") x (codes " under a repeat")
 
 -- the fault of a query's text; the last never comes
 abbrev pub fault_note : QueryFault → List ℕ
@@ -51,9 +50,13 @@ fault_note (query.Unexpected at) = at_place (codes "query: unexpected at ") at
 fault_note (query.UnknownName at) = at_place (codes "query: unknown name at ") at
 fault_note (query.NameTwice at) = at_place (codes "query: name twice at ") at
 fault_note (query.NameTooLong at) = at_place (codes "query: name too long at ") at
-fault_note (query.UnionVariables x) = about (codes "query: variable ") x (codes " not on both sides of union")
 fault_note (query.UnknownVariable x) = about (codes "query: no variable ") x (codes " to keep")
 fault_note query.TooManyVariables = at_place (codes "query: more than ") MOST_VARIABLES ++ codes " variables"
 fault_note query.TooLong = codes "query: longer than 65536 bytes"
 fault_note (query.TooDeep at) = at_place (codes "query: too deep at ") at
 fault_note query.OutOfMemory = codes "out of memory"
+fault_note (query.JoinUnsure x) = about (codes "query: variable ") x (codes " not sure on both sides of join")
+
+-- a cursor of another document than this one, which has so many bytes
+abbrev pub other_document_note : ℕ → ℕ → List ℕ
+other_document_note kept found = at_place (codes "cursor: document of ") kept ++ codes " bytes, not " ++ decimal found

@@ -1,6 +1,8 @@
 -- The page that a run writes: its rows, its text, and the note at its end.
-use Rattle.std.specs.Prelude.{◌≡◌, ℕ, ◌-◌, Bool, true, false, IsTrue, List, [], ◌∷◌, ◌++◌, Option, Some, None, codes, length, take, unwrap_or, if◌then◌else◌}
+use Rattle.std.specs.Prelude.{◌≡◌, ℕ, ◌-◌, Bool, false, IsTrue, List, [], ◌∷◌, ◌++◌, Option, Some, None, codes, length, take, unwrap_or, if◌then◌else◌}
+use Rattle.std.specs.Option.{MatchOption}
 use Rattle.span_core.specs.Lists.{Has}
+use Rattle.span_core.specs.declared.kept.Kept.{Kept}
 use Rattle.spanner_model.specs.Captures.{VarName}
 use Rattle.spanner_model.specs.Expression.{QueryTree}
 use Rattle.spanner_model.specs.Answers.{SpanRow, IsPage}
@@ -15,21 +17,21 @@ use Rattle.rematch_program.specs.Notes.{line}
 
 -- ---- where the page begins
 
--- the row that a cursor's text is that of; none, for the start, where no text is given
-abbrev pub IsAfter : List VarName → Option (List ℕ) → Option SpanRow → Type 0
+-- what a cursor's text keeps, a row and maybe a document's length; nothing, for the start, where no text is given
+abbrev pub IsAfter : List VarName → Option (List ℕ) → Option Kept → Type 0
 IsAfter names None None = Unit {0}
-IsAfter names None (Some row) = ⊥
+IsAfter names None (Some kept) = ⊥
 IsAfter names (Some text) None = ⊥
-IsAfter names (Some text) (Some row) = IsCursorText names row text
+IsAfter names (Some text) (Some kept) = IsCursorText names kept.row kept.length text
 
 -- no span of the row ends past n
 abbrev pub is_inside : ℕ → SpanRow → Bool
 is_inside n row = list_all (ends_by n) row
 
--- no span of the row that the page begins after ends past n
-abbrev pub cursor_fits : ℕ → Option SpanRow → Bool
-cursor_fits n None = true
-cursor_fits n (Some row) = is_inside n row
+-- a cursor fits a document of n bytes: it keeps this length; or it keeps none, and no span of its row ends past n
+abbrev pub CursorFits : ℕ → Option Kept → Type 0
+CursorFits n None = Unit {0}
+CursorFits n (Some kept) = MatchOption kept.length (IsTrue (is_inside n kept.row)) (λ length. length ≡ n)
 
 -- ---- the rows of the page
 
@@ -63,15 +65,15 @@ page_text form texts names d rows = page_head form names ++ flat_map (row_text f
 
 -- ---- the note at its end
 
--- the text of the last row that was written; where none was, the text that was given, or the word `start`
-abbrev pub next_cursor : List VarName → Option (List ℕ) → List SpanRow → List ℕ
-next_cursor names given [] = unwrap_or given (codes "start")
-next_cursor names given (row ∷ rows) = next_cursor names (Some (cursor_text names row)) rows
+-- the text of the last row that was written, of a document of n bytes; where none was, the text that was given, or the word `start`
+abbrev pub next_cursor : List VarName → ℕ → Option (List ℕ) → List SpanRow → List ℕ
+next_cursor names n given [] = unwrap_or given (codes "start")
+next_cursor names n given (row ∷ rows) = next_cursor names n (Some (cursor_text names row n)) rows
 
 -- the text of the last row so far, or that which was given
-abbrev pub cursor_given : List VarName → Option SpanRow → Option (List ℕ) → Option (List ℕ)
-cursor_given names None given = given
-cursor_given names (Some row) given = Some (cursor_text names row)
+abbrev pub cursor_given : List VarName → ℕ → Option SpanRow → Option (List ℕ) → Option (List ℕ)
+cursor_given names n None given = given
+cursor_given names n (Some row) given = Some (cursor_text names row n)
 
 -- a row, where there is one
 abbrev pub row_if : Bool → SpanRow → Option SpanRow
@@ -82,20 +84,25 @@ abbrev pub fewer : Option ℕ → Option ℕ
 fewer None = None
 fewer (Some n) = Some (n - 1)
 
-abbrev pub last_note : List VarName → Option (List ℕ) → List SpanRow → Bool → List ℕ
-last_note names given rows more = if more then line (codes "more " ++ next_cursor names given rows) else line (codes "end")
+abbrev pub last_note : List VarName → ℕ → Option (List ℕ) → List SpanRow → Bool → List ℕ
+last_note names n given rows more = if more then line (codes "more " ++ next_cursor names n given rows) else line (codes "end")
 
 -- ---- what is known of a page's rows
 
--- the row has so many spans
+-- the row has so many places
 abbrev pub HasWidth : ℕ → Option SpanRow → Type 0
 HasWidth v None = Unit {0}
 HasWidth v (Some row) = length row ≡ v
 
--- a span for each variable, none of which ends past n
+-- a place for each variable, and no span ends past n
 pub record FitsPage (width n : ℕ) (row : SpanRow) : Type 0 where
   pub lengths : length row ≡ width
   pub inside : IsTrue (is_inside n row)
+
+-- the same of a row, where there is one
+abbrev pub FitsIf : ℕ → ℕ → Option SpanRow → Type 0
+FitsIf width n None = Unit {0}
+FitsIf width n (Some row) = FitsPage width n row
 
 abbrev pub AllFit : ℕ → ℕ → List SpanRow → Type 0
 AllFit width n rows = (row : SpanRow) → Has rows row → FitsPage width n row

@@ -1,13 +1,14 @@
 -- What a run does: the relation between the words, what the shelf holds, the faults that rose, the
 -- bytes added to out and notes, the steps taken, and the status. The first case that applies is taken. Want of memory
 -- may stand in place of any.
-use Rattle.std.specs.Prelude.{◌≡◌, ◌≢◌, ◌<◌, ◌≤◌, ℕ, List, Bool, true, false, Option, Some, None, IfSome, IsTrue, length, codes}
+use Rattle.std.specs.Prelude.{◌≡◌, ◌≢◌, ◌<◌, ◌≤◌, ℕ, List, Bool, Option, Some, None, IfSome, IsTrue, length, codes}
 use Rattle.rm_outside.specs.Faults.{Rose}
 use Rattle.rm_outside.specs.declared.status.Status.{Status}
 use Rattle.rm_outside.specs.declared.status.Status.TheVariants as status
 use Rattle.command_line.specs.Asked.{Asked, Itself, HeldBy, asked}
 use Rattle.command_line.specs.declared.request.Mode.{Mode}
 use Rattle.command_line.specs.declared.request.Mode.TheVariants as mode
+use Rattle.span_core.specs.declared.kept.Kept.{Kept}
 use Rattle.spanner_model.specs.Captures.{VarName}
 use Rattle.spanner_model.specs.Expression.{QueryTree}
 use Rattle.spanner_model.specs.Answers.{SpanRow, AreResultNames, AreAnswers}
@@ -20,12 +21,12 @@ use Rattle.query_automaton.specs.Parts.{AtomsAreSmall, HasLargePart}
 use Rattle.trial_maker.specs.Trial.{trial_text}
 use Rattle.rematch_program.specs.Change.{Change, Clock, Work, clock, work, IsQuiet, Adds, AddsPart, Failed, StandsStill, DidNothing}
 use Rattle.rematch_program.specs.Explained.{explain_text}
-use Rattle.spanner_engine.specs.Begun.{AreRead, HasHeavyAtom, begin_steps, table_weight}
+use Rattle.spanner_engine.specs.Begun.{AreRead, HasHeavyAtom, IsPast, KeepsOther, begin_steps, row_kept, table_weight}
 use Rattle.rematch_program.specs.Limits.{states_note, ways_note, filter_note, table_note}
 use Rattle.rematch_program.specs.Steps.{KeepsWithin, stated_steps}
 use Rattle.rematch_program.specs.Trials.{trial_summary}
-use Rattle.rematch_program.specs.Notes.{line, fault_note}
-use Rattle.rematch_program.specs.Pages.{IsAfter, cursor_fits, IsPageOf, page_text, last_note}
+use Rattle.rematch_program.specs.Notes.{line, fault_note, other_document_note}
+use Rattle.rematch_program.specs.Pages.{IsAfter, CursorFits, IsPageOf, page_text, last_note}
 
 abbrev pub Text : Type 0
 Text = List ℕ
@@ -77,37 +78,39 @@ pub data FromPage (text last : Text) (Keeps : Clock → Type 0) (w : Work) (end 
   out_of_memory : IsOutOfMemory end note → AddsPart w.out text → Keeps w.steps → FromPage text last Keeps w end note
 
 -- with all that is needed: a page of the answers, or the summary of them all
-pub data FromAnswers (a : Asked) (q : QueryTree) (names : List VarName) (after : Option SpanRow) (document : Text) (w : Work) (end : Status) (note : Text) : Type 0 where
-  paged : a.mode ≡ mode.Plain → (rows : List SpanRow) (more : Bool) → IsPageOf q document names after a.limit rows more →
-      FromPage (page_text a.form a.texts names document rows) (last_note names a.after rows more)
-      (KeepsWithin a.filter q document (λ K. stated_steps a.filter q names document K after (length rows))) w end note →
+pub data FromAnswers (a : Asked) (q : QueryTree) (names : List VarName) (after : Option Kept) (document : Text) (w : Work) (end : Status) (note : Text) : Type 0 where
+  paged : a.mode ≡ mode.Plain → (rows : List SpanRow) (more : Bool) → IsPageOf q document names (row_kept after) a.limit rows more →
+      FromPage (page_text a.form a.texts names document rows) (last_note names (length document) a.after rows more)
+      (KeepsWithin a.filter q document (λ K. stated_steps a.filter q names document K (row_kept after) (length rows))) w end note →
       FromAnswers a q names after document w end note
   summed : (lines : ℕ) → a.mode ≡ mode.Trial lines → (rows : List SpanRow) → AreAnswers q document names rows →
       FromPage (trial_summary lines names document rows) (line (codes "end"))
       (KeepsWithin a.filter q document (λ K. stated_steps a.filter q names document K None (length rows))) w end note →
       FromAnswers a q names after document w end note
 
--- no answer is begun with the document: a span of the cursor ends past it; with the filter, what the two readings of some atom meet
+-- no answer is begun with the document: the cursor keeps another length, or none and a span of it ends past the document; with the filter, what the two readings of some atom meet
 -- weighs too much; reading it where it is read does; or memory is wanting
-pub data IsNotBegun (filter : Bool) (q : QueryTree) (after : Option SpanRow) (document : Text) (max_table : ℕ) (steps : Clock) (end : Status) (note : Text) : Type 0 where
-  past_the_document : cursor_fits (length document) after ≡ false → Is end note status.Cursor (codes "cursor: past the document") → StandsStill steps →
+pub data IsNotBegun (filter : Bool) (q : QueryTree) (after : Option Kept) (document : Text) (max_table : ℕ) (steps : Clock) (end : Status) (note : Text) : Type 0 where
+  other_document : (kept : ℕ) → KeepsOther (length document) after kept → Is end note status.Cursor (other_document_note kept (length document)) → StandsStill steps →
       IsNotBegun filter q after document max_table steps end note
-  filter_full : cursor_fits (length document) after ≡ true → IsTrue filter → HasHeavyAtom q document max_table → Is end note status.Size (filter_note max_table) →
-      KeepsWithin filter q document (λ K. begin_steps filter q document K after) steps → IsNotBegun filter q after document max_table steps end note
-  table_full : cursor_fits (length document) after ≡ true → ((K : ℕ → Bool) → AreRead filter q document K → max_table < table_weight q document K) →
+  past_the_document : IsPast (length document) after → Is end note status.Cursor (codes "cursor: past the document") → StandsStill steps →
+      IsNotBegun filter q after document max_table steps end note
+  filter_full : CursorFits (length document) after → IsTrue filter → HasHeavyAtom q document max_table → Is end note status.Size (filter_note max_table) →
+      KeepsWithin filter q document (λ K. begin_steps filter q document K (row_kept after)) steps → IsNotBegun filter q after document max_table steps end note
+  table_full : CursorFits (length document) after → ((K : ℕ → Bool) → AreRead filter q document K → max_table < table_weight q document K) →
       Is end note status.Size (table_note max_table) →
-      KeepsWithin filter q document (λ K. begin_steps filter q document K after) steps → IsNotBegun filter q after document max_table steps end note
-  by_memory : IsOutOfMemory end note → KeepsWithin filter q document (λ K. begin_steps filter q document K after) steps →
+      KeepsWithin filter q document (λ K. begin_steps filter q document K (row_kept after)) steps → IsNotBegun filter q after document max_table steps end note
+  by_memory : IsOutOfMemory end note → KeepsWithin filter q document (λ K. begin_steps filter q document K (row_kept after)) steps →
       IsNotBegun filter q after document max_table steps end note
 
 -- with the document
-pub data FromDocument (a : Asked) (q : QueryTree) (names : List VarName) (after : Option SpanRow) (document : Text) (w : Work) (end : Status) (note : Text) : Type 0 where
+pub data FromDocument (a : Asked) (q : QueryTree) (names : List VarName) (after : Option Kept) (document : Text) (w : Work) (end : Status) (note : Text) : Type 0 where
   not_begun : IsNotBegun a.filter q after document a.max_table w.steps end note → IsQuiet w.out → FromDocument a q names after document w end note
   out_of_memory : IsOutOfMemory end note → DidNothing w → FromDocument a q names after document w end note
-  answered : cursor_fits (length document) after ≡ true → FromAnswers a q names after document w end note → FromDocument a q names after document w end note
+  answered : CursorFits (length document) after → FromAnswers a q names after document w end note → FromDocument a q names after document w end note
 
 -- with the place where the page begins
-pub data FromPlace (a : Asked) (q : QueryTree) (names : List VarName) (after : Option SpanRow) (s : Store) (w : Work) (end : Status) (note : Text) : Type 0 where
+pub data FromPlace (a : Asked) (q : QueryTree) (names : List VarName) (after : Option Kept) (s : Store) (w : Work) (end : Status) (note : Text) : Type 0 where
   document_failed : FetchFailed s a.document → Is end note status.Read (codes "read failed: document") → DidNothing w → FromPlace a q names after s w end note
   document_too_long : IsTooLong s a.document DOCUMENT_LIMIT → Is end note status.Long (codes "document longer than 268435456 bytes") → DidNothing w →
       FromPlace a q names after s w end note
@@ -117,11 +120,11 @@ pub data FromPlace (a : Asked) (q : QueryTree) (names : List VarName) (after : O
 
 -- with the query's automaton, for a page; `names` are those of its result
 pub data FromCursor (a : Asked) (q : QueryTree) (names : List VarName) (s : Store) (w : Work) (end : Status) (note : Text) : Type 0 where
-  no_cursor : (text : Text) → a.after ≡ Some text → ((others : List VarName) (row : SpanRow) → ¬ IsCursorText others row text) →
+  no_cursor : (text : Text) → a.after ≡ Some text → ((others : List VarName) (row : SpanRow) (kept : Option ℕ) → ¬ IsCursorText others row kept text) →
       Is end note status.Cursor (codes "cursor: not a cursor") → DidNothing w → FromCursor a q names s w end note
-  other_variables : (text : Text) → a.after ≡ Some text → (others : List VarName) (row : SpanRow) → IsCursorText others row text → others ≢ names →
+  other_variables : (text : Text) → a.after ≡ Some text → (others : List VarName) (row : SpanRow) (kept : Option ℕ) → IsCursorText others row kept text → others ≢ names →
       Is end note status.Cursor (codes "cursor: other variables") → DidNothing w → FromCursor a q names s w end note
-  placed : (after : Option SpanRow) → IsAfter names a.after after → FromPlace a q names after s w end note → FromCursor a q names s w end note
+  placed : (after : Option Kept) → IsAfter names a.after after → FromPlace a q names after s w end note → FromCursor a q names s w end note
 
 -- with the query's automaton; a trial takes the made document, and all of its answers
 pub data FromCompiled (a : Asked) (q : QueryTree) (s : Store) (w : Work) (end : Status) (note : Text) : Type 0 where

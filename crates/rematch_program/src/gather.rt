@@ -101,17 +101,17 @@ impl Gather {
     pub fn add_row<O: Sink>(
         &mut self,
         line: &mut KeptLine,
-        spans: &[Span],
+        spans: &[Option<Span>],
         document: &[u8],
         texts: bool,
         out: &mut O,
     ) -> Result<(), SinkFailed>
         requires lengths { length spans.now ≡ length line.old }
-        requires inside { IsTrue (list_all (ends_by (length document.now)) (map Some spans.now)) }
+        requires inside { IsTrue (list_all (ends_by (length document.now)) spans.now) }
         requires room { line_room texts spans.now ≤ LINE_ROOM }
         ensures line { line.new ≡ line.old }
-        ensures ok { OnOk result (Passes self.old (kept_text line.old (map Some spans.now) document.now texts) self.new (change (O.written out.old) (O.written out.new) (O.faults out.old) (O.faults out.new))) }
-        ensures part { OnErr result (AddsPart (change (O.written out.old) (O.written out.new) (O.faults out.old) (O.faults out.new)) (self.old ++ kept_text line.old (map Some spans.now) document.now texts)) }
+        ensures ok { OnOk result (Passes self.old (kept_text line.old spans.now document.now texts) self.new (change (O.written out.old) (O.written out.new) (O.faults out.old) (O.faults out.new))) }
+        ensures part { OnErr result (AddsPart (change (O.written out.old) (O.written out.new) (O.faults out.old) (O.faults out.new)) (self.old ++ kept_text line.old spans.now document.now texts)) }
         ensures failed { OnErr result (Failed (change (O.written out.old) (O.written out.new) (O.faults out.old) (O.faults out.new))) }
         ensures later { O.faults out.old ≤ O.faults out.new }
     {

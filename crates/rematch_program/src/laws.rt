@@ -1,14 +1,23 @@
 //! Laws of runs and of pages, each the contract of a function that does nothing.
+ghost use Rattle.rematch_program.specs.AsBefore.{FunctionalQueriesAreServedAsBefore};
 ghost use Rattle.rematch_program.specs.Complete.{CompletenessLaw};
 ghost use Rattle.rematch_program.specs.Examples.{NoteExamples, SizeExamples};
 ghost use Rattle.rematch_program.specs.Resume.{PagesResume};
 
 /// Pages that are resumed at the cursors of their own notes join.
 ///
-/// The note of a page gives a text by which a run with the same query and document begins where the
-/// page ended. It is taken, and the rows of both pages are those of one page of both limits.
+/// The note of a page gives a text by which a run with the same query and document begins where the page ended. It is
+/// taken and fits the document, and the rows of both pages are those of one page of both limits. With a document of
+/// another length it is refused; a document of the same length with other bytes is the user's own matter.
 pub fn pages_resume()
     ensures { PagesResume }
+{}
+
+/// Queries of functional formulas (Fagin et al. 2015), whose unions have equal variables, are accepted, answered and told as they
+/// were where no variable may be absent: the same rows in the same order, none of them with an absent variable, and the same
+/// numbers.
+pub fn functional_queries_are_served_as_before()
+    ensures { FunctionalQueriesAreServedAsBefore }
 {}
 
 /// What a run does brings about that it is whole where nothing stands in its way.

@@ -1,6 +1,6 @@
-//! The notes of a query's faults, and of a limit that is passed.
+//! The notes of a query's faults, of a cursor of another document, and of a limit that is passed.
 ghost use Rattle.std.specs.Prelude.{◌≡◌, ◌++◌, codes, IfOk};
-ghost use Rattle.rematch_program.specs.Notes.{line, at_place, about, formula_note as formula_text, check_note as check_text, fault_note as fault_text};
+ghost use Rattle.rematch_program.specs.Notes.{line, at_place, about, formula_note as formula_text, check_note as check_text, fault_note as fault_text, other_document_note as other_document_text};
 ghost use Rattle.rematch_program.specs.Ending.{note_bytes};
 
 use crate::ending::Note;
@@ -21,12 +21,6 @@ pub fn fault_note(alloc: Global, fault: QueryFault) -> Result<Note, OutOfMemory>
         QueryFault::UnknownName { at } => note_at(alloc, "query: unknown name at ", at),
         QueryFault::NameTwice { at } => note_at(alloc, "query: name twice at ", at),
         QueryFault::NameTooLong { at } => note_at(alloc, "query: name too long at ", at),
-        QueryFault::UnionVariables { var } => note_about(
-            alloc,
-            "query: variable ",
-            &var,
-            " not on both sides of union",
-        ),
         QueryFault::UnknownVariable { var } => {
             note_about(alloc, "query: no variable ", &var, " to keep")
         }
@@ -36,6 +30,12 @@ pub fn fault_note(alloc: Global, fault: QueryFault) -> Result<Note, OutOfMemory>
         QueryFault::TooLong => Ok(Note::Line("query: longer than 65536 bytes\n")),
         QueryFault::TooDeep { at } => note_at(alloc, "query: too deep at ", at),
         QueryFault::OutOfMemory => Err(OutOfMemory),
+        QueryFault::JoinUnsure { var } => note_about(
+            alloc,
+            "query: variable ",
+            &var,
+            " not sure on both sides of join",
+        ),
     }
 }
 
@@ -69,9 +69,6 @@ fn check_note(alloc: Global, fault: CheckFault) -> Result<Note, OutOfMemory>
         CheckFault::UnderRepeat { var } => {
             note_about(alloc, "query: variable ", &var, " under a repeat")
         }
-        CheckFault::ArmsDiffer { var } => {
-            note_about(alloc, "query: variable ", &var, " not in every arm")
-        }
     }
 }
 
@@ -101,6 +98,14 @@ fn note_about(alloc: Global, before: &str, name: &Name, after: &str) -> Result<N
     bytes.extend_from_slice(after.as_bytes())?;
     bytes.push(b'\n')?;
     Ok(Note::Made(bytes))
+}
+
+/// The line that refuses a cursor of a document of `kept` bytes, on one of `found` bytes.
+pub fn other_document_note(alloc: Global, kept: u32, found: u32) -> Result<Note, OutOfMemory>
+    ensures { IfOk result (λ note. note_bytes note ≡ line (other_document_text kept found)) }
+{
+    let text = format!(in alloc; "cursor: document of {kept} bytes, not {found}\n")?;
+    Ok(Note::Made(text.into_bytes()))
 }
 
 /// A line with a limit at its end.

@@ -9,9 +9,10 @@ ghost use Rattle.command_line.specs.Given.{text_behind};
 ghost use Rattle.rematch_program.specs.Ending.{note_bytes};
 ghost use Rattle.rematch_program.specs.Change.{change, clock, work, Adds, AddsPart, Failed, Passes, SoFar, TakesAtMost};
 ghost use Rattle.rematch_program.specs.Kept.{AreHeads};
-ghost use Rattle.rematch_program.specs.Pages.{AllFit, FitsPage, HasWidth, cursor_given, fewer, first_rows, last_note, next_cursor, page_text, row_if, row_text};
+ghost use Rattle.rematch_program.specs.Pages.{AllFit, FitsIf, FitsPage, cursor_given, fewer, first_rows, last_note, next_cursor, page_text, row_if, row_text};
 ghost use Rattle.rematch_program.specs.Run.{FromPage};
 ghost use Rattle.rematch_program.specs.Steps.{next_steps};
+ghost use Rattle.rematch_program.specs.declared.TheConstants.{DOCUMENT_LIMIT};
 ghost use Rattle.rematch_program.specs.declared.page.PageFault.TheVariants as fault;
 
 use crate::ending::{Ending, Note};
@@ -60,9 +61,10 @@ pub fn write_page<O: Sink, L: Ledger>(
     out: &mut O,
     steps: &mut Steps<L>,
 ) -> Ending
+    requires short { length document.now ≤ DOCUMENT_LIMIT }
     requires fit { AllFit (length vars.now) (length document.now) answers.old.rest }
     ensures case { FromPage (page_text (request_view request.now).form (request_view request.now).texts vars.now document.now (first_rows (request_view request.now).limit answers.old.rest))
-        (last_note vars.now (request_view request.now).after (first_rows (request_view request.now).limit answers.old.rest) (nat_lt (length (first_rows (request_view request.now).limit answers.old.rest)) (length answers.old.rest)))
+        (last_note vars.now (length document.now) (request_view request.now).after (first_rows (request_view request.now).limit answers.old.rest) (nat_lt (length (first_rows (request_view request.now).limit answers.old.rest)) (length answers.old.rest)))
         (λ spent. TakesAtMost spent ((length (first_rows (request_view request.now).limit answers.old.rest) + 1) * next_steps answers.old.variables))
         (work (change (O.written out.old) (O.written out.new) (O.faults out.old) (O.faults out.new)) (clock steps.old steps.new))
         result.status (note_bytes result.note) }
@@ -87,11 +89,12 @@ fn put_page<O: Sink, L: Ledger>(
     out: &mut O,
     steps: &mut Steps<L>,
 ) -> Result<Note, PageFault>
+    requires short { length document.now ≤ DOCUMENT_LIMIT }
     requires fit { AllFit (length vars.now) (length document.now) answers.old.rest }
     ensures whole { OnOk result (Adds (change (O.written out.old) (O.written out.new) (O.faults out.old) (O.faults out.new)) (page_text (request_view request.now).form (request_view request.now).texts vars.now document.now (first_rows (request_view request.now).limit answers.old.rest))) }
     ensures part { OnErr result (AddsPart (change (O.written out.old) (O.written out.new) (O.faults out.old) (O.faults out.new)) (page_text (request_view request.now).form (request_view request.now).texts vars.now document.now (first_rows (request_view request.now).limit answers.old.rest))) }
     ensures failed { IsErrOf result PageFault.Failed → Failed (change (O.written out.old) (O.written out.new) (O.faults out.old) (O.faults out.new)) }
-    ensures note { IfOk result (λ note. note_bytes note ≡ last_note vars.now (request_view request.now).after (first_rows (request_view request.now).limit answers.old.rest) (nat_lt (length (first_rows (request_view request.now).limit answers.old.rest)) (length answers.old.rest))) }
+    ensures note { IfOk result (λ note. note_bytes note ≡ last_note vars.now (length document.now) (request_view request.now).after (first_rows (request_view request.now).limit answers.old.rest) (nat_lt (length (first_rows (request_view request.now).limit answers.old.rest)) (length answers.old.rest))) }
     ensures steps { steps.new ≤ steps.old + (length (first_rows (request_view request.now).limit answers.old.rest) + 1) * next_steps answers.old.variables }
 {
     let mut gather = Gather::new(alloc)?;
@@ -114,22 +117,23 @@ fn put_page<O: Sink, L: Ledger>(
         Ok(end) => end,
         Err(fault) => return Err(fault),
     };
-    let note = page_note(alloc, request, vars, &end)?;
+    let note = page_note(alloc, request, vars, document.len() as u32, &end)?;
     match gather.flush(out) {
         Ok(()) => Ok(note),
         Err(SinkFailed) => Err(PageFault::Failed),
     }
 }
 
-/// The note at the end of the page.
+/// The note at the end of a page of a document of `n` bytes.
 fn page_note(
     alloc: Global,
     request: &Request<'_>,
     vars: &VarSet,
+    n: u32,
     end: &PageEnd,
 ) -> Result<Note, OutOfMemory>
-    requires width { HasWidth (length vars.now) end.now.last }
-    ensures { IfOk result (λ note. note_bytes note ≡ last_note vars.now (cursor_given vars.now end.now.last (request_view request.now).after) [] end.now.more) }
+    requires fit { FitsIf (length vars.now) n end.now.last }
+    ensures { IfOk result (λ note. note_bytes note ≡ last_note vars.now n (cursor_given vars.now n end.now.last (request_view request.now).after) [] end.now.more) }
 {
     if !end.more {
         return Ok(Note::Line("end\n"));
@@ -137,7 +141,7 @@ fn page_note(
     let mut bytes = Vec::new(alloc);
     bytes.extend_from_slice(b"more ")?;
     match &end.last {
-        Some(row) => row_cursor::print(row, vars, &mut bytes)?,
+        Some(row) => row_cursor::print(row, vars, n, &mut bytes)?,
         None => bytes.extend_from_slice(request.after.unwrap_or("start").as_bytes())?,
     }
     bytes.push(b'\n')?;
@@ -173,8 +177,8 @@ fn put_rows<O: Sink, L: Ledger>(
     ensures part { OnErr result (AddsPart (change (O.written out.old) (O.written out.new) (O.faults out.old) (O.faults out.new)) (gather.old ++ (flat_map (row_text (request_view request.now).form (request_view request.now).texts vars.now document.now) (first_rows (request_view request.now).limit answers.old.rest)))) }
     ensures failed { IsErrOf result PageFault.Failed → Failed (change (O.written out.old) (O.written out.new) (O.faults out.old) (O.faults out.new)) }
     ensures later { O.faults out.old ≤ O.faults out.new }
-    ensures width { IfOk result (λ e. HasWidth (length vars.now) e.last) }
-    ensures cursor { IfOk result (λ e. next_cursor vars.now (cursor_given vars.now e.last (request_view request.now).after) [] ≡ next_cursor vars.now (request_view request.now).after (first_rows (request_view request.now).limit answers.old.rest)) }
+    ensures last { IfOk result (λ e. FitsIf (length vars.now) (length document.now) e.last) }
+    ensures cursor { IfOk result (λ e. next_cursor vars.now (length document.now) (cursor_given vars.now (length document.now) e.last (request_view request.now).after) [] ≡ next_cursor vars.now (length document.now) (request_view request.now).after (first_rows (request_view request.now).limit answers.old.rest)) }
     ensures more { IfOk result (λ e. IsTrue e.more ↔ (length (first_rows (request_view request.now).limit answers.old.rest) < length answers.old.rest)) }
     ensures steps { steps.new ≤ steps.old + (length (first_rows (request_view request.now).limit answers.old.rest) + 1) * next_steps answers.old.variables }
 {

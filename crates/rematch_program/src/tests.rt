@@ -13,7 +13,7 @@ use std::test::Fail;
 const QUERY: &[u8] = b"let w = /!x{[a-z]+}/; project x (w join /!x{..}!y{\\d}/)";
 
 /// Words with `~` between, the document that the shelf holds under the name D, and what comes.
-const ROWS: [(&str, &[u8], Status, &[u8], &[u8]); 54] = [
+const ROWS: [(&str, &[u8], Status, &[u8], &[u8]); 62] = [
     // Spans line by line, in block order; the empty ones too, and each once.
     (
         "-e~/!x{a*}/~D",
@@ -62,13 +62,56 @@ const ROWS: [(&str, &[u8], Status, &[u8], &[u8]); 54] = [
         b"x=0-2\nx=0-4\nx=2-4\n",
         b"end\n",
     ),
+    // Absent variables.
+    (
+        "-e~/!x{a}|b/~D",
+        b"ab",
+        Status::Done,
+        b"x=0-1\nx=-\n",
+        b"end\n",
+    ),
+    (
+        "-e~/!x{a}/ union /!y{a}/~D",
+        b"a",
+        Status::Done,
+        b"x=0-1 y=-\nx=- y=0-1\n",
+        b"end\n",
+    ),
+    (
+        "-e~/!x{a}/ union /!y{a}/~-f~json~D",
+        b"a",
+        Status::Done,
+        b"{\"x\":[0,1],\"y\":null}\n{\"x\":null,\"y\":[0,1]}\n",
+        b"end\n",
+    ),
+    (
+        "-e~/!x{a}|b/~-n~1~D",
+        b"abb",
+        Status::Done,
+        b"x=0-1\n",
+        b"more c2:3;x:0-1\n",
+    ),
+    (
+        "-e~/!x{a}|b/~-a~c2:3;x:-~D",
+        b"abb",
+        Status::Done,
+        b"",
+        b"end\n",
+    ),
     // Pages.
     (
         "-e~/!x{a*}/~-n~2~D",
         b"aa",
         Status::Done,
         b"x=0-0\nx=0-1\n",
-        b"more c1;x:0-1\n",
+        b"more c2:2;x:0-1\n",
+    ),
+    (
+        "-e~/!x{a*}/~-a~c2:2;x:0-1~D",
+        b"aa",
+        Status::Done,
+        b"x=0-2\nx=1-1\nx=1-2\nx=2-2\n",
+        b"end\n",
     ),
     (
         "-e~/!x{a*}/~-a~c1;x:0-1~D",
@@ -110,7 +153,7 @@ const ROWS: [(&str, &[u8], Status, &[u8], &[u8]); 54] = [
         b"aa",
         Status::Done,
         b"x=0-0\n",
-        b"more c1;x:0-0\n",
+        b"more c2:2;x:0-0\n",
     ),
     // A cursor that is no answer, and those that are refused.
     (
@@ -137,6 +180,21 @@ const ROWS: [(&str, &[u8], Status, &[u8], &[u8]); 54] = [
     (
         "-e~/!x{a}/~-a~c1;x:2-1~D",
         b"aab",
+        Status::Cursor,
+        b"",
+        b"cursor: not a cursor\n",
+    ),
+    // A cursor of a document of another length.
+    (
+        "-e~/!x{a*}/~-a~c2:3;x:0-1~D",
+        b"aa",
+        Status::Cursor,
+        b"",
+        b"cursor: document of 3 bytes, not 2\n",
+    ),
+    (
+        "-e~/!x{a*}/~-a~c2:2;x:1-3~D",
+        b"aa",
         Status::Cursor,
         b"",
         b"cursor: not a cursor\n",
@@ -169,7 +227,7 @@ const ROWS: [(&str, &[u8], Status, &[u8], &[u8]); 54] = [
         b"aabb",
         Status::Done,
         b"x\ty\n0-2\t2-3\n",
-        b"more c1;x:0-2;y:2-3\n",
+        b"more c2:4;x:0-2;y:2-3\n",
     ),
     ("-e~/ab/~-f~table~D", b"xx", Status::Done, b"()\n", b"end\n"),
     (
@@ -242,7 +300,7 @@ const ROWS: [(&str, &[u8], Status, &[u8], &[u8]); 54] = [
         b"ab1 cd2",
         Status::Done,
         b"x=0-2\n",
-        b"more c1;x:0-2\n",
+        b"more c2:7;x:0-2\n",
     ),
     // A filter past its limit, which is tried after the cursor's place.
     (
@@ -320,11 +378,11 @@ const ROWS: [(&str, &[u8], Status, &[u8], &[u8]); 54] = [
         b"bad command line\n",
     ),
     (
-        "-e~/!x{a}/ union /!y{a}/~D",
+        "-e~/!x{a}|b/ join /!x{.}/~D",
         b"a",
         Status::Query,
         b"",
-        b"query: variable x not on both sides of union\n",
+        b"query: variable x not sure on both sides of join\n",
     ),
     (
         "-e~/a**/~D",

@@ -12,22 +12,22 @@ ghost use Rattle.spanner_model.specs.ExprView.{query_of};
 ghost use Rattle.spanner_model.specs.Sound.{IsSound};
 ghost use Rattle.spanner_model.specs.Answers.{AreResultNames};
 ghost use Rattle.query_automaton.specs.Parts.{AtomsAreSmall};
-ghost use Rattle.spanner_engine.specs.Begun.{begin_steps};
+ghost use Rattle.spanner_engine.specs.Begun.{begin_steps, row_kept};
 ghost use Rattle.spanner_engine.specs.Left.{AreLeft};
 ghost use Rattle.trial_maker.specs.Trial.{trial_text};
 ghost use Rattle.command_line.specs.declared.TheConstants.{MOST_TRIAL_LINES};
 ghost use Rattle.rematch_program.specs.Ending.{note_bytes};
 ghost use Rattle.rematch_program.specs.declared.TheConstants.{DOCUMENT_LIMIT};
 ghost use Rattle.rematch_program.specs.Change.{change, clock, work};
-ghost use Rattle.rematch_program.specs.Notes.{at_place};
+ghost use Rattle.rematch_program.specs.Notes.{at_place, other_document_note as other_document_text};
 ghost use Rattle.rematch_program.specs.Steps.{KeepsWithin};
-ghost use Rattle.rematch_program.specs.Pages.{HasWidth, IsAfter, cursor_fits};
+ghost use Rattle.rematch_program.specs.Pages.{CursorFits, HasWidth, IsAfter};
 ghost use Rattle.rematch_program.specs.Complete.{Completes};
 ghost use Rattle.rematch_program.specs.Run.{FromAsked, FromCursor, FromDocument, FromPlace, FromQuery, FromText, FromWords, Gives, Is, IsNotBegun, IsOutOfMemory, IsTooLarge, Reports, Run, store};
 
 use crate::ending::Ending;
 use crate::explanation::write_explanation;
-use crate::notes::{fault_note, limit_note};
+use crate::notes::{fault_note, limit_note, other_document_note};
 use crate::page::write_page;
 use crate::summary::write_summary;
 use crate::{DOCUMENT_LIMIT, QUERY_LIMIT};
@@ -36,7 +36,7 @@ use marked_automaton::SizeFault;
 use query_parser::{QueryFault, read_query};
 use rm_outside::{FetchFault, Shelf, Sink, Status};
 use row_cursor::CursorFault;
-use span_core::{OutOfMemory, Row, Steps};
+use span_core::{Kept, OutOfMemory, Steps};
 use spanner_engine::{Answers, BeginFault, Compiled, Options, begin, compile};
 use spanner_model::Query;
 use std::alloc::Global;
@@ -46,7 +46,7 @@ use trial_maker::trial;
 /// Runs the program on the words after its name.
 ///
 /// The first of these steps that cannot be taken decides the status: the words, the fetch of the
-/// query, its text, the sizes of its automata, the cursor's text, the fetch of the document, the cursor's
+/// query, its text, the sizes of its automata, the cursor's text, the fetch of the document, the cursor's length or
 /// place, the filter, the table, the page. Want of memory may stand in place of any of them. Until the page is begun out gets nothing. The work done,
 /// notes gets one line. The page is put on out in whole lines, as many at once as fit 65,536 bytes; a
 /// line that is longer is put alone, and no put is empty.
@@ -251,18 +251,18 @@ fn with_cursor<S: Shelf, O: Sink, L: Ledger>(
         None => return with_place(alloc, request, compiled, None, shelf, out, steps),
     };
     match row_cursor::read(text.as_bytes(), compiled.vars()) {
-        Ok(row) => with_place(alloc, request, compiled, Some(&row), shelf, out, steps),
+        Ok(kept) => with_place(alloc, request, compiled, Some(&kept), shelf, out, steps),
         Err(CursorFault::Syntax) => Ending::with(Status::Cursor, "cursor: not a cursor\n"),
         Err(CursorFault::Variables) => Ending::with(Status::Cursor, "cursor: other variables\n"),
     }
 }
 
-/// The document is fetched, for a page that begins after this row.
+/// The document is fetched, for a page that begins after the row that is kept.
 fn with_place<S: Shelf, O: Sink, L: Ledger>(
     alloc: Global,
     request: &Request<'_>,
     compiled: &Compiled<'_>,
-    after: Option<&Row>,
+    after: Option<&Kept>,
     shelf: &mut S,
     out: &mut O,
     steps: &mut Steps<L>,
@@ -285,12 +285,12 @@ fn with_place<S: Shelf, O: Sink, L: Ledger>(
     }
 }
 
-/// The answers after this row are begun, for a page of them.
+/// The answers after the row that is kept are begun, for a page of them.
 fn with_document<O: Sink, L: Ledger>(
     alloc: Global,
     request: &Request<'_>,
     compiled: &Compiled<'_>,
-    after: Option<&Row>,
+    after: Option<&Kept>,
     document: &[u8],
     out: &mut O,
     steps: &mut Steps<L>,
@@ -351,23 +351,23 @@ fn with_lines<O: Sink, L: Ledger>(
     }
 }
 
-/// The answers on a document after a row, or how a run ends that has none.
+/// The answers on a document after the row that is kept, or how a run ends that has none.
 fn begun<L: Ledger>(
     alloc: Global,
     request: &Request<'_>,
     compiled: &Compiled<'_>,
-    after: Option<&Row>,
+    after: Option<&Kept>,
     document: &[u8],
     steps: &mut Steps<L>,
 ) -> Result<Answers, Ending>
     requires short { length document.now ≤ DOCUMENT_LIMIT }
-    requires width { HasWidth (length compiled.now.automaton.names) (option_copied after) }
-    ensures fits { OnOk result (cursor_fits (length document.now) (option_copied after.entry) ≡ true) }
-    ensures left { IfOk result (λ a. AreLeft (query_of compiled.now.query) document.now compiled.now.automaton.names (option_copied after.entry) a.rest) }
+    requires width { HasWidth (length compiled.now.automaton.names) (row_kept (option_copied after)) }
+    ensures fits { OnOk result (CursorFits (length document.now) (option_copied after.entry)) }
+    ensures left { IfOk result (λ a. AreLeft (query_of compiled.now.query) document.now compiled.now.automaton.names (row_kept (option_copied after.entry)) a.rest) }
     ensures variables { IfOk result (λ a. a.variables ≡ length compiled.now.automaton.names) }
     ensures ending { IfErr result (λ e. IsNotBegun (request_view request.now).filter (query_of compiled.now.query) (option_copied after.entry) document.now (request_view request.now).max_table (clock steps.old steps.new) e.status (note_bytes e.note)) }
     ensures steps { KeepsWithin (request_view request.now).filter (query_of compiled.now.query) document.now
-        (λ K. begin_steps (request_view request.now).filter (query_of compiled.now.query) document.now K (option_copied after.entry)) (clock steps.old steps.new) }
+        (λ K. begin_steps (request_view request.now).filter (query_of compiled.now.query) document.now K (row_kept (option_copied after.entry))) (clock steps.old steps.new) }
 {
     let options = Options {
         filter: request.filter,
@@ -375,6 +375,7 @@ fn begun<L: Ledger>(
     };
     match begin(alloc, compiled, document, after, options, steps) {
         Ok(answers) => Ok(answers),
+        Err(BeginFault::CursorOther { kept, found }) => Err(of_another(alloc, kept, found)),
         Err(BeginFault::CursorPlace) => Err(Ending::with(
             Status::Cursor,
             "cursor: past the document\n",
@@ -386,6 +387,19 @@ fn begun<L: Ledger>(
             Err(past_limit(alloc, "size: table past ", request.max_table))
         }
         Err(BeginFault::OutOfMemory) => Err(Ending::out_of_memory()),
+    }
+}
+
+/// The cursor is that of a document of `kept` bytes, and this one has `found`.
+fn of_another(alloc: Global, kept: u32, found: u32) -> Ending
+    ensures { Is result.status (note_bytes result.note) Status.Cursor (other_document_text kept found) ⊎ IsOutOfMemory result.status (note_bytes result.note) }
+{
+    match other_document_note(alloc, kept, found) {
+        Ok(note) => Ending {
+            status: Status::Cursor,
+            note,
+        },
+        Err(OutOfMemory) => Ending::out_of_memory(),
     }
 }
 

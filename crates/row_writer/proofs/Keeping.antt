@@ -1,5 +1,5 @@
 -- Fields that are kept.
-use Rattle.std.proofs.Common.{◌≡◌, ℕ, zero, suc, ◌+◌, ◌<◌, ◌≤◌, Bool, ◌&&◌, true, false, nat_le, List, [], ◌∷◌, ◌++◌, length, take, drop, map, set, get_or, refl, sym, ap, ap₂, ◌∙◌, zero-add, append_assoc, arith, Some}
+use Rattle.std.proofs.Common.{◌≡◌, ℕ, zero, suc, ◌+◌, ◌<◌, ◌≤◌, Bool, ◌&&◌, true, false, nat_le, List, [], ◌∷◌, ◌++◌, length, take, drop, map, set, get_or, refl, sym, ap, ap₂, ◌∙◌, zero-add, append_assoc, arith, Option}
 use Rattle.std.proofs.lemmas.List.{take-take, take-append-le, length-take-le}
 use Rattle.std.specs.List.{list_all}
 use Rattle.std.proofs.lemmas.Bool.{leb-true}
@@ -88,18 +88,18 @@ heads_append [] f = refl
 heads_append (g ∷ fields) f = ap (λ (heads : List (List ℕ)). g.head ∷ heads) (heads_append fields f)
 
 -- one field more is written
-pub cells_more : (doc : List ℕ) (texts : Bool) (before after head : List ℕ) (heads heads' : List (List ℕ)) (spans spans' : List Span) (span : Span) (whole : List ℕ) →
-    heads ≡ head ∷ heads' → spans ≡ span ∷ spans' → after ≡ before ++ (head ++ shown doc texts (Some span)) →
-    before ++ cells_text doc texts heads (map Some spans) ≡ whole → after ++ cells_text doc texts heads' (map Some spans') ≡ whole
-cells_more doc texts before after head heads heads' spans spans' span whole e f g h =
-    let rest = cells_text doc texts heads' (map Some spans') in
-    let all : cells_text doc texts heads (map Some spans) ≡ head ++ (shown doc texts (Some span) ++ rest) =
-    ap₂ (λ (hs : List (List ℕ)) (ss : List Span). cells_text doc texts hs (map Some ss)) e f in
-    ap (λ (xs : List ℕ). xs ++ rest) g ∙ append_assoc before (head ++ shown doc texts (Some span)) rest
-    ∙ ap (λ (xs : List ℕ). before ++ xs) (append_assoc head (shown doc texts (Some span)) rest ∙ sym all) ∙ h
+pub cells_more : (doc : List ℕ) (texts : Bool) (before after head : List ℕ) (heads heads' : List (List ℕ)) (row row' : List (Option Span)) (span : Option Span) (whole : List ℕ) →
+    heads ≡ head ∷ heads' → row ≡ span ∷ row' → after ≡ before ++ (head ++ shown doc texts span) →
+    before ++ cells_text doc texts heads row ≡ whole → after ++ cells_text doc texts heads' row' ≡ whole
+cells_more doc texts before after head heads heads' row row' span whole e f g h =
+    let rest = cells_text doc texts heads' row' in
+    let all : cells_text doc texts heads row ≡ head ++ (shown doc texts span ++ rest) =
+    ap₂ (λ (hs : List (List ℕ)) (r : List (Option Span)). cells_text doc texts hs r) e f in
+    ap (λ (xs : List ℕ). xs ++ rest) g ∙ append_assoc before (head ++ shown doc texts span) rest
+    ∙ ap (λ (xs : List ℕ). before ++ xs) (append_assoc head (shown doc texts span) rest ∙ sym all) ∙ h
 
-pub room_more : (texts : Bool) (spans spans' : List Span) (span : Span) → spans ≡ span ∷ spans' → line_room texts spans ≡ (64 + quote_room texts span) + line_room texts spans'
-room_more texts spans spans' span is = ap (line_room texts) is
+pub room_more : (texts : Bool) (row row' : List (Option Span)) (span : Option Span) → row ≡ span ∷ row' → line_room texts row ≡ (64 + quote_room texts span) + line_room texts row'
+room_more texts row row' span is = ap (line_room texts) is
 
 -- a name more is kept
 pub names_more : (heads : List (List ℕ)) (head name : List ℕ) (names names' : List (List ℕ)) (whole new : List (List ℕ)) → names ≡ name ∷ names' → head ≡ 32 ∷ (name ++ 61 ∷ []) → new ≡ heads ++ head ∷ []
@@ -113,13 +113,3 @@ pub tabs_more : (heads : List (List ℕ)) (head name : List ℕ) (names names' :
 tabs_more heads head name names names' whole new e f g h =
     ap (λ (xs : List (List ℕ)). xs ++ more_tabs names') (g ∙ ap (λ (x : List ℕ). heads ++ x ∷ []) f) ∙ append_assoc heads ((9 ∷ []) ∷ []) (more_tabs names')
     ∙ sym (ap (λ (ns : List (List ℕ)). heads ++ more_tabs ns) e) ∙ h
-
-both : (a b : Bool) → (a && b) ≡ true → (a ≡ true) × (b ≡ true)
-both true b e = (refl, e)
-both false b e = absurd (cc)
-
--- a span of a row ends where all spans do
-pub span_inside : (n : ℕ) (spans : List Span) (k : ℕ) (d : Span) → k < length spans → list_all (ends_by n) (map Some spans) ≡ true → (get_or spans k d).end ≤ n
-span_inside n [] k d l h = absurd (omega arith)
-span_inside n (span ∷ spans) zero d l h = leb-true span.end n (both (nat_le span.end n) (list_all (ends_by n) (map Some spans)) h).0
-span_inside n (span ∷ spans) (suc k) d l h = span_inside n spans k d (omega arith) (both (nat_le span.end n) (list_all (ends_by n) (map Some spans)) h).1

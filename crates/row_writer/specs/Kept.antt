@@ -1,5 +1,5 @@
 -- Lines of which the fields are kept from one row to the next.
-use Rattle.std.specs.Prelude.{ℕ, ◌+◌, ◌-◌, ◌*◌, if◌then◌else◌, Bool, List, [], ◌∷◌, ◌++◌, Option}
+use Rattle.std.specs.Prelude.{ℕ, ◌+◌, ◌-◌, ◌*◌, if◌then◌else◌, Bool, List, [], ◌∷◌, ◌++◌, Option, None, Some}
 use Rattle.span_core.specs.declared.span.Span.{Span}
 use Rattle.row_writer.specs.Lines.{shown}
 
@@ -44,9 +44,10 @@ kept_text [] row doc texts = 40 ∷ 41 ∷ 10 ∷ []
 kept_text (head ∷ heads) row doc texts = cells_text doc texts (head ∷ heads) row
 
 -- the room of a line: 64 bytes for each field, its text where that is asked for, and 64 more
-abbrev pub quote_room : Bool → Span → ℕ
-quote_room texts span = if texts then 2 + 4 * (span.end - span.start) else 0
+abbrev pub quote_room : Bool → Option Span → ℕ
+quote_room texts None = 0
+quote_room texts (Some span) = if texts then 2 + 4 * (span.end - span.start) else 0
 
-abbrev pub line_room : Bool → List Span → ℕ
+abbrev pub line_room : Bool → List (Option Span) → ℕ
 line_room texts [] = 64
-line_room texts (span ∷ spans) = (64 + quote_room texts span) + line_room texts spans
+line_room texts (span ∷ row) = (64 + quote_room texts span) + line_room texts row

@@ -1,7 +1,7 @@
 //! A field of a line, kept from one row to the next.
 ghost use Rattle.std.specs.Prelude.{◌≡◌, ℕ, ◌+◌, ◌≤◌, ◌++◌, ◌∷◌, [], take, length, IsTrue};
 ghost use Rattle.std.specs.Bool.{OnTrue, OnFalse};
-ghost use Rattle.cell_text.specs.Cells.{span_text};
+ghost use Rattle.cell_text.specs.Cells.{cell, span_text};
 
 use cell_text::{put_byte, put_bytes, put_number};
 use span_core::{Name, Span};
@@ -87,9 +87,34 @@ impl Field {
         }
     }
 
+    /// Writes the head and the cell of a span at a position, and says where they end. A span that is there is taken.
+    #[inline(always)]
+    pub(crate) fn put(&mut self, span: Option<Span>, buffer: &mut [u8], at: usize) -> usize
+        requires { at + FIELD_BYTES ≤ length buffer.old }
+        ensures head { self.new.head ≡ self.old.head }
+        ensures end { result ≤ at + 55 }
+        ensures text { take result buffer.new ≡ take at buffer.old ++ (self.old.head ++ cell span) }
+    {
+        match span {
+            Some(span) => self.put_span(span, buffer, at),
+            None => self.put_absent(buffer, at),
+        }
+    }
+
+    /// Writes the head and `-` at a position. The span that was taken last stays.
+    #[inline(always)]
+    fn put_absent(&self, buffer: &mut [u8], at: usize) -> usize
+        requires { at + FIELD_BYTES ≤ length buffer.old }
+        ensures end { result ≤ at + 55 }
+        ensures text { take result buffer.new ≡ take at buffer.old ++ (self.now.head ++ 45 ∷ []) }
+    {
+        let _whole = put_bytes(&self.bytes, buffer, at);
+        put_byte(b'-', buffer, at + self.head)
+    }
+
     /// Takes a span, writes the head and its cell at a position, and says where they end.
     #[inline(always)]
-    pub(crate) fn put(&mut self, span: Span, buffer: &mut [u8], at: usize) -> usize
+    fn put_span(&mut self, span: Span, buffer: &mut [u8], at: usize) -> usize
         requires { at + FIELD_BYTES ≤ length buffer.old }
         ensures head { self.new.head ≡ self.old.head }
         ensures end { result ≤ at + 55 }

@@ -1,5 +1,5 @@
 //! The lines of one row after another, of which what stays the same is not written anew.
-ghost use Rattle.std.specs.Prelude.{◌≡◌, ℕ, ◌+◌, ◌^◌, ◌≤◌, ◌++◌, take, length, map, Some, IsTrue, IfOk};
+ghost use Rattle.std.specs.Prelude.{◌≡◌, ℕ, ◌+◌, ◌^◌, ◌≤◌, ◌++◌, take, length, IsTrue, IfOk};
 ghost use Rattle.std.specs.List.{list_all};
 ghost use Rattle.cell_text.specs.Cells.{ends_by};
 ghost use Rattle.row_writer.specs.Kept.{cells_text, heads_of, kept_text, line_room, quote_room, spans_heads, table_heads};
@@ -65,18 +65,18 @@ impl KeptLine {
     #[inline(always)]
     pub fn put(
         &mut self,
-        spans: &[Span],
+        spans: &[Option<Span>],
         doc: &[u8],
         texts: bool,
         buffer: &mut [u8],
         at: usize,
     ) -> usize
         requires lengths { length spans.now ≡ length self.old }
-        requires inside { IsTrue (list_all (ends_by (length doc.now)) (map Some spans.now)) }
+        requires inside { IsTrue (list_all (ends_by (length doc.now)) spans.now) }
         requires room { at + line_room texts spans.now ≤ length buffer.old }
         ensures heads { self.new ≡ self.old }
         ensures end { result ≤ at + line_room texts spans.now }
-        ensures text { take result buffer.new ≡ take at buffer.old ++ kept_text self.old (map Some spans.now) doc.now texts }
+        ensures text { take result buffer.new ≡ take at buffer.old ++ kept_text self.old spans.now doc.now texts }
     {
         if spans.is_empty() {
             return put_bytes(b"()\n", buffer, at);
@@ -87,7 +87,7 @@ impl KeptLine {
 
 /// The room that the line of a row needs where it is written by `KeptLine::put`.
 #[inline(always)]
-pub fn kept_room(spans: &[Span], texts: bool) -> usize
+pub fn kept_room(spans: &[Option<Span>], texts: bool) -> usize
     requires { length spans.now ≤ MOST_VARIABLES }
     ensures { result ≡ line_room texts spans.now }
 {
@@ -100,32 +100,31 @@ pub fn kept_room(spans: &[Span], texts: bool) -> usize
 
 /// The room of a field, with its text where that is asked for.
 #[inline(always)]
-fn field_room(span: Span, texts: bool) -> usize
+fn field_room(span: Option<Span>, texts: bool) -> usize
     ensures value { result ≡ FIELD_BYTES + quote_room texts span }
     ensures few { result ≤ 2 ^ 35 }
 {
-    if texts {
-        FIELD_BYTES + 2 + 4 * (span.end - span.start) as usize
-    } else {
-        FIELD_BYTES
+    match span {
+        Some(span) if texts => FIELD_BYTES + 2 + 4 * (span.end - span.start) as usize,
+        _ => FIELD_BYTES,
     }
 }
 
 #[inline(always)]
 fn put_fields(
     fields: &mut [Field],
-    spans: &[Span],
+    spans: &[Option<Span>],
     doc: &[u8],
     texts: bool,
     buffer: &mut [u8],
     at: usize,
 ) -> usize
     requires lengths { length spans.now ≡ length fields.old }
-    requires inside { IsTrue (list_all (ends_by (length doc.now)) (map Some spans.now)) }
+    requires inside { IsTrue (list_all (ends_by (length doc.now)) spans.now) }
     requires room { at + line_room texts spans.now ≤ length buffer.old }
     ensures heads { heads_of fields.new ≡ heads_of fields.old }
     ensures end { result ≤ at + line_room texts spans.now }
-    ensures text { take result buffer.new ≡ take at buffer.old ++ cells_text doc.now texts (heads_of fields.old) (map Some spans.now) }
+    ensures text { take result buffer.new ≡ take at buffer.old ++ cells_text doc.now texts (heads_of fields.old) spans.now }
 {
     let mut end = at;
     for k in 0..spans.len() {
@@ -138,22 +137,21 @@ fn put_fields(
 #[inline(always)]
 fn put_kept(
     field: &mut Field,
-    span: Span,
+    span: Option<Span>,
     doc: &[u8],
     texts: bool,
     buffer: &mut [u8],
     at: usize,
 ) -> usize
-    requires inside { span.end ≤ length doc.now }
+    requires inside { IsTrue (ends_by (length doc.now) span) }
     requires room { at + FIELD_BYTES + quote_room texts span ≤ length buffer.old }
     ensures head { field.new.head ≡ field.old.head }
     ensures end { result ≤ at + FIELD_BYTES + quote_room texts span }
-    ensures text { take result buffer.new ≡ take at buffer.old ++ (field.old.head ++ shown doc.now texts (Some span)) }
+    ensures text { take result buffer.new ≡ take at buffer.old ++ (field.old.head ++ shown doc.now texts span) }
 {
     let end = field.put(span, buffer, at);
-    if texts {
-        put_quoted(span, doc, buffer, end)
-    } else {
-        end
+    match span {
+        Some(span) if texts => put_quoted(span, doc, buffer, end),
+        _ => end,
     }
 }

@@ -1,8 +1,9 @@
 //! How much room a line needs at most.
 //!
 //! A bound by the row alone, so that one growth serves a line and writing it cannot fail.
-ghost use Rattle.std.specs.Prelude.{◌≡◌, ◌+◌, ◌≤◌, ◌^◌, Some};
+ghost use Rattle.std.specs.Prelude.{◌≡◌, ◌+◌, ◌≤◌, ◌^◌};
 ghost use Rattle.row_writer.specs.Room.{fields_room, shown_room};
+ghost use Rattle.cell_text.specs.declared.TheConstants.{MOST_SPAN_BYTES};
 
 use cell_text::MOST_SPAN_BYTES;
 use span_core::{MOST_NAME_BYTES, Row, Span};
@@ -20,12 +21,12 @@ pub fn line_room(row: &Row, texts: bool) -> usize
 }
 
 /// The room of a cell, with its text in quotes where that is asked for.
-fn cell_room(span: Span, texts: bool) -> usize
-    ensures { result ≡ shown_room texts (Some span) }
+fn cell_room(span: Option<Span>, texts: bool) -> usize
+    ensures value { result ≡ shown_room texts span }
+    ensures few { result ≤ 2 ^ 34 + MOST_SPAN_BYTES + 2 }
 {
-    if texts {
-        MOST_SPAN_BYTES + 2 + 4 * (span.end - span.start) as usize
-    } else {
-        MOST_SPAN_BYTES
+    match span {
+        Some(span) if texts => MOST_SPAN_BYTES + 2 + 4 * (span.end - span.start) as usize,
+        _ => MOST_SPAN_BYTES,
     }
 }

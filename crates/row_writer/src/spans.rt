@@ -52,10 +52,10 @@ fn put_spans(
     if vars.len() == 0 {
         return put_bytes(b"()\n", buffer, at);
     }
-    let mut end = put_field(vars.at(0), Some(row.at(0)), doc, texts, buffer, at);
+    let mut end = put_field(vars.at(0), row.at(0), doc, texts, buffer, at);
     for k in 1..vars.len() {
         end = put_byte(b' ', buffer, end);
-        end = put_field(vars.at(k), Some(row.at(k)), doc, texts, buffer, end);
+        end = put_field(vars.at(k), row.at(k), doc, texts, buffer, end);
     }
     put_byte(b'\n', buffer, end)
 }

@@ -43,10 +43,10 @@ fn put_cells(row: &Row, doc: &[u8], texts: bool, buffer: &mut [u8], at: usize) -
     if row.len() == 0 {
         return put_bytes(b"()\n", buffer, at);
     }
-    let mut end = put_shown(Some(row.at(0)), doc, texts, buffer, at);
+    let mut end = put_shown(row.at(0), doc, texts, buffer, at);
     for k in 1..row.len() {
         end = put_byte(b'\t', buffer, end);
-        end = put_shown(Some(row.at(k)), doc, texts, buffer, end);
+        end = put_shown(row.at(k), doc, texts, buffer, end);
     }
     put_byte(b'\n', buffer, end)
 }

@@ -1,5 +1,5 @@
 //! Lines to the byte, worked out by hand.
-use crate::{json_line, spans_line, table_head, table_line};
+use crate::{KeptLine, json_line, spans_line, table_head, table_line};
 use linked_list_allocator::LocalHeap;
 use span_core::{Name, OutOfMemory, Row, Span, VarSet};
 use std::test::Fail;
@@ -22,8 +22,8 @@ fn names(texts: &[&[u8]]) -> VarSet {
 fn lines(rt: HostRuntime) -> Result<(), Fail> {
     let vars = names(&[b"x", b"y"]);
     let mut row = Row::empty();
-    row.push(Span::new(0, 2));
-    row.push(Span::new(2, 3));
+    row.push(Some(Span::new(0, 2)));
+    row.push(Some(Span::new(2, 3)));
     let doc = b"a\n\x7f";
     let mut out = Vec::new(rt.alloc());
     assert_eq!(rt; vars.len(), 2);
@@ -37,6 +37,43 @@ fn lines(rt: HostRuntime) -> Result<(), Fail> {
     let expected =
         b"x=0-2 y=2-3\nx=0-2\"a\\n\" y=2-3\"\\x7f\"\nx\ty\n0-2\t2-3\n0-2\"a\\n\"\t2-3\"\\x7f\"\n{\"x\":[0,2],\"y\":[2,3]}\n{\"x\":[0,2,\"a\\\\n\"],\"y\":[2,3,\"\\\\x7f\"]}\n";
     assert_eq!(rt; out.as_slice(), expected.as_slice());
+    Ok(())
+}
+
+/// An absent span is `-`, without a text, and `null`.
+#[test]
+fn absent_spans(rt: HostRuntime) -> Result<(), Fail> {
+    let vars = names(&[b"x", b"y"]);
+    let mut row = Row::empty();
+    row.push(None);
+    row.push(Some(Span::new(0, 1)));
+    let doc = b"ab";
+    let mut out = Vec::new(rt.alloc());
+    assert_eq!(rt; vars.len(), 2);
+    spans_line(&vars, &row, doc, false, &mut out)?;
+    spans_line(&vars, &row, doc, true, &mut out)?;
+    table_line(&vars, &row, doc, false, &mut out)?;
+    table_line(&vars, &row, doc, true, &mut out)?;
+    json_line(rt.alloc(), &vars, &row, doc, false, &mut out)?;
+    json_line(rt.alloc(), &vars, &row, doc, true, &mut out)?;
+    let expected =
+        b"x=- y=0-1\nx=- y=0-1\"a\"\n-\t0-1\n-\t0-1\"a\"\n{\"x\":null,\"y\":[0,1]}\n{\"x\":null,\"y\":[0,1,\"a\"]}\n";
+    assert_eq!(rt; out.as_slice(), expected.as_slice());
+    Ok(())
+}
+
+/// A field goes from a span to none, which has no text.
+#[test]
+fn kept_lines(rt: HostRuntime) -> Result<(), Fail> {
+    let vars = names(&[b"x"]);
+    let mut line = KeptLine::spans(rt.alloc(), &vars)?;
+    let (doc, span) = (b"ab", Span::new(0, 1));
+    let mut buffer = [0; 512];
+    assert_eq!(rt; vars.len(), 1);
+    let end = line.put(&[Some(span)], doc, true, &mut buffer, 0);
+    assert_eq!(rt; &buffer[..end], b"x=0-1\"a\"\n".as_slice());
+    let end = line.put(&[None], doc, true, &mut buffer, 0);
+    assert_eq!(rt; &buffer[..end], b"x=-\n".as_slice());
     Ok(())
 }
 
@@ -56,7 +93,7 @@ fn lines_without_variables(rt: HostRuntime) -> Result<(), Fail> {
 fn each_byte(rt: HostRuntime) -> Result<(), Fail> {
     let vars = names(&[b"all"]);
     let mut row = Row::empty();
-    row.push(Span::new(0, 256));
+    row.push(Some(Span::new(0, 256)));
     let mut doc = Vec::new(rt.alloc());
     for byte in 0..=255 {
         doc.push(byte)?;
@@ -78,7 +115,7 @@ fn each_byte(rt: HostRuntime) -> Result<(), Fail> {
 fn refused(rt: HostRuntime) -> Result<(), Fail> {
     let vars = names(&[b"x"]);
     let mut row = Row::empty();
-    row.push(Span::new(0, 2));
+    row.push(Some(Span::new(0, 2)));
     let (doc, lack) = (b"ab", Err(OutOfMemory));
     let heap = LocalHeap::new(rt.alloc(), 16)?;
     let mut out = Vec::new(&heap);

@@ -66,8 +66,8 @@ fn write_rows(alloc: Global, form: Form, rows: u32) -> Result<u64, OutOfMemory> 
     for i in 0..rows {
         let at = i % 900_000;
         let mut row = Row::empty();
-        row.push(Span::new(at, at + 7));
-        row.push(Span::new(at + 3, at + 19));
+        row.push(Some(Span::new(at, at + 7)));
+        row.push(Some(Span::new(at + 3, at + 19)));
         if row.len() == vars.len() && doc.len() == 1_000_000 && fits(&row, DOCUMENT_BYTES) {
             write_row(alloc, &vars, &row, &doc, form, &mut out)?;
         }

@@ -6,7 +6,6 @@ use Rattle.std.proofs.lemmas.Bool.{eq-eqb, eqb-true, lt-ltb, ltb-true}
 use Rattle.std.proofs.lemmas.List.{get_or-reverse, length-reverse}
 use Rattle.std.proofs.lemmas.Option.{get_or_from_slice_get, slice_get-get_or}
 use Rattle.spanner_model.specs.Captures.{VarName}
-use Rattle.spanner_model.specs.Functional.{IsFunctional}
 use Rattle.span_core.specs.Lists.{Has}
 use Rattle.spanner_model.specs.Tree.{Tree}
 use Rattle.spanner_model.specs.WellBuilt.{IsWellBuilt}
@@ -19,10 +18,10 @@ use Rattle.marked_automaton.specs.Reduct.{IsReduct, Rearranges, same_below}
 use Rattle.marked_automaton.proofs.Listed.{compared, some_same}
 use Rattle.marked_automaton.proofs.Passing.{filter_cases, has_filter}
 use Rattle.place_automaton.specs.Places.{Places, placed}
-use Rattle.place_automaton.specs.Sequential.{HasOrderedRepeats, IsSequential}
+use Rattle.spanner_model.specs.Sequential.{IsSequential}
+use Rattle.place_automaton.specs.Repeats.{HasOrderedRepeats}
 use Rattle.place_automaton.specs.Words.{atom_automaton, closing_of, opening_of}
 use Rattle.place_automaton.proofs.BuiltRepeats.{ordered_repeats}
-use Rattle.place_automaton.proofs.CountLaws.{functional_sequential}
 use Rattle.place_automaton.proofs.WholeLaws.{whole_law}
 use Rattle.place_automaton.specs.Atom.{AreBytes, after_ways, automaton_of_places, place_stops, way_after}
 use Rattle.place_automaton.proofs.AtomRuns.{after_there, first_there, follow_there, way_cases}
@@ -312,9 +311,9 @@ module _ (names : List VarName) (s t : Bool) (f : Tree) (A : Automaton) (whole :
   pub plain_states : A.states ≡ 1 + places_of names f + (if t then 0 else 1)
   plain_states = plain_steps.states
 
-  pub plain_readings : IsWellBuilt f → IsFunctional f → (most : ℕ) → most ≡ places_of names f → AreReadingsOf s t f Plain (turned Plain) most
-  plain_readings built functional most is =
-      are_readings names s t f (functional_sequential f functional) (ordered_repeats f built) Plain plain_steps plain_none most is
+  pub plain_readings : IsWellBuilt f → IsSequential f → (most : ℕ) → most ≡ places_of names f → AreReadingsOf s t f Plain (turned Plain) most
+  plain_readings built sequential most is =
+      are_readings names s t f sequential (ordered_repeats f built) Plain plain_steps plain_none most is
 
 pub last_place : (t : Bool) (states places beyond : ℕ) → states ≡ 1 + places + (if t then 0 else 1) → ((t ≡ true) × (beyond ≡ 1)) ⊎ ((t ≡ false) × (beyond ≡ 2)) →
     (beyond ≤ states) × (states - beyond ≡ places)
@@ -324,10 +323,10 @@ last_place true states places beyond e (inr h) = absurd (let f = h.0 in cc)
 last_place false states places beyond e (inr h) = (omega (arith, e, h.1), omega (arith, e, h.1))
 
 module _ (names : List VarName) (s t : Bool) (f : Tree) (A : Automaton) (whole : IsWhole A) (r : Rearranges A (atom_automaton names s t f)) where
-  pub readings_made : IsWellBuilt f → IsFunctional f → (keep : List VarName) (F R : Automaton) (most : ℕ) → keep ≡ [] → F ≡ remarked (left_of names keep) A → R ≡ turned F →
+  pub readings_made : IsWellBuilt f → IsSequential f → (keep : List VarName) (F R : Automaton) (most : ℕ) → keep ≡ [] → F ≡ remarked (left_of names keep) A → R ≡ turned F →
       most ≡ places_of names f → AreReadingsOf s t f F R most
-  readings_made built functional keep F R most none is back places =
+  readings_made built sequential keep F R most none is back places =
       let plain : Plain names s t f A whole r ≡ F = sym (is ∙ ap (λ k. remarked (left_of names k) A) none) in
       let turned_plain : turned (Plain names s t f A whole r) ≡ R = ap turned plain ∙ sym back in
       subst (λ (X : Automaton). AreReadingsOf s t f X R most) plain
-      (subst (λ (Y : Automaton). AreReadingsOf s t f (Plain names s t f A whole r) Y most) turned_plain (plain_readings names s t f A whole r built functional most places))
+      (subst (λ (Y : Automaton). AreReadingsOf s t f (Plain names s t f A whole r) Y most) turned_plain (plain_readings names s t f A whole r built sequential most places))

@@ -5,7 +5,7 @@
 ghost use Rattle.std.specs.Prelude.{◌≡◌, [], map, IfOk};
 ghost use Rattle.std.specs.List.{filter};
 ghost use Rattle.marked_automaton.specs.Automaton.{turned_way};
-ghost use Rattle.spanner_model.specs.Functional.{HasVar, IsFunctional};
+ghost use Rattle.spanner_model.specs.Sequential.{HasVar, IsSequential};
 ghost use Rattle.span_core.specs.Lists.{AtMost};
 ghost use Rattle.spanner_model.specs.View.{tree_of};
 ghost use Rattle.spanner_model.specs.WellBuilt.{IsWellBuilt};
@@ -34,7 +34,7 @@ pub(crate) struct Readings {
 impl Readings {
     pub(crate) fn of(alloc: Global, atom: &Atom) -> Result<Readings, FilterFault>
         requires built { IsWellBuilt (tree_of atom.now.formula) }
-        requires functional { IsFunctional (tree_of atom.now.formula) }
+        requires sequential { IsSequential (tree_of atom.now.formula) }
         requires few { AtMost MOST_VARIABLES (HasVar (tree_of atom.now.formula)) }
         ensures costs { IfOk result (λ r. CostAs (with_vars [] (tree_of atom.now.formula)) atom.now.from_start atom.now.to_end (tree_of atom.now.formula) r.forward.graph r.backward.graph) }
         ensures meet { IfOk result (λ r. AreReadingsOf atom.now.from_start atom.now.to_end (tree_of atom.now.formula) r.forward.graph r.backward.graph r.most) }

@@ -7,7 +7,7 @@ ghost use Rattle.segment_filter.specs.SetNumbers.{numbers_of};
 ghost use Rattle.set_table.specs.Tabled.{IsRefusal, Tabled, weight};
 ghost use Rattle.segment_filter.specs.Weights.{IsFullWithin, both_take, both_weigh, reading_rows, reading_weight};
 ghost use Rattle.span_core.specs.declared.TheConstants.{MOST_VARIABLES};
-ghost use Rattle.spanner_model.specs.Functional.{HasVar, IsFunctional};
+ghost use Rattle.spanner_model.specs.Sequential.{HasVar, IsSequential};
 ghost use Rattle.span_core.specs.Lists.{AtMost};
 ghost use Rattle.spanner_model.specs.View.{tree_of};
 ghost use Rattle.spanner_model.specs.WellBuilt.{IsWellBuilt};
@@ -40,7 +40,7 @@ pub fn touched<L: Ledger>(
     steps: &mut Steps<L>,
 ) -> Result<Touched, FilterFault>
     requires built { IsWellBuilt (tree_of atom.now.formula) }
-    requires functional { IsFunctional (tree_of atom.now.formula) }
+    requires sequential { IsSequential (tree_of atom.now.formula) }
     requires few { AtMost MOST_VARIABLES (HasVar (tree_of atom.now.formula)) }
     requires doc { length doc.now ≤ 2 ^ 28 }
     requires limit { limit ≤ 100000000 }

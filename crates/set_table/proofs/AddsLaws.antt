@@ -8,6 +8,7 @@ use Rattle.std.proofs.Math.Seq.{drop-append_seam}
 use Rattle.std.proofs.lemmas.List.{append-nil, length-map, take_all, take_more}
 use Rattle.std.proofs.lemmas.List.Elements.{filter-append}
 use Rattle.span_core.specs.declared.edge.Edge.{Edge}
+use Rattle.span_core.specs.declared.TheConstants.{MOST_VARIABLES}
 use Rattle.span_core.specs.Lists.{Has, IsInOrder}
 use Rattle.span_core.proofs.HasLaws.{Has-get_or, Has-map, Has-map_cases, Has-append_cases}
 use Rattle.marked_automaton.specs.declared.way.Stop.{Stop}
@@ -68,10 +69,10 @@ below_few n xs up l = let r = room_above xs 0 n up (λ p h. omega arith) l (omeg
 pub ready_set : (M : Marked) (sets : List (List ℕ)) (es : List Edge) (ends : List ℕ) (k : ℕ) → IsReady M sets es ends k → IsStateSet M.graph (set_at sets k)
 ready_set M sets es ends k r = r.states (set_at sets k) (Has-get_or sets k [] r.set)
 
-small_marks : (v m : ℕ) → v ≤ 16 → m < 2 ^ (2 * v) → m < 2 ^ 32
-small_marks v m l h = let p : 2 ^ (2 * v) ≤ 2 ^ 32 = pow_mono {i = 2 * v} {j = 32} (omega (arith, l)) in omega (arith, p, h)
+small_marks : (v m : ℕ) → v ≤ MOST_VARIABLES → m < 2 ^ (2 * v) → m < 2 ^ 64
+small_marks v m l h = let p : 2 ^ (2 * v) ≤ 2 ^ 64 = pow_mono {i = 2 * v} {j = 64} (omega (arith, l)) in omega (arith, p, h)
 
-pub narrow_ways : (M : Marked) (S : List ℕ) (b : ℕ) → IsMarked M → length M.names ≤ 16 → AreNarrow (ways_taken M.graph S b)
+pub narrow_ways : (M : Marked) (S : List ℕ) (b : ℕ) → IsMarked M → length M.names ≤ MOST_VARIABLES → AreNarrow (ways_taken M.graph S b)
 narrow_ways M S b marked few y h =
     let f = filter_cases (λ z. is_among S z.from && bytes.contains z.bytes b) M.graph.ways y h in
     (small_marks (length M.names) y.marks few (marked.way_marks y f.0), omega (arith, marked.whole.tos y f.0, marked.few_states))
@@ -86,7 +87,7 @@ codes_few M S b marked =
       marked.few_ways,
     )
 
-pub edges_cut : (M : Marked) (S : List ℕ) (b : ℕ) → IsMarked M → length M.names ≤ 16 → cut (set_of (map code_of (ways_taken M.graph S b))) ≡ edges M.graph S (byte_read b)
+pub edges_cut : (M : Marked) (S : List ℕ) (b : ℕ) → IsMarked M → length M.names ≤ MOST_VARIABLES → cut (set_of (map code_of (ways_taken M.graph S b))) ≡ edges M.graph S (byte_read b)
 edges_cut M S b marked few = cut_is (ways_taken M.graph S b) (narrow_ways M S b marked few)
 
 -- ---- edges that are added
@@ -149,7 +150,7 @@ rest_none sets es (p ∷ ps) l = absurd (omega (arith, l))
 
 -- ---- ends
 
-turned_down : (ns : List ℕ) → IsInOrder ◌<◌ ns → ((n : ℕ) → Has ns n → n < 2 ^ 32) → IsInOrder Above (map mark_of ns)
+turned_down : (ns : List ℕ) → IsInOrder ◌<◌ ns → ((n : ℕ) → Has ns n → n < 2 ^ 64) → IsInOrder Above (map mark_of ns)
 turned_down [] up small = tt
 turned_down (n ∷ ns) up small = (
   has_all (λ m. m < mark_of n) (map mark_of ns) (λ m h.
@@ -158,11 +159,11 @@ turned_down (n ∷ ns) up small = (
   turned_down ns up.1 (λ k h. small k (inr h)),
 )
 
-module _ (stops : List Stop) (small : (x : Stop) → Has stops x → x.marks < 2 ^ 32) where
+module _ (stops : List Stop) (small : (x : Stop) → Has stops x → x.marks < 2 ^ 64) where
   abbrev Turned : List ℕ
   Turned = set_of (map marks_code stops)
 
-  turned_small : (n : ℕ) → Has Turned n → n < 2 ^ 32
+  turned_small : (n : ℕ) → Has Turned n → n < 2 ^ 64
   turned_small n h = let x = Has-map_cases marks_code stops n (has_set (map marks_code stops) n h) in omega (arith, x.2)
 
   pub turned_are : map mark_of Turned ≡ blocks_down (map (λ (x : Stop). x.marks) stops)
@@ -177,15 +178,12 @@ module _ (stops : List Stop) (small : (x : Stop) → Has stops x → x.marks < 2
       subst (Has (map mark_of Turned)) (let e : mark_of (marks_code x.0) ≡ m = omega (arith, x.2, small x.0 x.1) in e)
       (Has-map mark_of Turned (marks_code x.0) (set_has (map marks_code stops) (marks_code x.0) (Has-map marks_code stops x.0 x.1))))
 
-small_stops : (M : Marked) (S : List ℕ) → IsMarked M → length M.names ≤ 16 → (x : Stop) → Has (filter (λ (y : Stop). is_among S y.state) M.graph.stops) x → x.marks < 2 ^ 32
+small_stops : (M : Marked) (S : List ℕ) → IsMarked M → length M.names ≤ MOST_VARIABLES → (x : Stop) → Has (filter (λ (y : Stop). is_among S y.state) M.graph.stops) x → x.marks < 2 ^ 64
 small_stops M S marked few x h =
     let f = filter_cases (λ (y : Stop). is_among S y.state) M.graph.stops x h in
     small_marks (length M.names) x.marks few (marked.stop_marks x f.0)
 
-pub marks_small : (M : Marked) (S : List ℕ) (n : ℕ) → Has (set_of (marks_among S M.graph.stops)) n → n < 2 ^ 32
-marks_small M S n h = let x = Has-map_cases marks_code (filter (λ (y : Stop). is_among S y.state) M.graph.stops) n (has_set (marks_among S M.graph.stops) n h) in omega (arith, x.2)
-
-pub adds_ends : (M : Marked) (sets : List (List ℕ)) (es : List Edge) (ends0 ends : List ℕ) (k first count : ℕ) (codes : List ℕ) → IsMarked M → length M.names ≤ 16 →
+pub adds_ends : (M : Marked) (sets : List (List ℕ)) (es : List Edge) (ends0 ends : List ℕ) (k first count : ℕ) (codes : List ℕ) → IsMarked M → length M.names ≤ MOST_VARIABLES →
     codes ≡ set_of (marks_among (set_at sets k) M.graph.stops) → ends ≡ ends0 ++ map mark_of codes → first ≡ length ends0 → count ≡ length ends - first → count < 2 ^ 63 →
     Adds M.graph sets sets es es ends0 ends (record { set = k; question = Ends; first = first; count = count }) (count + 1)
 adds_ends M sets es ends0 ends k first count codes marked few is put at n small =

@@ -16,7 +16,7 @@ abbrev pub marks_in : List Reach → List ℕ
 marks_in es = map (λ (e : Reach). e.marks) es
 
 -- the numbers of ways
-pub marks_of_code : (m t : ℕ) → m < 2 ^ 32 → t < 2 ^ 32 → marks_of (code m t) ≡ m
+pub marks_of_code : (m t : ℕ) → m < 2 ^ 64 → t < 2 ^ 32 → marks_of (code m t) ≡ m
 marks_of_code m t l h = omega arith
 
 pub to_of_code : (m t : ℕ) → t < 2 ^ 32 → to_of (code m t) ≡ t
@@ -25,7 +25,7 @@ to_of_code m t h = omega arith
 marks_fall : (n k : ℕ) → n < k → marks_of k ≤ marks_of n
 marks_fall n k l = omega arith
 
-targets_rise : (n k : ℕ) → n < k → k < 2 ^ 64 → marks_of n ≡ marks_of k → to_of n < to_of k
+targets_rise : (n k : ℕ) → n < k → k < 2 ^ 96 → marks_of n ≡ marks_of k → to_of n < to_of k
 targets_rise n k l h e = omega arith
 
 -- what a number is put before, by the marks of what comes first
@@ -136,7 +136,7 @@ cut_down (n ∷ ns) h = go (cut ns) (cut_down ns h.1) (λ e m. let r = cut_some 
             below {a} {b} l o = elim (cases_lt a b) as (λ _. a < b) [ inl k ↦ k | inr k ↦ absurd (o (omega (arith, l, k))) ]
 
 -- targets ascend
-pub cut_up : (ns : List ℕ) → IsInOrder ◌<◌ ns → ((n : ℕ) → Has ns n → n < 2 ^ 64) → (e : Reach) → Has (cut ns) e → IsInOrder ◌<◌ e.to
+pub cut_up : (ns : List ℕ) → IsInOrder ◌<◌ ns → ((n : ℕ) → Has ns n → n < 2 ^ 96) → (e : Reach) → Has (cut ns) e → IsInOrder ◌<◌ e.to
 cut_up [] h small e m = absurd m
 cut_up (x ∷ ns) h small e m = go (λ f k. cut_up ns h.1 (λ n g. small n (inr g)) f k) (joined x (cut ns) e m)
   where
@@ -168,7 +168,7 @@ all_told f (e ∷ es) h = let rest = all_told f es (λ x k. h x (inr k)) in (λ 
 
 -- ways of which a number has room for marks and target
 abbrev pub AreNarrow : List Way → Type 0
-AreNarrow ways = (y : Way) → Has ways y → (y.marks < 2 ^ 32) × (y.to < 2 ^ 32)
+AreNarrow ways = (y : Way) → Has ways y → (y.marks < 2 ^ 64) × (y.to < 2 ^ 32)
 
 module _ (ways : List Way) (narrow : AreNarrow ways) where
   abbrev Codes : List ℕ
@@ -186,7 +186,7 @@ module _ (ways : List Way) (narrow : AreNarrow ways) where
   code_to : (y : Way) → Has ways y → to_of (code_of y) ≡ y.to
   code_to y h = let l = narrow y h in to_of_code y.marks y.to l.1
 
-  code_small : (n : ℕ) → Has Codes n → n < 2 ^ 64
+  code_small : (n : ℕ) → Has Codes n → n < 2 ^ 96
   code_small n h = let y = way_there n h in let l = narrow y.0 y.1 in omega (arith, y.2, l.1)
 
   down : IsInOrder Above (marks_in (cut Codes))

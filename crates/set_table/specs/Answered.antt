@@ -2,6 +2,7 @@
 use Rattle.std.specs.Prelude.{◌≡◌, ℕ, suc, ◌+◌, ◌-◌, ◌*◌, ◌^◌, ◌<◌, ◌≤◌, ◌⊎◌, List, [], ◌++◌, replicate, map, length, take, drop, slice_get, slice_index, slice_index_or, Some, IsTrue, ◌↔◌}
 use Rattle.std.specs.Ordering.{nat_cmp}
 use Rattle.std.specs.FinSet as bytes
+use Rattle.span_core.specs.declared.TheConstants.{MOST_VARIABLES}
 use Rattle.span_core.specs.declared.edge.Edge.{Edge}
 use Rattle.span_core.specs.Lists.{Has}
 use Rattle.marked_automaton.specs.Automaton.{Automaton, Marked, IsMarked}
@@ -93,7 +94,7 @@ pub record AreStays (t : Tabled) (stays : List (bytes.FinSet nat_cmp)) : Type 0 
 -- what is true inside of a table
 pub record IsSound (M : Marked) (limit w : ℕ) (s : Store) : Type 0 where
   pub marked : IsMarked M
-  pub names : length M.names ≤ 16
+  pub names : length M.names ≤ MOST_VARIABLES
   pub small : limit ≤ 100000000
   pub light : w ≤ limit
   pub held : Holds M.graph s w
@@ -114,7 +115,7 @@ pub record Adds (A : Automaton) (sets0 sets : List (List ℕ)) (es0 es : List Ed
 -- what a set is asked with: an automaton of few variables, and few sets and edges
 pub record IsReady (M : Marked) (sets : List (List ℕ)) (es : List Edge) (ends : List ℕ) (k : ℕ) : Type 0 where
   pub marked : IsMarked M
-  pub names : length M.names ≤ 16
+  pub names : length M.names ≤ MOST_VARIABLES
   pub set : k < length sets
   pub states : (s : List ℕ) → Has sets s → IsStateSet M.graph s
   pub few_sets : length sets ≤ 100000000

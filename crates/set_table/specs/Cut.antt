@@ -8,13 +8,13 @@ use Rattle.marked_automaton.specs.Automaton.{ways_from}
 use Rattle.automaton_reading.specs.Reading.{Reach, is_among}
 
 abbrev pub code : ℕ → ℕ → ℕ
-code marks to = (4294967295 - marks) * 4294967296 + to
+code marks to = (18446744073709551615 - marks) * 4294967296 + to
 
 abbrev pub code_of : Way → ℕ
 code_of y = code y.marks y.to
 
 abbrev pub marks_of : ℕ → ℕ
-marks_of n = 4294967295 - n / 4294967296
+marks_of n = 18446744073709551615 - n / 4294967296
 
 abbrev pub to_of : ℕ → ℕ
 to_of n = n % 4294967296
@@ -32,10 +32,10 @@ abbrev pub codes_among : List ℕ → ℕ → List Way → List ℕ
 codes_among members b ways = map code_of (filter (λ y. is_among members y.from && bytes.contains y.bytes b) ways)
 
 abbrev pub marks_code : Stop → ℕ
-marks_code x = 4294967295 - x.marks
+marks_code x = 18446744073709551615 - x.marks
 
 abbrev pub mark_of : ℕ → ℕ
-mark_of n = 4294967295 - n
+mark_of n = 18446744073709551615 - n
 
 -- the marks of the ends of members, as numbers
 abbrev pub marks_among : List ℕ → List Stop → List ℕ

@@ -1,8 +1,7 @@
 //! Edges to numbered sets, cut from numbers in order.
 //!
 //! Each run of numbers with the same marks is an edge, and its targets, which ascend, are the set as it is kept.
-ghost use Rattle.std.specs.Prelude.{◌≡◌, ℕ, ◌+◌, ◌<◌, ◌≤◌, ◌^◌, ◌++◌, ◌∷◌, List, [], length, map, take, drop, slice_index, OnOk, IfOk};
-ghost use Rattle.span_core.specs.Lists.{Has};
+ghost use Rattle.std.specs.Prelude.{◌≡◌, ℕ, ◌+◌, ◌<◌, ◌≤◌, ◌++◌, ◌∷◌, List, [], length, map, take, drop, slice_index, OnOk, IfOk};
 ghost use Rattle.automaton_reading.specs.Reading.{Reach, rest_edge};
 ghost use Rattle.set_table.specs.Cut.{cut, mark_of, marks_of, to_of};
 ghost use Rattle.set_table.specs.Named.{IsLongerBy, PutsEdges, PutsRun, run};
@@ -15,7 +14,7 @@ use std::alloc::Global;
 /// that are new weigh. On refusal some of them may be there.
 pub(crate) fn put_edges(
     alloc: Global,
-    codes: &[u64],
+    codes: &[u128],
     sets: &mut Sets,
     edges: &mut Vec<Edge>,
 ) -> Result<u64, OutOfMemory>
@@ -66,14 +65,13 @@ pub(crate) fn put_rest(
     Ok(weight)
 }
 
-/// Appends marks that were turned into numbers.
-pub(crate) fn put_ends(codes: &[u64], ends: &mut Vec<Marks>) -> Result<(), OutOfMemory>
-    requires { (n : ℕ) → Has codes.now n → n < 2 ^ 32 }
+/// Appends the marks of ends, which were turned into numbers.
+pub(crate) fn put_ends(codes: &[u128], ends: &mut Vec<Marks>) -> Result<(), OutOfMemory>
     ensures put { OnOk result (ends.new.items ≡ ends.old.items ++ map mark_of codes.now) }
     ensures longer { IsLongerBy ends.old.items ends.new.items }
 {
     for code in codes {
-        ends.push(Marks::of(u32::MAX - *code as u32))?;
+        ends.push(Marks::of(turned(*code)))?;
     }
     Ok(())
 }
@@ -82,7 +80,7 @@ pub(crate) fn put_ends(codes: &[u64], ends: &mut Vec<Marks>) -> Result<(), OutOf
 /// weighs, with its set where that is new.
 fn put_edge(
     alloc: Global,
-    codes: &[u64],
+    codes: &[u128],
     sets: &mut Sets,
     edges: &mut Vec<Edge>,
 ) -> Result<(usize, u64), OutOfMemory>
@@ -111,14 +109,21 @@ fn put_edge(
 }
 
 /// The marks of a number.
-fn marks_of(code: u64) -> u32
+fn marks_of(code: u128) -> u64
     ensures { result ≡ marks_of code }
 {
-    u32::MAX - (code / 4_294_967_296) as u32
+    turned(code / 4_294_967_296)
+}
+
+/// The marks that were turned round to this number.
+fn turned(number: u128) -> u64
+    ensures { result ≡ mark_of number }
+{
+    u128::from(u64::MAX).saturating_sub(number) as u64
 }
 
 /// How many numbers have the marks of the first, from the first on.
-fn run_len(codes: &[u64]) -> usize
+fn run_len(codes: &[u128]) -> usize
     requires { 0 < length codes.now }
     ensures some { 0 < result }
     ensures within { result ≤ length codes.now }
@@ -134,7 +139,7 @@ fn run_len(codes: &[u64]) -> usize
 }
 
 /// The targets of numbers.
-fn targets_of(alloc: Global, codes: &[u64]) -> Result<Vec<u32>, OutOfMemory>
+fn targets_of(alloc: Global, codes: &[u128]) -> Result<Vec<u32>, OutOfMemory>
     ensures { IfOk result (λ v. v.items ≡ map to_of codes.now) }
 {
     let mut targets = Vec::with_capacity(alloc, codes.len())?;

@@ -37,7 +37,7 @@ fn copy_of(alloc: Global, states: &[u32]) -> Result<Vec<u32>, OutOfMemory>
 /// The ways of the members that take the byte, each as the number of its marks and target, in order and
 /// each once. They take the place of what `codes` had.
 pub(crate) fn put_codes(
-    codes: &mut Vec<u64>,
+    codes: &mut Vec<u128>,
     automaton: &Automaton,
     members: &[u32],
     byte: u8,
@@ -58,7 +58,7 @@ pub(crate) fn put_codes(
 /// The marks of the members' ends, each as a number that is less where they are greater, in order and
 /// each once. They take the place of what `codes` had.
 pub(crate) fn put_marks(
-    codes: &mut Vec<u64>,
+    codes: &mut Vec<u128>,
     stops: &[Stop],
     members: &[u32],
 ) -> Result<(), OutOfMemory>
@@ -91,15 +91,15 @@ pub(crate) fn idle_members(
 
 /// A way's marks and target as one number, so that numbers ascend where marks descend and then targets
 /// ascend.
-fn code_of(way: &Way) -> u64
+fn code_of(way: &Way) -> u128
     ensures { result ≡ code_of way.now }
 {
     let to = way.to;
-    u64::from(u32::MAX - way.marks.number()) * 4_294_967_296 + u64::from(to)
+    u128::from(u64::MAX - way.marks.number()) * 4_294_967_296 + u128::from(to)
 }
 
 /// Appends the ways that take the byte.
-fn put_row(codes: &mut Vec<u64>, ways: &[Way], byte: u8) -> Result<(), OutOfMemory>
+fn put_row(codes: &mut Vec<u128>, ways: &[Way], byte: u8) -> Result<(), OutOfMemory>
     ensures { OnOk result (codes.new.items ≡ codes.old.items ++ codes_on byte ways.now) }
 {
     for way in ways {
@@ -112,7 +112,7 @@ fn put_row(codes: &mut Vec<u64>, ways: &[Way], byte: u8) -> Result<(), OutOfMemo
 
 /// Appends the ways of the members that take the byte, where the ways stand in the order of states.
 fn put_rows(
-    codes: &mut Vec<u64>,
+    codes: &mut Vec<u128>,
     automaton: &Automaton,
     members: &[u32],
     byte: u8,
@@ -128,7 +128,7 @@ fn put_rows(
 
 /// Appends the ways of the members that take the byte, by one pass over all ways.
 fn put_among(
-    codes: &mut Vec<u64>,
+    codes: &mut Vec<u128>,
     ways: &[Way],
     members: &[u32],
     byte: u8,
@@ -145,13 +145,13 @@ fn put_among(
 }
 
 /// Appends the marks of the members' ends.
-fn put_stops(codes: &mut Vec<u64>, stops: &[Stop], members: &[u32]) -> Result<(), OutOfMemory>
+fn put_stops(codes: &mut Vec<u128>, stops: &[Stop], members: &[u32]) -> Result<(), OutOfMemory>
     requires { IsInOrder ◌<◌ members.now }
     ensures { OnOk result (codes.new.items ≡ codes.old.items ++ marks_among members.now stops.now) }
 {
     for stop in stops {
         if has_state(members, stop.state) {
-            codes.push(u64::from(u32::MAX - stop.marks.number()))?;
+            codes.push(u128::from(u64::MAX - stop.marks.number()))?;
         }
     }
     Ok(())
@@ -166,7 +166,7 @@ fn has_state(members: &[u32], state: u32) -> bool
 }
 
 /// Puts numbers in order, each once.
-fn put_in_order(codes: &mut Vec<u64>)
+fn put_in_order(codes: &mut Vec<u128>)
     ensures { codes.new.items ≡ set_of codes.old.items }
 {
     codes.sort_unstable();

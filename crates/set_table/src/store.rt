@@ -38,7 +38,7 @@ pub(crate) struct Store {
     /// For each set the bytes that were asked of it whose only edge takes no marks and leads to the set itself.
     pub(crate) stays: Vec<ByteSet>,
     /// Room for what members reach.
-    codes: Vec<u64>,
+    codes: Vec<u128>,
 }
 
 /// An answer that was added: where it stands, and what it weighs with the sets that are new.

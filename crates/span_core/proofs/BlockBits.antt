@@ -2,14 +2,13 @@
 use Rattle.std.proofs.Common.{◌≡◌, ℕ, zero, suc, ◌+◌, ◌-◌, ◌*◌, ◌^◌, ◌<◌, true, false, List, [], ◌∷◌, length, get_or, refl, sym, ap, ◌∙◌, inl, inr, arith, Option, Some, None}
 use Rattle.std.specs.Prelude.{◌==◌}
 use Rattle.std.specs.Int.{from_bool, bit_at}
-use Rattle.std.specs.Option.{IsSome}
-use Rattle.std.proofs.lemmas.Bool.{cases_eq, eq-eqb, ne_eqb, false≢true}
+use Rattle.std.proofs.lemmas.Bool.{cases_eq, eq-eqb, ne_eqb}
 use Rattle.std.proofs.lemmas.Nat.Bits.{bit_at-zero, bit_at_cat_low, bit_at_cat_high}
 use Rattle.span_core.specs.declared.span.Span.{Span}
-use Rattle.span_core.specs.Block.{IsTotal, opening_bit, closing_bit, markers_from, block}
+use Rattle.span_core.specs.Block.{opening_bit, closing_bit, markers_from, block}
 use Rattle.span_core.specs.Digits.{digit}
 use Rattle.span_core.specs.BlockLaws.{markers_are, markers_below}
-use Rattle.span_core.specs.Blocks.{listed, IsRowOfBlocks}
+use Rattle.span_core.specs.Blocks.{listed, IsRowOfBlocks, HasMarker}
 
 -- ---- one digit
 
@@ -60,14 +59,6 @@ bit_positive (suc n) b h = omega arith
 
 -- ---- the bits of a row's blocks
 
--- the span of a variable
-pub span_at : (row : List (Option Span)) (k : ℕ) (d : Option Span) → IsTotal row → k < length row → (s : Span) × (get_or row k d ≡ Some s)
-span_at row k d total l = present (get_or row k d) (total k d l)
-  where
-    present : (o : Option Span) → IsSome o → (s : Span) × (o ≡ Some s)
-    present None h = absurd (false≢true h)
-    present (Some s) h = (s, refl)
-
 row_bit : (v k b at : ℕ) (row : List (Option Span)) (d : Option Span) → length row ≡ v → k < v → b < 2 → bit_at (block row at) (2 * (v - (k + 1)) + b) ≡ bit_at (digit (get_or row k d) at) b
 row_bit v k b at row d h l small =
     let e : 2 * (v - (k + 1)) + b ≡ 2 * (v - (0 + k + 1)) + b = omega arith in
@@ -84,6 +75,17 @@ block_closes v k at row d s h l is =
     let e : closing_bit v k ≡ 2 * (v - (k + 1)) + 0 = omega arith in
     ap (bit_at (block row at)) e ∙ row_bit v k 0 at row d h l (omega arith) ∙ ap (λ o. bit_at (digit o at) 0) is ∙ digit_closes s at
 
+-- a variable that is absent sets neither of its bits
+pub absent_opens : (v k at : ℕ) (row : List (Option Span)) (d : Option Span) → length row ≡ v → k < v → get_or row k d ≡ None → bit_at (block row at) (opening_bit v k) ≡ 0
+absent_opens v k at row d h l is =
+    let e : opening_bit v k ≡ 2 * (v - (k + 1)) + 1 = omega arith in
+    ap (bit_at (block row at)) e ∙ row_bit v k 1 at row d h l (omega arith) ∙ ap (λ o. bit_at (digit o at) 1) is ∙ bit_at-zero 1
+
+pub absent_closes : (v k at : ℕ) (row : List (Option Span)) (d : Option Span) → length row ≡ v → k < v → get_or row k d ≡ None → bit_at (block row at) (closing_bit v k) ≡ 0
+absent_closes v k at row d h l is =
+    let e : closing_bit v k ≡ 2 * (v - (k + 1)) + 0 = omega arith in
+    ap (bit_at (block row at)) e ∙ row_bit v k 0 at row d h l (omega arith) ∙ ap (λ o. bit_at (digit o at) 0) is ∙ bit_at-zero 0
+
 module _ (v k : ℕ) (blocks : List (ℕ × ℕ)) (row : List (Option Span)) (d : Option Span) (s : Span) (h : IsRowOfBlocks v blocks row) (l : k < v) (is : get_or row k d ≡ Some s) where
   pub row_opens : (at : ℕ) → bit_at (listed blocks at) (opening_bit v k) ≡ from_bool (s.start == at)
   row_opens at = ap (λ n. bit_at n (opening_bit v k)) (sym (h.blocks_are at)) ∙ block_opens v k at row d s h.variables l is
@@ -96,3 +98,26 @@ module _ (v k : ℕ) (blocks : List (ℕ × ℕ)) (row : List (Option Span)) (d 
 
   pub end_is : (at : ℕ) → bit_at (listed blocks at) (closing_bit v k) ≡ 1 → s.end ≡ at
   end_is at set = set_is s.end at (sym (row_closes at) ∙ set)
+
+-- ---- which variables are absent
+
+module _ (v k : ℕ) (blocks : List (ℕ × ℕ)) (row : List (Option Span)) (d : Option Span) (h : IsRowOfBlocks v blocks row) (l : k < v) where
+  never_marked : get_or row k d ≡ None → HasMarker v k blocks → ⊥
+  never_marked is (at, inl m) = omega (arith, m, ap (λ n. bit_at n (opening_bit v k)) (h.blocks_are at), absent_opens v k at row d h.variables l is)
+  never_marked is (at, inr m) = omega (arith, m, ap (λ n. bit_at n (closing_bit v k)) (h.blocks_are at), absent_closes v k at row d h.variables l is)
+
+  -- a variable with a marker has a span
+  pub marked_present : HasMarker v k blocks → (s : Span) × (get_or row k d ≡ Some s)
+  marked_present m = present (get_or row k d) refl
+    where
+      present : (o : Option Span) → get_or row k d ≡ o → (s : Span) × (get_or row k d ≡ Some s)
+      present None is = absurd (never_marked is m)
+      present (Some s) is = (s, is)
+
+  -- a variable without one has none
+  pub unmarked_absent : (HasMarker v k blocks → ⊥) → get_or row k d ≡ None
+  unmarked_absent none = absent (get_or row k d) refl
+    where
+      absent : (o : Option Span) → get_or row k d ≡ o → get_or row k d ≡ None
+      absent None is = is
+      absent (Some s) is = absurd (none (s.start, inl (row_opens v k blocks row d s h l is s.start ∙ set_here s.start)))

@@ -1,8 +1,7 @@
 -- Blocks are those of a row, or have a fault: which of the two can be found by looking at finitely many positions and bits.
-use Rattle.std.proofs.Common.{◌≡◌, ℕ, zero, suc, ◌+◌, ◌-◌, ◌*◌, ◌/◌, ◌%◌, ◌^◌, ◌<◌, ◌≤◌, ◌⊎◌, List, length, get_or, map, refl, sym, ap, ◌∙◌, subst, inl, inr, arith, Option, Some, None}
+use Rattle.std.proofs.Common.{◌≡◌, ℕ, zero, suc, ◌+◌, ◌-◌, ◌*◌, ◌/◌, ◌%◌, ◌^◌, ◌<◌, ◌≤◌, ◌⊎◌, List, length, get_or, map, sym, ap, ◌∙◌, subst, inl, inr, arith, Option, Some, None}
 use Rattle.std.specs.Prelude.{◌==◌}
 use Rattle.std.specs.Int.{bit_at, from_bool}
-use Rattle.std.specs.Option.{is_some}
 use Rattle.std.proofs.lemmas.Bool.{cases_lt, cases_eq, ne_eqb}
 use Rattle.std.proofs.Math.Nat.{pow-succ'}
 use Rattle.std.specs.List.{range_with_len}
@@ -11,8 +10,8 @@ use Rattle.std.proofs.lemmas.Nat.Bits.{bit_at-lt, bit_at-zero, bit_at_above, sam
 use Rattle.span_core.specs.declared.span.Span.{Span}
 use Rattle.span_core.specs.Block.{opening_bit, closing_bit, block}
 use Rattle.span_core.specs.BlockLaws.{block_below}
-use Rattle.span_core.specs.Blocks.{listed, IsRowOfBlocks, IsMarked, IsMarkedOnce, IsOpenedAndClosed, HaveFault, FaultsTellNoRow}
-use Rattle.span_core.proofs.BlockBits.{span_at, row_opens, row_closes, start_is, end_is, set_here, block_opens, block_closes}
+use Rattle.span_core.specs.Blocks.{listed, IsRowOfBlocks, IsMarked, IsMarkedOnce, IsOpenedAndClosed, HasMarker, HaveFault, FaultsTellNoRow}
+use Rattle.span_core.proofs.BlockBits.{marked_present, row_opens, row_closes, start_is, end_is, set_here, block_opens, block_closes, absent_opens, absent_closes}
 use Rattle.span_core.proofs.ListedBlocks.{past_listed, listed_past}
 
 -- ---- what can be decided
@@ -41,6 +40,11 @@ decide_both : (P Q : Type 0) → Decided P → Decided Q → Decided (P × Q)
 decide_both P Q (inl p) (inl q) = inl (p, q)
 decide_both P Q (inl p) (inr refuted) = inr (λ h. refuted h.1)
 decide_both P Q (inr refuted) d = inr (λ h. refuted h.0)
+
+decide_either : (P Q : Type 0) → Decided P → Decided Q → Decided (P ⊎ Q)
+decide_either P Q (inl p) d = inl (inl p)
+decide_either P Q (inr refuted) (inl q) = inl (inr q)
+decide_either P Q (inr refuted) (inr refuted') = inr (λ h. elim h [ inl p ↦ refuted p | inr q ↦ refuted' q ])
 
 decide_not : (P : Type 0) → Decided P → Decided (P → ⊥)
 decide_not P (inl p) = inr (λ refuted. refuted p)
@@ -96,6 +100,26 @@ module _ (v k : ℕ) (blocks : List (ℕ × ℕ)) where
   decide_variable : Decided (IsOpenedAndClosed v k blocks)
   decide_variable = variable_from (decide_once blocks (opening_bit v k)) (decide_once blocks (closing_bit v k))
 
+  abbrev IsMarkedAt : ℕ → Type 0
+  IsMarkedAt at = IsMarked blocks (opening_bit v k) at ⊎ IsMarked blocks (closing_bit v k) at
+
+  decide_marked_at : (at : ℕ) → Decided (IsMarkedAt at)
+  decide_marked_at at = decide_either (IsMarked blocks (opening_bit v k) at) (IsMarked blocks (closing_bit v k) at) (decide_marked blocks (opening_bit v k) at) (decide_marked blocks (closing_bit v k) at)
+
+  marker_from : FoundBelow IsMarkedAt decide_marked_at (past_listed blocks) → Decided (HasMarker v k blocks)
+  marker_from (inl f) = inl (f.0, f.2)
+  marker_from (inr none) = inr (λ h. none h.0 (elim h.1 [ inl m ↦ inside blocks (opening_bit v k) h.0 m | inr m ↦ inside blocks (closing_bit v k) h.0 m ]) h.1)
+
+  decide_marker : Decided (HasMarker v k blocks)
+  decide_marker = marker_from (search_below IsMarkedAt decide_marked_at (past_listed blocks))
+
+  -- a variable that is at fault has a marker, and is not opened and closed
+  abbrev IsAtFault : Type 0
+  IsAtFault = HasMarker v k blocks × (IsOpenedAndClosed v k blocks → ⊥)
+
+  decide_at_fault : Decided IsAtFault
+  decide_at_fault = decide_both (HasMarker v k blocks) (IsOpenedAndClosed v k blocks → ⊥) decide_marker (decide_not (IsOpenedAndClosed v k blocks) decide_variable)
+
 -- ---- the bits of no variable
 
 below_pow : (n : ℕ) → n < 2 ^ n
@@ -145,36 +169,33 @@ module _ (v : ℕ) (blocks : List (ℕ × ℕ)) where
   abbrev made_row : List (Option Span)
   made_row = map (λ k. span_if (decide_variable v k blocks)) (range_with_len 0 v)
 
-  module _ (each : (k : ℕ) → k < v → IsOpenedAndClosed v k blocks) (none : (bit at : ℕ) → 2 * v ≤ bit → IsMarked blocks bit at → ⊥) where
+  module _ (each : (k : ℕ) → k < v → IsAtFault v k blocks → ⊥) (none : (bit at : ℕ) → 2 * v ≤ bit → IsMarked blocks bit at → ⊥) where
     made_length : length made_row ≡ v
     made_length = length-map-range_with_len (λ k. span_if (decide_variable v k blocks)) 0 v
 
-    placed : (k : ℕ) (d : Decided (IsOpenedAndClosed v k blocks)) → IsOpenedAndClosed v k blocks → (c : IsOpenedAndClosed v k blocks) × (span_if d ≡ Some (span_of c))
-    placed k (inl c) h = (c, refl)
-    placed k (inr refuted) h = absurd (refuted h)
+    made_at : (k : ℕ) → k < v → get_or made_row k None ≡ span_if (decide_variable v k blocks)
+    made_at k l = get_or-map-range_with_len (λ k. span_if (decide_variable v k blocks)) 0 v k k None l (omega arith)
 
-    made_at : (k : ℕ) (d : Option Span) → k < v → (c : IsOpenedAndClosed v k blocks) × (get_or made_row k d ≡ Some (span_of c))
-    made_at k d l =
-        let is : get_or made_row k d ≡ span_if (decide_variable v k blocks) = get_or-map-range_with_len (λ k. span_if (decide_variable v k blocks)) 0 v k k d l (omega arith) in
-        let c = placed k (decide_variable v k blocks) (each k l) in
-        (c.0, is ∙ c.1)
+    -- a bit that is set nowhere, as those of a variable that is absent
+    nowhere : (bit at : ℕ) → (IsMarked blocks bit at → ⊥) → bit_at (listed blocks at) bit ≡ 0
+    nowhere bit at none_at = zero_or_one (bit_at (listed blocks at) bit) (bit_at-lt (listed blocks at) bit) none_at
 
-    opening_made : (k at : ℕ) → k < v → bit_at (block made_row at) (opening_bit v k) ≡ bit_at (listed blocks at) (opening_bit v k)
-    opening_made k at l =
-        let c = made_at k None l in
-        block_opens v k at made_row None (span_of c.0) made_length l c.1 ∙ sym (bit_of blocks (opening_bit v k) c.0.start at c.0.opened)
+    opening_made : (k at : ℕ) → k < v → (d : Decided (IsOpenedAndClosed v k blocks)) → get_or made_row k None ≡ span_if d
+        → bit_at (block made_row at) (opening_bit v k) ≡ bit_at (listed blocks at) (opening_bit v k)
+    opening_made k at l (inl c) is = block_opens v k at made_row None (span_of c) made_length l is ∙ sym (bit_of blocks (opening_bit v k) c.start at c.opened)
+    opening_made k at l (inr refuted) is = absent_opens v k at made_row None made_length l is ∙ sym (nowhere (opening_bit v k) at (λ m. each k l ((at, inl m), refuted)))
 
-    closing_made : (k at : ℕ) → k < v → bit_at (block made_row at) (closing_bit v k) ≡ bit_at (listed blocks at) (closing_bit v k)
-    closing_made k at l =
-        let c = made_at k None l in
-        block_closes v k at made_row None (span_of c.0) made_length l c.1 ∙ sym (bit_of blocks (closing_bit v k) c.0.end at c.0.closed)
+    closing_made : (k at : ℕ) → k < v → (d : Decided (IsOpenedAndClosed v k blocks)) → get_or made_row k None ≡ span_if d
+        → bit_at (block made_row at) (closing_bit v k) ≡ bit_at (listed blocks at) (closing_bit v k)
+    closing_made k at l (inl c) is = block_closes v k at made_row None (span_of c) made_length l is ∙ sym (bit_of blocks (closing_bit v k) c.end at c.closed)
+    closing_made k at l (inr refuted) is = absent_closes v k at made_row None made_length l is ∙ sym (nowhere (closing_bit v k) at (λ m. each k l ((at, inr m), refuted)))
 
     bit_made : (at bit : ℕ) → bit_at (block made_row at) bit ≡ bit_at (listed blocks at) bit
     bit_made at bit = elim (cases_lt bit (2 * v)) [
       | inl l ↦ (let k = v - (bit / 2 + 1) in elim (cases_eq (bit % 2) 1) [
-        | inl odd ↦ (let e : opening_bit v k ≡ bit = omega arith in subst (λ (b : ℕ). bit_at (block made_row at) b ≡ bit_at (listed blocks at) b) e (opening_made k at (omega arith)))
+        | inl odd ↦ (let e : opening_bit v k ≡ bit = omega arith in subst (λ (b : ℕ). bit_at (block made_row at) b ≡ bit_at (listed blocks at) b) e (opening_made k at (omega arith) (decide_variable v k blocks) (made_at k (omega arith))))
         | inr even ↦ (let h : bit % 2 ≡ 0 = zero_or_one (bit % 2) (omega arith) even in
-            let e : closing_bit v k ≡ bit = omega arith in subst (λ (b : ℕ). bit_at (block made_row at) b ≡ bit_at (listed blocks at) b) e (closing_made k at (omega arith)))
+            let e : closing_bit v k ≡ bit = omega arith in subst (λ (b : ℕ). bit_at (block made_row at) b ≡ bit_at (listed blocks at) b) e (closing_made k at (omega arith) (decide_variable v k blocks) (made_at k (omega arith))))
       ])
       | inr above ↦ (let le : 2 * v ≤ bit = omega (arith, above) in
           bit_at_above (block made_row at) (2 * v) bit (block_below v at made_row made_length) le ∙ sym (zero_or_one (bit_at (listed blocks at) bit) (bit_at-lt (listed blocks at) bit) (none bit at le)))
@@ -183,7 +204,6 @@ module _ (v : ℕ) (blocks : List (ℕ × ℕ)) where
     made_is : IsRowOfBlocks v blocks made_row
     made_is = record {
       variables = made_length;
-      total = λ k d l. let c = made_at k d (omega (arith, made_length)) in ap is_some c.1;
       blocks_are = λ at. same_from_bits (block made_row at) (listed blocks at) (bit_made at);
     }
 
@@ -193,32 +213,28 @@ module _ (v : ℕ) (blocks : List (ℕ × ℕ)) where
   abbrev NoRow : Type 0
   NoRow = (row : List (Option Span)) → IsRowOfBlocks v blocks row → ⊥
 
-  opened_and_closed : (k : ℕ) → Decided (IsOpenedAndClosed v k blocks) → ((IsOpenedAndClosed v k blocks → ⊥) → ⊥) → IsOpenedAndClosed v k blocks
-  opened_and_closed k (inl c) h = c
-  opened_and_closed k (inr refuted) h = absurd (h refuted)
+  abbrev AtFault : ℕ → Type 0
+  AtFault k = IsAtFault v k blocks
 
-  abbrev Unopened : ℕ → Type 0
-  Unopened k = IsOpenedAndClosed v k blocks → ⊥
+  decide_each : (k : ℕ) → Decided (AtFault k)
+  decide_each k = decide_at_fault v k blocks
 
-  decide_unopened : (k : ℕ) → Decided (Unopened k)
-  decide_unopened k = decide_not (IsOpenedAndClosed v k blocks) (decide_variable v k blocks)
-
-  fault_in_bits : NoRow → ((k : ℕ) → k < v → Unopened k → ⊥) → FoundBelow (HasForeign v blocks) (decide_has_foreign v blocks) (past_listed blocks) → HaveFault v blocks
+  fault_in_bits : NoRow → ((k : ℕ) → k < v → AtFault k → ⊥) → FoundBelow (HasForeign v blocks) (decide_has_foreign v blocks) (past_listed blocks) → HaveFault v blocks
   fault_in_bits refuse each (inl f) = inr (f.2.0, f.0, f.2.1.0, f.2.1.1)
   fault_in_bits refuse each (inr none) =
-      absurd (refuse (made_row v blocks) (made_is v blocks (λ k l. opened_and_closed k (decide_variable v k blocks) (each k l)) (λ bit at le m. none at (inside blocks bit at m) (bit, (le, m)))))
+      absurd (refuse (made_row v blocks) (made_is v blocks each (λ bit at le m. none at (inside blocks bit at m) (bit, (le, m)))))
 
-  fault_from : NoRow → FoundBelow Unopened decide_unopened v → HaveFault v blocks
-  fault_from refuse (inl f) = inl (f.0, f.1, f.2)
+  fault_from : NoRow → FoundBelow AtFault decide_each v → HaveFault v blocks
+  fault_from refuse (inl f) = inl (f.0, f.1, f.2.0, f.2.1)
   fault_from refuse (inr each) = fault_in_bits refuse each (search_below (HasForeign v blocks) (decide_has_foreign v blocks) (past_listed blocks))
 
   pub fault_found : NoRow → HaveFault v blocks
-  fault_found refuse = fault_from refuse (search_below Unopened decide_unopened v)
+  fault_found refuse = fault_from refuse (search_below AtFault decide_each v)
 
-  -- each variable of a row is opened and closed
-  row_opened_and_closed : (row : List (Option Span)) → IsRowOfBlocks v blocks row → (k : ℕ) → k < v → IsOpenedAndClosed v k blocks
-  row_opened_and_closed row h k l =
-      let s = span_at row k None h.total (omega (arith, h.variables)) in
+  -- each variable of a row that has a marker is opened and closed
+  row_opened_and_closed : (row : List (Option Span)) → IsRowOfBlocks v blocks row → (k : ℕ) → k < v → HasMarker v k blocks → IsOpenedAndClosed v k blocks
+  row_opened_and_closed row h k l marker =
+      let s = marked_present v k blocks row None h l marker in
       record {
         start = s.0.start;
         end = s.0.end;
@@ -228,7 +244,7 @@ module _ (v : ℕ) (blocks : List (ℕ × ℕ)) where
       }
 
   pub fault_refuses : HaveFault v blocks → NoRow
-  fault_refuses (inl f) row h = f.2 (row_opened_and_closed row h f.0 f.1)
+  fault_refuses (inl f) row h = f.3 (row_opened_and_closed row h f.0 f.1 f.2)
   fault_refuses (inr f) row h =
       omega (arith, f.3, ap (λ n. bit_at n f.0) (h.blocks_are f.1), bit_at_above (block row f.1) (2 * v) f.0 (block_below v f.1 row h.variables) f.2)
 

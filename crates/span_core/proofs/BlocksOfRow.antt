@@ -107,12 +107,11 @@ from_listed row at (suc n) q none h = elim (cases_eq at q) [
 
 pub rows_tell_blocks_lem : RowsTellBlocks
 rows_tell_blocks_lem = record {
-  some_list = λ row total. (
+  some_list = λ row. (
     blocks_from row 0 (past row),
     (from_follows row 0 (past row)).0,
     record {
       variables = refl;
-      total = total;
       blocks_are = λ at. sym (from_listed row 0 (past row) at (λ i l. markers_past (length row) 0 i row (omega arith)) (omega arith));
     },
   );

@@ -3,7 +3,7 @@ use Rattle.std.specs.Prelude.{ℕ, ◌+◌, ◌-◌, ◌*◌, ◌^◌, ◌==◌,
 use Rattle.std.specs.Int.{from_bool}
 use Rattle.span_core.specs.declared.span.Span.{Span}
 
--- the markers of one variable at a position: 2 where its span starts, and 1 where it ends
+-- the markers of one variable at a position: 2 where its span starts, and 1 where it ends; 0 throughout for one that is absent
 abbrev pub digit : Option Span → ℕ → ℕ
 digit None at = 0
 digit (Some span) at = 2 * from_bool (span.start == at) + from_bool (span.end == at)

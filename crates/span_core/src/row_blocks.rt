@@ -10,9 +10,10 @@ use crate::{MOST_VARIABLES, Marks, Row, Span};
 impl Row {
     /// The row of `v` variables that has these blocks at these positions, and no markers elsewhere.
     ///
-    /// None exactly where there is no such row: some variable is not opened once and closed once at
-    /// the same position or a later one, or a bit of no variable is set. The positions of `blocks`
-    /// ascend strictly; an empty block among them says no more than its absence.
+    /// A variable of which no marker stands anywhere is absent. None exactly where there is no such row: some variable
+    /// has a marker and is not opened once and closed once at the same position or a later one, or a bit of no
+    /// variable is set. The positions of `blocks` ascend strictly; an empty block among them says no more than its
+    /// absence.
     pub fn of_blocks(v: usize, blocks: &[(u32, Marks)]) -> Option<Row>
         requires few { v ≤ MOST_VARIABLES }
         requires ascending { Ascends blocks.now }
@@ -22,12 +23,13 @@ impl Row {
     {
         let mut row = Row::empty();
         for k in 0..v {
-            let start = place_of(blocks, 2 * (v - k) - 1)?;
-            let end = place_of(blocks, 2 * (v - k) - 2)?;
-            if end < start {
-                return None;
+            let start = place_of(blocks, 2 * (v - k) - 1);
+            let end = place_of(blocks, 2 * (v - k) - 2);
+            match (start, end) {
+                (Some(start), Some(end)) if start <= end => row.push(Some(Span::new(start, end))),
+                (None, None) => row.push(None),
+                _ => return None,
             }
-            row.push(Span::new(start, end));
         }
         if row.has_blocks(blocks) {
             Some(row)
@@ -61,15 +63,15 @@ fn place_of(blocks: &[(u32, Marks)], bit: usize) -> Option<u32>
 
 /// A law: rows and blocks determine each other.
 ///
-/// Rows of one length with the same block at each position are one, and each total row is that of
-/// one list of blocks, none of them empty.
+/// Rows of one length with the same block at each position are one, and each row is that of one list of blocks, none of
+/// them empty.
 pub fn blocks_tell_rows()
     ensures rows { BlocksTellRows }
     ensures blocks { RowsTellBlocks }
 {}
 
-/// A law: blocks are those of no row exactly where some variable is not opened once and closed once
-/// at the same position or a later one, or a bit of no variable is set.
+/// A law: blocks are those of no row exactly where some variable has a marker and is not opened once and closed once at
+/// the same position or a later one, or a bit of no variable is set.
 pub fn faults_tell_no_row()
     ensures { FaultsTellNoRow }
 {}
@@ -78,17 +80,18 @@ pub fn faults_tell_no_row()
 mod tests {
     use super::*;
 
-    /// `x=0-2 y=2-2`: at 2 both end, and y starts too.
+    /// `x=0-2 y=- z=2-2`: at 2 both end, and z starts too.
     #[test]
     fn reads_a_row_back(rt: HostRuntime) {
-        let at_two = Marks::closing(0, 2)
-            .with(Marks::opening(1, 2))
-            .with(Marks::closing(1, 2));
-        assert_eq!(rt; at_two.number(), 7);
+        let at_two = Marks::closing(0, 3)
+            .with(Marks::opening(2, 3))
+            .with(Marks::closing(2, 3));
+        assert_eq!(rt; at_two.number(), 19);
         let mut row = Row::empty();
-        row.push(Span::new(0, 2));
-        row.push(Span::new(2, 2));
-        let blocks = [(0, Marks::opening(0, 2)), (2, at_two)];
-        assert_eq!(rt; Row::of_blocks(2, &blocks), Some(row));
+        row.push(Some(Span::new(0, 2)));
+        row.push(None);
+        row.push(Some(Span::new(2, 2)));
+        let blocks = [(0, Marks::opening(0, 3)), (2, at_two)];
+        assert_eq!(rt; Row::of_blocks(3, &blocks), Some(row));
     }
 }

@@ -1,5 +1,5 @@
 //! Block order, the order of rows.
-ghost use Rattle.std.specs.Prelude.{◌≡◌, ℕ, length, map, Some, OnOk, IsSorted};
+ghost use Rattle.std.specs.Prelude.{◌≡◌, ℕ, length, OnOk, IsSorted};
 ghost use Rattle.span_core.specs.Block.{block, marker};
 ghost use Rattle.span_core.specs.Digits.{digit};
 ghost use Rattle.span_core.specs.Order.{IsOrderOf, RowsAreOrdered};
@@ -76,8 +76,8 @@ pub fn rows_are_ordered()
 /// The order of two rows. One with fewer variables comes first, and rows with equally many are in
 /// block order: at the first position at which their blocks differ, the first row has the greater.
 ///
-/// For one variable that is the order by start and then by end. For more it is not the order of the
-/// lists of spans.
+/// For one variable that is the order by start and then by end, with the row from which it is absent last. For more it
+/// is not the order of the lists of spans.
 pub fn compare(a: &Row, b: &Row) -> Ordering
     ensures { IsOrderOf result a.now b.now }
 {
@@ -93,9 +93,9 @@ pub fn compare(a: &Row, b: &Row) -> Ordering
 }
 
 /// The first position at which the blocks of two rows differ, and the order that follows.
-fn difference(a: &[Span], b: &[Span]) -> Option<(u32, Ordering)>
+fn difference(a: &[Option<Span>], b: &[Option<Span>]) -> Option<(u32, Ordering)>
     requires { length a.now ≡ length b.now }
-    ensures { Finds (block (map Some a.now)) (block (map Some b.now)) result }
+    ensures { Finds (block a.now) (block b.now) result }
 {
     let mut found = None;
     for k in (0..a.len()).rev() {
@@ -105,13 +105,18 @@ fn difference(a: &[Span], b: &[Span]) -> Option<(u32, Ordering)>
 }
 
 /// The first position at which the markers of one variable differ, and the order that follows.
-fn span_difference(a: Span, b: Span) -> Option<(u32, Ordering)>
-    ensures { Finds (digit (Some a)) (digit (Some b)) result }
+fn span_difference(a: Option<Span>, b: Option<Span>) -> Option<(u32, Ordering)>
+    ensures { Finds (digit a) (digit b) result }
 {
-    earlier(
-        marker_difference(a.start, b.start),
-        marker_difference(a.end, b.end),
-    )
+    match (a, b) {
+        (Some(a), Some(b)) => earlier(
+            marker_difference(a.start, b.start),
+            marker_difference(a.end, b.end),
+        ),
+        (Some(a), None) => Some((a.start, Ordering::Less)),
+        (None, Some(b)) => Some((b.start, Ordering::Greater)),
+        (None, None) => None,
+    }
 }
 
 /// The same for one marker, which stands at `a` in the first row and at `b` in the second.
@@ -150,9 +155,9 @@ mod tests {
 
     fn row(x: Span, y: Span, z: Span) -> Row {
         let mut row = Row::empty();
-        row.push(x);
-        row.push(y);
-        row.push(z);
+        row.push(Some(x));
+        row.push(Some(y));
+        row.push(Some(z));
         row
     }
 
@@ -173,14 +178,15 @@ mod tests {
         Ok(())
     }
 
-    /// One variable: by start, and then by end.
+    /// One variable: by start, and then by end; the row from which it is absent is the last.
     #[test]
     fn orders_one_variable_by_start_and_end(rt: HostRuntime) {
         let spans = [
-            Span::new(0, 0),
-            Span::new(0, 2),
-            Span::new(1, 1),
-            Span::new(1, 3),
+            Some(Span::new(0, 0)),
+            Some(Span::new(0, 2)),
+            Some(Span::new(1, 1)),
+            Some(Span::new(1, 3)),
+            None,
         ];
         for (i, a) in spans.iter().enumerate() {
             for (j, b) in spans.iter().enumerate() {
@@ -189,7 +195,7 @@ mod tests {
         }
     }
 
-    fn one(x: Span) -> Row {
+    fn one(x: Option<Span>) -> Row {
         let mut row = Row::empty();
         row.push(x);
         row

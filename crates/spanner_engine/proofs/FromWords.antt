@@ -61,9 +61,9 @@ module _ (q : QueryTree) (A B : Marked) (made : IsCompiled q A) (is : B ≡ A) (
 
     pub rows_to_list : (w : Word) → Has words w → IsWordOfRow v w
     rows_to_list w h =
-        subst (λ (k : ℕ). IsWordOfRow k w) (sym width) (words_are_of_rows q made.sound B compiled.words.0 d K reads words read w h)
+        subst (λ (k : ℕ). IsWordOfRow k w) (sym width) (words_are_of_rows q B d K reads words read w h)
 
     pub answers_listed : (whole : List SpanRow) → AreRowsOf v words whole → AreInBlockOrder whole → AreAnswers q d A.names whole
     answers_listed whole are order =
         subst (λ (C : Marked). AreAnswers q d C.names whole) is (
-        rows_are_answers q made.sound B compiled.words.0 d K reads words read whole (subst (λ (k : ℕ). AreRowsOf k words whole) width are) order)
+        rows_are_answers q B d K reads words read whole (subst (λ (k : ℕ). AreRowsOf k words whole) width are) order)

@@ -1,11 +1,10 @@
 -- The rows of the words that are read are the answers.
-use Rattle.std.proofs.Common.{◌≡◌, ℕ, zero, suc, ◌+◌, ◌<◌, ◌≤◌, Bool, List, [], ◌∷◌, length, get_or, map, Option, Some, None, inl, inr, refl, sym, ◌∙◌, subst, arith}
+use Rattle.std.proofs.Common.{◌≡◌, ℕ, ◌+◌, ◌<◌, ◌≤◌, Bool, List, [], ◌∷◌, length, Option, Some, None, inl, inr, refl, sym, ◌∙◌, subst, arith}
 use Rattle.std.specs.List.{AllByRecursion}
-use Rattle.std.specs.Option.{IsSome}
 use Rattle.std.proofs.lemmas.Bool.{cases_lt}
 use Rattle.std.proofs.lemmas.List.{length-map}
 use Rattle.span_core.specs.declared.span.Span.{Span}
-use Rattle.span_core.specs.Block.{IsTotal, block, closing_bit, markers, markers_from, opening_bit}
+use Rattle.span_core.specs.Block.{block, closing_bit, markers, markers_from, opening_bit}
 use Rattle.span_core.specs.Blocks.{IsRowOfBlocks, listed}
 use Rattle.span_core.specs.Order.{StandsBefore}
 use Rattle.span_core.specs.OrderLaws.{marker_other, same_rows}
@@ -13,9 +12,7 @@ use Rattle.span_core.specs.Lists.{Has, IsInOrder}
 use Rattle.spanner_model.specs.Captures.{VarName, Mapping, row_of}
 use Rattle.spanner_model.specs.Expression.{QueryTree}
 use Rattle.spanner_model.specs.Answer.{IsAnswer}
-use Rattle.spanner_model.specs.Answers.{AreAnswers, AreResultNames, IsAnswerRow}
-use Rattle.spanner_model.specs.Sound.{IsSound}
-use Rattle.spanner_model.proofs.AnswerLaws.{query_given}
+use Rattle.spanner_model.specs.Answers.{AreAnswers, IsAnswerRow}
 use Rattle.spanner_model.proofs.Ends.{EndsBy, query_ends}
 use Rattle.marked_automaton.specs.Automaton.{Marked}
 use Rattle.place_automaton.specs.Words.{IsWordOf}
@@ -40,18 +37,7 @@ none_past v k n at [] m ends past = refl
 none_past v k n at (x ∷ names) m ends past =
     omega (arith, no_markers v k n at (m x) (λ t e. ends x t e) past, none_past v (k + 1) n at names m ends past)
 
-is_some : {X : Type 0} (o : Option X) (x : X) → o ≡ Some x → IsSome o
-is_some {X} o x e = subst (λ (p : Option X). IsSome p) (sym e) refl
-
-all_given : (names : List VarName) (m : Mapping) → ((x : VarName) → Has names x → (s : Span) × (m x ≡ Some s)) → IsTotal (row_of names m)
-all_given names m given k d l = by names k l given
-  where
-    by : (xs : List VarName) (k : ℕ) → k < length (map m xs) → ((x : VarName) → Has xs x → (s : Span) × (m x ≡ Some s)) → IsSome (get_or (map m xs) k d)
-    by [] k l given = absurd (omega arith)
-    by (x ∷ xs) zero l given = let g = given x (inl refl) in is_some (m x) g.0 g.1
-    by (x ∷ xs) (suc k) l given = by xs k (omega arith) (λ y h. given y (inr h))
-
-module _ (q : QueryTree) (sound : IsSound q) (A : Marked) (named : AreResultNames q A.names) (d : List ℕ) where
+module _ (q : QueryTree) (A : Marked) (d : List ℕ) where
   -- the word of an answer lists the blocks of its row
   lists_blocks : (m : Mapping) (w : ℕ → ℕ) → IsAnswer q d m → IsWordOf (row_of A.names m) d w → (at : ℕ) →
       block (row_of A.names m) at ≡ listed (word_of w (length d)) at
@@ -65,7 +51,6 @@ module _ (q : QueryTree) (sound : IsSound q) (A : Marked) (named : AreResultName
       IsRowOfBlocks (length A.names) (word_of w (length d)) (row_of A.names m)
   is_row m w answer is = record {
     variables = length-map A.names m;
-    total = all_given A.names m (λ x h. query_given q d m sound answer x ((named.1 x).0 h));
     blocks_are = lists_blocks m w answer is;
   }
 
@@ -146,7 +131,7 @@ pub rows_after : RowsAfterAreTheRest
 rows_after after rows rest h = h
 
 pub words_are_of_rows : WordsAreOfRows
-words_are_of_rows q sound A named d K reads words read = word_of_row q sound A named d K reads words read
+words_are_of_rows q A d K reads words read = word_of_row q A d K reads words read
 
 pub rows_are_answers : RowsAreAnswers
-rows_are_answers q sound A named d K reads words read rows are order = answers q sound A named d K reads words read rows are (in_order rows order)
+rows_are_answers q A d K reads words read rows are order = answers q A d K reads words read rows are (in_order rows order)

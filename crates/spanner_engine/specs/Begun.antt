@@ -1,6 +1,7 @@
 -- What it costs to begin the answers of a query, and why it is refused.
-use Rattle.std.specs.Prelude.{ℕ, ◌+◌, ◌<◌, ◌≤◌, Bool, true, false, List, length, Option, Some, None, IsTrue}
+use Rattle.std.specs.Prelude.{◌≡◌, ◌≢◌, ℕ, ◌+◌, ◌<◌, ◌≤◌, Bool, true, false, List, length, Option, Some, None, IsTrue}
 use Rattle.span_core.specs.declared.span.Span.{Span}
+use Rattle.span_core.specs.declared.kept.Kept.{Kept}
 use Rattle.span_core.specs.Lists.{Has}
 use Rattle.spanner_model.specs.Expression.{QueryTree}
 use Rattle.spanner_model.specs.Answers.{SpanRow}
@@ -11,15 +12,26 @@ use Rattle.one_pass.specs.Builds.{build}
 use Rattle.filter_laws.specs.Touching.{IsSetOf, SomeAtomOf, TouchedOf, sum_atoms_of}
 use Rattle.segment_filter.specs.Costs.{atom_weight, touching_steps}
 use Rattle.spanner_engine.specs.declared.beginning.BeginFault.{BeginFault}
-use Rattle.spanner_engine.specs.declared.beginning.BeginFault.TheVariants.{CursorPlace, Filter, Table, OutOfMemory}
+use Rattle.spanner_engine.specs.declared.beginning.BeginFault.TheVariants.{CursorOther, CursorPlace, Filter, Table, OutOfMemory}
 
 -- some span of the row ends past n
 abbrev pub EndsPast : ℕ → SpanRow → Type 0
 EndsPast n row = (s : Span) × Has row (Some s) × (n < s.end)
 
-abbrev pub IsPast : ℕ → Option SpanRow → Type 0
+-- the row that a cursor keeps, where there is a cursor
+abbrev pub row_kept : Option Kept → Option SpanRow
+row_kept None = None
+row_kept (Some kept) = Some kept.row
+
+-- the cursor keeps this length, and n is another
+abbrev pub KeepsOther : ℕ → Option Kept → ℕ → Type 0
+KeepsOther n None other = ⊥
+KeepsOther n (Some kept) other = (kept.length ≡ Some other) × (other ≢ n)
+
+-- the cursor keeps no length, and a span of its row ends past n
+abbrev pub IsPast : ℕ → Option Kept → Type 0
 IsPast n None = ⊥
-IsPast n (Some row) = EndsPast n row
+IsPast n (Some kept) = (kept.length ≡ None) × EndsPast n kept.row
 
 -- the positions at which a document is read: all of them, or with the filter those that some atom of the query's text touches
 abbrev pub IsReadAt : Bool → QueryTree → List ℕ → ℕ → Type 0
@@ -57,9 +69,10 @@ abbrev pub begin_steps : Bool → QueryTree → List ℕ → (ℕ → Bool) → 
 begin_steps filter q d K after =
     filter_steps filter q d + build (counted q) d K + cells_sought (edges_K (counted q) d K + 1) after
 
--- why nothing is begun: a span ends past the document; some atom, or reading at the positions, weighs more than the limit; want of
--- memory has no cause
-abbrev pub IsBeginFault : QueryTree → List ℕ → Bool → Option SpanRow → ℕ → BeginFault → Type 0
+-- why nothing is begun: the cursor keeps another length than the document's; or it keeps none, and a span ends past the document; some
+-- atom, or reading at the positions, weighs more than the limit; want of memory has no cause
+abbrev pub IsBeginFault : QueryTree → List ℕ → Bool → Option Kept → ℕ → BeginFault → Type 0
+IsBeginFault q d filter after limit (CursorOther kept found) = KeepsOther (length d) after kept × (found ≡ length d)
 IsBeginFault q d filter after limit CursorPlace = IsPast (length d) after
 IsBeginFault q d filter after limit (Filter weight) = IsTrue filter × SomeAtomOf (λ s t f. (limit < weight) × (weight ≤ atom_weight s t f d)) q
 IsBeginFault q d filter after limit (Table weight) =

@@ -4,8 +4,7 @@ use Rattle.span_core.specs.Lists.{Has}
 use Rattle.spanner_model.specs.Captures.{Mapping, row_of}
 use Rattle.spanner_model.specs.Expression.{QueryTree}
 use Rattle.spanner_model.specs.Answer.{IsAnswer}
-use Rattle.spanner_model.specs.Answers.{AreAnswers, AreResultNames, IsRest}
-use Rattle.spanner_model.specs.Sound.{IsSound}
+use Rattle.spanner_model.specs.Answers.{AreAnswers, IsRest}
 use Rattle.marked_automaton.specs.Automaton.{Automaton, IsMarked, Marked, size}
 use Rattle.marked_automaton.specs.Reduct.{Reduces}
 use Rattle.automaton_reading.specs.Chosen.{IsReadWith}
@@ -24,13 +23,13 @@ ReadsAnswers q A d K =
 -- each word that is read is that of a row
 abbrev pub WordsAreOfRows : Type 0
 WordsAreOfRows =
-    (q : QueryTree) → IsSound q → (A : Marked) → AreResultNames q A.names → (d : List ℕ) (K : ℕ → Bool) → ReadsAnswers q A d K →
+    (q : QueryTree) (A : Marked) (d : List ℕ) (K : ℕ → Bool) → ReadsAnswers q A d K →
     (words : List Word) → AreReadWords A.graph K d words → (w : Word) → Has words w → IsWordOfRow (length A.names) w
 
 -- their rows, in block order, are the answers
 abbrev pub RowsAreAnswers : Type 0
 RowsAreAnswers =
-    (q : QueryTree) → IsSound q → (A : Marked) → AreResultNames q A.names → (d : List ℕ) (K : ℕ → Bool) → ReadsAnswers q A d K →
+    (q : QueryTree) (A : Marked) (d : List ℕ) (K : ℕ → Bool) → ReadsAnswers q A d K →
     (words : List Word) → AreReadWords A.graph K d words →
     (rows : List SpanRow) → AreRowsOf (length A.names) words rows → AreInBlockOrder rows → AreAnswers q d A.names rows
 

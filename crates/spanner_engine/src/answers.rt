@@ -1,5 +1,5 @@
 //! Answers to come.
-ghost use Rattle.std.specs.Prelude.{◌≡◌, ◌+◌, ◌*◌, ◌≤◌, [], ◌∷◌, map, Some, MatchOption};
+ghost use Rattle.std.specs.Prelude.{◌≡◌, ◌+◌, ◌*◌, ◌≤◌, [], ◌∷◌, MatchOption};
 ghost use Rattle.std.specs.Bool.{OnTrue, OnFalse};
 
 use enumerator::Enumerator;
@@ -49,9 +49,9 @@ impl Answers {
         self.rows.advance(steps)
     }
 
-    /// The spans of the answer that was gone to, in the order of the variables.
-    pub fn spans(&self) -> &[Span]
-        ensures { map Some result.now ≡ self.now.row }
+    /// The spans of the answer that was gone to, in the order of the variables; None where one is absent.
+    pub fn spans(&self) -> &[Option<Span>]
+        ensures { result.now ≡ self.now.row }
     {
         self.rows.spans()
     }

@@ -2,23 +2,23 @@
 //!
 //! Every count and weight is said of the query's automaton with nothing left out, which the query determines; the one
 //! that is read is a reduct, and costs no more.
-ghost use Rattle.std.specs.Prelude.{◌≡◌, ℕ, ◌+◌, ◌^◌, ◌≤◌, Bool, length, IfErr, IfOk, IsErrOf};
+ghost use Rattle.std.specs.Prelude.{◌≡◌, ℕ, ◌+◌, ◌^◌, ◌≤◌, ◌⊎◌, Bool, length, IfErr, IfOk, IsErrOf};
 ghost use Rattle.std.specs.Option.{ForSome, IfSome, option_copied};
 ghost use Rattle.spanner_model.specs.Answers.{IsRest};
 ghost use Rattle.spanner_model.specs.ExprView.{query_of};
-ghost use Rattle.spanner_engine.specs.Begun.{AreRead, IsBeginFault, IsPast, begin_steps, cells_sought};
+ghost use Rattle.spanner_engine.specs.Begun.{AreRead, IsBeginFault, IsPast, KeepsOther, begin_steps, cells_sought, row_kept};
 ghost use Rattle.spanner_engine.specs.Left.{AreLeft};
-ghost use Rattle.spanner_engine.specs.declared.beginning.BeginFault.TheVariants.{CursorPlace};
+ghost use Rattle.spanner_engine.specs.declared.beginning.BeginFault.TheVariants.{CursorOther, CursorPlace};
 
 use crate::Answers;
 use crate::building::all_answers;
-use crate::place::is_past;
+use crate::place::{is_past, other_length};
 use crate::positions::positions_read;
 use enumerator::Enumerator;
 use query_automaton::Compiled;
 use segment_filter::FilterFault;
 use set_table::TableFault;
-use span_core::{Row, Steps};
+use span_core::{Kept, Steps};
 use std::alloc::Global;
 use std::sync::ledger::Ledger;
 
@@ -34,7 +34,9 @@ pub struct Options {
 /// Why no answers are begun; the first that applies is told.
 #[derive(Clone, Copy, Debug, PartialEq, Eq)]
 pub enum BeginFault {
-    /// A span of the row to begin after ends past the document.
+    /// The cursor keeps another length than the document's: it keeps `kept`, and the document has `found` bytes.
+    CursorOther { kept: u32, found: u32 },
+    /// The cursor keeps no length, and a span of its row ends past the document.
     CursorPlace,
     /// What the two readings of some atom meet weighs more than the limit: so much.
     Filter { weight: u64 },
@@ -44,13 +46,14 @@ pub enum BeginFault {
     OutOfMemory,
 }
 
-/// The answers of a compiled query on a document that stand after the row `after`, which need not be an
+/// The answers of a compiled query on a document that stand after the row that `after` keeps, which need not be an
 /// answer, or all of them. All work that grows with the document is done here.
 ///
 /// With `options.filter` the document is read only at the positions that some atom of the query's text
 /// touches: each atom of each `let`, used or not, and of the body.
 ///
-/// `CursorPlace` comes exactly where a span of `after` ends past the document; no step is taken then.
+/// `CursorOther` comes exactly where `after` keeps a length that is not the document's, and `CursorPlace` exactly where
+/// it keeps none and a span of its row ends past the document; no step is taken then.
 /// `Filter` comes only with the filter, where what the two readings of some atom meet weighs more than the
 /// limit; `Table` only where reading the document at these positions weighs more than the limit, counted on
 /// the query's automaton with nothing left out. The weight that either tells is more than the limit, and no
@@ -64,21 +67,26 @@ pub fn begin<L: Ledger>(
     alloc: Global,
     compiled: &Compiled<'_>,
     doc: &[u8],
-    after: Option<&Row>,
+    after: Option<&Kept>,
     options: Options,
     steps: &mut Steps<L>,
 ) -> Result<Answers, BeginFault>
     requires few { length doc.now ≤ 2 ^ 28 }
-    requires row { IfSome (option_copied after) (λ row. length row ≡ length compiled.now.automaton.names) }
+    requires row { IfSome (option_copied after) (λ kept. length kept.row ≡ length compiled.now.automaton.names) }
     requires limit { options.limit ≤ 100000000 }
-    ensures left { IfOk result (λ a. AreLeft (query_of compiled.now.query) doc.now compiled.now.automaton.names (option_copied after.entry) a.rest) }
+    ensures left { IfOk result (λ a. AreLeft (query_of compiled.now.query) doc.now compiled.now.automaton.names (row_kept (option_copied after.entry)) a.rest) }
     ensures variables { IfOk result (λ a. a.variables ≡ length compiled.now.automaton.names) }
+    ensures other { (kept : ℕ) → KeepsOther (length doc.now) (option_copied after.entry) kept → IsErrOf result (CursorOther kept (length doc.now)) }
     ensures place { IsPast (length doc.now) (option_copied after.entry) → IsErrOf result CursorPlace }
-    ensures still { IsErrOf result CursorPlace → steps.new ≡ steps.old }
+    ensures still { (kept found : ℕ) → IsErrOf result CursorPlace ⊎ IsErrOf result (CursorOther kept found) → steps.new ≡ steps.old }
     ensures fault { IfErr result (IsBeginFault (query_of compiled.now.query) doc.now options.filter (option_copied after.entry) options.limit) }
     ensures steps { (K : ℕ → Bool) → AreRead options.filter (query_of compiled.now.query) doc.now K →
-        steps.new ≤ steps.old + begin_steps options.filter (query_of compiled.now.query) doc.now K (option_copied after.entry) }
+        steps.new ≤ steps.old + begin_steps options.filter (query_of compiled.now.query) doc.now K (row_kept (option_copied after.entry)) }
 {
+    let found = doc.len() as u32;
+    if let Some(kept) = other_length(after, found) {
+        return Err(BeginFault::CursorOther { kept, found });
+    }
     if is_past(after, doc.len()) {
         return Err(BeginFault::CursorPlace);
     }
@@ -95,21 +103,21 @@ pub fn begin<L: Ledger>(
     Ok(Answers::of(from_row(rows, after, steps)))
 }
 
-/// The enumerator at the first row after the given one, or where it stands where none is given.
+/// The enumerator at the first row after the one that is kept, or where it stands where none is.
 fn from_row<L: Ledger>(
     mut rows: Enumerator,
-    after: Option<&Row>,
+    after: Option<&Kept>,
     steps: &mut Steps<L>,
 ) -> Enumerator
-    requires row { IfSome (option_copied after) (λ row. length row ≡ rows.variables) }
+    requires row { IfSome (option_copied after) (λ kept. length kept.row ≡ rows.variables) }
     requires first { rows.rest ≡ rows.whole }
     ensures variables { result.variables ≡ rows.variables }
-    ensures rest { IsRest (option_copied after.entry) rows.whole result.rest }
-    ensures steps { steps.new ≤ steps.old + cells_sought rows.cells (option_copied after.entry) }
+    ensures rest { IsRest (row_kept (option_copied after.entry)) rows.whole result.rest }
+    ensures steps { steps.new ≤ steps.old + cells_sought rows.cells (row_kept (option_copied after.entry)) }
 {
-    let Some(row) = after else {
+    let Some(kept) = after else {
         return rows;
     };
-    rows.seek(row, steps);
+    rows.seek(&kept.row, steps);
     rows
 }

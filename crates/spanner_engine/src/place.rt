@@ -1,16 +1,33 @@
-//! Whether a row lies in a document.
-ghost use Rattle.std.specs.Prelude.{◌↔◌, IsTrue};
+//! Whether a cursor is one of a document.
+ghost use Rattle.std.specs.Prelude.{◌↔◌, ℕ, IfNone, IfSome, IsTrue};
 ghost use Rattle.std.specs.Option.{option_copied};
-ghost use Rattle.spanner_engine.specs.Begun.{EndsPast, IsPast};
+ghost use Rattle.spanner_engine.specs.Begun.{EndsPast, IsPast, KeepsOther};
 
-use span_core::Row;
+use span_core::{Kept, Row};
 
-/// Whether a row is given, and some span of it ends past `n`.
-pub(crate) fn is_past(after: Option<&Row>, n: usize) -> bool
+/// The length that the cursor keeps, where it keeps one that is not `n`.
+pub(crate) fn other_length(after: Option<&Kept>, n: u32) -> Option<u32>
+    ensures some { IfSome result (KeepsOther n (option_copied after.entry)) }
+    ensures none { IfNone result ((other : ℕ) → ¬ KeepsOther n (option_copied after.entry) other) }
+{
+    match after {
+        Some(kept) => match kept.length {
+            Some(length) if length != n => Some(length),
+            _ => None,
+        },
+        None => None,
+    }
+}
+
+/// Whether a cursor is given that keeps no length, and some span of its row ends past `n`.
+pub(crate) fn is_past(after: Option<&Kept>, n: usize) -> bool
     ensures { IsTrue result ↔ IsPast n (option_copied after.entry) }
 {
     match after {
-        Some(row) => ends_past(row, n),
+        Some(kept) => match kept.length {
+            Some(_) => false,
+            None => ends_past(&kept.row, n),
+        },
         None => false,
     }
 }
@@ -20,8 +37,10 @@ fn ends_past(row: &Row, n: usize) -> bool
     ensures { IsTrue result ↔ EndsPast n row.now }
 {
     for k in 0..row.len() {
-        if row.at(k).end as usize > n {
-            return true;
+        if let Some(span) = row.at(k) {
+            if span.end as usize > n {
+                return true;
+            }
         }
     }
     false

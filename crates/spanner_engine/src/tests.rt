@@ -3,7 +3,7 @@ ghost use Rattle.std.specs.Prelude.{◌≡◌, ◌^◌, ◌<◌, ◌≤◌, leng
 
 use crate::{Answers, BeginFault, Options, begin, compile};
 use query_parser::read_query;
-use span_core::{Row, Span, Steps};
+use span_core::{Kept, Row, Span, Steps};
 use std::alloc::Global;
 use std::marker::Brand;
 use std::sync::ledger::{Blank, Ledger};
@@ -23,6 +23,9 @@ const FILTERED: Options = Options {
     limit: 8_000_000,
 };
 
+/// How an absent variable is shown.
+const ABSENT: u64 = 9999;
+
 /// The first variable's spans in the rows that come, each as 100 times its start and its end.
 fn spans<L: Ledger>(
     alloc: Global,
@@ -36,8 +39,10 @@ fn spans<L: Ledger>(
             return Ok(spans);
         };
         if row.len() > 0 {
-            let span = row.at(0);
-            let shown = 100 * u64::from(span.start) + u64::from(span.end);
+            let shown = match row.at(0) {
+                Some(span) => 100 * u64::from(span.start) + u64::from(span.end),
+                None => ABSENT,
+            };
             if spans.push(shown).is_err() {
                 return Err(BeginFault::OutOfMemory);
             }
@@ -46,13 +51,14 @@ fn spans<L: Ledger>(
     Ok(spans)
 }
 
-/// The rows of a query of one variable on a document, after a span of it.
+/// The rows of a query of one variable on a document, after a span of it that was kept with the length of a document, or
+/// without one.
 fn rows_of<L: Ledger>(
     blank: Blank,
     alloc: Global,
     text: &[u8],
     doc: &[u8],
-    after: Option<Span>,
+    after: Option<(Span, Option<u32>)>,
     options: Options,
 ) -> Result<Vec<u64>, BeginFault>
     requires name { blank.name ≡ L.name }
@@ -69,10 +75,14 @@ fn rows_of<L: Ledger>(
         return Err(BeginFault::OutOfMemory);
     };
     let mut row = Row::empty();
-    if let Some(span) = after {
-        row.push(span);
+    let mut length = None;
+    if let Some((span, of)) = after {
+        row.push(Some(span));
+        length = of;
     }
-    let after = (row.len() > 0 && row.len() == compiled.vars().len()).then_some(&row);
+    let kept = Kept { row, length };
+    let is_kept = kept.row.len() > 0 && kept.row.len() == compiled.vars().len();
+    let after = is_kept.then_some(&kept);
     let answers = begin(alloc, &compiled, doc, after, options, &mut steps)?;
     spans(alloc, answers, &mut steps)
 }
@@ -82,9 +92,13 @@ fn a_star_gives_its_spans_in_order(rt: HostRuntime) -> Result<(), BeginFault> {
     let (text, doc) = (b"/!x{a*}/", b"aa");
     let all = rows_of::<Brand>(Blank::new(1), rt.alloc(), text, doc, None, WHOLE)?;
     assert_eq!(rt; all.as_slice(), [0, 1, 2, 101, 102, 202].as_slice());
-    let after = Some(Span::new(0, 1));
-    let rest = rows_of::<Brand>(Blank::new(1), rt.alloc(), text, doc, after, WHOLE)?;
-    assert_eq!(rt; rest.as_slice(), [2, 101, 102, 202].as_slice());
+    for length in [None, Some(2)] {
+        let after = Some((Span::new(0, 1), length));
+        let rest = rows_of::<Brand>(Blank::new(1), rt.alloc(), text, doc, after, WHOLE)?;
+        assert_eq!(rt; rest.as_slice(), [2, 101, 102, 202].as_slice());
+    }
+    let optional = rows_of::<Brand>(Blank::new(1), rt.alloc(), b"/!x{a}|b/", b"ab", None, WHOLE)?;
+    assert_eq!(rt; optional.as_slice(), [1, ABSENT].as_slice());
     Ok(())
 }
 
@@ -111,12 +125,15 @@ fn a_table_is_refused_by_its_weight(rt: HostRuntime) -> Result<(), BeginFault> {
 #[test]
 fn a_row_may_end_where_the_document_does(rt: HostRuntime) -> Result<(), BeginFault> {
     let (text, doc) = (b"/!x{a*}/", b"aa");
-    let last = Some(Span::new(2, 2));
+    let last = Some((Span::new(2, 2), None));
     let none = rows_of::<Brand>(Blank::new(1), rt.alloc(), text, doc, last, WHOLE)?;
     assert!(rt; none.is_empty());
-    let past = Some(Span::new(2, 3));
+    let past = Some((Span::new(2, 3), None));
     let refused = rows_of::<Brand>(Blank::new(1), rt.alloc(), text, doc, past, WHOLE);
     assert!(rt; matches!(refused, Err(BeginFault::CursorPlace)));
+    let other = Some((Span::new(2, 3), Some(3)));
+    let refused = rows_of::<Brand>(Blank::new(1), rt.alloc(), text, doc, other, WHOLE);
+    assert!(rt; matches!(refused, Err(BeginFault::CursorOther { kept: 3, found: 2 })));
     Ok(())
 }
 

@@ -7,7 +7,7 @@ use Rattle.std.proofs.lemmas.Slice.Eq.{bytes_eq-Decides}
 use Rattle.span_core.specs.Lists.{Has}
 use Rattle.spanner_model.specs.Tree.{Tree, empty, one, cat_end, cat, alt_end, alt, rep, cap}
 use Rattle.spanner_model.specs.Captures.{VarName}
-use Rattle.spanner_model.specs.Functional.{HasVar}
+use Rattle.spanner_model.specs.Sequential.{HasVar}
 use Rattle.spanner_model.specs.Expression.{ExprTree, atom, named, union_end, union, join_end, join, project}
 use Rattle.spanner_model.specs.Answer.{VarOf, vars_of_lets}
 

@@ -7,8 +7,8 @@ use Rattle.span_core.specs.Lists.{Has}
 use Rattle.spanner_model.specs.Captures.{VarName}
 use Rattle.spanner_model.specs.Expression.{ExprTree, QueryTree, atom, named, union_end, union, join_end, join, project, union_all, join_all}
 use Rattle.spanner_model.specs.Answer.{VarOf, vars_of_lets, IsResultVar}
-use Rattle.spanner_model.specs.Sound.{AgreesWithParts, IsSoundExpr, AreUnited, AreJoined, IsSoundUnder, NameIn, NameInLets, NameOf, IsSound}
-use Rattle.spanner_model.specs.Gathered.{vars_in, HaveRoom}
+use Rattle.spanner_model.specs.Sound.{SureOf, sure_of_lets, SharesSure, IsSoundExpr, AreUnited, AreJoined, IsSoundUnder, NameIn, NameInLets, NameOf, IsSound}
+use Rattle.spanner_model.specs.Gathered.{vars_in, IsUnderLets, HaveRoom}
 use Rattle.spanner_model.proofs.Nodes.{expr_nodes}
 
 abbrev pub LetVars : Type 1
@@ -34,73 +34,117 @@ var_same V W same (project kept e) x h = h
 pub turned : (V W : LetVars) → SameVars V W → SameVars W V
 turned V W same k x = ((same k x).1, (same k x).0)
 
-agrees_same : (V W : LetVars) → SameVars V W → (e rest : ExprTree) → ((x : VarName) → VarOf V e x ↔ VarOf V rest x) → (x : VarName) → VarOf W e x ↔ VarOf W rest x
-agrees_same V W same e rest h x = (
-  λ v. var_same V W same rest x ((h x).0 (var_same W V (turned V W same) e x v)),
-  λ v. var_same V W same e x ((h x).1 (var_same W V (turned V W same) rest x v)),
-)
+-- likewise for sure variables
+pub sure_same : (S T : LetVars) → SameVars S T → (e : ExprTree) (x : VarName) → SureOf S e x → SureOf T e x
+sure_same S T same (atom s t f) x h = h
+sure_same S T same (named k) x h = (same k x).0 h
+sure_same S T same union_end x h = h
+sure_same S T same (union e rest) x h = (sure_same S T same e x h.0, sure_same S T same rest x h.1)
+sure_same S T same join_end x h = h
+sure_same S T same (join e rest) x (inl h) = inl (sure_same S T same e x h)
+sure_same S T same (join e rest) x (inr h) = inr (sure_same S T same rest x h)
+sure_same S T same (project kept e) x h = (h.0, sure_same S T same e x h.1)
 
-pub AgreesWithParts-same : (V W : LetVars) → SameVars V W → (e rest : ExprTree) → AgreesWithParts V e rest → AgreesWithParts W e rest
-AgreesWithParts-same V W same e (atom s t f) h = agrees_same V W same e (atom s t f) h
-AgreesWithParts-same V W same e (named k) h = agrees_same V W same e (named k) h
-AgreesWithParts-same V W same e union_end h = tt
-AgreesWithParts-same V W same e (union g rest) h = agrees_same V W same e (union g rest) h
-AgreesWithParts-same V W same e join_end h = agrees_same V W same e join_end h
-AgreesWithParts-same V W same e (join g rest) h = agrees_same V W same e (join g rest) h
-AgreesWithParts-same V W same e (project kept g) h = agrees_same V W same e (project kept g) h
+-- and so the same expressions are sound
+module _ (V W S T : LetVars) (same : SameVars V W) (sure : SameVars S T) where
+  pub shares_same : (e rest : ExprTree) → SharesSure V S e rest → SharesSure W T e rest
+  shares_same e (join g rest) h = (
+    λ x v w.
+        let both = h.0 x (var_same W V (turned V W same) e x v) (var_same W V (turned V W same) g x w) in
+        (sure_same S T sure e x both.0, sure_same S T sure g x both.1),
+    shares_same e rest h.1,
+  )
+  shares_same e (atom s t f) h = tt
+  shares_same e (named k) h = tt
+  shares_same e union_end h = tt
+  shares_same e (union g rest) h = tt
+  shares_same e join_end h = tt
+  shares_same e (project kept g) h = tt
 
+  mutual
+    pub sound_same : (n : ℕ) (e : ExprTree) → IsSoundExpr V S n e → IsSoundExpr W T n e
+    sound_same n (atom s t f) h = h
+    sound_same n (named k) h = h
+    sound_same n union_end h = h
+    sound_same n (union e rest) h = (sound_same n e h.0, united_same n rest h.1, h.2)
+    sound_same n join_end h = h
+    sound_same n (join e rest) h = (sound_same n e h.0, joined_same n rest h.1, h.2, shares_same e rest h.3)
+    sound_same n (project kept e) h = (sound_same n e h.0, (λ x a. (var_same V W same e x (h.1 x a).0, (h.1 x a).1)), h.2)
+
+    united_same : (n : ℕ) (e : ExprTree) → AreUnited V S n e → AreUnited W T n e
+    united_same n union_end h = h
+    united_same n (union e rest) h = (sound_same n e h.0, united_same n rest h.1)
+    united_same n _ h = absurd h
+
+    joined_same : (n : ℕ) (e : ExprTree) → AreJoined V S n e → AreJoined W T n e
+    joined_same n join_end h = h
+    joined_same n (join e rest) h = (sound_same n e h.0, joined_same n rest h.1, shares_same e rest h.2)
+    joined_same n _ h = absurd h
+
+-- a sound expression under n lets names the first n lets alone
 mutual
-  pub sound_same : (V W : LetVars) → SameVars V W → (n : ℕ) (e : ExprTree) → IsSoundExpr V n e → IsSoundExpr W n e
-  sound_same V W same n (atom s t f) h = h
-  sound_same V W same n (named k) h = h
-  sound_same V W same n union_end h = h
-  sound_same V W same n (union e rest) h = (sound_same V W same n e h.0, united_same V W same n rest h.1, h.2, AgreesWithParts-same V W same e rest h.3)
-  sound_same V W same n join_end h = h
-  sound_same V W same n (join e rest) h = (sound_same V W same n e h.0, joined_same V W same n rest h.1, h.2)
-  sound_same V W same n (project kept e) h = (sound_same V W same n e h.0, (λ x a. (var_same V W same e x (h.1 x a).0, (h.1 x a).1)), h.2)
+  pub sound_under : (V S : LetVars) (n : ℕ) (e : ExprTree) → IsSoundExpr V S n e → IsUnderLets n e
+  sound_under V S n (atom s t f) h = h.0
+  sound_under V S n (named k) h = h
+  sound_under V S n union_end h = absurd h
+  sound_under V S n (union e rest) h = (sound_under V S n e h.0, united_under V S n rest h.1)
+  sound_under V S n join_end h = absurd h
+  sound_under V S n (join e rest) h = (sound_under V S n e h.0, joined_under V S n rest h.1)
+  sound_under V S n (project kept e) h = sound_under V S n e h.0
 
-  united_same : (V W : LetVars) → SameVars V W → (n : ℕ) (e : ExprTree) → AreUnited V n e → AreUnited W n e
-  united_same V W same n union_end h = h
-  united_same V W same n (union e rest) h = (sound_same V W same n e h.0, united_same V W same n rest h.1, AgreesWithParts-same V W same e rest h.2)
-  united_same V W same n _ h = absurd h
+  united_under : (V S : LetVars) (n : ℕ) (e : ExprTree) → AreUnited V S n e → IsUnderLets n e
+  united_under V S n union_end h = tt
+  united_under V S n (union e rest) h = (sound_under V S n e h.0, united_under V S n rest h.1)
+  united_under V S n _ h = absurd h
 
-  joined_same : (V W : LetVars) → SameVars V W → (n : ℕ) (e : ExprTree) → AreJoined V n e → AreJoined W n e
-  joined_same V W same n join_end h = h
-  joined_same V W same n (join e rest) h = (sound_same V W same n e h.0, joined_same V W same n rest h.1)
-  joined_same V W same n _ h = absurd h
+  joined_under : (V S : LetVars) (n : ℕ) (e : ExprTree) → AreJoined V S n e → IsUnderLets n e
+  joined_under V S n join_end h = tt
+  joined_under V S n (join e rest) h = (sound_under V S n e h.0, joined_under V S n rest h.1)
+  joined_under V S n _ h = absurd h
 
 -- ---- parts
 
-united_part : (V : LetVars) (n : ℕ) (es : List ExprTree) (e : ExprTree) → AreUnited V n (union_all es) → Has es e → IsSoundExpr V n e
-united_part V n [] e h has = absurd has
-united_part V n (g ∷ es) e h (inl a) = subst (IsSoundExpr V n) a h.0
-united_part V n (g ∷ es) e h (inr a) = united_part V n es e h.1 a
+united_part : (V S : LetVars) (n : ℕ) (es : List ExprTree) (e : ExprTree) → AreUnited V S n (union_all es) → Has es e → IsSoundExpr V S n e
+united_part V S n [] e h has = absurd has
+united_part V S n (g ∷ es) e h (inl a) = subst (IsSoundExpr V S n) a h.0
+united_part V S n (g ∷ es) e h (inr a) = united_part V S n es e h.1 a
 
-joined_part : (V : LetVars) (n : ℕ) (es : List ExprTree) (e : ExprTree) → AreJoined V n (join_all es) → Has es e → IsSoundExpr V n e
-joined_part V n [] e h has = absurd has
-joined_part V n (g ∷ es) e h (inl a) = subst (IsSoundExpr V n) a h.0
-joined_part V n (g ∷ es) e h (inr a) = joined_part V n es e h.1 a
+joined_part : (V S : LetVars) (n : ℕ) (es : List ExprTree) (e : ExprTree) → AreJoined V S n (join_all es) → Has es e → IsSoundExpr V S n e
+joined_part V S n [] e h has = absurd has
+joined_part V S n (g ∷ es) e h (inl a) = subst (IsSoundExpr V S n) a h.0
+joined_part V S n (g ∷ es) e h (inr a) = joined_part V S n es e h.1 a
 
 -- the parts of a sound union, and of a sound join, are sound
-pub union_part : (V : LetVars) (n : ℕ) (es : List ExprTree) (e : ExprTree) → IsSoundExpr V n (union_all es) → Has es e → IsSoundExpr V n e
-union_part V n [] e h has = absurd has
-union_part V n (g ∷ es) e h (inl a) = subst (IsSoundExpr V n) a h.0
-union_part V n (g ∷ es) e h (inr a) = united_part V n es e h.1 a
+pub union_part : (V S : LetVars) (n : ℕ) (es : List ExprTree) (e : ExprTree) → IsSoundExpr V S n (union_all es) → Has es e → IsSoundExpr V S n e
+union_part V S n [] e h has = absurd has
+union_part V S n (g ∷ es) e h (inl a) = subst (IsSoundExpr V S n) a h.0
+union_part V S n (g ∷ es) e h (inr a) = united_part V S n es e h.1 a
 
-pub join_part : (V : LetVars) (n : ℕ) (es : List ExprTree) (e : ExprTree) → IsSoundExpr V n (join_all es) → Has es e → IsSoundExpr V n e
-join_part V n [] e h has = absurd has
-join_part V n (g ∷ es) e h (inl a) = subst (IsSoundExpr V n) a h.0
-join_part V n (g ∷ es) e h (inr a) = joined_part V n es e h.1 a
+pub join_part : (V S : LetVars) (n : ℕ) (es : List ExprTree) (e : ExprTree) → IsSoundExpr V S n (join_all es) → Has es e → IsSoundExpr V S n e
+join_part V S n [] e h has = absurd has
+join_part V S n (g ∷ es) e h (inl a) = subst (IsSoundExpr V S n) a h.0
+join_part V S n (g ∷ es) e h (inr a) = joined_part V S n es e h.1 a
 
-pub union_two : (V : LetVars) (n : ℕ) (es : List ExprTree) → IsSoundExpr V n (union_all es) → 2 ≤ length es
-union_two V n [] h = absurd h
-union_two V n (e ∷ []) h = absurd (h.2 refl)
-union_two V n (e ∷ g ∷ es) h = omega arith
+pub union_two : (V S : LetVars) (n : ℕ) (es : List ExprTree) → IsSoundExpr V S n (union_all es) → 2 ≤ length es
+union_two V S n [] h = absurd h
+union_two V S n (e ∷ []) h = absurd (h.2 refl)
+union_two V S n (e ∷ g ∷ es) h = omega arith
 
-pub join_two : (V : LetVars) (n : ℕ) (es : List ExprTree) → IsSoundExpr V n (join_all es) → 2 ≤ length es
-join_two V n [] h = absurd h
-join_two V n (e ∷ []) h = absurd (h.2 refl)
-join_two V n (e ∷ g ∷ es) h = omega arith
+pub join_two : (V S : LetVars) (n : ℕ) (es : List ExprTree) → IsSoundExpr V S n (join_all es) → 2 ≤ length es
+join_two V S n [] h = absurd h
+join_two V S n (e ∷ []) h = absurd (h.2 refl)
+join_two V S n (e ∷ g ∷ es) h = omega arith
+
+-- the parts of a union, and of a join, that names the first n lets alone, do so
+pub union_part_under : (n : ℕ) (es : List ExprTree) (e : ExprTree) → IsUnderLets n (union_all es) → Has es e → IsUnderLets n e
+union_part_under n [] e h has = absurd has
+union_part_under n (g ∷ es) e h (inl a) = subst (IsUnderLets n) a h.0
+union_part_under n (g ∷ es) e h (inr a) = union_part_under n es e h.1 a
+
+pub join_part_under : (n : ℕ) (es : List ExprTree) (e : ExprTree) → IsUnderLets n (join_all es) → Has es e → IsUnderLets n e
+join_part_under n [] e h has = absurd has
+join_part_under n (g ∷ es) e h (inl a) = subst (IsUnderLets n) a h.0
+join_part_under n (g ∷ es) e h (inr a) = join_part_under n es e h.1 a
 
 -- a union and a join of the same parts have the same variables and the same size
 pub union_vars : (V : LetVars) (es : List ExprTree) (x : VarName) → VarOf V (join_all es) x ↔ VarOf V (union_all es) x
@@ -129,30 +173,9 @@ join_var_part V [] x h = absurd h
 join_var_part V (g ∷ es) x (inl a) = (g, inl refl, a)
 join_var_part V (g ∷ es) x (inr b) = let p = join_var_part V es x b in (p.0, inr p.1, p.2)
 
--- of parts that agree each has a variable that some has
-pub first_var : (V : LetVars) (e rest : ExprTree) (x : VarName) → AgreesWithParts V e rest → VarOf V e x ⊎ VarOf V rest x → VarOf V e x
-first_var V e rest x agree (inl a) = a
-first_var V e (atom s t f) x agree (inr b) = (agree x).1 b
-first_var V e (named k) x agree (inr b) = (agree x).1 b
-first_var V e union_end x agree (inr b) = absurd b
-first_var V e (union g r) x agree (inr b) = (agree x).1 b
-first_var V e join_end x agree (inr b) = (agree x).1 b
-first_var V e (join g r) x agree (inr b) = (agree x).1 b
-first_var V e (project kept g) x agree (inr b) = (agree x).1 b
-
-united_var : (V : LetVars) (n : ℕ) (es : List ExprTree) (e : ExprTree) (x : VarName) → AreUnited V n (union_all es) → Has es e → VarOf V e x ↔ VarOf V (union_all es) x
-united_var V n [] e x u has = absurd has
-united_var V n (g ∷ es) e x u (inl i) =
-    subst (λ (w : ExprTree). VarOf V w x ↔ (VarOf V g x ⊎ VarOf V (union_all es) x)) i (λ v. inl v, λ v. first_var V g (union_all es) x u.2 v)
-united_var V n (g ∷ []) e x u (inr has) = absurd has
-united_var V n (g ∷ h ∷ es) e x u (inr has) =
-    let later = united_var V n (h ∷ es) e x u.1 has in
-    (λ v. inr (later.0 v), λ v. later.1 (elim v as (λ _. VarOf V (union_all (h ∷ es)) x) [ inl a ↦ (u.2 x).0 a | inr b ↦ b ]))
-
--- a part of a sound union has the union's variables
-pub union_var : (V : LetVars) (n : ℕ) (es : List ExprTree) (e : ExprTree) (x : VarName) → IsSoundExpr V n (union_all es) → Has es e → VarOf V e x ↔ VarOf V (union_all es) x
-union_var V n [] e x u has = absurd has
-union_var V n (g ∷ es) e x u has = united_var V n (g ∷ es) e x (u.0, u.1, u.3) has
+-- a variable of a part is one of a union
+pub union_part_var : (V : LetVars) (es : List ExprTree) (e : ExprTree) (x : VarName) → Has es e → VarOf V e x → VarOf V (union_all es) x
+union_part_var V es e x has v = (union_vars V es x).0 (join_part_var V es e x has v)
 
 -- the names of a part are names of a union, and of a join
 pub union_named : (es : List ExprTree) (e : ExprTree) (x : VarName) → Has es e → NameIn e x → NameIn (union_all es) x
@@ -169,28 +192,28 @@ join_named (g ∷ es) e x (inr h) v = inr (join_named es e x h v)
 
 -- the variables of a sound expression are names of its atoms, or variables of the lets
 mutual
-  pub var_named : (V : LetVars) (N : VarName → Type 0) → ((k : ℕ) (x : VarName) → V k x → N x) → (n : ℕ) (e : ExprTree) (x : VarName) → IsSoundExpr V n e → VarOf V e x → NameIn e x ⊎ N x
-  var_named V N known n (atom s t f) x h v = inl v
-  var_named V N known n (named k) x h v = inr (known k x v)
-  var_named V N known n union_end x h v = absurd h
-  var_named V N known n (union e rest) x h (inl v) = elim (var_named V N known n e x h.0 v) as (λ _. (NameIn e x ⊎ NameIn rest x) ⊎ N x) [ inl a ↦ inl (inl a) | inr b ↦ inr b ]
-  var_named V N known n (union e rest) x h (inr v) = elim (united_named V N known n rest x h.1 v) as (λ _. (NameIn e x ⊎ NameIn rest x) ⊎ N x) [ inl a ↦ inl (inr a) | inr b ↦ inr b ]
-  var_named V N known n join_end x h v = absurd h
-  var_named V N known n (join e rest) x h (inl v) = elim (var_named V N known n e x h.0 v) as (λ _. (NameIn e x ⊎ NameIn rest x) ⊎ N x) [ inl a ↦ inl (inl a) | inr b ↦ inr b ]
-  var_named V N known n (join e rest) x h (inr v) = elim (joined_named V N known n rest x h.1 v) as (λ _. (NameIn e x ⊎ NameIn rest x) ⊎ N x) [ inl a ↦ inl (inr a) | inr b ↦ inr b ]
-  var_named V N known n (project kept e) x h v = var_named V N known n e x h.0 (h.1 x v).0
+  pub var_named : (V S : LetVars) (N : VarName → Type 0) → ((k : ℕ) (x : VarName) → V k x → N x) → (n : ℕ) (e : ExprTree) (x : VarName) → IsSoundExpr V S n e → VarOf V e x → NameIn e x ⊎ N x
+  var_named V S N known n (atom s t f) x h v = inl v
+  var_named V S N known n (named k) x h v = inr (known k x v)
+  var_named V S N known n union_end x h v = absurd h
+  var_named V S N known n (union e rest) x h (inl v) = elim (var_named V S N known n e x h.0 v) as (λ _. (NameIn e x ⊎ NameIn rest x) ⊎ N x) [ inl a ↦ inl (inl a) | inr b ↦ inr b ]
+  var_named V S N known n (union e rest) x h (inr v) = elim (united_named V S N known n rest x h.1 v) as (λ _. (NameIn e x ⊎ NameIn rest x) ⊎ N x) [ inl a ↦ inl (inr a) | inr b ↦ inr b ]
+  var_named V S N known n join_end x h v = absurd h
+  var_named V S N known n (join e rest) x h (inl v) = elim (var_named V S N known n e x h.0 v) as (λ _. (NameIn e x ⊎ NameIn rest x) ⊎ N x) [ inl a ↦ inl (inl a) | inr b ↦ inr b ]
+  var_named V S N known n (join e rest) x h (inr v) = elim (joined_named V S N known n rest x h.1 v) as (λ _. (NameIn e x ⊎ NameIn rest x) ⊎ N x) [ inl a ↦ inl (inr a) | inr b ↦ inr b ]
+  var_named V S N known n (project kept e) x h v = var_named V S N known n e x h.0 (h.1 x v).0
 
-  united_named : (V : LetVars) (N : VarName → Type 0) → ((k : ℕ) (x : VarName) → V k x → N x) → (n : ℕ) (e : ExprTree) (x : VarName) → AreUnited V n e → VarOf V e x → NameIn e x ⊎ N x
-  united_named V N known n union_end x h v = absurd v
-  united_named V N known n (union e rest) x h (inl v) = elim (var_named V N known n e x h.0 v) as (λ _. (NameIn e x ⊎ NameIn rest x) ⊎ N x) [ inl a ↦ inl (inl a) | inr b ↦ inr b ]
-  united_named V N known n (union e rest) x h (inr v) = elim (united_named V N known n rest x h.1 v) as (λ _. (NameIn e x ⊎ NameIn rest x) ⊎ N x) [ inl a ↦ inl (inr a) | inr b ↦ inr b ]
-  united_named V N known n _ x h v = absurd h
+  united_named : (V S : LetVars) (N : VarName → Type 0) → ((k : ℕ) (x : VarName) → V k x → N x) → (n : ℕ) (e : ExprTree) (x : VarName) → AreUnited V S n e → VarOf V e x → NameIn e x ⊎ N x
+  united_named V S N known n union_end x h v = absurd v
+  united_named V S N known n (union e rest) x h (inl v) = elim (var_named V S N known n e x h.0 v) as (λ _. (NameIn e x ⊎ NameIn rest x) ⊎ N x) [ inl a ↦ inl (inl a) | inr b ↦ inr b ]
+  united_named V S N known n (union e rest) x h (inr v) = elim (united_named V S N known n rest x h.1 v) as (λ _. (NameIn e x ⊎ NameIn rest x) ⊎ N x) [ inl a ↦ inl (inr a) | inr b ↦ inr b ]
+  united_named V S N known n _ x h v = absurd h
 
-  joined_named : (V : LetVars) (N : VarName → Type 0) → ((k : ℕ) (x : VarName) → V k x → N x) → (n : ℕ) (e : ExprTree) (x : VarName) → AreJoined V n e → VarOf V e x → NameIn e x ⊎ N x
-  joined_named V N known n join_end x h v = absurd v
-  joined_named V N known n (join e rest) x h (inl v) = elim (var_named V N known n e x h.0 v) as (λ _. (NameIn e x ⊎ NameIn rest x) ⊎ N x) [ inl a ↦ inl (inl a) | inr b ↦ inr b ]
-  joined_named V N known n (join e rest) x h (inr v) = elim (joined_named V N known n rest x h.1 v) as (λ _. (NameIn e x ⊎ NameIn rest x) ⊎ N x) [ inl a ↦ inl (inr a) | inr b ↦ inr b ]
-  joined_named V N known n _ x h v = absurd h
+  joined_named : (V S : LetVars) (N : VarName → Type 0) → ((k : ℕ) (x : VarName) → V k x → N x) → (n : ℕ) (e : ExprTree) (x : VarName) → AreJoined V S n e → VarOf V e x → NameIn e x ⊎ N x
+  joined_named V S N known n join_end x h v = absurd v
+  joined_named V S N known n (join e rest) x h (inl v) = elim (var_named V S N known n e x h.0 v) as (λ _. (NameIn e x ⊎ NameIn rest x) ⊎ N x) [ inl a ↦ inl (inl a) | inr b ↦ inr b ]
+  joined_named V S N known n (join e rest) x h (inr v) = elim (joined_named V S N known n rest x h.1 v) as (λ _. (NameIn e x ⊎ NameIn rest x) ⊎ N x) [ inl a ↦ inl (inr a) | inr b ↦ inr b ]
+  joined_named V S N known n _ x h v = absurd h
 
 pub let_named : (lets : List (VarName × ExprTree)) (k : ℕ) (l : VarName × ExprTree) (x : VarName) → slice_get lets k ≡ Some l → NameIn l.1 x → NameInLets lets x
 let_named [] k l x at h = absurd (cc)
@@ -203,7 +226,7 @@ module _ (lets : List (VarName × ExprTree)) (sound : (k : ℕ) → ForSome (sli
       IsSomeAnd o (λ l. VarOf (vars_of_lets lets n) l.1 x) → NameInLets lets x
   lets_named_one n None x at before h = absurd h
   lets_named_one n (Some l) x at before h =
-      elim (var_named (vars_of_lets lets n) (NameInLets lets) before n l.1 x (sound n l at).0 h) as (λ _. NameInLets lets x) [ inl a ↦ let_named lets n l x at a | inr b ↦ b ]
+      elim (var_named (vars_of_lets lets n) (sure_of_lets lets n) (NameInLets lets) before n l.1 x (sound n l at).0 h) as (λ _. NameInLets lets x) [ inl a ↦ let_named lets n l x at a | inr b ↦ b ]
 
   lets_named_by : (b : Bool) (P Q R : Type 0) → (P → R) → (Q → R) → MatchBool b P Q → R
   lets_named_by true P Q R f g h = f h
@@ -260,23 +283,24 @@ knows_more lets known l names at knows is j x =
 
 -- what is asked where the variables of an expression are gathered
 pub record Asked (known : List (List VarName)) (e : ExprTree) : Type 0 where
-  pub sound : IsSoundExpr (vars_in known) (length known) e
+  pub under : IsUnderLets (length known) e
   pub room : HaveRoom [] (VarOf (vars_in known) e)
 
 asked : (q : QueryTree) (known : List (List VarName)) (n : ℕ) (e : ExprTree) → IsSound q → length known ≡ n → Knows q.lets known → IsSoundUnder q.lets n e →
     ((x : VarName) → NameIn e x → NameOf q x) → Asked known e
-asked q known n e s long knows under in_q =
-    let V = vars_of_lets q.lets (length known) in
-    let sound = subst (λ m. IsSoundExpr (vars_of_lets q.lets m) m e) (sym long) under.0 in
+asked q known n e s long knows sound in_q =
+    let V = vars_of_lets q.lets n in
+    let S = sure_of_lets q.lets n in
+    let var : (x : VarName) → VarOf (vars_in known) e x → VarOf V e x = λ x v. subst (λ m. VarOf (vars_of_lets q.lets m) e x) long (var_same (vars_in known) (vars_of_lets q.lets (length known)) knows e x v) in
     let named : (x : VarName) → ⊥ ⊎ VarOf (vars_in known) e x → NameOf q x = λ x h. elim h as (λ _. NameOf q x) [
       | inl a ↦ absurd a
-      | inr v ↦ elim (var_named V (NameInLets q.lets) (lets_named q.lets s.sound_lets (length known)) (length known) e x sound (var_same (vars_in known) V knows e x v)) as (λ _. NameOf q x) [
+      | inr v ↦ elim (var_named V S (NameInLets q.lets) (lets_named q.lets s.sound_lets n) n e x sound.0 (var x v)) as (λ _. NameOf q x) [
         | inl a ↦ in_q x a
         | inr b ↦ inl b
       ]
     ] in
     record {
-      sound = sound_same V (vars_in known) (turned (vars_in known) V knows) (length known) e sound;
+      under = subst (λ m. IsUnderLets m e) (sym long) (sound_under V S n e sound.0);
       room = (s.few.0, s.few.1, λ x h. s.few.2 x (named x h));
     }
 

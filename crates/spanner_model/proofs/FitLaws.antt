@@ -1,10 +1,10 @@
--- Laws of `Fit`: a part does not end before it begins, and a functional formula gives each of its variables a span, and no other.
+-- Laws of `Fit`: a part does not end before it begins, and a fit captures each sure variable, and none but the formula's variables.
 use Rattle.std.proofs.Common.{◌≡◌, ℕ, zero, suc, ◌≤◌, ◌⊎◌, List, [], ◌∷◌, length, inl, inr, refl, sym, subst, arith}
 use Rattle.std.proofs.lemmas.Option.{slice_get_within}
 use Rattle.spanner_model.specs.Tree.{Tree, empty, one, cat_end, cat, alt_end, alt, rep, cap}
 use Rattle.spanner_model.specs.Captures.{VarName, Captures, Captured}
 use Rattle.spanner_model.specs.Fit.{Piece, Times, Fit}
-use Rattle.spanner_model.specs.Functional.{HasVar, AgreesWithArms, IsFunctional}
+use Rattle.spanner_model.specs.Sequential.{HasVar, IsSure}
 use Rattle.spanner_model.proofs.CapturesLaws.{Captured-append_left, Captured-append_right, Captured-append_cases}
 
 -- pieces one after another do not end before they begin
@@ -57,46 +57,33 @@ fit_only_vars (cap y f) d i j m h x a =
       | inr b ↦ inr (fit_only_vars f d i j h.1 h.4 x b)
     ]
 
--- of arms that agree each has a variable that some has
-pub first_has : (f rest : Tree) (x : VarName) → AgreesWithArms f rest → HasVar f x ⊎ HasVar rest x → HasVar f x
-first_has f rest x agree (inl a) = a
-first_has f empty x agree (inr b) = absurd b
-first_has f (one set) x agree (inr b) = absurd b
-first_has f cat_end x agree (inr b) = absurd b
-first_has f alt_end x agree (inr b) = absurd b
-first_has f (cat g r) x agree (inr b) = (agree x).1 b
-first_has f (alt g r) x agree (inr b) = (agree x).1 b
-first_has f (rep g a b') x agree (inr b) = (agree x).1 b
-first_has f (cap y g) x agree (inr b) = (agree x).1 b
+-- of exactly one piece
+once_captured : (P : Piece) (c i j : ℕ) (m : Captures) (x : VarName) → 1 ≡ c → Times P c i j m →
+    ((k : ℕ) (n : Captures) → P i k n → Captured n x) → Captured m x
+once_captured P zero i j m x e t each = absurd (omega (arith, e))
+once_captured P (suc c) i j m x e t each =
+    subst (λ n. Captured n x) (sym t.6) (Captured-append_left t.1 t.2 x (each t.0 t.1 t.3))
 
-rest_has : (d : List ℕ) (i j : ℕ) (m : Captures) (f rest : Tree) (x : VarName) → AgreesWithArms f rest → Fit rest d i j m → HasVar f x ⊎ HasVar rest x → HasVar rest x
-rest_has d i j m f rest x agree h (inr b) = b
-rest_has d i j m f empty x agree h (inl a) = (agree x).0 a
-rest_has d i j m f (one set) x agree h (inl a) = (agree x).0 a
-rest_has d i j m f cat_end x agree h (inl a) = (agree x).0 a
-rest_has d i j m f alt_end x agree h (inl a) = absurd h
-rest_has d i j m f (cat g r) x agree h (inl a) = (agree x).0 a
-rest_has d i j m f (alt g r) x agree h (inl a) = (agree x).0 a
-rest_has d i j m f (rep g a' b) x agree h (inl a) = (agree x).0 a
-rest_has d i j m f (cap y g) x agree h (inl a) = (agree x).0 a
-
--- a fit of a functional formula captures each of its variables
-pub fit_all_vars : (f : Tree) (d : List ℕ) (i j : ℕ) (m : Captures) → IsFunctional f → Fit f d i j m → (x : VarName) → HasVar f x → Captured m x
-fit_all_vars empty d i j m ok h x v = absurd v
-fit_all_vars (one set) d i j m ok h x v = absurd v
-fit_all_vars cat_end d i j m ok h x v = absurd v
-fit_all_vars (cat f rest) d i j m ok h x (inl v) =
-    subst (λ n. Captured n x) (sym h.6) (Captured-append_left h.1 h.2 x (fit_all_vars f d i h.0 h.1 ok.0 h.3 x v))
-fit_all_vars (cat f rest) d i j m ok h x (inr v) =
-    subst (λ n. Captured n x) (sym h.6) (Captured-append_right h.1 h.2 x (fit_all_vars rest d h.0 j h.2 ok.1 h.4 x v))
-fit_all_vars alt_end d i j m ok h x v = absurd h
-fit_all_vars (alt f rest) d i j m ok (inl h) x v = fit_all_vars f d i j m ok.0 h x (first_has f rest x ok.2 v)
-fit_all_vars (alt f rest) d i j m ok (inr h) x v = fit_all_vars rest d i j m ok.1 h x (rest_has d i j m f rest x ok.2 h v)
-fit_all_vars (rep f least most) d i j m ok h x v = absurd (ok.1 x v)
-fit_all_vars (cap y f) d i j m ok h x v =
-    subst (λ n. Captured n x) (sym h.6) (elim v as (λ _. (y ≡ x) ⊎ Captured h.1 x) [
+-- a fit captures each sure variable
+pub fit_sure : (f : Tree) (d : List ℕ) (i j : ℕ) (m : Captures) → Fit f d i j m → (x : VarName) → IsSure f x → Captured m x
+fit_sure empty d i j m h x s = absurd s
+fit_sure (one set) d i j m h x s = absurd s
+fit_sure cat_end d i j m h x s = absurd s
+fit_sure (cat f rest) d i j m h x (inl s) =
+    subst (λ n. Captured n x) (sym h.6) (Captured-append_left h.1 h.2 x (fit_sure f d i h.0 h.1 h.3 x s))
+fit_sure (cat f rest) d i j m h x (inr s) =
+    subst (λ n. Captured n x) (sym h.6) (Captured-append_right h.1 h.2 x (fit_sure rest d h.0 j h.2 h.4 x s))
+fit_sure alt_end d i j m h x s = absurd h
+fit_sure (alt f rest) d i j m (inl h) x s = fit_sure f d i j m h x s.0
+fit_sure (alt f rest) d i j m (inr h) x s = fit_sure rest d i j m h x s.1
+fit_sure (rep f least most) d i j m h x s =
+    let low : least ≤ h.0 = h.1 in
+    let high : h.0 ≤ 1 = h.2 1 s.1 in
+    once_captured (Fit f d) h.0 i j m x (omega (arith, low, high, s.0)) h.3 (λ k n g. fit_sure f d i k n g x s.2)
+fit_sure (cap y f) d i j m h x s =
+    subst (λ n. Captured n x) (sym h.6) (elim s as (λ _. (y ≡ x) ⊎ Captured h.1 x) [
       | inl e ↦ inl e
-      | inr w ↦ inr (fit_all_vars f d i j h.1 ok.0 h.4 x w)
+      | inr w ↦ inr (fit_sure f d i j h.1 h.4 x w)
     ])
 
 -- without variables nothing is captured

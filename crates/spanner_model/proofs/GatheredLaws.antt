@@ -7,7 +7,7 @@ use Rattle.spanner_model.specs.Captures.{VarName}
 use Rattle.std.specs.Prelude.{slice_get}
 use Rattle.span_core.specs.Lists.{Has}
 use Rattle.spanner_model.specs.Tree.{cat_all}
-use Rattle.spanner_model.specs.Functional.{HasVar}
+use Rattle.spanner_model.specs.Sequential.{HasVar}
 use Rattle.spanner_model.specs.Expression.{join_all}
 use Rattle.spanner_model.specs.Answer.{VarOf}
 use Rattle.spanner_model.specs.Gathered.{Adds, HaveRoom, Gathered}

@@ -6,11 +6,13 @@ pub mod ExampleLaws
 pub mod ExprLaws
 pub mod ExprTrees
 pub mod FitLaws
+pub mod FunctionalLaws
 pub mod GatheredLaws
 pub mod NameLaws
 pub mod NodeExprs
 pub mod NodeParts
 pub mod Nodes
+mod OptionalRows
 pub mod PartLaws
 pub mod RowOrder
 pub mod SampleLaws

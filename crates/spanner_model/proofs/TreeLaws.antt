@@ -6,7 +6,7 @@ use Rattle.std.proofs.lemmas.Option.{slice_get_within, get_or_from_slice_get}
 use Rattle.span_core.specs.Lists.{Has}
 use Rattle.spanner_model.specs.Tree.{Tree, cat_all, alt_all}
 use Rattle.spanner_model.specs.Captures.{VarName}
-use Rattle.spanner_model.specs.Functional.{HasVar, IsFunctional}
+use Rattle.spanner_model.specs.Sequential.{HasVar, IsSequential}
 use Rattle.spanner_model.specs.WellBuilt.{IsBuilt, AreParts, AreArms, nesting, IsWellBuilt}
 use Rattle.spanner_model.proofs.Nodes.{nodes}
 
@@ -123,13 +123,13 @@ pub cat_nesting : (ts : List Tree) (n : ℕ) → 1 ≤ n → ((t : Tree) → Has
 cat_nesting [] n one each = omega arith
 cat_nesting (t ∷ ts) n one each = omega (arith, each t (inl refl), cat_nesting ts n one (λ u h. each u (inr h)))
 
--- the parts, and the arms, of a functional formula are functional
-pub functional_part : (ts : List Tree) (t : Tree) → Has ts t → IsFunctional (cat_all ts) → IsFunctional t
-functional_part [] t has ok = absurd has
-functional_part (u ∷ ts) t (inl e) ok = subst IsFunctional e ok.0
-functional_part (u ∷ ts) t (inr has) ok = functional_part ts t has ok.1
+-- the parts, and the arms, of a sequential formula are sequential
+pub sequential_part : (ts : List Tree) (t : Tree) → Has ts t → IsSequential (cat_all ts) → IsSequential t
+sequential_part [] t has ok = absurd has
+sequential_part (u ∷ ts) t (inl e) ok = subst IsSequential e ok.0
+sequential_part (u ∷ ts) t (inr has) ok = sequential_part ts t has ok.1
 
-pub functional_arm : (ts : List Tree) (t : Tree) → Has ts t → IsFunctional (alt_all ts) → IsFunctional t
-functional_arm [] t has ok = absurd has
-functional_arm (u ∷ ts) t (inl e) ok = subst IsFunctional e ok.0
-functional_arm (u ∷ ts) t (inr has) ok = functional_arm ts t has ok.1
+pub sequential_arm : (ts : List Tree) (t : Tree) → Has ts t → IsSequential (alt_all ts) → IsSequential t
+sequential_arm [] t has ok = absurd has
+sequential_arm (u ∷ ts) t (inl e) ok = subst IsSequential e ok.0
+sequential_arm (u ∷ ts) t (inr has) ok = sequential_arm ts t has ok.1

@@ -8,7 +8,7 @@ use Rattle.spanner_model.specs.Tree.{Tree}
 use Rattle.spanner_model.specs.Expression.{ExprTree, QueryTree, atom, named, union_end, union, join_end, join, project}
 use Rattle.spanner_model.specs.Captures.{VarName, Captures, Mapping, span_of}
 use Rattle.spanner_model.specs.Fit.{Fit}
-use Rattle.spanner_model.specs.Functional.{HasVar}
+use Rattle.spanner_model.specs.Sequential.{HasVar}
 
 -- the variables of an expression; V k has those of the let k
 abbrev pub VarOf : (ℕ → VarName → Type 0) → ExprTree → VarName → Type 0

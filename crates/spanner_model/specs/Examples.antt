@@ -6,8 +6,10 @@ use Rattle.span_core.specs.declared.span.Span.{Span}
 use Rattle.span_core.specs.ByteSets.{bytes_between}
 use Rattle.span_core.specs.Order.{StandsBefore}
 use Rattle.spanner_model.specs.Tree.{Tree, one, cat_all, alt_all, rep, cap}
-use Rattle.spanner_model.specs.Captures.{VarName}
-use Rattle.spanner_model.specs.Expression.{ExprTree, QueryTree, atom, named, join_all, project}
+use Rattle.spanner_model.specs.Captures.{VarName, span_of}
+use Rattle.spanner_model.specs.Expression.{ExprTree, QueryTree, atom, named, union_all, join_all, project}
+use Rattle.spanner_model.specs.Answer.{FitsSomewhere}
+use Rattle.spanner_model.specs.Sound.{IsSound}
 use Rattle.spanner_model.specs.Answers.{SpanRow, IsAnswerRow, AreAnswers}
 
 -- the byte of this code, and any byte but the end of a line
@@ -111,6 +113,38 @@ Projected =
 -- project none (/!x{a}/) on `aa`: the empty row
 abbrev pub ProjectedToNone : Type 0
 ProjectedToNone = IsAnswerRow (query (project [] (free (cap x a)))) (codes "aa") [] []
+
+-- !x{a}|b
+abbrev pub x_or_b : Tree
+x_or_b = alt_all (cap x a ∷ (b ∷ []))
+
+-- /!x{a}|b/ on `ab`: `x=0-1`, and x absent
+abbrev pub OptionalRows : Type 0
+OptionalRows =
+    let answers = IsAnswerRow (query (free x_or_b)) (codes "ab") (x ∷ []) in
+    answers (row1 (span 0 1)) × answers (None ∷ [])
+
+-- /(!x{a})?b/ on `ab`: `x=0-1`, and x absent
+abbrev pub MaybeRows : Type 0
+MaybeRows =
+    let f = cat_all (rep (cap x a) 0 (Some 1) ∷ (b ∷ [])) in
+    let answers = IsAnswerRow (query (free f)) (codes "ab") (x ∷ []) in
+    answers (row1 (span 0 1)) × answers (None ∷ [])
+
+-- /!x{a}/ union /!y{a}/ on `a`: `x=0-1` with y absent, and `y=0-1` with x absent
+abbrev pub UnionRows : Type 0
+UnionRows =
+    let answers = IsAnswerRow (query (union_all (free (cap x a) ∷ (free (cap y a) ∷ [])))) (codes "a") (x ∷ (y ∷ [])) in
+    answers (Some (span 0 1) ∷ (None ∷ [])) × answers (None ∷ (Some (span 0 1) ∷ []))
+
+-- /!x{a}|b/ join /!x{.}/ on `ab`: a part's answer without x and another's with `x=1-2` do not join, though
+-- they give no name two spans; such a join is not sound, since x is not sure on the left
+abbrev pub UnsureJoin : Type 0
+UnsureJoin =
+    let q = query (join_all (free x_or_b ∷ (free (cap x dot) ∷ []))) in
+    FitsSomewhere false false x_or_b (codes "ab") (λ z. None)
+    × FitsSomewhere false false (cap x dot) (codes "ab") (span_of ((x, span 1 1) ∷ []))
+    × ¬ IsAnswerRow q (codes "ab") (x ∷ []) (row1 (span 1 1)) × ¬ IsSound q
 
 -- block order looks at all variables at a position before it looks at the next position:
 -- `x=0-1 y=1-2 z=0-1` stands before `x=0-1 y=1-1 z=1-1`, though 1-1 is less than 1-2

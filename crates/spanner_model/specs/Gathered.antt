@@ -1,9 +1,11 @@
 -- Sets of names with more names.
-use Rattle.std.specs.Prelude.{ℕ, ◌⊎◌, ◌↔◌, Bool, List, slice_get, MatchBool}
+use Rattle.std.specs.Prelude.{ℕ, ◌<◌, ◌⊎◌, ◌↔◌, Bool, List, slice_get, MatchBool}
 use Rattle.std.specs.Option.{IsSomeAnd}
 use Rattle.span_core.specs.declared.TheConstants.{MOST_VARIABLES}
 use Rattle.span_core.specs.Lists.{Has, AtMost}
 use Rattle.spanner_model.specs.Captures.{VarName}
+use Rattle.spanner_model.specs.WellBuilt.{IsWellBuilt}
+use Rattle.spanner_model.specs.Expression.{ExprTree, atom, named, union_end, union, join_end, join, project}
 
 -- the old names and those of P, and no others
 abbrev pub Adds : List VarName → (VarName → Type 0) → List VarName → Type 0
@@ -24,3 +26,13 @@ Gathered old P all new = MatchBool all (Adds old P new) (AddsSome old P new × �
 -- the variables of the let k, where these are the variables of all lets in order
 abbrev pub vars_in : List (List VarName) → ℕ → VarName → Type 0
 vars_in known k x = IsSomeAnd (slice_get known k) (λ names. Has names x)
+
+-- its formulas are well built, and of lets it names the first n alone
+abbrev pub IsUnderLets : ℕ → ExprTree → Type 0
+IsUnderLets n (atom s t f) = IsWellBuilt f
+IsUnderLets n (named k) = k < n
+IsUnderLets n union_end = Unit {0}
+IsUnderLets n (union e rest) = IsUnderLets n e × IsUnderLets n rest
+IsUnderLets n join_end = Unit {0}
+IsUnderLets n (join e rest) = IsUnderLets n e × IsUnderLets n rest
+IsUnderLets n (project kept e) = IsUnderLets n e

@@ -8,13 +8,15 @@ use Rattle.spanner_model.specs.Expression.{ExprTree, QueryTree, union_all, join_
 use Rattle.spanner_model.specs.Answer.{VarOf, IsRestriction, Answer, vars_of_lets, answers_of_lets, IsAnswer, IsResultVar}
 use Rattle.spanner_model.specs.Answers.{SpanRow, AreResultNames, AreAnswers, IsPage, page_end}
 use Rattle.spanner_model.specs.Fit.{Fit}
-use Rattle.spanner_model.specs.Functional.{HasVar, IsFunctional}
-use Rattle.spanner_model.specs.Sound.{IsSound}
+use Rattle.spanner_model.specs.Sequential.{HasVar, IsSequential, IsSure}
+use Rattle.spanner_model.specs.Functional.{IsFunctional, IsFunctionalQuery, IsTotalAnswer}
+use Rattle.spanner_model.specs.Sound.{IsSound, IsSureResult}
 
--- a fit of a functional formula captures the formula's variables, and no others
-abbrev pub FunctionalFitsHaveTheVariables : Type 0
-FunctionalFitsHaveTheVariables =
-    (f : Tree) (d : List ℕ) (i j : ℕ) (m : Captures) → IsFunctional f → Fit f d i j m → (x : VarName) → Captured m x ↔ HasVar f x
+-- a fit of a sequential formula captures each sure variable, and no name but the formula's variables
+abbrev pub SequentialFitsGiveTheSure : Type 0
+SequentialFitsGiveTheSure =
+    (f : Tree) (d : List ℕ) (i j : ℕ) (m : Captures) → IsSequential f → Fit f d i j m → (x : VarName) →
+    (IsSure f x → Captured m x) × (Captured m x → HasVar f x)
 
 -- a part that fits does not end before it begins, and it ends in the document where it begins there
 abbrev pub FitsLieInTheDocument : Type 0
@@ -26,10 +28,21 @@ abbrev pub AnswersAreAbsentOutside : Type 0
 AnswersAreAbsentOutside =
     (q : QueryTree) (d : List ℕ) (m : Mapping) → IsAnswer q d m → (x : VarName) → ¬ IsResultVar q x → m x ≡ None
 
--- an answer of a sound query gives a span to each of the result's variables
-abbrev pub AnswersGiveEachVariable : Type 0
-AnswersGiveEachVariable =
-    (q : QueryTree) (d : List ℕ) (m : Mapping) → IsSound q → IsAnswer q d m → (x : VarName) → IsResultVar q x → (s : Span) × (m x ≡ Some s)
+-- an answer gives a span to each sure variable of the result
+abbrev pub AnswersGiveTheSure : Type 0
+AnswersGiveTheSure =
+    (q : QueryTree) (d : List ℕ) (m : Mapping) → IsAnswer q d m → (x : VarName) → IsSureResult q x → (s : Span) × (m x ≡ Some s)
+
+-- functional formulas are sequential, and each of their variables is sure
+abbrev pub FunctionalIsSequential : Type 0
+FunctionalIsSequential = (f : Tree) → IsFunctional f → IsSequential f × ((x : VarName) → HasVar f x → IsSure f x)
+
+-- Queries of functional formulas, whose unions have equal variables, are sound; each variable of their result is
+-- sure; and they have the answers that they had where a join's answer had to have all variables of its parts.
+pub record FunctionalQueriesAreAsBefore : Type 0 where
+  pub are_sound : (q : QueryTree) → IsFunctionalQuery q → IsSound q
+  pub all_are_sure : (q : QueryTree) → IsFunctionalQuery q → (x : VarName) → IsResultVar q x → IsSureResult q x
+  pub same_answers : (q : QueryTree) (d : List ℕ) (m : Mapping) → IsFunctionalQuery q → IsTotalAnswer q d m ↔ IsAnswer q d m
 
 -- a mapping is an answer of a union where it is one of some part
 abbrev pub UnionsAnswerForSomePart : Type 0

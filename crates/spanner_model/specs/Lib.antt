@@ -6,8 +6,9 @@ pub mod ExprView
 pub mod Expression
 pub mod Fit
 pub mod Functional
-pub mod Laws
 pub mod Gathered
+pub mod Laws
+pub mod Sequential
 pub mod Sound
 pub mod Tree
 pub mod View

@@ -1,13 +1,13 @@
 -- Which queries are sound.
-use Rattle.std.specs.Prelude.{◌≡◌, ℕ, suc, ◌<◌, ◌≤◌, ◌⊎◌, ◌↔◌, max, List, [], ◌∷◌, length, map, slice_get, IsTrue, codes}
-use Rattle.std.specs.Option.{ForSome}
+use Rattle.std.specs.Prelude.{◌≡◌, ℕ, zero, suc, ◌<◌, ◌≤◌, ◌⊎◌, max, List, [], ◌∷◌, length, map, slice_get, nat_eq, IsTrue, MatchBool, codes}
+use Rattle.std.specs.Option.{ForSome, IsSomeAnd}
 use Rattle.span_core.specs.Names.{is_name}
 use Rattle.span_core.specs.NameSets.{Ascending}
 use Rattle.span_core.specs.declared.TheConstants.{MOST_VARIABLES}
 use Rattle.spanner_model.specs.declared.TheConstants.{MOST_NESTED_EXPRESSIONS}
 use Rattle.span_core.specs.Lists.{Has, AtMost, AreDistinct}
 use Rattle.spanner_model.specs.Captures.{VarName}
-use Rattle.spanner_model.specs.Functional.{HasVar, IsFunctional}
+use Rattle.spanner_model.specs.Sequential.{HasVar, IsSequential, IsSure}
 use Rattle.spanner_model.specs.WellBuilt.{IsWellBuilt}
 use Rattle.spanner_model.specs.Expression.{ExprTree, QueryTree, atom, named, union_end, union, join_end, join, project}
 use Rattle.spanner_model.specs.Answer.{VarOf, vars_of_lets}
@@ -20,34 +20,58 @@ words = codes "let" ∷ codes "union" ∷ codes "join" ∷ codes "project" ∷ c
 abbrev pub IsFreeName : VarName → Type 0
 IsFreeName x = IsTrue (is_name x) × ¬ Has words x
 
--- a part of a union has the variables of the parts that follow, if any follows
-abbrev pub AgreesWithParts : (ℕ → VarName → Type 0) → ExprTree → ExprTree → Type 0
-AgreesWithParts V e union_end = Unit {0}
-AgreesWithParts V e rest = (x : VarName) → VarOf V e x ↔ VarOf V rest x
+-- x is a sure variable of the expression: each answer gives it a span; S k has those of the let k
+--   Of no parts of a union every name is sure, since nothing answers.
+abbrev pub SureOf : (ℕ → VarName → Type 0) → ExprTree → VarName → Type 0
+SureOf S (atom s t f) x = IsSure f x
+SureOf S (named k) x = S k x
+SureOf S union_end x = Unit {0}
+SureOf S (union e rest) x = SureOf S e x × SureOf S rest x
+SureOf S join_end x = ⊥
+SureOf S (join e rest) x = SureOf S e x ⊎ SureOf S rest x
+SureOf S (project kept e) x = Has kept x × SureOf S e x
 
--- a sound expression under n lets, of which V k has the variables of the let k; what a projection keeps is a set, as the list
--- that ascends strictly
-abbrev mutual
-  pub IsSoundExpr : (ℕ → VarName → Type 0) → ℕ → ExprTree → Type 0
-  IsSoundExpr V n (atom s t f) = IsWellBuilt f × IsFunctional f
-  IsSoundExpr V n (named k) = k < n
-  IsSoundExpr V n union_end = ⊥
-  IsSoundExpr V n (union e rest) = IsSoundExpr V n e × AreUnited V n rest × ¬ (rest ≡ union_end) × AgreesWithParts V e rest
-  IsSoundExpr V n join_end = ⊥
-  IsSoundExpr V n (join e rest) = IsSoundExpr V n e × AreJoined V n rest × ¬ (rest ≡ join_end)
-  IsSoundExpr V n (project kept e) = IsSoundExpr V n e × ((x : VarName) → Has kept x → VarOf V e x × IsFreeName x) × Ascending kept
+-- the sure variables of the first n lets, by number: of each its own, under the lets before it
+abbrev pub sure_of_lets : List (VarName × ExprTree) → ℕ → ℕ → VarName → Type 0
+sure_of_lets lets zero k x = ⊥
+sure_of_lets lets (suc n) k x =
+    MatchBool (nat_eq k n)
+    (IsSomeAnd (slice_get lets n) (λ l. SureOf (sure_of_lets lets n) l.1 x))
+    (sure_of_lets lets n k x)
 
-  -- the parts that follow one of a union
-  pub AreUnited : (ℕ → VarName → Type 0) → ℕ → ExprTree → Type 0
-  AreUnited V n union_end = Unit {0}
-  AreUnited V n (union e rest) = IsSoundExpr V n e × AreUnited V n rest × AgreesWithParts V e rest
-  AreUnited V n _ = ⊥
+-- x is a sure variable of the query's result
+abbrev pub IsSureResult : QueryTree → VarName → Type 0
+IsSureResult q = SureOf (sure_of_lets q.lets (length q.lets)) q.body
 
-  -- the parts that follow one of a join
-  pub AreJoined : (ℕ → VarName → Type 0) → ℕ → ExprTree → Type 0
-  AreJoined V n join_end = Unit {0}
-  AreJoined V n (join e rest) = IsSoundExpr V n e × AreJoined V n rest
-  AreJoined V n _ = ⊥
+-- V k has the variables, and S k the sure ones, of the let k
+module _ (V S : ℕ → VarName → Type 0) where
+  -- a variable that stands in this part of a join and in one that follows is sure in both
+  abbrev pub SharesSure : ExprTree → ExprTree → Type 0
+  SharesSure e (join g rest) = ((x : VarName) → VarOf V e x → VarOf V g x → SureOf S e x × SureOf S g x) × SharesSure e rest
+  SharesSure e _ = Unit {0}
+
+  -- a sound expression under n lets; what a projection keeps is a set, as the list that ascends strictly
+  abbrev mutual
+    pub IsSoundExpr : ℕ → ExprTree → Type 0
+    IsSoundExpr n (atom s t f) = IsWellBuilt f × IsSequential f
+    IsSoundExpr n (named k) = k < n
+    IsSoundExpr n union_end = ⊥
+    IsSoundExpr n (union e rest) = IsSoundExpr n e × AreUnited n rest × ¬ (rest ≡ union_end)
+    IsSoundExpr n join_end = ⊥
+    IsSoundExpr n (join e rest) = IsSoundExpr n e × AreJoined n rest × ¬ (rest ≡ join_end) × SharesSure e rest
+    IsSoundExpr n (project kept e) = IsSoundExpr n e × ((x : VarName) → Has kept x → VarOf V e x × IsFreeName x) × Ascending kept
+
+    -- the parts that follow one of a union
+    pub AreUnited : ℕ → ExprTree → Type 0
+    AreUnited n union_end = Unit {0}
+    AreUnited n (union e rest) = IsSoundExpr n e × AreUnited n rest
+    AreUnited n _ = ⊥
+
+    -- the parts that follow one of a join
+    pub AreJoined : ℕ → ExprTree → Type 0
+    AreJoined n join_end = Unit {0}
+    AreJoined n (join e rest) = IsSoundExpr n e × AreJoined n rest × SharesSure e rest
+    AreJoined n _ = ⊥
 
 -- how many unions, joins and projections stand inside each other
 abbrev pub expr_nesting : ExprTree → ℕ
@@ -61,7 +85,7 @@ expr_nesting (project kept e) = suc (expr_nesting e)
 
 -- a sound expression under the first n lets, in which not too many stand inside each other
 abbrev pub IsSoundUnder : List (VarName × ExprTree) → ℕ → ExprTree → Type 0
-IsSoundUnder lets n e = IsSoundExpr (vars_of_lets lets n) n e × (expr_nesting e ≤ MOST_NESTED_EXPRESSIONS)
+IsSoundUnder lets n e = IsSoundExpr (vars_of_lets lets n) (sure_of_lets lets n) n e × (expr_nesting e ≤ MOST_NESTED_EXPRESSIONS)
 
 -- x is a name in an atom of the expression, kept or not
 abbrev pub NameIn : ExprTree → VarName → Type 0

@@ -1,5 +1,6 @@
 //! What queries answer on small documents, each the contract of a function that does nothing.
 ghost use Rattle.spanner_model.specs.Examples.{EachPart, EmptyDocument, Tied, ManyWays, Neighbours, Nested, Joined, Projected, ProjectedToNone, BlocksBeforeTuples};
+ghost use Rattle.spanner_model.specs.Examples.{OptionalRows, MaybeRows, UnionRows, UnsureJoin};
 
 /// `/!x{a*}/` on `aa`.
 pub fn each_part()
@@ -44,6 +45,26 @@ pub fn projected()
 /// `project none (/!x{a}/)` on `aa`.
 pub fn projected_to_none()
     ensures { ProjectedToNone }
+{}
+
+/// `/!x{a}|b/` on `ab`.
+pub fn optional_rows()
+    ensures { OptionalRows }
+{}
+
+/// `/(!x{a})?b/` on `ab`.
+pub fn maybe_rows()
+    ensures { MaybeRows }
+{}
+
+/// `/!x{a}/ union /!y{a}/` on `a`.
+pub fn union_rows()
+    ensures { UnionRows }
+{}
+
+/// `/!x{a}|b/ join /!x{.}/` on `ab`.
+pub fn unsure_join()
+    ensures { UnsureJoin }
 {}
 
 /// `x=0-1 y=1-2 z=0-1` and `x=0-1 y=1-1 z=1-1`.

@@ -6,14 +6,14 @@ ghost use Rattle.span_core.specs.NameSets.{Ascending};
 ghost use Rattle.span_core.specs.Lists.{Has};
 ghost use Rattle.spanner_model.specs.Tree.{Tree, cat_all};
 ghost use Rattle.spanner_model.specs.View.{tree_of, trees_of};
-ghost use Rattle.spanner_model.specs.Functional.{HasVar};
+ghost use Rattle.spanner_model.specs.Sequential.{HasVar};
 ghost use Rattle.spanner_model.specs.WellBuilt.{IsWellBuilt};
 ghost use Rattle.spanner_model.specs.Expression.{ExprTree, join_all};
 ghost use Rattle.spanner_model.specs.ExprView.{expr_of, exprs_of, query_of};
 ghost use Rattle.spanner_model.specs.Answer.{VarOf};
 ghost use Rattle.spanner_model.specs.Answers.{AreResultNames};
-ghost use Rattle.spanner_model.specs.Sound.{IsSoundExpr, IsSound};
-ghost use Rattle.spanner_model.specs.Gathered.{Adds, AddsSome, HaveRoom, Gathered, vars_in};
+ghost use Rattle.spanner_model.specs.Sound.{IsSound};
+ghost use Rattle.spanner_model.specs.Gathered.{Adds, AddsSome, HaveRoom, Gathered, vars_in, IsUnderLets};
 
 use crate::expression::{Expr, Exprs};
 use crate::formula::{Formula, Parts};
@@ -89,7 +89,7 @@ pub fn variables(alloc: Global, query: &Query) -> Result<VarSet, OutOfMemory>
 
 /// The variables of an expression, where `known` has those of the `let`s of which it may speak.
 fn variables_of(expr: &Expr, known: &[VarSet]) -> VarSet
-    requires sound { IsSoundExpr (vars_in known.now) (length known.now) (expr_of expr.now) }
+    requires under { IsUnderLets (length known.now) (expr_of expr.now) }
     requires room { HaveRoom [] (VarOf (vars_in known.now) (expr_of expr.now)) }
     ensures names { (x : List ℕ) → Has result x ↔ VarOf (vars_in known.now) (expr_of expr.now) x }
     ensures ascending { Ascending result }
@@ -103,7 +103,7 @@ fn variables_of(expr: &Expr, known: &[VarSet]) -> VarSet
 
 #[cycle(expressions)]
 fn gather_expr(expr: &Expr, known: &[VarSet], into: &mut VarSet) -> bool
-    requires { IsSoundExpr (vars_in known.now) (length known.now) (expr_of expr.now) }
+    requires { IsUnderLets (length known.now) (expr_of expr.now) }
     ensures { Gathered into.old (VarOf (vars_in known.now) (expr_of expr.now)) result into.new }
 {
     match expr {
@@ -116,7 +116,7 @@ fn gather_expr(expr: &Expr, known: &[VarSet], into: &mut VarSet) -> bool
 
 #[cycle(expressions)]
 fn gather_exprs(parts: &Exprs, known: &[VarSet], into: &mut VarSet) -> bool
-    requires { (e : ExprTree) → Has (exprs_of parts.now) e → IsSoundExpr (vars_in known.now) (length known.now) e }
+    requires { (e : ExprTree) → Has (exprs_of parts.now) e → IsUnderLets (length known.now) e }
     ensures { Gathered into.old (VarOf (vars_in known.now) (join_all (exprs_of parts.now))) result into.new }
 {
     for k in 0..parts.len() {

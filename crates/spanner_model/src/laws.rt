@@ -1,10 +1,11 @@
 //! Laws of the meaning, each the contract of a function that does nothing.
-ghost use Rattle.spanner_model.specs.Laws.{FunctionalFitsHaveTheVariables, FitsLieInTheDocument, AnswersAreAbsentOutside, AnswersGiveEachVariable};
+ghost use Rattle.spanner_model.specs.Laws.{SequentialFitsGiveTheSure, FitsLieInTheDocument, AnswersAreAbsentOutside, AnswersGiveTheSure};
+ghost use Rattle.spanner_model.specs.Laws.{FunctionalIsSequential, FunctionalQueriesAreAsBefore};
 ghost use Rattle.spanner_model.specs.Laws.{UnionsAnswerForSomePart, JoinsAnswerForEachPart, ResultNamesAreOne, AnswersAreOne, PagesAreOne, PagesJoin};
 
-/// A fit of a functional formula captures the formula's variables, and no others.
-pub fn functional_fits_have_the_variables()
-    ensures { FunctionalFitsHaveTheVariables }
+/// A fit of a sequential formula captures each of its sure variables, and none but its variables.
+pub fn sequential_fits_give_the_sure()
+    ensures { SequentialFitsGiveTheSure }
 {}
 
 /// A part that fits does not end before it begins, and ends in the document if it begins there.
@@ -17,9 +18,20 @@ pub fn answers_are_absent_outside()
     ensures { AnswersAreAbsentOutside }
 {}
 
-/// An answer of a sound query gives a span to each of the result's variables.
-pub fn answers_give_each_variable()
-    ensures { AnswersGiveEachVariable }
+/// An answer gives a span to each sure variable of the query's result.
+pub fn answers_give_the_sure()
+    ensures { AnswersGiveTheSure }
+{}
+
+/// A functional formula is sequential, and each of its variables is sure.
+pub fn functional_formulas_are_sequential()
+    ensures { FunctionalIsSequential }
+{}
+
+/// Queries of functional formulas, whose unions have equal variables, are sound, each of their variables is sure, and
+/// their answers are those that they have where no variable may be absent.
+pub fn functional_queries_are_as_before()
+    ensures { FunctionalQueriesAreAsBefore }
 {}
 
 /// The answers of a union are those of its parts, however many.

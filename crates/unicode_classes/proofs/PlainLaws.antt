@@ -9,7 +9,7 @@ use Rattle.span_core.specs.Lists.{Has}
 use Rattle.span_core.specs.Intervals.{Covers, AreApart}
 use Rattle.spanner_model.specs.Tree.{Tree, cat, cat_end, alt_all}
 use Rattle.spanner_model.specs.Captures.{VarName}
-use Rattle.spanner_model.specs.Functional.{HasVar}
+use Rattle.spanner_model.specs.Sequential.{HasVar}
 use Rattle.spanner_model.specs.WellBuilt.{IsBuilt, IsByteClass, nesting}
 use Rattle.spanner_model.proofs.TreeLaws.{arms_have, parts_have, arms_nesting, alt_built, cat_nesting}
 use Rattle.unicode_classes.specs.Texts.{AreCharacters, IsText}

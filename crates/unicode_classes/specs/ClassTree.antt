@@ -10,7 +10,7 @@ use Rattle.std.specs.FinSet.{FinSet, contains}
 use Rattle.span_core.specs.Lists.{Has, IsInOrder}
 use Rattle.spanner_model.specs.Tree.{Tree, one, cat, cat_end, alt_end, alt_all}
 use Rattle.spanner_model.specs.Captures.{VarName}
-use Rattle.spanner_model.specs.Functional.{HasVar}
+use Rattle.spanner_model.specs.Sequential.{HasVar}
 use Rattle.spanner_model.specs.WellBuilt.{IsBuilt, nesting}
 use Rattle.unicode_classes.specs.Texts.{IsText}
 

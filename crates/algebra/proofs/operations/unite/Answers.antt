@@ -1,32 +1,22 @@
-use Rattle.std.proofs.Common.{◌≡◌, ◌+◌, ◌∙◌, subst, sym, ap}
-use Rattle.span_core.specs.Lists.{Has}
-use Rattle.marked_automaton.specs.Automaton.{Automaton, idle_way, with_states}
-use Rattle.algebra.specs.Moved.{IsWithPart, IsWithWays}
-use Rattle.algebra.specs.Operations.{union_of}
-use Rattle.algebra.proofs.Alike.{alike_reduces}
-use Rattle.algebra.proofs.United.{second_idle, united}
-use Rattle.algebra.proofs.Whole.{union_whole}
+use Rattle.algebra.specs.Uniting.{IsOver}
+use Rattle.algebra.proofs.UnionsOver.{first_of_all, over_as_it_is, second_of_all, union_made}
 use Rattle.algebra.proofs.operations.unite.Goals as goal
 
-pub add_part-requires-clause-ways : goal.add_part-requires-clause-ways
-add_part-requires-clause-ways c = λ q h.
-    let A = c.args.a in
+pub over-requires : goal.over-requires
+over-requires c = first_of_all c.names_of_both-all.result c.args.a.names c.args.b.now.names c.vars.result.now c.vars-2.result.now c.names_of_both-all.ensures c.vars.ensures c.vars-2.ensures
+
+pub is_over-requires : goal.is_over-requires
+is_over-requires c = second_of_all c.names_of_both-all.result c.args.a.names c.args.b.now.names c.vars.result.now c.vars-2.result.now c.names_of_both-all.ensures c.vars.ensures c.vars-2.ensures
+
+pub returns-then-is_over-clause-reduct : goal.returns-then-is_over-clause-reduct
+returns-then-is_over-clause-reduct c =
+    let all = c.names_of_both-all.result in
     let B = c.args.b.now in
-    let G1 = c.add_ways.new.whole.graph in
-    let start : c.add_states.new.self.graph ≡ with_states B.graph.states A.graph = c.in_ok-add_states.ensures.ok ∙ ap (λ n. with_states n A.graph) c.states.ensures.value in
-    let ways : IsWithWays A.graph.states B.graph (with_states B.graph.states A.graph) G1 =
-    subst (λ (G : Automaton). IsWithWays A.graph.states B.graph G G1) start (subst (λ n. IsWithWays n B.graph c.add_states.new.self.graph G1) c.states-by.ensures.value c.in_ok-add_ways.ensures.ways) in
-    subst (λ ws. Has ws (idle_way (c.states-by.result + q))) (sym ways.ways)
-    (subst (λ n. Has (union_of A.graph B.graph).ways (idle_way (n + q))) (sym c.states-by.ensures.value) (second_idle A B c.states.ensures.marked q h))
+    union_made c.args.a B c.in_ok-first.first B all c.in_ok-first.ensures (over_as_it_is all B c.is_over.result c.if-is_over.true c.is_over.ensures)
+    c.appended.result c.appended.ensures.names c.appended.ensures.reduct
 
 pub returns-clause-reduct : goal.returns-clause-reduct
 returns-clause-reduct c =
-    let A = c.args.a in
-    let B = c.args.b.now in
-    let G1 = c.add_ways.new.whole.graph in
-    let G2 = c.add_part.new.whole.graph in
-    let start : c.add_states.new.self.graph ≡ with_states B.graph.states A.graph = c.in_ok-add_states.ensures.ok ∙ ap (λ n. with_states n A.graph) c.states.ensures.value in
-    let ways : IsWithWays A.graph.states B.graph (with_states B.graph.states A.graph) G1 =
-    subst (λ (G : Automaton). IsWithWays A.graph.states B.graph G G1) start (subst (λ n. IsWithWays n B.graph c.add_states.new.self.graph G1) c.states-by.ensures.value c.in_ok-add_ways.ensures.ways) in
-    let part : IsWithPart A.graph.states B.graph G1 G2 = subst (λ n. IsWithPart n B.graph G1 G2) c.states-by.ensures.value c.in_ok-add_part.ensures.part in
-    alike_reduces G2 (union_of A.graph B.graph) (union_whole A.graph B.graph c.states-by.ensures.marked.whole c.states.ensures.marked.whole) (united A B c.states.ensures.marked G1 G2 ways part)
+    let all = c.names_of_both-all.result in
+    let second : IsOver all c.args.b.now c.in_ok-second.second = record { names = c.in_ok-second.ensures.names; graph = c.in_ok-second.ensures.graph } in
+    union_made c.args.a c.args.b.now c.in_ok-first.first c.in_ok-second.second all c.in_ok-first.ensures second c.appended-2.result c.appended-2.ensures.names c.appended-2.ensures.reduct

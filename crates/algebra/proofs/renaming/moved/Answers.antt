@@ -13,7 +13,7 @@ returns-then-is_none c = c.none.ensures ∙ sym (ap (moved_marks c.args.shifts.n
 pub overflow_mul-number : goal.overflow_mul-number
 overflow_mul-number c =
     let i = c.loop-shift.shift-index in
-    let le = power_le (2 * i) 30 (omega (arith, c.loop-shift-test.true, c.requires.few)) in
+    let le = power_le (2 * i) 62 (omega (arith, c.loop-shift-test.true, c.requires.few)) in
     omega (arith, c.loop-shift.invariant.small, le)
 
 pub bits-requires : goal.bits-requires
@@ -24,7 +24,7 @@ bits-requires c = λ s e.
 pub overflow_add-number : goal.overflow_add-number
 overflow_add-number c =
     let i = c.loop-shift.shift-index in
-    let le = power_le (2 * i) 30 (omega (arith, c.loop-shift-test.true, c.requires.few)) in
+    let le = power_le (2 * i) 62 (omega (arith, c.loop-shift-test.true, c.requires.few)) in
     omega (arith, c.loop-shift.invariant.small, le, c.bits.ensures.small)
 
 pub loop-shift-preserved : goal.loop-shift-preserved

@@ -8,7 +8,7 @@ use Rattle.automata_table.proofs.rows.row_of.Goals as goal
 pub loop-preserved : goal.loop-preserved
 loop-preserved c = record {
   len = subst (λ (row : List (Option Span)). length row ≡ c.loop.counter + 1) (sym c.push.ensures)
-      (subst (λ (k : ℕ). length (c.loop.row ++ Some c.index-spans-left.result ∷ []) ≡ k + 1) c.loop.invariant.len
+      (subst (λ (k : ℕ). length (c.loop.row ++ c.index-spans-left.result ∷ []) ≡ k + 1) c.loop.invariant.len
       (one_longer c.loop.row c.index-spans-left.result));
   within = λ n all. subst (λ (row : List (Option Span)). All (EndsBy n) row) (sym c.push.ensures)
       (one_more n c.loop.row c.index-spans-left.result (c.loop.invariant.within n all)

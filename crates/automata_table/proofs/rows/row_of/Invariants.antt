@@ -7,5 +7,5 @@ use Rattle.automata_table.proofs.rows.row_of.Given as goal
 abbrev pub invariant-loop : goal.invariant-loop
 invariant-loop l = record {
   len : length l.row ≡ l.counter;
-  within : (n : ℕ) → All (λ (s : Span). s.end ≤ n) l.spans → All (λ span. ForSome span (λ (s : Span). s.end ≤ n)) l.row;
+  within : (n : ℕ) → All (λ span. ForSome span (λ (s : Span). s.end ≤ n)) l.spans → All (λ span. ForSome span (λ (s : Span). s.end ≤ n)) l.row;
 }

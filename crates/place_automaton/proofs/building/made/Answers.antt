@@ -2,7 +2,7 @@ use Rattle.std.proofs.Common.{◌≡◌, ℕ, suc, ◌+◌, ◌↔◌, List, [],
 use Rattle.std.specs.Prelude.{if◌then◌else◌}
 use Rattle.span_core.specs.NameSets.{Ascending}
 use Rattle.spanner_model.specs.Captures.{VarName}
-use Rattle.spanner_model.specs.Functional.{HasVar}
+use Rattle.spanner_model.specs.Sequential.{HasVar}
 use Rattle.span_core.specs.Lists.{Has}
 use Rattle.spanner_model.specs.View.{tree_of}
 use Rattle.span_core.proofs.HasLaws.{Has-get_or}
@@ -10,13 +10,14 @@ use Rattle.spanner_model.proofs.NameLaws.{ascending-distinct}
 use Rattle.marked_automaton.specs.declared.way.Way.{Way}
 use Rattle.marked_automaton.specs.Automaton.{Automaton, IsBlockOf, idle_way}
 use Rattle.marked_automaton.specs.Reduct.{Rearranges}
-use Rattle.place_automaton.specs.Counts.{count_ways}
+use Rattle.place_automaton.specs.Counts.{counts_over, ways_of}
+use Rattle.place_automaton.specs.Variables.{with_vars}
 use Rattle.place_automaton.specs.Drafts.{places_of}
 use Rattle.place_automaton.specs.Ends.{Ends}
 use Rattle.place_automaton.specs.Made.{all_stops, idle_states}
 use Rattle.place_automaton.specs.Words.{opening_of, closing_of, atom_automaton}
 use Rattle.place_automaton.proofs.BuiltRepeats.{ordered_repeats}
-use Rattle.place_automaton.proofs.CountLaws.{count_law}
+use Rattle.place_automaton.proofs.CountLaws.{all_ways}
 use Rattle.place_automaton.proofs.FineLaws.{built_classes}
 use Rattle.place_automaton.proofs.MadeLaws.{made_ways, before_way, after_way, stop_there, stop_marks, is_way, rearranges_like}
 use Rattle.place_automaton.proofs.PlaceNumbers.{place_count}
@@ -136,7 +137,7 @@ returns c =
       ascending = subst Ascending (sym same_names) ascends;
       names = subst (λ (ns : List VarName). (x : VarName) → Has ns x ↔ HasVar f x) (sym same_names) exactly;
       reduct = subst (λ (ns : List VarName). Rearranges c.group_ways.new.self.graph (atom_automaton ns s t f)) (sym same_names) reduct;
-      ways = last.same.3 ∙ (ap length (sym ways) ∙ subst (λ (ns : List VarName). length (atom_automaton ns s t f).ways ≡ count_ways s t f) (sym is) (count_law s t f).1);
+      ways = last.same.3 ∙ (ap length (sym ways) ∙ subst (λ (ns : List VarName). length (atom_automaton ns s t f).ways ≡ ways_of s t (counts_over (with_vars [] f) f)) (sym is) (all_ways s t f));
       grouped = last.grouped;
       stops = last.same.1 ∙ (sym stops ∙ ap (λ (ns : List VarName). (atom_automaton ns s t f).stops) (sym same_names));
     }

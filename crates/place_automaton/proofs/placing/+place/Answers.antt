@@ -8,7 +8,7 @@ use Rattle.spanner_model.specs.View.{tree_of, trees_of}
 use Rattle.spanner_model.specs.WellBuilt.{IsWellBuilt}
 use Rattle.span_core.proofs.HasLaws.{Has-slice_get}
 use Rattle.spanner_model.proofs.Nodes.{nodes}
-use Rattle.spanner_model.proofs.TreeLaws.{part_has, arms_have, part_nodes, arms_nodes, parts_well_built, arms_well_built}
+use Rattle.spanner_model.proofs.TreeLaws.{part_has, arms_have, part_nodes, arms_nodes, parts_well_built, arms_well_built, sequential_part, sequential_arm}
 use Rattle.spanner_model.proofs.Trees.{tree_of-One, tree_of-Cat, tree_of-Alt, tree_of-Cap}
 use Rattle.place_automaton.specs.Counts.{counts_over}
 use Rattle.place_automaton.specs.declared.placing.Draft.{Draft}
@@ -16,7 +16,7 @@ use Rattle.place_automaton.specs.Drafts.{AreNamed, HasPlaced, copies_of, places_
 use Rattle.place_automaton.specs.Ends.{Ends, IsUnmarked, RowJoins, again_ends, ends_of, nothing_ends, opt_ends, row_ends, row_ways}
 use Rattle.place_automaton.specs.Moves.{places_moved}
 use Rattle.place_automaton.specs.Places.{Places, repeated, ways_between}
-use Rattle.place_automaton.specs.Sequential.{IsSequential}
+use Rattle.spanner_model.specs.Sequential.{IsSequential}
 use Rattle.place_automaton.specs.Words.{opening_of, closing_of}
 use Rattle.place_automaton.proofs.ArmLaws.{arms_next}
 use Rattle.place_automaton.proofs.BuiltRepeats.{ordered_repeats}
@@ -32,7 +32,6 @@ use Rattle.place_automaton.proofs.PlaceNumbers.{copies_room, copies_total, place
 use Rattle.place_automaton.proofs.Ranges.{places_lie}
 use Rattle.place_automaton.proofs.RepeatPlaces.{again_done, bounded_places, flat_done, none_placed, nothing_done, once_done}
 use Rattle.place_automaton.proofs.Rows.{copies, in_turn, parts_row}
-use Rattle.place_automaton.proofs.SequentialParts.{sequential_arm, sequential_part}
 use Rattle.place_automaton.proofs.Unmarked.{AllUnmarked, copies_unmarked, nothing_unmarked, row_joins}
 use Rattle.place_automaton.proofs.placing.+place.Goals as goal
 

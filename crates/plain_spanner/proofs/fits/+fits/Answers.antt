@@ -7,32 +7,32 @@ use Rattle.spanner_model.specs.View.{tree_of, trees_of}
 use Rattle.spanner_model.specs.Tree.{Tree, cap, cat_all}
 use Rattle.spanner_model.specs.Fit.{Fit}
 use Rattle.spanner_model.specs.WellBuilt.{IsWellBuilt}
-use Rattle.spanner_model.specs.Functional.{IsFunctional}
+use Rattle.spanner_model.specs.Sequential.{IsSequential}
 use Rattle.spanner_model.proofs.FitLaws.{fit_within}
 use Rattle.span_core.proofs.HasLaws.{Has-slice_get, Has-get_or}
 use Rattle.spanner_model.proofs.NodeParts.{has_parts}
 use Rattle.spanner_model.proofs.Nodes.{nodes}
-use Rattle.spanner_model.proofs.TreeLaws.{part_nodes, functional_part, functional_arm}
-use Rattle.spanner_model.proofs.Trees.{tree_of-One, tree_of-Empty, tree_of-Cat, tree_of-Alt, tree_of-Rep, tree_of-Cap}
+use Rattle.spanner_model.proofs.TreeLaws.{part_nodes, sequential_part, sequential_arm}
+use Rattle.spanner_model.proofs.Trees.{tree_of-One, tree_of-Empty, tree_of-Cat, tree_of-Alt, tree_of-Cap}
 use Rattle.plain_spanner.specs.declared.TheConstants.{MOST_DOCUMENT_BYTES}
 use Rattle.plain_spanner.specs.Listed.{Tells, FromSome, EndAndCaptures, CapturesAndEnds, IsBare, HasFit, Continued, AreWithin, CapturedFrom, CapturedAt}
 use Rattle.plain_spanner.proofs.BareLaws.{bare_same}
 use Rattle.plain_spanner.proofs.PartLists.{cat_more_split, cat_more_join, cat_begins}
 use Rattle.plain_spanner.proofs.TellsLaws.{tells_or, tells_only, from_none, from_more, from_all, empty_list}
-use Rattle.plain_spanner.proofs.FitLists.{fits_appended, no_fits, goes_nowhere, goes_on, goes_on_none, go_within, turn_apart, arms_go_on, named_tells, captures_go_on, here_within, inner_within}
+use Rattle.plain_spanner.proofs.FitLists.{fits_appended, no_fits, goes_nowhere, goes_on, goes_on_none, goes_once, goes_once_or_not, go_within, turn_apart, arms_go_on, named_tells, captures_go_on, here_within, inner_within}
 use Rattle.plain_spanner.proofs.fits.+fits.Goals as goal
 
 pub go_on-in_turn-requires : goal.go_on-in_turn-requires
 go_on-in_turn-requires t c =
     let p = has_parts c.args.formula.now c.in-Cat.parts (inl c.in-Cat.is) in
     let e = ap tree_of c.in-Cat.is ∙ tree_of-Cat c.in-Cat.parts in
-    (omega (arith, p.size), (p.built c.requires.built, (subst IsFunctional e c.requires.functional, (c.requires.short, c.requires.within))))
+    (omega (arith, p.size), (p.built c.requires.built, (subst IsSequential e c.requires.sequential, (c.requires.short, c.requires.within))))
 
 pub go_on-by_arms-requires : goal.go_on-by_arms-requires
 go_on-by_arms-requires t c =
     let p = has_parts c.args.formula.now c.in-Alt.parts (inr c.in-Alt.is) in
     let e = ap tree_of c.in-Alt.is ∙ tree_of-Alt c.in-Alt.parts in
-    (omega (arith, p.size), (p.built c.requires.built, (subst IsFunctional e c.requires.functional, (c.requires.short, c.requires.within))))
+    (omega (arith, p.size), (p.built c.requires.built, (subst IsSequential e c.requires.sequential, (c.requires.short, c.requires.within))))
 
 pub go_on-go_on_bare-requires-clause-bare : goal.go_on-go_on_bare-requires-clause-bare
 go_on-go_on_bare-requires-clause-bare t c =
@@ -43,21 +43,16 @@ pub go_on-go_on_bare-requires-in-Empty-clause-bare : goal.go_on-go_on_bare-requi
 go_on-go_on_bare-requires-in-Empty-clause-bare t c =
     elim c.in-Empty.is as (λ _. IsBare (tree_of c.args.formula.now)) [
       | inl e ↦ subst IsBare (sym (ap tree_of e ∙ tree_of-Empty)) (λ x v. v)
-      | inr r ↦ elim r as (λ _. IsBare (tree_of c.args.formula.now)) [
-        | inl o ↦ subst IsBare (sym (ap tree_of o.1 ∙ tree_of-One o.0)) (λ x v. v)
-        | inr p ↦
-            let e = ap tree_of p.3 ∙ tree_of-Rep p.0 p.1 p.2 in
-            subst IsBare (sym e) (subst IsFunctional e c.requires.functional).1
-      ]
+      | inr o ↦ subst IsBare (sym (ap tree_of o.1 ∙ tree_of-One o.0)) (λ x v. v)
     ]
 
 pub go_on-captured-requires : goal.go_on-captured-requires
 go_on-captured-requires t c =
-    let e = ap tree_of c.in-Cap.is ∙ tree_of-Cap c.in-Cap.name c.in-Cap.sub ∙ ap (λ x. cap c.in-Cap.name (tree_of x)) (sym c.deref.ensures) in
+    let e = ap tree_of c.in-Cap.is ∙ tree_of-Cap c.in-Cap.name c.in-Cap.sub ∙ ap (λ x. cap c.in-Cap.name (tree_of x)) (sym c.deref-in-Cap.ensures) in
     let w = subst IsWellBuilt e c.requires.built in
     let n = ap nodes e in
     let deep = w.1 in
-    (omega (arith, n), ((w.0.0, omega (arith, deep)), (subst IsFunctional e c.requires.functional, (c.requires.short, c.requires.within))))
+    (omega (arith, n), ((w.0.0, omega (arith, deep)), (subst IsSequential e c.requires.sequential, (c.requires.short, c.requires.within))))
 
 pub go_on-returns-in-Cat : goal.go_on-returns-in-Cat
 go_on-returns-in-Cat t c =
@@ -71,7 +66,7 @@ go_on-returns-else-are_bare t c =
 
 pub go_on-returns-in-Cap : goal.go_on-returns-in-Cap
 go_on-returns-in-Cap t c =
-    let e = ap tree_of c.in-Cap.is ∙ tree_of-Cap c.in-Cap.name c.in-Cap.sub ∙ ap (λ x. cap c.in-Cap.name (tree_of x)) (sym c.deref.ensures) in
+    let e = ap tree_of c.in-Cap.is ∙ tree_of-Cap c.in-Cap.name c.in-Cap.sub ∙ ap (λ x. cap c.in-Cap.name (tree_of x)) (sym c.deref-in-Cap.ensures) in
     subst (λ (f : Tree). IfOk c.captured.result (λ v. Tells (HasFit v.items) (Continued (HasFit c.args.firsts.now) (Fit f c.args.doc.now)))) (sym e) c.captured.ensures
 
 pub in_turn-go_on-requires : goal.in_turn-go_on-requires
@@ -82,7 +77,7 @@ in_turn-go_on-requires t c =
     let u = tree_of c.at.result.now in
     let has = Has-slice_get ts c.loop-k.k u c.at.ensures in
     let within = go_within (HasFit c.args.firsts.now) (Fit g d) (length d) c.loop-k.reached.items (λ i j m le h. fit_within g d i j m le h) c.requires.within c.loop-k.invariant in
-    (omega (arith, part_nodes ts u has), (c.requires.built u has, (functional_part ts u has c.requires.functional, (c.requires.short, subst (λ (xs : List CapturesAndEnds). AreWithin (length d) xs) (sym c.deref.ensures.value) within))))
+    (omega (arith, part_nodes ts u has), (c.requires.built u has, (sequential_part ts u has c.requires.sequential, (c.requires.short, subst (λ (xs : List CapturesAndEnds). AreWithin (length d) xs) (sym c.deref.ensures.value) within))))
 
 pub in_turn-loop-k-init : goal.in_turn-loop-k-init
 in_turn-loop-k-init t c = goes_nowhere c.args.firsts.now c.in_ok-reached.reached.items c.in_ok-reached.ensures
@@ -95,7 +90,7 @@ in_turn-loop-k-preserved t c =
     let u = tree_of c.at.result.now in
     let next = subst (λ (xs : List CapturesAndEnds). Tells (HasFit c.in_ok-reached-2.reached.items) (Continued (HasFit xs) (Fit u d))) c.deref.ensures.value c.in_ok-reached-2.ensures in
     goes_on (HasFit c.args.firsts.now) (Fit (cat_all (take k ts)) d) (Fit u d) (Fit (cat_all (take (k + 1) ts)) d) (λ i j m h. cat_more_split d ts k u i j m c.at.ensures h)
-    (turn_apart d ts k u c.at.ensures c.requires.functional) (λ i j m h. cat_more_join d ts k u i j m c.at.ensures h) c.loop-k.reached.items c.in_ok-reached-2.reached.items c.loop-k.invariant next
+    (turn_apart d ts k u c.at.ensures c.requires.sequential) (λ i j m h. cat_more_join d ts k u i j m c.at.ensures h) c.loop-k.reached.items c.in_ok-reached-2.reached.items c.loop-k.invariant next
 
 pub in_turn-returns-then-is_empty : goal.in_turn-returns-then-is_empty
 in_turn-returns-then-is_empty t c =
@@ -116,7 +111,7 @@ by_arms-go_on-requires t c =
     let ts = trees_of c.args.parts.now in
     let u = tree_of c.at.result.now in
     let has = Has-slice_get ts c.loop-k.k u c.at.ensures in
-    (omega (arith, part_nodes ts u has), (c.requires.built u has, (functional_arm ts u has c.requires.functional, (c.requires.short, c.requires.within))))
+    (omega (arith, part_nodes ts u has), (c.requires.built u has, (sequential_arm ts u has c.requires.sequential, (c.requires.short, c.requires.within))))
 
 pub by_arms-loop-k-init : goal.by_arms-loop-k-init
 by_arms-loop-k-init t c =
@@ -139,12 +134,21 @@ by_arms-returns t c =
     arms_go_on d ts (HasFit c.args.firsts.now) (HasFit c.loop-k.all.items)
     (tells_only (HasFit c.loop-k.all.items) (HasFit []) (FromSome R ts) no_fits (from_all R (HasFit []) (HasFit c.loop-k.all.items) ts c.loop-k.k (omega arith) (omega arith) c.loop-k.invariant))
 
+pub once_at_most-returns-then-least-gt0 : goal.once_at_most-returns-then-least-gt0
+once_at_most-returns-then-least-gt0 t c =
+    goes_once c.args.doc.now (tree_of c.args.sub.now) c.args.least (HasFit c.args.firsts.now) c.in_ok-all.all.items (omega (arith, c.requires.once, c.if-least-gt0.true)) c.in_ok-all.ensures
+
+pub once_at_most-returns : goal.once_at_most-returns
+once_at_most-returns t c =
+    goes_once_or_not c.args.doc.now (tree_of c.args.sub.now) c.args.least (HasFit c.args.firsts.now) c.in_ok-all.all.items c.in_ok-none.none.items c.append.new.self.items (omega (arith, c.if-least-gt0.false)) c.in_ok-append.ensures.items c.in_ok-all.ensures
+    (goes_nowhere c.args.firsts.now c.in_ok-none.none.items c.in_ok-none.ensures)
+
 pub captured-add_captured-requires : goal.captured-add_captured-requires
 captured-add_captured-requires t c =
     let b = c.first-item.result in
     let here : Has c.args.firsts.now b = subst (λ (x : CapturesAndEnds). Has c.args.firsts.now x) (sym c.first-item.is) (Has-get_or c.args.firsts.now c.loop-first.first-index b c.loop-first-test.true) in
     let within : (k : ℕ) → Has b.1 k → k ≤ length c.args.doc.now = λ k h. c.requires.within (k, b.0) (b.1, here, h) in
-    (omega arith, (c.requires.built, (c.requires.functional.0, (c.requires.short, within))))
+    (omega arith, (c.requires.built, (c.requires.sequential.0, (c.requires.short, within))))
 
 pub captured-loop-first-init : goal.captured-loop-first-init
 captured-loop-first-init t c =
@@ -160,7 +164,7 @@ captured-loop-first-preserved t c =
 pub captured-returns : goal.captured-returns
 captured-returns t c =
     let R = λ (b : CapturesAndEnds) (f : EndAndCaptures). FromSome (CapturedFrom c.args.name.now (Fit (tree_of c.args.sub.now) c.args.doc.now) b.0) b.1 f in
-    captures_go_on c.args.doc.now c.args.name.now (tree_of c.args.sub.now) c.args.firsts.now (HasFit c.loop-first.all.items) c.requires.functional.1
+    captures_go_on c.args.doc.now c.args.name.now (tree_of c.args.sub.now) c.args.firsts.now (HasFit c.loop-first.all.items) c.requires.sequential.1
     (tells_only (HasFit c.loop-first.all.items) (HasFit []) (FromSome R c.args.firsts.now) no_fits
     (from_all R (HasFit []) (HasFit c.loop-first.all.items) c.args.firsts.now c.loop-first.first-index c.loop-first.auto.first-index-end c.loop-first-test.false c.loop-first.invariant))
 
@@ -170,7 +174,7 @@ add_captured-go_on-requires t c =
     let place = get_or places c.loop-place.place-index 0 in
     let le = c.requires.within place (subst (λ (xs : List ℕ). Has xs place) c.ends-places.ensures (Has-get_or places c.loop-place.place-index 0 c.loop-place-test.true)) in
     let within = subst (λ (b : CapturesAndEnds). AreWithin (length c.args.doc.now) (b ∷ [])) (sym c.in_ok-at.ensures) (here_within place (length c.args.doc.now) le) in
-    (omega arith, (c.requires.built, (c.requires.functional, (c.requires.short, within))))
+    (omega arith, (c.requires.built, (c.requires.sequential, (c.requires.short, within))))
 
 pub add_captured-add_named-requires : goal.add_captured-add_named-requires
 add_captured-add_named-requires t c =

@@ -15,6 +15,9 @@ decreases-in_turn l = 3 * nodes (cat_all (trees_of l.parts.now))
 abbrev pub decreases-by_arms : goal.decreases-by_arms
 decreases-by_arms l = 3 * nodes (cat_all (trees_of l.parts.now))
 
+abbrev pub decreases-once_at_most : goal.decreases-once_at_most
+decreases-once_at_most l = 3 * nodes (tree_of l.sub.now) + 2
+
 abbrev pub decreases-captured : goal.decreases-captured
 decreases-captured l = 3 * nodes (tree_of l.sub.now) + 3
 

@@ -4,7 +4,7 @@ use Rattle.std.proofs.lemmas.Option.{slice_get_within}
 use Rattle.span_core.specs.Lists.{Has}
 use Rattle.spanner_model.specs.Answers.{SpanRow}
 use Rattle.plain_spanner.specs.Listed.{Tells, FromSome}
-use Rattle.plain_spanner.specs.Tables.{IsPlaceOf, JoinsWith, JoinsRow, kept_row}
+use Rattle.plain_spanner.specs.Tables.{IsPlaceOf, JoinsWith, JoinsRow, row_over}
 use Rattle.plain_spanner.proofs.TellsLaws.{tells_or, tells_unchanged}
 use Rattle.plain_spanner.proofs.JoinLaws.{joins_found, joins_nothing}
 use Rattle.plain_spanner.proofs.join.add_joins.Goals as goal
@@ -32,7 +32,7 @@ returns c =
     let a = c.args.row.now in
     let shared = c.args.shared.now in
     let places = c.in-Some.found.now.items in
-    let found : (p : ℕ) → Has places p ↔ IsPlaceOf W shared rights (kept_row V shared a) p = λ p.
+    let found : (p : ℕ) → Has places p ↔ IsPlaceOf W shared rights (row_over V shared a) p = λ p.
     subst (λ (k : SpanRow). Has places p ↔ IsPlaceOf W shared rights k p) c.row_with-key.ensures
     (subst (λ (o : Option (Vec ℕ Global)). IsSomeAnd o (λ v. Has v.items p) ↔ IsPlaceOf W shared rights c.row_with-key.result p) (sym c.in-Some.ensures.value) (c.requires.places c.row_with-key.result p)) in
     let added = subst (λ (xs : List ℕ). Tells (Has c.add_joined.new.rows.items) (λ r. Has c.args.rows.now.items r ⊎ FromSome (JoinsWith names V W a rights) xs r)) c.deref.ensures.value c.in_ok-add_joined.ensures in

@@ -1,8 +1,6 @@
-use Rattle.std.proofs.Common.{◌≤◌, length, sym, ◌∙◌, arith}
-use Rattle.span_core.proofs.HasLaws.{Has-slice_get}
+use Rattle.std.proofs.Common.{◌≤◌, length, arith}
 use Rattle.plain_spanner.specs.Tables.{merged}
 use Rattle.plain_spanner.proofs.RowLaws.{row_pushed, row_whole, row_so_far}
-use Rattle.plain_spanner.proofs.join.both.Goals.{in-Some, in_default}
 use Rattle.plain_spanner.proofs.join.both.Goals as goal
 
 pub push-requires : goal.push-requires
@@ -17,10 +15,7 @@ pub loop-k-preserved : goal.loop-k-preserved
 loop-k-preserved c =
     let names = c.args.names.now in
     let m = merged c.args.left_names.now c.args.right_names.now c.args.left.now c.args.right.now in
-    elim c.match-span_in_either.branch [
-      | in-Some w ↦ row_pushed names c.loop-k.k c.at.result.now m c.loop-k.row c.match-span_in_either.row w.in-Some.span c.at.ensures.value c.loop-k.invariant (sym c.span_in_either.ensures.value ∙ w.in-Some.is) (w.row-is ∙ w.push.ensures)
-      | in_default w ↦ absurd (w.in_default.ensures.none (c.requires.named c.at.result.now (Has-slice_get names c.loop-k.k c.at.result.now c.at.ensures.value)))
-    ]
+    row_pushed names c.loop-k.k c.at.result.now m c.loop-k.row c.push.new.self c.span_in_either.result c.at.ensures.value c.loop-k.invariant c.span_in_either.ensures c.push.ensures
 
 pub returns : goal.returns
 returns c = row_whole c.args.names.now c.loop-k.k (merged c.args.left_names.now c.args.right_names.now c.args.left.now c.args.right.now) c.loop-k.row (omega arith) c.loop-k.invariant

@@ -11,7 +11,7 @@ use Rattle.plain_spanner.proofs.JoinLaws.{rows_joined}
 use Rattle.plain_spanner.proofs.join.join.Goals as goal
 
 pub places_by_key-requires : goal.places_by_key-requires
-places_by_key-requires c = record { rows = c.requires.right; names = λ x h. ((c.names_in_both-shared.ensures x).0 h).1 }
+places_by_key-requires c = c.requires.right
 
 pub add_names-requires : goal.add_names-requires
 add_names-requires c = subst (λ (ns : List VarName). HaveRoom ns (Has c.args.right.now.names)) (sym c.copy-names.ensures) c.requires.room
@@ -21,11 +21,9 @@ add_joins-requires c =
     let rows = c.deref-row-items.result.now in
     let r = c.row-item.result in
     let here : Has rows r = subst (λ (y : SpanRow). Has rows y) (sym c.row-item.is) (Has-get_or rows c.loop-row.row-index r c.loop-row-test.true) in
-    let named = subst (λ (ns : List VarName). Adds ns (Has c.args.right.now.names) c.add_names.new.into) c.copy-names.ensures c.add_names.ensures in
     record {
       left = c.requires.left r (subst (λ (xs : List SpanRow). Has xs r) c.deref-row-items.ensures.value here);
       right = c.requires.right;
-      named = λ x h. (named x).0 h;
       shared = c.names_in_both-shared.ensures;
       places = c.in_ok-places.ensures;
     }

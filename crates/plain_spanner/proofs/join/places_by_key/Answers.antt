@@ -11,12 +11,12 @@ use Rattle.span_core.proofs.HasLaws.{Has-slice_get}
 use Rattle.plain_spanner.proofs.JoinLaws.{places_of_more}
 use Rattle.plain_spanner.proofs.join.places_by_key.Goals as goal
 
-pub row_with-key-requires-clause-long : goal.row_with-key-requires-clause-long
-row_with-key-requires-clause-long c =
+pub row_with-key-requires : goal.row_with-key-requires
+row_with-key-requires c =
     let rows = c.args.table.now.rows.items in
     let r = c.row-item.result in
     let at : slice_get c.deref-row-items.result.now c.loop-place.place ≡ Some r = slice_get-get_or c.deref-row-items.result.now c.loop-place.place r c.loop-place-test.true ∙ ap Some (sym c.row-item.is) in
-    c.requires.rows r (Has-slice_get rows c.loop-place.place r (ap (λ (xs : List SpanRow). slice_get xs c.loop-place.place) (sym c.deref-row-items.ensures.value) ∙ at))
+    c.requires r (Has-slice_get rows c.loop-place.place r (ap (λ (xs : List SpanRow). slice_get xs c.loop-place.place) (sym c.deref-row-items.ensures.value) ∙ at))
 
 pub loop-place-init : goal.loop-place-init
 loop-place-init c = λ q p. (λ h. absurd (subst (λ (es : List (SpanRow × Vec ℕ Global)). IsSomeAnd (lookup (is_at (row_cmp q)) es) (λ v. Has v.items p)) c.new-places.ensures.empty h), λ h. let l = h.0 in absurd (omega arith))

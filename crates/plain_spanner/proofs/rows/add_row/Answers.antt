@@ -1,15 +1,10 @@
 use Rattle.std.proofs.Common.{◌≡◌, ℕ, List, sym, ap, ◌∙◌, subst}
 use Rattle.std.proofs.lemmas.Bool.{false≢true}
 use Rattle.span_core.specs.Lists.{Has}
-use Rattle.spanner_model.specs.Captures.{Captures, Captured, span_of, row_of}
+use Rattle.spanner_model.specs.Captures.{Captures, span_of, row_of}
 use Rattle.plain_spanner.specs.Tables.{IsRowOfFits}
 use Rattle.plain_spanner.proofs.TellsLaws.{tells_pushed, tells_unchanged}
 use Rattle.plain_spanner.proofs.rows.add_row.Goals as goal
-
-pub row_of_captures-requires : goal.row_of_captures-requires
-row_of_captures-requires c = λ x n.
-    let w = c.some_ends_there.ensures.0 c.if-not-some_ends_there.false in
-    subst (λ (m : Captures). Captured m x) (sym c.captures-2.ensures) (c.requires w.0 x (subst (λ (xs : List ℕ). Has xs w.0) c.ends.ensures w.1) n)
 
 pub returns-then-not-some_ends_there : goal.returns-then-not-some_ends_there
 returns-then-not-some_ends_there c =

@@ -1,4 +1,4 @@
-use Rattle.std.proofs.Common.{Some, sym, arith}
+use Rattle.std.proofs.Common.{sym, arith}
 use Rattle.std.proofs.lemmas.Option.{slice_get_within}
 use Rattle.span_core.specs.Lists.{Has}
 use Rattle.span_core.proofs.HasLaws.{Contains-Has}
@@ -10,11 +10,11 @@ pub at-requires : goal.at-requires
 at-requires c =
     let l = slice_get_within c.args.names.now c.in-Some.place c.args.name.now c.in-Some.ensures.some in omega (arith, l, c.requires)
 
-pub returns-in-Some-clause-value : goal.returns-in-Some-clause-value
-returns-in-Some-clause-value c =
-    sym (mapping_of-at c.args.names.now c.args.row.now c.in-Some.place c.args.name.now (Some c.at.result) (ascending-distinct c.args.names.now c.len.ensures.ascending) c.in-Some.ensures.some c.at.ensures)
+pub returns-in-Some : goal.returns-in-Some
+returns-in-Some c =
+    sym (mapping_of-at c.args.names.now c.args.row.now c.in-Some.place c.args.name.now c.at.result (ascending-distinct c.args.names.now c.len.ensures.ascending) c.in-Some.ensures.some c.at.ensures)
 
 pub returns-in-None : goal.returns-in-None
 returns-in-None c =
     let out = λ (h : Has c.args.names.now c.args.name.now). c.in-None.ensures.none (Contains-Has c.args.names.now c.args.name.now h) in
-    record { value = sym (mapping_of-outside c.args.names.now c.args.row.now c.args.name.now out); none = out }
+    sym (mapping_of-outside c.args.names.now c.args.row.now c.args.name.now out)

@@ -6,21 +6,20 @@ use Rattle.span_core.specs.Lists.{Has}
 use Rattle.spanner_model.specs.Captures.{VarName}
 use Rattle.spanner_model.specs.Answers.{SpanRow}
 use Rattle.spanner_model.specs.View.{tree_of}
-use Rattle.spanner_model.specs.Functional.{HasVar}
+use Rattle.spanner_model.specs.Sequential.{HasVar}
 use Rattle.spanner_model.specs.Expression.{ExprTree, named, project, union_all, join_all}
 use Rattle.spanner_model.specs.ExprView.{expr_of, exprs_of, query_of}
 use Rattle.spanner_model.specs.Answer.{VarOf, Answer, vars_of_lets, answers_of_lets}
 use Rattle.span_core.proofs.HasLaws.{Has-slice_get}
 use Rattle.spanner_model.proofs.Nodes.{expr_nodes}
-use Rattle.spanner_model.proofs.ExprLaws.{union_size, part_size, union_two}
+use Rattle.spanner_model.proofs.ExprLaws.{union_size, part_size}
 use Rattle.spanner_model.proofs.ExprTrees.{expr_of-Atom, expr_of-Named, expr_of-Union, expr_of-Join, expr_of-Project}
 use Rattle.plain_spanner.specs.declared.table.Table.{Table}
 use Rattle.plain_spanner.specs.Listed.{Tells, FromSome}
-use Rattle.plain_spanner.specs.Tables.{IsTable, IsTableOf, IsAsked, kept_row}
-use Rattle.plain_spanner.proofs.RowLaws.{row_eq_exact}
+use Rattle.plain_spanner.specs.Tables.{IsTableOf, IsAsked, IsRowOver}
 use Rattle.plain_spanner.proofs.TellsLaws.{ok_both}
-use Rattle.plain_spanner.proofs.TableLaws.{asked_united, asked_joined, asked_sub, asked_var, joined_var, room_of, rows_of_table, kept_listed, kept_all, SomeAnswers, first_part, more_parts, all_parts}
-use Rattle.plain_spanner.proofs.JoinTables.{unit_table, join_next}
+use Rattle.plain_spanner.proofs.TableLaws.{asked_united, asked_joined, asked_sub, asked_var, united_var, joined_var, room_of, rows_of_table, kept_listed, kept_all}
+use Rattle.plain_spanner.proofs.JoinTables.{none_table, unit_table, union_next, join_next}
 use Rattle.plain_spanner.proofs.tables.+tables.Goals as goal
 
 pub expr_table-atom_table-requires : goal.expr_table-atom_table-requires
@@ -31,20 +30,20 @@ expr_table-atom_table-requires t c =
     let a = subst (IsAsked q (length c.args.tables.now)) e c.requires.asked in
     record {
       built = a.sound_expr.0;
-      functional = a.sound_expr.1;
+      sequential = a.sound_expr.1;
       room = room_of q (HasVar f) [] a.sound (λ x h. absurd h) a.named;
       short = c.requires.short;
     }
 
-pub expr_table-keep-requires : goal.expr_table-keep-requires
-expr_table-keep-requires t c =
+pub expr_table-over-requires : goal.expr_table-over-requires
+expr_table-over-requires t c =
     let q = query_of c.args.query.now in
     let n = length c.args.tables.now in
     let k = c.in-Named.k in
     let u = c.index-tables-k.result in
     let within : k < n = (subst (IsAsked q n) (ap expr_of c.in-Named.is ∙ expr_of-Named k) c.requires.asked).sound_expr in
     let at : slice_get c.args.tables.now k ≡ Some u = slice_get-get_or c.args.tables.now k u within ∙ ap Some (sym c.index-tables-k.is) in
-    record { rows = rows_of_table (vars_of_lets q.lets n k) (answers_of_lets q.lets c.args.doc.now n k) u.names u.rows.items (c.requires.known k u at); names = λ x h. h }
+    rows_of_table (vars_of_lets q.lets n k) (answers_of_lets q.lets c.args.doc.now n k) u.names u.rows.items (c.requires.known k u at)
 
 pub expr_table-returns-in-Atom : goal.expr_table-returns-in-Atom
 expr_table-returns-in-Atom t c =
@@ -63,11 +62,11 @@ expr_table-returns-in-Named t c =
     let within : k < n = (subst (IsAsked q n) e c.requires.asked).sound_expr in
     let at : slice_get c.args.tables.now k ≡ Some u = slice_get-get_or c.args.tables.now k u within ∙ ap Some (sym c.index-tables-k.is) in
     let known = c.requires.known k u at in
-    subst (λ (w : ExprTree). IfOk c.keep.result (λ t. IsTableOf q d n w t.names t.rows.items)) (sym e)
-    (ok_both c.keep.result (λ (t : Table). t.names ≡ u.names) (λ (t : Table). Tells (Has t.rows.items) (FromSome (λ (a : SpanRow) (r : SpanRow). r ≡ kept_row u.names u.names a) u.rows.items)) (λ (t : Table). IsTableOf q d n (named k) t.names t.rows.items)
+    subst (λ (w : ExprTree). IfOk c.over.result (λ t. IsTableOf q d n w t.names t.rows.items)) (sym e)
+    (ok_both c.over.result (λ (t : Table). t.names ≡ u.names) (λ (t : Table). Tells (Has t.rows.items) (FromSome (IsRowOver u.names u.names) u.rows.items)) (λ (t : Table). IsTableOf q d n (named k) t.names t.rows.items)
     (λ t same rows. subst (λ (ns : List VarName). IsTableOf q d n (named k) ns t.rows.items) (sym same)
     (record { ascending = known.ascending; named = known.named; listed = kept_all (answers_of_lets q.lets d n k) u.names u.rows.items (Has t.rows.items) known.listed rows }))
-    c.keep.ensures.names c.keep.ensures.rows)
+    c.over.ensures.names c.over.ensures.rows)
 
 pub expr_table-union_table-requires : goal.expr_table-union_table-requires
 expr_table-union_table-requires t c =
@@ -98,19 +97,14 @@ expr_table-expr_table-requires t c =
     let a = subst (IsAsked (query_of c.args.query.now) (length c.args.tables.now)) e c.requires.asked in
     (omega (arith, size), (c.requires.known, (asked_sub (query_of c.args.query.now) (length c.args.tables.now) c.in-Project.kept (expr_of c.deref.result.now) a, c.requires.short)))
 
-pub expr_table-keep-requires-in-Project : goal.expr_table-keep-requires-in-Project
-expr_table-keep-requires-in-Project t c =
+pub expr_table-over-requires-in-Project : goal.expr_table-over-requires-in-Project
+expr_table-over-requires-in-Project t c =
     let q = query_of c.args.query.now in
     let n = length c.args.tables.now in
     let g = expr_of c.deref.result.now in
     let e = ap expr_of c.in-Project.is ∙ expr_of-Project c.in-Project.kept c.in-Project.sub ∙ ap (λ x. project c.in-Project.kept (expr_of x)) (sym c.deref.ensures) in
-    let a = subst (IsAsked q n) e c.requires.asked in
     let u = c.in_ok-inner-in-Project.inner in
-    let known = c.in_ok-inner-in-Project.ensures in
-    record {
-      rows = rows_of_table (VarOf (vars_of_lets q.lets n) g) (Answer (vars_of_lets q.lets n) (answers_of_lets q.lets c.args.doc.now n) c.args.doc.now g) u.names u.rows.items known;
-      names = λ x h. (known.named x).1 (a.sound_expr.1 x h).0;
-    }
+    rows_of_table (VarOf (vars_of_lets q.lets n) g) (Answer (vars_of_lets q.lets n) (answers_of_lets q.lets c.args.doc.now n) c.args.doc.now g) u.names u.rows.items c.in_ok-inner-in-Project.ensures
 
 pub expr_table-returns-in_ok-inner-in-Project : goal.expr_table-returns-in_ok-inner-in-Project
 expr_table-returns-in_ok-inner-in-Project t c =
@@ -124,58 +118,61 @@ expr_table-returns-in_ok-inner-in-Project t c =
     let u = c.in_ok-inner-in-Project.inner in
     let known = c.in_ok-inner-in-Project.ensures in
     let in_names = λ (x : VarName) (h : Has kept x). (known.named x).1 (a.sound_expr.1 x h).0 in
-    subst (λ (w : ExprTree). IfOk c.keep-in-Project.result (λ t. IsTableOf q d n w t.names t.rows.items)) (sym e)
-    (ok_both c.keep-in-Project.result (λ (t : Table). t.names ≡ kept) (λ (t : Table). Tells (Has t.rows.items) (FromSome (λ (a : SpanRow) (r : SpanRow). r ≡ kept_row u.names kept a) u.rows.items)) (λ (t : Table). IsTableOf q d n (project kept g) t.names t.rows.items)
+    subst (λ (w : ExprTree). IfOk c.over-in-Project.result (λ t. IsTableOf q d n w t.names t.rows.items)) (sym e)
+    (ok_both c.over-in-Project.result (λ (t : Table). t.names ≡ kept) (λ (t : Table). Tells (Has t.rows.items) (FromSome (IsRowOver u.names kept) u.rows.items)) (λ (t : Table). IsTableOf q d n (project kept g) t.names t.rows.items)
     (λ t same rows. subst (λ (ns : List VarName). IsTableOf q d n (project kept g) ns t.rows.items) (sym same)
     (record {
-      ascending = c.keep-in-Project.ensures.ascending;
+      ascending = c.over-in-Project.ensures.ascending;
       named = λ x. (λ h. h, λ h. h);
       listed = kept_listed (Answer (vars_of_lets q.lets n) (answers_of_lets q.lets d n) d g) u.names kept u.rows.items (Has t.rows.items) in_names known.listed rows;
     }))
-    c.keep-in-Project.ensures.names c.keep-in-Project.ensures.rows)
+    c.over-in-Project.ensures.names c.over-in-Project.ensures.rows)
 
-pub union_table-at-requires : goal.union_table-at-requires
-union_table-at-requires t c =
-    let two = union_two (vars_of_lets (query_of c.args.query.now).lets (length c.args.tables.now)) (length c.args.tables.now) (exprs_of c.args.parts.now) c.requires.asked.sound_expr in
-    omega (arith, two)
+pub union_table-loop-k-init : goal.union_table-loop-k-init
+union_table-loop-k-init t c =
+    let q = query_of c.args.query.now in
+    let d = c.args.doc.now in
+    let n = length c.args.tables.now in
+    let u = c.none-all.ensures in
+    subst (λ (ns : List VarName). IsTableOf q d n (union_all []) ns c.none-all.result.rows.items) (sym u.names)
+    (subst (λ (rs : List SpanRow). IsTableOf q d n (union_all []) [] rs) (sym u.rows) (none_table q d n))
 
 pub union_table-expr_table-requires : goal.union_table-expr_table-requires
 union_table-expr_table-requires t c =
     let es = exprs_of c.args.parts.now in
     let g = expr_of c.at.result.now in
-    let has = Has-slice_get es 0 g c.at.ensures in
+    let has = Has-slice_get es c.loop-k.k g c.at.ensures in
     (omega (arith, part_size es g has), (c.requires.known, (asked_united (query_of c.args.query.now) (length c.args.tables.now) es g has c.requires.asked, c.requires.short)))
 
-pub union_table-loop-k-init : goal.union_table-loop-k-init
-union_table-loop-k-init t c =
-    first_part (query_of c.args.query.now) c.args.doc.now (length c.args.tables.now) (exprs_of c.args.parts.now) c.requires.asked (expr_of c.at.result.now) c.in_ok-all.all.names c.in_ok-all.all.rows.items c.at.ensures c.in_ok-all.ensures
-
-pub union_table-expr_table-requires-in-loop-k : goal.union_table-expr_table-requires-in-loop-k
-union_table-expr_table-requires-in-loop-k t c =
-    let es = exprs_of c.args.parts.now in
-    let g = expr_of c.at-in-loop-k.result.now in
-    let has = Has-slice_get es c.loop-k.k g c.at-in-loop-k.ensures in
-    (omega (arith, part_size es g has), (c.requires.known, (asked_united (query_of c.args.query.now) (length c.args.tables.now) es g has c.requires.asked, c.requires.short)))
-
-pub union_table-loop-k-preserved : goal.union_table-loop-k-preserved
-union_table-loop-k-preserved t c =
-    more_parts (query_of c.args.query.now) c.args.doc.now (length c.args.tables.now) (exprs_of c.args.parts.now) c.requires.asked c.loop-k.k (expr_of c.at-in-loop-k.result.now) c.loop-k.all.names c.in_ok-other.other.names
-    c.loop-k.all.rows.items c.in_ok-other.other.rows.items c.append.new.self.items c.at-in-loop-k.ensures c.loop-k.invariant c.in_ok-other.ensures c.in_ok-append.ensures.items
-
-pub union_table-sort_once-requires : goal.union_table-sort_once-requires
-union_table-sort_once-requires t c = record { exact = λ x y e. row_eq_exact x y e }
-
-pub union_table-returns : goal.union_table-returns
-union_table-returns t c =
+pub union_table-unite-requires : goal.union_table-unite-requires
+union_table-unite-requires t c =
     let q = query_of c.args.query.now in
     let d = c.args.doc.now in
     let n = length c.args.tables.now in
     let es = exprs_of c.args.parts.now in
-    let two = union_two (vars_of_lets q.lets n) n es c.requires.asked.sound_expr in
-    let e : c.loop-k.k ≡ length es = omega (arith, two) in
-    let whole = ap (λ k. take k es) e ∙ take-length es in
-    all_parts q d n es c.requires.asked c.loop-k.all.names c.loop-k.all.rows.items c.sort_once.new.values.items c.sort_once.ensures.keeps c.sort_once.ensures.adds_none
-    (subst (λ (gs : List ExprTree). IsTable (VarOf (vars_of_lets q.lets n) (union_all es)) (SomeAnswers q d n gs) c.loop-k.all.names c.loop-k.all.rows.items) whole c.loop-k.invariant)
+    let k = c.loop-k.k in
+    let g = expr_of c.at.result.now in
+    let V = vars_of_lets q.lets n in
+    let A = answers_of_lets q.lets d n in
+    let asked = asked_united q n es g (Has-slice_get es k g c.at.ensures) c.requires.asked in
+    let left = c.loop-k.invariant in
+    let right = c.in_ok-next.ensures in
+    record {
+      left = rows_of_table (VarOf V (union_all (take k es))) (Answer V A d (union_all (take k es))) c.loop-k.all.names c.loop-k.all.rows.items left;
+      right = rows_of_table (VarOf V g) (Answer V A d g) c.in_ok-next.next.names c.in_ok-next.next.rows.items right;
+      room = room_of q (Has c.in_ok-next.next.names) c.loop-k.all.names asked.sound (λ x h. united_var q n k es x c.requires.asked ((left.named x).0 h)) (λ x h. asked_var q n g x asked ((right.named x).0 h));
+    }
+
+pub union_table-loop-k-preserved : goal.union_table-loop-k-preserved
+union_table-loop-k-preserved t c =
+    union_next (query_of c.args.query.now) c.args.doc.now (length c.args.tables.now) (exprs_of c.args.parts.now) c.loop-k.k (expr_of c.at.result.now) c.loop-k.all.names c.in_ok-next.next.names c.in_ok-all.all.names
+    c.loop-k.all.rows.items c.in_ok-next.next.rows.items c.in_ok-all.all.rows.items c.at.ensures c.loop-k.invariant c.in_ok-next.ensures c.in_ok-all.ensures.ascending c.in_ok-all.ensures.names c.in_ok-all.ensures.rows
+
+pub union_table-returns : goal.union_table-returns
+union_table-returns t c =
+    let es = exprs_of c.args.parts.now in
+    let e : c.loop-k.k ≡ length es = omega arith in
+    subst (λ (gs : List ExprTree). IsTableOf (query_of c.args.query.now) c.args.doc.now (length c.args.tables.now) (union_all gs) c.loop-k.all.names c.loop-k.all.rows.items) (ap (λ k. take k es) e ∙ take-length es) c.loop-k.invariant
 
 pub join_table-loop-k-init : goal.join_table-loop-k-init
 join_table-loop-k-init t c =

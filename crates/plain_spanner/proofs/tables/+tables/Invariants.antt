@@ -2,9 +2,7 @@ use Rattle.std.proofs.Common.{◌+◌, ◌*◌, length, take}
 use Rattle.spanner_model.specs.Expression.{union_all, join_all}
 use Rattle.spanner_model.specs.ExprView.{expr_of, exprs_of, query_of}
 use Rattle.spanner_model.proofs.Nodes.{expr_nodes}
-use Rattle.spanner_model.specs.Answer.{VarOf, vars_of_lets}
-use Rattle.plain_spanner.specs.Tables.{IsTable, IsTableOf}
-use Rattle.plain_spanner.proofs.TableLaws.{SomeAnswers}
+use Rattle.plain_spanner.specs.Tables.{IsTableOf}
 use Rattle.plain_spanner.proofs.tables.+tables.Given as goal
 
 abbrev pub decreases-expr_table : goal.decreases-expr_table
@@ -17,8 +15,7 @@ abbrev pub decreases-join_table : goal.decreases-join_table
 decreases-join_table l = 2 * expr_nodes (join_all (exprs_of l.parts.now))
 
 abbrev pub invariant-union_table-loop-k : goal.invariant-union_table-loop-k
-invariant-union_table-loop-k l =
-    IsTable (VarOf (vars_of_lets (query_of l.query).lets (length l.tables)) (union_all (exprs_of l.parts))) (SomeAnswers (query_of l.query) l.doc (length l.tables) (take l.k (exprs_of l.parts))) l.all.names l.all.rows.items
+invariant-union_table-loop-k l = IsTableOf (query_of l.query) l.doc (length l.tables) (union_all (take l.k (exprs_of l.parts))) l.all.names l.all.rows.items
 
 abbrev pub invariant-join_table-loop-k : goal.invariant-join_table-loop-k
 invariant-join_table-loop-k l = IsTableOf (query_of l.query) l.doc (length l.tables) (join_all (take l.k (exprs_of l.parts))) l.all.names l.all.rows.items

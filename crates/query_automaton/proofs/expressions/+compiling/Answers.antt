@@ -4,6 +4,7 @@ use Rattle.std.proofs.lemmas.Option.{slice_get-get_or}
 use Rattle.spanner_model.specs.Expression.{ExprTree, join_all, project, union_all}
 use Rattle.spanner_model.specs.ExprView.{expr_of, exprs_of, query_of}
 use Rattle.spanner_model.specs.Answer.{vars_of_lets}
+use Rattle.spanner_model.specs.Sound.{sure_of_lets}
 use Rattle.span_core.proofs.HasLaws.{Has-slice_get}
 use Rattle.spanner_model.proofs.ExprTrees.{expr_of-Atom, expr_of-Named, expr_of-Project}
 use Rattle.algebra.proofs.Followed.{handed_on}
@@ -68,7 +69,7 @@ union_automaton-expr_automaton-requires t c =
     let n = length c.args.lets.now in
     let es = exprs_of c.args.parts.now in
     let g = expr_of c.at.result.now in
-    let part = part_at (vars_of_lets q.lets n) n Union es 0 g c.at.ensures c.requires.asked.sound_expr in
+    let part = part_at (vars_of_lets q.lets n) (sure_of_lets q.lets n) n Union es 0 g c.at.ensures c.requires.asked.sound_expr in
     (omega (arith, part.0), (c.requires.known, asked_part Union q n es g (Has-slice_get es 0 g c.at.ensures) c.requires.asked))
 
 pub union_automaton-returns-in_err-first-clause-fault : goal.union_automaton-returns-in_err-first-clause-fault
@@ -92,7 +93,7 @@ union_automaton-expr_automaton-requires-in-loop-k t c =
     let es = exprs_of c.args.parts.now in
     let k = c.loop-k.k in
     let g = expr_of c.at-in-loop-k.result.now in
-    let part = part_at (vars_of_lets q.lets n) n Union es k g c.at-in-loop-k.ensures c.requires.asked.sound_expr in
+    let part = part_at (vars_of_lets q.lets n) (sure_of_lets q.lets n) n Union es k g c.at-in-loop-k.ensures c.requires.asked.sound_expr in
     (omega (arith, part.0), (c.requires.known, asked_part Union q n es g (Has-slice_get es k g c.at-in-loop-k.ensures) c.requires.asked))
 
 pub union_automaton-returns-in_err-part-clause-fault : goal.union_automaton-returns-in_err-part-clause-fault
@@ -141,7 +142,7 @@ union_automaton-returns-clause-made t c =
     let q = query_of c.args.query.now in
     let n = length c.args.lets.now in
     let es = exprs_of c.args.parts.now in
-    let two = two_parts (vars_of_lets q.lets n) n Union es c.requires.asked.sound_expr in
+    let two = two_parts (vars_of_lets q.lets n) (sure_of_lets q.lets n) n Union es c.requires.asked.sound_expr in
     let whole = so_far_all q c.args.lets.now c.requires.known Union es c.loop-k.all c.loop-k.k (omega (arith, two)) c.loop-k.invariant.1 in
     subst (IsCompiledFrom q n (union_all es)) (sym c.in_ok-new.ensures) whole
 
@@ -153,7 +154,7 @@ join_automaton-expr_automaton-requires t c =
     let n = length c.args.lets.now in
     let es = exprs_of c.args.parts.now in
     let g = expr_of c.at.result.now in
-    let part = part_at (vars_of_lets q.lets n) n Join es 0 g c.at.ensures c.requires.asked.sound_expr in
+    let part = part_at (vars_of_lets q.lets n) (sure_of_lets q.lets n) n Join es 0 g c.at.ensures c.requires.asked.sound_expr in
     (omega (arith, part.0), (c.requires.known, asked_part Join q n es g (Has-slice_get es 0 g c.at.ensures) c.requires.asked))
 
 pub join_automaton-returns-in_err-all-clause-fault : goal.join_automaton-returns-in_err-all-clause-fault
@@ -177,7 +178,7 @@ join_automaton-expr_automaton-requires-in-loop-k t c =
     let es = exprs_of c.args.parts.now in
     let k = c.loop-k.k in
     let g = expr_of c.at-in-loop-k.result.now in
-    let part = part_at (vars_of_lets q.lets n) n Join es k g c.at-in-loop-k.ensures c.requires.asked.sound_expr in
+    let part = part_at (vars_of_lets q.lets n) (sure_of_lets q.lets n) n Join es k g c.at-in-loop-k.ensures c.requires.asked.sound_expr in
     (omega (arith, part.0), (c.requires.known, asked_part Join q n es g (Has-slice_get es k g c.at-in-loop-k.ensures) c.requires.asked))
 
 pub join_automaton-returns-in_err-part-clause-fault : goal.join_automaton-returns-in_err-part-clause-fault
@@ -226,6 +227,6 @@ join_automaton-returns-clause-made t c =
     let q = query_of c.args.query.now in
     let n = length c.args.lets.now in
     let es = exprs_of c.args.parts.now in
-    let two = two_parts (vars_of_lets q.lets n) n Join es c.requires.asked.sound_expr in
+    let two = two_parts (vars_of_lets q.lets n) (sure_of_lets q.lets n) n Join es c.requires.asked.sound_expr in
     let whole = so_far_all q c.args.lets.now c.requires.known Join es c.loop-k.all c.loop-k.k (omega (arith, two)) c.loop-k.invariant.1 in
     whole

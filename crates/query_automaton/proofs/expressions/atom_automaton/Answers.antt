@@ -5,23 +5,19 @@ use Rattle.marked_automaton.specs.Reduct.{ReducesMarked}
 use Rattle.marked_automaton.specs.declared.fault.SizeFault.{SizeFault}
 use Rattle.marked_automaton.proofs.Rearranged.{rearranged_reduces}
 use Rattle.place_automaton.specs.Words.{atom_automaton}
-use Rattle.place_automaton.proofs.CountLaws.{functional_sequential}
 use Rattle.algebra.proofs.Followed.{handed_on}
 use Rattle.spanner_model.specs.Expression.{atom}
 use Rattle.query_automaton.specs.Parts.{HasLargePartOf}
 use Rattle.query_automaton.specs.QueryAutomaton.{of_atom}
-use Rattle.query_automaton.proofs.PieceLaws.{atom_made, atom_fault, atom_small}
+use Rattle.query_automaton.proofs.PieceLaws.{atom_made, atom_fault}
 use Rattle.query_automaton.proofs.expressions.atom_automaton.Goals as goal
-
-pub of_atom-requires-clause-sequential : goal.of_atom-requires-clause-sequential
-of_atom-requires-clause-sequential c = functional_sequential (tree_of c.args.atom.now.formula) c.requires.functional
 
 pub returns-in_err-whole-clause-fault : goal.returns-in_err-whole-clause-fault
 returns-in_err-whole-clause-fault c =
     let a = c.args.atom.now in
     let f = tree_of a.formula in
     handed_on (λ (e : SizeFault). (L : _) → HasLargePartOf L (atom a.from_start a.to_end f) e) c.from_residual.result c.in_err-whole.field-0.0 c.from_residual.ensures.1
-    (λ L. atom_fault a.from_start a.to_end f c.requires.built c.requires.functional L c.in_err-whole.field-0.0 c.in_err-whole.ensures.err)
+    (λ L. atom_fault a.from_start a.to_end f L c.in_err-whole.field-0.0 c.in_err-whole.ensures.err)
 
 pub returns-clause-made : goal.returns-clause-made
 returns-clause-made c = λ q n.
@@ -31,7 +27,6 @@ returns-clause-made c = λ q n.
     let of = c.in_ok-whole.ensures in
     let trim = c.in_ok-trim in
     let made : ReducesMarked trim.field-0 (of_atom a.from_start a.to_end f) =
-    atom_made a.from_start a.to_end f c.requires.built c.requires.functional whole trim.field-0 of.names.0 of.names.1
+    atom_made a.from_start a.to_end f whole trim.field-0 of.names.0 of.names.1
     (rearranged_reduces whole.graph (atom_automaton whole.names a.from_start a.to_end f) of.reduct) trim.ensures.names trim.ensures.reduct in
-    let small = atom_small a.from_start a.to_end f c.requires.built c.requires.functional of.small.0 of.small.1 in
-    record { reduces = subst (λ (m : Marked). ReducesMarked m (of_atom a.from_start a.to_end f)) (sym c.in_ok-new.ensures) made; small = small }
+    record { reduces = subst (λ (m : Marked). ReducesMarked m (of_atom a.from_start a.to_end f)) (sym c.in_ok-new.ensures) made; small = of.small }

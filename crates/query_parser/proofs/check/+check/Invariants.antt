@@ -1,10 +1,9 @@
-use Rattle.std.proofs.Common.{◌+◌, ◌*◌, [], take}
-use Rattle.spanner_model.specs.Expression.{join_all}
+use Rattle.std.proofs.Common.{◌+◌, ◌*◌, take}
+use Rattle.spanner_model.specs.Expression.{union_all, join_all}
 use Rattle.spanner_model.specs.ExprView.{expr_of, exprs_of}
-use Rattle.spanner_model.specs.Answer.{VarOf}
-use Rattle.spanner_model.specs.Gathered.{Adds, vars_in}
 use Rattle.spanner_model.proofs.Nodes.{expr_nodes}
-use Rattle.query_parser.proofs.CheckLaws.{AllPass, IsFirstApart, part_of}
+use Rattle.query_parser.specs.Formed.{IsBoundOf, vars_known, sure_known}
+use Rattle.query_parser.proofs.CheckLaws.{AllPass, IsFirstClash}
 use Rattle.query_parser.proofs.check.+check.Given as goal
 
 abbrev pub decreases-check_expr : goal.decreases-check_expr
@@ -17,9 +16,14 @@ abbrev pub decreases-check_join : goal.decreases-check_join
 decreases-check_join l = 2 * expr_nodes (join_all (exprs_of l.parts.now))
 
 abbrev pub invariant-check_join-loop-k : goal.invariant-check_join-loop-k
-invariant-check_join-loop-k l =
-    AllPass (vars_in l.known) (take l.k (exprs_of l.parts)) × Adds [] (VarOf (vars_in l.known) (join_all (take l.k (exprs_of l.parts)))) l.all
+invariant-check_join-loop-k l = record {
+  passed : AllPass (vars_known l.known) (sure_known l.known) (take l.k (exprs_of l.parts));
+  bound : IsBoundOf (vars_known l.known) (sure_known l.known) (join_all (take l.k (exprs_of l.parts))) l.bound;
+  first : IsFirstClash (vars_known l.known) (sure_known l.known) (take l.k (exprs_of l.parts)) l.clash;
+}
 
 abbrev pub invariant-check_union-loop-k : goal.invariant-check_union-loop-k
-invariant-check_union-loop-k l =
-    AllPass (vars_in l.known) (take l.k (exprs_of l.parts)) × IsFirstApart (vars_in l.known) (part_of (exprs_of l.parts)) (take l.k (exprs_of l.parts)) l.apart
+invariant-check_union-loop-k l = record {
+  passed : AllPass (vars_known l.known) (sure_known l.known) (take l.k (exprs_of l.parts));
+  bound : IsBoundOf (vars_known l.known) (sure_known l.known) (union_all (take l.k (exprs_of l.parts))) l.bound;
+}

@@ -1,5 +1,4 @@
-use Rattle.std.proofs.Common.{◌≡◌, ◌++◌, ℕ, List, length, map, Option, Some, sym, ap, ◌∙◌, subst}
-use Rattle.std.proofs.lemmas.List.{length-map}
+use Rattle.std.proofs.Common.{◌≡◌, ◌++◌, ℕ, List, length, Option, Some, sym, ap, ◌∙◌, subst}
 use Rattle.rm_outside.specs.Sink.{AppendsPart}
 use Rattle.command_line.specs.Asked.{request_view}
 use Rattle.spanner_model.specs.Answers.{SpanRow}
@@ -14,13 +13,13 @@ pub add_row-requires-clause-lengths : goal.add_row-requires-clause-lengths
 add_row-requires-clause-lengths g c =
     let f = (request_view c.args.request.now).form in
     let heads : AreHeads f c.args.vars.now (Some c.in-Some.kept) = subst (λ (k : Option (List (List ℕ))). AreHeads f c.args.vars.now k) c.in-Some.is c.requires.heads in
-    sym (length-map c.spans-spans.result.now Some) ∙ ap length c.spans-spans.ensures ∙ c.requires.fit.lengths ∙ sym (kept_width f c.args.vars.now c.in-Some.kept heads)
+    ap length c.spans-spans.ensures ∙ c.requires.fit.lengths ∙ sym (kept_width f c.args.vars.now c.in-Some.kept heads)
 
 pub returns-in-Ok-clause-ok : goal.returns-in-Ok-clause-ok
 returns-in-Ok-clause-ok g c =
     let a = request_view c.args.request.now in
     let heads : AreHeads a.form c.args.vars.now (Some c.in-Some.kept) = subst (λ (k : Option (List (List ℕ))). AreHeads a.form c.args.vars.now k) c.in-Some.is c.requires.heads in
-    let line : kept_text c.in-Some.kept (map Some c.spans-spans.result.now) c.args.document.now a.texts ≡ row_text a.form a.texts c.args.vars.now c.args.document.now c.args.answers.now.row =
+    let line : kept_text c.in-Some.kept c.spans-spans.result.now c.args.document.now a.texts ≡ row_text a.form a.texts c.args.vars.now c.args.document.now c.args.answers.now.row =
     ap (λ (r : SpanRow). kept_text c.in-Some.kept r c.args.document.now a.texts) c.spans-spans.ensures
     ∙ kept_row a.form a.texts c.args.vars.now c.args.document.now c.args.answers.now.row c.in-Some.kept heads c.requires.fit.lengths in
     subst (λ (xs : List ℕ). Passes c.args.gather.now xs c.add_row.new.self (change (g.O.Sink.written c.args.out.now) (g.O.Sink.written c.add_row.new.out) (g.O.Sink.faults c.args.out.now) (g.O.Sink.faults c.add_row.new.out))) line c.in-Ok.ensures.ok
@@ -29,7 +28,7 @@ pub returns-in-Err-clause-part : goal.returns-in-Err-clause-part
 returns-in-Err-clause-part g c =
     let a = request_view c.args.request.now in
     let heads : AreHeads a.form c.args.vars.now (Some c.in-Some.kept) = subst (λ (k : Option (List (List ℕ))). AreHeads a.form c.args.vars.now k) c.in-Some.is c.requires.heads in
-    let line : kept_text c.in-Some.kept (map Some c.spans-spans.result.now) c.args.document.now a.texts ≡ row_text a.form a.texts c.args.vars.now c.args.document.now c.args.answers.now.row =
+    let line : kept_text c.in-Some.kept c.spans-spans.result.now c.args.document.now a.texts ≡ row_text a.form a.texts c.args.vars.now c.args.document.now c.args.answers.now.row =
     ap (λ (r : SpanRow). kept_text c.in-Some.kept r c.args.document.now a.texts) c.spans-spans.ensures
     ∙ kept_row a.form a.texts c.args.vars.now c.args.document.now c.args.answers.now.row c.in-Some.kept heads c.requires.fit.lengths in
     subst (λ (xs : List ℕ). AppendsPart (g.O.Sink.written c.args.out.now) (g.O.Sink.written c.add_row.new.out) (c.args.gather.now ++ xs)) line c.in-Err.ensures.part

@@ -5,7 +5,7 @@ use Rattle.command_line.specs.Asked.{request_view}
 use Rattle.rematch_program.specs.Change.{SoFar}
 use Rattle.spanner_model.specs.Answers.{SpanRow}
 use Rattle.rematch_program.specs.Kept.{AreHeads}
-use Rattle.rematch_program.specs.Pages.{HasWidth, cursor_given, first_rows, next_cursor, row_if, row_text}
+use Rattle.rematch_program.specs.Pages.{FitsIf, cursor_given, first_rows, next_cursor, row_if, row_text}
 use Rattle.rematch_program.specs.Steps.{next_steps}
 use Rattle.rematch_program.proofs.Gathers.{so_far_more, so_far_part}
 use Rattle.rematch_program.proofs.PageSteps.{first_at_zero, first_of_none, fit_first, fit_rest, front_is, lines_next, some_more, steps_last, steps_next, le_self, row_cost}
@@ -17,7 +17,7 @@ loop-alloc-init g c = record {
   later = le_self (g.O.Sink.faults c.args.out.now);
   fit = c.requires.fit;
   heads = c.requires.heads;
-  width = tt;
+  last = tt;
   cursor = refl;
   more = refl;
   variables = refl;
@@ -31,17 +31,17 @@ returns-then-not-advance-clause-ok g c =
     let none = ap (first_rows c.loop-alloc.remaining) c.if-not-advance.ensures.none.0 ∙ first_of_none c.loop-alloc.remaining in
     subst (λ left. SoFar (g.O.Sink.written c.args.out.now) (g.O.Sink.written c.loop-alloc.out) c.loop-alloc.gather left (c.args.gather.now ++ flat_map text (first_rows a.limit c.args.answers.now.rest))) (ap (flat_map text) none) c.loop-alloc.invariant.so_far
 
-pub returns-then-not-advance-clause-width : goal.returns-then-not-advance-clause-width
-returns-then-not-advance-clause-width g c =
-    subst (λ (r : Option SpanRow). HasWidth (length c.args.vars.now) r) (sym (c.last_row-last.ensures ∙ ap (row_if c.loop-alloc.some) c.if-not-advance.ensures.none.2)) c.loop-alloc.invariant.width
+pub returns-then-not-advance-clause-last : goal.returns-then-not-advance-clause-last
+returns-then-not-advance-clause-last g c =
+    subst (λ (r : Option SpanRow). FitsIf (length c.args.vars.now) (length c.args.document.now) r) (sym (c.last_row-last.ensures ∙ ap (row_if c.loop-alloc.some) c.if-not-advance.ensures.none.2)) c.loop-alloc.invariant.last
 
 pub returns-then-not-advance-clause-cursor : goal.returns-then-not-advance-clause-cursor
 returns-then-not-advance-clause-cursor g c =
     let a = request_view c.args.request.now in
     let none = ap (first_rows c.loop-alloc.remaining) c.if-not-advance.ensures.none.0 ∙ first_of_none c.loop-alloc.remaining in
     let last = c.last_row-last.ensures ∙ ap (row_if c.loop-alloc.some) c.if-not-advance.ensures.none.2 in
-    ap (λ (r : Option SpanRow). next_cursor c.args.vars.now (cursor_given c.args.vars.now r a.after) []) last
-    ∙ sym (ap (next_cursor c.args.vars.now (cursor_given c.args.vars.now (row_if c.loop-alloc.some c.loop-alloc.answers.row) a.after)) none) ∙ c.loop-alloc.invariant.cursor
+    ap (λ (r : Option SpanRow). next_cursor c.args.vars.now (length c.args.document.now) (cursor_given c.args.vars.now (length c.args.document.now) r a.after) []) last
+    ∙ sym (ap (next_cursor c.args.vars.now (length c.args.document.now) (cursor_given c.args.vars.now (length c.args.document.now) (row_if c.loop-alloc.some c.loop-alloc.answers.row) a.after)) none) ∙ c.loop-alloc.invariant.cursor
 
 pub returns-then-not-advance-clause-more : goal.returns-then-not-advance-clause-more
 returns-then-not-advance-clause-more g c =
@@ -85,8 +85,8 @@ loop-alloc-preserved g c =
       later = omega (arith, c.loop-alloc.invariant.later, c.put_line-put.ensures.later);
       fit = fit_rest _ _ c.loop-alloc.answers.rest c.advance.new.self.rest c.advance.new.self.row c.if-not-advance.ensures.next c.loop-alloc.invariant.fit;
       heads = subst (λ (k : Option (List (List ℕ))). AreHeads a.form c.args.vars.now k) (sym c.in_default.ensures.heads) c.loop-alloc.invariant.heads;
-      width = (fit_first _ _ c.loop-alloc.answers.rest c.advance.new.self.rest c.advance.new.self.row c.if-not-advance.ensures.next c.loop-alloc.invariant.fit).lengths;
-      cursor = sym (ap (next_cursor c.args.vars.now (cursor_given c.args.vars.now (row_if c.loop-alloc.some c.loop-alloc.answers.row) a.after)) front) ∙ c.loop-alloc.invariant.cursor;
+      last = fit_first _ _ c.loop-alloc.answers.rest c.advance.new.self.rest c.advance.new.self.row c.if-not-advance.ensures.next c.loop-alloc.invariant.fit;
+      cursor = sym (ap (next_cursor c.args.vars.now (length c.args.document.now) (cursor_given c.args.vars.now (length c.args.document.now) (row_if c.loop-alloc.some c.loop-alloc.answers.row) a.after)) front) ∙ c.loop-alloc.invariant.cursor;
       more = omega (arith, c.loop-alloc.invariant.more, one, ahead);
       variables = c.advance.ensures.variables ∙ c.loop-alloc.invariant.variables;
       steps = steps_next c.loop-alloc.steps c.advance.new.steps (length (first_rows c.loop-alloc.remaining c.loop-alloc.answers.rest)) _ (next_steps c.loop-alloc.answers.variables) (next_steps c.args.answers.now.variables) _
@@ -100,15 +100,15 @@ returns-clause-ok g c =
     let none = first_at_zero c.loop-alloc.remaining c.loop-alloc.answers.rest (c.goes_on.ensures.no c.loop-alloc-test.false) in
     subst (λ left. SoFar (g.O.Sink.written c.args.out.now) (g.O.Sink.written c.loop-alloc.out) c.loop-alloc.gather left (c.args.gather.now ++ flat_map text (first_rows a.limit c.args.answers.now.rest))) (ap (flat_map text) none) c.loop-alloc.invariant.so_far
 
-pub returns-clause-width : goal.returns-clause-width
-returns-clause-width g c = subst (λ (r : Option SpanRow). HasWidth (length c.args.vars.now) r) (sym c.last_row-last-2.ensures) c.loop-alloc.invariant.width
+pub returns-clause-last : goal.returns-clause-last
+returns-clause-last g c = subst (λ (r : Option SpanRow). FitsIf (length c.args.vars.now) (length c.args.document.now) r) (sym c.last_row-last-2.ensures) c.loop-alloc.invariant.last
 
 pub returns-clause-cursor : goal.returns-clause-cursor
 returns-clause-cursor g c =
     let a = request_view c.args.request.now in
     let none = first_at_zero c.loop-alloc.remaining c.loop-alloc.answers.rest (c.goes_on.ensures.no c.loop-alloc-test.false) in
-    ap (λ (r : Option SpanRow). next_cursor c.args.vars.now (cursor_given c.args.vars.now r a.after) []) c.last_row-last-2.ensures
-    ∙ sym (ap (next_cursor c.args.vars.now (cursor_given c.args.vars.now (row_if c.loop-alloc.some c.loop-alloc.answers.row) a.after)) none) ∙ c.loop-alloc.invariant.cursor
+    ap (λ (r : Option SpanRow). next_cursor c.args.vars.now (length c.args.document.now) (cursor_given c.args.vars.now (length c.args.document.now) r a.after) []) c.last_row-last-2.ensures
+    ∙ sym (ap (next_cursor c.args.vars.now (length c.args.document.now) (cursor_given c.args.vars.now (length c.args.document.now) (row_if c.loop-alloc.some c.loop-alloc.answers.row) a.after)) none) ∙ c.loop-alloc.invariant.cursor
 
 pub returns-clause-more : goal.returns-clause-more
 returns-clause-more g c =

@@ -3,7 +3,7 @@ use Rattle.std.specs.List.{flat_map}
 use Rattle.command_line.specs.Asked.{request_view}
 use Rattle.rematch_program.specs.Change.{SoFar}
 use Rattle.rematch_program.specs.Kept.{AreHeads}
-use Rattle.rematch_program.specs.Pages.{AllFit, HasWidth, cursor_given, first_rows, next_cursor, row_if, row_text}
+use Rattle.rematch_program.specs.Pages.{AllFit, FitsIf, cursor_given, first_rows, next_cursor, row_if, row_text}
 use Rattle.rematch_program.specs.Steps.{next_steps}
 use Rattle.rematch_program.proofs.page.put_rows.Given as goal
 
@@ -17,10 +17,10 @@ invariant-loop-alloc g l = record {
   later : g.O.Sink.faults l.fn.out ≤ g.O.Sink.faults l.out;
   fit : AllFit (length l.vars) (length l.document) l.answers.rest;
   heads : AreHeads (request_view l.request).form l.vars l.kept;
-  width : HasWidth (length l.vars) (row_if l.some l.answers.row);
+  last : FitsIf (length l.vars) (length l.document) (row_if l.some l.answers.row);
   cursor :
       let a = request_view l.request in
-      next_cursor l.vars (cursor_given l.vars (row_if l.some l.answers.row) a.after) (first_rows l.remaining l.answers.rest) ≡ next_cursor l.vars a.after (first_rows a.limit l.fn.answers.rest);
+      next_cursor l.vars (length l.document) (cursor_given l.vars (length l.document) (row_if l.some l.answers.row) a.after) (first_rows l.remaining l.answers.rest) ≡ next_cursor l.vars (length l.document) a.after (first_rows a.limit l.fn.answers.rest);
   more :
       let a = request_view l.request in
       length l.answers.rest + length (first_rows a.limit l.fn.answers.rest) ≡ length l.fn.answers.rest + length (first_rows l.remaining l.answers.rest);

@@ -1,17 +1,19 @@
-use Rattle.std.proofs.Common.{◌≡◌, ℕ, ◌+◌, ◌<◌, ◌++◌, List, [], ◌∷◌, take, drop, length, map, get_or, Some, sym, ap, ◌∙◌, arith}
+use Rattle.std.proofs.Common.{◌≡◌, ℕ, ◌+◌, ◌<◌, ◌++◌, List, [], ◌∷◌, take, drop, length, get_or, refl, sym, ap, ◌∙◌, arith, Option}
 use Rattle.std.proofs.lemmas.List.{drop_more, drop_all}
+use Rattle.std.proofs.lemmas.Option.{slice_get_read}
 use Rattle.span_core.specs.declared.span.Span.{Span}
+use Rattle.cell_text.specs.Cells.{ends_by}
 use Rattle.row_writer.specs.Kept.{cells_text, heads_of}
-use Rattle.row_writer.proofs.Keeping.{cells_more, heads_at, length_heads, room_more, same_heads, span_inside}
+use Rattle.row_writer.proofs.Keeping.{cells_more, heads_at, length_heads, room_more, same_heads}
+use Rattle.row_writer.proofs.Fields.{all_at}
 use Rattle.row_writer.proofs.kept.put_fields.Goals as goal
 
 pub put_kept-end-requires-clause-inside : goal.put_kept-end-requires-clause-inside
 put_kept-end-requires-clause-inside c =
     let span = c.index-spans-k.result in
     let l : c.loop-k.k < length c.args.spans.now = omega arith in
-    let h = span_inside (length c.args.doc.now) c.args.spans.now c.loop-k.k span l c.requires.inside in
-    let e = ap (λ (s : Span). s.end) c.index-spans-k.is in
-    omega (arith, e, h)
+    let read = slice_get_read c.args.spans.now (length c.args.spans.now) c.loop-k.k span refl l c.index-spans-k.is in
+    all_at (ends_by (length c.args.doc.now)) c.args.spans.now c.loop-k.k span read c.requires.inside
 
 pub loop-k-preserved : goal.loop-k-preserved
 loop-k-preserved c =
@@ -27,7 +29,7 @@ loop-k-preserved c =
     let head = (get_or fields k field).head in
     let left : drop k heads ≡ head ∷ drop (k + 1) heads =
     sym (ap (λ (hs : List (List ℕ)). drop k hs) i.heads) ∙ heads_at fields k field n ∙ ap (λ (hs : List (List ℕ)). head ∷ drop (k + 1) hs) i.heads in
-    let more : drop k spans ≡ span ∷ drop (k + 1) spans = drop_more spans k span l ∙ ap (λ (s : Span). s ∷ drop (k + 1) spans) (sym c.index-spans-k.is) in
+    let more : drop k spans ≡ span ∷ drop (k + 1) spans = drop_more spans k span l ∙ ap (λ (s : Option Span). s ∷ drop (k + 1) spans) (sym c.index-spans-k.is) in
     record {
       heads = same_heads fields k field c.put_kept-end.new.field n c.put_kept-end.ensures.head ∙ i.heads;
       written = cells_more c.args.doc.now c.args.texts (take c.loop-k.end c.loop-k.buffer) (take c.put_kept-end.result c.put_kept-end.new.buffer) head
@@ -41,5 +43,5 @@ returns-clause-text c =
     let heads = heads_of c.args.fields.now in
     let none : drop k heads ≡ [] = drop_all k heads (omega (arith, length_heads c.args.fields.now, c.requires.lengths)) in
     c.put_byte.ensures.text
-    ∙ sym (ap (λ (hs : List (List ℕ)). take c.loop-k.end c.loop-k.buffer ++ cells_text c.args.doc.now c.args.texts hs (map Some (drop k c.args.spans.now))) none)
+    ∙ sym (ap (λ (hs : List (List ℕ)). take c.loop-k.end c.loop-k.buffer ++ cells_text c.args.doc.now c.args.texts hs (drop k c.args.spans.now)) none)
     ∙ c.loop-k.invariant.written

@@ -1,6 +1,7 @@
 use Rattle.std.proofs.Common.{ap}
 use Rattle.std.specs.Option.{option_copied}
 use Rattle.spanner_model.specs.ExprView.{query_of}
+use Rattle.spanner_engine.specs.Begun.{row_kept}
 use Rattle.spanner_engine.proofs.ReadAt.{parts_contain, parts_within, steps_read, steps_sought, table_cause}
 use Rattle.spanner_engine.proofs.beginning.begin.Goals as goal
 
@@ -21,15 +22,15 @@ returns-in-Err-Full-all_answers-clause-fault g c =
 pub returns-in-Err-Full-all_answers-clause-steps : goal.returns-in-Err-Full-all_answers-clause-steps
 returns-in-Err-Full-all_answers-clause-steps g c =
     steps_read c.args.options.filter (query_of c.args.compiled.now.query) (query_of c.query.result.now) (ap query_of c.query.ensures.query) c.args.doc.now c.in-Ok.positions c.in-Ok.ensures.read
-    c.args.steps.now c.positions_read.new.steps c.all_answers.new.steps (option_copied c.args.after) c.positions_read.ensures.steps c.all_answers.ensures.steps
+    c.args.steps.now c.positions_read.new.steps c.all_answers.new.steps (row_kept (option_copied c.args.after)) c.positions_read.ensures.steps c.all_answers.ensures.steps
 
 pub returns-in-Err-OutOfMemory-all_answers-clause-steps : goal.returns-in-Err-OutOfMemory-all_answers-clause-steps
 returns-in-Err-OutOfMemory-all_answers-clause-steps g c =
     steps_read c.args.options.filter (query_of c.args.compiled.now.query) (query_of c.query.result.now) (ap query_of c.query.ensures.query) c.args.doc.now c.in-Ok.positions c.in-Ok.ensures.read
-    c.args.steps.now c.positions_read.new.steps c.all_answers.new.steps (option_copied c.args.after) c.positions_read.ensures.steps c.all_answers.ensures.steps
+    c.args.steps.now c.positions_read.new.steps c.all_answers.new.steps (row_kept (option_copied c.args.after)) c.positions_read.ensures.steps c.all_answers.ensures.steps
 
 pub returns-clause-steps : goal.returns-clause-steps
 returns-clause-steps g c =
     steps_sought c.args.options.filter (query_of c.args.compiled.now.query) (query_of c.query.result.now) (ap query_of c.query.ensures.query) c.args.doc.now c.in-Ok.positions c.in-Ok.ensures.read
-    c.args.steps.now c.positions_read.new.steps c.all_answers.new.steps c.from_row.new.steps c.in-Ok-all_answers.rows.cells (option_copied c.args.after)
+    c.args.steps.now c.positions_read.new.steps c.all_answers.new.steps c.from_row.new.steps c.in-Ok-all_answers.rows.cells (row_kept (option_copied c.args.after))
     c.positions_read.ensures.steps c.all_answers.ensures.steps c.in-Ok-all_answers.ensures.cells c.from_row.ensures.steps

@@ -1,9 +1,13 @@
-use Rattle.std.proofs.Common.{◌≤◌, length, refl, arith}
+use Rattle.std.proofs.Common.{◌≤◌, length, Option, Some, ap, refl, arith, ◌∙◌}
+use Rattle.span_core.specs.declared.span.Span.{Span}
 use Rattle.spanner_engine.proofs.Past.{none_past, past_here}
 use Rattle.spanner_engine.proofs.place.ends_past.Goals as goal
 
-pub returns-then-at-n : goal.returns-then-at-n
-returns-then-at-n c = (λ _. past_here c.args.n c.loop-k.k c.args.row.now c.at.result c.at.ensures c.if-at-n.true, λ _. refl)
+pub returns-then-span-n : goal.returns-then-span-n
+returns-then-span-n c = (
+  λ _. past_here c.args.n c.loop-k.k c.args.row.now c.in-Some.span (c.at.ensures ∙ ap (λ (o : Option Span). Some o) c.in-Some.is) c.if-span-n.true,
+  λ _. refl,
+)
 
 pub returns : goal.returns
 returns c =

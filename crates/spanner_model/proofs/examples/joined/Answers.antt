@@ -9,7 +9,7 @@ use Rattle.span_core.specs.ByteSets.{bytes_between}
 use Rattle.span_core.specs.ByteWordLaws.{contains-bytes_between}
 use Rattle.spanner_model.specs.Tree.{Tree, one, cat, cat_end, cat_all, cap}
 use Rattle.spanner_model.specs.Captures.{Captures, span_of}
-use Rattle.spanner_model.specs.Functional.{HasVar}
+use Rattle.spanner_model.specs.Sequential.{HasVar}
 use Rattle.spanner_model.specs.Fit.{Fit}
 use Rattle.spanner_model.specs.Expression.{ExprTree, join_all}
 use Rattle.spanner_model.specs.Answers.{IsAnswerRow}

@@ -13,7 +13,7 @@ use Rattle.spanner_model.proofs.gathering.+expressions.Goals as goal
 pub gather_expr-gather_exprs-requires : goal.gather_expr-gather_exprs-requires
 gather_expr-gather_exprs-requires t c =
     let p = has_exprs (vars_in c.args.known.now) (length c.args.known.now) c.args.expr.now c.in-Union.parts c.in-Union.is in
-    (omega (arith, p.size), p.sound c.requires)
+    (omega (arith, p.size), p.under c.requires)
 
 pub gather_expr-returns-in-Named : goal.gather_expr-returns-in-Named
 gather_expr-returns-in-Named t c =

@@ -1,7 +1,7 @@
 use Rattle.std.proofs.Common.{arith}
 use Rattle.spanner_model.specs.Tree.{cat_all}
 use Rattle.spanner_model.specs.View.{tree_of, trees_of}
-use Rattle.spanner_model.specs.Functional.{HasVar}
+use Rattle.spanner_model.specs.Sequential.{HasVar}
 use Rattle.span_core.proofs.HasLaws.{Has-slice_get}
 use Rattle.spanner_model.proofs.GatheredLaws.{gathered_same, gathered_next, gathered_no_more, parts_in_turn}
 use Rattle.spanner_model.proofs.NodeParts.{has_parts}

@@ -5,11 +5,11 @@ use Rattle.spanner_model.specs.ExprView.{expr_of, query_of}
 use Rattle.spanner_model.proofs.ExprLaws.{Knows, asked_let, asked_body, knows_more, result_vars}
 use Rattle.spanner_model.proofs.gathering.variables.Goals as goal
 
-pub variables_of-vars-requires-clause-sound : goal.variables_of-vars-requires-clause-sound
-variables_of-vars-requires-clause-sound c =
+pub variables_of-vars-requires-clause-under : goal.variables_of-vars-requires-clause-under
+variables_of-vars-requires-clause-under c =
     let q = query_of c.args.query.now in
     let is = c.deref.ensures.value in
-    (asked_let q c.deref.result.now c.loop-k.k (c.at.result.now.0, expr_of c.at.result.now.1) c.requires (ap length is ∙ c.loop-k.invariant.0) (subst (λ (xs : List (List VarName)). Knows q.lets xs) (sym is) c.loop-k.invariant.1) c.at.ensures).sound
+    (asked_let q c.deref.result.now c.loop-k.k (c.at.result.now.0, expr_of c.at.result.now.1) c.requires (ap length is ∙ c.loop-k.invariant.0) (subst (λ (xs : List (List VarName)). Knows q.lets xs) (sym is) c.loop-k.invariant.1) c.at.ensures).under
 
 pub variables_of-vars-requires-clause-room : goal.variables_of-vars-requires-clause-room
 variables_of-vars-requires-clause-room c =
@@ -28,12 +28,12 @@ loop-k-preserved c =
     let grown = items ∙ ap (λ (xs : List (List VarName)). xs ++ c.variables_of-vars.result ∷ []) (sym is) in
     (omega (arith, ap length items, length-append c.loop-k.known.items (c.variables_of-vars.result ∷ []), c.loop-k.invariant.0), subst (λ (xs : List (List VarName)). Knows q.lets xs) (sym grown) more)
 
-pub variables_of-requires-clause-sound : goal.variables_of-requires-clause-sound
-variables_of-requires-clause-sound c =
+pub variables_of-requires-clause-under : goal.variables_of-requires-clause-under
+variables_of-requires-clause-under c =
     let q = query_of c.args.query.now in
     let is = c.deref-2.ensures.value in
     let long : length c.deref-2.result.now ≡ length q.lets = omega (arith, ap length is, c.loop-k.invariant.0, c.loop-k-test.false, c.loop-k.auto.k-end, c.len-k-end.ensures) in
-    (asked_body q c.deref-2.result.now c.requires long (subst (λ (xs : List (List VarName)). Knows q.lets xs) (sym is) c.loop-k.invariant.1)).sound
+    (asked_body q c.deref-2.result.now c.requires long (subst (λ (xs : List (List VarName)). Knows q.lets xs) (sym is) c.loop-k.invariant.1)).under
 
 pub variables_of-requires-clause-room : goal.variables_of-requires-clause-room
 variables_of-requires-clause-room c =

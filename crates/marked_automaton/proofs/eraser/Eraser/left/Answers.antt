@@ -1,4 +1,5 @@
-use Rattle.std.proofs.Common.{◌≡◌, ℕ, ◌+◌, ◌-◌, ◌*◌, ◌^◌, ◌/◌, ◌%◌, get_or, length, ap, subst, arith, ◌∙◌}
+use Rattle.std.proofs.Common.{◌≡◌, ℕ, ◌+◌, ◌-◌, ◌*◌, ◌^◌, get_or, length, None, ap, arith, ◌∙◌}
+use Rattle.marked_automaton.specs.Erased.{digit_at}
 use Rattle.marked_automaton.proofs.EraserLaws.{before_next, picked_next}
 use Rattle.marked_automaton.proofs.eraser.Eraser.left.Goals as goal
 
@@ -9,10 +10,9 @@ loop-k-preserved c =
     let k = c.loop-k.k in
     let v = c.len-kept.result in
     let b = c.loop-k.invariant.before in
-    let shift : ℕ = 2 * (all - (get_or places k 0 + 1)) in
-    let digit : ℕ = c.args.marks / 2 ^ shift % 4 in
+    let digit : ℕ = digit_at all (get_or places k None) c.args.marks in
     let step : c.with_digit-left.result ≡ c.loop-k.left + digit * 2 ^ (2 * (v - (k + 1))) =
-    subst (λ (n : ℕ). c.with_digit-left.result ≡ c.loop-k.left + (n / 2 ^ shift % 4) * 2 ^ (2 * (v - (k + 1)))) c.number.ensures c.with_digit-left.ensures in
+    c.with_digit-left.ensures ∙ ap (λ n. c.loop-k.left + n * 2 ^ (2 * (v - (k + 1)))) c.digit.ensures.value in
     let next = picked_next all c.args.marks k places c.loop-k-test.true in
     let len : v ≡ length places = omega (arith, c.len-kept.ensures, c.deref-place-items.ensures.len, c.args.self.now.places.ok.0) in
     let same : digit * 2 ^ (2 * (v - (k + 1))) ≡ digit * 2 ^ (2 * (length places - (k + 1))) = ap (λ n. digit * 2 ^ (2 * (n - (k + 1)))) len in

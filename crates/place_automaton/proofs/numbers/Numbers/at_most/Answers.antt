@@ -2,7 +2,7 @@ use Rattle.std.proofs.Common.{sym, subst, add-one}
 use Rattle.span_core.specs.Lists.{Has}
 use Rattle.place_automaton.specs.Counts.{counts_cat, counts_at_most}
 use Rattle.place_automaton.specs.Capped.{AreCapped}
-use Rattle.place_automaton.proofs.NullCounts.{AreZero, zero_once, zero_sums}
+use Rattle.place_automaton.proofs.NullCounts.{AreZero, zero_joins, zero_once, zero_sums}
 use Rattle.place_automaton.proofs.numbers.Numbers.at_most.Goals as goal
 
 pub loop-copy-preserved : goal.loop-copy-preserved
@@ -10,9 +10,17 @@ loop-copy-preserved c =
     let n = c.loop-copy._copy in
     let i = c.loop-copy.invariant in
     let both = c.in_ok-cat.field-0 in
+    let again = c.in_ok-again.field-0 in
+    let none : AreZero again.null.items = λ m h. c.requires m (subst (λ ms. Has ms m) c.in_ok-again.ensures.null h) in
     let bare : AreZero both.null.items = λ m h.
-    zero_sums c.args.self.now.null.items c.loop-copy.numbers.null.items c.requires i.0 m (subst (λ ms. Has ms m) c.in_ok-cat.ensures.null h) in (
+    zero_sums again.null.items c.loop-copy.numbers.null.items none i.0 m (subst (λ ms. Has ms m) c.in_ok-cat.ensures.null h) in (
       λ m h. zero_once both.null.items bare m (subst (λ ms. Has ms m) c.in_ok-numbers-2.ensures.null h),
       λ a p. subst (λ k. AreCapped (counts_at_most k a) c.in_ok-numbers-2.numbers) (sym (add-one n))
-          (c.in_ok-numbers-2.ensures.capped (counts_cat a (counts_at_most n a)) (c.in_ok-cat.ensures.capped a (counts_at_most n a) p (i.1 a p))),
+          (c.in_ok-numbers-2.ensures.capped (counts_cat a (counts_at_most n a)) (c.in_ok-cat.ensures.capped a (counts_at_most n a) (c.in_ok-again.ensures.capped a p) (i.1 a p))),
     )
+
+pub cat-requires : goal.cat-requires
+cat-requires c =
+    let again = c.in_ok-again.field-0 in
+    let none : AreZero again.null.items = λ m h. c.requires m (subst (λ ms. Has ms m) c.in_ok-again.ensures.null h) in
+    zero_joins again.null.items c.loop-copy.numbers.null.items none c.loop-copy.invariant.0

@@ -1,4 +1,4 @@
-use Rattle.std.proofs.Common.{◌≡◌, ◌≤◌, ◌++◌, ℕ, List, length, take, drop, map, Some, ap, ◌∙◌, subst, arith}
+use Rattle.std.proofs.Common.{◌≡◌, ◌≤◌, ◌++◌, ℕ, List, length, take, drop, ap, ◌∙◌, subst, arith}
 use Rattle.std.proofs.lemmas.List.{take_at}
 use Rattle.rm_outside.specs.Sink.{AppendsPart}
 use Rattle.row_writer.specs.Kept.{kept_text}
@@ -8,7 +8,7 @@ use Rattle.rematch_program.proofs.gather.Gather.add_row.Goals as goal
 
 pub returns-in-Err-clause-part : goal.returns-in-Err-clause-part
 returns-in-Err-clause-part g c =
-    let line = kept_text c.args.line.now (map Some c.args.spans.now) c.args.document.now c.args.texts in
+    let line = kept_text c.args.line.now c.args.spans.now c.args.document.now c.args.texts in
     let end = c.self.inside.end in
     let same : end ≤ end = omega arith in
     let up : end ≤ c.put-end.result = omega arith in

@@ -1,15 +1,11 @@
 use Rattle.std.proofs.Common.{◌≡◌, ◌+◌, ◌-◌, ◌⊎◌, true, false, inl, inr, ◌∙◌}
 use Rattle.std.specs.Prelude.{if◌then◌else◌}
 use Rattle.spanner_model.specs.View.{tree_of}
-use Rattle.place_automaton.proofs.CountLaws.{functional_sequential}
 use Rattle.filter_laws.specs.Sharing.{places_of}
 use Rattle.segment_filter.proofs.ReadingLaws.{last_place, plain_states, readings_made}
 use Rattle.segment_filter.proofs.CostLaws.{costs_made}
 use Rattle.segment_filter.proofs.readings.Readings.of.Goals as goal
 use Rattle.segment_filter.proofs.readings.Readings.of.Goals.{then-atom, else-atom}
-
-pub of_atom-requires-clause-sequential : goal.of_atom-requires-clause-sequential
-of_atom-requires-clause-sequential c = functional_sequential (tree_of c.args.atom.now.formula) c.requires.functional
 
 pub overflow_sub-most : goal.overflow_sub-most
 overflow_sub-most c =
@@ -32,7 +28,7 @@ returns-clause-meet c =
     c.states.ensures.value ∙ plain_states names s t f c.in-Ok.marked.graph c.states.ensures.marked.whole c.in-Ok.ensures.reduct in
     let cases : ((t ≡ true) × (c.if-atom.beyond ≡ 1)) ⊎ ((t ≡ false) × (c.if-atom.beyond ≡ 2)) =
     elim c.if-atom.branch [ then-atom w ↦ inl (w.if-atom.true, w.beyond-is) | else-atom w ↦ inr (w.if-atom.false, w.beyond-is) ] in
-    readings_made names s t f c.in-Ok.marked.graph c.states.ensures.marked.whole c.in-Ok.ensures.reduct c.requires.built c.requires.functional
+    readings_made names s t f c.in-Ok.marked.graph c.states.ensures.marked.whole c.in-Ok.ensures.reduct c.requires.built c.requires.sequential
     c.empty.result c.in_ok-forward.forward.graph c.in_ok-backward.backward.graph (c.states.result - c.if-atom.beyond) c.empty.ensures
     c.in_ok-forward.ensures.graph c.in_ok-backward.ensures (last_place t c.states.result (places_of names f) c.if-atom.beyond states cases).1
 

@@ -1,22 +1,15 @@
-use Rattle.std.proofs.Common.{◌≡◌, ℕ, ◌<◌, List, sym, subst, rules, ◌∙◌}
-use Rattle.span_core.specs.Lists.{Has, IsInOrder}
+use Rattle.std.proofs.Common.{◌≡◌, ◌<◌, sym, subst, rules, ◌∙◌}
+use Rattle.span_core.specs.Lists.{IsInOrder}
 use Rattle.automaton_reading.specs.Reading.{set_of}
 use Rattle.set_table.specs.Cut.{marks_among}
 use Rattle.set_table.specs.Tabled.{set_at}
-use Rattle.set_table.proofs.AddsLaws.{adds_ends, marks_small, ready_set}
+use Rattle.set_table.proofs.AddsLaws.{adds_ends, ready_set}
 use Rattle.set_table.proofs.store.Store.add_ends.Goals as goal
 
 pub put_marks-requires : goal.put_marks-requires
 put_marks-requires c =
     let s = c.args.self.now in
     subst (IsInOrder ◌<◌) (sym c.at.ensures) (ready_set c.args.automaton.now s.sets s.edges.items s.ends.items c.args.set c.requires.ready).order
-
-pub put_ends-requires : goal.put_ends-requires
-put_ends-requires c = λ n h.
-    let M = c.args.automaton.now in
-    let S = set_at c.args.self.now.sets c.args.set in
-    let codes : c.as_slice.result.now ≡ set_of (marks_among S M.graph.stops) = c.as_slice.ensures.value ∙ (c.in_ok-put_marks.ensures ∙ (λ i. set_of (marks_among (c.at.ensures i) (c.stops.ensures i)))) in
-    marks_small M S n (subst (λ (xs : List ℕ). Has xs n) codes h)
 
 pub returns-clause-adds : goal.returns-clause-adds
 returns-clause-adds c =

@@ -1,0 +1,10 @@
+use Rattle.std.proofs.Common.{subst}
+use Rattle.std.specs.Prelude.{IfOk}
+use Rattle.marked_automaton.specs.Automaton.{Marked}
+use Rattle.marked_automaton.specs.Reduct.{Reduces}
+use Rattle.algebra.specs.Uniting.{union_over}
+use Rattle.algebra.proofs.operations.union.Goals as goal
+
+pub returns-clause-reduct : goal.returns-clause-reduct
+returns-clause-reduct c =
+    subst (λ (A : Marked). IfOk c.unite.result (λ (u : Marked). Reduces u.graph (union_over A c.args.b.now u.names))) c.in_ok-copy.ensures c.unite.ensures.reduct

@@ -1,5 +1,0 @@
-use Rattle.functional_check.proofs.FaultLaws.{no_fault}
-use Rattle.functional_check.proofs.laws.functional_have_no_fault.Goals as goal
-
-pub returns : goal.returns
-returns c = λ f e ok h. no_fault f e ok h

@@ -1,5 +1,0 @@
-use Rattle.spanner_model.proofs.AnswerLaws.{query_given}
-use Rattle.spanner_model.proofs.laws.answers_give_each_variable.Goals as goal
-
-pub returns : goal.returns
-returns c = λ q d m s h x v. query_given q d m s h x v
