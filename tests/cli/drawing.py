@@ -1,8 +1,10 @@
 """Draws random small queries, documents and words, for `fuzz` and for the group `drawn` of `run`.
 
-Most queries are sound: they are made from variables downwards, so that each formula is functional.
+Most queries are sound: they are made from variables downwards, so that each formula is sequential; in one query
+of two each variable is sure, in the others captures are left out and arms and parts of unions have different
+variables. Parts of a join then mostly share only what is sure. Now and then there are seventeen to thirty-two variables.
 The others are such texts with some bytes or names changed, and mostly refused. `fuzz` also takes queries
-whose sizes are near their limits.
+whose sizes are near their limits, and texts that are nearly cursors.
 """
 import random
 
@@ -11,6 +13,9 @@ LEAVES = ['a', 'b', 'ab', '.', '[ab]', '[^a]', '', r'\w', r'\x62', 'é', '!', '[
 # the reference, by Python's tables, prints and counts them as the program does.
 WIDE_LEAVES = [r'\u{e9}', '[à-ü]', '[^é]', '[aé]', r'[\p{Zs}a]', r'\p{Zl}', 'é', '.', '.']
 REPEATS = ['*', '+', '?', '{2}', '{1,2}', '{2,}', '{0}', '{0,2}']
+CURSOR_SIGNS = list('c12:;-09xyz _') + ['', '', ';x:-', ':-', '00', '4294967295', '4294967296', 'c1', 'c2:', '-;']
+MAYBE = ['?', '?', '{0,1}']
+MANY = ['%s%d' % (letter, k) for letter in 'pqr' for k in range(10)] + ['x', 'y']
 SIGNS = list('/()[]{}|*+?.\\^$!-,;=abx_19 \n') + ['!x{', '{1,', 'union', 'join', 'let ', 'none', 'é', '/u', r'\u{']
 
 
@@ -19,15 +24,30 @@ class Maker:
         self.pick = random.Random(seed)
         self.names = []  # the result's variables, if the query is not changed
         self.leaves = LEAVES
+        self.is_optional = self.pick.random() < 0.5
+        self.sure = frozenset()  # the variables that must be sure in what is made now
 
     def split(self, names):
         """Two disjoint sets that make the whole."""
         left = {name for name in sorted(names) if self.pick.random() < 0.5}
         return left, names - left
 
+    def some(self, names):
+        """Each of the names with a chance; and all that must be sure."""
+        return {name for name in sorted(names) if name in self.sure or self.pick.random() < 0.6}
+
+    def arms(self, names):
+        """The variables of two arms, or of two parts of a union: together they have all."""
+        if not self.is_optional or self.pick.random() < 0.3:
+            return names, names
+        left = self.some(names)
+        return left, (names - left) | self.some(names)
+
     def formula(self, names, depth):
-        """A functional formula with just these variables."""
+        """A sequential formula with just these variables."""
         pick = self.pick
+        if self.is_optional and names and not names & self.sure and pick.random() < 0.25:
+            return '(%s)%s' % (self.formula(names, max(0, depth - 1)), pick.choice(MAYBE))
         if not names and (depth == 0 or pick.random() < 0.5):
             leaf = pick.choice(self.leaves)
             plain = len(leaf) == 1 or leaf[:1] in ('[', '\\', '(')
@@ -40,7 +60,8 @@ class Maker:
             left, right = self.split(names)
             return self.formula(left, depth - 1) + self.formula(right, depth - 1)
         if kind < 0.9 or names:
-            return '(%s|%s)' % (self.formula(names, depth - 1), self.formula(names, depth - 1))
+            left, right = self.arms(names)
+            return '(%s|%s)' % (self.formula(left, depth - 1), self.formula(right, depth - 1))
         return '(%s)%s' % (self.formula(names, depth - 1), pick.choice(REPEATS))
 
     def atom(self, names):
@@ -56,26 +77,63 @@ class Maker:
         if kind < 0.5:
             return self.atom(names)
         if kind < 0.65:
-            return '(%s union %s)' % (self.expr(names, depth - 1), self.expr(names, depth - 1))
+            left, right = self.arms(names)
+            return '(%s union %s)' % (self.expr(left, depth - 1), self.expr(right, depth - 1))
         if kind < 0.85:
             left = {name for name in sorted(names) if pick.random() < 0.6}
             right = (names - left) | {name for name in sorted(names) if pick.random() < 0.3}
-            return '%s join %s' % (self.expr(left, depth - 1), self.expr(right, depth - 1))
+            return '%s join %s' % self.sharing(left, right, depth - 1)
         more = names | set(pick.sample('xyz', pick.randrange(2)))
         return 'project %s (%s)' % (','.join(sorted(names)) or 'none', self.expr(more, depth - 1))
 
+    def sharing(self, left, right, depth):
+        """Two expressions of which, nine times of ten, each shared variable is sure in both."""
+        kept = self.sure
+        if self.pick.random() < 0.9:
+            self.sure = kept | left & right
+        parts = self.expr(left, depth), self.expr(right, depth)
+        self.sure = kept
+        return parts
+
     def query(self):
-        names = set(self.pick.sample(['x', 'y', 'z'], self.pick.randrange(4)))
+        count = self.pick.randrange(4)
+        if self.pick.random() < 0.04:
+            return self.many()
+        names = set(self.pick.sample(['x', 'y', 'z'], count))
         self.names = sorted(names)
-        text = self.expr(names, self.pick.randrange(3))
         if self.pick.random() < 0.2:
-            text = 'let w = %s; w join %s' % (self.expr(names, 1), self.expr(names, 1))
+            text = 'let w = %s; w join %s' % self.sharing(names, names, 1)
+        else:
+            text = self.expr(names, self.pick.randrange(3))
         if self.pick.random() < 0.1:
             text = text.replace('!x', '!y', 1).replace('project x', 'project z')
         if self.pick.random() < 0.3:
             for _ in range(self.pick.randrange(1, 4)):
                 at = self.pick.randrange(len(text) + 1)
                 text = text[:at] + self.pick.choice(SIGNS) + text[at + self.pick.randrange(3):]
+        return text.encode()
+
+    def many(self):
+        """A query of seventeen to thirty-two variables, and now and then of one more."""
+        pick = self.pick
+        names = sorted(pick.sample(MANY, pick.randrange(17, 33)))
+        captures = ['!%s{%s}' % (name, pick.choice(['a', 'b', '', '.', 'a*'])) for name in names]
+        if pick.random() < 0.1:
+            captures += ['!z%d{a}' % k for k in range(33 - len(names))]
+        kind = pick.randrange(5)
+        if kind == 0:
+            text = '/%s/' % '|'.join(captures)
+        elif kind == 1:
+            text = ' union '.join('/%s/' % capture for capture in captures)
+        elif kind == 2:
+            text = '/^%s$/' % ''.join(captures)
+        elif kind == 3:
+            text = '/^%s%s$/' % (''.join('(' + capture for capture in captures), ')?' * len(captures))
+        else:
+            optional = pick.randrange(1, 4)
+            text = '/^%s%s$/' % (''.join('(%s)?' % capture for capture in captures[:optional]),
+                                 '(%s|b)' % '|'.join(captures[optional:]))
+        self.names = names
         return text.encode()
 
     def large(self):
@@ -86,7 +144,8 @@ class Maker:
             '/^(a{1000}){19}a{%d}$/' % many, '/(a{1000}){19}a{%d}/' % many, '/^(a?){1000}(a?){%d}$/' % many,
             '/((a?){%d}){%d}/' % (many, times), '/(a{%d}b?){%d}/' % (many, 9 + times), '/[ab]{%d}(a{0,%d}|b)/' % (many, many),
             '/!x{a{%d}}/ join /!y{[ab]{%d}}/' % (few, few), '/a{%d}b/ join /^b{%d}/ join /a|b/' % (few // 4, few // 4),
-            '/(a{%d}){10}/ union /(b{%d}){10}/' % (many, many)])
+            '/(a{%d}){10}/ union /(b{%d}){10}/' % (many, many),
+            '/^%s(a{%d}|b)$/' % (''.join('(!p%d{})?' % k for k in range(8)), few), self.left_out(pick.randrange(14, 19))])
         self.names = ['x', 'y'] if '!' in text else []
         around = pick.choice(['%s', '%s', '(%s)', 'let w = %s; /a*/', '/b/ join (%s)', 'let w = %s; w join w',
                               'project none (%s)', 'project none (/!z{a}/) union project none (%s)'])
@@ -94,24 +153,56 @@ class Maker:
             self.names = []
         return (around % text).encode()
 
+    def left_out(self, count):
+        """So many captures of the empty string that may be left out, so that it fits in twice as many ways with each."""
+        around = self.pick.choice(['/^%s$/', '/%s/', '/^(%s|a)$/', '/^(%s)?$/', '/^%sa$/'])
+        return around % ''.join('(!p%d{})?' % k for k in range(count))
+
     def document(self):
         return b''.join(self.pick.choice([b'a', b'a', b'b', b'c', b'\n', 'é'.encode(), b'!'])
                         for _ in range(self.pick.randrange(8)))
 
-    def cursor(self):
+    def cursor(self, length):
+        """A cursor of a document of this length, mostly; in one of five, a text that is nearly one."""
+        pick = self.pick
         names = self.names
-        if self.pick.random() < 0.2:
-            names = sorted(self.pick.sample(['x', 'y', 'z'], self.pick.randrange(4)))
-        places = [sorted(self.pick.randrange(9) for _ in range(2)) for _ in names]
-        return 'c1' + ''.join(';%s:%d-%d' % (name, *place) for name, place in zip(names, places))
+        if pick.random() < 0.2:
+            names = sorted(pick.sample(['x', 'y', 'z'], pick.randrange(4)))
+        is_old = pick.random() < 0.3
+        most = 8 if is_old else length
+        text = 'c1' if is_old else 'c2:%d' % length
+        for name in names:
+            start, end = sorted(pick.randrange(most + 1) for _ in range(2))
+            text += ';%s:-' % name if not is_old and pick.random() < 0.3 else ';%s:%d-%d' % (name, start, end)
+        if not is_old and pick.random() < 0.1:
+            text = text.replace('c2:%d' % length, 'c2:%d' % pick.choice([0, length + 1, 9, 4294967295, 4294967296]), 1)
+        return self.forged(text) if pick.random() < 0.2 else text
 
-    def words(self, query):
+    def forged(self, text):
+        """The text with some bytes left out, put in or changed for others."""
+        for _ in range(self.pick.randrange(1, 4)):
+            at = self.pick.randrange(len(text) + 1)
+            text = text[:at] + self.pick.choice(CURSOR_SIGNS) + text[at + self.pick.randrange(3):]
+        return text
+
+    def resumed(self):
+        """A query of some variables, each of which may be absent, and words with a cursor, mostly of another one or forged."""
+        pick = self.pick
+        self.names = sorted(pick.sample(['x', 'y', 'z', '_1', 'none_', 'Longer' + 26 * 'n'], pick.randrange(4)))
+        document = self.document()
+        text = self.cursor(len(document))
+        if pick.random() < 0.3:
+            text = self.forged(text)
+        query = '/%s/' % ''.join('(!%s{.*})?' % name for name in self.names)
+        return query.encode(), document, ['-q', 'Q', '-n', '2', '-a', text, 'D']
+
+    def words(self, query, length):
         pick = self.pick
         words = ['-q', 'Q'] if pick.random() < 0.5 else ['-e=' + query.decode()]
         if pick.random() < 0.3:
             words += ['-n', str(pick.randrange(5))]
         if pick.random() < 0.3:
-            words += ['-a', pick.choice(['start', self.cursor(), self.cursor()])]
+            words += ['-a', pick.choice(['start', self.cursor(length), self.cursor(length)])]
         if pick.random() < 0.4:
             words += ['-f', pick.choice(['spans', 'table', 'json'])]
         if pick.random() < 0.3:

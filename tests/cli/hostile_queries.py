@@ -5,6 +5,7 @@ where a part of the query that is no atom passes a limit of size, or the weight 
 may refuse or may have found a way to do with less, and both answers stand. Want of memory may be answered of
 what needs very much, and stands there too.
 """
+import itertools
 import random
 from typing import NamedTuple
 
@@ -61,11 +62,18 @@ def hard(family, name, query, *answers, document=b'a', words=(), slow=False):
 
 
 NAMES = 'abcdefghijklmnop'  # of sixteen variables
+MOST = list('abcdefghijklmnopqrstuvwxyz') + ['z%d' % k for k in range(6)]  # as many as there may be
 
 
-def first(count):
+def resume(length, *spans):
+    """The note of a page whose last row has these spans, on a document of this length."""
+    return 'more c2:%d' % length + ''.join(';%s:%d-%d' % span for span in spans)
+
+
+def first(count, length):
     """The first row alone of so many variables, which are all empty there."""
-    return page(row(*((name, 0, 0) for name in NAMES[:count])), 'more c1' + ''.join(';%s:0-0' % n for n in NAMES[:count]))
+    spans = [(name, 0, 0) for name in MOST[:count]]
+    return page(row(*spans), resume(length, *spans))
 
 
 # --- Deep nesting --------------------------------------------------------------------------------
@@ -99,7 +107,7 @@ def nesting():
     hard('nesting', 'a hundred joins of one variable', '(/!x{.}/ join ' * 100 + '/!x{a}/' + ')' * 100,
          page(row(('x', 0, 1))), STATES, WAYS)
     inner = ''.join('!%s{z*' % name for name in NAMES)
-    hard('nesting', 'sixteen captures in one another', '/%s%s/' % (inner, '}' * 16), first(16), document=200 * b'z',
+    hard('nesting', 'sixteen captures in one another', '/%s%s/' % (inner, '}' * 16), first(16, 200), document=200 * b'z',
          words=['-n', '1'])
 
 
@@ -117,10 +125,25 @@ def names():
     short = '/%s/' % ''.join('!%s{z}' % name for name in NAMES)
     hard('names', 'seven hundred atoms of sixteen', ' union '.join(700 * [short]),
          page(row(*((name, at, at + 1) for at, name in enumerate(NAMES)))), document=16 * b'z')
-    hard('names', 'sixteen, and far behind a seventeenth', short + 65000 * ' ' + 'join /!q{a}/',
-         fault('more than 16 variables'))
+    most = ['n' * (32 - len(name)) + name for name in MOST]
+    spans = [(name, at, at + 1) for at, name in enumerate(most)]
+    text = '/%s/' % ''.join('!%s{z}' % name for name in most)
+    hard('names', 'thirty-two of 32 bytes', text, page(row(*sorted(spans))), document=32 * b'z')
+    hard('names', 'thirty-two of 32 bytes, resumed', text, page(), document=32 * b'z',
+         words=['-a', resume(32, *sorted(spans))[len('more '):]])
+    whole = '/%s/' % ''.join('!%s{z}' % name for name in MOST)
+    hard('names', 'three hundred atoms of thirty-two', ' union '.join(300 * [whole]),
+         page(row(*((name, at, at + 1) for at, name in enumerate(MOST)))), document=32 * b'z')
+    hard('names', 'thirty-two, and far behind a thirty-third', whole + 65000 * ' ' + 'join /!A{a}/',
+         fault('more than 32 variables'))
     hard('names', 'a cursor of 15,000 names', '/!x{a}/', refused(7, 'cursor: other variables'),
          words=['-a', 'c1' + 15000 * ';x:0-0'])
+    hard('names', 'a cursor of 25,000 absent names', '/!x{a}/', refused(7, 'cursor: other variables'),
+         words=['-a', 'c2:1' + 25000 * ';x:-'])
+    hard('names', 'a cursor of the greatest length', '/!x{a}/', refused(7, 'cursor: document of 4294967295 bytes, not 1'),
+         words=['-a', 'c2:4294967295;x:0-4294967295'])
+    hard('names', 'a cursor of a length of 100,000 digits', '/!x{a}/', refused(7, 'cursor: not a cursor'),
+         words=['-a', 'c2:' + 100000 * '1' + ';x:0-1'])
 
 
 # --- One construct, as often as it goes into the longest text -----------------------------------
@@ -185,7 +208,7 @@ def repeats():
     hard('repeats', 'five hundred left out and five hundred not', '/^(a?){500}a{500}$/', ONE, document=500 * b'a')
     hard('repeats', 'a thousand alike in both arms', '/^(a|a){1000}$/', ONE, document=1000 * b'a')
     hard('repeats', 'a row for each way to cut, told once', '/^!x{(a|aa|aaa)*}!y{(a|aa|aaa)*}$/',
-         page(row(('x', 0, 0), ('y', 0, 3000)), 'more c1;x:0-0;y:0-3000'), document=3000 * b'a', words=['-n', '1'])
+         page(row(('x', 0, 0), ('y', 0, 3000)), 'more c2:3000;x:0-0;y:0-3000'), document=3000 * b'a', words=['-n', '1'])
     hard('repeats', 'a star of each of many bytes', '/^(%s)*$/' % '|'.join(500 * ['a', 'b']), ONE, document=2000 * b'ab')
 
 
@@ -248,13 +271,13 @@ def stars(count):
 
 
 def joins():
-    hard('joins', 'five free spans', stars(5), first(5), document=b'zz', words=['-n', '1'])
-    hard('joins', 'seven free spans', stars(7), first(7), MEMORY, document=b'zz', words=['-n', '1'], slow=True)
+    hard('joins', 'five free spans', stars(5), first(5, 2), document=b'zz', words=['-n', '1'])
+    hard('joins', 'seven free spans', stars(7), first(7, 2), MEMORY, document=b'zz', words=['-n', '1'], slow=True)
     for length in (1, 10, 20):
-        hard('joins', 'eight free spans, %d bytes' % length, stars(8), first(8), MEMORY, document=length * b'z',
+        hard('joins', 'eight free spans, %d bytes' % length, stars(8), first(8, length), MEMORY, document=length * b'z',
              words=['-n', '1'], slow=True)
     for name, count in (('nine', 9), ('sixteen', 16)):
-        hard('joins', name + ' free spans', stars(count), first(count), STATES, WAYS, MEMORY, document=b'z',
+        hard('joins', name + ' free spans', stars(count), first(count, 1), STATES, WAYS, MEMORY, document=b'z',
              words=['-n', '1'], slow=True)
     hard('joins', 'sixteen at one place', ' join '.join('/^!%s{z}$/' % name for name in NAMES),
          page(row(*((name, 0, 1) for name in NAMES))), STATES, WAYS, document=b'z')
@@ -265,7 +288,7 @@ def joins():
          document=16 * b'z')
     ordered = ' join '.join('/!%s{z+}.*!%s{z+}/' % pair for pair in (('a', 'b'), ('b', 'c'), ('a', 'c')))
     hard('joins', 'three that share two by two', ordered, page(row(('a', 0, 1), ('b', 1, 2), ('c', 2, 3)),
-                                                            'more c1;a:0-1;b:1-2;c:2-3'), STATES, WAYS,
+                                                            'more c2:60;a:0-1;b:1-2;c:2-3'), STATES, WAYS,
          document=60 * b'z', words=['-n', '1'])
     some = ['let a%d=/!x%d{a}/;' % (k, k) for k in range(16)]
     pairs = ' union '.join('project none (a%d join a%d)' % (i, j) for i in range(16) for j in range(16))
@@ -279,7 +302,7 @@ def joins():
          ONE, STATES, WAYS, MEMORY, document=b'aa', slow=True)
     longs = ['/%s{0,150}!%s{[ab]*}%s{0,130}/' % (x, n, y) for x, n, y in ('axb', 'byc')]
     hard('joins', 'two atoms of many ways', ' join '.join(longs),
-         page(row(('x', 0, 0), ('y', 0, 0)), 'more c1;x:0-0;y:0-0'), STATES, WAYS, document=20 * b'abc', words=['-n', '1'])
+         page(row(('x', 0, 0), ('y', 0, 0)), 'more c2:60;x:0-0;y:0-0'), STATES, WAYS, document=20 * b'abc', words=['-n', '1'])
 
 
 # --- Unions and projections by the thousand ------------------------------------------------------
@@ -298,7 +321,7 @@ def unions():
     hard('unions', '6,553 atoms, each with its filter, a longer document', many, NO_ROW, document=100000 * b'b',
          words=['--filter'], slow=True)
     hard('unions', 'of different variables, at the end', '/!x{a}/' + 1000 * ' union /!x{a}/' + ' union /!y{a}/',
-         fault('variable x not on both sides of union'))
+         page('x=0-1 y=-\nx=- y=0-1'))
     hard('unions', 'a projection to what is not there, at the end',
          ' union '.join(1000 * ['project none (/a/)'] + ['project z (/!x{a}/)']), fault('no variable z to keep'))
 
@@ -316,15 +339,16 @@ def arms():
     hard('arms', 'sixteen orders, forty-five times', '/%s/' % '|'.join(45 * [arm(turn) for turn in range(16)]),
          page('\n'.join(turned(turn) for turn in range(16))), document=16 * b'z')
     hard('arms', 'one capture is not in the last arm', '/%s|%s/' % ('|'.join(700 * [arm(0)]), arm(0)[:-5]),
-         fault('variable p not in every arm'))
+         page('\n'.join([turned(0)] + [row(*((n, at + k, at + k + 1) for at, n in enumerate(NAMES[:15]))) + ' p=-'
+                                       for k in (0, 1)])), document=16 * b'z')
     beside = ''.join('!%s{z*}' % name for name in NAMES)
-    hard('arms', 'sixteen free captures beside each other', '/%s/' % beside, first(16), document=3000 * b'z',
+    hard('arms', 'sixteen free captures beside each other', '/%s/' % beside, first(16, 3000), document=3000 * b'z',
          words=['-n', '1'])
-    hard('arms', 'sixteen free captures beside each other, a longer document', '/%s/' % beside, first(16), MEMORY,
+    hard('arms', 'sixteen free captures beside each other, a longer document', '/%s/' % beside, first(16, 100000), MEMORY,
          document=100000 * b'z', words=['-n', '1'], slow=True)
-    hard('arms', 'sixteen free captures beside each other, 300,000 bytes', '/%s/' % beside, first(16), MEMORY,
+    hard('arms', 'sixteen free captures beside each other, 300,000 bytes', '/%s/' % beside, first(16, 300000), MEMORY,
          document=300000 * b'z', words=['-n', '1'], slow=True)
-    hard('arms', 'the same in a hundred arms', '/%s/' % '|'.join(100 * [beside]), first(16), document=20 * b'z',
+    hard('arms', 'the same in a hundred arms', '/%s/' % '|'.join(100 * [beside]), first(16, 20), document=20 * b'z',
          words=['-n', '1'])
 
 
@@ -350,12 +374,12 @@ def tables():
     hard('tables', 'a million ways from each set, 40 bytes', dense, NO_ROW, document=drawn(40, 7))
     hard('tables', 'a million ways from each set, 1,000 bytes', dense, NO_ROW, document=drawn(1000, 7), slow=True)
     hard('tables', 'the least table', looking % 20, refused(4, 'size: table past 1'), document=b'ab', words=['--max-table', '1'])
-    hard('tables', 'every second byte opens', '/!x{a}.*!y{b}/', page(row(('x', 0, 1), ('y', 1, 2)), 'more c1;x:0-1;y:1-2'),
+    hard('tables', 'every second byte opens', '/!x{a}.*!y{b}/', page(row(('x', 0, 1), ('y', 1, 2)), 'more c2:100000;x:0-1;y:1-2'),
          document=50000 * b'ab', words=['-n', '1'])
     hard('tables', 'three free captures', '/!x{a*}!y{a*}!z{a*}/',
-         page(row(('x', 0, 0), ('y', 0, 0), ('z', 0, 0)), 'more c1;x:0-0;y:0-0;z:0-0'), document=20000 * b'a', words=['-n', '1'])
+         page(row(('x', 0, 0), ('y', 0, 0), ('z', 0, 0)), 'more c2:20000;x:0-0;y:0-0;z:0-0'), document=20000 * b'a', words=['-n', '1'])
     hard('tables', 'three free captures, a long document', '/!x{a*}!y{a*}!z{a*}/',
-         page(row(('x', 0, 0), ('y', 0, 0), ('z', 0, 0)), 'more c1;x:0-0;y:0-0;z:0-0'), MEMORY, document=1000000 * b'a',
+         page(row(('x', 0, 0), ('y', 0, 0), ('z', 0, 0)), 'more c2:1000000;x:0-0;y:0-0;z:0-0'), MEMORY, document=1000000 * b'a',
          words=['-n', '1'], slow=True)
     hard('tables', 'nothing comes of what opens everywhere', '/!x{a+}!y{a+}b/', NO_ROW, MEMORY, document=2000000 * b'a',
          slow=True)
@@ -363,5 +387,83 @@ def tables():
          slow=True)
 
 
-for family in (nesting, names, long_texts, repeats, bytes_of_all, lets, joins, unions, arms, tables):
+# --- Captures that may be left out ---------------------------------------------------------------
+
+def left_out(count, piece='()', names=MOST):
+    return ''.join('(!%s{%s})?' % (name, piece) for name in names[:count])
+
+
+def all_ways(count, place):
+    """The rows of so many captures of the empty string at a place, each of which may be left out."""
+    here = '%d-%d' % (place, place)
+    return '\n'.join(' '.join('%s=%s' % pair for pair in zip(MOST, cells)) for cells in itertools.product([here, '-'], repeat=count))
+
+
+def optional():
+    for name, count in (('ten', 10), ('sixteen', 16)):
+        hard('optional', name + ' left out in all ways', '/^%s$/' % left_out(count), page(all_ways(count, 0)), document=b'')
+    hard('optional', 'sixteen, the first row', '/^%s$/' % left_out(16), first(16, 0), document=b'', words=['-n', '1'])
+    hard('optional', 'sixteen, at the end of a document', '/%s$/' % left_out(16), page(all_ways(16, 3000)),
+         document=3000 * b'z')
+    for length, slow in ((20, False), (2000, True)):
+        hard('optional', 'sixteen, at each place of %d bytes' % length, '/%s/' % left_out(16), first(16, length), MEMORY,
+             document=length * b'z', words=['-n', '1'], slow=slow)
+    for name, text in (('seventeen', '^%s$' % left_out(17)), ('thirty-two', left_out(32)),
+                       ('seventeen, and a byte', '^%sa$' % left_out(17)), ('a byte, and thirty-two', 'a' + left_out(32)),
+                       ('a byte, and seventeen in a group', 'a(%s)' % left_out(17)),
+                       ('seventeen in a repeat of once', '^(%s){1}$' % left_out(17)),
+                       ('seventeen in one of 300 arms', '%s%s' % (300 * 'a|', left_out(17))),
+                       ('seventeen in a capture', '!z5{%s}' % left_out(17)),
+                       ('seventeen that may be left out at once', '(%s)?' % left_out(17)),
+                       ('thirty-two of many bytes', left_out(32, 'z*'))):
+        hard('optional', name, '/%s/' % text, WAYS)
+    spans = [(name, 1, 1) for name in MOST[:17]]
+    hard('optional', 'a byte, and seventeen', '/a%s/' % left_out(17), page(row(*spans), resume(1, *spans)), words=['-n', '1'])
+    pairs = ''.join('(!%s{}|!%s{})' % pair for pair in zip(MOST[:16], MOST[16:]))
+    last = resume(0, *((name, 0, 0) for name in MOST[:16])) + ''.join(';%s:-' % name for name in MOST[16:])
+    hard('optional', 'one of two, sixteen times', '/^%s$/' % pairs,
+         page(' '.join('%s=%s' % (name, '0-0' if name in MOST[:16] else '-') for name in MOST), last),
+         document=b'', words=['-n', '1'])
+    hard('optional', 'one of two, sixteen times, and all left out', '/^(%s)?$/' % pairs, WAYS)
+    arms = '|'.join(17 * [left_out(12)])
+    hard('optional', 'the same twelve in each of seventeen arms', '/^(%s)$/' % arms, first(12, 0), MEMORY, document=b'', words=['-n', '1'])
+    hard('optional', 'seventeen, and more states than there may be', '/%s(a{1000}){20}/' % left_out(17), STATES)
+    hard('optional', 'the same, explained', '/%s(a{1000}){20}/' % left_out(17),
+         page('query /%s(a{1000}){20}/\nvariables %s\natom 1 states 20002 ways 2000001'
+              % (left_out(17).replace('(!', '!').replace('})?', '}?'), ' '.join(MOST[:17]))), words=['--explain'])
+    inner = ''.join('(!%s{' % name for name in MOST)
+    hard('optional', 'thirty-two in one another', '/%s%s/' % (inner, '})?' * 32), first(32, 200), document=200 * b'z',
+         words=['-n', '1'])
+    spans = [(name, at, at + 1) for at, name in enumerate(MOST[:31])] + [(MOST[31], 31, 200)]
+    hard('optional', 'thirty-two of some bytes', '/^%s$/' % left_out(32, 'z+'), page(row(*spans), resume(200, *spans)),
+         document=200 * b'z', words=['-n', '1'])
+    hard('optional', 'thirty-two of one byte', '/^%s$/' % left_out(32, 'z'), page(row(*((n, k, k + 1) for k, n in enumerate(MOST)))),
+         document=32 * b'z')
+    for count, slow in ((10, False), (100, True), (1000, True)):
+        arms = '|'.join(count * 'a')
+        hard('optional', 'sixteen behind %d arms: an end for each way' % count, '/^(%s)%s$/' % (arms, left_out(16)),
+             page(row(*((name, 1, 1) for name in NAMES)), resume(1, *((name, 1, 1) for name in NAMES))), MEMORY,
+             document=b'a', words=['-n', '1'], slow=slow)
+    for name, count, answers, slow in (('ten', 10, [first(20, 0)], False), ('sixteen', 16, [TABLE, first(32, 0)], True)):
+        hard('optional', '%s joined with %s others' % (name, name),
+             '/^%s$/ join /^%s$/' % (left_out(count), left_out(count, names=MOST[count:])), MEMORY, *answers, document=b'',
+             words=['-n', '1'], slow=slow)
+    each = ['/!%s{a}/' % name for name in MOST]
+    alone = page('\n'.join(' '.join('%s=%s' % (name, '0-1' if name == here else '-') for name in MOST) for here in MOST))
+    hard('optional', 'thirty-two variables, each in its own arm', '/%s/' % '|'.join(part[1:-1] for part in each), alone)
+    hard('optional', 'thirty-two variables, each in its own atom', ' union '.join(each), alone)
+    hard('optional', 'three thousand atoms of thirty-two variables', ' union '.join(93 * each), alone)
+    hard('optional', 'a hundred unions of different variables in one another',
+         ''.join('(%s union ' % each[k % 32] for k in range(100)) + '/b/' + ')' * 100, alone)
+    hard('optional', 'a thousand projections of what may be absent',
+         ' union '.join(1000 * ['project y (/!x{a}(!y{b})?/)']), page('y=1-2\ny=-'), document=b'ab')
+    hard('optional', 'a thousand joins, and what is not sure at the end', '/!x{a}/ join ' * 1000 + '/!x{a}|b/',
+         fault('variable x not sure on both sides of join'))
+    hard('optional', 'five that share what is sure, each with one that is not',
+         ' join '.join('/!x{a}(!y%d{b})?/' % k for k in range(5)),
+         page(row(*([('x', 0, 1)] + [('y%d' % k, 1, 2) for k in range(5)])),
+              resume(2, *([('x', 0, 1)] + [('y%d' % k, 1, 2) for k in range(5)]))), document=b'ab', words=['-n', '1'])
+
+
+for family in (nesting, names, long_texts, repeats, bytes_of_all, lets, joins, unions, arms, optional, tables):
     family()

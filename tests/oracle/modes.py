@@ -3,7 +3,9 @@
 The third part of the reference: the printed form of a query, the numbers of an atom's automaton, and
 the document of a trial. Each section states its rules in words and then says them once more in Python.
 """
-from query_text import Alt, Atom, Cap, Cat, Empty, Join, Named, One, Project, Rep, Union, WORD_BYTES
+from typing import NamedTuple
+
+from query_text import Alt, Atom, Cap, Cat, Empty, Join, Named, One, Project, Rep, Union, WORD_BYTES, captures
 
 NOT_LINE_FEED = frozenset(range(256)) - {0x0a}
 MOST_TOLD = (1 << 64) - 1  # the greatest number that is shown
@@ -91,55 +93,92 @@ def query_text(query):
 #
 # Each byte set is a place once repetitions are written out: f{m,} is m copies of which the last may be
 # repeated, f{m,k} has k-m copies more, nested so that each may stand only where the one before it does.
-# First, last and follow are counted as lists, by Glushkov's rules.
+# First, last and follow are counted as lists, by Glushkov's rules. Null is a set: of the sets of variables
+# with which the empty string fits. Where the null set of a part, or that of the first parts of a concatenation,
+# has more than 65,536 members, the number of ways is told as 2,000,001.
 
-def parts_of(formula):
-    """Whether the empty string fits, and the numbers of places, firsts, lasts and follows."""
+LARGEST_NULL = 65536
+TOO_MANY_WAYS = 2000001
+NO_VARIABLES = frozenset([0])
+
+
+class Numbers(NamedTuple):
+    null: frozenset  # a set of variables is a number, a bit for each
+    places: int
+    first: int
+    last: int
+    follow: int
+    is_large: bool = False  # some null set was, and null is not the right one
+
+
+NOTHING = Numbers(NO_VARIABLES, 0, 0, 0, 0)
+
+
+def numbers_of(formula, bits):
     if isinstance(formula, Empty):
-        return True, 0, 0, 0, 0
+        return NOTHING
     if isinstance(formula, One):
-        return False, 1, 1, 1, 0
+        return Numbers(frozenset(), 1, 1, 1, 0)
     if isinstance(formula, Cap):
-        return parts_of(formula.part)
+        inner = numbers_of(formula.part, bits)
+        return inner._replace(null=frozenset(names | bits[formula.name] for names in inner.null))
     if isinstance(formula, Rep):
-        return repeated(parts_of(formula.part), formula.least, formula.most)
+        return repeated(numbers_of(formula.part, bits), formula.least, formula.most)
     joined = beside if isinstance(formula, Cat) else either
-    whole = parts_of(formula.parts[0])
+    whole = numbers_of(formula.parts[0], bits)
     for part in formula.parts[1:]:
-        whole = joined(whole, parts_of(part))
+        whole = joined(whole, numbers_of(part, bits))
     return whole
 
 
+def limited(numbers):
+    """The same; of a large null set no member is kept."""
+    return numbers._replace(null=frozenset(), is_large=True) if len(numbers.null) > LARGEST_NULL else numbers
+
+
 def beside(f, g):
-    return (f[0] and g[0], f[1] + g[1], f[2] + g[2] * f[0], g[3] + f[3] * g[0],
-            f[4] + g[4] + f[3] * g[2])
+    is_large = f.is_large or g.is_large or len(f.null) * len(g.null) > LARGEST_NULL  # no variable is in both
+    null = frozenset() if is_large else frozenset(e | k for e in f.null for k in g.null)
+    return Numbers(null, f.places + g.places, f.first + len(f.null) * g.first, g.last + f.last * len(g.null),
+                   f.follow + g.follow + f.last * g.first, is_large)
 
 
 def either(f, g):
-    return f[0] or g[0], f[1] + g[1], f[2] + g[2], f[3] + g[3], f[4] + g[4]
+    return limited(Numbers(f.null | g.null, f.places + g.places, f.first + g.first, f.last + g.last,
+                           f.follow + g.follow, f.is_large or g.is_large))
+
+
+def or_nothing(f):
+    return limited(f._replace(null=f.null | NO_VARIABLES))
 
 
 def repeated(f, least, most):
-    nothing = True, 0, 0, 0, 0
-    looped = f[:4] + (f[4] + f[3] * f[2],)
     if most is None:
-        copies = [f] * (least - 1) + [looped if least else (True,) + looped[1:]]
+        looped = f._replace(follow=f.follow + f.last * f.first)
+        copies = [f] * (least - 1) + [looped if least else or_nothing(looped)]
     else:
-        tail = nothing
+        tail = NOTHING
         for _ in range(most - least):
-            tail = (True,) + beside(f, tail)[1:]
+            tail = or_nothing(beside(f, tail))
         copies = [f] * least + [tail] * (most > least)
-    whole = copies[0] if copies else nothing
+    whole = copies[0] if copies else NOTHING
     for copy in copies[1:]:
         whole = beside(whole, copy)
     return whole
 
 
+def atom_numbers(atom):
+    bits = {name: 1 << k for k, name in enumerate(sorted(captures(atom.formula)))}
+    return numbers_of(atom.formula, bits)
+
+
 def counts_of(atom):
-    fits_empty, places, first, last, follow = parts_of(atom.formula)
-    to_after = 0 if atom.to_end else last + 1 + fits_empty
-    states = 1 + places + (not atom.to_end)
-    ways = first + follow + (not atom.from_start) + to_after
+    found = atom_numbers(atom)
+    to_after = 0 if atom.to_end else found.last + 1 + len(found.null)
+    states = 1 + found.places + (not atom.to_end)
+    ways = found.first + found.follow + (not atom.from_start) + to_after
+    if found.is_large:
+        ways = TOO_MANY_WAYS
     return min(states, MOST_TOLD), min(ways, MOST_TOLD)
 
 

@@ -8,7 +8,7 @@ from typing import NamedTuple
 
 from characters import BYTES, CHARACTERS, numbers, others, property_set, ranges_of, shared, united
 
-MOST_VARIABLES = 16
+MOST_VARIABLES = 32
 MOST_OPEN = 100  # groups and captures of a formula, parentheses of a query
 LONGEST_NAME = 32
 LARGEST_REPEAT = 1000
@@ -537,9 +537,14 @@ class QueryReader:
 
 # --- What a readable query may be refused for ----------------------------------------------------
 #
-# A formula is functional where the arms of each alternation have equal variables, the parts of each
-# concatenation have none in common, nothing under a repeat has a variable, and no capture stands in
-# one of its own name. The first fault counts: parts from left to right, then the formula itself.
+# A formula is sequential where the parts of each concatenation have no variable in common, nothing under a
+# repeat has one unless the repeat is of once at most, and no capture stands in one of its own name. The
+# first fault counts: parts from left to right, then the formula itself.
+#
+# A variable is sure where every answer gives it a span: in a concatenation and in a join where it is sure in
+# some part, in an alternation and in a union where it is in all of them; under a repeat that is of exactly
+# once; in its capture. In a join a variable clashes at a part where an earlier part has it too and it is not
+# sure in both; the first part at which one clashes is told, by the least name that clashes there.
 
 def captures(formula):
     """All names of the formula's captures."""
@@ -553,7 +558,7 @@ def captures(formula):
 
 
 def check(formula):
-    """The variables of a functional formula."""
+    """The variables of a sequential formula."""
     if isinstance(formula, Cap):
         inner = check(formula.part)
         if formula.name in inner:
@@ -561,7 +566,7 @@ def check(formula):
         return inner | {formula.name}
     if isinstance(formula, Rep):
         inner = check(formula.part)
-        if inner:
+        if inner and formula.most != 1:
             raise fault('variable %s under a repeat' % min(inner))
         return inner
     if isinstance(formula, Cat):
@@ -572,31 +577,49 @@ def check(formula):
                 raise fault('variable %s twice' % name)
         return set(names)
     if isinstance(formula, Alt):
-        arms = [check(arm) for arm in formula.parts]
-        for arm in arms[1:]:
-            if arm != arms[0]:
-                raise fault('variable %s not in every arm' % min(arm ^ arms[0]))
-        return arms[0]
+        return set().union(*[check(arm) for arm in formula.parts])
     return set()
+
+
+def sure(formula):
+    """The sure variables of a sequential formula."""
+    if isinstance(formula, Cap):
+        return {formula.name} | sure(formula.part)
+    if isinstance(formula, Rep):
+        return sure(formula.part) if (formula.least, formula.most) == (1, 1) else set()
+    if isinstance(formula, Cat):
+        return set().union(*map(sure, formula.parts))
+    if isinstance(formula, Alt):
+        return set.intersection(*map(sure, formula.parts))
+    return set()
+
+
+class Variables(NamedTuple):
+    all: set
+    sure: set
 
 
 def variables(expr, of_lets):
     """The variables of a sound expression, given those of the lets before it."""
     if isinstance(expr, Atom):
-        return check(expr.formula)
+        return Variables(check(expr.formula), sure(expr.formula))
     if isinstance(expr, Named):
         return of_lets[expr.place]
     if isinstance(expr, Project):
         inner = variables(expr.part, of_lets)
-        if expr.keep - inner:
-            raise fault('no variable %s to keep' % min(expr.keep - inner))
-        return set(expr.keep)
+        if expr.keep - inner.all:
+            raise fault('no variable %s to keep' % min(expr.keep - inner.all))
+        return Variables(set(expr.keep), inner.sure & expr.keep)
     parts = [variables(part, of_lets) for part in expr.parts]
+    every = set().union(*[part.all for part in parts])
     if isinstance(expr, Union):
-        for part in parts[1:]:
-            if part != parts[0]:
-                raise fault('variable %s not on both sides of union' % min(part ^ parts[0]))
-    return set().union(*parts)
+        return Variables(every, set.intersection(*[part.sure for part in parts]))
+    for count, part in enumerate(parts):
+        clashing = {name for earlier in parts[:count] for name in part.all & earlier.all
+                    if not (name in part.sure and name in earlier.sure)}
+        if clashing:
+            raise fault('variable %s not sure on both sides of join' % min(clashing))
+    return Variables(every, set().union(*[part.sure for part in parts]))
 
 
 def read_query(text):
@@ -611,4 +634,4 @@ def read_query(text):
     of_lets = []
     for _, expr in query.lets:
         of_lets.append(variables(expr, of_lets))
-    return query, sorted(variables(query.body, of_lets))
+    return query, sorted(variables(query.body, of_lets).all)

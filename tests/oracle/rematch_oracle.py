@@ -25,7 +25,7 @@ import sys
 from typing import NamedTuple
 
 from modes import counts_of, explained, query_atoms, summed, trial_document
-from query_text import (LONGEST_QUERY, Alt, Atom, Cat, Empty, Named, One, Project, Refusal, Rep, Union,
+from query_text import (LONGEST_QUERY, Alt, Atom, Cat, Empty, Named, One, Project, Refusal, Rep, Union, captures,
                         fault, read_query)
 from weights import TooMuch, sizes_of, weights_of
 
@@ -38,7 +38,7 @@ MOST_STATES, MOST_WAYS = 20000, 2000000
 # --- The meaning ---------------------------------------------------------------------------------
 #
 # A formula fits a part i-j of the document with a mapping from variables to spans. A mapping is
-# written here as a set of pairs (name, (start, end)).
+# written here as a set of pairs (name, (start, end)); a variable without a pair is absent.
 
 NO_SPANS = frozenset()
 
@@ -114,17 +114,26 @@ class Meaning:
         parts = [self.answers(part, lets) for part in expr.parts]
         if isinstance(expr, Union):
             return set().union(*parts)
-        joined = parts[0]
-        for part in parts[1:]:
-            joined = natural_join(joined, part)
+        joined, names = parts[0], names_of(expr.parts[0], lets)
+        for part, answers in zip(expr.parts[1:], parts[1:]):
+            more = names_of(part, lets)
+            joined, names = natural_join(joined, answers, names & more), names | more
         return joined
 
 
-def natural_join(left, right):
+def names_of(expr, lets):
+    """The variables of an expression."""
+    if isinstance(expr, Atom):
+        return captures(expr.formula)
+    if isinstance(expr, Named):
+        return names_of(lets[expr.place][1], lets)
+    if isinstance(expr, Project):
+        return set(expr.keep)
+    return set().union(*[names_of(part, lets) for part in expr.parts])
+
+
+def natural_join(left, right, shared):
     """The mappings over the variables of both whose restrictions stand on either side."""
-    if not left or not right:
-        return set()
-    shared = {name for name, _ in next(iter(left))} & {name for name, _ in next(iter(right))}
     by_shared = {}
     for spans in right:
         by_shared.setdefault(frozenset(p for p in spans if p[0] in shared), []).append(spans)
@@ -135,26 +144,30 @@ def natural_join(left, right):
 # --- The order of rows ---------------------------------------------------------------------------
 #
 # The variables are sorted by name; variable k of v has the opening bit 2(v-k)-1 and the closing bit
-# 2(v-k)-2. The block of a row at a position is the sum of the bits of what opens or closes there. A
-# row stands before another where, at the first position at which their blocks differ, its block is
-# the greater.
+# 2(v-k)-2. The block of a row at a position is the sum of the bits of what opens or closes there; an
+# absent variable, which is None in a row, adds none. A row stands before another where, at the first
+# position at which their blocks differ, its block is the greater.
+
+PAST_ALL = float('inf')  # behind every position
+
 
 def order(row):
     """A key by which Python's tuples compare as the rows do."""
     blocks = {}
-    for k, (start, end) in enumerate(row):
-        opening = 2 * (len(row) - k) - 1
-        blocks[start] = blocks.get(start, 0) + 2 ** opening
-        blocks[end] = blocks.get(end, 0) + 2 ** (opening - 1)
+    for k, span in enumerate(row):
+        if span is not None:
+            opening = 2 * (len(row) - k) - 1
+            blocks[span[0]] = blocks.get(span[0], 0) + 2 ** opening
+            blocks[span[1]] = blocks.get(span[1], 0) + 2 ** (opening - 1)
     # Where one row has a block and the other has none, the one with the block is first: so the
-    # smaller position is first, and at one position the greater block.
-    return [(at, -block) for at, block in sorted(blocks.items())]
+    # smaller position is first, and at one position the greater block. What has no more blocks is last.
+    return [(at, -block) for at, block in sorted(blocks.items())] + [(PAST_ALL, 0)]
 
 
 def all_rows(query, names, document):
     """The answers of the query, in order; a row lists the spans by ascending names."""
     found = Meaning(document).answers(query.body, query.lets)
-    return sorted((tuple(dict(spans)[name] for name in names) for spans in found), key=order)
+    return sorted((tuple(dict(spans).get(name) for name in names) for spans in found), key=order)
 
 
 def page(rows, after, limit):
@@ -166,29 +179,53 @@ def page(rows, after, limit):
 
 # --- Texts ---------------------------------------------------------------------------------------
 
-CURSOR_PART = re.compile(r';([A-Za-z_][A-Za-z0-9_]{0,31}):(0|[1-9][0-9]*)-(0|[1-9][0-9]*)')
+# A cursor has the document's length and its row; `-` stands for an absent variable. An older text, without
+# the length, is also read; in it no variable is absent.
+
+CURSOR_HEAD = re.compile(r'c1|c2:(0|[1-9][0-9]*)')
+CURSOR_PART = re.compile(r';([A-Za-z_][A-Za-z0-9_]{0,31}):(?:(0|[1-9][0-9]*)-(0|[1-9][0-9]*)|-)')
 
 
-def cursor_text(names, row):
-    return 'c1' + ''.join(';%s:%d-%d' % ((name,) + span) for name, span in zip(names, row))
+class Cursor(NamedTuple):
+    row: tuple
+    length: object  # of the document, or None where the text has none
+
+
+def span_text(span):
+    return '-' if span is None else '%d-%d' % span
+
+
+def place(digits):
+    """The number of these digits; one too large where they are very many."""
+    return int(digits[:11])
+
+
+def cursor_text(names, row, length):
+    return 'c2:%d' % length + ''.join(';%s:%s' % (name, span_text(span)) for name, span in zip(names, row))
 
 
 def read_cursor(text, names):
-    """The row of a cursor text over exactly these names."""
-    if not text.startswith('c1'):
-        raise Refusal(CURSOR, 'cursor: not a cursor')
+    """The cursor of a text over exactly these names."""
+    no_cursor = Refusal(CURSOR, 'cursor: not a cursor')
+    head = CURSOR_HEAD.match(text)
+    length = place(head.group(1)) if head and head.group(1) else None
+    most = LARGEST_PLACE if length is None else length
+    if head is None or most > LARGEST_PLACE:
+        raise no_cursor
     found = []
-    at = 2
+    at = head.end()
     while at < len(text):
         part = CURSOR_PART.match(text, at)
-        start, end = (int(part.group(2)), int(part.group(3))) if part else (1, 0)
-        if not start <= end <= LARGEST_PLACE:
-            raise Refusal(CURSOR, 'cursor: not a cursor')
-        found.append((part.group(1), (start, end)))
+        if part is None:
+            raise no_cursor
+        span = None if part.group(2) is None else (place(part.group(2)), place(part.group(3)))
+        if span is None and length is None or span and not span[0] <= span[1] <= most:
+            raise no_cursor
+        found.append((part.group(1), span))
         at = part.end()
     if [name for name, _ in found] != names:
         raise Refusal(CURSOR, 'cursor: other variables')
-    return tuple(span for _, span in found)
+    return Cursor(tuple(span for _, span in found), length)
 
 
 def text_form(data):
@@ -203,15 +240,17 @@ def lines_of(names, rows, document, form, texts):
         return text_form(document[span[0]:span[1]])
 
     def cell(span):
-        return '%d-%d' % span + ('"%s"' % text(span) if texts else '')
+        return span_text(span) + ('"%s"' % text(span) if texts and span is not None else '')
+
+    def value(span):
+        return span and list(span) + ([text(span)] if texts else [])
 
     lines = []
     if form == 'table':
         lines.append('\t'.join(names) or '()')
     for row in rows:
         if form == 'json':
-            members = {name: list(span) + ([text(span)] if texts else [])
-                       for name, span in zip(names, row)}
+            members = {name: value(span) for name, span in zip(names, row)}
             lines.append(json.dumps(members, separators=(',', ':')))
         elif form == 'table':
             lines.append('\t'.join(map(cell, row)) or '()')
@@ -376,6 +415,15 @@ def asked_by(words, fetch):
     return Asked(request, query, names)
 
 
+def refuse_place(cursor, length):
+    """A cursor that has a length is of a document of that length alone."""
+    if cursor.length is None:
+        if any(end > length for _, end in cursor.row):
+            raise Refusal(CURSOR, 'cursor: past the document')
+    elif cursor.length != length:
+        raise Refusal(CURSOR, 'cursor: document of %d bytes, not %d' % (cursor.length, length))
+
+
 def ready_for(asked, fetch):
     request = asked.request
     if request.explain:
@@ -391,9 +439,9 @@ def ready_for(asked, fetch):
         raise Refusal(READ, 'read failed: document')
     except TooLong:
         raise Refusal(LONG, 'document longer than %d bytes' % LONGEST_DOCUMENT)
-    if after is not None and any(end > len(document) for _, end in after):
-        raise Refusal(CURSOR, 'cursor: past the document')
-    return Ready(asked, document, after)
+    if after is not None:
+        refuse_place(after, len(document))
+    return Ready(asked, document, after and after.row)
 
 
 def written(ready):
@@ -407,7 +455,7 @@ def written(ready):
     rows, more = page(all_rows(query, names, document), after, request.limit)
     note = 'end'
     if more:
-        note = 'more ' + (cursor_text(names, rows[-1]) if rows else request.after or 'start')
+        note = 'more ' + (cursor_text(names, rows[-1], len(document)) if rows else request.after or 'start')
     return lines_of(names, rows, document, request.form, request.texts), note
 
 

@@ -7,10 +7,10 @@ states its rules in words and then says them once more in Python.
 """
 from typing import NamedTuple
 
-from modes import counts_of, query_atoms
+from modes import atom_numbers, counts_of, query_atoms
 from query_text import Atom, Cap, Cat, Empty, Named, One, Project, Rep, Union, variables
 
-MOST_WAYS = 5000  # of an atom; past it no automaton is made
+MOST_WAYS = 5000  # of an atom, with its ends; past it no automaton is made
 MOST_PAIRS = 200000  # of ways, of a join
 
 
@@ -141,7 +141,9 @@ class Places:
 
 def of_atom(atom, bits):
     """State 0 is Before, then come the places, and last After where the atom is not tied to the end."""
-    if counts_of(atom)[1] > MOST_WAYS:
+    numbers = atom_numbers(atom)
+    ways = numbers.first + numbers.follow + numbers.last + len(numbers.null)
+    if numbers.is_large or ways > MOST_WAYS:
         raise TooMuch
     places = Places(bits)
     whole = places.part(atom.formula)
@@ -199,7 +201,7 @@ class Made:
     def __init__(self, query):
         self.bits = Bits()
         self.lets = []  # their automata
-        self.names = []  # their variables
+        self.names = []  # their variables, and which are sure
         for _, expr in query.lets:
             self.lets.append(self.of(expr))
             self.names.append(variables(expr, self.names))
@@ -212,9 +214,9 @@ class Made:
             return of_atom(expr, self.bits)
         if isinstance(expr, Project):
             return project(self.of(expr.part), self.bits.of(expr.keep))
-        whole, names = self.of(expr.parts[0]), variables(expr.parts[0], self.names)
+        whole, names = self.of(expr.parts[0]), variables(expr.parts[0], self.names).all
         for part in expr.parts[1:]:
-            other, more = self.of(part), variables(part, self.names)
+            other, more = self.of(part), variables(part, self.names).all
             whole = (union(whole, other) if isinstance(expr, Union)
                      else join(whole, other, self.bits.of(names & more)))
             names = names | more
