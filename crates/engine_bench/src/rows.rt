@@ -3,7 +3,7 @@ ghost use Rattle.std.specs.Prelude.{◌≡◌, ◌<◌, ◌≤◌};
 ghost use Rattle.engine_bench.specs.declared.rows.TheConstants.{MOST_BYTES};
 
 use query_parser::read_query;
-use span_core::Steps;
+use span_core::{Span, Steps};
 use spanner_engine::{Options, begin, compile};
 use std::alloc::Global;
 use std::marker::Brand;
@@ -61,8 +61,16 @@ fn take_rows<L: Ledger>(alloc: Global, blank: Blank, bytes: usize) -> Option<Tak
     while let Some(row) = answers.next(&mut steps) {
         taken.rows = taken.rows.wrapping_add(1);
         if row.len() > 0 {
-            taken.sum = taken.sum.wrapping_add(u64::from(row.at(0).end));
+            taken.sum = taken.sum.wrapping_add(end_of(row.at(0)));
         }
     }
     Some(taken)
+}
+
+/// Where the span ends; 0 where it is absent.
+fn end_of(span: Option<Span>) -> u64 {
+    match span {
+        Some(span) => u64::from(span.end),
+        None => 0,
+    }
 }
