@@ -14,6 +14,4 @@ mod operations;
 mod pairs;
 mod renaming;
 mod rows;
-#[cfg(test)]
-mod tests;
 mod uniting;

@@ -1,7 +1,8 @@
 //! Union, projection and join.
-ghost use Rattle.std.specs.Prelude.{◌≡◌, ℕ, ◌+◌, ◌*◌, ◌<◌, ◌≤◌, IfOk, IfErr, List, length};
+ghost use Rattle.std.specs.Prelude.{◌≡◌, ℕ, ◌+◌, ◌*◌, ◌<◌, ◌≤◌, IfOk, IfErr, List, OnOk, length};
 ghost use Rattle.span_core.specs.declared.TheConstants.{MOST_VARIABLES};
 ghost use Rattle.span_core.specs.Lists.{Has};
+ghost use Rattle.marked_automaton.specs.declared.TheConstants.{MOST_STATES, MOST_WAYS};
 ghost use Rattle.marked_automaton.specs.Faults.{IsSizeFaultOf, IsSizeFaultWithin};
 ghost use Rattle.marked_automaton.specs.Marks.{left_of, remarked};
 ghost use Rattle.marked_automaton.specs.Reduct.{IsReached, Reduces};
@@ -28,6 +29,7 @@ pub fn union(alloc: Global, a: &Automaton, b: &Automaton) -> Result<Automaton, S
     requires { length (all_names a.now.names b.now.names) ≤ MOST_VARIABLES }
     ensures names { IfOk result (λ u. u.names ≡ all_names a.now.names b.now.names) }
     ensures reduct { IfOk result (λ u. Reduces u.graph (union_over a.now b.now u.names)) }
+    ensures few { OnOk result ((a.now.graph.states + b.now.graph.states ≤ MOST_STATES) × (length a.now.graph.ways + length b.now.graph.ways ≤ MOST_WAYS)) }
     ensures fault { IfErr result (λ e. IsSizeFaultOf (a.now.graph.states + b.now.graph.states) (length a.now.graph.ways + length b.now.graph.ways) e) }
 {
     fit_together(a, b)?;
@@ -41,6 +43,7 @@ pub fn unite(alloc: Global, a: Automaton, b: &Automaton) -> Result<Automaton, Si
     requires { length (all_names a.names b.now.names) ≤ MOST_VARIABLES }
     ensures names { IfOk result (λ u. u.names ≡ all_names a.names b.now.names) }
     ensures reduct { IfOk result (λ u. Reduces u.graph (union_over a b.now u.names)) }
+    ensures few { OnOk result ((a.graph.states + b.now.graph.states ≤ MOST_STATES) × (length a.graph.ways + length b.now.graph.ways ≤ MOST_WAYS)) }
     ensures fault { IfErr result (λ e. IsSizeFaultOf (a.graph.states + b.now.graph.states) (length a.graph.ways + length b.now.graph.ways) e) }
 {
     fit_together(&a, b)?;

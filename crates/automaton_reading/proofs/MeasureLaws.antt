@@ -246,10 +246,10 @@ row_itself r = both_true (bytes_eq r.set r.set) (asked_same r.ask r.ask) (bytes_
 
 module _ (A B : Automaton) (f g : ℕ → Option ℕ) (e : ℕ → ℕ → ℕ) (r : IsReduct A B f g e) where
   -- a set of A, and a reached set of B whose image it is
-  record IsShadow (SB SA : List ℕ) : Type 0 where
-    up : IsUp SA
-    reached : AllAreReached B SB
-    image : IsImage f SB SA
+  pub record IsShadow (SB SA : List ℕ) : Type 0 where
+    pub up : IsUp SA
+    pub reached : AllAreReached B SB
+    pub image : IsImage f SB SA
 
   -- the image determines it
   shadow_same : (SA TA SB : List ℕ) → IsShadow SB SA → IsShadow SB TA → SA ≡ TA
@@ -354,13 +354,13 @@ module _ (A B : Automaton) (f g : ℕ → Option ℕ) (e : ℕ → ℕ → ℕ) 
 
   -- ---- sets, place by place
 
-  abbrev Covers : List (List ℕ) → List (List ℕ) → Type 0
+  abbrev pub Covers : List (List ℕ) → List (List ℕ) → Type 0
   Covers BS AS = (SA : List ℕ) → Has AS SA → (SB : List ℕ) × Has BS SB × IsShadow SB SA
 
   abbrev targets : Automaton → List (List ℕ) → Asked → List (List ℕ)
   targets X XS a = flat_map (λ set. map (λ (t : Reach). t.to) (edges X set a)) XS
 
-  next_covers : (BS AS : List (List ℕ)) (a : Asked) → Covers BS AS → Covers (next_sets B BS a) (next_sets A AS a)
+  pub next_covers : (BS AS : List (List ℕ)) (a : Asked) → Covers BS AS → Covers (next_sets B BS a) (next_sets A AS a)
   next_covers BS AS a cover SA h =
       let k = has_once bytes_eq same_bytes bytes_itself (targets A AS a) SA h in
       let x = flat_map_cases (λ set. map (λ (t : Reach). t.to) (edges A set a)) AS SA k in
@@ -376,7 +376,7 @@ module _ (A B : Automaton) (f g : ℕ → Option ℕ) (e : ℕ → ℕ → ℕ) 
   next_distinct : (AS : List (List ℕ)) (a : Asked) → AreDistinct (next_sets A AS a)
   next_distinct AS a = once_distinct bytes_eq same_bytes bytes_itself (targets A AS a)
 
-  start_covers : Covers (set_of B.starts ∷ []) (set_of A.starts ∷ [])
+  pub start_covers : Covers (set_of B.starts ∷ []) (set_of A.starts ∷ [])
   start_covers SA (inl i) = (set_of B.starts, inl refl, subst (IsShadow (set_of B.starts)) i start)
     where
       start : IsShadow (set_of B.starts) (set_of A.starts)
@@ -395,9 +395,9 @@ module _ (A B : Automaton) (f g : ℕ → Option ℕ) (e : ℕ → ℕ → ℕ) 
   abbrev row_of_set : Asked → List ℕ → Row
   row_of_set a set = record { set = set; ask = a }
 
-  record IsRowShadow (x y : Row) : Type 0 where
-    sets : IsShadow y.set x.set
-    asks : x.ask ≡ y.ask
+  pub record IsRowShadow (x y : Row) : Type 0 where
+    pub sets : IsShadow y.set x.set
+    pub asks : x.ask ≡ y.ask
 
   row_one : (x z y : Row) → IsRowShadow x y → IsRowShadow z y → x ≡ z
   row_one x z y s t =
@@ -405,10 +405,10 @@ module _ (A B : Automaton) (f g : ℕ → Option ℕ) (e : ℕ → ℕ → ℕ) 
       let asks : x.ask ≡ z.ask = s.asks ∙ sym t.asks in
       ap (λ set. let w : Row = record { set = set; ask = x.ask } in w) sets ∙ ap (λ a. let w : Row = record { set = z.set; ask = a } in w) asks
 
-  row_no_more : (x y : Row) → IsRowShadow x y → row_edges A x ≤ row_edges B y
+  pub row_no_more : (x y : Row) → IsRowShadow x y → row_edges A x ≤ row_edges B y
   row_no_more x y s = subst (λ a. length (edges A x.set x.ask) ≤ length (edges B y.set a)) s.asks (edges_no_more y.set x.set s.sets x.ask)
 
-  rows_cover : (BS AS : List (List ℕ)) (asks : List Asked) → Covers BS AS → (x : Row) → Has (rows_asked A AS asks) x → (y : Row) × Has (rows_asked B BS asks) y × IsRowShadow x y
+  pub rows_cover : (BS AS : List (List ℕ)) (asks : List Asked) → Covers BS AS → (x : Row) → Has (rows_asked A AS asks) x → (y : Row) × Has (rows_asked B BS asks) y × IsRowShadow x y
   rows_cover BS AS [] cover x h = absurd h
   rows_cover BS AS (a ∷ later) cover x h =
       elim (Has-append_cases (map (row_of_set a) AS) (rows_asked A (next_sets A AS a) later) x h) as (λ _. (y : Row) × Has (rows_asked B BS (a ∷ later)) y × IsRowShadow x y) [
@@ -447,13 +447,13 @@ module _ (A B : Automaton) (f g : ℕ → Option ℕ) (e : ℕ → ℕ → ℕ) 
       )
 
   -- sums over distinct rows, and over distinct sets
-  once_rows : (w v : Row → ℕ) (xs ys : List Row) → ((x : Row) → Has xs x → (y : Row) × Has ys y × IsRowShadow x y) → ((x y : Row) → IsRowShadow x y → w x ≤ v y) →
+  pub once_rows : (w v : Row → ℕ) (xs ys : List Row) → ((x : Row) → Has xs x → (y : Row) × Has ys y × IsRowShadow x y) → ((x y : Row) → IsRowShadow x y → w x ≤ v y) →
       sum_by w (once row_same xs) ≤ sum_by v (once row_same ys)
   once_rows w v xs ys cover less =
       match_sum IsRowShadow w v (once row_same xs) (once row_same ys) (once_distinct row_same same_row row_itself xs)
       (λ x h. let t = cover x (has_once row_same same_row row_itself xs x h) in (t.0, once_has row_same same_row row_itself ys t.0 t.1, t.2, less x t.0 t.2)) row_one
 
-  once_sets : (xs ys : List Row) → ((x : Row) → Has xs x → (y : Row) × Has ys y × IsRowShadow x y) →
+  pub once_sets : (xs ys : List Row) → ((x : Row) → Has xs x → (y : Row) × Has ys y × IsRowShadow x y) →
       sum_by (λ (set : List ℕ). 1 + length set) (once bytes_eq (map (λ (x : Row). x.set) xs)) ≤ sum_by (λ (set : List ℕ). 1 + length set) (once bytes_eq (map (λ (x : Row). x.set) ys))
   once_sets xs ys cover =
       match_sum (λ SA SB. IsShadow SB SA) (λ (set : List ℕ). 1 + length set) (λ (set : List ℕ). 1 + length set) (once bytes_eq (map (λ (x : Row). x.set) xs)) (once bytes_eq (map (λ (x : Row). x.set) ys))

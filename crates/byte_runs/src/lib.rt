@@ -8,5 +8,3 @@
 pub use skipper::Skipper;
 
 mod skipper;
-#[cfg(test)]
-mod tests;

@@ -1,6 +1,7 @@
 //! Searching for the end of a run.
 ghost use Rattle.std.specs.Prelude.{◌≡◌, ℕ, ◌+◌, ◌<◌, ◌≤◌, not, IsTrue, MatchOption};
 ghost use Rattle.memchr.specs.Find.{IsFirstByte};
+ghost use Rattle.span_core.specs.ByteSets.{bytes_between};
 ghost use Rattle.byte_runs.specs.Runs.{AreLeaving, HaveSameBytes, is_outside};
 
 use memchr::{memchr, memchr2, memchr3};
@@ -45,7 +46,9 @@ impl Model for Skipper {
 
 impl Skipper {
     /// One that has worked out nothing.
-    pub fn new() -> Skipper {
+    pub fn new() -> Skipper
+        ensures { result ≡ bytes_between 0 255 }
+    {
         Skipper {
             set: ByteSet::all(),
             leaving: Leaving::None,

@@ -4,6 +4,9 @@
 //! with the program's own checks on what that command finds.
 #![tactic(auto)]
 
+ghost use Rattle.std.specs.Prelude.{◌≡◌};
+ghost use Rattle.command_line.specs.declared.TheConstants.{DEFAULT_MAX_TABLE, MOST_MAX_TABLE, MOST_TRIAL_LINES};
+
 pub use reading::{WordsFault, read_request};
 pub use request::{Form, Mode, QuerySource, Request};
 
@@ -20,3 +23,10 @@ pub const MOST_MAX_TABLE: u64 = 100_000_000;
 
 /// The most lines of a trial.
 pub const MOST_TRIAL_LINES: u32 = 4_000_000;
+
+/// The limits, as numbers: a law.
+pub fn limits()
+    ensures default_table { DEFAULT_MAX_TABLE ≡ 8000000 }
+    ensures most_table { MOST_MAX_TABLE ≡ 100000000 }
+    ensures trial_lines { MOST_TRIAL_LINES ≡ 4000000 }
+{}

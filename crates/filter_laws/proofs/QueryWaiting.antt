@@ -1,16 +1,16 @@
 -- The automaton of a query only waits at the positions that no atom of its text touches.
-use Rattle.std.proofs.Common.{◌≡◌, ℕ, zero, suc, ◌*◌, ◌^◌, ◌/◌, ◌%◌, Bool, true, false, List, [], ◌∷◌, length, Option, Some, None, inl, inr, refl, ap, arith, ◌∙◌}
-use Rattle.std.specs.Prelude.{slice_get, nat_eq, if◌then◌else◌}
+use Rattle.std.proofs.Common.{◌≡◌, ℕ, zero, suc, ◌*◌, ◌^◌, ◌/◌, ◌%◌, ◌≤◌, ◌⊎◌, Bool, true, false, List, [], ◌∷◌, length, Option, Some, None, inl, inr, refl, sym, ap, arith, ◌∙◌}
+use Rattle.std.specs.Prelude.{IsTrue, slice_get, nat_eq, if◌then◌else◌}
 use Rattle.std.specs.Str.{bytes_eq}
 use Rattle.std.specs.Option.{ForSome}
 use Rattle.std.proofs.Math.Nat.{zero-div, zero-mod}
 use Rattle.spanner_model.specs.Captures.{VarName}
-use Rattle.spanner_model.specs.Expression.{ExprTree, atom, named, union_end, union, join_end, join, project}
+use Rattle.spanner_model.specs.Expression.{ExprTree, atom, named, union_end, union, join_end, join, project, minus}
 use Rattle.spanner_model.specs.Answer.{vars_of_lets}
 use Rattle.span_core.specs.Lists.{Has}
 use Rattle.spanner_model.specs.Sound.{AreJoined, AreUnited, IsSoundExpr, IsSoundUnder, sure_of_lets}
 use Rattle.span_core.proofs.HasLaws.{Has-slice_get}
-use Rattle.marked_automaton.specs.Automaton.{IsWhole, Marked}
+use Rattle.marked_automaton.specs.Automaton.{Automaton, IsWhole, Marked}
 use Rattle.marked_automaton.specs.Marks.{bits_of, left_of}
 use Rattle.place_automaton.proofs.BuiltRepeats.{ordered_repeats}
 use Rattle.place_automaton.proofs.WholeLaws.{whole_law}
@@ -21,11 +21,12 @@ use Rattle.algebra.proofs.Alike.{remarked_whole}
 use Rattle.algebra.proofs.UnionsOver.{union_over_whole}
 use Rattle.algebra.proofs.Whole.{join_whole}
 use Rattle.place_automaton.specs.Variables.{with_vars}
-use Rattle.query_automaton.specs.QueryAutomaton.{automaton_of, no_automaton, of_join, of_lets, of_one_let, of_projection, of_query, of_union, together, united}
+use Rattle.algebra_minus.proofs.DifferenceMade.{difference_made}
+use Rattle.query_automaton.specs.QueryAutomaton.{automaton_of, no_automaton, of_join, of_lets, of_minus, of_one_let, of_projection, of_query, of_union, together, united}
 use Rattle.query_automaton.proofs.QueryWords.{words_of_reduct}
 use Rattle.filter_laws.specs.Idling.{WaitsOutside}
 use Rattle.filter_laws.specs.Laws.{QueryReading, QueryWaits}
-use Rattle.filter_laws.specs.Touching.{Contains, IsTouchedBy, SomeAtom}
+use Rattle.filter_laws.specs.Touching.{Contains, HasMinusIn, IsTouchedBy, SomeAtom, TouchedOf}
 use Rattle.filter_laws.proofs.AtomWaiting.{atom_waits}
 use Rattle.filter_laws.proofs.GapReading.{accepts_read, read_accepts}
 use Rattle.filter_laws.proofs.OperationsWait.{join_waits, projection_waits, reduct_waits, union_waits}
@@ -65,8 +66,49 @@ module _ (d : List ℕ) (K : ℕ → Bool) where
   abbrev pub Waits : Marked → Type 0
   Waits M = IsWhole M.graph × WaitsOutside M.graph d K
 
+  abbrev Touched : ExprTree → ℕ → Type 0
+  Touched e i = SomeAtom (λ s t f. IsTouchedBy s t f d i) e ⊎ (HasMinusIn e × (i ≤ length d))
+
   abbrev Has_all : ExprTree → Type 0
-  Has_all e = Contains K (λ i. SomeAtom (λ s t f. IsTouchedBy s t f d i) e)
+  Has_all e = Contains K (Touched e)
+
+  some_within : (e : ExprTree) (i : ℕ) → SomeAtom (λ s t f. IsTouchedBy s t f d i) e → i ≤ length d
+  some_within (atom s t f) i h = omega (arith, h.4, h.8)
+  some_within (named k) i h = absurd h
+  some_within union_end i h = absurd h
+  some_within (union e rest) i (inl h) = some_within e i h
+  some_within (union e rest) i (inr h) = some_within rest i h
+  some_within join_end i h = absurd h
+  some_within (join e rest) i (inl h) = some_within e i h
+  some_within (join e rest) i (inr h) = some_within rest i h
+  some_within (project kept e) i h = some_within e i h
+  some_within (minus e g) i (inl h) = some_within e i h
+  some_within (minus e g) i (inr h) = some_within g i h
+
+  -- where K has all positions, the parts of an expression are contained, and each automaton waits outside
+  full_has : ((i : ℕ) → i ≤ length d → IsTrue (K i)) → (e : ExprTree) → Has_all e
+  full_has full e i t = elim t as (λ _. IsTrue (K i)) [ inl a ↦ full i (some_within e i a) | inr m ↦ full i m.1 ]
+
+  full_waits : ((i : ℕ) → i ≤ length d → IsTrue (K i)) → (A : Automaton) → WaitsOutside A d K
+  full_waits full A = record {
+    states = λ i p k led out. absurd (differ (sym (full i (omega (arith, out.2))) ∙ k));
+    ways = λ i y k h led byte out. absurd (differ (sym (full i (omega (arith, out.2))) ∙ k));
+  }
+    where
+      differ : true ≡ false → ⊥
+      differ e = cc
+
+  first_of_union : (e rest : ExprTree) → Has_all (union e rest) → Has_all e
+  first_of_union e rest has i t = has i (elim t as (λ _. Touched (union e rest) i) [ inl a ↦ inl (inl a) | inr m ↦ inr (inl m.0, m.1) ])
+
+  rest_of_union : (e rest : ExprTree) → Has_all (union e rest) → Has_all rest
+  rest_of_union e rest has i t = has i (elim t as (λ _. Touched (union e rest) i) [ inl a ↦ inl (inr a) | inr m ↦ inr (inr m.0, m.1) ])
+
+  first_of_join : (e rest : ExprTree) → Has_all (join e rest) → Has_all e
+  first_of_join e rest has i t = has i (elim t as (λ _. Touched (join e rest) i) [ inl a ↦ inl (inl a) | inr m ↦ inr (inl m.0, m.1) ])
+
+  rest_of_join : (e rest : ExprTree) → Has_all (join e rest) → Has_all rest
+  rest_of_join e rest has i t = has i (elim t as (λ _. Touched (join e rest) i) [ inl a ↦ inl (inr a) | inr m ↦ inr (inr m.0, m.1) ])
 
   none_waits : Waits no_automaton
   none_waits = (
@@ -97,6 +139,9 @@ module _ (d : List ℕ) (K : ℕ → Bool) where
         join_waits (agree_on M.names N.names all) (joined M.names N.names all) M.graph N.graph m.0 n.0 (joined_zero M.names N.names all) d K m.1 n.1,
       )
 
+  two_differ : ((i : ℕ) → i ≤ length d → IsTrue (K i)) → (M N : Marked) → Waits M → Waits N → Waits (of_minus M N)
+  two_differ full M N m n = ((difference_made M.graph N.graph m.0 n.0).4.whole, full_waits full (of_minus M N).graph)
+
   projected : (kept : List VarName) (M : Marked) → Waits M → Waits (of_projection kept M)
   projected kept M m = over_waits kept M m
 
@@ -111,7 +156,7 @@ module _ (d : List ℕ) (K : ℕ → Bool) where
     all_wait (atom s t f) = record {
       whole = λ h has. (
         whole_law (with_vars [] f) s t f,
-        atom_waits (with_vars [] f) s t f h.1 (ordered_repeats f h.0) d K has,
+        atom_waits (with_vars [] f) s t f h.1 (ordered_repeats f h.0) d K (λ i t. has i (inl t)),
       );
       united_parts = λ M h has m. absurd h;
       joined_parts = λ M h has m. absurd h;
@@ -119,22 +164,29 @@ module _ (d : List ℕ) (K : ℕ → Bool) where
     all_wait (named k) = record { whole = λ h has. lets k; united_parts = λ M h has m. absurd h; joined_parts = λ M h has m. absurd h }
     all_wait union_end = record { whole = λ h has. absurd h; united_parts = λ M h has m. m; joined_parts = λ M h has m. absurd h }
     all_wait (union e rest) = record {
-      whole = λ h has. (all_wait rest).united_parts (automaton_of L e) h.1 (λ i t. has i (inr t)) ((all_wait e).whole h.0 (λ i t. has i (inl t)));
+      whole = λ h has. (all_wait rest).united_parts (automaton_of L e) h.1 (rest_of_union e rest has) ((all_wait e).whole h.0 (first_of_union e rest has));
       united_parts = λ M h has m.
-          (all_wait rest).united_parts (of_union M (automaton_of L e)) h.1 (λ i t. has i (inr t))
-          (two_united M (automaton_of L e) m ((all_wait e).whole h.0 (λ i t. has i (inl t))));
+          (all_wait rest).united_parts (of_union M (automaton_of L e)) h.1 (rest_of_union e rest has)
+          (two_united M (automaton_of L e) m ((all_wait e).whole h.0 (first_of_union e rest has)));
       joined_parts = λ M h has m. absurd h;
     }
     all_wait join_end = record { whole = λ h has. absurd h; united_parts = λ M h has m. absurd h; joined_parts = λ M h has m. m }
     all_wait (join e rest) = record {
-      whole = λ h has. (all_wait rest).joined_parts (automaton_of L e) h.1 (λ i t. has i (inr t)) ((all_wait e).whole h.0 (λ i t. has i (inl t)));
+      whole = λ h has. (all_wait rest).joined_parts (automaton_of L e) h.1 (rest_of_join e rest has) ((all_wait e).whole h.0 (first_of_join e rest has));
       united_parts = λ M h has m. absurd h;
       joined_parts = λ M h has m.
-          (all_wait rest).joined_parts (of_join M (automaton_of L e)) h.1 (λ i t. has i (inr t))
-          (two_joined M (automaton_of L e) m ((all_wait e).whole h.0 (λ i t. has i (inl t))));
+          (all_wait rest).joined_parts (of_join M (automaton_of L e)) h.1 (rest_of_join e rest has)
+          (two_joined M (automaton_of L e) m ((all_wait e).whole h.0 (first_of_join e rest has)));
     }
     all_wait (project kept e) = record {
       whole = λ h has. projected kept (automaton_of L e) ((all_wait e).whole h.0 has);
+      united_parts = λ M h has m. absurd h;
+      joined_parts = λ M h has m. absurd h;
+    }
+    all_wait (minus e g) = record {
+      whole = λ h has.
+          let full : (i : ℕ) → i ≤ length d → IsTrue (K i) = λ i l. has i (inr (tt, l)) in
+          two_differ full (automaton_of L e) (automaton_of L g) ((all_wait e).whole h.0 (full_has full e)) ((all_wait g).whole h.1 (full_has full g));
       united_parts = λ M h has m. absurd h;
       joined_parts = λ M h has m. absurd h;
     }
@@ -162,7 +214,15 @@ module _ (d : List ℕ) (K : ℕ → Bool) where
 pub query_waits : QueryWaits
 query_waits q sound d K has =
     (expr_waits d K (vars_of_lets q.lets (length q.lets)) (sure_of_lets q.lets (length q.lets)) (length q.lets) (of_lets q.lets (length q.lets))
-    (lets_wait d K q.lets sound.sound_lets (λ l h i t. has i (inl (l, h, t))) (length q.lets)) q.body sound.sound_body.0 (λ i t. has i (inr t))).1
+    (lets_wait d K q.lets sound.sound_lets (λ l h i t. has i (in_let i l h t)) (length q.lets)) q.body sound.sound_body.0 (λ i t. has i (in_body i t))).1
+  where
+    in_let : (i : ℕ) (l : VarName × ExprTree) → Has q.lets l → Touched d K l.1 i → TouchedOf q d i
+    in_let i l h (inl a) = inl (inl (l, h, a))
+    in_let i l h (inr m) = inr (inl (l, h, m.0), m.1)
+
+    in_body : (i : ℕ) → Touched d K q.body i → TouchedOf q d i
+    in_body i (inl a) = inl (inr a)
+    in_body i (inr m) = inr (inr m.0, m.1)
 
 pub query_reading : QueryReading
 query_reading q sound A marked r d bytes K has w =

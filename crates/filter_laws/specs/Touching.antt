@@ -5,7 +5,7 @@ use Rattle.span_core.specs.Lists.{Has}
 use Rattle.spanner_model.specs.Captures.{VarName, Captures}
 use Rattle.spanner_model.specs.Fit.{Fit}
 use Rattle.spanner_model.specs.Tree.{Tree}
-use Rattle.spanner_model.specs.Expression.{ExprTree, QueryTree, atom, named, union_end, union, join_end, join, project}
+use Rattle.spanner_model.specs.Expression.{ExprTree, QueryTree, atom, named, union_end, union, join_end, join, project, minus}
 
 -- some part, tied as the atom says, fits, and the position is from its start to its end, both included
 abbrev pub IsTouchedBy : Bool → Bool → Tree → List ℕ → ℕ → Type 0
@@ -22,6 +22,7 @@ SomeAtom P (union e rest) = SomeAtom P e ⊎ SomeAtom P rest
 SomeAtom P join_end = ⊥
 SomeAtom P (join e rest) = SomeAtom P e ⊎ SomeAtom P rest
 SomeAtom P (project kept e) = SomeAtom P e
+SomeAtom P (minus e g) = SomeAtom P e ⊎ SomeAtom P g
 
 -- of some atom of the query's text, be it of a let, named or not, or of the body
 abbrev pub SomeAtomOf : (Bool → Bool → Tree → Type 0) → QueryTree → Type 0
@@ -36,14 +37,30 @@ sum_atoms m (union e rest) = sum_atoms m e + sum_atoms m rest
 sum_atoms m join_end = 0
 sum_atoms m (join e rest) = sum_atoms m e + sum_atoms m rest
 sum_atoms m (project kept e) = sum_atoms m e
+sum_atoms m (minus e g) = sum_atoms m e + sum_atoms m g
 
 -- and those of the query's text
 abbrev pub sum_atoms_of : (Bool → Bool → Tree → ℕ) → QueryTree → ℕ
 sum_atoms_of m q = sum_by (λ (l : VarName × ExprTree). sum_atoms m l.1) q.lets + sum_atoms m q.body
 
--- some atom of the query's text touches the position
+-- a difference stands in the expression
+abbrev pub HasMinusIn : ExprTree → Type 0
+HasMinusIn (atom s t f) = ⊥
+HasMinusIn (named k) = ⊥
+HasMinusIn union_end = ⊥
+HasMinusIn (union e rest) = HasMinusIn e ⊎ HasMinusIn rest
+HasMinusIn join_end = ⊥
+HasMinusIn (join e rest) = HasMinusIn e ⊎ HasMinusIn rest
+HasMinusIn (project kept e) = HasMinusIn e
+HasMinusIn (minus e g) = Unit {0}
+
+-- in the query's text
+abbrev pub HasMinus : QueryTree → Type 0
+HasMinus q = ((l : VarName × ExprTree) × Has q.lets l × HasMinusIn l.1) ⊎ HasMinusIn q.body
+
+-- some atom of the query's text touches the position; where a difference stands in the text, each is touched
 abbrev pub TouchedOf : QueryTree → List ℕ → ℕ → Type 0
-TouchedOf q d i = SomeAtomOf (λ s t f. IsTouchedBy s t f d i) q
+TouchedOf q d i = SomeAtomOf (λ s t f. IsTouchedBy s t f d i) q ⊎ (HasMinus q × (i ≤ length d))
 
 -- K has each position that is P
 abbrev pub Contains : (ℕ → Bool) → (ℕ → Type 0) → Type 0

@@ -14,17 +14,11 @@ pub use reader::read_atom;
 
 mod alphabet;
 mod char_class;
-#[cfg(test)]
-mod char_tests;
 mod characters;
 mod class;
-#[cfg(test)]
-mod class_tests;
 mod fault;
 mod laws;
 mod nest;
 mod reader;
 mod sign;
-#[cfg(test)]
-mod tests;
 mod tokens;

@@ -2,4 +2,3 @@ pub mod Checked
 pub mod Faults
 pub mod Laws
 pub mod Names
-pub mod Samples

@@ -8,5 +8,3 @@ mod checking;
 pub mod laws;
 pub mod names;
 mod sure_variables;
-#[cfg(test)]
-mod tests;

@@ -1,6 +1,9 @@
 //! Automata whose transitions take sets of markers, and the words that they accept.
 #![tactic(auto)]
 
+ghost use Rattle.std.specs.Prelude.{◌≡◌};
+ghost use Rattle.marked_automaton.specs.declared.TheConstants.{MOST_STATES, MOST_WAYS};
+
 pub use automaton::Automaton;
 pub use fault::SizeFault;
 pub use way::{Stop, Way};
@@ -12,8 +15,6 @@ mod fault;
 mod grouping;
 pub mod laws;
 mod reach;
-#[cfg(test)]
-mod tests;
 mod trimming;
 mod way;
 
@@ -22,3 +23,9 @@ pub const MOST_STATES: u32 = 20_000;
 
 /// The most ways that an automaton may have.
 pub const MOST_WAYS: usize = 2_000_000;
+
+/// The limits, as numbers: a law.
+pub fn limits()
+    ensures states { MOST_STATES ≡ 20000 }
+    ensures ways { MOST_WAYS ≡ 2000000 }
+{}

@@ -1,13 +1,14 @@
 -- Cells under other names.
-use Rattle.std.proofs.Common.{◌≡◌, ℕ, ◌-◌, ◌<◌, ◌≤◌, ◌⊎◌, ◌^◌, inl, inr, List, [], ◌∷◌, ◌++◌, map, take, drop, length, Option, Some, None, IsSome, refl, sym, ap, ap₂, subst, ◌∙◌, arith}
+use Rattle.std.proofs.Common.{◌≡◌, ℕ, ◌-◌, ◌<◌, ◌≤◌, ◌⊎◌, inl, inr, List, [], ◌∷◌, ◌++◌, map, take, drop, length, Option, Some, None, IsSome, refl, sym, ap, ap₂, subst, ◌∙◌, arith}
 use Rattle.std.proofs.Math.Seq.{take-append_seam}
 use Rattle.std.proofs.lemmas.Bool.{cases_eq}
-use Rattle.std.proofs.lemmas.List.{length-map, get_or_past}
+use Rattle.std.proofs.lemmas.List.{length-map}
 use Rattle.std.specs.FinMap as fin_map
 use Rattle.span_core.specs.Lists.{Has}
 use Rattle.span_core.proofs.HasLaws.{Has-map, Has-map_cases}
 use Rattle.node_arena.specs.declared.TheConstants.{NONE, MOST_CELLS, MOST_HOLDS}
 use Rattle.node_arena.specs.declared.node.Node.{Node}
+use Rattle.node_arena.specs.declared.numbers.Numbers.{Numbers}
 use Rattle.node_arena.specs.Cells.{NamedLink, Cells, Holds, HasCell, Names, IsNamed, AreLinked, hold, or_zero}
 use Rattle.node_arena.specs.Nodes.{Nodes, AreNodes, IsKept, node_at, node_of, first_of, number_of, count_of, names_once, named_times, some_positive, count_in, holds_of, seen}
 use Rattle.node_arena.specs.Copies.{renamed, renamed_one, IsOneToOne, IsCopy}
@@ -219,24 +220,22 @@ module _ (nodes : Nodes) (newest live : ℕ) (v : Cells) (kept : IsKept nodes ne
   }
 
 -- what a call of copy has done
-pub record IsDone (nodes copies : Nodes) (top live spare : ℕ) (v : Cells) (numbers n2 : List ℕ) : Type 0 where
+pub record IsDone (nodes copies : Nodes) (top live spare : ℕ) (v : Cells) (numbers : Numbers) : Type 0 where
   pub kept : IsKept copies top live (seen copies spare top live)
-  pub copied : (before after : List ℕ) → after ≡ map (copy_in n2) before → IsCopy (copy_in numbers) v (seen copies spare top live) before after
+  pub copied : (before after : List ℕ) → after ≡ map (copy_in numbers) before → IsCopy (copy_in numbers) v (seen copies spare top live) before after
 
-pub copy_done : (nodes copies : Nodes) (newest live top spare : ℕ) (v : Cells) (numbers n2 n3 : List ℕ) → IsKept nodes newest live v → length numbers < 2 ^ 32 →
-    HaveSlots (copy_in numbers) copies (HasCell v.cells) → AreMoved (copy_in numbers) nodes copies (HasCell v.cells) → n2 ≡ numbers → n3 ≡ numbers → top ≡ copy_in n3 newest →
-    IsDone nodes copies top live spare v numbers n2
-copy_done nodes copies newest live top spare v numbers n2 n3 kept few slots moved e2 e3 et =
-    let none : copy_in numbers NONE ≡ NONE = get_or_past numbers NONE NONE (omega arith) in
+pub copy_done : (nodes copies : Nodes) (newest live top spare : ℕ) (v : Cells) (numbers : Numbers) → IsKept nodes newest live v → copy_in numbers NONE ≡ NONE →
+    HaveSlots (copy_in numbers) copies (HasCell v.cells) → AreMoved (copy_in numbers) nodes copies (HasCell v.cells) → top ≡ copy_in numbers newest →
+    IsDone nodes copies top live spare v numbers
+copy_done nodes copies newest live top spare v numbers kept none slots moved et =
     let w : Cells = copied_cells nodes newest live v kept copies (copy_in numbers) none slots moved spare in
     let done : IsKept copies (copy_in numbers newest) live w = copies_kept nodes newest live v kept copies (copy_in numbers) none slots moved spare in
-    let same : copy_in numbers newest ≡ top = sym (et ∙ ap (λ (xs : List ℕ). copy_in xs newest) e3) in
-    let done_at : IsKept copies top live w = subst (λ k. IsKept copies k live w) same done in
+    let done_at : IsKept copies top live w = subst (λ k. IsKept copies k live w) (sym et) done in
     record {
       kept = seen_kept copies top live w done_at spare refl;
       copied = λ before after e.
           subst (λ u. IsCopy (copy_in numbers) v u before after) (sym (seen_is copies top live w done_at))
-          (is_copy nodes newest live v kept copies (copy_in numbers) none slots moved spare before after (e ∙ ap (λ (xs : List ℕ). map (copy_in xs) before) e2));
+          (is_copy nodes newest live v kept copies (copy_in numbers) none slots moved spare before after e);
     }
 
 -- a list that is written whole

@@ -1,16 +1,15 @@
 -- How a copy is made, cell by cell from the newest on.
 use Rattle.std.proofs.Common.{map as map_list}
 use Rattle.std.proofs.Common.{◌≡◌, ℕ, zero, suc, ◌++◌, take, drop, slice_set, ◌-◌, ◌<◌, ◌⊎◌, inl, inr, List, [], ◌∷◌, length, get_or, Option, Some, None, IsSome, IfSome, is_some, refl, sym, ap, ap₂, subst, ◌∙◌, arith}
-use Rattle.std.proofs.Math.ListN.{set}
 use Rattle.std.proofs.lemmas.Bool.{cases_eq}
-use Rattle.std.proofs.lemmas.List.{get_or-set_same, get_or-set_other}
 use Rattle.std.specs.FinMap as map
 use Rattle.node_arena.proofs.Maps.{insert_here, insert_other, empty_at}
 use Rattle.node_arena.specs.declared.TheConstants.{NONE, MOST_CELLS}
 use Rattle.node_arena.specs.declared.node.Node.{Node}
+use Rattle.node_arena.specs.declared.numbers.Numbers.{Numbers}
 use Rattle.node_arena.specs.Cells.{NamedLink, Cells, HasCell, AreLinked}
 use Rattle.node_arena.specs.Nodes.{Nodes, IsKept, node_at, node_of, first_of, count_of}
-use Rattle.node_arena.specs.Copying.{HaveSlots, moved_node, AreMoved, copy_in}
+use Rattle.node_arena.specs.Copying.{HaveSlots, IsPut, moved_node, AreMoved, copy_in}
 use Rattle.node_arena.proofs.NodeLaws.{node_here, node_past, same_node, some_not_none}
 
 -- from the number `at` on there are these cells, so many
@@ -152,31 +151,38 @@ slots_set copy copies P a k put slots mine e = record {
 }
 
 -- the cells but those that are left have slots
-pub record Placing (nodes copies : Nodes) (numbers : List ℕ) (cells : List NamedLink) (at number : ℕ) : Type 0 where
+pub record Placing (nodes copies : Nodes) (copy : ℕ → ℕ) (cells : List NamedLink) (at number : ℕ) : Type 0 where
   pub left : List NamedLink
   pub walk : IsLeft nodes cells left at number
-  pub placed : HaveSlots (copy_in numbers) copies (λ c. HasCell cells c × (HasCell left c → ⊥))
+  pub placed : HaveSlots copy copies (λ c. HasCell cells c × (HasCell left c → ⊥))
 
-pub placing_begins : (nodes copies : Nodes) (numbers : List ℕ) (newest live number : ℕ) (v : Cells) → IsKept nodes newest live v → copies ≡ map.empty → number ≡ live →
-    Placing nodes copies numbers v.cells newest number
-placing_begins nodes copies numbers newest live number v kept empty e = record {
+pub placing_begins : (nodes copies : Nodes) (copy : ℕ → ℕ) (newest live number : ℕ) (v : Cells) → IsKept nodes newest live v → copies ≡ map.empty → number ≡ live →
+    Placing nodes copies copy v.cells newest number
+placing_begins nodes copies copy newest live number v kept empty e = record {
   left = v.cells;
   walk = subst (λ n. IsLeft nodes v.cells v.cells newest n) (sym e) (all_left nodes newest live v kept);
-  placed = slots_none (copy_in numbers) copies (λ c. HasCell v.cells c × (HasCell v.cells c → ⊥)) empty (λ c p. p.1 p.0);
+  placed = slots_none copy copies (λ c. HasCell v.cells c × (HasCell v.cells c → ⊥)) empty (λ c p. p.1 p.0);
 }
 
-pub placing_node : (nodes copies : Nodes) (numbers : List ℕ) (cells : List NamedLink) (at number : ℕ) → Placing nodes copies numbers cells at number → 0 < number → IsSome (map.get nodes at)
-placing_node nodes copies numbers cells at number placing some = some_node nodes cells placing.left at number placing.walk some
+pub placing_node : (nodes copies : Nodes) (copy : ℕ → ℕ) (cells : List NamedLink) (at number : ℕ) → Placing nodes copies copy cells at number → 0 < number → IsSome (map.get nodes at)
+placing_node nodes copies copy cells at number placing some = some_node nodes cells placing.left at number placing.walk some
 
-place_by : (nodes copies : Nodes) (numbers : List ℕ) (cells left : List NamedLink) (at number p : ℕ) (node put : Node) → IsLeft nodes cells left at number →
-    HaveSlots (copy_in numbers) copies (λ c. HasCell cells c × (HasCell left c → ⊥)) → 0 < number → map.get nodes at ≡ Some node → map.get copies p ≡ None → p < MOST_CELLS → at < length numbers →
-    Placing nodes (map.insert copies p put) (set numbers at p) cells node.older (number - 1)
-place_by nodes copies numbers cells [] at number p node put walk slots some e fresh small inside = let n = walk.number_is in absurd (omega arith)
-place_by nodes copies numbers cells (l ∷ older) at number p node put walk slots some e fresh small inside = record {
+cell_left : (nodes : Nodes) (cells left : List NamedLink) (at number : ℕ) → IsLeft nodes cells left at number → 0 < number → HasCell cells at
+cell_left nodes cells [] at number walk some = let n = walk.number_is in absurd (omega arith)
+cell_left nodes cells (l ∷ older) at number walk some = here_cell nodes cells l older at number walk
+
+-- the next to get a slot is a cell
+pub placing_cell : (nodes copies : Nodes) (copy : ℕ → ℕ) (cells : List NamedLink) (at number : ℕ) → Placing nodes copies copy cells at number → 0 < number → HasCell cells at
+placing_cell nodes copies copy cells at number placing some = cell_left nodes cells placing.left at number placing.walk some
+
+place_by : (nodes copies : Nodes) (copy other : ℕ → ℕ) (cells left : List NamedLink) (at number p : ℕ) (node put : Node) → IsLeft nodes cells left at number →
+    HaveSlots copy copies (λ c. HasCell cells c × (HasCell left c → ⊥)) → 0 < number → map.get nodes at ≡ Some node → map.get copies p ≡ None → p < MOST_CELLS → other at ≡ p →
+    ((c : ℕ) → (c ≡ at → ⊥) → other c ≡ copy c) → Placing nodes (map.insert copies p put) other cells node.older (number - 1)
+place_by nodes copies copy other cells [] at number p node put walk slots some e fresh small here same = let n = walk.number_is in absurd (omega arith)
+place_by nodes copies copy other cells (l ∷ older) at number p node put walk slots some e fresh small here same = record {
   left = older;
   walk = next_left nodes cells l older at number walk node e;
-  placed = slots_more (copy_in numbers) (copy_in (set numbers at p)) copies (λ c. HasCell cells c × (HasCell (l ∷ older) c → ⊥)) (λ c. HasCell cells c × (HasCell older c → ⊥)) at p put slots fresh small
-      (get_or-set_same numbers at p NONE inside) (λ c ne. get_or-set_other numbers at c p NONE ne)
+  placed = slots_more copy other copies (λ c. HasCell cells c × (HasCell (l ∷ older) c → ⊥)) (λ c. HasCell cells c × (HasCell older c → ⊥)) at p put slots fresh small here same
       (λ c q. elim (here_or_past nodes cells l older at number walk c q.1) as (λ _. (c ≡ at) ⊎ ((c ≡ at → ⊥) × (HasCell cells c × (HasCell (l ∷ older) c → ⊥)))) [
         | inl is ↦ inl is
         | inr r ↦ inr (r.0, (q.0, r.1))
@@ -186,24 +192,27 @@ place_by nodes copies numbers cells (l ∷ older) at number p node put walk slot
       (λ c q is. q.1 (l, inl refl, sym walk.first ∙ sym is));
 }
 
-pub placing_next : (nodes copies new : Nodes) (numbers after : List ℕ) (cells : List NamedLink) (at number p k : ℕ) (node put : Node) → Placing nodes copies numbers cells at number → 0 < number →
-    map.get nodes at ≡ Some node → map.get copies p ≡ None → p < MOST_CELLS → at < length numbers → new ≡ map.insert copies p put → k ≡ p → after ≡ set numbers at k →
-    (next : ℕ) → IfSome (map.get nodes at) (λ n. next ≡ n.older) → (rest : ℕ) → rest ≡ number - 1 → Placing nodes new after cells next rest
-placing_next nodes copies new numbers after cells at number p k node put placing some e fresh small inside is ek ea next told rest er =
-    let done = place_by nodes copies numbers cells placing.left at number p node put placing.walk placing.placed some e fresh small inside in
-    subst (λ m. Placing nodes new after cells next m) (sym er) (subst (λ n. Placing nodes n after cells next (number - 1)) (sym is)
-    (subst (λ (xs : List ℕ). Placing nodes (map.insert copies p put) xs cells next (number - 1)) (sym (ea ∙ ap (set numbers at) ek))
-    (subst (λ k. Placing nodes (map.insert copies p put) (set numbers at p) cells k (number - 1)) (sym (next_is (map.get nodes at) node next e told)) done)))
+pub placing_next : (nodes copies new : Nodes) (numbers after : Numbers) (cells : List NamedLink) (at number p k : ℕ) (node put : Node) → Placing nodes copies (copy_in numbers) cells at number → 0 < number →
+    map.get nodes at ≡ Some node → map.get copies p ≡ None → p < MOST_CELLS → new ≡ map.insert copies p put → k ≡ p → IsPut numbers after at k →
+    (next : ℕ) → IfSome (map.get nodes at) (λ n. next ≡ n.older) → (rest : ℕ) → rest ≡ number - 1 → Placing nodes new (copy_in after) cells next rest
+placing_next nodes copies new numbers after cells at number p k node put placing some e fresh small is ek noted next told rest er =
+    let done = place_by nodes copies (copy_in numbers) (copy_in after) cells placing.left at number p node put placing.walk placing.placed some e fresh small (noted.here ∙ ek) noted.others in
+    subst (λ m. Placing nodes new (copy_in after) cells next m) (sym er) (subst (λ n. Placing nodes n (copy_in after) cells next (number - 1)) (sym is)
+    (subst (λ k. Placing nodes (map.insert copies p put) (copy_in after) cells k (number - 1)) (sym (next_is (map.get nodes at) node next e told)) done))
 
 nothing_left : (left : List NamedLink) (c : ℕ) → length left ≡ 0 → HasCell left c → ⊥
 nothing_left [] c none h = h.1
 nothing_left (l ∷ left) c none h = absurd (omega arith)
 
-pub placing_ends : (nodes copies : Nodes) (numbers : List ℕ) (cells : List NamedLink) (at number : ℕ) → Placing nodes copies numbers cells at number → number ≡ 0 →
-    HaveSlots (copy_in numbers) copies (HasCell cells)
-placing_ends nodes copies numbers cells at number placing none =
-    slots_as (copy_in numbers) copies (λ c. HasCell cells c × (HasCell placing.left c → ⊥)) (HasCell cells) placing.placed (λ c p. p.0)
+pub placing_ends : (nodes copies : Nodes) (copy : ℕ → ℕ) (cells : List NamedLink) (at number : ℕ) → Placing nodes copies copy cells at number → number ≡ 0 → HaveSlots copy copies (HasCell cells)
+placing_ends nodes copies copy cells at number placing none =
+    slots_as copy copies (λ c. HasCell cells c × (HasCell placing.left c → ⊥)) (HasCell cells) placing.placed (λ c p. p.0)
     (λ c h. (h, nothing_left placing.left c (sym placing.walk.number_is ∙ none)))
+
+-- the number of no cell is not put
+pub none_put : (numbers after : Numbers) (cells : List NamedLink) (at k : ℕ) → ((c : ℕ) → HasCell cells c → c < MOST_CELLS) → HasCell cells at → IsPut numbers after at k → copy_in numbers NONE ≡ NONE →
+    copy_in after NONE ≡ NONE
+none_put numbers after cells at k small h noted none = noted.others NONE (λ e. let s = small at h in absurd (omega arith)) ∙ none
 
 -- the copies of the cells but those that are left have their nodes
 pub record Moving (nodes copies : Nodes) (copy : ℕ → ℕ) (cells : List NamedLink) (at number : ℕ) : Type 0 where

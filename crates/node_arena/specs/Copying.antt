@@ -1,13 +1,35 @@
 -- How a copy is made: each cell gets a slot, and then its node is stored there under the numbers of the copies.
-use Rattle.std.specs.Prelude.{◌≡◌, ℕ, ◌<◌, List, Some, IsSome, get_or}
+use Rattle.std.specs.Prelude.{◌≡◌, ℕ, ◌<◌, Some, IsSome, get_or, length, nat_eq, unwrap_or}
 use Rattle.std.specs.FinMap as map
+use Rattle.std.specs.HashMap as hash
+use Rattle.std.specs.HashMap.{HashMap}
+use Rattle.std.specs.declared.hash.FoldHasher.{FoldHasher}
+use Rattle.std.specs.declared.hash.BuildHasherDefault.{BuildHasherDefault}
 use Rattle.node_arena.specs.declared.TheConstants.{NONE, MOST_CELLS}
 use Rattle.node_arena.specs.declared.node.Node.{Node}
+use Rattle.node_arena.specs.declared.numbers.Numbers.{Numbers}
+use Rattle.node_arena.specs.declared.numbers.Numbers.TheVariants.{Listed, Mapped}
 use Rattle.node_arena.specs.Nodes.{Nodes}
 
--- the number of the copy of the cell c, where these are the copies' numbers by the cells' own
-abbrev pub copy_in : List ℕ → ℕ → ℕ
-copy_in numbers c = get_or numbers c NONE
+-- the number at c, and that of no cell where there is none
+abbrev pub mapped_in : HashMap ℕ ℕ (BuildHasherDefault FoldHasher) → ℕ → ℕ
+mapped_in numbers c = unwrap_or (hash.get nat_eq numbers c) NONE
+
+-- the number of the copy of the cell c
+abbrev pub copy_in : Numbers → ℕ → ℕ
+copy_in (Listed numbers) c = get_or numbers.items c NONE
+copy_in (Mapped numbers) c = mapped_in numbers c
+
+-- there is room for the number of the copy of c
+abbrev pub Covers : Numbers → ℕ → Type 0
+Covers (Listed numbers) c = c < length numbers.items
+Covers (Mapped numbers) c = Unit {0}
+
+-- the copy of this cell has this number, and each other cell's is as it was
+pub record IsPut (old new : Numbers) (cell copy : ℕ) : Type 0 where
+  pub here : copy_in new cell ≡ copy
+  pub others : (c : ℕ) → (c ≡ cell → ⊥) → copy_in new c ≡ copy_in old c
+  pub covers : (c : ℕ) → Covers old c → Covers new c
 
 -- the slots in use are those of the copies of the cells for which P holds, one each
 pub record HaveSlots (copy : ℕ → ℕ) (copies : Nodes) (P : ℕ → Type 0) : Type 0 where

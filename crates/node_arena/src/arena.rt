@@ -11,8 +11,9 @@ ghost use Rattle.node_arena.specs.Copies.{IsCopy};
 use crate::NONE;
 use crate::cell::{Cell, number_of};
 use crate::closing::Closing;
-use crate::copying::{copied, move_nodes, place_cells, replace_cells};
+use crate::copying::{move_nodes, place_cells, replace_cells};
 use crate::node::{Node, accept_cell, lower, newest_without, raise, set_newer, unlink};
+use crate::numbers::Numbers;
 use raw_cells::Slots;
 use span_core::{Marks, OutOfMemory, Steps};
 use std::alloc::Global;
@@ -205,8 +206,7 @@ impl Arena {
         steps.tick();
         let mut nodes = Slots::new(alloc);
         nodes.reserve(self.live as usize)?;
-        let mut numbers = Vec::new(alloc);
-        numbers.resize(self.nodes.capacity(), NONE)?;
+        let mut numbers = Numbers::new(alloc, self.live, self.nodes.capacity())?;
         place_cells(
             &self.nodes,
             self.newest,
@@ -214,7 +214,7 @@ impl Arena {
             &mut nodes,
             &mut numbers,
             steps,
-        );
+        )?;
         move_nodes(
             &self.nodes,
             self.newest,
@@ -226,7 +226,7 @@ impl Arena {
         replace_cells(&numbers, cells);
         Ok(Arena {
             nodes,
-            newest: copied(&numbers, self.newest),
+            newest: numbers.copied(self.newest),
             live: self.live,
         })
     }

@@ -7,10 +7,9 @@ mod closing;
 mod copying;
 mod head;
 mod node;
+mod numbers;
 mod row;
 mod rows;
-#[cfg(test)]
-mod tests;
 
 pub use arena::Arena;
 pub use cell::{Cell, Link};

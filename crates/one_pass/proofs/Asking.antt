@@ -49,7 +49,7 @@ module _ (t0 : Tabled) (tabled : IsTabled t0) (set : ℕ) (ask : Asked) (given :
   cause_is OutOfMemory h = tt
 
   pub refused_is : (t : Tabled) (g : Graph) (before after : ℕ) → t ≡ t0 → after ≡ before + 1 → HasNotTurned t0 t set ask g before after
-  refused_is t g before after same one = inl (ap held same, record { steps = inr (omega (arith, one)) })
+  refused_is t g before after same one = inl (ap held same, record { steps = omega (arith, one) })
 
   module _ (t : Tabled) (is : t ≡ once_asked t0 (asking set ask)) (now : IsTabled t) (before middle : ℕ) (one : middle ≡ before + 1) where
     pub made_is : HasMade (held t0) (held t) (row_of (held t0) set ask) before middle

@@ -4,13 +4,15 @@ use Rattle.std.proofs.lemmas.List.{append-nil, get_or_append_left}
 use Rattle.span_core.specs.Lists.{Has, AreDistinct}
 use Rattle.span_core.proofs.HasLaws.{Has-append_left, Has-append_right, Has-append_cases, Has-get_or, Has-map, Has-map_cases}
 use Rattle.marked_automaton.specs.Automaton.{Automaton}
-use Rattle.automaton_reading.specs.Reading.{Row, rows_asked}
+use Rattle.automaton_reading.specs.Reading.{Asked, byte_read, rest_taken, ended, Row, next_sets, rows_asked}
 use Rattle.one_pass.specs.Held.{TableView, set_named, weight_of}
 use Rattle.one_pass.specs.Words.{Word}
 use Rattle.output_graph.specs.Graph.{Source}
 use Rattle.one_pass.specs.Layers.{numbers_of}
-use Rattle.one_pass.specs.Places.{Place, Leads, asks, edges_read, sets_after, sets_met}
+use Rattle.one_pass.specs.Places.{Place, Leads, asks, edges_read, sets_after, sets_met, sets_on}
 use Rattle.one_pass.specs.Passes.{Pass, sets_of, Reaches, IsReady, HasGrown, HasRead, HasStopped, HasStoppedAt, Stop, IsExcess}
+use Rattle.one_pass.specs.Making.{making_read}
+use Rattle.one_pass.proofs.Making.{making_append, making_covers}
 use Rattle.one_pass.proofs.ReadWords.{leads_then, then_leads}
 use Rattle.one_pass.proofs.Sets.{Covers, after_covers, met_covers, rows_covers, edges_covers, after_append, edges_append, met_left, met_right, rows_left, rows_right, weight_covers}
 
@@ -64,10 +66,11 @@ grown_then a b c xs ys zs rs qs os g h zx zy or oq = record {
     | inl old ↦ elim (g.rows row old) as (λ _. Has a.rows row ⊎ Has os row) [ inl o ↦ inl o | inr n ↦ inr (or row n) ]
     | inr new ↦ inr (oq row new)
   ];
+  stay = λ row k. h.stay row (g.stay row k);
 }
 
 pub grown_none : (t : TableView) (sets : List (List ℕ)) (rows : List Row) → HasGrown t t sets rows
-grown_none t sets rows = record { graph = refl; limit = refl; kept = ([], append-nil t.sets); sets = λ set h. inl h; rows = λ row h. inl h }
+grown_none t sets rows = record { graph = refl; limit = refl; kept = ([], append-nil t.sets); sets = λ set h. inl h; rows = λ row h. inl h; stay = λ row h. h }
 
 pub grown_more : (a b : TableView) (xs zs : List (List ℕ)) (rs os : List Row) → HasGrown a b xs rs → Covers zs xs → Covers os rs → HasGrown a b zs os
 grown_more a b xs zs rs os g zx or = grown_then a b b xs xs zs rs rs os g (grown_none b xs rs) zx zx or or
@@ -135,6 +138,13 @@ module _ (A : Automaton) (ps qs : List Place) (P Q : Pass) (read : HasRead A ps 
       let all = ap (edges_read A (sets_of P)) all_asks ∙ edges_append A (sets_of P) (asks ps) (asks qs) in
       omega (arith, less, all)
 
+  making_both : AreDistinct (sets_of Q) →
+      making_read A (sets_of P) (asks ps) + making_read A (sets_of Q) (asks qs) ≤ making_read A (sets_of P) (asks (ps ++ qs))
+  making_both distinct =
+      let less = making_covers A (sets_after A (sets_of P) (asks ps)) (sets_of Q) (asks qs) distinct covers in
+      let all = ap (making_read A (sets_of P)) all_asks ∙ making_append A (sets_of P) (asks ps) (asks qs) in
+      omega (arith, less, all)
+
   pub read_then : (R : Pass) → AreDistinct (sets_of Q) → HasRead A qs Q R → HasRead A (ps ++ qs) P R
   read_then R distinct later = record {
     words = λ set w. (there set w, back set w);
@@ -152,6 +162,7 @@ module _ (A : Automaton) (ps qs : List Place) (P Q : Pass) (read : HasRead A ps 
         read.table later.table met_first met_then rows_first rows_then;
     steps = omega (arith, read.steps, later.steps, edges_both distinct);
     cells = omega (arith, read.cells, later.cells, edges_both distinct);
+    rise = omega (arith, read.rise, later.rise, making_both distinct);
   }
     where
       all_after : sets_after A (sets_of P) (asks (ps ++ qs)) ≡ sets_after A (sets_after A (sets_of P) (asks ps)) (asks qs)
@@ -202,9 +213,15 @@ module _ (A : Automaton) (ps qs : List Place) (P Q : Pass) (read : HasRead A ps 
     steps = omega (arith, read.steps, later.steps, edges_both distinct);
   }
 
+-- what one place leads to
+pub on_met : (A : Automaton) (sets : List (List ℕ)) (a : Asked) → Covers (sets_met A sets (a ∷ [])) (sets_on A sets a)
+on_met A sets (byte_read b) set k = Has-append_right sets (next_sets A sets (byte_read b)) set k
+on_met A sets rest_taken set k = Has-append_right sets (next_sets A sets rest_taken) set k
+on_met A sets ended set k = absurd k
+
 -- what was given up at one place
 pub stopped_at : (A : Automaton) (p : Place) (P : Pass) (S : Stop) → HasStoppedAt A p P S → HasStopped A (p ∷ []) P S
-stopped_at A p P S s = record { table = s.table; sound = s.sound; made = s.made; distinct = s.distinct; few = s.few; rows = s.rows; steps = omega (arith, s.steps) }
+stopped_at A p P S s = record { table = grown_more P.table S.table (sets_on A (sets_of P) p.ask) (sets_met A (sets_of P) (p.ask ∷ [])) (rows_asked A (sets_of P) (p.ask ∷ [])) (rows_asked A (sets_of P) (p.ask ∷ [])) s.table (on_met A (sets_of P) p.ask) (λ row h. h); sound = s.sound; made = s.made; distinct = s.distinct; few = s.few; rows = s.rows; steps = omega (arith, s.steps) }
 
 -- ---- what was given up before more places
 

@@ -88,6 +88,7 @@ module _ (A : Automaton) (n : ℕ) (P : Pass) where
         | inl old ↦ inl old
         | inr new ↦ inr (Has-append_left (map (λ set. let r : Row = record { set = set; ask = ended } in r) (sets_of P)) [] row new)
       ];
+      stay = all.spent.table.stay;
     };
     every = (let l = ap (λ (xs : List Source). length xs) all.spent.layer in omega (arith, all.spent.stepped, l));
     sound = all.spent.sound;

@@ -37,6 +37,7 @@ read_none A P = record {
   table = grown_none P.table (sets_of P) [];
   steps = omega arith;
   cells = omega arith;
+  rise = omega arith;
 }
 
 -- ---- after some places

@@ -237,6 +237,7 @@ turned_stepped layer k at g h es t within step distinct = record {
       let f = step.few in
       omega (arith, a, b, c, f);
   apart = λ _. distinct;
+  hands_on = λ to is new. step.hands_on to (ap edges_of is) (λ h. new (subst (λ xs. Has xs to) (sym (numbers_are g.cells g.next)) h));
 }
   where
     old_words : (s : ℕ) (w : Word) → HasWord (targets g) s w ⊎ Brings (source_at layer k).words at es s w → HasWord (targets g) s w ⊎ out.Brings (source_at layer k).words at (edges_of es) s w

@@ -6,6 +6,7 @@ pub mod Faulting
 pub mod GraphBridge
 pub mod KnownLaws
 pub mod LawProofs
+pub mod Making
 pub mod Numbered
 pub mod PartLaws
 pub mod Parting

@@ -14,7 +14,7 @@ use Rattle.one_pass.specs.Places.{Place, Leads, sets_met}
 use Rattle.one_pass.specs.Passes.{Pass, pass, sets_of, Reaches, IsReady, HasGrown, HasRead}
 use Rattle.one_pass.proofs.Sets.{Covers, next_cases, has_next}
 use Rattle.one_pass.proofs.Composing.{grown_none}
-use Rattle.one_pass.proofs.Stepping.{Arrives, HasNext, source_edges, LeadsWith, place_edges, IsStepping, met_here}
+use Rattle.one_pass.proofs.Stepping.{Arrives, HasNext, source_edges, LeadsWith, place_edges, place_making, IsStepping, met_here}
 
 pub no_marks : (i m : ℕ) (b : ℕ × ℕ) → m ≡ 0 → Has (block_word i m) b → ⊥
 no_marks i m b e h = none (subst (λ k. Has (block_word i k) b) e h)
@@ -66,6 +66,7 @@ module _ (A : Automaton) (p : Place) (P : Pass) where
       table = grown;
       steps = omega (arith, all.spent.steps, all.few, place_edges A p P, live, ap length layer);
       cells = omega (arith, all.spent.cells, place_edges A p P, live);
+      rise = omega (arith, all.rise, place_making A p P, live);
     }
       where
         there : (set : List ℕ) (w : Word) → Reaches R set w → (from : List ℕ) × (u v : Word) × Reaches P from u × Leads A (p ∷ []) from v set × (u ++ v ≡ w)
@@ -120,6 +121,7 @@ module _ (A : Automaton) (p : Place) (P : Pass) where
             | inl old ↦ inl old
             | inr new ↦ inr (rows_here row new)
           ];
+          stay = all.spent.table.stay;
         }
 
     -- the layer that comes next is ready for a later position, or for the same where no edge has marks
@@ -172,6 +174,7 @@ module _ (A : Automaton) (p : Place) (P : Pass) where
     table = grown_none P.table (sets_met A (sets_of P) (p.ask ∷ [])) (rows_asked A (sets_of P) (p.ask ∷ []));
     steps = omega arith;
     cells = omega arith;
+    rise = omega arith;
   }
     where
       one : (x : Source) → Has P.graph.layer x → (e : Reach) → Has (source_edges A p P x) e → (e.marks ≡ 0) × (e.to ≡ set_named P.table x.set)

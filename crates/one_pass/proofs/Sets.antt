@@ -8,7 +8,7 @@ use Rattle.span_core.proofs.HasLaws.{Has-append_left, Has-append_right, Has-appe
 use Rattle.marked_automaton.specs.Automaton.{Automaton}
 use Rattle.marked_automaton.proofs.Passing.{has_flat_map, flat_map_cases}
 use Rattle.automaton_reading.specs.Reading.{Asked, Reach, Row, edges, next_sets, once, row_edges, row_same, rows_asked}
-use Rattle.automaton_reading.proofs.Matching.{match_sum, once_has, has_once, once_distinct, map_distinct}
+use Rattle.automaton_reading.proofs.Matching.{cons_sum, match_sum, once_has, has_once, once_distinct, map_distinct}
 use Rattle.automaton_reading.proofs.MeasureLaws.{same_bytes, bytes_itself, same_row, row_itself}
 use Rattle.one_pass.specs.Held.{weight_of}
 use Rattle.one_pass.specs.Places.{sets_after, sets_met, edges_read}
@@ -22,6 +22,12 @@ pub sum_covers : {X : Type 0} (w : X → ℕ) (xs ys : List X) → AreDistinct y
 sum_covers {X} w xs ys distinct cover =
     match_sum (λ (x y : X). x ≡ y) w w ys xs distinct
     (λ x h. (x, cover x h, refl, omega arith)) (λ x z y a b. a ∙ sym b)
+
+pub sum_map : {X Y : Type 0} (f : Y → ℕ) (g : X → Y) (xs : List X) → sum_by f (map g xs) ≡ sum_by (λ x. f (g x)) xs
+sum_map f g [] = refl
+sum_map {X} f g (x ∷ xs) =
+    let h : X → ℕ = λ x. f (g x) in
+    cons_sum f (g x) (map g xs) ∙ (ap (λ n. f (g x) + n) (sum_map f g xs) ∙ sym (cons_sum h x xs))
 
 module _ (A : Automaton) where
   abbrev led : Asked → List ℕ → List (List ℕ)

@@ -14,23 +14,13 @@ use Rattle.one_pass.specs.Held.{TableView, IsSound, AreNumbered, HasMade, IsRefu
 use Rattle.one_pass.specs.Words.{Word, block_word}
 use Rattle.output_graph.specs.Graph.{Source}
 use Rattle.one_pass.specs.Layers.{GraphView, HasWord, HasCost, Brings, numbers_of}
-use Rattle.one_pass.specs.Places.{Place, edges_read, sets_met}
+use Rattle.one_pass.specs.Places.{Place, edges_read, sets_met, sets_on}
 use Rattle.one_pass.specs.Passes.{Pass, pass, sets_of, stop, IsReady, HasGrown, HasStoppedAt, IsExcess}
-use Rattle.one_pass.proofs.Sets.{Covers, has_next, weight_covers}
+use Rattle.one_pass.specs.Making.{edges_to, making_of, making_read}
+use Rattle.one_pass.proofs.Making.{leads_once, led_twice, lone_edge, making_step}
+use Rattle.one_pass.proofs.Sets.{Covers, has_next, sum_map, weight_covers}
 use Rattle.one_pass.proofs.Numbered.{edge_reach, reach_edge, numbered_length, named_there}
-use Rattle.one_pass.proofs.Composing.{grown_length, grown_more, grown_named}
-
-pub sum_map : {X Y : Type 0} (f : Y → ℕ) (g : X → Y) (xs : List X) → sum_by f (map g xs) ≡ sum_by (λ x. f (g x)) xs
-sum_map f g [] = refl
-sum_map {X} f g (x ∷ xs) =
-    let h : X → ℕ = λ x. f (g x) in
-    cons_sum f (g x) (map g xs) ∙ (ap (λ n. f (g x) + n) (sum_map f g xs) ∙ sym (cons_sum h x xs))
-
--- the sets that are reached by what is asked; ends lead to none
-abbrev pub sets_on : Automaton → List (List ℕ) → Asked → List (List ℕ)
-sets_on A sets (byte_read b) = next_sets A sets (byte_read b)
-sets_on A sets rest_taken = next_sets A sets rest_taken
-sets_on A sets ended = []
+use Rattle.one_pass.proofs.Composing.{grown_length, grown_more, grown_named, on_met}
 
 -- a set of the next layer, and a word of it
 abbrev pub Arrives : Pass → List ℕ → Word → Type 0
@@ -57,6 +47,10 @@ module _ (A : Automaton) (p : Place) (P : Pass) where
   abbrev pub edges_of : List Source → ℕ
   edges_of done = sum_by (λ (x : Source). length (source_edges x)) done
 
+  -- the making edges of these sources
+  abbrev pub making_by : List Source → ℕ
+  making_by done = sum_by (λ (x : Source). making_of A (sets_of P) p.ask (set_named P.table x.set)) done
+
   -- these sources have been asked, and the graph has taken what came
   pub record IsSpending (done : List Source) (Q : Pass) : Type 0 where
     pub layer : Q.graph.layer ≡ P.graph.layer
@@ -77,10 +71,17 @@ module _ (A : Automaton) (p : Place) (P : Pass) where
     pub apart : AreDistinct (numbers_of Q.graph.next)
     pub given : (s : ℕ) → Has (numbers_of Q.graph.next) s → s < length Q.table.sets
     pub few : length Q.graph.next ≤ edges_of done
+    pub rise : Q.graph.live ≤ P.graph.live + making_by done
 
   snoc_edges : (done : List Source) (x : Source) → edges_of (done ++ x ∷ []) ≡ edges_of done + length (source_edges x)
   snoc_edges done x =
       let f : Source → ℕ = λ y. length (source_edges y) in
+      let one = cons_sum f x [] in
+      omega (arith, sum_by-append f done (x ∷ []), one)
+
+  snoc_making : (done : List Source) (x : Source) → making_by (done ++ x ∷ []) ≡ making_by done + making_of A (sets_of P) p.ask (set_named P.table x.set)
+  snoc_making done x =
+      let f : Source → ℕ = λ y. making_of A (sets_of P) p.ask (set_named P.table y.set) in
       let one = cons_sum f x [] in
       omega (arith, sum_by-append f done (x ∷ []), one)
 
@@ -98,18 +99,18 @@ module _ (A : Automaton) (p : Place) (P : Pass) where
       ∙ (sum_map (row_edges A) (λ set. let r : Row = record { set = set; ask = p.ask } in r) (sets_of P)
       ∙ sum_map (λ set. length (edges A set p.ask)) (λ (x : Source). set_named P.table x.set) P.graph.layer)
 
+  pub place_making : making_read A (sets_of P) (p.ask ∷ []) ≡ making_by P.graph.layer
+  place_making =
+      let same = sum_map (making_of A (sets_of P) p.ask) (λ (x : Source). set_named P.table x.set) P.graph.layer in
+      omega (arith, same)
+
   pub met_here : Covers (sets_met A (sets_of P) (p.ask ∷ [])) (sets_on A (sets_of P) p.ask)
-  met_here set h = by p.ask h
-    where
-      by : (a : Asked) → Has (sets_on A (sets_of P) a) set → Has (sets_met A (sets_of P) (a ∷ [])) set
-      by (byte_read b) k = Has-append_right (sets_of P) (next_sets A (sets_of P) (byte_read b)) set k
-      by rest_taken k = Has-append_right (sets_of P) (next_sets A (sets_of P) rest_taken) set k
-      by ended k = absurd k
+  met_here = on_met A (sets_of P) p.ask
 
   -- what was asked for here
-  grown_at : (t u : TableView) → HasGrown t u (sets_on A (sets_of P) p.ask) asked_rows → HasGrown t u (sets_met A (sets_of P) (p.ask ∷ [])) (rows_asked A (sets_of P) (p.ask ∷ []))
+  grown_at : (t u : TableView) → HasGrown t u (sets_on A (sets_of P) p.ask) asked_rows → HasGrown t u (sets_on A (sets_of P) p.ask) (rows_asked A (sets_of P) (p.ask ∷ []))
   grown_at t u g =
-      grown_more t u (sets_on A (sets_of P) p.ask) (sets_met A (sets_of P) (p.ask ∷ [])) asked_rows (rows_asked A (sets_of P) (p.ask ∷ [])) g met_here
+      grown_more t u (sets_on A (sets_of P) p.ask) (sets_on A (sets_of P) p.ask) asked_rows (rows_asked A (sets_of P) (p.ask ∷ [])) g (λ set h. h)
       (λ row h. Has-append_left asked_rows [] row h)
 
   -- nothing has been stepped
@@ -117,7 +118,7 @@ module _ (A : Automaton) (p : Place) (P : Pass) where
   spending_none at r = record {
     layer = refl;
     stepped = r.fresh.0;
-    table = record { graph = refl; limit = refl; kept = ([], append-nil P.table.sets); sets = λ set h. inl h; rows = λ row h. inl h };
+    table = record { graph = refl; limit = refl; kept = ([], append-nil P.table.sets); sets = λ set h. inl h; rows = λ row h. inl h; stay = λ row h. h };
     sound = r.sound;
     steps = omega arith;
     cells = omega arith;
@@ -132,6 +133,7 @@ module _ (A : Automaton) (p : Place) (P : Pass) where
     apart = subst (λ xs. AreDistinct (numbers_of xs)) (sym r.fresh.1) tt;
     given = λ s h. absurd (none_has_number s (subst (λ xs. Has (numbers_of xs) s) r.fresh.1 h));
     few = subst (λ (xs : List Source). length xs ≤ 0) (sym r.fresh.1) (omega arith);
+    rise = omega arith;
   }
     where
       none_has : (x : Source) → Has [] x → ⊥
@@ -196,8 +198,16 @@ module _ (A : Automaton) (p : Place) (P : Pass) where
           | inr new ↦ inr (target_there set new)
         ];
         rows = λ row h. rows_now made.rows row h;
+        stay = λ row h. stays_now made.rows row (spent.table.stay row h);
       }
         where
+          stays_now :
+              ((t.rows ≡ Q.table.rows) × (n ≤ Q.steps + 1))
+              ⊎ (¬ Has Q.table.rows row_here × (t.rows ≡ Q.table.rows ++ row_here ∷ []) × (n ≤ Q.steps + (1 + size Q.table.graph))) →
+              (row : Row) → Has Q.table.rows row → Has t.rows row
+          stays_now (inl same) row h = subst (λ rows. Has rows row) (sym same.0) h
+          stays_now (inr more) row h = subst (λ rows. Has rows row) (sym more.1) (Has-append_left Q.table.rows (row_here ∷ []) row h)
+
           before_or : (row : Row) → Has (Q.table.rows ++ row_here ∷ []) row → Has P.table.rows row ⊎ Has asked_rows row
           before_or row h = elim (Has-append_cases Q.table.rows (row_here ∷ []) row h) as (λ _. Has P.table.rows row ⊎ Has asked_rows row) [
             | inl old ↦ spent.table.rows row old
@@ -284,24 +294,8 @@ module _ (A : Automaton) (p : Place) (P : Pass) where
           | inr new ↦ inr (Has-append_left asked_rows [] row new)
         ]
 
-        by : (¬ Has Q.table.rows row_here × (n ≤ Q.steps + (1 + size Q.table.graph))) ⊎ (n ≤ Q.steps + 1) → HasStoppedAt A p P (stop Q.table n)
-        by (inl new) = record {
-          table = grown_at P.table Q.table spent.table;
-          sound = spent.sound;
-          made = row_here ∷ Q.table.rows;
-          distinct = (new.0, spent.sound.rows);
-          few = omega arith;
-          rows = λ row h. elim h as (λ _. Has P.table.rows row ⊎ Has (rows_asked A (sets_of P) (p.ask ∷ [])) row) [
-            | inl e ↦ inr (Has-append_left asked_rows [] row (subst (Has asked_rows) e row_there))
-            | inr k ↦ before row k
-          ];
-          steps =
-              let a = ap length all in
-              let b = ap edges_of all in
-              let z = ap size graph_is in
-              omega (arith, spent.steps, new.1, l, s, a, b, z, place_edges);
-        }
-        by (inr less) = record {
+        by : n ≤ Q.steps + 1 → HasStoppedAt A p P (stop Q.table n)
+        by less = record {
           table = grown_at P.table Q.table spent.table;
           sound = spent.sound;
           made = Q.table.rows;
@@ -366,6 +360,8 @@ module _ (A : Automaton) (p : Place) (P : Pass) where
             (sets : (s : ℕ) → Has (numbers_of g.next) s ↔ (Has (numbers_of Q.graph.next) s ⊎ Has (map (λ (e : Edge). e.to) es) s))
             (few : length g.next ≤ length Q.graph.next + length es)
             (apart : AreDistinct (numbers_of Q.graph.next) → AreDistinct (numbers_of g.next))
+            (hands_on : (to : ℕ) → es ≡ record { marks = 0; to = to } ∷ [] → (Has (numbers_of Q.graph.next) to → ⊥) → g.live ≤ Q.graph.live)
+            (left : List Source) (all : done ++ x ∷ left ≡ P.graph.layer)
             (cost : HasCost (length es) Q.graph.live g.live n m) where
           word_number : (next : List Source) (s : ℕ) (w : Word) → HasWord next s w → Has (numbers_of next) s
           word_number next s w h = subst (Has (numbers_of next)) h.2 (Has-map (λ (y : Source). y.set) next h.0 h.1)
@@ -392,8 +388,26 @@ module _ (A : Automaton) (p : Place) (P : Pass) where
             apart = apart past.apart;
             given = λ s h. given_now s ((sets s).0 h);
             few = omega (arith, few, past.few, edges_count, snoc_edges done x);
+            rise = omega (arith, past.rise, made_here, snoc_making done x);
           }
             where
+              -- an edge of an earlier source leads to each set of the next layer, so that the lone edge of this one is no making
+              -- edge only where its target is new
+              is_new : (r : Reach) → source_edges x ≡ r ∷ [] → r.marks ≡ 0 → edges_to A (sets_of P) p.ask r.to ≤ 1 → g.live ≤ Q.graph.live
+              is_new r lone none few =
+                  let e = to_edge r (subst (λ (rs : List Reach). Has rs r) (sym lone) (inl refl)) in
+                  hands_on e.0.to (lone_edge es (e.0) (edges_count ∙ ap length lone) e.1 (e.2 ∙ none)) (λ h.
+                  let k = past.given e.0.to h in
+                  let l = (past.sets r.to).0 (e.0.to, sym (named_now t n made e.0.to k) ∙ e.3, h) in
+                  let two = led_twice A (sets_of P) p.ask r.to (λ (y : Source). set_named P.table y.set) done x left P.graph.layer all refl l.0 l.1
+                  (leads_once A p.ask r.to (set_named P.table l.0.set) l.2 l.3 l.4) (leads_once A p.ask r.to (set_named P.table x.set) r (subst (λ (rs : List Reach). Has rs r) (sym lone) (inl refl)) refl) in
+                  omega (arith, two, few))
+
+              made_here : g.live ≤ Q.graph.live + making_of A (sets_of P) p.ask (set_named P.table x.set)
+              made_here =
+                  let c = cost in
+                  making_step A (sets_of P) p.ask (set_named P.table x.set) (source_edges x) refl Q.graph.live g.live (omega (arith, c.2, c.3, edges_count)) is_new
+
               given_now : (s : ℕ) → Has (numbers_of Q.graph.next) s ⊎ Has (map (λ (e : Edge). e.to) es) s → s < length t.sets
               given_now s (inl old) = let l = past.given s old in omega (arith, l, kept_length t n made)
               given_now s (inr new) =

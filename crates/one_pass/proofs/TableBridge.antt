@@ -18,8 +18,7 @@ use Rattle.set_table.specs.Tabled.{Asking, Tabled, IsTabled, asked_first, asked_
 use Rattle.one_pass.specs.Builds.{IsNew}
 use Rattle.one_pass.specs.Seen.{held, row_in}
 use Rattle.one_pass.proofs.Composing.{named_apart}
-use Rattle.one_pass.proofs.Sets.{Covers, sum_covers}
-use Rattle.one_pass.proofs.Stepping.{sum_map}
+use Rattle.one_pass.proofs.Sets.{Covers, sum_covers, sum_map}
 
 pub held_new : (A : Automaton) (limit : ℕ) → IsNew A (held (fresh A limit))
 held_new A limit = record { graph = refl; sets = refl; rows = refl }

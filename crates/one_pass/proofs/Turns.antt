@@ -15,13 +15,13 @@ use Rattle.one_pass.specs.Words.{Word, block_word}
 use Rattle.output_graph.specs.Graph.{Source}
 use Rattle.one_pass.specs.Layers.{GraphView, Brings, BringsEnd, Descend, HasCost, HasEndedSource, HasStepped, HasWord, no_source, source_at}
 use Rattle.one_pass.specs.Faults.{IsFaultOf}
-use Rattle.one_pass.specs.Places.{Place, asks, end_at, sets_met}
+use Rattle.one_pass.specs.Places.{Place, asks, end_at, sets_met, sets_on}
 use Rattle.one_pass.specs.Passes.{Pass, pass, sets_of, stop, IsReady, HasRead, HasStoppedAt}
 use Rattle.one_pass.proofs.Composing.{excess_grown, grown_length, grown_none}
 use Rattle.one_pass.proofs.Ending.{ending_more, IsEnding}
 use Rattle.one_pass.proofs.Numbered.{numbered_descend}
 use Rattle.one_pass.proofs.PlaceLaws.{place_read, place_ready}
-use Rattle.one_pass.proofs.Stepping.{edges_count, heavy_excess, met_here, named_before, named_now, source_edges, sets_on, stepping_more, stopped_by_graph, stopped_by_table, IsSpending, IsStepping}
+use Rattle.one_pass.proofs.Stepping.{edges_count, heavy_excess, met_here, named_before, named_now, source_edges, stepping_more, stopped_by_graph, stopped_by_table, IsSpending, IsStepping}
 
 module _ (p : Place) (P : Pass) (at : ℕ) (ready : IsReady P at) (k : ℕ) (Q : Pass)
     (past : IsSpending P.table.graph p P (take k P.graph.layer) Q) (within : k < length Q.graph.layer)
@@ -108,7 +108,7 @@ module _ (p : Place) (P : Pass) (at : ℕ) (ready : IsReady P at) (k : ℕ) (Q :
           (stepping_more P.table.graph p P (take k P.graph.layer) Q x refl past there known t n made_here es numbered_here stepping g m
           h.layer h.accepted h.stepped
           (subst (λ xs. (s : ℕ) (w : Word) → HasWord g.next s w ↔ (HasWord Q.graph.next s w ⊎ Brings (source_at xs k).words p.at es s w)) past.layer h.words)
-          h.sets h.few h.apart cost)
+          h.sets h.few h.apart h.hands_on left split cost)
 
 -- one source more has been ended
 pub turn_ended : (at : ℕ) (P : Pass) → IsReady P at → (k : ℕ) (Q : Pass) → IsEnding P.table.graph at P (take k P.graph.layer) Q → k < length Q.graph.layer →

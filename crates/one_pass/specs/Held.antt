@@ -78,9 +78,9 @@ pub record IsTooHeavy (t : TableView) (row : Row) (weight : ℕ) : Type 0 where
   pub is : weight ≤ weight_of t.graph (t.sets ++ targets t.graph row) (row ∷ t.rows)
   pub more : t.limit < weight
 
--- the row was not made: where it was not there, asking for it took no more steps than making it, and else one
+-- the row was not made; to ask for it took one step at most
 pub record IsRefused (t : TableView) (row : Row) (before after : ℕ) : Type 0 where
-  pub steps : (¬ Has t.rows row × (after ≤ before + (1 + size t.graph))) ⊎ (after ≤ before + 1)
+  pub steps : after ≤ before + 1
 
 -- the table of the start states' set alone
 abbrev pub new_table : Automaton → ℕ → TableView

@@ -67,6 +67,8 @@ pub record HasStepped (old new : GraphView) (k at : ℕ) (edges : List Edge) : T
   pub sets : (s : ℕ) → Has (numbers_of new.next) s ↔ (Has (numbers_of old.next) s ⊎ Has (map (λ (e : Edge). e.to) edges) s)
   pub few : length new.next ≤ length old.next + length edges
   pub apart : AreDistinct (numbers_of old.next) → AreDistinct (numbers_of new.next)
+  -- a lone edge without marks to a set that is new makes no cell
+  pub hands_on : (to : ℕ) → edges ≡ record { marks = 0; to = to } ∷ [] → (Has (numbers_of old.next) to → ⊥) → new.live ≤ old.live
 
 -- source k of the layer has been ended at a position
 pub record HasEndedSource (old new : GraphView) (k at : ℕ) (ends : List ℕ) : Type 0 where

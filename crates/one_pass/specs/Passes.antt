@@ -7,7 +7,8 @@ use Rattle.one_pass.specs.Held.{TableView, IsSound, StaysOn, set_named, weight_o
 use Rattle.one_pass.specs.Words.{Word}
 use Rattle.output_graph.specs.Graph.{Source}
 use Rattle.one_pass.specs.Layers.{GraphView, IsPast, numbers_of}
-use Rattle.one_pass.specs.Places.{Place, Leads, asks, edges_read, end_at, sets_after, sets_met}
+use Rattle.one_pass.specs.Making.{making_read}
+use Rattle.one_pass.specs.Places.{Place, Leads, asks, edges_read, end_at, sets_after, sets_met, sets_on}
 
 -- the table, the graph, and the steps that were taken
 pub record Pass : Type 0 where
@@ -56,6 +57,7 @@ pub record HasGrown (old new : TableView) (more_sets : List (List ℕ)) (more_ro
   pub kept : (more : List (List ℕ)) × (old.sets ++ more ≡ new.sets)
   pub sets : (set : List ℕ) → Has new.sets set → Has old.sets set ⊎ Has more_sets set
   pub rows : (row : Row) → Has new.rows row → Has old.rows row ⊎ Has more_rows row
+  pub stay : (row : Row) → Has old.rows row → Has new.rows row
 
 -- the table keeps what it holds
 pub record HasKept (old new : TableView) : Type 0 where
@@ -81,6 +83,8 @@ pub record HasRead (A : Automaton) (ps : List Place) (P Q : Pass) : Type 0 where
       Q.steps + Q.graph.live + 3 * length Q.graph.layer + length P.table.rows * size A
       ≤ P.steps + P.graph.live + 3 * length P.graph.layer + 6 * edges_read A (sets_of P) (asks ps) + length Q.table.rows * size A
   pub cells : Q.graph.live ≤ P.graph.live + edges_read A (sets_of P) (asks ps)
+  -- only making edges let the number of live cells rise
+  pub rise : Q.graph.live ≤ P.graph.live + making_read A (sets_of P) (asks ps)
 
 -- what is left where reading was given up
 pub record Stop : Type 0 where
@@ -90,14 +94,14 @@ pub record Stop : Type 0 where
 abbrev pub stop : TableView → ℕ → Stop
 stop t n = record { table = t; steps = n }
 
--- reading was given up: the table keeps what it holds, and the rows that were made then, with the one that was
--- refused, paid for the steps, with so much for the edges
-pub record StopsWithin (A : Automaton) (ps : List Place) (P : Pass) (for_edges : ℕ) (S : Stop) : Type 0 where
-  pub table : HasGrown P.table S.table (sets_met A (sets_of P) (asks ps)) (rows_asked A (sets_of P) (asks ps))
+-- reading was given up: the table keeps what it holds, and the rows that were made then paid for the steps, with so much
+-- for the edges
+pub record StopsWithin (A : Automaton) (ps : List Place) (P : Pass) (more : List (List ℕ)) (for_edges : ℕ) (S : Stop) : Type 0 where
+  pub table : HasGrown P.table S.table more (rows_asked A (sets_of P) (asks ps))
   pub sound : IsSound S.table
   pub made : List Row
   pub distinct : AreDistinct made
-  pub few : length made ≤ length S.table.rows + 1
+  pub few : length made ≤ length S.table.rows
   pub rows : (row : Row) → Has made row → Has P.table.rows row ⊎ Has (rows_asked A (sets_of P) (asks ps)) row
   pub steps :
       S.steps + length P.table.rows * size A
@@ -105,11 +109,11 @@ pub record StopsWithin (A : Automaton) (ps : List Place) (P : Pass) (for_edges :
 
 -- with 6 for each edge where places are read
 abbrev pub HasStopped : Automaton → List Place → Pass → Stop → Type 0
-HasStopped A ps P S = StopsWithin A ps P (6 * edges_read A (sets_of P) (asks ps)) S
+HasStopped A ps P S = StopsWithin A ps P (sets_met A (sets_of P) (asks ps)) (6 * edges_read A (sets_of P) (asks ps)) S
 
--- and 3 where it was one place
+-- and 3 where it was one place, whose sets alone are made
 abbrev pub HasStoppedAt : Automaton → Place → Pass → Stop → Type 0
-HasStoppedAt A p P S = StopsWithin A (p ∷ []) P (3 * edges_read A (sets_of P) (p.ask ∷ [])) S
+HasStoppedAt A p P S = StopsWithin A (p ∷ []) P (sets_on A (sets_of P) p.ask) (3 * edges_read A (sets_of P) (p.ask ∷ [])) S
 
 -- more than the limit, and no more than the table held with these sets and rows
 pub record IsExcess (t : TableView) (sets : List (List ℕ)) (rows : List Row) (weight : ℕ) : Type 0 where

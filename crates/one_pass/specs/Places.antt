@@ -72,6 +72,12 @@ abbrev pub sets_met : Automaton → List (List ℕ) → List Asked → List (Lis
 sets_met A sets [] = sets
 sets_met A sets (a ∷ later) = sets ++ sets_met A (next_sets A sets a) later
 
+-- those that are reached by one question; ends lead to none
+abbrev pub sets_on : Automaton → List (List ℕ) → Asked → List (List ℕ)
+sets_on A sets (byte_read b) = next_sets A sets (byte_read b)
+sets_on A sets rest_taken = next_sets A sets rest_taken
+sets_on A sets ended = []
+
 -- the edges on the way
 abbrev pub edges_read : Automaton → List (List ℕ) → List Asked → ℕ
 edges_read A sets questions = sum_by (row_edges A) (rows_asked A sets questions)

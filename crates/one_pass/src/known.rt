@@ -20,8 +20,8 @@ use std::alloc::Global;
 /// A layer with more sets is not kept: finding the targets of its edges one by one would cost more than a step.
 const MOST_SETS: usize = 256;
 
-/// How many words of four bytes may be kept, about. What comes later is read without being kept.
-const MOST_WORDS: usize = 4_194_304;
+/// How many words of four bytes are kept of one document at most, about.
+pub(crate) const MOST_WORDS: usize = 4_194_304;
 
 /// The words of a step beside those of its edges and sources.
 const STEP_WORDS: usize = 32;
@@ -37,9 +37,9 @@ pub const STILL: u32 = 1;
 
 /// What a layer does on a byte, and the number of the layer that it leads to.
 #[derive(Drop)]
-pub struct KnownStep {
-    pub program: Program,
-    pub next: usize,
+pub(crate) struct KnownStep {
+    pub(crate) program: Program,
+    pub(crate) next: usize,
 }
 
 /// Layers with numbers, by their sets in their order, and what each does on the bytes that were read in it. All of it
@@ -48,16 +48,17 @@ pub struct KnownStep {
 #[derive(Drop)]
 pub struct Known {
     alloc: Global,
-    pub layers: Sets,
-    pub entries: Vec<u32>,
-    pub steps: Vec<KnownStep>,
-    pub stays: ByteSet,
+    pub(crate) layers: Sets,
+    pub(crate) entries: Vec<u32>,
+    pub(crate) steps: Vec<KnownStep>,
+    pub(crate) stays: ByteSet,
     left: usize,
 }
 
 impl Known {
-    /// Nothing is known. Takes no memory.
-    pub fn new(alloc: Global) -> Known
+    /// Nothing is known, and about so many words of four bytes may be kept. What comes later is read without being kept, and no
+    /// slower than a first time. Takes no memory.
+    pub fn new(alloc: Global, words: usize) -> Known
         ensures { (t : TableView) → Knows t result }
     {
         Known {
@@ -66,12 +67,12 @@ impl Known {
             entries: Vec::new(alloc),
             steps: Vec::new(alloc),
             stays: ByteSet::empty(),
-            left: MOST_WORDS,
+            left: words,
         }
     }
 
     /// What is entered for a byte of a layer.
-    pub fn entry(&self, layer: usize, byte: u8) -> u32
+    pub(crate) fn entry(&self, layer: usize, byte: u8) -> u32
         requires { layer < length self.now.layers }
         ensures { (t : TableView) → Knows t self.now → IsEntry t self.now.layers self.now.steps.items byte (layer_at self.now.layers layer) result }
     {
@@ -83,7 +84,7 @@ impl Known {
 
     /// Keeps what the layer of a number does on a byte, which has been asked of each of its sets, and where the graph
     /// stands now.
-    pub fn note(
+    pub(crate) fn note(
         &mut self,
         table: &Table<'_>,
         graph: &OutputGraph,
@@ -103,7 +104,7 @@ impl Known {
     }
 
     /// The number of the graph's layer. If it has none, the bytes on which the layer stays are kept.
-    pub fn stand(&mut self, table: &Table<'_>, graph: &OutputGraph) -> Option<usize>
+    pub(crate) fn stand(&mut self, table: &Table<'_>, graph: &OutputGraph) -> Option<usize>
         requires known { Knows (held table.now) self.old }
         requires given { AreGiven (held table.now) (whole graph.now) }
         requires fresh { graph.now.stepped ≡ 0 }

@@ -6,8 +6,9 @@
 //! the automaton and the document alone.
 #![tactic(auto)]
 
+pub use known::Known;
 pub use listing::read_rows;
-pub use pieces::{advance, finish};
+pub use pieces::{advance, advance_by, finish};
 pub use reading::read;
 
 mod bytes;
@@ -18,5 +19,3 @@ mod passes;
 mod pieces;
 mod places;
 mod reading;
-#[cfg(test)]
-mod tests;

@@ -24,6 +24,9 @@ use std::sync::ledger::Ledger;
 /// After so many bytes that left the layer as it was, the next one that may change something is searched for.
 const QUIET: u32 = 16;
 
+/// A search that passed over so many bytes went far.
+const FAR: usize = 32;
+
 /// Reads a piece of the document, which stands at `at`, at each of its positions.
 pub fn read_piece<L: Ledger>(
     table: &mut Table<'_>,
@@ -46,11 +49,16 @@ pub fn read_piece<L: Ledger>(
     let mut layer = known.stand(table, graph);
     let mut skipper = Skipper::new();
     let mut quiet = 0;
+    let mut far = None;
     let mut i = 0;
     while i < piece.len() {
+        let searched = quiet == QUIET;
         let here = read_on(table, graph, &mut skipper, piece, i, &mut quiet);
         if here == piece.len() {
             break;
+        }
+        if searched {
+            far = if here - i >= FAR { layer } else { None };
         }
         let next = match read_byte(
             table,
@@ -64,11 +72,27 @@ pub fn read_piece<L: Ledger>(
             Ok(next) => next,
             Err(fault) => return Err(fault),
         };
-        quiet = if next == layer { quiet + 1 } else { 0 };
+        quiet = quiet_at(layer, next, far, quiet);
         layer = next;
         i = here + 1;
     }
     Ok(())
+}
+
+/// For how many bytes the layer counts as unchanged behind one more: at once for enough, where it comes back to one in
+/// which the last search went far.
+#[inline(always)]
+fn quiet_at(before: Option<usize>, after: Option<usize>, far: Option<usize>, quiet: u32) -> u32
+    requires { quiet < QUIET }
+    ensures { result ≤ QUIET }
+{
+    if before == after {
+        return quiet + 1;
+    }
+    match (after, far) {
+        (Some(layer), Some(kept)) if layer == kept => QUIET,
+        _ => 0,
+    }
 }
 
 /// Where a piece is read on from a place: behind the bytes that change nothing, if the layer has been the same for a

@@ -2,16 +2,17 @@
 //!
 //! A pass is a table and a graph between two places. They are handed in and out, so that a caller keeps them between
 //! the pieces that come.
-ghost use Rattle.std.specs.Prelude.{◌≡◌, ℕ, ◌+◌, ◌^◌, ◌≤◌, [], ◌∷◌, length, IfErr, IfOk, OnErr};
+ghost use Rattle.std.specs.Prelude.{◌≡◌, ℕ, ◌+◌, ◌^◌, ◌≤◌, [], ◌∷◌, length, IfErr, IfOk, OnErr, OnOk};
 ghost use Rattle.span_core.specs.Lists.{Has};
 ghost use Rattle.automaton_reading.specs.Reading.{ended, rows_asked};
 ghost use Rattle.output_graph.specs.Graph.{sets_of as numbers_in, sources};
 ghost use Rattle.one_pass.specs.Faults.{IsFaultAt, IsFaultOf};
-ghost use Rattle.one_pass.specs.Passes.{HasEnded, HasRead, HasStopped, HasStoppedAt, IsOpen, pass, sets_of, stop};
+ghost use Rattle.one_pass.specs.Known.{Knows};
+ghost use Rattle.one_pass.specs.Passes.{HasEnded, HasRead, HasStopped, HasStoppedAt, IsOpen, IsReady, pass, sets_of, stop};
 ghost use Rattle.one_pass.specs.Places.{bytes_at, end_at};
 ghost use Rattle.one_pass.specs.Seen.{ending_from, held, whole};
 
-use crate::known::Known;
+use crate::known::{Known, MOST_WORDS};
 use crate::passes::read_piece;
 use crate::places::end_layer;
 use output_graph::OutputGraph;
@@ -43,11 +44,33 @@ pub fn advance<L: Ledger>(
     ensures stopped { OnErr result (HasStopped table.old.graph (bytes_at at piece.now) (pass (held table.old) (whole graph) steps.old) (stop (held table.new) steps.new)) }
     ensures cause { IfErr result (λ e. IsFaultAt (bytes_at at piece.now) (pass (held table.old) (whole graph) steps.old) e) }
 {
+    let mut known = Known::new(alloc, MOST_WORDS);
+    advance_by(table, graph, &mut known, at, piece, steps)
+}
+
+/// As `advance`, by what is known of whole layers of this table, which is kept for the next piece. So a piece costs no
+/// more than it would in one document.
+pub fn advance_by<L: Ledger>(
+    table: &mut Table<'_>,
+    graph: OutputGraph,
+    known: &mut Known,
+    at: u32,
+    piece: &[u8],
+    steps: &mut Steps<L>,
+) -> Result<OutputGraph, TableFault>
+    requires known { Knows (held table.old) known.old }
+    requires open { IsOpen (held table.old) (whole graph) at }
+    requires few { at + length piece.now ≤ 2 ^ 28 }
+    ensures read { IfOk result (λ g. HasRead table.old.graph (bytes_at at piece.now) (pass (held table.old) (whole graph) steps.old) (pass (held table.new) (whole g) steps.new)) }
+    ensures ready { IfOk result (λ g. IsReady (pass (held table.new) (whole g) steps.new) (at + length piece.now)) }
+    ensures known { OnOk result (Knows (held table.new) known.new) }
+    ensures stopped { OnErr result (HasStopped table.old.graph (bytes_at at piece.now) (pass (held table.old) (whole graph) steps.old) (stop (held table.new) steps.new)) }
+    ensures cause { IfErr result (λ e. IsFaultAt (bytes_at at piece.now) (pass (held table.old) (whole graph) steps.old) e) }
+{
     let mut graph = graph;
     table.start();
     graph.is_graph();
-    let mut known = Known::new(alloc);
-    if let Err(fault) = read_piece(table, &mut graph, &mut known, at, piece, steps) {
+    if let Err(fault) = read_piece(table, &mut graph, known, at, piece, steps) {
         return Err(fault);
     }
     Ok(graph)

@@ -10,7 +10,7 @@ ghost use Rattle.output_graph.specs.Graph.{sets_of};
 ghost use Rattle.one_pass.specs.Places.{AreReadWords, is_touched};
 ghost use Rattle.one_pass.specs.Seen.{accepted_words, held};
 
-use crate::known::Known;
+use crate::known::{Known, MOST_WORDS};
 use crate::passes::read_parts;
 use crate::places::end_layer;
 use output_graph::OutputGraph;
@@ -49,7 +49,7 @@ pub fn read<L: Ledger>(
         Ok(graph) => graph,
         Err(OutOfMemory) => return Err(TableFault::OutOfMemory),
     };
-    let mut known = Known::new(alloc);
+    let mut known = Known::new(alloc, MOST_WORDS);
     if let Err(fault) = read_parts(table, &mut graph, &mut known, doc, positions.parts(), steps) {
         return Err(fault);
     }

@@ -181,7 +181,11 @@ none_ends at c cells cells_after next holds holds_after is run = record {
       a.told a.sets a.held a.inside.not_after (λ s at_s. a.inside.growing.next_apart s c at_s (inl refl)) is run;
   reached = λ s. ((λ h. inl h), (λ h. elim h as (λ _. Has (sets_of next) s) [ inl a ↦ a | inr b ↦ absurd b.1 ]));
   few = omega arith;
+  hands_on = λ to e none. absurd (no_edge (0, to) e);
 }
+  where
+    no_edge : (f : ℕ × ℕ) → [] ≡ f ∷ [] → ⊥
+    no_edge f e = cc
 
 -- the last edge hands the cell on
 pub moved_ends : (at c to : ℕ) (cells : List NamedLink) (next : Layer) (holds : Holds) → cell_of next to ≡ None →
@@ -196,15 +200,24 @@ moved_ends at c to cells next holds none = record {
   };
   reached = reached_one next 0 to c;
   few = length_set next to c;
+  hands_on = λ r e new. omega arith;
 }
+
+-- a set that has a cell is there
+pub cell_there : (next : Layer) (s c : ℕ) → cell_of next s ≡ Some c → Has (sets_of next) s
+cell_there [] s c e = cc
+cell_there (p ∷ next) s c e = elim (cases_eq p.0 s) as (λ _. Has (sets_of (p ∷ next)) s) [
+  | inl same ↦ inl same
+  | inr ne ↦ inr (cell_there next s c (sym (cond-false (nat_eq p.0 s) (Some p.1) (cell_of next s) (ne_eqb p.0 s ne)) ∙ e))
+]
 
 -- the last edge joins the target's cell
 pub joined_ends : (at c marks to name : ℕ) (cells mid cells_after : List NamedLink) (next next_after : Layer) (holds holds_mid holds_after : Holds) → marks ≡ 0 →
     (HasCell cells name → ⊥) → mid ≡ new_link name at marks c (cell_of next to) ∷ cells → holds_mid ≡ with_hold (less_hold holds (cell_of next to)) name 1 →
     next_after ≡ set_cell next to name →
-    holds_after ≡ with_hold holds_mid c (hold holds_mid c - 1) → Released holds_after mid cells_after →
+    holds_after ≡ with_hold holds_mid c (hold holds_mid c - 1) → Released holds_after mid cells_after → Has (sets_of next) to →
     HasEnded at c ((0, to) ∷ []) cells next holds cells_after next_after holds_after
-joined_ends at c marks to name cells mid cells_after next next_after holds holds_mid holds_after none fresh mid_is held_is next_is is run =
+joined_ends at c marks to name cells mid cells_after next next_after holds holds_mid holds_after none fresh mid_is held_is next_is is run there =
     let same : mid ≡ new_link name at 0 c (cell_of next to) ∷ cells = mid_is ∙ ap (λ m. new_link name at m c (cell_of next to) ∷ cells) none in
     let run' : Released holds_after (new_link name at 0 c (cell_of next to) ∷ cells) cells_after =
     subst (λ (xs : List NamedLink). Released holds_after xs cells_after) same run in
@@ -225,7 +238,11 @@ joined_ends at c marks to name cells mid cells_after next next_after holds holds
           is run';
       reached = reached_one next 0 to name;
       few = length_set next to name;
+      hands_on = λ r e new. absurd (new (subst (λ n. Has (sets_of next) n) (one_target (0, to) (0, r) e) there));
     })
+  where
+    one_target : (p q : ℕ × ℕ) → p ∷ [] ≡ q ∷ [] → p.1 ≡ q.1
+    one_target p q e = cc
 
 -- until then it is held
 pub still_held : (at c to name : ℕ) (edges : Edges) (cells : List NamedLink) (next : Layer) (holds holds_mid : Holds) → CanEnd at c edges cells next holds →

@@ -26,6 +26,7 @@ pub record IsGoing (first : Graph) (at : ℕ) (groups : List Edges) (sets : List
   pub room : length left ≤ next.room
   pub covered : (m : Move) → Has left m → m.to < next.known
   pub targets : targets_from (sets_of next.pairs) left ≡ sets
+  pub ticked : before + k ≤ now
 
 dropped : (counts : List ℕ) (k n : ℕ) → slice_get counts k ≡ Some n → drop k counts ≡ n ∷ drop (suc k) counts
 dropped [] k n e = cc
@@ -62,6 +63,7 @@ going_begun was at before counts moves arena layer next sound place counted desc
   room = room;
   covered = covered;
   targets = refl;
+  ticked = omega arith;
 }
 
 module _ (first : Graph) (at : ℕ) (groups : List Edges) (sets : List ℕ) (before : ℕ) (counts : List ℕ) (k : ℕ) (left : List Move) (arena : Cells) (layer next : Sets) (now : ℕ)
@@ -124,9 +126,9 @@ module _ (first : Graph) (at : ℕ) (groups : List Edges) (sets : List ℕ) (bef
       -- the moves of one source more have been made
       pub going_more : (arena_after : Cells) (next_after : Sets) (after : ℕ) → HasEnded at p.1 (edges_in mine) arena.cells next.pairs arena.holds arena_after.cells next_after.pairs arena_after.holds →
           IsSpent (length mine) (length arena.cells) (length arena_after.cells) (now + 1) after → sets_of next_after.pairs ≡ targets_from (sets_of next.pairs) mine →
-          length later ≤ arena_after.spare → length later ≤ next_after.room → next_after.known ≡ next.known →
+          length later ≤ arena_after.spare → length later ≤ next_after.room → next_after.known ≡ next.known → now + 1 ≤ after →
           IsGoing first at groups sets before counts (k + 1) later arena_after layer next_after after
-      going_more arena_after next_after after ended spent targets spare room known =
+      going_more arena_after next_after after ended spent targets spare room known ticked =
           let sound : IsSound (graph_of arena_after layer next_after (k + 1) at) arena_after.holds =
           sound_after here arena.holds going.sound p there at going.place (edges_in mine) mine_descend arena_after.cells next_after.pairs arena_after.holds ended in
           let step : IsStepped here at (edges_in mine) (graph_of arena_after layer next_after (k + 1) at) =
@@ -152,6 +154,7 @@ module _ (first : Graph) (at : ℕ) (groups : List Edges) (sets : List ℕ) (bef
             room = room;
             covered = λ m h. (let lt = going.covered m (has_drop left n m h) in omega arith);
             targets = ap (λ (ss : List ℕ). targets_from ss later) targets ∙ (targets_split (sets_of next.pairs) left n ∙ going.targets);
+            ticked = (let so_far = going.ticked in omega arith);
           }
 
 pub count_there : (counts : List ℕ) (k d : ℕ) → k < length counts → slice_get counts k ≡ Some (get_or counts k d)

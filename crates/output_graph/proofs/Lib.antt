@@ -27,4 +27,3 @@ pub mod CodeTurn
 pub mod TurnEnds
 pub mod TurnSteps
 pub mod CopyLaws
-pub mod BegunLaws

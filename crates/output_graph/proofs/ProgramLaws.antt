@@ -1,5 +1,7 @@
 -- Programs: the places of targets, and the edges of each source.
 use Rattle.std.proofs.Common.{◌≡◌, ℕ, zero, suc, ◌<◌, ◌≤◌, List, [], ◌∷◌, ◌++◌, take, drop, length, Some, None, inl, inr, refl, sym, ap, ◌∙◌, subst, arith, nat_eq, eq-eqb, ne_eqb, get_or, slice_get, append-nil, length-append}
+use Rattle.std.specs.List.{flat_map}
+use Rattle.std.proofs.lemmas.List.{take-append-drop}
 use Rattle.std.proofs.lemmas.Bool.{cases_eq, cond-true, cond-false}
 use Rattle.span_core.specs.Lists.{Has}
 use Rattle.span_core.proofs.HasLaws.{Has-append_cases}
@@ -279,3 +281,8 @@ program_more counts moves later sets sets_later largest larger edges n p is coun
 pub length_cut : (counts : List ℕ) (es : Edges) → length (cut counts es) ≡ length counts
 length_cut [] es = refl
 length_cut (n ∷ counts) es = ap suc (length_cut counts (drop n es))
+
+-- the edges of all sources, one after another, are all edges
+pub joined_cut : (counts : List ℕ) (es : Edges) → AreCounted counts es → flat_map (λ (group : Edges). group) (cut counts es) ≡ es
+joined_cut [] es none = sym none
+joined_cut (n ∷ counts) es are = ap (λ (rest : Edges). take n es ++ rest) (joined_cut counts (drop n es) are.1) ∙ take-append-drop n es

@@ -189,6 +189,7 @@ module _ (g : Graph) (holds : Holds) (sound : IsSound g holds) (p : ℕ × ℕ) 
       left = (source_of g.cells p, left_after, grows);
       reached = ended.reached;
       few = ended.few;
+      hands_on = ended.hands_on;
     }
 
 -- the cost, with the step of the call

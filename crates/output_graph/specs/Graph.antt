@@ -1,5 +1,5 @@
 -- What contracts see of an output graph.
-use Rattle.std.specs.Prelude.{◌≡◌, ◌⊎◌, ◌↔◌, ℕ, ◌+◌, ◌*◌, ◌<◌, ◌≤◌, List, ◌∷◌, ◌++◌, map, drop, length}
+use Rattle.std.specs.Prelude.{◌≡◌, ◌⊎◌, ◌↔◌, ℕ, ◌+◌, ◌*◌, ◌<◌, ◌≤◌, List, [], ◌∷◌, ◌++◌, map, drop, length}
 use Rattle.span_core.specs.Lists.{Has, AreDistinct}
 use Rattle.node_arena.specs.Cells.{NamedLink, Names}
 use Rattle.node_arena.specs.Words.{Word, words}
@@ -62,6 +62,8 @@ pub record IsStepped (old : Graph) (at : ℕ) (edges : Edges) (new : Graph) : Ty
       × ((s : ℕ) (w : Word) → HasWord (targets new) s w ↔ (HasWord (targets old) s w ⊎ Brings x.words at edges s w))
   pub reached : (s : ℕ) → Has (sets_of new.next) s ↔ (Has (sets_of old.next) s ⊎ LeadsTo edges s)
   pub few : length new.next ≤ length old.next + length edges
+  -- a lone edge without marks to a set that has no cell yet makes none
+  pub hands_on : (to : ℕ) → edges ≡ (0, to) ∷ [] → (Has (sets_of old.next) to → ⊥) → length new.cells ≤ length old.cells
 
 -- what edges cost: each makes one new cell at most, and `freed` cells are given back; so much is counted before and after
 pub record IsCost (edges old new before after : ℕ) : Type 0 where

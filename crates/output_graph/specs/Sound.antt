@@ -94,6 +94,7 @@ edges_of_ends ends = map (λ (m : ℕ). (m, 0)) ends
 pub record HasMade (at c : ℕ) (edges : Edges) (cells : List NamedLink) (next : Layer) (holds : Holds)
     (cells_after : List NamedLink) (next_after : Layer) (holds_after : Holds) : Type 0 where
   pub makes : Makes at c edges cells next holds cells_after next_after holds_after
+  pub marked : (e : ℕ × ℕ) → Has edges e → 0 < e.0
   pub more : length cells_after ≡ length cells + length edges
   pub reached : (s : ℕ) → Has (sets_of next_after) s ↔ (Has (sets_of next) s ⊎ LeadsTo edges s)
   pub few : length next_after ≤ length next + length edges
@@ -104,6 +105,7 @@ pub record HasEnded (at c : ℕ) (edges : Edges) (cells : List NamedLink) (next 
   pub ends : Ends at c edges cells next holds cells_after next_after holds_after
   pub reached : (s : ℕ) → Has (sets_of next_after) s ↔ (Has (sets_of next) s ⊎ LeadsTo edges s)
   pub few : length next_after ≤ length next + length edges
+  pub hands_on : (to : ℕ) → edges ≡ (0, to) ∷ [] → (Has (sets_of next) to → ⊥) → length cells_after ≤ length cells
 
 abbrev pub graph_of : Cells → Sets → Sets → ℕ → ℕ → Graph
 graph_of arena layer next stepped at = record { cells = arena.cells; layer = layer.pairs; next = next.pairs; stepped = stepped; at = at }

@@ -195,6 +195,7 @@ impl OutputGraph {
         requires place { IsPlace self.old at }
         ensures run { OnOk result (IsRun self.old at program.now.groups self.new steps.old steps.new) }
         ensures targets { OnOk result (sets_of self.new.layer ≡ program.now.targets) }
+        ensures counted { OnOk result (steps.old + length program.now.groups ≤ steps.new) }
         ensures refused { OnErr result (self.new ≡ self.old) }
         ensures uncounted { OnErr result (steps.new ≡ steps.old) }
     {

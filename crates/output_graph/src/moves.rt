@@ -37,6 +37,7 @@ fn make_moves<L: Ledger>(
     ensures spare { arena.old.spare ≤ arena.new.spare + length moves.now }
     ensures room { next.old.room ≤ next.new.room + length moves.now }
     ensures known { next.new.known ≡ next.old.known }
+    ensures counted { steps.old ≤ steps.new }
 {
     for step in moves {
         if step.marks.is_none() {
@@ -72,6 +73,7 @@ pub fn make_all<L: Ledger>(
     requires covered { (m : Move) → Has moves.now m → m.to < next.old.known }
     ensures stepped { (last : ℕ) × AreStepped (graph_of arena.old layer.now next.old 0 was) at (cut counts.now (edges_in moves.now)) (graph_of arena.new layer.now next.new (length counts.now) last) steps.old steps.new × IsSound (graph_of arena.new layer.now next.new (length counts.now) last) arena.new.holds }
     ensures sets { sets_of next.new.pairs ≡ targets_from (sets_of next.old.pairs) moves.now }
+    ensures counted { steps.old + length counts.now ≤ steps.new }
 {
     let _was = was;
     let mut left = moves;

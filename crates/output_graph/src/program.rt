@@ -2,7 +2,7 @@
 //!
 //! A program lists the edges of each source with the place of each target in the next layer, or that it is new there: so
 //! that running it looks up no set. It goes where stepping the sources one after the other goes.
-ghost use Rattle.std.specs.Prelude.{◌≡◌, ◌≤◌, ◌<◌, ◌+◌, ℕ, [], ◌∷◌, ◌++◌, length, IfOk, OnOk};
+ghost use Rattle.std.specs.Prelude.{◌≡◌, ◌≤◌, ◌<◌, ◌+◌, ℕ, [], ◌∷◌, ◌++◌, flat_map, length, IfOk, OnOk};
 ghost use Rattle.span_core.specs.Lists.{Has};
 ghost use Rattle.output_graph.specs.Source.{Descend};
 ghost use Rattle.output_graph.specs.Sound.{edges_of};
@@ -90,7 +90,9 @@ impl Program {
     }
 
     /// The number of edges of all sources.
-    pub fn edges(&self) -> usize {
+    pub fn edges(&self) -> usize
+        ensures { result ≡ length (flat_map (λ es. es) self.now.groups) }
+    {
         self.moves.len()
     }
 

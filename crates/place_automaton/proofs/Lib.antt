@@ -31,7 +31,6 @@ pub mod RepeatPlaces
 pub mod RowBlocks
 pub mod RowLaws
 pub mod Rows
-pub mod SampleLaws
 pub mod Shows
 pub mod Unmarked
 pub mod Walks

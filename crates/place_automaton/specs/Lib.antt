@@ -13,6 +13,5 @@ pub mod PlainCounts
 pub mod Reads
 pub mod Refusals
 pub mod Repeats
-pub mod Samples
 pub mod Variables
 pub mod Words

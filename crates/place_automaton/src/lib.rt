@@ -5,6 +5,9 @@
 //! it fits the empty string. All that a concatenation, an alternation or a repetition needs are those.
 #![tactic(auto)]
 
+ghost use Rattle.std.specs.Prelude.{◌≡◌};
+ghost use Rattle.place_automaton.specs.declared.TheConstants.{MOST_SETS};
+
 pub use building::of_atom;
 pub use counting::{Counts, count};
 
@@ -19,8 +22,6 @@ mod outer;
 mod piece;
 mod place_count;
 mod placing;
-#[cfg(test)]
-mod tests;
 mod variables;
 
 /// The number of the state Before, in which the automaton of an atom begins.
@@ -29,6 +30,11 @@ pub(crate) const BEFORE: u32 = 0;
 /// The most sets of markers that are listed of those with which a part of a formula, or the first parts of a
 /// concatenation, fits the empty string. Past it the ways are not counted, and the atom is refused for them.
 pub const MOST_SETS: usize = 65_536;
+
+/// The limit, as a number: a law.
+pub fn limits()
+    ensures { MOST_SETS ≡ 65536 }
+{}
 
 /// The most ends of an automaton that is made. Where captures may be absent, a place may have an end for each
 /// set of them.

@@ -9,7 +9,7 @@ use Rattle.span_core.specs.NameSets.{Ascending}
 use Rattle.span_core.proofs.NameSetLaws.{none_are_variables}
 use Rattle.span_core.specs.Lists.{Has}
 use Rattle.spanner_model.specs.Captures.{VarName, Mapping}
-use Rattle.spanner_model.specs.Expression.{ExprTree, QueryTree, union_all, join_all}
+use Rattle.spanner_model.specs.Expression.{ExprTree, QueryTree, minus, union_all, join_all}
 use Rattle.spanner_model.specs.Answer.{VarOf, IsRestriction, Answer, vars_of_lets, answers_of_lets}
 use Rattle.std.specs.List.{AllByRecursion}
 use Rattle.std.specs.List.Sorted.{IsStrictlySortedBy}
@@ -30,11 +30,11 @@ use Rattle.spanner_model.proofs.GatheredLaws.{in_more, exprs_in_turn}
 use Rattle.spanner_model.proofs.PartLaws.{union_some, some_union, join_outside, join_each, each_join, told_under}
 use Rattle.plain_spanner.specs.Listed.{Tells}
 use Rattle.plain_spanner.specs.declared.table.Table.{Table}
-use Rattle.plain_spanner.specs.Tables.{IsRowOf, IsTable, IsTableOf, IsAsked, AreTables, has_name, IsUnited, IsJoined}
+use Rattle.plain_spanner.specs.Tables.{IsRowOf, IsTable, IsTableOf, IsAsked, AreTables, has_name, IsLeft, IsUnited, IsJoined}
 use Rattle.plain_spanner.proofs.RowLaws.{row_length}
 use Rattle.plain_spanner.proofs.TellsLaws.{tells_same}
 use Rattle.plain_spanner.proofs.JoinLaws.{JoinOf, join_listed}
-use Rattle.plain_spanner.proofs.TableLaws.{restricts, union_listed}
+use Rattle.plain_spanner.proofs.TableLaws.{left_listed, restricts, union_listed}
 
 module _ (q : QueryTree) (d : List ℕ) (n : ℕ) where
   abbrev V : ℕ → VarName → Type 0
@@ -62,6 +62,20 @@ module _ (q : QueryTree) (d : List ℕ) (n : ℕ) where
 
   out_of : (e : ExprTree) (names : List VarName) → ((x : VarName) → Has names x ↔ VarOf V e x) → (m : Mapping) → Answer V A d e m → (x : VarName) → (Has names x → ⊥) → m x ≡ None
   out_of e names named m h x out = answer_absent V A d (lets_absent q.lets d n) e m h x (λ v. out ((named x).1 v))
+
+  -- a difference
+  pub left_table : (e g : ExprTree) (names others : List VarName) (lefts rights rows : List SpanRow) → IsTableOf q d n e names lefts → IsTableOf q d n g others rights →
+      ((x : VarName) → VarOf V e x ↔ VarOf V g x) → Tells (Has rows) (IsLeft lefts rights) → IsTableOf q d n (minus e g) names rows
+  left_table e g names others lefts rights rows t u same all =
+      let is : others ≡ names =
+      same_names others names u.ascending t.ascending (λ x h. (t.named x).1 ((same x).1 ((u.named x).0 h))) (λ x h. (u.named x).1 ((same x).0 ((t.named x).0 h))) in
+      let right : Tells (Has rights) (IsRowOf (Answer V A d g) names) = subst (λ (ns : List VarName). Tells (Has rights) (IsRowOf (Answer V A d g) ns)) is u.listed in
+      record {
+        ascending = t.ascending;
+        named = t.named;
+        listed = left_listed names (Answer V A d e) (Answer V A d g) (out_of e names t.named)
+            (λ m b x out. answer_absent V A d (lets_absent q.lets d n) g m b x (λ v. out ((t.named x).1 ((same x).1 v)))) lefts rights (Has rows) t.listed right all;
+      }
 
   restricted : (P Q : VarName → Type 0) (m r : Mapping) → ((x : VarName) → P x ↔ Q x) → IsRestriction P m r → IsRestriction Q m r
   restricted P Q m r same h x = (λ v. (h x).0 ((same x).1 v), λ out. (h x).1 (λ p. out ((same x).0 p)))

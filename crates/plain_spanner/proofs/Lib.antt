@@ -1,4 +1,3 @@
-pub mod SampleLaws
 pub mod TableLaws
 pub mod TellsLaws
 pub mod BareLaws
@@ -9,3 +8,4 @@ pub mod RepeatLaws
 pub mod RowLaws
 pub mod EndLaws
 pub mod FitLists
+pub mod LessLaws

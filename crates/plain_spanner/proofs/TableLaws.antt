@@ -1,10 +1,10 @@
 -- Tables of expressions.
-use Rattle.std.proofs.Common.{◌≡◌, ℕ, ◌⊎◌, Bool, true, false, List, length, take, None, inl, inr, refl, sym, ap, ◌∙◌}
+use Rattle.std.proofs.Common.{◌≡◌, ℕ, ◌⊎◌, Bool, true, false, List, length, take, None, inl, inr, refl, sym, ap, subst, ◌∙◌}
 use Rattle.std.proofs.lemmas.Bool.{false≢true}
 use Rattle.std.specs.Prelude.{if◌then◌else◌}
 use Rattle.span_core.specs.Lists.{Has}
 use Rattle.spanner_model.specs.Captures.{VarName, Mapping, row_of, mapping_of}
-use Rattle.spanner_model.specs.Expression.{ExprTree, QueryTree, project, union_all, join_all}
+use Rattle.spanner_model.specs.Expression.{ExprTree, QueryTree, minus, project, union_all, join_all}
 use Rattle.spanner_model.specs.Answer.{VarOf, IsRestriction, vars_of_lets}
 use Rattle.spanner_model.specs.Answers.{SpanRow}
 use Rattle.spanner_model.specs.Gathered.{HaveRoom}
@@ -14,7 +14,7 @@ use Rattle.spanner_model.proofs.NameLaws.{list_any-Has, Has-list_any}
 use Rattle.spanner_model.proofs.ExprLaws.{var_named, lets_named, union_part, join_part, join_var_part, union_vars, union_named, join_named}
 use Rattle.spanner_model.proofs.CapturesLaws.{row_same, row_same_on}
 use Rattle.plain_spanner.specs.Listed.{Tells, FromSome}
-use Rattle.plain_spanner.specs.Tables.{IsRowOf, IsTable, IsAsked, has_name, row_over, IsRowOver, IsUnited}
+use Rattle.plain_spanner.specs.Tables.{IsRowOf, IsTable, IsAsked, has_name, row_over, IsLeft, IsRowOver, IsUnited}
 use Rattle.plain_spanner.proofs.RowLaws.{row_length, mapping_of-row_of, mapping_of-outside, row_over-row_of}
 
 -- ---- what is asked
@@ -112,3 +112,42 @@ module _ (V W names : List VarName) (A B : Mapping → Type 0) (a_out : (m : Map
       | inr b ↦ inr (row_of W h.0, right.all_there (row_of W h.0) (h.0, b, refl), h.2 ∙ sym (widened W names h.0 (b_out h.0 b)))
     ]);
   }
+
+-- ---- differences
+
+pub asked_left : (q : QueryTree) (n : ℕ) (e g : ExprTree) → IsAsked q n (minus e g) → IsAsked q n e
+asked_left q n e g a = record { sound = a.sound; sound_expr = a.sound_expr.0; named = λ x h. a.named x (inl h) }
+
+pub asked_right : (q : QueryTree) (n : ℕ) (e g : ExprTree) → IsAsked q n (minus e g) → IsAsked q n g
+asked_right q n e g a = record { sound = a.sound; sound_expr = a.sound_expr.1; named = λ x h. a.named x (inr h) }
+
+-- the rows of the mappings of which A is true and B is not
+module _ (names : List VarName) (A B : Mapping → Type 0) (a_out : (m : Mapping) → A m → (x : VarName) → (Has names x → ⊥) → m x ≡ None) (b_out : (m : Mapping) → B m → (x : VarName) → (Has names x → ⊥) → m x ≡ None) where
+  told : (m : Mapping) → ((x : VarName) → (Has names x → ⊥) → m x ≡ None) → (x : VarName) → mapping_of names (row_of names m) x ≡ m x
+  told m out x = by (has_name names x) refl
+    where
+      by : (b : Bool) → has_name names x ≡ b → mapping_of names (row_of names m) x ≡ m x
+      by true e = mapping_of-row_of names m x (Has-list_any names x e)
+      by false e =
+          let none = λ (h : Has names x). false≢true (sym e ∙ list_any-Has names x h) in mapping_of-outside names (row_of names m) x none ∙ sym (out x none)
+
+  one_row : (m n : Mapping) → A m → B n → row_of names m ≡ row_of names n → n ≡ m
+  one_row m n a b e = λ i x. path x i
+    where
+      path : (x : VarName) → n x ≡ m x
+      path x = sym (told n (b_out n b) x) ∙ (ap (λ (r : SpanRow). mapping_of names r x) (sym e) ∙ told m (a_out m a) x)
+
+  pub left_listed : (lefts rights : List SpanRow) (H : SpanRow → Type 0) → Tells (Has lefts) (IsRowOf A names) → Tells (Has rights) (IsRowOf B names) → Tells H (IsLeft lefts rights) → Tells H (IsRowOf (λ m. A m × ¬ B m) names)
+  left_listed lefts rights H left right all = record {
+    each_so = λ r h.
+        let s = all.each_so r h in
+        let t = left.each_so r s.0 in
+        (t.0, (t.1, λ b. s.1 (right.all_there r (t.0, b, t.2))), t.2);
+    all_there = λ r h.
+        all.all_there r (left.all_there r (h.0, h.1.0, h.2), λ k. let u = right.each_so r k in h.1.1 (subst B (one_row h.0 u.0 h.1.0 u.1 (sym h.2 ∙ u.2)) u.1));
+  }
+
+-- rows of a table are over its names
+pub whole_rows : (V : VarName → Type 0) (A : Mapping → Type 0) (names : List VarName) (rows : List SpanRow) → IsTable V A names rows → (r : SpanRow) → Has rows r → row_over names names r ≡ r
+whole_rows V A names rows t r h =
+    let s = t.listed.each_so r h in ap (row_over names names) s.2 ∙ (row_over-row_of names names s.0 (λ x k. k) ∙ sym s.2)

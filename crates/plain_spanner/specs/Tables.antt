@@ -45,6 +45,10 @@ IsRowOver names others row r = r ≡ row_over names others row
 abbrev pub IsUnited : List VarName → List VarName → List VarName → List SpanRow → List SpanRow → SpanRow → Type 0
 IsUnited names V W lefts rights r = FromSome (IsRowOver V names) lefts r ⊎ FromSome (IsRowOver W names) rights r
 
+-- the row is one of the one list and none of the other
+abbrev pub IsLeft : List SpanRow → List SpanRow → SpanRow → Type 0
+IsLeft lefts rights r = Has lefts r × (Has rights r → ⊥)
+
 -- a row over the names V and one over the names W say the same of the names of both: the same span, or that it is absent
 abbrev pub Meet : List VarName → List VarName → SpanRow → SpanRow → Type 0
 Meet V W a b = (x : VarName) → Has V x → Has W x → mapping_of V a x ≡ mapping_of W b x

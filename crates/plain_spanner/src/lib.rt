@@ -8,13 +8,12 @@ mod bare;
 mod ends;
 mod fits;
 mod join;
+mod less;
 mod order;
 mod repeats;
 mod rows;
 mod table;
 mod tables;
-#[cfg(test)]
-mod tests;
 mod unite;
 
 /// The most bytes of a document.

@@ -8,6 +8,7 @@ ghost use Rattle.plain_spanner.specs.Tables.{IsTableOf, AreTables, IsAsked};
 
 use crate::MOST_DOCUMENT_BYTES;
 use crate::join::join;
+use crate::less::less;
 use crate::rows::atom_table;
 use crate::table::Table;
 use crate::unite::unite;
@@ -40,6 +41,11 @@ pub fn expr_table(
         Expr::Project(kept, sub) => {
             let inner = expr_table(alloc, query, tables, sub, doc)?;
             inner.over(alloc, kept)
+        }
+        Expr::Minus(left, right) => {
+            let first = expr_table(alloc, query, tables, left, doc)?;
+            let second = expr_table(alloc, query, tables, right, doc)?;
+            less(alloc, &first, &second)
         }
     }
 }

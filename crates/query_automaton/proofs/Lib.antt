@@ -8,3 +8,4 @@ pub mod PartLaws
 pub mod PieceLaws
 pub mod QueryWords
 pub mod Words
+pub mod MinusLaws

@@ -8,7 +8,7 @@ use Rattle.spanner_model.specs.Tree.{Tree}
 use Rattle.spanner_model.specs.Captures.{VarName, Mapping}
 use Rattle.spanner_model.specs.Sequential.{HasVar, IsSequential}
 use Rattle.spanner_model.specs.WellBuilt.{IsWellBuilt}
-use Rattle.spanner_model.specs.Expression.{ExprTree, QueryTree, atom, named, union_end, union, join_end, join, project}
+use Rattle.spanner_model.specs.Expression.{ExprTree, QueryTree, atom, named, union_end, union, join_end, join, project, minus}
 use Rattle.spanner_model.specs.Answer.{VarOf, IsRestriction, FitsSomewhere, Answer, vars_of_lets, answers_of_lets, IsResultVar, IsAnswer}
 use Rattle.spanner_model.specs.Sound.{IsSound, IsSoundUnder, IsSoundExpr, AreUnited, AreJoined, sure_of_lets}
 use Rattle.spanner_model.proofs.AnswerLaws.{answer_absent}
@@ -26,7 +26,7 @@ use Rattle.query_automaton.specs.Laws.{AcceptsAnswersOf, QueryWords}
 use Rattle.place_automaton.specs.Variables.{with_vars}
 use Rattle.query_automaton.specs.QueryAutomaton.{of_atom, of_union, of_join, automaton_of, united, together, of_lets, of_one_let, of_query}
 use Rattle.place_automaton.proofs.NameLists.{list_ascends, vars_are}
-use Rattle.query_automaton.proofs.Words.{IsFor, for_same, for_union, for_projection, Together, for_join}
+use Rattle.query_automaton.proofs.Words.{IsFor, for_minus, for_same, for_union, for_projection, Together, for_join}
 use Rattle.query_automaton.proofs.Assoc.{together_assoc, told_or}
 
 -- ---- atoms
@@ -157,6 +157,11 @@ module _ (d : List ℕ) (bytes : AreBytes d) (n : ℕ) (V S : ℕ → VarName �
   }
   all_for (project kept e) = record {
     whole = λ h. for_projection d (VarOf V e) (Answer V A d e) kept (automaton_of L e) h.2 (λ x k. (h.1 x k).0) ((all_for e).whole h.0);
+    united_parts = λ P B M h b. absurd h;
+    joined_parts = λ P B M h v b. absurd h;
+  }
+  all_for (minus e g) = record {
+    whole = λ h. for_minus d (VarOf V e) (VarOf V g) (Answer V A d e) (Answer V A d g) (automaton_of L e) (automaton_of L g) h.2 ((all_for e).whole h.0) ((all_for g).whole h.1);
     united_parts = λ P B M h b. absurd h;
     joined_parts = λ P B M h v b. absurd h;
   }

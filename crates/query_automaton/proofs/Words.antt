@@ -11,7 +11,7 @@ use Rattle.spanner_model.specs.Captures.{VarName, Mapping, row_of}
 use Rattle.spanner_model.specs.Answer.{IsRestriction}
 use Rattle.spanner_model.proofs.CapturesLaws.{row_same_on}
 use Rattle.spanner_model.proofs.Ends.{EndsBy}
-use Rattle.spanner_model.proofs.NameLaws.{Has-list_any, ascending-distinct, list_any-Has}
+use Rattle.spanner_model.proofs.NameLaws.{Has-list_any, ascending-distinct, list_any-Has, same_names}
 use Rattle.marked_automaton.specs.Automaton.{Accepts, IsWhole, Marked}
 use Rattle.marked_automaton.specs.Marks.{left_of}
 use Rattle.marked_automaton.proofs.Erasing.{erasing_law}
@@ -26,7 +26,11 @@ use Rattle.algebra.proofs.UnionsOver.{union_over_law, union_over_whole}
 use Rattle.algebra.proofs.Joins.{join_law}
 use Rattle.algebra.proofs.Whole.{join_whole}
 use Rattle.algebra.specs.Rows.{LiesWithin, merged}
-use Rattle.query_automaton.specs.QueryAutomaton.{of_union, of_join, of_projection}
+use Rattle.algebra_minus.specs.Difference.{IsDifference}
+use Rattle.algebra_minus.specs.DifferenceOf.{difference_of}
+use Rattle.algebra_minus.proofs.DifferenceMade.{difference_made}
+use Rattle.algebra_minus.proofs.Words.{difference_law}
+use Rattle.query_automaton.specs.QueryAutomaton.{of_union, of_join, of_minus, of_projection}
 use Rattle.query_automaton.proofs.Names.{all_ascend, all_are}
 
 -- M is an automaton for these answers, which give spans to the variables of P alone
@@ -305,3 +309,55 @@ module _ (d : List ℕ) (P Q : VarName → Type 0) (A B : Mapping → Type 0) (M
                 let none : m x ≡ None = h.6 x (outside m h x s is (λ le. omega (arith, le, past))) in
                 let both : Some s ≡ None = sym is ∙ none in absurd (cc)
           ]
+
+-- ---- difference
+
+module _ (d : List ℕ) (P Q : VarName → Type 0) (A B : Mapping → Type 0) (M N : Marked) (same : (x : VarName) → P x ↔ Q x)
+    (a : IsFor d P A M) (b : IsFor d Q B N) where
+  names_same : M.names ≡ N.names
+  names_same =
+      same_names M.names N.names a.ascending b.ascending (λ x h. (b.names x).1 ((same x).0 ((a.names x).0 h))) (λ x h. (a.names x).1 ((same x).1 ((b.names x).0 h)))
+
+  -- answers that have the same word are the same
+  one_answer : (w : ℕ → ℕ) (m n : Mapping) → A m → B n → IsWordOf (row_of M.names m) d w → IsWordOf (row_of N.names n) d w → (x : VarName) → n x ≡ m x
+  one_answer w m n g h u v x = by (has_name M.names x) refl
+    where
+      agreeing : (p : ℕ) → p ≤ length d → IsTrue (agree_on M.names N.names (all_names M.names N.names) (block (row_of M.names m) p) (block (row_of N.names n) p))
+      agreeing p l =
+          let itself = (agree_where d P P A A M M a a m m g g).1 (λ y i j. refl) p l in
+          let blocks : block (row_of M.names m) p ≡ block (row_of N.names n) p = sym (u p l) ∙ v p l in
+          subst (λ (ns : List VarName). IsTrue (agree_on M.names ns (all_names M.names ns) (block (row_of M.names m) p) (block (row_of N.names n) p))) names_same
+          (subst (λ k. IsTrue (agree_on M.names M.names (all_names M.names M.names) (block (row_of M.names m) p) k)) blocks itself)
+
+      by : (c : Bool) → has_name M.names x ≡ c → n x ≡ m x
+      by true at =
+          let i = Has-list_any M.names x at in
+          sym ((agree_where d P Q A B M N a b m n g h).0 agreeing x i (subst (λ (ns : List VarName). Has ns x) names_same i))
+      by false at =
+          let out : P x → ⊥ = λ p. let e : true ≡ false = sym (list_any-Has M.names x ((a.names x).1 p)) ∙ at in absurd (cc) in
+          b.absent n h x (λ q. out ((same x).1 q)) ∙ sym (a.absent m g x out)
+
+  made : IsDifference M.graph N.graph (difference_of M.graph N.graph)
+  made = difference_made M.graph N.graph a.whole b.whole
+
+  minus_there : (w : ℕ → ℕ) → Accepts (difference_of M.graph N.graph) d w → (m : Mapping) × (A m × ¬ B m) × IsWordOf (row_of M.names m) d w
+  minus_there w h =
+      let t = (difference_law M.graph N.graph (difference_of M.graph N.graph) made d w).0 h in
+      let r = (a.words w).0 t.0 in
+      (r.0, (r.1, λ k. t.1 ((b.words w).1 (r.0, k, subst (λ (ns : List VarName). IsWordOf (row_of ns r.0) d w) names_same r.2))), r.2)
+
+  minus_back : (w : ℕ → ℕ) → (m : Mapping) × (A m × ¬ B m) × IsWordOf (row_of M.names m) d w → Accepts (difference_of M.graph N.graph) d w
+  minus_back w h =
+      (difference_law M.graph N.graph (difference_of M.graph N.graph) made d w).1
+      ((a.words w).1 (h.0, h.1.0, h.2), λ accepted. let s = (b.words w).0 accepted in h.1.1 (b.respects s.0 h.0 (one_answer w h.0 s.0 h.1.0 s.1 h.2 s.2) s.1))
+
+  pub for_minus : IsFor d P (λ m. A m × ¬ B m) (of_minus M N)
+  for_minus = record {
+    whole = made.4.whole;
+    ascending = a.ascending;
+    names = a.names;
+    absent = λ m h. a.absent m h.0;
+    ends = λ m h. a.ends m h.0;
+    respects = λ m n e h. (a.respects m n e h.0, λ k. h.1 (b.respects n m (λ x. sym (e x)) k));
+    words = λ w. (minus_there w, minus_back w);
+  }

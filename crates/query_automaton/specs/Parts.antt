@@ -2,7 +2,7 @@
 use Rattle.std.specs.Prelude.{ℕ, ◌<◌, ◌≤◌, ◌≡◌, ◌⊎◌, Some, slice_get, length}
 use Rattle.spanner_model.specs.Captures.{VarName}
 use Rattle.span_core.specs.Lists.{Has}
-use Rattle.spanner_model.specs.Expression.{ExprTree, QueryTree, atom, named, union_end, union, join_end, join, project}
+use Rattle.spanner_model.specs.Expression.{ExprTree, QueryTree, atom, named, union_end, union, join_end, join, project, minus}
 use Rattle.marked_automaton.specs.declared.TheConstants.{MOST_STATES, MOST_WAYS}
 use Rattle.marked_automaton.specs.declared.fault.SizeFault.{SizeFault}
 use Rattle.marked_automaton.specs.declared.fault.SizeFault.TheVariants.{States, Ways, OutOfMemory}
@@ -29,6 +29,7 @@ module _ (L : ℕ → Marked) where
     HasPart join_end n = ⊥
     HasPart (join e rest) n = HasPart e n ⊎ HasJoinStep (automaton_of L e) rest n
     HasPart (project kept e) n = HasPart e n ⊎ (n ≡ numbers_of (automaton_of L (project kept e)))
+    HasPart (minus e g) n = HasPart e n ⊎ (HasPart g n ⊎ (n ≡ numbers_of (automaton_of L (minus e g))))
 
     pub HasUnionStep : Marked → ExprTree → PartNumbers → Type 0
     HasUnionStep A (union e rest) n =
@@ -62,6 +63,7 @@ HasSmallAtoms (union e rest) = HasSmallAtoms e × HasSmallAtoms rest
 HasSmallAtoms join_end = Unit {0}
 HasSmallAtoms (join e rest) = HasSmallAtoms e × HasSmallAtoms rest
 HasSmallAtoms (project kept e) = HasSmallAtoms e
+HasSmallAtoms (minus e g) = HasSmallAtoms e × HasSmallAtoms g
 
 abbrev pub AtomsAreSmall : QueryTree → Type 0
 AtomsAreSmall q = ((l : VarName × ExprTree) → Has q.lets l → HasSmallAtoms l.1) × HasSmallAtoms q.body

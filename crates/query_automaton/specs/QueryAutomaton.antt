@@ -2,7 +2,7 @@
 use Rattle.std.specs.Prelude.{ℕ, Bool, zero, suc, List, [], Option, Some, None, slice_get, length, nat_eq, if◌then◌else◌}
 use Rattle.spanner_model.specs.Tree.{Tree}
 use Rattle.spanner_model.specs.Captures.{VarName}
-use Rattle.spanner_model.specs.Expression.{ExprTree, QueryTree, atom, named, union_end, union, join_end, join, project}
+use Rattle.spanner_model.specs.Expression.{ExprTree, QueryTree, atom, named, union_end, union, join_end, join, project, minus}
 use Rattle.marked_automaton.specs.Automaton.{Marked, bare}
 use Rattle.marked_automaton.specs.Marks.{left_of, remarked}
 use Rattle.place_automaton.specs.Variables.{with_vars}
@@ -11,6 +11,7 @@ use Rattle.algebra.specs.JoinedMarks.{agree_on, joined}
 use Rattle.algebra.specs.JoinedNames.{all_names}
 use Rattle.algebra.specs.Operations.{join_of}
 use Rattle.algebra.specs.Uniting.{union_over}
+use Rattle.algebra_minus.specs.DifferenceOf.{difference_of}
 
 abbrev pub of_atom : Bool → Bool → Tree → Marked
 of_atom from_start to_end f =
@@ -27,6 +28,9 @@ of_join A B =
 abbrev pub of_projection : List VarName → Marked → Marked
 of_projection kept A = record { names = kept; graph = remarked (left_of A.names kept) A.graph }
 
+abbrev pub of_minus : Marked → Marked → Marked
+of_minus A B = record { names = A.names; graph = difference_of A.graph B.graph }
+
 -- no states
 abbrev pub no_automaton : Marked
 no_automaton = record { names = []; graph = bare 0 }
@@ -42,6 +46,7 @@ module _ (L : ℕ → Marked) where
     automaton_of join_end = no_automaton
     automaton_of (join e rest) = together (automaton_of e) rest
     automaton_of (project kept e) = of_projection kept (automaton_of e)
+    automaton_of (minus e g) = of_minus (automaton_of e) (automaton_of g)
 
     -- with the parts of a union that follow
     pub united : Marked → ExprTree → Marked

@@ -115,6 +115,14 @@ impl<'q> Compiled<'q> {
         &self.automaton
     }
 
+    /// The automaton itself; the query is let go. It takes no memory.
+    pub fn into_automaton(self) -> Automaton
+        ensures automaton { result ≡ self.entry.automaton }
+        ensures compiled { IsCompiled (query_of self.entry.query) result }
+    {
+        self.automaton
+    }
+
     /// The variables of the query's result.
     pub fn vars(&self) -> &VarSet
         ensures { result.now ≡ self.now.automaton.names }

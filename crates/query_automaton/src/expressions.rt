@@ -18,11 +18,12 @@ ghost use Rattle.marked_automaton.specs.Reduct.{Reduces, ReducesMarked};
 ghost use Rattle.algebra.specs.JoinedNames.{all_names};
 ghost use Rattle.query_automaton.specs.Compiling.{AreCompiled, IsAsked, IsCompiledFrom};
 ghost use Rattle.query_automaton.specs.Parts.{HasLargePartOf};
-ghost use Rattle.query_automaton.specs.QueryAutomaton.{of_join, of_lets, of_union};
+ghost use Rattle.query_automaton.specs.QueryAutomaton.{of_join, of_lets, of_minus, of_union};
 
 use crate::effort::{hold, size_of, spend};
 use crate::shared::Shared;
 use algebra::{Effort, join_within, project, unite};
+use algebra_minus::minus_within;
 use marked_automaton::{Automaton, MOST_STATES, SizeFault};
 use place_automaton::of_atom;
 use span_core::{MOST_VARIABLES, OutOfMemory, VarSet};
@@ -53,6 +54,13 @@ pub fn expr_automaton(
         Expr::Project(kept, sub) => {
             let inner = expr_automaton(alloc, query, lets, sub, held, effort)?;
             Ok(projected(alloc, inner, kept, effort)?)
+        }
+        Expr::Minus(left, right) => {
+            let first = expr_automaton(alloc, query, lets, left, held, effort)?;
+            let waiting = hold(held, first.own_size())?;
+            let second = expr_automaton(alloc, query, lets, right, waiting, effort)?;
+            let alone = differing(alloc, first.as_automaton(), second.as_automaton(), effort)?;
+            Ok(Shared::new(alloc, alone)?)
         }
     }
 }
@@ -183,4 +191,23 @@ fn joined(
     let pairs = join_within(alloc, all, part, effort)?;
     spend(effort, &pairs)?;
     Ok(pairs.trim(alloc)?)
+}
+
+/// The difference of two parts, with what leads to no end left out.
+fn differing(
+    alloc: Global,
+    left: &Automaton,
+    right: &Automaton,
+    effort: &mut Effort,
+) -> Result<Automaton, SizeFault>
+    requires { left.now.names ≡ right.now.names }
+    ensures marked { IsMarked left.now × IsMarked right.now }
+    ensures made { IfOk result (λ alone. ReducesMarked alone (of_minus left.now right.now)) }
+    ensures fault { IfErr result (IsSizeFaultWithin (of_minus left.now right.now).graph.states (length (of_minus left.now right.now).graph.ways)) }
+{
+    // What is tried `minus_within` counts.
+    effort.spend(u64::from(left.states()) + u64::from(right.states()));
+    let alone = minus_within(alloc, left, right, effort)?;
+    spend(effort, &alone)?;
+    Ok(alone.trim(alloc)?)
 }

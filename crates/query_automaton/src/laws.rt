@@ -1,4 +1,6 @@
 //! Laws of the automata of queries, each the contract of a function that does nothing.
+ghost use Rattle.std.specs.Prelude.{◌≡◌};
+ghost use Rattle.query_automaton.specs.declared.effort.TheConstants.{MOST_HELD, MOST_STEPS};
 ghost use Rattle.query_automaton.specs.Laws.{QueryWords};
 ghost use Rattle.query_automaton.specs.Weights.{WeightOfTheExample};
 
@@ -11,4 +13,10 @@ pub fn queries_accept_the_words_of_their_rows()
 /// and a `c`.
 pub fn weight_of_the_example()
     ensures { WeightOfTheExample }
+{}
+
+/// The guards of compiling, as numbers.
+pub fn limits()
+    ensures steps { MOST_STEPS ≡ 2000000000 }
+    ensures held { MOST_HELD ≡ 8000000 }
 {}

@@ -1,12 +1,12 @@
--- The checks of unions and joins, part by part.
-use Rattle.std.proofs.Common.{◌≡◌, ℕ, zero, suc, ◌+◌, ◌≤◌, ◌⊎◌, ◌↔◌, List, [], ◌∷◌, ◌++◌, length, take, Option, Some, None, Result, Ok, Err, inl, inr, refl, sym, subst}
+-- The checks of unions and joins, part by part, and of differences.
+use Rattle.std.proofs.Common.{◌≡◌, ℕ, zero, suc, false, ◌+◌, ◌≤◌, ◌⊎◌, ◌↔◌, List, [], ◌∷◌, ◌++◌, length, take, Option, Some, None, Result, Ok, Err, inl, inr, refl, sym, subst}
 use Rattle.std.specs.Prelude.{slice_get}
 use Rattle.std.specs.Option.{MatchOption, IfSome, IfNone}
 use Rattle.std.specs.Result.{IsErrAnd}
 use Rattle.std.proofs.lemmas.List.{take_all}
 use Rattle.span_core.specs.Lists.{Has}
 use Rattle.spanner_model.specs.Gathered.{Adds}
-use Rattle.spanner_model.specs.Expression.{ExprTree, union_all, join_all}
+use Rattle.spanner_model.specs.Expression.{ExprTree, minus, union_all, join_all}
 use Rattle.spanner_model.specs.Captures.{VarName}
 use Rattle.spanner_model.specs.Answer.{VarOf}
 use Rattle.spanner_model.specs.Sound.{SureOf, SharesSure}
@@ -15,12 +15,13 @@ use Rattle.spanner_model.proofs.TreeLaws.{take_at_more}
 use Rattle.spanner_model.proofs.ExprLaws.{join_part_var, join_var_part}
 use Rattle.spanner_model.proofs.GatheredLaws.{exprs_in_turn, in_more}
 use Rattle.functional_check.specs.Faults.{IsLeast, IsLeastOf}
-use Rattle.functional_check.proofs.LeastLaws.{least_same}
+use Rattle.functional_check.specs.Names.{IsIn, smaller_of}
+use Rattle.functional_check.proofs.LeastLaws.{least_same, least_both}
 use Rattle.query_parser.specs.declared.check.Bound.{Bound}
 use Rattle.query_parser.specs.declared.fault.QueryFault.{QueryFault}
-use Rattle.query_parser.specs.declared.fault.QueryFault.TheVariants.{JoinUnsure}
-use Rattle.query_parser.specs.TreeFaults.{Passes, HasPassingParts, Clashes, ClashesFirst, OwnFault, InnerFault, IsExprFault}
-use Rattle.query_parser.specs.Formed.{IsBoundOf, Checked, IsUnsureIn}
+use Rattle.query_parser.specs.declared.fault.QueryFault.TheVariants.{JoinUnsure, MinusVariables}
+use Rattle.query_parser.specs.TreeFaults.{Passes, HasPassingParts, Clashes, ClashesFirst, IsOfOneSide, OwnFault, InnerFault, IsExprFault}
+use Rattle.query_parser.specs.Formed.{IsBoundOf, Checked, IsUnsureIn, IsInOne, IsDifferenceOf}
 use Rattle.query_parser.proofs.Lists.{is_in}
 use Rattle.query_parser.proofs.SureLaws.{join_part_sure, join_sure_part, sure_in_turn, union_sure_more}
 
@@ -268,3 +269,48 @@ module _ (V S : ℕ → VarName → Type 0) where
   pub checked_err : (e : ExprTree) (r : Result Bound QueryFault) (f : QueryFault) → IsErrAnd r (λ g. g ≡ f) → IsExprFault V S e f → Checked V S e r
   checked_err e (Ok b) f h fault = absurd h
   checked_err e (Err g) f h fault = subst (IsExprFault V S e) (sym h) fault
+
+  -- ---- differences
+
+  pub minus_left : (e g : ExprTree) (f : QueryFault) → IsExprFault V S e f → IsExprFault V S (minus e g) f
+  minus_left e g f h = inl (inl h)
+
+  pub minus_right : (e g : ExprTree) (f : QueryFault) → Passes V S e → IsExprFault V S g f → IsExprFault V S (minus e g) f
+  minus_right e g f ok h = inl (inr (ok, h))
+
+  one_side : (e g : ExprTree) (a b : Bound) → IsBoundOf V S e a → IsBoundOf V S g b → (x : VarName) → IsInOne a b x ↔ IsOfOneSide V S e g x
+  one_side e g a b left right x = (
+    λ h. elim h as (λ _. IsOfOneSide V S e g x) [
+      | inl i ↦ inl ((left.0 x).0 i.0, λ v. i.1 ((right.0 x).1 v))
+      | inr i ↦ inr ((right.0 x).0 i.0, λ v. i.1 ((left.0 x).1 v))
+    ],
+    λ h. elim h as (λ _. IsInOne a b x) [
+      | inl i ↦ inl ((left.0 x).1 i.0, λ v. i.1 ((right.0 x).0 v))
+      | inr i ↦ inr ((right.0 x).1 i.0, λ v. i.1 ((left.0 x).0 v))
+    ],
+  )
+
+  -- what is in one of the two is in the other, where none is in one alone
+  in_other : (a b : Bound) → ((x : VarName) → ¬ IsInOne a b x) → (x : VarName) → Has a.vars x ↔ Has b.vars x
+  in_other a b none x = (λ h. by (is_in b.vars x) (λ n. none x (inl (h, n))), λ h. by (is_in a.vars x) (λ n. none x (inr (h, n))))
+    where
+      by : {P : Type 0} → P ⊎ (P → ⊥) → ((P → ⊥) → ⊥) → P
+      by (inl h) not = h
+      by (inr n) not = absurd (not n)
+
+  pub minus_done : (e g : ExprTree) (a b : Bound) (r : Result Bound QueryFault) → Passes V S e → IsBoundOf V S e a → Passes V S g → IsBoundOf V S g b →
+      IsDifferenceOf a b r → Checked V S (minus e g) r
+  minus_done e g a b (Ok bound) ok left other right (same, none) =
+      let both = in_other a b none in (
+        (ok, other, λ x. (λ v. (right.0 x).0 ((both x).0 ((left.0 x).1 v)), λ v. (left.0 x).0 ((both x).1 ((right.0 x).1 v)))),
+        subst (IsBoundOf V S (minus e g)) (sym same) left,
+      )
+  minus_done e g a b (Err f) ok left other right (x, least, is) =
+      let own = least_same (IsInOne a b) (IsOfOneSide V S e g) (Some x) (one_side e g a b left right) least in
+      subst (IsExprFault V S (minus e g)) (sym is) (inr ((ok, other), own))
+
+-- the least name of one of two sets alone
+pub one_alone : (a b : Bound) (first second found : Option VarName) → IsLeastOf (λ x. Has a.vars x × IsIn false b.vars x) first →
+    IsLeastOf (λ x. Has b.vars x × IsIn false a.vars x) second → found ≡ smaller_of first second → IsLeastOf (IsInOne a b) found
+one_alone a b first second found p q is =
+    subst (IsLeastOf (IsInOne a b)) (sym is) (least_both (λ x. Has a.vars x × IsIn false b.vars x) (λ x. Has b.vars x × IsIn false a.vars x) first second p q)

@@ -118,7 +118,7 @@ read_or_refused text = by (some_end (suc (length text)) text 0 outermost (omega 
 
 -- ---- each text
 
-text_from_all : (text : List ℕ) → All (λ b. b < 256) text → IsText text
+pub text_from_all : (text : List ℕ) → All (λ b. b < 256) text → IsText text
 text_from_all text all = text_of text (λ i. by i (nat_lt i (length text)) refl)
   where
     by : (i : ℕ) (b : Bool) → nat_lt i (length text) ≡ b → get_or text i 0 < 256

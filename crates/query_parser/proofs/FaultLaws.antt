@@ -26,7 +26,7 @@ wants_of : (n : Nest) (r : Reading) → reading_of n ≡ r → wants_unit n.last
 wants_of n r e = wants_same n.last ∙ ap (λ (s : Reading). reads.wants_unit s.mark) e
 
 -- a query that is whole by what was read is one
-abbrev is_found : Option Body → Bool
+abbrev pub is_found : Option Body → Bool
 is_found None = false
 is_found (Some b) = true
 
@@ -39,7 +39,7 @@ whole_at lets many top [] (Some x) last = refl
 whole_at lets many top (f ∷ below) current (unit e) = refl
 whole_at lets many top (f ∷ below) current last = refl
 
-whole_of : (n : Nest) (r : Reading) → reading_of n ≡ r → is_found (whole_query n) ≡ is_whole r
+pub whole_of : (n : Nest) (r : Reading) → reading_of n ≡ r → is_found (whole_query n) ≡ is_whole r
 whole_of n r e = whole_at n.lets n.many n.top n.below n.current n.last ∙ ap is_whole e
 
 next_of : (n : Nest) (r : Reading) (t : Token) → reading_of n ≡ r → seen (move t n) ≡ next r.mark r t

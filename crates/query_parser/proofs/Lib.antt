@@ -1,4 +1,5 @@
 pub mod Lists
+pub mod MinusLaws
 pub mod MoveLaws
 pub mod NumberLaws
 pub mod SpelledMoves
@@ -24,3 +25,10 @@ pub mod ToldNames
 pub mod ToldFormulas
 pub mod ToldQueries
 pub mod EachQueryText
+pub mod RunsMeet
+pub mod TestMoves
+pub mod TestTurns
+pub mod TestedReading
+pub mod TestedFaults
+pub mod TestedCode
+pub mod EachTestedText

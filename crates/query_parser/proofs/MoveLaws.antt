@@ -6,12 +6,12 @@ use Rattle.span_core.specs.Names.{is_name}
 use Rattle.span_core.specs.NameSets.{with_name}
 use Rattle.spanner_model.specs.Captures.{VarName}
 use Rattle.spanner_model.specs.Expression.{ExprTree}
-use Rattle.query_parser.specs.declared.TheConstants.{MOST_OPEN}
-use Rattle.query_parser.specs.Tokens.{Token, atom_token, let_word, union_word, join_word, project_word, none_word, name_token, equals, semicolon, open_paren, close_paren, comma}
+use Rattle.query_parser.specs.declared.TheConstants.{MOST_OPEN, MOST_MINUSES}
+use Rattle.query_parser.specs.Tokens.{Token, atom_token, let_word, union_word, join_word, project_word, none_word, name_token, equals, semicolon, open_paren, close_paren, comma, minus_word}
 use Rattle.query_parser.specs.Spells.{names_of}
 use Rattle.query_parser.specs.Reads.{Mark, Reading, Refusal, unexpected, name_too_long, name_twice, unknown_name, too_deep, is_among, finds_room, next, marked}
 use Rattle.query_parser.specs.Reads as mark
-use Rattle.query_parser.specs.Nest.{Frame, Last, at_start, after_let, after_name, at_unit, unit, after_project, after_none, after_kept, after_comma, Nest, Move, mark_of, reading_of, find, number_from, move, opens, speaks_of, reads_name, opened, with_last}
+use Rattle.query_parser.specs.Nest.{Frame, Last, at_start, after_let, after_name, at_unit, unit, after_project, after_none, after_kept, after_comma, Nest, Move, mark_of, reading_of, find, number_from, move, opens, speaks_of, reads_name, opened, with_last, next_side, subtracts}
 
 -- the reading that a move leaves
 abbrev pub seen : Move → Result Reading Refusal
@@ -37,8 +37,17 @@ found_among (y ∷ ys) x = by (bytes_eq y x) (find ys x) ∙ ap (λ b. bytes_eq 
     by false None = refl
     by false (Some k) = refl
 
-pub make : List (VarName × ExprTree) → Option VarName → List Frame → Frame → Last → Bool → Nest
-make lets current below top last many = record { lets = lets; current = current; below = below; top = top; last = last; many = many }
+minus_seen : (x : VarName) (e : ExprTree) (n : Nest) →
+    seen (subtracts x e n)
+    ≡ (if bytes_eq x minus_word then (if nat_lt n.minuses MOST_MINUSES then Ok (record (reading_of n) { minuses = suc n.minuses; mark = mark.at_unit }) else Err too_deep) else Err unexpected)
+minus_seen x e n =
+    let taken : Move = if nat_lt n.minuses MOST_MINUSES then Ok (next_side e n) else Err too_deep in
+    seen_if (bytes_eq x minus_word) taken (Err unexpected)
+    ∙ ap (λ r. if bytes_eq x minus_word then r else Err unexpected) (seen_if (nat_lt n.minuses MOST_MINUSES) (Ok (next_side e n)) (Err too_deep))
+
+pub make : List (VarName × ExprTree) → Option VarName → List Frame → Frame → Last → Bool → ℕ → Nest
+make lets current below top last many minuses =
+    record { lets = lets; current = current; below = below; top = top; last = last; many = many; minuses = minuses }
 
 -- a name as a unit
 abbrev named_next : Bool → Reading → Result Reading Refusal
@@ -71,43 +80,44 @@ pub names_more : (lets : List (VarName × ExprTree)) (x : VarName) (e : ExprTree
 names_more [] x e = refl
 names_more (l ∷ lets) x e = ap (λ xs. l.0 ∷ xs) (names_more lets x e)
 
-pub shape_at : (t : Token) (lets : List (VarName × ExprTree)) (current : Option VarName) (below : List Frame) (top : Frame) (last : Last) (many : Bool) →
-    seen (move t (make lets current below top last many)) ≡ next (mark_of last) (reading_of (make lets current below top last many)) t
+pub shape_at : (t : Token) (lets : List (VarName × ExprTree)) (current : Option VarName) (below : List Frame) (top : Frame) (last : Last) (many : Bool) (minuses : ℕ) →
+    seen (move t (make lets current below top last many minuses)) ≡ next (mark_of last) (reading_of (make lets current below top last many minuses)) t
 unfolding make
-shape_at let_word lets current below top at_start many = refl
-shape_at union_word lets current below top (unit e) many = refl
-shape_at join_word lets current below top (unit e) many = refl
-shape_at project_word lets current below top at_start many = refl
-shape_at none_word lets current below top after_project many = refl
-shape_at equals lets current below top after_name many = refl
-shape_at comma lets current below top (after_kept kept) many = refl
-shape_at (atom_token a) lets current below top at_start many = refl
-shape_at (atom_token a) lets current below top at_unit many = refl
-shape_at (name_token x) lets current below top at_start many = unit_seen x (make lets current below top at_start many)
-shape_at (name_token x) lets current below top at_unit many = unit_seen x (make lets current below top at_unit many)
-shape_at (name_token x) lets current below top after_let many =
-    let n = make lets current below top after_let many in
+shape_at let_word lets current below top at_start many minuses = refl
+shape_at union_word lets current below top (unit e) many minuses = refl
+shape_at join_word lets current below top (unit e) many minuses = refl
+shape_at project_word lets current below top at_start many minuses = refl
+shape_at none_word lets current below top after_project many minuses = refl
+shape_at equals lets current below top after_name many minuses = refl
+shape_at comma lets current below top (after_kept kept) many minuses = refl
+shape_at (atom_token a) lets current below top at_start many minuses = refl
+shape_at (atom_token a) lets current below top at_unit many minuses = refl
+shape_at (name_token x) lets current below top at_start many minuses = unit_seen x (make lets current below top at_start many minuses)
+shape_at (name_token x) lets current below top at_unit many minuses = unit_seen x (make lets current below top at_unit many minuses)
+shape_at (name_token x) lets current below top after_let many minuses =
+    let n = make lets current below top after_let many minuses in
     let twice : Move = if is_among (names_of lets) x then Err name_twice else Ok (record n { current = Some x; last = after_name }) in
     seen_if (is_name x) twice (Err name_too_long)
     ∙ ap (λ r. if is_name x then r else Err name_too_long) (seen_if (is_among (names_of lets) x) (Err name_twice) (Ok (record n { current = Some x; last = after_name })))
-shape_at (name_token x) lets current below top after_project many = keep_seen [] x (make lets current below top after_project many)
-shape_at (name_token x) lets current below top (after_comma kept) many = keep_seen kept x (make lets current below top (after_comma kept) many)
-shape_at open_paren lets current below top at_start many = open_seen None (make lets current below top at_start many)
-shape_at open_paren lets current below top at_unit many = open_seen None (make lets current below top at_unit many)
-shape_at open_paren lets current below top after_none many = open_seen (Some []) (make lets current below top after_none many)
-shape_at open_paren lets current below top (after_kept kept) many = open_seen (Some kept) (make lets current below top (after_kept kept) many)
-shape_at close_paren lets current [] top (unit e) many = refl
-shape_at close_paren lets current (f ∷ below) top (unit e) many = refl
-shape_at semicolon lets (Some x) [] top (unit e) many =
-    ap (λ names. Ok (record { names = names; current = None; opened = 0; mark = mark.at_start; many = many })) (names_more lets x _)
-shape_at semicolon lets None [] top (unit e) many = refl
-shape_at semicolon lets current (f ∷ below) top (unit e) many = refl
-shape_at t lets current below top last many = refl
+shape_at (name_token x) lets current below top after_project many minuses = keep_seen [] x (make lets current below top after_project many minuses)
+shape_at (name_token x) lets current below top (after_comma kept) many minuses = keep_seen kept x (make lets current below top (after_comma kept) many minuses)
+shape_at (name_token x) lets current below top (unit e) many minuses = minus_seen x e (make lets current below top (unit e) many minuses)
+shape_at open_paren lets current below top at_start many minuses = open_seen None (make lets current below top at_start many minuses)
+shape_at open_paren lets current below top at_unit many minuses = open_seen None (make lets current below top at_unit many minuses)
+shape_at open_paren lets current below top after_none many minuses = open_seen (Some []) (make lets current below top after_none many minuses)
+shape_at open_paren lets current below top (after_kept kept) many minuses = open_seen (Some kept) (make lets current below top (after_kept kept) many minuses)
+shape_at close_paren lets current [] top (unit e) many minuses = refl
+shape_at close_paren lets current (f ∷ below) top (unit e) many minuses = refl
+shape_at semicolon lets (Some x) [] top (unit e) many minuses =
+    ap (λ names. Ok (record { names = names; current = None; opened = 0; mark = mark.at_start; many = many; minuses = minuses })) (names_more lets x _)
+shape_at semicolon lets None [] top (unit e) many minuses = refl
+shape_at semicolon lets current (f ∷ below) top (unit e) many minuses = refl
+shape_at t lets current below top last many minuses = refl
 
 -- the reading after a move is what comes next of the reading before it
 pub shape : (t : Token) (n : Nest) → seen (move t n) ≡ next (mark_of n.last) (reading_of n) t
 unfolding make
-shape t n = shape_at t n.lets n.current n.below n.top n.last n.many
+shape t n = shape_at t n.lets n.current n.below n.top n.last n.many n.minuses
 
 pub names_len : (lets : List (VarName × ExprTree)) → length (names_of lets) ≡ length lets
 names_len [] = refl

@@ -5,22 +5,26 @@ use Rattle.span_core.specs.declared.TheConstants.{MOST_VARIABLES}
 use Rattle.span_core.specs.NameSets.{with_name, Ascending}
 use Rattle.span_core.specs.Lists.{Has}
 use Rattle.spanner_model.specs.Captures.{VarName}
-use Rattle.spanner_model.specs.Expression.{ExprTree, project}
+use Rattle.spanner_model.specs.Expression.{ExprTree, project, minus}
 use Rattle.spanner_model.specs.Sound.{IsFreeName}
-use Rattle.query_parser.specs.declared.TheConstants.{MOST_OPEN}
-use Rattle.query_parser.specs.Tokens.{Token, let_word, union_word, join_word, project_word, none_word, name_token, equals, semicolon, open_paren, close_paren, comma}
-use Rattle.query_parser.specs.Spells.{union_tree, join_tree, with_names, SpellsNames, one_name, more_names, SpellsKeep, SpellsExpr, lone_conj, more_conjs, SpellsConj, lone_unit, more_units, SpellsUnit, group_of, projection_of, names_of, SpellsLets, no_let, more_lets, Spells}
+use Rattle.query_parser.specs.declared.TheConstants.{MOST_OPEN, MOST_MINUSES}
+use Rattle.query_parser.specs.Tokens.{Token, let_word, union_word, join_word, project_word, none_word, name_token, equals, semicolon, open_paren, close_paren, comma, minus_word}
+use Rattle.query_parser.specs.Minuses.{minuses_of}
+use Rattle.query_parser.specs.Spells.{union_tree, join_tree, with_names, SpellsNames, one_name, more_names, SpellsKeep, SpellsExpr, lone_conj, more_conjs, less_conj, SpellsConj, lone_unit, more_units, SpellsUnit, group_of, projection_of, names_of, SpellsLets, no_let, more_lets, Spells}
 use Rattle.query_parser.specs.Reads.{finds_room}
-use Rattle.query_parser.specs.Nest.{Frame, Last, at_start, after_let, after_name, at_unit, unit, after_project, after_none, after_kept, after_comma, Nest, empty_frame, outermost, whole_conj, whole_expr, whole, keeping, closed}
+use Rattle.query_parser.specs.Nest.{Frame, Last, at_start, after_let, after_name, at_unit, unit, after_project, after_none, after_kept, after_comma, Nest, empty_frame, outermost, whole_conj, less, whole_expr, whole, keeping, closed}
 use Rattle.span_core.proofs.NameSetLaws.{none_are_variables}
 use Rattle.query_parser.proofs.Lists.{with_names_more, with_names_ascend, room_keeps}
 use Rattle.query_parser.proofs.SpelledMoves.{cons_join, cons_union}
 
--- the names of these lets, and `room` parentheses to open: the tokens of conjunctions that a `union` follows each
+-- the names of these lets, and `room` parentheses to open: the tokens of conjunctions that a `union` follows each, or those of what the next
+-- conjunction is taken from, and the `minus`
 module _ (names : List VarName) (room : ℕ) where
-  abbrev pub ConjsBefore : List ExprTree → List Token → Type 0
-  ConjsBefore [] t = t ≡ []
-  ConjsBefore (c ∷ cs) t = (d : List Token) × (t ≡ d ++ union_word ∷ []) × SpellsExpr names room d (c ∷ cs)
+  abbrev pub ConjsBefore : List ExprTree → Option ExprTree → List Token → Type 0
+  ConjsBefore [] None t = t ≡ []
+  ConjsBefore (c ∷ cs) None t = (d : List Token) × (t ≡ d ++ union_word ∷ []) × SpellsExpr names room d (c ∷ cs)
+  ConjsBefore [] (Some l) t = (d : List Token) × (fs : List ExprTree) × (t ≡ d ++ name_token minus_word ∷ []) × SpellsExpr names room d fs × (l ≡ union_tree fs)
+  ConjsBefore (c ∷ cs) (Some l) t = ⊥
 
   -- of units that a `join` follows each
   abbrev pub UnitsBefore : List ExprTree → List Token → Type 0
@@ -49,11 +53,11 @@ module _ (names : List VarName) (room : ℕ) where
   OpenerRead (Some kept) t = (d : List Token) × (t ≡ project_word ∷ (d ++ open_paren ∷ [])) × SpellsKeep d kept
 
 -- the tokens of a frame before its last unit
-pub record FrameRead (names : List VarName) (room : ℕ) (conjs units : List ExprTree) (t : List Token) : Type 0 where
+pub record FrameRead (names : List VarName) (room : ℕ) (conjs : List ExprTree) (left : Option ExprTree) (units : List ExprTree) (t : List Token) : Type 0 where
   pub front : List Token
   pub back : List Token
   pub splits : t ≡ front ++ back
-  pub conjs_read : ConjsBefore names room conjs front
+  pub conjs_read : ConjsBefore names room conjs left front
   pub units_read : UnitsBefore names room units back
 
 -- the tokens of all frames around one that keeps `kept`, its opener among them
@@ -61,7 +65,7 @@ abbrev pub Outside : List VarName → ℕ → Option (List VarName) → List Fra
 Outside names room kept [] t = (kept ≡ None) × (t ≡ []) × (room ≡ MOST_OPEN)
 Outside names room kept (f ∷ below) t =
     (a : List Token) × (b : List Token) × (c : List Token) × (t ≡ a ++ (b ++ c))
-    × Outside names (suc room) f.kept below a × FrameRead names (suc room) f.conjs f.units b × OpenerRead names room kept c
+    × Outside names (suc room) f.kept below a × FrameRead names (suc room) f.conjs f.left f.units b × OpenerRead names room kept c
 
 -- the tokens at the beginning of a let, or of the body
 abbrev pub LetNamed : List VarName → List Token → Option VarName → List Token → Type 0
@@ -97,7 +101,7 @@ pub record Read (ts : List Token) (lets : List (VarName × ExprTree)) (current :
   pub lets_read : SpellsLets whole_lets lets
   pub let_read : LetRead (names_of lets) last current let_text
   pub outside_read : Outside (names_of lets) room top.kept below outside
-  pub inside_read : FrameRead (names_of lets) room top.conjs top.units inside
+  pub inside_read : FrameRead (names_of lets) room top.conjs top.left top.units inside
   pub here_read : LastRead (names_of lets) room last here
   pub bare : IsBare last below top
 
@@ -114,24 +118,32 @@ conj_of {names = names} {room = room} {t = t} {e = e} (u ∷ us) b (d, is, c) s 
   subst (λ x. SpellsConj names room x ((u ∷ us) ++ e ∷ [])) (sym (append_assoc d (join_word ∷ []) t) ∙ ap (λ x. x ++ t) (sym is)) (more_units c s),
 )
 
-pub expr_of : {names : List VarName} {room : ℕ} {t : List Token} {es : List ExprTree} (cs : List ExprTree) (f : List Token) → ConjsBefore names room cs f → SpellsConj names room t es →
-    (ds : List ExprTree) × (whole_expr cs (join_tree es) ≡ union_tree ds) × SpellsExpr names room (f ++ t) ds
-expr_of {names = names} {room = room} {t = t} {es = es} [] f none s = (join_tree es ∷ [], refl, subst (λ x. SpellsExpr names room (x ++ t) (join_tree es ∷ [])) (sym none) (lone_conj s))
-expr_of {names = names} {room = room} {t = t} {es = es} (c ∷ cs) f (d, is, h) s = (
+pub expr_of : {names : List VarName} {room : ℕ} {t : List Token} {es : List ExprTree} (cs : List ExprTree) (left : Option ExprTree) (f : List Token) →
+    ConjsBefore names room cs left f → SpellsConj names room t es →
+    (ds : List ExprTree) × (whole_expr cs (less left (join_tree es)) ≡ union_tree ds) × SpellsExpr names room (f ++ t) ds
+expr_of {names = names} {room = room} {t = t} {es = es} [] None f none s =
+    (join_tree es ∷ [], refl, subst (λ x. SpellsExpr names room (x ++ t) (join_tree es ∷ [])) (sym none) (lone_conj s))
+expr_of {names = names} {room = room} {t = t} {es = es} (c ∷ cs) None f (d, is, h) s = (
   (c ∷ cs) ++ join_tree es ∷ [],
   cons_union c (join_tree es) cs,
   subst (λ x. SpellsExpr names room x ((c ∷ cs) ++ join_tree es ∷ [])) (sym (append_assoc d (union_word ∷ []) t) ∙ ap (λ x. x ++ t) (sym is)) (more_conjs h s),
 )
+expr_of {names = names} {room = room} {t = t} {es = es} [] (Some l) f (d, fs, is, h, same) s = (
+  minus (union_tree fs) (join_tree es) ∷ [],
+  ap (λ g. minus g (join_tree es)) same,
+  subst (λ x. SpellsExpr names room x (minus (union_tree fs) (join_tree es) ∷ [])) (sym (append_assoc d (name_token minus_word ∷ []) t) ∙ ap (λ x. x ++ t) (sym is)) (less_conj h s),
+)
+expr_of (c ∷ cs) (Some l) f none s = absurd none
 
 -- the expression of a frame, once its last unit is read
-pub whole_read : {names : List VarName} {room : ℕ} {b t : List Token} {cs us : List ExprTree} {e : ExprTree} → (kept : Option (List VarName)) →
-    FrameRead names room cs us b → SpellsUnit names room t e →
-    (ds : List ExprTree) × (whole (record { kept = kept; conjs = cs; units = us }) e ≡ union_tree ds) × SpellsExpr names room (b ++ t) ds
-whole_read {names = names} {room = room} {b = b} {t = t} {cs = cs} {us = us} {e = e} kept f s =
+pub whole_read : {names : List VarName} {room : ℕ} {b t : List Token} {cs us : List ExprTree} {left : Option ExprTree} {e : ExprTree} → (kept : Option (List VarName)) →
+    FrameRead names room cs left us b → SpellsUnit names room t e →
+    (ds : List ExprTree) × (whole (record { kept = kept; conjs = cs; left = left; units = us }) e ≡ union_tree ds) × SpellsExpr names room (b ++ t) ds
+whole_read {names = names} {room = room} {b = b} {t = t} {cs = cs} {us = us} {left = left} {e = e} kept f s =
     let (es, is, c) = conj_of us f.back f.units_read s in
-    let (ds, same, x) = expr_of cs f.front f.conjs_read c in (
+    let (ds, same, x) = expr_of cs left f.front f.conjs_read c in (
       ds,
-      ap (whole_expr cs) is ∙ same,
+      ap (λ d. whole_expr cs (less left d)) is ∙ same,
       subst (λ y. SpellsExpr names room y ds) (sym (append_assoc f.front f.back t) ∙ ap (λ y. y ++ t) (sym f.splits)) x,
     )
 
@@ -144,7 +156,7 @@ closed_read {names = names} {room = room} {t = t} {ds = ds} (Some kept) c (d, is
     subst (λ x. SpellsUnit names (suc room) x (project kept (union_tree ds)))
     (ap (λ x. project_word ∷ x) (sym (append_assoc d (open_paren ∷ []) (t ++ close_paren ∷ []))) ∙ ap (λ x. x ++ (t ++ close_paren ∷ [])) (sym is)) (projection_of k s)
 
-pub no_frame : (names : List VarName) (room : ℕ) → FrameRead names room [] [] []
+pub no_frame : (names : List VarName) (room : ℕ) → FrameRead names room [] None [] []
 no_frame names room = record { front = []; back = []; splits = refl; conjs_read = refl; units_read = refl }
 
 pub outside_room : (names : List VarName) (room : ℕ) (kept : Option (List VarName)) (below : List Frame) (t : List Token) → Outside names room kept below t →
@@ -161,16 +173,18 @@ bare_outside : (names : List VarName) (room : ℕ) (kept : Option (List VarName)
 bare_outside names room kept o [] e (k, is, full) = (is, k, full)
 bare_outside names room kept o (f ∷ below) e h = absurd (cc)
 
-bare_frame : {names : List VarName} {room : ℕ} {i : List Token} (cs us : List ExprTree) → cs ≡ [] → us ≡ [] → FrameRead names room cs us i → i ≡ []
-bare_frame [] [] e d f = f.splits ∙ ap (λ x. x ++ f.back) f.conjs_read ∙ f.units_read
-bare_frame (c ∷ cs) us e d f = absurd (cc)
-bare_frame [] (u ∷ us) e d f = absurd (cc)
+bare_frame : {names : List VarName} {room : ℕ} {i : List Token} (cs : List ExprTree) (left : Option ExprTree) (us : List ExprTree) → cs ≡ [] → left ≡ None → us ≡ [] →
+    FrameRead names room cs left us i → i ≡ []
+bare_frame [] None [] e l d f = f.splits ∙ ap (λ x. x ++ f.back) f.conjs_read ∙ f.units_read
+bare_frame (c ∷ cs) left us e l d f = absurd (cc)
+bare_frame [] (Some g) us e l d f = absurd (cc)
+bare_frame [] None (u ∷ us) e l d f = absurd (cc)
 
 bare_text : {ts : List Token} {lets : List (VarName × ExprTree)} {current : Option VarName} {below : List Frame} {top : Frame} {last : Last}
     (r : Read ts lets current below top last) → below ≡ [] → top ≡ empty_frame None → r.here ≡ [] → ts ≡ r.whole_lets ++ r.let_text
 bare_text {lets = lets} {below = below} {top = top} r no_below no_top no_here =
     let o = (bare_outside (names_of lets) r.room top.kept r.outside below no_below r.outside_read).0 in
-    let i = bare_frame top.conjs top.units (ap (λ f. f.conjs) no_top) (ap (λ f. f.units) no_top) r.inside_read in
+    let i = bare_frame top.conjs top.left top.units (ap (λ f. f.conjs) no_top) (ap (λ f. f.left) no_top) (ap (λ f. f.units) no_top) r.inside_read in
     r.splits ∙ ap (λ h. r.whole_lets ++ (r.let_text ++ (r.outside ++ (r.inside ++ h)))) no_here
     ∙ ap (λ i. r.whole_lets ++ (r.let_text ++ (r.outside ++ (i ++ [])))) i ∙ ap (λ o. r.whole_lets ++ (r.let_text ++ (o ++ []))) o
     ∙ ap (λ l. r.whole_lets ++ l) (append-nil r.let_text)
@@ -339,7 +353,7 @@ read_open {ts = ts} {lets = lets} {below = below} {top = top} kept r l opener fe
         c,
         refl,
         subst (λ k. Outside (names_of lets) k top.kept below r.outside) is r.outside_read,
-        subst (λ k. FrameRead (names_of lets) k top.conjs top.units r.inside) is r.inside_read,
+        subst (λ k. FrameRead (names_of lets) k top.conjs top.left top.units r.inside) is r.inside_read,
         opener left,
       );
       inside_read = no_frame (names_of lets) left;
@@ -383,14 +397,20 @@ read_join {ts = ts} {lets = lets} {top = top} {e = e} r =
     units_more (u ∷ us) e b t (d, is, c) s =
         (d ++ join_word ∷ t, ap (λ x. x ++ (t ++ join_word ∷ [])) is ∙ simp append_assoc, more_units c s)
 
+-- tokens that end the last conjunction, and what they begin
+more_inside : (i f b h : List Token) (t : Token) → i ≡ f ++ b → i ++ (h ++ t ∷ []) ≡ f ++ ((b ++ h) ++ t ∷ [])
+more_inside i f b h t splits = ap (λ x. x ++ (h ++ t ∷ [])) splits ∙ simp append_assoc
+
+after_inside : (ts w l o i h : List Token) (t : Token) → ts ≡ w ++ (l ++ (o ++ (i ++ h))) → ts ++ t ∷ [] ≡ w ++ (l ++ (o ++ ((i ++ (h ++ t ∷ [])) ++ [])))
+after_inside ts w l o i h t splits = splits_more ts w l o i h (t ∷ []) splits ∙ ap (λ x. w ++ (l ++ (o ++ x))) (sym (append-nil (i ++ (h ++ t ∷ []))))
+
 -- the conjunction is one of more that a union has
 pub read_union : {ts : List Token} {lets : List (VarName × ExprTree)} {current : Option VarName} {below : List Frame} {top : Frame} {e : ExprTree} →
-    Read ts lets current below top (unit e) → Read (ts ++ union_word ∷ []) lets current below (record top { conjs = top.conjs ++ whole_conj top.units e ∷ []; units = [] }) at_unit
+    Read ts lets current below top (unit e) →
+    Read (ts ++ union_word ∷ []) lets current below (record top { conjs = top.conjs ++ less top.left (whole_conj top.units e) ∷ []; left = None; units = [] }) at_unit
 read_union {ts = ts} {lets = lets} {top = top} {e = e} r =
     let f = r.inside_read in
     let (es, is, c) = conj_of top.units f.back f.units_read r.here_read in
-    let text : r.inside ++ (r.here ++ union_word ∷ []) ≡ f.front ++ ((f.back ++ r.here) ++ union_word ∷ []) =
-    ap (λ x. x ++ (r.here ++ union_word ∷ [])) f.splits ∙ simp append_assoc in
     record {
       room = r.room;
       whole_lets = r.whole_lets;
@@ -398,28 +418,62 @@ read_union {ts = ts} {lets = lets} {top = top} {e = e} r =
       outside = r.outside;
       inside = r.inside ++ (r.here ++ union_word ∷ []);
       here = [];
-      splits = splits_more ts r.whole_lets r.let_text r.outside r.inside r.here (union_word ∷ []) r.splits
-          ∙ ap (λ x. r.whole_lets ++ (r.let_text ++ (r.outside ++ x))) (sym (append-nil (r.inside ++ (r.here ++ union_word ∷ []))));
+      splits = after_inside ts r.whole_lets r.let_text r.outside r.inside r.here union_word r.splits;
       lets_read = r.lets_read;
       let_read = r.let_read;
       outside_read = r.outside_read;
       inside_read = record {
         front = f.front ++ ((f.back ++ r.here) ++ union_word ∷ []);
         back = [];
-        splits = text ∙ sym (append-nil (f.front ++ ((f.back ++ r.here) ++ union_word ∷ [])));
-        conjs_read = subst (λ x. ConjsBefore (names_of lets) r.room (top.conjs ++ x ∷ []) (f.front ++ ((f.back ++ r.here) ++ union_word ∷ []))) (sym is)
-            (conjs_more top.conjs es f.front (f.back ++ r.here) f.conjs_read c);
+        splits = more_inside r.inside f.front f.back r.here union_word f.splits ∙ sym (append-nil (f.front ++ ((f.back ++ r.here) ++ union_word ∷ [])));
+        conjs_read = subst (λ x. ConjsBefore (names_of lets) r.room (top.conjs ++ less top.left x ∷ []) None (f.front ++ ((f.back ++ r.here) ++ union_word ∷ []))) (sym is)
+            (conjs_more top.conjs top.left es f.front (f.back ++ r.here) f.conjs_read c);
         units_read = refl;
       };
       here_read = refl;
       bare = tt;
     }
   where
-    conjs_more : (cs es : List ExprTree) (b t : List Token) → ConjsBefore (names_of lets) r.room cs b → SpellsConj (names_of lets) r.room t es →
-        ConjsBefore (names_of lets) r.room (cs ++ join_tree es ∷ []) (b ++ (t ++ union_word ∷ []))
-    conjs_more [] es b t is s = (t, ap (λ x. x ++ (t ++ union_word ∷ [])) is, lone_conj s)
-    conjs_more (c ∷ cs) es b t (d, is, x) s =
+    conjs_more : (cs : List ExprTree) (left : Option ExprTree) (es : List ExprTree) (b t : List Token) → ConjsBefore (names_of lets) r.room cs left b →
+        SpellsConj (names_of lets) r.room t es → ConjsBefore (names_of lets) r.room (cs ++ less left (join_tree es) ∷ []) None (b ++ (t ++ union_word ∷ []))
+    conjs_more [] None es b t is s = (t, ap (λ x. x ++ (t ++ union_word ∷ [])) is, lone_conj s)
+    conjs_more (c ∷ cs) None es b t (d, is, x) s =
         (d ++ union_word ∷ t, ap (λ y. y ++ (t ++ union_word ∷ [])) is ∙ simp append_assoc, more_conjs x s)
+    conjs_more [] (Some l) es b t (d, fs, is, x, same) s = (
+      d ++ name_token minus_word ∷ t,
+      ap (λ y. y ++ (t ++ union_word ∷ [])) is ∙ simp append_assoc,
+      subst (λ g. SpellsExpr (names_of lets) r.room (d ++ name_token minus_word ∷ t) (minus g (join_tree es) ∷ [])) (sym same) (less_conj x s),
+    )
+    conjs_more (c ∷ cs) (Some l) es b t none s = absurd none
+
+-- what stands in the frame is what the next conjunction is taken from
+pub read_minus : {ts : List Token} {lets : List (VarName × ExprTree)} {current : Option VarName} {below : List Frame} {top : Frame} {e : ExprTree} →
+    Read ts lets current below top (unit e) →
+    Read (ts ++ name_token minus_word ∷ []) lets current below (record top { conjs = []; left = Some (whole top e); units = [] }) at_unit
+read_minus {ts = ts} {lets = lets} {top = top} {e = e} r =
+    let (ds, same, x) = whole_read top.kept r.inside_read r.here_read in
+    let sign = name_token minus_word in
+    record {
+      room = r.room;
+      whole_lets = r.whole_lets;
+      let_text = r.let_text;
+      outside = r.outside;
+      inside = r.inside ++ (r.here ++ sign ∷ []);
+      here = [];
+      splits = after_inside ts r.whole_lets r.let_text r.outside r.inside r.here sign r.splits;
+      lets_read = r.lets_read;
+      let_read = r.let_read;
+      outside_read = r.outside_read;
+      inside_read = record {
+        front = (r.inside ++ r.here) ++ sign ∷ [];
+        back = [];
+        splits = sym (append_assoc r.inside r.here (sign ∷ [])) ∙ sym (append-nil ((r.inside ++ r.here) ++ sign ∷ []));
+        conjs_read = (r.inside ++ r.here, ds, refl, x, same);
+        units_read = refl;
+      };
+      here_read = refl;
+      bare = tt;
+    }
 
 -- the innermost frame is closed
 pub read_close : {ts : List Token} {lets : List (VarName × ExprTree)} {current : Option VarName} {below : List Frame} {outer top : Frame} {e : ExprTree} →
@@ -467,8 +521,8 @@ read_semicolon {ts = ts} {lets = lets} {top = top} {e = e} x r =
 
 -- the tokens of a whole query spell it
 pub read_whole : {ts : List Token} {lets : List (VarName × ExprTree)} {top : Frame} {e : ExprTree} → Read ts lets None [] top (unit e) →
-    Spells ts (record { lets = lets; body = whole top e })
-read_whole {ts = ts} {lets = lets} {top = top} {e = e} r =
+    minuses_of (record { lets = lets; body = whole top e }) ≤ MOST_MINUSES → Spells ts (record { lets = lets; body = whole top e })
+read_whole {ts = ts} {lets = lets} {top = top} {e = e} r few =
     let (ds, same, s) = whole_read top.kept r.inside_read r.here_read in
     let u = r.inside ++ r.here in (
       r.whole_lets,
@@ -478,6 +532,7 @@ read_whole {ts = ts} {lets = lets} {top = top} {e = e} r =
       r.lets_read,
       subst (λ k. SpellsExpr (names_of lets) k u ds) r.outside_read.2 s,
       same,
+      few,
     )
 
 -- nothing is read yet

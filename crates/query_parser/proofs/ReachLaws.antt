@@ -4,7 +4,7 @@ use Rattle.std.specs.Prelude.{slice_get}
 use Rattle.span_core.specs.declared.TheConstants.{MOST_VARIABLES}
 use Rattle.span_core.specs.Lists.{Has, AtMost}
 use Rattle.spanner_model.specs.Gathered.{HaveRoom}
-use Rattle.spanner_model.specs.Expression.{ExprTree, atom, named, union_end, union, join_end, join, project, union_all, join_all}
+use Rattle.spanner_model.specs.Expression.{ExprTree, atom, named, union_end, union, join_end, join, project, minus, union_all, join_all}
 use Rattle.spanner_model.specs.Captures.{VarName}
 use Rattle.spanner_model.specs.Answer.{VarOf}
 use Rattle.spanner_model.specs.Sound.{NameIn, NameInLets}
@@ -46,6 +46,15 @@ pub few_united : (known : List Bound) (es : List ExprTree) → AtMost MOST_VARIA
 few_united known es few =
     at_most_less MOST_VARIABLES (InReach known (join_all es)) (InReach known (union_all es)) (λ x h. elim h [ inl n ↦ inl (names_united es x n) | inr v ↦ inr v ]) few
 
+-- of the sides of a difference
+pub few_left : (known : List Bound) (e g : ExprTree) → AtMost MOST_VARIABLES (InReach known (minus e g)) → AtMost MOST_VARIABLES (InReach known e)
+few_left known e g few =
+    at_most_less MOST_VARIABLES (InReach known e) (InReach known (minus e g)) (λ x h. elim h as (λ _. InReach known (minus e g) x) [ inl n ↦ inl (inl n) | inr v ↦ inr v ]) few
+
+pub few_right : (known : List Bound) (e g : ExprTree) → AtMost MOST_VARIABLES (InReach known (minus e g)) → AtMost MOST_VARIABLES (InReach known g)
+few_right known e g few =
+    at_most_less MOST_VARIABLES (InReach known g) (InReach known (minus e g)) (λ x h. elim h as (λ _. InReach known (minus e g) x) [ inl n ↦ inl (inr n) | inr v ↦ inr v ]) few
+
 reach_part : (known : List Bound) (es : List ExprTree) (e : ExprTree) (x : VarName) → Has es e → InReach known e x → InReach known (join_all es) x
 reach_part known es e x h (inl n) = inl (join_named es e x h n)
 reach_part known es e x h (inr v) = inr v
@@ -76,6 +85,7 @@ module _ (V S : ℕ → VarName → Type 0) where
   var_reached (join e rest) x p (inl v) = left_named e rest x (var_reached e x p.0 v)
   var_reached (join e rest) x p (inr v) = right_named e rest x (var_reached rest x p.1 v)
   var_reached (project kept e) x p v = var_reached e x p.0 (p.1 x v)
+  var_reached (minus e g) x p v = left_named e g x (var_reached e x p.0 v)
 
 pub reaches : (known : List Bound) (e : ExprTree) (x : VarName) → Passes (vars_known known) (sure_known known) e → VarOf (vars_known known) e x → InReach known e x
 reaches known e x p v = var_reached (vars_known known) (sure_known known) e x p v

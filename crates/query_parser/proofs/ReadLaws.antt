@@ -4,7 +4,7 @@ use Rattle.std.specs.Prelude.{IfOk, IfErr, IsTrue, ◌↔◌}
 use Rattle.std.specs.Option.{IsSomeAnd}
 use Rattle.spanner_model.specs.declared.query.Query.{Query}
 use Rattle.spanner_model.specs.Captures.{VarName}
-use Rattle.spanner_model.specs.Expression.{ExprTree, QueryTree, atom, named, union_end, union, join_end, join, project}
+use Rattle.spanner_model.specs.Expression.{ExprTree, QueryTree, atom, named, union_end, union, join_end, join, project, minus}
 use Rattle.spanner_model.specs.ExprView.{query_of}
 use Rattle.spanner_model.specs.Answer.{vars_of_lets}
 use Rattle.formula_parser.specs.declared.fault.FormulaFault.TheVariants as formula_fault
@@ -24,7 +24,7 @@ use Rattle.spanner_model.specs.Sound.{IsSound, NameOf, sure_of_lets}
 use Rattle.query_parser.proofs.TextLaws.{Answer, ends_spelled}
 use Rattle.query_parser.specs.declared.TheConstants.{MOST_TEXT_BYTES}
 use Rattle.query_parser.specs.declared.fault.QueryFault.{QueryFault}
-use Rattle.query_parser.specs.declared.fault.QueryFault.TheVariants.{Formula, Check, Unexpected, UnknownName, NameTwice, NameTooLong, JoinUnsure, UnknownVariable, TooManyVariables, TooLong, TooDeep, OutOfMemory}
+use Rattle.query_parser.specs.declared.fault.QueryFault.TheVariants.{Formula, Check, Unexpected, UnknownName, NameTwice, NameTooLong, JoinUnsure, UnknownVariable, TooManyVariables, TooLong, TooDeep, OutOfMemory, UnknownTest, TestVariable, MinusVariables}
 use Rattle.query_parser.specs.Reads.{Refusal, unexpected, name_too_long, name_twice, unknown_name, too_deep}
 use Rattle.query_parser.specs.TreeFaults.{OwnFault, InnerFault, IsExprFault, IsFaultUnder, IsTreeFault}
 use Rattle.query_parser.specs.Faults.{refused, IsReadFault, bad_atom, atom_out_of_place, token_refused, no_token, not_whole, HasFault, too_long, unreadable, too_many_kept, too_many_captured, not_sound, IsQueryText}
@@ -33,17 +33,17 @@ use Rattle.query_parser.proofs.GrammarLaws.{one_query}
 use Rattle.query_parser.proofs.QueryLaws.{no_query_with_fault, one_fault}
 
 -- the fault of an atom that is want of memory
-abbrev memory_fault : QueryFault
+abbrev pub memory_fault : QueryFault
 memory_fault = Formula formula_fault.OutOfMemory
 
-refused_memory : (why : Refusal) (p : ℕ) → refused why p ≡ memory_fault → ⊥
+pub refused_memory : (why : Refusal) (p : ℕ) → refused why p ≡ memory_fault → ⊥
 refused_memory unexpected p e = absurd (cc)
 refused_memory name_too_long p e = absurd (cc)
 refused_memory name_twice p e = absurd (cc)
 refused_memory unknown_name p e = absurd (cc)
 refused_memory too_deep p e = absurd (cc)
 
-read_memory : {text : List ℕ} {e : QueryFault} → IsReadFault text e → e ≡ memory_fault → ⊥
+pub read_memory : {text : List ℕ} {e : QueryFault} → IsReadFault text e → e ≡ memory_fault → ⊥
 read_memory (bad_atom {e = f} r at w fault) e = fault_memory fault (let same : f ≡ formula_fault.OutOfMemory = cc in same)
 read_memory (atom_out_of_place r at w) e = absurd (cc)
 read_memory (token_refused {p = p} {why = why} r at is) e = refused_memory why p e
@@ -59,6 +59,7 @@ module _ (V S : ℕ → VarName → Type 0) where
   own_memory join_end h = h
   own_memory (join e rest) h = h
   own_memory (project kept e) h = h
+  own_memory (minus e g) h = h
 
   over_memory : (e : ExprTree) → (InnerFault V S e memory_fault → ⊥) → IsExprFault V S e memory_fault → ⊥
   over_memory e inside (inl i) = inside i
@@ -70,6 +71,8 @@ module _ (V S : ℕ → VarName → Type 0) where
   inner_memory (join e rest) (inl f) = over_memory e (inner_memory e) f
   inner_memory (join e rest) (inr i) = inner_memory rest i.1
   inner_memory (project kept e) f = over_memory e (inner_memory e) f
+  inner_memory (minus e g) (inl f) = over_memory e (inner_memory e) f
+  inner_memory (minus e g) (inr f) = over_memory g (inner_memory g) f.1
   inner_memory (atom s t f) i = i
   inner_memory (named k) i = i
   inner_memory union_end i = i
@@ -82,7 +85,7 @@ let_memory : (lets : List (VarName × ExprTree)) (k : ℕ) (found : Option (VarN
 let_memory lets k None f = f
 let_memory lets k (Some l) f = expr_memory (vars_of_lets lets k) (sure_of_lets lets k) l.1 f
 
-tree_memory : (q : QueryTree) → IsTreeFault q memory_fault → ⊥
+pub tree_memory : (q : QueryTree) → IsTreeFault q memory_fault → ⊥
 tree_memory q (inl (k, before, f)) = let_memory q.lets k _ f
 tree_memory q (inr (lets, f)) = expr_memory (vars_of_lets q.lets (length q.lets)) (sure_of_lets q.lets (length q.lets)) q.body f
 
@@ -126,6 +129,9 @@ answer_err (UnknownVariable x) r h = h
 answer_err TooManyVariables r h = h
 answer_err TooLong r h = h
 answer_err (TooDeep x) r h = h
+answer_err (UnknownTest x) r h = h
+answer_err (TestVariable x) r h = h
+answer_err (MinusVariables x) r h = h
 
 answer_memory : (e : QueryFault) (r : Result QueryTree QueryFault) → e ≡ OutOfMemory → IsAnswer (Err e) r
 answer_memory e r is = subst (λ d. IsAnswer (Err d) r) (sym is) tt
@@ -155,6 +161,9 @@ answers_err (UnknownVariable x) P h = inr h
 answers_err TooManyVariables P h = inr h
 answers_err TooLong P h = inr h
 answers_err (TooDeep x) P h = inr h
+answers_err (UnknownTest x) P h = inr h
+answers_err (TestVariable x) P h = inr h
+answers_err (MinusVariables x) P h = inr h
 
 -- reading met a fault
 pub read_stopped : (text : List ℕ) (e : QueryFault) → length text ≤ MOST_TEXT_BYTES → AnswersBody (Err e) (Ends text 0 outermost) → IsRead text (Err e)

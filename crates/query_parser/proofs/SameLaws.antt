@@ -2,14 +2,14 @@
 use Rattle.std.proofs.Common.{ℕ, List, [], ◌∷◌, inl, inr, ◌↔◌}
 use Rattle.span_core.specs.Lists.{Has}
 use Rattle.spanner_model.specs.Captures.{VarName}
-use Rattle.spanner_model.specs.Expression.{ExprTree, atom, named, union_end, union, join_end, join, project}
+use Rattle.spanner_model.specs.Expression.{ExprTree, atom, named, union_end, union, join_end, join, project, minus}
 use Rattle.spanner_model.specs.Answer.{VarOf}
 use Rattle.spanner_model.specs.Sound.{SureOf}
 use Rattle.spanner_model.proofs.ExprLaws.{SameVars, var_same, sure_same, turned, shares_same}
 use Rattle.functional_check.specs.Faults.{IsLeast}
 use Rattle.query_parser.specs.declared.fault.QueryFault.{QueryFault}
-use Rattle.query_parser.specs.declared.fault.QueryFault.TheVariants.{Check, JoinUnsure, UnknownVariable}
-use Rattle.query_parser.specs.TreeFaults.{Passes, HasPassingParts, Clashes, ClashesFirst, OwnFault, InnerFault, IsExprFault}
+use Rattle.query_parser.specs.declared.fault.QueryFault.TheVariants.{Check, JoinUnsure, UnknownVariable, MinusVariables}
+use Rattle.query_parser.specs.TreeFaults.{Passes, HasPassingParts, Clashes, ClashesFirst, IsOfOneSide, OwnFault, InnerFault, IsExprFault}
 
 module _ (V W S T : ℕ → VarName → Type 0) (same : SameVars V W) (same_sure : SameVars S T) where
   forth : (e : ExprTree) (x : VarName) → VarOf V e x → VarOf W e x
@@ -32,11 +32,14 @@ module _ (V W S T : ℕ → VarName → Type 0) (same : SameVars V W) (same_sure
   same_passes join_end p = tt
   same_passes (join e rest) p = (same_passes e p.0, same_passes rest p.1, shares_same V W S T same same_sure e rest p.2)
   same_passes (project kept e) p = (same_passes e p.0, λ x h. forth e x (p.1 x h))
+  same_passes (minus e g) p =
+      (same_passes e p.0, same_passes g p.1, λ x. (λ h. forth g x ((p.2 x).0 (back e x h)), λ h. forth e x ((p.2 x).1 (back g x h))))
 
   same_parts : (e : ExprTree) → HasPassingParts V S e → HasPassingParts W T e
   same_parts (union e rest) p = (same_passes e p.0, same_parts rest p.1)
   same_parts (join e rest) p = (same_passes e p.0, same_parts rest p.1)
   same_parts (project kept e) p = same_passes e p
+  same_parts (minus e g) p = (same_passes e p.0, same_passes g p.1)
   same_parts (atom s t f) p = tt
   same_parts (named k) p = tt
   same_parts union_end p = tt
@@ -60,6 +63,13 @@ module _ (V W S T : ℕ → VarName → Type 0) (same : SameVars V W) (same_sure
   same_first before (union e rest) x h = absurd h
   same_first before join_end x h = absurd h
   same_first before (project kept e) x h = absurd h
+  same_first before (minus e g) x h = absurd h
+
+  same_side : (e g : ExprTree) (y : VarName) → IsOfOneSide V S e g y ↔ IsOfOneSide W T e g y
+  same_side e g y = (
+    λ h. elim h as (λ _. IsOfOneSide W T e g y) [ inl a ↦ inl (forth e y a.0, λ v. a.1 (back g y v)) | inr a ↦ inr (forth g y a.0, λ v. a.1 (back e y v)) ],
+    λ h. elim h as (λ _. IsOfOneSide V S e g y) [ inl a ↦ inl (back e y a.0, λ v. a.1 (forth g y v)) | inr a ↦ inr (back g y a.0, λ v. a.1 (forth e y v)) ],
+  )
 
   same_own : (e : ExprTree) (f : QueryFault) → OwnFault V S e f → OwnFault W T e f
   same_own (atom s t r) (Check c) o = o
@@ -67,6 +77,7 @@ module _ (V W S T : ℕ → VarName → Type 0) (same : SameVars V W) (same_sure
   same_own (project kept e) (UnknownVariable x) o =
       same_least (λ y. Has kept y × ¬ VarOf V e y) (λ y. Has kept y × ¬ VarOf W e y) x
       (λ y. (λ h. (h.0, λ v. h.1 (back e y v)), λ h. (h.0, λ v. h.1 (forth e y v)))) o
+  same_own (minus e g) (MinusVariables x) o = same_least (IsOfOneSide V S e g) (IsOfOneSide W T e g) x (same_side e g) o
   same_own e f o = absurd o
 
   same_over : (e : ExprTree) (f : QueryFault) → (InnerFault V S e f → InnerFault W T e f) → IsExprFault V S e f → IsExprFault W T e f
@@ -79,6 +90,8 @@ module _ (V W S T : ℕ → VarName → Type 0) (same : SameVars V W) (same_sure
   same_inner (join e rest) f (inl i) = inl (same_over e f (same_inner e f) i)
   same_inner (join e rest) f (inr i) = inr (same_passes e i.0, same_inner rest f i.1)
   same_inner (project kept e) f i = same_over e f (same_inner e f) i
+  same_inner (minus e g) f (inl i) = inl (same_over e f (same_inner e f) i)
+  same_inner (minus e g) f (inr i) = inr (same_passes e i.0, same_over g f (same_inner g f) i.1)
   same_inner (atom s t r) f i = absurd i
   same_inner (named k) f i = absurd i
   same_inner union_end f i = absurd i

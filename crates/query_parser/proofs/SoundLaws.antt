@@ -1,7 +1,7 @@
 -- What is spelled is formed, and what is formed and passes the checks is sound.
 use Rattle.std.proofs.Common.{ℕ}
 use Rattle.spanner_model.specs.Captures.{VarName}
-use Rattle.spanner_model.specs.Expression.{ExprTree, atom, named, union_end, union, join_end, join, project}
+use Rattle.spanner_model.specs.Expression.{ExprTree, atom, named, union_end, union, join_end, join, project, minus}
 use Rattle.spanner_model.specs.Sound.{IsSoundExpr, AreUnited, AreJoined}
 use Rattle.query_parser.specs.TreeFaults.{Passes}
 use Rattle.query_parser.specs.Formed.{IsFormed, AreUnitedFormed, AreJoinedFormed}
@@ -15,6 +15,7 @@ mutual
   sound_expr V S n join_end b p = b
   sound_expr V S n (join e rest) b p = (sound_expr V S n e b.0 p.0, joined V S n rest b.1 p.1, b.2, p.2)
   sound_expr V S n (project kept e) b p = (sound_expr V S n e b.0 p.0, (λ x h. (p.1 x h, b.1 x h)), b.2.ascending)
+  sound_expr V S n (minus e g) b p = (sound_expr V S n e b.0 p.0, sound_expr V S n g b.1 p.1, p.2)
 
   united : (V S : ℕ → VarName → Type 0) (n : ℕ) (e : ExprTree) → AreUnitedFormed n e → Passes V S e → AreUnited V S n e
   united V S n union_end b p = tt
@@ -35,6 +36,7 @@ mutual
   sound_passes V S n join_end b = tt
   sound_passes V S n (join e rest) b = (sound_passes V S n e b.0, joined_passes V S n rest b.1, b.3)
   sound_passes V S n (project kept e) b = (sound_passes V S n e b.0, λ x h. (b.1 x h).0)
+  sound_passes V S n (minus e g) b = (sound_passes V S n e b.0, sound_passes V S n g b.1, b.2)
 
   united_passes : (V S : ℕ → VarName → Type 0) (n : ℕ) (e : ExprTree) → AreUnited V S n e → Passes V S e
   united_passes V S n union_end b = tt

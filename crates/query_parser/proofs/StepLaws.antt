@@ -52,7 +52,7 @@ slashes at n = if wants_unit n.last then reads_atom else stops (Err (Unexpected 
 pub slash_step : (at : ℕ) (t : List ℕ) (n : Nest) → step at (47 ∷ t) n ≡ slashes at n
 slash_step at t n = refl
 
-start_no_blank : (c : ℕ) → is_name_start c ≡ true → (is_blank c ≡ false) × ((c == 47) ≡ false)
+pub start_no_blank : (c : ℕ) → is_name_start c ≡ true → (is_blank c ≡ false) × ((c == 47) ≡ false)
 start_no_blank c e = (grind (arith, nat_tests), grind (arith, nat_tests))
 
 abbrev by_tests : Bool → Bool → Bool → ℕ → List ℕ → ℕ → Nest → Next
@@ -110,7 +110,7 @@ sign_is c t is = by (c == 61) refl (c == 59) refl (c == 40) refl (c == 41) refl 
         this_last true v h = this 44 comma v (sym (ap (sign_by false false false false) v) ∙ h) is_comma
         this_last false v h = let none = sym (ap (sign_by false false false false) v) ∙ h in absurd (cc)
 
-sign_no_other : (c : ℕ) (t : Token) → IsSign c t → (is_blank c ≡ false) × ((c == 47) ≡ false) × (is_name_start c ≡ false)
+pub sign_no_other : (c : ℕ) (t : Token) → IsSign c t → (is_blank c ≡ false) × ((c == 47) ≡ false) × (is_name_start c ≡ false)
 sign_no_other c t is_equals = (refl, refl, refl)
 sign_no_other c t is_semicolon = (refl, refl, refl)
 sign_no_other c t is_open = (refl, refl, refl)

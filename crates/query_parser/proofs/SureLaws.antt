@@ -8,7 +8,7 @@ use Rattle.spanner_model.specs.Captures.{VarName}
 use Rattle.spanner_model.specs.Tree.{Tree, empty, one, cat_end, cat, alt_end, alt, rep, cap}
 use Rattle.spanner_model.specs.Sequential.{HasVar, IsSure}
 use Rattle.spanner_model.specs.WellBuilt.{IsBuilt, AreParts}
-use Rattle.spanner_model.specs.Expression.{ExprTree, atom, named, union_end, union, join_end, join, project, union_all, join_all}
+use Rattle.spanner_model.specs.Expression.{ExprTree, atom, named, union_end, union, join_end, join, project, minus, union_all, join_all}
 use Rattle.spanner_model.specs.Answer.{VarOf}
 use Rattle.spanner_model.specs.Sound.{SureOf, sure_of_lets}
 use Rattle.spanner_model.proofs.Deciding.{Told, told_name, told_has}
@@ -49,6 +49,7 @@ module _ (V S : ℕ → VarName → Type 0) (among : (k : ℕ) (x : VarName) →
     sure_var n (join e rest) x c (inl h) = inl (sure_var n e x c.0 h)
     sure_var n (join e rest) x c (inr h) = inr (joined_sure_var n rest x c.1 h)
     sure_var n (project kept e) x c h = h.0
+    sure_var n (minus e g) x c h = sure_var n e x c.0 h
 
     joined_sure_var : (n : ℕ) (e : ExprTree) (x : VarName) → AreJoinedFormed n e → SureOf S e x → VarOf V e x
     joined_sure_var n join_end x c h = absurd h
@@ -124,6 +125,7 @@ module _ (S : ℕ → VarName → Type 0) (told : (k : ℕ) (x : VarName) → To
   told_sure_of join_end x = inr (λ h. h)
   told_sure_of (join e rest) x = told_either (told_sure_of e x) (told_sure_of rest x)
   told_sure_of (project kept e) x = told_both (told_has kept x) (told_sure_of e x)
+  told_sure_of (minus e g) x = told_sure_of e x
 
 told_choice : (b : Bool) {P Q : Type 0} → Told P → Told Q → Told (MatchBool b P Q)
 told_choice true p q = p

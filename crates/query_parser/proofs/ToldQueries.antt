@@ -9,7 +9,7 @@ use Rattle.spanner_model.specs.Captures.{VarName}
 use Rattle.span_core.specs.Lists.{Has, AtMost}
 use Rattle.spanner_model.specs.Sequential.{IsSequential}
 use Rattle.spanner_model.specs.Tree.{Tree}
-use Rattle.spanner_model.specs.Expression.{ExprTree, QueryTree, atom, named, union_end, union, join_end, join, project}
+use Rattle.spanner_model.specs.Expression.{ExprTree, QueryTree, atom, named, union_end, union, join_end, join, project, minus}
 use Rattle.spanner_model.specs.Answer.{VarOf, vars_of_lets}
 use Rattle.spanner_model.specs.Sound.{NameIn, NameInLets, NameOf, SureOf, SharesSure, sure_of_lets}
 use Rattle.spanner_model.proofs.Deciding.{Told, told_has, told_of, told_lets}
@@ -18,10 +18,10 @@ use Rattle.functional_check.specs.Faults.{IsLeast, IsFault}
 use Rattle.functional_check.specs.declared.checking.CheckFault.{CheckFault}
 use Rattle.functional_check.proofs.LeastLaws.{at_most_less}
 use Rattle.query_parser.specs.declared.fault.QueryFault.{QueryFault}
-use Rattle.query_parser.specs.declared.fault.QueryFault.TheVariants.{Check, JoinUnsure, UnknownVariable}
-use Rattle.query_parser.specs.TreeFaults.{Passes, PassesUnder, HasPassingParts, Clashes, ClashesFirst, InnerFault, IsExprFault, IsFaultUnder, LetPasses, IsLetFault, IsTreeFault}
+use Rattle.query_parser.specs.declared.fault.QueryFault.TheVariants.{Check, JoinUnsure, UnknownVariable, MinusVariables}
+use Rattle.query_parser.specs.TreeFaults.{Passes, PassesUnder, HasPassingParts, Clashes, ClashesFirst, IsOfOneSide, InnerFault, IsExprFault, IsFaultUnder, LetPasses, IsLetFault, IsTreeFault}
 use Rattle.query_parser.specs.Formed.{IsFormed, AreUnitedFormed, AreJoinedFormed, IsFormedQuery, PassesQuery}
-use Rattle.query_parser.proofs.ToldNames.{told_both, told_not, least_or_none, told_few, held}
+use Rattle.query_parser.proofs.ToldNames.{told_both, told_either, told_not, least_or_none, told_few, held}
 use Rattle.query_parser.proofs.SureLaws.{told_sure_of, told_sure_lets}
 use Rattle.query_parser.proofs.ToldFormulas.{formula_names, var_listed, listed_var, sequential_or_fault}
 
@@ -35,6 +35,7 @@ expr_vars all (union e rest) = expr_vars all e ++ expr_vars all rest
 expr_vars all join_end = []
 expr_vars all (join e rest) = expr_vars all e ++ expr_vars all rest
 expr_vars all (project kept e) = kept
+expr_vars all (minus e g) = expr_vars all e
 
 -- under lets whose variables, and sure ones, can be told, and whose variables are listed
 module _ (V S : ℕ → VarName → Type 0) (told : (k : ℕ) (x : VarName) → Told (V k x)) (told_sure : (k : ℕ) (x : VarName) → Told (S k x))
@@ -49,6 +50,7 @@ module _ (V S : ℕ → VarName → Type 0) (told : (k : ℕ) (x : VarName) → 
   vars_listed (join e rest) x (inl h) = Has-append_left (expr_vars all e) (expr_vars all rest) x (vars_listed e x h)
   vars_listed (join e rest) x (inr h) = Has-append_right (expr_vars all e) (expr_vars all rest) x (vars_listed rest x h)
   vars_listed (project kept e) x h = h
+  vars_listed (minus e g) x h = vars_listed e x h
 
   -- ---- what the parts of a join share
 
@@ -159,6 +161,24 @@ module _ (V S : ℕ → VarName → Type 0) (told : (k : ℕ) (x : VarName) → 
         by : PassesOrFault e → PassesOrFault (project kept e)
         by (inr h) = inr (h.0, inl h.1)
         by (inl ok) = missing ok (least_or_none (IsMissing kept e) (λ x. told_both (told_has kept x) (told_not (told_of V told e x))) kept (λ x h. h.0))
+    passes_or_fault n (minus e g) c = by (passes_or_fault n e c.0) (passes_or_fault n g c.1)
+      where
+        told_side : (x : VarName) → Told (IsOfOneSide V S e g x)
+        told_side x = told_either (told_both (told_of V told e x) (told_not (told_of V told g x))) (told_both (told_of V told g x) (told_not (told_of V told e x)))
+
+        side_listed : (x : VarName) → IsOfOneSide V S e g x → Has (expr_vars all e ++ expr_vars all g) x
+        side_listed x (inl h) = Has-append_left (expr_vars all e) (expr_vars all g) x (vars_listed e x h.0)
+        side_listed x (inr h) = Has-append_right (expr_vars all e) (expr_vars all g) x (vars_listed g x h.0)
+
+        sides : Passes V S e → Passes V S g → ((x : VarName) × IsLeast (IsOfOneSide V S e g) x) ⊎ ((x : VarName) → IsOfOneSide V S e g x → ⊥) → PassesOrFault (minus e g)
+        sides ok other (inl h) = inr (MinusVariables h.0, inr ((ok, other), h.1))
+        sides ok other (inr none) =
+            inl (ok, other, λ x. (λ h. held (told_of V told g x) (λ not. none x (inl (h, not))), λ h. held (told_of V told e x) (λ not. none x (inr (h, not)))))
+
+        by : PassesOrFault e → PassesOrFault g → PassesOrFault (minus e g)
+        by (inr h) later = inr (h.0, inl (inl h.1))
+        by (inl ok) (inr h) = inr (h.0, inl (inr (ok, h.1)))
+        by (inl ok) (inl other) = sides ok other (least_or_none (IsOfOneSide V S e g) told_side (expr_vars all e ++ expr_vars all g) side_listed)
 
     united_or_fault : (n : ℕ) (e : ExprTree) → AreUnitedFormed n e → PartsOrFault e
     united_or_fault n union_end c = inl tt
@@ -199,6 +219,7 @@ var_from V join_end x h = absurd h
 var_from V (join e rest) x (inl h) = elim (var_from V e x h) [ inl m ↦ inl (Has-append_left (expr_vars [] e) (expr_vars [] rest) x m) | inr m ↦ inr m ]
 var_from V (join e rest) x (inr h) = elim (var_from V rest x h) [ inl m ↦ inl (Has-append_right (expr_vars [] e) (expr_vars [] rest) x m) | inr m ↦ inr m ]
 var_from V (project kept e) x h = inl h
+var_from V (minus e g) x h = var_from V e x h
 
 let_listed : (lets : Lets) (l : VarName × ExprTree) (x : VarName) → Has lets l → Has (expr_vars [] l.1) x → Has (lets_vars lets) x
 let_listed [] l x h m = absurd h
@@ -278,6 +299,7 @@ expr_names (union e rest) = expr_names e ++ expr_names rest
 expr_names join_end = []
 expr_names (join e rest) = expr_names e ++ expr_names rest
 expr_names (project kept e) = expr_names e
+expr_names (minus e g) = expr_names e ++ expr_names g
 
 in_either : (a b : List VarName) (x : VarName) {P Q : Type 0} → (Has a x ↔ P) → (Has b x ↔ Q) → Has (a ++ b) x ↔ (P ⊎ Q)
 in_either a b x {P} {Q} p q = (
@@ -293,6 +315,7 @@ names_are (union e rest) x = in_either (expr_names e) (expr_names rest) x (names
 names_are join_end x = (λ h. h, λ h. h)
 names_are (join e rest) x = in_either (expr_names e) (expr_names rest) x (names_are e x) (names_are rest x)
 names_are (project kept e) x = names_are e x
+names_are (minus e g) x = in_either (expr_names e) (expr_names g) x (names_are e x) (names_are g x)
 
 abbrev lets_names : Lets → List VarName
 lets_names [] = []

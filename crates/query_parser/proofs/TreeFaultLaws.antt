@@ -4,15 +4,15 @@ use Rattle.span_core.specs.Lists.{Has}
 use Rattle.spanner_model.specs.Captures.{VarName}
 use Rattle.spanner_model.specs.Tree.{Tree}
 use Rattle.functional_check.specs.declared.checking.CheckFault.{CheckFault}
-use Rattle.spanner_model.specs.Expression.{ExprTree, atom, named, union_end, union, join_end, join, project}
+use Rattle.spanner_model.specs.Expression.{ExprTree, atom, named, union_end, union, join_end, join, project, minus}
 use Rattle.spanner_model.specs.Answer.{VarOf}
 use Rattle.spanner_model.specs.Sound.{SharesSure}
 use Rattle.functional_check.specs.Faults.{IsFault, IsLeast}
 use Rattle.functional_check.proofs.FaultLaws.{no_fault, fault_one}
 use Rattle.functional_check.proofs.LeastLaws.{least_one}
 use Rattle.query_parser.specs.declared.fault.QueryFault.{QueryFault}
-use Rattle.query_parser.specs.declared.fault.QueryFault.TheVariants.{Check, JoinUnsure, UnknownVariable}
-use Rattle.query_parser.specs.TreeFaults.{Passes, HasPassingParts, Clashes, ClashesFirst, OwnFault, InnerFault, IsExprFault}
+use Rattle.query_parser.specs.declared.fault.QueryFault.TheVariants.{Check, JoinUnsure, UnknownVariable, MinusVariables}
+use Rattle.query_parser.specs.TreeFaults.{Passes, HasPassingParts, Clashes, ClashesFirst, IsOfOneSide, OwnFault, InnerFault, IsExprFault}
 
 module _ (V S : ℕ → VarName → Type 0) where
   passing_parts : (e : ExprTree) → Passes V S e → HasPassingParts V S e
@@ -23,6 +23,7 @@ module _ (V S : ℕ → VarName → Type 0) where
   passing_parts join_end p = tt
   passing_parts (join e rest) p = (p.0, passing_parts rest p.1)
   passing_parts (project kept e) p = p.0
+  passing_parts (minus e g) p = (p.0, p.1)
 
   -- where each part before shares with those that follow only what is sure in both, no variable clashes
   none_clashes : (before : List ExprTree) (rest : ExprTree) → ((g : ExprTree) → Has before g → SharesSure V S g rest) → Passes V S rest → (x : VarName) → ClashesFirst V S before rest x → ⊥
@@ -38,6 +39,7 @@ module _ (V S : ℕ → VarName → Type 0) where
   none_clashes before (union e rest) share p x h = h
   none_clashes before join_end share p x h = h
   none_clashes before (project kept e) share p x h = h
+  none_clashes before (minus e g) share p x h = h
 
   one_clashes : (before : List ExprTree) (rest : ExprTree) (x y : VarName) → ClashesFirst V S before rest x → ClashesFirst V S before rest y → x ≡ y
   one_clashes before (join e rest) x y (inl h) (inl g) = least_one (Clashes V S before e) x y h g
@@ -50,6 +52,7 @@ module _ (V S : ℕ → VarName → Type 0) where
   one_clashes before (union e rest) x y h g = absurd h
   one_clashes before join_end x y h g = absurd h
   one_clashes before (project kept e) x y h g = absurd h
+  one_clashes before (minus e f) x y h g = absurd h
 
   own_none : (e : ExprTree) (fault : QueryFault) → Passes V S e → OwnFault V S e fault → ⊥
   own_none (atom s t f) (Check c) p o = no_fault f c p o
@@ -59,6 +62,7 @@ module _ (V S : ℕ → VarName → Type 0) where
       first g (inl is) = subst (λ (w : ExprTree). SharesSure V S w rest) is p.2
       first g (inr n) = absurd n
   own_none (project kept e) (UnknownVariable x) p o = o.0.1 (p.1 x o.0.0)
+  own_none (minus e g) (MinusVariables x) p o = elim o.0 [ inl h ↦ h.1 ((p.2 x).0 h.0) | inr h ↦ h.1 ((p.2 x).1 h.0) ]
   own_none e fault p o = absurd o
 
   own_atom : (s t : Bool) (r : Tree) (f : QueryFault) → OwnFault V S (atom s t r) f → (c : CheckFault) × (f ≡ Check c) × IsFault r c
@@ -74,6 +78,10 @@ module _ (V S : ℕ → VarName → Type 0) where
   own_project kept e (UnknownVariable x) a = (x, refl, a)
   own_project kept e f a = absurd a
 
+  own_minus : (e g : ExprTree) (f : QueryFault) → OwnFault V S (minus e g) f → (x : VarName) × (f ≡ MinusVariables x) × IsLeast (IsOfOneSide V S e g) x
+  own_minus e g (MinusVariables x) a = (x, refl, a)
+  own_minus e g f a = absurd a
+
   own_one : (e : ExprTree) (f g : QueryFault) → OwnFault V S e f → OwnFault V S e g → f ≡ g
   own_one (atom s t r) f g a b =
       let (c, is, x) = own_atom s t r f a in
@@ -84,6 +92,9 @@ module _ (V S : ℕ → VarName → Type 0) where
   own_one (project kept e) f g a b =
       let (c, is, x) = own_project kept e f a in
       let (d, same, y) = own_project kept e g b in is ∙ ap (λ z. UnknownVariable z) (least_one (λ z. Has kept z × ¬ VarOf V e z) c d x y) ∙ sym same
+  own_one (minus e h) f g a b =
+      let (c, is, x) = own_minus e h f a in
+      let (d, same, y) = own_minus e h g b in is ∙ ap (λ z. MinusVariables z) (least_one (IsOfOneSide V S e h) c d x y) ∙ sym same
   own_one (named k) f g a b = absurd a
   own_one union_end f g a b = absurd a
   own_one (union e rest) f g a b = absurd a
@@ -99,6 +110,8 @@ module _ (V S : ℕ → VarName → Type 0) where
   inner_none (join e rest) fault p (inl f) = over_none e fault (inner_none e fault) p.0 f
   inner_none (join e rest) fault p (inr i) = inner_none rest fault p.1 i.1
   inner_none (project kept e) fault p f = over_none e fault (inner_none e fault) p f
+  inner_none (minus e g) fault p (inl f) = over_none e fault (inner_none e fault) p.0 f
+  inner_none (minus e g) fault p (inr i) = over_none g fault (inner_none g fault) p.1 i.1
   inner_none (atom s t f) fault p i = i
   inner_none (named k) fault p i = i
   inner_none union_end fault p i = i
@@ -124,6 +137,10 @@ module _ (V S : ℕ → VarName → Type 0) where
   inner_one (join e rest) f g (inr a) (inl b) = absurd (expr_none e g a.0 b)
   inner_one (join e rest) f g (inr a) (inr b) = inner_one rest f g a.1 b.1
   inner_one (project kept e) f g a b = over_one e f g (inner_one e f g) a b
+  inner_one (minus e h) f g (inl a) (inl b) = over_one e f g (inner_one e f g) a b
+  inner_one (minus e h) f g (inl a) (inr b) = absurd (expr_none e f b.0 a)
+  inner_one (minus e h) f g (inr a) (inl b) = absurd (expr_none e g a.0 b)
+  inner_one (minus e h) f g (inr a) (inr b) = over_one h f g (inner_one h f g) a.1 b.1
   inner_one (atom s t r) f g a b = absurd a
   inner_one (named k) f g a b = absurd a
   inner_one union_end f g a b = absurd a

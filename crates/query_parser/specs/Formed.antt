@@ -5,13 +5,13 @@ use Rattle.span_core.specs.Lists.{Has}
 use Rattle.span_core.specs.NameSets.{AreVariables}
 use Rattle.spanner_model.specs.Captures.{VarName}
 use Rattle.spanner_model.specs.WellBuilt.{IsWellBuilt}
-use Rattle.spanner_model.specs.Expression.{ExprTree, QueryTree, atom, named, union_end, union, join_end, join, project}
+use Rattle.spanner_model.specs.Expression.{ExprTree, QueryTree, atom, named, union_end, union, join_end, join, project, minus}
 use Rattle.spanner_model.specs.Answer.{VarOf}
 use Rattle.spanner_model.specs.Sound.{IsFreeName, NameIn, SureOf}
 use Rattle.query_parser.specs.declared.check.Bound.{Bound}
 use Rattle.query_parser.specs.declared.fault.QueryFault.{QueryFault}
 use Rattle.functional_check.specs.Faults.{IsLeast}
-use Rattle.query_parser.specs.declared.fault.QueryFault.TheVariants.{UnknownVariable}
+use Rattle.query_parser.specs.declared.fault.QueryFault.TheVariants.{UnknownVariable, MinusVariables}
 use Rattle.query_parser.specs.TreeFaults.{Passes, PassesUnder, LetPasses, IsExprFault}
 
 -- an expression under n lets
@@ -24,6 +24,7 @@ abbrev mutual
   IsFormed n join_end = ⊥
   IsFormed n (join e rest) = IsFormed n e × AreJoinedFormed n rest × ¬ (rest ≡ join_end)
   IsFormed n (project kept e) = IsFormed n e × ((x : VarName) → Has kept x → IsFreeName x) × AreVariables kept
+  IsFormed n (minus e g) = IsFormed n e × IsFormed n g
 
   -- the parts that follow one of a union
   pub AreUnitedFormed : ℕ → ExprTree → Type 0
@@ -72,6 +73,15 @@ IsProjectionOf kept b result =
     MatchResult result
     (λ left. (left.vars ≡ kept) × ((x : VarName) → Has left.sure x ↔ (Has kept x × Has b.sure x)) × ((x : VarName) → Has kept x → Has b.vars x))
     (λ fault. (x : VarName) × IsLeast (λ y. Has kept y × ¬ Has b.vars y) x × (fault ≡ UnknownVariable x))
+
+-- x is in one of the two alone
+abbrev pub IsInOne : Bound → Bound → VarName → Type 0
+IsInOne a b x = (Has a.vars x × ¬ Has b.vars x) ⊎ (Has b.vars x × ¬ Has a.vars x)
+
+-- what a difference of sides with these variables has
+abbrev pub IsDifferenceOf : Bound → Bound → Result Bound QueryFault → Type 0
+IsDifferenceOf a b result =
+    MatchResult result (λ left. (left ≡ a) × ((x : VarName) → ¬ IsInOne a b x)) (λ fault. (x : VarName) × IsLeast (IsInOne a b) x × (fault ≡ MinusVariables x))
 
 abbrev pub IsFormedQuery : QueryTree → Type 0
 IsFormedQuery q = ((k : ℕ) → ForSome (slice_get q.lets k) (λ l. IsFormed k l.1)) × IsFormed (length q.lets) q.body

@@ -1,4 +1,5 @@
 pub mod Tokens
+pub mod Minuses
 pub mod Spells
 pub mod Reads
 pub mod TreeFaults
@@ -11,3 +12,10 @@ pub mod View
 pub mod Turn
 pub mod Numbers
 pub mod Formed
+pub mod Tested
+pub mod TestedView
+pub mod TestedAnswers
+pub mod TestedLaws
+pub mod TokenRuns
+pub mod TestSteps
+pub mod TestAnswers

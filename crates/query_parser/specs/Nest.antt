@@ -4,17 +4,19 @@ use Rattle.std.specs.Str.{bytes_eq}
 use Rattle.span_core.specs.Names.{is_name}
 use Rattle.span_core.specs.NameSets.{with_name}
 use Rattle.spanner_model.specs.Captures.{VarName}
-use Rattle.spanner_model.specs.Expression.{ExprTree, QueryTree, atom, named, project, union_all, join_all}
-use Rattle.query_parser.specs.declared.TheConstants.{MOST_OPEN}
-use Rattle.query_parser.specs.Tokens.{Token, atom_token, let_word, union_word, join_word, project_word, none_word, name_token, equals, semicolon, open_paren, close_paren, comma}
+use Rattle.spanner_model.specs.Expression.{ExprTree, QueryTree, atom, named, project, minus, union_all, join_all}
+use Rattle.query_parser.specs.declared.TheConstants.{MOST_OPEN, MOST_MINUSES}
+use Rattle.query_parser.specs.Tokens.{Token, atom_token, let_word, union_word, join_word, project_word, none_word, name_token, equals, semicolon, open_paren, close_paren, comma, minus_word}
 use Rattle.query_parser.specs.Spells.{names_of}
 use Rattle.query_parser.specs.Reads.{Mark, Reading, Refusal, unexpected, name_too_long, name_twice, unknown_name, too_deep, is_among, finds_room}
 use Rattle.query_parser.specs.Reads as mark
 
--- what an open parenthesis keeps, where it is that of a projection; the conjunctions that are whole, and the units before the last one
+-- what an open parenthesis keeps, where it is that of a projection; the conjunctions that are whole, what the last conjunction is to be
+-- taken from, and the units before the last one
 pub record Frame : Type 0 where
   pub kept : Option (List VarName)
   pub conjs : List ExprTree
+  pub left : Option ExprTree
   pub units : List ExprTree
 
 -- the last thing read
@@ -30,7 +32,7 @@ pub data Last : Type 0 where
   after_comma : List VarName → Last
 
 -- the lets that are ended, the name of the one that is being read, the innermost frame and those around it from the inside out,
--- the last thing read, and whether some projection keeps too many names
+-- the last thing read, whether some projection keeps too many names, and the signs `minus`
 pub record Nest : Type 0 where
   pub lets : List (VarName × ExprTree)
   pub current : Option VarName
@@ -38,6 +40,7 @@ pub record Nest : Type 0 where
   pub top : Frame
   pub last : Last
   pub many : Bool
+  pub minuses : ℕ
 
 abbrev pub mark_of : Last → Mark
 mark_of at_start = mark.at_start
@@ -52,13 +55,13 @@ mark_of (after_comma kept) = mark.after_comma kept
 
 -- the reading, without the trees
 abbrev pub reading_of : Nest → Reading
-reading_of n = record { names = names_of n.lets; current = n.current; opened = length n.below; mark = mark_of n.last; many = n.many }
+reading_of n = record { names = names_of n.lets; current = n.current; opened = length n.below; mark = mark_of n.last; many = n.many; minuses = n.minuses }
 
 abbrev pub empty_frame : Option (List VarName) → Frame
-empty_frame kept = record { kept = kept; conjs = []; units = [] }
+empty_frame kept = record { kept = kept; conjs = []; left = None; units = [] }
 
 abbrev pub outermost : Nest
-outermost = record { lets = []; current = None; below = []; top = empty_frame None; last = at_start; many = false }
+outermost = record { lets = []; current = None; below = []; top = empty_frame None; last = at_start; many = false; minuses = 0 }
 
 abbrev pub with_last : Last → Nest → Nest
 with_last l n = record n { last = l }
@@ -68,6 +71,11 @@ abbrev pub whole_conj : List ExprTree → ExprTree → ExprTree
 whole_conj [] e = e
 whole_conj (u ∷ us) e = join_all ((u ∷ us) ++ e ∷ [])
 
+-- this conjunction, taken from what stands before it
+abbrev pub less : Option ExprTree → ExprTree → ExprTree
+less None c = c
+less (Some l) c = minus l c
+
 -- the expression that ends with this conjunction
 abbrev pub whole_expr : List ExprTree → ExprTree → ExprTree
 whole_expr [] c = c
@@ -75,7 +83,7 @@ whole_expr (d ∷ ds) c = union_all ((d ∷ ds) ++ c ∷ [])
 
 -- the expression in a frame, where e is its last unit
 abbrev pub whole : Frame → ExprTree → ExprTree
-whole f e = whole_expr f.conjs (whole_conj f.units e)
+whole f e = whole_expr f.conjs (less f.left (whole_conj f.units e))
 
 abbrev pub keeping : Option (List VarName) → ExprTree → ExprTree
 keeping None e = e
@@ -89,7 +97,13 @@ abbrev pub next_unit : ExprTree → Nest → Nest
 next_unit e n = record n { top = record (n.top) { units = n.top.units ++ e ∷ [] }; last = at_unit }
 
 abbrev pub next_conj : ExprTree → Nest → Nest
-next_conj e n = record n { top = record (n.top) { conjs = n.top.conjs ++ whole_conj n.top.units e ∷ []; units = [] }; last = at_unit }
+next_conj e n =
+    record n { top = record (n.top) { conjs = n.top.conjs ++ less n.top.left (whole_conj n.top.units e) ∷ []; left = None; units = [] }; last = at_unit }
+
+-- what follows is taken from what stands in the frame
+abbrev pub next_side : ExprTree → Nest → Nest
+next_side e n =
+    record n { top = record (n.top) { conjs = []; left = Some (whole n.top e); units = [] }; last = at_unit; minuses = suc n.minuses }
 
 abbrev pub opened : Option (List VarName) → Nest → Nest
 opened kept n = record n { below = n.top ∷ n.below; top = empty_frame kept; last = at_unit }
@@ -148,23 +162,23 @@ moves_open (after_kept kept) n = opens (Some kept) n
 moves_open _ n = Err unexpected
 
 -- the innermost frame is closed with this expression, and those around it are left
-abbrev pub leaves : ExprTree → List (VarName × ExprTree) → Option VarName → Bool → List Frame → Move
-leaves e lets current many [] = Err unexpected
-leaves e lets current many (outer ∷ below) =
-    Ok (record { lets = lets; current = current; below = below; top = outer; last = unit e; many = many })
+abbrev pub leaves : ExprTree → List (VarName × ExprTree) → Option VarName → Bool → ℕ → List Frame → Move
+leaves e lets current many minuses [] = Err unexpected
+leaves e lets current many minuses (outer ∷ below) =
+    Ok (record { lets = lets; current = current; below = below; top = outer; last = unit e; many = many; minuses = minuses })
 
 abbrev pub moves_close : Last → Nest → Move
-moves_close (unit e) n = leaves (closed n.top e) n.lets n.current n.many n.below
+moves_close (unit e) n = leaves (closed n.top e) n.lets n.current n.many n.minuses n.below
 moves_close _ n = Err unexpected
 
 -- the let of this expression is ended
-abbrev pub ends_let : ExprTree → List (VarName × ExprTree) → Bool → List Frame → Option VarName → Move
-ends_let e lets many [] (Some x) =
-    Ok (record { lets = lets ++ (x, e) ∷ []; current = None; below = []; top = empty_frame None; last = at_start; many = many })
-ends_let e lets many _ _ = Err unexpected
+abbrev pub ends_let : ExprTree → List (VarName × ExprTree) → Bool → ℕ → List Frame → Option VarName → Move
+ends_let e lets many minuses [] (Some x) =
+    Ok (record { lets = lets ++ (x, e) ∷ []; current = None; below = []; top = empty_frame None; last = at_start; many = many; minuses = minuses })
+ends_let e lets many minuses _ _ = Err unexpected
 
 abbrev pub moves_semicolon : Last → Nest → Move
-moves_semicolon (unit e) n = ends_let (whole n.top e) n.lets n.many n.below n.current
+moves_semicolon (unit e) n = ends_let (whole n.top e) n.lets n.many n.minuses n.below n.current
 moves_semicolon _ n = Err unexpected
 
 -- a name where one may stand: m has what it means there
@@ -182,13 +196,22 @@ abbrev pub keeps : List VarName → VarName → Nest → Move
 keeps kept x n =
     reads_name x (Ok (if finds_room kept x then with_last (after_kept (with_name x kept)) n else record n { last = after_kept kept; many = true }))
 
+-- the sign `minus`
+abbrev pub subtracts : VarName → ExprTree → Nest → Move
+subtracts x e n =
+    if bytes_eq x minus_word then (if nat_lt n.minuses MOST_MINUSES then Ok (next_side e n) else Err too_deep) else Err unexpected
+
+abbrev pub moves_minus : VarName → Last → Nest → Move
+moves_minus x (unit e) n = subtracts x e n
+moves_minus x _ n = Err unexpected
+
 abbrev pub moves_name : VarName → Last → Nest → Move
 moves_name x at_start n = reads_name x (speaks_of (find (names_of n.lets) x) n)
 moves_name x after_let n = begins_let x n
 moves_name x at_unit n = reads_name x (speaks_of (find (names_of n.lets) x) n)
 moves_name x after_project n = keeps [] x n
 moves_name x (after_comma kept) n = keeps kept x n
-moves_name x _ n = Err unexpected
+moves_name x l n = moves_minus x l n
 
 -- a unit is due
 abbrev pub wants_unit : Last → Bool

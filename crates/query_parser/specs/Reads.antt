@@ -5,8 +5,8 @@ use Rattle.span_core.specs.declared.TheConstants.{MOST_VARIABLES}
 use Rattle.span_core.specs.Names.{is_name}
 use Rattle.span_core.specs.NameSets.{with_name}
 use Rattle.spanner_model.specs.Captures.{VarName}
-use Rattle.query_parser.specs.declared.TheConstants.{MOST_OPEN}
-use Rattle.query_parser.specs.Tokens.{Token, atom_token, let_word, union_word, join_word, project_word, none_word, name_token, equals, semicolon, open_paren, close_paren, comma, TokenAt, BlankAt}
+use Rattle.query_parser.specs.declared.TheConstants.{MOST_OPEN, MOST_MINUSES}
+use Rattle.query_parser.specs.Tokens.{Token, atom_token, let_word, union_word, join_word, project_word, none_word, name_token, equals, semicolon, open_paren, close_paren, comma, minus_word, TokenAt, BlankAt}
 
 -- the last thing read: nothing since the start or since the end of a let; `let`; the name of a let; something before a unit; a unit;
 -- `project`; `none`; a name that a projection keeps, and a comma after it, with the names kept so far
@@ -22,13 +22,14 @@ pub data Mark : Type 0 where
   after_comma : List VarName → Mark
 
 -- the names of the lets that are ended, the name of the let that is being read, the parentheses that are open, the last thing read,
--- and whether some projection keeps too many names
+-- whether some projection keeps too many names, and the signs `minus`
 pub record Reading : Type 0 where
   pub names : List VarName
   pub current : Option VarName
   pub opened : ℕ
   pub mark : Mark
   pub many : Bool
+  pub minuses : ℕ
 
 -- why a token may not come next
 pub data Refusal : Type 0 where
@@ -75,6 +76,12 @@ begins_unit r open_paren = opens r
 begins_unit r project_word = Ok (marked after_project r)
 begins_unit r _ = Err unexpected
 
+-- A name after a unit, where only the sign `minus` may stand.
+abbrev pub subtracts : VarName → Reading → Result Reading Refusal
+subtracts x r =
+    if bytes_eq x minus_word then (if nat_lt r.minuses MOST_MINUSES then Ok (record r { minuses = suc r.minuses; mark = at_unit }) else Err too_deep)
+    else Err unexpected
+
 -- A `)` after a unit, with so many parentheses open.
 abbrev pub closes : ℕ → Reading → Result Reading Refusal
 closes zero r = Err unexpected
@@ -94,6 +101,7 @@ next after_name r equals = Ok (marked at_unit r)
 next at_unit r t = begins_unit r t
 next after_unit r union_word = Ok (marked at_unit r)
 next after_unit r join_word = Ok (marked at_unit r)
+next after_unit r (name_token x) = subtracts x r
 next after_unit r close_paren = closes r.opened r
 next after_unit r semicolon = ends_let r.opened r.current r
 next after_project r none_word = Ok (marked after_none r)
@@ -119,7 +127,7 @@ abbrev pub is_whole : Reading → Bool
 is_whole r = ends_body r.mark r.opened r.current
 
 abbrev pub nothing_read : Reading
-nothing_read = record { names = []; current = None; opened = 0; mark = at_start; many = false }
+nothing_read = record { names = []; current = None; opened = 0; mark = at_start; many = false; minuses = 0 }
 
 -- This is read of the text before the place p.
 pub data ReadsQuery (text : List ℕ) : ℕ → Reading → Type 0 where

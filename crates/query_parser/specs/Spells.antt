@@ -4,11 +4,12 @@ use Rattle.span_core.specs.declared.TheConstants.{MOST_VARIABLES}
 use Rattle.span_core.specs.NameSets.{with_name}
 use Rattle.span_core.specs.Lists.{Has}
 use Rattle.spanner_model.specs.Captures.{VarName}
-use Rattle.spanner_model.specs.Expression.{ExprTree, QueryTree, atom, named, union_end, join_end, project, union_all, join_all}
+use Rattle.spanner_model.specs.Expression.{ExprTree, QueryTree, atom, named, union_end, join_end, project, minus, union_all, join_all}
 use Rattle.spanner_model.specs.Sound.{IsFreeName}
 use Rattle.formula_parser.specs.Spells.{AtomTree}
-use Rattle.query_parser.specs.declared.TheConstants.{MOST_OPEN}
-use Rattle.query_parser.specs.Tokens.{Token, atom_token, let_word, union_word, join_word, project_word, none_word, name_token, equals, semicolon, open_paren, close_paren, comma, HasTokens}
+use Rattle.query_parser.specs.declared.TheConstants.{MOST_OPEN, MOST_MINUSES}
+use Rattle.query_parser.specs.Tokens.{Token, atom_token, let_word, union_word, join_word, project_word, none_word, name_token, equals, semicolon, open_paren, close_paren, comma, minus_word, HasTokens}
+use Rattle.query_parser.specs.Minuses.{minuses_of}
 
 -- an expression of one conjunction is that conjunction, of more their union
 abbrev pub union_tree : List ExprTree → ExprTree
@@ -40,11 +41,14 @@ pub data SpellsKeep : List Token → List VarName → Type 0 where
 
 -- `names` are those of the lets that a name may speak of, in order; `room` is how many parentheses may still be opened.
 mutual
-  -- the tokens of the conjunctions of an expression, with the word `union` between, and their trees
+  -- the tokens of the conjunctions of an expression, with the word `union` or `minus` between, and the trees of the parts of their union: what
+  -- stands before a `minus` is united, and is less what follows one part
   pub data SpellsExpr (names : List VarName) : ℕ → List Token → List ExprTree → Type 0 where
     lone_conj : {room : ℕ} {t : List Token} {es : List ExprTree} → SpellsConj names room t es → SpellsExpr names room t (join_tree es ∷ [])
     more_conjs : {room : ℕ} {t u : List Token} {fs es : List ExprTree} → SpellsExpr names room t fs → SpellsConj names room u es →
         SpellsExpr names room (t ++ union_word ∷ u) (fs ++ join_tree es ∷ [])
+    less_conj : {room : ℕ} {t u : List Token} {fs es : List ExprTree} → SpellsExpr names room t fs → SpellsConj names room u es →
+        SpellsExpr names room (t ++ name_token minus_word ∷ u) (minus (union_tree fs) (join_tree es) ∷ [])
 
   -- the tokens of the units of a conjunction, with the word `join` between, and their trees
   pub data SpellsConj (names : List VarName) : ℕ → List Token → List ExprTree → Type 0 where
@@ -70,11 +74,11 @@ pub data SpellsLets : List Token → List (VarName × ExprTree) → Type 0 where
       IsFreeName x → ¬ Has (names_of lets) x → SpellsExpr (names_of lets) MOST_OPEN u es →
       SpellsLets (t ++ let_word ∷ name_token x ∷ equals ∷ (u ++ semicolon ∷ [])) (lets ++ (x, union_tree es) ∷ [])
 
--- the tokens of a query
+-- the tokens of a query, in which not too many differences stand
 abbrev pub Spells : List Token → QueryTree → Type 0
 Spells ts q =
     (t : List Token) × (u : List Token) × (es : List ExprTree) × (ts ≡ t ++ u)
-    × SpellsLets t q.lets × SpellsExpr (names_of q.lets) MOST_OPEN u es × (q.body ≡ union_tree es)
+    × SpellsLets t q.lets × SpellsExpr (names_of q.lets) MOST_OPEN u es × (q.body ≡ union_tree es) × (minuses_of q ≤ MOST_MINUSES)
 
 -- the text spells the query
 abbrev pub SpellsQuery : List ℕ → QueryTree → Type 0

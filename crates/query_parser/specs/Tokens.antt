@@ -22,6 +22,10 @@ pub data Token : Type 0 where
   close_paren : Token
   comma : Token
 
+-- the word of a difference: behind a whole conjunction it is a sign, elsewhere a name
+abbrev pub minus_word : List ℕ
+minus_word = codes "minus"
+
 -- the token of a word
 abbrev pub word_token : List ℕ → Token
 word_token x =

@@ -1,19 +1,20 @@
 -- The faults of a query that is a tree.
-use Rattle.std.specs.Prelude.{ℕ, ◌<◌, ◌⊎◌, List, [], ◌∷◌, length, slice_get}
+use Rattle.std.specs.Prelude.{ℕ, ◌<◌, ◌⊎◌, ◌↔◌, List, [], ◌∷◌, length, slice_get}
 use Rattle.std.specs.Option.{ForSome, IsSomeAnd}
 use Rattle.span_core.specs.Lists.{Has}
 use Rattle.spanner_model.specs.Captures.{VarName}
 use Rattle.spanner_model.specs.Sequential.{IsSequential}
-use Rattle.spanner_model.specs.Expression.{ExprTree, QueryTree, atom, named, union_end, union, join_end, join, project}
+use Rattle.spanner_model.specs.Expression.{ExprTree, QueryTree, atom, named, union_end, union, join_end, join, project, minus}
 use Rattle.spanner_model.specs.Answer.{VarOf, vars_of_lets}
 use Rattle.spanner_model.specs.Sound.{SureOf, SharesSure, sure_of_lets}
 use Rattle.functional_check.specs.Faults.{IsFault, IsLeast}
 use Rattle.query_parser.specs.declared.fault.QueryFault.{QueryFault}
-use Rattle.query_parser.specs.declared.fault.QueryFault.TheVariants.{Check, JoinUnsure, UnknownVariable}
+use Rattle.query_parser.specs.declared.fault.QueryFault.TheVariants.{Check, JoinUnsure, UnknownVariable, MinusVariables}
 
 -- V k has the variables, and S k the sure ones, of the let k
 module _ (V S : ℕ → VarName → Type 0) where
-  -- Formulas are sequential, what two parts of a join share is sure in both, and a projection keeps variables that are there.
+  -- Formulas are sequential, what two parts of a join share is sure in both, a projection keeps variables that are there, and both sides of a
+  -- difference have the same variables.
   abbrev pub Passes : ExprTree → Type 0
   Passes (atom s t f) = IsSequential f
   Passes (named k) = Unit {0}
@@ -22,12 +23,14 @@ module _ (V S : ℕ → VarName → Type 0) where
   Passes join_end = Unit {0}
   Passes (join e rest) = Passes e × Passes rest × SharesSure V S e rest
   Passes (project kept e) = Passes e × ((x : VarName) → Has kept x → VarOf V e x)
+  Passes (minus e g) = Passes e × Passes g × ((x : VarName) → VarOf V e x ↔ VarOf V g x)
 
   -- the parts of an expression pass
   abbrev pub HasPassingParts : ExprTree → Type 0
   HasPassingParts (union e rest) = Passes e × HasPassingParts rest
   HasPassingParts (join e rest) = Passes e × HasPassingParts rest
   HasPassingParts (project kept e) = Passes e
+  HasPassingParts (minus e g) = Passes e × Passes g
   HasPassingParts _ = Unit {0}
 
   -- x clashes at the part e of a join: some part before it has x too, and x is not sure in both
@@ -41,11 +44,16 @@ module _ (V S : ℕ → VarName → Type 0) where
       ⊎ (((y : VarName) → ¬ Clashes before e y) × ClashesFirst (e ∷ before) rest x)
   ClashesFirst before _ x = ⊥
 
+  -- x is a variable of one of the two alone
+  abbrev pub IsOfOneSide : ExprTree → ExprTree → VarName → Type 0
+  IsOfOneSide e g x = (VarOf V e x × ¬ VarOf V g x) ⊎ (VarOf V g x × ¬ VarOf V e x)
+
   -- the fault of an expression itself, where there is none inside it
   abbrev pub OwnFault : ExprTree → QueryFault → Type 0
   OwnFault (atom s t f) (Check e) = IsFault f e
   OwnFault (join e rest) (JoinUnsure x) = ClashesFirst (e ∷ []) rest x
   OwnFault (project kept e) (UnknownVariable x) = IsLeast (λ y. Has kept y × ¬ VarOf V e y) x
+  OwnFault (minus e g) (MinusVariables x) = IsLeast (IsOfOneSide e g) x
   OwnFault _ _ = ⊥
 
   -- a fault inside an expression, or where its parts pass its own
@@ -57,6 +65,7 @@ module _ (V S : ℕ → VarName → Type 0) where
   InnerFault (union e rest) fault = IsFaultOver (InnerFault e fault) e fault ⊎ (Passes e × InnerFault rest fault)
   InnerFault (join e rest) fault = IsFaultOver (InnerFault e fault) e fault ⊎ (Passes e × InnerFault rest fault)
   InnerFault (project kept e) fault = IsFaultOver (InnerFault e fault) e fault
+  InnerFault (minus e g) fault = IsFaultOver (InnerFault e fault) e fault ⊎ (Passes e × IsFaultOver (InnerFault g fault) g fault)
   InnerFault _ fault = ⊥
 
   -- the fault of an expression: the first one, parts from left to right, and then the expression itself

@@ -1,5 +1,6 @@
 -- What the code's own types stand for.
 use Rattle.std.specs.Prelude.{ℕ, List, map, reverse}
+use Rattle.std.specs.Option.{option_map}
 use Rattle.spanner_model.specs.Captures.{VarName}
 use Rattle.spanner_model.specs.ExprView.{expr_of, exprs_of, lets_of}
 use Rattle.query_parser.specs.declared.tokens.Word.{Word}
@@ -30,7 +31,7 @@ sign_of code_sign.Close = close_paren
 sign_of code_sign.Comma = comma
 
 abbrev pub frame_of : CodeFrame → Frame
-frame_of f = record { kept = f.kept; conjs = exprs_of f.conjs; units = exprs_of f.units }
+frame_of f = record { kept = f.kept; conjs = exprs_of f.conjs; left = option_map expr_of f.left; units = exprs_of f.units }
 
 -- the last thing read, where a projection keeps these names
 abbrev pub last_of : List VarName → CodeLast → Last
@@ -53,4 +54,5 @@ nest_of n = record {
   top = frame_of n.top;
   last = last_of n.kept n.last;
   many = n.many;
+  minuses = n.minuses;
 }

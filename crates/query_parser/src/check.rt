@@ -11,10 +11,10 @@ ghost use Rattle.spanner_model.specs.Sound.{NameIn, NameOf};
 ghost use Rattle.spanner_model.specs.Gathered.{Adds, HaveRoom, Gathered};
 ghost use Rattle.functional_check.specs.Faults.{IsLeastOf};
 ghost use Rattle.query_parser.specs.TreeFaults.{IsTreeFault};
-ghost use Rattle.query_parser.specs.Formed.{IsFormed, InReach, vars_known, sure_known, HasSureAmongVars, Checked, IsUnsureIn, IsProjectionOf, IsFormedQuery, PassesQuery};
+ghost use Rattle.query_parser.specs.Formed.{IsFormed, InReach, vars_known, sure_known, HasSureAmongVars, Checked, IsUnsureIn, IsProjectionOf, IsDifferenceOf, IsFormedQuery, PassesQuery};
 
 use crate::fault::QueryFault;
-use functional_check::names::{add_all, least_where, shared};
+use functional_check::names::{add_all, least_where, shared, smaller};
 use functional_check::{check, sure};
 use span_core::{MOST_VARIABLES, Name, VarSet};
 use spanner_model::{Expr, Exprs, Query, gather};
@@ -104,6 +104,11 @@ pub(crate) fn check_expr(expr: &Expr, known: &[Bound]) -> Result<Bound, QueryFau
             let bound = check_expr(sub, known)?;
             projected(kept, &bound)
         }
+        Expr::Minus(left, right) => {
+            let bound = check_expr(left, known)?;
+            let other = check_expr(right, known)?;
+            differing(bound, &other)
+        }
     }
 }
 
@@ -157,6 +162,18 @@ fn projected(kept: &VarSet, bound: &Bound) -> Result<Bound, QueryFault>
     }
 }
 
+/// A difference of a side with these variables and one with those.
+fn differing(left: Bound, right: &Bound) -> Result<Bound, QueryFault>
+    ensures { IsDifferenceOf left right.now result }
+{
+    let first = least_where(&left.vars, &right.vars, false);
+    let second = least_where(&right.vars, &left.vars, false);
+    match smaller(first, second) {
+        Some(var) => Err(QueryFault::MinusVariables { var }),
+        None => Ok(left),
+    }
+}
+
 /// A variable that clashes at an earlier part, or else the least one that clashes at this part with those
 /// before it.
 ///
@@ -183,6 +200,12 @@ fn gather_names(expr: &Expr, into: &mut VarSet) -> bool
         Expr::Union(parts) => gather_parts(parts, into),
         Expr::Join(parts) => gather_parts(parts, into),
         Expr::Project(_, sub) => gather_names(sub, into),
+        Expr::Minus(left, right) => {
+            if !gather_names(left, into) {
+                return false;
+            }
+            gather_names(right, into)
+        }
     }
 }
 

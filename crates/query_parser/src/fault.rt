@@ -34,13 +34,20 @@ pub enum QueryFault {
     TooManyVariables,
     /// 10: the text has more than `MOST_TEXT_BYTES` bytes.
     TooLong,
-    /// 11: a `(` that would be the 101st open at once, those of projections included.
+    /// 11: a `(` that would be the 101st open at once, those of projections included; or a `minus` behind a whole
+    /// conjunction that would be the 101st of the text, those of its lets included.
     TooDeep { at: usize },
     /// 12: want of memory.
     OutOfMemory,
     /// 13: a join, at its first part that has a variable of an earlier part which is not sure in both:
     /// the least such name.
     JoinUnsure { var: Name },
+    /// 14: a test whose name is not known, at its name. It is found where the tests are.
+    UnknownTest { at: usize },
+    /// 15: the first variable of a test that is none of the result's.
+    TestVariable { var: Name },
+    /// 16: a difference whose sides have different variables: the least name that is in one of them alone.
+    MinusVariables { var: Name },
 }
 
 impl From<OutOfMemory> for QueryFault {

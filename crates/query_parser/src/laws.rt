@@ -1,5 +1,6 @@
 //! Laws of the grammar and of its faults, each the contract of a function that does nothing.
 ghost use Rattle.query_parser.specs.Laws.{HasOneQuery, HasNoQueryWithReadFault, HasOneReadFault, HasNoQueryWithFault, HasOneFault, HasQueryOrFault, IsReadOrRefused};
+ghost use Rattle.query_parser.specs.TestedLaws.{QueriesAreAsBefore, EachTextIsTold};
 
 /// No text spells two queries.
 pub fn no_text_spells_two_queries()
@@ -30,6 +31,16 @@ pub fn no_text_has_two_faults()
 /// projection that keeps too many names.
 pub fn each_text_is_read_or_refused()
     ensures { IsReadOrRefused }
+{}
+
+/// Each text of bytes is that of a query with tests or has a fault, and never two of these.
+pub fn each_text_with_tests_is_told()
+    ensures { EachTextIsTold }
+{}
+
+/// A text in which no tests begin is that of the query, or has the fault, that it was and had without tests.
+pub fn queries_without_tests_are_as_before()
+    ensures { QueriesAreAsBefore }
 {}
 
 /// Each text of bytes is that of a sound query or has a fault.

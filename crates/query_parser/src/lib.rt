@@ -4,20 +4,26 @@
 //! first fault. What the grammar spells is then checked as a tree, where names and variables are known.
 #![tactic(auto)]
 
+pub use asks::{Asked, Asks, Tested};
 pub use fault::QueryFault;
 pub use laws::{
-    each_text_has_a_query_or_a_fault, each_text_is_read_or_refused,
+    each_text_has_a_query_or_a_fault, each_text_is_read_or_refused, each_text_with_tests_is_told,
     no_text_has_a_query_and_a_fault, no_text_has_two_faults, no_text_has_two_faults_of_reading,
     no_text_is_read_and_has_a_fault_of_reading, no_text_spells_two_queries,
+    queries_without_tests_are_as_before,
 };
 pub use reader::read_query;
+pub use tested::read_tested;
 
+mod asks;
 mod check;
 mod fault;
 mod laws;
 mod named;
 mod nest;
 mod reader;
+mod tested;
+mod tests_read;
 mod tokens;
 mod turns;
 
@@ -27,5 +33,5 @@ pub const MOST_TEXT_BYTES: usize = 65_536;
 /// The most parentheses that may be open at once.
 pub const MOST_OPEN: usize = 100;
 
-#[cfg(test)]
-mod tests;
+/// The most signs `minus` that the text of a query may have, those of its lets among them.
+pub const MOST_MINUSES: usize = 100;

@@ -2,9 +2,12 @@
 //!
 //! A frame for each open parenthesis keeps the unions and joins that stand whole so far, and what a projection before
 //! it keeps. The last thing read decides what may come next.
-ghost use Rattle.std.specs.Prelude.{◌≡◌, ◌++◌, [], ◌∷◌, OnOk, IfOk};
+ghost use Rattle.std.specs.Prelude.{◌≡◌, ◌++◌, [], ◌∷◌, ◌<◌, OnOk, IfOk};
+ghost use Rattle.std.specs.Option.{option_map};
+ghost use Rattle.query_parser.specs.declared.TheConstants.{MOST_MINUSES};
 ghost use Rattle.spanner_model.specs.ExprView.{expr_of, exprs_of};
-ghost use Rattle.query_parser.specs.Nest.{outermost, empty_frame, whole_conj, whole_expr, whole, keeping, closed, next_unit, next_conj, opened, wants_unit};
+ghost use Rattle.query_parser.specs.Reads.{is_whole};
+ghost use Rattle.query_parser.specs.Nest.{reading_of, outermost, empty_frame, whole_conj, less, whole_expr, whole, keeping, closed, next_unit, next_conj, next_side, opened, wants_unit};
 ghost use Rattle.query_parser.specs.View.{frame_of, last_of, nest_of};
 
 use crate::named::Named;
@@ -14,11 +17,12 @@ use std::alloc::Global;
 use std::mem;
 
 /// What an open parenthesis keeps, where it is that of a projection; the conjunctions that stand whole
-/// since then, and the units before the last one.
+/// since then, what the last one is to be taken from, and the units before the last one.
 #[derive(Drop)]
 pub(crate) struct Frame {
     pub(crate) kept: Option<VarSet>,
     pub(crate) conjs: Exprs,
+    pub(crate) left: Option<Expr>,
     pub(crate) units: Exprs,
 }
 
@@ -54,6 +58,8 @@ pub(crate) struct Nest {
     pub(crate) kept: VarSet,
     /// Whether some projection keeps too many names.
     pub(crate) many: bool,
+    /// The signs `minus` so far.
+    pub(crate) minuses: usize,
 }
 
 fn put(parts: &mut Exprs, part: Expr) -> Result<(), OutOfMemory>
@@ -75,6 +81,19 @@ fn whole_conj(units: Exprs, last: Expr) -> Result<Expr, OutOfMemory>
         return Ok(Expr::Join(units));
     }
     Ok(last)
+}
+
+/// A conjunction, taken from what stands before it where that is there.
+fn less(alloc: Global, left: Option<Expr>, conj: Expr) -> Result<Expr, OutOfMemory>
+    ensures { IfOk result (λ e. expr_of e ≡ less (option_map expr_of left) (expr_of conj)) }
+{
+    let Some(left) = left else {
+        return Ok(conj);
+    };
+    match (Box::new(alloc, left), Box::new(alloc, conj)) {
+        (Ok(left), Ok(conj)) => Ok(Expr::Minus(left, conj)),
+        _ => Err(OutOfMemory),
+    }
 }
 
 /// The expression of these conjunctions and a last one.
@@ -109,25 +128,33 @@ impl Frame {
         Frame {
             kept,
             conjs: Exprs::new(alloc),
+            left: None,
             units: Exprs::new(alloc),
         }
     }
 
     /// The expression in the frame, where this is its last unit.
-    pub(crate) fn whole(self, last: Expr) -> Result<Expr, OutOfMemory>
+    pub(crate) fn whole(self, alloc: Global, last: Expr) -> Result<Expr, OutOfMemory>
         ensures { IfOk result (λ e. expr_of e ≡ whole (frame_of self) (expr_of last)) }
     {
         let conj = whole_conj(self.units, last)?;
-        whole_expr(self.conjs, conj)
+        let part = less(alloc, self.left, conj)?;
+        whole_expr(self.conjs, part)
     }
 
     /// What the frame is in the one around it.
     pub(crate) fn closed(self, alloc: Global, last: Expr) -> Result<Expr, OutOfMemory>
         ensures { IfOk result (λ e. expr_of e ≡ closed (frame_of self) (expr_of last)) }
     {
-        let Frame { kept, conjs, units } = self;
+        let Frame {
+            kept,
+            conjs,
+            left,
+            units,
+        } = self;
         let conj = whole_conj(units, last)?;
-        let expr = whole_expr(conjs, conj)?;
+        let part = less(alloc, left, conj)?;
+        let expr = whole_expr(conjs, part)?;
         keeping(alloc, kept, expr)
     }
 }
@@ -144,6 +171,7 @@ impl Nest {
             last: Last::Start,
             kept: VarSet::empty(),
             many: false,
+            minuses: 0,
         }
     }
 
@@ -152,6 +180,13 @@ impl Nest {
         ensures { result ≡ wants_unit (last_of self.now.kept self.now.last) }
     {
         matches!(self.last, Last::Start | Last::Before)
+    }
+
+    /// Whether a query may end here.
+    pub(crate) fn is_whole(&self) -> bool
+        ensures { result ≡ is_whole (reading_of (nest_of self.now)) }
+    {
+        matches!(self.last, Last::Unit(_)) && self.below.is_empty() && self.current.is_none()
     }
 
     /// A `join` after this unit.
@@ -168,8 +203,23 @@ impl Nest {
     {
         self.last = Last::Before;
         let units = mem::replace(&mut self.top.units, Exprs::new(alloc));
+        let left = mem::replace(&mut self.top.left, None);
         let conj = whole_conj(units, unit)?;
-        put(&mut self.top.conjs, conj)
+        let part = less(alloc, left, conj)?;
+        put(&mut self.top.conjs, part)
+    }
+
+    /// A `minus` after this unit.
+    pub(crate) fn next_side(&mut self, alloc: Global, unit: Expr) -> Result<(), OutOfMemory>
+        requires { self.old.minuses < MOST_MINUSES }
+        ensures { OnOk result (nest_of self.new ≡ next_side (expr_of unit) (nest_of self.old)) }
+    {
+        self.last = Last::Before;
+        self.minuses += 1;
+        let kept = mem::replace(&mut self.top.kept, None);
+        let top = mem::replace(&mut self.top, Frame::new(alloc, kept));
+        self.top.left = Some(top.whole(alloc, unit)?);
+        Ok(())
     }
 
     /// A parenthesis, which keeps these names where it is that of a projection.

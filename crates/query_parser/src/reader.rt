@@ -28,7 +28,7 @@ fn read_by_turns(alloc: Global, text: &[u8]) -> Result<(Query, bool), QueryFault
         let (_, rest) = text.split_at(at);
         at += take_turn(alloc, text, at, rest, &mut nest)?;
     }
-    finish(at, nest)
+    finish(alloc, at, nest)
 }
 
 /// The one sound query of a text, or the text's first fault.

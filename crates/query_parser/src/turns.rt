@@ -8,16 +8,16 @@ ghost use Rattle.query_parser.specs.Spells.{names_of};
 ghost use Rattle.query_parser.specs.declared.TheConstants.{MOST_TEXT_BYTES};
 ghost use Rattle.query_parser.specs.Reads.{finds_room};
 ghost use Rattle.span_core.specs.NameSets.{with_name};
-ghost use Rattle.query_parser.specs.Nest.{outermost, unit, move, moves_name, opens, begins_let, keeps, reads_name, speaks_of, find, whole, ends_let, ends_body};
+ghost use Rattle.query_parser.specs.Nest.{outermost, unit, move, moves_name, opens, begins_let, keeps, reads_name, speaks_of, find, whole, moves_minus, ends_let, ends_body};
 ghost use Rattle.query_parser.specs.Step.{moved, words, signs, ends, step, Ends};
 ghost use Rattle.query_parser.specs.View.{word_of, sign_of, nest_of};
 ghost use Rattle.query_parser.specs.Turn.{IsStep, ReadAtom, IsTurn, IsEnd, AnswersBody};
 
-use crate::MOST_OPEN;
 use crate::fault::QueryFault;
 use crate::named::Named;
 use crate::nest::{Frame, Last, Nest};
 use crate::tokens::{Sign, Word, is_blank, sign_of, starts_word, word_at, word_of};
+use crate::{MOST_MINUSES, MOST_OPEN};
 use formula_parser::{FormulaFault, read_atom};
 use span_core::{Name, VarSet};
 use spanner_model::{Expr, Query};
@@ -143,7 +143,27 @@ fn keep(at: usize, word: &[u8], nest: &mut Nest) -> Result<usize, QueryFault>
     }
 }
 
-fn name(at: usize, word: &[u8], nest: &mut Nest) -> Result<usize, QueryFault>
+/// A name where only the sign `minus` may stand.
+fn minus_word(alloc: Global, at: usize, word: &[u8], nest: &mut Nest) -> Result<usize, QueryFault>
+    ensures { IsStep result (moved at (length word.now) (moves_minus word.now (nest_of nest.old).last (nest_of nest.old))) (nest_of nest.new) }
+{
+    let last = mem::replace(&mut nest.last, Last::Before);
+    match last {
+        Last::Unit(unit) => {
+            if word != b"minus".as_slice() {
+                return Err(QueryFault::Unexpected { at });
+            }
+            if nest.minuses >= MOST_MINUSES {
+                return Err(QueryFault::TooDeep { at });
+            }
+            nest.next_side(alloc, unit)?;
+            Ok(word.len())
+        }
+        _ => Err(QueryFault::Unexpected { at }),
+    }
+}
+
+fn name(alloc: Global, at: usize, word: &[u8], nest: &mut Nest) -> Result<usize, QueryFault>
     ensures { IsStep result (moved at (length word.now) (move (name_token word.now) (nest_of nest.old))) (nest_of nest.new) }
 {
     match nest.last {
@@ -154,7 +174,9 @@ fn name(at: usize, word: &[u8], nest: &mut Nest) -> Result<usize, QueryFault>
             keep(at, word, nest)
         }
         Last::Comma => keep(at, word, nest),
-        _ => Err(QueryFault::Unexpected { at }),
+        Last::LetName | Last::Unit(_) | Last::KeepNone | Last::Kept => {
+            minus_word(alloc, at, word, nest)
+        }
     }
 }
 
@@ -167,7 +189,7 @@ fn word(alloc: Global, at: usize, word: &[u8], nest: &mut Nest) -> Result<usize,
         Word::Join => join_word(at, nest),
         Word::Project => project_word(at, nest),
         Word::None => none_word(at, nest),
-        Word::Name => name(at, word, nest),
+        Word::Name => name(alloc, at, word, nest),
     }
 }
 
@@ -246,7 +268,7 @@ fn close_paren(alloc: Global, at: usize, nest: &mut Nest) -> Result<usize, Query
 fn end_let(alloc: Global, at: usize, last: Expr, nest: &mut Nest) -> Result<usize, QueryFault>
     ensures { IsStep result
         (moved at 1
-        (ends_let (whole (nest_of nest.old).top (expr_of last)) (nest_of nest.old).lets (nest_of nest.old).many (nest_of nest.old).below (nest_of nest.old).current))
+        (ends_let (whole (nest_of nest.old).top (expr_of last)) (nest_of nest.old).lets (nest_of nest.old).many (nest_of nest.old).minuses (nest_of nest.old).below (nest_of nest.old).current))
         (nest_of nest.new) }
 {
     if !nest.below.is_empty() {
@@ -255,7 +277,7 @@ fn end_let(alloc: Global, at: usize, last: Expr, nest: &mut Nest) -> Result<usiz
     match nest.current {
         Some(name) => {
             let top = mem::replace(&mut nest.top, Frame::new(alloc, None));
-            let expr = top.whole(last)?;
+            let expr = top.whole(alloc, last)?;
             let named = mem::replace(&mut nest.named, Named::new(alloc));
             nest.named = named.with(name, expr)?;
             nest.current = None;
@@ -338,7 +360,7 @@ pub(crate) fn take_turn(
 }
 
 /// The query that ends after this unit.
-fn end_body(at: usize, last: Expr, nest: Nest) -> Result<(Query, bool), QueryFault>
+fn end_body(alloc: Global, at: usize, last: Expr, nest: Nest) -> Result<(Query, bool), QueryFault>
     ensures { IsEnd result
         (ends at (ends_body (nest_of nest).lets (nest_of nest).many (nest_of nest).top (nest_of nest).below (nest_of nest).current (unit (expr_of last)))) }
 {
@@ -349,19 +371,19 @@ fn end_body(at: usize, last: Expr, nest: Nest) -> Result<(Query, bool), QueryFau
         return Err(QueryFault::Unexpected { at });
     }
     let many = nest.many;
-    let body = nest.top.whole(last)?;
+    let body = nest.top.whole(alloc, last)?;
     let lets = nest.named.lets;
     Ok((Query { lets, body }, many))
 }
 
 /// The query that ends at the text's end, and whether some projection keeps too many names.
-pub(crate) fn finish(at: usize, nest: Nest) -> Result<(Query, bool), QueryFault>
+pub(crate) fn finish(alloc: Global, at: usize, nest: Nest) -> Result<(Query, bool), QueryFault>
     ensures { IsEnd result (step at [] (nest_of nest)) }
 {
     let mut nest = nest;
     let last = mem::replace(&mut nest.last, Last::Before);
     match last {
-        Last::Unit(unit) => end_body(at, unit, nest),
+        Last::Unit(unit) => end_body(alloc, at, unit, nest),
         _ => Err(QueryFault::Unexpected { at }),
     }
 }

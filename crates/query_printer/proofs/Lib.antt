@@ -11,3 +11,5 @@ pub mod PrintedTokens
 pub mod KeptNames
 pub mod PrintedSpelled
 pub mod PrintedQueries
+pub mod PrintedTests
+pub mod TestsRead

@@ -10,7 +10,7 @@ use Rattle.spanner_model.specs.Expression.{ExprTree, QueryTree}
 use Rattle.query_parser.specs.declared.TheConstants.{MOST_OPEN, MOST_TEXT_BYTES}
 use Rattle.query_parser.specs.Faults.{IsQueryText}
 use Rattle.query_parser.specs.Tokens.{Token, let_word, name_token, equals, semicolon, HasTokens}
-use Rattle.query_parser.specs.Spells.{union_tree, SpellsExpr, names_of, SpellsLets, no_let, more_lets}
+use Rattle.query_parser.specs.Spells.{union_tree, SpellsExpr, names_of, SpellsLets, no_let, more_lets, Spells}
 use Rattle.query_printer.specs.PrintedQuery.{shape, printed, let_text, lets_text, query_text, IsShallow, IsShallowQuery}
 use Rattle.query_parser.specs.Formed.{IsFormed}
 use Rattle.query_printer.specs.QueryLaws.{QueriesSpell, QueriesAreRead}
@@ -102,21 +102,23 @@ lets_spelled q sound shallow (l ∷ more) done same u before =
     let rest = lets_spelled q sound shallow more (done ++ l ∷ []) (append_assoc done (l ∷ []) more ∙ same) (u ++ let_text names l) (next_let names u done l before free new here) in
     (rest.0, subst (λ v. LexedAlways v rest.0) (append_assoc u (let_text names l) (lets_text names more)) rest.1, rest.2)
 
-nothing_lexed : LexedAlways [] []
+pub nothing_lexed : LexedAlways [] []
 nothing_lexed after text p more is has = subst (λ (k : ℕ). HasTokens text k more) (omega arith) has
 
 -- ---- a query
 
-pub query_spelled : QueriesSpell
-query_spelled q sound shallow =
+pub query_lexes : (q : QueryTree) → IsSound q → IsShallowQuery q → (ts : List Token) × Lexes (query_text q) ts × Spells ts q
+query_lexes q sound shallow =
     let names = names_of q.lets in
     let (ts, lexed, lets) = lets_spelled q sound shallow q.lets [] refl [] ([], nothing_lexed, no_let) in
     let (us, es, lexes, body, is) = expr_text q.lets [] q.lets (append-nil q.lets) sound.free q.body (query_is_formed q sound).1 shallow.1 in (
       ts ++ us,
-      lexed_whole (query_text q) (ts ++ us)
-          (λ after stops. lexed_both (lets_text names q.lets) (printed names q.body) ts us after (lexed (printed names q.body ++ after)) (lexes after stops)),
-      (ts, us, es, refl, lets, body, sym is),
+      (λ after stops. lexed_both (lets_text names q.lets) (printed names q.body) ts us after (lexed (printed names q.body ++ after)) (lexes after stops)),
+      (ts, us, es, refl, lets, body, sym is, shallow.2),
     )
+
+pub query_spelled : QueriesSpell
+query_spelled q sound shallow = let (ts, lexes, spells) = query_lexes q sound shallow in (ts, lexed_whole (query_text q) ts lexes, spells)
 
 pub query_read : QueriesAreRead
 query_read q sound shallow short = (short, query_spelled q sound shallow, sound)

@@ -8,18 +8,18 @@ use Rattle.span_core.specs.NameSets.{AreVariables}
 use Rattle.spanner_model.specs.Captures.{VarName}
 use Rattle.span_core.specs.Lists.{Has}
 use Rattle.spanner_model.specs.Sound.{IsFreeName}
-use Rattle.spanner_model.specs.Expression.{ExprTree, atom, named, union_end, union, join_end, join, project, union_all, join_all}
+use Rattle.spanner_model.specs.Expression.{ExprTree, atom, named, union_end, union, join_end, join, project, minus, union_all, join_all}
 use Rattle.spanner_model.specs.WellBuilt.{IsWellBuilt}
 use Rattle.query_printer.specs.PrintedFormula as formulas
 use Rattle.formula_parser.specs.Runs.{begins}
 use Rattle.formula_parser.specs.Spells.{AtomTree}
 use Rattle.query_printer.specs.PrintedFormula.{wrapped, wrapped_open, atom_text}
-use Rattle.query_parser.specs.Tokens.{Token, atom_token, union_word, join_word, project_word, none_word, name_token, open_paren, close_paren, comma}
-use Rattle.query_parser.specs.Spells.{union_tree, join_tree, SpellsNames, one_name, more_names, SpellsKeep, keeps_none, keeps_names, SpellsExpr, lone_conj, more_conjs, SpellsConj, lone_unit, more_units, SpellsUnit, atom_unit, named_unit, group_of, projection_of}
+use Rattle.query_parser.specs.Tokens.{Token, atom_token, union_word, join_word, project_word, none_word, name_token, open_paren, close_paren, comma, minus_word}
+use Rattle.query_parser.specs.Spells.{union_tree, join_tree, SpellsNames, one_name, more_names, SpellsKeep, keeps_none, keeps_names, SpellsExpr, lone_conj, more_conjs, less_conj, SpellsConj, lone_unit, more_units, SpellsUnit, atom_unit, named_unit, group_of, projection_of}
 use Rattle.query_parser.specs.Formed.{IsFormed, AreUnitedFormed, AreJoinedFormed}
 use Rattle.query_printer.specs.PrintedQuery.{Shape, a_unit, a_join, a_union, shape, wraps_in_union, wraps_in_join, further, keep_text, printed, conj_texts, unit_texts, most_open, most_in_atoms}
 use Rattle.query_printer.proofs.KeptNames.{ascending_names}
-use Rattle.query_printer.proofs.PrintedTokens.{LexedAlways, Lexes, lexed_both, lexed_sign, lexed_name, lexed_none, lexed_atom, lexed_union, lexed_join, lexed_project, lexed_open, lexed_group}
+use Rattle.query_printer.proofs.PrintedTokens.{LexedAlways, Lexes, lexed_both, lexed_sign, lexed_name, lexed_none, lexed_atom, lexed_union, lexed_join, lexed_minus, lexed_project, lexed_open, lexed_group}
 
 -- one text more, after the text that stands between
 lexes_more : (u between v : List ℕ) (ts us : List Token) (b : Token) → Lexes u ts → LexedAlways between (b ∷ []) → ((after : List ℕ) → begins is_name_byte (between ++ after) ≡ false) → Lexes v us →
@@ -200,6 +200,17 @@ module _ (names known : List VarName) (n : ℕ)
         subst (λ f. SpellsUnit known (suc room) whole (project kept f)) is (projection_of k s),
       )
 
+  -- the sides of a difference
+  less_text : (room : ℕ) (u v : List ℕ) (e g : ExprTree) → AsConj room u e → AsConj room v g → AsExpr room (u ++ (codes " minus " ++ v)) (minus e g)
+  less_text room u v e g (ts, ds, lexes, s, is) (us, es, more, c, same) =
+      let whole = ts ++ name_token minus_word ∷ us in (
+        whole,
+        minus e g ∷ [],
+        lexes_more u (codes " minus ") v ts us (name_token minus_word) lexes lexed_minus (λ after. refl) more,
+        subst (λ f. SpellsExpr known room whole (minus f g ∷ [])) is (subst (λ f. SpellsExpr known room whole (minus (join_tree ds) f ∷ [])) same (less_conj (lone_conj s) c)),
+        refl,
+      )
+
   mutual
     pub spelled : (e : ExprTree) → IsFormed n e → most_in_atoms e ≤ 100 → (room : ℕ) → most_open e ≤ room → Forms room (printed names e) e (shape e)
     spelled (atom s t f) c few room h = atom_text_unit room (record { from_start = s; to_end = t; formula = f }) c few
@@ -219,6 +230,10 @@ module _ (names known : List VarName) (n : ℕ)
     spelled (project kept e) c few zero h = absurd (omega arith)
     spelled (project kept e) c few (suc room) h =
         projected_text room kept (printed names e) e c.1 c.2 (forms_expr room (printed names e) e (shape e) (spelled e c.0 few room (omega arith)))
+    spelled (minus e g) c few room h =
+        let left = in_union room (most_open e) (printed names e) e (shape e) (spelled e c.0 (omega arith)) (omega arith) in
+        let right = in_union room (most_open g) (printed names g) g (shape g) (spelled g c.1 (omega arith)) (omega arith) in
+        less_text room (wrapped (wraps_in_union (shape e)) (printed names e)) (wrapped (wraps_in_union (shape g)) (printed names g)) e g left right
 
     conjs_spelled : (e : ExprTree) → AreUnitedFormed n e → most_in_atoms e ≤ 100 → (room : ℕ) → most_open e ≤ room → (u : List ℕ) (fs : List ExprTree) → ConjsText room u fs →
         Conjs room (u ++ further (codes " union ") (conj_texts names e)) fs e

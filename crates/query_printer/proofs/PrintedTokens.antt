@@ -23,7 +23,8 @@ use Rattle.query_printer.specs.PrintedFormula.{tied_text, atom_text}
 use Rattle.query_printer.specs.PrintedFormula as formulas
 use Rattle.formula_parser.proofs.RunLaws.{after_token}
 use Rattle.query_printer.proofs.PrintLaws.{printed_spells}
-use Rattle.query_parser.specs.Tokens.{Token, atom_token, let_word, union_word, join_word, project_word, none_word, name_token, equals, semicolon, open_paren, close_paren, word_token, sign_token, is_blank, atom_at, word_at, sign_at, HasTokens, text_ends, blank_first, token_first}
+use Rattle.query_parser.specs.Tokens.{Token, atom_token, let_word, union_word, join_word, project_word, none_word, name_token, equals, semicolon, open_paren, close_paren, comma, minus_word, word_token, sign_token, is_blank, atom_at, word_at, sign_at, HasTokens, text_ends, blank_first, token_first}
+use Rattle.query_parser.specs.Tested.{where_word}
 use Rattle.query_parser.proofs.Lists.{eq_false}
 use Rattle.query_parser.proofs.TextLaws.{word_by}
 
@@ -126,6 +127,12 @@ lexed_union = blank_before (codes "union ") (union_word ∷ []) (word_blank (cod
 pub lexed_join : LexedAlways (codes " join ") (join_word ∷ [])
 lexed_join = blank_before (codes "join ") (join_word ∷ []) (word_blank (codes "join") join_word refl refl)
 
+pub lexed_where : LexedAlways (codes " where ") (name_token where_word ∷ [])
+lexed_where = blank_before (codes "where ") (name_token where_word ∷ []) (word_blank where_word (name_token where_word) refl refl)
+
+pub lexed_minus : LexedAlways (codes " minus ") (name_token minus_word ∷ [])
+lexed_minus = blank_before (codes "minus ") (name_token minus_word ∷ []) (word_blank minus_word (name_token minus_word) refl refl)
+
 -- a sign and a blank
 sign_blank : (c : ℕ) (t : Token) → sign_token c ≡ Some t → LexedAlways (c ∷ 32 ∷ []) (t ∷ [])
 sign_blank c t e after = lexed_both (c ∷ []) (32 ∷ []) (t ∷ []) [] after (lexed_sign c t (32 ∷ after) e) (lexed_blank 32 after refl)
@@ -135,6 +142,9 @@ lexed_equals = blank_before (codes "= ") (equals ∷ []) (sign_blank 61 equals r
 
 pub lexed_semicolon : LexedAlways (codes "; ") (semicolon ∷ [])
 lexed_semicolon = sign_blank 59 semicolon refl
+
+pub lexed_comma : LexedAlways (codes ", ") (comma ∷ [])
+lexed_comma = sign_blank 44 comma refl
 
 pub lexed_open : LexedAlways (codes " (") (open_paren ∷ [])
 lexed_open = blank_before (codes "(") (open_paren ∷ []) (λ after. lexed_sign 40 open_paren after refl)

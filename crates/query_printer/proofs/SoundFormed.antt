@@ -5,7 +5,7 @@ use Rattle.span_core.specs.Lists.{Has, AtMost}
 use Rattle.span_core.specs.NameSets.{Ascending, AreVariables}
 use Rattle.span_core.proofs.HasLaws.{Has-get_or, distinct-le}
 use Rattle.spanner_model.specs.Captures.{VarName}
-use Rattle.spanner_model.specs.Expression.{ExprTree, QueryTree, atom, named, union_end, union, join_end, join, project}
+use Rattle.spanner_model.specs.Expression.{ExprTree, QueryTree, atom, named, union_end, union, join_end, join, project, minus}
 use Rattle.spanner_model.specs.Answer.{VarOf, vars_of_lets}
 use Rattle.spanner_model.specs.Sound.{IsFreeName, sure_of_lets, IsSoundExpr, AreUnited, AreJoined, NameIn, NameOf, IsSound}
 use Rattle.spanner_model.proofs.ExprLaws.{var_named, let_named, lets_named}
@@ -38,6 +38,7 @@ module _ (V S : ℕ → VarName → Type 0) (N : VarName → Type 0) (few : AtMo
       (λ x has. (h.1 x has).1),
       kept_set N few kept h.2 (λ x has. ((h.1 x has).1, of_these n e names h.0 x (h.1 x has).0)),
     )
+    sound_formed n (minus e g) names h = (sound_formed n e (λ x a. names x (inl a)) h.0, sound_formed n g (λ x a. names x (inr a)) h.1)
 
     united_formed : (n : ℕ) (e : ExprTree) → ((x : VarName) → NameIn e x → N x) → AreUnited V S n e → AreUnitedFormed n e
     united_formed n union_end names h = tt
@@ -68,6 +69,7 @@ mutual
   formed_under n m join_end le h = absurd h
   formed_under n m (join e rest) le h = (formed_under n m e le h.0, joined_under n m rest le h.1, h.2)
   formed_under n m (project kept e) le h = (formed_under n m e le h.0, h.1, h.2)
+  formed_under n m (minus e g) le h = (formed_under n m e le h.0, formed_under n m g le h.1)
 
   united_under : (n m : ℕ) (e : ExprTree) → n ≤ m → AreUnitedFormed n e → AreUnitedFormed m e
   united_under n m union_end le h = tt

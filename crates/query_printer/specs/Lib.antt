@@ -4,3 +4,4 @@ pub mod FormulaLaws
 pub mod PrintedQuery
 pub mod QueryShape
 pub mod QueryLaws
+pub mod PrintedTested

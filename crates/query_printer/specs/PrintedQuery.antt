@@ -2,13 +2,14 @@
 use Rattle.std.specs.Prelude.{ℕ, suc, ◌≤◌, max, Bool, true, false, List, [], ◌∷◌, ◌++◌, unwrap_or, slice_get, codes}
 use Rattle.std.specs.Option.{ForSome}
 use Rattle.spanner_model.specs.Captures.{VarName}
-use Rattle.spanner_model.specs.Expression.{ExprTree, QueryTree, atom, named, union_end, union, join_end, join, project}
+use Rattle.spanner_model.specs.Expression.{ExprTree, QueryTree, atom, named, union_end, union, join_end, join, project, minus}
 use Rattle.query_printer.specs.PrintedFormula.{wrapped, wrapped_open, atom_text}
 use Rattle.query_printer.specs.PrintedFormula as formulas
-use Rattle.query_parser.specs.declared.TheConstants.{MOST_OPEN}
+use Rattle.query_parser.specs.declared.TheConstants.{MOST_OPEN, MOST_MINUSES}
+use Rattle.query_parser.specs.Minuses.{minuses_of}
 use Rattle.query_parser.specs.Spells.{names_of}
 
--- what an expression is, as far as parentheses are concerned
+-- what an expression is, as far as parentheses are concerned: a difference is as a union
 pub data Shape : Type 0 where
   a_unit : Shape
   a_join : Shape
@@ -22,8 +23,9 @@ shape (union e rest) = a_union
 shape join_end = a_join
 shape (join e rest) = a_join
 shape (project kept e) = a_unit
+shape (minus e g) = a_union
 
--- in parentheses among the parts of a union, among those of a join
+-- in parentheses among the parts of a union or as a side of a difference, among the parts of a join
 abbrev pub wraps_in_union : Shape → Bool
 wraps_in_union a_union = true
 wraps_in_union _ = false
@@ -56,6 +58,7 @@ abbrev mutual
   printed names join_end = []
   printed names (join e rest) = joined (codes " join ") (wrapped (wraps_in_join (shape e)) (printed names e) ∷ unit_texts names rest)
   printed names (project kept e) = codes "project " ++ (keep_text kept ++ (codes " (" ++ (printed names e ++ 41 ∷ [])))
+  printed names (minus e g) = wrapped (wraps_in_union (shape e)) (printed names e) ++ (codes " minus " ++ wrapped (wraps_in_union (shape g)) (printed names g))
 
   -- the parts that follow one of a union, and one of a join
   pub conj_texts : List VarName → ExprTree → List (List ℕ)
@@ -87,6 +90,7 @@ most_open (union e rest) = max (wrapped_open (wraps_in_union (shape e)) (most_op
 most_open join_end = 0
 most_open (join e rest) = max (wrapped_open (wraps_in_join (shape e)) (most_open e)) (most_open rest)
 most_open (project kept e) = suc (most_open e)
+most_open (minus e g) = max (wrapped_open (wraps_in_union (shape e)) (most_open e)) (wrapped_open (wraps_in_union (shape g)) (most_open g))
 
 -- how many parentheses and captures are open at once in one of its atoms
 abbrev pub most_in_atoms : ExprTree → ℕ
@@ -97,11 +101,12 @@ most_in_atoms (union e rest) = max (most_in_atoms e) (most_in_atoms rest)
 most_in_atoms join_end = 0
 most_in_atoms (join e rest) = max (most_in_atoms e) (most_in_atoms rest)
 most_in_atoms (project kept e) = most_in_atoms e
+most_in_atoms (minus e g) = max (most_in_atoms e) (most_in_atoms g)
 
 -- the printed form nests within the limits of what is read, which are the same for a query and for an atom
 abbrev pub IsShallow : ExprTree → Type 0
 IsShallow e = (most_open e ≤ MOST_OPEN) × (most_in_atoms e ≤ MOST_OPEN)
 
--- the same of each let and of the body
+-- the same of each let and of the body, and in all of them there are no more differences than are read
 abbrev pub IsShallowQuery : QueryTree → Type 0
-IsShallowQuery q = ((k : ℕ) → ForSome (slice_get q.lets k) (λ l. IsShallow l.1)) × IsShallow q.body
+IsShallowQuery q = ((k : ℕ) → ForSome (slice_get q.lets k) (λ l. IsShallow l.1)) × IsShallow q.body × (minuses_of q ≤ MOST_MINUSES)

@@ -7,7 +7,7 @@ use Rattle.query_parser.specs.Spells.{SpellsQuery}
 use Rattle.query_parser.specs.Faults.{IsQueryText}
 use Rattle.query_printer.specs.PrintedQuery.{query_text, IsShallowQuery}
 
--- within the limits of what may be open at once, the printed form of a sound query spells it
+-- within the limits of what may be open at once and of differences, the printed form of a sound query spells it
 abbrev pub QueriesSpell : Type 0
 QueriesSpell = (q : QueryTree) → IsSound q → IsShallowQuery q → SpellsQuery (query_text q) q
 

@@ -5,11 +5,9 @@
 
 pub use formulas::{print_atom, print_formula, printed_forms_spell_their_trees};
 pub use queries::{print_query, printed_forms_spell_their_queries};
+pub use tested::{print_tested, printed_tests_are_read};
 
-#[cfg(test)]
-mod formula_tests;
 mod formulas;
 mod pushing;
 mod queries;
-#[cfg(test)]
-mod query_tests;
+mod tested;

@@ -1,10 +1,10 @@
 //! Prints queries.
 //!
 //! A named expression prints the name of its `let`; a union in a join stands in parentheses, and a join in a union
-//! does not.
+//! does not. A difference is in parentheses where a union is, and so is a union that is one of its sides.
 ghost use Rattle.std.specs.Prelude.{◌≡◌, ◌++◌, ◌∷◌, [], ◌<◌, ◌≤◌, length, slice_get, unwrap_or, OnOk, OnErr, if◌then◌else◌};
 ghost use Rattle.span_core.specs.Lists.{Has};
-ghost use Rattle.spanner_model.specs.Expression.{ExprTree, union_all, join_all, project};
+ghost use Rattle.spanner_model.specs.Expression.{ExprTree, union_all, join_all, project, minus};
 ghost use Rattle.spanner_model.specs.ExprView.{expr_of, exprs_of, lets_of, query_of};
 ghost use Rattle.spanner_model.specs.Sound.{IsSound};
 ghost use Rattle.spanner_model.specs.WellBuilt.{IsWellBuilt};
@@ -29,6 +29,7 @@ use spanner_model::{Atom, Expr, Exprs, Lets, Query};
 pub(crate) enum Shape {
     Unit,
     Join,
+    /// A union, or a difference.
     Union,
 }
 
@@ -40,10 +41,11 @@ impl Shape {
             Expr::Atom(_) | Expr::Named(_) | Expr::Project(_, _) => Shape::Unit,
             Expr::Join(_) => Shape::Join,
             Expr::Union(_) => Shape::Union,
+            Expr::Minus(_, _) => Shape::Union,
         }
     }
 
-    /// Whether it stands in parentheses among the parts of a union.
+    /// Whether it stands in parentheses among the parts of a union, and as a side of a difference.
     fn wraps_in_union(self) -> bool
         ensures { result ≡ wraps_in_union (shape_of self) }
     {
@@ -67,13 +69,13 @@ impl Shape {
 /// Appends the printed form of a query, or answers that memory ran out and leaves `out` as it was.
 ///
 /// Each `let` is followed by one space, and the body by nothing. The printed form may be longer, and nest
-/// deeper, than what is read. The recursion is as deep as unions, joins and projections stand inside each
-/// other, in a sound query at most 600.
+/// deeper, than what is read. The recursion is as deep as unions, joins, differences and projections stand
+/// inside each other, in a sound query at most 600.
 pub fn print_query(query: &Query, out: &mut Vec<u8>) -> Result<(), OutOfMemory>
     requires { IsSound (query_of query.now) }
     ensures ok { OnOk result (out.new.items ≡ out.old.items ++ query_text (query_of query.now)) }
     ensures err { OnErr result (out.new.items ≡ out.old.items) }
-    // Where it nests no deeper than what is read, and is no longer, what was printed is a text of the query.
+    // Where it nests no deeper than what is read, is no longer, and has no more differences, what was printed is a text of the query.
     ensures again { OnOk result (IsShallowQuery (query_of query.now) → length (query_text (query_of query.now)) ≤ MOST_TEXT_BYTES →
         IsQueryText (query_text (query_of query.now)) (query_of query.now)) }
 {
@@ -85,15 +87,15 @@ pub fn print_query(query: &Query, out: &mut Vec<u8>) -> Result<(), OutOfMemory>
     done
 }
 
-/// The printed form of a sound query with at most 100 parentheses open at once, and at most 100
-/// parentheses and captures in each atom, spells it. Where it has no more bytes than a text may have, it
+/// The printed form of a sound query with at most 100 parentheses open at once, at most 100 parentheses and
+/// captures in each atom, and at most 100 differences, spells it. Where it has no more bytes than a text may have, it
 /// is a text of that query, so that reading it gives this query and no other.
 pub fn printed_forms_spell_their_queries()
     ensures queries { QueriesSpell }
     ensures texts { QueriesAreRead }
 {}
 
-fn push_query(query: &Query, out: &mut Vec<u8>) -> Result<(), OutOfMemory>
+pub(crate) fn push_query(query: &Query, out: &mut Vec<u8>) -> Result<(), OutOfMemory>
     requires { IsFormedQuery (query_of query.now) }
     ensures ok { OnOk result (out.new.items ≡ out.old.items ++ query_text (query_of query.now)) }
     ensures front { IsFront out.old.items out.new.items }
@@ -129,6 +131,7 @@ fn push_expr(expr: &Expr, lets: &Lets, out: &mut Vec<u8>) -> Result<(), OutOfMem
         Expr::Union(parts) => push_union(parts, lets, out),
         Expr::Join(parts) => push_join(parts, lets, out),
         Expr::Project(kept, sub) => push_projection(kept, sub, lets, out),
+        Expr::Minus(left, right) => push_difference(left, right, lets, out),
     }
 }
 
@@ -160,6 +163,24 @@ fn push_join(parts: &Exprs, lets: &Lets, out: &mut Vec<u8>) -> Result<(), OutOfM
         push_wrapped(Shape::of(part).wraps_in_join(), part, lets, out)?;
     }
     Ok(())
+}
+
+/// Appends the sides of a difference.
+#[cycle(print)]
+fn push_difference(
+    left: &Expr,
+    right: &Expr,
+    lets: &Lets,
+    out: &mut Vec<u8>,
+) -> Result<(), OutOfMemory>
+    requires left { IsFormed (length (lets_of lets.now)) (expr_of left.now) }
+    requires right { IsFormed (length (lets_of lets.now)) (expr_of right.now) }
+    ensures ok { OnOk result (out.new.items ≡ out.old.items ++ printed (names_of (lets_of lets.now)) (minus (expr_of left.now) (expr_of right.now))) }
+    ensures front { IsFront out.old.items out.new.items }
+{
+    push_wrapped(Shape::of(left).wraps_in_union(), left, lets, out)?;
+    push(b" minus ", out)?;
+    push_wrapped(Shape::of(right).wraps_in_union(), right, lets, out)
 }
 
 #[cycle(print)]
@@ -228,7 +249,7 @@ fn push_keep(kept: &VarSet, out: &mut Vec<u8>) -> Result<(), OutOfMemory>
 }
 
 /// Appends the bytes, where they are to be there.
-fn push_given(there: bool, bytes: &[u8], out: &mut Vec<u8>) -> Result<(), OutOfMemory>
+pub(crate) fn push_given(there: bool, bytes: &[u8], out: &mut Vec<u8>) -> Result<(), OutOfMemory>
     ensures ok { OnOk result (out.new.items ≡ out.old.items ++ (if there then bytes.now else [])) }
     ensures front { IsFront out.old.items out.new.items }
 {

@@ -1,10 +1,10 @@
 -- Whether a position is read can be told.
-use Rattle.std.proofs.Common.{ℕ, suc, ◌<◌, ◌≤◌, Bool, true, false, List, [], length, inr, arith}
+use Rattle.std.proofs.Common.{ℕ, suc, ◌<◌, ◌≤◌, Bool, true, false, List, [], length, inl, inr, arith}
 use Rattle.span_core.specs.Lists.{Has}
 use Rattle.span_core.proofs.HasLaws.{place_of-Has}
 use Rattle.spanner_model.specs.Captures.{VarName}
 use Rattle.spanner_model.specs.Tree.{Tree}
-use Rattle.spanner_model.specs.Expression.{ExprTree, QueryTree, atom, named, union_end, union, join_end, join, project}
+use Rattle.spanner_model.specs.Expression.{ExprTree, QueryTree, atom, named, union_end, union, join_end, join, minus, project}
 use Rattle.spanner_model.specs.Sequential.{IsSequential}
 use Rattle.spanner_model.specs.Sound.{AreJoined, AreUnited, IsSound, IsSoundExpr, IsSoundUnder}
 use Rattle.spanner_model.specs.WellBuilt.{IsWellBuilt}
@@ -13,7 +13,7 @@ use Rattle.place_automaton.specs.Words.{atom_automaton}
 use Rattle.place_automaton.proofs.BuiltRepeats.{ordered_repeats}
 use Rattle.filter_laws.specs.Idling.{IsLed, LeadsOut}
 use Rattle.filter_laws.specs.Sharing.{IsShared, places_of}
-use Rattle.filter_laws.specs.Touching.{IsTouchedBy, SomeAtom, TouchedOf}
+use Rattle.filter_laws.specs.Touching.{HasMinus, HasMinusIn, IsTouchedBy, SomeAtom, SomeAtomOf, TouchedOf}
 use Rattle.filter_laws.proofs.SharingLaws.{sharing_law}
 use Rattle.spanner_engine.specs.Begun.{IsReadAt}
 use Rattle.read_positions.specs.ReadPositions.{ReadAreASet}
@@ -55,6 +55,7 @@ AtomsFit (union e rest) = AtomsFit e × AtomsFit rest
 AtomsFit join_end = Unit {0}
 AtomsFit (join e rest) = AtomsFit e × AtomsFit rest
 AtomsFit (project kept e) = AtomsFit e
+AtomsFit (minus e g) = AtomsFit e × AtomsFit g
 
 module _ (V S : ℕ → VarName → Type 0) (n : ℕ) where
   -- in each role in which an expression may stand
@@ -77,6 +78,10 @@ module _ (V S : ℕ → VarName → Type 0) (n : ℕ) where
       let b = all_fit rest in
       record { whole = λ h. (a.whole h.0, b.joined h.1); united = λ h. absurd h; joined = λ h. (a.whole h.0, b.joined h.1) }
   all_fit (project kept e) = let a = all_fit e in record { whole = λ h. a.whole h.0; united = λ h. absurd h; joined = λ h. absurd h }
+  all_fit (minus e g) =
+      let a = all_fit e in
+      let b = all_fit g in
+      record { whole = λ h. (a.whole h.0, b.whole h.1); united = λ h. absurd h; joined = λ h. absurd h }
 
   fits : (e : ExprTree) → IsSoundExpr V S n e → AtomsFit e
   fits e h = (all_fit e).whole h
@@ -90,6 +95,18 @@ module _ (P : Bool → Bool → Tree → Type 0) (decide : (s t : Bool) (f : Tre
   decide_atoms join_end fit = inr (λ h. h)
   decide_atoms (join e rest) fit = decide_either (SomeAtom P e) (SomeAtom P rest) (decide_atoms e fit.0) (decide_atoms rest fit.1)
   decide_atoms (project kept e) fit = decide_atoms e fit
+  decide_atoms (minus e g) fit = decide_either (SomeAtom P e) (SomeAtom P g) (decide_atoms e fit.0) (decide_atoms g fit.1)
+
+-- whether a difference stands in an expression
+decide_minus : (e : ExprTree) → Decided (HasMinusIn e)
+decide_minus (atom s t f) = inr (λ h. h)
+decide_minus (named k) = inr (λ h. h)
+decide_minus union_end = inr (λ h. h)
+decide_minus (union e rest) = decide_either (HasMinusIn e) (HasMinusIn rest) (decide_minus e) (decide_minus rest)
+decide_minus join_end = inr (λ h. h)
+decide_minus (join e rest) = decide_either (HasMinusIn e) (HasMinusIn rest) (decide_minus e) (decide_minus rest)
+decide_minus (project kept e) = decide_minus e
+decide_minus (minus e g) = inl tt
 
 -- ---- a query
 
@@ -100,8 +117,9 @@ module _ (q : QueryTree) (sound : IsSound q) (d : List ℕ) (bytes : AreBytes d)
       let under : IsSoundUnder q.lets place.0 l.1 = sound.sound_lets place.0 l place.2 in
       fits _ _ _ l.1 under.0
 
-  decide_query : (i : ℕ) → Decided (TouchedOf q d i)
-  decide_query i =
+  -- some atom touches the position
+  decide_touching : (i : ℕ) → Decided (SomeAtomOf (λ s t f. IsTouchedBy s t f d i) q)
+  decide_touching i =
       let one : (s t : Bool) (f : Tree) → IsWellBuilt f → IsSequential f → Decided (IsTouchedBy s t f d i) =
       λ s t f built sequential. decide_touched s t f built sequential d bytes i in
       decide_either
@@ -110,6 +128,22 @@ module _ (q : QueryTree) (sound : IsSound q) (d : List ℕ) (bytes : AreBytes d)
       (decide_some (λ (l : VarName × ExprTree). SomeAtom (λ s t f. IsTouchedBy s t f d i) l.1) q.lets
       (λ l h. decide_atoms (λ s t f. IsTouchedBy s t f d i) one l.1 (let_fits l h)))
       (decide_atoms (λ s t f. IsTouchedBy s t f d i) one q.body (fits _ _ _ q.body sound.sound_body.0))
+
+  decide_differs : Decided (HasMinus q)
+  decide_differs =
+      decide_either
+      ((l : VarName × ExprTree) × Has q.lets l × HasMinusIn l.1)
+      (HasMinusIn q.body)
+      (decide_some (λ (l : VarName × ExprTree). HasMinusIn l.1) q.lets (λ l h. decide_minus l.1))
+      (decide_minus q.body)
+
+  decide_query : (i : ℕ) → Decided (TouchedOf q d i)
+  decide_query i =
+      decide_either
+      (SomeAtomOf (λ s t f. IsTouchedBy s t f d i) q)
+      (HasMinus q × (i ≤ length d))
+      (decide_touching i)
+      (decide_both (HasMinus q) (i ≤ length d) decide_differs (decide_le i (length d)))
 
   decide_read : (filter : Bool) (i : ℕ) → Decided (IsReadAt filter q d i)
   decide_read false i = decide_le i (length d)

@@ -1,13 +1,14 @@
 //! `rematch`: regular document spanners on a file or on standard input.
 //!
-//! The words are taken from the system, and the run is that of `rematch_program` over the files, the
-//! standard input, the standard output for rows and the standard error for the one note.
+//! The words are taken from the system, and the run is that of `rematch_program` with the program's tests over the files, the
+//! standard input, the standard output for rows or replies, and the standard error for the one note.
 #![tactic(auto)]
 
 ghost use Rattle.std.specs.Prelude.{◌≡◌, ◌<◌};
 
-use rematch_program::run;
-use rm_outside::{FileShelf, NoteSink, OutSink, Status};
+use main_tests::program_tests;
+use rematch_program::run_all;
+use rm_outside::{FileShelf, LineInput, NoteSink, OutSink, Status};
 use span_core::Steps;
 use std::env;
 use std::io::ErrorKind;
@@ -40,20 +41,30 @@ fn main(rt: HostRuntime) -> ExitCode {
     ExitCode::from(status.exit_status())
 }
 
-/// Runs over the files and the standard streams.
+/// Runs over the files and the standard streams. Where memory is wanting for the list of tests, or for what is read ahead of the standard input, that is the status.
 fn run_outside<L: Ledger>(rt: &HostRuntime, blank: Blank, words: &[String]) -> Status
     requires name { blank.name ≡ L.name }
     requires parts { blank.parts ≡ L.parts }
     requires some { 0 < L.parts }
 {
+    let tests = match program_tests(rt.alloc()) {
+        Ok(tests) => tests,
+        Err(_) => return Status::Memory,
+    };
+    let mut source = match LineInput::new(rt.alloc(), rt.stdin()) {
+        Ok(source) => source,
+        Err(_) => return Status::Memory,
+    };
     let mut steps = Steps::<L>::new(blank);
     let mut shelf = FileShelf::new(rt);
     let mut out = OutSink::new(rt.stdout());
     let mut notes = NoteSink::new(rt.stderr());
-    run(
+    run_all(
         rt.alloc(),
         words,
+        &tests,
         &mut shelf,
+        &mut source,
         &mut out,
         &mut notes,
         &mut steps,

@@ -19,7 +19,7 @@ use Rattle.place_automaton.proofs.BuiltRepeats.{ordered_repeats}
 use Rattle.place_automaton.proofs.PlainCountLaws.{functional_counts}
 use Rattle.rematch_program.specs.AsBefore.{AreTotalAnswers, FunctionalQueriesAreServedAsBefore, plain_atom_line}
 use Rattle.rematch_program.specs.Explained.{atom_line, shown_number}
-use Rattle.rematch_program.specs.Notes.{line}
+use Rattle.note_texts.specs.Notes.{line}
 
 module _ (q : QueryTree) (d : List ℕ) (names : List VarName) (rows : List SpanRow) (f : IsFunctionalQuery q) where
   now_answers : AreTotalAnswers q d names rows → AreAnswers q d names rows

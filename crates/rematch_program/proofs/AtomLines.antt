@@ -1,5 +1,5 @@
 -- The lines of atoms, part by part.
-use Rattle.std.proofs.Common.{◌≡◌, ℕ, suc, ◌+◌, ◌≤◌, List, [], ◌∷◌, ◌++◌, Some, length, drop, take, refl, sym, ap, ◌∙◌, subst, arith, length-append}
+use Rattle.std.proofs.Common.{◌≡◌, ℕ, suc, ◌+◌, ◌≤◌, List, [], ◌∷◌, ◌++◌, Some, Result, Ok, Err, IfOk, length, drop, take, refl, sym, ap, ◌∙◌, subst, arith, length-append}
 use Rattle.std.proofs.lemmas.Grind.{flat_map-append}
 use Rattle.std.specs.Prelude.{slice_get}
 use Rattle.std.proofs.lemmas.List.{append-nil, append_assoc, take_all, take_more}
@@ -41,6 +41,11 @@ more_lines before old xs mid text ys all new first then_ =
       lines = then_.lines ∙ ap (λ t. t ++ atom_lines (mid + 1) ys) first.lines ∙ append_assoc old (atom_lines (before + 1) xs) (atom_lines (mid + 1) ys)
           ∙ ap (λ t. old ++ t) (ap (λ n. atom_lines (before + 1) xs ++ atom_lines n ys) on ∙ sym (lines_both (before + 1) xs ys));
     }
+
+pub then_lines : {E : Type 0} (r : Result ℕ E) (before : ℕ) (old : List ℕ) (xs : List AtomTree) (mid : ℕ) (text : List ℕ) (ys : List AtomTree) (new : List ℕ) →
+    HasLines before old xs mid text → IfOk r (λ all. HasLines mid text ys all new) → IfOk r (λ all. HasLines before old (xs ++ ys) all new)
+then_lines (Ok all) before old xs mid text ys new first then_ = more_lines before old xs mid text ys all new first then_
+then_lines (Err e) before old xs mid text ys new first then_ = tt
 
 pub one_line : (before : ℕ) (old : List ℕ) (a : AtomTree) (all : ℕ) (new : List ℕ) → all ≡ before + 1 → new ≡ old ++ atom_line (before + 1) a → HasLines before old (a ∷ []) all new
 one_line before old a all new count line = record {

@@ -9,24 +9,26 @@ use Rattle.command_line.specs.declared.request.Mode.TheVariants as mode
 use Rattle.span_core.specs.declared.kept.Kept.{Kept}
 use Rattle.spanner_model.specs.Captures.{VarName}
 use Rattle.spanner_model.specs.Expression.{QueryTree}
-use Rattle.spanner_model.specs.Answers.{SpanRow, AreResultNames, AreAnswers}
+use Rattle.spanner_model.specs.Answers.{SpanRow, AreResultNames}
 use Rattle.spanner_model.proofs.NameLaws.{same_names}
 use Rattle.marked_automaton.specs.declared.fault.SizeFault.TheVariants.{States, Ways}
 use Rattle.query_automaton.specs.Parts.{HasLargePart}
+use Rattle.query_parser.specs.Tested.{TestedTree}
+use Rattle.filter_laws.specs.Touching.{HasMinus}
 use Rattle.row_cursor.specs.CursorTexts.{IsCursorText}
 use Rattle.row_cursor.proofs.Whole.{one_cursor}
 use Rattle.trial_maker.specs.Trial.{trial_text}
 use Rattle.rematch_program.proofs.Fits.{fits_no_other, fits_not_past}
 use Rattle.rematch_program.specs.declared.TheConstants.{QUERY_LIMIT, DOCUMENT_LIMIT}
 use Rattle.rematch_program.specs.Change.{Change, Clock, Work, Adds, Failed, StandsStill, clock, work}
-use Rattle.rematch_program.specs.Explained.{explain_text}
 use Rattle.spanner_engine.specs.Begun.{AreRead, HasHeavyAtom, row_kept, table_weight}
+use Rattle.spanner_engine.specs.Passing.{Check, Known, checks_of}
 use Rattle.rematch_program.specs.Limits.{PartsAreSmall}
-use Rattle.rematch_program.specs.Notes.{line}
-use Rattle.rematch_program.specs.Pages.{IsAfter, CursorFits, IsPageOf, page_text, last_note}
-use Rattle.rematch_program.specs.Steps.{KeepsWithin, stated_steps}
+use Rattle.note_texts.specs.Notes.{line}
+use Rattle.rematch_program.specs.Pages.{IsAfter, CursorFits, page_text, last_note}
+use Rattle.rematch_program.specs.Testing.{AreAllPassing, IsPassingPageOf, TrialKeeps, explain_tested}
 use Rattle.rematch_program.specs.Trials.{trial_summary}
-use Rattle.rematch_program.specs.Run.{Text, Store, FromPage, FromAnswers, FromDocument, FromPlace, FromCursor, FromCompiled, FromQuery, FromText, FromAsked, FromWords, IsExplained, IsNotBegun, IsTooLarge, Reports, Run, WantsAnswers}
+use Rattle.rematch_program.specs.Run.{Text, Store, FromPage, FromAnswers, FromDocument, FromPlace, FromCursor, FromCompiled, FromQuery, FromText, FromAsked, FromWords, IsExplained, IsNotBegun, IsTooLarge, Reports, RunTested, WantsAnswers}
 use Rattle.rematch_program.specs.Run.{whole, write_failed, out_of_memory, paged, summed, other_document, past_the_document, filter_full, table_full, not_begun, by_states, by_ways, by_memory, answered, document_failed, document_too_long, found, no_cursor, other_variables, placed, page_asked, trial_asked}
 use Rattle.rematch_program.specs.Run.{explained, told_names, too_large, compiled, query_refused, understood, given, query_failed, query_too_long, fetched, refused, accepted, cut}
 use Rattle.rematch_program.specs.Complete.{IsTextOf, IsClear, IsWithinLimits, HasDocument, Completes, PlainCompletes, TrialCompletes, ExplainCompletes}
@@ -78,11 +80,11 @@ never_too_large q small end note (by_memory is) = is.ends
 
 -- the answers are begun, unless memory is wanting
 never_unbegun : (filter : Bool) (q : QueryTree) (after : Option Kept) (document : Text) (most : ℕ) (steps : Clock) (end : Status) (note : Text) →
-    CursorFits (length document) after → (IsTrue filter → ¬ HasHeavyAtom q document most) → (K : ℕ → Bool) → AreRead filter q document K → table_weight q document K ≤ most →
+    CursorFits (length document) after → (IsTrue filter → ¬ HasMinus q → ¬ HasHeavyAtom q document most) → (K : ℕ → Bool) → AreRead filter q document K → table_weight q document K ≤ most →
     IsNotBegun filter q after document most steps end note → end ≡ status.Memory
 never_unbegun filter q after document most steps end note fits filtered K reads light (other_document kept other is still) = absurd (fits_no_other (length document) after kept fits other)
 never_unbegun filter q after document most steps end note fits filtered K reads light (past_the_document past is still) = absurd (fits_not_past (length document) after fits past)
-never_unbegun filter q after document most steps end note fits filtered K reads light (filter_full inside wanted heavy is few) = absurd (filtered wanted heavy)
+never_unbegun filter q after document most steps end note fits filtered K reads light (filter_full inside wanted plain heavy is few) = absurd (filtered wanted plain heavy)
 never_unbegun filter q after document most steps end note fits filtered K reads light (table_full inside heavy is few) = let past = heavy K reads in absurd (omega (arith, light, past))
 never_unbegun filter q after document most steps end note fits filtered K reads light (by_memory is few) = is.ends
 
@@ -96,55 +98,61 @@ pub plain_wants : (m : Mode) → m ≡ mode.Plain → WantsAnswers m
 plain_wants m is = let P : Mode → Type 0 = λ o. WantsAnswers o in subst P (sym is) tt
 
 -- from the words to the query; `Goal` is what is to be shown
-module _ (words : List Text) (a : Asked) (text : Text) (q : QueryTree) (names : List VarName) (s : Store) (w : Work) (notes : Change) (clear : IsClear words a text q names s w.out notes) (end : Status) (note : Text) (Goal : Type 0) (memory : end ≡ status.Memory → Goal) (from_query : FromQuery a q s w end note → Goal) where
-  from_text : FromText a text s w end note → Goal
-  from_text (query_refused fault only is quiet) = absurd (only.unsound q clear.sound)
+module _ (k : Known) (words : List Text) (a : Asked) (text : Text) (t : TestedTree) (names : List VarName) (s : Store) (w : Work) (notes : Change) (clear : IsClear k words a text t names s w.out notes) (end : Status) (note : Text) (Goal : Type 0) (memory : end ≡ status.Memory → Goal) (from_query : FromQuery s w end note a t (checks_of k t.asked) → Goal) where
+  from_text : FromText s w end note k a text → Goal
+  from_text (query_refused fault only is quiet) = absurd (only.unsound t clear.sound clear.tests_known)
   from_text (out_of_memory is quiet) = memory is.ends
-  from_text (understood other only case) = let P : QueryTree → Type 0 = λ r. FromQuery a r s w end note in from_query (subst P (sym (only.only q clear.sound)) case)
+  from_text (understood other only case) = let P : TestedTree → Type 0 = λ u. FromQuery s w end note a u (checks_of k u.asked) in from_query (subst P (sym (only.only t clear.sound)) case)
 
   given_as : (query : Query) → a.query ≡ query → IsTextOf s query text
   given_as query is = let P : Query → Type 0 = λ o. IsTextOf s o text in subst P is clear.given
 
-  from_asked : FromAsked a s w end note → Goal
-  from_asked (given own is case) = let P : Text → Type 0 = λ t. FromText a t s w end note in from_text (subst P (given_as (Itself own) is) case)
+  from_asked : FromAsked s w end note k a → Goal
+  from_asked (given own is case) = let P : Text → Type 0 = λ x. FromText s w end note k a x in from_text (subst P (given_as (Itself own) is) case)
   from_asked (query_failed name is failed ends quiet) = absurd ((given_as (HeldBy name) is).2 failed)
   from_asked (query_too_long name is long ends quiet) =
       let told = given_as (HeldBy name) is in let more = longer QUERY_LIMIT (s.held name) text told.0 long in let few = told.1 in absurd (omega (arith, more, few))
   from_asked (out_of_memory is quiet) = memory is.ends
   from_asked (fetched name is own gives case) =
-      let P : Text → Type 0 = λ t. FromText a t s w end note in
+      let P : Text → Type 0 = λ x. FromText s w end note k a x in
       from_text (subst P (told_as (s.held name) own text (given_as (HeldBy name) is).0 gives.told) case)
 
-  from_words : FromWords words s w end note → Goal
+  from_words : FromWords s w end note k words → Goal
   from_words (refused none is quiet) = let both : Some a ≡ None = sym clear.accepted ∙ none in absurd (cc)
   from_words (out_of_memory is quiet) = memory is.ends
   from_words (accepted other is case) =
       let same : other ≡ a = same_Some other a (sym is ∙ clear.accepted) in
-      let P : Asked → Type 0 = λ b. FromAsked b s w end note in
+      let P : Asked → Type 0 = λ b. FromAsked s w end note k b in
       from_asked (subst P same case)
 
-from_page : (text last : Text) (Keeps : Clock → Type 0) (w : Work) (end : Status) (note : Text) → ¬ Failed w.out → FromPage text last Keeps w end note → AreWhole text last w end note ⊎ (end ≡ status.Memory)
+from_page : (text last : Text) (Keeps : Clock → Type 0) (w : Work) (end : Status) (note : Text) → ¬ Failed w.out → FromPage w end note text last Keeps → AreWhole text last w end note ⊎ (end ≡ status.Memory)
 from_page text last Keeps w end note fine (whole is says adds few) = inl (record { done = is; wrote = adds; says = says })
 from_page text last Keeps w end note fine (write_failed is failed part few) = absurd (fine failed)
 from_page text last Keeps w end note fine (out_of_memory is part few) = inr is.ends
 
 -- the plain command
-pub record IsServed (a : Asked) (q : QueryTree) (names : List VarName) (after : Option Kept) (document : Text) (w : Work) (end : Status) (note : Text) : Type 0 where
+pub record IsServed (a : Asked) (q : QueryTree) (checks : List Check) (names : List VarName) (after : Option Kept) (document : Text) (w : Work) (end : Status) (note : Text) : Type 0 where
   pub rows : List SpanRow
   pub more : Bool
-  pub page : IsPageOf q document names (row_kept after) a.limit rows more
+  pub page : IsPassingPageOf checks q document names (row_kept after) a.limit rows more
   pub are : AreWhole (page_text a.form a.texts names document rows) (last_note names (length document) a.after rows more) w end note
 
-module _ (words : List Text) (a : Asked) (text : Text) (q : QueryTree) (names : List VarName) (s : Store) (w : Work) (notes : Change) (clear : IsClear words a text q names s w.out notes) (end : Status) (note : Text) where
-  module _ (wants : WantsAnswers a.mode) (small : PartsAreSmall q) (Goal : Type 0) (memory : end ≡ status.Memory → Goal) (from_compiled : FromCompiled a q s w end note → Goal) where
-    from_query : FromQuery a q s w end note → Goal
+module _ (k : Known) (words : List Text) (a : Asked) (text : Text) (t : TestedTree) (names : List VarName) (s : Store) (w : Work) (notes : Change) (clear : IsClear k words a text t names s w.out notes) (end : Status) (note : Text) where
+  abbrev q : QueryTree
+  q = t.query
+
+  abbrev checks : List Check
+  checks = checks_of k t.asked
+
+  module _ (wants : WantsAnswers a.mode) (small : PartsAreSmall q) (Goal : Type 0) (memory : end ≡ status.Memory → Goal) (from_compiled : FromCompiled a q checks w end note s → Goal) where
+    from_query : FromQuery s w end note a t checks → Goal
     from_query (explained is case still) = let P : Mode → Type 0 = λ m. WantsAnswers m in absurd (subst P is wants)
     from_query (too_large asks why quiet) = memory (never_too_large q small end note why)
     from_query (out_of_memory is quiet) = memory is.ends
     from_query (compiled asks few case) = from_compiled case
 
-  module _ (after : Option Kept) (document : Text) (limits : IsWithinLimits a q document) (fits : CursorFits (length document) after) (Goal : Type 0) (memory : end ≡ status.Memory → Goal) (from_answers : FromAnswers a q names after document w end note → Goal) where
-    from_document : FromDocument a q names after document w end note → Goal
+  module _ (after : Option Kept) (document : Text) (limits : IsWithinLimits a q document) (fits : CursorFits (length document) after) (Goal : Type 0) (memory : end ≡ status.Memory → Goal) (from_answers : FromAnswers a q checks w end note names after document → Goal) where
+    from_document : FromDocument a q checks w end note names after document → Goal
     from_document (not_begun why quiet) = memory (let (K, reads, light) = limits.light in never_unbegun a.filter q after document a.max_table w.steps end note fits limits.filtered K reads light why)
     from_document (out_of_memory is quiet) = memory is.ends
     from_document (answered inside case) = from_answers case
@@ -152,95 +160,94 @@ module _ (words : List Text) (a : Asked) (text : Text) (q : QueryTree) (names : 
   -- the plain command
   module _ (after : Option Kept) (document : Text) (plain : a.mode ≡ mode.Plain) (has : HasDocument a names after document s) (limits : IsWithinLimits a q document) where
     abbrev Served : Type 0
-    Served = IsServed a q names after document w end note ⊎ (end ≡ status.Memory)
+    Served = IsServed a q checks names after document w end note ⊎ (end ≡ status.Memory)
 
-    page_of : FromAnswers a q names after document w end note → Served
+    page_of : FromAnswers a q checks w end note names after document → Served
     page_of (paged is rows more page case) = elim (from_page _ _ _ w end note clear.written case) [
       | inl are ↦ inl (record { rows = rows; more = more; page = page; are = are })
       | inr memory ↦ inr memory
     ]
     page_of (summed lines is rows answers case) = let both : mode.Plain ≡ mode.Trial lines = sym plain ∙ is in absurd (cc)
 
-    place_of : FromPlace a q names after s w end note → Served
+    place_of : FromPlace a q checks w end note s names after → Served
     place_of (document_failed failed ends quiet) = absurd (has.fetched failed)
     place_of (document_too_long long ends quiet) = let more = longer DOCUMENT_LIMIT (s.held a.document) document has.held long in let few = has.few in absurd (omega (arith, more, few))
     place_of (out_of_memory is quiet) = inr is.ends
     place_of (found bytes gives case) =
-        let P : Text → Type 0 = λ d. FromDocument a q names after d w end note in
+        let P : Text → Type 0 = λ d. FromDocument a q checks w end note names after d in
         from_document after document limits has.fits Served (λ m. inr m) page_of (subst P (told_as (s.held a.document) bytes document has.held gives.told) case)
 
-    reads_as : (t : Text) → a.after ≡ Some t → (kept : Kept) × IsCursorText names kept.row kept.length t
-    reads_as t is = row_of_text names t after (let P : Option Text → Type 0 = λ o. IsAfter names o after in subst P is has.begins)
+    reads_as : (x : Text) → a.after ≡ Some x → (kept : Kept) × IsCursorText names kept.row kept.length x
+    reads_as x is = row_of_text names x after (let P : Option Text → Type 0 = λ o. IsAfter names o after in subst P is has.begins)
 
-    cursor_of : FromCursor a q names s w end note → Served
-    cursor_of (no_cursor t is none ends quiet) = let r = reads_as t is in absurd (none names r.0.row r.0.length r.1)
-    cursor_of (other_variables t is others row length reads differ ends quiet) =
-        let r = reads_as t is in
-        absurd (differ (one_cursor others names row r.0.row length r.0.length t reads r.1).0)
+    cursor_of : FromCursor a q checks w end note s names → Served
+    cursor_of (no_cursor x is none ends quiet) = let r = reads_as x is in absurd (none names r.0.row r.0.length r.1)
+    cursor_of (other_variables x is others row length reads differ ends quiet) =
+        let r = reads_as x is in
+        absurd (differ (one_cursor others names row r.0.row length r.0.length x reads r.1).0)
     cursor_of (placed kept starts case) =
-        let R : Option Kept → Type 0 = λ o. FromPlace a q names o s w end note in
+        let R : Option Kept → Type 0 = λ o. FromPlace a q checks w end note s names o in
         place_of (subst R (after_one names a.after after kept has.begins starts) case)
 
-    plain_of : FromCompiled a q s w end note → Served
+    plain_of : FromCompiled a q checks w end note s → Served
     plain_of (out_of_memory is quiet) = inr is.ends
-    plain_of (page_asked is own are case) = let P : List VarName → Type 0 = λ ns. FromCursor a q ns s w end note in cursor_of (subst P (names_one q own names are clear.named) case)
+    plain_of (page_asked is own are case) = let P : List VarName → Type 0 = λ ns. FromCursor a q checks w end note s ns in cursor_of (subst P (names_one q own names are clear.named) case)
     plain_of (trial_asked lines is own are case) = let both : mode.Plain ≡ mode.Trial lines = sym plain ∙ is in absurd (cc)
 
-    pub served : FromWords words s w end note → Served
-    served case = from_words words a text q names s w notes clear end note Served (λ m. inr m)
+    pub served : FromWords s w end note k words → Served
+    served case = from_words k words a text t names s w notes clear end note Served (λ m. inr m)
         (from_query (plain_wants a.mode plain) limits.small Served (λ m. inr m) plain_of) case
 
   -- a trial
   module _ (lines : ℕ) (trial : a.mode ≡ mode.Trial lines) (limits : IsWithinLimits a q (trial_text lines)) where
     abbrev Tried : Type 0
-    Tried = ((rows : List SpanRow) × AreAnswers q (trial_text lines) names rows × AreWhole (trial_summary lines names (trial_text lines) rows) (line (codes "end")) w end note) ⊎ (end ≡ status.Memory)
+    Tried = ((rows : List SpanRow) × AreAllPassing checks q (trial_text lines) names rows × AreWhole (trial_summary lines names (trial_text lines) rows) (line (codes "end")) w end note) ⊎ (end ≡ status.Memory)
 
-    summary_of : FromAnswers a q names None (trial_text lines) w end note → Tried
+    summary_of : FromAnswers a q checks w end note names None (trial_text lines) → Tried
     summary_of (paged is rows more page case) = let both : mode.Plain ≡ mode.Trial lines = sym is ∙ trial in absurd (cc)
     summary_of (summed own is rows answers case) =
         let same : own ≡ lines = same_lines own lines (sym is ∙ trial) in
-        let P : ℕ → Type 0 = λ k. FromPage (trial_summary k names (trial_text lines) rows) (line (codes "end"))
-        (KeepsWithin a.filter q (trial_text lines) (λ K. stated_steps a.filter q names (trial_text lines) K None (length rows))) w end note in
+        let P : ℕ → Type 0 = λ n. FromPage w end note (trial_summary n names (trial_text lines) rows) (line (codes "end")) (TrialKeeps checks a.filter q names (trial_text lines) rows) in
         elim (from_page _ _ _ w end note clear.written (subst P same case)) [
           | inl are ↦ inl (rows, answers, are)
           | inr memory ↦ inr memory
         ]
 
-    trial_of : FromCompiled a q s w end note → Tried
+    trial_of : FromCompiled a q checks w end note s → Tried
     trial_of (out_of_memory is quiet) = inr is.ends
     trial_of (page_asked is own are case) = let both : mode.Plain ≡ mode.Trial lines = sym is ∙ trial in absurd (cc)
     trial_of (trial_asked own is others are case) =
-        let P : ℕ → Type 0 = λ k. FromDocument a q others None (trial_text k) w end note in
-        let Q : List VarName → Type 0 = λ ns. FromDocument a q ns None (trial_text lines) w end note in
+        let P : ℕ → Type 0 = λ n. FromDocument a q checks w end note others None (trial_text n) in
+        let Q : List VarName → Type 0 = λ ns. FromDocument a q checks w end note ns None (trial_text lines) in
         from_document None (trial_text lines) limits tt Tried (λ m. inr m) summary_of
         (subst Q (names_one q others names are clear.named) (subst P (same_lines own lines (sym is ∙ trial)) case))
 
-    pub tried : FromWords words s w end note → Tried
-    tried case = from_words words a text q names s w notes clear end note Tried (λ m. inr m)
+    pub tried : FromWords s w end note k words → Tried
+    tried case = from_words k words a text t names s w notes clear end note Tried (λ m. inr m)
         (from_query (trial_wants a.mode lines trial) limits.small Tried (λ m. inr m) trial_of) case
 
   -- what the query is
   module _ (explain : a.mode ≡ mode.Explain) where
     abbrev Told : Type 0
-    Told = AreWhole (explain_text q names) (line (codes "end")) w end note ⊎ (end ≡ status.Memory)
+    Told = AreWhole (explain_tested t names) (line (codes "end")) w end note ⊎ (end ≡ status.Memory)
 
-    told_of : IsExplained q w.out end note → Told
+    told_of : IsExplained t w.out end note → Told
     told_of (told_names own are page) =
-        let P : List VarName → Type 0 = λ ns. FromPage (explain_text q ns) (line (codes "end")) StandsStill (work w.out (clock 0 0)) end note in
+        let P : List VarName → Type 0 = λ ns. FromPage (work w.out (clock 0 0)) end note (explain_tested t ns) (line (codes "end")) StandsStill in
         elim (from_page _ _ _ (work w.out (clock 0 0)) end note clear.written (subst P (names_one q own names are clear.named) page)) [
           | inl all ↦ inl (record { done = all.done; wrote = all.wrote; says = all.says })
           | inr memory ↦ inr memory
         ]
     told_of (by_memory is quiet) = inr is.ends
 
-    lines_of : FromQuery a q s w end note → Told
+    lines_of : FromQuery s w end note a t checks → Told
     lines_of (explained is case still) = told_of case
     lines_of (too_large asks why quiet) = let P : Mode → Type 0 = λ m. WantsAnswers m in absurd (subst P explain asks)
     lines_of (out_of_memory is quiet) = inr is.ends
     lines_of (compiled asks few case) = let P : Mode → Type 0 = λ m. WantsAnswers m in absurd (subst P explain asks)
 
-    pub explains : FromWords words s w end note → Told
-    explains case = from_words words a text q names s w notes clear end note Told (λ m. inr m) lines_of case
+    pub explains : FromWords s w end note k words → Told
+    explains case = from_words k words a text t names s w notes clear end note Told (λ m. inr m) lines_of case
 
 -- with the note
 reported : (text last : Text) (w : Work) (notes : Change) (end result : Status) (note : Text) → ¬ Failed notes → Reports end note notes result → AreWhole text last w end note → (result ≡ status.Done) × Adds w.out text × Adds notes last
@@ -252,28 +259,28 @@ memory_reported : (notes : Change) (end result : Status) (note : Text) → ¬ Fa
 memory_reported notes end result note fine (whole is adds) memory = is ∙ memory
 memory_reported notes end result note fine (cut is failed part) memory = absurd (fine failed)
 
-module _ (words : List Text) (s : Store) (out notes : Change) (steps : Clock) (result : Status) (run : Run words s out notes steps result) where
-  plain_completes : PlainCompletes words s out notes result
-  plain_completes a text q names after document plain clear has limits =
-      elim (served words a text q names s (work out steps) notes clear run.end run.note after document plain has limits run.done) [
+module _ (k : Known) (words : List Text) (s : Store) (out notes : Change) (steps : Clock) (result : Status) (run : RunTested k words s out notes steps result) where
+  plain_completes : PlainCompletes k words s out notes result
+  plain_completes a text t names after document plain clear has limits =
+      elim (served k words a text t names s (work out steps) notes clear run.end run.note after document plain has limits run.done) [
         | inl p ↦ let r = reported _ _ (work out steps) notes run.end result run.note clear.noted run.report p.are in inl (record { done = r.0; rows = p.rows; more = p.more; page = p.page; text = r.1; note = r.2 })
         | inr m ↦ inr (memory_reported notes run.end result run.note clear.noted run.report m)
       ]
 
-  trial_completes : TrialCompletes words s out notes result
-  trial_completes a text q names lines trial clear limits =
-      elim (tried words a text q names s (work out steps) notes clear run.end run.note lines trial limits run.done) [
+  trial_completes : TrialCompletes k words s out notes result
+  trial_completes a text t names lines trial clear limits =
+      elim (tried k words a text t names s (work out steps) notes clear run.end run.note lines trial limits run.done) [
         | inl p ↦ let r = reported _ _ (work out steps) notes run.end result run.note clear.noted run.report p.2 in inl (record { rows = p.0; answers = p.1; writes = record { done = r.0; wrote = r.1; note = r.2 } })
         | inr m ↦ inr (memory_reported notes run.end result run.note clear.noted run.report m)
       ]
 
-  explain_completes : ExplainCompletes words s out notes result
-  explain_completes a text q names explain clear =
-      elim (explains words a text q names s (work out steps) notes clear run.end run.note explain run.done) [
+  explain_completes : ExplainCompletes k words s out notes result
+  explain_completes a text t names explain clear =
+      elim (explains k words a text t names s (work out steps) notes clear run.end run.note explain run.done) [
         | inl p ↦ let r = reported _ _ (work out steps) notes run.end result run.note clear.noted run.report p in inl (record { done = r.0; wrote = r.1; note = r.2 })
         | inr m ↦ inr (memory_reported notes run.end result run.note clear.noted run.report m)
       ]
 
-pub completes : (words : List Text) (s : Store) (out notes : Change) (steps : Clock) (result : Status) → Run words s out notes steps result → Completes words s out notes result
-completes words s out notes steps result run =
-    (plain_completes words s out notes steps result run, trial_completes words s out notes steps result run, explain_completes words s out notes steps result run)
+pub completes : (k : Known) (words : List Text) (s : Store) (out notes : Change) (steps : Clock) (result : Status) → RunTested k words s out notes steps result → Completes k words s out notes result
+completes k words s out notes steps result run =
+    (plain_completes k words s out notes steps result run, trial_completes k words s out notes steps result run, explain_completes k words s out notes steps result run)

@@ -3,10 +3,10 @@ use Rattle.std.proofs.Common.{ℕ, List, [], ◌∷◌, length, inl, inr, sym, s
 use Rattle.span_core.specs.Lists.{AtMost, Has}
 use Rattle.span_core.specs.declared.TheConstants.{MOST_VARIABLES}
 use Rattle.spanner_model.specs.Captures.{VarName}
-use Rattle.spanner_model.specs.Expression.{ExprTree, QueryTree, atom, named, union_end, union, join_end, join, project}
+use Rattle.spanner_model.specs.Expression.{ExprTree, QueryTree, atom, named, union_end, union, join_end, join, minus, project}
 use Rattle.spanner_model.specs.Sound.{AreJoined, AreUnited, IsSound, IsSoundExpr, NameIn, NameInLets, NameOf, sure_of_lets}
 use Rattle.spanner_model.specs.Answer.{vars_of_lets}
-use Rattle.span_core.proofs.HasLaws.{Has-append_cases, place_of-Has}
+use Rattle.span_core.proofs.HasLaws.{Has-append_cases, Has-append_left, Has-append_right, place_of-Has}
 use Rattle.marked_automaton.proofs.Passing.{flat_map_cases, has_flat_map}
 use Rattle.rematch_program.specs.Explained.{AreCounted, IsCounted, atoms_among, atoms_in, atoms_of}
 
@@ -29,6 +29,11 @@ module _ (N : VarName → Type 0) (few : AtMost MOST_VARIABLES N) (V S : ℕ →
           | inr q ↦ of_joined rest ok.1 (λ x v. inside x (inr v)) a q
         ]
     of_expr (project kept e) ok inside a h = of_expr e ok.0 inside a h
+    of_expr (minus e g) ok inside a h =
+        elim (Has-append_cases (atoms_of e) (atoms_of g) a h) [
+          | inl p ↦ of_expr e ok.0 (λ x v. inside x (inl v)) a p
+          | inr q ↦ of_expr g ok.1 (λ x v. inside x (inr v)) a q
+        ]
 
     of_united : (e : ExprTree) → AreUnited V S n e → ((x : VarName) → NameIn e x → N x) → AreCounted (atoms_of e)
     of_united union_end ok inside a h = absurd h
@@ -42,6 +47,7 @@ module _ (N : VarName → Type 0) (few : AtMost MOST_VARIABLES N) (V S : ℕ →
     of_united join_end ok inside a h = absurd ok
     of_united (join e rest) ok inside a h = absurd ok
     of_united (project kept e) ok inside a h = absurd ok
+    of_united (minus e g) ok inside a h = absurd ok
 
     of_joined : (e : ExprTree) → AreJoined V S n e → ((x : VarName) → NameIn e x → N x) → AreCounted (atoms_of e)
     of_joined join_end ok inside a h = absurd h
@@ -55,6 +61,7 @@ module _ (N : VarName → Type 0) (few : AtMost MOST_VARIABLES N) (V S : ℕ →
     of_joined union_end ok inside a h = absurd ok
     of_joined (union e rest) ok inside a h = absurd ok
     of_joined (project kept e) ok inside a h = absurd ok
+    of_joined (minus e g) ok inside a h = absurd ok
 
 in_lets : (lets : List (VarName × ExprTree)) (l : VarName × ExprTree) (x : VarName) → Has lets l → NameIn l.1 x → NameInLets lets x
 in_lets [] l x h v = absurd h
@@ -76,3 +83,10 @@ let_counted lets l h all a k = all a (has_flat_map (λ (l : VarName × ExprTree)
 
 pub part_counted : (es : List ExprTree) (e : ExprTree) → Has es e → AreCounted (atoms_among es) → AreCounted (atoms_of e)
 part_counted es e h all a k = all a (has_flat_map atoms_of es e a h k)
+
+-- of the sides of a difference
+pub left_counted : (e g : ExprTree) → AreCounted (atoms_of (minus e g)) → AreCounted (atoms_of e)
+left_counted e g all a k = all a (Has-append_left (atoms_of e) (atoms_of g) a k)
+
+pub right_counted : (e g : ExprTree) → AreCounted (atoms_of (minus e g)) → AreCounted (atoms_of g)
+right_counted e g all a k = all a (Has-append_right (atoms_of e) (atoms_of g) a k)

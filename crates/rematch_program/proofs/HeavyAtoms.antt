@@ -1,7 +1,7 @@
 -- What holds of some atom of a query.
 use Rattle.std.proofs.Common.{ℕ, ◌<◌, ◌≤◌, inl, inr, Bool, List, arith}
 use Rattle.spanner_model.specs.Tree.{Tree}
-use Rattle.spanner_model.specs.Expression.{ExprTree, QueryTree, atom, named, union_end, union, join_end, join, project}
+use Rattle.spanner_model.specs.Expression.{ExprTree, QueryTree, atom, named, union_end, union, join_end, join, minus, project}
 use Rattle.filter_laws.specs.Touching.{SomeAtom, SomeAtomOf}
 use Rattle.segment_filter.specs.Costs.{atom_weight}
 use Rattle.spanner_engine.specs.Begun.{HasHeavyAtom}
@@ -17,6 +17,8 @@ module _ (P Q : Bool → Bool → Tree → Type 0) (then_ : (s t : Bool) (f : Tr
   some_then (join e rest) (inl h) = inl (some_then e h)
   some_then (join e rest) (inr h) = inr (some_then rest h)
   some_then (project kept e) h = some_then e h
+  some_then (minus e g) (inl h) = inl (some_then e h)
+  some_then (minus e g) (inr h) = inr (some_then g h)
 
   some_of_then : (q : QueryTree) → SomeAtomOf P q → SomeAtomOf Q q
   some_of_then q (inl (l, has, h)) = inl (l, has, some_then l.1 h)

@@ -16,3 +16,9 @@ pub mod ResultNames
 pub mod ResumeLaws
 pub mod SummaryLaws
 pub mod WorkedLaws
+mod WithoutTestsLaws
+pub mod PassingPages
+pub mod TakingLaws
+pub mod Answered
+pub mod TestLines
+pub mod NoteLaws

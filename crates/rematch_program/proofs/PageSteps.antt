@@ -1,17 +1,26 @@
 -- One row of a page after another.
-use Rattle.std.specs.Prelude.{◌↔◌, Bool, true, false, IsTrue}
+use Rattle.std.specs.Prelude.{◌↔◌, Bool, true, false, IsTrue, codes, nat_lt}
+use Rattle.std.proofs.lemmas.Bool.{le-leb, leb-true, true≢false}
 use Rattle.std.specs.Bool.{OnTrue, OnFalse}
-use Rattle.std.proofs.Common.{subst, ◌≡◌, ℕ, zero, suc, ◌+◌, ◌-◌, ◌*◌, ◌<◌, ◌≤◌, List, [], ◌∷◌, ◌++◌, length, take, Option, Some, None, refl, sym, ap, ◌∙◌, inl, inr, arith}
+use Rattle.std.proofs.Common.{◌≡◌, ℕ, zero, suc, ◌+◌, ◌-◌, ◌*◌, ◌<◌, ◌≤◌, List, [], ◌∷◌, ◌++◌, length, take, Option, Some, None, if◌then◌else◌, refl, sym, ap, ◌∙◌, subst, arith, append-nil, append_assoc, length-append}
 use Rattle.std.specs.List.{flat_map}
 use Rattle.std.proofs.lemmas.List.Concat.{flat_map-cons}
-use Rattle.spanner_model.specs.Expression.{QueryTree}
-use Rattle.span_core.specs.Lists.{Has}
+use Rattle.spanner_model.specs.Captures.{VarName}
 use Rattle.spanner_model.specs.Answers.{SpanRow}
+use Rattle.spanner_engine.specs.Fitting.{FitsRow}
+use Rattle.spanner_engine.specs.Left.{EndsIn, Source, checks_over, passing_over}
+use Rattle.spanner_engine.specs.Passing.{Check, known, passing, trying_steps}
+use Rattle.spanner_engine.proofs.PassingLaws.{passing_append}
 use Rattle.rm_outside.specs.declared.status.Status.{Status}
-use Rattle.rematch_program.specs.Change.{Change, TakesAtMost, clock, work}
+use Rattle.rematch_program.specs.Change.{Change, Clock, clock, work}
 use Rattle.rematch_program.specs.Run.{FromPage, whole, write_failed, out_of_memory}
-use Rattle.rematch_program.specs.Pages.{AllFit, FitsPage, fewer, first_rows}
-use Rattle.rematch_program.specs.Steps.{KeepsWithin, next_steps}
+use Rattle.note_texts.specs.Notes.{line}
+use Rattle.rematch_program.specs.Pages.{FitsPage, cursor_given, fewer, first_rows, last_note, next_cursor}
+use Rattle.rematch_program.specs.Steps.{next_steps}
+use Rattle.rematch_program.specs.Taking.{PageTakes}
+use Rattle.rematch_program.proofs.Inside.{fits_of}
+use Rattle.rematch_program.proofs.PassingPages.{length_checks}
+use Rattle.rematch_program.proofs.TakingLaws.{page_takes, steps_ended, steps_found}
 
 pub first_next : (limit : Option ℕ) (row : SpanRow) (rest : List SpanRow) → ¬ (limit ≡ Some 0) → first_rows limit (row ∷ rest) ≡ row ∷ first_rows (fewer limit) rest
 first_next None row rest some = refl
@@ -28,56 +37,146 @@ first_at_zero None rows is = absurd (cc)
 first_at_zero (Some zero) rows is = refl
 first_at_zero (Some (suc n)) rows is = absurd (cc)
 
-pub times_next : (n N : ℕ) → (suc n + 1) * N ≡ N + (n + 1) * N
-times_next n N = omega arith
-
 pub front_is : (remaining left : Option ℕ) (coming rest : List SpanRow) (row : SpanRow) → coming ≡ row ∷ rest → ¬ (remaining ≡ Some 0) → left ≡ fewer remaining → first_rows remaining coming ≡ row ∷ first_rows left rest
 front_is remaining left coming rest row is some fewer_is = ap (first_rows remaining) is ∙ (first_next remaining row rest some ∙ ap (λ o. row ∷ first_rows o rest) (sym fewer_is))
 
 pub lines_next : (text : SpanRow → List ℕ) (rows rest : List SpanRow) (row : SpanRow) → rows ≡ row ∷ rest → flat_map text rows ≡ text row ++ flat_map text rest
 lines_next text rows rest row is = ap (flat_map text) is ∙ flat_map-cons text row rest
 
-pub fit_rest : (width n : ℕ) (rows rest : List SpanRow) (row : SpanRow) → rows ≡ row ∷ rest → AllFit width n rows → AllFit width n rest
-fit_rest width n rows rest row is fit r has = fit r (subst (λ (rs : List SpanRow). Has rs r) (sym is) (inr has))
-
-pub fit_first : (width n : ℕ) (rows rest : List SpanRow) (row : SpanRow) → rows ≡ row ∷ rest → AllFit width n rows → FitsPage width n row
-fit_first width n rows rest row is fit = fit row (subst (λ (rs : List SpanRow). Has rs row) (sym is) (inl refl))
-
-le_times : (f N : ℕ) → N ≤ (f + 1) * N
-le_times zero N = omega arith
-le_times (suc f) N = let h = le_times f N in let e = times_next f N in omega (arith, h, e)
-
-taken : (old new N P Q B : ℕ) → P ≡ N + Q → new ≤ old + N → old + P ≤ B → new + Q ≤ B
-taken old new N P Q B is few inv = omega (arith, is, few, inv)
-
-pub steps_next : (old new f f' M N B : ℕ) → f ≡ suc f' → M ≡ N → new ≤ old + M → old + (f + 1) * N ≤ B → new + (f' + 1) * N ≤ B
-steps_next old new f f' M N B is same few inv =
-    taken old new N ((f + 1) * N) ((f' + 1) * N) B (ap (λ k. (k + 1) * N) is ∙ times_next f' N) (omega (arith, same, few)) inv
-
-last_taken : (old new N P B : ℕ) → N ≤ P → new ≤ old + N → old + P ≤ B → new ≤ B
-last_taken old new N P B le few inv = omega (arith, le, few, inv)
-
-pub steps_last : (old new f M N B : ℕ) → M ≡ N → new ≤ old + M → old + (f + 1) * N ≤ B → new ≤ B
-steps_last old new f M N B same few inv = last_taken old new N ((f + 1) * N) B (le_times f N) (omega (arith, same, few)) inv
-
--- what a row costs is within what is stated
-pub row_cost : (old new v : ℕ) → new ≤ old + 2 * v → new ≤ old + next_steps v
-row_cost old new v few = omega (arith, few)
-
-pub some_more : (more : Bool) (coming new : List SpanRow) (row : SpanRow) (P Q : Type 0) → OnTrue more (coming ≡ row ∷ new) → OnFalse more ((coming ≡ []) × P × Q) → IsTrue more ↔ (0 < length coming)
-some_more false coming new row P Q some none = let n = ap length none.0 in (λ t. absurd (cc), λ l. absurd (omega (arith, n, l)))
-some_more true coming new row P Q some none = let one = ap length some in (λ t. omega (arith, one), λ l. refl)
+pub some_more : (more : Bool) (coming new : List SpanRow) (row : SpanRow) (P : Type 0) → OnTrue more (coming ≡ row ∷ new) → OnFalse more ((coming ≡ []) × P) → IsTrue more ↔ (0 < length coming)
+some_more false coming new row P some none = let n = ap length none.0 in (λ t. absurd (cc), λ l. absurd (omega (arith, n, l)))
+some_more true coming new row P some none = let one = ap length some in (λ t. omega (arith, one), λ l. refl)
 
 pub le_self : (n : ℕ) → n ≤ n
 le_self n = omega arith
 
--- counted from an earlier moment on
-module _ (filter : Bool) (q : QueryTree) (d : List ℕ) (b : (ℕ → Bool) → ℕ) (k old mid new : ℕ) (few : KeepsWithin filter q d b (clock old mid)) where
-  both_within : new ≤ mid + k → KeepsWithin filter q d (λ K. b K + k) (clock old new)
-  both_within took K reads = let first = few K reads in omega (arith, first, took)
+-- with what the counter keeps to told otherwise, from an earlier moment on
+module _ (out : Change) (end : Status) (note : List ℕ) (old mid new : ℕ) (text last : List ℕ) (P Q : Clock → Type 0) (then_ : P (clock mid new) → Q (clock old new)) where
+  pub page_earlier : FromPage (work out (clock mid new)) end note text last P → FromPage (work out (clock old new)) end note text last Q
+  page_earlier (whole is says adds took) = whole is says adds (then_ took)
+  page_earlier (write_failed is failed part took) = write_failed is failed part (then_ took)
+  page_earlier (out_of_memory is part took) = out_of_memory is part (then_ took)
 
-  pub page_earlier : (text last : List ℕ) (out : Change) (end : Status) (note : List ℕ) → FromPage text last (λ c. TakesAtMost c k) (work out (clock mid new)) end note →
-      FromPage text last (KeepsWithin filter q d (λ K. b K + k)) (work out (clock old new)) end note
-  page_earlier text last out end note (whole is says adds took) = whole is says adds (both_within took)
-  page_earlier text last out end note (write_failed is failed part took) = write_failed is failed part (both_within took)
-  page_earlier text last out end note (out_of_memory is part took) = out_of_memory is part (both_within took)
+-- ---- what going further did, told of what the rows were first taken from
+
+module _ (judges : ℕ → List ℕ → Bool) (s t : Source) (same : t ≡ s) (old new : List SpanRow) (row : SpanRow) where
+  pub goes_on : passing_over judges t old ≡ row ∷ passing_over judges t new → passing_over judges s old ≡ row ∷ passing_over judges s new
+  goes_on h = subst (λ (u : Source). passing_over judges u old ≡ row ∷ passing_over judges u new) same h
+
+  pub goes_out : passing_over judges t old ≡ [] → passing_over judges s old ≡ []
+  goes_out h = subst (λ (u : Source). passing_over judges u old ≡ []) same h
+
+  pub fits_page : FitsRow (length t.names) (length t.document) row → FitsPage (length s.names) (length s.document) row
+  fits_page h = subst (λ (u : Source). FitsPage (length u.names) (length u.document) row) same (fits_of (length t.names) (length t.document) row h)
+
+  pub tries : (now next : ℕ) (found : Bool) → next ≤ now + trying_steps (length t.names) (length t.asked) (length old - length new) found →
+      next ≤ now + ((length old - length new) * (next_steps (length s.names) + length s.asked) + (if found then 0 else next_steps (length s.names)))
+  tries now next found h = subst (λ (u : Source). next ≤ now + trying_steps (length u.names) (length u.asked) (length old - length new) found) same h
+
+-- one list ends in a second, and that in a third
+pub ends_on : (xs ys zs : List SpanRow) → EndsIn xs ys → EndsIn ys zs → EndsIn xs zs
+ends_on xs ys zs (f, is) (g, next) = (f ++ g, is ∙ ap (λ (rows : List SpanRow). f ++ rows) next ∙ sym (append_assoc f g zs))
+
+pub ends_long : (xs ys : List SpanRow) → EndsIn xs ys → length ys ≤ length xs
+ends_long xs ys (f, is) = omega (arith, ap length is ∙ length-append f ys)
+
+-- ---- what was tried
+
+module _ (judges : ℕ → List ℕ → Bool) (s : Source) (rest left page : List SpanRow) (ends : EndsIn rest left) (old : ℕ) where
+  abbrev checks : List Check
+  checks = checks_over judges s
+
+  all_pass : length (passing_over judges s rest) ≡ length (passing checks s.names s.document ends.0) + length (passing_over judges s left)
+  all_pass =
+      ap (λ (rows : List SpanRow). length (passing_over judges s rows)) ends.1
+      ∙ ap length (passing_append checks s.names s.document ends.0 left)
+      ∙ length-append (passing checks s.names s.document ends.0) (passing_over judges s left)
+
+  tried_long : length rest - length left ≡ length ends.0
+  tried_long = let long = ap length ends.1 ∙ length-append ends.0 left in omega (arith, long)
+
+  -- and the answers did not end
+  pub tried_some : (new : ℕ) → length (passing_over judges s rest) ≤ length page + 1 + length (passing_over judges s left) →
+      new ≤ old + (length rest - length left) * (next_steps (length s.names) + length s.asked) → PageTakes checks s.names s.document rest page (clock old new)
+  tried_some new few steps =
+      let U = next_steps (length s.names) + length s.asked in
+      let same : (length rest - length left) * U ≡ length ends.0 * U = ap (λ (n : ℕ). n * U) tried_long in
+      page_takes checks s.names s.document rest page (length s.asked) old new (record {
+        tried = ends.0;
+        left = left;
+        joined = ends.1;
+        ended = false;
+        few = omega (arith, few, all_pass);
+        each = length_checks (known s.tests judges) s.asked;
+        steps = omega (arith, same, steps);
+      })
+
+-- and they ended
+pub tried_all : (judges : ℕ → List ℕ → Bool) (s : Source) (rest page : List SpanRow) (old new : ℕ) → length (passing_over judges s rest) ≤ length page →
+    new ≤ old + length rest * (next_steps (length s.names) + length s.asked) + next_steps (length s.names) → PageTakes (checks_over judges s) s.names s.document rest page (clock old new)
+tried_all judges s rest page old new few steps =
+    page_takes (checks_over judges s) s.names s.document rest page (length s.asked) old new (record {
+      tried = rest;
+      left = [];
+      joined = sym (append-nil rest);
+      ended = true;
+      few = omega (arith, few);
+      each = length_checks (known s.tests judges) s.asked;
+      steps = steps;
+    })
+
+-- ---- the steps so far, and those of one try more
+
+module _ (judges : ℕ → List ℕ → Bool) (s t : Source) (same : t ≡ s) (all old new : List SpanRow) (ends : EndsIn all old) (then_ : EndsIn old new) (start mid next : ℕ)
+    (first : mid ≤ start + (length all - length old) * (next_steps (length s.names) + length s.asked)) where
+  pub took_found : (found : Bool) → found ≡ true → next ≤ mid + trying_steps (length t.names) (length t.asked) (length old - length new) found →
+      next ≤ start + (length all - length new) * (next_steps (length s.names) + length s.asked)
+  took_found found is took =
+      let here = subst (λ (b : Bool). next ≤ mid + trying_steps (length t.names) (length t.asked) (length old - length new) b) is took in
+      steps_found (length all) (length old) (length new) (next_steps (length s.names) + length s.asked) start mid next (ends_long old new then_) (ends_long all old ends) first
+      (tries judges s t same old new [] mid next true here)
+
+  pub took_none : (found : Bool) → found ≡ false → new ≡ [] → next ≤ mid + trying_steps (length t.names) (length t.asked) (length old - length new) found →
+      next ≤ start + length all * (next_steps (length s.names) + length s.asked) + next_steps (length s.names)
+  took_none found is none took =
+      let here = subst (λ (b : Bool). next ≤ mid + trying_steps (length t.names) (length t.asked) (length old - length new) b) is took in
+      let gone = subst (λ (rows : List SpanRow). next ≤ mid + trying_steps (length t.names) (length t.asked) (length old - length rows) false) none here in
+      steps_ended (length all) (length old) (next_steps (length s.names)) (next_steps (length s.names) + length s.asked) start mid next (ends_long all old ends) first
+      (tries judges s t same old [] [] mid next false gone)
+
+  -- the try behind the last row of a page
+  pub last_try : (page : List SpanRow) (row : SpanRow) (found : Bool) → OnTrue found (passing_over judges t old ≡ row ∷ passing_over judges t new) → OnFalse found ((passing_over judges t old ≡ []) × (new ≡ [])) →
+      length (passing_over judges s all) ≤ length page + length (passing_over judges s old) →
+      next ≤ mid + trying_steps (length t.names) (length t.asked) (length old - length new) found → PageTakes (checks_over judges s) s.names s.document all page (clock start next)
+  last_try page row true some none few took =
+      let one = ap length (goes_on judges s t same old new row some) in
+      tried_some judges s all new page (ends_on all old new ends then_) start next (omega (arith, one, few)) (took_found true refl took)
+  last_try page row false some none few took =
+      let empty = ap length (goes_out judges s t same old new row none.0) in
+      tried_all judges s all page start next (omega (arith, empty, few)) (took_none false refl none.1 took)
+
+pub on_true : (b : Bool) (P : Type 0) → P → OnTrue b P
+on_true true P p = p
+on_true false P p = tt
+
+-- what was gone on to leaves fewer
+pub further : (judges : ℕ → List ℕ → Bool) (s : Source) (old new : List SpanRow) (row : SpanRow) → EndsIn old new → passing_over judges s old ≡ row ∷ passing_over judges s new → length new < length old
+further judges s old new row ([], is) next =
+    let same = ap (λ (rows : List SpanRow). length (passing_over judges s rows)) is in
+    let one = ap length next in
+    absurd (omega (arith, same, one))
+further judges s old new row (x ∷ front, is) next = let long = ap length is ∙ length-append (x ∷ front) new in omega (arith, long)
+
+-- ---- the note
+
+pub note_is : (names : List VarName) (n : ℕ) (given : Option (List ℕ)) (page rows : List SpanRow) (last : Option SpanRow) (more : Bool) →
+    OnTrue more (next_cursor names n (cursor_given names n last given) [] ≡ next_cursor names n given page) → IsTrue more ↔ (length page < length rows) →
+    last_note names n (cursor_given names n last given) [] more ≡ last_note names n given page (nat_lt (length page) (length rows))
+note_is names n given page rows last more cursor m = by more (nat_lt (length page) (length rows)) refl cursor m
+  where
+    by : (more b : Bool) → nat_lt (length page) (length rows) ≡ b → OnTrue more (next_cursor names n (cursor_given names n last given) [] ≡ next_cursor names n given page) →
+        IsTrue more ↔ (length page < length rows) → last_note names n (cursor_given names n last given) [] more ≡ last_note names n given page b
+    by true true is same both = ap (λ (t : List ℕ). line (codes "more " ++ t)) same
+    by true false is same both = absurd (true≢false (sym (le-leb (suc (length page)) (length rows) (both.0 refl)) ∙ is))
+    by false true is same both = absurd (true≢false (sym (both.1 (leb-true (suc (length page)) (length rows) is))))
+    by false false is same both = refl

@@ -26,29 +26,6 @@ pub Has-rest : (after : Option SpanRow) (rows rest : List SpanRow) (r : SpanRow)
 Has-rest None rows rest r is h = subst (λ (rs : List SpanRow). Has rs r) is h
 Has-rest (Some after) rows rest r is h = subst (λ (rs : List SpanRow). Has rs r) (sym is.1) (Has-append_right is.0 rest r h)
 
-first_is : (q : QueryTree) (d : List ℕ) (names : List VarName) (after : Option SpanRow) (limit : Option ℕ) (rows rest : List SpanRow) (more : Bool) →
-    AreAnswers q d names rows → IsRest after rows rest → IsTrue more ↔ (length (first_rows limit rest) < length rest) → IsPageOf q d names after limit (first_rows limit rest) more
-first_is q d names after (Some limit) rows rest more a is m = (
-  rows,
-  rest,
-  a,
-  is,
-  refl,
-  (λ t. let h = m.0 t in omega (arith, h, length-take limit rest), λ h. m.1 (omega (arith, h, length-take limit rest))),
-)
-first_is q d names after None rows rest true a is m = let h = m.0 refl in absurd (omega (arith, h))
-first_is q d names after None rows rest false a is m = (
-  length rest,
-  (rows, rest, a, is, sym (take_all (length rest) rest (omega arith)), (λ t. absurd (cc), λ h. absurd (omega (arith, h)))),
-  refl,
-)
-
-pub page_is : (q : QueryTree) (d : List ℕ) (names : List VarName) (after : Option SpanRow) (limit : Option ℕ) (rows rest page : List SpanRow) (more : Bool) →
-    AreAnswers q d names rows → IsRest after rows rest → page ≡ first_rows limit rest → IsTrue more ↔ (length page < length rest) → IsPageOf q d names after limit page more
-page_is q d names after limit rows rest page more a is first m =
-    subst (λ (p : List SpanRow). IsPageOf q d names after limit p more) (sym first)
-    (first_is q d names after limit rows rest more a is (subst (λ (p : List SpanRow). IsTrue more ↔ (length p < length rest)) first m))
-
 -- the rows of the page are answers
 pub page_rows_fit : (width n : ℕ) (after : Option SpanRow) (limit : Option ℕ) (rows rest page : List SpanRow) → AllFit width n rows → IsRest after rows rest → page ≡ first_rows limit rest → AllFit width n page
 page_rows_fit width n after limit rows rest page fit is first row h = fit row (Has-rest after rows rest row is (Has-first limit rest row (subst (λ (p : List SpanRow). Has p row) first h)))

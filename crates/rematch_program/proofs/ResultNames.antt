@@ -5,7 +5,7 @@ use Rattle.spanner_model.specs.Captures.{VarName}
 use Rattle.spanner_model.specs.Tree.{Tree, empty, one, cat_end, cat, alt_end, alt, rep, cap}
 use Rattle.spanner_model.specs.Sequential.{HasVar}
 use Rattle.spanner_model.specs.WellBuilt.{IsBuilt, AreParts, AreArms}
-use Rattle.spanner_model.specs.Expression.{ExprTree, QueryTree, atom, named, union_end, union, join_end, join, project}
+use Rattle.spanner_model.specs.Expression.{ExprTree, QueryTree, atom, named, union_end, union, join_end, join, minus, project}
 use Rattle.spanner_model.specs.Answer.{vars_of_lets, IsResultVar}
 use Rattle.spanner_model.specs.Sound.{IsSound, IsSoundExpr, AreUnited, AreJoined, NameIn, NameInLets, sure_of_lets}
 use Rattle.spanner_model.proofs.ExprLaws.{var_named, lets_named}
@@ -48,6 +48,8 @@ module _ (V S : ℕ → VarName → Type 0) (n : ℕ) where
     name_in (join e rest) x h (inl v) = name_in e x h.0 v
     name_in (join e rest) x h (inr v) = joined_in rest x h.1 v
     name_in (project kept e) x h v = name_in e x h.0 v
+    name_in (minus e g) x h (inl v) = name_in e x h.0 v
+    name_in (minus e g) x h (inr v) = name_in g x h.1 v
 
     united_in : (e : ExprTree) (x : VarName) → AreUnited V S n e → NameIn e x → IsTrue (is_name x)
     united_in union_end x h v = absurd v

@@ -14,7 +14,7 @@ use Rattle.spanner_model.specs.WellBuilt.{IsWellBuilt}
 use Rattle.formula_parser.specs.Spells.{AtomTree}
 use Rattle.place_automaton.specs.PlainCounts.{plain_states, plain_ways}
 use Rattle.rematch_program.specs.Explained.{atom_line, shown_number}
-use Rattle.rematch_program.specs.Notes.{line}
+use Rattle.note_texts.specs.Notes.{line}
 
 -- all answers by the definition that knows no absent variable, each once, in block order
 pub record AreTotalAnswers (q : QueryTree) (d : List ℕ) (names : List VarName) (rows : List SpanRow) : Type 0 where

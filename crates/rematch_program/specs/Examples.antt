@@ -4,7 +4,7 @@ use Rattle.spanner_model.specs.Expression.{QueryTree}
 use Rattle.spanner_model.specs.Examples.{free, query}
 use Rattle.place_automaton.specs.Examples.{many_a, many_optional}
 use Rattle.query_automaton.specs.Parts.{AtomsAreSmall}
-use Rattle.rematch_program.specs.Limits.{filter_note, table_note}
+use Rattle.note_texts.specs.Notes.{filter_note, table_note}
 
 -- /(a{1000}){20}/ and /((a?){1000}){3}/
 abbrev pub large_by_states : QueryTree

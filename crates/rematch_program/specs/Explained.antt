@@ -5,7 +5,7 @@ use Rattle.std.specs.Fmt.{decimal}
 use Rattle.spanner_model.specs.declared.formula.Atom.{Atom}
 use Rattle.spanner_model.specs.Captures.{VarName}
 use Rattle.spanner_model.specs.View.{tree_of}
-use Rattle.spanner_model.specs.Expression.{ExprTree, QueryTree, atom, named, union_end, union, join_end, join, project}
+use Rattle.spanner_model.specs.Expression.{ExprTree, QueryTree, atom, named, union_end, union, join_end, join, minus, project}
 use Rattle.spanner_model.specs.Sequential.{HasVar, IsSequential}
 use Rattle.spanner_model.specs.WellBuilt.{IsWellBuilt}
 use Rattle.span_core.specs.Lists.{AtMost, Has}
@@ -13,7 +13,7 @@ use Rattle.span_core.specs.declared.TheConstants.{MOST_VARIABLES}
 use Rattle.formula_parser.specs.Spells.{AtomTree}
 use Rattle.query_printer.specs.PrintedQuery.{joined, query_text}
 use Rattle.place_automaton.specs.Counts.{count_states, count_ways}
-use Rattle.rematch_program.specs.Notes.{line}
+use Rattle.note_texts.specs.Notes.{line}
 
 -- the atoms of an expression, from left to right
 abbrev pub atoms_of : ExprTree → List AtomTree
@@ -24,6 +24,7 @@ atoms_of (union e rest) = atoms_of e ++ atoms_of rest
 atoms_of join_end = []
 atoms_of (join e rest) = atoms_of e ++ atoms_of rest
 atoms_of (project kept e) = atoms_of e
+atoms_of (minus e g) = atoms_of e ++ atoms_of g
 
 -- the atoms of parts, from left to right
 abbrev pub atoms_among : List ExprTree → List AtomTree

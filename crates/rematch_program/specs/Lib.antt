@@ -12,3 +12,7 @@ pub mod Run
 pub mod Complete
 pub mod Resume
 pub mod Examples
+pub mod Testing
+pub mod WithoutTests
+pub mod Taking
+pub mod All

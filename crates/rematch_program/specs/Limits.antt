@@ -1,6 +1,5 @@
 -- The limits that a query and a document may pass.
-use Rattle.std.specs.Prelude.{◌≡◌, ◌≤◌, ◌⊎◌, ℕ, List, ◌++◌, Some, codes, length, slice_get}
-use Rattle.std.specs.Fmt.{decimal}
+use Rattle.std.specs.Prelude.{◌≡◌, ◌≤◌, ◌⊎◌, ℕ, List, Some, length, slice_get}
 use Rattle.spanner_model.specs.Captures.{VarName}
 use Rattle.spanner_model.specs.Expression.{ExprTree, QueryTree}
 use Rattle.marked_automaton.specs.declared.TheConstants.{MOST_STATES, MOST_WAYS}
@@ -16,16 +15,3 @@ IsPartOfQuery q n =
 -- no part of the query is too large
 abbrev pub PartsAreSmall : QueryTree → Type 0
 PartsAreSmall q = (n : PartNumbers) → IsPartOfQuery q n → (n.states ≤ MOST_STATES) × (n.ways ≤ MOST_WAYS)
-
--- the notes
-abbrev pub states_note : List ℕ
-states_note = codes "size: more than 20000 states"
-
-abbrev pub ways_note : List ℕ
-ways_note = codes "size: more than 2000000 ways"
-
-abbrev pub filter_note : ℕ → List ℕ
-filter_note limit = codes "size: filter past " ++ decimal limit
-
-abbrev pub table_note : ℕ → List ℕ
-table_note limit = codes "size: table past " ++ decimal limit

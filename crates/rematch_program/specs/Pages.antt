@@ -13,7 +13,7 @@ use Rattle.command_line.specs.declared.request.Form.{Form}
 use Rattle.command_line.specs.declared.request.Form.TheVariants as form
 use Rattle.std.specs.List.{flat_map, list_all}
 use Rattle.cell_text.specs.Cells.{ends_by}
-use Rattle.rematch_program.specs.Notes.{line}
+use Rattle.note_texts.specs.Notes.{line}
 
 -- ---- where the page begins
 

@@ -1,7 +1,7 @@
--- What a run does: the relation between the words, what the shelf holds, the faults that rose, the
+-- What a run does under the tests that are known: the relation between the words, what the shelf holds, the faults that rose, the
 -- bytes added to out and notes, the steps taken, and the status. The first case that applies is taken. Want of memory
 -- may stand in place of any.
-use Rattle.std.specs.Prelude.{◌≡◌, ◌≢◌, ◌<◌, ◌≤◌, ℕ, List, Bool, Option, Some, None, IfSome, IsTrue, length, codes}
+use Rattle.std.specs.Prelude.{◌≡◌, ◌≢◌, ◌<◌, ◌≤◌, ℕ, List, [], Bool, false, Option, Some, None, IfSome, IsTrue, length, codes}
 use Rattle.rm_outside.specs.Faults.{Rose}
 use Rattle.rm_outside.specs.declared.status.Status.{Status}
 use Rattle.rm_outside.specs.declared.status.Status.TheVariants as status
@@ -11,22 +11,24 @@ use Rattle.command_line.specs.declared.request.Mode.TheVariants as mode
 use Rattle.span_core.specs.declared.kept.Kept.{Kept}
 use Rattle.spanner_model.specs.Captures.{VarName}
 use Rattle.spanner_model.specs.Expression.{QueryTree}
-use Rattle.spanner_model.specs.Answers.{SpanRow, AreResultNames, AreAnswers}
+use Rattle.spanner_model.specs.Answers.{SpanRow, AreResultNames}
 use Rattle.query_parser.specs.declared.fault.QueryFault.{QueryFault}
-use Rattle.query_parser.specs.Faults.{IsQueryText, HasFault}
+use Rattle.query_parser.specs.Tested.{TestedTree, IsTestedText}
 use Rattle.row_cursor.specs.CursorTexts.{IsCursorText}
 use Rattle.rematch_program.specs.declared.TheConstants.{QUERY_LIMIT, DOCUMENT_LIMIT}
 use Rattle.marked_automaton.specs.declared.fault.SizeFault.TheVariants.{States, Ways}
 use Rattle.query_automaton.specs.Parts.{AtomsAreSmall, HasLargePart}
 use Rattle.trial_maker.specs.Trial.{trial_text}
+use Rattle.filter_laws.specs.Touching.{HasMinus}
 use Rattle.rematch_program.specs.Change.{Change, Clock, Work, clock, work, IsQuiet, Adds, AddsPart, Failed, StandsStill, DidNothing}
-use Rattle.rematch_program.specs.Explained.{explain_text}
+use Rattle.rematch_program.specs.Testing.{AreAllPassing, IsPassingPageOf, PageKeeps, TrialKeeps, explain_tested}
 use Rattle.spanner_engine.specs.Begun.{AreRead, HasHeavyAtom, IsPast, KeepsOther, begin_steps, row_kept, table_weight}
-use Rattle.rematch_program.specs.Limits.{states_note, ways_note, filter_note, table_note}
-use Rattle.rematch_program.specs.Steps.{KeepsWithin, stated_steps}
+use Rattle.spanner_engine.specs.Passing.{AreKnown, Check, Known, HasFaultUnder, IsOnlyTested, checks_of, known}
+use Rattle.note_texts.specs.Notes.{counted, fault_note, filter_note, line, states_note, table_note, ways_note}
+use Rattle.rematch_program.specs.Steps.{KeepsWithin}
 use Rattle.rematch_program.specs.Trials.{trial_summary}
-use Rattle.rematch_program.specs.Notes.{line, fault_note, other_document_note}
-use Rattle.rematch_program.specs.Pages.{IsAfter, CursorFits, IsPageOf, page_text, last_note}
+use Rattle.rematch_program.specs.Notes.{other_document_note}
+use Rattle.rematch_program.specs.Pages.{IsAfter, CursorFits, page_text, last_note}
 
 abbrev pub Text : Type 0
 Text = List ℕ
@@ -52,16 +54,11 @@ pub record Gives (s : Store) (name : Text) (limit : ℕ) (bytes : Text) : Type 0
 abbrev pub IsTooLong : Store → Text → ℕ → Type 0
 IsTooLong s name limit = IfSome (s.held name) (λ all. limit < length all)
 
--- the text is that of this sound query, and of no other
-pub record IsOnlyQuery (text : Text) (q : QueryTree) : Type 0 where
-  pub spelled : IsQueryText text q
-  pub only : (other : QueryTree) → IsQueryText text other → other ≡ q
-
--- the text has this fault, and no other, and is that of no sound query
-pub record IsOnlyFault (text : Text) (fault : QueryFault) : Type 0 where
-  pub found : HasFault text fault
-  pub only : (other : QueryFault) → HasFault text other → other ≡ fault
-  pub unsound : (q : QueryTree) → ¬ IsQueryText text q
+-- the text has this fault under the tests that are known, and no other, and is that of no sound query whose tests are known
+pub record IsOnlyFault (k : Known) (text : Text) (fault : QueryFault) : Type 0 where
+  pub found : HasFaultUnder k text fault
+  pub only : (other : QueryFault) → HasFaultUnder k text other → other ≡ fault
+  pub unsound : (t : TestedTree) → IsTestedText text t → ¬ AreKnown k t.asked
 
 -- a status with its note, before the note is written
 pub record Is (end : Status) (note : Text) (wanted : Status) (text : Text) : Type 0 where
@@ -71,67 +68,80 @@ pub record Is (end : Status) (note : Text) (wanted : Status) (text : Text) : Typ
 abbrev pub IsOutOfMemory : Status → Text → Type 0
 IsOutOfMemory end note = Is end note status.Memory (codes "out of memory")
 
--- with the text, the note at its end, and what the counter of steps keeps to while it is written
-pub data FromPage (text last : Text) (Keeps : Clock → Type 0) (w : Work) (end : Status) (note : Text) : Type 0 where
-  whole : end ≡ status.Done → note ≡ last → Adds w.out text → Keeps w.steps → FromPage text last Keeps w end note
-  write_failed : Is end note status.Write (codes "write failed") → Failed w.out → AddsPart w.out text → Keeps w.steps → FromPage text last Keeps w end note
-  out_of_memory : IsOutOfMemory end note → AddsPart w.out text → Keeps w.steps → FromPage text last Keeps w end note
+-- an automaton of the query is too large, or memory is wanting
+pub data IsTooLarge (q : QueryTree) (end : Status) (note : Text) : Type 0 where
+  by_states : (count : ℕ) → HasLargePart q (States count) → Is end note status.Size states_note → IsTooLarge q end note
+  by_ways : (count : ℕ) → HasLargePart q (Ways count) → Is end note status.Size ways_note → IsTooLarge q end note
+  by_memory : IsOutOfMemory end note → IsTooLarge q end note
 
--- with all that is needed: a page of the answers, or the summary of them all
-pub data FromAnswers (a : Asked) (q : QueryTree) (names : List VarName) (after : Option Kept) (document : Text) (w : Work) (end : Status) (note : Text) : Type 0 where
-  paged : a.mode ≡ mode.Plain → (rows : List SpanRow) (more : Bool) → IsPageOf q document names (row_kept after) a.limit rows more →
-      FromPage (page_text a.form a.texts names document rows) (last_note names (length document) a.after rows more)
-      (KeepsWithin a.filter q document (λ K. stated_steps a.filter q names document K (row_kept after) (length rows))) w end note →
-      FromAnswers a q names after document w end note
-  summed : (lines : ℕ) → a.mode ≡ mode.Trial lines → (rows : List SpanRow) → AreAnswers q document names rows →
-      FromPage (trial_summary lines names document rows) (line (codes "end"))
-      (KeepsWithin a.filter q document (λ K. stated_steps a.filter q names document K None (length rows))) w end note →
-      FromAnswers a q names after document w end note
+-- no answer is begun with the document: the cursor keeps another length, or none and a span of it ends past the document; with the
+-- filter, and where no difference stands in the query's text, what the two readings of some atom meet weighs too much; reading it where
+-- it is read does; or memory is wanting
+module _ (filter : Bool) (q : QueryTree) (after : Option Kept) (document : Text) (max_table : ℕ) (steps : Clock) (end : Status) (note : Text) where
+  -- the steps of the work that was done
+  abbrev pub KeepsBegun : Type 0
+  KeepsBegun = KeepsWithin filter q document (λ K. begin_steps filter q document K (row_kept after)) steps
 
--- no answer is begun with the document: the cursor keeps another length, or none and a span of it ends past the document; with the filter, what the two readings of some atom meet
--- weighs too much; reading it where it is read does; or memory is wanting
-pub data IsNotBegun (filter : Bool) (q : QueryTree) (after : Option Kept) (document : Text) (max_table : ℕ) (steps : Clock) (end : Status) (note : Text) : Type 0 where
-  other_document : (kept : ℕ) → KeepsOther (length document) after kept → Is end note status.Cursor (other_document_note kept (length document)) → StandsStill steps →
-      IsNotBegun filter q after document max_table steps end note
-  past_the_document : IsPast (length document) after → Is end note status.Cursor (codes "cursor: past the document") → StandsStill steps →
-      IsNotBegun filter q after document max_table steps end note
-  filter_full : CursorFits (length document) after → IsTrue filter → HasHeavyAtom q document max_table → Is end note status.Size (filter_note max_table) →
-      KeepsWithin filter q document (λ K. begin_steps filter q document K (row_kept after)) steps → IsNotBegun filter q after document max_table steps end note
-  table_full : CursorFits (length document) after → ((K : ℕ → Bool) → AreRead filter q document K → max_table < table_weight q document K) →
-      Is end note status.Size (table_note max_table) →
-      KeepsWithin filter q document (λ K. begin_steps filter q document K (row_kept after)) steps → IsNotBegun filter q after document max_table steps end note
-  by_memory : IsOutOfMemory end note → KeepsWithin filter q document (λ K. begin_steps filter q document K (row_kept after)) steps →
-      IsNotBegun filter q after document max_table steps end note
+  pub data IsNotBegun : Type 0 where
+    other_document : (kept : ℕ) → KeepsOther (length document) after kept → Is end note status.Cursor (other_document_note kept (length document)) → StandsStill steps → IsNotBegun
+    past_the_document : IsPast (length document) after → Is end note status.Cursor (codes "cursor: past the document") → StandsStill steps → IsNotBegun
+    filter_full : CursorFits (length document) after → IsTrue filter → ¬ HasMinus q → HasHeavyAtom q document max_table → Is end note status.Size (filter_note max_table) → KeepsBegun → IsNotBegun
+    table_full : CursorFits (length document) after → ((K : ℕ → Bool) → AreRead filter q document K → max_table < table_weight q document K) →
+        Is end note status.Size (table_note max_table) → KeepsBegun → IsNotBegun
+    by_memory : IsOutOfMemory end note → KeepsBegun → IsNotBegun
 
--- with the document
-pub data FromDocument (a : Asked) (q : QueryTree) (names : List VarName) (after : Option Kept) (document : Text) (w : Work) (end : Status) (note : Text) : Type 0 where
-  not_begun : IsNotBegun a.filter q after document a.max_table w.steps end note → IsQuiet w.out → FromDocument a q names after document w end note
-  out_of_memory : IsOutOfMemory end note → DidNothing w → FromDocument a q names after document w end note
-  answered : CursorFits (length document) after → FromAnswers a q names after document w end note → FromDocument a q names after document w end note
+-- ---- the stages, the last first: w is what the work did, which ends with this status and this note
 
--- with the place where the page begins
-pub data FromPlace (a : Asked) (q : QueryTree) (names : List VarName) (after : Option Kept) (s : Store) (w : Work) (end : Status) (note : Text) : Type 0 where
-  document_failed : FetchFailed s a.document → Is end note status.Read (codes "read failed: document") → DidNothing w → FromPlace a q names after s w end note
-  document_too_long : IsTooLong s a.document DOCUMENT_LIMIT → Is end note status.Long (codes "document longer than 268435456 bytes") → DidNothing w →
-      FromPlace a q names after s w end note
-  out_of_memory : IsOutOfMemory end note → DidNothing w → FromPlace a q names after s w end note
-  found : (document : Text) → Gives s a.document DOCUMENT_LIMIT document → FromDocument a q names after document w end note →
-      FromPlace a q names after s w end note
+module _ (w : Work) (end : Status) (note : Text) where
+  -- with the text, the note at its end, and what the counter of steps keeps to while it is written
+  pub data FromPage (text last : Text) (Keeps : Clock → Type 0) : Type 0 where
+    whole : end ≡ status.Done → note ≡ last → Adds w.out text → Keeps w.steps → FromPage text last Keeps
+    write_failed : Is end note status.Write (codes "write failed") → Failed w.out → AddsPart w.out text → Keeps w.steps → FromPage text last Keeps
+    out_of_memory : IsOutOfMemory end note → AddsPart w.out text → Keeps w.steps → FromPage text last Keeps
 
--- with the query's automaton, for a page; `names` are those of its result
-pub data FromCursor (a : Asked) (q : QueryTree) (names : List VarName) (s : Store) (w : Work) (end : Status) (note : Text) : Type 0 where
-  no_cursor : (text : Text) → a.after ≡ Some text → ((others : List VarName) (row : SpanRow) (kept : Option ℕ) → ¬ IsCursorText others row kept text) →
-      Is end note status.Cursor (codes "cursor: not a cursor") → DidNothing w → FromCursor a q names s w end note
-  other_variables : (text : Text) → a.after ≡ Some text → (others : List VarName) (row : SpanRow) (kept : Option ℕ) → IsCursorText others row kept text → others ≢ names →
-      Is end note status.Cursor (codes "cursor: other variables") → DidNothing w → FromCursor a q names s w end note
-  placed : (after : Option Kept) → IsAfter names a.after after → FromPlace a q names after s w end note → FromCursor a q names s w end note
+-- what the query is was told, or memory is wanting
+pub data IsExplained (t : TestedTree) (out : Change) (end : Status) (note : Text) : Type 0 where
+  told_names : (names : List VarName) → AreResultNames t.query names → FromPage (work out (clock 0 0)) end note (explain_tested t names) (line (codes "end")) StandsStill →
+      IsExplained t out end note
+  by_memory : IsOutOfMemory end note → IsQuiet out → IsExplained t out end note
 
--- with the query's automaton; a trial takes the made document, and all of its answers
-pub data FromCompiled (a : Asked) (q : QueryTree) (s : Store) (w : Work) (end : Status) (note : Text) : Type 0 where
-  out_of_memory : IsOutOfMemory end note → DidNothing w → FromCompiled a q s w end note
-  page_asked : a.mode ≡ mode.Plain → (names : List VarName) → AreResultNames q names → FromCursor a q names s w end note → FromCompiled a q s w end note
-  trial_asked : (lines : ℕ) → a.mode ≡ mode.Trial lines → (names : List VarName) → AreResultNames q names →
-      FromDocument a q names None (trial_text lines) w end note → FromCompiled a q s w end note
+module _ (a : Asked) (q : QueryTree) (checks : List Check) (w : Work) (end : Status) (note : Text) where
+  -- with all that is needed: a page of the answers that pass, or the summary of them all
+  pub data FromAnswers (names : List VarName) (after : Option Kept) (document : Text) : Type 0 where
+    paged : a.mode ≡ mode.Plain → (rows : List SpanRow) (more : Bool) → IsPassingPageOf checks q document names (row_kept after) a.limit rows more →
+        FromPage w end note (page_text a.form a.texts names document rows) (last_note names (length document) a.after rows more)
+        (PageKeeps checks a.filter q names document (row_kept after) rows) → FromAnswers names after document
+    summed : (lines : ℕ) → a.mode ≡ mode.Trial lines → (rows : List SpanRow) → AreAllPassing checks q document names rows →
+        FromPage w end note (trial_summary lines names document rows) (line (codes "end")) (TrialKeeps checks a.filter q names document rows) →
+        FromAnswers names after document
+
+  -- with the document
+  pub data FromDocument (names : List VarName) (after : Option Kept) (document : Text) : Type 0 where
+    not_begun : IsNotBegun a.filter q after document a.max_table w.steps end note → IsQuiet w.out → FromDocument names after document
+    out_of_memory : IsOutOfMemory end note → DidNothing w → FromDocument names after document
+    answered : CursorFits (length document) after → FromAnswers names after document → FromDocument names after document
+
+  module _ (s : Store) where
+    -- with the place where the page begins
+    pub data FromPlace (names : List VarName) (after : Option Kept) : Type 0 where
+      document_failed : FetchFailed s a.document → Is end note status.Read (codes "read failed: document") → DidNothing w → FromPlace names after
+      document_too_long : IsTooLong s a.document DOCUMENT_LIMIT → Is end note status.Long (counted (codes "document longer than ") DOCUMENT_LIMIT (codes " bytes")) → DidNothing w → FromPlace names after
+      out_of_memory : IsOutOfMemory end note → DidNothing w → FromPlace names after
+      found : (document : Text) → Gives s a.document DOCUMENT_LIMIT document → FromDocument names after document → FromPlace names after
+
+    -- with the query's automaton, for a page; `names` are those of its result
+    pub data FromCursor (names : List VarName) : Type 0 where
+      no_cursor : (text : Text) → a.after ≡ Some text → ((others : List VarName) (row : SpanRow) (kept : Option ℕ) → ¬ IsCursorText others row kept text) →
+          Is end note status.Cursor (codes "cursor: not a cursor") → DidNothing w → FromCursor names
+      other_variables : (text : Text) → a.after ≡ Some text → (others : List VarName) (row : SpanRow) (kept : Option ℕ) → IsCursorText others row kept text → others ≢ names →
+          Is end note status.Cursor (codes "cursor: other variables") → DidNothing w → FromCursor names
+      placed : (after : Option Kept) → IsAfter names a.after after → FromPlace names after → FromCursor names
+
+    -- with the query's automaton; a trial takes the made document, and all of its answers
+    pub data FromCompiled : Type 0 where
+      out_of_memory : IsOutOfMemory end note → DidNothing w → FromCompiled
+      page_asked : a.mode ≡ mode.Plain → (names : List VarName) → AreResultNames q names → FromCursor names → FromCompiled
+      trial_asked : (lines : ℕ) → a.mode ≡ mode.Trial lines → (names : List VarName) → AreResultNames q names → FromDocument names None (trial_text lines) → FromCompiled
 
 -- the answers are asked for, on a document that is held or on a made one
 abbrev pub WantsAnswers : Mode → Type 0
@@ -139,46 +149,36 @@ WantsAnswers mode.Plain = Unit {0}
 WantsAnswers mode.Explain = ⊥
 WantsAnswers (mode.Trial lines) = Unit {0}
 
--- what the query is was told, or memory is wanting
-pub data IsExplained (q : QueryTree) (out : Change) (end : Status) (note : Text) : Type 0 where
-  told_names : (names : List VarName) → AreResultNames q names → FromPage (explain_text q names) (line (codes "end")) StandsStill (work out (clock 0 0)) end note →
-      IsExplained q out end note
-  by_memory : IsOutOfMemory end note → IsQuiet out → IsExplained q out end note
+module _ (s : Store) (w : Work) (end : Status) (note : Text) where
+  -- with the query and the checks of its tests
+  pub data FromQuery (a : Asked) (t : TestedTree) (checks : List Check) : Type 0 where
+    explained : a.mode ≡ mode.Explain → IsExplained t w.out end note → StandsStill w.steps → FromQuery a t checks
+    too_large : WantsAnswers a.mode → IsTooLarge t.query end note → DidNothing w → FromQuery a t checks
+    out_of_memory : IsOutOfMemory end note → DidNothing w → FromQuery a t checks
+    compiled : WantsAnswers a.mode → AtomsAreSmall t.query → FromCompiled a t.query checks w end note s → FromQuery a t checks
 
--- an automaton of the query is too large, or memory is wanting
-pub data IsTooLarge (q : QueryTree) (end : Status) (note : Text) : Type 0 where
-  by_states : (count : ℕ) → HasLargePart q (States count) → Is end note status.Size states_note → IsTooLarge q end note
-  by_ways : (count : ℕ) → HasLargePart q (Ways count) → Is end note status.Size ways_note → IsTooLarge q end note
-  by_memory : IsOutOfMemory end note → IsTooLarge q end note
+  module _ (k : Known) where
+    -- with the query's text
+    pub data FromText (a : Asked) (text : Text) : Type 0 where
+      query_refused : (fault : QueryFault) → IsOnlyFault k text fault → Is end note status.Query (fault_note fault) → DidNothing w → FromText a text
+      out_of_memory : IsOutOfMemory end note → DidNothing w → FromText a text
+      understood : (t : TestedTree) → IsOnlyTested k text t → FromQuery a t (checks_of k t.asked) → FromText a text
 
--- with the query
-pub data FromQuery (a : Asked) (q : QueryTree) (s : Store) (w : Work) (end : Status) (note : Text) : Type 0 where
-  explained : a.mode ≡ mode.Explain → IsExplained q w.out end note → StandsStill w.steps → FromQuery a q s w end note
-  too_large : WantsAnswers a.mode → IsTooLarge q end note → DidNothing w → FromQuery a q s w end note
-  out_of_memory : IsOutOfMemory end note → DidNothing w → FromQuery a q s w end note
-  compiled : WantsAnswers a.mode → AtomsAreSmall q → FromCompiled a q s w end note → FromQuery a q s w end note
+    -- with the words' meaning
+    pub data FromAsked (a : Asked) : Type 0 where
+      given : (text : Text) → a.query ≡ Itself text → FromText a text → FromAsked a
+      query_failed : (name : Text) → a.query ≡ HeldBy name → FetchFailed s name → Is end note status.Read (codes "read failed: query") → DidNothing w → FromAsked a
+      query_too_long : (name : Text) → a.query ≡ HeldBy name → IsTooLong s name QUERY_LIMIT → Is end note status.Query (counted (codes "query: longer than ") QUERY_LIMIT (codes " bytes")) → DidNothing w → FromAsked a
+      out_of_memory : IsOutOfMemory end note → DidNothing w → FromAsked a
+      fetched : (name : Text) → a.query ≡ HeldBy name → (text : Text) → Gives s name QUERY_LIMIT text → FromText a text → FromAsked a
 
--- with the query's text
-pub data FromText (a : Asked) (text : Text) (s : Store) (w : Work) (end : Status) (note : Text) : Type 0 where
-  query_refused : (fault : QueryFault) → IsOnlyFault text fault → Is end note status.Query (fault_note fault) → DidNothing w → FromText a text s w end note
-  out_of_memory : IsOutOfMemory end note → DidNothing w → FromText a text s w end note
-  understood : (q : QueryTree) → IsOnlyQuery text q → FromQuery a q s w end note → FromText a text s w end note
+    -- with the words
+    pub data FromWords (words : List Text) : Type 0 where
+      refused : asked words ≡ None → Is end note status.Words (codes "bad command line") → DidNothing w → FromWords words
+      out_of_memory : IsOutOfMemory end note → DidNothing w → FromWords words
+      accepted : (a : Asked) → asked words ≡ Some a → FromAsked a → FromWords words
 
--- with the words' meaning
-pub data FromAsked (a : Asked) (s : Store) (w : Work) (end : Status) (note : Text) : Type 0 where
-  given : (text : Text) → a.query ≡ Itself text → FromText a text s w end note → FromAsked a s w end note
-  query_failed : (name : Text) → a.query ≡ HeldBy name → FetchFailed s name → Is end note status.Read (codes "read failed: query") → DidNothing w →
-      FromAsked a s w end note
-  query_too_long : (name : Text) → a.query ≡ HeldBy name → IsTooLong s name QUERY_LIMIT → Is end note status.Query (codes "query: longer than 65536 bytes") → DidNothing w →
-      FromAsked a s w end note
-  out_of_memory : IsOutOfMemory end note → DidNothing w → FromAsked a s w end note
-  fetched : (name : Text) → a.query ≡ HeldBy name → (text : Text) → Gives s name QUERY_LIMIT text → FromText a text s w end note → FromAsked a s w end note
-
--- with the words
-pub data FromWords (words : List Text) (s : Store) (w : Work) (end : Status) (note : Text) : Type 0 where
-  refused : asked words ≡ None → Is end note status.Words (codes "bad command line") → DidNothing w → FromWords words s w end note
-  out_of_memory : IsOutOfMemory end note → DidNothing w → FromWords words s w end note
-  accepted : (a : Asked) → asked words ≡ Some a → FromAsked a s w end note → FromWords words s w end note
+-- ---- the run
 
 -- a page whose note failed is a failed write
 abbrev pub status_without_note : Status → Status
@@ -190,9 +190,17 @@ pub data Reports (end : Status) (note : Text) (notes : Change) (result : Status)
   whole : result ≡ end → Adds notes note → Reports end note notes result
   cut : result ≡ status_without_note end → Failed notes → AddsPart notes note → Reports end note notes result
 
--- a run
-pub record Run (words : List Text) (s : Store) (out notes : Change) (steps : Clock) (result : Status) : Type 0 where
+-- a run under the tests that are known
+pub record RunTested (k : Known) (words : List Text) (s : Store) (out notes : Change) (steps : Clock) (result : Status) : Type 0 where
   pub end : Status
   pub note : Text
-  pub done : FromWords words s (work out steps) end note
+  pub done : FromWords s (work out steps) end note k words
   pub report : Reports end note notes result
+
+-- no test is known
+abbrev pub none_known : Known
+none_known = known [] (λ number bytes. false)
+
+-- a run where no test is known
+abbrev pub Run : List Text → Store → Change → Change → Clock → Status → Type 0
+Run words s out notes steps result = RunTested none_known words s out notes steps result

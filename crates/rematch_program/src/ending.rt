@@ -1,6 +1,6 @@
 //! How the work of a run ended, before its note is written.
 ghost use Rattle.std.specs.Prelude.{◌≡◌, codes};
-ghost use Rattle.rematch_program.specs.Notes.{line};
+ghost use Rattle.note_texts.specs.Notes.{line};
 ghost use Rattle.rematch_program.specs.Ending.{note_bytes};
 
 use rm_outside::Status;

@@ -1,32 +1,35 @@
-//! What a query is: its printed form, the variables of its result, and the numbers of its atoms.
+//! What a query is: its printed form with its tests, the variables of its result, and the numbers of its atoms.
 ghost use Rattle.std.specs.Prelude.{◌≡◌, ℕ, ◌+◌, ◌++◌, [], ◌∷◌, List, codes, length, IfOk, OnOk, OnErr, IsErrOf};
 ghost use Rattle.spanner_model.specs.Captures.{VarName};
 ghost use Rattle.spanner_model.specs.ExprView.{expr_of, exprs_of, query_of};
 ghost use Rattle.spanner_model.specs.View.{tree_of};
 ghost use Rattle.spanner_model.specs.Sound.{IsSound};
 ghost use Rattle.spanner_model.specs.Answers.{AreResultNames};
+ghost use Rattle.query_parser.specs.TestedView.{tested_of};
 ghost use Rattle.rematch_program.specs.Change.{change, work, clock, StandsStill};
 ghost use Rattle.rematch_program.specs.Ending.{note_bytes};
-ghost use Rattle.rematch_program.specs.Explained.{AreCounted, HasLines, IsCounted, atom_at, atoms_among, atoms_in, atoms_of, explain_text, names_text};
-ghost use Rattle.rematch_program.specs.Notes.{line};
+ghost use Rattle.rematch_program.specs.Explained.{AreCounted, HasLines, IsCounted, atom_at, atoms_among, atoms_in, atoms_of, names_text};
+ghost use Rattle.note_texts.specs.Notes.{line};
 ghost use Rattle.rematch_program.specs.Run.{FromPage, IsExplained};
+ghost use Rattle.rematch_program.specs.Testing.{explain_tested, test_text, tests_text};
 
 use crate::ending::Ending;
 use place_automaton::{Counts, count};
+use query_parser::{Asked, Asks, Tested};
 use query_printer::print_query;
 use rm_outside::{Sink, SinkFailed, Status};
 use span_core::{OutOfMemory, VarSet};
 use spanner_model::{Atom, Expr, Exprs, Query, variables};
 use std::alloc::Global;
 
-/// Puts the lines that explain a query, all at once. No automaton is made.
-pub fn write_explanation<O: Sink>(alloc: Global, query: &Query, out: &mut O) -> Ending
-    requires sound { IsSound (query_of query.now) }
-    ensures case { IsExplained (query_of query.now)
+/// Puts the lines that explain a query with its tests, all at once. No automaton is made.
+pub fn write_explanation<O: Sink>(alloc: Global, tested: &Tested, out: &mut O) -> Ending
+    requires sound { IsSound (query_of tested.now.query) }
+    ensures case { IsExplained (tested_of tested.now)
         (change (O.written out.old) (O.written out.new) (O.faults out.old) (O.faults out.new))
         result.status (note_bytes result.note) }
 {
-    match explanation(alloc, query) {
+    match explanation(alloc, tested) {
         Ok(text) => put_text(&text, out),
         Err(OutOfMemory) => Ending::out_of_memory(),
     }
@@ -34,9 +37,10 @@ pub fn write_explanation<O: Sink>(alloc: Global, query: &Query, out: &mut O) -> 
 
 /// Puts a text whole.
 fn put_text<O: Sink>(text: &[u8], out: &mut O) -> Ending
-    ensures case { FromPage text.now (line (codes "end")) StandsStill
+    ensures case { FromPage
         (work (change (O.written out.old) (O.written out.new) (O.faults out.old) (O.faults out.new)) (clock 0 0))
-        result.status (note_bytes result.note) }
+        result.status (note_bytes result.note)
+        text.now (line (codes "end")) StandsStill }
 {
     match out.put(text) {
         Ok(()) => Ending::with(Status::Done, "end\n"),
@@ -44,21 +48,50 @@ fn put_text<O: Sink>(text: &[u8], out: &mut O) -> Ending
     }
 }
 
-/// The lines that explain a query.
-fn explanation(alloc: Global, query: &Query) -> Result<Vec<u8>, OutOfMemory>
-    requires { IsSound (query_of query.now) }
-    ensures { IfOk result (λ text. (names : List VarName) × AreResultNames (query_of query.now) names × (text.items ≡ explain_text (query_of query.now) names)) }
+/// The lines that explain a query with its tests.
+fn explanation(alloc: Global, tested: &Tested) -> Result<Vec<u8>, OutOfMemory>
+    requires { IsSound (query_of tested.now.query) }
+    ensures { IfOk result (λ text. (names : List VarName) × AreResultNames (query_of tested.now.query) names × (text.items ≡ explain_tested (tested_of tested.now) names)) }
 {
+    let query = &tested.query;
     let vars = variables(alloc, query)?;
     let mut text = Vec::new(alloc);
     text.extend_from_slice(b"query ")?;
     print_query(query, &mut text)?;
+    push_tests(&tested.asked, &mut text)?;
     text.extend_from_slice(b"\nvariables ")?;
     push_names(&vars, &mut text)?;
     text.push(b'\n')?;
     let atoms = push_let_atoms(alloc, query, &mut text)?;
     let _all = push_atoms(alloc, &query.body, atoms, &mut text)?;
     Ok(text)
+}
+
+/// Appends the tests, where there are any.
+fn push_tests(asked: &Asks, text: &mut Vec<u8>) -> Result<(), OutOfMemory>
+    ensures { OnOk result (text.new.items ≡ text.old.items ++ tests_text asked.now) }
+{
+    if asked.len() == 0 {
+        return Ok(());
+    }
+    text.extend_from_slice(b" where ")?;
+    push_test(asked.at(0), text)?;
+    for k in 1..asked.len() {
+        text.extend_from_slice(b", ")?;
+        push_test(asked.at(k), text)?;
+    }
+    Ok(())
+}
+
+/// Appends a test.
+fn push_test(asked: &Asked, text: &mut Vec<u8>) -> Result<(), OutOfMemory>
+    ensures { OnOk result (text.new.items ≡ text.old.items ++ test_text asked.now) }
+{
+    text.extend_from_slice(asked.test.as_bytes())?;
+    text.push(b'(')?;
+    text.extend_from_slice(asked.var.as_bytes())?;
+    text.push(b')')?;
+    Ok(())
 }
 
 /// Appends the names with a space between, or the word `none`.
@@ -106,6 +139,10 @@ fn push_atoms(
         Expr::Union(parts) => push_parts(alloc, parts, before, text),
         Expr::Join(parts) => push_parts(alloc, parts, before, text),
         Expr::Project(_kept, sub) => push_atoms(alloc, sub, before, text),
+        Expr::Minus(left, right) => {
+            let atoms = push_atoms(alloc, left, before, text)?;
+            push_atoms(alloc, right, atoms, text)
+        }
     }
 }
 

@@ -3,6 +3,7 @@ ghost use Rattle.rematch_program.specs.AsBefore.{FunctionalQueriesAreServedAsBef
 ghost use Rattle.rematch_program.specs.Complete.{CompletenessLaw};
 ghost use Rattle.rematch_program.specs.Examples.{NoteExamples, SizeExamples};
 ghost use Rattle.rematch_program.specs.Resume.{PagesResume};
+ghost use Rattle.rematch_program.specs.WithoutTests.{WithoutTests};
 
 /// Pages that are resumed at the cursors of their own notes join.
 ///
@@ -29,4 +30,9 @@ pub fn completeness_follows()
 pub fn worked_examples()
     ensures notes { NoteExamples }
     ensures sizes { SizeExamples }
+{}
+
+/// A query without tests runs as before there were any, whatever tests are known.
+pub fn queries_without_tests_run_as_before()
+    ensures { WithoutTests }
 {}

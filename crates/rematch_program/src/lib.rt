@@ -5,9 +5,12 @@
 //! note comes when, in terms of what a query means and never of how it is evaluated.
 #![tactic(auto)]
 
+pub use all::run_all;
 pub use laws::{completeness_follows, pages_resume, worked_examples};
-pub use top::run;
+pub use top::{run, run_tested};
+pub use untested::NoJudge;
 
+mod all;
 mod ending;
 mod explanation;
 mod gather;
@@ -19,9 +22,13 @@ mod summary;
 #[cfg(test)]
 mod tests;
 mod top;
+mod untested;
 
 /// The most bytes of a query's text.
 pub const QUERY_LIMIT: u64 = 65_536;
 
 /// The most bytes of a document.
 pub const DOCUMENT_LIMIT: u64 = 268_435_456;
+
+/// The most requests that are answered in a run that serves.
+pub const MOST_REQUESTS: u64 = 4_294_967_295;

@@ -2,17 +2,15 @@
 //!
 //! A page is never held: each row is asked for when its line is written. The note is made before the last put, so that
 //! want of memory can no more come when all is written.
-ghost use Rattle.std.specs.Prelude.{◌≡◌, ℕ, ◌<◌, ◌≤◌, ◌+◌, ◌*◌, ◌↔◌, ◌++◌, [], List, Some, length, nat_lt, IsTrue, IsFalse, IfOk, OnOk, OnErr, IsErrOf};
-ghost use Rattle.std.specs.List.{flat_map};
+ghost use Rattle.std.specs.Prelude.{◌≡◌, ℕ, ◌<◌, ◌≤◌, ◌↔◌, ◌++◌, [], List, Some, length, IsTrue, IsFalse, IfOk, OnOk, OnErr, IsErrOf};
+ghost use Rattle.std.specs.Bool.{OnTrue};
 ghost use Rattle.command_line.specs.Asked.{request_view};
-ghost use Rattle.command_line.specs.Given.{text_behind};
 ghost use Rattle.rematch_program.specs.Ending.{note_bytes};
-ghost use Rattle.rematch_program.specs.Change.{change, clock, work, Adds, AddsPart, Failed, Passes, SoFar, TakesAtMost};
+ghost use Rattle.rematch_program.specs.Change.{change, clock, work, Adds, AddsPart, Failed, Passes, SoFar};
 ghost use Rattle.rematch_program.specs.Kept.{AreHeads};
-ghost use Rattle.rematch_program.specs.Pages.{AllFit, FitsIf, FitsPage, cursor_given, fewer, first_rows, last_note, next_cursor, page_text, row_if, row_text};
+ghost use Rattle.rematch_program.specs.Pages.{FitsIf, FitsPage, cursor_given, fewer, last_note, next_cursor, row_if, row_text};
 ghost use Rattle.rematch_program.specs.Run.{FromPage};
-ghost use Rattle.rematch_program.specs.Steps.{next_steps};
-ghost use Rattle.rematch_program.specs.declared.TheConstants.{DOCUMENT_LIMIT};
+ghost use Rattle.rematch_program.specs.Taking.{PageTaken, coming, page_lines, page_note as note_of_page, page_rows, whole_text};
 ghost use Rattle.rematch_program.specs.declared.page.PageFault.TheVariants as fault;
 
 use crate::ending::{Ending, Note};
@@ -22,7 +20,8 @@ use command_line::Request;
 use rm_outside::{Sink, SinkFailed, Status};
 use row_writer::{KeptLine, kept_room};
 use span_core::{OutOfMemory, Row, Steps, VarSet};
-use spanner_engine::Answers;
+use span_tests::Judge;
+use spanner_engine::TestedRows;
 use std::alloc::Global;
 use std::sync::ledger::Ledger;
 
@@ -52,24 +51,19 @@ impl From<SinkFailed> for PageFault {
 }
 
 /// Writes the page. Its note is made before the last put.
-pub fn write_page<O: Sink, L: Ledger>(
+pub fn write_page<O: Sink, J: Judge, L: Ledger>(
     alloc: Global,
     request: &Request<'_>,
-    vars: &VarSet,
-    document: &[u8],
-    answers: &mut Answers,
+    rows: &mut TestedRows<'_, J>,
     out: &mut O,
     steps: &mut Steps<L>,
 ) -> Ending
-    requires short { length document.now ≤ DOCUMENT_LIMIT }
-    requires fit { AllFit (length vars.now) (length document.now) answers.old.rest }
-    ensures case { FromPage (page_text (request_view request.now).form (request_view request.now).texts vars.now document.now (first_rows (request_view request.now).limit answers.old.rest))
-        (last_note vars.now (length document.now) (request_view request.now).after (first_rows (request_view request.now).limit answers.old.rest) (nat_lt (length (first_rows (request_view request.now).limit answers.old.rest)) (length answers.old.rest)))
-        (λ spent. TakesAtMost spent ((length (first_rows (request_view request.now).limit answers.old.rest) + 1) * next_steps answers.old.variables))
+    ensures case { FromPage
         (work (change (O.written out.old) (O.written out.new) (O.faults out.old) (O.faults out.new)) (clock steps.old steps.new))
-        result.status (note_bytes result.note) }
+        result.status (note_bytes result.note)
+        (whole_text J.judges rows.old (request_view request.now)) (note_of_page J.judges rows.old (request_view request.now)) (PageTaken J.judges rows.old (request_view request.now)) }
 {
-    match put_page(alloc, request, vars, document, answers, out, steps) {
+    match put_page(alloc, request, rows, out, steps) {
         Ok(note) => Ending {
             status: Status::Done,
             note,
@@ -80,44 +74,40 @@ pub fn write_page<O: Sink, L: Ledger>(
 }
 
 /// Puts the text of the page, and gives its note.
-fn put_page<O: Sink, L: Ledger>(
+fn put_page<O: Sink, J: Judge, L: Ledger>(
     alloc: Global,
     request: &Request<'_>,
-    vars: &VarSet,
-    document: &[u8],
-    answers: &mut Answers,
+    rows: &mut TestedRows<'_, J>,
     out: &mut O,
     steps: &mut Steps<L>,
 ) -> Result<Note, PageFault>
-    requires short { length document.now ≤ DOCUMENT_LIMIT }
-    requires fit { AllFit (length vars.now) (length document.now) answers.old.rest }
-    ensures whole { OnOk result (Adds (change (O.written out.old) (O.written out.new) (O.faults out.old) (O.faults out.new)) (page_text (request_view request.now).form (request_view request.now).texts vars.now document.now (first_rows (request_view request.now).limit answers.old.rest))) }
-    ensures part { OnErr result (AddsPart (change (O.written out.old) (O.written out.new) (O.faults out.old) (O.faults out.new)) (page_text (request_view request.now).form (request_view request.now).texts vars.now document.now (first_rows (request_view request.now).limit answers.old.rest))) }
+    ensures whole { OnOk result (Adds (change (O.written out.old) (O.written out.new) (O.faults out.old) (O.faults out.new)) (whole_text J.judges rows.old (request_view request.now))) }
+    ensures part { OnErr result (AddsPart (change (O.written out.old) (O.written out.new) (O.faults out.old) (O.faults out.new)) (whole_text J.judges rows.old (request_view request.now))) }
     ensures failed { IsErrOf result PageFault.Failed → Failed (change (O.written out.old) (O.written out.new) (O.faults out.old) (O.faults out.new)) }
-    ensures note { IfOk result (λ note. note_bytes note ≡ last_note vars.now (length document.now) (request_view request.now).after (first_rows (request_view request.now).limit answers.old.rest) (nat_lt (length (first_rows (request_view request.now).limit answers.old.rest)) (length answers.old.rest))) }
-    ensures steps { steps.new ≤ steps.old + (length (first_rows (request_view request.now).limit answers.old.rest) + 1) * next_steps answers.old.variables }
+    ensures note { IfOk result (λ note. note_bytes note ≡ note_of_page J.judges rows.old (request_view request.now)) }
+    ensures steps { PageTaken J.judges rows.old (request_view request.now) (clock steps.old steps.new) }
 {
     let mut gather = Gather::new(alloc)?;
     let mut line = Vec::new(alloc);
-    let mut kept = kept_line(alloc, request.form, vars)?;
-    put_head(request.form, vars, &mut line)?;
+    let mut kept = kept_line(alloc, request.form, rows.vars())?;
+    put_head(request.form, rows.vars(), &mut line)?;
     gather.add(&line, out)?;
-    let end = match put_rows(
+    let put = put_rows(
         alloc,
         request,
-        vars,
-        document,
-        answers,
+        rows,
         &mut gather,
         &mut kept,
         &mut line,
         out,
         steps,
-    ) {
+    );
+    let end = match put {
         Ok(end) => end,
         Err(fault) => return Err(fault),
     };
-    let note = page_note(alloc, request, vars, document.len() as u32, &end)?;
+    let n = rows.document().len() as u32;
+    let note = page_note(alloc, request, rows.vars(), n, &end)?;
     match gather.flush(out) {
         Ok(()) => Ok(note),
         Err(SinkFailed) => Err(PageFault::Failed),
@@ -151,7 +141,7 @@ fn page_note(
 /// Where the rows of a page end.
 #[derive(Drop)]
 pub struct PageEnd {
-    /// The last row of the page.
+    /// The last row of the page. It is told where more rows remain.
     pub last: Option<Row>,
     /// Whether more rows remain.
     pub more: bool,
@@ -159,56 +149,54 @@ pub struct PageEnd {
 
 /// Takes rows up to the limit, one by one, and puts the line of each or lets it wait. The room of the
 /// line before is used again.
-fn put_rows<O: Sink, L: Ledger>(
+fn put_rows<O: Sink, J: Judge, L: Ledger>(
     alloc: Global,
     request: &Request<'_>,
-    vars: &VarSet,
-    document: &[u8],
-    answers: &mut Answers,
+    rows: &mut TestedRows<'_, J>,
     gather: &mut Gather,
     kept: &mut Option<KeptLine>,
     line: &mut Vec<u8>,
     out: &mut O,
     steps: &mut Steps<L>,
 ) -> Result<PageEnd, PageFault>
-    requires fit { AllFit (length vars.now) (length document.now) answers.old.rest }
-    requires heads { AreHeads (request_view request.now).form vars.now kept.old }
-    ensures ok { OnOk result (SoFar (O.written out.old) (O.written out.new) gather.new [] (gather.old ++ (flat_map (row_text (request_view request.now).form (request_view request.now).texts vars.now document.now) (first_rows (request_view request.now).limit answers.old.rest)))) }
-    ensures part { OnErr result (AddsPart (change (O.written out.old) (O.written out.new) (O.faults out.old) (O.faults out.new)) (gather.old ++ (flat_map (row_text (request_view request.now).form (request_view request.now).texts vars.now document.now) (first_rows (request_view request.now).limit answers.old.rest)))) }
+    requires heads { AreHeads (request_view request.now).form rows.old.source.names kept.old }
+    ensures source { rows.new.source ≡ rows.old.source }
+    ensures ok { OnOk result (SoFar (O.written out.old) (O.written out.new) gather.new [] (gather.old ++ page_lines J.judges rows.old (request_view request.now))) }
+    ensures part { OnErr result (AddsPart (change (O.written out.old) (O.written out.new) (O.faults out.old) (O.faults out.new)) (gather.old ++ page_lines J.judges rows.old (request_view request.now))) }
     ensures failed { IsErrOf result PageFault.Failed → Failed (change (O.written out.old) (O.written out.new) (O.faults out.old) (O.faults out.new)) }
     ensures later { O.faults out.old ≤ O.faults out.new }
-    ensures last { IfOk result (λ e. FitsIf (length vars.now) (length document.now) e.last) }
-    ensures cursor { IfOk result (λ e. next_cursor vars.now (length document.now) (cursor_given vars.now (length document.now) e.last (request_view request.now).after) [] ≡ next_cursor vars.now (length document.now) (request_view request.now).after (first_rows (request_view request.now).limit answers.old.rest)) }
-    ensures more { IfOk result (λ e. IsTrue e.more ↔ (length (first_rows (request_view request.now).limit answers.old.rest) < length answers.old.rest)) }
-    ensures steps { steps.new ≤ steps.old + (length (first_rows (request_view request.now).limit answers.old.rest) + 1) * next_steps answers.old.variables }
+    ensures last { IfOk result (λ e. FitsIf (length rows.old.source.names) (length rows.old.source.document) e.last) }
+    ensures cursor { IfOk result (λ e. OnTrue e.more (next_cursor rows.old.source.names (length rows.old.source.document) (cursor_given rows.old.source.names (length rows.old.source.document) e.last (request_view request.now).after) []
+        ≡ next_cursor rows.old.source.names (length rows.old.source.document) (request_view request.now).after (page_rows J.judges rows.old (request_view request.now)))) }
+    ensures more { IfOk result (λ e. IsTrue e.more ↔ (length (page_rows J.judges rows.old (request_view request.now)) < length (coming J.judges rows.old))) }
+    ensures steps { PageTaken J.judges rows.old (request_view request.now) (clock steps.old steps.new) }
 {
     let mut some = false;
     let mut remaining = request.limit;
     while goes_on(remaining) {
-        if !answers.advance(steps) {
-            let last = last_row(some, answers);
-            return Ok(PageEnd { last, more: false });
+        if !rows.advance(steps) {
+            return Ok(PageEnd {
+                last: None,
+                more: false,
+            });
         }
-        let put = put_line(
-            alloc, request, vars, document, answers, kept, line, gather, out,
-        );
-        if let Err(fault) = put {
+        if let Err(fault) = put_line(alloc, request, rows, kept, line, gather, out) {
             return Err(fault);
         }
         some = true;
         remaining = one_fewer(remaining);
     }
-    let last = last_row(some, answers);
-    let more = answers.advance(steps);
+    let last = last_row(some, rows);
+    let more = rows.advance(steps);
     Ok(PageEnd { last, more })
 }
 
 /// The row that was gone to last, if some row was.
 #[inline(never)]
-fn last_row(some: bool, answers: &Answers) -> Option<Row>
-    ensures { result ≡ row_if some answers.now.row }
+fn last_row<J: Judge>(some: bool, rows: &TestedRows<'_, J>) -> Option<Row>
+    ensures { result ≡ row_if some rows.now.row }
 {
-    if some { Some(answers.row()) } else { None }
+    if some { Some(rows.row()) } else { None }
 }
 
 /// Whether a row more may be written.
@@ -234,65 +222,52 @@ fn one_fewer(remaining: Option<u64>) -> Option<u64>
 
 /// Puts the line of the row that was gone to, or lets it wait. It is written where it waits, if its room is there.
 #[inline(always)]
-fn put_line<O: Sink>(
+fn put_line<O: Sink, J: Judge>(
     alloc: Global,
     request: &Request<'_>,
-    vars: &VarSet,
-    document: &[u8],
-    answers: &Answers,
+    rows: &TestedRows<'_, J>,
     kept: &mut Option<KeptLine>,
     line: &mut Vec<u8>,
     gather: &mut Gather,
     out: &mut O,
 ) -> Result<(), PageFault>
-    requires fit { FitsPage (length vars.now) (length document.now) answers.now.row }
-    requires heads { AreHeads (request_view request.now).form vars.now kept.old }
+    requires fit { FitsPage (length rows.now.source.names) (length rows.now.source.document) rows.now.row }
+    requires heads { AreHeads (request_view request.now).form rows.now.source.names kept.old }
     ensures heads { kept.new ≡ kept.old }
-    ensures ok { OnOk result (Passes gather.old (row_text (request_view request.now).form (request_view request.now).texts vars.now document.now answers.now.row) gather.new
+    ensures ok { OnOk result (Passes gather.old (row_text (request_view request.now).form (request_view request.now).texts rows.now.source.names rows.now.source.document rows.now.row) gather.new
         (change (O.written out.old) (O.written out.new) (O.faults out.old) (O.faults out.new))) }
     ensures part { OnErr result (AddsPart (change (O.written out.old) (O.written out.new) (O.faults out.old) (O.faults out.new))
-        (gather.old ++ row_text (request_view request.now).form (request_view request.now).texts vars.now document.now answers.now.row)) }
+        (gather.old ++ row_text (request_view request.now).form (request_view request.now).texts rows.now.source.names rows.now.source.document rows.now.row)) }
     ensures failed { IsErrOf result PageFault.Failed → Failed (change (O.written out.old) (O.written out.new) (O.faults out.old) (O.faults out.new)) }
     ensures later { O.faults out.old ≤ O.faults out.new }
 {
     if let Some(kept) = kept {
-        let (_few, spans) = (vars.len(), answers.spans());
+        let (_few, spans) = (rows.vars().len(), rows.spans());
         if kept_room(spans, request.texts) <= LINE_ROOM {
-            return match gather.add_row(kept, spans, document, request.texts, out) {
+            return match gather.add_row(kept, spans, rows.document(), request.texts, out) {
                 Ok(()) => Ok(()),
                 Err(SinkFailed) => Err(PageFault::Failed),
             };
         }
     }
-    put_apart(
-        alloc,
-        request,
-        vars,
-        document,
-        &answers.row(),
-        line,
-        gather,
-        out,
-    )
+    put_apart(alloc, request, rows, line, gather, out)
 }
 
 /// Puts the line of a row, or lets it wait, after it is made in the room of the line before it.
 #[inline(never)]
-fn put_apart<O: Sink>(
+fn put_apart<O: Sink, J: Judge>(
     alloc: Global,
     request: &Request<'_>,
-    vars: &VarSet,
-    document: &[u8],
-    row: &Row,
+    rows: &TestedRows<'_, J>,
     line: &mut Vec<u8>,
     gather: &mut Gather,
     out: &mut O,
 ) -> Result<(), PageFault>
-    requires fit { FitsPage (length vars.now) (length document.now) row.now }
-    ensures ok { OnOk result (Passes gather.old (row_text (request_view request.now).form (request_view request.now).texts vars.now document.now row.now) gather.new
+    requires fit { FitsPage (length rows.now.source.names) (length rows.now.source.document) rows.now.row }
+    ensures ok { OnOk result (Passes gather.old (row_text (request_view request.now).form (request_view request.now).texts rows.now.source.names rows.now.source.document rows.now.row) gather.new
         (change (O.written out.old) (O.written out.new) (O.faults out.old) (O.faults out.new))) }
     ensures part { OnErr result (AddsPart (change (O.written out.old) (O.written out.new) (O.faults out.old) (O.faults out.new))
-        (gather.old ++ row_text (request_view request.now).form (request_view request.now).texts vars.now document.now row.now)) }
+        (gather.old ++ row_text (request_view request.now).form (request_view request.now).texts rows.now.source.names rows.now.source.document rows.now.row)) }
     ensures failed { IsErrOf result PageFault.Failed → Failed (change (O.written out.old) (O.written out.new) (O.faults out.old) (O.faults out.new)) }
     ensures later { O.faults out.old ≤ O.faults out.new }
 {
@@ -301,9 +276,9 @@ fn put_apart<O: Sink>(
         alloc,
         request.form,
         request.texts,
-        vars,
-        document,
-        row,
+        rows.vars(),
+        rows.document(),
+        &rows.row(),
         line,
     )?;
     gather.add(line, out)?;

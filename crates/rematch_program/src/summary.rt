@@ -1,12 +1,12 @@
 //! A summary of all answers: how many there are, the first and the last.
-ghost use Rattle.std.specs.Prelude.{◌≡◌, ℕ, ◌≤◌, ◌+◌, ◌*◌, ◌++◌, ◌^◌, ◌-◌, [], codes, length, min, slice_get, None, IfOk, IfSome, OnOk};
+ghost use Rattle.std.specs.Prelude.{◌≡◌, ℕ, ◌≤◌, ◌++◌, ◌^◌, ◌-◌, codes, length, min, slice_get, None, IfOk, IfSome, OnOk};
 ghost use Rattle.spanner_model.specs.Answers.{page_end};
-ghost use Rattle.rematch_program.specs.Change.{change, work, clock, TakesAtMost};
+ghost use Rattle.rematch_program.specs.Change.{change, work, clock};
 ghost use Rattle.rematch_program.specs.Ending.{note_bytes};
-ghost use Rattle.rematch_program.specs.Notes.{line};
-ghost use Rattle.rematch_program.specs.Pages.{AllFit, FitsPage};
+ghost use Rattle.note_texts.specs.Notes.{line};
+ghost use Rattle.rematch_program.specs.Pages.{FitsPage};
 ghost use Rattle.rematch_program.specs.Run.{FromPage};
-ghost use Rattle.rematch_program.specs.Steps.{next_steps};
+ghost use Rattle.rematch_program.specs.Taking.{AllTaken, coming};
 ghost use Rattle.rematch_program.specs.Trials.{last_of, summary_row, trial_summary};
 ghost use Rattle.trial_maker.specs.Summary.{number_line, row_line};
 
@@ -14,29 +14,27 @@ use crate::ending::Ending;
 use rm_outside::{Sink, SinkFailed, Status};
 use row_writer::spans_line;
 use span_core::{OutOfMemory, Row, Steps, VarSet};
-use spanner_engine::Answers;
+use span_tests::Judge;
+use spanner_engine::TestedRows;
 use std::alloc::Global;
 use std::sync::ledger::Ledger;
 
-/// Takes all answers that are left, and puts a summary of them: how many lines and bytes the document has,
+/// Takes all rows that are left, and puts a summary of them: how many lines and bytes the document has,
 /// how many rows there are, the first and the last.
-pub fn write_summary<O: Sink, L: Ledger>(
+pub fn write_summary<O: Sink, J: Judge, L: Ledger>(
     alloc: Global,
     lines: u32,
-    vars: &VarSet,
-    document: &[u8],
-    answers: &mut Answers,
+    rows: &mut TestedRows<'_, J>,
     out: &mut O,
     steps: &mut Steps<L>,
 ) -> Ending
-    requires fit { AllFit (length vars.now) (length document.now) answers.old.rest }
-    ensures case { FromPage (trial_summary lines vars.now document.now answers.old.rest) (line (codes "end"))
-        (λ spent. TakesAtMost spent ((length answers.old.rest + 1) * next_steps answers.old.variables))
+    ensures case { FromPage
         (work (change (O.written out.old) (O.written out.new) (O.faults out.old) (O.faults out.new)) (clock steps.old steps.new))
-        result.status (note_bytes result.note) }
+        result.status (note_bytes result.note)
+        (trial_summary lines rows.old.source.names rows.old.source.document (coming J.judges rows.old)) (line (codes "end")) (AllTaken J.judges rows.old) }
 {
-    let rows = count_rows(answers, steps);
-    let text = match summary(alloc, lines, vars, document, &rows) {
+    let counted = count_rows(rows, steps);
+    let text = match summary(alloc, lines, rows.vars(), rows.document(), &counted) {
         Ok(text) => text,
         Err(OutOfMemory) => return Ending::out_of_memory(),
     };
@@ -57,13 +55,16 @@ pub struct Counted {
 }
 
 /// Takes all rows that are left.
-fn count_rows<L: Ledger>(answers: &mut Answers, steps: &mut Steps<L>) -> Counted
-    ensures rows { result.rows ≡ min (length answers.old.rest) (2 ^ 64 - 1) }
-    ensures first { result.first ≡ slice_get answers.old.rest 0 }
-    ensures last { last_of result.first result.later ≡ page_end answers.old.rest None }
-    ensures steps { steps.new ≤ steps.old + (length answers.old.rest + 1) * next_steps answers.old.variables }
+fn count_rows<J: Judge, L: Ledger>(rows: &mut TestedRows<'_, J>, steps: &mut Steps<L>) -> Counted
+    ensures source { rows.new.source ≡ rows.old.source }
+    ensures rows { result.rows ≡ min (length (coming J.judges rows.old)) (2 ^ 64 - 1) }
+    ensures first { result.first ≡ slice_get (coming J.judges rows.old) 0 }
+    ensures last { last_of result.first result.later ≡ page_end (coming J.judges rows.old) None }
+    ensures first_fits { IfSome result.first (FitsPage (length rows.old.source.names) (length rows.old.source.document)) }
+    ensures later_fits { IfSome result.later (FitsPage (length rows.old.source.names) (length rows.old.source.document)) }
+    ensures steps { AllTaken J.judges rows.old (clock steps.old steps.new) }
 {
-    let first = match answers.next(steps) {
+    let first = match rows.next(steps) {
         Some(row) => row,
         None => {
             return Counted {
@@ -73,14 +74,14 @@ fn count_rows<L: Ledger>(answers: &mut Answers, steps: &mut Steps<L>) -> Counted
             };
         }
     };
-    let mut rows: u64 = 1;
+    let mut count: u64 = 1;
     let mut later = None;
-    while let Some(row) = answers.next(steps) {
-        rows = rows.saturating_add(1);
+    while let Some(row) = rows.next(steps) {
+        count = count.saturating_add(1);
         later = Some(row);
     }
     Counted {
-        rows,
+        rows: count,
         first: Some(first),
         later,
     }

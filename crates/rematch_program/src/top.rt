@@ -11,48 +11,45 @@ ghost use Rattle.command_line.specs.Asked.{request_view};
 ghost use Rattle.spanner_model.specs.ExprView.{query_of};
 ghost use Rattle.spanner_model.specs.Sound.{IsSound};
 ghost use Rattle.spanner_model.specs.Answers.{AreResultNames};
+ghost use Rattle.query_parser.specs.Tested.{IsTestedText, TestedTree};
+ghost use Rattle.query_parser.specs.TestedView.{tested_of};
 ghost use Rattle.query_automaton.specs.Parts.{AtomsAreSmall};
 ghost use Rattle.spanner_engine.specs.Begun.{begin_steps, row_kept};
 ghost use Rattle.spanner_engine.specs.Left.{AreLeft};
+ghost use Rattle.spanner_engine.specs.Passing.{AreKnown, checks_of, known};
 ghost use Rattle.trial_maker.specs.Trial.{trial_text};
 ghost use Rattle.command_line.specs.declared.TheConstants.{MOST_TRIAL_LINES};
 ghost use Rattle.rematch_program.specs.Ending.{note_bytes};
 ghost use Rattle.rematch_program.specs.declared.TheConstants.{DOCUMENT_LIMIT};
 ghost use Rattle.rematch_program.specs.Change.{change, clock, work};
-ghost use Rattle.rematch_program.specs.Notes.{at_place, other_document_note as other_document_text};
+ghost use Rattle.note_texts.specs.Notes.{fault_note as fault_text, filter_note as filter_text, table_note as table_text};
+ghost use Rattle.rematch_program.specs.Notes.{other_document_note as other_document_text};
 ghost use Rattle.rematch_program.specs.Steps.{KeepsWithin};
 ghost use Rattle.rematch_program.specs.Pages.{CursorFits, HasWidth, IsAfter};
 ghost use Rattle.rematch_program.specs.Complete.{Completes};
-ghost use Rattle.rematch_program.specs.Run.{FromAsked, FromCursor, FromDocument, FromPlace, FromQuery, FromText, FromWords, Gives, Is, IsNotBegun, IsOutOfMemory, IsTooLarge, Reports, Run, store};
+ghost use Rattle.rematch_program.specs.Run.{FromAsked, FromCursor, FromDocument, FromPlace, FromQuery, FromText, FromWords, Gives, Is, IsNotBegun, IsOutOfMemory, IsTooLarge, Reports, Run, RunTested, none_known, store};
 
 use crate::ending::Ending;
 use crate::explanation::write_explanation;
-use crate::notes::{fault_note, limit_note, other_document_note};
+use crate::notes::{fault_line, filter_line, other_document_line, table_line};
 use crate::page::write_page;
 use crate::summary::write_summary;
+use crate::untested::NoJudge;
 use crate::{DOCUMENT_LIMIT, QUERY_LIMIT};
 use command_line::{Mode, QuerySource, Request, WordsFault, read_request};
 use marked_automaton::SizeFault;
-use query_parser::{QueryFault, read_query};
+use query_parser::{QueryFault, Tested, read_tested};
 use rm_outside::{FetchFault, Shelf, Sink, Status};
 use row_cursor::CursorFault;
 use span_core::{Kept, OutOfMemory, Steps};
-use spanner_engine::{Answers, BeginFault, Compiled, Options, begin, compile};
+use span_tests::{Judge, Tests};
+use spanner_engine::{Answers, BeginFault, Compiled, Options, TestedRows, begin, bind, compile};
 use spanner_model::Query;
 use std::alloc::Global;
 use std::sync::ledger::Ledger;
 use trial_maker::trial;
 
-/// Runs the program on the words after its name.
-///
-/// The first of these steps that cannot be taken decides the status: the words, the fetch of the
-/// query, its text, the sizes of its automata, the cursor's text, the fetch of the document, the cursor's length or
-/// place, the filter, the table, the page. Want of memory may stand in place of any of them. Until the page is begun out gets nothing. The work done,
-/// notes gets one line. The page is put on out in whole lines, as many at once as fit 65,536 bytes; a
-/// line that is longer is put alone, and no put is empty.
-///
-/// The counter stands still until the document is read. The filter, the building, the place of the cursor
-/// and the rows then take at most the steps that are stated.
+/// Runs the program on the words after its name, where no test is known: what `run_tested` does with the empty list of tests.
 pub fn run<S: Shelf, O: Sink, N: Sink, L: Ledger>(
     alloc: Global,
     words: &[String],
@@ -67,13 +64,48 @@ pub fn run<S: Shelf, O: Sink, N: Sink, L: Ledger>(
         (change (N.written notes.old) (N.written notes.new) (N.faults notes.old) (N.faults notes.new))
         (clock steps.old steps.new)
         result }
-    ensures complete { Completes (map string_bytes words.now)
+    ensures complete { Completes none_known (map string_bytes words.now)
         (store (S.held shelf.old) (S.faults shelf.old) (S.faults shelf.new))
         (change (O.written out.old) (O.written out.new) (O.faults out.old) (O.faults out.new))
         (change (N.written notes.old) (N.written notes.new) (N.faults notes.old) (N.faults notes.new))
         result }
 {
-    let ending = with_words(alloc, words, shelf, out, steps);
+    let tests = Tests::<NoJudge>::new(alloc);
+    run_tested(alloc, words, &tests, shelf, out, notes, steps)
+}
+
+/// Runs the program on the words after its name, with the tests that its queries may ask.
+///
+/// The first of these steps that cannot be taken decides the status: the words, the fetch of the
+/// query, its text and the names of its tests, the sizes of its automata, the cursor's text, the fetch of the document, the cursor's
+/// length or place, the filter, the table, the page. Want of memory may stand in place of any of them. Until the page is begun out gets
+/// nothing. The work done, notes gets one line. The page has the answers for which all tests of the query hold. It is put on out in whole
+/// lines, as many at once as fit 65,536 bytes; a line that is longer is put alone, and no put is empty.
+///
+/// The counter stands still until the document is read. The filter, the building, the place of the cursor
+/// and the rows then take at most the steps that are stated; each answer that is tried takes one for each test beside its own.
+pub fn run_tested<S: Shelf, O: Sink, N: Sink, J: Judge, L: Ledger>(
+    alloc: Global,
+    words: &[String],
+    tests: &Tests<J>,
+    shelf: &mut S,
+    out: &mut O,
+    notes: &mut N,
+    steps: &mut Steps<L>,
+) -> Status
+    ensures run { RunTested (known tests.now J.judges) (map string_bytes words.now)
+        (store (S.held shelf.old) (S.faults shelf.old) (S.faults shelf.new))
+        (change (O.written out.old) (O.written out.new) (O.faults out.old) (O.faults out.new))
+        (change (N.written notes.old) (N.written notes.new) (N.faults notes.old) (N.faults notes.new))
+        (clock steps.old steps.new)
+        result }
+    ensures complete { Completes (known tests.now J.judges) (map string_bytes words.now)
+        (store (S.held shelf.old) (S.faults shelf.old) (S.faults shelf.new))
+        (change (O.written out.old) (O.written out.new) (O.faults out.old) (O.faults out.new))
+        (change (N.written notes.old) (N.written notes.new) (N.faults notes.old) (N.faults notes.new))
+        result }
+{
+    let ending = with_words(alloc, words, tests, shelf, out, steps);
     report(&ending, notes)
 }
 
@@ -90,51 +122,46 @@ fn report<N: Sink>(ending: &Ending, notes: &mut N) -> Status
 }
 
 /// All the work but the note.
-fn with_words<S: Shelf, O: Sink, L: Ledger>(
+fn with_words<S: Shelf, O: Sink, J: Judge, L: Ledger>(
     alloc: Global,
     words: &[String],
+    tests: &Tests<J>,
     shelf: &mut S,
     out: &mut O,
     steps: &mut Steps<L>,
 ) -> Ending
-    ensures case { FromWords (map string_bytes words.now)
-        (store (S.held shelf.old) (S.faults shelf.old) (S.faults shelf.new))
+    ensures case { FromWords (store (S.held shelf.old) (S.faults shelf.old) (S.faults shelf.new))
         (work (change (O.written out.old) (O.written out.new) (O.faults out.old) (O.faults out.new)) (clock steps.old steps.new))
-        result.status (note_bytes result.note) }
+        result.status (note_bytes result.note) (known tests.now J.judges) (map string_bytes words.now) }
 {
     match read_request(alloc, words) {
-        Ok(request) => with_request(alloc, &request, shelf, out, steps),
+        Ok(request) => with_request(alloc, &request, tests, shelf, out, steps),
         Err(WordsFault::Refused) => Ending::with(Status::Words, "bad command line\n"),
         Err(WordsFault::OutOfMemory) => Ending::out_of_memory(),
     }
 }
 
 /// The query's text is taken from the words, or fetched.
-fn with_request<S: Shelf, O: Sink, L: Ledger>(
+fn with_request<S: Shelf, O: Sink, J: Judge, L: Ledger>(
     alloc: Global,
     request: &Request<'_>,
+    tests: &Tests<J>,
     shelf: &mut S,
     out: &mut O,
     steps: &mut Steps<L>,
 ) -> Ending
-    ensures case { FromAsked (request_view request.now)
-        (store (S.held shelf.old) (S.faults shelf.old) (S.faults shelf.new))
+    ensures case { FromAsked (store (S.held shelf.old) (S.faults shelf.old) (S.faults shelf.new))
         (work (change (O.written out.old) (O.written out.new) (O.faults out.old) (O.faults out.new)) (clock steps.old steps.new))
-        result.status (note_bytes result.note) }
+        result.status (note_bytes result.note) (known tests.now J.judges) (request_view request.now) }
 {
     let name = match request.query {
-        QuerySource::Given(text) => return with_text(
-            alloc,
-            request,
-            text.as_bytes(),
-            shelf,
-            out,
-            steps,
-        ),
+        QuerySource::Given(text) => {
+            return with_text(alloc, request, text.as_bytes(), tests, shelf, out, steps);
+        }
         QuerySource::Named(name) => name,
     };
     match fetch_all(alloc, shelf, name, QUERY_LIMIT) {
-        Ok(text) => with_text(alloc, request, &text, shelf, out, steps),
+        Ok(text) => with_text(alloc, request, &text, tests, shelf, out, steps),
         Err(FetchFault::Failed) => Ending::with(Status::Read, "read failed: query\n"),
         Err(FetchFault::TooLong { seen: _ }) => {
             Ending::with(Status::Query, "query: longer than 65536 bytes\n")
@@ -143,34 +170,43 @@ fn with_request<S: Shelf, O: Sink, L: Ledger>(
     }
 }
 
-/// The query is read.
-fn with_text<S: Shelf, O: Sink, L: Ledger>(
+/// The query is read, and its tests are looked for among those that are known.
+fn with_text<S: Shelf, O: Sink, J: Judge, L: Ledger>(
     alloc: Global,
     request: &Request<'_>,
     text: &[u8],
+    tests: &Tests<J>,
     shelf: &mut S,
     out: &mut O,
     steps: &mut Steps<L>,
 ) -> Ending
-    ensures case { FromText (request_view request.now) text.now
-        (store (S.held shelf.old) (S.faults shelf.old) (S.faults shelf.new))
+    ensures case { FromText (store (S.held shelf.old) (S.faults shelf.old) (S.faults shelf.new))
         (work (change (O.written out.old) (O.written out.new) (O.faults out.old) (O.faults out.new)) (clock steps.old steps.new))
-        result.status (note_bytes result.note) }
+        result.status (note_bytes result.note) (known tests.now J.judges) (request_view request.now) text.now }
 {
-    match read_query(alloc, text) {
-        Ok(query) => with_query(alloc, request, &query, shelf, out, steps),
-        Err(fault) => {
-            if wants_memory(&fault) {
-                return Ending::out_of_memory();
-            }
-            match fault_note(alloc, fault) {
-                Ok(note) => Ending {
-                    status: Status::Query,
-                    note,
-                },
-                Err(_) => Ending::out_of_memory(),
-            }
-        }
+    let tested = match read_tested(alloc, text) {
+        Ok(tested) => tested,
+        Err(fault) => return refused(alloc, fault),
+    };
+    match bind(&tested, tests) {
+        Ok(()) => with_query(alloc, request, &tested, tests, shelf, out, steps),
+        Err(fault) => refused(alloc, fault),
+    }
+}
+
+/// The query's text has a fault, which the note tells.
+fn refused(alloc: Global, fault: QueryFault) -> Ending
+    ensures { ((¬ (fault ≡ QueryFault.OutOfMemory)) × Is result.status (note_bytes result.note) Status.Query (fault_text fault)) ⊎ IsOutOfMemory result.status (note_bytes result.note) }
+{
+    if wants_memory(&fault) {
+        return Ending::out_of_memory();
+    }
+    match fault_line(alloc, &fault) {
+        Ok(note) => Ending {
+            status: Status::Query,
+            note,
+        },
+        Err(_) => Ending::out_of_memory(),
     }
 }
 
@@ -181,31 +217,57 @@ fn wants_memory(fault: &QueryFault) -> bool
 }
 
 /// What the query is, or the answers that are asked for.
-fn with_query<S: Shelf, O: Sink, L: Ledger>(
+fn with_query<S: Shelf, O: Sink, J: Judge, L: Ledger>(
     alloc: Global,
     request: &Request<'_>,
-    query: &Query,
+    tested: &Tested,
+    tests: &Tests<J>,
     shelf: &mut S,
     out: &mut O,
     steps: &mut Steps<L>,
 ) -> Ending
-    requires sound { IsSound (query_of query.now) }
-    ensures case { FromQuery (request_view request.now) (query_of query.now)
-        (store (S.held shelf.old) (S.faults shelf.old) (S.faults shelf.new))
+    requires sound { IsSound (query_of tested.now.query) }
+    requires bound { AreKnown (known tests.now J.judges) tested.now.asked }
+    ensures case { FromQuery (store (S.held shelf.old) (S.faults shelf.old) (S.faults shelf.new))
         (work (change (O.written out.old) (O.written out.new) (O.faults out.old) (O.faults out.new)) (clock steps.old steps.new))
-        result.status (note_bytes result.note) }
+        result.status (note_bytes result.note) (request_view request.now) (tested_of tested.now) (checks_of (known tests.now J.judges) tested.now.asked) }
 {
     match request.mode {
-        Mode::Explain => write_explanation(alloc, query, out),
-        Mode::Plain => match compiled_query(alloc, query) {
-            Ok(compiled) => with_cursor(alloc, request, &compiled, shelf, out, steps),
+        Mode::Explain => write_explanation(alloc, tested, out),
+        Mode::Plain => match compiled_query(alloc, &tested.query) {
+            Ok(compiled) => {
+                let asking = Asking {
+                    tested,
+                    tests,
+                    compiled,
+                };
+                with_cursor(alloc, request, &asking, shelf, out, steps)
+            }
             Err(ending) => ending,
         },
-        Mode::Trial(lines) => match compiled_query(alloc, query) {
-            Ok(compiled) => with_lines(alloc, request, lines, &compiled, out, steps),
+        Mode::Trial(lines) => match compiled_query(alloc, &tested.query) {
+            Ok(compiled) => {
+                let asking = Asking {
+                    tested,
+                    tests,
+                    compiled,
+                };
+                with_lines(alloc, request, lines, &asking, out, steps)
+            }
             Err(ending) => ending,
         },
     }
+}
+
+/// What is asked of a document.
+#[derive(Drop)]
+struct Asking<'r, J: Judge> {
+    /// The query with its tests.
+    tested: &'r Tested,
+    /// The tests that are known.
+    tests: &'r Tests<J>,
+    /// The query with its automaton.
+    compiled: Compiled<'r>,
 }
 
 /// The query with its automaton, or how a run ends that has none.
@@ -231,52 +293,54 @@ fn compiled_query<'q>(alloc: Global, query: &'q Query) -> Result<Compiled<'q>, E
 }
 
 /// The cursor is read.
-fn with_cursor<S: Shelf, O: Sink, L: Ledger>(
+fn with_cursor<S: Shelf, O: Sink, J: Judge, L: Ledger>(
     alloc: Global,
     request: &Request<'_>,
-    compiled: &Compiled<'_>,
+    asking: &Asking<'_, J>,
     shelf: &mut S,
     out: &mut O,
     steps: &mut Steps<L>,
 ) -> Ending
     requires plain { (request_view request.now).mode ≡ Mode.Plain }
-    requires names { AreResultNames (query_of compiled.now.query) compiled.now.automaton.names }
-    ensures case { FromCursor (request_view request.now) (query_of compiled.now.query) compiled.now.automaton.names
-        (store (S.held shelf.old) (S.faults shelf.old) (S.faults shelf.new))
+    requires query { asking.now.compiled.query ≡ asking.now.tested.now.query }
+    requires names { AreResultNames (query_of asking.now.compiled.query) asking.now.compiled.automaton.names }
+    requires bound { AreKnown (known asking.now.tests.now J.judges) asking.now.tested.now.asked }
+    ensures case { FromCursor (request_view request.now) (query_of asking.now.compiled.query) (checks_of (known asking.now.tests.now J.judges) asking.now.tested.now.asked)
         (work (change (O.written out.old) (O.written out.new) (O.faults out.old) (O.faults out.new)) (clock steps.old steps.new))
-        result.status (note_bytes result.note) }
+        result.status (note_bytes result.note) (store (S.held shelf.old) (S.faults shelf.old) (S.faults shelf.new)) asking.now.compiled.automaton.names }
 {
     let text = match request.after {
         Some(text) => text,
-        None => return with_place(alloc, request, compiled, None, shelf, out, steps),
+        None => return with_place(alloc, request, asking, None, shelf, out, steps),
     };
-    match row_cursor::read(text.as_bytes(), compiled.vars()) {
-        Ok(kept) => with_place(alloc, request, compiled, Some(&kept), shelf, out, steps),
+    match row_cursor::read(text.as_bytes(), asking.compiled.vars()) {
+        Ok(kept) => with_place(alloc, request, asking, Some(&kept), shelf, out, steps),
         Err(CursorFault::Syntax) => Ending::with(Status::Cursor, "cursor: not a cursor\n"),
         Err(CursorFault::Variables) => Ending::with(Status::Cursor, "cursor: other variables\n"),
     }
 }
 
 /// The document is fetched, for a page that begins after the row that is kept.
-fn with_place<S: Shelf, O: Sink, L: Ledger>(
+fn with_place<S: Shelf, O: Sink, J: Judge, L: Ledger>(
     alloc: Global,
     request: &Request<'_>,
-    compiled: &Compiled<'_>,
+    asking: &Asking<'_, J>,
     after: Option<&Kept>,
     shelf: &mut S,
     out: &mut O,
     steps: &mut Steps<L>,
 ) -> Ending
     requires plain { (request_view request.now).mode ≡ Mode.Plain }
-    requires names { AreResultNames (query_of compiled.now.query) compiled.now.automaton.names }
-    requires after { IsAfter compiled.now.automaton.names (request_view request.now).after (option_copied after) }
-    ensures case { FromPlace (request_view request.now) (query_of compiled.now.query) compiled.now.automaton.names (option_copied after.entry)
-        (store (S.held shelf.old) (S.faults shelf.old) (S.faults shelf.new))
+    requires query { asking.now.compiled.query ≡ asking.now.tested.now.query }
+    requires names { AreResultNames (query_of asking.now.compiled.query) asking.now.compiled.automaton.names }
+    requires bound { AreKnown (known asking.now.tests.now J.judges) asking.now.tested.now.asked }
+    requires after { IsAfter asking.now.compiled.automaton.names (request_view request.now).after (option_copied after) }
+    ensures case { FromPlace (request_view request.now) (query_of asking.now.compiled.query) (checks_of (known asking.now.tests.now J.judges) asking.now.tested.now.asked)
         (work (change (O.written out.old) (O.written out.new) (O.faults out.old) (O.faults out.new)) (clock steps.old steps.new))
-        result.status (note_bytes result.note) }
+        result.status (note_bytes result.note) (store (S.held shelf.old) (S.faults shelf.old) (S.faults shelf.new)) asking.now.compiled.automaton.names (option_copied after.entry) }
 {
     match fetch_all(alloc, shelf, request.document, DOCUMENT_LIMIT) {
-        Ok(document) => with_document(alloc, request, compiled, after, &document, out, steps),
+        Ok(document) => with_document(alloc, request, asking, after, &document, out, steps),
         Err(FetchFault::Failed) => Ending::with(Status::Read, "read failed: document\n"),
         Err(FetchFault::TooLong { seen: _ }) => {
             Ending::with(Status::Long, "document longer than 268435456 bytes\n")
@@ -285,68 +349,95 @@ fn with_place<S: Shelf, O: Sink, L: Ledger>(
     }
 }
 
-/// The answers after the row that is kept are begun, for a page of them.
-fn with_document<O: Sink, L: Ledger>(
+/// The answers after the row that is kept are begun, for a page of those that pass the tests.
+fn with_document<O: Sink, J: Judge, L: Ledger>(
     alloc: Global,
     request: &Request<'_>,
-    compiled: &Compiled<'_>,
+    asking: &Asking<'_, J>,
     after: Option<&Kept>,
     document: &[u8],
     out: &mut O,
     steps: &mut Steps<L>,
 ) -> Ending
     requires plain { (request_view request.now).mode ≡ Mode.Plain }
-    requires names { AreResultNames (query_of compiled.now.query) compiled.now.automaton.names }
-    requires after { IsAfter compiled.now.automaton.names (request_view request.now).after (option_copied after) }
+    requires query { asking.now.compiled.query ≡ asking.now.tested.now.query }
+    requires names { AreResultNames (query_of asking.now.compiled.query) asking.now.compiled.automaton.names }
+    requires bound { AreKnown (known asking.now.tests.now J.judges) asking.now.tested.now.asked }
+    requires after { IsAfter asking.now.compiled.automaton.names (request_view request.now).after (option_copied after) }
     requires short { length document.now ≤ DOCUMENT_LIMIT }
-    ensures case { FromDocument (request_view request.now) (query_of compiled.now.query) compiled.now.automaton.names (option_copied after.entry) document.now
+    ensures case { FromDocument (request_view request.now) (query_of asking.now.compiled.query) (checks_of (known asking.now.tests.now J.judges) asking.now.tested.now.asked)
         (work (change (O.written out.old) (O.written out.new) (O.faults out.old) (O.faults out.new)) (clock steps.old steps.new))
-        result.status (note_bytes result.note) }
+        result.status (note_bytes result.note) asking.now.compiled.automaton.names (option_copied after.entry) document.now }
 {
-    match begun(alloc, request, compiled, after, document, steps) {
-        Ok(mut answers) => write_page(
-            alloc,
-            request,
-            compiled.vars(),
-            document,
-            &mut answers,
-            out,
-            steps,
-        ),
+    match begun(alloc, request, &asking.compiled, after, document, steps) {
+        Ok(answers) => {
+            let mut rows = TestedRows::new(
+                answers,
+                asking.tested,
+                asking.compiled.vars(),
+                asking.tests,
+                document,
+            );
+            write_page(alloc, request, &mut rows, out, steps)
+        }
         Err(ending) => ending,
     }
 }
 
-/// The document of so many lines is made, and all answers on it are begun, for a summary of them.
-fn with_lines<O: Sink, L: Ledger>(
+/// The document of so many lines is made, and all answers on it are begun, for a summary of those that pass the tests.
+fn with_lines<O: Sink, J: Judge, L: Ledger>(
     alloc: Global,
     request: &Request<'_>,
     lines: u32,
-    compiled: &Compiled<'_>,
+    asking: &Asking<'_, J>,
     out: &mut O,
     steps: &mut Steps<L>,
 ) -> Ending
     requires trial { (request_view request.now).mode ≡ Mode.Trial lines }
     requires few { lines ≤ MOST_TRIAL_LINES }
-    requires names { AreResultNames (query_of compiled.now.query) compiled.now.automaton.names }
-    ensures case { FromDocument (request_view request.now) (query_of compiled.now.query) compiled.now.automaton.names None (trial_text lines)
+    requires query { asking.now.compiled.query ≡ asking.now.tested.now.query }
+    requires names { AreResultNames (query_of asking.now.compiled.query) asking.now.compiled.automaton.names }
+    requires bound { AreKnown (known asking.now.tests.now J.judges) asking.now.tested.now.asked }
+    ensures case { FromDocument (request_view request.now) (query_of asking.now.compiled.query) (checks_of (known asking.now.tests.now J.judges) asking.now.tested.now.asked)
         (work (change (O.written out.old) (O.written out.new) (O.faults out.old) (O.faults out.new)) (clock steps.old steps.new))
-        result.status (note_bytes result.note) }
+        result.status (note_bytes result.note) asking.now.compiled.automaton.names None (trial_text lines) }
 {
-    let document = match trial(alloc, lines) {
-        Ok(document) => document,
-        Err(OutOfMemory) => return Ending::out_of_memory(),
-    };
-    match begun(alloc, request, compiled, None, &document, steps) {
-        Ok(mut answers) => write_summary(
-            alloc,
-            lines,
-            compiled.vars(),
-            &document,
-            &mut answers,
-            out,
-            steps,
-        ),
+    match trial(alloc, lines) {
+        Ok(document) => with_trial(alloc, request, lines, asking, &document, out, steps),
+        Err(OutOfMemory) => Ending::out_of_memory(),
+    }
+}
+
+/// The answers on the document of so many lines are begun.
+fn with_trial<O: Sink, J: Judge, L: Ledger>(
+    alloc: Global,
+    request: &Request<'_>,
+    lines: u32,
+    asking: &Asking<'_, J>,
+    document: &[u8],
+    out: &mut O,
+    steps: &mut Steps<L>,
+) -> Ending
+    requires trial { (request_view request.now).mode ≡ Mode.Trial lines }
+    requires short { length document.now ≤ DOCUMENT_LIMIT }
+    requires query { asking.now.compiled.query ≡ asking.now.tested.now.query }
+    requires names { AreResultNames (query_of asking.now.compiled.query) asking.now.compiled.automaton.names }
+    requires bound { AreKnown (known asking.now.tests.now J.judges) asking.now.tested.now.asked }
+    ensures case { FromDocument (request_view request.now) (query_of asking.now.compiled.query) (checks_of (known asking.now.tests.now J.judges) asking.now.tested.now.asked)
+        (work (change (O.written out.old) (O.written out.new) (O.faults out.old) (O.faults out.new)) (clock steps.old steps.new))
+        result.status (note_bytes result.note) asking.now.compiled.automaton.names None document.now }
+{
+    match begun(alloc, request, &asking.compiled, None, document, steps) {
+        Ok(answers) => {
+            let mut rows = TestedRows::new(
+                answers,
+                asking.tested,
+                asking.compiled.vars(),
+                asking.tests,
+                document,
+            );
+            write_summary(alloc, lines, &mut rows, out, steps)
+        }
         Err(ending) => ending,
     }
 }
@@ -380,12 +471,8 @@ fn begun<L: Ledger>(
             Status::Cursor,
             "cursor: past the document\n",
         )),
-        Err(BeginFault::Filter { weight: _ }) => {
-            Err(past_limit(alloc, "size: filter past ", request.max_table))
-        }
-        Err(BeginFault::Table { weight: _ }) => {
-            Err(past_limit(alloc, "size: table past ", request.max_table))
-        }
+        Err(BeginFault::Filter { weight: _ }) => { Err(past_filter(alloc, request.max_table)) }
+        Err(BeginFault::Table { weight: _ }) => { Err(past_table(alloc, request.max_table)) }
         Err(BeginFault::OutOfMemory) => Err(Ending::out_of_memory()),
     }
 }
@@ -394,7 +481,7 @@ fn begun<L: Ledger>(
 fn of_another(alloc: Global, kept: u32, found: u32) -> Ending
     ensures { Is result.status (note_bytes result.note) Status.Cursor (other_document_text kept found) ⊎ IsOutOfMemory result.status (note_bytes result.note) }
 {
-    match other_document_note(alloc, kept, found) {
+    match other_document_line(alloc, kept, found) {
         Ok(note) => Ending {
             status: Status::Cursor,
             note,
@@ -403,11 +490,24 @@ fn of_another(alloc: Global, kept: u32, found: u32) -> Ending
     }
 }
 
-/// Something weighs more than the limit, which the note tells.
-fn past_limit(alloc: Global, what: &str, limit: u64) -> Ending
-    ensures { Is result.status (note_bytes result.note) Status.Size (at_place what.now limit) ⊎ IsOutOfMemory result.status (note_bytes result.note) }
+/// The filter weighs more than the limit, which the note tells.
+fn past_filter(alloc: Global, limit: u64) -> Ending
+    ensures { Is result.status (note_bytes result.note) Status.Size (filter_text limit) ⊎ IsOutOfMemory result.status (note_bytes result.note) }
 {
-    match limit_note(alloc, what, limit) {
+    match filter_line(alloc, limit) {
+        Ok(note) => Ending {
+            status: Status::Size,
+            note,
+        },
+        Err(OutOfMemory) => Ending::out_of_memory(),
+    }
+}
+
+/// The table weighs more than the limit, which the note tells.
+fn past_table(alloc: Global, limit: u64) -> Ending
+    ensures { Is result.status (note_bytes result.note) Status.Size (table_text limit) ⊎ IsOutOfMemory result.status (note_bytes result.note) }
+{
+    match table_line(alloc, limit) {
         Ok(note) => Ending {
             status: Status::Size,
             note,

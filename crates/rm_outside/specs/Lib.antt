@@ -4,3 +4,8 @@ pub mod Sink
 pub mod MemoryShelf
 pub mod MemorySink
 pub mod Status
+pub mod Change
+pub mod Lines
+pub mod Source
+pub mod MemorySource
+pub mod LineInput

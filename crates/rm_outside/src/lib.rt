@@ -7,21 +7,28 @@
 #![tactic(auto)]
 
 pub use file_shelf::{FileShelf, SystemFile, SystemFiles};
+pub use line_input::LineInput;
 pub use memory_shelf::MemoryShelf;
 pub use memory_sink::MemorySink;
+pub use memory_source::MemorySource;
 pub use open_shelf::OpenShelf;
 pub use opens::Opens;
 pub use shelf::{FetchFault, Shelf};
 pub use sink::{Sink, SinkFailed, SureSink};
+pub use source::{LineFault, Source};
 pub use status::Status;
 pub use stream_sink::{NoteSink, OutSink};
 
 mod file_shelf;
+mod line_input;
+mod lines;
 mod memory_shelf;
 mod memory_sink;
+mod memory_source;
 mod open_shelf;
 mod opens;
 mod shelf;
 mod sink;
+mod source;
 mod status;
 mod stream_sink;

@@ -1,8 +1,8 @@
 -- The lines of kept fields are the lines of rows.
-use Rattle.std.proofs.Common.{◌≡◌, ℕ, Bool, List, [], ◌∷◌, ◌++◌, length, map, refl, sym, ap, ◌∙◌, append_assoc, arith, Option}
+use Rattle.std.proofs.Common.{◌≡◌, ℕ, ◌+◌, ◌*◌, Bool, true, false, List, [], ◌∷◌, ◌++◌, length, map, refl, sym, ap, ◌∙◌, append_assoc, arith, Option, None, Some}
 use Rattle.span_core.specs.declared.span.Span.{Span}
 use Rattle.row_writer.specs.Lines.{more_fields, shown, spans_fields, spans_text, table_text}
-use Rattle.row_writer.specs.Kept.{cells_text, kept_text, more_names, more_tabs, spans_heads, table_heads}
+use Rattle.row_writer.specs.Kept.{cells_text, kept_text, line_room, more_names, more_tabs, spans_heads, table_heads}
 
 -- a name, a cell and what follows
 field_text : (name cell rest rest' : List ℕ) → rest ≡ rest' → (name ++ 61 ∷ []) ++ (cell ++ rest) ≡ (name ++ 61 ∷ cell) ++ rest'
@@ -50,3 +50,10 @@ more_tabs_length (name ∷ names) = let e = more_tabs_length names in omega arit
 pub table_heads_length : (names : List (List ℕ)) → length (table_heads names) ≡ length names
 table_heads_length [] = refl
 table_heads_length (name ∷ names) = let e = more_tabs_length names in omega arith
+
+-- without texts each field has the same room
+pub bare_room : (texts : Bool) (row : List (Option Span)) → texts ≡ false → 64 * (length row + 1) ≡ line_room texts row
+bare_room true row e = absurd (cc)
+bare_room false [] e = refl
+bare_room false (None ∷ row) e = let r = bare_room false row refl in omega (arith, r)
+bare_room false (Some span ∷ row) e = let r = bare_room false row refl in omega (arith, r)

@@ -91,6 +91,9 @@ pub fn kept_room(spans: &[Option<Span>], texts: bool) -> usize
     requires { length spans.now ≤ MOST_VARIABLES }
     ensures { result ≡ line_room texts spans.now }
 {
+    if !texts {
+        return FIELD_BYTES * (spans.len() + 1);
+    }
     let mut room = FIELD_BYTES;
     for span in spans {
         room += field_room(*span, texts);

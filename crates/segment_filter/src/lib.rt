@@ -17,6 +17,4 @@ mod readings;
 mod sets;
 mod sharing;
 mod tables;
-#[cfg(test)]
-mod tests;
 mod touching;

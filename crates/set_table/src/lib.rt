@@ -18,5 +18,3 @@ mod sets;
 mod state;
 mod store;
 mod table;
-#[cfg(test)]
-mod tests;

@@ -2,7 +2,7 @@
 //!
 //! Weight is counted as it is added, so that a look-up is refused exactly where it would pass the limit; what a
 //! refused look-up had added is taken back.
-ghost use Rattle.std.specs.Prelude.{◌≡◌, ℕ, ◌+◌, ◌<◌, ◌≤◌, List, [], ◌∷◌, length, IfOk, IfErr, IfSome, OnOk, OnErr, MatchResult, Some, slice_get, ◌↔◌, IsTrue};
+ghost use Rattle.std.specs.Prelude.{◌≡◌, ℕ, ◌+◌, ◌<◌, ◌≤◌, List, [], ◌∷◌, length, IfOk, IfErr, IfNone, IfSome, OnOk, OnErr, MatchResult, Some, slice_get, ◌↔◌, IsTrue};
 ghost use Rattle.automaton_reading.specs.Reading.{byte_read, rest_taken, ended};
 ghost use Rattle.std.specs.FinSet as bytes;
 ghost use Rattle.std.specs.Borrow.{sem};
@@ -189,7 +189,8 @@ impl<'a> Table<'a> {
 
     /// The edges of a set on a byte, where there is that set and they were asked before. It takes no step: nothing is made.
     pub fn asked_row(&self, set: u32, byte: u8) -> Option<&[Edge]>
-        ensures { IfSome result (λ es. (set < length self.now.sets) × HasEdges self.now (asking set (byte_read byte)) es.now) }
+        ensures some { IfSome result (λ es. (set < length self.now.sets) × HasEdges self.now (asking set (byte_read byte)) es.now) }
+        ensures none { IfNone result (set < length self.now.sets → ¬ Has self.now.asked (asking set (byte_read byte))) }
     {
         if self.store.sets.len() <= set as usize {
             return None;

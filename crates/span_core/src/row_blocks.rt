@@ -75,23 +75,3 @@ pub fn blocks_tell_rows()
 pub fn faults_tell_no_row()
     ensures { FaultsTellNoRow }
 {}
-
-#[cfg(test)]
-mod tests {
-    use super::*;
-
-    /// `x=0-2 y=- z=2-2`: at 2 both end, and z starts too.
-    #[test]
-    fn reads_a_row_back(rt: HostRuntime) {
-        let at_two = Marks::closing(0, 3)
-            .with(Marks::opening(2, 3))
-            .with(Marks::closing(2, 3));
-        assert_eq!(rt; at_two.number(), 19);
-        let mut row = Row::empty();
-        row.push(Some(Span::new(0, 2)));
-        row.push(None);
-        row.push(Some(Span::new(2, 2)));
-        let blocks = [(0, Marks::opening(0, 3)), (2, at_two)];
-        assert_eq!(rt; Row::of_blocks(3, &blocks), Some(row));
-    }
-}

@@ -1,5 +1,5 @@
 //! Block order, the order of rows.
-ghost use Rattle.std.specs.Prelude.{◌≡◌, ℕ, length, OnOk, IsSorted};
+ghost use Rattle.std.specs.Prelude.{◌≡◌, ℕ, length};
 ghost use Rattle.span_core.specs.Block.{block, marker};
 ghost use Rattle.span_core.specs.Digits.{digit};
 ghost use Rattle.span_core.specs.Order.{IsOrderOf, RowsAreOrdered};
@@ -137,67 +137,5 @@ fn earlier(front: Option<(u32, Ordering)>, back: Option<(u32, Ordering)>) -> Opt
         (Some(front), Some(back)) => Some(if back.0 < front.0 { back } else { front }),
         (None, back) => back,
         (front, None) => front,
-    }
-}
-
-#[cfg(test)]
-mod tests {
-    use super::*;
-    use std::alloc::AllocError;
-    use std::test::Fail;
-
-    /// std's sort puts rows in block order.
-    fn sort(rows: &mut Vec<Row>) -> Result<(), AllocError>
-        ensures { OnOk result (IsSorted row_cmp rows.new.items) }
-    {
-        rows.sort()
-    }
-
-    fn row(x: Span, y: Span, z: Span) -> Row {
-        let mut row = Row::empty();
-        row.push(Some(x));
-        row.push(Some(y));
-        row.push(Some(z));
-        row
-    }
-
-    /// At position 0 the first row opens x and z, and the second x alone. As lists of spans they
-    /// stand the other way round.
-    #[test]
-    fn sorts_by_blocks(rt: HostRuntime) -> Result<(), Fail> {
-        let first = || row(Span::new(0, 1), Span::new(1, 2), Span::new(0, 1));
-        let second = || row(Span::new(0, 1), Span::new(1, 1), Span::new(1, 1));
-        assert_eq!(rt; compare(&first(), &second()), Ordering::Less);
-        let mut rows = Vec::new(rt.alloc());
-        rows.push(second())?;
-        rows.push(first())?;
-        sort(&mut rows)?;
-        assert_eq!(rt; rows.len(), 2);
-        assert_eq!(rt; rows[0], first());
-        assert_eq!(rt; rows[1], second());
-        Ok(())
-    }
-
-    /// One variable: by start, and then by end; the row from which it is absent is the last.
-    #[test]
-    fn orders_one_variable_by_start_and_end(rt: HostRuntime) {
-        let spans = [
-            Some(Span::new(0, 0)),
-            Some(Span::new(0, 2)),
-            Some(Span::new(1, 1)),
-            Some(Span::new(1, 3)),
-            None,
-        ];
-        for (i, a) in spans.iter().enumerate() {
-            for (j, b) in spans.iter().enumerate() {
-                assert_eq!(rt; compare(&one(*a), &one(*b)), i.cmp(&j));
-            }
-        }
-    }
-
-    fn one(x: Option<Span>) -> Row {
-        let mut row = Row::empty();
-        row.push(x);
-        row
     }
 }

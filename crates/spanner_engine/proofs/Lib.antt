@@ -1,5 +1,6 @@
 pub mod AtomWalk
 pub mod Costs
+pub mod MinusWalk
 pub mod FromWords
 pub mod Past
 pub mod ReadAt
@@ -7,3 +8,4 @@ pub mod Results
 pub mod RowLaws
 pub mod Starting
 pub mod WordLaws
+pub mod PassingLaws

@@ -1,14 +1,14 @@
 -- The positions at which a document is read, as sets.
-use Rattle.std.proofs.Common.{◌≡◌, ℕ, ◌+◌, ◌<◌, ◌≤◌, ◌↔◌, Bool, true, false, List, [], ◌∷◌, length, Option, Some, None, inl, inr, refl, sym, subst, arith}
+use Rattle.std.proofs.Common.{◌≡◌, ℕ, ◌+◌, ◌<◌, ◌≤◌, ◌⊎◌, ◌↔◌, Bool, true, false, List, [], ◌∷◌, length, Option, Some, None, inl, inr, refl, sym, subst, arith}
 use Rattle.std.specs.Prelude.{◌&&◌, ◌||◌, nat_le, IsTrue}
 use Rattle.std.proofs.lemmas.Bool.{le-leb, leb-true, true≢false}
 use Rattle.span_core.specs.Intervals.{Covers}
 use Rattle.spanner_model.specs.Answers.{SpanRow}
-use Rattle.spanner_model.specs.Expression.{ExprTree, QueryTree, atom, join, join_end, named, project, union, union_end}
+use Rattle.spanner_model.specs.Expression.{ExprTree, QueryTree, atom, join, join_end, minus, named, project, union, union_end}
 use Rattle.spanner_model.specs.Tree.{Tree}
 use Rattle.marked_automaton.proofs.Passing.{both_true, left_true, or_left, or_right, right_true}
 use Rattle.automaton_reading.specs.Reading.{edges_K}
-use Rattle.filter_laws.specs.Touching.{Contains, IsSetOf, SomeAtom, TouchedOf}
+use Rattle.filter_laws.specs.Touching.{Contains, HasMinus, IsSetOf, SomeAtom, TouchedOf}
 use Rattle.set_table.specs.declared.fault.TableFault.{TableFault}
 use Rattle.set_table.specs.declared.fault.TableFault.TheVariants.{Full}
 use Rattle.one_pass.specs.Builds.{build}
@@ -60,14 +60,30 @@ some_then P X then_ join_end h = absurd h
 some_then P X then_ (join e rest) (inl h) = some_then P X then_ e h
 some_then P X then_ (join e rest) (inr h) = some_then P X then_ rest h
 some_then P X then_ (project kept e) h = some_then P X then_ e h
+some_then P X then_ (minus e g) (inl h) = some_then P X then_ e h
+some_then P X then_ (minus e g) (inr h) = some_then P X then_ g h
 
 pub touched_within : (q : QueryTree) (d : List ℕ) (i : ℕ) → TouchedOf q d i → i ≤ length d
-touched_within q d i (inl h) = some_then _ (i ≤ length d) (λ s t f p. omega (arith, p.4, p.8)) h.0.1 h.2
-touched_within q d i (inr h) = some_then _ (i ≤ length d) (λ s t f p. omega (arith, p.4, p.8)) q.body h
+touched_within q d i (inl (inl h)) = some_then _ (i ≤ length d) (λ s t f p. omega (arith, p.4, p.8)) h.0.1 h.2
+touched_within q d i (inl (inr h)) = some_then _ (i ≤ length d) (λ s t f p. omega (arith, p.4, p.8)) q.body h
+touched_within q d i (inr h) = h.1
 
 pub read_within : (filter : Bool) (q : QueryTree) (d : List ℕ) (i : ℕ) → IsReadAt filter q d i → i ≤ length d
 read_within false q d i h = h
 read_within true q d i h = touched_within q d i h
+
+-- without the filter, and where a difference stands in the text, all of the document is read
+pub read_whole : (filter : Bool) (q : QueryTree) (d : List ℕ) → (filter ≡ false) ⊎ HasMinus q → (i : ℕ) → (i ≤ length d) ↔ IsReadAt filter q d i
+read_whole false q d why i = (λ h. h, λ h. h)
+read_whole true q d (inl not) i = absurd (true≢false not)
+read_whole true q d (inr has) i = (λ h. inr (has, h), λ h. touched_within q d i h)
+
+-- the positions from 0 to n
+pub covers_whole : (parts : List (ℕ × ℕ)) (n i : ℕ) → parts ≡ (0, n) ∷ [] → Covers parts i ↔ (i ≤ n)
+covers_whole parts n i is = (
+  λ h. elim (subst (λ (ps : List (ℕ × ℕ)). Covers ps i) is h) as (λ _. i ≤ n) [ inl p ↦ p.1 | inr q ↦ absurd q ],
+  λ h. subst (λ (ps : List (ℕ × ℕ)). Covers ps i) (sym is) (inl (omega arith, h)),
+)
 
 pub touched_read : (filter : Bool) (q : QueryTree) (d : List ℕ) (i : ℕ) → TouchedOf q d i → IsReadAt filter q d i
 touched_read false q d i h = touched_within q d i h

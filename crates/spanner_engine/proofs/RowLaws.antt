@@ -1,5 +1,5 @@
 -- The rows of the words that are read are the answers.
-use Rattle.std.proofs.Common.{◌≡◌, ℕ, ◌+◌, ◌<◌, ◌≤◌, Bool, List, [], ◌∷◌, length, Option, Some, None, inl, inr, refl, sym, ◌∙◌, subst, arith}
+use Rattle.std.proofs.Common.{◌≡◌, ℕ, ◌+◌, ◌<◌, ◌≤◌, Bool, true, List, [], ◌∷◌, length, Option, Some, None, inl, inr, refl, sym, ◌∙◌, subst, arith}
 use Rattle.std.specs.List.{AllByRecursion}
 use Rattle.std.proofs.lemmas.Bool.{cases_lt}
 use Rattle.std.proofs.lemmas.List.{length-map}
@@ -19,7 +19,10 @@ use Rattle.place_automaton.specs.Words.{IsWordOf}
 use Rattle.enumerator.specs.Enumeration.{AreInBlockOrder, AreRowsOf, IsWordOfRow, SpanRow}
 use Rattle.one_pass.specs.Places.{AreReadWords, word_of}
 use Rattle.one_pass.specs.Words.{Word}
-use Rattle.spanner_engine.specs.Laws.{ReadsAnswers, RowsAfterAreTheRest, RowsAreAnswers, WordsAreOfRows}
+use Rattle.automaton_reading.proofs.Determined.{reading_law}
+use Rattle.place_automaton.specs.Atom.{AreBytes}
+use Rattle.query_automaton.specs.CompiledQuery.{IsCompiled}
+use Rattle.spanner_engine.specs.Laws.{CompiledAcceptsRows, ReadsAnswers, RowsAfterAreTheRest, RowsAreAnswers, WholeRowsAreAnswers, WordsAreOfRows}
 use Rattle.spanner_engine.proofs.WordLaws.{word_ends, word_is_block_list, word_lists}
 
 -- ---- the row of an answer
@@ -47,7 +50,7 @@ module _ (q : QueryTree) (A : Marked) (d : List ℕ) where
   ]
 
   -- so that it is the word of that row
-  is_row : (m : Mapping) (w : ℕ → ℕ) → IsAnswer q d m → IsWordOf (row_of A.names m) d w →
+  pub is_row : (m : Mapping) (w : ℕ → ℕ) → IsAnswer q d m → IsWordOf (row_of A.names m) d w →
       IsRowOfBlocks (length A.names) (word_of w (length d)) (row_of A.names m)
   is_row m w answer is = record {
     variables = length-map A.names m;
@@ -135,3 +138,20 @@ words_are_of_rows q A d K reads words read = word_of_row q A d K reads words rea
 
 pub rows_are_answers : RowsAreAnswers
 rows_are_answers q A d K reads words read rows are order = answers q A d K reads words read rows are (in_order rows order)
+
+-- ---- a compiled query that reads at all positions
+
+whole_reads : (q : QueryTree) (A : Marked) → IsCompiled q A → (d : List ℕ) → AreBytes d → ReadsAnswers q A d (λ i. true)
+whole_reads q A made d bytes w = (
+  λ h. (made.words.1 d bytes w).0 ((reading_law A.graph d w).0 h),
+  λ h. (reading_law A.graph d w).1 ((made.words.1 d bytes w).1 h),
+)
+
+pub compiled_rows : CompiledAcceptsRows
+compiled_rows q A made d bytes w accepted =
+    let a = (made.words.1 d bytes w).0 accepted in
+    (word_is_block_list w (length d), (row_of A.names a.0, is_row q A d a.0 w a.1 a.2))
+
+pub whole_rows : WholeRowsAreAnswers
+whole_rows q A made d bytes words read rows are order =
+    rows_are_answers q A d (λ i. true) (whole_reads q A made d bytes) words read rows are order

@@ -9,7 +9,7 @@ use Rattle.marked_automaton.specs.Automaton.{Automaton}
 use Rattle.automaton_reading.specs.Reading.{edges_K, weight_K}
 use Rattle.query_automaton.specs.QueryAutomaton.{of_query}
 use Rattle.one_pass.specs.Builds.{build}
-use Rattle.filter_laws.specs.Touching.{IsSetOf, SomeAtomOf, TouchedOf, sum_atoms_of}
+use Rattle.filter_laws.specs.Touching.{HasMinus, IsSetOf, SomeAtomOf, TouchedOf, sum_atoms_of}
 use Rattle.segment_filter.specs.Costs.{atom_weight, touching_steps}
 use Rattle.spanner_engine.specs.declared.beginning.BeginFault.{BeginFault}
 use Rattle.spanner_engine.specs.declared.beginning.BeginFault.TheVariants.{CursorOther, CursorPlace, Filter, Table, OutOfMemory}
@@ -33,7 +33,8 @@ abbrev pub IsPast : ℕ → Option Kept → Type 0
 IsPast n None = ⊥
 IsPast n (Some kept) = (kept.length ≡ None) × EndsPast n kept.row
 
--- the positions at which a document is read: all of them, or with the filter those that some atom of the query's text touches
+-- the positions at which a document is read: all of them, or with the filter those that some atom of the query's text touches; where a
+-- difference stands in that text, these are all of them too
 abbrev pub IsReadAt : Bool → QueryTree → List ℕ → ℕ → Type 0
 IsReadAt false q d i = i ≤ length d
 IsReadAt true q d i = TouchedOf q d i
@@ -50,7 +51,7 @@ counted q = (of_query q).graph
 abbrev pub table_weight : QueryTree → List ℕ → (ℕ → Bool) → ℕ
 table_weight q d K = weight_K (counted q) d K
 
--- to find the positions: nothing where all are read
+-- to find the positions, at most; nothing where all are read
 abbrev pub filter_steps : Bool → QueryTree → List ℕ → ℕ
 filter_steps false q d = 0
 filter_steps true q d = sum_atoms_of (λ s t f. touching_steps s t f d) q
@@ -70,11 +71,11 @@ begin_steps filter q d K after =
     filter_steps filter q d + build (counted q) d K + cells_sought (edges_K (counted q) d K + 1) after
 
 -- why nothing is begun: the cursor keeps another length than the document's; or it keeps none, and a span ends past the document; some
--- atom, or reading at the positions, weighs more than the limit; want of memory has no cause
+-- atom of a text without differences, or reading at the positions, weighs more than the limit; want of memory has no cause
 abbrev pub IsBeginFault : QueryTree → List ℕ → Bool → Option Kept → ℕ → BeginFault → Type 0
 IsBeginFault q d filter after limit (CursorOther kept found) = KeepsOther (length d) after kept × (found ≡ length d)
 IsBeginFault q d filter after limit CursorPlace = IsPast (length d) after
-IsBeginFault q d filter after limit (Filter weight) = IsTrue filter × SomeAtomOf (λ s t f. (limit < weight) × (weight ≤ atom_weight s t f d)) q
+IsBeginFault q d filter after limit (Filter weight) = IsTrue filter × ¬ HasMinus q × SomeAtomOf (λ s t f. (limit < weight) × (weight ≤ atom_weight s t f d)) q
 IsBeginFault q d filter after limit (Table weight) =
     (limit < weight) × ((K : ℕ → Bool) → AreRead filter q d K → weight ≤ table_weight q d K)
 IsBeginFault q d filter after limit OutOfMemory = Unit {0}

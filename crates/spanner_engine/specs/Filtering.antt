@@ -4,7 +4,7 @@ use Rattle.span_core.specs.Intervals.{Covers}
 use Rattle.spanner_model.specs.Expression.{ExprTree, QueryTree}
 use Rattle.spanner_model.specs.Tree.{Tree}
 use Rattle.query_automaton.specs.Compiling.{IsAsked}
-use Rattle.filter_laws.specs.Touching.{IsTouchedBy, SomeAtom, SomeAtomOf, sum_atoms}
+use Rattle.filter_laws.specs.Touching.{HasMinus, IsTouchedBy, SomeAtom, SomeAtomOf, sum_atoms}
 use Rattle.segment_filter.specs.Costs.{atom_weight, touching_steps}
 use Rattle.segment_filter.specs.declared.fault.FilterFault.{FilterFault}
 use Rattle.segment_filter.specs.declared.fault.FilterFault.TheVariants.{Full, OutOfMemory}
@@ -30,9 +30,9 @@ abbrev pub HasFullAtom : List ℕ → ℕ → ExprTree → FilterFault → Type 
 HasFullAtom d limit e (Full weight) = SomeAtom (IsFullAtom d limit weight) e
 HasFullAtom d limit e OutOfMemory = Unit {0}
 
--- why the positions are not told: the filter is asked for, and some atom of the query's text passes the limit so
+-- why the positions are not told: the filter is asked for, no difference stands in the query's text, and some atom of it passes the limit so
 abbrev pub IsFilterFault : QueryTree → List ℕ → Bool → ℕ → FilterFault → Type 0
-IsFilterFault q d filter limit (Full weight) = IsTrue filter × SomeAtomOf (IsFullAtom d limit weight) q
+IsFilterFault q d filter limit (Full weight) = IsTrue filter × ¬ HasMinus q × SomeAtomOf (IsFullAtom d limit weight) q
 IsFilterFault q d filter limit OutOfMemory = Unit {0}
 
 -- to find what the atoms of the expression touch

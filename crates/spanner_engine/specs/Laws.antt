@@ -1,18 +1,20 @@
 -- From the words with which a document is read to the rows of a query's answers.
-use Rattle.std.specs.Prelude.{ℕ, ◌≤◌, ◌↔◌, Bool, List, length, Some}
+use Rattle.std.specs.Prelude.{ℕ, ◌≤◌, ◌↔◌, Bool, true, List, length, Some}
 use Rattle.span_core.specs.Lists.{Has}
 use Rattle.spanner_model.specs.Captures.{Mapping, row_of}
 use Rattle.spanner_model.specs.Expression.{QueryTree}
 use Rattle.spanner_model.specs.Answer.{IsAnswer}
 use Rattle.spanner_model.specs.Answers.{AreAnswers, IsRest}
-use Rattle.marked_automaton.specs.Automaton.{Automaton, IsMarked, Marked, size}
+use Rattle.marked_automaton.specs.Automaton.{Accepts, Automaton, IsMarked, Marked, size}
 use Rattle.marked_automaton.specs.Reduct.{Reduces}
 use Rattle.automaton_reading.specs.Chosen.{IsReadWith}
 use Rattle.automaton_reading.specs.Reading.{edges_K, weight_K}
+use Rattle.place_automaton.specs.Atom.{AreBytes}
 use Rattle.place_automaton.specs.Words.{IsWordOf}
+use Rattle.query_automaton.specs.CompiledQuery.{IsCompiled}
 use Rattle.enumerator.specs.Enumeration.{AreInBlockOrder, AreRowsOf, IsRestAfter, IsWordOfRow, SpanRow}
 use Rattle.one_pass.specs.Builds.{build}
-use Rattle.one_pass.specs.Places.{AreReadWords}
+use Rattle.one_pass.specs.Places.{AreReadWords, word_of}
 use Rattle.one_pass.specs.Words.{Word}
 
 -- reading at the positions of K finds the words of the rows of the query's answers, and no others
@@ -46,3 +48,15 @@ pub record CostsNoMore (A B : Automaton) (d : List ℕ) (K : ℕ → Bool) : Typ
 
 abbrev pub ReductCosts : Type 0
 ReductCosts = (A : Marked) (B : Automaton) → IsMarked A → Reduces A.graph B → (d : List ℕ) (K : ℕ → Bool) → CostsNoMore A.graph B d K
+
+-- every word that the automaton of a compiled query accepts is that of a row
+abbrev pub CompiledAcceptsRows : Type 0
+CompiledAcceptsRows =
+    (q : QueryTree) (A : Marked) → IsCompiled q A → (d : List ℕ) → AreBytes d → (w : ℕ → ℕ) →
+    Accepts A.graph d w → IsWordOfRow (length A.names) (word_of w (length d))
+
+-- the rows of the words with which it reads a whole document, in block order, are the answers
+abbrev pub WholeRowsAreAnswers : Type 0
+WholeRowsAreAnswers =
+    (q : QueryTree) (A : Marked) → IsCompiled q A → (d : List ℕ) → AreBytes d → (words : List Word) → AreReadWords A.graph (λ i. true) d words →
+    (rows : List SpanRow) → AreRowsOf (length A.names) words rows → AreInBlockOrder rows → AreAnswers q d A.names rows

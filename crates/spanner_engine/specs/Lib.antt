@@ -2,3 +2,5 @@ pub mod Begun
 pub mod Filtering
 pub mod Laws
 pub mod Left
+pub mod Fitting
+pub mod Passing

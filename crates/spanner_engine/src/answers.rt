@@ -28,8 +28,8 @@ impl Model for Answers {
 }
 
 impl Answers {
-    /// The rows that an enumerator will give.
-    pub(crate) fn of(rows: Enumerator) -> Answers
+    /// The rows that an enumerator still has. It takes no memory.
+    pub fn over(rows: Enumerator) -> Answers
         ensures variables { result.variables ≡ rows.variables }
         ensures rest { result.rest ≡ rows.rest }
     {

@@ -25,7 +25,8 @@ use std::sync::ledger::Ledger;
 /// How a document is read.
 #[derive(Clone, Copy, Debug, PartialEq, Eq)]
 pub struct Options {
-    /// Whether it is read only at the positions that some atom of the query touches.
+    /// Whether it is read only at the positions that some atom of the query touches. A query in whose text a difference stands
+    /// is read at all positions.
     pub filter: bool,
     /// The greatest weight of the filter of an atom, and of the table that it is read with, from 1 to 100,000,000.
     pub limit: u64,
@@ -50,11 +51,12 @@ pub enum BeginFault {
 /// answer, or all of them. All work that grows with the document is done here.
 ///
 /// With `options.filter` the document is read only at the positions that some atom of the query's text
-/// touches: each atom of each `let`, used or not, and of the body.
+/// touches: each atom of each `let`, used or not, and of the body. Where a difference stands in that text it is read at all
+/// positions, and no atom is weighed.
 ///
 /// `CursorOther` comes exactly where `after` keeps a length that is not the document's, and `CursorPlace` exactly where
 /// it keeps none and a span of its row ends past the document; no step is taken then.
-/// `Filter` comes only with the filter, where what the two readings of some atom meet weighs more than the
+/// `Filter` comes only with the filter and without differences, where what the two readings of some atom meet weighs more than the
 /// limit; `Table` only where reading the document at these positions weighs more than the limit, counted on
 /// the query's automaton with nothing left out. The weight that either tells is more than the limit, and no
 /// more than what is weighed.
@@ -100,7 +102,7 @@ pub fn begin<L: Ledger>(
         Err(TableFault::Full { weight }) => return Err(BeginFault::Table { weight }),
         Err(TableFault::OutOfMemory) => return Err(BeginFault::OutOfMemory),
     };
-    Ok(Answers::of(from_row(rows, after, steps)))
+    Ok(Answers::over(from_row(rows, after, steps)))
 }
 
 /// The enumerator at the first row after the one that is kept, or where it stands where none is.

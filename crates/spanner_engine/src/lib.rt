@@ -7,12 +7,17 @@
 pub use answers::Answers;
 pub use beginning::{BeginFault, Options, begin};
 pub use query_automaton::{Compiled, compile};
+pub use rows::TestedRows;
+pub use tested::{advance_tested, bind, next_tested};
 
 mod answers;
 mod beginning;
 mod building;
+mod differences;
 pub mod laws;
 mod place;
 mod positions;
+mod rows;
+mod tested;
 #[cfg(test)]
 mod tests;

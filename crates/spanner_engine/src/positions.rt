@@ -1,18 +1,21 @@
 //! The positions at which a document is read: all, or what the atoms of the query's text touch.
 //!
 //! Each atom is looked at by itself and their positions are merged. The atoms of every `let` count, used or not, as
-//! all are compiled.
-ghost use Rattle.std.specs.Prelude.{◌≡◌, ℕ, ◌+◌, ◌^◌, ◌≤◌, ◌↔◌, true, length, IfErr, IfOk};
+//! all are compiled. Where a difference stands in the text, all positions are read: what is taken away may stand anywhere.
+ghost use Rattle.std.specs.Prelude.{◌≡◌, ℕ, ◌+◌, ◌^◌, ◌≤◌, ◌⊎◌, ◌↔◌, false, true, length, IfErr, IfOk, IsTrue};
+ghost use Rattle.std.specs.Bool.{OnFalse, OnTrue};
 ghost use Rattle.span_core.specs.Intervals.{Covers};
 ghost use Rattle.span_core.specs.Lists.{Has};
 ghost use Rattle.spanner_model.specs.Expression.{ExprTree, atom as atom_tree, join_all};
 ghost use Rattle.spanner_model.specs.ExprView.{expr_of, exprs_of, query_of};
 ghost use Rattle.spanner_model.specs.Sound.{IsSound};
 ghost use Rattle.spanner_model.specs.View.{tree_of};
+ghost use Rattle.filter_laws.specs.Touching.{HasMinus};
 ghost use Rattle.spanner_engine.specs.Begun.{IsReadAt, filter_steps};
 ghost use Rattle.spanner_engine.specs.Filtering.{AddsTouched, HasFullAtom, IsFilterFault, IsInSound, steps_in};
 
 use crate::Options;
+use crate::differences::has_minus;
 use segment_filter::{FilterFault, touched};
 use span_core::{Steps, Touched};
 use spanner_model::{Atom, Expr, Exprs, Query};
@@ -20,7 +23,7 @@ use std::alloc::Global;
 use std::sync::ledger::Ledger;
 
 /// The positions at which a document is read: all of them, or with the filter those that some atom of the
-/// query's text touches.
+/// query's text touches, unless a difference stands there.
 pub(crate) fn positions_read<L: Ledger>(
     alloc: Global,
     query: &Query,
@@ -35,13 +38,24 @@ pub(crate) fn positions_read<L: Ledger>(
     ensures fault { IfErr result (IsFilterFault (query_of query.now) doc.now options.filter options.limit) }
     ensures steps { steps.new ≤ steps.old + filter_steps options.filter (query_of query.now) doc.now }
 {
-    if options.filter {
+    if leaves_out(query, options.filter) {
         return touched_by_query(alloc, query, doc, options.limit, steps);
     }
     Ok(Touched::all(alloc, doc.len() as u32)?)
 }
 
-/// The positions that the atoms of all `let`s, used or not, and of the body touch.
+/// Whether positions that no atom touches are left out: the filter is asked for, and no difference stands in the query's text.
+fn leaves_out(query: &Query, filter: bool) -> bool
+    ensures yes { OnTrue result (IsTrue filter × ¬ HasMinus (query_of query.now)) }
+    ensures no { OnFalse result ((filter ≡ false) ⊎ HasMinus (query_of query.now)) }
+{
+    if !filter {
+        return false;
+    }
+    !has_minus(query)
+}
+
+/// The positions that the atoms of all `let`s, used or not, and of the body touch, where no difference stands in the text.
 fn touched_by_query<L: Ledger>(
     alloc: Global,
     query: &Query,
@@ -50,6 +64,7 @@ fn touched_by_query<L: Ledger>(
     steps: &mut Steps<L>,
 ) -> Result<Touched, FilterFault>
     requires sound { IsSound (query_of query.now) }
+    requires plain { ¬ HasMinus (query_of query.now) }
     requires few { length doc.now ≤ 2 ^ 28 }
     requires limit { limit ≤ 100000000 }
     ensures touched { IfOk result (λ t. (i : ℕ) → Covers t i ↔ IsReadAt true (query_of query.now) doc.now i) }
@@ -86,6 +101,10 @@ fn touched_in<L: Ledger>(
         Expr::Union(parts) => touched_among(alloc, parts, before, doc, limit, steps),
         Expr::Join(parts) => touched_among(alloc, parts, before, doc, limit, steps),
         Expr::Project(_kept, sub) => touched_in(alloc, sub, before, doc, limit, steps),
+        Expr::Minus(left, right) => {
+            let found = touched_in(alloc, left, before, doc, limit, steps)?;
+            touched_in(alloc, right, found, doc, limit, steps)
+        }
     }
 }
 

@@ -5,7 +5,7 @@ use Rattle.std.specs.Option.{IsSomeAnd}
 use Rattle.std.specs.Str.{bytes_eq}
 use Rattle.std.proofs.lemmas.Slice.Eq.{bytes_eq-Decides}
 use Rattle.spanner_model.specs.Captures.{VarName, Captures, Mapping, Captured, span_of}
-use Rattle.spanner_model.specs.Expression.{ExprTree, QueryTree, atom, named, union_end, union, join_end, join, project}
+use Rattle.spanner_model.specs.Expression.{ExprTree, QueryTree, atom, named, union_end, union, join_end, join, project, minus}
 use Rattle.span_core.specs.declared.span.Span.{Span}
 use Rattle.spanner_model.specs.Sound.{SureOf, sure_of_lets, IsSureResult}
 use Rattle.spanner_model.specs.Answer.{VarOf, Answer, vars_of_lets, answers_of_lets, IsAnswer, IsResultVar}
@@ -31,6 +31,7 @@ module _ (V : ℕ → VarName → Type 0) (A : ℕ → Mapping → Type 0) (d : 
   answer_absent join_end m h x out = h x
   answer_absent (join e rest) m h x out = h.6 x out
   answer_absent (project kept e) m h x out = (h.2 x).1 out
+  answer_absent (minus e g) m h x out = answer_absent e m h.0 x out
 
 pub lets_absent : (lets : List (VarName × ExprTree)) (d : List ℕ) (n k : ℕ) (m : Mapping) → answers_of_lets lets d n k m → (x : VarName) → (vars_of_lets lets n k x → ⊥) → m x ≡ None
 lets_absent lets d zero k m h x out = absurd h
@@ -89,6 +90,7 @@ module _ (V S : ℕ → VarName → Type 0) (A : ℕ → Mapping → Type 0) (d 
       let r = answer_sure rest h.1 h.5 x v in (inr r.0, (r.1.0, sym ((h.4 x).0 r.0) ∙ r.1.1))
   answer_sure (project kept e) m h x v =
       let r = answer_sure e h.0 h.1 x v.1 in (v.0, (r.1.0, (h.2 x).0 v.0 ∙ r.1.1))
+  answer_sure (minus e g) m h x v = answer_sure e m h.0 x v
 
 module _ (lets : List (VarName × ExprTree)) (d : List ℕ) where
   three : (b : Bool) (P P' Q Q' R R' T : Type 0) → (P → Q → R × T) → (P' → Q' → R' × T) →

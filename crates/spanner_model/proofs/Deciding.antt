@@ -8,7 +8,7 @@ use Rattle.span_core.specs.Lists.{Has}
 use Rattle.spanner_model.specs.Tree.{Tree, empty, one, cat_end, cat, alt_end, alt, rep, cap}
 use Rattle.spanner_model.specs.Captures.{VarName}
 use Rattle.spanner_model.specs.Sequential.{HasVar}
-use Rattle.spanner_model.specs.Expression.{ExprTree, atom, named, union_end, union, join_end, join, project}
+use Rattle.spanner_model.specs.Expression.{ExprTree, atom, named, union_end, union, join_end, join, project, minus}
 use Rattle.spanner_model.specs.Answer.{VarOf, vars_of_lets}
 
 -- it holds, or it does not
@@ -51,6 +51,7 @@ module _ (V : ℕ → VarName → Type 0) (told : (k : ℕ) (x : VarName) → To
   told_of join_end x = inr (λ h. h)
   told_of (join e rest) x = told_either (told_of e x) (told_of rest x)
   told_of (project kept e) x = told_has kept x
+  told_of (minus e g) x = told_of e x
 
 told_choice : (b : Bool) {P Q : Type 0} → Told P → Told Q → Told (MatchBool b P Q)
 told_choice true p q = p

@@ -9,7 +9,7 @@ use Rattle.span_core.specs.Lists.{Has}
 use Rattle.spanner_model.specs.Tree.{Tree, empty, one, cat_end, cat, alt_end, alt, rep, cap}
 use Rattle.spanner_model.specs.Captures.{VarName, Captures, Mapping, span_of}
 use Rattle.spanner_model.specs.Fit.{Piece, Times, Fit}
-use Rattle.spanner_model.specs.Expression.{ExprTree, QueryTree, atom, named, union_end, union, join_end, join, project}
+use Rattle.spanner_model.specs.Expression.{ExprTree, QueryTree, atom, named, union_end, union, join_end, join, project, minus}
 use Rattle.spanner_model.specs.Answer.{VarOf, Answer, vars_of_lets, answers_of_lets, IsAnswer}
 use Rattle.spanner_model.proofs.FitLaws.{fit_le, fit_within}
 
@@ -85,6 +85,7 @@ module _ (V : ℕ → VarName → Type 0) (A : ℕ → Mapping → Type 0) (d : 
       by_cases (length d) p (λ past.
       let outside : Has kept x → ⊥ = λ a. (let le = answer_ends e h.0 h.1 x p (sym ((h.2 x).0 a) ∙ is) in omega (arith, le, past)) in
       given_not_absent (m x) p is ((h.2 x).1 outside))
+  answer_ends (minus e g) m h x p is = answer_ends e m h.0 x p is
 
 lets_end : (lets : List (VarName × ExprTree)) (d : List ℕ) (n k : ℕ) (m : Mapping) → answers_of_lets lets d n k m → EndsBy (length d) m
 lets_end lets d zero k m h = absurd h

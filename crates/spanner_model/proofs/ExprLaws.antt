@@ -5,7 +5,7 @@ use Rattle.std.specs.Option.{IsSomeAnd, ForSome}
 use Rattle.std.proofs.lemmas.Bool.Decides.{nat_tests}
 use Rattle.span_core.specs.Lists.{Has}
 use Rattle.spanner_model.specs.Captures.{VarName}
-use Rattle.spanner_model.specs.Expression.{ExprTree, QueryTree, atom, named, union_end, union, join_end, join, project, union_all, join_all}
+use Rattle.spanner_model.specs.Expression.{ExprTree, QueryTree, atom, named, union_end, union, join_end, join, project, minus, union_all, join_all}
 use Rattle.spanner_model.specs.Answer.{VarOf, vars_of_lets, IsResultVar}
 use Rattle.spanner_model.specs.Sound.{SureOf, sure_of_lets, SharesSure, IsSoundExpr, AreUnited, AreJoined, IsSoundUnder, NameIn, NameInLets, NameOf, IsSound}
 use Rattle.spanner_model.specs.Gathered.{vars_in, IsUnderLets, HaveRoom}
@@ -30,6 +30,7 @@ var_same V W same join_end x h = h
 var_same V W same (join e rest) x (inl h) = inl (var_same V W same e x h)
 var_same V W same (join e rest) x (inr h) = inr (var_same V W same rest x h)
 var_same V W same (project kept e) x h = h
+var_same V W same (minus e g) x h = var_same V W same e x h
 
 pub turned : (V W : LetVars) → SameVars V W → SameVars W V
 turned V W same k x = ((same k x).1, (same k x).0)
@@ -44,6 +45,7 @@ sure_same S T same join_end x h = h
 sure_same S T same (join e rest) x (inl h) = inl (sure_same S T same e x h)
 sure_same S T same (join e rest) x (inr h) = inr (sure_same S T same rest x h)
 sure_same S T same (project kept e) x h = (h.0, sure_same S T same e x h.1)
+sure_same S T same (minus e g) x h = sure_same S T same e x h
 
 -- and so the same expressions are sound
 module _ (V W S T : LetVars) (same : SameVars V W) (sure : SameVars S T) where
@@ -60,6 +62,7 @@ module _ (V W S T : LetVars) (same : SameVars V W) (sure : SameVars S T) where
   shares_same e (union g rest) h = tt
   shares_same e join_end h = tt
   shares_same e (project kept g) h = tt
+  shares_same e (minus g k) h = tt
 
   mutual
     pub sound_same : (n : ℕ) (e : ExprTree) → IsSoundExpr V S n e → IsSoundExpr W T n e
@@ -70,6 +73,14 @@ module _ (V W S T : LetVars) (same : SameVars V W) (sure : SameVars S T) where
     sound_same n join_end h = h
     sound_same n (join e rest) h = (sound_same n e h.0, joined_same n rest h.1, h.2, shares_same e rest h.3)
     sound_same n (project kept e) h = (sound_same n e h.0, (λ x a. (var_same V W same e x (h.1 x a).0, (h.1 x a).1)), h.2)
+    sound_same n (minus e g) h = (
+      sound_same n e h.0,
+      sound_same n g h.1,
+      λ x. (
+        (λ v. var_same V W same g x ((h.2 x).0 (var_same W V (turned V W same) e x v))),
+        (λ v. var_same V W same e x ((h.2 x).1 (var_same W V (turned V W same) g x v))),
+      ),
+    )
 
     united_same : (n : ℕ) (e : ExprTree) → AreUnited V S n e → AreUnited W T n e
     united_same n union_end h = h
@@ -91,6 +102,7 @@ mutual
   sound_under V S n join_end h = absurd h
   sound_under V S n (join e rest) h = (sound_under V S n e h.0, joined_under V S n rest h.1)
   sound_under V S n (project kept e) h = sound_under V S n e h.0
+  sound_under V S n (minus e g) h = (sound_under V S n e h.0, sound_under V S n g h.1)
 
   united_under : (V S : LetVars) (n : ℕ) (e : ExprTree) → AreUnited V S n e → IsUnderLets n e
   united_under V S n union_end h = tt
@@ -202,6 +214,7 @@ mutual
   var_named V S N known n (join e rest) x h (inl v) = elim (var_named V S N known n e x h.0 v) as (λ _. (NameIn e x ⊎ NameIn rest x) ⊎ N x) [ inl a ↦ inl (inl a) | inr b ↦ inr b ]
   var_named V S N known n (join e rest) x h (inr v) = elim (joined_named V S N known n rest x h.1 v) as (λ _. (NameIn e x ⊎ NameIn rest x) ⊎ N x) [ inl a ↦ inl (inr a) | inr b ↦ inr b ]
   var_named V S N known n (project kept e) x h v = var_named V S N known n e x h.0 (h.1 x v).0
+  var_named V S N known n (minus e g) x h v = elim (var_named V S N known n e x h.0 v) as (λ _. (NameIn e x ⊎ NameIn g x) ⊎ N x) [ inl a ↦ inl (inl a) | inr b ↦ inr b ]
 
   united_named : (V S : LetVars) (N : VarName → Type 0) → ((k : ℕ) (x : VarName) → V k x → N x) → (n : ℕ) (e : ExprTree) (x : VarName) → AreUnited V S n e → VarOf V e x → NameIn e x ⊎ N x
   united_named V S N known n union_end x h v = absurd v

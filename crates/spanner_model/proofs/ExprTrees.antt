@@ -5,12 +5,12 @@ use Rattle.std.specs.Option.{option_map}
 use Rattle.std.proofs.lemmas.List.{length-map}
 use Rattle.std.proofs.lemmas.Option.{slice_get-get_or, slice_get-map}
 use Rattle.spanner_model.specs.View.{tree_of}
-use Rattle.spanner_model.specs.Expression.{ExprTree, atom, named, project, union_all, join_all}
+use Rattle.spanner_model.specs.Expression.{ExprTree, atom, named, project, minus, union_all, join_all}
 use Rattle.spanner_model.specs.ExprView.{node_expr, part_exprs, expr_of, exprs_of}
 use Rattle.spanner_model.specs.declared.formula.Atom as atom_type
 use Rattle.spanner_model.specs.declared.expression.Expr.{Expr, Expr-F, fold-roll-Expr}
 use Rattle.spanner_model.specs.declared.expression.Exprs.{Exprs, out-Exprs, fold_out-Exprs}
-use Rattle.spanner_model.specs.declared.expression.Expr.TheVariants.{Atom, Named, Union, Join, Project, rolls-Atom, rolls-Named, rolls-Union, rolls-Join, rolls-Project}
+use Rattle.spanner_model.specs.declared.expression.Expr.TheVariants.{Atom, Named, Union, Join, Project, rolls-Atom, rolls-Named, rolls-Union, rolls-Join, rolls-Project, Minus, rolls-Minus}
 
 pub expr_of-Atom : (a : atom_type.Atom) → expr_of (Atom a) ≡ atom a.from_start a.to_end (tree_of a.formula)
 expr_of-Atom a = ap expr_of (sym (rolls-Atom a)) ∙ fold-roll-Expr ExprTree (List ExprTree) node_expr part_exprs (Expr-F.Atom a)
@@ -27,6 +27,10 @@ expr_of-Join parts = ap expr_of (sym (rolls-Join parts)) ∙ fold-roll-Expr Expr
 pub expr_of-Project : (kept : List (List ℕ)) (sub : Box Expr Global) → expr_of (Project kept sub) ≡ project kept (expr_of sub.value)
 expr_of-Project kept sub =
     ap expr_of (sym (rolls-Project kept sub)) ∙ fold-roll-Expr ExprTree (List ExprTree) node_expr part_exprs (Expr-F.Project kept sub)
+
+pub expr_of-Minus : (left right : Box Expr Global) → expr_of (Minus left right) ≡ minus (expr_of left.value) (expr_of right.value)
+expr_of-Minus left right =
+    ap expr_of (sym (rolls-Minus left right)) ∙ fold-roll-Expr ExprTree (List ExprTree) node_expr part_exprs (Expr-F.Minus left right)
 
 pub exprs_of-out : (parts : Exprs) → exprs_of parts ≡ map expr_of (out-Exprs parts).list.items
 exprs_of-out parts = fold_out-Exprs ExprTree (List ExprTree) node_expr part_exprs parts

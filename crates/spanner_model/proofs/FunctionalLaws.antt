@@ -5,7 +5,7 @@ use Rattle.std.specs.Option.{IsSomeAnd, ForSome}
 use Rattle.spanner_model.specs.Tree.{Tree, empty, one, cat_end, cat, alt_end, alt, rep, cap}
 use Rattle.spanner_model.specs.Captures.{VarName, Mapping}
 use Rattle.spanner_model.specs.Sequential.{HasVar, IsSequential, IsSure}
-use Rattle.spanner_model.specs.Expression.{ExprTree, QueryTree, atom, named, union_end, union, join_end, join, project}
+use Rattle.spanner_model.specs.Expression.{ExprTree, QueryTree, atom, named, union_end, union, join_end, join, project, minus}
 use Rattle.spanner_model.specs.Answer.{VarOf, Answer, vars_of_lets, answers_of_lets, IsAnswer, IsResultVar}
 use Rattle.spanner_model.specs.Sound.{SureOf, sure_of_lets, IsSureResult, SharesSure, IsSoundExpr, AreUnited, AreJoined, IsSoundUnder, IsSound}
 use Rattle.spanner_model.specs.Functional.{AgreesWithArms, IsFunctional, AgreesWithParts, IsFunctionalExpr, AreUnitedEqual, AreJoinedFunctional, IsFunctionalUnder, IsFunctionalQuery}
@@ -72,6 +72,7 @@ first_var V e (union g r) x agree (inr b) = (agree x).1 b
 first_var V e join_end x agree (inr b) = (agree x).1 b
 first_var V e (join g r) x agree (inr b) = (agree x).1 b
 first_var V e (project kept g) x agree (inr b) = (agree x).1 b
+first_var V e (minus g k) x agree (inr b) = (agree x).1 b
 
 module _ (V S : ℕ → VarName → Type 0) (lets_sure : (k : ℕ) (x : VarName) → V k x → S k x) where
   parts_sure : (e rest : ExprTree) (x : VarName) → AgreesWithParts V e rest → VarOf V e x → (VarOf V rest x → SureOf S rest x) → SureOf S rest x
@@ -82,6 +83,7 @@ module _ (V S : ℕ → VarName → Type 0) (lets_sure : (k : ℕ) (x : VarName)
   parts_sure e join_end x agree v go = go ((agree x).0 v)
   parts_sure e (join g r) x agree v go = go ((agree x).0 v)
   parts_sure e (project kept g) x agree v go = go ((agree x).0 v)
+  parts_sure e (minus g k) x agree v go = go ((agree x).0 v)
 
   mutual
     pub functional_gives : (n : ℕ) (e : ExprTree) → IsFunctionalExpr V n e → (x : VarName) → VarOf V e x → SureOf S e x
@@ -95,6 +97,7 @@ module _ (V S : ℕ → VarName → Type 0) (lets_sure : (k : ℕ) (x : VarName)
     functional_gives n (join e rest) ok x (inl v) = inl (functional_gives n e ok.0 x v)
     functional_gives n (join e rest) ok x (inr v) = inr (joined_sure n rest ok.1 x v)
     functional_gives n (project kept e) ok x v = (v, functional_gives n e ok.0 x (ok.1 x v).0)
+    functional_gives n (minus e g) ok x v = functional_gives n e ok.0 x v
 
     united_sure : (n : ℕ) (e : ExprTree) → AreUnitedEqual V n e → (x : VarName) → VarOf V e x → SureOf S e x
     united_sure n union_end ok x v = tt
@@ -123,6 +126,7 @@ module _ (V S : ℕ → VarName → Type 0) (lets_sure : (k : ℕ) (x : VarName)
     sound n join_end ok = ok
     sound n (join e rest) ok = (sound n e ok.0, joined_sound n rest ok.1, ok.2, shares n e rest ok.0 ok.1)
     sound n (project kept e) ok = (sound n e ok.0, ok.1, ok.2)
+    sound n (minus e g) ok = (sound n e ok.0, sound n g ok.1, ok.2)
 
     united_sound : (n : ℕ) (e : ExprTree) → AreUnitedEqual V n e → AreUnited V S n e
     united_sound n union_end ok = tt
@@ -171,82 +175,91 @@ query_sure q s =
 -- ---- answers
 
 -- under lets whose variables are sure, A being the answers of lets and T those of before
-module _ (V S : ℕ → VarName → Type 0) (A T : ℕ → Mapping → Type 0) (d : List ℕ) where
-  pub total_answers : ((k : ℕ) (m : Mapping) → T k m → A k m) → (e : ExprTree) (m : Mapping) → TotalAnswer V T d e m → Answer V A d e m
-  total_answers go (atom s t f) m h = h
-  total_answers go (named k) m h = go k m h
-  total_answers go union_end m h = h
-  total_answers go (union e rest) m (inl h) = inl (total_answers go e m h)
-  total_answers go (union e rest) m (inr h) = inr (total_answers go rest m h)
-  total_answers go join_end m h = λ x. h.1 x (λ v. v)
-  total_answers go (join e rest) m h = (h.0, h.1, h.2, total_answers go e h.0 h.3, h.4, total_answers go rest h.1 h.5, h.6.1)
-  total_answers go (project kept e) m h = (h.0, total_answers go e h.0 h.1, h.2)
+module _ (V S : ℕ → VarName → Type 0) (A T : ℕ → Mapping → Type 0) (d : List ℕ)
+    (all_sure : (k : ℕ) (x : VarName) → V k x → S k x)
+    (given : (k : ℕ) (m : Mapping) → A k m → (x : VarName) → S k x → V k x × Gives m x)
+    (go : (k : ℕ) (m : Mapping) → T k m → A k m)
+    (back : (k : ℕ) (m : Mapping) → A k m → T k m) where
+  mutual
+    pub total_answers : (n : ℕ) (e : ExprTree) (m : Mapping) → IsFunctionalExpr V n e → TotalAnswer V T d e m → Answer V A d e m
+    total_answers n (atom s t f) m ok h = h
+    total_answers n (named k) m ok h = go k m h
+    total_answers n union_end m ok h = h
+    total_answers n (union e rest) m ok (inl h) = inl (total_answers n e m ok.0 h)
+    total_answers n (union e rest) m ok (inr h) = inr (united_answers n rest m ok.1 h)
+    total_answers n join_end m ok h = absurd ok
+    total_answers n (join e rest) m ok h = (h.0, h.1, h.2, total_answers n e h.0 ok.0 h.3, h.4, joined_answers n rest h.1 ok.1 h.5, h.6.1)
+    total_answers n (project kept e) m ok h = (h.0, total_answers n e h.0 ok.0 h.1, h.2)
+    total_answers n (minus e g) m ok h = (total_answers n e m ok.0 h.0, λ r. h.1 (answers_total n g m ok.1 r))
 
-  module _ (all_sure : (k : ℕ) (x : VarName) → V k x → S k x)
-      (given : (k : ℕ) (m : Mapping) → A k m → (x : VarName) → S k x → V k x × Gives m x)
-      (back : (k : ℕ) (m : Mapping) → A k m → T k m) where
-    mutual
-      pub answers_total : (n : ℕ) (e : ExprTree) (m : Mapping) → IsFunctionalExpr V n e → Answer V A d e m → TotalAnswer V T d e m
-      answers_total n (atom s t f) m ok h = h
-      answers_total n (named k) m ok h = back k m h
-      answers_total n union_end m ok h = h
-      answers_total n (union e rest) m ok (inl h) = inl (answers_total n e m ok.0 h)
-      answers_total n (union e rest) m ok (inr h) = inr (united_total n rest m ok.1 h)
-      answers_total n join_end m ok h = absurd ok
-      answers_total n (join e rest) m ok h =
-          let exactly : HasExactly (λ x. VarOf V e x ⊎ VarOf V rest x) m =
-          (λ x v. (answer_sure V S A d given (join e rest) m h x (functional_gives V S all_sure n (join e rest) ok x v)).1, h.6) in
-          (h.0, h.1, h.2, answers_total n e h.0 ok.0 h.3, h.4, joined_total n rest h.1 ok.1 h.5, exactly)
-      answers_total n (project kept e) m ok h = (h.0, answers_total n e h.0 ok.0 h.1, h.2)
+    united_answers : (n : ℕ) (e : ExprTree) (m : Mapping) → AreUnitedEqual V n e → TotalAnswer V T d e m → Answer V A d e m
+    united_answers n union_end m ok h = h
+    united_answers n (union e rest) m ok (inl h) = inl (total_answers n e m ok.0 h)
+    united_answers n (union e rest) m ok (inr h) = inr (united_answers n rest m ok.1 h)
+    united_answers n _ m ok h = absurd ok
 
-      united_total : (n : ℕ) (e : ExprTree) (m : Mapping) → AreUnitedEqual V n e → Answer V A d e m → TotalAnswer V T d e m
-      united_total n union_end m ok h = h
-      united_total n (union e rest) m ok (inl h) = inl (answers_total n e m ok.0 h)
-      united_total n (union e rest) m ok (inr h) = inr (united_total n rest m ok.1 h)
-      united_total n _ m ok h = absurd ok
+    joined_answers : (n : ℕ) (e : ExprTree) (m : Mapping) → AreJoinedFunctional V n e → TotalAnswer V T d e m → Answer V A d e m
+    joined_answers n join_end m ok h = λ x. h.1 x (λ v. v)
+    joined_answers n (join e rest) m ok h = (h.0, h.1, h.2, total_answers n e h.0 ok.0 h.3, h.4, joined_answers n rest h.1 ok.1 h.5, h.6.1)
+    joined_answers n _ m ok h = absurd ok
 
-      joined_total : (n : ℕ) (e : ExprTree) (m : Mapping) → AreJoinedFunctional V n e → Answer V A d e m → TotalAnswer V T d e m
-      joined_total n join_end m ok h = (λ x v. absurd v, λ x out. h x)
-      joined_total n (join e rest) m ok h =
-          let exactly : HasExactly (λ x. VarOf V e x ⊎ VarOf V rest x) m =
-          (λ x v. (answer_sure V S A d given (join e rest) m h x (joined_sure V S all_sure n (join e rest) ok x v)).1, h.6) in
-          (h.0, h.1, h.2, answers_total n e h.0 ok.0 h.3, h.4, joined_total n rest h.1 ok.1 h.5, exactly)
-      joined_total n _ m ok h = absurd ok
+    pub answers_total : (n : ℕ) (e : ExprTree) (m : Mapping) → IsFunctionalExpr V n e → Answer V A d e m → TotalAnswer V T d e m
+    answers_total n (atom s t f) m ok h = h
+    answers_total n (named k) m ok h = back k m h
+    answers_total n union_end m ok h = h
+    answers_total n (union e rest) m ok (inl h) = inl (answers_total n e m ok.0 h)
+    answers_total n (union e rest) m ok (inr h) = inr (united_total n rest m ok.1 h)
+    answers_total n join_end m ok h = absurd ok
+    answers_total n (join e rest) m ok h =
+        let exactly : HasExactly (λ x. VarOf V e x ⊎ VarOf V rest x) m =
+        (λ x v. (answer_sure V S A d given (join e rest) m h x (functional_gives V S all_sure n (join e rest) ok x v)).1, h.6) in
+        (h.0, h.1, h.2, answers_total n e h.0 ok.0 h.3, h.4, joined_total n rest h.1 ok.1 h.5, exactly)
+    answers_total n (project kept e) m ok h = (h.0, answers_total n e h.0 ok.0 h.1, h.2)
+    answers_total n (minus e g) m ok h = (answers_total n e m ok.0 h.0, λ r. h.1 (total_answers n g m ok.1 r))
 
-module _ (lets : List (VarName × ExprTree)) (d : List ℕ) where
-  let_total_answers : (n : ℕ) (o : Option (VarName × ExprTree)) (m : Mapping) →
-      ((k : ℕ) (m : Mapping) → total_answers_of_lets lets d n k m → answers_of_lets lets d n k m) →
-      IsSomeAnd o (λ l. TotalAnswer (vars_of_lets lets n) (total_answers_of_lets lets d n) d l.1 m) →
-      IsSomeAnd o (λ l. Answer (vars_of_lets lets n) (answers_of_lets lets d n) d l.1 m)
-  let_total_answers n None m before h = absurd h
-  let_total_answers n (Some l) m before h =
-      total_answers (vars_of_lets lets n) (sure_of_lets lets n) (answers_of_lets lets d n) (total_answers_of_lets lets d n) d before l.1 m h
+    united_total : (n : ℕ) (e : ExprTree) (m : Mapping) → AreUnitedEqual V n e → Answer V A d e m → TotalAnswer V T d e m
+    united_total n union_end m ok h = h
+    united_total n (union e rest) m ok (inl h) = inl (answers_total n e m ok.0 h)
+    united_total n (union e rest) m ok (inr h) = inr (united_total n rest m ok.1 h)
+    united_total n _ m ok h = absurd ok
 
-  pub lets_total_answers : (n k : ℕ) (m : Mapping) → total_answers_of_lets lets d n k m → answers_of_lets lets d n k m
-  lets_total_answers zero k m h = absurd h
-  lets_total_answers (suc n) k m h =
-      choice (nat_eq k n)
-      (IsSomeAnd (slice_get lets n) (λ l. TotalAnswer (vars_of_lets lets n) (total_answers_of_lets lets d n) d l.1 m)) (total_answers_of_lets lets d n k m)
-      (IsSomeAnd (slice_get lets n) (λ l. Answer (vars_of_lets lets n) (answers_of_lets lets d n) d l.1 m)) (answers_of_lets lets d n k m)
-      (let_total_answers n (slice_get lets n) m (lets_total_answers n)) (lets_total_answers n k m) h
+    joined_total : (n : ℕ) (e : ExprTree) (m : Mapping) → AreJoinedFunctional V n e → Answer V A d e m → TotalAnswer V T d e m
+    joined_total n join_end m ok h = (λ x v. absurd v, λ x out. h x)
+    joined_total n (join e rest) m ok h =
+        let exactly : HasExactly (λ x. VarOf V e x ⊎ VarOf V rest x) m =
+        (λ x v. (answer_sure V S A d given (join e rest) m h x (joined_sure V S all_sure n (join e rest) ok x v)).1, h.6) in
+        (h.0, h.1, h.2, answers_total n e h.0 ok.0 h.3, h.4, joined_total n rest h.1 ok.1 h.5, exactly)
+    joined_total n _ m ok h = absurd ok
 
-  module _ (are : (k : ℕ) → ForSome (slice_get lets k) (λ l. IsFunctionalUnder lets k l.1)) where
-    let_answers_total : (n : ℕ) (o : Option (VarName × ExprTree)) (m : Mapping) → slice_get lets n ≡ o →
-        ((k : ℕ) (m : Mapping) → answers_of_lets lets d n k m → total_answers_of_lets lets d n k m) →
-        IsSomeAnd o (λ l. Answer (vars_of_lets lets n) (answers_of_lets lets d n) d l.1 m) →
-        IsSomeAnd o (λ l. TotalAnswer (vars_of_lets lets n) (total_answers_of_lets lets d n) d l.1 m)
-    let_answers_total n None m at before h = absurd h
-    let_answers_total n (Some l) m at before h =
-        answers_total (vars_of_lets lets n) (sure_of_lets lets n) (answers_of_lets lets d n) (total_answers_of_lets lets d n) d
-        (lets_sure lets are n) (lets_given lets d n) before n l.1 m (are n l at).0 h
+-- both ways, of the first lets
+module _ (lets : List (VarName × ExprTree)) (d : List ℕ) (are : (k : ℕ) → ForSome (slice_get lets k) (λ l. IsFunctionalUnder lets k l.1)) where
+  abbrev Same : ℕ → Type 0
+  Same n = (k : ℕ) (m : Mapping) →
+      (total_answers_of_lets lets d n k m → answers_of_lets lets d n k m) × (answers_of_lets lets d n k m → total_answers_of_lets lets d n k m)
 
-    pub lets_answers_total : (n k : ℕ) (m : Mapping) → answers_of_lets lets d n k m → total_answers_of_lets lets d n k m
-    lets_answers_total zero k m h = absurd h
-    lets_answers_total (suc n) k m h =
-        choice (nat_eq k n)
-        (IsSomeAnd (slice_get lets n) (λ l. Answer (vars_of_lets lets n) (answers_of_lets lets d n) d l.1 m)) (answers_of_lets lets d n k m)
-        (IsSomeAnd (slice_get lets n) (λ l. TotalAnswer (vars_of_lets lets n) (total_answers_of_lets lets d n) d l.1 m)) (total_answers_of_lets lets d n k m)
-        (let_answers_total n (slice_get lets n) m refl (lets_answers_total n)) (lets_answers_total n k m) h
+  let_same : (n : ℕ) (o : Option (VarName × ExprTree)) (m : Mapping) → slice_get lets n ≡ o → Same n →
+      (IsSomeAnd o (λ l. TotalAnswer (vars_of_lets lets n) (total_answers_of_lets lets d n) d l.1 m) → IsSomeAnd o (λ l. Answer (vars_of_lets lets n) (answers_of_lets lets d n) d l.1 m))
+      × (IsSomeAnd o (λ l. Answer (vars_of_lets lets n) (answers_of_lets lets d n) d l.1 m) → IsSomeAnd o (λ l. TotalAnswer (vars_of_lets lets n) (total_answers_of_lets lets d n) d l.1 m))
+  let_same n None m at before = (λ h. absurd h, λ h. absurd h)
+  let_same n (Some l) m at before =
+      let V = vars_of_lets lets n in
+      let S = sure_of_lets lets n in
+      let A = answers_of_lets lets d n in
+      let T = total_answers_of_lets lets d n in (
+        λ h. total_answers V S A T d (lets_sure lets are n) (lets_given lets d n) (λ k m. (before k m).0) (λ k m. (before k m).1) n l.1 m (are n l at).0 h,
+        λ h. answers_total V S A T d (lets_sure lets are n) (lets_given lets d n) (λ k m. (before k m).0) (λ k m. (before k m).1) n l.1 m (are n l at).0 h,
+      )
+
+  pub lets_same : (n : ℕ) → Same n
+  lets_same zero k m = (λ h. absurd h, λ h. absurd h)
+  lets_same (suc n) k m =
+      let P : Type 0 = IsSomeAnd (slice_get lets n) (λ l. TotalAnswer (vars_of_lets lets n) (total_answers_of_lets lets d n) d l.1 m) in
+      let Q : Type 0 = IsSomeAnd (slice_get lets n) (λ l. Answer (vars_of_lets lets n) (answers_of_lets lets d n) d l.1 m) in
+      let here = let_same n (slice_get lets n) m refl (lets_same n) in
+      let before = lets_same n k m in (
+        choice (nat_eq k n) P (total_answers_of_lets lets d n k m) Q (answers_of_lets lets d n k m) here.0 before.0,
+        choice (nat_eq k n) Q (answers_of_lets lets d n k m) P (total_answers_of_lets lets d n k m) here.1 before.1,
+      )
 
 pub query_answers : (q : QueryTree) (d : List ℕ) (m : Mapping) → IsFunctionalQuery q → IsTotalAnswer q d m ↔ IsAnswer q d m
 query_answers q d m s =
@@ -254,7 +267,8 @@ query_answers q d m s =
     let V = vars_of_lets q.lets n in
     let S = sure_of_lets q.lets n in
     let A = answers_of_lets q.lets d n in
-    let T = total_answers_of_lets q.lets d n in (
-      total_answers V S A T d (lets_total_answers q.lets d n) q.body m,
-      answers_total V S A T d (lets_sure q.lets s.lets_are n) (lets_given q.lets d n) (lets_answers_total q.lets d s.lets_are n) n q.body m s.body_is.0,
+    let T = total_answers_of_lets q.lets d n in
+    let same = lets_same q.lets d s.lets_are n in (
+      total_answers V S A T d (lets_sure q.lets s.lets_are n) (lets_given q.lets d n) (λ k m. (same k m).0) (λ k m. (same k m).1) n q.body m s.body_is.0,
+      answers_total V S A T d (lets_sure q.lets s.lets_are n) (lets_given q.lets d n) (λ k m. (same k m).0) (λ k m. (same k m).1) n q.body m s.body_is.0,
     )

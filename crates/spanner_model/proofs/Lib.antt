@@ -15,6 +15,5 @@ pub mod Nodes
 mod OptionalRows
 pub mod PartLaws
 pub mod RowOrder
-pub mod SampleLaws
 pub mod TreeLaws
 pub mod Trees

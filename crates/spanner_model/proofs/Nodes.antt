@@ -1,7 +1,7 @@
 -- How large trees are, as a measure for recursions over them.
 use Rattle.std.specs.Prelude.{ℕ, ◌+◌}
 use Rattle.spanner_model.specs.Tree.{Tree, empty, one, cat_end, cat, alt_end, alt, rep, cap}
-use Rattle.spanner_model.specs.Expression.{ExprTree, atom, named, union_end, union, join_end, join, project}
+use Rattle.spanner_model.specs.Expression.{ExprTree, atom, named, union_end, union, join_end, join, project, minus}
 
 -- how many nodes the formula has; an end counts none
 abbrev pub nodes : Tree → ℕ
@@ -23,3 +23,4 @@ expr_nodes (union e rest) = 1 + expr_nodes e + expr_nodes rest
 expr_nodes join_end = 0
 expr_nodes (join e rest) = 1 + expr_nodes e + expr_nodes rest
 expr_nodes (project kept e) = 1 + expr_nodes e
+expr_nodes (minus e g) = 1 + expr_nodes e + expr_nodes g

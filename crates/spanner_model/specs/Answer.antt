@@ -5,7 +5,7 @@ use Rattle.std.specs.Prelude.{◌≡◌, ℕ, zero, suc, slice_get, ◌≤◌, �
 use Rattle.std.specs.Option.{IsSomeAnd}
 use Rattle.span_core.specs.Lists.{Has}
 use Rattle.spanner_model.specs.Tree.{Tree}
-use Rattle.spanner_model.specs.Expression.{ExprTree, QueryTree, atom, named, union_end, union, join_end, join, project}
+use Rattle.spanner_model.specs.Expression.{ExprTree, QueryTree, atom, named, union_end, union, join_end, join, project, minus}
 use Rattle.spanner_model.specs.Captures.{VarName, Captures, Mapping, span_of}
 use Rattle.spanner_model.specs.Fit.{Fit}
 use Rattle.spanner_model.specs.Sequential.{HasVar}
@@ -19,6 +19,7 @@ VarOf V (union e rest) x = VarOf V e x ⊎ VarOf V rest x
 VarOf V join_end x = ⊥
 VarOf V (join e rest) x = VarOf V e x ⊎ VarOf V rest x
 VarOf V (project kept e) x = Has kept x
+VarOf V (minus e g) x = VarOf V e x
 
 -- n is m on these variables, and elsewhere absent
 abbrev pub IsRestriction : (VarName → Type 0) → Mapping → Mapping → Type 0
@@ -45,6 +46,7 @@ module _ (V : ℕ → VarName → Type 0) (A : ℕ → Mapping → Type 0) (d : 
       × IsRestriction (VarOf V rest) m n2 × Answer rest n2
       × ((x : VarName) → (VarOf V e x ⊎ VarOf V rest x → ⊥) → m x ≡ None)
   Answer (project kept e) m = (n : Mapping) × Answer e n × IsRestriction (Has kept) n m
+  Answer (minus e g) m = Answer e m × ¬ Answer g m
 
 -- the variables of the first n lets, by number: of each its own, under the lets before it
 abbrev pub vars_of_lets : List (VarName × ExprTree) → ℕ → ℕ → VarName → Type 0

@@ -7,7 +7,7 @@ use Rattle.span_core.specs.ByteSets.{bytes_between}
 use Rattle.span_core.specs.Order.{StandsBefore}
 use Rattle.spanner_model.specs.Tree.{Tree, one, cat_all, alt_all, rep, cap}
 use Rattle.spanner_model.specs.Captures.{VarName, span_of}
-use Rattle.spanner_model.specs.Expression.{ExprTree, QueryTree, atom, named, union_all, join_all, project}
+use Rattle.spanner_model.specs.Expression.{ExprTree, QueryTree, atom, union_all, join_all, project}
 use Rattle.spanner_model.specs.Answer.{FitsSomewhere}
 use Rattle.spanner_model.specs.Sound.{IsSound}
 use Rattle.spanner_model.specs.Answers.{SpanRow, IsAnswerRow, AreAnswers}
@@ -151,7 +151,3 @@ UnsureJoin =
 abbrev pub BlocksBeforeTuples : Type 0
 BlocksBeforeTuples =
     StandsBefore (Some (span 0 1) ∷ (Some (span 1 1) ∷ (Some (span 0 1) ∷ []))) (Some (span 0 1) ∷ (Some (span 1 0) ∷ (Some (span 1 0) ∷ [])))
-
--- let w = /!x{a}/; project x (w)
-abbrev pub named_and_kept : QueryTree
-named_and_kept = record { lets = (codes "w", free (cap x a)) ∷ []; body = project (x ∷ []) (named 0) }

@@ -2,7 +2,7 @@
 use Rattle.std.specs.Prelude.{List, map}
 use Rattle.spanner_model.specs.Captures.{VarName}
 use Rattle.spanner_model.specs.View.{tree_of}
-use Rattle.spanner_model.specs.Expression.{ExprTree, QueryTree, atom, named, project, union_all, join_all}
+use Rattle.spanner_model.specs.Expression.{ExprTree, QueryTree, atom, named, project, minus, union_all, join_all}
 use Rattle.spanner_model.specs.declared.expression.Expr.{Expr}
 use Rattle.spanner_model.specs.declared.expression.Exprs.{Exprs}
 use Rattle.spanner_model.specs.declared.expression.Expr.TheOpen.{Expr-F, Exprs-F}
@@ -17,6 +17,7 @@ node_expr (Expr-F.Named k) = named k
 node_expr (Expr-F.Union parts) = union_all parts
 node_expr (Expr-F.Join parts) = join_all parts
 node_expr (Expr-F.Project kept sub) = project kept sub.value
+node_expr (Expr-F.Minus left right) = minus left.value right.value
 
 abbrev pub part_exprs : Exprs-F ExprTree (List ExprTree) → List ExprTree
 part_exprs parts = parts.list.items

@@ -16,6 +16,8 @@ pub data ExprTree : Type 0 where
   join : ExprTree → ExprTree → ExprTree
   -- a projection: the variables that are kept
   project : List VarName → ExprTree → ExprTree
+  -- a difference: its left side, and its right side
+  minus : ExprTree → ExprTree → ExprTree
 
 -- the named expressions in order, and the body
 pub record QueryTree : Type 0 where

@@ -11,7 +11,7 @@ use Rattle.spanner_model.specs.Tree.{Tree, empty, one, cat_end, cat, alt_end, al
 use Rattle.spanner_model.specs.Captures.{VarName, Mapping}
 use Rattle.spanner_model.specs.Sequential.{HasVar, HasNoVar, HaveApartVars}
 use Rattle.spanner_model.specs.WellBuilt.{IsWellBuilt}
-use Rattle.spanner_model.specs.Expression.{ExprTree, QueryTree, atom, named, union_end, union, join_end, join, project}
+use Rattle.spanner_model.specs.Expression.{ExprTree, QueryTree, atom, named, union_end, union, join_end, join, project, minus}
 use Rattle.spanner_model.specs.Answer.{VarOf, vars_of_lets, IsRestriction, FitsSomewhere}
 use Rattle.spanner_model.specs.Sound.{IsFreeName, NameOf, expr_nesting}
 
@@ -50,6 +50,7 @@ abbrev mutual
   IsFunctionalExpr V n (join e rest) = IsFunctionalExpr V n e × AreJoinedFunctional V n rest × ¬ (rest ≡ join_end)
   IsFunctionalExpr V n (project kept e) =
       IsFunctionalExpr V n e × ((x : VarName) → Has kept x → VarOf V e x × IsFreeName x) × Ascending kept
+  IsFunctionalExpr V n (minus e g) = IsFunctionalExpr V n e × IsFunctionalExpr V n g × ((x : VarName) → VarOf V e x ↔ VarOf V g x)
 
   -- the parts that follow one of a union
   pub AreUnitedEqual : (ℕ → VarName → Type 0) → ℕ → ExprTree → Type 0
@@ -93,6 +94,7 @@ module _ (V : ℕ → VarName → Type 0) (A : ℕ → Mapping → Type 0) (d : 
       × IsRestriction (VarOf V rest) m n2 × TotalAnswer rest n2
       × HasExactly (λ x. VarOf V e x ⊎ VarOf V rest x) m
   TotalAnswer (project kept e) m = (n : Mapping) × TotalAnswer e n × IsRestriction (Has kept) n m
+  TotalAnswer (minus e g) m = TotalAnswer e m × ¬ TotalAnswer g m
 
 -- the answers of the first n lets, by number
 abbrev pub total_answers_of_lets : List (VarName × ExprTree) → List ℕ → ℕ → ℕ → Mapping → Type 0

@@ -5,7 +5,7 @@ use Rattle.span_core.specs.declared.TheConstants.{MOST_VARIABLES}
 use Rattle.span_core.specs.Lists.{Has, AtMost}
 use Rattle.spanner_model.specs.Captures.{VarName}
 use Rattle.spanner_model.specs.WellBuilt.{IsWellBuilt}
-use Rattle.spanner_model.specs.Expression.{ExprTree, atom, named, union_end, union, join_end, join, project}
+use Rattle.spanner_model.specs.Expression.{ExprTree, atom, named, union_end, union, join_end, join, project, minus}
 
 -- the old names and those of P, and no others
 abbrev pub Adds : List VarName → (VarName → Type 0) → List VarName → Type 0
@@ -36,3 +36,4 @@ IsUnderLets n (union e rest) = IsUnderLets n e × IsUnderLets n rest
 IsUnderLets n join_end = Unit {0}
 IsUnderLets n (join e rest) = IsUnderLets n e × IsUnderLets n rest
 IsUnderLets n (project kept e) = IsUnderLets n e
+IsUnderLets n (minus e g) = IsUnderLets n e × IsUnderLets n g

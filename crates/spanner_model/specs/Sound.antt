@@ -1,5 +1,5 @@
 -- Which queries are sound.
-use Rattle.std.specs.Prelude.{◌≡◌, ℕ, zero, suc, ◌<◌, ◌≤◌, ◌⊎◌, max, List, [], ◌∷◌, length, map, slice_get, nat_eq, IsTrue, MatchBool, codes}
+use Rattle.std.specs.Prelude.{◌≡◌, ℕ, zero, suc, ◌<◌, ◌≤◌, ◌⊎◌, ◌↔◌, max, List, [], ◌∷◌, length, map, slice_get, nat_eq, IsTrue, MatchBool, codes}
 use Rattle.std.specs.Option.{ForSome, IsSomeAnd}
 use Rattle.span_core.specs.Names.{is_name}
 use Rattle.span_core.specs.NameSets.{Ascending}
@@ -9,7 +9,7 @@ use Rattle.span_core.specs.Lists.{Has, AtMost, AreDistinct}
 use Rattle.spanner_model.specs.Captures.{VarName}
 use Rattle.spanner_model.specs.Sequential.{HasVar, IsSequential, IsSure}
 use Rattle.spanner_model.specs.WellBuilt.{IsWellBuilt}
-use Rattle.spanner_model.specs.Expression.{ExprTree, QueryTree, atom, named, union_end, union, join_end, join, project}
+use Rattle.spanner_model.specs.Expression.{ExprTree, QueryTree, atom, named, union_end, union, join_end, join, project, minus}
 use Rattle.spanner_model.specs.Answer.{VarOf, vars_of_lets}
 
 -- the words of queries, which name nothing
@@ -30,6 +30,7 @@ SureOf S (union e rest) x = SureOf S e x × SureOf S rest x
 SureOf S join_end x = ⊥
 SureOf S (join e rest) x = SureOf S e x ⊎ SureOf S rest x
 SureOf S (project kept e) x = Has kept x × SureOf S e x
+SureOf S (minus e g) x = SureOf S e x
 
 -- the sure variables of the first n lets, by number: of each its own, under the lets before it
 abbrev pub sure_of_lets : List (VarName × ExprTree) → ℕ → ℕ → VarName → Type 0
@@ -60,6 +61,7 @@ module _ (V S : ℕ → VarName → Type 0) where
     IsSoundExpr n join_end = ⊥
     IsSoundExpr n (join e rest) = IsSoundExpr n e × AreJoined n rest × ¬ (rest ≡ join_end) × SharesSure e rest
     IsSoundExpr n (project kept e) = IsSoundExpr n e × ((x : VarName) → Has kept x → VarOf V e x × IsFreeName x) × Ascending kept
+    IsSoundExpr n (minus e g) = IsSoundExpr n e × IsSoundExpr n g × ((x : VarName) → VarOf V e x ↔ VarOf V g x)
 
     -- the parts that follow one of a union
     pub AreUnited : ℕ → ExprTree → Type 0
@@ -73,7 +75,7 @@ module _ (V S : ℕ → VarName → Type 0) where
     AreJoined n (join e rest) = IsSoundExpr n e × AreJoined n rest × SharesSure e rest
     AreJoined n _ = ⊥
 
--- how many unions, joins and projections stand inside each other
+-- how many unions, joins, projections and differences stand inside each other
 abbrev pub expr_nesting : ExprTree → ℕ
 expr_nesting (atom s t f) = 0
 expr_nesting (named k) = 0
@@ -82,6 +84,7 @@ expr_nesting (union e rest) = max (suc (expr_nesting e)) (expr_nesting rest)
 expr_nesting join_end = 1
 expr_nesting (join e rest) = max (suc (expr_nesting e)) (expr_nesting rest)
 expr_nesting (project kept e) = suc (expr_nesting e)
+expr_nesting (minus e g) = suc (max (expr_nesting e) (expr_nesting g))
 
 -- a sound expression under the first n lets, in which not too many stand inside each other
 abbrev pub IsSoundUnder : List (VarName × ExprTree) → ℕ → ExprTree → Type 0
@@ -96,6 +99,7 @@ NameIn (union e rest) x = NameIn e x ⊎ NameIn rest x
 NameIn join_end x = ⊥
 NameIn (join e rest) x = NameIn e x ⊎ NameIn rest x
 NameIn (project kept e) x = NameIn e x
+NameIn (minus e g) x = NameIn e x ⊎ NameIn g x
 
 abbrev pub NameInLets : List (VarName × ExprTree) → VarName → Type 0
 NameInLets [] x = ⊥

@@ -6,8 +6,8 @@ use crate::formula::Atom;
 use span_core::{OutOfMemory, VarSet};
 use std::alloc::Global;
 
-/// An expression over atoms: the closure of regex formulas under union, natural join and projection
-/// (Fagin, Kimelfeld, Reiss and Vansummeren, "Document Spanners", JACM 62(2), 2015).
+/// An expression over atoms: the closure of regex formulas under union, natural join and projection, and
+/// difference (Fagin, Kimelfeld, Reiss and Vansummeren, "Document Spanners", JACM 62(2), 2015).
 ///
 /// `Named` holds the number of one of the query's `let`s, counted from 0. `Project` holds the variables
 /// that are kept.
@@ -19,6 +19,7 @@ pub enum Expr {
     Union(Exprs),
     Join(Exprs),
     Project(VarSet, Box<Expr>),
+    Minus(Box<Expr>, Box<Expr>),
 }
 
 /// The parts of a union or of a join, in order.

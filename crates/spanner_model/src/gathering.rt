@@ -111,6 +111,7 @@ fn gather_expr(expr: &Expr, known: &[VarSet], into: &mut VarSet) -> bool
         Expr::Named(k) => gather_all(&known[*k as usize], into),
         Expr::Union(parts) | Expr::Join(parts) => gather_exprs(parts, known, into),
         Expr::Project(kept, _) => gather_all(kept, into),
+        Expr::Minus(left, _) => gather_expr(left, known, into),
     }
 }
 

@@ -1,6 +1,9 @@
 //! Formulas and queries, and what they mean.
 #![tactic(auto)]
 
+ghost use Rattle.std.specs.Prelude.{◌≡◌};
+ghost use Rattle.spanner_model.specs.declared.TheConstants.{MOST_REPEATS, MOST_NESTED_FORMULAS, MOST_NESTED_EXPRESSIONS};
+
 pub use expression::{Expr, Exprs};
 pub use formula::{Atom, Formula, Parts};
 pub use gathering::{gather, variables};
@@ -19,8 +22,12 @@ pub const MOST_REPEATS: u16 = 1_000;
 /// The most formulas that may stand inside each other, the outermost among them.
 pub const MOST_NESTED_FORMULAS: usize = 500;
 
-/// The most unions, joins and projections that may stand inside each other in one expression.
+/// The most unions, differences, joins and projections that may stand inside each other in one expression.
 pub const MOST_NESTED_EXPRESSIONS: usize = 600;
 
-#[cfg(test)]
-mod tests;
+/// The limits, as numbers: a law.
+pub fn limits()
+    ensures repeats { MOST_REPEATS ≡ 1000 }
+    ensures nested_formulas { MOST_NESTED_FORMULAS ≡ 500 }
+    ensures nested_expressions { MOST_NESTED_EXPRESSIONS ≡ 600 }
+{}

@@ -13,5 +13,3 @@ mod char_set;
 pub mod laws;
 mod properties;
 mod ranges;
-#[cfg(test)]
-mod tests;

@@ -6,16 +6,16 @@ use Rattle.one_pass.proofs.GraphBridge.{descend_edges}
 use Rattle.one_pass.proofs.known.with_row.Goals as goal
 
 pub with_source-requires : goal.with_source-requires
-with_source-requires c = descend_edges c.in_ok-edges.edges.now c.in_ok-edges.ensures.1.order
+with_source-requires c = descend_edges c.in_ok-edges.edges.now c.in_ok-edges.ensures.some.1.order
 
 pub returns-in-Ok : goal.returns-in-Ok
 returns-in-Ok c = (
   edges_of c.in_ok-edges.edges.now,
   record {
-    given = c.in_ok-edges.ensures.0;
+    given = c.in_ok-edges.ensures.some.0;
     by = c.in_ok-edges.edges.now;
     are = refl;
-    numbered = numbered_is c.args.table.now c.args.set (byte_read c.args.byte) c.in_ok-edges.edges.now c.in_ok-edges.ensures.1;
+    numbered = numbered_is c.args.table.now c.args.set (byte_read c.args.byte) c.in_ok-edges.edges.now c.in_ok-edges.ensures.some.1;
   },
   c.in-Ok.ensures,
 )

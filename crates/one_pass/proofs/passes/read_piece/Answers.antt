@@ -3,7 +3,6 @@ use Rattle.one_pass.specs.Seen.{held, whole}
 use Rattle.one_pass.specs.Passes.{pass, stop}
 use Rattle.one_pass.proofs.Advancing.{advanced_fault, advanced_more, advanced_read, advanced_stopped, advanced_up_to}
 use Rattle.one_pass.proofs.passes.read_piece.Goals as goal
-use Rattle.one_pass.proofs.passes.read_piece.Goals.{then-eq, else-eq}
 
 pub returns-in-Err-clause-stopped : goal.returns-in-Err-clause-stopped
 returns-in-Err-clause-stopped g c =
@@ -40,7 +39,7 @@ loop-i-preserved g c =
     let inside : here < length c.args.piece.now = omega (arith, c.read_on-here.ensures.within) in
     record {
       within = omega (arith, c.read_on-here.ensures.within);
-      quiet = elim c.if-eq.branch [ then-eq w ↦ omega (arith, w.quiet-is, c.read_on-here.ensures.counted) | else-eq w ↦ omega (arith, w.quiet-is) ];
+      quiet = c.quiet_at-quiet.ensures;
       advanced = advanced_more P c.args.at c.args.piece.now here Q past inside (pass (held c.read_byte.new.table) (whole c.read_byte.new.graph) c.read_byte.new.steps) c.in-Ok.ensures.read c.in-Ok.ensures.ready;
       known = c.in-Ok.ensures.known;
       stands = c.in-Ok.ensures.stands;

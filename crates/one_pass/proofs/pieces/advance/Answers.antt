@@ -1,9 +1,5 @@
-use Rattle.one_pass.proofs.OpenLaws.{open_ready}
 use Rattle.one_pass.specs.Seen.{held}
 use Rattle.one_pass.proofs.pieces.advance.Goals as goal
 
-pub read_piece-requires-clause-ready : goal.read_piece-requires-clause-ready
-read_piece-requires-clause-ready g c = open_ready c.args.table.now c.args.graph c.args.steps.now c.args.at c.start.ensures.tabled c.is_graph.ensures.sources c.requires.open
-
-pub read_piece-requires-clause-known : goal.read_piece-requires-clause-known
-read_piece-requires-clause-known g c = c.new-known.ensures (held c.args.table.now)
+pub advance_by-requires-clause-known : goal.advance_by-requires-clause-known
+advance_by-requires-clause-known g c = c.new-known.ensures (held c.args.table.now)

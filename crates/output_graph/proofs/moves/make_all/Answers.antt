@@ -41,7 +41,8 @@ loop-k-preserved g c =
     let had_room = c.loop-k.invariant.room in
     rw c.split_at.ensures.back
     (going_more _ _ _ _ _ c.args.counts.now c.loop-k.k c.loop-k.left.now c.loop-k.arena c.args.layer.now c.loop-k.next c.loop-k.steps c.loop-k.invariant _ count c.at-source.result c.at-source.ensures.pair
-    c.make_moves.new.arena c.make_moves.new.next c.make_moves.new.steps ended spent sets (omega arith) (omega arith) e.known)
+    c.make_moves.new.arena c.make_moves.new.next c.make_moves.new.steps ended spent sets (omega arith) (omega arith) e.known
+    (let more = e.counted in let one = c.tick.ensures in omega arith))
 
 pub returns-clause-stepped : goal.returns-clause-stepped
 returns-clause-stepped g c =
@@ -52,3 +53,8 @@ returns-clause-stepped g c =
 pub returns-clause-sets : goal.returns-clause-sets
 returns-clause-sets g c =
     all_targets _ _ _ _ _ c.args.counts.now c.loop-k.k c.loop-k.left.now c.loop-k.arena c.args.layer.now c.loop-k.next c.loop-k.steps c.loop-k.invariant (omega arith)
+
+pub returns-clause-counted : goal.returns-clause-counted
+returns-clause-counted g c =
+    let ticked = c.loop-k.invariant.ticked in
+    omega arith

@@ -7,19 +7,19 @@ use Rattle.spanner_model.specs.Captures.{VarName}
 use Rattle.spanner_model.specs.Answers.{SpanRow}
 use Rattle.spanner_model.specs.View.{tree_of}
 use Rattle.spanner_model.specs.Sequential.{HasVar}
-use Rattle.spanner_model.specs.Expression.{ExprTree, named, project, union_all, join_all}
+use Rattle.spanner_model.specs.Expression.{ExprTree, minus, named, project, union_all, join_all}
 use Rattle.spanner_model.specs.ExprView.{expr_of, exprs_of, query_of}
 use Rattle.spanner_model.specs.Answer.{VarOf, Answer, vars_of_lets, answers_of_lets}
 use Rattle.span_core.proofs.HasLaws.{Has-slice_get}
 use Rattle.spanner_model.proofs.Nodes.{expr_nodes}
 use Rattle.spanner_model.proofs.ExprLaws.{union_size, part_size}
-use Rattle.spanner_model.proofs.ExprTrees.{expr_of-Atom, expr_of-Named, expr_of-Union, expr_of-Join, expr_of-Project}
+use Rattle.spanner_model.proofs.ExprTrees.{expr_of-Atom, expr_of-Named, expr_of-Union, expr_of-Join, expr_of-Minus, expr_of-Project}
 use Rattle.plain_spanner.specs.declared.table.Table.{Table}
 use Rattle.plain_spanner.specs.Listed.{Tells, FromSome}
-use Rattle.plain_spanner.specs.Tables.{IsTableOf, IsAsked, IsRowOver}
+use Rattle.plain_spanner.specs.Tables.{IsTableOf, IsAsked, IsLeft, IsRowOver}
 use Rattle.plain_spanner.proofs.TellsLaws.{ok_both}
-use Rattle.plain_spanner.proofs.TableLaws.{asked_united, asked_joined, asked_sub, asked_var, united_var, joined_var, room_of, rows_of_table, kept_listed, kept_all}
-use Rattle.plain_spanner.proofs.JoinTables.{none_table, unit_table, union_next, join_next}
+use Rattle.plain_spanner.proofs.TableLaws.{asked_united, asked_joined, asked_sub, asked_var, united_var, joined_var, room_of, rows_of_table, kept_listed, kept_all, whole_rows}
+use Rattle.plain_spanner.proofs.JoinTables.{left_table, none_table, unit_table, union_next, join_next}
 use Rattle.plain_spanner.proofs.tables.+tables.Goals as goal
 
 pub expr_table-atom_table-requires : goal.expr_table-atom_table-requires
@@ -219,3 +219,29 @@ join_table-returns t c =
     let es = exprs_of c.args.parts.now in
     let e : c.loop-k.k ≡ length es = omega arith in
     subst (λ (gs : List ExprTree). IsTableOf (query_of c.args.query.now) c.args.doc.now (length c.args.tables.now) (join_all gs) c.loop-k.all.names c.loop-k.all.rows.items) (ap (λ k. take k es) e ∙ take-length es) c.loop-k.invariant
+
+pub expr_table-less-requires-clause-whole : goal.expr_table-less-requires-clause-whole
+expr_table-less-requires-clause-whole t c =
+    let q = query_of c.args.query.now in
+    let n = length c.args.tables.now in
+    let g = expr_of c.deref-in-Minus.result.now in
+    let u = c.in_ok-first-in-Minus.first in
+    whole_rows (VarOf (vars_of_lets q.lets n) g) (Answer (vars_of_lets q.lets n) (answers_of_lets q.lets c.args.doc.now n) c.args.doc.now g) u.names u.rows.items c.in_ok-first-in-Minus.ensures
+
+pub expr_table-returns-in_ok-second-in-Minus : goal.expr_table-returns-in_ok-second-in-Minus
+expr_table-returns-in_ok-second-in-Minus t c =
+    let q = query_of c.args.query.now in
+    let d = c.args.doc.now in
+    let n = length c.args.tables.now in
+    let f = expr_of c.deref-in-Minus.result.now in
+    let g = expr_of c.deref-in-Minus-2.result.now in
+    let e : expr_of c.args.expr.now ≡ minus f g =
+    ap expr_of c.in-Minus.is ∙ (expr_of-Minus c.in-Minus.left c.in-Minus.right ∙ (λ i. minus (expr_of (sym c.deref-in-Minus.ensures i)) (expr_of (sym c.deref-in-Minus-2.ensures i)))) in
+    let a = subst (IsAsked q n) e c.requires.asked in
+    let u = c.in_ok-first-in-Minus.first in
+    let v = c.in_ok-second-in-Minus.second in
+    subst (λ (w : ExprTree). IfOk c.less.result (λ t. IsTableOf q d n w t.names t.rows.items)) (sym e)
+    (ok_both c.less.result (λ (t : Table). t.names ≡ u.names) (λ (t : Table). Tells (Has t.rows.items) (IsLeft u.rows.items v.rows.items)) (λ (t : Table). IsTableOf q d n (minus f g) t.names t.rows.items)
+    (λ t same rows. subst (λ (ns : List VarName). IsTableOf q d n (minus f g) ns t.rows.items) (sym same)
+    (left_table q d n f g u.names v.names u.rows.items v.rows.items t.rows.items c.in_ok-first-in-Minus.ensures c.in_ok-second-in-Minus.ensures a.sound_expr.2 rows))
+    c.less.ensures.names c.less.ensures.rows)

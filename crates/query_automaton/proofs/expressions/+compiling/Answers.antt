@@ -1,12 +1,12 @@
 use Rattle.std.proofs.Common.{◌≡◌, ◌+◌, ◌<◌, length, Some, sym, ap, ◌∙◌, subst, arith}
 use Rattle.std.specs.Prelude.{slice_get}
 use Rattle.std.proofs.lemmas.Option.{slice_get-get_or}
-use Rattle.spanner_model.specs.Expression.{ExprTree, join_all, project, union_all}
+use Rattle.spanner_model.specs.Expression.{ExprTree, join_all, minus, project, union_all}
 use Rattle.spanner_model.specs.ExprView.{expr_of, exprs_of, query_of}
 use Rattle.spanner_model.specs.Answer.{vars_of_lets}
 use Rattle.spanner_model.specs.Sound.{sure_of_lets}
 use Rattle.span_core.proofs.HasLaws.{Has-slice_get}
-use Rattle.spanner_model.proofs.ExprTrees.{expr_of-Atom, expr_of-Named, expr_of-Project}
+use Rattle.spanner_model.proofs.ExprTrees.{expr_of-Atom, expr_of-Minus, expr_of-Named, expr_of-Project}
 use Rattle.algebra.proofs.Followed.{handed_on}
 use Rattle.algebra.proofs.JoinResults.{ok_by}
 use Rattle.query_automaton.specs.Compiling.{IsAsked, IsCompiledFrom}
@@ -15,6 +15,7 @@ use Rattle.query_automaton.specs.QueryAutomaton.{of_lets}
 use Rattle.query_automaton.proofs.Combined.{large_part_at, part_at, two_parts}
 use Rattle.query_automaton.proofs.Combining.{Union, Join}
 use Rattle.query_automaton.proofs.CompileLaws.{SoFar, asked_part, combine, so_far_all, so_far_first, so_far_next, too_large}
+use Rattle.query_automaton.proofs.MinusLaws.{differed, minus_too_large, names_agree}
 use Rattle.query_automaton.proofs.PieceLaws.{kept_there, projected}
 use Rattle.query_automaton.proofs.expressions.+compiling.Goals as goal
 
@@ -60,6 +61,63 @@ expr_automaton-returns-in_ok-projected-in-Project-clause-made t c =
     subst (λ (w : ExprTree). IsCompiledFrom q (length lets) w p.field-0) (sym e)
     (projected q lets c.requires.known kept (expr_of c.deref.result.now) (subst (IsAsked q (length lets)) e c.requires.asked) inner.inner inner.ensures.made
     p.field-0 p.ensures.names p.ensures.reduct)
+
+-- ---- a difference
+
+pub expr_automaton-differing-requires : goal.expr_automaton-differing-requires
+expr_automaton-differing-requires t c =
+    let q = query_of c.args.query.now in
+    let lets = c.args.lets.now in
+    let n = length lets in
+    let f = expr_of c.deref-in-Minus.result.now in
+    let g = expr_of c.deref-in-Minus-2.result.now in
+    let e : expr_of c.args.expr.now ≡ minus f g =
+    ap expr_of c.in-Minus.is ∙ (expr_of-Minus c.in-Minus.left c.in-Minus.right ∙ (λ i. minus (expr_of (sym c.deref-in-Minus.ensures i)) (expr_of (sym c.deref-in-Minus-2.ensures i)))) in
+    let asked = subst (IsAsked q n) e c.requires.asked in
+    let a = c.as_automaton.result.now in
+    let p = c.as_automaton-in-Minus.result.now in
+    let left = subst (IsCompiledFrom q n f) (sym c.as_automaton.ensures) c.in_ok-first-in-Minus.ensures.made in
+    let right = subst (IsCompiledFrom q n g) (sym c.as_automaton-in-Minus.ensures) c.in_ok-second-in-Minus.ensures.made in
+    names_agree q lets c.requires.known f g asked a p left right
+
+pub expr_automaton-returns-in_err-alone-in-Minus-clause-fault : goal.expr_automaton-returns-in_err-alone-in-Minus-clause-fault
+expr_automaton-returns-in_err-alone-in-Minus-clause-fault t c =
+    let q = query_of c.args.query.now in
+    let lets = c.args.lets.now in
+    let n = length lets in
+    let f = expr_of c.deref-in-Minus.result.now in
+    let g = expr_of c.deref-in-Minus-2.result.now in
+    let e : expr_of c.args.expr.now ≡ minus f g =
+    ap expr_of c.in-Minus.is ∙ (expr_of-Minus c.in-Minus.left c.in-Minus.right ∙ (λ i. minus (expr_of (sym c.deref-in-Minus.ensures i)) (expr_of (sym c.deref-in-Minus-2.ensures i)))) in
+    let asked = subst (IsAsked q n) e c.requires.asked in
+    let a = c.as_automaton.result.now in
+    let p = c.as_automaton-in-Minus.result.now in
+    let left = subst (IsCompiledFrom q n f) (sym c.as_automaton.ensures) c.in_ok-first-in-Minus.ensures.made in
+    let right = subst (IsCompiledFrom q n g) (sym c.as_automaton-in-Minus.ensures) c.in_ok-second-in-Minus.ensures.made in
+    let L = of_lets q.lets n in
+    let fault = c.in_err-alone-in-Minus.field-0.0 in
+    handed_on (HasLargePartOf L (expr_of c.args.expr.now)) c.from_residual-in_err-alone-in-Minus.result fault c.from_residual-in_err-alone-in-Minus.ensures.1
+    (subst (λ (w : ExprTree). HasLargePartOf L w fault) (sym e)
+    (minus_too_large q lets c.requires.known f g asked a p left right c.in_err-alone-in-Minus.ensures.marked fault c.in_err-alone-in-Minus.ensures.fault))
+
+pub expr_automaton-returns-in_ok-new-in-Minus-clause-made : goal.expr_automaton-returns-in_ok-new-in-Minus-clause-made
+expr_automaton-returns-in_ok-new-in-Minus-clause-made t c =
+    let q = query_of c.args.query.now in
+    let lets = c.args.lets.now in
+    let n = length lets in
+    let f = expr_of c.deref-in-Minus.result.now in
+    let g = expr_of c.deref-in-Minus-2.result.now in
+    let e : expr_of c.args.expr.now ≡ minus f g =
+    ap expr_of c.in-Minus.is ∙ (expr_of-Minus c.in-Minus.left c.in-Minus.right ∙ (λ i. minus (expr_of (sym c.deref-in-Minus.ensures i)) (expr_of (sym c.deref-in-Minus-2.ensures i)))) in
+    let asked = subst (IsAsked q n) e c.requires.asked in
+    let a = c.as_automaton.result.now in
+    let p = c.as_automaton-in-Minus.result.now in
+    let left = subst (IsCompiledFrom q n f) (sym c.as_automaton.ensures) c.in_ok-first-in-Minus.ensures.made in
+    let right = subst (IsCompiledFrom q n g) (sym c.as_automaton-in-Minus.ensures) c.in_ok-second-in-Minus.ensures.made in
+    let alone = c.in_ok-alone-in-Minus.alone in
+    subst (IsCompiledFrom q n (expr_of c.args.expr.now)) (sym c.in_ok-new-in-Minus.ensures)
+    (subst (λ (w : ExprTree). IsCompiledFrom q n w alone) (sym e)
+    (differed q lets c.requires.known f g asked a p left right c.in_ok-alone-in-Minus.ensures.marked alone c.in_ok-alone-in-Minus.ensures.made))
 
 -- ---- a union
 

@@ -1,19 +1,19 @@
-use Rattle.std.proofs.Common.{◌<◌, ◌↔◌, List, length, Some, sym, ap, ◌∙◌, subst, arith, inl}
+use Rattle.std.proofs.Common.{◌≡◌, ◌<◌, ◌↔◌, List, length, Some, sym, ap, ◌∙◌, subst, arith, inl}
 use Rattle.std.proofs.lemmas.Option.{slice_get-get_or}
 use Rattle.span_core.specs.Lists.{Has, AtMost}
 use Rattle.span_core.specs.declared.TheConstants.{MOST_VARIABLES}
 use Rattle.spanner_model.specs.Captures.{VarName}
 use Rattle.spanner_model.specs.Answer.{VarOf}
 use Rattle.spanner_model.specs.Sound.{SureOf}
-use Rattle.spanner_model.specs.Expression.{ExprTree, union_all, join_all}
+use Rattle.spanner_model.specs.Expression.{ExprTree, minus, union_all, join_all}
 use Rattle.spanner_model.specs.ExprView.{expr_of, exprs_of}
 use Rattle.span_core.proofs.HasLaws.{Has-slice_get}
 use Rattle.spanner_model.proofs.Nodes.{expr_nodes}
 use Rattle.spanner_model.proofs.ExprLaws.{part_size, union_size}
-use Rattle.spanner_model.proofs.ExprTrees.{expr_of-Union, expr_of-Join, expr_of-Named}
-use Rattle.query_parser.specs.Formed.{IsFormed, InReach, vars_known, sure_known}
+use Rattle.spanner_model.proofs.ExprTrees.{expr_of-Union, expr_of-Join, expr_of-Minus, expr_of-Named}
+use Rattle.query_parser.specs.Formed.{IsFormed, InReach, vars_known, sure_known, Checked}
 use Rattle.query_parser.specs.TreeFaults.{Passes}
-use Rattle.query_parser.proofs.CheckLaws.{union_inner, join_inner, pass_next, union_begin, union_next, union_done, clash_next, join_next, join_done_fault, join_done, checked_err}
+use Rattle.query_parser.proofs.CheckLaws.{union_inner, join_inner, pass_next, union_begin, union_next, union_done, clash_next, join_next, join_done_fault, join_done, minus_done, checked_err}
 use Rattle.query_parser.proofs.ReachLaws.{union_formed, join_formed, few_united, few_part, union_room, join_room, parts_sure}
 use Rattle.query_parser.proofs.KnownLaws.{named_bound}
 use Rattle.query_parser.proofs.check.+check.Goals as goal
@@ -159,3 +159,16 @@ pub check_union-returns : goal.check_union-returns
 check_union-returns t c =
     union_done (vars_known c.args.known.now) (sure_known c.args.known.now) (exprs_of c.args.parts.now) c.loop-k.k c.loop-k.bound (omega (arith, c.len-k-end.ensures, c.loop-k-test.false)) c.loop-k.invariant.passed
     c.loop-k.invariant.bound
+
+pub check_expr-returns-in_ok-other-in-Minus : goal.check_expr-returns-in_ok-other-in-Minus
+check_expr-returns-in_ok-other-in-Minus t c =
+    let V = vars_known c.args.known.now in
+    let S = sure_known c.args.known.now in
+    let e = expr_of c.deref-in-Minus.result.now in
+    let g = expr_of c.deref-in-Minus-2.result.now in
+    let left = c.in_ok-bound-in-Minus.ensures in
+    let right = c.in_ok-other-in-Minus.ensures in
+    let is : expr_of c.args.expr.now ≡ minus e g =
+    ap expr_of c.in-Minus.is ∙ (expr_of-Minus c.in-Minus.left c.in-Minus.right ∙ (λ i. minus (expr_of (sym c.deref-in-Minus.ensures i)) (expr_of (sym c.deref-in-Minus-2.ensures i)))) in
+    subst (λ (h : ExprTree). Checked V S h c.differing.result) (sym is)
+    (minus_done V S e g c.in_ok-bound-in-Minus.bound c.in_ok-other-in-Minus.other c.differing.result left.0 left.1 right.0 right.1 c.differing.ensures)

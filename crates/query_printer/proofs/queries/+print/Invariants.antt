@@ -18,6 +18,9 @@ decreases-push_wrapped l = 3 * expr_nodes (expr_of l.expr.now) + 2
 abbrev pub decreases-push_projection : goal.decreases-push_projection
 decreases-push_projection l = 3 * expr_nodes (expr_of l.sub.now) + 2
 
+abbrev pub decreases-push_difference : goal.decreases-push_difference
+decreases-push_difference l = 3 * (expr_nodes (expr_of l.left.now) + expr_nodes (expr_of l.right.now)) + 3
+
 abbrev pub decreases-push_union : goal.decreases-push_union
 decreases-push_union l = 3 * expr_nodes (join_all (exprs_of l.parts.now))
 

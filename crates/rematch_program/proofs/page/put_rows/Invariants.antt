@@ -1,35 +1,38 @@
-use Rattle.std.proofs.Common.{◌≡◌, ◌≤◌, ◌+◌, ◌*◌, ◌++◌, length}
+use Rattle.std.proofs.Common.{◌≡◌, ◌≤◌, ◌+◌, ◌-◌, ◌*◌, ◌++◌, length}
 use Rattle.std.specs.List.{flat_map}
 use Rattle.command_line.specs.Asked.{request_view}
+use Rattle.spanner_engine.specs.Left.{EndsIn, passing_over}
 use Rattle.rematch_program.specs.Change.{SoFar}
 use Rattle.rematch_program.specs.Kept.{AreHeads}
-use Rattle.rematch_program.specs.Pages.{AllFit, FitsIf, cursor_given, first_rows, next_cursor, row_if, row_text}
+use Rattle.rematch_program.specs.Pages.{FitsIf, cursor_given, first_rows, next_cursor, row_if, row_text}
 use Rattle.rematch_program.specs.Steps.{next_steps}
+use Rattle.rematch_program.specs.Taking.{coming, page_lines, page_rows}
 use Rattle.rematch_program.proofs.page.put_rows.Given as goal
 
 abbrev pub invariant-loop-alloc : goal.invariant-loop-alloc
 invariant-loop-alloc g l = record {
+  source : l.rows.source ≡ l.fn.rows.source;
   so_far :
       let a = request_view l.request in
-      let text = row_text a.form a.texts l.vars l.document in
+      let text = row_text a.form a.texts l.fn.rows.source.names l.fn.rows.source.document in
       SoFar (g.O.Sink.written l.fn.out) (g.O.Sink.written l.out) l.gather
-      (flat_map text (first_rows l.remaining l.answers.rest)) (l.fn.gather ++ flat_map text (first_rows a.limit l.fn.answers.rest));
+      (flat_map text (first_rows l.remaining (passing_over g.J.Judge.judges l.fn.rows.source l.rows.rest))) (l.fn.gather ++ page_lines g.J.Judge.judges l.fn.rows a);
   later : g.O.Sink.faults l.fn.out ≤ g.O.Sink.faults l.out;
-  fit : AllFit (length l.vars) (length l.document) l.answers.rest;
-  heads : AreHeads (request_view l.request).form l.vars l.kept;
-  last : FitsIf (length l.vars) (length l.document) (row_if l.some l.answers.row);
+  heads : AreHeads (request_view l.request).form l.fn.rows.source.names l.kept;
+  last : FitsIf (length l.fn.rows.source.names) (length l.fn.rows.source.document) (row_if l.some l.rows.row);
   cursor :
       let a = request_view l.request in
-      next_cursor l.vars (length l.document) (cursor_given l.vars (length l.document) (row_if l.some l.answers.row) a.after) (first_rows l.remaining l.answers.rest) ≡ next_cursor l.vars (length l.document) a.after (first_rows a.limit l.fn.answers.rest);
+      let names = l.fn.rows.source.names in
+      let n = length l.fn.rows.source.document in
+      next_cursor names n (cursor_given names n (row_if l.some l.rows.row) a.after) (first_rows l.remaining (passing_over g.J.Judge.judges l.fn.rows.source l.rows.rest))
+      ≡ next_cursor names n a.after (page_rows g.J.Judge.judges l.fn.rows a);
   more :
       let a = request_view l.request in
-      length l.answers.rest + length (first_rows a.limit l.fn.answers.rest) ≡ length l.fn.answers.rest + length (first_rows l.remaining l.answers.rest);
-  variables : l.answers.variables ≡ l.fn.answers.variables;
-  steps :
-      let a = request_view l.request in
-      l.steps + (length (first_rows l.remaining l.answers.rest) + 1) * next_steps l.fn.answers.variables
-      ≤ l.fn.steps + (length (first_rows a.limit l.fn.answers.rest) + 1) * next_steps l.fn.answers.variables;
+      length (passing_over g.J.Judge.judges l.fn.rows.source l.rows.rest) + length (page_rows g.J.Judge.judges l.fn.rows a)
+      ≡ length (coming g.J.Judge.judges l.fn.rows) + length (first_rows l.remaining (passing_over g.J.Judge.judges l.fn.rows.source l.rows.rest));
+  tried : EndsIn l.fn.rows.rest l.rows.rest;
+  steps : l.steps ≤ l.fn.steps + (length l.fn.rows.rest - length l.rows.rest) * (next_steps (length l.fn.rows.source.names) + length l.fn.rows.source.asked);
 }
 
 abbrev pub decreases-loop-alloc : goal.decreases-loop-alloc
-decreases-loop-alloc g l = length l.answers.rest
+decreases-loop-alloc g l = length l.rows.rest

@@ -1,19 +1,25 @@
-use Rattle.std.proofs.Common.{◌≡◌, ◌+◌, ◌*◌, ◌-◌, ◌^◌, ◌≤◌, length, min, None, Some}
+use Rattle.std.proofs.Common.{◌≡◌, ◌+◌, ◌*◌, ◌-◌, ◌^◌, ◌≤◌, length, min, None, Some, IfSome}
 use Rattle.std.specs.Prelude.{slice_get}
 use Rattle.spanner_model.specs.Answers.{page_end}
+use Rattle.spanner_engine.specs.Left.{EndsIn, passing_over}
+use Rattle.rematch_program.specs.Pages.{FitsPage}
 use Rattle.rematch_program.specs.Steps.{next_steps}
+use Rattle.rematch_program.specs.Taking.{coming}
 use Rattle.rematch_program.specs.Trials.{last_of}
 use Rattle.rematch_program.proofs.summary.count_rows.Given as goal
 
 abbrev pub invariant-loop-row : goal.invariant-loop-row
 invariant-loop-row g l = record {
-  variables : l.answers.variables ≡ l.fn.answers.variables;
-  rows : min (l.rows + length l.answers.rest) (2 ^ 64 - 1) ≡ min (length l.fn.answers.rest) (2 ^ 64 - 1);
-  few : l.rows ≤ 2 ^ 64 - 1;
-  first : slice_get l.fn.answers.rest 0 ≡ Some l.first;
-  last : page_end l.answers.rest (last_of (Some l.first) l.later) ≡ page_end l.fn.answers.rest None;
-  steps : l.steps + (length l.answers.rest + 1) * next_steps l.fn.answers.variables ≤ l.fn.steps + (length l.fn.answers.rest + 1) * next_steps l.fn.answers.variables;
+  source : l.rows.source ≡ l.fn.rows.source;
+  rows : min (l.count + length (passing_over g.J.Judge.judges l.fn.rows.source l.rows.rest)) (2 ^ 64 - 1) ≡ min (length (coming g.J.Judge.judges l.fn.rows)) (2 ^ 64 - 1);
+  few : l.count ≤ 2 ^ 64 - 1;
+  first : slice_get (coming g.J.Judge.judges l.fn.rows) 0 ≡ Some l.first;
+  last : page_end (passing_over g.J.Judge.judges l.fn.rows.source l.rows.rest) (last_of (Some l.first) l.later) ≡ page_end (coming g.J.Judge.judges l.fn.rows) None;
+  first_fits : FitsPage (length l.fn.rows.source.names) (length l.fn.rows.source.document) l.first;
+  later_fits : IfSome l.later (FitsPage (length l.fn.rows.source.names) (length l.fn.rows.source.document));
+  tried : EndsIn l.fn.rows.rest l.rows.rest;
+  steps : l.steps ≤ l.fn.steps + (length l.fn.rows.rest - length l.rows.rest) * (next_steps (length l.fn.rows.source.names) + length l.fn.rows.source.asked);
 }
 
 abbrev pub decreases-loop-row : goal.decreases-loop-row
-decreases-loop-row g l = length l.answers.rest
+decreases-loop-row g l = length l.rows.rest

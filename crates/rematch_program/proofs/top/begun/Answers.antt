@@ -44,11 +44,11 @@ returns-in-Err-Filter-clause-ending g c =
     let d = c.args.document.now in
     let r = c.args.request.now in
     let P : BeginFault → Type 0 = λ fault. IsBeginFault q d r.filter (option_copied c.args.after) r.max_table fault in
-    let (wanted, heavy) = subst P c.in-Err-Filter.field-0-is c.in-Err-Filter.ensures.fault in
+    let (wanted, plain, heavy) = subst P c.in-Err-Filter.field-0-is c.in-Err-Filter.ensures.fault in
     let at = c.in-Err-Filter.field-0-is in
     let fits = fits_unless (length d) (option_copied c.args.after) (λ other keeps. let is = c.in-Err-Filter.ensures.other other keeps in cc) (λ past. let is = c.in-Err-Filter.ensures.place past in cc) in
-    elim c.past_limit.ensures [
-      | inl is ↦ filter_full fits wanted (heavy_atom q d r.max_table c.in-Err-Filter.field-0-0 heavy) is c.in-Err-Filter.ensures.steps
+    elim c.past_filter.ensures [
+      | inl is ↦ filter_full fits wanted plain (heavy_atom q d r.max_table c.in-Err-Filter.field-0-0 heavy) is c.in-Err-Filter.ensures.steps
       | inr is ↦ by_memory is c.in-Err-Filter.ensures.steps
     ]
 
@@ -61,7 +61,7 @@ returns-in-Err-Table-clause-ending g c =
     let (over, within) = subst P c.in-Err-Table.field-0-is c.in-Err-Table.ensures.fault in
     let at = c.in-Err-Table.field-0-is in
     let fits = fits_unless (length d) (option_copied c.args.after) (λ other keeps. let is = c.in-Err-Table.ensures.other other keeps in cc) (λ past. let is = c.in-Err-Table.ensures.place past in cc) in
-    elim c.past_limit-in-Err-Table.ensures [
+    elim c.past_table.ensures [
       | inl is ↦ table_full fits (λ K reads. let most = within K reads in omega (arith, over, most)) is c.in-Err-Table.ensures.steps
       | inr is ↦ by_memory is c.in-Err-Table.ensures.steps
     ]

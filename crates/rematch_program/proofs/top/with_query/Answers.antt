@@ -3,6 +3,7 @@ use Rattle.command_line.specs.Asked.{request_view}
 use Rattle.spanner_model.specs.declared.query.Query.{Query}
 use Rattle.spanner_model.specs.ExprView.{query_of}
 use Rattle.spanner_model.specs.Answers.{AreResultNames}
+use Rattle.spanner_engine.specs.Passing.{checks_of, known}
 use Rattle.trial_maker.specs.Trial.{trial_text}
 use Rattle.std.proofs.Common.{None}
 use Rattle.rematch_program.specs.Change.{change, clock, work}
@@ -26,10 +27,11 @@ returns-in-Explain g c = record { case = explained c.in-Explain.is c.write_expla
 pub returns-in-Ok : goal.returns-in-Ok
 returns-in-Ok g c =
     let names = c.in-Ok.compiled.automaton.names in
-    let P : Query → Type 0 = λ q. FromCursor (request_view c.args.request.now) (query_of q) names
-    (store (g.S.Shelf.held c.args.shelf.now) (g.S.Shelf.faults c.args.shelf.now) (g.S.Shelf.faults c.with_cursor.new.shelf))
+    let checks = checks_of (known c.args.tests.now g.J.Judge.judges) c.args.tested.now.asked in
+    let P : Query → Type 0 = λ q. FromCursor (request_view c.args.request.now) (query_of q) checks
     (work (change (g.O.Sink.written c.args.out.now) (g.O.Sink.written c.with_cursor.new.out) (g.O.Sink.faults c.args.out.now) (g.O.Sink.faults c.with_cursor.new.out)) (clock c.args.steps.now c.with_cursor.new.steps))
-    c.with_cursor.result.status (note_bytes c.with_cursor.result.note) in
+    c.with_cursor.result.status (note_bytes c.with_cursor.result.note)
+    (store (g.S.Shelf.held c.args.shelf.now) (g.S.Shelf.faults c.args.shelf.now) (g.S.Shelf.faults c.with_cursor.new.shelf)) names in
     record {
       case = compiled (plain_wants (request_view c.args.request.now).mode c.in-Plain.is) c.in-Ok.ensures.small
           (page_asked c.in-Plain.is names c.in-Ok.ensures.names (subst P c.in-Ok.ensures.query c.with_cursor.ensures.case));
@@ -41,9 +43,10 @@ returns-in-Err g c = record { case = too_large (plain_wants (request_view c.args
 pub returns-in-Ok-compiled_query : goal.returns-in-Ok-compiled_query
 returns-in-Ok-compiled_query g c =
     let names = c.in-Ok-compiled_query.compiled.automaton.names in
-    let P : Query → Type 0 = λ q. FromDocument (request_view c.args.request.now) (query_of q) names None (trial_text c.in-Trial.lines)
+    let checks = checks_of (known c.args.tests.now g.J.Judge.judges) c.args.tested.now.asked in
+    let P : Query → Type 0 = λ q. FromDocument (request_view c.args.request.now) (query_of q) checks
     (work (change (g.O.Sink.written c.args.out.now) (g.O.Sink.written c.with_lines.new.out) (g.O.Sink.faults c.args.out.now) (g.O.Sink.faults c.with_lines.new.out)) (clock c.args.steps.now c.with_lines.new.steps))
-    c.with_lines.result.status (note_bytes c.with_lines.result.note) in
+    c.with_lines.result.status (note_bytes c.with_lines.result.note) names None (trial_text c.in-Trial.lines) in
     record {
       case = compiled (trial_wants (request_view c.args.request.now).mode c.in-Trial.lines c.in-Trial.is) c.in-Ok-compiled_query.ensures.small
           (trial_asked c.in-Trial.lines c.in-Trial.is names c.in-Ok-compiled_query.ensures.names (subst P c.in-Ok-compiled_query.ensures.query c.with_lines.ensures.case));

@@ -4,9 +4,9 @@ use Rattle.spanner_model.specs.Expression.{ExprTree}
 use Rattle.spanner_model.specs.ExprView.{expr_of, query_of}
 use Rattle.filter_laws.specs.Touching.{TouchedOf}
 use Rattle.span_core.specs.Intervals.{Covers}
-use Rattle.spanner_engine.specs.Filtering.{AddsTouched, IsFilterFault}
-use Rattle.spanner_engine.proofs.AtomWalk.{body_sound, full_let, let_at, let_exprs, let_sound, steps_body, steps_let, steps_more, touched_more, touched_of}
-use Rattle.spanner_engine.proofs.Results.{handed_on, ok_by}
+use Rattle.spanner_engine.specs.Filtering.{AddsTouched, HasFullAtom, IsFilterFault}
+use Rattle.spanner_engine.proofs.AtomWalk.{body_sound, full_body, full_let, let_at, let_exprs, let_sound, steps_body, steps_let, steps_more, touched_more, touched_of}
+use Rattle.spanner_engine.proofs.Results.{err_by, handed_on, ok_by}
 use Rattle.spanner_engine.proofs.positions.touched_by_query.Goals as goal
 
 pub touched_in-requires-clause-sound : goal.touched_in-requires-clause-sound
@@ -21,7 +21,7 @@ returns-in_err-found-clause-fault g c =
     let l : VarName × ExprTree = (c.at.result.now.0, expr_of c.at.result.now.1) in
     let fault = c.in_err-found.field-0.0 in
     handed_on (IsFilterFault q d true c.args.limit) c.from_residual.result fault c.from_residual.ensures.1
-    (full_let d c.args.limit q c.loop-k.k l c.at.ensures fault c.in_err-found.ensures.fault)
+    (full_let d c.args.limit q c.requires.plain c.loop-k.k l c.at.ensures fault c.in_err-found.ensures.fault)
 
 pub returns-in_err-found-clause-steps : goal.returns-in_err-found-clause-steps
 returns-in_err-found-clause-steps g c =
@@ -47,7 +47,13 @@ returns-clause-touched g c =
     let q = query_of c.args.query.now in
     let past : length q.lets ≤ c.loop-k.k = omega (arith, c.len-k-end.ensures, c.loop-k-test.false) in
     ok_by c.touched_in-2.result (AddsTouched d q.body c.loop-k.found) (λ (t : List (ℕ × ℕ)). (i : ℕ) → Covers t i ↔ TouchedOf q d i)
-    (λ t adds. touched_of d q c.loop-k.k c.loop-k.found t past c.loop-k.invariant.0 adds) c.touched_in-2.ensures.touched
+    (λ t adds. touched_of d q c.requires.plain c.loop-k.k c.loop-k.found t past c.loop-k.invariant.0 adds) c.touched_in-2.ensures.touched
+
+pub returns-clause-fault : goal.returns-clause-fault
+returns-clause-fault g c =
+    let d = c.args.doc.now in
+    let q = query_of c.args.query.now in
+    err_by c.touched_in-2.result (HasFullAtom d c.args.limit q.body) (IsFilterFault q d true c.args.limit) (λ f h. full_body d c.args.limit q c.requires.plain f h) c.touched_in-2.ensures.fault
 
 pub returns-clause-steps : goal.returns-clause-steps
 returns-clause-steps g c =

@@ -1,6 +1,7 @@
-use Rattle.std.proofs.Common.{◌≡◌, length, refl, sym, ap, ◌∙◌}
+use Rattle.std.proofs.Common.{◌≡◌, length, refl, sym, ap, arith, ◌∙◌}
 use Rattle.output_graph.specs.Graph.{Graph}
 use Rattle.output_graph.specs.Sound.{graph_of}
+use Rattle.output_graph.specs.Programs.{edges_in}
 use Rattle.output_graph.proofs.GoingLaws.{next_is}
 use Rattle.output_graph.proofs.LayerLaws.{layer_sound, next_is_layer}
 use Rattle.output_graph.proofs.PlaceLaws.{place_of}
@@ -34,3 +35,10 @@ returns-clause-run g c =
     let all : Graph = graph_of c.make_all.new.arena c.self.inside.layer c.make_all.new.next (length c.as_slice.result.now) c.make_all.ensures.stepped.0 in
     let run = rw (c.reserve.ensures.cells, c.cover.ensures.pairs, c.reserve-2.ensures.pairs, c.as_slice-2.ensures.value) at c.make_all.ensures.stepped.1 in
     (all, rw (← c.self.view_is, ← c.program.view_is, begun, ← c.as_slice.ensures.value) run, next_is all _ count refl c.exchange.ensures.layer c.exchange.ensures.next begun)
+
+pub returns-clause-counted : goal.returns-clause-counted
+returns-clause-counted g c =
+    let ticked = c.make_all.ensures.counted in
+    let same = ap length c.as_slice.ensures.value in
+    let count = length_cut c.program.inside.counts.items (edges_in c.program.inside.moves.items) in
+    rw (← c.program.view_is) (omega arith)

@@ -6,7 +6,8 @@ use Rattle.set_table.specs.declared.answer.Question.{Question}
 use Rattle.set_table.specs.declared.answer.Question.TheVariants.{Byte}
 use Rattle.set_table.specs.Tabled.{Asking, Tabled, asking}
 use Rattle.set_table.specs.Answered.{place_in}
-use Rattle.set_table.proofs.HeldLaws.{number_found}
+use Rattle.span_core.specs.Lists.{Has}
+use Rattle.set_table.proofs.HeldLaws.{number_absent, number_found}
 use Rattle.set_table.proofs.table.Table.asked_row.Goals as goal
 
 not_ended : (b : Asked) (r : Asking) (k n : ℕ) → Some (asking k b) ≡ Some r → r.ask ≡ b
@@ -43,8 +44,8 @@ edges_at-requires-clause-edges c = λ r there is.
     ∙ number_found i.automaton.now.graph s.sets s.answers.items s.edges.items s.ends.items s.numbers i.weight k q c.at-number.result c.self.invariant.held within small read c.if-number-eq0.false in
     byte_is_no_end c.args.byte (sym (not_ended (byte_read c.args.byte) r k k (sym found ∙ there)) ∙ is)
 
-pub returns : goal.returns
-returns c =
+pub returns-clause-some : goal.returns-clause-some
+returns-clause-some c =
     let i = c.self.inside in
     let s = i.store in
     let k = c.args.set in
@@ -56,3 +57,12 @@ returns c =
     ap (λ (t : Tabled). slice_get t.asked (c.at-number.result - 1)) (sym c.self.view_is)
     ∙ number_found i.automaton.now.graph s.sets s.answers.items s.edges.items s.ends.items s.numbers i.weight k q c.at-number.result c.self.invariant.held within small read c.if-number-eq0.false in
     (subst (λ (t : Tabled). k < length t.sets) c.self.view_is within, c.edges_at.ensures (asking k (byte_read c.args.byte)) found)
+
+pub returns-then-number-eq0-clause-none : goal.returns-then-number-eq0-clause-none
+returns-then-number-eq0-clause-none c = λ within h.
+    let i = c.self.inside in
+    let s = i.store in
+    let k = c.args.set in
+    let q : Question = Byte c.args.byte in
+    let read : get_or s.numbers (place_in k q) 0 ≡ c.at-number.result = sym (c.at-number.ensures ∙ ap (λ p. get_or s.numbers p 0) c.place_of.ensures) in
+    number_absent i.automaton.now.graph s.sets s.answers.items s.edges.items s.ends.items s.numbers i.weight k q c.self.invariant.held (read ∙ c.if-number-eq0.true) (subst (λ (t : Tabled). Has t.asked (asking k (byte_read c.args.byte))) (sym c.self.view_is) h)

@@ -1,0 +1,12 @@
+pub mod Accounts
+pub mod Appending
+pub mod Asked
+pub mod Beginning
+pub mod Causes
+pub mod Coming
+pub mod Ending
+pub mod Insides
+pub mod Lengths
+pub mod Parts
+pub mod Totals
+pub mod WordsRead

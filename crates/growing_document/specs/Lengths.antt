@@ -1,0 +1,38 @@
+-- The weight of what is held, told by the document and the lengths that it had when its rows were asked for.
+use Rattle.std.specs.Prelude.{◌≡◌, ℕ, ◌<◌, ◌≤◌, List, [], ◌∷◌, ◌++◌, length, take}
+use Rattle.std.specs.List.{flat_map}
+use Rattle.span_core.specs.Lists.{Has}
+use Rattle.marked_automaton.specs.Automaton.{Automaton, Marked}
+use Rattle.marked_automaton.specs.Reduct.{Reduces}
+use Rattle.automaton_reading.specs.Reading.{Row}
+use Rattle.growing_document.specs.Faults.{IsAppendFault, IsRowsFault}
+use Rattle.growing_document.specs.Grown.{Grown, IsAppended, IsAsked, at_start}
+use Rattle.growing_document.specs.Numbers.{end_rows, end_rows_at, weight_with}
+use Rattle.growing_document.specs.declared.fault.GrowFault.TheVariants.{Full}
+
+-- the end rows of the sets that are reached behind so many bytes of the document, for each of these numbers
+abbrev pub ends_at : Automaton → List ℕ → List ℕ → List Row
+ends_at A d lengths = flat_map (λ n. end_rows_at A (take n d)) lengths
+
+-- what reading the document weighs, with these end rows
+abbrev pub weight_at : Automaton → List ℕ → List ℕ → ℕ
+weight_at A d lengths = weight_with A d (ends_at A d lengths)
+
+-- reading by a reduct weighs no more than reading by what it reduces
+abbrev pub ReductWeighs : Type 0
+ReductWeighs = (A B : Automaton) → Reduces A B → (d lengths : List ℕ) → weight_at A d lengths ≤ weight_at B d lengths
+
+-- the end rows that are held are of these lengths of the document, which are its own or were
+pub record IsAskedAt (g : Grown) (lengths : List ℕ) : Type 0 where
+  pub within : (n : ℕ) → Has lengths n → n ≤ length g.document
+  pub ends : (row : Row) → Has (end_rows g.rows) row → Has (ends_at g.automaton.graph g.document lengths) row
+
+-- the lengths at which the rows were asked for tell which end rows are held, and so what a refusal for weight weighs at most
+pub record LengthsLaw : Type 0 where
+  pub start : (A : Marked) (limit : ℕ) → IsAskedAt (at_start A limit) []
+  pub appended : (old new : Grown) (piece lengths : List ℕ) → IsAskedAt old lengths → IsAppended old piece new → IsAskedAt new lengths
+  pub asked : (old new : Grown) (lengths : List ℕ) → IsAskedAt old lengths → IsAsked old new → IsAskedAt new (length old.document ∷ lengths)
+  pub append_full : (g : Grown) (piece lengths : List ℕ) (weight : ℕ) → IsAskedAt g lengths → IsAppendFault g piece (Full weight) →
+      (g.limit < weight) × (weight ≤ weight_at g.automaton.graph (g.document ++ piece) lengths)
+  pub rows_full : (g : Grown) (lengths : List ℕ) (weight : ℕ) → IsAskedAt g lengths → IsRowsFault g (Full weight) →
+      (g.limit < weight) × (weight ≤ weight_at g.automaton.graph g.document (length g.document ∷ lengths))

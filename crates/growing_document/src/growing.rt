@@ -1,0 +1,228 @@
+//! Documents, and what is held of reading them.
+//!
+//! The methods hand their fields on to functions, so that what is held may be taken out and put back while the automaton is lent.
+ghost use Rattle.std.specs.Prelude.{◌≡◌, ℕ, ◌+◌, ◌*◌, ◌^◌, ◌<◌, ◌≤◌, [], true, false, length, IfOk, IfErr, IsErrOf, OnOk, OnErr};
+ghost use Rattle.marked_automaton.specs.Automaton.{size};
+ghost use Rattle.growing_document.specs.declared.fault.GrowFault.TheVariants.{Spent, TooLong};
+ghost use Rattle.growing_document.specs.Faults.{IsAppendFault, IsRowsFault, IsWeightFault, left_by};
+ghost use Rattle.growing_document.specs.Grown.{AcceptsRows, AreRowsRead, IsAppended, IsAsked, IsGrown, at_start, charge, credit, rows_steps};
+ghost use Rattle.growing_document.specs.Inside.{IsInside, seen};
+ghost use Rattle.growing_document.specs.Numbers.{end_rows};
+
+use crate::GrowFault;
+use crate::fault::grown_fault;
+use crate::reading::{Ended, Reading, begin, end_copy, read_on};
+use enumerator::Enumerator;
+use marked_automaton::Automaton;
+use span_core::Steps;
+use std::alloc::Global;
+use std::marker::Model;
+use std::mem;
+use std::sync::ledger::Ledger;
+
+/// How many bytes a document may have.
+const MOST_BYTES: u64 = 268_435_456;
+
+/// A document that grows at its end, read as far as it goes.
+///
+/// It is seen as the automaton that it is read by, the limit of weight, the document, whether it is read no more, how many sets
+/// are reached behind its last byte, how many cells are live, and the rows that are held.
+#[derive(Drop)]
+pub struct Growing {
+    alloc: Global,
+    automaton: Automaton,
+    limit: u64,
+    document: Vec<u8>,
+    reading: Option<Reading>,
+}
+
+impl Model for Growing {
+    ghost use Rattle.growing_document.specs.Grown.{Grown, grown_code};
+
+    ghost Value = { Grown };
+
+    ghost coded = { grown_code };
+
+    ghost use Rattle.growing_document.specs.Inside.{IsInside, seen};
+
+    ghost view = { λ g. seen g.automaton g.limit g.document.items g.reading };
+
+    ghost invariant = { λ g. IsInside g.automaton g.limit g.document.items g.reading };
+}
+
+impl Growing {
+    /// Stands at the empty document. The automaton accepts no words but those of rows; on refusal it is given up. 2 steps.
+    pub fn new<L: Ledger>(
+        alloc: Global,
+        automaton: Automaton,
+        limit: u64,
+        steps: &mut Steps<L>,
+    ) -> Result<Growing, GrowFault>
+        requires limit { limit ≤ 100000000 }
+        requires rows { AcceptsRows automaton }
+        ensures begun { IfOk result (λ g. g ≡ at_start automaton limit) }
+        ensures steps { OnOk result (steps.new ≡ steps.old + 2) }
+        ensures fault { IfErr result (IsWeightFault automaton.graph limit [] []) }
+    {
+        match begin(alloc, &automaton, limit, steps) {
+            Ok(reading) => Ok(Growing {
+                alloc,
+                automaton,
+                limit,
+                document: Vec::new(alloc),
+                reading: Some(reading),
+            }),
+            Err(fault) => Err(grown_fault(fault)),
+        }
+    }
+
+    /// Puts a piece behind the document, and reads it. `Spent` comes exactly where an append was refused before by `Full` or
+    /// want of memory; it is tried first. `TooLong` comes exactly where the document would have more than 2^28 bytes, and tells how
+    /// many; nothing changes. `Full` comes only where what reading the document with the piece meets, with the end rows that are held,
+    /// weighs more than the limit.
+    ///
+    /// What it takes is told by two numbers: `charge` rises by what it may take, and `credit` by what it leaves in hand.
+    pub fn append<L: Ledger>(&mut self, piece: &[u8], steps: &mut Steps<L>) -> Result<(), GrowFault>
+        ensures appended { OnOk result (IsAppended self.old piece.now self.new) }
+        ensures steps { OnOk result (steps.new + credit self.new + charge self.old ≤ steps.old + credit self.old + charge self.new) }
+        ensures spent { self.old.spent ≡ true → IsErrOf result Spent }
+        ensures long { self.old.spent ≡ false → 2 ^ 28 < length self.old.document + length piece.now → IsErrOf result (TooLong (length self.old.document + length piece.now)) }
+        ensures fault { IfErr result (IsAppendFault self.old piece.now) }
+        ensures left { IfErr result (λ e. self.new ≡ left_by self.old e) }
+    {
+        append_to(
+            &self.automaton,
+            self.limit,
+            &mut self.document,
+            &mut self.reading,
+            piece,
+            steps,
+        )
+    }
+
+    /// The document: the pieces of all appends that answered Ok.
+    pub fn document(&self) -> &[u8]
+        ensures { result.now ≡ self.now.document }
+    {
+        self.document.as_slice()
+    }
+
+    /// How many cells are live; none where nothing is read any more.
+    pub fn live(&self) -> u64
+        ensures value { result ≡ self.now.live }
+        ensures grown { IsGrown self.now }
+    {
+        live_of(&self.automaton, self.limit, &self.document, &self.reading)
+    }
+
+    /// The rows of the whole document so far, in block order. The document and its graph stay as they are. `Full` comes only where
+    /// what reading it meets, with the end rows that are held and those of the sets behind its last byte, weighs more than the limit.
+    ///
+    /// It takes no more steps than `rows_steps`, in which the length of the document does not stand, and the size of the automaton for
+    /// each end row that it makes first.
+    pub fn rows<L: Ledger>(&mut self, steps: &mut Steps<L>) -> Result<Enumerator, GrowFault>
+        ensures rows { IfOk result (λ e. AreRowsRead self.old.automaton self.old.document e.whole) }
+        ensures first { IfOk result (λ e. e.rest ≡ e.whole) }
+        ensures variables { IfOk result (λ e. e.variables ≡ length self.old.automaton.names) }
+        ensures asked { IsAsked self.old self.new }
+        ensures steps { self.old.spent ≡ false → steps.new + length (end_rows self.old.rows) * size self.old.automaton.graph ≤ steps.old + rows_steps self.old + length (end_rows self.new.rows) * size self.old.automaton.graph }
+        ensures spent { self.old.spent ≡ true → IsErrOf result Spent }
+        ensures fault { IfErr result (IsRowsFault self.old) }
+    {
+        rows_of(
+            self.alloc,
+            &self.automaton,
+            self.limit,
+            &self.document,
+            &mut self.reading,
+            steps,
+        )
+    }
+}
+
+/// Reads a piece, and puts it behind the document.
+fn append_to<L: Ledger>(
+    automaton: &Automaton,
+    limit: u64,
+    document: &mut Vec<u8>,
+    reading: &mut Option<Reading>,
+    piece: &[u8],
+    steps: &mut Steps<L>,
+) -> Result<(), GrowFault>
+    requires { IsInside automaton.now limit document.old.items reading.old }
+    ensures inside { IsInside automaton.now limit document.new.items reading.new }
+    ensures appended { OnOk result (IsAppended (seen automaton.now limit document.old.items reading.old) piece.now (seen automaton.now limit document.new.items reading.new)) }
+    ensures steps { OnOk result (steps.new + credit (seen automaton.now limit document.new.items reading.new) + charge (seen automaton.now limit document.old.items reading.old) ≤ steps.old + credit (seen automaton.now limit document.old.items reading.old) + charge (seen automaton.now limit document.new.items reading.new)) }
+    ensures spent { (seen automaton.now limit document.old.items reading.old).spent ≡ true → IsErrOf result Spent }
+    ensures long { (seen automaton.now limit document.old.items reading.old).spent ≡ false → 2 ^ 28 < length document.old.items + length piece.now → IsErrOf result (TooLong (length document.old.items + length piece.now)) }
+    ensures fault { IfErr result (IsAppendFault (seen automaton.now limit document.old.items reading.old) piece.now) }
+    ensures left { IfErr result (λ e. seen automaton.now limit document.new.items reading.new ≡ left_by (seen automaton.now limit document.old.items reading.old) e) }
+{
+    let _facts = automaton.states();
+    if reading.is_none() {
+        return Err(GrowFault::Spent);
+    }
+    let seen = document.len() as u64 + piece.len() as u64;
+    if seen > MOST_BYTES {
+        return Err(GrowFault::TooLong { seen });
+    }
+    let Some(before) = mem::replace(reading, None) else {
+        return Err(GrowFault::Spent);
+    };
+    let after = match read_on(automaton, before, document.len() as u32, piece, steps) {
+        Ok(after) => after,
+        Err(fault) => return Err(grown_fault(fault)),
+    };
+    if let Err(_full) = document.extend_from_slice(piece) {
+        return Err(GrowFault::OutOfMemory);
+    }
+    *reading = Some(after);
+    Ok(())
+}
+
+/// How many cells are live.
+fn live_of(automaton: &Automaton, limit: u64, document: &Vec<u8>, reading: &Option<Reading>) -> u64
+    requires { IsInside automaton.now limit document.now.items reading.now }
+    ensures value { result ≡ (seen automaton.now limit document.now.items reading.now).live }
+    ensures grown { IsGrown (seen automaton.now limit document.now.items reading.now) }
+{
+    let _facts = (automaton.states(), limit, document.len());
+    match reading {
+        Some(reading) => reading.graph.live(),
+        None => 0,
+    }
+}
+
+/// The rows of the document, from an ended copy.
+fn rows_of<L: Ledger>(
+    alloc: Global,
+    automaton: &Automaton,
+    limit: u64,
+    document: &Vec<u8>,
+    reading: &mut Option<Reading>,
+    steps: &mut Steps<L>,
+) -> Result<Enumerator, GrowFault>
+    requires { IsInside automaton.now limit document.now.items reading.old }
+    ensures inside { IsInside automaton.now limit document.now.items reading.new }
+    ensures rows { IfOk result (λ e. AreRowsRead automaton.now document.now.items e.whole) }
+    ensures first { IfOk result (λ e. e.rest ≡ e.whole) }
+    ensures variables { IfOk result (λ e. e.variables ≡ length automaton.now.names) }
+    ensures asked { IsAsked (seen automaton.now limit document.now.items reading.old) (seen automaton.now limit document.now.items reading.new) }
+    ensures steps { (seen automaton.now limit document.now.items reading.old).spent ≡ false → steps.new + length (end_rows (seen automaton.now limit document.now.items reading.old).rows) * size automaton.now.graph ≤ steps.old + rows_steps (seen automaton.now limit document.now.items reading.old) + length (end_rows (seen automaton.now limit document.now.items reading.new).rows) * size automaton.now.graph }
+    ensures spent { (seen automaton.now limit document.now.items reading.old).spent ≡ true → IsErrOf result Spent }
+    ensures fault { IfErr result (IsRowsFault (seen automaton.now limit document.now.items reading.old)) }
+{
+    let _facts = (automaton.states(), limit);
+    let Some(before) = mem::replace(reading, None) else {
+        return Err(GrowFault::Spent);
+    };
+    let Ended {
+        reading: after,
+        lists: ended,
+    } = end_copy(alloc, automaton, before, document.len() as u32, steps);
+    *reading = Some(after);
+    match ended {
+        Ok(lists) => Ok(Enumerator::new(lists, automaton.vars().len())),
+        Err(fault) => Err(grown_fault(fault)),
+    }
+}

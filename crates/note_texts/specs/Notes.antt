@@ -1,0 +1,88 @@
+-- The notes of refusals.
+use Rattle.std.specs.Prelude.{ℕ, List, [], ◌∷◌, ◌++◌, codes}
+use Rattle.std.specs.Fmt.{decimal}
+use Rattle.span_core.specs.declared.TheConstants.{MOST_VARIABLES}
+use Rattle.formula_parser.specs.declared.fault.FormulaFault.{FormulaFault}
+use Rattle.formula_parser.specs.declared.fault.FormulaFault.TheVariants as formula
+use Rattle.functional_check.specs.declared.checking.CheckFault.{CheckFault}
+use Rattle.functional_check.specs.declared.checking.CheckFault.TheVariants as sequential
+use Rattle.marked_automaton.specs.declared.TheConstants.{MOST_STATES, MOST_WAYS}
+use Rattle.marked_automaton.specs.declared.fault.SizeFault.{SizeFault}
+use Rattle.marked_automaton.specs.declared.fault.SizeFault.TheVariants as size
+use Rattle.query_parser.specs.declared.TheConstants.{MOST_TEXT_BYTES}
+use Rattle.query_parser.specs.declared.fault.QueryFault.{QueryFault}
+use Rattle.query_parser.specs.declared.fault.QueryFault.TheVariants as query
+
+-- a line
+abbrev pub line : List ℕ → List ℕ
+line text = text ++ 10 ∷ []
+
+-- a text with a number behind it, as a place in a query's text, or a limit
+abbrev pub at_place : List ℕ → ℕ → List ℕ
+at_place what at = what ++ decimal at
+
+-- a number between two texts
+abbrev pub counted : List ℕ → ℕ → List ℕ → List ℕ
+counted before number after = at_place before number ++ after
+
+-- a variable, between two texts
+abbrev pub about : List ℕ → List ℕ → List ℕ → List ℕ
+about before name after = before ++ name ++ after
+
+-- an atom's fault
+abbrev pub formula_note : FormulaFault → List ℕ
+formula_note (formula.Unexpected at) = at_place (codes "query: unexpected at ") at
+formula_note (formula.Unclosed at) = at_place (codes "query: not closed at ") at
+formula_note (formula.BadEscape at) = at_place (codes "query: bad escape at ") at
+formula_note (formula.BadRange at) = at_place (codes "query: bad range at ") at
+formula_note (formula.BadRepeat at) = at_place (codes "query: bad repeat at ") at
+formula_note (formula.DoubleRepeat at) = at_place (codes "query: repeat after repeat at ") at
+formula_note (formula.Anchor at) = at_place (codes "query: anchor at ") at
+formula_note (formula.NameTooLong at) = at_place (codes "query: name too long at ") at
+formula_note (formula.ReservedName at) = at_place (codes "query: reserved name at ") at
+formula_note (formula.TooDeep at) = at_place (codes "query: too deep at ") at
+formula_note (formula.NotUtf8 at) = at_place (codes "query: not UTF-8 at ") at
+formula_note (formula.UnknownProperty at) = at_place (codes "query: unknown property at ") at
+formula_note formula.OutOfMemory = codes "out of memory"
+
+-- a formula that is not sequential
+abbrev pub check_note : CheckFault → List ℕ
+check_note (sequential.BoundTwice x) = about (codes "query: variable ") x (codes " twice")
+check_note (sequential.UnderRepeat x) = about (codes "query: variable ") x (codes " under a repeat")
+
+-- the fault of a query's text
+abbrev pub fault_note : QueryFault → List ℕ
+fault_note (query.Formula fault) = formula_note fault
+fault_note (query.Check fault) = check_note fault
+fault_note (query.Unexpected at) = at_place (codes "query: unexpected at ") at
+fault_note (query.UnknownName at) = at_place (codes "query: unknown name at ") at
+fault_note (query.NameTwice at) = at_place (codes "query: name twice at ") at
+fault_note (query.NameTooLong at) = at_place (codes "query: name too long at ") at
+fault_note (query.UnknownVariable x) = about (codes "query: no variable ") x (codes " to keep")
+fault_note query.TooManyVariables = counted (codes "query: more than ") MOST_VARIABLES (codes " variables")
+fault_note query.TooLong = counted (codes "query: longer than ") MOST_TEXT_BYTES (codes " bytes")
+fault_note (query.TooDeep at) = at_place (codes "query: too deep at ") at
+fault_note query.OutOfMemory = codes "out of memory"
+fault_note (query.JoinUnsure x) = about (codes "query: variable ") x (codes " not sure on both sides of join")
+fault_note (query.UnknownTest at) = at_place (codes "query: unknown test at ") at
+fault_note (query.TestVariable x) = about (codes "query: no variable ") x (codes " to test")
+fault_note (query.MinusVariables x) = about (codes "query: variable ") x (codes " not on both sides of minus")
+
+-- sizes of automata
+abbrev pub states_note : List ℕ
+states_note = counted (codes "size: more than ") MOST_STATES (codes " states")
+
+abbrev pub ways_note : List ℕ
+ways_note = counted (codes "size: more than ") MOST_WAYS (codes " ways")
+
+abbrev pub size_note : SizeFault → List ℕ
+size_note (size.States count) = states_note
+size_note (size.Ways count) = ways_note
+size_note size.OutOfMemory = codes "out of memory"
+
+-- weights past a limit
+abbrev pub table_note : ℕ → List ℕ
+table_note limit = at_place (codes "size: table past ") limit
+
+abbrev pub filter_note : ℕ → List ℕ
+filter_note limit = at_place (codes "size: filter past ") limit

@@ -1,9 +1,0 @@
-use Rattle.std.proofs.Common.{sym, subst}
-use Rattle.spanner_model.specs.Expression.{ExprTree}
-use Rattle.spanner_model.specs.Sound.{IsSound}
-use Rattle.spanner_model.specs.Examples.{query}
-use Rattle.plain_spanner.proofs.SampleLaws.{united_sound}
-use Rattle.plain_spanner.proofs.tests.of_united.Goals as goal
-
-pub answers-requires-clause-sound : goal.answers-requires-clause-sound
-answers-requires-clause-sound c = subst (λ (e : ExprTree). IsSound (query e)) (sym c.in_ok-united.ensures) united_sound

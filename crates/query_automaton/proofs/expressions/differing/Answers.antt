@@ -1,0 +1,12 @@
+use Rattle.std.proofs.Common.{◌∙◌}
+use Rattle.marked_automaton.proofs.Reducts.{reduct_of_reduct}
+use Rattle.query_automaton.specs.QueryAutomaton.{of_minus}
+use Rattle.query_automaton.proofs.expressions.differing.Goals as goal
+
+pub returns-clause-made : goal.returns-clause-made
+returns-clause-made c =
+    let a = c.args.left.now in
+    let p = c.args.right.now in
+    let j = c.in_ok-alone.alone in
+    let useful = c.in_ok-trim.field-0 in
+    (c.in_ok-trim.ensures.names ∙ c.in_ok-alone.ensures.names, reduct_of_reduct useful.graph j.graph (of_minus a p).graph c.in_ok-trim.ensures.reduct c.in_ok-alone.ensures.reduct)

@@ -1,0 +1,27 @@
+use Rattle.std.proofs.Common.{◌≡◌, None, List, subst}
+use Rattle.command_line.specs.Asked.{request_view}
+use Rattle.spanner_model.specs.Captures.{VarName}
+use Rattle.spanner_model.specs.ExprView.{query_of}
+use Rattle.spanner_engine.specs.Left.{Source, over}
+use Rattle.rematch_program.specs.Change.{change}
+use Rattle.rematch_program.specs.Ending.{note_bytes}
+use Rattle.rematch_program.proofs.Answered.{result_last, result_names, trial_answered}
+use Rattle.rematch_program.proofs.top.with_trial.Goals as goal
+
+pub new-rows-requires-clause-names : goal.new-rows-requires-clause-names
+new-rows-requires-clause-names g c = result_names _ _ _ _ c.requires.query c.vars.ensures c.requires.names
+
+pub new-rows-requires-clause-last : goal.new-rows-requires-clause-last
+new-rows-requires-clause-last g c = result_last _ _ c.args.document.now _ _ None c.in-Ok.answers.rest c.requires.query c.vars.ensures c.in-Ok.ensures.left
+
+pub returns-in-Ok : goal.returns-in-Ok
+returns-in-Ok g c =
+    let asking = c.args.asking.now in
+    let s : Source = over asking.tested.now.asked asking.tests.now asking.compiled.automaton.names c.args.document.now in
+    let out = change (g.O.Sink.written c.args.out.now) (g.O.Sink.written c.write_summary.new.out) (g.O.Sink.faults c.args.out.now) (g.O.Sink.faults c.write_summary.new.out) in
+    let source = subst (λ (ns : List VarName). c.new-rows.result.source ≡ over asking.tested.now.asked asking.tests.now ns c.args.document.now) c.vars.ensures c.new-rows.ensures.source in
+    record {
+      case = trial_answered g.J.Judge.judges s c.in-Ok.answers.rest c.new-rows.result source c.new-rows.ensures.rest (request_view c.args.request.now) (query_of asking.compiled.query) out
+          c.write_summary.result.status (note_bytes c.write_summary.result.note) c.args.steps.now c.begun.new.steps c.write_summary.new.steps c.args.lines
+          c.requires.trial c.in-Ok.ensures.left c.in-Ok.ensures.steps c.write_summary.ensures.case;
+    }

@@ -1,0 +1,10 @@
+mod SessionLaws
+mod Apart
+mod Refusals
+mod Giving
+mod Replied
+mod Opens
+mod NextRows
+mod Few
+mod Grows
+mod Lines

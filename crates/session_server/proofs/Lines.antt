@@ -1,0 +1,240 @@
+-- The lines that were served so far, and all of them.
+use Rattle.std.proofs.Common.{arith, ◌≡◌, ◌≢◌, ◌⊎◌, ◌+◌, ◌-◌, ◌<◌, ◌≤◌, ℕ, suc, Bool, true, false, List, [], ◌∷◌, ◌++◌, length, Option, Some, None, Result, Ok, Err, inl, inr, refl, sym, ap, ◌∙◌, subst, append_assoc, append-nil, length-append}
+use Rattle.std.specs.Prelude.{codes}
+use Rattle.std.specs.List.{flat_map}
+use Rattle.std.specs.Io.KnownBytes.{Appends}
+use Rattle.std.proofs.KnownBytes.{Appends-nil, Appends-trans}
+use Rattle.std.proofs.lemmas.List.Concat.{flat_map-append}
+use Rattle.rm_outside.specs.Change.{Adds, AddsPart, Change, Failed}
+use Rattle.rm_outside.specs.Faults.{Rose}
+use Rattle.rm_outside.specs.Sink.{AppendsPart}
+use Rattle.rm_outside.specs.Source.{AsksLine, IsNextLong, IsSpent, LineTaken, NextLine, TakesLine, TakesLines}
+use Rattle.rm_outside.specs.declared.source.LineFault.{LineFault}
+use Rattle.rm_outside.specs.declared.source.LineFault.TheVariants.{TooLong}
+use Rattle.rm_outside.proofs.LineLaws.{next_is}
+use Rattle.rm_outside.specs.declared.status.Status.{Status}
+use Rattle.rm_outside.specs.declared.status.Status.TheVariants as status
+use Rattle.note_texts.specs.Notes.{line}
+use Rattle.spanner_engine.specs.Passing.{Known}
+use Rattle.session_server.specs.declared.TheConstants.{MOST_LINE_BYTES}
+use Rattle.session_server.specs.declared.answering.Opened.{Opened}
+use Rattle.session_server.specs.Open.{AreOpen}
+use Rattle.session_server.specs.Replies.{AreReplies, IsReply, Reply, Sessions, first_line, no_line, replies_text, reply_text}
+use Rattle.session_server.specs.Serve.{AreShort, Is, IsServed, Reports, Served, Serves, ServesAll, ServesLines, all_served, cut, line_too_long, source_failed, too_many, wants_memory, whole, write_failed}
+
+-- ---- one line more
+
+takes_more : (old mid now : Option (List ℕ)) (texts : List (List ℕ)) (text : List ℕ) → TakesLines old texts mid → TakesLine mid text now → TakesLines old (texts ++ text ∷ []) now
+takes_more old mid now [] text t one = (now, subst (λ (o : Option (List ℕ)). TakesLine o text now) t one, refl)
+takes_more old mid now (x ∷ texts) text (next, here, later) one = (next, here, takes_more next mid now texts text later one)
+
+replied_more : (k : Known) (all mid after : Sessions) (texts : List (List ℕ)) (replies : List Reply) (text : List ℕ) (reply : Reply) → AreReplies k all texts replies mid → IsReply k mid text reply after →
+    AreReplies k all (texts ++ text ∷ []) (replies ++ reply ∷ []) after
+replied_more k all mid after _ _ text reply no_line one = first_line one no_line
+replied_more k all mid after _ _ text reply (first_line {mid = next} {texts = texts} {replies = replies} here later) one = first_line here (replied_more k next mid after texts replies text reply later one)
+
+text_more : (replies : List Reply) (reply : Reply) → replies_text (replies ++ reply ∷ []) ≡ replies_text replies ++ reply_text reply
+text_more replies reply = flat_map-append reply_text replies (reply ∷ []) ∙ ap (λ (xs : List ℕ). replies_text replies ++ xs) (append-nil (reply_text reply))
+
+-- ---- so far
+
+pub record ServedSoFar (k : Known) (most : ℕ) (start now before after : Option (List ℕ)) (served : ℕ) (cs : List Opened) : Type 0 where
+  pub texts : List (List ℕ)
+  pub replies : List Reply
+  pub all : Sessions
+  pub taken : TakesLines start texts now
+  pub count : length texts ≡ served
+  pub few : served ≤ most
+  pub replied : AreReplies k [] texts replies all
+  pub stands : AreOpen k cs all
+  pub wrote : Appends before after (replies_text replies)
+
+pub none_served : (k : Known) (most : ℕ) (start before : Option (List ℕ)) → ServedSoFar k most start start before before 0 []
+none_served k most start before = record { texts = []; replies = []; all = []; taken = refl; count = refl; few = omega arith; replied = no_line; stands = tt; wrote = Appends-nil before }
+
+pub rose_from : (a b c : ℕ) → a ≤ b → Rose b c → Rose a c
+rose_from a b c le rose = omega (arith, le, rose)
+
+module _ (k : Known) (most : ℕ) (start now before after : Option (List ℕ)) (served : ℕ) (cs : List Opened) (s : ServedSoFar k most start now before after served cs) where
+  few_texts : length s.texts ≤ most
+  few_texts = let a = s.count in let b = s.few in omega (arith, a, b)
+
+  run : Served k s.texts s.replies
+  run = record { after = s.all; replied = s.replied }
+
+  module _ (source out : Change) (begins : source.old ≡ start) (puts : out.old ≡ before) (written : out.new ≡ after) where
+    took : TakesLines source.old s.texts now
+    took = subst (λ (o : Option (List ℕ)). TakesLines o s.texts now) (sym begins) s.taken
+
+    added : Adds out (replies_text s.replies)
+    added = subst (λ (o : Option (List ℕ)). Appends o out.new (replies_text s.replies)) (sym puts) (subst (λ (o : Option (List ℕ)). Appends before o (replies_text s.replies)) (sym written) s.wrote)
+
+    pub ends_served : IsSpent now → IsSpent source.new → ServesLines k most source out status.Done (line (codes "end"))
+    ends_served spent end = all_served s.texts s.replies now took spent end few_texts run added (record { ends = refl; says = refl })
+
+    pub ends_failed : Failed source → ServesLines k most source out status.Read (line (codes "read failed: requests"))
+    ends_failed failed = source_failed s.texts s.replies now took failed few_texts run added (record { ends = refl; says = refl })
+
+    pub ends_long : IsNextLong MOST_LINE_BYTES now → ServesLines k most source out status.Long (line (codes "request longer than 1048576 bytes"))
+    ends_long long = line_too_long s.texts s.replies now took long few_texts run added (record { ends = refl; says = refl })
+
+    pub ends_many : (text : List ℕ) → TakesLine now text source.new → most ≤ served → ServesLines k most source out status.Long (line (codes "too many requests"))
+    ends_many text next many = let a = s.count in let b = s.few in too_many s.texts s.replies now text took next (omega (arith, a, b, many)) run added (record { ends = refl; says = refl })
+
+    pub ends_memory : ServesLines k most source out status.Memory (line (codes "out of memory"))
+    ends_memory = wants_memory s.texts s.replies now took few_texts run added (record { ends = refl; says = refl })
+
+  -- a reply more
+  module _ (new : Option (List ℕ)) (text reply_line : List ℕ) (reply : Reply) (all : Sessions) (one : TakesLine now text new) (room : served < most)
+      (answers : IsReply k s.all text reply all) (told : reply_line ≡ reply_text reply) where
+    more_few : length (s.texts ++ text ∷ []) ≤ most
+    more_few = let a = s.count in let e = length-append s.texts (text ∷ []) in omega (arith, a, e, room)
+
+    pub one_served : (put : Option (List ℕ)) (then : List Opened) → AreOpen k then all → Appends after put reply_line → ServedSoFar k most start new before put (served + 1) then
+    one_served put then stands wrote =
+        let a = s.count in
+        let e = length-append s.texts (text ∷ []) in
+        record {
+          texts = s.texts ++ text ∷ [];
+          replies = s.replies ++ reply ∷ [];
+          all = all;
+          taken = takes_more start now new s.texts text s.taken one;
+          count = omega (arith, a, e);
+          few = omega (arith, room);
+          replied = replied_more k [] s.all all s.texts s.replies text reply s.replied answers;
+          stands = stands;
+          wrote = subst (λ (xs : List ℕ). Appends before put xs) (sym (text_more s.replies reply))
+              (Appends-trans before after put (replies_text s.replies) (reply_text reply) s.wrote (subst (λ (xs : List ℕ). Appends after put xs) told wrote));
+        }
+
+    pub ends_write : (source out : Change) → source.old ≡ start → source.new ≡ new → out.old ≡ before → AppendsPart after out.new reply_line → Failed out →
+        ServesLines k most source out status.Write (line (codes "write failed"))
+    ends_write source out begins goes puts part failed =
+        let all_text = replies_text s.replies in
+        let joined : (all_text ++ part.part) ++ part.prefix.rest ≡ replies_text (s.replies ++ reply ∷ []) =
+        append_assoc all_text part.part part.prefix.rest ∙ ap (λ (xs : List ℕ). all_text ++ xs) (part.prefix.joined ∙ told) ∙ sym (text_more s.replies reply) in
+        let added : Appends before out.new (all_text ++ part.part) = Appends-trans before after out.new all_text part.part s.wrote part.added in
+        write_failed (s.texts ++ text ∷ []) (s.replies ++ reply ∷ [])
+        (subst (λ (o : Option (List ℕ)). TakesLines o (s.texts ++ text ∷ []) source.new) (sym begins)
+        (subst (λ (o : Option (List ℕ)). TakesLines start (s.texts ++ text ∷ []) o) (sym goes) (takes_more start now new s.texts text s.taken one)))
+        more_few
+        (record { after = all; replied = replied_more k [] s.all all s.texts s.replies text reply s.replied answers })
+        (record { part = all_text ++ part.part; added = subst (λ (o : Option (List ℕ)). Appends o out.new (all_text ++ part.part)) (sym puts) added; prefix = record { rest = part.prefix.rest; joined = joined } })
+        failed (record { ends = refl; says = refl })
+
+-- ---- in the code's shapes
+
+pub ended_as : (k : Known) (most : ℕ) (source out : Change) (end wanted : Status) (note text : List ℕ) → end ≡ wanted → note ≡ text → ServesLines k most source out wanted text → ServesLines k most source out end note
+ended_as k most source out end wanted note text is says done =
+    subst (λ (e : Status). ServesLines k most source out e note) (sym is) (subst (λ (n : List ℕ). ServesLines k most source out wanted n) (sym says) done)
+
+module _ (limit : ℕ) (old new : Option (List ℕ)) (before after : List ℕ) where
+  pub is_long : (e : LineFault) (seen : ℕ) → e ≡ TooLong seen → AsksLine limit old new before after (Err e) → IsNextLong limit old
+  is_long e seen is asks = let P : LineFault → Type 0 = λ x. AsksLine limit old new before after (Err x) in (subst P is asks).1
+
+  pub is_spent : (b : Bool) → b ≡ false → AsksLine limit old new before after (Ok b) → IsSpent old × IsSpent new
+  is_spent true is asks = absurd (cc)
+  is_spent false is asks = (asks.0, asks.1)
+
+  pub is_taken : (b : Bool) → b ≡ true → AsksLine limit old new before after (Ok b) → LineTaken limit old new before after
+  is_taken false is asks = absurd (cc)
+  is_taken true is asks = asks
+
+-- ---- all lines
+
+no_next : (text rest : List ℕ) → NextLine [] text rest → ⊥
+no_next text rest next = by text rest [] refl next
+  where
+    by : (t r bytes : List ℕ) → bytes ≡ [] → NextLine bytes t r → ⊥
+    by _ r _ e (Rattle.rm_outside.specs.Source.ended {line = []} inside) = absurd (cc)
+    by _ r _ e (Rattle.rm_outside.specs.Source.ended {line = b ∷ l} inside) = absurd (cc)
+    by t _ _ e (Rattle.rm_outside.specs.Source.last inside some) = some e
+
+-- these lines are the first of all lines, of which the others are left
+left_over : (bytes : List ℕ) (now : Option (List ℕ)) (xs ys : List (List ℕ)) → TakesLines (Some bytes) xs now → TakesLines (Some bytes) ys (Some []) →
+    (rest : List (List ℕ)) × (ys ≡ xs ++ rest) × TakesLines now rest (Some [])
+left_over bytes now [] ys a b = (ys, refl, subst (λ (o : Option (List ℕ)). TakesLines o ys (Some [])) (sym a) b)
+left_over bytes now (x ∷ xs) [] (None, here, later) b = absurd here
+left_over bytes now (x ∷ xs) [] (Some mid, here, later) b = let e : bytes ≡ [] = cc in absurd (no_next x mid (subst (λ (bs : List ℕ). NextLine bs x mid) e here))
+left_over bytes now (x ∷ xs) (y ∷ ys) (None, here, later) b = absurd here
+left_over bytes now (x ∷ xs) (y ∷ ys) (Some mid, here, later) (None, there, after) = absurd there
+left_over bytes now (x ∷ xs) (y ∷ ys) (Some mid, here, later) (Some other, there, after) =
+    let (same, to) = next_is bytes x mid here in
+    let (also, goes) = next_is bytes y other there in
+    let meets : other ≡ mid = goes ∙ sym to in
+    let (rest, joined, left) = left_over mid now xs ys later (subst (λ (bs : List ℕ). TakesLines (Some bs) ys (Some [])) meets after) in
+    (rest, ap (λ (l : List ℕ). l ∷ ys) (also ∙ sym same) ∙ ap (λ (ls : List (List ℕ)). x ∷ ls) joined, left)
+
+none_left : (now : Option (List ℕ)) (rest : List (List ℕ)) → IsSpent now → (bytes : List ℕ) → now ≡ Some bytes → TakesLines now rest (Some []) → rest ≡ []
+none_left now [] spent bytes is t = refl
+none_left None (x ∷ rest) spent bytes is t = absurd (cc)
+none_left (Some left) (x ∷ rest) spent bytes is (None, here, later) = absurd here
+none_left (Some left) (x ∷ rest) spent bytes is (Some mid, here, later) = absurd (no_next x mid (subst (λ (bs : List ℕ). NextLine bs x mid) spent here))
+
+-- what is told stays told
+still_told : (bytes : List ℕ) (xs : List (List ℕ)) (now : Option (List ℕ)) → TakesLines (Some bytes) xs now → (left : List ℕ) × (now ≡ Some left)
+still_told bytes [] now t = (bytes, t)
+still_told bytes (x ∷ xs) now (None, here, later) = absurd here
+still_told bytes (x ∷ xs) now (Some mid, here, later) = still_told mid xs now later
+
+short_after : (xs rest : List (List ℕ)) → AreShort (xs ++ rest) → AreShort rest
+short_after [] rest s = s
+short_after (x ∷ xs) rest s = short_after xs rest s.1
+
+not_long : (left : List ℕ) (rest : List (List ℕ)) → AreShort rest → TakesLines (Some left) rest (Some []) → IsNextLong MOST_LINE_BYTES (Some left) → ⊥
+not_long left [] short t (text, after, next, long) = let e : left ≡ [] = cc in no_next text after (subst (λ (bs : List ℕ). NextLine bs text after) e next)
+not_long left (x ∷ rest) short (None, here, later) long = here
+not_long left (x ∷ rest) short (Some mid, here, later) (text, after, next, long) =
+    let a = (next_is left x mid here).0 in
+    let b = (next_is left text after next).0 in
+    let same = ap (λ (l : List ℕ). length l) (b ∙ sym a) in
+    let few = short.0 in
+    omega (arith, same, few, long)
+
+not_more : (most : ℕ) (left text : List ℕ) (xs rest : List (List ℕ)) (new : Option (List ℕ)) → length xs ≡ most → length (xs ++ rest) ≤ most → TakesLines (Some left) rest (Some []) → TakesLine (Some left) text new → ⊥
+not_more most left text xs [] (Some new) many few t next = let e : left ≡ [] = cc in no_next text new (subst (λ (bs : List ℕ). NextLine bs text new) e next)
+not_more most left text xs [] None many few t next = next
+not_more most left text xs (x ∷ rest) new many few t next = let e = length-append xs (x ∷ rest) in absurd (omega (arith, e, many, few))
+
+module _ (k : Known) (most : ℕ) (source out notes : Change) (result : Status) (bytes : List ℕ) (texts : List (List ℕ)) (is : source.old ≡ Some bytes) (lines : TakesLines (Some bytes) texts (Some []))
+    (short : AreShort texts) (few : length texts ≤ most) (quiet : ¬ Failed source) (puts : ¬ Failed out) (says : ¬ Failed notes) where
+  reported : (end : Status) (note : List ℕ) → Reports end note notes result → (result ≡ end) × Adds notes note
+  reported end note (whole ends adds) = (ends, adds)
+  reported end note (cut ends failed part) = absurd (says failed)
+
+  from_start : (xs : List (List ℕ)) (now : Option (List ℕ)) → TakesLines source.old xs now → TakesLines (Some bytes) xs now
+  from_start xs now t = subst (λ (o : Option (List ℕ)). TakesLines o xs now) is t
+
+  pub serves_them : (end : Status) (note : List ℕ) → ServesLines k most source out end note → Reports end note notes result → IsServed k texts out notes result ⊎ (result ≡ status.Memory)
+  serves_them end note (all_served xs replies now t spent end_spent few_xs served adds told) report =
+      let taken = from_start xs now t in
+      let (rest, joined, left) = left_over bytes now xs texts taken lines in
+      let (held, tells) = still_told bytes xs now taken in
+      let none : rest ≡ [] = none_left now rest spent held tells left in
+      let same : xs ≡ texts = sym (joined ∙ ap (λ (ls : List (List ℕ)). xs ++ ls) none ∙ append-nil xs) in
+      let (ends, notes_put) = reported end note report in
+      inl (record {
+        done = ends ∙ told.ends;
+        replies = replies;
+        served = subst (λ (ls : List (List ℕ)). Served k ls replies) same served;
+        wrote = adds;
+        noted = subst (λ (n : List ℕ). Adds notes n) told.says notes_put;
+      })
+  serves_them end note (source_failed xs replies now t failed few_xs served adds told) report = absurd (quiet failed)
+  serves_them end note (line_too_long xs replies now t long few_xs served adds told) report =
+      let taken = from_start xs now t in
+      let (rest, joined, left) = left_over bytes now xs texts taken lines in
+      let (held, tells) = still_told bytes xs now taken in
+      absurd (not_long held rest (short_after xs rest (subst AreShort joined short)) (subst (λ (o : Option (List ℕ)). TakesLines o rest (Some [])) tells left) (subst (IsNextLong MOST_LINE_BYTES) tells long))
+  serves_them end note (too_many xs replies now next t more many served adds told) report =
+      let taken = from_start xs now t in
+      let (rest, joined, left) = left_over bytes now xs texts taken lines in
+      let (held, tells) = still_told bytes xs now taken in
+      absurd (not_more most held next xs rest source.new many (subst (λ (ls : List (List ℕ)). length ls ≤ most) joined few)
+      (subst (λ (o : Option (List ℕ)). TakesLines o rest (Some [])) tells left) (subst (λ (o : Option (List ℕ)). TakesLine o next source.new) tells more))
+  serves_them end note (write_failed xs replies t few_xs served part failed told) report = absurd (puts failed)
+  serves_them end note (wants_memory xs replies now t few_xs served adds told) report = inr ((reported end note report).0 ∙ told.ends)
+
+pub serves_all : (k : Known) (most : ℕ) (source out notes : Change) (result : Status) → Serves k most source out notes result → ServesAll k most source out notes result
+serves_all k most source out notes result s = λ bytes texts is lines short few quiet puts says.
+    serves_them k most source out notes result bytes texts is lines short few quiet puts says s.end s.note s.done s.report

@@ -1,0 +1,111 @@
+use Rattle.std.proofs.Common.{rules, arith, true, false, ◌≡◌, ◌≤◌, ◌∙◌, List, ℕ, Option, [], ◌++◌, codes, refl, sym, ap, subst}
+use Rattle.rm_outside.specs.Change.{change}
+use Rattle.rm_outside.specs.declared.status.Status.TheVariants as status
+use Rattle.note_texts.specs.Notes.{line}
+use Rattle.spanner_engine.specs.Passing.{known}
+use Rattle.session_server.specs.declared.TheConstants.{MOST_LINE_BYTES}
+use Rattle.session_server.specs.declared.answering.Opened.{Opened}
+use Rattle.session_server.specs.Replies.{IsReply}
+use Rattle.session_server.proofs.Lines.{ServedSoFar, ended_as, ends_failed, ends_long, ends_many, ends_memory, ends_served, ends_write, is_long, is_spent, is_taken, none_served, one_served, rose_from}
+use Rattle.session_server.proofs.serving.serve_lines.Goals as goal
+
+pub loop-line-init : goal.loop-line-init
+loop-line-init g c =
+    let k = known c.args.tests.now g.J.Judge.judges in
+    record {
+      so_far = subst (λ (cs : List Opened). ServedSoFar k c.args.most (g.R.Source.left c.args.source.now) (g.R.Source.left c.args.source.now) (g.O.Sink.written c.args.out.now) (g.O.Sink.written c.args.out.now) 0 cs) (sym c.new-sessions.ensures.items) (none_served k c.args.most (g.R.Source.left c.args.source.now) (g.O.Sink.written c.args.out.now));
+      faults = omega arith;
+      puts = omega arith;
+    }
+
+pub returns-in-Ok-false : goal.returns-in-Ok-false
+returns-in-Ok-false g c =
+    let k = known c.args.tests.now g.J.Judge.judges in
+    let so = c.loop-line.invariant.so_far in
+    let no : c.in-Ok-false.field-0 ≡ false = search rules in
+    let spent = is_spent MOST_LINE_BYTES (g.R.Source.left c.loop-line.source) (g.R.Source.left c.line.new.self) c.clear.new.self.items c.line.new.into.items c.in-Ok-false.field-0 no c.in-Ok-false.ensures.asks in
+    record {
+      serves = ended_as k c.args.most (change (g.R.Source.left c.args.source.now) (g.R.Source.left c.line.new.self) (g.R.Source.faults c.args.source.now) (g.R.Source.faults c.line.new.self)) (change (g.O.Sink.written c.args.out.now) (g.O.Sink.written c.loop-line.out) (g.O.Sink.faults c.args.out.now) (g.O.Sink.faults c.loop-line.out)) c.ended.result.status status.Done c.ended.result.note.now (line (codes "end")) c.ended.ensures.status c.ended.ensures.note
+          (ends_served k c.args.most (g.R.Source.left c.args.source.now) (g.R.Source.left c.loop-line.source) (g.O.Sink.written c.args.out.now) (g.O.Sink.written c.loop-line.out) c.loop-line.served c.loop-line.sessions.items so (change (g.R.Source.left c.args.source.now) (g.R.Source.left c.line.new.self) (g.R.Source.faults c.args.source.now) (g.R.Source.faults c.line.new.self)) (change (g.O.Sink.written c.args.out.now) (g.O.Sink.written c.loop-line.out) (g.O.Sink.faults c.args.out.now) (g.O.Sink.faults c.loop-line.out)) refl refl refl spent.0 spent.1);
+    }
+
+pub returns-in-Err-Failed : goal.returns-in-Err-Failed
+returns-in-Err-Failed g c =
+    let k = known c.args.tests.now g.J.Judge.judges in
+    let so = c.loop-line.invariant.so_far in
+    let rose = rose_from (g.R.Source.faults c.args.source.now) (g.R.Source.faults c.loop-line.source) (g.R.Source.faults c.line.new.self) c.loop-line.invariant.faults (c.in-Err-Failed.ensures.failed (search rules)) in
+    record {
+      serves = ended_as k c.args.most (change (g.R.Source.left c.args.source.now) (g.R.Source.left c.line.new.self) (g.R.Source.faults c.args.source.now) (g.R.Source.faults c.line.new.self)) (change (g.O.Sink.written c.args.out.now) (g.O.Sink.written c.loop-line.out) (g.O.Sink.faults c.args.out.now) (g.O.Sink.faults c.loop-line.out)) c.ended-in-Err-Failed.result.status status.Read c.ended-in-Err-Failed.result.note.now (line (codes "read failed: requests")) c.ended-in-Err-Failed.ensures.status c.ended-in-Err-Failed.ensures.note
+          (ends_failed k c.args.most (g.R.Source.left c.args.source.now) (g.R.Source.left c.loop-line.source) (g.O.Sink.written c.args.out.now) (g.O.Sink.written c.loop-line.out) c.loop-line.served c.loop-line.sessions.items so (change (g.R.Source.left c.args.source.now) (g.R.Source.left c.line.new.self) (g.R.Source.faults c.args.source.now) (g.R.Source.faults c.line.new.self)) (change (g.O.Sink.written c.args.out.now) (g.O.Sink.written c.loop-line.out) (g.O.Sink.faults c.args.out.now) (g.O.Sink.faults c.loop-line.out)) refl refl refl rose);
+    }
+
+pub returns-in-Err-TooLong : goal.returns-in-Err-TooLong
+returns-in-Err-TooLong g c =
+    let k = known c.args.tests.now g.J.Judge.judges in
+    let so = c.loop-line.invariant.so_far in
+    let long = is_long MOST_LINE_BYTES (g.R.Source.left c.loop-line.source) (g.R.Source.left c.line.new.self) c.clear.new.self.items c.line.new.into.items c.in-Err-TooLong.field-0 c.in-Err-TooLong.field-0-0 c.in-Err-TooLong.field-0-is c.in-Err-TooLong.ensures.asks in
+    record {
+      serves = ended_as k c.args.most (change (g.R.Source.left c.args.source.now) (g.R.Source.left c.line.new.self) (g.R.Source.faults c.args.source.now) (g.R.Source.faults c.line.new.self)) (change (g.O.Sink.written c.args.out.now) (g.O.Sink.written c.loop-line.out) (g.O.Sink.faults c.args.out.now) (g.O.Sink.faults c.loop-line.out)) c.ended-in-Err-TooLong.result.status status.Long c.ended-in-Err-TooLong.result.note.now (line (codes "request longer than 1048576 bytes")) c.ended-in-Err-TooLong.ensures.status c.ended-in-Err-TooLong.ensures.note
+          (ends_long k c.args.most (g.R.Source.left c.args.source.now) (g.R.Source.left c.loop-line.source) (g.O.Sink.written c.args.out.now) (g.O.Sink.written c.loop-line.out) c.loop-line.served c.loop-line.sessions.items so (change (g.R.Source.left c.args.source.now) (g.R.Source.left c.line.new.self) (g.R.Source.faults c.args.source.now) (g.R.Source.faults c.line.new.self)) (change (g.O.Sink.written c.args.out.now) (g.O.Sink.written c.loop-line.out) (g.O.Sink.faults c.args.out.now) (g.O.Sink.faults c.loop-line.out)) refl refl refl long);
+    }
+
+pub returns-in-Err-OutOfMemory : goal.returns-in-Err-OutOfMemory
+returns-in-Err-OutOfMemory g c =
+    let k = known c.args.tests.now g.J.Judge.judges in
+    let so = c.loop-line.invariant.so_far in
+    record {
+      serves = ended_as k c.args.most (change (g.R.Source.left c.args.source.now) (g.R.Source.left c.line.new.self) (g.R.Source.faults c.args.source.now) (g.R.Source.faults c.line.new.self)) (change (g.O.Sink.written c.args.out.now) (g.O.Sink.written c.loop-line.out) (g.O.Sink.faults c.args.out.now) (g.O.Sink.faults c.loop-line.out)) c.ended-in-Err-OutOfMemory.result.status status.Memory c.ended-in-Err-OutOfMemory.result.note.now (line (codes "out of memory")) c.ended-in-Err-OutOfMemory.ensures.status c.ended-in-Err-OutOfMemory.ensures.note
+          (ends_memory k c.args.most (g.R.Source.left c.args.source.now) (g.R.Source.left c.loop-line.source) (g.O.Sink.written c.args.out.now) (g.O.Sink.written c.loop-line.out) c.loop-line.served c.loop-line.sessions.items so (change (g.R.Source.left c.args.source.now) (g.R.Source.left c.line.new.self) (g.R.Source.faults c.args.source.now) (g.R.Source.faults c.line.new.self)) (change (g.O.Sink.written c.args.out.now) (g.O.Sink.written c.loop-line.out) (g.O.Sink.faults c.args.out.now) (g.O.Sink.faults c.loop-line.out)) refl refl refl);
+    }
+
+pub returns-then-served-most : goal.returns-then-served-most
+returns-then-served-most g c =
+    let k = known c.args.tests.now g.J.Judge.judges in
+    let so = c.loop-line.invariant.so_far in
+    let yes_taken : c.in-Ok-true.field-0 ≡ true = search rules in
+    let taken = is_taken MOST_LINE_BYTES (g.R.Source.left c.loop-line.source) (g.R.Source.left c.line.new.self) c.clear.new.self.items c.line.new.into.items c.in-Ok-true.field-0 yes_taken c.in-Ok-true.ensures.asks in
+    record {
+      serves = ended_as k c.args.most (change (g.R.Source.left c.args.source.now) (g.R.Source.left c.line.new.self) (g.R.Source.faults c.args.source.now) (g.R.Source.faults c.line.new.self)) (change (g.O.Sink.written c.args.out.now) (g.O.Sink.written c.loop-line.out) (g.O.Sink.faults c.args.out.now) (g.O.Sink.faults c.loop-line.out)) c.ended-then-served-most.result.status status.Long c.ended-then-served-most.result.note.now (line (codes "too many requests")) c.ended-then-served-most.ensures.status c.ended-then-served-most.ensures.note
+          (ends_many k c.args.most (g.R.Source.left c.args.source.now) (g.R.Source.left c.loop-line.source) (g.O.Sink.written c.args.out.now) (g.O.Sink.written c.loop-line.out) c.loop-line.served c.loop-line.sessions.items so (change (g.R.Source.left c.args.source.now) (g.R.Source.left c.line.new.self) (g.R.Source.faults c.args.source.now) (g.R.Source.faults c.line.new.self)) (change (g.O.Sink.written c.args.out.now) (g.O.Sink.written c.loop-line.out) (g.O.Sink.faults c.args.out.now) (g.O.Sink.faults c.loop-line.out)) refl refl refl taken.0 taken.3 c.if-served-most.true);
+    }
+
+pub returns-in-Err : goal.returns-in-Err
+returns-in-Err g c =
+    let k = known c.args.tests.now g.J.Judge.judges in
+    let so = c.loop-line.invariant.so_far in
+    record {
+      serves = ended_as k c.args.most (change (g.R.Source.left c.args.source.now) (g.R.Source.left c.line.new.self) (g.R.Source.faults c.args.source.now) (g.R.Source.faults c.line.new.self)) (change (g.O.Sink.written c.args.out.now) (g.O.Sink.written c.loop-line.out) (g.O.Sink.faults c.args.out.now) (g.O.Sink.faults c.loop-line.out)) c.ended-in-Err.result.status status.Memory c.ended-in-Err.result.note.now (line (codes "out of memory")) c.ended-in-Err.ensures.status c.ended-in-Err.ensures.note
+          (ends_memory k c.args.most (g.R.Source.left c.args.source.now) (g.R.Source.left c.loop-line.source) (g.O.Sink.written c.args.out.now) (g.O.Sink.written c.loop-line.out) c.loop-line.served c.loop-line.sessions.items so (change (g.R.Source.left c.args.source.now) (g.R.Source.left c.line.new.self) (g.R.Source.faults c.args.source.now) (g.R.Source.faults c.line.new.self)) (change (g.O.Sink.written c.args.out.now) (g.O.Sink.written c.loop-line.out) (g.O.Sink.faults c.args.out.now) (g.O.Sink.faults c.loop-line.out)) refl refl refl);
+    }
+
+pub returns-in-Err-put : goal.returns-in-Err-put
+returns-in-Err-put g c =
+    let k = known c.args.tests.now g.J.Judge.judges in
+    let so = c.loop-line.invariant.so_far in
+    let yes_taken : c.in-Ok-true.field-0 ≡ true = search rules in
+    let taken = is_taken MOST_LINE_BYTES (g.R.Source.left c.loop-line.source) (g.R.Source.left c.line.new.self) c.clear.new.self.items c.line.new.into.items c.in-Ok-true.field-0 yes_taken c.in-Ok-true.ensures.asks in
+    let is : c.deref.result.now ≡ taken.0 = c.deref.ensures.value ∙ taken.2 ∙ ap (λ (xs : List ℕ). xs ++ taken.0) c.clear.ensures.items in
+    let (reply, all, answers, told, stands) = c.in-Ok.ensures.reply so.all so.stands in
+    let said : IsReply k so.all taken.0 reply all = subst (λ (text : List ℕ). IsReply k so.all text reply all) is answers in
+    let shown = c.as_bytes.ensures.value ∙ told in
+    let rose = rose_from (g.O.Sink.faults c.args.out.now) (g.O.Sink.faults c.loop-line.out) (g.O.Sink.faults c.put.new.self) c.loop-line.invariant.puts c.in-Err-put.ensures.failed in
+    record {
+      serves = ended_as k c.args.most (change (g.R.Source.left c.args.source.now) (g.R.Source.left c.line.new.self) (g.R.Source.faults c.args.source.now) (g.R.Source.faults c.line.new.self)) (change (g.O.Sink.written c.args.out.now) (g.O.Sink.written c.put.new.self) (g.O.Sink.faults c.args.out.now) (g.O.Sink.faults c.put.new.self)) c.ended-in-Err-put.result.status status.Write c.ended-in-Err-put.result.note.now (line (codes "write failed")) c.ended-in-Err-put.ensures.status c.ended-in-Err-put.ensures.note
+          (ends_write k c.args.most (g.R.Source.left c.args.source.now) (g.R.Source.left c.loop-line.source) (g.O.Sink.written c.args.out.now) (g.O.Sink.written c.loop-line.out) c.loop-line.served c.loop-line.sessions.items so (g.R.Source.left c.line.new.self) taken.0 c.as_bytes.result.now reply all taken.3 c.if-served-most.false said shown (change (g.R.Source.left c.args.source.now) (g.R.Source.left c.line.new.self) (g.R.Source.faults c.args.source.now) (g.R.Source.faults c.line.new.self)) (change (g.O.Sink.written c.args.out.now) (g.O.Sink.written c.put.new.self) (g.O.Sink.faults c.args.out.now) (g.O.Sink.faults c.put.new.self)) refl refl refl c.in-Err-put.ensures.part rose);
+    }
+
+pub loop-line-preserved : goal.loop-line-preserved
+loop-line-preserved g c =
+    let k = known c.args.tests.now g.J.Judge.judges in
+    let so = c.loop-line.invariant.so_far in
+    let yes_taken : c.in-Ok-true.field-0 ≡ true = search rules in
+    let taken = is_taken MOST_LINE_BYTES (g.R.Source.left c.loop-line.source) (g.R.Source.left c.line.new.self) c.clear.new.self.items c.line.new.into.items c.in-Ok-true.field-0 yes_taken c.in-Ok-true.ensures.asks in
+    let is : c.deref.result.now ≡ taken.0 = c.deref.ensures.value ∙ taken.2 ∙ ap (λ (xs : List ℕ). xs ++ taken.0) c.clear.ensures.items in
+    let (reply, all, answers, told, stands) = c.in-Ok.ensures.reply so.all so.stands in
+    let said : IsReply k so.all taken.0 reply all = subst (λ (text : List ℕ). IsReply k so.all text reply all) is answers in
+    let shown = c.as_bytes.ensures.value ∙ told in
+    record {
+      so_far = one_served k c.args.most (g.R.Source.left c.args.source.now) (g.R.Source.left c.loop-line.source) (g.O.Sink.written c.args.out.now) (g.O.Sink.written c.loop-line.out) c.loop-line.served c.loop-line.sessions.items so (g.R.Source.left c.line.new.self) taken.0 c.as_bytes.result.now reply all taken.3 c.if-served-most.false said shown (g.O.Sink.written c.put.new.self) c.answer.new.sessions.items stands c.in-Ok-put.ensures.ok;
+      faults = omega (arith, c.loop-line.invariant.faults, c.line.ensures.later);
+      puts = omega (arith, c.loop-line.invariant.puts, c.put.ensures.later);
+    }

@@ -1,0 +1,16 @@
+use Rattle.std.proofs.Common.{◌≡◌, ◌≤◌, ◌-◌, ℕ, List}
+use Rattle.spanner_model.specs.Answers.{SpanRow}
+use Rattle.spanner_engine.specs.Passing.{known}
+use Rattle.session_server.specs.Replies.{Session}
+use Rattle.session_server.specs.Standing.{GivesSoFar, IsSessionOver}
+use Rattle.session_server.proofs.session.Session.next_rows.Given as goal
+
+abbrev pub invariant-loop-count : goal.invariant-loop-count
+invariant-loop-count g l = record {
+  few : l.count ≤ l.most;
+  vars : l.self.vars ≡ l.fn.self.vars;
+  so_far : (s : Session) (all : List SpanRow) → IsSessionOver (known l.tests g.J.Judge.judges) l.fn.self s all → GivesSoFar (known l.tests g.J.Judge.judges) l.fn.self l.self l.count l.rows.items s all;
+}
+
+abbrev pub decreases-loop-count : goal.decreases-loop-count
+decreases-loop-count g l = l.most - l.count

@@ -1,0 +1,6 @@
+pub mod Requests
+pub mod Replies
+pub mod Serve
+pub mod Asked
+pub mod Standing
+pub mod Open

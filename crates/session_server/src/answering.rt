@@ -1,0 +1,240 @@
+//! One line, and its reply.
+ghost use Rattle.std.specs.Prelude.{◌≡◌, ◌^◌, ◌≤◌, ◌<◌, ℕ, List, length, string_bytes, IfOk, OnErr, IfSome, IfNone, filter, not, ◌==◌};
+ghost use Rattle.std.specs.Str.{IsUtf8};
+ghost use Rattle.spanner_engine.specs.Passing.{Known, known};
+ghost use Rattle.note_texts.specs.Notes.{table_note as table_text};
+ghost use Rattle.session_server.specs.Asked.{request_of};
+ghost use Rattle.session_server.specs.Requests.{close_request, grow_request, next_request, open_request, session_id as id_of};
+ghost use Rattle.session_server.specs.Replies.{IsReply, Reply, Sessions, error_of as error_reply, reply_text};
+ghost use Rattle.session_server.specs.Open.{AreOpen, HasNone, IsPlaceOf, LosesOne, RepliesTo};
+
+use crate::replies::{closed, error_of, given, grown, no_request, opened};
+use crate::requests::{Request, request_in, value_of};
+use crate::session::{Halt, Refusal, Session};
+use crate::{MOST_SESSIONS, SESSION_TABLE};
+use note_texts::table_note;
+use span_core::{OutOfMemory, Steps};
+use span_tests::{Judge, Tests};
+use std::alloc::Global;
+use std::sync::ledger::Ledger;
+
+/// A session with its number.
+#[derive(Drop)]
+pub(crate) struct Opened {
+    pub(crate) id: u32,
+    pub(crate) session: Session,
+}
+
+/// The reply to a line.
+pub(crate) fn answer<J: Judge, L: Ledger>(
+    alloc: Global,
+    tests: &Tests<J>,
+    sessions: &mut Vec<Opened>,
+    line: &[u8],
+    steps: &mut Steps<L>,
+) -> Result<String, OutOfMemory>
+    requires stands { (all : Sessions) × AreOpen (known tests.now J.judges) sessions.old.items all }
+    ensures reply { IfOk result (λ s. (all : Sessions) → AreOpen (known tests.now J.judges) sessions.old.items all →
+        (r : Reply) × (after : Sessions) × IsReply (known tests.now J.judges) all line.now r after × (string_bytes s ≡ reply_text r)
+        × AreOpen (known tests.now J.judges) sessions.new.items after) }
+{
+    let value = match value_of(alloc, line)? {
+        Some(value) => value,
+        None => return no_request(alloc),
+    };
+    let request = match request_in(&value) {
+        Some(request) => request,
+        None => return no_request(alloc),
+    };
+    match answer_request(alloc, tests, sessions, request, steps) {
+        Ok(reply) => Ok(reply),
+        Err(OutOfMemory) => {
+            let id = request.id();
+            close(sessions, id);
+            error_of(alloc, id, "memory")
+        }
+    }
+}
+
+fn answer_request<J: Judge, L: Ledger>(
+    alloc: Global,
+    tests: &Tests<J>,
+    sessions: &mut Vec<Opened>,
+    request: Request<'_>,
+    steps: &mut Steps<L>,
+) -> Result<String, OutOfMemory>
+    requires stands { (all : Sessions) × AreOpen (known tests.now J.judges) sessions.old.items all }
+    ensures reply { IfOk result (RepliesTo (known tests.now J.judges) sessions.old.items sessions.new.items (request_of request.entry)) }
+    ensures memory { OnErr result (LosesOne (known tests.now J.judges) sessions.old.items sessions.new.items (id_of (request_of request.entry))) }
+{
+    match request {
+        Request::Open {
+            id,
+            query,
+            document,
+        } => answer_open(alloc, tests, sessions, id, query, document, steps),
+        Request::Next { id, most } => answer_next(alloc, tests, sessions, id, most, steps),
+        Request::Grow { id, text } => answer_grow(alloc, sessions, id, text, steps),
+        Request::Close { id } => answer_close(alloc, sessions, id),
+    }
+}
+
+/// The most bytes of a document that a session is opened on. A line has less.
+const MOST_DOCUMENT: usize = 268_435_456;
+
+fn answer_open<J: Judge, L: Ledger>(
+    alloc: Global,
+    tests: &Tests<J>,
+    sessions: &mut Vec<Opened>,
+    id: u32,
+    query: &str,
+    document: &str,
+    steps: &mut Steps<L>,
+) -> Result<String, OutOfMemory>
+    ensures reply { IfOk result (RepliesTo (known tests.now J.judges) sessions.old.items sessions.new.items (open_request id query.now document.now)) }
+    ensures memory { OnErr result (LosesOne (known tests.now J.judges) sessions.old.items sessions.new.items id) }
+{
+    if place_of(sessions, id).is_some() {
+        return error_of(alloc, id, "taken");
+    }
+    if sessions.len() >= MOST_SESSIONS {
+        return error_of(alloc, id, "full");
+    }
+    if document.len() > MOST_DOCUMENT {
+        return Err(OutOfMemory);
+    }
+    open_new(alloc, tests, sessions, id, query, document, steps)
+}
+
+/// Opens a session where there is room for one of this number.
+fn open_new<J: Judge, L: Ledger>(
+    alloc: Global,
+    tests: &Tests<J>,
+    sessions: &mut Vec<Opened>,
+    id: u32,
+    query: &str,
+    document: &str,
+    steps: &mut Steps<L>,
+) -> Result<String, OutOfMemory>
+    requires none { HasNone sessions.old.items id }
+    requires room { length sessions.old.items < MOST_SESSIONS }
+    requires few { length document.now ≤ 2 ^ 28 }
+    ensures reply { IfOk result (RepliesTo (known tests.now J.judges) sessions.old.items sessions.new.items (open_request id query.now document.now)) }
+    ensures memory { OnErr result (LosesOne (known tests.now J.judges) sessions.old.items sessions.new.items id) }
+{
+    let (query, document) = (query.as_bytes(), document.as_bytes());
+    let session = match Session::open(alloc, tests, query, document, steps) {
+        Ok(session) => session,
+        Err(Refusal::Note(note)) => return refused(alloc, id, &note),
+        Err(Refusal::OutOfMemory) => return Err(OutOfMemory),
+    };
+    let reply = match opened(alloc, id, session.vars()) {
+        Ok(reply) => reply,
+        Err(OutOfMemory) => return Err(OutOfMemory),
+    };
+    match sessions.push(Opened { id, session }) {
+        Ok(()) => Ok(reply),
+        Err(_) => Err(OutOfMemory),
+    }
+}
+
+fn refused(alloc: Global, id: u32, note: &[u8]) -> Result<String, OutOfMemory>
+    requires { IsUtf8 note.now }
+    ensures { IfOk result (λ s. string_bytes s ≡ reply_text (error_reply id note.now)) }
+{
+    match str::from_utf8(note) {
+        Ok(text) => error_of(alloc, id, text),
+        Err(_) => unreachable!(),
+    }
+}
+
+fn answer_next<J: Judge, L: Ledger>(
+    alloc: Global,
+    tests: &Tests<J>,
+    sessions: &mut Vec<Opened>,
+    id: u32,
+    most: u32,
+    steps: &mut Steps<L>,
+) -> Result<String, OutOfMemory>
+    requires stands { (all : Sessions) × AreOpen (known tests.now J.judges) sessions.old.items all }
+    ensures reply { IfOk result (RepliesTo (known tests.now J.judges) sessions.old.items sessions.new.items (next_request id most)) }
+    ensures memory { OnErr result (LosesOne (known tests.now J.judges) sessions.old.items sessions.new.items id) }
+{
+    let Some(k) = place_of(sessions, id) else {
+        return error_of(alloc, id, "not open");
+    };
+    match sessions[k].session.page(alloc, tests, most, steps) {
+        Ok(page) => given(alloc, id, page.more, page.rows),
+        Err(Halt::Heavy) => close_heavy(alloc, sessions, id),
+        Err(Halt::OutOfMemory) => Err(OutOfMemory),
+    }
+}
+
+fn answer_grow<L: Ledger>(
+    alloc: Global,
+    sessions: &mut Vec<Opened>,
+    id: u32,
+    text: &str,
+    steps: &mut Steps<L>,
+) -> Result<String, OutOfMemory>
+    ensures reply { (k : Known) → IfOk result (RepliesTo k sessions.old.items sessions.new.items (grow_request id text.now)) }
+    ensures memory { (k : Known) → OnErr result (LosesOne k sessions.old.items sessions.new.items id) }
+{
+    let Some(k) = place_of(sessions, id) else {
+        return error_of(alloc, id, "not open");
+    };
+    let text = text.as_bytes();
+    let session = &mut sessions[k].session;
+    let Some(length) = session.length_with(text) else {
+        return error_of(alloc, id, "long");
+    };
+    match session.grow(text, steps) {
+        Ok(()) => grown(alloc, id, length),
+        Err(Halt::Heavy) => close_heavy(alloc, sessions, id),
+        Err(Halt::OutOfMemory) => Err(OutOfMemory),
+    }
+}
+
+/// Closes the session of this number, since reading its document weighs too much.
+fn close_heavy(alloc: Global, sessions: &mut Vec<Opened>, id: u32) -> Result<String, OutOfMemory>
+    ensures closed { sessions.new.items ≡ filter (λ s. not (s.id == id)) sessions.old.items }
+    ensures text { IfOk result (λ s. string_bytes s ≡ reply_text (error_reply id (table_text SESSION_TABLE))) }
+{
+    close(sessions, id);
+    let mut note = Vec::new(alloc);
+    table_note(SESSION_TABLE, &mut note)?;
+    refused(alloc, id, &note)
+}
+
+fn answer_close(alloc: Global, sessions: &mut Vec<Opened>, id: u32) -> Result<String, OutOfMemory>
+    ensures reply { (k : Known) → IfOk result (RepliesTo k sessions.old.items sessions.new.items (close_request id)) }
+    ensures memory { (k : Known) → OnErr result (LosesOne k sessions.old.items sessions.new.items id) }
+{
+    if place_of(sessions, id).is_none() {
+        return error_of(alloc, id, "not open");
+    }
+    close(sessions, id);
+    closed(alloc, id)
+}
+
+/// The place of the session of this number, where it is open.
+fn place_of(sessions: &[Opened], id: u32) -> Option<usize>
+    ensures some { IfSome result (IsPlaceOf sessions.now id) }
+    ensures none { IfNone result (HasNone sessions.now id) }
+{
+    let mut k = 0;
+    while k < sessions.len() {
+        if sessions[k].id == id {
+            return Some(k);
+        }
+        k += 1;
+    }
+    None
+}
+
+/// Takes the session of this number away.
+fn close(sessions: &mut Vec<Opened>, id: u32)
+    ensures { sessions.new.items ≡ filter (λ s. not (s.id == id)) sessions.old.items }
+{
+    sessions.retain(|s| s.id != id);
+}

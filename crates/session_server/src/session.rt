@@ -1,0 +1,456 @@
+//! One session: a query with its tests on a document that may grow, and the rows that are still to come.
+ghost use Rattle.std.specs.Prelude.{◌≡◌, ◌^◌, ◌≤◌, ◌<◌, ◌+◌, ℕ, List, [], ◌∷◌, length, true, IfOk, IfErr, IfSome, IfNone, OnOk};
+ghost use Rattle.std.specs.Bool.{OnTrue, OnFalse};
+ghost use Rattle.spanner_model.specs.Answers.{SpanRow, AreResultNames, AreAnswers};
+ghost use Rattle.spanner_model.specs.Expression.{QueryTree};
+ghost use Rattle.spanner_model.specs.ExprView.{query_of};
+ghost use Rattle.spanner_model.specs.Sound.{IsSound};
+ghost use Rattle.query_parser.specs.Tested.{TestedTree, IsTestedText};
+ghost use Rattle.query_parser.specs.TestedView.{tested_of};
+ghost use Rattle.query_automaton.specs.CompiledQuery.{IsCompiled};
+ghost use Rattle.query_automaton.specs.Parts.{AtomsAreSmall};
+ghost use Rattle.spanner_engine.specs.Passing.{IsOnlyTested, Known, known};
+ghost use Rattle.note_texts.specs.Notes.{fault_note, size_note as size_text, table_note as table_text};
+ghost use Rattle.session_server.specs.Replies.{Session as Spoken, asking, growing as growing_by, to_come};
+ghost use Rattle.session_server.specs.Standing.{GivesOne, GivesPage, HasGiven, IsBegun, IsGrowHalt, IsReadOn, IsRefusal, IsRowsHalt, IsSession, IsSessionOver, IsStartHalt, IsTooHeavy, IsWaiting, MatchNote, halt_of as halt_by, session_with};
+
+use crate::{MOST_GROWN, SESSION_TABLE};
+use growing_document::{GrowFault, Growing};
+use marked_automaton::{Automaton, SizeFault};
+use note_texts::{query_note, size_note, table_note};
+use query_parser::{QueryFault, Tested, read_tested};
+use row_writer::json_object;
+use serde_json::{Value, push};
+use span_core::{OutOfMemory, Row, Steps, VarSet};
+use span_tests::{Judge, Tests};
+use spanner_engine::{Answers, Compiled, bind, compile, next_tested};
+use spanner_model::Query;
+use std::alloc::Global;
+use std::sync::ledger::Ledger;
+
+/// A session that is open.
+#[derive(Drop)]
+pub(crate) struct Session {
+    tested: Tested,
+    vars: VarSet,
+    growing: Growing,
+    answers: Answers,
+    /// The next row, where one remains.
+    next: Option<Row>,
+    /// Whether the document has grown since its rows were asked for.
+    grown: bool,
+}
+
+/// Why no session is opened.
+#[derive(Drop)]
+pub(crate) enum Refusal {
+    /// What the note says.
+    Note(Vec<u8>),
+    OutOfMemory,
+}
+
+/// Why a session is not gone on with.
+#[derive(Clone, Copy)]
+pub(crate) enum Halt {
+    /// Reading its document weighs too much.
+    Heavy,
+    OutOfMemory,
+}
+
+/// The rows of a session, as JSON, and whether more remain.
+#[derive(Drop)]
+pub(crate) struct Page {
+    pub(crate) rows: Vec<Value>,
+    pub(crate) more: bool,
+}
+
+impl Session {
+    /// Begins the rows of a query's text on a document.
+    pub(crate) fn open<J: Judge, L: Ledger>(
+        alloc: Global,
+        tests: &Tests<J>,
+        text: &[u8],
+        document: &[u8],
+        steps: &mut Steps<L>,
+    ) -> Result<Session, Refusal>
+        requires few { length document.now ≤ 2 ^ 28 }
+        ensures opened { IfOk result (IsBegun (known tests.now J.judges) text.now document.now) }
+        ensures refused { IfErr result (IsRefusal (known tests.now J.judges) text.now document.now) }
+    {
+        let tested = match read_tested(alloc, text) {
+            Ok(tested) => tested,
+            Err(fault) => return Err(of_query(alloc, &fault)),
+        };
+        match started(alloc, tests, text, &tested, document, steps) {
+            Ok(start) => Ok(Session {
+                tested,
+                vars: start.vars,
+                growing: start.growing,
+                answers: start.answers,
+                next: start.next,
+                grown: false,
+            }),
+            Err(refusal) => Err(refusal),
+        }
+    }
+
+    /// The variables of its rows.
+    pub(crate) fn vars(&self) -> &VarSet
+        ensures { result.now ≡ self.now.vars }
+    {
+        &self.vars
+    }
+
+    /// Gives the next rows, so many at most; from the first on where the document has grown.
+    pub(crate) fn page<J: Judge, L: Ledger>(
+        &mut self,
+        alloc: Global,
+        tests: &Tests<J>,
+        most: u32,
+        steps: &mut Steps<L>,
+    ) -> Result<Page, Halt>
+        requires stands { (s : Spoken) × IsSession (known tests.now J.judges) self.old s }
+        ensures given { IfOk result (λ page. (s : Spoken) → IsSession (known tests.now J.judges) self.old s →
+            GivesPage (known tests.now J.judges) self.old self.new most page.rows.items page.more s) }
+        ensures halted { IfErr result (λ h. (s : Spoken) → IsSession (known tests.now J.judges) self.old s → IsRowsHalt s h) }
+    {
+        if let Err(halt) = self.refresh(tests, steps) {
+            return Err(halt);
+        }
+        match self.next_rows(alloc, tests, most, steps) {
+            Ok(page) => Ok(page),
+            Err(OutOfMemory) => Err(Halt::OutOfMemory),
+        }
+    }
+
+    /// Asks for the rows anew, where the document has grown.
+    fn refresh<J: Judge, L: Ledger>(
+        &mut self,
+        tests: &Tests<J>,
+        steps: &mut Steps<L>,
+    ) -> Result<(), Halt>
+        requires stands { (s : Spoken) × IsSession (known tests.now J.judges) self.old s }
+        ensures ready { OnOk result ((s : Spoken) → IsSession (known tests.now J.judges) self.old s → (all : List SpanRow) × IsSessionOver (known tests.now J.judges) self.new (asking s) all) }
+        ensures halted { IfErr result (λ h. (s : Spoken) → IsSession (known tests.now J.judges) self.old s → IsRowsHalt s h) }
+        ensures vars { self.new.vars ≡ self.old.vars }
+    {
+        if self.grown {
+            return self.ask(tests, steps);
+        }
+        Ok(())
+    }
+
+    /// Asks for the rows of a document that has grown.
+    fn ask<J: Judge, L: Ledger>(
+        &mut self,
+        tests: &Tests<J>,
+        steps: &mut Steps<L>,
+    ) -> Result<(), Halt>
+        requires stands { (s : Spoken) × IsWaiting (known tests.now J.judges) self.old s }
+        ensures ready { OnOk result ((s : Spoken) → IsWaiting (known tests.now J.judges) self.old s → (all : List SpanRow) × IsSessionOver (known tests.now J.judges) self.new (asking s) all) }
+        ensures halted { IfErr result (λ h. (s : Spoken) → IsWaiting (known tests.now J.judges) self.old s → IsRowsHalt s h) }
+        ensures vars { self.new.vars ≡ self.old.vars }
+    {
+        let rows = match self.growing.rows(steps) {
+            Ok(rows) => rows,
+            Err(fault) => return Err(halt_of(fault)),
+        };
+        self.answers = Answers::over(rows);
+        self.next = next_tested(
+            &mut self.answers,
+            &self.tested,
+            &self.vars,
+            tests,
+            self.growing.document(),
+            steps,
+        );
+        self.grown = false;
+        Ok(())
+    }
+
+    /// How many bytes the document has with this text behind it, where it may have so many.
+    pub(crate) fn length_with(&self, text: &[u8]) -> Option<usize>
+        ensures some { IfSome result (λ n. (n ≡ length self.now.growing.document + length text.now) × (n ≤ MOST_GROWN)) }
+        ensures none { IfNone result (MOST_GROWN < length self.now.growing.document + length text.now) }
+    {
+        let held = self.growing.document().len();
+        if held > MOST_GROWN || text.len() > MOST_GROWN - held {
+            return None;
+        }
+        Some(held + text.len())
+    }
+
+    /// Puts a text behind the document, so that its rows begin anew.
+    pub(crate) fn grow<L: Ledger>(&mut self, text: &[u8], steps: &mut Steps<L>) -> Result<(), Halt>
+        requires few { length self.old.growing.document + length text.now ≤ MOST_GROWN }
+        ensures grown { OnOk result ((k : Known) (s : Spoken) → IsSession k self.old s → IsSession k self.new (growing_by text.now s)) }
+        ensures halted { IfErr result (λ h. (k : Known) (s : Spoken) → IsSession k self.old s → IsGrowHalt s text.now h) }
+    {
+        match self.growing.append(text, steps) {
+            Ok(()) => {
+                self.grown = true;
+                Ok(())
+            }
+            Err(fault) => Err(halt_of(fault)),
+        }
+    }
+
+    /// Gives the next rows, so many at most.
+    fn next_rows<J: Judge, L: Ledger>(
+        &mut self,
+        alloc: Global,
+        tests: &Tests<J>,
+        most: u32,
+        steps: &mut Steps<L>,
+    ) -> Result<Page, OutOfMemory>
+        requires stands { (s : Spoken) × (all : List SpanRow) × IsSessionOver (known tests.now J.judges) self.old s all }
+        ensures given { IfOk result (λ page. (s : Spoken) (all : List SpanRow) → IsSessionOver (known tests.now J.judges) self.old s all →
+            HasGiven (known tests.now J.judges) self.old self.new most page.rows.items page.more s all) }
+        ensures vars { self.new.vars ≡ self.old.vars }
+    {
+        let mut rows = Vec::new(alloc);
+        let mut count = 0u32;
+        while count < most {
+            if !self.give(alloc, tests, &mut rows, steps)? {
+                return Ok(Page { rows, more: false });
+            }
+            count += 1;
+        }
+        let more = self.next.is_some();
+        Ok(Page { rows, more })
+    }
+
+    /// Gives the next row, where one remains, behind those before it.
+    fn give<J: Judge, L: Ledger>(
+        &mut self,
+        alloc: Global,
+        tests: &Tests<J>,
+        rows: &mut Vec<Value>,
+        steps: &mut Steps<L>,
+    ) -> Result<bool, OutOfMemory>
+        requires stands { (s : Spoken) × (all : List SpanRow) × IsSessionOver (known tests.now J.judges) self.old s all }
+        ensures some { IfOk result (λ some. OnTrue some ((s : Spoken) (all : List SpanRow) → IsSessionOver (known tests.now J.judges) self.old s all →
+            GivesOne (known tests.now J.judges) self.old self.new rows.old.items rows.new.items s all)) }
+        ensures none { IfOk result (λ some. OnFalse some ((rows.new.items ≡ rows.old.items) × (self.new ≡ self.old)
+            × ((s : Spoken) (all : List SpanRow) → IsSessionOver (known tests.now J.judges) self.old s all → to_come (known tests.now J.judges) s self.old.vars all ≡ []))) }
+        ensures vars { self.new.vars ≡ self.old.vars }
+    {
+        let Some(row) = &self.next else {
+            return Ok(false);
+        };
+        let value = json_object(alloc, &self.vars, row, self.growing.document(), false)?;
+        push(rows, value)?;
+        self.next = next_tested(
+            &mut self.answers,
+            &self.tested,
+            &self.vars,
+            tests,
+            self.growing.document(),
+            steps,
+        );
+        Ok(true)
+    }
+}
+
+/// What a session has beside its query.
+#[derive(Drop)]
+pub(crate) struct Start {
+    vars: VarSet,
+    growing: Growing,
+    answers: Answers,
+    next: Option<Row>,
+}
+
+/// Begins the rows of a query with its tests on a document.
+fn started<J: Judge, L: Ledger>(
+    alloc: Global,
+    tests: &Tests<J>,
+    _text: &[u8],
+    tested: &Tested,
+    document: &[u8],
+    steps: &mut Steps<L>,
+) -> Result<Start, Refusal>
+    requires few { length document.now ≤ 2 ^ 28 }
+    requires spelled { IsTestedText _text.now (tested_of tested.now) }
+    requires only { (other : TestedTree) → IsTestedText _text.now other → other ≡ tested_of tested.now }
+    ensures opened { IfOk result (λ s. IsBegun (known tests.now J.judges) _text.now document.now (session_with tested.now s)) }
+    ensures refused { IfErr result (IsRefusal (known tests.now J.judges) _text.now document.now) }
+{
+    match bind(tested, tests) {
+        Ok(()) => bound(alloc, tests, _text, tested, document, steps),
+        Err(fault) => Err(of_query(alloc, &fault)),
+    }
+}
+
+/// The same, where all tests are known.
+fn bound<J: Judge, L: Ledger>(
+    alloc: Global,
+    tests: &Tests<J>,
+    _text: &[u8],
+    tested: &Tested,
+    document: &[u8],
+    steps: &mut Steps<L>,
+) -> Result<Start, Refusal>
+    requires few { length document.now ≤ 2 ^ 28 }
+    requires spelled { IsOnlyTested (known tests.now J.judges) _text.now (tested_of tested.now) }
+    ensures opened { IfOk result (λ s. IsBegun (known tests.now J.judges) _text.now document.now (session_with tested.now s)) }
+    ensures refused { IfErr result (IsRefusal (known tests.now J.judges) _text.now document.now) }
+{
+    let Ready {
+        vars,
+        growing,
+        mut answers,
+    } = match begun(alloc, &tested.query, document, steps) {
+        Ok(begun) => begun,
+        Err(refusal) => return Err(refusal),
+    };
+    let next = next_tested(&mut answers, tested, &vars, tests, document, steps);
+    Ok(Start {
+        vars,
+        growing,
+        answers,
+        next,
+    })
+}
+
+/// A document that is read by a query's automaton, with all answers on it and their variables.
+#[derive(Drop)]
+pub(crate) struct Ready {
+    vars: VarSet,
+    growing: Growing,
+    answers: Answers,
+}
+
+/// All answers of a query on a document.
+fn begun<L: Ledger>(
+    alloc: Global,
+    query: &Query,
+    document: &[u8],
+    steps: &mut Steps<L>,
+) -> Result<Ready, Refusal>
+    requires few { length document.now ≤ 2 ^ 28 }
+    requires sound { IsSound (query_of query.now) }
+    ensures small { OnOk result (AtomsAreSmall (query_of query.now)) }
+    ensures names { IfOk result (λ b. AreResultNames (query_of query.now) b.vars) }
+    ensures growing { IfOk result (λ b. IsReadOn (query_of query.now) document.now (length document.now ∷ []) b.vars b.growing) }
+    ensures all { IfOk result (λ b. AreAnswers (query_of query.now) document.now b.vars b.answers.rest) }
+    ensures refused { IfErr result (IsTooHeavy (query_of query.now) document.now) }
+{
+    match compile(alloc, query) {
+        Ok(compiled) => all_of(alloc, compiled, document, steps),
+        Err(fault) => Err(of_size(alloc, &fault)),
+    }
+}
+
+fn all_of<L: Ledger>(
+    alloc: Global,
+    compiled: Compiled<'_>,
+    document: &[u8],
+    steps: &mut Steps<L>,
+) -> Result<Ready, Refusal>
+    requires names { AreResultNames (query_of compiled.query) compiled.automaton.names }
+    requires small { AtomsAreSmall (query_of compiled.query) }
+    ensures names { IfOk result (λ b. b.vars ≡ compiled.entry.automaton.names) }
+    ensures growing { IfOk result (λ b. IsReadOn (query_of compiled.entry.query) document.now (length document.now ∷ []) b.vars b.growing) }
+    ensures all { IfOk result (λ b. AreAnswers (query_of compiled.entry.query) document.now b.vars b.answers.rest) }
+    ensures refused { IfErr result (IsTooHeavy (query_of compiled.entry.query) document.now) }
+{
+    let vars = compiled.vars().copy();
+    let automaton = compiled.into_automaton();
+    match read_by(alloc, automaton, document, steps) {
+        Ok((growing, answers)) => Ok(Ready {
+            vars,
+            growing,
+            answers,
+        }),
+        Err(Halt::Heavy) => Err(of_table(alloc)),
+        Err(Halt::OutOfMemory) => Err(Refusal::OutOfMemory),
+    }
+}
+
+/// A document that is read by this automaton, with its rows.
+fn read_by<L: Ledger>(
+    alloc: Global,
+    automaton: Automaton,
+    document: &[u8],
+    steps: &mut Steps<L>,
+) -> Result<(Growing, Answers), Halt>
+    requires compiled { (q : QueryTree) × IsCompiled q automaton }
+    ensures growing { IfOk result (λ b. (q : QueryTree) → IsCompiled q automaton → IsReadOn q document.now (length document.now ∷ []) automaton.names b.0) }
+    ensures all { IfOk result (λ b. (q : QueryTree) → IsCompiled q automaton → AreAnswers q document.now automaton.names b.1.rest) }
+    ensures halted { IfErr result (λ h. (q : QueryTree) → IsCompiled q automaton → IsStartHalt q document.now h) }
+{
+    let mut growing = match Growing::new(alloc, automaton, SESSION_TABLE, steps) {
+        Ok(growing) => growing,
+        Err(fault) => return Err(halt_of(fault)),
+    };
+    if let Err(fault) = growing.append(document, steps) {
+        return Err(halt_of(fault));
+    }
+    match growing.rows(steps) {
+        Ok(rows) => Ok((growing, Answers::over(rows))),
+        Err(fault) => Err(halt_of(fault)),
+    }
+}
+
+/// A refusal of a session's document, which is read on as long as it may be, and has less than 2^28 bytes.
+fn halt_of(fault: GrowFault) -> Halt
+    ensures { result ≡ halt_by fault }
+{
+    match fault {
+        GrowFault::Full { weight: _ } => Halt::Heavy,
+        GrowFault::Spent | GrowFault::TooLong { seen: _ } | GrowFault::OutOfMemory => {
+            Halt::OutOfMemory
+        }
+    }
+}
+
+/// The note of the fault of a query's text.
+fn of_query(alloc: Global, fault: &QueryFault) -> Refusal
+    ensures note { MatchNote result (fault_note fault.now) }
+    ensures memory { fault.now ≡ QueryFault.OutOfMemory → result ≡ Refusal.OutOfMemory }
+{
+    if wants_memory(fault) {
+        return Refusal::OutOfMemory;
+    }
+    let mut note = Vec::new(alloc);
+    match query_note(fault, &mut note) {
+        Ok(()) => Refusal::Note(note),
+        Err(OutOfMemory) => Refusal::OutOfMemory,
+    }
+}
+
+fn wants_memory(fault: &QueryFault) -> bool
+    ensures not { OnFalse result (¬ (fault.now ≡ QueryFault.OutOfMemory)) }
+    ensures is { OnTrue result (fault.now ≡ QueryFault.OutOfMemory) }
+{
+    matches!(fault, QueryFault::OutOfMemory)
+}
+
+/// The note of a size.
+fn of_size(alloc: Global, fault: &SizeFault) -> Refusal
+    ensures note { MatchNote result (size_text fault.now) }
+    ensures memory { fault.now ≡ SizeFault.OutOfMemory → result ≡ Refusal.OutOfMemory }
+{
+    match fault {
+        SizeFault::OutOfMemory => Refusal::OutOfMemory,
+        SizeFault::States { count: _ } | SizeFault::Ways { count: _ } => {
+            let mut note = Vec::new(alloc);
+            match size_note(fault, &mut note) {
+                Ok(()) => Refusal::Note(note),
+                Err(OutOfMemory) => Refusal::OutOfMemory,
+            }
+        }
+    }
+}
+
+/// The note of a table.
+fn of_table(alloc: Global) -> Refusal
+    ensures { MatchNote result (table_text SESSION_TABLE) }
+{
+    let mut note = Vec::new(alloc);
+    match table_note(SESSION_TABLE, &mut note) {
+        Ok(()) => Refusal::Note(note),
+        Err(OutOfMemory) => Refusal::OutOfMemory,
+    }
+}

@@ -1,0 +1,276 @@
+-- Which rows pass, test by test and row by row.
+use Rattle.std.proofs.Common.{◌≡◌, ◌≢◌, ℕ, zero, suc, ◌+◌, ◌-◌, ◌*◌, ◌<◌, ◌≤◌, ◌⊎◌, Bool, true, false, ◌&&◌, List, [], ◌∷◌, ◌++◌, length, take, map, filter, Option, Some, None, inl, inr, refl, sym, ap, ◌∙◌, subst, arith, append-nil}
+use Rattle.std.specs.Bool.{OnTrue, OnFalse}
+use Rattle.std.specs.Prelude.{slice_get, slice_range, if◌then◌else◌}
+use Rattle.std.specs.List.{list_all}
+use Rattle.std.specs.Str.{bytes_eq}
+use Rattle.std.proofs.lemmas.Slice.Eq.{bytes_eq-Decides}
+use Rattle.span_core.specs.declared.span.Span.{Span}
+use Rattle.span_core.specs.Lists.{Has, AreDistinct}
+use Rattle.span_core.proofs.HasLaws.{Has-slice_get}
+use Rattle.spanner_model.specs.Captures.{VarName, Mapping, mapping_of, row_of}
+use Rattle.spanner_model.specs.Expression.{QueryTree}
+use Rattle.spanner_model.specs.Answers.{SpanRow, AreAnswers}
+use Rattle.spanner_model.proofs.Ends.{EndsBy, query_ends}
+use Rattle.query_parser.specs.declared.asks.Asked.{Asked}
+use Rattle.std.specs.Prelude.{IfSome, IfNone, is_none, is_some, Contains}
+use Rattle.std.proofs.lemmas.Option.{slice_get_within}
+use Rattle.span_core.proofs.NameSetLaws as name_sets
+use Rattle.spanner_model.proofs.NameLaws.{ascending-distinct}
+use Rattle.span_core.specs.NameSets.{Ascending}
+use Rattle.span_tests.specs.Listed.{IsNamed, IsFirstNamed}
+use Rattle.spanner_engine.specs.Fitting.{AreLast, FitsRow}
+use Rattle.spanner_engine.specs.Left.{EndsIn}
+use Rattle.spanner_engine.specs.Passing.{AreKnown, Check, FirstUnknown, IsNextPassing, Known, check_of, checks_of, passes, passing, row_passes, span_passes}
+
+-- ---- the span of a name
+
+pub mapping_of-outside : (names : List VarName) (row : SpanRow) (x : VarName) → (Has names x → ⊥) → mapping_of names row x ≡ None
+mapping_of-outside [] row x out = refl
+mapping_of-outside (y ∷ names) [] x out = refl
+mapping_of-outside (y ∷ names) (s ∷ row) x out = by (bytes_eq y x) refl (mapping_of-outside names row x (λ h. out (inr h)))
+  where
+    by : (a : Bool) → bytes_eq y x ≡ a → mapping_of names row x ≡ None → (if a then s else mapping_of names row x) ≡ None
+    by true e later = absurd (out (inl ((bytes_eq-Decides y x).0 e)))
+    by false e later = later
+
+pub mapping_of-at : (names : List VarName) (row : SpanRow) (k : ℕ) (x : VarName) (s : Option Span) → AreDistinct names → slice_get names k ≡ Some x → slice_get row k ≡ Some s → mapping_of names row x ≡ s
+mapping_of-at [] row k x s d a b = absurd (cc)
+mapping_of-at (y ∷ names) [] k x s d a b = absurd (cc)
+mapping_of-at (y ∷ names) (t ∷ row) zero x s d a b =
+    let e : y ≡ x = cc in
+    let f : t ≡ s = cc in
+    ap (λ (c : Bool). if c then t else mapping_of names row x) ((bytes_eq-Decides y x).1 e) ∙ f
+mapping_of-at (y ∷ names) (t ∷ row) (suc k) x s d a b = by (bytes_eq y x) refl (mapping_of-at names row k x s d.1 a b)
+  where
+    by : (c : Bool) → bytes_eq y x ≡ c → mapping_of names row x ≡ s → (if c then t else mapping_of names row x) ≡ s
+    by true e later = absurd (d.0 (subst (Has names) (sym ((bytes_eq-Decides y x).0 e)) (Has-slice_get names k x a)))
+    by false e later = later
+
+-- ---- tests one by one
+
+pub unknown_at : (k : Known) (asked : List Asked) (i : ℕ) (a : Asked) → AreKnown k (take i asked) → slice_get asked i ≡ Some a → ¬ IsNamed k.tests a.test → FirstUnknown k asked a.at
+unknown_at k [] i a before is not = absurd (cc)
+unknown_at k (b ∷ asked) zero a before is not =
+    let same : b ≡ a = cc in
+    inl (subst (λ (c : Asked). ¬ IsNamed k.tests c.test × (c.at ≡ a.at)) (sym same) (not, refl))
+unknown_at k (b ∷ asked) (suc i) a before is not =
+    inr (before b (inl refl), unknown_at k asked i a (λ c h. before c (inr h)) is not)
+
+known_next : (k : Known) (asked : List Asked) (i : ℕ) (a : Asked) → AreKnown k (take i asked) → slice_get asked i ≡ Some a → IsNamed k.tests a.test → AreKnown k (take (suc i) asked)
+known_next k [] i a before is there = absurd (cc)
+known_next k (b ∷ asked) zero a before is there = λ c h. elim h [
+  | inl e ↦ (let same : a ≡ c = cc in subst (λ (x : Asked). IsNamed k.tests x.test) same there)
+  | inr h ↦ absurd h
+]
+known_next k (b ∷ asked) (suc i) a before is there =
+    let later = known_next k asked i a (λ c h. before c (inr h)) is there in
+    λ c h. elim h [ inl e ↦ before c (inl e) | inr h ↦ later c h ]
+
+pub known_more : (k : Known) (asked : List Asked) (i : ℕ) (a : Asked) → AreKnown k (take i asked) → slice_get asked i ≡ Some a → IsNamed k.tests a.test → AreKnown k (take (i + 1) asked)
+known_more k asked i a before is there =
+    let e : suc i ≡ i + 1 = omega arith in
+    subst (λ (n : ℕ). AreKnown k (take n asked)) e (known_next k asked i a before is there)
+
+pub known_at : (k : Known) (asked : List Asked) (i : ℕ) (a : Asked) → AreKnown k asked → slice_get asked i ≡ Some a → IsNamed k.tests a.test
+known_at k asked i a all is = all a (Has-slice_get asked i a is)
+
+-- ---- rows under tests one by one
+
+module _ (k : Known) (names : List VarName) (d : List ℕ) (row : SpanRow) where
+  abbrev pub passes_of : List Asked → Bool
+  passes_of asked = passes (checks_of k asked) names d row
+
+  passes_next : (asked : List Asked) (i : ℕ) (a : Asked) → passes_of (take i asked) ≡ true → slice_get asked i ≡ Some a → row_passes names d row (check_of k a) ≡ true →
+      passes_of (take (suc i) asked) ≡ true
+  passes_next [] i a before is holds = absurd (cc)
+  passes_next (b ∷ asked) zero a before is holds =
+      let same : a ≡ b = cc in
+      let here : row_passes names d row (check_of k b) ≡ true = subst (λ (x : Asked). row_passes names d row (check_of k x) ≡ true) same holds in
+      simp here refl
+  passes_next (b ∷ asked) (suc i) a before is holds = by (row_passes names d row (check_of k b)) refl before (λ rest. passes_next asked i a rest is holds)
+    where
+      by : (c : Bool) → row_passes names d row (check_of k b) ≡ c → (c && passes_of (take i asked)) ≡ true → (passes_of (take i asked) ≡ true → passes_of (take (suc i) asked) ≡ true) →
+          passes_of (take (suc (suc i)) (b ∷ asked)) ≡ true
+      by true e rest later = ap (λ (c : Bool). c && passes_of (take (suc i) asked)) e ∙ later rest
+      by false e rest later = absurd (cc)
+
+  pub passes_more : (asked : List Asked) (i : ℕ) (a : Asked) → passes_of (take i asked) ≡ true → slice_get asked i ≡ Some a → row_passes names d row (check_of k a) ≡ true →
+      passes_of (take (i + 1) asked) ≡ true
+  passes_more asked i a before is holds =
+      let e : suc i ≡ i + 1 = omega arith in
+      subst (λ (n : ℕ). passes_of (take n asked) ≡ true) e (passes_next asked i a before is holds)
+
+  pub fails_at : (asked : List Asked) (i : ℕ) (a : Asked) → slice_get asked i ≡ Some a → row_passes names d row (check_of k a) ≡ false → passes_of asked ≡ false
+  fails_at [] i a is fails = absurd (cc)
+  fails_at (b ∷ asked) zero a is fails =
+      let same : a ≡ b = cc in
+      ap (λ (c : Bool). c && passes_of asked) (subst (λ (x : Asked). row_passes names d row (check_of k x) ≡ false) same fails)
+  fails_at (b ∷ asked) (suc i) a is fails = by (row_passes names d row (check_of k b)) (fails_at asked i a is fails)
+    where
+      by : (c : Bool) → passes_of asked ≡ false → (c && passes_of asked) ≡ false
+      by true e = e
+      by false e = refl
+
+-- ---- rows one by one
+
+module _ (checks : List Check) (names : List VarName) (d : List ℕ) where
+  abbrev those : List SpanRow → List SpanRow
+  those rows = passing checks names d rows
+
+filter-append : {X : Type 0} (f : X → Bool) (xs ys : List X) → filter f (xs ++ ys) ≡ filter f xs ++ filter f ys
+filter-append f [] ys = refl
+filter-append f (x ∷ xs) ys = by (f x) (filter-append f xs ys)
+  where
+    by : (b : Bool) → filter f (xs ++ ys) ≡ filter f xs ++ filter f ys → (if b then x ∷ filter f (xs ++ ys) else filter f (xs ++ ys)) ≡ (if b then x ∷ filter f xs else filter f xs) ++ filter f ys
+    by true e = ap (λ (zs : List _). x ∷ zs) e
+    by false e = e
+
+pub passing_append : (checks : List Check) (names : List VarName) (d : List ℕ) (xs ys : List SpanRow) → passing checks names d (xs ++ ys) ≡ passing checks names d xs ++ passing checks names d ys
+passing_append [] names d xs ys = refl
+passing_append (c ∷ checks) names d xs ys = filter-append (passes (c ∷ checks) names d) xs ys
+
+one_fails : (checks : List Check) (names : List VarName) (d : List ℕ) (row : SpanRow) → passes checks names d row ≡ false → passing checks names d (row ∷ []) ≡ []
+one_fails [] names d row fails = absurd (cc)
+one_fails (c ∷ checks) names d row fails = ap (λ (b : Bool). if b then row ∷ [] else []) fails
+
+pub more_fail : (checks : List Check) (names : List VarName) (d : List ℕ) (tried : List SpanRow) (row : SpanRow) → passing checks names d tried ≡ [] → passes checks names d row ≡ false → passing checks names d (tried ++ row ∷ []) ≡ []
+more_fail checks names d tried row fail fails = passing_append checks names d tried (row ∷ []) ∙ ap (λ (xs : List SpanRow). xs ++ passing checks names d (row ∷ [])) fail ∙ one_fails checks names d row fails
+
+pub none_pass : (checks : List Check) (names : List VarName) (d : List ℕ) (tried rest old : List SpanRow) → old ≡ tried ++ rest → rest ≡ [] → passing checks names d tried ≡ [] → passing checks names d old ≡ []
+none_pass checks names d tried rest old is none fail =
+    ap (passing checks names d) is ∙ passing_append checks names d tried rest ∙ ap (λ (xs : List SpanRow). xs ++ passing checks names d rest) fail ∙ ap (passing checks names d) none ∙ of_none checks
+  where
+    of_none : (cs : List Check) → passing cs names d [] ≡ []
+    of_none [] = refl
+    of_none (c ∷ cs) = refl
+
+-- ---- the last of the answers fit
+
+row_ends : (n : ℕ) (names : List VarName) (m : Mapping) → EndsBy n m → (s : Span) → Has (row_of names m) (Some s) → s.end ≤ n
+row_ends n [] m ends s h = absurd h
+row_ends n (x ∷ names) m ends s (inl e) = ends x s e
+row_ends n (x ∷ names) m ends s (inr h) = row_ends n names m ends s h
+
+row_long : (names : List VarName) (m : Mapping) → length (row_of names m) ≡ length names
+row_long [] m = refl
+row_long (x ∷ names) m = ap suc (row_long names m)
+
+has_right : {X : Type 0} (xs ys : List X) (y : X) → Has ys y → Has (xs ++ ys) y
+has_right [] ys y h = h
+has_right (x ∷ xs) ys y h = inr (has_right xs ys y h)
+
+pub last_fit : (q : QueryTree) (d : List ℕ) (names : List VarName) (rest : List SpanRow) (row : SpanRow) → AreLast q d names rest → Has rest row → FitsRow (length names) (length d) row
+last_fit q d names rest row last h =
+    let there : Has last.all row = subst (λ (rs : List SpanRow). Has rs row) (sym last.joined) (has_right last.front rest row h) in
+    let g = last.answers.each_answers row there in
+    let fits : FitsRow (length names) (length d) (row_of names g.0) = record { lengths = row_long names g.0; inside = row_ends (length d) names g.0 (query_ends q d g.0 g.1) } in
+    subst (λ (r : SpanRow). FitsRow (length names) (length d) r) (sym g.2) fits
+
+pub last_rest : (q : QueryTree) (d : List ℕ) (names : List VarName) (tried rest old : List SpanRow) → old ≡ tried ++ rest → AreLast q d names old → AreLast q d names rest
+last_rest q d names tried rest old is last = record {
+  all = last.all;
+  answers = last.answers;
+  front = last.front ++ tried;
+  joined = last.joined ∙ ap (λ (xs : List SpanRow). last.front ++ xs) is ∙ joins last.front tried rest;
+}
+  where
+    joins : (a b c : List SpanRow) → a ++ (b ++ c) ≡ (a ++ b) ++ c
+    joins [] b c = refl
+    joins (x ∷ a) b c = ap (λ (xs : List SpanRow). x ∷ xs) (joins a b c)
+
+-- ---- what a search for a name tells
+
+pub named_of : (tests : List (List ℕ × ℕ)) (name : List ℕ) (r : Option ℕ) → is_none r ≡ false → IfSome r (IsFirstNamed tests name) → IsNamed tests name
+named_of tests name None some first = absurd (cc)
+named_of tests name (Some k) some first = (k, first.here)
+
+pub not_named : (tests : List (List ℕ × ℕ)) (name : List ℕ) (r : Option ℕ) → is_none r ≡ true → IfNone r (¬ IsNamed tests name) → ¬ IsNamed tests name
+not_named tests name None none not = not
+not_named tests name (Some k) none not = absurd (cc)
+
+has_contains : (names : List VarName) (x : VarName) → Has names x → Contains names x
+has_contains [] x h = absurd h
+has_contains (y ∷ names) x (inl e) = (0, omega arith, e)
+has_contains (y ∷ names) x (inr h) = let c = has_contains names x h in (suc c.0, omega (arith, c.1), c.2)
+
+-- what a test says of a row is what it says of the span at the place of its variable
+module _ (k : Known) (names : List VarName) (d : List ℕ) (row : SpanRow) (a : Asked) where
+  pub passes_at : (place : ℕ) (o : Option Span) (b : Bool) → Ascending names → slice_get names place ≡ Some a.var → slice_get row place ≡ Some o → b ≡ span_passes (check_of k a).1 d o →
+      b ≡ row_passes names d row (check_of k a)
+  passes_at place o b ascend name at is = is ∙ ap (span_passes (check_of k a).1 d) (sym (mapping_of-at names row place a.var o (ascending-distinct names ascend) name at))
+
+  pub fails_outside : ¬ Contains names a.var → false ≡ row_passes names d row (check_of k a)
+  fails_outside out = ap (span_passes (check_of k a).1 d) (sym (mapping_of-outside names row a.var (λ h. out (has_contains names a.var h))))
+
+-- ---- one answer further
+
+pub last_further : (q : QueryTree) (d : List ℕ) (names : List VarName) (b : Bool) (old new : List SpanRow) (row before : SpanRow) → OnTrue b (old ≡ row ∷ new) → OnFalse b ((old ≡ []) × (new ≡ []) × (row ≡ before)) →
+    AreLast q d names old → AreLast q d names new
+last_further q d names true old new row before goes ends last = last_rest q d names (row ∷ []) new old goes last
+last_further q d names false old new row before goes ends last = subst (AreLast q d names) (ends.0 ∙ sym ends.1) last
+
+joins : (a b c : List SpanRow) → a ++ (b ++ c) ≡ (a ++ b) ++ c
+joins [] b c = refl
+joins (x ∷ a) b c = ap (λ (xs : List SpanRow). x ∷ xs) (joins a b c)
+
+pub one_tried : (front rest new old : List SpanRow) (row : SpanRow) → old ≡ front ++ rest → rest ≡ row ∷ new → old ≡ (front ++ row ∷ []) ++ new
+one_tried front rest new old row is next = is ∙ ap (λ (xs : List SpanRow). front ++ xs) next ∙ joins front (row ∷ []) new
+
+length-more : (front : List SpanRow) (row : SpanRow) → length (front ++ row ∷ []) ≡ length front + 1
+length-more [] row = omega arith
+length-more (x ∷ front) row = let h = length-more front row in omega (arith, h)
+
+-- the steps of one more that was tried
+next_unit : (n unit : ℕ) → (n + 1) * unit ≡ n * unit + unit
+next_unit n unit = omega arith
+
+steps_by : (old now next after v w tests n m : ℕ) → m ≡ n + 1 → w ≡ v → now ≤ old + n * (4 * v + 4 + tests) → next ≤ now + 2 * w → after ≤ next + tests →
+    after ≤ old + m * (4 * v + 4 + tests)
+steps_by old now next after v w tests n m e same inv further asked =
+    let unit : m * (4 * v + 4 + tests) ≡ n * (4 * v + 4 + tests) + (4 * v + 4 + tests) = ap (λ (k : ℕ). k * (4 * v + 4 + tests)) e ∙ next_unit n (4 * v + 4 + tests) in
+    omega (arith, unit, inv, further, asked, same)
+
+pub steps_more : (old now next after v w tests : ℕ) (front : List SpanRow) (row : SpanRow) → w ≡ v → now ≤ old + length front * (4 * v + 4 + tests) → next ≤ now + 2 * w → after ≤ next + tests →
+    after ≤ old + length (front ++ row ∷ []) * (4 * v + 4 + tests)
+steps_more old now next after v w tests front row same inv further asked =
+    steps_by old now next after v w tests (length front) (length (front ++ row ∷ [])) (length-more front row) same inv further asked
+
+pub first_fits : (q : QueryTree) (d : List ℕ) (names : List VarName) (rest new : List SpanRow) (row shown : SpanRow) → AreLast q d names rest → rest ≡ row ∷ new → shown ≡ row → FitsRow (length names) (length d) shown
+first_fits q d names rest new row shown last is same =
+    subst (λ (r : SpanRow). FitsRow (length names) (length d) r) (sym same) (last_fit q d names rest row last (subst (λ (rs : List SpanRow). Has rs row) (sym is) (inl refl)))
+
+-- ---- rows that are given
+
+passes_first : (checks : List Check) (names : List VarName) (d : List ℕ) (row : SpanRow) (rows : List SpanRow) → passes checks names d row ≡ true → passing checks names d (row ∷ rows) ≡ row ∷ passing checks names d rows
+passes_first [] names d row rows is = refl
+passes_first (c ∷ checks) names d row rows is =
+    ap (λ (b : Bool). if b then row ∷ filter (passes (c ∷ checks) names d) rows else filter (passes (c ∷ checks) names d) rows) is
+
+pub next_passes : (checks : List Check) (names : List VarName) (d : List ℕ) (old new : List SpanRow) (row : SpanRow) → IsNextPassing checks names d old row new →
+    passing checks names d old ≡ row ∷ passing checks names d new
+next_passes checks names d old new row n =
+    ap (passing checks names d) n.joined ∙ passing_append checks names d n.tried (row ∷ new) ∙ ap (λ (xs : List SpanRow). xs ++ passing checks names d (row ∷ new)) n.fail
+    ∙ passes_first checks names d row new n.passed
+
+next_ends : (checks : List Check) (names : List VarName) (d : List ℕ) (old new : List SpanRow) (row : SpanRow) → IsNextPassing checks names d old row new → EndsIn old new
+next_ends checks names d old new row n = (n.tried ++ row ∷ [], n.joined ∙ joins n.tried (row ∷ []) new)
+
+next_fits : (q : QueryTree) (checks : List Check) (names : List VarName) (d : List ℕ) (old new : List SpanRow) (row : SpanRow) → AreLast q d names old → IsNextPassing checks names d old row new →
+    FitsRow (length names) (length d) row
+next_fits q checks names d old new row last n =
+    last_fit q d names old row last (subst (λ (rs : List SpanRow). Has rs row) (sym n.joined) (has_right n.tried (row ∷ new) row (inl refl)))
+
+-- what going further did, where it found a row and where it found none
+module _ (q : QueryTree) (checks : List Check) (names : List VarName) (d : List ℕ) (old new : List SpanRow) (row : SpanRow) where
+  pub goes_next : (b : Bool) → OnTrue b (IsNextPassing checks names d old row new) → OnTrue b (passing checks names d old ≡ row ∷ passing checks names d new)
+  goes_next true n = next_passes checks names d old new row n
+  goes_next false n = tt
+
+  pub goes_within : (b : Bool) → AreLast q d names old → OnTrue b (IsNextPassing checks names d old row new) → OnTrue b (FitsRow (length names) (length d) row)
+  goes_within true last n = next_fits q checks names d old new row last n
+  goes_within false last n = tt
+
+  pub goes_left : (b : Bool) (P : Type 0) → OnTrue b (IsNextPassing checks names d old row new) → OnFalse b (P × (new ≡ [])) → EndsIn old new
+  goes_left true P n none = next_ends checks names d old new row n
+  goes_left false P n none = (old, sym (append-nil old) ∙ ap (λ (xs : List SpanRow). old ++ xs) (sym none.1))
