@@ -2,7 +2,9 @@
 
 Most queries are sound: they are made from variables downwards, so that each formula is sequential; in one query
 of two each variable is sure, in the others captures are left out and arms and parts of unions have different
-variables. Parts of a join then mostly share only what is sure. Now and then there are seventeen to thirty-two variables.
+variables. Parts of a join then mostly share only what is sure. Both sides of a difference have the same variables, and
+in one of two the right side is the left one with a byte changed. In one of five the rows are tested, and formulas and
+documents have digits and capital letters. Now and then there are seventeen to thirty-two variables.
 The others are such texts with some bytes or names changed, and mostly refused. `fuzz` also takes queries
 whose sizes are near their limits, and texts that are nearly cursors.
 """
@@ -12,17 +14,24 @@ LEAVES = ['a', 'b', 'ab', '.', '[ab]', '[^a]', '', r'\w', r'\x62', 'é', '!', '[
 # Of a formula over characters. These properties have had the same characters for many versions of Unicode, so that
 # the reference, by Python's tables, prints and counts them as the program does.
 WIDE_LEAVES = [r'\u{e9}', '[à-ü]', '[^é]', '[aé]', r'[\p{Zs}a]', r'\p{Zl}', 'é', '.', '.']
+# Of a query with tests, by the test that is asked most: what formulas have besides, and of what documents are made.
+TESTED_LEAVES = {'luhn': [r'\d', '[0-9]', r'\d\d', '0', '18', '.'], 'upper': ['[A-Z]', 'A', 'B', 'AB', r'\w', '.']}
+TESTED_BYTES = {'luhn': [b'0', b'0', b'18', b'59', b'42', b'1', b'a', b'\n'],
+                'upper': [b'A', b'A', b'B', b'AB', b'a', b'0', 'É'.encode()]}
 REPEATS = ['*', '+', '?', '{2}', '{1,2}', '{2,}', '{0}', '{0,2}']
 CURSOR_SIGNS = list('c12:;-09xyz _') + ['', '', ';x:-', ':-', '00', '4294967295', '4294967296', 'c1', 'c2:', '-;']
 MAYBE = ['?', '?', '{0,1}']
 MANY = ['%s%d' % (letter, k) for letter in 'pqr' for k in range(10)] + ['x', 'y']
-SIGNS = list('/()[]{}|*+?.\\^$!-,;=abx_19 \n') + ['!x{', '{1,', 'union', 'join', 'let ', 'none', 'é', '/u', r'\u{']
+SIGNS = list('/()[]{}|*+?.\\^$!-,;=abx_19 \n') + ['!x{', '{1,', 'union', 'join', 'let ', 'none', 'minus', ' minus ', 'é', '/u',
+                                                   r'\u{', ' where ', 'upper', '(x)', ', luhn(x)']
+BYTES = [b'a', b'a', b'b', b'c', b'\n', 'é'.encode(), b'!']
 
 
 class Maker:
     def __init__(self, seed):
         self.pick = random.Random(seed)
         self.names = []  # the result's variables, if the query is not changed
+        self.test = self.pick.choice(['luhn', 'upper']) if self.pick.random() < 0.2 else None
         self.leaves = LEAVES
         self.is_optional = self.pick.random() < 0.5
         self.sure = frozenset()  # the variables that must be sure in what is made now
@@ -67,7 +76,7 @@ class Maker:
     def atom(self, names):
         start, end = ('^' if self.pick.random() < 0.15 else '', '$' if self.pick.random() < 0.15 else '')
         sign = 'u' if self.pick.random() < 0.2 else ''
-        self.leaves = LEAVES + WIDE_LEAVES if sign else LEAVES
+        self.leaves = LEAVES + WIDE_LEAVES * (sign != '') + 8 * TESTED_LEAVES.get(self.test, [])
         return '/%s%s%s/%s' % (start, self.formula(names, self.pick.randrange(4)), end, sign)
 
     def expr(self, names, depth):
@@ -76,10 +85,12 @@ class Maker:
         kind = pick.random() if depth else 0
         if kind < 0.5:
             return self.atom(names)
-        if kind < 0.65:
+        if kind < 0.6:
             left, right = self.arms(names)
             return '(%s union %s)' % (self.expr(left, depth - 1), self.expr(right, depth - 1))
-        if kind < 0.85:
+        if kind < 0.75:
+            return self.difference(names, depth - 1)
+        if kind < 0.9:
             left = {name for name in sorted(names) if pick.random() < 0.6}
             right = (names - left) | {name for name in sorted(names) if pick.random() < 0.3}
             return '%s join %s' % self.sharing(left, right, depth - 1)
@@ -95,6 +106,19 @@ class Maker:
         self.sure = kept
         return parts
 
+    def difference(self, names, depth):
+        left = self.expr(names, depth)
+        right = self.changed(left) if self.pick.random() < 0.5 else self.expr(names, depth)
+        return self.pick.choice(['(%s minus %s)', '(%s minus (%s))', '((%s) minus %s)']) % (left, right)
+
+    def changed(self, text):
+        """The text with one of its bytes `a`, `b` and `.` changed for another, which changes no variable."""
+        places = [at for at, sign in enumerate(text) if sign in 'ab.']
+        if not places:
+            return text
+        at = self.pick.choice(places)
+        return text[:at] + self.pick.choice('ab.') + text[at + 1:]
+
     def query(self):
         count = self.pick.randrange(4)
         if self.pick.random() < 0.04:
@@ -103,8 +127,13 @@ class Maker:
         self.names = sorted(names)
         if self.pick.random() < 0.2:
             text = 'let w = %s; w join %s' % self.sharing(names, names, 1)
+        elif self.pick.random() < 0.15:
+            text = self.pick.choice(['let w = %s; w minus %s', 'let w = %s; %s minus w', 'let w = %s; w union %s minus w',
+                                     'let minus = %s; minus minus minus union %s']) % (self.expr(names, 1), self.expr(names, 1))
         else:
             text = self.expr(names, self.pick.randrange(3))
+        if self.test and names:
+            text += self.tests()
         if self.pick.random() < 0.1:
             text = text.replace('!x', '!y', 1).replace('project x', 'project z')
         if self.pick.random() < 0.3:
@@ -112,6 +141,13 @@ class Maker:
                 at = self.pick.randrange(len(text) + 1)
                 text = text[:at] + self.pick.choice(SIGNS) + text[at + self.pick.randrange(3):]
         return text.encode()
+
+    def tests(self):
+        """Tests of the result's variables; now and then of one more, or one that is not known."""
+        pick = self.pick
+        found = ['%s(%s)' % (pick.choice(10 * [self.test] + ['luhn', 'upper', 'odd']), pick.choice(8 * self.names + ['z']))
+                 for _ in range(pick.choice([1, 1, 1, 1, 2, 3]))]
+        return pick.choice([' where ', '\nwhere ']) + pick.choice([', ', ',', ' ,']).join(found)
 
     def many(self):
         """A query of seventeen to thirty-two variables, and now and then of one more."""
@@ -133,6 +169,9 @@ class Maker:
             optional = pick.randrange(1, 4)
             text = '/^%s%s$/' % (''.join('(%s)?' % capture for capture in captures[:optional]),
                                  '(%s|b)' % '|'.join(captures[optional:]))
+        if pick.random() < 0.2:
+            others = ' union '.join('/!%s{a}/' % name for name in names)
+            text = '%s minus (%s)' % (text, self.changed(text) if pick.random() < 0.8 else others)
         self.names = names
         return text.encode()
 
@@ -145,9 +184,12 @@ class Maker:
             '/((a?){%d}){%d}/' % (many, times), '/(a{%d}b?){%d}/' % (many, 9 + times), '/[ab]{%d}(a{0,%d}|b)/' % (many, many),
             '/!x{a{%d}}/ join /!y{[ab]{%d}}/' % (few, few), '/a{%d}b/ join /^b{%d}/ join /a|b/' % (few // 4, few // 4),
             '/(a{%d}){10}/ union /(b{%d}){10}/' % (many, many),
-            '/^%s(a{%d}|b)$/' % (''.join('(!p%d{})?' % k for k in range(8)), few), self.left_out(pick.randrange(14, 19))])
+            '/^%s(a{%d}|b)$/' % (''.join('(!p%d{})?' % k for k in range(8)), few), self.left_out(pick.randrange(14, 19)),
+            '/!x{[ab]*}/ minus /!x{[ab]*a[ab]{%d}}/' % pick.randrange(10, 16),
+            '/^([ab]{1000}){9}[ab]{%d}c?$/ minus /^[ab]*a$/' % many, '/^([ab]?){%d}$/ minus /^[ab]*a$/' % many,
+            '/[ab]{%d}/ minus (/a{%d}/ minus /a{3}/)' % (few, times)])
         self.names = ['x', 'y'] if '!' in text else []
-        around = pick.choice(['%s', '%s', '(%s)', 'let w = %s; /a*/', '/b/ join (%s)', 'let w = %s; w join w',
+        around = pick.choice(['%s', '%s', '(%s)', 'let w = %s; /a*/', '/b/ join (%s)', 'let w = %s; w join w', 'let w = %s; w minus w',
                               'project none (%s)', 'project none (/!z{a}/) union project none (%s)'])
         if '%s' != around != '(%s)':
             self.names = []
@@ -159,8 +201,7 @@ class Maker:
         return around % ''.join('(!p%d{})?' % k for k in range(count))
 
     def document(self):
-        return b''.join(self.pick.choice([b'a', b'a', b'b', b'c', b'\n', 'é'.encode(), b'!'])
-                        for _ in range(self.pick.randrange(8)))
+        return b''.join(self.pick.choice(TESTED_BYTES.get(self.test, BYTES)) for _ in range(self.pick.randrange(8)))
 
     def cursor(self, length):
         """A cursor of a document of this length, mostly; in one of five, a text that is nearly one."""

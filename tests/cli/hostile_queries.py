@@ -19,7 +19,7 @@ class Hostile(NamedTuple):
     query: bytes
     document: bytes
     words: list  # besides those that name the query and the document
-    answers: list  # of (status, out, note), each without its last line feed
+    answers: list  # of (status, out, note), each without its last line feed; where out is None its text is not looked at
     slow: bool
 
 
@@ -144,6 +144,33 @@ def names():
          words=['-a', 'c2:4294967295;x:0-4294967295'])
     hard('names', 'a cursor of a length of 100,000 digits', '/!x{a}/', refused(7, 'cursor: not a cursor'),
          words=['-a', 'c2:' + 100000 * '1' + ';x:0-1'])
+
+
+# --- Sets of characters, each a formula of its own -----------------------------------------------
+
+def characters():
+    letters, count = filled(r'\p{L}', tail='/u')
+    hard('characters', 'only letters, %d times' % count, letters, STATES, MEMORY, slow=True)
+    hard('characters', 'only letters, explained', letters, page(None), MEMORY, words=['--explain'], slow=True)
+    text, count = filled(r'\p{L}{0}', tail='/u')
+    hard('characters', 'letters that do not stand, %d times' % count, text, ONE, MEMORY, slow=True)
+    hard('characters', 'all but letters', filled(r'[^\p{L}]', tail='/u')[0], STATES, MEMORY, slow=True)
+    hard('characters', 'letters in a hundred groups', '/' + 100 * '(' + r'!x{\p{L}}' + 100 * ')' + '/u', fault('too deep', 101))
+    hard('characters', 'letters in ninety-nine groups', '/' + 99 * '(' + r'!x{\p{L}}' + 99 * ')' + '/u', page('x=0-1\nx=1-3'),
+         document='aé'.encode())
+    hard('characters', 'one class of thirteen thousand times the letters', filled(r'\p{L}', '/[', ']/u')[0], ONE, slow=True)
+    hard('characters', 'one class of ten thousand characters', '/[%s]/u' % ''.join(chr(c) for c in range(0x4e00, 0x4e00 + 10000)), ONE,
+         document='丁'.encode())
+    hard('characters', 'one class of every second character', '/[%s]/u' % ''.join(chr(c) for c in range(0x4e00, 0x9fff, 2)), NO_ROW,
+         document='丁'.encode())
+    for number, answer in ((0x7f, NO_ROW), (0xe9, STATES), (0xffff, STATES), (0x10ffff, STATES)):
+        hard('characters', 'only the number %x' % number, filled(r'\u{%x}' % number, tail='/u')[0], answer)
+    hard('characters', 'dots', filled('.', tail='/u')[0], STATES)
+    hard('characters', 'what is no UTF-8 at the end', b'/' + 65531 * b'a' + b'\xff/u', fault('not UTF-8', 65532))
+    hard('characters', 'a name of a property that is long', r'/\p{%s}/u' % (65000 * 'L'), fault('unknown property', 1))
+    hard('characters', 'names of properties that are none', filled(r'\p{}', tail='/u')[0], fault('bad escape', 1))
+    hard('characters', 'a letter that repeats a thousand times', r'/\p{L}{1000}/u', STATES)
+    hard('characters', 'words', r'/[^\p{L}]!x{\p{L}+}[^\p{L}]/u', page('x=3-7'), document='é жи !'.encode())
 
 
 # --- One construct, as often as it goes into the longest text -----------------------------------
@@ -303,6 +330,94 @@ def joins():
     longs = ['/%s{0,150}!%s{[ab]*}%s{0,130}/' % (x, n, y) for x, n, y in ('axb', 'byc')]
     hard('joins', 'two atoms of many ways', ' join '.join(longs),
          page(row(('x', 0, 0), ('y', 0, 0)), 'more c2:60;x:0-0;y:0-0'), STATES, WAYS, document=20 * b'abc', words=['-n', '1'])
+
+
+# --- Differences ---------------------------------------------------------------------------------
+
+def words_of(count, length=10):
+    return [''.join('ab'[number * 7 >> bit & 1] for bit in range(length)) for number in range(count)]
+
+
+def differences():
+    hard('differences', 'a hundred in a row', '/!x{.}/' + 100 * ' minus /!x{a}/', page(row(('x', 1, 2))), document=b'ab')
+    hard('differences', 'a hundred and one', '/!x{.}/' + 101 * ' minus /!x{a}/', fault('too deep', 7 + 100 * 14 + 1))
+    hard('differences', 'a hundred, and one more far behind', '/a/' + 100 * ' minus /b/' + 60000 * ' ' + 'minus',
+         fault('too deep', 3 + 100 * 10 + 60000))
+    hard('differences', 'a hundred in one another', '/a/ minus (' * 100 + '/a/' + ')' * 100, ONE)
+    hard('differences', 'ninety-nine in one another', '/a/ minus (' * 99 + '/a/' + ')' * 99, NO_ROW)
+    hard('differences', 'a hundred in one another, of one variable', '/!x{.}/ minus (' * 100 + '/!x{a}/' + ')' * 100,
+         page(row(('x', 0, 1))), document=b'ab')
+    lets = ''.join(' let w%d = /!x{.}/ minus w%d;' % (k + 1, k) for k in range(100))
+    hard('differences', 'a hundred lets, each less the one before', 'let w0 = /!x{a}/;' + lets + ' w100', page(row(('x', 0, 1))),
+         document=b'ab')
+    lets = ''.join(' let w%d = w%d minus w%d;' % (k + 1, k, k) for k in range(100))
+    hard('differences', 'a hundred lets, each the one before less itself', 'let w0 = /!x{a*}/;' + lets + ' w100', NO_ROW)
+    lets = ''.join(' let w%d = (w%d minus /!x{%s}/) join w%d;' % (k + 1, k, 'ab'[k % 2], k) for k in range(100))
+    hard('differences', 'a hundred lets, each joined with itself', 'let w0 = /!x{.}/;' + lets + ' w100', page(row(('x', 2, 3))),
+         STATES, WAYS, MEMORY, document=b'abc')
+    back = '/!x{[ab]*}/ minus /!x{[ab]*a[ab]{%d}}/'
+    for count, name, answers in ((13, 'fourteen', []), (14, 'fifteen', [STATES]), (1000, 'a thousand', [STATES])):
+        hard('differences', '%s bytes back' % name, back % count, page(row(('x', 0, 0)), resume(15, ('x', 0, 0))), *answers,
+             document=14 * b'a' + b'b', words=['-n', '1'])
+    hard('differences', 'twenty bytes back in a table, less twenty others', '/(a|b)*a(a|b){20}!x{c}/ minus /(a|b)*b(a|b){21}!x{c}/',
+         page(row(('x', 25, 26))), STATES, document=3 * b'b' + 22 * b'a' + b'c')
+    pairs = '/^([ab]{1000}){9}[ab]{999}%s$/ minus /^[ab]*a$/'
+    hard('differences', '20,000 pairs', pairs % 'c?', ONE, document=9999 * b'b')
+    hard('differences', '20,001 pairs', pairs % '(c|d)?', ONE, STATES, document=9999 * b'b')
+    hard('differences', '2,000,000 ways', '/^([ab]?){1000}$/ minus /^[ab]*a$/', ONE, document=b'ab')
+    hard('differences', '2,000,000 ways, and some more', '/^([ab]?){1000}c?$/ minus /^[ab]*a$/', ONE, WAYS, document=b'ab')
+    bits = '|'.join('[%s]' % ''.join('\\x%02x' % b for b in range(256) if b >> bit & 1) for bit in range(8))
+    for count, answers in ((31, []), (32, [WAYS]), (1000, [STATES, WAYS])):
+        hard('differences', 'a set for each byte, %d times' % count, '/^[\\x00-\\xff]{%d}$/ minus /^(%s){%d}$/' % (count, bits, count),
+             ONE, *answers, document=count * b'\x00')
+    rows = ['/!x{%s}/ ' % '|'.join(words) for words in (words_of(200), words_of(200)[::2])]
+    hard('differences', 'two hundred words less each second one', 'minus '.join(rows), page(row(('x', 0, 10))),
+         document=words_of(200)[3].encode())
+    atoms = [' union '.join('/!x{%s}/' % word for word in words) for words in (words_of(500), words_of(500)[::2])]
+    hard('differences', 'five hundred atoms less each second one', '(%s) minus (%s)' % tuple(atoms), page(row(('x', 0, 10))),
+         document=words_of(500)[3].encode())
+    hard('differences', 'a million ways on the right', '/^[ab]*$/ minus /^([ab]?){1000}([ab]?){400}$/', NO_ROW, MEMORY, document=b'ab',
+         slow=True)
+    large = '/^(a?){1000}(a?){999}$/'
+    hard('differences', 'a large atom less itself', large + ' minus ' + large, NO_ROW, STATES, WAYS, MEMORY, document=b'aa',
+         slow=True)
+    hard('differences', 'sixteen left out in all ways, less the same', '/^%s$/ minus /^%s$/' % (left_out(16), left_out(16)), NO_ROW, MEMORY,
+         document=b'', slow=True)
+    hard('differences', 'ten left out in all ways at each place, less the same', '/%s/ minus /%s/' % (left_out(10), left_out(10)), NO_ROW,
+         document=20 * b'z')
+    hard('differences', 'sixteen free captures, less the same that are not empty',
+         '/%s/ minus /%s/' % tuple(''.join('!%s{z%s}' % (name, sign) for name in NAMES) for sign in '*+'), first(16, 200),
+         document=200 * b'z', words=['-n', '1'])
+    hard('differences', 'five free spans, less themselves', '%s minus %s' % (stars(5), stars(5)), NO_ROW, document=b'zz')
+    hard('differences', 'thirty-two captures, less as many', '/^%s$/ minus /^%s$/' % (left_out(32, 'z'), left_out(32, 'y')),
+         page(row(*((n, k, k + 1) for k, n in enumerate(MOST)))), document=32 * b'z')
+    hard('differences', '1,900 atoms, no filter of which is counted', 1899 * '/a/ union ' + '/a/ minus /b/', NO_ROW,
+         document=100000 * b'b', words=['--filter'])
+    hard('differences', 'a trial', r'/!user{u\d+}/ minus /!user{u\d+}\d/',
+         page('lines 3000\nbytes 50204\nrows 1000\nfirst user=0-2\nlast user=50152-50155'), words=['--trial', '3000'])
+
+
+# --- Tests of spans ------------------------------------------------------------------------------
+
+def tests_on_spans():
+    each = 7000 * ['upper(x)']
+    hard('tests', 'seven thousand of one variable', '/!x{A}/where ' + ','.join(each),
+         page('\n'.join(row(('x', i, i + 1)) for i in range(200))), document=200 * b'A')
+    hard('tests', 'the last of seven thousand is not known', '/!x{A}/where ' + ','.join(each[1:] + ['odd(x)']),
+         fault('unknown test', 13 + 6999 * 9))
+    hard('tests', 'the last of seven thousand is of no variable', '/!x{A}/where ' + ','.join(each[1:] + ['upper(y)']),
+         fault('no variable y to test'))
+    hard('tests', 'the last of seven thousand cannot be read', '/!x{A}/where ' + ','.join(each + ['']), fault('unexpected', 13 + 7000 * 9))
+    spans = [(name, at, at + 1) for at, name in enumerate(MOST)]
+    hard('tests', 'of each of thirty-two variables', '/^%s$/ where %s' % (''.join('(!%s{Z})?' % name for name in MOST),
+                                                                         ', '.join('upper(%s)' % name for name in MOST)),
+         page(row(*sorted(spans))), document=32 * b'Z')
+    hard('tests', 'none of two million answers passes', '/!x{A+a+}/ where upper(x)', NO_ROW, document=1500 * b'A' + 1500 * b'a', slow=True)
+    hard('tests', 'the last of 562,501 answers passes', '/!x{A+a+}|!x{B}/ where upper(x)', page('x=1500-1501'),
+         document=750 * b'A' + 750 * b'a' + b'B')
+    hard('tests', 'a number of a million digits', r'/^!x{\d+}$/ where luhn(x)', page('x=0-1000000'), document=500000 * b'18')
+    hard('tests', 'a page of one behind 999,999 that do not pass', r'/!x{\w}/ where upper(x)', page('x=999999-1000000'),
+         document=999999 * b'a' + b'A', words=['-n', '1'])
 
 
 # --- Unions and projections by the thousand ------------------------------------------------------
@@ -465,5 +580,6 @@ def optional():
               resume(2, *([('x', 0, 1)] + [('y%d' % k, 1, 2) for k in range(5)]))), document=b'ab', words=['-n', '1'])
 
 
-for family in (nesting, names, long_texts, repeats, bytes_of_all, lets, joins, unions, arms, optional, tables):
+for family in (nesting, names, characters, long_texts, repeats, bytes_of_all, lets, joins, differences, tests_on_spans, unions, arms,
+               optional, tables):
     family()

@@ -5,7 +5,8 @@ the document of a trial. Each section states its rules in words and then says th
 """
 from typing import NamedTuple
 
-from query_text import Alt, Atom, Cap, Cat, Empty, Join, Named, One, Project, Rep, Union, WORD_BYTES, captures
+from query_text import (Alt, Atom, Cap, Cat, Empty, Join, Minus, Named, One, Project, Rep, Union, WORD_BYTES,
+                        captures)
 
 NOT_LINE_FEED = frozenset(range(256)) - {0x0a}
 MOST_TOLD = (1 << 64) - 1  # the greatest number that is shown
@@ -79,14 +80,17 @@ def expr_text(expr, lets, inside=()):
         return lets[expr.place][0]
     if isinstance(expr, Project):
         return 'project %s (%s)' % (','.join(sorted(expr.keep)) or 'none', expr_text(expr.part, lets))
+    if isinstance(expr, Minus):
+        return ' minus '.join(expr_text(side, lets, (Union, Minus)) for side in (expr.left, expr.right))
     if isinstance(expr, Union):
-        return ' union '.join(expr_text(part, lets, Union) for part in expr.parts)
-    return ' join '.join(expr_text(part, lets, (Union, Join)) for part in expr.parts)
+        return ' union '.join(expr_text(part, lets, (Union, Minus)) for part in expr.parts)
+    return ' join '.join(expr_text(part, lets, (Union, Minus, Join)) for part in expr.parts)
 
 
 def query_text(query):
     lets = ''.join('let %s = %s; ' % (name, expr_text(expr, query.lets)) for name, expr in query.lets)
-    return lets + expr_text(query.body, query.lets)
+    tests = ', '.join('%s(%s)' % (test.name, test.variable) for test in query.tests)
+    return lets + expr_text(query.body, query.lets) + (' where ' + tests if tests else '')
 
 
 # --- The numbers of an atom ----------------------------------------------------------------------
@@ -182,23 +186,32 @@ def counts_of(atom):
     return min(states, MOST_TOLD), min(ways, MOST_TOLD)
 
 
-# --- Both modes ----------------------------------------------------------------------------------
+# --- The parts of a query ------------------------------------------------------------------------
+
+def parts_of(expr):
+    """The expressions that one is made of, from left to right."""
+    if isinstance(expr, (Atom, Named)):
+        return ()
+    if isinstance(expr, Project):
+        return (expr.part,)
+    return (expr.left, expr.right) if isinstance(expr, Minus) else expr.parts
+
 
 def atoms_of(expr):
     """The atoms of an expression, from left to right."""
-    if isinstance(expr, Atom):
-        return [expr]
-    if isinstance(expr, Named):
-        return []
-    parts = [expr.part] if isinstance(expr, Project) else expr.parts
-    return [atom for part in parts for atom in atoms_of(part)]
+    return [expr] if isinstance(expr, Atom) else [atom for part in parts_of(expr) for atom in atoms_of(part)]
+
+
+def query_exprs(query):
+    """Those of all lets in their order, and then the body."""
+    return [expr for _, expr in query.lets] + [query.body]
 
 
 def query_atoms(query):
-    """Those of all lets in their order, and then those of the body."""
-    exprs = [expr for _, expr in query.lets] + [query.body]
-    return [atom for expr in exprs for atom in atoms_of(expr)]
+    return [atom for expr in query_exprs(query) for atom in atoms_of(expr)]
 
+
+# --- Both modes ----------------------------------------------------------------------------------
 
 def explained(query, names):
     lines = ['query ' + query_text(query), 'variables ' + (' '.join(names) or 'none')]

@@ -7,9 +7,11 @@ import re
 from typing import NamedTuple
 
 from characters import BYTES, CHARACTERS, numbers, others, property_set, ranges_of, shared, united
+from named_tests import TESTS
 
 MOST_VARIABLES = 32
 MOST_OPEN = 100  # groups and captures of a formula, parentheses of a query
+MOST_MINUSES = 100  # of a query text
 LONGEST_NAME = 32
 LARGEST_REPEAT = 1000
 LONGEST_QUERY = 65536
@@ -34,7 +36,7 @@ def fault(what, at=None):
 #
 # A formula is the empty string, one byte of a set, a concatenation, an alternation, a repeat with a
 # least and perhaps a greatest number of times, or a capture. An expression is an atom, the name of
-# a `let`, a union, a join or a projection.
+# a `let`, a union, a difference, a join or a projection.
 
 class Empty(NamedTuple):
     pass
@@ -77,6 +79,11 @@ class Union(NamedTuple):
     parts: tuple
 
 
+class Minus(NamedTuple):
+    left: object
+    right: object
+
+
 class Join(NamedTuple):
     parts: tuple
 
@@ -86,9 +93,16 @@ class Project(NamedTuple):
     part: object
 
 
+class Test(NamedTuple):
+    name: str
+    at: int  # the offset of the name
+    variable: str
+
+
 class Query(NamedTuple):
     lets: tuple  # pairs of a name and an expression
     body: object
+    tests: tuple
 
 
 # --- Reading an atom -----------------------------------------------------------------------------
@@ -399,14 +413,23 @@ class AtomReader:
 
 # --- Reading a query -----------------------------------------------------------------------------
 #
+#   tested = query [ "where" test { "," test } ]
+#   test  = name "(" name ")"
 #   query = { "let" name "=" expr ";" } expr
-#   expr  = conj { "union" conj }
+#   expr  = conj { ( "union" | "minus" ) conj }
 #   conj  = unit { "join" unit }
 #   unit  = atom | name | "(" expr ")" | "project" keep "(" expr ")"
 #   keep  = "none" | name { "," name }
 #
 # Space, tab, line feed and carriage return may stand between tokens. A word is a longest run of name
-# bytes. The five words of the grammar are no names.
+# bytes. `let`, `union`, `join`, `project` and `none` are no names. `minus` is one, but behind a whole conj, and `where`,
+# but behind a whole body: no name may stand there. From the left, conjs with `union` between are one union; a `minus`
+# takes the conj behind it away from all that stands before it, and a `union` behind that begins a union whose first
+# part is the difference.
+
+def union_of(parts):
+    return parts[0] if len(parts) == 1 else Union(tuple(parts))
+
 
 class QueryReader:
     def __init__(self, text):
@@ -415,6 +438,7 @@ class QueryReader:
         self.open = 0  # parentheses
         self.lets = []
         self.atoms = []
+        self.minuses = 0
         self.kept = []  # the names of each projection
 
     def read(self):
@@ -422,9 +446,28 @@ class QueryReader:
             self.skip('let')
             self.lets.append(self.let())
         body = self.expr()
+        tests = self.tests() if self.word() == 'where' else []
         if self.at < len(self.text):
             raise self.unexpected()
-        return Query(tuple(self.lets), body)
+        return Query(tuple(self.lets), body, tuple(tests))
+
+    def tests(self):
+        self.skip('where')
+        found = [self.test()]
+        while self.sees(','):
+            self.token(',')
+            found.append(self.test())
+        return found
+
+    def test(self):
+        name = self.name()
+        at = self.at
+        self.skip(name)
+        self.token('(')
+        variable = self.name()
+        self.skip(variable)
+        self.token(')')
+        return Test(name, at, variable)
 
     def let(self):
         name = self.name()
@@ -438,10 +481,20 @@ class QueryReader:
 
     def expr(self):
         parts = [self.conj()]
-        while self.word() == 'union':
-            self.skip('union')
-            parts.append(self.conj())
-        return parts[0] if len(parts) == 1 else Union(tuple(parts))
+        while self.word() in ('union', 'minus'):
+            if self.word() == 'union':
+                self.skip('union')
+                parts.append(self.conj())
+            else:
+                self.minus()
+                parts = [Minus(union_of(parts), self.conj())]
+        return union_of(parts)
+
+    def minus(self):
+        if self.minuses == MOST_MINUSES:
+            raise fault('too deep', self.at)
+        self.minuses += 1
+        self.skip('minus')
 
     def conj(self):
         parts = [self.unit()]
@@ -545,6 +598,11 @@ class QueryReader:
 # some part, in an alternation and in a union where it is in all of them; under a repeat that is of exactly
 # once; in its capture. In a join a variable clashes at a part where an earlier part has it too and it is not
 # sure in both; the first part at which one clashes is told, by the least name that clashes there.
+#
+# The sides of a difference have the same variables; else the least that is in one alone is told. Those that are
+# sure on the left side are sure.
+#
+# Behind all that come the tests: each is of a variable of the result, and then each has a known name.
 
 def captures(formula):
     """All names of the formula's captures."""
@@ -610,6 +668,11 @@ def variables(expr, of_lets):
         if expr.keep - inner.all:
             raise fault('no variable %s to keep' % min(expr.keep - inner.all))
         return Variables(set(expr.keep), inner.sure & expr.keep)
+    if isinstance(expr, Minus):
+        left, right = variables(expr.left, of_lets), variables(expr.right, of_lets)
+        if left.all != right.all:
+            raise fault('variable %s not on both sides of minus' % min(left.all ^ right.all))
+        return left
     parts = [variables(part, of_lets) for part in expr.parts]
     every = set().union(*[part.all for part in parts])
     if isinstance(expr, Union):
@@ -634,4 +697,15 @@ def read_query(text):
     of_lets = []
     for _, expr in query.lets:
         of_lets.append(variables(expr, of_lets))
-    return query, sorted(variables(query.body, of_lets).all)
+    of_result = variables(query.body, of_lets).all
+    refuse_tests(query.tests, of_result)
+    return query, sorted(of_result)
+
+
+def refuse_tests(tests, of_result):
+    for test in tests:
+        if test.variable not in of_result:
+            raise fault('no variable %s to test' % test.variable)
+    for test in tests:
+        if test.name not in TESTS:
+            raise fault('unknown test', test.at)

@@ -6,14 +6,15 @@ output, one line of notes on standard error, and the exit status.
 
     rematch_oracle.py (-e TEXT | -q NAME) [-n K] [-a CURSOR] [-f spans|table|json] [-t] [--filter]
                       [--max-table W] [--explain] [--trial N] [DOC]
+    rematch_oracle.py --serve
 
 Nothing here is clever. A formula is tried at every place of the document, every way in which it fits
 is listed, the rows are put into a set and sorted. So it is slow, and easy to compare with the rules:
 each section states its rules in words and then says them once more in Python. It shares no code with
-the program. query_text.py beside it reads the query, by characters.py where that speaks of characters, and
-modes.py has `--explain` and `--trial`. Tests import
+the program. query_text.py beside it reads the query, by characters.py where that speaks of characters;
+named_tests.py has the tests of spans, modes.py `--explain` and `--trial`, and session_oracle.py `--serve`. Tests import
 `run`, which reads no file by itself. It makes no automata: it answers where the program may refuse for the
-size of a union or a join or for a weight, and it reads all positions with `--filter` too, which changes
+size of a union, a difference or a join or for a weight, and it reads all positions with `--filter` too, which changes
 no row. `permitted` has these refusals too, by weights.py, which counts them.
 
 Python 3.8, standard library.
@@ -25,8 +26,9 @@ import sys
 from typing import NamedTuple
 
 from modes import counts_of, explained, query_atoms, summed, trial_document
-from query_text import (LONGEST_QUERY, Alt, Atom, Cat, Empty, Named, One, Project, Refusal, Rep, Union, captures,
-                        fault, read_query)
+from named_tests import TESTS
+from query_text import (LONGEST_QUERY, Alt, Atom, Cat, Empty, Minus, Named, One, Project, Refusal, Rep, Union,
+                        captures, fault, read_query)
 from weights import TooMuch, sizes_of, weights_of
 
 LONGEST_DOCUMENT = 1 << 28
@@ -48,6 +50,7 @@ class Meaning:
         self.document = document
         self.known = {}  # what fits where
         self.of_lets = {}  # the answers of lets
+        self.names_of_lets = {}
 
     def fits(self, formula, i):
         """All pairs of an end and a mapping with which the formula fits from i on."""
@@ -111,25 +114,30 @@ class Meaning:
         if isinstance(expr, Project):
             return {frozenset(pair for pair in spans if pair[0] in expr.keep)
                     for spans in self.answers(expr.part, lets)}
+        if isinstance(expr, Minus):
+            return self.answers(expr.left, lets) - self.answers(expr.right, lets)
         parts = [self.answers(part, lets) for part in expr.parts]
         if isinstance(expr, Union):
             return set().union(*parts)
-        joined, names = parts[0], names_of(expr.parts[0], lets)
+        joined, names = parts[0], self.names(expr.parts[0], lets)
         for part, answers in zip(expr.parts[1:], parts[1:]):
-            more = names_of(part, lets)
+            more = self.names(part, lets)
             joined, names = natural_join(joined, answers, names & more), names | more
         return joined
 
-
-def names_of(expr, lets):
-    """The variables of an expression."""
-    if isinstance(expr, Atom):
-        return captures(expr.formula)
-    if isinstance(expr, Named):
-        return names_of(lets[expr.place][1], lets)
-    if isinstance(expr, Project):
-        return set(expr.keep)
-    return set().union(*[names_of(part, lets) for part in expr.parts])
+    def names(self, expr, lets):
+        """The variables of an expression."""
+        if isinstance(expr, Atom):
+            return captures(expr.formula)
+        if isinstance(expr, Named):
+            if expr not in self.names_of_lets:
+                self.names_of_lets[expr] = self.names(lets[expr.place][1], lets)
+            return self.names_of_lets[expr]
+        if isinstance(expr, Project):
+            return set(expr.keep)
+        if isinstance(expr, Minus):
+            return self.names(expr.left, lets)
+        return set().union(*[self.names(part, lets) for part in expr.parts])
 
 
 def natural_join(left, right, shared):
@@ -164,10 +172,16 @@ def order(row):
     return [(at, -block) for at, block in sorted(blocks.items())] + [(PAST_ALL, 0)]
 
 
+def passes(spans, tests, document):
+    """Whether each test's variable has a span, of whose bytes the test holds."""
+    return all(test.variable in spans and TESTS[test.name](document[slice(*spans[test.variable])]) for test in tests)
+
+
 def all_rows(query, names, document):
-    """The answers of the query, in order; a row lists the spans by ascending names."""
-    found = Meaning(document).answers(query.body, query.lets)
-    return sorted((tuple(dict(spans).get(name) for name in names) for spans in found), key=order)
+    """The answers of the query that pass its tests, in order; a row lists the spans by ascending names."""
+    answers = map(dict, Meaning(document).answers(query.body, query.lets))
+    found = [spans for spans in answers if passes(spans, query.tests, document)]
+    return sorted((tuple(map(spans.get, names)) for spans in found), key=order)
 
 
 def page(rows, after, limit):
@@ -551,6 +565,9 @@ def main():
         words = [word.encode('utf-8', 'surrogateescape').decode('utf-8') for word in sys.argv[1:]]
     except UnicodeDecodeError:
         return 10
+    if words == ['--serve']:
+        import session_oracle  # which stands on this file
+        return session_oracle.main()
     status, out, notes = run(words, fetch_file)
     if not put(1, out):
         status, notes = WRITE, b'write failed\n'

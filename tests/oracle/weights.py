@@ -7,11 +7,14 @@ states its rules in words and then says them once more in Python.
 """
 from typing import NamedTuple
 
-from modes import atom_numbers, counts_of, query_atoms
-from query_text import Atom, Cap, Cat, Empty, Named, One, Project, Rep, Union, variables
+from modes import atom_numbers, counts_of, parts_of, query_atoms, query_exprs
+from query_text import Atom, Cap, Cat, Empty, Minus, Named, One, Project, Rep, Union, variables
 
 MOST_WAYS = 5000  # of an atom, with its ends; past it no automaton is made
-MOST_PAIRS = 200000  # of ways, of a join
+MOST_PAIRS = 200000  # of ways, of a join or a difference
+MOST_MADE = 20000  # states, of a difference
+MOST_TRIED = 3000000  # ways of the right side of a difference, each on each set of bytes that it may cut
+UNKNOWN = 1 << 100  # how many there are of what is too much to be counted
 
 
 class TooMuch(Exception):
@@ -170,6 +173,11 @@ def of_atom(atom, bits):
 # variables and whose byte sets meet, and the pairs of ends whose marks agree on them; a pair is idle
 # where both are. Unions and joins of more parts are taken from left to right, and each step is a part of
 # the query.
+#
+# A difference has the pairs of a state of the left side and a set of states of the right side that are reached
+# together, from a left start and the set of all right starts. A way of the left gives from such a pair one way
+# for each set to which the right's set goes on its marks and some of its bytes, over just these bytes. A left end
+# is an end of the pair unless a member of the set has an end with the same marks. No state is idle.
 
 def union(a, b):
     up = a.states
@@ -195,21 +203,89 @@ def join(a, b, shared):
                      frozenset(p * n + v for p in a.idle for v in b.idle))
 
 
+def by_state(items):
+    """The rest of each item, in a list for each state that stands first in one."""
+    found = {}
+    for item in items:
+        found.setdefault(item[0], []).append(item[1:])
+    return found
+
+
+class Difference:
+    """The making of the automaton of a difference."""
+
+    def __init__(self, a, b):
+        self.a, self.b = a, b
+        self.ways_of_a, self.ways_of_b = by_state(a.ways), by_state(b.ways)
+        self.ends_of_a, self.ends_of_b = by_state(a.ends), by_state(b.ends)
+        self.pairs = []  # in the order in which they are reached
+        self.numbers = {}  # their places in that list
+        self.known = {}  # where sets go on marks
+        self.tried = 0
+
+    def made(self):
+        starts = frozenset(self.number(p, self.b.starts) for p in self.a.starts)
+        ways, ends = [], []
+        for here, (p, members) in enumerate(self.pairs):  # which grows
+            ways += [(here, m, s & t, self.number(q, reached)) for m, s, q in self.ways_of_a.get(p, ())
+                     for t, reached in self.parts(members, m) if s & t]
+            less = {end for q in members for end in self.ends_of_b.get(q, ())}
+            ends += [(here,) + end for end in self.ends_of_a.get(p, ()) if end not in less]
+            if len(ways) > MOST_PAIRS:
+                raise TooMuch
+        return Automaton(len(self.pairs), starts, ways, ends, frozenset())
+
+    def number(self, p, members):
+        pair = p, members
+        if pair not in self.numbers:
+            if len(self.pairs) == MOST_MADE:
+                raise TooMuch
+            self.numbers[pair] = len(self.pairs)
+            self.pairs.append(pair)
+        return self.numbers[pair]
+
+    def parts(self, members, marks):
+        """Where the set goes on these marks: sets of bytes, each with the set that is reached on them."""
+        if (members, marks) not in self.known:
+            parts = {frozenset(): ALL_BYTES}
+            for q in members:
+                for m, s, state in self.ways_of_b.get(q, ()):
+                    if m == marks:
+                        parts = self.cut(parts, s, state)
+            self.known[members, marks] = [(t, reached) for reached, t in parts.items()]
+        return self.known[members, marks]
+
+    def cut(self, parts, s, state):
+        """The same, where on the bytes of s the state is reached too."""
+        self.tried += len(parts)
+        if self.tried > MOST_TRIED:
+            raise TooMuch
+        found = {}
+        for reached, t in parts.items():
+            for inside, to in ((t & s, reached | {state}), (t & ~s, reached)):
+                if inside:
+                    found[to] = found.get(to, 0) | inside
+        return found
+
+
 class Made:
-    """The automaton of each part of a query."""
+    """The automata of the parts of a query, made where they are asked for."""
 
     def __init__(self, query):
+        self.query = query
         self.bits = Bits()
-        self.lets = []  # their automata
+        self.lets = {}  # their automata
         self.names = []  # their variables, and which are sure
         for _, expr in query.lets:
-            self.lets.append(self.of(expr))
             self.names.append(variables(expr, self.names))
-        self.whole = self.of(query.body)
 
     def of(self, expr):
         if isinstance(expr, Named):
+            if expr.place not in self.lets:
+                self.lets[expr.place] = self.of(self.query.lets[expr.place][1])
             return self.lets[expr.place]
+        if isinstance(expr, Minus):
+            return Difference(self.of(expr.left), self.of(expr.right)).made()
         if isinstance(expr, Atom):
             return of_atom(expr, self.bits)
         if isinstance(expr, Project):
@@ -225,7 +301,7 @@ class Made:
 
 def sizes_of(query):
     """The numbers of states and of ways of each part of a query. Of a join's ways this is a bound from above."""
-    parts, of_lets = [], []
+    parts, of_lets, made = [], [], Made(query)
 
     def told(size):
         parts.append(size)
@@ -238,6 +314,10 @@ def sizes_of(query):
             return told(counts_of(expr))
         if isinstance(expr, Project):
             return told(size_of(expr.part))
+        if isinstance(expr, Minus):
+            size_of(expr.left)
+            size_of(expr.right)
+            return told(size_of_minus(expr))
         states, ways = size_of(expr.parts[0])
         for part in expr.parts[1:]:
             more_states, more_ways = size_of(part)
@@ -246,6 +326,13 @@ def sizes_of(query):
             else:
                 states, ways = told((states * more_states, ways * more_ways))
         return states, ways
+
+    def size_of_minus(expr):
+        try:
+            whole = made.of(expr)
+        except TooMuch:
+            return UNKNOWN, UNKNOWN
+        return whole.states, len(whole.ways)
 
     for _, expr in query.lets:
         of_lets.append(size_of(expr))
@@ -266,12 +353,7 @@ def sizes_of(query):
 class Reading:
     def __init__(self, automaton):
         self.idle = automaton.idle
-        self.ways = {}
-        self.ends = {}
-        for p, m, s, q in automaton.ways:
-            self.ways.setdefault(p, []).append((m, s, q))
-        for p, m in automaton.ends:
-            self.ends.setdefault(p, set()).add(m)
+        self.ways, self.ends = by_state(automaton.ways), by_state(automaton.ends)
         self.layer = [automaton.starts]  # the sets that are reached here
         self.sets = {automaton.starts}
         self.rows = {}  # the edges of each row, as the sets that they lead to
@@ -354,16 +436,21 @@ def filter_weight(atom, document):
 
 class Weights(NamedTuple):
     table: int
-    filters: list  # of each atom of the query text; empty without the filter
+    filters: list  # of each atom of the query text; empty where none is filtered
+
+
+def has_minus(expr):
+    return isinstance(expr, Minus) or any(map(has_minus, parts_of(expr)))
 
 
 def weights_of(query, meaning, filtered):
-    """TooMuch comes where an automaton is too large to be made here."""
+    """TooMuch comes where an automaton is too large to be made here. With a difference in the text of the query all
+    positions are read, and nothing is filtered."""
     document = meaning.document
     positions = set(range(len(document) + 1))
     filters = []
-    if filtered:
+    if filtered and not any(map(has_minus, query_exprs(query))):
         atoms = query_atoms(query)
         positions = set().union(*(touched(atom, meaning) for atom in atoms))
         filters = [filter_weight(atom, document) for atom in atoms]
-    return Weights(table_weight(Made(query).whole, document, positions), filters)
+    return Weights(table_weight(Made(query).of(query.body), document, positions), filters)
