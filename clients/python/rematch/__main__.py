@@ -1,0 +1,19 @@
+"""``python3 -m rematch``, and the file that holds the package as a program: rematch-to, rematch-cut or rematch-piece by its name."""
+import os
+import sys
+
+
+def run() -> int:
+    """Runs the command that this is called by; under another name rematch-to."""
+    name = os.path.basename(sys.argv[0])
+    if name == 'rematch-cut':
+        from rematch.pieces import cut_main as main
+    elif name == 'rematch-piece':
+        from rematch.pieces import piece_main as main
+    else:
+        from rematch.convert import main
+    return main()
+
+
+if __name__ == '__main__':
+    sys.exit(run())

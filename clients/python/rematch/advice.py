@@ -1,0 +1,121 @@
+"""What is accepted and is yet seldom meant. It is told beside an answer, and never in its place."""
+from __future__ import annotations
+
+import re
+from typing import Callable, List, NamedTuple, Optional, Sequence, Union
+
+from .formula import Atom, Part, atoms_of, parts_of, repeat_of
+
+__all__ = ['Advice', 'advise']
+
+
+class Advice(NamedTuple):
+    """A piece of advice: where in the query's text, in bytes from 0, and what to look at."""
+
+    offset: int
+    message: str
+
+
+def advise(text: Union[str, bytes]) -> List[Advice]:
+    r"""What a reader of this query may not expect of it; the text is one that the program accepts.
+
+    It looks at the text alone, and runs nothing. An empty list says nothing of what the query means.
+
+    >>> for advice in advise(r'/\<the\>/'):
+    ...     print(advice.offset, advice.message)
+    0 there is no capture, so the answer is one row () or none: put !name{..} around what is wanted
+    1 \< and \> are the plain signs: a word is made whole by [^\w] before and after its capture
+    >>> advise(r'/from !address{[\d.]+} port/')
+    []
+    """
+    query = text if isinstance(text, bytes) else text.encode('utf-8', 'surrogateescape')
+    found: List[Advice] = []
+    atoms = [(atom, parts_of(atom)) for atom in atoms_of(query)]
+    if not any(part.kind == 'capture' for _, parts in atoms for part in parts):
+        found.append(Advice(0, 'there is no capture, so the answer is one row () or none: put !name{..} around what is wanted'))
+    # What another atom says of a capture's surroundings is not looked at, so nothing is said of them then.
+    words = set(re.findall(rb'\w+', re.sub(rb'/(?:[^\\/]|\\.)*/', b'', query)))
+    rules = [rule for rule in _RULES if rule not in _OF_ONE_ATOM or not words & {b'join', b'minus'}]
+    if any(part.kind == 'anchor' for _, parts in atoms for part in parts):
+        rules = [rule for rule in rules if rule not in _OF_THE_ENDS]
+    for atom, parts in atoms:
+        for rule in rules:
+            told = rule(atom, parts)
+            if told is not None and told.message not in {advice.message for advice in found}:
+                found.append(told)
+    return found
+
+
+def _plain_words(atom: Atom, parts: Sequence[Part]) -> Optional[Advice]:
+    for part in parts:
+        if part.text in (rb'\<', rb'\>'):
+            return Advice(part.offset, r'\< and \> are the plain signs: a word is made whole by [^\w] before and after its capture')
+    return None
+
+
+def _named_class(atom: Atom, parts: Sequence[Part]) -> Optional[Advice]:
+    for part in parts:
+        if part.kind == 'class' and re.fullmatch(rb'\[\^?:\w+:\]', part.text):
+            return Advice(part.offset, r'[:name:] is the set of these letters: write \d, [A-Za-z], or \p{..} with the sign u')
+    return None
+
+
+_UNITS = ('class', 'dot', 'escape', 'literal')
+
+
+def _is_open(repeat: Part) -> bool:
+    return repeat.kind == 'repeat' and repeat_of(repeat.text)[1] > 1
+
+
+def _open_start(atom: Atom, parts: Sequence[Part]) -> Optional[Advice]:
+    at = 0
+    while at < len(parts) and parts[at].kind in ('capture', 'open'):
+        at += 1
+    inner = parts[at:at + 2]
+    if len(inner) == 2 and inner[0].kind in _UNITS and _is_open(inner[1]) and 'capture' in {part.kind for part in parts[:at]}:
+        return Advice(inner[0].offset, 'a repeat stands first in the formula with nothing before it, so each later beginning is a row too: '
+                      'say what stands before it')
+    return None
+
+
+def _open_end(atom: Atom, parts: Sequence[Part]) -> Optional[Advice]:
+    at = len(parts)
+    while at and parts[at - 1].kind == 'close':
+        at -= 1
+    inner = parts[max(0, at - 2):at]
+    if len(inner) == 2 and inner[0].kind in _UNITS and _is_open(inner[1]) and b'}' in {part.text for part in parts[at:]}:
+        return Advice(inner[0].offset, 'a repeat stands last in the formula with nothing behind it, so each earlier end is a row too: '
+                      'say what stands behind it')
+    return None
+
+
+def _first_line(atom: Atom, parts: Sequence[Part]) -> Optional[Advice]:
+    if parts and parts[0].text in (rb'\n', rb'\x0a', rb'\x0A', b'\n'):
+        return Advice(parts[0].offset, r'\n stands first, and the first line of a document has none before it: add a union with ^ in its place')
+    return None
+
+
+def _edges(atom: Atom, parts: Sequence[Part]) -> Optional[Advice]:
+    at = None
+    if len(parts) > 1 and parts[0].text.startswith(b'[^') and parts[1].kind == 'capture':
+        at = parts[0]
+    elif len(parts) > 1 and parts[-1].text.startswith(b'[^') and parts[-2].text == b'}':
+        at = parts[-1]
+    if at is None:
+        return None
+    return Advice(at.offset, 'something must stand beside the capture, so what stands at the very start or end of the document is not '
+                  'found: add a union with ^ or $ in its place')
+
+
+def _quotes(atom: Atom, parts: Sequence[Part]) -> Optional[Advice]:
+    found = re.search(rb'(["\'`])!\w+\{\[\^\1[^]]*\][*+]\}\1', atom.text)
+    if found is None:
+        return None
+    return Advice(atom.offset + found.start(), 'what stands between two quoted parts is between quotes too: begin at the start of the line to '
+                  'tell them apart')
+
+
+_RULES: Sequence[Callable[[Atom, Sequence[Part]], Optional[Advice]]] = (
+    _plain_words, _named_class, _open_start, _open_end, _first_line, _edges, _quotes)
+_OF_ONE_ATOM = (_open_start, _open_end, _edges, _quotes)
+_OF_THE_ENDS = (_first_line, _edges)

@@ -1,0 +1,151 @@
+"""The program rematch: where it is, and one run of it, whose rows come as pieces of whole lines while it goes on."""
+from __future__ import annotations
+
+import os
+import subprocess
+from shutil import which
+from typing import IO, Iterator, List, Optional, Sequence, Union
+
+from .faults import ProgramError, ProgramNotFound, error_of
+
+__all__ = ['find_program', 'Run']
+
+_PIECE = 1 << 17  # bytes that are asked of the pipe at once
+_MOST_WORD = 100_000  # bytes of a query that is given as a word of the command line
+_HERE = os.path.dirname(os.path.abspath(__file__))
+
+
+def _is_program(path: str) -> bool:
+    return os.path.isfile(path) and os.access(path, os.X_OK)
+
+
+def _beside() -> Iterator[str]:
+    """Where the program may stand beside this package, or beside the file that holds it; then the checkout's."""
+    yield os.path.join(_HERE, 'bin', 'rematch')
+    above = os.path.dirname(_HERE)
+    if os.path.isfile(above):  # this package is in a zip file
+        yield os.path.join(os.path.dirname(os.path.realpath(above)), 'rematch')
+    yield os.path.join(above, '..', '..', 'crates', 'rematch', 'out', 'rematch')
+
+
+def find_program() -> str:
+    """The path of the program rematch.
+
+    It is the one that the variable REMATCH of the environment names; else one beside this package, or beside the zip
+    file that holds it; else that of the checkout that this package stands in; else the first of the path. Where there
+    is none, or REMATCH names none, it raises `ProgramNotFound`.
+
+    >>> import os
+    >>> os.access(find_program(), os.X_OK)
+    True
+    """
+    named = os.environ.get('REMATCH')
+    if named:
+        found = named if os.path.dirname(named) else which(named)
+        if found and _is_program(found):
+            return os.path.abspath(found)
+        raise ProgramNotFound(f'REMATCH names no program: {named}')
+    for path in _beside():
+        if _is_program(path):
+            return os.path.normpath(path)
+    found = which('rematch')
+    if found is None:
+        raise ProgramNotFound('there is no program rematch: not named by REMATCH, not beside this package, not in its '
+                              'checkout (./rematch builds it there), not on the path')
+    return found
+
+
+class Run:
+    """A run of the program on one open document.
+
+    Iterating gives pieces of whole lines of its output, as they come. At the end of the output the run is over, and its
+    note is `note`; a run that did not end well raises its fault then. `close` ends a run early: the program stops, and
+    nothing is left of it.
+    """
+
+    def __init__(self, program: str, query: bytes, words: Sequence[str], document: Union[None, int, IO[bytes]]) -> None:
+        self.query = query
+        self.note = ''
+        self._process = self._start(program, query, words, document)
+
+    @staticmethod
+    def _start(program: str, query: bytes, words: Sequence[str], document: Union[None, int, IO[bytes]]) -> 'subprocess.Popen[bytes]':
+        given: List[Union[str, bytes]] = [program]
+        held: Optional[int] = None
+        try:
+            query.decode('utf-8')
+            is_word = len(query) <= _MOST_WORD and b'\0' not in query
+        except UnicodeDecodeError:
+            is_word = False
+        if is_word:
+            given.append(b'-e=' + query)
+        else:
+            held = _held(query)
+            given.append(f'-q=/dev/fd/{held}')
+        given += words
+        try:
+            return subprocess.Popen(given, bufsize=0, stdin=subprocess.DEVNULL if document is None else document,
+                                    stdout=subprocess.PIPE, stderr=subprocess.PIPE, pass_fds=() if held is None else (held,))
+        except OSError as fault:
+            raise ProgramNotFound(f'the program {program} cannot be run: {fault.strerror}') from fault
+        finally:
+            if held is not None:
+                os.close(held)
+
+    def __iter__(self) -> Iterator[bytes]:
+        output = self._process.stdout
+        assert output is not None
+        rest = b''
+        while True:
+            piece = output.read(_PIECE)
+            if not piece:
+                break
+            end = piece.rfind(b'\n') + 1
+            if end:
+                lines, rest = rest + piece[:end], piece[end:]
+                yield lines
+            else:
+                rest += piece
+        self._finish(rest)
+
+    def output(self) -> bytes:
+        """All that the run writes."""
+        return b''.join(self)
+
+    def _finish(self, rest: bytes) -> None:
+        assert self._process.stderr is not None
+        told = self._process.stderr.read()
+        status = self._process.wait()
+        self.close()
+        lines = told.decode('utf-8', 'backslashreplace').splitlines()
+        note = lines[-1] if lines else ''
+        if status:
+            raise error_of(status, note, self.query)
+        if rest or not (note == 'end' or note.startswith('more ')):
+            raise ProgramError(f'{self._process.args[0]!r} ended without its note: is it rematch?', status, self.query)  # type: ignore[index]
+        self.note = note
+
+    def close(self) -> None:
+        """End the run, where it still goes on, and give back its files."""
+        process = self._process
+        if process.poll() is None:
+            process.kill()
+            process.wait()
+        for stream in (process.stdout, process.stderr):
+            if stream is not None:
+                stream.close()
+
+
+def _held(data: bytes) -> int:
+    """An open file of these bytes without a name, at its start."""
+    if hasattr(os, 'memfd_create'):
+        number = os.memfd_create('rematch', os.MFD_CLOEXEC)
+    else:
+        from tempfile import TemporaryFile
+        with TemporaryFile() as file:
+            number = os.dup(file.fileno())
+    view = memoryview(data)
+    while view:
+        view = view[os.write(number, view):]
+    os.lseek(number, 0, os.SEEK_SET)
+    return number

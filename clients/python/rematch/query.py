@@ -1,0 +1,310 @@
+"""A query, and the ways to ask it."""
+from __future__ import annotations
+
+import os
+from array import array
+from itertools import repeat
+from json import loads
+from typing import IO, Any, Dict, Iterator, List, Optional, Sequence, Tuple, Union, overload
+
+from .documents import Document, Source, open_document
+from .faults import ProgramError
+from .match import Match, Matches, Page, Row, Variables
+from .program import Run, find_program
+
+__all__ = ['Query']
+
+_COMMAS = bytes.maketrans(b'-\t\n', b',,,')
+_Bytes = Union[bytes, bytearray, memoryview, 'os.PathLike[str]', 'os.PathLike[bytes]', IO[bytes]]
+_Text = Union[str, IO[str]]
+
+
+class Query(Variables):
+    r"""A query, ready to be asked of any number of documents.
+
+    ``text`` is a query as docs/LANGUAGE.md has it, a ``str`` or UTF-8. ``filter`` has the program read only where some
+    atom touches the document, and ``max_table`` (1 to 100,000,000) is the most that the table of a reading may weigh;
+    neither changes an answer. ``program`` is the program's path, where it is not that of `find_program`.
+
+    A text that is no query raises `QueryError`, and a program that is not there `ProgramNotFound`. A query whose
+    automata are too large raises `SizeError` when it is asked.
+
+    >>> query = Query(r'/from !address{[\d.]+} port/')
+    >>> query.variables
+    ('address',)
+    >>> [match['address'] for match in query.finditer('from 192.0.2.7 port 22')]
+    ['192.0.2.7']
+
+    Each way to ask takes a document as `Document` tells, and raises `DocumentError` where it cannot be read or is longer
+    than 268,435,456 bytes, `SizeError`, `OutOfMemory`, and `ProgramError` where the program dies. A way that gives rows
+    one by one runs the program beside the caller, and waits where nobody takes rows; leaving it ends the program.
+    """
+
+    def __init__(self, text: Union[str, bytes], *, filter: bool = False, max_table: Optional[int] = None,
+                 program: Union[None, str, 'os.PathLike[str]'] = None) -> None:
+        self.text: bytes = text if isinstance(text, bytes) else text.encode('utf-8', 'surrogateescape')
+        self.program: str = find_program() if program is None else os.fspath(program)
+        self._given = (text, filter, max_table, program)
+        self._words: List[str] = ['--filter'] * bool(filter)
+        if max_table is not None:
+            if not 1 <= max_table <= 100_000_000:
+                raise ValueError(f'max_table is 1 to 100000000, not {max_table}')
+            self._words.append(f'--max-table={max_table}')
+        self.explanation: str = self._explained()
+        super().__init__(self._names())
+        self._head: bytes = '\t'.join(self.variables).encode() or b'()'
+
+    @classmethod
+    def from_file(cls, path: Union[str, 'os.PathLike[str]'], **words: Any) -> 'Query':
+        """The query that a file holds; ``words`` are those of `Query`.
+
+        >>> import tempfile
+        >>> with tempfile.NamedTemporaryFile() as file:
+        ...     size = file.write(b'/!x{a}/'), file.flush()
+        ...     Query.from_file(file.name)
+        rematch.Query('/!x{a}/')
+        """
+        with open(path, 'rb') as file:
+            return cls(file.read(), **words)
+
+    def __repr__(self) -> str:
+        return f'rematch.Query({self.text.decode("utf-8", "backslashreplace")!r})'
+
+    def __reduce__(self) -> Tuple[Any, ...]:
+        return _again, self._given
+
+    # -- What it is
+
+    def _explained(self) -> str:
+        run = Run(self.program, self.text, [*self._words, '--explain'], None)
+        try:
+            return run.output().decode('utf-8', 'backslashreplace')
+        finally:
+            run.close()
+
+    def _names(self) -> Tuple[str, ...]:
+        for line in self.explanation.split('\n'):
+            if line.startswith('variables '):
+                names = line.split(' ')[1:]
+                return () if names == ['none'] else tuple(names)  # no variable is called none
+        raise ProgramError(f'{self.program!r} does not tell the variables of the query: is it rematch?')
+
+    @property
+    def printed(self) -> str:
+        """The query as the program prints it, over bytes.
+
+        >>> Query(r'/!x{[cab]}/').printed
+        '/!x{[a-c]}/'
+        """
+        return self.explanation.split('\n', 1)[0][len('query '):]
+
+    # -- Running
+
+    def _run(self, document: Document, words: Sequence[str], keep: bool) -> Run:
+        with document.opened(keep=keep) as file:
+            return Run(self.program, self.text, [*self._words, '-f=table', *words], file)
+
+    def _pieces(self, run: Run) -> Iterator[bytes]:
+        """The lines of the rows, in pieces of whole lines; the head of the table is not among them."""
+        pieces = iter(run)
+        for lines in pieces:
+            head, _, lines = lines.partition(b'\n')
+            if head != self._head:
+                raise ProgramError(f'{self.program!r} wrote another head than the variables: {head[:80]!r}')
+            if lines:
+                yield lines
+            break
+        yield from pieces
+
+    def _numbers(self, lines: bytes) -> List[int]:
+        """The places of some lines, one after another; an absent span is -1, -1."""
+        if lines.startswith(b'-') or b'\t-' in lines or b'\n-' in lines:
+            lines = (b'\n' + lines).replace(b'\n-', b'\n~').replace(b'\t-', b'\t~')[1:]
+            listed = lines.translate(_COMMAS).replace(b'~', b'-1,-1')
+        else:
+            listed = lines.translate(_COMMAS)
+        try:
+            numbers: List[int] = loads(b'[' + listed[:-1] + b']')  # the quickest way to many numbers
+        except ValueError:
+            numbers = []
+        if len(numbers) != 2 * len(self.variables) * lines.count(b'\n'):
+            raise ProgramError(f'{self.program!r} wrote lines that are no rows: {lines[:80]!r}')
+        return numbers
+
+    def _rows(self, lines: bytes, document: Optional[Document]) -> Iterator[Row]:
+        """The rows of some lines; in bytes where no document is given, else as the document counts."""
+        if not self.variables:
+            return iter([()] * lines.count(b'\n'))
+        numbers = self._numbers(lines)
+        places = iter(numbers if document is None else document.told(numbers))
+        return zip(*[places] * (2 * len(self.variables)))
+
+    # -- Asking
+
+    @overload
+    def finditer(self, document: _Bytes, *, after: str = ..., limit: Optional[int] = ...) -> Iterator[Match[bytes]]: ...
+
+    @overload
+    def finditer(self, document: _Text, *, after: str = ..., limit: Optional[int] = ...) -> Iterator[Match[str]]: ...
+
+    @overload
+    def finditer(self, document: Document, *, after: str = ..., limit: Optional[int] = ...) -> Iterator[Match[Any]]: ...
+
+    def finditer(self, document: Source, *, after: str = 'start', limit: Optional[int] = None) -> Iterator[Match[Any]]:
+        """The rows in their order, one by one, as they come.
+
+        ``after`` is a cursor (`Match.cursor`): only rows behind it are given; a text that is no cursor of this query and
+        document raises `CursorError`. ``limit`` is the most rows. Closing the iterator, or dropping it, ends the program.
+
+        >>> rows = Query('/!x{a+}/').finditer(b'aab')
+        >>> next(rows)
+        <rematch.Match x=0-1>
+        >>> rows.close()
+        """
+        return self._matches(open_document(document), _asked(after, limit))
+
+    def _matches(self, document: Document, words: Sequence[str]) -> Iterator[Match[Any]]:
+        run = self._run(document, words, keep=True)
+        try:
+            for lines in self._pieces(run):
+                yield from map(Match, repeat(self), repeat(document), self._rows(lines, None))
+        finally:
+            run.close()
+
+    @overload
+    def findall(self, document: _Bytes, *, after: str = ..., limit: Optional[int] = ...) -> Matches[bytes]: ...
+
+    @overload
+    def findall(self, document: _Text, *, after: str = ..., limit: Optional[int] = ...) -> Matches[str]: ...
+
+    @overload
+    def findall(self, document: Document, *, after: str = ..., limit: Optional[int] = ...) -> Matches[Any]: ...
+
+    def findall(self, document: Source, *, after: str = 'start', limit: Optional[int] = None) -> Matches[Any]:
+        """The rows as a list, which a notebook shows over the document; the words are those of `finditer`.
+
+        >>> Query('/!x{a+}/').findall(b'aab')
+        [<rematch.Match x=0-1>, <rematch.Match x=0-2>, <rematch.Match x=1-2>]
+        """
+        return Matches(self.finditer(document, after=after, limit=limit))
+
+    @overload
+    def page(self, document: _Bytes, size: int, *, after: str = ...) -> Page[bytes]: ...
+
+    @overload
+    def page(self, document: _Text, size: int, *, after: str = ...) -> Page[str]: ...
+
+    @overload
+    def page(self, document: Document, size: int, *, after: str = ...) -> Page[Any]: ...
+
+    def page(self, document: Source, size: int, *, after: str = 'start') -> Page[Any]:
+        """At most ``size`` rows behind the cursor ``after``, as a list whose ``cursor`` goes on, or is None at the end.
+
+        Each page reads the document anew: pages are for going on another day, `finditer` for going on now.
+
+        >>> query = Query('/!x{a}/')
+        >>> page = query.page(b'aaa', 2)
+        >>> page, page.cursor
+        ([<rematch.Match x=0-1>, <rematch.Match x=1-2>], 'c2:3;x:1-2')
+        >>> page = query.page(b'aaa', 2, after=page.cursor)
+        >>> page, page.cursor
+        ([<rematch.Match x=2-3>], None)
+        """
+        opened = open_document(document)
+        run = self._run(opened, _asked(after, size), keep=True)
+        try:
+            page: Page[Any] = Page(Match(self, opened, row) for lines in self._pieces(run) for row in self._rows(lines, None))
+        finally:
+            run.close()
+        page.cursor = run.note[len('more '):] if run.note.startswith('more ') else None
+        return page
+
+    def any(self, document: Source, *, after: str = 'start') -> bool:
+        """Whether there is a row (behind the cursor).
+
+        >>> Query('/aba/').any(b'xxabab'), Query('/aba/').any(b'xx')
+        (True, False)
+        """
+        run = self._run(open_document(document), _asked(after, 0), keep=False)
+        try:
+            run.output()
+        finally:
+            run.close()
+        return run.note != 'end'
+
+    def count(self, document: Source) -> int:
+        """How many rows there are.
+
+        >>> Query('/!x{a*}/').count(b'aaaa')
+        15
+        """
+        run = self._run(open_document(document), (), keep=False)
+        try:
+            return sum(lines.count(b'\n') for lines in self._pieces(run))
+        finally:
+            run.close()
+
+    def rows(self, document: Source, *, after: str = 'start', limit: Optional[int] = None) -> Iterator[Row]:
+        """The rows as flat tuples, start and end of each variable in turn, -1 and -1 for an absent one.
+
+        Twice as fast as `finditer`, whose words it takes; places are counted as there.
+
+        >>> list(Query('/(!x{a})?!y{b}/').rows(b'ab'))
+        [(0, 1, 1, 2), (-1, -1, 1, 2)]
+        """
+        return self._flat(open_document(document), _asked(after, limit))
+
+    def _flat(self, document: Document, words: Sequence[str]) -> Iterator[Row]:
+        run = self._run(document, words, keep=False)
+        try:
+            for lines in self._pieces(run):
+                yield from self._rows(lines, document)
+        finally:
+            run.close()
+
+    def columns(self, document: Source) -> 'Dict[str, Tuple[array[int], array[int]]]':
+        """For each variable the starts and the ends of all rows, as arrays of 64-bit numbers; -1 where it is absent.
+
+        ``numpy.asarray`` takes such an array without copying it.
+
+        >>> Query('/(!x{a})?!y{b}/').columns(b'ab')
+        {'x': (array('q', [0, -1]), array('q', [1, -1])), 'y': (array('q', [1, 1]), array('q', [2, 2]))}
+        """
+        opened = open_document(document)
+        flat = array('q')
+        run = self._run(opened, (), keep=False)
+        try:
+            for lines in self._pieces(run):
+                if self.variables:
+                    flat.extend(opened.told(self._numbers(lines)))
+        finally:
+            run.close()
+        step = 2 * len(self.variables)
+        return {name: (flat[at::step], flat[at + 1::step]) for name, at in self._index.items()}
+
+    def table(self, document: Source) -> Dict[str, Sequence[Any]]:
+        """The rows as columns of one table: of each variable x the columns ``x_start``, ``x_end`` and ``x``, its text.
+
+        ``pandas.DataFrame`` takes it as it is. An absent variable has -1, -1 and None.
+
+        >>> Query('/(!x{a})?!y{b}/').table('ab')
+        {'x_start': array('q', [0, -1]), 'x_end': array('q', [1, -1]), 'x': ['a', None],
+         'y_start': array('q', [1, 1]), 'y_end': array('q', [2, 2]), 'y': ['b', 'b']}
+        """
+        opened = open_document(document)
+        opened.data  # read once, so that places and texts are of the same bytes
+        table: Dict[str, Sequence[Any]] = {}
+        for name, (starts, ends) in self.columns(opened).items():
+            table[name + '_start'], table[name + '_end'] = starts, ends
+            table[name] = [None if start < 0 else opened.text(start, end) for start, end in zip(starts, ends)]
+        return table
+
+
+def _asked(after: str, limit: Optional[int]) -> List[str]:
+    if limit is not None and limit < 0:
+        raise ValueError(f'a limit is 0 or more, not {limit}')
+    return [f'-a={after}'] + ([] if limit is None else [f'-n={limit}'])
+
+
+def _again(text: Union[str, bytes], filter: bool, max_table: Optional[int], program: Optional[str]) -> Query:
+    return Query(text, filter=filter, max_table=max_table, program=program)

@@ -1,0 +1,187 @@
+"""Records of FASTA searched as sequences: lines put together, in capitals, on both strands; rows as BED and GFF.
+
+All records of a strand are one document, each on a line of its own with a line feed before and behind it, so one run
+searches them all. A line of a file of sequences is wrapped anywhere and may be in small letters, which hides places from a
+search of the file as it is.
+"""
+from __future__ import annotations
+
+from bisect import bisect_right
+from typing import Callable, Iterable, Iterator, List, NamedTuple, Optional, Sequence, TextIO
+from urllib.parse import quote
+
+from .documents import Document
+from .faults import DocumentError
+from .match import Row
+from .query import Query
+from ._reach import NoReach
+
+__all__ = ['Record', 'Site', 'frame_of', 'other_strand', 'records_of', 'sites', 'write_bed', 'write_gff']
+
+_BATCH = 200_000_000  # bytes of records that one run searches
+_OTHER = bytes.maketrans(b'ACGTURYKMBVDHSWN', b'TGCAAYRMKVBHDSWN')
+_OTHER_RNA = bytes.maketrans(b'ACGURYKMBVDHSWN', b'UGCAYRMKVBHDSWN')
+
+
+class Record(NamedTuple):
+    """A sequence of a file: the first word of its head, and its letters, in capitals."""
+
+    name: str
+    letters: bytes
+
+
+class Site(NamedTuple):
+    """A row in a record. Places count letters of the forward strand from 0; absent spans are -1, -1."""
+
+    record: Record
+    strand: str
+    row: Row
+
+    def spans(self, names: Sequence[str]) -> List['Named']:
+        """The spans that are there, by their places."""
+        places = iter(self.row)
+        return sorted((Named(start, end, name) for name, start, end in zip(names, places, places) if start >= 0))
+
+
+class Named(NamedTuple):
+    """A span of a variable."""
+
+    start: int
+    end: int
+    name: str
+
+
+def records_of(data: bytes) -> List[Record]:
+    """The records of a file of sequences; `DocumentError` where it has none.
+
+    >>> records_of(b'>r1 one\\nGAT\\r\\ntaca\\n>r2\\n')
+    [Record(name='r1', letters=b'GATTACA'), Record(name='r2', letters=b'')]
+    """
+    found = []
+    for part in (b'\n' + data).split(b'\n>')[1:]:
+        head, _, letters = part.partition(b'\n')
+        words = head.split()
+        if b';' in letters:
+            letters = b'\n'.join(line for line in letters.split(b'\n') if not line.startswith(b';'))
+        found.append(Record(words[0].decode('utf-8', 'backslashreplace') if words else '', letters.translate(None, b' \t\r\n').upper()))
+    if not found:
+        raise DocumentError('no record of FASTA, which begins with > at the start of a line', 5)
+    return found
+
+
+def other_strand(letters: bytes) -> bytes:
+    """The letters of the other strand, from its own beginning; those of RNA where there is a U and no T.
+
+    >>> other_strand(b'GATTACAN'), other_strand(b'GAUC')
+    (b'NTGTAATC', b'GAUC')
+    """
+    is_rna = b'U' in letters and b'T' not in letters
+    return letters.translate(_OTHER_RNA if is_rna else _OTHER)[::-1]
+
+
+def frame_of(site: Site, start: int, end: int) -> str:
+    """The reading frame in which a span of the site begins: +1, +2, +3, or -1, -2, -3 counted on the other strand.
+
+    >>> frame_of(Site(Record('r', b'ACGTACGT'), '-', ()), 1, 7)
+    '-2'
+    """
+    at = start if site.strand == '+' else len(site.record.letters) - end
+    return f'{site.strand}{at % 3 + 1}'
+
+
+def sites(query: Query, data: bytes, *, both: bool = True, left_out: Optional[Callable[[int], None]] = None) -> Iterator[Site]:
+    """The rows in the records of a file, on the forward strand and then, with ``both``, on the other.
+
+    ``left_out`` is told how many rows were left out since their spans lie in several records or none. A query with an
+    anchor, which would speak of all records together, raises `NoReach`.
+
+    >>> [(site.record.name, site.strand, site.row) for site in sites(Query('/!m{TTAC}/'), b'>r1\\nGAT\\nTACA\\n>r2\\ntgtaatc\\n')]
+    [('r1', '+', (2, 6)), ('r2', '-', (1, 5))]
+    """
+    if _has_anchor(query):
+        raise NoReach(r'an anchor would speak of all records together: a record has \n before it and behind it')
+    records = records_of(data)
+    lost = 0
+    for strand in '+-' if both else '+':
+        for batch in _batches(records):
+            for site in _sites_of(query, batch, strand):
+                if site is None:
+                    lost += 1
+                else:
+                    yield site
+    if lost and left_out is not None:
+        left_out(lost)
+
+
+def _has_anchor(query: Query) -> bool:
+    from .formula import atoms_of, parts_of
+    return any(part.kind == 'anchor' for atom in atoms_of(query.printed.encode()) for part in parts_of(atom))
+
+
+def _batches(records: Sequence[Record]) -> Iterator[Sequence[Record]]:
+    batch: List[Record] = []
+    size = 0
+    for record in records:
+        if batch and size + len(record.letters) > _BATCH:
+            yield batch
+            batch, size = [], 0
+        batch.append(record)
+        size += len(record.letters) + 1
+    yield batch
+
+
+def _sites_of(query: Query, records: Sequence[Record], strand: str) -> Iterator[Optional[Site]]:
+    lines = [record.letters if strand == '+' else other_strand(record.letters) for record in records]
+    starts, at = [], 1
+    for line in lines:
+        starts.append(at)
+        at += len(line) + 1
+    for row in query.rows(b'\n' + b''.join([line + b'\n' for line in lines])):
+        places = [place for place in row if place >= 0]
+        k = bisect_right(starts, min(places, default=0)) - 1
+        if not places or k < 0 or max(places) > starts[k] + len(lines[k]):
+            yield None
+            continue
+        yield Site(records[k], strand, _on_record(row, starts[k], len(lines[k]), strand))
+
+
+def _on_record(row: Row, start: int, length: int, strand: str) -> Row:
+    """The row with places of its record, on the forward strand."""
+    if strand == '+':
+        return tuple([place if place < 0 else place - start for place in row])
+    turned: List[int] = []
+    places = iter(row)
+    for first, last in zip(places, places):
+        turned += (-1, -1) if first < 0 else (length - (last - start), length - (first - start))
+    return tuple(turned)
+
+
+# -- What is written
+
+def write_bed(found: Iterable[Site], names: Sequence[str], out: TextIO, *, frames: bool = False) -> None:
+    """BED of twelve columns, from 0: a row is a line whose spans are its blocks; where they overlap or are empty, a line a span.
+
+    The name is that of the variables, with a point and the number of the row where it has several lines, and with the frame
+    behind it where ``frames`` are asked for.
+    """
+    for number, site in enumerate(found, 1):
+        spans = site.spans(names)
+        are_apart = all(a.end <= b.start for a, b in zip(spans, spans[1:])) and all(span.start < span.end for span in spans)
+        for group in ([spans] if are_apart or len(spans) == 1 else [[span] for span in spans]):
+            start, end = group[0].start, max(span.end for span in group)
+            name = '+'.join(span.name for span in group) + ('' if len(group) == len(spans) else f'.{number}')
+            name += f'({frame_of(site, start, end)})' if frames else ''
+            sizes = ','.join(str(span.end - span.start) for span in group)
+            begins = ','.join(str(span.start - start) for span in group)
+            out.write(f'{site.record.name}\t{start}\t{end}\t{name}\t0\t{site.strand}\t{start}\t{end}\t0\t{len(group)}\t{sizes}\t{begins}\n')
+
+
+def write_gff(found: Iterable[Site], names: Sequence[str], out: TextIO) -> None:
+    """GFF3, from 1: a line a span, with the number of its row and its frame. An empty span stands right of its place."""
+    out.write('##gff-version 3\n')
+    for number, site in enumerate(found, 1):
+        for span in site.spans(names):
+            empty = ';empty=1' if span.start == span.end else ''
+            start = max(1, span.start) if empty else span.start + 1
+            out.write(f'{quote(site.record.name, safe=".:^*$@!+_?|-")}\trematch\tsequence_feature\t{start}\t{max(start, span.end)}\t.\t{site.strand}\t.\t'
+                      f'Name={span.name};row={number};frame={frame_of(site, span.start, span.end)}{empty}\n')

@@ -1,0 +1,408 @@
+"""Many queries of small documents, and documents that grow, in one run of the program: ``rematch --serve``.
+
+A request is a line of JSON, and so is its reply. A document is UTF-8 here; its rows come without their texts, so the client
+keeps it.
+"""
+from __future__ import annotations
+
+import json
+import subprocess
+import threading
+from array import array
+from itertools import accumulate
+from typing import Any, Dict, Iterator, List, Optional, Union
+
+from .documents import _BEGINS, Document
+from .faults import DocumentError, OutOfMemory, ProgramError, ProgramNotFound, QueryError, RematchError, SizeError, error_of
+from .match import Match, Matches, Row, Variables
+from .program import find_program
+
+__all__ = ['Server', 'Served', 'Session', 'SessionError']
+
+_LONGEST = 1_048_576  # bytes of a request
+_MOST_ROWS = 1000  # of one request
+_PART = 150_000  # characters of a document that are sent at once where it does not fit one request
+_WAITED = 10  # seconds that a server has to end once its input has ended
+
+_Text = Union[str, bytes]
+
+
+class SessionError(RematchError, RuntimeError):
+    """A request that the server refuses: the session is not open, or 64 are open already."""
+
+
+def _fault(told: str, query: bytes) -> RematchError:
+    if told.startswith('query: '):
+        return QueryError(told, 3, query)
+    if told.startswith('size: '):
+        fault = SizeError(told, 4, query)
+        if 'table' in told:
+            fault.hint = 'a session has this limit; Query takes max_table'
+        return fault
+    if told == 'memory':
+        return OutOfMemory('out of memory', 9, query)
+    if told == 'long':
+        return DocumentError('document longer than 16777216 bytes', 6, query)
+    return SessionError({'full': '64 sessions are open', 'not open': 'the session is not open',
+                         'request': 'the server does not know this request'}.get(told, told), None, query)
+
+
+class Server:
+    """A program that answers many queries, one after another or several at a time, and ends with the ``with`` block.
+
+    ``program`` is its path, where it is not that of `find_program`. Threads may share a server: requests are answered one
+    by one. A server that dies raises `ProgramError` at the next request. A program without sessions raises it too.
+
+    >>> with Server() as server:
+    ...     query = server.query('/!x{a+}/')
+    ...     print([match['x'] for match in query.finditer('aab')])
+    ['a', 'aa', 'a']
+    """
+
+    def __init__(self, program: Optional[str] = None) -> None:
+        self.program = find_program() if program is None else program
+        self._lock = threading.Lock()
+        self._numbers = 0
+        try:
+            self._process = subprocess.Popen([self.program, '--serve'], stdin=subprocess.PIPE, stdout=subprocess.PIPE, stderr=subprocess.PIPE)
+        except OSError as fault:
+            raise ProgramNotFound(f'the program {self.program} cannot be run: {fault.strerror}') from fault
+
+    def __enter__(self) -> 'Server':
+        return self
+
+    def __exit__(self, *fault: Any) -> None:
+        self.close()
+
+    def __del__(self) -> None:
+        process = getattr(self, '_process', None)
+        if process is not None and process.poll() is None:
+            process.kill()
+            process.wait()
+            self._release()
+
+    def close(self) -> None:
+        """End the server, and all its sessions. A server that has died raises its fault."""
+        with self._lock:
+            process = self._process
+            if process.stdin is None or process.stdin.closed:
+                return
+            try:
+                process.stdin.close()
+            except BrokenPipeError:
+                pass
+            try:
+                process.wait(_WAITED)
+            except subprocess.TimeoutExpired:
+                process.kill()
+            self._end()
+
+    def _end(self) -> None:
+        """Waits for the program's end, and raises its fault where it did not end well."""
+        assert self._process.stderr is not None
+        told = self._process.stderr.read().decode('utf-8', 'backslashreplace').strip()
+        status = self._process.wait()
+        self._release()
+        if status == 2:
+            raise ProgramError(f'{self.program!r} knows no sessions (--serve)', status)
+        if status:
+            raise error_of(status, told)
+        if told != 'end':
+            raise ProgramError(f'{self.program!r} ended without its note: does it know --serve?')
+
+    def _release(self) -> None:
+        for stream in (self._process.stdin, self._process.stdout, self._process.stderr):
+            if stream is not None:
+                try:
+                    stream.close()
+                except BrokenPipeError:
+                    pass
+
+    def _ask(self, request: Dict[str, Any], query: bytes) -> Dict[str, Any]:
+        """The reply to a request; an error reply is raised."""
+        line = _line(request)
+        if len(line) > _LONGEST:
+            raise DocumentError(f'request longer than {_LONGEST} bytes', 6, query)
+        with self._lock:
+            process = self._process
+            if process.stdin is None or process.stdin.closed:
+                raise SessionError('the server is closed', None, query)
+            assert process.stdout is not None
+            try:
+                process.stdin.write(line + b'\n')
+                process.stdin.flush()
+                reply = process.stdout.readline()
+            except BrokenPipeError:
+                reply = b''
+            if not reply.endswith(b'\n'):
+                self._end()
+                raise ProgramError(f'{self.program!r} ended before it answered')
+        try:
+            found: Dict[str, Any] = json.loads(reply)
+            told = found.get('error')
+            has_id = told == 'request' or found['id'] == request['id']
+        except (ValueError, AttributeError, KeyError):
+            raise ProgramError(f'{self.program!r} wrote a line that is no reply: {reply[:80]!r}') from None
+        if not has_id:
+            raise ProgramError(f'{self.program!r} answered another request: {reply[:80]!r}')
+        if told is not None:
+            raise _fault(told, query)
+        return found
+
+    def _number(self) -> int:
+        with self._lock:
+            self._numbers = (self._numbers + 1) % (1 << 32)
+            return self._numbers
+
+    # -- What is asked
+
+    def query(self, text: _Text) -> 'Served':
+        """A query that this server answers. A text that is no query raises `QueryError`, one that is too large `SizeError`.
+
+        >>> with Server() as server:
+        ...     server.query('/!x{a}/').variables
+        ('x',)
+        """
+        return Served(self, text)
+
+    def open(self, text: _Text, document: _Text = '') -> 'Session':
+        """A session: a query on a document that may grow. The document is a ``str``, whose places count characters, or UTF-8.
+
+        Raises `QueryError`, `SizeError`, `DocumentError` for a document that is no UTF-8 or has more than 16,777,216 bytes, and
+        `SessionError` where 64 sessions are open.
+
+        >>> with Server() as server, server.open('/!x{a}/', 'ba') as session:
+        ...     session.next()
+        [<rematch.Match x=1-2>]
+        """
+        return Session(self, text, document)
+
+
+def _line(request: Dict[str, Any]) -> bytes:
+    return json.dumps(request, ensure_ascii=False, separators=(',', ':')).encode('utf-8')
+
+
+def _decoded(part: _Text) -> str:
+    try:
+        if isinstance(part, str):
+            part.encode('utf-8')
+            return part
+        return bytes(part).decode('utf-8')
+    except UnicodeError as fault:
+        raise DocumentError(f'a document of a session is UTF-8: {fault}', 5) from None
+
+
+class _Kept:
+    """The document of a session, which only grows, in parts that are put together when a text is asked for."""
+
+    def __init__(self, is_text: bool) -> None:
+        self.is_text = is_text
+        self.parts: List[Any] = ['' if is_text else b'']
+        self.length = 0  # in bytes
+        self.places: 'Optional[array[int]]' = None  # of a text that is not ASCII, without the -1 at the end
+
+    def append(self, part: _Text) -> None:
+        data = part.encode('utf-8') if isinstance(part, str) else part
+        if self.is_text and (self.places is not None or len(data) != len(part)):
+            if self.places is None:
+                self.places = array('i', range(self.length + 1))
+            before = self.places[-1]
+            found = accumulate(data.translate(_BEGINS), initial=before)
+            next(found)
+            self.places.extend(found)
+        self.length += len(data)
+        self.parts.append(part)
+
+    def whole(self) -> Any:
+        if len(self.parts) > 1:
+            self.parts[:] = [self.parts[0][:0].join(self.parts)]
+        return self.parts[0]
+
+
+class _Grown(Document):
+    """The document of a session as it was when a row was given."""
+
+    __slots__ = ('_kept', '_bytes')
+
+    def __init__(self, kept: _Kept) -> None:
+        super().__init__(b'')
+        self._kept = kept
+        self._bytes = kept.length
+        self._places = kept.places
+
+    @property
+    def data(self) -> bytes:
+        """The bytes of the document."""
+        whole = self._kept.whole()
+        return (whole.encode('utf-8') if self._kept.is_text else whole)[:self._bytes]  # type: ignore[no-any-return]
+
+    @property
+    def length(self) -> int:
+        """The number of bytes."""
+        return self._bytes
+
+    def __len__(self) -> int:
+        return self._bytes if self._places is None else self._places[self._bytes]
+
+    def text(self, start: int, end: int) -> _Text:
+        """What stands from one place to another, both as they are told."""
+        return self._kept.whole()[start:end]  # type: ignore[no-any-return]
+
+
+class Session:
+    """A query on a document that may grow, answered by a server. Iterating gives the rows that are left, as `next` does.
+
+    ``variables`` are those of the query. Leaving the ``with`` block, or closing the server, closes the session.
+    """
+
+    def __init__(self, server: Server, text: _Text, document: _Text) -> None:
+        self._server = server
+        self._query = text if isinstance(text, bytes) else text.encode('utf-8', 'surrogateescape')
+        self._number = server._number()
+        self._kept = _Kept(isinstance(document, str))
+        self._is_open = False
+        self.more = True
+        """Whether rows may be left; False once the last one was given."""
+        shown = _decoded(document)
+        try:
+            asked = self._query.decode('utf-8')
+        except UnicodeDecodeError as fault:
+            raise QueryError(f'query: not UTF-8 at {fault.start}', 3, self._query) from None
+        request = {'op': 'open', 'id': self._number, 'query': asked, 'doc': shown}
+        is_short = len(shown) < _LONGEST and len(_line(request)) <= _LONGEST
+        if not is_short:
+            request['doc'] = ''
+        reply = server._ask(request, self._query)
+        self._is_open = True
+        self._named = Variables(reply['variables'])
+        self.variables = self._named.variables
+        if is_short:
+            self._kept.append(document)
+        else:
+            try:
+                self.append(document)
+            except BaseException:
+                self.close()
+                raise
+        self._document = _Grown(self._kept)
+
+    def __enter__(self) -> 'Session':
+        return self
+
+    def __exit__(self, *fault: Any) -> None:
+        self.close()
+
+    @property
+    def length(self) -> int:
+        """The number of bytes of the document."""
+        return self._kept.length
+
+    def _ask(self, **request: Any) -> Dict[str, Any]:
+        if not self._is_open:
+            raise SessionError('the session is not open', None, self._query)
+        try:
+            return self._server._ask({**request, 'id': self._number}, self._query)
+        except (SizeError, OutOfMemory):
+            self._is_open = False  # the server has closed it
+            raise
+
+    def next(self, most: int = _MOST_ROWS) -> Matches[Any]:
+        """The next rows, at most so many (1 to 1,000), or all that are left; after `append` they begin anew at the first.
+
+        ``more`` then tells whether rows are left.
+
+        >>> with Server() as server, server.open('/!x{a+}/', 'aa') as session:
+        ...     session.next(2), session.more, session.next(2), session.more
+        ([<rematch.Match x=0-1>, <rematch.Match x=0-2>], True, [<rematch.Match x=1-2>], False)
+        """
+        if not 1 <= most <= _MOST_ROWS:
+            raise ValueError(f'a request gives 1 to {_MOST_ROWS} rows, not {most}')
+        reply = self._ask(op='next', n=most)
+        self.more = reply['more']
+        return Matches(Match(self._named, self._document, self._row(row)) for row in reply['rows'])
+
+    def _row(self, told: Dict[str, Optional[List[int]]]) -> Row:
+        return tuple([place for name in self.variables for place in (told[name] or (-1, -1))])
+
+    def __iter__(self) -> Iterator[Match[Any]]:
+        while self.more:
+            yield from self.next()
+
+    def append(self, text: _Text) -> None:
+        """Let the document grow at its end, by a ``str`` or by UTF-8, as it began; its rows begin anew at the first.
+
+        A document that would have more than 16,777,216 bytes raises `DocumentError`, and stays as it was.
+
+        >>> with Server() as server, server.open('/!x{ab}/', 'a') as session:
+        ...     session.append('b')
+        ...     session.next(), session.length
+        ([<rematch.Match x=0-2>], 2)
+        """
+        if isinstance(text, str) != self._kept.is_text:
+            raise TypeError('a document that began as a str grows by a str, and one of bytes by bytes')
+        shown = _decoded(text)
+        if self._kept.length + len(shown.encode('utf-8')) > 16_777_216:
+            raise _fault('long', self._query)
+        for at in range(0, max(1, len(shown)), _PART):
+            part = shown[at:at + _PART]
+            reply = self._ask(op='grow', text=part)
+            self._kept.append(part if self._kept.is_text else part.encode('utf-8'))
+            if reply['bytes'] != self._kept.length:
+                raise ProgramError(f'the server has {reply["bytes"]} bytes of the document, and not {self._kept.length}')
+        self.more = True
+        self._document = _Grown(self._kept)
+
+    def close(self) -> None:
+        """Close the session; closing it again does nothing."""
+        if self._is_open:
+            self._is_open = False
+            if self._server._process.stdin is not None and not self._server._process.stdin.closed:
+                self._server._ask({'op': 'close', 'id': self._number}, self._query)
+
+
+class Served(Variables):
+    """A query that a server answers; rows and faults are those of `Query`, and documents are a ``str`` or UTF-8."""
+
+    def __init__(self, server: Server, text: _Text) -> None:
+        self.text = text
+        self._server = server
+        with server.open(text) as session:
+            super().__init__(session.variables)
+
+    def finditer(self, document: _Text) -> Iterator[Match[Any]]:
+        """The rows in their order, one by one; closing the iterator closes its session.
+
+        >>> with Server() as server:
+        ...     [match['x'] for match in server.query('/!x{é.}/u').finditer('éa')]
+        ['éa']
+        """
+        with self._server.open(self.text, document) as session:
+            yield from session
+
+    def findall(self, document: _Text) -> Matches[Any]:
+        """The rows as a list.
+
+        >>> with Server() as server:
+        ...     server.query('/!x{a}/').findall(b'ba')
+        [<rematch.Match x=1-2>]
+        """
+        return Matches(self.finditer(document))
+
+    def any(self, document: _Text) -> bool:
+        """Whether there is a row.
+
+        >>> with Server() as server:
+        ...     server.query('/a/').any('ba'), server.query('/a/').any('b')
+        (True, False)
+        """
+        with self._server.open(self.text, document) as session:
+            return bool(session.next(1))
+
+    def count(self, document: _Text) -> int:
+        """How many rows there are.
+
+        >>> with Server() as server:
+        ...     server.query('/!x{a*}/').count('aa')
+        6
+        """
+        return sum(1 for _ in self.finditer(document))

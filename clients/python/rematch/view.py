@@ -1,0 +1,301 @@
+"""Rows over their document, as HTML: overlapping spans are bars in lanes below the text, and the rows are listed under it.
+
+No script, server or library is needed. The text stays inline elements with one background layer a lane, so that the
+browser shapes, orders and wraps it as if nothing were there. Each row that begins on a line is listed below it with its
+spans, so that it is seen what belongs together; pointing at one lights it up where scripts run.
+"""
+from __future__ import annotations
+
+import unicodedata
+from bisect import bisect_left, bisect_right
+from html import escape
+from typing import Dict, Iterable, List, NamedTuple, Optional, Sequence, Tuple
+
+from .documents import Document
+from .match import Row
+
+__all__ = ['fragment', 'page']
+
+_LIGHT = ['#0b7285', '#c2255c', '#2b8a3e', '#d9480f', '#5f3dc4', '#1864ab', '#a61e4d', '#5c940d']
+_DARK = ['#3bc9db', '#f783ac', '#69db7c', '#ffa94d', '#b197fc', '#74c0fc', '#faa2c1', '#c0eb75']
+_STEP, _BAR, _LINE = 7, 4, 24  # pixels: from lane to lane, of a bar, of a line of text
+_MOST_LANES = 12
+_LISTED = 8  # rows of a line that are listed before the others are folded
+_LONG, _KEPT = 400, 120  # signs without a span that are folded, and those that are kept at either end
+_TEXT = 60  # signs of a span's text in the list of rows
+
+
+def _colours(names: Sequence[str]) -> str:
+    return ''.join(f'--rm{k}:{colour};' for k, colour in enumerate(names))
+
+
+_STYLE = ('''
+.rm{font:15px/1.4 system-ui,sans-serif;''' + _colours(_LIGHT) + '''--rm-dim:#868e96;--rm-rule:#e9ecef;--rm-lit:#ffe066}
+.rm-key b{display:inline-block;width:1.6em;height:.5em;border-radius:2px;margin:0 .3em 0 1em}
+.rm-line{display:flex;border-top:1px solid var(--rm-rule);padding:.2em 0;overflow:hidden}
+.rm-no{flex:none;width:4.5em;color:var(--rm-dim);font:12px/24px ui-monospace,monospace;text-align:right;padding-right:1em;user-select:none}
+.rm-text{font:15px/24px ui-monospace,"DejaVu Sans Mono","Noto Sans Mono",monospace;white-space:pre-wrap;overflow-wrap:anywhere;flex:1;min-width:0}
+.rm-s{background-repeat:no-repeat}
+.rm-e{border-left:2px solid}
+.rm-more,.rm-fold{color:var(--rm-dim);font:11px system-ui,sans-serif}
+.rm-skip{color:var(--rm-dim);font:12px system-ui,sans-serif;padding:.4em 0 .4em 5.5em;border-top:1px solid var(--rm-rule)}
+.rm-rows{margin:0 0 .5em 5.5em;padding:0;list-style:none;font-size:12px}
+.rm-rows .rm-rows{margin-left:0}
+.rm-rows li{display:inline-block;margin:0 1.2em .1em 0}
+.rm-rows li>b{color:var(--rm-dim);font-weight:normal;margin-right:.5em}
+.rm-rows i{display:inline-block;width:.7em;height:.7em;border-radius:2px;margin:0 .3em 0 .6em;font-style:normal}
+.rm-rows code{font-family:ui-monospace,"DejaVu Sans Mono",monospace}
+.rm-rows summary{color:var(--rm-dim);cursor:pointer}
+.rm-lit{background-color:var(--rm-lit);border-radius:2px}
+@media (prefers-color-scheme:dark){.rm{''' + _colours(_DARK) + '''--rm-dim:#adb5bd;--rm-rule:#343a40;--rm-lit:#5c4a00}}
+''')
+_PAGE_STYLE = '''
+:root{color-scheme:light dark}
+body{margin:2em auto;max-width:72em;padding:0 1em;color:#212529;background:#fff;font-family:system-ui,sans-serif}
+h1{font-size:1.3em}
+@media (prefers-color-scheme:dark){body{color:#dee2e6;background:#16191d}}
+'''
+_SCRIPT = '''
+document.addEventListener('mouseover',e=>{document.querySelectorAll('.rm-lit').forEach(x=>x.classList.remove('rm-lit'));
+const t=e.target.closest('[data-r]');if(!t)return;const v=t.closest('.rm');
+t.dataset.r.split(' ').forEach(r=>v.querySelectorAll('[data-r~="'+r+'"]').forEach(x=>x.classList.add('rm-lit')))});
+'''
+
+
+class _Bar(NamedTuple):
+    """A span, or the part of it on one line: bytes from ``start`` to ``end``, of variable ``name`` (its number)."""
+
+    start: int
+    end: int
+    name: int
+    begins: bool  # whether the span begins on this line
+    ends: bool
+    rows: Tuple[int, ...]  # the rows that have the span
+
+
+class _Lines:
+    """Where the lines of a document begin and end, its line feeds included."""
+
+    def __init__(self, data: bytes) -> None:
+        self.starts = [0]
+        at = data.find(b'\n')
+        while at >= 0:
+            self.starts.append(at + 1)
+            at = data.find(b'\n', at + 1)
+        if len(self.starts) > 1 and self.starts[-1] == len(data):
+            self.starts.pop()
+        self.ends = self.starts[1:] + [len(data)]
+
+    def of(self, start: int, end: int) -> range:
+        """The lines on which a span lies."""
+        first = max(0, bisect_right(self.starts, start) - 1)
+        return range(first, first + 1 if end == start else bisect_left(self.starts, end))
+
+
+def lanes(bars: Sequence[Tuple[int, int]], most: int = _MOST_LANES) -> List[Optional[int]]:
+    """A lane for each bar, in the order of starts: the lowest that is free; None where all ``most`` are taken.
+
+    >>> lanes([(0, 4), (0, 2), (2, 5), (4, 6)], 2)
+    [0, 1, 1, 0]
+    >>> lanes([(0, 4), (0, 3), (0, 2)], 2)
+    [0, 1, None]
+    """
+    ends: List[int] = []
+    found: List[Optional[int]] = []
+    for start, end in bars:
+        end = max(end, start + 1)
+        lane = next((lane for lane, until in enumerate(ends) if until <= start), None)
+        if lane is not None:
+            ends[lane] = end
+        elif len(ends) < most:
+            lane = len(ends)
+            ends.append(end)
+        found.append(lane)
+    return found
+
+
+_SIGNS = {'\t': '→', '\n': '↵', '\r': '␍'}
+
+
+def _shown(part: bytes) -> str:
+    """The text of bytes, in HTML: what is no text as its bytes, what is not seen as a sign."""
+    text = part.decode('utf-8', 'backslashreplace')
+    if not text.isprintable():
+        text = ''.join(sign if sign.isprintable() or unicodedata.category(sign) in ('Cf', 'Zs') else _SIGNS.get(sign, '·') for sign in text)
+    return escape(text)
+
+
+class _View:
+    def __init__(self, document: Document, names: Sequence[str], rows: Sequence[Row]) -> None:
+        self.data: bytes = document.data  # type: ignore[assignment]
+        self.document = document
+        self.names = names
+        self.rows = rows
+        self.lines = _Lines(self.data)
+
+    def told(self, start: int, end: int) -> str:
+        places = self.document.places
+        return f'{start}–{end}' if places is None else f'{places[start]}–{places[end]}'
+
+    # -- Bars
+
+    def bars(self) -> Dict[int, List[_Bar]]:
+        """The bars of each line that has some. Equal spans of one variable are one bar."""
+        spans: Dict[Tuple[int, int, int], List[int]] = {}
+        for number, row in enumerate(self.rows):
+            for name in range(len(self.names)):
+                if row[2 * name] >= 0:
+                    spans.setdefault((row[2 * name], -row[2 * name + 1], name), []).append(number)
+        found: Dict[int, List[_Bar]] = {}
+        for (start, end, name), rows in sorted(spans.items()):
+            for line in self.lines.of(start, -end):
+                first, last = self.lines.starts[line], self.lines.ends[line]
+                bar = _Bar(max(start, first), min(-end, last), name, start >= first, -end <= last, tuple(rows))
+                found.setdefault(line, []).append(bar)
+        return found
+
+    # -- Parts of the page
+
+    def body(self, context: int) -> Iterable[str]:
+        bars = self.bars()
+        begun: Dict[int, List[int]] = {}
+        for number, row in enumerate(self.rows):
+            first = min((start for start in row[::2] if start >= 0), default=0)
+            begun.setdefault(self.lines.of(first, first)[0], []).append(number)
+        near = {line for at in bars for line in range(at - context, at + context + 1)} | set(begun)
+        before = -1
+        for line in sorted(near & set(range(len(self.lines.starts)))):
+            if line != before + 1:
+                yield _skipped(line - before - 1)
+            before = line
+            yield self.line(line, sorted(bars.get(line, []), key=lambda bar: (bar.start, -bar.end)))
+            yield self.listed(begun.get(line, []))
+        if before + 1 < len(self.lines.starts):
+            yield _skipped(len(self.lines.starts) - before - 1)
+
+    def line(self, line: int, bars: Sequence[_Bar]) -> str:
+        start, end = self.lines.starts[line], self.lines.ends[line]
+        number = f'<div class="rm-no" title="{self.told(start, end)}">{line + 1}</div>'
+        placed = lanes([(bar.start, bar.end) for bar in bars])
+        deep = (max((lane for lane in placed if lane is not None), default=-1) + 1) * _STEP + 3 if bars else 0
+        hidden = placed.count(None)
+        more = f' <span class="rm-more">+{hidden} spans in more lanes</span>' if hidden else ''
+        high = f' style="line-height:{_LINE + 2 * deep}px;margin-top:-{deep}px"' if bars else ''
+        return (f'<div class="rm-line">{number}<div class="rm-text" dir="auto"{high}>'
+                f'{"".join(self.pieces(start, end, bars, placed, deep))}{more}</div></div>\n')
+
+    def pieces(self, start: int, end: int, bars: Sequence[_Bar], placed: Sequence[Optional[int]], deep: int) -> Iterable[str]:
+        """The text of a line from bar end to bar end; each piece has a background layer for each bar over it."""
+        feed = self.data[end - 1:end] == b'\n' and end > start and not any(bar.end == end and bar.end > bar.start for bar in bars)
+        stop = end - 1 if feed else end
+        seen = [(bar, lane) for bar, lane in zip(bars, placed) if lane is not None]
+        cuts = sorted({start, stop, *(min(place, stop) for bar, _ in seen for place in (bar.start, bar.end))})
+        over: List[Tuple[_Bar, int]] = []
+        coming = 0
+        for at, place in enumerate(cuts):
+            over = [(bar, lane) for bar, lane in over if bar.end > place]
+            while coming < len(seen) and min(seen[coming][0].start, stop) <= place:
+                bar, lane = seen[coming]
+                coming += 1
+                if bar.start == bar.end:
+                    yield (f'<span class="rm-e" style="border-color:var(--rm{bar.name % len(_LIGHT)})" title="{self.title(bar)}" '
+                           f'data-r="{_numbers(bar)}"></span>')
+                else:
+                    over.append((bar, lane))
+            if at + 1 < len(cuts):
+                yield self.piece(place, cuts[at + 1], over, deep)
+
+    def piece(self, start: int, end: int, over: Sequence[Tuple[_Bar, int]], deep: int) -> str:
+        part = self.data[start:end]
+        if not over:
+            return _folded(part)
+        text = _shown(part)
+        is_turned = bool(text) and unicodedata.bidirectional(text[0]) in ('R', 'AL')
+        layers, places, sizes = [], [], []
+        for bar, lane in over:
+            colour = f'var(--rm{bar.name % len(_LIGHT)})'
+            first, last = bar.begins and bar.start == start, bar.ends and bar.end == end
+            if is_turned:
+                first, last = last, first
+            # The ends of a bar are drawn two pixels in, so that neighbours are told apart.
+            side = '50%' if first and last else 'right' if first else '0'
+            layers.append(f'linear-gradient({colour},{colour})')
+            places.append(f'{side} calc(100% - {deep - 3 - lane * _STEP - _BAR}px)')
+            sizes.append(f'calc(100% - {2 * (first + last)}px) {_BAR}px')
+        title = '&#10;'.join(self.title(bar) for bar, _ in over)
+        numbers = ' '.join(dict.fromkeys(' '.join(_numbers(bar) for bar, _ in over).split()))
+        return (f'<span class="rm-s" title="{title}" data-r="{numbers}" style="padding-bottom:{deep}px;'
+                f'background-image:{",".join(layers)};background-position:{",".join(places)};background-size:{",".join(sizes)}">{text}</span>')
+
+    def title(self, bar: _Bar) -> str:
+        shared = f', {len(bar.rows)} rows' if len(bar.rows) > 1 else f', row {bar.rows[0] + 1}'
+        return f'{escape(self.names[bar.name])} {self.told(bar.start, bar.end)}{shared}'
+
+    def listed(self, numbers: Sequence[int]) -> str:
+        """The rows that begin on a line, each with its spans."""
+        if not numbers:
+            return ''
+        shown = ''.join(map(self.item, numbers[:_LISTED]))
+        rest = numbers[_LISTED:]
+        if rest:
+            shown += f'<li><details><summary>{len(rest)} rows more</summary><ul class="rm-rows">{"".join(map(self.item, rest))}</ul></details></li>'
+        return f'<ul class="rm-rows">{shown}</ul>\n'
+
+    def item(self, number: int) -> str:
+        row = self.rows[number]
+        cells = []
+        for name, shown in enumerate(self.names):
+            start, end = row[2 * name], row[2 * name + 1]
+            if start >= 0:
+                text = self.data[start:min(end, start + 4 * _TEXT)].decode('utf-8', 'backslashreplace')
+                text = text[:_TEXT] + ('…' if len(text) > _TEXT or end > start + 4 * _TEXT else '')
+                cells.append(f'<i style="background:var(--rm{name % len(_LIGHT)})"></i>{escape(shown)} {self.told(start, end)} '
+                             f'<bdi><code>{_shown(text.encode("utf-8", "surrogatepass"))}</code></bdi>')
+        return f'<li data-r="{number}"><b>{number + 1}</b>{"".join(cells) or "()"}</li>'
+
+
+def _numbers(bar: _Bar) -> str:
+    return ' '.join(map(str, bar.rows))
+
+
+def _skipped(lines: int) -> str:
+    return f'<div class="rm-skip">{lines} line{"s" * (lines > 1)}</div>\n'
+
+
+def _folded(part: bytes) -> str:
+    """Text without a bar; the middle of what is long is left out."""
+    if len(part) <= _LONG:
+        return _shown(part)
+    head, tail = part[:_KEPT].decode('utf-8', 'ignore'), part[-_KEPT:].decode('utf-8', 'ignore')
+    left = len(part) - 2 * _KEPT
+    return f'{_shown(head.encode())}<span class="rm-fold"> .. {left:,} bytes .. </span>{_shown(tail.encode())}'
+
+
+def _section(document: Document, names: Sequence[str], rows: Sequence[Row], of: Optional[int], context: int) -> str:
+    view = _View(document, names, rows)
+    told = f'{len(rows)} row{"s" * (len(rows) != 1)}' + (f' of {of}' if of is not None and of > len(rows) else '')
+    key = ''.join(f'<b style="background:var(--rm{k % len(_LIGHT)})"></b>{escape(name)}' for k, name in enumerate(names))
+    return f'<p class="rm-key">{told}{key}</p>\n{"".join(view.body(context))}'
+
+
+def fragment(document: Document, names: Sequence[str], rows: Sequence[Row], *, of: Optional[int] = None, context: int = 1) -> str:
+    """Rows over a document as a piece of HTML with its style, as a notebook shows it.
+
+    ``rows`` are flat places in bytes, -1 for absent; ``of`` is the number of all rows where these are the first ones, and
+    ``context`` how many lines around a span are shown.
+
+    >>> shown = fragment(Document(b'a <b>'), ['x'], [(2, 5)])
+    >>> '&lt;b&gt;' in shown, '<script' in shown
+    (True, False)
+    """
+    return f'<style>{_STYLE}</style><div class="rm">{_section(document, names, rows, of, context)}</div>'
+
+
+def page(sections: Iterable[Tuple[str, Document, Sequence[Row], bool]], names: Sequence[str], title: str) -> Iterable[str]:
+    """A whole page, in parts: of each document its title, itself, its rows, and whether there are more of them."""
+    yield (f'<!doctype html>\n<html><head><meta charset="utf-8"><meta name="viewport" content="width=device-width">'
+           f'<title>{escape(title)}</title><style>{_PAGE_STYLE}{_STYLE}</style></head><body>\n')
+    for name, document, rows, is_cut in sections:
+        first = ', the first rows alone' if is_cut else ''
+        yield f'<h1>{escape(name)}{first}</h1><div class="rm">{_section(document, names, rows, None, 1)}</div>\n'
+    yield f'<script>{_SCRIPT}</script></body></html>\n'

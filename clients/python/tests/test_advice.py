@@ -1,0 +1,47 @@
+"""Advice on what is accepted."""
+import glob
+import os
+import unittest
+
+import rematch
+from support import EXAMPLES
+
+
+class Advice(unittest.TestCase):
+    def offsets(self, query):
+        rematch.Query(query)  # it is accepted
+        return [advice.offset for advice in rematch.advise(query)]
+
+    def test_each(self):
+        for query, offset, part in (
+                (r'/[^\w]ab[^\w]/', 0, 'no capture'), (r'/\<!x{a}b\>/', 1, 'plain signs'), ('/!x{[:digit:]}/', 4, 'set of these letters'),
+                (r'/!x{\w+} /', 4, 'stands first'), (r'/ !x{\w+}/', 5, 'stands last'), (r'/ (!x{(a|b*)})/', 9, 'stands last'),
+                (r'/\n!x{a}/', 1, 'first line'), (r'/[^\w]!x{a}/', 1, 'very start or end'), (r'/!x{a}[^\w]/', 6, 'very start or end'),
+                (r'/"!q{[^"]*}"/', 1, 'quotes'), (r"/a'!q{[^']+}'/", 2, 'quotes')):
+            rematch.Query(query)
+            found = [advice for advice in rematch.advise(query) if part in advice.message]
+            self.assertEqual([advice.offset for advice in found], [offset], query)
+
+    def test_offsets_are_of_the_whole_text(self):
+        self.assertEqual(self.offsets('/é!x{a}/u union\n/!x{b+}c/'), [21])
+
+    def test_silent(self):
+        for query in (r'/from !address{[\d.]+} port/', '/^!x{a*}$/', '/^!x{[^\\n]*}\\n/', 'project none (/!x{a}/)', '/!x{a}(b+)/', '/a!x{b?}/',
+                      '/ !x{a} /', 'let w = /!x{a}/; w'):
+            self.assertEqual(self.offsets(query), [], query)
+
+    def test_what_other_atoms_say(self):
+        for query in (r'/!x{\w+}/ join /[^\w]!x{\w+}[^\w]/', r'/^!x{a}\n/ union /\n!x{a}\n/', r'/^!x{a}[^\w]/ union /[^\w]!x{a}[^\w]/'):
+            self.assertEqual(self.offsets(query), [], query)
+
+    def test_each_message_once(self):
+        self.assertEqual(len(self.offsets('/!x{a+}b/ union /!x{c+}d/')), 1)
+
+    def test_shipped_queries(self):
+        spoken = [os.path.basename(path) for path in sorted(glob.glob(os.path.join(EXAMPLES, '*.query')))
+                  if rematch.advise(rematch.Query.from_file(path).text)]
+        self.assertEqual(spoken, ['cards.query'])
+
+
+if __name__ == '__main__':
+    unittest.main()

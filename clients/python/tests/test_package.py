@@ -1,0 +1,59 @@
+"""The package as such: examples in its texts, what importing it costs, types."""
+import doctest
+import importlib
+import os
+import pkgutil
+import subprocess
+import sys
+import unittest
+
+import rematch
+from support import PROGRAM, PYTHON
+from test_session import FAKE, serves
+
+
+def modules():
+    return ['rematch'] + ['rematch.' + found.name for found in pkgutil.iter_modules(rematch.__path__) if found.name != '__main__']
+
+
+def load_tests(loader, tests, pattern):
+    """The examples in the texts are tests; those of sessions run on the fake server where the program has none."""
+    for name in modules():
+        module = importlib.import_module(name)
+        names = {'Server': lambda: rematch.Server(FAKE)} if name == 'rematch.session' and not serves(PROGRAM) else {}
+        tests.addTests(doctest.DocTestSuite(module, extraglobs=names, optionflags=doctest.NORMALIZE_WHITESPACE))
+    return tests
+
+
+class Package(unittest.TestCase):
+    def test_public_names(self):
+        for name in rematch.__all__:
+            self.assertIsNotNone(getattr(rematch, name))
+            self.assertTrue(getattr(rematch, name).__doc__, name)
+            self.assertIn(name, dir(rematch))
+        with self.assertRaises(AttributeError):
+            rematch.nothing
+
+    def test_public_calls_have_texts_and_types(self):
+        for kind in (rematch.Query, rematch.Match, rematch.Matches, rematch.Page, rematch.Document, rematch.Server, rematch.Session):
+            for name, value in vars(kind).items():
+                if not name.startswith('_') and (callable(value) or isinstance(value, property)):
+                    self.assertTrue(value.__doc__, '%s.%s' % (kind.__name__, name))
+                    call = value.fget if isinstance(value, property) else value
+                    if callable(value) and name not in ('close', 'opened', 'text', 'told', 'watch'):
+                        self.assertIn('>>> ', value.__doc__, '%s.%s' % (kind.__name__, name))
+                    self.assertIn('return', getattr(call, '__annotations__', {'return': 0}), '%s.%s' % (kind.__name__, name))
+
+    def test_typed(self):
+        self.assertTrue(os.path.exists(os.path.join(PYTHON, 'rematch', 'py.typed')))
+
+    def test_import_reads_little(self):
+        """What importing costs is what it imports; clients/README.md has the time."""
+        code = 'import sys; before = set(sys.modules); import rematch; print(*sorted(set(sys.modules) - before))'
+        read = subprocess.run([sys.executable, '-c', code], stdout=subprocess.PIPE, universal_newlines=True, check=True).stdout.split()
+        for heavy in ('argparse', 'asyncio', 'csv', 'html', 'tempfile', 'unicodedata', 'rematch.hints', 'rematch.view'):
+            self.assertNotIn(heavy, read)
+
+
+if __name__ == '__main__':
+    unittest.main()

@@ -1,0 +1,161 @@
+"""Completion in three shells, and the script that installs."""
+import os
+import pty
+import re
+import select
+import subprocess
+import sys
+import time
+import unittest
+
+from support import CLIENTS, DOCS, EXAMPLES, PROGRAM, Folder, needs
+
+SHELL = os.path.join(CLIENTS, 'shell')
+
+
+def run(words, **more):
+    return subprocess.run(words, stdout=subprocess.PIPE, stderr=subprocess.STDOUT, universal_newlines=True, **more)
+
+
+def options():
+    """The options of the program, as docs/FORMATS.md has them."""
+    with open(os.path.join(DOCS, 'FORMATS.md'), encoding='utf-8') as file:
+        section = re.search(r'\n## The command line\n(.*?)\n## ', file.read(), re.S)[1]
+    return re.findall(r'^\| `(--?[a-z-]+)', section, re.M)
+
+
+def options_to():
+    """The options of rematch-to, as it tells them."""
+    told = run([os.path.join(CLIENTS, 'rematch-to'), '--help']).stdout
+    return [option for option in re.findall(r'^  (?:-h, )?(--?[a-z-]+)', told, re.M)]
+
+
+class Bash(unittest.TestCase):
+    def complete(self, *words, command='rematch'):
+        function = {'rematch': '_rematch', 'rematch-to': '_rematch_to', 'rematch-piece': '_rematch_piece', 'rematch-cut': '_rematch_cut'}[command]
+        text = 'source %s/rematch.bash; COMP_WORDS=(%s "$@"); COMP_CWORD=$#; %s; printf "%%s\\n" "${COMPREPLY[@]}"' % (SHELL, command, function)
+        return run(['bash', '--norc', '-c', text, 'bash', *words], cwd=EXAMPLES).stdout.split()
+
+    @needs('bash')
+    def test_options(self):
+        self.assertGreater(len(options()), 9)
+        self.assertLessEqual(set(options()), set(self.complete('-')))
+        self.assertEqual(sorted(self.complete('-q', 'box.query', '--')), ['--explain', '--filter', '--max-table', '--serve', '--trial'])
+        self.assertNotIn('-t', self.complete('-t', '-'))
+        self.assertNotIn('-q', self.complete('-e', '/a/', '-'))
+        self.assertEqual(set(self.complete('csv', '-', command='rematch-to')), set(options_to()))
+
+    @needs('bash')
+    def test_values(self):
+        self.assertEqual(self.complete('-f', ''), ['spans', 'table', 'json'])
+        self.assertEqual(self.complete('-f', 't'), ['table'])
+        self.assertEqual(self.complete('-a', ''), ['start'])
+        queries = [name for name in os.listdir(EXAMPLES) if name.startswith('f') and name.endswith('.query')]
+        self.assertEqual(sorted(self.complete('-q', 'f')), sorted(queries))
+        self.assertEqual(self.complete('-n', ''), [])
+        self.assertEqual(self.complete('-q', 'failed.query', 'auth'), ['auth.log'])
+        self.assertEqual(self.complete('h', command='rematch-to'), ['html'])
+        self.assertEqual(self.complete('kwic', '--sort', '', command='rematch-to'), ['left', 'right'])
+        self.assertEqual(self.complete('csv', 'auth', command='rematch-to'), ['auth.log'])
+        self.assertEqual(self.complete('box', command='rematch-piece'), ['box.query'])
+        self.assertEqual(self.complete('auth', command='rematch-cut'), ['auth.log'])
+
+
+class Fish(Folder):
+    def complete(self, line):
+        text = 'source %s/rematch.fish; complete -C %r' % (SHELL, line)
+        out = run(['fish', '-N', '-c', text], cwd=EXAMPLES, env=dict(os.environ, HOME=self.folder, XDG_CONFIG_HOME=self.folder)).stdout
+        return [found.split('\t')[0] for found in out.splitlines()]
+
+    @needs('fish')
+    def test_it(self):
+        self.assertEqual(set(self.complete('rematch -f ')), {'spans', 'table', 'json'})
+        self.assertLessEqual({option for option in options() if option.startswith('--')}, set(self.complete('rematch --')))
+        self.assertLessEqual({option for option in options() if not option.startswith('--')}, set(self.complete('rematch -')))
+        self.assertIn('csv', self.complete('rematch-to '))
+        self.assertLessEqual({option for option in options_to() if option.startswith('--')}, set(self.complete('rematch-to csv --')))
+        self.assertIn('failed.query', self.complete('rematch -q fai'))
+
+
+class Zsh(Folder):
+    def complete(self, line):
+        """What a terminal shows after two tabs."""
+        master, slave = pty.openpty()
+        environment = dict(os.environ, HOME=self.folder, ZDOTDIR=self.folder, TERM='dumb', PS1='> ')
+        shell = subprocess.Popen(['zsh', '-f', '-i'], stdin=slave, stdout=slave, stderr=slave, cwd=EXAMPLES, env=environment, start_new_session=True)
+        os.close(slave)
+        try:
+            os.write(master, ('fpath=(%s $fpath); autoload -U compinit; compinit -u -D; LISTMAX=999; echo rea""dy\n' % SHELL).encode())
+            self.read(master, 'ready')
+            os.write(master, (line + '\t\t').encode())
+            return self.read(master, None)
+        finally:
+            shell.kill()
+            shell.wait()
+            os.close(master)
+
+    def read(self, master, until):
+        shown, ends = '', time.monotonic() + (30 if until else 20)
+        while time.monotonic() < ends:
+            ready, _, _ = select.select([master], [], [], 3 if shown and not until else 20)
+            if not ready:
+                break
+            shown += os.read(master, 65536).decode('utf-8', 'replace')
+            if until and until in shown:
+                break
+        return shown
+
+    @needs('zsh')
+    def test_it(self):
+        self.assertEqual(run(['zsh', '-n', os.path.join(SHELL, '_rematch')]).stdout, '')
+        shown = self.complete('rematch -f ')
+        for word in ('spans', 'table', 'json'):
+            self.assertIn(word, shown)
+        shown = self.complete('rematch -')
+        for option in options():
+            self.assertIn(option, shown)
+
+
+class Install(Folder):
+    def install(self, *words):
+        program = self.script('program', '#!/bin/sh\nexec %s "$@"\n' % PROGRAM)
+        return run([os.path.join(SHELL, 'install.sh'), '--prefix', os.path.join(self.folder, 'a prefix'), '--program', program, *words])
+
+    def test_all_of_it(self):
+        done = self.install()
+        self.assertEqual(done.returncode, 0, done.stdout)
+        prefix = os.path.join(self.folder, 'a prefix')
+        told = re.findall(r'^(/.*?): ', done.stdout, re.M)
+        there = [os.path.join(folder, name) for folder, _, names in os.walk(prefix) for name in names]
+        self.assertEqual(sorted(told), sorted(there))
+        self.assertIn('not on the path', done.stdout)
+        # The installed commands find the installed program.
+        environment = {key: value for key, value in os.environ.items() if key not in ('REMATCH', 'PYTHONPATH')}
+        environment['PATH'] = os.path.join(prefix, 'bin') + os.pathsep + os.environ['PATH']
+        document, query = self.file('d', b'a\na\n'), self.file('q', b'/!x{a}/')
+        for words, out in ((['rematch', '-q', query, document], 'x=0-1\nx=2-3\nend\n'), (['rematch-to', 'count', '-q', query, document], '2 %s\n' % document),
+                           (['rematch-cut', document, '1'], '0 2\n2 4\n'), (['rematch-piece', query, document, '2', '4'], 'x=2-3\n')):
+            self.assertEqual(run(words, env=environment, cwd='/').stdout, out)
+        code = 'import rematch; print(rematch.find_program(), rematch.Query("/!x{a}/").count(b"aa"), rematch.__file__)'
+        shown = run([sys.executable, '-c', code], env=dict(environment, PYTHONPATH=os.path.join(prefix, 'bin', 'rematch-to')), cwd='/')
+        self.assertEqual(shown.stdout, '{0}/bin/rematch 2 {0}/bin/rematch-to/rematch/__init__.py\n'.format(prefix))
+        # Once more over itself, and away again.
+        self.assertEqual(self.install().returncode, 0)
+        gone = self.install('--uninstall')
+        self.assertEqual((gone.returncode, sorted(re.findall('^removed (.*)', gone.stdout, re.M))), (0, sorted(there)))
+        self.assertEqual([name for _, _, names in os.walk(prefix) for name in names], [])
+        self.assertEqual(self.install('--uninstall').stdout, '')
+
+    def test_refusals(self):
+        script = os.path.join(SHELL, 'install.sh')
+        for words in (['--prefix'], ['--what'], ['--prefix', '']):
+            self.assertEqual(run([script, *words]).returncode, 2, words)
+        done = run([script, '--prefix', self.folder, '--program', os.path.join(self.folder, 'none')])
+        self.assertEqual((done.returncode, 'no built program' in done.stdout, os.listdir(self.folder)), (1, True, []))
+
+    def test_the_page_of_the_manual_is_there(self):
+        self.assertTrue(os.path.exists(os.path.join(os.path.dirname(CLIENTS), 'man', 'rematch.1')))
+
+
+if __name__ == '__main__':
+    unittest.main()

@@ -1,0 +1,111 @@
+#!/bin/sh
+# Installs the built program and what stands beside it, and says what it put where.
+#
+#   clients/shell/install.sh [--prefix DIR] [--program PATH] [--uninstall]
+#
+# DIR is ~/.local where none is given, and PATH crates/rematch/out/rematch. Nothing outside of DIR is touched; --uninstall
+# takes away what was put there. Python 3.8 makes the package one file; without it the program, the page of its manual and
+# completion are installed alone.
+set -eu
+here=$(cd "$(dirname "$0")" && pwd)
+clients=$(dirname "$here")
+root=$(dirname "$clients")
+prefix=${HOME:-}/.local
+program=$root/crates/rematch/out/rematch
+action=install
+
+usage() {
+    sed -n '4p' "$here/install.sh" | sed 's/^#   /usage: /' >&2
+    exit 2
+}
+
+while [ $# -gt 0 ]; do
+    case $1 in
+        --prefix) [ $# -ge 2 ] || usage; prefix=$2; shift 2 ;;
+        --prefix=*) prefix=${1#*=}; shift ;;
+        --program) [ $# -ge 2 ] || usage; program=$2; shift 2 ;;
+        --program=*) program=${1#*=}; shift ;;
+        --uninstall) action=uninstall; shift ;;
+        *) usage ;;
+    esac
+done
+[ -n "$prefix" ] || usage
+case $prefix in /*) ;; *) prefix=$PWD/$prefix ;; esac
+
+bin=$prefix/bin
+share=$prefix/share
+bash_file=$share/bash-completion/completions/rematch
+files="$bin/rematch
+$bin/rematch-to
+$bin/rematch-cut
+$bin/rematch-piece
+$share/man/man1/rematch.1
+$bash_file
+$share/bash-completion/completions/rematch-to
+$share/bash-completion/completions/rematch-cut
+$share/bash-completion/completions/rematch-piece
+$share/zsh/site-functions/_rematch
+$share/fish/vendor_completions.d/rematch.fish
+$share/fish/vendor_completions.d/rematch-to.fish
+$share/fish/vendor_completions.d/rematch-piece.fish"
+
+if [ "$action" = uninstall ]; then
+    printf '%s\n' "$files" | while IFS= read -r file; do
+        if [ -e "$file" ] || [ -L "$file" ]; then
+            rm -f "$file"
+            echo "removed $file"
+        fi
+    done
+    exit 0
+fi
+
+if [ ! -x "$program" ] || [ ! -f "$program" ]; then
+    echo "install.sh: there is no built program $program; ./rematch in the checkout builds it" >&2
+    exit 1
+fi
+
+# A copy stands beside the file that it replaces first, so that a program that runs is not cut off.
+put() {
+    mkdir -p "$(dirname "$2")"
+    cp "$1" "$2.new"
+    chmod "$3" "$2.new"
+    mv -f "$2.new" "$2"
+    echo "$2: $4"
+}
+
+link() {
+    mkdir -p "$(dirname "$2")"
+    ln -sf "$1" "$2"
+    echo "$2: $3"
+}
+
+put "$program" "$bin/rematch" 755 "the program"
+put "$root/man/rematch.1" "$share/man/man1/rematch.1" 644 "the page of the manual"
+put "$here/rematch.bash" "$bash_file" 644 "completion for bash"
+for name in rematch-to rematch-cut rematch-piece; do
+    link rematch "$share/bash-completion/completions/$name" "the same"
+done
+put "$here/_rematch" "$share/zsh/site-functions/_rematch" 644 "completion for zsh"
+put "$here/rematch.fish" "$share/fish/vendor_completions.d/rematch.fish" 644 "completion for fish"
+for name in rematch-to rematch-piece; do
+    link rematch.fish "$share/fish/vendor_completions.d/$name.fish" "the same"
+done
+
+if command -v python3 >/dev/null 2>&1 && python3 -c 'import sys, zipapp; sys.exit(sys.version_info < (3, 8))' 2>/dev/null; then
+    made=$(mktemp -d)
+    trap 'rm -rf "$made"' EXIT
+    mkdir "$made/app" "$made/app/rematch"
+    cp "$clients"/python/rematch/*.py "$clients"/python/rematch/py.typed "$made/app/rematch"
+    cp "$clients/python/rematch/__main__.py" "$made/app/__main__.py"
+    python3 -m zipapp -c -p '/usr/bin/env python3' -o "$made/rematch-to" "$made/app"
+    put "$made/rematch-to" "$bin/rematch-to" 755 "rows as tables, concordances and pages; also the Python package (PYTHONPATH=$bin/rematch-to)"
+    link rematch-to "$bin/rematch-cut" "pieces of a document"
+    link rematch-to "$bin/rematch-piece" "the rows of a piece"
+else
+    echo "no Python 3.8: rematch-to, rematch-cut and rematch-piece are left out"
+fi
+
+case ":${PATH:-}:" in
+    *":$bin:"*) ;;
+    *) echo "not on the path: PATH=$bin:\$PATH" ;;
+esac

@@ -1,0 +1,74 @@
+# Completion of rematch, rematch-to, rematch-cut and rematch-piece in bash: options that are still open, forms, query
+# files and documents.
+
+_rematch_files() {
+    compopt -o filenames 2>/dev/null
+    local IFS=$'\n'
+    COMPREPLY=($(compgen -f "$@" -- "$word") $(compgen -d -- "$word"))
+}
+
+_rematch_words() {
+    COMPREPLY=($(compgen -W "$1" -- "$word"))
+}
+
+# The options of the list that the command line does not have yet, of those that exclude each other.
+_rematch_open() {
+    local option open=
+    for option in $1; do
+        [[ " ${COMP_WORDS[*]:0:COMP_CWORD} " == *" $option "* ]] || open+=" $option"
+    done
+    case " ${COMP_WORDS[*]:0:COMP_CWORD} " in
+        *' -e '*|*' -q '*) open=${open/ -e/} open=${open/ -q/} ;;
+    esac
+    _rematch_words "$open"
+}
+
+_rematch() {
+    local word=${COMP_WORDS[COMP_CWORD]} before=${COMP_WORDS[COMP_CWORD-1]}
+    COMPREPLY=()
+    case $before in
+        -f) _rematch_words 'spans table json'; return ;;
+        -q) _rematch_files -X '!*.query'; return ;;
+        -a) _rematch_words start; return ;;
+        -e|-n|--max-table|--trial) return ;;
+    esac
+    case $word in
+        -*) _rematch_open '-e -q -n -a -f -t --filter --max-table --explain --trial --serve' ;;
+        *) _rematch_files ;;
+    esac
+}
+
+_rematch_to() {
+    local word=${COMP_WORDS[COMP_CWORD]} before=${COMP_WORDS[COMP_CWORD-1]}
+    COMPREPLY=()
+    case $before in
+        -q) _rematch_files -X '!*.query'; return ;;
+        -o) _rematch_files; return ;;
+        --sort) _rematch_words 'left right'; return ;;
+        -e|--max-table|--var|--columns|--most-rows) return ;;
+    esac
+    case $word in
+        -*) _rematch_open '-e -q -o --filter --max-table --var --columns --sort --forward --frames --most-rows --help' ;;
+        *) if [[ $COMP_CWORD == 1 ]]; then _rematch_words 'csv tsv kwic bed gff ann html count check'; else _rematch_files; fi ;;
+    esac
+}
+
+_rematch_piece() {
+    local word=${COMP_WORDS[COMP_CWORD]}
+    COMPREPLY=()
+    case $COMP_CWORD in
+        1) _rematch_files -X '!*.query' ;;
+        2) _rematch_files ;;
+    esac
+}
+
+_rematch_cut() {
+    local word=${COMP_WORDS[COMP_CWORD]}
+    COMPREPLY=()
+    [[ $COMP_CWORD != 1 ]] || _rematch_files
+}
+
+complete -F _rematch rematch
+complete -F _rematch_to rematch-to
+complete -F _rematch_piece rematch-piece
+complete -F _rematch_cut rematch-cut
