@@ -1,0 +1,220 @@
+#!/usr/bin/env python3
+"""Runs a whole gate and prints what each crate took of it.
+
+    bench/gate_table.py [--log FILE] [COMMAND ..]
+    bench/gate_table.py --read FILE
+
+COMMAND is `rt ci --anew` where none is given; it is run at the top of the repository. What it says is
+passed on, each line behind the seconds since the start, and written to FILE too. At the end a table tells
+by crate, in minutes: when it was proved, from the start; what its proof, its tests and its edits took of
+one processor; and how many edits were refused. Below it stand the sums, and the edits that were not
+refused, or say little.
+
+`rt ci` tells no times. When a line came this script looks up; what a job took it reads from /proc, of the
+processes that check, build and run a crate, once a second, so a job's last second may be missing. The
+first check of an edit's crate, with which the others begin, counts with the edits.
+
+With --read the table is made from FILE, as an earlier run wrote it; a plain output of `rt ci` is taken
+too, of which the numbers of edits alone are known.
+
+Python 3.8, standard library. Linux.
+"""
+import argparse
+import os
+import re
+import subprocess
+import sys
+import threading
+import time
+
+ROOT = os.path.dirname(os.path.dirname(os.path.abspath(__file__)))
+TICKS = os.sysconf('SC_CLK_TCK')
+KINDS = ['proof', 'tests', 'edits']
+STAMPED = re.compile(r'\s*([0-9]+\.[0-9]) (.*)')
+TOOK = re.compile(r'took (\w+) (proof|tests|edits) ([0-9.]+)$')
+
+
+class Processes:
+    """What the jobs below a process took of a processor, by crate and kind, as far as was seen."""
+
+    def __init__(self, root):
+        self.root = root
+        self.jobs = {}  # by process and its start: crate, kind, seconds
+        self.is_done = False
+
+    def watch(self):
+        while not self.is_done:
+            self.look()
+            time.sleep(1)
+
+    def look(self):
+        """Notes what each job has taken so far."""
+        seen = {}
+        for name in os.listdir('/proc'):
+            if name.isdigit():
+                fields = stat_of(name)
+                if fields:
+                    seen[int(name)] = fields
+        children = {}
+        for number, (parent, _, _) in seen.items():
+            children.setdefault(parent, []).append(number)
+        waiting = [(it, None) for it in children.get(self.root, [])]
+        while waiting:
+            number, job = waiting.pop()
+            _, start, seconds = seen[number]
+            if job is None:
+                told = job_of(number)
+                if told:
+                    job = (number, start)
+                    self.jobs[job] = [*told, 0.0, self.jobs.get(job, [0, 0, 0.0, 0.0])[3]]
+            if job:
+                self.jobs[job][2] += seconds
+            waiting += [(it, job) for it in children.get(number, [])]
+        for job in self.jobs.values():
+            job[3] = max(job[2], job[3])
+
+    def sums(self):
+        sums = {}
+        for crate, kind, _, most in self.jobs.values():
+            sums[crate, kind] = sums.get((crate, kind), 0.0) + most
+        return sums
+
+
+def stat_of(number):
+    """The parent, the start and the processor seconds of a process, those of its ended children with it."""
+    try:
+        with open('/proc/%s/stat' % number) as it:
+            fields = it.read().rpartition(')')[2].split()
+    except OSError:
+        return None
+    return int(fields[1]), fields[19], sum(map(int, fields[11:15])) / TICKS
+
+
+def job_of(number):
+    """The crate and the kind of a process that checks, builds or runs one; None of any other."""
+    try:
+        with open('/proc/%d/cmdline' % number, 'rb') as it:
+            words = it.read().decode('utf-8', 'replace').split('\0')
+        folder = os.readlink('/proc/%d/cwd' % number)
+    except OSError:
+        return None
+    if '--crate-name' not in words[:-1]:
+        return None
+    crate = words[words.index('--crate-name') + 1]
+    if os.path.basename(folder).startswith('rt-edit'):
+        return crate, 'edits'
+    return crate, 'tests' if '--test' in words else 'proof'
+
+
+def lines_of(command, log):
+    """Runs the command, passes its lines on, and gives them with the seconds at which they came."""
+    lines = []
+
+    def keep(text):
+        line = '%8.1f %s' % (time.time() - start, text)
+        print(line, flush=True)
+        if log:
+            print(line, file=log, flush=True)
+        lines.append(line)
+
+    start = time.time()
+    child = subprocess.Popen(command, cwd=ROOT, stdin=subprocess.DEVNULL, stdout=subprocess.PIPE,
+                             stderr=subprocess.STDOUT, errors='replace')
+    processes = Processes(child.pid)
+    watcher = threading.Thread(target=processes.watch, daemon=True)
+    watcher.start()
+    for text in child.stdout:
+        keep(text.rstrip('\n'))
+    status = child.wait()
+    processes.is_done = True
+    watcher.join()
+    for (crate, kind), seconds in sorted(processes.sums().items()):
+        keep('took %s %s %.1f' % (crate, kind, seconds))
+    return lines, status
+
+
+class Gate:
+    """What the lines of a run tell."""
+
+    def __init__(self, lines):
+        self.crates = []
+        self.proved = {}
+        self.kept = set()
+        self.edits = {}
+        self.odd = []
+        self.took = {}
+        self.ending = ''
+        for line in lines:
+            stamped = STAMPED.match(line)
+            self.take(float(stamped[1]) if stamped else None, stamped[2] if stamped else line)
+
+    def crate(self, name):
+        if name not in self.crates:
+            self.crates.append(name)
+        return name
+
+    def take(self, seconds, text):
+        proved = re.match(r'rt: (\w+) proved$', text)
+        kept = re.match(r'rt: (\w+) is kept', text)
+        edit = re.match(r'rt: must-fail (\w+)/(\S+): (.*)', text)
+        took = TOOK.match(text)
+        if proved:
+            self.proved[self.crate(proved[1])] = seconds
+        elif kept:
+            self.kept.add(self.crate(kept[1]))
+        elif edit:
+            name = self.crate(edit[1])
+            is_refused = edit[3].startswith('refused, as it must be')
+            self.edits[name] = self.edits.get(name, 0) + is_refused
+            if not is_refused or '(only' in edit[3][:40]:
+                self.odd.append('%s/%s: %s' % (name, edit[2], edit[3]))
+        elif took:
+            self.took[self.crate(took[1]), took[2]] = float(took[3])
+        elif re.match(r'[0-9]+ passed, [0-9]+ failed', text):
+            self.ending = text
+
+    def print_table(self):
+        print('| Crate | Proved at | Proof | Tests | Edits | Time of edits |')
+        print('|---|---|---|---|---|---|')
+        order = sorted(self.crates, key=lambda it: (self.proved.get(it) is None, self.proved.get(it) or 0.0))
+        for name in order:
+            at = self.proved.get(name)
+            cells = ['kept' if name in self.kept else minutes(at), self.part(name, 'proof'),
+                     self.part(name, 'tests'), str(self.edits.get(name, 0) or '-'), self.part(name, 'edits')]
+            print('| `%s` | %s |' % (name, ' | '.join(cells)))
+        sums = {kind: sum(it for (_, of), it in self.took.items() if of == kind) for kind in KINDS}
+        print()
+        print('In processor minutes: %s. Edits: %d. %s' % (
+            ', '.join('%.0f for the %s' % (sums[kind] / 60, kind) for kind in KINDS),
+            sum(self.edits.values()), self.ending))
+        for text in self.odd:
+            print('odd: %s' % text)
+
+    def part(self, name, kind):
+        return minutes(self.took.get((name, kind)))
+
+
+def minutes(seconds):
+    return '-' if seconds is None else '%.1f' % (seconds / 60)
+
+
+def main():
+    parser = argparse.ArgumentParser(description='Runs a whole gate and prints what each crate took of it.')
+    parser.add_argument('--log', metavar='FILE')
+    parser.add_argument('--read', metavar='FILE')
+    parser.add_argument('command', nargs=argparse.REMAINDER)
+    given = parser.parse_args()
+    if given.read:
+        with open(given.read, errors='replace') as it:
+            Gate(it.read().split('\n')).print_table()
+        return 0
+    log = open(given.log, 'w') if given.log else None
+    command = [it for it in given.command if it != '--'] or ['rt', 'ci', '--anew']
+    lines, status = lines_of(command, log)
+    print()
+    Gate(lines).print_table()
+    return status
+
+
+if __name__ == '__main__':
+    sys.exit(main())
