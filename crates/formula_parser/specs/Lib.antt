@@ -1,3 +1,4 @@
+-- what public contracts rest on
 pub mod Sets
 pub mod Runs
 pub mod Escapes
@@ -12,6 +13,7 @@ pub mod Spells
 pub mod Faults
 pub mod Laws
 pub mod AtomView
+-- what the functions inside promise each other
 pub mod Tokens
 pub mod Dialect
 pub mod ClassStep

@@ -5,6 +5,9 @@
 //! joins the grammar to the code.
 #![tactic(auto)]
 
+ghost use Rattle.std.specs.Prelude.{◌≡◌};
+ghost use Rattle.formula_parser.specs.declared.TheConstants.{MOST_OPEN};
+
 pub use fault::FormulaFault;
 pub use laws::{
     each_text_has_a_tree_or_a_fault, no_text_has_a_tree_and_a_fault, no_text_has_two_faults,
@@ -22,3 +25,11 @@ mod nest;
 mod reader;
 mod sign;
 mod tokens;
+
+/// The most groups and captures that may be open at once.
+pub const MOST_OPEN: usize = 100;
+
+/// The limits, as numbers: a law.
+pub fn limits()
+    ensures { MOST_OPEN ≡ 100 }
+{}

@@ -20,19 +20,16 @@ ghost use Rattle.formula_parser.specs.Turn.{IsStep, AnswersBody};
 ghost use Rattle.formula_parser.specs.Step.{goes, step, repeats, braces, opens, escapes, classes, bangs, closes_group, closes_capture, closes_atom, ties, widens, is_tied, start_at, end_len, Ends};
 
 use crate::alphabet::Alphabet;
-use crate::characters;
 use crate::class::class_at;
 use crate::fault::FormulaFault;
 use crate::nest::{Last, Nest, Opener, put};
 use crate::sign::sign_len;
 use crate::tokens::{begins_with, bounds_at, escape_at, head_at, tails};
+use crate::{MOST_OPEN, characters};
 use span_core::{ByteSet, Name, OutOfMemory};
 use spanner_model::{Atom, Formula, Parts};
 use std::alloc::Global;
 use std::mem;
-
-/// The most groups and captures that may be open at once.
-const MOST_OPEN: usize = 100;
 
 /// What one token made of the reading.
 #[derive(Drop)]

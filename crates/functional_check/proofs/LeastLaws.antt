@@ -1,8 +1,7 @@
 -- Least names.
-use Rattle.std.proofs.Common.{◌≡◌, ℕ, zero, suc, ◌⊎◌, ◌↔◌, Bool, true, false, List, [], ◌∷◌, length, take, Option, Some, None, IsTrue, Contains, is_some, inl, inr, refl, sym, ap, ◌∙◌, subst, arith}
+use Rattle.std.proofs.Common.{◌≡◌, ℕ, zero, suc, ◌⊎◌, ◌↔◌, Bool, true, false, List, [], ◌∷◌, take, Option, Some, None, IsTrue, Contains, is_some, inl, inr, refl, sym, ap, ◌∙◌, subst}
 use Rattle.std.specs.Prelude.{slice_get}
 use Rattle.std.specs.Option.{IfSome, IfNone}
-use mathlib.Core.Bool.{beq}
 use Rattle.span_core.proofs.HasLaws.{Has-slice_get, Contains-Has}
 use Rattle.spanner_model.proofs.NameLaws.{below_all, not_below_itself, not_both_below}
 use Rattle.std.specs.List.Sorted.{IsStrictlySortedBy}
@@ -15,7 +14,6 @@ use Rattle.span_core.specs.NameSets.{name_cmp, Ascending, by_order}
 use Rattle.spanner_model.specs.Captures.{VarName}
 use Rattle.span_core.specs.Lists.{Has, AtMost}
 use Rattle.functional_check.specs.Faults.{IsLeast, IsLeastOf}
-use Rattle.functional_check.specs.Names.{IsIn, smaller_of}
 
 -- ---- order
 
@@ -35,6 +33,12 @@ least_one P x y h g = least_by P x y (name_cmp x y) refl h g
 pub least_same : (P Q : VarName → Type 0) (o : Option VarName) → ((x : VarName) → P x ↔ Q x) → IsLeastOf P o → IsLeastOf Q o
 least_same P Q None same h = λ x q. h x ((same x).1 q)
 least_same P Q (Some x) same h = ((same x).0 h.0, λ y q. h.1 y ((same y).1 q))
+
+-- the lesser of two names, where they are there
+abbrev pub smaller_of : Option VarName → Option VarName → Option VarName
+smaller_of None b = b
+smaller_of (Some x) None = Some x
+smaller_of (Some x) (Some y) = by_order (name_cmp x y) (Some x) (Some x) (Some y)
 
 both_by : (P Q : VarName → Type 0) (x y : VarName) (o : Ordering) → name_cmp x y ≡ o → IsLeast P x → IsLeast Q y → IsLeastOf (λ z. P z ⊎ Q z) (by_order o (Some x) (Some x) (Some y))
 both_by P Q x y Less e h g = (inl h.0, λ z a lt. elim a [ inl p ↦ h.1 z p lt | inr q ↦ g.1 z q (nat_list_cmp_total.trans z x y lt e) ])
@@ -64,13 +68,6 @@ pub least_at : (names : List VarName) (k : ℕ) (name : VarName) (P : VarName �
     ((x : VarName) → Has (take k names) x → P x → ⊥) → IsLeast (λ x. Has names x × P x) name
 least_at names k name P up at has p none = ((has, p), λ y h lt. none y (lower_in_front names k name y up at h.0 lt) h.1)
 
-pub least_head : (names : List VarName) (name : VarName) → Ascending names → slice_get names 0 ≡ Some name → Has names name → IsLeast (Has names) name
-least_head names name up at has = (has, λ y h lt. lower_in_front names 0 name y up at h lt)
-
-pub no_names : (names : List VarName) → length names ≡ 0 → (x : VarName) → Has names x → ⊥
-no_names [] e x h = h
-no_names (y ∷ names) e x h = omega (arith, e)
-
 -- ---- at most so many
 
 pub at_most_less : (n : ℕ) (P Q : VarName → Type 0) → ((x : VarName) → P x → Q x) → AtMost n Q → AtMost n P
@@ -83,16 +80,3 @@ has_from names x None true e some none = absurd (cc)
 has_from names x None false e some none = (λ t. absurd (cc), λ h. absurd (none (Contains-Has names x h)))
 has_from names x (Some k) true e some none = (λ t. Has-slice_get names k x some, λ h. refl)
 has_from names x (Some k) false e some none = absurd (cc)
-
--- what a comparison of two answers says
-pub is_in : (r inside : Bool) (others : List VarName) (x : VarName) → (IsTrue r ↔ Has others x) → beq r inside ≡ true → IsIn inside others x
-is_in true true others x tells e = tells.0 refl
-is_in true false others x tells e = absurd (cc)
-is_in false true others x tells e = absurd (cc)
-is_in false false others x tells e = λ h. absurd (let t : IsTrue false = tells.1 h in cc)
-
-pub is_not_in : (r inside : Bool) (others : List VarName) (x : VarName) → (IsTrue r ↔ Has others x) → beq r inside ≡ false → IsIn inside others x → ⊥
-is_not_in true true others x tells e = absurd (cc)
-is_not_in true false others x tells e = λ h. h (tells.0 refl)
-is_not_in false true others x tells e = λ h. absurd (let t : IsTrue false = tells.1 h in cc)
-is_not_in false false others x tells e = absurd (cc)

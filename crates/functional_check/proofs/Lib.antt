@@ -1,4 +1,5 @@
 pub mod FaultLaws
 pub mod LeastLaws
+pub mod NumberedLaws
 pub mod PartFaults
 pub mod SureLaws

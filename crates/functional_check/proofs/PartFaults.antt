@@ -1,23 +1,22 @@
 -- Faults of concatenations and alternations, part by part.
-use Rattle.std.proofs.Common.{◌≡◌, ℕ, zero, suc, ◌+◌, ◌≤◌, ◌⊎◌, ◌↔◌, true, List, [], ◌∷◌, ◌++◌, length, take, Option, Some, None, Result, Ok, Err, inl, inr, refl, sym, subst}
+use Rattle.std.proofs.Common.{◌≡◌, ℕ, zero, suc, ◌+◌, ◌≤◌, ◌⊎◌, ◌↔◌, true, List, [], ◌∷◌, ◌++◌, length, take, Some, Result, Ok, Err, inl, inr, refl, sym, subst}
 use Rattle.std.specs.Prelude.{slice_get}
 use Rattle.spanner_model.proofs.GatheredLaws.{in_more, parts_in_turn, gathered_next, gathered_same}
 use Rattle.std.specs.Result.{IsOk, IsErrAnd}
 use Rattle.std.proofs.lemmas.List.{take_all}
-use Rattle.span_core.specs.declared.TheConstants.{MOST_VARIABLES}
-use Rattle.span_core.specs.Lists.{Has, AtMost}
-use Rattle.spanner_model.specs.Gathered.{Adds, HaveRoom}
+use Rattle.span_core.specs.Lists.{Has}
+use Rattle.spanner_model.specs.Gathered.{Adds}
 use Rattle.spanner_model.specs.Tree.{Tree, cat_all, alt_all}
 use Rattle.spanner_model.specs.Captures.{VarName}
 use Rattle.spanner_model.specs.Sequential.{HasVar, IsSequential}
-use Rattle.span_core.proofs.HasLaws.{Has-append_cases, Has-slice_get, Has-take}
-use Rattle.spanner_model.proofs.TreeLaws.{parts_have, part_has, arms_have, take_at_more}
+use Rattle.span_core.proofs.HasLaws.{Has-append_cases}
+use Rattle.spanner_model.proofs.TreeLaws.{part_has, arms_have, take_at_more}
 use Rattle.functional_check.specs.declared.checking.CheckFault.{CheckFault}
 use Rattle.functional_check.specs.declared.checking.CheckFault.TheVariants.{BoundTwice}
-use Rattle.functional_check.specs.Faults.{IsLeast, IsLeastOf, InTwoParts, OwnFault, HasSequentialParts, InnerFault, IsFault}
+use Rattle.functional_check.specs.Faults.{IsLeast, InTwoParts, OwnFault, HasSequentialParts, InnerFault, IsFault}
+use Rattle.functional_check.specs.declared.name_bits.NameBits.{NameBits}
 use Rattle.functional_check.specs.Checked.{Checked}
-use Rattle.functional_check.specs.Names.{smaller_of}
-use Rattle.functional_check.proofs.LeastLaws.{least_same, least_both, at_most_less}
+use Rattle.functional_check.proofs.LeastLaws.{least_same}
 use Rattle.functional_check.proofs.FaultLaws.{no_fault}
 
 abbrev pub AllSequential : List Tree → Type 0
@@ -99,13 +98,13 @@ alt_sequential (t ∷ ts) ok = (ok t (inl refl), alt_sequential ts (λ w a. ok w
 -- ---- what the check leaves
 
 -- an answer is Ok exactly where the formula is sequential
-pub checked_tells : (f : Tree) (r : Result (List VarName) CheckFault) → Checked f r → IsOk r ↔ IsSequential f
-checked_tells f (Ok vars) h = (λ _. h.0, λ _. refl)
-checked_tells f (Err e) h = (λ t. absurd (cc), λ ok. absurd (no_fault f e ok h))
+pub checked_tells : (names : List VarName) (f : Tree) (r : Result NameBits CheckFault) → Checked names f r → IsOk r ↔ IsSequential f
+checked_tells names f (Ok vars) h = (λ _. h.0, λ _. refl)
+checked_tells names f (Err e) h = (λ t. absurd (cc), λ ok. absurd (no_fault f e ok h))
 
--- the names of a part are not too many
-pub few_part : (ts : List Tree) (t : Tree) → Has ts t → AtMost MOST_VARIABLES (HasVar (cat_all ts)) → AtMost MOST_VARIABLES (HasVar t)
-few_part ts t has few = at_most_less MOST_VARIABLES (HasVar t) (HasVar (cat_all ts)) (λ x v. part_has ts t x has v) few
+-- the variables of a part are among the names that have those of all
+pub part_among : (names : List VarName) (ts : List Tree) (t : Tree) → Has ts t → ((x : VarName) → HasVar (cat_all ts) x → Has names x) → (x : VarName) → HasVar t x → Has names x
+part_among names ts t has among x v = among x (part_has ts t x has v)
 
 -- a fault of a part is one of the concatenation, and of the alternation
 pub cat_fault : (ts : List Tree) (k : ℕ) (t : Tree) (e : CheckFault) → slice_get ts k ≡ Some t → AllSequential (take k ts) → IsFault t e → IsFault (cat_all ts) e
@@ -118,35 +117,27 @@ alt_fault ts k t e at ok h = inl (alt_inner ts k t e at ok h)
 pub sequential_next : (ts : List Tree) (k : ℕ) (t : Tree) → slice_get ts k ≡ Some t → AllSequential (take k ts) → IsSequential t → AllSequential (take (k + 1) ts)
 sequential_next ts k t at ok h = subst AllSequential (sym (take_at_more ts k t at)) (sequential_more (take k ts) t ok h)
 
--- room for the variables of the next part
-pub room_next : (ts : List Tree) (k : ℕ) (t : Tree) (vars part : List VarName) → slice_get ts k ≡ Some t → AtMost MOST_VARIABLES (HasVar (cat_all ts)) →
-    Adds [] (HasVar (cat_all (take k ts))) vars → ((x : VarName) → Has part x ↔ HasVar t x) → HaveRoom vars (Has part)
-room_next ts k t vars part at few before here = (
-  few.0,
-  few.1,
-  λ x h. few.2 x (elim h as (λ _. HasVar (cat_all ts) x) [
-    | inl a ↦ elim ((before x).0 a) as (λ _. HasVar (cat_all ts) x) [
-      | inl n ↦ absurd n
-      | inr v ↦ (let p = parts_have (take k ts) x v in part_has ts p.0 x (Has-take ts k p.0 p.1) p.2)
-    ]
-    | inr b ↦ part_has ts t x (Has-slice_get ts k t at) ((here x).0 b)
-  ]),
-)
-
 vars_are : (f : Tree) (vars : List VarName) (x : VarName) → Adds [] (HasVar f) vars → Has vars x ↔ HasVar f x
 vars_are f vars x h = (λ a. elim ((h x).0 a) as (λ _. HasVar f x) [ inl n ↦ absurd n | inr v ↦ v ], λ v. (h x).1 (inr v))
 
--- the least name of those that two parts share, with one part more
-pub twice_next : (ts : List Tree) (k : ℕ) (t : Tree) (vars part : List VarName) (twice shared next : Option VarName) → slice_get ts k ≡ Some t →
-    Adds [] (HasVar (cat_all (take k ts))) vars → ((x : VarName) → Has part x ↔ HasVar t x) → IsLeastOf (InTwoParts (cat_all (take k ts))) twice →
-    IsLeastOf (λ x. Has vars x × Has part x) shared → next ≡ smaller_of twice shared → IsLeastOf (InTwoParts (cat_all (take (k + 1) ts))) next
-twice_next ts k t vars part twice shared next at before here old new is =
+-- the names that two parts share, with one part more
+pub twice_next : (ts : List Tree) (k : ℕ) (t : Tree) (vars part twice both next : List VarName) → slice_get ts k ≡ Some t →
+    Adds [] (HasVar (cat_all (take k ts))) vars → ((x : VarName) → Has part x ↔ HasVar t x) → ((x : VarName) → Has twice x ↔ InTwoParts (cat_all (take k ts)) x) →
+    ((x : VarName) → Has both x ↔ (Has vars x × Has part x)) → Adds twice (Has both) next → (x : VarName) → Has next x ↔ InTwoParts (cat_all (take (k + 1) ts)) x
+twice_next ts k t vars part twice both next at before here old shared added x =
     let front = take k ts in
-    let of_trees = least_same (λ x. Has vars x × Has part x) (λ x. HasVar (cat_all front) x × HasVar t x) shared
-    (λ x. (λ h. ((vars_are (cat_all front) vars x before).0 h.0, (here x).0 h.1), λ h. ((vars_are (cat_all front) vars x before).1 h.0, (here x).1 h.1))) new in
-    let both = least_both (InTwoParts (cat_all front)) (λ x. HasVar (cat_all front) x × HasVar t x) twice shared old of_trees in
-    let more = least_same (λ x. InTwoParts (cat_all front) x ⊎ (HasVar (cat_all front) x × HasVar t x)) (InTwoParts (cat_all (front ++ t ∷ []))) (smaller_of twice shared) (two_more front t) both in
-    subst (IsLeastOf (InTwoParts (cat_all (take (k + 1) ts)))) (sym is) (subst (λ (us : List Tree). IsLeastOf (InTwoParts (cat_all us)) (smaller_of twice shared)) (sym (take_at_more ts k t at)) more)
+    let are = vars_are (cat_all front) vars x before in
+    let more = two_more front t x in
+    subst (λ (us : List Tree). Has next x ↔ InTwoParts (cat_all us) x) (sym (take_at_more ts k t at)) (
+      λ h. more.0 (elim ((added x).0 h) as (λ _. InTwoParts (cat_all front) x ⊎ (HasVar (cat_all front) x × HasVar t x)) [
+        | inl o ↦ inl ((old x).0 o)
+        | inr s ↦ (let p = (shared x).0 s in inr (are.0 p.0, (here x).0 p.1))
+      ]),
+      λ h. (added x).1 (elim (more.1 h) as (λ _. Has twice x ⊎ Has both x) [
+        | inl o ↦ inl ((old x).1 o)
+        | inr p ↦ inr ((shared x).1 (are.1 p.0, (here x).1 p.1))
+      ]),
+    )
 
 pub vars_next : (ts : List Tree) (k : ℕ) (t : Tree) (vars part all : List VarName) → slice_get ts k ≡ Some t →
     Adds [] (HasVar (cat_all (take k ts))) vars → ((x : VarName) → Has part x ↔ HasVar t x) → Adds vars (Has part) all → Adds [] (HasVar (cat_all (take (k + 1) ts))) all
@@ -154,20 +145,20 @@ vars_next ts k t vars part all at before here added =
     gathered_next HasVar (λ us. HasVar (cat_all us)) parts_in_turn ts k t [] vars all at before (gathered_same vars all (Has part) (HasVar t) true here added)
 
 -- the end of the parts
-pub cat_done_fault : (ts : List Tree) (k : ℕ) (x : VarName) (twice : Option VarName) → length ts ≤ k → AllSequential (take k ts) → IsLeastOf (InTwoParts (cat_all (take k ts))) twice → twice ≡ Some x →
-    IsFault (cat_all ts) (BoundTwice x)
-cat_done_fault ts k x twice le ok h is =
+pub cat_done_fault : (ts : List Tree) (k : ℕ) (x : VarName) (twice : List VarName) → length ts ≤ k → AllSequential (take k ts) →
+    ((y : VarName) → Has twice y ↔ InTwoParts (cat_all (take k ts)) y) → IsLeast (Has twice) x → IsFault (cat_all ts) (BoundTwice x)
+cat_done_fault ts k x twice le ok are least =
     let all : take k ts ≡ ts = take_all k ts le in
     inr (
       cat_parts_sequential ts (subst AllSequential all ok),
-      cat_own ts x (subst (λ (us : List Tree). IsLeast (InTwoParts (cat_all us)) x) all (subst (IsLeastOf (InTwoParts (cat_all (take k ts)))) is h)),
+      cat_own ts x (subst (λ (us : List Tree). IsLeast (InTwoParts (cat_all us)) x) all (least_same (Has twice) (InTwoParts (cat_all (take k ts))) (Some x) are least)),
     )
 
-pub cat_done : (ts : List Tree) (k : ℕ) (vars : List VarName) (twice : Option VarName) → length ts ≤ k → AllSequential (take k ts) → Adds [] (HasVar (cat_all (take k ts))) vars →
-    IsLeastOf (InTwoParts (cat_all (take k ts))) twice → twice ≡ None → IsSequential (cat_all ts) × ((x : VarName) → Has vars x ↔ HasVar (cat_all ts) x)
-cat_done ts k vars twice le ok added h is =
+pub cat_done : (ts : List Tree) (k : ℕ) (vars twice : List VarName) → length ts ≤ k → AllSequential (take k ts) → Adds [] (HasVar (cat_all (take k ts))) vars →
+    ((y : VarName) → Has twice y ↔ InTwoParts (cat_all (take k ts)) y) → ((y : VarName) → Has twice y → ⊥) → IsSequential (cat_all ts) × ((x : VarName) → Has vars x ↔ HasVar (cat_all ts) x)
+cat_done ts k vars twice le ok added are none =
     let all : take k ts ≡ ts = take_all k ts le in (
-      cat_sequential ts (subst AllSequential all ok) (subst (λ (us : List Tree). (x : VarName) → InTwoParts (cat_all us) x → ⊥) all (subst (IsLeastOf (InTwoParts (cat_all (take k ts)))) is h)),
+      cat_sequential ts (subst AllSequential all ok) (subst (λ (us : List Tree). (x : VarName) → InTwoParts (cat_all us) x → ⊥) all (λ x h. none x ((are x).1 h))),
       λ x. vars_are (cat_all ts) vars x (subst (λ (us : List Tree). Adds [] (HasVar (cat_all us)) vars) all added),
     )
 
@@ -182,6 +173,6 @@ alt_done ts k vars le ok added =
     )
 
 -- an error that is handed on
-pub checked_err : (f : Tree) (r : Result (List VarName) CheckFault) (e : CheckFault) → IsErrAnd r (λ g. g ≡ e) → IsFault f e → Checked f r
-checked_err f (Ok vars) e h fault = absurd h
-checked_err f (Err g) e h fault = subst (IsFault f) (sym h) fault
+pub checked_err : (names : List VarName) (f : Tree) (r : Result NameBits CheckFault) (e : CheckFault) → IsErrAnd r (λ g. g ≡ e) → IsFault f e → Checked names f r
+checked_err names f (Ok vars) e h fault = absurd h
+checked_err names f (Err g) e h fault = subst (IsFault f) (sym h) fault

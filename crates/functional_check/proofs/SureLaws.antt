@@ -3,45 +3,20 @@ use Rattle.std.proofs.Common.{◌≡◌, ℕ, ◌+◌, ◌≤◌, ◌⊎◌, ◌
 use Rattle.std.specs.Prelude.{slice_get}
 use Rattle.std.proofs.lemmas.List.{take_all}
 use Rattle.span_core.specs.declared.TheConstants.{MOST_VARIABLES}
-use Rattle.span_core.specs.Lists.{Has, AtMost}
+use Rattle.span_core.specs.Lists.{Has}
 use Rattle.span_core.proofs.HasLaws.{Has-slice_get, Has-take}
 use Rattle.spanner_model.specs.Captures.{VarName}
-use Rattle.spanner_model.specs.Tree.{Tree, empty, one, cat_end, cat, alt_end, alt, rep, cap, cat_all, alt_all}
-use Rattle.spanner_model.specs.Sequential.{HasVar, IsSure}
-use Rattle.spanner_model.specs.WellBuilt.{IsBuilt, AreParts, IsWellBuilt}
+use Rattle.spanner_model.specs.Tree.{Tree, cap, cat_all, alt_all}
+use Rattle.spanner_model.specs.Sequential.{IsSure}
 use Rattle.spanner_model.specs.Gathered.{Adds, HaveRoom}
 use Rattle.spanner_model.proofs.GatheredLaws.{NamesInTurn, in_more, names_in_turn, gathered_next, gathered_same}
-use Rattle.spanner_model.proofs.TreeLaws.{part_has, take_at_more}
+use Rattle.spanner_model.proofs.TreeLaws.{take_at_more}
 
--- ---- sure variables are variables
+-- ---- of a capture
 
-mutual
-  pub sure_var : (f : Tree) (x : VarName) → IsBuilt f → IsSure f x → HasVar f x
-  sure_var empty x ok s = s
-  sure_var (one bytes) x ok s = s
-  sure_var cat_end x ok s = s
-  sure_var (cat f rest) x ok (inl s) = inl (sure_var f x ok.0 s)
-  sure_var (cat f rest) x ok (inr s) = inr (rest_sure_var rest x ok.1 s)
-  sure_var alt_end x ok s = absurd ok
-  sure_var (alt f rest) x ok s = inl (sure_var f x ok.0 s.0)
-  sure_var (rep f least most) x ok s = sure_var f x ok.0 s.2
-  sure_var (cap y f) x ok (inl e) = inl e
-  sure_var (cap y f) x ok (inr s) = inr (sure_var f x ok.0 s)
-
-  rest_sure_var : (f : Tree) (x : VarName) → AreParts f → IsSure f x → HasVar f x
-  rest_sure_var cat_end x ok s = s
-  rest_sure_var (cat f rest) x ok (inl s) = inl (sure_var f x ok.0 s)
-  rest_sure_var (cat f rest) x ok (inr s) = inr (rest_sure_var rest x ok.1 s)
-  rest_sure_var _ x ok s = absurd ok
-
--- room for the sure variables of the formula of a capture, and its name
-pub room_captured : (name : VarName) (f : Tree) (vars : List VarName) → IsBuilt f → AtMost MOST_VARIABLES (HasVar (cap name f)) →
-    ((x : VarName) → Has vars x ↔ IsSure f x) → HaveRoom vars (λ x. name ≡ x)
-room_captured name f vars ok few are = (
-  few.0,
-  few.1,
-  λ x h. few.2 x (elim h as (λ _. (name ≡ x) ⊎ HasVar f x) [ inl a ↦ inr (sure_var f x ok ((are x).0 a)) | inr e ↦ inl e ]),
-)
+-- the name of a capture, which is among the names
+pub own_name : (names own : List VarName) (name : VarName) → ((x : VarName) → Has own x ↔ ((name ≡ x) × Has names x)) → Has names name → (x : VarName) → Has own x ↔ (name ≡ x)
+own_name names own name are has x = (λ h. ((are x).0 h).0, λ e. (are x).1 (e, subst (Has names) e has))
 
 pub captured_sure : (name : VarName) (f : Tree) (vars new : List VarName) → ((x : VarName) → Has vars x ↔ IsSure f x) → Adds vars (λ x. name ≡ x) new →
     (x : VarName) → Has new x ↔ IsSure (cap name f) x
@@ -64,22 +39,6 @@ part_sure (u ∷ ts) t x (inr has) s = inr (part_sure ts t x has s)
 
 sure_in_turn : NamesInTurn IsSure (λ ts. IsSure (cat_all ts))
 sure_in_turn = record { of_one = λ ts t x. part_sure ts t x; one_of = λ ts x. parts_sure ts x }
-
--- room for the sure variables of the next part
-pub room_sure : (ts : List Tree) (k : ℕ) (t : Tree) (vars part : List VarName) → slice_get ts k ≡ Some t → ((u : Tree) → Has ts u → IsWellBuilt u) →
-    AtMost MOST_VARIABLES (HasVar (cat_all ts)) → Adds [] (IsSure (cat_all (take k ts))) vars → ((x : VarName) → Has part x ↔ IsSure t x) → HaveRoom vars (Has part)
-room_sure ts k t vars part at built few before here =
-    let of_part : (u : Tree) (x : VarName) → Has ts u → IsSure u x → HasVar (cat_all ts) x = λ u x has s. part_has ts u x has (sure_var u x (built u has).0 s) in (
-      few.0,
-      few.1,
-      λ x h. few.2 x (elim h as (λ _. HasVar (cat_all ts) x) [
-        | inl a ↦ elim ((before x).0 a) as (λ _. HasVar (cat_all ts) x) [
-          | inl n ↦ absurd n
-          | inr s ↦ (let p = parts_sure (take k ts) x s in of_part p.0 x (Has-take ts k p.0 p.1) p.2)
-        ]
-        | inr b ↦ of_part t x (Has-slice_get ts k t at) ((here x).0 b)
-      ]),
-    )
 
 pub sure_next : (ts : List Tree) (k : ℕ) (t : Tree) (vars part all : List VarName) → slice_get ts k ≡ Some t →
     Adds [] (IsSure (cat_all (take k ts))) vars → ((x : VarName) → Has part x ↔ IsSure t x) → Adds vars (Has part) all → Adds [] (IsSure (cat_all (take (k + 1) ts))) all
@@ -127,7 +86,7 @@ arms_done ts k vars le are = subst (λ (us : List Tree). AreSureInAll us vars) (
 abbrev pub AreShared : List VarName → List VarName → List VarName → Type 0
 AreShared a b both = (x : VarName) → Has both x ↔ (Has a x × Has b x)
 
-names_more : (a : List VarName) (k : ℕ) (name x : VarName) → slice_get a k ≡ Some name → Has (take (k + 1) a) x ↔ (Has (take k a) x ⊎ (name ≡ x))
+pub names_more : (a : List VarName) (k : ℕ) (name x : VarName) → slice_get a k ≡ Some name → Has (take (k + 1) a) x ↔ (Has (take k a) x ⊎ (name ≡ x))
 names_more a k name x at =
     subst (λ (ns : List VarName). Has ns x ↔ (Has (take k a) x ⊎ (name ≡ x))) (sym (take_at_more a k name at)) (in_more (λ (y : VarName) (z : VarName). y ≡ z) Has names_in_turn (take k a) name x)
 

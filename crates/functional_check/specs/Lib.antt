@@ -1,4 +1,5 @@
+-- what public contracts rest on
 pub mod Checked
 pub mod Faults
 pub mod Laws
-pub mod Names
+pub mod Numbered

@@ -2,15 +2,16 @@
 ghost use Rattle.std.specs.Prelude.{◌≡◌, ℕ, ◌↔◌, List, IfOk, IfErr, IsOk};
 ghost use Rattle.span_core.specs.declared.TheConstants.{MOST_VARIABLES};
 ghost use Rattle.span_core.specs.Lists.{Has, AtMost};
+ghost use Rattle.span_core.specs.NameSets.{Ascending};
 ghost use Rattle.spanner_model.specs.Tree.{Tree, cat_all, alt_all};
 ghost use Rattle.spanner_model.specs.View.{tree_of, trees_of};
 ghost use Rattle.spanner_model.specs.Sequential.{HasVar, IsSequential};
 ghost use Rattle.spanner_model.specs.WellBuilt.{IsWellBuilt};
 ghost use Rattle.functional_check.specs.Faults.{IsFault};
 ghost use Rattle.functional_check.specs.Checked.{Checked, IsRepeatOf, IsCaptureOf};
-ghost use Rattle.spanner_model.specs.Gathered.{HaveRoom};
 
-use crate::names::{add_all, add_one, has, least, least_shared, smaller};
+use crate::name_bits::NameBits;
+use crate::names::names_of;
 use span_core::{Name, VarSet};
 use spanner_model::{Formula, Parts};
 
@@ -34,45 +35,54 @@ pub fn check(formula: &Formula) -> Result<VarSet, CheckFault>
     ensures names { IfOk result (λ vars. (x : List ℕ) → Has vars x ↔ HasVar (tree_of formula.now) x) }
     ensures fault { IfErr result (IsFault (tree_of formula.now)) }
 {
-    check_formula(formula)
+    let names = names_of(formula);
+    match check_among(formula, &names) {
+        Ok(_) => Ok(names),
+        Err(fault) => Err(fault),
+    }
 }
 
+/// The same of a formula whose variables are among these names.
+///
+/// Takes no memory.
 #[cycle(check)]
-fn check_formula(formula: &Formula) -> Result<VarSet, CheckFault>
+pub fn check_among(formula: &Formula, names: &VarSet) -> Result<NameBits, CheckFault>
     requires built { IsWellBuilt (tree_of formula.now) }
-    requires few { AtMost MOST_VARIABLES (HasVar (tree_of formula.now)) }
-    ensures { Checked (tree_of formula.now) result }
+    requires ascending { Ascending names.now }
+    requires among { (x : List ℕ) → HasVar (tree_of formula.now) x → Has names.now x }
+    ensures { Checked names.now (tree_of formula.now) result }
 {
     match formula {
-        Formula::Empty | Formula::One(_) => Ok(VarSet::empty()),
-        Formula::Cat(parts) => check_parts(parts),
-        Formula::Alt(arms) => check_arms(arms),
+        Formula::Empty | Formula::One(_) => Ok(NameBits::empty()),
+        Formula::Cat(parts) => check_parts(parts, names),
+        Formula::Alt(arms) => check_arms(arms, names),
         Formula::Rep(sub, _, most) => {
-            let vars = check_formula(sub)?;
-            repeated(vars, *most)
+            let vars = check_among(sub, names)?;
+            repeated(vars, *most, names)
         }
         Formula::Cap(name, sub) => {
-            let vars = check_formula(sub)?;
-            captured(name, vars)
+            let vars = check_among(sub, names)?;
+            captured(name, vars, names)
         }
     }
 }
 
 /// The variables of a concatenation.
 #[cycle(check)]
-fn check_parts(parts: &Parts) -> Result<VarSet, CheckFault>
+fn check_parts(parts: &Parts, names: &VarSet) -> Result<NameBits, CheckFault>
     requires built { (f : Tree) → Has (trees_of parts.now) f → IsWellBuilt f }
-    requires few { AtMost MOST_VARIABLES (HasVar (cat_all (trees_of parts.now))) }
-    ensures { Checked (cat_all (trees_of parts.now)) result }
+    requires ascending { Ascending names.now }
+    requires among { (x : List ℕ) → HasVar (cat_all (trees_of parts.now)) x → Has names.now x }
+    ensures { Checked names.now (cat_all (trees_of parts.now)) result }
 {
-    let mut vars = VarSet::empty();
-    let mut twice = None;
+    let mut vars = NameBits::empty();
+    let mut twice = NameBits::empty();
     for k in 0..parts.len() {
-        let part = check_formula(parts.at(k))?;
-        twice = smaller(twice, least_shared(&vars, &part));
-        add_all(&part, &mut vars);
+        let part = check_among(parts.at(k), names)?;
+        twice = twice.union(vars.meet(part));
+        vars = vars.union(part);
     }
-    match twice {
+    match twice.least(names) {
         Some(var) => Err(CheckFault::BoundTwice { var }),
         None => Ok(vars),
     }
@@ -80,40 +90,40 @@ fn check_parts(parts: &Parts) -> Result<VarSet, CheckFault>
 
 /// The variables of an alternation.
 #[cycle(check)]
-fn check_arms(arms: &Parts) -> Result<VarSet, CheckFault>
+fn check_arms(arms: &Parts, names: &VarSet) -> Result<NameBits, CheckFault>
     requires built { (f : Tree) → Has (trees_of arms.now) f → IsWellBuilt f }
-    requires few { AtMost MOST_VARIABLES (HasVar (cat_all (trees_of arms.now))) }
-    ensures { Checked (alt_all (trees_of arms.now)) result }
+    requires ascending { Ascending names.now }
+    requires among { (x : List ℕ) → HasVar (cat_all (trees_of arms.now)) x → Has names.now x }
+    ensures { Checked names.now (alt_all (trees_of arms.now)) result }
 {
-    let mut vars = VarSet::empty();
+    let mut vars = NameBits::empty();
     for k in 0..arms.len() {
-        let arm = check_formula(arms.at(k))?;
-        add_all(&arm, &mut vars);
+        let arm = check_among(arms.at(k), names)?;
+        vars = vars.union(arm);
     }
     Ok(vars)
 }
 
 /// A repetition, up to so many times, of a formula with these variables.
-fn repeated(vars: VarSet, most: Option<u16>) -> Result<VarSet, CheckFault>
-    ensures { IsRepeatOf vars most result }
+fn repeated(vars: NameBits, most: Option<u16>, names: &VarSet) -> Result<NameBits, CheckFault>
+    ensures { IsRepeatOf names.now vars most result }
 {
     if matches!(most, Some(1)) {
         return Ok(vars);
     }
-    match least(&vars) {
+    match vars.least(names) {
         Some(var) => Err(CheckFault::UnderRepeat { var }),
         None => Ok(vars),
     }
 }
 
 /// A capture of a formula with these variables.
-fn captured(name: &Name, mut vars: VarSet) -> Result<VarSet, CheckFault>
-    requires { HaveRoom vars (λ x. name.now ≡ x) }
-    ensures { IsCaptureOf name.now vars result }
+fn captured(name: &Name, vars: NameBits, names: &VarSet) -> Result<NameBits, CheckFault>
+    requires { Has names.now name.now }
+    ensures { IsCaptureOf names.now name.now vars result }
 {
-    if has(&vars, name) {
+    if vars.has(name, names) {
         return Err(CheckFault::BoundTwice { var: *name });
     }
-    add_one(name, &mut vars);
-    Ok(vars)
+    Ok(vars.union(NameBits::of(name, names)))
 }

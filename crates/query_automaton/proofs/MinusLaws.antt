@@ -1,7 +1,5 @@
 -- What is made of differences when they are compiled.
-use Rattle.std.proofs.Common.{◌≡◌, ℕ, ◌<◌, ◌≤◌, List, length, inl, inr, refl, sym, subst, arith, ◌∙◌}
-use Rattle.span_core.specs.Lists.{Has}
-use Rattle.spanner_model.specs.Captures.{VarName}
+use Rattle.std.proofs.Common.{◌≡◌, ℕ, ◌≤◌, List, length, inl, inr, refl, sym, arith, ◌∙◌}
 use Rattle.spanner_model.specs.Expression.{ExprTree, QueryTree, minus}
 use Rattle.spanner_model.proofs.NameLaws.{same_names}
 use Rattle.marked_automaton.specs.declared.fault.SizeFault.{SizeFault}

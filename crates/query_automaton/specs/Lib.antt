@@ -1,3 +1,4 @@
+-- what public contracts rest on
 pub mod CompiledQuery
 pub mod Compiling
 pub mod Laws

@@ -1,7 +1,9 @@
 //! The automata of expressions, by recursion.
 //!
 //! Unions grow in place behind their first part, joins are trimmed as they are made. What is held while further parts
-//! are compiled is counted, and so is all that is made, against two guards.
+//! are compiled is counted, and so is all that is made, against two guards. An automaton is a kilobyte and more, with the
+//! names of its variables: it is made in a function of its own, apart from the recursion, which keeps pointers alone, so
+//! that the stack that an expression takes is small however deep it nests.
 ghost use Rattle.std.specs.Prelude.{◌≡◌, ℕ, ◌≤◌, length, IfOk, IfErr};
 ghost use Rattle.span_core.specs.declared.TheConstants.{MOST_VARIABLES};
 ghost use Rattle.spanner_model.specs.Captures.{VarName};
@@ -20,7 +22,7 @@ ghost use Rattle.query_automaton.specs.Compiling.{AreCompiled, IsAsked, IsCompil
 ghost use Rattle.query_automaton.specs.Parts.{HasLargePartOf};
 ghost use Rattle.query_automaton.specs.QueryAutomaton.{of_join, of_lets, of_minus, of_union};
 
-use crate::effort::{hold, size_of, spend};
+use crate::effort::{hold, spend};
 use crate::shared::Shared;
 use algebra::{Effort, join_within, project, unite};
 use algebra_minus::minus_within;
@@ -59,13 +61,13 @@ pub fn expr_automaton(
             let first = expr_automaton(alloc, query, lets, left, held, effort)?;
             let waiting = hold(held, first.own_size())?;
             let second = expr_automaton(alloc, query, lets, right, waiting, effort)?;
-            let alone = differing(alloc, first.as_automaton(), second.as_automaton(), effort)?;
-            Ok(Shared::new(alloc, alone)?)
+            differing(alloc, first.as_automaton(), second.as_automaton(), effort)
         }
     }
 }
 
 /// The automaton of an atom, with what leads to no end left out.
+#[inline(never)]
 fn atom_automaton(alloc: Global, atom: &Atom, effort: &mut Effort) -> Result<Shared, SizeFault>
     requires built { IsWellBuilt (tree_of atom.now.formula) }
     requires sequential { IsSequential (tree_of atom.now.formula) }
@@ -80,6 +82,7 @@ fn atom_automaton(alloc: Global, atom: &Atom, effort: &mut Effort) -> Result<Sha
 
 /// What is left of an automaton on the kept variables. Where these are all that it has, it is the
 /// automaton itself, and nothing is copied.
+#[inline(never)]
 fn projected(
     alloc: Global,
     inner: Shared,
@@ -114,39 +117,39 @@ fn union_automaton(
     ensures made { IfOk result (IsCompiledFrom (query_of query.now) (length lets.now) (union_all (exprs_of parts.now))) }
     ensures fault { IfErr result (HasLargePartOf (of_lets (query_of query.now).lets (length lets.now)) (union_all (exprs_of parts.now))) }
 {
-    let first = expr_automaton(alloc, query, lets, parts.at(0), held, effort)?;
-    spend(effort, first.as_automaton())?;
-    // What a `let` has is copied.
-    let mut all = first.take(alloc)?;
+    let mut all = expr_automaton(alloc, query, lets, parts.at(0), held, effort)?;
+    spend(effort, all.as_automaton())?;
     for k in 1..parts.len() {
-        let waiting = hold(held, size_of(&all))?;
+        let waiting = hold(held, all.own_size())?;
         let part = expr_automaton(alloc, query, lets, parts.at(k), waiting, effort)?;
         all = united(alloc, all, part.as_automaton(), effort)?;
     }
-    Ok(Shared::new(alloc, all)?)
+    Ok(all)
 }
 
-/// The union of the parts so far with one part more, made in place.
+/// The union of the parts so far with one part more, made in place; what a `let` has is copied.
+#[inline(never)]
 fn united(
     alloc: Global,
-    all: Automaton,
+    all: Shared,
     part: &Automaton,
     effort: &mut Effort,
-) -> Result<Automaton, SizeFault>
+) -> Result<Shared, SizeFault>
     requires { length (all_names all.names part.now.names) ≤ MOST_VARIABLES }
     ensures marked { IsMarked all × IsMarked part.now }
     ensures made { IfOk result (λ both. ReducesMarked both (of_union all part.now)) }
     ensures fault { IfErr result (IsSizeFaultWithin (of_union all part.now).graph.states (length (of_union all part.now).graph.ways)) }
 {
-    prove!(all.states() <= MOST_STATES);
+    let own = all.as_automaton();
+    prove!(own.states() <= MOST_STATES);
     spend(effort, part)?;
-    let before = all.vars().len();
-    let both = unite(alloc, all, part)?;
+    let before = own.vars().len();
+    let both = unite(alloc, all.take(alloc)?, part)?;
     // Over more variables each way is marked anew.
     if both.vars().len() > before {
         spend(effort, &both)?;
     }
-    Ok(both)
+    Ok(Shared::new(alloc, both)?)
 }
 
 /// The automaton of a join, its parts taken from left to right.
@@ -168,19 +171,19 @@ fn join_automaton(
     for k in 1..parts.len() {
         let waiting = hold(held, all.own_size())?;
         let part = expr_automaton(alloc, query, lets, parts.at(k), waiting, effort)?;
-        let both = joined(alloc, all.as_automaton(), part.as_automaton(), effort)?;
-        all = Shared::new(alloc, both)?;
+        all = joined(alloc, all.as_automaton(), part.as_automaton(), effort)?;
     }
     Ok(all)
 }
 
 /// The join of the parts so far with one part more, with what leads to no end left out.
+#[inline(never)]
 fn joined(
     alloc: Global,
     all: &Automaton,
     part: &Automaton,
     effort: &mut Effort,
-) -> Result<Automaton, SizeFault>
+) -> Result<Shared, SizeFault>
     requires { length (all_names all.now.names part.now.names) ≤ MOST_VARIABLES }
     ensures marked { IsMarked all.now × IsMarked part.now }
     ensures made { IfOk result (λ both. ReducesMarked both (of_join all.now part.now)) }
@@ -190,16 +193,17 @@ fn joined(
     effort.spend(u64::from(all.states()) + u64::from(part.states()));
     let pairs = join_within(alloc, all, part, effort)?;
     spend(effort, &pairs)?;
-    Ok(pairs.trim(alloc)?)
+    Ok(Shared::new(alloc, pairs.trim(alloc)?)?)
 }
 
 /// The difference of two parts, with what leads to no end left out.
+#[inline(never)]
 fn differing(
     alloc: Global,
     left: &Automaton,
     right: &Automaton,
     effort: &mut Effort,
-) -> Result<Automaton, SizeFault>
+) -> Result<Shared, SizeFault>
     requires { left.now.names ≡ right.now.names }
     ensures marked { IsMarked left.now × IsMarked right.now }
     ensures made { IfOk result (λ alone. ReducesMarked alone (of_minus left.now right.now)) }
@@ -209,5 +213,5 @@ fn differing(
     effort.spend(u64::from(left.states()) + u64::from(right.states()));
     let alone = minus_within(alloc, left, right, effort)?;
     spend(effort, &alone)?;
-    Ok(alone.trim(alloc)?)
+    Ok(Shared::new(alloc, alone.trim(alloc)?)?)
 }

@@ -1,5 +1,5 @@
 -- The checks of unions and joins, part by part, and of differences.
-use Rattle.std.proofs.Common.{◌≡◌, ℕ, zero, suc, false, ◌+◌, ◌≤◌, ◌⊎◌, ◌↔◌, List, [], ◌∷◌, ◌++◌, length, take, Option, Some, None, Result, Ok, Err, inl, inr, refl, sym, subst}
+use Rattle.std.proofs.Common.{◌≡◌, ℕ, zero, suc, ◌+◌, ◌≤◌, ◌⊎◌, ◌↔◌, List, [], ◌∷◌, ◌++◌, length, take, Option, Some, None, Result, Ok, Err, inl, inr, refl, sym, subst}
 use Rattle.std.specs.Prelude.{slice_get}
 use Rattle.std.specs.Option.{MatchOption, IfSome, IfNone}
 use Rattle.std.specs.Result.{IsErrAnd}
@@ -15,13 +15,14 @@ use Rattle.spanner_model.proofs.TreeLaws.{take_at_more}
 use Rattle.spanner_model.proofs.ExprLaws.{join_part_var, join_var_part}
 use Rattle.spanner_model.proofs.GatheredLaws.{exprs_in_turn, in_more}
 use Rattle.functional_check.specs.Faults.{IsLeast, IsLeastOf}
-use Rattle.functional_check.specs.Names.{IsIn, smaller_of}
-use Rattle.functional_check.proofs.LeastLaws.{least_same, least_both}
+use Rattle.functional_check.specs.declared.name_bits.NameBits.{NameBits}
+use Rattle.functional_check.specs.Numbered.{members}
+use Rattle.functional_check.proofs.LeastLaws.{least_same}
 use Rattle.query_parser.specs.declared.check.Bound.{Bound}
 use Rattle.query_parser.specs.declared.fault.QueryFault.{QueryFault}
-use Rattle.query_parser.specs.declared.fault.QueryFault.TheVariants.{JoinUnsure, MinusVariables}
+use Rattle.query_parser.specs.declared.fault.QueryFault.TheVariants.{JoinUnsure}
 use Rattle.query_parser.specs.TreeFaults.{Passes, HasPassingParts, Clashes, ClashesFirst, IsOfOneSide, OwnFault, InnerFault, IsExprFault}
-use Rattle.query_parser.specs.Formed.{IsBoundOf, Checked, IsUnsureIn, IsInOne, IsDifferenceOf}
+use Rattle.query_parser.specs.Bounds.{BoundNames, bound_in, IsBoundOf, Checked, IsUnsureIn, IsInOne, IsDifferenceOf}
 use Rattle.query_parser.proofs.Lists.{is_in}
 use Rattle.query_parser.proofs.SureLaws.{join_part_sure, join_sure_part, sure_in_turn, union_sure_more}
 
@@ -70,7 +71,7 @@ module _ (V S : ℕ → VarName → Type 0) where
       )
 
   -- of one part
-  pub union_begin : (es : List ExprTree) (e : ExprTree) (b : Bound) → slice_get es 0 ≡ Some e → Passes V S e → IsBoundOf V S e b → AllPass (take 1 es) × IsBoundOf V S (union_all (take 1 es)) b
+  pub union_begin : (es : List ExprTree) (e : ExprTree) (b : BoundNames) → slice_get es 0 ≡ Some e → Passes V S e → IsBoundOf V S e b → AllPass (take 1 es) × IsBoundOf V S (union_all (take 1 es)) b
   union_begin es e b at ok is = (
     pass_next es 0 e at (λ u h. absurd h) ok,
     subst (λ (us : List ExprTree). IsBoundOf V S (union_all us) b) (sym (take_at_more es 0 e at))
@@ -78,7 +79,7 @@ module _ (V S : ℕ → VarName → Type 0) where
   )
 
   -- of one part more
-  pub union_next : (es : List ExprTree) (k : ℕ) (e : ExprTree) (old part new : Bound) → slice_get es k ≡ Some e → IsBoundOf V S (union_all (take k es)) old → IsBoundOf V S e part →
+  pub union_next : (es : List ExprTree) (k : ℕ) (e : ExprTree) (old part new : BoundNames) → slice_get es k ≡ Some e → IsBoundOf V S (union_all (take k es)) old → IsBoundOf V S e part →
       Adds old.vars (Has part.vars) new.vars → ((x : VarName) → Has new.sure x ↔ (Has old.sure x × Has part.sure x)) → IsBoundOf V S (union_all (take (k + 1) es)) new
   union_next es k e old part new at before here vars sure =
       subst (λ (us : List ExprTree). IsBoundOf V S (union_all us) new) (sym (take_at_more es k e at)) (
@@ -92,7 +93,7 @@ module _ (V S : ℕ → VarName → Type 0) where
         ),
       )
 
-  pub union_done : (es : List ExprTree) (k : ℕ) (b : Bound) → length es ≤ k → AllPass (take k es) → IsBoundOf V S (union_all (take k es)) b → Passes V S (union_all es) × IsBoundOf V S (union_all es) b
+  pub union_done : (es : List ExprTree) (k : ℕ) (b : BoundNames) → length es ≤ k → AllPass (take k es) → IsBoundOf V S (union_all (take k es)) b → Passes V S (union_all es) × IsBoundOf V S (union_all es) b
   union_done es k b le ok is =
       let all : take k es ≡ es = take_all k es le in
       (union_passes es (subst AllPass all ok), subst (λ (us : List ExprTree). IsBoundOf V S (union_all us) b) all is)
@@ -180,7 +181,7 @@ module _ (V S : ℕ → VarName → Type 0) where
       next g (inr has) = (share g has).1
 
   -- what is unsure in the parts so far and one more clashes there, where none clashed before
-  unsure_clashes : (es : List ExprTree) (e : ExprTree) (old part : Bound) → AreSharing es → AreSureVars es → IsBoundOf V S (join_all es) old → IsBoundOf V S e part →
+  unsure_clashes : (es : List ExprTree) (e : ExprTree) (old part : BoundNames) → AreSharing es → AreSureVars es → IsBoundOf V S (join_all es) old → IsBoundOf V S e part →
       (x : VarName) → IsUnsureIn old part x ↔ Clashes V S (onto es []) e x
   unsure_clashes es e old part share among before here x = (
     λ h.
@@ -198,7 +199,7 @@ module _ (V S : ℕ → VarName → Type 0) where
       in_parts g h = elim ((onto_has es [] g).0 h) as (λ _. Has es g) [ inl a ↦ a | inr n ↦ absurd n ]
 
   -- where nothing is unsure in both, the parts share with the next only what is sure in both
-  none_unsure : (es : List ExprTree) (e : ExprTree) (old part : Bound) → AreSharing es → AreSureVars es → IsBoundOf V S (join_all es) old → IsBoundOf V S e part →
+  none_unsure : (es : List ExprTree) (e : ExprTree) (old part : BoundNames) → AreSharing es → AreSureVars es → IsBoundOf V S (join_all es) old → IsBoundOf V S e part →
       ((x : VarName) → IsUnsureIn old part x → ⊥) → (g : ExprTree) → Has es g → ShareSure g e
   none_unsure es e old part share among before here none g has x v w = by (is_in old.sure x) (is_in part.sure x)
     where
@@ -210,18 +211,18 @@ module _ (V S : ℕ → VarName → Type 0) where
       by (inr n) b = absurd (unsure (λ both. n both.0))
       by (inl a) (inr n) = absurd (unsure (λ both. n both.1))
 
-  clash_new : (es : List ExprTree) (e : ExprTree) (old part : Bound) (next : Option VarName) → AreSharing es → AreSureVars es → IsBoundOf V S (join_all es) old → IsBoundOf V S e part →
+  clash_new : (es : List ExprTree) (e : ExprTree) (old part : BoundNames) (next : Option VarName) → AreSharing es → AreSureVars es → IsBoundOf V S (join_all es) old → IsBoundOf V S e part →
       IsLeastOf (IsUnsureIn old part) next → IsFirstClash (es ++ e ∷ []) next
   clash_new es e old part None share among before here h = sharing_more es e share (none_unsure es e old part share among before here h)
   clash_new es e old part (Some x) share among before here h =
       clash_here [] es e x (λ g n. absurd n) share (least_same (IsUnsureIn old part) (Clashes V S (onto es []) e) (Some x) (unsure_clashes es e old part share among before here) h)
 
-  clash_more : (es : List ExprTree) (e : ExprTree) (old part : Bound) (found next : Option VarName) → AreSureVars es → IsBoundOf V S (join_all es) old → IsBoundOf V S e part →
+  clash_more : (es : List ExprTree) (e : ExprTree) (old part : BoundNames) (found next : Option VarName) → AreSureVars es → IsBoundOf V S (join_all es) old → IsBoundOf V S e part →
       IsFirstClash es found → IfSome found (λ x. next ≡ Some x) → IfNone found (IsLeastOf (IsUnsureIn old part) next) → IsFirstClash (es ++ e ∷ []) next
   clash_more es e old part (Some x) next among before here h kept new = subst (IsFirstClash (es ++ e ∷ [])) (sym kept) (clash_before [] es e x h)
   clash_more es e old part None next among before here h kept new = clash_new es e old part next h among before here new
 
-  pub clash_next : (es : List ExprTree) (k : ℕ) (e : ExprTree) (old part : Bound) (found next : Option VarName) → slice_get es k ≡ Some e → AreSureVars (take k es) →
+  pub clash_next : (es : List ExprTree) (k : ℕ) (e : ExprTree) (old part : BoundNames) (found next : Option VarName) → slice_get es k ≡ Some e → AreSureVars (take k es) →
       IsBoundOf V S (join_all (take k es)) old → IsBoundOf V S e part → IsFirstClash (take k es) found →
       IfSome found (λ x. next ≡ Some x) → IfNone found (IsLeastOf (IsUnsureIn old part) next) → IsFirstClash (take (k + 1) es) next
   clash_next es k e old part found next at among before here h kept new =
@@ -235,7 +236,7 @@ module _ (V S : ℕ → VarName → Type 0) where
     λ h. (adds x).1 (elim ((both x).0 h) as (λ _. Has old x ⊎ Has part x) [ inl a ↦ inl ((is_p x).1 a) | inr b ↦ inr ((is_q x).1 b) ]),
   )
 
-  pub join_next : (es : List ExprTree) (k : ℕ) (e : ExprTree) (old part new : Bound) → slice_get es k ≡ Some e → IsBoundOf V S (join_all (take k es)) old → IsBoundOf V S e part →
+  pub join_next : (es : List ExprTree) (k : ℕ) (e : ExprTree) (old part new : BoundNames) → slice_get es k ≡ Some e → IsBoundOf V S (join_all (take k es)) old → IsBoundOf V S e part →
       Adds old.vars (Has part.vars) new.vars → Adds old.sure (Has part.sure) new.sure → IsBoundOf V S (join_all (take (k + 1) es)) new
   join_next es k e old part new at before here vars sure =
       let us = take k es in
@@ -258,17 +259,21 @@ module _ (V S : ℕ → VarName → Type 0) where
       let clash : ClashesFirst V S [] (join_all es) x = subst (λ (us : List ExprTree). ClashesFirst V S [] (join_all us) x) all (subst (IsFirstClash (take k es)) is h) in
       inr (join_parts_pass es (subst AllPass all ok), join_own es x clash)
 
-  pub join_done : (es : List ExprTree) (k : ℕ) (b : Bound) (found : Option VarName) → length es ≤ k → AllPass (take k es) →
+  pub join_done : (es : List ExprTree) (k : ℕ) (b : BoundNames) (found : Option VarName) → length es ≤ k → AllPass (take k es) →
       IsFirstClash (take k es) found → found ≡ None → IsBoundOf V S (join_all (take k es)) b → Passes V S (join_all es) × IsBoundOf V S (join_all es) b
   join_done es k b found le ok h is bound =
       let all : take k es ≡ es = take_all k es le in
       let share : AreSharing es = subst AreSharing all (subst (IsFirstClash (take k es)) is h) in
       (join_passes es (subst AllPass all ok) share, subst (λ (us : List ExprTree). IsBoundOf V S (join_all us) b) all bound)
 
+  -- a join of no parts yet
+  pub join_begin : (es : List ExprTree) (b : BoundNames) → ((x : VarName) → Has b.vars x → ⊥) → ((x : VarName) → Has b.sure x → ⊥) → IsBoundOf V S (join_all (take 0 es)) b
+  join_begin es b no_vars no_sure = (λ x. (no_vars x, λ h. absurd h), λ x. (no_sure x, λ h. absurd h))
+
   -- an error that is handed on
-  pub checked_err : (e : ExprTree) (r : Result Bound QueryFault) (f : QueryFault) → IsErrAnd r (λ g. g ≡ f) → IsExprFault V S e f → Checked V S e r
-  checked_err e (Ok b) f h fault = absurd h
-  checked_err e (Err g) f h fault = subst (IsExprFault V S e) (sym h) fault
+  pub checked_err : (names : List VarName) (e : ExprTree) (r : Result Bound QueryFault) (f : QueryFault) → IsErrAnd r (λ g. g ≡ f) → IsExprFault V S e f → Checked V S names e r
+  checked_err names e (Ok b) f h fault = absurd h
+  checked_err names e (Err g) f h fault = subst (IsExprFault V S e) (sym h) fault
 
   -- ---- differences
 
@@ -278,7 +283,7 @@ module _ (V S : ℕ → VarName → Type 0) where
   pub minus_right : (e g : ExprTree) (f : QueryFault) → Passes V S e → IsExprFault V S g f → IsExprFault V S (minus e g) f
   minus_right e g f ok h = inl (inr (ok, h))
 
-  one_side : (e g : ExprTree) (a b : Bound) → IsBoundOf V S e a → IsBoundOf V S g b → (x : VarName) → IsInOne a b x ↔ IsOfOneSide V S e g x
+  one_side : (e g : ExprTree) (a b : BoundNames) → IsBoundOf V S e a → IsBoundOf V S g b → (x : VarName) → IsInOne a b x ↔ IsOfOneSide V S e g x
   one_side e g a b left right x = (
     λ h. elim h as (λ _. IsOfOneSide V S e g x) [
       | inl i ↦ inl ((left.0 x).0 i.0, λ v. i.1 ((right.0 x).1 v))
@@ -291,26 +296,41 @@ module _ (V S : ℕ → VarName → Type 0) where
   )
 
   -- what is in one of the two is in the other, where none is in one alone
-  in_other : (a b : Bound) → ((x : VarName) → ¬ IsInOne a b x) → (x : VarName) → Has a.vars x ↔ Has b.vars x
+  in_other : (a b : BoundNames) → ((x : VarName) → ¬ IsInOne a b x) → (x : VarName) → Has a.vars x ↔ Has b.vars x
   in_other a b none x = (λ h. by (is_in b.vars x) (λ n. none x (inl (h, n))), λ h. by (is_in a.vars x) (λ n. none x (inr (h, n))))
     where
       by : {P : Type 0} → P ⊎ (P → ⊥) → ((P → ⊥) → ⊥) → P
       by (inl h) not = h
       by (inr n) not = absurd (not n)
 
-  pub minus_done : (e g : ExprTree) (a b : Bound) (r : Result Bound QueryFault) → Passes V S e → IsBoundOf V S e a → Passes V S g → IsBoundOf V S g b →
-      IsDifferenceOf a b r → Checked V S (minus e g) r
-  minus_done e g a b (Ok bound) ok left other right (same, none) =
-      let both = in_other a b none in (
+  pub minus_done : (names : List VarName) (e g : ExprTree) (a b : Bound) (r : Result Bound QueryFault) → Passes V S e → IsBoundOf V S e (bound_in names a) →
+      Passes V S g → IsBoundOf V S g (bound_in names b) → IsDifferenceOf names a b r → Checked V S names (minus e g) r
+  minus_done names e g a b (Ok bound) ok left other right (same, none) =
+      let both = in_other (bound_in names a) (bound_in names b) none in (
         (ok, other, λ x. (λ v. (right.0 x).0 ((both x).0 ((left.0 x).1 v)), λ v. (left.0 x).0 ((both x).1 ((right.0 x).1 v)))),
-        subst (IsBoundOf V S (minus e g)) (sym same) left,
+        subst (λ (c : Bound). IsBoundOf V S (minus e g) (bound_in names c)) (sym same) left,
       )
-  minus_done e g a b (Err f) ok left other right (x, least, is) =
-      let own = least_same (IsInOne a b) (IsOfOneSide V S e g) (Some x) (one_side e g a b left right) least in
+  minus_done names e g a b (Err f) ok left other right (x, least, is) =
+      let own = least_same (IsInOne (bound_in names a) (bound_in names b)) (IsOfOneSide V S e g) (Some x) (one_side e g (bound_in names a) (bound_in names b) left right) least in
       subst (IsExprFault V S (minus e g)) (sym is) (inr ((ok, other), own))
 
--- the least name of one of two sets alone
-pub one_alone : (a b : Bound) (first second found : Option VarName) → IsLeastOf (λ x. Has a.vars x × IsIn false b.vars x) first →
-    IsLeastOf (λ x. Has b.vars x × IsIn false a.vars x) second → found ≡ smaller_of first second → IsLeastOf (IsInOne a b) found
-one_alone a b first second found p q is =
-    subst (IsLeastOf (IsInOne a b)) (sym is) (least_both (λ x. Has a.vars x × IsIn false b.vars x) (λ x. Has b.vars x × IsIn false a.vars x) first second p q)
+-- the names of one of two sets alone
+pub one_alone : (names : List VarName) (a b : Bound) (first second both : NameBits) →
+    ((x : VarName) → Has (members names first) x ↔ (Has (members names a.vars) x × (Has (members names b.vars) x → ⊥))) →
+    ((x : VarName) → Has (members names second) x ↔ (Has (members names b.vars) x × (Has (members names a.vars) x → ⊥))) →
+    Adds (members names first) (Has (members names second)) (members names both) → (x : VarName) → Has (members names both) x ↔ IsInOne (bound_in names a) (bound_in names b) x
+one_alone names a b first second both p q is x = (
+  λ h. elim ((is x).0 h) as (λ _. IsInOne (bound_in names a) (bound_in names b) x) [ inl g ↦ inl ((p x).0 g) | inr g ↦ inr ((q x).0 g) ],
+  λ h. (is x).1 (elim h as (λ _. Has (members names first) x ⊎ Has (members names second) x) [ inl g ↦ inl ((p x).1 g) | inr g ↦ inr ((q x).1 g) ]),
+)
+
+-- the names that are in both sets, and not sure in both
+pub unsure_in : (names : List VarName) (a b : Bound) (vars sure least : NameBits) →
+    ((x : VarName) → Has (members names vars) x ↔ (Has (members names a.vars) x × Has (members names b.vars) x)) →
+    ((x : VarName) → Has (members names sure) x ↔ (Has (members names a.sure) x × Has (members names b.sure) x)) →
+    ((x : VarName) → Has (members names least) x ↔ (Has (members names vars) x × (Has (members names sure) x → ⊥))) →
+    (x : VarName) → Has (members names least) x ↔ IsUnsureIn (bound_in names a) (bound_in names b) x
+unsure_in names a b vars sure least v s is x = (
+  λ h. let p = (is x).0 h in let q = (v x).0 p.0 in (q.0, q.1, λ both. p.1 ((s x).1 both)),
+  λ u. (is x).1 ((v x).1 (u.0, u.1), λ h. u.2 ((s x).0 h)),
+)

@@ -1,5 +1,5 @@
 -- Each text of bytes is that of a query with tests or has a fault; and where no tests begin it is what it was without them.
-use Rattle.std.proofs.Common.{◌≡◌, ◌⊎◌, inl, inr, ℕ, zero, suc, ◌+◌, ◌<◌, ◌≤◌, ◌&&◌, Bool, true, false, nat_lt, List, [], ◌∷◌, ◌++◌, length, length-drop, drop, Ok, Err, ap, refl, sym, subst, ◌∙◌, arith}
+use Rattle.std.proofs.Common.{◌≡◌, ◌⊎◌, inl, inr, ℕ, zero, suc, ◌+◌, ◌<◌, ◌≤◌, ◌&&◌, Bool, true, false, nat_lt, List, [], ◌∷◌, ◌++◌, length, length-drop, drop, Err, ap, refl, subst, arith}
 use Rattle.std.specs.List.{All}
 use Rattle.std.specs.Str.{bytes_eq}
 use Rattle.std.proofs.lemmas.Bool.Decides.{nat_tests}
@@ -16,15 +16,14 @@ use Rattle.query_parser.specs.declared.TheConstants.{MOST_TEXT_BYTES}
 use Rattle.query_parser.specs.declared.asks.Asked.{Asked}
 use Rattle.query_parser.specs.declared.fault.QueryFault.{QueryFault}
 use Rattle.query_parser.specs.declared.fault.QueryFault.TheVariants.{TooManyVariables, TooLong, TestVariable}
-use Rattle.query_parser.specs.Tokens.{HasTokens}
 use Rattle.query_parser.specs.Spells.{SpellsQuery}
-use Rattle.query_parser.specs.Reads.{Reading, is_whole}
+use Rattle.query_parser.specs.Reads.{is_whole}
 use Rattle.query_parser.specs.Faults.{IsReadFault, KeepsTooMany, HasFault, IsQueryText}
 use Rattle.query_parser.specs.Faults as plain_fault
 use Rattle.query_parser.specs.Nest.{Nest, reading_of, outermost}
 use Rattle.query_parser.specs.Step.{word_at, EndsAfter, Ends}
-use Rattle.query_parser.specs.TokenRuns.{Run, run_ends, query_step, IsReadTo}
-use Rattle.query_parser.specs.Tested.{TestedTree, where_word, Placed, HasPlaced, SpellsWhere, no_test, tests_follow, SpellsTested, ends_tests, HasNoTests, of_query, IsReadWhole, without_tests, with_tests, FirstMissing, HasTestedFault, too_long, unreadable, too_many_kept, too_many_captured, not_sound, no_variable, IsTestedText}
+use Rattle.query_parser.specs.TokenRuns.{Run, run_ends, IsReadTo}
+use Rattle.query_parser.specs.Tested.{TestedTree, where_word, Placed, HasPlaced, SpellsWhere, no_test, tests_follow, SpellsTested, ends_tests, HasNoTests, of_query, without_tests, with_tests, FirstMissing, HasTestedFault, too_long, unreadable, too_many_kept, too_many_captured, not_sound, no_variable, IsTestedText}
 use Rattle.query_parser.specs.TestSteps.{TestLast, after_test, TestsRead, tests_at, no_test_read, test_mark, test_move, TestNext, test_goes, test_stops, test_step, TestsStop, end_stops, TestsBegin, IsReadAs, without_where, with_where}
 use Rattle.query_parser.specs.TestedLaws.{plain, QueriesAreAsBefore, EachTextIsTold}
 use Rattle.query_parser.proofs.TextLaws.{spelled_ends, ends_spelled}

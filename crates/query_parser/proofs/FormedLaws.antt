@@ -7,7 +7,7 @@ use Rattle.span_core.proofs.HasLaws.{Has-get_or}
 use Rattle.span_core.proofs.NameSetLaws.{none_are_variables, with_ascends}
 use Rattle.spanner_model.specs.Captures.{VarName}
 use Rattle.spanner_model.specs.WellBuilt.{IsWellBuilt}
-use Rattle.spanner_model.specs.Expression.{ExprTree, union_end, union, join_end, join, minus, union_all, join_all}
+use Rattle.spanner_model.specs.Expression.{ExprTree, union_end, union, join_end, join, union_all, join_all}
 use Rattle.spanner_model.specs.Sound.{IsFreeName, expr_nesting}
 use Rattle.spanner_model.proofs.NameLaws.{with_cases}
 use Rattle.span_core.specs.NameSets.{with_name}

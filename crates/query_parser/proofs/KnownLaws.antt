@@ -1,5 +1,5 @@
 -- The names of a query's atoms, and the variables of the lets that are known.
-use Rattle.std.proofs.Common.{◌≡◌, ℕ, zero, suc, ◌+◌, ◌<◌, ◌≤◌, ◌⊎◌, ◌↔◌, Bool, true, false, List, [], ◌∷◌, ◌++◌, length, take, Option, Some, None, IsTrue, inl, inr, refl, sym, subst, arith}
+use Rattle.std.proofs.Common.{◌≡◌, ℕ, zero, suc, ◌+◌, ◌<◌, ◌≤◌, ◌⊎◌, ◌↔◌, Bool, true, false, List, [], ◌∷◌, ◌++◌, length, take, Option, Some, inl, inr, refl, sym, subst, arith}
 use Rattle.std.specs.Prelude.{slice_get, nat_eq, MatchBool, if◌then◌else◌}
 use Rattle.std.specs.Option.{IsSomeAnd}
 use Rattle.std.proofs.lemmas.List.{take_all}
@@ -9,48 +9,44 @@ use Rattle.spanner_model.specs.Captures.{VarName}
 use Rattle.spanner_model.specs.Expression.{ExprTree, QueryTree, named}
 use Rattle.spanner_model.specs.Sound.{NameIn, NameInLets, NameOf, SureOf, sure_of_lets}
 use Rattle.spanner_model.specs.Gathered.{Adds, Gathered}
-use Rattle.span_core.proofs.HasLaws.{Has-slice_get}
 use Rattle.functional_check.proofs.LeastLaws.{at_most_less}
 use Rattle.std.proofs.Common.{nat_lt, length-append}
 use Rattle.std.proofs.lemmas.Bool.Decides.{nat_tests}
 use Rattle.spanner_model.specs.Answer.{VarOf, vars_of_lets}
 use Rattle.spanner_model.proofs.ExprLaws.{SameVars, var_same, sure_same, turned, slice_get_push}
-use Rattle.query_parser.specs.declared.check.Bound.{Bound}
 use Rattle.query_parser.specs.declared.fault.QueryFault.{QueryFault}
 use Rattle.query_parser.specs.TreeFaults.{Passes, PassesUnder, IsFaultUnder, LetPasses, IsExprFault, IsTreeFault}
 use Rattle.query_parser.proofs.SameLaws.{same_passes, same_fault}
-use Rattle.query_parser.specs.Formed.{InReach, IsFormed, IsBoundOf, HasSureAmongVars, vars_known, sure_known, PassesQuery}
-use Rattle.query_parser.proofs.FormedLaws.{get_last}
-use Rattle.query_parser.proofs.ReachLaws.{let_in_turn, reaches}
+use Rattle.query_parser.specs.Formed.{IsFormed, PassesQuery}
+use Rattle.query_parser.specs.Bounds.{BoundNames, IsBoundOf, HasSureAmongVars, vars_known, sure_known}
 use Rattle.query_parser.proofs.SureLaws.{sure_var}
 
 -- what was gathered of all lets and of the body
-pub few_names : (q : QueryTree) (k : ℕ) (old new : List VarName) (r : Bool) → length q.lets ≤ k → Adds [] (NameInLets (take k q.lets)) old → Gathered old (NameIn q.body) r new →
-    length new ≤ MOST_VARIABLES → IsTrue r ↔ AtMost MOST_VARIABLES (NameOf q)
-few_names q k old new true le a g few =
+pub all_names : (q : QueryTree) (k : ℕ) (old new : List VarName) → length q.lets ≤ k → Adds [] (NameInLets (take k q.lets)) old → Adds old (NameIn q.body) new →
+    (x : VarName) → NameOf q x → Has new x
+all_names q k old new le a g x h =
     let lets : Adds [] (NameInLets q.lets) old = subst (λ (ls : List (VarName × ExprTree)). Adds [] (NameInLets ls) old) (take_all k q.lets le) a in
-    (λ _. (new, few, λ x h. (g x).1 (elim h as (λ _. Has old x ⊎ NameIn q.body x) [ inl n ↦ inl ((lets x).1 (inr n)) | inr n ↦ inr n ])), λ _. refl)
-few_names q k old new false le a g few =
-    let lets : Adds [] (NameInLets q.lets) old = subst (λ (ls : List (VarName × ExprTree)). Adds [] (NameInLets ls) old) (take_all k q.lets le) a in (
-      λ t. absurd (cc),
-      λ m. absurd (g.1 (at_most_less MOST_VARIABLES (λ x. Has old x ⊎ NameIn q.body x) (NameOf q)
-          (λ x h. elim h as (λ _. NameOf q x) [
-            | inl o ↦ elim ((lets x).0 o) as (λ _. NameOf q x) [ inl n ↦ absurd n | inr n ↦ inl n ]
-            | inr n ↦ inr n
-          ]) m)),
-    )
+    (g x).1 (elim h as (λ _. Has old x ⊎ NameIn q.body x) [ inl n ↦ inl ((lets x).1 (inr n)) | inr n ↦ inr n ])
 
-pub many_names : (q : QueryTree) (new : List VarName) → Gathered [] (NameInLets q.lets) false new → IsTrue false ↔ AtMost MOST_VARIABLES (NameOf q)
-many_names q new g = (
-  λ t. absurd (cc),
-  λ m. absurd (g.1 (at_most_less MOST_VARIABLES (λ x. Has [] x ⊎ NameInLets q.lets x) (NameOf q)
-      (λ x h. elim h as (λ _. NameOf q x) [ inl n ↦ absurd n | inr n ↦ inl n ]) m)),
-)
+-- where there is no room for those of the body, or of the lets, they are too many
+pub many_names : (q : QueryTree) (k : ℕ) (old new : List VarName) → length q.lets ≤ k → Adds [] (NameInLets (take k q.lets)) old → Gathered old (NameIn q.body) false new →
+    AtMost MOST_VARIABLES (NameOf q) → ⊥
+many_names q k old new le a g few =
+    let lets : Adds [] (NameInLets q.lets) old = subst (λ (ls : List (VarName × ExprTree)). Adds [] (NameInLets ls) old) (take_all k q.lets le) a in
+    g.1 (at_most_less MOST_VARIABLES (λ x. Has old x ⊎ NameIn q.body x) (NameOf q)
+    (λ x h. elim h as (λ _. NameOf q x) [
+      | inl o ↦ elim ((lets x).0 o) as (λ _. NameOf q x) [ inl n ↦ absurd n | inr n ↦ inl n ]
+      | inr n ↦ inr n
+    ]) few)
+
+pub many_let_names : (q : QueryTree) (new : List VarName) → Gathered [] (NameInLets q.lets) false new → AtMost MOST_VARIABLES (NameOf q) → ⊥
+many_let_names q new g few =
+    g.1 (at_most_less MOST_VARIABLES (λ x. Has [] x ⊎ NameInLets q.lets x) (NameOf q) (λ x h. elim h as (λ _. NameOf q x) [ inl n ↦ absurd n | inr n ↦ inl n ]) few)
 
 -- ---- the variables of lets that are known
 
 -- the known ones are the variables, and the sure ones, of the first lets
-pub record Knows (lets : List (VarName × ExprTree)) (known : List Bound) : Type 0 where
+pub record Knows (lets : List (VarName × ExprTree)) (known : List BoundNames) : Type 0 where
   pub vars : SameVars (vars_known known) (vars_of_lets lets (length known))
   pub sure : SameVars (sure_known known) (sure_of_lets lets (length known))
   pub among : HasSureAmongVars known
@@ -62,23 +58,23 @@ knows_none lets = record {
   among = λ k x h. absurd (none k (λ b. Has b.sure x) h);
 }
   where
-    none : (k : ℕ) (P : Bound → Type 0) → IsSomeAnd (slice_get [] k) P → ⊥
+    none : (k : ℕ) (P : BoundNames → Type 0) → IsSomeAnd (slice_get [] k) P → ⊥
     none zero P h = h
     none (suc k) P h = h
 
 -- at each place of a list with one more
-more_at : (P : Bound → Type 0) (N : VarName × ExprTree → Type 0) (Q : Type 0) (b : Bool) (new : Bound) (old : Option Bound) (o : Option (VarName × ExprTree)) (l : VarName × ExprTree) →
+more_at : (P : BoundNames → Type 0) (N : VarName × ExprTree → Type 0) (Q : Type 0) (b : Bool) (new : BoundNames) (old : Option BoundNames) (o : Option (VarName × ExprTree)) (l : VarName × ExprTree) →
     o ≡ Some l → (P new ↔ N l) → (IsSomeAnd old P ↔ Q) → IsSomeAnd (if b then Some new else old) P ↔ MatchBool b (IsSomeAnd o N) Q
 more_at P N Q true new old o l at here before = subst (λ w. P new ↔ IsSomeAnd w N) (sym at) here
 more_at P N Q false new old o l at here before = before
 
-among_at : (x : VarName) (b : Bool) (new : Bound) (old : Option Bound) → (Has new.sure x → Has new.vars x) → (IsSomeAnd old (λ c. Has c.sure x) → IsSomeAnd old (λ c. Has c.vars x)) →
+among_at : (x : VarName) (b : Bool) (new : BoundNames) (old : Option BoundNames) → (Has new.sure x → Has new.vars x) → (IsSomeAnd old (λ c. Has c.sure x) → IsSomeAnd old (λ c. Has c.vars x)) →
     IsSomeAnd (if b then Some new else old) (λ c. Has c.sure x) → IsSomeAnd (if b then Some new else old) (λ c. Has c.vars x)
 among_at x true new old here before h = here h
 among_at x false new old here before h = before h
 
 -- one let more
-knows_more : (lets : List (VarName × ExprTree)) (known : List Bound) (l : VarName × ExprTree) (new : Bound) → slice_get lets (length known) ≡ Some l → Knows lets known →
+knows_more : (lets : List (VarName × ExprTree)) (known : List BoundNames) (l : VarName × ExprTree) (new : BoundNames) → slice_get lets (length known) ≡ Some l → Knows lets known →
     IsFormed (length known) l.1 → IsBoundOf (vars_known known) (sure_known known) l.1 new → Knows lets (known ++ new ∷ [])
 knows_more lets known l new at knows formed is = record {
   vars = λ j x.
@@ -114,65 +110,35 @@ knows_more lets known l new at knows formed is = record {
     long : length (known ++ new ∷ []) ≡ suc (length known)
     long = omega (arith, length-append known (new ∷ []))
 
-known_push : (known : List Bound) (new : Bound) (j : ℕ) (x : VarName) → vars_known (known ++ new ∷ []) j x → vars_known known j x ⊎ Has new.vars x
-known_push known new j x h = by (slice_get (known ++ new ∷ []) j) refl h
-  where
-    by : (found : Option Bound) → slice_get (known ++ new ∷ []) j ≡ found → IsSomeAnd found (λ b. Has b.vars x) → vars_known known j x ⊎ Has new.vars x
-    by None e h = absurd h
-    by (Some z) e h = elim (get_last known new z j e) [
-      | inl at ↦ inl (subst (λ o. IsSomeAnd o (λ b. Has b.vars x)) (sym at) h)
-      | inr at ↦ inr (subst (λ (b : Bound). Has b.vars x) (sym at.1) h)
-    ]
-
--- what a let reaches are names of the query
-pub let_reach : (q : QueryTree) (known : List Bound) (k : ℕ) (l : VarName × ExprTree) → slice_get q.lets k ≡ Some l → ((j : ℕ) (x : VarName) → vars_known known j x → NameInLets q.lets x) →
-    AtMost MOST_VARIABLES (NameOf q) → AtMost MOST_VARIABLES (InReach known l.1)
-let_reach q known k l at within few =
-    at_most_less MOST_VARIABLES (InReach known l.1) (NameOf q)
-    (λ x h. elim h as (λ _. NameOf q x) [ inl n ↦ inl (let_in_turn.of_one q.lets l x (Has-slice_get q.lets k l at) n) | inr v ↦ inl (within v.0 x v.1) ]) few
-
-pub body_reach : (q : QueryTree) (known : List Bound) → ((j : ℕ) (x : VarName) → vars_known known j x → NameInLets q.lets x) →
-    AtMost MOST_VARIABLES (NameOf q) → AtMost MOST_VARIABLES (InReach known q.body)
-body_reach q known within few =
-    at_most_less MOST_VARIABLES (InReach known q.body) (NameOf q) (λ x h. elim h as (λ _. NameOf q x) [ inl n ↦ inr n | inr v ↦ inl (within v.0 x v.1) ]) few
-
-fault_under : (lets : List (VarName × ExprTree)) (known : List Bound) (k : ℕ) (e : ExprTree) (f : QueryFault) → length known ≡ k → Knows lets known → IsExprFault (vars_known known) (sure_known known) e f → IsFaultUnder lets k e f
+fault_under : (lets : List (VarName × ExprTree)) (known : List BoundNames) (k : ℕ) (e : ExprTree) (f : QueryFault) → length known ≡ k → Knows lets known → IsExprFault (vars_known known) (sure_known known) e f → IsFaultUnder lets k e f
 fault_under lets known k e f long knows fault =
     subst (λ n. IsFaultUnder lets n e f) long
     (same_fault (vars_known known) (vars_of_lets lets (length known)) (sure_known known) (sure_of_lets lets (length known)) knows.vars knows.sure e f fault)
 
-passes_under : (lets : List (VarName × ExprTree)) (known : List Bound) (k : ℕ) (e : ExprTree) → length known ≡ k → Knows lets known → Passes (vars_known known) (sure_known known) e → PassesUnder lets k e
+passes_under : (lets : List (VarName × ExprTree)) (known : List BoundNames) (k : ℕ) (e : ExprTree) → length known ≡ k → Knows lets known → Passes (vars_known known) (sure_known known) e → PassesUnder lets k e
 passes_under lets known k e long knows pass =
     subst (λ n. PassesUnder lets n e) long
     (same_passes (vars_known known) (vars_of_lets lets (length known)) (sure_known known) (sure_of_lets lets (length known)) knows.vars knows.sure e pass)
 
 -- the fault of a let is one of the query, where those before it pass
-pub let_fault : (q : QueryTree) (known : List Bound) (k : ℕ) (l : VarName × ExprTree) (e : QueryFault) → slice_get q.lets k ≡ Some l → length known ≡ k → Knows q.lets known →
+pub let_fault : (q : QueryTree) (known : List BoundNames) (k : ℕ) (l : VarName × ExprTree) (e : QueryFault) → slice_get q.lets k ≡ Some l → length known ≡ k → Knows q.lets known →
     ((j : ℕ) → j < k → LetPasses q.lets j) → IsExprFault (vars_known known) (sure_known known) l.1 e → IsTreeFault q e
 let_fault q known k l e at long knows passed fault =
     inl (k, passed, subst (λ o. IsSomeAnd o (λ m. IsFaultUnder q.lets k m.1 e)) (sym at) (fault_under q.lets known k l.1 e long knows fault))
 
-pub record KnowsMore (q : QueryTree) (known : List Bound) (k : ℕ) : Type 0 where
+pub record KnowsMore (q : QueryTree) (known : List BoundNames) (k : ℕ) : Type 0 where
   pub long : length known ≡ k + 1
   pub knows : Knows q.lets known
   pub passed : (j : ℕ) → j < k + 1 → LetPasses q.lets j
-  pub within : (j : ℕ) (x : VarName) → vars_known known j x → NameInLets q.lets x
 
 -- one let more
-pub known_next : (q : QueryTree) (known : List Bound) (k : ℕ) (l : VarName × ExprTree) (new : Bound) → slice_get q.lets k ≡ Some l → length known ≡ k → Knows q.lets known →
-    ((j : ℕ) → j < k → LetPasses q.lets j) → ((j : ℕ) (x : VarName) → vars_known known j x → NameInLets q.lets x) → IsFormed k l.1 →
+pub known_next : (q : QueryTree) (known : List BoundNames) (k : ℕ) (l : VarName × ExprTree) (new : BoundNames) → slice_get q.lets k ≡ Some l → length known ≡ k → Knows q.lets known →
+    ((j : ℕ) → j < k → LetPasses q.lets j) → IsFormed k l.1 →
     Passes (vars_known known) (sure_known known) l.1 → IsBoundOf (vars_known known) (sure_known known) l.1 new → KnowsMore q (known ++ new ∷ []) k
-known_next q known k l new at long knows passed within formed pass is = record {
+known_next q known k l new at long knows passed formed pass is = record {
   long = omega (arith, long, length-append known (new ∷ []));
   knows = knows_more q.lets known l new (subst (λ n. slice_get q.lets n ≡ Some l) (sym long) at) knows (subst (λ n. IsFormed n l.1) (sym long) formed) is;
   passed = λ j below. by j (nat_lt j k) refl below;
-  within = λ j x h. elim (known_push known new j x h) as (λ _. NameInLets q.lets x) [
-    | inl old ↦ within j x old
-    | inr here ↦ elim (reaches known l.1 x pass ((is.0 x).0 here)) as (λ _. NameInLets q.lets x) [
-      | inl n ↦ let_in_turn.of_one q.lets l x (Has-slice_get q.lets k l at) n
-      | inr v ↦ within v.0 x v.1
-    ]
-  ];
 }
   where
     by : (j : ℕ) (b : Bool) → nat_lt j k ≡ b → j < k + 1 → LetPasses q.lets j
@@ -181,16 +147,16 @@ known_next q known k l new at long knows passed within formed pass is = record {
         let same : k ≡ j = grind (arith, nat_tests) in
         λ m is. let one : l ≡ m = cc in subst (λ (z : VarName × ExprTree). PassesUnder q.lets j z.1) one (subst (λ n. PassesUnder q.lets n l.1) same (passes_under q.lets known k l.1 long knows pass))
 
-pub body_fault : (q : QueryTree) (known : List Bound) (e : QueryFault) → length known ≡ length q.lets → Knows q.lets known → ((j : ℕ) → LetPasses q.lets j) →
+pub body_fault : (q : QueryTree) (known : List BoundNames) (e : QueryFault) → length known ≡ length q.lets → Knows q.lets known → ((j : ℕ) → LetPasses q.lets j) →
     IsExprFault (vars_known known) (sure_known known) q.body e → IsTreeFault q e
 body_fault q known e long knows passed fault = inr (passed, fault_under q.lets known (length q.lets) q.body e long knows fault)
 
-pub all_pass : (q : QueryTree) (known : List Bound) → length known ≡ length q.lets → Knows q.lets known → ((j : ℕ) → LetPasses q.lets j) →
+pub all_pass : (q : QueryTree) (known : List BoundNames) → length known ≡ length q.lets → Knows q.lets known → ((j : ℕ) → LetPasses q.lets j) →
     Passes (vars_known known) (sure_known known) q.body → PassesQuery q
 all_pass q known long knows passed pass = (passed, passes_under q.lets known (length q.lets) q.body long knows pass)
 
 -- what is known of a let is that of its name
-pub named_bound : (known : List Bound) (k : ℕ) (b : Bound) → slice_get known k ≡ Some b → IsBoundOf (vars_known known) (sure_known known) (named k) b
+pub named_bound : (known : List BoundNames) (k : ℕ) (b : BoundNames) → slice_get known k ≡ Some b → IsBoundOf (vars_known known) (sure_known known) (named k) b
 named_bound known k b at = (
   λ x. subst (λ o. Has b.vars x ↔ IsSomeAnd o (λ c. Has c.vars x)) (sym at) (λ h. h, λ h. h),
   λ x. subst (λ o. Has b.sure x ↔ IsSomeAnd o (λ c. Has c.sure x)) (sym at) (λ h. h, λ h. h),

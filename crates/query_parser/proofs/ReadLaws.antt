@@ -1,6 +1,6 @@
 -- What follows from an answer that is the text's.
 use Rattle.std.proofs.Common.{◌≡◌, ◌≤◌, ◌⊎◌, ℕ, inl, inr, Bool, true, false, List, length, Option, Some, None, Result, Ok, Err, refl, sym, ap, ◌∙◌, subst}
-use Rattle.std.specs.Prelude.{IfOk, IfErr, IsTrue, ◌↔◌}
+use Rattle.std.specs.Prelude.{IfOk, IfErr}
 use Rattle.std.specs.Option.{IsSomeAnd}
 use Rattle.spanner_model.specs.declared.query.Query.{Query}
 use Rattle.spanner_model.specs.Captures.{VarName}
@@ -183,12 +183,8 @@ kept_spelled text q true ends is = absurd (cc)
 kept_spelled text q false ends is = ends_spelled text q ends
 
 -- its names are not few
-pub checked_many : (text : List ℕ) (q : QueryTree) (few : Bool) → length text ≤ MOST_TEXT_BYTES → SpellsQuery text q → (IsTrue few ↔ AtMost MOST_VARIABLES (NameOf q)) → few ≡ false → IsRead text (Err TooManyVariables)
-checked_many text q true short spelled tells is = absurd (cc)
-checked_many text q false short spelled tells is = inr (too_many_captured {q = q} short spelled (λ m. out (tells.1 m)))
-  where
-    out : false ≡ true → ⊥
-    out e = absurd (cc)
+pub checked_many : (text : List ℕ) (q : QueryTree) → length text ≤ MOST_TEXT_BYTES → SpellsQuery text q → ¬ AtMost MOST_VARIABLES (NameOf q) → IsRead text (Err TooManyVariables)
+checked_many text q short spelled many = inr (too_many_captured {q = q} short spelled many)
 
 pub checked_formed : (text : List ℕ) (q : QueryTree) → IsText text → SpellsQuery text q → IsFormedQuery q
 checked_formed text q bytes (ts, has, spelled) = query_formed text ts q bytes has spelled

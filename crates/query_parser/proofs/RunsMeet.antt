@@ -1,10 +1,8 @@
 -- A text has one token at a place, and so one reading of it goes one way.
-use Rattle.std.proofs.Common.{◌≡◌, ◌⊎◌, ℕ, ◌+◌, ◌==◌, ◌&&◌, Bool, true, false, List, [], ◌∷◌, ◌++◌, length, drop, Option, Some, Result, Ok, ap, refl, sym, subst, ◌∙◌}
+use Rattle.std.proofs.Common.{◌≡◌, ℕ, ◌+◌, ◌&&◌, true, List, [], ◌∷◌, ◌++◌, length, drop, Option, Some, Result, Ok, ap, refl, sym, subst, ◌∙◌}
 use Rattle.std.specs.List.{list_all, take_while}
 use Rattle.std.proofs.lemmas.Bool.{and_parts}
 use Rattle.span_core.specs.Names.{is_name_start, is_name_byte}
-use Rattle.formula_parser.specs.Names.{is_word}
-use Rattle.formula_parser.specs.Runs.{begins}
 use Rattle.formula_parser.specs.Spells.{AtomTree}
 use Rattle.formula_parser.proofs.AtomLaws.{one_tree}
 use Rattle.formula_parser.proofs.RunLaws.{run_is}

@@ -9,7 +9,6 @@ use Rattle.spanner_model.specs.Sound.{IsSound, IsFreeName, NameOf, expr_nesting,
 use Rattle.formula_parser.proofs.BuiltLaws.{IsText}
 use Rattle.formula_parser.proofs.AtomLaws.{atom_built}
 use Rattle.query_parser.specs.Tokens.{Token, TokenAt, atom_at, word_at, sign_at, HasTokens, text_ends, blank_first, token_first}
-use Rattle.query_parser.specs.declared.TheConstants.{MOST_MINUSES}
 use Rattle.query_parser.specs.Minuses.{minuses_in}
 use Rattle.query_parser.specs.Spells.{names_of, union_tree, Spells}
 use Rattle.query_parser.specs.Formed.{IsFormed, IsFormedQuery, PassesQuery}

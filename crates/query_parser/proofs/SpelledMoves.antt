@@ -9,7 +9,7 @@ use Rattle.spanner_model.specs.Captures.{VarName}
 use Rattle.spanner_model.specs.Expression.{ExprTree, QueryTree, atom, named, union_all, join_all, project, minus}
 use Rattle.query_parser.specs.declared.TheConstants.{MOST_OPEN, MOST_MINUSES}
 use Rattle.query_parser.specs.Tokens.{Token, atom_token, let_word, union_word, join_word, project_word, name_token, equals, semicolon, open_paren, close_paren, comma, minus_word}
-use Rattle.query_parser.specs.Minuses.{minuses_in, minuses_in_lets, minuses_of}
+use Rattle.query_parser.specs.Minuses.{minuses_in, minuses_in_lets}
 use Rattle.query_parser.specs.Spells.{union_tree, join_tree, with_names, SpellsNames, one_name, more_names, SpellsKeep, keeps_none, keeps_names, SpellsExpr, lone_conj, more_conjs, less_conj, SpellsConj, lone_unit, more_units, SpellsUnit, atom_unit, named_unit, group_of, projection_of, names_of, SpellsLets, no_let, more_lets, Spells}
 use Rattle.query_parser.specs.Reads.{unexpected, too_deep, name_too_long, name_twice, is_among, finds_room}
 use Rattle.query_parser.specs.Nest.{Frame, Last, at_start, after_let, after_name, at_unit, unit, after_project, after_none, after_kept, after_comma, Nest, Move, outermost, whole_conj, less, whole_expr, whole, keeping, next_side, subtracts, find, move, opens, opened, speaks_of, reads_name, keeps, with_last, whole_query}

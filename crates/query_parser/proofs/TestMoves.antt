@@ -1,11 +1,11 @@
 -- The tests that tokens spell are those that they lead to, and the other way round.
-use Rattle.std.proofs.Common.{◌≡◌, ℕ, ◌+◌, Bool, true, false, List, [], ◌∷◌, ◌++◌, map, drop, Result, Ok, Err, ap, refl, sym, subst, ◌∙◌, append_assoc, if◌then◌else◌}
+use Rattle.std.proofs.Common.{◌≡◌, ℕ, Bool, true, false, List, [], ◌∷◌, ◌++◌, map, Result, Ok, Err, ap, refl, sym, subst, ◌∙◌, append_assoc, if◌then◌else◌}
 use Rattle.std.proofs.lemmas.List.{append-nil}
 use Rattle.span_core.specs.Names.{is_name}
 use Rattle.spanner_model.specs.Captures.{VarName}
 use Rattle.spanner_model.specs.Sound.{IsFreeName}
 use Rattle.query_parser.specs.declared.asks.Asked.{Asked}
-use Rattle.query_parser.specs.Tokens.{Token, atom_token, let_word, union_word, join_word, project_word, none_word, name_token, equals, semicolon, open_paren, close_paren, comma, HasTokens, text_ends, blank_first, token_first}
+use Rattle.query_parser.specs.Tokens.{Token, name_token, open_paren, close_paren, comma, HasTokens, text_ends, blank_first, token_first}
 use Rattle.query_parser.specs.Reads.{Refusal, name_too_long}
 use Rattle.query_parser.specs.Nest.{Nest}
 use Rattle.query_parser.specs.TokenRuns.{Run, run_ends, run_blank, run_token, query_step}

@@ -1,23 +1,21 @@
 -- Steps of reading tests: what goes on, and what stops it.
-use Rattle.std.proofs.Common.{◌≡◌, ◌⊎◌, inl, inr, ℕ, zero, suc, ◌+◌, ◌<◌, ◌≤◌, ◌==◌, ◌&&◌, Bool, true, false, List, [], ◌∷◌, ◌++◌, length, length-append, drop, Option, Some, None, Result, Ok, Err, ap, refl, sym, subst, ◌∙◌, arith, cond, if◌then◌else◌}
+use Rattle.std.proofs.Common.{◌≡◌, ◌⊎◌, inl, inr, ℕ, ◌+◌, ◌<◌, ◌≤◌, Bool, true, false, List, [], ◌∷◌, length, length-append, drop, Result, Ok, Err, ap, refl, sym, subst, ◌∙◌, arith, cond, if◌then◌else◌}
 use Rattle.std.specs.List.{take_while}
-use Rattle.std.proofs.lemmas.Bool.Decides.{nat_tests}
 use Rattle.std.proofs.lemmas.List.Sums.{take_while-cons}
 use Rattle.span_core.specs.Names.{is_name, is_name_start, is_name_byte}
 use Rattle.spanner_model.specs.Captures.{VarName}
-use Rattle.formula_parser.specs.Runs.{StandsAt}
 use Rattle.formula_parser.proofs.RunLaws.{run_of}
 use Rattle.query_parser.specs.declared.asks.Asked.{Asked}
 use Rattle.query_parser.specs.declared.fault.QueryFault.{QueryFault}
 use Rattle.query_parser.specs.declared.fault.QueryFault.TheVariants.{Unexpected, OutOfMemory}
-use Rattle.query_parser.specs.Tokens.{Token, atom_token, let_word, union_word, join_word, project_word, none_word, name_token, equals, semicolon, open_paren, close_paren, comma, word_token, sign_token, is_blank, TokenAt, atom_at, word_at, sign_at, IsStray}
+use Rattle.query_parser.specs.Tokens.{Token, name_token, open_paren, close_paren, comma, sign_token, is_blank, TokenAt, atom_at, word_at, sign_at}
 use Rattle.query_parser.specs.Reads.{Reading, Refusal, unexpected, name_too_long}
 use Rattle.query_parser.specs.Faults.{refused, IsReadFault}
 use Rattle.query_parser.specs.Step as code
 use Rattle.query_parser.specs.TokenRuns.{Run, run_ends, run_blank, run_token}
 use Rattle.query_parser.specs.Tested.{TestMark, next_of_tests, reads_test_name, BeginsTests, ReadsTests, word_read, HasNoTests, IsTestedReadFault, of_query, atom_in_tests, token_in_tests, no_token_in_tests, tests_not_whole}
 use Rattle.query_parser.specs.Tested as grammar
-use Rattle.query_parser.specs.TestSteps.{TestLast, at_test, after_test_name, after_test_open, after_test_var, after_test, TestsRead, tests_at, no_test_read, test_mark, TestMove, test_name_read, test_move, TestNext, test_goes, test_stops, test_moved, test_words, test_signs, test_step, TestsStop, atom_stops, token_stops, stray_stops, end_stops, StopsFrom}
+use Rattle.query_parser.specs.TestSteps.{TestLast, at_test, after_test_name, after_test_open, after_test_var, after_test, TestsRead, tests_at, no_test_read, test_mark, TestMove, test_name_read, test_move, TestNext, test_goes, test_stops, test_moved, test_words, test_signs, test_step, TestsStop, atom_stops, token_stops, stray_stops, end_stops}
 use Rattle.query_parser.specs.TestAnswers.{IsTestStep, AreReadFrom}
 use Rattle.query_parser.proofs.StepLaws.{Front, blank, slash, starts, sign, stray, front_of, start_no_blank, sign_is, sign_no_other, start_continues, word_here}
 use Rattle.query_parser.proofs.RunsMeet.{run_on, Halted, end_halts, one_token, word_front, same_front, no_slash_starts, no_slash_sign, no_blank_slash, blank_no_token, end_no_token, stray_no_blank, stray_no_token}

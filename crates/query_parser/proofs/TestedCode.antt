@@ -1,5 +1,5 @@
 -- What the code that reads queries with tests shows at its steps.
-use Rattle.std.proofs.Common.{◌≡◌, ◌⊎◌, inl, inr, ℕ, zero, suc, ◌+◌, ◌<◌, ◌≤◌, ◌&&◌, Bool, true, false, List, [], ◌∷◌, ◌++◌, length, take, drop, Option, Some, None, Result, Ok, Err, ap, refl, sym, subst, ◌∙◌, arith, length-drop, cond}
+use Rattle.std.proofs.Common.{◌≡◌, ◌⊎◌, inl, inr, ℕ, zero, suc, ◌+◌, ◌≤◌, ◌&&◌, Bool, true, false, List, [], ◌∷◌, ◌++◌, length, take, drop, Option, Some, None, Result, Ok, Err, ap, refl, sym, subst, ◌∙◌, arith, length-drop, cond}
 use Rattle.std.specs.Prelude.{IfOk, IfErr, IsTrue, ◌↔◌, codes, slice_get}
 use Rattle.std.proofs.lemmas.Bool.{and_parts}
 use Rattle.std.proofs.lemmas.List.{take_all}
@@ -32,8 +32,8 @@ use Rattle.query_parser.specs.Step.{step, stops, ends, EndsAfter}
 use Rattle.query_parser.specs.Step as code
 use Rattle.query_parser.specs.Turn.{IsTurn, IsEnd}
 use Rattle.query_parser.specs.TokenRuns.{Run, run_ends, query_step, IsReadTo}
-use Rattle.query_parser.specs.Tested.{TestedTree, Placed, where_word, SpellsTested, ends_tests, FirstMissing, IsTestedReadFault, of_query, HasNoTests, HasTestedFault, too_long, unreadable, too_many_kept, too_many_captured, not_sound, no_variable, IsTestedText}
-use Rattle.query_parser.specs.TestSteps.{TestLast, after_test, TestsRead, tests_at, no_test_read, test_mark, test_move, StopsFrom, TestsStop, atom_stops, token_stops, stray_stops, end_stops, TestsBegin, HasTestsFrom, IsReadAs, without_where, with_where}
+use Rattle.query_parser.specs.Tested.{TestedTree, Placed, where_word, SpellsTested, ends_tests, FirstMissing, of_query, HasNoTests, HasTestedFault, too_long, unreadable, too_many_kept, too_many_captured, not_sound, no_variable, IsTestedText}
+use Rattle.query_parser.specs.TestSteps.{TestLast, after_test, TestsRead, tests_at, no_test_read, test_mark, test_move, StopsFrom, TestsStop, atom_stops, token_stops, stray_stops, end_stops, TestsBegin, HasTestsFrom, IsReadAs, without_where}
 use Rattle.query_parser.specs.TestAnswers.{AreReadFrom, IsReadThrough, IsTestedRead}
 use Rattle.query_parser.specs.TestedAnswers.{IsTestedAnswer}
 use Rattle.query_parser.specs.TestedView.{tested_of}
@@ -45,11 +45,11 @@ use Rattle.query_parser.proofs.FormedLaws.{AtomsBuilt, built_split}
 use Rattle.query_parser.proofs.SoundQuery.{built_tokens, formed_query, passed_query}
 use Rattle.query_parser.proofs.Lists.{eq_true, eq_is}
 use Rattle.query_parser.proofs.TextLaws.{word_by}
-use Rattle.query_parser.proofs.RunsMeet.{Halted, end_halts, end_no_token, word_run}
+use Rattle.query_parser.proofs.RunsMeet.{end_halts, end_no_token, word_run}
 use Rattle.query_parser.proofs.TurnLaws.{token_within}
 use Rattle.query_parser.proofs.TestMoves.{tokens_of, placed_tokens}
 use Rattle.query_parser.proofs.TestTurns.{stop_fault, fault_stops, Stopped}
-use Rattle.query_parser.proofs.TestedReading.{run_read, run_goes, ends_halts, turn_ends, no_tests_here, whole_found, begin_begins, read_spelled, spelled_read}
+use Rattle.query_parser.proofs.TestedReading.{run_read, run_goes, ends_halts, turn_ends, no_tests_here, whole_found, begin_begins, read_spelled}
 use Rattle.query_parser.proofs.TestedFaults.{one_tested, tested_not_both, one_tested_fault, read_kept}
 
 -- ---- the word before the tests
@@ -193,13 +193,8 @@ pub kept_few : (text : List ℕ) (q : QueryTree) (many : Bool) (asked : List Ask
 kept_few text q true asked read is = absurd (cc)
 kept_few text q false asked read is = read_spelled read
 
-pub names_many : (text : List ℕ) (t : TestedTree) (few : Bool) → length text ≤ MOST_TEXT_BYTES → SpellsTested text t → (IsTrue few ↔ AtMost MOST_VARIABLES (NameOf t.query)) → few ≡ false →
-    IsTestedRead text (Err TooManyVariables)
-names_many text t true short spelled tells is = absurd (cc)
-names_many text t false short spelled tells is = inr (too_many_captured {t = t} short spelled (λ m. out (tells.1 m)))
-  where
-    out : false ≡ true → ⊥
-    out e = absurd (cc)
+pub names_many : (text : List ℕ) (t : TestedTree) → length text ≤ MOST_TEXT_BYTES → SpellsTested text t → ¬ AtMost MOST_VARIABLES (NameOf t.query) → IsTestedRead text (Err TooManyVariables)
+names_many text t short spelled many = inr (too_many_captured {t = t} short spelled many)
 
 tokens_both : (ts us : List Placed) → tokens_of (ts ++ us) ≡ tokens_of ts ++ tokens_of us
 tokens_both [] us = refl

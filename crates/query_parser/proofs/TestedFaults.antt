@@ -1,5 +1,5 @@
 -- The one fault, or the one query, of a text with tests.
-use Rattle.std.proofs.Common.{◌≡◌, ◌⊎◌, inl, inr, ℕ, ◌<◌, ◌≤◌, Bool, true, false, List, [], ◌∷◌, length, drop, Option, Some, Result, Ok, Err, ap, refl, sym, subst, ◌∙◌, arith}
+use Rattle.std.proofs.Common.{◌≡◌, ◌⊎◌, inl, inr, ℕ, ◌<◌, ◌≤◌, Bool, true, false, List, [], ◌∷◌, length, drop, Option, Some, Ok, Err, ap, refl, sym, subst, ◌∙◌, arith}
 use Rattle.span_core.specs.declared.TheConstants.{MOST_VARIABLES}
 use Rattle.span_core.specs.Lists.{AtMost, Has}
 use Rattle.spanner_model.specs.Captures.{VarName}
@@ -17,7 +17,7 @@ use Rattle.query_parser.specs.TreeFaults.{IsTreeFault}
 use Rattle.query_parser.specs.Nest.{Nest, Body, reading_of, outermost, whole_query}
 use Rattle.query_parser.specs.Step.{Ends}
 use Rattle.query_parser.specs.TokenRuns.{Run, query_step}
-use Rattle.query_parser.specs.Tested.{TestedTree, where_word, ReadsTests, ends_tests, HasNoTests, IsTestedReadFault, IsReadWhole, without_tests, with_tests, FirstMissing, AreOfResult, HasTestedFault, too_long, unreadable, too_many_kept, too_many_captured, not_sound, no_variable, IsTestedText}
+use Rattle.query_parser.specs.Tested.{TestedTree, where_word, ReadsTests, ends_tests, HasNoTests, IsTestedReadFault, IsReadWhole, without_tests, with_tests, FirstMissing, HasTestedFault, too_long, unreadable, too_many_kept, too_many_captured, not_sound, no_variable, IsTestedText}
 use Rattle.query_parser.specs.TestSteps.{TestLast, after_test, TestsRead, tests_at, no_test_read, test_mark, test_move, TestsStop, atom_stops, token_stops, stray_stops, end_stops, TestsBegin, HasTestsFrom, IsReadAs, without_where, with_where}
 use Rattle.query_parser.proofs.TokensSpelled.{whole_many}
 use Rattle.query_parser.proofs.TextLaws.{Answer}
@@ -25,7 +25,7 @@ use Rattle.query_parser.proofs.FaultLaws.{fault_ends, ends_kept, kept_ends}
 use Rattle.query_parser.proofs.GrammarLaws.{same_answer, one_read_fault}
 use Rattle.query_parser.proofs.QueryLaws.{sound_none, tree_one}
 use Rattle.query_parser.proofs.RunsMeet.{end_halts, meets, one_token, end_no_token}
-use Rattle.query_parser.proofs.TestTurns.{Begun, reads_begun, begun_reads, fault_stops, Stopped, stop_fault, stop_halts, one_stop}
+use Rattle.query_parser.proofs.TestTurns.{Begun, reads_begun, begun_reads, fault_stops, Stopped, stop_halts, one_stop}
 use Rattle.query_parser.proofs.TestedReading.{read_run, where_halts, begins_ends, whole_found, found_whole, begin_begins, spelled_read}
 
 -- ---- one reading

@@ -1,29 +1,29 @@
 -- A text with tests: what is read of it, and what it spells.
-use Rattle.std.proofs.Common.{◌≡◌, ◌⊎◌, inl, inr, ℕ, zero, suc, ◌+◌, ◌<◌, ◌≤◌, Bool, true, false, List, [], ◌∷◌, ◌++◌, length, map, drop, Option, Some, None, Result, Ok, Err, ap, refl, sym, subst, ◌∙◌, arith}
+use Rattle.std.proofs.Common.{◌≡◌, ◌⊎◌, inl, inr, ℕ, zero, suc, ◌+◌, Bool, true, false, List, [], ◌∷◌, ◌++◌, length, drop, Option, Some, None, Ok, Err, ap, refl, sym, subst, ◌∙◌}
 use Rattle.std.proofs.lemmas.List.{append-nil}
 use Rattle.spanner_model.specs.Captures.{VarName}
-use Rattle.spanner_model.specs.Expression.{ExprTree, QueryTree}
+use Rattle.spanner_model.specs.Expression.{QueryTree}
 use Rattle.formula_parser.specs.Spells.{AtomTree, IsAtomAt}
 use Rattle.formula_parser.proofs.AtomLaws.{no_tree_with_fault}
 use Rattle.query_parser.specs.declared.asks.Asked.{Asked}
 use Rattle.query_parser.specs.declared.fault.QueryFault.{QueryFault}
 use Rattle.query_parser.specs.declared.fault.QueryFault.TheVariants.{Unexpected, OutOfMemory}
-use Rattle.query_parser.specs.Tokens.{Token, atom_token, name_token, TokenAt, atom_at, BlankAt, HasTokens}
+use Rattle.query_parser.specs.Tokens.{Token, name_token, TokenAt, atom_at, HasTokens}
 use Rattle.query_parser.specs.Spells.{Spells}
 use Rattle.query_parser.specs.Reads.{Mark, Reading, unexpected, next, is_whole, ReadsQuery, start_read}
 use Rattle.query_parser.specs.Reads as reads
 use Rattle.query_parser.specs.Faults.{token_refused}
 use Rattle.query_parser.specs.Nest.{Nest, Move, Body, Last, unit, mark_of, reading_of, outermost, move, moves_name, whole_query}
-use Rattle.query_parser.specs.Step.{step, goes, reads_atom, stops, moved, EndsAfter, Ends}
+use Rattle.query_parser.specs.Step.{step, goes, reads_atom, moved, EndsAfter, Ends}
 use Rattle.query_parser.specs.Turn.{IsTurn}
 use Rattle.query_parser.specs.TokenRuns.{Run, run_ends, run_blank, run_token, query_step, IsReadTo}
 use Rattle.query_parser.specs.Tested.{TestedTree, where_word, Placed, HasPlaced, SpellsTests, SpellsWhere, no_test, tests_follow, SpellsTested, BeginsTests, HasNoTests}
 use Rattle.query_parser.specs.Tested as placed
-use Rattle.query_parser.specs.TestSteps.{after_test, TestsRead, tests_at, no_test_read, test_move, TestsBegin, HasTestsFrom, IsReadAs, without_where, with_where}
+use Rattle.query_parser.specs.TestSteps.{after_test, tests_at, no_test_read, test_move, TestsBegin, IsReadAs, without_where, with_where}
 use Rattle.query_parser.proofs.MoveLaws.{seen, shape}
 use Rattle.query_parser.proofs.SpelledMoves.{Runs, reads_query}
 use Rattle.query_parser.proofs.TokensSpelled.{spelled_query}
-use Rattle.query_parser.proofs.StepLaws.{ends_more, ends_atom, at_blank, Steps, by_atom, by_move, token_steps, atom_wanted, wanted, token_ends, Went, went_blank, went_token, went, atom_due}
+use Rattle.query_parser.proofs.StepLaws.{ends_more, at_blank, Steps, by_atom, by_move, token_steps, atom_wanted, wanted, token_ends, Went, went_blank, went_token, went, atom_due}
 use Rattle.query_parser.proofs.TextLaws.{Answer, spelled_ends, ends_spelled, tokens_proper}
 use Rattle.query_parser.proofs.FaultLaws.{is_found, whole_of, fault_ends}
 use Rattle.query_parser.proofs.TurnLaws.{atom_moves}

@@ -11,7 +11,7 @@ use Rattle.spanner_model.specs.Expression.{ExprTree, QueryTree, atom, named}
 use Rattle.spanner_model.specs.Sound.{words}
 use Rattle.query_parser.specs.declared.TheConstants.{MOST_OPEN, MOST_MINUSES}
 use Rattle.query_parser.specs.Tokens.{Token, atom_token, let_word, union_word, join_word, project_word, none_word, name_token, equals, semicolon, open_paren, close_paren, comma, minus_word}
-use Rattle.query_parser.specs.Minuses.{minuses_in, minuses_in_lets, minuses_of}
+use Rattle.query_parser.specs.Minuses.{minuses_in, minuses_in_lets}
 use Rattle.query_parser.specs.Spells.{SpellsKeep, keeps_none, keeps_names, atom_unit, named_unit, names_of, Spells}
 use Rattle.query_parser.specs.Reads.{unexpected, name_too_long, name_twice, too_deep, is_among, finds_room}
 use Rattle.query_parser.specs.Nest.{Frame, Last, at_start, after_let, after_name, at_unit, unit, after_project, after_none, after_kept, after_comma, Nest, Move, outermost, whole_conj, less, whole, closed, next_side, subtracts, leaves, ends_let, find, move, opens, opened, speaks_of, reads_name, begins_let, keeps, with_last, Body, ends_body, whole_query}

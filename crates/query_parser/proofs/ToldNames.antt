@@ -11,8 +11,7 @@ use Rattle.spanner_model.proofs.Deciding.{Told}
 use Rattle.span_core.proofs.HasLaws.{distinct-le}
 use Rattle.spanner_model.proofs.NameLaws.{with_cases, with_here, with_there, not_below_itself, ascending-distinct}
 use Rattle.functional_check.specs.Faults.{IsLeast, IsLeastOf}
-use Rattle.functional_check.specs.Names.{smaller_of}
-use Rattle.functional_check.proofs.LeastLaws.{least_both, least_same, at_most_less}
+use Rattle.functional_check.proofs.LeastLaws.{smaller_of, least_both, least_same, at_most_less}
 use Rattle.query_parser.specs.Reads.{is_among, finds_room}
 use Rattle.query_parser.proofs.Lists.{among_not, room_keeps}
 

@@ -1,3 +1,4 @@
+-- what public contracts rest on
 pub mod Tokens
 pub mod Minuses
 pub mod Spells
@@ -6,16 +7,18 @@ pub mod TreeFaults
 pub mod Faults
 pub mod Laws
 pub mod Answers
-pub mod Nest
-pub mod Step
-pub mod View
-pub mod Turn
-pub mod Numbers
 pub mod Formed
 pub mod Tested
 pub mod TestedView
 pub mod TestedAnswers
 pub mod TestedLaws
+-- what the functions inside promise each other
+pub mod Nest
+pub mod Step
+pub mod View
+pub mod Turn
+pub mod Numbers
+pub mod Bounds
 pub mod TokenRuns
 pub mod TestSteps
 pub mod TestAnswers

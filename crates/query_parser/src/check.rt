@@ -1,147 +1,150 @@
 //! Checks the expressions of a query, from the leaves up.
 //!
 //! Each expression answers its variables, with those of them that are sure, or its first fault; a `let` is checked
-//! under those before it, whose variables are known by number.
-ghost use Rattle.std.specs.Prelude.{◌≡◌, ℕ, ◌<◌, ◌↔◌, List, [], length, IsTrue, IfSome, IfNone, Some, OnOk, IfErr, ◌⊎◌};
+//! under those before it, whose variables are known by number. The names of all atoms are gathered first, and each
+//! set of variables is told by their numbers.
+ghost use Rattle.std.specs.Prelude.{◌≡◌, ℕ, ◌<◌, ◌≤◌, ◌↔◌, List, length, IfSome, IfNone, Some, OnOk, IfErr, ◌⊎◌};
 ghost use Rattle.span_core.specs.declared.TheConstants.{MOST_VARIABLES};
 ghost use Rattle.span_core.specs.Lists.{Has, AtMost};
+ghost use Rattle.span_core.specs.NameSets.{Ascending};
 ghost use Rattle.spanner_model.specs.Expression.{ExprTree, union_all, join_all};
 ghost use Rattle.spanner_model.specs.ExprView.{expr_of, exprs_of, query_of};
 ghost use Rattle.spanner_model.specs.Sound.{NameIn, NameOf};
-ghost use Rattle.spanner_model.specs.Gathered.{Adds, HaveRoom, Gathered};
+ghost use Rattle.spanner_model.specs.Gathered.{Gathered};
 ghost use Rattle.functional_check.specs.Faults.{IsLeastOf};
+ghost use Rattle.functional_check.specs.Numbered.{HasNumber};
 ghost use Rattle.query_parser.specs.TreeFaults.{IsTreeFault};
-ghost use Rattle.query_parser.specs.Formed.{IsFormed, InReach, vars_known, sure_known, HasSureAmongVars, Checked, IsUnsureIn, IsProjectionOf, IsDifferenceOf, IsFormedQuery, PassesQuery};
+ghost use Rattle.query_parser.specs.Formed.{IsFormed, IsFormedQuery, PassesQuery};
+ghost use Rattle.query_parser.specs.Bounds.{bound_in, bounds_in, HasSureAmongVars, CheckedUnder, IsUnsureIn, IsProjectionOf, IsDifferenceOf};
 
 use crate::fault::QueryFault;
-use functional_check::names::{add_all, least_where, shared, smaller};
-use functional_check::{check, sure};
+use functional_check::{NameBits, check_among, sure_among};
 use span_core::{MOST_VARIABLES, Name, VarSet};
 use spanner_model::{Expr, Exprs, Query, gather};
 use std::alloc::Global;
 
 /// The variables of an expression, and those of them that are sure: each answer gives them a span.
-#[derive(Drop)]
+#[derive(Clone, Copy)]
 pub(crate) struct Bound {
-    vars: VarSet,
-    sure: VarSet,
+    vars: NameBits,
+    sure: NameBits,
 }
 
 impl Bound {
     /// Those of a join of no parts.
     fn none() -> Bound
-        ensures vars { result.vars ≡ [] }
-        ensures sure { result.sure ≡ [] }
+        ensures vars { (k : ℕ) → ¬ HasNumber result.vars k }
+        ensures sure { (k : ℕ) → ¬ HasNumber result.sure k }
     {
         Bound {
-            vars: VarSet::empty(),
-            sure: VarSet::empty(),
+            vars: NameBits::empty(),
+            sure: NameBits::empty(),
         }
     }
 
-    fn copy(&self) -> Bound
-        ensures vars { result.vars ≡ self.now.vars }
-        ensures sure { result.sure ≡ self.now.sure }
+    /// Those of a union of parts that have these, and of one part more.
+    fn unite(self, part: Bound) -> Bound
+        ensures vars { (k : ℕ) → HasNumber result.vars k ↔ (HasNumber self.vars k ⊎ HasNumber part.vars k) }
+        ensures sure { (k : ℕ) → HasNumber result.sure k ↔ (HasNumber self.sure k × HasNumber part.sure k) }
     {
         Bound {
-            vars: self.vars.copy(),
-            sure: self.sure.copy(),
+            vars: self.vars.union(part.vars),
+            sure: self.sure.meet(part.sure),
         }
     }
 
-    /// Makes those of a union of its first parts those of one part more.
-    fn unite(&mut self, part: &Bound)
-        requires { HaveRoom self.old.vars (Has part.now.vars) }
-        ensures vars { Adds self.old.vars (Has part.now.vars) self.new.vars }
-        ensures sure { (x : List ℕ) → Has self.new.sure x ↔ (Has self.old.sure x × Has part.now.sure x) }
+    /// Those of a join of parts that have these, and of one part more.
+    fn join(self, part: Bound) -> Bound
+        ensures vars { (k : ℕ) → HasNumber result.vars k ↔ (HasNumber self.vars k ⊎ HasNumber part.vars k) }
+        ensures sure { (k : ℕ) → HasNumber result.sure k ↔ (HasNumber self.sure k ⊎ HasNumber part.sure k) }
     {
-        add_all(&part.vars, &mut self.vars);
-        self.sure = shared(&self.sure, &part.sure);
-    }
-
-    /// Makes those of a join of its first parts those of one part more.
-    fn join(&mut self, part: &Bound)
-        requires vars { HaveRoom self.old.vars (Has part.now.vars) }
-        requires sure { HaveRoom self.old.sure (Has part.now.sure) }
-        ensures vars { Adds self.old.vars (Has part.now.vars) self.new.vars }
-        ensures sure { Adds self.old.sure (Has part.now.sure) self.new.sure }
-    {
-        add_all(&part.vars, &mut self.vars);
-        add_all(&part.sure, &mut self.sure);
+        Bound {
+            vars: self.vars.union(part.vars),
+            sure: self.sure.union(part.sure),
+        }
     }
 
     /// The least variable that is in both and not sure in both.
-    fn least_unsure(&self, part: &Bound) -> Option<Name>
-        ensures { IsLeastOf (IsUnsureIn self.now part.now) result }
+    fn least_unsure(self, part: Bound, names: &VarSet) -> Option<Name>
+        requires { Ascending names.now }
+        ensures { IsLeastOf (IsUnsureIn (bound_in names.now self) (bound_in names.now part)) result }
     {
-        let vars = shared(&self.vars, &part.vars);
-        let sure = shared(&self.sure, &part.sure);
-        least_where(&vars, &sure, false)
+        let sure = self.sure.meet(part.sure);
+        let vars = self.vars.meet(part.vars);
+        vars.without(sure).least(names)
     }
 }
 
-/// The variables of an expression, where `known` has those of the lets of which it may speak, or its
-/// first fault.
+/// The variables of an expression, where `names` has the names of its atoms and `known` the variables of the lets
+/// of which it may speak, or its first fault.
 #[cycle(check)]
-pub(crate) fn check_expr(expr: &Expr, known: &[Bound]) -> Result<Bound, QueryFault>
+pub(crate) fn check_expr(expr: &Expr, names: &VarSet, known: &[Bound]) -> Result<Bound, QueryFault>
     requires formed { IsFormed (length known.now) (expr_of expr.now) }
-    requires few { AtMost MOST_VARIABLES (InReach known.now (expr_of expr.now)) }
-    requires among { HasSureAmongVars known.now }
-    ensures { Checked (vars_known known.now) (sure_known known.now) (expr_of expr.now) result }
+    requires ascending { Ascending names.now }
+    requires named { (x : List ℕ) → NameIn (expr_of expr.now) x → Has names.now x }
+    requires among { HasSureAmongVars (bounds_in names.now known.now) }
+    ensures { CheckedUnder names.now known.now (expr_of expr.now) result }
 {
     match expr {
-        Expr::Atom(atom) => match check(&atom.formula) {
+        Expr::Atom(atom) => match check_among(&atom.formula, names) {
             Ok(vars) => Ok(Bound {
                 vars,
-                sure: sure(&atom.formula),
+                sure: sure_among(&atom.formula, names),
             }),
             Err(fault) => Err(QueryFault::Check(fault)),
         },
-        Expr::Named(k) => Ok(known[*k as usize].copy()),
-        Expr::Union(parts) => check_union(parts, known),
-        Expr::Join(parts) => check_join(parts, known),
+        Expr::Named(k) => Ok(known[*k as usize]),
+        Expr::Union(parts) => check_union(parts, names, known),
+        Expr::Join(parts) => check_join(parts, names, known),
         Expr::Project(kept, sub) => {
-            let bound = check_expr(sub, known)?;
-            projected(kept, &bound)
+            let bound = check_expr(sub, names, known)?;
+            projected(kept, bound, names)
         }
         Expr::Minus(left, right) => {
-            let bound = check_expr(left, known)?;
-            let other = check_expr(right, known)?;
-            differing(bound, &other)
+            let bound = check_expr(left, names, known)?;
+            let other = check_expr(right, names, known)?;
+            differing(bound, other, names)
         }
     }
 }
 
 #[cycle(check)]
-fn check_union(parts: &Exprs, known: &[Bound]) -> Result<Bound, QueryFault>
+fn check_union(parts: &Exprs, names: &VarSet, known: &[Bound]) -> Result<Bound, QueryFault>
     requires some { 0 < length (exprs_of parts.now) }
     requires formed { (e : ExprTree) → Has (exprs_of parts.now) e → IsFormed (length known.now) e }
-    requires few { AtMost MOST_VARIABLES (InReach known.now (join_all (exprs_of parts.now))) }
-    requires among { HasSureAmongVars known.now }
-    ensures { Checked (vars_known known.now) (sure_known known.now) (union_all (exprs_of parts.now)) result }
+    requires ascending { Ascending names.now }
+    requires named { (x : List ℕ) → NameIn (join_all (exprs_of parts.now)) x → Has names.now x }
+    requires among { HasSureAmongVars (bounds_in names.now known.now) }
+    ensures { CheckedUnder names.now known.now (union_all (exprs_of parts.now)) result }
 {
-    let mut bound = check_expr(parts.at(0), known)?;
+    let mut bound = match check_expr(parts.at(0), names, known) {
+        Ok(bound) => bound,
+        Err(fault) => return Err(fault),
+    };
     for k in 1..parts.len() {
-        let part = check_expr(parts.at(k), known)?;
-        bound.unite(&part);
+        match check_expr(parts.at(k), names, known) {
+            Ok(part) => bound = bound.unite(part),
+            Err(fault) => return Err(fault),
+        }
     }
     Ok(bound)
 }
 
 /// All parts are checked before what they share, so that a part's own fault comes first.
 #[cycle(check)]
-fn check_join(parts: &Exprs, known: &[Bound]) -> Result<Bound, QueryFault>
+fn check_join(parts: &Exprs, names: &VarSet, known: &[Bound]) -> Result<Bound, QueryFault>
     requires formed { (e : ExprTree) → Has (exprs_of parts.now) e → IsFormed (length known.now) e }
-    requires few { AtMost MOST_VARIABLES (InReach known.now (join_all (exprs_of parts.now))) }
-    requires among { HasSureAmongVars known.now }
-    ensures { Checked (vars_known known.now) (sure_known known.now) (join_all (exprs_of parts.now)) result }
+    requires ascending { Ascending names.now }
+    requires named { (x : List ℕ) → NameIn (join_all (exprs_of parts.now)) x → Has names.now x }
+    requires among { HasSureAmongVars (bounds_in names.now known.now) }
+    ensures { CheckedUnder names.now known.now (join_all (exprs_of parts.now)) result }
 {
     let mut bound = Bound::none();
     let mut clash = None;
     for k in 0..parts.len() {
-        let part = check_expr(parts.at(k), known)?;
-        clash = first_clash(clash, &bound, &part);
-        bound.join(&part);
+        let part = check_expr(parts.at(k), names, known)?;
+        clash = first_clash(clash, bound, part, names);
+        bound = bound.join(part);
     }
     match clash {
         Some(var) => Err(QueryFault::JoinUnsure { var }),
@@ -150,25 +153,33 @@ fn check_join(parts: &Exprs, known: &[Bound]) -> Result<Bound, QueryFault>
 }
 
 /// A projection to these names of an expression with these variables.
-fn projected(kept: &VarSet, bound: &Bound) -> Result<Bound, QueryFault>
-    ensures { IsProjectionOf kept.now bound.now result }
+fn projected(kept: &VarSet, bound: Bound, names: &VarSet) -> Result<Bound, QueryFault>
+    requires { Ascending names.now }
+    ensures { IsProjectionOf names.now kept.now bound result }
 {
-    match least_where(kept, &bound.vars, false) {
-        Some(var) => Err(QueryFault::UnknownVariable { var }),
-        None => Ok(Bound {
-            vars: kept.copy(),
-            sure: shared(kept, &bound.sure),
-        }),
+    let mut vars = NameBits::empty();
+    for k in 0..kept.len() {
+        let name = kept.at(k);
+        if !bound.vars.has(name, names) {
+            return Err(QueryFault::UnknownVariable { var: *name });
+        }
+        vars = vars.union(NameBits::of(name, names));
     }
+    Ok(Bound {
+        vars,
+        sure: vars.meet(bound.sure),
+    })
 }
 
 /// A difference of a side with these variables and one with those.
-fn differing(left: Bound, right: &Bound) -> Result<Bound, QueryFault>
-    ensures { IsDifferenceOf left right.now result }
+fn differing(left: Bound, right: Bound, names: &VarSet) -> Result<Bound, QueryFault>
+    requires { Ascending names.now }
+    ensures { IsDifferenceOf names.now left right result }
 {
-    let first = least_where(&left.vars, &right.vars, false);
-    let second = least_where(&right.vars, &left.vars, false);
-    match smaller(first, second) {
+    let first = left.vars.without(right.vars);
+    let second = right.vars.without(left.vars);
+    let both = first.union(second);
+    match both.least(names) {
         Some(var) => Err(QueryFault::MinusVariables { var }),
         None => Ok(left),
     }
@@ -178,13 +189,14 @@ fn differing(left: Bound, right: &Bound) -> Result<Bound, QueryFault>
 /// before it.
 ///
 /// Where none clashed before, a variable that is sure in one of the earlier parts is sure in each that has it.
-fn first_clash(clash: Option<Name>, before: &Bound, part: &Bound) -> Option<Name>
+fn first_clash(clash: Option<Name>, before: Bound, part: Bound, names: &VarSet) -> Option<Name>
+    requires { Ascending names.now }
     ensures before { IfSome clash (λ x. result ≡ Some x) }
-    ensures here { IfNone clash (IsLeastOf (IsUnsureIn before.now part.now) result) }
+    ensures here { IfNone clash (IsLeastOf (IsUnsureIn (bound_in names.now before) (bound_in names.now part)) result) }
 {
     match clash {
         Some(var) => Some(var),
-        None => before.least_unsure(part),
+        None => before.least_unsure(part, names),
     }
 }
 
@@ -222,32 +234,36 @@ fn gather_parts(parts: &Exprs, into: &mut VarSet) -> bool
     true
 }
 
-/// Whether the captures of all atoms have no more distinct names than a set has room for.
-pub(crate) fn has_few_names(query: &Query) -> bool
+/// The names of the captures of all atoms. None exactly where a set has no room for them.
+pub(crate) fn names_of(query: &Query) -> Option<VarSet>
     requires { IsFormedQuery (query_of query.now) }
-    ensures { IsTrue result ↔ AtMost MOST_VARIABLES (NameOf (query_of query.now)) }
+    ensures none { IfNone result (¬ AtMost MOST_VARIABLES (NameOf (query_of query.now))) }
+    ensures few { IfSome result (λ names. length names ≤ MOST_VARIABLES) }
+    ensures ascending { IfSome result Ascending }
+    ensures names { IfSome result (λ names. (x : List ℕ) → NameOf (query_of query.now) x → Has names x) }
 {
     let mut names = VarSet::empty();
     for k in 0..query.lets.len() {
         if !gather_names(&query.lets.at(k).1, &mut names) {
-            return false;
+            return None;
         }
     }
     let all = gather_names(&query.body, &mut names);
     prove!(names.len() <= MOST_VARIABLES);
-    all
+    if all { Some(names) } else { None }
 }
 
-/// The first fault of the lets in order and then of the body.
-pub(crate) fn check_query(alloc: Global, query: &Query) -> Result<(), QueryFault>
+/// The first fault of the lets in order and then of the body, where `names` has the names of all atoms.
+pub(crate) fn check_query(alloc: Global, query: &Query, names: &VarSet) -> Result<(), QueryFault>
     requires formed { IsFormedQuery (query_of query.now) }
-    requires few { AtMost MOST_VARIABLES (NameOf (query_of query.now)) }
+    requires ascending { Ascending names.now }
+    requires named { (x : List ℕ) → NameOf (query_of query.now) x → Has names.now x }
     ensures passes { OnOk result (PassesQuery (query_of query.now)) }
     ensures fault { IfErr result (λ e. (e ≡ QueryFault.OutOfMemory) ⊎ IsTreeFault (query_of query.now) e) }
 {
     let mut known = Vec::new(alloc);
     for k in 0..query.lets.len() {
-        match check_expr(&query.lets.at(k).1, &known) {
+        match check_expr(&query.lets.at(k).1, names, &known) {
             Ok(bound) => {
                 let Ok(()) = known.push(bound) else {
                     return Err(QueryFault::OutOfMemory);
@@ -256,7 +272,7 @@ pub(crate) fn check_query(alloc: Global, query: &Query) -> Result<(), QueryFault
             Err(fault) => return Err(fault),
         }
     }
-    match check_expr(&query.body, &known) {
+    match check_expr(&query.body, names, &known) {
         Ok(_) => Ok(()),
         Err(fault) => Err(fault),
     }

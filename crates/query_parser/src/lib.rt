@@ -4,6 +4,9 @@
 //! first fault. What the grammar spells is then checked as a tree, where names and variables are known.
 #![tactic(auto)]
 
+ghost use Rattle.std.specs.Prelude.{◌≡◌};
+ghost use Rattle.query_parser.specs.declared.TheConstants.{MOST_MINUSES, MOST_OPEN, MOST_TEXT_BYTES};
+
 pub use asks::{Asked, Asks, Tested};
 pub use fault::QueryFault;
 pub use laws::{
@@ -35,3 +38,10 @@ pub const MOST_OPEN: usize = 100;
 
 /// The most signs `minus` that the text of a query may have, those of its lets among them.
 pub const MOST_MINUSES: usize = 100;
+
+/// The limits, as numbers: a law.
+pub fn limits()
+    ensures text_bytes { MOST_TEXT_BYTES ≡ 65536 }
+    ensures open { MOST_OPEN ≡ 100 }
+    ensures minuses { MOST_MINUSES ≡ 100 }
+{}

@@ -11,7 +11,7 @@ ghost use Rattle.query_parser.specs.Step.{Ends};
 ghost use Rattle.query_parser.specs.Turn.{AnswersBody};
 
 use crate::MOST_TEXT_BYTES;
-use crate::check::{check_query, has_few_names};
+use crate::check::{check_query, names_of};
 use crate::fault::QueryFault;
 use crate::nest::Nest;
 use crate::turns::{finish, take_turn};
@@ -79,10 +79,10 @@ fn checked(alloc: Global, _text: &[u8], query: Query) -> Result<Query, QueryFaul
     requires spelled { SpellsQuery _text.now (query_of query) }
     ensures { IsRead _text.now result }
 {
-    if !has_few_names(&query) {
+    let Some(names) = names_of(&query) else {
         return Err(QueryFault::TooManyVariables);
-    }
-    match check_query(alloc, &query) {
+    };
+    match check_query(alloc, &query, &names) {
         Ok(()) => Ok(query),
         Err(fault) => Err(fault),
     }

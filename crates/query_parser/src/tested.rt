@@ -24,7 +24,7 @@ ghost use Rattle.query_parser.specs.declared.asks.Asked.{Asked as AskedValue};
 
 use crate::MOST_TEXT_BYTES;
 use crate::asks::{Asks, Tested};
-use crate::check::{check_query, has_few_names};
+use crate::check::{check_query, names_of};
 use crate::fault::QueryFault;
 use crate::nest::Nest;
 use crate::tests_read::{SoFar, test_turn};
@@ -143,10 +143,10 @@ fn checked(alloc: Global, text: &[u8], tested: Tested) -> Result<Tested, QueryFa
     requires spelled { SpellsTested text.now (tested_of tested) }
     ensures { IsTestedRead text.now result }
 {
-    if !has_few_names(&tested.query) {
+    let Some(names) = names_of(&tested.query) else {
         return Err(QueryFault::TooManyVariables);
-    }
-    match check_query(alloc, &tested.query) {
+    };
+    match check_query(alloc, &tested.query, &names) {
         Ok(()) => with_tests(alloc, text, tested),
         Err(fault) => Err(fault),
     }

@@ -1,4 +1,4 @@
-use Rattle.std.proofs.Common.{◌≡◌, ◌+◌, ◌<◌, length, Some, sym, ap, ◌∙◌, subst, arith}
+use Rattle.std.proofs.Common.{◌≡◌, ◌<◌, length, Some, sym, ap, ◌∙◌, subst, arith}
 use Rattle.std.specs.Prelude.{slice_get}
 use Rattle.std.proofs.lemmas.Option.{slice_get-get_or}
 use Rattle.spanner_model.specs.Expression.{ExprTree, join_all, minus, project, union_all}
@@ -8,10 +8,11 @@ use Rattle.spanner_model.specs.Sound.{sure_of_lets}
 use Rattle.span_core.proofs.HasLaws.{Has-slice_get}
 use Rattle.spanner_model.proofs.ExprTrees.{expr_of-Atom, expr_of-Minus, expr_of-Named, expr_of-Project}
 use Rattle.algebra.proofs.Followed.{handed_on}
-use Rattle.algebra.proofs.JoinResults.{ok_by}
+use Rattle.algebra.proofs.JoinResults.{fault_by, ok_by}
+use Rattle.marked_automaton.specs.Reduct.{ReducesMarked}
 use Rattle.query_automaton.specs.Compiling.{IsAsked, IsCompiledFrom}
 use Rattle.query_automaton.specs.Parts.{HasLargePartOf}
-use Rattle.query_automaton.specs.QueryAutomaton.{of_lets}
+use Rattle.query_automaton.specs.QueryAutomaton.{of_lets, of_minus}
 use Rattle.query_automaton.proofs.Combined.{large_part_at, part_at, two_parts}
 use Rattle.query_automaton.proofs.Combining.{Union, Join}
 use Rattle.query_automaton.proofs.CompileLaws.{SoFar, asked_part, combine, so_far_all, so_far_first, so_far_next, too_large}
@@ -80,8 +81,26 @@ expr_automaton-differing-requires t c =
     let right = subst (IsCompiledFrom q n g) (sym c.as_automaton-in-Minus.ensures) c.in_ok-second-in-Minus.ensures.made in
     names_agree q lets c.requires.known f g asked a p left right
 
-pub expr_automaton-returns-in_err-alone-in-Minus-clause-fault : goal.expr_automaton-returns-in_err-alone-in-Minus-clause-fault
-expr_automaton-returns-in_err-alone-in-Minus-clause-fault t c =
+pub expr_automaton-returns-in_ok-second-in-Minus-clause-made : goal.expr_automaton-returns-in_ok-second-in-Minus-clause-made
+expr_automaton-returns-in_ok-second-in-Minus-clause-made t c =
+    let q = query_of c.args.query.now in
+    let lets = c.args.lets.now in
+    let n = length lets in
+    let f = expr_of c.deref-in-Minus.result.now in
+    let g = expr_of c.deref-in-Minus-2.result.now in
+    let e : expr_of c.args.expr.now ≡ minus f g =
+    ap expr_of c.in-Minus.is ∙ (expr_of-Minus c.in-Minus.left c.in-Minus.right ∙ (λ i. minus (expr_of (sym c.deref-in-Minus.ensures i)) (expr_of (sym c.deref-in-Minus-2.ensures i)))) in
+    let asked = subst (IsAsked q n) e c.requires.asked in
+    let a = c.as_automaton.result.now in
+    let p = c.as_automaton-in-Minus.result.now in
+    let left = subst (IsCompiledFrom q n f) (sym c.as_automaton.ensures) c.in_ok-first-in-Minus.ensures.made in
+    let right = subst (IsCompiledFrom q n g) (sym c.as_automaton-in-Minus.ensures) c.in_ok-second-in-Minus.ensures.made in
+    ok_by c.differing.result (λ alone. ReducesMarked alone (of_minus a p)) (IsCompiledFrom q n (expr_of c.args.expr.now))
+    (λ alone h. subst (λ (w : ExprTree). IsCompiledFrom q n w alone) (sym e)
+    (differed q lets c.requires.known f g asked a p left right c.differing.ensures.marked alone h)) c.differing.ensures.made
+
+pub expr_automaton-returns-in_ok-second-in-Minus-clause-fault : goal.expr_automaton-returns-in_ok-second-in-Minus-clause-fault
+expr_automaton-returns-in_ok-second-in-Minus-clause-fault t c =
     let q = query_of c.args.query.now in
     let lets = c.args.lets.now in
     let n = length lets in
@@ -95,29 +114,9 @@ expr_automaton-returns-in_err-alone-in-Minus-clause-fault t c =
     let left = subst (IsCompiledFrom q n f) (sym c.as_automaton.ensures) c.in_ok-first-in-Minus.ensures.made in
     let right = subst (IsCompiledFrom q n g) (sym c.as_automaton-in-Minus.ensures) c.in_ok-second-in-Minus.ensures.made in
     let L = of_lets q.lets n in
-    let fault = c.in_err-alone-in-Minus.field-0.0 in
-    handed_on (HasLargePartOf L (expr_of c.args.expr.now)) c.from_residual-in_err-alone-in-Minus.result fault c.from_residual-in_err-alone-in-Minus.ensures.1
-    (subst (λ (w : ExprTree). HasLargePartOf L w fault) (sym e)
-    (minus_too_large q lets c.requires.known f g asked a p left right c.in_err-alone-in-Minus.ensures.marked fault c.in_err-alone-in-Minus.ensures.fault))
-
-pub expr_automaton-returns-in_ok-new-in-Minus-clause-made : goal.expr_automaton-returns-in_ok-new-in-Minus-clause-made
-expr_automaton-returns-in_ok-new-in-Minus-clause-made t c =
-    let q = query_of c.args.query.now in
-    let lets = c.args.lets.now in
-    let n = length lets in
-    let f = expr_of c.deref-in-Minus.result.now in
-    let g = expr_of c.deref-in-Minus-2.result.now in
-    let e : expr_of c.args.expr.now ≡ minus f g =
-    ap expr_of c.in-Minus.is ∙ (expr_of-Minus c.in-Minus.left c.in-Minus.right ∙ (λ i. minus (expr_of (sym c.deref-in-Minus.ensures i)) (expr_of (sym c.deref-in-Minus-2.ensures i)))) in
-    let asked = subst (IsAsked q n) e c.requires.asked in
-    let a = c.as_automaton.result.now in
-    let p = c.as_automaton-in-Minus.result.now in
-    let left = subst (IsCompiledFrom q n f) (sym c.as_automaton.ensures) c.in_ok-first-in-Minus.ensures.made in
-    let right = subst (IsCompiledFrom q n g) (sym c.as_automaton-in-Minus.ensures) c.in_ok-second-in-Minus.ensures.made in
-    let alone = c.in_ok-alone-in-Minus.alone in
-    subst (IsCompiledFrom q n (expr_of c.args.expr.now)) (sym c.in_ok-new-in-Minus.ensures)
-    (subst (λ (w : ExprTree). IsCompiledFrom q n w alone) (sym e)
-    (differed q lets c.requires.known f g asked a p left right c.in_ok-alone-in-Minus.ensures.marked alone c.in_ok-alone-in-Minus.ensures.made))
+    fault_by c.differing.result _ (HasLargePartOf L (expr_of c.args.expr.now))
+    (λ fault h. subst (λ (w : ExprTree). HasLargePartOf L w fault) (sym e)
+    (minus_too_large q lets c.requires.known f g asked a p left right c.differing.ensures.marked fault h)) c.differing.ensures.fault
 
 -- ---- a union
 
@@ -130,18 +129,18 @@ union_automaton-expr_automaton-requires t c =
     let part = part_at (vars_of_lets q.lets n) (sure_of_lets q.lets n) n Union es 0 g c.at.ensures c.requires.asked.sound_expr in
     (omega (arith, part.0), (c.requires.known, asked_part Union q n es g (Has-slice_get es 0 g c.at.ensures) c.requires.asked))
 
-pub union_automaton-returns-in_err-first-clause-fault : goal.union_automaton-returns-in_err-first-clause-fault
-union_automaton-returns-in_err-first-clause-fault t c =
+pub union_automaton-returns-in_err-all-clause-fault : goal.union_automaton-returns-in_err-all-clause-fault
+union_automaton-returns-in_err-all-clause-fault t c =
     let L = of_lets (query_of c.args.query.now).lets (length c.args.lets.now) in
     let es = exprs_of c.args.parts.now in
-    let fault = c.in_err-first.field-0.0 in
+    let fault = c.in_err-all.field-0.0 in
     handed_on (HasLargePartOf L (union_all es)) c.from_residual.result fault c.from_residual.ensures.1
-    (large_part_at L Union es 0 (expr_of c.at.result.now) c.at.ensures fault c.in_err-first.ensures.fault)
+    (large_part_at L Union es 0 (expr_of c.at.result.now) c.at.ensures fault c.in_err-all.ensures.fault)
 
 pub union_automaton-loop-k-init : goal.union_automaton-loop-k-init
 union_automaton-loop-k-init t c = (
   omega arith,
-  so_far_first (query_of c.args.query.now) c.args.lets.now c.requires.known Union (exprs_of c.args.parts.now) (expr_of c.at.result.now) c.in_ok-all.all c.at.ensures (subst (IsCompiledFrom (query_of c.args.query.now) (length c.args.lets.now) (expr_of c.at.result.now)) (sym c.in_ok-all.ensures) c.in_ok-first.ensures.made),
+  so_far_first (query_of c.args.query.now) c.args.lets.now c.requires.known Union (exprs_of c.args.parts.now) (expr_of c.at.result.now) c.in_ok-all.all c.at.ensures c.in_ok-all.ensures.made,
 )
 
 pub union_automaton-expr_automaton-requires-in-loop-k : goal.union_automaton-expr_automaton-requires-in-loop-k
@@ -202,7 +201,7 @@ union_automaton-returns-clause-made t c =
     let es = exprs_of c.args.parts.now in
     let two = two_parts (vars_of_lets q.lets n) (sure_of_lets q.lets n) n Union es c.requires.asked.sound_expr in
     let whole = so_far_all q c.args.lets.now c.requires.known Union es c.loop-k.all c.loop-k.k (omega (arith, two)) c.loop-k.invariant.1 in
-    subst (IsCompiledFrom q n (union_all es)) (sym c.in_ok-new.ensures) whole
+    whole
 
 -- ---- a join
 
@@ -256,17 +255,17 @@ join_automaton-joined-requires t c =
     let part = subst (IsCompiledFrom q (length lets) y) (sym c.as_automaton-in-loop-k.ensures) c.in_ok-part.ensures.made in
     combine q lets c.requires.known Join es c.requires.asked c.loop-k.k c.loop-k.invariant.0 y c.at-in-loop-k.ensures c.as_automaton.result.now c.as_automaton-in-loop-k.result.now (subst (SoFar q (length lets) Join es c.loop-k.k) (sym c.as_automaton.ensures) c.loop-k.invariant.1) part
 
-pub join_automaton-returns-in_err-both-clause-fault : goal.join_automaton-returns-in_err-both-clause-fault
-join_automaton-returns-in_err-both-clause-fault t c =
+pub join_automaton-returns-in_err-all-2-clause-fault : goal.join_automaton-returns-in_err-all-2-clause-fault
+join_automaton-returns-in_err-all-2-clause-fault t c =
     let q = query_of c.args.query.now in
     let lets = c.args.lets.now in
     let es = exprs_of c.args.parts.now in
     let y = expr_of c.at-in-loop-k.result.now in
     let part = subst (IsCompiledFrom q (length lets) y) (sym c.as_automaton-in-loop-k.ensures) c.in_ok-part.ensures.made in
-    let fault = c.in_err-both.field-0.0 in
-    handed_on (HasLargePartOf (of_lets q.lets (length lets)) (join_all es)) c.from_residual-in_err-both.result fault c.from_residual-in_err-both.ensures.1
+    let fault = c.in_err-all-2.field-0.0 in
+    handed_on (HasLargePartOf (of_lets q.lets (length lets)) (join_all es)) c.from_residual-in_err-all-2.result fault c.from_residual-in_err-all-2.ensures.1
     (too_large q lets c.requires.known Join es c.requires.asked c.loop-k.k c.loop-k.invariant.0 y c.at-in-loop-k.ensures c.as_automaton.result.now c.as_automaton-in-loop-k.result.now (subst (SoFar q (length lets) Join es c.loop-k.k) (sym c.as_automaton.ensures) c.loop-k.invariant.1) part
-    c.in_err-both.ensures.marked fault c.in_err-both.ensures.fault)
+    c.in_err-all-2.ensures.marked fault c.in_err-all-2.ensures.fault)
 
 pub join_automaton-loop-k-preserved : goal.join_automaton-loop-k-preserved
 join_automaton-loop-k-preserved t c =
@@ -277,8 +276,8 @@ join_automaton-loop-k-preserved t c =
     let part = subst (IsCompiledFrom q (length lets) y) (sym c.as_automaton-in-loop-k.ensures) c.in_ok-part.ensures.made in
     let next =
     so_far_next q lets c.requires.known Join es c.requires.asked c.loop-k.k c.loop-k.invariant.0 y c.at-in-loop-k.ensures c.as_automaton.result.now c.as_automaton-in-loop-k.result.now (subst (SoFar q (length lets) Join es c.loop-k.k) (sym c.as_automaton.ensures) c.loop-k.invariant.1) part
-    c.in_ok-both.ensures.marked c.in_ok-both.both c.in_ok-both.ensures.made in
-    (omega arith, subst (SoFar q (length lets) Join es (c.loop-k.k + 1)) (sym c.in_ok-all-2.ensures) next)
+    c.in_ok-all-2.ensures.marked c.in_ok-all-2.all c.in_ok-all-2.ensures.made in
+    (omega arith, next)
 
 pub join_automaton-returns-clause-made : goal.join_automaton-returns-clause-made
 join_automaton-returns-clause-made t c =

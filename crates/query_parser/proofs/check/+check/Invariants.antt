@@ -2,7 +2,7 @@ use Rattle.std.proofs.Common.{◌+◌, ◌*◌, take}
 use Rattle.spanner_model.specs.Expression.{union_all, join_all}
 use Rattle.spanner_model.specs.ExprView.{expr_of, exprs_of}
 use Rattle.spanner_model.proofs.Nodes.{expr_nodes}
-use Rattle.query_parser.specs.Formed.{IsBoundOf, vars_known, sure_known}
+use Rattle.query_parser.specs.Bounds.{IsBoundOf, bound_in, bounds_in, vars_known, sure_known}
 use Rattle.query_parser.proofs.CheckLaws.{AllPass, IsFirstClash}
 use Rattle.query_parser.proofs.check.+check.Given as goal
 
@@ -17,13 +17,13 @@ decreases-check_join l = 2 * expr_nodes (join_all (exprs_of l.parts.now))
 
 abbrev pub invariant-check_join-loop-k : goal.invariant-check_join-loop-k
 invariant-check_join-loop-k l = record {
-  passed : AllPass (vars_known l.known) (sure_known l.known) (take l.k (exprs_of l.parts));
-  bound : IsBoundOf (vars_known l.known) (sure_known l.known) (join_all (take l.k (exprs_of l.parts))) l.bound;
-  first : IsFirstClash (vars_known l.known) (sure_known l.known) (take l.k (exprs_of l.parts)) l.clash;
+  passed : AllPass (vars_known (bounds_in l.names l.known)) (sure_known (bounds_in l.names l.known)) (take l.k (exprs_of l.parts));
+  bound : IsBoundOf (vars_known (bounds_in l.names l.known)) (sure_known (bounds_in l.names l.known)) (join_all (take l.k (exprs_of l.parts))) (bound_in l.names l.bound);
+  first : IsFirstClash (vars_known (bounds_in l.names l.known)) (sure_known (bounds_in l.names l.known)) (take l.k (exprs_of l.parts)) l.clash;
 }
 
 abbrev pub invariant-check_union-loop-k : goal.invariant-check_union-loop-k
 invariant-check_union-loop-k l = record {
-  passed : AllPass (vars_known l.known) (sure_known l.known) (take l.k (exprs_of l.parts));
-  bound : IsBoundOf (vars_known l.known) (sure_known l.known) (union_all (take l.k (exprs_of l.parts))) l.bound;
+  passed : AllPass (vars_known (bounds_in l.names l.known)) (sure_known (bounds_in l.names l.known)) (take l.k (exprs_of l.parts));
+  bound : IsBoundOf (vars_known (bounds_in l.names l.known)) (sure_known (bounds_in l.names l.known)) (union_all (take l.k (exprs_of l.parts))) (bound_in l.names l.bound);
 }

@@ -1,16 +1,13 @@
 use Rattle.std.proofs.Common.{◌≡◌, ℕ, ◌<◌, length}
-use Rattle.spanner_model.specs.Captures.{VarName}
 use Rattle.spanner_model.specs.ExprView.{lets_of}
-use Rattle.spanner_model.specs.Sound.{NameInLets}
 use Rattle.query_parser.specs.TreeFaults.{LetPasses}
-use Rattle.query_parser.specs.Formed.{vars_known}
+use Rattle.query_parser.specs.Bounds.{bounds_in}
 use Rattle.query_parser.proofs.KnownLaws.{Knows}
 use Rattle.query_parser.proofs.check.check_query.Given as goal
 
 abbrev pub invariant-loop-k : goal.invariant-loop-k
 invariant-loop-k l = record {
   long : length l.known.items ≡ l.k;
-  knows : Knows (lets_of l.query.lets) l.known.items;
+  knows : Knows (lets_of l.query.lets) (bounds_in l.names l.known.items);
   passed : (j : ℕ) → j < l.k → LetPasses (lets_of l.query.lets) j;
-  within : (j : ℕ) (x : VarName) → vars_known l.known.items j x → NameInLets (lets_of l.query.lets) x;
 }

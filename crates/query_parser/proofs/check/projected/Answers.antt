@@ -1,11 +1,62 @@
-use Rattle.std.proofs.Common.{inl, inr}
+use Rattle.std.proofs.Common.{◌≡◌, ◌↔◌, true, false, List, [], take, inl, inr, refl, sym, ◌∙◌, subst, arith}
+use Rattle.std.proofs.lemmas.List.{take_all}
 use Rattle.span_core.specs.Lists.{Has}
-use Rattle.query_parser.proofs.Lists.{is_in}
+use Rattle.span_core.proofs.HasLaws.{Has-slice_get}
+use Rattle.spanner_model.specs.Captures.{VarName}
+use Rattle.spanner_model.specs.Gathered.{Adds}
+use Rattle.spanner_model.proofs.GatheredLaws.{gathered_next, gathered_same, names_in_turn}
+use Rattle.functional_check.specs.Numbered.{members}
+use Rattle.functional_check.proofs.LeastLaws.{least_at}
+use Rattle.functional_check.proofs.NumberedLaws.{members_nothing, members_within, members_either, members_both}
+use Rattle.functional_check.proofs.SureLaws.{names_more, own_name}
 use Rattle.query_parser.proofs.check.projected.Goals as goal
 
-pub returns-in-None : goal.returns-in-None
-returns-in-None c = (
-  c.copy.ensures,
-  c.shared.ensures,
-  λ x h. elim (is_in c.args.bound.now.vars x) as (λ _. Has c.args.bound.now.vars x) [ inl g ↦ g | inr n ↦ absurd (c.in-None.ensures x (h, n)) ],
-)
+pub loop-k-init : goal.loop-k-init
+loop-k-init c = record {
+  vars = members_nothing c.args.names.now c.empty-vars.result (Has []) c.empty-vars.ensures (λ x h. h);
+  known = λ x h. absurd h;
+}
+
+pub loop-k-preserved : goal.loop-k-preserved
+loop-k-preserved c =
+    let names = c.args.names.now in
+    let kept = c.args.kept.now in
+    let bound = members names c.args.bound.vars in
+    let name = c.at-name.result.now in
+    let at = c.at-name.ensures.value in
+    let vars = c.loop-k.vars in
+    let new = c.union-vars.result in
+    let here : Has bound name = c.has.ensures.0 c.if-not-has.false in
+    let own = own_name names (members names c.of.result) name c.of.ensures (members_within names c.args.bound.vars name here) in
+    let more = gathered_same (members names vars) (members names new) (Has (members names c.of.result)) (λ (x : VarName). name ≡ x) true own (members_either names vars c.of.result new c.union-vars.ensures) in
+    record {
+      vars = gathered_next (λ (y : VarName) (x : VarName). y ≡ x) Has names_in_turn kept c.loop-k.k name [] (members names vars) (members names new) at c.loop-k.invariant.vars more;
+      known = λ x h. elim ((names_more kept c.loop-k.k name x at).0 h) as (λ _. Has bound x) [ inl o ↦ c.loop-k.invariant.known x o | inr e ↦ subst (Has bound) e here ];
+    }
+
+pub returns-then-not-has : goal.returns-then-not-has
+returns-then-not-has c =
+    let kept = c.args.kept.now in
+    let bound = members c.args.names.now c.args.bound.vars in
+    let name = c.at-name.result.now in
+    let at = c.at-name.ensures.value in
+    let absent : Has bound name → ⊥ = λ h. let t : false ≡ true = sym c.if-not-has.true ∙ c.has.ensures.1 h in absurd (cc) in (
+      name,
+      least_at kept c.loop-k.k name (λ (y : VarName). Has bound y → ⊥) c.len-k-end.ensures.ascending at (Has-slice_get kept c.loop-k.k name at) absent (λ x h n. n (c.loop-k.invariant.known x h)),
+      refl,
+    )
+
+pub returns : goal.returns
+returns c =
+    let names = c.args.names.now in
+    let kept = c.args.kept.now in
+    let vars = members names c.loop-k.vars in
+    let all : take c.loop-k.k kept ≡ kept = take_all c.loop-k.k kept (omega (arith, c.len-k-end.ensures.value, c.loop-k-test.false)) in
+    let are : (x : VarName) → Has vars x ↔ Has kept x = λ x.
+    let added = subst (λ (xs : List VarName). Adds [] (Has xs) vars) all c.loop-k.invariant.vars x in
+    (λ h. elim (added.0 h) as (λ _. Has kept x) [ inl n ↦ absurd n | inr g ↦ g ], λ h. added.1 (inr h)) in
+    let sure = members_both names c.loop-k.vars c.args.bound.sure c.meet.result c.requires c.meet.ensures in (
+      are,
+      λ x. (λ h. let p = (sure x).0 h in ((are x).0 p.0, p.1), λ h. (sure x).1 ((are x).1 h.0, h.1)),
+      λ x h. c.loop-k.invariant.known x (subst (λ (xs : List VarName). Has xs x) (sym all) h),
+    )

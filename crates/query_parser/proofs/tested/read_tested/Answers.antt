@@ -1,4 +1,4 @@
-use Rattle.query_parser.proofs.TestedCode.{tested_found, tested_fault, tested_never, tested_only, tested_only_fault}
+use Rattle.query_parser.proofs.TestedCode.{tested_never, tested_only, tested_only_fault}
 use Rattle.query_parser.proofs.tested.read_tested.Goals as goal
 
 pub returns-clause-only : goal.returns-clause-only

@@ -1,6 +1,5 @@
 use Rattle.std.proofs.Common.{rules, ◌+◌, ◌≤◌, length, arith, length-drop}
 use Rattle.std.proofs.lemmas.Result.{err_from_is_err_and}
-use Rattle.query_parser.specs.TokenRuns.{run_ends}
 use Rattle.query_parser.specs.TestSteps.{test_move}
 use Rattle.query_parser.specs.TestAnswers.{tests_of}
 use Rattle.query_parser.proofs.RunsMeet.{run_on}
