@@ -1,3 +1,4 @@
+-- what public contracts rest on
 pub mod Cells
 pub mod Release
 pub mod Nodes
@@ -5,5 +6,6 @@ pub mod Words
 pub mod Rows
 pub mod Closing
 pub mod Copies
-pub mod Copying
 pub mod RowNodes
+-- what the functions inside promise each other
+pub mod Copying

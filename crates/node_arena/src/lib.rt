@@ -1,6 +1,9 @@
 //! Link cells.
 #![tactic(auto)]
 
+ghost use Rattle.std.specs.Prelude.{◌≡◌};
+ghost use Rattle.node_arena.specs.declared.TheConstants.{MOST_CELLS, MOST_HOLDS};
+
 mod arena;
 mod cell;
 mod closing;
@@ -25,6 +28,12 @@ pub const MOST_CELLS: u32 = 0x7fff_ffff;
 
 /// How often a cell can be held. With as many links that name it, its count still fits into 32 bits.
 pub const MOST_HOLDS: u32 = 0x7fff_ffff;
+
+/// The limits, as numbers: a law.
+pub fn limits()
+    ensures cells { MOST_CELLS ≡ 2147483647 }
+    ensures holds { MOST_HOLDS ≡ 2147483647 }
+{}
 
 /// In the closing phase, the count that stands for the head Done. The counts of before are below it, as no cell is held more than once
 /// then, and `DONE + 1 + k` stands for the row cell k.

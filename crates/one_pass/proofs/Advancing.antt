@@ -79,7 +79,7 @@ advanced_still P at piece i zero Q past within still = subst (λ j. IsAdvanced P
 advanced_still P at piece i (suc n) Q past within still =
     subst (λ j. IsAdvanced P at piece j Q) (omega arith)
     (advanced_more P at piece (i + n) Q (advanced_still P at piece i n Q past (omega arith) (λ k less. still k (omega arith))) (omega arith) Q
-    (stays_read Q.table.graph (byte_at (at + (i + n)) (get_or piece (i + n) 0)) Q (λ x there. (still n (omega arith) x there).1))
+    (stays_read Q.table.graph (byte_at (at + (i + n)) (get_or piece (i + n) 0)) Q (λ x there. still n (omega arith) x there))
     (ready_later Q (at + i) (at + (i + n) + 1) past.ready (omega arith)))
 
 -- up to a later place, before which nothing changes

@@ -1,13 +1,14 @@
 -- What a table answers, in the words of a pass.
-use Rattle.std.proofs.Common.{◌≡◌, ℕ, ◌+◌, ◌<◌, List, [], ◌∷◌, length, map, Option, Some, None, inl, inr, refl, sym, ap, subst, arith, ◌∙◌, Result, Ok, Err}
+use Rattle.std.proofs.Common.{◌≡◌, ℕ, ◌+◌, ◌<◌, ◌⊎◌, List, [], ◌∷◌, length, get_or, map, Option, Some, None, inl, inr, refl, sym, ap, subst, arith, ◌∙◌, Result, Ok, Err}
 use Rattle.std.specs.Prelude.{MatchResult}
 use Rattle.std.specs.Borrow.{Bor}
+use Rattle.span_core.specs.Lists.{Has}
 use Rattle.span_core.proofs.HasLaws.{Has-map}
 use Rattle.span_core.specs.declared.edge.Edge.{Edge}
 use Rattle.automaton_reading.specs.Reading.{Asked, byte_read, rest_taken, ended, Reach, edges, rest_edge}
 use Rattle.set_table.specs.declared.fault.TableFault.{TableFault}
 use Rattle.set_table.specs.declared.fault.TableFault.TheVariants.{Full, OutOfMemory}
-use Rattle.set_table.specs.Tabled.{Asking, HasEdges, HasEnds, HasRest, IsRefusal, IsTabled, Stays, Tabled, asking, idle_of, once_asked}
+use Rattle.set_table.specs.Tabled.{Asking, HasEdges, HasEnds, HasRest, IsRefusal, IsTabled, Stays, Tabled, asking, edge_named, idle_of, once_asked}
 use Rattle.output_graph.specs.Graph.{Graph}
 use Rattle.one_pass.specs.Causes.{HasCause}
 use Rattle.one_pass.specs.Held.{AreNumbered, HasMade, StaysOn, marks_of, rest_edges, row_of, set_named}
@@ -79,7 +80,26 @@ rest_numbered t set (Some k) h = by (idle_of t set) refl
     by [] e = absurd (h.1 e)
     by (p ∷ ps) e = subst (λ qs. AreNumbered (held t) (rest_edges (Some k)) (rest_edge qs)) (sym e) (refl, h.0 ∙ ap (λ qs. Some qs) e, tt)
 
+-- ---- what was asked before
+
+pub asked_is : (t : Tabled) (set : ℕ) (ask : Asked) → Has t.asked (asking set ask) → Has (held t).rows (row_of (held t) set ask)
+asked_is t set ask h = Has-map (row_in t.sets) t.asked (asking set ask) h
+
 -- ---- bytes that change nothing
 
 pub stays_is : (t : Tabled) (set b : ℕ) → Stays t set b → StaysOn (held t) set b
-stays_is t set b h = (Has-map (row_in t.sets) t.asked (asking set (byte_read b)) h.asked, h.itself)
+stays_is t set b h = (asked_is t set (byte_read b) h.asked, h.itself)
+
+lone_edge : (es : List Edge) (e : Edge) → length es ≡ 1 → e ≡ get_or es 0 e → es ≡ e ∷ []
+lone_edge [] e one first = absurd (omega (arith, one))
+lone_edge (x ∷ []) e one first = ap (λ (y : Edge). y ∷ []) (sym first)
+lone_edge (x ∷ y ∷ es) e one first = absurd (omega (arith, one))
+
+-- the one edge of a set that was asked leads back to it
+pub still_is : (t : Tabled) (set b s : ℕ) (es : List Edge) (e : Edge) → (set < length t.sets) × HasEdges t (asking set (byte_read b)) es → Has t.asked (asking set (byte_read b)) →
+    length es ≡ 1 → e ≡ get_or es 0 e → e ≡ record { marks = 0; to = set } → (set ≡ s) ⊎ ⊥ → (s < length t.sets) × StaysOn (held t) s b
+still_is t set b s es e has there one first back (inr none) = absurd none
+still_is t set b s es e has there one first back (inl same) =
+    let only : es ≡ record { marks = 0; to = set } ∷ [] = lone_edge es e one first ∙ ap (λ (y : Edge). y ∷ []) back in
+    subst (λ n. (n < length t.sets) × StaysOn (held t) n b) same
+    (has.0, (asked_is t set (byte_read b) there, sym has.1.named ∙ ap (map (edge_named t.sets)) only))

@@ -14,7 +14,7 @@ use Rattle.one_pass.specs.Passes.{Pass, sets_of, Reaches, IsReady, HasGrown, Has
 use Rattle.one_pass.specs.Making.{making_read}
 use Rattle.one_pass.proofs.Making.{making_append, making_covers}
 use Rattle.one_pass.proofs.ReadWords.{leads_then, then_leads}
-use Rattle.one_pass.proofs.Sets.{Covers, after_covers, met_covers, rows_covers, edges_covers, after_append, edges_append, met_left, met_right, rows_left, rows_right, weight_covers}
+use Rattle.one_pass.proofs.Sets.{Covers, after_covers, met_covers, rows_covers, edges_covers, after_append, edges_append, met_left, met_right, rows_append, rows_left, rows_right, weight_covers}
 
 pub asks_append : (ps qs : List Place) → asks (ps ++ qs) ≡ asks ps ++ asks qs
 asks_append [] qs = refl
@@ -160,6 +160,7 @@ module _ (A : Automaton) (ps qs : List Place) (P Q : Pass) (read : HasRead A ps 
         (sets_met A (sets_of P) (asks ps)) (sets_met A (sets_of Q) (asks qs)) (sets_met A (sets_of P) (asks (ps ++ qs)))
         (rows_asked A (sets_of P) (asks ps)) (rows_asked A (sets_of Q) (asks qs)) (rows_asked A (sets_of P) (asks (ps ++ qs)))
         read.table later.table met_first met_then rows_first rows_then;
+    holds = all_held;
     steps = omega (arith, read.steps, later.steps, edges_both distinct);
     cells = omega (arith, read.cells, later.cells, edges_both distinct);
     rise = omega (arith, read.rise, later.rise, making_both distinct);
@@ -167,6 +168,16 @@ module _ (A : Automaton) (ps qs : List Place) (P Q : Pass) (read : HasRead A ps 
     where
       all_after : sets_after A (sets_of P) (asks (ps ++ qs)) ≡ sets_after A (sets_after A (sets_of P) (asks ps)) (asks qs)
       all_after = ap (sets_after A (sets_of P)) all_asks ∙ after_append A (sets_of P) (asks ps) (asks qs)
+
+      all_held : Covers R.table.rows (rows_asked A (sets_of P) (asks (ps ++ qs)))
+      all_held row h =
+          let all = ap (rows_asked A (sets_of P)) all_asks ∙ rows_append A (sets_of P) (asks ps) (asks qs) in
+          elim (
+          Has-append_cases (rows_asked A (sets_of P) (asks ps)) (rows_asked A (sets_after A (sets_of P) (asks ps)) (asks qs)) row (subst (λ (rows : List Row). Has rows row) all h)
+          ) as (λ _. Has R.table.rows row) [
+            | inl first ↦ later.table.stay row (read.holds row first)
+            | inr last ↦ later.holds row (rows_covers A (sets_of Q) (sets_after A (sets_of P) (asks ps)) (asks qs) (λ s k. (read.sets s).1 k) row last)
+          ]
 
       there : (set : List ℕ) (w : Word) → Reaches R set w →
           (from : List ℕ) × (u v : Word) × Reaches P from u × Leads A (ps ++ qs) from v set × (u ++ v ≡ w)

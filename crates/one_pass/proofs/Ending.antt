@@ -13,7 +13,7 @@ use Rattle.one_pass.specs.Layers.{GraphView, HasCost, BringsEnd}
 use Rattle.one_pass.specs.Places.{end_at, Leads}
 use Rattle.one_pass.specs.Passes.{Pass, pass, sets_of, Reaches, IsReady, HasEnded}
 use Rattle.one_pass.proofs.ReadWords.{end_to}
-use Rattle.one_pass.proofs.Stepping.{source_edges, place_edges, IsSpending, spending_none, spending_more}
+use Rattle.one_pass.proofs.Stepping.{source_edges, place_edges, IsSpending, rows_held, spending_none, spending_more}
 
 module _ (A : Automaton) (n : ℕ) (P : Pass) where
   -- an end of one of these sources makes the word
@@ -90,6 +90,7 @@ module _ (A : Automaton) (n : ℕ) (P : Pass) where
       ];
       stay = all.spent.table.stay;
     };
+    holds = rows_held A (end_at n) P Q.table.rows all.spent.holds;
     every = (let l = ap (λ (xs : List Source). length xs) all.spent.layer in omega (arith, all.spent.stepped, l));
     sound = all.spent.sound;
     steps = omega (arith, all.spent.steps, place_edges A (end_at n) P);

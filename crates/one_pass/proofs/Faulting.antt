@@ -35,6 +35,7 @@ read_none A P = record {
   );
   sets = λ set. (λ h. h, λ h. h);
   table = grown_none P.table (sets_of P) [];
+  holds = λ row h. absurd h;
   steps = omega arith;
   cells = omega arith;
   rise = omega arith;

@@ -9,12 +9,13 @@ use Rattle.std.specs.Str.{bytes_eq}
 use Rattle.span_core.proofs.HasLaws.{Has-take_more_cases}
 use Rattle.span_core.specs.declared.edge.Edge.{Edge}
 use Rattle.marked_automaton.specs.Automaton.{Automaton}
-use Rattle.automaton_reading.specs.Reading.{byte_read, Reach, edges}
+use Rattle.span_core.specs.Lists.{Has}
+use Rattle.automaton_reading.specs.Reading.{Row, byte_read, Reach, edges}
 use Rattle.set_table.specs.Tabled.{with_set}
 use Rattle.output_graph.specs.Source.{Edges}
 use Rattle.output_graph.proofs.SetLaws.{get_left, get_set_other, get_set_same, take_all}
 use Rattle.one_pass.specs.declared.known.KnownStep.{KnownStep}
-use Rattle.one_pass.specs.Held.{TableView, AreNumbered, set_named}
+use Rattle.one_pass.specs.Held.{TableView, AreNumbered, StaysOn, row_of, set_named}
 use Rattle.one_pass.specs.Known.{AreRows, AreStill, IsEntry, IsKnown, IsRow, IsStepOf, layer_at}
 use Rattle.one_pass.specs.Passes.{HasGrown}
 
@@ -23,7 +24,7 @@ some_is x y e = cc
 
 -- ---- a table that grows
 
-module _ (t u : TableView) (more : List (List ℕ)) (graph : u.graph ≡ t.graph) (kept : t.sets ++ more ≡ u.sets) where
+module _ (t u : TableView) (more : List (List ℕ)) (graph : u.graph ≡ t.graph) (kept : t.sets ++ more ≡ u.sets) (stay : (row : Row) → Has t.rows row → Has u.rows row) where
   named_grown : (s : ℕ) → s < length t.sets → set_named u s ≡ set_named t s
   named_grown s h = ap (λ (xs : List (List ℕ)). get_or xs s []) (sym kept) ∙ get_or_append_left t.sets more [] s h
 
@@ -41,9 +42,14 @@ module _ (t u : TableView) (more : List (List ℕ)) (graph : u.graph ≡ t.graph
   edges_grown s b h =
       ap (λ (A : Automaton). edges A (set_named t s) (byte_read b)) (sym graph) ∙ ap (λ (set : List ℕ). edges u.graph set (byte_read b)) (sym (named_grown s h))
 
+  asked_grown : (b s : ℕ) → s < length t.sets → Has t.rows (row_of t s (byte_read b)) → Has u.rows (row_of u s (byte_read b))
+  asked_grown b s h there =
+      subst (λ (set : List ℕ). Has u.rows (let r : Row = record { set = set; ask = byte_read b } in r)) (sym (named_grown s h)) (stay (row_of t s (byte_read b)) there)
+
   row_grown : (b s : ℕ) (group : Edges) → IsRow t b s group → IsRow u b s group
   row_grown b s group r = record {
     given = given_grown s r.given;
+    asked = asked_grown b s r.given r.asked;
     by = r.by;
     are = r.are;
     numbered = subst (λ (rs : List Reach). AreNumbered u r.by rs) (edges_grown s b r.given) (numbered_grown r.by (edges t.graph (set_named t s) (byte_read b)) r.numbered);
@@ -59,7 +65,10 @@ module _ (t u : TableView) (more : List (List ℕ)) (graph : u.graph ≡ t.graph
   still_grown b sets still s h =
       let one = still s h in (
         given_grown s one.0,
-        sym (edges_grown s b one.0) ∙ (one.1 ∙ ap (λ (set : List ℕ). let r : Reach = record { marks = 0; to = set } in r ∷ []) (sym (named_grown s one.0))),
+        (
+          asked_grown b s one.0 one.1.0,
+          sym (edges_grown s b one.0) ∙ (one.1.1 ∙ ap (λ (set : List ℕ). let r : Reach = record { marks = 0; to = set } in r ∷ []) (sym (named_grown s one.0))),
+        ),
       )
 
   entry_grown : (layers : List (List ℕ)) (steps : List KnownStep) (b : ℕ) (sets : List ℕ) (e : ℕ) → IsEntry t layers steps b sets e → IsEntry u layers steps b sets e
@@ -74,7 +83,7 @@ module _ (t u : TableView) (more : List (List ℕ)) (graph : u.graph ≡ t.graph
   }
 
 pub known_read : (t u : TableView) (sets : List (List ℕ)) (rows : List _) (layers : List (List ℕ)) (entries : List ℕ) (steps : List KnownStep) → HasGrown t u sets rows → IsKnown t layers entries steps → IsKnown u layers entries steps
-known_read t u sets rows layers entries steps g k = known_grown t u g.kept.0 g.graph g.kept.1 layers entries steps k
+known_read t u sets rows layers entries steps g k = known_grown t u g.kept.0 g.graph g.kept.1 g.stay layers entries steps k
 
 -- ---- nothing is known
 
@@ -217,7 +226,7 @@ rows_length t b (s ∷ sets) (g ∷ groups) all = ap suc (rows_length t b sets g
 
 pub still_more : (t : TableView) (b : ℕ) (sets : List ℕ) (k x : ℕ) → k < length sets → x ≡ get_or sets k 0 → AreStill t b (take k sets) → AreStill t b (x ∷ []) → AreStill t b (take (k + 1) sets)
 still_more t b sets k x within is all one s h =
-    elim (Has-take_more_cases sets k 0 s within h) as (λ _. (s < length t.sets) × (edges t.graph (set_named t s) (byte_read b) ≡ record { marks = 0; to = set_named t s } ∷ [])) [
+    elim (Has-take_more_cases sets k 0 s within h) as (λ _. (s < length t.sets) × StaysOn t s b) [
       | inl old ↦ all s old
       | inr same ↦ one s (inl (is ∙ same))
     ]

@@ -20,5 +20,6 @@ pub mod Sources
 pub mod Stepping
 pub mod TableBridge
 pub mod Turns
+pub mod Weighing
 pub mod Whole
 pub mod OpenLaws

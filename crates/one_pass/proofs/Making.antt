@@ -1,6 +1,6 @@
 -- Making edges: one set that has been stepped, and sets in any order.
-use Rattle.std.proofs.Common.{◌≡◌, ℕ, suc, ◌+◌, ◌≤◌, ◌<◌, ◌⊎◌, Bool, true, false, List, [], ◌∷◌, ◌++◌, length, map, inl, inr, refl, sym, ap, subst, arith, ◌∙◌}
-use Rattle.std.specs.Prelude.{nat_lt, ◌||◌, if◌then◌else◌}
+use Rattle.std.proofs.Common.{◌≡◌, ℕ, ◌+◌, ◌≤◌, Bool, true, false, List, [], ◌∷◌, ◌++◌, length, map, inl, inr, refl, sym, ap, arith, ◌∙◌}
+use Rattle.std.specs.Prelude.{nat_lt, ◌||◌}
 use Rattle.std.specs.List.{sum_by}
 use Rattle.std.specs.Str.{bytes_eq}
 use Rattle.std.proofs.lemmas.Bool.{cases_eq, cases_lt, lt-ltb, ltb-true}
@@ -9,7 +9,7 @@ use Rattle.span_core.specs.Lists.{Has, AreDistinct}
 use Rattle.span_core.specs.declared.edge.Edge.{Edge}
 use Rattle.marked_automaton.specs.Automaton.{Automaton}
 use Rattle.automaton_reading.specs.Reading.{Asked, Reach, edges, next_sets}
-use Rattle.automaton_reading.proofs.Matching.{cons_sum, length_sum}
+use Rattle.automaton_reading.proofs.Matching.{cons_sum}
 use Rattle.automaton_reading.proofs.MeasureLaws.{bytes_itself}
 use Rattle.one_pass.specs.Making.{edges_from, edges_to, is_making, making_at, making_of, making_read, one_if}
 use Rattle.one_pass.specs.Places.{sets_after}

@@ -6,7 +6,7 @@ use Rattle.span_core.specs.Lists.{Has, AreDistinct}
 use Rattle.span_core.proofs.HasLaws.{Has-append_left, Has-append_cases, Has-map, Has-map_cases}
 use Rattle.marked_automaton.specs.Automaton.{Automaton}
 use Rattle.automaton_reading.specs.Reading.{Reach, Row, edges, next_sets, rows_asked}
-use Rattle.one_pass.specs.Held.{set_named}
+use Rattle.one_pass.specs.Held.{row_of, set_named}
 use Rattle.one_pass.specs.Words.{Word, block_word}
 use Rattle.output_graph.specs.Graph.{Source}
 use Rattle.one_pass.specs.Layers.{GraphView, IsPast, numbers_of}
@@ -14,7 +14,7 @@ use Rattle.one_pass.specs.Places.{Place, Leads, sets_met}
 use Rattle.one_pass.specs.Passes.{Pass, pass, sets_of, Reaches, IsReady, HasGrown, HasRead}
 use Rattle.one_pass.proofs.Sets.{Covers, next_cases, has_next}
 use Rattle.one_pass.proofs.Composing.{grown_none}
-use Rattle.one_pass.proofs.Stepping.{Arrives, HasNext, source_edges, LeadsWith, place_edges, place_making, IsStepping, met_here}
+use Rattle.one_pass.proofs.Stepping.{Arrives, HasNext, source_edges, LeadsWith, place_edges, place_making, IsStepping, met_here, rows_held}
 
 pub no_marks : (i m : ℕ) (b : ℕ × ℕ) → m ≡ 0 → Has (block_word i m) b → ⊥
 no_marks i m b e h = none (subst (λ k. Has (block_word i k) b) e h)
@@ -64,6 +64,7 @@ module _ (A : Automaton) (p : Place) (P : Pass) where
       words = λ set w. (there set w, back set w);
       sets = λ set. (set_there set, set_back set);
       table = grown;
+      holds = rows_held A p P Q.table.rows all.spent.holds;
       steps = omega (arith, all.spent.steps, all.few, place_edges A p P, live, ap length layer);
       cells = omega (arith, all.spent.cells, place_edges A p P, live);
       rise = omega (arith, all.rise, place_making A p P, live);
@@ -147,9 +148,11 @@ module _ (A : Automaton) (p : Place) (P : Pass) where
 
   -- ---- a place that changes nothing
 
-  -- each set of the layer has one edge, without marks and to itself
+  -- each set of the layer has been asked, and has one edge, without marks and to itself
   abbrev pub AllStay : Type 0
-  AllStay = (x : Source) → Has P.graph.layer x → source_edges A p P x ≡ record { marks = 0; to = set_named P.table x.set } ∷ []
+  AllStay =
+      (x : Source) → Has P.graph.layer x →
+      Has P.table.rows (row_of P.table x.set p.ask) × (source_edges A p P x ≡ record { marks = 0; to = set_named P.table x.set } ∷ [])
 
   pub stays_read : AllStay → HasRead A (p ∷ []) P P
   stays_read stays = record {
@@ -161,7 +164,7 @@ module _ (A : Automaton) (p : Place) (P : Pass) where
         h,
         (
           record { marks = 0; to = set },
-          subst (λ es. Has es (record { marks = 0; to = set })) (sym (subst (λ s. edges A s p.ask ≡ record { marks = 0; to = s } ∷ []) h.2 (stays h.0 h.1))) (inl refl),
+          subst (λ es. Has es (record { marks = 0; to = set })) (sym (subst (λ s. edges A s p.ask ≡ record { marks = 0; to = s } ∷ []) h.2 (stays h.0 h.1).1)) (inl refl),
           [],
           refl,
           (refl, refl),
@@ -172,13 +175,14 @@ module _ (A : Automaton) (p : Place) (P : Pass) where
     );
     sets = λ set. (set_there set, set_back set);
     table = grown_none P.table (sets_met A (sets_of P) (p.ask ∷ [])) (rows_asked A (sets_of P) (p.ask ∷ []));
+    holds = rows_held A p P P.table.rows (λ x h. (stays x h).0);
     steps = omega arith;
     cells = omega arith;
     rise = omega arith;
   }
     where
       one : (x : Source) → Has P.graph.layer x → (e : Reach) → Has (source_edges A p P x) e → (e.marks ≡ 0) × (e.to ≡ set_named P.table x.set)
-      one x h e k = elim (subst (λ es. Has es e) (stays x h) k) as (λ _. (e.marks ≡ 0) × (e.to ≡ set_named P.table x.set)) [
+      one x h e k = elim (subst (λ es. Has es e) (stays x h).1 k) as (λ _. (e.marks ≡ 0) × (e.to ≡ set_named P.table x.set)) [
         | inl i ↦ (ap (λ (r : Reach). r.marks) (sym i), ap (λ (r : Reach). r.to) (sym i))
         | inr n ↦ absurd n
       ]
@@ -196,7 +200,7 @@ module _ (A : Automaton) (p : Place) (P : Pass) where
       set_there set h =
           let x = Has-map_cases (λ (x : Source). set_named P.table x.set) P.graph.layer set h in
           has_next A (sets_of P) p.ask set (record { marks = 0; to = set }) h
-          (subst (λ es. Has es (record { marks = 0; to = set })) (sym (subst (λ s. edges A s p.ask ≡ record { marks = 0; to = s } ∷ []) x.2 (stays x.0 x.1))) (inl refl))
+          (subst (λ es. Has es (record { marks = 0; to = set })) (sym (subst (λ s. edges A s p.ask ≡ record { marks = 0; to = s } ∷ []) x.2 (stays x.0 x.1).1)) (inl refl))
 
       set_back : (set : List ℕ) → Has (next_sets A (sets_of P) p.ask) set → Has (sets_of P) set
       set_back set h =

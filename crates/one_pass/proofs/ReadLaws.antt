@@ -1,11 +1,14 @@
 -- What the parts of a whole pass give.
-use Rattle.std.proofs.Common.{◌≡◌, ℕ, ◌+◌, ◌*◌, ◌≤◌, Bool, false, List, [], ◌∷◌, ◌++◌, length, sym, ap, subst, arith, ◌∙◌, refl}
+use Rattle.std.proofs.Common.{◌≡◌, ℕ, ◌+◌, ◌*◌, ◌≤◌, Bool, false, List, [], ◌∷◌, ◌++◌, length, map, sym, ap, subst, arith, ◌∙◌, refl}
 use Rattle.std.proofs.lemmas.List.{append-nil}
+use Rattle.marked_automaton.specs.Automaton.{Automaton}
 use Rattle.span_core.specs.Intervals.{AreApart, Covers}
-use Rattle.automaton_reading.specs.Reading.{edges_K, ended, rows_asked}
+use Rattle.span_core.specs.Lists.{Has}
+use Rattle.automaton_reading.specs.Reading.{Row, edges_K, ended, rows_asked, rows_read, weight_K}
 use Rattle.set_table.specs.declared.fault.TableFault.{TableFault}
 use Rattle.set_table.specs.declared.fault.TableFault.TheVariants.{Full, OutOfMemory}
-use Rattle.one_pass.specs.Held.{TableView}
+use Rattle.set_table.specs.Tabled.{IsTabled, Tabled}
+use Rattle.one_pass.specs.Held.{TableView, weight_of}
 use Rattle.one_pass.specs.Layers.{GraphView, first_layer}
 use Rattle.one_pass.specs.Builds.{IsNew, build, started}
 use Rattle.one_pass.specs.Faults.{IsFaultAt, IsFaultOf, IsReadFault}
@@ -13,8 +16,10 @@ use Rattle.one_pass.specs.Places.{Place, AreReadWords, asks, end_at, is_touched,
 use Rattle.one_pass.specs.Passes.{Pass, pass, sets_of, IsReady, HasEnded, HasKept, HasRead, HasStopped, HasStoppedAt, Stop}
 use Rattle.one_pass.proofs.Composing.{excess_grown, ready_distinct, rows_first, rows_then, stopped_at}
 use Rattle.one_pass.proofs.Faulting.{then_stopped}
+use Rattle.one_pass.specs.Seen.{held}
 use Rattle.one_pass.proofs.PartLaws.{before_end, parts_all}
-use Rattle.one_pass.proofs.Whole.{excess_weight, front_sets, rows_of_front, started_ready, stopped_steps, whole_cells, whole_steps, whole_words}
+use Rattle.one_pass.proofs.Weighing.{held_weighs}
+use Rattle.one_pass.proofs.Whole.{excess_weight, front_sets, rows_of_front, started_ready, stopped_steps, whole_cells, whole_rows, whole_steps, whole_words}
 
 -- the pass before its first place, as the code has it
 pub start_is : (t : TableView) (g : GraphView) (set before after : ℕ) → g ≡ first_layer set → set ≡ 0 → after ≡ before + 1 → started t before ≡ pass t g after
@@ -106,3 +111,13 @@ module _ (d : List ℕ) (parts : List (ℕ × ℕ)) (apart : AreApart parts) (wi
 
       pub pass_cells : R.graph.live ≤ edges_K t.graph d K + 1
       pass_cells = whole_cells t.graph K d t new before ps all Q R read_here done_here (ready_distinct Q (length d) ready)
+
+      -- what was read weighs no more than the table's limit
+      pub pass_weighs : (u : Tabled) → IsTabled u → R.table ≡ held u → weight_K t.graph d K ≤ t.limit
+      pass_weighs u tabled same =
+          let rows = rows_read t.graph d K in
+          let sets = map (λ (r : Row). r.set) rows in
+          let graph : u.graph ≡ t.graph = ap (λ (v : TableView). v.graph) (sym same) ∙ (done_here.table.graph ∙ read_here.table.graph) in
+          let limit : u.limit ≡ t.limit = ap (λ (v : TableView). v.limit) (sym same) ∙ (done_here.table.limit ∙ read_here.table.limit) in
+          let within = held_weighs u tabled rows (λ row h. subst (λ (v : TableView). Has v.rows row) same (whole_rows t.graph K d t new before ps all Q R read_here done_here row h)) in
+          subst (λ l. weight_of t.graph sets rows ≤ l) limit (subst (λ (A : Automaton). weight_of A sets rows ≤ u.limit) graph within)

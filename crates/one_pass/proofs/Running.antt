@@ -64,6 +64,7 @@ module _ (T : Tabled) (G0 : Graph) (n0 at b : ℕ) (ready : IsReady (pass (held 
           kept = ([], append-nil T.sets);
           sets = λ set h. inl h;
           sound = ready.sound;
+          holds = row.asked;
           rows = inl (refl, omega arith);
         };
         by = row.by;

@@ -56,6 +56,7 @@ module _ (A : Automaton) (p : Place) (P : Pass) where
     pub layer : Q.graph.layer ≡ P.graph.layer
     pub stepped : Q.graph.stepped ≡ length done
     pub table : HasGrown P.table Q.table (sets_on A (sets_of P) p.ask) (map (λ set. let r : Row = record { set = set; ask = p.ask } in r) (sets_of P))
+    pub holds : (x : Source) → Has done x → Has Q.table.rows (row_of P.table x.set p.ask)
     pub sound : IsSound Q.table
     pub steps :
         Q.steps + Q.graph.live + length P.table.rows * size A
@@ -104,6 +105,14 @@ module _ (A : Automaton) (p : Place) (P : Pass) where
       let same = sum_map (making_of A (sets_of P) p.ask) (λ (x : Source). set_named P.table x.set) P.graph.layer in
       omega (arith, same)
 
+  -- where each set of the layer was asked, what reading this place asks for is there
+  pub rows_held : (rows : List Row) → ((x : Source) → Has P.graph.layer x → Has rows (row_of P.table x.set p.ask)) → Covers rows (rows_asked A (sets_of P) (p.ask ∷ []))
+  rows_held rows holds row h =
+      let row_at : List ℕ → Row = λ set. record { set = set; ask = p.ask } in
+      let s = Has-map_cases row_at (sets_of P) row (subst (λ (rs : List Row). Has rs row) (append-nil asked_rows) h) in
+      let x = Has-map_cases (λ (x : Source). set_named P.table x.set) P.graph.layer s.0 s.1 in
+      subst (Has rows) (ap row_at x.2 ∙ s.2) (holds x.0 x.1)
+
   pub met_here : Covers (sets_met A (sets_of P) (p.ask ∷ [])) (sets_on A (sets_of P) p.ask)
   met_here = on_met A (sets_of P) p.ask
 
@@ -119,6 +128,7 @@ module _ (A : Automaton) (p : Place) (P : Pass) where
     layer = refl;
     stepped = r.fresh.0;
     table = record { graph = refl; limit = refl; kept = ([], append-nil P.table.sets); sets = λ set h. inl h; rows = λ row h. inl h; stay = λ row h. h };
+    holds = λ x h. absurd h;
     sound = r.sound;
     steps = omega arith;
     cells = omega arith;
@@ -184,6 +194,30 @@ module _ (A : Automaton) (p : Place) (P : Pass) where
       named_now s h =
           ap (λ (xs : List (List ℕ)). get_or xs s []) (sym made.kept.1) ∙ get_or_append_left Q.table.sets made.kept.0 [] s h
 
+      -- a row that was there stays
+      made_stay : (row : Row) → Has Q.table.rows row → Has t.rows row
+      made_stay = by made.rows
+        where
+          by :
+              ((t.rows ≡ Q.table.rows) × (n ≤ Q.steps + 1))
+              ⊎ (¬ Has Q.table.rows row_here × (t.rows ≡ Q.table.rows ++ row_here ∷ []) × (n ≤ Q.steps + (1 + size Q.table.graph))) →
+              (row : Row) → Has Q.table.rows row → Has t.rows row
+          by (inl same) row h = subst (λ rows. Has rows row) (sym same.0) h
+          by (inr more) row h = subst (λ rows. Has rows row) (sym more.1) (Has-append_left Q.table.rows (row_here ∷ []) row h)
+
+      -- what was asked of one source more is there
+      made_holds : (y : Source) → Has (done ++ x ∷ []) y → Has t.rows (row_of P.table y.set p.ask)
+      made_holds y h = elim (Has-append_cases done (x ∷ []) y h) as (λ _. Has t.rows (row_of P.table y.set p.ask)) [
+        | inl old ↦ made_stay (row_of P.table y.set p.ask) (spent.holds y old)
+        | inr new ↦ elim new as (λ _. Has t.rows (row_of P.table y.set p.ask)) [
+          | inl e ↦ subst (λ (z : Source). Has t.rows (row_of P.table z.set p.ask)) e here
+          | inr none ↦ absurd none
+        ]
+      ]
+        where
+          here : Has t.rows (row_of P.table x.set p.ask)
+          here = subst (λ set. Has t.rows (let r : Row = record { set = set; ask = p.ask } in r)) named_before made.holds
+
       -- the sets and rows that the table has with it
       grown_here : HasGrown P.table t (sets_on A (sets_of P) p.ask) asked_rows
       grown_here = record {
@@ -198,16 +232,9 @@ module _ (A : Automaton) (p : Place) (P : Pass) where
           | inr new ↦ inr (target_there set new)
         ];
         rows = λ row h. rows_now made.rows row h;
-        stay = λ row h. stays_now made.rows row (spent.table.stay row h);
+        stay = λ row h. made_stay row (spent.table.stay row h);
       }
         where
-          stays_now :
-              ((t.rows ≡ Q.table.rows) × (n ≤ Q.steps + 1))
-              ⊎ (¬ Has Q.table.rows row_here × (t.rows ≡ Q.table.rows ++ row_here ∷ []) × (n ≤ Q.steps + (1 + size Q.table.graph))) →
-              (row : Row) → Has Q.table.rows row → Has t.rows row
-          stays_now (inl same) row h = subst (λ rows. Has rows row) (sym same.0) h
-          stays_now (inr more) row h = subst (λ rows. Has rows row) (sym more.1) (Has-append_left Q.table.rows (row_here ∷ []) row h)
-
           before_or : (row : Row) → Has (Q.table.rows ++ row_here ∷ []) row → Has P.table.rows row ⊎ Has asked_rows row
           before_or row h = elim (Has-append_cases Q.table.rows (row_here ∷ []) row h) as (λ _. Has P.table.rows row ⊎ Has asked_rows row) [
             | inl old ↦ spent.table.rows row old
@@ -252,6 +279,7 @@ module _ (A : Automaton) (p : Place) (P : Pass) where
           layer = layer ∙ spent.layer;
           stepped = stepped ∙ (ap suc spent.stepped ∙ (let e = snoc_length done x in omega (arith, e)));
           table = grown_here;
+          holds = made_holds;
           sound = made.sound;
           steps = paid;
           cells = let c = cost in omega (arith, c.2, c.3, spent.cells, count, snoc_edges done x);

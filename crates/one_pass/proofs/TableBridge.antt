@@ -43,6 +43,14 @@ has_any (s ∷ rs) r (inr h) = ap (λ b. asking_same r s || b) (has_any rs r h) 
     or_true true = refl
     or_true false = refl
 
+any_has : (rs : List Asking) (r : Asking) → list_any (asking_same r) rs ≡ true → Has rs r
+any_has [] r e = absurd (cc)
+any_has (s ∷ rs) r e = by (asking_same r s) refl (any_has rs r) e
+  where
+    by : (b : Bool) → asking_same r s ≡ b → (list_any (asking_same r) rs ≡ true → Has rs r) → (b || list_any (asking_same r) rs) ≡ true → Has (s ∷ rs) r
+    by true at rest e = inl (sym (same_asking r s at))
+    by false at rest e = inr (rest e)
+
 -- sets that are distinct tell their numbers
 row_apart : (sets : List (List ℕ)) (r s : Asking) → AreDistinct sets → r.set < length sets → s.set < length sets → row_in sets r ≡ row_in sets s → r ≡ s
 row_apart sets r s d hr hs e =
@@ -126,11 +134,17 @@ module _ (t : Tabled) (tabled : IsTabled t) (r : Asking) (given : r.set < length
         kept = ([], append-nil t.sets);
         sets = λ x h. inl h;
         sound = held_sound t after;
+        holds = Has-map (row_in t.sets) t.asked r (any_has t.asked r at);
         rows = inl (refl, omega arith);
       }
       by false at after =
           let kept = with_kept (reached t.graph (set_at t.sets r.set) r.ask) t.sets in
-          let new = with_sets t.sets (reached t.graph (set_at t.sets r.set) r.ask) in record {
+          let new = with_sets t.sets (reached t.graph (set_at t.sets r.set) r.ask) in
+          let rows : map (row_in new) (t.asked ++ r ∷ []) ≡ map (row_in t.sets) t.asked ++ row ∷ [] =
+          map_snoc (row_in new) t.asked r
+          ∙ (ap (λ rows. rows ++ row_in new r ∷ []) (rows_same kept.0 new kept.1 t.asked tabled.asked)
+          ∙ ap (λ x. map (row_in t.sets) t.asked ++ x) (rows_same kept.0 new kept.1 (r ∷ []) one)) in
+          record {
             graph = refl;
             limit = refl;
             kept = kept;
@@ -139,11 +153,10 @@ module _ (t : Tabled) (tabled : IsTabled t) (r : Asking) (given : r.set < length
               | inr k ↦ inr (reached_targets x k)
             ];
             sound = held_sound (asked_first t r) after;
+            holds = subst (λ (rs : List Row). Has rs row) (sym rows) (Has-append_right (map (row_in t.sets) t.asked) (row ∷ []) row (inl refl));
             rows = inr (
               λ h. no (sym at ∙ has_any t.asked r (has_row t.sets t.asked r tabled.sets_apart tabled.asked given h)),
-              map_snoc (row_in new) t.asked r
-                  ∙ (ap (λ rows. rows ++ row_in new r ∷ []) (rows_same kept.0 new kept.1 t.asked tabled.asked)
-                  ∙ ap (λ x. map (row_in t.sets) t.asked ++ x) (rows_same kept.0 new kept.1 (r ∷ []) one)),
+              rows,
               omega arith,
             );
           }

@@ -15,7 +15,7 @@ use Rattle.one_pass.specs.Builds.{IsNew, build, started}
 use Rattle.one_pass.specs.Places.{Place, AreReadWords, Leads, asks, byte_at, edges_read, end_at, places, rest_at, sets_after, sets_met}
 use Rattle.one_pass.specs.Passes.{Pass, sets_of, Reaches, IsReady, HasEnded, HasRead, HasStopped, Stop, IsExcess}
 use Rattle.one_pass.proofs.ReadWords.{leads_then, read_words, then_leads}
-use Rattle.one_pass.proofs.Sets.{Covers, edges_append, edges_covers, rows_covers, rows_left, rows_right, weight_covers}
+use Rattle.one_pass.proofs.Sets.{Covers, edges_append, edges_covers, rows_append, rows_covers, rows_left, rows_right, weight_covers}
 use Rattle.one_pass.proofs.Composing.{asks_append}
 
 -- the places ask what reading asks
@@ -287,6 +287,16 @@ module _ (A : Automaton) (K : ℕ → Bool) (d : List ℕ) (t : TableView) (new 
           let c = ap (edges_read A starts) (front_asks ps (end_at (length d) ∷ []) all) in
           let e = edges_covers A (sets_after A starts (asks ps)) (sets_of Q) (ended ∷ []) distinct (λ set k. (layer_sets ps Q read set).0 k) in
           omega (arith, a, b, c, e)
+
+  -- the table holds each row that is asked for
+  pub whole_rows : (ps : List Place) → ps ++ end_at (length d) ∷ [] ≡ places K d 0 false → (Q R : Pass) → HasRead A ps P Q → HasEnded A (length d) Q R →
+      Covers R.table.rows (rows_read A d K)
+  whole_rows ps all Q R read done row h =
+      let both = ap (rows_asked A starts) (sym (front_asks ps (end_at (length d) ∷ []) all)) ∙ rows_append A starts (asks ps) (ended ∷ []) in
+      elim (Has-append_cases (rows_asked A starts (asks ps)) (rows_asked A (sets_after A starts (asks ps)) (ended ∷ [])) row (subst (λ (rows : List Row). Has rows row) both h)) [
+        | inl first ↦ done.table.stay row (read.holds row (subst (λ sets. Has (rows_asked A sets (asks ps)) row) (sym starts_are) first))
+        | inr last ↦ done.holds row (rows_covers A (sets_of Q) (sets_after A starts (asks ps)) (ended ∷ []) (λ set k. (layer_sets ps Q read set).1 k) row last)
+      ]
 
   -- no more cells are live than edges were read, and one
   pub whole_cells : (ps : List Place) → ps ++ end_at (length d) ∷ [] ≡ places K d 0 false → (Q R : Pass) → HasRead A ps P Q → HasEnded A (length d) Q R →

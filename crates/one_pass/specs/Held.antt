@@ -61,14 +61,15 @@ abbrev pub StaysOn : TableView → ℕ → ℕ → Type 0
 StaysOn t k b =
     Has t.rows (row_of t k (byte_read b)) × (edges t.graph (set_named t k) (byte_read b) ≡ record { marks = 0; to = set_named t k } ∷ [])
 
--- what the row tells is known: either nothing changed, or it was not there, and it and the sets that it leads to were
--- added; that took one step at most, or at most one more than the size of the automaton
+-- what the row tells is known, and the row is there: either nothing changed, or it was not there, and it and the sets that
+-- it leads to were added; that took one step at most, or at most one more than the size of the automaton
 pub record HasMade (old new : TableView) (row : Row) (before after : ℕ) : Type 0 where
   pub graph : new.graph ≡ old.graph
   pub limit : new.limit ≡ old.limit
   pub kept : (more : List (List ℕ)) × (old.sets ++ more ≡ new.sets)
   pub sets : (set : List ℕ) → Has new.sets set → Has old.sets set ⊎ Has (targets old.graph row) set
   pub sound : IsSound new
+  pub holds : Has new.rows row
   pub rows :
       ((new.rows ≡ old.rows) × (after ≤ before + 1))
       ⊎ (¬ Has old.rows row × (new.rows ≡ old.rows ++ row ∷ []) × (after ≤ before + (1 + size old.graph)))

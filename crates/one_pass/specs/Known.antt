@@ -9,13 +9,14 @@ use Rattle.output_graph.specs.Source.{Edges}
 use Rattle.output_graph.specs.Sound.{edges_of}
 use Rattle.one_pass.specs.declared.known.Known.{Known}
 use Rattle.one_pass.specs.declared.known.KnownStep.{KnownStep}
-use Rattle.one_pass.specs.Held.{TableView, AreNumbered, set_named}
+use Rattle.one_pass.specs.Held.{TableView, AreNumbered, StaysOn, row_of, set_named}
 use Rattle.one_pass.specs.Passes.{AllStayOn}
 use Rattle.one_pass.specs.Seen.{whole}
 
--- these are the edges of the set of a number on a byte
+-- the set of a number was asked for a byte, and these are its edges on it
 pub record IsRow (t : TableView) (b s : ℕ) (group : Edges) : Type 0 where
   pub given : s < length t.sets
+  pub asked : Has t.rows (row_of t s (byte_read b))
   pub by : List Edge
   pub are : edges_of by ≡ group
   pub numbered : AreNumbered t by (edges t.graph (set_named t s) (byte_read b))
@@ -27,10 +28,9 @@ AreRows t b [] (group ∷ groups) = ⊥
 AreRows t b (s ∷ sets) [] = ⊥
 AreRows t b (s ∷ sets) (group ∷ groups) = IsRow t b s group × AreRows t b sets groups
 
--- each set has one edge on the byte, without marks and to itself
+-- each set was asked for the byte, and has one edge on it, without marks and to itself
 abbrev pub AreStill : TableView → ℕ → List ℕ → Type 0
-AreStill t b sets =
-    (s : ℕ) → Has sets s → (s < length t.sets) × (edges t.graph (set_named t s) (byte_read b) ≡ record { marks = 0; to = set_named t s } ∷ [])
+AreStill t b sets = (s : ℕ) → Has sets s → (s < length t.sets) × StaysOn t s b
 
 -- the sets of the layer of a number
 abbrev pub layer_at : List (List ℕ) → ℕ → List ℕ

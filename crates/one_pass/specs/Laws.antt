@@ -5,7 +5,7 @@ use Rattle.span_core.specs.Intervals.{AreApart, Covers}
 use Rattle.marked_automaton.specs.Automaton.{Automaton}
 use Rattle.automaton_reading.specs.Reading.{asked, edges, edges_K, rows_asked, set_of, weight_K}
 use Rattle.automaton_reading.specs.Chosen.{IsReadWith}
-use Rattle.one_pass.specs.Held.{TableView, set_named}
+use Rattle.one_pass.specs.Held.{TableView, row_of, set_named}
 use Rattle.output_graph.specs.Graph.{Source}
 use Rattle.one_pass.specs.Words.{Word}
 use Rattle.one_pass.specs.Builds.{IsNew, build, started}
@@ -39,11 +39,12 @@ StepLaw =
     (A : Automaton) (ps qs : List Place) (P Q R : Pass) (at : ℕ) →
     HasRead A ps P Q → IsReady Q at → HasRead A qs Q R → HasRead A (ps ++ qs) P R
 
--- where each set of the layer has one edge, without marks and to itself, the place has been read before it is
+-- where each set of the layer has been asked, and has one edge, without marks and to itself, the place has been read before it is
 abbrev pub StayLaw : Type 0
 StayLaw =
     (A : Automaton) (p : Place) (P : Pass) →
-    ((x : Source) → Has P.graph.layer x → edges A (set_named P.table x.set) p.ask ≡ record { marks = 0; to = set_named P.table x.set } ∷ []) →
+    ((x : Source) → Has P.graph.layer x →
+    Has P.table.rows (row_of P.table x.set p.ask) × (edges A (set_named P.table x.set) p.ask ≡ record { marks = 0; to = set_named P.table x.set } ∷ [])) →
     HasRead A (p ∷ []) P P
 
 -- the whole document: the words, the steps with those of turning, and the cells

@@ -72,11 +72,12 @@ Extends A ps P Q =
     (set : List ℕ) (w : Word) →
     Reaches Q set w ↔ ((from : List ℕ) × (u v : Word) × Reaches P from u × Leads A ps from v set × (u ++ v ≡ w))
 
--- the places have been read
+-- the places have been read: what they ask for is there
 pub record HasRead (A : Automaton) (ps : List Place) (P Q : Pass) : Type 0 where
   pub words : Extends A ps P Q
   pub sets : (set : List ℕ) → Has (sets_of Q) set ↔ Has (sets_after A (sets_of P) (asks ps)) set
   pub table : HasGrown P.table Q.table (sets_met A (sets_of P) (asks ps)) (rows_asked A (sets_of P) (asks ps))
+  pub holds : (row : Row) → Has (rows_asked A (sets_of P) (asks ps)) row → Has Q.table.rows row
   -- the sizes of the layers and of the graph pay for the steps, with 6 for each edge and the automaton's size
   -- for each row that was made
   pub steps :
@@ -127,6 +128,7 @@ pub record HasEnded (A : Automaton) (n : ℕ) (P Q : Pass) : Type 0 where
       Has Q.graph.accepted w ↔ ((from : List ℕ) × (u v : Word) × Reaches P from u × Leads A (end_at n ∷ []) from v [] × (u ++ v ≡ w))
   pub every : Q.graph.stepped ≡ length Q.graph.layer
   pub table : HasGrown P.table Q.table [] (rows_asked A (sets_of P) (ended ∷ []))
+  pub holds : (row : Row) → Has (rows_asked A (sets_of P) (ended ∷ [])) row → Has Q.table.rows row
   pub sound : IsSound Q.table
   pub steps :
       Q.steps + Q.graph.live + length P.table.rows * size A

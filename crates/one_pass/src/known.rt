@@ -178,9 +178,21 @@ impl Known {
             self.enter(table, layer, byte, STILL);
             return;
         }
+        if !self.has_room_for(table, layer, byte) {
+            return;
+        }
         if let Some(program) = program_of(self.alloc, table, self.layers.at(layer), byte) {
             self.learn_step(table, layer, byte, program);
         }
+    }
+
+    /// Whether a program of the layer of a number on a byte may be kept, by the number of its edges: so none is made to be
+    /// let go.
+    fn has_room_for(&self, table: &Table<'_>, layer: usize, byte: u8) -> bool
+        requires { layer < length self.now.layers }
+    {
+        let sets = self.layers.at(layer);
+        step_words(edges_on(table, sets, byte), sets.len()) <= self.left
     }
 
     /// Keeps a program of a layer on a byte.
@@ -190,7 +202,7 @@ impl Known {
         requires rows { AreRows (held table.now) byte (layer_at self.old.layers layer) program.groups }
         ensures { Knows (held table.now) self.new }
     {
-        let size = step_words(&program);
+        let size = step_words(program.edges(), program.sources());
         if self.left < size {
             return;
         }
@@ -234,9 +246,20 @@ impl Known {
     }
 }
 
-/// How many words a program takes, about.
-fn step_words(program: &Program) -> usize {
-    STEP_WORDS + 4 * program.edges().min(MOST_WORDS) + 2 * program.sources().min(MOST_WORDS)
+/// How many words a program of so many edges and sources takes, about.
+fn step_words(edges: usize, sources: usize) -> usize {
+    STEP_WORDS + 4 * edges.min(MOST_WORDS) + 2 * sources.min(MOST_WORDS)
+}
+
+/// How many edges these sets have on a byte, of those that were asked for it.
+fn edges_on(table: &Table<'_>, sets: &[u32], byte: u8) -> usize {
+    let mut edges = 0usize;
+    for set in sets {
+        if let Some(row) = table.asked_row(*set, byte) {
+            edges = edges.saturating_add(row.len());
+        }
+    }
+    edges
 }
 
 /// A copy of these sets.

@@ -1,7 +1,7 @@
 //! Reading a whole document: the layer of the empty word, the intervals of positions, and the ends.
-ghost use Rattle.std.specs.Prelude.{◌≡◌, ℕ, ◌+◌, ◌*◌, ◌^◌, ◌≤◌, length, IfErr, IfOk, OnErr};
+ghost use Rattle.std.specs.Prelude.{◌≡◌, ℕ, ◌+◌, ◌*◌, ◌^◌, ◌≤◌, length, IfErr, IfOk, OnErr, OnOk};
 ghost use Rattle.span_core.specs.Intervals.{Covers};
-ghost use Rattle.automaton_reading.specs.Reading.{edges_K};
+ghost use Rattle.automaton_reading.specs.Reading.{edges_K, weight_K};
 ghost use Rattle.one_pass.specs.Builds.{IsNew, build};
 ghost use Rattle.one_pass.specs.Faults.{IsReadFault};
 ghost use Rattle.one_pass.specs.Passes.{HasKept};
@@ -23,8 +23,8 @@ use std::sync::ledger::Ledger;
 /// reached, at the first position of each gap it goes to the sets' idle members, and at the end of the document
 /// it ends every set. The table is new; on refusal it keeps what it holds, and the graph is given up.
 ///
-/// The accepted words are those that are read. `TableFault::Full` comes only where the weight of the reading
-/// passes the table's limit, and tells a weight that is no more. The steps, with two for each live cell of the
+/// The accepted words are those that are read. `TableFault::Full` comes where the weight of the reading passes the
+/// table's limit, unless memory runs out first, and only there; it tells a weight that is no more. The steps, with two for each live cell of the
 /// graph and two more, which are for turning it, are at most what `build` allows less one.
 pub fn read<L: Ledger>(
     alloc: Global,
@@ -39,6 +39,7 @@ pub fn read<L: Ledger>(
     ensures words { IfOk result (λ g. AreReadWords table.old.graph (is_touched positions.now) doc.now (accepted_words g)) }
     ensures ended { IfOk result (λ g. g.stepped ≡ length g.layer) }
     ensures only { IfOk result (λ g. (s : ℕ) → Has (sets_of g.next) s → s ≡ 0) }
+    ensures weighs { OnOk result (weight_K table.old.graph doc.now (is_touched positions.now) ≤ table.old.limit) }
     ensures steps { IfOk result (λ g. steps.new + (2 * length g.cells + 2) + 1 ≤ steps.old + build table.old.graph doc.now (is_touched positions.now)) }
     ensures cells { IfOk result (λ g. length g.cells ≤ edges_K table.old.graph doc.now (is_touched positions.now) + 1) }
     ensures stopped { OnErr result (steps.new + 1 ≤ steps.old + build table.old.graph doc.now (is_touched positions.now)) }
@@ -56,5 +57,6 @@ pub fn read<L: Ledger>(
     if let Err(fault) = end_layer(table, &mut graph, doc.len() as u32, steps) {
         return Err(fault);
     }
+    table.start();
     Ok(graph)
 }

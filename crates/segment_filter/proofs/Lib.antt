@@ -1,6 +1,7 @@
 pub mod Shares
 pub mod SetLaws
 pub mod ReadingLaws
+pub mod Holding
 pub mod WeightLaws
 pub mod Meetings
 pub mod Turning

@@ -1,5 +1,5 @@
 -- What a table has that a document is read by is no more than what the reading comes to.
-use Rattle.std.proofs.Common.{◌≡◌, ℕ, zero, suc, ◌+◌, ◌*◌, ◌<◌, ◌≤◌, ◌⊎◌, List, [], ◌∷◌, ◌++◌, Bool, true, false, Option, Some, map, length, length-append, inl, inr, refl, sym, ap, subst, arith, ◌∙◌}
+use Rattle.std.proofs.Common.{◌≡◌, ℕ, zero, suc, ◌+◌, ◌*◌, ◌<◌, ◌≤◌, ◌⊎◌, List, [], ◌∷◌, ◌++◌, Bool, true, false, Option, Some, None, map, length, length-append, inl, inr, refl, sym, ap, subst, arith, ◌∙◌}
 use Rattle.std.specs.Prelude.{nat_eq, slice_get, if◌then◌else◌, ◌||◌}
 use Rattle.std.specs.List.{flat_map, list_any, sum_by}
 use Rattle.std.specs.Option.{unwrap_or}
@@ -16,10 +16,11 @@ use Rattle.automaton_reading.proofs.Matching.{length_sum, match_sum, once_has}
 use Rattle.automaton_reading.proofs.MeasureLaws.{ask_itself, bytes_itself, row_itself, same_bytes, same_row}
 use Rattle.segment_filter.specs.declared.fault.FilterFault.{FilterFault}
 use Rattle.segment_filter.specs.declared.fault.FilterFault.TheVariants.{Full, OutOfMemory}
-use Rattle.segment_filter.specs.Sets.{Extends, IsFullBy}
+use Rattle.segment_filter.specs.Sets.{Extends, IsFullBy, TakesNone}
 use Rattle.segment_filter.specs.Next.{IsNext, IsTarget}
-use Rattle.set_table.specs.Tabled.{Asking, Tabled, fresh, once_asked, asked_edges, asked_first, asking, asking_same, reached, set_at, sets_weight, was_asked, weight, with_set, with_sets}
+use Rattle.set_table.specs.Tabled.{Asking, IsTabled, Tabled, fresh, once_asked, asked_edges, asked_first, asking, asking_same, reached, set_at, sets_weight, was_asked, weight, with_set, with_sets}
 use Rattle.segment_filter.specs.Weights.{IsFullWithin, bytes_read, reading_rows, reading_weight, sets_asked, sets_read}
+use Rattle.segment_filter.proofs.Holding.{HoldsAll, IsHolding, holding_all, holding_ends, holding_next, holding_starts, weight_no_less}
 use Rattle.segment_filter.proofs.SetLaws.{extends_all}
 
 -- ---- tests for equality
@@ -305,20 +306,35 @@ pub record IsReading (first t : Tabled) (d : List ℕ) (k j s0 s : ℕ) : Type 0
   pub met : IsMet first.graph (starting first.graph) (map byte_read d) k (set_at t.sets j)
   pub below : j < length t.sets
   pub limit : t.limit ≡ first.limit
+  pub light : weight t ≤ first.limit
+  pub holds : IsHolding first.graph d t k (set_at t.sets j)
   pub steps : s ≤ s0 + k + size first.graph * length t.asked
 
-pub reading_starts : (t : Tabled) (d : List ℕ) (j s : ℕ) → t ≡ fresh t.graph t.limit → j ≡ 0 → IsReading t t d 0 j s s
-reading_starts t d j s is e = record {
+pub reading_starts : (t : Tabled) (d : List ℕ) (j s : ℕ) → t ≡ fresh t.graph t.limit → j ≡ 0 → IsTabled t → IsReading t t d 0 j s s
+reading_starts t d j s is e tabled = record {
   within = within_fresh t d is;
   met = met_fresh t d j is e;
   below = let l : length t.sets ≡ 1 = ap (λ (x : Tabled). length x.sets) is in omega (arith, l, e);
   limit = refl;
+  light = tabled.within;
+  holds = holding_starts t.graph d t (set_at t.sets j) (ap (set_at t.sets) e ∙ ap (λ (x : Tabled). set_at x.sets 0) is);
   steps = omega arith;
 }
 
+-- the table weighs what the reading does, which is no more than the limit
+abbrev pub WeighsAll : Tabled → List ℕ → Tabled → Type 0
+WeighsAll first d t = (weight t ≡ reading_weight first.graph d) × (reading_weight first.graph d ≤ first.limit)
+
+weighs_all : (first : Tabled) (d : List ℕ) (t : Tabled) → IsWithin first.graph d t → HoldsAll first.graph d t → weight t ≤ first.limit → WeighsAll first d t
+weighs_all first d t within holds light =
+    let most = weight_no_more first.graph d t within in
+    let least = weight_no_less first.graph d t within.graph holds in
+    (omega (arith, most, least), omega (arith, least, light))
+
 module _ (first t : Tabled) (d : List ℕ) (k j s0 s : ℕ) (h : IsReading first t d k j s0 s) where
-  pub reading_weighs : weight t ≤ reading_weight first.graph d
-  reading_weighs = weight_no_more first.graph d t h.within
+  -- all bytes were read
+  pub reading_weighs : k ≡ length d → WeighsAll first d t
+  reading_weighs end = weighs_all first d t h.within (holding_all first.graph d t k j h.holds h.below end) h.light
 
   pub reading_steps : (n : ℕ) → k ≤ n → s ≤ s0 + n + size first.graph * reading_rows first.graph d
   reading_steps n l =
@@ -341,14 +357,25 @@ module _ (first t : Tabled) (d : List ℕ) (k j s0 s : ℕ) (h : IsReading first
           go true = refl
           go false = refl
 
-      pub reading_next : (next : Option ℕ) (to : ℕ) → IsNext t j b new.sets next → to < length new.sets → next ≡ Some to → IsReading first new d (k + 1) to s0 s1
-      reading_next next to go l e = record {
+      light_new : IsTabled new → weight new ≤ first.limit
+      light_new tabled = subst (λ n. weight new ≤ n) limit_new tabled.within
+
+      pub reading_next : (next : Option ℕ) (to : ℕ) → IsNext t j b new.sets next → to < length new.sets → next ≡ Some to → TakesNone first.graph → IsTabled new →
+          IsReading first new d (k + 1) to s0 s1
+      reading_next next to go l e none tabled = record {
         within = within_new;
         met = met_then first.graph d t k j b h.within h.met h.below at new.sets next to go e;
         below = l;
         limit = limit_new;
+        light = light_new tabled;
+        holds = holding_next first.graph d t new k j b h.holds h.within.graph none h.below h.within.below at is next go to e;
         steps = steps_new;
       }
+
+      -- it leads to no set
+      pub reading_stops : (next : Option ℕ) → IsNext t j b new.sets next → next ≡ None → TakesNone first.graph → IsTabled new → WeighsAll first d new
+      reading_stops next go e none tabled =
+          weighs_all first d new within_new (holding_ends first.graph d t new k j b h.holds h.within.graph none h.below h.within.below at is next go e) (light_new tabled)
 
       pub reading_ends : (n : ℕ) → k < n → (weight new ≤ reading_weight first.graph d) × (s1 ≤ s0 + n + size first.graph * reading_rows first.graph d)
       reading_ends n l =

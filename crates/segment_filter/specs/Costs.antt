@@ -9,7 +9,7 @@ use Rattle.marked_automaton.specs.Marks.{remarked}
 use Rattle.automaton_reading.specs.Reading.{Asked, byte_read, next_sets, once, set_of}
 use Rattle.place_automaton.specs.Words.{atom_automaton}
 use Rattle.place_automaton.specs.Variables.{with_vars}
-use Rattle.segment_filter.specs.Weights.{reading_rows, reading_weight}
+use Rattle.segment_filter.specs.Weights.{both_weigh, reading_rows, reading_weight}
 
 -- forwards: the atom's automaton without markers
 abbrev pub forward_of : List VarName → Bool → Bool → Tree → Automaton
@@ -54,6 +54,10 @@ filter_rows names s t f d =
 -- what the two readings of an atom weigh, and how many steps finding what it touches may take
 abbrev pub atom_weight : Bool → Bool → Tree → List ℕ → ℕ
 atom_weight s t f d = filter_weight (with_vars [] f) s t f d
+
+-- what the two readings weigh, without the pairs in which they meet
+abbrev pub readings_weight : Bool → Bool → Tree → List ℕ → ℕ
+readings_weight s t f d = both_weigh (forward_of (with_vars [] f) s t f) (backward_of (with_vars [] f) t f) d
 
 abbrev pub touching_steps : Bool → Bool → Tree → List ℕ → ℕ
 touching_steps s t f d = 4 * (length d + 1) + (1 + size (atom_automaton (with_vars [] f) s t f)) * filter_rows (with_vars [] f) s t f d

@@ -1,7 +1,9 @@
+-- what public contracts rest on
 pub mod Sets
-pub mod Remembered
 pub mod Readings
 pub mod Weights
 pub mod Costs
+-- what the functions inside promise each other
+pub mod Remembered
 pub mod Next
 pub mod SetNumbers

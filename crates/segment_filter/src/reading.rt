@@ -34,7 +34,7 @@ pub(crate) fn read_back<S: Sets, L: Ledger>(
     ensures grows { Grows (S.known table.new) (S.known table.old) }
     ensures ok { IfOk result (λ kept. ReadsAll (S.known table.new) (reverse doc.now) (numbers_of kept)) }
     ensures limit { (S.known table.new).limit ≡ (S.known table.old).limit }
-    ensures weight { OnOk result (weight (S.known table.new) ≤ reading_weight (S.known table.old).graph (reverse doc.now)) }
+    ensures weight { OnOk result (weight (S.known table.new) ≡ reading_weight (S.known table.old).graph (reverse doc.now)) }
     ensures full { IfErr result (λ e. IsFullWithin (S.known table.old).limit (reading_weight (S.known table.old).graph (reverse doc.now)) e) }
     ensures steps { steps.new ≤ steps.old + length doc.now + size (S.known table.old).graph * reading_rows (S.known table.old).graph (reverse doc.now) }
 {
@@ -70,6 +70,7 @@ pub(crate) fn meetings<S: Sets, L: Ledger>(
     requires fresh { S.known table.old ≡ fresh (S.known table.old).graph (S.known table.old).limit }
     requires kept { ReadsAll (S.known back.now) (reverse doc.now) (numbers_of kept.now) }
     requires small { length doc.now < 2 ^ 32 }
+    ensures within { OnOk result (reading_weight (S.known table.old).graph doc.now ≤ (S.known table.old).limit) }
     ensures full { IfErr result (λ e. IsFullWithin (S.known table.old).limit (reading_weight (S.known table.old).graph doc.now) e) }
     ensures steps { steps.new ≤ steps.old + length doc.now + size (S.known table.old).graph * reading_rows (S.known table.old).graph doc.now }
     ensures ok { IfOk result (λ t. (i : ℕ) → Covers t i ↔ ((i ≤ length doc.now) × MeetAt (S.known table.old).graph (S.known back.now).graph most doc.now i)) }

@@ -1,5 +1,5 @@
 //! The positions that an atom touches.
-ghost use Rattle.std.specs.Prelude.{◌≡◌, [], ℕ, ◌+◌, ◌-◌, ◌*◌, ◌^◌, ◌<◌, ◌≤◌, ◌↔◌, length, reverse, IfOk, IfErr};
+ghost use Rattle.std.specs.Prelude.{◌≡◌, [], ℕ, ◌+◌, ◌-◌, ◌*◌, ◌^◌, ◌<◌, ◌≤◌, ◌↔◌, length, reverse, IfOk, IfErr, OnOk};
 ghost use Rattle.span_core.specs.Intervals.{Covers};
 ghost use Rattle.marked_automaton.specs.Automaton.{size};
 ghost use Rattle.segment_filter.specs.Sets.{MeetAt, ReadsAll, TakesNone};
@@ -11,7 +11,7 @@ ghost use Rattle.spanner_model.specs.Sequential.{HasVar, IsSequential};
 ghost use Rattle.span_core.specs.Lists.{AtMost};
 ghost use Rattle.spanner_model.specs.View.{tree_of};
 ghost use Rattle.spanner_model.specs.WellBuilt.{IsWellBuilt};
-ghost use Rattle.segment_filter.specs.Costs.{atom_weight, touching_steps};
+ghost use Rattle.segment_filter.specs.Costs.{atom_weight, readings_weight, touching_steps};
 ghost use Rattle.filter_laws.specs.Touching.{IsTouchedBy};
 
 use crate::FilterFault;
@@ -29,8 +29,8 @@ use std::sync::ledger::Ledger;
 ///
 /// The document is read by sets of the states of the atom's automaton (Glushkov 1961) without markers, from
 /// its end and from its start; a position is touched exactly where the two sets there share a place, or Before.
-/// `FilterFault::Full` comes only where what the two readings met weighs more than `limit`, and carries the
-/// weight that passed it. An atom whose automaton is past the limits of size answers want of memory; a query
+/// The two readings weigh no more than `limit` together; `FilterFault::Full` comes only where they weigh more, and
+/// carries the weight that passed it. An atom whose automaton is past the limits of size answers want of memory; a query
 /// that is compiled has none such. The set numbers of the reading from the end are kept, in 1, 2 or 4 bytes a position.
 pub fn touched<L: Ledger>(
     alloc: Global,
@@ -45,6 +45,7 @@ pub fn touched<L: Ledger>(
     requires doc { length doc.now ≤ 2 ^ 28 }
     requires limit { limit ≤ 100000000 }
     ensures ok { IfOk result (λ t. (i : ℕ) → Covers t i ↔ IsTouchedBy atom.now.from_start atom.now.to_end (tree_of atom.now.formula) doc.now i) }
+    ensures within { OnOk result (readings_weight atom.now.from_start atom.now.to_end (tree_of atom.now.formula) doc.now ≤ limit) }
     ensures full { IfErr result (λ e. IsFullWithin limit (atom_weight atom.now.from_start atom.now.to_end (tree_of atom.now.formula) doc.now) e) }
     ensures steps { steps.new ≤ steps.old + touching_steps atom.now.from_start atom.now.to_end (tree_of atom.now.formula) doc.now }
 {
@@ -67,6 +68,7 @@ fn touched_by<L: Ledger>(
     requires small { length doc.now < 2 ^ 32 }
     requires limit { limit ≤ 100000000 }
     ensures ok { IfOk result (λ t. (i : ℕ) → Covers t i ↔ ((i ≤ length doc.now) × MeetAt readings.now.forward.graph readings.now.backward.graph readings.now.most doc.now i)) }
+    ensures within { OnOk result (both_weigh readings.now.forward.graph readings.now.backward.graph doc.now ≤ limit) }
     ensures full { IfErr result (λ e. IsFullWithin limit (both_weigh readings.now.forward.graph readings.now.backward.graph doc.now) e) }
     ensures steps { steps.new ≤ steps.old + both_take readings.now.forward.graph readings.now.backward.graph doc.now }
 {
@@ -98,6 +100,7 @@ fn touched_ahead<'r, L: Ledger>(
     requires small { length doc.now < 2 ^ 32 }
     requires limit { limit ≤ 100000000 }
     ensures ok { IfOk result (λ t. (i : ℕ) → Covers t i ↔ ((i ≤ length doc.now) × MeetAt readings.now.forward.graph behind.now.graph readings.now.most doc.now i)) }
+    ensures within { OnOk result (weight behind.now + reading_weight readings.now.forward.graph doc.now ≤ limit) }
     ensures full { IfErr result (λ e. IsFullWithin limit (weight behind.now + reading_weight readings.now.forward.graph doc.now) e) }
     ensures steps { steps.new ≤ steps.old + (length doc.now + 1 + size readings.now.forward.graph * reading_rows readings.now.forward.graph doc.now) }
 {

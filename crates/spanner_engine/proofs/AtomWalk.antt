@@ -79,6 +79,17 @@ module _ (P : Bool → Bool → Tree → Type 0) where
   )
   some_more (g ∷ es) e = one_more (SomeAtom P g) (SomeAtom P (join_all (es ++ e ∷ []))) (SomeAtom P (join_all es)) (SomeAtom P e) (some_more es e)
 
+  -- none of parts, and then of one part more
+  pub none_more : (es : List ExprTree) (k : ℕ) (e : ExprTree) → slice_get es k ≡ Some e → ¬ SomeAtom P (join_all (take k es)) → ¬ SomeAtom P e → ¬ SomeAtom P (join_all (take (k + 1) es))
+  none_more es k e at none one h =
+      elim ((some_more (take k es) e).0 (subst (λ (gs : List ExprTree). SomeAtom P (join_all gs)) (take_at_more es k e at) h)) as (λ _. ⊥) [ inl a ↦ none a | inr b ↦ one b ]
+
+  pub none_all : (es : List ExprTree) (k : ℕ) → length es ≤ k → ¬ SomeAtom P (join_all (take k es)) → ¬ SomeAtom P (join_all es)
+  none_all es k past none = subst (λ (gs : List ExprTree). ¬ SomeAtom P (join_all gs)) (take_all k es past) none
+
+  pub none_union : (es : List ExprTree) → ¬ SomeAtom P (join_all es) → ¬ SomeAtom P (union_all es)
+  none_union es none h = none ((some_union es).0 h)
+
   -- of named expressions
   one_let : (m : VarName × ExprTree) (lets : List (VarName × ExprTree)) →
       SomeAtom P (join_all (map (λ (l : VarName × ExprTree). l.1) lets)) ↔ ((l : VarName × ExprTree) × Has lets l × SomeAtom P l.1) →
@@ -96,6 +107,13 @@ module _ (P : Bool → Bool → Tree → Type 0) where
   some_let : (lets : List (VarName × ExprTree)) → SomeAtom P (join_all (map (λ (l : VarName × ExprTree). l.1) lets)) ↔ ((l : VarName × ExprTree) × Has lets l × SomeAtom P l.1)
   some_let [] = (λ h. absurd h, λ h. absurd h.1)
   some_let (m ∷ lets) = one_let m lets (some_let lets)
+
+  -- none of lets, and then of the body
+  pub none_of : (q : QueryTree) (k : ℕ) → length q.lets ≤ k → ¬ SomeAtom P (join_all (take k (map (λ (l : VarName × ExprTree). l.1) q.lets))) → ¬ SomeAtom P q.body → ¬ SomeAtomOf P q
+  none_of q k past lets body (inl h) =
+      let long : length (map (λ (l : VarName × ExprTree). l.1) q.lets) ≤ k = omega (arith, past, length-map q.lets (λ (l : VarName × ExprTree). l.1)) in
+      none_all (map (λ (l : VarName × ExprTree). l.1) q.lets) k long lets ((some_let q.lets).1 h)
+  none_of q k past lets body (inr h) = body h
 
 -- ---- what the atoms of parts come to
 

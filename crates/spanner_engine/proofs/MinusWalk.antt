@@ -1,9 +1,9 @@
 -- Whether a difference stands in some part of a query.
-use Rattle.std.proofs.Common.{◌≡◌, ℕ, ◌+◌, ◌≤◌, ◌⊎◌, ◌↔◌, Bool, true, false, IsTrue, List, [], ◌∷◌, length, take, Some, slice_get, inl, inr, refl, sym, subst}
+use Rattle.std.proofs.Common.{◌≡◌, ℕ, ◌+◌, ◌≤◌, ◌↔◌, Bool, true, false, IsTrue, List, [], ◌∷◌, length, take, Some, slice_get, inl, inr, refl, sym, subst}
 use Rattle.std.proofs.lemmas.Bool.{true≢false}
 use Rattle.std.proofs.lemmas.List.{take_all}
 use Rattle.span_core.specs.Lists.{Has}
-use Rattle.span_core.proofs.HasLaws.{Has-append_cases, Has-slice_get}
+use Rattle.span_core.proofs.HasLaws.{Has-append_cases}
 use Rattle.spanner_model.specs.Captures.{VarName}
 use Rattle.spanner_model.specs.Expression.{ExprTree, QueryTree, join_all, union_all}
 use Rattle.spanner_model.proofs.TreeLaws.{take_at_more}

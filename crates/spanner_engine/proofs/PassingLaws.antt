@@ -1,8 +1,7 @@
 -- Which rows pass, test by test and row by row.
-use Rattle.std.proofs.Common.{◌≡◌, ◌≢◌, ℕ, zero, suc, ◌+◌, ◌-◌, ◌*◌, ◌<◌, ◌≤◌, ◌⊎◌, Bool, true, false, ◌&&◌, List, [], ◌∷◌, ◌++◌, length, take, map, filter, Option, Some, None, inl, inr, refl, sym, ap, ◌∙◌, subst, arith, append-nil}
+use Rattle.std.proofs.Common.{◌≡◌, ℕ, zero, suc, ◌+◌, ◌*◌, ◌≤◌, Bool, true, false, ◌&&◌, List, [], ◌∷◌, ◌++◌, length, take, filter, Option, Some, None, inl, inr, refl, sym, ap, ◌∙◌, subst, arith, append-nil}
 use Rattle.std.specs.Bool.{OnTrue, OnFalse}
-use Rattle.std.specs.Prelude.{slice_get, slice_range, if◌then◌else◌}
-use Rattle.std.specs.List.{list_all}
+use Rattle.std.specs.Prelude.{slice_get, if◌then◌else◌}
 use Rattle.std.specs.Str.{bytes_eq}
 use Rattle.std.proofs.lemmas.Slice.Eq.{bytes_eq-Decides}
 use Rattle.span_core.specs.declared.span.Span.{Span}
@@ -10,12 +9,10 @@ use Rattle.span_core.specs.Lists.{Has, AreDistinct}
 use Rattle.span_core.proofs.HasLaws.{Has-slice_get}
 use Rattle.spanner_model.specs.Captures.{VarName, Mapping, mapping_of, row_of}
 use Rattle.spanner_model.specs.Expression.{QueryTree}
-use Rattle.spanner_model.specs.Answers.{SpanRow, AreAnswers}
+use Rattle.spanner_model.specs.Answers.{SpanRow}
 use Rattle.spanner_model.proofs.Ends.{EndsBy, query_ends}
 use Rattle.query_parser.specs.declared.asks.Asked.{Asked}
-use Rattle.std.specs.Prelude.{IfSome, IfNone, is_none, is_some, Contains}
-use Rattle.std.proofs.lemmas.Option.{slice_get_within}
-use Rattle.span_core.proofs.NameSetLaws as name_sets
+use Rattle.std.specs.Prelude.{IfSome, IfNone, is_none, Contains}
 use Rattle.spanner_model.proofs.NameLaws.{ascending-distinct}
 use Rattle.span_core.specs.NameSets.{Ascending}
 use Rattle.span_tests.specs.Listed.{IsNamed, IsFirstNamed}

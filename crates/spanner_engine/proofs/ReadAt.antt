@@ -7,14 +7,15 @@ use Rattle.spanner_model.specs.Answers.{SpanRow}
 use Rattle.spanner_model.specs.Expression.{ExprTree, QueryTree, atom, join, join_end, minus, named, project, union, union_end}
 use Rattle.spanner_model.specs.Tree.{Tree}
 use Rattle.marked_automaton.proofs.Passing.{both_true, left_true, or_left, or_right, right_true}
-use Rattle.automaton_reading.specs.Reading.{edges_K}
+use Rattle.marked_automaton.specs.Automaton.{Automaton}
+use Rattle.automaton_reading.specs.Reading.{edges_K, weight_K}
 use Rattle.filter_laws.specs.Touching.{Contains, HasMinus, IsSetOf, SomeAtom, TouchedOf}
 use Rattle.set_table.specs.declared.fault.TableFault.{TableFault}
 use Rattle.set_table.specs.declared.fault.TableFault.TheVariants.{Full}
 use Rattle.one_pass.specs.Builds.{build}
 use Rattle.one_pass.specs.Faults.{IsReadFault}
 use Rattle.one_pass.specs.Places.{is_touched}
-use Rattle.spanner_engine.specs.Begun.{AreRead, IsReadAt, begin_steps, cells_sought, counted, filter_steps, table_weight}
+use Rattle.spanner_engine.specs.Begun.{AreRead, IsReadAt, IsReadWithin, begin_steps, cells_sought, counted, filter_steps, table_weight}
 
 -- ---- sets
 
@@ -107,6 +108,9 @@ module _ (filter : Bool) (q p : QueryTree) (is : p ≡ q) (d : List ℕ) (parts 
   -- what holds of it holds of each such set
   for_each : (P : (ℕ → Bool) → Type 0) → P (is_touched parts) → (K : ℕ → Bool) → AreRead filter q d K → P K
   for_each P given K are = subst P (same_set (IsReadAt filter q d) (is_touched parts) K are_read are) given
+
+  pub read_limit : (A : Automaton) (limit : ℕ) → weight_K A d (is_touched parts) ≤ limit → IsReadWithin A q d filter limit
+  read_limit A limit le = for_each (λ K. weight_K A d K ≤ limit) le
 
   pub table_cause : (limit weight : ℕ) (fault : TableFault) → fault ≡ Full weight → IsReadFault (counted q) (is_touched parts) d limit fault →
       (limit < weight) × ((K : ℕ → Bool) → AreRead filter q d K → weight ≤ table_weight q d K)

@@ -51,6 +51,10 @@ counted q = (of_query q).graph
 abbrev pub table_weight : QueryTree → List ℕ → (ℕ → Bool) → ℕ
 table_weight q d K = weight_K (counted q) d K
 
+-- reading the document with this automaton at the positions weighs no more than the limit
+abbrev pub IsReadWithin : Automaton → QueryTree → List ℕ → Bool → ℕ → Type 0
+IsReadWithin A q d filter limit = (K : ℕ → Bool) → AreRead filter q d K → weight_K A d K ≤ limit
+
 -- to find the positions, at most; nothing where all are read
 abbrev pub filter_steps : Bool → QueryTree → List ℕ → ℕ
 filter_steps false q d = 0

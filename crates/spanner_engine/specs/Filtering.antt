@@ -5,7 +5,7 @@ use Rattle.spanner_model.specs.Expression.{ExprTree, QueryTree}
 use Rattle.spanner_model.specs.Tree.{Tree}
 use Rattle.query_automaton.specs.Compiling.{IsAsked}
 use Rattle.filter_laws.specs.Touching.{HasMinus, IsTouchedBy, SomeAtom, SomeAtomOf, sum_atoms}
-use Rattle.segment_filter.specs.Costs.{atom_weight, touching_steps}
+use Rattle.segment_filter.specs.Costs.{atom_weight, readings_weight, touching_steps}
 use Rattle.segment_filter.specs.declared.fault.FilterFault.{FilterFault}
 use Rattle.segment_filter.specs.declared.fault.FilterFault.TheVariants.{Full, OutOfMemory}
 
@@ -34,6 +34,14 @@ HasFullAtom d limit e OutOfMemory = Unit {0}
 abbrev pub IsFilterFault : QueryTree → List ℕ → Bool → ℕ → FilterFault → Type 0
 IsFilterFault q d filter limit (Full weight) = IsTrue filter × ¬ HasMinus q × SomeAtomOf (IsFullAtom d limit weight) q
 IsFilterFault q d filter limit OutOfMemory = Unit {0}
+
+-- the two readings of the atom weigh more than the limit
+abbrev pub IsHeavy : List ℕ → ℕ → Bool → Bool → Tree → Type 0
+IsHeavy d limit s t f = limit < readings_weight s t f d
+
+-- with the filter, the readings of no atom of a text without differences weigh more than the limit
+abbrev pub AreWithin : QueryTree → List ℕ → Bool → ℕ → Type 0
+AreWithin q d filter limit = IsTrue filter → ¬ HasMinus q → ¬ SomeAtomOf (IsHeavy d limit) q
 
 -- to find what the atoms of the expression touch
 abbrev pub steps_in : List ℕ → ExprTree → ℕ

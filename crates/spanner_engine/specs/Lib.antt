@@ -1,3 +1,4 @@
+-- what public contracts rest on
 pub mod Begun
 pub mod Filtering
 pub mod Laws

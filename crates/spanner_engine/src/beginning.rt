@@ -2,11 +2,12 @@
 //!
 //! Every count and weight is said of the query's automaton with nothing left out, which the query determines; the one
 //! that is read is a reduct, and costs no more.
-ghost use Rattle.std.specs.Prelude.{◌≡◌, ℕ, ◌+◌, ◌^◌, ◌≤◌, ◌⊎◌, Bool, length, IfErr, IfOk, IsErrOf};
+ghost use Rattle.std.specs.Prelude.{◌≡◌, ℕ, ◌+◌, ◌^◌, ◌≤◌, ◌⊎◌, Bool, length, IfErr, IfOk, IsErrOf, OnOk};
 ghost use Rattle.std.specs.Option.{ForSome, IfSome, option_copied};
 ghost use Rattle.spanner_model.specs.Answers.{IsRest};
 ghost use Rattle.spanner_model.specs.ExprView.{query_of};
-ghost use Rattle.spanner_engine.specs.Begun.{AreRead, IsBeginFault, IsPast, KeepsOther, begin_steps, cells_sought, row_kept};
+ghost use Rattle.spanner_engine.specs.Begun.{AreRead, IsBeginFault, IsPast, IsReadWithin, KeepsOther, begin_steps, cells_sought, row_kept};
+ghost use Rattle.spanner_engine.specs.Filtering.{AreWithin};
 ghost use Rattle.spanner_engine.specs.Left.{AreLeft};
 ghost use Rattle.spanner_engine.specs.declared.beginning.BeginFault.TheVariants.{CursorOther, CursorPlace};
 
@@ -82,6 +83,8 @@ pub fn begin<L: Ledger>(
     ensures place { IsPast (length doc.now) (option_copied after.entry) → IsErrOf result CursorPlace }
     ensures still { (kept found : ℕ) → IsErrOf result CursorPlace ⊎ IsErrOf result (CursorOther kept found) → steps.new ≡ steps.old }
     ensures fault { IfErr result (IsBeginFault (query_of compiled.now.query) doc.now options.filter (option_copied after.entry) options.limit) }
+    ensures weighs { OnOk result (IsReadWithin compiled.now.automaton.graph (query_of compiled.now.query) doc.now options.filter options.limit) }
+    ensures atoms { OnOk result (AreWithin (query_of compiled.now.query) doc.now options.filter options.limit) }
     ensures steps { (K : ℕ → Bool) → AreRead options.filter (query_of compiled.now.query) doc.now K →
         steps.new ≤ steps.old + begin_steps options.filter (query_of compiled.now.query) doc.now K (row_kept (option_copied after.entry)) }
 {

@@ -2,7 +2,7 @@
 //!
 //! Each atom is looked at by itself and their positions are merged. The atoms of every `let` count, used or not, as
 //! all are compiled. Where a difference stands in the text, all positions are read: what is taken away may stand anywhere.
-ghost use Rattle.std.specs.Prelude.{◌≡◌, ℕ, ◌+◌, ◌^◌, ◌≤◌, ◌⊎◌, ◌↔◌, false, true, length, IfErr, IfOk, IsTrue};
+ghost use Rattle.std.specs.Prelude.{◌≡◌, ℕ, ◌+◌, ◌^◌, ◌≤◌, ◌⊎◌, ◌↔◌, false, true, length, IfErr, IfOk, IsTrue, OnOk};
 ghost use Rattle.std.specs.Bool.{OnFalse, OnTrue};
 ghost use Rattle.span_core.specs.Intervals.{Covers};
 ghost use Rattle.span_core.specs.Lists.{Has};
@@ -10,9 +10,9 @@ ghost use Rattle.spanner_model.specs.Expression.{ExprTree, atom as atom_tree, jo
 ghost use Rattle.spanner_model.specs.ExprView.{expr_of, exprs_of, query_of};
 ghost use Rattle.spanner_model.specs.Sound.{IsSound};
 ghost use Rattle.spanner_model.specs.View.{tree_of};
-ghost use Rattle.filter_laws.specs.Touching.{HasMinus};
+ghost use Rattle.filter_laws.specs.Touching.{HasMinus, SomeAtom, SomeAtomOf};
 ghost use Rattle.spanner_engine.specs.Begun.{IsReadAt, filter_steps};
-ghost use Rattle.spanner_engine.specs.Filtering.{AddsTouched, HasFullAtom, IsFilterFault, IsInSound, steps_in};
+ghost use Rattle.spanner_engine.specs.Filtering.{AddsTouched, AreWithin, HasFullAtom, IsFilterFault, IsHeavy, IsInSound, steps_in};
 
 use crate::Options;
 use crate::differences::has_minus;
@@ -35,6 +35,7 @@ pub(crate) fn positions_read<L: Ledger>(
     requires few { length doc.now ≤ 2 ^ 28 }
     requires limit { options.limit ≤ 100000000 }
     ensures read { IfOk result (λ t. (i : ℕ) → Covers t i ↔ IsReadAt options.filter (query_of query.now) doc.now i) }
+    ensures within { OnOk result (AreWithin (query_of query.now) doc.now options.filter options.limit) }
     ensures fault { IfErr result (IsFilterFault (query_of query.now) doc.now options.filter options.limit) }
     ensures steps { steps.new ≤ steps.old + filter_steps options.filter (query_of query.now) doc.now }
 {
@@ -68,6 +69,7 @@ fn touched_by_query<L: Ledger>(
     requires few { length doc.now ≤ 2 ^ 28 }
     requires limit { limit ≤ 100000000 }
     ensures touched { IfOk result (λ t. (i : ℕ) → Covers t i ↔ IsReadAt true (query_of query.now) doc.now i) }
+    ensures within { OnOk result (¬ SomeAtomOf (IsHeavy doc.now limit) (query_of query.now)) }
     ensures fault { IfErr result (IsFilterFault (query_of query.now) doc.now true limit) }
     ensures steps { steps.new ≤ steps.old + filter_steps true (query_of query.now) doc.now }
 {
@@ -92,6 +94,7 @@ fn touched_in<L: Ledger>(
     requires few { length doc.now ≤ 2 ^ 28 }
     requires limit { limit ≤ 100000000 }
     ensures touched { IfOk result (AddsTouched doc.now (expr_of expr.now) before) }
+    ensures within { OnOk result (¬ SomeAtom (IsHeavy doc.now limit) (expr_of expr.now)) }
     ensures fault { IfErr result (HasFullAtom doc.now limit (expr_of expr.now)) }
     ensures steps { steps.new ≤ steps.old + steps_in doc.now (expr_of expr.now) }
 {
@@ -122,6 +125,7 @@ fn touched_among<L: Ledger>(
     requires few { length doc.now ≤ 2 ^ 28 }
     requires limit { limit ≤ 100000000 }
     ensures touched { IfOk result (AddsTouched doc.now (join_all (exprs_of parts.now)) before) }
+    ensures within { OnOk result (¬ SomeAtom (IsHeavy doc.now limit) (join_all (exprs_of parts.now))) }
     ensures fault { IfErr result (HasFullAtom doc.now limit (join_all (exprs_of parts.now))) }
     ensures steps { steps.new ≤ steps.old + steps_in doc.now (join_all (exprs_of parts.now)) }
 {
@@ -132,7 +136,8 @@ fn touched_among<L: Ledger>(
     Ok(found)
 }
 
-/// The positions that were found before, and those that an atom touches.
+/// The positions that were found before, and those that an atom touches: apart from the recursion, whose stack stays small so.
+#[inline(never)]
 fn touched_by_atom<L: Ledger>(
     alloc: Global,
     atom: &Atom,
@@ -145,6 +150,7 @@ fn touched_by_atom<L: Ledger>(
     requires few { length doc.now ≤ 2 ^ 28 }
     requires limit { limit ≤ 100000000 }
     ensures touched { IfOk result (AddsTouched doc.now (atom_tree atom.now.from_start atom.now.to_end (tree_of atom.now.formula)) before) }
+    ensures within { OnOk result (¬ SomeAtom (IsHeavy doc.now limit) (atom_tree atom.now.from_start atom.now.to_end (tree_of atom.now.formula))) }
     ensures fault { IfErr result (HasFullAtom doc.now limit (atom_tree atom.now.from_start atom.now.to_end (tree_of atom.now.formula))) }
     ensures steps { steps.new ≤ steps.old + steps_in doc.now (atom_tree atom.now.from_start atom.now.to_end (tree_of atom.now.formula)) }
 {

@@ -10,4 +10,4 @@ pub returns-then-contains-clause-read : goal.returns-then-contains-clause-read
 returns-then-contains-clause-read g c =
     let stands = subst (λ o. Stands (held c.args.table.now) c.args.graph.now c.args.known.now o) c.in-None.is c.requires.stands in
     stays_read c.args.table.now.graph (byte_at c.args.at c.args.byte) (pass (held c.args.table.now) (whole c.args.graph.now) c.args.steps.now)
-    (λ x h. (stands c.args.byte (omega (arith, c.ranges.byte.fits)) (sym c.contains.ensures ∙ c.if-contains.true) x h).1)
+    (λ x h. stands c.args.byte (omega (arith, c.ranges.byte.fits)) (sym c.contains.ensures ∙ c.if-contains.true) x h)

@@ -10,7 +10,7 @@ use Rattle.segment_filter.specs.Sets.{IsAt, MeetAt}
 use Rattle.segment_filter.specs.SetNumbers.{numbers_of}
 use Rattle.segment_filter.proofs.SetLaws.{at_start, grows_asked, grows_not}
 use Rattle.segment_filter.proofs.Meetings.{all_remembered_more, covers_all, covers_more, covers_none, kept_at, meets_is, next_grows, next_none, next_some}
-use Rattle.segment_filter.proofs.WeightLaws.{reading_ends, reading_next, reading_refused, reading_starts, reading_steps, refused_steps}
+use Rattle.segment_filter.proofs.WeightLaws.{reading_ends, reading_next, reading_refused, reading_starts, reading_steps, reading_stops, reading_weighs, refused_steps}
 use Rattle.segment_filter.proofs.reading.meetings.Goals as goal
 
 pub loop-at-init : goal.loop-at-init
@@ -20,7 +20,7 @@ loop-at-init g c =
       grows = grows_not t t refl;
       places = c.in_ok-seen.ensures.places;
       right = c.in_ok-seen.ensures.right c.args.most t.sets (g.S.Sets.known c.args.back.now).sets;
-      reading = reading_starts t c.args.doc.now c.start-set.result c.args.steps.now c.requires.fresh c.start-set.ensures.value;
+      reading = reading_starts t c.args.doc.now c.start-set.result c.args.steps.now c.requires.fresh c.start-set.ensures.value c.start-set.ensures.tabled;
       here = subst (IsAt t c.args.doc.now 0) (sym c.start-set.ensures.value) (at_start t c.args.doc.now c.start-set.ensures.tabled);
       covers = λ i. (λ h. absurd (subst (λ s. Covers s i) c.new-touched.ensures h), λ h. absurd (omega (arith, h.0)));
     }
@@ -70,7 +70,7 @@ loop-at-preserved g c =
     record {
       grows = next_grows new old first d at c.loop-at.set (get_or d at 0) c.requires.plain inv.grows c.in-Ok.ensures.tabled ok.0 byte inv.here;
       reading = reading_next first old d at c.loop-at.set c.args.steps.now c.loop-at.steps inv.reading (get_or d at 0) c.next.new.steps byte
-          c.next.ensures.again c.next.ensures.steps new ok.0 c.in-Ok.next c.in-Some.to ok.1 here.0 c.in-Some.is;
+          c.next.ensures.again c.next.ensures.steps new ok.0 c.in-Ok.next c.in-Some.to ok.1 here.0 c.in-Some.is c.requires.plain c.in-Ok.ensures.tabled;
       places = c.meet-meets.ensures.places;
       right = all_remembered_more c.args.most new.sets old.sets back.sets c.meet-meets.new.seen.pairs.items
           (grows_asked new old (asking c.loop-at.set (byte_read (get_or d at 0))) ok.0).sets c.meet-meets.ensures.right;
@@ -92,6 +92,20 @@ returns-clause-ok g c =
     let is = meets_is old first back d (numbers_of c.args.kept.now) c.loop-at.set at 0 c.args.most c.meet-meets-2.result c.requires.kept inv.grows inv.here sum c.meet-meets-2.ensures.meets in
     let marked = λ (q : ℕ). subst (λ n. Covers c.mark-2.new.touched q ↔ (Covers c.loop-at.touched q ⊎ (IsTrue c.meet-meets-2.result × (q ≡ n)))) (sym end) (c.in_ok-mark-2.ensures q) in
     covers_all (Covers c.mark-2.new.touched) M at (length d) end (covers_more (Covers c.loop-at.touched) (Covers c.mark-2.new.touched) M c.meet-meets-2.result at inv.covers is marked)
+
+pub returns-in-None-clause-within : goal.returns-in-None-clause-within
+returns-in-None-clause-within g c =
+    let d = c.args.doc.now in
+    let at = c.loop-at.at in
+    let l : at < length d = omega arith in
+    (reading_stops (g.S.Sets.known c.args.table.now) (g.S.Sets.known c.loop-at.table) d at c.loop-at.set c.args.steps.now c.loop-at.steps c.loop-at.invariant.reading (get_or d at 0)
+    c.next.new.steps (slice_get-get_or d at 0 l) c.next.ensures.again c.next.ensures.steps (g.S.Sets.known c.next.new.self) c.in-Ok.ensures.ok.0 c.in-Ok.next c.in-Ok.ensures.ok.1 c.in-None.is
+    c.requires.plain c.in-Ok.ensures.tabled).1
+
+pub returns-clause-within : goal.returns-clause-within
+returns-clause-within g c =
+    (reading_weighs (g.S.Sets.known c.args.table.now) (g.S.Sets.known c.loop-at.table) c.args.doc.now c.loop-at.at c.loop-at.set c.args.steps.now c.loop-at.steps c.loop-at.invariant.reading
+    (omega arith)).1
 
 pub returns-in-Err-clause-full : goal.returns-in-Err-clause-full
 returns-in-Err-clause-full g c =

@@ -1,8 +1,9 @@
-use Rattle.std.proofs.Common.{refl, arith, ◌-◌, ◌<◌, get_or, length}
+use Rattle.std.proofs.Common.{◌≡◌, refl, arith, ◌-◌, ◌<◌, get_or, length}
 use Rattle.std.specs.Prelude.{reverse}
+use Rattle.std.proofs.lemmas.List.{length-reverse}
 use Rattle.segment_filter.proofs.SetLaws.{grows_not}
 use Rattle.segment_filter.proofs.Meetings.{all_kept, byte_at_end, first_kept, more_kept, next_grows, next_led, next_none, next_some}
-use Rattle.segment_filter.proofs.WeightLaws.{reading_ends, reading_next, reading_refused, reading_starts, reading_steps, reading_weighs, refused_steps}
+use Rattle.segment_filter.proofs.WeightLaws.{reading_ends, reading_next, reading_refused, reading_starts, reading_steps, reading_stops, reading_weighs, refused_steps}
 use Rattle.segment_filter.specs.SetNumbers.{numbers_of}
 use Rattle.segment_filter.proofs.reading.read_back.Goals as goal
 
@@ -10,7 +11,7 @@ pub loop-k-init : goal.loop-k-init
 loop-k-init g c =
     let t = g.S.Sets.known c.args.table.now in
     let r = first_kept t (reverse c.args.doc.now) (numbers_of c.in_ok-kept.kept) (numbers_of c.new.result) c.start-set.result c.start-set.ensures.tabled c.start-set.ensures.value c.new.ensures c.in_ok-kept.ensures in
-    record { grows = grows_not t t refl; count = r.0; led = r.1; reading = reading_starts t (reverse c.args.doc.now) c.start-set.result c.args.steps.now c.requires.fresh c.start-set.ensures.value; here = r.2 }
+    record { grows = grows_not t t refl; count = r.0; led = r.1; reading = reading_starts t (reverse c.args.doc.now) c.start-set.result c.args.steps.now c.requires.fresh c.start-set.ensures.value c.start-set.ensures.tabled; here = r.2 }
 
 pub returns-in-None-clause-ok : goal.returns-in-None-clause-ok
 returns-in-None-clause-ok g c =
@@ -54,7 +55,7 @@ loop-k-preserved g c =
       count = r.0;
       led = r.1;
       reading = reading_next first old (reverse d) k c.loop-k.set c.args.steps.now c.loop-k.steps inv.reading (get_or d (length d - 1 - k) 0) c.next.new.steps (byte_at_end d k l)
-          c.next.ensures.again c.next.ensures.steps new ok.0 c.in-Ok.next c.in-Some.to ok.1 here.0 c.in-Some.is;
+          c.next.ensures.again c.next.ensures.steps new ok.0 c.in-Ok.next c.in-Some.to ok.1 here.0 c.in-Some.is c.requires.plain c.in-Ok.ensures.tabled;
       here = here;
     }
 
@@ -86,8 +87,8 @@ returns-in-None-clause-weight g c =
     let d = c.args.doc.now in
     let k = c.loop-k.k in
     let l : k < length d = omega arith in
-    (reading_ends first old (reverse d) k c.loop-k.set c.args.steps.now c.loop-k.steps c.loop-k.invariant.reading (get_or d (length d - 1 - k) 0) c.next.new.steps (byte_at_end d k l)
-    c.next.ensures.again c.next.ensures.steps new c.in-Ok.ensures.ok.0 (length d) l).0
+    (reading_stops first old (reverse d) k c.loop-k.set c.args.steps.now c.loop-k.steps c.loop-k.invariant.reading (get_or d (length d - 1 - k) 0) c.next.new.steps (byte_at_end d k l)
+    c.next.ensures.again c.next.ensures.steps new c.in-Ok.ensures.ok.0 c.in-Ok.next c.in-Ok.ensures.ok.1 c.in-None.is c.requires.plain c.in-Ok.ensures.tabled).0
 
 pub returns-in-None-clause-steps : goal.returns-in-None-clause-steps
 returns-in-None-clause-steps g c =
@@ -113,7 +114,9 @@ returns-in_err-kept-2-clause-steps g c =
 
 pub returns-clause-weight : goal.returns-clause-weight
 returns-clause-weight g c =
-    reading_weighs (g.S.Sets.known c.args.table.now) (g.S.Sets.known c.loop-k.table) (reverse c.args.doc.now) c.loop-k.k c.loop-k.set c.args.steps.now c.loop-k.steps c.loop-k.invariant.reading
+    let same : length (reverse c.args.doc.now) ≡ length c.args.doc.now = length-reverse c.args.doc.now in
+    (reading_weighs (g.S.Sets.known c.args.table.now) (g.S.Sets.known c.loop-k.table) (reverse c.args.doc.now) c.loop-k.k c.loop-k.set c.args.steps.now c.loop-k.steps c.loop-k.invariant.reading
+    (omega (arith, same))).0
 
 pub returns-clause-steps : goal.returns-clause-steps
 returns-clause-steps g c =

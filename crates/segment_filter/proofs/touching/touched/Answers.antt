@@ -11,7 +11,7 @@ use Rattle.segment_filter.specs.Costs.{backward_of, filter_weight, forward_of, p
 use Rattle.segment_filter.specs.Sets.{MeetAt}
 use Rattle.filter_laws.specs.Touching.{IsTouchedBy}
 use Rattle.segment_filter.specs.Weights.{IsFullWithin, reading_rows, reading_weight}
-use Rattle.segment_filter.proofs.Results.{fault_by, ok_by}
+use Rattle.segment_filter.proofs.Results.{fault_by, ok_by, on_ok}
 use Rattle.segment_filter.proofs.CostLaws.{steps_within}
 use Rattle.segment_filter.proofs.WeightLaws.{full_wider}
 use Rattle.segment_filter.proofs.touching.touched.Goals as goal
@@ -27,6 +27,13 @@ returns-clause-ok g c =
     (λ (t : List (ℕ × ℕ)). (i : ℕ) → Covers t i ↔ IsTouchedBy c.args.atom.now.from_start c.args.atom.now.to_end (tree_of c.args.atom.now.formula) d i)
     (λ t h i. let m = c.in-Ok.ensures.meet.meet d bytes i in (λ k. m.0 ((h i).0 k), λ k. (h i).1 (m.1 k)))
     c.touched_by.ensures.ok
+
+pub returns-clause-within : goal.returns-clause-within
+returns-clause-within g c =
+    let d = c.args.doc.now in
+    let ahead = (c.in-Ok.ensures.costs.ahead d).0 in
+    let behind = (c.in-Ok.ensures.costs.behind (reverse d)).0 in
+    on_ok c.touched_by.result (λ within. omega (arith, within, ahead, behind)) c.touched_by.ensures.within
 
 pub returns-clause-full : goal.returns-clause-full
 returns-clause-full g c =

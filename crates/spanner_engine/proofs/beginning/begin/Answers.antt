@@ -1,8 +1,10 @@
-use Rattle.std.proofs.Common.{ap}
+use Rattle.std.proofs.Common.{ap, subst}
 use Rattle.std.specs.Option.{option_copied}
+use Rattle.spanner_model.specs.Expression.{QueryTree}
 use Rattle.spanner_model.specs.ExprView.{query_of}
 use Rattle.spanner_engine.specs.Begun.{row_kept}
-use Rattle.spanner_engine.proofs.ReadAt.{parts_contain, parts_within, steps_read, steps_sought, table_cause}
+use Rattle.spanner_engine.specs.Filtering.{AreWithin}
+use Rattle.spanner_engine.proofs.ReadAt.{parts_contain, parts_within, read_limit, steps_read, steps_sought, table_cause}
 use Rattle.spanner_engine.proofs.beginning.begin.Goals as goal
 
 pub all_answers-requires-clause-within : goal.all_answers-requires-clause-within
@@ -28,6 +30,15 @@ pub returns-in-Err-OutOfMemory-all_answers-clause-steps : goal.returns-in-Err-Ou
 returns-in-Err-OutOfMemory-all_answers-clause-steps g c =
     steps_read c.args.options.filter (query_of c.args.compiled.now.query) (query_of c.query.result.now) (ap query_of c.query.ensures.query) c.args.doc.now c.in-Ok.positions c.in-Ok.ensures.read
     c.args.steps.now c.positions_read.new.steps c.all_answers.new.steps (row_kept (option_copied c.args.after)) c.positions_read.ensures.steps c.all_answers.ensures.steps
+
+pub returns-clause-weighs : goal.returns-clause-weighs
+returns-clause-weighs g c =
+    read_limit c.args.options.filter (query_of c.args.compiled.now.query) (query_of c.query.result.now) (ap query_of c.query.ensures.query) c.args.doc.now c.in-Ok.positions c.in-Ok.ensures.read
+    c.args.compiled.now.automaton.graph c.args.options.limit c.in-Ok-all_answers.ensures.weighs
+
+pub returns-clause-atoms : goal.returns-clause-atoms
+returns-clause-atoms g c =
+    subst (λ (q : QueryTree). AreWithin q c.args.doc.now c.args.options.filter c.args.options.limit) (ap query_of c.query.ensures.query) c.in-Ok.ensures.within
 
 pub returns-clause-steps : goal.returns-clause-steps
 returns-clause-steps g c =

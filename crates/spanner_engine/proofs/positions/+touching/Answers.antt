@@ -1,3 +1,4 @@
+use Rattle.std.specs.Prelude.{OnOk}
 use Rattle.std.proofs.Common.{IfErr, IfOk, sym, ap, ◌∙◌, subst, arith}
 use Rattle.span_core.proofs.HasLaws.{Has-slice_get}
 use Rattle.spanner_model.specs.Expression.{ExprTree, join_all, union_all}
@@ -5,15 +6,16 @@ use Rattle.spanner_model.specs.ExprView.{expr_of, exprs_of}
 use Rattle.spanner_model.proofs.ExprLaws.{part_size, union_size}
 use Rattle.spanner_model.proofs.ExprTrees.{expr_of-Join, expr_of-Union}
 use Rattle.spanner_model.proofs.Nodes.{expr_nodes}
-use Rattle.spanner_engine.specs.Filtering.{AddsTouched, HasFullAtom, IsInSound, steps_in}
-use Rattle.spanner_engine.proofs.AtomWalk.{full_part, full_union, join_sound, steps_first, steps_more, steps_part, steps_union, touched_all, touched_more, touched_none, touched_union, union_sound}
-use Rattle.spanner_engine.proofs.Results.{err_by, handed_on, ok_by}
+use Rattle.filter_laws.specs.Touching.{SomeAtom}
+use Rattle.spanner_engine.specs.Filtering.{AddsTouched, HasFullAtom, IsHeavy, IsInSound, steps_in}
+use Rattle.spanner_engine.proofs.AtomWalk.{full_part, full_union, join_sound, none_all, none_more, none_union, steps_first, steps_more, steps_part, steps_union, touched_all, touched_more, touched_none, touched_union, union_sound}
+use Rattle.spanner_engine.proofs.Results.{err_by, handed_on, ok_by, on_ok}
 use Rattle.spanner_engine.proofs.positions.+touching.Goals as goal
 
 -- ---- the parts of a union or a join
 
 pub touched_among-loop-k-init : goal.touched_among-loop-k-init
-touched_among-loop-k-init g t c = (touched_none c.args.doc.now (exprs_of c.args.parts.now) c.args.before, omega arith)
+touched_among-loop-k-init g t c = (touched_none c.args.doc.now (exprs_of c.args.parts.now) c.args.before, omega arith, λ h. h)
 
 pub touched_among-touched_in-requires : goal.touched_among-touched_in-requires
 touched_among-touched_in-requires g t c κs within =
@@ -41,6 +43,7 @@ touched_among-loop-k-preserved g t c =
     let e = expr_of c.at.result.now in (
       touched_more d es c.loop-k.k e c.at.ensures c.args.before c.loop-k.found c.in_ok-found.found c.loop-k.invariant.0 c.in_ok-found.ensures.touched,
       steps_more d es c.loop-k.k e c.at.ensures c.args.steps.now c.loop-k.steps c.touched_in.new.steps c.loop-k.invariant.1 c.in_ok-found.ensures.steps,
+      none_more (IsHeavy d c.args.limit) es c.loop-k.k e c.at.ensures c.loop-k.invariant.2 c.in_ok-found.ensures.within,
     )
 
 pub touched_among-returns-clause-touched : goal.touched_among-returns-clause-touched
@@ -50,6 +53,10 @@ touched_among-returns-clause-touched g t c =
 pub touched_among-returns-clause-steps : goal.touched_among-returns-clause-steps
 touched_among-returns-clause-steps g t c =
     steps_first c.args.doc.now (exprs_of c.args.parts.now) c.loop-k.k c.args.steps.now c.loop-k.steps c.loop-k.invariant.1
+
+pub touched_among-returns-clause-within : goal.touched_among-returns-clause-within
+touched_among-returns-clause-within g t c =
+    none_all (IsHeavy c.args.doc.now c.args.limit) (exprs_of c.args.parts.now) c.loop-k.k (omega (arith, c.len-k-end.ensures, c.loop-k-test.false)) c.loop-k.invariant.2
 
 -- ---- unions and joins
 
@@ -75,6 +82,14 @@ touched_in-returns-in-Union-clause-touched g t c =
     let r = c.touched_among.result in
     subst (λ (e : ExprTree). IfOk r (AddsTouched d e c.args.before)) (sym is)
     (ok_by r (AddsTouched d (join_all es) c.args.before) (AddsTouched d (union_all es) c.args.before) (touched_union d es c.args.before) c.touched_among.ensures.touched)
+
+pub touched_in-returns-in-Union-clause-within : goal.touched_in-returns-in-Union-clause-within
+touched_in-returns-in-Union-clause-within g t c =
+    let P = IsHeavy c.args.doc.now c.args.limit in
+    let es = exprs_of c.in-Union.parts in
+    let is = ap expr_of c.in-Union.is ∙ expr_of-Union c.in-Union.parts in
+    let r = c.touched_among.result in
+    subst (λ (e : ExprTree). OnOk r (¬ SomeAtom P e)) (sym is) (on_ok r (none_union P es) c.touched_among.ensures.within)
 
 pub touched_in-returns-in-Union-clause-fault : goal.touched_in-returns-in-Union-clause-fault
 touched_in-returns-in-Union-clause-fault g t c =

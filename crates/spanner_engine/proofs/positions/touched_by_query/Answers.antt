@@ -4,9 +4,9 @@ use Rattle.spanner_model.specs.Expression.{ExprTree}
 use Rattle.spanner_model.specs.ExprView.{expr_of, query_of}
 use Rattle.filter_laws.specs.Touching.{TouchedOf}
 use Rattle.span_core.specs.Intervals.{Covers}
-use Rattle.spanner_engine.specs.Filtering.{AddsTouched, HasFullAtom, IsFilterFault}
-use Rattle.spanner_engine.proofs.AtomWalk.{body_sound, full_body, full_let, let_at, let_exprs, let_sound, steps_body, steps_let, steps_more, touched_more, touched_of}
-use Rattle.spanner_engine.proofs.Results.{err_by, handed_on, ok_by}
+use Rattle.spanner_engine.specs.Filtering.{AddsTouched, HasFullAtom, IsFilterFault, IsHeavy}
+use Rattle.spanner_engine.proofs.AtomWalk.{body_sound, full_body, full_let, let_at, let_exprs, let_sound, none_more, none_of, steps_body, steps_let, steps_more, touched_more, touched_of}
+use Rattle.spanner_engine.proofs.Results.{err_by, handed_on, ok_by, on_ok}
 use Rattle.spanner_engine.proofs.positions.touched_by_query.Goals as goal
 
 pub touched_in-requires-clause-sound : goal.touched_in-requires-clause-sound
@@ -36,6 +36,7 @@ loop-k-preserved g c =
     let at = let_at lets c.loop-k.k l c.at.ensures in (
       touched_more d (let_exprs lets) c.loop-k.k l.1 at [] c.loop-k.found c.in_ok-found.found c.loop-k.invariant.0 c.in_ok-found.ensures.touched,
       steps_more d (let_exprs lets) c.loop-k.k l.1 at c.args.steps.now c.loop-k.steps c.touched_in.new.steps c.loop-k.invariant.1 c.in_ok-found.ensures.steps,
+      none_more (IsHeavy d c.args.limit) (let_exprs lets) c.loop-k.k l.1 at c.loop-k.invariant.2 c.in_ok-found.ensures.within,
     )
 
 pub touched_in-requires-2-clause-sound : goal.touched_in-requires-2-clause-sound
@@ -48,6 +49,11 @@ returns-clause-touched g c =
     let past : length q.lets ≤ c.loop-k.k = omega (arith, c.len-k-end.ensures, c.loop-k-test.false) in
     ok_by c.touched_in-2.result (AddsTouched d q.body c.loop-k.found) (λ (t : List (ℕ × ℕ)). (i : ℕ) → Covers t i ↔ TouchedOf q d i)
     (λ t adds. touched_of d q c.requires.plain c.loop-k.k c.loop-k.found t past c.loop-k.invariant.0 adds) c.touched_in-2.ensures.touched
+
+pub returns-clause-within : goal.returns-clause-within
+returns-clause-within g c =
+    let past : length (query_of c.args.query.now).lets ≤ c.loop-k.k = omega (arith, c.len-k-end.ensures, c.loop-k-test.false) in
+    on_ok c.touched_in-2.result (none_of (IsHeavy c.args.doc.now c.args.limit) (query_of c.args.query.now) c.loop-k.k past c.loop-k.invariant.2) c.touched_in-2.ensures.within
 
 pub returns-clause-fault : goal.returns-clause-fault
 returns-clause-fault g c =

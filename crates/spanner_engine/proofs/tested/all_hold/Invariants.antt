@@ -1,4 +1,4 @@
-use Rattle.std.proofs.Common.{◌≡◌, ℕ, ◌+◌, ◌≤◌, ◌-◌, true, length, take}
+use Rattle.std.proofs.Common.{◌≡◌, ◌+◌, ◌≤◌, ◌-◌, true, length, take}
 use Rattle.spanner_engine.specs.Passing.{checks_of, known, passes}
 use Rattle.spanner_engine.proofs.tested.all_hold.Given as goal
 

@@ -1,4 +1,4 @@
-use Rattle.std.proofs.Common.{rules, arith, ◌≡◌, refl, length}
+use Rattle.std.proofs.Common.{rules, arith, refl}
 use Rattle.spanner_engine.specs.Passing.{known}
 use Rattle.spanner_engine.proofs.PassingLaws.{known_more, named_of, not_named, unknown_at}
 use Rattle.spanner_engine.proofs.tested.bind.Goals as goal

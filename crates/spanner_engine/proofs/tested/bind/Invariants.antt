@@ -1,4 +1,4 @@
-use Rattle.std.proofs.Common.{ℕ, ◌≤◌, ◌-◌, length, take}
+use Rattle.std.proofs.Common.{◌≤◌, ◌-◌, length, take}
 use Rattle.spanner_engine.specs.Passing.{AreKnown, known}
 use Rattle.spanner_engine.proofs.tested.bind.Given as goal
 

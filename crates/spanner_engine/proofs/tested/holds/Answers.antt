@@ -1,4 +1,4 @@
-use Rattle.std.proofs.Common.{◌≡◌, Some, None, Option, ap, ◌∙◌, refl, false}
+use Rattle.std.proofs.Common.{Some, None, Option, ap, ◌∙◌, refl, false}
 use Rattle.span_core.specs.declared.span.Span.{Span}
 use Rattle.span_core.proofs.HasLaws.{Has-slice_get}
 use Rattle.spanner_engine.specs.Passing.{known}

@@ -7,6 +7,7 @@ use Rattle.set_table.specs.declared.answer.Question.TheVariants.{Byte}
 use Rattle.set_table.specs.Tabled.{Asking, Tabled, asking}
 use Rattle.set_table.specs.Answered.{place_in}
 use Rattle.span_core.specs.Lists.{Has}
+use Rattle.span_core.proofs.HasLaws.{Has-slice_get}
 use Rattle.set_table.proofs.HeldLaws.{number_absent, number_found}
 use Rattle.set_table.proofs.table.Table.asked_row.Goals as goal
 
@@ -57,6 +58,20 @@ returns-clause-some c =
     ap (λ (t : Tabled). slice_get t.asked (c.at-number.result - 1)) (sym c.self.view_is)
     ∙ number_found i.automaton.now.graph s.sets s.answers.items s.edges.items s.ends.items s.numbers i.weight k q c.at-number.result c.self.invariant.held within small read c.if-number-eq0.false in
     (subst (λ (t : Tabled). k < length t.sets) c.self.view_is within, c.edges_at.ensures (asking k (byte_read c.args.byte)) found)
+
+pub returns-clause-asked : goal.returns-clause-asked
+returns-clause-asked c =
+    let i = c.self.inside in
+    let s = i.store in
+    let k = c.args.set in
+    let q : Question = Byte c.args.byte in
+    let within : k < length s.sets = omega (arith, c.if-len-set.false, c.len.ensures.value) in
+    let small : c.args.byte < 256 = c.ranges.byte.fits in
+    let read : get_or s.numbers (place_in k q) 0 ≡ c.at-number.result = sym (c.at-number.ensures ∙ ap (λ p. get_or s.numbers p 0) c.place_of.ensures) in
+    let found : slice_get c.args.self.now.asked (c.at-number.result - 1) ≡ Some (asking k (byte_read c.args.byte)) =
+    ap (λ (t : Tabled). slice_get t.asked (c.at-number.result - 1)) (sym c.self.view_is)
+    ∙ number_found i.automaton.now.graph s.sets s.answers.items s.edges.items s.ends.items s.numbers i.weight k q c.at-number.result c.self.invariant.held within small read c.if-number-eq0.false in
+    Has-slice_get c.args.self.now.asked (c.at-number.result - 1) (asking k (byte_read c.args.byte)) found
 
 pub returns-then-number-eq0-clause-none : goal.returns-then-number-eq0-clause-none
 returns-then-number-eq0-clause-none c = λ within h.
