@@ -1,11 +1,13 @@
+-- what public contracts rest on
 pub mod JoinedMarks
 pub mod JoinedNames
 pub mod Joining
 pub mod Laws
-pub mod Moved
 pub mod Operations
 pub mod Pairs
-pub mod Renaming
 pub mod Rows
-pub mod Sides
 pub mod Uniting
+-- what the functions inside promise each other
+pub mod Moved
+pub mod Renaming
+pub mod Sides

@@ -5,17 +5,21 @@
 //! `engine_bench rows BYTES` begins the answers of `/!x{a*}/` on so many bytes `a`, and takes them all;
 //! `engine_bench trial LINES` makes the document of a trial;
 //! `engine_bench lines FORM ROWS` writes the lines of so many rows, where FORM is `rows` (rows are made, and no
-//! line), `spans`, `table`, `texts` (spans with their texts) or `json`.
+//! line), `spans`, `table`, `texts` (spans with their texts) or `json`;
+//! `engine_bench growing BYTES PIECES` puts so many pieces of so many bytes `b` behind one another, and asks for one
+//! row of `/!x{a}c/` after each.
 //!
 //! Each prints a sum of what it did, and on standard error the time of each part. Without words a small run of each
 //! is made.
 #![tactic(auto)]
 
+mod grown;
 mod lines;
 mod made;
 mod rows;
 mod slots;
 
+use grown::measure_growing;
 use lines::measure_lines;
 use made::measure_trial;
 use rows::measure_rows;
@@ -28,10 +32,11 @@ enum Part<'a> {
     Rows { bytes: usize },
     Trial { lines: u32 },
     Lines { form: &'a str, rows: u32 },
+    Growing { bytes: usize, pieces: u32 },
 }
 
 /// A small run of each part, and of the lines one of each form.
-const SMALL: [Part<'static>; 8] = [
+const SMALL: [Part<'static>; 9] = [
     Part::Slots {
         values: 70_000,
         calls: 1_000,
@@ -58,6 +63,10 @@ const SMALL: [Part<'static>; 8] = [
         form: "json",
         rows: 3,
     },
+    Part::Growing {
+        bytes: 10,
+        pieces: 20,
+    },
 ];
 
 fn main(rt: HostRuntime) -> anyhow::Result<()> {
@@ -72,7 +81,7 @@ fn main(rt: HostRuntime) -> anyhow::Result<()> {
         Some(part) => measure(&rt, part)?,
         None => {
             println!(rt;
-                "usage: engine_bench [slots VALUES CALLS | rows BYTES | trial LINES | lines FORM ROWS]"
+                "usage: engine_bench [slots VALUES CALLS | rows BYTES | trial LINES | lines FORM ROWS | growing BYTES PIECES]"
             )?
         }
     }
@@ -85,6 +94,7 @@ fn measure(rt: &HostRuntime, part: Part<'_>) -> anyhow::Result<()> {
         Part::Rows { bytes } => measure_rows(rt, bytes),
         Part::Trial { lines } => measure_trial(rt, lines),
         Part::Lines { form, rows } => measure_lines(rt, form, rows),
+        Part::Growing { bytes, pieces } => measure_growing(rt, bytes, pieces),
     }
 }
 
@@ -104,6 +114,10 @@ fn part_of<'a>(words: &'a [String]) -> Option<Part<'a>> {
         [word, form, rows] if word.as_str() == "lines" => Some(Part::Lines {
             form: form.as_str(),
             rows: rows.parse().ok()?,
+        }),
+        [word, bytes, pieces] if word.as_str() == "growing" => Some(Part::Growing {
+            bytes: bytes.parse().ok()?,
+            pieces: pieces.parse().ok()?,
         }),
         _ => None,
     }

@@ -1,3 +1,4 @@
+-- what public contracts rest on
 pub mod Touching
 pub mod Idling
 pub mod Sharing

@@ -10,3 +10,4 @@ pub mod Lengths
 pub mod Parts
 pub mod Totals
 pub mod WordsRead
+pub mod Wholes

@@ -1,10 +1,10 @@
 -- The weight of what is held, told by the document and the lengths that it had when its rows were asked for.
-use Rattle.std.specs.Prelude.{◌≡◌, ℕ, ◌<◌, ◌≤◌, List, [], ◌∷◌, ◌++◌, length, take}
+use Rattle.std.specs.Prelude.{◌≡◌, ℕ, ◌<◌, ◌≤◌, Bool, IsTrue, List, [], ◌∷◌, ◌++◌, length, take}
 use Rattle.std.specs.List.{flat_map}
 use Rattle.span_core.specs.Lists.{Has}
 use Rattle.marked_automaton.specs.Automaton.{Automaton, Marked}
 use Rattle.marked_automaton.specs.Reduct.{Reduces}
-use Rattle.automaton_reading.specs.Reading.{Row}
+use Rattle.automaton_reading.specs.Reading.{Row, weight_K}
 use Rattle.growing_document.specs.Faults.{IsAppendFault, IsRowsFault}
 use Rattle.growing_document.specs.Grown.{Grown, IsAppended, IsAsked, at_start}
 use Rattle.growing_document.specs.Numbers.{end_rows, end_rows_at, weight_with}
@@ -21,6 +21,12 @@ weight_at A d lengths = weight_with A d (ends_at A d lengths)
 -- reading by a reduct weighs no more than reading by what it reduces
 abbrev pub ReductWeighs : Type 0
 ReductWeighs = (A B : Automaton) → Reduces A B → (d lengths : List ℕ) → weight_at A d lengths ≤ weight_at B d lengths
+
+-- a document whose rows are asked for at its end alone weighs what it weighs read at once, at all its positions
+abbrev pub WholeWeighs : Type 0
+WholeWeighs =
+    (A : Automaton) (d : List ℕ) (K : ℕ → Bool) → ((i : ℕ) → i ≤ length d → IsTrue (K i)) →
+    weight_at A d (length d ∷ []) ≡ weight_K A d K
 
 -- the end rows that are held are of these lengths of the document, which are its own or were
 pub record IsAskedAt (g : Grown) (lengths : List ℕ) : Type 0 where

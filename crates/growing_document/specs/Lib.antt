@@ -1,3 +1,4 @@
+-- what public contracts rest on
 pub mod Faults
 pub mod Grown
 pub mod Inside

@@ -1,6 +1,6 @@
 //! Laws of documents that grow, each the contract of a function that does nothing.
 ghost use Rattle.growing_document.specs.Grown.{AppendsLaw};
-ghost use Rattle.growing_document.specs.Lengths.{LengthsLaw, ReductWeighs};
+ghost use Rattle.growing_document.specs.Lengths.{LengthsLaw, ReductWeighs, WholeWeighs};
 
 /// All appends that answered Ok take, together with `Growing::new`, at most the steps of reading the whole document at once,
 /// whatever rows were asked for between them.
@@ -18,4 +18,10 @@ pub fn what_is_held_is_told_by_the_lengths_asked()
 /// be told of the automaton that was reduced.
 pub fn a_reduct_holds_no_more()
     ensures { ReductWeighs }
+{}
+
+/// Asked for its rows at its end alone, a document weighs what it weighs where it is read at once, whatever pieces it came in. So the
+/// cause of a refusal is the same for both.
+pub fn a_document_weighs_what_the_whole_does()
+    ensures { WholeWeighs }
 {}

@@ -1,3 +1,4 @@
+-- what public contracts rest on
 pub mod Automaton
 pub mod Codes
 pub mod Faults
@@ -6,6 +7,7 @@ pub mod Marks
 pub mod Reduct
 pub mod Laws
 pub mod Images
+-- what the functions inside promise each other
 pub mod Reach
 pub mod Trimmed
 pub mod Erased

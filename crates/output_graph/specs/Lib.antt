@@ -1,3 +1,4 @@
+-- what public contracts rest on
 pub mod Order
 pub mod Grown
 pub mod Forward

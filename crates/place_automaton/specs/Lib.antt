@@ -1,13 +1,9 @@
+-- what public contracts rest on
 pub mod Atom
 pub mod Capped
-pub mod Codes
 pub mod CountLaw
 pub mod Counts
-pub mod Drafts
-pub mod Ends
 pub mod Examples
-pub mod Made
-pub mod Moves
 pub mod Places
 pub mod PlainCounts
 pub mod Reads
@@ -15,3 +11,9 @@ pub mod Refusals
 pub mod Repeats
 pub mod Variables
 pub mod Words
+-- what the functions inside promise each other
+pub mod Codes
+pub mod Drafts
+pub mod Ends
+pub mod Made
+pub mod Moves

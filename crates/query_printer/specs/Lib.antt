@@ -1,7 +1,9 @@
+-- what public contracts rest on
 pub mod PrintedFormula
-pub mod FormulaShape
 pub mod FormulaLaws
 pub mod PrintedQuery
-pub mod QueryShape
 pub mod QueryLaws
 pub mod PrintedTested
+-- what the functions inside promise each other
+pub mod FormulaShape
+pub mod QueryShape

@@ -1,3 +1,4 @@
+-- what public contracts rest on
 pub mod Answer
 pub mod Answers
 pub mod Captures

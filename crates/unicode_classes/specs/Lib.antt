@@ -1,8 +1,10 @@
-pub mod Arms
+-- what public contracts rest on
 pub mod ClassTree
 pub mod Digits
-pub mod Grouped
 pub mod Joined
 pub mod Laws
 pub mod Properties
 pub mod Texts
+-- what the functions inside promise each other
+pub mod Arms
+pub mod Grouped
