@@ -1,6 +1,7 @@
--- The notes of refusals.
+-- The texts of notes: `note_text`, from the end up.
 use Rattle.std.specs.Prelude.{ℕ, List, [], ◌∷◌, ◌++◌, codes}
 use Rattle.std.specs.Fmt.{decimal}
+use Rattle.std.specs.Str.{IsUtf8}
 use Rattle.span_core.specs.declared.TheConstants.{MOST_VARIABLES}
 use Rattle.formula_parser.specs.declared.fault.FormulaFault.{FormulaFault}
 use Rattle.formula_parser.specs.declared.fault.FormulaFault.TheVariants as formula
@@ -12,6 +13,12 @@ use Rattle.marked_automaton.specs.declared.fault.SizeFault.TheVariants as size
 use Rattle.query_parser.specs.declared.TheConstants.{MOST_TEXT_BYTES}
 use Rattle.query_parser.specs.declared.fault.QueryFault.{QueryFault}
 use Rattle.query_parser.specs.declared.fault.QueryFault.TheVariants as query
+use Rattle.note_texts.specs.declared.line.NoteLine.{NoteLine}
+use Rattle.note_texts.specs.declared.line.NoteLine.TheVariants as made
+use Rattle.note_texts.specs.declared.note.FixedNote.{FixedNote}
+use Rattle.note_texts.specs.declared.note.FixedNote.TheVariants as fixed
+use Rattle.note_texts.specs.declared.note.Note.{Note}
+use Rattle.note_texts.specs.declared.note.Note.TheVariants as note
 
 -- a line
 abbrev pub line : List ℕ → List ℕ
@@ -86,3 +93,44 @@ table_note limit = at_place (codes "size: table past ") limit
 
 abbrev pub filter_note : ℕ → List ℕ
 filter_note limit = at_place (codes "size: filter past ") limit
+
+-- a cursor of another document than this one, which has so many bytes
+abbrev pub other_document_note : ℕ → ℕ → List ℕ
+other_document_note kept found = at_place (codes "cursor: document of ") kept ++ at_place (codes " bytes, not ") found
+
+-- notes that are always the same
+abbrev pub fixed_text : FixedNote → List ℕ
+fixed_text fixed.End = codes "end"
+fixed_text fixed.BadCommandLine = codes "bad command line"
+fixed_text fixed.QueryUnread = codes "read failed: query"
+fixed_text fixed.DocumentUnread = codes "read failed: document"
+fixed_text fixed.RequestsUnread = codes "read failed: requests"
+fixed_text fixed.NotACursor = codes "cursor: not a cursor"
+fixed_text fixed.OtherVariables = codes "cursor: other variables"
+fixed_text fixed.PastTheDocument = codes "cursor: past the document"
+fixed_text fixed.TooManyRequests = codes "too many requests"
+fixed_text fixed.WriteFailed = codes "write failed"
+fixed_text fixed.OutOfMemory = codes "out of memory"
+
+-- each note
+abbrev pub note_text : Note → List ℕ
+note_text (note.Fixed always) = fixed_text always
+note_text (note.More cursor) = codes "more " ++ cursor.now
+note_text (note.Query fault) = fault_note fault.now
+note_text (note.QueryTooLong most) = counted (codes "query: longer than ") most (codes " bytes")
+note_text (note.DocumentTooLong most) = counted (codes "document longer than ") most (codes " bytes")
+note_text (note.RequestTooLong most) = counted (codes "request longer than ") most (codes " bytes")
+note_text (note.Size fault) = size_note fault.now
+note_text (note.OtherDocument kept found) = other_document_note kept found
+note_text (note.Table limit) = table_note limit
+note_text (note.Filter limit) = filter_note limit
+
+-- what it quotes as it stands is UTF-8
+abbrev pub QuotesUtf8 : Note → Type 0
+QuotesUtf8 (note.More cursor) = IsUtf8 cursor.now
+QuotesUtf8 _ = Unit {0}
+
+-- the bytes of a note's line
+abbrev pub note_bytes : NoteLine → List ℕ
+note_bytes (made.Fixed always) = line (fixed_text always)
+note_bytes (made.Made bytes) = bytes.items

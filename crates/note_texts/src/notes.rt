@@ -1,10 +1,11 @@
-//! The notes of refusals, as texts without a line's end.
+//! The texts of notes.
 ghost use Rattle.std.specs.Prelude.{◌≡◌, ◌++◌, codes, OnOk, OnErr};
 ghost use Rattle.std.specs.Fmt.{decimal};
 ghost use Rattle.std.specs.Str.{IsUtf8};
 ghost use Rattle.cell_text.specs.Cells.{IsFront};
-ghost use Rattle.note_texts.specs.Notes.{about, at_place, check_note, counted, fault_note, filter_note as filter_text, formula_note, size_note as size_text, table_note as table_text};
+ghost use Rattle.note_texts.specs.Notes.{QuotesUtf8, about, at_place, check_note, counted, fault_note, fixed_text, formula_note, note_text, size_note};
 
+use crate::note::{FixedNote, Note};
 use cell_text::push_bytes;
 use formula_parser::FormulaFault;
 use functional_check::CheckFault;
@@ -13,14 +14,14 @@ use marked_automaton::{MOST_STATES, MOST_WAYS, SizeFault};
 use query_parser::{MOST_TEXT_BYTES, QueryFault};
 use span_core::{MOST_VARIABLES, Name, OutOfMemory};
 
-/// Appends the note of the fault of a query's text, or leaves `out` as it was. Places count bytes from 0.
-pub fn query_note(fault: &QueryFault, out: &mut Vec<u8>) -> Result<(), OutOfMemory>
-    ensures ok { OnOk result (out.new.items ≡ out.old.items ++ fault_note fault.now) }
+/// Appends the text of a note, which has no line's end, or leaves `out` as it was. Places count bytes from 0.
+pub fn push_note(note: &Note<'_>, out: &mut Vec<u8>) -> Result<(), OutOfMemory>
+    ensures ok { OnOk result (out.new.items ≡ out.old.items ++ note_text note.now) }
     ensures err { OnErr result (out.new.items ≡ out.old.items) }
-    ensures utf8 { IsUtf8 (fault_note fault.now) }
+    ensures utf8 { QuotesUtf8 note.now → IsUtf8 (note_text note.now) }
 {
     let start = out.len();
-    match push_query(fault, out) {
+    match push_text(note, out) {
         Ok(()) => Ok(()),
         Err(OutOfMemory) => {
             out.truncate(start);
@@ -29,53 +30,70 @@ pub fn query_note(fault: &QueryFault, out: &mut Vec<u8>) -> Result<(), OutOfMemo
     }
 }
 
-/// Appends the note of a size, or leaves `out` as it was.
-pub fn size_note(fault: &SizeFault, out: &mut Vec<u8>) -> Result<(), OutOfMemory>
-    ensures ok { OnOk result (out.new.items ≡ out.old.items ++ size_text fault.now) }
-    ensures err { OnErr result (out.new.items ≡ out.old.items) }
-    ensures utf8 { IsUtf8 (size_text fault.now) }
+fn push_text(note: &Note<'_>, out: &mut Vec<u8>) -> Result<(), OutOfMemory>
+    ensures ok { OnOk result (out.new.items ≡ out.old.items ++ note_text note.now) }
+    ensures front { IsFront out.old.items out.new.items }
+    ensures utf8 { QuotesUtf8 note.now → IsUtf8 (note_text note.now) }
 {
-    let start = out.len();
-    match push_size(fault, out) {
-        Ok(()) => Ok(()),
-        Err(OutOfMemory) => {
-            out.truncate(start);
-            Err(OutOfMemory)
+    match *note {
+        Note::Fixed(fixed) => push_fixed(fixed, out),
+        Note::More { cursor } => push_behind("more ", cursor, out),
+        Note::Query(fault) => push_query(fault, out),
+        Note::QueryTooLong { most } => push_counted("query: longer than ", most, " bytes", out),
+        Note::DocumentTooLong { most } => push_counted(
+            "document longer than ",
+            most,
+            " bytes",
+            out,
+        ),
+        Note::RequestTooLong { most } => push_counted("request longer than ", most, " bytes", out),
+        Note::Size(fault) => push_size(fault, out),
+        Note::OtherDocument { kept, found } => {
+            let (kept, found) = (u64::from(kept), u64::from(found));
+            push_two("cursor: document of ", kept, " bytes, not ", found, out)
         }
+        Note::Table { limit } => push_number("size: table past ", limit, out),
+        Note::Filter { limit } => push_number("size: filter past ", limit, out),
     }
 }
 
-/// Appends the note of a table past this limit, or leaves `out` as it was.
-pub fn table_note(limit: u64, out: &mut Vec<u8>) -> Result<(), OutOfMemory>
-    ensures ok { OnOk result (out.new.items ≡ out.old.items ++ table_text limit) }
-    ensures err { OnErr result (out.new.items ≡ out.old.items) }
-    ensures utf8 { IsUtf8 (table_text limit) }
+/// A note that is always the same: its line without the end.
+#[tactic(auto, using(crate::proofs::Fixed::without_end))]
+fn push_fixed(note: FixedNote, out: &mut Vec<u8>) -> Result<(), OutOfMemory>
+    ensures ok { OnOk result (out.new.items ≡ out.old.items ++ fixed_text note) }
+    ensures front { IsFront out.old.items out.new.items }
+    ensures utf8 { IsUtf8 (fixed_text note) }
 {
-    limit_note("size: table past ", limit, out)
+    let line = note.as_line().as_bytes();
+    push_bytes(&line[..line.len() - 1], out)
 }
 
-/// Appends the note of a filter past this limit, or leaves `out` as it was.
-pub fn filter_note(limit: u64, out: &mut Vec<u8>) -> Result<(), OutOfMemory>
-    ensures ok { OnOk result (out.new.items ≡ out.old.items ++ filter_text limit) }
-    ensures err { OnErr result (out.new.items ≡ out.old.items) }
-    ensures utf8 { IsUtf8 (filter_text limit) }
+/// A text, and bytes behind it.
+#[tactic(auto, using(crate::proofs::Utf8::both_utf8))]
+fn push_behind(what: &str, bytes: &[u8], out: &mut Vec<u8>) -> Result<(), OutOfMemory>
+    ensures ok { OnOk result (out.new.items ≡ out.old.items ++ (what.now ++ bytes.now)) }
+    ensures front { IsFront out.old.items out.new.items }
+    ensures utf8 { IsUtf8 bytes.now → IsUtf8 (what.now ++ bytes.now) }
 {
-    limit_note("size: filter past ", limit, out)
+    let what = what.as_bytes();
+    push_bytes(what, out)?;
+    push_bytes(bytes, out)
 }
 
-fn limit_note(what: &str, limit: u64, out: &mut Vec<u8>) -> Result<(), OutOfMemory>
-    ensures ok { OnOk result (out.new.items ≡ out.old.items ++ at_place what.now limit) }
-    ensures err { OnErr result (out.new.items ≡ out.old.items) }
-    ensures utf8 { IsUtf8 (at_place what.now limit) }
+/// Two texts, each with a number behind it.
+fn push_two(
+    before: &str,
+    first: u64,
+    between: &str,
+    second: u64,
+    out: &mut Vec<u8>,
+) -> Result<(), OutOfMemory>
+    ensures ok { OnOk result (out.new.items ≡ out.old.items ++ (at_place before.now first ++ at_place between.now second)) }
+    ensures front { IsFront out.old.items out.new.items }
+    ensures utf8 { IsUtf8 (at_place before.now first ++ at_place between.now second) }
 {
-    let start = out.len();
-    match push_number(what, limit, out) {
-        Ok(()) => Ok(()),
-        Err(OutOfMemory) => {
-            out.truncate(start);
-            Err(OutOfMemory)
-        }
-    }
+    push_number(before, first, out)?;
+    push_number(between, second, out)
 }
 
 fn push_query(fault: &QueryFault, out: &mut Vec<u8>) -> Result<(), OutOfMemory>
@@ -105,7 +123,7 @@ fn push_query(fault: &QueryFault, out: &mut Vec<u8>) -> Result<(), OutOfMemory>
             push_counted("query: longer than ", MOST_TEXT_BYTES as u64, " bytes", out)
         }
         QueryFault::TooDeep { at } => push_at("query: too deep at ", *at, out),
-        QueryFault::OutOfMemory => push("out of memory", out),
+        QueryFault::OutOfMemory => push_fixed(FixedNote::OutOfMemory, out),
         QueryFault::JoinUnsure { var } => push_about(
             "query: variable ",
             var,
@@ -126,9 +144,9 @@ fn push_query(fault: &QueryFault, out: &mut Vec<u8>) -> Result<(), OutOfMemory>
 }
 
 fn push_size(fault: &SizeFault, out: &mut Vec<u8>) -> Result<(), OutOfMemory>
-    ensures ok { OnOk result (out.new.items ≡ out.old.items ++ size_text fault.now) }
+    ensures ok { OnOk result (out.new.items ≡ out.old.items ++ size_note fault.now) }
     ensures front { IsFront out.old.items out.new.items }
-    ensures utf8 { IsUtf8 (size_text fault.now) }
+    ensures utf8 { IsUtf8 (size_note fault.now) }
 {
     match fault {
         SizeFault::States { count: _ } => {
@@ -137,7 +155,7 @@ fn push_size(fault: &SizeFault, out: &mut Vec<u8>) -> Result<(), OutOfMemory>
         SizeFault::Ways { count: _ } => {
             push_counted("size: more than ", MOST_WAYS as u64, " ways", out)
         }
-        SizeFault::OutOfMemory => push("out of memory", out),
+        SizeFault::OutOfMemory => push_fixed(FixedNote::OutOfMemory, out),
     }
 }
 
@@ -159,7 +177,7 @@ fn push_formula(fault: &FormulaFault, out: &mut Vec<u8>) -> Result<(), OutOfMemo
         FormulaFault::TooDeep { at } => push_at("query: too deep at ", *at, out),
         FormulaFault::NotUtf8 { at } => push_at("query: not UTF-8 at ", *at, out),
         FormulaFault::UnknownProperty { at } => { push_at("query: unknown property at ", *at, out) }
-        FormulaFault::OutOfMemory => push("out of memory", out),
+        FormulaFault::OutOfMemory => push_fixed(FixedNote::OutOfMemory, out),
     }
 }
 
@@ -173,18 +191,6 @@ fn push_check(fault: &CheckFault, out: &mut Vec<u8>) -> Result<(), OutOfMemory>
         CheckFault::UnderRepeat { var } => {
             push_about("query: variable ", var, " under a repeat", out)
         }
-    }
-}
-
-fn push(text: &str, out: &mut Vec<u8>) -> Result<(), OutOfMemory>
-    ensures ok { OnOk result (out.new.items ≡ out.old.items ++ text.now) }
-    ensures utf8 { IsUtf8 text.now }
-    ensures err { OnErr result (out.new.items ≡ out.old.items) }
-    ensures front { IsFront out.old.items out.new.items }
-{
-    match out.extend_from_slice(text.as_bytes()) {
-        Ok(()) => Ok(()),
-        Err(_) => Err(OutOfMemory),
     }
 }
 

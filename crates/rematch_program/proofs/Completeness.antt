@@ -1,6 +1,8 @@
 -- A run whose way is clear ends with all that was asked for.
 use Rattle.std.proofs.Common.{ℕ, ◌≡◌, ◌<◌, ◌≤◌, ◌⊎◌, ◌∙◌, inl, inr, refl, sym, ap, subst, List, Bool, Option, Some, None, IfSome, IsTrue, length, codes, arith}
 use Rattle.std.proofs.lemmas.Option.{same_Some}
+use Rattle.rm_outside.specs.Faults.{Rose}
+use Rattle.rm_outside.specs.Told.{Told}
 use Rattle.rm_outside.specs.declared.status.Status.{Status}
 use Rattle.rm_outside.specs.declared.status.Status.TheVariants as status
 use Rattle.command_line.specs.Asked.{Asked, Query, Itself, HeldBy}
@@ -28,7 +30,7 @@ use Rattle.note_texts.specs.Notes.{line}
 use Rattle.rematch_program.specs.Pages.{IsAfter, CursorFits, page_text, last_note}
 use Rattle.rematch_program.specs.Testing.{AreAllPassing, IsPassingPageOf, TrialKeeps, explain_tested}
 use Rattle.rematch_program.specs.Trials.{trial_summary}
-use Rattle.rematch_program.specs.Run.{Text, Store, FromPage, FromAnswers, FromDocument, FromPlace, FromCursor, FromCompiled, FromQuery, FromText, FromAsked, FromWords, IsExplained, IsNotBegun, IsTooLarge, Reports, RunTested, WantsAnswers}
+use Rattle.rematch_program.specs.Run.{Text, Store, store, HasFaults, FromPage, FromAnswers, FromDocument, FromPlace, FromCursor, FromCompiled, FromQuery, FromText, FromAsked, FromWords, IsExplained, IsNotBegun, IsTooLarge, Reports, RunTested, WantsAnswers}
 use Rattle.rematch_program.specs.Run.{whole, write_failed, out_of_memory, paged, summed, other_document, past_the_document, filter_full, table_full, not_begun, by_states, by_ways, by_memory, answered, document_failed, document_too_long, found, no_cursor, other_variables, placed, page_asked, trial_asked}
 use Rattle.rematch_program.specs.Run.{explained, told_names, too_large, compiled, query_refused, understood, given, query_failed, query_too_long, fetched, refused, accepted, cut}
 use Rattle.rematch_program.specs.Complete.{IsTextOf, IsClear, IsWithinLimits, HasDocument, Completes, PlainCompletes, TrialCompletes, ExplainCompletes}
@@ -97,25 +99,44 @@ trial_wants m lines is = let P : Mode → Type 0 = λ o. WantsAnswers o in subst
 pub plain_wants : (m : Mode) → m ≡ mode.Plain → WantsAnswers m
 plain_wants m is = let P : Mode → Type 0 = λ o. WantsAnswers o in subst P (sym is) tt
 
+-- the part of a run from a moment on: the shelf holds what it held, and no count sank in between
+record IsLater (s later : Store) : Type 0 where
+  kept : later.before.held ≡ s.before.held
+  counts : (n : Text) → s.before.faults n ≤ later.before.faults n
+  ends : later.after ≡ s.after
+
+rose_earlier : (a b c : ℕ) → a ≤ b → Rose b c → Rose a c
+rose_earlier a b c le rose = omega arith
+
+faults_earlier : (s later : Store) (name : Text) → IsLater s later → HasFaults later name → HasFaults s name
+faults_earlier s later name is rose =
+    let P : Told → Type 0 = λ t. Rose (later.before.faults name) (t.faults name) in rose_earlier _ _ _ (is.counts name) (subst P is.ends rose)
+
+has_later : (s later : Store) (a : Asked) (names : List VarName) (after : Option Kept) (document : Text) → IsLater s later → HasDocument a names after document s → HasDocument a names after document later
+has_later s later a names after document is has =
+    let P : (Text → Option Text) → Type 0 = λ held. held a.document ≡ Some document in
+    record { begins = has.begins; held = subst P (sym is.kept) has.held; few = has.few; fits = has.fits; fetched = λ rose. has.fetched (faults_earlier s later a.document is rose) }
+
 -- from the words to the query; `Goal` is what is to be shown
-module _ (k : Known) (words : List Text) (a : Asked) (text : Text) (t : TestedTree) (names : List VarName) (s : Store) (w : Work) (notes : Change) (clear : IsClear k words a text t names s w.out notes) (end : Status) (note : Text) (Goal : Type 0) (memory : end ≡ status.Memory → Goal) (from_query : FromQuery s w end note a t (checks_of k t.asked) → Goal) where
-  from_text : FromText s w end note k a text → Goal
-  from_text (query_refused fault only is quiet) = absurd (only.unsound t clear.sound clear.tests_known)
-  from_text (out_of_memory is quiet) = memory is.ends
-  from_text (understood other only case) = let P : TestedTree → Type 0 = λ u. FromQuery s w end note a u (checks_of k u.asked) in from_query (subst P (sym (only.only t clear.sound)) case)
+module _ (k : Known) (words : List Text) (a : Asked) (text : Text) (t : TestedTree) (names : List VarName) (s : Store) (w : Work) (notes : Change) (clear : IsClear k words a text t names s w.out notes) (end : Status) (note : Text) (Goal : Type 0) (memory : end ≡ status.Memory → Goal) (from_query : (p : Store) → IsLater s p → FromQuery p w end note a t (checks_of k t.asked) → Goal) where
+  from_text : (p : Store) → IsLater s p → FromText p w end note k a text → Goal
+  from_text p later (query_refused fault only is quiet) = absurd (only.unsound t clear.sound clear.tests_known)
+  from_text p later (out_of_memory is quiet) = memory is.ends
+  from_text p later (understood other only case) = let P : TestedTree → Type 0 = λ u. FromQuery p w end note a u (checks_of k u.asked) in from_query p later (subst P (sym (only.only t clear.sound)) case)
 
   given_as : (query : Query) → a.query ≡ query → IsTextOf s query text
   given_as query is = let P : Query → Type 0 = λ o. IsTextOf s o text in subst P is clear.given
 
   from_asked : FromAsked s w end note k a → Goal
-  from_asked (given own is case) = let P : Text → Type 0 = λ x. FromText s w end note k a x in from_text (subst P (given_as (Itself own) is) case)
-  from_asked (query_failed name is failed ends quiet) = absurd ((given_as (HeldBy name) is).2 failed)
+  from_asked (given own is case) = let P : Text → Type 0 = λ x. FromText s w end note k a x in from_text s (record { kept = refl; counts = λ n. omega arith; ends = refl }) (subst P (given_as (Itself own) is) case)
+  from_asked (query_failed name is failed ends quiet) = absurd ((given_as (HeldBy name) is).2 failed.faulty)
   from_asked (query_too_long name is long ends quiet) =
-      let told = given_as (HeldBy name) is in let more = longer QUERY_LIMIT (s.held name) text told.0 long in let few = told.1 in absurd (omega (arith, more, few))
-  from_asked (out_of_memory is quiet) = memory is.ends
-  from_asked (fetched name is own gives case) =
-      let P : Text → Type 0 = λ x. FromText s w end note k a x in
-      from_text (subst P (told_as (s.held name) own text (given_as (HeldBy name) is).0 gives.told) case)
+      let told = given_as (HeldBy name) is in let more = longer QUERY_LIMIT (s.before.held name) text told.0 long.many in let few = told.1 in absurd (omega (arith, more, few))
+  from_asked (out_of_memory name is once ends quiet) = memory ends.ends
+  from_asked (fetched name is own between gives case) =
+      let P : Text → Type 0 = λ x. FromText (store between s.after) w end note k a x in
+      from_text (store between s.after) (record { kept = gives.once.kept; counts = gives.once.later; ends = refl })
+      (subst P (told_as (s.before.held name) own text (given_as (HeldBy name) is).0 gives.told) case)
 
   from_words : FromWords s w end note k words → Goal
   from_words (refused none is quiet) = let both : Some a ≡ None = sym clear.accepted ∙ none in absurd (cc)
@@ -144,9 +165,9 @@ module _ (k : Known) (words : List Text) (a : Asked) (text : Text) (t : TestedTr
   abbrev checks : List Check
   checks = checks_of k t.asked
 
-  module _ (wants : WantsAnswers a.mode) (small : PartsAreSmall q) (Goal : Type 0) (memory : end ≡ status.Memory → Goal) (from_compiled : FromCompiled a q checks w end note s → Goal) where
-    from_query : FromQuery s w end note a t checks → Goal
-    from_query (explained is case still) = let P : Mode → Type 0 = λ m. WantsAnswers m in absurd (subst P is wants)
+  module _ (wants : WantsAnswers a.mode) (small : PartsAreSmall q) (p : Store) (Goal : Type 0) (memory : end ≡ status.Memory → Goal) (from_compiled : FromCompiled a q checks w end note p → Goal) where
+    from_query : FromQuery p w end note a t checks → Goal
+    from_query (explained is case still same) = let P : Mode → Type 0 = λ m. WantsAnswers m in absurd (subst P is wants)
     from_query (too_large asks why quiet) = memory (never_too_large q small end note why)
     from_query (out_of_memory is quiet) = memory is.ends
     from_query (compiled asks few case) = from_compiled case
@@ -158,7 +179,7 @@ module _ (k : Known) (words : List Text) (a : Asked) (text : Text) (t : TestedTr
     from_document (answered inside case) = from_answers case
 
   -- the plain command
-  module _ (after : Option Kept) (document : Text) (plain : a.mode ≡ mode.Plain) (has : HasDocument a names after document s) (limits : IsWithinLimits a q document) where
+  module _ (after : Option Kept) (document : Text) (plain : a.mode ≡ mode.Plain) (limits : IsWithinLimits a q document) where
     abbrev Served : Type 0
     Served = IsServed a q checks names after document w end note ⊎ (end ≡ status.Memory)
 
@@ -169,34 +190,35 @@ module _ (k : Known) (words : List Text) (a : Asked) (text : Text) (t : TestedTr
     ]
     page_of (summed lines is rows answers case) = let both : mode.Plain ≡ mode.Trial lines = sym plain ∙ is in absurd (cc)
 
-    place_of : FromPlace a q checks w end note s names after → Served
-    place_of (document_failed failed ends quiet) = absurd (has.fetched failed)
-    place_of (document_too_long long ends quiet) = let more = longer DOCUMENT_LIMIT (s.held a.document) document has.held long in let few = has.few in absurd (omega (arith, more, few))
-    place_of (out_of_memory is quiet) = inr is.ends
-    place_of (found bytes gives case) =
-        let P : Text → Type 0 = λ d. FromDocument a q checks w end note names after d in
-        from_document after document limits has.fits Served (λ m. inr m) page_of (subst P (told_as (s.held a.document) bytes document has.held gives.told) case)
+    module _ (p : Store) (has : HasDocument a names after document p) where
+      place_of : FromPlace a q checks w end note p names after → Served
+      place_of (document_failed failed ends quiet) = absurd (has.fetched failed.faulty)
+      place_of (document_too_long long ends quiet) = let more = longer DOCUMENT_LIMIT (p.before.held a.document) document has.held long.many in let few = has.few in absurd (omega (arith, more, few))
+      place_of (out_of_memory once is quiet) = inr is.ends
+      place_of (found bytes gives case) =
+          let P : Text → Type 0 = λ d. FromDocument a q checks w end note names after d in
+          from_document after document limits has.fits Served (λ m. inr m) page_of (subst P (told_as (p.before.held a.document) bytes document has.held gives.told) case)
 
-    reads_as : (x : Text) → a.after ≡ Some x → (kept : Kept) × IsCursorText names kept.row kept.length x
-    reads_as x is = row_of_text names x after (let P : Option Text → Type 0 = λ o. IsAfter names o after in subst P is has.begins)
+      reads_as : (x : Text) → a.after ≡ Some x → (kept : Kept) × IsCursorText names kept.row kept.length x
+      reads_as x is = row_of_text names x after (let P : Option Text → Type 0 = λ o. IsAfter names o after in subst P is has.begins)
 
-    cursor_of : FromCursor a q checks w end note s names → Served
-    cursor_of (no_cursor x is none ends quiet) = let r = reads_as x is in absurd (none names r.0.row r.0.length r.1)
-    cursor_of (other_variables x is others row length reads differ ends quiet) =
-        let r = reads_as x is in
-        absurd (differ (one_cursor others names row r.0.row length r.0.length x reads r.1).0)
-    cursor_of (placed kept starts case) =
-        let R : Option Kept → Type 0 = λ o. FromPlace a q checks w end note s names o in
-        place_of (subst R (after_one names a.after after kept has.begins starts) case)
+      cursor_of : FromCursor a q checks w end note p names → Served
+      cursor_of (no_cursor x is none ends quiet) = let r = reads_as x is in absurd (none names r.0.row r.0.length r.1)
+      cursor_of (other_variables x is others row length reads differ ends quiet) =
+          let r = reads_as x is in
+          absurd (differ (one_cursor others names row r.0.row length r.0.length x reads r.1).0)
+      cursor_of (placed kept starts case) =
+          let R : Option Kept → Type 0 = λ o. FromPlace a q checks w end note p names o in
+          place_of (subst R (after_one names a.after after kept has.begins starts) case)
 
-    plain_of : FromCompiled a q checks w end note s → Served
-    plain_of (out_of_memory is quiet) = inr is.ends
-    plain_of (page_asked is own are case) = let P : List VarName → Type 0 = λ ns. FromCursor a q checks w end note s ns in cursor_of (subst P (names_one q own names are clear.named) case)
-    plain_of (trial_asked lines is own are case) = let both : mode.Plain ≡ mode.Trial lines = sym plain ∙ is in absurd (cc)
+      plain_of : FromCompiled a q checks w end note p → Served
+      plain_of (out_of_memory is quiet) = inr is.ends
+      plain_of (page_asked is own are case) = let P : List VarName → Type 0 = λ ns. FromCursor a q checks w end note p ns in cursor_of (subst P (names_one q own names are clear.named) case)
+      plain_of (trial_asked lines is own are same case) = let both : mode.Plain ≡ mode.Trial lines = sym plain ∙ is in absurd (cc)
 
-    pub served : FromWords s w end note k words → Served
-    served case = from_words k words a text t names s w notes clear end note Served (λ m. inr m)
-        (from_query (plain_wants a.mode plain) limits.small Served (λ m. inr m) plain_of) case
+    pub served : HasDocument a names after document s → FromWords s w end note k words → Served
+    served has case = from_words k words a text t names s w notes clear end note Served (λ m. inr m)
+        (λ p later. from_query (plain_wants a.mode plain) limits.small p Served (λ m. inr m) (plain_of p (has_later s p a names after document later has))) case
 
   -- a trial
   module _ (lines : ℕ) (trial : a.mode ≡ mode.Trial lines) (limits : IsWithinLimits a q (trial_text lines)) where
@@ -213,10 +235,10 @@ module _ (k : Known) (words : List Text) (a : Asked) (text : Text) (t : TestedTr
           | inr memory ↦ inr memory
         ]
 
-    trial_of : FromCompiled a q checks w end note s → Tried
-    trial_of (out_of_memory is quiet) = inr is.ends
-    trial_of (page_asked is own are case) = let both : mode.Plain ≡ mode.Trial lines = sym is ∙ trial in absurd (cc)
-    trial_of (trial_asked own is others are case) =
+    trial_of : (p : Store) → FromCompiled a q checks w end note p → Tried
+    trial_of p (out_of_memory is quiet) = inr is.ends
+    trial_of p (page_asked is own are case) = let both : mode.Plain ≡ mode.Trial lines = sym is ∙ trial in absurd (cc)
+    trial_of p (trial_asked own is others are same case) =
         let P : ℕ → Type 0 = λ n. FromDocument a q checks w end note others None (trial_text n) in
         let Q : List VarName → Type 0 = λ ns. FromDocument a q checks w end note ns None (trial_text lines) in
         from_document None (trial_text lines) limits tt Tried (λ m. inr m) summary_of
@@ -224,14 +246,14 @@ module _ (k : Known) (words : List Text) (a : Asked) (text : Text) (t : TestedTr
 
     pub tried : FromWords s w end note k words → Tried
     tried case = from_words k words a text t names s w notes clear end note Tried (λ m. inr m)
-        (from_query (trial_wants a.mode lines trial) limits.small Tried (λ m. inr m) trial_of) case
+        (λ p later. from_query (trial_wants a.mode lines trial) limits.small p Tried (λ m. inr m) (trial_of p)) case
 
   -- what the query is
   module _ (explain : a.mode ≡ mode.Explain) where
-    abbrev Told : Type 0
-    Told = AreWhole (explain_tested t names) (line (codes "end")) w end note ⊎ (end ≡ status.Memory)
+    abbrev Explained : Type 0
+    Explained = AreWhole (explain_tested t names) (line (codes "end")) w end note ⊎ (end ≡ status.Memory)
 
-    told_of : IsExplained t w.out end note → Told
+    told_of : IsExplained t w.out end note → Explained
     told_of (told_names own are page) =
         let P : List VarName → Type 0 = λ ns. FromPage (work w.out (clock 0 0)) end note (explain_tested t ns) (line (codes "end")) StandsStill in
         elim (from_page _ _ _ (work w.out (clock 0 0)) end note clear.written (subst P (names_one q own names are clear.named) page)) [
@@ -240,14 +262,14 @@ module _ (k : Known) (words : List Text) (a : Asked) (text : Text) (t : TestedTr
         ]
     told_of (by_memory is quiet) = inr is.ends
 
-    lines_of : FromQuery s w end note a t checks → Told
-    lines_of (explained is case still) = told_of case
-    lines_of (too_large asks why quiet) = let P : Mode → Type 0 = λ m. WantsAnswers m in absurd (subst P explain asks)
-    lines_of (out_of_memory is quiet) = inr is.ends
-    lines_of (compiled asks few case) = let P : Mode → Type 0 = λ m. WantsAnswers m in absurd (subst P explain asks)
+    lines_of : (p : Store) → IsLater s p → FromQuery p w end note a t checks → Explained
+    lines_of p later (explained is case still same) = told_of case
+    lines_of p later (too_large asks why quiet) = let P : Mode → Type 0 = λ m. WantsAnswers m in absurd (subst P explain asks)
+    lines_of p later (out_of_memory is quiet) = inr is.ends
+    lines_of p later (compiled asks few case) = let P : Mode → Type 0 = λ m. WantsAnswers m in absurd (subst P explain asks)
 
-    pub explains : FromWords s w end note k words → Told
-    explains case = from_words k words a text t names s w notes clear end note Told (λ m. inr m) lines_of case
+    pub explains : FromWords s w end note k words → Explained
+    explains case = from_words k words a text t names s w notes clear end note Explained (λ m. inr m) lines_of case
 
 -- with the note
 reported : (text last : Text) (w : Work) (notes : Change) (end result : Status) (note : Text) → ¬ Failed notes → Reports end note notes result → AreWhole text last w end note → (result ≡ status.Done) × Adds w.out text × Adds notes last
@@ -262,7 +284,7 @@ memory_reported notes end result note fine (cut is failed part) memory = absurd 
 module _ (k : Known) (words : List Text) (s : Store) (out notes : Change) (steps : Clock) (result : Status) (run : RunTested k words s out notes steps result) where
   plain_completes : PlainCompletes k words s out notes result
   plain_completes a text t names after document plain clear has limits =
-      elim (served k words a text t names s (work out steps) notes clear run.end run.note after document plain has limits run.done) [
+      elim (served k words a text t names s (work out steps) notes clear run.end run.note after document plain limits has run.done) [
         | inl p ↦ let r = reported _ _ (work out steps) notes run.end result run.note clear.noted run.report p.are in inl (record { done = r.0; rows = p.rows; more = p.more; page = p.page; text = r.1; note = r.2 })
         | inr m ↦ inr (memory_reported notes run.end result run.note clear.noted run.report m)
       ]

@@ -1,6 +1,6 @@
 pub mod AsBeforeLaws
 pub mod AtomLines
-pub mod Cases
+pub mod FetchedLaws
 pub mod Completeness
 pub mod CountedAtoms
 pub mod Fits
@@ -20,5 +20,3 @@ mod WithoutTestsLaws
 pub mod PassingPages
 pub mod TakingLaws
 pub mod Answered
-pub mod TestLines
-pub mod NoteLaws

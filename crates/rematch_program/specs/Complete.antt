@@ -18,14 +18,14 @@ use Rattle.spanner_engine.specs.Passing.{AreKnown, Check, Known, checks_of}
 use Rattle.rematch_program.specs.Limits.{PartsAreSmall}
 use Rattle.note_texts.specs.Notes.{line}
 use Rattle.rematch_program.specs.Pages.{IsAfter, CursorFits, page_text, last_note}
-use Rattle.rematch_program.specs.Run.{Text, Store, FetchFailed, RunTested}
+use Rattle.rematch_program.specs.Run.{Text, Store, HasFaults, RunTested}
 use Rattle.rematch_program.specs.Testing.{AreAllPassing, IsPassingPageOf, explain_tested}
 use Rattle.rematch_program.specs.Trials.{trial_summary}
 
 -- the query's text: given by itself, or told by the shelf, within the limit, with no fault counted
 abbrev pub IsTextOf : Store → Query → Text → Type 0
 IsTextOf s (Itself own) text = own ≡ text
-IsTextOf s (HeldBy name) text = (s.held name ≡ Some text) × (length text ≤ QUERY_LIMIT) × ¬ FetchFailed s name
+IsTextOf s (HeldBy name) text = (s.before.held name ≡ Some text) × (length text ≤ QUERY_LIMIT) × ¬ HasFaults s name
 
 -- accepted words, the text of a sound query whose tests are known, and no fault of a sink counted; `names` are those of the query's result
 pub record IsClear (k : Known) (words : List Text) (a : Asked) (text : Text) (t : TestedTree) (names : List VarName) (s : Store) (out notes : Change) : Type 0 where
@@ -47,10 +47,10 @@ pub record IsWithinLimits (a : Asked) (q : QueryTree) (document : Text) : Type 0
 -- a document that the shelf tells, within the limit, with no fault counted, and a cursor that fits
 pub record HasDocument (a : Asked) (names : List VarName) (after : Option Kept) (document : Text) (s : Store) : Type 0 where
   pub begins : IsAfter names a.after after
-  pub held : s.held a.document ≡ Some document
+  pub held : s.before.held a.document ≡ Some document
   pub few : length document ≤ DOCUMENT_LIMIT
   pub fits : CursorFits (length document) after
-  pub fetched : ¬ FetchFailed s a.document
+  pub fetched : ¬ HasFaults s a.document
 
 -- the page and its note, whole
 pub record IsWhole (a : Asked) (q : QueryTree) (checks : List Check) (names : List VarName) (after : Option Kept) (document : Text) (out notes : Change) (result : Status) : Type 0 where

@@ -1,18 +1,19 @@
+-- what public contracts rest on
 pub mod AsBefore
 pub mod Change
-pub mod Notes
 pub mod Pages
-pub mod Ending
-pub mod Kept
 pub mod Limits
 pub mod Explained
 pub mod Trials
 pub mod Steps
 pub mod Run
 pub mod Complete
+pub mod Fetched
 pub mod Resume
 pub mod Examples
 pub mod Testing
 pub mod WithoutTests
-pub mod Taking
 pub mod All
+-- what the functions inside promise each other
+pub mod Kept
+pub mod Taking

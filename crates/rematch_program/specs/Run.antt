@@ -1,8 +1,9 @@
--- What a run does under the tests that are known: the relation between the words, what the shelf holds, the faults that rose, the
--- bytes added to out and notes, the steps taken, and the status. The first case that applies is taken. Want of memory
--- may stand in place of any.
-use Rattle.std.specs.Prelude.{◌≡◌, ◌≢◌, ◌<◌, ◌≤◌, ℕ, List, [], Bool, false, Option, Some, None, IfSome, IsTrue, length, codes}
+-- What a run does under the tests that are known: the relation between the words, what the shelf told before and after (so which names
+-- were fetched), the bytes added to out and notes, the steps taken, and the status. The first case that applies is taken. Want of
+-- memory may stand in place of any.
+use Rattle.std.specs.Prelude.{◌≡◌, ◌≢◌, ◌<◌, ◌≤◌, ℕ, List, [], ◌∷◌, Bool, false, Option, Some, None, IfSome, IsTrue, length, codes}
 use Rattle.rm_outside.specs.Faults.{Rose}
+use Rattle.rm_outside.specs.Told.{Told, GrewBy}
 use Rattle.rm_outside.specs.declared.status.Status.{Status}
 use Rattle.rm_outside.specs.declared.status.Status.TheVariants as status
 use Rattle.command_line.specs.Asked.{Asked, Itself, HeldBy, asked}
@@ -24,35 +25,55 @@ use Rattle.rematch_program.specs.Change.{Change, Clock, Work, clock, work, IsQui
 use Rattle.rematch_program.specs.Testing.{AreAllPassing, IsPassingPageOf, PageKeeps, TrialKeeps, explain_tested}
 use Rattle.spanner_engine.specs.Begun.{AreRead, HasHeavyAtom, IsPast, KeepsOther, begin_steps, row_kept, table_weight}
 use Rattle.spanner_engine.specs.Passing.{AreKnown, Check, Known, HasFaultUnder, IsOnlyTested, checks_of, known}
-use Rattle.note_texts.specs.Notes.{counted, fault_note, filter_note, line, states_note, table_note, ways_note}
+use Rattle.note_texts.specs.Notes.{counted, fault_note, filter_note, line, other_document_note, states_note, table_note, ways_note}
 use Rattle.rematch_program.specs.Steps.{KeepsWithin}
 use Rattle.rematch_program.specs.Trials.{trial_summary}
-use Rattle.rematch_program.specs.Notes.{other_document_note}
 use Rattle.rematch_program.specs.Pages.{IsAfter, CursorFits, page_text, last_note}
 
 abbrev pub Text : Type 0
 Text = List ℕ
 
--- what the shelf tells of each name, and each name's count of faults before and after
+-- what the shelf told before and after
 pub record Store : Type 0 where
-  pub held : Text → Option Text
-  pub before : Text → ℕ
-  pub after : Text → ℕ
+  pub before : Told
+  pub after : Told
 
-abbrev pub store : (Text → Option Text) → (Text → ℕ) → (Text → ℕ) → Store
-store held before after = record { held = held; before = before; after = after }
+abbrev pub store : Told → Told → Store
+store before after = record { before = before; after = after }
 
-abbrev pub FetchFailed : Store → Text → Type 0
-FetchFailed s name = Rose (s.before name) (s.after name)
+-- nothing was fetched
+abbrev pub IsUntouched : Store → Type 0
+IsUntouched s = s.after ≡ s.before
 
--- the name has these bytes, at most limit, as far as the shelf tells
+-- this name was fetched, once, and no other
+pub record Fetches (s : Store) (name : Text) : Type 0 where
+  pub grew : GrewBy (name ∷ []) s.before.fetched s.after.fetched
+  pub kept : s.after.held ≡ s.before.held
+  pub later : (n : Text) → s.before.faults n ≤ s.after.faults n
+
+-- faults of this name were counted
+abbrev pub HasFaults : Store → Text → Type 0
+HasFaults s name = Rose (s.before.faults name) (s.after.faults name)
+
+-- the name was fetched, and that failed
+pub record FetchFailed (s : Store) (name : Text) : Type 0 where
+  pub once : Fetches s name
+  pub faulty : HasFaults s name
+
+-- the name was fetched, and has these bytes, at most limit, as far as the shelf tells
 pub record Gives (s : Store) (name : Text) (limit : ℕ) (bytes : Text) : Type 0 where
-  pub told : IfSome (s.held name) (λ all. bytes ≡ all)
+  pub once : Fetches s name
+  pub told : IfSome (s.before.held name) (λ all. bytes ≡ all)
   pub few : length bytes ≤ limit
 
--- the name has more bytes than limit, as far as the shelf tells
-abbrev pub IsTooLong : Store → Text → ℕ → Type 0
-IsTooLong s name limit = IfSome (s.held name) (λ all. limit < length all)
+-- the name was fetched, and has more bytes than limit, as far as the shelf tells
+pub record IsTooLong (s : Store) (name : Text) (limit : ℕ) : Type 0 where
+  pub once : Fetches s name
+  pub many : IfSome (s.before.held name) (λ all. limit < length all)
+
+-- nothing was fetched, written or counted
+abbrev pub IsIdle : Store → Work → Type 0
+IsIdle s w = IsUntouched s × DidNothing w
 
 -- the text has this fault under the tests that are known, and no other, and is that of no sound query whose tests are known
 pub record IsOnlyFault (k : Known) (text : Text) (fault : QueryFault) : Type 0 where
@@ -126,22 +147,22 @@ module _ (a : Asked) (q : QueryTree) (checks : List Check) (w : Work) (end : Sta
     pub data FromPlace (names : List VarName) (after : Option Kept) : Type 0 where
       document_failed : FetchFailed s a.document → Is end note status.Read (codes "read failed: document") → DidNothing w → FromPlace names after
       document_too_long : IsTooLong s a.document DOCUMENT_LIMIT → Is end note status.Long (counted (codes "document longer than ") DOCUMENT_LIMIT (codes " bytes")) → DidNothing w → FromPlace names after
-      out_of_memory : IsOutOfMemory end note → DidNothing w → FromPlace names after
+      out_of_memory : Fetches s a.document → IsOutOfMemory end note → DidNothing w → FromPlace names after
       found : (document : Text) → Gives s a.document DOCUMENT_LIMIT document → FromDocument names after document → FromPlace names after
 
     -- with the query's automaton, for a page; `names` are those of its result
     pub data FromCursor (names : List VarName) : Type 0 where
       no_cursor : (text : Text) → a.after ≡ Some text → ((others : List VarName) (row : SpanRow) (kept : Option ℕ) → ¬ IsCursorText others row kept text) →
-          Is end note status.Cursor (codes "cursor: not a cursor") → DidNothing w → FromCursor names
+          Is end note status.Cursor (codes "cursor: not a cursor") → IsIdle s w → FromCursor names
       other_variables : (text : Text) → a.after ≡ Some text → (others : List VarName) (row : SpanRow) (kept : Option ℕ) → IsCursorText others row kept text → others ≢ names →
-          Is end note status.Cursor (codes "cursor: other variables") → DidNothing w → FromCursor names
+          Is end note status.Cursor (codes "cursor: other variables") → IsIdle s w → FromCursor names
       placed : (after : Option Kept) → IsAfter names a.after after → FromPlace names after → FromCursor names
 
     -- with the query's automaton; a trial takes the made document, and all of its answers
     pub data FromCompiled : Type 0 where
-      out_of_memory : IsOutOfMemory end note → DidNothing w → FromCompiled
+      out_of_memory : IsOutOfMemory end note → IsIdle s w → FromCompiled
       page_asked : a.mode ≡ mode.Plain → (names : List VarName) → AreResultNames q names → FromCursor names → FromCompiled
-      trial_asked : (lines : ℕ) → a.mode ≡ mode.Trial lines → (names : List VarName) → AreResultNames q names → FromDocument names None (trial_text lines) → FromCompiled
+      trial_asked : (lines : ℕ) → a.mode ≡ mode.Trial lines → (names : List VarName) → AreResultNames q names → IsUntouched s → FromDocument names None (trial_text lines) → FromCompiled
 
 -- the answers are asked for, on a document that is held or on a made one
 abbrev pub WantsAnswers : Mode → Type 0
@@ -152,30 +173,33 @@ WantsAnswers (mode.Trial lines) = Unit {0}
 module _ (s : Store) (w : Work) (end : Status) (note : Text) where
   -- with the query and the checks of its tests
   pub data FromQuery (a : Asked) (t : TestedTree) (checks : List Check) : Type 0 where
-    explained : a.mode ≡ mode.Explain → IsExplained t w.out end note → StandsStill w.steps → FromQuery a t checks
-    too_large : WantsAnswers a.mode → IsTooLarge t.query end note → DidNothing w → FromQuery a t checks
-    out_of_memory : IsOutOfMemory end note → DidNothing w → FromQuery a t checks
+    explained : a.mode ≡ mode.Explain → IsExplained t w.out end note → StandsStill w.steps → IsUntouched s → FromQuery a t checks
+    too_large : WantsAnswers a.mode → IsTooLarge t.query end note → IsIdle s w → FromQuery a t checks
+    out_of_memory : IsOutOfMemory end note → IsIdle s w → FromQuery a t checks
     compiled : WantsAnswers a.mode → AtomsAreSmall t.query → FromCompiled a t.query checks w end note s → FromQuery a t checks
 
   module _ (k : Known) where
     -- with the query's text
     pub data FromText (a : Asked) (text : Text) : Type 0 where
-      query_refused : (fault : QueryFault) → IsOnlyFault k text fault → Is end note status.Query (fault_note fault) → DidNothing w → FromText a text
-      out_of_memory : IsOutOfMemory end note → DidNothing w → FromText a text
+      query_refused : (fault : QueryFault) → IsOnlyFault k text fault → Is end note status.Query (fault_note fault) → IsIdle s w → FromText a text
+      out_of_memory : IsOutOfMemory end note → IsIdle s w → FromText a text
       understood : (t : TestedTree) → IsOnlyTested k text t → FromQuery a t (checks_of k t.asked) → FromText a text
 
-    -- with the words' meaning
+module _ (s : Store) (w : Work) (end : Status) (note : Text) where
+  module _ (k : Known) where
+    -- with the words' meaning; `between` is what the shelf told once the query was fetched
     pub data FromAsked (a : Asked) : Type 0 where
-      given : (text : Text) → a.query ≡ Itself text → FromText a text → FromAsked a
+      given : (text : Text) → a.query ≡ Itself text → FromText s w end note k a text → FromAsked a
       query_failed : (name : Text) → a.query ≡ HeldBy name → FetchFailed s name → Is end note status.Read (codes "read failed: query") → DidNothing w → FromAsked a
       query_too_long : (name : Text) → a.query ≡ HeldBy name → IsTooLong s name QUERY_LIMIT → Is end note status.Query (counted (codes "query: longer than ") QUERY_LIMIT (codes " bytes")) → DidNothing w → FromAsked a
-      out_of_memory : IsOutOfMemory end note → DidNothing w → FromAsked a
-      fetched : (name : Text) → a.query ≡ HeldBy name → (text : Text) → Gives s name QUERY_LIMIT text → FromText a text → FromAsked a
+      out_of_memory : (name : Text) → a.query ≡ HeldBy name → Fetches s name → IsOutOfMemory end note → DidNothing w → FromAsked a
+      fetched : (name : Text) → a.query ≡ HeldBy name → (text : Text) (between : Told) → Gives (store s.before between) name QUERY_LIMIT text →
+          FromText (store between s.after) w end note k a text → FromAsked a
 
     -- with the words
     pub data FromWords (words : List Text) : Type 0 where
-      refused : asked words ≡ None → Is end note status.Words (codes "bad command line") → DidNothing w → FromWords words
-      out_of_memory : IsOutOfMemory end note → DidNothing w → FromWords words
+      refused : asked words ≡ None → Is end note status.Words (codes "bad command line") → IsIdle s w → FromWords words
+      out_of_memory : IsOutOfMemory end note → IsIdle s w → FromWords words
       accepted : (a : Asked) → asked words ≡ Some a → FromAsked a → FromWords words
 
 -- ---- the run

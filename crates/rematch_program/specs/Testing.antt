@@ -1,13 +1,11 @@
 -- The answers that pass a query's tests: pages and summaries of them, and what they cost. Where nothing is checked each of these is, word for
 -- word, what it is of a query without tests.
 use Rattle.std.specs.Prelude.{◌≡◌, ℕ, ◌+◌, ◌*◌, ◌≤◌, Bool, false, List, [], ◌∷◌, ◌++◌, length, take, Option, Some, None, codes}
-use Rattle.std.specs.List.{flat_map}
 use Rattle.spanner_model.specs.Captures.{VarName}
 use Rattle.spanner_model.specs.Expression.{QueryTree}
 use Rattle.spanner_model.specs.Answers.{SpanRow, AreAnswers}
-use Rattle.query_parser.specs.declared.asks.Asked.{Asked}
 use Rattle.query_parser.specs.Tested.{TestedTree}
-use Rattle.query_printer.specs.PrintedQuery.{query_text}
+use Rattle.query_printer.specs.PrintedTested.{tested_text}
 use Rattle.spanner_engine.specs.Begun.{begin_steps}
 use Rattle.spanner_engine.specs.Left.{AreLeft}
 use Rattle.spanner_engine.specs.Passing.{Check, ArePassing, IsPassingPage, passing}
@@ -56,23 +54,6 @@ TrialKeeps (c ∷ checks) filter q names d rows = λ spent.
     × KeepsWithin filter q d (λ K. begin_steps filter q d K None + tried_steps names (length (c ∷ checks)) (length all)) spent
 
 -- ---- what is told of a query with tests
-
-abbrev pub test_text : Asked → List ℕ
-test_text a = a.test ++ codes "(" ++ a.var ++ codes ")"
-
--- behind the first test
-abbrev pub more_tests : List Asked → List ℕ
-more_tests asked = flat_map (λ a. codes ", " ++ test_text a) asked
-
--- all tests, where there are any
-abbrev pub tests_text : List Asked → List ℕ
-tests_text [] = []
-tests_text (a ∷ asked) = codes " where " ++ test_text a ++ more_tests asked
-
--- the printed form: that of the query, and then its tests
-abbrev pub tested_text : QueryTree → List Asked → List ℕ
-tested_text q [] = query_text q
-tested_text q (a ∷ asked) = query_text q ++ tests_text (a ∷ asked)
 
 abbrev pub explain_tested : TestedTree → List VarName → List ℕ
 explain_tested t names =

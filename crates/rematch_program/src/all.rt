@@ -8,7 +8,7 @@ ghost use Rattle.rematch_program.specs.declared.TheConstants.{MOST_REQUESTS};
 ghost use Rattle.rematch_program.specs.All.{serving_words};
 ghost use Rattle.rematch_program.specs.Change.{change, clock};
 ghost use Rattle.rematch_program.specs.Complete.{Completes};
-ghost use Rattle.rematch_program.specs.Run.{RunTested, store};
+ghost use Rattle.rematch_program.specs.Run.{IsUntouched, RunTested, store};
 
 use crate::MOST_REQUESTS;
 use crate::top::run_tested;
@@ -41,14 +41,15 @@ pub fn run_all<S: Shelf, R: Source, O: Sink, N: Sink, J: Judge, L: Ledger>(
         (change_of (O.written out.old) (O.written out.new) (O.faults out.old) (O.faults out.new))
         (change_of (N.written notes.old) (N.written notes.new) (N.faults notes.old) (N.faults notes.new))
         result }
+    ensures untouched { map string_bytes words.now ≡ serving_words → IsUntouched (store (S.told shelf.old) (S.told shelf.new)) }
     ensures run { map string_bytes words.now ≢ serving_words → RunTested (known tests.now J.judges) (map string_bytes words.now)
-        (store (S.held shelf.old) (S.faults shelf.old) (S.faults shelf.new))
+        (store (S.told shelf.old) (S.told shelf.new))
         (change (O.written out.old) (O.written out.new) (O.faults out.old) (O.faults out.new))
         (change (N.written notes.old) (N.written notes.new) (N.faults notes.old) (N.faults notes.new))
         (clock steps.old steps.new)
         result }
     ensures complete { map string_bytes words.now ≢ serving_words → Completes (known tests.now J.judges) (map string_bytes words.now)
-        (store (S.held shelf.old) (S.faults shelf.old) (S.faults shelf.new))
+        (store (S.told shelf.old) (S.told shelf.new))
         (change (O.written out.old) (O.written out.new) (O.faults out.old) (O.faults out.new))
         (change (N.written notes.old) (N.written notes.new) (N.faults notes.old) (N.faults notes.new))
         result }

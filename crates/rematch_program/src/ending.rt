@@ -1,45 +1,39 @@
 //! How the work of a run ended, before its note is written.
-ghost use Rattle.std.specs.Prelude.{◌≡◌, codes};
-ghost use Rattle.note_texts.specs.Notes.{line};
-ghost use Rattle.rematch_program.specs.Ending.{note_bytes};
+ghost use Rattle.std.specs.Prelude.{◌≡◌, ◌⊎◌, codes};
+ghost use Rattle.note_texts.specs.Notes.{fixed_text, line, note_bytes, note_text};
+ghost use Rattle.rematch_program.specs.Run.{Is, IsOutOfMemory};
 
+use note_texts::{FixedNote, Note, NoteLine};
 use rm_outside::Status;
-
-/// A line for notes, with its end.
-#[derive(Drop)]
-pub enum Note {
-    Line(&'static str),
-    Made(Vec<u8>),
-}
-
-impl Note {
-    /// The note's line, its end included.
-    pub fn as_bytes(&self) -> &[u8]
-        ensures { result.now ≡ note_bytes self.now }
-    {
-        match self {
-            Note::Line(text) => text.as_bytes(),
-            Note::Made(bytes) => bytes,
-        }
-    }
-}
+use span_core::OutOfMemory;
+use std::alloc::Global;
 
 /// A status with its note.
 #[derive(Drop)]
 pub struct Ending {
     pub status: Status,
-    pub note: Note,
+    pub note: NoteLine,
 }
 
 impl Ending {
-    /// A status with a line that is always the same.
-    pub fn with(status: Status, text: &'static str) -> Ending
+    /// A status with this note, or that memory is wanting for its line.
+    pub fn with(alloc: Global, status: Status, note: &Note<'_>) -> Ending
+        ensures { Is result.status (note_bytes result.note) status (note_text note.now) ⊎ IsOutOfMemory result.status (note_bytes result.note) }
+    {
+        match NoteLine::of_note(alloc, note) {
+            Ok(note) => Ending { status, note },
+            Err(OutOfMemory) => Ending::out_of_memory(),
+        }
+    }
+
+    /// A status with a note that is always the same.
+    pub fn fixed(status: Status, note: FixedNote) -> Ending
         ensures status { result.status ≡ status }
-        ensures note { note_bytes result.note ≡ text.now }
+        ensures note { note_bytes result.note ≡ line (fixed_text note) }
     {
         Ending {
             status,
-            note: Note::Line(text),
+            note: NoteLine::Fixed(note),
         }
     }
 
@@ -48,6 +42,6 @@ impl Ending {
         ensures status { result.status ≡ Status.Memory }
         ensures note { note_bytes result.note ≡ line (codes "out of memory") }
     {
-        Ending::with(Status::Memory, "out of memory\n")
+        Ending::fixed(Status::Memory, FixedNote::OutOfMemory)
     }
 }

@@ -7,16 +7,16 @@ ghost use Rattle.spanner_model.specs.Sound.{IsSound};
 ghost use Rattle.spanner_model.specs.Answers.{AreResultNames};
 ghost use Rattle.query_parser.specs.TestedView.{tested_of};
 ghost use Rattle.rematch_program.specs.Change.{change, work, clock, StandsStill};
-ghost use Rattle.rematch_program.specs.Ending.{note_bytes};
 ghost use Rattle.rematch_program.specs.Explained.{AreCounted, HasLines, IsCounted, atom_at, atoms_among, atoms_in, atoms_of, names_text};
-ghost use Rattle.note_texts.specs.Notes.{line};
+ghost use Rattle.note_texts.specs.Notes.{line, note_bytes};
 ghost use Rattle.rematch_program.specs.Run.{FromPage, IsExplained};
-ghost use Rattle.rematch_program.specs.Testing.{explain_tested, test_text, tests_text};
+ghost use Rattle.rematch_program.specs.Testing.{explain_tested};
 
 use crate::ending::Ending;
+use note_texts::FixedNote;
 use place_automaton::{Counts, count};
-use query_parser::{Asked, Asks, Tested};
-use query_printer::print_query;
+use query_parser::Tested;
+use query_printer::print_tested;
 use rm_outside::{Sink, SinkFailed, Status};
 use span_core::{OutOfMemory, VarSet};
 use spanner_model::{Atom, Expr, Exprs, Query, variables};
@@ -43,8 +43,8 @@ fn put_text<O: Sink>(text: &[u8], out: &mut O) -> Ending
         text.now (line (codes "end")) StandsStill }
 {
     match out.put(text) {
-        Ok(()) => Ending::with(Status::Done, "end\n"),
-        Err(SinkFailed) => Ending::with(Status::Write, "write failed\n"),
+        Ok(()) => Ending::fixed(Status::Done, FixedNote::End),
+        Err(SinkFailed) => Ending::fixed(Status::Write, FixedNote::WriteFailed),
     }
 }
 
@@ -57,41 +57,13 @@ fn explanation(alloc: Global, tested: &Tested) -> Result<Vec<u8>, OutOfMemory>
     let vars = variables(alloc, query)?;
     let mut text = Vec::new(alloc);
     text.extend_from_slice(b"query ")?;
-    print_query(query, &mut text)?;
-    push_tests(&tested.asked, &mut text)?;
+    print_tested(tested, &mut text)?;
     text.extend_from_slice(b"\nvariables ")?;
     push_names(&vars, &mut text)?;
     text.push(b'\n')?;
     let atoms = push_let_atoms(alloc, query, &mut text)?;
     let _all = push_atoms(alloc, &query.body, atoms, &mut text)?;
     Ok(text)
-}
-
-/// Appends the tests, where there are any.
-fn push_tests(asked: &Asks, text: &mut Vec<u8>) -> Result<(), OutOfMemory>
-    ensures { OnOk result (text.new.items ≡ text.old.items ++ tests_text asked.now) }
-{
-    if asked.len() == 0 {
-        return Ok(());
-    }
-    text.extend_from_slice(b" where ")?;
-    push_test(asked.at(0), text)?;
-    for k in 1..asked.len() {
-        text.extend_from_slice(b", ")?;
-        push_test(asked.at(k), text)?;
-    }
-    Ok(())
-}
-
-/// Appends a test.
-fn push_test(asked: &Asked, text: &mut Vec<u8>) -> Result<(), OutOfMemory>
-    ensures { OnOk result (text.new.items ≡ text.old.items ++ test_text asked.now) }
-{
-    text.extend_from_slice(asked.test.as_bytes())?;
-    text.push(b'(')?;
-    text.extend_from_slice(asked.var.as_bytes())?;
-    text.push(b')')?;
-    Ok(())
 }
 
 /// Appends the names with a space between, or the word `none`.
@@ -166,6 +138,7 @@ fn push_parts(
 
 /// Appends the line of an atom, behind so many others, and tells how many there are then. The numbers
 /// of more than 2^64 - 1 atoms are not told: memory would be wanting long before.
+#[inline(never)]
 fn push_atom(
     alloc: Global,
     atom: &Atom,

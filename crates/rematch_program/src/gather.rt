@@ -106,9 +106,9 @@ impl Gather {
         texts: bool,
         out: &mut O,
     ) -> Result<(), SinkFailed>
-        requires lengths { length spans.now ≡ length line.old }
+        requires lengths { length spans.now ≡ length line.old.heads }
         requires inside { IsTrue (list_all (ends_by (length document.now)) spans.now) }
-        requires room { line_room texts spans.now ≤ LINE_ROOM }
+        requires room { line_room texts line.old.heads spans.now ≤ LINE_ROOM }
         ensures line { line.new ≡ line.old }
         ensures ok { OnOk result (Passes self.old (kept_text line.old spans.now document.now texts) self.new (change (O.written out.old) (O.written out.new) (O.faults out.old) (O.faults out.new))) }
         ensures part { OnErr result (AddsPart (change (O.written out.old) (O.written out.new) (O.faults out.old) (O.faults out.new)) (self.old ++ kept_text line.old spans.now document.now texts)) }

@@ -2,6 +2,7 @@
 ghost use Rattle.rematch_program.specs.AsBefore.{FunctionalQueriesAreServedAsBefore};
 ghost use Rattle.rematch_program.specs.Complete.{CompletenessLaw};
 ghost use Rattle.rematch_program.specs.Examples.{NoteExamples, SizeExamples};
+ghost use Rattle.rematch_program.specs.Fetched.{FetchesInOrder, FetchesNothing, FetchesOnce};
 ghost use Rattle.rematch_program.specs.Resume.{PagesResume};
 ghost use Rattle.rematch_program.specs.WithoutTests.{WithoutTests};
 
@@ -24,6 +25,15 @@ pub fn functional_queries_are_served_as_before()
 /// What a run does brings about that it is whole where nothing stands in its way.
 pub fn completeness_follows()
     ensures { CompletenessLaw }
+{}
+
+/// A run fetches the name of its query, where it is asked by name, and then that of the document, where a page is asked for; it may end
+/// before that. No name is fetched twice, unless query and document have the same one. Standard input is fetched once at most, since
+/// words are refused that take both from it.
+pub fn names_are_fetched_once()
+    ensures in_order { FetchesInOrder }
+    ensures once { FetchesOnce }
+    ensures nothing { FetchesNothing }
 {}
 
 /// Worked examples.

@@ -5,8 +5,11 @@
 //! note comes when, in terms of what a query means and never of how it is evaluated.
 #![tactic(auto)]
 
+ghost use Rattle.std.specs.Prelude.{◌≡◌};
+ghost use Rattle.rematch_program.specs.declared.TheConstants.{DOCUMENT_LIMIT, MOST_REQUESTS, QUERY_LIMIT};
+
 pub use all::run_all;
-pub use laws::{completeness_follows, pages_resume, worked_examples};
+pub use laws::{completeness_follows, names_are_fetched_once, pages_resume, worked_examples};
 pub use top::{run, run_tested};
 pub use untested::NoJudge;
 
@@ -16,7 +19,6 @@ mod explanation;
 mod gather;
 mod laws;
 mod lines;
-mod notes;
 mod page;
 mod summary;
 #[cfg(test)]
@@ -32,3 +34,10 @@ pub const DOCUMENT_LIMIT: u64 = 268_435_456;
 
 /// The most requests that are answered in a run that serves.
 pub const MOST_REQUESTS: u64 = 4_294_967_295;
+
+/// The limits, as numbers: a law.
+pub fn limits()
+    ensures query { QUERY_LIMIT ≡ 65536 }
+    ensures document { DOCUMENT_LIMIT ≡ 268435456 }
+    ensures requests { MOST_REQUESTS ≡ 4294967295 }
+{}

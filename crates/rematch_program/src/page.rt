@@ -5,20 +5,22 @@
 ghost use Rattle.std.specs.Prelude.{◌≡◌, ℕ, ◌<◌, ◌≤◌, ◌↔◌, ◌++◌, [], List, Some, length, IsTrue, IsFalse, IfOk, OnOk, OnErr, IsErrOf};
 ghost use Rattle.std.specs.Bool.{OnTrue};
 ghost use Rattle.command_line.specs.Asked.{request_view};
-ghost use Rattle.rematch_program.specs.Ending.{note_bytes};
+ghost use Rattle.note_texts.specs.Notes.{note_bytes};
 ghost use Rattle.rematch_program.specs.Change.{change, clock, work, Adds, AddsPart, Failed, Passes, SoFar};
-ghost use Rattle.rematch_program.specs.Kept.{AreHeads};
+ghost use Rattle.rematch_program.specs.Kept.{kept_of};
+ghost use Rattle.row_writer.specs.Kept.{kept_text};
 ghost use Rattle.rematch_program.specs.Pages.{FitsIf, FitsPage, cursor_given, fewer, last_note, next_cursor, row_if, row_text};
 ghost use Rattle.rematch_program.specs.Run.{FromPage};
 ghost use Rattle.rematch_program.specs.Taking.{PageTaken, coming, page_lines, page_note as note_of_page, page_rows, whole_text};
 ghost use Rattle.rematch_program.specs.declared.page.PageFault.TheVariants as fault;
 
-use crate::ending::{Ending, Note};
+use crate::ending::Ending;
 use crate::gather::{Gather, LINE_ROOM};
-use crate::lines::{kept_line, put_head, put_row};
+use crate::lines::{kept_line, put_head};
 use command_line::Request;
+use note_texts::{FixedNote, Note, NoteLine};
 use rm_outside::{Sink, SinkFailed, Status};
-use row_writer::{KeptLine, kept_room};
+use row_writer::KeptLine;
 use span_core::{OutOfMemory, Row, Steps, VarSet};
 use span_tests::Judge;
 use spanner_engine::TestedRows;
@@ -68,7 +70,7 @@ pub fn write_page<O: Sink, J: Judge, L: Ledger>(
             status: Status::Done,
             note,
         },
-        Err(PageFault::Failed) => Ending::with(Status::Write, "write failed\n"),
+        Err(PageFault::Failed) => Ending::fixed(Status::Write, FixedNote::WriteFailed),
         Err(PageFault::OutOfMemory) => Ending::out_of_memory(),
     }
 }
@@ -80,7 +82,7 @@ fn put_page<O: Sink, J: Judge, L: Ledger>(
     rows: &mut TestedRows<'_, J>,
     out: &mut O,
     steps: &mut Steps<L>,
-) -> Result<Note, PageFault>
+) -> Result<NoteLine, PageFault>
     ensures whole { OnOk result (Adds (change (O.written out.old) (O.written out.new) (O.faults out.old) (O.faults out.new)) (whole_text J.judges rows.old (request_view request.now))) }
     ensures part { OnErr result (AddsPart (change (O.written out.old) (O.written out.new) (O.faults out.old) (O.faults out.new)) (whole_text J.judges rows.old (request_view request.now))) }
     ensures failed { IsErrOf result PageFault.Failed → Failed (change (O.written out.old) (O.written out.new) (O.faults out.old) (O.faults out.new)) }
@@ -92,16 +94,7 @@ fn put_page<O: Sink, J: Judge, L: Ledger>(
     let mut kept = kept_line(alloc, request.form, rows.vars())?;
     put_head(request.form, rows.vars(), &mut line)?;
     gather.add(&line, out)?;
-    let put = put_rows(
-        alloc,
-        request,
-        rows,
-        &mut gather,
-        &mut kept,
-        &mut line,
-        out,
-        steps,
-    );
+    let put = put_rows(request, rows, &mut gather, &mut kept, &mut line, out, steps);
     let end = match put {
         Ok(end) => end,
         Err(fault) => return Err(fault),
@@ -121,21 +114,19 @@ fn page_note(
     vars: &VarSet,
     n: u32,
     end: &PageEnd,
-) -> Result<Note, OutOfMemory>
+) -> Result<NoteLine, OutOfMemory>
     requires fit { FitsIf (length vars.now) n end.now.last }
     ensures { IfOk result (λ note. note_bytes note ≡ last_note vars.now n (cursor_given vars.now n end.now.last (request_view request.now).after) [] end.now.more) }
 {
     if !end.more {
-        return Ok(Note::Line("end\n"));
+        return Ok(NoteLine::Fixed(FixedNote::End));
     }
-    let mut bytes = Vec::new(alloc);
-    bytes.extend_from_slice(b"more ")?;
+    let mut cursor = Vec::new(alloc);
     match &end.last {
-        Some(row) => row_cursor::print(row, vars, n, &mut bytes)?,
-        None => bytes.extend_from_slice(request.after.unwrap_or("start").as_bytes())?,
+        Some(row) => row_cursor::print(row, vars, n, &mut cursor)?,
+        None => cursor.extend_from_slice(request.after.unwrap_or("start").as_bytes())?,
     }
-    bytes.push(b'\n')?;
-    Ok(Note::Made(bytes))
+    NoteLine::of_note(alloc, &Note::More { cursor: &cursor })
 }
 
 /// Where the rows of a page end.
@@ -150,16 +141,15 @@ pub struct PageEnd {
 /// Takes rows up to the limit, one by one, and puts the line of each or lets it wait. The room of the
 /// line before is used again.
 fn put_rows<O: Sink, J: Judge, L: Ledger>(
-    alloc: Global,
     request: &Request<'_>,
     rows: &mut TestedRows<'_, J>,
     gather: &mut Gather,
-    kept: &mut Option<KeptLine>,
+    kept: &mut KeptLine,
     line: &mut Vec<u8>,
     out: &mut O,
     steps: &mut Steps<L>,
 ) -> Result<PageEnd, PageFault>
-    requires heads { AreHeads (request_view request.now).form rows.old.source.names kept.old }
+    requires kept { kept.old ≡ kept_of (request_view request.now).form rows.old.source.names }
     ensures source { rows.new.source ≡ rows.old.source }
     ensures ok { OnOk result (SoFar (O.written out.old) (O.written out.new) gather.new [] (gather.old ++ page_lines J.judges rows.old (request_view request.now))) }
     ensures part { OnErr result (AddsPart (change (O.written out.old) (O.written out.new) (O.faults out.old) (O.faults out.new)) (gather.old ++ page_lines J.judges rows.old (request_view request.now))) }
@@ -180,7 +170,7 @@ fn put_rows<O: Sink, J: Judge, L: Ledger>(
                 more: false,
             });
         }
-        if let Err(fault) = put_line(alloc, request, rows, kept, line, gather, out) {
+        if let Err(fault) = put_line(request, rows, kept, line, gather, out) {
             return Err(fault);
         }
         some = true;
@@ -223,17 +213,16 @@ fn one_fewer(remaining: Option<u64>) -> Option<u64>
 /// Puts the line of the row that was gone to, or lets it wait. It is written where it waits, if its room is there.
 #[inline(always)]
 fn put_line<O: Sink, J: Judge>(
-    alloc: Global,
     request: &Request<'_>,
     rows: &TestedRows<'_, J>,
-    kept: &mut Option<KeptLine>,
+    kept: &mut KeptLine,
     line: &mut Vec<u8>,
     gather: &mut Gather,
     out: &mut O,
 ) -> Result<(), PageFault>
     requires fit { FitsPage (length rows.now.source.names) (length rows.now.source.document) rows.now.row }
-    requires heads { AreHeads (request_view request.now).form rows.now.source.names kept.old }
-    ensures heads { kept.new ≡ kept.old }
+    requires kept { kept.old ≡ kept_of (request_view request.now).form rows.now.source.names }
+    ensures kept { kept.new ≡ kept.old }
     ensures ok { OnOk result (Passes gather.old (row_text (request_view request.now).form (request_view request.now).texts rows.now.source.names rows.now.source.document rows.now.row) gather.new
         (change (O.written out.old) (O.written out.new) (O.faults out.old) (O.faults out.new))) }
     ensures part { OnErr result (AddsPart (change (O.written out.old) (O.written out.new) (O.faults out.old) (O.faults out.new))
@@ -241,46 +230,49 @@ fn put_line<O: Sink, J: Judge>(
     ensures failed { IsErrOf result PageFault.Failed → Failed (change (O.written out.old) (O.written out.new) (O.faults out.old) (O.faults out.new)) }
     ensures later { O.faults out.old ≤ O.faults out.new }
 {
-    if let Some(kept) = kept {
-        let (_few, spans) = (rows.vars().len(), rows.spans());
-        if kept_room(spans, request.texts) <= LINE_ROOM {
-            return match gather.add_row(kept, spans, rows.document(), request.texts, out) {
-                Ok(()) => Ok(()),
-                Err(SinkFailed) => Err(PageFault::Failed),
-            };
-        }
+    let (_few, spans) = (rows.vars().len(), rows.spans());
+    if kept.room(spans, request.texts) <= LINE_ROOM {
+        return match gather.add_row(kept, spans, rows.document(), request.texts, out) {
+            Ok(()) => Ok(()),
+            Err(SinkFailed) => Err(PageFault::Failed),
+        };
     }
-    put_apart(alloc, request, rows, line, gather, out)
+    put_apart(request.texts, rows, kept, line, gather, out)
 }
 
-/// Puts the line of a row, or lets it wait, after it is made in the room of the line before it.
+/// Puts the line of a row, or lets it wait, after it is written in the room of the long line before it.
 #[inline(never)]
 fn put_apart<O: Sink, J: Judge>(
-    alloc: Global,
-    request: &Request<'_>,
+    texts: bool,
     rows: &TestedRows<'_, J>,
+    kept: &mut KeptLine,
     line: &mut Vec<u8>,
     gather: &mut Gather,
     out: &mut O,
 ) -> Result<(), PageFault>
     requires fit { FitsPage (length rows.now.source.names) (length rows.now.source.document) rows.now.row }
-    ensures ok { OnOk result (Passes gather.old (row_text (request_view request.now).form (request_view request.now).texts rows.now.source.names rows.now.source.document rows.now.row) gather.new
+    requires width { length rows.now.source.names ≡ length kept.old.heads }
+    ensures kept { kept.new ≡ kept.old }
+    ensures ok { OnOk result (Passes gather.old (kept_text kept.old rows.now.row rows.now.source.document texts) gather.new
         (change (O.written out.old) (O.written out.new) (O.faults out.old) (O.faults out.new))) }
     ensures part { OnErr result (AddsPart (change (O.written out.old) (O.written out.new) (O.faults out.old) (O.faults out.new))
-        (gather.old ++ row_text (request_view request.now).form (request_view request.now).texts rows.now.source.names rows.now.source.document rows.now.row)) }
+        (gather.old ++ kept_text kept.old rows.now.row rows.now.source.document texts)) }
     ensures failed { IsErrOf result PageFault.Failed → Failed (change (O.written out.old) (O.written out.new) (O.faults out.old) (O.faults out.new)) }
     ensures later { O.faults out.old ≤ O.faults out.new }
 {
-    line.clear();
-    put_row(
-        alloc,
-        request.form,
-        request.texts,
-        rows.vars(),
-        rows.document(),
-        &rows.row(),
-        line,
-    )?;
-    gather.add(line, out)?;
+    let (_few, spans) = (rows.vars().len(), rows.spans());
+    make_room(line, kept.room(spans, texts))?;
+    let end = kept.put(spans, rows.document(), texts, line.as_mut_slice(), 0);
+    gather.add(&line[..end], out)?;
+    Ok(())
+}
+
+/// Makes the bytes so many at least.
+fn make_room(bytes: &mut Vec<u8>, room: usize) -> Result<(), OutOfMemory>
+    ensures { OnOk result (room ≤ length bytes.new.items) }
+{
+    if bytes.len() < room {
+        bytes.resize(room, 0)?;
+    }
     Ok(())
 }

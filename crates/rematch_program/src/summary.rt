@@ -2,8 +2,7 @@
 ghost use Rattle.std.specs.Prelude.{◌≡◌, ℕ, ◌≤◌, ◌++◌, ◌^◌, ◌-◌, codes, length, min, slice_get, None, IfOk, IfSome, OnOk};
 ghost use Rattle.spanner_model.specs.Answers.{page_end};
 ghost use Rattle.rematch_program.specs.Change.{change, work, clock};
-ghost use Rattle.rematch_program.specs.Ending.{note_bytes};
-ghost use Rattle.note_texts.specs.Notes.{line};
+ghost use Rattle.note_texts.specs.Notes.{line, note_bytes};
 ghost use Rattle.rematch_program.specs.Pages.{FitsPage};
 ghost use Rattle.rematch_program.specs.Run.{FromPage};
 ghost use Rattle.rematch_program.specs.Taking.{AllTaken, coming};
@@ -11,6 +10,7 @@ ghost use Rattle.rematch_program.specs.Trials.{last_of, summary_row, trial_summa
 ghost use Rattle.trial_maker.specs.Summary.{number_line, row_line};
 
 use crate::ending::Ending;
+use note_texts::FixedNote;
 use rm_outside::{Sink, SinkFailed, Status};
 use row_writer::spans_line;
 use span_core::{OutOfMemory, Row, Steps, VarSet};
@@ -39,8 +39,8 @@ pub fn write_summary<O: Sink, J: Judge, L: Ledger>(
         Err(OutOfMemory) => return Ending::out_of_memory(),
     };
     match out.put(&text) {
-        Ok(()) => Ending::with(Status::Done, "end\n"),
-        Err(SinkFailed) => Ending::with(Status::Write, "write failed\n"),
+        Ok(()) => Ending::fixed(Status::Done, FixedNote::End),
+        Err(SinkFailed) => Ending::fixed(Status::Write, FixedNote::WriteFailed),
     }
 }
 

@@ -3,7 +3,7 @@ ghost use Rattle.std.specs.Prelude.{◌≡◌, ◌<◌};
 
 use crate::run;
 use rm_outside::{MemoryShelf, MemorySink, Status};
-use span_core::Steps;
+use span_core::{OutOfMemory, Steps};
 use std::alloc::Global;
 use std::marker::Brand;
 use std::sync::ledger::{Blank, Ledger};
@@ -388,14 +388,14 @@ fn runs<L: Ledger>(
     mut shelf: MemoryShelf,
     mut out: MemorySink,
     mut notes: MemorySink,
-) -> (Status, MemorySink, MemorySink)
+) -> (Status, MemorySink, MemorySink, MemoryShelf)
     requires name { blank.name ≡ L.name }
     requires parts { blank.parts ≡ L.parts }
     requires some { 0 < L.parts }
 {
     let mut steps = Steps::<L>::new(blank);
     let status = run(alloc, words, &mut shelf, &mut out, &mut notes, &mut steps);
-    (status, out, notes)
+    (status, out, notes, shelf)
 }
 
 #[test]
@@ -607,6 +607,38 @@ fn faults(rt: HostRuntime) -> Result<(), Fail> {
         assert_eq!(rt; ended.0, status, "at {line}");
         assert_eq!(rt; ended.1.bytes(), out.as_bytes(), "at {line}");
         assert_eq!(rt; ended.2.bytes(), notes.as_bytes(), "at {line}");
+    }
+    Ok(())
+}
+
+/// Words, and the names that are fetched. The shelf holds no name E.
+const FETCHED: [(&str, &[&str]); 10] = [
+    ("-e~/!x{a}/~D", &["D"]),
+    ("-e~/!x{a}/~E", &["E"]),
+    ("-q~Q~D", &["Q", "D"]),
+    ("-q~Q~Q", &["Q", "Q"]),
+    ("-q~E~D", &["E"]),
+    ("-q~Q~--explain", &["Q"]),
+    ("-q~Q~--trial~3", &["Q"]),
+    ("-e~/!x{a}/~--explain", &[]),
+    ("-e~/a**/~D", &[]),
+    ("-e~/!x{a}/~-a~x~D", &[]),
+];
+
+#[test]
+fn fetched_names(rt: HostRuntime) -> Result<(), Fail> {
+    let alloc = rt.alloc();
+    for (line, names) in FETCHED {
+        let words = words_of(alloc, line)?;
+        let shelf = shelf_of(alloc, b"aa", Vec::new(alloc))?;
+        let out = sink_of(alloc, Vec::new(alloc))?;
+        let notes = sink_of(alloc, Vec::new(alloc))?;
+        let ended = runs::<Brand>(alloc, Blank::new(1), &words, shelf, out, notes);
+        let fetched = ended.3.fetched().ok_or(OutOfMemory)?;
+        assert_eq!(rt; fetched.len(), names.len(), "at {line}");
+        for (told, name) in fetched.iter().zip(names) {
+            assert_eq!(rt; told.as_str(), *name, "at {line}");
+        }
     }
     Ok(())
 }

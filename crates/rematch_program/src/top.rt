@@ -2,10 +2,9 @@
 //!
 //! One function a stage, each with the type of its stage in `specs/Run.antt` as its one clause; a stage either ends the
 //! run with a status and a note or hands what it has to the next.
-ghost use Rattle.std.specs.Prelude.{◌≡◌, ◌≤◌, ◌⊎◌, ℕ, List, None, map, string_bytes, length, true, IfErr, IfOk, IfSome, IsErrOf, OnOk};
+ghost use Rattle.std.specs.Prelude.{◌≡◌, ◌≤◌, ◌⊎◌, None, map, string_bytes, length, true, IfErr, IfOk, IfSome, IsErrOf, OnOk};
 ghost use Rattle.std.specs.Bool.{OnFalse};
 ghost use Rattle.std.specs.Option.{option_copied};
-ghost use Rattle.rm_outside.specs.Faults.{Rose};
 ghost use Rattle.rm_outside.specs.Shelf.{ByLength};
 ghost use Rattle.command_line.specs.Asked.{request_view};
 ghost use Rattle.spanner_model.specs.ExprView.{query_of};
@@ -19,25 +18,23 @@ ghost use Rattle.spanner_engine.specs.Left.{AreLeft};
 ghost use Rattle.spanner_engine.specs.Passing.{AreKnown, checks_of, known};
 ghost use Rattle.trial_maker.specs.Trial.{trial_text};
 ghost use Rattle.command_line.specs.declared.TheConstants.{MOST_TRIAL_LINES};
-ghost use Rattle.rematch_program.specs.Ending.{note_bytes};
 ghost use Rattle.rematch_program.specs.declared.TheConstants.{DOCUMENT_LIMIT};
 ghost use Rattle.rematch_program.specs.Change.{change, clock, work};
-ghost use Rattle.note_texts.specs.Notes.{fault_note as fault_text, filter_note as filter_text, table_note as table_text};
-ghost use Rattle.rematch_program.specs.Notes.{other_document_note as other_document_text};
+ghost use Rattle.note_texts.specs.Notes.{fault_note, note_bytes, size_note};
 ghost use Rattle.rematch_program.specs.Steps.{KeepsWithin};
 ghost use Rattle.rematch_program.specs.Pages.{CursorFits, HasWidth, IsAfter};
 ghost use Rattle.rematch_program.specs.Complete.{Completes};
-ghost use Rattle.rematch_program.specs.Run.{FromAsked, FromCursor, FromDocument, FromPlace, FromQuery, FromText, FromWords, Gives, Is, IsNotBegun, IsOutOfMemory, IsTooLarge, Reports, Run, RunTested, none_known, store};
+ghost use Rattle.rematch_program.specs.Run.{FetchFailed, Fetches, FromAsked, FromCursor, FromDocument, FromPlace, FromQuery, FromText, FromWords, Gives, Is, IsNotBegun, IsOutOfMemory, IsTooLarge, Reports, Run, RunTested, none_known, store};
 
 use crate::ending::Ending;
 use crate::explanation::write_explanation;
-use crate::notes::{fault_line, filter_line, other_document_line, table_line};
 use crate::page::write_page;
 use crate::summary::write_summary;
 use crate::untested::NoJudge;
 use crate::{DOCUMENT_LIMIT, QUERY_LIMIT};
 use command_line::{Mode, QuerySource, Request, WordsFault, read_request};
 use marked_automaton::SizeFault;
+use note_texts::{FixedNote, Note};
 use query_parser::{QueryFault, Tested, read_tested};
 use rm_outside::{FetchFault, Shelf, Sink, Status};
 use row_cursor::CursorFault;
@@ -59,13 +56,13 @@ pub fn run<S: Shelf, O: Sink, N: Sink, L: Ledger>(
     steps: &mut Steps<L>,
 ) -> Status
     ensures run { Run (map string_bytes words.now)
-        (store (S.held shelf.old) (S.faults shelf.old) (S.faults shelf.new))
+        (store (S.told shelf.old) (S.told shelf.new))
         (change (O.written out.old) (O.written out.new) (O.faults out.old) (O.faults out.new))
         (change (N.written notes.old) (N.written notes.new) (N.faults notes.old) (N.faults notes.new))
         (clock steps.old steps.new)
         result }
     ensures complete { Completes none_known (map string_bytes words.now)
-        (store (S.held shelf.old) (S.faults shelf.old) (S.faults shelf.new))
+        (store (S.told shelf.old) (S.told shelf.new))
         (change (O.written out.old) (O.written out.new) (O.faults out.old) (O.faults out.new))
         (change (N.written notes.old) (N.written notes.new) (N.faults notes.old) (N.faults notes.new))
         result }
@@ -76,11 +73,14 @@ pub fn run<S: Shelf, O: Sink, N: Sink, L: Ledger>(
 
 /// Runs the program on the words after its name, with the tests that its queries may ask.
 ///
+/// The query is fetched where the words name it, once and before all else; the document once, after all that can be decided without it,
+/// and only for a page. No other name is.
+///
 /// The first of these steps that cannot be taken decides the status: the words, the fetch of the
 /// query, its text and the names of its tests, the sizes of its automata, the cursor's text, the fetch of the document, the cursor's
 /// length or place, the filter, the table, the page. Want of memory may stand in place of any of them. Until the page is begun out gets
 /// nothing. The work done, notes gets one line. The page has the answers for which all tests of the query hold. It is put on out in whole
-/// lines, as many at once as fit 65,536 bytes; a line that is longer is put alone, and no put is empty.
+/// lines, as many at once as fit 65,536 bytes; a line that is longer is put alone, and no put is empty (tested).
 ///
 /// The counter stands still until the document is read. The filter, the building, the place of the cursor
 /// and the rows then take at most the steps that are stated; each answer that is tried takes one for each test beside its own.
@@ -94,13 +94,13 @@ pub fn run_tested<S: Shelf, O: Sink, N: Sink, J: Judge, L: Ledger>(
     steps: &mut Steps<L>,
 ) -> Status
     ensures run { RunTested (known tests.now J.judges) (map string_bytes words.now)
-        (store (S.held shelf.old) (S.faults shelf.old) (S.faults shelf.new))
+        (store (S.told shelf.old) (S.told shelf.new))
         (change (O.written out.old) (O.written out.new) (O.faults out.old) (O.faults out.new))
         (change (N.written notes.old) (N.written notes.new) (N.faults notes.old) (N.faults notes.new))
         (clock steps.old steps.new)
         result }
     ensures complete { Completes (known tests.now J.judges) (map string_bytes words.now)
-        (store (S.held shelf.old) (S.faults shelf.old) (S.faults shelf.new))
+        (store (S.told shelf.old) (S.told shelf.new))
         (change (O.written out.old) (O.written out.new) (O.faults out.old) (O.faults out.new))
         (change (N.written notes.old) (N.written notes.new) (N.faults notes.old) (N.faults notes.new))
         result }
@@ -130,13 +130,13 @@ fn with_words<S: Shelf, O: Sink, J: Judge, L: Ledger>(
     out: &mut O,
     steps: &mut Steps<L>,
 ) -> Ending
-    ensures case { FromWords (store (S.held shelf.old) (S.faults shelf.old) (S.faults shelf.new))
+    ensures case { FromWords (store (S.told shelf.old) (S.told shelf.new))
         (work (change (O.written out.old) (O.written out.new) (O.faults out.old) (O.faults out.new)) (clock steps.old steps.new))
         result.status (note_bytes result.note) (known tests.now J.judges) (map string_bytes words.now) }
 {
     match read_request(alloc, words) {
         Ok(request) => with_request(alloc, &request, tests, shelf, out, steps),
-        Err(WordsFault::Refused) => Ending::with(Status::Words, "bad command line\n"),
+        Err(WordsFault::Refused) => Ending::fixed(Status::Words, FixedNote::BadCommandLine),
         Err(WordsFault::OutOfMemory) => Ending::out_of_memory(),
     }
 }
@@ -150,7 +150,7 @@ fn with_request<S: Shelf, O: Sink, J: Judge, L: Ledger>(
     out: &mut O,
     steps: &mut Steps<L>,
 ) -> Ending
-    ensures case { FromAsked (store (S.held shelf.old) (S.faults shelf.old) (S.faults shelf.new))
+    ensures case { FromAsked (store (S.told shelf.old) (S.told shelf.new))
         (work (change (O.written out.old) (O.written out.new) (O.faults out.old) (O.faults out.new)) (clock steps.old steps.new))
         result.status (note_bytes result.note) (known tests.now J.judges) (request_view request.now) }
 {
@@ -162,10 +162,12 @@ fn with_request<S: Shelf, O: Sink, J: Judge, L: Ledger>(
     };
     match fetch_all(alloc, shelf, name, QUERY_LIMIT) {
         Ok(text) => with_text(alloc, request, &text, tests, shelf, out, steps),
-        Err(FetchFault::Failed) => Ending::with(Status::Read, "read failed: query\n"),
-        Err(FetchFault::TooLong { seen: _ }) => {
-            Ending::with(Status::Query, "query: longer than 65536 bytes\n")
-        }
+        Err(FetchFault::Failed) => Ending::fixed(Status::Read, FixedNote::QueryUnread),
+        Err(FetchFault::TooLong { seen: _ }) => Ending::with(
+            alloc,
+            Status::Query,
+            &Note::QueryTooLong { most: QUERY_LIMIT },
+        ),
         Err(FetchFault::OutOfMemory) => Ending::out_of_memory(),
     }
 }
@@ -180,7 +182,7 @@ fn with_text<S: Shelf, O: Sink, J: Judge, L: Ledger>(
     out: &mut O,
     steps: &mut Steps<L>,
 ) -> Ending
-    ensures case { FromText (store (S.held shelf.old) (S.faults shelf.old) (S.faults shelf.new))
+    ensures case { FromText (store (S.told shelf.old) (S.told shelf.new))
         (work (change (O.written out.old) (O.written out.new) (O.faults out.old) (O.faults out.new)) (clock steps.old steps.new))
         result.status (note_bytes result.note) (known tests.now J.judges) (request_view request.now) text.now }
 {
@@ -196,18 +198,12 @@ fn with_text<S: Shelf, O: Sink, J: Judge, L: Ledger>(
 
 /// The query's text has a fault, which the note tells.
 fn refused(alloc: Global, fault: QueryFault) -> Ending
-    ensures { ((¬ (fault ≡ QueryFault.OutOfMemory)) × Is result.status (note_bytes result.note) Status.Query (fault_text fault)) ⊎ IsOutOfMemory result.status (note_bytes result.note) }
+    ensures { ((¬ (fault ≡ QueryFault.OutOfMemory)) × Is result.status (note_bytes result.note) Status.Query (fault_note fault)) ⊎ IsOutOfMemory result.status (note_bytes result.note) }
 {
     if wants_memory(&fault) {
         return Ending::out_of_memory();
     }
-    match fault_line(alloc, &fault) {
-        Ok(note) => Ending {
-            status: Status::Query,
-            note,
-        },
-        Err(_) => Ending::out_of_memory(),
-    }
+    Ending::with(alloc, Status::Query, &Note::Query(&fault))
 }
 
 fn wants_memory(fault: &QueryFault) -> bool
@@ -228,7 +224,7 @@ fn with_query<S: Shelf, O: Sink, J: Judge, L: Ledger>(
 ) -> Ending
     requires sound { IsSound (query_of tested.now.query) }
     requires bound { AreKnown (known tests.now J.judges) tested.now.asked }
-    ensures case { FromQuery (store (S.held shelf.old) (S.faults shelf.old) (S.faults shelf.new))
+    ensures case { FromQuery (store (S.told shelf.old) (S.told shelf.new))
         (work (change (O.written out.old) (O.written out.new) (O.faults out.old) (O.faults out.new)) (clock steps.old steps.new))
         result.status (note_bytes result.note) (request_view request.now) (tested_of tested.now) (checks_of (known tests.now J.judges) tested.now.asked) }
 {
@@ -280,16 +276,24 @@ fn compiled_query<'q>(alloc: Global, query: &'q Query) -> Result<Compiled<'q>, E
 {
     match compile(alloc, query) {
         Ok(compiled) => Ok(compiled),
-        Err(SizeFault::States { count: _ }) => Err(Ending::with(
-            Status::Size,
-            "size: more than 20000 states\n",
-        )),
-        Err(SizeFault::Ways { count: _ }) => Err(Ending::with(
-            Status::Size,
-            "size: more than 2000000 ways\n",
-        )),
-        Err(SizeFault::OutOfMemory) => Err(Ending::out_of_memory()),
+        Err(fault) => Err(too_large(alloc, &fault)),
     }
+}
+
+/// An automaton of the query is too large, which the note tells.
+fn too_large(alloc: Global, fault: &SizeFault) -> Ending
+    ensures { ((¬ (fault.now ≡ SizeFault.OutOfMemory)) × Is result.status (note_bytes result.note) Status.Size (size_note fault.now)) ⊎ IsOutOfMemory result.status (note_bytes result.note) }
+{
+    if size_wants_memory(fault) {
+        return Ending::out_of_memory();
+    }
+    Ending::with(alloc, Status::Size, &Note::Size(fault))
+}
+
+fn size_wants_memory(fault: &SizeFault) -> bool
+    ensures { OnFalse result (¬ (fault.now ≡ SizeFault.OutOfMemory)) }
+{
+    matches!(fault, SizeFault::OutOfMemory)
 }
 
 /// The cursor is read.
@@ -307,7 +311,7 @@ fn with_cursor<S: Shelf, O: Sink, J: Judge, L: Ledger>(
     requires bound { AreKnown (known asking.now.tests.now J.judges) asking.now.tested.now.asked }
     ensures case { FromCursor (request_view request.now) (query_of asking.now.compiled.query) (checks_of (known asking.now.tests.now J.judges) asking.now.tested.now.asked)
         (work (change (O.written out.old) (O.written out.new) (O.faults out.old) (O.faults out.new)) (clock steps.old steps.new))
-        result.status (note_bytes result.note) (store (S.held shelf.old) (S.faults shelf.old) (S.faults shelf.new)) asking.now.compiled.automaton.names }
+        result.status (note_bytes result.note) (store (S.told shelf.old) (S.told shelf.new)) asking.now.compiled.automaton.names }
 {
     let text = match request.after {
         Some(text) => text,
@@ -315,8 +319,8 @@ fn with_cursor<S: Shelf, O: Sink, J: Judge, L: Ledger>(
     };
     match row_cursor::read(text.as_bytes(), asking.compiled.vars()) {
         Ok(kept) => with_place(alloc, request, asking, Some(&kept), shelf, out, steps),
-        Err(CursorFault::Syntax) => Ending::with(Status::Cursor, "cursor: not a cursor\n"),
-        Err(CursorFault::Variables) => Ending::with(Status::Cursor, "cursor: other variables\n"),
+        Err(CursorFault::Syntax) => Ending::fixed(Status::Cursor, FixedNote::NotACursor),
+        Err(CursorFault::Variables) => Ending::fixed(Status::Cursor, FixedNote::OtherVariables),
     }
 }
 
@@ -337,14 +341,18 @@ fn with_place<S: Shelf, O: Sink, J: Judge, L: Ledger>(
     requires after { IsAfter asking.now.compiled.automaton.names (request_view request.now).after (option_copied after) }
     ensures case { FromPlace (request_view request.now) (query_of asking.now.compiled.query) (checks_of (known asking.now.tests.now J.judges) asking.now.tested.now.asked)
         (work (change (O.written out.old) (O.written out.new) (O.faults out.old) (O.faults out.new)) (clock steps.old steps.new))
-        result.status (note_bytes result.note) (store (S.held shelf.old) (S.faults shelf.old) (S.faults shelf.new)) asking.now.compiled.automaton.names (option_copied after.entry) }
+        result.status (note_bytes result.note) (store (S.told shelf.old) (S.told shelf.new)) asking.now.compiled.automaton.names (option_copied after.entry) }
 {
     match fetch_all(alloc, shelf, request.document, DOCUMENT_LIMIT) {
         Ok(document) => with_document(alloc, request, asking, after, &document, out, steps),
-        Err(FetchFault::Failed) => Ending::with(Status::Read, "read failed: document\n"),
-        Err(FetchFault::TooLong { seen: _ }) => {
-            Ending::with(Status::Long, "document longer than 268435456 bytes\n")
-        }
+        Err(FetchFault::Failed) => Ending::fixed(Status::Read, FixedNote::DocumentUnread),
+        Err(FetchFault::TooLong { seen: _ }) => Ending::with(
+            alloc,
+            Status::Long,
+            &Note::DocumentTooLong {
+                most: DOCUMENT_LIMIT,
+            },
+        ),
         Err(FetchFault::OutOfMemory) => Ending::out_of_memory(),
     }
 }
@@ -466,53 +474,30 @@ fn begun<L: Ledger>(
     };
     match begin(alloc, compiled, document, after, options, steps) {
         Ok(answers) => Ok(answers),
-        Err(BeginFault::CursorOther { kept, found }) => Err(of_another(alloc, kept, found)),
-        Err(BeginFault::CursorPlace) => Err(Ending::with(
+        Err(BeginFault::CursorOther { kept, found }) => Err(Ending::with(
+            alloc,
             Status::Cursor,
-            "cursor: past the document\n",
+            &Note::OtherDocument { kept, found },
         )),
-        Err(BeginFault::Filter { weight: _ }) => { Err(past_filter(alloc, request.max_table)) }
-        Err(BeginFault::Table { weight: _ }) => { Err(past_table(alloc, request.max_table)) }
+        Err(BeginFault::CursorPlace) => Err(Ending::fixed(
+            Status::Cursor,
+            FixedNote::PastTheDocument,
+        )),
+        Err(BeginFault::Filter { weight: _ }) => Err(Ending::with(
+            alloc,
+            Status::Size,
+            &Note::Filter {
+                limit: request.max_table,
+            },
+        )),
+        Err(BeginFault::Table { weight: _ }) => Err(Ending::with(
+            alloc,
+            Status::Size,
+            &Note::Table {
+                limit: request.max_table,
+            },
+        )),
         Err(BeginFault::OutOfMemory) => Err(Ending::out_of_memory()),
-    }
-}
-
-/// The cursor is that of a document of `kept` bytes, and this one has `found`.
-fn of_another(alloc: Global, kept: u32, found: u32) -> Ending
-    ensures { Is result.status (note_bytes result.note) Status.Cursor (other_document_text kept found) ⊎ IsOutOfMemory result.status (note_bytes result.note) }
-{
-    match other_document_line(alloc, kept, found) {
-        Ok(note) => Ending {
-            status: Status::Cursor,
-            note,
-        },
-        Err(OutOfMemory) => Ending::out_of_memory(),
-    }
-}
-
-/// The filter weighs more than the limit, which the note tells.
-fn past_filter(alloc: Global, limit: u64) -> Ending
-    ensures { Is result.status (note_bytes result.note) Status.Size (filter_text limit) ⊎ IsOutOfMemory result.status (note_bytes result.note) }
-{
-    match filter_line(alloc, limit) {
-        Ok(note) => Ending {
-            status: Status::Size,
-            note,
-        },
-        Err(OutOfMemory) => Ending::out_of_memory(),
-    }
-}
-
-/// The table weighs more than the limit, which the note tells.
-fn past_table(alloc: Global, limit: u64) -> Ending
-    ensures { Is result.status (note_bytes result.note) Status.Size (table_text limit) ⊎ IsOutOfMemory result.status (note_bytes result.note) }
-{
-    match table_line(alloc, limit) {
-        Ok(note) => Ending {
-            status: Status::Size,
-            note,
-        },
-        Err(OutOfMemory) => Ending::out_of_memory(),
     }
 }
 
@@ -523,11 +508,10 @@ fn fetch_all<S: Shelf>(
     name: &str,
     limit: u64,
 ) -> Result<Vec<u8>, FetchFault>
-    ensures gives { IfOk result (λ bytes. Gives (store (S.held shelf.old) (S.faults shelf.old) (S.faults shelf.new)) name.now limit bytes.items) }
-    ensures by_length { IfSome (S.held shelf.old name.now) (λ all. ByLength limit (length all) result) }
-    ensures kept { S.held shelf.new ≡ S.held shelf.old }
-    ensures later { (n : List ℕ) → S.faults shelf.old n ≤ S.faults shelf.new n }
-    ensures failed { IsErrOf result FetchFault.Failed → Rose (S.faults shelf.old name.now) (S.faults shelf.new name.now) }
+    ensures once { Fetches (store (S.told shelf.old) (S.told shelf.new)) name.now }
+    ensures gives { IfOk result (λ bytes. Gives (store (S.told shelf.old) (S.told shelf.new)) name.now limit bytes.items) }
+    ensures by_length { IfSome ((S.told shelf.old).held name.now) (λ all. ByLength limit (length all) result) }
+    ensures failed { IsErrOf result FetchFault.Failed → FetchFailed (store (S.told shelf.old) (S.told shelf.new)) name.now }
 {
     let mut bytes = Vec::new(alloc);
     match shelf.fetch(name, limit, &mut bytes) {

@@ -1,7 +1,8 @@
 //! The opener of the system's files, and the shelf over it.
-ghost use Rattle.std.specs.Prelude.{◌≡◌, ◌≤◌, ◌+◌, ℕ, None};
+ghost use Rattle.std.specs.Prelude.{◌≡◌, ◌≤◌, ◌+◌, ℕ};
 ghost use Rattle.rm_outside.specs.Faults.{counted};
 ghost use Rattle.rm_outside.specs.Sink.{CountsErr};
+ghost use Rattle.rm_outside.specs.Told.{counts_alone};
 
 use crate::open_shelf::OpenShelf;
 use crate::opens::Opens;
@@ -12,7 +13,7 @@ use std::rt::Files;
 
 /// A shelf of the system's files. A name is a path, and `-` is standard input.
 ///
-/// It tells no content. Its fetch fails where the system refuses to open or to read what has that
+/// It tells no content and no names. Its fetch fails where the system refuses to open or to read what has that
 /// name, a read that a signal interrupts among these, and there is one count of faults for all names.
 pub type FileShelf<'a, R> = OpenShelf<SystemFiles<'a, R>>;
 
@@ -46,9 +47,7 @@ impl<I: Read, F: Read> Read for SystemFile<I, F> {
 impl<R: Files + Input> Opens for SystemFiles<'_, R> {
     type Opened = SystemFile<R::Reader, R::File>;
 
-    ghost held = { λ _ _. None };
-
-    ghost faults = { λ s _. s.faults };
+    ghost told = { λ s. counts_alone s.faults };
 
     fn open(&mut self, name: &str) -> io::Result<SystemFile<R::Reader, R::File>> {
         if name == "-" {

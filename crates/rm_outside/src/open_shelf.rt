@@ -1,7 +1,8 @@
 //! A shelf over whatever opens names.
-ghost use Rattle.std.specs.Prelude.{◌≡◌, ◌≤◌, ◌++◌, ℕ, List, None, Some, OnOk, OnErr, IfSome, IsErrOf, length, take, vec_len};
+ghost use Rattle.std.specs.Prelude.{◌≡◌, ◌≤◌, ◌++◌, ℕ, List, [], ◌∷◌, None, Some, OnOk, OnErr, IfSome, IsErrOf, length, take, vec_len};
 ghost use Rattle.rm_outside.specs.Faults.{Rose};
 ghost use Rattle.rm_outside.specs.Shelf.{Gains, SeenPast, ByLength, CountsFailure};
+ghost use Rattle.rm_outside.specs.Told.{GrewBy, counts_alone};
 
 use crate::opens::Opens;
 use crate::{FetchFault, Shelf};
@@ -11,8 +12,8 @@ const PIECE: usize = 65536;
 
 /// A shelf whose names are opened, and then read to their end.
 ///
-/// What it holds is told where the opener tells it, and its count of faults is the opener's, so that
-/// no fetch fails but by a call of the opener that failed.
+/// What it tells is what the opener tells: its count of faults is the opener's, so that no fetch fails
+/// but by a call of the opener that failed, and a fetch opens its name once.
 #[derive(Drop)]
 pub struct OpenShelf<O> {
     pub(crate) opens: O,
@@ -28,22 +29,21 @@ impl<O: Opens> OpenShelf<O> {
 }
 
 impl<O: Opens> Shelf for OpenShelf<O> {
-    ghost held = { λ s. O.held s.opens };
-
-    ghost faults = { λ s. O.faults s.opens };
+    ghost told = { λ s. O.told s.opens };
 
     fn fetch(&mut self, name: &str, limit: u64, into: &mut Vec<u8>) -> Result<(), FetchFault>
         ensures gains { OnOk result (Gains limit into.old.items into.new.items) }
-        ensures whole { OnOk result (IfSome (O.held self.old.opens name.now) (λ bytes. into.new.items ≡ into.old.items ++ bytes)) }
+        ensures whole { OnOk result (IfSome ((O.told self.old.opens).held name.now) (λ bytes. into.new.items ≡ into.old.items ++ bytes)) }
         ensures refused { OnErr result (into.new.items ≡ into.old.items) }
         ensures seen { SeenPast limit result }
-        ensures by_length { IfSome (O.held self.old.opens name.now) (λ bytes. ByLength limit (length bytes) result) }
-        ensures kept { O.held self.new.opens ≡ O.held self.old.opens }
-        ensures later { (n : List ℕ) → O.faults self.old.opens n ≤ O.faults self.new.opens n }
-        ensures failed { IsErrOf result FetchFault.Failed → Rose (O.faults self.old.opens name.now) (O.faults self.new.opens name.now) }
+        ensures by_length { IfSome ((O.told self.old.opens).held name.now) (λ bytes. ByLength limit (length bytes) result) }
+        ensures kept { (O.told self.new.opens).held ≡ (O.told self.old.opens).held }
+        ensures later { (n : List ℕ) → (O.told self.old.opens).faults n ≤ (O.told self.new.opens).faults n }
+        ensures failed { IsErrOf result FetchFault.Failed → Rose ((O.told self.old.opens).faults name.now) ((O.told self.new.opens).faults name.now) }
+        ensures fetched { GrewBy (name.now ∷ []) (O.told self.old.opens).fetched (O.told self.new.opens).fetched }
 
         // The name's count rises at a failure alone.
-        ensures count { CountsFailure (O.faults self.old.opens name.now) (O.faults self.new.opens name.now) result }
+        ensures count { CountsFailure ((O.told self.old.opens).faults name.now) ((O.told self.new.opens).faults name.now) result }
     {
         match self.opens.open(name) {
             Ok(mut opened) => read_whole(&mut self.opens, name, &mut opened, limit, into),
@@ -65,9 +65,10 @@ fn read_whole<O: Opens>(
     ensures refused { OnErr result (into.new.items ≡ into.old.items) }
     ensures seen { SeenPast limit result }
     ensures by_length { IfSome (O.Opened.remaining opened.old) (λ bytes. ByLength limit (length bytes) result) }
-    ensures kept { O.held opens.new ≡ O.held opens.old }
-    ensures later { (n : List ℕ) → O.faults opens.old n ≤ O.faults opens.new n }
-    ensures count { CountsFailure (O.faults opens.old name.now) (O.faults opens.new name.now) result }
+    ensures kept { (O.told opens.new).held ≡ (O.told opens.old).held }
+    ensures later { (n : List ℕ) → (O.told opens.old).faults n ≤ (O.told opens.new).faults n }
+    ensures count { CountsFailure ((O.told opens.old).faults name.now) ((O.told opens.new).faults name.now) result }
+    ensures no_other { (O.told opens.new).fetched ≡ (O.told opens.old).fetched }
 {
     let start = into.len();
     let result = read_pieces(opens, name, opened, limit, into);
@@ -90,9 +91,10 @@ fn read_pieces<O: Opens>(
     ensures refused { OnErr result (take (vec_len into.old) into.new.items ≡ into.old.items) }
     ensures seen { SeenPast limit result }
     ensures by_length { IfSome (O.Opened.remaining opened.old) (λ bytes. ByLength limit (length bytes) result) }
-    ensures kept { O.held opens.new ≡ O.held opens.old }
-    ensures later { (n : List ℕ) → O.faults opens.old n ≤ O.faults opens.new n }
-    ensures count { CountsFailure (O.faults opens.old name.now) (O.faults opens.new name.now) result }
+    ensures kept { (O.told opens.new).held ≡ (O.told opens.old).held }
+    ensures later { (n : List ℕ) → (O.told opens.old).faults n ≤ (O.told opens.new).faults n }
+    ensures count { CountsFailure ((O.told opens.old).faults name.now) ((O.told opens.new).faults name.now) result }
+    ensures no_other { (O.told opens.new).fetched ≡ (O.told opens.old).fetched }
 {
     let mut buffer = [0u8; PIECE];
     let mut seen = 0u64;
@@ -129,9 +131,7 @@ mod tests {
     impl<'a> Opens for Held<'a> {
         type Opened = &'a [u8];
 
-        ghost held = { λ s _. Some s.bytes.now };
-
-        ghost faults = { λ s _. s.faults };
+        ghost told = { λ s. record { held = λ _. Some s.bytes.now; faults = λ _. s.faults; fetched = None } };
 
         fn open(&mut self, _name: &str) -> io::Result<&'a [u8]> {
             Ok(self.bytes)
@@ -192,9 +192,7 @@ mod tests {
     impl Opens for FailsLate {
         type Opened = Failing;
 
-        ghost held = { λ _ _. None };
-
-        ghost faults = { λ s _. s.faults };
+        ghost told = { λ s. counts_alone s.faults };
 
         fn open(&mut self, _name: &str) -> io::Result<Failing> {
             Ok(Failing(self.bytes))

@@ -1,8 +1,9 @@
 //! What opens names, and counts the faults of it.
-ghost use Rattle.std.specs.Prelude.{◌≡◌, ◌≤◌, ℕ, List, Option, Some, IfOk, IfSome};
+ghost use Rattle.std.specs.Prelude.{◌≡◌, ◌≤◌, ℕ, List, [], ◌∷◌, Some, IfOk, IfSome};
 ghost use Rattle.std.specs.Io.{ReadsAtMost};
 ghost use Rattle.std.specs.Io.KnownBytes.{ReadConsumes};
 ghost use Rattle.rm_outside.specs.Sink.{CountsErr};
+ghost use Rattle.rm_outside.specs.Told.{Told, GrewBy};
 
 use std::io;
 use std::io::Read;
@@ -14,19 +15,17 @@ pub trait Opens {
     /// What a name is opened to.
     type Opened: Read + Drop;
 
-    /// The bytes that a name holds, where they are told.
-    ghost held: { Self → List ℕ → Option (List ℕ) };
-
-    /// A count of the faults of a name, of opening it and of reading it. There may be one count for
-    /// all names.
-    ghost faults: { Self → List ℕ → ℕ };
+    /// What is told: the bytes that a name holds, a count of the faults of a name, of opening it and of
+    /// reading it, and the names that were opened so far. Less may be told.
+    ghost told: { Self → Told };
 
     /// Opens what has this name, from its first byte on.
     fn open(&mut self, name: &str) -> io::Result<Self::Opened>
-        ensures told { IfOk result (λ opened. IfSome (held self.old name.now) (λ bytes. Self.Opened.remaining opened ≡ Some bytes)) }
-        ensures kept { held self.new ≡ held self.old }
-        ensures later { (n : List ℕ) → faults self.old n ≤ faults self.new n }
-        ensures count { CountsErr (faults self.old name.now) (faults self.new name.now) result };
+        ensures whole { IfOk result (λ opened. IfSome ((told self.old).held name.now) (λ bytes. Self.Opened.remaining opened ≡ Some bytes)) }
+        ensures kept { (told self.new).held ≡ (told self.old).held }
+        ensures later { (n : List ℕ) → (told self.old).faults n ≤ (told self.new).faults n }
+        ensures count { CountsErr ((told self.old).faults name.now) ((told self.new).faults name.now) result }
+        ensures opened { GrewBy (name.now ∷ []) (told self.old).fetched (told self.new).fetched };
 
     /// Reads on in what this name was opened to, as the reader's own `read` does.
     fn read(
@@ -37,7 +36,8 @@ pub trait Opens {
     ) -> io::Result<usize>
         ensures bound { ReadsAtMost result buffer.new }
         ensures bytes { ReadConsumes (Self.Opened.remaining opened.old) (Self.Opened.remaining opened.new) result buffer.new }
-        ensures kept { held self.new ≡ held self.old }
-        ensures later { (n : List ℕ) → faults self.old n ≤ faults self.new n }
-        ensures count { CountsErr (faults self.old name.now) (faults self.new name.now) result };
+        ensures kept { (told self.new).held ≡ (told self.old).held }
+        ensures later { (n : List ℕ) → (told self.old).faults n ≤ (told self.new).faults n }
+        ensures count { CountsErr ((told self.old).faults name.now) ((told self.new).faults name.now) result }
+        ensures no_other { (told self.new).fetched ≡ (told self.old).fetched };
 }

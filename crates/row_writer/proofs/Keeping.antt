@@ -5,8 +5,8 @@ use Rattle.std.specs.List.{list_all}
 use Rattle.std.proofs.lemmas.Bool.{leb-true}
 use Rattle.cell_text.specs.Cells.{ends_by}
 use Rattle.span_core.specs.declared.span.Span.{Span}
-use Rattle.row_writer.specs.Lines.{shown}
-use Rattle.row_writer.specs.Kept.{Field, cells_text, heads_of, line_room, more_names, more_tabs, quote_room}
+use Rattle.row_writer.specs.declared.style.Style.TheVariants as style
+use Rattle.row_writer.specs.Kept.{Field, Head, cells_text, head_with, heads_of, line_room, member_head, more_members, more_names, more_tabs, quote_room, styled_cell}
 
 -- what stands before a place stays where something is written from there on
 pub front_kept : (k at end : ℕ) (old new text : List ℕ) → k ≤ at → at ≤ end → at ≤ length old → take end new ≡ take at old ++ text → take k new ≡ take k old
@@ -15,41 +15,73 @@ front_kept k at end old new text low up inside is =
     let below : k ≤ end = omega arith in
     sym (take-take k end new below) ∙ ap (take k) is ∙ take-append-le k (take at old) text short ∙ take-take k at old low
 
--- a cell is written behind a head
-pub renewed : (h e m l : ℕ) (b0 b1 b2 b3 ds de : List ℕ) → h ≤ e → e ≤ m → m ≤ l → h ≤ length b0 → e ≤ length b1 → m ≤ length b2
-    → take e b1 ≡ take h b0 ++ ds → take m b2 ≡ take e b1 ++ 45 ∷ [] → take l b3 ≡ take m b2 ++ de
-    → (take h b3 ≡ take h b0) × ((take m b3 ≡ take h b3 ++ (ds ++ 45 ∷ [])) × (take l b3 ≡ take h b3 ++ (ds ++ 45 ∷ de)))
-renewed h e m l b0 b1 b2 b3 ds de he em ml in0 in1 in2 first sign last =
+-- what stands before a place that stays
+shorter : (h f : ℕ) (old new : List ℕ) → h ≤ f → take f new ≡ take f old → take h new ≡ take h old
+shorter h f old new low is = sym (take-take h f new low) ∙ ap (take h) is ∙ take-take h f old low
+
+pub behind_opening : (front head opening numbers : List ℕ) → front ≡ head ++ opening → front ++ numbers ≡ head ++ (opening ++ numbers)
+behind_opening front head opening numbers is = ap (λ (xs : List ℕ). xs ++ numbers) is ∙ append_assoc head opening numbers
+
+-- two numbers and a sign are written from a place on
+renewed : (sign h e m l : ℕ) (b0 b1 b2 b3 ds de : List ℕ) → h ≤ e → e ≤ m → m ≤ l → h ≤ length b0 → e ≤ length b1 → m ≤ length b2
+    → take e b1 ≡ take h b0 ++ ds → take m b2 ≡ take e b1 ++ sign ∷ [] → take l b3 ≡ take m b2 ++ de
+    → (take h b3 ≡ take h b0) × ((take m b3 ≡ take h b3 ++ (ds ++ sign ∷ [])) × (take l b3 ≡ take h b3 ++ (ds ++ sign ∷ de)))
+renewed sign h e m l b0 b1 b2 b3 ds de he em ml in0 in1 in2 first between last =
     let le : h ≤ m = omega arith in
     let self : h ≤ h = omega arith in
     let again : m ≤ m = omega arith in
     let one = front_kept h h e b0 b1 ds self he in0 first in
-    let two = front_kept h e m b1 b2 (45 ∷ []) he em in1 sign in
+    let two = front_kept h e m b1 b2 (sign ∷ []) he em in1 between in
     let three = front_kept h m l b2 b3 de le ml in2 last in
     let front : take h b3 ≡ take h b0 = three ∙ two ∙ one in
-    let middle : take m b2 ≡ (take h b0 ++ ds) ++ 45 ∷ [] = sign ∙ ap (λ (xs : List ℕ). xs ++ 45 ∷ []) first in
+    let middle : take m b2 ≡ (take h b0 ++ ds) ++ sign ∷ [] = between ∙ ap (λ (xs : List ℕ). xs ++ sign ∷ []) first in
     let kept = front_kept m m l b2 b3 de again ml in2 last in (
       front,
       (
-        kept ∙ middle ∙ append_assoc (take h b0) ds (45 ∷ []) ∙ ap (λ (xs : List ℕ). xs ++ (ds ++ 45 ∷ [])) (sym front),
-        last ∙ ap (λ (xs : List ℕ). xs ++ de) middle ∙ append_assoc (take h b0 ++ ds) (45 ∷ []) de ∙ append_assoc (take h b0) ds (45 ∷ de) ∙ ap (λ (xs : List ℕ). xs ++ (ds ++ 45 ∷ de)) (sym front),
+        kept ∙ middle ∙ append_assoc (take h b0) ds (sign ∷ []) ∙ ap (λ (xs : List ℕ). xs ++ (ds ++ sign ∷ [])) (sym front),
+        last ∙ ap (λ (xs : List ℕ). xs ++ de) middle ∙ append_assoc (take h b0 ++ ds) (sign ∷ []) de ∙ append_assoc (take h b0) ds (sign ∷ de) ∙ ap (λ (xs : List ℕ). xs ++ (ds ++ sign ∷ de)) (sym front),
       ),
     )
 
--- the second number of a cell is written
-pub end_renewed : (h m l : ℕ) (b0 b3 ds de : List ℕ) → h ≤ m → m ≤ l → m ≤ length b0
-    → take m b0 ≡ take h b0 ++ (ds ++ 45 ∷ []) → take l b3 ≡ take m b0 ++ de
-    → (take h b3 ≡ take h b0) × ((take m b3 ≡ take h b3 ++ (ds ++ 45 ∷ [])) × (take l b3 ≡ take h b3 ++ (ds ++ 45 ∷ de)))
-end_renewed h m l b0 b3 ds de hm ml in0 half last =
+-- the second number is written
+end_renewed : (sign h m l : ℕ) (b0 b3 ds de : List ℕ) → h ≤ m → m ≤ l → m ≤ length b0
+    → take m b0 ≡ take h b0 ++ (ds ++ sign ∷ []) → take l b3 ≡ take m b0 ++ de
+    → (take h b3 ≡ take h b0) × ((take m b3 ≡ take h b3 ++ (ds ++ sign ∷ [])) × (take l b3 ≡ take h b3 ++ (ds ++ sign ∷ de)))
+end_renewed sign h m l b0 b3 ds de hm ml in0 half last =
     let again : m ≤ m = omega arith in
     let front : take h b3 ≡ take h b0 = front_kept h m l b0 b3 de hm ml in0 last in
     let kept = front_kept m m l b0 b3 de again ml in0 last in (
       front,
       (
-        kept ∙ half ∙ ap (λ (xs : List ℕ). xs ++ (ds ++ 45 ∷ [])) (sym front),
-        last ∙ ap (λ (xs : List ℕ). xs ++ de) half ∙ append_assoc (take h b0) (ds ++ 45 ∷ []) de ∙ ap (λ (xs : List ℕ). take h b0 ++ xs) (append_assoc ds (45 ∷ []) de) ∙ ap (λ (xs : List ℕ). xs ++ (ds ++ 45 ∷ de)) (sym front),
+        kept ∙ half ∙ ap (λ (xs : List ℕ). xs ++ (ds ++ sign ∷ [])) (sym front),
+        last ∙ ap (λ (xs : List ℕ). xs ++ de) half ∙ append_assoc (take h b0) (ds ++ sign ∷ []) de ∙ ap (λ (xs : List ℕ). take h b0 ++ xs) (append_assoc ds (sign ∷ []) de) ∙ ap (λ (xs : List ℕ). xs ++ (ds ++ sign ∷ de)) (sym front),
       ),
     )
+
+-- a field's bytes up to h, f, m and l: its head, what opens a span, the span's first number and the sign, and the second
+pub record Parts (h f m l sign : ℕ) (o ds de head bytes : List ℕ) : Type 0 where
+  pub same : take h bytes ≡ head
+  pub front : take f bytes ≡ take h bytes ++ o
+  pub half : take m bytes ≡ take f bytes ++ (ds ++ sign ∷ [])
+  pub all : take l bytes ≡ take f bytes ++ (ds ++ sign ∷ de)
+
+-- both numbers are written behind what opens them
+pub parts_renewed : (h f e m l sign : ℕ) (o ds de b0 b1 b2 b3 : List ℕ) → h ≤ f → f ≤ e → e ≤ m → m ≤ l → f ≤ length b0 → e ≤ length b1 → m ≤ length b2
+    → take f b0 ≡ take h b0 ++ o → take e b1 ≡ take f b0 ++ ds → take m b2 ≡ take e b1 ++ sign ∷ [] → take l b3 ≡ take m b2 ++ de
+    → Parts h f m l sign o ds de (take h b0) b3
+parts_renewed h f e m l sign o ds de b0 b1 b2 b3 hf fe em ml in0 in1 in2 front first between last =
+    let t = renewed sign f e m l b0 b1 b2 b3 ds de fe em ml in0 in1 in2 first between last in
+    let same = shorter h f b0 b3 hf t.0 in
+    record { same = same; front = t.0 ∙ front ∙ ap (λ (xs : List ℕ). xs ++ o) (sym same); half = t.1.0; all = t.1.1 }
+
+-- or the second alone
+pub parts_end : (h f m l sign : ℕ) (o ds de b0 b3 : List ℕ) → h ≤ f → f ≤ m → m ≤ l → m ≤ length b0
+    → take f b0 ≡ take h b0 ++ o → take m b0 ≡ take f b0 ++ (ds ++ sign ∷ []) → take l b3 ≡ take m b0 ++ de
+    → Parts h f m l sign o ds de (take h b0) b3
+parts_end h f m l sign o ds de b0 b3 hf fm ml in0 front half last =
+    let t = end_renewed sign f m l b0 b3 ds de fm ml in0 half last in
+    let same = shorter h f b0 b3 hf t.0 in
+    record { same = same; front = t.0 ∙ front ∙ ap (λ (xs : List ℕ). xs ++ o) (sym same); half = t.1.0; all = t.1.1 }
 
 take_past : (xs ys : List ℕ) (n : ℕ) → take (length xs + n) (xs ++ ys) ≡ xs ++ take n ys
 take_past [] ys n = ap (λ k. take k ys) (zero-add n)
@@ -68,8 +100,8 @@ front_written at n end old new bytes text inside below is front =
 -- another field with the same head
 pub same_heads : (fields : List Field) (k : ℕ) (d f : Field) → k < length fields → f.head ≡ (get_or fields k d).head → heads_of (set fields k f) ≡ heads_of fields
 same_heads [] k d f l is = refl
-same_heads (g ∷ fields) zero d f l is = ap (λ (head : List ℕ). head ∷ heads_of fields) is
-same_heads (g ∷ fields) (suc k) d f l is = ap (λ (heads : List (List ℕ)). g.head ∷ heads) (same_heads fields k d f (omega arith) is)
+same_heads (g ∷ fields) zero d f l is = ap (λ (h : Head). h ∷ heads_of fields) is
+same_heads (g ∷ fields) (suc k) d f l is = ap (λ (heads : List Head). g.head ∷ heads) (same_heads fields k d f (omega arith) is)
 
 -- what is left of the heads begins with that of the field
 pub heads_at : (fields : List Field) (k : ℕ) (d : Field) → k < length fields → drop k (heads_of fields) ≡ (get_or fields k d).head ∷ drop (k + 1) (heads_of fields)
@@ -85,31 +117,42 @@ length_heads (f ∷ fields) = let e = length_heads fields in omega arith
 
 pub heads_append : (fields : List Field) (f : Field) → heads_of (fields ++ f ∷ []) ≡ heads_of fields ++ f.head ∷ []
 heads_append [] f = refl
-heads_append (g ∷ fields) f = ap (λ (heads : List (List ℕ)). g.head ∷ heads) (heads_append fields f)
+heads_append (g ∷ fields) f = ap (λ (heads : List Head). g.head ∷ heads) (heads_append fields f)
 
 -- one field more is written
-pub cells_more : (doc : List ℕ) (texts : Bool) (before after head : List ℕ) (heads heads' : List (List ℕ)) (row row' : List (Option Span)) (span : Option Span) (whole : List ℕ) →
-    heads ≡ head ∷ heads' → row ≡ span ∷ row' → after ≡ before ++ (head ++ shown doc texts span) →
+pub cells_more : (doc : List ℕ) (texts : Bool) (before after : List ℕ) (head : Head) (heads heads' : List Head) (row row' : List (Option Span)) (span : Option Span) (whole : List ℕ) →
+    heads ≡ head ∷ heads' → row ≡ span ∷ row' → after ≡ before ++ (head.before ++ styled_cell head.style doc texts span) →
     before ++ cells_text doc texts heads row ≡ whole → after ++ cells_text doc texts heads' row' ≡ whole
 cells_more doc texts before after head heads heads' row row' span whole e f g h =
+    let cell = styled_cell head.style doc texts span in
     let rest = cells_text doc texts heads' row' in
-    let all : cells_text doc texts heads row ≡ head ++ (shown doc texts span ++ rest) =
-    ap₂ (λ (hs : List (List ℕ)) (r : List (Option Span)). cells_text doc texts hs r) e f in
-    ap (λ (xs : List ℕ). xs ++ rest) g ∙ append_assoc before (head ++ shown doc texts span) rest
-    ∙ ap (λ (xs : List ℕ). before ++ xs) (append_assoc head (shown doc texts span) rest ∙ sym all) ∙ h
+    let all : cells_text doc texts heads row ≡ head.before ++ (cell ++ rest) =
+    ap₂ (λ (hs : List Head) (r : List (Option Span)). cells_text doc texts hs r) e f in
+    ap (λ (xs : List ℕ). xs ++ rest) g ∙ append_assoc before (head.before ++ cell) rest
+    ∙ ap (λ (xs : List ℕ). before ++ xs) (append_assoc head.before cell rest ∙ sym all) ∙ h
 
-pub room_more : (texts : Bool) (row row' : List (Option Span)) (span : Option Span) → row ≡ span ∷ row' → line_room texts row ≡ (64 + quote_room texts span) + line_room texts row'
-room_more texts row row' span is = ap (line_room texts) is
+pub room_more : (texts : Bool) (head : Head) (heads heads' : List Head) (row row' : List (Option Span)) (span : Option Span) → heads ≡ head ∷ heads' → row ≡ span ∷ row' →
+    line_room texts heads row ≡ (64 + quote_room head.style texts span) + line_room texts heads' row'
+room_more texts head heads heads' row row' span e f = ap₂ (λ (hs : List Head) (r : List (Option Span)). line_room texts hs r) e f
 
--- a name more is kept
-pub names_more : (heads : List (List ℕ)) (head name : List ℕ) (names names' : List (List ℕ)) (whole new : List (List ℕ)) → names ≡ name ∷ names' → head ≡ 32 ∷ (name ++ 61 ∷ []) → new ≡ heads ++ head ∷ []
+-- a head more is kept
+head_more : (heads : List Head) (head : Head) (more new whole : List Head) → new ≡ heads ++ head ∷ [] → heads ++ (head ∷ more) ≡ whole → new ++ more ≡ whole
+head_more heads head more new whole is all = ap (λ (xs : List Head). xs ++ more) is ∙ append_assoc heads (head ∷ []) more ∙ all
+
+pub names_more : (heads : List Head) (head : Head) (name : List ℕ) (names names' : List (List ℕ)) (whole new : List Head) → names ≡ name ∷ names' → head ≡ head_with (32 ∷ (name ++ 61 ∷ [])) style.Plain → new ≡ heads ++ head ∷ []
     → heads ++ more_names names ≡ whole → new ++ more_names names' ≡ whole
 names_more heads head name names names' whole new e f g h =
-    ap (λ (xs : List (List ℕ)). xs ++ more_names names') (g ∙ ap (λ (x : List ℕ). heads ++ x ∷ []) f) ∙ append_assoc heads ((32 ∷ (name ++ 61 ∷ [])) ∷ []) (more_names names')
-    ∙ sym (ap (λ (ns : List (List ℕ)). heads ++ more_names ns) e) ∙ h
+    head_more heads head (more_names names') new whole g
+    (ap (λ (x : Head). heads ++ (x ∷ more_names names')) f ∙ sym (ap (λ (ns : List (List ℕ)). heads ++ more_names ns) e) ∙ h)
 
-pub tabs_more : (heads : List (List ℕ)) (head name : List ℕ) (names names' : List (List ℕ)) (whole new : List (List ℕ)) → names ≡ name ∷ names' → head ≡ 9 ∷ [] → new ≡ heads ++ head ∷ []
+pub tabs_more : (heads : List Head) (head : Head) (name : List ℕ) (names names' : List (List ℕ)) (whole new : List Head) → names ≡ name ∷ names' → head ≡ head_with (9 ∷ []) style.Plain → new ≡ heads ++ head ∷ []
     → heads ++ more_tabs names ≡ whole → new ++ more_tabs names' ≡ whole
 tabs_more heads head name names names' whole new e f g h =
-    ap (λ (xs : List (List ℕ)). xs ++ more_tabs names') (g ∙ ap (λ (x : List ℕ). heads ++ x ∷ []) f) ∙ append_assoc heads ((9 ∷ []) ∷ []) (more_tabs names')
-    ∙ sym (ap (λ (ns : List (List ℕ)). heads ++ more_tabs ns) e) ∙ h
+    head_more heads head (more_tabs names') new whole g
+    (ap (λ (x : Head). heads ++ (x ∷ more_tabs names')) f ∙ sym (ap (λ (ns : List (List ℕ)). heads ++ more_tabs ns) e) ∙ h)
+
+pub members_more : (heads : List Head) (head : Head) (name : List ℕ) (names names' : List (List ℕ)) (whole new : List Head) → names ≡ name ∷ names' → head ≡ member_head 44 name → new ≡ heads ++ head ∷ []
+    → heads ++ more_members names ≡ whole → new ++ more_members names' ≡ whole
+members_more heads head name names names' whole new e f g h =
+    head_more heads head (more_members names') new whole g
+    (ap (λ (x : Head). heads ++ (x ∷ more_members names')) f ∙ sym (ap (λ (ns : List (List ℕ)). heads ++ more_members ns) e) ∙ h)

@@ -1,11 +1,13 @@
-//! The cell of a span, as the spans line and the table show it.
-ghost use Rattle.std.specs.Prelude.{◌≡◌, ℕ, ◌+◌, ◌-◌, ◌*◌, ◌≤◌, ◌++◌, take, length, IsTrue};
+//! The cell of a span, as the spans line and the table show it, and its text in JSON.
+ghost use Rattle.std.specs.Prelude.{◌≡◌, ℕ, ◌+◌, ◌-◌, ◌*◌, ◌≤◌, ◌++◌, take, length, IsTrue, true};
+ghost use Rattle.serde_json.specs.Written.{items_text};
 ghost use Rattle.cell_text.specs.Cells.{ends_by};
+ghost use Rattle.row_writer.specs.JsonLines.{json_form};
 ghost use Rattle.row_writer.specs.Lines.{quoted, shown};
 ghost use Rattle.row_writer.specs.Room.{shown_room};
 
-use crate::forms::put_form;
-use cell_text::{put_byte, put_cell};
+use crate::forms::{put_escaped_form, put_form};
+use cell_text::{put_byte, put_bytes, put_cell};
 use span_core::Span;
 
 /// Writes the cell of a span at a position, with its text in quotes where that is asked for, and says where it ends.
@@ -35,4 +37,16 @@ pub fn put_quoted(span: Span, doc: &[u8], buffer: &mut [u8], at: usize) -> usize
     let end = put_byte(b'"', buffer, at);
     let end = put_form(&doc[span.start as usize..span.end as usize], buffer, end);
     put_byte(b'"', buffer, end)
+}
+
+/// Writes the text of a span as the last item of its array in JSON, and the array's end.
+pub fn put_item(span: Span, doc: &[u8], buffer: &mut [u8], at: usize) -> usize
+    requires inside { span.end ≤ length doc.now }
+    requires room { at + 4 + 5 * (span.end - span.start) ≤ length buffer.old }
+    ensures end { result ≤ at + 4 + 5 * (span.end - span.start) }
+    ensures text { take result buffer.new ≡ take at buffer.old ++ items_text true (json_form doc.now true span) }
+{
+    let end = put_bytes(b",\"", buffer, at);
+    let end = put_escaped_form(&doc[span.start as usize..span.end as usize], buffer, end);
+    put_bytes(b"\"]", buffer, end)
 }

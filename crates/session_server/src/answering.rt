@@ -2,7 +2,7 @@
 ghost use Rattle.std.specs.Prelude.{◌≡◌, ◌^◌, ◌≤◌, ◌<◌, ℕ, List, length, string_bytes, IfOk, OnErr, IfSome, IfNone, filter, not, ◌==◌};
 ghost use Rattle.std.specs.Str.{IsUtf8};
 ghost use Rattle.spanner_engine.specs.Passing.{Known, known};
-ghost use Rattle.note_texts.specs.Notes.{table_note as table_text};
+ghost use Rattle.note_texts.specs.Notes.{table_note};
 ghost use Rattle.session_server.specs.Asked.{request_of};
 ghost use Rattle.session_server.specs.Requests.{close_request, grow_request, next_request, open_request, session_id as id_of};
 ghost use Rattle.session_server.specs.Replies.{IsReply, Reply, Sessions, error_of as error_reply, reply_text};
@@ -12,7 +12,7 @@ use crate::replies::{closed, error_of, given, grown, no_request, opened};
 use crate::requests::{Request, request_in, value_of};
 use crate::session::{Halt, Refusal, Session};
 use crate::{MOST_SESSIONS, SESSION_TABLE};
-use note_texts::table_note;
+use note_texts::{Note, push_note};
 use span_core::{OutOfMemory, Steps};
 use span_tests::{Judge, Tests};
 use std::alloc::Global;
@@ -198,11 +198,14 @@ fn answer_grow<L: Ledger>(
 /// Closes the session of this number, since reading its document weighs too much.
 fn close_heavy(alloc: Global, sessions: &mut Vec<Opened>, id: u32) -> Result<String, OutOfMemory>
     ensures closed { sessions.new.items ≡ filter (λ s. not (s.id == id)) sessions.old.items }
-    ensures text { IfOk result (λ s. string_bytes s ≡ reply_text (error_reply id (table_text SESSION_TABLE))) }
+    ensures text { IfOk result (λ s. string_bytes s ≡ reply_text (error_reply id (table_note SESSION_TABLE))) }
 {
     close(sessions, id);
+    let heavy = Note::Table {
+        limit: SESSION_TABLE,
+    };
     let mut note = Vec::new(alloc);
-    table_note(SESSION_TABLE, &mut note)?;
+    push_note(&heavy, &mut note)?;
     refused(alloc, id, &note)
 }
 

@@ -4,6 +4,9 @@
 //! depends on its own requests alone, but for the number of sessions that may be open at once.
 #![tactic(auto)]
 
+ghost use Rattle.std.specs.Prelude.{◌≡◌};
+ghost use Rattle.session_server.specs.declared.TheConstants.{MOST_GROWN, MOST_LINE_BYTES, MOST_ROWS_ASKED, MOST_SESSIONS, SESSION_TABLE};
+
 pub use note_texts::{query_note, size_note, table_note};
 pub use serving::serve;
 
@@ -29,3 +32,12 @@ pub const MOST_ROWS_ASKED: u64 = 1000;
 
 /// The greatest weight of the table that a session's document is read with.
 pub const SESSION_TABLE: u64 = 1_000_000;
+
+/// The limits, as numbers: a law.
+pub fn limits()
+    ensures line_bytes { MOST_LINE_BYTES ≡ 1048576 }
+    ensures sessions { MOST_SESSIONS ≡ 64 }
+    ensures grown { MOST_GROWN ≡ 16777216 }
+    ensures rows { MOST_ROWS_ASKED ≡ 1000 }
+    ensures table { SESSION_TABLE ≡ 1000000 }
+{}

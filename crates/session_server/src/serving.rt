@@ -1,12 +1,15 @@
 //! Serving: a line with a reply for each line with a request.
-ghost use Rattle.std.specs.Prelude.{◌≡◌};
+ghost use Rattle.std.specs.Prelude.{◌≡◌, ◌⊎◌, codes};
+ghost use Rattle.note_texts.specs.Notes.{counted, note_bytes};
 ghost use Rattle.rm_outside.specs.Change.{change};
 ghost use Rattle.spanner_engine.specs.Passing.{known};
-ghost use Rattle.session_server.specs.Serve.{Serves, ServesAll, ServesLines};
+ghost use Rattle.session_server.specs.declared.TheConstants.{MOST_LINE_BYTES};
+ghost use Rattle.session_server.specs.Serve.{Is, Serves, ServesAll, ServesLines};
 
 use crate::MOST_LINE_BYTES;
 use crate::answering::answer;
 use crate::ending::{Ending, report};
+use note_texts::{FixedNote, Note};
 use rm_outside::{LineFault, Sink, Source, Status};
 use span_core::{OutOfMemory, Steps};
 use span_tests::{Judge, Tests};
@@ -34,7 +37,8 @@ pub fn serve<R: Source, O: Sink, N: Sink, J: Judge, L: Ledger>(
         (change (N.written notes.old) (N.written notes.new) (N.faults notes.old) (N.faults notes.new))
         result }
 {
-    report(serve_lines(alloc, most, tests, source, out, steps), notes)
+    let ending = serve_lines(alloc, most, tests, source, out, steps);
+    report(&ending, notes)
 }
 
 fn serve_lines<R: Source, O: Sink, J: Judge, L: Ledger>(
@@ -48,7 +52,7 @@ fn serve_lines<R: Source, O: Sink, J: Judge, L: Ledger>(
     ensures serves { ServesLines (known tests.now J.judges) most
         (change (R.left source.old) (R.left source.new) (R.faults source.old) (R.faults source.new))
         (change (O.written out.old) (O.written out.new) (O.faults out.old) (O.faults out.new))
-        result.status result.note.now }
+        result.status (note_bytes result.note) }
 {
     let mut sessions = Vec::new(alloc);
     let mut line = Vec::new(alloc);
@@ -57,30 +61,31 @@ fn serve_lines<R: Source, O: Sink, J: Judge, L: Ledger>(
         line.clear();
         match source.line(MOST_LINE_BYTES, &mut line) {
             Ok(true) => {}
-            Ok(false) => return ended(Status::Done, "end\n"),
-            Err(LineFault::Failed) => return ended(Status::Read, "read failed: requests\n"),
-            Err(LineFault::TooLong { seen: _ }) => {
-                return ended(Status::Long, "request longer than 1048576 bytes\n");
+            Ok(false) => return Ending::fixed(Status::Done, FixedNote::End),
+            Err(LineFault::Failed) => return Ending::fixed(Status::Read, FixedNote::RequestsUnread),
+            Err(LineFault::TooLong { seen: _ }) => return too_long(alloc),
+            Err(LineFault::OutOfMemory) => {
+                return Ending::fixed(Status::Memory, FixedNote::OutOfMemory);
             }
-            Err(LineFault::OutOfMemory) => return ended(Status::Memory, "out of memory\n"),
         }
         if served >= most {
-            return ended(Status::Long, "too many requests\n");
+            return Ending::fixed(Status::Long, FixedNote::TooManyRequests);
         }
         let reply = match answer(alloc, tests, &mut sessions, &line, steps) {
             Ok(reply) => reply,
-            Err(OutOfMemory) => return ended(Status::Memory, "out of memory\n"),
+            Err(OutOfMemory) => return Ending::fixed(Status::Memory, FixedNote::OutOfMemory),
         };
         match out.put(reply.as_bytes()) {
             Ok(()) => served += 1,
-            Err(_) => return ended(Status::Write, "write failed\n"),
+            Err(_) => return Ending::fixed(Status::Write, FixedNote::WriteFailed),
         }
     }
 }
 
-fn ended(status: Status, note: &'static str) -> Ending
-    ensures status { result.status ≡ status }
-    ensures note { result.note.now ≡ note.now }
+/// A request is longer than any that is answered.
+fn too_long(alloc: Global) -> Ending
+    ensures { Is result.status (note_bytes result.note) Status.Long (counted (codes "request longer than ") MOST_LINE_BYTES (codes " bytes")) ⊎ Is result.status (note_bytes result.note) Status.Memory (codes "out of memory") }
 {
-    Ending { status, note }
+    let most = MOST_LINE_BYTES as u64;
+    Ending::with(alloc, Status::Long, &Note::RequestTooLong { most })
 }

@@ -10,14 +10,14 @@ ghost use Rattle.query_parser.specs.TestedView.{tested_of};
 ghost use Rattle.query_automaton.specs.CompiledQuery.{IsCompiled};
 ghost use Rattle.query_automaton.specs.Parts.{AtomsAreSmall};
 ghost use Rattle.spanner_engine.specs.Passing.{IsOnlyTested, Known, known};
-ghost use Rattle.note_texts.specs.Notes.{fault_note, size_note as size_text, table_note as table_text};
+ghost use Rattle.note_texts.specs.Notes.{fault_note, size_note, table_note};
 ghost use Rattle.session_server.specs.Replies.{Session as Spoken, asking, growing as growing_by, to_come};
 ghost use Rattle.session_server.specs.Standing.{GivesOne, GivesPage, HasGiven, IsBegun, IsGrowHalt, IsReadOn, IsRefusal, IsRowsHalt, IsSession, IsSessionOver, IsStartHalt, IsTooHeavy, IsWaiting, MatchNote, halt_of as halt_by, session_with};
 
 use crate::{MOST_GROWN, SESSION_TABLE};
 use growing_document::{GrowFault, Growing};
 use marked_automaton::{Automaton, SizeFault};
-use note_texts::{query_note, size_note, table_note};
+use note_texts::{Note, push_note};
 use query_parser::{QueryFault, Tested, read_tested};
 use row_writer::json_object;
 use serde_json::{Value, push};
@@ -414,7 +414,7 @@ fn of_query(alloc: Global, fault: &QueryFault) -> Refusal
         return Refusal::OutOfMemory;
     }
     let mut note = Vec::new(alloc);
-    match query_note(fault, &mut note) {
+    match push_note(&Note::Query(fault), &mut note) {
         Ok(()) => Refusal::Note(note),
         Err(OutOfMemory) => Refusal::OutOfMemory,
     }
@@ -429,14 +429,14 @@ fn wants_memory(fault: &QueryFault) -> bool
 
 /// The note of a size.
 fn of_size(alloc: Global, fault: &SizeFault) -> Refusal
-    ensures note { MatchNote result (size_text fault.now) }
+    ensures note { MatchNote result (size_note fault.now) }
     ensures memory { fault.now ≡ SizeFault.OutOfMemory → result ≡ Refusal.OutOfMemory }
 {
     match fault {
         SizeFault::OutOfMemory => Refusal::OutOfMemory,
         SizeFault::States { count: _ } | SizeFault::Ways { count: _ } => {
             let mut note = Vec::new(alloc);
-            match size_note(fault, &mut note) {
+            match push_note(&Note::Size(fault), &mut note) {
                 Ok(()) => Refusal::Note(note),
                 Err(OutOfMemory) => Refusal::OutOfMemory,
             }
@@ -446,10 +446,13 @@ fn of_size(alloc: Global, fault: &SizeFault) -> Refusal
 
 /// The note of a table.
 fn of_table(alloc: Global) -> Refusal
-    ensures { MatchNote result (table_text SESSION_TABLE) }
+    ensures { MatchNote result (table_note SESSION_TABLE) }
 {
+    let heavy = Note::Table {
+        limit: SESSION_TABLE,
+    };
     let mut note = Vec::new(alloc);
-    match table_note(SESSION_TABLE, &mut note) {
+    match push_note(&heavy, &mut note) {
         Ok(()) => Refusal::Note(note),
         Err(OutOfMemory) => Refusal::OutOfMemory,
     }

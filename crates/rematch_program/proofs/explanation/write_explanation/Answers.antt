@@ -1,8 +1,7 @@
 use Rattle.std.proofs.Common.{List, subst, ◌∙◌}
 use Rattle.std.specs.Prelude.{codes}
 use Rattle.rematch_program.specs.Change.{StandsStill, change, clock, work}
-use Rattle.rematch_program.specs.Ending.{note_bytes}
-use Rattle.note_texts.specs.Notes.{line}
+use Rattle.note_texts.specs.Notes.{line, note_bytes}
 use Rattle.rematch_program.specs.Run.{FromPage, told_names}
 use Rattle.rematch_program.proofs.explanation.write_explanation.Goals as goal
 

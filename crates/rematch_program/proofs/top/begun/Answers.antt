@@ -4,8 +4,7 @@ use Rattle.spanner_model.specs.ExprView.{query_of}
 use Rattle.spanner_engine.specs.Begun.{IsBeginFault}
 use Rattle.spanner_engine.specs.declared.beginning.BeginFault.{BeginFault}
 use Rattle.rematch_program.specs.Run.{Is, other_document, past_the_document, filter_full, table_full, by_memory}
-use Rattle.rematch_program.specs.Ending.{note_bytes}
-use Rattle.rematch_program.specs.Notes.{other_document_note}
+use Rattle.note_texts.specs.Notes.{note_bytes, other_document_note}
 use Rattle.rm_outside.specs.declared.status.Status.TheVariants as status
 use Rattle.rematch_program.proofs.Fits.{fits_unless, wide_enough}
 use Rattle.rematch_program.proofs.HeavyAtoms.{heavy_atom}
@@ -25,9 +24,9 @@ returns-in-Err-CursorOther-clause-ending g c =
     let P : BeginFault → Type 0 = λ fault. IsBeginFault (query_of c.args.compiled.now.query) d r.filter (option_copied c.args.after) r.max_table fault in
     let (keeps, found) = subst P c.in-Err-CursorOther.field-0-is c.in-Err-CursorOther.ensures.fault in
     let still = c.in-Err-CursorOther.ensures.still c.in-Err-CursorOther.kept c.in-Err-CursorOther.found (inr (ap Err c.in-Err-CursorOther.field-0-is)) in
-    elim c.of_another.ensures [
+    elim c.with.ensures [
       | inl is ↦ other_document c.in-Err-CursorOther.kept keeps
-          (let N : ℕ → Type 0 = λ n. Is c.of_another.result.status (note_bytes c.of_another.result.note) status.Cursor (other_document_note c.in-Err-CursorOther.kept n) in subst N found is) still
+          (let N : ℕ → Type 0 = λ n. Is c.with.result.status (note_bytes c.with.result.note) status.Cursor (other_document_note c.in-Err-CursorOther.kept n) in subst N found is) still
       | inr is ↦ by_memory is c.in-Err-CursorOther.ensures.steps
     ]
 
@@ -36,7 +35,7 @@ returns-in-Err-CursorPlace-clause-ending g c =
     let r = c.args.request.now in
     let P : BeginFault → Type 0 = λ fault. IsBeginFault (query_of c.args.compiled.now.query) c.args.document.now r.filter (option_copied c.args.after) r.max_table fault in
     past_the_document (subst P c.in-Err-CursorPlace.field-0-is c.in-Err-CursorPlace.ensures.fault)
-    (record { ends = c.with.ensures.status; says = search rules }) (c.in-Err-CursorPlace.ensures.still 0 0 (inl (ap Err c.in-Err-CursorPlace.field-0-is)))
+    (record { ends = c.fixed.ensures.status; says = search rules }) (c.in-Err-CursorPlace.ensures.still 0 0 (inl (ap Err c.in-Err-CursorPlace.field-0-is)))
 
 pub returns-in-Err-Filter-clause-ending : goal.returns-in-Err-Filter-clause-ending
 returns-in-Err-Filter-clause-ending g c =
@@ -47,7 +46,7 @@ returns-in-Err-Filter-clause-ending g c =
     let (wanted, plain, heavy) = subst P c.in-Err-Filter.field-0-is c.in-Err-Filter.ensures.fault in
     let at = c.in-Err-Filter.field-0-is in
     let fits = fits_unless (length d) (option_copied c.args.after) (λ other keeps. let is = c.in-Err-Filter.ensures.other other keeps in cc) (λ past. let is = c.in-Err-Filter.ensures.place past in cc) in
-    elim c.past_filter.ensures [
+    elim c.with-in-Err-Filter.ensures [
       | inl is ↦ filter_full fits wanted plain (heavy_atom q d r.max_table c.in-Err-Filter.field-0-0 heavy) is c.in-Err-Filter.ensures.steps
       | inr is ↦ by_memory is c.in-Err-Filter.ensures.steps
     ]
@@ -61,7 +60,7 @@ returns-in-Err-Table-clause-ending g c =
     let (over, within) = subst P c.in-Err-Table.field-0-is c.in-Err-Table.ensures.fault in
     let at = c.in-Err-Table.field-0-is in
     let fits = fits_unless (length d) (option_copied c.args.after) (λ other keeps. let is = c.in-Err-Table.ensures.other other keeps in cc) (λ past. let is = c.in-Err-Table.ensures.place past in cc) in
-    elim c.past_table.ensures [
+    elim c.with-in-Err-Table.ensures [
       | inl is ↦ table_full fits (λ K reads. let most = within K reads in omega (arith, over, most)) is c.in-Err-Table.ensures.steps
       | inr is ↦ by_memory is c.in-Err-Table.ensures.steps
     ]

@@ -1,17 +1,21 @@
-use Rattle.std.proofs.Common.{subst, ◌∙◌}
+use Rattle.std.proofs.Common.{◌≡◌, ◌⊎◌, inl, inr, ℕ, List, refl}
 use Rattle.spanner_model.specs.ExprView.{query_of}
+use Rattle.spanner_model.specs.Expression.{QueryTree}
 use Rattle.marked_automaton.specs.declared.fault.SizeFault.{SizeFault}
+use Rattle.marked_automaton.specs.declared.fault.SizeFault.TheVariants.{States, Ways, OutOfMemory}
+use Rattle.note_texts.specs.Notes.{note_bytes, size_note}
 use Rattle.query_automaton.specs.Parts.{HasLargePart}
-use Rattle.rematch_program.specs.Run.{by_states, by_ways}
-use Rattle.rematch_program.proofs.NoteLaws.{states_line, ways_line}
+use Rattle.rm_outside.specs.declared.status.Status.{Status}
+use Rattle.rm_outside.specs.declared.status.Status.TheVariants as status
+use Rattle.rematch_program.specs.Run.{Is, IsOutOfMemory, IsTooLarge, by_states, by_ways, by_memory}
 use Rattle.rematch_program.proofs.top.compiled_query.Goals as goal
 
-pub returns-in-Err-States-clause-ending : goal.returns-in-Err-States-clause-ending
-returns-in-Err-States-clause-ending c =
-    let P : SizeFault → Type 0 = λ fault. HasLargePart (query_of c.args.query.now) fault in
-    by_states c.in-Err-States.field-0-0 (subst P c.in-Err-States.field-0-is c.in-Err-States.ensures.fault) (record { ends = c.with.ensures.status; says = c.with.ensures.note ∙ states_line })
+told : (q : QueryTree) (fault : SizeFault) (end : Status) (note : List ℕ) → HasLargePart q fault →
+    ((¬ (fault ≡ OutOfMemory)) × Is end note status.Size (size_note fault)) ⊎ IsOutOfMemory end note → IsTooLarge q end note
+told q (States count) end note large (inl h) = by_states count large h.1
+told q (Ways count) end note large (inl h) = by_ways count large h.1
+told q OutOfMemory end note large (inl h) = absurd (h.0 refl)
+told q fault end note large (inr is) = by_memory is
 
-pub returns-in-Err-Ways-clause-ending : goal.returns-in-Err-Ways-clause-ending
-returns-in-Err-Ways-clause-ending c =
-    let P : SizeFault → Type 0 = λ fault. HasLargePart (query_of c.args.query.now) fault in
-    by_ways c.in-Err-Ways.field-0-0 (subst P c.in-Err-Ways.field-0-is c.in-Err-Ways.ensures.fault) (record { ends = c.with-in-Err-Ways.ensures.status; says = c.with-in-Err-Ways.ensures.note ∙ ways_line })
+pub returns-in-Err-clause-ending : goal.returns-in-Err-clause-ending
+returns-in-Err-clause-ending c = told (query_of c.args.query.now) c.in-Err.fault c.too_large.result.status (note_bytes c.too_large.result.note) c.in-Err.ensures.fault c.too_large.ensures

@@ -5,7 +5,7 @@ use Rattle.spanner_model.specs.Captures.{VarName}
 use Rattle.spanner_model.specs.ExprView.{query_of}
 use Rattle.spanner_engine.specs.Left.{Source, over}
 use Rattle.rematch_program.specs.Change.{change}
-use Rattle.rematch_program.specs.Ending.{note_bytes}
+use Rattle.note_texts.specs.Notes.{note_bytes}
 use Rattle.rematch_program.specs.Run.{not_begun}
 use Rattle.rematch_program.proofs.Answered.{page_answered, result_last, result_names}
 use Rattle.rematch_program.proofs.RestLaws.{has_width}

@@ -7,7 +7,7 @@ use Rattle.spanner_engine.specs.Passing.{checks_of, known}
 use Rattle.trial_maker.specs.Trial.{trial_text}
 use Rattle.std.proofs.Common.{None}
 use Rattle.rematch_program.specs.Change.{change, clock, work}
-use Rattle.rematch_program.specs.Ending.{note_bytes}
+use Rattle.note_texts.specs.Notes.{note_bytes}
 use Rattle.rematch_program.specs.Run.{FromCursor, FromDocument, compiled, explained, page_asked, store, too_large, trial_asked}
 use Rattle.rematch_program.proofs.Completeness.{plain_wants, trial_wants}
 use Rattle.rematch_program.proofs.top.with_query.Goals as goal
@@ -22,7 +22,7 @@ with_lines-requires-clause-names g c =
     subst P (sym c.in-Ok-compiled_query.ensures.query) c.in-Ok-compiled_query.ensures.names
 
 pub returns-in-Explain : goal.returns-in-Explain
-returns-in-Explain g c = record { case = explained c.in-Explain.is c.write_explanation.ensures.case refl }
+returns-in-Explain g c = record { case = explained c.in-Explain.is c.write_explanation.ensures.case refl refl }
 
 pub returns-in-Ok : goal.returns-in-Ok
 returns-in-Ok g c =
@@ -31,14 +31,14 @@ returns-in-Ok g c =
     let P : Query → Type 0 = λ q. FromCursor (request_view c.args.request.now) (query_of q) checks
     (work (change (g.O.Sink.written c.args.out.now) (g.O.Sink.written c.with_cursor.new.out) (g.O.Sink.faults c.args.out.now) (g.O.Sink.faults c.with_cursor.new.out)) (clock c.args.steps.now c.with_cursor.new.steps))
     c.with_cursor.result.status (note_bytes c.with_cursor.result.note)
-    (store (g.S.Shelf.held c.args.shelf.now) (g.S.Shelf.faults c.args.shelf.now) (g.S.Shelf.faults c.with_cursor.new.shelf)) names in
+    (store (g.S.Shelf.told c.args.shelf.now) (g.S.Shelf.told c.with_cursor.new.shelf)) names in
     record {
       case = compiled (plain_wants (request_view c.args.request.now).mode c.in-Plain.is) c.in-Ok.ensures.small
           (page_asked c.in-Plain.is names c.in-Ok.ensures.names (subst P c.in-Ok.ensures.query c.with_cursor.ensures.case));
     }
 
 pub returns-in-Err : goal.returns-in-Err
-returns-in-Err g c = record { case = too_large (plain_wants (request_view c.args.request.now).mode c.in-Plain.is) c.in-Err.ensures.ending (refl, refl) }
+returns-in-Err g c = record { case = too_large (plain_wants (request_view c.args.request.now).mode c.in-Plain.is) c.in-Err.ensures.ending (refl, (refl, refl)) }
 
 pub returns-in-Ok-compiled_query : goal.returns-in-Ok-compiled_query
 returns-in-Ok-compiled_query g c =
@@ -49,8 +49,8 @@ returns-in-Ok-compiled_query g c =
     c.with_lines.result.status (note_bytes c.with_lines.result.note) names None (trial_text c.in-Trial.lines) in
     record {
       case = compiled (trial_wants (request_view c.args.request.now).mode c.in-Trial.lines c.in-Trial.is) c.in-Ok-compiled_query.ensures.small
-          (trial_asked c.in-Trial.lines c.in-Trial.is names c.in-Ok-compiled_query.ensures.names (subst P c.in-Ok-compiled_query.ensures.query c.with_lines.ensures.case));
+          (trial_asked c.in-Trial.lines c.in-Trial.is names c.in-Ok-compiled_query.ensures.names refl (subst P c.in-Ok-compiled_query.ensures.query c.with_lines.ensures.case));
     }
 
 pub returns-in-Err-compiled_query : goal.returns-in-Err-compiled_query
-returns-in-Err-compiled_query g c = record { case = too_large (trial_wants (request_view c.args.request.now).mode c.in-Trial.lines c.in-Trial.is) c.in-Err-compiled_query.ensures.ending (refl, refl) }
+returns-in-Err-compiled_query g c = record { case = too_large (trial_wants (request_view c.args.request.now).mode c.in-Trial.lines c.in-Trial.is) c.in-Err-compiled_query.ensures.ending (refl, (refl, refl)) }

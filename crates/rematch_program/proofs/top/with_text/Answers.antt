@@ -12,8 +12,8 @@ returns-in-Err g c =
     let e = c.in-Err.ensures in
     record {
       case = elim c.refused.ensures [
-        | inl h ↦ query_refused c.in-Err.fault (only_fault k c.args.text.now c.in-Err.fault h.0 e.fault e.only e.only_fault) h.1 (refl, refl)
-        | inr is ↦ out_of_memory is (refl, refl)
+        | inl h ↦ query_refused c.in-Err.fault (only_fault k c.args.text.now c.in-Err.fault h.0 e.fault e.only e.only_fault) h.1 (refl, (refl, refl))
+        | inr is ↦ out_of_memory is (refl, (refl, refl))
       ];
     }
 
@@ -31,7 +31,7 @@ returns g c =
     let only = subst (λ (fault : QueryFault). IsOnlyFault k c.args.text.now fault) (sym is) (unknown_fault k c.args.text.now t c.in-Ok.ensures.found c.in-Ok.ensures.only at first) in
     record {
       case = elim c.refused-in-Err-bind.ensures [
-        | inl h ↦ query_refused c.in-Err-bind.fault only h.1 (refl, refl)
-        | inr is ↦ out_of_memory is (refl, refl)
+        | inl h ↦ query_refused c.in-Err-bind.fault only h.1 (refl, (refl, refl))
+        | inr is ↦ out_of_memory is (refl, (refl, refl))
       ];
     }

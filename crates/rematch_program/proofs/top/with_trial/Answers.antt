@@ -4,7 +4,7 @@ use Rattle.spanner_model.specs.Captures.{VarName}
 use Rattle.spanner_model.specs.ExprView.{query_of}
 use Rattle.spanner_engine.specs.Left.{Source, over}
 use Rattle.rematch_program.specs.Change.{change}
-use Rattle.rematch_program.specs.Ending.{note_bytes}
+use Rattle.note_texts.specs.Notes.{note_bytes}
 use Rattle.rematch_program.proofs.Answered.{result_last, result_names, trial_answered}
 use Rattle.rematch_program.proofs.top.with_trial.Goals as goal
 

@@ -6,9 +6,10 @@ abbrev pub invariant-loop-seen : goal.invariant-loop-seen
 invariant-loop-seen g l = record {
   few : l.seen ≤ l.limit + 1;
   read : ReadSoFar (g.O.Opened.Read.remaining l.initial.opened) (g.O.Opened.Read.remaining l.opened) l.initial.into.items l.into.items l.seen;
-  kept : g.O.Opens.held l.opens ≡ g.O.Opens.held l.initial.opens;
-  later : (n : List ℕ) → g.O.Opens.faults l.initial.opens n ≤ g.O.Opens.faults l.opens n;
-  count : g.O.Opens.faults l.opens l.name ≡ g.O.Opens.faults l.initial.opens l.name;
+  kept : (g.O.Opens.told l.opens).held ≡ (g.O.Opens.told l.initial.opens).held;
+  later : (n : List ℕ) → (g.O.Opens.told l.initial.opens).faults n ≤ (g.O.Opens.told l.opens).faults n;
+  count : (g.O.Opens.told l.opens).faults l.name ≡ (g.O.Opens.told l.initial.opens).faults l.name;
+  no_other : (g.O.Opens.told l.opens).fetched ≡ (g.O.Opens.told l.initial.opens).fetched;
 }
 
 abbrev pub decreases-loop-seen : goal.decreases-loop-seen

@@ -1,7 +1,7 @@
-use Rattle.std.proofs.Common.{rules, arith, true, false, ◌≡◌, ◌≤◌, ◌∙◌, List, ℕ, Option, [], ◌++◌, codes, refl, sym, ap, subst}
+use Rattle.std.proofs.Common.{rules, arith, true, false, ◌≡◌, ◌≤◌, ◌∙◌, List, ℕ, Option, [], ◌++◌, codes, inl, inr, refl, sym, ap, subst}
 use Rattle.rm_outside.specs.Change.{change}
 use Rattle.rm_outside.specs.declared.status.Status.TheVariants as status
-use Rattle.note_texts.specs.Notes.{line}
+use Rattle.note_texts.specs.Notes.{counted, line, note_bytes}
 use Rattle.spanner_engine.specs.Passing.{known}
 use Rattle.session_server.specs.declared.TheConstants.{MOST_LINE_BYTES}
 use Rattle.session_server.specs.declared.answering.Opened.{Opened}
@@ -25,7 +25,7 @@ returns-in-Ok-false g c =
     let no : c.in-Ok-false.field-0 ≡ false = search rules in
     let spent = is_spent MOST_LINE_BYTES (g.R.Source.left c.loop-line.source) (g.R.Source.left c.line.new.self) c.clear.new.self.items c.line.new.into.items c.in-Ok-false.field-0 no c.in-Ok-false.ensures.asks in
     record {
-      serves = ended_as k c.args.most (change (g.R.Source.left c.args.source.now) (g.R.Source.left c.line.new.self) (g.R.Source.faults c.args.source.now) (g.R.Source.faults c.line.new.self)) (change (g.O.Sink.written c.args.out.now) (g.O.Sink.written c.loop-line.out) (g.O.Sink.faults c.args.out.now) (g.O.Sink.faults c.loop-line.out)) c.ended.result.status status.Done c.ended.result.note.now (line (codes "end")) c.ended.ensures.status c.ended.ensures.note
+      serves = ended_as k c.args.most (change (g.R.Source.left c.args.source.now) (g.R.Source.left c.line.new.self) (g.R.Source.faults c.args.source.now) (g.R.Source.faults c.line.new.self)) (change (g.O.Sink.written c.args.out.now) (g.O.Sink.written c.loop-line.out) (g.O.Sink.faults c.args.out.now) (g.O.Sink.faults c.loop-line.out)) c.fixed.result.status status.Done (note_bytes c.fixed.result.note) (line (codes "end")) c.fixed.ensures.status c.fixed.ensures.note
           (ends_served k c.args.most (g.R.Source.left c.args.source.now) (g.R.Source.left c.loop-line.source) (g.O.Sink.written c.args.out.now) (g.O.Sink.written c.loop-line.out) c.loop-line.served c.loop-line.sessions.items so (change (g.R.Source.left c.args.source.now) (g.R.Source.left c.line.new.self) (g.R.Source.faults c.args.source.now) (g.R.Source.faults c.line.new.self)) (change (g.O.Sink.written c.args.out.now) (g.O.Sink.written c.loop-line.out) (g.O.Sink.faults c.args.out.now) (g.O.Sink.faults c.loop-line.out)) refl refl refl spent.0 spent.1);
     }
 
@@ -35,7 +35,7 @@ returns-in-Err-Failed g c =
     let so = c.loop-line.invariant.so_far in
     let rose = rose_from (g.R.Source.faults c.args.source.now) (g.R.Source.faults c.loop-line.source) (g.R.Source.faults c.line.new.self) c.loop-line.invariant.faults (c.in-Err-Failed.ensures.failed (search rules)) in
     record {
-      serves = ended_as k c.args.most (change (g.R.Source.left c.args.source.now) (g.R.Source.left c.line.new.self) (g.R.Source.faults c.args.source.now) (g.R.Source.faults c.line.new.self)) (change (g.O.Sink.written c.args.out.now) (g.O.Sink.written c.loop-line.out) (g.O.Sink.faults c.args.out.now) (g.O.Sink.faults c.loop-line.out)) c.ended-in-Err-Failed.result.status status.Read c.ended-in-Err-Failed.result.note.now (line (codes "read failed: requests")) c.ended-in-Err-Failed.ensures.status c.ended-in-Err-Failed.ensures.note
+      serves = ended_as k c.args.most (change (g.R.Source.left c.args.source.now) (g.R.Source.left c.line.new.self) (g.R.Source.faults c.args.source.now) (g.R.Source.faults c.line.new.self)) (change (g.O.Sink.written c.args.out.now) (g.O.Sink.written c.loop-line.out) (g.O.Sink.faults c.args.out.now) (g.O.Sink.faults c.loop-line.out)) c.fixed-in-Err-Failed.result.status status.Read (note_bytes c.fixed-in-Err-Failed.result.note) (line (codes "read failed: requests")) c.fixed-in-Err-Failed.ensures.status c.fixed-in-Err-Failed.ensures.note
           (ends_failed k c.args.most (g.R.Source.left c.args.source.now) (g.R.Source.left c.loop-line.source) (g.O.Sink.written c.args.out.now) (g.O.Sink.written c.loop-line.out) c.loop-line.served c.loop-line.sessions.items so (change (g.R.Source.left c.args.source.now) (g.R.Source.left c.line.new.self) (g.R.Source.faults c.args.source.now) (g.R.Source.faults c.line.new.self)) (change (g.O.Sink.written c.args.out.now) (g.O.Sink.written c.loop-line.out) (g.O.Sink.faults c.args.out.now) (g.O.Sink.faults c.loop-line.out)) refl refl refl rose);
     }
 
@@ -44,9 +44,17 @@ returns-in-Err-TooLong g c =
     let k = known c.args.tests.now g.J.Judge.judges in
     let so = c.loop-line.invariant.so_far in
     let long = is_long MOST_LINE_BYTES (g.R.Source.left c.loop-line.source) (g.R.Source.left c.line.new.self) c.clear.new.self.items c.line.new.into.items c.in-Err-TooLong.field-0 c.in-Err-TooLong.field-0-0 c.in-Err-TooLong.field-0-is c.in-Err-TooLong.ensures.asks in
+    let source = change (g.R.Source.left c.args.source.now) (g.R.Source.left c.line.new.self) (g.R.Source.faults c.args.source.now) (g.R.Source.faults c.line.new.self) in
+    let out = change (g.O.Sink.written c.args.out.now) (g.O.Sink.written c.loop-line.out) (g.O.Sink.faults c.args.out.now) (g.O.Sink.faults c.loop-line.out) in
+    let end = c.too_long.result.status in
+    let note = note_bytes c.too_long.result.note in
     record {
-      serves = ended_as k c.args.most (change (g.R.Source.left c.args.source.now) (g.R.Source.left c.line.new.self) (g.R.Source.faults c.args.source.now) (g.R.Source.faults c.line.new.self)) (change (g.O.Sink.written c.args.out.now) (g.O.Sink.written c.loop-line.out) (g.O.Sink.faults c.args.out.now) (g.O.Sink.faults c.loop-line.out)) c.ended-in-Err-TooLong.result.status status.Long c.ended-in-Err-TooLong.result.note.now (line (codes "request longer than 1048576 bytes")) c.ended-in-Err-TooLong.ensures.status c.ended-in-Err-TooLong.ensures.note
-          (ends_long k c.args.most (g.R.Source.left c.args.source.now) (g.R.Source.left c.loop-line.source) (g.O.Sink.written c.args.out.now) (g.O.Sink.written c.loop-line.out) c.loop-line.served c.loop-line.sessions.items so (change (g.R.Source.left c.args.source.now) (g.R.Source.left c.line.new.self) (g.R.Source.faults c.args.source.now) (g.R.Source.faults c.line.new.self)) (change (g.O.Sink.written c.args.out.now) (g.O.Sink.written c.loop-line.out) (g.O.Sink.faults c.args.out.now) (g.O.Sink.faults c.loop-line.out)) refl refl refl long);
+      serves = elim c.too_long.ensures [
+        | inl is ↦ ended_as k c.args.most source out end status.Long note (line (counted (codes "request longer than ") MOST_LINE_BYTES (codes " bytes"))) is.ends is.says
+            (ends_long k c.args.most (g.R.Source.left c.args.source.now) (g.R.Source.left c.loop-line.source) (g.O.Sink.written c.args.out.now) (g.O.Sink.written c.loop-line.out) c.loop-line.served c.loop-line.sessions.items so source out refl refl refl long)
+        | inr is ↦ ended_as k c.args.most source out end status.Memory note (line (codes "out of memory")) is.ends is.says
+            (ends_memory k c.args.most (g.R.Source.left c.args.source.now) (g.R.Source.left c.loop-line.source) (g.O.Sink.written c.args.out.now) (g.O.Sink.written c.loop-line.out) c.loop-line.served c.loop-line.sessions.items so source out refl refl refl)
+      ];
     }
 
 pub returns-in-Err-OutOfMemory : goal.returns-in-Err-OutOfMemory
@@ -54,7 +62,7 @@ returns-in-Err-OutOfMemory g c =
     let k = known c.args.tests.now g.J.Judge.judges in
     let so = c.loop-line.invariant.so_far in
     record {
-      serves = ended_as k c.args.most (change (g.R.Source.left c.args.source.now) (g.R.Source.left c.line.new.self) (g.R.Source.faults c.args.source.now) (g.R.Source.faults c.line.new.self)) (change (g.O.Sink.written c.args.out.now) (g.O.Sink.written c.loop-line.out) (g.O.Sink.faults c.args.out.now) (g.O.Sink.faults c.loop-line.out)) c.ended-in-Err-OutOfMemory.result.status status.Memory c.ended-in-Err-OutOfMemory.result.note.now (line (codes "out of memory")) c.ended-in-Err-OutOfMemory.ensures.status c.ended-in-Err-OutOfMemory.ensures.note
+      serves = ended_as k c.args.most (change (g.R.Source.left c.args.source.now) (g.R.Source.left c.line.new.self) (g.R.Source.faults c.args.source.now) (g.R.Source.faults c.line.new.self)) (change (g.O.Sink.written c.args.out.now) (g.O.Sink.written c.loop-line.out) (g.O.Sink.faults c.args.out.now) (g.O.Sink.faults c.loop-line.out)) c.fixed-in-Err-OutOfMemory.result.status status.Memory (note_bytes c.fixed-in-Err-OutOfMemory.result.note) (line (codes "out of memory")) c.fixed-in-Err-OutOfMemory.ensures.status c.fixed-in-Err-OutOfMemory.ensures.note
           (ends_memory k c.args.most (g.R.Source.left c.args.source.now) (g.R.Source.left c.loop-line.source) (g.O.Sink.written c.args.out.now) (g.O.Sink.written c.loop-line.out) c.loop-line.served c.loop-line.sessions.items so (change (g.R.Source.left c.args.source.now) (g.R.Source.left c.line.new.self) (g.R.Source.faults c.args.source.now) (g.R.Source.faults c.line.new.self)) (change (g.O.Sink.written c.args.out.now) (g.O.Sink.written c.loop-line.out) (g.O.Sink.faults c.args.out.now) (g.O.Sink.faults c.loop-line.out)) refl refl refl);
     }
 
@@ -65,7 +73,7 @@ returns-then-served-most g c =
     let yes_taken : c.in-Ok-true.field-0 ≡ true = search rules in
     let taken = is_taken MOST_LINE_BYTES (g.R.Source.left c.loop-line.source) (g.R.Source.left c.line.new.self) c.clear.new.self.items c.line.new.into.items c.in-Ok-true.field-0 yes_taken c.in-Ok-true.ensures.asks in
     record {
-      serves = ended_as k c.args.most (change (g.R.Source.left c.args.source.now) (g.R.Source.left c.line.new.self) (g.R.Source.faults c.args.source.now) (g.R.Source.faults c.line.new.self)) (change (g.O.Sink.written c.args.out.now) (g.O.Sink.written c.loop-line.out) (g.O.Sink.faults c.args.out.now) (g.O.Sink.faults c.loop-line.out)) c.ended-then-served-most.result.status status.Long c.ended-then-served-most.result.note.now (line (codes "too many requests")) c.ended-then-served-most.ensures.status c.ended-then-served-most.ensures.note
+      serves = ended_as k c.args.most (change (g.R.Source.left c.args.source.now) (g.R.Source.left c.line.new.self) (g.R.Source.faults c.args.source.now) (g.R.Source.faults c.line.new.self)) (change (g.O.Sink.written c.args.out.now) (g.O.Sink.written c.loop-line.out) (g.O.Sink.faults c.args.out.now) (g.O.Sink.faults c.loop-line.out)) c.fixed-then-served-most.result.status status.Long (note_bytes c.fixed-then-served-most.result.note) (line (codes "too many requests")) c.fixed-then-served-most.ensures.status c.fixed-then-served-most.ensures.note
           (ends_many k c.args.most (g.R.Source.left c.args.source.now) (g.R.Source.left c.loop-line.source) (g.O.Sink.written c.args.out.now) (g.O.Sink.written c.loop-line.out) c.loop-line.served c.loop-line.sessions.items so (change (g.R.Source.left c.args.source.now) (g.R.Source.left c.line.new.self) (g.R.Source.faults c.args.source.now) (g.R.Source.faults c.line.new.self)) (change (g.O.Sink.written c.args.out.now) (g.O.Sink.written c.loop-line.out) (g.O.Sink.faults c.args.out.now) (g.O.Sink.faults c.loop-line.out)) refl refl refl taken.0 taken.3 c.if-served-most.true);
     }
 
@@ -74,7 +82,7 @@ returns-in-Err g c =
     let k = known c.args.tests.now g.J.Judge.judges in
     let so = c.loop-line.invariant.so_far in
     record {
-      serves = ended_as k c.args.most (change (g.R.Source.left c.args.source.now) (g.R.Source.left c.line.new.self) (g.R.Source.faults c.args.source.now) (g.R.Source.faults c.line.new.self)) (change (g.O.Sink.written c.args.out.now) (g.O.Sink.written c.loop-line.out) (g.O.Sink.faults c.args.out.now) (g.O.Sink.faults c.loop-line.out)) c.ended-in-Err.result.status status.Memory c.ended-in-Err.result.note.now (line (codes "out of memory")) c.ended-in-Err.ensures.status c.ended-in-Err.ensures.note
+      serves = ended_as k c.args.most (change (g.R.Source.left c.args.source.now) (g.R.Source.left c.line.new.self) (g.R.Source.faults c.args.source.now) (g.R.Source.faults c.line.new.self)) (change (g.O.Sink.written c.args.out.now) (g.O.Sink.written c.loop-line.out) (g.O.Sink.faults c.args.out.now) (g.O.Sink.faults c.loop-line.out)) c.fixed-in-Err.result.status status.Memory (note_bytes c.fixed-in-Err.result.note) (line (codes "out of memory")) c.fixed-in-Err.ensures.status c.fixed-in-Err.ensures.note
           (ends_memory k c.args.most (g.R.Source.left c.args.source.now) (g.R.Source.left c.loop-line.source) (g.O.Sink.written c.args.out.now) (g.O.Sink.written c.loop-line.out) c.loop-line.served c.loop-line.sessions.items so (change (g.R.Source.left c.args.source.now) (g.R.Source.left c.line.new.self) (g.R.Source.faults c.args.source.now) (g.R.Source.faults c.line.new.self)) (change (g.O.Sink.written c.args.out.now) (g.O.Sink.written c.loop-line.out) (g.O.Sink.faults c.args.out.now) (g.O.Sink.faults c.loop-line.out)) refl refl refl);
     }
 
@@ -90,7 +98,7 @@ returns-in-Err-put g c =
     let shown = c.as_bytes.ensures.value ∙ told in
     let rose = rose_from (g.O.Sink.faults c.args.out.now) (g.O.Sink.faults c.loop-line.out) (g.O.Sink.faults c.put.new.self) c.loop-line.invariant.puts c.in-Err-put.ensures.failed in
     record {
-      serves = ended_as k c.args.most (change (g.R.Source.left c.args.source.now) (g.R.Source.left c.line.new.self) (g.R.Source.faults c.args.source.now) (g.R.Source.faults c.line.new.self)) (change (g.O.Sink.written c.args.out.now) (g.O.Sink.written c.put.new.self) (g.O.Sink.faults c.args.out.now) (g.O.Sink.faults c.put.new.self)) c.ended-in-Err-put.result.status status.Write c.ended-in-Err-put.result.note.now (line (codes "write failed")) c.ended-in-Err-put.ensures.status c.ended-in-Err-put.ensures.note
+      serves = ended_as k c.args.most (change (g.R.Source.left c.args.source.now) (g.R.Source.left c.line.new.self) (g.R.Source.faults c.args.source.now) (g.R.Source.faults c.line.new.self)) (change (g.O.Sink.written c.args.out.now) (g.O.Sink.written c.put.new.self) (g.O.Sink.faults c.args.out.now) (g.O.Sink.faults c.put.new.self)) c.fixed-in-Err-put.result.status status.Write (note_bytes c.fixed-in-Err-put.result.note) (line (codes "write failed")) c.fixed-in-Err-put.ensures.status c.fixed-in-Err-put.ensures.note
           (ends_write k c.args.most (g.R.Source.left c.args.source.now) (g.R.Source.left c.loop-line.source) (g.O.Sink.written c.args.out.now) (g.O.Sink.written c.loop-line.out) c.loop-line.served c.loop-line.sessions.items so (g.R.Source.left c.line.new.self) taken.0 c.as_bytes.result.now reply all taken.3 c.if-served-most.false said shown (change (g.R.Source.left c.args.source.now) (g.R.Source.left c.line.new.self) (g.R.Source.faults c.args.source.now) (g.R.Source.faults c.line.new.self)) (change (g.O.Sink.written c.args.out.now) (g.O.Sink.written c.put.new.self) (g.O.Sink.faults c.args.out.now) (g.O.Sink.faults c.put.new.self)) refl refl refl c.in-Err-put.ensures.part rose);
     }
 

@@ -1,30 +1,41 @@
-use Rattle.std.proofs.Common.{◌≡◌, ◌∙◌, ◌++◌, ◌∷◌, [], ap, sym, ℕ, take, arith}
+use Rattle.std.proofs.Common.{◌≡◌, ℕ, ◌++◌, ◌∷◌, [], List, take, sym, ap, ◌∙◌, arith}
 use Rattle.std.specs.Fmt.{decimal}
-use Rattle.row_writer.proofs.Keeping.{end_renewed}
-use Rattle.row_writer.specs.Kept.{Field}
+use Rattle.row_writer.specs.Kept.{Field, head_with}
+use Rattle.row_writer.specs.KeptField.{opening, sign}
+use Rattle.row_writer.proofs.Keeping.{parts_end}
 use Rattle.row_writer.proofs.field.Field.renew_end.Goals as goal
 
 pub invariant_of-self : goal.invariant_of-self
 invariant_of-self c =
+    let f = c.self.inside in
     let i = c.self.invariant in
-    let same : c.self.inside.span.start ≡ c.args.span.start = ap (λ (f : Field). f.span.start) c.self.view_is ∙ sym c.requires in
-    let half : take c.self.inside.middle c.self.inside.bytes ≡ take c.self.inside.head c.self.inside.bytes ++ (decimal c.args.span.start ++ 45 ∷ []) =
-    i.half ∙ ap (λ (n : ℕ). take c.self.inside.head c.self.inside.bytes ++ (decimal n ++ 45 ∷ [])) same in
-    let t = end_renewed c.self.inside.head c.self.inside.middle c.put_number-len.result c.self.inside.bytes c.put_number-len.new.buffer (decimal c.args.span.start) (decimal c.args.span.end)
-    (omega arith) (omega arith) (omega arith) half c.put_number-len.ensures.text in
+    let same : f.span.start ≡ c.args.span.start = ap (λ (k : Field). k.span.start) c.self.view_is ∙ sym c.requires in
+    let half : take f.middle f.bytes ≡ take f.first f.bytes ++ (decimal c.args.span.start ++ sign f.style ∷ []) =
+    i.half ∙ ap (λ (n : ℕ). take f.first f.bytes ++ (decimal n ++ sign f.style ∷ [])) same in
+    let t = parts_end f.head f.first f.middle c.put_number-len.result (sign f.style)
+    (opening f.style) (decimal c.args.span.start) (decimal c.args.span.end) f.bytes c.put_number-len.new.buffer
+    i.opened i.before (omega arith) (omega arith) i.front half c.put_number-len.ensures.text in
     record {
       short = i.short;
-      room = omega arith;
+      near = i.near;
       middle = omega arith;
       few = omega arith;
+      opened = i.opened;
       before = omega arith;
-      half = t.1.0;
-      all = λ is. t.1.1;
+      room = omega arith;
+      front = t.front;
+      half = t.half;
+      all = λ is. t.all;
     }
 
 pub returns-clause-head : goal.returns-clause-head
 returns-clause-head c =
+    let f = c.self.inside in
     let i = c.self.invariant in
-    let t = end_renewed c.self.inside.head c.self.inside.middle c.put_number-len.result c.self.inside.bytes c.put_number-len.new.buffer (decimal c.self.inside.span.start) (decimal c.args.span.end)
-    (omega arith) (omega arith) (omega arith) i.half c.put_number-len.ensures.text in
-    t.0 ∙ ap (λ (f : Field). f.head) c.self.view_is
+    let same : f.span.start ≡ c.args.span.start = ap (λ (k : Field). k.span.start) c.self.view_is ∙ sym c.requires in
+    let half : take f.middle f.bytes ≡ take f.first f.bytes ++ (decimal c.args.span.start ++ sign f.style ∷ []) =
+    i.half ∙ ap (λ (n : ℕ). take f.first f.bytes ++ (decimal n ++ sign f.style ∷ [])) same in
+    let t = parts_end f.head f.first f.middle c.put_number-len.result (sign f.style)
+    (opening f.style) (decimal c.args.span.start) (decimal c.args.span.end) f.bytes c.put_number-len.new.buffer
+    i.opened i.before (omega arith) (omega arith) i.front half c.put_number-len.ensures.text in
+    ap (λ (xs : List ℕ). head_with xs f.style) t.same ∙ ap (λ (k : Field). k.head) c.self.view_is

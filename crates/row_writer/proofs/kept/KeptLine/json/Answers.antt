@@ -1,0 +1,14 @@
+use Rattle.std.proofs.Common.{◌+◌, drop, ap, ◌∙◌}
+use Rattle.cell_text.proofs.Lists.{at_drop}
+use Rattle.row_writer.specs.Kept.{heads_of, json_heads}
+use Rattle.row_writer.proofs.Keeping.{heads_append, members_more}
+use Rattle.row_writer.proofs.kept.KeptLine.json.Goals as goal
+
+pub loop-k-preserved : goal.loop-k-preserved
+loop-k-preserved c =
+    let k = c.loop-k.k in
+    let vars = c.args.vars.now in
+    let name = c.at-in-loop-k.result.now in
+    let field = c.member-in-loop-k.result in
+    members_more (heads_of c.loop-k.fields.items) field.head name (drop k vars) (drop (k + 1) vars) (json_heads vars) (heads_of c.push-in-loop-k.new.self.items)
+    (at_drop vars k name c.at-in-loop-k.ensures.value) c.member-in-loop-k.ensures (ap heads_of c.in_ok-push-2.ensures.items ∙ heads_append c.loop-k.fields.items field) c.loop-k.invariant
