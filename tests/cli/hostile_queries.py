@@ -6,8 +6,11 @@ may refuse or may have found a way to do with less, and both answers stand. Want
 what needs very much, and stands there too.
 """
 import itertools
+import json
 import random
 from typing import NamedTuple
+
+from deep_queries import deep_queries
 
 LONGEST = 65536
 LARGEST_NUMBER = (1 << 64) - 1  # the greatest number of states and ways that is shown
@@ -109,6 +112,29 @@ def nesting():
     inner = ''.join('!%s{z*' % name for name in NAMES)
     hard('nesting', 'sixteen captures in one another', '/%s%s/' % (inner, '}' * 16), first(16, 200), document=200 * b'z',
          words=['-n', '1'])
+
+
+# --- Both limits of nesting at once ---------------------------------------------------------------
+
+def depths():
+    opened = []
+    for deep in deep_queries():
+        spans = [] if deep.var == 'none' else [(deep.var, 0, 1)]
+        answer = page(row(*spans) or '()') if deep.has_row else NO_ROW
+        hard('depths', deep.name, deep.text, answer)
+        hard('depths', deep.name + ', explained', deep.text, page(None), words=['--explain'])
+        if deep.is_sample:
+            hard('depths', deep.name + ', with the filter', deep.text, answer, words=['--filter'])
+            hard('depths', deep.name + ', and no end', deep.text + ' )', fault('unexpected', len(deep.text.encode()) + 1))
+        opened.append((deep, {name: [start, end] for name, start, end in spans}))
+    lines = []
+    replies = []
+    for deep, spans in opened:
+        for asked in ({'op': 'open', 'query': deep.text, 'doc': 'a'}, {'op': 'next', 'n': 9}, {'op': 'close'}):
+            lines.append(json.dumps({'id': 1, **asked}))
+        for reply in ({'variables': list(spans)}, {'more': False, 'rows': [spans] * deep.has_row}, {'closed': True}):
+            replies.append(json.dumps({'id': 1, **reply}, sort_keys=True, separators=(',', ':')))
+    hard('depths', 'all of them in one session after another', '\n'.join(lines), page('\n'.join(replies)), words=['--serve'])
 
 
 # --- Names ---------------------------------------------------------------------------------------
@@ -580,6 +606,6 @@ def optional():
               resume(2, *([('x', 0, 1)] + [('y%d' % k, 1, 2) for k in range(5)]))), document=b'ab', words=['-n', '1'])
 
 
-for family in (nesting, names, characters, long_texts, repeats, bytes_of_all, lets, joins, differences, tests_on_spans, unions, arms,
+for family in (nesting, depths, names, characters, long_texts, repeats, bytes_of_all, lets, joins, differences, tests_on_spans, unions, arms,
                optional, tables):
     family()
