@@ -54,8 +54,8 @@ class Named(NamedTuple):
 def records_of(data: bytes) -> List[Record]:
     """The records of a file of sequences; `DocumentError` where it has none.
 
-    >>> records_of(b'>r1 one\\nGAT\\r\\ntaca\\n>r2\\n')
-    [Record(name='r1', letters=b'GATTACA'), Record(name='r2', letters=b'')]
+    >>> records_of(b'>chr1 one\\nGAT\\r\\ntaca\\n>chr2\\n')
+    [Record(name='chr1', letters=b'GATTACA'), Record(name='chr2', letters=b'')]
     """
     found = []
     for part in (b'\n' + data).split(b'\n>')[1:]:
@@ -95,8 +95,8 @@ def sites(query: Query, data: bytes, *, both: bool = True, left_out: Optional[Ca
     ``left_out`` is told how many rows were left out since their spans lie in several records or none. A query with an
     anchor, which would speak of all records together, raises `NoReach`.
 
-    >>> [(site.record.name, site.strand, site.row) for site in sites(Query('/!m{TTAC}/'), b'>r1\\nGAT\\nTACA\\n>r2\\ntgtaatc\\n')]
-    [('r1', '+', (2, 6)), ('r2', '-', (1, 5))]
+    >>> [(site.record.name, site.strand, site.row) for site in sites(Query('/!m{TTAC}/'), b'>chr1\\nGAT\\nTACA\\n>chr2\\ntgtaatc\\n')]
+    [('chr1', '+', (2, 6)), ('chr2', '-', (1, 5))]
     """
     if _has_anchor(query):
         raise NoReach(r'an anchor would speak of all records together: a record has \n before it and behind it')
