@@ -21,7 +21,7 @@ use Rattle.marked_automaton.specs.Reduct.{IsReached, Reduces}
 use Rattle.marked_automaton.proofs.Listed.{some_same}
 use Rattle.algebra.specs.declared.halves.HalfWay.{HalfWay}
 use Rattle.algebra.specs.declared.halves.HalfStop.{HalfStop}
-use Rattle.algebra.specs.declared.halves.Side.{Side}
+use Rattle.algebra.specs.declared.halves.Operand.{Operand}
 use Rattle.algebra.specs.declared.pairs.Pair.{Pair}
 use Rattle.algebra.specs.JoinedMarks.{agree_on, joined}
 use Rattle.algebra.specs.JoinedNames.{all_names}
@@ -29,7 +29,7 @@ use Rattle.algebra.specs.Joining.{IsJoinFault, IsJoinOf, join_over}
 use Rattle.algebra.specs.Operations.{ends_with, goes_with, has_some, join_of, meet, pair_stop, pair_way}
 use Rattle.algebra.specs.Pairs.{AreStarted, AreWithin, HaveSameRows, HaveSmallMarks, IsIdlePair, IsStopAt, IsWayBetween, LeadWithin, Matched, PairStop, PairWay, half_at, half_from, pair_of, pairs, stop_pair, stops_at_pair, stops_meet, those_at, way_pair, ways_at, ways_meet}
 use Rattle.algebra.specs.Renaming.{half_stop, half_way}
-use Rattle.algebra.specs.Sides.{IsMadeOf, IsSearchOf, IsSearchRefusal, IsSideOf, half_ways_of, shifts_of}
+use Rattle.algebra.specs.Sides.{IsAssembledOf, IsMadeOf, IsRefusedSearch, IsSearchOf, IsSearchRefusal, IsSideOf, graph_of, half_ways_of, shifts_of}
 use Rattle.marked_automaton.proofs.Passing.{both_true, filter_cases, flat_map_cases, has_filter, has_flat_map, right_true}
 use Rattle.algebra.proofs.Followed.{no_bytes, pairs_few, some_bytes}
 use Rattle.algebra.proofs.Gathered.{gathered, one_of}
@@ -206,12 +206,12 @@ module _ {A B : Marked} (a : IsMarked A) (b : IsMarked B) (all : List VarName) w
   within_starts : (keys0 : List Pair) → AreStarted A.graph.starts B.graph.starts [] keys0 → AreWithin n1 n2 keys0
   within_starts keys0 started = λ k h. elim (started.only k h) [ inl n ↦ absurd n | inr r ↦ (a.whole.starts k.left r.0, b.whole.starts k.right r.1) ]
 
-  module _ {one two : Side} (left : IsSideOf own1 shared1 A.graph one) (right : IsSideOf own2 shared2 B.graph two) where
+  module _ {one two : Operand} (left : IsSideOf own1 shared1 A one) (right : IsSideOf own2 shared2 B two) where
     abbrev xs : List HalfWay
-    xs = half_ways_of one A.graph
+    xs = half_ways_of one
 
     abbrev ys : List HalfWay
-    ys = half_ways_of two B.graph
+    ys = half_ways_of two
 
     abbrev sx : List HalfStop
     sx = one.stops.items
@@ -221,10 +221,10 @@ module _ {A B : Marked} (a : IsMarked A) (b : IsMarked B) (all : List VarName) w
 
     -- the ways of the two sides are these, and what they bring is small
     left_ways : xs ≡ X
-    left_ways = λ i. map (half_way (left.own i) (left.shared i)) A.graph.ways
+    left_ways = λ i. map (half_way (left.own i) (left.shared i)) (left.automaton i).graph.ways
 
     right_ways : ys ≡ Y
-    right_ways = λ i. map (half_way (right.own i) (right.shared i)) B.graph.ways
+    right_ways = λ i. map (half_way (right.own i) (right.shared i)) (right.automaton i).graph.ways
 
     pub small_marks : length all ≤ MOST_VARIABLES → HaveSmallMarks xs ys
     small_marks few =
@@ -236,17 +236,25 @@ module _ {A B : Marked} (a : IsMarked A) (b : IsMarked B) (all : List VarName) w
     small_stop_marks x y hx hy = stop_marks x y (rows_has half_at sx SX left.stops x hx) (rows_has half_at sy SY right.stops y hy)
 
     -- a refusal of the search is one of the join
-    pub refusal : all ≡ all_names A.names B.names → (e : SizeFault) → IsSearchRefusal A.graph B.graph xs ys e → IsJoinFault A B e
+    pub refusal : all ≡ all_names A.names B.names → (e : SizeFault) → IsSearchRefusal one two e → IsJoinFault A B e
     refusal all_are e h =
-        let all_ways : IsSearchRefusal A.graph B.graph X Y e =
-        subst (λ (zs : List HalfWay). IsSearchRefusal A.graph B.graph X zs e) right_ways
-        (subst (λ (zs : List HalfWay). IsSearchRefusal A.graph B.graph zs ys e) left_ways h) in
+        let of_both : IsRefusedSearch A.graph B.graph xs ys e =
+        subst (λ (N : Marked). IsRefusedSearch A.graph N.graph xs ys e) right.automaton
+        (subst (λ (M : Marked). IsRefusedSearch M.graph (graph_of two) xs ys e) left.automaton h) in
+        let all_ways : IsRefusedSearch A.graph B.graph X Y e =
+        subst (λ (zs : List HalfWay). IsRefusedSearch A.graph B.graph X zs e) right_ways
+        (subst (λ (zs : List HalfWay). IsRefusedSearch A.graph B.graph zs ys e) left_ways of_both) in
         subst (λ ns. IsSizeFaultWithin (n1 * n2) (length (join_over A B ns).ways) e) all_are
         (all_ways (length J.ways) a.whole.starts b.whole.starts lead_within (omega (arith, ways_len)))
 
-    module _ {keys : List Pair} {count : ℕ} {made : List Way} (s : IsSearchOf A.graph B.graph xs ys keys count made) where
+    module _ {keys : List Pair} {count : ℕ} {made : List Way} (s : IsSearchOf one two keys count made) where
       abbrev keys0 : List Pair
       keys0 = s.first
+
+      started : AreStarted A.graph.starts B.graph.starts [] keys0
+      started =
+          subst (λ (N : Marked). AreStarted A.graph.starts N.graph.starts [] keys0) right.automaton
+          (subst (λ (M : Marked). AreStarted M.graph.starts (graph_of two).starts [] keys0) left.automaton s.started)
 
       rows : flat_map (ways_at xs ys) keys ≡ flat_map (ways_at X Y) keys
       rows = λ i. flat_map (ways_at (left_ways i) (right_ways i)) keys
@@ -255,13 +263,18 @@ module _ {A B : Marked} (a : IsMarked A) (b : IsMarked B) (all : List VarName) w
       stop_rows = λ i. flat_map (λ (k : Pair). pairs stops_meet stop_pair (right.stops k.right i) (left.stops k.left i)) keys
 
       starts_within : AreWithin n1 n2 keys0
-      starts_within = within_starts keys0 s.started
+      starts_within = within_starts keys0 started
 
       in_all : (r : PairWay) → Has (flat_map (ways_at xs ys) keys) r → Has R r
       in_all r h = gathered_ways keys X Y r s.apart (subst (λ zs. Has zs r) rows h)
 
-      pub within : AreWithin n1 n2 keys
+      within : AreWithin n1 n2 keys
       within = s.followed.within n1 n2 starts_within (λ r h. lead_within r (in_all r h))
+
+      pub within_sides : AreWithin (graph_of one).states (graph_of two).states keys
+      within_sides =
+          subst (λ (N : Marked). AreWithin (graph_of one).states N.graph.states keys) (sym right.automaton)
+          (subst (λ (M : Marked). AreWithin M.graph.states n2 keys) (sym left.automaton) within)
 
       between : Matched (IsWayBetween keys) (flat_map (ways_at xs ys) keys) made
       between = subst (λ (ws : List Way). Matched (IsWayBetween keys) (flat_map (ways_at xs ys) keys) ws) (sym s.followed.ways) s.followed.between
@@ -301,7 +314,7 @@ module _ {A B : Marked} (a : IsMarked A) (b : IsMarked B) (all : List VarName) w
       one_place : (k : Pair) (i j : ℕ) → slice_get keys i ≡ Some k → slice_get keys j ≡ Some k → i ≡ j
       one_place k i j p q = some_same i j (sym (place_there keys k i s.apart p) ∙ place_there keys k j s.apart q)
 
-      pub idle_there : (p : ℕ) → IsIdlePair keys A.graph.idle B.graph.idle p → Has made (idle_way p)
+      idle_there : (p : ℕ) → IsIdlePair keys A.graph.idle B.graph.idle p → Has made (idle_way p)
       idle_there p h =
           let k = h.0 in
           let wx = a.idle_ways k.left h.2 in
@@ -325,6 +338,12 @@ module _ {A B : Marked} (a : IsMarked A) (b : IsMarked B) (all : List VarName) w
           let bytes : m.0.bytes ≡ all_bytes = m.2.bytes ∙ meet_itself all_bytes in
           subst (Has made) (λ i. record { from = from i; marks = marks i; bytes = bytes i; to = to i }) (Has-slice_get made place.0 m.0 m.1)
 
+      pub idle_in_sides : (p : ℕ) → IsIdlePair keys (graph_of one).idle (graph_of two).idle p → Has made (idle_way p)
+      idle_in_sides p h =
+          idle_there p
+          (subst (λ (N : Marked). IsIdlePair keys A.graph.idle N.graph.idle p) right.automaton
+          (subst (λ (M : Marked). IsIdlePair keys M.graph.idle (graph_of two).idle p) left.automaton h))
+
       pub starts_few : count ≤ length keys
       starts_few = omega (arith, s.counted, ap length s.followed.keys, length-append s.first s.followed.found)
 
@@ -338,9 +357,9 @@ module _ {A B : Marked} (a : IsMarked A) (b : IsMarked B) (all : List VarName) w
               let d = pair_of 0 0 in
               let there = slice_get-get_or keys0 i d l in
               let same : get_or keys0 i d ≡ k = some_same (get_or keys0 i d) k (sym (ap (λ zs. slice_get zs i) s.followed.keys ∙ get_left keys0 s.followed.found i (get_or keys0 i d) there) ∙ at) in
-              elim (s.started.only k (subst (Has keys0) same (Has-slice_get keys0 i (get_or keys0 i d) there))) [ inl n ↦ absurd n | inr r ↦ r ]),
+              elim (started.only k (subst (Has keys0) same (Has-slice_get keys0 i (get_or keys0 i d) there))) [ inl n ↦ absurd n | inr r ↦ r ]),
           (λ h.
-              let has : Has keys0 k = s.started.all k.left k.right h.0 h.1 in
+              let has : Has keys0 k = started.all k.left k.right h.0 h.1 in
               let j = place_of-Has keys0 k has in
               let there : slice_get keys j.0 ≡ Some k = ap (λ zs. slice_get zs j.0) s.followed.keys ∙ get_left keys0 s.followed.found j.0 k j.2 in
               omega (arith, one_place k i j.0 at there, j.1)),
@@ -353,7 +372,7 @@ module _ {A B : Marked} (a : IsMarked A) (b : IsMarked B) (all : List VarName) w
         of_found = record {
           apart = s.apart;
           states = is.states;
-          started = λ p q h k. subst (λ zs. Has zs (pair_of p q)) (sym s.followed.keys) (Has-append_left keys0 s.followed.found (pair_of p q) (s.started.all p q h k));
+          started = λ p q h k. subst (λ zs. Has zs (pair_of p q)) (sym s.followed.keys) (Has-append_left keys0 s.followed.found (pair_of p q) (started.all p q h k));
           starts = λ i k at. let here = start_place i k at in ((λ h. here.0 ((is0.starts i).0 h)), (λ h. (is0.starts i).1 (here.1 h)));
           starts_within = λ i h. omega (arith, (is0.starts i).0 h, fewer);
           ways_are = gathered half_from half_from ways_meet way_pair (λ (r : PairWay). r.from) (λ x y. refl) keys Y X s.apart;
@@ -389,9 +408,11 @@ module _ {A B : Marked} (a : IsMarked A) (b : IsMarked B) (all : List VarName) w
             (found_reduces n1 n2 A.graph.starts B.graph.starts R S A.graph.idle B.graph.idle sides keys within (flat_map (ways_at X Y) keys) (flat_map (stops_at_pair SX SY) keys) C of_found)
 
       pub join_made : all ≡ all_names A.names B.names → (r : Result Marked SizeFault) → IfOk r (λ (j : Marked). j.names ≡ all) →
-          IfOk r (λ (j : Marked). IsMadeOf keys count made sx sy A.graph.idle B.graph.idle j.graph) → IfOk r (IsJoinOf A B)
+          IfOk r (λ (j : Marked). IsAssembledOf one two keys count made j.graph) → IfOk r (IsJoinOf A B)
       join_made all_are r names is =
-          join_by A B all all_are r (λ C. IsMadeOf keys count made sx sy A.graph.idle B.graph.idle C) (λ C is. join_reduces is) (λ C is. reached is) names is
+          join_by A B all all_are r (λ C. IsMadeOf keys count made sx sy A.graph.idle B.graph.idle C) (λ C is. join_reduces is) (λ C is. reached is) names
+          (subst (λ (N : Marked). IfOk r (λ (j : Marked). IsMadeOf keys count made sx sy A.graph.idle N.graph.idle j.graph)) right.automaton
+          (subst (λ (M : Marked). IfOk r (λ (j : Marked). IsMadeOf keys count made sx sy M.graph.idle (graph_of two).idle j.graph)) left.automaton is))
 
       pub fault_made : all ≡ all_names A.names B.names → (r : Result Marked SizeFault) → IfErr r (IsSizeFaultWithin (length keys) (length made)) → IfErr r (IsJoinFault A B)
       fault_made all_are r h =

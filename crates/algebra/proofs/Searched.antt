@@ -16,10 +16,10 @@ use Rattle.marked_automaton.proofs.Permuted.{permutation_placed, has_placed}
 use Rattle.marked_automaton.proofs.Filtered.{kept_no_more}
 use Rattle.algebra.specs.declared.halves.HalfWay.{HalfWay}
 use Rattle.marked_automaton.specs.Automaton.{Automaton}
-use Rattle.algebra.specs.declared.halves.Side.{Side}
+use Rattle.algebra.specs.declared.halves.Operand.{Operand}
 use Rattle.algebra.specs.declared.pairs.Pair.{Pair}
 use Rattle.algebra.specs.Renaming.{half_way}
-use Rattle.algebra.specs.Sides.{IsProductRefusal, half_ways_of}
+use Rattle.algebra.specs.Sides.{IsProductRefusal, graph_of, half_ways_of}
 use Rattle.algebra.specs.Pairs.{pair_of, pairs, those_at, PairWay, AreRowsOf, AreStarted, AreWithin, IsRefusalOf, LeadWithin, half_from, way_from, way_pair, ways_at, ways_meet}
 use Rattle.algebra.proofs.Gathered.{one_of, gathered, those_map}
 use Rattle.marked_automaton.proofs.Passing.{filter_cases}
@@ -77,14 +77,14 @@ pairs_none (x ∷ xs) (y ∷ ys) (inl e) = absurd (omega (arith, e))
 pairs_none (x ∷ xs) (y ∷ ys) (inr e) = absurd (omega (arith, e))
 
 -- the rows of a pair
-pub row_of_side : (side : Side) (A : Automaton) (p : ℕ) (ws : List Way) → ws ≡ those_at way_from p A.ways →
-    map (half_way side.own.items side.shared.items) ws ≡ those_at half_from p (half_ways_of side A)
-row_of_side side A p ws e =
-    ap (map (half_way side.own.items side.shared.items)) e ∙ those_map half_from (half_way side.own.items side.shared.items) p A.ways
+pub row_of_side : (side : Operand) (p : ℕ) (ws : List Way) → ws ≡ those_at way_from p (graph_of side).ways →
+    map (half_way side.own.items side.shared.items) ws ≡ those_at half_from p (half_ways_of side)
+row_of_side side p ws e =
+    ap (map (half_way side.own.items side.shared.items)) e ∙ those_map half_from (half_way side.own.items side.shared.items) p (graph_of side).ways
 
-pub row_length : (side : Side) (A : Automaton) (p : ℕ) (ws : List Way) → ws ≡ those_at way_from p A.ways → length ws ≡ length (those_at half_from p (half_ways_of side A))
-row_length side A p ws e =
-    sym (length-map ws (half_way side.own.items side.shared.items)) ∙ ap length (row_of_side side A p ws e)
+pub row_length : (side : Operand) (p : ℕ) (ws : List Way) → ws ≡ those_at way_from p (graph_of side).ways → length ws ≡ length (those_at half_from p (half_ways_of side))
+row_length side p ws e =
+    sym (length-map ws (half_way side.own.items side.shared.items)) ∙ ap length (row_of_side side p ws e)
 
 -- what is made of a row is no more than all ways
 pub row_few : (own shared : List (Option ℕ)) (p most : ℕ) (all ws : List Way) (hs : List HalfWay) → ws ≡ those_at way_from p all → hs ≡ map (half_way own shared) ws →

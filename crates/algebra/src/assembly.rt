@@ -8,10 +8,10 @@ ghost use Rattle.marked_automaton.specs.declared.way.Stop.{Stop as StopOf};
 ghost use Rattle.marked_automaton.specs.declared.TheConstants.{MOST_STATES};
 ghost use Rattle.marked_automaton.specs.Automaton.{HasGraphOf, IsWayOf, idle_way};
 ghost use Rattle.marked_automaton.specs.Faults.{IsSizeFaultWithin};
-ghost use Rattle.algebra.specs.Sides.{IsMadeOf};
+ghost use Rattle.algebra.specs.Sides.{IsAssembledOf, graph_of};
 ghost use Rattle.algebra.specs.Pairs.{AreWithin, HasAllButStarts, HasAllButStops, IsIdleHere, IsIdlePair, IsStopAt, Matched, half_at, pairs, stop_at, stop_pair, stops_at_pair, stops_meet, stops_with};
 
-use crate::halves::{HalfStop, Side};
+use crate::halves::{HalfStop, Operand};
 use crate::pairs::{Pair, Search};
 use crate::rows::stops_from;
 use marked_automaton::{Automaton, SizeFault, Stop};
@@ -25,22 +25,20 @@ pub(crate) fn assembled(
     vars: VarSet,
     search: Search,
     starts: u32,
-    a: &Automaton,
-    b: &Automaton,
-    left: &Side,
-    right: &Side,
+    left: &Operand<'_>,
+    right: &Operand<'_>,
 ) -> Result<Automaton, SizeFault>
     requires few { length vars ≤ MOST_VARIABLES }
     requires few_states { length search.found.keys ≤ MOST_STATES }
     requires starts { starts ≤ length search.found.keys }
     requires ways { All (IsWayOf (length search.found.keys) (length vars)) search.ways.items }
-    requires within { AreWithin a.now.graph.states b.now.graph.states search.found.keys }
-    requires idle { (p : ℕ) → IsIdlePair search.found.keys a.now.graph.idle b.now.graph.idle p → Has search.ways.items (idle_way p) }
+    requires within { AreWithin (graph_of left.now).states (graph_of right.now).states search.found.keys }
+    requires idle { (p : ℕ) → IsIdlePair search.found.keys (graph_of left.now).idle (graph_of right.now).idle p → Has search.ways.items (idle_way p) }
     requires left { IsNonDecreasingBy half_at left.now.stops.items }
     requires right { IsNonDecreasingBy half_at right.now.stops.items }
     requires marks { (x y : HalfStop) → Has left.now.stops.items x → Has right.now.stops.items y → x.stop.marks + y.stop.marks < 2 ^ (2 * length vars) }
     ensures names { IfOk result (λ j. j.names ≡ vars) }
-    ensures made { IfOk result (λ j. IsMadeOf search.found.keys starts search.ways.items left.now.stops.items right.now.stops.items a.now.graph.idle b.now.graph.idle j.graph) }
+    ensures made { IfOk result (λ j. IsAssembledOf left.now right.now search.found.keys starts search.ways.items j.graph) }
     ensures fault { IfErr result (λ e. IsSizeFaultWithin (length search.found.keys) (length search.ways.items) e) }
 {
     let states = search.found.len() as u32;
@@ -53,7 +51,7 @@ pub(crate) fn assembled(
         left.stops.as_slice(),
         right.stops.as_slice(),
     )?;
-    add_idle(&mut automaton, found, a, b)?;
+    add_idle(&mut automaton, found, left.automaton, right.automaton)?;
     Ok(automaton)
 }
 

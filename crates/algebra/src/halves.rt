@@ -2,9 +2,10 @@
 ghost use Rattle.std.specs.Prelude.{◌≡◌, ◌≤◌, length, map, true, IfOk, OnOk};
 ghost use Rattle.std.specs.List.Sorted.{IsNonDecreasingBy};
 ghost use Rattle.span_core.specs.declared.TheConstants.{MOST_VARIABLES};
+ghost use Rattle.marked_automaton.specs.Automaton.{AreGrouped};
 ghost use Rattle.algebra.specs.Pairs.{HaveSameRows, half_at};
 ghost use Rattle.algebra.specs.Renaming.{AreShifts, half_stop, half_way};
-ghost use Rattle.algebra.specs.Sides.{HasShifts, IsSideOf, shifts_of};
+ghost use Rattle.algebra.specs.Sides.{IsJoinable, IsSideOf, shifts_of};
 
 use crate::renaming::{moved, shifts};
 use marked_automaton::{Automaton, Stop, Way};
@@ -27,9 +28,10 @@ pub(crate) struct HalfStop {
     pub(crate) shared: Marks,
 }
 
-/// One side of a join.
+/// One side of a join: an automaton, and the markers that it brings.
 #[derive(Drop)]
-pub(crate) struct Side {
+pub(crate) struct Operand<'a> {
+    pub(crate) automaton: &'a Automaton,
     /// For each variable of the join how far up its bits stand in the markers of this side, if this side
     /// brings them.
     pub(crate) own: Vec<Option<u32>>,
@@ -39,35 +41,39 @@ pub(crate) struct Side {
     pub(crate) stops: Vec<HalfStop>,
 }
 
-/// The side that an automaton is in a join over the names `all`. It brings the markers of those of its
-/// variables that `own` has, or of those that `own` lacks, as `wanted` says, and shares those that `other`
-/// has.
-pub(crate) fn side_of(
-    alloc: Global,
-    automaton: &Automaton,
-    all: &VarSet,
-    own: &Automaton,
-    wanted: bool,
-    other: &Automaton,
-) -> Result<Side, OutOfMemory>
-    requires { length all.now ≤ MOST_VARIABLES }
-    ensures side { IfOk result (IsSideOf (shifts_of automaton.now.names own.now.names wanted all.now) (shifts_of automaton.now.names other.now.names true all.now) automaton.now.graph) }
-    ensures shifts { IfOk result HasShifts }
-{
-    let vars = automaton.vars();
-    let brought = shifts(alloc, all, vars, own.vars(), wanted)?;
-    let shared = shifts(alloc, all, vars, other.vars(), true)?;
-    let stops = half_stops(
-        alloc,
-        automaton.stops(),
-        brought.as_slice(),
-        shared.as_slice(),
-    )?;
-    Ok(Side {
-        own: brought,
-        shared,
-        stops,
-    })
+impl<'a> Operand<'a> {
+    /// The side that an automaton is in a join over the names `all`. It brings the markers of those of its
+    /// variables that `own` has, or of those that `own` lacks, as `wanted` says, and shares those that `other`
+    /// has.
+    pub(crate) fn of(
+        alloc: Global,
+        automaton: &'a Automaton,
+        all: &VarSet,
+        own: &Automaton,
+        wanted: bool,
+        other: &Automaton,
+    ) -> Result<Operand<'a>, OutOfMemory>
+        requires grouped { AreGrouped automaton.now.graph.ways }
+        requires few { length all.now ≤ MOST_VARIABLES }
+        ensures side { IfOk result (IsSideOf (shifts_of automaton.now.names own.now.names wanted all.now) (shifts_of automaton.now.names other.now.names true all.now) automaton.now) }
+        ensures joinable { IfOk result IsJoinable }
+    {
+        let vars = automaton.vars();
+        let brought = shifts(alloc, all, vars, own.vars(), wanted)?;
+        let shared = shifts(alloc, all, vars, other.vars(), true)?;
+        let stops = half_stops(
+            alloc,
+            automaton.stops(),
+            brought.as_slice(),
+            shared.as_slice(),
+        )?;
+        Ok(Operand {
+            automaton,
+            own: brought,
+            shared,
+            stops,
+        })
+    }
 }
 
 /// Makes of these ways those of a side, in the place of what `halves` had.

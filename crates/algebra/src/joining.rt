@@ -7,7 +7,7 @@ ghost use Rattle.algebra.specs.Joining.{IsGroupedOf, IsJoinFault, IsJoinOf};
 
 use crate::assembly::assembled;
 use crate::effort::Effort;
-use crate::halves::side_of;
+use crate::halves::Operand;
 use crate::pairs::searched;
 use crate::renaming::names_of_both;
 use marked_automaton::{Automaton, SizeFault};
@@ -64,8 +64,8 @@ fn join_grouped(
     // What `states` says of each automaton holds of these two.
     let _both = (a.states(), b.states());
     let all = names_of_both(a.vars(), b.vars());
-    let left = side_of(alloc, a, &all, a, true, b)?;
-    let right = side_of(alloc, b, &all, a, false, a)?;
-    let (search, starts) = searched(alloc, a, b, &left, &right, effort)?;
-    assembled(alloc, all, search, starts, a, b, &left, &right)
+    let left = Operand::of(alloc, a, &all, a, true, b)?;
+    let right = Operand::of(alloc, b, &all, a, false, a)?;
+    let (search, starts) = searched(alloc, &left, &right, effort)?;
+    assembled(alloc, all, search, starts, &left, &right)
 }

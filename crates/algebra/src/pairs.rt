@@ -1,15 +1,13 @@
 //! The pairs of states of a join, and the ways between them.
 ghost use Rattle.std.specs.Prelude.{◌≡◌, ℕ, ◌+◌, ◌-◌, ◌*◌, ◌<◌, ◌≤◌, ◌^◌, ◌⊎◌, ◌++◌, List, [], ◌∷◌, length, slice_get, Some, OnOk, IfOk, IfErr};
-ghost use Rattle.std.specs.List.{flat_map};
 ghost use Rattle.span_core.specs.Lists.{AreDistinct, Has};
 ghost use Rattle.marked_automaton.specs.declared.TheConstants.{MOST_STATES, MOST_WAYS};
-ghost use Rattle.marked_automaton.specs.Automaton.{AreGrouped};
 ghost use Rattle.marked_automaton.specs.Faults.{IsSizeFaultWithin};
-ghost use Rattle.algebra.specs.Sides.{HasShifts, IsProductRefusal, IsSearchOf, IsSearchRefusal, half_ways_of};
-ghost use Rattle.algebra.specs.Pairs.{AreRowsOf, AreStarted, AreWithin, HaveSmallMarks, IsFollowed, IsRefusalOf, IsStartRefusal, pair_of, pairs, way_pair, ways_at, ways_meet, ways_with};
+ghost use Rattle.algebra.specs.Sides.{IsJoinable, IsProductRefusal, IsSearchOf, IsSearchRefusal, IsFollowRefusal, half_ways_of, ways_of_all};
+ghost use Rattle.algebra.specs.Pairs.{AreRowsOf, AreStarted, AreWithin, HaveSmallMarks, IsFollowed, IsRefusalOf, IsStartRefusal, pair_of, pairs, way_pair, ways_meet, ways_with};
 
 use crate::effort::Effort;
-use crate::halves::{HalfWay, Side, put_half_ways};
+use crate::halves::{HalfWay, Operand, put_half_ways};
 use indexmap::IndexSet;
 use marked_automaton::{Automaton, MOST_STATES, MOST_WAYS, SizeFault, Way};
 use span_core::{Marks, OutOfMemory};
@@ -42,25 +40,21 @@ struct Rows {
 /// it says, are those of starts. Where the effort is used up and the pairs may be too many, it is refused.
 pub(crate) fn searched(
     alloc: Global,
-    a: &Automaton,
-    b: &Automaton,
-    left: &Side,
-    right: &Side,
+    left: &Operand<'_>,
+    right: &Operand<'_>,
     effort: &mut Effort,
 ) -> Result<(Search, u32), SizeFault>
-    requires first { AreGrouped a.now.graph.ways }
-    requires second { AreGrouped b.now.graph.ways }
-    requires left { HasShifts left.now }
-    requires right { HasShifts right.now }
-    requires marks { HaveSmallMarks (half_ways_of left.now a.now.graph) (half_ways_of right.now b.now.graph) }
-    ensures searched { IfOk result (λ r. IsSearchOf a.now.graph b.now.graph (half_ways_of left.now a.now.graph) (half_ways_of right.now b.now.graph) r.0.found.keys r.1 r.0.ways.items) }
-    ensures fault { IfErr result (λ e. IsSearchRefusal a.now.graph b.now.graph (half_ways_of left.now a.now.graph) (half_ways_of right.now b.now.graph) e) }
+    requires left { IsJoinable left.now }
+    requires right { IsJoinable right.now }
+    requires marks { HaveSmallMarks (half_ways_of left.now) (half_ways_of right.now) }
+    ensures searched { IfOk result (λ r. IsSearchOf left.now right.now r.0.found.keys r.1 r.0.ways.items) }
+    ensures fault { IfErr result (IsSearchRefusal left.now right.now) }
     ensures effort { effort.new ≤ effort.old }
 {
     let mut search = Search::new(alloc);
-    search.find_all(a.starts(), b.starts())?;
+    search.find_all(left.automaton.starts(), right.automaton.starts())?;
     let starts = search.found.len() as u32;
-    search.follow_all(alloc, a, b, left, right, effort)?;
+    search.follow_all(alloc, left, right, effort)?;
     Ok((search, starts))
 }
 
@@ -82,22 +76,18 @@ impl Rows {
     fn put(
         &mut self,
         pair: Pair,
-        a: &Automaton,
-        b: &Automaton,
-        left: &Side,
-        right: &Side,
+        left: &Operand<'_>,
+        right: &Operand<'_>,
     ) -> Result<(), OutOfMemory>
-        requires first { AreGrouped a.now.graph.ways }
-        requires second { AreGrouped b.now.graph.ways }
-        requires left { HasShifts left.now }
-        requires right { HasShifts right.now }
-        ensures rows { OnOk result (AreRowsOf (half_ways_of left.now a.now.graph) (half_ways_of right.now b.now.graph) pair self.new.left.items self.new.right.items) }
+        requires left { IsJoinable left.now }
+        requires right { IsJoinable right.now }
+        ensures rows { OnOk result (AreRowsOf (half_ways_of left.now) (half_ways_of right.now) pair self.new.left.items self.new.right.items) }
         ensures few { OnOk result ((length self.new.left.items ≤ MOST_WAYS) × (length self.new.right.items ≤ MOST_WAYS)) }
     {
         // What `states` says of each automaton holds of these two.
-        let _both = (a.states(), b.states());
-        let lefts = a.ways_from(pair.left);
-        let rights = b.ways_from(pair.right);
+        let _both = (left.automaton.states(), right.automaton.states());
+        let lefts = left.automaton.ways_from(pair.left);
+        let rights = right.automaton.ways_from(pair.right);
         if lefts.is_empty() || rights.is_empty() {
             self.left.clear();
             self.right.clear();
@@ -174,21 +164,17 @@ impl Search {
     fn follow_all(
         &mut self,
         alloc: Global,
-        a: &Automaton,
-        b: &Automaton,
-        left: &Side,
-        right: &Side,
+        left: &Operand<'_>,
+        right: &Operand<'_>,
         effort: &mut Effort,
     ) -> Result<(), SizeFault>
-        requires first { AreGrouped a.now.graph.ways }
-        requires second { AreGrouped b.now.graph.ways }
-        requires left { HasShifts left.now }
-        requires right { HasShifts right.now }
-        requires marks { HaveSmallMarks (half_ways_of left.now a.now.graph) (half_ways_of right.now b.now.graph) }
+        requires left { IsJoinable left.now }
+        requires right { IsJoinable right.now }
+        requires marks { HaveSmallMarks (half_ways_of left.now) (half_ways_of right.now) }
         requires few { length self.old.found.keys ≤ MOST_STATES }
         ensures apart { OnOk result (AreDistinct self.new.found.keys) }
-        ensures followed { OnOk result (IsFollowed (flat_map (ways_at (half_ways_of left.now a.now.graph) (half_ways_of right.now b.now.graph)) self.new.found.keys) self.old.found.keys self.old.ways.items self.new.found.keys self.new.ways.items) }
-        ensures fault { IfErr result (λ e. IsRefusalOf (pairs ways_meet way_pair (half_ways_of right.now b.now.graph) (half_ways_of left.now a.now.graph)) self.old.found.keys self.old.ways.items e ⊎ IsProductRefusal a.now.graph b.now.graph e) }
+        ensures followed { OnOk result (IsFollowed (ways_of_all left.now right.now self.new.found.keys) self.old.found.keys self.old.ways.items self.new.found.keys self.new.ways.items) }
+        ensures fault { IfErr result (IsFollowRefusal left.now right.now self.old.found.keys self.old.ways.items) }
         ensures effort { effort.new ≤ effort.old }
     {
         let mut rows = Rows {
@@ -198,10 +184,10 @@ impl Search {
         let mut done = 0;
         while done < self.found.len() {
             let pair = self.found.as_slice()[done];
-            rows.put(pair, a, b, left, right)?;
+            rows.put(pair, left, right)?;
             effort.spend(rows.steps());
             if effort.is_spent() {
-                fit_in_pairs(a, b)?;
+                fit_in_pairs(left.automaton, right.automaton)?;
             }
             self.follow_pair(done as u32, rows.left.as_slice(), rows.right.as_slice())?;
             done += 1;

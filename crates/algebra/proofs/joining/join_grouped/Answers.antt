@@ -29,11 +29,11 @@ assembled-requires-clause-ways c =
 
 pub assembled-requires-clause-within : goal.assembled-requires-clause-within
 assembled-requires-clause-within c =
-    of.within c.states.ensures.marked c.states-2.ensures.marked c.names_of_both-all.result c.in_ok-left.ensures.side c.in_ok-right.ensures.side c.in_ok-search.ensures.searched
+    of.within_sides c.states.ensures.marked c.states-2.ensures.marked c.names_of_both-all.result c.in_ok-left.ensures.side c.in_ok-right.ensures.side c.in_ok-search.ensures.searched
 
 pub assembled-requires-clause-idle : goal.assembled-requires-clause-idle
 assembled-requires-clause-idle c =
-    of.idle_there c.states.ensures.marked c.states-2.ensures.marked c.names_of_both-all.result c.in_ok-left.ensures.side c.in_ok-right.ensures.side c.in_ok-search.ensures.searched
+    of.idle_in_sides c.states.ensures.marked c.states-2.ensures.marked c.names_of_both-all.result c.in_ok-left.ensures.side c.in_ok-right.ensures.side c.in_ok-search.ensures.searched
 
 pub assembled-requires-clause-marks : goal.assembled-requires-clause-marks
 assembled-requires-clause-marks c =

@@ -1,14 +1,13 @@
-use Rattle.std.proofs.Common.{◌≡◌, ◌+◌, ◌<◌, ◌⊎◌, inl, List, [], ◌++◌, length, take, get_or, sym, subst, ap, arith, rules, ◌∙◌, length-append}
+use Rattle.std.proofs.Common.{◌≡◌, ◌+◌, ◌<◌, inl, List, [], ◌++◌, length, take, get_or, sym, subst, ap, arith, rules, ◌∙◌, length-append}
 use Rattle.std.specs.Prelude.{slice_get, Some}
 use Rattle.std.specs.List.{flat_map}
 use Rattle.std.proofs.lemmas.List.{append-nil}
 use Rattle.std.proofs.lemmas.Option.{slice_get-get_or}
 use Rattle.span_core.specs.Lists.{Has}
-use Rattle.marked_automaton.specs.declared.fault.SizeFault.{SizeFault}
 use Rattle.algebra.specs.declared.halves.HalfWay.{HalfWay}
 use Rattle.algebra.specs.declared.pairs.Pair.{Pair}
 use Rattle.algebra.specs.Pairs.{PairWay, IsFollowed, IsRefusalOf, pair_of, pairs, way_pair, ways_at, ways_meet}
-use Rattle.algebra.specs.Sides.{IsProductRefusal, half_ways_of}
+use Rattle.algebra.specs.Sides.{IsFollowRefusal, half_ways_of}
 use Rattle.algebra.proofs.Followed.{followed_none, followed_then, refusal_then, handed_on, keys_apart}
 use Rattle.algebra.proofs.Searched.{rows_more, apart_take, refusal_of_all, read_pair}
 use Rattle.algebra.proofs.pairs.Search.follow_all.Goals as goal
@@ -34,8 +33,8 @@ follow_pair-requires-clause-marks c = λ x y hx hy.
 
 pub returns-in_err-follow_pair-clause-fault : goal.returns-in_err-follow_pair-clause-fault
 returns-in_err-follow_pair-clause-fault c =
-    let xs = half_ways_of c.args.left.now c.args.a.now.graph in
-    let ys = half_ways_of c.args.right.now c.args.b.now.graph in
+    let xs = half_ways_of c.args.left.now in
+    let ys = half_ways_of c.args.right.now in
     let keys = c.loop-done.self.found.keys in
     let done = c.loop-done.done in
     let k : Pair = get_or c.as_slice.result.now done (pair_of 0 0) in
@@ -50,7 +49,7 @@ returns-in_err-follow_pair-clause-fault c =
     ap (λ zs. flat_map (ways_at xs ys) (take (done + 1) zs)) (sym (append-nil keys)) ∙ rows_more (ways_at xs ys) keys [] done k within is in
     let apart = apart_take (done + 1) keys (keys_apart _ (λ k. search rules) keys c.len.ensures.unique) in
     let e = c.in_err-follow_pair.field-0.0 in
-    handed_on (λ (e : SizeFault). IsRefusalOf (pairs ways_meet way_pair ys xs) k0 w0 e ⊎ IsProductRefusal c.args.a.now.graph c.args.b.now.graph e) c.from_residual-in_err-follow_pair.result e
+    handed_on (IsFollowRefusal c.args.left.now c.args.right.now k0 w0) c.from_residual-in_err-follow_pair.result e
     c.from_residual-in_err-follow_pair.ensures.1
     (inl (refusal_of_all xs ys (take (done + 1) keys) k0 w0 e apart
     (subst (λ (r : List PairWay). IsRefusalOf r k0 w0 e) (ap (λ zs. before ++ zs) (append-nil (ways_at xs ys k)) ∙ sym more)
@@ -59,8 +58,8 @@ returns-in_err-follow_pair-clause-fault c =
 
 pub loop-done-preserved : goal.loop-done-preserved
 loop-done-preserved c =
-    let xs = half_ways_of c.args.left.now c.args.a.now.graph in
-    let ys = half_ways_of c.args.right.now c.args.b.now.graph in
+    let xs = half_ways_of c.args.left.now in
+    let ys = half_ways_of c.args.right.now in
     let keys = c.loop-done.self.found.keys in
     let new = c.follow_pair.new.self in
     let done = c.loop-done.done in

@@ -1,13 +1,12 @@
 use Rattle.std.proofs.Common.{◌-◌, ◌≤◌, take, length}
-use Rattle.std.specs.List.{flat_map}
 use Rattle.marked_automaton.specs.declared.TheConstants.{MOST_STATES}
-use Rattle.algebra.specs.Pairs.{IsFollowed, ways_at}
-use Rattle.algebra.specs.Sides.{half_ways_of}
+use Rattle.algebra.specs.Pairs.{IsFollowed}
+use Rattle.algebra.specs.Sides.{ways_of_all}
 use Rattle.algebra.proofs.pairs.Search.follow_all.Given as goal
 
 abbrev pub invariant-loop-done : goal.invariant-loop-done
 invariant-loop-done l = record {
-  followed : IsFollowed (flat_map (ways_at (half_ways_of l.left l.a.graph) (half_ways_of l.right l.b.graph)) (take l.done l.self.found.keys)) l.initial.self.found.keys l.initial.self.ways.items l.self.found.keys l.self.ways.items;
+  followed : IsFollowed (ways_of_all l.left l.right (take l.done l.self.found.keys)) l.initial.self.found.keys l.initial.self.ways.items l.self.found.keys l.self.ways.items;
   within : l.done ≤ length l.self.found.keys;
   effort : l.effort ≤ l.initial.effort;
 }
