@@ -18,9 +18,10 @@ use Rattle.automaton_reading.specs.Reading.{byte_read, ended, put_up, set_of, bl
 use Rattle.automaton_reading.proofs.Determined.{set_has, has_set}
 use Rattle.set_table.specs.declared.answer.Answer.{Answer}
 use Rattle.set_table.specs.declared.answer.Question.TheVariants.{Ends}
+use Rattle.set_table.specs.declared.lists.Lists.{Lists}
 use Rattle.set_table.specs.Cut.{code_of, cut, mark_of, marks_among, marks_code}
-use Rattle.set_table.specs.Named.{PutsEdges}
-use Rattle.set_table.specs.Tabled.{IsStateSet, edge_named, reached, set_at, with_set, with_sets}
+use Rattle.set_table.specs.Named.{IsLongerBy, PutsEdges}
+use Rattle.set_table.specs.Tabled.{IsStateSet, edge_named, reached, set_at, sets_weight, with_set, with_sets}
 use Rattle.set_table.specs.Answered.{Adds, IsReady, answer_in, asked_by, end_reach, part, room}
 use Rattle.set_table.proofs.Ascending.{Above, all_has, has_all, blocks_are, set_in_order}
 use Rattle.set_table.proofs.CutLaws.{AreNarrow, cut_is}
@@ -66,8 +67,8 @@ below_few n xs up l = let r = room_above xs 0 n up (λ p h. omega arith) l (omeg
 
 -- ---- what is ready
 
-pub ready_set : (M : Marked) (sets : List (List ℕ)) (es : List Edge) (ends : List ℕ) (k : ℕ) → IsReady M sets es ends k → IsStateSet M.graph (set_at sets k)
-ready_set M sets es ends k r = r.states (set_at sets k) (Has-get_or sets k [] r.set)
+pub ready_set : (M : Marked) (lists : Lists) (k : ℕ) → IsReady M lists k → IsStateSet M.graph (set_at lists.sets k)
+ready_set M lists k r = r.states (set_at lists.sets k) (Has-get_or lists.sets k [] r.set)
 
 small_marks : (v m : ℕ) → v ≤ MOST_VARIABLES → m < 2 ^ (2 * v) → m < 2 ^ 64
 small_marks v m l h = let p : 2 ^ (2 * v) ≤ 2 ^ 64 = pow_mono {i = 2 * v} {j = 64} (omega (arith, l)) in omega (arith, p, h)
@@ -97,24 +98,28 @@ part_all xs0 xs made first count is at n =
     let len : count ≡ length made = omega (arith, n, at, ap length is, length-append xs0 made) in
     (λ i. take count (drop (at i) (is i))) ∙ (ap (take count) (drop-append_seam xs0 made) ∙ take_all count made (omega (arith, len)))
 
-pub adds_edges : (A : Automaton) (sets0 sets : List (List ℕ)) (es0 es : List Edge) (ends : List ℕ) (x : Answer) (reaches : List Reach) (w : ℕ) →
-    PutsEdges reaches sets0 sets es0 es w → reaches ≡ edges A (set_at sets0 x.set) (asked_by x.question) →
-    reached A (set_at sets0 x.set) (asked_by x.question) ≡ map (λ (e : Reach). e.to) (edges A (set_at sets0 x.set) (asked_by x.question)) →
-    room es ends x.question ≡ length es → answer_in sets es ends x.question x.first x.count ≡ map (edge_named sets) (part x.first x.count es) →
-    x.first ≡ length es0 → x.count ≡ length es - x.first → Adds A sets0 sets es0 es ends ends x (w + 1)
-adds_edges A sets0 sets es0 es ends x reaches w p same to size answered at n =
+pub adds_edges : (A : Automaton) (old new : Lists) (x : Answer) (reaches : List Reach) (w : ℕ) →
+    PutsEdges reaches old.sets new.sets old.edges.items new.edges.items w → old.ends.items ≡ new.ends.items → reaches ≡ edges A (set_at old.sets x.set) (asked_by x.question) →
+    reached A (set_at old.sets x.set) (asked_by x.question) ≡ map (λ (e : Reach). e.to) (edges A (set_at old.sets x.set) (asked_by x.question)) →
+    room new.edges.items new.ends.items x.question ≡ length new.edges.items →
+    answer_in new.sets new.edges.items new.ends.items x.question x.first x.count ≡ map (edge_named new.sets) (part x.first x.count new.edges.items) →
+    x.first ≡ length old.edges.items → x.count ≡ length new.edges.items - x.first → Adds A old new x (w + 1)
+adds_edges A old new x reaches w p ends same to size answered at n =
+    let es0 = old.edges.items in
+    let es = new.edges.items in
     let whole = part_all es0 es p.made x.first x.count p.pushed at n in
     let len : length es ≡ length es0 + length p.made = ap length p.pushed ∙ length-append es0 p.made in
-    let made : length p.made ≡ length (edges A (set_at sets0 x.set) (asked_by x.question)) = sym (length-map p.made (edge_named sets)) ∙ ap length (p.named ∙ same) in
+    let made : length p.made ≡ length (edges A (set_at old.sets x.set) (asked_by x.question)) = sym (length-map p.made (edge_named new.sets)) ∙ ap length (p.named ∙ same) in
     record {
-      known = p.known ∙ ap (with_sets sets0) (ap (map (λ (e : Reach). e.to)) same ∙ sym to);
+      known = p.known ∙ ap (with_sets old.sets) (ap (map (λ (e : Reach). e.to)) same ∙ sym to);
       edges_longer = (p.made, p.pushed);
-      ends_longer = longer_itself ends;
+      ends_longer = subst (λ (zs : List ℕ). IsLongerBy old.ends.items zs) ends (longer_itself old.ends.items);
       within = omega (arith, n, at, len, size);
-      is = answered ∙ (ap (map (edge_named sets)) whole ∙ (p.named ∙ same));
-      targets = λ e h. elim (Has-append_cases es0 p.made e (subst (λ (xs : List Edge). Has xs e) p.pushed h)) as (λ _. Has es0 e ⊎ (e.to < length sets)) [ inl k ↦ inl k | inr k ↦ inr (p.numbers e k) ];
+      is = answered ∙ (ap (map (edge_named new.sets)) whole ∙ (p.named ∙ same));
+      targets = λ e h.
+          elim (Has-append_cases es0 p.made e (subst (λ (xs : List Edge). Has xs e) p.pushed h)) as (λ _. Has es0 e ⊎ (e.to < length new.sets)) [ inl k ↦ inl k | inr k ↦ inr (p.numbers e k) ];
       weighs = let l = ap length same in omega (arith, p.weighs, l);
-      few = omega (arith, len, made);
+      few = omega (arith, len, made, ap length ends);
       small = omega (arith, p.small);
     }
 
@@ -183,23 +188,26 @@ small_stops M S marked few x h =
     let f = filter_cases (λ (y : Stop). is_among S y.state) M.graph.stops x h in
     small_marks (length M.names) x.marks few (marked.stop_marks x f.0)
 
-pub adds_ends : (M : Marked) (sets : List (List ℕ)) (es : List Edge) (ends0 ends : List ℕ) (k first count : ℕ) (codes : List ℕ) → IsMarked M → length M.names ≤ MOST_VARIABLES →
-    codes ≡ set_of (marks_among (set_at sets k) M.graph.stops) → ends ≡ ends0 ++ map mark_of codes → first ≡ length ends0 → count ≡ length ends - first → count < 2 ^ 63 →
-    Adds M.graph sets sets es es ends0 ends (record { set = k; question = Ends; first = first; count = count }) (count + 1)
-adds_ends M sets es ends0 ends k first count codes marked few is put at n small =
-    let stops = filter (λ (y : Stop). is_among (set_at sets k) y.state) M.graph.stops in
-    let turned : map mark_of codes ≡ blocks_down (map (λ (y : Stop). y.marks) stops) = ap (map mark_of) is ∙ turned_are stops (small_stops M (set_at sets k) marked few) in
+pub adds_ends : (M : Marked) (old new : Lists) (k first count : ℕ) (codes : List ℕ) → IsMarked M → length M.names ≤ MOST_VARIABLES →
+    old.sets ≡ new.sets → old.edges.items ≡ new.edges.items → codes ≡ set_of (marks_among (set_at old.sets k) M.graph.stops) →
+    new.ends.items ≡ old.ends.items ++ map mark_of codes → first ≡ length old.ends.items → count ≡ length new.ends.items - first → count < 2 ^ 63 →
+    Adds M.graph old new (record { set = k; question = Ends; first = first; count = count }) (count + 1)
+adds_ends M old new k first count codes marked few same_sets same_edges is put at n small =
+    let ends0 = old.ends.items in
+    let ends = new.ends.items in
+    let stops = filter (λ (y : Stop). is_among (set_at old.sets k) y.state) M.graph.stops in
+    let turned : map mark_of codes ≡ blocks_down (map (λ (y : Stop). y.marks) stops) = ap (map mark_of) is ∙ turned_are stops (small_stops M (set_at old.sets k) marked few) in
     let whole = part_all ends0 ends (map mark_of codes) first count put at n in
     let len : length ends ≡ length ends0 + length (map mark_of codes) = ap length put ∙ length-append ends0 (map mark_of codes) in
-    let marks : length (map mark_of codes) ≡ length (edges M.graph (set_at sets k) ended) = ap length turned ∙ sym (length-map (blocks_down (map (λ (y : Stop). y.marks) stops)) end_reach) in
+    let marks : length (map mark_of codes) ≡ length (edges M.graph (set_at old.sets k) ended) = ap length turned ∙ sym (length-map (blocks_down (map (λ (y : Stop). y.marks) stops)) end_reach) in
     record {
-      known = refl;
-      edges_longer = longer_itself es;
+      known = sym same_sets;
+      edges_longer = subst (λ (zs : List Edge). IsLongerBy old.edges.items zs) same_edges (longer_itself old.edges.items);
       ends_longer = (map mark_of codes, put);
       within = omega (arith, n, at, len);
       is = ap (map end_reach) (whole ∙ turned);
-      targets = λ e h. inl h;
-      weighs = omega (arith, n, at, len, marks);
-      few = omega (arith, len, marks);
+      targets = λ e h. inl (subst (λ (zs : List Edge). Has zs e) (sym same_edges) h);
+      weighs = omega (arith, n, at, len, marks, ap sets_weight same_sets);
+      few = omega (arith, len, marks, ap length same_edges);
       small = omega (arith, small);
     }

@@ -21,6 +21,7 @@ use Rattle.automaton_reading.proofs.Determined.{has_set}
 use Rattle.set_table.specs.declared.answer.Question.{Question}
 use Rattle.set_table.specs.declared.answer.Question.TheVariants.{Byte, Rest, Ends}
 use Rattle.set_table.specs.declared.answer.Answer.{Answer}
+use Rattle.set_table.specs.declared.lists.Lists.{Lists}
 use Rattle.set_table.specs.declared.store.Store.{Store}
 use Rattle.set_table.specs.Named.{IsLongerBy}
 use Rattle.set_table.specs.Tabled.{Asking, HasEdges, HasEnds, asking, idle_of, IsStateSet, IsTabled, Tabled, asked_edges, asked_first, asked_weight, asking_same, once_asked, weight, edge_named, reached, set_at, sets_weight, with_set, with_sets}
@@ -234,9 +235,27 @@ places_new n numbers p l = get_or-append_right numbers (replicate (n - length nu
 pub place_within : (k n : ℕ) (q : Question) → IsQuestion q → k < n → place_in k q < 272 * n
 place_within k n q h l = let b = place_below q h in omega (arith, b, l)
 
-module _ (A : Automaton) (sets0 sets : List (List ℕ)) (answers0 : List Answer) (es0 es : List Edge) (ends0 ends numbers0 : List ℕ) (w0 w : ℕ) (x : Answer)
-    (whole : IsWhole A) (held : IsHeld A sets0 answers0 es0 ends0 numbers0 w0) (adds : Adds A sets0 sets es0 es ends0 ends x w)
-    (within : x.set < length sets0) (question : IsQuestion x.question) (absent : Has (askings answers0) (asking_of x) → ⊥) where
+module _ (A : Automaton) (before after : Lists) (answers0 : List Answer) (numbers0 : List ℕ) (w0 w : ℕ) (x : Answer)
+    (whole : IsWhole A) (held : IsHeld A before.sets answers0 before.edges.items before.ends.items numbers0 w0) (adds : Adds A before after x w)
+    (within : x.set < length before.sets) (question : IsQuestion x.question) (absent : Has (askings answers0) (asking_of x) → ⊥) where
+  abbrev sets0 : List (List ℕ)
+  sets0 = before.sets
+
+  abbrev sets : List (List ℕ)
+  sets = after.sets
+
+  abbrev es0 : List Edge
+  es0 = before.edges.items
+
+  abbrev es : List Edge
+  es = after.edges.items
+
+  abbrev ends0 : List ℕ
+  ends0 = before.ends.items
+
+  abbrev ends : List ℕ
+  ends = after.ends.items
+
   longer : IsLongerBy sets0 sets
   longer = let g = with_sets_longer sets0 (reached A (set_at sets0 x.set) (asked_by x.question)) in (g.0, adds.known ∙ g.1)
 
@@ -464,7 +483,7 @@ apart_by_places (x ∷ xs) h = (
   apart_by_places xs (λ i j y e f. let g : suc i ≡ suc j = h (suc i) (suc j) y e f in omega (arith, g)),
 )
 
-pub is_tabled : (M : Marked) (limit w : ℕ) (s : Store) → IsSound M limit w s → AreDistinct s.sets → IsTabled (tabled M.graph limit s)
+pub is_tabled : (M : Marked) (limit w : ℕ) (s : Store) → IsSound M limit w s → AreDistinct s.lists.sets → IsTabled (tabled M.graph limit s)
 is_tabled M limit w s sound apart = record {
   start = sound.held.start;
   sets = sound.held.states;

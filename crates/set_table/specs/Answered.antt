@@ -10,6 +10,8 @@ use Rattle.automaton_reading.specs.Reading.{Asked, byte_read, rest_taken, ended,
 use Rattle.set_table.specs.declared.answer.Question.{Question}
 use Rattle.set_table.specs.declared.answer.Question.TheVariants.{Byte, Rest, Ends}
 use Rattle.set_table.specs.declared.answer.Answer.{Answer}
+use Rattle.set_table.specs.declared.lists.Added.{Added}
+use Rattle.set_table.specs.declared.lists.Lists.{Lists}
 use Rattle.set_table.specs.declared.store.Store.{Store}
 use Rattle.set_table.specs.Named.{IsLongerBy}
 use Rattle.set_table.specs.Tabled.{Asking, Tabled, IsStateSet, Stays, asked_weight, edge_named, reached, set_at, sets_weight, with_sets}
@@ -81,10 +83,10 @@ pub record IsHeld (A : Automaton) (sets : List (List ℕ)) (answers : List Answe
   pub few : length sets + length answers + length es + length ends ≤ w
 
 abbrev pub tabled : Automaton → ℕ → Store → Tabled
-tabled A limit s = record { graph = A; limit = limit; sets = s.sets; asked = askings s.answers.items }
+tabled A limit s = record { graph = A; limit = limit; sets = s.lists.sets; asked = askings s.answers.items }
 
 abbrev pub Holds : Automaton → Store → ℕ → Type 0
-Holds A s w = IsHeld A s.sets s.answers.items s.edges.items s.ends.items s.numbers w
+Holds A s w = IsHeld A s.lists.sets s.answers.items s.lists.edges.items s.lists.ends.items s.numbers w
 
 -- for each set the bytes on which it stays
 pub record AreStays (t : Tabled) (stays : List (bytes.FinSet nat_cmp)) : Type 0 where
@@ -101,23 +103,35 @@ pub record IsSound (M : Marked) (limit w : ℕ) (s : Store) : Type 0 where
   pub stays : AreStays (tabled M.graph limit s) s.stays.items
 
 -- what is there once an answer is made, before it is kept
-pub record Adds (A : Automaton) (sets0 sets : List (List ℕ)) (es0 es : List Edge) (ends0 ends : List ℕ) (x : Answer) (w : ℕ) : Type 0 where
-  pub known : sets ≡ with_sets sets0 (reached A (set_at sets0 x.set) (asked_by x.question))
-  pub edges_longer : IsLongerBy es0 es
-  pub ends_longer : IsLongerBy ends0 ends
-  pub within : x.first + x.count ≡ room es ends x.question
-  pub is : answer_in sets es ends x.question x.first x.count ≡ edges A (set_at sets0 x.set) (asked_by x.question)
-  pub targets : (e : Edge) → Has es e → Has es0 e ⊎ (e.to < length sets)
-  pub weighs : sets_weight sets + (1 + length (edges A (set_at sets0 x.set) (asked_by x.question))) ≡ sets_weight sets0 + w
-  pub few : length es + length ends + 1 ≤ length es0 + length ends0 + (1 + length (edges A (set_at sets0 x.set) (asked_by x.question)))
+pub record Adds (A : Automaton) (old new : Lists) (x : Answer) (w : ℕ) : Type 0 where
+  pub known : new.sets ≡ with_sets old.sets (reached A (set_at old.sets x.set) (asked_by x.question))
+  pub edges_longer : IsLongerBy old.edges.items new.edges.items
+  pub ends_longer : IsLongerBy old.ends.items new.ends.items
+  pub within : x.first + x.count ≡ room new.edges.items new.ends.items x.question
+  pub is : answer_in new.sets new.edges.items new.ends.items x.question x.first x.count ≡ edges A (set_at old.sets x.set) (asked_by x.question)
+  pub targets : (e : Edge) → Has new.edges.items e → Has old.edges.items e ⊎ (e.to < length new.sets)
+  pub weighs : sets_weight new.sets + (1 + length (edges A (set_at old.sets x.set) (asked_by x.question))) ≡ sets_weight old.sets + w
+  pub few :
+      length new.edges.items + length new.ends.items + 1
+      ≤ length old.edges.items + length old.ends.items + (1 + length (edges A (set_at old.sets x.set) (asked_by x.question)))
   pub small : w ≤ 2 ^ 63
 
+-- the answer to this question of this set was added
+abbrev pub HasAdded : Automaton → Lists → Lists → ℕ → Question → Added → Type 0
+HasAdded A old new k q added = Adds A old new (record { set = k; question = q; first = added.first; count = added.count }) added.weight
+
+-- the lists, and then more
+pub record AreLonger (old new : Lists) : Type 0 where
+  pub sets : IsLongerBy old.sets new.sets
+  pub edges : IsLongerBy old.edges.items new.edges.items
+  pub ends : IsLongerBy old.ends.items new.ends.items
+
 -- what a set is asked with: an automaton of few variables, and few sets and edges
-pub record IsReady (M : Marked) (sets : List (List ℕ)) (es : List Edge) (ends : List ℕ) (k : ℕ) : Type 0 where
+pub record IsReady (M : Marked) (lists : Lists) (k : ℕ) : Type 0 where
   pub marked : IsMarked M
   pub names : length M.names ≤ MOST_VARIABLES
-  pub set : k < length sets
-  pub states : (s : List ℕ) → Has sets s → IsStateSet M.graph s
-  pub few_sets : length sets ≤ 100000000
-  pub few_edges : length es ≤ 100000000
-  pub few_ends : length ends ≤ 100000000
+  pub set : k < length lists.sets
+  pub states : (s : List ℕ) → Has lists.sets s → IsStateSet M.graph s
+  pub few_sets : length lists.sets ≤ 100000000
+  pub few_edges : length lists.edges.items ≤ 100000000
+  pub few_ends : length lists.ends.items ≤ 100000000

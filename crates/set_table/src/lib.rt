@@ -11,6 +11,7 @@ pub use table::Table;
 
 mod answer;
 mod fault;
+mod lists;
 mod naming;
 mod places;
 mod reaching;

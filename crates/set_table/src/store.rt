@@ -1,23 +1,21 @@
-//! What a table holds: sets, edges and answers, in lists that only grow.
+//! What a table holds: lists of sets, edges and ends, and answers that stand in them.
 //!
 //! An answer is a part of the list of edges, and a dense index, 272 places a set, tells its number: 256 bytes, the
 //! rest and the ends. A refusal cuts the lists back to their old lengths. Beside them each set notes the bytes on
 //! which it stays.
 ghost use Rattle.std.specs.Prelude.{◌≡◌, ℕ, ◌+◌, ◌*◌, ◌^◌, ◌<◌, ◌≤◌, ◌++◌, ◌∷◌, List, [], length, take, slice_set, slice_index_or, ◌↔◌, ◌⊎◌, IsTrue, OnOk, OnErr, IfOk, IfErr};
 ghost use Rattle.std.specs.FinSet as bytes;
-ghost use Rattle.set_table.specs.Answered.{Adds, IsQuestion, IsReady, IsSound, asked_by, askings, part, place_in, room, tabled, with_places};
+ghost use Rattle.set_table.specs.Answered.{AreLonger, IsQuestion, IsSound, asked_by, askings, part, place_in, tabled, with_places};
 ghost use Rattle.span_core.specs.Lists.{Has};
 ghost use Rattle.set_table.specs.Named.{IsLongerBy};
 ghost use Rattle.set_table.specs.Tabled.{IsRefusal, asked_first, asking, one_edge};
 
 use crate::TableFault;
 use crate::answer::{Answer, Question};
-use crate::naming::{put_edges, put_ends, put_rest};
+use crate::lists::Lists;
 use crate::places::Places;
-use crate::reaching::{idle_members, put_codes, put_marks};
-use crate::sets::Sets;
 use marked_automaton::Automaton;
-use span_core::{ByteSet, Edge, Marks, OutOfMemory};
+use span_core::{ByteSet, Edge, OutOfMemory};
 use std::alloc::Global;
 
 /// How many runs of places a set has: 16 for the bytes, and one for its rest and its ends.
@@ -29,168 +27,44 @@ const PLACES: usize = 272;
 /// Sets with numbers, and what was asked of them.
 #[derive(Drop)]
 pub(crate) struct Store {
-    pub(crate) sets: Sets,
+    alloc: Global,
+    pub(crate) lists: Lists,
     pub(crate) answers: Vec<Answer>,
-    pub(crate) edges: Vec<Edge>,
-    pub(crate) ends: Vec<Marks>,
     /// For each set and question the number of its answer and 1, or 0 where it has none.
     pub(crate) numbers: Places,
     /// For each set the bytes that were asked of it whose only edge takes no marks and leads to the set itself.
     pub(crate) stays: Vec<ByteSet>,
-    /// Room for what members reach.
-    codes: Vec<u128>,
-}
-
-/// An answer that was added: where it stands, and what it weighs with the sets that are new.
-#[derive(Clone, Copy, Debug)]
-pub(crate) struct Added {
-    pub(crate) first: usize,
-    pub(crate) count: usize,
-    pub(crate) weight: u64,
 }
 
 impl Store {
     /// One set, of which nothing was asked.
     pub(crate) fn new(alloc: Global, start: Vec<u32>) -> Result<Store, OutOfMemory>
-        ensures sets { IfOk result (λ s. s.sets ≡ start.items ∷ []) }
+        ensures sets { IfOk result (λ s. s.lists.sets ≡ start.items ∷ []) }
+        ensures edges { IfOk result (λ s. s.lists.edges.items ≡ []) }
+        ensures ends { IfOk result (λ s. s.lists.ends.items ≡ []) }
         ensures answers { IfOk result (λ s. s.answers.items ≡ []) }
-        ensures edges { IfOk result (λ s. s.edges.items ≡ []) }
-        ensures ends { IfOk result (λ s. s.ends.items ≡ []) }
         ensures numbers { IfOk result (λ s. s.numbers ≡ with_places 272 []) }
         ensures stays { IfOk result (λ s. (k : ℕ) → slice_index_or s.stays.items k bytes.empty ≡ bytes.empty) }
         ensures stay_of_each { IfOk result (λ s. length s.stays.items ≡ 1) }
     {
-        let mut sets = Sets::new(alloc);
-        sets.number_of(start)?;
+        let lists = Lists::new(alloc, start)?;
         let mut numbers = Places::new(alloc)?;
         numbers.grow(RUNS)?;
         let mut stays = Vec::new(alloc);
         put_empty(&mut stays, 1)?;
         Ok(Store {
-            sets,
+            alloc,
+            lists,
             answers: Vec::new(alloc),
-            edges: Vec::new(alloc),
-            ends: Vec::new(alloc),
             numbers,
             stays,
-            codes: Vec::new(alloc),
-        })
-    }
-
-    /// Adds an answer's edges or ends, and the sets that edges lead to, and tells what that weighs. On
-    /// refusal some of them may be there.
-    pub(crate) fn add(
-        &mut self,
-        alloc: Global,
-        automaton: &Automaton,
-        set: u32,
-        question: Question,
-    ) -> Result<Added, OutOfMemory>
-        requires ready { IsReady automaton.now self.old.sets self.old.edges.items self.old.ends.items set }
-        ensures adds { IfOk result (λ r. Adds automaton.now.graph self.old.sets self.new.sets self.old.edges.items self.new.edges.items self.old.ends.items self.new.ends.items (record { set = set; question = question; first = r.first; count = r.count }) r.weight) }
-        ensures sets { IsLongerBy self.old.sets self.new.sets }
-        ensures edges { IsLongerBy self.old.edges.items self.new.edges.items }
-        ensures ends { IsLongerBy self.old.ends.items self.new.ends.items }
-        ensures answers { self.new.answers.items ≡ self.old.answers.items }
-        ensures numbers { self.new.numbers ≡ self.old.numbers }
-        ensures stays { self.new.stays.items ≡ self.old.stays.items }
-    {
-        match question {
-            Question::Byte(byte) => self.add_edges(alloc, automaton, set, byte),
-            Question::Rest => self.add_rest(alloc, automaton, set),
-            Question::Ends => self.add_ends(automaton, set),
-        }
-    }
-
-    /// Adds the edges of a set on a byte, and the sets that they lead to.
-    fn add_edges(
-        &mut self,
-        alloc: Global,
-        automaton: &Automaton,
-        set: u32,
-        byte: u8,
-    ) -> Result<Added, OutOfMemory>
-        requires ready { IsReady automaton.now self.old.sets self.old.edges.items self.old.ends.items set }
-        ensures adds { IfOk result (λ r. Adds automaton.now.graph self.old.sets self.new.sets self.old.edges.items self.new.edges.items self.old.ends.items self.new.ends.items (record { set = set; question = Question.Byte byte; first = r.first; count = r.count }) r.weight) }
-        ensures sets { IsLongerBy self.old.sets self.new.sets }
-        ensures edges { IsLongerBy self.old.edges.items self.new.edges.items }
-        ensures ends { self.new.ends.items ≡ self.old.ends.items }
-        ensures answers { self.new.answers.items ≡ self.old.answers.items }
-        ensures numbers { self.new.numbers ≡ self.old.numbers }
-        ensures stays { self.new.stays.items ≡ self.old.stays.items }
-    {
-        put_codes(&mut self.codes, automaton, self.sets.at(set as usize), byte)?;
-        let first = self.edges.len();
-        let added = put_edges(
-            alloc,
-            self.codes.as_slice(),
-            &mut self.sets,
-            &mut self.edges,
-        )?;
-        Ok(Added {
-            first,
-            count: self.edges.len() - first,
-            weight: added + 1,
-        })
-    }
-
-    /// Adds the edge of a set to its idle members, where it has any, and their set.
-    fn add_rest(
-        &mut self,
-        alloc: Global,
-        automaton: &Automaton,
-        set: u32,
-    ) -> Result<Added, OutOfMemory>
-        requires ready { IsReady automaton.now self.old.sets self.old.edges.items self.old.ends.items set }
-        ensures adds { IfOk result (λ r. Adds automaton.now.graph self.old.sets self.new.sets self.old.edges.items self.new.edges.items self.old.ends.items self.new.ends.items (record { set = set; question = Question.Rest; first = r.first; count = r.count }) r.weight) }
-        ensures sets { IsLongerBy self.old.sets self.new.sets }
-        ensures edges { IsLongerBy self.old.edges.items self.new.edges.items }
-        ensures ends { self.new.ends.items ≡ self.old.ends.items }
-        ensures answers { self.new.answers.items ≡ self.old.answers.items }
-        ensures numbers { self.new.numbers ≡ self.old.numbers }
-        ensures stays { self.new.stays.items ≡ self.old.stays.items }
-    {
-        let idle = idle_members(alloc, automaton, self.sets.at(set as usize))?;
-        let first = self.edges.len();
-        let added = put_rest(idle, &mut self.sets, &mut self.edges)?;
-        Ok(Added {
-            first,
-            count: self.edges.len() - first,
-            weight: added + 1,
-        })
-    }
-
-    /// Adds the marks of a set's ends.
-    fn add_ends(&mut self, automaton: &Automaton, set: u32) -> Result<Added, OutOfMemory>
-        requires ready { IsReady automaton.now self.old.sets self.old.edges.items self.old.ends.items set }
-        ensures adds { IfOk result (λ r. Adds automaton.now.graph self.old.sets self.new.sets self.old.edges.items self.new.edges.items self.old.ends.items self.new.ends.items (record { set = set; question = Question.Ends; first = r.first; count = r.count }) r.weight) }
-        ensures sets { self.new.sets ≡ self.old.sets }
-        ensures edges { self.new.edges.items ≡ self.old.edges.items }
-        ensures ends { IsLongerBy self.old.ends.items self.new.ends.items }
-        ensures answers { self.new.answers.items ≡ self.old.answers.items }
-        ensures numbers { self.new.numbers ≡ self.old.numbers }
-        ensures stays { self.new.stays.items ≡ self.old.stays.items }
-    {
-        put_marks(
-            &mut self.codes,
-            automaton.stops(),
-            self.sets.at(set as usize),
-        )?;
-        let first = self.ends.len();
-        put_ends(self.codes.as_slice(), &mut self.ends)?;
-        let count = self.ends.len() - first;
-        Ok(Added {
-            first,
-            count,
-            weight: count as u64 + 1,
         })
     }
 
     /// Answers a question that was not asked of the set, where all that is then held weighs no more than
-    /// the limit, and tells what it weighs. On refusal there may be more sets, edges, ends and places.
+    /// the limit, and tells what it weighs. After a refusal all is as before.
     pub(crate) fn answer(
         &mut self,
-        alloc: Global,
         automaton: &Automaton,
         set: u32,
         question: Question,
@@ -198,20 +72,49 @@ impl Store {
         limit: u64,
     ) -> Result<u64, TableFault>
         requires sound { IsSound automaton.now limit weight self.old }
-        requires set { set < length self.old.sets }
+        requires set { set < length self.old.lists.sets }
         requires question { IsQuestion question }
         requires absent { Has (askings self.old.answers.items) (asking set (asked_by question)) → ⊥ }
         ensures sound { IfOk result (λ w. IsSound automaton.now limit w self.new) }
         ensures answered { OnOk result (tabled automaton.now.graph limit self.new ≡ asked_first (tabled automaton.now.graph limit self.old) (asking set (asked_by question))) }
         ensures refused { IfErr result (IsRefusal (asked_first (tabled automaton.now.graph limit self.old) (asking set (asked_by question)))) }
-        ensures sets { IsLongerBy self.old.sets self.new.sets }
-        ensures edges { IsLongerBy self.old.edges.items self.new.edges.items }
-        ensures ends { IsLongerBy self.old.ends.items self.new.ends.items }
+        ensures kept { OnErr result (IsSound automaton.now limit weight self.new) }
+        ensures same { OnErr result (tabled automaton.now.graph limit self.new ≡ tabled automaton.now.graph limit self.old) }
+    {
+        let sets = self.lists.sets.len();
+        let edges = self.lists.edges.len();
+        let ends = self.lists.ends.len();
+        match self.make(automaton, set, question, weight, limit) {
+            Ok(weight) => Ok(weight),
+            Err(fault) => {
+                self.undo(sets, edges, ends);
+                Err(fault)
+            }
+        }
+    }
+
+    /// The same, but that after a refusal there may be more sets, edges, ends and places.
+    fn make(
+        &mut self,
+        automaton: &Automaton,
+        set: u32,
+        question: Question,
+        weight: u64,
+        limit: u64,
+    ) -> Result<u64, TableFault>
+        requires sound { IsSound automaton.now limit weight self.old }
+        requires set { set < length self.old.lists.sets }
+        requires question { IsQuestion question }
+        requires absent { Has (askings self.old.answers.items) (asking set (asked_by question)) → ⊥ }
+        ensures sound { IfOk result (λ w. IsSound automaton.now limit w self.new) }
+        ensures answered { OnOk result (tabled automaton.now.graph limit self.new ≡ asked_first (tabled automaton.now.graph limit self.old) (asking set (asked_by question))) }
+        ensures refused { IfErr result (IsRefusal (asked_first (tabled automaton.now.graph limit self.old) (asking set (asked_by question)))) }
+        ensures longer { AreLonger self.old.lists self.new.lists }
         ensures answers { OnErr result (self.new.answers.items ≡ self.old.answers.items) }
         ensures numbers { OnErr result (IsLongerBy self.old.numbers self.new.numbers) }
         ensures stays { OnErr result (IsLongerBy self.old.stays.items self.new.stays.items) }
     {
-        let added = self.add(alloc, automaton, set, question)?;
+        let added = self.lists.add(self.alloc, automaton, set, question)?;
         let weight = weight + added.weight;
         if weight > limit {
             return Err(TableFault::Full { weight });
@@ -222,46 +125,44 @@ impl Store {
             first: added.first as u32,
             count: added.count as u32,
         };
-        put_empty(&mut self.stays, self.sets.len())?;
+        put_empty(&mut self.stays, self.lists.sets.len())?;
         self.keep(answer)?;
-        note_stay(&mut self.stays, self.edges.as_slice(), answer);
+        note_stay(&mut self.stays, self.lists.edges.as_slice(), answer);
         Ok(weight)
     }
 
     /// Keeps the first sets, edges and ends alone, so many as it says.
-    pub(crate) fn undo(&mut self, sets: usize, edges: usize, ends: usize)
+    fn undo(&mut self, sets: usize, edges: usize, ends: usize)
         requires { 272 * sets < 2 ^ 64 }
-        ensures sets { self.new.sets ≡ take sets self.old.sets }
-        ensures edges { self.new.edges.items ≡ take edges self.old.edges.items }
-        ensures ends { self.new.ends.items ≡ take ends self.old.ends.items }
+        ensures sets { self.new.lists.sets ≡ take sets self.old.lists.sets }
+        ensures edges { self.new.lists.edges.items ≡ take edges self.old.lists.edges.items }
+        ensures ends { self.new.lists.ends.items ≡ take ends self.old.lists.ends.items }
         ensures numbers { self.new.numbers ≡ take (272 * sets) self.old.numbers }
         ensures stays { self.new.stays.items ≡ take sets self.old.stays.items }
         ensures answers { self.new.answers.items ≡ self.old.answers.items }
     {
-        self.sets.truncate(sets);
-        self.edges.truncate(edges);
-        self.ends.truncate(ends);
+        self.lists.sets.truncate(sets);
+        self.lists.edges.truncate(edges);
+        self.lists.ends.truncate(ends);
         self.numbers.truncate(RUNS * sets);
         self.stays.truncate(sets);
     }
 
     /// Keeps an answer that was added. On refusal there may be more places.
-    pub(crate) fn keep(&mut self, answer: Answer) -> Result<(), OutOfMemory>
-        requires set { answer.set < length self.old.sets }
+    fn keep(&mut self, answer: Answer) -> Result<(), OutOfMemory>
+        requires set { answer.set < length self.old.lists.sets }
         requires question { IsQuestion answer.question }
-        requires places { length self.old.numbers ≤ 272 * length self.old.sets }
-        requires few_sets { length self.old.sets ≤ 200000000 }
+        requires places { length self.old.numbers ≤ 272 * length self.old.lists.sets }
+        requires few_sets { length self.old.lists.sets ≤ 200000000 }
         requires few_answers { length self.old.answers.items ≤ 100000000 }
-        ensures sets { self.new.sets ≡ self.old.sets }
-        ensures edges { self.new.edges.items ≡ self.old.edges.items }
-        ensures ends { self.new.ends.items ≡ self.old.ends.items }
+        ensures lists { self.new.lists ≡ self.old.lists }
         ensures answers { OnOk result (self.new.answers.items ≡ self.old.answers.items ++ answer ∷ []) }
-        ensures numbers { OnOk result (self.new.numbers ≡ slice_set (with_places (272 * length self.old.sets) self.old.numbers) (place_in answer.set answer.question) (1 + length self.old.answers.items)) }
+        ensures numbers { OnOk result (self.new.numbers ≡ slice_set (with_places (272 * length self.old.lists.sets) self.old.numbers) (place_in answer.set answer.question) (1 + length self.old.answers.items)) }
         ensures same { OnErr result (self.new.answers.items ≡ self.old.answers.items) }
         ensures places { OnErr result (IsLongerBy self.old.numbers self.new.numbers) }
         ensures stays { self.new.stays.items ≡ self.old.stays.items }
     {
-        self.numbers.grow(RUNS * self.sets.len())?;
+        self.numbers.grow(RUNS * self.lists.sets.len())?;
         let number = self.answers.len() as u32 + 1;
         self.answers.push(answer)?;
         let place = place_of(answer.set, answer.question);

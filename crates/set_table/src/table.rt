@@ -29,7 +29,6 @@ use std::sync::ledger::Ledger;
 /// and the list of what was asked in its order. Set 0 is that of the start states.
 #[derive(Drop)]
 pub struct Table<'a> {
-    alloc: Global,
     automaton: &'a Automaton,
     limit: u64,
     weight: u64,
@@ -75,7 +74,6 @@ impl<'a> Table<'a> {
         }
         let store = Store::new(alloc, start)?;
         Ok(Table {
-            alloc,
             automaton,
             limit,
             weight,
@@ -89,14 +87,12 @@ impl<'a> Table<'a> {
         ensures table { taken_up self.entry.graph result ≡ self.entry }
     {
         let Table {
-            alloc,
             automaton: _,
             limit,
             weight,
             store,
         } = self;
         TableState {
-            alloc,
             limit,
             weight,
             store,
@@ -110,13 +106,11 @@ impl<'a> Table<'a> {
     {
         let _facts = (automaton.states(), automaton.vars().len());
         let TableState {
-            alloc,
             limit,
             weight,
             store,
         } = state;
         Table {
-            alloc,
             automaton,
             limit,
             weight,
@@ -129,7 +123,7 @@ impl<'a> Table<'a> {
         ensures zero { result ≡ 0 }
         ensures tabled { IsTabled self.now }
     {
-        let _sets = self.store.sets.len();
+        let _sets = self.store.lists.sets.len();
         0
     }
 
@@ -137,7 +131,7 @@ impl<'a> Table<'a> {
     pub fn sets(&self) -> usize
         ensures { result ≡ length self.now.sets }
     {
-        self.store.sets.len()
+        self.store.lists.sets.len()
     }
 
     /// The states of a set, strictly ascending.
@@ -146,7 +140,7 @@ impl<'a> Table<'a> {
         ensures members { result.now ≡ set_at self.now.sets set }
         ensures states { IsStateSet self.now.graph result.now }
     {
-        self.store.sets.at(set as usize)
+        self.store.lists.sets.at(set as usize)
     }
 
     /// What the table weighs: 1 + members of each set, and 1 + edges of all that was asked.
@@ -193,7 +187,7 @@ impl<'a> Table<'a> {
         ensures asked { IfSome result (λ _. Has self.now.asked (asking set (byte_read byte))) }
         ensures none { IfNone result (set < length self.now.sets → ¬ Has self.now.asked (asking set (byte_read byte))) }
     {
-        if self.store.sets.len() <= set as usize {
+        if self.store.lists.sets.len() <= set as usize {
             return None;
         }
         let number = self.store.numbers.at(place_of(set, Question::Byte(byte)));
@@ -272,23 +266,11 @@ impl<'a> Table<'a> {
         ensures err { OnErr result (self.new ≡ self.old) }
         ensures refused { IfErr result (IsRefusal (asked_first self.old (asking set (asked_by question)))) }
     {
-        let sets = self.store.sets.len();
-        let edges = self.store.edges.len();
-        let ends = self.store.ends.len();
-        let (alloc, automaton) = (self.alloc, self.automaton);
-        match self
+        let automaton = self.automaton;
+        self.weight = self
             .store
-            .answer(alloc, automaton, set, question, self.weight, self.limit)
-        {
-            Ok(weight) => {
-                self.weight = weight;
-                Ok(self.store.answers.len() - 1)
-            }
-            Err(fault) => {
-                self.store.undo(sets, edges, ends);
-                Err(fault)
-            }
-        }
+            .answer(automaton, set, question, self.weight, self.limit)?;
+        Ok(self.store.answers.len() - 1)
     }
 
     /// The edges of an answer.
@@ -299,7 +281,7 @@ impl<'a> Table<'a> {
     {
         let answer = self.store.answers[number];
         edges_part(
-            self.store.edges.as_slice(),
+            self.store.lists.edges.as_slice(),
             answer.first as usize,
             answer.count as usize,
         )
@@ -313,7 +295,7 @@ impl<'a> Table<'a> {
     {
         let answer = self.store.answers[number];
         marks_part(
-            self.store.ends.as_slice(),
+            self.store.lists.ends.as_slice(),
             answer.first as usize,
             answer.count as usize,
         )

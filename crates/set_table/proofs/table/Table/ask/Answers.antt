@@ -14,11 +14,11 @@ returns-then-number-ne0-clause-number c =
     let k = c.args.set in
     let q = c.args.question in
     let held = c.self.invariant.held in
-    let within : k < length s.sets = subst (λ (t : Tabled). k < length t.sets) (sym c.self.view_is) c.requires.set in
+    let within : k < length s.lists.sets = subst (λ (t : Tabled). k < length t.sets) (sym c.self.view_is) c.requires.set in
     let read : get_or s.numbers (place_in k q) 0 ≡ c.at-number.result = sym (c.at-number.ensures ∙ ap (λ p. get_or s.numbers p 0) c.place_of.ensures) in
     let found : slice_get c.args.self.now.asked (c.at-number.result - 1) ≡ Some (asking k (asked_by q)) =
     ap (λ (t : Tabled). slice_get t.asked (c.at-number.result - 1)) (sym c.self.view_is)
-    ∙ number_found i.automaton.now.graph s.sets s.answers.items s.edges.items s.ends.items s.numbers i.weight k q c.at-number.result held within c.requires.question read c.if-number-ne0.true in
+    ∙ number_found i.automaton.now.graph s.lists.sets s.answers.items s.lists.edges.items s.lists.ends.items s.numbers i.weight k q c.at-number.result held within c.requires.question read c.if-number-ne0.true in
     found
 
 pub returns-then-number-ne0-clause-asked : goal.returns-then-number-ne0-clause-asked
@@ -28,11 +28,11 @@ returns-then-number-ne0-clause-asked c =
     let k = c.args.set in
     let q = c.args.question in
     let held = c.self.invariant.held in
-    let within : k < length s.sets = subst (λ (t : Tabled). k < length t.sets) (sym c.self.view_is) c.requires.set in
+    let within : k < length s.lists.sets = subst (λ (t : Tabled). k < length t.sets) (sym c.self.view_is) c.requires.set in
     let read : get_or s.numbers (place_in k q) 0 ≡ c.at-number.result = sym (c.at-number.ensures ∙ ap (λ p. get_or s.numbers p 0) c.place_of.ensures) in
     let found : slice_get c.args.self.now.asked (c.at-number.result - 1) ≡ Some (asking k (asked_by q)) =
     ap (λ (t : Tabled). slice_get t.asked (c.at-number.result - 1)) (sym c.self.view_is)
-    ∙ number_found i.automaton.now.graph s.sets s.answers.items s.edges.items s.ends.items s.numbers i.weight k q c.at-number.result held within c.requires.question read c.if-number-ne0.true in
+    ∙ number_found i.automaton.now.graph s.lists.sets s.answers.items s.lists.edges.items s.lists.ends.items s.numbers i.weight k q c.at-number.result held within c.requires.question read c.if-number-ne0.true in
     once_is_same c.args.self.now (asking k (asked_by q)) (Has-slice_get c.args.self.now.asked (c.at-number.result - 1) (asking k (asked_by q)) found)
 
 pub answer-requires-clause-absent : goal.answer-requires-clause-absent
@@ -42,10 +42,10 @@ answer-requires-clause-absent c =
     let k = c.args.set in
     let q = c.args.question in
     let held = c.self.invariant.held in
-    let within : k < length s.sets = subst (λ (t : Tabled). k < length t.sets) (sym c.self.view_is) c.requires.set in
+    let within : k < length s.lists.sets = subst (λ (t : Tabled). k < length t.sets) (sym c.self.view_is) c.requires.set in
     let read : get_or s.numbers (place_in k q) 0 ≡ c.at-number.result = sym (c.at-number.ensures ∙ ap (λ p. get_or s.numbers p 0) c.place_of.ensures) in
     let absent : Has c.args.self.now.asked (asking k (asked_by q)) → ⊥ = λ h.
-    number_absent i.automaton.now.graph s.sets s.answers.items s.edges.items s.ends.items s.numbers i.weight k q held (read ∙ c.if-number-ne0.false) (subst (λ (t : Tabled). Has t.asked (asking k (asked_by q))) (sym c.self.view_is) h) in
+    number_absent i.automaton.now.graph s.lists.sets s.answers.items s.lists.edges.items s.lists.ends.items s.numbers i.weight k q held (read ∙ c.if-number-ne0.false) (subst (λ (t : Tabled). Has t.asked (asking k (asked_by q))) (sym c.self.view_is) h) in
     absent
 
 pub returns-clause-asked : goal.returns-clause-asked
@@ -55,10 +55,10 @@ returns-clause-asked c =
     let k = c.args.set in
     let q = c.args.question in
     let held = c.self.invariant.held in
-    let within : k < length s.sets = subst (λ (t : Tabled). k < length t.sets) (sym c.self.view_is) c.requires.set in
+    let within : k < length s.lists.sets = subst (λ (t : Tabled). k < length t.sets) (sym c.self.view_is) c.requires.set in
     let read : get_or s.numbers (place_in k q) 0 ≡ c.at-number.result = sym (c.at-number.ensures ∙ ap (λ p. get_or s.numbers p 0) c.place_of.ensures) in
     let absent : Has c.args.self.now.asked (asking k (asked_by q)) → ⊥ = λ h.
-    number_absent i.automaton.now.graph s.sets s.answers.items s.edges.items s.ends.items s.numbers i.weight k q held (read ∙ c.if-number-ne0.false) (subst (λ (t : Tabled). Has t.asked (asking k (asked_by q))) (sym c.self.view_is) h) in
+    number_absent i.automaton.now.graph s.lists.sets s.answers.items s.lists.edges.items s.lists.ends.items s.numbers i.weight k q held (read ∙ c.if-number-ne0.false) (subst (λ (t : Tabled). Has t.asked (asking k (asked_by q))) (sym c.self.view_is) h) in
     subst (λ (t : Tabled). OnOk c.answer.result (c.answer.new.self ≡ t)) (sym (once_is_first c.args.self.now (asking k (asked_by q)) absent)) c.answer.ensures.asked
 
 pub returns-clause-refused : goal.returns-clause-refused
@@ -68,8 +68,8 @@ returns-clause-refused c =
     let k = c.args.set in
     let q = c.args.question in
     let held = c.self.invariant.held in
-    let within : k < length s.sets = subst (λ (t : Tabled). k < length t.sets) (sym c.self.view_is) c.requires.set in
+    let within : k < length s.lists.sets = subst (λ (t : Tabled). k < length t.sets) (sym c.self.view_is) c.requires.set in
     let read : get_or s.numbers (place_in k q) 0 ≡ c.at-number.result = sym (c.at-number.ensures ∙ ap (λ p. get_or s.numbers p 0) c.place_of.ensures) in
     let absent : Has c.args.self.now.asked (asking k (asked_by q)) → ⊥ = λ h.
-    number_absent i.automaton.now.graph s.sets s.answers.items s.edges.items s.ends.items s.numbers i.weight k q held (read ∙ c.if-number-ne0.false) (subst (λ (t : Tabled). Has t.asked (asking k (asked_by q))) (sym c.self.view_is) h) in
+    number_absent i.automaton.now.graph s.lists.sets s.answers.items s.lists.edges.items s.lists.ends.items s.numbers i.weight k q held (read ∙ c.if-number-ne0.false) (subst (λ (t : Tabled). Has t.asked (asking k (asked_by q))) (sym c.self.view_is) h) in
     subst (λ (t : Tabled). IfErr c.answer.result (IsRefusal t)) (sym (once_is_first c.args.self.now (asking k (asked_by q)) absent)) c.answer.ensures.refused

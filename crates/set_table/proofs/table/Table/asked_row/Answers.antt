@@ -23,12 +23,12 @@ edges_at-requires-clause-within c =
     let s = i.store in
     let k = c.args.set in
     let q : Question = Byte c.args.byte in
-    let within : k < length s.sets = omega (arith, c.if-len-set.false, c.len.ensures.value) in
+    let within : k < length s.lists.sets = omega (arith, c.if-len-set.false, c.len.ensures.value) in
     let small : c.args.byte < 256 = c.ranges.byte.fits in
     let read : get_or s.numbers (place_in k q) 0 ≡ c.at-number.result = sym (c.at-number.ensures ∙ ap (λ p. get_or s.numbers p 0) c.place_of.ensures) in
     let found : slice_get c.args.self.now.asked (c.at-number.result - 1) ≡ Some (asking k (byte_read c.args.byte)) =
     ap (λ (t : Tabled). slice_get t.asked (c.at-number.result - 1)) (sym c.self.view_is)
-    ∙ number_found i.automaton.now.graph s.sets s.answers.items s.edges.items s.ends.items s.numbers i.weight k q c.at-number.result c.self.invariant.held within small read c.if-number-eq0.false in
+    ∙ number_found i.automaton.now.graph s.lists.sets s.answers.items s.lists.edges.items s.lists.ends.items s.numbers i.weight k q c.at-number.result c.self.invariant.held within small read c.if-number-eq0.false in
     slice_get_within c.args.self.now.asked (c.at-number.result - 1) (asking k (byte_read c.args.byte)) found
 
 pub edges_at-requires-clause-edges : goal.edges_at-requires-clause-edges
@@ -37,12 +37,12 @@ edges_at-requires-clause-edges c = λ r there is.
     let s = i.store in
     let k = c.args.set in
     let q : Question = Byte c.args.byte in
-    let within : k < length s.sets = omega (arith, c.if-len-set.false, c.len.ensures.value) in
+    let within : k < length s.lists.sets = omega (arith, c.if-len-set.false, c.len.ensures.value) in
     let small : c.args.byte < 256 = c.ranges.byte.fits in
     let read : get_or s.numbers (place_in k q) 0 ≡ c.at-number.result = sym (c.at-number.ensures ∙ ap (λ p. get_or s.numbers p 0) c.place_of.ensures) in
     let found : slice_get c.args.self.now.asked (c.at-number.result - 1) ≡ Some (asking k (byte_read c.args.byte)) =
     ap (λ (t : Tabled). slice_get t.asked (c.at-number.result - 1)) (sym c.self.view_is)
-    ∙ number_found i.automaton.now.graph s.sets s.answers.items s.edges.items s.ends.items s.numbers i.weight k q c.at-number.result c.self.invariant.held within small read c.if-number-eq0.false in
+    ∙ number_found i.automaton.now.graph s.lists.sets s.answers.items s.lists.edges.items s.lists.ends.items s.numbers i.weight k q c.at-number.result c.self.invariant.held within small read c.if-number-eq0.false in
     byte_is_no_end c.args.byte (sym (not_ended (byte_read c.args.byte) r k k (sym found ∙ there)) ∙ is)
 
 pub returns-clause-some : goal.returns-clause-some
@@ -51,12 +51,12 @@ returns-clause-some c =
     let s = i.store in
     let k = c.args.set in
     let q : Question = Byte c.args.byte in
-    let within : k < length s.sets = omega (arith, c.if-len-set.false, c.len.ensures.value) in
+    let within : k < length s.lists.sets = omega (arith, c.if-len-set.false, c.len.ensures.value) in
     let small : c.args.byte < 256 = c.ranges.byte.fits in
     let read : get_or s.numbers (place_in k q) 0 ≡ c.at-number.result = sym (c.at-number.ensures ∙ ap (λ p. get_or s.numbers p 0) c.place_of.ensures) in
     let found : slice_get c.args.self.now.asked (c.at-number.result - 1) ≡ Some (asking k (byte_read c.args.byte)) =
     ap (λ (t : Tabled). slice_get t.asked (c.at-number.result - 1)) (sym c.self.view_is)
-    ∙ number_found i.automaton.now.graph s.sets s.answers.items s.edges.items s.ends.items s.numbers i.weight k q c.at-number.result c.self.invariant.held within small read c.if-number-eq0.false in
+    ∙ number_found i.automaton.now.graph s.lists.sets s.answers.items s.lists.edges.items s.lists.ends.items s.numbers i.weight k q c.at-number.result c.self.invariant.held within small read c.if-number-eq0.false in
     (subst (λ (t : Tabled). k < length t.sets) c.self.view_is within, c.edges_at.ensures (asking k (byte_read c.args.byte)) found)
 
 pub returns-clause-asked : goal.returns-clause-asked
@@ -65,12 +65,12 @@ returns-clause-asked c =
     let s = i.store in
     let k = c.args.set in
     let q : Question = Byte c.args.byte in
-    let within : k < length s.sets = omega (arith, c.if-len-set.false, c.len.ensures.value) in
+    let within : k < length s.lists.sets = omega (arith, c.if-len-set.false, c.len.ensures.value) in
     let small : c.args.byte < 256 = c.ranges.byte.fits in
     let read : get_or s.numbers (place_in k q) 0 ≡ c.at-number.result = sym (c.at-number.ensures ∙ ap (λ p. get_or s.numbers p 0) c.place_of.ensures) in
     let found : slice_get c.args.self.now.asked (c.at-number.result - 1) ≡ Some (asking k (byte_read c.args.byte)) =
     ap (λ (t : Tabled). slice_get t.asked (c.at-number.result - 1)) (sym c.self.view_is)
-    ∙ number_found i.automaton.now.graph s.sets s.answers.items s.edges.items s.ends.items s.numbers i.weight k q c.at-number.result c.self.invariant.held within small read c.if-number-eq0.false in
+    ∙ number_found i.automaton.now.graph s.lists.sets s.answers.items s.lists.edges.items s.lists.ends.items s.numbers i.weight k q c.at-number.result c.self.invariant.held within small read c.if-number-eq0.false in
     Has-slice_get c.args.self.now.asked (c.at-number.result - 1) (asking k (byte_read c.args.byte)) found
 
 pub returns-then-number-eq0-clause-none : goal.returns-then-number-eq0-clause-none
@@ -80,4 +80,4 @@ returns-then-number-eq0-clause-none c = λ within h.
     let k = c.args.set in
     let q : Question = Byte c.args.byte in
     let read : get_or s.numbers (place_in k q) 0 ≡ c.at-number.result = sym (c.at-number.ensures ∙ ap (λ p. get_or s.numbers p 0) c.place_of.ensures) in
-    number_absent i.automaton.now.graph s.sets s.answers.items s.edges.items s.ends.items s.numbers i.weight k q c.self.invariant.held (read ∙ c.if-number-eq0.true) (subst (λ (t : Tabled). Has t.asked (asking k (byte_read c.args.byte))) (sym c.self.view_is) h)
+    number_absent i.automaton.now.graph s.lists.sets s.answers.items s.lists.edges.items s.lists.ends.items s.numbers i.weight k q c.self.invariant.held (read ∙ c.if-number-eq0.true) (subst (λ (t : Tabled). Has t.asked (asking k (byte_read c.args.byte))) (sym c.self.view_is) h)

@@ -20,7 +20,7 @@ marks_part-requires c =
     let has = Has-slice_get s.answers.items n x at in
     let asked : slice_get c.args.self.now.asked n ≡ Some (asking_of x) = ap (λ (t : Tabled). slice_get t.asked n) (sym c.self.view_is) ∙ get_map asking_of s.answers.items n x at in
     let kind : x.question ≡ Ends = same_asked x.question Ends (c.requires.ends (asking_of x) asked) in
-    let bound = ends_within i.automaton.now.graph s.sets s.answers.items s.edges.items s.ends.items s.numbers i.weight x c.self.invariant.held has kind in
+    let bound = ends_within i.automaton.now.graph s.lists.sets s.answers.items s.lists.edges.items s.lists.ends.items s.numbers i.weight x c.self.invariant.held has kind in
     subst (λ zs. x.first + x.count ≤ length zs) (sym c.as_slice.ensures.value) bound
 
 pub returns : goal.returns
@@ -35,6 +35,6 @@ returns c = λ r h.
     let asked : slice_get c.args.self.now.asked n ≡ Some (asking_of x) = ap (λ (t : Tabled). slice_get t.asked n) (sym c.self.view_is) ∙ get_map asking_of s.answers.items n x at in
     let kind : x.question ≡ Ends = same_asked x.question Ends (c.requires.ends (asking_of x) asked) in
     let same : asking_of x ≡ r = some_same (asking_of x) r (sym asked ∙ h) in
-    let are = ends_are i.automaton.now.graph i.limit s.sets s.answers.items s.edges.items s.ends.items s.numbers i.weight x c.marks_part.result.now c.self.invariant.held has kind
+    let are = ends_are i.automaton.now.graph i.limit s.lists.sets s.answers.items s.lists.edges.items s.lists.ends.items s.numbers i.weight x c.marks_part.result.now c.self.invariant.held has kind
     (c.marks_part.ensures ∙ ap (part x.first x.count) c.as_slice.ensures.value) in
-    subst (λ (t : Tabled). HasEnds t r.set c.marks_part.result.now) c.self.view_is (subst (λ (r : Asking). HasEnds (record { graph = i.automaton.now.graph; limit = i.limit; sets = s.sets; asked = askings s.answers.items }) r.set c.marks_part.result.now) same are)
+    subst (λ (t : Tabled). HasEnds t r.set c.marks_part.result.now) c.self.view_is (subst (λ (r : Asking). HasEnds (record { graph = i.automaton.now.graph; limit = i.limit; sets = s.lists.sets; asked = askings s.answers.items }) r.set c.marks_part.result.now) same are)

@@ -1,11 +1,12 @@
 use Rattle.std.proofs.Common.{◌≡◌, ◌+◌, ◌*◌, [], ◌∷◌, ◌++◌, get_or, length, length-append, set, sym, ap, arith, ◌∙◌}
 use Rattle.set_table.specs.declared.answer.Answer.{Answer}
+use Rattle.set_table.specs.declared.lists.Lists.{Lists}
 use Rattle.set_table.specs.Answered.{AreStays, askings, place_in, tabled, with_places}
 use Rattle.set_table.specs.Named.{IsLongerBy}
 use Rattle.set_table.proofs.StayLaws.{noted_of, same_stays, stays_more}
 use Rattle.std.specs.FinSet as bytes
 use Rattle.set_table.proofs.HeldLaws.{few_more, first_weighs, held_more, held_same}
-use Rattle.set_table.proofs.store.Store.answer.Goals as goal
+use Rattle.set_table.proofs.store.Store.make.Goals as goal
 
 pub returns-then-weight-limit-clause-refused : goal.returns-then-weight-limit-clause-refused
 returns-then-weight-limit-clause-refused c =
@@ -14,8 +15,8 @@ returns-then-weight-limit-clause-refused c =
     let n = c.add.new.self in
     let sound = c.requires.sound in
     let x : Answer = record { set = c.args.set; question = c.args.question; first = c.in_ok-added.added.first; count = c.in_ok-added.added.count } in (
-      first_weighs M.graph s.sets n.sets s.answers.items s.edges.items n.edges.items s.ends.items n.ends.items s.numbers c.args.weight c.in_ok-added.added.weight x
-          sound.marked.whole sound.held c.in_ok-added.ensures.adds c.requires.set c.requires.question c.requires.absent c.args.limit,
+      first_weighs M.graph s.lists n s.answers.items s.numbers c.args.weight c.in_ok-added.added.weight x
+          sound.marked.whole sound.held c.in_ok-added.ensures.added c.requires.set c.requires.question c.requires.absent c.args.limit,
       c.if-weight-limit.true,
     )
 
@@ -26,8 +27,8 @@ keep-requires-clause-few_sets c =
     let n = c.add.new.self in
     let sound = c.requires.sound in
     let x : Answer = record { set = c.args.set; question = c.args.question; first = c.in_ok-added.added.first; count = c.in_ok-added.added.count } in
-    let few = few_more M.graph s.sets n.sets s.answers.items s.edges.items n.edges.items s.ends.items n.ends.items s.numbers c.args.weight c.in_ok-added.added.weight x
-    sound.marked.whole sound.held c.in_ok-added.ensures.adds c.requires.set c.requires.question c.requires.absent in
+    let few = few_more M.graph s.lists n s.answers.items s.numbers c.args.weight c.in_ok-added.added.weight x
+    sound.marked.whole sound.held c.in_ok-added.ensures.added c.requires.set c.requires.question c.requires.absent in
     omega (arith, few, sound.small, c.if-weight-limit.false)
 
 pub returns-clause-sound : goal.returns-clause-sound
@@ -39,27 +40,28 @@ returns-clause-sound c =
     let sound = c.requires.sound in
     let x : Answer = record { set = c.args.set; question = c.args.question; first = c.in_ok-added.added.first; count = c.in_ok-added.added.count } in
     let w = c.args.weight + c.in_ok-added.added.weight in
-    let held = held_more M.graph s.sets n.sets s.answers.items s.edges.items n.edges.items s.ends.items n.ends.items s.numbers c.args.weight c.in_ok-added.added.weight x
-    sound.marked.whole sound.held c.in_ok-added.ensures.adds c.requires.set c.requires.question c.requires.absent in
-    let sets : n.sets ≡ k.sets = sym c.in_ok-keep.ensures.sets in
-    let answers : s.answers.items ++ x ∷ [] ≡ k.answers.items = sym (c.in_ok-keep.ensures.answers ∙ (λ i. c.in_ok-added.ensures.answers i ++ x ∷ [])) in
-    let longer : IsLongerBy s.sets n.sets = c.in_ok-added.ensures.sets in
+    let held = held_more M.graph s.lists n s.answers.items s.numbers c.args.weight c.in_ok-added.added.weight x
+    sound.marked.whole sound.held c.in_ok-added.ensures.added c.requires.set c.requires.question c.requires.absent in
+    let lists : n ≡ k.lists = sym c.in_ok-keep.ensures.lists in
+    let sets : n.sets ≡ k.lists.sets = ap (λ (l : Lists). l.sets) lists in
+    let answers : s.answers.items ++ x ∷ [] ≡ k.answers.items = sym c.in_ok-keep.ensures.answers in
+    let longer : IsLongerBy s.lists.sets n.sets = c.in_ok-added.ensures.longer.sets in
     let old : AreStays (tabled M.graph c.args.limit s) s.stays.items = sound.stays in
     let count : length c.note_stay.new.stays.items ≡ length n.sets = omega (arith, c.note_stay.ensures.length, ap length c.in_ok-keep.ensures.stays, c.in_ok-put_empty.ensures.count, c.len.ensures.value) in
     let noted = noted_of s.stays.items k.stays.items c.note_stay.new.stays.items c.args.set c.args.question x.first x.count n.edges.items c.as_slice.result.now
-    (λ j. ap (λ zs. get_or zs j bytes.empty) c.in_ok-keep.ensures.stays ∙ (c.in_ok-put_empty.ensures.same j ∙ ap (λ zs. get_or zs j bytes.empty) c.in_ok-added.ensures.stays))
-    (c.as_slice.ensures.value ∙ c.in_ok-keep.ensures.edges) c.note_stay.ensures.noted in
+    (λ j. ap (λ zs. get_or zs j bytes.empty) c.in_ok-keep.ensures.stays ∙ c.in_ok-put_empty.ensures.same j)
+    (c.as_slice.ensures.value ∙ sym (ap (λ (l : Lists). l.edges.items) lists)) c.note_stay.ensures.noted in
     let more : AreStays (record { graph = M.graph; limit = c.args.limit; sets = n.sets; asked = askings (s.answers.items ++ x ∷ []) }) c.note_stay.new.stays.items =
-    stays_more M.graph c.args.limit s.sets n.sets s.answers.items n.edges.items n.ends.items (set (with_places (272 * length n.sets) s.numbers) (place_in c.args.set c.args.question) (1 + length s.answers.items)) w x
-    longer held (λ y h. (sound.held.answered y h).set) c.len.ensures.apart (omega (arith, c.requires.set, ap length longer.1, length-append s.sets longer.0)) s.stays.items c.note_stay.new.stays.items old count noted in
+    stays_more M.graph c.args.limit s.lists.sets n.sets s.answers.items n.edges.items n.ends.items (set (with_places (272 * length n.sets) s.numbers) (place_in c.args.set c.args.question) (1 + length s.answers.items)) w x
+    longer held (λ y h. (sound.held.answered y h).set) c.len.ensures.apart (omega (arith, c.requires.set, ap length longer.1, length-append s.lists.sets longer.0)) s.stays.items c.note_stay.new.stays.items old count noted in
     record {
       marked = sound.marked;
       names = sound.names;
       small = sound.small;
       light = c.if-weight-limit.false;
-      held = held_same M.graph n.sets k.sets (s.answers.items ++ x ∷ []) k.answers.items n.edges.items k.edges.items n.ends.items k.ends.items
+      held = held_same M.graph n.sets k.lists.sets (s.answers.items ++ x ∷ []) k.answers.items n.edges.items k.lists.edges.items n.ends.items k.lists.ends.items
           (set (with_places (272 * length n.sets) s.numbers) (place_in c.args.set c.args.question) (1 + length s.answers.items)) k.numbers w
-          sets answers (sym c.in_ok-keep.ensures.edges) (sym c.in_ok-keep.ensures.ends)
-          (sym (c.in_ok-keep.ensures.numbers ∙ (λ i. set (with_places (272 * length n.sets) (c.in_ok-added.ensures.numbers i)) (place_in c.args.set c.args.question) (1 + length (c.in_ok-added.ensures.answers i))))) held;
-      stays = same_stays M.graph c.args.limit n.sets k.sets (s.answers.items ++ x ∷ []) k.answers.items c.note_stay.new.stays.items sets answers more;
+          sets answers (ap (λ (l : Lists). l.edges.items) lists) (ap (λ (l : Lists). l.ends.items) lists)
+          (sym c.in_ok-keep.ensures.numbers) held;
+      stays = same_stays M.graph c.args.limit n.sets k.lists.sets (s.answers.items ++ x ∷ []) k.answers.items c.note_stay.new.stays.items sets answers more;
     }
