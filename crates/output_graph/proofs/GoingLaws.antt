@@ -1,166 +1,142 @@
--- The loop over the sources of a layer that are stepped by a program.
-use Rattle.std.proofs.Common.{◌≡◌, ℕ, zero, suc, ◌+◌, ◌<◌, ◌≤◌, List, [], ◌∷◌, map, take, drop, length, Some, inr, refl, sym, ap, ◌∙◌, subst, arith, slice_get, get_or, add-one}
-use Rattle.span_core.specs.Lists.{Has}
-use Rattle.node_arena.specs.Cells.{Cells, NamedLink}
+-- All sources of a layer, by the actions of a plan.
+use Rattle.std.proofs.Common.{◌≡◌, ℕ, zero, suc, ◌+◌, ◌<◌, ◌≤◌, List, [], ◌∷◌, map, take, drop, length, Some, inr, refl, sym, ap, ◌∙◌, subst, arith, slice_get, add-one}
+use Rattle.node_arena.specs.Cells.{Holds, NamedLink}
+use Rattle.output_graph.specs.declared.program.Action.{Action}
 use Rattle.output_graph.specs.declared.program.Move.{Move}
+use Rattle.output_graph.specs.declared.program.Plan.{Plan}
 use Rattle.output_graph.specs.Forward.{Layer}
-use Rattle.output_graph.specs.Sets.{Sets}
 use Rattle.output_graph.specs.Source.{Edges, Descend}
-use Rattle.output_graph.specs.Graph.{Graph, IsStepped, sets_of, source_of}
-use Rattle.output_graph.specs.Sound.{CanEnd, HasEnded, IsPlaceOf, IsSound, IsSpent, graph_of}
+use Rattle.output_graph.specs.Graph.{AreApart, Graph, IsCost, IsStepped, sets_of, source_of, targets}
+use Rattle.output_graph.specs.Sound.{IsPlaceOf, IsSound, IsSpent, graph_of}
+use Rattle.output_graph.specs.Plans.{IsPlan, Places, all_actions, all_places, nowhere, places_after, places_of}
 use Rattle.output_graph.specs.Programs.{AllDescend, ArePlaced, AreCounted, AreStepped, IsNext, cut, edges_in, targets_from}
+use Rattle.output_graph.specs.Running.{AreHeld, HasRun, Leads, Point, Runs, point}
 use Rattle.output_graph.proofs.GraphLaws.{targets_apart}
+use Rattle.output_graph.proofs.HeldLaws.{cell_there, held_once}
+use Rattle.output_graph.proofs.LayerLaws.{layer_sound, next_is_layer}
+use Rattle.output_graph.proofs.RunLaws.{made_none, source_leads}
 use Rattle.output_graph.proofs.SteppedLaws.{can_step, is_cost, is_stepped, sound_after}
-use Rattle.output_graph.proofs.ProgramLaws.{edges_drop, edges_length, edges_take, has_drop, has_take, placed_drop, placed_take, targets_split}
+use Rattle.output_graph.proofs.ProgramLaws.{edges_drop, edges_take, placed_drop, placed_take, targets_split}
 
--- the first k sources have been stepped; these moves are left
-pub record IsGoing (first : Graph) (at : ℕ) (groups : List Edges) (sets : List ℕ) (before : ℕ) (counts : List ℕ) (k : ℕ) (left : List Move) (arena : Cells) (layer next : Sets) (now : ℕ) : Type 0 where
+pub source_there : (sources : Layer) (k : ℕ) → k < length sources → (p : ℕ × ℕ) × (slice_get sources k ≡ Some p)
+source_there [] k h = absurd (omega arith)
+source_there (p ∷ sources) zero h = (p, refl)
+source_there (p ∷ sources) (suc k) h = source_there sources k (omega arith)
+
+nothing_left : (moves : List Move) → edges_in moves ≡ [] → moves ≡ []
+nothing_left [] e = refl
+nothing_left (m ∷ moves) e = absurd (let l = ap length e in omega arith)
+
+spent_later : (edges old new before after k : ℕ) → IsSpent edges old new before after → IsSpent edges old new (before + k + 1) (after + (k + 1))
+spent_later edges old new before after k s =
+    let few = s.few in
+    let more = s.more in
+    let bound = s.bound in
+    record { made = s.made; few = omega arith; more = omega arith; bound = omega arith }
+
+-- the first k sources have been stepped; so many sources with these moves are left
+pub record IsGoing (sources : Layer) (first : Graph) (at : ℕ) (groups : List Edges) (before : ℕ) (sets : List ℕ) (fin : Places) (every : ℕ)
+    (counts : List ℕ) (left : List Move) (k : ℕ) (s : Places) (made : List ℕ) (cells : List NamedLink) (next : Layer) (holds : Holds) (now : ℕ) : Type 0 where
   pub last : ℕ
-  pub onward : (h : Graph) (after : ℕ) → AreStepped (graph_of arena layer next k last) at (cut (drop k counts) (edges_in left)) h now after → AreStepped first at groups h before after
-  pub sound : IsSound (graph_of arena layer next k last) arena.holds
-  pub place : IsPlaceOf (graph_of arena layer next k last) at
-  pub counted : AreCounted (drop k counts) (edges_in left)
-  pub descend : AllDescend (cut (drop k counts) (edges_in left))
-  pub placed : ArePlaced (sets_of next.pairs) left
-  pub spare : length left ≤ arena.spare
-  pub room : length left ≤ next.room
-  pub covered : (m : Move) → Has left m → m.to < next.known
-  pub targets : targets_from (sets_of next.pairs) left ≡ sets
-  pub ticked : before + k ≤ now
+  pub onward : (h : Graph) (after : ℕ) → AreStepped (graph_of cells sources next k last) at (cut counts (edges_in left)) h (now + k) after → AreStepped first at groups h before after
+  pub sound : IsSound (graph_of cells sources next k last) holds
+  pub place : IsPlaceOf (graph_of cells sources next k last) at
+  pub counted : AreCounted counts (edges_in left)
+  pub descend : AllDescend (cut counts (edges_in left))
+  pub placed : ArePlaced (sets_of next) left
+  pub targets : targets_from (sets_of next) left ≡ sets
+  pub held : AreHeld sources made s.held next
+  pub count : s.made ≡ length made
+  pub places : all_places k s counts left ≡ fin
+  pub all_sources : k + length counts ≡ every
+  pub within : every ≤ length sources
 
-dropped : (counts : List ℕ) (k n : ℕ) → slice_get counts k ≡ Some n → drop k counts ≡ n ∷ drop (suc k) counts
-dropped [] k n e = cc
-dropped (m ∷ counts) zero n e = ap (λ (x : ℕ). x ∷ counts) (some m n e)
-  where
-    some : (x y : ℕ) → Some x ≡ Some y → x ≡ y
-    some x y e = cc
-dropped (m ∷ counts) (suc k) n e = dropped counts k n e
+module _ (sources : Layer) (first : Graph) (at : ℕ) (groups : List Edges) (before : ℕ) (sets : List ℕ) (fin : Places) (every : ℕ) (Then : Point → Type 0)
+    (ends : (last : ℕ) (made : List ℕ) (cells : List NamedLink) (next : Layer) (holds : Holds) (now : ℕ) → AreStepped first at groups (graph_of cells sources next every last) before (now + every) →
+    IsSound (graph_of cells sources next every last) holds → AreHeld sources made fin.held next → sets_of next ≡ sets → Then (point made cells holds now)) where
+  none_left : (left : List Move) (k : ℕ) (s : Places) (made : List ℕ) (cells : List NamedLink) (next : Layer) (holds : Holds) (now : ℕ) →
+      IsGoing sources first at groups before sets fin every [] left k s made cells next holds now → Then (point made cells holds now)
+  none_left left k s made cells next holds now going =
+      let all : k ≡ every = (let e = going.all_sources in omega arith) in
+      ends going.last made cells next holds now
+      (subst (λ (n : ℕ). AreStepped first at groups (graph_of cells sources next n going.last) before (now + n)) all (going.onward (graph_of cells sources next k going.last) (now + k) (refl, refl)))
+      (subst (λ (n : ℕ). IsSound (graph_of cells sources next n going.last) holds) all going.sound)
+      (subst (λ (p : Places). AreHeld sources made p.held next) going.places going.held)
+      (ap (λ (ms : List Move). targets_from (sets_of next) ms) (sym (nothing_left left going.counted)) ∙ going.targets)
 
-none_left : (counts : List ℕ) (k : ℕ) → length counts ≤ k → drop k counts ≡ []
-none_left [] zero h = refl
-none_left [] (suc k) h = refl
-none_left (m ∷ counts) zero h = absurd (omega arith)
-none_left (m ∷ counts) (suc k) h = none_left counts k (omega arith)
+  pub all_lead : (counts : List ℕ) (left : List Move) (k : ℕ) (s : Places) (made : List ℕ) (cells : List NamedLink) (next : Layer) (holds : Holds) (now : ℕ) →
+      IsGoing sources first at groups before sets fin every counts left k s made cells next holds now → Leads sources at Then (all_actions k s counts left) (point made cells holds now)
+  all_lead [] left k s made cells next holds now going = none_left left k s made cells next holds now going
+  all_lead (n ∷ counts) left k s made cells next holds now going =
+      let mine : List Move = take n left in
+      let later : List Move = drop n left in
+      let here : Graph = graph_of cells sources next k going.last in
+      let is = source_there sources k (let a = going.all_sources in let b = going.within in omega arith) in
+      let p : ℕ × ℕ = is.0 in
+      let there : slice_get sources k ≡ Some p = is.1 in
+      let falls : Descend (edges_in mine) = subst (λ (es : Edges). Descend es) (sym (edges_take left n)) going.descend.0 in
+      source_leads sources at k p.1 Then (all_actions (suc k) (places_after k s mine) counts later) (cell_there sources k p there) cells next holds now (edges_in mine) (targets_from (sets_of next) mine) (places_after k s mine)
+      (λ cells_after next_after holds_after made_after after ended spent more sets_after held_after count_after.
+      let new : Graph = graph_of cells_after sources next_after (k + 1) at in
+      let sound : IsSound new holds_after = sound_after here holds going.sound p there at going.place (edges_in mine) falls cells_after next_after holds_after ended in
+      let step : IsStepped here at (edges_in mine) new = is_stepped here holds going.sound p there at going.place (edges_in mine) falls cells_after next_after holds_after ended in
+      let cost : IsCost (length (edges_in mine)) (length cells) (length cells_after) (now + k) (after + (k + 1)) =
+      is_cost (length (edges_in mine)) (length cells) (length cells_after) (now + k) (after + (k + 1)) (spent_later (length (edges_in mine)) (length cells) (length cells_after) now after k spent) in
+      let apart : AreApart (targets new) = targets_apart new holds_after sound in
+      all_lead counts later (suc k) (places_after k s mine) made_after cells_after next_after holds_after after (subst (λ (j : ℕ). IsGoing sources first at groups before sets fin every counts later j (places_after k s mine) made_after cells_after next_after holds_after after) (add-one k) (record {
+        last = at;
+        onward = λ h m stepped.
+            going.onward h m
+            (subst (λ (es : Edges). AreStepped here at (es ∷ cut counts (drop n (edges_in left))) h (now + k) m) (edges_take left n)
+            (subst (λ (es : Edges). AreStepped here at (edges_in mine ∷ cut counts es) h (now + k) m) (edges_drop left n) (new, after + (k + 1), step, cost, apart, stepped)));
+        sound = sound;
+        place = inr (omega arith, refl);
+        counted = subst (λ (es : Edges). AreCounted counts es) (sym (edges_drop left n)) going.counted.1;
+        descend = subst (λ (es : Edges). AllDescend (cut counts es)) (sym (edges_drop left n)) going.descend.1;
+        placed = subst (λ (ss : List ℕ). ArePlaced ss later) (sym sets_after) (placed_drop (sets_of next) left n going.placed);
+        targets = ap (λ (ss : List ℕ). targets_from ss later) sets_after ∙ (targets_split (sets_of next) left n ∙ going.targets);
+        held = held_after;
+        count = count_after;
+        places = ap (λ (j : ℕ). all_places j (places_after k s mine) counts later) (add-one k) ∙ going.places;
+        all_sources = (let a = going.all_sources in omega arith);
+        within = going.within;
+      })))
+      [] mine s made cells next holds now (record {
+        split = refl;
+        so_far = made_none at p.1 cells next holds;
+        can = can_step here holds going.sound p there at going.place (edges_in mine) falls;
+        placed = placed_take (sets_of next) left n going.placed;
+        targets = refl;
+        held = going.held;
+        count = going.count;
+        places = refl;
+        counted = omega arith;
+      })
 
-drop_none : (counts : List ℕ) → drop 0 counts ≡ counts
-drop_none [] = refl
-drop_none (n ∷ counts) = refl
-
--- no source has been stepped
-pub going_begun : (was at before : ℕ) (counts : List ℕ) (moves : List Move) (arena : Cells) (layer next : Sets) → IsSound (graph_of arena layer next 0 was) arena.holds →
-    IsPlaceOf (graph_of arena layer next 0 was) at → AreCounted counts (edges_in moves) → AllDescend (cut counts (edges_in moves)) → ArePlaced (sets_of next.pairs) moves → length moves ≤ arena.spare →
-    length moves ≤ next.room → ((m : Move) → Has moves m → m.to < next.known) →
-    IsGoing (graph_of arena layer next 0 was) at (cut counts (edges_in moves)) (targets_from (sets_of next.pairs) moves) before counts 0 moves arena layer next before
-going_begun was at before counts moves arena layer next sound place counted descend placed spare room covered = record {
-  last = was;
-  onward = λ h m stepped. subst (λ (ns : List ℕ). AreStepped (graph_of arena layer next 0 was) at (cut ns (edges_in moves)) h before m) (drop_none counts) stepped;
-  sound = sound;
-  place = place;
-  counted = subst (λ (ns : List ℕ). AreCounted ns (edges_in moves)) (sym (drop_none counts)) counted;
-  descend = subst (λ (ns : List ℕ). AllDescend (cut ns (edges_in moves))) (sym (drop_none counts)) descend;
-  placed = placed;
-  spare = spare;
-  room = room;
-  covered = covered;
-  targets = refl;
-  ticked = omega arith;
-}
-
-module _ (first : Graph) (at : ℕ) (groups : List Edges) (sets : List ℕ) (before : ℕ) (counts : List ℕ) (k : ℕ) (left : List Move) (arena : Cells) (layer next : Sets) (now : ℕ)
-    (going : IsGoing first at groups sets before counts k left arena layer next now) where
-  abbrev here : Graph
-  here = graph_of arena layer next k going.last
-
-  -- no move is left
-  pub all_stepped : length counts ≤ k → (last : ℕ) × AreStepped first at groups (graph_of arena layer next k last) before now × IsSound (graph_of arena layer next k last) arena.holds
-  all_stepped all = (
-    going.last,
-    going.onward here now (subst (λ (ns : List ℕ). AreStepped here at (cut ns (edges_in left)) here now now) (sym (none_left counts k all)) (refl, refl)),
-    going.sound,
-  )
-
-  pub all_targets : length counts ≤ k → sets_of next.pairs ≡ sets
-  all_targets all =
-      let none : edges_in left ≡ [] = subst (λ (ns : List ℕ). AreCounted ns (edges_in left)) (none_left counts k all) going.counted in
-      nothing left none ∙ going.targets
-    where
-      nothing : (xs : List Move) → edges_in xs ≡ [] → sets_of next.pairs ≡ targets_from (sets_of next.pairs) xs
-      nothing [] e = refl
-      nothing (x ∷ xs) e = absurd (let l = ap length e in omega arith)
-
-  module _ (n : ℕ) (count : slice_get counts k ≡ Some n) where
-    abbrev mine : List Move
-    mine = take n left
-
-    abbrev later : List Move
-    later = drop n left
-
-    abbrev rest : List ℕ
-    rest = drop (suc k) counts
-
-    counts_are : drop k counts ≡ n ∷ rest
-    counts_are = dropped counts k n count
-
-    counted_here : AreCounted (n ∷ rest) (edges_in left)
-    counted_here = subst (λ (ns : List ℕ). AreCounted ns (edges_in left)) counts_are going.counted
-
-    pub few : n ≤ length left
-    few = let a = counted_here.0 in let l = edges_length left in omega arith
-
-    descend_here : AllDescend (cut (n ∷ rest) (edges_in left))
-    descend_here = subst (λ (ns : List ℕ). AllDescend (cut ns (edges_in left))) counts_are going.descend
-
-    mine_descend : Descend (edges_in mine)
-    mine_descend = subst (λ (es : Edges). Descend es) (sym (edges_take left n)) descend_here.0
-
-    pub mine_placed : ArePlaced (sets_of next.pairs) mine
-    mine_placed = placed_take (sets_of next.pairs) left n going.placed
-
-    pub mine_covered : (m : Move) → Has mine m → m.to < next.known
-    mine_covered m h = going.covered m (has_take left n m h)
-
-    module _ (p : ℕ × ℕ) (there : slice_get layer.pairs k ≡ Some p) where
-      pub mine_can : CanEnd at p.1 (edges_in mine) arena.cells next.pairs arena.holds
-      mine_can = can_step here arena.holds going.sound p there at going.place (edges_in mine) mine_descend
-
-      -- the moves of one source more have been made
-      pub going_more : (arena_after : Cells) (next_after : Sets) (after : ℕ) → HasEnded at p.1 (edges_in mine) arena.cells next.pairs arena.holds arena_after.cells next_after.pairs arena_after.holds →
-          IsSpent (length mine) (length arena.cells) (length arena_after.cells) (now + 1) after → sets_of next_after.pairs ≡ targets_from (sets_of next.pairs) mine →
-          length later ≤ arena_after.spare → length later ≤ next_after.room → next_after.known ≡ next.known → now + 1 ≤ after →
-          IsGoing first at groups sets before counts (k + 1) later arena_after layer next_after after
-      going_more arena_after next_after after ended spent targets spare room known ticked =
-          let sound : IsSound (graph_of arena_after layer next_after (k + 1) at) arena_after.holds =
-          sound_after here arena.holds going.sound p there at going.place (edges_in mine) mine_descend arena_after.cells next_after.pairs arena_after.holds ended in
-          let step : IsStepped here at (edges_in mine) (graph_of arena_after layer next_after (k + 1) at) =
-          is_stepped here arena.holds going.sound p there at going.place (edges_in mine) mine_descend arena_after.cells next_after.pairs arena_after.holds ended in
-          let cost = is_cost (length (edges_in mine)) (length arena.cells) (length arena_after.cells) now after
-          (subst (λ (j : ℕ). IsSpent j (length arena.cells) (length arena_after.cells) (now + 1) after) (sym (edges_length mine)) spent) in
-          let apart = targets_apart (graph_of arena_after layer next_after (k + 1) at) arena_after.holds sound in
-          let counts_later : drop (k + 1) counts ≡ rest = ap (λ (j : ℕ). drop j counts) (add-one k) in
-          record {
-            last = at;
-            onward = λ h m stepped.
-                going.onward h m
-                (subst (λ (ns : List ℕ). AreStepped here at (cut ns (edges_in left)) h now m) (sym counts_are)
-                (subst (λ (es : Edges). AreStepped here at (es ∷ cut rest (drop n (edges_in left))) h now m) (edges_take left n)
-                (subst (λ (es : Edges). AreStepped here at (edges_in mine ∷ cut rest es) h now m) (edges_drop left n)
-                (graph_of arena_after layer next_after (k + 1) at, after, step, cost, apart, subst (λ (ns : List ℕ). AreStepped (graph_of arena_after layer next_after (k + 1) at) at (cut ns (edges_in later)) h after m) counts_later stepped))));
-            sound = sound;
-            place = inr (omega arith, refl);
-            counted = subst (λ (ns : List ℕ). AreCounted ns (edges_in later)) (sym counts_later) (subst (λ (es : Edges). AreCounted rest es) (sym (edges_drop left n)) counted_here.1);
-            descend = subst (λ (ns : List ℕ). AllDescend (cut ns (edges_in later))) (sym counts_later) (subst (λ (es : Edges). AllDescend (cut rest es)) (sym (edges_drop left n)) descend_here.1);
-            placed = subst (λ (ss : List ℕ). ArePlaced ss later) (sym targets) (placed_drop (sets_of next.pairs) left n going.placed);
-            spare = spare;
-            room = room;
-            covered = λ m h. (let lt = going.covered m (has_drop left n m h) in omega arith);
-            targets = ap (λ (ss : List ℕ). targets_from ss later) targets ∙ (targets_split (sets_of next.pairs) left n ∙ going.targets);
-            ticked = (let so_far = going.ticked in omega arith);
-          }
-
-pub count_there : (counts : List ℕ) (k d : ℕ) → k < length counts → slice_get counts k ≡ Some (get_or counts k d)
-count_there [] k d h = absurd (omega arith)
-count_there (n ∷ counts) zero d h = refl
-count_there (n ∷ counts) (suc k) d h = count_there counts k d (omega arith)
+-- a plan may be run on the layer whose sources it has
+pub plan_leads : (p : Plan) (sources : Layer) (at was before : ℕ) (cells : List NamedLink) (holds : Holds) → IsPlan p → IsSound (graph_of cells sources [] 0 was) holds →
+    IsPlaceOf (graph_of cells sources [] 0 was) at → length p.counts.items ≡ length sources →
+    Leads sources at (Runs (graph_of cells sources [] 0 was) at p before) p.actions.items (point [] cells holds before)
+plan_leads p sources at was before cells holds is sound place every =
+    let first : Graph = graph_of cells sources [] 0 was in
+    subst (λ (xs : List Action). Leads sources at (Runs first at p before) xs (point [] cells holds before)) is.actions
+    (all_lead sources first at (cut p.counts.items (edges_in p.moves.items)) before p.targets.items (places_of p.held.items p.made) (length p.counts.items) (Runs first at p before)
+    (λ last made cells_after next holds_after now stepped sound_there held sets. record { next = next; last = last; stepped = stepped; sound = sound_there; held = held; sets = sets })
+    p.counts.items p.moves.items 0 nowhere [] cells [] holds before (record {
+      last = was;
+      onward = λ h after stepped. subst (λ (n : ℕ). AreStepped first at (cut p.counts.items (edges_in p.moves.items)) h n after) (omega arith) stepped;
+      sound = sound;
+      place = place;
+      counted = is.counted;
+      descend = is.descend;
+      placed = is.placed;
+      targets = is.targets;
+      held = tt;
+      count = refl;
+      places = is.places;
+      all_sources = omega arith;
+      within = omega arith;
+    }))
 
 drop_whole : (layer : Layer) → drop 0 layer ≡ layer
 drop_whole [] = refl
@@ -179,3 +155,27 @@ next_is all new every cells layer next stepped = record {
       ∙ ap (λ (cs : List NamedLink). map (source_of cs) all.next) cells);
   targets = ap (λ (l : Layer). map (source_of new.cells) l) next;
 }
+
+-- a layer of which no source has been stepped
+pub layer_begun : (cells : List NamedLink) (layer next : Layer) (k was : ℕ) (holds : Holds) → IsSound (graph_of cells layer next k was) holds → k ≡ 0 → IsSound (graph_of cells layer [] 0 was) holds
+layer_begun cells layer next k was holds sound none =
+    let begun : IsSound (graph_of cells layer next 0 was) holds = subst (λ (j : ℕ). IsSound (graph_of cells layer next j was) holds) none sound in
+    subst (λ (l : Layer). IsSound (graph_of cells layer l 0 was) holds) (begun.fresh refl) begun
+
+pub place_begun : (cells : List NamedLink) (layer next : Layer) (k was at : ℕ) → IsPlaceOf (graph_of cells layer next k was) at → k ≡ 0 → IsPlaceOf (graph_of cells layer [] 0 was) at
+place_begun cells layer next k was at place none = subst (λ (j : ℕ). IsPlaceOf (graph_of cells layer next j was) at) none place
+
+-- the layer has been stepped, and the next one stands in its place
+module _ (first : Graph) (at : ℕ) (p : Plan) (before : ℕ) (made : List ℕ) (cells : List NamedLink) (holds : Holds) (after : ℕ) (run : HasRun first at p before made cells holds after)
+    (layer : Layer) (held : AreHeld first.layer made p.held.items layer) (sets : sets_of layer ≡ p.targets.items) (every : length p.counts.items ≡ length first.layer) where
+  abbrev pub all : Graph
+  all = graph_of cells first.layer run.next (length p.counts.items) run.last
+
+  pub layer_is : layer ≡ run.next
+  layer_is = held_once first.layer made p.held.items layer run.next held run.held (sets ∙ sym run.sets)
+
+  pub run_sound : (was : ℕ) → IsSound (graph_of cells layer [] 0 was) holds
+  run_sound was = subst (λ (l : Layer). IsSound (graph_of cells l [] 0 was) holds) (sym layer_is) (layer_sound cells run.next was holds (next_is_layer all holds run.sound every))
+
+  pub run_next : (was : ℕ) → IsNext all (graph_of cells layer [] 0 was)
+  run_next was = next_is all (graph_of cells layer [] 0 was) every refl layer_is refl refl

@@ -16,6 +16,10 @@ pub mod SteppedLaws
 pub mod PlaceLaws
 pub mod GraphLaws
 pub mod ProgramLaws
+pub mod PlanLaws
+pub mod HeldLaws
+pub mod RunLaws
+pub mod ActionLaws
 pub mod GoingLaws
 pub mod OrderLemmas
 pub mod Handing

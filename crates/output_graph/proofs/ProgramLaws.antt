@@ -4,13 +4,12 @@ use Rattle.std.specs.List.{flat_map}
 use Rattle.std.proofs.lemmas.List.{take-append-drop}
 use Rattle.std.proofs.lemmas.Bool.{cases_eq, cond-true, cond-false}
 use Rattle.span_core.specs.Lists.{Has}
-use Rattle.span_core.proofs.HasLaws.{Has-append_cases}
 use Rattle.output_graph.specs.declared.program.Move.{Move}
 use Rattle.output_graph.specs.Forward.{Layer, set_cell}
 use Rattle.output_graph.specs.Source.{Edges, Descend}
 use Rattle.output_graph.specs.Graph.{sets_of}
 use Rattle.output_graph.specs.Sets.{HasNot}
-use Rattle.output_graph.specs.Programs.{AllDescend, ArePlaced, AreCounted, IsProgram, cut, edge_in, edges_in, place_in, targets_from, with_target}
+use Rattle.output_graph.specs.Programs.{AllDescend, ArePlaced, AreCounted, cut, edge_in, edges_in, place_in, targets_from, with_target}
 use Rattle.output_graph.proofs.SetLaws.{AreSingle, not_first, not_later, single_tail, some_is, take_all}
 
 -- ---- the place of a set among pairs
@@ -215,24 +214,24 @@ targets_last sets xs i m h is rest split none =
 
 -- ---- one source more
 
-take_more : (es more : Edges) (n : ℕ) → n ≤ length es → take n (es ++ more) ≡ take n es
+pub take_more : {A : Type 0} (es more : List A) (n : ℕ) → n ≤ length es → take n (es ++ more) ≡ take n es
 take_more [] [] zero h = refl
 take_more [] (x ∷ more) zero h = refl
 take_more [] more (suc n) h = absurd (omega arith)
 take_more (e ∷ es) more zero h = refl
-take_more (e ∷ es) more (suc n) h = ap (λ (ys : Edges). e ∷ ys) (take_more es more n (omega arith))
+take_more {A = A} (e ∷ es) more (suc n) h = ap (λ (ys : List A). e ∷ ys) (take_more es more n (omega arith))
 
-drop_more : (es more : Edges) (n : ℕ) → n ≤ length es → drop n (es ++ more) ≡ drop n es ++ more
+pub drop_more : {A : Type 0} (es more : List A) (n : ℕ) → n ≤ length es → drop n (es ++ more) ≡ drop n es ++ more
 drop_more [] [] zero h = refl
 drop_more [] (x ∷ more) zero h = refl
 drop_more [] more (suc n) h = absurd (omega arith)
 drop_more (e ∷ es) more zero h = refl
 drop_more (e ∷ es) more (suc n) h = drop_more es more n (omega arith)
 
-take_whole : (es : Edges) (n : ℕ) → n ≡ length es → take n es ≡ es
+pub take_whole : {A : Type 0} (es : List A) (n : ℕ) → n ≡ length es → take n es ≡ es
 take_whole es n h = take_all es n (omega arith)
 
-drop_whole : (es : Edges) (n : ℕ) → n ≡ length es → drop n es ≡ []
+pub drop_whole : {A : Type 0} (es : List A) (n : ℕ) → n ≡ length es → drop n es ≡ []
 drop_whole [] zero h = refl
 drop_whole [] (suc n) h = refl
 drop_whole (e ∷ es) zero h = absurd (omega arith)
@@ -257,26 +256,6 @@ counted_more (m ∷ counts) es more n h are = (
 pub descend_more : (groups : List Edges) (edges : Edges) → AllDescend groups → Descend edges → AllDescend (groups ++ edges ∷ [])
 descend_more [] edges all one = (one, tt)
 descend_more (g ∷ groups) edges all one = (all.0, descend_more groups edges all.1 one)
-
-pub least_more : (xs : List Move) (m : Move) (largest later : ℕ) → ((x : Move) → Has xs x → x.to ≤ largest) → largest ≤ later → m.to ≤ later → (x : Move) → Has (xs ++ m ∷ []) x → x.to ≤ later
-least_more xs m largest later all le one x h = elim (Has-append_cases xs (m ∷ []) x h) as (λ _. x.to ≤ later) [
-  | inl a ↦ (let r = all x a in omega arith)
-  | inr (inl e) ↦ (let r = ap (λ (y : Move). y.to) e in omega arith)
-  | inr (inr none) ↦ absurd none
-]
-
-pub program_more : (counts : List ℕ) (moves later : List Move) (sets sets_later : List ℕ) (largest larger : ℕ) (edges : Edges) (n : ℕ) → IsProgram counts moves sets largest →
-    edges_in later ≡ edges_in moves ++ edges → n ≡ length edges → Descend edges → ArePlaced [] later → targets_from [] later ≡ sets_later → ((m : Move) → Has later m → m.to ≤ larger) →
-    IsProgram (counts ++ n ∷ []) later sets_later larger
-program_more counts moves later sets sets_later largest larger edges n p is count descend placed targets least = record {
-  counted = subst (λ (es : Edges). AreCounted (counts ++ n ∷ []) es) (sym is) (counted_more counts (edges_in moves) edges n count p.counted);
-  descend =
-      subst (λ (es : Edges). AllDescend (cut (counts ++ n ∷ []) es)) (sym is)
-      (subst (λ (gs : List Edges). AllDescend gs) (sym (cut_more counts (edges_in moves) edges n count p.counted)) (descend_more (cut counts (edges_in moves)) edges p.descend descend));
-  placed = placed;
-  targets = targets;
-  least = least;
-}
 
 pub length_cut : (counts : List ℕ) (es : Edges) → length (cut counts es) ≡ length counts
 length_cut [] es = refl

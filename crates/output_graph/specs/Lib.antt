@@ -6,7 +6,9 @@ pub mod Source
 pub mod Sets
 pub mod Graph
 pub mod Programs
+pub mod Plans
 pub mod Sound
+pub mod Running
 pub mod Turn
 pub mod RowLists
 pub mod Loop

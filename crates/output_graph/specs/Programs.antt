@@ -1,6 +1,5 @@
 -- What a whole layer does: the edges of each of its sources, with the place of each target in the next layer.
 use Rattle.std.specs.Prelude.{◌≡◌, ℕ, suc, ◌≤◌, List, [], ◌∷◌, map, take, drop, length, if◌then◌else◌, nat_eq}
-use Rattle.span_core.specs.Lists.{Has}
 use Rattle.output_graph.specs.declared.program.Move.{Move}
 use Rattle.output_graph.specs.Source.{Edges, Descend}
 use Rattle.output_graph.specs.Graph.{AreApart, Graph, IsCost, IsStepped, sources, targets}
@@ -52,14 +51,6 @@ AreCounted (n ∷ counts) edges = (n ≤ length edges) × AreCounted counts (dro
 abbrev pub AllDescend : List Edges → Type 0
 AllDescend [] = Unit {0}
 AllDescend (edges ∷ groups) = Descend edges × AllDescend groups
-
--- what a program keeps true
-pub record IsProgram (counts : List ℕ) (moves : List Move) (sets : List ℕ) (largest : ℕ) : Type 0 where
-  pub counted : AreCounted counts (edges_in moves)
-  pub descend : AllDescend (cut counts (edges_in moves))
-  pub placed : ArePlaced [] moves
-  pub targets : targets_from [] moves ≡ sets
-  pub least : (m : Move) → Has moves m → m.to ≤ largest
 
 -- the sources that are left are stepped at a position, one after another, each by its edges; so much is counted before and after
 abbrev pub AreStepped : Graph → ℕ → List Edges → Graph → ℕ → ℕ → Type 0

@@ -1,12 +1,11 @@
 -- What an output graph keeps true.
 use Rattle.std.specs.Prelude.{◌≡◌, ◌⊎◌, ◌↔◌, ℕ, ◌+◌, ◌*◌, ◌<◌, ◌≤◌, List, [], ◌∷◌, ◌++◌, map, drop, length, Some}
 use Rattle.span_core.specs.Lists.{Has, AreDistinct}
-use Rattle.node_arena.specs.Cells.{NamedLink, Cells, Holds, hold}
+use Rattle.node_arena.specs.Cells.{NamedLink, Holds, hold}
 use Rattle.node_arena.specs.Words.{Word}
 use Rattle.output_graph.specs.Forward.{Layer, cell_of, Choice, AreSources}
 use Rattle.output_graph.specs.Source.{Edges, InSource, Between, with_choices}
 use Rattle.output_graph.specs.Grown.{past}
-use Rattle.output_graph.specs.Sets.{Sets}
 use Rattle.output_graph.specs.Graph.{Graph, LeadsTo, sets_of}
 use Rattle.span_core.specs.declared.edge.Edge.{Edge}
 
@@ -107,5 +106,5 @@ pub record HasEnded (at c : ℕ) (edges : Edges) (cells : List NamedLink) (next 
   pub few : length next_after ≤ length next + length edges
   pub hands_on : (to : ℕ) → edges ≡ (0, to) ∷ [] → (Has (sets_of next) to → ⊥) → length cells_after ≤ length cells
 
-abbrev pub graph_of : Cells → Sets → Sets → ℕ → ℕ → Graph
-graph_of arena layer next stepped at = record { cells = arena.cells; layer = layer.pairs; next = next.pairs; stepped = stepped; at = at }
+abbrev pub graph_of : List NamedLink → Layer → Layer → ℕ → ℕ → Graph
+graph_of cells layer next stepped at = record { cells = cells; layer = layer; next = next; stepped = stepped; at = at }

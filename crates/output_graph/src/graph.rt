@@ -13,22 +13,22 @@ ghost use Rattle.output_graph.specs.Programs.{IsRun};
 
 use crate::edges::{ACCEPTED, make_edges, make_ends};
 use crate::layer::Layer;
-use crate::moves::make_all;
 use crate::program::Program;
+use crate::registers::Registers;
 use crate::row_lists::RowLists;
+use crate::running::run_plan;
 use crate::turning::turn_cells;
 use node_arena::Arena;
 use span_core::{Edge, Marks, OutOfMemory, Steps};
 use std::alloc::Global;
 use std::marker::Model;
-use std::mem;
 use std::sync::ledger::Ledger;
 
 /// The words that lead to each set of a layer, and those that lead on from it so far.
 #[derive(Drop)]
 pub struct OutputGraph {
     arena: Arena,
-    layer: Layer,
+    registers: Registers,
     next: Layer,
     stepped: usize,
     at: u32,
@@ -41,9 +41,9 @@ impl Model for OutputGraph {
 
     ghost use Rattle.output_graph.specs.Sound.{IsSound, graph_of};
 
-    ghost view = { λ g. graph_of g.arena g.layer g.next g.stepped g.at };
+    ghost view = { λ g. graph_of g.arena.cells g.registers.sources.items g.next.pairs g.stepped g.at };
 
-    ghost invariant = { λ g. IsSound (graph_of g.arena g.layer g.next g.stepped g.at) g.arena.holds };
+    ghost invariant = { λ g. IsSound (graph_of g.arena.cells g.registers.sources.items g.next.pairs g.stepped g.at) g.arena.holds };
 }
 
 impl OutputGraph {
@@ -60,16 +60,15 @@ impl OutputGraph {
         ensures refused { OnErr result (steps.new ≡ steps.old) }
     {
         let mut arena = Arena::new(alloc);
-        let mut layer = Layer::new(alloc);
+        let mut sources = Vec::new(alloc);
         let next = Layer::new(alloc);
         arena.reserve(1)?;
-        layer.reserve(1)?;
-        layer.cover(set)?;
+        sources.reserve(1)?;
         let root = arena.root(steps);
-        layer.put(set, root);
+        sources.push_reserved((set, root));
         Ok(OutputGraph {
             arena,
-            layer,
+            registers: Registers::of(alloc, sources),
             next,
             stepped: 0,
             at: 0,
@@ -91,13 +90,13 @@ impl OutputGraph {
         ensures steps { steps.new ≤ steps.old + 2 * length self.now.cells + 1 }
         ensures counted { OnOk result (steps.old < steps.new) }
     {
-        let mut cells = self.layer.cells(alloc)?;
+        let mut cells = self.registers.cells(alloc)?;
         let arena = self.arena.copy(alloc, &mut cells, steps)?;
-        let layer = self.layer.with_cells(alloc, &cells)?;
+        let registers = self.registers.with_cells(alloc, &cells)?;
         arena.is_arena();
         Ok(OutputGraph {
             arena,
-            layer,
+            registers,
             next: Layer::new(alloc),
             stepped: 0,
             at: 0,
@@ -108,7 +107,7 @@ impl OutputGraph {
     pub fn layer_len(&self) -> usize
         ensures { result ≡ length self.now.layer }
     {
-        self.layer.len()
+        self.registers.len()
     }
 
     /// Set `k` of the layer.
@@ -116,7 +115,7 @@ impl OutputGraph {
         requires { k < length self.now.layer }
         ensures { slice_get (sets_of self.now.layer) k ≡ Some result }
     {
-        self.layer.at(k).0
+        self.registers.at(k).0
     }
 
     /// The number of live cells.
@@ -146,7 +145,7 @@ impl OutputGraph {
         ensures sources { sources self.new ≡ targets self.old }
         ensures targets { targets self.new ≡ [] }
     {
-        exchange(&mut self.layer, &mut self.next);
+        self.next.give(&mut self.registers.sources);
         self.stepped = 0;
     }
 
@@ -174,7 +173,7 @@ impl OutputGraph {
         self.arena.reserve(edges.len())?;
         make_room(&mut self.next, edges)?;
         steps.tick();
-        let source = self.layer.at(k).1;
+        let source = self.registers.at(k).1;
         make_edges(&mut self.arena, &mut self.next, source, at, edges, steps);
         self.stepped = k + 1;
         self.at = at;
@@ -200,20 +199,18 @@ impl OutputGraph {
         ensures uncounted { OnErr result (steps.new ≡ steps.old) }
     {
         self.arena.is_arena();
-        self.arena.reserve(program.moves.len())?;
-        self.next.reserve(program.moves.len())?;
-        self.next.cover(program.largest)?;
-        make_all(
+        let plan = &program.plan;
+        self.arena.reserve(plan.actions.len())?;
+        self.registers.reserve(plan.actions.len(), plan.held.len())?;
+        run_plan(
             &mut self.arena,
-            &self.layer,
-            &mut self.next,
+            &mut self.registers,
             at,
             self.at,
-            program.counts.as_slice(),
-            program.moves.as_slice(),
+            plan,
             steps,
         );
-        exchange(&mut self.layer, &mut self.next);
+        self.registers.settle(plan.targets.as_slice(), plan.held.as_slice(), plan.in_place);
         Ok(())
     }
 
@@ -240,7 +237,7 @@ impl OutputGraph {
         self.next.reserve(ends.len())?;
         self.next.cover(ACCEPTED)?;
         steps.tick();
-        let source = self.layer.at(k).1;
+        let source = self.registers.at(k).1;
         make_ends(&mut self.arena, &mut self.next, source, at, ends, steps);
         self.stepped = k + 1;
         self.at = at;
@@ -257,7 +254,7 @@ impl OutputGraph {
     {
         let OutputGraph {
             arena,
-            layer: _,
+            registers: _,
             next,
             stepped: _,
             at: _,
@@ -267,15 +264,6 @@ impl OutputGraph {
         let held = accept;
         turn_cells(arena.close(held, steps), accept, steps)
     }
-}
-
-/// Makes the next layer the layer, and leaves the next one empty.
-fn exchange(layer: &mut Layer, next: &mut Layer)
-    ensures layer { layer.new.pairs ≡ next.old.pairs }
-    ensures next { next.new.pairs ≡ [] }
-{
-    mem::swap(layer, next);
-    next.clear();
 }
 
 /// Makes room for the targets of these edges.

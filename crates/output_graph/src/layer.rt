@@ -1,4 +1,4 @@
-//! Sets, each with the cell that has its words: a sparse set.
+//! The sets of the next layer, each with the cell that has its words: a sparse set.
 //!
 //! A list of pairs, and for each set number a place in it that is believed only where the list agrees (Briggs and
 //! Torczon 1993). So a set is found with no search, and a layer is emptied by forgetting its length.
@@ -6,12 +6,13 @@ ghost use Rattle.std.specs.Prelude.{◌≡◌, ◌≤◌, ◌<◌, ◌+◌, ◌^
 ghost use Rattle.output_graph.specs.Forward.{cell_of, set_cell};
 ghost use Rattle.output_graph.specs.Graph.{sets_of};
 ghost use Rattle.output_graph.specs.Programs.{place_in};
-ghost use Rattle.output_graph.specs.Sets.{HasNot, paired, cells_in};
+ghost use Rattle.output_graph.specs.Sets.{HasNot};
 
 use node_arena::Cell;
 use span_core::OutOfMemory;
 use std::alloc::Global;
 use std::marker::Model;
+use std::mem;
 
 /// A list of distinct sets, each with a cell. A set is found without a search, as in the sparse sets of
 /// Briggs and Torczon (ACM Letters on Programming Languages and Systems 2, 1993): `places` has its place,
@@ -43,22 +44,6 @@ impl Layer {
             pairs: Vec::new(alloc),
             places: Vec::new(alloc),
         }
-    }
-
-    /// The number of sets.
-    pub fn len(&self) -> usize
-        ensures { result ≡ length self.now.pairs }
-    {
-        self.pairs.len()
-    }
-
-    /// Set `k` with its cell.
-    pub fn at(&self, k: usize) -> (u32, Cell)
-        requires { k < length self.now.pairs }
-        ensures pair { slice_get self.now.pairs k ≡ Some result }
-        ensures few { length self.now.pairs < 2 ^ 64 }
-    {
-        self.pairs[k]
     }
 
     /// Makes room for `n` more sets.
@@ -113,18 +98,6 @@ impl Layer {
         }
     }
 
-    /// Gives the set this cell, in place of the one that it has, if any.
-    pub fn put(&mut self, set: u32, cell: Cell)
-        requires room { 1 ≤ self.old.room }
-        requires covered { set < self.old.known }
-        ensures pairs { self.new.pairs ≡ set_cell self.old.pairs set cell }
-        ensures room { self.old.room ≤ self.new.room + 1 }
-        ensures known { self.new.known ≡ self.old.known }
-    {
-        let place = self.place_for(set);
-        self.put_at(place, set, cell);
-    }
-
     /// The place of a set, or how many there are.
     pub fn place_for(&self, set: u32) -> usize
         ensures { result ≡ place_in (sets_of self.now.pairs) set }
@@ -146,7 +119,7 @@ impl Layer {
         }
     }
 
-    /// As `put`, where the place is known.
+    /// Gives the set of this place the cell, in place of the one that it has, if any.
     pub fn put_at(&mut self, place: usize, set: u32, cell: Cell)
         requires placed { place ≡ place_in (sets_of self.old.pairs) set }
         requires room { 1 ≤ self.old.room }
@@ -163,55 +136,12 @@ impl Layer {
         }
     }
 
-    /// The cells of the sets, in their order.
-    pub fn cells(&self, alloc: Global) -> Result<Vec<Cell>, OutOfMemory>
-        ensures { IfOk result (λ cells. cells.items ≡ cells_in self.now.pairs) }
+    /// Gives its sets away, in place of others, and has none.
+    pub fn give(&mut self, pairs: &mut Vec<(u32, Cell)>)
+        ensures given { pairs.new.items ≡ self.old.pairs }
+        ensures none { self.new.pairs ≡ [] }
     {
-        cells_of(alloc, &self.pairs)
-    }
-
-    /// The same sets with other cells, in their order.
-    pub fn with_cells(&self, alloc: Global, cells: &[Cell]) -> Result<Layer, OutOfMemory>
-        requires { length cells.now ≡ length self.now.pairs }
-        ensures { IfOk result (λ layer. layer.pairs ≡ paired self.now.pairs cells.now) }
-    {
-        let pairs = pairs_of(alloc, &self.pairs, cells)?;
-        let mut places = Vec::new(alloc);
-        places.extend_from_slice(&self.places)?;
-        Ok(Layer { pairs, places })
-    }
-
-    /// Leaves no sets, and all room.
-    pub fn clear(&mut self)
-        ensures { self.new.pairs ≡ [] }
-    {
+        mem::swap(&mut self.pairs, pairs);
         self.pairs.clear();
     }
-}
-
-/// The cells of these sets.
-fn cells_of(alloc: Global, pairs: &[(u32, Cell)]) -> Result<Vec<Cell>, OutOfMemory>
-    ensures { IfOk result (λ cells. cells.items ≡ cells_in pairs.now) }
-{
-    let mut cells = Vec::new(alloc);
-    for pair in pairs {
-        cells.push(pair.1)?;
-    }
-    Ok(cells)
-}
-
-/// These sets with these cells.
-fn pairs_of(
-    alloc: Global,
-    pairs: &[(u32, Cell)],
-    cells: &[Cell],
-) -> Result<Vec<(u32, Cell)>, OutOfMemory>
-    requires { length cells.now ≡ length pairs.now }
-    ensures { IfOk result (λ made. made.items ≡ paired pairs.now cells.now) }
-{
-    let mut made = Vec::new(alloc);
-    for k in 0..pairs.len() {
-        made.push((pairs[k].0, cells[k]))?;
-    }
-    Ok(made)
 }

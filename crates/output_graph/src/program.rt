@@ -1,12 +1,12 @@
 //! What a whole layer does on a byte, worked out once.
 //!
-//! A program lists the edges of each source with the place of each target in the next layer, or that it is new there: so
-//! that running it looks up no set. It goes where stepping the sources one after the other goes.
-ghost use Rattle.std.specs.Prelude.{◌≡◌, ◌≤◌, ◌<◌, ◌+◌, ℕ, [], ◌∷◌, ◌++◌, flat_map, length, IfOk, OnOk};
-ghost use Rattle.span_core.specs.Lists.{Has};
+//! A program lists the edges of each source and, worked out from them, what they do to cells: so that running it looks up
+//! no set and touches no cell that is handed on. It goes where stepping the sources one after the other goes.
+ghost use Rattle.std.specs.Prelude.{◌≡◌, ◌≤◌, ◌<◌, ◌+◌, ℕ, [], ◌∷◌, ◌++◌, flat_map, length, slice_get, IfOk, IsTrue, OnOk};
 ghost use Rattle.output_graph.specs.Source.{Descend};
 ghost use Rattle.output_graph.specs.Sound.{edges_of};
-ghost use Rattle.output_graph.specs.Programs.{place_in, steps_of, with_target};
+ghost use Rattle.output_graph.specs.Plans.{AreInPlace, HasEdge, HasEdges, IsInPlace, IsPlan, hands_on, put, release_of};
+ghost use Rattle.output_graph.specs.Programs.{cut, edges_in, place_in, steps_of, with_target};
 
 use span_core::{Edge, Marks, OutOfMemory};
 use std::alloc::Global;
@@ -20,24 +20,61 @@ pub(crate) struct Move {
     pub(crate) place: usize,
 }
 
-/// The edges of each source of a layer, in the order of the sources. The targets are found once, when the program
+/// Where the cell of a place is while a program runs.
+#[derive(Clone, Copy, Drop)]
+pub(crate) enum Register {
+    /// The cell of this source.
+    Kept(usize),
+    /// The cell that the program makes when it has made so many.
+    Made(usize),
+}
+
+/// A cell to make: its marks, the source that it continues, and what its target has so far.
+#[derive(Clone, Copy, Drop)]
+pub(crate) struct Link {
+    pub(crate) marks: Marks,
+    pub(crate) from: usize,
+    pub(crate) also: Option<Register>,
+}
+
+/// What is done to cells.
+#[derive(Clone, Copy, Drop)]
+pub(crate) enum Action {
+    /// Makes a cell.
+    Make(Link),
+    /// Gives up the hold of this source.
+    Release(usize),
+}
+
+/// The moves of each source, and what they do to cells: the actions in their order, and where the cell of each target is
+/// behind them. A source that hands its cell on has no action.
+#[derive(Drop)]
+pub(crate) struct Plan {
+    pub(crate) counts: Vec<usize>,
+    pub(crate) moves: Vec<Move>,
+    pub(crate) targets: Vec<u32>,
+    pub(crate) actions: Vec<Action>,
+    pub(crate) held: Vec<Register>,
+    pub(crate) made: usize,
+    pub(crate) in_place: bool,
+}
+
+/// The edges of each source of a layer, in the order of the sources. What they do to cells is found once, when the program
 /// is made, so that running it searches nothing.
 #[derive(Drop)]
 pub struct Program {
-    pub(crate) counts: Vec<usize>,
-    pub(crate) moves: Vec<Move>,
-    targets: Vec<u32>,
-    pub(crate) largest: u32,
+    pub(crate) plan: Plan,
 }
 
 impl Model for Program {
-    ghost use Rattle.output_graph.specs.Programs.{IsProgram, Steps, cut, edges_in, steps_of};
+    ghost use Rattle.output_graph.specs.Programs.{Steps, cut, edges_in, steps_of};
+    ghost use Rattle.output_graph.specs.Plans.{IsPlan};
 
     ghost Value = { Steps };
 
-    ghost view = { λ p. steps_of (cut p.counts.items (edges_in p.moves.items)) p.targets.items };
+    ghost view = { λ p. steps_of (cut p.plan.counts.items (edges_in p.plan.moves.items)) p.plan.targets.items };
 
-    ghost invariant = { λ p. IsProgram p.counts.items p.moves.items p.targets.items p.largest };
+    ghost invariant = { λ p. IsPlan p.plan };
 }
 
 impl Program {
@@ -46,10 +83,15 @@ impl Program {
         ensures { result ≡ steps_of [] [] }
     {
         Program {
-            counts: Vec::new(alloc),
-            moves: Vec::new(alloc),
-            targets: Vec::new(alloc),
-            largest: 0,
+            plan: Plan {
+                counts: Vec::new(alloc),
+                moves: Vec::new(alloc),
+                targets: Vec::new(alloc),
+                actions: Vec::new(alloc),
+                held: Vec::new(alloc),
+                made: 0,
+                in_place: true,
+            },
         }
     }
 
@@ -58,50 +100,146 @@ impl Program {
         requires { Descend (edges_of edges.now) }
         ensures { IfOk result (λ p. p.groups ≡ self.groups ++ edges_of edges.now ∷ []) }
     {
-        let Program {
-            mut counts,
-            mut moves,
-            mut targets,
-            mut largest,
-        } = self;
-        for edge in edges {
-            let place = add_target(&mut targets, edge.to)?;
-            largest = largest.max(edge.to);
-            moves.push(Move {
-                marks: edge.marks,
-                to: edge.to,
-                place,
-            })?;
-        }
-        counts.push(edges.len())?;
-        Ok(Program {
-            counts,
-            moves,
-            targets,
-            largest,
-        })
+        let Program { mut plan } = self;
+        add_source(&mut plan, edges)?;
+        Ok(Program { plan })
     }
 
     /// The number of sources.
     pub fn sources(&self) -> usize
         ensures { result ≡ length self.now.groups }
     {
-        self.counts.len()
+        self.plan.counts.len()
     }
 
     /// The number of edges of all sources.
     pub fn edges(&self) -> usize
         ensures { result ≡ length (flat_map (λ es. es) self.now.groups) }
     {
-        self.moves.len()
+        self.plan.moves.len()
     }
 
     /// The sets of the next layer, in their order.
     pub fn targets(&self) -> &[u32]
         ensures { result.now ≡ self.now.targets }
     {
-        self.targets.as_slice()
+        self.plan.targets.as_slice()
     }
+}
+
+/// One source more, the last.
+fn add_source(plan: &mut Plan, edges: &[Edge]) -> Result<(), OutOfMemory>
+    requires plan { IsPlan plan.old }
+    requires descend { Descend (edges_of edges.now) }
+    ensures plan { OnOk result (IsPlan plan.new) }
+    ensures groups { OnOk result (cut plan.new.counts.items (edges_in plan.new.moves.items) ≡ cut plan.old.counts.items (edges_in plan.old.moves.items) ++ edges_of edges.now ∷ []) }
+{
+    let source = plan.counts.len();
+    let kept = add_edges(plan, source, edges)?;
+    add_release(&mut plan.actions, source, kept)?;
+    plan.counts.push(edges.len())?;
+    plan.in_place = is_in_place(plan.held.as_slice(), source + 1);
+    Ok(())
+}
+
+/// The end of a source, whose hold is given up unless its cell was handed on.
+fn add_release(actions: &mut Vec<Action>, source: usize, kept: bool) -> Result<(), OutOfMemory>
+    ensures { OnOk result (actions.new.items ≡ actions.old.items ++ release_of kept source) }
+{
+    if kept {
+        return Ok(());
+    }
+    actions.push(Action::Release(source))?;
+    Ok(())
+}
+
+/// Whether no cell moves: each place is that of the source whose cell it has, or has a cell that is made.
+fn is_in_place(held: &[Register], sources: usize) -> bool
+    ensures { IsTrue result → AreInPlace 0 held.now × (length held.now ≤ sources) }
+{
+    for k in 0..held.len() {
+        if !stays(held[k], k) {
+            return false;
+        }
+    }
+    held.len() <= sources
+}
+
+/// Whether a place has the cell of the source of its number, or one that is made.
+fn stays(register: Register, place: usize) -> bool
+    ensures { IsTrue result → IsInPlace place register }
+{
+    match register {
+        Register::Kept(source) => source == place,
+        Register::Made(_) => true,
+    }
+}
+
+/// The edges of a source, and whether its cell is handed on.
+fn add_edges(plan: &mut Plan, source: usize, edges: &[Edge]) -> Result<bool, OutOfMemory>
+    requires { plan.old.made ≤ length plan.old.actions.items }
+    ensures { IfOk result (λ kept. HasEdges source plan.old edges.now plan.new kept) }
+{
+    let mut kept = false;
+    for edge in edges {
+        if add_edge(plan, source, *edge)? {
+            kept = true;
+        }
+    }
+    Ok(kept)
+}
+
+/// An edge of a source, and whether the source's cell is handed on.
+fn add_edge(plan: &mut Plan, source: usize, edge: Edge) -> Result<bool, OutOfMemory>
+    requires { plan.old.made ≤ length plan.old.actions.items }
+    ensures { IfOk result (λ kept. HasEdge source plan.old edge plan.new kept) }
+{
+    let place = add_target(&mut plan.targets, edge.to)?;
+    let step = Move {
+        marks: edge.marks,
+        to: edge.to,
+        place,
+    };
+    let handed_on = is_handed_on(plan.held.as_slice(), &step);
+    plan.moves.push(step)?;
+    if handed_on {
+        let _had = put_register(&mut plan.held, place, Register::Kept(source))?;
+        return Ok(true);
+    }
+    let made = Register::Made(plan.made);
+    let also = put_register(&mut plan.held, place, made)?;
+    plan.actions.push(Action::Make(Link {
+        marks: edge.marks,
+        from: source,
+        also,
+    }))?;
+    plan.made += 1;
+    Ok(false)
+}
+
+/// Whether a move hands the source's own cell on: it takes no marks, and its target has no cell.
+fn is_handed_on(held: &[Register], step: &Move) -> bool
+    ensures { result ≡ hands_on held.now step.now }
+{
+    step.marks.is_none() && step.place == held.len()
+}
+
+/// Gives a place this register, and tells which it had.
+fn put_register(
+    held: &mut Vec<Register>,
+    place: usize,
+    register: Register,
+) -> Result<Option<Register>, OutOfMemory>
+    ensures had { IfOk result (λ had. had ≡ slice_get held.old.items place) }
+    ensures held { OnOk result (held.new.items ≡ put held.old.items place register) }
+{
+    if place < held.len() {
+        let had = held[place];
+        held[place] = register;
+        return Ok(Some(had));
+    }
+    held.push(register)?;
+    Ok(None)
 }
 
 /// The place of a target, which comes last where it is not there.

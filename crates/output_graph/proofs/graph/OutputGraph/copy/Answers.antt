@@ -17,10 +17,10 @@ returns-in_err-arena-clause-steps g c =
 
 pub with_cells-requires : goal.with_cells-requires
 with_cells-requires g c =
-    names_many c.in_ok-arena.ensures.copied.0 _ _ _ _ c.deref.result.now c.self.inside.layer.pairs c.in_ok-arena.ensures.copied.1 c.in_ok-cells.ensures c.deref.ensures.value
+    names_many c.in_ok-arena.ensures.copied.0 _ _ _ _ c.deref.result.now c.self.inside.registers.sources.items c.in_ok-arena.ensures.copied.1 c.in_ok-cells.ensures c.deref.ensures.value
 
-pub returns-in_err-layer-clause-steps : goal.returns-in_err-layer-clause-steps
-returns-in_err-layer-clause-steps g c =
+pub returns-in_err-registers-clause-steps : goal.returns-in_err-registers-clause-steps
+returns-in_err-registers-clause-steps g c =
     let same = ap (λ (x : Graph). length x.cells) c.self.view_is in
     let steps = c.copy.ensures.steps in
     omega arith
@@ -29,27 +29,27 @@ pub invariant_of-result : goal.invariant_of-result
 invariant_of-result g c =
     let start = ap (λ (x : Graph). x.stepped) c.self.view_is ∙ c.requires in
     let is = c.in_ok-arena.ensures.copied in
-    let whole : Graph = graph_of c.self.inside.arena c.self.inside.layer c.self.inside.next c.self.inside.stepped c.self.inside.at in
-    let done = copy_done whole c.self.inside.arena c.in_ok-arena.arena _ _ c.deref.result.now c.in_ok-layer.layer.pairs is.0 c.self.invariant start refl is.1 c.is_arena.ensures c.in_ok-cells.ensures
-    c.deref.ensures.value c.in_ok-layer.ensures in
+    let whole : Graph = graph_of c.self.inside.arena.cells c.self.inside.registers.sources.items c.self.inside.next.pairs c.self.inside.stepped c.self.inside.at in
+    let done = copy_done whole c.self.inside.arena c.in_ok-arena.arena _ _ c.deref.result.now c.in_ok-registers.registers.sources.items is.0 c.self.invariant start refl is.1 c.is_arena.ensures c.in_ok-cells.ensures
+    c.deref.ensures.value c.in_ok-registers.ensures in
     rw c.new.ensures done.sound
 
 pub returns-clause-sources : goal.returns-clause-sources
 returns-clause-sources g c =
     let start = ap (λ (x : Graph). x.stepped) c.self.view_is ∙ c.requires in
     let is = c.in_ok-arena.ensures.copied in
-    let whole : Graph = graph_of c.self.inside.arena c.self.inside.layer c.self.inside.next c.self.inside.stepped c.self.inside.at in
-    let done = copy_done whole c.self.inside.arena c.in_ok-arena.arena _ _ c.deref.result.now c.in_ok-layer.layer.pairs is.0 c.self.invariant start refl is.1 c.is_arena.ensures c.in_ok-cells.ensures
-    c.deref.ensures.value c.in_ok-layer.ensures in
+    let whole : Graph = graph_of c.self.inside.arena.cells c.self.inside.registers.sources.items c.self.inside.next.pairs c.self.inside.stepped c.self.inside.at in
+    let done = copy_done whole c.self.inside.arena c.in_ok-arena.arena _ _ c.deref.result.now c.in_ok-registers.registers.sources.items is.0 c.self.invariant start refl is.1 c.is_arena.ensures c.in_ok-cells.ensures
+    c.deref.ensures.value c.in_ok-registers.ensures in
     done.sources_same ∙ (ap (λ n. map (source_of whole.cells) (drop n whole.layer)) (sym start) ∙ ap sources c.self.view_is)
 
 pub returns-clause-cells : goal.returns-clause-cells
 returns-clause-cells g c =
     let start = ap (λ (x : Graph). x.stepped) c.self.view_is ∙ c.requires in
     let is = c.in_ok-arena.ensures.copied in
-    let whole : Graph = graph_of c.self.inside.arena c.self.inside.layer c.self.inside.next c.self.inside.stepped c.self.inside.at in
-    let done = copy_done whole c.self.inside.arena c.in_ok-arena.arena _ _ c.deref.result.now c.in_ok-layer.layer.pairs is.0 c.self.invariant start refl is.1 c.is_arena.ensures c.in_ok-cells.ensures
-    c.deref.ensures.value c.in_ok-layer.ensures in
+    let whole : Graph = graph_of c.self.inside.arena.cells c.self.inside.registers.sources.items c.self.inside.next.pairs c.self.inside.stepped c.self.inside.at in
+    let done = copy_done whole c.self.inside.arena c.in_ok-arena.arena _ _ c.deref.result.now c.in_ok-registers.registers.sources.items is.0 c.self.invariant start refl is.1 c.is_arena.ensures c.in_ok-cells.ensures
+    c.deref.ensures.value c.in_ok-registers.ensures in
     done.many ∙ ap (λ (x : Graph). length x.cells) c.self.view_is
 
 pub returns-clause-steps : goal.returns-clause-steps

@@ -1,44 +1,58 @@
-use Rattle.std.proofs.Common.{◌≡◌, length, refl, sym, ap, arith, ◌∙◌}
-use Rattle.output_graph.specs.Graph.{Graph}
+use Rattle.std.proofs.Common.{◌≡◌, [], length, sym, ap, subst, arith, ◌∙◌}
+use Rattle.output_graph.specs.Graph.{Graph, sets_of}
 use Rattle.output_graph.specs.Sound.{graph_of}
-use Rattle.output_graph.specs.Programs.{edges_in}
-use Rattle.output_graph.proofs.GoingLaws.{next_is}
-use Rattle.output_graph.proofs.LayerLaws.{layer_sound, next_is_layer}
+use Rattle.output_graph.specs.Programs.{AreStepped, cut, edges_in}
+use Rattle.output_graph.specs.Running.{AreHeld}
+use Rattle.output_graph.proofs.GoingLaws.{all, layer_begun, place_begun, plan_leads, run_next, run_sound}
 use Rattle.output_graph.proofs.PlaceLaws.{place_of}
 use Rattle.output_graph.proofs.ProgramLaws.{length_cut}
 use Rattle.output_graph.proofs.graph.OutputGraph.step_layer.Goals as goal
 
-pub make_all-requires-clause-place : goal.make_all-requires-clause-place
-make_all-requires-clause-place g c =
+pub run_plan-requires-clause-leads : goal.run_plan-requires-clause-leads
+run_plan-requires-clause-leads g c =
     let begun : c.self.inside.stepped ≡ 0 = rw (← c.self.view_is) at c.requires.begun in
-    let place = place_of _ _ c.self.invariant c.is_arena.ensures.live c.args.at (rw (← c.self.view_is) at c.requires.place) in
-    rw c.reserve.ensures.cells (rw begun at place)
-
-pub make_all-requires-clause-every : goal.make_all-requires-clause-every
-make_all-requires-clause-every g c =
     let every = rw (← c.self.view_is, ← c.program.view_is) at c.requires.every in
-    ap length c.as_slice.ensures.value ∙ (sym (length_cut _ _) ∙ every)
+    let count : length c.program.inside.plan.counts.items ≡ length c.self.inside.registers.sources.items = sym (length_cut _ _) ∙ every in
+    let place = place_of _ _ c.self.invariant c.is_arena.ensures.live c.args.at (rw (← c.self.view_is) at c.requires.place) in
+    rw (c.reserve.ensures.cells, c.reserve.ensures.holds, c.reserve-2.ensures.sources)
+    (plan_leads c.program.inside.plan c.self.inside.registers.sources.items c.args.at c.self.inside.at c.args.steps.now c.self.inside.arena.cells c.self.inside.arena.holds c.program.invariant
+    (layer_begun c.self.inside.arena.cells c.self.inside.registers.sources.items c.self.inside.next.pairs c.self.inside.stepped c.self.inside.at c.self.inside.arena.holds c.self.invariant begun)
+    (place_begun c.self.inside.arena.cells c.self.inside.registers.sources.items c.self.inside.next.pairs c.self.inside.stepped c.self.inside.at c.args.at place begun) count)
+
+pub settle-requires-clause-held : goal.settle-requires-clause-held
+settle-requires-clause-held g c =
+    let run = c.run_plan.ensures.run in
+    rw (c.as_slice-2.ensures.value, c.as_slice.ensures.value, c.run_plan.ensures.sources) (run.next, run.held, run.sets)
 
 pub invariant_of-self-2 : goal.invariant_of-self-2
 invariant_of-self-2 g c =
     let begun : c.self.inside.stepped ≡ 0 = rw (← c.self.view_is) at c.requires.begun in
     let every = rw (← c.self.view_is, ← c.program.view_is) at c.requires.every in
-    let all : length c.as_slice.result.now ≡ length c.self.inside.layer.pairs = ap length c.as_slice.ensures.value ∙ (sym (length_cut _ _) ∙ every) in
-    rw (c.exchange.ensures.layer, c.exchange.ensures.next, begun)
-    (layer_sound c.make_all.new.arena.cells c.make_all.new.next.pairs c.self.inside.at c.make_all.new.arena.holds (next_is_layer _ c.make_all.new.arena.holds c.make_all.ensures.stepped.2 all))
+    let count : length c.program.inside.plan.counts.items ≡ length c.reserve-2.new.self.sources.items = sym (length_cut _ _) ∙ (every ∙ ap (λ v. length v.items) (sym c.reserve-2.ensures.sources)) in
+    let none : c.self.inside.next.pairs ≡ [] = c.self.invariant.fresh begun in
+    let held : AreHeld c.reserve-2.new.self.sources.items c.run_plan.new.registers.made.items c.program.inside.plan.held.items c.settle.new.self.sources.items =
+    rw (c.as_slice-2.ensures.value, c.run_plan.ensures.sources) at c.settle.ensures.held in
+    let sets : sets_of c.settle.new.self.sources.items ≡ c.program.inside.plan.targets.items = c.settle.ensures.sets ∙ c.as_slice.ensures.value in
+    rw (none, begun) (run_sound _ _ _ _ _ _ _ _ c.run_plan.ensures.run c.settle.new.self.sources.items held sets count c.self.inside.at)
 
 pub returns-clause-run : goal.returns-clause-run
 returns-clause-run g c =
     let begun : c.self.inside.stepped ≡ 0 = rw (← c.self.view_is) at c.requires.begun in
     let every = rw (← c.self.view_is, ← c.program.view_is) at c.requires.every in
-    let count : length c.as_slice.result.now ≡ length c.self.inside.layer.pairs = ap length c.as_slice.ensures.value ∙ (sym (length_cut _ _) ∙ every) in
-    let all : Graph = graph_of c.make_all.new.arena c.self.inside.layer c.make_all.new.next (length c.as_slice.result.now) c.make_all.ensures.stepped.0 in
-    let run = rw (c.reserve.ensures.cells, c.cover.ensures.pairs, c.reserve-2.ensures.pairs, c.as_slice-2.ensures.value) at c.make_all.ensures.stepped.1 in
-    (all, rw (← c.self.view_is, ← c.program.view_is, begun, ← c.as_slice.ensures.value) run, next_is all _ count refl c.exchange.ensures.layer c.exchange.ensures.next begun)
+    let count : length c.program.inside.plan.counts.items ≡ length c.reserve-2.new.self.sources.items = sym (length_cut _ _) ∙ (every ∙ ap (λ v. length v.items) (sym c.reserve-2.ensures.sources)) in
+    let none : c.self.inside.next.pairs ≡ [] = c.self.invariant.fresh begun in
+    let held : AreHeld c.reserve-2.new.self.sources.items c.run_plan.new.registers.made.items c.program.inside.plan.held.items c.settle.new.self.sources.items =
+    rw (c.as_slice-2.ensures.value, c.run_plan.ensures.sources) at c.settle.ensures.held in
+    let sets : sets_of c.settle.new.self.sources.items ≡ c.program.inside.plan.targets.items = c.settle.ensures.sets ∙ c.as_slice.ensures.value in
+    let run = c.run_plan.ensures.run in
+    let whole : Graph = all _ _ _ _ _ _ _ _ run c.settle.new.self.sources.items held sets count in
+    let stepped = subst (λ (f : Graph). AreStepped f c.args.at (cut c.program.inside.plan.counts.items (edges_in c.program.inside.plan.moves.items)) whole c.args.steps.now c.run_plan.new.steps)
+    (λ i. graph_of (c.reserve.ensures.cells i) (c.reserve-2.ensures.sources i).items [] 0 c.self.inside.at) run.stepped in
+    let next = run_next _ _ _ _ _ _ _ _ run c.settle.new.self.sources.items held sets count c.self.inside.at in
+    rw (← c.self.view_is, ← c.program.view_is, none, begun) (whole, stepped, next)
 
 pub returns-clause-counted : goal.returns-clause-counted
 returns-clause-counted g c =
-    let ticked = c.make_all.ensures.counted in
-    let same = ap length c.as_slice.ensures.value in
-    let count = length_cut c.program.inside.counts.items (edges_in c.program.inside.moves.items) in
+    let ticked = c.run_plan.ensures.counted in
+    let count = length_cut c.program.inside.plan.counts.items (edges_in c.program.inside.plan.moves.items) in
     rw (← c.program.view_is) (omega arith)

@@ -1,6 +1,6 @@
 use Rattle.std.proofs.Common.{◌∷◌, ◌++◌, [], ℕ, List, ap, ◌∙◌}
 use Rattle.output_graph.proofs.CopyLaws.{cells_more}
-use Rattle.output_graph.proofs.layer.cells_of.Goals as goal
+use Rattle.output_graph.proofs.registers.cells_of.Goals as goal
 
 pub loop-pair-preserved : goal.loop-pair-preserved
 loop-pair-preserved c =

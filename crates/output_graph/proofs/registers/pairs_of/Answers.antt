@@ -1,7 +1,7 @@
 use Rattle.std.proofs.Common.{◌∷◌, ◌++◌, [], ℕ, List, get_or, ap, ◌∙◌, refl, arith}
 use Rattle.output_graph.specs.Forward.{Layer}
 use Rattle.output_graph.proofs.CopyLaws.{paired_more, paired_all}
-use Rattle.output_graph.proofs.layer.pairs_of.Goals as goal
+use Rattle.output_graph.proofs.registers.pairs_of.Goals as goal
 
 pub loop-k-preserved : goal.loop-k-preserved
 loop-k-preserved c =

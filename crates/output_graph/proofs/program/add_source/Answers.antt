@@ -1,0 +1,27 @@
+use Rattle.std.proofs.Common.{◌≡◌, ◌++◌, [], ◌∷◌, length, length-append, refl, ap, ◌∙◌, subst, arith, List}
+use Rattle.output_graph.specs.declared.program.Plan.{Plan}
+use Rattle.output_graph.specs.declared.program.Register.{Register}
+use Rattle.output_graph.specs.Plans.{AreInPlace}
+use Rattle.output_graph.proofs.PlanLaws.{groups_next, plan_next}
+use Rattle.output_graph.proofs.program.add_source.Goals as goal
+
+pub returns-clause-plan : goal.returns-clause-plan
+returns-clause-plan c =
+    let old : Plan = c.args.plan.now in
+    let so = c.in_ok-kept.ensures in
+    let has = old.counts.ok.0 in
+    let source : c.len-source.result ≡ length old.counts.items = (let l = c.len-source.ensures in omega arith) in
+    let counts : c.push.new.self.items ≡ old.counts.items ++ length c.args.edges.now ∷ [] = c.in_ok-push.ensures.items ∙ ap (λ v. v.items ++ length c.args.edges.now ∷ []) so.counts in
+    let long = ap length counts ∙ length-append old.counts.items (length c.args.edges.now ∷ []) in
+    plan_next c.len-source.result old c.requires.plan source c.args.edges.now c.requires.descend c.add_edges.new.plan c.in_ok-kept.kept so _ counts refl refl refl refl c.in_ok-add_release.ensures
+    (λ on_it.
+    let r = c.is_in_place-plan.ensures on_it in
+    let few = r.1 in
+    (subst (λ (hs : List Register). AreInPlace 0 hs) c.as_slice.ensures.value r.0, (let l = ap length c.as_slice.ensures.value in omega arith)))
+
+pub returns-clause-groups : goal.returns-clause-groups
+returns-clause-groups c =
+    let old : Plan = c.args.plan.now in
+    let so = c.in_ok-kept.ensures in
+    let counts : c.push.new.self.items ≡ old.counts.items ++ length c.args.edges.now ∷ [] = c.in_ok-push.ensures.items ∙ ap (λ v. v.items ++ length c.args.edges.now ∷ []) so.counts in
+    groups_next c.len-source.result old c.requires.plan c.args.edges.now c.add_edges.new.plan c.in_ok-kept.kept so c.push.new.self.items c.add_edges.new.plan.moves.items counts refl
