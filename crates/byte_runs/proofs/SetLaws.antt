@@ -151,3 +151,6 @@ behind_head set other bytes head within fits same before r first = of_rest r (su
           },
           sym (there k) ∙ is.1,
         )
+
+pub none_is_outside_all : (set : FinSet nat_cmp) (b : ℕ) → set ≡ bytes_between 0 255 → b < 256 → false ≡ is_outside set b
+none_is_outside_all set b e less = sym (ap not (ap (λ s. contains s b) e ∙ all_bytes b less))

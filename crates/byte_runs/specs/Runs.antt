@@ -1,5 +1,5 @@
 -- Runs of bytes of a set, and what ends them.
-use Rattle.std.specs.Prelude.{◌≡◌, ℕ, ◌<◌, ◌&&◌, Bool, false, not, nat_lt}
+use Rattle.std.specs.Prelude.{◌≡◌, ℕ, ◌<◌, ◌&&◌, Bool, false, not, nat_lt, List, slice_index_or}
 use Rattle.std.specs.Ordering.{nat_cmp}
 use Rattle.std.specs.FinSet.{FinSet, contains}
 use Rattle.memchr.specs.Find.{is_byte, is_byte2, is_byte3}
@@ -29,3 +29,11 @@ AreLeaving set leaving = AreOutsideBelow 256 set leaving
 -- the sets have the same bytes
 abbrev pub HaveSameBytes : FinSet nat_cmp → FinSet nat_cmp → Type 0
 HaveSameBytes s t = (b : ℕ) → b < 256 → contains s b ≡ contains t b
+
+-- whether a byte is marked in a table of all bytes
+abbrev pub is_marked : List Bool → ℕ → Bool
+is_marked marks b = slice_index_or marks b false
+
+-- the bytes that are marked are those that are not in the set
+abbrev pub AreMarked : FinSet nat_cmp → List Bool → Type 0
+AreMarked set marks = (b : ℕ) → b < 256 → is_marked marks b ≡ is_outside set b

@@ -2,7 +2,7 @@ use Rattle.std.proofs.Common.{◌-◌, Some, None, length, take, drop, arith, sy
 use Rattle.memchr.specs.Find.{IsFirstByte}
 use Rattle.byte_runs.specs.Runs.{is_outside}
 use Rattle.byte_runs.proofs.SetLaws.{behind_head}
-use Rattle.byte_runs.proofs.skipper.Skipper.first_outside.Goals as goal
+use Rattle.byte_runs.proofs.skipper.Skipper.first_outside_new.Goals as goal
 
 pub returns-in_err-found : goal.returns-in_err-found
 returns-in_err-found c =
