@@ -1,8 +1,9 @@
 //! The end of a run of bytes of one set.
 //!
-//! Most runs are short and are gone through byte by byte. A long one is searched for the bytes that end it, where
-//! these are at most three (memchr), or byte by byte again. Which bytes end a run is worked out once for a set, and
-//! anew only where another set is asked for, so that a pass that asks for the same few sets again and again does not.
+//! Most runs are short: those of a set that was not asked for before are gone through byte by byte at first. Behind
+//! that the set is prepared: the bytes that end its runs are worked out, which are searched for where they are at most
+//! three (memchr), and a table of all bytes, through which eight are looked at in one turn. That is done once for a
+//! set, and anew only for a long run of another, so that a pass that asks for one set again and again searches at once.
 #![tactic(auto)]
 
 pub use skipper::Skipper;

@@ -10,3 +10,4 @@ pub mod CostLaws
 pub mod FirstTargets
 pub mod Remembering
 pub mod Results
+pub mod DenseLaws

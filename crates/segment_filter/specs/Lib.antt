@@ -7,3 +7,4 @@ pub mod Costs
 pub mod Remembered
 pub mod Next
 pub mod SetNumbers
+pub mod Dense

@@ -3,12 +3,12 @@
 //! A document has few pairs of sets and many positions, so what a comparison told is remembered, in one of 4,096
 //! places that its two numbers choose. A pair that finds another in its place takes it.
 ghost use Rattle.std.specs.Prelude.{◌≡◌, ◌<◌, ◌↔◌, ℕ, List, length, IfOk, IfSome, IsTrue, Some};
-ghost use Rattle.span_core.specs.Lists.{IsInOrder};
 ghost use Rattle.set_table.specs.Tabled.{set_at};
 ghost use Rattle.segment_filter.specs.Sets.{HaveShared};
 ghost use Rattle.segment_filter.specs.declared.comparing.TheConstants.{PLACES};
 ghost use Rattle.segment_filter.specs.Remembered.{AreRemembered, compared};
 
+use crate::dense::DenseTable;
 use crate::sharing::share;
 use span_core::OutOfMemory;
 use std::alloc::Global;
@@ -43,36 +43,68 @@ impl Comparisons {
         Ok(Comparisons { pairs })
     }
 
-    /// Whether two sets share a state that is at most `most`, which is always the same. They are given by
-    /// their numbers and by their states. Two sets that are remembered are not compared again.
+    /// Whether a set of one table and one of the other share a state that is at most `most`, which is always the
+    /// same. Two sets that are remembered are not compared again.
+    #[inline(always)]
     pub(crate) fn meet(
         &mut self,
         most: u32,
+        table: &DenseTable<'_>,
         set: u32,
-        states: &[u32],
+        others: &DenseTable<'_>,
         other: u32,
-        others: &[u32],
     ) -> bool
         requires places { length self.old.pairs.items ≡ PLACES }
-        requires states { IsInOrder ◌<◌ states.now }
-        requires others { IsInOrder ◌<◌ others.now }
+        requires set { set < length table.now.sets }
+        requires other { other < length others.now.sets }
+        requires right { AreRemembered most table.now.sets others.now.sets self.old.pairs.items }
         ensures places { length self.new.pairs.items ≡ PLACES }
-        ensures right { (A B : List (List ℕ)) → AreRemembered most A B self.old.pairs.items → set < length A → set_at A set ≡ states.now → set_at B other ≡ others.now →
-            AreRemembered most A B self.new.pairs.items }
-        ensures meets { (A B : List (List ℕ)) → AreRemembered most A B self.old.pairs.items → set_at A set ≡ states.now → set_at B other ≡ others.now →
-            IsTrue result ↔ HaveShared most states.now others.now }
+        ensures right { AreRemembered most table.now.sets others.now.sets self.new.pairs.items }
+        ensures meets { IsTrue result ↔ HaveShared most (set_at table.now.sets set) (set_at others.now.sets other) }
     {
-        let place = (set as usize * 1021 + other as usize) % PLACES;
-        if let Some(meets) = told(self.pairs[place], set, other) {
+        if let Some(meets) = told(self.pairs[place_of(set, other)], set, other) {
             return meets;
         }
-        let meets = share(states, others, most);
-        self.pairs[place] = Some(Compared { set, other, meets });
+        self.compare(most, table, set, others, other)
+    }
+
+    /// Compares the two sets, and remembers it.
+    #[cold]
+    #[inline(never)]
+    fn compare(
+        &mut self,
+        most: u32,
+        table: &DenseTable<'_>,
+        set: u32,
+        others: &DenseTable<'_>,
+        other: u32,
+    ) -> bool
+        requires places { length self.old.pairs.items ≡ PLACES }
+        requires set { set < length table.now.sets }
+        requires other { other < length others.now.sets }
+        requires right { AreRemembered most table.now.sets others.now.sets self.old.pairs.items }
+        ensures places { length self.new.pairs.items ≡ PLACES }
+        ensures right { AreRemembered most table.now.sets others.now.sets self.new.pairs.items }
+        ensures meets { IsTrue result ↔ HaveShared most (set_at table.now.sets set) (set_at others.now.sets other) }
+    {
+        let states = table.members(set);
+        let other_states = others.members(other);
+        let meets = share(states, other_states, most);
+        self.pairs[place_of(set, other)] = Some(Compared { set, other, meets });
         meets
     }
 }
 
+/// Where a pair may stand.
+#[inline(always)]
+fn place_of(set: u32, other: u32) -> usize
+    ensures { result < PLACES }
+{
+    (set as usize * 1021 + other as usize) % PLACES
+}
+
 /// Whether two sets share a state, if it is these that were compared.
+#[inline(always)]
 fn told(pair: Option<Compared>, set: u32, other: u32) -> Option<bool>
     ensures { IfSome result (λ meets. pair ≡ Some (compared set other meets)) }
 {

@@ -9,12 +9,13 @@ pub use fault::FilterFault;
 pub use touching::touched;
 
 mod comparing;
+mod dense;
 mod fault;
 pub mod laws;
 mod numbers;
 mod reading;
 mod readings;
-mod sets;
 mod sharing;
-mod tables;
+mod targets;
+mod told;
 mod touching;

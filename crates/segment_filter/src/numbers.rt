@@ -17,14 +17,15 @@ pub(crate) enum Numbers {
 }
 
 impl Numbers {
-    /// No numbers. It takes no memory.
-    pub(crate) fn new(alloc: Global) -> Numbers
-        ensures { numbers_of result ≡ [] }
+    /// No numbers, with room for so many of one byte each.
+    pub(crate) fn with_room(alloc: Global, count: usize) -> Result<Numbers, OutOfMemory>
+        ensures { IfOk result (λ none. numbers_of none ≡ []) }
     {
-        Numbers::One(Vec::new(alloc))
+        Ok(Numbers::One(Vec::with_capacity(alloc, count)?))
     }
 
     /// The numbers with one more behind them.
+    #[inline(always)]
     pub(crate) fn followed_by(self, alloc: Global, number: u32) -> Result<Numbers, OutOfMemory>
         ensures { IfOk result (λ more. numbers_of more ≡ numbers_of self ++ number ∷ []) }
     {
@@ -36,6 +37,7 @@ impl Numbers {
     }
 
     /// How many there are.
+    #[inline(always)]
     pub(crate) fn len(&self) -> usize
         ensures { result ≡ length (numbers_of self.now) }
     {
@@ -47,6 +49,7 @@ impl Numbers {
     }
 
     /// The number at a place, counted from 0.
+    #[inline(always)]
     pub(crate) fn at(&self, k: usize) -> u32
         requires { k < length (numbers_of self.now) }
         ensures { result ≡ slice_index (numbers_of self.now) k }
@@ -59,22 +62,52 @@ impl Numbers {
     }
 }
 
+#[inline(always)]
 fn one_more(alloc: Global, numbers: Vec<u8>, number: u32) -> Result<Numbers, OutOfMemory>
     ensures { IfOk result (λ more. numbers_of more ≡ numbers.items ++ number ∷ []) }
 {
+    if number <= u32::from(u8::MAX) && numbers.len() < numbers.capacity() {
+        let mut numbers = numbers;
+        numbers.push_reserved(number as u8);
+        return Ok(Numbers::One(numbers));
+    }
+    one_more_anew(alloc, numbers, number)
+}
+
+/// One number more, where there is no room for it, or it takes more bytes.
+#[cold]
+#[inline(never)]
+fn one_more_anew(alloc: Global, numbers: Vec<u8>, number: u32) -> Result<Numbers, OutOfMemory>
+    ensures { IfOk result (λ more. numbers_of more ≡ numbers.items ++ number ∷ []) }
+{
     if number > u32::from(u8::MAX) {
-        return two_more(alloc, widened(alloc, &numbers)?, number);
+        return two_more(alloc, widened(alloc, &numbers, numbers.capacity())?, number);
     }
     let mut numbers = numbers;
     numbers.push(number as u8)?;
     Ok(Numbers::One(numbers))
 }
 
+#[inline(always)]
 fn two_more(alloc: Global, numbers: Vec<u16>, number: u32) -> Result<Numbers, OutOfMemory>
     ensures { IfOk result (λ more. numbers_of more ≡ numbers.items ++ number ∷ []) }
 {
+    if number <= u32::from(u16::MAX) && numbers.len() < numbers.capacity() {
+        let mut numbers = numbers;
+        numbers.push_reserved(number as u16);
+        return Ok(Numbers::Two(numbers));
+    }
+    two_more_anew(alloc, numbers, number)
+}
+
+/// One number more, where there is no room for it, or it takes more bytes.
+#[cold]
+#[inline(never)]
+fn two_more_anew(alloc: Global, numbers: Vec<u16>, number: u32) -> Result<Numbers, OutOfMemory>
+    ensures { IfOk result (λ more. numbers_of more ≡ numbers.items ++ number ∷ []) }
+{
     if number > u32::from(u16::MAX) {
-        return four_more(widened_again(alloc, &numbers)?, number);
+        return four_more(widened_again(alloc, &numbers, numbers.capacity())?, number);
     }
     let mut numbers = numbers;
     numbers.push(number as u16)?;
@@ -89,20 +122,22 @@ fn four_more(numbers: Vec<u32>, number: u32) -> Result<Numbers, OutOfMemory>
     Ok(Numbers::Four(numbers))
 }
 
-fn widened(alloc: Global, numbers: &[u8]) -> Result<Vec<u16>, OutOfMemory>
+/// The numbers in two bytes each, with room for so many.
+fn widened(alloc: Global, numbers: &[u8], room: usize) -> Result<Vec<u16>, OutOfMemory>
     ensures { IfOk result (λ wide. wide.items ≡ numbers.now) }
 {
-    let mut wide = Vec::new(alloc);
+    let mut wide = Vec::with_capacity(alloc, room)?;
     for number in numbers {
         wide.push(u16::from(*number))?;
     }
     Ok(wide)
 }
 
-fn widened_again(alloc: Global, numbers: &[u16]) -> Result<Vec<u32>, OutOfMemory>
+/// The numbers in four bytes each, with room for so many.
+fn widened_again(alloc: Global, numbers: &[u16], room: usize) -> Result<Vec<u32>, OutOfMemory>
     ensures { IfOk result (λ wide. wide.items ≡ numbers.now) }
 {
-    let mut wide = Vec::new(alloc);
+    let mut wide = Vec::with_capacity(alloc, room)?;
     for number in numbers {
         wide.push(u32::from(*number))?;
     }

@@ -15,31 +15,32 @@ ghost use Rattle.segment_filter.specs.Sets.{Grows, HaveShared, MeetAt, ReadsAll,
 
 use crate::FilterFault;
 use crate::comparing::Comparisons;
+use crate::dense::DenseTable;
 use crate::numbers::Numbers;
-use crate::sets::Sets;
 use span_core::{OutOfMemory, Steps, Touched};
 use std::alloc::Global;
 use std::sync::ledger::Ledger;
 
 /// Reads the document from its end, and gives the numbers of the sets that are led to, one for each position
 /// from the last on, as long as there are any.
-pub(crate) fn read_back<S: Sets, L: Ledger>(
+pub(crate) fn read_back<L: Ledger>(
     alloc: Global,
-    table: &mut S,
+    table: &mut DenseTable<'_>,
     doc: &[u8],
     steps: &mut Steps<L>,
 ) -> Result<Numbers, FilterFault>
-    requires plain { TakesNone (S.known table.old).graph }
-    requires fresh { S.known table.old ≡ fresh (S.known table.old).graph (S.known table.old).limit }
-    ensures grows { Grows (S.known table.new) (S.known table.old) }
-    ensures ok { IfOk result (λ kept. ReadsAll (S.known table.new) (reverse doc.now) (numbers_of kept)) }
-    ensures limit { (S.known table.new).limit ≡ (S.known table.old).limit }
-    ensures weight { OnOk result (weight (S.known table.new) ≡ reading_weight (S.known table.old).graph (reverse doc.now)) }
-    ensures full { IfErr result (λ e. IsFullWithin (S.known table.old).limit (reading_weight (S.known table.old).graph (reverse doc.now)) e) }
-    ensures steps { steps.new ≤ steps.old + length doc.now + size (S.known table.old).graph * reading_rows (S.known table.old).graph (reverse doc.now) }
+    requires plain { TakesNone table.old.graph }
+    requires fresh { table.old ≡ fresh table.old.graph table.old.limit }
+    ensures grows { Grows table.new table.old }
+    ensures ok { IfOk result (λ kept. ReadsAll table.new (reverse doc.now) (numbers_of kept)) }
+    ensures limit { table.new.limit ≡ table.old.limit }
+    ensures weight { OnOk result (weight table.new ≡ reading_weight table.old.graph (reverse doc.now)) }
+    ensures full { IfErr result (λ e. IsFullWithin table.old.limit (reading_weight table.old.graph (reverse doc.now)) e) }
+    ensures steps { steps.new ≤ steps.old + length doc.now + size table.old.graph * reading_rows table.old.graph (reverse doc.now) }
 {
     let mut set = table.start();
-    let mut kept = Numbers::new(alloc).followed_by(alloc, set)?;
+    let none = Numbers::with_room(alloc, doc.len() + 1)?;
+    let mut kept = none.followed_by(alloc, set)?;
     for k in 0..doc.len() {
         let byte = doc[doc.len() - 1 - k];
         let next = match table.next(set, byte, steps) {
@@ -57,23 +58,23 @@ pub(crate) fn read_back<S: Sets, L: Ledger>(
 
 /// Reads the document, and gives the positions at which a state that is led to is also one of those that the
 /// bytes from the end lead back to, and is at most `most`.
-pub(crate) fn meetings<S: Sets, L: Ledger>(
+pub(crate) fn meetings<L: Ledger>(
     alloc: Global,
-    table: &mut S,
-    back: &S,
+    table: &mut DenseTable<'_>,
+    back: &DenseTable<'_>,
     kept: &Numbers,
     doc: &[u8],
     most: u32,
     steps: &mut Steps<L>,
 ) -> Result<Touched, FilterFault>
-    requires plain { TakesNone (S.known table.old).graph }
-    requires fresh { S.known table.old ≡ fresh (S.known table.old).graph (S.known table.old).limit }
-    requires kept { ReadsAll (S.known back.now) (reverse doc.now) (numbers_of kept.now) }
+    requires plain { TakesNone table.old.graph }
+    requires fresh { table.old ≡ fresh table.old.graph table.old.limit }
+    requires kept { ReadsAll back.now (reverse doc.now) (numbers_of kept.now) }
     requires small { length doc.now < 2 ^ 32 }
-    ensures within { OnOk result (reading_weight (S.known table.old).graph doc.now ≤ (S.known table.old).limit) }
-    ensures full { IfErr result (λ e. IsFullWithin (S.known table.old).limit (reading_weight (S.known table.old).graph doc.now) e) }
-    ensures steps { steps.new ≤ steps.old + length doc.now + size (S.known table.old).graph * reading_rows (S.known table.old).graph doc.now }
-    ensures ok { IfOk result (λ t. (i : ℕ) → Covers t i ↔ ((i ≤ length doc.now) × MeetAt (S.known table.old).graph (S.known back.now).graph most doc.now i)) }
+    ensures within { OnOk result (reading_weight table.old.graph doc.now ≤ table.old.limit) }
+    ensures full { IfErr result (λ e. IsFullWithin table.old.limit (reading_weight table.old.graph doc.now) e) }
+    ensures steps { steps.new ≤ steps.old + length doc.now + size table.old.graph * reading_rows table.old.graph doc.now }
+    ensures ok { IfOk result (λ t. (i : ℕ) → Covers t i ↔ ((i ≤ length doc.now) × MeetAt table.old.graph back.now.graph most doc.now i)) }
 {
     let mut touched = Touched::new(alloc);
     let mut seen = Comparisons::new(alloc)?;
@@ -96,32 +97,34 @@ pub(crate) fn meetings<S: Sets, L: Ledger>(
 }
 
 /// Whether a set shares a state with the one that the last `behind` bytes lead back to.
-fn meet<S: Sets>(
-    table: &S,
-    back: &S,
+#[inline(always)]
+fn meet(
+    table: &DenseTable<'_>,
+    back: &DenseTable<'_>,
     kept: &Numbers,
     set: u32,
     behind: usize,
     most: u32,
     seen: &mut Comparisons,
 ) -> bool
-    requires set { (set < length (S.known table.now).sets) × IsInOrder ◌<◌ (set_at (S.known table.now).sets set) }
-    requires kept { behind < length (numbers_of kept.now) → (slice_index (numbers_of kept.now) behind < length (S.known back.now).sets)
-        × IsInOrder ◌<◌ (set_at (S.known back.now).sets (slice_index (numbers_of kept.now) behind)) }
+    requires set { (set < length table.now.sets) × IsInOrder ◌<◌ (set_at table.now.sets set) }
+    requires kept { behind < length (numbers_of kept.now) → (slice_index (numbers_of kept.now) behind < length back.now.sets)
+        × IsInOrder ◌<◌ (set_at back.now.sets (slice_index (numbers_of kept.now) behind)) }
     requires places { length seen.old.pairs.items ≡ PLACES }
-    requires right { AreRemembered most (S.known table.now).sets (S.known back.now).sets seen.old.pairs.items }
-    ensures meets { IsTrue result ↔ ((behind < length (numbers_of kept.now)) × HaveShared most (set_at (S.known table.now).sets set) (set_at (S.known back.now).sets (slice_index (numbers_of kept.now) behind))) }
+    requires right { AreRemembered most table.now.sets back.now.sets seen.old.pairs.items }
+    ensures meets { IsTrue result ↔ ((behind < length (numbers_of kept.now)) × HaveShared most (set_at table.now.sets set) (set_at back.now.sets (slice_index (numbers_of kept.now) behind))) }
     ensures places { length seen.new.pairs.items ≡ PLACES }
-    ensures right { AreRemembered most (S.known table.now).sets (S.known back.now).sets seen.new.pairs.items }
+    ensures right { AreRemembered most table.now.sets back.now.sets seen.new.pairs.items }
 {
     if behind >= kept.len() {
         return false;
     }
     let other = kept.at(behind);
-    seen.meet(most, set, table.members(set), other, back.members(other))
+    seen.meet(most, table, set, back, other)
 }
 
 /// Adds a position, where it is touched, that is greater than each that is there.
+#[inline(always)]
 fn mark(touched: &mut Touched, is_touched: bool, at: u32) -> Result<(), OutOfMemory>
     requires { (q : ℕ) → Covers touched.old q → q < at }
     ensures { OnOk result ((q : ℕ) → Covers touched.new q ↔ (Covers touched.old q ⊎ (IsTrue is_touched × (q ≡ at)))) }

@@ -15,10 +15,11 @@ ghost use Rattle.segment_filter.specs.Costs.{atom_weight, readings_weight, touch
 ghost use Rattle.filter_laws.specs.Touching.{IsTouchedBy};
 
 use crate::FilterFault;
+use crate::dense::DenseTable;
 use crate::numbers::Numbers;
 use crate::reading::{meetings, read_back};
 use crate::readings::Readings;
-use set_table::{Table, TableFault};
+use set_table::TableFault;
 use span_core::{Steps, Touched};
 use spanner_model::Atom;
 use std::alloc::Global;
@@ -72,7 +73,7 @@ fn touched_by<L: Ledger>(
     ensures full { IfErr result (λ e. IsFullWithin limit (both_weigh readings.now.forward.graph readings.now.backward.graph doc.now) e) }
     ensures steps { steps.new ≤ steps.old + both_take readings.now.forward.graph readings.now.backward.graph doc.now }
 {
-    let mut behind = match Table::new(alloc, &readings.backward, limit, steps) {
+    let mut behind = match DenseTable::new(alloc, &readings.backward, limit, steps) {
         Ok(table) => table,
         Err(fault) => return Err(fault_of(fault)),
     };
@@ -88,7 +89,7 @@ fn touched_by<L: Ledger>(
 fn touched_ahead<'r, L: Ledger>(
     alloc: Global,
     readings: &'r Readings,
-    behind: &Table<'r>,
+    behind: &DenseTable<'r>,
     kept: &Numbers,
     doc: &[u8],
     limit: u64,
@@ -105,7 +106,7 @@ fn touched_ahead<'r, L: Ledger>(
     ensures steps { steps.new ≤ steps.old + (length doc.now + 1 + size readings.now.forward.graph * reading_rows readings.now.forward.graph doc.now) }
 {
     let spent = behind.weight();
-    let mut ahead = match Table::new(alloc, &readings.forward, limit - spent, steps) {
+    let mut ahead = match DenseTable::new(alloc, &readings.forward, limit - spent, steps) {
         Ok(table) => table,
         Err(fault) => return Err(heavier(fault_of(fault), spent)),
     };

@@ -15,28 +15,28 @@ use Rattle.segment_filter.proofs.reading.meetings.Goals as goal
 
 pub loop-at-init : goal.loop-at-init
 loop-at-init g c =
-    let t = g.S.Sets.known c.args.table.now in
+    let t = c.args.table.now in
     record {
       grows = grows_not t t refl;
       places = c.in_ok-seen.ensures.places;
-      right = c.in_ok-seen.ensures.right c.args.most t.sets (g.S.Sets.known c.args.back.now).sets;
+      right = c.in_ok-seen.ensures.right c.args.most t.sets c.args.back.now.sets;
       reading = reading_starts t c.args.doc.now c.start-set.result c.args.steps.now c.requires.fresh c.start-set.ensures.value c.start-set.ensures.tabled;
       here = subst (IsAt t c.args.doc.now 0) (sym c.start-set.ensures.value) (at_start t c.args.doc.now c.start-set.ensures.tabled);
       covers = λ i. (λ h. absurd (subst (λ s. Covers s i) c.new-touched.ensures h), λ h. absurd (omega (arith, h.0)));
     }
 
 pub meet-meets-requires-clause-kept : goal.meet-meets-requires-clause-kept
-meet-meets-requires-clause-kept g c l = kept_at (g.S.Sets.known c.args.back.now) _ (numbers_of c.args.kept.now) c.requires.kept _ l
+meet-meets-requires-clause-kept g c l = kept_at c.args.back.now _ (numbers_of c.args.kept.now) c.requires.kept _ l
 
 pub meet-meets-requires-2-clause-kept : goal.meet-meets-requires-2-clause-kept
-meet-meets-requires-2-clause-kept g c l = kept_at (g.S.Sets.known c.args.back.now) _ (numbers_of c.args.kept.now) c.requires.kept 0 l
+meet-meets-requires-2-clause-kept g c l = kept_at c.args.back.now _ (numbers_of c.args.kept.now) c.requires.kept 0 l
 
 pub returns-in-None-clause-ok : goal.returns-in-None-clause-ok
 returns-in-None-clause-ok g c =
-    let new = g.S.Sets.known c.next.new.self in
-    let old = g.S.Sets.known c.loop-at.table in
-    let first = g.S.Sets.known c.args.table.now in
-    let back = g.S.Sets.known c.args.back.now in
+    let new = c.next.new.self in
+    let old = c.loop-at.table in
+    let first = c.args.table.now in
+    let back = c.args.back.now in
     let d = c.args.doc.now in
     let at = c.loop-at.at in
     let l : at < length d = omega arith in
@@ -53,10 +53,10 @@ returns-in-None-clause-ok g c =
 
 pub loop-at-preserved : goal.loop-at-preserved
 loop-at-preserved g c =
-    let new = g.S.Sets.known c.next.new.self in
-    let old = g.S.Sets.known c.loop-at.table in
-    let first = g.S.Sets.known c.args.table.now in
-    let back = g.S.Sets.known c.args.back.now in
+    let new = c.next.new.self in
+    let old = c.loop-at.table in
+    let first = c.args.table.now in
+    let back = c.args.back.now in
     let d = c.args.doc.now in
     let at = c.loop-at.at in
     let l : at < length d = omega arith in
@@ -80,9 +80,9 @@ loop-at-preserved g c =
 
 pub returns-clause-ok : goal.returns-clause-ok
 returns-clause-ok g c =
-    let old = g.S.Sets.known c.loop-at.table in
-    let first = g.S.Sets.known c.args.table.now in
-    let back = g.S.Sets.known c.args.back.now in
+    let old = c.loop-at.table in
+    let first = c.args.table.now in
+    let back = c.args.back.now in
     let d = c.args.doc.now in
     let at = c.loop-at.at in
     let end : at ≡ length d = omega arith in
@@ -98,13 +98,13 @@ returns-in-None-clause-within g c =
     let d = c.args.doc.now in
     let at = c.loop-at.at in
     let l : at < length d = omega arith in
-    (reading_stops (g.S.Sets.known c.args.table.now) (g.S.Sets.known c.loop-at.table) d at c.loop-at.set c.args.steps.now c.loop-at.steps c.loop-at.invariant.reading (get_or d at 0)
-    c.next.new.steps (slice_get-get_or d at 0 l) c.next.ensures.again c.next.ensures.steps (g.S.Sets.known c.next.new.self) c.in-Ok.ensures.ok.0 c.in-Ok.next c.in-Ok.ensures.ok.1 c.in-None.is
+    (reading_stops c.args.table.now c.loop-at.table d at c.loop-at.set c.args.steps.now c.loop-at.steps c.loop-at.invariant.reading (get_or d at 0)
+    c.next.new.steps (slice_get-get_or d at 0 l) c.next.ensures.again c.next.ensures.steps c.next.new.self c.in-Ok.ensures.ok.0 c.in-Ok.next c.in-Ok.ensures.ok.1 c.in-None.is
     c.requires.plain c.in-Ok.ensures.tabled).1
 
 pub returns-clause-within : goal.returns-clause-within
 returns-clause-within g c =
-    (reading_weighs (g.S.Sets.known c.args.table.now) (g.S.Sets.known c.loop-at.table) c.args.doc.now c.loop-at.at c.loop-at.set c.args.steps.now c.loop-at.steps c.loop-at.invariant.reading
+    (reading_weighs c.args.table.now c.loop-at.table c.args.doc.now c.loop-at.at c.loop-at.set c.args.steps.now c.loop-at.steps c.loop-at.invariant.reading
     (omega arith)).1
 
 pub returns-in-Err-clause-full : goal.returns-in-Err-clause-full
@@ -112,7 +112,7 @@ returns-in-Err-clause-full g c =
     let d = c.args.doc.now in
     let at = c.loop-at.at in
     let l : at < length d = omega arith in
-    reading_refused (g.S.Sets.known c.args.table.now) (g.S.Sets.known c.loop-at.table) d at c.loop-at.set c.args.steps.now c.loop-at.steps c.loop-at.invariant.reading (get_or d at 0)
+    reading_refused c.args.table.now c.loop-at.table d at c.loop-at.set c.args.steps.now c.loop-at.steps c.loop-at.invariant.reading (get_or d at 0)
     c.next.new.steps (slice_get-get_or d at 0 l) c.next.ensures.again c.next.ensures.steps c.in-Err.fault c.in-Err.ensures.full
 
 pub returns-in-Err-clause-steps : goal.returns-in-Err-clause-steps
@@ -120,7 +120,7 @@ returns-in-Err-clause-steps g c =
     let d = c.args.doc.now in
     let at = c.loop-at.at in
     let l : at < length d = omega arith in
-    refused_steps (g.S.Sets.known c.args.table.now) (g.S.Sets.known c.loop-at.table) d at c.loop-at.set c.args.steps.now c.loop-at.steps c.loop-at.invariant.reading (get_or d at 0)
+    refused_steps c.args.table.now c.loop-at.table d at c.loop-at.set c.args.steps.now c.loop-at.steps c.loop-at.invariant.reading (get_or d at 0)
     c.next.new.steps (slice_get-get_or d at 0 l) c.next.ensures.again c.next.ensures.steps (length d) l
 
 pub returns-in-None-clause-steps : goal.returns-in-None-clause-steps
@@ -128,20 +128,20 @@ returns-in-None-clause-steps g c =
     let d = c.args.doc.now in
     let at = c.loop-at.at in
     let l : at < length d = omega arith in
-    (reading_ends (g.S.Sets.known c.args.table.now) (g.S.Sets.known c.loop-at.table) d at c.loop-at.set c.args.steps.now c.loop-at.steps c.loop-at.invariant.reading (get_or d at 0)
-    c.next.new.steps (slice_get-get_or d at 0 l) c.next.ensures.again c.next.ensures.steps (g.S.Sets.known c.next.new.self) c.in-Ok.ensures.ok.0 (length d) l).1
+    (reading_ends c.args.table.now c.loop-at.table d at c.loop-at.set c.args.steps.now c.loop-at.steps c.loop-at.invariant.reading (get_or d at 0)
+    c.next.new.steps (slice_get-get_or d at 0 l) c.next.ensures.again c.next.ensures.steps c.next.new.self c.in-Ok.ensures.ok.0 (length d) l).1
 
 pub returns-in_err-mark-clause-steps : goal.returns-in_err-mark-clause-steps
 returns-in_err-mark-clause-steps g c =
-    reading_steps (g.S.Sets.known c.args.table.now) (g.S.Sets.known c.loop-at.table) c.args.doc.now c.loop-at.at c.loop-at.set c.args.steps.now c.loop-at.steps c.loop-at.invariant.reading
+    reading_steps c.args.table.now c.loop-at.table c.args.doc.now c.loop-at.at c.loop-at.set c.args.steps.now c.loop-at.steps c.loop-at.invariant.reading
     (length c.args.doc.now) (omega arith)
 
 pub returns-in_err-mark-2-clause-steps : goal.returns-in_err-mark-2-clause-steps
 returns-in_err-mark-2-clause-steps g c =
-    reading_steps (g.S.Sets.known c.args.table.now) (g.S.Sets.known c.loop-at.table) c.args.doc.now c.loop-at.at c.loop-at.set c.args.steps.now c.loop-at.steps c.loop-at.invariant.reading
+    reading_steps c.args.table.now c.loop-at.table c.args.doc.now c.loop-at.at c.loop-at.set c.args.steps.now c.loop-at.steps c.loop-at.invariant.reading
     (length c.args.doc.now) (omega arith)
 
 pub returns-clause-steps : goal.returns-clause-steps
 returns-clause-steps g c =
-    reading_steps (g.S.Sets.known c.args.table.now) (g.S.Sets.known c.loop-at.table) c.args.doc.now c.loop-at.at c.loop-at.set c.args.steps.now c.loop-at.steps c.loop-at.invariant.reading
+    reading_steps c.args.table.now c.loop-at.table c.args.doc.now c.loop-at.at c.loop-at.set c.args.steps.now c.loop-at.steps c.loop-at.invariant.reading
     (length c.args.doc.now) (omega arith)

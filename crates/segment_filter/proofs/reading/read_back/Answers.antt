@@ -9,15 +9,15 @@ use Rattle.segment_filter.proofs.reading.read_back.Goals as goal
 
 pub loop-k-init : goal.loop-k-init
 loop-k-init g c =
-    let t = g.S.Sets.known c.args.table.now in
-    let r = first_kept t (reverse c.args.doc.now) (numbers_of c.in_ok-kept.kept) (numbers_of c.new.result) c.start-set.result c.start-set.ensures.tabled c.start-set.ensures.value c.new.ensures c.in_ok-kept.ensures in
+    let t = c.args.table.now in
+    let r = first_kept t (reverse c.args.doc.now) (numbers_of c.in_ok-kept.kept) (numbers_of c.in_ok-none.none) c.start-set.result c.start-set.ensures.tabled c.start-set.ensures.value c.in_ok-none.ensures c.in_ok-kept.ensures in
     record { grows = grows_not t t refl; count = r.0; led = r.1; reading = reading_starts t (reverse c.args.doc.now) c.start-set.result c.args.steps.now c.requires.fresh c.start-set.ensures.value c.start-set.ensures.tabled; here = r.2 }
 
 pub returns-in-None-clause-ok : goal.returns-in-None-clause-ok
 returns-in-None-clause-ok g c =
-    let new = g.S.Sets.known c.next.new.self in
-    let old = g.S.Sets.known c.loop-k.table in
-    let first = g.S.Sets.known c.args.table.now in
+    let new = c.next.new.self in
+    let old = c.loop-k.table in
+    let first = c.args.table.now in
     let d = c.args.doc.now in
     let k = c.loop-k.k in
     let l : k < length d = omega arith in
@@ -33,14 +33,14 @@ returns-in_err-kept-2-clause-grows g c =
     let k = c.loop-k.k in
     let l : k < length d = omega arith in
     let inv = c.loop-k.invariant in
-    next_grows (g.S.Sets.known c.next.new.self) (g.S.Sets.known c.loop-k.table) (g.S.Sets.known c.args.table.now) (reverse d) k c.loop-k.set _ c.requires.plain inv.grows
+    next_grows c.next.new.self c.loop-k.table c.args.table.now (reverse d) k c.loop-k.set _ c.requires.plain inv.grows
     c.in-Ok.ensures.tabled c.in-Ok.ensures.ok.0 (byte_at_end d k l) inv.here
 
 pub loop-k-preserved : goal.loop-k-preserved
 loop-k-preserved g c =
-    let new = g.S.Sets.known c.next.new.self in
-    let old = g.S.Sets.known c.loop-k.table in
-    let first = g.S.Sets.known c.args.table.now in
+    let new = c.next.new.self in
+    let old = c.loop-k.table in
+    let first = c.args.table.now in
     let d = c.args.doc.now in
     let k = c.loop-k.k in
     let l : k < length d = omega arith in
@@ -61,8 +61,8 @@ loop-k-preserved g c =
 
 pub returns-in-Err-clause-full : goal.returns-in-Err-clause-full
 returns-in-Err-clause-full g c =
-    let old = g.S.Sets.known c.loop-k.table in
-    let first = g.S.Sets.known c.args.table.now in
+    let old = c.loop-k.table in
+    let first = c.args.table.now in
     let d = c.args.doc.now in
     let k = c.loop-k.k in
     let l : k < length d = omega arith in
@@ -71,8 +71,8 @@ returns-in-Err-clause-full g c =
 
 pub returns-in-Err-clause-steps : goal.returns-in-Err-clause-steps
 returns-in-Err-clause-steps g c =
-    let old = g.S.Sets.known c.loop-k.table in
-    let first = g.S.Sets.known c.args.table.now in
+    let old = c.loop-k.table in
+    let first = c.args.table.now in
     let d = c.args.doc.now in
     let k = c.loop-k.k in
     let l : k < length d = omega arith in
@@ -81,9 +81,9 @@ returns-in-Err-clause-steps g c =
 
 pub returns-in-None-clause-weight : goal.returns-in-None-clause-weight
 returns-in-None-clause-weight g c =
-    let new = g.S.Sets.known c.next.new.self in
-    let old = g.S.Sets.known c.loop-k.table in
-    let first = g.S.Sets.known c.args.table.now in
+    let new = c.next.new.self in
+    let old = c.loop-k.table in
+    let first = c.args.table.now in
     let d = c.args.doc.now in
     let k = c.loop-k.k in
     let l : k < length d = omega arith in
@@ -92,9 +92,9 @@ returns-in-None-clause-weight g c =
 
 pub returns-in-None-clause-steps : goal.returns-in-None-clause-steps
 returns-in-None-clause-steps g c =
-    let new = g.S.Sets.known c.next.new.self in
-    let old = g.S.Sets.known c.loop-k.table in
-    let first = g.S.Sets.known c.args.table.now in
+    let new = c.next.new.self in
+    let old = c.loop-k.table in
+    let first = c.args.table.now in
     let d = c.args.doc.now in
     let k = c.loop-k.k in
     let l : k < length d = omega arith in
@@ -103,9 +103,9 @@ returns-in-None-clause-steps g c =
 
 pub returns-in_err-kept-2-clause-steps : goal.returns-in_err-kept-2-clause-steps
 returns-in_err-kept-2-clause-steps g c =
-    let new = g.S.Sets.known c.next.new.self in
-    let old = g.S.Sets.known c.loop-k.table in
-    let first = g.S.Sets.known c.args.table.now in
+    let new = c.next.new.self in
+    let old = c.loop-k.table in
+    let first = c.args.table.now in
     let d = c.args.doc.now in
     let k = c.loop-k.k in
     let l : k < length d = omega arith in
@@ -115,10 +115,10 @@ returns-in_err-kept-2-clause-steps g c =
 pub returns-clause-weight : goal.returns-clause-weight
 returns-clause-weight g c =
     let same : length (reverse c.args.doc.now) ≡ length c.args.doc.now = length-reverse c.args.doc.now in
-    (reading_weighs (g.S.Sets.known c.args.table.now) (g.S.Sets.known c.loop-k.table) (reverse c.args.doc.now) c.loop-k.k c.loop-k.set c.args.steps.now c.loop-k.steps c.loop-k.invariant.reading
+    (reading_weighs c.args.table.now c.loop-k.table (reverse c.args.doc.now) c.loop-k.k c.loop-k.set c.args.steps.now c.loop-k.steps c.loop-k.invariant.reading
     (omega (arith, same))).0
 
 pub returns-clause-steps : goal.returns-clause-steps
 returns-clause-steps g c =
-    reading_steps (g.S.Sets.known c.args.table.now) (g.S.Sets.known c.loop-k.table) (reverse c.args.doc.now) c.loop-k.k c.loop-k.set c.args.steps.now c.loop-k.steps c.loop-k.invariant.reading
+    reading_steps c.args.table.now c.loop-k.table (reverse c.args.doc.now) c.loop-k.k c.loop-k.set c.args.steps.now c.loop-k.steps c.loop-k.invariant.reading
     (length c.args.doc.now) (omega arith)

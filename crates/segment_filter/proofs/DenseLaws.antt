@@ -1,0 +1,107 @@
+-- What a dense list tells: it stays true while the table grows, and more may be entered.
+use Rattle.std.proofs.Common.{◌≡◌, ◌⊎◌, ℕ, zero, suc, ◌+◌, ◌*◌, ◌-◌, ◌<◌, ◌≤◌, Bool, true, false, List, [], ◌∷◌, ◌++◌, length, set, take, replicate, Option, Some, None, inl, inr, refl, sym, ap, subst, arith, ◌∙◌, if◌then◌else◌}
+use Rattle.std.specs.Prelude.{slice_get}
+use Rattle.std.proofs.lemmas.Bool.{cases_eq}
+use Rattle.std.proofs.lemmas.List.{take_all}
+use Rattle.span_core.specs.Lists.{Has}
+use Rattle.marked_automaton.proofs.Listed.{some_same}
+use Rattle.automaton_reading.specs.Reading.{Reach, byte_read, edges}
+use Rattle.set_table.specs.Tabled.{Asking, Tabled, asking, once_asked, set_at}
+use Rattle.segment_filter.specs.Dense.{AreTold, GoesTo, target_told}
+use Rattle.segment_filter.specs.Next.{IsNext, IsTarget}
+use Rattle.segment_filter.specs.Sets.{Extends}
+use Rattle.segment_filter.proofs.FirstTargets.{asked_edges_kept}
+use Rattle.segment_filter.proofs.Holding.{asked_here, asked_stay}
+use Rattle.segment_filter.proofs.SetLaws.{grows_asked}
+
+-- ---- a table that grows
+
+target_grows : (new old : List (List ℕ)) → Extends new old → (rs : List Reach) (to : Option ℕ) → IsTarget old rs to → IsTarget new rs to
+target_grows new old grew [] to is = is
+target_grows new old grew (r ∷ rs) to is = (is.0, is.1, omega (arith, is.2, grew.0), grew.1 is.0 is.2 ∙ is.3)
+
+-- where a set goes stays so
+pub goes_still : (old new : Tabled) (r : Asking) (set b : ℕ) (to : Option ℕ) → new ≡ once_asked old r → GoesTo old set b to → GoesTo new set b to
+goes_still old new r set b to is goes =
+    let grew = grows_asked new old r is in
+    record {
+      given = omega (arith, goes.given, grew.sets.0);
+      asked = asked_stay old new r is (asking set (byte_read b)) goes.asked;
+      next = subst (λ (rs : List Reach). IsTarget new.sets rs to) (sym (asked_edges_kept old new r set b is goes.given))
+          (target_grows new.sets old.sets grew.sets (edges old.graph (set_at old.sets set) (byte_read b)) to goes.next);
+    }
+
+pub told_still : (old new : Tabled) (r : Asking) (entries : List ℕ) → new ≡ once_asked old r → AreTold old entries → AreTold new entries
+told_still old new r entries is told set b e small at some = goes_still old new r set b (target_told e) is (told set b e small at some)
+
+-- what was asked is known from then on
+pub goes_there : (old new : Tabled) (set b : ℕ) (to : Option ℕ) → set < length old.sets → new ≡ once_asked old (asking set (byte_read b)) → IsNext old set b new.sets to → GoesTo new set b to
+goes_there old new set b to given is next = record {
+  given = (let grew = grows_asked new old (asking set (byte_read b)) is in omega (arith, given, grew.sets.0));
+  asked = asked_here old new (asking set (byte_read b)) is;
+  next = subst (λ (rs : List Reach). IsTarget new.sets rs to) (sym (asked_edges_kept old new (asking set (byte_read b)) set b is given)) next;
+}
+
+-- ---- more entries, of which nothing is known
+
+zeros : (n k e : ℕ) → slice_get (replicate n 0) k ≡ Some e → e ≡ 0
+zeros zero k e at = absurd (cc)
+zeros (suc n) zero e at = sym (some_same 0 e at)
+zeros (suc n) (suc k) e at = zeros n k e at
+
+either_part : (xs ys : List ℕ) (k e : ℕ) → slice_get (xs ++ ys) k ≡ Some e → (slice_get xs k ≡ Some e) ⊎ ((j : ℕ) × (slice_get ys j ≡ Some e))
+either_part [] ys k e at = inr (k, at)
+either_part (x ∷ xs) ys zero e at = inl at
+either_part (x ∷ xs) ys (suc k) e at = either_part xs ys k e at
+
+pub told_room : (t : Tabled) (entries later : List ℕ) (wanted n : ℕ) (ok : Bool) → later ≡ (if ok then take wanted entries ++ replicate (wanted - n) 0 else entries) →
+    length entries ≤ wanted → AreTold t entries → AreTold t later
+told_room t entries later wanted n false is more told = subst (AreTold t) (sym is) told
+told_room t entries later wanted n true is more told = λ set b e small at some.
+    let all : later ≡ entries ++ replicate (wanted - n) 0 = is ∙ ap (λ (xs : List ℕ). xs ++ replicate (wanted - n) 0) (take_all wanted entries more) in
+    elim (either_part entries (replicate (wanted - n) 0) (256 * set + b) e (subst (λ (xs : List ℕ). slice_get xs (256 * set + b) ≡ Some e) all at)) as (λ _. GoesTo t set b (target_told e)) [
+      | inl old ↦ told set b e small old some
+      | inr new ↦ let none = zeros (wanted - n) new.0 e new.1 in absurd (omega (arith, none, some))
+    ]
+
+-- ---- one entry more
+
+get_set_same : (xs : List ℕ) (i x : ℕ) → i < length xs → slice_get (set xs i x) i ≡ Some x
+get_set_same [] i x h = absurd (omega (arith, h))
+get_set_same (y ∷ xs) zero x h = refl
+get_set_same (y ∷ xs) (suc i) x h = get_set_same xs i x (omega (arith, h))
+
+get_set_other : (xs : List ℕ) (i j x : ℕ) → (i ≡ j → ⊥) → slice_get (set xs i x) j ≡ slice_get xs j
+get_set_other [] i j x ne = refl
+get_set_other (y ∷ xs) zero zero x ne = absurd (ne refl)
+get_set_other (y ∷ xs) zero (suc j) x ne = refl
+get_set_other (y ∷ xs) (suc i) zero x ne = refl
+get_set_other (y ∷ xs) (suc i) (suc j) x ne = get_set_other xs i j x (λ e. ne (ap suc e))
+
+pub told_entry : (t : Tabled) (entries : List ℕ) (k b e at : ℕ) → b < 256 → at ≡ 256 * k + b → at < length entries → (0 < e → GoesTo t k b (target_told e)) → AreTold t entries →
+    AreTold t (set entries at e)
+told_entry t entries k b e at small is within entry told j c d less there some = elim (cases_eq at (256 * j + c)) as (λ _. GoesTo t j c (target_told d)) [
+  | inl same ↦
+      let here : slice_get (set entries at e) at ≡ Some d = subst (λ n. slice_get (set entries at e) n ≡ Some d) (sym same) there in
+      let value : e ≡ d = some_same e d (sym (get_set_same entries at e within) ∙ here) in
+      let number : k ≡ j = omega (arith, small, less, is, same) in
+      let byte : b ≡ c = omega (arith, small, less, is, same) in
+      subst (λ n. GoesTo t j c (target_told n)) value
+      (subst (λ n. GoesTo t j n (target_told e)) byte (subst (λ n. GoesTo t n b (target_told e)) number (entry (omega (arith, value, some)))))
+  | inr ne ↦ told j c d less (sym (get_set_other entries at (256 * j + c) e ne) ∙ there) some
+]
+
+-- ---- what an entry tells
+
+pub told_none : (t : Tabled) (entries : List ℕ) → entries ≡ [] → AreTold t entries
+told_none t entries is set b e small at some = absurd (let none : None ≡ Some e = sym (ap (λ (xs : List ℕ). slice_get xs (256 * set + b)) is) ∙ at in cc)
+
+pub tells : (e k : ℕ) → e ≡ k + 2 → target_told e ≡ Some k
+tells zero k is = absurd (omega (arith, is))
+tells (suc zero) k is = absurd (omega (arith, is))
+tells (suc (suc e)) k is = ap Some (let same : e ≡ k = omega (arith, is) in same)
+
+pub tells_none : (e : ℕ) → e < 2 → target_told e ≡ None
+tells_none zero less = refl
+tells_none (suc zero) less = refl
+tells_none (suc (suc e)) less = absurd (omega (arith, less))

@@ -1,0 +1,14 @@
+use Rattle.std.proofs.Common.{sym, subst, arith}
+use Rattle.automaton_reading.specs.Reading.{byte_read}
+use Rattle.set_table.specs.Tabled.{Tabled, asking}
+use Rattle.set_table.proofs.HeldLaws.{once_is_same}
+use Rattle.segment_filter.specs.Dense.{GoesTo, target_told}
+use Rattle.segment_filter.specs.Next.{IsNext}
+use Rattle.segment_filter.proofs.dense.DenseTable.next.Goals as goal
+
+pub returns-clause-ok : goal.returns-clause-ok
+returns-clause-ok g c =
+    let t = c.args.self.now in
+    let goes = subst (λ (t : Tabled). GoesTo t c.args.set c.args.byte (target_told c.entry-entry.result)) c.self.view_is
+    (c.entry-entry.ensures c.self.inside.table c.self.invariant.1 (omega arith)) in
+    (once_is_same t (asking c.args.set (byte_read c.args.byte)) goes.asked, subst (IsNext t c.args.set c.args.byte t.sets) (sym c.target_of.ensures) goes.next)
