@@ -50,7 +50,7 @@ decide_not : (P : Type 0) → Decided P → Decided (P → ⊥)
 decide_not P (inl p) = inr (λ refuted. refuted p)
 decide_not P (inr refuted) = inl refuted
 
-decide_le : (a b : ℕ) → Decided (a ≤ b)
+pub decide_le : (a b : ℕ) → Decided (a ≤ b)
 decide_le a b = elim (cases_lt b a) [ inl l ↦ inr (λ h. omega (arith, l, h)) | inr l ↦ inl (omega (arith, l)) ]
 
 -- ---- the bits of the blocks
@@ -122,7 +122,7 @@ module _ (v k : ℕ) (blocks : List (ℕ × ℕ)) where
 
 -- ---- the bits of no variable
 
-below_pow : (n : ℕ) → n < 2 ^ n
+pub below_pow : (n : ℕ) → n < 2 ^ n
 below_pow zero = omega arith
 below_pow (suc n) = omega (arith, below_pow n, pow-succ' 2 n)
 

@@ -15,7 +15,7 @@ use Rattle.spanner_model.specs.Answer.{VarOf, vars_of_lets}
 abbrev pub Told : Type 0 → Type 0
 Told P = P ⊎ (P → ⊥)
 
-told_either : {P Q : Type 0} → Told P → Told Q → Told (P ⊎ Q)
+pub told_either : {P Q : Type 0} → Told P → Told Q → Told (P ⊎ Q)
 told_either (inl p) q = inl (inl p)
 told_either (inr np) (inl q) = inl (inr q)
 told_either {P} {Q} (inr np) (inr nq) = inr (λ h. elim h [ inl p ↦ np p | inr q ↦ nq q ])
@@ -53,7 +53,7 @@ module _ (V : ℕ → VarName → Type 0) (told : (k : ℕ) (x : VarName) → To
   told_of (project kept e) x = told_has kept x
   told_of (minus e g) x = told_of e x
 
-told_choice : (b : Bool) {P Q : Type 0} → Told P → Told Q → Told (MatchBool b P Q)
+pub told_choice : (b : Bool) {P Q : Type 0} → Told P → Told Q → Told (MatchBool b P Q)
 told_choice true p q = p
 told_choice false p q = q
 

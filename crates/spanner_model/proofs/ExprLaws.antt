@@ -64,34 +64,6 @@ module _ (V W S T : LetVars) (same : SameVars V W) (sure : SameVars S T) where
   shares_same e (project kept g) h = tt
   shares_same e (minus g k) h = tt
 
-  mutual
-    pub sound_same : (n : ℕ) (e : ExprTree) → IsSoundExpr V S n e → IsSoundExpr W T n e
-    sound_same n (atom s t f) h = h
-    sound_same n (named k) h = h
-    sound_same n union_end h = h
-    sound_same n (union e rest) h = (sound_same n e h.0, united_same n rest h.1, h.2)
-    sound_same n join_end h = h
-    sound_same n (join e rest) h = (sound_same n e h.0, joined_same n rest h.1, h.2, shares_same e rest h.3)
-    sound_same n (project kept e) h = (sound_same n e h.0, (λ x a. (var_same V W same e x (h.1 x a).0, (h.1 x a).1)), h.2)
-    sound_same n (minus e g) h = (
-      sound_same n e h.0,
-      sound_same n g h.1,
-      λ x. (
-        (λ v. var_same V W same g x ((h.2 x).0 (var_same W V (turned V W same) e x v))),
-        (λ v. var_same V W same e x ((h.2 x).1 (var_same W V (turned V W same) g x v))),
-      ),
-    )
-
-    united_same : (n : ℕ) (e : ExprTree) → AreUnited V S n e → AreUnited W T n e
-    united_same n union_end h = h
-    united_same n (union e rest) h = (sound_same n e h.0, united_same n rest h.1)
-    united_same n _ h = absurd h
-
-    joined_same : (n : ℕ) (e : ExprTree) → AreJoined V S n e → AreJoined W T n e
-    joined_same n join_end h = h
-    joined_same n (join e rest) h = (sound_same n e h.0, joined_same n rest h.1, shares_same e rest h.2)
-    joined_same n _ h = absurd h
-
 -- a sound expression under n lets names the first n lets alone
 mutual
   pub sound_under : (V S : LetVars) (n : ℕ) (e : ExprTree) → IsSoundExpr V S n e → IsUnderLets n e
@@ -184,10 +156,6 @@ pub join_var_part : (V : LetVars) (es : List ExprTree) (x : VarName) → VarOf V
 join_var_part V [] x h = absurd h
 join_var_part V (g ∷ es) x (inl a) = (g, inl refl, a)
 join_var_part V (g ∷ es) x (inr b) = let p = join_var_part V es x b in (p.0, inr p.1, p.2)
-
--- a variable of a part is one of a union
-pub union_part_var : (V : LetVars) (es : List ExprTree) (e : ExprTree) (x : VarName) → Has es e → VarOf V e x → VarOf V (union_all es) x
-union_part_var V es e x has v = (union_vars V es x).0 (join_part_var V es e x has v)
 
 -- the names of a part are names of a union, and of a join
 pub union_named : (es : List ExprTree) (e : ExprTree) (x : VarName) → Has es e → NameIn e x → NameIn (union_all es) x
@@ -330,10 +298,3 @@ result_vars q known x long knows =
       λ h. var_same (vars_in known) (vars_of_lets q.lets (length q.lets)) same q.body x h,
       λ h. var_same (vars_of_lets q.lets (length q.lets)) (vars_in known) (turned (vars_in known) (vars_of_lets q.lets (length q.lets)) same) q.body x h,
     )
-
-pub knows_none : (lets : List (VarName × ExprTree)) → Knows lets []
-knows_none lets k x = (λ h. absurd (none k x h), λ h. absurd h)
-  where
-    none : (k : ℕ) (x : VarName) → vars_in [] k x → ⊥
-    none zero x h = h
-    none (suc k) x h = h

@@ -16,9 +16,6 @@ use Rattle.spanner_model.proofs.TreeLaws.{take_at_more, parts_have, part_has}
 use Rattle.spanner_model.proofs.ExprLaws.{LetVars, join_part_var, join_var_part}
 use Rattle.spanner_model.proofs.NameLaws.{ascending-distinct, with_cases, with_here, with_there}
 
-pub adds_none : (old : List VarName) → Adds old (λ _. ⊥) old
-adds_none old x = (λ h. inl h, λ h. elim h as (λ _. Has old x) [ inl a ↦ a | inr b ↦ absurd b ])
-
 -- the same set, said of other names
 pub gathered_same : (old new : List VarName) (P Q : VarName → Type 0) (all : Bool) → ((x : VarName) → P x ↔ Q x) → Gathered old P all new → Gathered old Q all new
 gathered_same old new P Q true same h = λ x. (
@@ -66,10 +63,6 @@ gathered_less old new P Q in_q h = (
   λ x. ((h.0 x).0, λ z. elim ((h.0 x).1 z) as (λ _. Has old x ⊎ Q x) [ inl o ↦ inl o | inr p ↦ inr (in_q x p) ]),
   λ r. h.1 (r.0, r.1, λ x z. r.2 x (elim z as (λ _. Has old x ⊎ Q x) [ inl o ↦ inl o | inr p ↦ inr (in_q x p) ])),
 )
-
--- where those of P are too many, those of P and Q are
-pub gathered_stop : (old new : List VarName) (P Q : VarName → Type 0) → Gathered old P false new → Gathered old (λ x. P x ⊎ Q x) false new
-gathered_stop old new P Q h = gathered_less old new P (λ x. P x ⊎ Q x) (λ x p. inl p) h
 
 -- one name
 pub gathered_name : (name : VarName) (old new : List VarName) (all : Bool) → Ascending old → length old ≤ MOST_VARIABLES →

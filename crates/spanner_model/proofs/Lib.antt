@@ -14,6 +14,7 @@ pub mod NodeParts
 pub mod Nodes
 mod OptionalRows
 pub mod PartLaws
+pub mod RowLaws
 pub mod RowOrder
 pub mod TreeLaws
 pub mod Trees

@@ -88,30 +88,14 @@ arms_well_built [] h t has = absurd has
 arms_well_built (u ∷ ts) h t (inl e) = subst IsWellBuilt e (h.0.0, omega (arith, h.1))
 arms_well_built (u ∷ ts) h t (inr has) = (built_of_arms ts t h.0.1 has, omega (arith, nesting_of_parts ts t has, arms_nesting ts, h.1))
 
--- and it has two at least
-pub parts_two : (ts : List Tree) → IsWellBuilt (cat_all ts) → 2 ≤ length ts
-parts_two [] h = absurd h.0
-parts_two (t ∷ []) h = absurd (h.0.2 refl)
-parts_two (t ∷ u ∷ ts) h = omega arith
-
 pub arms_two : (ts : List Tree) → IsWellBuilt (alt_all ts) → 2 ≤ length ts
 arms_two [] h = absurd h.0
 arms_two (t ∷ []) h = absurd (h.0.2 refl)
 arms_two (t ∷ u ∷ ts) h = omega arith
 
-are_parts : (ts : List Tree) → ((t : Tree) → Has ts t → IsBuilt t) → AreParts (cat_all ts)
-are_parts [] each = tt
-are_parts (t ∷ ts) each = (each t (inl refl), are_parts ts (λ u h. each u (inr h)))
-
 are_arms : (ts : List Tree) → ((t : Tree) → Has ts t → IsBuilt t) → AreArms (alt_all ts)
 are_arms [] each = tt
 are_arms (t ∷ ts) each = (each t (inl refl), are_arms ts (λ u h. each u (inr h)))
-
--- two or more that are built make a concatenation, and an alternation, that is
-pub cat_built : (ts : List Tree) → 2 ≤ length ts → ((t : Tree) → Has ts t → IsBuilt t) → IsBuilt (cat_all ts)
-cat_built [] two each = absurd (omega (arith, two))
-cat_built (t ∷ []) two each = absurd (omega (arith, two))
-cat_built (t ∷ u ∷ ts) two each = (each t (inl refl), are_parts (u ∷ ts) (λ v h. each v (inr h)), λ e. absurd (cc))
 
 pub alt_built : (ts : List Tree) → 2 ≤ length ts → ((t : Tree) → Has ts t → IsBuilt t) → IsBuilt (alt_all ts)
 alt_built [] two each = absurd (omega (arith, two))

@@ -1,5 +1,5 @@
 //! Expressions over atoms.
-ghost use Rattle.std.specs.Prelude.{◌≡◌, ◌<◌, ◌++◌, [], ◌∷◌, length, is_ok, if◌then◌else◌, IfErr, Some, slice_get};
+ghost use Rattle.std.specs.Prelude.{◌≡◌, ◌<◌, ◌++◌, [], ◌∷◌, length, is_ok, if◌then◌else◌, IfErr, OnOk, Some, slice_get};
 ghost use Rattle.spanner_model.specs.ExprView.{expr_of, exprs_of};
 
 use crate::formula::Atom;
@@ -48,6 +48,16 @@ impl Exprs {
         match self.list.push(part) {
             Ok(()) => Ok(()),
             Err(refused) => Err((refused.value, OutOfMemory)),
+        }
+    }
+
+    /// Adds a part at the end.
+    pub fn add(&mut self, part: Expr) -> Result<(), OutOfMemory>
+        ensures { OnOk result (exprs_of self.new ≡ exprs_of self.old ++ expr_of part ∷ []) }
+    {
+        match self.push(part) {
+            Ok(()) => Ok(()),
+            Err((_, refused)) => Err(refused),
         }
     }
 

@@ -1,5 +1,5 @@
 //! Formulas.
-ghost use Rattle.std.specs.Prelude.{◌≡◌, ◌<◌, ◌++◌, [], ◌∷◌, length, is_ok, if◌then◌else◌, IfErr, Some, slice_get};
+ghost use Rattle.std.specs.Prelude.{◌≡◌, ◌<◌, ◌++◌, [], ◌∷◌, length, is_ok, if◌then◌else◌, IfErr, OnOk, Some, slice_get};
 ghost use Rattle.spanner_model.specs.View.{tree_of, trees_of};
 
 use span_core::{ByteSet, Name, OutOfMemory};
@@ -46,6 +46,16 @@ impl Parts {
         match self.list.push(part) {
             Ok(()) => Ok(()),
             Err(refused) => Err((refused.value, OutOfMemory)),
+        }
+    }
+
+    /// Adds a part at the end.
+    pub fn add(&mut self, part: Formula) -> Result<(), OutOfMemory>
+        ensures { OnOk result (trees_of self.new ≡ trees_of self.old ++ tree_of part ∷ []) }
+    {
+        match self.push(part) {
+            Ok(()) => Ok(()),
+            Err((_, refused)) => Err(refused),
         }
     }
 
