@@ -45,13 +45,6 @@ pub sure_next : (ts : List Tree) (k : ℕ) (t : Tree) (vars part all : List VarN
 sure_next ts k t vars part all at before here added =
     gathered_next IsSure (λ us. IsSure (cat_all us)) sure_in_turn ts k t [] vars all at before (gathered_same vars all (Has part) (IsSure t) true here added)
 
-pub sure_done : (ts : List Tree) (k : ℕ) (vars : List VarName) → length ts ≤ k → Adds [] (IsSure (cat_all (take k ts))) vars → (x : VarName) → Has vars x ↔ IsSure (cat_all ts) x
-sure_done ts k vars le added x =
-    let all = subst (λ (us : List Tree). Adds [] (IsSure (cat_all us)) vars) (take_all k ts le) added in (
-      λ h. elim ((all x).0 h) as (λ _. IsSure (cat_all ts) x) [ inl n ↦ absurd n | inr s ↦ s ],
-      λ s. (all x).1 (inr s),
-    )
-
 -- ---- of an alternation
 
 -- these are the sure variables of the arms
@@ -64,11 +57,6 @@ arms_sure (u ∷ ts) t x =
     let later = arms_sure ts t x in
     (λ s. let p = later.0 s.1 in ((s.0, p.0), p.1), λ s. (s.0.0, later.1 (s.0.1, s.1)))
 
-pub first_arm : (ts : List Tree) (t : Tree) (vars : List VarName) → slice_get ts 0 ≡ Some t → ((x : VarName) → Has vars x ↔ IsSure t x) → AreSureInAll (take 1 ts) vars
-first_arm ts t vars at are =
-    let is : take 1 ts ≡ t ∷ [] = take_at_more ts 0 t at in
-    subst (λ (us : List Tree). AreSureInAll us vars) (sym is) (λ x. (λ h. ((are x).0 h, tt), λ s. (are x).1 s.0))
-
 pub next_arm : (ts : List Tree) (k : ℕ) (t : Tree) (vars arm new : List VarName) → slice_get ts k ≡ Some t → AreSureInAll (take k ts) vars →
     ((x : VarName) → Has arm x ↔ IsSure t x) → ((x : VarName) → Has new x ↔ (Has vars x × Has arm x)) → AreSureInAll (take (k + 1) ts) new
 next_arm ts k t vars arm new at before here both =
@@ -76,9 +64,6 @@ next_arm ts k t vars arm new at before here both =
       λ h. let p = (both x).0 h in (arms_sure (take k ts) t x).1 ((before x).0 p.0, (here x).0 p.1),
       λ s. let p = (arms_sure (take k ts) t x).0 s in (both x).1 ((before x).1 p.0, (here x).1 p.1),
     ))
-
-pub arms_done : (ts : List Tree) (k : ℕ) (vars : List VarName) → length ts ≤ k → AreSureInAll (take k ts) vars → AreSureInAll ts vars
-arms_done ts k vars le are = subst (λ (us : List Tree). AreSureInAll us vars) (take_all k ts le) are
 
 -- ---- names that two sets share
 
