@@ -19,7 +19,7 @@ use Rattle.marked_automaton.specs.Marks.{bits_of, left_of, remarked, remarked_st
 use Rattle.marked_automaton.proofs.EraserLaws.{map_same, picked_is_left, picked_small}
 
 -- of no block nothing is left
-bits_zero : (names : List VarName) (x : VarName) → bits_of names 0 x ≡ 0
+pub bits_zero : (names : List VarName) (x : VarName) → bits_of names 0 x ≡ 0
 bits_zero [] x = refl
 bits_zero (y ∷ ys) x = go (bytes_eq y x) (bits_zero ys x)
   where
@@ -27,7 +27,7 @@ bits_zero (y ∷ ys) x = go (bytes_eq y x) (bits_zero ys x)
     go true rest = zero-div (2 ^ (2 * length ys))
     go false rest = ap (λ m. bits_of ys m x) (zero-mod (2 ^ (2 * length ys))) ∙ rest
 
-left_zero : (names keep : List VarName) → left_of names keep 0 ≡ 0
+pub left_zero : (names keep : List VarName) → left_of names keep 0 ≡ 0
 left_zero names [] = refl
 left_zero names (x ∷ keep) =
     let here : bits_of names 0 x * 2 ^ (2 * length keep) ≡ 0 * 2 ^ (2 * length keep) = ap (λ b. b * 2 ^ (2 * length keep)) (bits_zero names x) in

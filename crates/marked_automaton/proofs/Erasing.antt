@@ -6,6 +6,7 @@ use Rattle.std.specs.Str.{bytes_eq}
 use Rattle.std.proofs.lemmas.List.{length-map}
 use Rattle.std.proofs.lemmas.Nat.{pow-add, div-mul-add, mod-mul-add}
 use Rattle.std.proofs.lemmas.Slice.Eq.{bytes_eq-Decides}
+use Rattle.std.proofs.lemmas.Bool.{false≢true}
 use Rattle.span_core.specs.declared.span.Span.{Span}
 use Rattle.span_core.specs.Block.{block, markers_from}
 use Rattle.span_core.specs.BlockLaws.{markers_are, digit_small}
@@ -53,9 +54,6 @@ pub digits_small : (row : List (Option Span)) (p : ℕ) → digits row p < 2 ^ (
 digits_small [] p = omega arith
 digits_small (s ∷ row) p = digit_before (digit s p) (digits row p) (length row) (digit_small s p) (digits_small row p)
 
-false_true : false ≡ true → ⊥
-false_true e = cc
-
 -- of a row's number over these names each name has the digit of its span
 pub bits_law : (names : List VarName) (x : VarName) (m : Mapping) (p : ℕ) → Has names x → bits_of names (digits (row_of names m) p) x ≡ digit (m x) p
 bits_law [] x m p h = absurd h
@@ -77,7 +75,7 @@ bits_law (y ∷ ys) x m p h = go (bits_law ys x m p) (bytes_eq y x) refl h
         ∙ (ap (λ v. v / 2 ^ (2 * length ys)) whole
         ∙ (div-mul-add (digit (m y) p) (2 ^ (2 * length ys)) (digits (row_of ys m) p) small
         ∙ ap (λ z. digit (m z) p) (same_name y x e)))
-    go rest false e (inl at) = absurd (false_true (sym e ∙ name_itself y x at))
+    go rest false e (inl at) = absurd (false≢true (sym e ∙ name_itself y x at))
     go rest false e (inr k) =
         ap (λ b. if b then digits (row_of (y ∷ ys) m) p / 2 ^ (2 * length ys) else bits_of ys (digits (row_of (y ∷ ys) m) p % 2 ^ (2 * length ys)) x) e
         ∙ (ap (λ v. bits_of ys (v % 2 ^ (2 * length ys)) x) whole
@@ -100,7 +98,7 @@ absent_bits names x m p absent = go (list_any (λ y. bytes_eq y x) names) refl
   where
     go : (b : Bool) → list_any (λ y. bytes_eq y x) names ≡ b → bits_of names (digits (row_of names m) p) x ≡ 0
     go true e = bits_law names x m p (Has-list_any names x e) ∙ ap (λ s. digit s p) absent
-    go false e = no_bits names (digits (row_of names m) p) x (λ h. false_true (sym e ∙ list_any-Has names x h))
+    go false e = no_bits names (digits (row_of names m) p) x (λ h. false≢true (sym e ∙ list_any-Has names x h))
 
 any_bits : (names : List VarName) (x : VarName) (m : Mapping) (p : ℕ) → Has names x ⊎ (m x ≡ None) → bits_of names (digits (row_of names m) p) x ≡ digit (m x) p
 any_bits names x m p (inl h) = bits_law names x m p h

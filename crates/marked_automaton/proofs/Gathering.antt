@@ -1,5 +1,5 @@
 -- Flags that are set at the places of some elements.
-use Rattle.std.proofs.Common.{◌≡◌, ℕ, zero, suc, ◌+◌, ◌-◌, ◌^◌, ◌<◌, ◌↔◌, Bool, true, false, IsTrue, List, [], ◌∷◌, length, get_or, take, replicate, Option, Some, None, inl, inr, refl, sym, ap, subst, arith, ◌∙◌}
+use Rattle.std.proofs.Common.{◌≡◌, ℕ, suc, ◌+◌, ◌-◌, ◌^◌, ◌<◌, ◌↔◌, Bool, true, false, IsTrue, List, [], ◌∷◌, length, get_or, take, Option, Some, None, inl, inr, refl, sym, ap, subst, arith, ◌∙◌}
 use Rattle.std.proofs.Math.ListN.{set}
 use Rattle.std.specs.Prelude.{slice_get, ◌==◌, if◌then◌else◌}
 use Rattle.std.proofs.lemmas.Bool.{ne_eqb}
@@ -13,13 +13,9 @@ use Rattle.marked_automaton.specs.Accepting.{AcceptsFrom, Gathers, Takes}
 use Rattle.marked_automaton.specs.Automaton.{Accepts, Automaton, HasByte, Walk}
 use Rattle.marked_automaton.specs.Reach.{IsFlagged}
 use Rattle.marked_automaton.proofs.Flags.{set_cases, set_here, set_there}
-use Rattle.marked_automaton.proofs.Growing.{none_flagged}
 use Rattle.marked_automaton.proofs.Listed.{some_same}
 
 module _ {X : Type 0} (P : X → Type 0) (place : X → ℕ) where
-  pub gathers_none : (n : ℕ) → Gathers P place [] (replicate n false)
-  gathers_none n p = ((λ h. absurd (none_flagged n p h)), (λ h. absurd h.1))
-
   module _ (xs : List X) (flags : List Bool) (i : ℕ) (x : X) (within : i < length xs) (at : get_or xs i x ≡ x) (so_far : Gathers P place (take i xs) flags) where
     pub gathers_set : P x → place x < length flags → Gathers P place (take (i + 1) xs) (set flags (place x) true)
     gathers_set holds inside p = (there, back)
@@ -47,19 +43,6 @@ module _ {X : Type 0} (P : X → Type 0) (place : X → ℕ) where
         | inl a ↦ (so_far p).1 (h.0, a, h.2, h.3)
         | inr e ↦ absurd (not (subst P (sym (sym at ∙ e)) h.3))
       ]),
-    )
-
--- at the end of the document
-pub accepts_end : (ways : List Way) (stops : List Stop) (d : List ℕ) (w : ℕ → ℕ) (marks : ℕ) (flags : List Bool) → marks ≡ w (length d) →
-    Gathers (λ (x : Stop). x.marks ≡ marks) (λ (x : Stop). x.state) stops flags → (p : ℕ) → IsFlagged flags p ↔ AcceptsFrom ways stops d w (length d) p
-accepts_end ways stops d w marks flags same g p =
-    let none : zero ≡ length d - length d = omega arith in (
-      (λ h.
-          let r = (g p).0 h in
-          (r.0, r.1, subst (λ n. Walk ways d w (length d) n p r.0.state) none (sym r.2), r.3 ∙ same)),
-      (λ h.
-          let at : p ≡ h.0.state = subst (λ n. Walk ways d w (length d) n p h.0.state) (sym none) h.2 in
-          (g p).1 (h.0, h.1, sym at, h.3 ∙ sym same)),
     )
 
 -- one position before

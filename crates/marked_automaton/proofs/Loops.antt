@@ -62,9 +62,6 @@ pub record IsPacked {X : Type 0} (h : X → Option X) (xs : List X) (i n : ℕ) 
   pub rest : (j : ℕ) → i ≤ j → slice_get ys j ≡ slice_get xs j
 
 module _ {X : Type 0} (h : X → Option X) (xs : List X) where
-  pub packed_first : IsPacked h xs 0 0 xs
-  packed_first = record { len = refl; few = omega arith; front = refl; rest = λ j l. refl }
-
   -- what stands at the next place is the other's
   pub packed_next : (i n : ℕ) (ys : List X) (d : X) → IsPacked h xs i n ys → i < length xs → get_or ys i d ≡ get_or xs i d
   packed_next i n ys d p l = sym (unwrap_or-slice_get ys i d) ∙ (ap (λ o. unwrap_or o d) (p.rest i (omega arith)) ∙ unwrap_or-slice_get xs i d)

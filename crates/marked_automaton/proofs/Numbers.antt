@@ -5,11 +5,6 @@ use Rattle.marked_automaton.specs.Reach.{IsFlagged}
 use Rattle.marked_automaton.specs.Trimmed.{both, count_set, numbered, number_of, kept_flags}
 use Rattle.marked_automaton.proofs.Listed.{some_same, same_or_not, compared}
 
-pub flag_within : (flags : List Bool) (p : ℕ) → IsFlagged flags p → p < length flags
-flag_within [] p h = absurd (false≢true h)
-flag_within (b ∷ flags) zero h = omega arith
-flag_within (b ∷ flags) (suc p) h = omega (arith, flag_within flags p h)
-
 pub count_le : (flags : List Bool) → count_set flags ≤ length flags
 count_le [] = omega arith
 count_le (true ∷ flags) = omega (arith, count_le flags)

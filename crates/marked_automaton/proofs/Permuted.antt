@@ -8,6 +8,7 @@ use Rattle.std.proofs.lemmas.Bool.{eq-eqb, ne_eqb}
 use Rattle.std.proofs.lemmas.Option.{slice_get_within, get_or_from_slice_get, slice_get-get_or}
 use Rattle.span_core.specs.Lists.{Has}
 use Rattle.span_core.proofs.HasLaws.{Has-slice_get, place_of-Has}
+use Rattle.span_core.proofs.ListLaws.{get_set_same}
 use Rattle.marked_automaton.proofs.Listed.{some_same, same_or_not}
 
 -- each element of xs stands in ys at the place that g gives, and no other does
@@ -65,11 +66,6 @@ exchanged_below i j k n a b c =
     ]
 
 module _ {X : Type 0} where
-  pub get_set_same : (xs : List X) (i : ℕ) (v : X) → i < length xs → slice_get (set xs i v) i ≡ Some v
-  get_set_same [] i v l = absurd (omega arith)
-  get_set_same (x ∷ xs) zero v l = refl
-  get_set_same (x ∷ xs) (suc i) v l = get_set_same xs i v (omega arith)
-
   pub get_set_other : (xs : List X) (i k : ℕ) (v : X) → (k ≡ i → ⊥) → slice_get (set xs i v) k ≡ slice_get xs k
   get_set_other [] i k v n = refl
   get_set_other (x ∷ xs) zero zero v n = absurd (n refl)

@@ -10,7 +10,7 @@ use Rattle.marked_automaton.proofs.Listed.{some_same, has_place, place_has}
 use Rattle.marked_automaton.specs.Reduct.{IsReachedIn, IsReached, Knows, IsReduct, bind_option, after_map}
 
 -- what the map after another gives
-bind_cases : (o : Option ℕ) (f : ℕ → Option ℕ) (a : ℕ) → bind_option o f ≡ Some a → (b : ℕ) × (o ≡ Some b) × (f b ≡ Some a)
+pub bind_cases : (o : Option ℕ) (f : ℕ → Option ℕ) (a : ℕ) → bind_option o f ≡ Some a → (b : ℕ) × (o ≡ Some b) × (f b ≡ Some a)
 bind_cases None f a e = absurd (cc)
 bind_cases (Some b) f a e = (b, refl, e)
 

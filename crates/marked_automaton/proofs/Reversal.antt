@@ -16,7 +16,7 @@ abbrev plain : ℕ → ℕ
 plain i = 0
 
 -- the bytes turned round
-reads_reversed : (d : List ℕ) (i j b : ℕ) → i + j + 1 ≡ length d → slice_get d i ≡ Some b → slice_get (reverse d) j ≡ Some b
+pub reads_reversed : (d : List ℕ) (i j b : ℕ) → i + j + 1 ≡ length d → slice_get d i ≡ Some b → slice_get (reverse d) j ≡ Some b
 reads_reversed d i j b at h =
     let len : length (reverse d) ≡ length d = length-reverse d in
     let e : length d - 1 - j ≡ i = omega arith in

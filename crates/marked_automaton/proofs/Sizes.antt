@@ -13,6 +13,7 @@ use Rattle.marked_automaton.specs.Automaton.{ByteClass}
 use Rattle.std.proofs.lemmas.Bool.{lt-ltb, le-ltb, cases_lt}
 use Rattle.std.proofs.lemmas.Option.{slice_get_within}
 use Rattle.span_core.specs.Lists.{Has}
+use Rattle.span_core.proofs.ListLaws.{get_there}
 use Rattle.marked_automaton.specs.declared.way.Way.{Way}
 use Rattle.marked_automaton.specs.declared.way.Stop.{Stop}
 use Rattle.marked_automaton.specs.Automaton.{Automaton, HasByte, IsWhole}
@@ -28,11 +29,6 @@ some_byte bytes full = go (items bytes) refl
     go [] e = absurd (full (same_bytes bytes set.empty (λ q. contains-items bytes q ∙ (ap (list_any (eq_by_cmp nat_cmp q)) e ∙ sym (contains-empty nat_cmp q)))))
     go (k ∷ ks) e =
         (k, contains-items bytes k ∙ (ap (list_any (eq_by_cmp nat_cmp k)) e ∙ ap (λ o. is_eq o || list_any (eq_by_cmp nat_cmp k) ks) (sym (nat_cmp_is k k Equal refl))))
-
-place_of : {X : Type 0} (xs : List X) (k : ℕ) → k < length xs → (x : X) × (slice_get xs k ≡ Some x)
-place_of [] k l = absurd (omega (arith, l))
-place_of (x ∷ xs) zero l = (x, refl)
-place_of (x ∷ xs) (suc k) l = place_of xs k (omega (arith, l))
 
 -- each number below n has a number below m of its own
 abbrev IsTotal : ℕ → ℕ → (ℕ → ℕ → Type 0) → Type 0
@@ -119,7 +115,7 @@ module _ (A B : Automaton) (f g : ℕ → Option ℕ) (e : ℕ → ℕ → ℕ) 
   ways_no_more some =
       no_more (length B.ways) (length A.ways) (λ h k. g k ≡ Some h)
       (λ h l.
-      let x = place_of A.ways h l in
+      let x = get_there A.ways h l in
       let there = place_has A.ways h x.0 x.1 in
       let c = some x.0 there in
       let b = r.onto x.0.from (whole.froms x.0 there) in
@@ -135,7 +131,7 @@ module _ (A B : Automaton) (f g : ℕ → Option ℕ) (e : ℕ → ℕ → ℕ) 
   stops_no_more =
       no_more (length B.stops) (length A.stops) OwnEnd
       (λ k l.
-      let x = place_of A.stops k l in
+      let x = get_there A.stops k l in
       let b = r.onto x.0.state (whole.stops x.0 (place_has A.stops k x.0 x.1)) in
       let y = r.ends_there b.0 x.0.state k x.0 b.1 x.1 refl in
       (e b.0 k, slice_get_within B.stops (e b.0 k) y.0 y.1, (x.0, b.0, x.1, b.1, refl)))

@@ -35,29 +35,12 @@ module _ (direction : Direction) (ways : List Way) (k : ℕ) (y d : Way) (e : Ed
   edges_more = map_more (edge_in direction) ways k d within ∙ ap (λ (x : Edge). edges_in direction (take k ways) ++ x ∷ []) (sym (made ∙ ap (edge_in direction) read))
 
 module _ {X : Type 0} where
-  push_cases : (xs : List X) (y : X) (k : ℕ) (x : X) → slice_get (xs ++ y ∷ []) k ≡ Some x → (slice_get xs k ≡ Some x) ⊎ (y ≡ x)
-  push_cases [] y zero x e = inr (some_same y x e)
-  push_cases [] y (suc k) x e = absurd (cc)
-  push_cases (z ∷ xs) y zero x e = inl e
-  push_cases (z ∷ xs) y (suc k) x e = push_cases xs y k x e
-
   set_place : (xs : List X) (i : ℕ) (v : X) (k : ℕ) (x : X) → slice_get (set xs i v) k ≡ Some x → ((k ≡ i) × (v ≡ x)) ⊎ ((k ≡ i → ⊥) × (slice_get xs k ≡ Some x))
   set_place [] i v k x e = absurd (cc)
   set_place (z ∷ xs) zero v zero x e = inl (refl, some_same v x e)
   set_place (z ∷ xs) zero v (suc k) x e = inr ((λ same. omega (arith, same)), e)
   set_place (z ∷ xs) (suc i) v zero x e = inr ((λ same. omega (arith, same)), e)
   set_place (z ∷ xs) (suc i) v (suc k) x e = elim (set_place xs i v k x e) [ inl a ↦ inl (ap suc a.0, a.1) | inr b ↦ inr ((λ same. b.0 (omega (arith, same))), b.1) ]
-
--- no edges, and one list more of nothing
-pub targets_none : AreTargets [] []
-targets_none p list at = absurd (cc)
-
-pub targets_empty : (lists : List (Vec ℕ Global)) (one : Vec ℕ Global) → one.items ≡ [] → AreTargets [] lists → AreTargets [] (lists ++ one ∷ [])
-targets_empty lists one none old p list at =
-    elim (push_cases lists one p list at) [
-      | inl a ↦ old p list a
-      | inr same ↦ λ q. ((λ h. absurd (subst (λ qs. Has qs q) (sym (ap (λ (v : Vec ℕ Global). v.items) same) ∙ none) h)), (λ l. absurd l.1))
-    ]
 
 -- one edge more
 pub targets_more : (edges : List Edge) (e : Edge) (lists : List (Vec ℕ Global)) (old new : Vec ℕ Global) → AreTargets edges lists → slice_get lists e.from ≡ Some old →

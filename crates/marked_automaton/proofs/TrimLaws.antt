@@ -14,7 +14,8 @@ use Rattle.marked_automaton.specs.Trimmed.{IsBetween, back_edge_of, back_edges_o
 use Rattle.marked_automaton.proofs.Filtered.{kept_place, kept_origin, kept_known, kept_told, kept_from, kept_apart, Has-kept, Has-kept_from, kept_no_more}
 use Rattle.marked_automaton.proofs.Flags.{is_flagged, flagged_is, flagged_within}
 use Rattle.marked_automaton.proofs.Listed.{some_same}
-use Rattle.marked_automaton.proofs.Numbers.{count_le, flag_within, kept_flag, kept_flags_len, number_known, number_one, number_onto, number_tells, numbered_len}
+use Rattle.marked_automaton.proofs.Numbers.{count_le, kept_flag, kept_flags_len, number_known, number_one, number_onto, number_tells, numbered_len}
+use Rattle.marked_automaton.proofs.Growing.{flagged_below}
 
 -- what a moved way and a moved end are
 between_tells : (o p : Option ℕ) (y x : Way) → way_between o p y ≡ Some x →
@@ -82,7 +83,7 @@ module _ (B : Automaton) (whole : IsWhole B) (useful idle : List Bool) (len : le
 
   pub trimmed_reduct : IsReduct (trimmed B useful idle) B (number_of (numbered 0 useful)) (kept_place (moved_way (numbered 0 useful)) B.ways) (λ b k. kept_origin (moved_stop (numbered 0 useful)) B.stops k)
   trimmed_reduct = record {
-    from_states = λ b k. omega (arith, flag_within useful b (number_tells 0 useful b k.0 k.1).0, len);
+    from_states = λ b k. omega (arith, flagged_below useful b (number_tells 0 useful b k.0 k.1).0, len);
     to_states = λ b a e. omega (arith, (number_tells 0 useful b a e).2);
     onto = λ a l. number_onto 0 useful a (omega arith) (omega (arith, l));
     starts_there = λ b a h e. Has-kept f B.starts b a h e;
