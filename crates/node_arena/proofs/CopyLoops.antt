@@ -77,15 +77,6 @@ next_is : (o : Option Node) (node : Node) (next : ℕ) → o ≡ Some node → I
 next_is None node next e is = absurd (some_not_none node e)
 next_is (Some n) node next e is = is ∙ ap (λ (x : Node). x.older) (same_node n node e)
 
--- the same slots for cells told in other words
-slots_as : (copy : ℕ → ℕ) (copies : Nodes) (P Q : ℕ → Type 0) → HaveSlots copy copies P → ((c : ℕ) → P c → Q c) → ((c : ℕ) → Q c → P c) → HaveSlots copy copies Q
-slots_as copy copies P Q slots to from = record {
-  in_use = λ c q. slots.in_use c (from c q);
-  small = λ c q. slots.small c (from c q);
-  apart = λ c d qc qd e. slots.apart c d (from c qc) (from d qd) e;
-  only = λ k is. let r = slots.only k is in (r.0, to r.0 r.1, r.2);
-}
-
 -- no slot is in use
 slots_none : (copy : ℕ → ℕ) (copies : Nodes) (P : ℕ → Type 0) → copies ≡ map.empty → ((c : ℕ) → P c → ⊥) → HaveSlots copy copies P
 slots_none copy copies P empty none = record {
@@ -203,11 +194,6 @@ placing_next nodes copies new numbers after cells at number p k node put placing
 nothing_left : (left : List NamedLink) (c : ℕ) → length left ≡ 0 → HasCell left c → ⊥
 nothing_left [] c none h = h.1
 nothing_left (l ∷ left) c none h = absurd (omega arith)
-
-pub placing_ends : (nodes copies : Nodes) (copy : ℕ → ℕ) (cells : List NamedLink) (at number : ℕ) → Placing nodes copies copy cells at number → number ≡ 0 → HaveSlots copy copies (HasCell cells)
-placing_ends nodes copies copy cells at number placing none =
-    slots_as copy copies (λ c. HasCell cells c × (HasCell placing.left c → ⊥)) (HasCell cells) placing.placed (λ c p. p.0)
-    (λ c h. (h, nothing_left placing.left c (sym placing.walk.number_is ∙ none)))
 
 -- the number of no cell is not put
 pub none_put : (numbers after : Numbers) (cells : List NamedLink) (at k : ℕ) → ((c : ℕ) → HasCell cells c → c < MOST_CELLS) → HasCell cells at → IsPut numbers after at k → copy_in numbers NONE ≡ NONE →

@@ -1,22 +1,17 @@
 -- How often links name a cell, and how many cells there are.
-use Rattle.std.proofs.Common.{◌≡◌, ℕ, suc, ◌+◌, ◌-◌, ◌^◌, ◌<◌, ◌≤◌, ◌⊎◌, inl, inr, List, [], ◌∷◌, map, length, Option, Some, None, Bool, true, false, eqb, ◌||◌, refl, sym, ap, subst, ◌∙◌, arith, ne_eqb}
-use Rattle.std.proofs.lemmas.Bool.{cases_eq}
+use Rattle.std.proofs.Common.{◌≡◌, ℕ, suc, ◌+◌, ◌-◌, ◌^◌, ◌<◌, ◌≤◌, ◌⊎◌, inl, inr, List, [], ◌∷◌, map, length, Option, Some, None, true, false, eqb, refl, sym, ap, subst, ◌∙◌, arith, ne_eqb}
+use Rattle.std.proofs.lemmas.Bool.{cases_eq, or_cases, false≢true}
 use Rattle.std.proofs.lemmas.Map.Steps.{length-le_from_distinct_below}
 use Rattle.std.specs.List.{IsDistinct, AllByRecursion, list_any}
+use Rattle.std.proofs.lemmas.Option.{none-some}
 use Rattle.span_core.specs.Lists.{Has}
 use Rattle.node_arena.specs.declared.TheConstants.{MOST_CELLS, MOST_HOLDS, DONE}
 use Rattle.node_arena.specs.Cells.{NamedLink, Holds, HasCell, Names, IsNamed, IsUnnamed, AreLinked, hold}
 use Rattle.node_arena.specs.Nodes.{names_once, named_times, count_of}
 use Rattle.node_arena.proofs.Branches.{if_same, if_apart}
 
-none_not_some : {X : Type 0} (x : X) → None ≡ Some x → ⊥
-none_not_some x e = absurd (cc)
-
 pub same_some : {X : Type 0} (x y : X) → Some x ≡ Some y → x ≡ y
 same_some x y e = cc
-
-false_not_true : false ≡ true → ⊥
-false_not_true e = absurd (cc)
 
 -- a name is that of a cell or not
 pub cell_or_not : (cells : List NamedLink) (c : ℕ) → HasCell cells c ⊎ (HasCell cells c → ⊥)
@@ -38,7 +33,7 @@ named_zero None c ne = refl
 named_zero (Some d) c ne = if_apart d c 1 0 (λ e. ne (ap Some e))
 
 pub names_or_not : (o : Option ℕ) (c : ℕ) → (o ≡ Some c) ⊎ (o ≡ Some c → ⊥)
-names_or_not None c = inr (λ e. absurd (none_not_some c e))
+names_or_not None c = inr (λ e. absurd (none-some c e))
 names_or_not (Some d) c = elim (cases_eq d c) as (λ _. (Some d ≡ Some c) ⊎ (Some d ≡ Some c → ⊥)) [
   | inl e ↦ inl (ap Some e)
   | inr ne ↦ inr (λ is. ne (same_some d c is))
@@ -130,17 +125,13 @@ names_distinct [] linked = tt
 names_distinct (l ∷ older) linked =
     (all_apart l.name older (λ c h e. linked.0.fresh (subst (λ x. HasCell older x) (sym e) h)), names_distinct older linked.1)
 
-or_cases : (a b : Bool) → (a || b) ≡ true → (a ≡ true) ⊎ (b ≡ true)
-or_cases true b e = inl refl
-or_cases false b e = inr e
-
 name_there : (cells : List NamedLink) (q : ℕ) → list_any (eqb q) (names cells) ≡ true → HasCell cells q
 unfolding names
-name_there [] q e = absurd (false_not_true e)
+name_there [] q e = absurd (false≢true e)
 name_there (l ∷ older) q e = elim (cases_eq l.name q) as (λ _. HasCell (l ∷ older) q) [
   | inl is ↦ (l, inl refl, is)
   | inr ne ↦ elim (or_cases (eqb q l.name) (list_any (eqb q) (names older)) e) as (λ _. HasCell (l ∷ older) q) [
-    | inl is ↦ absurd (false_not_true (sym (ne_eqb q l.name (λ s. ne (sym s))) ∙ is))
+    | inl is ↦ absurd (false≢true (sym (ne_eqb q l.name (λ s. ne (sym s))) ∙ is))
     | inr there ↦ let r = name_there older q there in (r.0, inr r.1, r.2)
   ]
 ]

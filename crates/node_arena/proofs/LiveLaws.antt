@@ -1,27 +1,12 @@
 -- What is left after a release is what is live.
 use Rattle.std.proofs.Common.{◌≡◌, ◌↔◌, ℕ, ◌<◌, ◌⊎◌, inl, inr, List, [], ◌∷◌, ◌++◌, refl, sym, ap, subst, arith, append_assoc}
 use Rattle.span_core.specs.Lists.{Has}
+use Rattle.span_core.proofs.HasLaws.{Has-append_left, Has-append_right, Has-append_cases}
 use Rattle.node_arena.specs.Cells.{NamedLink, Cells, Holds, HasCell, Names, IsNamed, IsUnnamed, AreLinked, IsLive, held, named, IsArena, without, hold}
 use Rattle.node_arena.specs.Release.{Released, no_more, one_more}
 use Rattle.node_arena.specs.Nodes.{Nodes, IsKept}
 use Rattle.node_arena.proofs.Counts.{named_there}
 use Rattle.node_arena.proofs.Without.{without_less, without_keeps, without_has, linked_without}
-
-module _ {X : Type 0} where
-  has_left : (xs ys : List X) (x : X) → Has xs x → Has (xs ++ ys) x
-  has_left [] ys x h = absurd h
-  has_left (z ∷ xs) ys x h = elim h as (λ _. Has ((z ∷ xs) ++ ys) x) [ inl e ↦ inl e | inr there ↦ inr (has_left xs ys x there) ]
-
-  has_right : (xs ys : List X) (x : X) → Has ys x → Has (xs ++ ys) x
-  has_right [] ys x h = h
-  has_right (z ∷ xs) ys x h = inr (has_right xs ys x h)
-
-  has_cases : (xs ys : List X) (x : X) → Has (xs ++ ys) x → Has xs x ⊎ Has ys x
-  has_cases [] ys x h = inr h
-  has_cases (z ∷ xs) ys x h = elim h as (λ _. Has (z ∷ xs) x ⊎ Has ys x) [
-    | inl e ↦ inl (inl e)
-    | inr there ↦ elim (has_cases xs ys x there) as (λ _. Has (z ∷ xs) x ⊎ Has ys x) [ inl a ↦ inl (inr a) | inr b ↦ inr b ]
-  ]
 
 module _ (holds : Holds) where
   -- among more cells no less is live
@@ -37,7 +22,7 @@ module _ (holds : Holds) where
   all_live_from newer (d ∷ older) linked each live l h =
       let first : IsLive holds (newer ++ d ∷ older) d.name = elim (each d (inl refl)) as (λ _. IsLive holds (newer ++ d ∷ older) d.name) [
         | inl a ↦ held a
-        | inr (m, inl a, n) ↦ named m (has_left newer (d ∷ older) m a) n (live m a)
+        | inr (m, inl a, n) ↦ named m (Has-append_left newer (d ∷ older) m a) n (live m a)
         | inr (m, inr (inl e), n) ↦ absurd (elim (subst (λ (x : NamedLink). Names x d.name) (sym e) n) as (λ _. ⊥) [
           | inl is ↦ linked.0.fresh (linked.0.from_there d.name is)
           | inr is ↦ linked.0.fresh (linked.0.also_there d.name is)
@@ -52,11 +37,11 @@ module _ (holds : Holds) where
             (all_live_from (newer ++ d ∷ []) older linked.1
             (λ k hk. elim (each k (inr hk)) as (λ _. (0 < hold holds k.name) ⊎ ((m : NamedLink) × (Has (newer ++ d ∷ []) m ⊎ Has older m) × Names m k.name)) [
               | inl a ↦ inl a
-              | inr (m, inl a, n) ↦ inr (m, inl (has_left newer (d ∷ []) m a), n)
-              | inr (m, inr (inl e), n) ↦ inr (m, inl (has_right newer (d ∷ []) m (inl e)), n)
+              | inr (m, inl a, n) ↦ inr (m, inl (Has-append_left newer (d ∷ []) m a), n)
+              | inr (m, inr (inl e), n) ↦ inr (m, inl (Has-append_right newer (d ∷ []) m (inl e)), n)
               | inr (m, inr (inr a), n) ↦ inr (m, inr a, n)
             ])
-            (λ m hm. subst (λ xs. IsLive holds xs m.name) (sym same) (elim (has_cases newer (d ∷ []) m hm) as (λ _. IsLive holds (newer ++ d ∷ older) m.name) [
+            (λ m hm. subst (λ xs. IsLive holds xs m.name) (sym same) (elim (Has-append_cases newer (d ∷ []) m hm) as (λ _. IsLive holds (newer ++ d ∷ older) m.name) [
               | inl a ↦ live m a
               | inr (inl e) ↦ subst (λ (x : NamedLink). IsLive holds (newer ++ d ∷ older) x.name) e first
               | inr (inr none) ↦ absurd none

@@ -31,14 +31,6 @@ waiting_zero f cells (p ∷ waiting) c each h = elim h as (λ _. f c ≡ 0) [
   | inr there ↦ waiting_zero f cells waiting c each.3 there
 ]
 
--- and is a cell
-pub waiting_there : (f : ℕ → ℕ) (cells : List NamedLink) (waiting : List ℕ) (c : ℕ) → AreWaiting f cells waiting → Has waiting c → HasCell cells c
-waiting_there f cells [] c each h = absurd h
-waiting_there f cells (p ∷ waiting) c each h = elim h as (λ _. HasCell cells c) [
-  | inl e ↦ subst (λ x. HasCell cells x) e each.0
-  | inr there ↦ waiting_there f cells waiting c each.3 there
-]
-
 waiting_less : (f g : ℕ → ℕ) (cells : List NamedLink) (waiting : List ℕ) → ((c : ℕ) → f c ≡ 0 → g c ≡ 0) → AreWaiting f cells waiting → AreWaiting g cells waiting
 waiting_less f g cells [] less each = tt
 waiting_less f g cells (p ∷ waiting) less each = (each.0, less p each.1, each.2, waiting_less f g cells waiting less each.3)

@@ -145,9 +145,6 @@ module _ (nodes : Nodes) (newest live p : ℕ) (holds : Holds) (start cells : Li
     pub next_waits : n.count ≡ first_waiting waiting
     next_waits = t.count_is ∙ if_same p p (first_waiting waiting) (threaded waiting (count_of holds cells) p) refl
 
-    apart_of : (l : NamedLink) → Has rest l → l.name ≡ p → ⊥
-    apart_of l h e = without_gone p cells linked (l, h, e)
-
     from_rest : (d : ℕ) → t.link.from ≡ Some d → HasCell rest d
     from_rest d e =
         without_keeps p cells d (λ q. unnamed t.link t.there (inl (e ∙ ap Some q))) (named_there cells linked t.link d t.there (inl e))
