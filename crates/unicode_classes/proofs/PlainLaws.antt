@@ -7,6 +7,7 @@ use Rattle.std.specs.FinSet.{FinSet, contains, contains-empty}
 use Rattle.std.proofs.lemmas.Bool.{cases_lt, true≢false}
 use Rattle.span_core.specs.Lists.{Has}
 use Rattle.span_core.specs.Intervals.{Covers, AreApart}
+use Rattle.span_core.proofs.HasLaws.{Has-map, Has-map_cases}
 use Rattle.spanner_model.specs.Tree.{Tree, cat, cat_end, alt_all}
 use Rattle.spanner_model.specs.Captures.{VarName}
 use Rattle.spanner_model.specs.Sequential.{HasVar}
@@ -45,16 +46,6 @@ AreOfBytes W = (w : List ℕ) → W w → AllByRecursion (λ b. b < 256) w
 class_of : (bytes : FinSet nat_cmp) (b : ℕ) → IsByteIn bytes b → ((c : ℕ) → IsByteIn bytes c → c < 256) → IsByteClass bytes
 class_of bytes b is small = (λ e. true≢false (sym is ∙ ap (λ (s : FinSet nat_cmp). contains s b) e ∙ contains-empty nat_cmp b), small)
 
-Has_mapped : {X Y : Type 0} (f : X → Y) (xs : List X) (y : Y) → Has (map f xs) y → (x : X) × Has xs x × (f x ≡ y)
-Has_mapped f [] y h = absurd h
-Has_mapped f (x ∷ xs) y (inl e) = (x, inl refl, e)
-Has_mapped f (x ∷ xs) y (inr h) = (let r = Has_mapped f xs y h in (r.0, inr r.1, r.2))
-
-mapped : {X Y : Type 0} (f : X → Y) (xs : List X) (x : X) → Has xs x → Has (map f xs) (f x)
-mapped f [] x h = absurd h
-mapped f (y ∷ xs) x (inl e) = inl (ap f e)
-mapped f (y ∷ xs) x (inr h) = inr (mapped f xs x h)
-
 simple_group : (most : ℕ) (g : Group) → 1 ≤ most → IsByteClass g.bytes → IsSimple most g.tails → IsSimple (suc most) (group_tree g)
 simple_group most g positive bytes s = record {
   built = (bytes, (s.built, tt), λ e. absurd (cat_is_no_end e));
@@ -87,8 +78,8 @@ simple_tree (suc n) W f some long small t =
     let w = are.first g b.0 h b.1.0 in
     simple_group (suc (2 * n)) g (omega arith) (class_of g.bytes b.0 b.1.0 (λ c is. (let v = are.first g c h is in (small (c ∷ v.0) v.1).0)))
     (simple_tree n (TailsOf W b.0) g.tails w (λ v k. omega (arith, long (b.0 ∷ v) k)) (λ v k. (small (b.0 ∷ v) k).1) (are.tails g b.0 h b.1.0)) in
-    let all = simple_alternation (suc (suc (2 * n))) (map group_tree groups) (group_tree group.0, mapped group_tree groups group.0 group.1)
-    (λ f h. (let g = Has_mapped group_tree groups f h in subst (IsSimple (suc (suc (2 * n)))) g.2 (each g.0 g.1))) in
+    let all = simple_alternation (suc (suc (2 * n))) (map group_tree groups) (group_tree group.0, Has-map group_tree groups group.0 group.1)
+    (λ f h. (let g = Has-map_cases group_tree groups f h in subst (IsSimple (suc (suc (2 * n)))) g.2 (each g.0 g.1))) in
     subst (IsSimple (suc (2 * suc n))) (sym t.2) (subst (λ (k : ℕ). IsSimple k (alternation (map group_tree groups))) (omega arith) all)
   where
     some_group : (w : List ℕ) → W w → length w ≡ suc (suc n) → (g : Group) × Has t.0 g

@@ -2,7 +2,7 @@
 use Rattle.std.proofs.Common.{◌≡◌, ℕ, zero, suc, ◌+◌, ◌<◌, ◌≤◌, ◌⊎◌, ◌↔◌, Bool, true, false, List, [], ◌∷◌, refl, sym, subst, inl, inr, arith}
 use Rattle.std.specs.Prelude.{IsTrue}
 use Rattle.std.specs.Char.{IsScalar}
-use Rattle.std.proofs.lemmas.Bool.{cases_lt, cases_eq, true≢false}
+use Rattle.std.proofs.lemmas.Bool.{cases_eq, true≢false}
 use Rattle.span_core.specs.Intervals.{Covers, AreApart}
 use Rattle.unicode_classes.specs.Properties.{IsPropertyName, IsProperty}
 use Rattle.unicode_classes.proofs.RangeLaws.{Ranges, covers_past, starts_past, scalar_below}
@@ -15,23 +15,6 @@ test_told false = inr (λ e. true≢false (sym e))
 -- it can be told whether a number is a character's
 pub scalar_told : (c : ℕ) → IsScalar c ⊎ ¬ IsScalar c
 scalar_told c = test_told _
-
--- it can be told whether a number is in ranges
-pub covers_told : (ranges : Ranges) (c : ℕ) → Covers ranges c ⊎ ¬ Covers ranges c
-covers_told [] c = inr (λ none. none)
-covers_told (p ∷ ps) c = elim (cases_lt c p.0) [
-  | inl low ↦ elim (covers_told ps c) [
-    | inl h ↦ inl (inr h)
-    | inr n ↦ inr (λ h. elim h [ inl w ↦ omega (arith, w.0) | inr k ↦ n k ])
-  ]
-  | inr from ↦ elim (cases_lt p.1 c) [
-    | inr within ↦ inl (inl (from, within))
-    | inl past ↦ elim (covers_told ps c) [
-      | inl h ↦ inl (inr h)
-      | inr n ↦ inr (λ h. elim h [ inl w ↦ omega (arith, w.1) | inr k ↦ n k ])
-    ]
-  ]
-]
 
 -- ranges with one number more, before all others
 with_first : (s : ℕ) (r : Ranges) → AreApart r → ((q : ℕ) → Covers r q → s < q) → (new : Ranges) × AreApart new × ((q : ℕ) → Covers new q ↔ ((q ≡ s) ⊎ Covers r q))

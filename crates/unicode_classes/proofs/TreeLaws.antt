@@ -5,6 +5,7 @@ use Rattle.std.specs.Ordering.{nat_cmp}
 use Rattle.std.specs.FinSet.{FinSet}
 use Rattle.span_core.specs.Intervals.{Covers}
 use Rattle.span_core.specs.Lists.{Has, IsInOrder}
+use Rattle.span_core.proofs.ListLaws.{all_has}
 use Rattle.std.proofs.lemmas.List.{take_more, take_all, map-append}
 use Rattle.spanner_model.specs.Tree.{Tree, one, cat, cat_end}
 use Rattle.unicode_classes.specs.Joined.{digits, IsBlockText}
@@ -13,7 +14,6 @@ use Rattle.unicode_classes.specs.Grouped.{StartsBelow, HaveOtherTails, AreGroupe
 use Rattle.unicode_classes.specs.declared.blocks.TailGroup.{TailGroup}
 use Rattle.unicode_classes.proofs.RangeLaws.{Ranges}
 use Rattle.unicode_classes.proofs.OneRanges.{one_ranges}
-use Rattle.unicode_classes.proofs.TreesAreOne.{all_at}
 use Rattle.unicode_classes.proofs.UnitLaws.{unit_positive, at_place, place_whole, rest_at, rest_below, digit_below, unit_more}
 
 -- the tree of strings that are told otherwise
@@ -89,8 +89,8 @@ trees_ascend tails (g ∷ gs) (h ∷ hs) are order = (trees_after tails g h gs h
 in_order : {X : Type 0} (Before : X → X → Type 0) (xs : List X) → IsInOrder Before xs → (x y : X) → Has xs x → Has xs y → (x ≡ y) ⊎ (Before x y ⊎ Before y x)
 in_order Before [] order x y h k = absurd h
 in_order Before (z ∷ zs) order x y (inl e) (inl f) = inl (sym e ∙ f)
-in_order {X} Before (z ∷ zs) order x y (inl e) (inr k) = inr (inl (subst (λ (u : X). Before u y) e (all_at (Before z) zs y order.0 k)))
-in_order {X} Before (z ∷ zs) order x y (inr h) (inl f) = inr (inr (subst (λ (u : X). Before u x) f (all_at (Before z) zs x order.0 h)))
+in_order {X} Before (z ∷ zs) order x y (inl e) (inr k) = inr (inl (subst (λ (u : X). Before u y) e (all_has (Before z) zs y order.0 k)))
+in_order {X} Before (z ∷ zs) order x y (inr h) (inl f) = inr (inr (subst (λ (u : X). Before u x) f (all_has (Before z) zs x order.0 h)))
 in_order Before (z ∷ zs) order x y (inr h) (inr k) = in_order Before zs order.1 x y h k
 
 module _ (base tails : ℕ) (ranges : Ranges) (gs : List TailGroup) (few : (v : ℕ) → Covers ranges v → v < 64 * 64 ^ suc tails) (are : AreGrouped base (64 ^ suc tails) ranges 64 gs) where

@@ -1,11 +1,11 @@
 -- A set of strings has one tree.
 use Rattle.std.proofs.Common.{◌≡◌, ℕ, zero, suc, ◌↔◌, Bool, true, false, List, [], ◌∷◌, map, refl, sym, ap, subst, inl, inr, arith, ◌∙◌}
 use Rattle.std.specs.Prelude.{IsTrue}
-use Rattle.std.specs.List.{AllByRecursion}
 use Rattle.std.specs.Ordering.{nat_cmp}
 use Rattle.std.specs.FinSet.{FinSet, contains}
 use Rattle.span_core.specs.Lists.{Has, IsInOrder}
 use Rattle.span_core.proofs.ByteSetLaws.{same_bytes}
+use Rattle.span_core.proofs.ListLaws.{all_has}
 use Rattle.spanner_model.specs.Tree.{Tree, one}
 use Rattle.unicode_classes.specs.ClassTree.{Strings, TailsOf, Group, BeginsBelow, group_tree, alternation, AreGroups, IsTreeOf, IsLongText, AreArms, no_length, no_text, some_text, IsClassTree, IsByteIn}
 
@@ -18,16 +18,11 @@ same_truth false false h = refl
 pub one_set : (s t : FinSet nat_cmp) → ((b : ℕ) → IsByteIn s b ↔ IsByteIn t b) → s ≡ t
 one_set s t same = same_bytes s t (λ b. same_truth (contains s b) (contains t b) (same b))
 
-pub all_at : {X : Type 0} (P : X → Type 0) (xs : List X) (x : X) → AllByRecursion P xs → Has xs x → P x
-all_at P [] x h k = absurd k
-all_at P (y ∷ xs) x h (inl e) = subst P e h.0
-all_at P (y ∷ xs) x h (inr k) = all_at P xs x h.1 k
-
 -- what stands before itself nowhere, stands in an order once
 module _ {X : Type 0} (Before : X → X → Type 0) where
   ordered_part : (x y : X) (xs ys : List X) → IsInOrder Before (x ∷ xs) → ((z : X) → Has (x ∷ xs) z → Before z z → ⊥) → x ≡ y → ((z : X) → Has (x ∷ xs) z → Has (y ∷ ys) z) → (z : X) → Has xs z → Has ys z
   ordered_part x y xs ys order never e all z h = elim (all z (inr h)) [
-    | inl f ↦ absurd (never z (inr h) (subst (λ (u : X). Before u z) (e ∙ f) (all_at (Before x) xs z order.0 h)))
+    | inl f ↦ absurd (never z (inr h) (subst (λ (u : X). Before u z) (e ∙ f) (all_has (Before x) xs z order.0 h)))
     | inr k ↦ k
   ]
 
@@ -41,7 +36,7 @@ module _ {X : Type 0} (Before : X → X → Type 0) where
         | inl e ↦ sym e
         | inr h ↦ elim (back y (inl refl)) [
           | inl e ↦ e
-          | inr k ↦ absurd (apart x y (inl refl) (inl refl) (all_at (Before x) xs y p.0 k) (all_at (Before y) ys x q.0 h))
+          | inr k ↦ absurd (apart x y (inl refl) (inl refl) (all_has (Before x) xs y p.0 k) (all_has (Before y) ys x q.0 h))
         ]
       ] in
       let rest : xs ≡ ys = one_order xs ys p.1 q.1 (λ z h. a z (inr h)) (λ z h. b z (inr h)) (λ u v h k. apart u v (inr h) (inr k))

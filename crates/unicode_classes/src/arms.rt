@@ -1,5 +1,5 @@
 //! Alternations, of which one arm alone stands without a sign.
-ghost use Rattle.std.specs.Prelude.{◌≡◌, ◌++◌, [], ◌∷◌, IfOk, OnOk};
+ghost use Rattle.std.specs.Prelude.{◌≡◌, ◌++◌, [], ◌∷◌, IfOk};
 ghost use Rattle.spanner_model.specs.View.{tree_of, trees_of};
 ghost use Rattle.unicode_classes.specs.ClassTree.{alternation};
 ghost use Rattle.unicode_classes.specs.Arms.{arm_trees, AreProper};
@@ -29,7 +29,7 @@ pub(crate) fn with_arm(alloc: Global, arms: Arms, arm: Formula) -> Result<Arms, 
             Ok(Arms::Several(both))
         }
         Arms::Several(mut parts) => {
-            push(&mut parts, arm)?;
+            parts.add(arm)?;
             Ok(Arms::Several(parts))
         }
     }
@@ -52,17 +52,7 @@ pub(crate) fn pair(alloc: Global, first: Formula, second: Formula) -> Result<Par
     ensures { IfOk result (λ parts. trees_of parts ≡ tree_of first ∷ (tree_of second ∷ [])) }
 {
     let mut parts = Parts::new(alloc);
-    push(&mut parts, first)?;
-    push(&mut parts, second)?;
+    parts.add(first)?;
+    parts.add(second)?;
     Ok(parts)
-}
-
-/// Adds a part at the end.
-fn push(parts: &mut Parts, part: Formula) -> Result<(), OutOfMemory>
-    ensures { OnOk result (trees_of parts.new ≡ trees_of parts.old ++ tree_of part ∷ []) }
-{
-    match parts.push(part) {
-        Ok(()) => Ok(()),
-        Err((_, refused)) => Err(refused),
-    }
 }
