@@ -35,7 +35,7 @@ abbrev pub IsUp : List ℕ → Type 0
 IsUp [] = Unit {0}
 IsUp (x ∷ xs) = AllAbove x xs × IsUp xs
 
-up_same : (xs ys : List ℕ) → IsUp xs → IsUp ys → ((z : ℕ) → Has xs z → Has ys z) → ((z : ℕ) → Has ys z → Has xs z) → xs ≡ ys
+pub up_same : (xs ys : List ℕ) → IsUp xs → IsUp ys → ((z : ℕ) → Has xs z → Has ys z) → ((z : ℕ) → Has ys z → Has xs z) → xs ≡ ys
 up_same [] [] a b to back = refl
 up_same [] (y ∷ ys) a b to back = absurd (back y (inl refl))
 up_same (x ∷ xs) [] a b to back = absurd (to x (inl refl))
