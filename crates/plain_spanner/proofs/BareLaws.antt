@@ -24,8 +24,5 @@ bare_more ts k t at b one x v =
       | inr a ↦ elim a [ inl e ↦ one x (subst (λ (u : Tree). HasVar u x) (sym e) p.2) | inr n ↦ n ]
     ]
 
-pub bare_first : IsBare (cat_all [])
-bare_first x v = v
-
 pub bare_take : (ts : List Tree) (k : ℕ) → IsBare (cat_all ts) → IsBare (cat_all (take k ts))
 bare_take ts k b x v = let p = parts_have (take k ts) x v in b x (part_has ts p.0 x (Has-take ts k p.0 p.1) p.2)

@@ -18,18 +18,6 @@ use Rattle.plain_spanner.proofs.TellsLaws.{tells_pushed}
 eq_of_test : (x j : ℕ) → nat_eq x j ≡ true → x ≡ j
 eq_of_test x j h = grind (arith, nat_tests)
 
-test_of_eq : (x j : ℕ) → x ≡ j → nat_eq x j ≡ true
-test_of_eq x j h = grind (arith, nat_tests)
-
-either_true : (a b : Bool) → b ≡ true → (a || b) ≡ true
-either_true true b e = refl
-either_true false b e = e
-
-pub number_there : (xs : List ℕ) (j : ℕ) → Has xs j → has_number xs j ≡ true
-number_there [] j h = absurd h
-number_there (x ∷ xs) j (inl e) = ap (λ b. b || has_number xs j) (test_of_eq x j e)
-number_there (x ∷ xs) j (inr h) = either_true (nat_eq x j) (has_number xs j) (number_there xs j h)
-
 pub there_number : (xs : List ℕ) (j : ℕ) → has_number xs j ≡ true → Has xs j
 there_number [] j h = absurd (cc)
 there_number (x ∷ xs) j h = by (nat_eq x j) refl (there_number xs j)
@@ -58,9 +46,6 @@ only_equal xs S H h = record {
 }
 
 -- ---- one byte
-
-pub some_is : (a b : ℕ) → Some a ≡ Some b → a ≡ b
-some_is a b e = cc
 
 pub byte_there : (set : FinSet nat_cmp) (d : List ℕ) (i b : ℕ) (ends : List ℕ) → slice_get d i ≡ Some b → IsTrue (contains set b) → Tells (Has (ends ++ (i + 1) ∷ [])) (λ j. Has ends j ⊎ Fit (one set) d i j [])
 byte_there set d i b ends at is = tells_pushed (λ j. Fit (one set) d i j []) ends (i + 1) (λ j f. sym f.3) (b, at, is, refl, refl)

@@ -1,6 +1,7 @@
 -- Lists of fits, of which those with the same captures stand together.
 use Rattle.std.proofs.Common.{◌≡◌, ℕ, zero, suc, ◌≤◌, ◌⊎◌, List, [], ◌∷◌, ◌++◌, length, take, Some, inl, inr, refl, sym, ap, ◌∙◌, subst, arith, append_assoc}
 use Rattle.std.specs.Prelude.{slice_get}
+use Rattle.std.proofs.lemmas.List.{append-nil}
 use Rattle.span_core.specs.declared.span.Span.{Span}
 use Rattle.span_core.specs.OrderLaws.{span_eq}
 use Rattle.span_core.specs.Lists.{Has}
@@ -11,7 +12,7 @@ use Rattle.spanner_model.specs.Sequential.{HasVar, IsSequential}
 use Rattle.spanner_model.proofs.FitLaws.{fit_only_vars, fit_le, fit_within}
 use Rattle.span_core.proofs.HasLaws.{Has-append_left, Has-append_right, Has-append_cases}
 use Rattle.plain_spanner.specs.Listed.{Tells, FromSome, EndAndCaptures, CapturesAndEnds, HasFit, Continued, AreWithin, LeadsOn, CapturedTo, CapturedAt, CapturedFrom}
-use Rattle.plain_spanner.proofs.PartLists.{append_nil, one_part, part_one, arm_of, of_arm, parts_apart}
+use Rattle.plain_spanner.proofs.PartLists.{one_part, part_one, arm_of, of_arm, parts_apart}
 
 -- ---- branches
 
@@ -50,9 +51,9 @@ no_fits f h = h.1
 
 pub goes_nowhere : (firsts reached : List CapturesAndEnds) → reached ≡ firsts → Tells (HasFit reached) (Continued (HasFit firsts) Nothing)
 goes_nowhere firsts reached is = record {
-  each_so = λ f h. (f.0, f.1, [], subst (λ (xs : List CapturesAndEnds). HasFit xs f) is h, (refl, refl), sym (append_nil f.1));
+  each_so = λ f h. (f.0, f.1, [], subst (λ (xs : List CapturesAndEnds). HasFit xs f) is h, (refl, refl), sym (append-nil f.1));
   all_there = λ f h.
-      let e : h.1 ≡ f.1 = sym (h.5 ∙ ap (λ n. h.1 ++ n) h.4.1 ∙ append_nil h.1) in
+      let e : h.1 ≡ f.1 = sym (h.5 ∙ ap (λ n. h.1 ++ n) h.4.1 ∙ append-nil h.1) in
       subst (λ (xs : List CapturesAndEnds). HasFit xs f) (sym is)
       (subst (λ n. HasFit firsts (f.0, n)) e (subst (λ k. HasFit firsts (k, h.1)) h.4.0 h.3));
 }
@@ -173,10 +174,10 @@ bare_branch P bare b later all = record {
   each_so = λ f h.
       let o = of_branch b.0 later f h in
       let a = all.each_so f.0 o.1 in
-      (a.0, [], a.1, a.2, sym o.0 ∙ sym (append_nil b.0));
+      (a.0, [], a.1, a.2, sym o.0 ∙ sym (append-nil b.0));
   all_there = λ f h.
       let e : h.1 ≡ [] = bare h.0 f.0 h.1 h.3 in
-      branch_of b.0 later f (sym (h.4 ∙ ap (λ n. b.0 ++ n) e ∙ append_nil b.0)) (all.all_there f.0 (h.0, h.2, subst (λ n. P h.0 f.0 n) e h.3));
+      branch_of b.0 later f (sym (h.4 ∙ ap (λ n. b.0 ++ n) e ∙ append-nil b.0)) (all.all_there f.0 (h.0, h.2, subst (λ n. P h.0 f.0 n) e h.3));
 }
 
 -- the fits of a capture from a place, from the fits of what it captures

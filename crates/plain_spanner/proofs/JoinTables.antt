@@ -31,7 +31,7 @@ use Rattle.spanner_model.proofs.PartLaws.{union_some, some_union, join_outside, 
 use Rattle.plain_spanner.specs.Listed.{Tells}
 use Rattle.plain_spanner.specs.declared.table.Table.{Table}
 use Rattle.plain_spanner.specs.Tables.{IsRowOf, IsTable, IsTableOf, IsAsked, AreTables, has_name, IsLeft, IsUnited, IsJoined}
-use Rattle.plain_spanner.proofs.RowLaws.{row_length}
+use Rattle.spanner_model.proofs.RowLaws.{row_length}
 use Rattle.plain_spanner.proofs.TellsLaws.{tells_same}
 use Rattle.plain_spanner.proofs.JoinLaws.{JoinOf, join_listed}
 use Rattle.plain_spanner.proofs.TableLaws.{left_listed, restricts, union_listed}

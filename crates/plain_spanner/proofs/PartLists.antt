@@ -1,7 +1,7 @@
 -- Fits of the parts of a concatenation, and of the arms of an alternation.
 use Rattle.std.proofs.Common.{◌≡◌, ℕ, zero, suc, ◌+◌, List, [], ◌∷◌, ◌++◌, take, drop, Some, inl, inr, refl, sym, ap, ◌∙◌, subst, append_assoc}
 use Rattle.std.specs.Prelude.{slice_get}
-use Rattle.std.proofs.lemmas.List.{take-append-drop}
+use Rattle.std.proofs.lemmas.List.{take-append-drop, append-nil}
 use Rattle.span_core.specs.Lists.{Has}
 use Rattle.spanner_model.specs.Captures.{Captures, AreApart}
 use Rattle.spanner_model.specs.Tree.{Tree, cat_all, alt_all}
@@ -10,10 +10,6 @@ use Rattle.spanner_model.specs.Sequential.{IsSequential, HaveApartVars}
 use Rattle.spanner_model.proofs.CapturesLaws.{Captured-append_left, Captured-append_right, Captured-append_cases}
 use Rattle.span_core.proofs.HasLaws.{Has-slice_get}
 use Rattle.spanner_model.proofs.TreeLaws.{take_at_more, part_has}
-
-pub append_nil : {X : Type 0} (xs : List X) → xs ++ [] ≡ xs
-append_nil [] = refl
-append_nil (x ∷ xs) = ap (λ ys. x ∷ ys) (append_nil xs)
 
 module _ (d : List ℕ) where
   -- the first parts and then the others
@@ -54,11 +50,11 @@ module _ (d : List ℕ) where
 
   pub one_part : (t : Tree) (i j : ℕ) (m : Captures) → Fit (cat_all (t ∷ [])) d i j m → Fit t d i j m
   one_part t i j m h =
-      let e : m ≡ h.1 = h.6 ∙ ap (λ n. h.1 ++ n) h.4.1 ∙ append_nil h.1 in
+      let e : m ≡ h.1 = h.6 ∙ ap (λ n. h.1 ++ n) h.4.1 ∙ append-nil h.1 in
       subst (λ n. Fit t d i j n) (sym e) (subst (λ k. Fit t d i k h.1) h.4.0 h.3)
 
   pub part_one : (t : Tree) (i j : ℕ) (m : Captures) → Fit t d i j m → Fit (cat_all (t ∷ [])) d i j m
-  part_one t i j m h = (j, m, [], h, (refl, refl), λ x a b. b, sym (append_nil m))
+  part_one t i j m h = (j, m, [], h, (refl, refl), λ x a b. b, sym (append-nil m))
 
   -- the parts so far, and one more
   pub cat_more_split : (ts : List Tree) (k : ℕ) (t : Tree) (i j : ℕ) (m : Captures) → slice_get ts k ≡ Some t → Fit (cat_all (take (k + 1) ts)) d i j m → Then (Fit (cat_all (take k ts)) d) (Fit t d) i j m

@@ -7,13 +7,9 @@ use Rattle.std.proofs.lemmas.List.{take-append-drop}
 use Rattle.span_core.specs.Lists.{Has}
 use Rattle.spanner_model.specs.Captures.{Captures}
 use Rattle.spanner_model.specs.Fit.{Piece, Times}
+use Rattle.spanner_model.proofs.ExampleLaws.{more_times}
 use Rattle.span_core.proofs.HasLaws.{Has-append_left, Has-append_right, Has-append_cases}
 use Rattle.plain_spanner.specs.Listed.{Tells, Begins, LeadsOn, LeadsTimes, LeadsIn}
-
-module _ (P : Piece) where
-  -- a piece and the others, none of which captures anything
-  then_bare : (c i k j : ℕ) → P i k [] → Times P c k j [] → Times P (suc c) i j []
-  then_bare c i k j p t = (k, [], [], p, t, λ x a b. a, refl)
 
 module _ (P : Piece) (bare : (i j : ℕ) (m : Captures) → P i j m → m ≡ []) where
   pub times_bare : (c i j : ℕ) (m : Captures) → Times P c i j m → m ≡ []
@@ -26,15 +22,15 @@ module _ (P : Piece) (bare : (i j : ℕ) (m : Captures) → P i j m → m ≡ []
       (h.0, subst (λ n. P i h.0 n) (bare i h.0 h.1 h.3) h.3, subst (λ n. Times P c h.0 j n) (times_bare c h.0 j h.2 h.4) h.4)
 
   pub times_snoc : (c i k j : ℕ) → Times P c i k [] → P k j [] → Times P (suc c) i j []
-  times_snoc zero i k j h p = then_bare P zero i j j (subst (λ n. P n j []) (sym h.0) p) (refl, refl)
-  times_snoc (suc c) i k j h p = let f = first_bare c i k h in then_bare P (suc c) i f.0 j f.1 (times_snoc c f.0 k j f.2 p)
+  times_snoc zero i k j h p = more_times P zero i j j (subst (λ n. P n j []) (sym h.0) p) (refl, refl)
+  times_snoc (suc c) i k j h p = let f = first_bare c i k h in more_times P (suc c) i f.0 j f.1 (times_snoc c f.0 k j f.2 p)
 
   pub times_unsnoc : (c i j : ℕ) → Times P (suc c) i j [] → (k : ℕ) × Times P c i k [] × P k j []
   times_unsnoc zero i j h = let f = first_bare zero i j h in (i, (refl, refl), subst (λ n. P i n []) f.2.0 f.1)
   times_unsnoc (suc c) i j h =
       let f = first_bare (suc c) i j h in
       let r = times_unsnoc c f.0 j f.2 in
-      (r.0, then_bare P c i f.0 r.0 f.1 r.1, r.2)
+      (r.0, more_times P c i f.0 r.0 f.1 r.1, r.2)
 
   -- a part of the pieces, and the rest
   pub times_split : (a b i j : ℕ) → Times P (a + b) i j [] → (k : ℕ) × Times P a i k [] × Times P b k j []
@@ -43,7 +39,7 @@ module _ (P : Piece) (bare : (i j : ℕ) (m : Captures) → P i j m → m ≡ []
       let e : suc a + b ≡ suc (a + b) = omega arith in
       let f = first_bare (a + b) i j (subst (λ n. Times P n i j []) e h) in
       let r = times_split a b f.0 j f.2 in
-      (r.0, then_bare P a i f.0 r.0 f.1 r.1, r.2)
+      (r.0, more_times P a i f.0 r.0 f.1 r.1, r.2)
 
   times_join : (a b i k j : ℕ) → Times P a i k [] → Times P b k j [] → Times P (a + b) i j []
   times_join zero b i k j h g =
@@ -51,7 +47,7 @@ module _ (P : Piece) (bare : (i j : ℕ) (m : Captures) → P i j m → m ≡ []
   times_join (suc a) b i k j h g =
       let e : suc (a + b) ≡ suc a + b = omega arith in
       let f = first_bare a i k h in
-      subst (λ n. Times P n i j []) e (then_bare P (a + b) i f.0 j f.1 (times_join a b f.0 k j f.2 g))
+      subst (λ n. Times P n i j []) e (more_times P (a + b) i f.0 j f.1 (times_join a b f.0 k j f.2 g))
 
   -- the pieces so far begin more of them
   pub times_begin : (c count i j : ℕ) → c ≤ count → Times P count i j [] → (k : ℕ) × Times P c i k [] × Times P (count - c) k j []
@@ -60,10 +56,6 @@ module _ (P : Piece) (bare : (i j : ℕ) (m : Captures) → P i j m → m ≡ []
       times_split c (count - c) i j (subst (λ n. Times P n i j []) e h)
 
 module _ (P : Piece) (bare : (i j : ℕ) (m : Captures) → P i j m → m ≡ []) (le : (i j : ℕ) (m : Captures) → P i j m → i ≤ j) where
-  times_le : (c i j : ℕ) → Times P c i j [] → i ≤ j
-  times_le zero i j h = omega arith
-  times_le (suc c) i j h = let f = first_bare P bare c i j h in omega (arith, le i f.0 [] f.1, times_le c f.0 j f.2)
-
   -- empty pieces can be left out
   fewer : (c i j : ℕ) → Times P c i j [] → (b : ℕ) × (b ≤ c) × (b + i ≤ j) × Times P b i j []
   fewer zero i j h = (0, omega arith, omega arith, h)
@@ -73,7 +65,7 @@ module _ (P : Piece) (bare : (i j : ℕ) (m : Captures) → P i j m → m ≡ []
       let l : i ≤ f.0 = le i f.0 [] f.1 in
       let p = r.1 in let q = r.2 in
       elim (cases_lt i f.0) as (λ _. (b : ℕ) × (b ≤ suc c) × (b + i ≤ j) × Times P b i j []) [
-        | inl some ↦ (suc r.0, omega arith, omega arith, then_bare P r.0 i f.0 j f.1 r.3)
+        | inl some ↦ (suc r.0, omega arith, omega arith, more_times P r.0 i f.0 j f.1 r.3)
         | inr none ↦ (r.0, omega arith, omega arith, let e : f.0 ≡ i = omega arith in subst (λ n. Times P r.0 n j []) e r.3)
       ]
 

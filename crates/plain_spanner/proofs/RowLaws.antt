@@ -1,5 +1,5 @@
 -- Rows and mappings.
-use Rattle.std.proofs.Common.{◌≡◌, ℕ, zero, suc, ◌+◌, ◌<◌, ◌≤◌, ◌⊎◌, Bool, true, false, List, [], ◌∷◌, ◌++◌, length, take, Option, Some, None, inl, inr, refl, sym, ap, ◌∙◌, subst, arith}
+use Rattle.std.proofs.Common.{◌≡◌, ℕ, ◌+◌, ◌<◌, ◌≤◌, ◌⊎◌, Bool, true, false, List, [], ◌∷◌, ◌++◌, length, take, Option, Some, inl, inr, refl, sym, ap, ◌∙◌, subst, arith}
 use Rattle.std.specs.Prelude.{slice_get, if◌then◌else◌, IsTrue}
 use Rattle.std.specs.Str.{bytes_eq}
 use Rattle.std.proofs.Math.Seq.{take-length}
@@ -13,7 +13,7 @@ use Rattle.span_core.specs.ComparisonLaws.{row_cmp_is}
 use Rattle.std.proofs.lemmas.List.{length-take-le}
 use Rattle.std.proofs.lemmas.Slice.Eq.{bytes_eq-Decides}
 use Rattle.span_core.specs.declared.span.Span.{Span}
-use Rattle.span_core.specs.Lists.{Has, AreDistinct}
+use Rattle.span_core.specs.Lists.{Has}
 use Rattle.spanner_model.specs.Captures.{VarName, Captures, Mapping, span_of, row_of, mapping_of}
 use Rattle.spanner_model.specs.Answers.{SpanRow}
 use Rattle.std.specs.Bool.{OnTrue}
@@ -24,15 +24,11 @@ use Rattle.spanner_model.specs.Fit.{Fit}
 use Rattle.spanner_model.specs.Answer.{FitsSomewhere}
 use Rattle.spanner_model.proofs.CapturesLaws.{row_same, row_same_on}
 use Rattle.spanner_model.proofs.FitLaws.{fit_le, fit_within}
-use Rattle.span_core.proofs.HasLaws.{Has-slice_get}
 use Rattle.spanner_model.proofs.TreeLaws.{take_at_more}
+use Rattle.spanner_model.proofs.RowLaws.{row_length}
 use Rattle.plain_spanner.specs.Listed.{Tells, FromSome, CapturesAndEnds, HasFit, Continued}
 use Rattle.plain_spanner.specs.Tables.{row_over, IsRowOf, IsRowOfFits}
 use Rattle.plain_spanner.proofs.FitLists.{of_branch, branch_of}
-
-pub row_length : (names : List VarName) (m : Mapping) → length (row_of names m) ≡ length names
-row_length [] m = refl
-row_length (x ∷ names) m = ap suc (row_length names m)
 
 row_append : (names : List VarName) (y : VarName) (m : Mapping) → row_of (names ++ y ∷ []) m ≡ row_of names m ++ m y ∷ []
 row_append [] y m = refl
@@ -52,29 +48,6 @@ mapping_of-row_of (y ∷ names) n x h = by (bytes_eq y x) refl h (mapping_of-row
     by true e h later = ap n ((bytes_eq-Decides y x).0 e)
     by false e (inl same) later = let clash : true ≡ false = sym ((bytes_eq-Decides y x).1 same) ∙ e in absurd (cc)
     by false e (inr h) later = later h
-
-pub mapping_of-outside : (names : List VarName) (row : SpanRow) (x : VarName) → (Has names x → ⊥) → mapping_of names row x ≡ None
-mapping_of-outside [] row x out = refl
-mapping_of-outside (y ∷ names) [] x out = refl
-mapping_of-outside (y ∷ names) (s ∷ row) x out = by (bytes_eq y x) refl (mapping_of-outside names row x (λ h. out (inr h)))
-  where
-    by : (a : Bool) → bytes_eq y x ≡ a → mapping_of names row x ≡ None → (if a then s else mapping_of names row x) ≡ None
-    by true e later = absurd (out (inl ((bytes_eq-Decides y x).0 e)))
-    by false e later = later
-
--- the span at the place of a name
-pub mapping_of-at : (names : List VarName) (row : SpanRow) (k : ℕ) (x : VarName) (s : Option Span) → AreDistinct names → slice_get names k ≡ Some x → slice_get row k ≡ Some s → mapping_of names row x ≡ s
-mapping_of-at [] row k x s d a b = absurd (cc)
-mapping_of-at (y ∷ names) [] k x s d a b = absurd (cc)
-mapping_of-at (y ∷ names) (t ∷ row) zero x s d a b =
-    let e : y ≡ x = cc in
-    let f : t ≡ s = cc in
-    ap (λ (c : Bool). if c then t else mapping_of names row x) ((bytes_eq-Decides y x).1 e) ∙ f
-mapping_of-at (y ∷ names) (t ∷ row) (suc k) x s d a b = by (bytes_eq y x) refl (mapping_of-at names row k x s d.1 a b)
-  where
-    by : (c : Bool) → bytes_eq y x ≡ c → mapping_of names row x ≡ s → (if c then t else mapping_of names row x) ≡ s
-    by true e later = absurd (d.0 (subst (Has names) (sym ((bytes_eq-Decides y x).0 e)) (Has-slice_get names k x a)))
-    by false e later = later
 
 pub row_over-row_of : (names kept : List VarName) (n : Mapping) → ((x : VarName) → Has kept x → Has names x) → row_over names kept (row_of names n) ≡ row_of kept n
 row_over-row_of names kept n in_names = row_same_on kept (mapping_of names (row_of names n)) n (λ x h. mapping_of-row_of names n x (in_names x h))

@@ -4,7 +4,7 @@ use Rattle.std.proofs.lemmas.Bool.{false≢true}
 use Rattle.std.specs.Prelude.{if◌then◌else◌}
 use Rattle.span_core.specs.Lists.{Has}
 use Rattle.spanner_model.specs.Captures.{VarName, Mapping, row_of, mapping_of}
-use Rattle.spanner_model.specs.Expression.{ExprTree, QueryTree, minus, project, union_all, join_all}
+use Rattle.spanner_model.specs.Expression.{ExprTree, QueryTree, project, union_all, join_all}
 use Rattle.spanner_model.specs.Answer.{VarOf, IsRestriction, vars_of_lets}
 use Rattle.spanner_model.specs.Answers.{SpanRow}
 use Rattle.spanner_model.specs.Gathered.{HaveRoom}
@@ -15,7 +15,8 @@ use Rattle.spanner_model.proofs.ExprLaws.{var_named, lets_named, union_part, joi
 use Rattle.spanner_model.proofs.CapturesLaws.{row_same, row_same_on}
 use Rattle.plain_spanner.specs.Listed.{Tells, FromSome}
 use Rattle.plain_spanner.specs.Tables.{IsRowOf, IsTable, IsAsked, has_name, row_over, IsLeft, IsRowOver, IsUnited}
-use Rattle.plain_spanner.proofs.RowLaws.{row_length, mapping_of-row_of, mapping_of-outside, row_over-row_of}
+use Rattle.spanner_model.proofs.RowLaws.{row_length, mapping_of-outside}
+use Rattle.plain_spanner.proofs.RowLaws.{mapping_of-row_of, row_over-row_of}
 
 -- ---- what is asked
 
@@ -114,12 +115,6 @@ module _ (V W names : List VarName) (A B : Mapping → Type 0) (a_out : (m : Map
   }
 
 -- ---- differences
-
-pub asked_left : (q : QueryTree) (n : ℕ) (e g : ExprTree) → IsAsked q n (minus e g) → IsAsked q n e
-asked_left q n e g a = record { sound = a.sound; sound_expr = a.sound_expr.0; named = λ x h. a.named x (inl h) }
-
-pub asked_right : (q : QueryTree) (n : ℕ) (e g : ExprTree) → IsAsked q n (minus e g) → IsAsked q n g
-asked_right q n e g a = record { sound = a.sound; sound_expr = a.sound_expr.1; named = λ x h. a.named x (inr h) }
 
 -- the rows of the mappings of which A is true and B is not
 module _ (names : List VarName) (A B : Mapping → Type 0) (a_out : (m : Mapping) → A m → (x : VarName) → (Has names x → ⊥) → m x ≡ None) (b_out : (m : Mapping) → B m → (x : VarName) → (Has names x → ⊥) → m x ≡ None) where

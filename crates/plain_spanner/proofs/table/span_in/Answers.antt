@@ -3,7 +3,7 @@ use Rattle.std.proofs.lemmas.Option.{slice_get_within}
 use Rattle.span_core.specs.Lists.{Has}
 use Rattle.span_core.proofs.HasLaws.{Contains-Has}
 use Rattle.spanner_model.proofs.NameLaws.{ascending-distinct}
-use Rattle.plain_spanner.proofs.RowLaws.{mapping_of-at, mapping_of-outside}
+use Rattle.spanner_model.proofs.RowLaws.{mapping_of-at, mapping_of-outside}
 use Rattle.plain_spanner.proofs.table.span_in.Goals as goal
 
 pub at-requires : goal.at-requires
