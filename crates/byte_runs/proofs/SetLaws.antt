@@ -93,18 +93,6 @@ one_more_inside set n (Two x y) inside is = none_more set n (is_byte2 x y) insid
 one_more_inside set n (Three x y z) inside is = none_more set n (is_byte3 x y z) inside is
 one_more_inside set n Many inside is = is
 
--- of tests that say the same of each byte of a list the first places are the same
-pub same_first : (p q : ℕ → Bool) (hay : List ℕ) → ((k : ℕ) → k < length hay → p (slice_index hay k) ≡ q (slice_index hay k)) → (r : Option ℕ) → IsFirstByte p hay r → IsFirstByte q hay r
-same_first p q hay same None nowhere = λ k low less passes. nowhere k low less (same k less ∙ passes)
-same_first p q hay same (Some k) is = (
-  record {
-    low = is.0.low;
-    high = is.0.high;
-    before = λ j low less passes. is.0.before j low less (same j (grind (arith, less, is.0.high)) ∙ passes);
-  },
-  sym (same k is.0.high) ∙ is.1,
-)
-
 -- of all bytes none is outside
 pub none_outside : (set : FinSet nat_cmp) → set ≡ bytes_between 0 255 → AreOutsideBelow 256 set NoByte
 none_outside set e b = go (nat_lt b 256) refl
