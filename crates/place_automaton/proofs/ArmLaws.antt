@@ -9,7 +9,7 @@ use Rattle.spanner_model.specs.Tree.{Tree, alt_all}
 use Rattle.spanner_model.proofs.TreeLaws.{take_at_more}
 use Rattle.place_automaton.specs.declared.placing.Draft.{Draft}
 use Rattle.place_automaton.specs.Drafts.{places_of, HasPlaced}
-use Rattle.place_automaton.specs.Ends.{Ends, ends_of, alt_ends}
+use Rattle.place_automaton.specs.Sides.{Sides, sides_of, alt_sides}
 use Rattle.place_automaton.specs.Places.{Places, add_once, either_once, alt_places, never_placed}
 use Rattle.place_automaton.proofs.JoinLists.{append_nil}
 use Rattle.place_automaton.proofs.Shows.{any_has, either_left}
@@ -85,9 +85,9 @@ module _ (names : List VarName) where
       ∙ ap (λ n. alt_places (alt_places P A) (places_of names t n)) (let e : k + P.count + A.count ≡ k + (P.count + A.count) = omega arith in e))
 
   -- an arm more
-  pub arms_next : (ts : List Tree) (i k : ℕ) (t : Tree) (a b c : Draft) (e f g : Ends) → slice_get ts i ≡ Some t → a.next ≡ k →
+  pub arms_next : (ts : List Tree) (i k : ℕ) (t : Tree) (a b c : Draft) (e f g : Sides) → slice_get ts i ≡ Some t → a.next ≡ k →
       ((n : ℕ) → AreDistinct (places_of names t n).null) →
-      HasPlaced (places_of names (alt_all (take i ts)) k) a b e → HasPlaced (places_of names t b.next) b c f → g ≡ alt_ends e f →
+      HasPlaced (places_of names (alt_all (take i ts)) k) a b e → HasPlaced (places_of names t b.next) b c f → g ≡ alt_sides e f →
       HasPlaced (places_of names (alt_all (take (i + 1) ts)) k) a c g
   arms_next ts i k t a b c e f g at from small h h' is =
       let A = places_of names (alt_all (take i ts)) k in
@@ -96,7 +96,7 @@ module _ (names : List VarName) where
       let all : places_of names (alt_all (take (i + 1) ts)) k ≡ alt_places A T =
       ap (λ us. places_of names (alt_all us) k) (take_at_more ts i t at) ∙ (arms_more (take i ts) t k small ∙ ap (λ n. alt_places A (places_of names t n)) (sym here)) in
       subst (λ (W : Places). HasPlaced W a c g) (sym all) (record {
-        ends = is ∙ (ap (λ (E : Ends). alt_ends E f) h.ends ∙ ap (λ (E : Ends). alt_ends (ends_of A) E) h'.ends);
+        sides = is ∙ (ap (λ (E : Sides). alt_sides E f) h.sides ∙ ap (λ (E : Sides). alt_sides (sides_of A) E) h'.sides);
         next = omega (arith, h'.next, h.next);
         ways = h'.ways ∙ (ap (λ ws. ws ++ T.follow) h.ways ∙ append_assoc a.ways.items A.follow T.follow);
       })

@@ -8,7 +8,7 @@ use Rattle.span_core.specs.Lists.{Has, AreDistinct}
 use Rattle.spanner_model.specs.Tree.{Tree, cap}
 use Rattle.span_core.proofs.HasLaws.{Has-slice_get}
 use Rattle.place_automaton.specs.Drafts.{places_of, AreNamed}
-use Rattle.place_automaton.specs.Ends.{CanCapture, Ends, ends_of, MarkOf}
+use Rattle.place_automaton.specs.Sides.{CanCapture, Sides, sides_of, MarkOf}
 use Rattle.spanner_model.specs.Sequential.{IsSequential}
 use Rattle.place_automaton.specs.Repeats.{HasOrderedRepeats}
 use Rattle.place_automaton.specs.Words.{opening_of, closing_of}
@@ -41,7 +41,7 @@ closing_at names k x dis at =
     let b = behind_at names k x dis at in
     ap (λ n. 2 ^ n) (let e : closing_bit (length names) k ≡ 2 * behind names x = omega (arith, b) in e) ∙ sym (closing_is names x (Has-slice_get names k x at))
 
-module _ (names : List VarName) (x : VarName) (f : Tree) (ok : IsSequential (cap x f)) (ord : HasOrderedRepeats f) (cl : HasClasses f) (vars : AreNamed names (cap x f)) (k : ℕ) (E : Ends) (is : E ≡ ends_of (places_of names f k)) where
+module _ (names : List VarName) (x : VarName) (f : Tree) (ok : IsSequential (cap x f)) (ord : HasOrderedRepeats f) (cl : HasClasses f) (vars : AreNamed names (cap x f)) (k : ℕ) (E : Sides) (is : E ≡ sides_of (places_of names f k)) where
   abbrev o : ℕ
   o = opening_of names x
 
@@ -58,9 +58,9 @@ module _ (names : List VarName) (x : VarName) (f : Tree) (ok : IsSequential (cap
   fine = fine_places names f ok.0 ord cl inside k
 
   marks : (m : ℕ) → MarkOf E m → Within (VarBits names f) m
-  marks m h = go (subst (λ (E : Ends). MarkOf E m) is h)
+  marks m h = go (subst (λ (E : Sides). MarkOf E m) is h)
     where
-      go : MarkOf (ends_of (places_of names f k)) m → Within (VarBits names f) m
+      go : MarkOf (sides_of (places_of names f k)) m → Within (VarBits names f) m
       go (inl h) = fine.nulls m h
       go (inr (inl h)) = subst (Within (VarBits names f)) h.2 (fine.firsts h.0 h.1)
       go (inr (inr h)) = subst (Within (VarBits names f)) h.2 (fine.lasts h.0 h.1)

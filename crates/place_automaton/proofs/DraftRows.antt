@@ -8,7 +8,7 @@ use Rattle.spanner_model.specs.Tree.{Tree, cat_all}
 use Rattle.spanner_model.proofs.TreeLaws.{take_at_more}
 use Rattle.place_automaton.specs.declared.placing.Draft.{Draft}
 use Rattle.place_automaton.specs.Drafts.{places_of, AreNamed, HasPlaced}
-use Rattle.place_automaton.specs.Ends.{Ends, ends_of, nothing_ends, JoinAsSums, RowJoins, row_ends, row_ways}
+use Rattle.place_automaton.specs.Sides.{Sides, sides_of, nothing_sides, JoinAsSums, RowJoins, row_sides, row_ways}
 use Rattle.place_automaton.specs.Places.{Places, Placed, nothing_placed}
 use Rattle.spanner_model.specs.Sequential.{IsSequential}
 use Rattle.place_automaton.specs.Repeats.{HasOrderedRepeats}
@@ -18,39 +18,39 @@ use Rattle.place_automaton.proofs.JoinLists.{append_nil}
 use Rattle.place_automaton.proofs.Rows.{in_turn, total, follows, row_places, row_is, row_count, row_follow, in_turn_more, total_more, follows_more, parts_row, copies, copies_more}
 
 -- these parts have come, and the pieces are their ends
-pub record IsRow (Ps : List Places) (old new : Draft) (xs : List Ends) : Type 0 where
-  pub pieces : xs ≡ map ends_of Ps
+pub record IsRow (Ps : List Places) (old new : Draft) (xs : List Sides) : Type 0 where
+  pub pieces : xs ≡ map sides_of Ps
   pub next : new.next ≡ old.next + total Ps
   pub ways : new.ways.items ≡ old.ways.items ++ follows Ps
 
-pub row_none : (d : Draft) (xs : List Ends) → xs ≡ [] → IsRow [] d d xs
+pub row_none : (d : Draft) (xs : List Sides) → xs ≡ [] → IsRow [] d d xs
 row_none d xs e = record { pieces = e; next = omega arith; ways = sym (append_nil d.ways.items) }
 
-pub row_one : (P : Places) (a b : Draft) (e : Ends) (xs : List Ends) → HasPlaced P a b e → xs ≡ e ∷ [] → IsRow (P ∷ []) a b xs
+pub row_one : (P : Places) (a b : Draft) (e : Sides) (xs : List Sides) → HasPlaced P a b e → xs ≡ e ∷ [] → IsRow (P ∷ []) a b xs
 row_one P a b e xs h at = record {
-  pieces = at ∙ ap (λ x. x ∷ []) h.ends;
+  pieces = at ∙ ap (λ x. x ∷ []) h.sides;
   next = omega (arith, h.next);
   ways = h.ways ∙ ap (λ ys. a.ways.items ++ ys) (sym (append_nil P.follow));
 }
 
-pub row_more : (Ps : List Places) (P : Places) (a b c : Draft) (xs ys : List Ends) (e : Ends) →
+pub row_more : (Ps : List Places) (P : Places) (a b c : Draft) (xs ys : List Sides) (e : Sides) →
     IsRow Ps a b xs → HasPlaced P b c e → ys ≡ xs ++ e ∷ [] → IsRow (Ps ++ P ∷ []) a c ys
 row_more Ps P a b c xs ys e r h at = record {
-  pieces = at ∙ (ap (λ zs. zs ++ e ∷ []) r.pieces ∙ (ap (λ x. map ends_of Ps ++ x ∷ []) h.ends ∙ sym (map-append ends_of Ps (P ∷ []))));
+  pieces = at ∙ (ap (λ zs. zs ++ e ∷ []) r.pieces ∙ (ap (λ x. map sides_of Ps ++ x ∷ []) h.sides ∙ sym (map-append sides_of Ps (P ∷ []))));
   next = omega (arith, h.next, r.next, total_more Ps P);
   ways = h.ways ∙ (ap (λ ws. ws ++ P.follow) r.ways ∙ (append_assoc a.ways.items (follows Ps) P.follow ∙ ap (λ ws. a.ways.items ++ ws) (sym (follows_more Ps P))));
 }
 
 -- they are joined
-pub row_done : (r : ℕ) (Ps : List Places) (W : Places) (a b c : Draft) (xs : List Ends) (p : Ends) →
-    W ≡ row_places r Ps (nothing_placed 0) → IsRow Ps a b xs → p ≡ row_ends r xs nothing_ends → c.next ≡ b.next →
-    c.ways.items ≡ b.ways.items ++ row_ways r xs nothing_ends → HasPlaced W a c p
+pub row_done : (r : ℕ) (Ps : List Places) (W : Places) (a b c : Draft) (xs : List Sides) (p : Sides) →
+    W ≡ row_places r Ps (nothing_placed 0) → IsRow Ps a b xs → p ≡ row_sides r xs nothing_sides → c.next ≡ b.next →
+    c.ways.items ≡ b.ways.items ++ row_ways r xs nothing_sides → HasPlaced W a c p
 row_done r Ps W a b c xs p is row ends next ways =
     let N = nothing_placed 0 in
-    let ways' = ways ∙ (ap (λ ws. ws ++ row_ways r xs nothing_ends) row.ways ∙ (ap (λ zs. (a.ways.items ++ follows Ps) ++ row_ways r zs nothing_ends) row.pieces
-    ∙ (append_assoc a.ways.items (follows Ps) (row_ways r (map ends_of Ps) nothing_ends) ∙ ap (λ ws. a.ways.items ++ ws) (sym (row_follow r Ps N))))) in
+    let ways' = ways ∙ (ap (λ ws. ws ++ row_ways r xs nothing_sides) row.ways ∙ (ap (λ zs. (a.ways.items ++ follows Ps) ++ row_ways r zs nothing_sides) row.pieces
+    ∙ (append_assoc a.ways.items (follows Ps) (row_ways r (map sides_of Ps) nothing_sides) ∙ ap (λ ws. a.ways.items ++ ws) (sym (row_follow r Ps N))))) in
     subst (λ (V : Places). HasPlaced V a c p) (sym is) (record {
-      ends = ends ∙ (ap (λ zs. row_ends r zs nothing_ends) row.pieces ∙ sym (row_is r Ps N));
+      sides = ends ∙ (ap (λ zs. row_sides r zs nothing_sides) row.pieces ∙ sym (row_is r Ps N));
       next = omega (arith, next, row.next, row_count r Ps N);
       ways = ways';
     })
@@ -59,7 +59,7 @@ module _ (names : List VarName) where
   abbrev pub placers : List Tree → List Placed
   placers ts = map (places_of names) ts
 
-  pub parts_next : (ts : List Tree) (i k : ℕ) (t : Tree) (a b c : Draft) (xs ys : List Ends) (e : Ends) → slice_get ts i ≡ Some t → a.next ≡ k →
+  pub parts_next : (ts : List Tree) (i k : ℕ) (t : Tree) (a b c : Draft) (xs ys : List Sides) (e : Sides) → slice_get ts i ≡ Some t → a.next ≡ k →
       IsRow (in_turn (placers (take i ts)) k) a b xs → HasPlaced (places_of names t b.next) b c e → ys ≡ xs ++ e ∷ [] →
       IsRow (in_turn (placers (take (i + 1) ts)) k) a c ys
   parts_next ts i k t a b c xs ys e at from row h is =
@@ -74,7 +74,7 @@ module _ (names : List VarName) where
   AllHaveClasses ts = (t : Tree) → Has ts t → HasClasses t
 
   pub parts_joins : (ts : List Tree) → IsSequential (cat_all ts) → HasOrderedRepeats (cat_all ts) → HasClasses (cat_all ts) → AreNamed names (cat_all ts) → (k : ℕ) →
-      RowJoins (length ts) (map ends_of (in_turn (placers ts) k)) nothing_ends
+      RowJoins (length ts) (map sides_of (in_turn (placers ts) k)) nothing_sides
   parts_joins [] ok ord cl vars k = tt
   parts_joins (t ∷ ts) ok ord cl vars k =
       let P = places_of names t k in
@@ -82,16 +82,16 @@ module _ (names : List VarName) where
       let Q = places_of names (cat_all ts) k' in
       let nt : AreNamed names t = λ x h. vars x (inl h) in
       let ns : AreNamed names (cat_all ts) = λ x h. vars x (inr h) in
-      let rest : ends_of Q ≡ row_ends (length ts) (map ends_of (in_turn (placers ts) k')) nothing_ends =
-      ap ends_of (parts_row (opening_of names) (closing_of names) ts k') ∙ row_is (length ts) (in_turn (placers ts) k') (nothing_placed 0) in (
-        subst (JoinAsSums (ends_of P)) rest
+      let rest : sides_of Q ≡ row_sides (length ts) (map sides_of (in_turn (placers ts) k')) nothing_sides =
+      ap sides_of (parts_row (opening_of names) (closing_of names) ts k') ∙ row_is (length ts) (in_turn (placers ts) k') (nothing_placed 0) in (
+        subst (JoinAsSums (sides_of P)) rest
             (fine_joins (VarBits names t) (VarBits names (cat_all ts)) (vars_apart names t (cat_all ts) nt ns ok.2) P Q
             (fine_places names t ok.0 ord.0 cl.0 nt k) (fine_places names (cat_all ts) ok.1 ord.1 cl.1 ns k')),
         parts_joins ts ok.1 ord.1 cl.1 ns k',
       )
 
 -- a copy more
-pub copies_next : (F : Placed) (i k : ℕ) (a b c : Draft) (xs ys : List Ends) (e : Ends) → a.next ≡ k →
+pub copies_next : (F : Placed) (i k : ℕ) (a b c : Draft) (xs ys : List Sides) (e : Sides) → a.next ≡ k →
     IsRow (copies F i k) a b xs → HasPlaced (F b.next) b c e → ys ≡ xs ++ e ∷ [] → IsRow (copies F (i + 1) k) a c ys
 copies_next F i k a b c xs ys e from row h is =
     let Ps = copies F i k in

@@ -14,7 +14,7 @@ use Rattle.marked_automaton.specs.declared.way.Way.{Way}
 use Rattle.marked_automaton.specs.declared.way.Stop.{Stop}
 use Rattle.marked_automaton.specs.Automaton.{ByteClass}
 use Rattle.place_automaton.specs.declared.piece.Entry.{Entry}
-use Rattle.place_automaton.specs.Ends.{ends_of, MarkOf, JoinAsSums, IsUnmarked}
+use Rattle.place_automaton.specs.Sides.{sides_of, MarkOf, JoinAsSums, IsUnmarked}
 use Rattle.place_automaton.specs.Places.{Places, Placed, ways_between, entry_with, stop_with, nothing_placed, never_placed, one_placed, cat_places, alt_places, opt_places, plus_places, cap_places, plus_placed, copies_then, at_most, repeated, placed}
 use Rattle.place_automaton.specs.Repeats.{HasOrderedRepeats}
 use Rattle.place_automaton.specs.Words.{opening_of, closing_of}
@@ -107,15 +107,15 @@ module _ (B C : Bits) (apart : Apart B C) (P Q : Places) (p : IsFine B P) (q : I
   }
 
   -- what joins them is a sum
-  pub fine_joins : JoinAsSums (ends_of P) (ends_of Q)
+  pub fine_joins : JoinAsSums (sides_of P) (sides_of Q)
   fine_joins m n hm hn = apart_sum m n (λ i a b. apart i (of_left m hm i a) (of_right n hn i b))
     where
-      of_left : (m : ℕ) → MarkOf (ends_of P) m → Within B m
+      of_left : (m : ℕ) → MarkOf (sides_of P) m → Within B m
       of_left m (inl h) = p.nulls m h
       of_left m (inr (inl h)) = subst (Within B) h.2 (p.firsts h.0 h.1)
       of_left m (inr (inr h)) = subst (Within B) h.2 (p.lasts h.0 h.1)
 
-      of_right : (m : ℕ) → MarkOf (ends_of Q) m → Within C m
+      of_right : (m : ℕ) → MarkOf (sides_of Q) m → Within C m
       of_right m (inl h) = q.nulls m h
       of_right m (inr (inl h)) = subst (Within C) h.2 (q.firsts h.0 h.1)
       of_right m (inr (inr h)) = subst (Within C) h.2 (q.lasts h.0 h.1)
@@ -239,7 +239,7 @@ module _ (B : Bits) (none : (i : ℕ) → B i → ⊥) where
   fine_repeated zero (Some most) F f = fine_at_most (most - zero) F f
   fine_repeated (suc n) (Some most) F f = fine_copies (suc n) F (at_most (most - suc n) F) f (fine_at_most (most - suc n) F f)
 
-  pub fine_unmarked : (P : Places) → IsFine B P → IsUnmarked (ends_of P)
+  pub fine_unmarked : (P : Places) → IsFine B P → IsUnmarked (sides_of P)
   fine_unmarked P p m (inl h) = no_bits m (λ i b. none i (p.nulls m h i b))
   fine_unmarked P p m (inr (inl h)) = sym h.2 ∙ no_bits h.0.marks (λ i b. none i (p.firsts h.0 h.1 i b))
   fine_unmarked P p m (inr (inr h)) = sym h.2 ∙ no_bits h.0.marks (λ i b. none i (p.lasts h.0 h.1 i b))

@@ -15,7 +15,7 @@ use Rattle.marked_automaton.specs.Automaton.{Automaton, IsWayOf, all_bytes, idle
 use Rattle.marked_automaton.specs.Reduct.{IsReachedIn, IsReached, IsReduct, Rearranges, same_below}
 use Rattle.place_automaton.specs.Atom.{way_from_first, way_after, stop_before, unless, place_stops, after_ways, automaton_of_places}
 use Rattle.place_automaton.specs.Drafts.{AreNamed, places_of}
-use Rattle.place_automaton.specs.Ends.{Ends, ends_of}
+use Rattle.place_automaton.specs.Sides.{Sides, sides_of}
 use Rattle.place_automaton.specs.Made.{end_stops, outer_ways}
 use Rattle.place_automaton.specs.Places.{Places}
 use Rattle.spanner_model.specs.Sequential.{IsSequential}
@@ -27,11 +27,11 @@ use Rattle.place_automaton.proofs.MarkBits.{below_power, bit_below}
 use Rattle.place_automaton.proofs.WholeLaws.{whole_law}
 
 -- the ways that came are those of the automaton
-pub made_ways : (s t : Bool) (P : Places) (after : ℕ) (E : Ends) (none own all : List Way) → none ≡ [] → own ≡ none ++ P.follow → after ≡ 1 + P.count → E ≡ ends_of P →
+pub made_ways : (s t : Bool) (P : Places) (after : ℕ) (E : Sides) (none own all : List Way) → none ≡ [] → own ≡ none ++ P.follow → after ≡ 1 + P.count → E ≡ sides_of P →
     all ≡ own ++ outer_ways s t after E → all ≡ (automaton_of_places s t P).ways
 made_ways s t P after E none own all a b c d e =
     e ∙ (ap (λ (ws : List Way). ws ++ outer_ways s t after E) (b ∙ ap (λ (ws : List Way). ws ++ P.follow) a)
-    ∙ (ap (λ (n : ℕ). P.follow ++ outer_ways s t n E) (c ∙ (let f : 1 + P.count ≡ suc P.count = omega arith in f)) ∙ ap (λ (E : Ends). P.follow ++ outer_ways s t (suc P.count) E) d))
+    ∙ (ap (λ (n : ℕ). P.follow ++ outer_ways s t n E) (c ∙ (let f : 1 + P.count ≡ suc P.count = omega arith in f)) ∙ ap (λ (E : Sides). P.follow ++ outer_ways s t (suc P.count) E) d))
 
 all_some : SomeByte all_bytes
 all_some e = false≢true (sym (ap (λ (b : set.FinSet nat_cmp). set.contains b 0) e ∙ contains-empty nat_cmp 0) ∙ all_contain 0 (omega arith))
@@ -69,9 +69,9 @@ module _ (names : List VarName) (s t : Bool) (f : Tree) where
       (Has-append_right (unless s (idle_way 0 ∷ [])) outs (idle_way (suc P.count)) (unless_has t (after_ways (suc P.count) P) (idle_way (suc P.count)) e (inl refl)))))
 
   -- an end of a place, or of Before, is one of the automaton
-  pub stop_there : (E : Ends) (x : Stop) → E ≡ ends_of P → Has (end_stops E) x → Has A.stops x
+  pub stop_there : (E : Sides) (x : Stop) → E ≡ sides_of P → Has (end_stops E) x → Has A.stops x
   stop_there E x is h =
-      Has-append_left (place_stops P) (unless t (record { state = suc P.count; marks = 0 } ∷ [])) x (subst (λ (E : Ends). Has (end_stops E) x) is h)
+      Has-append_left (place_stops P) (unless t (record { state = suc P.count; marks = 0 } ∷ [])) x (subst (λ (E : Sides). Has (end_stops E) x) is h)
 
   module _ (ok : IsSequential f) (ord : HasOrderedRepeats f) (cl : HasClasses f) (vars : AreNamed names f) where
     fine : IsFine (VarBits names f) P

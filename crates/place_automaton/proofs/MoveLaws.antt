@@ -8,7 +8,7 @@ use Rattle.spanner_model.specs.Tree.{Tree, empty, one, cat_end, cat, alt_end, al
 use Rattle.marked_automaton.specs.declared.way.Way.{Way}
 use Rattle.marked_automaton.specs.declared.way.Stop.{Stop}
 use Rattle.place_automaton.specs.declared.piece.Entry.{Entry}
-use Rattle.place_automaton.specs.Ends.{Ends, ends_of}
+use Rattle.place_automaton.specs.Sides.{Sides, sides_of}
 use Rattle.place_automaton.specs.Moves.{entry_moved, stop_moved, way_moved, places_moved, LieBelow}
 use Rattle.place_automaton.specs.Places.{Places, Placed, way_into, ways_between, entry_with, stop_with, cat_places, alt_places, opt_places, plus_places, cap_places, cat_placed, alt_placed, opt_placed, plus_placed, copies_then, at_most, repeated, placed}
 use Rattle.place_automaton.proofs.Ranges.{LiesFrom}
@@ -156,11 +156,11 @@ once_more F moves k n le = sym (moves (n - k) k) ∙ ap F (let e : k + (n - k) �
 
 -- the first of some copies
 module _ (F : Placed) (k : ℕ) where
-  pub some_copy : (i : ℕ) (xs : List Ends) → 1 ≤ i → xs ≡ map ends_of (copies F i k) → 0 < length xs
+  pub some_copy : (i : ℕ) (xs : List Sides) → 1 ≤ i → xs ≡ map sides_of (copies F i k) → 0 < length xs
   some_copy zero xs l e = absurd (omega (arith, l))
   some_copy (suc i) xs l e = omega (arith, ap length e)
 
-  pub first_copy : (i : ℕ) (xs : List Ends) (x : Ends) → 1 ≤ i → xs ≡ map ends_of (copies F i k) → x ≡ get_or xs 0 x → x ≡ ends_of (F k)
+  pub first_copy : (i : ℕ) (xs : List Sides) (x : Sides) → 1 ≤ i → xs ≡ map sides_of (copies F i k) → x ≡ get_or xs 0 x → x ≡ sides_of (F k)
   first_copy zero xs x l e at = absurd (omega (arith, l))
   first_copy (suc i) xs x l e at = at ∙ ap (λ ys. get_or ys 0 x) e
 
@@ -191,13 +191,13 @@ module _ (F : Placed) (k : ℕ) where
         ∙ take-append_seam (F k).follow a.0)))
 
   -- its places
-  pub first_below : (n : ℕ) (x : Ends) (ws : List Way) → LiesFrom k (F k) → n ≡ k + (F k).count → x ≡ ends_of (F k) → ws ≡ (F k).follow → LieBelow n x ws
+  pub first_below : (n : ℕ) (x : Sides) (ws : List Way) → LiesFrom k (F k) → n ≡ k + (F k).count → x ≡ sides_of (F k) → ws ≡ (F k).follow → LieBelow n x ws
   first_below n x ws lies at is are =
-      let here : LieBelow (k + (F k).count) (ends_of (F k)) (F k).follow = record {
+      let here : LieBelow (k + (F k).count) (sides_of (F k)) (F k).follow = record {
         firsts = λ e h. (lies.firsts e h).1;
         lasts = λ s h. (lies.lasts s h).1;
         froms = λ y h. (lies.froms y h).1;
         tos = λ y h. (lies.tos y h).1;
       } in
-      subst (λ (m : ℕ). LieBelow m x ws) (sym at) (subst (λ (E : Ends). LieBelow (k + (F k).count) E ws) (sym is)
-      (subst (λ (us : List Way). LieBelow (k + (F k).count) (ends_of (F k)) us) (sym are) here))
+      subst (λ (m : ℕ). LieBelow m x ws) (sym at) (subst (λ (E : Sides). LieBelow (k + (F k).count) E ws) (sym is)
+      (subst (λ (us : List Way). LieBelow (k + (F k).count) (sides_of (F k)) us) (sym are) here))

@@ -7,7 +7,7 @@ use Rattle.span_core.specs.Lists.{Has}
 use Rattle.spanner_model.specs.Tree.{Tree, cat, cap}
 use Rattle.place_automaton.specs.Counts.{counts_over}
 use Rattle.place_automaton.specs.Drafts.{AreNamed}
-use Rattle.place_automaton.specs.Ends.{JoinAsSum}
+use Rattle.place_automaton.specs.Sides.{JoinAsSum}
 use Rattle.place_automaton.specs.Places.{add_once, sums}
 use Rattle.spanner_model.specs.Sequential.{HasNoVar, IsSequential}
 use Rattle.place_automaton.specs.Repeats.{HasOrderedRepeats}

@@ -6,7 +6,7 @@ use Rattle.std.proofs.lemmas.List.{map-append}
 use Rattle.span_core.specs.Lists.{AreDistinct, Has}
 use Rattle.place_automaton.specs.declared.placing.Draft.{Draft}
 use Rattle.place_automaton.specs.Drafts.{HasPlaced, copies_of}
-use Rattle.place_automaton.specs.Ends.{Ends, ends_of, opt_ends, again_ends, row_ends, row_ways}
+use Rattle.place_automaton.specs.Sides.{Sides, sides_of, opt_sides, again_sides, row_sides, row_ways}
 use Rattle.place_automaton.specs.Places.{Places, Placed, ways_between, cat_places, opt_places, plus_places, nothing_placed, plus_placed, copies_then, at_most, repeated}
 use Rattle.place_automaton.proofs.DraftRows.{IsRow}
 use Rattle.place_automaton.proofs.JoinLists.{append_nil}
@@ -120,10 +120,10 @@ module _ (F : Placed) (k : ℕ) (a : Bool) (is : F k ≡ flat a) where
   flat_repeated (suc n) (Some most) =
       flat_copies (suc n) (at_most (most - suc n) F) true (flat_at_most (most - suc n)) ∙ (ap flat (if_some n) ∙ ap flat (sym (not_none n)))
 
-ends_flat : (c a : Bool) → (if c then opt_ends (ends_of (flat a)) else ends_of (flat a)) ≡ ends_of (flat (if c then true else a))
-ends_flat true true = refl
-ends_flat true false = refl
-ends_flat false a = refl
+sides_flat : (c a : Bool) → (if c then opt_sides (sides_of (flat a)) else sides_of (flat a)) ≡ sides_of (flat (if c then true else a))
+sides_flat true true = refl
+sides_flat true false = refl
+sides_flat false a = refl
 
 flat_count : (a : Bool) → (flat a).count ≡ 0
 flat_count true = refl
@@ -134,15 +134,15 @@ flat_follow true = refl
 flat_follow false = refl
 
 -- copies without places add nothing
-pub flat_done : (F : Placed) (k least : ℕ) (most : Option ℕ) (a b : Draft) (e r : Ends) → LiesFrom k (F k) → AreDistinct (F k).null →
-    ((m : ℕ) → Has (F k).null m → 0 ≡ m) → HasPlaced (F k) a b e → b.next ≡ a.next → r ≡ (if least == 0 then opt_ends e else e) →
+pub flat_done : (F : Placed) (k least : ℕ) (most : Option ℕ) (a b : Draft) (e r : Sides) → LiesFrom k (F k) → AreDistinct (F k).null →
+    ((m : ℕ) → Has (F k).null m → 0 ≡ m) → HasPlaced (F k) a b e → b.next ≡ a.next → r ≡ (if least == 0 then opt_sides e else e) →
     HasPlaced (repeated least most F k) a b r
 flat_done F k least most a b e r lies small zeros h same is =
     let none : (F k).count ≡ 0 = omega (arith, h.next, same) in
     let f = flat_is k (F k) lies none small zeros in
     let fits = may_be F k f.0 f.1 least in
     subst (λ (W : Places). HasPlaced W a b r) (sym (flat_repeated F k f.0 f.1 least most)) (record {
-      ends = is ∙ (ap (λ (E : Ends). if least == 0 then opt_ends E else E) (h.ends ∙ ap ends_of f.1) ∙ ends_flat (least == 0) f.0);
+      sides = is ∙ (ap (λ (E : Sides). if least == 0 then opt_sides E else E) (h.sides ∙ ap sides_of f.1) ∙ sides_flat (least == 0) f.0);
       next = omega (arith, same, flat_count fits);
       ways = h.ways ∙ (ap (λ ws. a.ways.items ++ ws) (ap (λ (P : Places). P.follow) f.1 ∙ flat_follow f.0) ∙ ap (λ ws. a.ways.items ++ ws) (sym (flat_follow fits)));
     })
@@ -154,14 +154,14 @@ none_placed F k (suc n) None e le = absurd (omega (arith, e))
 none_placed F k zero (Some m) e le = ap (λ n. at_most n F k) (let f : m - 0 ≡ 0 = omega (arith, e) in f)
 none_placed F k (suc n) (Some m) e le = absurd (omega (arith, e, le m refl))
 
-pub nothing_done : (W : Places) (d : Draft) (e : Ends) → W ≡ nothing_placed 0 → e ≡ ends_of (nothing_placed 0) → HasPlaced W d d e
+pub nothing_done : (W : Places) (d : Draft) (e : Sides) → W ≡ nothing_placed 0 → e ≡ sides_of (nothing_placed 0) → HasPlaced W d d e
 nothing_done W d e is h =
-    subst (λ (V : Places). HasPlaced V d d e) (sym is) (record { ends = h; next = omega arith; ways = sym (append_nil d.ways.items) })
+    subst (λ (V : Places). HasPlaced V d d e) (sym is) (record { sides = h; next = omega arith; ways = sym (append_nil d.ways.items) })
 
 -- a part that may be left out, or may not
-pub once_done : (b : Bool) (P : Places) (a c : Draft) (e p : Ends) → HasPlaced P a c e → p ≡ (if b then opt_ends e else e) → HasPlaced (if b then opt_places P else P) a c p
-once_done true P a c e p h is = record { ends = is ∙ ap opt_ends h.ends; next = h.next; ways = h.ways }
-once_done false P a c e p h is = record { ends = is ∙ h.ends; next = h.next; ways = h.ways }
+pub once_done : (b : Bool) (P : Places) (a c : Draft) (e p : Sides) → HasPlaced P a c e → p ≡ (if b then opt_sides e else e) → HasPlaced (if b then opt_places P else P) a c p
+once_done true P a c e p h is = record { sides = is ∙ ap opt_sides h.sides; next = h.next; ways = h.ways }
+once_done false P a c e p h is = record { sides = is ∙ h.sides; next = h.next; ways = h.ways }
 
 pub bounded_places : (F : Placed) (n most k : ℕ) → n ≤ most → repeated n (Some most) F k ≡ row_places n (copies F most k) (nothing_placed 0)
 bounded_places F n most k le = is n ∙ bounded_row F n (most - n) most k (omega (arith, le))
@@ -175,7 +175,7 @@ abbrev pub again_places : ℕ → Places → Places
 again_places least P = if least == 0 then opt_places (plus_places P) else plus_places P
 
 again_is : (b : Bool) (P : Places) →
-    (ends_of (if b then opt_places (plus_places P) else plus_places P) ≡ (if b then opt_ends (ends_of P) else ends_of P))
+    (sides_of (if b then opt_places (plus_places P) else plus_places P) ≡ (if b then opt_sides (sides_of P) else sides_of P))
     × ((if b then opt_places (plus_places P) else plus_places P).count ≡ P.count)
     × ((if b then opt_places (plus_places P) else plus_places P).follow ≡ P.follow ++ ways_between P.last P.first)
 again_is true P = (refl, refl, refl)
@@ -192,10 +192,10 @@ unbounded_places F (suc m) n k e =
     ∙ (unbounded_row F n (suc m) (plus_placed F) k (omega (arith, e))
     ∙ ap (λ (b : Bool). row_places (suc m) (copies F n k) (if b then opt_places (plus_places P) else plus_places P)) (sym (ne_eqb (suc m) 0 (λ g. omega (arith, g)))))
 
-pub again_done : (F : Placed) (least k j : ℕ) (a b c : Draft) (xs : List Ends) (p : Ends) → j ≡ max least 1 → IsRow (copies F j k) a b xs → c.next ≡ b.next →
-    ((front : List Ends) (last : Ends) → xs ≡ front ++ last ∷ [] → p ≡ row_ends least front (again_ends least last)) →
-    ((front : List Ends) (last : Ends) → xs ≡ front ++ last ∷ [] →
-    c.ways.items ≡ (b.ways.items ++ ways_between last.last last.first) ++ row_ways least front (again_ends least last)) →
+pub again_done : (F : Placed) (least k j : ℕ) (a b c : Draft) (xs : List Sides) (p : Sides) → j ≡ max least 1 → IsRow (copies F j k) a b xs → c.next ≡ b.next →
+    ((front : List Sides) (last : Sides) → xs ≡ front ++ last ∷ [] → p ≡ row_sides least front (again_sides least last)) →
+    ((front : List Sides) (last : Sides) → xs ≡ front ++ last ∷ [] →
+    c.ways.items ≡ (b.ways.items ++ ways_between last.last last.first) ++ row_ways least front (again_sides least last)) →
     HasPlaced (repeated least None F k) a c p
 again_done F least k j a b c xs p many row next ends ways =
     let n = j - 1 in
@@ -205,20 +205,20 @@ again_done F least k j a b c xs p many row next ends ways =
     let all : copies F j k ≡ Ps ++ P ∷ [] = ap (λ i. copies F i k) (sym more) ∙ copies_more F n k in
     let Q = again_places least P in
     let q = again_is (least == 0) P in
-    let front = map ends_of Ps in
-    let split : xs ≡ front ++ ends_of P ∷ [] = row.pieces ∙ (ap (map ends_of) all ∙ map-append ends_of Ps (P ∷ [])) in
+    let front = map sides_of Ps in
+    let split : xs ≡ front ++ sides_of P ∷ [] = row.pieces ∙ (ap (map sides_of) all ∙ map-append sides_of Ps (P ∷ [])) in
     let fs = follows Ps in
     let between = ways_between P.last P.first in
-    let rw = row_ways least front (again_ends least (ends_of P)) in
+    let rw = row_ways least front (again_sides least (sides_of P)) in
     let before : b.ways.items ≡ a.ways.items ++ (fs ++ P.follow) = row.ways ∙ ap (λ ws. a.ways.items ++ ws) (ap follows all ∙ follows_more Ps P) in
-    let ways' = ways front (ends_of P) split
+    let ways' = ways front (sides_of P) split
     ∙ (ap (λ ws. (ws ++ between) ++ rw) before
     ∙ (six a.ways.items fs P.follow between rw
     ∙ (ap (λ ws. a.ways.items ++ (fs ++ (ws ++ rw))) (sym q.2)
-    ∙ (ap (λ (E : Ends). a.ways.items ++ (fs ++ (Q.follow ++ row_ways least front E))) (sym q.0)
+    ∙ (ap (λ (E : Sides). a.ways.items ++ (fs ++ (Q.follow ++ row_ways least front E))) (sym q.0)
     ∙ ap (λ ws. a.ways.items ++ ws) (sym (row_follow least Ps Q)))))) in
     subst (λ (W : Places). HasPlaced W a c p) (sym (unbounded_places F least n k (sym many ∙ sym more))) (record {
-      ends = ends front (ends_of P) split ∙ (ap (λ (E : Ends). row_ends least front E) (sym q.0) ∙ sym (row_is least Ps Q));
+      sides = ends front (sides_of P) split ∙ (ap (λ (E : Sides). row_sides least front E) (sym q.0) ∙ sym (row_is least Ps Q));
       next = omega (arith, next, row.next, ap total all, total_more Ps P, row_count least Ps Q, q.1);
       ways = ways';
     })

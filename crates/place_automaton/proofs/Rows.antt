@@ -4,7 +4,7 @@ use Rattle.std.specs.Prelude.{replicate}
 use Rattle.spanner_model.specs.Captures.{VarName}
 use Rattle.spanner_model.specs.Tree.{Tree, cat_all}
 use Rattle.marked_automaton.specs.declared.way.Way.{Way}
-use Rattle.place_automaton.specs.Ends.{Ends, ends_of, cat_ends, opt_ends, row_ends, row_ways}
+use Rattle.place_automaton.specs.Sides.{Sides, sides_of, cat_sides, opt_sides, row_sides, row_ways}
 use Rattle.place_automaton.specs.Places.{Places, Placed, ways_between, nothing_placed, cat_places, opt_places, copies_then, at_most, placed}
 use Rattle.place_automaton.proofs.JoinLists.{append_nil}
 
@@ -28,10 +28,10 @@ row_places r [] Q = Q
 row_places zero (P ∷ Ps) Q = opt_places (cat_places P (row_places zero Ps Q))
 row_places (suc r) (P ∷ Ps) Q = cat_places P (row_places r Ps Q)
 
-pub row_is : (r : ℕ) (Ps : List Places) (Q : Places) → ends_of (row_places r Ps Q) ≡ row_ends r (map ends_of Ps) (ends_of Q)
+pub row_is : (r : ℕ) (Ps : List Places) (Q : Places) → sides_of (row_places r Ps Q) ≡ row_sides r (map sides_of Ps) (sides_of Q)
 row_is r [] Q = refl
-row_is zero (P ∷ Ps) Q = ap (λ (E : Ends). opt_ends (cat_ends (ends_of P) E)) (row_is zero Ps Q)
-row_is (suc r) (P ∷ Ps) Q = ap (λ (E : Ends). cat_ends (ends_of P) E) (row_is r Ps Q)
+row_is zero (P ∷ Ps) Q = ap (λ (E : Sides). opt_sides (cat_sides (sides_of P) E)) (row_is zero Ps Q)
+row_is (suc r) (P ∷ Ps) Q = ap (λ (E : Sides). cat_sides (sides_of P) E) (row_is r Ps Q)
 
 pub row_count : (r : ℕ) (Ps : List Places) (Q : Places) → (row_places r Ps Q).count ≡ total Ps + Q.count
 row_count r [] Q = omega arith
@@ -42,18 +42,18 @@ five : {X : Type 0} (a b c d e : List X) → a ++ ((b ++ (c ++ d)) ++ e) ≡ (a 
 five a b c d e =
     ap (λ x. a ++ x) (append_assoc b (c ++ d) e ∙ ap (λ x. b ++ x) (append_assoc c d e)) ∙ sym (append_assoc a b (c ++ (d ++ e)))
 
-follow_step : (P : Places) (r : ℕ) (Ps : List Places) (Q R : Places) → ends_of R ≡ row_ends r (map ends_of Ps) (ends_of Q) →
-    R.follow ≡ follows Ps ++ (Q.follow ++ row_ways r (map ends_of Ps) (ends_of Q)) →
+follow_step : (P : Places) (r : ℕ) (Ps : List Places) (Q R : Places) → sides_of R ≡ row_sides r (map sides_of Ps) (sides_of Q) →
+    R.follow ≡ follows Ps ++ (Q.follow ++ row_ways r (map sides_of Ps) (sides_of Q)) →
     (cat_places P R).follow
-    ≡ (P.follow ++ follows Ps) ++ (Q.follow ++ (row_ways r (map ends_of Ps) (ends_of Q) ++ ways_between P.last (row_ends r (map ends_of Ps) (ends_of Q)).first))
+    ≡ (P.follow ++ follows Ps) ++ (Q.follow ++ (row_ways r (map sides_of Ps) (sides_of Q) ++ ways_between P.last (row_sides r (map sides_of Ps) (sides_of Q)).first))
 follow_step P r Ps Q R ends follow =
-    let rw = row_ways r (map ends_of Ps) (ends_of Q) in
+    let rw = row_ways r (map sides_of Ps) (sides_of Q) in
     ap (λ F. P.follow ++ (F ++ ways_between P.last R.first)) follow
-    ∙ (ap (λ (E : Ends). P.follow ++ ((follows Ps ++ (Q.follow ++ rw)) ++ ways_between P.last E.first)) ends
-    ∙ five P.follow (follows Ps) Q.follow rw (ways_between P.last (row_ends r (map ends_of Ps) (ends_of Q)).first))
+    ∙ (ap (λ (E : Sides). P.follow ++ ((follows Ps ++ (Q.follow ++ rw)) ++ ways_between P.last E.first)) ends
+    ∙ five P.follow (follows Ps) Q.follow rw (ways_between P.last (row_sides r (map sides_of Ps) (sides_of Q)).first))
 
 pub row_follow : (r : ℕ) (Ps : List Places) (Q : Places) →
-    (row_places r Ps Q).follow ≡ follows Ps ++ (Q.follow ++ row_ways r (map ends_of Ps) (ends_of Q))
+    (row_places r Ps Q).follow ≡ follows Ps ++ (Q.follow ++ row_ways r (map sides_of Ps) (sides_of Q))
 row_follow r [] Q = sym (append_nil Q.follow)
 row_follow zero (P ∷ Ps) Q = follow_step P zero Ps Q (row_places zero Ps Q) (row_is zero Ps Q) (row_follow zero Ps Q)
 row_follow (suc r) (P ∷ Ps) Q = follow_step P r Ps Q (row_places r Ps Q) (row_is r Ps Q) (row_follow r Ps Q)

@@ -5,7 +5,7 @@ use Rattle.spanner_model.specs.Sequential.{HasVar}
 use Rattle.span_core.specs.Lists.{Has}
 use Rattle.spanner_model.specs.Tree.{Tree}
 use Rattle.place_automaton.specs.declared.placing.Draft.{Draft}
-use Rattle.place_automaton.specs.Ends.{Ends, ends_of}
+use Rattle.place_automaton.specs.Sides.{Sides, sides_of}
 use Rattle.place_automaton.specs.Places.{Places, placed}
 use Rattle.place_automaton.specs.Words.{opening_of, closing_of}
 
@@ -18,8 +18,8 @@ abbrev pub AreNamed : List VarName → Tree → Type 0
 AreNamed names f = (x : VarName) → HasVar f x → Has names x
 
 -- these places, and the ways between them, have come to the draft
-pub record HasPlaced (P : Places) (old new : Draft) (E : Ends) : Type 0 where
-  pub ends : E ≡ ends_of P
+pub record HasPlaced (P : Places) (old new : Draft) (E : Sides) : Type 0 where
+  pub sides : E ≡ sides_of P
   pub next : new.next ≡ old.next + P.count
   pub ways : new.ways.items ≡ old.ways.items ++ P.follow
 

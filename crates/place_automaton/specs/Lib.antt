@@ -14,6 +14,6 @@ pub mod Words
 -- what the functions inside promise each other
 pub mod Codes
 pub mod Drafts
-pub mod Ends
+pub mod Sides
 pub mod Made
 pub mod Moves

@@ -12,15 +12,15 @@ use Rattle.marked_automaton.specs.Reduct.{Rearranges}
 use Rattle.place_automaton.specs.Atom.{stop_before, unless, way_after, way_from_first}
 use Rattle.place_automaton.specs.Counts.{counts_over, ways_of}
 use Rattle.place_automaton.specs.Variables.{with_vars}
-use Rattle.place_automaton.specs.Ends.{Ends}
+use Rattle.place_automaton.specs.Sides.{Sides}
 use Rattle.place_automaton.specs.Words.{atom_automaton}
 
 -- the ends of the last places, and of Before
-abbrev pub end_stops : Ends → List Stop
+abbrev pub end_stops : Sides → List Stop
 end_stops P = P.last ++ map stop_before P.null
 
 -- the ways that are not between places, where After has this number
-abbrev pub outer_ways : Bool → Bool → ℕ → Ends → List Way
+abbrev pub outer_ways : Bool → Bool → ℕ → Sides → List Way
 outer_ways from_start to_end after P =
     map way_from_first P.first ++ (unless from_start (idle_way 0 ∷ []) ++ unless to_end (idle_way after ∷ map (way_after after) (end_stops P)))
 
@@ -28,7 +28,7 @@ abbrev pub after_stop : ℕ → Stop
 after_stop after = record { state = after; marks = 0 }
 
 -- all ends
-abbrev pub all_stops : Bool → ℕ → Ends → List Stop
+abbrev pub all_stops : Bool → ℕ → Sides → List Stop
 all_stops to_end after P = end_stops P ++ unless to_end (after_stop after ∷ [])
 
 abbrev pub idle_states : Bool → Bool → ℕ → List ℕ
@@ -39,7 +39,7 @@ abbrev pub with_stops : List Stop → Automaton → Automaton
 with_stops xs A = record { states = A.states; starts = A.starts; ways = A.ways; stops = A.stops ++ xs; idle = A.idle }
 
 -- the start, the ends and the idle states have come
-pub record IsFinished (from_start to_end : Bool) (after : ℕ) (P : Ends) (old new : Automaton) : Type 0 where
+pub record IsFinished (from_start to_end : Bool) (after : ℕ) (P : Sides) (old new : Automaton) : Type 0 where
   pub states : new.states ≡ old.states
   pub starts : new.starts ≡ old.starts ++ 0 ∷ []
   pub ways : new.ways ≡ old.ways

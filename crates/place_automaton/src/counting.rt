@@ -15,7 +15,7 @@ ghost use Rattle.place_automaton.specs.declared.counting.CountFault.TheVariants.
 ghost use Rattle.place_automaton.specs.Capped.{AreCapped, capped};
 ghost use Rattle.place_automaton.specs.Counts.{PlaceCounts, counts_cap, counts_over, count_states, count_ways, has_large_null, largest_null_over};
 ghost use Rattle.place_automaton.specs.Drafts.{AreNamed};
-ghost use Rattle.place_automaton.specs.Ends.{JoinAsSum};
+ghost use Rattle.place_automaton.specs.Sides.{JoinAsSum};
 ghost use Rattle.place_automaton.specs.Variables.{with_vars};
 ghost use Rattle.place_automaton.specs.Words.{opening_of, closing_of};
 

@@ -2,7 +2,7 @@
 ghost use Rattle.std.specs.Prelude.{◌≡◌, ℕ, ◌+◌, ◌++◌, ◌∷◌, [], map, nat_eq, IfOk, IsTrue, OnOk};
 ghost use Rattle.std.specs.List.{list_any};
 ghost use Rattle.span_core.specs.Lists.{Has};
-ghost use Rattle.place_automaton.specs.Ends.{JoinAsSum};
+ghost use Rattle.place_automaton.specs.Sides.{JoinAsSum};
 ghost use Rattle.place_automaton.specs.Places.{add_once, either_once, sums};
 
 use span_core::{Marks, OutOfMemory};

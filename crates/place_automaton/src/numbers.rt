@@ -7,7 +7,7 @@ ghost use Rattle.place_automaton.specs.declared.TheConstants.{MOST_SETS};
 ghost use Rattle.span_core.specs.Lists.{Has};
 ghost use Rattle.place_automaton.specs.Capped.{AreCapped, capped};
 ghost use Rattle.place_automaton.specs.Counts.{PlaceCounts, counts_nothing, counts_never, counts_one, counts_cat, counts_alt, counts_opt, counts_plus, counts_cap, counts_copies, counts_at_most, counts_repeated, ways_of};
-ghost use Rattle.place_automaton.specs.Ends.{JoinAsSum};
+ghost use Rattle.place_automaton.specs.Sides.{JoinAsSum};
 ghost use Rattle.place_automaton.specs.Places.{add_once, sums};
 
 use crate::MOST_SETS;

@@ -4,14 +4,14 @@
 //! piece that fits the empty string, once for each set of markers of such a fit, and takes these with it.
 ghost use Rattle.std.specs.Prelude.{◌≡◌, ℕ, ◌+◌, List, [], ◌∷◌, ◌++◌, ◌<◌, ◌≤◌, length, map, IfOk, OnOk, IsTrue, if◌then◌else◌};
 ghost use Rattle.span_core.specs.Lists.{Has};
-ghost use Rattle.place_automaton.specs.Ends.{CanCapture, nothing_ends, never_ends, one_ends, cat_ends, alt_ends, opt_ends, cap_ends, JoinAsSums, IsUnmarked, Ends, RowJoins, again_ends, row_ends, row_ways};
+ghost use Rattle.place_automaton.specs.Sides.{CanCapture, nothing_sides, never_sides, one_sides, cat_sides, alt_sides, opt_sides, cap_sides, JoinAsSums, IsUnmarked, Sides, RowJoins, again_sides, row_sides, row_ways};
 ghost use Rattle.marked_automaton.specs.declared.way.Stop.{Stop};
 ghost use Rattle.marked_automaton.specs.Automaton.{IsBlockOf};
 ghost use Rattle.place_automaton.specs.Atom.{way_after, way_from_first};
 ghost use Rattle.marked_automaton.specs.declared.TheConstants.{MOST_STATES};
 ghost use Rattle.place_automaton.specs.declared.piece.Entry.{Entry};
 ghost use Rattle.place_automaton.specs.Made.{end_stops, with_stops};
-ghost use Rattle.place_automaton.specs.Moves.{ends_moved};
+ghost use Rattle.place_automaton.specs.Moves.{sides_moved};
 ghost use Rattle.place_automaton.specs.Places.{ways_between};
 
 use crate::joins::{all_entries, all_stops, mark_entries, mark_stops, push_ways};
@@ -36,7 +36,7 @@ pub struct Entry {
     pub to: u32,
 }
 
-/// The two ends of a part of a formula, whose places are numbered: the sets of markers with which it fits
+/// The two sides of a part of a formula, whose places are numbered: the sets of markers with which it fits
 /// the empty string, the ways into the places that it begins with, and the places that it ends with.
 #[derive(Drop)]
 pub(crate) struct Piece {
@@ -46,13 +46,13 @@ pub(crate) struct Piece {
 }
 
 impl Model for Piece {
-    ghost use Rattle.place_automaton.specs.Ends.{Ends};
+    ghost use Rattle.place_automaton.specs.Sides.{Sides};
 
-    ghost Value = { Ends };
+    ghost Value = { Sides };
 
-    ghost use Rattle.place_automaton.specs.Codes.{ends_code};
+    ghost use Rattle.place_automaton.specs.Codes.{sides_code};
 
-    ghost coded = { ends_code };
+    ghost coded = { sides_code };
 
     ghost view = { λ p. record { null = p.null.items; first = p.first.items; last = p.last.items } };
 }
@@ -60,7 +60,7 @@ impl Model for Piece {
 impl Piece {
     /// The empty formula.
     pub(crate) fn nothing(alloc: Global) -> Result<Piece, OutOfMemory>
-        ensures { IfOk result (λ p. p ≡ nothing_ends) }
+        ensures { IfOk result (λ p. p ≡ nothing_sides) }
     {
         Ok(Piece {
             null: only_none(alloc)?,
@@ -71,7 +71,7 @@ impl Piece {
 
     /// An alternation of no arms.
     pub(crate) fn never(alloc: Global) -> Piece
-        ensures { result ≡ never_ends }
+        ensures { result ≡ never_sides }
     {
         Piece {
             null: Vec::new(alloc),
@@ -82,7 +82,7 @@ impl Piece {
 
     /// One of these bytes, at the place of this number.
     pub(crate) fn one(alloc: Global, bytes: &ByteSet, place: u32) -> Result<Piece, OutOfMemory>
-        ensures { IfOk result (λ p. p ≡ one_ends bytes.now place) }
+        ensures { IfOk result (λ p. p ≡ one_sides bytes.now place) }
     {
         let mut first = Vec::new(alloc);
         first.push(Entry {
@@ -110,7 +110,7 @@ impl Piece {
         ways: &mut Vec<Way>,
     ) -> Result<Piece, OutOfMemory>
         requires { JoinAsSums self rest }
-        ensures ends { IfOk result (λ p. p ≡ cat_ends self rest) }
+        ensures sides { IfOk result (λ p. p ≡ cat_sides self rest) }
         ensures ways { OnOk result (ways.new.items ≡ ways.old.items ++ ways_between self.last rest.first) }
     {
         push_ways(&self.last, &rest.first, ways)?;
@@ -129,7 +129,7 @@ impl Piece {
         ways: &mut Vec<Way>,
     ) -> Result<Piece, OutOfMemory>
         requires { JoinAsSums self rest }
-        ensures ends { IfOk result (λ p. p ≡ (if optional then opt_ends (cat_ends self rest) else cat_ends self rest)) }
+        ensures sides { IfOk result (λ p. p ≡ (if optional then opt_sides (cat_sides self rest) else cat_sides self rest)) }
         ensures ways { OnOk result (ways.new.items ≡ ways.old.items ++ ways_between self.last rest.first) }
     {
         let both = self.cat(alloc, rest, ways)?;
@@ -138,7 +138,7 @@ impl Piece {
 
     /// This or the other. So many pairs of sets may still be compared.
     pub(crate) fn alt(self, other: Piece, left: &mut u64) -> Result<Piece, OutOfMemory>
-        ensures { IfOk result (λ p. p ≡ alt_ends self other) }
+        ensures { IfOk result (λ p. p ≡ alt_sides self other) }
     {
         let sets = self.null.len();
         spend(sets, sets.saturating_add(other.null.len()), left)?;
@@ -154,7 +154,7 @@ impl Piece {
 
     /// This or nothing.
     pub(crate) fn opt(self) -> Result<Piece, OutOfMemory>
-        ensures { IfOk result (λ p. p ≡ opt_ends self) }
+        ensures { IfOk result (λ p. p ≡ opt_sides self) }
     {
         let mut null = self.null;
         add_unless_there(Marks::none(), &mut null)?;
@@ -167,7 +167,7 @@ impl Piece {
 
     /// This, or nothing if that may be.
     pub(crate) fn opt_if(self, optional: bool) -> Result<Piece, OutOfMemory>
-        ensures { IfOk result (λ p. p ≡ (if optional then opt_ends self else self)) }
+        ensures { IfOk result (λ p. p ≡ (if optional then opt_sides self else self)) }
     {
         if optional { self.opt() } else { Ok(self) }
     }
@@ -222,7 +222,7 @@ impl Piece {
     pub(crate) fn moved(&self, alloc: Global, by: u32) -> Result<Piece, OutOfMemory>
         requires firsts { (e : Entry) → Has self.now.first e → e.to + by ≤ MOST_STATES }
         requires lasts { (s : Stop) → Has self.now.last s → s.state + by ≤ MOST_STATES }
-        ensures { IfOk result (λ p. p ≡ ends_moved by self.now) }
+        ensures { IfOk result (λ p. p ≡ sides_moved by self.now) }
     {
         let first = moved_entries(alloc, &self.first, by)?;
         let last = moved_stops(alloc, &self.last, by)?;
@@ -233,7 +233,7 @@ impl Piece {
     /// This in a capture, whose markers are these.
     pub(crate) fn captured(self, opening: Marks, closing: Marks) -> Piece
         requires { CanCapture opening closing self }
-        ensures { result ≡ cap_ends opening closing self }
+        ensures { result ≡ cap_sides opening closing self }
     {
         let mut null = self.null;
         mark_each(opening.with(closing), &mut null);
@@ -255,7 +255,7 @@ pub(crate) fn join_row(
     ways: &mut Vec<Way>,
 ) -> Result<Piece, OutOfMemory>
     requires { RowJoins required pieces.items rest }
-    ensures ends { IfOk result (λ p. p ≡ row_ends required pieces.items rest) }
+    ensures sides { IfOk result (λ p. p ≡ row_sides required pieces.items rest) }
     ensures ways { OnOk result (ways.new.items ≡ ways.old.items ++ row_ways required pieces.items rest) }
 {
     let mut row = rest;
@@ -274,10 +274,10 @@ pub(crate) fn join_again(
     required: usize,
     ways: &mut Vec<Way>,
 ) -> Result<Piece, OutOfMemory>
-    requires { (P : Ends) → Has pieces.items P → IsUnmarked P }
-    ensures ends { IfOk result (λ p. (front : List Ends) (last : Ends) → pieces.items ≡ front ++ last ∷ [] → p ≡ row_ends required front (again_ends required last)) }
-    ensures ways { OnOk result ((front : List Ends) (last : Ends) → pieces.items ≡ front ++ last ∷ []
-        → ways.new.items ≡ (ways.old.items ++ ways_between last.last last.first) ++ row_ways required front (again_ends required last)) }
+    requires { (P : Sides) → Has pieces.items P → IsUnmarked P }
+    ensures sides { IfOk result (λ p. (front : List Sides) (last : Sides) → pieces.items ≡ front ++ last ∷ [] → p ≡ row_sides required front (again_sides required last)) }
+    ensures ways { OnOk result ((front : List Sides) (last : Sides) → pieces.items ≡ front ++ last ∷ []
+        → ways.new.items ≡ (ways.old.items ++ ways_between last.last last.first) ++ row_ways required front (again_sides required last)) }
 {
     let Some(last) = pieces.pop() else {
         return Piece::nothing(alloc);

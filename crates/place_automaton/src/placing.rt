@@ -13,7 +13,7 @@ ghost use Rattle.spanner_model.specs.WellBuilt.{IsWellBuilt};
 ghost use Rattle.marked_automaton.specs.declared.TheConstants.{MOST_STATES};
 ghost use Rattle.place_automaton.specs.Counts.{counts_over};
 ghost use Rattle.place_automaton.specs.Drafts.{AreNamed, HasPlaced, copies_of, places_of};
-ghost use Rattle.place_automaton.specs.Ends.{CanCapture, cap_ends, ends_of};
+ghost use Rattle.place_automaton.specs.Sides.{CanCapture, cap_sides, sides_of};
 ghost use Rattle.place_automaton.specs.Moves.{LieBelow, places_moved};
 ghost use Rattle.place_automaton.specs.Places.{Places};
 ghost use Rattle.spanner_model.specs.Sequential.{HasNoVar, IsSequential};
@@ -80,7 +80,7 @@ impl Draft {
         requires order { added.now.from ≤ added.now.end }
         requires within { added.now.end ≤ length self.old.ways.items }
         requires below { LieBelow (added.now.first + added.now.places) piece.now (take (added.now.end - added.now.from) (drop added.now.from self.old.ways.items)) }
-        ensures { (P : Places) → piece.now ≡ ends_of P → added.now.places ≡ P.count
+        ensures { (P : Places) → piece.now ≡ sides_of P → added.now.places ≡ P.count
             → take (added.now.end - added.now.from) (drop added.now.from self.old.ways.items) ≡ P.follow
             → IfOk result (HasPlaced (places_moved (self.old.next - added.now.first) P) self.old self.new) }
     {
@@ -272,7 +272,7 @@ fn captured(vars: &VarSet, name: &Name, piece: Piece) -> Piece
     requires distinct { AreDistinct vars.now }
     requires named { Has vars.now name.now }
     requires marks { CanCapture (opening_of vars.now name.now) (closing_of vars.now name.now) piece }
-    ensures { result ≡ cap_ends (opening_of vars.now name.now) (closing_of vars.now name.now) piece }
+    ensures { result ≡ cap_sides (opening_of vars.now name.now) (closing_of vars.now name.now) piece }
 {
     match vars.find(name) {
         Some(k) => {

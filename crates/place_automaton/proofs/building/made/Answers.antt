@@ -13,7 +13,7 @@ use Rattle.marked_automaton.specs.Reduct.{Rearranges}
 use Rattle.place_automaton.specs.Counts.{counts_over, ways_of}
 use Rattle.place_automaton.specs.Variables.{with_vars}
 use Rattle.place_automaton.specs.Drafts.{places_of}
-use Rattle.place_automaton.specs.Ends.{Ends}
+use Rattle.place_automaton.specs.Sides.{Sides}
 use Rattle.place_automaton.specs.Made.{all_stops, idle_states}
 use Rattle.place_automaton.specs.Words.{opening_of, closing_of, atom_automaton}
 use Rattle.place_automaton.proofs.BuiltRepeats.{ordered_repeats}
@@ -46,7 +46,7 @@ with_ways-requires c = λ k d l.
     let P = places_of names f 1 in
     let ws = c.push_outer.new.ways.items in
     let all = made_ways atom.from_start atom.to_end P c.place.new.draft.next c.in_ok-piece.piece c.in_ok-with_capacity.field-0.items c.place.new.draft.ways.items ws
-    c.in_ok-with_capacity.ensures.items c.in_ok-piece.ensures.ways c.in_ok-piece.ensures.next c.in_ok-piece.ensures.ends c.in_ok-push_outer.ensures in
+    c.in_ok-with_capacity.ensures.items c.in_ok-piece.ensures.ways c.in_ok-piece.ensures.next c.in_ok-piece.ensures.sides c.in_ok-push_outer.ensures in
     let has = subst (λ (xs : List Way). Has xs (get_or ws k d)) all (Has-get_or ws k d l) in
     let states : c.states_of-states.result ≡ (atom_automaton names atom.from_start atom.to_end f).states =
     c.states_of-states.ensures ∙ ap (λ (n : ℕ). n + (if atom.to_end then 0 else 1)) c.in_ok-piece.ensures.next in
@@ -61,7 +61,7 @@ finish-requires-clause-stops c = λ x h.
     let states : c.states_of-states.result ≡ (atom_automaton names atom.from_start atom.to_end f).states =
     c.states_of-states.ensures ∙ ap (λ (n : ℕ). n + (if atom.to_end then 0 else 1)) c.in_ok-piece.ensures.next in
     let graph = ap (λ (A : Automaton). A.states) c.in-Ok.ensures.ok.1 in
-    let there = stop_there names atom.from_start atom.to_end f c.in_ok-piece.piece x c.in_ok-piece.ensures.ends h in
+    let there = stop_there names atom.from_start atom.to_end f c.in_ok-piece.piece x c.in_ok-piece.ensures.sides h in
     omega (arith, (whole_law names atom.from_start atom.to_end f).stops x there, states, graph)
 
 pub finish-requires-clause-marks : goal.finish-requires-clause-marks
@@ -69,7 +69,7 @@ finish-requires-clause-marks c = λ x h.
     let names = c.vars_of-vars.result in
     let atom = c.args.atom.now in
     let f = tree_of atom.formula in
-    let there = stop_there names atom.from_start atom.to_end f c.in_ok-piece.piece x c.in_ok-piece.ensures.ends h in
+    let there = stop_there names atom.from_start atom.to_end f c.in_ok-piece.piece x c.in_ok-piece.ensures.sides h in
     subst (λ (ns : List VarName). IsBlockOf (length ns) x.marks) (sym c.in-Ok.ensures.ok.0)
     (stop_marks names atom.from_start atom.to_end f c.requires.sequential (ordered_repeats f c.requires.built) (built_classes f c.requires.built.0) (vars_named f names c.vars_of-vars.ensures) x there)
 
@@ -81,7 +81,7 @@ finish-requires-clause-before_way c = λ e.
     let P = places_of names f 1 in
     let ws = c.push_outer.new.ways.items in
     let all = made_ways atom.from_start atom.to_end P c.place.new.draft.next c.in_ok-piece.piece c.in_ok-with_capacity.field-0.items c.place.new.draft.ways.items ws
-    c.in_ok-with_capacity.ensures.items c.in_ok-piece.ensures.ways c.in_ok-piece.ensures.next c.in_ok-piece.ensures.ends c.in_ok-push_outer.ensures in
+    c.in_ok-with_capacity.ensures.items c.in_ok-piece.ensures.ways c.in_ok-piece.ensures.next c.in_ok-piece.ensures.sides c.in_ok-push_outer.ensures in
     let graph = ap (λ (A : Automaton). A.ways) c.in-Ok.ensures.ok.1 in
     subst (λ (xs : List Way). Has xs (idle_way 0)) (sym (graph ∙ all)) (before_way names atom.from_start atom.to_end f e)
 
@@ -93,7 +93,7 @@ finish-requires-clause-after_way c = λ e.
     let P = places_of names f 1 in
     let ws = c.push_outer.new.ways.items in
     let all = made_ways atom.from_start atom.to_end P c.place.new.draft.next c.in_ok-piece.piece c.in_ok-with_capacity.field-0.items c.place.new.draft.ways.items ws
-    c.in_ok-with_capacity.ensures.items c.in_ok-piece.ensures.ways c.in_ok-piece.ensures.next c.in_ok-piece.ensures.ends c.in_ok-push_outer.ensures in
+    c.in_ok-with_capacity.ensures.items c.in_ok-piece.ensures.ways c.in_ok-piece.ensures.next c.in_ok-piece.ensures.sides c.in_ok-push_outer.ensures in
     let graph = ap (λ (A : Automaton). A.ways) c.in-Ok.ensures.ok.1 in
     subst (λ (xs : List Way). Has xs (idle_way c.place.new.draft.next)) (sym (graph ∙ all))
     (after_way names atom.from_start atom.to_end f c.place.new.draft.next c.in_ok-piece.ensures.next e)
@@ -110,7 +110,7 @@ returns c =
     let ws = c.push_outer.new.ways.items in
     let after = c.place.new.draft.next in
     let all = made_ways s t P after c.in_ok-piece.piece c.in_ok-with_capacity.field-0.items c.place.new.draft.ways.items ws
-    c.in_ok-with_capacity.ensures.items c.in_ok-piece.ensures.ways c.in_ok-piece.ensures.next c.in_ok-piece.ensures.ends c.in_ok-push_outer.ensures in
+    c.in_ok-with_capacity.ensures.items c.in_ok-piece.ensures.ways c.in_ok-piece.ensures.next c.in_ok-piece.ensures.sides c.in_ok-push_outer.ensures in
     let bare = c.in-Ok.ensures.ok in
     let done = c.in_ok-finish.ensures in
     let last = c.in_ok-group_ways.ensures in
@@ -126,7 +126,7 @@ returns c =
     let ways : A.ways ≡ B.ways = sym (done.ok.ways ∙ (ap (λ (A : Automaton). A.ways) bare.1 ∙ all)) in
     let stops : A.stops ≡ B.stops =
     sym (done.ok.stops ∙ (ap (λ (A : Automaton). A.stops ++ all_stops t after c.in_ok-piece.piece) bare.1
-    ∙ (ap (λ (n : ℕ). all_stops t n c.in_ok-piece.piece) next ∙ ap (λ (E : Ends). all_stops t (suc P.count) E) c.in_ok-piece.ensures.ends))) in
+    ∙ (ap (λ (n : ℕ). all_stops t n c.in_ok-piece.piece) next ∙ ap (λ (E : Sides). all_stops t (suc P.count) E) c.in_ok-piece.ensures.sides))) in
     let none : (p : ℕ) → Has c.in-Ok.automaton.graph.idle p → ⊥ = λ p h. subst (λ (A : Automaton). Has A.idle p) bare.1 h in
     let idle : (p : ℕ) → Has B.idle p ↔ Has A.idle p = λ p. (
       (λ h. elim ((done.ok.idle p).0 h) [ inl a ↦ absurd (none p a) | inr b ↦ subst (λ (n : ℕ). Has (idle_states s t n) p) next b ]),

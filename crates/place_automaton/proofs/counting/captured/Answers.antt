@@ -5,7 +5,7 @@ use Rattle.span_core.specs.Lists.{Has}
 use Rattle.span_core.proofs.HasLaws.{Contains-Has}
 use Rattle.place_automaton.specs.Capped.{AreCapped}
 use Rattle.place_automaton.specs.Counts.{counts_cap}
-use Rattle.place_automaton.specs.Ends.{JoinAsSum}
+use Rattle.place_automaton.specs.Sides.{JoinAsSum}
 use Rattle.place_automaton.specs.Words.{opening_of, closing_of}
 use Rattle.place_automaton.proofs.CapPlaces.{opening_at, closing_at}
 use Rattle.place_automaton.proofs.counting.captured.Goals as goal

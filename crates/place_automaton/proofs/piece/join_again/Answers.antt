@@ -1,6 +1,6 @@
 use Rattle.std.proofs.Common.{◌∷◌, [], inl, refl, sym, subst}
 use Rattle.span_core.specs.Lists.{Has}
-use Rattle.place_automaton.specs.Ends.{IsUnmarked}
+use Rattle.place_automaton.specs.Sides.{IsUnmarked}
 use Rattle.span_core.proofs.HasLaws.{Has-append_left, Has-append_right}
 use Rattle.place_automaton.proofs.Unmarked.{unmarked_joins, again_unmarked, row_joins}
 use Rattle.place_automaton.proofs.piece.join_again.Goals as goal

@@ -13,7 +13,7 @@ use Rattle.spanner_model.proofs.Trees.{tree_of-One, tree_of-Cat, tree_of-Alt, tr
 use Rattle.place_automaton.specs.Counts.{counts_over}
 use Rattle.place_automaton.specs.declared.placing.Draft.{Draft}
 use Rattle.place_automaton.specs.Drafts.{AreNamed, HasPlaced, copies_of, places_of}
-use Rattle.place_automaton.specs.Ends.{Ends, IsUnmarked, RowJoins, again_ends, ends_of, nothing_ends, opt_ends, row_ends, row_ways}
+use Rattle.place_automaton.specs.Sides.{Sides, IsUnmarked, RowJoins, again_sides, sides_of, nothing_sides, opt_sides, row_sides, row_ways}
 use Rattle.place_automaton.specs.Moves.{places_moved}
 use Rattle.place_automaton.specs.Places.{Places, repeated, ways_between}
 use Rattle.spanner_model.specs.Sequential.{IsSequential}
@@ -76,7 +76,7 @@ place-captured-requires-clause-marks t c =
     let e = ap tree_of c.in-Cap.is ∙ tree_of-Cap x c.in-Cap.sub ∙ ap (λ y. cap x (tree_of y)) (sym c.deref-in-Cap.ensures) in
     let w = subst IsWellBuilt e c.requires.built in
     can_capture c.args.vars.now x f (subst IsSequential e c.requires.sequential) (ordered_repeats f (w.0.0, omega (arith, w.1))) (built_classes f w.0.0)
-    (subst (AreNamed c.args.vars.now) e c.requires.named) c.args.draft.now.next c.in_ok-piece-in-Cap.piece c.in_ok-piece-in-Cap.ensures.ends
+    (subst (AreNamed c.args.vars.now) e c.requires.named) c.args.draft.now.next c.in_ok-piece-in-Cap.piece c.in_ok-piece-in-Cap.ensures.sides
 
 pub place-returns-in-One : goal.place-returns-in-One
 place-returns-in-One t c =
@@ -118,7 +118,7 @@ place_arms-loop-k-preserved t c =
     (λ x v. c.requires.named x ((arms_have ts x).1 (part_has ts f x has v))) n).distinct in
     let new : Draft = record { next = c.place.new.draft.next; ways = c.place.new.draft.ways; left = c.alt.new.left } in
     let h = c.in_ok-arm.ensures in
-    let placed : HasPlaced (places_of names f c.loop-k.draft.next) c.loop-k.draft new c.in_ok-arm.arm = record { ends = h.ends; next = h.next; ways = h.ways } in
+    let placed : HasPlaced (places_of names f c.loop-k.draft.next) c.loop-k.draft new c.in_ok-arm.arm = record { sides = h.sides; next = h.next; ways = h.ways } in
     arms_next names ts c.loop-k.k c.args.draft.now.next f c.args.draft.now c.loop-k.draft new c.loop-k.all c.in_ok-arm.arm c.in_ok-all.all
     c.at.ensures refl set c.loop-k.invariant placed c.in_ok-all.ensures
 
@@ -158,10 +158,10 @@ place_parts-join_row-requires t c =
     let n = c.args.draft.now.next in
     let at : c.loop-k.k ≡ length ts = omega (arith, c.len-k-end.ensures) in
     let all : take c.loop-k.k ts ≡ ts = ap (λ k. take k ts) at ∙ take-length ts in
-    let pieces = c.loop-k.invariant.pieces ∙ ap (λ us. map ends_of (in_turn (placers names us) n)) all in
+    let pieces = c.loop-k.invariant.pieces ∙ ap (λ us. map sides_of (in_turn (placers names us) n)) all in
     let joins = parts_joins names ts c.requires.sequential (all_ordered ts c.requires.built) (all_classes ts c.requires.built) c.requires.named n in
-    subst (λ (Q : Ends). RowJoins c.len-2.result c.loop-k.pieces.items Q) (sym c.in_ok-rest.ensures)
-    (subst (λ (r : ℕ). RowJoins r c.loop-k.pieces.items nothing_ends) (sym c.len-2.ensures) (subst (λ (xs : List Ends). RowJoins (length ts) xs nothing_ends) (sym pieces) joins))
+    subst (λ (Q : Sides). RowJoins c.len-2.result c.loop-k.pieces.items Q) (sym c.in_ok-rest.ensures)
+    (subst (λ (r : ℕ). RowJoins r c.loop-k.pieces.items nothing_sides) (sym c.len-2.ensures) (subst (λ (xs : List Sides). RowJoins (length ts) xs nothing_sides) (sym pieces) joins))
 
 pub place_parts-returns : goal.place_parts-returns
 place_parts-returns t c =
@@ -173,13 +173,13 @@ place_parts-returns t c =
     let row = subst (λ us. IsRow (in_turn (placers names us) a.next) a c.loop-k.draft c.loop-k.pieces.items) all c.loop-k.invariant in
     let new : Draft = record { next = c.loop-k.draft.next; ways = c.join_row.new.ways; left = c.loop-k.draft.left } in
     let xs = c.loop-k.pieces.items in
-    ok_both c.join_row.result (λ (p : Ends). p ≡ row_ends c.len-2.result xs c.in_ok-rest.rest) (λ (p : Ends). HasPlaced (places_of names (cat_all ts) a.next) a new p)
+    ok_both c.join_row.result (λ (p : Sides). p ≡ row_sides c.len-2.result xs c.in_ok-rest.rest) (λ (p : Sides). HasPlaced (places_of names (cat_all ts) a.next) a new p)
     (c.join_row.new.ways.items ≡ c.loop-k.draft.ways.items ++ row_ways c.len-2.result xs c.in_ok-rest.rest)
     (λ p ends ways. row_done (length ts) (in_turn (placers names ts) a.next) (places_of names (cat_all ts) a.next) a c.loop-k.draft new xs p
     (parts_row (opening_of names) (closing_of names) ts a.next) row
-    (ends ∙ (ap (λ (r : ℕ). row_ends r xs c.in_ok-rest.rest) c.len-2.ensures ∙ ap (λ (Q : Ends). row_ends (length ts) xs Q) c.in_ok-rest.ensures)) refl
-    (ways ∙ (ap (λ (r : ℕ). c.loop-k.draft.ways.items ++ row_ways r xs c.in_ok-rest.rest) c.len-2.ensures ∙ ap (λ (Q : Ends). c.loop-k.draft.ways.items ++ row_ways (length ts) xs Q) c.in_ok-rest.ensures)))
-    c.join_row.ensures.ends c.join_row.ensures.ways
+    (ends ∙ (ap (λ (r : ℕ). row_sides r xs c.in_ok-rest.rest) c.len-2.ensures ∙ ap (λ (Q : Sides). row_sides (length ts) xs Q) c.in_ok-rest.ensures)) refl
+    (ways ∙ (ap (λ (r : ℕ). c.loop-k.draft.ways.items ++ row_ways r xs c.in_ok-rest.rest) c.len-2.ensures ∙ ap (λ (Q : Sides). c.loop-k.draft.ways.items ++ row_ways (length ts) xs Q) c.in_ok-rest.ensures)))
+    c.join_row.ensures.sides c.join_row.ensures.ways
 
 pub place_repeat-returns-then-copies-eq0 : goal.place_repeat-returns-then-copies-eq0
 place_repeat-returns-then-copies-eq0 t c =
@@ -187,7 +187,7 @@ place_repeat-returns-then-copies-eq0 t c =
     let k = c.args.draft.now.next in
     let none = none_placed F k c.args.least c.args.most (sym c.copies_of-copies.ensures ∙ c.if-copies-eq0.true) (λ m e. (c.requires.built.0.1.1 m e).0) in
     let W = repeated c.args.least c.args.most F k in
-    ok_by c.nothing.result (λ (p : Ends). p ≡ nothing_ends) (λ (p : Ends). HasPlaced W c.args.draft.now c.args.draft.now p)
+    ok_by c.nothing.result (λ (p : Sides). p ≡ nothing_sides) (λ (p : Sides). HasPlaced W c.args.draft.now c.args.draft.now p)
     (λ p e. nothing_done W c.args.draft.now p none e) c.nothing.ensures
 
 pub place_repeat-place-requires : goal.place_repeat-place-requires
@@ -224,7 +224,7 @@ place_repeat-returns-then-draft-before t c =
     let zeros : (m : ℕ) → Has (F k).null m → 0 ≡ m = λ m h. sym (no_bits m (λ i b. let v = set.within m h i b in c.requires.bare v.0 v.1)) in
     let E = c.in_ok-first.first in
     let W = repeated c.args.least c.args.most F k in
-    ok_by c.opt_if.result (λ (p : Ends). p ≡ (if c.args.least == 0 then opt_ends E else E)) (λ (p : Ends). HasPlaced W c.args.draft.now c.place.new.draft p)
+    ok_by c.opt_if.result (λ (p : Sides). p ≡ (if c.args.least == 0 then opt_sides E else E)) (λ (p : Sides). HasPlaced W c.args.draft.now c.place.new.draft p)
     (λ p e. flat_done F k c.args.least c.args.most c.args.draft.now c.place.new.draft E p
     (places_lie (opening_of names) (closing_of names) f k) set.distinct zeros c.in_ok-first.ensures c.if-draft-before.true e) c.opt_if.ensures
 
@@ -249,7 +249,7 @@ place_once-returns t c =
     let k = c.args.draft.now.next in
     let E = c.in_ok-piece.piece in
     let is = once_is c.args.least F k (c.requires.built.0.1.1 1 refl).0 in
-    ok_by c.opt_if.result (λ (p : Ends). p ≡ (if c.args.least == 0 then opt_ends E else E)) (λ (p : Ends). HasPlaced (repeated c.args.least (Some 1) F k) c.args.draft.now c.place.new.draft p)
+    ok_by c.opt_if.result (λ (p : Sides). p ≡ (if c.args.least == 0 then opt_sides E else E)) (λ (p : Sides). HasPlaced (repeated c.args.least (Some 1) F k) c.args.draft.now c.place.new.draft p)
     (λ p e. subst (λ (W : Places). HasPlaced W c.args.draft.now c.place.new.draft p) (sym is) (once_done (c.args.least == 0) (F k) c.args.draft.now c.place.new.draft E p c.in_ok-piece.ensures e))
     c.opt_if.ensures
 
@@ -327,7 +327,7 @@ place_repeat-join_row-requires t c =
     let names = c.args.vars.now in
     let f = tree_of c.args.sub.now in
     let F = places_of names f in
-    let bare : (j : ℕ) → IsUnmarked (ends_of (F j)) = λ j.
+    let bare : (j : ℕ) → IsUnmarked (sides_of (F j)) = λ j.
     fine_unmarked (VarBits names f) (λ i b. c.requires.bare b.0 b.1) (F j)
     (fine_places names f c.requires.sequential (ordered_repeats f (c.requires.built.0.0, omega (arith, c.requires.built.1))) (built_classes f c.requires.built.0.0) c.requires.named j) in
     row_joins c.from-required.result c.loop-copy.pieces.items c.in_ok-rest-in-Some.rest
@@ -339,7 +339,7 @@ place_repeat-join_again-requires t c =
     let names = c.args.vars.now in
     let f = tree_of c.args.sub.now in
     let F = places_of names f in
-    let bare : (j : ℕ) → IsUnmarked (ends_of (F j)) = λ j.
+    let bare : (j : ℕ) → IsUnmarked (sides_of (F j)) = λ j.
     fine_unmarked (VarBits names f) (λ i b. c.requires.bare b.0 b.1) (F j)
     (fine_places names f c.requires.sequential (ordered_repeats f (c.requires.built.0.0, omega (arith, c.requires.built.1))) (built_classes f c.requires.built.0.0) c.requires.named j) in
     subst AllUnmarked (sym c.loop-copy.invariant.pieces) (copies_unmarked F bare c.loop-copy._copy c.args.draft.now.next)
@@ -363,12 +363,12 @@ place_repeat-returns-in_ok-rest-in-Some t c =
     let is = ap (λ (o : Option ℕ). repeated least o F a.next) c.in-Some.is ∙ bounded_places F least m a.next le in
     let r = c.from-required.result in
     let Q = c.in_ok-rest-in-Some.rest in
-    ok_both c.join_row.result (λ (p : Ends). p ≡ row_ends r xs Q) (λ (p : Ends). HasPlaced W a new p)
+    ok_both c.join_row.result (λ (p : Sides). p ≡ row_sides r xs Q) (λ (p : Sides). HasPlaced W a new p)
     (c.join_row.new.ways.items ≡ c.loop-copy.draft.ways.items ++ row_ways r xs Q)
     (λ p ends ways. row_done least (copies F m a.next) W a c.loop-copy.draft new xs p is row
-    (ends ∙ (ap (λ (r : ℕ). row_ends r xs Q) c.from-required.ensures ∙ ap (λ (Q : Ends). row_ends least xs Q) c.in_ok-rest-in-Some.ensures)) refl
-    (ways ∙ (ap (λ (r : ℕ). c.loop-copy.draft.ways.items ++ row_ways r xs Q) c.from-required.ensures ∙ ap (λ (Q : Ends). c.loop-copy.draft.ways.items ++ row_ways least xs Q) c.in_ok-rest-in-Some.ensures)))
-    c.join_row.ensures.ends c.join_row.ensures.ways
+    (ends ∙ (ap (λ (r : ℕ). row_sides r xs Q) c.from-required.ensures ∙ ap (λ (Q : Sides). row_sides least xs Q) c.in_ok-rest-in-Some.ensures)) refl
+    (ways ∙ (ap (λ (r : ℕ). c.loop-copy.draft.ways.items ++ row_ways r xs Q) c.from-required.ensures ∙ ap (λ (Q : Sides). c.loop-copy.draft.ways.items ++ row_ways least xs Q) c.in_ok-rest-in-Some.ensures)))
+    c.join_row.ensures.sides c.join_row.ensures.ways
 
 pub place_repeat-returns-in-None : goal.place_repeat-returns-in-None
 place_repeat-returns-in-None t c =
@@ -383,11 +383,11 @@ place_repeat-returns-in-None t c =
     let new : Draft = record { next = b.next; ways = c.join_again.new.ways; left = b.left } in
     let r = c.from-required.result in
     let is = ap (λ (o : Option ℕ). repeated least o F a.next) c.in-None.is in
-    let Ends' : ℕ → Ends → Type 0 = λ r p. (front : List Ends) (last : Ends) → xs ≡ front ++ last ∷ [] → p ≡ row_ends r front (again_ends r last) in
-    let Ways' : ℕ → Type 0 = λ r. (front : List Ends) (last : Ends) → xs ≡ front ++ last ∷ [] →
-    c.join_again.new.ways.items ≡ (b.ways.items ++ ways_between last.last last.first) ++ row_ways r front (again_ends r last) in
-    ok_both c.join_again.result (Ends' r) (λ (p : Ends). HasPlaced (repeated least c.args.most F a.next) a new p) (Ways' r)
+    let Ends' : ℕ → Sides → Type 0 = λ r p. (front : List Sides) (last : Sides) → xs ≡ front ++ last ∷ [] → p ≡ row_sides r front (again_sides r last) in
+    let Ways' : ℕ → Type 0 = λ r. (front : List Sides) (last : Sides) → xs ≡ front ++ last ∷ [] →
+    c.join_again.new.ways.items ≡ (b.ways.items ++ ways_between last.last last.first) ++ row_ways r front (again_sides r last) in
+    ok_both c.join_again.result (Ends' r) (λ (p : Sides). HasPlaced (repeated least c.args.most F a.next) a new p) (Ways' r)
     (λ p ends ways. subst (λ (W : Places). HasPlaced W a new p) (sym is)
     (again_done F least a.next c.loop-copy._copy a b new xs p at c.loop-copy.invariant refl
     (subst (λ (r : ℕ). Ends' r p) c.from-required.ensures ends) (subst Ways' c.from-required.ensures ways)))
-    c.join_again.ensures.ends c.join_again.ensures.ways
+    c.join_again.ensures.sides c.join_again.ensures.ways

@@ -1,9 +1,9 @@
 use Rattle.std.proofs.Common.{inl, inr, refl, ap, ◌∙◌, subst}
 use Rattle.span_core.specs.Lists.{Has}
-use Rattle.place_automaton.specs.Ends.{Ends}
+use Rattle.place_automaton.specs.Sides.{Sides}
 use Rattle.place_automaton.proofs.piece.Piece.captured.Goals as goal
 
 pub mark_entries-requires : goal.mark_entries-requires
 mark_entries-requires c = λ e he.
-    let he' = subst (λ es. Has es e) (c.deref_mut-2.ensures.value ∙ ap (λ (P : Ends). P.first) c.self.view_is) he in
+    let he' = subst (λ es. Has es e) (c.deref_mut-2.ensures.value ∙ ap (λ (P : Sides). P.first) c.self.view_is) he in
     c.requires.first e.marks (inr (inl (e, he', refl)))

@@ -1,16 +1,16 @@
 use Rattle.std.proofs.Common.{inl, inr, refl, ap, ◌∙◌, subst}
 use Rattle.span_core.specs.Lists.{Has}
-use Rattle.place_automaton.specs.Ends.{Ends}
+use Rattle.place_automaton.specs.Sides.{Sides}
 use Rattle.place_automaton.proofs.piece.Piece.cat.Goals as goal
 
 pub push_ways-requires : goal.push_ways-requires
 push_ways-requires c = λ s e hs he.
-    let hs' = subst (λ ss. Has ss s) (c.deref.ensures.value ∙ ap (λ (P : Ends). P.last) c.self.view_is) hs in
-    let he' = subst (λ es. Has es e) (c.deref-2.ensures.value ∙ ap (λ (P : Ends). P.first) c.rest.view_is) he in
+    let hs' = subst (λ ss. Has ss s) (c.deref.ensures.value ∙ ap (λ (P : Sides). P.last) c.self.view_is) hs in
+    let he' = subst (λ es. Has es e) (c.deref-2.ensures.value ∙ ap (λ (P : Sides). P.first) c.rest.view_is) he in
     c.requires s.marks e.marks (inr (inr (s, hs', refl))) (inr (inl (e, he', refl)))
 
 pub all_entries-requires : goal.all_entries-requires
 all_entries-requires c = λ m e hm he.
-    let hm' = subst (λ ms. Has ms m) (c.deref-3.ensures.value ∙ ap (λ (P : Ends). P.null) c.self.view_is) hm in
-    let he' = subst (λ (P : Ends). Has P.first e) c.rest.view_is he in
+    let hm' = subst (λ ms. Has ms m) (c.deref-3.ensures.value ∙ ap (λ (P : Sides). P.null) c.self.view_is) hm in
+    let he' = subst (λ (P : Sides). Has P.first e) c.rest.view_is he in
     c.requires m e.marks (inl hm') (inr (inl (e, he', refl)))

@@ -1,10 +1,10 @@
 use Rattle.std.proofs.Common.{inl, inr, refl, ap, ◌∙◌, subst}
 use Rattle.span_core.specs.Lists.{Has}
-use Rattle.place_automaton.specs.Ends.{Ends}
+use Rattle.place_automaton.specs.Sides.{Sides}
 use Rattle.place_automaton.proofs.piece.Piece.push_again.Goals as goal
 
 pub push_ways-requires : goal.push_ways-requires
 push_ways-requires c = λ s e hs he.
-    let hs' = subst (λ ss. Has ss s) (c.deref.ensures.value ∙ ap (λ (P : Ends). P.last) c.self.view_is) hs in
-    let he' = subst (λ es. Has es e) (c.deref-2.ensures.value ∙ ap (λ (P : Ends). P.first) c.self.view_is) he in
+    let hs' = subst (λ ss. Has ss s) (c.deref.ensures.value ∙ ap (λ (P : Sides). P.last) c.self.view_is) hs in
+    let he' = subst (λ es. Has es e) (c.deref-2.ensures.value ∙ ap (λ (P : Sides). P.first) c.self.view_is) he in
     c.requires s.marks e.marks (inr (inr (s, hs', refl))) (inr (inl (e, he', refl)))

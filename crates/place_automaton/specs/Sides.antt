@@ -1,4 +1,4 @@
--- What stands at the two ends of a part of a formula whose places are numbered.
+-- What stands at the two sides of a part of a formula whose places are numbered.
 use Rattle.std.specs.Prelude.{◌≡◌, ℕ, zero, suc, ◌+◌, ◌⊎◌, List, [], ◌∷◌, ◌++◌, map, bit_or, ◌==◌, if◌then◌else◌}
 use Rattle.std.specs.List.{flat_map}
 use Rattle.span_core.specs.Lists.{Has}
@@ -8,46 +8,46 @@ use Rattle.marked_automaton.specs.Automaton.{ByteClass}
 use Rattle.place_automaton.specs.declared.piece.Entry.{Entry}
 use Rattle.place_automaton.specs.Places.{Places, ways_between, entry_with, stop_with, add_once, either_once, sums}
 
-pub record Ends : Type 0 where
+pub record Sides : Type 0 where
   -- the blocks with which the empty string fits
   pub null : List ℕ
   pub first : List Entry
   pub last : List Stop
 
-abbrev pub ends_of : Places → Ends
-ends_of P = record { null = P.null; first = P.first; last = P.last }
+abbrev pub sides_of : Places → Sides
+sides_of P = record { null = P.null; first = P.first; last = P.last }
 
-abbrev pub nothing_ends : Ends
-nothing_ends = record { null = 0 ∷ []; first = []; last = [] }
+abbrev pub nothing_sides : Sides
+nothing_sides = record { null = 0 ∷ []; first = []; last = [] }
 
-abbrev pub never_ends : Ends
-never_ends = record { null = []; first = []; last = [] }
+abbrev pub never_sides : Sides
+never_sides = record { null = []; first = []; last = [] }
 
-abbrev pub one_ends : ByteClass → ℕ → Ends
-one_ends set k = record { null = []; first = record { marks = 0; bytes = set; to = k } ∷ []; last = record { state = k; marks = 0 } ∷ [] }
+abbrev pub one_sides : ByteClass → ℕ → Sides
+one_sides set k = record { null = []; first = record { marks = 0; bytes = set; to = k } ∷ []; last = record { state = k; marks = 0 } ∷ [] }
 
-abbrev pub cat_ends : Ends → Ends → Ends
-cat_ends P Q = record {
+abbrev pub cat_sides : Sides → Sides → Sides
+cat_sides P Q = record {
   null = sums P.null Q.null;
   first = P.first ++ flat_map (λ m. map (entry_with m) Q.first) P.null;
   last = Q.last ++ flat_map (λ m. map (stop_with m) P.last) Q.null;
 }
 
-abbrev pub alt_ends : Ends → Ends → Ends
-alt_ends P Q = record { null = either_once P.null Q.null; first = P.first ++ Q.first; last = P.last ++ Q.last }
+abbrev pub alt_sides : Sides → Sides → Sides
+alt_sides P Q = record { null = either_once P.null Q.null; first = P.first ++ Q.first; last = P.last ++ Q.last }
 
-abbrev pub opt_ends : Ends → Ends
-opt_ends P = record { null = add_once 0 P.null; first = P.first; last = P.last }
+abbrev pub opt_sides : Sides → Sides
+opt_sides P = record { null = add_once 0 P.null; first = P.first; last = P.last }
 
-abbrev pub cap_ends : ℕ → ℕ → Ends → Ends
-cap_ends opening closing P = record {
+abbrev pub cap_sides : ℕ → ℕ → Sides → Sides
+cap_sides opening closing P = record {
   null = map (◌+◌ (opening + closing)) P.null;
   first = map (entry_with opening) P.first;
   last = map (stop_with closing) P.last;
 }
 
--- a block that stands at one of the ends
-abbrev pub MarkOf : Ends → ℕ → Type 0
+-- a block that stands at one of the sides
+abbrev pub MarkOf : Sides → ℕ → Type 0
 MarkOf P m = Has P.null m ⊎ (((e : Entry) × Has P.first e × (e.marks ≡ m)) ⊎ ((s : Stop) × Has P.last s × (s.marks ≡ m)))
 
 -- the two blocks have no marker in common, so that what both have is their sum
@@ -55,15 +55,15 @@ abbrev pub JoinAsSum : ℕ → ℕ → Type 0
 JoinAsSum m n = bit_or m n ≡ m + n
 
 -- the blocks of the one and of the other
-abbrev pub JoinAsSums : Ends → Ends → Type 0
+abbrev pub JoinAsSums : Sides → Sides → Type 0
 JoinAsSums P Q = (m n : ℕ) → MarkOf P m → MarkOf Q n → JoinAsSum m n
 
--- no marker stands at the ends
-abbrev pub IsUnmarked : Ends → Type 0
+-- no marker stands at the sides
+abbrev pub IsUnmarked : Sides → Type 0
 IsUnmarked P = (m : ℕ) → MarkOf P m → m ≡ 0
 
 -- the markers of a capture have none in common, and none with the part in it
-pub record CanCapture (opening closing : ℕ) (P : Ends) : Type 0 where
+pub record CanCapture (opening closing : ℕ) (P : Sides) : Type 0 where
   pub apart : JoinAsSum opening closing
   pub null : (m : ℕ) → Has P.null m → JoinAsSum (opening + closing) m
   pub first : (m : ℕ) → MarkOf P m → JoinAsSum opening m
@@ -71,25 +71,25 @@ pub record CanCapture (opening closing : ℕ) (P : Ends) : Type 0 where
 
 -- parts one after another, of which so many are required and the others may stand only where all before
 -- them do; last comes Q
-abbrev pub row_ends : ℕ → List Ends → Ends → Ends
-row_ends required [] Q = Q
-row_ends zero (P ∷ Ps) Q = opt_ends (cat_ends P (row_ends zero Ps Q))
-row_ends (suc required) (P ∷ Ps) Q = cat_ends P (row_ends required Ps Q)
+abbrev pub row_sides : ℕ → List Sides → Sides → Sides
+row_sides required [] Q = Q
+row_sides zero (P ∷ Ps) Q = opt_sides (cat_sides P (row_sides zero Ps Q))
+row_sides (suc required) (P ∷ Ps) Q = cat_sides P (row_sides required Ps Q)
 
 abbrev pub less_one : ℕ → ℕ
 less_one zero = zero
 less_one (suc n) = n
 
 -- the ways between such parts
-abbrev pub row_ways : ℕ → List Ends → Ends → List Way
+abbrev pub row_ways : ℕ → List Sides → Sides → List Way
 row_ways required [] Q = []
-row_ways required (P ∷ Ps) Q = row_ways (less_one required) Ps Q ++ ways_between P.last (row_ends (less_one required) Ps Q).first
+row_ways required (P ∷ Ps) Q = row_ways (less_one required) Ps Q ++ ways_between P.last (row_sides (less_one required) Ps Q).first
 
 -- each of such parts shares no marker with what comes after it
-abbrev pub RowJoins : ℕ → List Ends → Ends → Type 0
+abbrev pub RowJoins : ℕ → List Sides → Sides → Type 0
 RowJoins required [] Q = Unit {0}
-RowJoins required (P ∷ Ps) Q = JoinAsSums P (row_ends (less_one required) Ps Q) × RowJoins (less_one required) Ps Q
+RowJoins required (P ∷ Ps) Q = JoinAsSums P (row_sides (less_one required) Ps Q) × RowJoins (less_one required) Ps Q
 
 -- a part that comes again and again, or not at all where none is required
-abbrev pub again_ends : ℕ → Ends → Ends
-again_ends required P = if required == 0 then opt_ends P else P
+abbrev pub again_sides : ℕ → Sides → Sides
+again_sides required P = if required == 0 then opt_sides P else P
