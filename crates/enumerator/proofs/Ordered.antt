@@ -12,7 +12,7 @@ use Rattle.output_graph.specs.Listed.{Lists, AreLists}
 use Rattle.node_arena.specs.Rows.{NamedRow, rows, HasRow, IsThere}
 use Rattle.output_graph.specs.RowLists.{AreMade, AreLed}
 use Rattle.enumerator.specs.Enumeration.{SpanRow, IsWordOfRow, AreInBlockOrder}
-use Rattle.enumerator.specs.Rows.{Places, no_places, row_under, rows_of}
+use Rattle.enumerator.specs.Rows.{Positions, no_positions, row_under, rows_of}
 use Rattle.enumerator.proofs.Lists.{has_cases, has_map_cases}
 use Rattle.output_graph.proofs.RowLaws.{rows_nothing, rows_done}
 use Rattle.enumerator.proofs.SeekLaws.{listed_led}
@@ -122,7 +122,7 @@ word_differs n (x ∷ u) (y ∷ w) up up' some (inr p) =
       ];
     }
 
-row_stands : (v : ℕ) (P : Places) (u w : Word) → IsWordOfRow v u → IsWordOfRow v w → Before u w → StandsBefore (row_under v 0 P u) (row_under v 0 P w)
+row_stands : (v : ℕ) (P : Positions) (u w : Word) → IsWordOfRow v u → IsWordOfRow v w → Before u w → StandsBefore (row_under v 0 P u) (row_under v 0 P w)
 row_stands v P u w hu hw b =
     let d = word_differs 0 u w (ascends_from 0 u hu.0.0 (λ e l. omega arith)) (ascends_from 0 w hw.0.0 (λ e l. omega arith)) (are_some u hu.0.1) b in
     let first = is_row_of_word v P u hu in
@@ -133,7 +133,7 @@ row_stands v P u w hu hw b =
       same_below = λ i l. first.blocks_are i ∙ (d.same_below i l ∙ sym (second.blocks_are i));
     }
 
-rows_stand : (v : ℕ) (P : Places) (ws : List Word) → ((w : Word) → Has ws w → IsWordOfRow v w) → AreInOrder ws → AreInBlockOrder (map (row_under v 0 P) ws)
+rows_stand : (v : ℕ) (P : Positions) (ws : List Word) → ((w : Word) → Has ws w → IsWordOfRow v w) → AreInOrder ws → AreInBlockOrder (map (row_under v 0 P) ws)
 rows_stand v P [] words order = tt
 rows_stand v P (w ∷ ws) words order = (
   λ q h.
@@ -144,4 +144,4 @@ rows_stand v P (w ∷ ws) words order = (
 
 pub whole_in_order : (lists : Lists) (v : ℕ) → AreLists lists → ((w : Word) → Has (rows lists.store lists.first) w → IsWordOfRow v w) → AreInBlockOrder (rows_of lists v)
 whole_in_order lists v sound words =
-    rows_stand v no_places (rows lists.store lists.first) words (rows_in_order lists.store lists.first sound.made sound.led sound.there)
+    rows_stand v no_positions (rows lists.store lists.first) words (rows_in_order lists.store lists.first sound.made sound.led sound.there)

@@ -16,7 +16,7 @@ use Rattle.node_arena.specs.Rows.{NamedRow, rows, row_at, IsThere}
 use Rattle.output_graph.specs.RowLists.{AreMade, AreLed}
 use Rattle.enumerator.specs.declared.stack.Waiting.{Waiting}
 use Rattle.enumerator.specs.Enumeration.{SpanRow, IsRestAfter, IsWordOfRow}
-use Rattle.enumerator.specs.Rows.{Places, put, row_under, rows_of, waiting_rows, no_places}
+use Rattle.enumerator.specs.Rows.{Positions, put, row_under, rows_of, waiting_rows, no_positions}
 use Rattle.enumerator.specs.Waiting.{Fits, IsWaiting, AreBelow, AreStacked, waited}
 use Rattle.enumerator.specs.Seeking.{HasNoBlock, IsNextBlock}
 use Rattle.enumerator.proofs.Lists.{has_cases, has_map_cases, map_same}
@@ -33,7 +33,7 @@ abbrev pub LeadsBlock : ℕ × ℕ → ℕ × ℕ → Type 0
 LeadsBlock x y = (x.0 < y.0) ⊎ ((x.0 ≡ y.0) × (y.1 < x.1))
 
 -- the row of a word that is left: as the given row before a position, and as the word from there on
-pub record IsTail (from : ℕ) (after : SpanRow) (v m : ℕ) (P : Places) (w : Word) : Type 0 where
+pub record IsTail (from : ℕ) (after : SpanRow) (v m : ℕ) (P : Positions) (w : Word) : Type 0 where
   pub same : (at : ℕ) → at < from → block (row_under v m P w) at ≡ block after at
   pub rest : (at : ℕ) → from ≤ at → block (row_under v m P w) at ≡ listed w at
   pub ascends : AscendsFrom from w
@@ -49,7 +49,7 @@ listed_led from x (z ∷ w) up some (inr p) =
     let less_marks : z.1 < x.1 = p.1 in
     (let e = ap (listed (z ∷ w)) same ∙ listed_here z w in omega arith, λ i less. listed_before z.0 (z ∷ w) i here (omega arith))
 
-module _ (from : ℕ) (after : SpanRow) (v m : ℕ) (P : Places) where
+module _ (from : ℕ) (after : SpanRow) (v m : ℕ) (P : Positions) where
   -- the row's next block comes before that of the given row
   pub led_not_after : (x y : ℕ × ℕ) (w : Word) → IsNextBlock after from x → IsTail from after v m P (y ∷ w) → LeadsBlock y x → 0 < y.1 → StandsBefore after (row_under v m P (y ∷ w)) → ⊥
   led_not_after x y w next t lead some h =
@@ -116,7 +116,7 @@ module _ (from : ℕ) (after : SpanRow) (v m : ℕ) (P : Places) where
 -- ---- the state of a seek
 
 -- all rows are those passed, which do not stand after the given one, those of an entry under what is settled, and those that wait, which do
-pub record IsSeeking (store : List NamedRow) (v : ℕ) (after : SpanRow) (P : Places) (m : ℕ) (e : Entry) (from : ℕ) (fs : List Waiting) (whole : List SpanRow) (before now : ℕ) : Type 0 where
+pub record IsSeeking (store : List NamedRow) (v : ℕ) (after : SpanRow) (P : Positions) (m : ℕ) (e : Entry) (from : ℕ) (fs : List Waiting) (whole : List SpanRow) (before now : ℕ) : Type 0 where
   pub front : List SpanRow
   pub whole_is : whole ≡ front ++ (map (row_under v m P) (rows store e) ++ waiting_rows store v P fs)
   pub passed : (r : SpanRow) → Has front r → StandsBefore after r → ⊥
@@ -127,11 +127,11 @@ pub record IsSeeking (store : List NamedRow) (v : ℕ) (after : SpanRow) (P : Pl
   pub below : AreBelow store v m fs
   pub steps : now + reach store e ≤ before + length store
 
-pub seek_begins : (lists : Lists) (v : ℕ) (after : SpanRow) (P : Places) (before : ℕ) → AreLists lists → ((w : Word) → Has (rows lists.store lists.first) w → IsWordOfRow v w)
+pub seek_begins : (lists : Lists) (v : ℕ) (after : SpanRow) (P : Positions) (before : ℕ) → AreLists lists → ((w : Word) → Has (rows lists.store lists.first) w → IsWordOfRow v w)
     → IsSeeking lists.store v after P 0 lists.first 0 [] (rows_of lists v) before before
 seek_begins lists v after P before sound words = record {
   front = [];
-  whole_is = map_same (row_under v 0 no_places) (row_under v 0 P) (λ w. row_under_agree v 0 no_places P w (λ bit h. absurd (none bit h))) (rows lists.store lists.first) ∙ sym (append-nil (map (row_under v 0 P) (rows lists.store lists.first)));
+  whole_is = map_same (row_under v 0 no_positions) (row_under v 0 P) (λ w. row_under_agree v 0 no_positions P w (λ bit h. absurd (none bit h))) (rows lists.store lists.first) ∙ sym (append-nil (map (row_under v 0 P) (rows lists.store lists.first)));
   passed = λ r h. absurd h;
   waits = λ r h. absurd h;
   there = sound.there;
@@ -146,7 +146,7 @@ seek_begins lists v after P before sound words = record {
     none : (bit : ℕ) → Rattle.enumerator.specs.Rows.has 0 bit ≡ Rattle.std.proofs.Common.true → ⊥
     none bit h = Rattle.enumerator.proofs.Words.never_listed bit 0 h
 
-module _ (store : List NamedRow) (made : AreMade store) (v : ℕ) (after : SpanRow) (P : Places) (m k from : ℕ) (fs : List Waiting) (whole : List SpanRow) (before now : ℕ) (r : NamedRow) (is : row_at store k ≡ Some r) where
+module _ (store : List NamedRow) (made : AreMade store) (v : ℕ) (after : SpanRow) (P : Positions) (m k from : ℕ) (fs : List Waiting) (whole : List SpanRow) (before now : ℕ) (r : NamedRow) (is : row_at store k ≡ Some r) where
   abbrev own : ℕ × ℕ
   own = (r.at, r.marks)
 
@@ -230,10 +230,10 @@ module _ (store : List NamedRow) (made : AreMade store) (v : ℕ) (after : SpanR
 
 -- ---- the ends of a seek
 
-abbrev pub Sought : List NamedRow → ℕ → SpanRow → Places → List Waiting → List SpanRow → ℕ → ℕ → Type 0
+abbrev pub Sought : List NamedRow → ℕ → SpanRow → Positions → List Waiting → List SpanRow → ℕ → ℕ → Type 0
 Sought store v after P fs whole before now = AreStacked store v fs × IsRestAfter after whole (waiting_rows store v P fs) × (now ≤ before + length store)
 
-module _ (store : List NamedRow) (v : ℕ) (after : SpanRow) (P : Places) (m : ℕ) (e : Entry) (from : ℕ) (fs : List Waiting) (whole : List SpanRow) (before now : ℕ) (s : IsSeeking store v after P m e from fs whole before now) where
+module _ (store : List NamedRow) (v : ℕ) (after : SpanRow) (P : Positions) (m : ℕ) (e : Entry) (from : ℕ) (fs : List Waiting) (whole : List SpanRow) (before now : ℕ) (s : IsSeeking store v after P m e from fs whole before now) where
   -- all rows of the entry stand after the given one
   pub seek_stops : (x : ℕ × ℕ) → IsNextBlock after from x → ((w : Word) → Has (rows store e) w → LeadsBefore x w) → Sought store v after P (waited m e fs) whole before now
   seek_stops x next lead = (

@@ -10,7 +10,7 @@ use Rattle.node_arena.specs.Rows.{NamedRow, rows, row_at}
 use Rattle.output_graph.specs.RowLists.{AreMade}
 use Rattle.enumerator.specs.declared.stack.Waiting.{Waiting}
 use Rattle.enumerator.specs.Enumeration.{SpanRow}
-use Rattle.enumerator.specs.Rows.{Places, put, row_of, row_under, rows_under, waiting_rows}
+use Rattle.enumerator.specs.Rows.{Positions, put, row_of, row_under, rows_under, waiting_rows}
 use Rattle.enumerator.specs.Waiting.{IsNew, left, IsWaiting, AreBelow, AreStacked, waited}
 use Rattle.enumerator.proofs.Lists.{map_map, has_map, has_left, has_right}
 use Rattle.enumerator.proofs.Bits.{new_left, unset_few}
@@ -21,13 +21,13 @@ abbrev pub frame : ℕ → Entry → Waiting
 frame m e = record { settled = m; entry = e }
 
 -- within a row: the rows of an entry under what is settled, and those of what waits below, are all that is left
-pub record IsInRow (store : List NamedRow) (v : ℕ) (P : Places) (m : ℕ) (e : Entry) (fs : List Waiting) (all : List SpanRow) (before now : ℕ) : Type 0 where
+pub record IsInRow (store : List NamedRow) (v : ℕ) (P : Positions) (m : ℕ) (e : Entry) (fs : List Waiting) (all : List SpanRow) (before now : ℕ) : Type 0 where
   pub same : map (row_under v m P) (rows store e) ++ waiting_rows store v P fs ≡ all
   pub waits : IsWaiting store v (frame m e)
   pub below : AreBelow store v m fs
   pub steps : now + left v m ≤ before + 2 * v
 
-pub in_row_begins : (store : List NamedRow) (v : ℕ) (P : Places) (f : Waiting) (fs : List Waiting) (before : ℕ) → IsWaiting store v f → AreBelow store v f.settled fs
+pub in_row_begins : (store : List NamedRow) (v : ℕ) (P : Positions) (f : Waiting) (fs : List Waiting) (before : ℕ) → IsWaiting store v f → AreBelow store v f.settled fs
     → IsInRow store v P f.settled f.entry fs (rows_under store v P f ++ waiting_rows store v P fs) before before
 in_row_begins store v P f fs before waits below = record { same = refl; waits = waits; below = below; steps = (let a = unset_few (2 * v) f.settled in omega arith) }
 
@@ -68,14 +68,14 @@ module _ (store : List NamedRow) (made : AreMade store) (v m k : ℕ) (r : Named
     cell_below fs below = waited_below store v m r.marks r.next fs cell_new below next_waits
 
     -- the rows of the cell are those of its child, with the block's markers put, and those of its next
-    pub cell_rows_under : (P : Places) → map (row_under v m P) (rows store (Row k)) ≡ map (row_under v (bit_or m r.marks) (put P block)) (rows store r.child) ++ map (row_under v m P) (rows store r.next)
+    pub cell_rows_under : (P : Positions) → map (row_under v m P) (rows store (Row k)) ≡ map (row_under v (bit_or m r.marks) (put P block)) (rows store r.child) ++ map (row_under v m P) (rows store r.next)
     cell_rows_under P =
         ap (map (row_under v m P)) cell_rows
         ∙ (map-append (row_under v m P) (map (λ (w : Word). block ∷ w) (rows store r.child)) (rows store r.next)
         ∙ ap (λ xs. xs ++ map (row_under v m P) (rows store r.next)) (map_map (row_under v m P) (λ (w : Word). block ∷ w) (rows store r.child)))
 
     -- those of its next, and of what waits, do not see the block
-    pub next_rows_kept : (P : Places) (fs : List Waiting) → AreBelow store v m fs
+    pub next_rows_kept : (P : Positions) (fs : List Waiting) → AreBelow store v m fs
         → map (row_under v m P) (rows store r.next) ++ waiting_rows store v P fs ≡ waiting_rows store v (put P block) (waited m r.next fs)
     next_rows_kept P fs below =
         ap₂ (λ (xs ys : List SpanRow). xs ++ ys)
@@ -83,7 +83,7 @@ module _ (store : List NamedRow) (made : AreMade store) (v m k : ℕ) (r : Named
         (waiting_kept store v m m block P fs cell_new (λ bit h. h) below)
         ∙ sym (waited_rows store v m (put P block) r.next fs)
 
-    pub cell_splits : (P : Places) (fs : List Waiting) → AreBelow store v m fs → map (row_under v m P) (rows store (Row k)) ++ waiting_rows store v P fs
+    pub cell_splits : (P : Positions) (fs : List Waiting) → AreBelow store v m fs → map (row_under v m P) (rows store (Row k)) ++ waiting_rows store v P fs
         ≡ map (row_under v (bit_or m r.marks) (put P block)) (rows store r.child) ++ waiting_rows store v (put P block) (waited m r.next fs)
     cell_splits P fs below =
         let front = map (row_under v (bit_or m r.marks) (put P block)) (rows store r.child) in
@@ -91,7 +91,7 @@ module _ (store : List NamedRow) (made : AreMade store) (v m k : ℕ) (r : Named
         ∙ (append_assoc front (map (row_under v m P) (rows store r.next)) (waiting_rows store v P fs)
         ∙ ap (λ xs. front ++ xs) (next_rows_kept P fs below))
 
-pub in_row_step : (store : List NamedRow) (made : AreMade store) (v m k : ℕ) (r : NamedRow) → row_at store k ≡ Some r → (P : Places) (fs : List Waiting) (all : List SpanRow) (before now : ℕ)
+pub in_row_step : (store : List NamedRow) (made : AreMade store) (v m k : ℕ) (r : NamedRow) → row_at store k ≡ Some r → (P : Positions) (fs : List Waiting) (all : List SpanRow) (before now : ℕ)
     → IsInRow store v P m (Row k) fs all before now → IsInRow store v (put P (r.at, r.marks)) (bit_or m r.marks) r.child (waited m r.next fs) all before (now + 1)
 in_row_step store made v m k r is P fs all before now h = record {
   same = sym (cell_splits store made v m k r is h.waits P fs h.below) ∙ h.same;
@@ -101,7 +101,7 @@ in_row_step store made v m k r is P fs all before now h = record {
 }
 
 -- so few wait that one more has room
-pub in_row_few : (store : List NamedRow) (made : AreMade store) (v m k : ℕ) (r : NamedRow) → row_at store k ≡ Some r → (P : Places) (fs : List Waiting) (all : List SpanRow) (before now : ℕ)
+pub in_row_few : (store : List NamedRow) (made : AreMade store) (v m k : ℕ) (r : NamedRow) → row_at store k ≡ Some r → (P : Positions) (fs : List Waiting) (all : List SpanRow) (before now : ℕ)
     → IsInRow store v P m (Row k) fs all before now → length fs < 2 * v
 in_row_few store made v m k r is P fs all before now h =
     let a = new_left v m r.marks (cell_new store made v m k r is h.waits) in
@@ -109,7 +109,7 @@ in_row_few store made v m k r is P fs all before now h =
     omega arith
 
 -- at the end of a row
-pub in_row_ends : (store : List NamedRow) (v : ℕ) (P : Places) (m : ℕ) (e : Entry) (fs : List Waiting) (all : List SpanRow) (before now : ℕ) → ((k : ℕ) → e ≡ Row k → ⊥) → IsInRow store v P m e fs all before now
+pub in_row_ends : (store : List NamedRow) (v : ℕ) (P : Positions) (m : ℕ) (e : Entry) (fs : List Waiting) (all : List SpanRow) (before now : ℕ) → ((k : ℕ) → e ≡ Row k → ⊥) → IsInRow store v P m e fs all before now
     → (all ≡ row_of v m P ∷ waiting_rows store v P fs) × AreStacked store v fs × (now ≤ before + 2 * v)
 in_row_ends store v P m Nothing fs all before now no_row h = absurd (h.waits.some refl)
 in_row_ends store v P m Done fs all before now no_row h =

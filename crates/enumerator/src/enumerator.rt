@@ -6,7 +6,7 @@ ghost use Rattle.node_arena.specs.Words.{Word};
 ghost use Rattle.node_arena.specs.Rows.{rows};
 ghost use Rattle.enumerator.specs.Enumeration.{AreInBlockOrder, AreRowsOf, IsRestAfter, IsWordOfRow};
 
-use crate::places::{MOST_MARKERS, row_of};
+use crate::positions::{MOST_MARKERS, row_of};
 use crate::seeking::seek_row;
 use crate::stack::Stack;
 use crate::walking::{next_row, wait};
@@ -23,7 +23,7 @@ use std::sync::ledger::Ledger;
 pub struct Enumerator {
     lists: RowLists,
     variables: usize,
-    places: [u32; MOST_MARKERS],
+    positions: [u32; MOST_MARKERS],
     spans: [Option<Span>; MOST_VARIABLES],
     stack: Stack,
 }
@@ -34,14 +34,14 @@ impl Model for Enumerator {
 
     ghost Value = { Enumeration };
 
-    ghost use Rattle.enumerator.specs.Rows.{places_of, rows_of, waiting_rows};
+    ghost use Rattle.enumerator.specs.Rows.{positions_of, rows_of, waiting_rows};
     ghost use Rattle.enumerator.specs.Enumerating.{IsEnumerating};
 
     ghost view = { λ e. record {
       variables = e.variables;
       cells = length e.lists.store;
       whole = rows_of e.lists e.variables;
-      rest = waiting_rows e.lists.store e.variables (places_of e.places) e.stack;
+      rest = waiting_rows e.lists.store e.variables (positions_of e.positions) e.stack;
       row = take e.variables e.spans;
     } };
 
@@ -65,7 +65,7 @@ impl Enumerator {
         Enumerator {
             lists,
             variables: v,
-            places: [0; MOST_MARKERS],
+            positions: [0; MOST_MARKERS],
             spans: [None; MOST_VARIABLES],
             stack,
         }
@@ -85,7 +85,7 @@ impl Enumerator {
             &self.lists,
             self.variables,
             after,
-            &mut self.places,
+            &mut self.positions,
             &mut self.stack,
             steps,
         );
@@ -104,7 +104,7 @@ impl Enumerator {
         next_row(
             &self.lists,
             self.variables,
-            &mut self.places,
+            &mut self.positions,
             &mut self.spans,
             &mut self.stack,
             steps,

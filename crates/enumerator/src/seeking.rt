@@ -8,11 +8,11 @@ ghost use Rattle.output_graph.specs.Listed.{AreLists};
 ghost use Rattle.node_arena.specs.Words.{Word};
 ghost use Rattle.node_arena.specs.Rows.{rows};
 ghost use Rattle.enumerator.specs.Enumeration.{IsRestAfter, IsWordOfRow};
-ghost use Rattle.enumerator.specs.Rows.{places_of, rows_of, waiting_rows};
+ghost use Rattle.enumerator.specs.Rows.{positions_of, rows_of, waiting_rows};
 ghost use Rattle.enumerator.specs.Seeking.{HasNoBlock, IsNextBlock, earlier_of};
 ghost use Rattle.enumerator.specs.Waiting.{AreStacked};
 
-use crate::places::{MOST_MARKERS, place};
+use crate::positions::{MOST_MARKERS, place};
 use crate::stack::{MOST_WAITING, Stack};
 use crate::walking::wait;
 use node_arena::{Entry, RowCell};
@@ -25,7 +25,7 @@ pub(crate) fn seek_row<L: Ledger>(
     lists: &RowLists,
     v: usize,
     after: &Row,
-    places: &mut [u32; MOST_MARKERS],
+    positions: &mut [u32; MOST_MARKERS],
     stack: &mut Stack,
     steps: &mut Steps<L>,
 )
@@ -34,7 +34,7 @@ pub(crate) fn seek_row<L: Ledger>(
     requires sound { AreLists lists.now }
     requires words { (w : Word) → Has (rows lists.now.store lists.now.first) w → IsWordOfRow v w }
     ensures stacked { AreStacked lists.now.store v stack.new }
-    ensures rest { IsRestAfter after.now (rows_of lists.now v) (waiting_rows lists.now.store v (places_of places.new) stack.new) }
+    ensures rest { IsRestAfter after.now (rows_of lists.now v) (waiting_rows lists.now.store v (positions_of positions.new) stack.new) }
     ensures steps { steps.new ≤ steps.old + length lists.now.store }
 {
     stack.clear();
@@ -60,7 +60,7 @@ pub(crate) fn seek_row<L: Ledger>(
         } else {
             wait(stack, settled, cell.next);
             let marks = Marks::of(block.number);
-            place(places, block.at, marks);
+            place(positions, block.at, marks);
             settled = settled.with(marks);
             entry = cell.child;
             sought = next_block(after, u64::from(block.at) + 1);

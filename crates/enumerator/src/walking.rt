@@ -1,17 +1,17 @@
 //! From one row to the next.
 //!
 //! What waits lies on a stack, the next row's part on top. Going down from it, each cell's neighbours wait and its
-//! markers are written into their places: as many cells as the row has markers, whatever the document's size.
+//! markers are written into their positions: as many cells as the row has markers, whatever the document's size.
 ghost use Rattle.std.specs.Prelude.{◌≡◌, ℕ, ◌+◌, ◌*◌, ◌<◌, ◌≤◌, List, Option, [], ◌∷◌, ◌++◌, length, take};
 ghost use Rattle.std.specs.Bool.{OnTrue, OnFalse};
 ghost use Rattle.span_core.specs.Lists.{Has};
 ghost use Rattle.output_graph.specs.Listed.{AreLists};
 ghost use Rattle.enumerator.specs.Enumeration.{SpanRow};
-ghost use Rattle.enumerator.specs.Rows.{places_of, rows_under, row_of as row_by, waiting_rows};
+ghost use Rattle.enumerator.specs.Rows.{positions_of, rows_under, row_of as row_by, waiting_rows};
 ghost use Rattle.enumerator.specs.Waiting.{AreBelow, AreStacked, IsWaiting, left, waited};
 ghost use Rattle.enumerator.specs.declared.stack.TheConstants.{MOST_WAITING};
 
-use crate::places::{MOST_MARKERS, place, read_spans};
+use crate::positions::{MOST_MARKERS, place, read_spans};
 use crate::stack::{MOST_WAITING, Stack, Waiting};
 use node_arena::Entry;
 use output_graph::RowLists;
@@ -22,7 +22,7 @@ use std::sync::ledger::Ledger;
 pub(crate) fn next_row<L: Ledger>(
     lists: &RowLists,
     v: usize,
-    places: &mut [u32; MOST_MARKERS],
+    positions: &mut [u32; MOST_MARKERS],
     spans: &mut [Option<Span>; MOST_VARIABLES],
     stack: &mut Stack,
     steps: &mut Steps<L>,
@@ -31,15 +31,15 @@ pub(crate) fn next_row<L: Ledger>(
     requires sound { AreLists lists.now }
     requires stacked { AreStacked lists.now.store v stack.old }
     ensures stacked { AreStacked lists.now.store v stack.new }
-    ensures next { OnTrue result (waiting_rows lists.now.store v (places_of places.old) stack.old ≡ take v spans.new ∷ waiting_rows lists.now.store v (places_of places.new) stack.new) }
+    ensures next { OnTrue result (waiting_rows lists.now.store v (positions_of positions.old) stack.old ≡ take v spans.new ∷ waiting_rows lists.now.store v (positions_of positions.new) stack.new) }
     ensures none { OnFalse result ((stack.old ≡ []) × (stack.new ≡ []) × (spans.new ≡ spans.old)) }
     ensures steps { steps.new ≤ steps.old + 2 * v }
 {
     let Some(waiting) = stack.pop() else {
         return false;
     };
-    let settled = settle(lists, v, waiting, places, stack, steps);
-    read_spans(v, settled, places, spans);
+    let settled = settle(lists, v, waiting, positions, stack, steps);
+    read_spans(v, settled, positions, spans);
     true
 }
 
@@ -48,7 +48,7 @@ fn settle<L: Ledger>(
     lists: &RowLists,
     v: usize,
     waiting: Waiting,
-    places: &mut [u32; MOST_MARKERS],
+    positions: &mut [u32; MOST_MARKERS],
     stack: &mut Stack,
     steps: &mut Steps<L>,
 ) -> Marks
@@ -57,8 +57,8 @@ fn settle<L: Ledger>(
     requires waits { IsWaiting lists.now.store v waiting }
     requires below { AreBelow lists.now.store v waiting.settled stack.old }
     ensures stacked { AreStacked lists.now.store v stack.new }
-    ensures row { rows_under lists.now.store v (places_of places.old) waiting ++ waiting_rows lists.now.store v (places_of places.old) stack.old
-        ≡ row_by v result (places_of places.new) ∷ waiting_rows lists.now.store v (places_of places.new) stack.new }
+    ensures row { rows_under lists.now.store v (positions_of positions.old) waiting ++ waiting_rows lists.now.store v (positions_of positions.old) stack.old
+        ≡ row_by v result (positions_of positions.new) ∷ waiting_rows lists.now.store v (positions_of positions.new) stack.new }
     ensures steps { steps.new ≤ steps.old + 2 * v }
 {
     let mut settled = waiting.settled;
@@ -66,7 +66,7 @@ fn settle<L: Ledger>(
     while let Entry::Row(id) = entry {
         let cell = lists.at(id, steps);
         wait(stack, settled, cell.next);
-        place(places, cell.at, cell.marks);
+        place(positions, cell.at, cell.marks);
         settled = settled.with(cell.marks);
         entry = cell.child;
     }
