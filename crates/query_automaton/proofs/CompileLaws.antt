@@ -1,5 +1,5 @@
 -- What is made of the parts of an expression when it is compiled.
-use Rattle.std.proofs.Common.{◌≡◌, ℕ, Bool, true, false, map, ◌+◌, ◌≤◌, List, [], ◌∷◌, length, take, drop, Some, inl, inr, refl, sym, ap, subst, arith, ◌∙◌}
+use Rattle.std.proofs.Common.{◌≡◌, ℕ, Bool, true, false, map, ◌+◌, ◌<◌, ◌≤◌, List, [], ◌∷◌, length, take, drop, Some, inl, inr, refl, sym, ap, subst, arith, ◌∙◌}
 use Rattle.std.specs.Prelude.{slice_get}
 use Rattle.std.specs.FinSet as set
 use Rattle.std.specs.List.{filter}
@@ -11,12 +11,14 @@ use Rattle.span_core.specs.Lists.{Has}
 use Rattle.span_core.specs.declared.TheConstants.{MOST_VARIABLES}
 use Rattle.spanner_model.specs.Captures.{VarName, Mapping}
 use Rattle.spanner_model.specs.Expression.{ExprTree, QueryTree, project, union_all, join_all}
+use Rattle.spanner_model.specs.ExprView.{query_of}
 use Rattle.spanner_model.specs.Answer.{VarOf, Answer, vars_of_lets, answers_of_lets}
 use Rattle.spanner_model.specs.Sound.{IsSoundExpr, NameIn, NameInLets, NameOf, sure_of_lets}
 use Rattle.spanner_model.proofs.Deciding.{told_lets}
 use Rattle.spanner_model.proofs.ExprLaws.{union_part, join_part, union_named, join_named, var_named, lets_named}
 use Rattle.span_core.proofs.HasLaws.{Has-slice_get, Has-append_cases, Has-append_left, Has-map_cases, distinct-le}
 use Rattle.spanner_model.proofs.NameLaws.{ascending-distinct}
+use Rattle.spanner_model.proofs.Nodes.{expr_nodes}
 use Rattle.spanner_model.proofs.TreeLaws.{take_at_more}
 use Rattle.marked_automaton.specs.declared.way.Way.{Way}
 use Rattle.marked_automaton.specs.declared.fault.SizeFault.{SizeFault}
@@ -36,12 +38,13 @@ use Rattle.marked_automaton.proofs.Passing.{filter_cases, flat_map_cases, right_
 use Rattle.algebra.proofs.ReductJoins.{reduct_of_join}
 use Rattle.algebra.proofs.UnionsOver.{reduct_of_union_over, union_over_whole}
 use Rattle.algebra.proofs.Whole.{join_whole}
+use Rattle.query_automaton.specs.BegunQuery.{BegunQuery, CanCompile}
 use Rattle.query_automaton.specs.Compiling.{IsAsked, AreCompiled, IsCompiledFrom}
 use Rattle.query_automaton.specs.Parts.{HasLargePartOf, HasSmallAtoms, numbers_of}
 use Rattle.query_automaton.specs.QueryAutomaton.{of_union, of_join, automaton_of, united, together, of_lets}
 use Rattle.query_automaton.proofs.Names.{all_ascend, all_are}
 use Rattle.query_automaton.proofs.Combining.{AreTooLarge, HaveFewNames, Operation, Union, Join, all_of, of_two}
-use Rattle.query_automaton.proofs.Combined.{alone, first_taken, grown, step_is_part, two_parts}
+use Rattle.query_automaton.proofs.Combined.{alone, first_taken, grown, part_at, step_is_part, two_parts}
 use Rattle.query_automaton.proofs.QueryWords.{expr_for, lets_for}
 use Rattle.query_automaton.proofs.Words.{IsFor}
 
@@ -319,3 +322,12 @@ module _ (q : QueryTree) (lets : List Marked) (known : AreCompiled q lets) where
       too_large (States count) h = (h.0, (numbers_of (of_two o A B), step_is_part L o es k y l at, omega (arith, h.1, no_larger.0)))
       too_large (Ways count) h = (h.0, (numbers_of (of_two o A B), step_is_part L o es k y l at, omega (arith, h.1, no_larger.1)))
       too_large OutOfMemory h = tt
+
+-- a part has fewer nodes than the whole, and can be compiled where the whole can
+pub part_can : (o : Operation) (b : BegunQuery) (es : List ExprTree) (k : ℕ) (e : ExprTree) → slice_get es k ≡ Some e → CanCompile b (all_of o es) →
+    (expr_nodes e < expr_nodes (all_of o es)) × CanCompile b e
+part_can o b es k e at can =
+    let q = query_of b.query in
+    let n = length b.lets in
+    let part = part_at (vars_of_lets q.lets n) (sure_of_lets q.lets n) n o es k e at can.asked.sound_expr in
+    (part.0, record { known = can.known; asked = asked_part o q n es e (Has-slice_get es k e at) can.asked })

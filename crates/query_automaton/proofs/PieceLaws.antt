@@ -10,6 +10,8 @@ use Rattle.spanner_model.specs.Tree.{Tree}
 use Rattle.spanner_model.specs.Captures.{VarName}
 use Rattle.spanner_model.specs.Sequential.{HasVar}
 use Rattle.spanner_model.specs.Expression.{ExprTree, QueryTree, atom, project}
+use Rattle.spanner_model.specs.declared.query.Query.{Query}
+use Rattle.spanner_model.specs.ExprView.{query_of}
 use Rattle.spanner_model.specs.Sound.{IsSound}
 use Rattle.spanner_model.proofs.ExprLaws.{let_named}
 use Rattle.span_core.proofs.HasLaws.{place_of-Has}
@@ -29,8 +31,9 @@ use Rattle.place_automaton.specs.Refusals.{IsRefusalOf}
 use Rattle.place_automaton.specs.Variables.{with_vars}
 use Rattle.place_automaton.specs.Words.{atom_automaton}
 use Rattle.place_automaton.proofs.NameLists.{list_ascends, vars_are}
+use Rattle.query_automaton.specs.BegunQuery.{BegunQuery, CanCompile, HasLargePartIn, IsCompiledIn}
 use Rattle.query_automaton.specs.Compiling.{IsAsked, AreCompiled, IsCompiledFrom}
-use Rattle.query_automaton.specs.Parts.{HasLargePartOf, HasSmallAtoms, PartNumbers}
+use Rattle.query_automaton.specs.Parts.{HasLargePart, HasLargePartOf, HasSmallAtoms, PartNumbers}
 use Rattle.query_automaton.specs.QueryAutomaton.{of_atom, automaton_of, of_lets, of_one_let}
 use Rattle.query_automaton.proofs.CompileLaws.{asked_sub, shape}
 
@@ -162,3 +165,42 @@ asked_let q n l s at = record { sound = s; sound_expr = (s.sound_lets n l at).0;
 -- what is asked of the body
 pub asked_body : (q : QueryTree) → IsSound q → IsAsked q (length q.lets) q.body
 asked_body q s = record { sound = s; sound_expr = s.sound_body.0; named = λ x h. inr h }
+
+-- ---- the next let, as it is compiled
+
+module _ (first b : BegunQuery) (same : b.query ≡ first.query) (k : ℕ) (long : length b.lets ≡ k) (known : AreCompiled (query_of first.query) b.lets) (l : VarName × ExprTree)
+    (at : slice_get (query_of first.query).lets k ≡ Some l) where
+  pub let_can : IsSound (query_of first.query) → CanCompile b l.1
+  let_can sound = record {
+    known = subst (λ (q : Query). AreCompiled (query_of q) b.lets) (sym same) known;
+    asked = subst (λ (q : Query). IsAsked (query_of q) (length b.lets) l.1) (sym same)
+        (subst (λ n. IsAsked (query_of first.query) n l.1) (sym long) (asked_let (query_of first.query) k l sound at));
+  }
+
+  pub let_fault : (fault : SizeFault) → HasLargePartIn b l.1 fault → HasLargePart (query_of first.query) fault
+  let_fault fault h =
+      let here = subst (λ (q : Query). HasLargePartOf (of_lets (query_of q).lets (length b.lets)) l.1 fault) same h in
+      inl (k, l, at, subst (λ n. HasLargePartOf (of_lets (query_of first.query).lets n) l.1 fault) long here)
+
+  pub let_more : (a : Marked) → IsCompiledIn b l.1 a → AreCompiled (query_of first.query) (b.lets ++ a ∷ [])
+  let_more a made =
+      one_more (query_of first.query) b.lets l a (ap (λ n. slice_get (query_of first.query).lets n) long ∙ at) known
+      (subst (λ (q : Query). IsCompiledFrom (query_of q) (length b.lets) l.1 a) same made)
+
+-- ---- the body, after all lets
+
+module _ (q : Query) (b : BegunQuery) (same : b.query ≡ q) (long : length b.lets ≡ length (query_of q).lets) where
+  pub body_can : AreCompiled (query_of q) b.lets → IsSound (query_of q) → CanCompile b (query_of q).body
+  body_can known sound = record {
+    known = subst (λ (x : Query). AreCompiled (query_of x) b.lets) (sym same) known;
+    asked = subst (λ (x : Query). IsAsked (query_of x) (length b.lets) (query_of q).body) (sym same)
+        (subst (λ n. IsAsked (query_of q) n (query_of q).body) (sym long) (asked_body (query_of q) sound));
+  }
+
+  pub body_fault : (fault : SizeFault) → HasLargePartIn b (query_of q).body fault → HasLargePart (query_of q) fault
+  body_fault fault h =
+      let here = subst (λ (x : Query). HasLargePartOf (of_lets (query_of x).lets (length b.lets)) (query_of q).body fault) same h in
+      inr (subst (λ n. HasLargePartOf (of_lets (query_of q).lets n) (query_of q).body fault) long here)
+
+  pub body_made : (body : Marked) → IsCompiledIn b (query_of q).body body → IsCompiledFrom (query_of q) (length b.lets) (query_of q).body body
+  body_made body made = subst (λ (x : Query). IsCompiledFrom (query_of x) (length b.lets) (query_of q).body body) same made

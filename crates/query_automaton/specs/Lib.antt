@@ -1,4 +1,5 @@
 -- what public contracts rest on
+pub mod BegunQuery
 pub mod CompiledQuery
 pub mod Compiling
 pub mod Laws

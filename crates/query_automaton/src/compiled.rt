@@ -2,20 +2,16 @@
 //!
 //! A compiled query keeps the query that it was made from, with the invariant that it is sound and that the automaton
 //! reduces its own: so what reads by the automaton asks nothing of its caller.
-ghost use Rattle.std.specs.Prelude.{◌≡◌, ℕ, ◌<◌, length, IfOk, IfErr, OnOk};
+ghost use Rattle.std.specs.Prelude.{◌≡◌, ℕ, ◌<◌, IfOk, IfErr, OnOk};
 ghost use Rattle.spanner_model.specs.ExprView.{query_of};
 ghost use Rattle.spanner_model.specs.Sound.{IsSound};
 ghost use Rattle.marked_automaton.specs.Reduct.{IsUseful, ReducesMarked};
 ghost use Rattle.query_automaton.specs.CompiledQuery.{IsCompiled};
-ghost use Rattle.query_automaton.specs.Compiling.{AreCompiled};
 ghost use Rattle.query_automaton.specs.Laws.{AcceptsAnswersOf};
 ghost use Rattle.query_automaton.specs.Parts.{AtomsAreSmall, HasLargePart};
 ghost use Rattle.query_automaton.specs.QueryAutomaton.{of_query};
 
-use crate::effort::{MOST_STEPS, hold};
-use crate::expressions::expr_automaton;
-use crate::shared::Shared;
-use algebra::Effort;
+use crate::expressions::Compiler;
 use marked_automaton::{Automaton, SizeFault};
 use span_core::VarSet;
 use spanner_model::Query;
@@ -68,34 +64,12 @@ pub fn compile<'q>(alloc: Global, query: &'q Query) -> Result<Compiled<'q>, Size
     ensures small { OnOk result (AtomsAreSmall (query_of query.now)) }
     ensures fault { IfErr result (HasLargePart (query_of query.now)) }
 {
-    let mut effort = Effort::new(MOST_STEPS);
-    let mut held = 0;
-    let lets = let_automata(alloc, query, &mut held, &mut effort)?;
-    let body = expr_automaton(alloc, query, &lets, &query.body, held, &mut effort)?;
-    drop(lets);
+    let mut compiler = Compiler::new(alloc, query);
+    compiler.compile_lets()?;
+    let body = compiler.expression(&query.body)?;
+    drop(compiler);
     let automaton = body.take(alloc)?.trim(alloc)?;
     Ok(Compiled { query, automaton })
-}
-
-/// The automata of the `let`s, in their order, which count as held.
-fn let_automata(
-    alloc: Global,
-    query: &Query,
-    held: &mut u64,
-    effort: &mut Effort,
-) -> Result<Vec<Shared>, SizeFault>
-    requires { IsSound (query_of query.now) }
-    ensures long { IfOk result (λ lets. length lets.items ≡ length (query_of query.now).lets) }
-    ensures made { IfOk result (λ lets. AreCompiled (query_of query.now) lets.items) }
-    ensures fault { IfErr result (HasLargePart (query_of query.now)) }
-{
-    let mut lets = Vec::new(alloc);
-    for k in 0..query.lets.len() {
-        let automaton = expr_automaton(alloc, query, &lets, &query.lets.at(k).1, *held, effort)?;
-        *held = hold(*held, automaton.own_size())?;
-        lets.push(automaton)?;
-    }
-    Ok(lets)
 }
 
 impl<'q> Compiled<'q> {

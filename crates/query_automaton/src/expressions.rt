@@ -2,27 +2,29 @@
 //!
 //! Unions grow in place behind their first part, joins are trimmed as they are made. What is held while further parts
 //! are compiled is counted, and so is all that is made, against two guards. An automaton is a kilobyte and more, with the
-//! names of its variables: it is made in a function of its own, apart from the recursion, which keeps pointers alone, so
+//! names of its variables: it is made in a method of its own, apart from the recursion, which keeps pointers alone, so
 //! that the stack that an expression takes is small however deep it nests.
-ghost use Rattle.std.specs.Prelude.{◌≡◌, ℕ, ◌≤◌, length, IfOk, IfErr};
+ghost use Rattle.std.specs.Prelude.{◌≡◌, ◌<◌, ◌≤◌, ◌++◌, [], ◌∷◌, length, slice_get, Some, IfOk, IfErr, OnOk};
 ghost use Rattle.span_core.specs.declared.TheConstants.{MOST_VARIABLES};
 ghost use Rattle.spanner_model.specs.Captures.{VarName};
-ghost use Rattle.spanner_model.specs.Expression.{QueryTree, atom as atom_tree, join_all, union_all};
+ghost use Rattle.spanner_model.specs.Expression.{atom as atom_tree, join_all, union_all};
 ghost use Rattle.spanner_model.specs.ExprView.{expr_of, exprs_of, query_of};
 ghost use Rattle.spanner_model.specs.Sequential.{HasVar, IsSequential};
+ghost use Rattle.spanner_model.specs.Sound.{IsSound};
 ghost use Rattle.span_core.specs.Lists.{AtMost, Has};
 ghost use Rattle.spanner_model.specs.View.{tree_of};
 ghost use Rattle.spanner_model.specs.WellBuilt.{IsWellBuilt};
-ghost use Rattle.marked_automaton.specs.Automaton.{IsMarked, Marked};
+ghost use Rattle.marked_automaton.specs.Automaton.{IsMarked};
 ghost use Rattle.marked_automaton.specs.Faults.{IsSizeFaultWithin};
 ghost use Rattle.marked_automaton.specs.Marks.{left_of, remarked};
 ghost use Rattle.marked_automaton.specs.Reduct.{Reduces, ReducesMarked};
 ghost use Rattle.algebra.specs.JoinedNames.{all_names};
-ghost use Rattle.query_automaton.specs.Compiling.{AreCompiled, IsAsked, IsCompiledFrom};
-ghost use Rattle.query_automaton.specs.Parts.{HasLargePartOf};
-ghost use Rattle.query_automaton.specs.QueryAutomaton.{of_join, of_lets, of_minus, of_union};
+ghost use Rattle.query_automaton.specs.BegunQuery.{CanCompile, HasLargePartIn, IsCompiledIn};
+ghost use Rattle.query_automaton.specs.Compiling.{AreCompiled};
+ghost use Rattle.query_automaton.specs.Parts.{HasLargePart};
+ghost use Rattle.query_automaton.specs.QueryAutomaton.{of_join, of_minus, of_union};
 
-use crate::effort::{hold, spend};
+use crate::effort::{MOST_STEPS, hold, spend};
 use crate::shared::Shared;
 use algebra::{Effort, join_within, project, unite};
 use algebra_minus::minus_within;
@@ -31,187 +33,249 @@ use place_automaton::of_atom;
 use span_core::{MOST_VARIABLES, OutOfMemory, VarSet};
 use spanner_model::{Atom, Expr, Exprs, Query};
 use std::alloc::Global;
+use std::marker::Model;
 
-/// The automaton of an expression of the query, where `lets` has those of the `let`s before it. So many
-/// states, ways and ends are held already.
-#[cycle(compiling)]
-pub fn expr_automaton(
+/// What the expressions of a query are compiled with: the query, the automata of its first `let`s, how much is held, and
+/// how much work is left. It is seen as the query with these automata.
+#[derive(Drop)]
+pub struct Compiler<'q> {
     alloc: Global,
-    query: &Query,
-    lets: &[Shared],
-    expr: &Expr,
+    query: &'q Query,
+    lets: Vec<Shared>,
+    /// The states, ways and ends that are held: those of the `let`s, and of the parts that wait.
     held: u64,
-    effort: &mut Effort,
-) -> Result<Shared, SizeFault>
-    requires known { AreCompiled (query_of query.now) lets.now }
-    requires asked { IsAsked (query_of query.now) (length lets.now) (expr_of expr.now) }
-    ensures made { IfOk result (IsCompiledFrom (query_of query.now) (length lets.now) (expr_of expr.now)) }
-    ensures fault { IfErr result (HasLargePartOf (of_lets (query_of query.now).lets (length lets.now)) (expr_of expr.now)) }
-{
-    match expr {
-        Expr::Atom(atom) => atom_automaton(alloc, atom, effort),
-        Expr::Named(k) => Ok(lets[*k as usize].share()?),
-        Expr::Union(parts) => union_automaton(alloc, query, lets, parts, held, effort),
-        Expr::Join(parts) => join_automaton(alloc, query, lets, parts, held, effort),
-        Expr::Project(kept, sub) => {
-            let inner = expr_automaton(alloc, query, lets, sub, held, effort)?;
-            Ok(projected(alloc, inner, kept, effort)?)
+    effort: Effort,
+}
+
+impl<'q> Model for Compiler<'q> {
+    ghost use Rattle.query_automaton.specs.BegunQuery.{BegunQuery, begun_code};
+
+    ghost Value = { BegunQuery };
+
+    ghost coded = { begun_code };
+
+    ghost view = { λ c. record {
+      query = c.query.now;
+      lets = c.lets.items;
+    } };
+}
+
+impl<'q> Compiler<'q> {
+    /// Nothing is compiled yet.
+    pub fn new(alloc: Global, query: &'q Query) -> Compiler<'q>
+        ensures query { result.query ≡ query.now }
+        ensures lets { result.lets ≡ [] }
+    {
+        Compiler {
+            alloc,
+            query,
+            lets: Vec::new(alloc),
+            held: 0,
+            effort: Effort::new(MOST_STEPS),
         }
-        Expr::Minus(left, right) => {
-            let first = expr_automaton(alloc, query, lets, left, held, effort)?;
-            let waiting = hold(held, first.own_size())?;
-            let second = expr_automaton(alloc, query, lets, right, waiting, effort)?;
-            differing(alloc, first.as_automaton(), second.as_automaton(), effort)
+    }
+
+    /// Compiles the `let`s, in their order; their automata count as held.
+    pub fn compile_lets(&mut self) -> Result<(), SizeFault>
+        requires sound { IsSound (query_of self.old.query) }
+        requires none { self.old.lets ≡ [] }
+        ensures query { self.new.query ≡ self.old.query }
+        ensures long { OnOk result (length self.new.lets ≡ length (query_of self.old.query).lets) }
+        ensures made { OnOk result (AreCompiled (query_of self.old.query) self.new.lets) }
+        ensures fault { IfErr result (HasLargePart (query_of self.old.query)) }
+    {
+        let query = self.query;
+        for k in 0..query.lets.len() {
+            let automaton = self.expression(&query.lets.at(k).1)?;
+            self.keep(automaton)?;
+        }
+        Ok(())
+    }
+
+    /// Keeps the automaton of one `let` more, which counts as held.
+    fn keep(&mut self, automaton: Shared) -> Result<(), SizeFault>
+        ensures query { self.new.query ≡ self.old.query }
+        ensures lets { OnOk result (self.new.lets ≡ self.old.lets ++ automaton ∷ []) }
+        ensures fault { IfErr result (λ fault. fault ≡ SizeFault.OutOfMemory) }
+    {
+        self.held = hold(self.held, automaton.own_size())?;
+        self.lets.push(automaton)?;
+        Ok(())
+    }
+
+    /// The automaton of an expression of the query.
+    #[cycle(compiling)]
+    pub fn expression(&mut self, expr: &Expr) -> Result<Shared, SizeFault>
+        requires { CanCompile self.old (expr_of expr.now) }
+        ensures same { self.new ≡ self.old }
+        ensures made { IfOk result (IsCompiledIn self.old (expr_of expr.now)) }
+        ensures fault { IfErr result (HasLargePartIn self.old (expr_of expr.now)) }
+    {
+        match expr {
+            Expr::Atom(atom) => self.atom(atom),
+            Expr::Named(k) => Ok(self.named(*k)?),
+            Expr::Union(parts) => self.union(parts),
+            Expr::Join(parts) => self.join(parts),
+            Expr::Project(kept, sub) => {
+                let inner = self.expression(sub)?;
+                Ok(self.projected(inner, kept)?)
+            }
+            Expr::Minus(left, right) => {
+                let first = self.expression(left)?;
+                let second = self.beside(&first, right)?;
+                self.differing(first.as_automaton(), second.as_automaton())
+            }
         }
     }
-}
 
-/// The automaton of an atom, with what leads to no end left out.
-#[inline(never)]
-fn atom_automaton(alloc: Global, atom: &Atom, effort: &mut Effort) -> Result<Shared, SizeFault>
-    requires built { IsWellBuilt (tree_of atom.now.formula) }
-    requires sequential { IsSequential (tree_of atom.now.formula) }
-    requires few { AtMost MOST_VARIABLES (HasVar (tree_of atom.now.formula)) }
-    ensures made { IfOk result (λ a. (q : QueryTree) (n : ℕ) → IsCompiledFrom q n (atom_tree atom.now.from_start atom.now.to_end (tree_of atom.now.formula)) a) }
-    ensures fault { IfErr result (λ fault. (L : ℕ → Marked) → HasLargePartOf L (atom_tree atom.now.from_start atom.now.to_end (tree_of atom.now.formula)) fault) }
-{
-    let whole = of_atom(alloc, atom)?;
-    spend(effort, &whole)?;
-    Ok(Shared::new(alloc, whole.trim(alloc)?)?)
-}
-
-/// What is left of an automaton on the kept variables. Where these are all that it has, it is the
-/// automaton itself, and nothing is copied.
-#[inline(never)]
-fn projected(
-    alloc: Global,
-    inner: Shared,
-    kept: &VarSet,
-    effort: &mut Effort,
-) -> Result<Shared, OutOfMemory>
-    requires { (x : VarName) → Has kept.now x → Has inner.names x }
-    ensures names { IfOk result (λ p. p.names ≡ kept.now) }
-    ensures reduct { IfOk result (λ p. Reduces p.graph (remarked (left_of inner.names kept.now) inner.graph)) }
-{
-    let whole = inner.as_automaton();
-    prove!(whole.states() <= MOST_STATES);
-    if kept.len() == whole.vars().len() {
-        return Ok(inner);
+    /// The automaton of an expression that is compiled while another waits, which counts as held.
+    #[cycle(compiling)]
+    fn beside(&mut self, waiting: &Shared, expr: &Expr) -> Result<Shared, SizeFault>
+        requires { CanCompile self.old (expr_of expr.now) }
+        ensures same { self.new ≡ self.old }
+        ensures made { IfOk result (IsCompiledIn self.old (expr_of expr.now)) }
+        ensures fault { IfErr result (HasLargePartIn self.old (expr_of expr.now)) }
+    {
+        let held = self.held;
+        self.held = hold(held, waiting.own_size())?;
+        let automaton = self.expression(expr)?;
+        self.held = held;
+        Ok(automaton)
     }
-    spend(effort, whole)?;
-    Ok(Shared::new(alloc, project(alloc, whole, kept)?)?)
-}
 
-/// The automaton of a union, each part put behind those before it.
-#[cycle(compiling)]
-fn union_automaton(
-    alloc: Global,
-    query: &Query,
-    lets: &[Shared],
-    parts: &Exprs,
-    held: u64,
-    effort: &mut Effort,
-) -> Result<Shared, SizeFault>
-    requires known { AreCompiled (query_of query.now) lets.now }
-    requires asked { IsAsked (query_of query.now) (length lets.now) (union_all (exprs_of parts.now)) }
-    ensures made { IfOk result (IsCompiledFrom (query_of query.now) (length lets.now) (union_all (exprs_of parts.now))) }
-    ensures fault { IfErr result (HasLargePartOf (of_lets (query_of query.now).lets (length lets.now)) (union_all (exprs_of parts.now))) }
-{
-    let mut all = expr_automaton(alloc, query, lets, parts.at(0), held, effort)?;
-    spend(effort, all.as_automaton())?;
-    for k in 1..parts.len() {
-        let waiting = hold(held, all.own_size())?;
-        let part = expr_automaton(alloc, query, lets, parts.at(k), waiting, effort)?;
-        all = united(alloc, all, part.as_automaton(), effort)?;
+    /// The automaton of a union, each part put behind those before it.
+    #[cycle(compiling)]
+    fn union(&mut self, parts: &Exprs) -> Result<Shared, SizeFault>
+        requires { CanCompile self.old (union_all (exprs_of parts.now)) }
+        ensures same { self.new ≡ self.old }
+        ensures made { IfOk result (IsCompiledIn self.old (union_all (exprs_of parts.now))) }
+        ensures fault { IfErr result (HasLargePartIn self.old (union_all (exprs_of parts.now))) }
+    {
+        let mut all = self.expression(parts.at(0))?;
+        self.spend(all.as_automaton())?;
+        for k in 1..parts.len() {
+            let part = self.beside(&all, parts.at(k))?;
+            all = self.united(all, part.as_automaton())?;
+        }
+        Ok(all)
     }
-    Ok(all)
-}
 
-/// The union of the parts so far with one part more, made in place; what a `let` has is copied.
-#[inline(never)]
-fn united(
-    alloc: Global,
-    all: Shared,
-    part: &Automaton,
-    effort: &mut Effort,
-) -> Result<Shared, SizeFault>
-    requires { length (all_names all.names part.now.names) ≤ MOST_VARIABLES }
-    ensures marked { IsMarked all × IsMarked part.now }
-    ensures made { IfOk result (λ both. ReducesMarked both (of_union all part.now)) }
-    ensures fault { IfErr result (IsSizeFaultWithin (of_union all part.now).graph.states (length (of_union all part.now).graph.ways)) }
-{
-    let own = all.as_automaton();
-    prove!(own.states() <= MOST_STATES);
-    spend(effort, part)?;
-    let before = own.vars().len();
-    let both = unite(alloc, all.take(alloc)?, part)?;
-    // Over more variables each way is marked anew.
-    if both.vars().len() > before {
-        spend(effort, &both)?;
+    /// The automaton of a join, its parts taken from left to right.
+    #[cycle(compiling)]
+    fn join(&mut self, parts: &Exprs) -> Result<Shared, SizeFault>
+        requires { CanCompile self.old (join_all (exprs_of parts.now)) }
+        ensures same { self.new ≡ self.old }
+        ensures made { IfOk result (IsCompiledIn self.old (join_all (exprs_of parts.now))) }
+        ensures fault { IfErr result (HasLargePartIn self.old (join_all (exprs_of parts.now))) }
+    {
+        let mut all = self.expression(parts.at(0))?;
+        for k in 1..parts.len() {
+            let part = self.beside(&all, parts.at(k))?;
+            all = self.joined(all.as_automaton(), part.as_automaton())?;
+        }
+        Ok(all)
     }
-    Ok(Shared::new(alloc, both)?)
-}
 
-/// The automaton of a join, its parts taken from left to right.
-#[cycle(compiling)]
-fn join_automaton(
-    alloc: Global,
-    query: &Query,
-    lets: &[Shared],
-    parts: &Exprs,
-    held: u64,
-    effort: &mut Effort,
-) -> Result<Shared, SizeFault>
-    requires known { AreCompiled (query_of query.now) lets.now }
-    requires asked { IsAsked (query_of query.now) (length lets.now) (join_all (exprs_of parts.now)) }
-    ensures made { IfOk result (IsCompiledFrom (query_of query.now) (length lets.now) (join_all (exprs_of parts.now))) }
-    ensures fault { IfErr result (HasLargePartOf (of_lets (query_of query.now).lets (length lets.now)) (join_all (exprs_of parts.now))) }
-{
-    let mut all = expr_automaton(alloc, query, lets, parts.at(0), held, effort)?;
-    for k in 1..parts.len() {
-        let waiting = hold(held, all.own_size())?;
-        let part = expr_automaton(alloc, query, lets, parts.at(k), waiting, effort)?;
-        all = joined(alloc, all.as_automaton(), part.as_automaton(), effort)?;
+    /// The automaton of an atom, with what leads to no end left out.
+    #[inline(never)]
+    fn atom(&mut self, atom: &Atom) -> Result<Shared, SizeFault>
+        requires built { IsWellBuilt (tree_of atom.now.formula) }
+        requires sequential { IsSequential (tree_of atom.now.formula) }
+        requires few { AtMost MOST_VARIABLES (HasVar (tree_of atom.now.formula)) }
+        ensures same { self.new ≡ self.old }
+        ensures made { IfOk result (IsCompiledIn self.old (atom_tree atom.now.from_start atom.now.to_end (tree_of atom.now.formula))) }
+        ensures fault { IfErr result (HasLargePartIn self.old (atom_tree atom.now.from_start atom.now.to_end (tree_of atom.now.formula))) }
+    {
+        let whole = of_atom(self.alloc, atom)?;
+        spend(&mut self.effort, &whole)?;
+        Ok(Shared::new(self.alloc, whole.trim(self.alloc)?)?)
     }
-    Ok(all)
-}
 
-/// The join of the parts so far with one part more, with what leads to no end left out.
-#[inline(never)]
-fn joined(
-    alloc: Global,
-    all: &Automaton,
-    part: &Automaton,
-    effort: &mut Effort,
-) -> Result<Shared, SizeFault>
-    requires { length (all_names all.now.names part.now.names) ≤ MOST_VARIABLES }
-    ensures marked { IsMarked all.now × IsMarked part.now }
-    ensures made { IfOk result (λ both. ReducesMarked both (of_join all.now part.now)) }
-    ensures fault { IfErr result (IsSizeFaultWithin (of_join all.now part.now).graph.states (length (of_join all.now part.now).graph.ways)) }
-{
-    // The ways that it tries `join_within` counts.
-    effort.spend(u64::from(all.states()) + u64::from(part.states()));
-    let pairs = join_within(alloc, all, part, effort)?;
-    spend(effort, &pairs)?;
-    Ok(Shared::new(alloc, pairs.trim(alloc)?)?)
-}
+    /// The automaton of a `let`, with one owner more.
+    fn named(&self, k: u32) -> Result<Shared, OutOfMemory>
+        requires { k < length self.now.lets }
+        ensures { IfOk result (λ a. slice_get self.now.lets k ≡ Some a) }
+    {
+        Ok(self.lets[k as usize].share()?)
+    }
 
-/// The difference of two parts, with what leads to no end left out.
-#[inline(never)]
-fn differing(
-    alloc: Global,
-    left: &Automaton,
-    right: &Automaton,
-    effort: &mut Effort,
-) -> Result<Shared, SizeFault>
-    requires { left.now.names ≡ right.now.names }
-    ensures marked { IsMarked left.now × IsMarked right.now }
-    ensures made { IfOk result (λ alone. ReducesMarked alone (of_minus left.now right.now)) }
-    ensures fault { IfErr result (IsSizeFaultWithin (of_minus left.now right.now).graph.states (length (of_minus left.now right.now).graph.ways)) }
-{
-    // What is tried `minus_within` counts.
-    effort.spend(u64::from(left.states()) + u64::from(right.states()));
-    let alone = minus_within(alloc, left, right, effort)?;
-    spend(effort, &alone)?;
-    Ok(Shared::new(alloc, alone.trim(alloc)?)?)
+    /// What is left of an automaton on the kept variables. Where these are all that it has, it is the
+    /// automaton itself, and nothing is copied.
+    #[inline(never)]
+    fn projected(&mut self, inner: Shared, kept: &VarSet) -> Result<Shared, OutOfMemory>
+        requires { (x : VarName) → Has kept.now x → Has inner.names x }
+        ensures same { self.new ≡ self.old }
+        ensures names { IfOk result (λ p. p.names ≡ kept.now) }
+        ensures reduct { IfOk result (λ p. Reduces p.graph (remarked (left_of inner.names kept.now) inner.graph)) }
+    {
+        let whole = inner.as_automaton();
+        prove!(whole.states() <= MOST_STATES);
+        if kept.len() == whole.vars().len() {
+            return Ok(inner);
+        }
+        spend(&mut self.effort, whole)?;
+        Ok(Shared::new(self.alloc, project(self.alloc, whole, kept)?)?)
+    }
+
+    /// The union of the parts so far with one part more, made in place; what a `let` has is copied.
+    #[inline(never)]
+    fn united(&mut self, all: Shared, part: &Automaton) -> Result<Shared, SizeFault>
+        requires { length (all_names all.names part.now.names) ≤ MOST_VARIABLES }
+        ensures same { self.new ≡ self.old }
+        ensures marked { IsMarked all × IsMarked part.now }
+        ensures made { IfOk result (λ both. ReducesMarked both (of_union all part.now)) }
+        ensures fault { IfErr result (IsSizeFaultWithin (of_union all part.now).graph.states (length (of_union all part.now).graph.ways)) }
+    {
+        let own = all.as_automaton();
+        prove!(own.states() <= MOST_STATES);
+        spend(&mut self.effort, part)?;
+        let before = own.vars().len();
+        let both = unite(self.alloc, all.take(self.alloc)?, part)?;
+        // Over more variables each way is marked anew.
+        if both.vars().len() > before {
+            spend(&mut self.effort, &both)?;
+        }
+        Ok(Shared::new(self.alloc, both)?)
+    }
+
+    /// The join of the parts so far with one part more, with what leads to no end left out.
+    #[inline(never)]
+    fn joined(&mut self, all: &Automaton, part: &Automaton) -> Result<Shared, SizeFault>
+        requires { length (all_names all.now.names part.now.names) ≤ MOST_VARIABLES }
+        ensures same { self.new ≡ self.old }
+        ensures marked { IsMarked all.now × IsMarked part.now }
+        ensures made { IfOk result (λ both. ReducesMarked both (of_join all.now part.now)) }
+        ensures fault { IfErr result (IsSizeFaultWithin (of_join all.now part.now).graph.states (length (of_join all.now part.now).graph.ways)) }
+    {
+        // The ways that it tries `join_within` counts.
+        self.effort
+            .spend(u64::from(all.states()) + u64::from(part.states()));
+        let pairs = join_within(self.alloc, all, part, &mut self.effort)?;
+        spend(&mut self.effort, &pairs)?;
+        Ok(Shared::new(self.alloc, pairs.trim(self.alloc)?)?)
+    }
+
+    /// The difference of two parts, with what leads to no end left out.
+    #[inline(never)]
+    fn differing(&mut self, left: &Automaton, right: &Automaton) -> Result<Shared, SizeFault>
+        requires { left.now.names ≡ right.now.names }
+        ensures same { self.new ≡ self.old }
+        ensures marked { IsMarked left.now × IsMarked right.now }
+        ensures made { IfOk result (λ alone. ReducesMarked alone (of_minus left.now right.now)) }
+        ensures fault { IfErr result (IsSizeFaultWithin (of_minus left.now right.now).graph.states (length (of_minus left.now right.now).graph.ways)) }
+    {
+        // What is tried `minus_within` counts.
+        self.effort
+            .spend(u64::from(left.states()) + u64::from(right.states()));
+        let alone = minus_within(self.alloc, left, right, &mut self.effort)?;
+        spend(&mut self.effort, &alone)?;
+        Ok(Shared::new(self.alloc, alone.trim(self.alloc)?)?)
+    }
+
+    /// Spends what it costs to make this automaton. Refused where nothing is left.
+    fn spend(&mut self, automaton: &Automaton) -> Result<(), OutOfMemory>
+        ensures { self.new ≡ self.old }
+    {
+        spend(&mut self.effort, automaton)
+    }
 }

@@ -1,4 +1,5 @@
-use Rattle.std.proofs.Common.{◌≡◌, ℕ, length, sym, ap, ◌∙◌, subst, inr}
+use Rattle.std.proofs.Common.{◌≡◌, ℕ, length, sym, ◌∙◌, subst}
+use Rattle.spanner_model.specs.declared.query.Query.{Query}
 use Rattle.spanner_model.specs.ExprView.{query_of}
 use Rattle.spanner_model.specs.Expression.{QueryTree}
 use Rattle.spanner_model.specs.Sound.{IsSound}
@@ -7,26 +8,39 @@ use Rattle.marked_automaton.specs.Reduct.{Reduces, ReducesMarked}
 use Rattle.marked_automaton.proofs.Reducts.{reduct_of_reduct}
 use Rattle.algebra.proofs.Followed.{handed_on}
 use Rattle.query_automaton.specs.CompiledQuery.{IsCompiled}
-use Rattle.query_automaton.specs.Compiling.{IsAsked, IsCompiledFrom}
-use Rattle.query_automaton.specs.Parts.{HasLargePart, HasLargePartOf}
-use Rattle.query_automaton.specs.QueryAutomaton.{of_lets, of_query}
-use Rattle.query_automaton.proofs.PieceLaws.{all_lets_small, asked_body}
+use Rattle.query_automaton.specs.Compiling.{AreCompiled, IsCompiledFrom}
+use Rattle.query_automaton.specs.Parts.{HasLargePart}
+use Rattle.query_automaton.specs.QueryAutomaton.{of_query}
+use Rattle.query_automaton.proofs.PieceLaws.{all_lets_small, body_can, body_fault, body_made}
 use Rattle.query_automaton.proofs.QueryWords.{words_of_reduct}
 use Rattle.query_automaton.proofs.compiled.compile.Goals as goal
 
-pub expr_automaton-requires-clause-asked : goal.expr_automaton-requires-clause-asked
-expr_automaton-requires-clause-asked c =
-    let q = query_of c.args.query.now in
-    let long : length c.deref.result.now ≡ length q.lets = ap length c.deref.ensures.value ∙ c.in_ok-lets.ensures.long in
-    subst (λ n. IsAsked q n q.body) (sym long) (asked_body q c.requires)
+pub compile_lets-requires-clause-sound : goal.compile_lets-requires-clause-sound
+compile_lets-requires-clause-sound c = subst (λ (q : Query). IsSound (query_of q)) (sym c.new-compiler.ensures.query) c.requires
+
+pub returns-in_err-compile_lets-clause-fault : goal.returns-in_err-compile_lets-clause-fault
+returns-in_err-compile_lets-clause-fault c =
+    let fault = c.in_err-compile_lets.field-0.0 in
+    handed_on (HasLargePart (query_of c.args.query.now)) c.from_residual.result fault c.from_residual.ensures.1
+    (subst (λ (q : Query). HasLargePart (query_of q) fault) c.new-compiler.ensures.query c.in_err-compile_lets.ensures.fault)
+
+pub expression-requires : goal.expression-requires
+expression-requires c =
+    let q = c.args.query.now in
+    let b = c.compile_lets.new.self in
+    let at : c.new-compiler.result.query ≡ q = c.new-compiler.ensures.query in
+    let long : length b.lets ≡ length (query_of q).lets = subst (λ (x : Query). length b.lets ≡ length (query_of x).lets) at c.in_ok-compile_lets.ensures.long in
+    body_can q b (c.in_ok-compile_lets.ensures.query ∙ at) long (subst (λ (x : Query). AreCompiled (query_of x) b.lets) at c.in_ok-compile_lets.ensures.made) c.requires
 
 pub returns-in_err-body-clause-fault : goal.returns-in_err-body-clause-fault
 returns-in_err-body-clause-fault c =
-    let q = query_of c.args.query.now in
-    let long : length c.deref.result.now ≡ length q.lets = ap length c.deref.ensures.value ∙ c.in_ok-lets.ensures.long in
+    let q = c.args.query.now in
+    let b = c.compile_lets.new.self in
+    let at : c.new-compiler.result.query ≡ q = c.new-compiler.ensures.query in
+    let long : length b.lets ≡ length (query_of q).lets = subst (λ (x : Query). length b.lets ≡ length (query_of x).lets) at c.in_ok-compile_lets.ensures.long in
     let fault = c.in_err-body.field-0.0 in
-    handed_on (HasLargePart q) c.from_residual-in_err-body.result fault c.from_residual-in_err-body.ensures.1
-    (inr (subst (λ n. HasLargePartOf (of_lets q.lets n) q.body fault) long c.in_err-body.ensures.fault))
+    handed_on (HasLargePart (query_of q)) c.from_residual-in_err-body.result fault c.from_residual-in_err-body.ensures.1
+    (body_fault q b (c.in_ok-compile_lets.ensures.query ∙ at) long fault c.in_err-body.ensures.fault)
 
 -- what is left of the automaton that the body was compiled to, after all lets
 is_compiled : (q : QueryTree) → IsSound q → (n : ℕ) → n ≡ length q.lets → (body : Marked) → IsCompiledFrom q n q.body body →
@@ -39,22 +53,39 @@ is_compiled q sound n long body of_body whole same a names smaller =
 
 pub invariant_of-result : goal.invariant_of-result
 invariant_of-result c =
-    is_compiled (query_of c.args.query.now) c.requires (length c.deref.result.now) (ap length c.deref.ensures.value ∙ c.in_ok-lets.ensures.long)
-    c.in_ok-body.body c.in_ok-body.ensures.made c.in_ok-take.field-0 c.in_ok-take.ensures
+    let q = c.args.query.now in
+    let b = c.compile_lets.new.self in
+    let at : c.new-compiler.result.query ≡ q = c.new-compiler.ensures.query in
+    let long : length b.lets ≡ length (query_of q).lets = subst (λ (x : Query). length b.lets ≡ length (query_of x).lets) at c.in_ok-compile_lets.ensures.long in
+    is_compiled (query_of q) c.requires (length b.lets) long
+    c.in_ok-body.body (body_made q b (c.in_ok-compile_lets.ensures.query ∙ at) long c.in_ok-body.body c.in_ok-body.ensures.made) c.in_ok-take.field-0 c.in_ok-take.ensures
     c.in_ok-automaton.automaton c.in_ok-automaton.ensures.names c.in_ok-automaton.ensures.reduct
 
 pub returns-clause-made : goal.returns-clause-made
 returns-clause-made c =
-    (is_compiled (query_of c.args.query.now) c.requires (length c.deref.result.now) (ap length c.deref.ensures.value ∙ c.in_ok-lets.ensures.long)
-    c.in_ok-body.body c.in_ok-body.ensures.made c.in_ok-take.field-0 c.in_ok-take.ensures
+    let q = c.args.query.now in
+    let b = c.compile_lets.new.self in
+    let at : c.new-compiler.result.query ≡ q = c.new-compiler.ensures.query in
+    let long : length b.lets ≡ length (query_of q).lets = subst (λ (x : Query). length b.lets ≡ length (query_of x).lets) at c.in_ok-compile_lets.ensures.long in
+    (is_compiled (query_of q) c.requires (length b.lets) long
+    c.in_ok-body.body (body_made q b (c.in_ok-compile_lets.ensures.query ∙ at) long c.in_ok-body.body c.in_ok-body.ensures.made) c.in_ok-take.field-0 c.in_ok-take.ensures
     c.in_ok-automaton.automaton c.in_ok-automaton.ensures.names c.in_ok-automaton.ensures.reduct).reduces
 
 pub returns-clause-words : goal.returns-clause-words
 returns-clause-words c =
-    (is_compiled (query_of c.args.query.now) c.requires (length c.deref.result.now) (ap length c.deref.ensures.value ∙ c.in_ok-lets.ensures.long)
-    c.in_ok-body.body c.in_ok-body.ensures.made c.in_ok-take.field-0 c.in_ok-take.ensures
+    let q = c.args.query.now in
+    let b = c.compile_lets.new.self in
+    let at : c.new-compiler.result.query ≡ q = c.new-compiler.ensures.query in
+    let long : length b.lets ≡ length (query_of q).lets = subst (λ (x : Query). length b.lets ≡ length (query_of x).lets) at c.in_ok-compile_lets.ensures.long in
+    (is_compiled (query_of q) c.requires (length b.lets) long
+    c.in_ok-body.body (body_made q b (c.in_ok-compile_lets.ensures.query ∙ at) long c.in_ok-body.body c.in_ok-body.ensures.made) c.in_ok-take.field-0 c.in_ok-take.ensures
     c.in_ok-automaton.automaton c.in_ok-automaton.ensures.names c.in_ok-automaton.ensures.reduct).words
 
 pub returns-clause-small : goal.returns-clause-small
 returns-clause-small c =
-    (λ l h. all_lets_small (query_of c.args.query.now) c.in_ok-lets.lets.items c.in_ok-lets.ensures.made c.in_ok-lets.ensures.long l h, c.in_ok-body.ensures.made.small)
+    let q = c.args.query.now in
+    let b = c.compile_lets.new.self in
+    let at : c.new-compiler.result.query ≡ q = c.new-compiler.ensures.query in
+    let long : length b.lets ≡ length (query_of q).lets = subst (λ (x : Query). length b.lets ≡ length (query_of x).lets) at c.in_ok-compile_lets.ensures.long in
+    let made = subst (λ (x : Query). AreCompiled (query_of x) b.lets) at c.in_ok-compile_lets.ensures.made in
+    (λ l h. all_lets_small (query_of q) b.lets made long l h, c.in_ok-body.ensures.made.small)

@@ -3,7 +3,7 @@ use Rattle.marked_automaton.specs.Automaton.{Marked}
 use Rattle.marked_automaton.specs.Reduct.{ReducesMarked}
 use Rattle.marked_automaton.proofs.Reducts.{reduct_of_reduct}
 use Rattle.query_automaton.specs.QueryAutomaton.{of_minus}
-use Rattle.query_automaton.proofs.expressions.differing.Goals as goal
+use Rattle.query_automaton.proofs.expressions.Compiler.differing.Goals as goal
 
 pub returns-clause-made : goal.returns-clause-made
 returns-clause-made c =

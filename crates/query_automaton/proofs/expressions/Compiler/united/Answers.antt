@@ -5,7 +5,7 @@ use Rattle.algebra.proofs.Followed.{handed_on}
 use Rattle.query_automaton.specs.QueryAutomaton.{of_union}
 use Rattle.query_automaton.proofs.Combined.{union_too_large, united_made}
 use Rattle.query_automaton.proofs.Combining.{AreTooLarge, Union}
-use Rattle.query_automaton.proofs.expressions.united.Goals as goal
+use Rattle.query_automaton.proofs.expressions.Compiler.united.Goals as goal
 
 pub returns-clause-made : goal.returns-clause-made
 returns-clause-made c =

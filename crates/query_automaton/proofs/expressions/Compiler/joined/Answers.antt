@@ -6,7 +6,7 @@ use Rattle.marked_automaton.proofs.Reducts.{reduct_of_reduct}
 use Rattle.algebra.specs.JoinedMarks.{agree_on, joined}
 use Rattle.algebra.specs.Operations.{join_of}
 use Rattle.query_automaton.specs.QueryAutomaton.{of_join}
-use Rattle.query_automaton.proofs.expressions.joined.Goals as goal
+use Rattle.query_automaton.proofs.expressions.Compiler.joined.Goals as goal
 
 pub returns-clause-made : goal.returns-clause-made
 returns-clause-made c =

@@ -5,7 +5,7 @@ use Rattle.marked_automaton.specs.Automaton.{IsMarked, Marked}
 use Rattle.marked_automaton.specs.Marks.{left_of, remarked}
 use Rattle.marked_automaton.specs.Reduct.{Reduces}
 use Rattle.query_automaton.proofs.PieceLaws.{kept_all}
-use Rattle.query_automaton.proofs.expressions.projected.Goals as goal
+use Rattle.query_automaton.proofs.expressions.Compiler.projected.Goals as goal
 
 pub returns-then-len-clause-names : goal.returns-then-len-clause-names
 returns-then-len-clause-names c =

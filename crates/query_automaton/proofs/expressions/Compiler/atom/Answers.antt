@@ -1,26 +1,27 @@
-use Rattle.std.proofs.Common.{sym, subst}
+use Rattle.std.proofs.Common.{length, sym, subst}
+use Rattle.spanner_model.specs.ExprView.{query_of}
 use Rattle.spanner_model.specs.View.{tree_of}
 use Rattle.marked_automaton.specs.Automaton.{Marked}
 use Rattle.marked_automaton.specs.Reduct.{ReducesMarked}
-use Rattle.marked_automaton.specs.declared.fault.SizeFault.{SizeFault}
 use Rattle.marked_automaton.proofs.Rearranged.{rearranged_reduces}
 use Rattle.place_automaton.specs.Words.{atom_automaton}
 use Rattle.algebra.proofs.Followed.{handed_on}
 use Rattle.spanner_model.specs.Expression.{atom}
-use Rattle.query_automaton.specs.Parts.{HasLargePartOf}
-use Rattle.query_automaton.specs.QueryAutomaton.{of_atom}
+use Rattle.query_automaton.specs.BegunQuery.{HasLargePartIn}
+use Rattle.query_automaton.specs.QueryAutomaton.{of_atom, of_lets}
 use Rattle.query_automaton.proofs.PieceLaws.{atom_made, atom_fault}
-use Rattle.query_automaton.proofs.expressions.atom_automaton.Goals as goal
+use Rattle.query_automaton.proofs.expressions.Compiler.atom.Goals as goal
 
 pub returns-in_err-whole-clause-fault : goal.returns-in_err-whole-clause-fault
 returns-in_err-whole-clause-fault c =
     let a = c.args.atom.now in
     let f = tree_of a.formula in
-    handed_on (λ (e : SizeFault). (L : _) → HasLargePartOf L (atom a.from_start a.to_end f) e) c.from_residual.result c.in_err-whole.field-0.0 c.from_residual.ensures.1
-    (λ L. atom_fault a.from_start a.to_end f L c.in_err-whole.field-0.0 c.in_err-whole.ensures.err)
+    let b = c.args.self.now in
+    handed_on (HasLargePartIn b (atom a.from_start a.to_end f)) c.from_residual.result c.in_err-whole.field-0.0 c.from_residual.ensures.1
+    (atom_fault a.from_start a.to_end f (of_lets (query_of b.query).lets (length b.lets)) c.in_err-whole.field-0.0 c.in_err-whole.ensures.err)
 
 pub returns-clause-made : goal.returns-clause-made
-returns-clause-made c = λ q n.
+returns-clause-made c =
     let a = c.args.atom.now in
     let f = tree_of a.formula in
     let whole = c.in_ok-whole.whole in

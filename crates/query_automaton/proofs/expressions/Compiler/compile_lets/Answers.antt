@@ -1,0 +1,62 @@
+use Rattle.std.proofs.Common.{◌≡◌, List, [], ◌∷◌, ◌++◌, Some, rules, length, length-append, sym, ap, ◌∙◌, subst, arith}
+use Rattle.std.specs.Prelude.{slice_get}
+use Rattle.spanner_model.specs.Captures.{VarName}
+use Rattle.spanner_model.specs.declared.query.Query.{Query}
+use Rattle.spanner_model.specs.Expression.{ExprTree}
+use Rattle.spanner_model.specs.ExprView.{expr_of, query_of}
+use Rattle.marked_automaton.specs.Automaton.{Marked}
+use Rattle.algebra.proofs.Followed.{handed_on}
+use Rattle.query_automaton.specs.BegunQuery.{BegunQuery}
+use Rattle.query_automaton.specs.Compiling.{AreCompiled}
+use Rattle.query_automaton.specs.Parts.{HasLargePart}
+use Rattle.query_automaton.proofs.PieceLaws.{let_can, let_fault, let_more, none_compiled}
+use Rattle.query_automaton.proofs.expressions.Compiler.compile_lets.Goals as goal
+
+pub loop-k-init : goal.loop-k-init
+loop-k-init c =
+    let q = query_of c.args.self.now.query in
+    record {
+      query = search rules;
+      long = omega (arith, ap length c.requires.none);
+      made = subst (λ (ls : List Marked). AreCompiled q ls) (sym c.requires.none) (none_compiled q);
+    }
+
+pub expression-requires : goal.expression-requires
+expression-requires c =
+    let first = c.args.self.now in
+    let k = c.loop-k.k in
+    let l : VarName × ExprTree = (c.at.result.now.0, expr_of c.at.result.now.1) in
+    let at : slice_get (query_of first.query).lets k ≡ Some l =
+    subst (λ (q : Query). slice_get (query_of q).lets k ≡ Some l) (ap (λ (d : BegunQuery). d.query) c.self.view_is) c.at.ensures in
+    let inv = c.loop-k.invariant in
+    let_can first c.loop-k.self inv.query k inv.long inv.made l at c.requires.sound
+
+pub returns-in_err-automaton-clause-fault : goal.returns-in_err-automaton-clause-fault
+returns-in_err-automaton-clause-fault c =
+    let first = c.args.self.now in
+    let k = c.loop-k.k in
+    let l : VarName × ExprTree = (c.at.result.now.0, expr_of c.at.result.now.1) in
+    let at : slice_get (query_of first.query).lets k ≡ Some l =
+    subst (λ (q : Query). slice_get (query_of q).lets k ≡ Some l) (ap (λ (d : BegunQuery). d.query) c.self.view_is) c.at.ensures in
+    let inv = c.loop-k.invariant in
+    let fault = c.in_err-automaton.field-0.0 in
+    handed_on (HasLargePart (query_of first.query)) c.from_residual.result fault c.from_residual.ensures.1
+    (let_fault first c.loop-k.self inv.query k inv.long inv.made l at fault c.in_err-automaton.ensures.fault)
+
+pub loop-k-preserved : goal.loop-k-preserved
+loop-k-preserved c =
+    let first = c.args.self.now in
+    let k = c.loop-k.k in
+    let b = c.loop-k.self in
+    let l : VarName × ExprTree = (c.at.result.now.0, expr_of c.at.result.now.1) in
+    let at : slice_get (query_of first.query).lets k ≡ Some l =
+    subst (λ (q : Query). slice_get (query_of q).lets k ≡ Some l) (ap (λ (d : BegunQuery). d.query) c.self.view_is) c.at.ensures in
+    let inv = c.loop-k.invariant in
+    let a = c.in_ok-automaton.automaton in
+    let new = c.keep.new.self in
+    let lets : new.lets ≡ b.lets ++ a ∷ [] = c.in_ok-keep.ensures.lets ∙ ap (λ (d : BegunQuery). d.lets ++ a ∷ []) c.in_ok-automaton.ensures.same in
+    record {
+      query = c.in_ok-keep.ensures.query ∙ (ap (λ (d : BegunQuery). d.query) c.in_ok-automaton.ensures.same ∙ inv.query);
+      long = omega (arith, ap length lets, length-append b.lets (a ∷ []), inv.long);
+      made = subst (λ (ls : List Marked). AreCompiled (query_of first.query) ls) (sym lets) (let_more first b inv.query k inv.long inv.made l at a c.in_ok-automaton.ensures.made);
+    }
