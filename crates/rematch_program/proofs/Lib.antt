@@ -16,7 +16,6 @@ pub mod ResultNames
 pub mod ResumeLaws
 pub mod SummaryLaws
 pub mod WorkedLaws
-pub mod Writing
 mod WithoutTestsLaws
 pub mod PassingPages
 pub mod TakingLaws

@@ -20,8 +20,6 @@ mod gather;
 mod laws;
 mod lines;
 mod page;
-mod page_writer;
-mod remaining;
 mod summary;
 #[cfg(test)]
 mod tests;

@@ -2,7 +2,6 @@
 pub mod Faults
 pub mod Told
 pub mod Shelf
-pub mod Flow
 pub mod Sink
 pub mod MemoryShelf
 pub mod MemorySink
