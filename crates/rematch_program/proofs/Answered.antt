@@ -16,7 +16,8 @@ use Rattle.spanner_engine.specs.Begun.{begin_steps, row_kept}
 use Rattle.spanner_engine.specs.Left.{AreLeft, RowsLeft, Source, checks_over, passing_over}
 use Rattle.spanner_engine.specs.Passing.{passing}
 use Rattle.trial_maker.specs.Trial.{trial_text}
-use Rattle.rematch_program.specs.Change.{Change, clock, work}
+use Rattle.rm_outside.specs.Change.{Change}
+use Rattle.rematch_program.specs.Work.{clock, work}
 use Rattle.note_texts.specs.Notes.{line}
 use Rattle.rematch_program.specs.Pages.{CursorFits, first_rows, last_note, page_text}
 use Rattle.rematch_program.specs.Run.{FromDocument, FromPage, answered, paged, summed}
@@ -40,7 +41,7 @@ module _ (judges : ℕ → List ℕ → Bool) (s : Source) (rest : List SpanRow)
   abbrev page : List SpanRow
   page = first_rows a.limit (passing_over judges s rest)
 
-  page_written : FromPage (work out (clock mid new)) end note (whole_text judges r a) (page_note judges r a) (PageTaken judges r a) →
+  page_written : FromPage (work out (clock mid new)) end note (whole_text judges r a) (page_note judges r a) (PageTaken judges r a.limit) →
       FromPage (work out (clock mid new)) end note (page_text a.form a.texts s.names s.document page)
       (last_note s.names (length s.document) a.after page (nat_lt (length page) (length (passing_over judges s rest))))
       (PageTakes (checks_over judges s) s.names s.document rest page)
@@ -52,7 +53,7 @@ module _ (judges : ℕ → List ℕ → Bool) (s : Source) (rest : List SpanRow)
 
   pub page_answered : (after : Option Kept) → a.mode ≡ mode.Plain → CursorFits (length s.document) after → AreLeft q s.document s.names (row_kept after) rest →
       KeepsWithin a.filter q s.document (λ K. begin_steps a.filter q s.document K (row_kept after)) (clock old mid) →
-      FromPage (work out (clock mid new)) end note (whole_text judges r a) (page_note judges r a) (PageTaken judges r a) →
+      FromPage (work out (clock mid new)) end note (whole_text judges r a) (page_note judges r a) (PageTaken judges r a.limit) →
       FromDocument a q (checks_over judges s) (work out (clock old new)) end note s.names after s.document
   page_answered after plain fits left few h =
       let rows = passing_over judges s rest in

@@ -22,7 +22,8 @@ use Rattle.row_cursor.proofs.Whole.{one_cursor}
 use Rattle.trial_maker.specs.Trial.{trial_text}
 use Rattle.rematch_program.proofs.Fits.{fits_no_other, fits_not_past}
 use Rattle.rematch_program.specs.declared.TheConstants.{QUERY_LIMIT, DOCUMENT_LIMIT}
-use Rattle.rematch_program.specs.Change.{Change, Clock, Work, Adds, Failed, StandsStill, clock, work}
+use Rattle.rm_outside.specs.Change.{Change, Adds, Failed}
+use Rattle.rematch_program.specs.Work.{Clock, Work, StandsStill, clock, work}
 use Rattle.spanner_engine.specs.Begun.{AreRead, HasHeavyAtom, row_kept, table_weight}
 use Rattle.spanner_engine.specs.Passing.{Check, Known, checks_of}
 use Rattle.rematch_program.specs.Limits.{PartsAreSmall}

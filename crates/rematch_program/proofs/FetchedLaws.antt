@@ -17,7 +17,7 @@ use Rattle.spanner_model.specs.Captures.{VarName}
 use Rattle.spanner_model.specs.Expression.{QueryTree}
 use Rattle.query_parser.specs.Tested.{TestedTree}
 use Rattle.spanner_engine.specs.Passing.{Check, Known}
-use Rattle.rematch_program.specs.Change.{Work}
+use Rattle.rematch_program.specs.Work.{Work}
 use Rattle.rematch_program.specs.Run.{Text, Store, store, IsUntouched, FromPlace, FromCursor, FromCompiled, FromQuery, FromText, FromAsked, FromWords}
 use Rattle.rematch_program.specs.Run.{out_of_memory, document_failed, document_too_long, found, no_cursor, other_variables, placed, page_asked, trial_asked}
 use Rattle.rematch_program.specs.Run.{explained, too_large, compiled, query_refused, understood, given, query_failed, query_too_long, fetched, refused, accepted}

@@ -6,7 +6,9 @@ use Rattle.std.proofs.lemmas.List.Edits.{take-paste}
 use Rattle.std.proofs.KnownBytes.{Appends-nil, Appends-trans}
 use Rattle.std.specs.Io.KnownBytes.{Appends}
 use Rattle.rm_outside.specs.Sink.{AppendsPart}
-use Rattle.rematch_program.specs.Change.{change, Passes, SoFar}
+use Rattle.rm_outside.specs.Change.{change, Adds, AddsPart}
+use Rattle.rm_outside.specs.Flow.{Flow}
+use Rattle.rematch_program.specs.Work.{Passes, SoFar}
 
 -- a part of xs is a part of xs and ys
 pub part_more : (old new : Option (List ℕ)) (xs ys : List ℕ) → AppendsPart old new xs → AppendsPart old new (xs ++ ys)
@@ -29,23 +31,20 @@ pub part_nothing : (o : Option (List ℕ)) (xs : List ℕ) → AppendsPart o o x
 part_nothing o xs = record { part = []; added = Appends-nil o; prefix = record { rest = xs; joined = refl } }
 
 -- xs, and then what a line passes on
-pub passes_after : (old mid new : Option (List ℕ)) (before then after from : ℕ) (xs line left : List ℕ) → Appends old mid xs → Passes [] line left (change mid new then after) → Passes xs line left (change old new before from)
-passes_after old mid new before then after from xs line left whole p = record {
+pub passes_after : (old mid new : Flow) (xs line left : List ℕ) → Adds (change old mid) xs → Passes [] line left (change mid new) → Passes xs line left (change old new)
+passes_after old mid new xs line left whole p = record {
   sent = xs ++ p.sent;
-  adds = Appends-trans old mid new xs p.sent whole p.adds;
+  adds = Appends-trans old.bytes mid.bytes new.bytes xs p.sent whole p.adds;
   joined = append_assoc xs p.sent left ∙ ap (λ zs. xs ++ zs) p.joined;
 }
 
 -- ---- a text that is put line by line
 
-pub so_far_first : (o : Option (List ℕ)) (waiting left whole : List ℕ) → waiting ≡ [] → left ≡ whole → SoFar o o waiting left whole
-so_far_first o waiting left whole none is = record { sent = []; adds = Appends-nil o; joined = ap (λ xs. xs ++ left) none ∙ is }
-
-pub so_far_more : (old mid new : Option (List ℕ)) (before after : ℕ) (waiting waiting' line left left' whole : List ℕ) →
-    SoFar old mid waiting left whole → left ≡ line ++ left' → Passes waiting line waiting' (change mid new before after) → SoFar old new waiting' left' whole
-so_far_more old mid new before after waiting waiting' line left left' whole s is p = record {
+pub so_far_more : (old mid new : Flow) (waiting waiting' line left left' whole : List ℕ) →
+    SoFar (change old mid) waiting left whole → left ≡ line ++ left' → Passes waiting line waiting' (change mid new) → SoFar (change old new) waiting' left' whole
+so_far_more old mid new waiting waiting' line left left' whole s is p = record {
   sent = s.sent ++ p.sent;
-  adds = Appends-trans old mid new s.sent p.sent s.adds p.adds;
+  adds = Appends-trans old.bytes mid.bytes new.bytes s.sent p.sent s.adds p.adds;
   joined =
       append_assoc s.sent p.sent (waiting' ++ left')
       ∙ ap (λ xs. s.sent ++ xs) (sym (append_assoc p.sent waiting' left') ∙ ap (λ xs. xs ++ left') p.joined ∙ append_assoc waiting line left' ∙ ap (λ xs. waiting ++ xs) (sym is))
@@ -53,27 +52,27 @@ so_far_more old mid new before after waiting waiting' line left left' whole s is
 }
 
 -- where a line is not passed on whole
-pub so_far_part : (old mid new : Option (List ℕ)) (waiting line left left' whole : List ℕ) →
-    SoFar old mid waiting left whole → left ≡ line ++ left' → AppendsPart mid new (waiting ++ line) → AppendsPart old new whole
+pub so_far_part : (old mid new : Flow) (waiting line left left' whole : List ℕ) →
+    SoFar (change old mid) waiting left whole → left ≡ line ++ left' → AddsPart (change mid new) (waiting ++ line) → AddsPart (change old new) whole
 so_far_part old mid new waiting line left left' whole s is p =
     let whole_is : (s.sent ++ (waiting ++ line)) ++ left' ≡ whole =
     append_assoc s.sent (waiting ++ line) left' ∙ ap (λ xs. s.sent ++ xs) (append_assoc waiting line left' ∙ ap (λ xs. waiting ++ xs) (sym is)) ∙ s.joined in
-    let part : AppendsPart old new ((s.sent ++ (waiting ++ line)) ++ left') =
-    part_more old new (s.sent ++ (waiting ++ line)) left' (part_after old mid new s.sent (waiting ++ line) s.adds p) in
-    subst (λ (xs : List ℕ). AppendsPart old new xs) whole_is part
+    let part : AddsPart (change old new) ((s.sent ++ (waiting ++ line)) ++ left') =
+    part_more old.bytes new.bytes (s.sent ++ (waiting ++ line)) left' (part_after old.bytes mid.bytes new.bytes s.sent (waiting ++ line) s.adds p) in
+    subst (λ (xs : List ℕ). AddsPart (change old new) xs) whole_is part
 
--- where nothing is left but what waits
-pub so_far_whole : (old mid new : Option (List ℕ)) (waiting left whole : List ℕ) → SoFar old mid waiting left whole → left ≡ [] → Appends mid new waiting → Appends old new whole
-so_far_whole old mid new waiting left whole s none p =
-    let whole_is : s.sent ++ waiting ≡ whole = ap (λ xs. s.sent ++ xs) (sym (append-nil waiting) ∙ ap (λ xs. waiting ++ xs) (sym none)) ∙ s.joined in
-    subst (λ (xs : List ℕ). Appends old new xs) whole_is (Appends-trans old mid new s.sent waiting s.adds p)
+-- what a line passed on, and then all that waited
+pub passes_whole : (old mid new : Flow) (waiting line left : List ℕ) → Passes waiting line left (change old mid) → Adds (change mid new) left → Adds (change old new) (waiting ++ line)
+passes_whole old mid new waiting line left p adds =
+    subst (λ (xs : List ℕ). Adds (change old new) xs) p.joined (Appends-trans old.bytes mid.bytes new.bytes p.sent left p.adds adds)
 
-pub so_far_last : (old mid new : Option (List ℕ)) (waiting left whole : List ℕ) → SoFar old mid waiting left whole → AppendsPart mid new waiting → AppendsPart old new whole
-so_far_last old mid new waiting left whole s p =
-    so_far_part old mid new waiting [] left left whole s refl (subst (λ (xs : List ℕ). AppendsPart mid new xs) (sym (append-nil waiting)) p)
+-- or a part of it
+pub passes_part : (old mid new : Flow) (waiting line left : List ℕ) → Passes waiting line left (change old mid) → AddsPart (change mid new) left → AddsPart (change old new) (waiting ++ line)
+passes_part old mid new waiting line left p part =
+    subst (λ (xs : List ℕ). AddsPart (change old new) xs) p.joined (part_after old.bytes mid.bytes new.bytes p.sent left p.adds part)
 
 -- what puts of a text have passed on, where nothing of it is left
-pub rows_passed : (mid new : Option (List ℕ)) (waiting waiting' lines : List ℕ) → SoFar mid new waiting' [] (waiting ++ lines) → Passes waiting lines waiting' (change mid new 0 0)
+pub rows_passed : (mid new : Flow) (waiting waiting' lines : List ℕ) → SoFar (change mid new) waiting' [] (waiting ++ lines) → Passes waiting lines waiting' (change mid new)
 rows_passed mid new waiting waiting' lines s = record {
   sent = s.sent;
   adds = s.adds;
@@ -83,12 +82,12 @@ rows_passed mid new waiting waiting' lines s = record {
 -- ---- a line in its place
 
 -- a line that waits behind those before it
-pub passes_kept : (o : Option (List ℕ)) (before after : ℕ) (waiting line left : List ℕ) → left ≡ waiting ++ line → Passes waiting line left (change o o before after)
-passes_kept o before after waiting line left is = record { sent = []; adds = Appends-nil o; joined = is }
+pub passes_kept : (o : Flow) (waiting line left : List ℕ) → left ≡ waiting ++ line → Passes waiting line left (change o o)
+passes_kept o waiting line left is = record { sent = []; adds = Appends-nil o.bytes; joined = is }
 
 -- those before it are sent, and it waits alone
-pub passes_moved : (old new : Option (List ℕ)) (before after : ℕ) (waiting line sent left : List ℕ) → Appends old new sent → sent ++ left ≡ waiting ++ line → Passes waiting line left (change old new before after)
-passes_moved old new before after waiting line sent left adds joined = record { sent = sent; adds = adds; joined = joined }
+pub passes_moved : (old new : Flow) (waiting line sent left : List ℕ) → Adds (change old new) sent → sent ++ left ≡ waiting ++ line → Passes waiting line left (change old new)
+passes_moved old new waiting line sent left adds joined = record { sent = sent; adds = adds; joined = joined }
 
 -- bytes that are moved to the front
 pub moved_front : (at end : ℕ) (old new : List ℕ) → at ≤ end → end ≤ length old → new ≡ copy_within old at end 0 → take at old ++ take (end - at) new ≡ take end old

@@ -16,6 +16,7 @@ pub mod ResultNames
 pub mod ResumeLaws
 pub mod SummaryLaws
 pub mod WorkedLaws
+pub mod Writing
 mod WithoutTestsLaws
 pub mod PassingPages
 pub mod TakingLaws

@@ -2,43 +2,36 @@
 use Rattle.std.specs.Prelude.{◌↔◌, Bool, true, false, IsTrue, codes, nat_lt}
 use Rattle.std.proofs.lemmas.Bool.{le-leb, leb-true, true≢false}
 use Rattle.std.specs.Bool.{OnTrue, OnFalse}
-use Rattle.std.proofs.Common.{◌≡◌, ℕ, zero, suc, ◌+◌, ◌-◌, ◌*◌, ◌<◌, ◌≤◌, List, [], ◌∷◌, ◌++◌, length, take, Option, Some, None, if◌then◌else◌, refl, sym, ap, ◌∙◌, subst, arith, append-nil, append_assoc, length-append}
+use Rattle.std.proofs.Common.{◌≡◌, ◌≢◌, ℕ, zero, suc, ◌+◌, ◌-◌, ◌*◌, ◌<◌, ◌≤◌, List, [], ◌∷◌, ◌++◌, length, take, Option, Some, None, if◌then◌else◌, refl, sym, ap, ◌∙◌, subst, arith, append-nil, append_assoc, length-append}
 use Rattle.std.specs.List.{flat_map}
 use Rattle.std.proofs.lemmas.List.Concat.{flat_map-cons}
 use Rattle.spanner_model.specs.Captures.{VarName}
-use Rattle.spanner_model.specs.Answers.{SpanRow}
+use Rattle.spanner_model.specs.Answers.{SpanRow, page_end}
 use Rattle.spanner_engine.specs.Fitting.{FitsRow}
 use Rattle.spanner_engine.specs.Left.{EndsIn, Source, checks_over, passing_over}
 use Rattle.spanner_engine.specs.Passing.{Check, known, passing, trying_steps}
 use Rattle.spanner_engine.proofs.PassingLaws.{passing_append}
 use Rattle.rm_outside.specs.declared.status.Status.{Status}
-use Rattle.rematch_program.specs.Change.{Change, Clock, clock, work}
+use Rattle.rm_outside.specs.Change.{Change}
+use Rattle.rematch_program.specs.Work.{Clock, clock, work}
 use Rattle.rematch_program.specs.Run.{FromPage, whole, write_failed, out_of_memory}
 use Rattle.note_texts.specs.Notes.{line}
-use Rattle.rematch_program.specs.Pages.{FitsPage, cursor_given, fewer, first_rows, last_note, next_cursor}
+use Rattle.rematch_program.specs.Pages.{FitsPage, cursor_given, first_rows, last_note, next_cursor}
+use Rattle.rematch_program.specs.Written.{EndsPage}
 use Rattle.rematch_program.specs.Steps.{next_steps}
 use Rattle.rematch_program.specs.Taking.{PageTakes}
 use Rattle.rematch_program.proofs.Inside.{fits_of}
 use Rattle.rematch_program.proofs.PassingPages.{length_checks}
 use Rattle.rematch_program.proofs.TakingLaws.{page_takes, steps_ended, steps_found}
 
-pub first_next : (limit : Option ℕ) (row : SpanRow) (rest : List SpanRow) → ¬ (limit ≡ Some 0) → first_rows limit (row ∷ rest) ≡ row ∷ first_rows (fewer limit) rest
-first_next None row rest some = refl
-first_next (Some zero) row rest some = absurd (some refl)
-first_next (Some (suc n)) row rest some = let e : n ≡ suc n - 1 = omega arith in ap (λ k. row ∷ take k rest) e
+pub one_taken : (n : ℕ) (row : SpanRow) (rest : List SpanRow) → n ≢ 0 → first_rows (Some n) (row ∷ rest) ≡ row ∷ first_rows (Some (n - 1)) rest
+one_taken zero row rest some = absurd (some refl)
+one_taken (suc n) row rest some = let e : n ≡ suc n - 1 = omega arith in ap (λ k. row ∷ take k rest) e
 
 pub first_of_none : (limit : Option ℕ) → first_rows limit [] ≡ []
 first_of_none None = refl
 first_of_none (Some zero) = refl
 first_of_none (Some (suc n)) = refl
-
-pub first_at_zero : (limit : Option ℕ) (rows : List SpanRow) → limit ≡ Some 0 → first_rows limit rows ≡ []
-first_at_zero None rows is = absurd (cc)
-first_at_zero (Some zero) rows is = refl
-first_at_zero (Some (suc n)) rows is = absurd (cc)
-
-pub front_is : (remaining left : Option ℕ) (coming rest : List SpanRow) (row : SpanRow) → coming ≡ row ∷ rest → ¬ (remaining ≡ Some 0) → left ≡ fewer remaining → first_rows remaining coming ≡ row ∷ first_rows left rest
-front_is remaining left coming rest row is some fewer_is = ap (first_rows remaining) is ∙ (first_next remaining row rest some ∙ ap (λ o. row ∷ first_rows o rest) (sym fewer_is))
 
 pub lines_next : (text : SpanRow → List ℕ) (rows rest : List SpanRow) (row : SpanRow) → rows ≡ row ∷ rest → flat_map text rows ≡ text row ++ flat_map text rest
 lines_next text rows rest row is = ap (flat_map text) is ∙ flat_map-cons text row rest
@@ -167,16 +160,44 @@ further judges s old new row ([], is) next =
     absurd (omega (arith, same, one))
 further judges s old new row (x ∷ front, is) next = let long = ap length is ∙ length-append (x ∷ front) new in omega (arith, long)
 
+-- ---- the end
+
+-- no row was left
+pub ends_none : (limit : Option ℕ) (left page coming : List SpanRow) → left ≡ [] → length left + length page ≡ length coming + length (first_rows limit left) →
+    EndsPage page coming None false
+ends_none limit left page coming none same =
+    let gone = ap length (ap (first_rows limit) none ∙ first_of_none limit) in
+    let empty = ap length none in
+    record { more = (λ t. absurd (cc), λ h. absurd (omega (arith, gone, empty, same, h))); last = tt }
+
+-- the limit was reached, and one row further was tried
+pub ends_after : (judges : ℕ → List ℕ → Bool) (s t : Source) (same : t ≡ s) (old new page coming : List SpanRow) (row : SpanRow) (last last_row : Option SpanRow) (more : Bool) (P : Type 0) →
+    OnTrue more (passing_over judges t old ≡ row ∷ passing_over judges t new) → OnFalse more ((passing_over judges t old ≡ []) × P) →
+    length (passing_over judges s old) + length page ≡ length coming → last ≡ last_row → last_row ≡ page_end page None → EndsPage page coming last more
+ends_after judges s t same old new page coming row last last_row more P some none count is ends =
+    let m = some_more more (passing_over judges t old) (passing_over judges t new) row P some none in
+    let n = subst (λ (u : Source). IsTrue more ↔ (0 < length (passing_over judges u old))) same m in
+    record {
+      more = (λ b. let left = n.0 b in omega (arith, count, left), λ h. n.1 (omega (arith, count, h)));
+      last = on_true more (last ≡ page_end page None) (is ∙ ends);
+    }
+
 -- ---- the note
 
-pub note_is : (names : List VarName) (n : ℕ) (given : Option (List ℕ)) (page rows : List SpanRow) (last : Option SpanRow) (more : Bool) →
-    OnTrue more (next_cursor names n (cursor_given names n last given) [] ≡ next_cursor names n given page) → IsTrue more ↔ (length page < length rows) →
+-- the last row tells the cursor
+cursor_at : (names : List VarName) (n : ℕ) (given : Option (List ℕ)) (last : Option SpanRow) (page : List SpanRow) →
+    next_cursor names n (cursor_given names n (page_end page last) given) [] ≡ next_cursor names n (cursor_given names n last given) page
+cursor_at names n given last [] = refl
+cursor_at names n given last (row ∷ page) = cursor_at names n given (Some row) page
+
+pub note_is : (names : List VarName) (n : ℕ) (given : Option (List ℕ)) (page rows : List SpanRow) (last : Option SpanRow) (more : Bool) → EndsPage page rows last more →
     last_note names n (cursor_given names n last given) [] more ≡ last_note names n given page (nat_lt (length page) (length rows))
-note_is names n given page rows last more cursor m = by more (nat_lt (length page) (length rows)) refl cursor m
+note_is names n given page rows last more ends = by more (nat_lt (length page) (length rows)) refl ends.more ends.last
   where
-    by : (more b : Bool) → nat_lt (length page) (length rows) ≡ b → OnTrue more (next_cursor names n (cursor_given names n last given) [] ≡ next_cursor names n given page) →
-        IsTrue more ↔ (length page < length rows) → last_note names n (cursor_given names n last given) [] more ≡ last_note names n given page b
-    by true true is same both = ap (λ (t : List ℕ). line (codes "more " ++ t)) same
-    by true false is same both = absurd (true≢false (sym (le-leb (suc (length page)) (length rows) (both.0 refl)) ∙ is))
-    by false true is same both = absurd (true≢false (sym (both.1 (leb-true (suc (length page)) (length rows) is))))
-    by false false is same both = refl
+    by : (more b : Bool) → nat_lt (length page) (length rows) ≡ b → IsTrue more ↔ (length page < length rows) → OnTrue more (last ≡ page_end page None) →
+        last_note names n (cursor_given names n last given) [] more ≡ last_note names n given page b
+    by true true is both ends_at =
+        ap (λ (t : List ℕ). line (codes "more " ++ t)) (ap (λ (r : Option SpanRow). next_cursor names n (cursor_given names n r given) []) ends_at ∙ cursor_at names n given None page)
+    by true false is both ends_at = absurd (true≢false (sym (le-leb (suc (length page)) (length rows) (both.0 refl)) ∙ is))
+    by false true is both ends_at = absurd (true≢false (sym (both.1 (leb-true (suc (length page)) (length rows) is))))
+    by false false is both ends_at = refl

@@ -11,7 +11,7 @@ use Rattle.spanner_engine.specs.Fitting.{AreLast}
 use Rattle.spanner_engine.specs.Left.{AreLeft}
 use Rattle.spanner_engine.specs.Passing.{Check, Known, checks_of, passes, passing}
 use Rattle.spanner_engine.proofs.PassingLaws.{passing_append}
-use Rattle.rematch_program.specs.Change.{clock}
+use Rattle.rematch_program.specs.Work.{clock}
 use Rattle.rematch_program.specs.Pages.{first_rows}
 use Rattle.rematch_program.specs.Steps.{KeepsWithin}
 use Rattle.rematch_program.specs.Taking.{PageTakes, TrialTakes}

@@ -9,7 +9,7 @@ use Rattle.query_parser.specs.declared.fault.QueryFault.{QueryFault}
 use Rattle.query_parser.specs.Tested.{TestedTree, IsTestedText}
 use Rattle.query_parser.specs.TestedLaws.{plain}
 use Rattle.spanner_engine.specs.Passing.{Known, FirstUnknown, HasFaultUnder, of_text, unknown_test, IsOnlyTested, checks_of}
-use Rattle.rematch_program.specs.Change.{Work}
+use Rattle.rematch_program.specs.Work.{Work}
 use Rattle.rematch_program.specs.Pages.{IsPageOf}
 use Rattle.rematch_program.specs.Testing.{IsPassingPageOf}
 use Rattle.rematch_program.specs.Run.{Text, Store, FromQuery, FromText, query_refused, out_of_memory, understood}

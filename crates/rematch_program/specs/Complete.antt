@@ -12,7 +12,8 @@ use Rattle.query_parser.specs.Tested.{TestedTree, IsTestedText}
 use Rattle.filter_laws.specs.Touching.{HasMinus}
 use Rattle.trial_maker.specs.Trial.{trial_text}
 use Rattle.rematch_program.specs.declared.TheConstants.{QUERY_LIMIT, DOCUMENT_LIMIT}
-use Rattle.rematch_program.specs.Change.{Change, Clock, Adds, Failed}
+use Rattle.rm_outside.specs.Change.{Change, Adds, Failed}
+use Rattle.rematch_program.specs.Work.{Clock}
 use Rattle.spanner_engine.specs.Begun.{AreRead, HasHeavyAtom, row_kept, table_weight}
 use Rattle.spanner_engine.specs.Passing.{AreKnown, Check, Known, checks_of}
 use Rattle.rematch_program.specs.Limits.{PartsAreSmall}

@@ -7,7 +7,8 @@ use Rattle.command_line.specs.Asked.{Asked, Query, Itself, HeldBy, asked}
 use Rattle.command_line.specs.declared.request.Mode.{Mode}
 use Rattle.command_line.specs.declared.request.Mode.TheVariants as mode
 use Rattle.spanner_engine.specs.Passing.{Known}
-use Rattle.rematch_program.specs.Change.{Change, Clock}
+use Rattle.rm_outside.specs.Change.{Change}
+use Rattle.rematch_program.specs.Work.{Clock}
 use Rattle.rematch_program.specs.Run.{Text, Store, IsUntouched, RunTested}
 
 -- the name of the query's text, where it is asked by name

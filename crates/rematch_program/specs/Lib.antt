@@ -1,6 +1,6 @@
 -- what public contracts rest on
 pub mod AsBefore
-pub mod Change
+pub mod Work
 pub mod Pages
 pub mod Limits
 pub mod Explained
@@ -17,3 +17,4 @@ pub mod All
 -- what the functions inside promise each other
 pub mod Kept
 pub mod Taking
+pub mod Written

@@ -1,5 +1,5 @@
 -- The page that a run writes: its rows, its text, and the note at its end.
-use Rattle.std.specs.Prelude.{◌≡◌, ℕ, ◌-◌, Bool, false, IsTrue, List, [], ◌∷◌, ◌++◌, Option, Some, None, codes, length, take, unwrap_or, if◌then◌else◌}
+use Rattle.std.specs.Prelude.{◌≡◌, ℕ, Bool, false, IsTrue, List, [], ◌∷◌, ◌++◌, Option, Some, None, codes, length, take, unwrap_or, if◌then◌else◌}
 use Rattle.std.specs.Option.{MatchOption}
 use Rattle.span_core.specs.Lists.{Has}
 use Rattle.span_core.specs.declared.kept.Kept.{Kept}
@@ -78,11 +78,6 @@ cursor_given names n (Some row) given = Some (cursor_text names row n)
 -- a row, where there is one
 abbrev pub row_if : Bool → SpanRow → Option SpanRow
 row_if some row = if some then Some row else None
-
--- one row fewer
-abbrev pub fewer : Option ℕ → Option ℕ
-fewer None = None
-fewer (Some n) = Some (n - 1)
 
 abbrev pub last_note : List VarName → ℕ → Option (List ℕ) → List SpanRow → Bool → List ℕ
 last_note names n given rows more = if more then line (codes "more " ++ next_cursor names n given rows) else line (codes "end")

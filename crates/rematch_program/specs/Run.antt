@@ -21,7 +21,8 @@ use Rattle.marked_automaton.specs.declared.fault.SizeFault.TheVariants.{States, 
 use Rattle.query_automaton.specs.Parts.{AtomsAreSmall, HasLargePart}
 use Rattle.trial_maker.specs.Trial.{trial_text}
 use Rattle.filter_laws.specs.Touching.{HasMinus}
-use Rattle.rematch_program.specs.Change.{Change, Clock, Work, clock, work, IsQuiet, Adds, AddsPart, Failed, StandsStill, DidNothing}
+use Rattle.rm_outside.specs.Change.{Change, IsQuiet, Adds, AddsPart, Failed}
+use Rattle.rematch_program.specs.Work.{Clock, Work, clock, work, StandsStill, DidNothing}
 use Rattle.rematch_program.specs.Testing.{AreAllPassing, IsPassingPageOf, PageKeeps, TrialKeeps, explain_tested}
 use Rattle.spanner_engine.specs.Begun.{AreRead, HasHeavyAtom, IsPast, KeepsOther, begin_steps, row_kept, table_weight}
 use Rattle.spanner_engine.specs.Passing.{AreKnown, Check, Known, HasFaultUnder, IsOnlyTested, checks_of, known}

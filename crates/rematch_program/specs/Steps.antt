@@ -4,7 +4,7 @@ use Rattle.spanner_model.specs.Captures.{VarName}
 use Rattle.spanner_model.specs.Expression.{QueryTree}
 use Rattle.spanner_model.specs.Answers.{SpanRow}
 use Rattle.spanner_engine.specs.Begun.{AreRead, begin_steps}
-use Rattle.rematch_program.specs.Change.{Clock, TakesAtMost}
+use Rattle.rematch_program.specs.Work.{Clock, TakesAtMost}
 
 -- to the next row of v variables
 abbrev pub next_steps : ℕ → ℕ

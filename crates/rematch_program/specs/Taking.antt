@@ -1,13 +1,12 @@
 -- Taking the rows of a page or of a summary, of the answers that are left: which these are, what is written of them, and what it costs.
-use Rattle.std.specs.Prelude.{ℕ, ◌+◌, ◌*◌, ◌≤◌, Bool, List, [], ◌∷◌, length, nat_lt, take}
-use Rattle.std.specs.List.{flat_map}
+use Rattle.std.specs.Prelude.{ℕ, ◌+◌, ◌*◌, ◌≤◌, Bool, List, [], ◌∷◌, Option, length, nat_lt, take}
 use Rattle.command_line.specs.Asked.{Asked}
 use Rattle.spanner_model.specs.Captures.{VarName}
 use Rattle.spanner_model.specs.Answers.{SpanRow}
 use Rattle.spanner_engine.specs.Left.{RowsLeft, checks_over, passing_over}
 use Rattle.spanner_engine.specs.Passing.{Check, passing}
-use Rattle.rematch_program.specs.Change.{Clock, TakesAtMost}
-use Rattle.rematch_program.specs.Pages.{first_rows, last_note, page_text, row_text}
+use Rattle.rematch_program.specs.Work.{Clock, TakesAtMost}
+use Rattle.rematch_program.specs.Pages.{first_rows, last_note, page_text}
 use Rattle.rematch_program.specs.Steps.{next_steps, row_steps}
 use Rattle.rematch_program.specs.Testing.{tried_steps}
 
@@ -35,20 +34,17 @@ module _ (judges : ℕ → List ℕ → Bool) (r : RowsLeft) where
   abbrev pub AllTaken : Clock → Type 0
   AllTaken spent = TrialTakes (checks_over judges r.source) r.source.names r.rest coming spent
 
-  module _ (a : Asked) where
+  module _ (limit : Option ℕ) where
     -- the rows of the page
     abbrev pub page_rows : List SpanRow
-    page_rows = first_rows a.limit coming
-
-    -- their lines
-    abbrev pub page_lines : List ℕ
-    page_lines = flat_map (row_text a.form a.texts r.source.names r.source.document) page_rows
-
-    abbrev pub whole_text : List ℕ
-    whole_text = page_text a.form a.texts r.source.names r.source.document page_rows
-
-    abbrev pub page_note : List ℕ
-    page_note = last_note r.source.names (length r.source.document) a.after page_rows (nat_lt (length page_rows) (length coming))
+    page_rows = first_rows limit coming
 
     abbrev pub PageTaken : Clock → Type 0
     PageTaken spent = PageTakes (checks_over judges r.source) r.source.names r.source.document r.rest page_rows spent
+
+  module _ (a : Asked) where
+    abbrev pub whole_text : List ℕ
+    whole_text = page_text a.form a.texts r.source.names r.source.document (page_rows a.limit)
+
+    abbrev pub page_note : List ℕ
+    page_note = last_note r.source.names (length r.source.document) a.after (page_rows a.limit) (nat_lt (length (page_rows a.limit)) (length coming))

@@ -9,7 +9,7 @@ use Rattle.query_printer.specs.PrintedTested.{tested_text}
 use Rattle.spanner_engine.specs.Begun.{begin_steps}
 use Rattle.spanner_engine.specs.Left.{AreLeft}
 use Rattle.spanner_engine.specs.Passing.{Check, ArePassing, IsPassingPage, passing}
-use Rattle.rematch_program.specs.Change.{Clock}
+use Rattle.rematch_program.specs.Work.{Clock}
 use Rattle.rematch_program.specs.Explained.{atom_lines, names_text, query_atoms}
 use Rattle.note_texts.specs.Notes.{line}
 use Rattle.rematch_program.specs.Steps.{KeepsWithin, next_steps, stated_steps}

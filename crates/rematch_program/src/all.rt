@@ -2,11 +2,11 @@
 ghost use Rattle.std.specs.Prelude.{◌≡◌, ◌≢◌, [], ◌∷◌, map, string_bytes};
 ghost use Rattle.std.specs.Bool.{OnFalse, OnTrue};
 ghost use Rattle.spanner_engine.specs.Passing.{known};
-ghost use Rattle.rm_outside.specs.Change.{change as change_of};
 ghost use Rattle.session_server.specs.Serve.{Serves, ServesAll};
 ghost use Rattle.rematch_program.specs.declared.TheConstants.{MOST_REQUESTS};
 ghost use Rattle.rematch_program.specs.All.{serving_words};
-ghost use Rattle.rematch_program.specs.Change.{change, clock};
+ghost use Rattle.rm_outside.specs.Change.{change};
+ghost use Rattle.rematch_program.specs.Work.{clock};
 ghost use Rattle.rematch_program.specs.Complete.{Completes};
 ghost use Rattle.rematch_program.specs.Run.{IsUntouched, RunTested, store};
 
@@ -32,26 +32,26 @@ pub fn run_all<S: Shelf, R: Source, O: Sink, N: Sink, J: Judge, L: Ledger>(
     steps: &mut Steps<L>,
 ) -> Status
     ensures serves { map string_bytes words.now ≡ serving_words → Serves (known tests.now J.judges) MOST_REQUESTS
-        (change_of (R.left source.old) (R.left source.new) (R.faults source.old) (R.faults source.new))
-        (change_of (O.written out.old) (O.written out.new) (O.faults out.old) (O.faults out.new))
-        (change_of (N.written notes.old) (N.written notes.new) (N.faults notes.old) (N.faults notes.new))
+        (change (R.told source.old) (R.told source.new))
+        (change (O.told out.old) (O.told out.new))
+        (change (N.told notes.old) (N.told notes.new))
         result }
     ensures all { map string_bytes words.now ≡ serving_words → ServesAll (known tests.now J.judges) MOST_REQUESTS
-        (change_of (R.left source.old) (R.left source.new) (R.faults source.old) (R.faults source.new))
-        (change_of (O.written out.old) (O.written out.new) (O.faults out.old) (O.faults out.new))
-        (change_of (N.written notes.old) (N.written notes.new) (N.faults notes.old) (N.faults notes.new))
+        (change (R.told source.old) (R.told source.new))
+        (change (O.told out.old) (O.told out.new))
+        (change (N.told notes.old) (N.told notes.new))
         result }
     ensures untouched { map string_bytes words.now ≡ serving_words → IsUntouched (store (S.told shelf.old) (S.told shelf.new)) }
     ensures run { map string_bytes words.now ≢ serving_words → RunTested (known tests.now J.judges) (map string_bytes words.now)
         (store (S.told shelf.old) (S.told shelf.new))
-        (change (O.written out.old) (O.written out.new) (O.faults out.old) (O.faults out.new))
-        (change (N.written notes.old) (N.written notes.new) (N.faults notes.old) (N.faults notes.new))
+        (change (O.told out.old) (O.told out.new))
+        (change (N.told notes.old) (N.told notes.new))
         (clock steps.old steps.new)
         result }
     ensures complete { map string_bytes words.now ≢ serving_words → Completes (known tests.now J.judges) (map string_bytes words.now)
         (store (S.told shelf.old) (S.told shelf.new))
-        (change (O.written out.old) (O.written out.new) (O.faults out.old) (O.faults out.new))
-        (change (N.written notes.old) (N.written notes.new) (N.faults notes.old) (N.faults notes.new))
+        (change (O.told out.old) (O.told out.new))
+        (change (N.told notes.old) (N.told notes.new))
         result }
 {
     if asks_to_serve(words) {

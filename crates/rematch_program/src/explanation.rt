@@ -6,7 +6,8 @@ ghost use Rattle.spanner_model.specs.View.{tree_of};
 ghost use Rattle.spanner_model.specs.Sound.{IsSound};
 ghost use Rattle.spanner_model.specs.Answers.{AreResultNames};
 ghost use Rattle.query_parser.specs.TestedView.{tested_of};
-ghost use Rattle.rematch_program.specs.Change.{change, work, clock, StandsStill};
+ghost use Rattle.rm_outside.specs.Change.{change};
+ghost use Rattle.rematch_program.specs.Work.{work, clock, StandsStill};
 ghost use Rattle.rematch_program.specs.Explained.{AreCounted, HasLines, IsCounted, atom_at, atoms_among, atoms_in, atoms_of, names_text};
 ghost use Rattle.note_texts.specs.Notes.{line, note_bytes};
 ghost use Rattle.rematch_program.specs.Run.{FromPage, IsExplained};
@@ -26,7 +27,7 @@ use std::alloc::Global;
 pub fn write_explanation<O: Sink>(alloc: Global, tested: &Tested, out: &mut O) -> Ending
     requires sound { IsSound (query_of tested.now.query) }
     ensures case { IsExplained (tested_of tested.now)
-        (change (O.written out.old) (O.written out.new) (O.faults out.old) (O.faults out.new))
+        (change (O.told out.old) (O.told out.new))
         result.status (note_bytes result.note) }
 {
     match explanation(alloc, tested) {
@@ -38,7 +39,7 @@ pub fn write_explanation<O: Sink>(alloc: Global, tested: &Tested, out: &mut O) -
 /// Puts a text whole.
 fn put_text<O: Sink>(text: &[u8], out: &mut O) -> Ending
     ensures case { FromPage
-        (work (change (O.written out.old) (O.written out.new) (O.faults out.old) (O.faults out.new)) (clock 0 0))
+        (work (change (O.told out.old) (O.told out.new)) (clock 0 0))
         result.status (note_bytes result.note)
         text.now (line (codes "end")) StandsStill }
 {

@@ -5,8 +5,9 @@ ghost use Rattle.std.specs.Prelude.{◌≡◌, ◌+◌, ◌-◌, ◌≤◌, ◌+
 ghost use Rattle.std.specs.List.{list_all};
 ghost use Rattle.cell_text.specs.Cells.{ends_by};
 ghost use Rattle.row_writer.specs.Kept.{kept_text, line_room};
-ghost use Rattle.rematch_program.specs.Change.{change, Adds, AddsPart, Failed, Passes};
-ghost use Rattle.rematch_program.specs.declared.gather.TheConstants.{LINE_ROOM};
+ghost use Rattle.rm_outside.specs.Change.{change, Adds, AddsPart, Failed};
+ghost use Rattle.rematch_program.specs.Work.{Passes};
+ghost use Rattle.rematch_program.specs.declared.gather.TheConstants.{LINE_ROOM, PIECE};
 
 use cell_text::put_bytes;
 use rm_outside::{Sink, SinkFailed};
@@ -39,21 +40,23 @@ impl Model for Gather {
 }
 
 impl Gather {
-    /// Nothing waits, and the room that is ever needed is made.
-    pub fn new(alloc: Global) -> Result<Gather, OutOfMemory>
-        ensures { IfOk result (λ g. g ≡ []) }
+    /// These bytes wait, and the room that is ever needed is made.
+    pub fn new(alloc: Global, first: &[u8]) -> Result<Gather, OutOfMemory>
+        requires { length first.now ≤ PIECE }
+        ensures { IfOk result (λ g. g ≡ first.now) }
     {
-        let bytes = vec![in alloc; 0; PIECE + LINE_ROOM]?;
-        Ok(Gather { bytes, end: 0 })
+        let mut bytes = vec![in alloc; 0; PIECE + LINE_ROOM]?;
+        let end = put_bytes(first, bytes.as_mut_slice(), 0);
+        Ok(Gather { bytes, end })
     }
 
     /// Puts what waits, unless nothing does.
     pub fn flush<O: Sink>(&mut self, out: &mut O) -> Result<(), SinkFailed>
-        ensures ok { OnOk result (Adds (change (O.written out.old) (O.written out.new) (O.faults out.old) (O.faults out.new)) self.old) }
+        ensures ok { OnOk result (Adds (change (O.told out.old) (O.told out.new)) self.old) }
         ensures empty { OnOk result (self.new ≡ []) }
-        ensures part { OnErr result (AddsPart (change (O.written out.old) (O.written out.new) (O.faults out.old) (O.faults out.new)) self.old) }
-        ensures failed { OnErr result (Failed (change (O.written out.old) (O.written out.new) (O.faults out.old) (O.faults out.new))) }
-        ensures later { O.faults out.old ≤ O.faults out.new }
+        ensures part { OnErr result (AddsPart (change (O.told out.old) (O.told out.new)) self.old) }
+        ensures failed { OnErr result (Failed (change (O.told out.old) (O.told out.new))) }
+        ensures later { (O.told out.old).faults ≤ (O.told out.new).faults }
     {
         if self.end == 0 {
             return Ok(());
@@ -66,10 +69,10 @@ impl Gather {
     /// Adds a line.
     #[tactic(auto, using(crate::proofs::Gathers::part_more, crate::proofs::Gathers::part_after, crate::proofs::Gathers::passes_after))]
     pub fn add<O: Sink>(&mut self, line: &[u8], out: &mut O) -> Result<(), SinkFailed>
-        ensures ok { OnOk result (Passes self.old line.now self.new (change (O.written out.old) (O.written out.new) (O.faults out.old) (O.faults out.new))) }
-        ensures part { OnErr result (AddsPart (change (O.written out.old) (O.written out.new) (O.faults out.old) (O.faults out.new)) (self.old ++ line.now)) }
-        ensures failed { OnErr result (Failed (change (O.written out.old) (O.written out.new) (O.faults out.old) (O.faults out.new))) }
-        ensures later { O.faults out.old ≤ O.faults out.new }
+        ensures ok { OnOk result (Passes self.old line.now self.new (change (O.told out.old) (O.told out.new))) }
+        ensures part { OnErr result (AddsPart (change (O.told out.old) (O.told out.new)) (self.old ++ line.now)) }
+        ensures failed { OnErr result (Failed (change (O.told out.old) (O.told out.new))) }
+        ensures later { (O.told out.old).faults ≤ (O.told out.new).faults }
     {
         if line.len() <= PIECE - self.end {
             self.end = put_bytes(line, self.bytes.as_mut_slice(), self.end);
@@ -84,10 +87,10 @@ impl Gather {
     /// Adds a line where none waits.
     fn begin<O: Sink>(&mut self, line: &[u8], out: &mut O) -> Result<(), SinkFailed>
         requires { self.old ≡ [] }
-        ensures ok { OnOk result (Passes [] line.now self.new (change (O.written out.old) (O.written out.new) (O.faults out.old) (O.faults out.new))) }
-        ensures part { OnErr result (AddsPart (change (O.written out.old) (O.written out.new) (O.faults out.old) (O.faults out.new)) line.now) }
-        ensures failed { OnErr result (Failed (change (O.written out.old) (O.written out.new) (O.faults out.old) (O.faults out.new))) }
-        ensures later { O.faults out.old ≤ O.faults out.new }
+        ensures ok { OnOk result (Passes [] line.now self.new (change (O.told out.old) (O.told out.new))) }
+        ensures part { OnErr result (AddsPart (change (O.told out.old) (O.told out.new)) line.now) }
+        ensures failed { OnErr result (Failed (change (O.told out.old) (O.told out.new))) }
+        ensures later { (O.told out.old).faults ≤ (O.told out.new).faults }
     {
         if line.len() > PIECE {
             return out.put(line);
@@ -110,10 +113,12 @@ impl Gather {
         requires inside { IsTrue (list_all (ends_by (length document.now)) spans.now) }
         requires room { line_room texts line.old.heads spans.now ≤ LINE_ROOM }
         ensures line { line.new ≡ line.old }
-        ensures ok { OnOk result (Passes self.old (kept_text line.old spans.now document.now texts) self.new (change (O.written out.old) (O.written out.new) (O.faults out.old) (O.faults out.new))) }
-        ensures part { OnErr result (AddsPart (change (O.written out.old) (O.written out.new) (O.faults out.old) (O.faults out.new)) (self.old ++ kept_text line.old spans.now document.now texts)) }
-        ensures failed { OnErr result (Failed (change (O.written out.old) (O.written out.new) (O.faults out.old) (O.faults out.new))) }
-        ensures later { O.faults out.old ≤ O.faults out.new }
+        ensures ok { OnOk result (Passes self.old (kept_text line.old spans.now document.now texts) self.new
+            (change (O.told out.old) (O.told out.new))) }
+        ensures part { OnErr result (AddsPart (change (O.told out.old) (O.told out.new))
+            (self.old ++ kept_text line.old spans.now document.now texts)) }
+        ensures failed { OnErr result (Failed (change (O.told out.old) (O.told out.new))) }
+        ensures later { (O.told out.old).faults ≤ (O.told out.new).faults }
     {
         let end = line.put(spans, document, texts, self.bytes.as_mut_slice(), self.end);
         if end <= PIECE {
@@ -140,11 +145,11 @@ fn put_before<O: Sink>(
     requires order { at ≤ end }
     requires inside { end ≤ length bytes.old.items }
     ensures length { length bytes.new.items ≡ length bytes.old.items }
-    ensures ok { OnOk result (Adds (change (O.written out.old) (O.written out.new) (O.faults out.old) (O.faults out.new)) (take at bytes.old.items)) }
+    ensures ok { OnOk result (Adds (change (O.told out.old) (O.told out.new)) (take at bytes.old.items)) }
     ensures moved { OnOk result (take at bytes.old.items ++ take (end - at) bytes.new.items ≡ take end bytes.old.items) }
-    ensures part { OnErr result (AddsPart (change (O.written out.old) (O.written out.new) (O.faults out.old) (O.faults out.new)) (take at bytes.old.items)) }
-    ensures failed { OnErr result (Failed (change (O.written out.old) (O.written out.new) (O.faults out.old) (O.faults out.new))) }
-    ensures later { O.faults out.old ≤ O.faults out.new }
+    ensures part { OnErr result (AddsPart (change (O.told out.old) (O.told out.new)) (take at bytes.old.items)) }
+    ensures failed { OnErr result (Failed (change (O.told out.old) (O.told out.new))) }
+    ensures later { (O.told out.old).faults ≤ (O.told out.new).faults }
 {
     out.put(&bytes[..at])?;
     bytes.copy_within(at..end, 0);

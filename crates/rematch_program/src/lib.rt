@@ -20,6 +20,8 @@ mod gather;
 mod laws;
 mod lines;
 mod page;
+mod page_writer;
+mod remaining;
 mod summary;
 #[cfg(test)]
 mod tests;

@@ -1,7 +1,8 @@
 //! A summary of all answers: how many there are, the first and the last.
 ghost use Rattle.std.specs.Prelude.{◌≡◌, ℕ, ◌≤◌, ◌++◌, ◌^◌, ◌-◌, codes, length, min, slice_get, None, IfOk, IfSome, OnOk};
 ghost use Rattle.spanner_model.specs.Answers.{page_end};
-ghost use Rattle.rematch_program.specs.Change.{change, work, clock};
+ghost use Rattle.rm_outside.specs.Change.{change};
+ghost use Rattle.rematch_program.specs.Work.{work, clock};
 ghost use Rattle.note_texts.specs.Notes.{line, note_bytes};
 ghost use Rattle.rematch_program.specs.Pages.{FitsPage};
 ghost use Rattle.rematch_program.specs.Run.{FromPage};
@@ -29,7 +30,7 @@ pub fn write_summary<O: Sink, J: Judge, L: Ledger>(
     steps: &mut Steps<L>,
 ) -> Ending
     ensures case { FromPage
-        (work (change (O.written out.old) (O.written out.new) (O.faults out.old) (O.faults out.new)) (clock steps.old steps.new))
+        (work (change (O.told out.old) (O.told out.new)) (clock steps.old steps.new))
         result.status (note_bytes result.note)
         (trial_summary lines rows.old.source.names rows.old.source.document (coming J.judges rows.old)) (line (codes "end")) (AllTaken J.judges rows.old) }
 {

@@ -19,7 +19,8 @@ ghost use Rattle.spanner_engine.specs.Passing.{AreKnown, checks_of, known};
 ghost use Rattle.trial_maker.specs.Trial.{trial_text};
 ghost use Rattle.command_line.specs.declared.TheConstants.{MOST_TRIAL_LINES};
 ghost use Rattle.rematch_program.specs.declared.TheConstants.{DOCUMENT_LIMIT};
-ghost use Rattle.rematch_program.specs.Change.{change, clock, work};
+ghost use Rattle.rm_outside.specs.Change.{change};
+ghost use Rattle.rematch_program.specs.Work.{clock, work};
 ghost use Rattle.note_texts.specs.Notes.{fault_note, note_bytes, size_note};
 ghost use Rattle.rematch_program.specs.Steps.{KeepsWithin};
 ghost use Rattle.rematch_program.specs.Pages.{CursorFits, HasWidth, IsAfter};
@@ -57,14 +58,14 @@ pub fn run<S: Shelf, O: Sink, N: Sink, L: Ledger>(
 ) -> Status
     ensures run { Run (map string_bytes words.now)
         (store (S.told shelf.old) (S.told shelf.new))
-        (change (O.written out.old) (O.written out.new) (O.faults out.old) (O.faults out.new))
-        (change (N.written notes.old) (N.written notes.new) (N.faults notes.old) (N.faults notes.new))
+        (change (O.told out.old) (O.told out.new))
+        (change (N.told notes.old) (N.told notes.new))
         (clock steps.old steps.new)
         result }
     ensures complete { Completes none_known (map string_bytes words.now)
         (store (S.told shelf.old) (S.told shelf.new))
-        (change (O.written out.old) (O.written out.new) (O.faults out.old) (O.faults out.new))
-        (change (N.written notes.old) (N.written notes.new) (N.faults notes.old) (N.faults notes.new))
+        (change (O.told out.old) (O.told out.new))
+        (change (N.told notes.old) (N.told notes.new))
         result }
 {
     let tests = Tests::<NoJudge>::new(alloc);
@@ -95,14 +96,14 @@ pub fn run_tested<S: Shelf, O: Sink, N: Sink, J: Judge, L: Ledger>(
 ) -> Status
     ensures run { RunTested (known tests.now J.judges) (map string_bytes words.now)
         (store (S.told shelf.old) (S.told shelf.new))
-        (change (O.written out.old) (O.written out.new) (O.faults out.old) (O.faults out.new))
-        (change (N.written notes.old) (N.written notes.new) (N.faults notes.old) (N.faults notes.new))
+        (change (O.told out.old) (O.told out.new))
+        (change (N.told notes.old) (N.told notes.new))
         (clock steps.old steps.new)
         result }
     ensures complete { Completes (known tests.now J.judges) (map string_bytes words.now)
         (store (S.told shelf.old) (S.told shelf.new))
-        (change (O.written out.old) (O.written out.new) (O.faults out.old) (O.faults out.new))
-        (change (N.written notes.old) (N.written notes.new) (N.faults notes.old) (N.faults notes.new))
+        (change (O.told out.old) (O.told out.new))
+        (change (N.told notes.old) (N.told notes.new))
         result }
 {
     let ending = with_words(alloc, words, tests, shelf, out, steps);
@@ -112,7 +113,7 @@ pub fn run_tested<S: Shelf, O: Sink, N: Sink, J: Judge, L: Ledger>(
 /// Writes the note.
 fn report<N: Sink>(ending: &Ending, notes: &mut N) -> Status
     ensures { Reports ending.now.status (note_bytes ending.now.note)
-        (change (N.written notes.old) (N.written notes.new) (N.faults notes.old) (N.faults notes.new))
+        (change (N.told notes.old) (N.told notes.new))
         result }
 {
     match (notes.put(ending.note.as_bytes()), ending.status) {
@@ -131,7 +132,7 @@ fn with_words<S: Shelf, O: Sink, J: Judge, L: Ledger>(
     steps: &mut Steps<L>,
 ) -> Ending
     ensures case { FromWords (store (S.told shelf.old) (S.told shelf.new))
-        (work (change (O.written out.old) (O.written out.new) (O.faults out.old) (O.faults out.new)) (clock steps.old steps.new))
+        (work (change (O.told out.old) (O.told out.new)) (clock steps.old steps.new))
         result.status (note_bytes result.note) (known tests.now J.judges) (map string_bytes words.now) }
 {
     match read_request(alloc, words) {
@@ -151,7 +152,7 @@ fn with_request<S: Shelf, O: Sink, J: Judge, L: Ledger>(
     steps: &mut Steps<L>,
 ) -> Ending
     ensures case { FromAsked (store (S.told shelf.old) (S.told shelf.new))
-        (work (change (O.written out.old) (O.written out.new) (O.faults out.old) (O.faults out.new)) (clock steps.old steps.new))
+        (work (change (O.told out.old) (O.told out.new)) (clock steps.old steps.new))
         result.status (note_bytes result.note) (known tests.now J.judges) (request_view request.now) }
 {
     let name = match request.query {
@@ -183,7 +184,7 @@ fn with_text<S: Shelf, O: Sink, J: Judge, L: Ledger>(
     steps: &mut Steps<L>,
 ) -> Ending
     ensures case { FromText (store (S.told shelf.old) (S.told shelf.new))
-        (work (change (O.written out.old) (O.written out.new) (O.faults out.old) (O.faults out.new)) (clock steps.old steps.new))
+        (work (change (O.told out.old) (O.told out.new)) (clock steps.old steps.new))
         result.status (note_bytes result.note) (known tests.now J.judges) (request_view request.now) text.now }
 {
     let tested = match read_tested(alloc, text) {
@@ -225,7 +226,7 @@ fn with_query<S: Shelf, O: Sink, J: Judge, L: Ledger>(
     requires sound { IsSound (query_of tested.now.query) }
     requires bound { AreKnown (known tests.now J.judges) tested.now.asked }
     ensures case { FromQuery (store (S.told shelf.old) (S.told shelf.new))
-        (work (change (O.written out.old) (O.written out.new) (O.faults out.old) (O.faults out.new)) (clock steps.old steps.new))
+        (work (change (O.told out.old) (O.told out.new)) (clock steps.old steps.new))
         result.status (note_bytes result.note) (request_view request.now) (tested_of tested.now) (checks_of (known tests.now J.judges) tested.now.asked) }
 {
     match request.mode {
@@ -310,7 +311,7 @@ fn with_cursor<S: Shelf, O: Sink, J: Judge, L: Ledger>(
     requires names { AreResultNames (query_of asking.now.compiled.query) asking.now.compiled.automaton.names }
     requires bound { AreKnown (known asking.now.tests.now J.judges) asking.now.tested.now.asked }
     ensures case { FromCursor (request_view request.now) (query_of asking.now.compiled.query) (checks_of (known asking.now.tests.now J.judges) asking.now.tested.now.asked)
-        (work (change (O.written out.old) (O.written out.new) (O.faults out.old) (O.faults out.new)) (clock steps.old steps.new))
+        (work (change (O.told out.old) (O.told out.new)) (clock steps.old steps.new))
         result.status (note_bytes result.note) (store (S.told shelf.old) (S.told shelf.new)) asking.now.compiled.automaton.names }
 {
     let text = match request.after {
@@ -340,8 +341,9 @@ fn with_place<S: Shelf, O: Sink, J: Judge, L: Ledger>(
     requires bound { AreKnown (known asking.now.tests.now J.judges) asking.now.tested.now.asked }
     requires after { IsAfter asking.now.compiled.automaton.names (request_view request.now).after (option_copied after) }
     ensures case { FromPlace (request_view request.now) (query_of asking.now.compiled.query) (checks_of (known asking.now.tests.now J.judges) asking.now.tested.now.asked)
-        (work (change (O.written out.old) (O.written out.new) (O.faults out.old) (O.faults out.new)) (clock steps.old steps.new))
-        result.status (note_bytes result.note) (store (S.told shelf.old) (S.told shelf.new)) asking.now.compiled.automaton.names (option_copied after.entry) }
+        (work (change (O.told out.old) (O.told out.new)) (clock steps.old steps.new))
+        result.status (note_bytes result.note) (store (S.told shelf.old) (S.told shelf.new))
+        asking.now.compiled.automaton.names (option_copied after.entry) }
 {
     match fetch_all(alloc, shelf, request.document, DOCUMENT_LIMIT) {
         Ok(document) => with_document(alloc, request, asking, after, &document, out, steps),
@@ -374,7 +376,7 @@ fn with_document<O: Sink, J: Judge, L: Ledger>(
     requires after { IsAfter asking.now.compiled.automaton.names (request_view request.now).after (option_copied after) }
     requires short { length document.now ≤ DOCUMENT_LIMIT }
     ensures case { FromDocument (request_view request.now) (query_of asking.now.compiled.query) (checks_of (known asking.now.tests.now J.judges) asking.now.tested.now.asked)
-        (work (change (O.written out.old) (O.written out.new) (O.faults out.old) (O.faults out.new)) (clock steps.old steps.new))
+        (work (change (O.told out.old) (O.told out.new)) (clock steps.old steps.new))
         result.status (note_bytes result.note) asking.now.compiled.automaton.names (option_copied after.entry) document.now }
 {
     match begun(alloc, request, &asking.compiled, after, document, steps) {
@@ -407,7 +409,7 @@ fn with_lines<O: Sink, J: Judge, L: Ledger>(
     requires names { AreResultNames (query_of asking.now.compiled.query) asking.now.compiled.automaton.names }
     requires bound { AreKnown (known asking.now.tests.now J.judges) asking.now.tested.now.asked }
     ensures case { FromDocument (request_view request.now) (query_of asking.now.compiled.query) (checks_of (known asking.now.tests.now J.judges) asking.now.tested.now.asked)
-        (work (change (O.written out.old) (O.written out.new) (O.faults out.old) (O.faults out.new)) (clock steps.old steps.new))
+        (work (change (O.told out.old) (O.told out.new)) (clock steps.old steps.new))
         result.status (note_bytes result.note) asking.now.compiled.automaton.names None (trial_text lines) }
 {
     match trial(alloc, lines) {
@@ -432,7 +434,7 @@ fn with_trial<O: Sink, J: Judge, L: Ledger>(
     requires names { AreResultNames (query_of asking.now.compiled.query) asking.now.compiled.automaton.names }
     requires bound { AreKnown (known asking.now.tests.now J.judges) asking.now.tested.now.asked }
     ensures case { FromDocument (request_view request.now) (query_of asking.now.compiled.query) (checks_of (known asking.now.tests.now J.judges) asking.now.tested.now.asked)
-        (work (change (O.written out.old) (O.written out.new) (O.faults out.old) (O.faults out.new)) (clock steps.old steps.new))
+        (work (change (O.told out.old) (O.told out.new)) (clock steps.old steps.new))
         result.status (note_bytes result.note) asking.now.compiled.automaton.names None document.now }
 {
     match begun(alloc, request, &asking.compiled, None, document, steps) {

@@ -1,5 +1,6 @@
 -- What the sink in memory holds, and what it takes of a put.
-use Rattle.std.specs.Prelude.{ℕ, ◌-◌, ◌==◌, List, Option, length, min, find, option_map, unwrap_or}
+use Rattle.std.specs.Prelude.{ℕ, ◌-◌, ◌==◌, List, Option, Some, length, min, find, option_map, unwrap_or}
+use Rattle.rm_outside.specs.Flow.{Flow, flow}
 use Rattle.rm_outside.specs.declared.memory_sink.MemorySink.{MemorySink}
 
 -- the bytes written
@@ -9,6 +10,10 @@ written_of s = s.bytes.items
 -- the count of faults
 abbrev pub sink_faults : MemorySink → ℕ
 sink_faults s = s.faults
+
+-- all of it
+abbrev pub sink_told : MemorySink → Flow
+sink_told s = flow (Some (written_of s)) (sink_faults s)
 
 -- the most bytes that it holds
 abbrev pub capacity_of : MemorySink → ℕ

@@ -1,5 +1,6 @@
 -- What the source in memory holds.
-use Rattle.std.specs.Prelude.{ℕ, List, drop}
+use Rattle.std.specs.Prelude.{ℕ, List, Some, drop}
+use Rattle.rm_outside.specs.Flow.{Flow, flow}
 use Rattle.rm_outside.specs.declared.memory_source.MemorySource.{MemorySource}
 
 -- the bytes that are left
@@ -9,6 +10,10 @@ left_of s = drop s.at s.held.items
 -- the count of faults
 abbrev pub source_faults : MemorySource → ℕ
 source_faults s = s.faults
+
+-- all of it
+abbrev pub source_told : MemorySource → Flow
+source_told s = flow (Some (left_of s)) (source_faults s)
 
 -- the number of the next call
 abbrev pub next_call : MemorySource → ℕ

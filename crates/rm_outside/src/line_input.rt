@@ -3,6 +3,7 @@ ghost use Rattle.std.specs.Prelude.{◌≡◌, ◌≤◌, ◌<◌, ◌-◌, ℕ,
 ghost use Rattle.std.specs.Bool.{OnTrue, OnFalse};
 ghost use Rattle.std.specs.Io.KnownBytes.{IsAtEnd, Keeps};
 ghost use Rattle.rm_outside.specs.Faults.{Rose};
+ghost use Rattle.rm_outside.specs.Flow.{flow};
 ghost use Rattle.rm_outside.specs.Source.{AsksLine};
 ghost use Rattle.rm_outside.specs.LineInput.{IsLineFault, IsPartFault, TakesPart, left_of};
 
@@ -155,9 +156,7 @@ impl<R: Read> LineInput<R> {
 }
 
 impl<R: Read> Source for LineInput<R> {
-    ghost left = { λ s. left_of s.start s.end s.buffer.items (R.remaining s.from) };
-
-    ghost faults = { λ s. s.faults };
+    ghost told = { λ s. flow (left_of s.start s.end s.buffer.items (R.remaining s.from)) s.faults };
 
     fn line(&mut self, limit: usize, into: &mut Vec<u8>) -> Result<bool, LineFault> {
         let before = into.len();

@@ -59,11 +59,9 @@ impl MemorySink {
 }
 
 impl Sink for MemorySink {
-    ghost use Rattle.rm_outside.specs.MemorySink.{written_of, sink_faults, capacity_of, next_put, failing_puts, most_of_next, taken_by};
+    ghost use Rattle.rm_outside.specs.MemorySink.{written_of, sink_faults, sink_told, capacity_of, next_put, failing_puts, most_of_next, taken_by};
 
-    ghost written = { λ s. Some (written_of s) };
-
-    ghost faults = { sink_faults };
+    ghost told = { sink_told };
 
     fn put(&mut self, bytes: &[u8]) -> Result<(), SinkFailed>
         ensures ok { OnOk result (written_of self.new ≡ written_of self.old ++ bytes.now) }

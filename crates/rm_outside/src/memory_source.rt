@@ -40,12 +40,9 @@ impl MemorySource {
 }
 
 impl Source for MemorySource {
-    ghost use Rattle.std.specs.Prelude.{Some};
-    ghost use Rattle.rm_outside.specs.MemorySource.{left_of, source_faults, next_call, failing_calls};
+    ghost use Rattle.rm_outside.specs.MemorySource.{left_of, source_faults, source_told, next_call, failing_calls};
 
-    ghost left = { λ s. Some (left_of s) };
-
-    ghost faults = { source_faults };
+    ghost told = { source_told };
 
     fn line(&mut self, limit: usize, into: &mut Vec<u8>) -> Result<bool, LineFault>
         ensures asks { AsksLine limit (Some (left_of self.old)) (Some (left_of self.new)) into.old.items into.new.items result }

@@ -2,6 +2,7 @@
 ghost use Rattle.std.specs.Prelude.{◌≡◌, ◌≤◌, OnOk, OnErr, true};
 ghost use Rattle.std.specs.Io.KnownBytes.{Appends};
 ghost use Rattle.rm_outside.specs.Faults.{Rose};
+ghost use Rattle.rm_outside.specs.Flow.{flow};
 ghost use Rattle.rm_outside.specs.Sink.{AppendsPart, CountsErr};
 
 use crate::{Sink, SinkFailed};
@@ -47,9 +48,7 @@ impl<W: Write> NoteSink<W> {
 }
 
 impl<W: Write> Sink for OutSink<W> {
-    ghost written = { λ s. W.contents s.to };
-
-    ghost faults = { λ s. s.faults };
+    ghost told = { λ s. flow (W.contents s.to) s.faults };
 
     fn put(&mut self, bytes: &[u8]) -> Result<(), SinkFailed>
         ensures ok { OnOk result (Appends (W.contents self.old.to) (W.contents self.new.to) bytes.now) }
@@ -65,9 +64,7 @@ impl<W: Write> Sink for OutSink<W> {
 }
 
 impl<W: Write> Sink for NoteSink<W> {
-    ghost written = { λ s. W.contents s.to };
-
-    ghost faults = { λ s. s.faults };
+    ghost told = { λ s. flow (W.contents s.to) s.faults };
 
     fn put(&mut self, bytes: &[u8]) -> Result<(), SinkFailed>
         ensures ok { OnOk result (Appends (W.contents self.old.to) (W.contents self.new.to) bytes.now) }

@@ -11,6 +11,7 @@ use std::alloc::Allocator;
 pub fn table_head<A: Allocator>(vars: &VarSet, out: &mut Vec<u8, A>) -> Result<(), OutOfMemory>
     ensures ok { OnOk result (out.new.items ≡ out.old.items ++ head_text vars.now) }
     ensures err { OnErr result (out.new.items ≡ out.old.items) }
+    ensures few { length out.new.items ≤ length out.old.items + 3 + length vars.now * (MOST_NAME_BYTES + 1) }
 {
     let before = out.len();
     out.resize(before + 3 + vars.len() * (MOST_NAME_BYTES + 1), 0)?;

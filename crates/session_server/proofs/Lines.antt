@@ -62,14 +62,14 @@ module _ (k : Known) (most : ℕ) (start now before after : Option (List ℕ)) (
   run : Served k s.texts s.replies
   run = record { after = s.all; replied = s.replied }
 
-  module _ (source out : Change) (begins : source.old ≡ start) (puts : out.old ≡ before) (written : out.new ≡ after) where
-    took : TakesLines source.old s.texts now
+  module _ (source out : Change) (begins : source.old.bytes ≡ start) (puts : out.old.bytes ≡ before) (written : out.new.bytes ≡ after) where
+    took : TakesLines source.old.bytes s.texts now
     took = subst (λ (o : Option (List ℕ)). TakesLines o s.texts now) (sym begins) s.taken
 
     added : Adds out (replies_text s.replies)
-    added = subst (λ (o : Option (List ℕ)). Appends o out.new (replies_text s.replies)) (sym puts) (subst (λ (o : Option (List ℕ)). Appends before o (replies_text s.replies)) (sym written) s.wrote)
+    added = subst (λ (o : Option (List ℕ)). Appends o out.new.bytes (replies_text s.replies)) (sym puts) (subst (λ (o : Option (List ℕ)). Appends before o (replies_text s.replies)) (sym written) s.wrote)
 
-    pub ends_served : IsSpent now → IsSpent source.new → ServesLines k most source out status.Done (line (codes "end"))
+    pub ends_served : IsSpent now → IsSpent source.new.bytes → ServesLines k most source out status.Done (line (codes "end"))
     ends_served spent end = all_served s.texts s.replies now took spent end few_texts run added (record { ends = refl; says = refl })
 
     pub ends_failed : Failed source → ServesLines k most source out status.Read (line (codes "read failed: requests"))
@@ -78,7 +78,7 @@ module _ (k : Known) (most : ℕ) (start now before after : Option (List ℕ)) (
     pub ends_long : IsNextLong MOST_LINE_BYTES now → ServesLines k most source out status.Long (line (counted (codes "request longer than ") MOST_LINE_BYTES (codes " bytes")))
     ends_long long = line_too_long s.texts s.replies now took long few_texts run added (record { ends = refl; says = refl })
 
-    pub ends_many : (text : List ℕ) → TakesLine now text source.new → most ≤ served → ServesLines k most source out status.Long (line (codes "too many requests"))
+    pub ends_many : (text : List ℕ) → TakesLine now text source.new.bytes → most ≤ served → ServesLines k most source out status.Long (line (codes "too many requests"))
     ends_many text next many = let a = s.count in let b = s.few in too_many s.texts s.replies now text took next (omega (arith, a, b, many)) run added (record { ends = refl; says = refl })
 
     pub ends_memory : ServesLines k most source out status.Memory (line (codes "out of memory"))
@@ -107,19 +107,19 @@ module _ (k : Known) (most : ℕ) (start now before after : Option (List ℕ)) (
               (Appends-trans before after put (replies_text s.replies) (reply_text reply) s.wrote (subst (λ (xs : List ℕ). Appends after put xs) told wrote));
         }
 
-    pub ends_write : (source out : Change) → source.old ≡ start → source.new ≡ new → out.old ≡ before → AppendsPart after out.new reply_line → Failed out →
+    pub ends_write : (source out : Change) → source.old.bytes ≡ start → source.new.bytes ≡ new → out.old.bytes ≡ before → AppendsPart after out.new.bytes reply_line → Failed out →
         ServesLines k most source out status.Write (line (codes "write failed"))
     ends_write source out begins goes puts part failed =
         let all_text = replies_text s.replies in
         let joined : (all_text ++ part.part) ++ part.prefix.rest ≡ replies_text (s.replies ++ reply ∷ []) =
         append_assoc all_text part.part part.prefix.rest ∙ ap (λ (xs : List ℕ). all_text ++ xs) (part.prefix.joined ∙ told) ∙ sym (text_more s.replies reply) in
-        let added : Appends before out.new (all_text ++ part.part) = Appends-trans before after out.new all_text part.part s.wrote part.added in
+        let added : Appends before out.new.bytes (all_text ++ part.part) = Appends-trans before after out.new.bytes all_text part.part s.wrote part.added in
         write_failed (s.texts ++ text ∷ []) (s.replies ++ reply ∷ [])
-        (subst (λ (o : Option (List ℕ)). TakesLines o (s.texts ++ text ∷ []) source.new) (sym begins)
+        (subst (λ (o : Option (List ℕ)). TakesLines o (s.texts ++ text ∷ []) source.new.bytes) (sym begins)
         (subst (λ (o : Option (List ℕ)). TakesLines start (s.texts ++ text ∷ []) o) (sym goes) (takes_more start now new s.texts text s.taken one)))
         more_few
         (record { after = all; replied = replied_more k [] s.all all s.texts s.replies text reply s.replied answers })
-        (record { part = all_text ++ part.part; added = subst (λ (o : Option (List ℕ)). Appends o out.new (all_text ++ part.part)) (sym puts) added; prefix = record { rest = part.prefix.rest; joined = joined } })
+        (record { part = all_text ++ part.part; added = subst (λ (o : Option (List ℕ)). Appends o out.new.bytes (all_text ++ part.part)) (sym puts) added; prefix = record { rest = part.prefix.rest; joined = joined } })
         failed (record { ends = refl; says = refl })
 
 -- ---- in the code's shapes
@@ -196,13 +196,13 @@ not_more most left text xs [] (Some new) many few t next = let e : left ≡ [] =
 not_more most left text xs [] None many few t next = next
 not_more most left text xs (x ∷ rest) new many few t next = let e = length-append xs (x ∷ rest) in absurd (omega (arith, e, many, few))
 
-module _ (k : Known) (most : ℕ) (source out notes : Change) (result : Status) (bytes : List ℕ) (texts : List (List ℕ)) (is : source.old ≡ Some bytes) (lines : TakesLines (Some bytes) texts (Some []))
+module _ (k : Known) (most : ℕ) (source out notes : Change) (result : Status) (bytes : List ℕ) (texts : List (List ℕ)) (is : source.old.bytes ≡ Some bytes) (lines : TakesLines (Some bytes) texts (Some []))
     (short : AreShort texts) (few : length texts ≤ most) (quiet : ¬ Failed source) (puts : ¬ Failed out) (says : ¬ Failed notes) where
   reported : (end : Status) (note : List ℕ) → Reports end note notes result → (result ≡ end) × Adds notes note
   reported end note (whole ends adds) = (ends, adds)
   reported end note (cut ends failed part) = absurd (says failed)
 
-  from_start : (xs : List (List ℕ)) (now : Option (List ℕ)) → TakesLines source.old xs now → TakesLines (Some bytes) xs now
+  from_start : (xs : List (List ℕ)) (now : Option (List ℕ)) → TakesLines source.old.bytes xs now → TakesLines (Some bytes) xs now
   from_start xs now t = subst (λ (o : Option (List ℕ)). TakesLines o xs now) is t
 
   pub serves_them : (end : Status) (note : List ℕ) → ServesLines k most source out end note → Reports end note notes result → IsServed k texts out notes result ⊎ (result ≡ status.Memory)
@@ -230,8 +230,8 @@ module _ (k : Known) (most : ℕ) (source out notes : Change) (result : Status) 
       let taken = from_start xs now t in
       let (rest, joined, left) = left_over bytes now xs texts taken lines in
       let (held, tells) = still_told bytes xs now taken in
-      absurd (not_more most held next xs rest source.new many (subst (λ (ls : List (List ℕ)). length ls ≤ most) joined few)
-      (subst (λ (o : Option (List ℕ)). TakesLines o rest (Some [])) tells left) (subst (λ (o : Option (List ℕ)). TakesLine o next source.new) tells more))
+      absurd (not_more most held next xs rest source.new.bytes many (subst (λ (ls : List (List ℕ)). length ls ≤ most) joined few)
+      (subst (λ (o : Option (List ℕ)). TakesLines o rest (Some [])) tells left) (subst (λ (o : Option (List ℕ)). TakesLine o next source.new.bytes) tells more))
   serves_them end note (write_failed xs replies t few_xs served part failed told) report = absurd (puts failed)
   serves_them end note (wants_memory xs replies now t few_xs served adds told) report = inr ((reported end note report).0 ∙ told.ends)
 

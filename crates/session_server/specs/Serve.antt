@@ -22,22 +22,22 @@ pub record Served (k : Known) (texts : List (List ℕ)) (replies : List Reply) :
 -- the lines that were taken are answered: all of them, and then the source has no more; or it failed; or its next line is too long, or one
 -- too many; or out failed; or memory is wanting
 pub data ServesLines (k : Known) (most : ℕ) (source out : Change) (end : Status) (note : List ℕ) : Type 0 where
-  all_served : (texts : List (List ℕ)) (replies : List Reply) (now : Option (List ℕ)) → TakesLines source.old texts now → IsSpent now → IsSpent source.new →
+  all_served : (texts : List (List ℕ)) (replies : List Reply) (now : Option (List ℕ)) → TakesLines source.old.bytes texts now → IsSpent now → IsSpent source.new.bytes →
       length texts ≤ most → Served k texts replies → Adds out (replies_text replies) → Is end note status.Done (codes "end") →
       ServesLines k most source out end note
-  source_failed : (texts : List (List ℕ)) (replies : List Reply) (now : Option (List ℕ)) → TakesLines source.old texts now → Failed source →
+  source_failed : (texts : List (List ℕ)) (replies : List Reply) (now : Option (List ℕ)) → TakesLines source.old.bytes texts now → Failed source →
       length texts ≤ most → Served k texts replies → Adds out (replies_text replies) → Is end note status.Read (codes "read failed: requests") →
       ServesLines k most source out end note
-  line_too_long : (texts : List (List ℕ)) (replies : List Reply) (now : Option (List ℕ)) → TakesLines source.old texts now →
+  line_too_long : (texts : List (List ℕ)) (replies : List Reply) (now : Option (List ℕ)) → TakesLines source.old.bytes texts now →
       IsNextLong MOST_LINE_BYTES now → length texts ≤ most → Served k texts replies → Adds out (replies_text replies) →
       Is end note status.Long (counted (codes "request longer than ") MOST_LINE_BYTES (codes " bytes")) → ServesLines k most source out end note
-  too_many : (texts : List (List ℕ)) (replies : List Reply) (now : Option (List ℕ)) (next : List ℕ) → TakesLines source.old texts now → TakesLine now next source.new →
+  too_many : (texts : List (List ℕ)) (replies : List Reply) (now : Option (List ℕ)) (next : List ℕ) → TakesLines source.old.bytes texts now → TakesLine now next source.new.bytes →
       length texts ≡ most → Served k texts replies → Adds out (replies_text replies) → Is end note status.Long (codes "too many requests") →
       ServesLines k most source out end note
-  write_failed : (texts : List (List ℕ)) (replies : List Reply) → TakesLines source.old texts source.new → length texts ≤ most →
+  write_failed : (texts : List (List ℕ)) (replies : List Reply) → TakesLines source.old.bytes texts source.new.bytes → length texts ≤ most →
       Served k texts replies → AddsPart out (replies_text replies) → Failed out → Is end note status.Write (codes "write failed") →
       ServesLines k most source out end note
-  wants_memory : (texts : List (List ℕ)) (replies : List Reply) (now : Option (List ℕ)) → TakesLines source.old texts now → length texts ≤ most →
+  wants_memory : (texts : List (List ℕ)) (replies : List Reply) (now : Option (List ℕ)) → TakesLines source.old.bytes texts now → length texts ≤ most →
       Served k texts replies → Adds out (replies_text replies) → Is end note status.Memory (codes "out of memory") →
       ServesLines k most source out end note
 
@@ -73,5 +73,5 @@ AreShort (text ∷ texts) = (length text ≤ MOST_LINE_BYTES) × AreShort texts
 
 abbrev pub ServesAll : Known → ℕ → Change → Change → Change → Status → Type 0
 ServesAll k most source out notes result =
-    (bytes : List ℕ) (texts : List (List ℕ)) → source.old ≡ Some bytes → TakesLines (Some bytes) texts (Some []) → AreShort texts → length texts ≤ most →
+    (bytes : List ℕ) (texts : List (List ℕ)) → source.old.bytes ≡ Some bytes → TakesLines (Some bytes) texts (Some []) → AreShort texts → length texts ≤ most →
     ¬ Failed source → ¬ Failed out → ¬ Failed notes → IsServed k texts out notes result ⊎ (result ≡ status.Memory)

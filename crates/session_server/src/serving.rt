@@ -27,14 +27,14 @@ pub fn serve<R: Source, O: Sink, N: Sink, J: Judge, L: Ledger>(
     steps: &mut Steps<L>,
 ) -> Status
     ensures serves { Serves (known tests.now J.judges) most
-        (change (R.left source.old) (R.left source.new) (R.faults source.old) (R.faults source.new))
-        (change (O.written out.old) (O.written out.new) (O.faults out.old) (O.faults out.new))
-        (change (N.written notes.old) (N.written notes.new) (N.faults notes.old) (N.faults notes.new))
+        (change (R.told source.old) (R.told source.new))
+        (change (O.told out.old) (O.told out.new))
+        (change (N.told notes.old) (N.told notes.new))
         result }
     ensures all { ServesAll (known tests.now J.judges) most
-        (change (R.left source.old) (R.left source.new) (R.faults source.old) (R.faults source.new))
-        (change (O.written out.old) (O.written out.new) (O.faults out.old) (O.faults out.new))
-        (change (N.written notes.old) (N.written notes.new) (N.faults notes.old) (N.faults notes.new))
+        (change (R.told source.old) (R.told source.new))
+        (change (O.told out.old) (O.told out.new))
+        (change (N.told notes.old) (N.told notes.new))
         result }
 {
     let ending = serve_lines(alloc, most, tests, source, out, steps);
@@ -50,8 +50,8 @@ fn serve_lines<R: Source, O: Sink, J: Judge, L: Ledger>(
     steps: &mut Steps<L>,
 ) -> Ending
     ensures serves { ServesLines (known tests.now J.judges) most
-        (change (R.left source.old) (R.left source.new) (R.faults source.old) (R.faults source.new))
-        (change (O.written out.old) (O.written out.new) (O.faults out.old) (O.faults out.new))
+        (change (R.told source.old) (R.told source.new))
+        (change (O.told out.old) (O.told out.new))
         result.status (note_bytes result.note) }
 {
     let mut sessions = Vec::new(alloc);

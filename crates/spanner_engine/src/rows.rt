@@ -129,14 +129,14 @@ impl<'r, J: Judge> TestedRows<'r, J> {
     }
 
     /// The variables of the rows.
-    pub fn vars(&self) -> &VarSet
+    pub fn vars(&self) -> &'r VarSet
         ensures { result.now ≡ self.now.source.names }
     {
         self.vars
     }
 
     /// The document.
-    pub fn document(&self) -> &[u8]
+    pub fn document(&self) -> &'r [u8]
         ensures document { result.now ≡ self.now.source.document }
         ensures few { length result.now ≤ 2 ^ 28 }
     {

@@ -1,100 +1,104 @@
-use Rattle.std.proofs.Common.{arith, rules, ℕ, ◌<◌, ◌↔◌, IsTrue, List, Option, refl, sym, ap, ◌∙◌, ◌++◌, [], length, subst}
-use Rattle.std.specs.List.{flat_map}
+use Rattle.std.proofs.Common.{arith, rules, ℕ, ◌+◌, List, Option, None, refl, sym, ap, ◌∙◌, ◌++◌, [], length, subst}
 use Rattle.std.proofs.KnownBytes.{Appends-nil}
-use Rattle.command_line.specs.Asked.{request_view}
-use Rattle.spanner_model.specs.Answers.{SpanRow}
-use Rattle.spanner_engine.specs.Left.{Source, passing_over}
-use Rattle.rematch_program.specs.Change.{AddsPart, Passes, SoFar, change}
-use Rattle.rematch_program.specs.Kept.{kept_of}
-use Rattle.rematch_program.specs.Pages.{FitsIf, cursor_given, first_rows, next_cursor, row_if, row_text}
-use Rattle.rematch_program.specs.Taking.{page_lines, page_rows}
-use Rattle.rematch_program.proofs.Gathers.{so_far_more, so_far_part}
-use Rattle.rematch_program.proofs.PageSteps.{ends_long, ends_on, first_at_zero, first_of_none, fits_page, front_is, further, goes_on, goes_out, last_try, lines_next, on_true, some_more, took_found, took_none, tried_all, tried_some}
+use Rattle.rm_outside.specs.Change.{change}
+use Rattle.spanner_model.specs.Answers.{SpanRow, page_end}
+use Rattle.spanner_engine.specs.Left.{passing_over}
+use Rattle.rematch_program.specs.Pages.{FitsIf, first_rows, row_if}
+use Rattle.rematch_program.specs.Taking.{coming, page_rows}
+use Rattle.rematch_program.specs.Work.{SoFar}
+use Rattle.rematch_program.specs.Written.{Fits, lines_of}
+use Rattle.rematch_program.proofs.Gathers.{rows_passed}
+use Rattle.rematch_program.proofs.PageSteps.{ends_after, ends_none, ends_on, first_of_none, fits_page, further, goes_on, goes_out, last_try, took_found, took_none, tried_all, tried_some}
+use Rattle.rematch_program.proofs.Writing.{fits_now, line_cut, line_passed, still_same}
 use Rattle.rematch_program.proofs.page.put_rows.Goals as goal
 
 pub loop-remaining-init : goal.loop-remaining-init
-loop-remaining-init g c = record {
-  source = refl;
-  so_far = record { sent = []; adds = Appends-nil (g.O.Sink.written c.args.out.now); joined = refl };
-  later = omega arith;
-  kept = c.requires.kept;
-  last = tt;
-  cursor = refl;
-  more = refl;
-  tried = ([], refl);
-  steps = omega arith;
-}
+loop-remaining-init g c =
+    let page = c.args.page.now in
+    let left = coming g.J.Judge.judges c.args.rows.now in
+    let same = c.of-remaining.ensures in
+    record {
+      source = refl;
+      same = refl;
+      so_far = record {
+        sent = [];
+        adds = Appends-nil (g.O.Sink.told c.args.out.now).bytes;
+        joined = ap (λ (o : Option ℕ). page.waiting ++ lines_of page (first_rows o left)) same;
+      };
+      later = omega arith;
+      last = tt;
+      end = ap (λ (o : Option ℕ). page_end (first_rows o left) None) same;
+      more = ap (λ (o : Option ℕ). length left + length (first_rows o left)) (sym same);
+      tried = ([], refl);
+      steps = omega arith;
+    }
 
 -- ---- no row is left
 
 pub returns-then-not-advance-clause-ok : goal.returns-then-not-advance-clause-ok
 returns-then-not-advance-clause-ok g c =
-    let a = request_view c.args.request.now in
+    let judges = g.J.Judge.judges in
     let s = c.args.rows.now.source in
-    let text = row_text a.form a.texts s.names s.document in
-    let none = goes_out g.J.Judge.judges s c.loop-remaining.rows.source c.loop-remaining.invariant.source c.loop-remaining.rows.rest [] [] c.if-not-advance.ensures.none.0 in
+    let none = goes_out judges s c.loop-remaining.rows.source c.loop-remaining.invariant.source c.loop-remaining.rows.rest [] [] c.if-not-advance.ensures.none.0 in
     let gone = ap (first_rows c.loop-remaining.remaining) none ∙ first_of_none c.loop-remaining.remaining in
-    subst (λ left. SoFar (g.O.Sink.written c.args.out.now) (g.O.Sink.written c.loop-remaining.out) c.loop-remaining.gather left (c.args.gather.now ++ page_lines g.J.Judge.judges c.args.rows.now a)) (ap (flat_map text) gone) c.loop-remaining.invariant.so_far
+    let page = c.args.page.now in
+    rows_passed (g.O.Sink.told c.args.out.now) (g.O.Sink.told c.loop-remaining.out) page.waiting c.loop-remaining.page.waiting (lines_of page (page_rows judges c.args.rows.now c.args.limit))
+    (subst (λ (left : List SpanRow). SoFar (change (g.O.Sink.told c.args.out.now) (g.O.Sink.told c.loop-remaining.out)) c.loop-remaining.page.waiting (lines_of page left)
+    (page.waiting ++ lines_of page (page_rows judges c.args.rows.now c.args.limit))) gone c.loop-remaining.invariant.so_far)
 
-pub returns-then-not-advance-clause-more : goal.returns-then-not-advance-clause-more
-returns-then-not-advance-clause-more g c =
+pub returns-then-not-advance-clause-end : goal.returns-then-not-advance-clause-end
+returns-then-not-advance-clause-end g c =
+    let judges = g.J.Judge.judges in
     let s = c.args.rows.now.source in
-    let none = goes_out g.J.Judge.judges s c.loop-remaining.rows.source c.loop-remaining.invariant.source c.loop-remaining.rows.rest [] [] c.if-not-advance.ensures.none.0 in
-    let gone = ap length (ap (first_rows c.loop-remaining.remaining) none ∙ first_of_none c.loop-remaining.remaining) in
-    let empty = ap length none in
-    let same = c.loop-remaining.invariant.more in
-    (λ t. absurd (cc), λ h. absurd (omega (arith, gone, empty, same, h)))
+    let none = goes_out judges s c.loop-remaining.rows.source c.loop-remaining.invariant.source c.loop-remaining.rows.rest [] [] c.if-not-advance.ensures.none.0 in
+    ends_none c.loop-remaining.remaining (passing_over judges s c.loop-remaining.rows.rest) (page_rows judges c.args.rows.now c.args.limit) (coming judges c.args.rows.now) none c.loop-remaining.invariant.more
 
 pub returns-then-not-advance-clause-steps : goal.returns-then-not-advance-clause-steps
 returns-then-not-advance-clause-steps g c =
-    let a = request_view c.args.request.now in
+    let judges = g.J.Judge.judges in
     let s = c.args.rows.now.source in
-    let none = goes_out g.J.Judge.judges s c.loop-remaining.rows.source c.loop-remaining.invariant.source c.loop-remaining.rows.rest [] [] c.if-not-advance.ensures.none.0 in
+    let none = goes_out judges s c.loop-remaining.rows.source c.loop-remaining.invariant.source c.loop-remaining.rows.rest [] [] c.if-not-advance.ensures.none.0 in
     let gone = ap length (ap (first_rows c.loop-remaining.remaining) none ∙ first_of_none c.loop-remaining.remaining) in
     let empty = ap length none in
     let same = c.loop-remaining.invariant.more in
-    tried_all g.J.Judge.judges s c.args.rows.now.rest (page_rows g.J.Judge.judges c.args.rows.now a) c.args.steps.now c.advance.new.steps (omega (arith, gone, empty, same))
-    (took_none g.J.Judge.judges s c.loop-remaining.rows.source c.loop-remaining.invariant.source c.args.rows.now.rest c.loop-remaining.rows.rest c.advance.new.self.rest c.loop-remaining.invariant.tried c.advance.ensures.left
+    tried_all judges s c.args.rows.now.rest (page_rows judges c.args.rows.now c.args.limit) c.args.steps.now c.advance.new.steps (omega (arith, gone, empty, same))
+    (took_none judges s c.loop-remaining.rows.source c.loop-remaining.invariant.source c.args.rows.now.rest c.loop-remaining.rows.rest c.advance.new.self.rest c.loop-remaining.invariant.tried c.advance.ensures.left
     c.args.steps.now c.loop-remaining.steps c.advance.new.steps c.loop-remaining.invariant.steps c.advance.result (search rules) c.if-not-advance.ensures.none.1 c.advance.ensures.steps)
 
 -- ---- one row more
 
-pub put_line-requires : goal.put_line-requires
-put_line-requires g c =
+pub put-requires : goal.put-requires
+put-requires g c =
     let s = c.args.rows.now.source in
-    let e = c.advance.ensures.source ∙ c.loop-remaining.invariant.source in
-    record {
-      kept = c.loop-remaining.invariant.kept ∙ ap (λ (u : Source). kept_of (request_view c.args.request.now).form u.names) (sym e);
-      fit = fits_page g.J.Judge.judges c.advance.new.self.source c.loop-remaining.rows.source (sym c.advance.ensures.source) [] [] c.advance.new.self.row c.if-not-advance.ensures.fits;
-    }
+    let row = c.advance.new.self.row in
+    let fits = fits_page g.J.Judge.judges s c.loop-remaining.rows.source c.loop-remaining.invariant.source [] [] row c.if-not-advance.ensures.fits in
+    record { fits = fits_now c.args.page.now c.loop-remaining.page c.loop-remaining.invariant.same row c.spans.result.now c.spans.ensures s c.requires.over fits }
 
 pub returns-in-Err-clause-part : goal.returns-in-Err-clause-part
 returns-in-Err-clause-part g c =
-    let a = request_view c.args.request.now in
+    let judges = g.J.Judge.judges in
     let s = c.args.rows.now.source in
-    let text = row_text a.form a.texts s.names s.document in
     let row = c.advance.new.self.row in
-    let e = c.advance.ensures.source ∙ c.loop-remaining.invariant.source in
-    let next = goes_on g.J.Judge.judges s c.loop-remaining.rows.source c.loop-remaining.invariant.source c.loop-remaining.rows.rest c.advance.new.self.rest row c.if-not-advance.ensures.next in
-    let front = front_is c.loop-remaining.remaining _ _ _ row next (c.goes_on.ensures.yes c.loop-remaining-test.true) refl in
-    let P : Source → Type 0 = λ u. AddsPart (change (g.O.Sink.written c.loop-remaining.out) (g.O.Sink.written c.put_line.new.out) (g.O.Sink.faults c.loop-remaining.out) (g.O.Sink.faults c.put_line.new.out))
-    (c.loop-remaining.gather ++ row_text a.form a.texts u.names u.document row) in
-    so_far_part _ _ _ _ (text row) _ _ _ c.loop-remaining.invariant.so_far (lines_next text _ _ row front) (subst P e c.in-Err.ensures.part)
+    let page = c.args.page.now in
+    let next = goes_on judges s c.loop-remaining.rows.source c.loop-remaining.invariant.source c.loop-remaining.rows.rest c.advance.new.self.rest row c.if-not-advance.ensures.next in
+    let front = ap (first_rows c.loop-remaining.remaining) next ∙ c.loop-remaining-test.ensures.one row _ in
+    line_cut page c.loop-remaining.page c.loop-remaining.invariant.same row c.spans.result.now c.spans.ensures
+    (g.O.Sink.told c.args.out.now) (g.O.Sink.told c.loop-remaining.out) (g.O.Sink.told c.put.new.out) _ _ _ front c.loop-remaining.invariant.so_far c.in-Err.ensures.part
 
 pub returns-in-Err-clause-steps : goal.returns-in-Err-clause-steps
 returns-in-Err-clause-steps g c =
-    let a = request_view c.args.request.now in
+    let judges = g.J.Judge.judges in
     let s = c.args.rows.now.source in
     let row = c.advance.new.self.row in
-    let next = goes_on g.J.Judge.judges s c.loop-remaining.rows.source c.loop-remaining.invariant.source c.loop-remaining.rows.rest c.advance.new.self.rest row c.if-not-advance.ensures.next in
-    let front = front_is c.loop-remaining.remaining _ _ _ row next (c.goes_on.ensures.yes c.loop-remaining-test.true) refl in
+    let next = goes_on judges s c.loop-remaining.rows.source c.loop-remaining.invariant.source c.loop-remaining.rows.rest c.advance.new.self.rest row c.if-not-advance.ensures.next in
+    let front = ap (first_rows c.loop-remaining.remaining) next ∙ c.loop-remaining-test.ensures.one row (passing_over judges s c.advance.new.self.rest) in
     let one = ap length next in
     let ahead = ap length front in
     let same = c.loop-remaining.invariant.more in
-    tried_some g.J.Judge.judges s c.args.rows.now.rest c.advance.new.self.rest (page_rows g.J.Judge.judges c.args.rows.now a)
+    tried_some judges s c.args.rows.now.rest c.advance.new.self.rest (page_rows judges c.args.rows.now c.args.limit)
     (ends_on c.args.rows.now.rest c.loop-remaining.rows.rest c.advance.new.self.rest c.loop-remaining.invariant.tried c.advance.ensures.left)
     c.args.steps.now c.advance.new.steps (omega (arith, one, ahead, same))
-    (took_found g.J.Judge.judges s c.loop-remaining.rows.source c.loop-remaining.invariant.source c.args.rows.now.rest c.loop-remaining.rows.rest c.advance.new.self.rest c.loop-remaining.invariant.tried c.advance.ensures.left
+    (took_found judges s c.loop-remaining.rows.source c.loop-remaining.invariant.source c.args.rows.now.rest c.loop-remaining.rows.rest c.advance.new.self.rest c.loop-remaining.invariant.tried c.advance.ensures.left
     c.args.steps.now c.loop-remaining.steps c.advance.new.steps c.loop-remaining.invariant.steps c.advance.result (search rules) c.advance.ensures.steps)
 
 pub loop-remaining-smaller : goal.loop-remaining-smaller
@@ -103,27 +107,26 @@ loop-remaining-smaller g c =
 
 pub loop-remaining-preserved : goal.loop-remaining-preserved
 loop-remaining-preserved g c =
-    let a = request_view c.args.request.now in
+    let judges = g.J.Judge.judges in
     let s = c.args.rows.now.source in
-    let text = row_text a.form a.texts s.names s.document in
     let row = c.advance.new.self.row in
-    let e = c.advance.ensures.source ∙ c.loop-remaining.invariant.source in
-    let next = goes_on g.J.Judge.judges s c.loop-remaining.rows.source c.loop-remaining.invariant.source c.loop-remaining.rows.rest c.advance.new.self.rest row c.if-not-advance.ensures.next in
-    let front = front_is c.loop-remaining.remaining c.one_fewer-remaining.result _ _ row next (c.goes_on.ensures.yes c.loop-remaining-test.true) c.one_fewer-remaining.ensures in
+    let page = c.args.page.now in
+    let next = goes_on judges s c.loop-remaining.rows.source c.loop-remaining.invariant.source c.loop-remaining.rows.rest c.advance.new.self.rest row c.if-not-advance.ensures.next in
+    let front = ap (first_rows c.loop-remaining.remaining) next ∙ c.loop-remaining-test.ensures.one row (passing_over judges s c.advance.new.self.rest) in
     let one = ap length next in
     let ahead = ap length front in
-    let P : Source → Type 0 = λ u. Passes c.loop-remaining.gather (row_text a.form a.texts u.names u.document row) c.put_line.new.gather
-    (change (g.O.Sink.written c.loop-remaining.out) (g.O.Sink.written c.put_line.new.out) (g.O.Sink.faults c.loop-remaining.out) (g.O.Sink.faults c.put_line.new.out)) in
+    let fits = fits_page judges s c.loop-remaining.rows.source c.loop-remaining.invariant.source [] [] row c.if-not-advance.ensures.fits in
     record {
-      source = e;
-      so_far = so_far_more _ _ _ _ _ _ _ (text row) _ _ _ c.loop-remaining.invariant.so_far (lines_next text _ _ row front) (subst P e c.in_default.ensures.ok);
-      later = omega (arith, c.loop-remaining.invariant.later, c.put_line.ensures.later);
-      kept = c.in_default.ensures.kept ∙ c.loop-remaining.invariant.kept;
-      last = fits_page g.J.Judge.judges s c.loop-remaining.rows.source c.loop-remaining.invariant.source [] [] row c.if-not-advance.ensures.fits;
-      cursor = sym (ap (next_cursor s.names (length s.document) (cursor_given s.names (length s.document) (row_if c.loop-remaining.some c.loop-remaining.rows.row) a.after)) front) ∙ c.loop-remaining.invariant.cursor;
+      source = c.advance.ensures.source ∙ c.loop-remaining.invariant.source;
+      same = still_same page c.loop-remaining.page c.put.new.self c.loop-remaining.invariant.same c.put.ensures.same;
+      so_far = line_passed page c.loop-remaining.page c.loop-remaining.invariant.same row c.spans.result.now c.spans.ensures
+          (g.O.Sink.told c.args.out.now) (g.O.Sink.told c.loop-remaining.out) (g.O.Sink.told c.put.new.out) _ _ _ front c.loop-remaining.invariant.so_far _ c.in_default.ensures.ok;
+      later = omega (arith, c.loop-remaining.invariant.later, c.put.ensures.later);
+      last = fits_now page page refl row row refl s c.requires.over fits;
+      end = sym (ap (λ (rows : List SpanRow). page_end rows (row_if c.loop-remaining.some c.loop-remaining.rows.row)) front) ∙ c.loop-remaining.invariant.end;
       more = omega (arith, c.loop-remaining.invariant.more, one, ahead);
       tried = ends_on c.args.rows.now.rest c.loop-remaining.rows.rest c.advance.new.self.rest c.loop-remaining.invariant.tried c.advance.ensures.left;
-      steps = took_found g.J.Judge.judges s c.loop-remaining.rows.source c.loop-remaining.invariant.source c.args.rows.now.rest c.loop-remaining.rows.rest c.advance.new.self.rest c.loop-remaining.invariant.tried c.advance.ensures.left
+      steps = took_found judges s c.loop-remaining.rows.source c.loop-remaining.invariant.source c.args.rows.now.rest c.loop-remaining.rows.rest c.advance.new.self.rest c.loop-remaining.invariant.tried c.advance.ensures.left
           c.args.steps.now c.loop-remaining.steps c.advance.new.steps c.loop-remaining.invariant.steps c.advance.result (search rules) c.advance.ensures.steps;
     }
 
@@ -134,43 +137,36 @@ returns-clause-source g c = c.advance-more.ensures.source ∙ c.loop-remaining.i
 
 pub returns-clause-ok : goal.returns-clause-ok
 returns-clause-ok g c =
-    let a = request_view c.args.request.now in
-    let s = c.args.rows.now.source in
-    let text = row_text a.form a.texts s.names s.document in
-    let none = first_at_zero c.loop-remaining.remaining (passing_over g.J.Judge.judges s c.loop-remaining.rows.rest) (c.goes_on.ensures.no c.loop-remaining-test.false) in
-    subst (λ left. SoFar (g.O.Sink.written c.args.out.now) (g.O.Sink.written c.loop-remaining.out) c.loop-remaining.gather left (c.args.gather.now ++ page_lines g.J.Judge.judges c.args.rows.now a)) (ap (flat_map text) none) c.loop-remaining.invariant.so_far
-
-pub returns-clause-last : goal.returns-clause-last
-returns-clause-last g c =
-    let s = c.args.rows.now.source in
-    subst (λ (r : Option SpanRow). FitsIf (length s.names) (length s.document) r) (sym c.last_row-last.ensures) c.loop-remaining.invariant.last
-
-pub returns-clause-cursor : goal.returns-clause-cursor
-returns-clause-cursor g c =
-    let a = request_view c.args.request.now in
-    let s = c.args.rows.now.source in
-    let none = first_at_zero c.loop-remaining.remaining (passing_over g.J.Judge.judges s c.loop-remaining.rows.rest) (c.goes_on.ensures.no c.loop-remaining-test.false) in
-    on_true c.advance-more.result _
-    (ap (λ (r : Option SpanRow). next_cursor s.names (length s.document) (cursor_given s.names (length s.document) r a.after) []) c.last_row-last.ensures
-    ∙ sym (ap (next_cursor s.names (length s.document) (cursor_given s.names (length s.document) (row_if c.loop-remaining.some c.loop-remaining.rows.row) a.after)) none) ∙ c.loop-remaining.invariant.cursor)
-
-pub returns-clause-more : goal.returns-clause-more
-returns-clause-more g c =
-    let s = c.args.rows.now.source in
-    let t = c.loop-remaining.rows.source in
     let judges = g.J.Judge.judges in
-    let none = ap length (first_at_zero c.loop-remaining.remaining (passing_over judges s c.loop-remaining.rows.rest) (c.goes_on.ensures.no c.loop-remaining-test.false)) in
+    let s = c.args.rows.now.source in
+    let page = c.args.page.now in
+    let none = c.loop-remaining-test.ensures.none (passing_over judges s c.loop-remaining.rows.rest) in
+    rows_passed (g.O.Sink.told c.args.out.now) (g.O.Sink.told c.loop-remaining.out) page.waiting c.loop-remaining.page.waiting (lines_of page (page_rows judges c.args.rows.now c.args.limit))
+    (subst (λ (left : List SpanRow). SoFar (change (g.O.Sink.told c.args.out.now) (g.O.Sink.told c.loop-remaining.out)) c.loop-remaining.page.waiting (lines_of page left)
+    (page.waiting ++ lines_of page (page_rows judges c.args.rows.now c.args.limit))) none c.loop-remaining.invariant.so_far)
+
+pub returns-clause-fits : goal.returns-clause-fits
+returns-clause-fits g c =
+    subst (FitsIf (length c.args.page.now.names) (length c.args.page.now.document)) (sym c.last_row-last.ensures) c.loop-remaining.invariant.last
+
+pub returns-clause-end : goal.returns-clause-end
+returns-clause-end g c =
+    let judges = g.J.Judge.judges in
+    let s = c.args.rows.now.source in
+    let none = c.loop-remaining-test.ensures.none (passing_over judges s c.loop-remaining.rows.rest) in
+    let last = row_if c.loop-remaining.some c.loop-remaining.rows.row in
+    let empty = ap length none in
     let same = c.loop-remaining.invariant.more in
-    let m = some_more c.advance-more.result (passing_over judges t c.loop-remaining.rows.rest) (passing_over judges t c.advance-more.new.self.rest) c.advance-more.new.self.row _ c.advance-more.ensures.next c.advance-more.ensures.none in
-    let n = subst (λ (u : Source). IsTrue c.advance-more.result ↔ (0 < length (passing_over judges u c.loop-remaining.rows.rest))) c.loop-remaining.invariant.source m in
-    (λ b. let some = n.0 b in omega (arith, none, same, some), λ h. n.1 (omega (arith, none, same, h)))
+    ends_after judges s c.loop-remaining.rows.source c.loop-remaining.invariant.source c.loop-remaining.rows.rest c.advance-more.new.self.rest (page_rows judges c.args.rows.now c.args.limit) (coming judges c.args.rows.now)
+    c.advance-more.new.self.row c.last_row-last.result last c.advance-more.result _ c.advance-more.ensures.next c.advance-more.ensures.none (omega (arith, empty, same)) c.last_row-last.ensures
+    (sym (ap (λ (rows : List SpanRow). page_end rows last) none) ∙ c.loop-remaining.invariant.end)
 
 pub returns-clause-steps : goal.returns-clause-steps
 returns-clause-steps g c =
-    let a = request_view c.args.request.now in
+    let judges = g.J.Judge.judges in
     let s = c.args.rows.now.source in
-    let none = ap length (first_at_zero c.loop-remaining.remaining (passing_over g.J.Judge.judges s c.loop-remaining.rows.rest) (c.goes_on.ensures.no c.loop-remaining-test.false)) in
+    let none = ap length (c.loop-remaining-test.ensures.none (passing_over judges s c.loop-remaining.rows.rest)) in
     let same = c.loop-remaining.invariant.more in
-    last_try g.J.Judge.judges s c.loop-remaining.rows.source c.loop-remaining.invariant.source c.args.rows.now.rest c.loop-remaining.rows.rest c.advance-more.new.self.rest c.loop-remaining.invariant.tried c.advance-more.ensures.left
-    c.args.steps.now c.loop-remaining.steps c.advance-more.new.steps c.loop-remaining.invariant.steps (page_rows g.J.Judge.judges c.args.rows.now a) c.advance-more.new.self.row c.advance-more.result
+    last_try judges s c.loop-remaining.rows.source c.loop-remaining.invariant.source c.args.rows.now.rest c.loop-remaining.rows.rest c.advance-more.new.self.rest c.loop-remaining.invariant.tried c.advance-more.ensures.left
+    c.args.steps.now c.loop-remaining.steps c.advance-more.new.steps c.loop-remaining.invariant.steps (page_rows judges c.args.rows.now c.args.limit) c.advance-more.new.self.row c.advance-more.result
     c.advance-more.ensures.next c.advance-more.ensures.none (omega (arith, none, same)) c.advance-more.ensures.steps

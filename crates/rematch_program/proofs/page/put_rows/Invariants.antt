@@ -1,34 +1,26 @@
-use Rattle.std.proofs.Common.{◌≡◌, ◌≤◌, ◌+◌, ◌-◌, ◌*◌, ◌++◌, length}
-use Rattle.std.specs.List.{flat_map}
-use Rattle.command_line.specs.Asked.{request_view}
+use Rattle.std.proofs.Common.{◌≡◌, ◌≤◌, ◌+◌, ◌-◌, ◌*◌, ◌++◌, None, length}
+use Rattle.rm_outside.specs.Change.{change}
+use Rattle.spanner_model.specs.Answers.{page_end}
 use Rattle.spanner_engine.specs.Left.{EndsIn, passing_over}
-use Rattle.rematch_program.specs.Change.{SoFar}
-use Rattle.rematch_program.specs.Kept.{kept_of}
-use Rattle.rematch_program.specs.Pages.{FitsIf, cursor_given, first_rows, next_cursor, row_if, row_text}
+use Rattle.rematch_program.specs.Pages.{FitsIf, first_rows, row_if}
 use Rattle.rematch_program.specs.Steps.{next_steps}
-use Rattle.rematch_program.specs.Taking.{coming, page_lines, page_rows}
+use Rattle.rematch_program.specs.Taking.{coming, page_rows}
+use Rattle.rematch_program.specs.Work.{SoFar}
+use Rattle.rematch_program.specs.Written.{lines_of, with_waiting}
 use Rattle.rematch_program.proofs.page.put_rows.Given as goal
 
 abbrev pub invariant-loop-remaining : goal.invariant-loop-remaining
 invariant-loop-remaining g l = record {
   source : l.rows.source ≡ l.fn.rows.source;
-  so_far :
-      let a = request_view l.request in
-      let text = row_text a.form a.texts l.fn.rows.source.names l.fn.rows.source.document in
-      SoFar (g.O.Sink.written l.fn.out) (g.O.Sink.written l.out) l.gather
-      (flat_map text (first_rows l.remaining (passing_over g.J.Judge.judges l.fn.rows.source l.rows.rest))) (l.fn.gather ++ page_lines g.J.Judge.judges l.fn.rows a);
-  later : g.O.Sink.faults l.fn.out ≤ g.O.Sink.faults l.out;
-  kept : l.kept ≡ kept_of (request_view l.request).form l.fn.rows.source.names;
-  last : FitsIf (length l.fn.rows.source.names) (length l.fn.rows.source.document) (row_if l.some l.rows.row);
-  cursor :
-      let a = request_view l.request in
-      let names = l.fn.rows.source.names in
-      let n = length l.fn.rows.source.document in
-      next_cursor names n (cursor_given names n (row_if l.some l.rows.row) a.after) (first_rows l.remaining (passing_over g.J.Judge.judges l.fn.rows.source l.rows.rest))
-      ≡ next_cursor names n a.after (page_rows g.J.Judge.judges l.fn.rows a);
-  more :
-      let a = request_view l.request in
-      length (passing_over g.J.Judge.judges l.fn.rows.source l.rows.rest) + length (page_rows g.J.Judge.judges l.fn.rows a)
+  same : l.page ≡ with_waiting l.page.waiting l.fn.page;
+  so_far : SoFar (change (g.O.Sink.told l.fn.out) (g.O.Sink.told l.out)) l.page.waiting
+      (lines_of l.fn.page (first_rows l.remaining (passing_over g.J.Judge.judges l.fn.rows.source l.rows.rest)))
+      (l.fn.page.waiting ++ lines_of l.fn.page (page_rows g.J.Judge.judges l.fn.rows l.fn.limit));
+  later : (g.O.Sink.told l.fn.out).faults ≤ (g.O.Sink.told l.out).faults;
+  last : FitsIf (length l.fn.page.names) (length l.fn.page.document) (row_if l.some l.rows.row);
+  end : page_end (first_rows l.remaining (passing_over g.J.Judge.judges l.fn.rows.source l.rows.rest)) (row_if l.some l.rows.row)
+      ≡ page_end (page_rows g.J.Judge.judges l.fn.rows l.fn.limit) None;
+  more : length (passing_over g.J.Judge.judges l.fn.rows.source l.rows.rest) + length (page_rows g.J.Judge.judges l.fn.rows l.fn.limit)
       ≡ length (coming g.J.Judge.judges l.fn.rows) + length (first_rows l.remaining (passing_over g.J.Judge.judges l.fn.rows.source l.rows.rest));
   tried : EndsIn l.fn.rows.rest l.rows.rest;
   steps : l.steps ≤ l.fn.steps + (length l.fn.rows.rest - length l.rows.rest) * (next_steps (length l.fn.rows.source.names) + length l.fn.rows.source.asked);

@@ -4,7 +4,7 @@ use Rattle.command_line.specs.Asked.{request_view}
 use Rattle.spanner_model.specs.Captures.{VarName}
 use Rattle.spanner_model.specs.ExprView.{query_of}
 use Rattle.spanner_engine.specs.Left.{Source, over}
-use Rattle.rematch_program.specs.Change.{change}
+use Rattle.rm_outside.specs.Change.{change}
 use Rattle.note_texts.specs.Notes.{note_bytes}
 use Rattle.rematch_program.specs.Run.{not_begun}
 use Rattle.rematch_program.proofs.Answered.{page_answered, result_last, result_names}
@@ -24,7 +24,7 @@ pub returns-in-Ok : goal.returns-in-Ok
 returns-in-Ok g c =
     let asking = c.args.asking.now in
     let s : Source = over asking.tested.now.asked asking.tests.now asking.compiled.automaton.names c.args.document.now in
-    let out = change (g.O.Sink.written c.args.out.now) (g.O.Sink.written c.write_page.new.out) (g.O.Sink.faults c.args.out.now) (g.O.Sink.faults c.write_page.new.out) in
+    let out = change (g.O.Sink.told c.args.out.now) (g.O.Sink.told c.write_page.new.out) in
     let source = subst (λ (ns : List VarName). c.new-rows.result.source ≡ over asking.tested.now.asked asking.tests.now ns c.args.document.now) c.vars.ensures c.new-rows.ensures.source in
     record {
       case = page_answered g.J.Judge.judges s c.in-Ok.answers.rest c.new-rows.result source c.new-rows.ensures.rest (request_view c.args.request.now) (query_of asking.compiled.query) out

@@ -6,7 +6,8 @@ use Rattle.spanner_model.specs.Answers.{AreResultNames}
 use Rattle.spanner_engine.specs.Passing.{checks_of, known}
 use Rattle.trial_maker.specs.Trial.{trial_text}
 use Rattle.std.proofs.Common.{None}
-use Rattle.rematch_program.specs.Change.{change, clock, work}
+use Rattle.rm_outside.specs.Change.{change}
+use Rattle.rematch_program.specs.Work.{clock, work}
 use Rattle.note_texts.specs.Notes.{note_bytes}
 use Rattle.rematch_program.specs.Run.{FromCursor, FromDocument, compiled, explained, page_asked, store, too_large, trial_asked}
 use Rattle.rematch_program.proofs.Completeness.{plain_wants, trial_wants}
@@ -29,7 +30,7 @@ returns-in-Ok g c =
     let names = c.in-Ok.compiled.automaton.names in
     let checks = checks_of (known c.args.tests.now g.J.Judge.judges) c.args.tested.now.asked in
     let P : Query → Type 0 = λ q. FromCursor (request_view c.args.request.now) (query_of q) checks
-    (work (change (g.O.Sink.written c.args.out.now) (g.O.Sink.written c.with_cursor.new.out) (g.O.Sink.faults c.args.out.now) (g.O.Sink.faults c.with_cursor.new.out)) (clock c.args.steps.now c.with_cursor.new.steps))
+    (work (change (g.O.Sink.told c.args.out.now) (g.O.Sink.told c.with_cursor.new.out)) (clock c.args.steps.now c.with_cursor.new.steps))
     c.with_cursor.result.status (note_bytes c.with_cursor.result.note)
     (store (g.S.Shelf.told c.args.shelf.now) (g.S.Shelf.told c.with_cursor.new.shelf)) names in
     record {
@@ -45,7 +46,7 @@ returns-in-Ok-compiled_query g c =
     let names = c.in-Ok-compiled_query.compiled.automaton.names in
     let checks = checks_of (known c.args.tests.now g.J.Judge.judges) c.args.tested.now.asked in
     let P : Query → Type 0 = λ q. FromDocument (request_view c.args.request.now) (query_of q) checks
-    (work (change (g.O.Sink.written c.args.out.now) (g.O.Sink.written c.with_lines.new.out) (g.O.Sink.faults c.args.out.now) (g.O.Sink.faults c.with_lines.new.out)) (clock c.args.steps.now c.with_lines.new.steps))
+    (work (change (g.O.Sink.told c.args.out.now) (g.O.Sink.told c.with_lines.new.out)) (clock c.args.steps.now c.with_lines.new.steps))
     c.with_lines.result.status (note_bytes c.with_lines.result.note) names None (trial_text c.in-Trial.lines) in
     record {
       case = compiled (trial_wants (request_view c.args.request.now).mode c.in-Trial.lines c.in-Trial.is) c.in-Ok-compiled_query.ensures.small

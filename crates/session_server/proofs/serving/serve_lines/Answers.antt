@@ -13,7 +13,7 @@ pub loop-line-init : goal.loop-line-init
 loop-line-init g c =
     let k = known c.args.tests.now g.J.Judge.judges in
     record {
-      so_far = subst (λ (cs : List Opened). ServedSoFar k c.args.most (g.R.Source.left c.args.source.now) (g.R.Source.left c.args.source.now) (g.O.Sink.written c.args.out.now) (g.O.Sink.written c.args.out.now) 0 cs) (sym c.new-sessions.ensures.items) (none_served k c.args.most (g.R.Source.left c.args.source.now) (g.O.Sink.written c.args.out.now));
+      so_far = subst (λ (cs : List Opened). ServedSoFar k c.args.most (g.R.Source.told c.args.source.now).bytes (g.R.Source.told c.args.source.now).bytes (g.O.Sink.told c.args.out.now).bytes (g.O.Sink.told c.args.out.now).bytes 0 cs) (sym c.new-sessions.ensures.items) (none_served k c.args.most (g.R.Source.told c.args.source.now).bytes (g.O.Sink.told c.args.out.now).bytes);
       faults = omega arith;
       puts = omega arith;
     }
@@ -23,37 +23,37 @@ returns-in-Ok-false g c =
     let k = known c.args.tests.now g.J.Judge.judges in
     let so = c.loop-line.invariant.so_far in
     let no : c.in-Ok-false.field-0 ≡ false = search rules in
-    let spent = is_spent MOST_LINE_BYTES (g.R.Source.left c.loop-line.source) (g.R.Source.left c.line.new.self) c.clear.new.self.items c.line.new.into.items c.in-Ok-false.field-0 no c.in-Ok-false.ensures.asks in
+    let spent = is_spent MOST_LINE_BYTES (g.R.Source.told c.loop-line.source).bytes (g.R.Source.told c.line.new.self).bytes c.clear.new.self.items c.line.new.into.items c.in-Ok-false.field-0 no c.in-Ok-false.ensures.asks in
     record {
-      serves = ended_as k c.args.most (change (g.R.Source.left c.args.source.now) (g.R.Source.left c.line.new.self) (g.R.Source.faults c.args.source.now) (g.R.Source.faults c.line.new.self)) (change (g.O.Sink.written c.args.out.now) (g.O.Sink.written c.loop-line.out) (g.O.Sink.faults c.args.out.now) (g.O.Sink.faults c.loop-line.out)) c.fixed.result.status status.Done (note_bytes c.fixed.result.note) (line (codes "end")) c.fixed.ensures.status c.fixed.ensures.note
-          (ends_served k c.args.most (g.R.Source.left c.args.source.now) (g.R.Source.left c.loop-line.source) (g.O.Sink.written c.args.out.now) (g.O.Sink.written c.loop-line.out) c.loop-line.served c.loop-line.sessions.items so (change (g.R.Source.left c.args.source.now) (g.R.Source.left c.line.new.self) (g.R.Source.faults c.args.source.now) (g.R.Source.faults c.line.new.self)) (change (g.O.Sink.written c.args.out.now) (g.O.Sink.written c.loop-line.out) (g.O.Sink.faults c.args.out.now) (g.O.Sink.faults c.loop-line.out)) refl refl refl spent.0 spent.1);
+      serves = ended_as k c.args.most (change (g.R.Source.told c.args.source.now) (g.R.Source.told c.line.new.self)) (change (g.O.Sink.told c.args.out.now) (g.O.Sink.told c.loop-line.out)) c.fixed.result.status status.Done (note_bytes c.fixed.result.note) (line (codes "end")) c.fixed.ensures.status c.fixed.ensures.note
+          (ends_served k c.args.most (g.R.Source.told c.args.source.now).bytes (g.R.Source.told c.loop-line.source).bytes (g.O.Sink.told c.args.out.now).bytes (g.O.Sink.told c.loop-line.out).bytes c.loop-line.served c.loop-line.sessions.items so (change (g.R.Source.told c.args.source.now) (g.R.Source.told c.line.new.self)) (change (g.O.Sink.told c.args.out.now) (g.O.Sink.told c.loop-line.out)) refl refl refl spent.0 spent.1);
     }
 
 pub returns-in-Err-Failed : goal.returns-in-Err-Failed
 returns-in-Err-Failed g c =
     let k = known c.args.tests.now g.J.Judge.judges in
     let so = c.loop-line.invariant.so_far in
-    let rose = rose_from (g.R.Source.faults c.args.source.now) (g.R.Source.faults c.loop-line.source) (g.R.Source.faults c.line.new.self) c.loop-line.invariant.faults (c.in-Err-Failed.ensures.failed (search rules)) in
+    let rose = rose_from (g.R.Source.told c.args.source.now).faults (g.R.Source.told c.loop-line.source).faults (g.R.Source.told c.line.new.self).faults c.loop-line.invariant.faults (c.in-Err-Failed.ensures.failed (search rules)) in
     record {
-      serves = ended_as k c.args.most (change (g.R.Source.left c.args.source.now) (g.R.Source.left c.line.new.self) (g.R.Source.faults c.args.source.now) (g.R.Source.faults c.line.new.self)) (change (g.O.Sink.written c.args.out.now) (g.O.Sink.written c.loop-line.out) (g.O.Sink.faults c.args.out.now) (g.O.Sink.faults c.loop-line.out)) c.fixed-in-Err-Failed.result.status status.Read (note_bytes c.fixed-in-Err-Failed.result.note) (line (codes "read failed: requests")) c.fixed-in-Err-Failed.ensures.status c.fixed-in-Err-Failed.ensures.note
-          (ends_failed k c.args.most (g.R.Source.left c.args.source.now) (g.R.Source.left c.loop-line.source) (g.O.Sink.written c.args.out.now) (g.O.Sink.written c.loop-line.out) c.loop-line.served c.loop-line.sessions.items so (change (g.R.Source.left c.args.source.now) (g.R.Source.left c.line.new.self) (g.R.Source.faults c.args.source.now) (g.R.Source.faults c.line.new.self)) (change (g.O.Sink.written c.args.out.now) (g.O.Sink.written c.loop-line.out) (g.O.Sink.faults c.args.out.now) (g.O.Sink.faults c.loop-line.out)) refl refl refl rose);
+      serves = ended_as k c.args.most (change (g.R.Source.told c.args.source.now) (g.R.Source.told c.line.new.self)) (change (g.O.Sink.told c.args.out.now) (g.O.Sink.told c.loop-line.out)) c.fixed-in-Err-Failed.result.status status.Read (note_bytes c.fixed-in-Err-Failed.result.note) (line (codes "read failed: requests")) c.fixed-in-Err-Failed.ensures.status c.fixed-in-Err-Failed.ensures.note
+          (ends_failed k c.args.most (g.R.Source.told c.args.source.now).bytes (g.R.Source.told c.loop-line.source).bytes (g.O.Sink.told c.args.out.now).bytes (g.O.Sink.told c.loop-line.out).bytes c.loop-line.served c.loop-line.sessions.items so (change (g.R.Source.told c.args.source.now) (g.R.Source.told c.line.new.self)) (change (g.O.Sink.told c.args.out.now) (g.O.Sink.told c.loop-line.out)) refl refl refl rose);
     }
 
 pub returns-in-Err-TooLong : goal.returns-in-Err-TooLong
 returns-in-Err-TooLong g c =
     let k = known c.args.tests.now g.J.Judge.judges in
     let so = c.loop-line.invariant.so_far in
-    let long = is_long MOST_LINE_BYTES (g.R.Source.left c.loop-line.source) (g.R.Source.left c.line.new.self) c.clear.new.self.items c.line.new.into.items c.in-Err-TooLong.field-0 c.in-Err-TooLong.field-0-0 c.in-Err-TooLong.field-0-is c.in-Err-TooLong.ensures.asks in
-    let source = change (g.R.Source.left c.args.source.now) (g.R.Source.left c.line.new.self) (g.R.Source.faults c.args.source.now) (g.R.Source.faults c.line.new.self) in
-    let out = change (g.O.Sink.written c.args.out.now) (g.O.Sink.written c.loop-line.out) (g.O.Sink.faults c.args.out.now) (g.O.Sink.faults c.loop-line.out) in
+    let long = is_long MOST_LINE_BYTES (g.R.Source.told c.loop-line.source).bytes (g.R.Source.told c.line.new.self).bytes c.clear.new.self.items c.line.new.into.items c.in-Err-TooLong.field-0 c.in-Err-TooLong.field-0-0 c.in-Err-TooLong.field-0-is c.in-Err-TooLong.ensures.asks in
+    let source = change (g.R.Source.told c.args.source.now) (g.R.Source.told c.line.new.self) in
+    let out = change (g.O.Sink.told c.args.out.now) (g.O.Sink.told c.loop-line.out) in
     let end = c.too_long.result.status in
     let note = note_bytes c.too_long.result.note in
     record {
       serves = elim c.too_long.ensures [
         | inl is ↦ ended_as k c.args.most source out end status.Long note (line (counted (codes "request longer than ") MOST_LINE_BYTES (codes " bytes"))) is.ends is.says
-            (ends_long k c.args.most (g.R.Source.left c.args.source.now) (g.R.Source.left c.loop-line.source) (g.O.Sink.written c.args.out.now) (g.O.Sink.written c.loop-line.out) c.loop-line.served c.loop-line.sessions.items so source out refl refl refl long)
+            (ends_long k c.args.most (g.R.Source.told c.args.source.now).bytes (g.R.Source.told c.loop-line.source).bytes (g.O.Sink.told c.args.out.now).bytes (g.O.Sink.told c.loop-line.out).bytes c.loop-line.served c.loop-line.sessions.items so source out refl refl refl long)
         | inr is ↦ ended_as k c.args.most source out end status.Memory note (line (codes "out of memory")) is.ends is.says
-            (ends_memory k c.args.most (g.R.Source.left c.args.source.now) (g.R.Source.left c.loop-line.source) (g.O.Sink.written c.args.out.now) (g.O.Sink.written c.loop-line.out) c.loop-line.served c.loop-line.sessions.items so source out refl refl refl)
+            (ends_memory k c.args.most (g.R.Source.told c.args.source.now).bytes (g.R.Source.told c.loop-line.source).bytes (g.O.Sink.told c.args.out.now).bytes (g.O.Sink.told c.loop-line.out).bytes c.loop-line.served c.loop-line.sessions.items so source out refl refl refl)
       ];
     }
 
@@ -62,8 +62,8 @@ returns-in-Err-OutOfMemory g c =
     let k = known c.args.tests.now g.J.Judge.judges in
     let so = c.loop-line.invariant.so_far in
     record {
-      serves = ended_as k c.args.most (change (g.R.Source.left c.args.source.now) (g.R.Source.left c.line.new.self) (g.R.Source.faults c.args.source.now) (g.R.Source.faults c.line.new.self)) (change (g.O.Sink.written c.args.out.now) (g.O.Sink.written c.loop-line.out) (g.O.Sink.faults c.args.out.now) (g.O.Sink.faults c.loop-line.out)) c.fixed-in-Err-OutOfMemory.result.status status.Memory (note_bytes c.fixed-in-Err-OutOfMemory.result.note) (line (codes "out of memory")) c.fixed-in-Err-OutOfMemory.ensures.status c.fixed-in-Err-OutOfMemory.ensures.note
-          (ends_memory k c.args.most (g.R.Source.left c.args.source.now) (g.R.Source.left c.loop-line.source) (g.O.Sink.written c.args.out.now) (g.O.Sink.written c.loop-line.out) c.loop-line.served c.loop-line.sessions.items so (change (g.R.Source.left c.args.source.now) (g.R.Source.left c.line.new.self) (g.R.Source.faults c.args.source.now) (g.R.Source.faults c.line.new.self)) (change (g.O.Sink.written c.args.out.now) (g.O.Sink.written c.loop-line.out) (g.O.Sink.faults c.args.out.now) (g.O.Sink.faults c.loop-line.out)) refl refl refl);
+      serves = ended_as k c.args.most (change (g.R.Source.told c.args.source.now) (g.R.Source.told c.line.new.self)) (change (g.O.Sink.told c.args.out.now) (g.O.Sink.told c.loop-line.out)) c.fixed-in-Err-OutOfMemory.result.status status.Memory (note_bytes c.fixed-in-Err-OutOfMemory.result.note) (line (codes "out of memory")) c.fixed-in-Err-OutOfMemory.ensures.status c.fixed-in-Err-OutOfMemory.ensures.note
+          (ends_memory k c.args.most (g.R.Source.told c.args.source.now).bytes (g.R.Source.told c.loop-line.source).bytes (g.O.Sink.told c.args.out.now).bytes (g.O.Sink.told c.loop-line.out).bytes c.loop-line.served c.loop-line.sessions.items so (change (g.R.Source.told c.args.source.now) (g.R.Source.told c.line.new.self)) (change (g.O.Sink.told c.args.out.now) (g.O.Sink.told c.loop-line.out)) refl refl refl);
     }
 
 pub returns-then-served-most : goal.returns-then-served-most
@@ -71,10 +71,10 @@ returns-then-served-most g c =
     let k = known c.args.tests.now g.J.Judge.judges in
     let so = c.loop-line.invariant.so_far in
     let yes_taken : c.in-Ok-true.field-0 ≡ true = search rules in
-    let taken = is_taken MOST_LINE_BYTES (g.R.Source.left c.loop-line.source) (g.R.Source.left c.line.new.self) c.clear.new.self.items c.line.new.into.items c.in-Ok-true.field-0 yes_taken c.in-Ok-true.ensures.asks in
+    let taken = is_taken MOST_LINE_BYTES (g.R.Source.told c.loop-line.source).bytes (g.R.Source.told c.line.new.self).bytes c.clear.new.self.items c.line.new.into.items c.in-Ok-true.field-0 yes_taken c.in-Ok-true.ensures.asks in
     record {
-      serves = ended_as k c.args.most (change (g.R.Source.left c.args.source.now) (g.R.Source.left c.line.new.self) (g.R.Source.faults c.args.source.now) (g.R.Source.faults c.line.new.self)) (change (g.O.Sink.written c.args.out.now) (g.O.Sink.written c.loop-line.out) (g.O.Sink.faults c.args.out.now) (g.O.Sink.faults c.loop-line.out)) c.fixed-then-served-most.result.status status.Long (note_bytes c.fixed-then-served-most.result.note) (line (codes "too many requests")) c.fixed-then-served-most.ensures.status c.fixed-then-served-most.ensures.note
-          (ends_many k c.args.most (g.R.Source.left c.args.source.now) (g.R.Source.left c.loop-line.source) (g.O.Sink.written c.args.out.now) (g.O.Sink.written c.loop-line.out) c.loop-line.served c.loop-line.sessions.items so (change (g.R.Source.left c.args.source.now) (g.R.Source.left c.line.new.self) (g.R.Source.faults c.args.source.now) (g.R.Source.faults c.line.new.self)) (change (g.O.Sink.written c.args.out.now) (g.O.Sink.written c.loop-line.out) (g.O.Sink.faults c.args.out.now) (g.O.Sink.faults c.loop-line.out)) refl refl refl taken.0 taken.3 c.if-served-most.true);
+      serves = ended_as k c.args.most (change (g.R.Source.told c.args.source.now) (g.R.Source.told c.line.new.self)) (change (g.O.Sink.told c.args.out.now) (g.O.Sink.told c.loop-line.out)) c.fixed-then-served-most.result.status status.Long (note_bytes c.fixed-then-served-most.result.note) (line (codes "too many requests")) c.fixed-then-served-most.ensures.status c.fixed-then-served-most.ensures.note
+          (ends_many k c.args.most (g.R.Source.told c.args.source.now).bytes (g.R.Source.told c.loop-line.source).bytes (g.O.Sink.told c.args.out.now).bytes (g.O.Sink.told c.loop-line.out).bytes c.loop-line.served c.loop-line.sessions.items so (change (g.R.Source.told c.args.source.now) (g.R.Source.told c.line.new.self)) (change (g.O.Sink.told c.args.out.now) (g.O.Sink.told c.loop-line.out)) refl refl refl taken.0 taken.3 c.if-served-most.true);
     }
 
 pub returns-in-Err : goal.returns-in-Err
@@ -82,8 +82,8 @@ returns-in-Err g c =
     let k = known c.args.tests.now g.J.Judge.judges in
     let so = c.loop-line.invariant.so_far in
     record {
-      serves = ended_as k c.args.most (change (g.R.Source.left c.args.source.now) (g.R.Source.left c.line.new.self) (g.R.Source.faults c.args.source.now) (g.R.Source.faults c.line.new.self)) (change (g.O.Sink.written c.args.out.now) (g.O.Sink.written c.loop-line.out) (g.O.Sink.faults c.args.out.now) (g.O.Sink.faults c.loop-line.out)) c.fixed-in-Err.result.status status.Memory (note_bytes c.fixed-in-Err.result.note) (line (codes "out of memory")) c.fixed-in-Err.ensures.status c.fixed-in-Err.ensures.note
-          (ends_memory k c.args.most (g.R.Source.left c.args.source.now) (g.R.Source.left c.loop-line.source) (g.O.Sink.written c.args.out.now) (g.O.Sink.written c.loop-line.out) c.loop-line.served c.loop-line.sessions.items so (change (g.R.Source.left c.args.source.now) (g.R.Source.left c.line.new.self) (g.R.Source.faults c.args.source.now) (g.R.Source.faults c.line.new.self)) (change (g.O.Sink.written c.args.out.now) (g.O.Sink.written c.loop-line.out) (g.O.Sink.faults c.args.out.now) (g.O.Sink.faults c.loop-line.out)) refl refl refl);
+      serves = ended_as k c.args.most (change (g.R.Source.told c.args.source.now) (g.R.Source.told c.line.new.self)) (change (g.O.Sink.told c.args.out.now) (g.O.Sink.told c.loop-line.out)) c.fixed-in-Err.result.status status.Memory (note_bytes c.fixed-in-Err.result.note) (line (codes "out of memory")) c.fixed-in-Err.ensures.status c.fixed-in-Err.ensures.note
+          (ends_memory k c.args.most (g.R.Source.told c.args.source.now).bytes (g.R.Source.told c.loop-line.source).bytes (g.O.Sink.told c.args.out.now).bytes (g.O.Sink.told c.loop-line.out).bytes c.loop-line.served c.loop-line.sessions.items so (change (g.R.Source.told c.args.source.now) (g.R.Source.told c.line.new.self)) (change (g.O.Sink.told c.args.out.now) (g.O.Sink.told c.loop-line.out)) refl refl refl);
     }
 
 pub returns-in-Err-put : goal.returns-in-Err-put
@@ -91,15 +91,15 @@ returns-in-Err-put g c =
     let k = known c.args.tests.now g.J.Judge.judges in
     let so = c.loop-line.invariant.so_far in
     let yes_taken : c.in-Ok-true.field-0 ≡ true = search rules in
-    let taken = is_taken MOST_LINE_BYTES (g.R.Source.left c.loop-line.source) (g.R.Source.left c.line.new.self) c.clear.new.self.items c.line.new.into.items c.in-Ok-true.field-0 yes_taken c.in-Ok-true.ensures.asks in
+    let taken = is_taken MOST_LINE_BYTES (g.R.Source.told c.loop-line.source).bytes (g.R.Source.told c.line.new.self).bytes c.clear.new.self.items c.line.new.into.items c.in-Ok-true.field-0 yes_taken c.in-Ok-true.ensures.asks in
     let is : c.deref.result.now ≡ taken.0 = c.deref.ensures.value ∙ taken.2 ∙ ap (λ (xs : List ℕ). xs ++ taken.0) c.clear.ensures.items in
     let (reply, all, answers, told, stands) = c.in-Ok.ensures.reply so.all so.stands in
     let said : IsReply k so.all taken.0 reply all = subst (λ (text : List ℕ). IsReply k so.all text reply all) is answers in
     let shown = c.as_bytes.ensures.value ∙ told in
-    let rose = rose_from (g.O.Sink.faults c.args.out.now) (g.O.Sink.faults c.loop-line.out) (g.O.Sink.faults c.put.new.self) c.loop-line.invariant.puts c.in-Err-put.ensures.failed in
+    let rose = rose_from (g.O.Sink.told c.args.out.now).faults (g.O.Sink.told c.loop-line.out).faults (g.O.Sink.told c.put.new.self).faults c.loop-line.invariant.puts c.in-Err-put.ensures.failed in
     record {
-      serves = ended_as k c.args.most (change (g.R.Source.left c.args.source.now) (g.R.Source.left c.line.new.self) (g.R.Source.faults c.args.source.now) (g.R.Source.faults c.line.new.self)) (change (g.O.Sink.written c.args.out.now) (g.O.Sink.written c.put.new.self) (g.O.Sink.faults c.args.out.now) (g.O.Sink.faults c.put.new.self)) c.fixed-in-Err-put.result.status status.Write (note_bytes c.fixed-in-Err-put.result.note) (line (codes "write failed")) c.fixed-in-Err-put.ensures.status c.fixed-in-Err-put.ensures.note
-          (ends_write k c.args.most (g.R.Source.left c.args.source.now) (g.R.Source.left c.loop-line.source) (g.O.Sink.written c.args.out.now) (g.O.Sink.written c.loop-line.out) c.loop-line.served c.loop-line.sessions.items so (g.R.Source.left c.line.new.self) taken.0 c.as_bytes.result.now reply all taken.3 c.if-served-most.false said shown (change (g.R.Source.left c.args.source.now) (g.R.Source.left c.line.new.self) (g.R.Source.faults c.args.source.now) (g.R.Source.faults c.line.new.self)) (change (g.O.Sink.written c.args.out.now) (g.O.Sink.written c.put.new.self) (g.O.Sink.faults c.args.out.now) (g.O.Sink.faults c.put.new.self)) refl refl refl c.in-Err-put.ensures.part rose);
+      serves = ended_as k c.args.most (change (g.R.Source.told c.args.source.now) (g.R.Source.told c.line.new.self)) (change (g.O.Sink.told c.args.out.now) (g.O.Sink.told c.put.new.self)) c.fixed-in-Err-put.result.status status.Write (note_bytes c.fixed-in-Err-put.result.note) (line (codes "write failed")) c.fixed-in-Err-put.ensures.status c.fixed-in-Err-put.ensures.note
+          (ends_write k c.args.most (g.R.Source.told c.args.source.now).bytes (g.R.Source.told c.loop-line.source).bytes (g.O.Sink.told c.args.out.now).bytes (g.O.Sink.told c.loop-line.out).bytes c.loop-line.served c.loop-line.sessions.items so (g.R.Source.told c.line.new.self).bytes taken.0 c.as_bytes.result.now reply all taken.3 c.if-served-most.false said shown (change (g.R.Source.told c.args.source.now) (g.R.Source.told c.line.new.self)) (change (g.O.Sink.told c.args.out.now) (g.O.Sink.told c.put.new.self)) refl refl refl c.in-Err-put.ensures.part rose);
     }
 
 pub loop-line-preserved : goal.loop-line-preserved
@@ -107,13 +107,13 @@ loop-line-preserved g c =
     let k = known c.args.tests.now g.J.Judge.judges in
     let so = c.loop-line.invariant.so_far in
     let yes_taken : c.in-Ok-true.field-0 ≡ true = search rules in
-    let taken = is_taken MOST_LINE_BYTES (g.R.Source.left c.loop-line.source) (g.R.Source.left c.line.new.self) c.clear.new.self.items c.line.new.into.items c.in-Ok-true.field-0 yes_taken c.in-Ok-true.ensures.asks in
+    let taken = is_taken MOST_LINE_BYTES (g.R.Source.told c.loop-line.source).bytes (g.R.Source.told c.line.new.self).bytes c.clear.new.self.items c.line.new.into.items c.in-Ok-true.field-0 yes_taken c.in-Ok-true.ensures.asks in
     let is : c.deref.result.now ≡ taken.0 = c.deref.ensures.value ∙ taken.2 ∙ ap (λ (xs : List ℕ). xs ++ taken.0) c.clear.ensures.items in
     let (reply, all, answers, told, stands) = c.in-Ok.ensures.reply so.all so.stands in
     let said : IsReply k so.all taken.0 reply all = subst (λ (text : List ℕ). IsReply k so.all text reply all) is answers in
     let shown = c.as_bytes.ensures.value ∙ told in
     record {
-      so_far = one_served k c.args.most (g.R.Source.left c.args.source.now) (g.R.Source.left c.loop-line.source) (g.O.Sink.written c.args.out.now) (g.O.Sink.written c.loop-line.out) c.loop-line.served c.loop-line.sessions.items so (g.R.Source.left c.line.new.self) taken.0 c.as_bytes.result.now reply all taken.3 c.if-served-most.false said shown (g.O.Sink.written c.put.new.self) c.answer.new.sessions.items stands c.in-Ok-put.ensures.ok;
+      so_far = one_served k c.args.most (g.R.Source.told c.args.source.now).bytes (g.R.Source.told c.loop-line.source).bytes (g.O.Sink.told c.args.out.now).bytes (g.O.Sink.told c.loop-line.out).bytes c.loop-line.served c.loop-line.sessions.items so (g.R.Source.told c.line.new.self).bytes taken.0 c.as_bytes.result.now reply all taken.3 c.if-served-most.false said shown (g.O.Sink.told c.put.new.self).bytes c.answer.new.sessions.items stands c.in-Ok-put.ensures.ok;
       faults = omega (arith, c.loop-line.invariant.faults, c.line.ensures.later);
       puts = omega (arith, c.loop-line.invariant.puts, c.put.ensures.later);
     }

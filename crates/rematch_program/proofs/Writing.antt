@@ -1,0 +1,86 @@
+-- A page that is written line by line.
+use Rattle.std.proofs.Common.{◌≡◌, ℕ, Bool, List, [], ◌∷◌, ◌++◌, Option, length, sym, ap, ◌∙◌, subst}
+use Rattle.std.specs.Prelude.{nat_lt}
+use Rattle.command_line.specs.Asked.{Asked}
+use Rattle.rm_outside.specs.Change.{change, Adds, AddsPart}
+use Rattle.rm_outside.specs.Flow.{Flow}
+use Rattle.row_writer.specs.Kept.{Line, kept_text}
+use Rattle.spanner_model.specs.Captures.{VarName}
+use Rattle.spanner_model.specs.Answers.{SpanRow}
+use Rattle.spanner_engine.specs.Left.{Source}
+use Rattle.rematch_program.specs.Kept.{kept_of}
+use Rattle.rematch_program.specs.Pages.{FitsIf, FitsPage, cursor_given, last_note, page_text}
+use Rattle.rematch_program.specs.Work.{Passes, SoFar}
+use Rattle.rematch_program.specs.Written.{EndsPage, Fits, IsOver, Page, line_of, lines_of, page_begun, with_waiting}
+use Rattle.rematch_program.proofs.Gathers.{so_far_more, so_far_part}
+use Rattle.rematch_program.proofs.KeptLines.{kept_row, kept_width}
+use Rattle.rematch_program.proofs.PageSteps.{lines_next, note_is}
+
+-- ---- what is kept of its lines writes them
+
+module _ (p : Page) (kept : Line) (is : kept ≡ kept_of p.form p.names) (row : SpanRow) (fits : Fits p row) where
+  pub as_wide : length row ≡ length kept.heads
+  as_wide = fits.lengths ∙ sym (kept_width p.form p.names kept is)
+
+  pub row_line : kept_text kept row p.document p.texts ≡ line_of p row
+  row_line = kept_row p.form p.texts p.names p.document row kept is fits.lengths
+
+-- ---- it begins
+
+-- it is over what its columns and its document were taken from
+pub begun_over : (p : Page) (a : Asked) (s : Source) (names : List VarName) (document : List ℕ) → p ≡ page_begun a names document → names ≡ s.names → document ≡ s.document → IsOver p s
+begun_over p a s names document is columns bytes = record {
+  names = ap (λ (q : Page). q.names) is ∙ columns;
+  document = ap (λ (q : Page). q.document) is ∙ bytes;
+}
+
+-- what waits and the lines of the rows are its text
+pub begun_text : (p : Page) (a : Asked) (s : Source) (names : List VarName) (document : List ℕ) (rows : List SpanRow) → p ≡ page_begun a names document → names ≡ s.names → document ≡ s.document →
+    p.waiting ++ lines_of p rows ≡ page_text a.form a.texts s.names s.document rows
+begun_text p a s names document rows is columns bytes =
+    ap (λ (q : Page). q.waiting ++ lines_of q rows) is
+    ∙ ap (λ (ns : List VarName). page_text a.form a.texts ns document rows) columns
+    ∙ ap (λ (d : List ℕ). page_text a.form a.texts s.names d rows) bytes
+
+-- ---- its note
+
+module _ (s : Source) (vars : List VarName) (n : ℕ) (columns : vars ≡ s.names) (bytes : n ≡ length s.document) (last : Option SpanRow) where
+  pub note_fits : (p : Page) → IsOver p s → FitsIf (length p.names) (length p.document) last → FitsIf (length vars) n last
+  note_fits p over fits =
+      let wide : FitsIf (length vars) (length p.document) last = subst (λ (names : List VarName). FitsIf (length names) (length p.document) last) (over.names ∙ sym columns) fits in
+      subst (λ (k : ℕ). FitsIf (length vars) k last) (ap length over.document ∙ sym bytes) wide
+
+  pub note_told : (given : Option (List ℕ)) (rows coming : List SpanRow) (more : Bool) → EndsPage rows coming last more →
+      last_note vars n (cursor_given vars n last given) [] more ≡ last_note s.names (length s.document) given rows (nat_lt (length rows) (length coming))
+  note_told given rows coming more ends =
+      note_is vars n given rows coming last more ends
+      ∙ ap (λ (names : List VarName). last_note names n given rows (nat_lt (length rows) (length coming))) columns
+      ∙ ap (λ (k : ℕ). last_note s.names k given rows (nat_lt (length rows) (length coming))) bytes
+
+-- ---- one row more
+
+-- first is the page as it was at first, and before as it is before the line is put
+module _ (first before : Page) (same : before ≡ with_waiting before.waiting first) (row spans : SpanRow) (shown : spans ≡ row) where
+  pub fits_now : (s : Source) → IsOver first s → FitsPage (length s.names) (length s.document) row → Fits before spans
+  fits_now s over fits =
+      let columns : FitsPage (length first.names) (length s.document) row = subst (λ (names : List VarName). FitsPage (length names) (length s.document) row) (sym over.names) fits in
+      let here : Fits first row = subst (λ (d : List ℕ). FitsPage (length first.names) (length d) row) (sym over.document) columns in
+      subst (λ (p : Page). Fits p spans) (sym same) (subst (Fits first) (sym shown) here)
+
+  line_now : line_of before spans ≡ line_of first row
+  line_now = ap (λ (p : Page). line_of p spans) same ∙ ap (line_of first) shown
+
+  module _ (old mid new : Flow) (rows rest : List SpanRow) (whole : List ℕ) (front : rows ≡ row ∷ rest) (so_far : SoFar (change old mid) before.waiting (lines_of first rows) whole) where
+    pub line_passed : (waiting : List ℕ) → Passes before.waiting (line_of before spans) waiting (change mid new) → SoFar (change old new) waiting (lines_of first rest) whole
+    line_passed waiting passes =
+        so_far_more old mid new before.waiting waiting (line_of first row) (lines_of first rows) (lines_of first rest) whole so_far (lines_next (line_of first) rows rest row front)
+        (subst (λ (line : List ℕ). Passes before.waiting line waiting (change mid new)) line_now passes)
+
+    pub line_cut : AddsPart (change mid new) (before.waiting ++ line_of before spans) → AddsPart (change old new) whole
+    line_cut part =
+        so_far_part old mid new before.waiting (line_of first row) (lines_of first rows) (lines_of first rest) whole so_far (lines_next (line_of first) rows rest row front)
+        (subst (λ (line : List ℕ). AddsPart (change mid new) (before.waiting ++ line)) line_now part)
+
+-- a page of which other bytes wait, twice
+pub still_same : (first before after : Page) → before ≡ with_waiting before.waiting first → after ≡ with_waiting after.waiting before → after ≡ with_waiting after.waiting first
+still_same first before after same then_ = then_ ∙ ap (with_waiting after.waiting) same
