@@ -9,7 +9,7 @@ use Rattle.std.proofs.lemmas.List.{length-map}
 use Rattle.span_core.specs.Lists.{Has, AreDistinct, IsInOrder}
 use Rattle.span_core.proofs.HasLaws.{Has-append_left, Has-append_right, Has-append_cases, Has-map, Has-map_cases}
 use Rattle.span_core.specs.declared.edge.Edge.{Edge}
-use Rattle.node_arena.specs.Cells.{NamedLink}
+use Rattle.output_graph.specs.Cells.{NamedLink}
 use Rattle.output_graph.specs.Source as edge
 use Rattle.output_graph.specs.Graph as out
 use Rattle.output_graph.specs.Graph.{Graph, Source, IsCost, IsPlace, IsStepped, LeadsTo, source_of, sources, targets, sets_of}

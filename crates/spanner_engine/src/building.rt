@@ -7,7 +7,7 @@ ghost use Rattle.span_core.specs.Intervals.{Covers};
 ghost use Rattle.spanner_model.specs.Answers.{AreAnswers};
 ghost use Rattle.spanner_model.specs.ExprView.{query_of};
 ghost use Rattle.automaton_reading.specs.Reading.{edges_K, weight_K};
-ghost use Rattle.node_arena.specs.Rows.{rows};
+ghost use Rattle.output_graph.specs.Rows.{rows};
 ghost use Rattle.one_pass.specs.Builds.{build};
 ghost use Rattle.one_pass.specs.Faults.{IsReadFault};
 ghost use Rattle.one_pass.specs.Places.{AreReadWords, is_touched};
