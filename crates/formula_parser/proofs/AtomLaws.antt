@@ -1,6 +1,7 @@
 -- What callers ask of atoms and their faults.
 use Rattle.std.proofs.Common.{◌≡◌, ℕ, ◌+◌, ◌≤◌, Bool, true, false, List, [], ◌∷◌, ◌++◌, length, length-drop, length-append, ap, sym, ◌∙◌, subst, arith}
 use Rattle.spanner_model.specs.WellBuilt.{IsWellBuilt}
+use Rattle.spanner_model.specs.Expression.{AtomTree}
 use Rattle.formula_parser.specs.declared.fault.FormulaFault.{FormulaFault}
 use Rattle.formula_parser.specs.declared.fault.FormulaFault.TheVariants.{OutOfMemory}
 use Rattle.formula_parser.specs.Alphabet.{Alphabet, of_characters}
@@ -8,7 +9,7 @@ use Rattle.formula_parser.specs.CharEscapes as escapes
 use Rattle.formula_parser.specs.Classes as classes
 use Rattle.formula_parser.specs.Faults as faults
 use Rattle.formula_parser.specs.Signs.{IsInside, nothing, lone, is_sign}
-use Rattle.formula_parser.specs.Spells.{AtomTree, given, Spells, IsAtomOver, IsAtomAt, over_bytes, over_characters}
+use Rattle.formula_parser.specs.Spells.{given, Spells, IsAtomOver, IsAtomAt, over_bytes, over_characters}
 use Rattle.formula_parser.specs.Laws.{HasOneTree, HasNoTreeWithFault, HasOneFault, HasTreeOrFault}
 use Rattle.formula_parser.proofs.InsideLaws.{inside_append, alt_inside}
 use Rattle.formula_parser.proofs.SignLaws as signed

@@ -11,10 +11,10 @@ use Rattle.span_core.specs.ByteSets.{bytes_between}
 use Rattle.span_core.specs.ByteWordLaws.{contains-bytes_between}
 use Rattle.spanner_model.specs.Tree.{Tree, one, cat_all, alt_all}
 use Rattle.spanner_model.specs.WellBuilt.{IsByteClass, AreRepeatNumbers, IsBuilt, AreParts, AreArms, nesting, IsWellBuilt}
-use Rattle.spanner_model.specs.View.{tree_of}
+use Rattle.spanner_model.specs.View.{tree_of, atom_of}
 use Rattle.spanner_model.specs.declared.formula.Atom.{Atom}
+use Rattle.spanner_model.specs.Expression.{AtomTree}
 use Rattle.formula_parser.specs.declared.fault.FormulaFault.{FormulaFault}
-use Rattle.formula_parser.specs.AtomView.{atom_tree}
 use Rattle.unicode_classes.specs.Laws.{ClassTreesArePlain}
 use Rattle.formula_parser.specs.Sets.{Bytes, single, all_but_newline, digits}
 use Rattle.formula_parser.specs.CharSets.{AreAllCharacters, IsTreeOf}
@@ -26,7 +26,7 @@ use Rattle.formula_parser.proofs.AllTrees.{are_characters, none_of_ranges}
 use Rattle.formula_parser.specs.Escapes.{Elem, elem_set, IsEscape, a_digit, a_word_byte, a_space, newline, tab, carriage_return, hex, itself}
 use Rattle.formula_parser.specs.Names.{head_text}
 use Rattle.formula_parser.specs.Repeats.{IsRepeat, star, plus, maybe, exactly, at_least, between}
-use Rattle.formula_parser.specs.Spells.{AtomTree, seq_tree, alt_tree, IsPlain, literal, wide, bang, dot, escape, class, SpellsAlt, SpellsSeq, SpellsPiece, SpellsUnit, lone_arm, more_arms, no_piece, more_pieces, once, again, plain, group_of, capture_of, given, IsAtomOver, IsAtomAt, over_bytes, over_characters}
+use Rattle.formula_parser.specs.Spells.{seq_tree, alt_tree, IsPlain, literal, wide, bang, dot, escape, class, SpellsAlt, SpellsSeq, SpellsPiece, SpellsUnit, lone_arm, more_arms, no_piece, more_pieces, once, again, plain, group_of, capture_of, given, IsAtomOver, IsAtomAt, over_bytes, over_characters}
 use Rattle.formula_parser.proofs.ClassSets.{single_bytes, others_bytes, escape_bytes}
 use Rattle.formula_parser.proofs.ClassLaws.{class_built}
 
@@ -230,8 +230,8 @@ module _ (plain_trees : ClassTreesArePlain) (alphabet : Alphabet) where
 
 -- the same of what the code returns
 pub answer_built : ClassTreesArePlain → (alphabet : Alphabet) (text : List ℕ) (from : ℕ) (r : Result (Atom × ℕ) FormulaFault) →
-    IfOk r (λ x. IsAtomOver alphabet text from (atom_tree x.0, x.1)) → IsText text → IfOk r (λ x. IsWellBuilt (tree_of x.0.formula))
-answer_built plain_trees alphabet text from (Ok x) found bytes = over_built plain_trees alphabet text from (atom_tree x.0, x.1) found bytes
+    IfOk r (λ x. IsAtomOver alphabet text from (atom_of x.0, x.1)) → IsText text → IfOk r (λ x. IsWellBuilt (tree_of x.0.formula))
+answer_built plain_trees alphabet text from (Ok x) found bytes = over_built plain_trees alphabet text from (atom_of x.0, x.1) found bytes
 answer_built plain_trees alphabet text from (Err e) found bytes = tt
 
 -- an atom's formula is well built

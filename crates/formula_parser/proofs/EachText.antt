@@ -4,6 +4,7 @@ use Rattle.std.specs.Str.{bytes_eq}
 use Rattle.span_core.specs.Names.{is_name}
 use Rattle.spanner_model.specs.Tree.{Tree}
 use Rattle.spanner_model.specs.WellBuilt.{none_word}
+use Rattle.spanner_model.specs.Expression.{AtomTree}
 use Rattle.formula_parser.specs.declared.fault.FormulaFault.{FormulaFault}
 use Rattle.formula_parser.specs.Runs.{begins_with}
 use Rattle.formula_parser.specs.Faults.{Opener, slash, group, capture, HasFaultOver}
@@ -11,8 +12,8 @@ use Rattle.formula_parser.specs.Nest.{Frame, Last, start, unit, repeated, Nest, 
 use Rattle.formula_parser.specs.Sets.{Bytes}
 use Rattle.formula_parser.specs.Tokens.{head_at, Bounds, bounds_at, tails}
 use Rattle.formula_parser.specs.ClassStep.{class_at}
-use Rattle.formula_parser.specs.Spells.{AtomTree, is_tail, IsAtomOver}
-use Rattle.formula_parser.specs.Step.{Next, goes, stops, step, repeats, braces, escapes, classes, bangs, ties, end_len, atom_of, is_tied, start_at, Reading, Ends}
+use Rattle.formula_parser.specs.Spells.{is_tail, IsAtomOver}
+use Rattle.formula_parser.specs.Step.{Next, goes, stops, step, repeats, braces, escapes, classes, bangs, ties, end_len, atom_read, is_tied, start_at, Reading, Ends}
 use Rattle.formula_parser.proofs.Bytes.{Byte, is_slash, is_open, is_close, is_bracket, is_bracket_close, is_brace, is_brace_close, is_bar, is_star, is_plus, is_maybe, is_dot, is_caret, is_dollar, is_bang, is_backslash, is_literal, is_wide, byte_of}
 use Rattle.formula_parser.proofs.RunLaws.{run_of}
 use Rattle.formula_parser.proofs.ElemTokens.{escape_in_is}
@@ -140,5 +141,5 @@ module _ (lang : Dialect) (speaks : Speaks lang) where
     where
       by : ((r : Answer) × Reading lang text from r) →
           ((x : AtomTree × ℕ) × IsAtomOver (alphabet_of lang) text from x) ⊎ ((e : FormulaFault) × HasFaultOver (alphabet_of lang) text from e)
-      by (Ok r, ends) = inl ((atom_of (is_tied text from) r.0, r.1), ends_atom lang speaks text from r ends)
+      by (Ok r, ends) = inl ((atom_read (is_tied text from) r.0, r.1), ends_atom lang speaks text from r ends)
       by (Err e, ends) = inr (e, ends_fault lang speaks text from e ends)

@@ -1,10 +1,11 @@
 -- The relations of the grammar and of the faults, by what reading answers.
 use Rattle.std.proofs.Common.{◌≡◌, ℕ, zero, suc, ◌+◌, Bool, true, false, List, ◌∷◌, ◌++◌, length, drop, drop-drop, Ok, Err, sym, subst, ◌∙◌, ap, arith, refl, append_assoc, length-append}
 use Rattle.spanner_model.specs.Tree.{Tree}
+use Rattle.spanner_model.specs.Expression.{AtomTree}
 use Rattle.formula_parser.specs.Runs.{begins_with}
 use Rattle.formula_parser.specs.Nest.{Nest, outermost}
-use Rattle.formula_parser.specs.Step.{Body, atom_of, tie_len, end_len, is_tied, start_at, Reading, Ends, EndsAfter}
-use Rattle.formula_parser.specs.Spells.{AtomTree, alt_tree, SpellsAlt, given, IsAtomOver}
+use Rattle.formula_parser.specs.Step.{Body, atom_read, tie_len, end_len, is_tied, start_at, Reading, Ends, EndsAfter}
+use Rattle.formula_parser.specs.Spells.{alt_tree, SpellsAlt, given, IsAtomOver}
 use Rattle.formula_parser.specs.declared.fault.FormulaFault.{FormulaFault}
 use Rattle.formula_parser.specs.Faults.{HasFaultOver}
 use Rattle.formula_parser.proofs.HeadLaws.{byte_front}
@@ -64,7 +65,7 @@ module _ (lang : Dialect) (speaks : Speaks lang) where
 
   -- what the slash at `from` begins is read
   pub atom_ends : (text : List ℕ) (from : ℕ) (x : AtomTree × ℕ) → IsAtomOver (alphabet_of lang) text from x →
-      (r : Body × ℕ) × Reading lang text from (Ok r) × (x ≡ (atom_of (is_tied text from) r.0, r.1))
+      (r : Body × ℕ) × Reading lang text from (Ok r) × (x ≡ (atom_read (is_tied text from) r.0, r.1))
   atom_ends text from x (u, v, stands, (t, fs, text_is, alt, tree), after) =
       let s = x.0.from_start in
       let e = x.0.to_end in
@@ -76,11 +77,11 @@ module _ (lang : Dialect) (speaks : Speaks lang) where
       let ends = reads_spelled lang speaks t fs e v begin from alt in (
         ((alt_tree fs, e), place),
         subst (λ y. Ends lang begin y (outermost from) (Ok ((alt_tree fs, e), place))) (sym rest) ends,
-        same_atom x (atom_of (is_tied text from) (alt_tree fs, e), place) (sym tied) refl tree
+        same_atom x (atom_read (is_tied text from) (alt_tree fs, e), place) (sym tied) refl tree
             (omega (arith, after, ap length text_is, length-append (given s 94) (t ++ given e 36), length-append t (given e 36), given_len s 94, given_len e 36, end_is e, ap tie_len tied)),
       )
 
-  pub ends_atom : (text : List ℕ) (from : ℕ) (r : Body × ℕ) → Reading lang text from (Ok r) → IsAtomOver (alphabet_of lang) text from (atom_of (is_tied text from) r.0, r.1)
+  pub ends_atom : (text : List ℕ) (from : ℕ) (r : Body × ℕ) → Reading lang text from (Ok r) → IsAtomOver (alphabet_of lang) text from (atom_read (is_tied text from) r.0, r.1)
   ends_atom text from r ends =
       let s = is_tied text from in
       let begin = start_at text from in
@@ -104,7 +105,7 @@ module _ (lang : Dialect) (speaks : Speaks lang) where
       let q = atom_ends text from y b in
       let e = same_answer text from (Ok p.0) (Ok q.0) p.1 q.1 in
       let same : p.0 ≡ q.0 = cc in
-      p.2 ∙ ap (λ r. (atom_of (is_tied text from) r.0, r.1)) same ∙ sym q.2
+      p.2 ∙ ap (λ r. (atom_read (is_tied text from) r.0, r.1)) same ∙ sym q.2
 
   pub no_tree_with_fault_over : (text : List ℕ) (from : ℕ) (x : AtomTree × ℕ) (e : FormulaFault) → IsAtomOver (alphabet_of lang) text from x →
       HasFaultOver (alphabet_of lang) text from e → ⊥

@@ -10,9 +10,10 @@ use Rattle.formula_parser.specs.declared.fault.FormulaFault.{FormulaFault}
 use Rattle.formula_parser.specs.declared.fault.FormulaFault.TheVariants.{NotUtf8}
 use Rattle.formula_parser.specs.Sets.{Bytes}
 use Rattle.spanner_model.specs.Tree.{Tree}
+use Rattle.spanner_model.specs.Expression.{AtomTree}
 use Rattle.formula_parser.specs.Alphabet.{of_bytes, of_characters}
 use Rattle.formula_parser.specs.Signs.{IsInside, nothing, lone, pair, is_sign, HasSign, HasNoSign, passed, closing_from, sign_if, sign_in}
-use Rattle.formula_parser.specs.Spells.{AtomTree, IsAtomOver, IsAtomAt, over_bytes, over_characters}
+use Rattle.formula_parser.specs.Spells.{IsAtomOver, IsAtomAt, over_bytes, over_characters}
 use Rattle.formula_parser.specs.Faults as faults
 use Rattle.formula_parser.specs.Faults.{HasFaultOver, HasFault}
 use Rattle.formula_parser.specs.Dialect.{Dialect, plain_bytes, with_characters, AreTrees}

@@ -2,8 +2,9 @@
 use Rattle.std.proofs.Common.{◌≡◌, ℕ, ◌+◌, ◌<◌, ◌≤◌, Bool, true, false, List, ◌∷◌, length, drop, length-drop, length-append, Result, Ok, Err, sym, subst, ap, arith, refl, IfOk, IfErr, ◌⊎◌, inl, inr}
 use Rattle.std.specs.Str.{IsUtf8, IsValidUpTo}
 use Rattle.spanner_model.specs.Tree.{Tree}
-use Rattle.spanner_model.specs.View.{tree_of}
+use Rattle.spanner_model.specs.View.{tree_of, atom_of}
 use Rattle.spanner_model.specs.declared.formula.Atom.{Atom}
+use Rattle.spanner_model.specs.Expression.{AtomTree}
 use Rattle.formula_parser.specs.declared.fault.FormulaFault.{FormulaFault}
 use Rattle.formula_parser.specs.declared.fault.FormulaFault.TheVariants.{OutOfMemory, NotUtf8}
 use Rattle.formula_parser.specs.Sets.{Bytes}
@@ -12,11 +13,11 @@ use Rattle.formula_parser.specs.Dialect.{Dialect, plain_bytes, with_characters, 
 use Rattle.formula_parser.specs.Nest.{Nest}
 use Rattle.formula_parser.specs.Step.{Body, goes, step, is_tied, start_at, Reading, Ends}
 use Rattle.formula_parser.specs.Signs.{HasSign, HasNoSign}
-use Rattle.formula_parser.specs.Spells.{AtomTree, IsAtomOver, IsAtomAt, over_bytes}
+use Rattle.formula_parser.specs.Spells.{IsAtomOver, IsAtomAt, over_bytes}
 use Rattle.formula_parser.specs.Faults as faults
 use Rattle.formula_parser.specs.Faults.{HasFaultOver, HasFault}
 use Rattle.formula_parser.specs.Laws.{HasOneTree, HasNoTreeWithFault}
-use Rattle.formula_parser.specs.AtomView.{atom_tree, Answers}
+use Rattle.formula_parser.specs.AtomView.{Answers}
 use Rattle.formula_parser.specs.Turn.{IsStep, AnswersBody}
 use Rattle.formula_parser.proofs.HeadLaws.{byte_front}
 use Rattle.formula_parser.proofs.FaultLaws.{plain_start, tied_start}
@@ -67,7 +68,7 @@ start_within text from some = by (is_tied text from) refl
 
 -- what the code returns, over one alphabet
 pub answer_found : (lang : Dialect) → Speaks lang → (text : List ℕ) (from : ℕ) (r : Result (Atom × ℕ) FormulaFault) → AnswersBody r (Reading lang text from) →
-    IfOk r (λ x. x.0.from_start ≡ is_tied text from) → IfOk r (λ x. IsAtomOver (alphabet_of lang) text from (atom_tree x.0, x.1))
+    IfOk r (λ x. x.0.from_start ≡ is_tied text from) → IfOk r (λ x. IsAtomOver (alphabet_of lang) text from (atom_of x.0, x.1))
 answer_found lang speaks text from (Ok x) h tied =
     let atom : Bool → AtomTree = λ b. record { from_start = b; to_end = x.0.to_end; formula = tree_of x.0.formula } in
     subst (λ b. IsAtomOver (alphabet_of lang) text from (atom b, x.1)) (sym tied) (ends_atom lang speaks text from ((tree_of x.0.formula, x.0.to_end), x.1) h)
@@ -85,13 +86,13 @@ ends_within alphabet text from x (u, v, stands, spells, place) =
     omega (arith, place, length-drop (from + 1) text, ap length stands, length-append u (47 ∷ v))
 
 pub answer_within : (alphabet : Alphabet) (text : List ℕ) (from : ℕ) (r : Result (Atom × ℕ) FormulaFault) →
-    IfOk r (λ x. IsAtomOver alphabet text from (atom_tree x.0, x.1)) → IfOk r (λ x. x.1 ≤ length text)
-answer_within alphabet text from (Ok x) found = ends_within alphabet text from (atom_tree x.0, x.1) found
+    IfOk r (λ x. IsAtomOver alphabet text from (atom_of x.0, x.1)) → IfOk r (λ x. x.1 ≤ length text)
+answer_within alphabet text from (Ok x) found = ends_within alphabet text from (atom_of x.0, x.1) found
 answer_within alphabet text from (Err e) found = tt
 
 -- what the whole reader returns
 pub byte_answer : (text : List ℕ) (from : ℕ) (r : Result (Atom × ℕ) FormulaFault) → HasNoSign text from →
-    IfOk r (λ x. IsAtomOver of_bytes text from (atom_tree x.0, x.1)) → IfOk r (λ x. IsAtomAt text from (atom_tree x.0, x.1))
+    IfOk r (λ x. IsAtomOver of_bytes text from (atom_of x.0, x.1)) → IfOk r (λ x. IsAtomAt text from (atom_of x.0, x.1))
 byte_answer text from (Ok x) none is = over_bytes none is
 byte_answer text from (Err e) none is = tt
 
@@ -113,9 +114,9 @@ not_utf8_fault text from u between n m sign is valid same =
 
 -- nothing else is answered
 pub answer_only : HasOneTree → HasNoTreeWithFault → (text : List ℕ) (from : ℕ) (r : Result (Atom × ℕ) FormulaFault) →
-    IfOk r (λ x. IsAtomAt text from (atom_tree x.0, x.1)) → IfErr r (λ e. (e ≡ OutOfMemory) ⊎ HasFault text from e) →
+    IfOk r (λ x. IsAtomAt text from (atom_of x.0, x.1)) → IfErr r (λ e. (e ≡ OutOfMemory) ⊎ HasFault text from e) →
     (x : AtomTree × ℕ) → IsAtomAt text from x → Answers r (λ s. s ≡ Ok x)
-answer_only one none text from (Ok y) found fault x is = ap Ok (one text from (atom_tree y.0, y.1) x found is)
+answer_only one none text from (Ok y) found fault x is = ap Ok (one text from (atom_of y.0, y.1) x found is)
 answer_only one none text from (Err OutOfMemory) found fault x is = tt
 answer_only one none text from (Err e) found (inl memory) x is = absurd (cc)
 answer_only one none text from (Err e) found (inr fault) x is = absurd (none text from x e is fault)

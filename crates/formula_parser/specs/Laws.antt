@@ -1,7 +1,8 @@
 -- What the grammar and the faults have in common.
 use Rattle.std.specs.Prelude.{◌≡◌, ℕ, ◌⊎◌, ◌↔◌, List}
+use Rattle.spanner_model.specs.Expression.{AtomTree}
 use Rattle.formula_parser.specs.declared.fault.FormulaFault.{FormulaFault}
-use Rattle.formula_parser.specs.Spells.{AtomTree, IsAtomAt, IsAtomOver}
+use Rattle.formula_parser.specs.Spells.{IsAtomAt, IsAtomOver}
 use Rattle.formula_parser.specs.Faults.{HasFault, HasFaultOver}
 use Rattle.formula_parser.specs.Alphabet.{of_bytes}
 use Rattle.formula_parser.specs.Signs.{HasNoSign}

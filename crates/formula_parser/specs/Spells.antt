@@ -3,6 +3,7 @@ use Rattle.std.specs.Prelude.{◌≡◌, ◌≢◌, ℕ, suc, ◌+◌, ◌≤◌
 use Rattle.std.specs.List.{list_all}
 use Rattle.spanner_model.specs.Tree.{Tree, empty, one, rep, cap, cat_all, alt_all}
 use Rattle.spanner_model.specs.WellBuilt.{IsVariable}
+use Rattle.spanner_model.specs.Expression.{AtomTree}
 use Rattle.std.specs.Str.{IsUtf8}
 use Rattle.formula_parser.specs.Sets.{Bytes, single}
 use Rattle.formula_parser.specs.Runs.{begins}
@@ -13,12 +14,6 @@ use Rattle.formula_parser.specs.Signs.{HasNoSign, HasSign}
 use Rattle.formula_parser.specs.Names.{HasHead, head_text}
 use Rattle.formula_parser.specs.Repeats.{IsRepeat}
 use Rattle.formula_parser.specs.Classes.{IsClass}
-
--- a formula, and whether it is tied to the document's start and to its end
-pub record AtomTree : Type 0 where
-  pub from_start : Bool
-  pub to_end : Bool
-  pub formula : Tree
 
 -- a sequence of no pieces is empty, of one piece that piece, of more their concatenation
 abbrev pub seq_tree : List Tree → Tree

@@ -4,6 +4,7 @@ use Rattle.std.specs.Str.{bytes_eq}
 use Rattle.span_core.specs.Names.{is_name}
 use Rattle.spanner_model.specs.Tree.{Tree, one, rep, cap}
 use Rattle.spanner_model.specs.WellBuilt.{none_word}
+use Rattle.spanner_model.specs.Expression.{AtomTree}
 use Rattle.formula_parser.specs.declared.fault.FormulaFault.{FormulaFault}
 use Rattle.formula_parser.specs.declared.fault.FormulaFault.TheVariants.{Unexpected, Unclosed, BadRange, BadRepeat, DoubleRepeat, Anchor, NameTooLong, ReservedName, TooDeep}
 use Rattle.formula_parser.specs.Sets.{Bytes, single}
@@ -13,7 +14,7 @@ use Rattle.formula_parser.specs.Runs.{begins_with}
 use Rattle.formula_parser.specs.Escapes.{elem_set}
 use Rattle.formula_parser.specs.Tokens.{head_at, Bounds, bounds_at, tails}
 use Rattle.formula_parser.specs.ClassStep.{class_at}
-use Rattle.formula_parser.specs.Spells.{AtomTree, bytes_tree}
+use Rattle.formula_parser.specs.Spells.{bytes_tree}
 use Rattle.formula_parser.specs.Faults.{Opener, slash, group, capture}
 use Rattle.formula_parser.specs.Nest.{Frame, start, unit, repeated, Nest, whole, with_unit, with_repeat, opened, next_arm, outermost}
 
@@ -154,5 +155,5 @@ abbrev pub Reading : Dialect → List ℕ → ℕ → Result (Body × ℕ) Formu
 Reading d text from r = Ends d (start_at text from) (drop (start_at text from) text) (outermost from) r
 
 -- the atom of a formula that is read
-abbrev pub atom_of : Bool → Body → AtomTree
-atom_of tied body = record { from_start = tied; to_end = body.1; formula = body.0 }
+abbrev pub atom_read : Bool → Body → AtomTree
+atom_read tied body = record { from_start = tied; to_end = body.1; formula = body.0 }

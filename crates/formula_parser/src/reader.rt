@@ -4,17 +4,18 @@
 //! function. So the first fault from left to right is the one that the reader stops at, and no token is read twice.
 ghost use Rattle.std.specs.Prelude.{◌≡◌, ◌+◌, ◌-◌, ◌≤◌, ◌<◌, ◌∷◌, length, take, drop, ℕ, Some, None, OnOk, IfOk, IfErr, Ok, Err, ◌⊎◌, slice_get};
 ghost use Rattle.spanner_model.specs.Tree.{rep, one};
-ghost use Rattle.spanner_model.specs.View.{tree_of};
+ghost use Rattle.spanner_model.specs.View.{tree_of, atom_of};
 ghost use Rattle.spanner_model.specs.WellBuilt.{IsWellBuilt};
+ghost use Rattle.spanner_model.specs.Expression.{AtomTree};
 ghost use Rattle.formula_parser.specs.Sets.{single, all_but_newline};
-ghost use Rattle.formula_parser.specs.Spells.{AtomTree, bytes_tree, IsAtomAt, IsAtomOver};
+ghost use Rattle.formula_parser.specs.Spells.{bytes_tree, IsAtomAt, IsAtomOver};
 ghost use Rattle.formula_parser.specs.Faults.{HasFault, HasFaultOver};
 ghost use Rattle.formula_parser.specs.Nest.{outermost, with_unit, next_arm};
 ghost use Rattle.formula_parser.specs.Tokens.{head_at, bounds_at, tails};
 ghost use Rattle.formula_parser.specs.Alphabet.{dot_set};
 ghost use Rattle.formula_parser.specs.Dialect.{Dialect, plain_bytes, alphabet_of, tree_in, Speaks, escape_in};
 ghost use Rattle.formula_parser.specs.ClassStep.{class_at};
-ghost use Rattle.formula_parser.specs.AtomView.{atom_tree, Answers};
+ghost use Rattle.formula_parser.specs.AtomView.{Answers};
 ghost use Rattle.formula_parser.specs.View.{nest_of, opener_of, alphabet_seen};
 ghost use Rattle.formula_parser.specs.Turn.{IsStep, AnswersBody};
 ghost use Rattle.formula_parser.specs.Step.{goes, step, repeats, braces, opens, escapes, classes, bangs, closes_group, closes_capture, closes_atom, ties, widens, is_tied, start_at, end_len, Ends};
@@ -429,7 +430,7 @@ fn read_over(
     from: usize,
 ) -> Result<(Atom, usize), FormulaFault>
     requires slash { slice_get text.now from ≡ Some 47 }
-    ensures found { IfOk result (λ x. IsAtomOver (alphabet_seen alphabet) text.now from (atom_tree x.0, x.1)) }
+    ensures found { IfOk result (λ x. IsAtomOver (alphabet_seen alphabet) text.now from (atom_of x.0, x.1)) }
     ensures fault { IfErr result (λ e. (e ≡ FormulaFault.OutOfMemory) ⊎ HasFaultOver (alphabet_seen alphabet) text.now from e) }
     ensures built { IfOk result (λ x. IsWellBuilt (tree_of x.0.formula)) }
     ensures within { IfOk result (λ x. x.1 ≤ length text.now) }
@@ -465,7 +466,7 @@ pub fn read_atom(alloc: Global, text: &[u8], from: usize) -> Result<(Atom, usize
     requires slash { slice_get text.now from ≡ Some 47 }
     requires short { length text.now ≤ 65536 }
     // What is read is spelled so.
-    ensures found { IfOk result (λ x. IsAtomAt text.now from (atom_tree x.0, x.1)) }
+    ensures found { IfOk result (λ x. IsAtomAt text.now from (atom_of x.0, x.1)) }
     // What is spelled so is read, unless memory runs out.
     ensures only { (x : AtomTree × ℕ) → IsAtomAt text.now from x → Answers result (λ r. r ≡ Ok x) }
     // The fault is the one that is met first, unless memory ran out.

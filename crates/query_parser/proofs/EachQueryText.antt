@@ -9,10 +9,10 @@ use Rattle.span_core.specs.declared.TheConstants.{MOST_VARIABLES}
 use Rattle.span_core.specs.Names.{is_name_byte}
 use Rattle.span_core.specs.Lists.{AtMost}
 use Rattle.spanner_model.specs.Sound.{NameOf}
-use Rattle.spanner_model.specs.Expression.{QueryTree, atom}
+use Rattle.spanner_model.specs.Expression.{AtomTree, QueryTree, atom}
 use Rattle.spanner_model.proofs.Deciding.{Told}
 use Rattle.formula_parser.specs.declared.fault.FormulaFault.{FormulaFault}
-use Rattle.formula_parser.specs.Spells.{AtomTree, IsAtomAt}
+use Rattle.formula_parser.specs.Spells.{IsAtomAt}
 use Rattle.formula_parser.specs.Faults.{HasFault as HasAtomFault}
 use Rattle.formula_parser.proofs.RunLaws.{run_of}
 use Rattle.formula_parser.proofs.BuiltLaws.{IsText, text_of}

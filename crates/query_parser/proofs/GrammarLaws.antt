@@ -1,7 +1,6 @@
 -- The laws of the grammar and of the faults that are met when a text is read.
 use Rattle.std.proofs.Common.{◌≡◌, inl, inr, ℕ, zero, suc, ◌+◌, true, false, List, Ok, Err, ap, sym, subst, ◌∙◌}
-use Rattle.spanner_model.specs.Expression.{QueryTree}
-use Rattle.formula_parser.specs.Spells.{AtomTree}
+use Rattle.spanner_model.specs.Expression.{AtomTree, QueryTree}
 use Rattle.formula_parser.proofs.AtomLaws.{one_tree, no_tree_with_fault, one_fault}
 use Rattle.query_parser.specs.declared.fault.QueryFault.TheVariants.{Formula}
 use Rattle.query_parser.specs.Tokens.{atom_token}

@@ -3,7 +3,7 @@ use Rattle.std.proofs.Common.{◌≡◌, ℕ, ◌+◌, ◌&&◌, true, List, [],
 use Rattle.std.specs.List.{list_all, take_while}
 use Rattle.std.proofs.lemmas.Bool.{and_parts}
 use Rattle.span_core.specs.Names.{is_name_start, is_name_byte}
-use Rattle.formula_parser.specs.Spells.{AtomTree}
+use Rattle.spanner_model.specs.Expression.{AtomTree}
 use Rattle.formula_parser.proofs.AtomLaws.{one_tree}
 use Rattle.formula_parser.proofs.RunLaws.{run_is}
 use Rattle.query_parser.specs.Tokens.{Token, atom_token, is_blank, sign_token, word_token, IsStray, IsWordAt, TokenAt, atom_at, word_at, sign_at, BlankAt}

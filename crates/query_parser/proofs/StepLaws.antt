@@ -7,9 +7,9 @@ use Rattle.std.proofs.lemmas.List.Sums.{take_while-cons}
 use Rattle.span_core.specs.Names.{is_name_start, is_name_byte}
 use Rattle.formula_parser.specs.Runs.{StandsAt}
 use Rattle.formula_parser.specs.Names.{is_word}
-use Rattle.formula_parser.specs.Spells.{AtomTree, IsAtomAt}
+use Rattle.formula_parser.specs.Spells.{IsAtomAt}
 use Rattle.formula_parser.proofs.RunLaws.{run_of, run_is}
-use Rattle.spanner_model.specs.Expression.{atom}
+use Rattle.spanner_model.specs.Expression.{AtomTree, atom}
 use Rattle.query_parser.specs.declared.fault.QueryFault.{QueryFault}
 use Rattle.query_parser.specs.declared.fault.QueryFault.TheVariants.{Unexpected}
 use Rattle.query_parser.specs.Tokens.{Token, atom_token, equals, semicolon, open_paren, close_paren, comma, word_token, sign_token, is_blank, IsStray, IsWordAt, TokenAt, atom_at, word_at, sign_at, BlankAt}

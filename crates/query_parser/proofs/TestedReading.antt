@@ -2,8 +2,8 @@
 use Rattle.std.proofs.Common.{◌≡◌, ◌⊎◌, inl, inr, ℕ, zero, suc, ◌+◌, Bool, true, false, List, [], ◌∷◌, ◌++◌, length, drop, Option, Some, None, Ok, Err, ap, refl, sym, subst, ◌∙◌}
 use Rattle.std.proofs.lemmas.List.{append-nil}
 use Rattle.spanner_model.specs.Captures.{VarName}
-use Rattle.spanner_model.specs.Expression.{QueryTree}
-use Rattle.formula_parser.specs.Spells.{AtomTree, IsAtomAt}
+use Rattle.spanner_model.specs.Expression.{AtomTree, QueryTree}
+use Rattle.formula_parser.specs.Spells.{IsAtomAt}
 use Rattle.formula_parser.proofs.AtomLaws.{no_tree_with_fault}
 use Rattle.query_parser.specs.declared.asks.Asked.{Asked}
 use Rattle.query_parser.specs.declared.fault.QueryFault.{QueryFault}

@@ -1,11 +1,10 @@
 -- Turns of the code.
 use Rattle.std.proofs.Common.{◌≡◌, inl, inr, ℕ, zero, suc, ◌+◌, ◌<◌, ◌≤◌, Bool, true, List, [], ◌∷◌, length, drop, length-drop, length-append, Result, Ok, Err, ap, refl, sym, ◌∙◌, arith, if◌then◌else◌}
-use Rattle.formula_parser.specs.Spells.{AtomTree}
 use Rattle.spanner_model.specs.declared.query.Query.{Query}
 use Rattle.query_parser.specs.declared.fault.QueryFault.{QueryFault}
 use Rattle.query_parser.specs.declared.fault.QueryFault.TheVariants.{OutOfMemory}
 use Rattle.query_parser.specs.Tokens.{Token, atom_token, TokenAt, atom_at, word_at, sign_at}
-use Rattle.spanner_model.specs.Expression.{atom}
+use Rattle.spanner_model.specs.Expression.{AtomTree, atom}
 use Rattle.query_parser.specs.Reads.{unexpected}
 use Rattle.query_parser.specs.Nest.{Nest, move, with_unit, wants_unit}
 use Rattle.query_parser.specs.Step.{step, Ends}

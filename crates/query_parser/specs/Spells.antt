@@ -4,9 +4,8 @@ use Rattle.span_core.specs.declared.TheConstants.{MOST_VARIABLES}
 use Rattle.span_core.specs.NameSets.{with_name}
 use Rattle.span_core.specs.Lists.{Has}
 use Rattle.spanner_model.specs.Captures.{VarName}
-use Rattle.spanner_model.specs.Expression.{ExprTree, QueryTree, atom, named, union_end, join_end, project, minus, union_all, join_all}
+use Rattle.spanner_model.specs.Expression.{AtomTree, ExprTree, QueryTree, atom, named, union_end, join_end, project, minus, union_all, join_all}
 use Rattle.spanner_model.specs.Sound.{IsFreeName}
-use Rattle.formula_parser.specs.Spells.{AtomTree}
 use Rattle.query_parser.specs.declared.TheConstants.{MOST_OPEN, MOST_MINUSES}
 use Rattle.query_parser.specs.Tokens.{Token, atom_token, let_word, union_word, join_word, project_word, none_word, name_token, equals, semicolon, open_paren, close_paren, comma, minus_word, HasTokens}
 use Rattle.query_parser.specs.Minuses.{minuses_of}

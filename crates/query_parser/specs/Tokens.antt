@@ -3,9 +3,10 @@ use Rattle.std.specs.Prelude.{◌≡◌, ◌≢◌, ℕ, ◌+◌, Bool, false, �
 use Rattle.std.specs.Str.{bytes_eq}
 use Rattle.span_core.specs.Names.{is_name_start, is_name_byte}
 use Rattle.spanner_model.specs.Captures.{VarName}
+use Rattle.spanner_model.specs.Expression.{AtomTree}
 use Rattle.formula_parser.specs.Names.{is_word}
 use Rattle.formula_parser.specs.Runs.{begins, StandsAt}
-use Rattle.formula_parser.specs.Spells.{AtomTree, IsAtomAt}
+use Rattle.formula_parser.specs.Spells.{IsAtomAt}
 
 -- an atom; the words of queries, and any other word, of whatever length; the signs = ; ( ) and the comma
 pub data Token : Type 0 where

@@ -2,9 +2,9 @@
 use Rattle.std.specs.Prelude.{◌≡◌, ◌⊎◌, ◌+◌, ℕ, Bool, List, drop, Result, Ok, Err}
 use Rattle.spanner_model.specs.declared.query.Query.{Query}
 use Rattle.spanner_model.specs.ExprView.{query_of}
-use Rattle.spanner_model.specs.Expression.{atom}
+use Rattle.spanner_model.specs.Expression.{AtomTree, atom}
 use Rattle.formula_parser.specs.declared.fault.FormulaFault.{FormulaFault}
-use Rattle.formula_parser.specs.Spells.{AtomTree, IsAtomAt}
+use Rattle.formula_parser.specs.Spells.{IsAtomAt}
 use Rattle.formula_parser.specs.Faults.{HasFault as HasAtomFault}
 use Rattle.query_parser.specs.declared.fault.QueryFault.{QueryFault}
 use Rattle.query_parser.specs.declared.fault.QueryFault.TheVariants.{Formula, OutOfMemory}

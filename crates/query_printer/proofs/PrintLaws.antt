@@ -3,8 +3,9 @@ use Rattle.std.proofs.Common.{◌≡◌, ◌≢◌, ℕ, zero, suc, ◌+◌, ◌
 use Rattle.std.proofs.lemmas.List.{append-nil}
 use Rattle.spanner_model.specs.Tree.{Tree, empty, one, cat_end, cat, alt_end, alt, rep, cap, cat_all, alt_all}
 use Rattle.spanner_model.specs.WellBuilt.{IsBuilt, AreParts, AreArms, IsWellBuilt}
+use Rattle.spanner_model.specs.Expression.{AtomTree}
 use Rattle.formula_parser.specs.Names.{head_text}
-use Rattle.formula_parser.specs.Spells.{AtomTree, seq_tree, alt_tree, SpellsAlt, SpellsSeq, SpellsPiece, SpellsUnit, lone_arm, more_arms as further_arms, no_piece, more_pieces, once, again, plain, group_of, capture_of, given, Spells, IsAtomAt, over_bytes}
+use Rattle.formula_parser.specs.Spells.{seq_tree, alt_tree, SpellsAlt, SpellsSeq, SpellsPiece, SpellsUnit, lone_arm, more_arms as further_arms, no_piece, more_pieces, once, again, plain, group_of, capture_of, given, Spells, IsAtomAt, over_bytes}
 use Rattle.formula_parser.specs.Alphabet.{of_bytes}
 use Rattle.formula_parser.specs.Signs.{is_sign}
 use Rattle.formula_parser.proofs.SignLaws.{one_inside}

@@ -8,11 +8,10 @@ use Rattle.span_core.specs.NameSets.{AreVariables}
 use Rattle.spanner_model.specs.Captures.{VarName}
 use Rattle.span_core.specs.Lists.{Has}
 use Rattle.spanner_model.specs.Sound.{IsFreeName}
-use Rattle.spanner_model.specs.Expression.{ExprTree, atom, named, union_end, union, join_end, join, project, minus, union_all, join_all}
+use Rattle.spanner_model.specs.Expression.{AtomTree, ExprTree, atom, named, union_end, union, join_end, join, project, minus, union_all, join_all}
 use Rattle.spanner_model.specs.WellBuilt.{IsWellBuilt}
 use Rattle.query_printer.specs.PrintedFormula as formulas
 use Rattle.formula_parser.specs.Runs.{begins}
-use Rattle.formula_parser.specs.Spells.{AtomTree}
 use Rattle.query_printer.specs.PrintedFormula.{wrapped, wrapped_open, atom_text}
 use Rattle.query_parser.specs.Tokens.{Token, atom_token, union_word, join_word, project_word, none_word, name_token, open_paren, close_paren, comma, minus_word}
 use Rattle.query_parser.specs.Spells.{union_tree, join_tree, SpellsNames, one_name, more_names, SpellsKeep, keeps_none, keeps_names, SpellsExpr, lone_conj, more_conjs, less_conj, SpellsConj, lone_unit, more_units, SpellsUnit, atom_unit, named_unit, group_of, projection_of}

@@ -12,11 +12,12 @@ use Rattle.spanner_model.specs.Captures.{VarName}
 use Rattle.span_core.specs.Lists.{Has}
 use Rattle.spanner_model.specs.Sound.{words, IsFreeName}
 use Rattle.spanner_model.specs.WellBuilt.{IsWellBuilt}
+use Rattle.spanner_model.specs.Expression.{AtomTree}
 use Rattle.formula_parser.specs.Names.{is_word}
 use Rattle.formula_parser.specs.Runs.{begins}
 use Rattle.formula_parser.specs.Alphabet.{of_bytes}
 use Rattle.formula_parser.specs.Signs.{HasNoSign, is_sign}
-use Rattle.formula_parser.specs.Spells.{AtomTree, over_bytes}
+use Rattle.formula_parser.specs.Spells.{over_bytes}
 use Rattle.formula_parser.proofs.AtomLaws.{spelled_inside}
 use Rattle.formula_parser.proofs.SignLaws.{one_inside}
 use Rattle.query_printer.specs.PrintedFormula.{tied_text, atom_text}

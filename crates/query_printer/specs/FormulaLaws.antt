@@ -2,9 +2,10 @@
 use Rattle.std.specs.Prelude.{◌≡◌, ℕ, ◌+◌, ◌≤◌, false, List, ◌++◌, length}
 use Rattle.spanner_model.specs.Tree.{Tree}
 use Rattle.spanner_model.specs.WellBuilt.{IsWellBuilt}
+use Rattle.spanner_model.specs.Expression.{AtomTree}
 use Rattle.formula_parser.specs.Alphabet.{of_bytes}
 use Rattle.formula_parser.specs.Signs.{is_sign}
-use Rattle.formula_parser.specs.Spells.{AtomTree, Spells, IsAtomAt}
+use Rattle.formula_parser.specs.Spells.{Spells, IsAtomAt}
 use Rattle.query_printer.specs.PrintedFormula.{printed, most_open, tied_text, atom_text}
 
 -- within the limit of what may be open at once, the printed form of a formula spells it

@@ -5,10 +5,11 @@ use Rattle.std.specs.FinSet as set
 use Rattle.hex.specs.Hex.{encode_lower}
 use Rattle.span_core.specs.Names.{is_name_byte}
 use Rattle.spanner_model.specs.Tree.{Tree, empty, one, cat_end, cat, alt_end, alt, rep, cap}
+use Rattle.spanner_model.specs.Expression.{AtomTree}
 use Rattle.formula_parser.specs.Sets.{Bytes}
 use Rattle.formula_parser.specs.Escapes.{is_between}
 use Rattle.formula_parser.specs.Names.{head_text}
-use Rattle.formula_parser.specs.Spells.{AtomTree, given}
+use Rattle.formula_parser.specs.Spells.{given}
 
 -- something was appended
 pub record IsFront (front whole : List ℕ) : Type 0 where

@@ -5,9 +5,8 @@
 ghost use Rattle.std.specs.Prelude.{◌≡◌, ℕ, ◌+◌, ◌-◌, ◌==◌, ◌++◌, ◌∷◌, [], OnOk, OnErr, if◌then◌else◌};
 ghost use Rattle.std.specs.Fmt.{decimal};
 ghost use Rattle.spanner_model.specs.Tree.{rep, cap, cat_all, alt_all};
-ghost use Rattle.spanner_model.specs.View.{tree_of, trees_of};
+ghost use Rattle.spanner_model.specs.View.{tree_of, trees_of, atom_of};
 ghost use Rattle.spanner_model.specs.WellBuilt.{IsWellBuilt};
-ghost use Rattle.formula_parser.specs.AtomView.{atom_tree};
 ghost use Rattle.formula_parser.specs.Spells.{given};
 ghost use Rattle.formula_parser.specs.Names.{head_text};
 ghost use Rattle.query_printer.specs.FormulaShape.{shape_of};
@@ -91,7 +90,7 @@ pub fn print_formula(formula: &Formula, out: &mut Vec<u8>) -> Result<(), OutOfMe
 /// after it where it is tied. Where memory runs out, leaves `out` as it was.
 pub fn print_atom(atom: &Atom, out: &mut Vec<u8>) -> Result<(), OutOfMemory>
     requires { IsWellBuilt (tree_of atom.now.formula) }
-    ensures ok { OnOk result (out.new.items ≡ out.old.items ++ atom_text (atom_tree atom.now)) }
+    ensures ok { OnOk result (out.new.items ≡ out.old.items ++ atom_text (atom_of atom.now)) }
     ensures err { OnErr result (out.new.items ≡ out.old.items) }
 {
     let before = out.len();
@@ -111,7 +110,7 @@ pub fn printed_forms_spell_their_trees()
 {}
 
 fn push_atom(atom: &Atom, out: &mut Vec<u8>) -> Result<(), OutOfMemory>
-    ensures ok { OnOk result (out.new.items ≡ out.old.items ++ atom_text (atom_tree atom.now)) }
+    ensures ok { OnOk result (out.new.items ≡ out.old.items ++ atom_text (atom_of atom.now)) }
     ensures front { IsFront out.old.items out.new.items }
 {
     push(b"/", out)?;
@@ -121,7 +120,7 @@ fn push_atom(atom: &Atom, out: &mut Vec<u8>) -> Result<(), OutOfMemory>
 
 /// Appends what stands between the slashes.
 fn push_tied(atom: &Atom, out: &mut Vec<u8>) -> Result<(), OutOfMemory>
-    ensures ok { OnOk result (out.new.items ≡ out.old.items ++ tied_text (atom_tree atom.now)) }
+    ensures ok { OnOk result (out.new.items ≡ out.old.items ++ tied_text (atom_of atom.now)) }
     ensures front { IsFront out.old.items out.new.items }
 {
     push_given(atom.from_start, b'^', out)?;

@@ -8,8 +8,7 @@ ghost use Rattle.spanner_model.specs.Expression.{ExprTree, union_all, join_all, 
 ghost use Rattle.spanner_model.specs.ExprView.{expr_of, exprs_of, lets_of, query_of};
 ghost use Rattle.spanner_model.specs.Sound.{IsSound};
 ghost use Rattle.spanner_model.specs.WellBuilt.{IsWellBuilt};
-ghost use Rattle.spanner_model.specs.View.{tree_of};
-ghost use Rattle.formula_parser.specs.AtomView.{atom_tree};
+ghost use Rattle.spanner_model.specs.View.{tree_of, atom_of};
 ghost use Rattle.query_printer.specs.PrintedFormula.{IsFront, wrapped, atom_text};
 ghost use Rattle.query_parser.specs.Spells.{names_of};
 ghost use Rattle.query_parser.specs.declared.TheConstants.{MOST_TEXT_BYTES};
@@ -218,7 +217,7 @@ fn push_wrapped(wraps: bool, expr: &Expr, lets: &Lets, out: &mut Vec<u8>) -> Res
 
 fn push_atom(atom: &Atom, out: &mut Vec<u8>) -> Result<(), OutOfMemory>
     requires { IsWellBuilt (tree_of atom.now.formula) }
-    ensures ok { OnOk result (out.new.items ≡ out.old.items ++ atom_text (atom_tree atom.now)) }
+    ensures ok { OnOk result (out.new.items ≡ out.old.items ++ atom_text (atom_of atom.now)) }
     ensures front { IsFront out.old.items out.new.items }
 {
     print_atom(atom, out)

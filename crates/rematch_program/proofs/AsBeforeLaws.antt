@@ -6,13 +6,12 @@ use Rattle.std.specs.Option.{IsSome}
 use Rattle.span_core.specs.declared.span.Span.{Span}
 use Rattle.span_core.specs.Lists.{Has}
 use Rattle.spanner_model.specs.Captures.{VarName, Mapping, row_of}
-use Rattle.spanner_model.specs.Expression.{QueryTree}
+use Rattle.spanner_model.specs.Expression.{AtomTree, QueryTree}
 use Rattle.spanner_model.specs.Answers.{SpanRow, AreAnswers, AreResultNames}
 use Rattle.spanner_model.specs.Functional.{IsFunctional, IsFunctionalQuery}
 use Rattle.spanner_model.specs.WellBuilt.{IsWellBuilt}
 use Rattle.spanner_model.proofs.AnswerLaws.{query_given}
 use Rattle.spanner_model.proofs.FunctionalLaws.{query_sound, query_sure, query_answers}
-use Rattle.formula_parser.specs.Spells.{AtomTree}
 use Rattle.place_automaton.specs.Counts.{count_ways}
 use Rattle.place_automaton.specs.PlainCounts.{plain_states}
 use Rattle.place_automaton.proofs.BuiltRepeats.{ordered_repeats}

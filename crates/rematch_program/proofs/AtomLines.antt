@@ -7,8 +7,7 @@ use Rattle.std.proofs.lemmas.Option.{slice_get_within, get_or_from_slice_get}
 use Rattle.cell_text.proofs.Lists.{at_drop}
 use Rattle.query_printer.specs.PrintedQuery.{further}
 use Rattle.spanner_model.specs.Captures.{VarName}
-use Rattle.formula_parser.specs.Spells.{AtomTree}
-use Rattle.spanner_model.specs.Expression.{ExprTree, union_all, join_all}
+use Rattle.spanner_model.specs.Expression.{AtomTree, ExprTree, union_all, join_all}
 use Rattle.rematch_program.specs.Explained.{HasLines, atom_line, atom_lines, atoms_among, atoms_in, atoms_of}
 
 pub of_union : (parts : List ExprTree) → atoms_of (union_all parts) ≡ atoms_among parts

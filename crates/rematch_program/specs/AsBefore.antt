@@ -6,12 +6,11 @@ use Rattle.std.specs.List.{All}
 use Rattle.std.specs.Option.{IsSome}
 use Rattle.span_core.specs.Lists.{Has}
 use Rattle.spanner_model.specs.Captures.{VarName, Mapping, row_of}
-use Rattle.spanner_model.specs.Expression.{QueryTree}
+use Rattle.spanner_model.specs.Expression.{AtomTree, QueryTree}
 use Rattle.spanner_model.specs.Answers.{SpanRow, AreInBlockOrder, AreAnswers, AreResultNames}
 use Rattle.spanner_model.specs.Functional.{IsFunctional, IsFunctionalQuery, IsTotalAnswer}
 use Rattle.spanner_model.specs.Sound.{IsSound}
 use Rattle.spanner_model.specs.WellBuilt.{IsWellBuilt}
-use Rattle.formula_parser.specs.Spells.{AtomTree}
 use Rattle.place_automaton.specs.PlainCounts.{plain_states, plain_ways}
 use Rattle.rematch_program.specs.Explained.{atom_line, shown_number}
 use Rattle.note_texts.specs.Notes.{line}

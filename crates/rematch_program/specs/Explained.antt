@@ -2,15 +2,12 @@
 use Rattle.std.specs.Prelude.{◌≡◌, ℕ, suc, ◌+◌, ◌-◌, ◌^◌, min, List, [], ◌∷◌, ◌++◌, codes, length}
 use Rattle.std.specs.List.{flat_map}
 use Rattle.std.specs.Fmt.{decimal}
-use Rattle.spanner_model.specs.declared.formula.Atom.{Atom}
 use Rattle.spanner_model.specs.Captures.{VarName}
-use Rattle.spanner_model.specs.View.{tree_of}
-use Rattle.spanner_model.specs.Expression.{ExprTree, QueryTree, atom, named, union_end, union, join_end, join, minus, project}
+use Rattle.spanner_model.specs.Expression.{AtomTree, ExprTree, QueryTree, atom, named, union_end, union, join_end, join, minus, project}
 use Rattle.spanner_model.specs.Sequential.{HasVar, IsSequential}
 use Rattle.spanner_model.specs.WellBuilt.{IsWellBuilt}
 use Rattle.span_core.specs.Lists.{AtMost, Has}
 use Rattle.span_core.specs.declared.TheConstants.{MOST_VARIABLES}
-use Rattle.formula_parser.specs.Spells.{AtomTree}
 use Rattle.query_printer.specs.PrintedQuery.{joined, query_text}
 use Rattle.place_automaton.specs.Counts.{count_states, count_ways}
 use Rattle.note_texts.specs.Notes.{line}
@@ -37,10 +34,6 @@ atoms_in lets = flat_map (λ l. atoms_of l.1) lets
 -- the atoms of a query, in the order of its text
 abbrev pub query_atoms : QueryTree → List AtomTree
 query_atoms q = atoms_in q.lets ++ atoms_of q.body
-
--- the tree of an atom
-abbrev pub atom_at : Atom → AtomTree
-atom_at a = record { from_start = a.from_start; to_end = a.to_end; formula = tree_of a.formula }
 
 -- atoms whose numbers can be told
 abbrev pub IsCounted : AtomTree → Type 0

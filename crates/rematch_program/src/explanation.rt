@@ -2,13 +2,13 @@
 ghost use Rattle.std.specs.Prelude.{◌≡◌, ℕ, ◌+◌, ◌++◌, [], ◌∷◌, List, codes, length, IfOk, OnOk, OnErr, IsErrOf};
 ghost use Rattle.spanner_model.specs.Captures.{VarName};
 ghost use Rattle.spanner_model.specs.ExprView.{expr_of, exprs_of, query_of};
-ghost use Rattle.spanner_model.specs.View.{tree_of};
+ghost use Rattle.spanner_model.specs.View.{tree_of, atom_of};
 ghost use Rattle.spanner_model.specs.Sound.{IsSound};
 ghost use Rattle.spanner_model.specs.Answers.{AreResultNames};
 ghost use Rattle.query_parser.specs.TestedView.{tested_of};
 ghost use Rattle.rm_outside.specs.Change.{change};
 ghost use Rattle.rematch_program.specs.Work.{work, clock, StandsStill};
-ghost use Rattle.rematch_program.specs.Explained.{AreCounted, HasLines, IsCounted, atom_at, atoms_among, atoms_in, atoms_of, names_text};
+ghost use Rattle.rematch_program.specs.Explained.{AreCounted, HasLines, IsCounted, atoms_among, atoms_in, atoms_of, names_text};
 ghost use Rattle.note_texts.specs.Notes.{line, note_bytes};
 ghost use Rattle.rematch_program.specs.Run.{FromPage, IsExplained};
 ghost use Rattle.rematch_program.specs.Testing.{explain_tested};
@@ -146,8 +146,8 @@ fn push_atom(
     before: u64,
     text: &mut Vec<u8>,
 ) -> Result<u64, OutOfMemory>
-    requires { IsCounted (atom_at atom.now) }
-    ensures { IfOk result (λ all. HasLines before text.old.items (atom_at atom.now ∷ []) all text.new.items) }
+    requires { IsCounted (atom_of atom.now) }
+    ensures { IfOk result (λ all. HasLines before text.old.items (atom_of atom.now ∷ []) all text.new.items) }
 {
     let number = before.checked_add(1).ok_or(OutOfMemory)?;
     let Counts { states, ways } = count(alloc, atom)?;

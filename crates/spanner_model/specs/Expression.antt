@@ -3,6 +3,12 @@ use Rattle.std.specs.Prelude.{ℕ, Bool, List, [], ◌∷◌}
 use Rattle.spanner_model.specs.Tree.{Tree}
 use Rattle.spanner_model.specs.Captures.{VarName}
 
+-- an atom: whether it is tied to the document's start, whether to its end, and the formula
+pub record AtomTree : Type 0 where
+  pub from_start : Bool
+  pub to_end : Bool
+  pub formula : Tree
+
 pub data ExprTree : Type 0 where
   -- tied to the document's start, tied to its end, the formula
   atom : Bool → Bool → Tree → ExprTree

@@ -1,6 +1,8 @@
--- The tree that a formula of the code stands for.
+-- The tree that a formula, or an atom, of the code stands for.
 use Rattle.std.specs.Prelude.{List}
 use Rattle.spanner_model.specs.Tree.{Tree, empty, one, rep, cap, cat_all, alt_all}
+use Rattle.spanner_model.specs.Expression.{AtomTree}
+use Rattle.spanner_model.specs.declared.formula.Atom.{Atom}
 use Rattle.spanner_model.specs.declared.formula.Formula.{Formula}
 use Rattle.spanner_model.specs.declared.formula.Parts.{Parts}
 use Rattle.spanner_model.specs.declared.formula.Formula.TheOpen.{Formula-F, Parts-F}
@@ -25,3 +27,7 @@ tree_of = fold-Formula Tree (List Tree) node_tree part_trees
 -- the trees of a list of parts
 abbrev pub trees_of : Parts → List Tree
 trees_of = fold-Parts Tree (List Tree) node_tree part_trees
+
+-- the tree of an atom
+abbrev pub atom_of : Atom → AtomTree
+atom_of a = record { from_start = a.from_start; to_end = a.to_end; formula = tree_of a.formula }

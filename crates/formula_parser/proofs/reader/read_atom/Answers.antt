@@ -1,6 +1,6 @@
 use Rattle.std.proofs.Common.{◌+◌, refl, subst, ap, Ok, Err, inr}
 use Rattle.std.specs.Str.{IsUtf8}
-use Rattle.formula_parser.specs.AtomView.{atom_tree}
+use Rattle.spanner_model.specs.View.{atom_of}
 use Rattle.formula_parser.specs.Spells.{over_characters}
 use Rattle.formula_parser.proofs.SignLaws.{unsigned, signed, one_tree, no_tree_with_fault}
 use Rattle.formula_parser.proofs.TheTrees.{the_trees, the_trees_are}
@@ -38,7 +38,7 @@ returns-in-Ok-clause-found c =
 
 pub returns-in-Ok-clause-only : goal.returns-in-Ok-clause-only
 returns-in-Ok-clause-only c = λ x is.
-    ap Ok (one_tree the_trees the_trees_are c.args.text.now c.args.from (atom_tree c.in-Ok.atom, c.in-Ok.place + 1) x (returns-in-Ok-clause-found c) is)
+    ap Ok (one_tree the_trees the_trees_are c.args.text.now c.args.from (atom_of c.in-Ok.atom, c.in-Ok.place + 1) x (returns-in-Ok-clause-found c) is)
 
 pub returns-in-Err-read_over-clause-fault : goal.returns-in-Err-read_over-clause-fault
 returns-in-Err-read_over-clause-fault c =

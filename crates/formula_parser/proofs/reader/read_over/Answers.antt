@@ -1,7 +1,7 @@
 use Rattle.std.proofs.Common.{◌≡◌, ◌≤◌, length, drop, sym, subst, arith, IfOk, IfErr, ◌⊎◌}
 use Rattle.std.proofs.lemmas.Option.{slice_get_within}
 use Rattle.formula_parser.specs.declared.fault.FormulaFault.TheVariants.{OutOfMemory}
-use Rattle.formula_parser.specs.AtomView.{atom_tree}
+use Rattle.spanner_model.specs.View.{atom_of}
 use Rattle.formula_parser.specs.Faults.{HasFaultOver}
 use Rattle.formula_parser.specs.Nest.{outermost}
 use Rattle.formula_parser.specs.Spells.{IsAtomOver}
@@ -27,7 +27,7 @@ returns-clause-found c =
     subst (λ p. AnswersBody c.read_by_turns.result (Ends some.0 p (drop p text) (outermost from))) c.start_at.ensures (c.read_by_turns.ensures.ends some.0 some.1 some.2) in
     let tied : IfOk c.read_by_turns.result (λ x. x.0.from_start ≡ is_tied text from) =
     subst (λ b. IfOk c.read_by_turns.result (λ x. x.0.from_start ≡ b)) c.is_tied-from_start.ensures c.read_by_turns.ensures.tied in
-    subst (λ a. IfOk c.read_by_turns.result (λ x. IsAtomOver a text from (atom_tree x.0, x.1))) some.2
+    subst (λ a. IfOk c.read_by_turns.result (λ x. IsAtomOver a text from (atom_of x.0, x.1))) some.2
     (answer_found some.0 some.1 text from c.read_by_turns.result ends tied)
 
 pub returns-clause-fault : goal.returns-clause-fault

@@ -1,12 +1,12 @@
 use Rattle.std.proofs.Common.{◌≡◌, ◌∙◌, arith, inl, refl, sym, ap, subst, IfOk, List}
 use Rattle.span_core.proofs.HasLaws.{Has-slice_get}
-use Rattle.formula_parser.specs.Spells.{AtomTree}
-use Rattle.spanner_model.specs.Expression.{ExprTree, minus}
+use Rattle.spanner_model.specs.Expression.{AtomTree, ExprTree, minus}
+use Rattle.spanner_model.specs.View.{atom_of}
 use Rattle.spanner_model.specs.ExprView.{expr_of, exprs_of}
 use Rattle.spanner_model.proofs.Nodes.{expr_nodes}
 use Rattle.spanner_model.proofs.ExprLaws.{union_size, part_size}
 use Rattle.spanner_model.proofs.ExprTrees.{expr_of-Atom, expr_of-Union, expr_of-Join, expr_of-Minus}
-use Rattle.rematch_program.specs.Explained.{AreCounted, HasLines, atom_at, atoms_of}
+use Rattle.rematch_program.specs.Explained.{AreCounted, HasLines, atoms_of}
 use Rattle.rematch_program.proofs.CountedAtoms.{left_counted, part_counted, right_counted}
 use Rattle.rematch_program.proofs.AtomLines.{of_union, of_join, part_lines, then_lines}
 use Rattle.rematch_program.proofs.explanation.+atoms.Goals as goal
@@ -14,7 +14,7 @@ use Rattle.rematch_program.proofs.explanation.+atoms.Goals as goal
 pub push_atoms-push_atom-requires : goal.push_atoms-push_atom-requires
 push_atoms-push_atom-requires t c =
     let a = c.in-Atom.atom in
-    subst AreCounted (ap atoms_of (ap expr_of c.in-Atom.is ∙ expr_of-Atom a)) c.requires (atom_at a) (inl refl)
+    subst AreCounted (ap atoms_of (ap expr_of c.in-Atom.is ∙ expr_of-Atom a)) c.requires (atom_of a) (inl refl)
 
 pub push_atoms-push_parts-requires : goal.push_atoms-push_parts-requires
 push_atoms-push_parts-requires t c =
