@@ -346,9 +346,9 @@ def sizes_of(query):
 # take on the byte there one edge, to the set of all states so reached. At the first position of a gap,
 # which is a longest run of positions that are not in K, it has one edge without marks to the set of its
 # idle members, if there are any; the other positions of the gap change nothing. At the end it has one edge
-# for each block of its members' ends. A row is a set with the byte that was read from it, with the idle
+# for each block of its members' ends. A look-up is a set with the byte that was read from it, with the idle
 # step that was taken from it, or with the end. The weight is 1 and its members for each set that is
-# reached, and 1 and its edges for each row.
+# reached, and 1 and its edges for each look-up.
 
 class Reading:
     def __init__(self, automaton):
@@ -356,7 +356,7 @@ class Reading:
         self.ways, self.ends = by_state(automaton.ways), by_state(automaton.ends)
         self.layer = [automaton.starts]  # the sets that are reached here
         self.sets = {automaton.starts}
-        self.rows = {}  # the edges of each row, as the sets that they lead to
+        self.look_ups = {}  # the edges of each look-up, as the sets that they lead to
 
     def edges(self, members, asked):
         if asked == 'end':
@@ -373,15 +373,15 @@ class Reading:
     def step(self, asked):
         following = []
         for members in self.layer:
-            if (members, asked) not in self.rows:
-                self.rows[members, asked] = self.edges(members, asked)
-            following += self.rows[members, asked]
+            if (members, asked) not in self.look_ups:
+                self.look_ups[members, asked] = self.edges(members, asked)
+            following += self.look_ups[members, asked]
         self.layer = list(dict.fromkeys(following))
         if asked != 'end':
             self.sets.update(self.layer)
 
     def weight(self):
-        return sum(1 + len(members) for members in self.sets) + sum(1 + len(edges) for edges in self.rows.values())
+        return sum(1 + len(members) for members in self.sets) + sum(1 + len(edges) for edges in self.look_ups.values())
 
 
 def table_weight(automaton, document, positions):

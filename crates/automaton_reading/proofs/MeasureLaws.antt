@@ -20,7 +20,7 @@ use Rattle.marked_automaton.specs.Reduct.{HasEnd, IsReduct}
 use Rattle.marked_automaton.proofs.Listed.{some_same}
 use Rattle.marked_automaton.proofs.ReductWords.{image_law}
 use Rattle.automaton_reading.specs.Measures.{ReductMeasures}
-use Rattle.automaton_reading.specs.Reading.{put_up, put_down, set_of, blocks_down, is_among, Asked, byte_read, rest_taken, ended, asked_same, asked, Reach, ways_taken, reach_with, rest_edge, edges, once, next_sets, Row, row_same, rows_asked, rows_read, row_edges, edges_K, rows_K, weight_K}
+use Rattle.automaton_reading.specs.Reading.{put_up, put_down, set_of, blocks_down, is_among, Question, byte_read, rest_taken, ended, question_same, questions, Reach, ways_taken, reach_with, rest_edge, edges, once, next_sets, LookUp, look_up_same, look_ups_asked, look_ups_read, look_up_edges, edges_K, look_ups_K, weight_K}
 use Rattle.automaton_reading.proofs.Determined.{put_up_cases, put_down_cases, set_has, has_set, blocks_has, has_block, among_has, has_among}
 use Rattle.span_core.proofs.HasLaws.{Has-map, Has-map_cases}
 use Rattle.marked_automaton.proofs.Passing.{has_flat_map, flat_map_cases, filter_cases, has_filter, left_true, right_true, both_true}
@@ -209,7 +209,7 @@ module _ (A : Automaton) (S : List ℕ) where
   idle_are a =
       (λ h. let f = filter_cases (is_among A.idle) S a h in (f.0, among_has A.idle a f.1), λ h. has_filter (is_among A.idle) S a h.0 (has_among A.idle a h.1))
 
--- ---- equality of sets and of rows
+-- ---- equality of sets and of look-ups
 
 pub same_bytes : (x y : List ℕ) → bytes_eq x y ≡ true → x ≡ y
 same_bytes x y e = (bytes_eq-Decides x y).0 e
@@ -217,7 +217,7 @@ same_bytes x y e = (bytes_eq-Decides x y).0 e
 pub bytes_itself : (x : List ℕ) → bytes_eq x x ≡ true
 bytes_itself x = (bytes_eq-Decides x x).1 refl
 
-pub same_ask : (a b : Asked) → asked_same a b ≡ true → a ≡ b
+pub same_ask : (a b : Question) → question_same a b ≡ true → a ≡ b
 same_ask (byte_read b) (byte_read c) e = ap byte_read (eqb-true b c e)
 same_ask (byte_read b) rest_taken e = absurd (cc)
 same_ask (byte_read b) ended e = absurd (cc)
@@ -228,19 +228,19 @@ same_ask ended (byte_read c) e = absurd (cc)
 same_ask ended rest_taken e = absurd (cc)
 same_ask ended ended e = refl
 
-pub ask_itself : (a : Asked) → asked_same a a ≡ true
+pub ask_itself : (a : Question) → question_same a a ≡ true
 ask_itself (byte_read b) = eq-eqb b b refl
 ask_itself rest_taken = refl
 ask_itself ended = refl
 
-pub same_row : (r s : Row) → row_same r s ≡ true → r ≡ s
-same_row r s e =
-    let sets = same_bytes r.set s.set (left_true (bytes_eq r.set s.set) (asked_same r.ask s.ask) e) in
-    let asks = same_ask r.ask s.ask (right_true (bytes_eq r.set s.set) (asked_same r.ask s.ask) e) in
-    ap (λ set. let w : Row = record { set = set; ask = r.ask } in w) sets ∙ ap (λ a. let w : Row = record { set = s.set; ask = a } in w) asks
+pub same_look_up : (r s : LookUp) → look_up_same r s ≡ true → r ≡ s
+same_look_up r s e =
+    let sets = same_bytes r.set s.set (left_true (bytes_eq r.set s.set) (question_same r.ask s.ask) e) in
+    let asks = same_ask r.ask s.ask (right_true (bytes_eq r.set s.set) (question_same r.ask s.ask) e) in
+    ap (λ set. let w : LookUp = record { set = set; ask = r.ask } in w) sets ∙ ap (λ a. let w : LookUp = record { set = s.set; ask = a } in w) asks
 
-pub row_itself : (r : Row) → row_same r r ≡ true
-row_itself r = both_true (bytes_eq r.set r.set) (asked_same r.ask r.ask) (bytes_itself r.set) (ask_itself r.ask)
+pub look_up_itself : (r : LookUp) → look_up_same r r ≡ true
+look_up_itself r = both_true (bytes_eq r.set r.set) (question_same r.ask r.ask) (bytes_itself r.set) (ask_itself r.ask)
 
 -- ---- images
 
@@ -315,7 +315,7 @@ module _ (A B : Automaton) (f g : ℕ → Option ℕ) (e : ℕ → ℕ → ℕ) 
 
   -- ---- edges
 
-  edges_no_more : (SB SA : List ℕ) → IsShadow SB SA → (a : Asked) → length (edges A SA a) ≤ length (edges B SB a)
+  edges_no_more : (SB SA : List ℕ) → IsShadow SB SA → (a : Question) → length (edges A SA a) ≤ length (edges B SB a)
   edges_no_more SB SA s (byte_read c) =
       let le = no_more_of (Marks A SA c) (Marks B SB c) (down_distinct (Marks A SA c) (blocks_are_down (map (λ (y : Way). y.marks) (ways_taken A SA c)))) (marks_there SB SA s c) in
       omega (arith, le, length-map (Marks A SA c) (reach_with (ways_taken A SA c)), length-map (Marks B SB c) (reach_with (ways_taken B SB c)))
@@ -336,7 +336,7 @@ module _ (A B : Automaton) (f g : ℕ → Option ℕ) (e : ℕ → ℕ → ℕ) 
   rest_shadow (x ∷ xs) (y ∷ ys) s p (inr h) = absurd h
 
   -- each edge leads to the image of what one leads to
-  edge_shadow : (SB SA : List ℕ) → IsShadow SB SA → (a : Asked) (p : Reach) → Has (edges A SA a) p → (q : Reach) × Has (edges B SB a) q × IsShadow q.to p.to
+  edge_shadow : (SB SA : List ℕ) → IsShadow SB SA → (a : Question) (p : Reach) → Has (edges A SA a) p → (q : Reach) × Has (edges B SB a) q × IsShadow q.to p.to
   edge_shadow SB SA s (byte_read c) p h =
       let m = Has-map_cases (reach_with (ways_taken A SA c)) (Marks A SA c) p h in
       let there = marks_there SB SA s c m.0 m.1 in (
@@ -357,10 +357,10 @@ module _ (A B : Automaton) (f g : ℕ → Option ℕ) (e : ℕ → ℕ → ℕ) 
   abbrev pub Covers : List (List ℕ) → List (List ℕ) → Type 0
   Covers BS AS = (SA : List ℕ) → Has AS SA → (SB : List ℕ) × Has BS SB × IsShadow SB SA
 
-  abbrev targets : Automaton → List (List ℕ) → Asked → List (List ℕ)
+  abbrev targets : Automaton → List (List ℕ) → Question → List (List ℕ)
   targets X XS a = flat_map (λ set. map (λ (t : Reach). t.to) (edges X set a)) XS
 
-  pub next_covers : (BS AS : List (List ℕ)) (a : Asked) → Covers BS AS → Covers (next_sets B BS a) (next_sets A AS a)
+  pub next_covers : (BS AS : List (List ℕ)) (a : Question) → Covers BS AS → Covers (next_sets B BS a) (next_sets A AS a)
   next_covers BS AS a cover SA h =
       let k = has_once bytes_eq same_bytes bytes_itself (targets A AS a) SA h in
       let x = flat_map_cases (λ set. map (λ (t : Reach). t.to) (edges A set a)) AS SA k in
@@ -373,7 +373,7 @@ module _ (A B : Automaton) (f g : ℕ → Option ℕ) (e : ℕ → ℕ → ℕ) 
         subst (IsShadow q.0.to) p.2 q.2,
       )
 
-  next_distinct : (AS : List (List ℕ)) (a : Asked) → AreDistinct (next_sets A AS a)
+  next_distinct : (AS : List (List ℕ)) (a : Question) → AreDistinct (next_sets A AS a)
   next_distinct AS a = once_distinct bytes_eq same_bytes bytes_itself (targets A AS a)
 
   pub start_covers : Covers (set_of B.starts ∷ []) (set_of A.starts ∷ [])
@@ -390,91 +390,91 @@ module _ (A B : Automaton) (f g : ℕ → Option ℕ) (e : ℕ → ℕ → ℕ) 
       }
   start_covers SA (inr h) = absurd h
 
-  -- ---- rows
+  -- ---- look-ups
 
-  abbrev row_of_set : Asked → List ℕ → Row
-  row_of_set a set = record { set = set; ask = a }
+  abbrev look_up_of_set : Question → List ℕ → LookUp
+  look_up_of_set a set = record { set = set; ask = a }
 
-  pub record IsRowShadow (x y : Row) : Type 0 where
+  pub record IsLookUpShadow (x y : LookUp) : Type 0 where
     pub sets : IsShadow y.set x.set
     pub asks : x.ask ≡ y.ask
 
-  row_one : (x z y : Row) → IsRowShadow x y → IsRowShadow z y → x ≡ z
-  row_one x z y s t =
+  look_up_one : (x z y : LookUp) → IsLookUpShadow x y → IsLookUpShadow z y → x ≡ z
+  look_up_one x z y s t =
       let sets = shadow_same x.set z.set y.set s.sets t.sets in
       let asks : x.ask ≡ z.ask = s.asks ∙ sym t.asks in
-      ap (λ set. let w : Row = record { set = set; ask = x.ask } in w) sets ∙ ap (λ a. let w : Row = record { set = z.set; ask = a } in w) asks
+      ap (λ set. let w : LookUp = record { set = set; ask = x.ask } in w) sets ∙ ap (λ a. let w : LookUp = record { set = z.set; ask = a } in w) asks
 
-  pub row_no_more : (x y : Row) → IsRowShadow x y → row_edges A x ≤ row_edges B y
-  row_no_more x y s = subst (λ a. length (edges A x.set x.ask) ≤ length (edges B y.set a)) s.asks (edges_no_more y.set x.set s.sets x.ask)
+  pub look_up_no_more : (x y : LookUp) → IsLookUpShadow x y → look_up_edges A x ≤ look_up_edges B y
+  look_up_no_more x y s = subst (λ a. length (edges A x.set x.ask) ≤ length (edges B y.set a)) s.asks (edges_no_more y.set x.set s.sets x.ask)
 
-  pub rows_cover : (BS AS : List (List ℕ)) (asks : List Asked) → Covers BS AS → (x : Row) → Has (rows_asked A AS asks) x → (y : Row) × Has (rows_asked B BS asks) y × IsRowShadow x y
-  rows_cover BS AS [] cover x h = absurd h
-  rows_cover BS AS (a ∷ later) cover x h =
-      elim (Has-append_cases (map (row_of_set a) AS) (rows_asked A (next_sets A AS a) later) x h) as (λ _. (y : Row) × Has (rows_asked B BS (a ∷ later)) y × IsRowShadow x y) [
+  pub look_ups_cover : (BS AS : List (List ℕ)) (asks : List Question) → Covers BS AS → (x : LookUp) → Has (look_ups_asked A AS asks) x → (y : LookUp) × Has (look_ups_asked B BS asks) y × IsLookUpShadow x y
+  look_ups_cover BS AS [] cover x h = absurd h
+  look_ups_cover BS AS (a ∷ later) cover x h =
+      elim (Has-append_cases (map (look_up_of_set a) AS) (look_ups_asked A (next_sets A AS a) later) x h) as (λ _. (y : LookUp) × Has (look_ups_asked B BS (a ∷ later)) y × IsLookUpShadow x y) [
         | inl i ↦
-            let s = Has-map_cases (row_of_set a) AS x i in
+            let s = Has-map_cases (look_up_of_set a) AS x i in
             let t = cover s.0 s.1 in (
-              row_of_set a t.0,
-              Has-append_left (map (row_of_set a) BS) (rows_asked B (next_sets B BS a) later) (row_of_set a t.0) (Has-map (row_of_set a) BS t.0 t.1),
-              record { sets = subst (λ (w : Row). IsShadow t.0 w.set) s.2 t.2; asks = sym (ap (λ (w : Row). w.ask) s.2) },
+              look_up_of_set a t.0,
+              Has-append_left (map (look_up_of_set a) BS) (look_ups_asked B (next_sets B BS a) later) (look_up_of_set a t.0) (Has-map (look_up_of_set a) BS t.0 t.1),
+              record { sets = subst (λ (w : LookUp). IsShadow t.0 w.set) s.2 t.2; asks = sym (ap (λ (w : LookUp). w.ask) s.2) },
             )
         | inr j ↦
-            let t = rows_cover (next_sets B BS a) (next_sets A AS a) later (next_covers BS AS a cover) x j in
-            (t.0, Has-append_right (map (row_of_set a) BS) (rows_asked B (next_sets B BS a) later) t.0 t.1, t.2)
+            let t = look_ups_cover (next_sets B BS a) (next_sets A AS a) later (next_covers BS AS a cover) x j in
+            (t.0, Has-append_right (map (look_up_of_set a) BS) (look_ups_asked B (next_sets B BS a) later) t.0 t.1, t.2)
       ]
 
   -- ---- the numbers
 
-  edges_sum : (BS AS : List (List ℕ)) (asks : List Asked) → AreDistinct AS → Covers BS AS → sum_by (row_edges A) (rows_asked A AS asks) ≤ sum_by (row_edges B) (rows_asked B BS asks)
+  edges_sum : (BS AS : List (List ℕ)) (asks : List Question) → AreDistinct AS → Covers BS AS → sum_by (look_up_edges A) (look_ups_asked A AS asks) ≤ sum_by (look_up_edges B) (look_ups_asked B BS asks)
   edges_sum BS AS [] d cover = omega arith
   edges_sum BS AS (a ∷ later) d cover =
-      let here = match_sum IsRowShadow (row_edges A) (row_edges B) (map (row_of_set a) AS) (map (row_of_set a) BS)
-      (map_distinct (row_of_set a) AS (λ x z i. ap (λ (w : Row). w.set) i) d)
+      let here = match_sum IsLookUpShadow (look_up_edges A) (look_up_edges B) (map (look_up_of_set a) AS) (map (look_up_of_set a) BS)
+      (map_distinct (look_up_of_set a) AS (λ x z i. ap (λ (w : LookUp). w.set) i) d)
       (λ x h.
-      let s = Has-map_cases (row_of_set a) AS x h in
+      let s = Has-map_cases (look_up_of_set a) AS x h in
       let t = cover s.0 s.1 in
-      let shadow : IsRowShadow x (row_of_set a t.0) = record { sets = subst (λ (w : Row). IsShadow t.0 w.set) s.2 t.2; asks = sym (ap (λ (w : Row). w.ask) s.2) } in
-      (row_of_set a t.0, Has-map (row_of_set a) BS t.0 t.1, shadow, row_no_more x (row_of_set a t.0) shadow))
-      row_one in
+      let shadow : IsLookUpShadow x (look_up_of_set a t.0) = record { sets = subst (λ (w : LookUp). IsShadow t.0 w.set) s.2 t.2; asks = sym (ap (λ (w : LookUp). w.ask) s.2) } in
+      (look_up_of_set a t.0, Has-map (look_up_of_set a) BS t.0 t.1, shadow, look_up_no_more x (look_up_of_set a t.0) shadow))
+      look_up_one in
       let rest = edges_sum (next_sets B BS a) (next_sets A AS a) later (next_distinct AS a) (next_covers BS AS a cover) in
       omega (
         arith,
         here,
         rest,
-        sum_by-append (row_edges A) (map (row_of_set a) AS) (rows_asked A (next_sets A AS a) later),
-        sum_by-append (row_edges B) (map (row_of_set a) BS) (rows_asked B (next_sets B BS a) later),
+        sum_by-append (look_up_edges A) (map (look_up_of_set a) AS) (look_ups_asked A (next_sets A AS a) later),
+        sum_by-append (look_up_edges B) (map (look_up_of_set a) BS) (look_ups_asked B (next_sets B BS a) later),
       )
 
-  -- sums over distinct rows, and over distinct sets
-  pub once_rows : (w v : Row → ℕ) (xs ys : List Row) → ((x : Row) → Has xs x → (y : Row) × Has ys y × IsRowShadow x y) → ((x y : Row) → IsRowShadow x y → w x ≤ v y) →
-      sum_by w (once row_same xs) ≤ sum_by v (once row_same ys)
-  once_rows w v xs ys cover less =
-      match_sum IsRowShadow w v (once row_same xs) (once row_same ys) (once_distinct row_same same_row row_itself xs)
-      (λ x h. let t = cover x (has_once row_same same_row row_itself xs x h) in (t.0, once_has row_same same_row row_itself ys t.0 t.1, t.2, less x t.0 t.2)) row_one
+  -- sums over distinct look-ups, and over distinct sets
+  pub once_look_ups : (w v : LookUp → ℕ) (xs ys : List LookUp) → ((x : LookUp) → Has xs x → (y : LookUp) × Has ys y × IsLookUpShadow x y) → ((x y : LookUp) → IsLookUpShadow x y → w x ≤ v y) →
+      sum_by w (once look_up_same xs) ≤ sum_by v (once look_up_same ys)
+  once_look_ups w v xs ys cover less =
+      match_sum IsLookUpShadow w v (once look_up_same xs) (once look_up_same ys) (once_distinct look_up_same same_look_up look_up_itself xs)
+      (λ x h. let t = cover x (has_once look_up_same same_look_up look_up_itself xs x h) in (t.0, once_has look_up_same same_look_up look_up_itself ys t.0 t.1, t.2, less x t.0 t.2)) look_up_one
 
-  pub once_sets : (xs ys : List Row) → ((x : Row) → Has xs x → (y : Row) × Has ys y × IsRowShadow x y) →
-      sum_by (λ (set : List ℕ). 1 + length set) (once bytes_eq (map (λ (x : Row). x.set) xs)) ≤ sum_by (λ (set : List ℕ). 1 + length set) (once bytes_eq (map (λ (x : Row). x.set) ys))
+  pub once_sets : (xs ys : List LookUp) → ((x : LookUp) → Has xs x → (y : LookUp) × Has ys y × IsLookUpShadow x y) →
+      sum_by (λ (set : List ℕ). 1 + length set) (once bytes_eq (map (λ (x : LookUp). x.set) xs)) ≤ sum_by (λ (set : List ℕ). 1 + length set) (once bytes_eq (map (λ (x : LookUp). x.set) ys))
   once_sets xs ys cover =
-      match_sum (λ SA SB. IsShadow SB SA) (λ (set : List ℕ). 1 + length set) (λ (set : List ℕ). 1 + length set) (once bytes_eq (map (λ (x : Row). x.set) xs)) (once bytes_eq (map (λ (x : Row). x.set) ys))
-      (once_distinct bytes_eq same_bytes bytes_itself (map (λ (x : Row). x.set) xs))
+      match_sum (λ SA SB. IsShadow SB SA) (λ (set : List ℕ). 1 + length set) (λ (set : List ℕ). 1 + length set) (once bytes_eq (map (λ (x : LookUp). x.set) xs)) (once bytes_eq (map (λ (x : LookUp). x.set) ys))
+      (once_distinct bytes_eq same_bytes bytes_itself (map (λ (x : LookUp). x.set) xs))
       (λ SA h.
-      let x = Has-map_cases (λ (x : Row). x.set) xs SA (has_once bytes_eq same_bytes bytes_itself (map (λ (x : Row). x.set) xs) SA h) in
+      let x = Has-map_cases (λ (x : LookUp). x.set) xs SA (has_once bytes_eq same_bytes bytes_itself (map (λ (x : LookUp). x.set) xs) SA h) in
       let t = cover x.0 x.1 in
       let shadow : IsShadow t.0.set SA = subst (IsShadow t.0.set) x.2 t.2.sets in
       let le = shadow_members t.0.set SA shadow in
-      (t.0.set, once_has bytes_eq same_bytes bytes_itself (map (λ (x : Row). x.set) ys) t.0.set (Has-map (λ (x : Row). x.set) ys t.0 t.1), shadow, omega (arith, le)))
+      (t.0.set, once_has bytes_eq same_bytes bytes_itself (map (λ (x : LookUp). x.set) ys) t.0.set (Has-map (λ (x : LookUp). x.set) ys t.0 t.1), shadow, omega (arith, le)))
       (λ SA TA SB s t. shadow_same SA TA SB s t)
 
-  measures : (d : List ℕ) (K : ℕ → Bool) → (edges_K A d K ≤ edges_K B d K) × (rows_K A d K ≤ rows_K B d K) × (weight_K A d K ≤ weight_K B d K)
+  measures : (d : List ℕ) (K : ℕ → Bool) → (edges_K A d K ≤ edges_K B d K) × (look_ups_K A d K ≤ look_ups_K B d K) × (weight_K A d K ≤ weight_K B d K)
   measures d K =
-      let asks = asked K d 0 false in
-      let cover = rows_cover (set_of B.starts ∷ []) (set_of A.starts ∷ []) asks start_covers in
-      let rows = once_rows (λ x. 1) (λ y. 1) (rows_read A d K) (rows_read B d K) cover (λ x y s. omega arith) in
-      let sets = once_sets (rows_read A d K) (rows_read B d K) cover in
-      let weights = once_rows (λ x. 1 + row_edges A x) (λ y. 1 + row_edges B y) (rows_read A d K) (rows_read B d K) cover (λ x y s. let le = row_no_more x y s in omega (arith, le)) in (
+      let asks = questions K d 0 false in
+      let cover = look_ups_cover (set_of B.starts ∷ []) (set_of A.starts ∷ []) asks start_covers in
+      let look_ups = once_look_ups (λ x. 1) (λ y. 1) (look_ups_read A d K) (look_ups_read B d K) cover (λ x y s. omega arith) in
+      let sets = once_sets (look_ups_read A d K) (look_ups_read B d K) cover in
+      let weights = once_look_ups (λ x. 1 + look_up_edges A x) (λ y. 1 + look_up_edges B y) (look_ups_read A d K) (look_ups_read B d K) cover (λ x y s. let le = look_up_no_more x y s in omega (arith, le)) in (
         edges_sum (set_of B.starts ∷ []) (set_of A.starts ∷ []) asks (λ h. h, tt) start_covers,
-        omega (arith, rows, length_sum (once row_same (rows_read A d K)), length_sum (once row_same (rows_read B d K))),
+        omega (arith, look_ups, length_sum (once look_up_same (look_ups_read A d K)), length_sum (once look_up_same (look_ups_read B d K))),
         omega (arith, sets, weights),
       )
 

@@ -31,21 +31,21 @@ abbrev pub is_among : List ℕ → ℕ → Bool
 is_among ms m = list_any (nat_eq m) ms
 
 -- what is asked of a set: the way on by a byte, without marks by its idle members, or its ends
-pub data Asked : Type 0 where
-  byte_read : ℕ → Asked
-  rest_taken : Asked
-  ended : Asked
+pub data Question : Type 0 where
+  byte_read : ℕ → Question
+  rest_taken : Question
+  ended : Question
 
-abbrev pub asked_same : Asked → Asked → Bool
-asked_same (byte_read b) (byte_read c) = nat_eq b c
-asked_same (byte_read b) rest_taken = false
-asked_same (byte_read b) ended = false
-asked_same rest_taken (byte_read c) = false
-asked_same rest_taken rest_taken = true
-asked_same rest_taken ended = false
-asked_same ended (byte_read c) = false
-asked_same ended rest_taken = false
-asked_same ended ended = true
+abbrev pub question_same : Question → Question → Bool
+question_same (byte_read b) (byte_read c) = nat_eq b c
+question_same (byte_read b) rest_taken = false
+question_same (byte_read b) ended = false
+question_same rest_taken (byte_read c) = false
+question_same rest_taken rest_taken = true
+question_same rest_taken ended = false
+question_same ended (byte_read c) = false
+question_same ended rest_taken = false
+question_same ended ended = true
 
 -- a block, and the set that is reached with it
 pub record Reach : Type 0 where
@@ -64,18 +64,18 @@ rest_edge [] = []
 rest_edge (p ∷ ps) = record { marks = 0; to = p ∷ ps } ∷ []
 
 -- one edge for each block
-abbrev pub edges : Automaton → List ℕ → Asked → List Reach
+abbrev pub edges : Automaton → List ℕ → Question → List Reach
 edges A set (byte_read b) = map (reach_with (ways_taken A set b)) (blocks_down (map (λ (y : Way). y.marks) (ways_taken A set b)))
 edges A set rest_taken = rest_edge (filter (is_among A.idle) set)
 edges A set ended = map (λ m. record { marks = m; to = [] }) (blocks_down (map (λ (x : Stop). x.marks) (filter (λ (x : Stop). is_among set x.state) A.stops)))
 
 -- what is asked in order, from the position i on: at a position of K the byte there; at the first
 -- position of a gap the rest; last the ends
-abbrev pub asked : (ℕ → Bool) → List ℕ → ℕ → Bool → List Asked
-asked K [] i in_gap = if K i || in_gap then ended ∷ [] else rest_taken ∷ ended ∷ []
-asked K (b ∷ d) i in_gap =
-    if K i then byte_read b ∷ asked K d (suc i) false
-    else (if in_gap then asked K d (suc i) true else rest_taken ∷ asked K d (suc i) true)
+abbrev pub questions : (ℕ → Bool) → List ℕ → ℕ → Bool → List Question
+questions K [] i in_gap = if K i || in_gap then ended ∷ [] else rest_taken ∷ ended ∷ []
+questions K (b ∷ d) i in_gap =
+    if K i then byte_read b ∷ questions K d (suc i) false
+    else (if in_gap then questions K d (suc i) true else rest_taken ∷ questions K d (suc i) true)
 
 module _ {X : Type 0} (same : X → X → Bool) where
   -- the elements, each once
@@ -84,36 +84,36 @@ module _ {X : Type 0} (same : X → X → Bool) where
   once (x ∷ xs) = let rest = once xs in if list_any (same x) rest then rest else x ∷ rest
 
 -- the sets reached from these by an answer
-abbrev pub next_sets : Automaton → List (List ℕ) → Asked → List (List ℕ)
+abbrev pub next_sets : Automaton → List (List ℕ) → Question → List (List ℕ)
 next_sets A sets a = once bytes_eq (flat_map (λ set. map (λ (e : Reach). e.to) (edges A set a)) sets)
 
 -- a set, and what is asked of it
-pub record Row : Type 0 where
+pub record LookUp : Type 0 where
   pub set : List ℕ
-  pub ask : Asked
+  pub ask : Question
 
-abbrev pub row_same : Row → Row → Bool
-row_same r s = bytes_eq r.set s.set && asked_same r.ask s.ask
+abbrev pub look_up_same : LookUp → LookUp → Bool
+look_up_same r s = bytes_eq r.set s.set && question_same r.ask s.ask
 
 -- what is asked of each set that is reached, place by place
-abbrev pub rows_asked : Automaton → List (List ℕ) → List Asked → List Row
-rows_asked A sets [] = []
-rows_asked A sets (a ∷ later) = map (λ set. record { set = set; ask = a }) sets ++ rows_asked A (next_sets A sets a) later
+abbrev pub look_ups_asked : Automaton → List (List ℕ) → List Question → List LookUp
+look_ups_asked A sets [] = []
+look_ups_asked A sets (a ∷ later) = map (λ set. record { set = set; ask = a }) sets ++ look_ups_asked A (next_sets A sets a) later
 
-abbrev pub rows_read : Automaton → List ℕ → (ℕ → Bool) → List Row
-rows_read A d K = rows_asked A (set_of A.starts ∷ []) (asked K d 0 false)
+abbrev pub look_ups_read : Automaton → List ℕ → (ℕ → Bool) → List LookUp
+look_ups_read A d K = look_ups_asked A (set_of A.starts ∷ []) (questions K d 0 false)
 
-abbrev pub row_edges : Automaton → Row → ℕ
-row_edges A r = length (edges A r.set r.ask)
+abbrev pub look_up_edges : Automaton → LookUp → ℕ
+look_up_edges A r = length (edges A r.set r.ask)
 
 abbrev pub edges_K : Automaton → List ℕ → (ℕ → Bool) → ℕ
-edges_K A d K = sum_by (row_edges A) (rows_read A d K)
+edges_K A d K = sum_by (look_up_edges A) (look_ups_read A d K)
 
-abbrev pub rows_K : Automaton → List ℕ → (ℕ → Bool) → ℕ
-rows_K A d K = length (once row_same (rows_read A d K))
+abbrev pub look_ups_K : Automaton → List ℕ → (ℕ → Bool) → ℕ
+look_ups_K A d K = length (once look_up_same (look_ups_read A d K))
 
 abbrev pub weight_K : Automaton → List ℕ → (ℕ → Bool) → ℕ
 weight_K A d K =
-    let rows = rows_read A d K in
-    sum_by (λ set. 1 + length set) (once bytes_eq (map (λ (r : Row). r.set) rows))
-    + sum_by (λ r. 1 + row_edges A r) (once row_same rows)
+    let look_ups = look_ups_read A d K in
+    sum_by (λ set. 1 + length set) (once bytes_eq (map (λ (r : LookUp). r.set) look_ups))
+    + sum_by (λ r. 1 + look_up_edges A r) (once look_up_same look_ups)

@@ -7,7 +7,7 @@ pub fn reading_finds_the_accepted_words()
     ensures { ReadingLaw }
 {}
 
-/// A reduct makes no more edges, rows and weight than what it reduces.
+/// A reduct makes no more edges, look-ups and weight than what it reduces.
 pub fn a_reduct_costs_no_more()
     ensures { ReductMeasures }
 {}

@@ -3,7 +3,7 @@ ghost use Rattle.std.specs.Prelude.{◌≡◌, ◌≤◌, None, Some, map, optio
 ghost use Rattle.command_line.specs.declared.TheConstants.{MOST_MAX_TABLE, MOST_TRIAL_LINES};
 ghost use Rattle.command_line.specs.Short.{lines_of};
 ghost use Rattle.command_line.specs.Given.{given_view};
-ghost use Rattle.command_line.specs.Asked.{asked, asked_by, cursor_of, document_of, form_named, form_of, goes_with as mode_goes_with, has_no_page as no_page, limit_of, max_table_of, mode_of, names_input_twice as input_twice, number_of, query_of, query_view, request_view};
+ghost use Rattle.command_line.specs.RequestView.{requested, requested_by, cursor_of, document_of, form_named, form_of, goes_with as mode_goes_with, has_no_page as no_page, limit_of, max_table_of, mode_of, names_input_twice as input_twice, number_of, query_of, query_view, request_view};
 
 use crate::given::{Given, given_in};
 use crate::request::{Form, Mode, QuerySource, Request};
@@ -20,10 +20,10 @@ pub enum WordsFault {
 }
 
 /// What the words after the program's name ask for, where they are accepted.
-#[tactic(auto, using(crate::proofs::AskedLemmas::asked_when_taken, crate::proofs::AskedLemmas::asked_when_refused))]
+#[tactic(auto, using(crate::proofs::RequestedLemmas::requested_when_taken, crate::proofs::RequestedLemmas::requested_when_refused))]
 pub fn read_request<'a>(alloc: Global, words: &'a [String]) -> Result<Request<'a>, WordsFault>
-    ensures ok { IfOk result (λ request. asked (map string_bytes words.entry.now) ≡ Some (request_view request)) }
-    ensures refused { IsErrOf result WordsFault.Refused → asked (map string_bytes words.entry.now) ≡ None }
+    ensures ok { IfOk result (λ request. requested (map string_bytes words.entry.now) ≡ Some (request_view request)) }
+    ensures refused { IsErrOf result WordsFault.Refused → requested (map string_bytes words.entry.now) ≡ None }
 {
     match given_in(alloc, words) {
         Ok(given) => match checked(&given) {
@@ -35,9 +35,9 @@ pub fn read_request<'a>(alloc: Global, words: &'a [String]) -> Result<Request<'a
 }
 
 // What is asked for, where each check passes.
-#[tactic(auto, unfolding(crate::specs::Asked::asked_by))]
+#[tactic(auto, unfolding(crate::specs::RequestView::requested_by))]
 fn checked<'a>(given: &Given<'a>) -> Option<Request<'a>>
-    ensures { option_map request_view result ≡ asked_by (given_view given.now) }
+    ensures { option_map request_view result ≡ requested_by (given_view given.now) }
 {
     let query = query_asked(given)?;
     let limit = limit_asked(given)?;

@@ -4,17 +4,17 @@ use Rattle.std.specs.List.{flat_map}
 use Rattle.span_core.specs.Lists.{Has}
 use Rattle.marked_automaton.specs.Automaton.{Automaton, Marked}
 use Rattle.marked_automaton.specs.Reduct.{Reduces}
-use Rattle.automaton_reading.specs.Reading.{Row, weight_K}
+use Rattle.automaton_reading.specs.Reading.{LookUp, weight_K}
 use Rattle.growing_document.specs.Faults.{IsAppendFault, IsRowsFault}
 use Rattle.growing_document.specs.Grown.{Grown, IsAppended, IsAsked, at_start}
-use Rattle.growing_document.specs.Numbers.{end_rows, end_rows_at, weight_with}
+use Rattle.growing_document.specs.Numbers.{end_look_ups, end_look_ups_at, weight_with}
 use Rattle.growing_document.specs.declared.fault.GrowFault.TheVariants.{Full}
 
--- the end rows of the sets that are reached behind so many bytes of the document, for each of these numbers
-abbrev pub ends_at : Automaton → List ℕ → List ℕ → List Row
-ends_at A d lengths = flat_map (λ n. end_rows_at A (take n d)) lengths
+-- the end look-ups of the sets that are reached behind so many bytes of the document, for each of these numbers
+abbrev pub ends_at : Automaton → List ℕ → List ℕ → List LookUp
+ends_at A d lengths = flat_map (λ n. end_look_ups_at A (take n d)) lengths
 
--- what reading the document weighs, with these end rows
+-- what reading the document weighs, with these end look-ups
 abbrev pub weight_at : Automaton → List ℕ → List ℕ → ℕ
 weight_at A d lengths = weight_with A d (ends_at A d lengths)
 
@@ -28,12 +28,12 @@ WholeWeighs =
     (A : Automaton) (d : List ℕ) (K : ℕ → Bool) → ((i : ℕ) → i ≤ length d → IsTrue (K i)) →
     weight_at A d (length d ∷ []) ≡ weight_K A d K
 
--- the end rows that are held are of these lengths of the document, which are its own or were
+-- the end look-ups that are held are of these lengths of the document, which are its own or were
 pub record IsAskedAt (g : Grown) (lengths : List ℕ) : Type 0 where
   pub within : (n : ℕ) → Has lengths n → n ≤ length g.document
-  pub ends : (row : Row) → Has (end_rows g.rows) row → Has (ends_at g.automaton.graph g.document lengths) row
+  pub ends : (look_up : LookUp) → Has (end_look_ups g.look_ups) look_up → Has (ends_at g.automaton.graph g.document lengths) look_up
 
--- the lengths at which the rows were asked for tell which end rows are held, and so what a refusal for weight weighs at most
+-- the lengths at which the rows were asked for tell which end look-ups are held, and so what a refusal for weight weighs at most
 pub record LengthsLaw : Type 0 where
   pub start : (A : Marked) (limit : ℕ) → IsAskedAt (at_start A limit) []
   pub appended : (old new : Grown) (piece lengths : List ℕ) → IsAskedAt old lengths → IsAppended old piece new → IsAskedAt new lengths

@@ -7,7 +7,7 @@ ghost use Rattle.growing_document.specs.declared.fault.GrowFault.TheVariants.{Sp
 ghost use Rattle.growing_document.specs.Faults.{IsAppendFault, IsRowsFault, IsWeightFault, left_by};
 ghost use Rattle.growing_document.specs.Grown.{AcceptsRows, AreRowsRead, IsAppended, IsAsked, IsGrown, at_start, charge, credit, rows_steps};
 ghost use Rattle.growing_document.specs.Inside.{IsInside, seen};
-ghost use Rattle.growing_document.specs.Numbers.{end_rows};
+ghost use Rattle.growing_document.specs.Numbers.{end_look_ups};
 
 use crate::GrowFault;
 use crate::fault::grown_fault;
@@ -26,7 +26,7 @@ const MOST_BYTES: u64 = 268_435_456;
 /// A document that grows at its end, read as far as it goes.
 ///
 /// It is seen as the automaton that it is read by, the limit of weight, the document, whether it is read no more, how many sets
-/// are reached behind its last byte, how many cells are live, and the rows that are held.
+/// are reached behind its last byte, how many cells are live, and the look-ups that are held.
 #[derive(Drop)]
 pub struct Growing {
     alloc: Global,
@@ -78,7 +78,7 @@ impl Growing {
 
     /// Puts a piece behind the document, and reads it. `Spent` comes exactly where an append was refused before by `Full` or
     /// want of memory; it is tried first. `TooLong` comes exactly where the document would have more than 2^28 bytes, and tells how
-    /// many; nothing changes. `Full` comes only where what reading the document with the piece meets, with the end rows that are held,
+    /// many; nothing changes. `Full` comes only where what reading the document with the piece meets, with the end look-ups that are held,
     /// weighs more than the limit.
     ///
     /// What it takes is told by two numbers: `charge` rises by what it may take, and `credit` by what it leaves in hand.
@@ -116,16 +116,16 @@ impl Growing {
     }
 
     /// The rows of the whole document so far, in block order. The document and its graph stay as they are. `Full` comes only where
-    /// what reading it meets, with the end rows that are held and those of the sets behind its last byte, weighs more than the limit.
+    /// what reading it meets, with the end look-ups that are held and those of the sets behind its last byte, weighs more than the limit.
     ///
     /// It takes no more steps than `rows_steps`, in which the length of the document does not stand, and the size of the automaton for
-    /// each end row that it makes first.
+    /// each end look-up that it makes first.
     pub fn rows<L: Ledger>(&mut self, steps: &mut Steps<L>) -> Result<Enumerator, GrowFault>
         ensures rows { IfOk result (λ e. AreRowsRead self.old.automaton self.old.document e.whole) }
         ensures first { IfOk result (λ e. e.rest ≡ e.whole) }
         ensures variables { IfOk result (λ e. e.variables ≡ length self.old.automaton.names) }
         ensures asked { IsAsked self.old self.new }
-        ensures steps { self.old.spent ≡ false → steps.new + length (end_rows self.old.rows) * size self.old.automaton.graph ≤ steps.old + rows_steps self.old + length (end_rows self.new.rows) * size self.old.automaton.graph }
+        ensures steps { self.old.spent ≡ false → steps.new + length (end_look_ups self.old.look_ups) * size self.old.automaton.graph ≤ steps.old + rows_steps self.old + length (end_look_ups self.new.look_ups) * size self.old.automaton.graph }
         ensures spent { self.old.spent ≡ true → IsErrOf result Spent }
         ensures fault { IfErr result (IsRowsFault self.old) }
     {
@@ -208,7 +208,7 @@ fn rows_of<L: Ledger>(
     ensures first { IfOk result (λ e. e.rest ≡ e.whole) }
     ensures variables { IfOk result (λ e. e.variables ≡ length automaton.now.names) }
     ensures asked { IsAsked (seen automaton.now limit document.now.items reading.old) (seen automaton.now limit document.now.items reading.new) }
-    ensures steps { (seen automaton.now limit document.now.items reading.old).spent ≡ false → steps.new + length (end_rows (seen automaton.now limit document.now.items reading.old).rows) * size automaton.now.graph ≤ steps.old + rows_steps (seen automaton.now limit document.now.items reading.old) + length (end_rows (seen automaton.now limit document.now.items reading.new).rows) * size automaton.now.graph }
+    ensures steps { (seen automaton.now limit document.now.items reading.old).spent ≡ false → steps.new + length (end_look_ups (seen automaton.now limit document.now.items reading.old).look_ups) * size automaton.now.graph ≤ steps.old + rows_steps (seen automaton.now limit document.now.items reading.old) + length (end_look_ups (seen automaton.now limit document.now.items reading.new).look_ups) * size automaton.now.graph }
     ensures spent { (seen automaton.now limit document.now.items reading.old).spent ≡ true → IsErrOf result Spent }
     ensures fault { IfErr result (IsRowsFault (seen automaton.now limit document.now.items reading.old)) }
 {

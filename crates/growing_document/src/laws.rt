@@ -8,7 +8,7 @@ pub fn appends_take_no_more_than_the_whole()
     ensures { AppendsLaw }
 {}
 
-/// The end rows that are held are of the lengths at which the rows were asked for, so that what a refusal for weight weighs is told by
+/// The end look-ups that are held are of the lengths at which the rows were asked for, so that what a refusal for weight weighs is told by
 /// the document and these lengths alone.
 pub fn what_is_held_is_told_by_the_lengths_asked()
     ensures { LengthsLaw }

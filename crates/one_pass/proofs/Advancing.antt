@@ -14,7 +14,7 @@ use Rattle.one_pass.specs.Held.{TableView, StaysOn}
 use Rattle.output_graph.specs.Graph.{Source}
 use Rattle.one_pass.specs.Layers.{no_source, source_at}
 use Rattle.one_pass.specs.Faults.{IsFaultAt}
-use Rattle.one_pass.specs.Places.{Place, byte_at, bytes_at}
+use Rattle.one_pass.specs.Places.{ReadingPlace, byte_at, bytes_at}
 use Rattle.one_pass.specs.Passes.{AllStayOn, Pass, IsReady, HasRead, HasStopped, Stop}
 use Rattle.one_pass.proofs.Composing.{stopped_before}
 use Rattle.one_pass.proofs.Faulting.{both_read, bytes_more, bytes_split, fault_before, read_none, ready_later, then_fault, then_stopped}
@@ -44,10 +44,10 @@ module _ (P : Pass) (at : ℕ) (piece : List ℕ) (i : ℕ) (Q : Pass) (past : I
     abbrev b : ℕ
     b = get_or piece i 0
 
-    abbrev front : List Place
+    abbrev front : List ReadingPlace
     front = bytes_at at (take i piece)
 
-    abbrev here : List Place
+    abbrev here : List ReadingPlace
     here = byte_at (at + i) b ∷ []
 
     -- one byte more has been read

@@ -5,29 +5,29 @@ use Rattle.std.specs.Borrow.{Bor}
 use Rattle.span_core.specs.Lists.{Has}
 use Rattle.span_core.proofs.HasLaws.{Has-map}
 use Rattle.span_core.specs.declared.edge.Edge.{Edge}
-use Rattle.automaton_reading.specs.Reading.{Asked, byte_read, rest_taken, ended, Reach, edges, rest_edge}
+use Rattle.automaton_reading.specs.Reading.{Question, byte_read, rest_taken, ended, Reach, edges, rest_edge}
 use Rattle.set_table.specs.declared.fault.TableFault.{TableFault}
 use Rattle.set_table.specs.declared.fault.TableFault.TheVariants.{Full, OutOfMemory}
 use Rattle.set_table.specs.Tabled.{Asking, HasEdges, HasEnds, HasRest, IsRefusal, IsTabled, Stays, Tabled, asking, edge_named, idle_of, once_asked}
 use Rattle.output_graph.specs.Graph.{Graph}
 use Rattle.one_pass.specs.Causes.{HasCause}
-use Rattle.one_pass.specs.Held.{AreNumbered, HasMade, StaysOn, marks_of, rest_edges, row_of, set_named}
-use Rattle.one_pass.specs.Seen.{held, row_in}
+use Rattle.one_pass.specs.Held.{AreNumbered, HasMade, StaysOn, marks_of, rest_edges, look_up_of, set_named}
+use Rattle.one_pass.specs.Seen.{held, look_up_in}
 use Rattle.one_pass.specs.Turned.{HasNotTurned}
 use Rattle.one_pass.proofs.TableBridge.{held_heavy, held_made, held_numbered}
 
 -- ---- the two ways out of a call
 
-pub row_ok : (t0 t : Tabled) (r : Asking) (o : Result (Bor (List Edge)) TableFault) (es : Bor (List Edge)) →
+pub look_up_ok : (t0 t : Tabled) (r : Asking) (o : Result (Bor (List Edge)) TableFault) (es : Bor (List Edge)) →
     MatchResult o (λ es. (t ≡ once_asked t0 r) × HasEdges t r es.now) (λ e. (t ≡ t0) × IsRefusal (once_asked t0 r) e) → o ≡ Ok es →
     (t ≡ once_asked t0 r) × HasEdges t r es.now
-row_ok t0 t r o es h e =
+look_up_ok t0 t r o es h e =
     subst (λ (o : Result (Bor (List Edge)) TableFault). MatchResult o (λ es. (t ≡ once_asked t0 r) × HasEdges t r es.now) (λ e. (t ≡ t0) × IsRefusal (once_asked t0 r) e)) e h
 
-pub row_err : (t0 t : Tabled) (r : Asking) (o : Result (Bor (List Edge)) TableFault) (f : TableFault) →
+pub look_up_err : (t0 t : Tabled) (r : Asking) (o : Result (Bor (List Edge)) TableFault) (f : TableFault) →
     MatchResult o (λ es. (t ≡ once_asked t0 r) × HasEdges t r es.now) (λ e. (t ≡ t0) × IsRefusal (once_asked t0 r) e) → o ≡ Err f →
     (t ≡ t0) × IsRefusal (once_asked t0 r) f
-row_err t0 t r o f h e =
+look_up_err t0 t r o f h e =
     subst (λ (o : Result (Bor (List Edge)) TableFault). MatchResult o (λ es. (t ≡ once_asked t0 r) × HasEdges t r es.now) (λ e. (t ≡ t0) × IsRefusal (once_asked t0 r) e)) e h
 
 pub ends_ok : (t0 t : Tabled) (k : ℕ) (o : Result (Bor (List ℕ)) TableFault) (ms : Bor (List ℕ)) →
@@ -44,8 +44,8 @@ ends_err t0 t k o f h e =
 
 -- ---- what was asked
 
-module _ (t0 : Tabled) (tabled : IsTabled t0) (set : ℕ) (ask : Asked) (given : set < length t0.sets) where
-  pub cause_is : (e : TableFault) → IsRefusal (once_asked t0 (asking set ask)) e → HasCause (held t0) (row_of (held t0) set ask) e
+module _ (t0 : Tabled) (tabled : IsTabled t0) (set : ℕ) (ask : Question) (given : set < length t0.sets) where
+  pub cause_is : (e : TableFault) → IsRefusal (once_asked t0 (asking set ask)) e → HasCause (held t0) (look_up_of (held t0) set ask) e
   cause_is (Full w) h = held_heavy t0 tabled (asking set ask) given w h.0 h.1
   cause_is OutOfMemory h = tt
 
@@ -53,16 +53,16 @@ module _ (t0 : Tabled) (tabled : IsTabled t0) (set : ℕ) (ask : Asked) (given :
   refused_is t g before after same one = inl (ap held same, record { steps = omega (arith, one) })
 
   module _ (t : Tabled) (is : t ≡ once_asked t0 (asking set ask)) (now : IsTabled t) (before middle : ℕ) (one : middle ≡ before + 1) where
-    pub made_is : HasMade (held t0) (held t) (row_of (held t0) set ask) before middle
+    pub made_is : HasMade (held t0) (held t) (look_up_of (held t0) set ask) before middle
     made_is =
-        subst (λ u. HasMade (held t0) (held u) (row_of (held t0) set ask) before middle) (sym is)
-        (subst (λ n. HasMade (held t0) (held (once_asked t0 (asking set ask))) (row_of (held t0) set ask) before n) (sym one)
+        subst (λ u. HasMade (held t0) (held u) (look_up_of (held t0) set ask) before middle) (sym is)
+        (subst (λ n. HasMade (held t0) (held (once_asked t0 (asking set ask))) (look_up_of (held t0) set ask) before n) (sym one)
         (held_made t0 tabled (asking set ask) given before (subst IsTabled is now)))
 
     pub graph_refused_is : (g : Graph) (after : ℕ) → after ≡ middle → HasNotTurned t0 t set ask g before after
     graph_refused_is g after same = inr (middle, made_is, same)
 
-pub numbered_is : (t : Tabled) (set : ℕ) (ask : Asked) (es : List Edge) → HasEdges t (asking set ask) es → AreNumbered (held t) es (edges t.graph (set_named (held t) set) ask)
+pub numbered_is : (t : Tabled) (set : ℕ) (ask : Question) (es : List Edge) → HasEdges t (asking set ask) es → AreNumbered (held t) es (edges t.graph (set_named (held t) set) ask)
 numbered_is t set ask es h = held_numbered t es (edges t.graph (set_named (held t) set) ask) h.named h.targets
 
 marks_back : (ms : List ℕ) → marks_of (map (λ m. let r : Reach = record { marks = m; to = [] } in r) ms) ≡ ms
@@ -82,8 +82,8 @@ rest_numbered t set (Some k) h = by (idle_of t set) refl
 
 -- ---- what was asked before
 
-pub asked_is : (t : Tabled) (set : ℕ) (ask : Asked) → Has t.asked (asking set ask) → Has (held t).rows (row_of (held t) set ask)
-asked_is t set ask h = Has-map (row_in t.sets) t.asked (asking set ask) h
+pub asked_is : (t : Tabled) (set : ℕ) (ask : Question) → Has t.asked (asking set ask) → Has (held t).look_ups (look_up_of (held t) set ask)
+asked_is t set ask h = Has-map (look_up_in t.sets) t.asked (asking set ask) h
 
 -- ---- bytes that change nothing
 

@@ -4,19 +4,19 @@ use Rattle.std.proofs.lemmas.List.{append-nil, get_or_append_left}
 use Rattle.span_core.specs.Lists.{Has, AreDistinct}
 use Rattle.span_core.proofs.HasLaws.{Has-append_left, Has-append_right, Has-append_cases, Has-get_or, Has-map, Has-map_cases}
 use Rattle.marked_automaton.specs.Automaton.{Automaton}
-use Rattle.automaton_reading.specs.Reading.{Asked, byte_read, rest_taken, ended, Row, next_sets, rows_asked}
+use Rattle.automaton_reading.specs.Reading.{Question, byte_read, rest_taken, ended, LookUp, next_sets, look_ups_asked}
 use Rattle.one_pass.specs.Held.{TableView, set_named, weight_of}
 use Rattle.one_pass.specs.Words.{Word}
 use Rattle.output_graph.specs.Graph.{Source}
 use Rattle.one_pass.specs.Layers.{numbers_of}
-use Rattle.one_pass.specs.Places.{Place, Leads, asks, edges_read, sets_after, sets_met, sets_on}
+use Rattle.one_pass.specs.Places.{ReadingPlace, Leads, asks, edges_read, sets_after, sets_met, sets_on}
 use Rattle.one_pass.specs.Passes.{Pass, sets_of, Reaches, IsReady, HasGrown, HasRead, HasStopped, HasStoppedAt, Stop, IsExcess}
 use Rattle.one_pass.specs.Making.{making_read}
 use Rattle.one_pass.proofs.Making.{making_append, making_covers}
 use Rattle.one_pass.proofs.ReadWords.{leads_then, then_leads}
-use Rattle.one_pass.proofs.Sets.{Covers, after_covers, met_covers, rows_covers, edges_covers, after_append, edges_append, met_left, met_right, rows_append, rows_left, rows_right, weight_covers}
+use Rattle.one_pass.proofs.Sets.{Covers, after_covers, met_covers, look_ups_covers, edges_covers, after_append, edges_append, met_left, met_right, look_ups_append, look_ups_left, look_ups_right, weight_covers}
 
-pub asks_append : (ps qs : List Place) → asks (ps ++ qs) ≡ asks ps ++ asks qs
+pub asks_append : (ps qs : List ReadingPlace) → asks (ps ++ qs) ≡ asks ps ++ asks qs
 asks_append [] qs = refl
 asks_append (p ∷ ps) qs = ap (λ questions. p.ask ∷ questions) (asks_append ps qs)
 
@@ -45,14 +45,14 @@ ready_distinct P at r = layer_distinct P.table P.graph.layer r.sound.sets r.give
 
 -- ---- what a table holds
 
-pub grown_named : (old new : TableView) (sets : List (List ℕ)) (rows : List Row) → HasGrown old new sets rows → (k : ℕ) → k < length old.sets → set_named new k ≡ set_named old k
-grown_named old new sets rows g k h =
+pub grown_named : (old new : TableView) (sets : List (List ℕ)) (look_ups : List LookUp) → HasGrown old new sets look_ups → (k : ℕ) → k < length old.sets → set_named new k ≡ set_named old k
+grown_named old new sets look_ups g k h =
     ap (λ (xs : List (List ℕ)). get_or xs k []) (sym g.kept.1) ∙ get_or_append_left old.sets g.kept.0 [] k h
 
-pub grown_length : (old new : TableView) (sets : List (List ℕ)) (rows : List Row) → HasGrown old new sets rows → length old.sets ≤ length new.sets
-grown_length old new sets rows g = omega (arith, ap length g.kept.1, length-append old.sets g.kept.0)
+pub grown_length : (old new : TableView) (sets : List (List ℕ)) (look_ups : List LookUp) → HasGrown old new sets look_ups → length old.sets ≤ length new.sets
+grown_length old new sets look_ups g = omega (arith, ap length g.kept.1, length-append old.sets g.kept.0)
 
-pub grown_then : (a b c : TableView) (xs ys zs : List (List ℕ)) (rs qs os : List Row) → HasGrown a b xs rs → HasGrown b c ys qs →
+pub grown_then : (a b c : TableView) (xs ys zs : List (List ℕ)) (rs qs os : List LookUp) → HasGrown a b xs rs → HasGrown b c ys qs →
     Covers zs xs → Covers zs ys → Covers os rs → Covers os qs → HasGrown a c zs os
 grown_then a b c xs ys zs rs qs os g h zx zy or oq = record {
   graph = h.graph ∙ g.graph;
@@ -62,27 +62,27 @@ grown_then a b c xs ys zs rs qs os g h zx zy or oq = record {
     | inl old ↦ elim (g.sets set old) as (λ _. Has a.sets set ⊎ Has zs set) [ inl o ↦ inl o | inr n ↦ inr (zx set n) ]
     | inr new ↦ inr (zy set new)
   ];
-  rows = λ row k. elim (h.rows row k) as (λ _. Has a.rows row ⊎ Has os row) [
-    | inl old ↦ elim (g.rows row old) as (λ _. Has a.rows row ⊎ Has os row) [ inl o ↦ inl o | inr n ↦ inr (or row n) ]
-    | inr new ↦ inr (oq row new)
+  look_ups = λ look_up k. elim (h.look_ups look_up k) as (λ _. Has a.look_ups look_up ⊎ Has os look_up) [
+    | inl old ↦ elim (g.look_ups look_up old) as (λ _. Has a.look_ups look_up ⊎ Has os look_up) [ inl o ↦ inl o | inr n ↦ inr (or look_up n) ]
+    | inr new ↦ inr (oq look_up new)
   ];
-  stay = λ row k. h.stay row (g.stay row k);
+  stay = λ look_up k. h.stay look_up (g.stay look_up k);
 }
 
-pub grown_none : (t : TableView) (sets : List (List ℕ)) (rows : List Row) → HasGrown t t sets rows
-grown_none t sets rows = record { graph = refl; limit = refl; kept = ([], append-nil t.sets); sets = λ set h. inl h; rows = λ row h. inl h; stay = λ row h. h }
+pub grown_none : (t : TableView) (sets : List (List ℕ)) (look_ups : List LookUp) → HasGrown t t sets look_ups
+grown_none t sets look_ups = record { graph = refl; limit = refl; kept = ([], append-nil t.sets); sets = λ set h. inl h; look_ups = λ look_up h. inl h; stay = λ look_up h. h }
 
-pub grown_more : (a b : TableView) (xs zs : List (List ℕ)) (rs os : List Row) → HasGrown a b xs rs → Covers zs xs → Covers os rs → HasGrown a b zs os
+pub grown_more : (a b : TableView) (xs zs : List (List ℕ)) (rs os : List LookUp) → HasGrown a b xs rs → Covers zs xs → Covers os rs → HasGrown a b zs os
 grown_more a b xs zs rs os g zx or = grown_then a b b xs xs zs rs rs os g (grown_none b xs rs) zx zx or or
 
 -- what is more than the limit at a later time was so before
-pub excess_grown : (a b : TableView) (xs ys zs : List (List ℕ)) (rs qs os : List Row) (weight : ℕ) → HasGrown a b xs rs → IsExcess b ys qs weight →
+pub excess_grown : (a b : TableView) (xs ys zs : List (List ℕ)) (rs qs os : List LookUp) (weight : ℕ) → HasGrown a b xs rs → IsExcess b ys qs weight →
     Covers zs xs → Covers zs ys → Covers os rs → Covers os qs → IsExcess a zs os weight
 excess_grown a b xs ys zs rs qs os weight g x zx zy or oq = record {
   more = subst (λ l. l < weight) g.limit x.more;
   most =
-      let same : weight ≤ weight_of a.graph (b.sets ++ ys) (b.rows ++ qs) = subst (λ A. weight ≤ weight_of A (b.sets ++ ys) (b.rows ++ qs)) g.graph x.most in
-      let less = weight_covers a.graph (a.sets ++ zs) (b.sets ++ ys) (a.rows ++ os) (b.rows ++ qs) some_set some_row in
+      let same : weight ≤ weight_of a.graph (b.sets ++ ys) (b.look_ups ++ qs) = subst (λ A. weight ≤ weight_of A (b.sets ++ ys) (b.look_ups ++ qs)) g.graph x.most in
+      let less = weight_covers a.graph (a.sets ++ zs) (b.sets ++ ys) (a.look_ups ++ os) (b.look_ups ++ qs) some_set some_look_up in
       omega (arith, less, same);
 }
   where
@@ -96,19 +96,19 @@ excess_grown a b xs ys zs rs qs os weight g x zx zy or oq = record {
           | inr new ↦ Has-append_right a.sets zs set (zy set new)
         ]
 
-    some_row : Covers (a.rows ++ os) (b.rows ++ qs)
-    some_row row h =
-        elim (Has-append_cases b.rows qs row h) [
-          | inl old ↦ elim (g.rows row old) [
-            | inl o ↦ Has-append_left a.rows os row o
-            | inr n ↦ Has-append_right a.rows os row (or row n)
+    some_look_up : Covers (a.look_ups ++ os) (b.look_ups ++ qs)
+    some_look_up look_up h =
+        elim (Has-append_cases b.look_ups qs look_up h) [
+          | inl old ↦ elim (g.look_ups look_up old) [
+            | inl o ↦ Has-append_left a.look_ups os look_up o
+            | inr n ↦ Has-append_right a.look_ups os look_up (or look_up n)
           ]
-          | inr new ↦ Has-append_right a.rows os row (oq row new)
+          | inr new ↦ Has-append_right a.look_ups os look_up (oq look_up new)
         ]
 
 -- ---- two lists of places
 
-module _ (A : Automaton) (ps qs : List Place) (P Q : Pass) (read : HasRead A ps P Q) where
+module _ (A : Automaton) (ps qs : List ReadingPlace) (P Q : Pass) (read : HasRead A ps P Q) where
   covers : Covers (sets_after A (sets_of P) (asks ps)) (sets_of Q)
   covers set h = (read.sets set).0 h
 
@@ -123,13 +123,13 @@ module _ (A : Automaton) (ps qs : List Place) (P Q : Pass) (read : HasRead A ps 
       subst (λ questions. Has (sets_met A (sets_of P) questions) set) (sym all_asks)
       (met_right A (sets_of P) (asks ps) (asks qs) set (met_covers A (sets_after A (sets_of P) (asks ps)) (sets_of Q) (asks qs) covers set h))
 
-  pub rows_first : Covers (rows_asked A (sets_of P) (asks (ps ++ qs))) (rows_asked A (sets_of P) (asks ps))
-  rows_first row h = subst (λ questions. Has (rows_asked A (sets_of P) questions) row) (sym all_asks) (rows_left A (sets_of P) (asks ps) (asks qs) row h)
+  pub look_ups_first : Covers (look_ups_asked A (sets_of P) (asks (ps ++ qs))) (look_ups_asked A (sets_of P) (asks ps))
+  look_ups_first look_up h = subst (λ questions. Has (look_ups_asked A (sets_of P) questions) look_up) (sym all_asks) (look_ups_left A (sets_of P) (asks ps) (asks qs) look_up h)
 
-  pub rows_then : Covers (rows_asked A (sets_of P) (asks (ps ++ qs))) (rows_asked A (sets_of Q) (asks qs))
-  rows_then row h =
-      subst (λ questions. Has (rows_asked A (sets_of P) questions) row) (sym all_asks)
-      (rows_right A (sets_of P) (asks ps) (asks qs) row (rows_covers A (sets_after A (sets_of P) (asks ps)) (sets_of Q) (asks qs) covers row h))
+  pub look_ups_then : Covers (look_ups_asked A (sets_of P) (asks (ps ++ qs))) (look_ups_asked A (sets_of Q) (asks qs))
+  look_ups_then look_up h =
+      subst (λ questions. Has (look_ups_asked A (sets_of P) questions) look_up) (sym all_asks)
+      (look_ups_right A (sets_of P) (asks ps) (asks qs) look_up (look_ups_covers A (sets_after A (sets_of P) (asks ps)) (sets_of Q) (asks qs) covers look_up h))
 
   edges_both : AreDistinct (sets_of Q) →
       edges_read A (sets_of P) (asks ps) + edges_read A (sets_of Q) (asks qs) ≤ edges_read A (sets_of P) (asks (ps ++ qs))
@@ -158,8 +158,8 @@ module _ (A : Automaton) (ps qs : List Place) (P Q : Pass) (read : HasRead A ps 
     );
     table = grown_then P.table Q.table R.table
         (sets_met A (sets_of P) (asks ps)) (sets_met A (sets_of Q) (asks qs)) (sets_met A (sets_of P) (asks (ps ++ qs)))
-        (rows_asked A (sets_of P) (asks ps)) (rows_asked A (sets_of Q) (asks qs)) (rows_asked A (sets_of P) (asks (ps ++ qs)))
-        read.table later.table met_first met_then rows_first rows_then;
+        (look_ups_asked A (sets_of P) (asks ps)) (look_ups_asked A (sets_of Q) (asks qs)) (look_ups_asked A (sets_of P) (asks (ps ++ qs)))
+        read.table later.table met_first met_then look_ups_first look_ups_then;
     holds = all_held;
     steps = omega (arith, read.steps, later.steps, edges_both distinct);
     cells = omega (arith, read.cells, later.cells, edges_both distinct);
@@ -169,14 +169,14 @@ module _ (A : Automaton) (ps qs : List Place) (P Q : Pass) (read : HasRead A ps 
       all_after : sets_after A (sets_of P) (asks (ps ++ qs)) ≡ sets_after A (sets_after A (sets_of P) (asks ps)) (asks qs)
       all_after = ap (sets_after A (sets_of P)) all_asks ∙ after_append A (sets_of P) (asks ps) (asks qs)
 
-      all_held : Covers R.table.rows (rows_asked A (sets_of P) (asks (ps ++ qs)))
-      all_held row h =
-          let all = ap (rows_asked A (sets_of P)) all_asks ∙ rows_append A (sets_of P) (asks ps) (asks qs) in
+      all_held : Covers R.table.look_ups (look_ups_asked A (sets_of P) (asks (ps ++ qs)))
+      all_held look_up h =
+          let all = ap (look_ups_asked A (sets_of P)) all_asks ∙ look_ups_append A (sets_of P) (asks ps) (asks qs) in
           elim (
-          Has-append_cases (rows_asked A (sets_of P) (asks ps)) (rows_asked A (sets_after A (sets_of P) (asks ps)) (asks qs)) row (subst (λ (rows : List Row). Has rows row) all h)
-          ) as (λ _. Has R.table.rows row) [
-            | inl first ↦ later.table.stay row (read.holds row first)
-            | inr last ↦ later.holds row (rows_covers A (sets_of Q) (sets_after A (sets_of P) (asks ps)) (asks qs) (λ s k. (read.sets s).1 k) row last)
+          Has-append_cases (look_ups_asked A (sets_of P) (asks ps)) (look_ups_asked A (sets_after A (sets_of P) (asks ps)) (asks qs)) look_up (subst (λ (look_ups : List LookUp). Has look_ups look_up) all h)
+          ) as (λ _. Has R.table.look_ups look_up) [
+            | inl first ↦ later.table.stay look_up (read.holds look_up first)
+            | inr last ↦ later.holds look_up (look_ups_covers A (sets_of Q) (sets_after A (sets_of P) (asks ps)) (asks qs) (λ s k. (read.sets s).1 k) look_up last)
           ]
 
       there : (set : List ℕ) (w : Word) → Reaches R set w →
@@ -208,49 +208,49 @@ module _ (A : Automaton) (ps qs : List Place) (P Q : Pass) (read : HasRead A ps 
   stopped_then after distinct later = record {
     table = grown_then P.table Q.table after.table
         (sets_met A (sets_of P) (asks ps)) (sets_met A (sets_of Q) (asks qs)) (sets_met A (sets_of P) (asks (ps ++ qs)))
-        (rows_asked A (sets_of P) (asks ps)) (rows_asked A (sets_of Q) (asks qs)) (rows_asked A (sets_of P) (asks (ps ++ qs)))
-        read.table later.table met_first met_then rows_first rows_then;
+        (look_ups_asked A (sets_of P) (asks ps)) (look_ups_asked A (sets_of Q) (asks qs)) (look_ups_asked A (sets_of P) (asks (ps ++ qs)))
+        read.table later.table met_first met_then look_ups_first look_ups_then;
     sound = later.sound;
     made = later.made;
     distinct = later.distinct;
     few = later.few;
-    rows = λ row h. elim (later.rows row h) as (λ _. Has P.table.rows row ⊎ Has (rows_asked A (sets_of P) (asks (ps ++ qs))) row) [
-      | inl old ↦ elim (read.table.rows row old) as (λ _. Has P.table.rows row ⊎ Has (rows_asked A (sets_of P) (asks (ps ++ qs))) row) [
+    look_ups = λ look_up h. elim (later.look_ups look_up h) as (λ _. Has P.table.look_ups look_up ⊎ Has (look_ups_asked A (sets_of P) (asks (ps ++ qs))) look_up) [
+      | inl old ↦ elim (read.table.look_ups look_up old) as (λ _. Has P.table.look_ups look_up ⊎ Has (look_ups_asked A (sets_of P) (asks (ps ++ qs))) look_up) [
         | inl o ↦ inl o
-        | inr n ↦ inr (rows_first row n)
+        | inr n ↦ inr (look_ups_first look_up n)
       ]
-      | inr new ↦ inr (rows_then row new)
+      | inr new ↦ inr (look_ups_then look_up new)
     ];
     steps = omega (arith, read.steps, later.steps, edges_both distinct);
   }
 
 -- what one place leads to
-pub on_met : (A : Automaton) (sets : List (List ℕ)) (a : Asked) → Covers (sets_met A sets (a ∷ [])) (sets_on A sets a)
+pub on_met : (A : Automaton) (sets : List (List ℕ)) (a : Question) → Covers (sets_met A sets (a ∷ [])) (sets_on A sets a)
 on_met A sets (byte_read b) set k = Has-append_right sets (next_sets A sets (byte_read b)) set k
 on_met A sets rest_taken set k = Has-append_right sets (next_sets A sets rest_taken) set k
 on_met A sets ended set k = absurd k
 
 -- what was given up at one place
-pub stopped_at : (A : Automaton) (p : Place) (P : Pass) (S : Stop) → HasStoppedAt A p P S → HasStopped A (p ∷ []) P S
-stopped_at A p P S s = record { table = grown_more P.table S.table (sets_on A (sets_of P) p.ask) (sets_met A (sets_of P) (p.ask ∷ [])) (rows_asked A (sets_of P) (p.ask ∷ [])) (rows_asked A (sets_of P) (p.ask ∷ [])) s.table (on_met A (sets_of P) p.ask) (λ row h. h); sound = s.sound; made = s.made; distinct = s.distinct; few = s.few; rows = s.rows; steps = omega (arith, s.steps) }
+pub stopped_at : (A : Automaton) (p : ReadingPlace) (P : Pass) (S : Stop) → HasStoppedAt A p P S → HasStopped A (p ∷ []) P S
+stopped_at A p P S s = record { table = grown_more P.table S.table (sets_on A (sets_of P) p.ask) (sets_met A (sets_of P) (p.ask ∷ [])) (look_ups_asked A (sets_of P) (p.ask ∷ [])) (look_ups_asked A (sets_of P) (p.ask ∷ [])) s.table (on_met A (sets_of P) p.ask) (λ look_up h. h); sound = s.sound; made = s.made; distinct = s.distinct; few = s.few; look_ups = s.look_ups; steps = omega (arith, s.steps) }
 
 -- ---- what was given up before more places
 
-module _ (A : Automaton) (ps qs : List Place) (P : Pass) where
+module _ (A : Automaton) (ps qs : List ReadingPlace) (P : Pass) where
   pub stopped_before : (after : Stop) → HasStopped A ps P after → HasStopped A (ps ++ qs) P after
   stopped_before after s = record {
     table = grown_more P.table after.table
         (sets_met A (sets_of P) (asks ps)) (sets_met A (sets_of P) (asks (ps ++ qs)))
-        (rows_asked A (sets_of P) (asks ps)) (rows_asked A (sets_of P) (asks (ps ++ qs))) s.table
+        (look_ups_asked A (sets_of P) (asks ps)) (look_ups_asked A (sets_of P) (asks (ps ++ qs))) s.table
         (λ set h. subst (λ questions. Has (sets_met A (sets_of P) questions) set) (sym (asks_append ps qs)) (met_left A (sets_of P) (asks ps) (asks qs) set h))
-        (λ row h. subst (λ questions. Has (rows_asked A (sets_of P) questions) row) (sym (asks_append ps qs)) (rows_left A (sets_of P) (asks ps) (asks qs) row h));
+        (λ look_up h. subst (λ questions. Has (look_ups_asked A (sets_of P) questions) look_up) (sym (asks_append ps qs)) (look_ups_left A (sets_of P) (asks ps) (asks qs) look_up h));
     sound = s.sound;
     made = s.made;
     distinct = s.distinct;
     few = s.few;
-    rows = λ row h. elim (s.rows row h) as (λ _. Has P.table.rows row ⊎ Has (rows_asked A (sets_of P) (asks (ps ++ qs))) row) [
+    look_ups = λ look_up h. elim (s.look_ups look_up h) as (λ _. Has P.table.look_ups look_up ⊎ Has (look_ups_asked A (sets_of P) (asks (ps ++ qs))) look_up) [
       | inl old ↦ inl old
-      | inr new ↦ inr (subst (λ questions. Has (rows_asked A (sets_of P) questions) row) (sym (asks_append ps qs)) (rows_left A (sets_of P) (asks ps) (asks qs) row new))
+      | inr new ↦ inr (subst (λ questions. Has (look_ups_asked A (sets_of P) questions) look_up) (sym (asks_append ps qs)) (look_ups_left A (sets_of P) (asks ps) (asks qs) look_up new))
     ];
     steps =
         let all = ap (edges_read A (sets_of P)) (asks_append ps qs) ∙ edges_append A (sets_of P) (asks ps) (asks qs) in

@@ -5,15 +5,15 @@ use Rattle.std.proofs.lemmas.List.{append-nil, length-map}
 use Rattle.span_core.specs.Lists.{Has}
 use Rattle.span_core.proofs.HasLaws.{Has-append_left, Has-append_right, Has-append_cases, Has-map, Has-map_cases}
 use Rattle.marked_automaton.specs.Automaton.{Automaton}
-use Rattle.automaton_reading.specs.Reading.{ended, Reach, Row, edges, rows_asked}
-use Rattle.one_pass.specs.Held.{TableView, HasMade, marks_of, row_of, set_named}
+use Rattle.automaton_reading.specs.Reading.{ended, Reach, LookUp, edges, look_ups_asked}
+use Rattle.one_pass.specs.Held.{TableView, HasMade, marks_of, look_up_of, set_named}
 use Rattle.one_pass.specs.Words.{Word, block_word}
 use Rattle.output_graph.specs.Graph.{Source}
 use Rattle.one_pass.specs.Layers.{GraphView, HasCost, BringsEnd}
 use Rattle.one_pass.specs.Places.{end_at, Leads}
 use Rattle.one_pass.specs.Passes.{Pass, pass, sets_of, Reaches, IsReady, HasEnded}
 use Rattle.one_pass.proofs.ReadWords.{end_to}
-use Rattle.one_pass.proofs.Stepping.{source_edges, place_edges, IsSpending, rows_held, spending_none, spending_more}
+use Rattle.one_pass.proofs.Stepping.{source_edges, place_edges, IsSpending, look_ups_held, spending_none, spending_more}
 
 module _ (A : Automaton) (n : ℕ) (P : Pass) where
   -- an end of one of these sources makes the word
@@ -36,7 +36,7 @@ module _ (A : Automaton) (n : ℕ) (P : Pass) where
       none w h = h
 
   module _ (done : List Source) (Q : Pass) (x : Source) (is : P.table.graph ≡ A) (there : Has P.graph.layer x) (known : x.set < length P.table.sets)
-      (past : IsEnding done Q) (t : TableView) (m : ℕ) (made : HasMade Q.table t (row_of Q.table x.set ended) Q.steps m)
+      (past : IsEnding done Q) (t : TableView) (m : ℕ) (made : HasMade Q.table t (look_up_of Q.table x.set ended) Q.steps m)
       (ms : List ℕ) (marks : ms ≡ marks_of (source_edges A (end_at n) P x)) where
     marks_count : length ms ≡ length (source_edges A (end_at n) P x)
     marks_count = ap length marks ∙ length-map (source_edges A (end_at n) P x) (λ (e : Reach). e.marks)
@@ -84,13 +84,13 @@ module _ (A : Automaton) (n : ℕ) (P : Pass) where
       limit = all.spent.table.limit;
       kept = all.spent.table.kept;
       sets = all.spent.table.sets;
-      rows = λ row h. elim (all.spent.table.rows row h) as (λ _. Has P.table.rows row ⊎ Has (rows_asked A (sets_of P) (ended ∷ [])) row) [
+      look_ups = λ look_up h. elim (all.spent.table.look_ups look_up h) as (λ _. Has P.table.look_ups look_up ⊎ Has (look_ups_asked A (sets_of P) (ended ∷ [])) look_up) [
         | inl old ↦ inl old
-        | inr new ↦ inr (Has-append_left (map (λ set. let r : Row = record { set = set; ask = ended } in r) (sets_of P)) [] row new)
+        | inr new ↦ inr (Has-append_left (map (λ set. let r : LookUp = record { set = set; ask = ended } in r) (sets_of P)) [] look_up new)
       ];
       stay = all.spent.table.stay;
     };
-    holds = rows_held A (end_at n) P Q.table.rows all.spent.holds;
+    holds = look_ups_held A (end_at n) P Q.table.look_ups all.spent.holds;
     every = (let l = ap (λ (xs : List Source). length xs) all.spent.layer in omega (arith, all.spent.stepped, l));
     sound = all.spent.sound;
     steps = omega (arith, all.spent.steps, place_edges A (end_at n) P);

@@ -4,14 +4,14 @@ use Rattle.std.proofs.Math.Seq.{drop-cons}
 use Rattle.std.proofs.lemmas.List.{append-nil, length-take-le, take-append-drop, take_more}
 use Rattle.span_core.specs.Lists.{Has}
 use Rattle.marked_automaton.specs.Automaton.{Automaton}
-use Rattle.automaton_reading.specs.Reading.{rows_asked}
+use Rattle.automaton_reading.specs.Reading.{look_ups_asked}
 use Rattle.set_table.specs.declared.fault.TableFault.{TableFault}
 use Rattle.set_table.specs.declared.fault.TableFault.TheVariants.{Full, OutOfMemory}
 use Rattle.one_pass.specs.Faults.{IsFaultAt, IsFaultOf}
-use Rattle.one_pass.specs.Places.{Place, asks, byte_at, bytes_at, sets_met}
+use Rattle.one_pass.specs.Places.{ReadingPlace, asks, byte_at, bytes_at, sets_met}
 use Rattle.one_pass.specs.Passes.{Pass, sets_of, IsReady, HasRead, HasStopped, Stop}
-use Rattle.one_pass.proofs.Composing.{asks_append, excess_grown, grown_none, met_first, met_then, read_then, ready_distinct, rows_first, rows_then, stopped_then}
-use Rattle.one_pass.proofs.Sets.{Covers, met_left, rows_left}
+use Rattle.one_pass.proofs.Composing.{asks_append, excess_grown, grown_none, met_first, met_then, read_then, ready_distinct, look_ups_first, look_ups_then, stopped_then}
+use Rattle.one_pass.proofs.Sets.{Covers, met_left, look_ups_left}
 
 -- ready for a position, and so for a later one
 pub ready_later : (P : Pass) (at later : ℕ) → IsReady P at → at ≤ later → IsReady P later
@@ -35,7 +35,7 @@ read_none A P = record {
   );
   sets = λ set. (λ h. h, λ h. h);
   table = grown_none P.table (sets_of P) [];
-  holds = λ row h. absurd h;
+  holds = λ look_up h. absurd h;
   steps = omega arith;
   cells = omega arith;
   rise = omega arith;
@@ -43,7 +43,7 @@ read_none A P = record {
 
 -- ---- after some places
 
-module _ (ps qs : List Place) (P Q : Pass) (at : ℕ) (read : HasRead P.table.graph ps P Q) (ready : IsReady Q at) where
+module _ (ps qs : List ReadingPlace) (P Q : Pass) (at : ℕ) (read : HasRead P.table.graph ps P Q) (ready : IsReady Q at) where
   pub both_read : (R : Pass) → HasRead Q.table.graph qs Q R → HasRead P.table.graph (ps ++ qs) P R
   both_read R later =
       read_then P.table.graph ps qs P Q read R (ready_distinct Q at ready) (subst (λ A. HasRead A qs Q R) read.table.graph later)
@@ -55,34 +55,34 @@ module _ (ps qs : List Place) (P Q : Pass) (at : ℕ) (read : HasRead P.table.gr
   pub then_fault : (e : TableFault) → IsFaultAt qs Q e → IsFaultAt (ps ++ qs) P e
   then_fault (Full weight) x =
       let A = P.table.graph in
-      let same = subst (λ B. IsFaultOf Q.table (sets_met B (sets_of Q) (asks qs)) (rows_asked B (sets_of Q) (asks qs)) (Full weight)) read.table.graph x in
+      let same = subst (λ B. IsFaultOf Q.table (sets_met B (sets_of Q) (asks qs)) (look_ups_asked B (sets_of Q) (asks qs)) (Full weight)) read.table.graph x in
       excess_grown P.table Q.table
       (sets_met A (sets_of P) (asks ps)) (sets_met A (sets_of Q) (asks qs)) (sets_met A (sets_of P) (asks (ps ++ qs)))
-      (rows_asked A (sets_of P) (asks ps)) (rows_asked A (sets_of Q) (asks qs)) (rows_asked A (sets_of P) (asks (ps ++ qs)))
+      (look_ups_asked A (sets_of P) (asks ps)) (look_ups_asked A (sets_of Q) (asks qs)) (look_ups_asked A (sets_of P) (asks (ps ++ qs)))
       weight read.table same
-      (met_first A ps qs P Q read) (met_then A ps qs P Q read) (rows_first A ps qs P Q read) (rows_then A ps qs P Q read)
+      (met_first A ps qs P Q read) (met_then A ps qs P Q read) (look_ups_first A ps qs P Q read) (look_ups_then A ps qs P Q read)
   then_fault OutOfMemory x = tt
 
 -- ---- before others
 
-module _ (ps qs : List Place) (P : Pass) where
+module _ (ps qs : List ReadingPlace) (P : Pass) where
   pub fault_before : (e : TableFault) → IsFaultAt ps P e → IsFaultAt (ps ++ qs) P e
   fault_before (Full weight) x =
       let A = P.table.graph in
       let met = sets_met A (sets_of P) (asks (ps ++ qs)) in
-      let rows = rows_asked A (sets_of P) (asks (ps ++ qs)) in
+      let look_ups = look_ups_asked A (sets_of P) (asks (ps ++ qs)) in
       excess_grown P.table P.table
       (sets_met A (sets_of P) (asks ps)) (sets_met A (sets_of P) (asks ps)) met
-      (rows_asked A (sets_of P) (asks ps)) (rows_asked A (sets_of P) (asks ps)) rows
-      weight (grown_none P.table (sets_met A (sets_of P) (asks ps)) (rows_asked A (sets_of P) (asks ps))) x more_sets more_sets more_rows more_rows
+      (look_ups_asked A (sets_of P) (asks ps)) (look_ups_asked A (sets_of P) (asks ps)) look_ups
+      weight (grown_none P.table (sets_met A (sets_of P) (asks ps)) (look_ups_asked A (sets_of P) (asks ps))) x more_sets more_sets more_look_ups more_look_ups
     where
       more_sets : Covers (sets_met P.table.graph (sets_of P) (asks (ps ++ qs))) (sets_met P.table.graph (sets_of P) (asks ps))
       more_sets set h =
           subst (λ questions. Has (sets_met P.table.graph (sets_of P) questions) set) (sym (asks_append ps qs)) (met_left P.table.graph (sets_of P) (asks ps) (asks qs) set h)
 
-      more_rows : Covers (rows_asked P.table.graph (sets_of P) (asks (ps ++ qs))) (rows_asked P.table.graph (sets_of P) (asks ps))
-      more_rows row h =
-          subst (λ questions. Has (rows_asked P.table.graph (sets_of P) questions) row) (sym (asks_append ps qs)) (rows_left P.table.graph (sets_of P) (asks ps) (asks qs) row h)
+      more_look_ups : Covers (look_ups_asked P.table.graph (sets_of P) (asks (ps ++ qs))) (look_ups_asked P.table.graph (sets_of P) (asks ps))
+      more_look_ups look_up h =
+          subst (λ questions. Has (look_ups_asked P.table.graph (sets_of P) questions) look_up) (sym (asks_append ps qs)) (look_ups_left P.table.graph (sets_of P) (asks ps) (asks qs) look_up h)
   fault_before OutOfMemory x = tt
 
 -- ---- the bytes of a piece, one after another

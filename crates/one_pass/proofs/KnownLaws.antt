@@ -10,13 +10,13 @@ use Rattle.span_core.proofs.HasLaws.{Has-take_more_cases}
 use Rattle.span_core.specs.declared.edge.Edge.{Edge}
 use Rattle.marked_automaton.specs.Automaton.{Automaton}
 use Rattle.span_core.specs.Lists.{Has}
-use Rattle.automaton_reading.specs.Reading.{Row, byte_read, Reach, edges}
+use Rattle.automaton_reading.specs.Reading.{LookUp, byte_read, Reach, edges}
 use Rattle.set_table.specs.Tabled.{with_set}
 use Rattle.output_graph.specs.Source.{Edges}
 use Rattle.output_graph.proofs.SetLaws.{get_left, get_set_other, get_set_same, take_all}
 use Rattle.one_pass.specs.declared.known.KnownStep.{KnownStep}
-use Rattle.one_pass.specs.Held.{TableView, AreNumbered, StaysOn, row_of, set_named}
-use Rattle.one_pass.specs.Known.{AreRows, AreStill, IsEntry, IsKnown, IsRow, IsStepOf, layer_at}
+use Rattle.one_pass.specs.Held.{TableView, AreNumbered, StaysOn, look_up_of, set_named}
+use Rattle.one_pass.specs.Known.{AreLookUps, AreStill, IsEntry, IsKnown, IsLookUp, IsStepOf, layer_at}
 use Rattle.one_pass.specs.Passes.{HasGrown}
 
 some_is : {X : Type 0} (x y : X) → Some x ≡ Some y → x ≡ y
@@ -24,7 +24,7 @@ some_is x y e = cc
 
 -- ---- a table that grows
 
-module _ (t u : TableView) (more : List (List ℕ)) (graph : u.graph ≡ t.graph) (kept : t.sets ++ more ≡ u.sets) (stay : (row : Row) → Has t.rows row → Has u.rows row) where
+module _ (t u : TableView) (more : List (List ℕ)) (graph : u.graph ≡ t.graph) (kept : t.sets ++ more ≡ u.sets) (stay : (look_up : LookUp) → Has t.look_ups look_up → Has u.look_ups look_up) where
   named_grown : (s : ℕ) → s < length t.sets → set_named u s ≡ set_named t s
   named_grown s h = ap (λ (xs : List (List ℕ)). get_or xs s []) (sym kept) ∙ get_or_append_left t.sets more [] s h
 
@@ -42,12 +42,12 @@ module _ (t u : TableView) (more : List (List ℕ)) (graph : u.graph ≡ t.graph
   edges_grown s b h =
       ap (λ (A : Automaton). edges A (set_named t s) (byte_read b)) (sym graph) ∙ ap (λ (set : List ℕ). edges u.graph set (byte_read b)) (sym (named_grown s h))
 
-  asked_grown : (b s : ℕ) → s < length t.sets → Has t.rows (row_of t s (byte_read b)) → Has u.rows (row_of u s (byte_read b))
+  asked_grown : (b s : ℕ) → s < length t.sets → Has t.look_ups (look_up_of t s (byte_read b)) → Has u.look_ups (look_up_of u s (byte_read b))
   asked_grown b s h there =
-      subst (λ (set : List ℕ). Has u.rows (let r : Row = record { set = set; ask = byte_read b } in r)) (sym (named_grown s h)) (stay (row_of t s (byte_read b)) there)
+      subst (λ (set : List ℕ). Has u.look_ups (let r : LookUp = record { set = set; ask = byte_read b } in r)) (sym (named_grown s h)) (stay (look_up_of t s (byte_read b)) there)
 
-  row_grown : (b s : ℕ) (group : Edges) → IsRow t b s group → IsRow u b s group
-  row_grown b s group r = record {
+  look_up_grown : (b s : ℕ) (group : Edges) → IsLookUp t b s group → IsLookUp u b s group
+  look_up_grown b s group r = record {
     given = given_grown s r.given;
     asked = asked_grown b s r.given r.asked;
     by = r.by;
@@ -55,11 +55,11 @@ module _ (t u : TableView) (more : List (List ℕ)) (graph : u.graph ≡ t.graph
     numbered = subst (λ (rs : List Reach). AreNumbered u r.by rs) (edges_grown s b r.given) (numbered_grown r.by (edges t.graph (set_named t s) (byte_read b)) r.numbered);
   }
 
-  rows_grown : (b : ℕ) (sets : List ℕ) (groups : List Edges) → AreRows t b sets groups → AreRows u b sets groups
-  rows_grown b [] [] r = tt
-  rows_grown b [] (g ∷ groups) r = absurd r
-  rows_grown b (s ∷ sets) [] r = absurd r
-  rows_grown b (s ∷ sets) (g ∷ groups) r = (row_grown b s g r.0, rows_grown b sets groups r.1)
+  look_ups_grown : (b : ℕ) (sets : List ℕ) (groups : List Edges) → AreLookUps t b sets groups → AreLookUps u b sets groups
+  look_ups_grown b [] [] r = tt
+  look_ups_grown b [] (g ∷ groups) r = absurd r
+  look_ups_grown b (s ∷ sets) [] r = absurd r
+  look_ups_grown b (s ∷ sets) (g ∷ groups) r = (look_up_grown b s g r.0, look_ups_grown b sets groups r.1)
 
   still_grown : (b : ℕ) (sets : List ℕ) → AreStill t b sets → AreStill u b sets
   still_grown b sets still s h =
@@ -74,7 +74,7 @@ module _ (t u : TableView) (more : List (List ℕ)) (graph : u.graph ≡ t.graph
   entry_grown : (layers : List (List ℕ)) (steps : List KnownStep) (b : ℕ) (sets : List ℕ) (e : ℕ) → IsEntry t layers steps b sets e → IsEntry u layers steps b sets e
   entry_grown layers steps b sets e (inl none) = inl none
   entry_grown layers steps b sets e (inr (inl still)) = inr (inl (still.0, still_grown b sets still.1))
-  entry_grown layers steps b sets e (inr (inr (p, step, is, at, of))) = inr (inr (p, step, is, at, record { rows = rows_grown b sets step.program.groups of.rows; next = of.next }))
+  entry_grown layers steps b sets e (inr (inr (p, step, is, at, of))) = inr (inr (p, step, is, at, record { look_ups = look_ups_grown b sets step.program.groups of.look_ups; next = of.next }))
 
   pub known_grown : (layers : List (List ℕ)) (entries : List ℕ) (steps : List KnownStep) → IsKnown t layers entries steps → IsKnown u layers entries steps
   known_grown layers entries steps k = record {
@@ -82,8 +82,8 @@ module _ (t u : TableView) (more : List (List ℕ)) (graph : u.graph ≡ t.graph
     each = λ l b e small at. entry_grown layers steps b (layer_at layers l) e (k.each l b e small at);
   }
 
-pub known_read : (t u : TableView) (sets : List (List ℕ)) (rows : List _) (layers : List (List ℕ)) (entries : List ℕ) (steps : List KnownStep) → HasGrown t u sets rows → IsKnown t layers entries steps → IsKnown u layers entries steps
-known_read t u sets rows layers entries steps g k = known_grown t u g.kept.0 g.graph g.kept.1 g.stay layers entries steps k
+pub known_read : (t u : TableView) (sets : List (List ℕ)) (look_ups : List _) (layers : List (List ℕ)) (entries : List ℕ) (steps : List KnownStep) → HasGrown t u sets look_ups → IsKnown t layers entries steps → IsKnown u layers entries steps
+known_read t u sets look_ups layers entries steps g k = known_grown t u g.kept.0 g.graph g.kept.1 g.stay layers entries steps k
 
 -- ---- nothing is known
 
@@ -128,7 +128,7 @@ known_layer t layers entries steps s known = record {
     still_true : (b : ℕ) (sets : List ℕ) (e : ℕ) → IsEntry t layers steps b sets e → IsEntry t (with_set layers s) steps b sets e
     still_true b sets e (inl none) = inl none
     still_true b sets e (inr (inl still)) = inr (inl still)
-    still_true b sets e (inr (inr (p, step, is, at, of))) = inr (inr (p, step, is, at, record { rows = of.rows; next = with_keeps layers s step.next step.program.targets of.next }))
+    still_true b sets e (inr (inr (p, step, is, at, of))) = inr (inr (p, step, is, at, record { look_ups = of.look_ups; next = with_keeps layers s step.next step.program.targets of.next }))
 
 -- ---- more entries, which are unknown
 
@@ -182,9 +182,9 @@ last_there (x ∷ steps) step = last_there steps step
 
 -- the step that came last
 pub entry_last : (t : TableView) (layers : List (List ℕ)) (steps : List KnownStep) (step : KnownStep) (b : ℕ) (sets : List ℕ) (place e : ℕ) → place ≡ length steps → e ≡ place + 2 →
-    AreRows t b sets step.program.groups → slice_get layers step.next ≡ Some step.program.targets → IsEntry t layers (steps ++ step ∷ []) b sets e
-entry_last t layers steps step b sets place e is sum rows next =
-    inr (inr (length steps, step, omega arith, last_there steps step, record { rows = rows; next = next }))
+    AreLookUps t b sets step.program.groups → slice_get layers step.next ≡ Some step.program.targets → IsEntry t layers (steps ++ step ∷ []) b sets e
+entry_last t layers steps step b sets place e is sum look_ups next =
+    inr (inr (length steps, step, omega arith, last_there steps step, record { look_ups = look_ups; next = next }))
 
 -- ---- one entry more
 
@@ -208,19 +208,19 @@ known_entry t layers entries steps k b e at small is within entry known = record
     set_length (y ∷ xs) zero x = refl
     set_length (y ∷ xs) (suc i) x = ap suc (set_length xs i x)
 
--- ---- the rows of a layer, one after another
+-- ---- the look-ups of a layer, one after another
 
-pub rows_more : (t : TableView) (b : ℕ) (sets : List ℕ) (groups : List Edges) (s : ℕ) (group : Edges) → AreRows t b sets groups → IsRow t b s group → AreRows t b (sets ++ s ∷ []) (groups ++ group ∷ [])
-rows_more t b [] [] s group all one = (one, tt)
-rows_more t b [] (g ∷ groups) s group all one = absurd all
-rows_more t b (r ∷ sets) [] s group all one = absurd all
-rows_more t b (r ∷ sets) (g ∷ groups) s group all one = (all.0, rows_more t b sets groups s group all.1 one)
+pub look_ups_more : (t : TableView) (b : ℕ) (sets : List ℕ) (groups : List Edges) (s : ℕ) (group : Edges) → AreLookUps t b sets groups → IsLookUp t b s group → AreLookUps t b (sets ++ s ∷ []) (groups ++ group ∷ [])
+look_ups_more t b [] [] s group all one = (one, tt)
+look_ups_more t b [] (g ∷ groups) s group all one = absurd all
+look_ups_more t b (r ∷ sets) [] s group all one = absurd all
+look_ups_more t b (r ∷ sets) (g ∷ groups) s group all one = (all.0, look_ups_more t b sets groups s group all.1 one)
 
-pub rows_length : (t : TableView) (b : ℕ) (sets : List ℕ) (groups : List Edges) → AreRows t b sets groups → length groups ≡ length sets
-rows_length t b [] [] all = refl
-rows_length t b [] (g ∷ groups) all = absurd all
-rows_length t b (s ∷ sets) [] all = absurd all
-rows_length t b (s ∷ sets) (g ∷ groups) all = ap suc (rows_length t b sets groups all.1)
+pub look_ups_length : (t : TableView) (b : ℕ) (sets : List ℕ) (groups : List Edges) → AreLookUps t b sets groups → length groups ≡ length sets
+look_ups_length t b [] [] all = refl
+look_ups_length t b [] (g ∷ groups) all = absurd all
+look_ups_length t b (s ∷ sets) [] all = absurd all
+look_ups_length t b (s ∷ sets) (g ∷ groups) all = ap suc (look_ups_length t b sets groups all.1)
 
 -- ---- sets that are still, one after another
 
@@ -275,8 +275,8 @@ sets_more sets k s at = ap (λ n. take n sets) (add-one k) ∙ by sets k s at
     by (x ∷ xs) zero s at = ap (λ y. y ∷ []) (some_is x s at)
     by (x ∷ xs) (suc k) s at = ap (λ (ys : List ℕ). x ∷ ys) (by xs k s at)
 
-pub rows_next : (t : TableView) (b : ℕ) (sets : List ℕ) (k : ℕ) (groups later : List Edges) (group : Edges) → k < length sets → AreRows t b (take k sets) groups → IsRow t b (get_or sets k 0) group →
-    later ≡ groups ++ group ∷ [] → AreRows t b (take (k + 1) sets) later
-rows_next t b sets k groups later group within all one is =
-    subst (λ (gs : List Edges). AreRows t b (take (k + 1) sets) gs) (sym is)
-    (subst (λ (ss : List ℕ). AreRows t b ss (groups ++ group ∷ [])) (sym (take_more sets k 0 within)) (rows_more t b (take k sets) groups (get_or sets k 0) group all one))
+pub look_ups_next : (t : TableView) (b : ℕ) (sets : List ℕ) (k : ℕ) (groups later : List Edges) (group : Edges) → k < length sets → AreLookUps t b (take k sets) groups → IsLookUp t b (get_or sets k 0) group →
+    later ≡ groups ++ group ∷ [] → AreLookUps t b (take (k + 1) sets) later
+look_ups_next t b sets k groups later group within all one is =
+    subst (λ (gs : List Edges). AreLookUps t b (take (k + 1) sets) gs) (sym is)
+    (subst (λ (ss : List ℕ). AreLookUps t b ss (groups ++ group ∷ [])) (sym (take_more sets k 0 within)) (look_ups_more t b (take k sets) groups (get_or sets k 0) group all one))

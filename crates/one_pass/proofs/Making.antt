@@ -8,7 +8,7 @@ use Rattle.std.proofs.lemmas.List.Sums.{sum_by-append, sum_by-le-sum_by}
 use Rattle.span_core.specs.Lists.{Has, AreDistinct}
 use Rattle.span_core.specs.declared.edge.Edge.{Edge}
 use Rattle.marked_automaton.specs.Automaton.{Automaton}
-use Rattle.automaton_reading.specs.Reading.{Asked, Reach, edges, next_sets}
+use Rattle.automaton_reading.specs.Reading.{Question, Reach, edges, next_sets}
 use Rattle.automaton_reading.proofs.Matching.{cons_sum}
 use Rattle.automaton_reading.proofs.MeasureLaws.{bytes_itself}
 use Rattle.one_pass.specs.Making.{edges_from, edges_to, is_making, making_at, making_of, making_read, one_if}
@@ -42,7 +42,7 @@ sum_has f (y ∷ xs) x (inl e) = let s = cons_sum f y xs in let same = ap f e in
 sum_has f (y ∷ xs) x (inr h) = let s = cons_sum f y xs in let r = sum_has f xs x h in omega (arith, s, r)
 
 -- an edge to the set is one of those that are counted
-pub leads_once : (A : Automaton) (a : Asked) (to set : List ℕ) (e : Reach) → Has (edges A set a) e → e.to ≡ to → 1 ≤ edges_from A a to set
+pub leads_once : (A : Automaton) (a : Question) (to set : List ℕ) (e : Reach) → Has (edges A set a) e → e.to ≡ to → 1 ≤ edges_from A a to set
 leads_once A a to set e h is =
     let f : Reach → ℕ = λ r. one_if (bytes_eq r.to to) in
     let here : one_if (bytes_eq e.to to) ≡ 1 = ap one_if (ap (λ s. bytes_eq s to) is ∙ bytes_itself to) in
@@ -50,7 +50,7 @@ leads_once A a to set e h is =
     omega (arith, here, all)
 
 -- edges of two sets, one behind the other, are two
-pub led_twice : (A : Automaton) (sets : List (List ℕ)) (a : Asked) (to : List ℕ) {X : Type 0} (f : X → List ℕ) (done : List X) (x : X) (left all : List X) →
+pub led_twice : (A : Automaton) (sets : List (List ℕ)) (a : Question) (to : List ℕ) {X : Type 0} (f : X → List ℕ) (done : List X) (x : X) (left all : List X) →
     done ++ x ∷ left ≡ all → sets ≡ map f all → (y : X) → Has done y → 1 ≤ edges_from A a to (f y) → 1 ≤ edges_from A a to (f x) → 2 ≤ edges_to A sets a to
 led_twice A sets a to {X} f done x left all split are y h one two =
     let g : X → ℕ = λ z. edges_from A a to (f z) in
@@ -71,7 +71,7 @@ lone_edge (f ∷ g ∷ es) e n h none = absurd (omega (arith, n))
 module _ (A : Automaton) where
   -- ---- one set
 
-  module _ (sets : List (List ℕ)) (a : Asked) (set : List ℕ) where
+  module _ (sets : List (List ℕ)) (a : Question) (set : List ℕ) where
     all_making : (rs : List Reach) → ((r : Reach) → is_making A sets a set r ≡ true) → sum_by (λ (e : Reach). one_if (is_making A sets a set e)) rs ≡ length rs
     all_making [] h = refl
     all_making (r ∷ rs) h =
@@ -109,30 +109,30 @@ module _ (A : Automaton) where
 
   -- ---- sets in any order
 
-  to_covers : (xs ys : List (List ℕ)) (a : Asked) (to : List ℕ) → AreDistinct ys → Covers xs ys → edges_to A ys a to ≤ edges_to A xs a to
+  to_covers : (xs ys : List (List ℕ)) (a : Question) (to : List ℕ) → AreDistinct ys → Covers xs ys → edges_to A ys a to ≤ edges_to A xs a to
   to_covers xs ys a to distinct cover = sum_covers (edges_from A a to) xs ys distinct cover
 
-  making_more : (xs ys : List (List ℕ)) (a : Asked) (set : List ℕ) → AreDistinct ys → Covers xs ys → making_of A ys a set ≤ making_of A xs a set
+  making_more : (xs ys : List (List ℕ)) (a : Question) (set : List ℕ) → AreDistinct ys → Covers xs ys → making_of A ys a set ≤ making_of A xs a set
   making_more xs ys a set distinct cover =
       sum_by-le-sum_by (λ (e : Reach). one_if (is_making A ys a set e)) (λ (e : Reach). one_if (is_making A xs a set e)) (edges A set a)
       (λ e. one_more_if (is_making A ys a set e) (is_making A xs a set e)
       (or_more (nat_lt 0 e.marks) _ _ (or_more (nat_lt 1 (length (edges A set a))) _ _
       (lt_more 1 (edges_to A ys a e.to) (edges_to A xs a e.to) (to_covers xs ys a e.to distinct cover)))))
 
-  at_covers : (xs ys : List (List ℕ)) (a : Asked) → AreDistinct ys → Covers xs ys → making_at A ys a ≤ making_at A xs a
+  at_covers : (xs ys : List (List ℕ)) (a : Question) → AreDistinct ys → Covers xs ys → making_at A ys a ≤ making_at A xs a
   at_covers xs ys a distinct cover =
       let one = sum_by-le-sum_by (making_of A ys a) (making_of A xs a) ys (λ set. making_more xs ys a set distinct cover) in
       let two = sum_covers (making_of A xs a) xs ys distinct cover in
       omega (arith, one, two)
 
-  pub making_covers : (xs ys : List (List ℕ)) (questions : List Asked) → AreDistinct ys → Covers xs ys → making_read A ys questions ≤ making_read A xs questions
+  pub making_covers : (xs ys : List (List ℕ)) (questions : List Question) → AreDistinct ys → Covers xs ys → making_read A ys questions ≤ making_read A xs questions
   making_covers xs ys [] distinct cover = omega arith
   making_covers xs ys (a ∷ questions) distinct cover =
       let here = at_covers xs ys a distinct cover in
       let rest = making_covers (next_sets A xs a) (next_sets A ys a) questions (next_distinct A ys a) (next_covers A xs ys a cover) in
       omega (arith, here, rest)
 
-  pub making_append : (sets : List (List ℕ)) (questions more : List Asked) →
+  pub making_append : (sets : List (List ℕ)) (questions more : List Question) →
       making_read A sets (questions ++ more) ≡ making_read A sets questions + making_read A (sets_after A sets questions) more
   making_append sets [] more = omega arith
   making_append sets (a ∷ questions) more = let r = making_append (next_sets A sets a) questions more in omega (arith, r)

@@ -8,7 +8,7 @@ use Rattle.span_core.specs.declared.edge.Edge.{Edge}
 use Rattle.marked_automaton.specs.declared.way.Way.{Way}
 use Rattle.marked_automaton.specs.declared.way.Stop.{Stop}
 use Rattle.marked_automaton.specs.Automaton.{Automaton}
-use Rattle.automaton_reading.specs.Reading.{Asked, byte_read, rest_taken, ended, Reach, blocks_down, edges, is_among, reach_with, rest_edge, ways_taken}
+use Rattle.automaton_reading.specs.Reading.{Question, byte_read, rest_taken, ended, Reach, blocks_down, edges, is_among, reach_with, rest_edge, ways_taken}
 use Rattle.automaton_reading.proofs.MeasureLaws.{IsDown, blocks_are_down}
 use Rattle.one_pass.specs.Held.{TableView, AreNumbered, marks_of}
 use Rattle.one_pass.specs.Layers.{Descend, DescendMarks}
@@ -63,7 +63,7 @@ rest_descends : (ps : List ℕ) → DescendMarks (marks_of (rest_edge ps))
 rest_descends [] = tt
 rest_descends (p ∷ ps) = (λ k h. absurd h, tt)
 
-pub edges_descend : (A : Automaton) (set : List ℕ) (a : Asked) → DescendMarks (marks_of (edges A set a))
+pub edges_descend : (A : Automaton) (set : List ℕ) (a : Question) → DescendMarks (marks_of (edges A set a))
 edges_descend A set (byte_read b) =
     let ms = blocks_down (map (λ (y : Way). y.marks) (ways_taken A set b)) in
     subst DescendMarks (sym (marks_by (reach_with (ways_taken A set b)) ms (λ m. refl)))
@@ -74,5 +74,5 @@ edges_descend A set ended =
     subst DescendMarks (sym (marks_by (λ m. let r : Reach = record { marks = m; to = [] } in r) (blocks_down stops) (λ m. refl)))
     (down_descends (blocks_down stops) (blocks_are_down stops))
 
-pub numbered_descend : (t : TableView) (A : Automaton) (set : List ℕ) (a : Asked) (es : List Edge) → AreNumbered t es (edges A set a) → Descend es
+pub numbered_descend : (t : TableView) (A : Automaton) (set : List ℕ) (a : Question) (es : List Edge) → AreNumbered t es (edges A set a) → Descend es
 numbered_descend t A set a es n = subst DescendMarks (sym (numbered_marks t es (edges A set a) n)) (edges_descend A set a)

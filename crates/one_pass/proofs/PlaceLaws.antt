@@ -5,16 +5,16 @@ use Rattle.std.proofs.lemmas.List.{append-nil}
 use Rattle.span_core.specs.Lists.{Has, AreDistinct}
 use Rattle.span_core.proofs.HasLaws.{Has-append_left, Has-append_cases, Has-map, Has-map_cases}
 use Rattle.marked_automaton.specs.Automaton.{Automaton}
-use Rattle.automaton_reading.specs.Reading.{Reach, Row, edges, next_sets, rows_asked}
-use Rattle.one_pass.specs.Held.{row_of, set_named}
+use Rattle.automaton_reading.specs.Reading.{Reach, LookUp, edges, next_sets, look_ups_asked}
+use Rattle.one_pass.specs.Held.{look_up_of, set_named}
 use Rattle.one_pass.specs.Words.{Word, block_word}
 use Rattle.output_graph.specs.Graph.{Source}
 use Rattle.one_pass.specs.Layers.{GraphView, IsPast, numbers_of}
-use Rattle.one_pass.specs.Places.{Place, Leads, sets_met}
+use Rattle.one_pass.specs.Places.{ReadingPlace, Leads, sets_met}
 use Rattle.one_pass.specs.Passes.{Pass, pass, sets_of, Reaches, IsReady, HasGrown, HasRead}
 use Rattle.one_pass.proofs.Sets.{Covers, next_cases, has_next}
 use Rattle.one_pass.proofs.Composing.{grown_none}
-use Rattle.one_pass.proofs.Stepping.{Arrives, HasNext, source_edges, LeadsWith, place_edges, place_making, IsStepping, met_here, rows_held}
+use Rattle.one_pass.proofs.Stepping.{Arrives, HasNext, source_edges, LeadsWith, place_edges, place_making, IsStepping, met_here, look_ups_held}
 
 pub no_marks : (i m : ℕ) (b : ℕ × ℕ) → m ≡ 0 → Has (block_word i m) b → ⊥
 no_marks i m b e h = none (subst (λ k. Has (block_word i k) b) e h)
@@ -30,12 +30,12 @@ block_at i m b h = go (nat_eq m 0) h
     go false (inl e) = ap (λ (c : ℕ × ℕ). c.0) (sym e)
     go false (inr h) = absurd h
 
-module _ (A : Automaton) (p : Place) (P : Pass) where
-  abbrev asked_rows : List Row
-  asked_rows = map (λ set. let r : Row = record { set = set; ask = p.ask } in r) (sets_of P)
+module _ (A : Automaton) (p : ReadingPlace) (P : Pass) where
+  abbrev asked_look_ups : List LookUp
+  asked_look_ups = map (λ set. let r : LookUp = record { set = set; ask = p.ask } in r) (sets_of P)
 
-  rows_here : Covers (rows_asked A (sets_of P) (p.ask ∷ [])) asked_rows
-  rows_here row h = Has-append_left asked_rows [] row h
+  look_ups_here : Covers (look_ups_asked A (sets_of P) (p.ask ∷ [])) asked_look_ups
+  look_ups_here look_up h = Has-append_left asked_look_ups [] look_up h
 
   module _ (Q : Pass) (all : IsStepping A p P P.graph.layer Q) (g : GraphView) (layer : g.layer ≡ Q.graph.next) (live : g.live ≡ Q.graph.live) where
     abbrev R : Pass
@@ -64,7 +64,7 @@ module _ (A : Automaton) (p : Place) (P : Pass) where
       words = λ set w. (there set w, back set w);
       sets = λ set. (set_there set, set_back set);
       table = grown;
-      holds = rows_held A p P Q.table.rows all.spent.holds;
+      holds = look_ups_held A p P Q.table.look_ups all.spent.holds;
       steps = omega (arith, all.spent.steps, all.few, place_edges A p P, live, ap length layer);
       cells = omega (arith, all.spent.cells, place_edges A p P, live);
       rise = omega (arith, all.rise, place_making A p P, live);
@@ -109,7 +109,7 @@ module _ (A : Automaton) (p : Place) (P : Pass) where
             let x = Has-map_cases (λ (x : Source). set_named P.table x.set) P.graph.layer c.0 c.1 in
             next_set set ((all.sets set).1 (x.0, x.1, c.2, subst (λ s. Has (edges A s p.ask) c.2) (sym x.2) c.3, c.4))
 
-        grown : HasGrown P.table Q.table (sets_met A (sets_of P) (p.ask ∷ [])) (rows_asked A (sets_of P) (p.ask ∷ []))
+        grown : HasGrown P.table Q.table (sets_met A (sets_of P) (p.ask ∷ [])) (look_ups_asked A (sets_of P) (p.ask ∷ []))
         grown = record {
           graph = all.spent.table.graph;
           limit = all.spent.table.limit;
@@ -118,9 +118,9 @@ module _ (A : Automaton) (p : Place) (P : Pass) where
             | inl old ↦ inl old
             | inr new ↦ inr (met_here A p P set new)
           ];
-          rows = λ row h. elim (all.spent.table.rows row h) as (λ _. Has P.table.rows row ⊎ Has (rows_asked A (sets_of P) (p.ask ∷ [])) row) [
+          look_ups = λ look_up h. elim (all.spent.table.look_ups look_up h) as (λ _. Has P.table.look_ups look_up ⊎ Has (look_ups_asked A (sets_of P) (p.ask ∷ [])) look_up) [
             | inl old ↦ inl old
-            | inr new ↦ inr (rows_here row new)
+            | inr new ↦ inr (look_ups_here look_up new)
           ];
           stay = all.spent.table.stay;
         }
@@ -152,7 +152,7 @@ module _ (A : Automaton) (p : Place) (P : Pass) where
   abbrev pub AllStay : Type 0
   AllStay =
       (x : Source) → Has P.graph.layer x →
-      Has P.table.rows (row_of P.table x.set p.ask) × (source_edges A p P x ≡ record { marks = 0; to = set_named P.table x.set } ∷ [])
+      Has P.table.look_ups (look_up_of P.table x.set p.ask) × (source_edges A p P x ≡ record { marks = 0; to = set_named P.table x.set } ∷ [])
 
   pub stays_read : AllStay → HasRead A (p ∷ []) P P
   stays_read stays = record {
@@ -174,8 +174,8 @@ module _ (A : Automaton) (p : Place) (P : Pass) where
       back set w,
     );
     sets = λ set. (set_there set, set_back set);
-    table = grown_none P.table (sets_met A (sets_of P) (p.ask ∷ [])) (rows_asked A (sets_of P) (p.ask ∷ []));
-    holds = rows_held A p P P.table.rows (λ x h. (stays x h).0);
+    table = grown_none P.table (sets_met A (sets_of P) (p.ask ∷ [])) (look_ups_asked A (sets_of P) (p.ask ∷ []));
+    holds = look_ups_held A p P P.table.look_ups (λ x h. (stays x h).0);
     steps = omega arith;
     cells = omega arith;
     rise = omega arith;

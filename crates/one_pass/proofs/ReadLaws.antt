@@ -4,7 +4,7 @@ use Rattle.std.proofs.lemmas.List.{append-nil}
 use Rattle.marked_automaton.specs.Automaton.{Automaton}
 use Rattle.span_core.specs.Intervals.{AreApart, Covers}
 use Rattle.span_core.specs.Lists.{Has}
-use Rattle.automaton_reading.specs.Reading.{Row, edges_K, ended, rows_asked, rows_read, weight_K}
+use Rattle.automaton_reading.specs.Reading.{LookUp, edges_K, ended, look_ups_asked, look_ups_read, weight_K}
 use Rattle.set_table.specs.declared.fault.TableFault.{TableFault}
 use Rattle.set_table.specs.declared.fault.TableFault.TheVariants.{Full, OutOfMemory}
 use Rattle.set_table.specs.Tabled.{IsTabled, Tabled}
@@ -12,14 +12,14 @@ use Rattle.one_pass.specs.Held.{TableView, weight_of}
 use Rattle.one_pass.specs.Layers.{GraphView, first_layer}
 use Rattle.one_pass.specs.Builds.{IsNew, build, started}
 use Rattle.one_pass.specs.Faults.{IsFaultAt, IsFaultOf, IsReadFault}
-use Rattle.one_pass.specs.Places.{Place, AreReadWords, asks, end_at, is_touched, parts_places, places, places_before, sets_met}
+use Rattle.one_pass.specs.Places.{ReadingPlace, AreReadWords, asks, end_at, is_touched, parts_places, places, places_before, sets_met}
 use Rattle.one_pass.specs.Passes.{Pass, pass, sets_of, IsReady, HasEnded, HasKept, HasRead, HasStopped, HasStoppedAt, Stop}
-use Rattle.one_pass.proofs.Composing.{excess_grown, ready_distinct, rows_first, rows_then, stopped_at}
+use Rattle.one_pass.proofs.Composing.{excess_grown, ready_distinct, look_ups_first, look_ups_then, stopped_at}
 use Rattle.one_pass.proofs.Faulting.{then_stopped}
 use Rattle.one_pass.specs.Seen.{held}
 use Rattle.one_pass.proofs.PartLaws.{before_end, parts_all}
 use Rattle.one_pass.proofs.Weighing.{held_weighs}
-use Rattle.one_pass.proofs.Whole.{excess_weight, front_sets, rows_of_front, started_ready, stopped_steps, whole_cells, whole_rows, whole_steps, whole_words}
+use Rattle.one_pass.proofs.Whole.{excess_weight, front_sets, look_ups_of_front, started_ready, stopped_steps, whole_cells, whole_look_ups, whole_steps, whole_words}
 
 -- the pass before its first place, as the code has it
 pub start_is : (t : TableView) (g : GraphView) (set before after : ℕ) → g ≡ first_layer set → set ≡ 0 → after ≡ before + 1 → started t before ≡ pass t g after
@@ -40,7 +40,7 @@ module _ (d : List ℕ) (parts : List (ℕ × ℕ)) (apart : AreApart parts) (wi
   abbrev K : ℕ → Bool
   K = is_touched parts
 
-  abbrev ps : List Place
+  abbrev ps : List ReadingPlace
   ps = parts_places 0 parts d
 
   all : ps ++ end_at (length d) ∷ [] ≡ places K d 0 false
@@ -54,8 +54,8 @@ module _ (d : List ℕ) (parts : List (ℕ × ℕ)) (apart : AreApart parts) (wi
 
   fault_read : (e : TableFault) → IsFaultAt ps (started t before) e → IsReadFault t.graph K d t.limit e
   fault_read (Full weight) x =
-      excess_weight t.graph K d t new before (sets_met t.graph (sets_of (started t before)) (asks ps)) (rows_asked t.graph (sets_of (started t before)) (asks ps)) weight x
-      (front_sets t.graph K d t new before ps (end_at (length d)) [] all) (rows_of_front t.graph K d t new before ps (end_at (length d) ∷ []) all)
+      excess_weight t.graph K d t new before (sets_met t.graph (sets_of (started t before)) (asks ps)) (look_ups_asked t.graph (sets_of (started t before)) (asks ps)) weight x
+      (front_sets t.graph K d t new before ps (end_at (length d)) [] all) (look_ups_of_front t.graph K d t new before ps (end_at (length d) ∷ []) all)
   fault_read OutOfMemory x = tt
 
   pub parts_stopped : (after : Stop) → HasStopped t.graph ps S after → after.steps + 1 ≤ before + build t.graph d K
@@ -67,9 +67,9 @@ module _ (d : List ℕ) (parts : List (ℕ × ℕ)) (apart : AreApart parts) (wi
       let k = subst (λ P. HasStopped t.graph ps P after) (sym start) s in
       record { graph = k.table.graph; limit = k.table.limit; sets = k.table.kept; sound = k.sound }
 
-  pub parts_fault : (e : TableFault) → IsFaultOf t (sets_met t.graph (sets_of S) (asks ps)) (rows_asked t.graph (sets_of S) (asks ps)) e → IsReadFault t.graph K d t.limit e
+  pub parts_fault : (e : TableFault) → IsFaultOf t (sets_met t.graph (sets_of S) (asks ps)) (look_ups_asked t.graph (sets_of S) (asks ps)) e → IsReadFault t.graph K d t.limit e
   parts_fault e x =
-      fault_read e (subst (λ P. IsFaultOf t (sets_met t.graph (sets_of P) (asks ps)) (rows_asked t.graph (sets_of P) (asks ps)) e) (sym start) x)
+      fault_read e (subst (λ P. IsFaultOf t (sets_met t.graph (sets_of P) (asks ps)) (look_ups_asked t.graph (sets_of P) (asks ps)) e) (sym start) x)
 
   module _ (Q : Pass) (read : HasRead t.graph ps S Q) (ready : IsReady Q (length d)) where
     read_here : HasRead t.graph ps (started t before) Q
@@ -85,18 +85,18 @@ module _ (d : List ℕ) (parts : List (ℕ × ℕ)) (apart : AreApart parts) (wi
         let k = then_stopped ps (end_at (length d) ∷ []) (started t before) Q (length d) read_here ready after (stopped_at Q.table.graph (end_at (length d)) Q after s) in
         record { graph = k.table.graph; limit = k.table.limit; sets = k.table.kept; sound = k.sound }
 
-    pub end_fault : (e : TableFault) → IsFaultOf Q.table [] (rows_asked Q.table.graph (sets_of Q) (ended ∷ [])) e → IsReadFault t.graph K d t.limit e
+    pub end_fault : (e : TableFault) → IsFaultOf Q.table [] (look_ups_asked Q.table.graph (sets_of Q) (ended ∷ [])) e → IsReadFault t.graph K d t.limit e
     end_fault (Full weight) x =
         let P = started t before in
-        let same = subst (λ B. IsFaultOf Q.table [] (rows_asked B (sets_of Q) (ended ∷ [])) (Full weight)) read_here.table.graph x in
+        let same = subst (λ B. IsFaultOf Q.table [] (look_ups_asked B (sets_of Q) (ended ∷ [])) (Full weight)) read_here.table.graph x in
         let met = sets_met t.graph (sets_of P) (asks ps) in
-        let rows = rows_asked t.graph (sets_of P) (asks (ps ++ end_at (length d) ∷ [])) in
-        excess_weight t.graph K d t new before met rows weight
-        (excess_grown t Q.table met [] met (rows_asked t.graph (sets_of P) (asks ps)) (rows_asked t.graph (sets_of Q) (ended ∷ [])) rows weight read_here.table same
+        let look_ups = look_ups_asked t.graph (sets_of P) (asks (ps ++ end_at (length d) ∷ [])) in
+        excess_weight t.graph K d t new before met look_ups weight
+        (excess_grown t Q.table met [] met (look_ups_asked t.graph (sets_of P) (asks ps)) (look_ups_asked t.graph (sets_of Q) (ended ∷ [])) look_ups weight read_here.table same
         (λ set h. h) (λ set h. absurd h)
-        (rows_first t.graph ps (end_at (length d) ∷ []) P Q read_here) (rows_then t.graph ps (end_at (length d) ∷ []) P Q read_here))
+        (look_ups_first t.graph ps (end_at (length d) ∷ []) P Q read_here) (look_ups_then t.graph ps (end_at (length d) ∷ []) P Q read_here))
         (front_sets t.graph K d t new before ps (end_at (length d)) [] all)
-        (rows_of_front t.graph K d t new before (ps ++ end_at (length d) ∷ []) [] (append-nil (ps ++ end_at (length d) ∷ []) ∙ all))
+        (look_ups_of_front t.graph K d t new before (ps ++ end_at (length d) ∷ []) [] (append-nil (ps ++ end_at (length d) ∷ []) ∙ all))
     end_fault OutOfMemory x = tt
 
     module _ (R : Pass) (done : HasEnded Q.table.graph (length d) Q R) where
@@ -115,9 +115,9 @@ module _ (d : List ℕ) (parts : List (ℕ × ℕ)) (apart : AreApart parts) (wi
       -- what was read weighs no more than the table's limit
       pub pass_weighs : (u : Tabled) → IsTabled u → R.table ≡ held u → weight_K t.graph d K ≤ t.limit
       pass_weighs u tabled same =
-          let rows = rows_read t.graph d K in
-          let sets = map (λ (r : Row). r.set) rows in
+          let look_ups = look_ups_read t.graph d K in
+          let sets = map (λ (r : LookUp). r.set) look_ups in
           let graph : u.graph ≡ t.graph = ap (λ (v : TableView). v.graph) (sym same) ∙ (done_here.table.graph ∙ read_here.table.graph) in
           let limit : u.limit ≡ t.limit = ap (λ (v : TableView). v.limit) (sym same) ∙ (done_here.table.limit ∙ read_here.table.limit) in
-          let within = held_weighs u tabled rows (λ row h. subst (λ (v : TableView). Has v.rows row) same (whole_rows t.graph K d t new before ps all Q R read_here done_here row h)) in
-          subst (λ l. weight_of t.graph sets rows ≤ l) limit (subst (λ (A : Automaton). weight_of A sets rows ≤ u.limit) graph within)
+          let within = held_weighs u tabled look_ups (λ look_up h. subst (λ (v : TableView). Has v.look_ups look_up) same (whole_look_ups t.graph K d t new before ps all Q R read_here done_here look_up h)) in
+          subst (λ l. weight_of t.graph sets look_ups ≤ l) limit (subst (λ (A : Automaton). weight_of A sets look_ups ≤ u.limit) graph within)

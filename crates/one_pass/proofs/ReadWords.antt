@@ -12,7 +12,7 @@ use Rattle.marked_automaton.specs.Automaton.{Automaton}
 use Rattle.automaton_reading.specs.Reading.{Reach, byte_read, rest_taken, ended, edges, rest_edge, is_among, blocks_down, set_of}
 use Rattle.automaton_reading.specs.Chosen.{EndsWith, IsReadFrom, IsReadWith}
 use Rattle.one_pass.specs.Words.{Word, block_word}
-use Rattle.one_pass.specs.Places.{Place, places, byte_at, rest_at, end_at, Leads, word_from, word_of}
+use Rattle.one_pass.specs.Places.{ReadingPlace, places, byte_at, rest_at, end_at, Leads, word_from, word_of}
 
 end_edge : ℕ → Reach
 end_edge m = record { marks = m; to = [] }
@@ -195,7 +195,7 @@ read_words A K d u = (
 )
 
 -- a choice at some places and then at others
-pub leads_then : (A : Automaton) (ps qs : List Place) (from to on : List ℕ) (u v : Word) →
+pub leads_then : (A : Automaton) (ps qs : List ReadingPlace) (from to on : List ℕ) (u v : Word) →
     Leads A ps from u on → Leads A qs on v to → Leads A (ps ++ qs) from (u ++ v) to
 leads_then A [] qs from to on u v h k =
     subst (λ x. Leads A qs x (u ++ v) to) (sym h.1) (subst (λ x. Leads A qs on (x ++ v) to) (sym h.0) k)
@@ -207,7 +207,7 @@ leads_then A (p ∷ ps) qs from to on u v h k = (
   leads_then A ps qs h.0.to to on h.2 v h.4 k,
 )
 
-pub then_leads : (A : Automaton) (ps qs : List Place) (from to : List ℕ) (w : Word) → Leads A (ps ++ qs) from w to →
+pub then_leads : (A : Automaton) (ps qs : List ReadingPlace) (from to : List ℕ) (w : Word) → Leads A (ps ++ qs) from w to →
     (on : List ℕ) × (u v : Word) × Leads A ps from u on × Leads A qs on v to × (u ++ v ≡ w)
 then_leads A [] qs from to w h = (from, [], w, (refl, refl), h, refl)
 then_leads A (p ∷ ps) qs from to w h =

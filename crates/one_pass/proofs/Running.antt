@@ -10,7 +10,7 @@ use Rattle.set_table.specs.Tabled.{Tabled}
 use Rattle.output_graph.specs.Graph.{Graph, IsStepped, Source, sets_of, sources, targets}
 use Rattle.output_graph.specs.Programs.{AreStepped, IsRun}
 use Rattle.output_graph.specs.Source.{Edges}
-use Rattle.one_pass.specs.Known.{AreRows, AreStill}
+use Rattle.one_pass.specs.Known.{AreLookUps, AreStill}
 use Rattle.one_pass.specs.Layers.{numbers_of}
 use Rattle.one_pass.specs.Passes.{HasRead, IsReady, pass}
 use Rattle.one_pass.specs.Places.{byte_at}
@@ -51,9 +51,9 @@ module _ (T : Tabled) (G0 : Graph) (n0 at b : ℕ) (ready : IsReady (pass (held 
       IsStepping T.graph (byte_at at b) (pass (held T) (whole G0) n0) (take k (sources G0)) (pass (held T) (stepping_from (sources G0) G) n)
       × IsTurned (sources G0) k at G
 
-  one_more : (k s : ℕ) (group : Edges) (G H : Graph) (n m : ℕ) → slice_get (sets_of G0.layer) k ≡ Some s → Rattle.one_pass.specs.Known.IsRow (held T) b s group → SoFar k G n →
+  one_more : (k s : ℕ) (group : Edges) (G H : Graph) (n m : ℕ) → slice_get (sets_of G0.layer) k ≡ Some s → Rattle.one_pass.specs.Known.IsLookUp (held T) b s group → SoFar k G n →
       IsStepped G at group H → Rattle.output_graph.specs.Graph.IsCost (length group) (length G.cells) (length H.cells) n m → Rattle.output_graph.specs.Graph.AreApart (targets H) → SoFar (k + 1) H m
-  one_more k s group G H n m is row past stepped cost apart =
+  one_more k s group G H n m is look_up past stepped cost apart =
       let w : k < length (sets_of G0.layer) = slice_get_within (sets_of G0.layer) k s is in
       let l : length (sets_of G0.layer) ≡ length G0.layer = length-map G0.layer (λ (p : ℕ × ℕ). p.0) in
       let turned : HasTurned T T s (byte_read b) at G H n m = record {
@@ -64,30 +64,30 @@ module _ (T : Tabled) (G0 : Graph) (n0 at b : ℕ) (ready : IsReady (pass (held 
           kept = ([], append-nil T.sets);
           sets = λ set h. inl h;
           sound = ready.sound;
-          holds = row.asked;
-          rows = inl (refl, omega arith);
+          holds = look_up.asked;
+          look_ups = inl (refl, omega arith);
         };
-        by = row.by;
-        numbered = row.numbered;
-        stepped = subst (λ (es : Edges). IsStepped G at es H) (sym row.are) stepped;
+        by = look_up.by;
+        numbered = look_up.numbered;
+        stepped = subst (λ (es : Edges). IsStepped G at es H) (sym look_up.are) stepped;
         cost = subst (λ j. Rattle.one_pass.specs.Layers.HasCost j (length G.cells) (length H.cells) n m)
-            (ap length (sym row.are) ∙ length-map row.by (λ (e : Rattle.span_core.specs.declared.edge.Edge.Edge). (e.marks, e.to)))
+            (ap length (sym look_up.are) ∙ length-map look_up.by (λ (e : Rattle.span_core.specs.declared.edge.Edge.Edge). (e.marks, e.to)))
             (own_cost (length group) (length G.cells) (length H.cells) n m cost);
       } in
       stepping_turned T G0 n0 at ready k T G n (omega arith) past.1 s (subst (λ (xs : List ℕ). slice_get xs k ≡ Some s) (fresh.sets ∙ sym past.1.sets) is)
       (byte_at at b) refl past.0 T H m turned apart.distinct
 
-  going : (groups : List Edges) (sets : List ℕ) (k : ℕ) (G H : Graph) (n m : ℕ) → drop k (sets_of G0.layer) ≡ sets → AreRows (held T) b sets groups → SoFar k G n → AreStepped G at groups H n m →
+  going : (groups : List Edges) (sets : List ℕ) (k : ℕ) (G H : Graph) (n m : ℕ) → drop k (sets_of G0.layer) ≡ sets → AreLookUps (held T) b sets groups → SoFar k G n → AreStepped G at groups H n m →
       (j : ℕ) × SoFar j H m
-  going [] sets k G H n m is rows past (same, count) = (k, subst (λ j. SoFar k H j) count (subst (λ (X : Graph). SoFar k X n) same past))
-  going (group ∷ groups) [] k G H n m is rows past run = absurd rows
-  going (group ∷ groups) (s ∷ sets) k G H n m is rows past (M, middle, stepped, cost, apart, later) =
-      going groups sets (k + 1) M H middle m (ap (λ j. drop j (sets_of G0.layer)) (add-one k) ∙ drop_rest (sets_of G0.layer) k s sets is) rows.1
-      (one_more k s group G M n middle (drop_first (sets_of G0.layer) k s sets is) rows.0 past stepped cost apart) later
+  going [] sets k G H n m is look_ups past (same, count) = (k, subst (λ j. SoFar k H j) count (subst (λ (X : Graph). SoFar k X n) same past))
+  going (group ∷ groups) [] k G H n m is look_ups past run = absurd look_ups
+  going (group ∷ groups) (s ∷ sets) k G H n m is look_ups past (M, middle, stepped, cost, apart, later) =
+      going groups sets (k + 1) M H middle m (ap (λ j. drop j (sets_of G0.layer)) (add-one k) ∙ drop_rest (sets_of G0.layer) k s sets is) look_ups.1
+      (one_more k s group G M n middle (drop_first (sets_of G0.layer) k s sets is) look_ups.0 past stepped cost apart) later
 
-  module _ (groups : List Edges) (H : Graph) (m : ℕ) (rows : AreRows (held T) b (sets_of G0.layer) groups) (run : IsRun G0 at groups H n0 m) where
+  module _ (groups : List Edges) (H : Graph) (m : ℕ) (look_ups : AreLookUps (held T) b (sets_of G0.layer) groups) (run : IsRun G0 at groups H n0 m) where
     all : (j : ℕ) × SoFar j run.0 m
-    all = going groups (sets_of G0.layer) 0 G0 run.0 n0 m refl rows (stepping_begun T G0 n0 at ready (byte_at at b)) run.1
+    all = going groups (sets_of G0.layer) 0 G0 run.0 n0 m refl look_ups (stepping_begun T G0 n0 at ready (byte_at at b)) run.1
 
     every : all.0 ≡ length (sources G0)
     every =

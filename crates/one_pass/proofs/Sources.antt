@@ -7,7 +7,7 @@ use Rattle.output_graph.specs.Graph.{Graph, Source, sets_of, sources, targets}
 use Rattle.output_graph.specs.Sound.{edges_of, edges_of_ends}
 use Rattle.one_pass.specs.Layers.{GraphView, HasStepped, numbers_of, source_at}
 use Rattle.one_pass.specs.Passes.{HasStoppedAt, IsReady, pass, stop}
-use Rattle.one_pass.specs.Places.{Place}
+use Rattle.one_pass.specs.Places.{ReadingPlace}
 use Rattle.one_pass.specs.Seen.{ending_from, held, stepping_from, whole}
 use Rattle.one_pass.specs.Turned.{HasNotTurned, HasTurned, HasTurnedEnd, IsTurned}
 use Rattle.one_pass.proofs.Ending.{IsEnding, ending_none}
@@ -22,7 +22,7 @@ module _ (T0 : Tabled) (G0 : Graph) (n0 at : ℕ) (ready : IsReady (pass (held T
   pub layer_count : length G0.layer ≡ length (sources G0)
   layer_count = turned_count (sources G0) 0 at G0 turned_first
 
-  pub stepping_begun : (p : Place) → IsStepping T0.graph p (pass (held T0) (whole G0) n0) [] (pass (held T0) (stepping_from (sources G0) G0) n0) × IsTurned (sources G0) 0 at G0
+  pub stepping_begun : (p : ReadingPlace) → IsStepping T0.graph p (pass (held T0) (whole G0) n0) [] (pass (held T0) (stepping_from (sources G0) G0) n0) × IsTurned (sources G0) 0 at G0
   stepping_begun p = (stepping_none T0.graph p (pass (held T0) (whole G0) n0) at ready, turned_first)
 
   pub ending_begun : IsEnding T0.graph at (pass (held T0) (whole G0) n0) [] (pass (held T0) (ending_from (sources G0) G0) n0) × IsTurned (sources G0) 0 at G0
@@ -43,7 +43,7 @@ module _ (T0 : Tabled) (G0 : Graph) (n0 at : ℕ) (ready : IsReady (pass (held T
     set_is = turned_set (sources G0) k at G turned k set inside named
 
     -- it was given up
-    pub given_up : (p : Place) (V : GraphView) (layer : V.layer ≡ sources G0) →
+    pub given_up : (p : ReadingPlace) (V : GraphView) (layer : V.layer ≡ sources G0) →
         IsSpending T0.graph p (pass (held T0) (whole G0) n0) (take k (sources G0)) (pass (held T) V n) →
         (U : Tabled) (after : ℕ) → HasNotTurned T U set p.ask G n after → HasStoppedAt T0.graph p (pass (held T0) (whole G0) n0) (stop (held U) after)
     given_up p V layer past U after (inl r) =
@@ -57,7 +57,7 @@ module _ (T0 : Tabled) (G0 : Graph) (n0 at : ℕ) (ready : IsReady (pass (held T
         e V after refl (no_cost e V.live r.0 after r.2)
 
     -- one source more has been stepped
-    pub stepping_turned : (p : Place) → p.at ≡ at → IsStepping T0.graph p (pass (held T0) (whole G0) n0) (take k (sources G0)) (pass (held T) (stepping_from (sources G0) G) n) →
+    pub stepping_turned : (p : ReadingPlace) → p.at ≡ at → IsStepping T0.graph p (pass (held T0) (whole G0) n0) (take k (sources G0)) (pass (held T) (stepping_from (sources G0) G) n) →
         (U : Tabled) (H : Graph) (after : ℕ) → HasTurned T U set p.ask at G H n after → AreDistinct (numbers_of (targets H)) →
         IsStepping T0.graph p (pass (held T0) (whole G0) n0) (take (k + 1) (sources G0)) (pass (held U) (stepping_from (sources G0) H) after) × IsTurned (sources G0) (k + 1) at H
     stepping_turned p here past U H after h distinct = (

@@ -8,13 +8,13 @@ use Rattle.span_core.specs.Lists.{Has, AreDistinct}
 use Rattle.span_core.proofs.HasLaws.{Has-append_left, Has-append_right, Has-append_cases, Has-map, Has-map_cases}
 use Rattle.span_core.specs.declared.edge.Edge.{Edge}
 use Rattle.marked_automaton.specs.Automaton.{Automaton, size}
-use Rattle.automaton_reading.specs.Reading.{Asked, byte_read, rest_taken, ended, Reach, Row, edges, next_sets, row_edges, rows_asked}
+use Rattle.automaton_reading.specs.Reading.{Question, byte_read, rest_taken, ended, Reach, LookUp, edges, next_sets, look_up_edges, look_ups_asked}
 use Rattle.automaton_reading.proofs.Matching.{cons_sum}
-use Rattle.one_pass.specs.Held.{TableView, IsSound, AreNumbered, HasMade, IsRefused, IsTooHeavy, row_of, set_named, targets, targets_of, weight_of}
+use Rattle.one_pass.specs.Held.{TableView, IsSound, AreNumbered, HasMade, IsRefused, IsTooHeavy, look_up_of, set_named, targets, targets_of, weight_of}
 use Rattle.one_pass.specs.Words.{Word, block_word}
 use Rattle.output_graph.specs.Graph.{Source}
 use Rattle.one_pass.specs.Layers.{GraphView, HasWord, HasCost, Brings, numbers_of}
-use Rattle.one_pass.specs.Places.{Place, edges_read, sets_met, sets_on}
+use Rattle.one_pass.specs.Places.{ReadingPlace, edges_read, sets_met, sets_on}
 use Rattle.one_pass.specs.Passes.{Pass, pass, sets_of, stop, IsReady, HasGrown, HasStoppedAt, IsExcess}
 use Rattle.one_pass.specs.Making.{edges_to, making_of, making_read}
 use Rattle.one_pass.proofs.Making.{leads_once, led_twice, lone_edge, making_step}
@@ -29,7 +29,7 @@ Arrives Q set w = (s : ℕ) × (set_named Q.table s ≡ set) × HasWord Q.graph.
 abbrev pub HasNext : Pass → List ℕ → Type 0
 HasNext Q set = (s : ℕ) × (set_named Q.table s ≡ set) × Has (numbers_of Q.graph.next) s
 
-module _ (A : Automaton) (p : Place) (P : Pass) where
+module _ (A : Automaton) (p : ReadingPlace) (P : Pass) where
   -- the edges of a source
   abbrev pub source_edges : Source → List Reach
   source_edges x = edges A (set_named P.table x.set) p.ask
@@ -55,12 +55,12 @@ module _ (A : Automaton) (p : Place) (P : Pass) where
   pub record IsSpending (done : List Source) (Q : Pass) : Type 0 where
     pub layer : Q.graph.layer ≡ P.graph.layer
     pub stepped : Q.graph.stepped ≡ length done
-    pub table : HasGrown P.table Q.table (sets_on A (sets_of P) p.ask) (map (λ set. let r : Row = record { set = set; ask = p.ask } in r) (sets_of P))
-    pub holds : (x : Source) → Has done x → Has Q.table.rows (row_of P.table x.set p.ask)
+    pub table : HasGrown P.table Q.table (sets_on A (sets_of P) p.ask) (map (λ set. let r : LookUp = record { set = set; ask = p.ask } in r) (sets_of P))
+    pub holds : (x : Source) → Has done x → Has Q.table.look_ups (look_up_of P.table x.set p.ask)
     pub sound : IsSound Q.table
     pub steps :
-        Q.steps + Q.graph.live + length P.table.rows * size A
-        ≤ P.steps + P.graph.live + 3 * length done + 3 * edges_of done + length Q.table.rows * size A
+        Q.steps + Q.graph.live + length P.table.look_ups * size A
+        ≤ P.steps + P.graph.live + 3 * length done + 3 * edges_of done + length Q.table.look_ups * size A
     pub cells : Q.graph.live ≤ P.graph.live + edges_of done
 
   -- and they have been stepped
@@ -89,15 +89,15 @@ module _ (A : Automaton) (p : Place) (P : Pass) where
   snoc_length : (done : List Source) (x : Source) → length (done ++ x ∷ []) ≡ length done + 1
   snoc_length done x = length-append done (x ∷ [])
 
-  abbrev asked_rows : List Row
-  asked_rows = map (λ set. let r : Row = record { set = set; ask = p.ask } in r) (sets_of P)
+  abbrev asked_look_ups : List LookUp
+  asked_look_ups = map (λ set. let r : LookUp = record { set = set; ask = p.ask } in r) (sets_of P)
 
   -- what the sources' edges count is what reading this place counts
   pub place_edges : edges_read A (sets_of P) (p.ask ∷ []) ≡ edges_of P.graph.layer
   place_edges =
-      let rows : List Row = asked_rows in
-      ap (sum_by (row_edges A)) (append-nil rows)
-      ∙ (sum_map (row_edges A) (λ set. let r : Row = record { set = set; ask = p.ask } in r) (sets_of P)
+      let look_ups : List LookUp = asked_look_ups in
+      ap (sum_by (look_up_edges A)) (append-nil look_ups)
+      ∙ (sum_map (look_up_edges A) (λ set. let r : LookUp = record { set = set; ask = p.ask } in r) (sets_of P)
       ∙ sum_map (λ set. length (edges A set p.ask)) (λ (x : Source). set_named P.table x.set) P.graph.layer)
 
   pub place_making : making_read A (sets_of P) (p.ask ∷ []) ≡ making_by P.graph.layer
@@ -106,28 +106,28 @@ module _ (A : Automaton) (p : Place) (P : Pass) where
       omega (arith, same)
 
   -- where each set of the layer was asked, what reading this place asks for is there
-  pub rows_held : (rows : List Row) → ((x : Source) → Has P.graph.layer x → Has rows (row_of P.table x.set p.ask)) → Covers rows (rows_asked A (sets_of P) (p.ask ∷ []))
-  rows_held rows holds row h =
-      let row_at : List ℕ → Row = λ set. record { set = set; ask = p.ask } in
-      let s = Has-map_cases row_at (sets_of P) row (subst (λ (rs : List Row). Has rs row) (append-nil asked_rows) h) in
+  pub look_ups_held : (look_ups : List LookUp) → ((x : Source) → Has P.graph.layer x → Has look_ups (look_up_of P.table x.set p.ask)) → Covers look_ups (look_ups_asked A (sets_of P) (p.ask ∷ []))
+  look_ups_held look_ups holds look_up h =
+      let look_up_at : List ℕ → LookUp = λ set. record { set = set; ask = p.ask } in
+      let s = Has-map_cases look_up_at (sets_of P) look_up (subst (λ (rs : List LookUp). Has rs look_up) (append-nil asked_look_ups) h) in
       let x = Has-map_cases (λ (x : Source). set_named P.table x.set) P.graph.layer s.0 s.1 in
-      subst (Has rows) (ap row_at x.2 ∙ s.2) (holds x.0 x.1)
+      subst (Has look_ups) (ap look_up_at x.2 ∙ s.2) (holds x.0 x.1)
 
   pub met_here : Covers (sets_met A (sets_of P) (p.ask ∷ [])) (sets_on A (sets_of P) p.ask)
   met_here = on_met A (sets_of P) p.ask
 
   -- what was asked for here
-  grown_at : (t u : TableView) → HasGrown t u (sets_on A (sets_of P) p.ask) asked_rows → HasGrown t u (sets_on A (sets_of P) p.ask) (rows_asked A (sets_of P) (p.ask ∷ []))
+  grown_at : (t u : TableView) → HasGrown t u (sets_on A (sets_of P) p.ask) asked_look_ups → HasGrown t u (sets_on A (sets_of P) p.ask) (look_ups_asked A (sets_of P) (p.ask ∷ []))
   grown_at t u g =
-      grown_more t u (sets_on A (sets_of P) p.ask) (sets_on A (sets_of P) p.ask) asked_rows (rows_asked A (sets_of P) (p.ask ∷ [])) g (λ set h. h)
-      (λ row h. Has-append_left asked_rows [] row h)
+      grown_more t u (sets_on A (sets_of P) p.ask) (sets_on A (sets_of P) p.ask) asked_look_ups (look_ups_asked A (sets_of P) (p.ask ∷ [])) g (λ set h. h)
+      (λ look_up h. Has-append_left asked_look_ups [] look_up h)
 
   -- nothing has been stepped
   pub spending_none : (at : ℕ) → IsReady P at → IsSpending [] P
   spending_none at r = record {
     layer = refl;
     stepped = r.fresh.0;
-    table = record { graph = refl; limit = refl; kept = ([], append-nil P.table.sets); sets = λ set h. inl h; rows = λ row h. inl h; stay = λ row h. h };
+    table = record { graph = refl; limit = refl; kept = ([], append-nil P.table.sets); sets = λ set h. inl h; look_ups = λ look_up h. inl h; stay = λ look_up h. h };
     holds = λ x h. absurd h;
     sound = r.sound;
     steps = omega arith;
@@ -157,36 +157,36 @@ module _ (A : Automaton) (p : Place) (P : Pass) where
   module _ (done : List Source) (Q : Pass) (x : Source) (is : P.table.graph ≡ A) (spent : IsSpending done Q) (there : Has P.graph.layer x)
       (known : x.set < length P.table.sets) where
     pub named_before : set_named Q.table x.set ≡ set_named P.table x.set
-    named_before = grown_named P.table Q.table (sets_on A (sets_of P) p.ask) asked_rows spent.table x.set known
+    named_before = grown_named P.table Q.table (sets_on A (sets_of P) p.ask) asked_look_ups spent.table x.set known
 
     graph_is : Q.table.graph ≡ A
     graph_is = spent.table.graph ∙ is
 
-    abbrev row_here : Row
-    row_here = row_of Q.table x.set p.ask
+    abbrev look_up_here : LookUp
+    look_up_here = look_up_of Q.table x.set p.ask
 
     set_there : Has (sets_of P) (set_named P.table x.set)
     set_there = Has-map (λ (y : Source). set_named P.table y.set) P.graph.layer x there
 
-    row_there : Has asked_rows row_here
-    row_there =
-        subst (λ set. Has asked_rows (let r : Row = record { set = set; ask = p.ask } in r)) (sym named_before)
-        (Has-map (λ set. let r : Row = record { set = set; ask = p.ask } in r) (sets_of P) (set_named P.table x.set) set_there)
+    look_up_there : Has asked_look_ups look_up_here
+    look_up_there =
+        subst (λ set. Has asked_look_ups (let r : LookUp = record { set = set; ask = p.ask } in r)) (sym named_before)
+        (Has-map (λ set. let r : LookUp = record { set = set; ask = p.ask } in r) (sets_of P) (set_named P.table x.set) set_there)
 
-    target_there : (set : List ℕ) → Has (targets Q.table.graph row_here) set → Has (sets_on A (sets_of P) p.ask) set
+    target_there : (set : List ℕ) → Has (targets Q.table.graph look_up_here) set → Has (sets_on A (sets_of P) p.ask) set
     target_there set h = by p.ask (subst (λ s. Has (targets_of p.ask (edges A s p.ask)) set) named_before (subst (λ B. Has (targets_of p.ask (edges B (set_named Q.table x.set) p.ask)) set) graph_is h))
       where
-        led : (a : Asked) → Has (map (λ (e : Reach). e.to) (edges A (set_named P.table x.set) a)) set → Has (next_sets A (sets_of P) a) set
+        led : (a : Question) → Has (map (λ (e : Reach). e.to) (edges A (set_named P.table x.set) a)) set → Has (next_sets A (sets_of P) a) set
         led a h =
             let e = Has-map_cases (λ (e : Reach). e.to) (edges A (set_named P.table x.set) a) set h in
             subst (Has (next_sets A (sets_of P) a)) e.2 (has_next A (sets_of P) a (set_named P.table x.set) e.0 set_there e.1)
 
-        by : (a : Asked) → Has (targets_of a (edges A (set_named P.table x.set) a)) set → Has (sets_on A (sets_of P) a) set
+        by : (a : Question) → Has (targets_of a (edges A (set_named P.table x.set) a)) set → Has (sets_on A (sets_of P) a) set
         by (byte_read b) h = led (byte_read b) h
         by rest_taken h = led rest_taken h
         by ended h = h
 
-    module _ (t : TableView) (n : ℕ) (made : HasMade Q.table t row_here Q.steps n) where
+    module _ (t : TableView) (n : ℕ) (made : HasMade Q.table t look_up_here Q.steps n) where
       kept_length : length Q.table.sets ≤ length t.sets
       kept_length = omega (arith, ap length made.kept.1, length-append Q.table.sets made.kept.0)
 
@@ -194,32 +194,32 @@ module _ (A : Automaton) (p : Place) (P : Pass) where
       named_now s h =
           ap (λ (xs : List (List ℕ)). get_or xs s []) (sym made.kept.1) ∙ get_or_append_left Q.table.sets made.kept.0 [] s h
 
-      -- a row that was there stays
-      made_stay : (row : Row) → Has Q.table.rows row → Has t.rows row
-      made_stay = by made.rows
+      -- a look-up that was there stays
+      made_stay : (look_up : LookUp) → Has Q.table.look_ups look_up → Has t.look_ups look_up
+      made_stay = by made.look_ups
         where
           by :
-              ((t.rows ≡ Q.table.rows) × (n ≤ Q.steps + 1))
-              ⊎ (¬ Has Q.table.rows row_here × (t.rows ≡ Q.table.rows ++ row_here ∷ []) × (n ≤ Q.steps + (1 + size Q.table.graph))) →
-              (row : Row) → Has Q.table.rows row → Has t.rows row
-          by (inl same) row h = subst (λ rows. Has rows row) (sym same.0) h
-          by (inr more) row h = subst (λ rows. Has rows row) (sym more.1) (Has-append_left Q.table.rows (row_here ∷ []) row h)
+              ((t.look_ups ≡ Q.table.look_ups) × (n ≤ Q.steps + 1))
+              ⊎ (¬ Has Q.table.look_ups look_up_here × (t.look_ups ≡ Q.table.look_ups ++ look_up_here ∷ []) × (n ≤ Q.steps + (1 + size Q.table.graph))) →
+              (look_up : LookUp) → Has Q.table.look_ups look_up → Has t.look_ups look_up
+          by (inl same) look_up h = subst (λ look_ups. Has look_ups look_up) (sym same.0) h
+          by (inr more) look_up h = subst (λ look_ups. Has look_ups look_up) (sym more.1) (Has-append_left Q.table.look_ups (look_up_here ∷ []) look_up h)
 
       -- what was asked of one source more is there
-      made_holds : (y : Source) → Has (done ++ x ∷ []) y → Has t.rows (row_of P.table y.set p.ask)
-      made_holds y h = elim (Has-append_cases done (x ∷ []) y h) as (λ _. Has t.rows (row_of P.table y.set p.ask)) [
-        | inl old ↦ made_stay (row_of P.table y.set p.ask) (spent.holds y old)
-        | inr new ↦ elim new as (λ _. Has t.rows (row_of P.table y.set p.ask)) [
-          | inl e ↦ subst (λ (z : Source). Has t.rows (row_of P.table z.set p.ask)) e here
+      made_holds : (y : Source) → Has (done ++ x ∷ []) y → Has t.look_ups (look_up_of P.table y.set p.ask)
+      made_holds y h = elim (Has-append_cases done (x ∷ []) y h) as (λ _. Has t.look_ups (look_up_of P.table y.set p.ask)) [
+        | inl old ↦ made_stay (look_up_of P.table y.set p.ask) (spent.holds y old)
+        | inr new ↦ elim new as (λ _. Has t.look_ups (look_up_of P.table y.set p.ask)) [
+          | inl e ↦ subst (λ (z : Source). Has t.look_ups (look_up_of P.table z.set p.ask)) e here
           | inr none ↦ absurd none
         ]
       ]
         where
-          here : Has t.rows (row_of P.table x.set p.ask)
-          here = subst (λ set. Has t.rows (let r : Row = record { set = set; ask = p.ask } in r)) named_before made.holds
+          here : Has t.look_ups (look_up_of P.table x.set p.ask)
+          here = subst (λ set. Has t.look_ups (let r : LookUp = record { set = set; ask = p.ask } in r)) named_before made.holds
 
-      -- the sets and rows that the table has with it
-      grown_here : HasGrown P.table t (sets_on A (sets_of P) p.ask) asked_rows
+      -- the sets and look-ups that the table has with it
+      grown_here : HasGrown P.table t (sets_on A (sets_of P) p.ask) asked_look_ups
       grown_here = record {
         graph = made.graph ∙ spent.table.graph;
         limit = made.limit ∙ spent.table.limit;
@@ -231,45 +231,45 @@ module _ (A : Automaton) (p : Place) (P : Pass) where
           | inl old ↦ spent.table.sets set old
           | inr new ↦ inr (target_there set new)
         ];
-        rows = λ row h. rows_now made.rows row h;
-        stay = λ row h. made_stay row (spent.table.stay row h);
+        look_ups = λ look_up h. look_ups_now made.look_ups look_up h;
+        stay = λ look_up h. made_stay look_up (spent.table.stay look_up h);
       }
         where
-          before_or : (row : Row) → Has (Q.table.rows ++ row_here ∷ []) row → Has P.table.rows row ⊎ Has asked_rows row
-          before_or row h = elim (Has-append_cases Q.table.rows (row_here ∷ []) row h) as (λ _. Has P.table.rows row ⊎ Has asked_rows row) [
-            | inl old ↦ spent.table.rows row old
-            | inr new ↦ elim new as (λ _. Has P.table.rows row ⊎ Has asked_rows row) [ inl e ↦ inr (subst (Has asked_rows) e row_there) | inr none ↦ absurd none ]
+          before_or : (look_up : LookUp) → Has (Q.table.look_ups ++ look_up_here ∷ []) look_up → Has P.table.look_ups look_up ⊎ Has asked_look_ups look_up
+          before_or look_up h = elim (Has-append_cases Q.table.look_ups (look_up_here ∷ []) look_up h) as (λ _. Has P.table.look_ups look_up ⊎ Has asked_look_ups look_up) [
+            | inl old ↦ spent.table.look_ups look_up old
+            | inr new ↦ elim new as (λ _. Has P.table.look_ups look_up ⊎ Has asked_look_ups look_up) [ inl e ↦ inr (subst (Has asked_look_ups) e look_up_there) | inr none ↦ absurd none ]
           ]
 
-          rows_now :
-              ((t.rows ≡ Q.table.rows) × (n ≤ Q.steps + 1))
-              ⊎ (¬ Has Q.table.rows row_here × (t.rows ≡ Q.table.rows ++ row_here ∷ []) × (n ≤ Q.steps + (1 + size Q.table.graph))) →
-              (row : Row) → Has t.rows row → Has P.table.rows row ⊎ Has asked_rows row
-          rows_now (inl same) row h = spent.table.rows row (subst (λ rows. Has rows row) same.0 h)
-          rows_now (inr more) row h = before_or row (subst (λ rows. Has rows row) more.1 h)
+          look_ups_now :
+              ((t.look_ups ≡ Q.table.look_ups) × (n ≤ Q.steps + 1))
+              ⊎ (¬ Has Q.table.look_ups look_up_here × (t.look_ups ≡ Q.table.look_ups ++ look_up_here ∷ []) × (n ≤ Q.steps + (1 + size Q.table.graph))) →
+              (look_up : LookUp) → Has t.look_ups look_up → Has P.table.look_ups look_up ⊎ Has asked_look_ups look_up
+          look_ups_now (inl same) look_up h = spent.table.look_ups look_up (subst (λ look_ups. Has look_ups look_up) same.0 h)
+          look_ups_now (inr more) look_up h = before_or look_up (subst (λ look_ups. Has look_ups look_up) more.1 h)
 
       -- what making it took
-      made_steps : n + length Q.table.rows * size A ≤ Q.steps + 1 + length t.rows * size A
-      made_steps = by made.rows
+      made_steps : n + length Q.table.look_ups * size A ≤ Q.steps + 1 + length t.look_ups * size A
+      made_steps = by made.look_ups
         where
           size_is : size Q.table.graph ≡ size A
           size_is = ap size graph_is
 
           by :
-              ((t.rows ≡ Q.table.rows) × (n ≤ Q.steps + 1))
-              ⊎ (¬ Has Q.table.rows row_here × (t.rows ≡ Q.table.rows ++ row_here ∷ []) × (n ≤ Q.steps + (1 + size Q.table.graph))) →
-              n + length Q.table.rows * size A ≤ Q.steps + 1 + length t.rows * size A
-          by (inl same) = let e = ap (λ (rows : List Row). length rows * size A) same.0 in omega (arith, e, same.1)
+              ((t.look_ups ≡ Q.table.look_ups) × (n ≤ Q.steps + 1))
+              ⊎ (¬ Has Q.table.look_ups look_up_here × (t.look_ups ≡ Q.table.look_ups ++ look_up_here ∷ []) × (n ≤ Q.steps + (1 + size Q.table.graph))) →
+              n + length Q.table.look_ups * size A ≤ Q.steps + 1 + length t.look_ups * size A
+          by (inl same) = let e = ap (λ (look_ups : List LookUp). length look_ups * size A) same.0 in omega (arith, e, same.1)
           by (inr more) =
-              let e = ap (λ (rows : List Row). length rows * size A) more.1 in
-              let l = ap (λ k. k * size A) (length-append Q.table.rows (row_here ∷ [])) in
+              let e = ap (λ (look_ups : List LookUp). length look_ups * size A) more.1 in
+              let l = ap (λ k. k * size A) (length-append Q.table.look_ups (look_up_here ∷ [])) in
               omega (arith, e, l, more.2, size_is)
 
       -- the graph has taken what came
       module _ (e : ℕ) (count : e ≡ length (source_edges x)) (g : GraphView) (m : ℕ) (cost : HasCost e Q.graph.live g.live n m) where
         paid :
-            m + g.live + length P.table.rows * size A
-            ≤ P.steps + P.graph.live + 3 * length (done ++ x ∷ []) + 3 * edges_of (done ++ x ∷ []) + length t.rows * size A
+            m + g.live + length P.table.look_ups * size A
+            ≤ P.steps + P.graph.live + 3 * length (done ++ x ∷ []) + 3 * edges_of (done ++ x ∷ []) + length t.look_ups * size A
         paid =
             let c = cost in
             omega (arith, c.2, c.3, c.4, made_steps, spent.steps, count, snoc_edges done x, snoc_length done x)
@@ -290,12 +290,12 @@ module _ (A : Automaton) (p : Place) (P : Pass) where
         stopped_by_graph left all = record {
           table = grown_at P.table t grown_here;
           sound = made.sound;
-          made = t.rows;
-          distinct = made.sound.rows;
+          made = t.look_ups;
+          distinct = made.sound.look_ups;
           few = omega arith;
-          rows = λ row h. elim (grown_here.rows row h) as (λ _. Has P.table.rows row ⊎ Has (rows_asked A (sets_of P) (p.ask ∷ [])) row) [
+          look_ups = λ look_up h. elim (grown_here.look_ups look_up h) as (λ _. Has P.table.look_ups look_up ⊎ Has (look_ups_asked A (sets_of P) (p.ask ∷ [])) look_up) [
             | inl old ↦ inl old
-            | inr new ↦ inr (Has-append_left asked_rows [] row new)
+            | inr new ↦ inr (Has-append_left asked_look_ups [] look_up new)
           ];
           steps =
               let l = length-append (done ++ x ∷ []) left in
@@ -306,8 +306,8 @@ module _ (A : Automaton) (p : Place) (P : Pass) where
               omega (arith, paid, l, s, a, b, place_edges);
         }
 
-    -- the table refused the row
-    pub stopped_by_table : (left : List Source) (n : ℕ) → done ++ x ∷ left ≡ P.graph.layer → IsRefused Q.table row_here Q.steps n → HasStoppedAt A p P (stop Q.table n)
+    -- the table refused the look-up
+    pub stopped_by_table : (left : List Source) (n : ℕ) → done ++ x ∷ left ≡ P.graph.layer → IsRefused Q.table look_up_here Q.steps n → HasStoppedAt A p P (stop Q.table n)
     stopped_by_table left n all refused = by refused.steps
       where
         l : length (done ++ x ∷ left) ≡ length done + suc (length left)
@@ -316,20 +316,20 @@ module _ (A : Automaton) (p : Place) (P : Pass) where
         s : edges_of (done ++ x ∷ left) ≡ edges_of done + edges_of (x ∷ left)
         s = sum_by-append (λ (y : Source). length (source_edges y)) done (x ∷ left)
 
-        before : (row : Row) → Has Q.table.rows row → Has P.table.rows row ⊎ Has (rows_asked A (sets_of P) (p.ask ∷ [])) row
-        before row k = elim (spent.table.rows row k) as (λ _. Has P.table.rows row ⊎ Has (rows_asked A (sets_of P) (p.ask ∷ [])) row) [
+        before : (look_up : LookUp) → Has Q.table.look_ups look_up → Has P.table.look_ups look_up ⊎ Has (look_ups_asked A (sets_of P) (p.ask ∷ [])) look_up
+        before look_up k = elim (spent.table.look_ups look_up k) as (λ _. Has P.table.look_ups look_up ⊎ Has (look_ups_asked A (sets_of P) (p.ask ∷ [])) look_up) [
           | inl old ↦ inl old
-          | inr new ↦ inr (Has-append_left asked_rows [] row new)
+          | inr new ↦ inr (Has-append_left asked_look_ups [] look_up new)
         ]
 
         by : n ≤ Q.steps + 1 → HasStoppedAt A p P (stop Q.table n)
         by less = record {
           table = grown_at P.table Q.table spent.table;
           sound = spent.sound;
-          made = Q.table.rows;
-          distinct = spent.sound.rows;
+          made = Q.table.look_ups;
+          distinct = spent.sound.look_ups;
           few = omega arith;
-          rows = before;
+          look_ups = before;
           steps =
               let a = ap length all in
               let b = ap edges_of all in
@@ -337,20 +337,20 @@ module _ (A : Automaton) (p : Place) (P : Pass) where
         }
 
     -- what was too heavy is no more than reading the place asks for
-    pub heavy_excess : (weight : ℕ) → IsTooHeavy Q.table row_here weight → IsExcess P.table (sets_on A (sets_of P) p.ask) (rows_asked A (sets_of P) (p.ask ∷ [])) weight
+    pub heavy_excess : (weight : ℕ) → IsTooHeavy Q.table look_up_here weight → IsExcess P.table (sets_on A (sets_of P) p.ask) (look_ups_asked A (sets_of P) (p.ask ∷ [])) weight
     heavy_excess weight h = record {
       more = subst (λ l. l < weight) spent.table.limit h.more;
       most =
-          let same : weight ≤ weight_of P.table.graph (Q.table.sets ++ targets Q.table.graph row_here) (row_here ∷ Q.table.rows) =
-          subst (λ B. weight ≤ weight_of B (Q.table.sets ++ targets Q.table.graph row_here) (row_here ∷ Q.table.rows)) spent.table.graph (omega (arith, h.is)) in
-          let less = weight_covers P.table.graph (P.table.sets ++ sets_on A (sets_of P) p.ask) (Q.table.sets ++ targets Q.table.graph row_here)
-          (P.table.rows ++ rows_asked A (sets_of P) (p.ask ∷ [])) (row_here ∷ Q.table.rows) some_set some_row in
+          let same : weight ≤ weight_of P.table.graph (Q.table.sets ++ targets Q.table.graph look_up_here) (look_up_here ∷ Q.table.look_ups) =
+          subst (λ B. weight ≤ weight_of B (Q.table.sets ++ targets Q.table.graph look_up_here) (look_up_here ∷ Q.table.look_ups)) spent.table.graph (omega (arith, h.is)) in
+          let less = weight_covers P.table.graph (P.table.sets ++ sets_on A (sets_of P) p.ask) (Q.table.sets ++ targets Q.table.graph look_up_here)
+          (P.table.look_ups ++ look_ups_asked A (sets_of P) (p.ask ∷ [])) (look_up_here ∷ Q.table.look_ups) some_set some_look_up in
           omega (arith, less, same);
     }
       where
-        some_set : Covers (P.table.sets ++ sets_on A (sets_of P) p.ask) (Q.table.sets ++ targets Q.table.graph row_here)
+        some_set : Covers (P.table.sets ++ sets_on A (sets_of P) p.ask) (Q.table.sets ++ targets Q.table.graph look_up_here)
         some_set set k =
-            elim (Has-append_cases Q.table.sets (targets Q.table.graph row_here) set k) [
+            elim (Has-append_cases Q.table.sets (targets Q.table.graph look_up_here) set k) [
               | inl old ↦ elim (spent.table.sets set old) [
                 | inl o ↦ Has-append_left P.table.sets (sets_on A (sets_of P) p.ask) set o
                 | inr n ↦ Has-append_right P.table.sets (sets_on A (sets_of P) p.ask) set n
@@ -358,18 +358,18 @@ module _ (A : Automaton) (p : Place) (P : Pass) where
               | inr new ↦ Has-append_right P.table.sets (sets_on A (sets_of P) p.ask) set (target_there set new)
             ]
 
-        asked_row : (row : Row) → Has asked_rows row → Has (P.table.rows ++ rows_asked A (sets_of P) (p.ask ∷ [])) row
-        asked_row row k = Has-append_right P.table.rows (rows_asked A (sets_of P) (p.ask ∷ [])) row (Has-append_left asked_rows [] row k)
+        asked_look_up : (look_up : LookUp) → Has asked_look_ups look_up → Has (P.table.look_ups ++ look_ups_asked A (sets_of P) (p.ask ∷ [])) look_up
+        asked_look_up look_up k = Has-append_right P.table.look_ups (look_ups_asked A (sets_of P) (p.ask ∷ [])) look_up (Has-append_left asked_look_ups [] look_up k)
 
-        some_row : Covers (P.table.rows ++ rows_asked A (sets_of P) (p.ask ∷ [])) (row_here ∷ Q.table.rows)
-        some_row row (inl e) = asked_row row (subst (Has asked_rows) e row_there)
-        some_row row (inr k) =
-            elim (spent.table.rows row k) [
-              | inl old ↦ Has-append_left P.table.rows (rows_asked A (sets_of P) (p.ask ∷ [])) row old
-              | inr new ↦ asked_row row new
+        some_look_up : Covers (P.table.look_ups ++ look_ups_asked A (sets_of P) (p.ask ∷ [])) (look_up_here ∷ Q.table.look_ups)
+        some_look_up look_up (inl e) = asked_look_up look_up (subst (Has asked_look_ups) e look_up_there)
+        some_look_up look_up (inr k) =
+            elim (spent.table.look_ups look_up k) [
+              | inl old ↦ Has-append_left P.table.look_ups (look_ups_asked A (sets_of P) (p.ask ∷ [])) look_up old
+              | inr new ↦ asked_look_up look_up new
             ]
 
-    module _ (t : TableView) (n : ℕ) (made : HasMade Q.table t row_here Q.steps n) where
+    module _ (t : TableView) (n : ℕ) (made : HasMade Q.table t look_up_here Q.steps n) where
       module _ (es : List Edge) (numbered : AreNumbered t es (edges t.graph (set_named t x.set) p.ask)) where
         edges_are : AreNumbered t es (source_edges x)
         edges_are =
@@ -377,7 +377,7 @@ module _ (A : Automaton) (p : Place) (P : Pass) where
             (subst (λ B. AreNumbered t es (edges B (set_named t x.set) p.ask)) (made.graph ∙ graph_is) numbered)
           where
             known_now : x.set < length Q.table.sets
-            known_now = omega (arith, grown_length P.table Q.table (sets_on A (sets_of P) p.ask) asked_rows spent.table)
+            known_now = omega (arith, grown_length P.table Q.table (sets_on A (sets_of P) p.ask) asked_look_ups spent.table)
 
         pub edges_count : length es ≡ length (source_edges x)
         edges_count = numbered_length t es (source_edges x) edges_are

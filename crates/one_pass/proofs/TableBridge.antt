@@ -10,29 +10,29 @@ use Rattle.span_core.proofs.HasLaws.{Has-append_left, Has-append_right, Has-appe
 use Rattle.span_core.specs.declared.edge.Edge.{Edge}
 use Rattle.marked_automaton.specs.Automaton.{Automaton}
 use Rattle.marked_automaton.proofs.Passing.{both_true, left_true, right_true}
-use Rattle.automaton_reading.specs.Reading.{Asked, asked_same, byte_read, rest_taken, ended, Reach, Row, once, row_edges, row_same}
+use Rattle.automaton_reading.specs.Reading.{Question, question_same, byte_read, rest_taken, ended, Reach, LookUp, once, look_up_edges, look_up_same}
 use Rattle.automaton_reading.proofs.Matching.{once_has}
-use Rattle.automaton_reading.proofs.MeasureLaws.{ask_itself, bytes_itself, row_itself, same_ask, same_bytes, same_row}
-use Rattle.one_pass.specs.Held.{AreNumbered, HasMade, IsSound, IsTooHeavy, row_of, targets}
+use Rattle.automaton_reading.proofs.MeasureLaws.{ask_itself, bytes_itself, look_up_itself, same_ask, same_bytes, same_look_up}
+use Rattle.one_pass.specs.Held.{AreNumbered, HasMade, IsSound, IsTooHeavy, look_up_of, targets}
 use Rattle.set_table.specs.Tabled.{Asking, Tabled, IsTabled, asked_first, asked_weight, asking_same, edge_named, fresh, once_asked, reached, set_at, was_asked, weight, with_set, with_sets}
 use Rattle.one_pass.specs.Builds.{IsNew}
-use Rattle.one_pass.specs.Seen.{held, row_in}
+use Rattle.one_pass.specs.Seen.{held, look_up_in}
 use Rattle.one_pass.proofs.Composing.{named_apart}
 use Rattle.one_pass.proofs.Sets.{Covers, sum_covers, sum_map}
 
 pub held_new : (A : Automaton) (limit : ℕ) → IsNew A (held (fresh A limit))
-held_new A limit = record { graph = refl; sets = refl; rows = refl }
+held_new A limit = record { graph = refl; sets = refl; look_ups = refl }
 
--- ---- what was asked, and rows
+-- ---- what was asked, and look-ups
 
 same_asking : (r s : Asking) → asking_same r s ≡ true → r ≡ s
 same_asking r s e =
-    let sets = eqb-true r.set s.set (left_true (nat_eq r.set s.set) (asked_same r.ask s.ask) e) in
-    let asks = same_ask r.ask s.ask (right_true (nat_eq r.set s.set) (asked_same r.ask s.ask) e) in
+    let sets = eqb-true r.set s.set (left_true (nat_eq r.set s.set) (question_same r.ask s.ask) e) in
+    let asks = same_ask r.ask s.ask (right_true (nat_eq r.set s.set) (question_same r.ask s.ask) e) in
     ap (λ n. let w : Asking = record { set = n; ask = r.ask } in w) sets ∙ ap (λ a. let w : Asking = record { set = s.set; ask = a } in w) asks
 
 asking_itself : (r : Asking) → asking_same r r ≡ true
-asking_itself r = both_true (nat_eq r.set r.set) (asked_same r.ask r.ask) (eq-eqb r.set r.set refl) (ask_itself r.ask)
+asking_itself r = both_true (nat_eq r.set r.set) (question_same r.ask r.ask) (eq-eqb r.set r.set refl) (ask_itself r.ask)
 
 has_any : (rs : List Asking) (r : Asking) → Has rs r → list_any (asking_same r) rs ≡ true
 has_any [] r h = absurd h
@@ -52,26 +52,26 @@ any_has (s ∷ rs) r e = by (asking_same r s) refl (any_has rs r) e
     by false at rest e = inr (rest e)
 
 -- sets that are distinct tell their numbers
-row_apart : (sets : List (List ℕ)) (r s : Asking) → AreDistinct sets → r.set < length sets → s.set < length sets → row_in sets r ≡ row_in sets s → r ≡ s
-row_apart sets r s d hr hs e =
-    let n = named_apart sets r.set s.set d hr hs (ap (λ (w : Row). w.set) e) in
-    ap (λ n. let w : Asking = record { set = n; ask = r.ask } in w) n ∙ ap (λ a. let w : Asking = record { set = s.set; ask = a } in w) (ap (λ (w : Row). w.ask) e)
+look_up_apart : (sets : List (List ℕ)) (r s : Asking) → AreDistinct sets → r.set < length sets → s.set < length sets → look_up_in sets r ≡ look_up_in sets s → r ≡ s
+look_up_apart sets r s d hr hs e =
+    let n = named_apart sets r.set s.set d hr hs (ap (λ (w : LookUp). w.set) e) in
+    ap (λ n. let w : Asking = record { set = n; ask = r.ask } in w) n ∙ ap (λ a. let w : Asking = record { set = s.set; ask = a } in w) (ap (λ (w : LookUp). w.ask) e)
 
-has_row : (sets : List (List ℕ)) (rs : List Asking) (r : Asking) → AreDistinct sets → ((s : Asking) → Has rs s → s.set < length sets) → r.set < length sets →
-    Has (map (row_in sets) rs) (row_in sets r) → Has rs r
-has_row sets rs r d given hr h =
-    let s = Has-map_cases (row_in sets) rs (row_in sets r) h in
-    subst (Has rs) (row_apart sets s.0 r d (given s.0 s.1) hr s.2) s.1
+has_look_up : (sets : List (List ℕ)) (rs : List Asking) (r : Asking) → AreDistinct sets → ((s : Asking) → Has rs s → s.set < length sets) → r.set < length sets →
+    Has (map (look_up_in sets) rs) (look_up_in sets r) → Has rs r
+has_look_up sets rs r d given hr h =
+    let s = Has-map_cases (look_up_in sets) rs (look_up_in sets r) h in
+    subst (Has rs) (look_up_apart sets s.0 r d (given s.0 s.1) hr s.2) s.1
 
-rows_distinct : (sets : List (List ℕ)) (rs : List Asking) → AreDistinct sets → ((s : Asking) → Has rs s → s.set < length sets) → AreDistinct rs → AreDistinct (map (row_in sets) rs)
-rows_distinct sets [] d given apart = tt
-rows_distinct sets (r ∷ rs) d given apart = (
-  λ h. apart.0 (has_row sets rs r d (λ s k. given s (inr k)) (given r (inl refl)) h),
-  rows_distinct sets rs d (λ s k. given s (inr k)) apart.1,
+look_ups_distinct : (sets : List (List ℕ)) (rs : List Asking) → AreDistinct sets → ((s : Asking) → Has rs s → s.set < length sets) → AreDistinct rs → AreDistinct (map (look_up_in sets) rs)
+look_ups_distinct sets [] d given apart = tt
+look_ups_distinct sets (r ∷ rs) d given apart = (
+  λ h. apart.0 (has_look_up sets rs r d (λ s k. given s (inr k)) (given r (inl refl)) h),
+  look_ups_distinct sets rs d (λ s k. given s (inr k)) apart.1,
 )
 
 pub held_sound : (t : Tabled) → IsTabled t → IsSound (held t)
-held_sound t h = record { sets = h.sets_apart; rows = rows_distinct t.sets t.asked h.sets_apart h.asked h.asked_apart }
+held_sound t h = record { sets = h.sets_apart; look_ups = look_ups_distinct t.sets t.asked h.sets_apart h.asked h.asked_apart }
 
 -- ---- sets that are added
 
@@ -103,60 +103,60 @@ with_cases (s ∷ more) sets x h = elim (with_cases more (with_set sets s) x h) 
 -- ---- a call
 
 module _ (t : Tabled) (tabled : IsTabled t) (r : Asking) (given : r.set < length t.sets) where
-  abbrev row : Row
-  row = row_of (held t) r.set r.ask
+  abbrev look_up : LookUp
+  look_up = look_up_of (held t) r.set r.ask
 
-  reached_targets : (x : List ℕ) → Has (reached t.graph (set_at t.sets r.set) r.ask) x → Has (targets t.graph row) x
+  reached_targets : (x : List ℕ) → Has (reached t.graph (set_at t.sets r.set) r.ask) x → Has (targets t.graph look_up) x
   reached_targets x h = by r.ask h
     where
-      by : (a : Asked) → Has (reached t.graph (set_at t.sets r.set) a) x → Has (targets t.graph (row_of (held t) r.set a)) x
+      by : (a : Question) → Has (reached t.graph (set_at t.sets r.set) a) x → Has (targets t.graph (look_up_of (held t) r.set a)) x
       by (byte_read b) k = k
       by rest_taken k = k
       by ended k = k
 
-  rows_same : (more : List (List ℕ)) (sets : List (List ℕ)) → t.sets ++ more ≡ sets → (rs : List Asking) → ((s : Asking) → Has rs s → s.set < length t.sets) →
-      map (row_in sets) rs ≡ map (row_in t.sets) rs
-  rows_same more sets kept [] h = refl
-  rows_same more sets kept (s ∷ rs) h =
+  look_ups_same : (more : List (List ℕ)) (sets : List (List ℕ)) → t.sets ++ more ≡ sets → (rs : List Asking) → ((s : Asking) → Has rs s → s.set < length t.sets) →
+      map (look_up_in sets) rs ≡ map (look_up_in t.sets) rs
+  look_ups_same more sets kept [] h = refl
+  look_ups_same more sets kept (s ∷ rs) h =
       let named : set_at sets s.set ≡ set_at t.sets s.set =
       ap (λ (xs : List (List ℕ)). get_or xs s.set []) (sym kept) ∙ get_or_append_left t.sets more [] s.set (h s (inl refl)) in
-      ap (λ n. (let w : Row = record { set = n; ask = s.ask } in w) ∷ map (row_in sets) rs) named
-      ∙ ap (λ rows. row_in t.sets s ∷ rows) (rows_same more sets kept rs (λ q k. h q (inr k)))
+      ap (λ n. (let w : LookUp = record { set = n; ask = s.ask } in w) ∷ map (look_up_in sets) rs) named
+      ∙ ap (λ look_ups. look_up_in t.sets s ∷ look_ups) (look_ups_same more sets kept rs (λ q k. h q (inr k)))
 
   -- what was asked, or is asked first, has been made
-  pub held_made : (before : ℕ) → IsTabled (once_asked t r) → HasMade (held t) (held (once_asked t r)) row before (before + 1)
+  pub held_made : (before : ℕ) → IsTabled (once_asked t r) → HasMade (held t) (held (once_asked t r)) look_up before (before + 1)
   held_made before after = by (was_asked t r) refl after
     where
-      by : (b : Bool) → was_asked t r ≡ b → IsTabled (if b then t else asked_first t r) → HasMade (held t) (held (if b then t else asked_first t r)) row before (before + 1)
+      by : (b : Bool) → was_asked t r ≡ b → IsTabled (if b then t else asked_first t r) → HasMade (held t) (held (if b then t else asked_first t r)) look_up before (before + 1)
       by true at after = record {
         graph = refl;
         limit = refl;
         kept = ([], append-nil t.sets);
         sets = λ x h. inl h;
         sound = held_sound t after;
-        holds = Has-map (row_in t.sets) t.asked r (any_has t.asked r at);
-        rows = inl (refl, omega arith);
+        holds = Has-map (look_up_in t.sets) t.asked r (any_has t.asked r at);
+        look_ups = inl (refl, omega arith);
       }
       by false at after =
           let kept = with_kept (reached t.graph (set_at t.sets r.set) r.ask) t.sets in
           let new = with_sets t.sets (reached t.graph (set_at t.sets r.set) r.ask) in
-          let rows : map (row_in new) (t.asked ++ r ∷ []) ≡ map (row_in t.sets) t.asked ++ row ∷ [] =
-          map_snoc (row_in new) t.asked r
-          ∙ (ap (λ rows. rows ++ row_in new r ∷ []) (rows_same kept.0 new kept.1 t.asked tabled.asked)
-          ∙ ap (λ x. map (row_in t.sets) t.asked ++ x) (rows_same kept.0 new kept.1 (r ∷ []) one)) in
+          let look_ups : map (look_up_in new) (t.asked ++ r ∷ []) ≡ map (look_up_in t.sets) t.asked ++ look_up ∷ [] =
+          map_snoc (look_up_in new) t.asked r
+          ∙ (ap (λ look_ups. look_ups ++ look_up_in new r ∷ []) (look_ups_same kept.0 new kept.1 t.asked tabled.asked)
+          ∙ ap (λ x. map (look_up_in t.sets) t.asked ++ x) (look_ups_same kept.0 new kept.1 (r ∷ []) one)) in
           record {
             graph = refl;
             limit = refl;
             kept = kept;
-            sets = λ x h. elim (with_cases (reached t.graph (set_at t.sets r.set) r.ask) t.sets x h) as (λ _. Has t.sets x ⊎ Has (targets t.graph row) x) [
+            sets = λ x h. elim (with_cases (reached t.graph (set_at t.sets r.set) r.ask) t.sets x h) as (λ _. Has t.sets x ⊎ Has (targets t.graph look_up) x) [
               | inl old ↦ inl old
               | inr k ↦ inr (reached_targets x k)
             ];
             sound = held_sound (asked_first t r) after;
-            holds = subst (λ (rs : List Row). Has rs row) (sym rows) (Has-append_right (map (row_in t.sets) t.asked) (row ∷ []) row (inl refl));
-            rows = inr (
-              λ h. no (sym at ∙ has_any t.asked r (has_row t.sets t.asked r tabled.sets_apart tabled.asked given h)),
-              rows,
+            holds = subst (λ (rs : List LookUp). Has rs look_up) (sym look_ups) (Has-append_right (map (look_up_in t.sets) t.asked) (look_up ∷ []) look_up (inl refl));
+            look_ups = inr (
+              λ h. no (sym at ∙ has_any t.asked r (has_look_up t.sets t.asked r tabled.sets_apart tabled.asked given h)),
+              look_ups,
               omega arith,
             );
           }
@@ -168,7 +168,7 @@ module _ (t : Tabled) (tabled : IsTabled t) (r : Asking) (given : r.set < length
           one s (inl e) = subst (λ (q : Asking). q.set < length t.sets) e given
           one s (inr n) = absurd n
 
-          map_snoc : (f : Asking → Row) (xs : List Asking) (x : Asking) → map f (xs ++ x ∷ []) ≡ map f xs ++ f x ∷ []
+          map_snoc : (f : Asking → LookUp) (xs : List Asking) (x : Asking) → map f (xs ++ x ∷ []) ≡ map f xs ++ f x ∷ []
           map_snoc f [] x = refl
           map_snoc f (y ∷ xs) x = ap (λ ys. f y ∷ ys) (map_snoc f xs x)
 
@@ -207,33 +207,33 @@ module _ (t : Tabled) (tabled : IsTabled t) (r : Asking) (given : r.set < length
   with_distinct [] sets d = d
   with_distinct (s ∷ more) sets d = with_distinct more (with_set sets s) (with_one sets s d)
 
-  sum_rows : (sets : List (List ℕ)) (rs : List Asking) → asked_weight t.graph sets rs ≡ sum_by (λ (q : Row). 1 + row_edges t.graph q) (map (row_in sets) rs)
-  sum_rows sets rs = sym (sum_map (λ (q : Row). 1 + row_edges t.graph q) (row_in sets) rs)
+  sum_look_ups : (sets : List (List ℕ)) (rs : List Asking) → asked_weight t.graph sets rs ≡ sum_by (λ (q : LookUp). 1 + look_up_edges t.graph q) (map (look_up_in sets) rs)
+  sum_look_ups sets rs = sym (sum_map (λ (q : LookUp). 1 + look_up_edges t.graph q) (look_up_in sets) rs)
 
-  -- a table that is too heavy is so by no more than its sets and rows
-  pub held_heavy : (w : ℕ) → w ≡ weight (once_asked t r) → (once_asked t r).limit < w → IsTooHeavy (held t) row w
+  -- a table that is too heavy is so by no more than its sets and look-ups
+  pub held_heavy : (w : ℕ) → w ≡ weight (once_asked t r) → (once_asked t r).limit < w → IsTooHeavy (held t) look_up w
   held_heavy w is more = by (was_asked t r) refl is more
     where
       no : false ≡ true → ⊥
       no e = cc
 
-      by : (b : Bool) → was_asked t r ≡ b → w ≡ weight (if b then t else asked_first t r) → (if b then t else asked_first t r).limit < w → IsTooHeavy (held t) row w
+      by : (b : Bool) → was_asked t r ≡ b → w ≡ weight (if b then t else asked_first t r) → (if b then t else asked_first t r).limit < w → IsTooHeavy (held t) look_up w
       by true at is more = let l = tabled.within in absurd (omega (arith, l, is, more))
       by false at is more =
           let A = t.graph in
           let made = reached A (set_at t.sets r.set) r.ask in
           let new = with_sets t.sets made in
           let kept = with_kept made t.sets in
-          let rows_are : map (row_in new) (t.asked ++ r ∷ []) ≡ map (row_in t.sets) (t.asked ++ r ∷ []) = rows_same kept.0 new kept.1 (t.asked ++ r ∷ []) all in
+          let look_ups_are : map (look_up_in new) (t.asked ++ r ∷ []) ≡ map (look_up_in t.sets) (t.asked ++ r ∷ []) = look_ups_same kept.0 new kept.1 (t.asked ++ r ∷ []) all in
           let sets_less =
-          sum_covers (λ (x : List ℕ). 1 + length x) (once bytes_eq (t.sets ++ targets A row)) new (with_distinct made t.sets tabled.sets_apart)
-          (λ x h. once_has bytes_eq same_bytes bytes_itself (t.sets ++ targets A row) x (some_set x h)) in
-          let rows_less =
-          sum_covers (λ (q : Row). 1 + row_edges A q) (once row_same (row ∷ map (row_in t.sets) t.asked)) (map (row_in t.sets) (t.asked ++ r ∷ []))
-          (rows_distinct t.sets (t.asked ++ r ∷ []) tabled.sets_apart all (snoc t.asked tabled.asked_apart (λ h. no (sym at ∙ has_any t.asked r h))))
-          (λ q h. once_has row_same same_row row_itself (row ∷ map (row_in t.sets) t.asked) q (some_row q h)) in
-          let rows_sum = sum_rows new (t.asked ++ r ∷ []) ∙ ap (sum_by (λ (q : Row). 1 + row_edges A q)) rows_are in
-          record { is = omega (arith, is, sets_less, rows_less, rows_sum); more = more }
+          sum_covers (λ (x : List ℕ). 1 + length x) (once bytes_eq (t.sets ++ targets A look_up)) new (with_distinct made t.sets tabled.sets_apart)
+          (λ x h. once_has bytes_eq same_bytes bytes_itself (t.sets ++ targets A look_up) x (some_set x h)) in
+          let look_ups_less =
+          sum_covers (λ (q : LookUp). 1 + look_up_edges A q) (once look_up_same (look_up ∷ map (look_up_in t.sets) t.asked)) (map (look_up_in t.sets) (t.asked ++ r ∷ []))
+          (look_ups_distinct t.sets (t.asked ++ r ∷ []) tabled.sets_apart all (snoc t.asked tabled.asked_apart (λ h. no (sym at ∙ has_any t.asked r h))))
+          (λ q h. once_has look_up_same same_look_up look_up_itself (look_up ∷ map (look_up_in t.sets) t.asked) q (some_look_up q h)) in
+          let look_ups_sum = sum_look_ups new (t.asked ++ r ∷ []) ∙ ap (sum_by (λ (q : LookUp). 1 + look_up_edges A q)) look_ups_are in
+          record { is = omega (arith, is, sets_less, look_ups_less, look_ups_sum); more = more }
         where
           all : (s : Asking) → Has (t.asked ++ r ∷ []) s → s.set < length t.sets
           all s h = elim (Has-append_cases t.asked (r ∷ []) s h) as (λ _. s.set < length t.sets) [
@@ -251,18 +251,18 @@ module _ (t : Tabled) (tabled : IsTabled t) (r : Asking) (given : r.set < length
             snoc xs d.1 (λ h. n (inr h)),
           )
 
-          some_set : Covers (t.sets ++ targets t.graph row) (with_sets t.sets (reached t.graph (set_at t.sets r.set) r.ask))
+          some_set : Covers (t.sets ++ targets t.graph look_up) (with_sets t.sets (reached t.graph (set_at t.sets r.set) r.ask))
           some_set x h = elim (with_cases (reached t.graph (set_at t.sets r.set) r.ask) t.sets x h) [
-            | inl old ↦ Has-append_left t.sets (targets t.graph row) x old
-            | inr m ↦ Has-append_right t.sets (targets t.graph row) x (reached_targets x m)
+            | inl old ↦ Has-append_left t.sets (targets t.graph look_up) x old
+            | inr m ↦ Has-append_right t.sets (targets t.graph look_up) x (reached_targets x m)
           ]
 
-          some_row : Covers (row ∷ map (row_in t.sets) t.asked) (map (row_in t.sets) (t.asked ++ r ∷ []))
-          some_row q h =
-              let s = Has-map_cases (row_in t.sets) (t.asked ++ r ∷ []) q h in
+          some_look_up : Covers (look_up ∷ map (look_up_in t.sets) t.asked) (map (look_up_in t.sets) (t.asked ++ r ∷ []))
+          some_look_up q h =
+              let s = Has-map_cases (look_up_in t.sets) (t.asked ++ r ∷ []) q h in
               elim (Has-append_cases t.asked (r ∷ []) s.0 s.1) [
-                | inl old ↦ inr (subst (Has (map (row_in t.sets) t.asked)) s.2 (Has-map (row_in t.sets) t.asked s.0 old))
-                | inr m ↦ elim m [ inl e ↦ inl (ap (row_in t.sets) e ∙ s.2) | inr none ↦ absurd none ]
+                | inl old ↦ inr (subst (Has (map (look_up_in t.sets) t.asked)) s.2 (Has-map (look_up_in t.sets) t.asked s.0 old))
+                | inr m ↦ elim m [ inl e ↦ inl (ap (look_up_in t.sets) e ∙ s.2) | inr none ↦ absurd none ]
               ]
 
 -- edges to numbered sets, in the words of reading

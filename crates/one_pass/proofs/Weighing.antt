@@ -1,40 +1,40 @@
--- A table that holds the rows of a reading weighs no less than the reading.
+-- A table that holds the look-ups of a reading weighs no less than the reading.
 use Rattle.std.proofs.Common.{◌≡◌, ℕ, ◌+◌, ◌≤◌, List, [], length, map, ap, subst, arith, ◌∙◌}
 use Rattle.std.specs.List.{sum_by}
 use Rattle.std.specs.Str.{bytes_eq}
 use Rattle.span_core.specs.Lists.{Has}
 use Rattle.span_core.proofs.HasLaws.{Has-get_or, Has-map_cases}
-use Rattle.automaton_reading.specs.Reading.{Row, once, row_edges, row_same}
+use Rattle.automaton_reading.specs.Reading.{LookUp, once, look_up_edges, look_up_same}
 use Rattle.automaton_reading.proofs.Matching.{has_once, once_distinct}
-use Rattle.automaton_reading.proofs.MeasureLaws.{bytes_itself, row_itself, same_bytes, same_row}
+use Rattle.automaton_reading.proofs.MeasureLaws.{bytes_itself, look_up_itself, same_bytes, same_look_up}
 use Rattle.set_table.specs.Tabled.{IsTabled, Tabled, asked_weight, sets_weight}
 use Rattle.one_pass.specs.Held.{weight_of}
-use Rattle.one_pass.specs.Seen.{held, row_in}
+use Rattle.one_pass.specs.Seen.{held, look_up_in}
 use Rattle.one_pass.proofs.Sets.{Covers, sum_covers, sum_map}
 
-module _ (t : Tabled) (tabled : IsTabled t) (rows : List Row) (holds : Covers (held t).rows rows) where
+module _ (t : Tabled) (tabled : IsTabled t) (look_ups : List LookUp) (holds : Covers (held t).look_ups look_ups) where
   abbrev sets : List (List ℕ)
-  sets = map (λ (r : Row). r.set) rows
+  sets = map (λ (r : LookUp). r.set) look_ups
 
-  -- the sets of the rows are there, since the rows are
+  -- the sets of the look-ups are there, since the look-ups are
   sets_held : Covers t.sets sets
   sets_held set h =
-      let r = Has-map_cases (λ (r : Row). r.set) rows set h in
-      let a = Has-map_cases (row_in t.sets) t.asked r.0 (holds r.0 r.1) in
-      subst (Has t.sets) (ap (λ (q : Row). q.set) a.2 ∙ r.2) (Has-get_or t.sets a.0.set [] (tabled.asked a.0 a.1))
+      let r = Has-map_cases (λ (r : LookUp). r.set) look_ups set h in
+      let a = Has-map_cases (look_up_in t.sets) t.asked r.0 (holds r.0 r.1) in
+      subst (Has t.sets) (ap (λ (q : LookUp). q.set) a.2 ∙ r.2) (Has-get_or t.sets a.0.set [] (tabled.asked a.0 a.1))
 
   sets_less : sum_by (λ set. 1 + length set) (once bytes_eq sets) ≤ sets_weight t.sets
   sets_less =
       sum_covers (λ (set : List ℕ). 1 + length set) t.sets (once bytes_eq sets) (once_distinct bytes_eq same_bytes bytes_itself sets)
       (λ set h. sets_held set (has_once bytes_eq same_bytes bytes_itself sets set h))
 
-  rows_less : sum_by (λ r. 1 + row_edges t.graph r) (once row_same rows) ≤ sum_by (λ r. 1 + row_edges t.graph r) (held t).rows
-  rows_less =
-      sum_covers (λ (r : Row). 1 + row_edges t.graph r) (held t).rows (once row_same rows) (once_distinct row_same same_row row_itself rows)
-      (λ r h. holds r (has_once row_same same_row row_itself rows r h))
+  look_ups_less : sum_by (λ r. 1 + look_up_edges t.graph r) (once look_up_same look_ups) ≤ sum_by (λ r. 1 + look_up_edges t.graph r) (held t).look_ups
+  look_ups_less =
+      sum_covers (λ (r : LookUp). 1 + look_up_edges t.graph r) (held t).look_ups (once look_up_same look_ups) (once_distinct look_up_same same_look_up look_up_itself look_ups)
+      (λ r h. holds r (has_once look_up_same same_look_up look_up_itself look_ups r h))
 
-  rows_sum : sum_by (λ r. 1 + row_edges t.graph r) (held t).rows ≡ asked_weight t.graph t.sets t.asked
-  rows_sum = sum_map (λ (r : Row). 1 + row_edges t.graph r) (row_in t.sets) t.asked
+  look_ups_sum : sum_by (λ r. 1 + look_up_edges t.graph r) (held t).look_ups ≡ asked_weight t.graph t.sets t.asked
+  look_ups_sum = sum_map (λ (r : LookUp). 1 + look_up_edges t.graph r) (look_up_in t.sets) t.asked
 
-  pub held_weighs : weight_of t.graph sets rows ≤ t.limit
-  held_weighs = omega (arith, sets_less, rows_less, rows_sum, tabled.within)
+  pub held_weighs : weight_of t.graph sets look_ups ≤ t.limit
+  held_weighs = omega (arith, sets_less, look_ups_less, look_ups_sum, tabled.within)

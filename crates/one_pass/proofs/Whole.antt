@@ -4,22 +4,22 @@ use Rattle.std.specs.Prelude.{◌↔◌, ◌||◌, if◌then◌else◌}
 use Rattle.span_core.specs.Lists.{Has, AreDistinct}
 use Rattle.span_core.proofs.HasLaws.{Has-append_left, Has-append_right, Has-append_cases, Has-map, Has-map_cases, distinct-le}
 use Rattle.marked_automaton.specs.Automaton.{Automaton, size}
-use Rattle.automaton_reading.specs.Reading.{Asked, byte_read, rest_taken, ended, Row, asked, edges_K, next_sets, once, row_same, rows_asked, rows_K, rows_read, set_of, weight_K}
+use Rattle.automaton_reading.specs.Reading.{Question, byte_read, rest_taken, ended, LookUp, questions, edges_K, next_sets, once, look_up_same, look_ups_asked, look_ups_K, look_ups_read, set_of, weight_K}
 use Rattle.automaton_reading.proofs.Matching.{once_has}
-use Rattle.automaton_reading.proofs.MeasureLaws.{same_row, row_itself}
+use Rattle.automaton_reading.proofs.MeasureLaws.{same_look_up, look_up_itself}
 use Rattle.one_pass.specs.Held.{TableView, set_named, weight_of}
 use Rattle.one_pass.specs.Words.{Word}
 use Rattle.output_graph.specs.Graph.{Source}
 use Rattle.one_pass.specs.Layers.{first_layer}
 use Rattle.one_pass.specs.Builds.{IsNew, build, started}
-use Rattle.one_pass.specs.Places.{Place, AreReadWords, Leads, asks, byte_at, edges_read, end_at, places, rest_at, sets_after, sets_met}
+use Rattle.one_pass.specs.Places.{ReadingPlace, AreReadWords, Leads, asks, byte_at, edges_read, end_at, places, rest_at, sets_after, sets_met}
 use Rattle.one_pass.specs.Passes.{Pass, sets_of, Reaches, IsReady, HasEnded, HasRead, HasStopped, Stop, IsExcess}
 use Rattle.one_pass.proofs.ReadWords.{leads_then, read_words, then_leads}
-use Rattle.one_pass.proofs.Sets.{Covers, edges_append, edges_covers, rows_append, rows_covers, rows_left, rows_right, weight_covers}
+use Rattle.one_pass.proofs.Sets.{Covers, edges_append, edges_covers, look_ups_append, look_ups_covers, look_ups_left, look_ups_right, weight_covers}
 use Rattle.one_pass.proofs.Composing.{asks_append}
 
 -- the places ask what reading asks
-pub asks_places : (K : ℕ → Bool) (d : List ℕ) (i : ℕ) (gap : Bool) → asks (places K d i gap) ≡ asked K d i gap
+pub asks_places : (K : ℕ → Bool) (d : List ℕ) (i : ℕ) (gap : Bool) → asks (places K d i gap) ≡ questions K d i gap
 asks_places K [] i gap = go (K i || gap)
   where
     go : (c : Bool) → asks (if c then end_at i ∷ [] else rest_at i ∷ end_at i ∷ []) ≡ (if c then ended ∷ [] else rest_taken ∷ ended ∷ [])
@@ -27,49 +27,49 @@ asks_places K [] i gap = go (K i || gap)
     go false = refl
 asks_places K (b ∷ d) i gap = go (asks_places K d (suc i)) (K i) gap
   where
-    go : ((g : Bool) → asks (places K d (suc i) g) ≡ asked K d (suc i) g) → (k g : Bool) →
+    go : ((g : Bool) → asks (places K d (suc i) g) ≡ questions K d (suc i) g) → (k g : Bool) →
         asks (if k then byte_at i b ∷ places K d (suc i) false else (if g then places K d (suc i) true else rest_at i ∷ places K d (suc i) true))
-        ≡ (if k then byte_read b ∷ asked K d (suc i) false else (if g then asked K d (suc i) true else rest_taken ∷ asked K d (suc i) true))
+        ≡ (if k then byte_read b ∷ questions K d (suc i) false else (if g then questions K d (suc i) true else rest_taken ∷ questions K d (suc i) true))
     go rest true g = ap (λ later. byte_read b ∷ later) (rest false)
     go rest false true = rest true
     go rest false false = ap (λ later. rest_taken ∷ later) (rest true)
 
 -- something is asked
-some_asked : (K : ℕ → Bool) (d : List ℕ) (i : ℕ) → (a : Asked) × (later : List Asked) × (asked K d i false ≡ a ∷ later)
+some_asked : (K : ℕ → Bool) (d : List ℕ) (i : ℕ) → (a : Question) × (later : List Question) × (questions K d i false ≡ a ∷ later)
 some_asked K [] i = go (K i || false)
   where
-    go : (c : Bool) → (a : Asked) × (later : List Asked) × ((if c then ended ∷ [] else rest_taken ∷ ended ∷ []) ≡ a ∷ later)
+    go : (c : Bool) → (a : Question) × (later : List Question) × ((if c then ended ∷ [] else rest_taken ∷ ended ∷ []) ≡ a ∷ later)
     go true = (ended, [], refl)
     go false = (rest_taken, ended ∷ [], refl)
 some_asked K (b ∷ d) i = go (K i)
   where
-    go : (k : Bool) → (a : Asked) × (later : List Asked) ×
-        ((if k then byte_read b ∷ asked K d (suc i) false else rest_taken ∷ asked K d (suc i) true) ≡ a ∷ later)
-    go true = (byte_read b, asked K d (suc i) false, refl)
-    go false = (rest_taken, asked K d (suc i) true, refl)
+    go : (k : Bool) → (a : Question) × (later : List Question) ×
+        ((if k then byte_read b ∷ questions K d (suc i) false else rest_taken ∷ questions K d (suc i) true) ≡ a ∷ later)
+    go true = (byte_read b, questions K d (suc i) false, refl)
+    go false = (rest_taken, questions K d (suc i) true, refl)
 
 -- the sets on the way are asked for something, where one more thing is asked
-met_asked : (A : Automaton) (sets : List (List ℕ)) (front : List Asked) (a : Asked) (later : List Asked) →
-    Covers (map (λ (r : Row). r.set) (rows_asked A sets (front ++ a ∷ later))) (sets_met A sets front)
+met_asked : (A : Automaton) (sets : List (List ℕ)) (front : List Question) (a : Question) (later : List Question) →
+    Covers (map (λ (r : LookUp). r.set) (look_ups_asked A sets (front ++ a ∷ later))) (sets_met A sets front)
 met_asked A sets [] a later set h = here sets a later set h
   where
-    here : (sets : List (List ℕ)) (a : Asked) (later : List Asked) (set : List ℕ) → Has sets set → Has (map (λ (r : Row). r.set) (rows_asked A sets (a ∷ later))) set
+    here : (sets : List (List ℕ)) (a : Question) (later : List Question) (set : List ℕ) → Has sets set → Has (map (λ (r : LookUp). r.set) (look_ups_asked A sets (a ∷ later))) set
     here sets a later set h =
-        let row : List ℕ → Row = λ s. record { set = s; ask = a } in
-        Has-map (λ (r : Row). r.set) (rows_asked A sets (a ∷ later)) (row set)
-        (Has-append_left (map row sets) (rows_asked A (next_sets A sets a) later) (row set) (Has-map row sets set h))
+        let look_up : List ℕ → LookUp = λ s. record { set = s; ask = a } in
+        Has-map (λ (r : LookUp). r.set) (look_ups_asked A sets (a ∷ later)) (look_up set)
+        (Has-append_left (map look_up sets) (look_ups_asked A (next_sets A sets a) later) (look_up set) (Has-map look_up sets set h))
 met_asked A sets (b ∷ front) a later set h =
-    let row : List ℕ → Row = λ s. record { set = s; ask = b } in
-    let all : List Row = rows_asked A sets (b ∷ (front ++ a ∷ later)) in
-    elim (Has-append_cases sets (sets_met A (next_sets A sets b) front) set h) as (λ _. Has (map (λ (r : Row). r.set) all) set) [
+    let look_up : List ℕ → LookUp = λ s. record { set = s; ask = b } in
+    let all : List LookUp = look_ups_asked A sets (b ∷ (front ++ a ∷ later)) in
+    elim (Has-append_cases sets (sets_met A (next_sets A sets b) front) set h) as (λ _. Has (map (λ (r : LookUp). r.set) all) set) [
       | inl i ↦
-          Has-map (λ (r : Row). r.set) all (row set)
-          (Has-append_left (map row sets) (rows_asked A (next_sets A sets b) (front ++ a ∷ later)) (row set) (Has-map row sets set i))
+          Has-map (λ (r : LookUp). r.set) all (look_up set)
+          (Has-append_left (map look_up sets) (look_ups_asked A (next_sets A sets b) (front ++ a ∷ later)) (look_up set) (Has-map look_up sets set i))
       | inr j ↦
           let k = met_asked A (next_sets A sets b) front a later set j in
-          let r = Has-map_cases (λ (r : Row). r.set) (rows_asked A (next_sets A sets b) (front ++ a ∷ later)) set k in
-          subst (Has (map (λ (r : Row). r.set) all)) r.2
-          (Has-map (λ (r : Row). r.set) all r.0 (Has-append_right (map row sets) (rows_asked A (next_sets A sets b) (front ++ a ∷ later)) r.0 r.1))
+          let r = Has-map_cases (λ (r : LookUp). r.set) (look_ups_asked A (next_sets A sets b) (front ++ a ∷ later)) set k in
+          subst (Has (map (λ (r : LookUp). r.set) all)) r.2
+          (Has-map (λ (r : LookUp). r.set) all r.0 (Has-append_right (map look_up sets) (look_ups_asked A (next_sets A sets b) (front ++ a ∷ later)) r.0 r.1))
     ]
 
 module _ (A : Automaton) (K : ℕ → Bool) (d : List ℕ) (t : TableView) (new : IsNew A t) (before : ℕ) where
@@ -89,7 +89,7 @@ module _ (A : Automaton) (K : ℕ → Bool) (d : List ℕ) (t : TableView) (new 
   started_ready = record {
     sound = record {
       sets = subst AreDistinct (sym new.sets) (λ h. h, tt);
-      rows = subst AreDistinct (sym new.rows) tt;
+      look_ups = subst AreDistinct (sym new.look_ups) tt;
     };
     given = λ x h. elim h as (λ _. x.set < length t.sets) [
       | inl e ↦ (let l = ap length new.sets in let z = ap (λ (y : Source). y.set) e in omega (arith, l, z))
@@ -129,7 +129,7 @@ module _ (A : Automaton) (K : ℕ → Bool) (d : List ℕ) (t : TableView) (new 
       back h = (record { set = 0; words = [] ∷ [] }, inl refl, start_named ∙ h.0, inl h.1)
 
   -- the layer after some places has the words of the choices there, and the sets that are reached
-  pub layer_words : (ps : List Place) (Q : Pass) → HasRead A ps P Q → (set : List ℕ) (w : Word) → Reaches Q set w ↔ Leads A ps (set_of A.starts) w set
+  pub layer_words : (ps : List ReadingPlace) (Q : Pass) → HasRead A ps P Q → (set : List ℕ) (w : Word) → Reaches Q set w ↔ Leads A ps (set_of A.starts) w set
   layer_words ps Q read set w = (
     λ h.
         let r = (read.words set w).0 h in
@@ -139,12 +139,12 @@ module _ (A : Automaton) (K : ℕ → Bool) (d : List ℕ) (t : TableView) (new 
     λ h. (read.words set w).1 (set_of A.starts, [], w, (first_word (set_of A.starts) []).1 (refl, refl), h, refl),
   )
 
-  pub layer_sets : (ps : List Place) (Q : Pass) → HasRead A ps P Q → (set : List ℕ) → Has (sets_of Q) set ↔ Has (sets_after A starts (asks ps)) set
+  pub layer_sets : (ps : List ReadingPlace) (Q : Pass) → HasRead A ps P Q → (set : List ℕ) → Has (sets_of Q) set ↔ Has (sets_after A starts (asks ps)) set
   layer_sets ps Q read set = subst (λ sets. Has (sets_of Q) set ↔ Has (sets_after A sets (asks ps)) set) starts_are (read.sets set)
 
   -- ---- the end
 
-  module _ (ps : List Place) (all : ps ++ end_at (length d) ∷ [] ≡ places K d 0 false) (Q R : Pass) (read : HasRead A ps P Q) (done : HasEnded A (length d) Q R) where
+  module _ (ps : List ReadingPlace) (all : ps ++ end_at (length d) ∷ [] ≡ places K d 0 false) (Q R : Pass) (read : HasRead A ps P Q) (done : HasEnded A (length d) Q R) where
     pub whole_words : AreReadWords A K d R.graph.accepted
     whole_words u = (
       λ h. (read_words A K d u).0 (to_choice h),
@@ -166,118 +166,118 @@ module _ (A : Automaton) (K : ℕ → Bool) (d : List ℕ) (t : TableView) (new 
 
   -- ---- the numbers
 
-  abbrev all_asked : List Asked
-  all_asked = asked K d 0 false
+  abbrev all_asked : List Question
+  all_asked = questions K d 0 false
 
-  front_asks : (ps rest : List Place) → ps ++ rest ≡ places K d 0 false → asks ps ++ asks rest ≡ all_asked
+  front_asks : (ps rest : List ReadingPlace) → ps ++ rest ≡ places K d 0 false → asks ps ++ asks rest ≡ all_asked
   front_asks ps rest all = sym (asks_append ps rest) ∙ (ap asks all ∙ asks_places K d 0 false)
 
-  front_rows : (ps rest : List Place) → ps ++ rest ≡ places K d 0 false → Covers (rows_read A d K) (rows_asked A (sets_of P) (asks ps))
-  front_rows ps rest all row h =
-      subst (λ questions. Has (rows_asked A starts questions) row) (front_asks ps rest all)
-      (rows_left A starts (asks ps) (asks rest) row (subst (λ sets. Has (rows_asked A sets (asks ps)) row) starts_are h))
+  front_look_ups : (ps rest : List ReadingPlace) → ps ++ rest ≡ places K d 0 false → Covers (look_ups_read A d K) (look_ups_asked A (sets_of P) (asks ps))
+  front_look_ups ps rest all look_up h =
+      subst (λ these. Has (look_ups_asked A starts these) look_up) (front_asks ps rest all)
+      (look_ups_left A starts (asks ps) (asks rest) look_up (subst (λ sets. Has (look_ups_asked A sets (asks ps)) look_up) starts_are h))
 
-  front_edges : (ps rest : List Place) → ps ++ rest ≡ places K d 0 false → edges_read A (sets_of P) (asks ps) ≤ edges_K A d K
+  front_edges : (ps rest : List ReadingPlace) → ps ++ rest ≡ places K d 0 false → edges_read A (sets_of P) (asks ps) ≤ edges_K A d K
   front_edges ps rest all =
       let a = ap (λ sets. edges_read A sets (asks ps)) starts_are in
       let b = edges_append A starts (asks ps) (asks rest) in
       let c = ap (edges_read A starts) (front_asks ps rest all) in
       omega (arith, a, b, c)
 
-  some_row : (row : Row) × Has (rows_read A d K) row
-  some_row =
+  some_look_up : (look_up : LookUp) × Has (look_ups_read A d K) look_up
+  some_look_up =
       let s = some_asked K d 0 in
-      let row : Row = record { set = set_of A.starts; ask = s.0 } in
-      (row, subst (λ questions. Has (rows_asked A starts questions) row) (sym s.2) (inl refl))
+      let look_up : LookUp = record { set = set_of A.starts; ask = s.0 } in
+      (look_up, subst (λ these. Has (look_ups_asked A starts these) look_up) (sym s.2) (inl refl))
 
   has_length : {X : Type 0} (xs : List X) (x : X) → Has xs x → 1 ≤ length xs
   has_length [] x h = absurd h
   has_length (y ∷ xs) x h = omega arith
 
-  one_row : 1 ≤ rows_K A d K
-  one_row = has_length (once row_same (rows_read A d K)) some_row.0 (once_has row_same same_row row_itself (rows_read A d K) some_row.0 some_row.1)
+  one_look_up : 1 ≤ look_ups_K A d K
+  one_look_up = has_length (once look_up_same (look_ups_read A d K)) some_look_up.0 (once_has look_up_same same_look_up look_up_itself (look_ups_read A d K) some_look_up.0 some_look_up.1)
 
-  few_rows : (rows : List Row) → AreDistinct rows → Covers (rows_read A d K) rows → length rows ≤ rows_K A d K
-  few_rows rows distinct cover =
-      distinct-le rows (once row_same (rows_read A d K)) distinct
-      (λ row h. once_has row_same same_row row_itself (rows_read A d K) row (cover row h))
+  few_look_ups : (look_ups : List LookUp) → AreDistinct look_ups → Covers (look_ups_read A d K) look_ups → length look_ups ≤ look_ups_K A d K
+  few_look_ups look_ups distinct cover =
+      distinct-le look_ups (once look_up_same (look_ups_read A d K)) distinct
+      (λ look_up h. once_has look_up_same same_look_up look_up_itself (look_ups_read A d K) look_up (cover look_up h))
 
   times_more : (a b c : ℕ) → a ≤ b → a * c ≤ b * c
   times_more a b c h = mul-le-mul_right c h
 
   -- what was given up took no more steps
-  pub stopped_steps : (ps rest : List Place) → ps ++ rest ≡ places K d 0 false → (after : Stop) → HasStopped A ps P after → after.steps + 1 ≤ before + build A d K
+  pub stopped_steps : (ps rest : List ReadingPlace) → ps ++ rest ≡ places K d 0 false → (after : Stop) → HasStopped A ps P after → after.steps + 1 ≤ before + build A d K
   stopped_steps ps rest all after s =
-      let none = ap length new.rows in
-      let zero_rows = ap (λ (rows : List Row). length rows * size A) new.rows in
-      let few = few_rows s.made s.distinct (λ row h. made_row row (s.rows row h)) in
-      let product = times_more (length s.made) (rows_K A d K) (size A) few in
-      omega (arith, s.steps, zero_rows, few, product, front_edges ps rest all, one_row)
+      let none = ap length new.look_ups in
+      let zero_look_ups = ap (λ (look_ups : List LookUp). length look_ups * size A) new.look_ups in
+      let few = few_look_ups s.made s.distinct (λ look_up h. made_look_up look_up (s.look_ups look_up h)) in
+      let product = times_more (length s.made) (look_ups_K A d K) (size A) few in
+      omega (arith, s.steps, zero_look_ups, few, product, front_edges ps rest all, one_look_up)
     where
-      made_row : (row : Row) → Has t.rows row ⊎ Has (rows_asked A (sets_of P) (asks ps)) row → Has (rows_read A d K) row
-      made_row row (inl old) = absurd (subst (λ rows. Has rows row) new.rows old)
-      made_row row (inr n) = front_rows ps rest all row n
+      made_look_up : (look_up : LookUp) → Has t.look_ups look_up ⊎ Has (look_ups_asked A (sets_of P) (asks ps)) look_up → Has (look_ups_read A d K) look_up
+      made_look_up look_up (inl old) = absurd (subst (λ look_ups. Has look_ups look_up) new.look_ups old)
+      made_look_up look_up (inr n) = front_look_ups ps rest all look_up n
 
   -- what was more than the limit is no more than the weight of the whole reading
-  pub excess_weight : (sets : List (List ℕ)) (rows : List Row) (weight : ℕ) → IsExcess t sets rows weight →
-      Covers (map (λ (r : Row). r.set) (rows_read A d K)) sets → Covers (rows_read A d K) rows → (t.limit < weight) × (weight ≤ weight_K A d K)
-  excess_weight sets rows weight x some_set some_row =
-      let less = weight_covers A (map (λ (r : Row). r.set) (rows_read A d K)) (t.sets ++ sets) (rows_read A d K) (t.rows ++ rows) all_sets all_rows in
-      let most : weight ≤ weight_of A (t.sets ++ sets) (t.rows ++ rows) = subst (λ B. weight ≤ weight_of B (t.sets ++ sets) (t.rows ++ rows)) new.graph x.most in
+  pub excess_weight : (sets : List (List ℕ)) (look_ups : List LookUp) (weight : ℕ) → IsExcess t sets look_ups weight →
+      Covers (map (λ (r : LookUp). r.set) (look_ups_read A d K)) sets → Covers (look_ups_read A d K) look_ups → (t.limit < weight) × (weight ≤ weight_K A d K)
+  excess_weight sets look_ups weight x some_set some_look_up =
+      let less = weight_covers A (map (λ (r : LookUp). r.set) (look_ups_read A d K)) (t.sets ++ sets) (look_ups_read A d K) (t.look_ups ++ look_ups) all_sets all_look_ups in
+      let most : weight ≤ weight_of A (t.sets ++ sets) (t.look_ups ++ look_ups) = subst (λ B. weight ≤ weight_of B (t.sets ++ sets) (t.look_ups ++ look_ups)) new.graph x.most in
       (x.more, omega (arith, less, most))
     where
-      all_sets : Covers (map (λ (r : Row). r.set) (rows_read A d K)) (t.sets ++ sets)
+      all_sets : Covers (map (λ (r : LookUp). r.set) (look_ups_read A d K)) (t.sets ++ sets)
       all_sets set h =
           elim (Has-append_cases t.sets sets set h) [
             | inl old ↦ met_first set (subst (λ ss. Has ss set) new.sets old)
             | inr n ↦ some_set set n
           ]
         where
-          met_first : (set : List ℕ) → Has starts set → Has (map (λ (r : Row). r.set) (rows_read A d K)) set
+          met_first : (set : List ℕ) → Has starts set → Has (map (λ (r : LookUp). r.set) (look_ups_read A d K)) set
           met_first set h =
               let s = some_asked K d 0 in
-              subst (λ questions. Has (map (λ (r : Row). r.set) (rows_asked A starts questions)) set) (sym s.2) (met_asked A starts [] s.0 s.1 set h)
+              subst (λ these. Has (map (λ (r : LookUp). r.set) (look_ups_asked A starts these)) set) (sym s.2) (met_asked A starts [] s.0 s.1 set h)
 
-      all_rows : Covers (rows_read A d K) (t.rows ++ rows)
-      all_rows row h =
-          elim (Has-append_cases t.rows rows row h) [
-            | inl old ↦ absurd (subst (λ rs. Has rs row) new.rows old)
-            | inr n ↦ some_row row n
+      all_look_ups : Covers (look_ups_read A d K) (t.look_ups ++ look_ups)
+      all_look_ups look_up h =
+          elim (Has-append_cases t.look_ups look_ups look_up h) [
+            | inl old ↦ absurd (subst (λ rs. Has rs look_up) new.look_ups old)
+            | inr n ↦ some_look_up look_up n
           ]
 
   -- the sets on the way to a place are asked for something there
-  pub front_sets : (ps : List Place) (q : Place) (rest : List Place) → ps ++ q ∷ rest ≡ places K d 0 false →
-      Covers (map (λ (r : Row). r.set) (rows_read A d K)) (sets_met A (sets_of P) (asks ps))
+  pub front_sets : (ps : List ReadingPlace) (q : ReadingPlace) (rest : List ReadingPlace) → ps ++ q ∷ rest ≡ places K d 0 false →
+      Covers (map (λ (r : LookUp). r.set) (look_ups_read A d K)) (sets_met A (sets_of P) (asks ps))
   front_sets ps q rest all set h =
-      subst (λ questions. Has (map (λ (r : Row). r.set) (rows_asked A starts questions)) set) (front_asks ps (q ∷ rest) all)
+      subst (λ these. Has (map (λ (r : LookUp). r.set) (look_ups_asked A starts these)) set) (front_asks ps (q ∷ rest) all)
       (met_asked A starts (asks ps) q.ask (asks rest) set (subst (λ sets. Has (sets_met A sets (asks ps)) set) starts_are h))
 
-  pub rows_of_front : (ps rest : List Place) → ps ++ rest ≡ places K d 0 false → Covers (rows_read A d K) (rows_asked A (sets_of P) (asks ps))
-  rows_of_front = front_rows
+  pub look_ups_of_front : (ps rest : List ReadingPlace) → ps ++ rest ≡ places K d 0 false → Covers (look_ups_read A d K) (look_ups_asked A (sets_of P) (asks ps))
+  look_ups_of_front = front_look_ups
 
   -- reading and turning take no more than is built
-  pub whole_steps : (ps : List Place) → ps ++ end_at (length d) ∷ [] ≡ places K d 0 false → (Q R : Pass) → HasRead A ps P Q → HasEnded A (length d) Q R →
+  pub whole_steps : (ps : List ReadingPlace) → ps ++ end_at (length d) ∷ [] ≡ places K d 0 false → (Q R : Pass) → HasRead A ps P Q → HasEnded A (length d) Q R →
       AreDistinct (sets_of Q) → R.steps + (2 * R.graph.live + 2) + 1 ≤ before + build A d K
   whole_steps ps all Q R read done distinct =
-      let zero_rows = ap (λ (rows : List Row). length rows * size A) new.rows in
-      let few = few_rows R.table.rows done.sound.rows rows_all in
-      let product = times_more (length R.table.rows) (rows_K A d K) (size A) few in
-      omega (arith, read.steps, read.cells, done.steps, done.cells, zero_rows, few, product, edges_all, one_row)
+      let zero_look_ups = ap (λ (look_ups : List LookUp). length look_ups * size A) new.look_ups in
+      let few = few_look_ups R.table.look_ups done.sound.look_ups look_ups_all in
+      let product = times_more (length R.table.look_ups) (look_ups_K A d K) (size A) few in
+      omega (arith, read.steps, read.cells, done.steps, done.cells, zero_look_ups, few, product, edges_all, one_look_up)
     where
-      last_rows : Covers (rows_read A d K) (rows_asked A (sets_of Q) (ended ∷ []))
-      last_rows row h =
-          subst (λ questions. Has (rows_asked A starts questions) row) (front_asks ps (end_at (length d) ∷ []) all)
-          (rows_right A starts (asks ps) (ended ∷ []) row
-          (rows_covers A (sets_after A starts (asks ps)) (sets_of Q) (ended ∷ []) (λ set k. (layer_sets ps Q read set).0 k) row h))
+      last_look_ups : Covers (look_ups_read A d K) (look_ups_asked A (sets_of Q) (ended ∷ []))
+      last_look_ups look_up h =
+          subst (λ these. Has (look_ups_asked A starts these) look_up) (front_asks ps (end_at (length d) ∷ []) all)
+          (look_ups_right A starts (asks ps) (ended ∷ []) look_up
+          (look_ups_covers A (sets_after A starts (asks ps)) (sets_of Q) (ended ∷ []) (λ set k. (layer_sets ps Q read set).0 k) look_up h))
 
-      rows_all : Covers (rows_read A d K) R.table.rows
-      rows_all row h =
-          elim (done.table.rows row h) as (λ _. Has (rows_read A d K) row) [
-            | inl old ↦ elim (read.table.rows row old) as (λ _. Has (rows_read A d K) row) [
-              | inl o ↦ absurd (subst (λ rs. Has rs row) new.rows o)
-              | inr n ↦ front_rows ps (end_at (length d) ∷ []) all row n
+      look_ups_all : Covers (look_ups_read A d K) R.table.look_ups
+      look_ups_all look_up h =
+          elim (done.table.look_ups look_up h) as (λ _. Has (look_ups_read A d K) look_up) [
+            | inl old ↦ elim (read.table.look_ups look_up old) as (λ _. Has (look_ups_read A d K) look_up) [
+              | inl o ↦ absurd (subst (λ rs. Has rs look_up) new.look_ups o)
+              | inr n ↦ front_look_ups ps (end_at (length d) ∷ []) all look_up n
             ]
-            | inr n ↦ last_rows row n
+            | inr n ↦ last_look_ups look_up n
           ]
 
       edges_all : edges_read A (sets_of P) (asks ps) + edges_read A (sets_of Q) (ended ∷ []) ≤ edges_K A d K
@@ -288,18 +288,18 @@ module _ (A : Automaton) (K : ℕ → Bool) (d : List ℕ) (t : TableView) (new 
           let e = edges_covers A (sets_after A starts (asks ps)) (sets_of Q) (ended ∷ []) distinct (λ set k. (layer_sets ps Q read set).0 k) in
           omega (arith, a, b, c, e)
 
-  -- the table holds each row that is asked for
-  pub whole_rows : (ps : List Place) → ps ++ end_at (length d) ∷ [] ≡ places K d 0 false → (Q R : Pass) → HasRead A ps P Q → HasEnded A (length d) Q R →
-      Covers R.table.rows (rows_read A d K)
-  whole_rows ps all Q R read done row h =
-      let both = ap (rows_asked A starts) (sym (front_asks ps (end_at (length d) ∷ []) all)) ∙ rows_append A starts (asks ps) (ended ∷ []) in
-      elim (Has-append_cases (rows_asked A starts (asks ps)) (rows_asked A (sets_after A starts (asks ps)) (ended ∷ [])) row (subst (λ (rows : List Row). Has rows row) both h)) [
-        | inl first ↦ done.table.stay row (read.holds row (subst (λ sets. Has (rows_asked A sets (asks ps)) row) (sym starts_are) first))
-        | inr last ↦ done.holds row (rows_covers A (sets_of Q) (sets_after A starts (asks ps)) (ended ∷ []) (λ set k. (layer_sets ps Q read set).1 k) row last)
+  -- the table holds each look-up that is asked for
+  pub whole_look_ups : (ps : List ReadingPlace) → ps ++ end_at (length d) ∷ [] ≡ places K d 0 false → (Q R : Pass) → HasRead A ps P Q → HasEnded A (length d) Q R →
+      Covers R.table.look_ups (look_ups_read A d K)
+  whole_look_ups ps all Q R read done look_up h =
+      let both = ap (look_ups_asked A starts) (sym (front_asks ps (end_at (length d) ∷ []) all)) ∙ look_ups_append A starts (asks ps) (ended ∷ []) in
+      elim (Has-append_cases (look_ups_asked A starts (asks ps)) (look_ups_asked A (sets_after A starts (asks ps)) (ended ∷ [])) look_up (subst (λ (look_ups : List LookUp). Has look_ups look_up) both h)) [
+        | inl first ↦ done.table.stay look_up (read.holds look_up (subst (λ sets. Has (look_ups_asked A sets (asks ps)) look_up) (sym starts_are) first))
+        | inr last ↦ done.holds look_up (look_ups_covers A (sets_of Q) (sets_after A starts (asks ps)) (ended ∷ []) (λ set k. (layer_sets ps Q read set).1 k) look_up last)
       ]
 
   -- no more cells are live than edges were read, and one
-  pub whole_cells : (ps : List Place) → ps ++ end_at (length d) ∷ [] ≡ places K d 0 false → (Q R : Pass) → HasRead A ps P Q → HasEnded A (length d) Q R →
+  pub whole_cells : (ps : List ReadingPlace) → ps ++ end_at (length d) ∷ [] ≡ places K d 0 false → (Q R : Pass) → HasRead A ps P Q → HasEnded A (length d) Q R →
       AreDistinct (sets_of Q) → R.graph.live ≤ edges_K A d K + 1
   whole_cells ps all Q R read done distinct =
       let a = ap (λ sets. edges_read A sets (asks ps)) starts_are in

@@ -9,24 +9,24 @@ use Rattle.output_graph.specs.Source.{Edges}
 use Rattle.output_graph.specs.Sound.{edges_of}
 use Rattle.one_pass.specs.declared.known.Known.{Known}
 use Rattle.one_pass.specs.declared.known.KnownStep.{KnownStep}
-use Rattle.one_pass.specs.Held.{TableView, AreNumbered, StaysOn, row_of, set_named}
+use Rattle.one_pass.specs.Held.{TableView, AreNumbered, StaysOn, look_up_of, set_named}
 use Rattle.one_pass.specs.Passes.{AllStayOn}
 use Rattle.one_pass.specs.Seen.{whole}
 
 -- the set of a number was asked for a byte, and these are its edges on it
-pub record IsRow (t : TableView) (b s : ℕ) (group : Edges) : Type 0 where
+pub record IsLookUp (t : TableView) (b s : ℕ) (group : Edges) : Type 0 where
   pub given : s < length t.sets
-  pub asked : Has t.rows (row_of t s (byte_read b))
+  pub asked : Has t.look_ups (look_up_of t s (byte_read b))
   pub by : List Edge
   pub are : edges_of by ≡ group
   pub numbered : AreNumbered t by (edges t.graph (set_named t s) (byte_read b))
 
 -- and those of each set, in their order
-abbrev pub AreRows : TableView → ℕ → List ℕ → List Edges → Type 0
-AreRows t b [] [] = Unit {0}
-AreRows t b [] (group ∷ groups) = ⊥
-AreRows t b (s ∷ sets) [] = ⊥
-AreRows t b (s ∷ sets) (group ∷ groups) = IsRow t b s group × AreRows t b sets groups
+abbrev pub AreLookUps : TableView → ℕ → List ℕ → List Edges → Type 0
+AreLookUps t b [] [] = Unit {0}
+AreLookUps t b [] (group ∷ groups) = ⊥
+AreLookUps t b (s ∷ sets) [] = ⊥
+AreLookUps t b (s ∷ sets) (group ∷ groups) = IsLookUp t b s group × AreLookUps t b sets groups
 
 -- each set was asked for the byte, and has one edge on it, without marks and to itself
 abbrev pub AreStill : TableView → ℕ → List ℕ → Type 0
@@ -38,7 +38,7 @@ layer_at layers k = slice_index_or layers k []
 
 -- a program of the edges of these sets on a byte, and the number of the layer that it leads to
 pub record IsStepOf (t : TableView) (layers : List (List ℕ)) (b : ℕ) (sets : List ℕ) (step : KnownStep) : Type 0 where
-  pub rows : AreRows t b sets step.program.groups
+  pub look_ups : AreLookUps t b sets step.program.groups
   pub next : slice_get layers step.next ≡ Some step.program.targets
 
 -- what is entered for a byte of these sets: 0 nothing, 1 that they are still, and else 2 more than the place of a step

@@ -3,13 +3,13 @@ use Rattle.std.specs.Prelude.{◌≡◌, ℕ, ◌+◌, ◌*◌, ◌<◌, ◌≤�
 use Rattle.span_core.specs.Lists.{Has}
 use Rattle.span_core.specs.Intervals.{AreApart, Covers}
 use Rattle.marked_automaton.specs.Automaton.{Automaton}
-use Rattle.automaton_reading.specs.Reading.{asked, edges, edges_K, rows_asked, set_of, weight_K}
+use Rattle.automaton_reading.specs.Reading.{questions, edges, edges_K, look_ups_asked, set_of, weight_K}
 use Rattle.automaton_reading.specs.Chosen.{IsReadWith}
-use Rattle.one_pass.specs.Held.{TableView, row_of, set_named}
+use Rattle.one_pass.specs.Held.{TableView, look_up_of, set_named}
 use Rattle.output_graph.specs.Graph.{Source}
 use Rattle.one_pass.specs.Words.{Word}
 use Rattle.one_pass.specs.Builds.{IsNew, build, started}
-use Rattle.one_pass.specs.Places.{Place, AreReadWords, Leads, asks, end_at, is_touched, parts_places, places, sets_after, sets_met, word_of}
+use Rattle.one_pass.specs.Places.{ReadingPlace, AreReadWords, Leads, asks, end_at, is_touched, parts_places, places, sets_after, sets_met, word_of}
 use Rattle.one_pass.specs.Passes.{Pass, Stop, sets_of, HasEnded, HasRead, HasStopped, IsExcess, IsReady, Reaches}
 
 -- choices of edges at the places of a document make the words that are read
@@ -20,31 +20,31 @@ ChoiceLaw =
 
 -- what is asked at the places is what is counted
 abbrev pub PlaceLaw : Type 0
-PlaceLaw = (K : ℕ → Bool) (d : List ℕ) (i : ℕ) (in_gap : Bool) → asks (places K d i in_gap) ≡ asked K d i in_gap
+PlaceLaw = (K : ℕ → Bool) (d : List ℕ) (i : ℕ) (in_gap : Bool) → asks (places K d i in_gap) ≡ questions K d i in_gap
 
 -- after the places up to a position the layer has the sets that are reached, each with the words of the choices
 -- that lead there
-pub record IsLayerLaw (A : Automaton) (ps : List Place) (Q : Pass) : Type 0 where
+pub record IsLayerLaw (A : Automaton) (ps : List ReadingPlace) (Q : Pass) : Type 0 where
   pub words : (set : List ℕ) (w : Word) → Reaches Q set w ↔ Leads A ps (set_of A.starts) w set
   pub sets : (set : List ℕ) → Has (sets_of Q) set ↔ Has (sets_after A (set_of A.starts ∷ []) (asks ps)) set
 
 abbrev pub LayerLaw : Type 0
 LayerLaw =
-    (A : Automaton) (t : TableView) (before : ℕ) (ps : List Place) (Q : Pass) →
+    (A : Automaton) (t : TableView) (before : ℕ) (ps : List ReadingPlace) (Q : Pass) →
     IsNew A t → HasRead A ps (started t before) Q → IsLayerLaw A ps Q
 
 -- places may be read one after another
 abbrev pub StepLaw : Type 0
 StepLaw =
-    (A : Automaton) (ps qs : List Place) (P Q R : Pass) (at : ℕ) →
+    (A : Automaton) (ps qs : List ReadingPlace) (P Q R : Pass) (at : ℕ) →
     HasRead A ps P Q → IsReady Q at → HasRead A qs Q R → HasRead A (ps ++ qs) P R
 
 -- where each set of the layer has been asked, and has one edge, without marks and to itself, the place has been read before it is
 abbrev pub StayLaw : Type 0
 StayLaw =
-    (A : Automaton) (p : Place) (P : Pass) →
+    (A : Automaton) (p : ReadingPlace) (P : Pass) →
     ((x : Source) → Has P.graph.layer x →
-    Has P.table.rows (row_of P.table x.set p.ask) × (edges A (set_named P.table x.set) p.ask ≡ record { marks = 0; to = set_named P.table x.set } ∷ [])) →
+    Has P.table.look_ups (look_up_of P.table x.set p.ask) × (edges A (set_named P.table x.set) p.ask ≡ record { marks = 0; to = set_named P.table x.set } ∷ [])) →
     HasRead A (p ∷ []) P P
 
 -- the whole document: the words, the steps with those of turning, and the cells
@@ -55,22 +55,22 @@ pub record IsWholeLaw (A : Automaton) (K : ℕ → Bool) (d : List ℕ) (before 
 
 abbrev pub WholeLaw : Type 0
 WholeLaw =
-    (A : Automaton) (K : ℕ → Bool) (d : List ℕ) (t : TableView) (before : ℕ) (ps : List Place) (Q R : Pass) →
+    (A : Automaton) (K : ℕ → Bool) (d : List ℕ) (t : TableView) (before : ℕ) (ps : List ReadingPlace) (Q R : Pass) →
     IsNew A t → ps ++ end_at (length d) ∷ [] ≡ places K d 0 false → HasRead A ps (started t before) Q → IsReady Q (length d) →
     HasEnded A (length d) Q R → IsWholeLaw A K d before R
 
 -- what was given up took no more steps
 abbrev pub StopLaw : Type 0
 StopLaw =
-    (A : Automaton) (K : ℕ → Bool) (d : List ℕ) (t : TableView) (before : ℕ) (after : Stop) (ps rest : List Place) →
+    (A : Automaton) (K : ℕ → Bool) (d : List ℕ) (t : TableView) (before : ℕ) (after : Stop) (ps rest : List ReadingPlace) →
     IsNew A t → ps ++ rest ≡ places K d 0 false → HasStopped A ps (started t before) after → after.steps + 1 ≤ before + build A d K
 
 -- what the table would have weighed when it refused is more than its limit, and no more than the whole reading weighs
 abbrev pub FullLaw : Type 0
 FullLaw =
-    (A : Automaton) (K : ℕ → Bool) (d : List ℕ) (t : TableView) (before : ℕ) (ps : List Place) (q : Place) (rest : List Place) (weight : ℕ) →
+    (A : Automaton) (K : ℕ → Bool) (d : List ℕ) (t : TableView) (before : ℕ) (ps : List ReadingPlace) (q : ReadingPlace) (rest : List ReadingPlace) (weight : ℕ) →
     IsNew A t → ps ++ q ∷ rest ≡ places K d 0 false →
-    IsExcess t (sets_met A (sets_of (started t before)) (asks ps)) (rows_asked A (sets_of (started t before)) (asks ps)) weight →
+    IsExcess t (sets_met A (sets_of (started t before)) (asks ps)) (look_ups_asked A (sets_of (started t before)) (asks ps)) weight →
     (t.limit < weight) × (weight ≤ weight_K A d K)
 
 -- a document is read by its intervals, whose positions are those that they cover

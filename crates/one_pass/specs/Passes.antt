@@ -2,13 +2,13 @@
 use Rattle.std.specs.Prelude.{◌≡◌, ℕ, ◌+◌, ◌*◌, ◌<◌, ◌≤◌, ◌↔◌, ◌⊎◌, List, [], ◌∷◌, ◌++◌, map, length}
 use Rattle.span_core.specs.Lists.{Has, AreDistinct}
 use Rattle.marked_automaton.specs.Automaton.{Automaton, size}
-use Rattle.automaton_reading.specs.Reading.{Row, ended, rows_asked}
+use Rattle.automaton_reading.specs.Reading.{LookUp, ended, look_ups_asked}
 use Rattle.one_pass.specs.Held.{TableView, IsSound, StaysOn, set_named, weight_of}
 use Rattle.one_pass.specs.Words.{Word}
 use Rattle.output_graph.specs.Graph.{Source}
 use Rattle.one_pass.specs.Layers.{GraphView, IsPast, numbers_of}
 use Rattle.one_pass.specs.Making.{making_read}
-use Rattle.one_pass.specs.Places.{Place, Leads, asks, edges_read, end_at, sets_after, sets_met, sets_on}
+use Rattle.one_pass.specs.Places.{ReadingPlace, Leads, asks, edges_read, end_at, sets_after, sets_met, sets_on}
 
 -- the table, the graph, and the steps that were taken
 pub record Pass : Type 0 where
@@ -50,14 +50,14 @@ pub record IsOpen (t : TableView) (g : GraphView) (at : ℕ) : Type 0 where
   pub given : AreGiven t g
   pub past : IsPast g.layer at
 
--- the table has these sets and rows more, or some of them
-pub record HasGrown (old new : TableView) (more_sets : List (List ℕ)) (more_rows : List Row) : Type 0 where
+-- the table has these sets and look-ups more, or some of them
+pub record HasGrown (old new : TableView) (more_sets : List (List ℕ)) (more_look_ups : List LookUp) : Type 0 where
   pub graph : new.graph ≡ old.graph
   pub limit : new.limit ≡ old.limit
   pub kept : (more : List (List ℕ)) × (old.sets ++ more ≡ new.sets)
   pub sets : (set : List ℕ) → Has new.sets set → Has old.sets set ⊎ Has more_sets set
-  pub rows : (row : Row) → Has new.rows row → Has old.rows row ⊎ Has more_rows row
-  pub stay : (row : Row) → Has old.rows row → Has new.rows row
+  pub look_ups : (look_up : LookUp) → Has new.look_ups look_up → Has old.look_ups look_up ⊎ Has more_look_ups look_up
+  pub stay : (look_up : LookUp) → Has old.look_ups look_up → Has new.look_ups look_up
 
 -- the table keeps what it holds
 pub record HasKept (old new : TableView) : Type 0 where
@@ -67,22 +67,22 @@ pub record HasKept (old new : TableView) : Type 0 where
   pub sound : IsSound new
 
 -- the words that reach a set are those that reached one before, with those of a choice of edges behind them
-abbrev pub Extends : Automaton → List Place → Pass → Pass → Type 0
+abbrev pub Extends : Automaton → List ReadingPlace → Pass → Pass → Type 0
 Extends A ps P Q =
     (set : List ℕ) (w : Word) →
     Reaches Q set w ↔ ((from : List ℕ) × (u v : Word) × Reaches P from u × Leads A ps from v set × (u ++ v ≡ w))
 
 -- the places have been read: what they ask for is there
-pub record HasRead (A : Automaton) (ps : List Place) (P Q : Pass) : Type 0 where
+pub record HasRead (A : Automaton) (ps : List ReadingPlace) (P Q : Pass) : Type 0 where
   pub words : Extends A ps P Q
   pub sets : (set : List ℕ) → Has (sets_of Q) set ↔ Has (sets_after A (sets_of P) (asks ps)) set
-  pub table : HasGrown P.table Q.table (sets_met A (sets_of P) (asks ps)) (rows_asked A (sets_of P) (asks ps))
-  pub holds : (row : Row) → Has (rows_asked A (sets_of P) (asks ps)) row → Has Q.table.rows row
+  pub table : HasGrown P.table Q.table (sets_met A (sets_of P) (asks ps)) (look_ups_asked A (sets_of P) (asks ps))
+  pub holds : (look_up : LookUp) → Has (look_ups_asked A (sets_of P) (asks ps)) look_up → Has Q.table.look_ups look_up
   -- the sizes of the layers and of the graph pay for the steps, with 6 for each edge and the automaton's size
-  -- for each row that was made
+  -- for each look-up that was made
   pub steps :
-      Q.steps + Q.graph.live + 3 * length Q.graph.layer + length P.table.rows * size A
-      ≤ P.steps + P.graph.live + 3 * length P.graph.layer + 6 * edges_read A (sets_of P) (asks ps) + length Q.table.rows * size A
+      Q.steps + Q.graph.live + 3 * length Q.graph.layer + length P.table.look_ups * size A
+      ≤ P.steps + P.graph.live + 3 * length P.graph.layer + 6 * edges_read A (sets_of P) (asks ps) + length Q.table.look_ups * size A
   pub cells : Q.graph.live ≤ P.graph.live + edges_read A (sets_of P) (asks ps)
   -- only making edges let the number of live cells rise
   pub rise : Q.graph.live ≤ P.graph.live + making_read A (sets_of P) (asks ps)
@@ -95,31 +95,31 @@ pub record Stop : Type 0 where
 abbrev pub stop : TableView → ℕ → Stop
 stop t n = record { table = t; steps = n }
 
--- reading was given up: the table keeps what it holds, and the rows that were made then paid for the steps, with so much
+-- reading was given up: the table keeps what it holds, and the look-ups that were made then paid for the steps, with so much
 -- for the edges
-pub record StopsWithin (A : Automaton) (ps : List Place) (P : Pass) (more : List (List ℕ)) (for_edges : ℕ) (S : Stop) : Type 0 where
-  pub table : HasGrown P.table S.table more (rows_asked A (sets_of P) (asks ps))
+pub record StopsWithin (A : Automaton) (ps : List ReadingPlace) (P : Pass) (more : List (List ℕ)) (for_edges : ℕ) (S : Stop) : Type 0 where
+  pub table : HasGrown P.table S.table more (look_ups_asked A (sets_of P) (asks ps))
   pub sound : IsSound S.table
-  pub made : List Row
+  pub made : List LookUp
   pub distinct : AreDistinct made
-  pub few : length made ≤ length S.table.rows
-  pub rows : (row : Row) → Has made row → Has P.table.rows row ⊎ Has (rows_asked A (sets_of P) (asks ps)) row
+  pub few : length made ≤ length S.table.look_ups
+  pub look_ups : (look_up : LookUp) → Has made look_up → Has P.table.look_ups look_up ⊎ Has (look_ups_asked A (sets_of P) (asks ps)) look_up
   pub steps :
-      S.steps + length P.table.rows * size A
+      S.steps + length P.table.look_ups * size A
       ≤ P.steps + P.graph.live + 3 * length P.graph.layer + for_edges + length made * size A
 
 -- with 6 for each edge where places are read
-abbrev pub HasStopped : Automaton → List Place → Pass → Stop → Type 0
+abbrev pub HasStopped : Automaton → List ReadingPlace → Pass → Stop → Type 0
 HasStopped A ps P S = StopsWithin A ps P (sets_met A (sets_of P) (asks ps)) (6 * edges_read A (sets_of P) (asks ps)) S
 
 -- and 3 where it was one place, whose sets alone are made
-abbrev pub HasStoppedAt : Automaton → Place → Pass → Stop → Type 0
+abbrev pub HasStoppedAt : Automaton → ReadingPlace → Pass → Stop → Type 0
 HasStoppedAt A p P S = StopsWithin A (p ∷ []) P (sets_on A (sets_of P) p.ask) (3 * edges_read A (sets_of P) (p.ask ∷ [])) S
 
--- more than the limit, and no more than the table held with these sets and rows
-pub record IsExcess (t : TableView) (sets : List (List ℕ)) (rows : List Row) (weight : ℕ) : Type 0 where
+-- more than the limit, and no more than the table held with these sets and look-ups
+pub record IsExcess (t : TableView) (sets : List (List ℕ)) (look_ups : List LookUp) (weight : ℕ) : Type 0 where
   pub more : t.limit < weight
-  pub most : weight ≤ weight_of t.graph (t.sets ++ sets) (t.rows ++ rows)
+  pub most : weight ≤ weight_of t.graph (t.sets ++ sets) (t.look_ups ++ look_ups)
 
 -- the sources of the layer have been ended at n
 pub record HasEnded (A : Automaton) (n : ℕ) (P Q : Pass) : Type 0 where
@@ -127,10 +127,10 @@ pub record HasEnded (A : Automaton) (n : ℕ) (P Q : Pass) : Type 0 where
       (w : Word) →
       Has Q.graph.accepted w ↔ ((from : List ℕ) × (u v : Word) × Reaches P from u × Leads A (end_at n ∷ []) from v [] × (u ++ v ≡ w))
   pub every : Q.graph.stepped ≡ length Q.graph.layer
-  pub table : HasGrown P.table Q.table [] (rows_asked A (sets_of P) (ended ∷ []))
-  pub holds : (row : Row) → Has (rows_asked A (sets_of P) (ended ∷ [])) row → Has Q.table.rows row
+  pub table : HasGrown P.table Q.table [] (look_ups_asked A (sets_of P) (ended ∷ []))
+  pub holds : (look_up : LookUp) → Has (look_ups_asked A (sets_of P) (ended ∷ [])) look_up → Has Q.table.look_ups look_up
   pub sound : IsSound Q.table
   pub steps :
-      Q.steps + Q.graph.live + length P.table.rows * size A
-      ≤ P.steps + P.graph.live + 3 * length P.graph.layer + 3 * edges_read A (sets_of P) (ended ∷ []) + length Q.table.rows * size A
+      Q.steps + Q.graph.live + length P.table.look_ups * size A
+      ≤ P.steps + P.graph.live + 3 * length P.graph.layer + 3 * edges_read A (sets_of P) (ended ∷ []) + length Q.table.look_ups * size A
   pub cells : Q.graph.live ≤ P.graph.live + edges_read A (sets_of P) (ended ∷ [])

@@ -5,7 +5,7 @@
 ghost use Rattle.std.specs.Prelude.{◌≡◌, ℕ, ◌+◌, [], ◌∷◌, IfErr, IfOk, IfSome, OnErr, OnOk, Some, None, slice_get};
 ghost use Rattle.output_graph.specs.Graph.{sets_of};
 ghost use Rattle.one_pass.specs.Faults.{IsFaultAt};
-ghost use Rattle.one_pass.specs.Known.{AreRows, IsEntry, KeepsLayers, Knows, Stands, layer_at};
+ghost use Rattle.one_pass.specs.Known.{AreLookUps, IsEntry, KeepsLayers, Knows, Stands, layer_at};
 ghost use Rattle.one_pass.specs.Passes.{HasRead, HasStopped, IsReady, pass, stop};
 ghost use Rattle.one_pass.specs.Places.{byte_at};
 ghost use Rattle.one_pass.specs.Seen.{held, whole};
@@ -126,7 +126,7 @@ fn run_step<L: Ledger>(
     steps: &mut Steps<L>,
 ) -> Option<usize>
     requires ready { IsReady (pass (held table.now) (whole graph.old) steps.old) at }
-    requires rows { AreRows (held table.now) byte (sets_of graph.old.layer) step.now.program.groups }
+    requires look_ups { AreLookUps (held table.now) byte (sets_of graph.old.layer) step.now.program.groups }
     ensures read { IfSome result (λ _. HasRead table.now.graph (byte_at at byte ∷ []) (pass (held table.now) (whole graph.old) steps.old) (pass (held table.now) (whole graph.new) steps.new)) }
     ensures ready { IfSome result (λ _. IsReady (pass (held table.now) (whole graph.new) steps.new) (at + 1)) }
     ensures next { IfSome result (λ next. (next ≡ step.now.next) × (sets_of graph.new.layer ≡ step.now.program.targets)) }

@@ -7,13 +7,13 @@ ghost use Rattle.std.specs.Prelude.{◌≡◌, ℕ, ◌+◌, ◌*◌, ◌<◌, �
 ghost use Rattle.output_graph.specs.Graph.{sets_of};
 ghost use Rattle.output_graph.specs.Source.{Edges};
 ghost use Rattle.one_pass.specs.Held.{TableView};
-ghost use Rattle.one_pass.specs.Known.{AreRows, AreStill, IsEntry, IsRow, IsStepOf, KeepsKnown, KeepsLayers, Knows, Stands, layer_at};
+ghost use Rattle.one_pass.specs.Known.{AreLookUps, AreStill, IsEntry, IsLookUp, IsStepOf, KeepsKnown, KeepsLayers, Knows, Stands, layer_at};
 ghost use Rattle.one_pass.specs.Passes.{AreGiven};
 ghost use Rattle.one_pass.specs.Seen.{held, whole};
 
 use crate::places::stays_of;
 use output_graph::{OutputGraph, Program};
-use set_table::{Sets, Table};
+use set_table::{NumberedLists, Table};
 use span_core::{ByteSet, Edge, OutOfMemory};
 use std::alloc::Global;
 
@@ -48,7 +48,7 @@ pub(crate) struct KnownStep {
 #[derive(Drop)]
 pub struct Known {
     alloc: Global,
-    pub(crate) layers: Sets,
+    pub(crate) layers: NumberedLists,
     pub(crate) entries: Vec<u32>,
     pub(crate) steps: Vec<KnownStep>,
     pub(crate) stays: ByteSet,
@@ -63,7 +63,7 @@ impl Known {
     {
         Known {
             alloc,
-            layers: Sets::new(alloc),
+            layers: NumberedLists::new(alloc),
             entries: Vec::new(alloc),
             steps: Vec::new(alloc),
             stays: ByteSet::empty(),
@@ -199,7 +199,7 @@ impl Known {
     fn learn_step(&mut self, table: &Table<'_>, layer: usize, byte: u8, program: Program)
         requires known { Knows (held table.now) self.old }
         requires within { layer < length self.old.layers }
-        requires rows { AreRows (held table.now) byte (layer_at self.old.layers layer) program.groups }
+        requires look_ups { AreLookUps (held table.now) byte (layer_at self.old.layers layer) program.groups }
         ensures { Knows (held table.now) self.new }
     {
         let size = step_words(program.edges(), program.sources());
@@ -313,18 +313,18 @@ fn leads_back(edge: Edge, set: u32) -> bool
 
 /// The program of these sets on a byte, if each of them was asked for it.
 fn program_of(alloc: Global, table: &Table<'_>, sets: &[u32], byte: u8) -> Option<Program>
-    ensures { IfSome result (λ p. AreRows (held table.now) byte sets.now p.groups) }
+    ensures { IfSome result (λ p. AreLookUps (held table.now) byte sets.now p.groups) }
 {
     let mut program = Program::new(alloc);
     for set in sets {
-        program = with_row(program, table, *set, byte)?;
+        program = with_look_up(program, table, *set, byte)?;
     }
     Some(program)
 }
 
 /// The program with the edges of one set more, if it was asked for the byte.
-fn with_row(program: Program, table: &Table<'_>, set: u32, byte: u8) -> Option<Program>
-    ensures { IfSome result (λ p. (group : Edges) × IsRow (held table.now) byte set group × (p.groups ≡ program.groups ++ group ∷ [])) }
+fn with_look_up(program: Program, table: &Table<'_>, set: u32, byte: u8) -> Option<Program>
+    ensures { IfSome result (λ p. (group : Edges) × IsLookUp (held table.now) byte set group × (p.groups ≡ program.groups ++ group ∷ [])) }
 {
     let edges = table.asked_row(set, byte)?;
     match program.with_source(edges) {

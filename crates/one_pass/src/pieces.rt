@@ -4,7 +4,7 @@
 //! the pieces that come.
 ghost use Rattle.std.specs.Prelude.{◌≡◌, ℕ, ◌+◌, ◌^◌, ◌≤◌, [], ◌∷◌, length, IfErr, IfOk, OnErr, OnOk};
 ghost use Rattle.span_core.specs.Lists.{Has};
-ghost use Rattle.automaton_reading.specs.Reading.{ended, rows_asked};
+ghost use Rattle.automaton_reading.specs.Reading.{ended, look_ups_asked};
 ghost use Rattle.output_graph.specs.Graph.{sets_of as numbers_in, sources};
 ghost use Rattle.one_pass.specs.Faults.{IsFaultAt, IsFaultOf};
 ghost use Rattle.one_pass.specs.Known.{Knows};
@@ -26,7 +26,7 @@ use std::sync::ledger::Ledger;
 /// is so again behind the piece. After a refusal the graph is given up, and the table keeps what it holds.
 ///
 /// With g live cells and l sets in the layer before, g' and l' after (0 where it is refused), e edges that are
-/// read and r rows that the table makes first, or refuses, it takes at most g - g' + 3(l - l') + 6e + r * size
+/// read and r look-ups that the table makes first, or refuses, it takes at most g - g' + 3(l - l') + 6e + r * size
 /// steps. `TableFault::Full` comes only where what the table holds and what reading the piece asks for weigh more
 /// than its limit.
 pub fn advance<L: Ledger>(
@@ -92,7 +92,7 @@ pub fn finish<L: Ledger>(
     ensures every { IfOk result (λ g. g.stepped ≡ length g.layer) }
     ensures only { IfOk result (λ g. (s : ℕ) → Has (numbers_in g.next) s → s ≡ 0) }
     ensures stopped { OnErr result (HasStoppedAt table.old.graph (end_at at) (pass (held table.old) (whole graph) steps.old) (stop (held table.new) steps.new)) }
-    ensures cause { IfErr result (λ e. IsFaultOf (held table.old) [] (rows_asked table.old.graph (sets_of (pass (held table.old) (whole graph) steps.old)) (ended ∷ [])) e) }
+    ensures cause { IfErr result (λ e. IsFaultOf (held table.old) [] (look_ups_asked table.old.graph (sets_of (pass (held table.old) (whole graph) steps.old)) (ended ∷ [])) e) }
 {
     let mut graph = graph;
     table.start();

@@ -5,12 +5,12 @@
 ghost use Rattle.std.specs.Prelude.{◌≡◌, ℕ, ◌+◌, ◌<◌, [], ◌∷◌, length, IfErr, IsTrue, OnOk, OnErr};
 ghost use Rattle.std.specs.FinSet as bytes;
 ghost use Rattle.span_core.specs.Lists.{Has};
-ghost use Rattle.automaton_reading.specs.Reading.{byte_read, ended, rest_taken, rows_asked};
+ghost use Rattle.automaton_reading.specs.Reading.{byte_read, ended, rest_taken, look_ups_asked};
 ghost use Rattle.output_graph.specs.Graph.{IsCost, IsPlace, IsStepped, sets_of as numbers_in, sources};
 ghost use Rattle.output_graph.specs.Sound.{edges_of};
 ghost use Rattle.one_pass.specs.Causes.{HasCause};
 ghost use Rattle.one_pass.specs.Faults.{IsFaultAt, IsFaultOf};
-ghost use Rattle.one_pass.specs.Held.{rest_edges, row_of};
+ghost use Rattle.one_pass.specs.Held.{rest_edges, look_up_of};
 ghost use Rattle.one_pass.specs.Passes.{AllStayOn, AreGiven, HasEnded, HasRead, HasStopped, HasStoppedAt, IsReady, pass, sets_of, stop};
 ghost use Rattle.one_pass.specs.Places.{byte_at, end_at, rest_at};
 ghost use Rattle.one_pass.specs.Seen.{ending_from, held, whole};
@@ -62,7 +62,7 @@ fn turn_byte<L: Ledger>(
     requires place { IsPlace graph.old at }
     ensures turned { OnOk result (HasTurned table.old table.new set (byte_read byte) at graph.old graph.new steps.old steps.new) }
     ensures refused { OnErr result (HasNotTurned table.old table.new set (byte_read byte) graph.old steps.old steps.new) }
-    ensures cause { IfErr result (λ e. HasCause (held table.old) (row_of (held table.old) set (byte_read byte)) e) }
+    ensures cause { IfErr result (λ e. HasCause (held table.old) (look_up_of (held table.old) set (byte_read byte)) e) }
 {
     table.start();
     let turned = match table.row(set, byte, steps) {
@@ -131,7 +131,7 @@ fn turn_rest<L: Ledger>(
     requires place { IsPlace graph.old at }
     ensures turned { OnOk result (HasTurned table.old table.new set rest_taken at graph.old graph.new steps.old steps.new) }
     ensures refused { OnErr result (HasNotTurned table.old table.new set rest_taken graph.old steps.old steps.new) }
-    ensures cause { IfErr result (λ e. HasCause (held table.old) (row_of (held table.old) set rest_taken) e) }
+    ensures cause { IfErr result (λ e. HasCause (held table.old) (look_up_of (held table.old) set rest_taken) e) }
 {
     table.start();
     let turned = match table.rest(set, steps) {
@@ -182,7 +182,7 @@ pub fn end_layer<L: Ledger>(
     ensures every { OnOk result (graph.new.stepped ≡ length graph.new.layer) }
     ensures accepted { OnOk result ((s : ℕ) → Has (numbers_in graph.new.next) s → s ≡ 0) }
     ensures stopped { OnErr result (HasStoppedAt table.old.graph (end_at at) (pass (held table.old) (whole graph.old) steps.old) (stop (held table.new) steps.new)) }
-    ensures cause { IfErr result (λ e. IsFaultOf (held table.old) [] (rows_asked table.old.graph (sets_of (pass (held table.old) (whole graph.old) steps.old)) (ended ∷ [])) e) }
+    ensures cause { IfErr result (λ e. IsFaultOf (held table.old) [] (look_ups_asked table.old.graph (sets_of (pass (held table.old) (whole graph.old) steps.old)) (ended ∷ [])) e) }
 {
     for k in 0..graph.layer_len() {
         let set = graph.set_at(k);
@@ -208,7 +208,7 @@ fn turn_end<L: Ledger>(
     requires place { IsPlace graph.old at }
     ensures turned { OnOk result (HasTurnedEnd table.old table.new set at graph.old graph.new steps.old steps.new) }
     ensures refused { OnErr result (HasNotTurned table.old table.new set ended graph.old steps.old steps.new) }
-    ensures cause { IfErr result (λ e. HasCause (held table.old) (row_of (held table.old) set ended) e) }
+    ensures cause { IfErr result (λ e. HasCause (held table.old) (look_up_of (held table.old) set ended) e) }
 {
     table.start();
     let turned = match table.ends(set, steps) {

@@ -10,7 +10,7 @@ use Rattle.std.proofs.lemmas.Cmp.{nat_cmp_total}
 use Rattle.span_core.specs.ByteWordLaws.{contains-bytes_between}
 use Rattle.marked_automaton.specs.declared.way.Way.{Way}
 use Rattle.marked_automaton.specs.Automaton.{ByteClass, all_bytes}
-use Rattle.automaton_reading.specs.Reading.{Asked, byte_read, rest_taken, ended, Reach, Row, is_among, set_of, blocks_down, reach_with, edges, asked, once, row_same, rows_asked, rows_read, row_edges}
+use Rattle.automaton_reading.specs.Reading.{Question, byte_read, rest_taken, ended, Reach, LookUp, is_among, set_of, blocks_down, reach_with, edges, questions, once, look_up_same, look_ups_asked, look_ups_read, look_up_edges}
 use Rattle.automaton_reading.proofs.Matching.{cons_sum}
 use Rattle.query_automaton.specs.Weights.{far_back_automaton, far_back_document, WeightOfTheExample}
 
@@ -113,14 +113,14 @@ taken_is holds b h S (t ∷ steps) =
 abbrev edges_by : List Way → List Reach
 edges_by ways = map (reach_with ways) (blocks_down (map (λ (y : Way). y.marks) ways))
 
-abbrev coded_edges : List ℕ → Asked → List Reach
+abbrev coded_edges : List ℕ → Question → List Reach
 coded_edges S (byte_read b) =
     if nat_eq b 97 then edges_by (map way_of (taken has_a S coded))
     else (if nat_eq b 99 then edges_by (map way_of (taken has_c S coded)) else edges far_back_automaton S (byte_read b))
 coded_edges S rest_taken = edges far_back_automaton S rest_taken
 coded_edges S ended = edges far_back_automaton S ended
 
-same_edges : (S : List ℕ) (a : Asked) → edges far_back_automaton S a ≡ coded_edges S a
+same_edges : (S : List ℕ) (a : Question) → edges far_back_automaton S a ≡ coded_edges S a
 same_edges S (byte_read b) = by (nat_eq b 97) (nat_eq b 99) refl refl
   where
     on : (holds : Class → Bool) (c : ℕ) → b ≡ c → ((k : Class) → bytes.contains (class_of k) c ≡ holds k) → edges far_back_automaton S (byte_read b) ≡ edges_by (map way_of (taken holds S coded))
@@ -136,47 +136,47 @@ same_edges S ended = refl
 
 -- ---- reading by these edges
 
-abbrev coded_targets : List (List ℕ) → Asked → List (List ℕ)
+abbrev coded_targets : List (List ℕ) → Question → List (List ℕ)
 coded_targets sets a = flat_map (λ set. map (λ (e : Reach). e.to) (coded_edges set a)) sets
 
-abbrev coded_rows : List (List ℕ) → List Asked → List Row
-coded_rows sets [] = []
-coded_rows sets (a ∷ later) = map (λ set. record { set = set; ask = a }) sets ++ coded_rows (once bytes_eq (coded_targets sets a)) later
+abbrev coded_look_ups : List (List ℕ) → List Question → List LookUp
+coded_look_ups sets [] = []
+coded_look_ups sets (a ∷ later) = map (λ set. record { set = set; ask = a }) sets ++ coded_look_ups (once bytes_eq (coded_targets sets a)) later
 
-same_targets : (sets : List (List ℕ)) (a : Asked) → flat_map (λ set. map (λ (e : Reach). e.to) (edges far_back_automaton set a)) sets ≡ coded_targets sets a
+same_targets : (sets : List (List ℕ)) (a : Question) → flat_map (λ set. map (λ (e : Reach). e.to) (edges far_back_automaton set a)) sets ≡ coded_targets sets a
 same_targets [] a = refl
 same_targets (S ∷ sets) a =
     ap (λ es. map (λ (e : Reach). e.to) es ++ flat_map (λ set. map (λ (e : Reach). e.to) (edges far_back_automaton set a)) sets) (same_edges S a)
     ∙ ap (λ ts. map (λ (e : Reach). e.to) (coded_edges S a) ++ ts) (same_targets sets a)
 
-same_rows : (sets : List (List ℕ)) (asks : List Asked) → rows_asked far_back_automaton sets asks ≡ coded_rows sets asks
-same_rows sets [] = refl
-same_rows sets (a ∷ later) =
-    ap (λ next. map (λ set. let r : Row = record { set = set; ask = a } in r) sets ++ rows_asked far_back_automaton next later) (ap (once bytes_eq) (same_targets sets a))
-    ∙ ap (λ rows. map (λ set. let r : Row = record { set = set; ask = a } in r) sets ++ rows) (same_rows (once bytes_eq (coded_targets sets a)) later)
+same_look_ups : (sets : List (List ℕ)) (asks : List Question) → look_ups_asked far_back_automaton sets asks ≡ coded_look_ups sets asks
+same_look_ups sets [] = refl
+same_look_ups sets (a ∷ later) =
+    ap (λ next. map (λ set. let r : LookUp = record { set = set; ask = a } in r) sets ++ look_ups_asked far_back_automaton next later) (ap (once bytes_eq) (same_targets sets a))
+    ∙ ap (λ look_ups. map (λ set. let r : LookUp = record { set = set; ask = a } in r) sets ++ look_ups) (same_look_ups (once bytes_eq (coded_targets sets a)) later)
 
-sum_same : (f g : Row → ℕ) (rows : List Row) → ((r : Row) → f r ≡ g r) → sum_by f rows ≡ sum_by g rows
+sum_same : (f g : LookUp → ℕ) (look_ups : List LookUp) → ((r : LookUp) → f r ≡ g r) → sum_by f look_ups ≡ sum_by g look_ups
 sum_same f g [] h = refl
-sum_same f g (r ∷ rows) h = let e = sum_same f g rows h in omega (arith, e, h r, cons_sum f r rows, cons_sum g r rows)
+sum_same f g (r ∷ look_ups) h = let e = sum_same f g look_ups h in omega (arith, e, h r, cons_sum f r look_ups, cons_sum g r look_ups)
 
-abbrev all_rows : List Row
-all_rows = coded_rows (set_of far_back_automaton.starts ∷ []) (asked (λ i. true) far_back_document 0 false)
+abbrev all_look_ups : List LookUp
+all_look_ups = coded_look_ups (set_of far_back_automaton.starts ∷ []) (questions (λ i. true) far_back_document 0 false)
 
-abbrev coded_row_weight : Row → ℕ
-coded_row_weight r = 1 + length (coded_edges r.set r.ask)
+abbrev coded_look_up_weight : LookUp → ℕ
+coded_look_up_weight r = 1 + length (coded_edges r.set r.ask)
 
-rows_are : rows_read far_back_automaton far_back_document (λ i. true) ≡ all_rows
-rows_are = same_rows (set_of far_back_automaton.starts ∷ []) (asked (λ i. true) far_back_document 0 false)
+look_ups_are : look_ups_read far_back_automaton far_back_document (λ i. true) ≡ all_look_ups
+look_ups_are = same_look_ups (set_of far_back_automaton.starts ∷ []) (questions (λ i. true) far_back_document 0 false)
 
-abbrev weight_of : (Row → ℕ) → List Row → ℕ
-weight_of w rows = sum_by (λ set. 1 + length set) (once bytes_eq (map (λ (r : Row). r.set) rows)) + sum_by w (once row_same rows)
+abbrev weight_of : (LookUp → ℕ) → List LookUp → ℕ
+weight_of w look_ups = sum_by (λ set. 1 + length set) (once bytes_eq (map (λ (r : LookUp). r.set) look_ups)) + sum_by w (once look_up_same look_ups)
 
 pub weight_of_the_example : WeightOfTheExample
 weight_of_the_example = (
   refl,
-  ap (λ rows. length (once row_same rows)) rows_are ∙ refl,
-  ap (weight_of (λ r. 1 + row_edges far_back_automaton r)) rows_are
-      ∙ (ap (λ n. sum_by (λ set. 1 + length set) (once bytes_eq (map (λ (r : Row). r.set) all_rows)) + n)
-      (sum_same (λ r. 1 + row_edges far_back_automaton r) coded_row_weight (once row_same all_rows) (λ r. ap (λ es. 1 + length es) (same_edges r.set r.ask)))
+  ap (λ look_ups. length (once look_up_same look_ups)) look_ups_are ∙ refl,
+  ap (weight_of (λ r. 1 + look_up_edges far_back_automaton r)) look_ups_are
+      ∙ (ap (λ n. sum_by (λ set. 1 + length set) (once bytes_eq (map (λ (r : LookUp). r.set) all_look_ups)) + n)
+      (sum_same (λ r. 1 + look_up_edges far_back_automaton r) coded_look_up_weight (once look_up_same all_look_ups) (λ r. ap (λ es. 1 + length es) (same_edges r.set r.ask)))
       ∙ refl),
 )

@@ -4,7 +4,7 @@ use Rattle.spanner_model.specs.Examples.{a, b, c, star, x}
 use Rattle.spanner_model.specs.Tree.{Tree, cat_all, alt_all, rep, cap}
 use Rattle.marked_automaton.specs.Automaton.{Automaton}
 use Rattle.place_automaton.specs.Words.{atom_automaton}
-use Rattle.automaton_reading.specs.Reading.{rows_K, weight_K}
+use Rattle.automaton_reading.specs.Reading.{look_ups_K, weight_K}
 
 abbrev pub a_or_b : Tree
 a_or_b = alt_all (a ∷ b ∷ [])
@@ -20,9 +20,9 @@ far_back_automaton = atom_automaton (x ∷ []) false false a_far_back
 abbrev pub far_back_document : List ℕ
 far_back_document = replicate 13 97 ++ 99 ∷ []
 
--- read at all positions: 30 states, 16 rows, the weight 166
+-- read at all positions: 30 states, 16 look-ups, the weight 166
 abbrev pub WeightOfTheExample : Type 0
 WeightOfTheExample =
     (far_back_automaton.states ≡ 30)
-    × (rows_K far_back_automaton far_back_document (λ i. true) ≡ 16)
+    × (look_ups_K far_back_automaton far_back_document (λ i. true) ≡ 16)
     × (weight_K far_back_automaton far_back_document (λ i. true) ≡ 166)

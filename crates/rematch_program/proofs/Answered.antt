@@ -3,7 +3,7 @@ use Rattle.std.proofs.Common.{◌≡◌, ℕ, ◌≤◌, Bool, List, Option, Non
 use Rattle.std.specs.Prelude.{codes, nat_lt}
 use Rattle.std.proofs.lemmas.Bool.{le-leb, leb-true}
 use Rattle.rm_outside.specs.declared.status.Status.{Status}
-use Rattle.command_line.specs.Asked.{Asked}
+use Rattle.command_line.specs.RequestView.{RequestView}
 use Rattle.command_line.specs.declared.request.Mode.TheVariants as mode
 use Rattle.span_core.specs.declared.kept.Kept.{Kept}
 use Rattle.spanner_model.specs.Captures.{VarName}
@@ -37,7 +37,7 @@ result_last q r d names others after rest same are left =
     subst (λ (ns : List VarName). AreLast (query_of r) d ns rest) (sym are) (subst (λ (p : Query). AreLast (query_of p) d names rest) same (left_last (query_of q) d names after rest left))
 
 -- the rows are over s, and these answers were left of them
-module _ (judges : ℕ → List ℕ → Bool) (s : Source) (rest : List SpanRow) (r : RowsLeft) (over : r.source ≡ s) (are : r.rest ≡ rest) (a : Asked) (q : QueryTree) (out : Change) (end : Status) (note : List ℕ) (old mid new : ℕ) where
+module _ (judges : ℕ → List ℕ → Bool) (s : Source) (rest : List SpanRow) (r : RowsLeft) (over : r.source ≡ s) (are : r.rest ≡ rest) (a : RequestView) (q : QueryTree) (out : Change) (end : Status) (note : List ℕ) (old mid new : ℕ) where
   abbrev page : List SpanRow
   page = first_rows a.limit (passing_over judges s rest)
 

@@ -5,7 +5,7 @@ use Rattle.rm_outside.specs.Faults.{Rose}
 use Rattle.rm_outside.specs.Told.{Told}
 use Rattle.rm_outside.specs.declared.status.Status.{Status}
 use Rattle.rm_outside.specs.declared.status.Status.TheVariants as status
-use Rattle.command_line.specs.Asked.{Asked, Query, Itself, HeldBy}
+use Rattle.command_line.specs.RequestView.{RequestView, Query, Itself, HeldBy}
 use Rattle.command_line.specs.declared.request.Mode.{Mode}
 use Rattle.command_line.specs.declared.request.Mode.TheVariants as mode
 use Rattle.span_core.specs.declared.kept.Kept.{Kept}
@@ -31,7 +31,7 @@ use Rattle.note_texts.specs.Notes.{line}
 use Rattle.rematch_program.specs.Pages.{IsAfter, CursorFits, page_text, last_note}
 use Rattle.rematch_program.specs.Testing.{AreAllPassing, IsPassingPageOf, TrialKeeps, explain_tested}
 use Rattle.rematch_program.specs.Trials.{trial_summary}
-use Rattle.rematch_program.specs.Run.{Text, Store, store, HasFaults, FromPage, FromAnswers, FromDocument, FromPlace, FromCursor, FromCompiled, FromQuery, FromText, FromAsked, FromWords, IsExplained, IsNotBegun, IsTooLarge, Reports, RunTested, WantsAnswers}
+use Rattle.rematch_program.specs.Run.{Text, Shelved, shelved, HasFaults, FromPage, FromAnswers, FromDocument, FromPlace, FromCursor, FromCompiled, FromQuery, FromText, FromRequest, FromWords, IsExplained, IsNotBegun, IsTooLarge, Reports, RunTested, WantsAnswers}
 use Rattle.rematch_program.specs.Run.{whole, write_failed, out_of_memory, paged, summed, other_document, past_the_document, filter_full, table_full, not_begun, by_states, by_ways, by_memory, answered, document_failed, document_too_long, found, no_cursor, other_variables, placed, page_asked, trial_asked}
 use Rattle.rematch_program.specs.Run.{explained, told_names, too_large, compiled, query_refused, understood, given, query_failed, query_too_long, fetched, refused, accepted, cut}
 use Rattle.rematch_program.specs.Complete.{IsTextOf, IsClear, IsWithinLimits, HasDocument, Completes, PlainCompletes, TrialCompletes, ExplainCompletes}
@@ -101,7 +101,7 @@ pub plain_wants : (m : Mode) → m ≡ mode.Plain → WantsAnswers m
 plain_wants m is = let P : Mode → Type 0 = λ o. WantsAnswers o in subst P (sym is) tt
 
 -- the part of a run from a moment on: the shelf holds what it held, and no count sank in between
-record IsLater (s later : Store) : Type 0 where
+record IsLater (s later : Shelved) : Type 0 where
   kept : later.before.held ≡ s.before.held
   counts : (n : Text) → s.before.faults n ≤ later.before.faults n
   ends : later.after ≡ s.after
@@ -109,18 +109,18 @@ record IsLater (s later : Store) : Type 0 where
 rose_earlier : (a b c : ℕ) → a ≤ b → Rose b c → Rose a c
 rose_earlier a b c le rose = omega arith
 
-faults_earlier : (s later : Store) (name : Text) → IsLater s later → HasFaults later name → HasFaults s name
+faults_earlier : (s later : Shelved) (name : Text) → IsLater s later → HasFaults later name → HasFaults s name
 faults_earlier s later name is rose =
     let P : Told → Type 0 = λ t. Rose (later.before.faults name) (t.faults name) in rose_earlier _ _ _ (is.counts name) (subst P is.ends rose)
 
-has_later : (s later : Store) (a : Asked) (names : List VarName) (after : Option Kept) (document : Text) → IsLater s later → HasDocument a names after document s → HasDocument a names after document later
+has_later : (s later : Shelved) (a : RequestView) (names : List VarName) (after : Option Kept) (document : Text) → IsLater s later → HasDocument a names after document s → HasDocument a names after document later
 has_later s later a names after document is has =
     let P : (Text → Option Text) → Type 0 = λ held. held a.document ≡ Some document in
     record { begins = has.begins; held = subst P (sym is.kept) has.held; few = has.few; fits = has.fits; fetched = λ rose. has.fetched (faults_earlier s later a.document is rose) }
 
 -- from the words to the query; `Goal` is what is to be shown
-module _ (k : Known) (words : List Text) (a : Asked) (text : Text) (t : TestedTree) (names : List VarName) (s : Store) (w : Work) (notes : Change) (clear : IsClear k words a text t names s w.out notes) (end : Status) (note : Text) (Goal : Type 0) (memory : end ≡ status.Memory → Goal) (from_query : (p : Store) → IsLater s p → FromQuery p w end note a t (checks_of k t.asked) → Goal) where
-  from_text : (p : Store) → IsLater s p → FromText p w end note k a text → Goal
+module _ (k : Known) (words : List Text) (a : RequestView) (text : Text) (t : TestedTree) (names : List VarName) (s : Shelved) (w : Work) (notes : Change) (clear : IsClear k words a text t names s w.out notes) (end : Status) (note : Text) (Goal : Type 0) (memory : end ≡ status.Memory → Goal) (from_query : (p : Shelved) → IsLater s p → FromQuery p w end note a t (checks_of k t.asked) → Goal) where
+  from_text : (p : Shelved) → IsLater s p → FromText p w end note k a text → Goal
   from_text p later (query_refused fault only is quiet) = absurd (only.unsound t clear.sound clear.tests_known)
   from_text p later (out_of_memory is quiet) = memory is.ends
   from_text p later (understood other only case) = let P : TestedTree → Type 0 = λ u. FromQuery p w end note a u (checks_of k u.asked) in from_query p later (subst P (sym (only.only t clear.sound)) case)
@@ -128,15 +128,15 @@ module _ (k : Known) (words : List Text) (a : Asked) (text : Text) (t : TestedTr
   given_as : (query : Query) → a.query ≡ query → IsTextOf s query text
   given_as query is = let P : Query → Type 0 = λ o. IsTextOf s o text in subst P is clear.given
 
-  from_asked : FromAsked s w end note k a → Goal
-  from_asked (given own is case) = let P : Text → Type 0 = λ x. FromText s w end note k a x in from_text s (record { kept = refl; counts = λ n. omega arith; ends = refl }) (subst P (given_as (Itself own) is) case)
-  from_asked (query_failed name is failed ends quiet) = absurd ((given_as (HeldBy name) is).2 failed.faulty)
-  from_asked (query_too_long name is long ends quiet) =
+  from_request : FromRequest s w end note k a → Goal
+  from_request (given own is case) = let P : Text → Type 0 = λ x. FromText s w end note k a x in from_text s (record { kept = refl; counts = λ n. omega arith; ends = refl }) (subst P (given_as (Itself own) is) case)
+  from_request (query_failed name is failed ends quiet) = absurd ((given_as (HeldBy name) is).2 failed.faulty)
+  from_request (query_too_long name is long ends quiet) =
       let told = given_as (HeldBy name) is in let more = longer QUERY_LIMIT (s.before.held name) text told.0 long.many in let few = told.1 in absurd (omega (arith, more, few))
-  from_asked (out_of_memory name is once ends quiet) = memory ends.ends
-  from_asked (fetched name is own between gives case) =
-      let P : Text → Type 0 = λ x. FromText (store between s.after) w end note k a x in
-      from_text (store between s.after) (record { kept = gives.once.kept; counts = gives.once.later; ends = refl })
+  from_request (out_of_memory name is once ends quiet) = memory ends.ends
+  from_request (fetched name is own between gives case) =
+      let P : Text → Type 0 = λ x. FromText (shelved between s.after) w end note k a x in
+      from_text (shelved between s.after) (record { kept = gives.once.kept; counts = gives.once.later; ends = refl })
       (subst P (told_as (s.before.held name) own text (given_as (HeldBy name) is).0 gives.told) case)
 
   from_words : FromWords s w end note k words → Goal
@@ -144,8 +144,8 @@ module _ (k : Known) (words : List Text) (a : Asked) (text : Text) (t : TestedTr
   from_words (out_of_memory is quiet) = memory is.ends
   from_words (accepted other is case) =
       let same : other ≡ a = same_Some other a (sym is ∙ clear.accepted) in
-      let P : Asked → Type 0 = λ b. FromAsked s w end note k b in
-      from_asked (subst P same case)
+      let P : RequestView → Type 0 = λ b. FromRequest s w end note k b in
+      from_request (subst P same case)
 
 from_page : (text last : Text) (Keeps : Clock → Type 0) (w : Work) (end : Status) (note : Text) → ¬ Failed w.out → FromPage w end note text last Keeps → AreWhole text last w end note ⊎ (end ≡ status.Memory)
 from_page text last Keeps w end note fine (whole is says adds few) = inl (record { done = is; wrote = adds; says = says })
@@ -153,20 +153,20 @@ from_page text last Keeps w end note fine (write_failed is failed part few) = ab
 from_page text last Keeps w end note fine (out_of_memory is part few) = inr is.ends
 
 -- the plain command
-pub record IsServed (a : Asked) (q : QueryTree) (checks : List Check) (names : List VarName) (after : Option Kept) (document : Text) (w : Work) (end : Status) (note : Text) : Type 0 where
+pub record IsServed (a : RequestView) (q : QueryTree) (checks : List Check) (names : List VarName) (after : Option Kept) (document : Text) (w : Work) (end : Status) (note : Text) : Type 0 where
   pub rows : List SpanRow
   pub more : Bool
   pub page : IsPassingPageOf checks q document names (row_kept after) a.limit rows more
   pub are : AreWhole (page_text a.form a.texts names document rows) (last_note names (length document) a.after rows more) w end note
 
-module _ (k : Known) (words : List Text) (a : Asked) (text : Text) (t : TestedTree) (names : List VarName) (s : Store) (w : Work) (notes : Change) (clear : IsClear k words a text t names s w.out notes) (end : Status) (note : Text) where
+module _ (k : Known) (words : List Text) (a : RequestView) (text : Text) (t : TestedTree) (names : List VarName) (s : Shelved) (w : Work) (notes : Change) (clear : IsClear k words a text t names s w.out notes) (end : Status) (note : Text) where
   abbrev q : QueryTree
   q = t.query
 
   abbrev checks : List Check
   checks = checks_of k t.asked
 
-  module _ (wants : WantsAnswers a.mode) (small : PartsAreSmall q) (p : Store) (Goal : Type 0) (memory : end ≡ status.Memory → Goal) (from_compiled : FromCompiled a q checks w end note p → Goal) where
+  module _ (wants : WantsAnswers a.mode) (small : PartsAreSmall q) (p : Shelved) (Goal : Type 0) (memory : end ≡ status.Memory → Goal) (from_compiled : FromCompiled a q checks w end note p → Goal) where
     from_query : FromQuery p w end note a t checks → Goal
     from_query (explained is case still same) = let P : Mode → Type 0 = λ m. WantsAnswers m in absurd (subst P is wants)
     from_query (too_large asks why quiet) = memory (never_too_large q small end note why)
@@ -191,7 +191,7 @@ module _ (k : Known) (words : List Text) (a : Asked) (text : Text) (t : TestedTr
     ]
     page_of (summed lines is rows answers case) = let both : mode.Plain ≡ mode.Trial lines = sym plain ∙ is in absurd (cc)
 
-    module _ (p : Store) (has : HasDocument a names after document p) where
+    module _ (p : Shelved) (has : HasDocument a names after document p) where
       place_of : FromPlace a q checks w end note p names after → Served
       place_of (document_failed failed ends quiet) = absurd (has.fetched failed.faulty)
       place_of (document_too_long long ends quiet) = let more = longer DOCUMENT_LIMIT (p.before.held a.document) document has.held long.many in let few = has.few in absurd (omega (arith, more, few))
@@ -236,7 +236,7 @@ module _ (k : Known) (words : List Text) (a : Asked) (text : Text) (t : TestedTr
           | inr memory ↦ inr memory
         ]
 
-    trial_of : (p : Store) → FromCompiled a q checks w end note p → Tried
+    trial_of : (p : Shelved) → FromCompiled a q checks w end note p → Tried
     trial_of p (out_of_memory is quiet) = inr is.ends
     trial_of p (page_asked is own are case) = let both : mode.Plain ≡ mode.Trial lines = sym is ∙ trial in absurd (cc)
     trial_of p (trial_asked own is others are same case) =
@@ -263,7 +263,7 @@ module _ (k : Known) (words : List Text) (a : Asked) (text : Text) (t : TestedTr
         ]
     told_of (by_memory is quiet) = inr is.ends
 
-    lines_of : (p : Store) → IsLater s p → FromQuery p w end note a t checks → Explained
+    lines_of : (p : Shelved) → IsLater s p → FromQuery p w end note a t checks → Explained
     lines_of p later (explained is case still same) = told_of case
     lines_of p later (too_large asks why quiet) = let P : Mode → Type 0 = λ m. WantsAnswers m in absurd (subst P explain asks)
     lines_of p later (out_of_memory is quiet) = inr is.ends
@@ -282,7 +282,7 @@ memory_reported : (notes : Change) (end result : Status) (note : Text) → ¬ Fa
 memory_reported notes end result note fine (whole is adds) memory = is ∙ memory
 memory_reported notes end result note fine (cut is failed part) memory = absurd (fine failed)
 
-module _ (k : Known) (words : List Text) (s : Store) (out notes : Change) (steps : Clock) (result : Status) (run : RunTested k words s out notes steps result) where
+module _ (k : Known) (words : List Text) (s : Shelved) (out notes : Change) (steps : Clock) (result : Status) (run : RunTested k words s out notes steps result) where
   plain_completes : PlainCompletes k words s out notes result
   plain_completes a text t names after document plain clear has limits =
       elim (served k words a text t names s (work out steps) notes clear run.end run.note after document plain limits has run.done) [
@@ -304,6 +304,6 @@ module _ (k : Known) (words : List Text) (s : Store) (out notes : Change) (steps
         | inr m ↦ inr (memory_reported notes run.end result run.note clear.noted run.report m)
       ]
 
-pub completes : (k : Known) (words : List Text) (s : Store) (out notes : Change) (steps : Clock) (result : Status) → RunTested k words s out notes steps result → Completes k words s out notes result
+pub completes : (k : Known) (words : List Text) (s : Shelved) (out notes : Change) (steps : Clock) (result : Status) → RunTested k words s out notes steps result → Completes k words s out notes result
 completes k words s out notes steps result run =
     (plain_completes k words s out notes steps result run, trial_completes k words s out notes steps result run, explain_completes k words s out notes steps result run)

@@ -6,7 +6,7 @@ use Rattle.rm_outside.specs.Told.{Told, GrewBy}
 use Rattle.rm_outside.specs.declared.status.Status.{Status}
 use Rattle.span_core.specs.Lists.{AreDistinct}
 use Rattle.span_core.proofs.HasLaws.{Has-append_left}
-use Rattle.command_line.specs.Asked.{Asked, Query, Itself, HeldBy, asked, asked_by, cursor_of, document_of, form_of, goes_with, limit_of, max_table_of, mode_of, names_input_twice, query_of}
+use Rattle.command_line.specs.RequestView.{RequestView, Query, Itself, HeldBy, requested, requested_by, cursor_of, document_of, form_of, goes_with, limit_of, max_table_of, mode_of, names_input_twice, query_of}
 use Rattle.command_line.specs.Command.{found as words_found, refusals}
 use Rattle.command_line.specs.Given.{GivenTexts, given_by}
 use Rattle.command_line.specs.declared.request.Form.{Form}
@@ -18,7 +18,7 @@ use Rattle.spanner_model.specs.Expression.{QueryTree}
 use Rattle.query_parser.specs.Tested.{TestedTree}
 use Rattle.spanner_engine.specs.Passing.{Check, Known}
 use Rattle.rematch_program.specs.Work.{Work}
-use Rattle.rematch_program.specs.Run.{Text, Store, store, IsUntouched, FromPlace, FromCursor, FromCompiled, FromQuery, FromText, FromAsked, FromWords}
+use Rattle.rematch_program.specs.Run.{Text, Shelved, shelved, IsUntouched, FromPlace, FromCursor, FromCompiled, FromQuery, FromText, FromRequest, FromWords}
 use Rattle.rematch_program.specs.Run.{out_of_memory, document_failed, document_too_long, found, no_cursor, other_variables, placed, page_asked, trial_asked}
 use Rattle.rematch_program.specs.Run.{explained, too_large, compiled, query_refused, understood, given, query_failed, query_too_long, fetched, refused, accepted}
 use Rattle.rematch_program.specs.Fetched.{FetchesFirst, FetchesInOrder, FetchesNothing, FetchesOnce, document_names, names_of, query_names}
@@ -34,12 +34,12 @@ grew_by_both a None (Some z) xs ys first next = absurd next
 grew_by_both None (Some y) (Some z) xs ys first next = absurd first
 grew_by_both (Some x) (Some y) (Some z) xs ys first next = next ∙ (ap (λ (l : List Text). l ++ ys) first ∙ append_assoc x xs ys)
 
-untouched_first : (s : Store) (all : List Text) → IsUntouched s → FetchesFirst s all
+untouched_first : (s : Shelved) (all : List Text) → IsUntouched s → FetchesFirst s all
 untouched_first s all same =
     record { names = []; rest = all; grew = subst (λ (t : Told). GrewBy [] s.before.fetched t.fetched) (sym same) (grew_by_none s.before.fetched); first = refl }
 
 -- what is fetched once the query is at hand
-module _ (a : Asked) (w : Work) (end : Status) (note : Text) (s : Store) where
+module _ (a : RequestView) (w : Work) (end : Status) (note : Text) (s : Shelved) where
   module _ (q : QueryTree) (checks : List Check) where
     place_fetches : (names : List VarName) (after : Option Kept) → FromPlace a q checks w end note s names after → GrewBy (a.document ∷ []) s.before.fetched s.after.fetched
     place_fetches names after (document_failed failed is quiet) = failed.once.grew
@@ -86,37 +86,37 @@ module _ (a : Asked) (w : Work) (end : Status) (note : Text) (s : Store) where
   text_untouched other k text (understood t only case) = query_untouched other t _ case
 
 -- what a run fetches
-module _ (a : Asked) (s : Store) (w : Work) (end : Status) (note : Text) (k : Known) where
+module _ (a : RequestView) (s : Shelved) (w : Work) (end : Status) (note : Text) (k : Known) where
   abbrev later : List Text
   later = document_names a.mode a.document
 
   -- of a query that has this form
-  asked_as : (query : Query) → a.query ≡ query → FetchesFirst s (query_names query ++ later) → FetchesFirst s (names_of a)
-  asked_as query is first = let P : Query → Type 0 = λ o. FetchesFirst s (query_names o ++ later) in subst P (sym is) first
+  request_as : (query : Query) → a.query ≡ query → FetchesFirst s (query_names query ++ later) → FetchesFirst s (names_of a)
+  request_as query is first = let P : Query → Type 0 = λ o. FetchesFirst s (query_names o ++ later) in subst P (sym is) first
 
   name_alone : (name : Text) → GrewBy (name ∷ []) s.before.fetched s.after.fetched → FetchesFirst s (name ∷ later)
   name_alone name grew = record { names = name ∷ []; rest = later; grew = grew; first = refl }
 
-  asked_fetches : FromAsked s w end note k a → FetchesFirst s (names_of a)
-  asked_fetches (given text is case) = asked_as (Itself text) is (text_fetches a w end note s k text case)
-  asked_fetches (query_failed name is failed ends quiet) = asked_as (HeldBy name) is (name_alone name failed.once.grew)
-  asked_fetches (query_too_long name is long ends quiet) = asked_as (HeldBy name) is (name_alone name long.once.grew)
-  asked_fetches (out_of_memory name is once ends quiet) = asked_as (HeldBy name) is (name_alone name once.grew)
-  asked_fetches (fetched name is text between gives case) =
-      let next = text_fetches a w end note (store between s.after) k text case in
-      asked_as (HeldBy name) is (record {
+  request_fetches : FromRequest s w end note k a → FetchesFirst s (names_of a)
+  request_fetches (given text is case) = request_as (Itself text) is (text_fetches a w end note s k text case)
+  request_fetches (query_failed name is failed ends quiet) = request_as (HeldBy name) is (name_alone name failed.once.grew)
+  request_fetches (query_too_long name is long ends quiet) = request_as (HeldBy name) is (name_alone name long.once.grew)
+  request_fetches (out_of_memory name is once ends quiet) = request_as (HeldBy name) is (name_alone name once.grew)
+  request_fetches (fetched name is text between gives case) =
+      let next = text_fetches a w end note (shelved between s.after) k text case in
+      request_as (HeldBy name) is (record {
         names = name ∷ next.names;
         rest = next.rest;
         grew = grew_by_both s.before.fetched between.fetched s.after.fetched (name ∷ []) next.names gives.once.grew next.grew;
         first = ap (λ (l : List Text). name ∷ l) next.first;
       })
 
-in_words : (k : Known) (words : List Text) (s : Store) (w : Work) (end : Status) (note : Text) (a : Asked) → asked words ≡ Some a → FromWords s w end note k words → FetchesFirst s (names_of a)
+in_words : (k : Known) (words : List Text) (s : Shelved) (w : Work) (end : Status) (note : Text) (a : RequestView) → requested words ≡ Some a → FromWords s w end note k words → FetchesFirst s (names_of a)
 in_words k words s w end note a is (refused none ends idle) = untouched_first s _ idle.0
 in_words k words s w end note a is (out_of_memory ends idle) = untouched_first s _ idle.0
 in_words k words s w end note a is (accepted other also case) =
     let same : other ≡ a = same_Some other a (sym also ∙ is) in
-    let P : Asked → Type 0 = λ b. FetchesFirst s (names_of b) in subst P same (asked_fetches other s w end note k case)
+    let P : RequestView → Type 0 = λ b. FetchesFirst s (names_of b) in subst P same (request_fetches other s w end note k case)
 
 pub fetched_in_order : FetchesInOrder
 fetched_in_order k words s out notes steps result run a is = in_words k words s _ run.end run.note a is run.done
@@ -126,31 +126,31 @@ no_page : (m : Mode) (document : Text) → document_names m document ≡ [] → 
 no_page m document none plain =
     let P : Mode → Type 0 = λ o. document_names o document ≡ [] in let some : document ∷ [] ≡ [] = subst P plain none in absurd (cc)
 
-module _ (a : Asked) (s : Store) (w : Work) (end : Status) (note : Text) (k : Known) (none : names_of a ≡ []) where
+module _ (a : RequestView) (s : Shelved) (w : Work) (end : Status) (note : Text) (k : Known) (none : names_of a ≡ []) where
   none_as : (query : Query) → a.query ≡ query → query_names query ++ document_names a.mode a.document ≡ []
   none_as query is = let P : Query → Type 0 = λ o. query_names o ++ document_names a.mode a.document ≡ [] in subst P is none
 
   not_held : (name : Text) → a.query ≡ HeldBy name → ⊥
   not_held name is = let some : name ∷ document_names a.mode a.document ≡ [] = none_as (HeldBy name) is in absurd (cc)
 
-  asked_untouched : FromAsked s w end note k a → IsUntouched s
-  asked_untouched (given text is case) = text_untouched a w end note s (no_page a.mode a.document (none_as (Itself text) is)) k text case
-  asked_untouched (query_failed name is failed ends quiet) = absurd (not_held name is)
-  asked_untouched (query_too_long name is long ends quiet) = absurd (not_held name is)
-  asked_untouched (out_of_memory name is once ends quiet) = absurd (not_held name is)
-  asked_untouched (fetched name is text between gives case) = absurd (not_held name is)
+  request_untouched : FromRequest s w end note k a → IsUntouched s
+  request_untouched (given text is case) = text_untouched a w end note s (no_page a.mode a.document (none_as (Itself text) is)) k text case
+  request_untouched (query_failed name is failed ends quiet) = absurd (not_held name is)
+  request_untouched (query_too_long name is long ends quiet) = absurd (not_held name is)
+  request_untouched (out_of_memory name is once ends quiet) = absurd (not_held name is)
+  request_untouched (fetched name is text between gives case) = absurd (not_held name is)
 
-words_untouched : (k : Known) (words : List Text) (s : Store) (w : Work) (end : Status) (note : Text) → ((a : Asked) → asked words ≡ Some a → names_of a ≡ []) →
+words_untouched : (k : Known) (words : List Text) (s : Shelved) (w : Work) (end : Status) (note : Text) → ((a : RequestView) → requested words ≡ Some a → names_of a ≡ []) →
     FromWords s w end note k words → IsUntouched s
 words_untouched k words s w end note none (refused is ends idle) = idle.0
 words_untouched k words s w end note none (out_of_memory ends idle) = idle.0
-words_untouched k words s w end note none (accepted a is case) = asked_untouched a s w end note k (none a is) case
+words_untouched k words s w end note none (accepted a is case) = request_untouched a s w end note k (none a is) case
 
 pub nothing_fetched : FetchesNothing
 nothing_fetched k words s out notes steps result run none = words_untouched k words s _ run.end run.note none run.done
 
 -- words that are accepted do not take the query and the document of a page from standard input
-abbrev IsFine : Asked → Type 0
+abbrev IsFine : RequestView → Type 0
 IsFine a = a.mode ≡ mode.Plain → a.query ≡ HeldBy (codes "-") → a.document ≡ codes "-" → ⊥
 
 goes_fine : (m : Mode) (q : Query) (g : GivenTexts) → goes_with m q g ≡ true → m ≡ mode.Plain → q ≡ HeldBy (codes "-") → document_of g.document ≡ codes "-" → ⊥
@@ -161,17 +161,17 @@ goes_fine m q g goes plain held same =
     let fails : false ≡ true = subst D same (subst Q held (subst M plain goes)) in
     absurd (cc)
 
-when_true : (b : Bool) (x : Option Asked) (a : Asked) → (if b then x else None) ≡ Some a → x ≡ Some a
+when_true : (b : Bool) (x : Option RequestView) (a : RequestView) → (if b then x else None) ≡ Some a → x ≡ Some a
 when_true true x a is = is
 when_true false x a is = absurd (cc)
 
-when_false : (b : Bool) (r a : Asked) → (if not b then None else Some r) ≡ Some a → (b ≡ true) × (r ≡ a)
+when_false : (b : Bool) (r a : RequestView) → (if not b then None else Some r) ≡ Some a → (b ≡ true) × (r ≡ a)
 when_false true r a is = (refl, same_Some r a is)
 when_false false r a is = absurd (cc)
 
 -- what is made of what was given, from the mode up
 module _ (g : GivenTexts) where
-  abbrev made : Query → Option ℕ → Form → ℕ → Mode → Asked
+  abbrev made : Query → Option ℕ → Form → ℕ → Mode → RequestView
   made query limit form weight m = record {
     query = query;
     document = document_of g.document;
@@ -184,24 +184,24 @@ module _ (g : GivenTexts) where
     mode = m;
   }
 
-  abbrev with_mode : Query → Option ℕ → Form → ℕ → Mode → Option Asked
+  abbrev with_mode : Query → Option ℕ → Form → ℕ → Mode → Option RequestView
   with_mode query limit form weight m = if not (goes_with m query g) then None else Some (made query limit form weight m)
 
-  abbrev with_weight : Query → Option ℕ → Form → ℕ → Option Asked
+  abbrev with_weight : Query → Option ℕ → Form → ℕ → Option RequestView
   with_weight query limit form weight = option_and_then (with_mode query limit form weight) (mode_of g.explain g.trial)
 
-  abbrev with_form : Query → Option ℕ → Form → Option Asked
+  abbrev with_form : Query → Option ℕ → Form → Option RequestView
   with_form query limit form = option_and_then (with_weight query limit form) (max_table_of g.max_table)
 
-  abbrev with_limit : Query → Option ℕ → Option Asked
+  abbrev with_limit : Query → Option ℕ → Option RequestView
   with_limit query limit = option_and_then (with_form query limit) (form_of g.form)
 
-  abbrev with_query : Query → Option Asked
+  abbrev with_query : Query → Option RequestView
   with_query query = option_and_then (with_limit query) (limit_of g.limit)
 
-  asked_fine : (a : Asked) → asked_by g ≡ Some a → IsFine a
-  unfolding asked_by
-  asked_fine a is =
+  request_fine : (a : RequestView) → requested_by g ≡ Some a → IsFine a
+  unfolding requested_by
+  request_fine a is =
       option_and_then_some with_query (query_of g.query g.query_name) a is (λ query given in_query.
       option_and_then_some (with_limit query) (limit_of g.limit) a in_query (λ limit limited in_limit.
       option_and_then_some (with_form query limit) (form_of g.form) a in_limit (λ form formed in_form.
@@ -209,11 +209,11 @@ module _ (g : GivenTexts) where
       option_and_then_some (with_mode query limit form weight) (mode_of g.explain g.trial) a in_weight (λ m moded in_mode.
       (λ plain held same.
       let (goes, whole) = when_false (goes_with m query g) (made query limit form weight m) a in_mode in
-      goes_fine m query g goes (ap (λ (r : Asked). r.mode) whole ∙ plain) (ap (λ (r : Asked). r.query) whole ∙ held) (ap (λ (r : Asked). r.document) whole ∙ same)))))))
+      goes_fine m query g goes (ap (λ (r : RequestView). r.mode) whole ∙ plain) (ap (λ (r : RequestView). r.query) whole ∙ held) (ap (λ (r : RequestView). r.document) whole ∙ same)))))))
 
-accepted_fine : (words : List Text) (a : Asked) → asked words ≡ Some a → IsFine a
-unfolding asked
-accepted_fine words a is = asked_fine (given_by (words_found words)) a (when_true (length (refusals words) == 0) (asked_by (given_by (words_found words))) a is)
+accepted_fine : (words : List Text) (a : RequestView) → requested words ≡ Some a → IsFine a
+unfolding requested
+accepted_fine words a is = request_fine (given_by (words_found words)) a (when_true (length (refusals words) == 0) (requested_by (given_by (words_found words))) a is)
 
 -- the front of a list whose elements are distinct
 front_distinct : (xs ys : List Text) → AreDistinct (xs ++ ys) → AreDistinct xs

@@ -3,7 +3,7 @@ use Rattle.std.proofs.Common.{◌≡◌, ℕ, ◌≤◌, List, [], ◌∷◌, Bo
 use Rattle.std.specs.List.{All}
 use Rattle.span_core.specs.declared.kept.Kept.{Kept}
 use Rattle.span_core.specs.Names.{is_name}
-use Rattle.command_line.specs.Asked.{cursor_of}
+use Rattle.command_line.specs.RequestView.{cursor_of}
 use Rattle.span_core.specs.Lists.{Has}
 use Rattle.spanner_model.specs.Captures.{VarName}
 use Rattle.spanner_model.specs.Expression.{QueryTree}

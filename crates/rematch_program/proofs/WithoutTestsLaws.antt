@@ -1,7 +1,7 @@
 -- A query without tests runs as before there were any.
 use Rattle.std.proofs.Common.{◌≡◌, ◌⊎◌, ◌↔◌, ℕ, List, [], Bool, Option, Some, None, refl, sym, subst}
 use Rattle.rm_outside.specs.declared.status.Status.{Status}
-use Rattle.command_line.specs.Asked.{Asked}
+use Rattle.command_line.specs.RequestView.{RequestView}
 use Rattle.spanner_model.specs.Captures.{VarName}
 use Rattle.spanner_model.specs.Expression.{QueryTree}
 use Rattle.spanner_model.specs.Answers.{SpanRow}
@@ -12,7 +12,7 @@ use Rattle.spanner_engine.specs.Passing.{Known, FirstUnknown, HasFaultUnder, of_
 use Rattle.rematch_program.specs.Work.{Work}
 use Rattle.rematch_program.specs.Pages.{IsPageOf}
 use Rattle.rematch_program.specs.Testing.{IsPassingPageOf}
-use Rattle.rematch_program.specs.Run.{Text, Store, FromQuery, FromText, query_refused, out_of_memory, understood}
+use Rattle.rematch_program.specs.Run.{Text, Shelved, FromQuery, FromText, query_refused, out_of_memory, understood}
 use Rattle.rematch_program.specs.WithoutTests.{WithoutTests}
 
 no_fault : (k : Known) (text : Text) (q : QueryTree) (fault : QueryFault) → IsTestedText text (plain q) → HasFaultUnder k text fault → ⊥
@@ -21,7 +21,7 @@ no_fault k text q _ spelled (unknown_test {t = t} {at = at} read only first) =
     let same : plain q ≡ t = only (plain q) spelled in
     subst (λ (u : TestedTree). FirstUnknown k u.asked at) (sym same) first
 
-runs_alike : (k l : Known) (a : Asked) (text : Text) (q : QueryTree) (s : Store) (w : Work) (end : Status) (note : Text) → IsTestedText text (plain q) →
+runs_alike : (k l : Known) (a : RequestView) (text : Text) (q : QueryTree) (s : Shelved) (w : Work) (end : Status) (note : Text) → IsTestedText text (plain q) →
     FromText s w end note k a text → FromText s w end note l a text
 runs_alike k l a text q s w end note spelled (query_refused fault only is did) = absurd (no_fault k text q fault spelled only.found)
 runs_alike k l a text q s w end note spelled (out_of_memory is did) = out_of_memory is did

@@ -1,7 +1,7 @@
 -- A page that is written line by line.
 use Rattle.std.proofs.Common.{◌≡◌, ℕ, Bool, List, [], ◌∷◌, ◌++◌, Option, length, sym, ap, ◌∙◌, subst}
 use Rattle.std.specs.Prelude.{nat_lt}
-use Rattle.command_line.specs.Asked.{Asked}
+use Rattle.command_line.specs.RequestView.{RequestView}
 use Rattle.rm_outside.specs.Change.{change, Adds, AddsPart}
 use Rattle.rm_outside.specs.Flow.{Flow}
 use Rattle.row_writer.specs.Kept.{Line, kept_text}
@@ -28,14 +28,14 @@ module _ (p : Page) (kept : Line) (is : kept ≡ kept_of p.form p.names) (row : 
 -- ---- it begins
 
 -- it is over what its columns and its document were taken from
-pub begun_over : (p : Page) (a : Asked) (s : Source) (names : List VarName) (document : List ℕ) → p ≡ page_begun a names document → names ≡ s.names → document ≡ s.document → IsOver p s
+pub begun_over : (p : Page) (a : RequestView) (s : Source) (names : List VarName) (document : List ℕ) → p ≡ page_begun a names document → names ≡ s.names → document ≡ s.document → IsOver p s
 begun_over p a s names document is columns bytes = record {
   names = ap (λ (q : Page). q.names) is ∙ columns;
   document = ap (λ (q : Page). q.document) is ∙ bytes;
 }
 
 -- what waits and the lines of the rows are its text
-pub begun_text : (p : Page) (a : Asked) (s : Source) (names : List VarName) (document : List ℕ) (rows : List SpanRow) → p ≡ page_begun a names document → names ≡ s.names → document ≡ s.document →
+pub begun_text : (p : Page) (a : RequestView) (s : Source) (names : List VarName) (document : List ℕ) (rows : List SpanRow) → p ≡ page_begun a names document → names ≡ s.names → document ≡ s.document →
     p.waiting ++ lines_of p rows ≡ page_text a.form a.texts s.names s.document rows
 begun_text p a s names document rows is columns bytes =
     ap (λ (q : Page). q.waiting ++ lines_of q rows) is

@@ -2,7 +2,7 @@
 use Rattle.std.specs.Prelude.{◌≡◌, ◌≤◌, ◌⊎◌, ℕ, List, Option, Some, Bool, IsTrue, length, codes}
 use Rattle.rm_outside.specs.declared.status.Status.{Status}
 use Rattle.rm_outside.specs.declared.status.Status.TheVariants as status
-use Rattle.command_line.specs.Asked.{Asked, Query, Itself, HeldBy, asked}
+use Rattle.command_line.specs.RequestView.{RequestView, Query, Itself, HeldBy, requested}
 use Rattle.command_line.specs.declared.request.Mode.TheVariants as mode
 use Rattle.span_core.specs.declared.kept.Kept.{Kept}
 use Rattle.spanner_model.specs.Captures.{VarName}
@@ -19,18 +19,18 @@ use Rattle.spanner_engine.specs.Passing.{AreKnown, Check, Known, checks_of}
 use Rattle.rematch_program.specs.Limits.{PartsAreSmall}
 use Rattle.note_texts.specs.Notes.{line}
 use Rattle.rematch_program.specs.Pages.{IsAfter, CursorFits, page_text, last_note}
-use Rattle.rematch_program.specs.Run.{Text, Store, HasFaults, RunTested}
+use Rattle.rematch_program.specs.Run.{Text, Shelved, HasFaults, RunTested}
 use Rattle.rematch_program.specs.Testing.{AreAllPassing, IsPassingPageOf, explain_tested}
 use Rattle.rematch_program.specs.Trials.{trial_summary}
 
 -- the query's text: given by itself, or told by the shelf, within the limit, with no fault counted
-abbrev pub IsTextOf : Store → Query → Text → Type 0
+abbrev pub IsTextOf : Shelved → Query → Text → Type 0
 IsTextOf s (Itself own) text = own ≡ text
 IsTextOf s (HeldBy name) text = (s.before.held name ≡ Some text) × (length text ≤ QUERY_LIMIT) × ¬ HasFaults s name
 
 -- accepted words, the text of a sound query whose tests are known, and no fault of a sink counted; `names` are those of the query's result
-pub record IsClear (k : Known) (words : List Text) (a : Asked) (text : Text) (t : TestedTree) (names : List VarName) (s : Store) (out notes : Change) : Type 0 where
-  pub accepted : asked words ≡ Some a
+pub record IsClear (k : Known) (words : List Text) (a : RequestView) (text : Text) (t : TestedTree) (names : List VarName) (s : Shelved) (out notes : Change) : Type 0 where
+  pub accepted : requested words ≡ Some a
   pub given : IsTextOf s a.query text
   pub sound : IsTestedText text t
   pub tests_known : AreKnown k t.asked
@@ -40,13 +40,13 @@ pub record IsClear (k : Known) (words : List Text) (a : Asked) (text : Text) (t 
 
 -- no limit of sizes is passed: by no automaton, with the filter by no atom's two readings where no difference stands in the query's text,
 -- and by no table at the positions that are read
-pub record IsWithinLimits (a : Asked) (q : QueryTree) (document : Text) : Type 0 where
+pub record IsWithinLimits (a : RequestView) (q : QueryTree) (document : Text) : Type 0 where
   pub small : PartsAreSmall q
   pub filtered : IsTrue a.filter → ¬ HasMinus q → ¬ HasHeavyAtom q document a.max_table
   pub light : (K : ℕ → Bool) × AreRead a.filter q document K × (table_weight q document K ≤ a.max_table)
 
 -- a document that the shelf tells, within the limit, with no fault counted, and a cursor that fits
-pub record HasDocument (a : Asked) (names : List VarName) (after : Option Kept) (document : Text) (s : Store) : Type 0 where
+pub record HasDocument (a : RequestView) (names : List VarName) (after : Option Kept) (document : Text) (s : Shelved) : Type 0 where
   pub begins : IsAfter names a.after after
   pub held : s.before.held a.document ≡ Some document
   pub few : length document ≤ DOCUMENT_LIMIT
@@ -54,7 +54,7 @@ pub record HasDocument (a : Asked) (names : List VarName) (after : Option Kept) 
   pub fetched : ¬ HasFaults s a.document
 
 -- the page and its note, whole
-pub record IsWhole (a : Asked) (q : QueryTree) (checks : List Check) (names : List VarName) (after : Option Kept) (document : Text) (out notes : Change) (result : Status) : Type 0 where
+pub record IsWhole (a : RequestView) (q : QueryTree) (checks : List Check) (names : List VarName) (after : Option Kept) (document : Text) (out notes : Change) (result : Status) : Type 0 where
   pub done : result ≡ status.Done
   pub rows : List SpanRow
   pub more : Bool
@@ -74,30 +74,30 @@ pub record IsSummed (lines : ℕ) (q : QueryTree) (checks : List Check) (names :
   pub answers : AreAllPassing checks q (trial_text lines) names rows
   pub writes : IsWritten (trial_summary lines names (trial_text lines) rows) out notes result
 
-abbrev pub PlainCompletes : Known → List Text → Store → Change → Change → Status → Type 0
+abbrev pub PlainCompletes : Known → List Text → Shelved → Change → Change → Status → Type 0
 PlainCompletes k words s out notes result =
-    (a : Asked) (text : Text) (t : TestedTree) (names : List VarName) (after : Option Kept) (document : Text) →
+    (a : RequestView) (text : Text) (t : TestedTree) (names : List VarName) (after : Option Kept) (document : Text) →
     a.mode ≡ mode.Plain → IsClear k words a text t names s out notes → HasDocument a names after document s → IsWithinLimits a t.query document →
     IsWhole a t.query (checks_of k t.asked) names after document out notes result ⊎ (result ≡ status.Memory)
 
-abbrev pub TrialCompletes : Known → List Text → Store → Change → Change → Status → Type 0
+abbrev pub TrialCompletes : Known → List Text → Shelved → Change → Change → Status → Type 0
 TrialCompletes k words s out notes result =
-    (a : Asked) (text : Text) (t : TestedTree) (names : List VarName) (lines : ℕ) →
+    (a : RequestView) (text : Text) (t : TestedTree) (names : List VarName) (lines : ℕ) →
     a.mode ≡ mode.Trial lines → IsClear k words a text t names s out notes → IsWithinLimits a t.query (trial_text lines) →
     IsSummed lines t.query (checks_of k t.asked) names out notes result ⊎ (result ≡ status.Memory)
 
-abbrev pub ExplainCompletes : Known → List Text → Store → Change → Change → Status → Type 0
+abbrev pub ExplainCompletes : Known → List Text → Shelved → Change → Change → Status → Type 0
 ExplainCompletes k words s out notes result =
-    (a : Asked) (text : Text) (t : TestedTree) (names : List VarName) →
+    (a : RequestView) (text : Text) (t : TestedTree) (names : List VarName) →
     a.mode ≡ mode.Explain → IsClear k words a text t names s out notes →
     IsWritten (explain_tested t names) out notes result ⊎ (result ≡ status.Memory)
 
-abbrev pub Completes : Known → List Text → Store → Change → Change → Status → Type 0
+abbrev pub Completes : Known → List Text → Shelved → Change → Change → Status → Type 0
 Completes k words s out notes result =
     PlainCompletes k words s out notes result × TrialCompletes k words s out notes result × ExplainCompletes k words s out notes result
 
 -- what a run does brings this about
 abbrev pub CompletenessLaw : Type 0
 CompletenessLaw =
-    (k : Known) (words : List Text) (s : Store) (out notes : Change) (steps : Clock) (result : Status) → RunTested k words s out notes steps result →
+    (k : Known) (words : List Text) (s : Shelved) (out notes : Change) (steps : Clock) (result : Status) → RunTested k words s out notes steps result →
     Completes k words s out notes result

@@ -1,6 +1,6 @@
 -- Runs that are resumed at their own cursors.
 use Rattle.std.specs.Prelude.{◌≡◌, ℕ, ◌+◌, ◌≤◌, List, ◌++◌, Bool, Option, Some, length}
-use Rattle.command_line.specs.Asked.{cursor_of}
+use Rattle.command_line.specs.RequestView.{cursor_of}
 use Rattle.span_core.specs.declared.kept.Kept.{Kept}
 use Rattle.spanner_engine.specs.Begun.{row_kept}
 use Rattle.spanner_model.specs.Captures.{VarName}

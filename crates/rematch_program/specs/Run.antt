@@ -6,7 +6,7 @@ use Rattle.rm_outside.specs.Faults.{Rose}
 use Rattle.rm_outside.specs.Told.{Told, GrewBy}
 use Rattle.rm_outside.specs.declared.status.Status.{Status}
 use Rattle.rm_outside.specs.declared.status.Status.TheVariants as status
-use Rattle.command_line.specs.Asked.{Asked, Itself, HeldBy, asked}
+use Rattle.command_line.specs.RequestView.{RequestView, Itself, HeldBy, requested}
 use Rattle.command_line.specs.declared.request.Mode.{Mode}
 use Rattle.command_line.specs.declared.request.Mode.TheVariants as mode
 use Rattle.span_core.specs.declared.kept.Kept.{Kept}
@@ -35,45 +35,45 @@ abbrev pub Text : Type 0
 Text = List ℕ
 
 -- what the shelf told before and after
-pub record Store : Type 0 where
+pub record Shelved : Type 0 where
   pub before : Told
   pub after : Told
 
-abbrev pub store : Told → Told → Store
-store before after = record { before = before; after = after }
+abbrev pub shelved : Told → Told → Shelved
+shelved before after = record { before = before; after = after }
 
 -- nothing was fetched
-abbrev pub IsUntouched : Store → Type 0
+abbrev pub IsUntouched : Shelved → Type 0
 IsUntouched s = s.after ≡ s.before
 
 -- this name was fetched, once, and no other
-pub record Fetches (s : Store) (name : Text) : Type 0 where
+pub record Fetches (s : Shelved) (name : Text) : Type 0 where
   pub grew : GrewBy (name ∷ []) s.before.fetched s.after.fetched
   pub kept : s.after.held ≡ s.before.held
   pub later : (n : Text) → s.before.faults n ≤ s.after.faults n
 
 -- faults of this name were counted
-abbrev pub HasFaults : Store → Text → Type 0
+abbrev pub HasFaults : Shelved → Text → Type 0
 HasFaults s name = Rose (s.before.faults name) (s.after.faults name)
 
 -- the name was fetched, and that failed
-pub record FetchFailed (s : Store) (name : Text) : Type 0 where
+pub record FetchFailed (s : Shelved) (name : Text) : Type 0 where
   pub once : Fetches s name
   pub faulty : HasFaults s name
 
 -- the name was fetched, and has these bytes, at most limit, as far as the shelf tells
-pub record Gives (s : Store) (name : Text) (limit : ℕ) (bytes : Text) : Type 0 where
+pub record Gives (s : Shelved) (name : Text) (limit : ℕ) (bytes : Text) : Type 0 where
   pub once : Fetches s name
   pub told : IfSome (s.before.held name) (λ all. bytes ≡ all)
   pub few : length bytes ≤ limit
 
 -- the name was fetched, and has more bytes than limit, as far as the shelf tells
-pub record IsTooLong (s : Store) (name : Text) (limit : ℕ) : Type 0 where
+pub record IsTooLong (s : Shelved) (name : Text) (limit : ℕ) : Type 0 where
   pub once : Fetches s name
   pub many : IfSome (s.before.held name) (λ all. limit < length all)
 
 -- nothing was fetched, written or counted
-abbrev pub IsIdle : Store → Work → Type 0
+abbrev pub IsIdle : Shelved → Work → Type 0
 IsIdle s w = IsUntouched s × DidNothing w
 
 -- the text has this fault under the tests that are known, and no other, and is that of no sound query whose tests are known
@@ -127,7 +127,7 @@ pub data IsExplained (t : TestedTree) (out : Change) (end : Status) (note : Text
       IsExplained t out end note
   by_memory : IsOutOfMemory end note → IsQuiet out → IsExplained t out end note
 
-module _ (a : Asked) (q : QueryTree) (checks : List Check) (w : Work) (end : Status) (note : Text) where
+module _ (a : RequestView) (q : QueryTree) (checks : List Check) (w : Work) (end : Status) (note : Text) where
   -- with all that is needed: a page of the answers that pass, or the summary of them all
   pub data FromAnswers (names : List VarName) (after : Option Kept) (document : Text) : Type 0 where
     paged : a.mode ≡ mode.Plain → (rows : List SpanRow) (more : Bool) → IsPassingPageOf checks q document names (row_kept after) a.limit rows more →
@@ -143,7 +143,7 @@ module _ (a : Asked) (q : QueryTree) (checks : List Check) (w : Work) (end : Sta
     out_of_memory : IsOutOfMemory end note → DidNothing w → FromDocument names after document
     answered : CursorFits (length document) after → FromAnswers names after document → FromDocument names after document
 
-  module _ (s : Store) where
+  module _ (s : Shelved) where
     -- with the place where the page begins
     pub data FromPlace (names : List VarName) (after : Option Kept) : Type 0 where
       document_failed : FetchFailed s a.document → Is end note status.Read (codes "read failed: document") → DidNothing w → FromPlace names after
@@ -171,9 +171,9 @@ WantsAnswers mode.Plain = Unit {0}
 WantsAnswers mode.Explain = ⊥
 WantsAnswers (mode.Trial lines) = Unit {0}
 
-module _ (s : Store) (w : Work) (end : Status) (note : Text) where
+module _ (s : Shelved) (w : Work) (end : Status) (note : Text) where
   -- with the query and the checks of its tests
-  pub data FromQuery (a : Asked) (t : TestedTree) (checks : List Check) : Type 0 where
+  pub data FromQuery (a : RequestView) (t : TestedTree) (checks : List Check) : Type 0 where
     explained : a.mode ≡ mode.Explain → IsExplained t w.out end note → StandsStill w.steps → IsUntouched s → FromQuery a t checks
     too_large : WantsAnswers a.mode → IsTooLarge t.query end note → IsIdle s w → FromQuery a t checks
     out_of_memory : IsOutOfMemory end note → IsIdle s w → FromQuery a t checks
@@ -181,27 +181,27 @@ module _ (s : Store) (w : Work) (end : Status) (note : Text) where
 
   module _ (k : Known) where
     -- with the query's text
-    pub data FromText (a : Asked) (text : Text) : Type 0 where
+    pub data FromText (a : RequestView) (text : Text) : Type 0 where
       query_refused : (fault : QueryFault) → IsOnlyFault k text fault → Is end note status.Query (fault_note fault) → IsIdle s w → FromText a text
       out_of_memory : IsOutOfMemory end note → IsIdle s w → FromText a text
       understood : (t : TestedTree) → IsOnlyTested k text t → FromQuery a t (checks_of k t.asked) → FromText a text
 
-module _ (s : Store) (w : Work) (end : Status) (note : Text) where
+module _ (s : Shelved) (w : Work) (end : Status) (note : Text) where
   module _ (k : Known) where
     -- with the words' meaning; `between` is what the shelf told once the query was fetched
-    pub data FromAsked (a : Asked) : Type 0 where
-      given : (text : Text) → a.query ≡ Itself text → FromText s w end note k a text → FromAsked a
-      query_failed : (name : Text) → a.query ≡ HeldBy name → FetchFailed s name → Is end note status.Read (codes "read failed: query") → DidNothing w → FromAsked a
-      query_too_long : (name : Text) → a.query ≡ HeldBy name → IsTooLong s name QUERY_LIMIT → Is end note status.Query (counted (codes "query: longer than ") QUERY_LIMIT (codes " bytes")) → DidNothing w → FromAsked a
-      out_of_memory : (name : Text) → a.query ≡ HeldBy name → Fetches s name → IsOutOfMemory end note → DidNothing w → FromAsked a
-      fetched : (name : Text) → a.query ≡ HeldBy name → (text : Text) (between : Told) → Gives (store s.before between) name QUERY_LIMIT text →
-          FromText (store between s.after) w end note k a text → FromAsked a
+    pub data FromRequest (a : RequestView) : Type 0 where
+      given : (text : Text) → a.query ≡ Itself text → FromText s w end note k a text → FromRequest a
+      query_failed : (name : Text) → a.query ≡ HeldBy name → FetchFailed s name → Is end note status.Read (codes "read failed: query") → DidNothing w → FromRequest a
+      query_too_long : (name : Text) → a.query ≡ HeldBy name → IsTooLong s name QUERY_LIMIT → Is end note status.Query (counted (codes "query: longer than ") QUERY_LIMIT (codes " bytes")) → DidNothing w → FromRequest a
+      out_of_memory : (name : Text) → a.query ≡ HeldBy name → Fetches s name → IsOutOfMemory end note → DidNothing w → FromRequest a
+      fetched : (name : Text) → a.query ≡ HeldBy name → (text : Text) (between : Told) → Gives (shelved s.before between) name QUERY_LIMIT text →
+          FromText (shelved between s.after) w end note k a text → FromRequest a
 
     -- with the words
     pub data FromWords (words : List Text) : Type 0 where
-      refused : asked words ≡ None → Is end note status.Words (codes "bad command line") → IsIdle s w → FromWords words
+      refused : requested words ≡ None → Is end note status.Words (codes "bad command line") → IsIdle s w → FromWords words
       out_of_memory : IsOutOfMemory end note → IsIdle s w → FromWords words
-      accepted : (a : Asked) → asked words ≡ Some a → FromAsked a → FromWords words
+      accepted : (a : RequestView) → requested words ≡ Some a → FromRequest a → FromWords words
 
 -- ---- the run
 
@@ -216,7 +216,7 @@ pub data Reports (end : Status) (note : Text) (notes : Change) (result : Status)
   cut : result ≡ status_without_note end → Failed notes → AddsPart notes note → Reports end note notes result
 
 -- a run under the tests that are known
-pub record RunTested (k : Known) (words : List Text) (s : Store) (out notes : Change) (steps : Clock) (result : Status) : Type 0 where
+pub record RunTested (k : Known) (words : List Text) (s : Shelved) (out notes : Change) (steps : Clock) (result : Status) : Type 0 where
   pub end : Status
   pub note : Text
   pub done : FromWords s (work out steps) end note k words
@@ -227,5 +227,5 @@ abbrev pub none_known : Known
 none_known = known [] (λ number bytes. false)
 
 -- a run where no test is known
-abbrev pub Run : List Text → Store → Change → Change → Clock → Status → Type 0
+abbrev pub Run : List Text → Shelved → Change → Change → Clock → Status → Type 0
 Run words s out notes steps result = RunTested none_known words s out notes steps result

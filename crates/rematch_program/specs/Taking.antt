@@ -1,6 +1,6 @@
 -- Taking the rows of a page or of a summary, of the answers that are left: which these are, what is written of them, and what it costs.
 use Rattle.std.specs.Prelude.{ℕ, ◌+◌, ◌*◌, ◌≤◌, Bool, List, [], ◌∷◌, Option, length, nat_lt, take}
-use Rattle.command_line.specs.Asked.{Asked}
+use Rattle.command_line.specs.RequestView.{RequestView}
 use Rattle.spanner_model.specs.Captures.{VarName}
 use Rattle.spanner_model.specs.Answers.{SpanRow}
 use Rattle.spanner_engine.specs.Left.{RowsLeft, checks_over, passing_over}
@@ -42,7 +42,7 @@ module _ (judges : ℕ → List ℕ → Bool) (r : RowsLeft) where
     abbrev pub PageTaken : Clock → Type 0
     PageTaken spent = PageTakes (checks_over judges r.source) r.source.names r.source.document r.rest page_rows spent
 
-  module _ (a : Asked) where
+  module _ (a : RequestView) where
     abbrev pub whole_text : List ℕ
     whole_text = page_text a.form a.texts r.source.names r.source.document (page_rows a.limit)
 

@@ -1,7 +1,7 @@
 -- A query without tests runs alike whatever tests are known, and from its tree on as a query did before there were any.
 use Rattle.std.specs.Prelude.{◌≡◌, ◌↔◌, ℕ, List, [], length, Bool, Option}
 use Rattle.rm_outside.specs.declared.status.Status.{Status}
-use Rattle.command_line.specs.Asked.{Asked}
+use Rattle.command_line.specs.RequestView.{RequestView}
 use Rattle.spanner_model.specs.Captures.{VarName}
 use Rattle.spanner_model.specs.Expression.{QueryTree}
 use Rattle.spanner_model.specs.Answers.{SpanRow, AreAnswers}
@@ -11,13 +11,13 @@ use Rattle.spanner_engine.specs.Passing.{Known}
 use Rattle.rematch_program.specs.Work.{Clock, Work}
 use Rattle.rematch_program.specs.Explained.{explain_text}
 use Rattle.rematch_program.specs.Pages.{IsPageOf}
-use Rattle.rematch_program.specs.Run.{Text, Store, FromText}
+use Rattle.rematch_program.specs.Run.{Text, Shelved, FromText}
 use Rattle.rematch_program.specs.Steps.{KeepsWithin, stated_steps}
 use Rattle.rematch_program.specs.Testing.{AreAllPassing, IsPassingPageOf, PageKeeps, explain_tested}
 
 pub record WithoutTests : Type 0 where
   -- which tests are known does not matter
-  pub alike : (k l : Known) (a : Asked) (text : Text) (q : QueryTree) (s : Store) (w : Work) (end : Status) (note : Text) → IsTestedText text (plain q) →
+  pub alike : (k l : Known) (a : RequestView) (text : Text) (q : QueryTree) (s : Shelved) (w : Work) (end : Status) (note : Text) → IsTestedText text (plain q) →
       FromText s w end note k a text → FromText s w end note l a text
   -- each word is what it was
   pub page : (q : QueryTree) (d : List ℕ) (names : List VarName) (after : Option SpanRow) (limit : Option ℕ) (rows : List SpanRow) (more : Bool) →

@@ -2,7 +2,7 @@
 use Rattle.std.specs.Prelude.{◌≡◌, ◌↔◌, ◌<◌, ℕ, Bool, IsTrue, List, Option, None, length}
 use Rattle.std.specs.Bool.{OnTrue}
 use Rattle.std.specs.List.{flat_map}
-use Rattle.command_line.specs.Asked.{Asked}
+use Rattle.command_line.specs.RequestView.{RequestView}
 use Rattle.command_line.specs.declared.request.Form.{Form}
 use Rattle.spanner_model.specs.Captures.{VarName}
 use Rattle.spanner_model.specs.Answers.{SpanRow, page_end}
@@ -24,7 +24,7 @@ abbrev pub with_waiting : List ℕ → Page → Page
 with_waiting waiting p = page_of p.form p.texts p.names p.document waiting
 
 -- as it is asked for, with what stands before its rows
-abbrev pub page_begun : Asked → List VarName → List ℕ → Page
+abbrev pub page_begun : RequestView → List VarName → List ℕ → Page
 page_begun a names document = page_of a.form a.texts names document (page_head a.form names)
 
 -- the line of a row

@@ -8,7 +8,7 @@ ghost use Rattle.rematch_program.specs.All.{serving_words};
 ghost use Rattle.rm_outside.specs.Change.{change};
 ghost use Rattle.rematch_program.specs.Work.{clock};
 ghost use Rattle.rematch_program.specs.Complete.{Completes};
-ghost use Rattle.rematch_program.specs.Run.{IsUntouched, RunTested, store};
+ghost use Rattle.rematch_program.specs.Run.{IsUntouched, RunTested, shelved};
 
 use crate::MOST_REQUESTS;
 use crate::top::run_tested;
@@ -41,15 +41,15 @@ pub fn run_all<S: Shelf, R: Source, O: Sink, N: Sink, J: Judge, L: Ledger>(
         (change (O.told out.old) (O.told out.new))
         (change (N.told notes.old) (N.told notes.new))
         result }
-    ensures untouched { map string_bytes words.now ≡ serving_words → IsUntouched (store (S.told shelf.old) (S.told shelf.new)) }
+    ensures untouched { map string_bytes words.now ≡ serving_words → IsUntouched (shelved (S.told shelf.old) (S.told shelf.new)) }
     ensures run { map string_bytes words.now ≢ serving_words → RunTested (known tests.now J.judges) (map string_bytes words.now)
-        (store (S.told shelf.old) (S.told shelf.new))
+        (shelved (S.told shelf.old) (S.told shelf.new))
         (change (O.told out.old) (O.told out.new))
         (change (N.told notes.old) (N.told notes.new))
         (clock steps.old steps.new)
         result }
     ensures complete { map string_bytes words.now ≢ serving_words → Completes (known tests.now J.judges) (map string_bytes words.now)
-        (store (S.told shelf.old) (S.told shelf.new))
+        (shelved (S.told shelf.old) (S.told shelf.new))
         (change (O.told out.old) (O.told out.new))
         (change (N.told notes.old) (N.told notes.new))
         result }

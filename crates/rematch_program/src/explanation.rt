@@ -13,7 +13,7 @@ ghost use Rattle.note_texts.specs.Notes.{line, note_bytes};
 ghost use Rattle.rematch_program.specs.Run.{FromPage, IsExplained};
 ghost use Rattle.rematch_program.specs.Testing.{explain_tested};
 
-use crate::ending::Ending;
+use crate::outcome::Outcome;
 use note_texts::FixedNote;
 use place_automaton::{Counts, count};
 use query_parser::Tested;
@@ -24,7 +24,7 @@ use spanner_model::{Atom, Expr, Exprs, Query, variables};
 use std::alloc::Global;
 
 /// Puts the lines that explain a query with its tests, all at once. No automaton is made.
-pub fn write_explanation<O: Sink>(alloc: Global, tested: &Tested, out: &mut O) -> Ending
+pub fn write_explanation<O: Sink>(alloc: Global, tested: &Tested, out: &mut O) -> Outcome
     requires sound { IsSound (query_of tested.now.query) }
     ensures case { IsExplained (tested_of tested.now)
         (change (O.told out.old) (O.told out.new))
@@ -32,20 +32,20 @@ pub fn write_explanation<O: Sink>(alloc: Global, tested: &Tested, out: &mut O) -
 {
     match explanation(alloc, tested) {
         Ok(text) => put_text(&text, out),
-        Err(OutOfMemory) => Ending::out_of_memory(),
+        Err(OutOfMemory) => Outcome::out_of_memory(),
     }
 }
 
 /// Puts a text whole.
-fn put_text<O: Sink>(text: &[u8], out: &mut O) -> Ending
+fn put_text<O: Sink>(text: &[u8], out: &mut O) -> Outcome
     ensures case { FromPage
         (work (change (O.told out.old) (O.told out.new)) (clock 0 0))
         result.status (note_bytes result.note)
         text.now (line (codes "end")) StandsStill }
 {
     match out.put(text) {
-        Ok(()) => Ending::fixed(Status::Done, FixedNote::End),
-        Err(SinkFailed) => Ending::fixed(Status::Write, FixedNote::WriteFailed),
+        Ok(()) => Outcome::fixed(Status::Done, FixedNote::End),
+        Err(SinkFailed) => Outcome::fixed(Status::Write, FixedNote::WriteFailed),
     }
 }
 

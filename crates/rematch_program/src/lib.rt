@@ -14,11 +14,11 @@ pub use top::{run, run_tested};
 pub use untested::NoJudge;
 
 mod all;
-mod ending;
 mod explanation;
 mod gather;
 mod laws;
 mod lines;
+mod outcome;
 mod page;
 mod page_writer;
 mod remaining;

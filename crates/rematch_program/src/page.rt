@@ -3,7 +3,7 @@
 //! A page is never held: each row is asked for when its line is written. The note is made before the last put, so that
 //! want of memory can no more come when all is written.
 ghost use Rattle.std.specs.Prelude.{◌≡◌, ◌≤◌, ◌^◌, ◌++◌, [], length, IfOk, OnOk, OnErr, IsErrOf};
-ghost use Rattle.command_line.specs.Asked.{request_view};
+ghost use Rattle.command_line.specs.RequestView.{request_view};
 ghost use Rattle.note_texts.specs.Notes.{note_bytes};
 ghost use Rattle.rm_outside.specs.Change.{change, Adds, AddsPart, Failed};
 ghost use Rattle.rematch_program.specs.Pages.{FitsIf, cursor_given, last_note, row_if};
@@ -12,7 +12,7 @@ ghost use Rattle.rematch_program.specs.Taking.{PageTaken, coming, page_note as n
 ghost use Rattle.rematch_program.specs.Work.{clock, work, Passes};
 ghost use Rattle.rematch_program.specs.Written.{EndsPage, IsOver, lines_of};
 
-use crate::ending::Ending;
+use crate::outcome::Outcome;
 use crate::page_writer::{PageFault, PageWriter};
 use crate::remaining::Remaining;
 use command_line::Request;
@@ -31,7 +31,7 @@ pub fn write_page<O: Sink, J: Judge, L: Ledger>(
     rows: &mut TestedRows<'_, J>,
     out: &mut O,
     steps: &mut Steps<L>,
-) -> Ending
+) -> Outcome
     ensures case { FromPage
         (work (change (O.told out.old) (O.told out.new)) (clock steps.old steps.new))
         result.status (note_bytes result.note)
@@ -40,12 +40,12 @@ pub fn write_page<O: Sink, J: Judge, L: Ledger>(
         (PageTaken J.judges rows.old (request_view request.now).limit) }
 {
     match put_page(alloc, request, rows, out, steps) {
-        Ok(note) => Ending {
+        Ok(note) => Outcome {
             status: Status::Done,
             note,
         },
-        Err(PageFault::Failed) => Ending::fixed(Status::Write, FixedNote::WriteFailed),
-        Err(PageFault::OutOfMemory) => Ending::out_of_memory(),
+        Err(PageFault::Failed) => Outcome::fixed(Status::Write, FixedNote::WriteFailed),
+        Err(PageFault::OutOfMemory) => Outcome::out_of_memory(),
     }
 }
 

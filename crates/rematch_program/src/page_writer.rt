@@ -4,7 +4,7 @@
 ghost use Rattle.std.specs.Prelude.{◌≡◌, ◌≤◌, ◌++◌, [], IfOk, IsTrue, OnOk, OnErr, IsErrOf, length};
 ghost use Rattle.std.specs.List.{list_all};
 ghost use Rattle.cell_text.specs.Cells.{ends_by};
-ghost use Rattle.command_line.specs.Asked.{request_view};
+ghost use Rattle.command_line.specs.RequestView.{request_view};
 ghost use Rattle.rm_outside.specs.Change.{change, Adds, AddsPart, Failed};
 ghost use Rattle.row_writer.specs.Kept.{kept_text};
 ghost use Rattle.span_core.specs.declared.TheConstants.{MOST_VARIABLES};

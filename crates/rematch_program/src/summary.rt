@@ -10,7 +10,7 @@ ghost use Rattle.rematch_program.specs.Taking.{AllTaken, coming};
 ghost use Rattle.rematch_program.specs.Trials.{last_of, summary_row, trial_summary};
 ghost use Rattle.trial_maker.specs.Summary.{number_line, row_line};
 
-use crate::ending::Ending;
+use crate::outcome::Outcome;
 use note_texts::FixedNote;
 use rm_outside::{Sink, SinkFailed, Status};
 use row_writer::spans_line;
@@ -28,7 +28,7 @@ pub fn write_summary<O: Sink, J: Judge, L: Ledger>(
     rows: &mut TestedRows<'_, J>,
     out: &mut O,
     steps: &mut Steps<L>,
-) -> Ending
+) -> Outcome
     ensures case { FromPage
         (work (change (O.told out.old) (O.told out.new)) (clock steps.old steps.new))
         result.status (note_bytes result.note)
@@ -37,11 +37,11 @@ pub fn write_summary<O: Sink, J: Judge, L: Ledger>(
     let counted = count_rows(rows, steps);
     let text = match summary(alloc, lines, rows.vars(), rows.document(), &counted) {
         Ok(text) => text,
-        Err(OutOfMemory) => return Ending::out_of_memory(),
+        Err(OutOfMemory) => return Outcome::out_of_memory(),
     };
     match out.put(&text) {
-        Ok(()) => Ending::fixed(Status::Done, FixedNote::End),
-        Err(SinkFailed) => Ending::fixed(Status::Write, FixedNote::WriteFailed),
+        Ok(()) => Outcome::fixed(Status::Done, FixedNote::End),
+        Err(SinkFailed) => Outcome::fixed(Status::Write, FixedNote::WriteFailed),
     }
 }
 

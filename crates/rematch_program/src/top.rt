@@ -6,7 +6,7 @@ ghost use Rattle.std.specs.Prelude.{◌≡◌, ◌≤◌, ◌⊎◌, None, map, 
 ghost use Rattle.std.specs.Bool.{OnFalse};
 ghost use Rattle.std.specs.Option.{option_copied};
 ghost use Rattle.rm_outside.specs.Shelf.{ByLength};
-ghost use Rattle.command_line.specs.Asked.{request_view};
+ghost use Rattle.command_line.specs.RequestView.{request_view};
 ghost use Rattle.spanner_model.specs.ExprView.{query_of};
 ghost use Rattle.spanner_model.specs.Sound.{IsSound};
 ghost use Rattle.spanner_model.specs.Answers.{AreResultNames};
@@ -25,10 +25,10 @@ ghost use Rattle.note_texts.specs.Notes.{fault_note, note_bytes, size_note};
 ghost use Rattle.rematch_program.specs.Steps.{KeepsWithin};
 ghost use Rattle.rematch_program.specs.Pages.{CursorFits, HasWidth, IsAfter};
 ghost use Rattle.rematch_program.specs.Complete.{Completes};
-ghost use Rattle.rematch_program.specs.Run.{FetchFailed, Fetches, FromAsked, FromCursor, FromDocument, FromPlace, FromQuery, FromText, FromWords, Gives, Is, IsNotBegun, IsOutOfMemory, IsTooLarge, Reports, Run, RunTested, none_known, store};
+ghost use Rattle.rematch_program.specs.Run.{FetchFailed, Fetches, FromRequest, FromCursor, FromDocument, FromPlace, FromQuery, FromText, FromWords, Gives, Is, IsNotBegun, IsOutOfMemory, IsTooLarge, Reports, Run, RunTested, none_known, shelved};
 
-use crate::ending::Ending;
 use crate::explanation::write_explanation;
+use crate::outcome::Outcome;
 use crate::page::write_page;
 use crate::summary::write_summary;
 use crate::untested::NoJudge;
@@ -57,13 +57,13 @@ pub fn run<S: Shelf, O: Sink, N: Sink, L: Ledger>(
     steps: &mut Steps<L>,
 ) -> Status
     ensures run { Run (map string_bytes words.now)
-        (store (S.told shelf.old) (S.told shelf.new))
+        (shelved (S.told shelf.old) (S.told shelf.new))
         (change (O.told out.old) (O.told out.new))
         (change (N.told notes.old) (N.told notes.new))
         (clock steps.old steps.new)
         result }
     ensures complete { Completes none_known (map string_bytes words.now)
-        (store (S.told shelf.old) (S.told shelf.new))
+        (shelved (S.told shelf.old) (S.told shelf.new))
         (change (O.told out.old) (O.told out.new))
         (change (N.told notes.old) (N.told notes.new))
         result }
@@ -95,28 +95,28 @@ pub fn run_tested<S: Shelf, O: Sink, N: Sink, J: Judge, L: Ledger>(
     steps: &mut Steps<L>,
 ) -> Status
     ensures run { RunTested (known tests.now J.judges) (map string_bytes words.now)
-        (store (S.told shelf.old) (S.told shelf.new))
+        (shelved (S.told shelf.old) (S.told shelf.new))
         (change (O.told out.old) (O.told out.new))
         (change (N.told notes.old) (N.told notes.new))
         (clock steps.old steps.new)
         result }
     ensures complete { Completes (known tests.now J.judges) (map string_bytes words.now)
-        (store (S.told shelf.old) (S.told shelf.new))
+        (shelved (S.told shelf.old) (S.told shelf.new))
         (change (O.told out.old) (O.told out.new))
         (change (N.told notes.old) (N.told notes.new))
         result }
 {
-    let ending = with_words(alloc, words, tests, shelf, out, steps);
-    report(&ending, notes)
+    let outcome = with_words(alloc, words, tests, shelf, out, steps);
+    report(&outcome, notes)
 }
 
 /// Writes the note.
-fn report<N: Sink>(ending: &Ending, notes: &mut N) -> Status
-    ensures { Reports ending.now.status (note_bytes ending.now.note)
+fn report<N: Sink>(outcome: &Outcome, notes: &mut N) -> Status
+    ensures { Reports outcome.now.status (note_bytes outcome.now.note)
         (change (N.told notes.old) (N.told notes.new))
         result }
 {
-    match (notes.put(ending.note.as_bytes()), ending.status) {
+    match (notes.put(outcome.note.as_bytes()), outcome.status) {
         (Err(_), Status::Done) => Status::Write,
         (_, status) => status,
     }
@@ -130,15 +130,15 @@ fn with_words<S: Shelf, O: Sink, J: Judge, L: Ledger>(
     shelf: &mut S,
     out: &mut O,
     steps: &mut Steps<L>,
-) -> Ending
-    ensures case { FromWords (store (S.told shelf.old) (S.told shelf.new))
+) -> Outcome
+    ensures case { FromWords (shelved (S.told shelf.old) (S.told shelf.new))
         (work (change (O.told out.old) (O.told out.new)) (clock steps.old steps.new))
         result.status (note_bytes result.note) (known tests.now J.judges) (map string_bytes words.now) }
 {
     match read_request(alloc, words) {
         Ok(request) => with_request(alloc, &request, tests, shelf, out, steps),
-        Err(WordsFault::Refused) => Ending::fixed(Status::Words, FixedNote::BadCommandLine),
-        Err(WordsFault::OutOfMemory) => Ending::out_of_memory(),
+        Err(WordsFault::Refused) => Outcome::fixed(Status::Words, FixedNote::BadCommandLine),
+        Err(WordsFault::OutOfMemory) => Outcome::out_of_memory(),
     }
 }
 
@@ -150,8 +150,8 @@ fn with_request<S: Shelf, O: Sink, J: Judge, L: Ledger>(
     shelf: &mut S,
     out: &mut O,
     steps: &mut Steps<L>,
-) -> Ending
-    ensures case { FromAsked (store (S.told shelf.old) (S.told shelf.new))
+) -> Outcome
+    ensures case { FromRequest (shelved (S.told shelf.old) (S.told shelf.new))
         (work (change (O.told out.old) (O.told out.new)) (clock steps.old steps.new))
         result.status (note_bytes result.note) (known tests.now J.judges) (request_view request.now) }
 {
@@ -163,13 +163,13 @@ fn with_request<S: Shelf, O: Sink, J: Judge, L: Ledger>(
     };
     match fetch_all(alloc, shelf, name, QUERY_LIMIT) {
         Ok(text) => with_text(alloc, request, &text, tests, shelf, out, steps),
-        Err(FetchFault::Failed) => Ending::fixed(Status::Read, FixedNote::QueryUnread),
-        Err(FetchFault::TooLong { seen: _ }) => Ending::with(
+        Err(FetchFault::Failed) => Outcome::fixed(Status::Read, FixedNote::QueryUnread),
+        Err(FetchFault::TooLong { seen: _ }) => Outcome::with(
             alloc,
             Status::Query,
             &Note::QueryTooLong { most: QUERY_LIMIT },
         ),
-        Err(FetchFault::OutOfMemory) => Ending::out_of_memory(),
+        Err(FetchFault::OutOfMemory) => Outcome::out_of_memory(),
     }
 }
 
@@ -182,8 +182,8 @@ fn with_text<S: Shelf, O: Sink, J: Judge, L: Ledger>(
     shelf: &mut S,
     out: &mut O,
     steps: &mut Steps<L>,
-) -> Ending
-    ensures case { FromText (store (S.told shelf.old) (S.told shelf.new))
+) -> Outcome
+    ensures case { FromText (shelved (S.told shelf.old) (S.told shelf.new))
         (work (change (O.told out.old) (O.told out.new)) (clock steps.old steps.new))
         result.status (note_bytes result.note) (known tests.now J.judges) (request_view request.now) text.now }
 {
@@ -198,13 +198,13 @@ fn with_text<S: Shelf, O: Sink, J: Judge, L: Ledger>(
 }
 
 /// The query's text has a fault, which the note tells.
-fn refused(alloc: Global, fault: QueryFault) -> Ending
+fn refused(alloc: Global, fault: QueryFault) -> Outcome
     ensures { ((¬ (fault ≡ QueryFault.OutOfMemory)) × Is result.status (note_bytes result.note) Status.Query (fault_note fault)) ⊎ IsOutOfMemory result.status (note_bytes result.note) }
 {
     if wants_memory(&fault) {
-        return Ending::out_of_memory();
+        return Outcome::out_of_memory();
     }
-    Ending::with(alloc, Status::Query, &Note::Query(&fault))
+    Outcome::with(alloc, Status::Query, &Note::Query(&fault))
 }
 
 fn wants_memory(fault: &QueryFault) -> bool
@@ -222,10 +222,10 @@ fn with_query<S: Shelf, O: Sink, J: Judge, L: Ledger>(
     shelf: &mut S,
     out: &mut O,
     steps: &mut Steps<L>,
-) -> Ending
+) -> Outcome
     requires sound { IsSound (query_of tested.now.query) }
     requires bound { AreKnown (known tests.now J.judges) tested.now.asked }
-    ensures case { FromQuery (store (S.told shelf.old) (S.told shelf.new))
+    ensures case { FromQuery (shelved (S.told shelf.old) (S.told shelf.new))
         (work (change (O.told out.old) (O.told out.new)) (clock steps.old steps.new))
         result.status (note_bytes result.note) (request_view request.now) (tested_of tested.now) (checks_of (known tests.now J.judges) tested.now.asked) }
 {
@@ -240,7 +240,7 @@ fn with_query<S: Shelf, O: Sink, J: Judge, L: Ledger>(
                 };
                 with_cursor(alloc, request, &asking, shelf, out, steps)
             }
-            Err(ending) => ending,
+            Err(outcome) => outcome,
         },
         Mode::Trial(lines) => match compiled_query(alloc, &tested.query) {
             Ok(compiled) => {
@@ -251,7 +251,7 @@ fn with_query<S: Shelf, O: Sink, J: Judge, L: Ledger>(
                 };
                 with_lines(alloc, request, lines, &asking, out, steps)
             }
-            Err(ending) => ending,
+            Err(outcome) => outcome,
         },
     }
 }
@@ -268,12 +268,12 @@ struct Asking<'r, J: Judge> {
 }
 
 /// The query with its automaton, or how a run ends that has none.
-fn compiled_query<'q>(alloc: Global, query: &'q Query) -> Result<Compiled<'q>, Ending>
+fn compiled_query<'q>(alloc: Global, query: &'q Query) -> Result<Compiled<'q>, Outcome>
     requires sound { IsSound (query_of query.now) }
     ensures query { IfOk result (λ c. c.query ≡ query.now) }
     ensures names { IfOk result (λ c. AreResultNames (query_of query.now) c.automaton.names) }
     ensures small { OnOk result (AtomsAreSmall (query_of query.now)) }
-    ensures ending { IfErr result (λ e. IsTooLarge (query_of query.now) e.status (note_bytes e.note)) }
+    ensures outcome { IfErr result (λ e. IsTooLarge (query_of query.now) e.status (note_bytes e.note)) }
 {
     match compile(alloc, query) {
         Ok(compiled) => Ok(compiled),
@@ -282,13 +282,13 @@ fn compiled_query<'q>(alloc: Global, query: &'q Query) -> Result<Compiled<'q>, E
 }
 
 /// An automaton of the query is too large, which the note tells.
-fn too_large(alloc: Global, fault: &SizeFault) -> Ending
+fn too_large(alloc: Global, fault: &SizeFault) -> Outcome
     ensures { ((¬ (fault.now ≡ SizeFault.OutOfMemory)) × Is result.status (note_bytes result.note) Status.Size (size_note fault.now)) ⊎ IsOutOfMemory result.status (note_bytes result.note) }
 {
     if size_wants_memory(fault) {
-        return Ending::out_of_memory();
+        return Outcome::out_of_memory();
     }
-    Ending::with(alloc, Status::Size, &Note::Size(fault))
+    Outcome::with(alloc, Status::Size, &Note::Size(fault))
 }
 
 fn size_wants_memory(fault: &SizeFault) -> bool
@@ -305,14 +305,14 @@ fn with_cursor<S: Shelf, O: Sink, J: Judge, L: Ledger>(
     shelf: &mut S,
     out: &mut O,
     steps: &mut Steps<L>,
-) -> Ending
+) -> Outcome
     requires plain { (request_view request.now).mode ≡ Mode.Plain }
     requires query { asking.now.compiled.query ≡ asking.now.tested.now.query }
     requires names { AreResultNames (query_of asking.now.compiled.query) asking.now.compiled.automaton.names }
     requires bound { AreKnown (known asking.now.tests.now J.judges) asking.now.tested.now.asked }
     ensures case { FromCursor (request_view request.now) (query_of asking.now.compiled.query) (checks_of (known asking.now.tests.now J.judges) asking.now.tested.now.asked)
         (work (change (O.told out.old) (O.told out.new)) (clock steps.old steps.new))
-        result.status (note_bytes result.note) (store (S.told shelf.old) (S.told shelf.new)) asking.now.compiled.automaton.names }
+        result.status (note_bytes result.note) (shelved (S.told shelf.old) (S.told shelf.new)) asking.now.compiled.automaton.names }
 {
     let text = match request.after {
         Some(text) => text,
@@ -320,8 +320,8 @@ fn with_cursor<S: Shelf, O: Sink, J: Judge, L: Ledger>(
     };
     match row_cursor::read(text.as_bytes(), asking.compiled.vars()) {
         Ok(kept) => with_place(alloc, request, asking, Some(&kept), shelf, out, steps),
-        Err(CursorFault::Syntax) => Ending::fixed(Status::Cursor, FixedNote::NotACursor),
-        Err(CursorFault::Variables) => Ending::fixed(Status::Cursor, FixedNote::OtherVariables),
+        Err(CursorFault::Syntax) => Outcome::fixed(Status::Cursor, FixedNote::NotACursor),
+        Err(CursorFault::Variables) => Outcome::fixed(Status::Cursor, FixedNote::OtherVariables),
     }
 }
 
@@ -334,7 +334,7 @@ fn with_place<S: Shelf, O: Sink, J: Judge, L: Ledger>(
     shelf: &mut S,
     out: &mut O,
     steps: &mut Steps<L>,
-) -> Ending
+) -> Outcome
     requires plain { (request_view request.now).mode ≡ Mode.Plain }
     requires query { asking.now.compiled.query ≡ asking.now.tested.now.query }
     requires names { AreResultNames (query_of asking.now.compiled.query) asking.now.compiled.automaton.names }
@@ -342,20 +342,20 @@ fn with_place<S: Shelf, O: Sink, J: Judge, L: Ledger>(
     requires after { IsAfter asking.now.compiled.automaton.names (request_view request.now).after (option_copied after) }
     ensures case { FromPlace (request_view request.now) (query_of asking.now.compiled.query) (checks_of (known asking.now.tests.now J.judges) asking.now.tested.now.asked)
         (work (change (O.told out.old) (O.told out.new)) (clock steps.old steps.new))
-        result.status (note_bytes result.note) (store (S.told shelf.old) (S.told shelf.new))
+        result.status (note_bytes result.note) (shelved (S.told shelf.old) (S.told shelf.new))
         asking.now.compiled.automaton.names (option_copied after.entry) }
 {
     match fetch_all(alloc, shelf, request.document, DOCUMENT_LIMIT) {
         Ok(document) => with_document(alloc, request, asking, after, &document, out, steps),
-        Err(FetchFault::Failed) => Ending::fixed(Status::Read, FixedNote::DocumentUnread),
-        Err(FetchFault::TooLong { seen: _ }) => Ending::with(
+        Err(FetchFault::Failed) => Outcome::fixed(Status::Read, FixedNote::DocumentUnread),
+        Err(FetchFault::TooLong { seen: _ }) => Outcome::with(
             alloc,
             Status::Long,
             &Note::DocumentTooLong {
                 most: DOCUMENT_LIMIT,
             },
         ),
-        Err(FetchFault::OutOfMemory) => Ending::out_of_memory(),
+        Err(FetchFault::OutOfMemory) => Outcome::out_of_memory(),
     }
 }
 
@@ -368,7 +368,7 @@ fn with_document<O: Sink, J: Judge, L: Ledger>(
     document: &[u8],
     out: &mut O,
     steps: &mut Steps<L>,
-) -> Ending
+) -> Outcome
     requires plain { (request_view request.now).mode ≡ Mode.Plain }
     requires query { asking.now.compiled.query ≡ asking.now.tested.now.query }
     requires names { AreResultNames (query_of asking.now.compiled.query) asking.now.compiled.automaton.names }
@@ -390,7 +390,7 @@ fn with_document<O: Sink, J: Judge, L: Ledger>(
             );
             write_page(alloc, request, &mut rows, out, steps)
         }
-        Err(ending) => ending,
+        Err(outcome) => outcome,
     }
 }
 
@@ -402,7 +402,7 @@ fn with_lines<O: Sink, J: Judge, L: Ledger>(
     asking: &Asking<'_, J>,
     out: &mut O,
     steps: &mut Steps<L>,
-) -> Ending
+) -> Outcome
     requires trial { (request_view request.now).mode ≡ Mode.Trial lines }
     requires few { lines ≤ MOST_TRIAL_LINES }
     requires query { asking.now.compiled.query ≡ asking.now.tested.now.query }
@@ -414,7 +414,7 @@ fn with_lines<O: Sink, J: Judge, L: Ledger>(
 {
     match trial(alloc, lines) {
         Ok(document) => with_trial(alloc, request, lines, asking, &document, out, steps),
-        Err(OutOfMemory) => Ending::out_of_memory(),
+        Err(OutOfMemory) => Outcome::out_of_memory(),
     }
 }
 
@@ -427,7 +427,7 @@ fn with_trial<O: Sink, J: Judge, L: Ledger>(
     document: &[u8],
     out: &mut O,
     steps: &mut Steps<L>,
-) -> Ending
+) -> Outcome
     requires trial { (request_view request.now).mode ≡ Mode.Trial lines }
     requires short { length document.now ≤ DOCUMENT_LIMIT }
     requires query { asking.now.compiled.query ≡ asking.now.tested.now.query }
@@ -448,7 +448,7 @@ fn with_trial<O: Sink, J: Judge, L: Ledger>(
             );
             write_summary(alloc, lines, &mut rows, out, steps)
         }
-        Err(ending) => ending,
+        Err(outcome) => outcome,
     }
 }
 
@@ -460,13 +460,13 @@ fn begun<L: Ledger>(
     after: Option<&Kept>,
     document: &[u8],
     steps: &mut Steps<L>,
-) -> Result<Answers, Ending>
+) -> Result<Answers, Outcome>
     requires short { length document.now ≤ DOCUMENT_LIMIT }
     requires width { HasWidth (length compiled.now.automaton.names) (row_kept (option_copied after)) }
     ensures fits { OnOk result (CursorFits (length document.now) (option_copied after.entry)) }
     ensures left { IfOk result (λ a. AreLeft (query_of compiled.now.query) document.now compiled.now.automaton.names (row_kept (option_copied after.entry)) a.rest) }
     ensures variables { IfOk result (λ a. a.variables ≡ length compiled.now.automaton.names) }
-    ensures ending { IfErr result (λ e. IsNotBegun (request_view request.now).filter (query_of compiled.now.query) (option_copied after.entry) document.now (request_view request.now).max_table (clock steps.old steps.new) e.status (note_bytes e.note)) }
+    ensures outcome { IfErr result (λ e. IsNotBegun (request_view request.now).filter (query_of compiled.now.query) (option_copied after.entry) document.now (request_view request.now).max_table (clock steps.old steps.new) e.status (note_bytes e.note)) }
     ensures steps { KeepsWithin (request_view request.now).filter (query_of compiled.now.query) document.now
         (λ K. begin_steps (request_view request.now).filter (query_of compiled.now.query) document.now K (row_kept (option_copied after.entry))) (clock steps.old steps.new) }
 {
@@ -476,30 +476,30 @@ fn begun<L: Ledger>(
     };
     match begin(alloc, compiled, document, after, options, steps) {
         Ok(answers) => Ok(answers),
-        Err(BeginFault::CursorOther { kept, found }) => Err(Ending::with(
+        Err(BeginFault::CursorOther { kept, found }) => Err(Outcome::with(
             alloc,
             Status::Cursor,
             &Note::OtherDocument { kept, found },
         )),
-        Err(BeginFault::CursorPlace) => Err(Ending::fixed(
+        Err(BeginFault::CursorPlace) => Err(Outcome::fixed(
             Status::Cursor,
             FixedNote::PastTheDocument,
         )),
-        Err(BeginFault::Filter { weight: _ }) => Err(Ending::with(
+        Err(BeginFault::Filter { weight: _ }) => Err(Outcome::with(
             alloc,
             Status::Size,
             &Note::Filter {
                 limit: request.max_table,
             },
         )),
-        Err(BeginFault::Table { weight: _ }) => Err(Ending::with(
+        Err(BeginFault::Table { weight: _ }) => Err(Outcome::with(
             alloc,
             Status::Size,
             &Note::Table {
                 limit: request.max_table,
             },
         )),
-        Err(BeginFault::OutOfMemory) => Err(Ending::out_of_memory()),
+        Err(BeginFault::OutOfMemory) => Err(Outcome::out_of_memory()),
     }
 }
 
@@ -510,10 +510,10 @@ fn fetch_all<S: Shelf>(
     name: &str,
     limit: u64,
 ) -> Result<Vec<u8>, FetchFault>
-    ensures once { Fetches (store (S.told shelf.old) (S.told shelf.new)) name.now }
-    ensures gives { IfOk result (λ bytes. Gives (store (S.told shelf.old) (S.told shelf.new)) name.now limit bytes.items) }
+    ensures once { Fetches (shelved (S.told shelf.old) (S.told shelf.new)) name.now }
+    ensures gives { IfOk result (λ bytes. Gives (shelved (S.told shelf.old) (S.told shelf.new)) name.now limit bytes.items) }
     ensures by_length { IfSome ((S.told shelf.old).held name.now) (λ all. ByLength limit (length all) result) }
-    ensures failed { IsErrOf result FetchFault.Failed → FetchFailed (store (S.told shelf.old) (S.told shelf.new)) name.now }
+    ensures failed { IsErrOf result FetchFault.Failed → FetchFailed (shelved (S.told shelf.old) (S.told shelf.new)) name.now }
 {
     let mut bytes = Vec::new(alloc);
     match shelf.fetch(name, limit, &mut bytes) {

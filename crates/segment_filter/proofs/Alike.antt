@@ -9,13 +9,13 @@ use Rattle.span_core.proofs.HasLaws.{Has-append_cases, Has-map_cases}
 use Rattle.marked_automaton.specs.declared.way.Way.{Way}
 use Rattle.marked_automaton.specs.Automaton.{Automaton}
 use Rattle.marked_automaton.proofs.Passing.{filter_cases, left_true, right_true}
-use Rattle.automaton_reading.specs.Reading.{Reach, Row, byte_read, edges, is_among, next_sets, once, row_edges, row_same, rows_asked, set_of, ways_taken}
+use Rattle.automaton_reading.specs.Reading.{Reach, LookUp, byte_read, edges, is_among, next_sets, once, look_up_edges, look_up_same, look_ups_asked, set_of, ways_taken}
 use Rattle.automaton_reading.proofs.Determined.{among_has, edge_way, has_set, set_has, way_edge}
 use Rattle.automaton_reading.proofs.Matching.{cons_sum, has_once}
-use Rattle.automaton_reading.proofs.MeasureLaws.{IsUp, row_itself, same_row, set_is_up}
+use Rattle.automaton_reading.proofs.MeasureLaws.{IsUp, look_up_itself, same_look_up, set_is_up}
 use Rattle.segment_filter.specs.Readings.{AlikeLaw, StepsTo}
 use Rattle.segment_filter.specs.Sets.{TakesNone}
-use Rattle.segment_filter.specs.Weights.{bytes_read, reading_rows, reading_weight, sets_asked, sets_read}
+use Rattle.segment_filter.specs.Weights.{bytes_read, reading_look_ups, reading_weight, sets_asked, sets_read}
 use Rattle.segment_filter.proofs.SetLaws.{edge_is}
 
 up_same : (xs ys : List ℕ) → IsUp xs → IsUp ys → ((z : ℕ) → Has xs z → Has ys z) → ((z : ℕ) → Has ys z → Has xs z) → xs ≡ ys
@@ -114,19 +114,19 @@ module _ (A B : Automaton) (a : TakesNone A) (b : TakesNone B) (starts : (p : �
   sets_alike (c ∷ d) sets =
       ap (λ more. sets ++ more) (sets_alike d (next_sets A sets (byte_read c)) ∙ ap (λ next. sets_asked B next (map byte_read d)) (next_alike c sets))
 
-  rows_alike : (d : List ℕ) (sets : List (List ℕ)) → rows_asked A sets (map byte_read d) ≡ rows_asked B sets (map byte_read d)
-  rows_alike [] sets = refl
-  rows_alike (c ∷ d) sets =
-      ap (λ more. map (λ set. let r : Row = record { set = set; ask = byte_read c } in r) sets ++ more)
-      (rows_alike d (next_sets A sets (byte_read c)) ∙ ap (λ next. rows_asked B next (map byte_read d)) (next_alike c sets))
+  look_ups_alike : (d : List ℕ) (sets : List (List ℕ)) → look_ups_asked A sets (map byte_read d) ≡ look_ups_asked B sets (map byte_read d)
+  look_ups_alike [] sets = refl
+  look_ups_alike (c ∷ d) sets =
+      ap (λ more. map (λ set. let r : LookUp = record { set = set; ask = byte_read c } in r) sets ++ more)
+      (look_ups_alike d (next_sets A sets (byte_read c)) ∙ ap (λ next. look_ups_asked B next (map byte_read d)) (next_alike c sets))
 
   -- what is asked is a byte
-  row_byte : (d : List ℕ) (sets : List (List ℕ)) (r : Row) → Has (rows_asked A sets (map byte_read d)) r → (c : ℕ) × (r.ask ≡ byte_read c)
-  row_byte [] sets r h = absurd h
-  row_byte (c ∷ d) sets r h =
-      elim (Has-append_cases (map (λ set. let r : Row = record { set = set; ask = byte_read c } in r) sets) (rows_asked A (next_sets A sets (byte_read c)) (map byte_read d)) r h) as (λ _. (c : ℕ) × (r.ask ≡ byte_read c)) [
-        | inl i ↦ let s = Has-map_cases (λ set. let r : Row = record { set = set; ask = byte_read c } in r) sets r i in (c, sym (ap (λ (x : Row). x.ask) s.2))
-        | inr j ↦ row_byte d (next_sets A sets (byte_read c)) r j
+  look_up_byte : (d : List ℕ) (sets : List (List ℕ)) (r : LookUp) → Has (look_ups_asked A sets (map byte_read d)) r → (c : ℕ) × (r.ask ≡ byte_read c)
+  look_up_byte [] sets r h = absurd h
+  look_up_byte (c ∷ d) sets r h =
+      elim (Has-append_cases (map (λ set. let r : LookUp = record { set = set; ask = byte_read c } in r) sets) (look_ups_asked A (next_sets A sets (byte_read c)) (map byte_read d)) r h) as (λ _. (c : ℕ) × (r.ask ≡ byte_read c)) [
+        | inl i ↦ let s = Has-map_cases (λ set. let r : LookUp = record { set = set; ask = byte_read c } in r) sets r i in (c, sym (ap (λ (x : LookUp). x.ask) s.2))
+        | inr j ↦ look_up_byte d (next_sets A sets (byte_read c)) r j
       ]
 
   start_alike : set_of A.starts ≡ set_of B.starts
@@ -136,27 +136,27 @@ module _ (A B : Automaton) (a : TakesNone A) (b : TakesNone B) (starts : (p : �
   pub read_sets_alike : (d : List ℕ) → sets_read A d ≡ sets_read B d
   read_sets_alike d = sets_alike d (set_of A.starts ∷ []) ∙ ap (λ s. sets_asked B (s ∷ []) (map byte_read d)) start_alike
 
-  pub read_rows_alike : (d : List ℕ) → bytes_read A d ≡ bytes_read B d
-  read_rows_alike d = rows_alike d (set_of A.starts ∷ []) ∙ ap (λ s. rows_asked B (s ∷ []) (map byte_read d)) start_alike
+  pub read_look_ups_alike : (d : List ℕ) → bytes_read A d ≡ bytes_read B d
+  read_look_ups_alike d = look_ups_alike d (set_of A.starts ∷ []) ∙ ap (λ s. look_ups_asked B (s ∷ []) (map byte_read d)) start_alike
 
   pub weight_alike : (d : List ℕ) → reading_weight A d ≡ reading_weight B d
   weight_alike d =
       let sets : sum_by (λ set. 1 + length set) (once bytes_eq (sets_read A d)) ≡ sum_by (λ set. 1 + length set) (once bytes_eq (sets_read B d)) =
       ap (λ ss. sum_by (λ set. 1 + length set) (once bytes_eq ss)) (read_sets_alike d) in
-      let rows : sum_by (λ r. 1 + row_edges A r) (once row_same (bytes_read A d)) ≡ sum_by (λ r. 1 + row_edges B r) (once row_same (bytes_read B d)) =
-      sum_same (λ r. 1 + row_edges A r) (λ r. 1 + row_edges B r) (once row_same (bytes_read A d)) edges_same
-      ∙ ap (λ rs. sum_by (λ r. 1 + row_edges B r) (once row_same rs)) (read_rows_alike d) in
-      omega (arith, sets, rows)
+      let look_ups : sum_by (λ r. 1 + look_up_edges A r) (once look_up_same (bytes_read A d)) ≡ sum_by (λ r. 1 + look_up_edges B r) (once look_up_same (bytes_read B d)) =
+      sum_same (λ r. 1 + look_up_edges A r) (λ r. 1 + look_up_edges B r) (once look_up_same (bytes_read A d)) edges_same
+      ∙ ap (λ rs. sum_by (λ r. 1 + look_up_edges B r) (once look_up_same rs)) (read_look_ups_alike d) in
+      omega (arith, sets, look_ups)
     where
-      edges_same : (r : Row) → Has (once row_same (bytes_read A d)) r → 1 + row_edges A r ≡ 1 + row_edges B r
+      edges_same : (r : LookUp) → Has (once look_up_same (bytes_read A d)) r → 1 + look_up_edges A r ≡ 1 + look_up_edges B r
       edges_same r h =
-          let c = row_byte d (set_of A.starts ∷ []) r (has_once row_same same_row row_itself (bytes_read A d) r h) in
+          let c = look_up_byte d (set_of A.starts ∷ []) r (has_once look_up_same same_look_up look_up_itself (bytes_read A d) r h) in
           let e : length (edges A r.set r.ask) ≡ length (edges B r.set r.ask) =
           ap (λ k. length (edges A r.set k)) c.1 ∙ (ap length (edges_alike r.set c.0) ∙ sym (ap (λ k. length (edges B r.set k)) c.1)) in
           omega (arith, e)
 
-  pub rows_count_alike : (d : List ℕ) → reading_rows A d ≡ reading_rows B d
-  rows_count_alike d = ap (λ rs. length (once row_same rs)) (read_rows_alike d)
+  pub look_ups_count_alike : (d : List ℕ) → reading_look_ups A d ≡ reading_look_ups B d
+  look_ups_count_alike d = ap (λ rs. length (once look_up_same rs)) (read_look_ups_alike d)
 
 pub alike_law : AlikeLaw
-alike_law A B a b starts steps d = (weight_alike A B a b starts steps d, rows_count_alike A B a b starts steps d)
+alike_law A B a b starts steps d = (weight_alike A B a b starts steps d, look_ups_count_alike A B a b starts steps d)

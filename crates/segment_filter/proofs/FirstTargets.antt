@@ -36,10 +36,10 @@ not_asked t r w tabled is more = by (was_asked t r) refl is more
     by true at is more = let l = tabled.within in absurd (omega (arith, l, is, more))
     by false at is more = (at, more, is)
 
-pub row_ok : (t0 t : Tabled) (r : Asking) (o : Result (Bor (List Edge)) TableFault) (es : Bor (List Edge)) →
+pub look_up_ok : (t0 t : Tabled) (r : Asking) (o : Result (Bor (List Edge)) TableFault) (es : Bor (List Edge)) →
     MatchResult o (λ es. (t ≡ once_asked t0 r) × HasEdges t r es.now) (λ e. (t ≡ t0) × IsRefusal (once_asked t0 r) e) → o ≡ Ok es →
     (t ≡ once_asked t0 r) × HasEdges t r es.now
-row_ok t0 t r o es h e =
+look_up_ok t0 t r o es h e =
     subst (λ (o : Result (Bor (List Edge)) TableFault). MatchResult o (λ es. (t ≡ once_asked t0 r) × HasEdges t r es.now) (λ e. (t ≡ t0) × IsRefusal (once_asked t0 r) e)) e h
 
 -- the edges of a set that was there are the same

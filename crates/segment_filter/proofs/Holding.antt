@@ -11,9 +11,9 @@ use Rattle.span_core.proofs.HasLaws.{Has-append_cases, Has-append_left, Has-appe
 use Rattle.marked_automaton.specs.Automaton.{Automaton}
 use Rattle.marked_automaton.proofs.Listed.{some_same}
 use Rattle.marked_automaton.proofs.Passing.{left_true, right_true}
-use Rattle.automaton_reading.specs.Reading.{Asked, Reach, Row, asked_same, byte_read, edges, next_sets, once, reach_with, row_edges, row_same, rows_asked, set_of, ways_taken}
+use Rattle.automaton_reading.specs.Reading.{Question, Reach, LookUp, question_same, byte_read, edges, next_sets, once, reach_with, look_up_edges, look_up_same, look_ups_asked, set_of, ways_taken}
 use Rattle.automaton_reading.proofs.Matching.{has_once, match_sum, once_distinct}
-use Rattle.automaton_reading.proofs.MeasureLaws.{bytes_itself, row_itself, same_ask, same_bytes, same_row}
+use Rattle.automaton_reading.proofs.MeasureLaws.{bytes_itself, look_up_itself, same_ask, same_bytes, same_look_up}
 use Rattle.set_table.specs.Tabled.{Asking, Tabled, asked_edges, asked_first, asking, asking_same, once_asked, reached, set_at, was_asked, weight, with_set, with_sets}
 use Rattle.segment_filter.specs.Next.{IsNext, IsTarget}
 use Rattle.segment_filter.specs.Sets.{TakesNone}
@@ -24,8 +24,8 @@ use Rattle.segment_filter.proofs.SetLaws.{edge_is, grows_asked}
 
 same_asking : (r s : Asking) → asking_same r s ≡ true → r ≡ s
 same_asking r s e =
-    let sets = eqb-true r.set s.set (left_true (nat_eq r.set s.set) (asked_same r.ask s.ask) e) in
-    let asks = same_ask r.ask s.ask (right_true (nat_eq r.set s.set) (asked_same r.ask s.ask) e) in
+    let sets = eqb-true r.set s.set (left_true (nat_eq r.set s.set) (question_same r.ask s.ask) e) in
+    let asks = same_ask r.ask s.ask (right_true (nat_eq r.set s.set) (question_same r.ask s.ask) e) in
     λ i. record { set = sets i; ask = asks i }
 
 any_has : (rs : List Asking) (r : Asking) → list_any (asking_same r) rs ≡ true → Has rs r
@@ -68,39 +68,39 @@ module _ (t new : Tabled) (r : Asking) (is : new ≡ once_asked t r) where
 
 -- ---- where no set is reached, nothing is asked
 
-no_sets : (A : Automaton) (asks : List Asked) (s : List ℕ) → Has (sets_asked A [] asks) s → ⊥
+no_sets : (A : Automaton) (asks : List Question) (s : List ℕ) → Has (sets_asked A [] asks) s → ⊥
 no_sets A [] s h = h
 no_sets A (a ∷ later) s h = no_sets A later s h
 
-no_rows : (A : Automaton) (asks : List Asked) (row : Row) → Has (rows_asked A [] asks) row → ⊥
-no_rows A [] row h = h
-no_rows A (a ∷ later) row h = no_rows A later row h
+no_look_ups : (A : Automaton) (asks : List Question) (look_up : LookUp) → Has (look_ups_asked A [] asks) look_up → ⊥
+no_look_ups A [] look_up h = h
+no_look_ups A (a ∷ later) look_up h = no_look_ups A later look_up h
 
 -- ---- what a reading asks for
 
 -- what was asked, by the set itself
-abbrev pub row_at : Tabled → Asking → Row
-row_at t x = record { set = set_at t.sets x.set; ask = x.ask }
+abbrev pub look_up_at : Tabled → Asking → LookUp
+look_up_at t x = record { set = set_at t.sets x.set; ask = x.ask }
 
--- the row was asked of the table
-abbrev pub HasRow : Tabled → Row → Type 0
-HasRow t row = (x : Asking) × Has t.asked x × (row_at t x ≡ row)
+-- the look-up was asked of the table
+abbrev pub HasLookUp : Tabled → LookUp → Type 0
+HasLookUp t look_up = (x : Asking) × Has t.asked x × (look_up_at t x ≡ look_up)
 
 -- what a reading asks for is there, or is asked for later, from this set on, which is reached after k bytes
 pub record IsHolding (A : Automaton) (d : List ℕ) (t : Tabled) (k : ℕ) (set : List ℕ) : Type 0 where
   pub sets : (s : List ℕ) → Has (sets_read A d) s → Has t.sets s ⊎ Has (sets_asked A (set ∷ []) (map byte_read (drop k d))) s
-  pub rows : (row : Row) → Has (bytes_read A d) row → HasRow t row ⊎ Has (rows_asked A (set ∷ []) (map byte_read (drop k d))) row
+  pub look_ups : (look_up : LookUp) → Has (bytes_read A d) look_up → HasLookUp t look_up ⊎ Has (look_ups_asked A (set ∷ []) (map byte_read (drop k d))) look_up
 
 -- what a reading asks for is there
 pub record HoldsAll (A : Automaton) (d : List ℕ) (t : Tabled) : Type 0 where
   pub sets : (s : List ℕ) → Has (sets_read A d) s → Has t.sets s
-  pub rows : (row : Row) → Has (bytes_read A d) row → HasRow t row
+  pub look_ups : (look_up : LookUp) → Has (bytes_read A d) look_up → HasLookUp t look_up
 
 module _ (A : Automaton) (d : List ℕ) where
   pub holding_starts : (t : Tabled) (set : List ℕ) → set ≡ set_of A.starts → IsHolding A d t 0 set
   holding_starts t set e = record {
     sets = λ s h. inr (subst (λ (x : List ℕ). Has (sets_asked A (x ∷ []) (map byte_read d)) s) (sym e) h);
-    rows = λ row h. inr (subst (λ (x : List ℕ). Has (rows_asked A (x ∷ []) (map byte_read d)) row) (sym e) h);
+    look_ups = λ look_up h. inr (subst (λ (x : List ℕ). Has (look_ups_asked A (x ∷ []) (map byte_read d)) look_up) (sym e) h);
   }
 
   -- all bytes were read
@@ -108,14 +108,14 @@ module _ (A : Automaton) (d : List ℕ) where
   holding_all t k j h below end = record {
     sets = λ s m. elim (h.sets s m) as (λ _. Has t.sets s) [
       | inl there ↦ there
-      | inr later ↦ elim (subst (λ (asks : List Asked). Has (sets_asked A (set_at t.sets j ∷ []) asks) s) none later) as (λ _. Has t.sets s) [
+      | inr later ↦ elim (subst (λ (asks : List Question). Has (sets_asked A (set_at t.sets j ∷ []) asks) s) none later) as (λ _. Has t.sets s) [
         | inl e ↦ subst (Has t.sets) e (Has-get_or t.sets j [] below)
         | inr n ↦ absurd n
       ]
     ];
-    rows = λ row m. elim (h.rows row m) as (λ _. HasRow t row) [
+    look_ups = λ look_up m. elim (h.look_ups look_up m) as (λ _. HasLookUp t look_up) [
       | inl there ↦ there
-      | inr later ↦ absurd (subst (λ (asks : List Asked). Has (rows_asked A (set_at t.sets j ∷ []) asks) row) none later)
+      | inr later ↦ absurd (subst (λ (asks : List Question). Has (look_ups_asked A (set_at t.sets j ∷ []) asks) look_up) none later)
     ];
   }
     where
@@ -137,8 +137,8 @@ module _ (A : Automaton) (d : List ℕ) where
     abbrev next : List (List ℕ)
     next = next_sets A (here ∷ []) (byte_read b)
 
-    abbrev row_here : Row
-    row_here = record { set = here; ask = byte_read b }
+    abbrev look_up_here : LookUp
+    look_up_here = record { set = here; ask = byte_read b }
 
     same_set : (i : ℕ) → i < length t.sets → set_at new.sets i ≡ set_at t.sets i
     same_set i l = (grows_asked new t (asking j (byte_read b)) is).sets.1 i l
@@ -146,18 +146,18 @@ module _ (A : Automaton) (d : List ℕ) where
     there : Has new.sets here
     there = sets_stay t new (asking j (byte_read b)) is here (Has-get_or t.sets j [] below)
 
-    row_there : HasRow new row_here
-    row_there = (
+    look_up_there : HasLookUp new look_up_here
+    look_up_there = (
       asking j (byte_read b),
       asked_here t new (asking j (byte_read b)) is,
-      ap (λ (s : List ℕ). let q : Row = record { set = s; ask = byte_read b } in q) (same_set j below),
+      ap (λ (s : List ℕ). let q : LookUp = record { set = s; ask = byte_read b } in q) (same_set j below),
     )
 
-    row_stays : (row : Row) → HasRow t row → HasRow new row
-    row_stays row (x, asked, e) = (
+    look_up_stays : (look_up : LookUp) → HasLookUp t look_up → HasLookUp new look_up
+    look_up_stays look_up (x, asked, e) = (
       x,
       asked_stay t new (asking j (byte_read b)) is x asked,
-      ap (λ (s : List ℕ). let q : Row = record { set = s; ask = x.ask } in q) (same_set x.set (belows x asked)) ∙ e,
+      ap (λ (s : List ℕ). let q : LookUp = record { set = s; ask = x.ask } in q) (same_set x.set (belows x asked)) ∙ e,
     )
 
     asks_here : map byte_read (drop k d) ≡ byte_read b ∷ map byte_read (drop (suc k) d)
@@ -169,7 +169,7 @@ module _ (A : Automaton) (d : List ℕ) where
     sets_then s m = elim (h.sets s m) as (λ _. Has new.sets s ⊎ Has (sets_asked A next (map byte_read (drop (suc k) d))) s) [
       | inl old ↦ inl (sets_stay t new (asking j (byte_read b)) is s old)
       | inr later ↦ elim (
-          Has-append_cases (here ∷ []) (sets_asked A next (map byte_read (drop (suc k) d))) s (subst (λ (asks : List Asked). Has (sets_asked A (here ∷ []) asks) s) asks_here later)
+          Has-append_cases (here ∷ []) (sets_asked A next (map byte_read (drop (suc k) d))) s (subst (λ (asks : List Question). Has (sets_asked A (here ∷ []) asks) s) asks_here later)
           ) as (λ _. Has new.sets s ⊎ Has (sets_asked A next (map byte_read (drop (suc k) d))) s) [
             | inl one ↦ elim one as (λ _. Has new.sets s ⊎ Has (sets_asked A next (map byte_read (drop (suc k) d))) s) [
               | inl e ↦ inl (subst (Has new.sets) e there)
@@ -179,14 +179,14 @@ module _ (A : Automaton) (d : List ℕ) where
           ]
     ]
 
-    pub rows_then : (row : Row) → Has (bytes_read A d) row → HasRow new row ⊎ Has (rows_asked A next (map byte_read (drop (suc k) d))) row
-    rows_then row m = elim (h.rows row m) as (λ _. HasRow new row ⊎ Has (rows_asked A next (map byte_read (drop (suc k) d))) row) [
-      | inl old ↦ inl (row_stays row old)
+    pub look_ups_then : (look_up : LookUp) → Has (bytes_read A d) look_up → HasLookUp new look_up ⊎ Has (look_ups_asked A next (map byte_read (drop (suc k) d))) look_up
+    look_ups_then look_up m = elim (h.look_ups look_up m) as (λ _. HasLookUp new look_up ⊎ Has (look_ups_asked A next (map byte_read (drop (suc k) d))) look_up) [
+      | inl old ↦ inl (look_up_stays look_up old)
       | inr later ↦ elim (
-          Has-append_cases (row_here ∷ []) (rows_asked A next (map byte_read (drop (suc k) d))) row (subst (λ (asks : List Asked). Has (rows_asked A (here ∷ []) asks) row) asks_here later)
-          ) as (λ _. HasRow new row ⊎ Has (rows_asked A next (map byte_read (drop (suc k) d))) row) [
-            | inl one ↦ elim one as (λ _. HasRow new row ⊎ Has (rows_asked A next (map byte_read (drop (suc k) d))) row) [
-              | inl e ↦ inl (subst (HasRow new) e row_there)
+          Has-append_cases (look_up_here ∷ []) (look_ups_asked A next (map byte_read (drop (suc k) d))) look_up (subst (λ (asks : List Question). Has (look_ups_asked A (here ∷ []) asks) look_up) asks_here later)
+          ) as (λ _. HasLookUp new look_up ⊎ Has (look_ups_asked A next (map byte_read (drop (suc k) d))) look_up) [
+            | inl one ↦ elim one as (λ _. HasLookUp new look_up ⊎ Has (look_ups_asked A next (map byte_read (drop (suc k) d))) look_up) [
+              | inl e ↦ inl (subst (HasLookUp new) e look_up_there)
               | inr n ↦ absurd n
             ]
             | inr more ↦ inr more
@@ -224,7 +224,7 @@ module _ (A : Automaton) (d : List ℕ) where
       holding_next n e =
           subst (λ i. IsHolding A d new i (set_at new.sets n)) one (record {
             sets = λ s m. subst (λ (ss : List (List ℕ)). Has new.sets s ⊎ Has (sets_asked A ss (map byte_read (drop (suc k) d))) s) (next_some n e) (sets_then s m);
-            rows = λ row m. subst (λ (ss : List (List ℕ)). HasRow new row ⊎ Has (rows_asked A ss (map byte_read (drop (suc k) d))) row) (next_some n e) (rows_then row m);
+            look_ups = λ look_up m. subst (λ (ss : List (List ℕ)). HasLookUp new look_up ⊎ Has (look_ups_asked A ss (map byte_read (drop (suc k) d))) look_up) (next_some n e) (look_ups_then look_up m);
           })
         where
           one : suc k ≡ k + 1
@@ -237,16 +237,16 @@ module _ (A : Automaton) (d : List ℕ) where
           | inl held ↦ held
           | inr more ↦ absurd (no_sets A (map byte_read (drop (suc k) d)) s more)
         ];
-        rows = λ row m. elim (subst (λ (ss : List (List ℕ)). HasRow new row ⊎ Has (rows_asked A ss (map byte_read (drop (suc k) d))) row) (next_none e) (rows_then row m)) as (λ _. HasRow new row) [
+        look_ups = λ look_up m. elim (subst (λ (ss : List (List ℕ)). HasLookUp new look_up ⊎ Has (look_ups_asked A ss (map byte_read (drop (suc k) d))) look_up) (next_none e) (look_ups_then look_up m)) as (λ _. HasLookUp new look_up) [
           | inl held ↦ held
-          | inr more ↦ absurd (no_rows A (map byte_read (drop (suc k) d)) row more)
+          | inr more ↦ absurd (no_look_ups A (map byte_read (drop (suc k) d)) look_up more)
         ];
       }
 
   -- ---- what it weighs
 
   pub weight_no_less : (t : Tabled) → t.graph ≡ A → HoldsAll A d t → reading_weight A d ≤ weight t
-  weight_no_less t graph h = omega (arith, sets_less, rows_less)
+  weight_no_less t graph h = omega (arith, sets_less, look_ups_less)
     where
       sets_less : sum_by (λ set. 1 + length set) (once bytes_eq (sets_read A d)) ≤ sum_by (λ set. 1 + length set) t.sets
       sets_less =
@@ -254,15 +254,15 @@ module _ (A : Automaton) (d : List ℕ) where
           (once_distinct bytes_eq same_bytes bytes_itself (sets_read A d))
           (λ x m. (x, h.sets x (has_once bytes_eq same_bytes bytes_itself (sets_read A d) x m), refl, omega arith)) (λ x z y a b. a ∙ sym b)
 
-      edges_of : (x : Asking) (row : Row) → row_at t x ≡ row → 1 + row_edges A row ≤ 1 + length (asked_edges t.graph t.sets x)
-      edges_of x row e =
-          let one = ap (row_edges A) e in
+      edges_of : (x : Asking) (look_up : LookUp) → look_up_at t x ≡ look_up → 1 + look_up_edges A look_up ≤ 1 + length (asked_edges t.graph t.sets x)
+      edges_of x look_up e =
+          let one = ap (look_up_edges A) e in
           let same = ap (λ (g : Automaton). length (edges g (set_at t.sets x.set) x.ask)) graph in
           omega (arith, one, same)
 
-      rows_less : sum_by (λ r. 1 + row_edges A r) (once row_same (bytes_read A d)) ≤ sum_by (λ r. 1 + length (asked_edges t.graph t.sets r)) t.asked
-      rows_less =
-          match_sum (λ (r : Row) (x : Asking). row_at t x ≡ r) (λ r. 1 + row_edges A r) (λ r. 1 + length (asked_edges t.graph t.sets r)) (once row_same (bytes_read A d)) t.asked
-          (once_distinct row_same same_row row_itself (bytes_read A d))
-          (λ row m. let r = h.rows row (has_once row_same same_row row_itself (bytes_read A d) row m) in (r.0, r.1, r.2, edges_of r.0 row r.2))
+      look_ups_less : sum_by (λ r. 1 + look_up_edges A r) (once look_up_same (bytes_read A d)) ≤ sum_by (λ r. 1 + length (asked_edges t.graph t.sets r)) t.asked
+      look_ups_less =
+          match_sum (λ (r : LookUp) (x : Asking). look_up_at t x ≡ r) (λ r. 1 + look_up_edges A r) (λ r. 1 + length (asked_edges t.graph t.sets r)) (once look_up_same (bytes_read A d)) t.asked
+          (once_distinct look_up_same same_look_up look_up_itself (bytes_read A d))
+          (λ look_up m. let r = h.look_ups look_up (has_once look_up_same same_look_up look_up_itself (bytes_read A d) look_up m) in (r.0, r.1, r.2, edges_of r.0 look_up r.2))
           (λ r s x a b. sym a ∙ b)

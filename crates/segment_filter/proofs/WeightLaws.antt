@@ -11,22 +11,22 @@ use Rattle.span_core.proofs.HasLaws.{Has-append_cases, Has-append_left, Has-appe
 use Rattle.marked_automaton.specs.Automaton.{Automaton, size}
 use Rattle.marked_automaton.proofs.Listed.{some_same}
 use Rattle.marked_automaton.proofs.Passing.{both_true, has_flat_map}
-use Rattle.automaton_reading.specs.Reading.{Asked, Reach, Row, asked_same, byte_read, edges, next_sets, once, row_edges, row_same, rows_asked, set_of}
+use Rattle.automaton_reading.specs.Reading.{Question, Reach, LookUp, question_same, byte_read, edges, next_sets, once, look_up_edges, look_up_same, look_ups_asked, set_of}
 use Rattle.automaton_reading.proofs.Matching.{length_sum, match_sum, once_has}
-use Rattle.automaton_reading.proofs.MeasureLaws.{ask_itself, bytes_itself, row_itself, same_bytes, same_row}
+use Rattle.automaton_reading.proofs.MeasureLaws.{ask_itself, bytes_itself, look_up_itself, same_bytes, same_look_up}
 use Rattle.segment_filter.specs.declared.fault.FilterFault.{FilterFault}
 use Rattle.segment_filter.specs.declared.fault.FilterFault.TheVariants.{Full, OutOfMemory}
 use Rattle.segment_filter.specs.Sets.{Extends, IsFullBy, TakesNone}
 use Rattle.segment_filter.specs.Next.{IsNext, IsTarget}
 use Rattle.set_table.specs.Tabled.{Asking, IsTabled, Tabled, fresh, once_asked, asked_edges, asked_first, asking, asking_same, reached, set_at, sets_weight, was_asked, weight, with_set, with_sets}
-use Rattle.segment_filter.specs.Weights.{IsFullWithin, bytes_read, reading_rows, reading_weight, sets_asked, sets_read}
+use Rattle.segment_filter.specs.Weights.{IsFullWithin, bytes_read, reading_look_ups, reading_weight, sets_asked, sets_read}
 use Rattle.segment_filter.proofs.Holding.{HoldsAll, IsHolding, holding_all, holding_ends, holding_next, holding_starts, weight_no_less}
 use Rattle.segment_filter.proofs.SetLaws.{extends_all}
 
 -- ---- tests for equality
 
 asking_itself : (r : Asking) → asking_same r r ≡ true
-asking_itself r = both_true (nat_eq r.set r.set) (asked_same r.ask r.ask) (eq-eqb r.set r.set refl) (ask_itself r.ask)
+asking_itself r = both_true (nat_eq r.set r.set) (question_same r.ask r.ask) (eq-eqb r.set r.set refl) (ask_itself r.ask)
 
 has_any : {X : Type 0} (same : X → X → Bool) (itself : (x : X) → same x x ≡ true) (xs : List X) (x : X) → Has xs x → list_any (same x) xs ≡ true
 has_any same itself [] x h = absurd h
@@ -45,31 +45,31 @@ has_any same itself (y ∷ xs) x (inr h) = go (same x y) (list_any (same x) xs) 
 
 module _ (A : Automaton) where
   -- the set is reached after so many places
-  abbrev pub IsMet : List (List ℕ) → List Asked → ℕ → List ℕ → Type 0
+  abbrev pub IsMet : List (List ℕ) → List Question → ℕ → List ℕ → Type 0
   IsMet sets asks zero set = Has sets set
   IsMet sets [] (suc k) set = ⊥
   IsMet sets (a ∷ later) (suc k) set = IsMet (next_sets A sets a) later k set
 
-  met_set : (sets : List (List ℕ)) (asks : List Asked) (k : ℕ) (set : List ℕ) → IsMet sets asks k set → Has (sets_asked A sets asks) set
+  met_set : (sets : List (List ℕ)) (asks : List Question) (k : ℕ) (set : List ℕ) → IsMet sets asks k set → Has (sets_asked A sets asks) set
   met_set sets [] zero set h = h
   met_set sets (a ∷ later) zero set h = Has-append_left sets (sets_asked A (next_sets A sets a) later) set h
   met_set sets [] (suc k) set h = absurd h
   met_set sets (a ∷ later) (suc k) set h = Has-append_right sets (sets_asked A (next_sets A sets a) later) set (met_set (next_sets A sets a) later k set h)
 
-  abbrev row_of : Asked → List ℕ → Row
-  row_of a set = record { set = set; ask = a }
+  abbrev look_up_of : Question → List ℕ → LookUp
+  look_up_of a set = record { set = set; ask = a }
 
-  met_row : (sets : List (List ℕ)) (asks : List Asked) (k : ℕ) (set : List ℕ) (a : Asked) → IsMet sets asks k set → slice_get asks k ≡ Some a →
-      Has (rows_asked A sets asks) (row_of a set)
-  met_row sets [] k set a h e = absurd (cc)
-  met_row sets (b ∷ later) zero set a h e =
+  met_look_up : (sets : List (List ℕ)) (asks : List Question) (k : ℕ) (set : List ℕ) (a : Question) → IsMet sets asks k set → slice_get asks k ≡ Some a →
+      Has (look_ups_asked A sets asks) (look_up_of a set)
+  met_look_up sets [] k set a h e = absurd (cc)
+  met_look_up sets (b ∷ later) zero set a h e =
       let same : b ≡ a = ap (λ o. unwrap_or o b) e in
-      subst (λ x. Has (rows_asked A sets (b ∷ later)) (row_of x set)) same
-      (Has-append_left (map (row_of b) sets) (rows_asked A (next_sets A sets b) later) (row_of b set) (Has-map (row_of b) sets set h))
-  met_row sets (b ∷ later) (suc k) set a h e =
-      Has-append_right (map (row_of b) sets) (rows_asked A (next_sets A sets b) later) (row_of a set) (met_row (next_sets A sets b) later k set a h e)
+      subst (λ x. Has (look_ups_asked A sets (b ∷ later)) (look_up_of x set)) same
+      (Has-append_left (map (look_up_of b) sets) (look_ups_asked A (next_sets A sets b) later) (look_up_of b set) (Has-map (look_up_of b) sets set h))
+  met_look_up sets (b ∷ later) (suc k) set a h e =
+      Has-append_right (map (look_up_of b) sets) (look_ups_asked A (next_sets A sets b) later) (look_up_of a set) (met_look_up (next_sets A sets b) later k set a h e)
 
-  met_next : (sets : List (List ℕ)) (asks : List Asked) (k : ℕ) (set : List ℕ) (a : Asked) (e : Reach) → IsMet sets asks k set → slice_get asks k ≡ Some a →
+  met_next : (sets : List (List ℕ)) (asks : List Question) (k : ℕ) (set : List ℕ) (a : Question) (e : Reach) → IsMet sets asks k set → slice_get asks k ≡ Some a →
       Has (edges A set a) e → IsMet sets asks (suc k) e.to
   met_next sets [] k set a e h at m = absurd (cc)
   met_next sets (b ∷ later) zero set a e h at m =
@@ -83,11 +83,11 @@ module _ (A : Automaton) where
 abbrev pub starting : Automaton → List (List ℕ)
 starting A = set_of A.starts ∷ []
 
--- the sets and rows of a table are those of a reading
+-- the sets and look-ups of a table are those of a reading
 pub record IsWithin (A : Automaton) (d : List ℕ) (t : Tabled) : Type 0 where
   pub graph : t.graph ≡ A
   pub sets : (set : List ℕ) → Has t.sets set → Has (sets_read A d) set
-  pub rows : (r : Asking) → Has t.asked r → Has (bytes_read A d) (row_of A r.ask (set_at t.sets r.set))
+  pub look_ups : (r : Asking) → Has t.asked r → Has (bytes_read A d) (look_up_of A r.ask (set_at t.sets r.set))
   pub below : (r : Asking) → Has t.asked r → r.set < length t.sets
   pub sets_apart : AreDistinct t.sets
   pub asked_apart : AreDistinct t.asked
@@ -100,43 +100,43 @@ place_one (x ∷ xs) (suc i) zero d l m e = absurd (d.0 (subst (Has xs) e (Has-g
 place_one (x ∷ xs) (suc i) (suc j) d l m e = let r = place_one xs i j d.1 (omega (arith, l)) (omega (arith, m)) e in ap suc r
 
 module _ (A : Automaton) (d : List ℕ) (t : Tabled) (h : IsWithin A d t) where
-  -- a row that was asked for, and the row that it is
-  IsRowOf : Asking → Row → Type 0
-  IsRowOf x y = Has t.asked x × (row_of A x.ask (set_at t.sets x.set) ≡ y)
+  -- a look-up that was asked for, and the look-up that it is
+  IsLookUpOf : Asking → LookUp → Type 0
+  IsLookUpOf x y = Has t.asked x × (look_up_of A x.ask (set_at t.sets x.set) ≡ y)
 
   sets_no_more : sets_weight t.sets ≤ sum_by (λ set. 1 + length set) (once bytes_eq (sets_read A d))
   sets_no_more =
       match_sum (λ (x y : List ℕ). x ≡ y) (λ set. 1 + length set) (λ set. 1 + length set) t.sets (once bytes_eq (sets_read A d)) h.sets_apart
       (λ x m. (x, once_has bytes_eq same_bytes bytes_itself (sets_read A d) x (h.sets x m), refl, omega arith)) (λ x z y a b. a ∙ sym b)
 
-  one_asking : (x z : Asking) (y : Row) → IsRowOf x y → IsRowOf z y → x ≡ z
-  unfolding IsRowOf
+  one_asking : (x z : Asking) (y : LookUp) → IsLookUpOf x y → IsLookUpOf z y → x ≡ z
+  unfolding IsLookUpOf
   one_asking x z y a b =
       let same = a.1 ∙ sym b.1 in
-      let sets = place_one t.sets x.set z.set h.sets_apart (h.below x a.0) (h.below z b.0) (ap (λ (r : Row). r.set) same) in
-      let asks : x.ask ≡ z.ask = ap (λ (r : Row). r.ask) same in
+      let sets = place_one t.sets x.set z.set h.sets_apart (h.below x a.0) (h.below z b.0) (ap (λ (r : LookUp). r.set) same) in
+      let asks : x.ask ≡ z.ask = ap (λ (r : LookUp). r.ask) same in
       λ i. record { set = sets i; ask = asks i }
 
-  rows_sum : (v : Asking → ℕ) (w : Row → ℕ) → ((x : Asking) → v x ≡ w (row_of A x.ask (set_at t.sets x.set))) → sum_by v t.asked ≤ sum_by w (once row_same (bytes_read A d))
-  unfolding IsRowOf
-  rows_sum v w same =
-      match_sum IsRowOf v w t.asked (once row_same (bytes_read A d)) h.asked_apart
+  look_ups_sum : (v : Asking → ℕ) (w : LookUp → ℕ) → ((x : Asking) → v x ≡ w (look_up_of A x.ask (set_at t.sets x.set))) → sum_by v t.asked ≤ sum_by w (once look_up_same (bytes_read A d))
+  unfolding IsLookUpOf
+  look_ups_sum v w same =
+      match_sum IsLookUpOf v w t.asked (once look_up_same (bytes_read A d)) h.asked_apart
       (λ x m. (
-        row_of A x.ask (set_at t.sets x.set),
-        once_has row_same same_row row_itself (bytes_read A d) (row_of A x.ask (set_at t.sets x.set)) (h.rows x m),
+        look_up_of A x.ask (set_at t.sets x.set),
+        once_has look_up_same same_look_up look_up_itself (bytes_read A d) (look_up_of A x.ask (set_at t.sets x.set)) (h.look_ups x m),
         (m, refl),
         let e = same x in omega (arith, e),
       )) one_asking
 
   pub weight_no_more : weight t ≤ reading_weight A d
   weight_no_more =
-      let rows = rows_sum (λ r. 1 + length (asked_edges t.graph t.sets r)) (λ r. 1 + row_edges A r) (λ x. ap (λ (g : Automaton). 1 + length (edges g (set_at t.sets x.set) x.ask)) h.graph) in
-      omega (arith, sets_no_more, rows)
+      let look_ups = look_ups_sum (λ r. 1 + length (asked_edges t.graph t.sets r)) (λ r. 1 + look_up_edges A r) (λ x. ap (λ (g : Automaton). 1 + length (edges g (set_at t.sets x.set) x.ask)) h.graph) in
+      omega (arith, sets_no_more, look_ups)
 
-  pub rows_no_more : length t.asked ≤ reading_rows A d
-  rows_no_more = let rows = rows_sum (λ r. 1) (λ r. 1) (λ x. refl) in omega (arith, rows, length_sum t.asked, length_sum (once row_same (bytes_read A d)))
+  pub look_ups_no_more : length t.asked ≤ reading_look_ups A d
+  look_ups_no_more = let look_ups = look_ups_sum (λ r. 1) (λ r. 1) (λ x. refl) in omega (arith, look_ups, length_sum t.asked, length_sum (once look_up_same (bytes_read A d)))
 
--- ---- one row more
+-- ---- one look-up more
 
 not_any : (same : List ℕ → List ℕ → Bool) (itself : (x : List ℕ) → same x x ≡ true) (xs : List (List ℕ)) (x : List ℕ) → list_any (same x) xs ≡ false → Has xs x → ⊥
 not_any same itself xs x e h = let f = has_any same itself xs x h in absurd (cc)
@@ -183,7 +183,7 @@ pub within_fresh : (t : Tabled) (d : List ℕ) → t ≡ fresh t.graph t.limit �
 within_fresh t d is = subst (λ (x : Tabled). IsWithin t.graph d x) (sym is) (record {
   graph = refl;
   sets = λ set h. met_set t.graph (starting t.graph) (map byte_read d) 0 set h;
-  rows = λ r h. absurd h;
+  look_ups = λ r h. absurd h;
   below = λ r h. absurd h;
   sets_apart = (λ h. h, tt);
   asked_apart = tt;
@@ -218,16 +218,16 @@ module _ (A : Automaton) (d : List ℕ) (t : Tabled) (k j b : ℕ) (h : IsWithin
             (subst (λ (g : Automaton). Has (edges g (set_at t.sets j) (byte_read b)) e.0) h.graph e.1)))
       ]
 
-  new_rows : (x : Asking) → Has first.asked x → Has (bytes_read A d) (row_of A x.ask (set_at first.sets x.set)) × (x.set < length first.sets)
-  new_rows x m =
-      elim (Has-append_cases t.asked (r ∷ []) x m) as (λ _. Has (bytes_read A d) (row_of A x.ask (set_at first.sets x.set)) × (x.set < length first.sets)) [
+  new_look_ups : (x : Asking) → Has first.asked x → Has (bytes_read A d) (look_up_of A x.ask (set_at first.sets x.set)) × (x.set < length first.sets)
+  new_look_ups x m =
+      elim (Has-append_cases t.asked (r ∷ []) x m) as (λ _. Has (bytes_read A d) (look_up_of A x.ask (set_at first.sets x.set)) × (x.set < length first.sets)) [
         | inl o ↦
             let l = h.below x o in
-            (subst (λ s. Has (bytes_read A d) (row_of A x.ask s)) (sym (grown.1 x.set l)) (h.rows x o), omega (arith, l, grown.0))
-        | inr n ↦ elim n as (λ _. Has (bytes_read A d) (row_of A x.ask (set_at first.sets x.set)) × (x.set < length first.sets)) [
-          | inl e ↦ subst (λ (y : Asking). Has (bytes_read A d) (row_of A y.ask (set_at first.sets y.set)) × (y.set < length first.sets)) e (
-            subst (λ s. Has (bytes_read A d) (row_of A (byte_read b) s)) (sym (grown.1 j below))
-                (met_row A (starting A) (map byte_read d) k (set_at t.sets j) (byte_read b) met (asks_at d k b at)),
+            (subst (λ s. Has (bytes_read A d) (look_up_of A x.ask s)) (sym (grown.1 x.set l)) (h.look_ups x o), omega (arith, l, grown.0))
+        | inr n ↦ elim n as (λ _. Has (bytes_read A d) (look_up_of A x.ask (set_at first.sets x.set)) × (x.set < length first.sets)) [
+          | inl e ↦ subst (λ (y : Asking). Has (bytes_read A d) (look_up_of A y.ask (set_at first.sets y.set)) × (y.set < length first.sets)) e (
+            subst (λ s. Has (bytes_read A d) (look_up_of A (byte_read b) s)) (sym (grown.1 j below))
+                (met_look_up A (starting A) (map byte_read d) k (set_at t.sets j) (byte_read b) met (asks_at d k b at)),
             omega (arith, below, grown.0),
           )
           | inr z ↦ absurd z
@@ -238,8 +238,8 @@ module _ (A : Automaton) (d : List ℕ) (t : Tabled) (k j b : ℕ) (h : IsWithin
   within_first none = record {
     graph = h.graph;
     sets = new_sets;
-    rows = λ x m. (new_rows x m).0;
-    below = λ x m. (new_rows x m).1;
+    look_ups = λ x m. (new_look_ups x m).0;
+    below = λ x m. (new_look_ups x m).1;
     sets_apart = all_distinct t.sets (reached t.graph (set_at t.sets j) (byte_read b)) h.sets_apart;
     asked_apart = distinct_more t.asked r h.asked_apart (λ m. let e = has_any asking_same asking_itself t.asked r m in absurd (cc));
   }
@@ -271,7 +271,7 @@ module _ (A : Automaton) (d : List ℕ) (t : Tabled) (k j b : ℕ) (h : IsWithin
   full_within (Full w) f = (f.1, let m = weight_no_more A d first (within_first f.0) in omega (arith, f.2, m))
   full_within OutOfMemory f = tt
 
-  -- the steps of one asking, with as many times the size as rows are there
+  -- the steps of one asking, with as many times the size as look-ups are there
   module _ (s0 s1 : ℕ) (again : was_asked t r ≡ true → s1 ≡ s0 + 1) (most : s1 ≤ s0 + 1 + size t.graph) where
     abbrev Z : ℕ
     Z = size A
@@ -288,14 +288,14 @@ module _ (A : Automaton) (d : List ℕ) (t : Tabled) (k j b : ℕ) (h : IsWithin
             let one : Z * length first.asked ≡ Z * (length t.asked + 1) = ap (λ n. Z * n) (length-append t.asked (r ∷ [])) in
             omega (arith, most, size_same, one)
 
-    pub steps_refused : s1 + Z * length t.asked ≤ s0 + 1 + Z * reading_rows A d
+    pub steps_refused : s1 + Z * length t.asked ≤ s0 + 1 + Z * reading_look_ups A d
     steps_refused = go (was_asked t r) refl
       where
-        go : (w : Bool) → was_asked t r ≡ w → s1 + Z * length t.asked ≤ s0 + 1 + Z * reading_rows A d
-        go true e = let m = mul-le-mul_left Z (rows_no_more A d t h) in omega (arith, again e, m)
+        go : (w : Bool) → was_asked t r ≡ w → s1 + Z * length t.asked ≤ s0 + 1 + Z * reading_look_ups A d
+        go true e = let m = mul-le-mul_left Z (look_ups_no_more A d t h) in omega (arith, again e, m)
         go false e =
             let one : Z * length first.asked ≡ Z * (length t.asked + 1) = ap (λ n. Z * n) (length-append t.asked (r ∷ [])) in
-            let m = mul-le-mul_left Z (rows_no_more A d first (within_first e)) in
+            let m = mul-le-mul_left Z (look_ups_no_more A d first (within_first e)) in
             omega (arith, most, size_same, one, m)
 
 -- ---- a document that is read
@@ -336,9 +336,9 @@ module _ (first t : Tabled) (d : List ℕ) (k j s0 s : ℕ) (h : IsReading first
   pub reading_weighs : k ≡ length d → WeighsAll first d t
   reading_weighs end = weighs_all first d t h.within (holding_all first.graph d t k j h.holds h.below end) h.light
 
-  pub reading_steps : (n : ℕ) → k ≤ n → s ≤ s0 + n + size first.graph * reading_rows first.graph d
+  pub reading_steps : (n : ℕ) → k ≤ n → s ≤ s0 + n + size first.graph * reading_look_ups first.graph d
   reading_steps n l =
-      let m = mul-le-mul_left (size first.graph) (rows_no_more first.graph d t h.within) in
+      let m = mul-le-mul_left (size first.graph) (look_ups_no_more first.graph d t h.within) in
       omega (arith, h.steps, m, l)
 
   -- one byte more
@@ -377,15 +377,15 @@ module _ (first t : Tabled) (d : List ℕ) (k j s0 s : ℕ) (h : IsReading first
       reading_stops next go e none tabled =
           weighs_all first d new within_new (holding_ends first.graph d t new k j b h.holds h.within.graph none h.below h.within.below at is next go e) (light_new tabled)
 
-      pub reading_ends : (n : ℕ) → k < n → (weight new ≤ reading_weight first.graph d) × (s1 ≤ s0 + n + size first.graph * reading_rows first.graph d)
+      pub reading_ends : (n : ℕ) → k < n → (weight new ≤ reading_weight first.graph d) × (s1 ≤ s0 + n + size first.graph * reading_look_ups first.graph d)
       reading_ends n l =
-          let m = mul-le-mul_left (size first.graph) (rows_no_more first.graph d new within_new) in
+          let m = mul-le-mul_left (size first.graph) (look_ups_no_more first.graph d new within_new) in
           (weight_no_more first.graph d new within_new, omega (arith, steps_new, m, l))
 
     pub reading_refused : (e : FilterFault) → IsFullBy t (asking j (byte_read b)) e → IsFullWithin first.limit (reading_weight first.graph d) e
     reading_refused e f = subst (λ n. IsFullWithin n (reading_weight first.graph d) e) h.limit (full_within first.graph d t k j b h.within h.met h.below at e f)
 
-    pub refused_steps : (n : ℕ) → k < n → s1 ≤ s0 + n + size first.graph * reading_rows first.graph d
+    pub refused_steps : (n : ℕ) → k < n → s1 ≤ s0 + n + size first.graph * reading_look_ups first.graph d
     refused_steps n l = let m = steps_refused first.graph d t k j b h.within h.met h.below at s s1 again most in omega (arith, h.steps, m, l)
 
 pub fresh_weighs : (A : Automaton) (limit : ℕ) (d : List ℕ) → weight (fresh A limit) ≤ reading_weight A d

@@ -1,4 +1,4 @@
--- What the filter of an atom comes to: the weight and the rows of its two readings.
+-- What the filter of an atom comes to: the weight and the look-ups of its two readings.
 use Rattle.std.specs.Prelude.{◌≡◌, ℕ, zero, suc, ◌+◌, ◌-◌, ◌*◌, ◌≤◌, Bool, true, List, [], ◌∷◌, ◌++◌, length, map, reverse, ◌&&◌}
 use Rattle.std.specs.List.{flat_map}
 use Rattle.std.specs.Str.{bytes_eq}
@@ -6,10 +6,10 @@ use Rattle.spanner_model.specs.Captures.{VarName}
 use Rattle.spanner_model.specs.Tree.{Tree}
 use Rattle.marked_automaton.specs.Automaton.{Automaton, reversed, size}
 use Rattle.marked_automaton.specs.Marks.{remarked}
-use Rattle.automaton_reading.specs.Reading.{Asked, byte_read, next_sets, once, set_of}
+use Rattle.automaton_reading.specs.Reading.{Question, byte_read, next_sets, once, set_of}
 use Rattle.place_automaton.specs.Words.{atom_automaton}
 use Rattle.place_automaton.specs.Variables.{with_vars}
-use Rattle.segment_filter.specs.Weights.{both_weigh, reading_rows, reading_weight}
+use Rattle.segment_filter.specs.Weights.{both_weigh, reading_look_ups, reading_weight}
 
 -- forwards: the atom's automaton without markers
 abbrev pub forward_of : List VarName → Bool → Bool → Tree → Automaton
@@ -20,7 +20,7 @@ abbrev pub backward_of : List VarName → Bool → Tree → Automaton
 backward_of names t f = reversed (remarked (λ m. 0) (atom_automaton names true t f))
 
 -- the set that is reached after so many places, if there is any
-abbrev pub sets_after : Automaton → List (List ℕ) → List Asked → ℕ → List (List ℕ)
+abbrev pub sets_after : Automaton → List (List ℕ) → List Question → ℕ → List (List ℕ)
 sets_after A sets asks zero = sets
 sets_after A sets [] (suc k) = []
 sets_after A sets (a ∷ later) (suc k) = sets_after A (next_sets A sets a) later k
@@ -47,9 +47,9 @@ abbrev pub filter_weight : List VarName → Bool → Bool → Tree → List ℕ 
 filter_weight names s t f d =
     reading_weight (forward_of names s t f) d + reading_weight (backward_of names t f) (reverse d) + pairs_met (forward_of names s t f) (backward_of names t f) d
 
-abbrev pub filter_rows : List VarName → Bool → Bool → Tree → List ℕ → ℕ
-filter_rows names s t f d =
-    reading_rows (forward_of names s t f) d + reading_rows (backward_of names t f) (reverse d) + pairs_met (forward_of names s t f) (backward_of names t f) d
+abbrev pub filter_look_ups : List VarName → Bool → Bool → Tree → List ℕ → ℕ
+filter_look_ups names s t f d =
+    reading_look_ups (forward_of names s t f) d + reading_look_ups (backward_of names t f) (reverse d) + pairs_met (forward_of names s t f) (backward_of names t f) d
 
 -- what the two readings of an atom weigh, and how many steps finding what it touches may take
 abbrev pub atom_weight : Bool → Bool → Tree → List ℕ → ℕ
@@ -60,11 +60,11 @@ abbrev pub readings_weight : Bool → Bool → Tree → List ℕ → ℕ
 readings_weight s t f d = both_weigh (forward_of (with_vars [] f) s t f) (backward_of (with_vars [] f) t f) d
 
 abbrev pub touching_steps : Bool → Bool → Tree → List ℕ → ℕ
-touching_steps s t f d = 4 * (length d + 1) + (1 + size (atom_automaton (with_vars [] f) s t f)) * filter_rows (with_vars [] f) s t f d
+touching_steps s t f d = 4 * (length d + 1) + (1 + size (atom_automaton (with_vars [] f) s t f)) * filter_look_ups (with_vars [] f) s t f d
 
 -- two automata that cost as much as these two, and are no larger than the atom's
 pub record CostAs (names : List VarName) (s t : Bool) (f : Tree) (F R : Automaton) : Type 0 where
-  pub ahead : (d : List ℕ) → (reading_weight F d ≡ reading_weight (forward_of names s t f) d) × (reading_rows F d ≡ reading_rows (forward_of names s t f) d)
-  pub behind : (d : List ℕ) → (reading_weight R d ≡ reading_weight (backward_of names t f) d) × (reading_rows R d ≡ reading_rows (backward_of names t f) d)
+  pub ahead : (d : List ℕ) → (reading_weight F d ≡ reading_weight (forward_of names s t f) d) × (reading_look_ups F d ≡ reading_look_ups (forward_of names s t f) d)
+  pub behind : (d : List ℕ) → (reading_weight R d ≡ reading_weight (backward_of names t f) d) × (reading_look_ups R d ≡ reading_look_ups (backward_of names t f) d)
   pub ahead_size : size F ≤ size (atom_automaton names s t f)
   pub behind_size : size R ≤ size (atom_automaton names s t f)

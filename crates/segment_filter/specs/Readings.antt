@@ -6,7 +6,7 @@ use Rattle.marked_automaton.specs.declared.way.Way.{Way}
 use Rattle.marked_automaton.specs.declared.way.Stop.{Stop}
 use Rattle.marked_automaton.specs.Automaton.{Automaton, HasByte, turned_way}
 use Rattle.segment_filter.specs.Sets.{TakesNone}
-use Rattle.segment_filter.specs.Weights.{reading_rows, reading_weight}
+use Rattle.segment_filter.specs.Weights.{reading_look_ups, reading_weight}
 
 -- some way leads from p to q on the byte
 abbrev pub StepsTo : Automaton → ℕ → ℕ → ℕ → Type 0
@@ -40,4 +40,4 @@ turned A = record {
 abbrev pub AlikeLaw : Type 0
 AlikeLaw =
     (A B : Automaton) → TakesNone A → TakesNone B → ((p : ℕ) → Has A.starts p ↔ Has B.starts p) → ((p b q : ℕ) → StepsTo A p b q ↔ StepsTo B p b q) →
-    (d : List ℕ) → (reading_weight A d ≡ reading_weight B d) × (reading_rows A d ≡ reading_rows B d)
+    (d : List ℕ) → (reading_weight A d ≡ reading_weight B d) × (reading_look_ups A d ≡ reading_look_ups B d)

@@ -85,7 +85,7 @@ impl<'a> DenseTable<'a> {
         self.table.members(set)
     }
 
-    /// What the sets and the rows weigh.
+    /// What the sets and the look-ups weigh.
     pub(crate) fn weight(&self) -> u64
         ensures value { result ≡ weight self.now }
         ensures within { result ≤ self.now.limit }

@@ -7,7 +7,7 @@ ghost use Rattle.span_core.specs.Intervals.{Covers};
 ghost use Rattle.span_core.specs.Lists.{IsInOrder};
 ghost use Rattle.marked_automaton.specs.Automaton.{size};
 ghost use Rattle.set_table.specs.Tabled.{fresh, set_at, weight};
-ghost use Rattle.segment_filter.specs.Weights.{IsFullWithin, reading_rows, reading_weight};
+ghost use Rattle.segment_filter.specs.Weights.{IsFullWithin, reading_look_ups, reading_weight};
 ghost use Rattle.segment_filter.specs.SetNumbers.{numbers_of};
 ghost use Rattle.segment_filter.specs.declared.comparing.TheConstants.{PLACES};
 ghost use Rattle.segment_filter.specs.Remembered.{AreRemembered};
@@ -32,15 +32,15 @@ pub(crate) fn read_back<L: Ledger>(
     requires plain { TakesNone table.old.graph }
     requires fresh { table.old ≡ fresh table.old.graph table.old.limit }
     ensures grows { Grows table.new table.old }
-    ensures ok { IfOk result (λ kept. ReadsAll table.new (reverse doc.now) (numbers_of kept)) }
+    ensures ok { IfOk result (λ numbers. ReadsAll table.new (reverse doc.now) (numbers_of numbers)) }
     ensures limit { table.new.limit ≡ table.old.limit }
     ensures weight { OnOk result (weight table.new ≡ reading_weight table.old.graph (reverse doc.now)) }
     ensures full { IfErr result (λ e. IsFullWithin table.old.limit (reading_weight table.old.graph (reverse doc.now)) e) }
-    ensures steps { steps.new ≤ steps.old + length doc.now + size table.old.graph * reading_rows table.old.graph (reverse doc.now) }
+    ensures steps { steps.new ≤ steps.old + length doc.now + size table.old.graph * reading_look_ups table.old.graph (reverse doc.now) }
 {
     let mut set = table.start();
     let none = Numbers::with_room(alloc, doc.len() + 1)?;
-    let mut kept = none.followed_by(alloc, set)?;
+    let mut numbers = none.followed_by(alloc, set)?;
     for k in 0..doc.len() {
         let byte = doc[doc.len() - 1 - k];
         let next = match table.next(set, byte, steps) {
@@ -49,11 +49,11 @@ pub(crate) fn read_back<L: Ledger>(
         };
         set = match next {
             Some(to) => to,
-            None => return Ok(kept),
+            None => return Ok(numbers),
         };
-        kept = kept.followed_by(alloc, set)?;
+        numbers = numbers.followed_by(alloc, set)?;
     }
-    Ok(kept)
+    Ok(numbers)
 }
 
 /// Reads the document, and gives the positions at which a state that is led to is also one of those that the
@@ -62,25 +62,25 @@ pub(crate) fn meetings<L: Ledger>(
     alloc: Global,
     table: &mut DenseTable<'_>,
     back: &DenseTable<'_>,
-    kept: &Numbers,
+    numbers: &Numbers,
     doc: &[u8],
     most: u32,
     steps: &mut Steps<L>,
 ) -> Result<Touched, FilterFault>
     requires plain { TakesNone table.old.graph }
     requires fresh { table.old ≡ fresh table.old.graph table.old.limit }
-    requires kept { ReadsAll back.now (reverse doc.now) (numbers_of kept.now) }
+    requires numbers { ReadsAll back.now (reverse doc.now) (numbers_of numbers.now) }
     requires small { length doc.now < 2 ^ 32 }
     ensures within { OnOk result (reading_weight table.old.graph doc.now ≤ table.old.limit) }
     ensures full { IfErr result (λ e. IsFullWithin table.old.limit (reading_weight table.old.graph doc.now) e) }
-    ensures steps { steps.new ≤ steps.old + length doc.now + size table.old.graph * reading_rows table.old.graph doc.now }
+    ensures steps { steps.new ≤ steps.old + length doc.now + size table.old.graph * reading_look_ups table.old.graph doc.now }
     ensures ok { IfOk result (λ t. (i : ℕ) → Covers t i ↔ ((i ≤ length doc.now) × MeetAt table.old.graph back.now.graph most doc.now i)) }
 {
     let mut touched = Touched::new(alloc);
     let mut seen = Comparisons::new(alloc)?;
     let mut set = table.start();
     for at in 0..doc.len() {
-        let meets = meet(table, back, kept, set, doc.len() - at, most, &mut seen);
+        let meets = meet(table, back, numbers, set, doc.len() - at, most, &mut seen);
         mark(&mut touched, meets, at as u32)?;
         let next = match table.next(set, doc[at], steps) {
             Ok(next) => next,
@@ -91,7 +91,7 @@ pub(crate) fn meetings<L: Ledger>(
             None => return Ok(touched),
         };
     }
-    let meets = meet(table, back, kept, set, 0, most, &mut seen);
+    let meets = meet(table, back, numbers, set, 0, most, &mut seen);
     mark(&mut touched, meets, doc.len() as u32)?;
     Ok(touched)
 }
@@ -101,25 +101,25 @@ pub(crate) fn meetings<L: Ledger>(
 fn meet(
     table: &DenseTable<'_>,
     back: &DenseTable<'_>,
-    kept: &Numbers,
+    numbers: &Numbers,
     set: u32,
     behind: usize,
     most: u32,
     seen: &mut Comparisons,
 ) -> bool
     requires set { (set < length table.now.sets) × IsInOrder ◌<◌ (set_at table.now.sets set) }
-    requires kept { behind < length (numbers_of kept.now) → (slice_index (numbers_of kept.now) behind < length back.now.sets)
-        × IsInOrder ◌<◌ (set_at back.now.sets (slice_index (numbers_of kept.now) behind)) }
+    requires numbers { behind < length (numbers_of numbers.now) → (slice_index (numbers_of numbers.now) behind < length back.now.sets)
+        × IsInOrder ◌<◌ (set_at back.now.sets (slice_index (numbers_of numbers.now) behind)) }
     requires places { length seen.old.pairs.items ≡ PLACES }
     requires right { AreRemembered most table.now.sets back.now.sets seen.old.pairs.items }
-    ensures meets { IsTrue result ↔ ((behind < length (numbers_of kept.now)) × HaveShared most (set_at table.now.sets set) (set_at back.now.sets (slice_index (numbers_of kept.now) behind))) }
+    ensures meets { IsTrue result ↔ ((behind < length (numbers_of numbers.now)) × HaveShared most (set_at table.now.sets set) (set_at back.now.sets (slice_index (numbers_of numbers.now) behind))) }
     ensures places { length seen.new.pairs.items ≡ PLACES }
     ensures right { AreRemembered most table.now.sets back.now.sets seen.new.pairs.items }
 {
-    if behind >= kept.len() {
+    if behind >= numbers.len() {
         return false;
     }
-    let other = kept.at(behind);
+    let other = numbers.at(behind);
     seen.meet(most, table, set, back, other)
 }
 

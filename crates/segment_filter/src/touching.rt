@@ -5,7 +5,7 @@ ghost use Rattle.marked_automaton.specs.Automaton.{size};
 ghost use Rattle.segment_filter.specs.Sets.{MeetAt, ReadsAll, TakesNone};
 ghost use Rattle.segment_filter.specs.SetNumbers.{numbers_of};
 ghost use Rattle.set_table.specs.Tabled.{IsRefusal, Tabled, weight};
-ghost use Rattle.segment_filter.specs.Weights.{IsFullWithin, both_take, both_weigh, reading_rows, reading_weight};
+ghost use Rattle.segment_filter.specs.Weights.{IsFullWithin, both_take, both_weigh, reading_look_ups, reading_weight};
 ghost use Rattle.span_core.specs.declared.TheConstants.{MOST_VARIABLES};
 ghost use Rattle.spanner_model.specs.Sequential.{HasVar, IsSequential};
 ghost use Rattle.span_core.specs.Lists.{AtMost};
@@ -77,11 +77,11 @@ fn touched_by<L: Ledger>(
         Ok(table) => table,
         Err(fault) => return Err(fault_of(fault)),
     };
-    let kept = match read_back(alloc, &mut behind, doc, steps) {
-        Ok(kept) => kept,
+    let numbers = match read_back(alloc, &mut behind, doc, steps) {
+        Ok(numbers) => numbers,
         Err(fault) => return Err(fault),
     };
-    touched_ahead(alloc, readings, &behind, &kept, doc, limit, steps)
+    touched_ahead(alloc, readings, &behind, &numbers, doc, limit, steps)
 }
 
 /// The positions at which the reading from the start meets the one from the end, whose table and numbers of
@@ -90,20 +90,20 @@ fn touched_ahead<'r, L: Ledger>(
     alloc: Global,
     readings: &'r Readings,
     behind: &DenseTable<'r>,
-    kept: &Numbers,
+    numbers: &Numbers,
     doc: &[u8],
     limit: u64,
     steps: &mut Steps<L>,
 ) -> Result<Touched, FilterFault>
     requires forward { TakesNone readings.now.forward.graph }
-    requires kept { ReadsAll behind.now (reverse doc.now) (numbers_of kept.now) }
+    requires numbers { ReadsAll behind.now (reverse doc.now) (numbers_of numbers.now) }
     requires within { weight behind.now ≤ limit }
     requires small { length doc.now < 2 ^ 32 }
     requires limit { limit ≤ 100000000 }
     ensures ok { IfOk result (λ t. (i : ℕ) → Covers t i ↔ ((i ≤ length doc.now) × MeetAt readings.now.forward.graph behind.now.graph readings.now.most doc.now i)) }
     ensures within { OnOk result (weight behind.now + reading_weight readings.now.forward.graph doc.now ≤ limit) }
     ensures full { IfErr result (λ e. IsFullWithin limit (weight behind.now + reading_weight readings.now.forward.graph doc.now) e) }
-    ensures steps { steps.new ≤ steps.old + (length doc.now + 1 + size readings.now.forward.graph * reading_rows readings.now.forward.graph doc.now) }
+    ensures steps { steps.new ≤ steps.old + (length doc.now + 1 + size readings.now.forward.graph * reading_look_ups readings.now.forward.graph doc.now) }
 {
     let spent = behind.weight();
     let mut ahead = match DenseTable::new(alloc, &readings.forward, limit - spent, steps) {
@@ -111,7 +111,7 @@ fn touched_ahead<'r, L: Ledger>(
         Err(fault) => return Err(heavier(fault_of(fault), spent)),
     };
     let most = readings.most;
-    match meetings(alloc, &mut ahead, behind, kept, doc, most, steps) {
+    match meetings(alloc, &mut ahead, behind, numbers, doc, most, steps) {
         Ok(touched) => Ok(touched),
         Err(fault) => Err(heavier(fault, spent)),
     }

@@ -12,14 +12,14 @@ use Rattle.spanner_model.specs.Answers.{AreAnswers, AreResultNames, SpanRow}
 use Rattle.query_parser.specs.Tested.{TestedTree}
 use Rattle.query_parser.specs.TestedView.{tested_of}
 use Rattle.marked_automaton.specs.Automaton.{Automaton, Marked}
-use Rattle.automaton_reading.specs.Reading.{Asked, Row}
+use Rattle.automaton_reading.specs.Reading.{Question, LookUp}
 use Rattle.query_automaton.specs.CompiledQuery.{IsCompiled}
 use Rattle.one_pass.specs.Places.{sets_met}
 use Rattle.one_pass.proofs.Sets.{weight_covers}
 use Rattle.growing_document.specs.Faults.{IsAppendFault, IsRowsFault, IsWeightFault}
 use Rattle.growing_document.specs.Grown.{AreBytes, AreRowsRead, Grown, IsAppended, IsAsked, at_start}
 use Rattle.growing_document.specs.Lengths.{IsAskedAt, ends_at, weight_at}
-use Rattle.growing_document.specs.Numbers.{asked_in, end_rows_at, first_sets, rows_in, sets_in, weight_with}
+use Rattle.growing_document.specs.Numbers.{questions_in, end_look_ups_at, first_sets, look_ups_in, sets_in, weight_with}
 use Rattle.growing_document.specs.declared.fault.GrowFault.{GrowFault}
 use Rattle.growing_document.specs.declared.fault.GrowFault.TheVariants as fault
 use Rattle.growing_document.proofs.Insides.{bytes_more}
@@ -83,25 +83,25 @@ module _ (q : QueryTree) (d asked : List ℕ) (names : List VarName) (g h : Grow
   pub rows_heavy : (weight : ℕ) → IsRowsFault g (fault.Full weight) → IsHeavy q d (length d ∷ asked)
   rows_heavy weight f = subst (λ (x : List ℕ). IsHeavy q x (length x ∷ asked)) r.holds (heavier g.document (length g.document ∷ asked) weight (lengths_law.rows_full g asked weight r.held f))
 
--- more end rows weigh no less
+-- more end look-ups weigh no less
 more_ends : (B : Automaton) (d asked : List ℕ) (n : ℕ) → weight_at B d asked ≤ weight_at B d (n ∷ asked)
 more_ends B d asked n =
-    weight_covers B (sets_in B d) (sets_in B d) (rows_in B d ++ ends_at B d (n ∷ asked)) (rows_in B d ++ ends_at B d asked) (λ set h. h) by
+    weight_covers B (sets_in B d) (sets_in B d) (look_ups_in B d ++ ends_at B d (n ∷ asked)) (look_ups_in B d ++ ends_at B d asked) (λ set h. h) by
   where
-    by : (row : Row) → Has (rows_in B d ++ ends_at B d asked) row → Has (rows_in B d ++ ends_at B d (n ∷ asked)) row
-    by row h = elim (Has-append_cases (rows_in B d) (ends_at B d asked) row h) as (λ _. Has (rows_in B d ++ ends_at B d (n ∷ asked)) row) [
-      | inl k ↦ Has-append_left (rows_in B d) (ends_at B d (n ∷ asked)) row k
-      | inr k ↦ Has-append_right (rows_in B d) (ends_at B d (n ∷ asked)) row (Has-append_right (end_rows_at B (take n d)) (ends_at B d asked) row k)
+    by : (look_up : LookUp) → Has (look_ups_in B d ++ ends_at B d asked) look_up → Has (look_ups_in B d ++ ends_at B d (n ∷ asked)) look_up
+    by look_up h = elim (Has-append_cases (look_ups_in B d) (ends_at B d asked) look_up h) as (λ _. Has (look_ups_in B d ++ ends_at B d (n ∷ asked)) look_up) [
+      | inl k ↦ Has-append_left (look_ups_in B d) (ends_at B d (n ∷ asked)) look_up k
+      | inr k ↦ Has-append_right (look_ups_in B d) (ends_at B d (n ∷ asked)) look_up (Has-append_right (end_look_ups_at B (take n d)) (ends_at B d asked) look_up k)
     ]
 
-first_met : (A : Automaton) (sets : List (List ℕ)) (asks : List Asked) (set : List ℕ) → Has sets set → Has (sets_met A sets asks) set
+first_met : (A : Automaton) (sets : List (List ℕ)) (asks : List Question) (set : List ℕ) → Has sets set → Has (sets_met A sets asks) set
 first_met A sets [] set h = h
 first_met A sets (a ∷ later) set h = Has-append_left sets _ set h
 
 pub start_heavy : (q : QueryTree) (A : Marked) (d : List ℕ) (weight : ℕ) → IsCompiled q A → IsWeightFault A.graph SESSION_TABLE [] [] (fault.Full weight) → IsHeavy q d (length d ∷ [])
 start_heavy q A d weight made f =
     let lengths : List ℕ = length d ∷ [] in
-    let less = weight_covers A.graph (sets_in A.graph d) (sets_in A.graph []) (rows_in A.graph d ++ ends_at A.graph d lengths) [] (first_met A.graph (first_sets A.graph) (asked_in d)) (λ row h. absurd h) in
+    let less = weight_covers A.graph (sets_in A.graph d) (sets_in A.graph []) (look_ups_in A.graph d ++ ends_at A.graph d lengths) [] (first_met A.graph (first_sets A.graph) (questions_in d)) (λ look_up h. absurd h) in
     let reduced = reduct_weighs A.graph (counted q) made.reduces.1 d lengths in
     let over = f.0 in
     let most = f.1 in

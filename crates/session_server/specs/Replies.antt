@@ -126,7 +126,7 @@ replies_text replies = flat_map reply_text replies
 
 -- ---- why a query is not opened on a document, or not read on
 
--- reading the document weighs too much, by the query's automaton with nothing left out: its sets, the rows of its bytes, and one end row for
+-- reading the document weighs too much, by the query's automaton with nothing left out: its sets, the look-ups of its bytes, and one end look-up for
 -- each set that was reached at a length at which the rows were asked for
 abbrev pub IsHeavy : QueryTree → List ℕ → List ℕ → Type 0
 IsHeavy q document asked = SESSION_TABLE < weight_at (counted q) document asked

@@ -17,12 +17,12 @@ use Rattle.marked_automaton.proofs.Passing.{filter_cases}
 use Rattle.automaton_reading.specs.Reading.{byte_read, ended, put_up, set_of, blocks_down, is_among, Reach, ways_taken, rest_edge, edges}
 use Rattle.automaton_reading.proofs.Determined.{set_has, has_set}
 use Rattle.set_table.specs.declared.answer.Answer.{Answer}
-use Rattle.set_table.specs.declared.answer.Question.TheVariants.{Ends}
+use Rattle.set_table.specs.declared.answer.TableQuestion.TheVariants.{Ends}
 use Rattle.set_table.specs.declared.lists.Lists.{Lists}
 use Rattle.set_table.specs.Cut.{code_of, cut, mark_of, marks_among, marks_code}
 use Rattle.set_table.specs.Named.{IsLongerBy, PutsEdges}
 use Rattle.set_table.specs.Tabled.{IsStateSet, edge_named, reached, set_at, sets_weight, with_set, with_sets}
-use Rattle.set_table.specs.Answered.{Adds, IsReady, answer_in, asked_by, end_reach, part, room}
+use Rattle.set_table.specs.Answered.{Adds, IsReady, answer_in, question_of, end_reach, part, room}
 use Rattle.set_table.proofs.Ascending.{Above, all_has, has_all, blocks_are, set_in_order}
 use Rattle.set_table.proofs.CutLaws.{AreNarrow, cut_is}
 use Rattle.set_table.proofs.NamingLaws.{weight_with}
@@ -99,8 +99,8 @@ part_all xs0 xs made first count is at n =
     (λ i. take count (drop (at i) (is i))) ∙ (ap (take count) (drop-append_seam xs0 made) ∙ take_all count made (omega (arith, len)))
 
 pub adds_edges : (A : Automaton) (old new : Lists) (x : Answer) (reaches : List Reach) (w : ℕ) →
-    PutsEdges reaches old.sets new.sets old.edges.items new.edges.items w → old.ends.items ≡ new.ends.items → reaches ≡ edges A (set_at old.sets x.set) (asked_by x.question) →
-    reached A (set_at old.sets x.set) (asked_by x.question) ≡ map (λ (e : Reach). e.to) (edges A (set_at old.sets x.set) (asked_by x.question)) →
+    PutsEdges reaches old.sets new.sets old.edges.items new.edges.items w → old.ends.items ≡ new.ends.items → reaches ≡ edges A (set_at old.sets x.set) (question_of x.question) →
+    reached A (set_at old.sets x.set) (question_of x.question) ≡ map (λ (e : Reach). e.to) (edges A (set_at old.sets x.set) (question_of x.question)) →
     room new.edges.items new.ends.items x.question ≡ length new.edges.items →
     answer_in new.sets new.edges.items new.ends.items x.question x.first x.count ≡ map (edge_named new.sets) (part x.first x.count new.edges.items) →
     x.first ≡ length old.edges.items → x.count ≡ length new.edges.items - x.first → Adds A old new x (w + 1)
@@ -109,7 +109,7 @@ adds_edges A old new x reaches w p ends same to size answered at n =
     let es = new.edges.items in
     let whole = part_all es0 es p.made x.first x.count p.pushed at n in
     let len : length es ≡ length es0 + length p.made = ap length p.pushed ∙ length-append es0 p.made in
-    let made : length p.made ≡ length (edges A (set_at old.sets x.set) (asked_by x.question)) = sym (length-map p.made (edge_named new.sets)) ∙ ap length (p.named ∙ same) in
+    let made : length p.made ≡ length (edges A (set_at old.sets x.set) (question_of x.question)) = sym (length-map p.made (edge_named new.sets)) ∙ ap length (p.named ∙ same) in
     record {
       known = p.known ∙ ap (with_sets old.sets) (ap (map (λ (e : Reach). e.to)) same ∙ sym to);
       edges_longer = (p.made, p.pushed);

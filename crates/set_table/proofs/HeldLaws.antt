@@ -16,39 +16,39 @@ use Rattle.marked_automaton.specs.declared.way.Stop.{Stop}
 use Rattle.marked_automaton.specs.Automaton.{Automaton, IsWhole, Marked}
 use Rattle.marked_automaton.proofs.Listed.{get_map, get_map_cases, same_or_not, some_same}
 use Rattle.marked_automaton.proofs.Passing.{filter_cases, left_true, right_true, both_true}
-use Rattle.automaton_reading.specs.Reading.{Asked, byte_read, rest_taken, ended, asked_same, set_of, blocks_down, is_among, Reach, reach_with, rest_edge, ways_taken, edges}
+use Rattle.automaton_reading.specs.Reading.{Question, byte_read, rest_taken, ended, question_same, set_of, blocks_down, is_among, Reach, reach_with, rest_edge, ways_taken, edges}
 use Rattle.automaton_reading.proofs.Determined.{has_set}
-use Rattle.set_table.specs.declared.answer.Question.{Question}
-use Rattle.set_table.specs.declared.answer.Question.TheVariants.{Byte, Rest, Ends}
+use Rattle.set_table.specs.declared.answer.TableQuestion.{TableQuestion}
+use Rattle.set_table.specs.declared.answer.TableQuestion.TheVariants.{Byte, Rest, Ends}
 use Rattle.set_table.specs.declared.answer.Answer.{Answer}
 use Rattle.set_table.specs.declared.lists.Lists.{Lists}
 use Rattle.set_table.specs.declared.store.Store.{Store}
 use Rattle.set_table.specs.Named.{IsLongerBy}
 use Rattle.set_table.specs.Tabled.{Asking, HasEdges, HasEnds, asking, idle_of, IsStateSet, IsTabled, Tabled, asked_edges, asked_first, asked_weight, asking_same, once_asked, weight, edge_named, reached, set_at, sets_weight, with_set, with_sets}
-use Rattle.set_table.specs.Answered.{Adds, IsAnswer, IsHeld, IsQuestion, IsSound, tabled, answer_in, asked_by, asking_of, askings, end_reach, part, place_in, place_of, room, with_places}
+use Rattle.set_table.specs.Answered.{Adds, IsAnswer, IsHeld, IsQuestion, IsSound, tabled, answer_in, question_of, asking_of, askings, end_reach, part, place_in, place_of, room, with_places}
 use Rattle.set_table.proofs.Ascending.{Above, all_has, has_all, blocks_in_order, set_in_order}
 use Rattle.set_table.proofs.NamingLaws.{named_stay}
 use Rattle.set_table.proofs.SetsLaws.{set_stays, with_set_cases, with_sets_longer}
 
 -- ---- questions and their places
 
-pub same_asked : (p q : Question) → asked_by p ≡ asked_by q → p ≡ q
-same_asked (Byte b) (Byte c) e = let h : b ≡ c = cc in ap Byte h
-same_asked (Byte b) Rest e = absurd (cc)
-same_asked (Byte b) Ends e = absurd (cc)
-same_asked Rest (Byte c) e = absurd (cc)
-same_asked Rest Rest e = refl
-same_asked Rest Ends e = absurd (cc)
-same_asked Ends (Byte c) e = absurd (cc)
-same_asked Ends Rest e = absurd (cc)
-same_asked Ends Ends e = refl
+pub same_question : (p q : TableQuestion) → question_of p ≡ question_of q → p ≡ q
+same_question (Byte b) (Byte c) e = let h : b ≡ c = cc in ap Byte h
+same_question (Byte b) Rest e = absurd (cc)
+same_question (Byte b) Ends e = absurd (cc)
+same_question Rest (Byte c) e = absurd (cc)
+same_question Rest Rest e = refl
+same_question Rest Ends e = absurd (cc)
+same_question Ends (Byte c) e = absurd (cc)
+same_question Ends Rest e = absurd (cc)
+same_question Ends Ends e = refl
 
-pub place_below : (q : Question) → IsQuestion q → place_of q < 272
+pub place_below : (q : TableQuestion) → IsQuestion q → place_of q < 272
 place_below (Byte b) h = omega (arith, h)
 place_below Rest h = omega arith
 place_below Ends h = omega arith
 
-same_place : (p q : Question) → IsQuestion p → IsQuestion q → place_of p ≡ place_of q → p ≡ q
+same_place : (p q : TableQuestion) → IsQuestion p → IsQuestion q → place_of p ≡ place_of q → p ≡ q
 same_place (Byte b) (Byte c) h k e = ap Byte e
 same_place (Byte b) Rest h k e = absurd (omega (arith, h, e))
 same_place (Byte b) Ends h k e = absurd (omega (arith, h, e))
@@ -59,7 +59,7 @@ same_place Ends (Byte c) h k e = absurd (omega (arith, k, e))
 same_place Ends Rest h k e = absurd (omega (arith, e))
 same_place Ends Ends h k e = refl
 
-pub place_apart : (k l : ℕ) (p q : Question) → IsQuestion p → IsQuestion q → place_in k p ≡ place_in l q → (k ≡ l) × (p ≡ q)
+pub place_apart : (k l : ℕ) (p q : TableQuestion) → IsQuestion p → IsQuestion q → place_in k p ≡ place_in l q → (k ≡ l) × (p ≡ q)
 place_apart k l p q h g e =
     let a = place_below p h in
     let b = place_below q g in
@@ -141,7 +141,7 @@ rest_reaches [] s h = absurd h
 rest_reaches (p ∷ ps) s (inl e) = e
 rest_reaches (p ∷ ps) s (inr h) = absurd h
 
-pub reached_states : (A : Automaton) → IsWhole A → (S : List ℕ) → IsStateSet A S → (a : Asked) (s : List ℕ) → Has (reached A S a) s → IsStateSet A s
+pub reached_states : (A : Automaton) → IsWhole A → (S : List ℕ) → IsStateSet A S → (a : Question) (s : List ℕ) → Has (reached A S a) s → IsStateSet A s
 reached_states A whole S states (byte_read b) s h =
     let e = Has-map_cases (λ (e : Reach). e.to) (edges A S (byte_read b)) s h in
     let m = Has-map_cases (reach_with (ways_taken A S b)) (blocks_down (map (λ (y : Way). y.marks) (ways_taken A S b))) e.0 e.1 in
@@ -180,12 +180,12 @@ module _ (A : Automaton) (sets0 sets : List (List ℕ)) (es0 es : List Edge) (en
       ∙ (ap (λ zs. map (edge_named zs) (part first count es0)) more.1
       ∙ named_stay sets0 more.0 (part first count es0) (λ e h. targets e (has_part first count es0 e h))))
 
-  answer_kept : (q : Question) (first count : ℕ) → first + count ≤ room es0 ends0 q → answer_in sets es ends q first count ≡ answer_in sets0 es0 ends0 q first count
+  answer_kept : (q : TableQuestion) (first count : ℕ) → first + count ≤ room es0 ends0 q → answer_in sets es ends q first count ≡ answer_in sets0 es0 ends0 q first count
   answer_kept (Byte b) first count l = edges_kept first count l
   answer_kept Rest first count l = edges_kept first count l
   answer_kept Ends first count l = ap (λ zs. map end_reach (part first count zs)) more_ends.1 ∙ ap (map end_reach) (part_stays first count ends0 more_ends.0 l)
 
-  room_grows : (q : Question) → room es0 ends0 q ≤ room es ends q
+  room_grows : (q : TableQuestion) → room es0 ends0 q ≤ room es ends q
   room_grows (Byte b) = omega (arith, ap length more_es.1, length-append es0 more_es.0)
   room_grows Rest = omega (arith, ap length more_es.1, length-append es0 more_es.0)
   room_grows Ends = omega (arith, ap length more_ends.1, length-append ends0 more_ends.0)
@@ -195,7 +195,7 @@ module _ (A : Automaton) (sets0 sets : List (List ℕ)) (es0 es : List Edge) (en
     set = omega (arith, h.set, longer_sets);
     question = h.question;
     within = omega (arith, h.within, room_grows x.question);
-    is = answer_kept x.question x.first x.count h.within ∙ (h.is ∙ ap (λ zs. edges A zs (asked_by x.question)) (sym (set_kept x.set h.set)));
+    is = answer_kept x.question x.first x.count h.within ∙ (h.is ∙ ap (λ zs. edges A zs (question_of x.question)) (sym (set_kept x.set h.set)));
   }
 
   pub weight_stays : (asked : List Asking) → ((r : Asking) → Has asked r → r.set < length sets0) → asked_weight A sets asked ≡ asked_weight A sets0 asked
@@ -232,7 +232,7 @@ places_new : (n : ℕ) (numbers : List ℕ) (p : ℕ) → length numbers ≤ p �
 places_new n numbers p l = get_or-append_right numbers (replicate (n - length numbers) 0) p 0 l ∙ zeros (n - length numbers) (p - length numbers)
 
 -- a place of a set that is there
-pub place_within : (k n : ℕ) (q : Question) → IsQuestion q → k < n → place_in k q < 272 * n
+pub place_within : (k n : ℕ) (q : TableQuestion) → IsQuestion q → k < n → place_in k q < 272 * n
 place_within k n q h l = let b = place_below q h in omega (arith, b, l)
 
 module _ (A : Automaton) (before after : Lists) (answers0 : List Answer) (numbers0 : List ℕ) (w0 w : ℕ) (x : Answer)
@@ -257,7 +257,7 @@ module _ (A : Automaton) (before after : Lists) (answers0 : List Answer) (number
   ends = after.ends.items
 
   longer : IsLongerBy sets0 sets
-  longer = let g = with_sets_longer sets0 (reached A (set_at sets0 x.set) (asked_by x.question)) in (g.0, adds.known ∙ g.1)
+  longer = let g = with_sets_longer sets0 (reached A (set_at sets0 x.set) (question_of x.question)) in (g.0, adds.known ∙ g.1)
 
   sets_more : length sets0 ≤ length sets
   sets_more = omega (arith, ap length longer.1, length-append sets0 longer.0)
@@ -281,9 +281,9 @@ module _ (A : Automaton) (before after : Lists) (answers0 : List Answer) (number
   elsewhere p other = get_or-set_other Places Here p (1 + length answers0) 0 other
 
   states_more : (s : List ℕ) → Has sets s → IsStateSet A s
-  states_more s h = elim (has_with_sets sets0 (reached A (set_at sets0 x.set) (asked_by x.question)) s (subst (λ zs. Has zs s) adds.known h)) as (λ _. IsStateSet A s) [
+  states_more s h = elim (has_with_sets sets0 (reached A (set_at sets0 x.set) (question_of x.question)) s (subst (λ zs. Has zs s) adds.known h)) as (λ _. IsStateSet A s) [
     | inl k ↦ held.states s k
-    | inr k ↦ reached_states A whole (set_at sets0 x.set) (held.states (set_at sets0 x.set) (has_at sets0 x.set within)) (asked_by x.question) s k
+    | inr k ↦ reached_states A whole (set_at sets0 x.set) (held.states (set_at sets0 x.set) (has_at sets0 x.set within)) (question_of x.question) s k
   ]
     where
       has_at : (ss : List (List ℕ)) (k : ℕ) → k < length ss → Has ss (set_at ss k)
@@ -296,7 +296,7 @@ module _ (A : Automaton) (before after : Lists) (answers0 : List Answer) (number
     set = omega (arith, within, sets_more);
     question = question;
     within = omega (arith, adds.within);
-    is = adds.is ∙ ap (λ zs. edges A zs (asked_by x.question)) (sym (set_kept A sets0 sets es0 es ends0 ends longer adds.edges_longer adds.ends_longer held.targets x.set within));
+    is = adds.is ∙ ap (λ zs. edges A zs (question_of x.question)) (sym (set_kept A sets0 sets es0 es ends0 ends longer adds.edges_longer adds.ends_longer held.targets x.set within));
   }
 
   answered_more : (y : Answer) → Has (answers0 ++ x ∷ []) y → IsAnswer A sets es ends y
@@ -308,7 +308,7 @@ module _ (A : Automaton) (before after : Lists) (answers0 : List Answer) (number
   targets_more : (e : Edge) → Has es e → e.to < length sets
   targets_more e h = elim (adds.targets e h) as (λ _. e.to < length sets) [ inl k ↦ omega (arith, held.targets e k, sets_more) | inr k ↦ k ]
 
-  found_more : (k : ℕ) (q : Question) (i : ℕ) → k < length sets → IsQuestion q → get_or Numbers (place_in k q) 0 ≡ suc i →
+  found_more : (k : ℕ) (q : TableQuestion) (i : ℕ) → k < length sets → IsQuestion q → get_or Numbers (place_in k q) 0 ≡ suc i →
       (y : Answer) × (slice_get (answers0 ++ x ∷ []) i ≡ Some y) × (y.set ≡ k) × (y.question ≡ q)
   found_more k q i l h e = go (same_or_not (place_in k q) Here)
     where
@@ -338,7 +338,7 @@ module _ (A : Automaton) (before after : Lists) (answers0 : List Answer) (number
         let has = Has-slice_get answers0 i y k in
         let a = held.answered y has in
         let other : place_in y.set y.question ≡ Here → ⊥ = λ same. let p = place_apart y.set x.set y.question x.question a.question question same in
-        absent (subst (Has (askings answers0)) (λ j. let r : Asking = record { set = p.0 j; ask = asked_by (p.1 j) } in r) (Has-map asking_of answers0 y has)) in
+        absent (subst (Has (askings answers0)) (λ j. let r : Asking = record { set = p.0 j; ask = question_of (p.1 j) } in r) (Has-map asking_of answers0 y has)) in
         let b = place_within y.set (length sets0) y.question a.question a.set in
         elsewhere (place_in y.set y.question) other ∙ (places_old (272 * length sets) numbers0 (place_in y.set y.question) (omega (arith, b, held.places)) ∙ held.there i y k)
     | inr k ↦ ap (λ (z : Answer). get_or Numbers (place_in z.set z.question) 0) (sym k.1) ∙ (here ∙ (let n : 1 + length answers0 ≡ suc i = omega (arith, k.0) in n))
@@ -351,9 +351,9 @@ module _ (A : Automaton) (before after : Lists) (answers0 : List Answer) (number
       let b = sum_by-append f (askings answers0) (asking_of x ∷ []) in
       let c = weight_stays A sets0 sets es0 es ends0 ends longer adds.edges_longer adds.ends_longer held.targets (askings answers0)
       (λ r h. let y = Has-map_cases asking_of answers0 r h in omega (arith, (held.answered y.0 y.1).set, ap (λ (z : Asking). z.set) y.2)) in
-      let d : sum_by f (asking_of x ∷ []) ≡ 1 + length (edges A (set_at sets x.set) (asked_by x.question)) = one (f (asking_of x)) in
-      let e : length (edges A (set_at sets x.set) (asked_by x.question)) ≡ length (edges A (set_at sets0 x.set) (asked_by x.question)) =
-      ap (λ zs. length (edges A zs (asked_by x.question))) (set_kept A sets0 sets es0 es ends0 ends longer adds.edges_longer adds.ends_longer held.targets x.set within) in
+      let d : sum_by f (asking_of x ∷ []) ≡ 1 + length (edges A (set_at sets x.set) (question_of x.question)) = one (f (asking_of x)) in
+      let e : length (edges A (set_at sets x.set) (question_of x.question)) ≡ length (edges A (set_at sets0 x.set) (question_of x.question)) =
+      ap (λ zs. length (edges A zs (question_of x.question))) (set_kept A sets0 sets es0 es ends0 ends longer adds.edges_longer adds.ends_longer held.targets x.set within) in
       omega (arith, a, b, c, d, e, held.weighs, adds.weighs)
     where
       one : (n : ℕ) → sum_by (λ (r : Asking). n) (asking_of x ∷ []) ≡ n
@@ -403,11 +403,11 @@ held_fresh A sets answers es ends numbers start w whole is one no_answers no_edg
 
 pub asking_told : (r s : Asking) → asking_same r s ≡ true → r ≡ s
 asking_told r s e =
-    let a = eqb-true r.set s.set (left_true (nat_eq r.set s.set) (asked_same r.ask s.ask) e) in
-    let b = ask_told r.ask s.ask (right_true (nat_eq r.set s.set) (asked_same r.ask s.ask) e) in
+    let a = eqb-true r.set s.set (left_true (nat_eq r.set s.set) (question_same r.ask s.ask) e) in
+    let b = ask_told r.ask s.ask (right_true (nat_eq r.set s.set) (question_same r.ask s.ask) e) in
     (λ i. let t : Asking = record { set = a i; ask = b i } in t)
   where
-    ask_told : (a b : Asked) → asked_same a b ≡ true → a ≡ b
+    ask_told : (a b : Question) → question_same a b ≡ true → a ≡ b
     ask_told (byte_read b) (byte_read c) e = ap byte_read (eqb-true b c e)
     ask_told (byte_read b) rest_taken e = absurd (cc)
     ask_told (byte_read b) ended e = absurd (cc)
@@ -419,9 +419,9 @@ asking_told r s e =
     ask_told ended ended e = refl
 
 pub asking_itself : (r : Asking) → asking_same r r ≡ true
-asking_itself r = both_true (nat_eq r.set r.set) (asked_same r.ask r.ask) (eq-eqb r.set r.set refl) (ask_itself r.ask)
+asking_itself r = both_true (nat_eq r.set r.set) (question_same r.ask r.ask) (eq-eqb r.set r.set refl) (ask_itself r.ask)
   where
-    ask_itself : (a : Asked) → asked_same a a ≡ true
+    ask_itself : (a : Question) → question_same a a ≡ true
     ask_itself (byte_read b) = eq-eqb b b refl
     ask_itself rest_taken = refl
     ask_itself ended = refl
@@ -451,25 +451,25 @@ once_is_same t r h = sym (ap (λ (b : Bool). if b then t else asked_first t r) (
 
 -- ---- the number of a question
 
-pub number_found : (A : Automaton) (sets : List (List ℕ)) (answers : List Answer) (es : List Edge) (ends numbers : List ℕ) (w k : ℕ) (q : Question) (n : ℕ) →
-    IsHeld A sets answers es ends numbers w → k < length sets → IsQuestion q → get_or numbers (place_in k q) 0 ≡ n → (n ≡ 0 → ⊥) → slice_get (askings answers) (n - 1) ≡ Some (record { set = k; ask = asked_by q })
+pub number_found : (A : Automaton) (sets : List (List ℕ)) (answers : List Answer) (es : List Edge) (ends numbers : List ℕ) (w k : ℕ) (q : TableQuestion) (n : ℕ) →
+    IsHeld A sets answers es ends numbers w → k < length sets → IsQuestion q → get_or numbers (place_in k q) 0 ≡ n → (n ≡ 0 → ⊥) → slice_get (askings answers) (n - 1) ≡ Some (record { set = k; ask = question_of q })
 number_found A sets answers es ends numbers w k q n held l h e some =
     let less : 0 < n = positive n some in
     let at : get_or numbers (place_in k q) 0 ≡ suc (n - 1) = e ∙ (let g : n ≡ suc (n - 1) = omega (arith, less) in g) in
     let f = held.found k q (n - 1) l h at in
-    get_map asking_of answers (n - 1) f.0 f.1 ∙ ap Some (λ i. let r : Asking = record { set = f.2 i; ask = asked_by (f.3 i) } in r)
+    get_map asking_of answers (n - 1) f.0 f.1 ∙ ap Some (λ i. let r : Asking = record { set = f.2 i; ask = question_of (f.3 i) } in r)
   where
     positive : (m : ℕ) → (m ≡ 0 → ⊥) → 0 < m
     positive zero o = absurd (o refl)
     positive (suc m) o = omega arith
 
-pub number_absent : (A : Automaton) (sets : List (List ℕ)) (answers : List Answer) (es : List Edge) (ends numbers : List ℕ) (w k : ℕ) (q : Question) →
-    IsHeld A sets answers es ends numbers w → get_or numbers (place_in k q) 0 ≡ 0 → Has (askings answers) (record { set = k; ask = asked_by q }) → ⊥
+pub number_absent : (A : Automaton) (sets : List (List ℕ)) (answers : List Answer) (es : List Edge) (ends numbers : List ℕ) (w k : ℕ) (q : TableQuestion) →
+    IsHeld A sets answers es ends numbers w → get_or numbers (place_in k q) 0 ≡ 0 → Has (askings answers) (record { set = k; ask = question_of q }) → ⊥
 number_absent A sets answers es ends numbers w k q held e h =
-    let y = Has-map_cases asking_of answers (record { set = k; ask = asked_by q }) h in
+    let y = Has-map_cases asking_of answers (record { set = k; ask = question_of q }) h in
     let p = place_of-Has answers y.0 y.1 in
     let set : y.0.set ≡ k = ap (λ (r : Asking). r.set) y.2 in
-    let question : y.0.question ≡ q = same_asked y.0.question q (ap (λ (r : Asking). r.ask) y.2) in
+    let question : y.0.question ≡ q = same_question y.0.question q (ap (λ (r : Asking). r.ask) y.2) in
     let there : get_or numbers (place_in k q) 0 ≡ suc p.0 = (λ i. get_or numbers (place_in (sym set i) (sym question i)) 0) ∙ held.there p.0 y.0 p.2 in
     let z : 0 ≡ suc p.0 = sym e ∙ there in
     omega (arith, z)
@@ -499,7 +499,7 @@ is_tabled M limit w s sound apart = record {
     places : (i j : ℕ) (x y : Answer) → slice_get s.answers.items i ≡ Some x → slice_get s.answers.items j ≡ Some y → asking_of x ≡ asking_of y → i ≡ j
     places i j x y e f same =
         let set : x.set ≡ y.set = ap (λ (r : Asking). r.set) same in
-        let question : x.question ≡ y.question = same_asked x.question y.question (ap (λ (r : Asking). r.ask) same) in
+        let question : x.question ≡ y.question = same_question x.question y.question (ap (λ (r : Asking). r.ask) same) in
         let n : suc i ≡ suc j = sym (sound.held.there i x e) ∙ ((λ k. get_or s.numbers (place_in (set k) (question k)) 0) ∙ sound.held.there j y f) in
         omega (arith, n)
 
@@ -513,7 +513,7 @@ marks_of_all : (f : ℕ → Reach) → ((m : ℕ) → (f m).marks ≡ m) → (ms
 marks_of_all f h [] = refl
 marks_of_all f h (m ∷ ms) = let rest = marks_of_all f h ms in (λ i. h m i ∷ rest i)
 
-edges_down : (A : Automaton) (S : List ℕ) (a : Asked) → IsInOrder Above (map (λ (e : Reach). e.marks) (edges A S a))
+edges_down : (A : Automaton) (S : List ℕ) (a : Question) → IsInOrder Above (map (λ (e : Reach). e.marks) (edges A S a))
 edges_down A S (byte_read b) =
     let ms = blocks_down (map (λ (y : Way). y.marks) (ways_taken A S b)) in
     subst (IsInOrder Above) (sym (marks_of_all (reach_with (ways_taken A S b)) (λ m. refl) ms)) (blocks_in_order (map (λ (y : Way). y.marks) (ways_taken A S b)))
@@ -534,7 +534,7 @@ named_down sets (e ∷ es) h = (
   named_down sets es h.1,
 )
 
-edged : (sets : List (List ℕ)) (es : List Edge) (ends : List ℕ) (q : Question) (f c : ℕ) → (q ≡ Ends → ⊥) →
+edged : (sets : List (List ℕ)) (es : List Edge) (ends : List ℕ) (q : TableQuestion) (f c : ℕ) → (q ≡ Ends → ⊥) →
     (answer_in sets es ends q f c ≡ map (edge_named sets) (part f c es)) × (room es ends q ≡ length es)
 edged sets es ends (Byte b) f c h = (refl, refl)
 edged sets es ends Rest f c h = (refl, refl)
@@ -550,17 +550,17 @@ pub edges_are : (A : Automaton) (limit : ℕ) (sets : List (List ℕ)) (answers 
 edges_are A limit sets answers es ends numbers w x cs held h o is =
     let a = held.answered x h in
     let e = edged sets es ends x.question x.first x.count o in
-    let named : map (edge_named sets) cs ≡ edges A (set_at sets x.set) (asked_by x.question) = ap (map (edge_named sets)) is ∙ (sym e.0 ∙ a.is) in
+    let named : map (edge_named sets) cs ≡ edges A (set_at sets x.set) (question_of x.question) = ap (map (edge_named sets)) is ∙ (sym e.0 ∙ a.is) in
     record {
       named = named;
       targets = λ f k. held.targets f (has_part x.first x.count es f (subst (λ (zs : List Edge). Has zs f) is k));
-      order = named_down sets cs (subst (λ (zs : List Reach). IsInOrder Above (map (λ (r : Reach). r.marks) zs)) (sym named) (edges_down A (set_at sets x.set) (asked_by x.question)));
+      order = named_down sets cs (subst (λ (zs : List Reach). IsInOrder Above (map (λ (r : Reach). r.marks) zs)) (sym named) (edges_down A (set_at sets x.set) (question_of x.question)));
     }
 
 marks_down : (ms : List ℕ) → IsInOrder Above (map (λ (e : Reach). e.marks) (map end_reach ms)) → IsInOrder (λ (m n : ℕ). n < m) ms
 marks_down ms h = subst (IsInOrder Above) (marks_of_all end_reach (λ m. refl) ms) h
 
-ended_in : (sets : List (List ℕ)) (es : List Edge) (ends : List ℕ) (q : Question) (f c : ℕ) → q ≡ Ends → (answer_in sets es ends q f c ≡ map end_reach (part f c ends)) × (room es ends q ≡ length ends)
+ended_in : (sets : List (List ℕ)) (es : List Edge) (ends : List ℕ) (q : TableQuestion) (f c : ℕ) → q ≡ Ends → (answer_in sets es ends q f c ≡ map end_reach (part f c ends)) × (room es ends q ≡ length ends)
 ended_in sets es ends (Byte b) f c h = absurd (cc)
 ended_in sets es ends Rest f c h = absurd (cc)
 ended_in sets es ends Ends f c h = (refl, refl)
@@ -574,7 +574,7 @@ pub ends_are : (A : Automaton) (limit : ℕ) (sets : List (List ℕ)) (answers :
 ends_are A limit sets answers es ends numbers w x ms held h o is =
     let a = held.answered x h in
     let e = ended_in sets es ends x.question x.first x.count o in
-    let named : map end_reach ms ≡ edges A (set_at sets x.set) ended = ap (map end_reach) is ∙ (sym e.0 ∙ (a.is ∙ ap (λ q. edges A (set_at sets x.set) (asked_by q)) o)) in
+    let named : map end_reach ms ≡ edges A (set_at sets x.set) ended = ap (map end_reach) is ∙ (sym e.0 ∙ (a.is ∙ ap (λ q. edges A (set_at sets x.set) (question_of q)) o)) in
     record {
       named = named;
       order = marks_down ms (subst (λ (zs : List Reach). IsInOrder Above (map (λ (r : Reach). r.marks) zs)) (sym named) (edges_down A (set_at sets x.set) ended));

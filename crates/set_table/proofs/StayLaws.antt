@@ -15,12 +15,12 @@ use Rattle.marked_automaton.specs.Automaton.{Automaton}
 use Rattle.marked_automaton.proofs.Listed.{same_or_not}
 use Rattle.std.proofs.Math.Seq.{get_or-append_right}
 use Rattle.std.proofs.lemmas.List.{append-nil, get_or-set_same, get_or-set_other, get_or_append_left, get_or_past, get_or_read}
-use Rattle.set_table.specs.declared.answer.Question.TheVariants.{Byte, Ends}
-use Rattle.set_table.specs.declared.answer.Question.{Question}
+use Rattle.set_table.specs.declared.answer.TableQuestion.TheVariants.{Byte, Ends}
+use Rattle.set_table.specs.declared.answer.TableQuestion.{TableQuestion}
 use Rattle.set_table.specs.declared.answer.Answer.{Answer}
 use Rattle.set_table.specs.Named.{IsLongerBy}
-use Rattle.set_table.specs.Answered.{AreStays, IsHeld, asked_by, asking_of, askings, part}
-use Rattle.set_table.proofs.HeldLaws.{edges_are, same_asked}
+use Rattle.set_table.specs.Answered.{AreStays, IsHeld, question_of, asking_of, askings, part}
+use Rattle.set_table.proofs.HeldLaws.{edges_are, same_question}
 use Rattle.set_table.specs.Tabled.{Asking, HasEdges, Stays, Tabled, asking, edge_named, one_edge, set_at}
 
 -- a set's number is told by the set
@@ -164,7 +164,7 @@ module _ (A : Automaton) (limit : ℕ) (sets0 sets : List (List ℕ)) (answers0 
       differ e = cc
 
   asked_now : (b : ℕ) → x.question ≡ Byte b → asking_of x ≡ asking x.set (byte_read b)
-  asked_now b q = ap (λ (p : Question). asking x.set (asked_by p)) q
+  asked_now b q = ap (λ (p : TableQuestion). asking x.set (question_of p)) q
 
   pub stays_more : (stays0 stays : List (bytes.FinSet nat_cmp)) → AreStays Old stays0 → length stays ≡ length sets →
       ((k b : ℕ) → IsTrue (bytes.contains (get_or stays k bytes.empty) b) ↔ (IsTrue (bytes.contains (get_or stays0 k bytes.empty) b) ⊎ ((k ≡ x.set) × (x.question ≡ Byte b) × (part x.first x.count es ≡ one_edge x.set ∷ [])))) →
@@ -190,13 +190,13 @@ module _ (A : Automaton) (limit : ℕ) (sets0 sets : List (List ℕ)) (answers0 
           by y e (inr (inl h)) =
               let same : asking_of x ≡ asking k (byte_read b) = ap asking_of h ∙ e in
               let set : x.set ≡ k = ap (λ (r : Asking). r.set) same in
-              let q : x.question ≡ Byte b = same_asked x.question (Byte b) (ap (λ (r : Asking). r.ask) same) in
+              let q : x.question ≡ Byte b = same_question x.question (Byte b) (ap (λ (r : Asking). r.ask) same) in
               let has : HasEdges New (asking x.set (byte_read b)) (part x.first x.count es) = subst (λ r. HasEdges New r (part x.first x.count es)) (asked_now b q) (the_edges b q) in
               inr (sym set, q, stays_back New x.set b (part x.first x.count es) apart within (subst (λ s. Stays New s b) (sym set) st) has)
           by y e (inr (inr h)) = absurd h
 
 -- what is noted, of sets and edges that are the same
-pub noted_of : (old old' new : List (bytes.FinSet nat_cmp)) (set : ℕ) (q : Question) (first count : ℕ) (es es' : List Edge) → ((k : ℕ) → get_or old' k bytes.empty ≡ get_or old k bytes.empty) → es' ≡ es →
+pub noted_of : (old old' new : List (bytes.FinSet nat_cmp)) (set : ℕ) (q : TableQuestion) (first count : ℕ) (es es' : List Edge) → ((k : ℕ) → get_or old' k bytes.empty ≡ get_or old k bytes.empty) → es' ≡ es →
     ((k b : ℕ) → IsTrue (bytes.contains (get_or new k bytes.empty) b) ↔ (IsTrue (bytes.contains (get_or old' k bytes.empty) b) ⊎ ((k ≡ set) × (q ≡ Byte b) × (part first count es' ≡ one_edge set ∷ [])))) →
     (k b : ℕ) → IsTrue (bytes.contains (get_or new k bytes.empty) b) ↔ (IsTrue (bytes.contains (get_or old k bytes.empty) b) ⊎ ((k ≡ set) × (q ≡ Byte b) × (part first count es ≡ one_edge set ∷ [])))
 noted_of old old' new set q first count es es' same edges noted k b =
@@ -204,7 +204,7 @@ noted_of old old' new set q first count es es' same edges noted k b =
     (subst (λ (fs : List Edge). IsTrue (bytes.contains (get_or new k bytes.empty) b) ↔ (IsTrue (bytes.contains (get_or old' k bytes.empty) b) ⊎ ((k ≡ set) × (q ≡ Byte b) × (part first count fs ≡ one_edge set ∷ [])))) edges (noted k b))
 
 -- what is noted of the byte of an answer
-pub noted_here : (old : List (bytes.FinSet nat_cmp)) (set byte first count : ℕ) (s one u : bytes.FinSet nat_cmp) (q : Question) (es fs : List Edge) → set < length old → s ≡ get_or old set s →
+pub noted_here : (old : List (bytes.FinSet nat_cmp)) (set byte first count : ℕ) (s one u : bytes.FinSet nat_cmp) (q : TableQuestion) (es fs : List Edge) → set < length old → s ≡ get_or old set s →
     u ≡ bytes.union s one → one ≡ bytes.insert bytes.empty byte → q ≡ Byte byte → fs ≡ part first count es → fs ≡ one_edge set ∷ [] →
     (k b : ℕ) → IsTrue (bytes.contains (get_or (put old set u) k bytes.empty) b) ↔ (IsTrue (bytes.contains (get_or old k bytes.empty) b) ⊎ ((k ≡ set) × (q ≡ Byte b) × (part first count es ≡ one_edge set ∷ [])))
 noted_here old set byte first count s one u q es fs within read union single question edges leads k b =

@@ -6,9 +6,9 @@ use Rattle.span_core.specs.declared.TheConstants.{MOST_VARIABLES}
 use Rattle.span_core.specs.declared.edge.Edge.{Edge}
 use Rattle.span_core.specs.Lists.{Has}
 use Rattle.marked_automaton.specs.Automaton.{Automaton, Marked, IsMarked}
-use Rattle.automaton_reading.specs.Reading.{Asked, byte_read, rest_taken, ended, Reach, edges, set_of}
-use Rattle.set_table.specs.declared.answer.Question.{Question}
-use Rattle.set_table.specs.declared.answer.Question.TheVariants.{Byte, Rest, Ends}
+use Rattle.automaton_reading.specs.Reading.{Question, byte_read, rest_taken, ended, Reach, edges, set_of}
+use Rattle.set_table.specs.declared.answer.TableQuestion.{TableQuestion}
+use Rattle.set_table.specs.declared.answer.TableQuestion.TheVariants.{Byte, Rest, Ends}
 use Rattle.set_table.specs.declared.answer.Answer.{Answer}
 use Rattle.set_table.specs.declared.lists.Added.{Added}
 use Rattle.set_table.specs.declared.lists.Lists.{Lists}
@@ -16,29 +16,29 @@ use Rattle.set_table.specs.declared.store.Store.{Store}
 use Rattle.set_table.specs.Named.{IsLongerBy}
 use Rattle.set_table.specs.Tabled.{Asking, Tabled, IsStateSet, Stays, asked_weight, edge_named, reached, set_at, sets_weight, with_sets}
 
-abbrev pub asked_by : Question → Asked
-asked_by (Byte b) = byte_read b
-asked_by Rest = rest_taken
-asked_by Ends = ended
+abbrev pub question_of : TableQuestion → Question
+question_of (Byte b) = byte_read b
+question_of Rest = rest_taken
+question_of Ends = ended
 
-abbrev pub IsQuestion : Question → Type 0
+abbrev pub IsQuestion : TableQuestion → Type 0
 IsQuestion (Byte b) = b < 256
 IsQuestion Rest = Unit {0}
 IsQuestion Ends = Unit {0}
 
 abbrev pub asking_of : Answer → Asking
-asking_of x = record { set = x.set; ask = asked_by x.question }
+asking_of x = record { set = x.set; ask = question_of x.question }
 
 abbrev pub askings : List Answer → List Asking
 askings xs = map asking_of xs
 
 -- the place of a question among those of a set
-abbrev pub place_of : Question → ℕ
+abbrev pub place_of : TableQuestion → ℕ
 place_of (Byte b) = b
 place_of Rest = 256
 place_of Ends = 257
 
-abbrev pub place_in : ℕ → Question → ℕ
+abbrev pub place_in : ℕ → TableQuestion → ℕ
 place_in k q = 272 * k + place_of q
 
 -- numbers with more that are 0, so many in all
@@ -52,13 +52,13 @@ abbrev pub part : {X : Type 0} → ℕ → ℕ → List X → List X
 part first count xs = take count (drop first xs)
 
 -- an answer, in the words of reading
-abbrev pub answer_in : List (List ℕ) → List Edge → List ℕ → Question → ℕ → ℕ → List Reach
+abbrev pub answer_in : List (List ℕ) → List Edge → List ℕ → TableQuestion → ℕ → ℕ → List Reach
 answer_in sets edges ends (Byte b) first count = map (edge_named sets) (part first count edges)
 answer_in sets edges ends Rest first count = map (edge_named sets) (part first count edges)
 answer_in sets edges ends Ends first count = map end_reach (part first count ends)
 
 -- how many there are of what a question is answered by
-abbrev pub room : List Edge → List ℕ → Question → ℕ
+abbrev pub room : List Edge → List ℕ → TableQuestion → ℕ
 room edges ends (Byte b) = length edges
 room edges ends Rest = length edges
 room edges ends Ends = length ends
@@ -67,7 +67,7 @@ pub record IsAnswer (A : Automaton) (sets : List (List ℕ)) (es : List Edge) (e
   pub set : x.set < length sets
   pub question : IsQuestion x.question
   pub within : x.first + x.count ≤ room es ends x.question
-  pub is : answer_in sets es ends x.question x.first x.count ≡ edges A (set_at sets x.set) (asked_by x.question)
+  pub is : answer_in sets es ends x.question x.first x.count ≡ edges A (set_at sets x.set) (question_of x.question)
 
 -- what a table holds
 pub record IsHeld (A : Automaton) (sets : List (List ℕ)) (answers : List Answer) (es : List Edge) (ends numbers : List ℕ) (w : ℕ) : Type 0 where
@@ -76,7 +76,7 @@ pub record IsHeld (A : Automaton) (sets : List (List ℕ)) (answers : List Answe
   pub answered : (x : Answer) → Has answers x → IsAnswer A sets es ends x
   pub targets : (e : Edge) → Has es e → e.to < length sets
   pub places : length numbers ≡ 272 * length sets
-  pub found : (k : ℕ) (q : Question) (i : ℕ) → k < length sets → IsQuestion q → slice_index numbers (place_in k q) ≡ suc i →
+  pub found : (k : ℕ) (q : TableQuestion) (i : ℕ) → k < length sets → IsQuestion q → slice_index numbers (place_in k q) ≡ suc i →
       (x : Answer) × (slice_get answers i ≡ Some x) × (x.set ≡ k) × (x.question ≡ q)
   pub there : (i : ℕ) (x : Answer) → slice_get answers i ≡ Some x → slice_index numbers (place_in x.set x.question) ≡ suc i
   pub weighs : w ≡ sets_weight sets + asked_weight A sets (askings answers)
@@ -104,20 +104,20 @@ pub record IsSound (M : Marked) (limit w : ℕ) (s : Store) : Type 0 where
 
 -- what is there once an answer is made, before it is kept
 pub record Adds (A : Automaton) (old new : Lists) (x : Answer) (w : ℕ) : Type 0 where
-  pub known : new.sets ≡ with_sets old.sets (reached A (set_at old.sets x.set) (asked_by x.question))
+  pub known : new.sets ≡ with_sets old.sets (reached A (set_at old.sets x.set) (question_of x.question))
   pub edges_longer : IsLongerBy old.edges.items new.edges.items
   pub ends_longer : IsLongerBy old.ends.items new.ends.items
   pub within : x.first + x.count ≡ room new.edges.items new.ends.items x.question
-  pub is : answer_in new.sets new.edges.items new.ends.items x.question x.first x.count ≡ edges A (set_at old.sets x.set) (asked_by x.question)
+  pub is : answer_in new.sets new.edges.items new.ends.items x.question x.first x.count ≡ edges A (set_at old.sets x.set) (question_of x.question)
   pub targets : (e : Edge) → Has new.edges.items e → Has old.edges.items e ⊎ (e.to < length new.sets)
-  pub weighs : sets_weight new.sets + (1 + length (edges A (set_at old.sets x.set) (asked_by x.question))) ≡ sets_weight old.sets + w
+  pub weighs : sets_weight new.sets + (1 + length (edges A (set_at old.sets x.set) (question_of x.question))) ≡ sets_weight old.sets + w
   pub few :
       length new.edges.items + length new.ends.items + 1
-      ≤ length old.edges.items + length old.ends.items + (1 + length (edges A (set_at old.sets x.set) (asked_by x.question)))
+      ≤ length old.edges.items + length old.ends.items + (1 + length (edges A (set_at old.sets x.set) (question_of x.question)))
   pub small : w ≤ 2 ^ 63
 
 -- the answer to this question of this set was added
-abbrev pub HasAdded : Automaton → Lists → Lists → ℕ → Question → Added → Type 0
+abbrev pub HasAdded : Automaton → Lists → Lists → ℕ → TableQuestion → Added → Type 0
 HasAdded A old new k q added = Adds A old new (record { set = k; question = q; first = added.first; count = added.count }) added.weight
 
 -- the lists, and then more

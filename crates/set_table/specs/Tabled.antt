@@ -7,15 +7,15 @@ use Rattle.set_table.specs.declared.fault.TableFault.{TableFault}
 use Rattle.set_table.specs.declared.fault.TableFault.TheVariants.{Full, OutOfMemory}
 use Rattle.span_core.specs.Lists.{Has, AreDistinct, IsInOrder}
 use Rattle.marked_automaton.specs.Automaton.{Automaton}
-use Rattle.automaton_reading.specs.Reading.{Asked, byte_read, rest_taken, ended, asked_same, Reach, edges, is_among, set_of}
+use Rattle.automaton_reading.specs.Reading.{Question, byte_read, rest_taken, ended, question_same, Reach, edges, is_among, set_of}
 
 -- the number of a set, and what is asked of it
 pub record Asking : Type 0 where
   pub set : ℕ
-  pub ask : Asked
+  pub ask : Question
 
 abbrev pub asking_same : Asking → Asking → Bool
-asking_same r s = nat_eq r.set s.set && asked_same r.ask s.ask
+asking_same r s = nat_eq r.set s.set && question_same r.ask s.ask
 
 -- the automaton that is read, the greatest weight, the sets in the order of their numbers, and what
 -- was asked, in the order in which it was
@@ -30,7 +30,7 @@ abbrev pub set_at : List (List ℕ) → ℕ → List ℕ
 set_at sets k = slice_index_or sets k []
 
 -- the sets that an answer leads to; an end leads to none
-abbrev pub reached : Automaton → List ℕ → Asked → List (List ℕ)
+abbrev pub reached : Automaton → List ℕ → Question → List (List ℕ)
 reached A set (byte_read b) = map (λ (e : Reach). e.to) (edges A set (byte_read b))
 reached A set rest_taken = map (λ (e : Reach). e.to) (edges A set rest_taken)
 reached A set ended = []
@@ -63,7 +63,7 @@ was_asked t r = list_any (asking_same r) t.asked
 abbrev pub once_asked : Tabled → Asking → Tabled
 once_asked t r = if was_asked t r then t else asked_first t r
 
-abbrev pub asking : ℕ → Asked → Asking
+abbrev pub asking : ℕ → Question → Asking
 asking set ask = record { set = set; ask = ask }
 
 -- the edges of what was asked

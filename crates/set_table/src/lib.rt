@@ -5,17 +5,17 @@
 #![tactic(auto)]
 
 pub use fault::TableFault;
-pub use sets::Sets;
+pub use numbered_lists::NumberedLists;
 pub use state::TableState;
 pub use table::Table;
 
 mod answer;
 mod fault;
+mod index;
 mod lists;
 mod naming;
-mod places;
+mod numbered_lists;
 mod reaching;
-mod sets;
 mod state;
 mod store;
 mod table;

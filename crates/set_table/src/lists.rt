@@ -2,10 +2,10 @@
 ghost use Rattle.std.specs.Prelude.{◌≡◌, [], ◌∷◌, IfOk};
 ghost use Rattle.set_table.specs.Answered.{AreLonger, HasAdded, IsReady};
 
-use crate::answer::Question;
+use crate::answer::TableQuestion;
 use crate::naming::{put_edges, put_ends, put_rest};
+use crate::numbered_lists::NumberedLists;
 use crate::reaching::{idle_members, put_codes, put_marks};
-use crate::sets::Sets;
 use marked_automaton::Automaton;
 use span_core::{Edge, Marks, OutOfMemory};
 use std::alloc::Global;
@@ -13,7 +13,7 @@ use std::alloc::Global;
 /// Sets with numbers, edges to them, and the marks of ends.
 #[derive(Drop)]
 pub(crate) struct Lists {
-    pub(crate) sets: Sets,
+    pub(crate) sets: NumberedLists,
     pub(crate) edges: Vec<Edge>,
     pub(crate) ends: Vec<Marks>,
     /// Room for what members reach.
@@ -35,7 +35,7 @@ impl Lists {
         ensures edges { IfOk result (λ lists. lists.edges.items ≡ []) }
         ensures ends { IfOk result (λ lists. lists.ends.items ≡ []) }
     {
-        let mut sets = Sets::new(alloc);
+        let mut sets = NumberedLists::new(alloc);
         sets.number_of(start)?;
         Ok(Lists {
             sets,
@@ -52,16 +52,16 @@ impl Lists {
         alloc: Global,
         automaton: &Automaton,
         set: u32,
-        question: Question,
+        question: TableQuestion,
     ) -> Result<Added, OutOfMemory>
         requires { IsReady automaton.now self.old set }
         ensures added { IfOk result (HasAdded automaton.now.graph self.old self.new set question) }
         ensures longer { AreLonger self.old self.new }
     {
         match question {
-            Question::Byte(byte) => self.add_edges(alloc, automaton, set, byte),
-            Question::Rest => self.add_rest(alloc, automaton, set),
-            Question::Ends => self.add_ends(automaton, set),
+            TableQuestion::Byte(byte) => self.add_edges(alloc, automaton, set, byte),
+            TableQuestion::Rest => self.add_rest(alloc, automaton, set),
+            TableQuestion::Ends => self.add_ends(automaton, set),
         }
     }
 
@@ -74,7 +74,7 @@ impl Lists {
         byte: u8,
     ) -> Result<Added, OutOfMemory>
         requires { IsReady automaton.now self.old set }
-        ensures added { IfOk result (HasAdded automaton.now.graph self.old self.new set (Question.Byte byte)) }
+        ensures added { IfOk result (HasAdded automaton.now.graph self.old self.new set (TableQuestion.Byte byte)) }
         ensures longer { AreLonger self.old self.new }
     {
         put_codes(&mut self.codes, automaton, self.sets.at(set as usize), byte)?;
@@ -100,7 +100,7 @@ impl Lists {
         set: u32,
     ) -> Result<Added, OutOfMemory>
         requires { IsReady automaton.now self.old set }
-        ensures added { IfOk result (HasAdded automaton.now.graph self.old self.new set Question.Rest) }
+        ensures added { IfOk result (HasAdded automaton.now.graph self.old self.new set TableQuestion.Rest) }
         ensures longer { AreLonger self.old self.new }
     {
         let idle = idle_members(alloc, automaton, self.sets.at(set as usize))?;
@@ -116,7 +116,7 @@ impl Lists {
     /// Adds the marks of a set's ends.
     fn add_ends(&mut self, automaton: &Automaton, set: u32) -> Result<Added, OutOfMemory>
         requires { IsReady automaton.now self.old set }
-        ensures added { IfOk result (HasAdded automaton.now.graph self.old self.new set Question.Ends) }
+        ensures added { IfOk result (HasAdded automaton.now.graph self.old self.new set TableQuestion.Ends) }
         ensures longer { AreLonger self.old self.new }
     {
         put_marks(

@@ -6,7 +6,7 @@ ghost use Rattle.automaton_reading.specs.Reading.{Reach, rest_edge};
 ghost use Rattle.set_table.specs.Cut.{cut, mark_of, marks_of, to_of};
 ghost use Rattle.set_table.specs.Named.{IsLongerBy, PutsEdges, PutsRun, run};
 
-use crate::sets::Sets;
+use crate::numbered_lists::NumberedLists;
 use span_core::{Edge, Marks, OutOfMemory};
 use std::alloc::Global;
 
@@ -15,7 +15,7 @@ use std::alloc::Global;
 pub(crate) fn put_edges(
     alloc: Global,
     codes: &[u128],
-    sets: &mut Sets,
+    sets: &mut NumberedLists,
     edges: &mut Vec<Edge>,
 ) -> Result<u64, OutOfMemory>
     requires few_codes { length codes.now ≤ 2000000 }
@@ -38,7 +38,7 @@ pub(crate) fn put_edges(
 /// where that is new. On refusal the set may be there.
 pub(crate) fn put_rest(
     idle: Vec<u32>,
-    sets: &mut Sets,
+    sets: &mut NumberedLists,
     edges: &mut Vec<Edge>,
 ) -> Result<u64, OutOfMemory>
     requires few_members { length idle.items ≤ 20000 }
@@ -81,7 +81,7 @@ pub(crate) fn put_ends(codes: &[u128], ends: &mut Vec<Marks>) -> Result<(), OutO
 fn put_edge(
     alloc: Global,
     codes: &[u128],
-    sets: &mut Sets,
+    sets: &mut NumberedLists,
     edges: &mut Vec<Edge>,
 ) -> Result<(usize, u64), OutOfMemory>
     requires some { 0 < length codes.now }

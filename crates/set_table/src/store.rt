@@ -5,15 +5,15 @@
 //! which it stays.
 ghost use Rattle.std.specs.Prelude.{◌≡◌, ℕ, ◌+◌, ◌*◌, ◌^◌, ◌<◌, ◌≤◌, ◌++◌, ◌∷◌, List, [], length, take, slice_set, slice_index_or, ◌↔◌, ◌⊎◌, IsTrue, OnOk, OnErr, IfOk, IfErr};
 ghost use Rattle.std.specs.FinSet as bytes;
-ghost use Rattle.set_table.specs.Answered.{AreLonger, IsQuestion, IsSound, asked_by, askings, part, place_in, tabled, with_places};
+ghost use Rattle.set_table.specs.Answered.{AreLonger, IsQuestion, IsSound, question_of, askings, part, place_in, tabled, with_places};
 ghost use Rattle.span_core.specs.Lists.{Has};
 ghost use Rattle.set_table.specs.Named.{IsLongerBy};
 ghost use Rattle.set_table.specs.Tabled.{IsRefusal, asked_first, asking, one_edge};
 
 use crate::TableFault;
-use crate::answer::{Answer, Question};
+use crate::answer::{Answer, TableQuestion};
+use crate::index::Index;
 use crate::lists::Lists;
-use crate::places::Places;
 use marked_automaton::Automaton;
 use span_core::{ByteSet, Edge, OutOfMemory};
 use std::alloc::Global;
@@ -31,7 +31,7 @@ pub(crate) struct Store {
     pub(crate) lists: Lists,
     pub(crate) answers: Vec<Answer>,
     /// For each set and question the number of its answer and 1, or 0 where it has none.
-    pub(crate) numbers: Places,
+    pub(crate) numbers: Index,
     /// For each set the bytes that were asked of it whose only edge takes no marks and leads to the set itself.
     pub(crate) stays: Vec<ByteSet>,
 }
@@ -48,7 +48,7 @@ impl Store {
         ensures stay_of_each { IfOk result (λ s. length s.stays.items ≡ 1) }
     {
         let lists = Lists::new(alloc, start)?;
-        let mut numbers = Places::new(alloc)?;
+        let mut numbers = Index::new(alloc)?;
         numbers.grow(RUNS)?;
         let mut stays = Vec::new(alloc);
         put_empty(&mut stays, 1)?;
@@ -67,17 +67,17 @@ impl Store {
         &mut self,
         automaton: &Automaton,
         set: u32,
-        question: Question,
+        question: TableQuestion,
         weight: u64,
         limit: u64,
     ) -> Result<u64, TableFault>
         requires sound { IsSound automaton.now limit weight self.old }
         requires set { set < length self.old.lists.sets }
         requires question { IsQuestion question }
-        requires absent { Has (askings self.old.answers.items) (asking set (asked_by question)) → ⊥ }
+        requires absent { Has (askings self.old.answers.items) (asking set (question_of question)) → ⊥ }
         ensures sound { IfOk result (λ w. IsSound automaton.now limit w self.new) }
-        ensures answered { OnOk result (tabled automaton.now.graph limit self.new ≡ asked_first (tabled automaton.now.graph limit self.old) (asking set (asked_by question))) }
-        ensures refused { IfErr result (IsRefusal (asked_first (tabled automaton.now.graph limit self.old) (asking set (asked_by question)))) }
+        ensures answered { OnOk result (tabled automaton.now.graph limit self.new ≡ asked_first (tabled automaton.now.graph limit self.old) (asking set (question_of question))) }
+        ensures refused { IfErr result (IsRefusal (asked_first (tabled automaton.now.graph limit self.old) (asking set (question_of question)))) }
         ensures kept { OnErr result (IsSound automaton.now limit weight self.new) }
         ensures same { OnErr result (tabled automaton.now.graph limit self.new ≡ tabled automaton.now.graph limit self.old) }
     {
@@ -98,17 +98,17 @@ impl Store {
         &mut self,
         automaton: &Automaton,
         set: u32,
-        question: Question,
+        question: TableQuestion,
         weight: u64,
         limit: u64,
     ) -> Result<u64, TableFault>
         requires sound { IsSound automaton.now limit weight self.old }
         requires set { set < length self.old.lists.sets }
         requires question { IsQuestion question }
-        requires absent { Has (askings self.old.answers.items) (asking set (asked_by question)) → ⊥ }
+        requires absent { Has (askings self.old.answers.items) (asking set (question_of question)) → ⊥ }
         ensures sound { IfOk result (λ w. IsSound automaton.now limit w self.new) }
-        ensures answered { OnOk result (tabled automaton.now.graph limit self.new ≡ asked_first (tabled automaton.now.graph limit self.old) (asking set (asked_by question))) }
-        ensures refused { IfErr result (IsRefusal (asked_first (tabled automaton.now.graph limit self.old) (asking set (asked_by question)))) }
+        ensures answered { OnOk result (tabled automaton.now.graph limit self.new ≡ asked_first (tabled automaton.now.graph limit self.old) (asking set (question_of question))) }
+        ensures refused { IfErr result (IsRefusal (asked_first (tabled automaton.now.graph limit self.old) (asking set (question_of question)))) }
         ensures longer { AreLonger self.old.lists self.new.lists }
         ensures answers { OnErr result (self.new.answers.items ≡ self.old.answers.items) }
         ensures numbers { OnErr result (IsLongerBy self.old.numbers self.new.numbers) }
@@ -191,11 +191,11 @@ fn put_empty(stays: &mut Vec<ByteSet>, count: usize) -> Result<(), OutOfMemory>
 fn note_stay(stays: &mut Vec<ByteSet>, edges: &[Edge], answer: Answer)
     requires set { answer.set < length stays.old.items }
     requires question { IsQuestion answer.question }
-    requires within { answer.question ≡ Question.Ends ⊎ (answer.first + answer.count ≤ length edges.now) }
+    requires within { answer.question ≡ TableQuestion.Ends ⊎ (answer.first + answer.count ≤ length edges.now) }
     ensures length { length stays.new.items ≡ length stays.old.items }
-    ensures noted { (k b : ℕ) → IsTrue (bytes.contains (slice_index_or stays.new.items k bytes.empty) b) ↔ (IsTrue (bytes.contains (slice_index_or stays.old.items k bytes.empty) b) ⊎ ((k ≡ answer.set) × (answer.question ≡ Question.Byte b) × (part answer.first answer.count edges.now ≡ one_edge answer.set ∷ []))) }
+    ensures noted { (k b : ℕ) → IsTrue (bytes.contains (slice_index_or stays.new.items k bytes.empty) b) ↔ (IsTrue (bytes.contains (slice_index_or stays.old.items k bytes.empty) b) ⊎ ((k ≡ answer.set) × (answer.question ≡ TableQuestion.Byte b) × (part answer.first answer.count edges.now ≡ one_edge answer.set ∷ []))) }
 {
-    if let Question::Byte(byte) = answer.question {
+    if let TableQuestion::Byte(byte) = answer.question {
         let edges = edges_part(edges, answer.first as usize, answer.count as usize);
         if leads_back(edges, answer.set) {
             let at = answer.set as usize;
@@ -229,13 +229,13 @@ fn leads_back(edges: &[Edge], set: u32) -> bool
 }
 
 /// The place of a set's question among the numbers.
-pub(crate) fn place_of(set: u32, question: Question) -> usize
+pub(crate) fn place_of(set: u32, question: TableQuestion) -> usize
     ensures { result ≡ place_in set question }
 {
     let place = match question {
-        Question::Byte(byte) => usize::from(byte),
-        Question::Rest => 256,
-        Question::Ends => 257,
+        TableQuestion::Byte(byte) => usize::from(byte),
+        TableQuestion::Rest => 256,
+        TableQuestion::Ends => 257,
     };
     PLACES * set as usize + place
 }

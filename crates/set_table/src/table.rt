@@ -10,9 +10,9 @@ ghost use Rattle.set_table.specs.Lending.{Leaves};
 ghost use Rattle.span_core.specs.Lists.{Has};
 ghost use Rattle.set_table.specs.Tabled.{Asking, HasEdges, HasEnds, HasRest, IsRefusal, IsStateSet, IsTabled, Stays, asked_first, asking, fresh, once_asked, set_at, weight};
 ghost use Rattle.set_table.specs.Laid.{IsStateOf, taken_up};
-ghost use Rattle.set_table.specs.Answered.{IsQuestion, asked_by, part};
+ghost use Rattle.set_table.specs.Answered.{IsQuestion, question_of, part};
 
-use crate::answer::Question;
+use crate::answer::TableQuestion;
 use crate::reaching::start_set;
 use crate::store::{Store, edges_part, place_of};
 use crate::{TableFault, TableState};
@@ -177,7 +177,7 @@ impl<'a> Table<'a> {
         ensures steps { steps.new ≡ steps.old + 1 }
     {
         steps.tick();
-        let number = self.ask(set, Question::Byte(byte))?;
+        let number = self.ask(set, TableQuestion::Byte(byte))?;
         Ok(self.edges_at(number))
     }
 
@@ -190,7 +190,10 @@ impl<'a> Table<'a> {
         if self.store.lists.sets.len() <= set as usize {
             return None;
         }
-        let number = self.store.numbers.at(place_of(set, Question::Byte(byte)));
+        let number = self
+            .store
+            .numbers
+            .at(place_of(set, TableQuestion::Byte(byte)));
         if number == 0 {
             return None;
         }
@@ -212,7 +215,7 @@ impl<'a> Table<'a> {
         ensures steps { steps.new ≡ steps.old + 1 }
     {
         steps.tick();
-        let number = self.ask(set, Question::Rest)?;
+        let number = self.ask(set, TableQuestion::Rest)?;
         let edges = self.edges_at(number);
         if edges.is_empty() {
             Ok(None)
@@ -233,18 +236,18 @@ impl<'a> Table<'a> {
         ensures steps { steps.new ≡ steps.old + 1 }
     {
         steps.tick();
-        let number = self.ask(set, Question::Ends)?;
+        let number = self.ask(set, TableQuestion::Ends)?;
         Ok(self.marks_at(number))
     }
 
     /// The number of the answer to a question, which is made now if it was not asked before.
-    fn ask(&mut self, set: u32, question: Question) -> Result<usize, TableFault>
+    fn ask(&mut self, set: u32, question: TableQuestion) -> Result<usize, TableFault>
         requires set { set < length self.old.sets }
         requires question { IsQuestion question }
-        ensures asked { OnOk result (self.new ≡ once_asked self.old (asking set (asked_by question))) }
-        ensures number { IfOk result (λ i. slice_get self.new.asked i ≡ Some (asking set (asked_by question))) }
+        ensures asked { OnOk result (self.new ≡ once_asked self.old (asking set (question_of question))) }
+        ensures number { IfOk result (λ i. slice_get self.new.asked i ≡ Some (asking set (question_of question))) }
         ensures err { OnErr result (self.new ≡ self.old) }
-        ensures refused { IfErr result (IsRefusal (once_asked self.old (asking set (asked_by question)))) }
+        ensures refused { IfErr result (IsRefusal (once_asked self.old (asking set (question_of question)))) }
     {
         let number = self.store.numbers.at(place_of(set, question));
         if number != 0 {
@@ -257,14 +260,14 @@ impl<'a> Table<'a> {
     /// table is as before.
     #[cold]
     #[inline(never)]
-    fn answer(&mut self, set: u32, question: Question) -> Result<usize, TableFault>
+    fn answer(&mut self, set: u32, question: TableQuestion) -> Result<usize, TableFault>
         requires set { set < length self.old.sets }
         requires question { IsQuestion question }
-        requires absent { Has self.old.asked (asking set (asked_by question)) → ⊥ }
-        ensures asked { OnOk result (self.new ≡ asked_first self.old (asking set (asked_by question))) }
-        ensures number { IfOk result (λ i. slice_get self.new.asked i ≡ Some (asking set (asked_by question))) }
+        requires absent { Has self.old.asked (asking set (question_of question)) → ⊥ }
+        ensures asked { OnOk result (self.new ≡ asked_first self.old (asking set (question_of question))) }
+        ensures number { IfOk result (λ i. slice_get self.new.asked i ≡ Some (asking set (question_of question))) }
         ensures err { OnErr result (self.new ≡ self.old) }
-        ensures refused { IfErr result (IsRefusal (asked_first self.old (asking set (asked_by question)))) }
+        ensures refused { IfErr result (IsRefusal (asked_first self.old (asking set (question_of question)))) }
     {
         let automaton = self.automaton;
         self.weight = self

@@ -5,7 +5,7 @@ use Rattle.std.specs.List.{sum_by}
 use Rattle.std.specs.Str.{bytes_eq}
 use Rattle.span_core.specs.Lists.{Has}
 use Rattle.marked_automaton.specs.Automaton.{Automaton}
-use Rattle.automaton_reading.specs.Reading.{Asked, Row, asked, byte_read, ended, rest_taken, rows_asked, once, rows_read, set_of, weight_K}
+use Rattle.automaton_reading.specs.Reading.{Question, LookUp, questions, byte_read, ended, rest_taken, look_ups_asked, once, look_ups_read, set_of, weight_K}
 use Rattle.automaton_reading.proofs.Matching.{cons_sum, once_has}
 use Rattle.automaton_reading.proofs.MeasureLaws.{bytes_itself, same_bytes}
 use Rattle.set_table.specs.Tabled.{IsRefusal, fresh, weight}
@@ -21,22 +21,22 @@ sum_has v (y ∷ xs) x (inr h) = omega (arith, cons_sum v y xs, sum_has v xs x h
 
 module _ (A : Automaton) (d : List ℕ) (K : ℕ → Bool) where
   -- something is asked of the start states
-  first_asked : (d : List ℕ) → (a : Asked) × (later : List Asked) × (asked K d 0 false ≡ a ∷ later)
+  first_asked : (d : List ℕ) → (a : Question) × (later : List Question) × (questions K d 0 false ≡ a ∷ later)
   first_asked [] = by (K 0)
     where
-      by : (b : Bool) → (a : Asked) × (later : List Asked) × ((if b || false then ended ∷ [] else rest_taken ∷ ended ∷ []) ≡ a ∷ later)
+      by : (b : Bool) → (a : Question) × (later : List Question) × ((if b || false then ended ∷ [] else rest_taken ∷ ended ∷ []) ≡ a ∷ later)
       by true = (ended, [], refl)
       by false = (rest_taken, ended ∷ [], refl)
-  first_asked (x ∷ d) = by (K 0) (asked K d 1 false) (asked K d 1 true)
+  first_asked (x ∷ d) = by (K 0) (questions K d 1 false) (questions K d 1 true)
     where
-      by : (b : Bool) (near far : List Asked) → (a : Asked) × (later : List Asked) × ((if b then byte_read x ∷ near else rest_taken ∷ far) ≡ a ∷ later)
+      by : (b : Bool) (near far : List Question) → (a : Question) × (later : List Question) × ((if b then byte_read x ∷ near else rest_taken ∷ far) ≡ a ∷ later)
       by true near far = (byte_read x, near, refl)
       by false near far = (rest_taken, far, refl)
 
-  start_there : Has (map (λ (r : Row). r.set) (rows_read A d K)) (set_of A.starts)
+  start_there : Has (map (λ (r : LookUp). r.set) (look_ups_read A d K)) (set_of A.starts)
   start_there =
       let f = first_asked d in
-      subst (λ (questions : List Asked). Has (map (λ (r : Row). r.set) (rows_asked A (set_of A.starts ∷ []) questions)) (set_of A.starts)) (sym f.2) (inl refl)
+      subst (λ (these : List Question). Has (map (λ (r : LookUp). r.set) (look_ups_asked A (set_of A.starts ∷ []) these)) (set_of A.starts)) (sym f.2) (inl refl)
 
   start_weight : (limit : ℕ) → weight (fresh A limit) ≤ weight_K A d K
   start_weight limit =
@@ -44,8 +44,8 @@ module _ (A : Automaton) (d : List ℕ) (K : ℕ → Bool) where
       omega (
         arith,
         cons_sum f (set_of A.starts) [],
-        sum_has f (once bytes_eq (map (λ (r : Row). r.set) (rows_read A d K))) (set_of A.starts)
-            (once_has bytes_eq same_bytes bytes_itself (map (λ (r : Row). r.set) (rows_read A d K)) (set_of A.starts) start_there),
+        sum_has f (once bytes_eq (map (λ (r : LookUp). r.set) (look_ups_read A d K))) (set_of A.starts)
+            (once_has bytes_eq same_bytes bytes_itself (map (λ (r : LookUp). r.set) (look_ups_read A d K)) (set_of A.starts) start_there),
       )
 
   -- a table that is not made is refused for what reading weighs

@@ -63,7 +63,7 @@ pub enum BeginFault {
 /// more than what is weighed.
 ///
 /// The steps are counted on the same automaton: 8 for each position and one more, 8 for each edge, 1 and
-/// the automaton's size for each row; and with the filter what it takes to find the positions of each atom. To
+/// the automaton's size for each look-up; and with the filter what it takes to find the positions of each atom. To
 /// go to the place after a row takes one step for each edge and one more, which is less than the `2v + 1` for
 /// each cell and one more that are allowed with v variables.
 pub fn begin<L: Ledger>(

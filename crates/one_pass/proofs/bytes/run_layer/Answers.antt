@@ -2,7 +2,7 @@ use Rattle.std.proofs.Common.{◌≡◌, ◌-◌, Some, subst, arith}
 use Rattle.std.specs.Prelude.{slice_get}
 use Rattle.std.proofs.lemmas.Option.{slice_get_read, slice_get_within}
 use Rattle.output_graph.specs.Graph.{sets_of}
-use Rattle.one_pass.specs.Known.{AreRows, AreStill, layer_at}
+use Rattle.one_pass.specs.Known.{AreLookUps, AreStill, layer_at}
 use Rattle.one_pass.specs.Seen.{held}
 use Rattle.one_pass.proofs.KnownLaws.{entry_step, entry_still, layer_is, step_is}
 use Rattle.one_pass.proofs.Results.{some_next}
@@ -26,8 +26,8 @@ index-requires g c =
     let w = slice_get_within k.steps.items (c.entry-entry.result - 2) s.0 s.1 in
     omega arith
 
-pub run_step-requires-clause-rows : goal.run_step-requires-clause-rows
-run_step-requires-clause-rows g c =
+pub run_step-requires-clause-look_ups : goal.run_step-requires-clause-look_ups
+run_step-requires-clause-look_ups g c =
     let k = c.args.known.now in
     let T = c.args.table.now in
     let has = k.steps.ok.0 in
@@ -36,8 +36,8 @@ run_step-requires-clause-rows g c =
     let read : slice_get k.steps.items (c.entry-entry.result - 2) ≡ Some c.index.result.now = slice_get_read _ _ _ _ has (omega arith) c.index.ensures in
     let same = step_is k.steps.items (c.entry-entry.result - 2) s.0 c.index.result.now s.1 read in
     let is = layer_is k.layers c.args.layer (sets_of c.args.graph.now.layer) c.requires.stands in
-    subst (λ sets. AreRows (held T) c.args.byte sets c.index.result.now.program.groups) is
-    (subst (λ x. AreRows (held T) c.args.byte (layer_at k.layers c.args.layer) x.program.groups) same s.2.rows)
+    subst (λ sets. AreLookUps (held T) c.args.byte sets c.index.result.now.program.groups) is
+    (subst (λ x. AreLookUps (held T) c.args.byte (layer_at k.layers c.args.layer) x.program.groups) same s.2.look_ups)
 
 pub returns-clause-stands : goal.returns-clause-stands
 returns-clause-stands g c =

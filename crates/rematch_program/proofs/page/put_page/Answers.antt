@@ -1,5 +1,5 @@
 use Rattle.std.proofs.Common.{List, ℕ, sym, ap, ◌∙◌, length, subst}
-use Rattle.command_line.specs.Asked.{request_view}
+use Rattle.command_line.specs.RequestView.{request_view}
 use Rattle.rm_outside.specs.Change.{change, Adds, AddsPart}
 use Rattle.spanner_engine.specs.Left.{Source}
 use Rattle.rematch_program.specs.Taking.{coming, page_rows}

@@ -17,8 +17,8 @@ pub returns-in-Ok-clause-fits : goal.returns-in-Ok-clause-fits
 returns-in-Ok-clause-fits g c =
     fits_unless (length c.args.document.now) (option_copied c.args.after) (λ other keeps. let is = c.in-Ok.ensures.other other keeps in cc) (λ past. let is = c.in-Ok.ensures.place past in cc)
 
-pub returns-in-Err-CursorOther-clause-ending : goal.returns-in-Err-CursorOther-clause-ending
-returns-in-Err-CursorOther-clause-ending g c =
+pub returns-in-Err-CursorOther-clause-outcome : goal.returns-in-Err-CursorOther-clause-outcome
+returns-in-Err-CursorOther-clause-outcome g c =
     let d = c.args.document.now in
     let r = c.args.request.now in
     let P : BeginFault → Type 0 = λ fault. IsBeginFault (query_of c.args.compiled.now.query) d r.filter (option_copied c.args.after) r.max_table fault in
@@ -30,15 +30,15 @@ returns-in-Err-CursorOther-clause-ending g c =
       | inr is ↦ by_memory is c.in-Err-CursorOther.ensures.steps
     ]
 
-pub returns-in-Err-CursorPlace-clause-ending : goal.returns-in-Err-CursorPlace-clause-ending
-returns-in-Err-CursorPlace-clause-ending g c =
+pub returns-in-Err-CursorPlace-clause-outcome : goal.returns-in-Err-CursorPlace-clause-outcome
+returns-in-Err-CursorPlace-clause-outcome g c =
     let r = c.args.request.now in
     let P : BeginFault → Type 0 = λ fault. IsBeginFault (query_of c.args.compiled.now.query) c.args.document.now r.filter (option_copied c.args.after) r.max_table fault in
     past_the_document (subst P c.in-Err-CursorPlace.field-0-is c.in-Err-CursorPlace.ensures.fault)
     (record { ends = c.fixed.ensures.status; says = search rules }) (c.in-Err-CursorPlace.ensures.still 0 0 (inl (ap Err c.in-Err-CursorPlace.field-0-is)))
 
-pub returns-in-Err-Filter-clause-ending : goal.returns-in-Err-Filter-clause-ending
-returns-in-Err-Filter-clause-ending g c =
+pub returns-in-Err-Filter-clause-outcome : goal.returns-in-Err-Filter-clause-outcome
+returns-in-Err-Filter-clause-outcome g c =
     let q = query_of c.args.compiled.now.query in
     let d = c.args.document.now in
     let r = c.args.request.now in
@@ -51,8 +51,8 @@ returns-in-Err-Filter-clause-ending g c =
       | inr is ↦ by_memory is c.in-Err-Filter.ensures.steps
     ]
 
-pub returns-in-Err-Table-clause-ending : goal.returns-in-Err-Table-clause-ending
-returns-in-Err-Table-clause-ending g c =
+pub returns-in-Err-Table-clause-outcome : goal.returns-in-Err-Table-clause-outcome
+returns-in-Err-Table-clause-outcome g c =
     let q = query_of c.args.compiled.now.query in
     let d = c.args.document.now in
     let r = c.args.request.now in

@@ -17,5 +17,5 @@ told q (Ways count) end note large (inl h) = by_ways count large h.1
 told q OutOfMemory end note large (inl h) = absurd (h.0 refl)
 told q fault end note large (inr is) = by_memory is
 
-pub returns-in-Err-clause-ending : goal.returns-in-Err-clause-ending
-returns-in-Err-clause-ending c = told (query_of c.args.query.now) c.in-Err.fault c.too_large.result.status (note_bytes c.too_large.result.note) c.in-Err.ensures.fault c.too_large.ensures
+pub returns-in-Err-clause-outcome : goal.returns-in-Err-clause-outcome
+returns-in-Err-clause-outcome c = told (query_of c.args.query.now) c.in-Err.fault c.too_large.result.status (note_bytes c.too_large.result.note) c.in-Err.ensures.fault c.too_large.ensures

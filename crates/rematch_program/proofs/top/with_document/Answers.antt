@@ -1,6 +1,6 @@
 use Rattle.std.proofs.Common.{◌≡◌, rules, subst, List}
 use Rattle.std.specs.Option.{option_copied}
-use Rattle.command_line.specs.Asked.{request_view}
+use Rattle.command_line.specs.RequestView.{request_view}
 use Rattle.spanner_model.specs.Captures.{VarName}
 use Rattle.spanner_model.specs.ExprView.{query_of}
 use Rattle.spanner_engine.specs.Left.{Source, over}
@@ -33,4 +33,4 @@ returns-in-Ok g c =
     }
 
 pub returns-in-Err : goal.returns-in-Err
-returns-in-Err g c = record { case = not_begun c.in-Err.ensures.ending (search rules) }
+returns-in-Err g c = record { case = not_begun c.in-Err.ensures.outcome (search rules) }

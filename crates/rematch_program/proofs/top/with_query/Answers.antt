@@ -1,5 +1,5 @@
 use Rattle.std.proofs.Common.{refl, sym, subst}
-use Rattle.command_line.specs.Asked.{request_view}
+use Rattle.command_line.specs.RequestView.{request_view}
 use Rattle.spanner_model.specs.declared.query.Query.{Query}
 use Rattle.spanner_model.specs.ExprView.{query_of}
 use Rattle.spanner_model.specs.Answers.{AreResultNames}
@@ -9,7 +9,7 @@ use Rattle.std.proofs.Common.{None}
 use Rattle.rm_outside.specs.Change.{change}
 use Rattle.rematch_program.specs.Work.{clock, work}
 use Rattle.note_texts.specs.Notes.{note_bytes}
-use Rattle.rematch_program.specs.Run.{FromCursor, FromDocument, compiled, explained, page_asked, store, too_large, trial_asked}
+use Rattle.rematch_program.specs.Run.{FromCursor, FromDocument, compiled, explained, page_asked, shelved, too_large, trial_asked}
 use Rattle.rematch_program.proofs.Completeness.{plain_wants, trial_wants}
 use Rattle.rematch_program.proofs.top.with_query.Goals as goal
 
@@ -32,14 +32,14 @@ returns-in-Ok g c =
     let P : Query → Type 0 = λ q. FromCursor (request_view c.args.request.now) (query_of q) checks
     (work (change (g.O.Sink.told c.args.out.now) (g.O.Sink.told c.with_cursor.new.out)) (clock c.args.steps.now c.with_cursor.new.steps))
     c.with_cursor.result.status (note_bytes c.with_cursor.result.note)
-    (store (g.S.Shelf.told c.args.shelf.now) (g.S.Shelf.told c.with_cursor.new.shelf)) names in
+    (shelved (g.S.Shelf.told c.args.shelf.now) (g.S.Shelf.told c.with_cursor.new.shelf)) names in
     record {
       case = compiled (plain_wants (request_view c.args.request.now).mode c.in-Plain.is) c.in-Ok.ensures.small
           (page_asked c.in-Plain.is names c.in-Ok.ensures.names (subst P c.in-Ok.ensures.query c.with_cursor.ensures.case));
     }
 
 pub returns-in-Err : goal.returns-in-Err
-returns-in-Err g c = record { case = too_large (plain_wants (request_view c.args.request.now).mode c.in-Plain.is) c.in-Err.ensures.ending (refl, (refl, refl)) }
+returns-in-Err g c = record { case = too_large (plain_wants (request_view c.args.request.now).mode c.in-Plain.is) c.in-Err.ensures.outcome (refl, (refl, refl)) }
 
 pub returns-in-Ok-compiled_query : goal.returns-in-Ok-compiled_query
 returns-in-Ok-compiled_query g c =
@@ -54,4 +54,4 @@ returns-in-Ok-compiled_query g c =
     }
 
 pub returns-in-Err-compiled_query : goal.returns-in-Err-compiled_query
-returns-in-Err-compiled_query g c = record { case = too_large (trial_wants (request_view c.args.request.now).mode c.in-Trial.lines c.in-Trial.is) c.in-Err-compiled_query.ensures.ending (refl, (refl, refl)) }
+returns-in-Err-compiled_query g c = record { case = too_large (trial_wants (request_view c.args.request.now).mode c.in-Trial.lines c.in-Trial.is) c.in-Err-compiled_query.ensures.outcome (refl, (refl, refl)) }

@@ -1,5 +1,5 @@
 use Rattle.std.proofs.Common.{◌≡◌, None, List, subst}
-use Rattle.command_line.specs.Asked.{request_view}
+use Rattle.command_line.specs.RequestView.{request_view}
 use Rattle.spanner_model.specs.Captures.{VarName}
 use Rattle.spanner_model.specs.ExprView.{query_of}
 use Rattle.spanner_engine.specs.Left.{Source, over}

@@ -1,5 +1,5 @@
 use Rattle.std.proofs.Common.{rules}
-use Rattle.command_line.specs.Asked.{request_view}
+use Rattle.command_line.specs.RequestView.{request_view}
 use Rattle.rematch_program.specs.Run.{accepted}
 use Rattle.rematch_program.proofs.top.with_words.Goals as goal
 

@@ -10,7 +10,7 @@ use Rattle.segment_filter.proofs.reading.read_back.Goals as goal
 pub loop-k-init : goal.loop-k-init
 loop-k-init g c =
     let t = c.args.table.now in
-    let r = first_kept t (reverse c.args.doc.now) (numbers_of c.in_ok-kept.kept) (numbers_of c.in_ok-none.none) c.start-set.result c.start-set.ensures.tabled c.start-set.ensures.value c.in_ok-none.ensures c.in_ok-kept.ensures in
+    let r = first_kept t (reverse c.args.doc.now) (numbers_of c.in_ok-numbers.numbers) (numbers_of c.in_ok-none.none) c.start-set.result c.start-set.ensures.tabled c.start-set.ensures.value c.in_ok-none.ensures c.in_ok-numbers.ensures in
     record { grows = grows_not t t refl; count = r.0; led = r.1; reading = reading_starts t (reverse c.args.doc.now) c.start-set.result c.args.steps.now c.requires.fresh c.start-set.ensures.value c.start-set.ensures.tabled; here = r.2 }
 
 pub returns-in-None-clause-ok : goal.returns-in-None-clause-ok
@@ -23,12 +23,12 @@ returns-in-None-clause-ok g c =
     let l : k < length d = omega arith in
     let inv = c.loop-k.invariant in
     let ok = c.in-Ok.ensures.ok in
-    all_kept new d (numbers_of c.loop-k.kept) k l inv.count
-    (next_led new old first (reverse d) k c.loop-k.set _ c.requires.plain inv.grows c.in-Ok.ensures.tabled ok.0 (byte_at_end d k l) inv.here (numbers_of c.loop-k.kept) inv.led)
+    all_kept new d (numbers_of c.loop-k.numbers) k l inv.count
+    (next_led new old first (reverse d) k c.loop-k.set _ c.requires.plain inv.grows c.in-Ok.ensures.tabled ok.0 (byte_at_end d k l) inv.here (numbers_of c.loop-k.numbers) inv.led)
     (next_none new old first (reverse d) k c.loop-k.set _ c.requires.plain inv.grows c.in-Ok.ensures.tabled ok.0 (byte_at_end d k l) inv.here c.in-Ok.next ok.1 c.in-None.is)
 
-pub returns-in_err-kept-2-clause-grows : goal.returns-in_err-kept-2-clause-grows
-returns-in_err-kept-2-clause-grows g c =
+pub returns-in_err-numbers-2-clause-grows : goal.returns-in_err-numbers-2-clause-grows
+returns-in_err-numbers-2-clause-grows g c =
     let d = c.args.doc.now in
     let k = c.loop-k.k in
     let l : k < length d = omega arith in
@@ -48,8 +48,8 @@ loop-k-preserved g c =
     let ok = c.in-Ok.ensures.ok in
     let tabled = c.in-Ok.ensures.tabled in
     let here = next_some new old first (reverse d) k c.loop-k.set _ c.requires.plain inv.grows tabled ok.0 (byte_at_end d k l) inv.here c.in-Ok.next c.in-Some.to ok.1 c.in-Some.is in
-    let led = next_led new old first (reverse d) k c.loop-k.set _ c.requires.plain inv.grows tabled ok.0 (byte_at_end d k l) inv.here (numbers_of c.loop-k.kept) inv.led in
-    let r = more_kept new (reverse d) (numbers_of c.in_ok-kept-2.kept) (numbers_of c.loop-k.kept) k c.in-Some.to inv.count led here c.in_ok-kept-2.ensures in
+    let led = next_led new old first (reverse d) k c.loop-k.set _ c.requires.plain inv.grows tabled ok.0 (byte_at_end d k l) inv.here (numbers_of c.loop-k.numbers) inv.led in
+    let r = more_kept new (reverse d) (numbers_of c.in_ok-numbers-2.numbers) (numbers_of c.loop-k.numbers) k c.in-Some.to inv.count led here c.in_ok-numbers-2.ensures in
     record {
       grows = next_grows new old first (reverse d) k c.loop-k.set _ c.requires.plain inv.grows tabled ok.0 (byte_at_end d k l) inv.here;
       count = r.0;
@@ -101,8 +101,8 @@ returns-in-None-clause-steps g c =
     (reading_ends first old (reverse d) k c.loop-k.set c.args.steps.now c.loop-k.steps c.loop-k.invariant.reading (get_or d (length d - 1 - k) 0) c.next.new.steps (byte_at_end d k l)
     c.next.ensures.again c.next.ensures.steps new c.in-Ok.ensures.ok.0 (length d) l).1
 
-pub returns-in_err-kept-2-clause-steps : goal.returns-in_err-kept-2-clause-steps
-returns-in_err-kept-2-clause-steps g c =
+pub returns-in_err-numbers-2-clause-steps : goal.returns-in_err-numbers-2-clause-steps
+returns-in_err-numbers-2-clause-steps g c =
     let new = c.next.new.self in
     let old = c.loop-k.table in
     let first = c.args.table.now in

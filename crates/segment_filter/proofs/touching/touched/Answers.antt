@@ -10,7 +10,7 @@ use Rattle.spanner_model.specs.View.{tree_of}
 use Rattle.segment_filter.specs.Costs.{backward_of, filter_weight, forward_of, pairs_met}
 use Rattle.segment_filter.specs.Sets.{MeetAt}
 use Rattle.filter_laws.specs.Touching.{IsTouchedBy}
-use Rattle.segment_filter.specs.Weights.{IsFullWithin, reading_rows, reading_weight}
+use Rattle.segment_filter.specs.Weights.{IsFullWithin, reading_look_ups, reading_weight}
 use Rattle.segment_filter.proofs.Results.{fault_by, ok_by, on_ok}
 use Rattle.segment_filter.proofs.CostLaws.{steps_within}
 use Rattle.segment_filter.proofs.WeightLaws.{full_wider}
@@ -61,6 +61,6 @@ returns-clause-steps g c =
     let F = c.in-Ok.readings.forward.graph in
     let R = c.in-Ok.readings.backward.graph in
     let costs = c.in-Ok.ensures.costs in
-    steps_within c.args.steps.now c.touched_by.new.steps (length d) (size R) (size F) (size (atom_automaton names s t f)) (reading_rows F d) (reading_rows R (reverse d))
-    (reading_rows (forward_of names s t f) d) (reading_rows (backward_of names t f) (reverse d)) (pairs_met (forward_of names s t f) (backward_of names t f) d)
+    steps_within c.args.steps.now c.touched_by.new.steps (length d) (size R) (size F) (size (atom_automaton names s t f)) (reading_look_ups F d) (reading_look_ups R (reverse d))
+    (reading_look_ups (forward_of names s t f) d) (reading_look_ups (backward_of names t f) (reverse d)) (pairs_met (forward_of names s t f) (backward_of names t f) d)
     c.touched_by.ensures.steps costs.behind_size costs.ahead_size (costs.behind (reverse d)).1 (costs.ahead d).1

@@ -16,4 +16,4 @@ enter-requires-clause-entry c =
     let has = s.steps.ok.0 in
     let place : c.len-place.result ≡ length s.steps.items = omega arith in
     subst (λ xs. IsEntry (held c.args.table.now) s.layers xs c.args.byte (layer_at s.layers c.args.layer) (c.len-place.result + 2)) (sym c.in-Ok.ensures.items)
-    (entry_last (held c.args.table.now) s.layers s.steps.items c.args.step c.args.byte (layer_at s.layers c.args.layer) c.len-place.result _ place refl c.requires.step.rows c.requires.step.next)
+    (entry_last (held c.args.table.now) s.layers s.steps.items c.args.step c.args.byte (layer_at s.layers c.args.layer) c.len-place.result _ place refl c.requires.step.look_ups c.requires.step.next)

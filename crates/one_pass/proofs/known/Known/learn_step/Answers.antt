@@ -1,5 +1,5 @@
 use Rattle.std.proofs.Common.{Some, sym, subst, ap, ◌∙◌}
-use Rattle.one_pass.specs.Known.{AreRows}
+use Rattle.one_pass.specs.Known.{AreLookUps}
 use Rattle.one_pass.specs.Seen.{held}
 use Rattle.one_pass.proofs.KnownLaws.{layer_kept}
 use Rattle.one_pass.proofs.known.Known.learn_step.Goals as goal
@@ -17,6 +17,6 @@ pub add_step-requires-clause-step : goal.add_step-requires-clause-step
 add_step-requires-clause-step c =
     let kept = layer_kept _ _ c.args.layer c.number.ensures.layers c.requires.within in
     record {
-      rows = subst (λ sets. AreRows (held c.args.table.now) c.args.byte sets c.args.program.groups) (sym kept.1) c.requires.rows;
+      look_ups = subst (λ sets. AreLookUps (held c.args.table.now) c.args.byte sets c.args.program.groups) (sym kept.1) c.requires.look_ups;
       next = c.in-Some.ensures.number ∙ ap Some (c.in-Ok.ensures ∙ c.targets.ensures);
     }

@@ -1,9 +1,9 @@
 use Rattle.std.proofs.Common.{◌≡◌, ℕ, ◌<◌, ◌-◌, Some, length, get_or, sym, ap, subst, arith, ◌∙◌}
 use Rattle.std.specs.Prelude.{slice_get}
 use Rattle.std.proofs.lemmas.Option.{slice_get_within}
-use Rattle.automaton_reading.specs.Reading.{Asked, byte_read, ended}
-use Rattle.set_table.specs.declared.answer.Question.{Question}
-use Rattle.set_table.specs.declared.answer.Question.TheVariants.{Byte}
+use Rattle.automaton_reading.specs.Reading.{Question, byte_read, ended}
+use Rattle.set_table.specs.declared.answer.TableQuestion.{TableQuestion}
+use Rattle.set_table.specs.declared.answer.TableQuestion.TheVariants.{Byte}
 use Rattle.set_table.specs.Tabled.{Asking, Tabled, asking}
 use Rattle.set_table.specs.Answered.{place_in}
 use Rattle.span_core.specs.Lists.{Has}
@@ -11,7 +11,7 @@ use Rattle.span_core.proofs.HasLaws.{Has-slice_get}
 use Rattle.set_table.proofs.HeldLaws.{number_absent, number_found}
 use Rattle.set_table.proofs.table.Table.asked_row.Goals as goal
 
-not_ended : (b : Asked) (r : Asking) (k n : ℕ) → Some (asking k b) ≡ Some r → r.ask ≡ b
+not_ended : (b : Question) (r : Asking) (k n : ℕ) → Some (asking k b) ≡ Some r → r.ask ≡ b
 not_ended b r k n e = cc
 
 byte_is_no_end : (b : ℕ) → byte_read b ≡ ended → ⊥
@@ -22,7 +22,7 @@ edges_at-requires-clause-within c =
     let i = c.self.inside in
     let s = i.store in
     let k = c.args.set in
-    let q : Question = Byte c.args.byte in
+    let q : TableQuestion = Byte c.args.byte in
     let within : k < length s.lists.sets = omega (arith, c.if-len-set.false, c.len.ensures.value) in
     let small : c.args.byte < 256 = c.ranges.byte.fits in
     let read : get_or s.numbers (place_in k q) 0 ≡ c.at-number.result = sym (c.at-number.ensures ∙ ap (λ p. get_or s.numbers p 0) c.place_of.ensures) in
@@ -36,7 +36,7 @@ edges_at-requires-clause-edges c = λ r there is.
     let i = c.self.inside in
     let s = i.store in
     let k = c.args.set in
-    let q : Question = Byte c.args.byte in
+    let q : TableQuestion = Byte c.args.byte in
     let within : k < length s.lists.sets = omega (arith, c.if-len-set.false, c.len.ensures.value) in
     let small : c.args.byte < 256 = c.ranges.byte.fits in
     let read : get_or s.numbers (place_in k q) 0 ≡ c.at-number.result = sym (c.at-number.ensures ∙ ap (λ p. get_or s.numbers p 0) c.place_of.ensures) in
@@ -50,7 +50,7 @@ returns-clause-some c =
     let i = c.self.inside in
     let s = i.store in
     let k = c.args.set in
-    let q : Question = Byte c.args.byte in
+    let q : TableQuestion = Byte c.args.byte in
     let within : k < length s.lists.sets = omega (arith, c.if-len-set.false, c.len.ensures.value) in
     let small : c.args.byte < 256 = c.ranges.byte.fits in
     let read : get_or s.numbers (place_in k q) 0 ≡ c.at-number.result = sym (c.at-number.ensures ∙ ap (λ p. get_or s.numbers p 0) c.place_of.ensures) in
@@ -64,7 +64,7 @@ returns-clause-asked c =
     let i = c.self.inside in
     let s = i.store in
     let k = c.args.set in
-    let q : Question = Byte c.args.byte in
+    let q : TableQuestion = Byte c.args.byte in
     let within : k < length s.lists.sets = omega (arith, c.if-len-set.false, c.len.ensures.value) in
     let small : c.args.byte < 256 = c.ranges.byte.fits in
     let read : get_or s.numbers (place_in k q) 0 ≡ c.at-number.result = sym (c.at-number.ensures ∙ ap (λ p. get_or s.numbers p 0) c.place_of.ensures) in
@@ -78,6 +78,6 @@ returns-then-number-eq0-clause-none c = λ within h.
     let i = c.self.inside in
     let s = i.store in
     let k = c.args.set in
-    let q : Question = Byte c.args.byte in
+    let q : TableQuestion = Byte c.args.byte in
     let read : get_or s.numbers (place_in k q) 0 ≡ c.at-number.result = sym (c.at-number.ensures ∙ ap (λ p. get_or s.numbers p 0) c.place_of.ensures) in
     number_absent i.automaton.now.graph s.lists.sets s.answers.items s.lists.edges.items s.lists.ends.items s.numbers i.weight k q c.self.invariant.held (read ∙ c.if-number-eq0.true) (subst (λ (t : Tabled). Has t.asked (asking k (byte_read c.args.byte))) (sym c.self.view_is) h)

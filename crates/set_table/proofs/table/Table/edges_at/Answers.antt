@@ -3,9 +3,9 @@ use Rattle.std.specs.Prelude.{slice_get}
 use Rattle.std.proofs.lemmas.List.{length-map}
 use Rattle.span_core.proofs.HasLaws.{Has-slice_get}
 use Rattle.marked_automaton.proofs.Listed.{get_map, some_same}
-use Rattle.set_table.specs.declared.answer.Question.TheVariants.{Ends}
+use Rattle.set_table.specs.declared.answer.TableQuestion.TheVariants.{Ends}
 use Rattle.set_table.specs.Tabled.{Asking, HasEdges, Tabled}
-use Rattle.set_table.specs.Answered.{asked_by, asking_of, askings, part}
+use Rattle.set_table.specs.Answered.{question_of, asking_of, askings, part}
 use Rattle.set_table.proofs.HeldLaws.{answer_read, edges_are, edges_within}
 use Rattle.set_table.proofs.table.Table.edges_at.Goals as goal
 
@@ -19,7 +19,7 @@ edges_part-requires c =
     let at : slice_get s.answers.items n ≡ Some x = answer_read s.answers.items n x c.index-answer.ensures within in
     let has = Has-slice_get s.answers.items n x at in
     let asked : slice_get c.args.self.now.asked n ≡ Some (asking_of x) = ap (λ (t : Tabled). slice_get t.asked n) (sym c.self.view_is) ∙ get_map asking_of s.answers.items n x at in
-    let kind : x.question ≡ Ends → ⊥ = λ e. c.requires.edges (asking_of x) asked (ap asked_by e) in
+    let kind : x.question ≡ Ends → ⊥ = λ e. c.requires.edges (asking_of x) asked (ap question_of e) in
     let bound = edges_within i.automaton.now.graph s.lists.sets s.answers.items s.lists.edges.items s.lists.ends.items s.numbers i.weight x c.self.invariant.held has kind in
     subst (λ zs. x.first + x.count ≤ length zs) (sym c.as_slice.ensures.value) bound
 
@@ -33,7 +33,7 @@ returns c = λ r h.
     let at : slice_get s.answers.items n ≡ Some x = answer_read s.answers.items n x c.index-answer.ensures within in
     let has = Has-slice_get s.answers.items n x at in
     let asked : slice_get c.args.self.now.asked n ≡ Some (asking_of x) = ap (λ (t : Tabled). slice_get t.asked n) (sym c.self.view_is) ∙ get_map asking_of s.answers.items n x at in
-    let kind : x.question ≡ Ends → ⊥ = λ e. c.requires.edges (asking_of x) asked (ap asked_by e) in
+    let kind : x.question ≡ Ends → ⊥ = λ e. c.requires.edges (asking_of x) asked (ap question_of e) in
     let same : asking_of x ≡ r = some_same (asking_of x) r (sym asked ∙ h) in
     let are = edges_are i.automaton.now.graph i.limit s.lists.sets s.answers.items s.lists.edges.items s.lists.ends.items s.numbers i.weight x c.edges_part.result.now c.self.invariant.held has kind
     (c.edges_part.ensures ∙ ap (part x.first x.count) c.as_slice.ensures.value) in

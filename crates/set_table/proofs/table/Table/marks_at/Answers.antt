@@ -3,10 +3,10 @@ use Rattle.std.specs.Prelude.{slice_get}
 use Rattle.std.proofs.lemmas.List.{length-map}
 use Rattle.span_core.proofs.HasLaws.{Has-slice_get}
 use Rattle.marked_automaton.proofs.Listed.{get_map, some_same}
-use Rattle.set_table.specs.declared.answer.Question.TheVariants.{Ends}
+use Rattle.set_table.specs.declared.answer.TableQuestion.TheVariants.{Ends}
 use Rattle.set_table.specs.Tabled.{Asking, HasEnds, Tabled}
 use Rattle.set_table.specs.Answered.{asking_of, askings, part}
-use Rattle.set_table.proofs.HeldLaws.{answer_read, ends_are, ends_within, same_asked}
+use Rattle.set_table.proofs.HeldLaws.{answer_read, ends_are, ends_within, same_question}
 use Rattle.set_table.proofs.table.Table.marks_at.Goals as goal
 
 pub marks_part-requires : goal.marks_part-requires
@@ -19,7 +19,7 @@ marks_part-requires c =
     let at : slice_get s.answers.items n ≡ Some x = answer_read s.answers.items n x c.index-answer.ensures within in
     let has = Has-slice_get s.answers.items n x at in
     let asked : slice_get c.args.self.now.asked n ≡ Some (asking_of x) = ap (λ (t : Tabled). slice_get t.asked n) (sym c.self.view_is) ∙ get_map asking_of s.answers.items n x at in
-    let kind : x.question ≡ Ends = same_asked x.question Ends (c.requires.ends (asking_of x) asked) in
+    let kind : x.question ≡ Ends = same_question x.question Ends (c.requires.ends (asking_of x) asked) in
     let bound = ends_within i.automaton.now.graph s.lists.sets s.answers.items s.lists.edges.items s.lists.ends.items s.numbers i.weight x c.self.invariant.held has kind in
     subst (λ zs. x.first + x.count ≤ length zs) (sym c.as_slice.ensures.value) bound
 
@@ -33,7 +33,7 @@ returns c = λ r h.
     let at : slice_get s.answers.items n ≡ Some x = answer_read s.answers.items n x c.index-answer.ensures within in
     let has = Has-slice_get s.answers.items n x at in
     let asked : slice_get c.args.self.now.asked n ≡ Some (asking_of x) = ap (λ (t : Tabled). slice_get t.asked n) (sym c.self.view_is) ∙ get_map asking_of s.answers.items n x at in
-    let kind : x.question ≡ Ends = same_asked x.question Ends (c.requires.ends (asking_of x) asked) in
+    let kind : x.question ≡ Ends = same_question x.question Ends (c.requires.ends (asking_of x) asked) in
     let same : asking_of x ≡ r = some_same (asking_of x) r (sym asked ∙ h) in
     let are = ends_are i.automaton.now.graph i.limit s.lists.sets s.answers.items s.lists.edges.items s.lists.ends.items s.numbers i.weight x c.marks_part.result.now c.self.invariant.held has kind
     (c.marks_part.ensures ∙ ap (part x.first x.count) c.as_slice.ensures.value) in

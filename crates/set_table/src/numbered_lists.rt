@@ -11,11 +11,11 @@ use std::marker::Model;
 /// Lists of numbers, as of the states of a set or the sets of a layer, no two of them the same, each with its number:
 /// that of its place.
 #[derive(Drop)]
-pub struct Sets {
+pub struct NumberedLists {
     index: IndexSet<Vec<u32>>,
 }
 
-impl Model for Sets {
+impl Model for NumberedLists {
     ghost use Rattle.std.specs.Prelude.{ℕ, List};
     ghost use Rattle.set_table.specs.Listed.{lists};
 
@@ -24,12 +24,12 @@ impl Model for Sets {
     ghost view = { λ s. lists s.index.keys };
 }
 
-impl Sets {
-    /// No set.
-    pub fn new(alloc: Global) -> Sets
+impl NumberedLists {
+    /// No list.
+    pub fn new(alloc: Global) -> NumberedLists
         ensures { result ≡ [] }
     {
-        Sets {
+        NumberedLists {
             index: IndexSet::new(alloc),
         }
     }
@@ -42,7 +42,7 @@ impl Sets {
         self.index.as_slice().len()
     }
 
-    /// The set of a number.
+    /// The list of a number.
     pub fn at(&self, number: usize) -> &[u32]
         requires { number < length self.now }
         ensures { result.now ≡ set_at self.now number }
@@ -50,7 +50,7 @@ impl Sets {
         self.index.as_slice()[number].as_slice()
     }
 
-    /// The number of a set, which comes last if it is new. On refusal nothing has changed.
+    /// The number of a list, which comes last if it is new. On refusal nothing has changed.
     pub fn number_of(&mut self, set: Vec<u32>) -> Result<usize, OutOfMemory>
         ensures sets { OnOk result (self.new ≡ with_set self.old set.items) }
         ensures number { IfOk result (λ k. slice_get self.new k ≡ Some set.items) }
@@ -60,7 +60,7 @@ impl Sets {
         Ok(number)
     }
 
-    /// Keeps the first sets alone, so many as it says.
+    /// Keeps the first lists alone, so many as it says.
     pub fn truncate(&mut self, count: usize)
         ensures { self.new ≡ take count self.old }
     {

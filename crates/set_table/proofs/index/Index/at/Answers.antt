@@ -2,7 +2,7 @@ use Rattle.std.proofs.Common.{◌≡◌, ℕ, ◌+◌, ◌*◌, ◌/◌, ◌%◌
 use Rattle.std.proofs.lemmas.List.{get_or_read}
 use Rattle.set_table.specs.Spread.{spread}
 use Rattle.set_table.proofs.SpreadLaws.{read_at, run_of}
-use Rattle.set_table.proofs.places.Places.at.Goals as goal
+use Rattle.set_table.proofs.index.Index.at.Goals as goal
 
 pub index-requires : goal.index-requires
 index-requires c =

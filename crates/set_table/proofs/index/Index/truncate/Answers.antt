@@ -1,7 +1,7 @@
 use Rattle.std.proofs.Common.{ℕ, ◌*◌, List, take, ap, ◌∙◌}
 use Rattle.set_table.specs.Spread.{spread}
 use Rattle.set_table.proofs.SpreadLaws.{spread_cut}
-use Rattle.set_table.proofs.places.Places.truncate.Goals as goal
+use Rattle.set_table.proofs.index.Index.truncate.Goals as goal
 
 pub returns : goal.returns
 returns c =

@@ -21,7 +21,7 @@ pub data Query : Type 0 where
   HeldBy : Text → Query
 
 -- what the words ask for
-pub record Asked : Type 0 where
+pub record RequestView : Type 0 where
   pub query : Query
   pub document : Text
   pub limit : Option ℕ
@@ -112,8 +112,8 @@ goes_with mode.Explain query g = has_no_page g
 goes_with (mode.Trial lines) query g = has_no_page g
 
 -- what is asked for by what was given, where each check passes
-unfoldable pub asked_by : GivenTexts → Option Asked
-asked_by g =
+unfoldable pub requested_by : GivenTexts → Option RequestView
+requested_by g =
     option_and_then (λ query.
     option_and_then (λ limit.
     option_and_then (λ form.
@@ -137,8 +137,8 @@ asked_by g =
     (query_of g.query g.query_name)
 
 -- what the words ask for, where they are accepted
-unfoldable pub asked : List Text → Option Asked
-asked words = if length (refusals words) == 0 then asked_by (given_by (found words)) else None
+unfoldable pub requested : List Text → Option RequestView
+requested words = if length (refusals words) == 0 then requested_by (given_by (found words)) else None
 
 -- the query as contracts see it
 abbrev pub query_view : QuerySource → Query
@@ -146,7 +146,7 @@ query_view (source.Given text) = Itself text.now
 query_view (source.Named name) = HeldBy name.now
 
 -- a request as contracts see it
-abbrev pub request_view : Request → Asked
+abbrev pub request_view : Request → RequestView
 request_view r = record {
   query = query_view r.query;
   document = r.document.now;

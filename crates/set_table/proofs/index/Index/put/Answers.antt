@@ -1,7 +1,7 @@
 use Rattle.std.proofs.Common.{ℕ, ◌+◌, ◌*◌, ◌/◌, ◌%◌, ◌<◌, List, length, get_or, set, sym, ap, subst, arith, ◌∙◌}
 use Rattle.set_table.specs.Spread.{spread}
 use Rattle.set_table.proofs.SpreadLaws.{run_of, written_is}
-use Rattle.set_table.proofs.places.Places.put.Goals as goal
+use Rattle.set_table.proofs.index.Index.put.Goals as goal
 
 pub own_block-requires-clause-run : goal.own_block-requires-clause-run
 own_block-requires-clause-run c =

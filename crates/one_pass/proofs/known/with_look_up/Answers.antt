@@ -3,7 +3,7 @@ use Rattle.automaton_reading.specs.Reading.{byte_read}
 use Rattle.output_graph.specs.Sound.{edges_of}
 use Rattle.one_pass.proofs.Asking.{asked_is, numbered_is}
 use Rattle.one_pass.proofs.GraphBridge.{descend_edges}
-use Rattle.one_pass.proofs.known.with_row.Goals as goal
+use Rattle.one_pass.proofs.known.with_look_up.Goals as goal
 
 pub with_source-requires : goal.with_source-requires
 with_source-requires c = descend_edges c.in_ok-edges.edges.now c.in_ok-edges.ensures.some.1.order

@@ -10,38 +10,38 @@ use std::alloc::Global;
 
 /// A status with its note.
 #[derive(Drop)]
-pub struct Ending {
+pub struct Outcome {
     pub status: Status,
     pub note: NoteLine,
 }
 
-impl Ending {
+impl Outcome {
     /// A status with this note, or that memory is wanting for its line.
-    pub fn with(alloc: Global, status: Status, note: &Note<'_>) -> Ending
+    pub fn with(alloc: Global, status: Status, note: &Note<'_>) -> Outcome
         ensures { Is result.status (note_bytes result.note) status (note_text note.now) ⊎ IsOutOfMemory result.status (note_bytes result.note) }
     {
         match NoteLine::of_note(alloc, note) {
-            Ok(note) => Ending { status, note },
-            Err(OutOfMemory) => Ending::out_of_memory(),
+            Ok(note) => Outcome { status, note },
+            Err(OutOfMemory) => Outcome::out_of_memory(),
         }
     }
 
     /// A status with a note that is always the same.
-    pub fn fixed(status: Status, note: FixedNote) -> Ending
+    pub fn fixed(status: Status, note: FixedNote) -> Outcome
         ensures status { result.status ≡ status }
         ensures note { note_bytes result.note ≡ line (fixed_text note) }
     {
-        Ending {
+        Outcome {
             status,
             note: NoteLine::Fixed(note),
         }
     }
 
     /// Memory is wanting.
-    pub fn out_of_memory() -> Ending
+    pub fn out_of_memory() -> Outcome
         ensures status { result.status ≡ Status.Memory }
         ensures note { note_bytes result.note ≡ line (codes "out of memory") }
     {
-        Ending::fixed(Status::Memory, FixedNote::OutOfMemory)
+        Outcome::fixed(Status::Memory, FixedNote::OutOfMemory)
     }
 }

@@ -16,14 +16,14 @@ const BLOCK: usize = 16;
 /// Numbers, seen as their list. Its length is a multiple of 16: each run of 16 of them has a block, and all
 /// runs of zeros that were never written share one.
 #[derive(Drop)]
-pub(crate) struct Places {
+pub(crate) struct Index {
     /// For each run its block; block 0 is that of zeros.
     runs: Vec<u32>,
     /// The blocks, one after another.
     numbers: Vec<u32>,
 }
 
-impl Model for Places {
+impl Model for Index {
     ghost use Rattle.std.specs.Prelude.{ℕ, List};
     ghost use Rattle.set_table.specs.Spread.{IsSpread, spread};
 
@@ -34,14 +34,14 @@ impl Model for Places {
     ghost invariant = { λ p. IsSpread p.runs.items p.numbers.items };
 }
 
-impl Places {
+impl Index {
     /// No number.
-    pub(crate) fn new(alloc: Global) -> Result<Places, OutOfMemory>
+    pub(crate) fn new(alloc: Global) -> Result<Index, OutOfMemory>
         ensures { IfOk result (λ p. p ≡ []) }
     {
         let mut numbers = Vec::new(alloc);
         numbers.resize(BLOCK, 0)?;
-        Ok(Places {
+        Ok(Index {
             runs: Vec::new(alloc),
             numbers,
         })

@@ -2,7 +2,7 @@ use Rattle.std.proofs.Common.{◌≡◌, ◌+◌, ◌*◌, ◌/◌, get_or, set,
 use Rattle.std.proofs.lemmas.List.{get_or_read}
 use Rattle.set_table.specs.Spread.{spread}
 use Rattle.set_table.proofs.SpreadLaws.{block_items, opened_same}
-use Rattle.set_table.proofs.places.own_block.Goals as goal
+use Rattle.set_table.proofs.index.own_block.Goals as goal
 
 pub returns-clause-same : goal.returns-clause-same
 returns-clause-same c =

@@ -3,7 +3,7 @@ use Rattle.std.specs.Global.{Vec}
 use Rattle.std.specs.Str.{bytes_eq}
 use Rattle.span_core.specs.Lists.{AreDistinct}
 use Rattle.set_table.proofs.SetsLaws.{lists_apart}
-use Rattle.set_table.proofs.sets.Sets.len.Goals as goal
+use Rattle.set_table.proofs.numbered_lists.NumberedLists.len.Goals as goal
 
 pub returns-clause-apart : goal.returns-clause-apart
 returns-clause-apart c =

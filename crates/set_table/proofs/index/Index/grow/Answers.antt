@@ -2,7 +2,7 @@ use Rattle.std.proofs.Common.{ℕ, ◌*◌, ◌≤◌, List, length, sym, ap, su
 use Rattle.set_table.specs.Answered.{with_places}
 use Rattle.set_table.specs.Spread.{IsSpread, spread}
 use Rattle.set_table.proofs.SpreadLaws.{are_within, grown_items, grown_spread, spread_grown, spread_length}
-use Rattle.set_table.proofs.places.Places.grow.Goals as goal
+use Rattle.set_table.proofs.index.Index.grow.Goals as goal
 
 pub invariant_of-self-2 : goal.invariant_of-self-2
 invariant_of-self-2 c =
