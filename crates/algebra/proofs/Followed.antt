@@ -21,7 +21,7 @@ use Rattle.marked_automaton.proofs.Listed.{some_same}
 use Rattle.marked_automaton.specs.declared.way.Way.{Way}
 use Rattle.marked_automaton.specs.declared.TheConstants.{MOST_WAYS}
 use Rattle.marked_automaton.specs.declared.fault.SizeFault.{SizeFault}
-use Rattle.marked_automaton.specs.declared.fault.SizeFault.TheVariants.{Ways, OutOfMemory}
+use Rattle.marked_automaton.specs.declared.fault.SizeFault.TheVariants.{Ways}
 use Rattle.marked_automaton.proofs.Sizes.{no_more}
 use Rattle.algebra.specs.declared.pairs.Pair.{Pair}
 use Rattle.algebra.specs.Pairs.{pair_of, pairs, PairWay, IsWayBetween, Matched, AreWithin, IsFollowed, IsRefusalOf}
@@ -140,9 +140,6 @@ refusal_of_ways made1 rest k1 k2 ways1 ways2 count a many is = λ n1 n2 w h l le
     let l1 : length (made1 ++ rest) ≡ length made1 + length rest = length-append made1 rest in
     let l3 : length ways2 ≡ length ways1 + length a.new = ap length a.ways ∙ length-append ways1 a.new in
     (many, omega (arith, len, l1, l3, le, is))
-
-pub no_refusal : (r : List PairWay) (k : List Pair) (w : List Way) → IsRefusalOf r k w OutOfMemory
-no_refusal r k w = λ n1 n2 n h l le. tt
 
 -- of places in keys the number of the pair
 abbrev Numbered : ℕ → List Pair → ℕ → ℕ → Type 0

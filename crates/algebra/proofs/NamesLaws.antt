@@ -1,5 +1,5 @@
 -- Names of two sets.
-use Rattle.std.proofs.Common.{◌≡◌, ℕ, suc, ◌+◌, ◌<◌, ◌≤◌, ◌⊎◌, ◌↔◌, Bool, true, false, List, [], ◌∷◌, length, inl, inr, refl, sym, ap, subst, arith, ◌∙◌}
+use Rattle.std.proofs.Common.{◌≡◌, ℕ, suc, ◌<◌, ◌≤◌, ◌⊎◌, ◌↔◌, Bool, true, false, List, [], ◌∷◌, length, inl, inr, refl, sym, ap, subst, arith, ◌∙◌}
 use Rattle.std.specs.Prelude.{IsTrue, Contains}
 use Rattle.std.specs.Bool.{OnTrue}
 use Rattle.std.specs.FinSet as set
@@ -44,14 +44,6 @@ room_or_there names x more most le =
     elim (one_more x names) [
       | inl l ↦ inr (omega (arith, l, no_fewer (with_name x names) more, le))
       | inr r ↦ inl (Contains-Has names x r.0)
-    ]
-
-pub all_few : (names more : List VarName) → length (all_names names more) ≤ length names + length more
-all_few names [] = omega arith
-all_few names (x ∷ more) =
-    elim (one_more x names) as (λ _. length (all_names (with_name x names) more) ≤ length names + suc (length more)) [
-      | inl l ↦ omega (arith, l, all_few (with_name x names) more)
-      | inr r ↦ omega (arith, r.1, all_few (with_name x names) more)
     ]
 
 -- all names, by names that are equal

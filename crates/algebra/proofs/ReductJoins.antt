@@ -39,10 +39,6 @@ abbrev pub at_spot : Option Spot → (ℕ → ℕ → Option ℕ) → Option ℕ
 at_spot None h = None
 at_spot (Some s) h = h s.one s.two
 
-at_spot_cases : (o : Option Spot) (h : ℕ → ℕ → Option ℕ) (v : ℕ) → at_spot o h ≡ Some v → (s : Spot) × (o ≡ Some s) × (h s.one s.two ≡ Some v)
-at_spot_cases None h v e = absurd (cc)
-at_spot_cases (Some s) h v e = (s, refl, e)
-
 module _ (agree : ℕ → ℕ → Bool) (both : ℕ → ℕ → ℕ) where
   abbrev pub way_spots : Automaton → Automaton → List Spot
   way_spots A B = spots (goes_with agree both) (pair_way agree both B.states) B.ways A.ways 0

@@ -33,20 +33,6 @@ moved_some : (k : ℕ) (o : Option ℕ) (a : ℕ) → option_map (λ a. k + a) o
 moved_some k None a e = absurd (cc)
 moved_some k (Some c) a e = (c, refl, some_same (k + c) a e)
 
--- what it gives is given by f1 or by f2
-SumCases : ℕ → ℕ → (ℕ → Option ℕ) → (ℕ → Option ℕ) → ℕ → ℕ → Type 0
-SumCases n k f1 f2 b a = ((b < n) × (f1 b ≡ Some a)) ⊎ ((c : ℕ) × (x : ℕ) × (b ≡ n + c) × (f2 c ≡ Some x) × (k + x ≡ a))
-
-sum_cases : (n k : ℕ) (f1 f2 : ℕ → Option ℕ) (b a : ℕ) → sum_map n k f1 f2 b ≡ Some a → SumCases n k f1 f2 b a
-unfolding SumCases
-sum_cases n k f1 f2 b a e =
-    elim (cases_lt b n) [
-      | inl l ↦ inl (l, sym (sum_first n k f1 f2 b l) ∙ e)
-      | inr g ↦
-          let r = moved_some k (f2 (b - n)) a (sym (sum_second n k f1 f2 b (b - n) (omega (arith, g))) ∙ e) in
-          inr (b - n, r.0, omega (arith, g), r.1, r.2)
-    ]
-
 sum_left : (n k : ℕ) (f1 f2 : ℕ → Option ℕ) (b a : ℕ) → b < n → f1 b ≡ Some a → sum_map n k f1 f2 b ≡ Some a
 sum_left n k f1 f2 b a l e = sum_first n k f1 f2 b l ∙ e
 

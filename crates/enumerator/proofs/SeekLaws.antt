@@ -1,5 +1,5 @@
 -- To the first row after a given one.
-use Rattle.std.proofs.Common.{◌≡◌, ◌⊎◌, ℕ, zero, suc, ◌+◌, ◌*◌, ◌<◌, ◌≤◌, List, [], ◌∷◌, ◌++◌, map, length, Option, Some, None, inl, inr, refl, sym, ap, ap₂, ◌∙◌, subst, append_assoc, append-nil, arith}
+use Rattle.std.proofs.Common.{◌≡◌, ◌⊎◌, ℕ, ◌+◌, ◌<◌, ◌≤◌, List, [], ◌∷◌, ◌++◌, map, length, Some, inl, inr, refl, sym, ap, ◌∙◌, subst, append_assoc, append-nil, arith}
 use Rattle.std.specs.Int.Bits.{bit_or}
 use Rattle.std.proofs.lemmas.Bool.{cases_eq, cases_lt}
 use Rattle.std.proofs.lemmas.List.{map-append}
@@ -22,7 +22,7 @@ use Rattle.enumerator.specs.Seeking.{HasNoBlock, IsNextBlock}
 use Rattle.enumerator.proofs.Lists.{has_cases, has_map_cases, map_same}
 use Rattle.output_graph.proofs.RowLaws.{rows_at, rows_nothing, rows_done}
 use Rattle.enumerator.proofs.StoreLaws.{reach, led_at, child_reach, next_reach, reach_few}
-use Rattle.enumerator.proofs.RowLaws.{row_under_agree, below_few, below_stacked, waited_stacked, waited_rows}
+use Rattle.enumerator.proofs.RowLaws.{row_under_agree, below_stacked, waited_stacked, waited_rows}
 use Rattle.enumerator.proofs.Walk.{frame, cell_rows, child_row, next_row, cell_new, cell_below, next_rows_kept, cell_splits}
 use Rattle.enumerator.proofs.Words.{AscendsFrom, listed_here, listed_other, listed_before, ascends_from, is_row_of_word, fits_word}
 
@@ -153,13 +153,6 @@ module _ (store : List NamedRow) (made : AreMade store) (v : ℕ) (after : SpanR
   module _ (s : IsSeeking store v after P m (Row k) from fs whole before now) where
     waiting : IsWaiting store v (frame m (Row k))
     waiting = record { there = s.there; some = λ e. cc; fit = s.fit }
-
-    -- so few wait that one more has room
-    pub seek_few : length fs < 2 * v
-    seek_few =
-        let a = Rattle.enumerator.proofs.Bits.new_left v m r.marks (cell_new store made v m k r is waiting) in
-        let b = below_few store v m fs s.below in
-        omega arith
 
     -- the cell's block comes before the next one of the given row: its child is passed
     pub seek_skips : (x : ℕ × ℕ) → IsNextBlock after from x → LeadsBlock own x → IsSeeking store v after P m r.next from fs whole before (now + 1)

@@ -33,11 +33,6 @@ module _ (e : ℕ → ℕ) (ways : List Way) (d : List ℕ) where
         pass_marked n (suc i) y.0.to q (subst (λ x. Passes (map (remarked_way e) ways) d (suc i) n x q) (sym (ap (λ (g : Way). g.to) y.2)) h.4),
       )
 
-  pub pass_remarked : (n i p q : ℕ) → Passes ways d i n p q → Passes (map (remarked_way e) ways) d i n p q
-  pass_remarked zero i p q h = h
-  pass_remarked (suc n) i p q h =
-      (remarked_way e h.0, Has-map (remarked_way e) ways h.0 h.1, h.2, h.3, pass_remarked n (suc i) h.0.to q h.4)
-
 module _ (A : Automaton) (e : ℕ → ℕ) (d : List ℕ) where
   pub led_marked : (i p : ℕ) → IsLed (remarked e A) d i p → IsLed A d i p
   led_marked i p h = (h.0, h.1, pass_marked e A.ways d i 0 h.0 p h.2)

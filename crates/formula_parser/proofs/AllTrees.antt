@@ -146,12 +146,6 @@ none_of_ranges s ranges are none =
     by c true e = absurd (subst (λ r. Covers r c) none ((are.same c).1 e))
     by c false e = e ∙ sym (contains-empty nat_cmp c)
 
-pub ranges_none : (s : Bytes) (ranges : List (ℕ × ℕ)) → AreRangesOf s ranges → s ≡ set.empty → ranges ≡ []
-ranges_none s [] are none = refl
-ranges_none s ((a, b) ∷ rest) are none =
-    let has = (are.same a).0 (inl (omega arith, are.apart.0)) in
-    absurd (true≢false (sym has ∙ ap (λ t. set.contains t a) none ∙ contains-empty nat_cmp a))
-
 -- the characters among the members of a set
 abbrev characters_in : Bytes → Bytes
 characters_in s = set.intersection all_characters s

@@ -58,11 +58,6 @@ module _ (lang : Dialect) (speaks : Speaks lang) where
   Tells text from (Ok x) = ClassText (drop (from + 1) text) x.0 x.1
   Tells text from (Err e) = HasClassFault (alphabet_of lang) text from e
 
-  -- the text of the class whose items end
-  end_text : (negated : Bool) → List ℕ → List ℕ
-  end_text true items = 94 ∷ (items ++ 93 ∷ [])
-  end_text false items = items ++ 93 ∷ []
-
   -- its set
   end_set : Bool → Bytes → Bytes
   end_set true s = others_of (alphabet_of lang) s

@@ -46,10 +46,6 @@ end_fits p t s (after_elem x q) = omega arith
 end_fits p t s (after_dash x q) = tt
 end_fits p t s after_range = omega arith
 
-pub caret_long : (t : List ℕ) → begins_with 94 t ≡ true → 1 ≤ length t
-caret_long [] e = absurd (cc)
-caret_long (c ∷ t) e = omega arith
-
 module _ (lang : Dialect) (speaks : Speaks lang) where
   escape_fits : (p : ℕ) (t : List ℕ) (s : Bytes) (w : Within) (found : ElemToken) → escape_in lang p t ≡ found → Fits (92 ∷ t) (takes_token p found s w)
   escape_fits p t s w (Err f) e = tt
@@ -127,9 +123,6 @@ module _ (lang : Dialect) (speaks : Speaks lang) where
       by : (t : List ℕ) → closes r ≡ class_step lang from p t s w → closed_class lang negated from (p + 1) r ≡ items_at lang negated from 0 p t s w
       by [] f = absurd (cc)
       by (c ∷ t) f = ap (after_step lang speaks negated from p t) f ∙ sym (items_step lang speaks negated from p c t s w)
-
-  pub closes_fits : (from p : ℕ) (rest : List ℕ) (s r : Bytes) (w : Within) → closes r ≡ class_step lang from p rest s w → 0 < length rest
-  closes_fits from p rest s r w is = subst (Fits rest) (sym is) (step_fits from p rest s w)
 
   pub negated_class : (at : ℕ) (t : List ℕ) → begins_with 94 t ≡ true → class_at lang at t ≡ items_at lang true at 0 (at + 2) (drop 1 t) set.empty no_item
   unfolding class_at

@@ -1,5 +1,5 @@
 -- The sign: with it an atom is over characters, without it over bytes.
-use Rattle.std.proofs.Common.{◌≡◌, ◌≢◌, ℕ, suc, ◌+◌, ◌<◌, ◌≤◌, Bool, true, false, List, [], ◌∷◌, ◌++◌, length, drop, take, Option, Some, None, ◌==◌, if◌then◌else◌, length-append, ap, sym, refl, ◌∙◌, subst, arith, ◌⊎◌, inl, inr}
+use Rattle.std.proofs.Common.{◌≡◌, ◌≢◌, ℕ, suc, ◌+◌, ◌<◌, ◌≤◌, Bool, true, false, List, [], ◌∷◌, ◌++◌, length, drop, take, Option, Some, None, ◌==◌, if◌then◌else◌, ap, sym, refl, ◌∙◌, subst, arith, ◌⊎◌, inl, inr}
 use Rattle.std.proofs.lemmas.Bool.{true≢false}
 use Rattle.std.proofs.lemmas.Bool.Decides.{nat_tests}
 use Rattle.formula_parser.proofs.RunLaws.{the_token}
@@ -52,9 +52,6 @@ pub record Closed (t : List ℕ) : Type 0 where
   pub after : List ℕ
   pub is : IsInside inside
   pub splits : t ≡ inside ++ 47 ∷ after
-
-pub one_closed : (t : List ℕ) (a b : Closed t) → (a.inside ≡ b.inside) × (a.after ≡ b.after)
-one_closed t a b = one_inside a.is b.is a.after b.after (sym a.splits ∙ b.splits)
 
 abbrev pub IsOpenText : List ℕ → Type 0
 IsOpenText t = Closed t → ⊥
@@ -212,13 +209,6 @@ after_slash [] v = refl
 after_slash (c ∷ u) v =
     let next : suc (length u) + 1 ≡ suc (length u + 1) = omega arith in
     ap (λ n. drop n (c ∷ (u ++ 47 ∷ v))) next ∙ after_slash u v
-
--- the closing slash stands in the text
-pub closing_within : (t : List ℕ) (k : ℕ) → closing_from 0 t ≡ Some k → k < length t
-unfolding Tells
-closing_within t k e =
-    let (h, place) = subst (Tells 0 t) e (closing_told 0 t) in
-    omega (arith, place, ap length h.splits, length-append h.inside (47 ∷ h.after))
 
 -- what the sign tells
 pub SignTells : List ℕ → ℕ → Option ℕ → Type 0

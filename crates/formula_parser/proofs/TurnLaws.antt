@@ -1,15 +1,13 @@
 -- Turns of the code, and what the code answers.
 use Rattle.std.proofs.Common.{◌≡◌, ℕ, ◌+◌, ◌<◌, ◌≤◌, Bool, true, false, List, ◌∷◌, length, drop, length-drop, length-append, Result, Ok, Err, sym, subst, ap, arith, refl, IfOk, IfErr, ◌⊎◌, inl, inr}
 use Rattle.std.specs.Str.{IsUtf8, IsValidUpTo}
-use Rattle.spanner_model.specs.Tree.{Tree}
 use Rattle.spanner_model.specs.View.{tree_of, atom_of}
 use Rattle.spanner_model.specs.declared.formula.Atom.{Atom}
 use Rattle.spanner_model.specs.Expression.{AtomTree}
 use Rattle.formula_parser.specs.declared.fault.FormulaFault.{FormulaFault}
 use Rattle.formula_parser.specs.declared.fault.FormulaFault.TheVariants.{OutOfMemory, NotUtf8}
-use Rattle.formula_parser.specs.Sets.{Bytes}
 use Rattle.formula_parser.specs.Alphabet.{Alphabet, of_bytes, of_characters}
-use Rattle.formula_parser.specs.Dialect.{Dialect, plain_bytes, with_characters, alphabet_of, AreTrees, Speaks}
+use Rattle.formula_parser.specs.Dialect.{Dialect, plain_bytes, with_characters, alphabet_of, Speaks}
 use Rattle.formula_parser.specs.Nest.{Nest}
 use Rattle.formula_parser.specs.Step.{Body, goes, step, is_tied, start_at, Reading, Ends}
 use Rattle.formula_parser.specs.Signs.{HasSign, HasNoSign}
@@ -25,16 +23,6 @@ use Rattle.formula_parser.proofs.FaultsMet.{ends_fault}
 use Rattle.formula_parser.proofs.GrammarLaws.{ends_atom}
 use Rattle.formula_parser.proofs.EachText.{IsWithin, within_here}
 use Rattle.formula_parser.proofs.TheTrees.{the_trees, the_trees_are}
-
--- what holds of the reader of bytes holds of each that knows bytes alone
-pub for_bytes : (P : Dialect → Type 0) → P plain_bytes → (lang : Dialect) → Speaks lang → alphabet_of lang ≡ of_bytes → P lang
-for_bytes P here plain_bytes speaks e = here
-for_bytes P here (with_characters trees) speaks e = absurd (cc)
-
-pub for_characters : (P : Dialect → Type 0) → ((trees : Bytes → Tree) → AreTrees trees → P (with_characters trees)) →
-    (lang : Dialect) → Speaks lang → alphabet_of lang ≡ of_characters → P lang
-for_characters P each plain_bytes speaks e = absurd (cc)
-for_characters P each (with_characters trees) speaks e = each trees speaks
 
 -- there is a reader of each alphabet
 pub some_dialect : (alphabet : Alphabet) → (lang : Dialect) × Speaks lang × (alphabet_of lang ≡ alphabet)

@@ -17,7 +17,7 @@ use Rattle.one_pass.specs.Faults.{IsFaultAt}
 use Rattle.one_pass.specs.Places.{ReadingPlace, byte_at, bytes_at}
 use Rattle.one_pass.specs.Passes.{AllStayOn, Pass, IsReady, HasRead, HasStopped, Stop}
 use Rattle.one_pass.proofs.Composing.{stopped_before}
-use Rattle.one_pass.proofs.Faulting.{both_read, bytes_more, bytes_split, fault_before, read_none, ready_later, then_fault, then_stopped}
+use Rattle.one_pass.proofs.Faulting.{both_read, bytes_more, bytes_split, fault_before, ready_later, then_fault, then_stopped}
 use Rattle.one_pass.proofs.PlaceLaws.{stays_read}
 
 -- so many bytes of the piece have been read
@@ -25,20 +25,11 @@ pub record IsAdvanced (P : Pass) (at : ℕ) (piece : List ℕ) (i : ℕ) (Q : Pa
   pub read : HasRead P.table.graph (bytes_at at (take i piece)) P Q
   pub ready : IsReady Q (at + i)
 
-pub advanced_none : (P : Pass) (at : ℕ) (piece : List ℕ) → IsReady P at → IsAdvanced P at piece 0 P
-advanced_none P at piece ready = record {
-  read = read_none P.table.graph P;
-  ready = ready_later P at (at + 0) ready (omega arith);
-}
-
 module _ (P : Pass) (at : ℕ) (piece : List ℕ) (i : ℕ) (Q : Pass) (past : IsAdvanced P at piece i Q) where
   -- all have been read
   pub advanced_read : i ≡ length piece → HasRead P.table.graph (bytes_at at piece) P Q
   advanced_read all =
       subst (λ xs. HasRead P.table.graph (bytes_at at xs) P Q) (ap (λ j. take j piece) all ∙ take-length piece) past.read
-
-  pub advanced_ready : i ≡ length piece → IsReady Q (at + length piece)
-  advanced_ready all = subst (λ j. IsReady Q (at + j)) all past.ready
 
   module _ (within : i < length piece) where
     abbrev b : ℕ

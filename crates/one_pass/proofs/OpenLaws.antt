@@ -6,7 +6,7 @@ use Rattle.span_core.specs.Intervals.{Covers}
 use Rattle.automaton_reading.specs.Reading.{set_of}
 use Rattle.set_table.specs.Tabled.{IsTabled, Tabled}
 use Rattle.output_graph.specs.Graph.{AreApart, Graph, Source, source_of, sources}
-use Rattle.one_pass.specs.Passes.{IsOpen, IsReady, Pass, pass}
+use Rattle.one_pass.specs.Passes.{IsOpen, IsReady, pass}
 use Rattle.one_pass.specs.Seen.{held, whole}
 use Rattle.one_pass.specs.Words.{Word}
 use Rattle.one_pass.proofs.TableBridge.{held_sound}
@@ -19,9 +19,6 @@ open_ready t g n at tabled apart open_here = record {
   fresh = (open_here.fresh.0, open_here.fresh.1, refl);
   past = open_here.past;
 }
-
-pub ready_open : (P : Pass) (at : ℕ) → IsReady P at → IsOpen P.table P.graph at
-ready_open P at r = record { fresh = (r.fresh.0, r.fresh.1); given = r.given; past = r.past }
 
 -- the one source, which the empty word leads to
 abbrev pub first_source : ℕ → Source

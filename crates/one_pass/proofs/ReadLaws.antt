@@ -49,9 +49,6 @@ module _ (d : List ℕ) (parts : List (ℕ × ℕ)) (apart : AreApart parts) (wi
       ap (λ qs. qs ++ end_at (length d) ∷ []) (parts_all parts d apart within)
       ∙ (ap (λ j. places_before K d 0 false ++ end_at j ∷ []) (sym e) ∙ before_end K d 0 false)
 
-  pub start_ready : IsReady S 0
-  start_ready = subst (λ P. IsReady P 0) start (started_ready t.graph K d t new before)
-
   fault_read : (e : TableFault) → IsFaultAt ps (started t before) e → IsReadFault t.graph K d t.limit e
   fault_read (Full weight) x =
       excess_weight t.graph K d t new before (sets_met t.graph (sets_of (started t before)) (asks ps)) (look_ups_asked t.graph (sets_of (started t before)) (asks ps)) weight x

@@ -14,9 +14,6 @@ use Rattle.automaton_reading.specs.Chosen.{EndsWith, IsReadFrom, IsReadWith}
 use Rattle.one_pass.specs.Words.{Word, block_word}
 use Rattle.one_pass.specs.Places.{ReadingPlace, places, byte_at, rest_at, end_at, Leads, word_from, word_of}
 
-end_edge : ℕ → Reach
-end_edge m = record { marks = m; to = [] }
-
 -- an end leads to no state
 pub end_to : (A : Automaton) (set : List ℕ) (e : Reach) → Has (edges A set ended) e → e.to ≡ []
 end_to A set e h =

@@ -11,12 +11,10 @@ use Rattle.output_graph.specs.Graph.{Graph, IsStepped, Source, sets_of, sources,
 use Rattle.output_graph.specs.Programs.{AreStepped, IsRun}
 use Rattle.output_graph.specs.Source.{Edges}
 use Rattle.one_pass.specs.Known.{AreLookUps, AreStill}
-use Rattle.one_pass.specs.Layers.{numbers_of}
 use Rattle.one_pass.specs.Passes.{HasRead, IsReady, pass}
 use Rattle.one_pass.specs.Places.{byte_at}
 use Rattle.one_pass.specs.Seen.{held, stepping_from, whole}
 use Rattle.one_pass.specs.Turned.{HasTurned, IsTurned}
-use Rattle.one_pass.proofs.Faulting.{ready_later}
 use Rattle.one_pass.proofs.GraphBridge.{own_cost, turned_none}
 use Rattle.one_pass.proofs.PlaceLaws.{block_at, stays_read}
 use Rattle.one_pass.proofs.Sources.{stepping_begun, stepping_turned}
@@ -113,6 +111,3 @@ module _ (T : Tabled) (G0 : Graph) (n0 at b : ℕ) (ready : IsReady (pass (held 
   still_read still =
       stays_read T.graph (byte_at at b) (pass (held T) (whole G0) n0)
       (λ x h. (still x.set (subst (λ (xs : List ℕ). Has xs x.set) (sym fresh.sets) (Has-map (λ (y : Source). y.set) (sources G0) x h))).1)
-
-  pub still_ready : IsReady (pass (held T) (whole G0) n0) (at + 1)
-  still_ready = ready_later (pass (held T) (whole G0) n0) at (at + 1) ready (omega arith)

@@ -13,15 +13,14 @@ use Rattle.one_pass.specs.Causes.{HasCause}
 use Rattle.one_pass.specs.Held.{TableView, AreNumbered, HasMade, IsRefused, marks_of, look_up_of, set_named}
 use Rattle.one_pass.specs.Words.{Word, block_word}
 use Rattle.output_graph.specs.Graph.{Source}
-use Rattle.one_pass.specs.Layers.{GraphView, Brings, BringsEnd, Descend, HasCost, HasEndedSource, HasStepped, HasWord, no_source, source_at}
+use Rattle.one_pass.specs.Layers.{GraphView, Brings, BringsEnd, HasCost, HasEndedSource, HasStepped, HasWord, no_source, source_at}
 use Rattle.one_pass.specs.Faults.{IsFaultOf}
 use Rattle.one_pass.specs.Places.{ReadingPlace, asks, end_at, sets_met, sets_on}
 use Rattle.one_pass.specs.Passes.{Pass, pass, sets_of, stop, IsReady, HasRead, HasStoppedAt}
 use Rattle.one_pass.proofs.Composing.{excess_grown, grown_length, grown_none}
 use Rattle.one_pass.proofs.Ending.{ending_more, IsEnding}
-use Rattle.one_pass.proofs.Numbered.{numbered_descend}
 use Rattle.one_pass.proofs.PlaceLaws.{place_read, place_ready}
-use Rattle.one_pass.proofs.Stepping.{edges_count, heavy_excess, met_here, named_before, named_now, source_edges, stepping_more, stopped_by_graph, stopped_by_table, IsSpending, IsStepping}
+use Rattle.one_pass.proofs.Stepping.{heavy_excess, met_here, named_before, named_now, source_edges, stepping_more, stopped_by_graph, stopped_by_table, IsSpending, IsStepping}
 
 module _ (p : ReadingPlace) (P : Pass) (at : ℕ) (ready : IsReady P at) (k : ℕ) (Q : Pass)
     (past : IsSpending P.table.graph p P (take k P.graph.layer) Q) (within : k < length Q.graph.layer)
@@ -90,14 +89,9 @@ module _ (p : ReadingPlace) (P : Pass) (at : ℕ) (ready : IsReady P at) (k : �
         stopped_by_graph P.table.graph p P (take k P.graph.layer) Q x refl past there known t n made_here e count g m cost left split
 
     module _ (es : List Edge) (numbered : AreNumbered t es (edges t.graph (set_named t set) p.ask)) where
-      pub turn_descends : Descend es
-      turn_descends = numbered_descend t t.graph (set_named t set) p.ask es numbered
 
       numbered_here : AreNumbered t es (edges t.graph (set_named t x.set) p.ask)
       numbered_here = subst (λ s. AreNumbered t es (edges t.graph (set_named t s) p.ask)) (sym set_is) numbered
-
-      pub turn_count : length es ≡ length (source_edges P.table.graph p P x)
-      turn_count = edges_count P.table.graph p P (take k P.graph.layer) Q x refl past there known t n made_here es numbered_here
 
       -- one source more has been stepped
       pub turn_stepped : IsStepping P.table.graph p P (take k P.graph.layer) Q → (g : GraphView) (m : ℕ) →
@@ -153,9 +147,3 @@ module _ (p : ReadingPlace) (P : Pass) (at k : ℕ) (ready : IsReady P at) (Q : 
       (g.stepped ≡ 0) → (g.next ≡ []) → (g.accepted ≡ Q.graph.accepted) → IsReady (pass Q.table g Q.steps) later
   turns_ready later le blocks stepped next accepted =
       place_ready P.table.graph p P Q every g layer live at later ready le blocks stepped next accepted
-
-  -- as many as there are
-  pub turns_stepped : Q.graph.stepped ≡ length Q.graph.layer
-  turns_stepped =
-      let l = ap (λ (xs : List Source). length xs) every.spent.layer in
-      omega (arith, every.spent.stepped, l)

@@ -5,7 +5,7 @@ use Rattle.std.specs.Str.{bytes_eq}
 use Rattle.span_core.specs.Lists.{Has, AreDistinct}
 use Rattle.span_core.specs.declared.edge.Edge.{Edge}
 use Rattle.marked_automaton.specs.Automaton.{Automaton, size}
-use Rattle.automaton_reading.specs.Reading.{Question, byte_read, rest_taken, ended, Reach, LookUp, edges, once, look_up_edges, look_up_same, set_of}
+use Rattle.automaton_reading.specs.Reading.{Question, byte_read, rest_taken, ended, Reach, LookUp, edges, once, look_up_edges, look_up_same}
 
 -- the automaton, the limit of weight, the sets in the order of their numbers, and what was asked of which set
 pub record TableView : Type 0 where
@@ -82,7 +82,3 @@ pub record IsTooHeavy (t : TableView) (look_up : LookUp) (weight : ℕ) : Type 0
 -- the look-up was not made; to ask for it took one step at most
 pub record IsRefused (t : TableView) (look_up : LookUp) (before after : ℕ) : Type 0 where
   pub steps : after ≤ before + 1
-
--- the table of the start states' set alone
-abbrev pub new_table : Automaton → ℕ → TableView
-new_table A limit = record { graph = A; limit = limit; sets = set_of A.starts ∷ []; look_ups = [] }

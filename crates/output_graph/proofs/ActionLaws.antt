@@ -7,7 +7,7 @@ use Rattle.output_graph.specs.declared.program.Action.{Action}
 use Rattle.output_graph.specs.declared.program.Action.TheVariants.{Make, Release}
 use Rattle.output_graph.specs.declared.program.Link.{Link}
 use Rattle.output_graph.specs.Forward.{Layer}
-use Rattle.output_graph.specs.Running.{IsThere, Leads, Point, also_in, point}
+use Rattle.output_graph.specs.Running.{Leads, Point, also_in, point}
 use Rattle.output_graph.specs.Sets.{cells_in}
 use Rattle.output_graph.proofs.SetLaws.{some_is}
 
@@ -19,12 +19,6 @@ drop_head (x ∷ actions) zero a h e = ap (λ (y : Action). y ∷ actions) (sym 
     none [] = refl
     none (y ∷ xs) = refl
 drop_head (x ∷ actions) (suc i) a h e = drop_head actions i a (omega arith) e
-
-pub drop_end : (actions : List Action) (i : ℕ) → length actions < suc i → drop i actions ≡ []
-drop_end [] zero h = refl
-drop_end [] (suc i) h = refl
-drop_end (x ∷ actions) zero h = absurd (omega arith)
-drop_end (x ∷ actions) (suc i) h = drop_end actions i (omega arith)
 
 pub leads_head : (sources : Layer) (at : ℕ) (Then : Point → Type 0) (actions : List Action) (i : ℕ) (s : Point) (a b : Action) → Leads sources at Then (drop i actions) s → i < length actions →
     a ≡ get_or actions i a → a ≡ b → Leads sources at Then (b ∷ drop (suc i) actions) s
@@ -53,9 +47,6 @@ module _ (sources : Layer) (at : ℕ) (Then : Point → Type 0) (actions items :
   module _ (l : Link) (is : a ≡ Make l) where
     pub make_within : l.from < length sources
     make_within = let h = here (Make l) is in cell_within sources l.from h.0 h.1
-
-    pub make_there : IfSome l.also (λ r. IsThere sources made r)
-    make_there = (here (Make l) is).3
 
     module _ (p : ℕ × ℕ) (from : p ≡ get_or sources l.from p) where
       from_is : p.1 ≡ (here (Make l) is).0

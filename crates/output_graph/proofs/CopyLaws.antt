@@ -1,5 +1,5 @@
 -- A layer under other names of its cells.
-use Rattle.std.proofs.Common.{◌≡◌, ℕ, zero, suc, ◌+◌, ◌<◌, ◌≤◌, ◌⊎◌, max, List, [], ◌∷◌, ◌++◌, map, drop, take, length, get_or, slice_get, Option, Some, None, inl, inr, refl, sym, ap, ap₂, ◌∙◌, subst, arith, add-one, if◌then◌else◌, nat_eq, eq-eqb, ne_eqb}
+use Rattle.std.proofs.Common.{◌≡◌, ℕ, zero, suc, ◌+◌, ◌<◌, ◌≤◌, ◌⊎◌, max, List, [], ◌∷◌, ◌++◌, map, drop, take, length, get_or, Option, Some, None, inl, inr, refl, sym, ap, ap₂, ◌∙◌, subst, arith, add-one, if◌then◌else◌, nat_eq, eq-eqb, ne_eqb}
 use Rattle.std.proofs.lemmas.Bool.{cases_eq, cond-true, cond-false}
 use Rattle.std.proofs.Math.Seq.{take-length}
 use Rattle.std.proofs.lemmas.List.{length-map}
@@ -13,16 +13,13 @@ use Rattle.output_graph.specs.Grown.{past, past_at, Closes, IsOpen, IsEarlier, A
 use Rattle.output_graph.specs.Forward.{Layer, cell_of}
 use Rattle.output_graph.specs.Graph.{Graph, Source, source_of, sets_of}
 use Rattle.output_graph.specs.Sound.{IsSound, left_cells}
-use Rattle.output_graph.specs.Sets.{IsIndexed, paired, cells_in}
+use Rattle.output_graph.specs.Sets.{paired, cells_in}
 use Rattle.output_graph.proofs.WordLemmas.{words_here, words_other, past_at_here, past_at_other}
 use Rattle.output_graph.proofs.LayerLaws.{IsLayer, layer_sound, cells_of, has_cell_of, cell_of_pair, pair_of_cell, set_of_cell}
 use Rattle.output_graph.proofs.GraphLaws.{same_pair}
 
 some_same : (a b : ℕ) → Some a ≡ Some b → a ≡ b
 some_same a b e = cc
-
-none_pair : (p : ℕ × ℕ) → None ≡ Some p → ⊥
-none_pair p e = absurd (cc)
 
 none_some : (a : ℕ) → None ≡ Some a → ⊥
 none_some a e = absurd (cc)
@@ -272,16 +269,6 @@ paired_more pairs cells k s c d p l e es ec = paired_next pairs cells k s c d p 
 pub paired_all : (pairs : Layer) (cells : List ℕ) (n : ℕ) → n ≡ length pairs → length cells ≡ length pairs → paired (take n pairs) (take n cells) ≡ paired pairs cells
 paired_all pairs cells n e same =
     ap₂ (λ (x y : ℕ). paired (take x pairs) (take y cells)) e (e ∙ sym same) ∙ ap₂ (λ (ps : Layer) (cs : List ℕ). paired ps cs) (take-length pairs) (take-length cells)
-
--- the places are those of the sets
-pub paired_indexed : (pairs : Layer) (cells places : List ℕ) → IsIndexed pairs places → IsIndexed (paired pairs cells) places
-paired_indexed pairs cells places indexed k p e = let r = set_at pairs cells k p e in indexed k (p.0, r.0) r.1
-  where
-    set_at : (ps : Layer) (cs : List ℕ) (i : ℕ) (q : ℕ × ℕ) → slice_get (paired ps cs) i ≡ Some q → (d : ℕ) × (slice_get ps i ≡ Some (q.0, d))
-    set_at [] cs i q e = absurd (none_pair q e)
-    set_at (p ∷ ps) [] i q e = absurd (none_pair q e)
-    set_at (p ∷ ps) (c ∷ cs) zero q e = (p.1, let same : (p.0, c) ≡ q = cc in ap (λ (x : ℕ × ℕ). let z : ℕ × ℕ = (x.0, p.1) in Some z) same)
-    set_at (p ∷ ps) (c ∷ cs) (suc i) q e = set_at ps cs i q e
 
 -- a graph and its copy
 pub record IsCopied (cells copies : List NamedLink) (layer after : Layer) (holds : Holds) : Type 0 where

@@ -15,11 +15,6 @@ set_names : (cells : List NamedLink) (layer : Layer) → map (λ (x : Source). x
 set_names cells [] = refl
 set_names cells (p ∷ layer) = ap (λ (xs : List ℕ). p.0 ∷ xs) (set_names cells layer)
 
-less_drop : (k : ℕ) (layer : Layer) (x : ℕ) → Has (sets_of (drop k layer)) x → Has (sets_of layer) x
-less_drop zero layer x h = h
-less_drop (suc k) [] x h = h
-less_drop (suc k) (p ∷ layer) x h = inr (less_drop k layer x h)
-
 distinct_drop : (k : ℕ) (layer : Layer) → AreDistinct (sets_of layer) → AreDistinct (sets_of (drop k layer))
 distinct_drop zero layer d = d
 distinct_drop (suc k) [] d = tt

@@ -1,5 +1,5 @@
 -- Programs: the places of targets, and the edges of each source.
-use Rattle.std.proofs.Common.{◌≡◌, ℕ, zero, suc, ◌<◌, ◌≤◌, List, [], ◌∷◌, ◌++◌, take, drop, length, Some, None, inl, inr, refl, sym, ap, ◌∙◌, subst, arith, nat_eq, eq-eqb, ne_eqb, get_or, slice_get, append-nil, length-append}
+use Rattle.std.proofs.Common.{◌≡◌, ℕ, zero, suc, ◌<◌, ◌≤◌, List, [], ◌∷◌, ◌++◌, take, drop, length, Some, None, inl, inr, refl, sym, ap, ◌∙◌, subst, arith, nat_eq, eq-eqb, ne_eqb, slice_get, length-append}
 use Rattle.std.specs.List.{flat_map}
 use Rattle.std.proofs.lemmas.List.{take-append-drop}
 use Rattle.std.proofs.lemmas.Bool.{cases_eq, cond-true, cond-false}
@@ -69,24 +69,6 @@ sets_with (p ∷ pairs) s c = elim (cases_eq p.0 s) as (λ _. sets_of (set_cell 
 
 -- ---- a target among sets
 
-pub place_step : (sets : List ℕ) (k s x : ℕ) → slice_get sets k ≡ Some x → (x ≡ s → ⊥) → place_in (drop k sets) s ≡ suc (place_in (drop (suc k) sets) s)
-place_step [] k s x e ne = cc
-place_step (t ∷ sets) zero s x e ne =
-    let is : t ≡ x = some_is t x e in
-    cond-false (nat_eq t s) 0 (suc (place_in sets s)) (ne_eqb t s (λ same. ne (sym is ∙ same)))
-place_step (t ∷ sets) (suc k) s x e ne = place_step sets k s x e ne
-
-pub place_here : (sets : List ℕ) (k s x : ℕ) → slice_get sets k ≡ Some x → x ≡ s → place_in (drop k sets) s ≡ 0
-place_here [] k s x e is = cc
-place_here (t ∷ sets) zero s x e is = cond-true (nat_eq t s) 0 (suc (place_in sets s)) (eq-eqb t s (some_is t x e ∙ is))
-place_here (t ∷ sets) (suc k) s x e is = place_here sets k s x e is
-
-pub place_end : (sets : List ℕ) (k s : ℕ) → length sets ≤ k → place_in (drop k sets) s ≡ 0
-place_end [] zero s h = refl
-place_end [] (suc k) s h = refl
-place_end (t ∷ sets) zero s h = absurd (omega arith)
-place_end (t ∷ sets) (suc k) s h = place_end sets k s (omega arith)
-
 pub with_last : (sets : List ℕ) (s : ℕ) → place_in sets s ≡ length sets → with_target sets s ≡ sets ++ s ∷ []
 with_last [] s is = refl
 with_last (t ∷ sets) s is = elim (cases_eq t s) as (λ _. with_target (t ∷ sets) s ≡ t ∷ (sets ++ s ∷ [])) [
@@ -153,64 +135,11 @@ pub edges_length : (xs : List Move) → length (edges_in xs) ≡ length xs
 edges_length [] = refl
 edges_length (x ∷ xs) = ap suc (edges_length xs)
 
-pub has_take : (xs : List Move) (n : ℕ) (m : Move) → Has (take n xs) m → Has xs m
-has_take [] zero m h = absurd h
-has_take [] (suc n) m h = absurd h
-has_take (x ∷ xs) zero m h = absurd h
-has_take (x ∷ xs) (suc n) m (inl e) = inl e
-has_take (x ∷ xs) (suc n) m (inr h) = inr (has_take xs n m h)
-
 pub has_drop : (xs : List Move) (n : ℕ) (m : Move) → Has (drop n xs) m → Has xs m
 has_drop [] zero m h = absurd h
 has_drop [] (suc n) m h = absurd h
 has_drop (x ∷ xs) zero m h = h
 has_drop (x ∷ xs) (suc n) m h = inr (has_drop xs n m h)
-
--- ---- the move at i
-
-pub moves_cut : (xs : List Move) (i : ℕ) (m : Move) → i < length xs → m ≡ get_or xs i m → (rest : Edges) × (edges_in xs ≡ edges_in (take i xs) ++ (m.marks, m.to) ∷ rest)
-moves_cut [] i m h is = absurd (omega arith)
-moves_cut (x ∷ xs) zero m h is = (edges_in xs, ap (λ (y : Move). (y.marks, y.to) ∷ edges_in xs) (sym is))
-moves_cut (x ∷ xs) (suc i) m h is = let r = moves_cut xs i m (omega arith) is in (r.0, ap (λ (ys : Edges). (x.marks, x.to) ∷ ys) r.1)
-
-pub moves_all : (xs : List Move) (i : ℕ) → length xs ≤ i → edges_in xs ≡ edges_in (take i xs) ++ []
-moves_all xs i h = ap (λ (ys : List Move). edges_in ys) (sym (take_all xs i h)) ∙ sym (append-nil (edges_in (take i xs)))
-
-pub moves_more : (xs : List Move) (i : ℕ) (m : Move) → i < length xs → m ≡ get_or xs i m → edges_in (take (suc i) xs) ≡ edges_in (take i xs) ++ (m.marks, m.to) ∷ []
-moves_more [] i m h is = absurd (omega arith)
-moves_more (x ∷ xs) zero m h is = ap (λ (y : Move). (y.marks, y.to) ∷ []) (sym is)
-moves_more (x ∷ xs) (suc i) m h is = ap (λ (ys : Edges). (x.marks, x.to) ∷ ys) (moves_more xs i m (omega arith) is)
-
-pub length_moves : (xs : List Move) (i : ℕ) → i ≤ length xs → length (edges_in (take i xs)) ≡ i
-length_moves [] zero h = refl
-length_moves [] (suc i) h = absurd (omega arith)
-length_moves (x ∷ xs) zero h = refl
-length_moves (x ∷ xs) (suc i) h = let r = length_moves xs i (omega arith) in omega arith
-
-pub placed_at : (sets : List ℕ) (xs : List Move) (i : ℕ) (m : Move) → i < length xs → m ≡ get_or xs i m → ArePlaced sets xs → m.place ≡ place_in (targets_from sets (take i xs)) m.to
-placed_at sets [] i m h is are = absurd (omega arith)
-placed_at sets (x ∷ xs) zero m h is are = subst (λ (y : Move). y.place ≡ place_in sets y.to) (sym is) are.0
-placed_at sets (x ∷ xs) (suc i) m h is are = placed_at (with_target sets x.to) xs i m (omega arith) is are.1
-
-pub targets_next : (sets : List ℕ) (xs : List Move) (i : ℕ) (m : Move) → i < length xs → m ≡ get_or xs i m → targets_from sets (take (suc i) xs) ≡ with_target (targets_from sets (take i xs)) m.to
-targets_next sets [] i m h is = absurd (omega arith)
-targets_next sets (x ∷ xs) zero m h is = ap (λ (y : Move). with_target sets y.to) (sym is)
-targets_next sets (x ∷ xs) (suc i) m h is = targets_next (with_target sets x.to) xs i m (omega arith) is
-
-pub has_move : (xs : List Move) (i : ℕ) (m : Move) → i < length xs → m ≡ get_or xs i m → Has xs m
-has_move [] i m h is = absurd (omega arith)
-has_move (x ∷ xs) zero m h is = inl (sym is)
-has_move (x ∷ xs) (suc i) m h is = inr (has_move xs i m (omega arith) is)
-
--- where no edge is left behind it, the move is the last
-pub targets_last : (sets : List ℕ) (xs : List Move) (i : ℕ) (m : Move) → i < length xs → m ≡ get_or xs i m → (rest : Edges) → edges_in xs ≡ edges_in (take i xs) ++ (m.marks, m.to) ∷ rest → rest ≡ [] →
-    targets_from sets xs ≡ with_target (targets_from sets (take i xs)) m.to
-targets_last sets xs i m h is rest split none =
-    let l = edges_length xs in
-    let n = length_moves xs i (omega arith) in
-    let e = ap length split ∙ length-append (edges_in (take i xs)) ((m.marks, m.to) ∷ rest) in
-    let z = ap length none in
-    ap (λ (ys : List Move). targets_from sets ys) (sym (take_all xs (suc i) (omega arith))) ∙ targets_next sets xs i m h is
 
 -- ---- one source more
 

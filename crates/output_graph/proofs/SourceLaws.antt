@@ -74,9 +74,6 @@ module _ (sources after : List ℕ) (W : ℕ → List Word) (at c : ℕ) (apart 
     finished_after d (inl e) h = s.not_after (subst (λ (x : Choice). Has after x.cell) (sym e) h)
     finished_after d (inr hd) h = s.finished d hd h
 
-    no_edge_below : marks ≡ 0 → (f : ℕ × ℕ) → Has edges f → ⊥
-    no_edge_below none f h = let lt : f.0 < marks = s.descend.0 f h in omega arith
-
     module _ (name : ℕ) (fresh : HasCell cells name → ⊥) where
       abbrev link : NamedLink
       link = new_link name at marks c (cell_of next to)
@@ -141,13 +138,3 @@ between_without sources left W at done cells next k b un not_next gone = record 
   comes = λ c marks h some d hd from md. b.comes c marks h some d (without_less k cells d hd) from md;
   finished = b.finished;
 }
-
--- a step ends: the cells of the next layer are open, and may be the sources of a step at any position past the cells
-pub between_ends : (sources : List ℕ) (W : ℕ → List Word) (at : ℕ) (done : List Choice) (cells : List NamedLink) (next : Layer) (targets : List ℕ) →
-    Between sources [] W at done cells next → ((c : ℕ) → Has targets c → (s : ℕ) × (cell_of next s ≡ Some c)) →
-    AreGrown cells × ((c : ℕ) → Has targets c → HasCell cells c) × ((c : ℕ) → Has targets c → IsOpen cells c)
-between_ends sources W at done cells next targets b held = (
-  b.growing.grown,
-  (λ c h. let t = held c h in b.growing.next_there t.0 c t.1),
-  (λ c h. let t = held c h in b.growing.next_open t.0 c t.1),
-)

@@ -1,12 +1,11 @@
 -- The beginning and the end of a step, and an edge whose source hands its cell on.
-use Rattle.std.proofs.Common.{◌≡◌, ◌⊎◌, ℕ, ◌+◌, ◌<◌, Bool, true, false, List, [], ◌∷◌, ◌++◌, Some, None, inl, inr, refl, sym, ap, ◌∙◌, subst, arith, if◌then◌else◌, nat_eq, append-nil, eq-eqb}
+use Rattle.std.proofs.Common.{◌≡◌, ◌⊎◌, ℕ, List, [], ◌∷◌, ◌++◌, Some, None, inl, inr, refl, sym, ap, ◌∙◌, subst, arith, nat_eq, append-nil, eq-eqb}
 use Rattle.std.proofs.lemmas.Bool.{cases_eq, cond-true}
 use Rattle.span_core.specs.Lists.{Has, AreDistinct}
 use Rattle.node_arena.specs.Words.{Word, words}
 use Rattle.node_arena.specs.Cells.{NamedLink, HasCell, without, IsUnnamed}
 use Rattle.output_graph.specs.Forward.{Layer, cell_of, set_cell, mark_block, Choice, Chosen, InLayer, AreSources, Stepping, SetsAreApart, Growing}
 use Rattle.output_graph.proofs.ReleaseLaws.{words_without, without_keeps, without_less, grown_without, past_at_without}
-use Rattle.span_core.proofs.HasLaws.{Has-append_cases}
 use Rattle.output_graph.proofs.ForwardLaws.{cell_of_set, cell_of_other, choice_told}
 
 some_same : (a b : ℕ) → Some a ≡ Some b → a ≡ b
@@ -89,45 +88,6 @@ sets_are_apart sources left W at done cells next apart so_far one_target s r c b
     let e = so_far.sound r b w ir hr in
     let told = choice_told sources left W at done cells next apart so_far d.0 e.0 d.1 e.1 (so_far.by_sources d.0 d.2) (so_far.by_sources e.0 e.2) d.4 e.4 (d.5 ∙ sym e.5) in
     sym d.3 ∙ (one_target d.0 e.0 d.2 e.2 told.0 told.1 ∙ e.3)
-
-below_by : (at m : ℕ) (b : Bool) (x : ℕ × ℕ) → Has (if b then [] else (at, m) ∷ []) x → x.0 ≡ at
-below_by at m true x h = absurd h
-below_by at m false x (inl e) = ap (λ (p : ℕ × ℕ). p.0) (sym e)
-below_by at m false x (inr n) = absurd n
-
--- the positions of the new words are at most that of the step
-pub chosen_below : (sources left : List ℕ) (W : ℕ → List Word) (at : ℕ) (done : List Choice) (cells : List NamedLink) (next : Layer) (s : ℕ) (w : Word) (x : ℕ × ℕ) →
-    AreSources sources W at → Stepping sources left W at done cells next → Chosen W at done s w → Has w x → x.0 < at + 1
-chosen_below sources left W at done cells next s w x apart so_far chosen h =
-    let h' : Has (chosen.1 ++ mark_block at chosen.0.marks) x = subst (λ ws. Has ws x) (sym chosen.5) h in
-    elim (Has-append_cases chosen.1 (mark_block at chosen.0.marks) x h') as (λ _. x.0 < at + 1) [
-      | inl a ↦ let p = apart.below chosen.0.cell chosen.1 x (so_far.by_sources chosen.0 chosen.2) chosen.4 a in omega arith
-      | inr b ↦ let p : x.0 ≡ at = below_by at chosen.0.marks (nat_eq chosen.0.marks 0) x b in omega arith
-    ]
-
--- a step without marks: the words stay below its position
-pub chosen_same : (sources left : List ℕ) (W : ℕ → List Word) (at : ℕ) (done : List Choice) (cells : List NamedLink) (next : Layer) (s : ℕ) (w : Word) (x : ℕ × ℕ) →
-    AreSources sources W at → Stepping sources left W at done cells next → ((e : Choice) → Has done e → e.marks ≡ 0) → Chosen W at done s w → Has w x → x.0 < at
-chosen_same sources left W at done cells next s w x apart so_far none chosen h =
-    let nil : mark_block at chosen.0.marks ≡ [] = no_block at chosen.0.marks (none chosen.0 chosen.2) in
-    let w_is : chosen.1 ≡ w = sym (append-nil chosen.1) ∙ (ap (λ b. chosen.1 ++ b) (sym nil) ∙ chosen.5) in
-    apart.below chosen.0.cell chosen.1 x (so_far.by_sources chosen.0 chosen.2) chosen.4 (subst (λ ws. Has ws x) (sym w_is) h)
-
--- so the next layer's cells are the sources of the next step
-pub next_sources : (sources left : List ℕ) (W : ℕ → List Word) (at later : ℕ) (done : List Choice) (cells : List NamedLink) (next : Layer) (targets : List ℕ) →
-    AreSources sources W at → Stepping sources left W at done cells next →
-    ((d e : Choice) → Has done d → Has done e → d.cell ≡ e.cell → d.marks ≡ e.marks → d.to ≡ e.to) →
-    ((c : ℕ) → Has targets c → (s : ℕ) × (cell_of next s ≡ Some c)) →
-    ((s : ℕ) (w : Word) (x : ℕ × ℕ) → Chosen W at done s w → Has w x → x.0 < later) → AreSources targets (words cells) later
-next_sources sources left W at later done cells next targets apart so_far one_target held below = record {
-  below = λ c u x hc hu hx. let t = held c hc in below t.0 u x (so_far.sound t.0 c u t.1 hu) hx;
-  one_path = λ c hc. let t = held c hc in so_far.one_path t.0 c t.1;
-  apart = λ c b u hc hb hu hv.
-      let t = held c hc in
-      let r = held b hb in
-      let same : t.0 ≡ r.0 = sets_are_apart sources left W at done cells next apart so_far one_target t.0 r.0 c b u t.1 r.1 hu hv in
-      some_same c b (sym t.1 ∙ (ap (λ n. cell_of next n) same ∙ r.1));
-}
 
 -- a source is done, and a cell that nothing names is given back
 pub step_without : (sources left after : List ℕ) (W : ℕ → List Word) (at : ℕ) (done : List Choice) (cells : List NamedLink) (next : Layer) (k : ℕ) →

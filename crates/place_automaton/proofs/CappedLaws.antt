@@ -1,8 +1,7 @@
 -- Sums and products of numbers that are kept up to a greatest one.
-use Rattle.std.proofs.Common.{◌≡◌, ℕ, zero, suc, ◌+◌, ◌-◌, ◌*◌, ◌^◌, ◌≤◌, min, inl, inr, refl, sym, ap, ◌∙◌, arith, None}
+use Rattle.std.proofs.Common.{◌≡◌, ℕ, zero, suc, ◌+◌, ◌-◌, ◌*◌, ◌^◌, ◌≤◌, min, inl, inr, refl, sym, ap, ◌∙◌, arith}
 use Rattle.std.proofs.Math.Nat.{mul-le-mul_left, mul-le-mul_right}
 use Rattle.place_automaton.specs.Capped.{capped}
-use Rattle.place_automaton.specs.Counts.{PlaceCounts, counts_plus, counts_copies, counts_repeated}
 use Rattle.place_automaton.proofs.Blocks.{compared}
 
 module _ (m : ℕ) where
@@ -59,8 +58,3 @@ sum_of a b x y r e f g = g ∙ (ap (λ a. capped (a + b)) e ∙ (ap (λ b. cappe
 
 pub product_of : (a b x y r : ℕ) → a ≡ capped x → b ≡ capped y → r ≡ min (a * b) (2 ^ 64 - 1) → r ≡ capped (x * y)
 product_of a b x y r e f g = g ∙ (ap (λ a. capped (a * b)) e ∙ (ap (λ b. capped (capped x * b)) f ∙ capped_mul x y))
-
--- a repetition without a greatest number, that has to come once
-pub repeated_once : (n : ℕ) (a : PlaceCounts) → (n ≡ 0 → ⊥) → counts_copies (n - 1) a (counts_plus a) ≡ counts_repeated n None a
-repeated_once zero a h = absurd (h refl)
-repeated_once (suc n) a h = let e : suc n - 1 ≡ n = omega arith in ap (λ k. counts_copies k a (counts_plus a)) e

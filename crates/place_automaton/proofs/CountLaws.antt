@@ -177,9 +177,6 @@ all_ways s t f =
 pub small_ways : (s t : Bool) (f : Tree) → has_large_null f ≡ false → ways_of s t (counts_over (with_vars [] f) f) ≡ count_ways s t f
 small_ways s t f e = ap (λ (b : Bool). if b then MOST_WAYS + 1 else ways_of s t (counts_over (with_vars [] f) f)) (sym e)
 
-pub large_ways : (s t : Bool) (f : Tree) → has_large_null f ≡ true → MOST_WAYS + 1 ≡ count_ways s t f
-large_ways s t f e = ap (λ (b : Bool). if b then MOST_WAYS + 1 else ways_of s t (counts_over (with_vars [] f) f)) (sym e)
-
 pub count_law : CountLaw
 count_law s t f =
     let names = with_vars [] f in

@@ -3,7 +3,6 @@ use Rattle.std.proofs.Common.{◌≡◌, ℕ, ◌+◌, List, [], ◌∷◌, ◌+
 use Rattle.std.specs.Prelude.{slice_get, Result, Ok, Err, IfOk, OnOk}
 use Rattle.std.proofs.lemmas.List.{map-append}
 use Rattle.spanner_model.specs.Captures.{VarName}
-use Rattle.span_core.specs.Lists.{Has}
 use Rattle.spanner_model.specs.Tree.{Tree, cat_all}
 use Rattle.spanner_model.proofs.TreeLaws.{take_at_more}
 use Rattle.place_automaton.specs.declared.placing.Draft.{Draft}
@@ -69,9 +68,6 @@ module _ (names : List VarName) where
       ap (λ us. in_turn (placers us) k) (take_at_more ts i t at) ∙ (ap (λ Fs. in_turn Fs k) (map-append (places_of names) (take i ts) (t ∷ []))
       ∙ (in_turn_more (placers (take i ts)) (places_of names t) k ∙ ap (λ n. Ps ++ places_of names t n ∷ []) (sym here))) in
       subst (λ Qs. IsRow Qs a c ys) (sym all) (row_more Ps (places_of names t b.next) a b c xs ys e row h is)
-
-  abbrev pub AllHaveClasses : List Tree → Type 0
-  AllHaveClasses ts = (t : Tree) → Has ts t → HasClasses t
 
   pub parts_joins : (ts : List Tree) → IsSequential (cat_all ts) → HasOrderedRepeats (cat_all ts) → HasClasses (cat_all ts) → AreNamed names (cat_all ts) → (k : ℕ) →
       RowJoins (length ts) (map sides_of (in_turn (placers ts) k)) nothing_sides

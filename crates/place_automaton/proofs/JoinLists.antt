@@ -1,8 +1,7 @@
 -- Lists as loops go through them, and markers that are put before and behind.
 use Rattle.std.proofs.Common.{◌≡◌, ℕ, zero, suc, ◌+◌, ◌-◌, ◌<◌, ◌≤◌, List, [], ◌∷◌, ◌++◌, length, get_or, take, drop, map, refl, sym, ap, ◌∙◌, arith}
 use Rattle.std.specs.Prelude.{slice_set}
-use Rattle.std.specs.List.{flat_map}
-use Rattle.std.proofs.lemmas.List.{take_more, map-append, append_assoc, flat_map_more, get_or-drop, get_or-take, get_or_append_left, length-drop, length-take}
+use Rattle.std.proofs.lemmas.List.{take_more, map-append, append_assoc, get_or-drop, get_or-take, get_or_append_left, length-drop, length-take}
 use Rattle.marked_automaton.specs.declared.way.Stop.{Stop}
 use Rattle.place_automaton.specs.declared.piece.Entry.{Entry}
 use Rattle.place_automaton.specs.Places.{entry_with, stop_with}
@@ -31,13 +30,6 @@ pushed_next f xs i x old now l at e =
     ap (λ ys. ys ++ f x ∷ []) e
     ∙ (append_assoc old (map f (take i xs)) (f x ∷ [])
     ∙ ap (λ ys. old ++ ys) (sym (map-append f (take i xs) (x ∷ [])) ∙ ap (map f) (ap (λ y. take i xs ++ y ∷ []) at ∙ sym (take_more xs i x l))))
-
-pub pushed_list : {X Y : Type 0} (f : X → List Y) (xs : List X) (i : ℕ) (x : X) (old now : List Y) → i < length xs → x ≡ get_or xs i x →
-    now ≡ old ++ flat_map f (take i xs) → now ++ f x ≡ old ++ flat_map f (take (i + 1) xs)
-pushed_list f xs i x old now l at e =
-    ap (λ ys. ys ++ f x) e
-    ∙ (flat_map_more f old (take i xs) x
-    ∙ ap (λ ys. old ++ flat_map f ys) (ap (λ y. take i xs ++ y ∷ []) at ∙ sym (take_more xs i x l)))
 
 -- no markers change nothing
 pub entries_same : (m : ℕ) (es : List Entry) → m ≡ 0 → es ≡ map (entry_with m) es

@@ -168,9 +168,6 @@ module _ (F : Placed) (k : ℕ) where
     size : end ≡ length old + length (F k).follow
     size = stop ∙ (ap length some ∙ length-append old (F k).follow)
 
-    pub ways_order : from ≤ end
-    ways_order = omega (arith, start, size)
-
     all : (i : ℕ) → 1 ≤ i → now ≡ old ++ follows (copies F i k) → (rest : List Way) × (now ≡ old ++ ((F k).follow ++ rest))
     all zero l e = absurd (omega (arith, l))
     all (suc i) l e = (follows (copies F i (k + (F k).count)), e)

@@ -91,9 +91,6 @@ coded =
     step 1 0 of_a 3 ∷ step 2 0 of_a 3 ∷ step 0 0 of_a 1 ∷ step 0 0 of_b 2 ∷
     step 0 0 of_a 3 ∷ step 0 0 of_all 0 ∷ step 29 0 of_all 29 ∷ step 28 1 of_all 29 ∷ []
 
-coded_ways : far_back_automaton.ways ≡ map way_of coded
-coded_ways = refl
-
 -- those that members take, where `holds` tells which byte sets have the byte
 abbrev taken : (Class → Bool) → List ℕ → List Step → List Step
 taken holds S steps = filter (λ (t : Step). is_among S t.from && holds t.class) steps

@@ -277,12 +277,6 @@ module _ (V S : ℕ → VarName → Type 0) where
 
   -- ---- differences
 
-  pub minus_left : (e g : ExprTree) (f : QueryFault) → IsExprFault V S e f → IsExprFault V S (minus e g) f
-  minus_left e g f h = inl (inl h)
-
-  pub minus_right : (e g : ExprTree) (f : QueryFault) → Passes V S e → IsExprFault V S g f → IsExprFault V S (minus e g) f
-  minus_right e g f ok h = inl (inr (ok, h))
-
   one_side : (e g : ExprTree) (a b : BoundNames) → IsBoundOf V S e a → IsBoundOf V S g b → (x : VarName) → IsInOne a b x ↔ IsOfOneSide V S e g x
   one_side e g a b left right x = (
     λ h. elim h as (λ _. IsOfOneSide V S e g x) [

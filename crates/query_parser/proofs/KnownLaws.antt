@@ -1,5 +1,5 @@
 -- The names of a query's atoms, and the variables of the lets that are known.
-use Rattle.std.proofs.Common.{◌≡◌, ℕ, zero, suc, ◌+◌, ◌<◌, ◌≤◌, ◌⊎◌, ◌↔◌, Bool, true, false, List, [], ◌∷◌, ◌++◌, length, take, Option, Some, inl, inr, refl, sym, subst, arith}
+use Rattle.std.proofs.Common.{◌≡◌, ℕ, suc, ◌+◌, ◌<◌, ◌≤◌, ◌⊎◌, ◌↔◌, Bool, true, false, List, [], ◌∷◌, ◌++◌, length, take, Option, Some, inl, inr, refl, sym, subst, arith}
 use Rattle.std.specs.Prelude.{slice_get, nat_eq, MatchBool, if◌then◌else◌}
 use Rattle.std.specs.Option.{IsSomeAnd}
 use Rattle.std.proofs.lemmas.List.{take_all}
@@ -50,17 +50,6 @@ pub record Knows (lets : List (VarName × ExprTree)) (known : List BoundNames) :
   pub vars : SameVars (vars_known known) (vars_of_lets lets (length known))
   pub sure : SameVars (sure_known known) (sure_of_lets lets (length known))
   pub among : HasSureAmongVars known
-
-pub knows_none : (lets : List (VarName × ExprTree)) → Knows lets []
-knows_none lets = record {
-  vars = λ k x. (λ h. absurd (none k (λ b. Has b.vars x) h), λ h. absurd h);
-  sure = λ k x. (λ h. absurd (none k (λ b. Has b.sure x) h), λ h. absurd h);
-  among = λ k x h. absurd (none k (λ b. Has b.sure x) h);
-}
-  where
-    none : (k : ℕ) (P : BoundNames → Type 0) → IsSomeAnd (slice_get [] k) P → ⊥
-    none zero P h = h
-    none (suc k) P h = h
 
 -- at each place of a list with one more
 more_at : (P : BoundNames → Type 0) (N : VarName × ExprTree → Type 0) (Q : Type 0) (b : Bool) (new : BoundNames) (old : Option BoundNames) (o : Option (VarName × ExprTree)) (l : VarName × ExprTree) →

@@ -15,7 +15,7 @@ use Rattle.query_parser.specs.declared.fault.QueryFault.TheVariants.{Unexpected}
 use Rattle.query_parser.specs.Tokens.{Token, atom_token, equals, semicolon, open_paren, close_paren, comma, word_token, sign_token, is_blank, IsStray, IsWordAt, TokenAt, atom_at, word_at, sign_at, BlankAt}
 use Rattle.query_parser.specs.Reads.{unexpected}
 use Rattle.query_parser.specs.Nest.{Nest, Move, Body, move, wants_unit, whole_query, with_unit}
-use Rattle.query_parser.specs.Step.{Next, goes, reads_atom, stops, moved, signs, ends, words, step, EndsAfter, Ends}
+use Rattle.query_parser.specs.Step.{Next, goes, reads_atom, stops, moved, signs, ends, words, step, Ends}
 use Rattle.query_parser.specs.Step as code
 
 -- what a byte begins
@@ -48,9 +48,6 @@ front_of c = by_blank (is_blank c) refl
 -- steps, by the byte at the front
 abbrev pub slashes : ℕ → Nest → Next
 slashes at n = if wants_unit n.last then reads_atom else stops (Err (Unexpected at))
-
-pub slash_step : (at : ℕ) (t : List ℕ) (n : Nest) → step at (47 ∷ t) n ≡ slashes at n
-slash_step at t n = refl
 
 pub start_no_blank : (c : ℕ) → is_name_start c ≡ true → (is_blank c ≡ false) × ((c == 47) ≡ false)
 start_no_blank c e = (grind (arith, nat_tests), grind (arith, nat_tests))

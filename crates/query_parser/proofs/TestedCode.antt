@@ -1,6 +1,6 @@
 -- What the code that reads queries with tests shows at its steps.
 use Rattle.std.proofs.Common.{◌≡◌, ◌⊎◌, inl, inr, ℕ, zero, suc, ◌+◌, ◌≤◌, ◌&&◌, Bool, true, false, List, [], ◌∷◌, ◌++◌, length, take, drop, Option, Some, None, Result, Ok, Err, ap, refl, sym, subst, ◌∙◌, arith, length-drop, cond}
-use Rattle.std.specs.Prelude.{IfOk, IfErr, IsTrue, ◌↔◌, codes, slice_get}
+use Rattle.std.specs.Prelude.{IfErr, IsTrue, ◌↔◌, codes, slice_get}
 use Rattle.std.proofs.lemmas.Bool.{and_parts}
 use Rattle.std.proofs.lemmas.List.{take_all}
 use Rattle.span_core.proofs.HasLaws.{Has-append_cases}
@@ -282,14 +282,6 @@ tested_memory (too_many_kept h k m) e = absurd (cc)
 tested_memory (too_many_captured h s m) e = absurd (cc)
 tested_memory (not_sound {t = t} h s r f) e = tree_memory t.query (subst (IsTreeFault t.query) e f)
 tested_memory (no_variable h s r m) e = absurd (cc)
-
-pub tested_found : (text : List ℕ) (r : Result Tested QueryFault) → IsTestedRead text r → IfOk r (λ t. IsTestedText text (tested_of t))
-tested_found text (Ok t) h = h
-tested_found text (Err e) h = tt
-
-pub tested_fault : (text : List ℕ) (r : Result Tested QueryFault) → IsTestedRead text r → IfErr r (λ e. (e ≡ OutOfMemory) ⊎ HasTestedFault text e)
-tested_fault text (Ok t) h = tt
-tested_fault text (Err e) h = h
 
 pub tested_never : (text : List ℕ) (r : Result Tested QueryFault) → IsTestedRead text r → IfErr r (λ e. ¬ (e ≡ memory_fault))
 tested_never text (Ok t) h = tt

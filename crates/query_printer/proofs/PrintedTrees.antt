@@ -1,21 +1,19 @@
 -- The printed forms of the code's formulas, and of their parts in turn.
-use Rattle.std.proofs.Common.{◌≡◌, ℕ, ◌+◌, ◌<◌, ◌≤◌, Bool, true, false, ◌==◌, List, [], ◌∷◌, ◌++◌, length, drop, Option, Some, Box, Global, ap, sym, refl, ◌∙◌, arith, append_assoc, if◌then◌else◌}
+use Rattle.std.proofs.Common.{◌≡◌, ℕ, ◌+◌, ◌<◌, ◌≤◌, Bool, true, false, ◌==◌, List, [], ◌∷◌, ◌++◌, length, drop, Some, ap, sym, refl, ◌∙◌, arith, append_assoc, if◌then◌else◌}
 use Rattle.std.specs.Prelude.{slice_get, nat_lt}
-use Rattle.std.specs.Ordering.{nat_cmp}
-use Rattle.std.specs.FinSet.{FinSet}
 use Rattle.std.proofs.lemmas.Bool.Decides.{nat_tests}
 use Rattle.std.proofs.lemmas.List.{drop_all, append-nil}
 use Rattle.spanner_model.specs.Tree.{Tree, cat_all, alt_all}
 use Rattle.spanner_model.specs.View.{tree_of, trees_of}
 use Rattle.spanner_model.specs.declared.formula.Formula.{Formula}
 use Rattle.spanner_model.specs.declared.formula.Parts.{Parts}
-use Rattle.spanner_model.specs.declared.formula.Formula.TheVariants.{Empty, One, Cat, Alt, Rep, Cap}
-use Rattle.spanner_model.proofs.Trees.{tree_of-Empty, tree_of-One, tree_of-Cat, tree_of-Alt, tree_of-Rep, tree_of-Cap}
+use Rattle.spanner_model.specs.declared.formula.Formula.TheVariants.{Cat, Alt}
+use Rattle.spanner_model.proofs.Trees.{tree_of-Cat, tree_of-Alt}
 use Rattle.spanner_model.proofs.Nodes.{nodes}
 use Rattle.span_core.proofs.HasLaws.{Has-slice_get}
 use Rattle.spanner_model.proofs.TreeLaws.{split_at, part_nodes, arms_nodes}
 use Rattle.formula_parser.specs.Spells.{given}
-use Rattle.query_printer.specs.PrintedFormula.{IsFront, a_unit, a_repeat, a_cat, an_alt, shape, wraps_arm, wraps_part, wrapped, printed, more_arms}
+use Rattle.query_printer.specs.PrintedFormula.{IsFront, a_cat, an_alt, shape, wraps_arm, wraps_part, wrapped, printed, more_arms}
 
 -- ---- what was appended
 
@@ -45,18 +43,6 @@ shape_cat (t ∷ ts) = refl
 shape_alt : (ts : List Tree) → shape (alt_all ts) ≡ an_alt
 shape_alt [] = refl
 shape_alt (t ∷ ts) = refl
-
-pub shape-Empty : (f : Formula) → f ≡ Empty → a_unit ≡ shape (tree_of f)
-shape-Empty f e = sym (ap (λ g. shape (tree_of g)) e ∙ ap shape tree_of-Empty)
-
-pub shape-One : (f : Formula) (s : FinSet nat_cmp) → f ≡ One s → a_unit ≡ shape (tree_of f)
-shape-One f s e = sym (ap (λ g. shape (tree_of g)) e ∙ ap shape (tree_of-One s))
-
-pub shape-Cap : (f : Formula) (x : List ℕ) (sub : Box Formula Global) → f ≡ Cap x sub → a_unit ≡ shape (tree_of f)
-shape-Cap f x sub e = sym (ap (λ g. shape (tree_of g)) e ∙ ap shape (tree_of-Cap x sub))
-
-pub shape-Rep : (f : Formula) (sub : Box Formula Global) (least : ℕ) (most : Option ℕ) → f ≡ Rep sub least most → a_repeat ≡ shape (tree_of f)
-shape-Rep f sub least most e = sym (ap (λ g. shape (tree_of g)) e ∙ ap shape (tree_of-Rep sub least most))
 
 pub shape-Cat : (f : Formula) (parts : Parts) → f ≡ Cat parts → a_cat ≡ shape (tree_of f)
 shape-Cat f parts e = sym (ap (λ g. shape (tree_of g)) e ∙ ap shape (tree_of-Cat parts) ∙ shape_cat (trees_of parts))

@@ -1,8 +1,8 @@
 -- The lines of atoms, part by part.
-use Rattle.std.proofs.Common.{◌≡◌, ℕ, suc, ◌+◌, ◌≤◌, List, [], ◌∷◌, ◌++◌, Some, Result, Ok, Err, IfOk, length, drop, take, refl, sym, ap, ◌∙◌, subst, arith, length-append}
+use Rattle.std.proofs.Common.{◌≡◌, ℕ, suc, ◌+◌, List, [], ◌∷◌, ◌++◌, Some, Result, Ok, Err, IfOk, length, drop, take, refl, sym, ap, ◌∙◌, subst, arith, length-append}
 use Rattle.std.proofs.lemmas.Grind.{flat_map-append}
 use Rattle.std.specs.Prelude.{slice_get}
-use Rattle.std.proofs.lemmas.List.{append-nil, append_assoc, take_all, take_more}
+use Rattle.std.proofs.lemmas.List.{append-nil, append_assoc, take_more}
 use Rattle.std.proofs.lemmas.Option.{slice_get_within, get_or_from_slice_get}
 use Rattle.cell_text.proofs.Lists.{at_drop}
 use Rattle.query_printer.specs.PrintedQuery.{further}
@@ -25,9 +25,6 @@ lines_both k (a ∷ xs) ys =
     ap (λ t. atom_line k a ++ t) (lines_both (suc k) xs ys ∙ ap (λ n. atom_lines (suc k) xs ++ atom_lines n ys) same)
     ∙ sym (append_assoc (atom_line k a) (atom_lines (suc k) xs) (atom_lines (k + suc (length xs)) ys))
 
-pub no_lines : (before : ℕ) (old : List ℕ) → HasLines before old [] before old
-no_lines before old = record { count = omega arith; lines = sym (append-nil old) }
-
 pub more_lines : (before : ℕ) (old : List ℕ) (xs : List AtomTree) (mid : ℕ) (text : List ℕ) (ys : List AtomTree) (all : ℕ) (new : List ℕ) →
     HasLines before old xs mid text → HasLines mid text ys all new → HasLines before old (xs ++ ys) all new
 more_lines before old xs mid text ys all new first then_ =
@@ -45,12 +42,6 @@ pub then_lines : {E : Type 0} (r : Result ℕ E) (before : ℕ) (old : List ℕ)
     HasLines before old xs mid text → IfOk r (λ all. HasLines mid text ys all new) → IfOk r (λ all. HasLines before old (xs ++ ys) all new)
 then_lines (Ok all) before old xs mid text ys new first then_ = more_lines before old xs mid text ys all new first then_
 then_lines (Err e) before old xs mid text ys new first then_ = tt
-
-pub one_line : (before : ℕ) (old : List ℕ) (a : AtomTree) (all : ℕ) (new : List ℕ) → all ≡ before + 1 → new ≡ old ++ atom_line (before + 1) a → HasLines before old (a ∷ []) all new
-one_line before old a all new count line = record {
-  count = count;
-  lines = line ∙ ap (λ t. old ++ t) (sym (append-nil (atom_line (before + 1) a)));
-}
 
 -- the elements up to a place, and that which stands there
 take_at : {X : Type 0} (xs : List X) (k : ℕ) (x : X) → slice_get xs k ≡ Some x → take (k + 1) xs ≡ take k xs ++ x ∷ []
@@ -73,13 +64,6 @@ let_lines before old lets k name e mid text all new at first then_ =
     let atoms : atoms_in (take (k + 1) lets) ≡ atoms_in (take k lets) ++ atoms_of e =
     ap atoms_in one ∙ flat_map-append (λ (l : VarName × ExprTree). atoms_of l.1) (take k lets) ((name, e) ∷ []) ∙ ap (λ t. atoms_in (take k lets) ++ t) (append-nil (atoms_of e)) in
     subst (λ xs. HasLines before old xs all new) (sym atoms) (more_lines before old (atoms_in (take k lets)) mid text (atoms_of e) all new first then_)
-
--- all of them
-pub all_lets : (before : ℕ) (old : List ℕ) (lets : List (VarName × ExprTree)) (k : ℕ) (all : ℕ) (new : List ℕ) → length lets ≤ k → HasLines before old (atoms_in (take k lets)) all new → HasLines before old (atoms_in lets) all new
-all_lets before old lets k all new past has = subst (λ xs. HasLines before old (atoms_in xs) all new) (take_all k lets past) has
-
-pub all_parts : (before : ℕ) (old : List ℕ) (parts : List ExprTree) (k : ℕ) (all : ℕ) (new : List ℕ) → length parts ≤ k → HasLines before old (atoms_among (take k parts)) all new → HasLines before old (atoms_among parts) all new
-all_parts before old parts k all new past has = subst (λ xs. HasLines before old (atoms_among xs) all new) (take_all k parts past) has
 
 -- one name more
 pub name_next : (old text mid new all x : List ℕ) (names : List VarName) (k : ℕ) → slice_get names k ≡ Some x → mid ≡ text ++ 32 ∷ [] → new ≡ mid ++ x →

@@ -81,14 +81,6 @@ rows_passed mid new waiting waiting' lines s = record {
 
 -- ---- a line in its place
 
--- a line that waits behind those before it
-pub passes_kept : (o : Flow) (waiting line left : List ℕ) → left ≡ waiting ++ line → Passes waiting line left (change o o)
-passes_kept o waiting line left is = record { sent = []; adds = Appends-nil o.bytes; joined = is }
-
--- those before it are sent, and it waits alone
-pub passes_moved : (old new : Flow) (waiting line sent left : List ℕ) → Adds (change old new) sent → sent ++ left ≡ waiting ++ line → Passes waiting line left (change old new)
-passes_moved old new waiting line sent left adds joined = record { sent = sent; adds = adds; joined = joined }
-
 -- bytes that are moved to the front
 pub moved_front : (at end : ℕ) (old new : List ℕ) → at ≤ end → end ≤ length old → new ≡ copy_within old at end 0 → take at old ++ take (end - at) new ≡ take end old
 moved_front at end old new low inside is =

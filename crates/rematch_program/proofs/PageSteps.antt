@@ -40,9 +40,6 @@ pub some_more : (more : Bool) (coming new : List SpanRow) (row : SpanRow) (P : T
 some_more false coming new row P some none = let n = ap length none.0 in (λ t. absurd (cc), λ l. absurd (omega (arith, n, l)))
 some_more true coming new row P some none = let one = ap length some in (λ t. omega (arith, one), λ l. refl)
 
-pub le_self : (n : ℕ) → n ≤ n
-le_self n = omega arith
-
 -- with what the counter keeps to told otherwise, from an earlier moment on
 module _ (out : Change) (end : Status) (note : List ℕ) (old mid new : ℕ) (text last : List ℕ) (P Q : Clock → Type 0) (then_ : P (clock mid new) → Q (clock old new)) where
   pub page_earlier : FromPage (work out (clock mid new)) end note text last P → FromPage (work out (clock old new)) end note text last Q

@@ -1,5 +1,5 @@
 -- The lines of kept fields are the lines of rows.
-use Rattle.std.proofs.Common.{◌≡◌, ℕ, ◌+◌, ◌*◌, ◌<◌, Bool, true, false, List, [], ◌∷◌, ◌++◌, length, map, refl, sym, ap, ◌∙◌, append_assoc, arith, Option, None, Some}
+use Rattle.std.proofs.Common.{◌≡◌, ℕ, ◌+◌, ◌*◌, Bool, true, false, List, [], ◌∷◌, ◌++◌, length, map, refl, sym, ap, ◌∙◌, append_assoc, arith, Option, None, Some}
 use Rattle.serde_json.specs.Data.{string}
 use Rattle.serde_json.specs.Written.{compact_text, members_text}
 use Rattle.span_core.specs.declared.span.Span.{Span}
@@ -7,7 +7,7 @@ use Rattle.row_writer.specs.declared.style.Style.{Style}
 use Rattle.row_writer.specs.declared.style.Style.TheVariants as style
 use Rattle.row_writer.specs.JsonLines.{json_cell, json_members, json_text}
 use Rattle.row_writer.specs.Lines.{more_fields, shown, spans_fields, spans_text, table_text}
-use Rattle.row_writer.specs.Kept.{Head, cells_text, empty_line, json_heads, json_kept, kept_text, line_end, line_room, more_members, more_names, more_tabs, quote_room, spans_heads, spans_kept, table_heads, table_kept, text_under}
+use Rattle.row_writer.specs.Kept.{Head, cells_text, json_heads, json_kept, kept_text, line_room, more_members, more_names, more_tabs, quote_room, spans_heads, spans_kept, table_heads, table_kept}
 
 -- what follows a cell and its head
 then_end : (before cell rest end : List ℕ) → (before ++ (cell ++ rest)) ++ end ≡ before ++ (cell ++ (rest ++ end))
@@ -99,15 +99,6 @@ more_members_length (name ∷ names) = let e = more_members_length names in omeg
 pub json_heads_length : (names : List (List ℕ)) → length (json_heads names) ≡ length names
 json_heads_length [] = refl
 json_heads_length (name ∷ names) = let e = more_members_length names in omega arith
-
--- a line without cells, and one with some
-pub under_none : (s : Style) (heads : List Head) (row : List (Option Span)) (doc : List ℕ) (texts : Bool) → length heads ≡ 0 → text_under s heads row doc texts ≡ empty_line s
-under_none s [] row doc texts none = refl
-under_none s (head ∷ heads) row doc texts none = absurd (omega arith)
-
-pub under_some : (s : Style) (heads : List Head) (row : List (Option Span)) (doc : List ℕ) (texts : Bool) → 0 < length heads → cells_text doc texts heads row ++ line_end s ≡ text_under s heads row doc texts
-under_some s [] row doc texts some = absurd (omega arith)
-under_some s (head ∷ heads) row doc texts some = refl
 
 -- no text has no room
 no_quote : (s : Style) (span : Option Span) → quote_room s false span ≡ 0

@@ -63,13 +63,6 @@ all_kept t d items k l count led none = record {
   rest = λ n p m o h. none n p (omega (arith, m, count)) h;
 }
 
-pub whole_kept : (t : Tabled) (d items : List ℕ) (k : ℕ) → length d ≤ k → k ≤ length d → length items ≡ k + 1 → AreLed t (reverse d) items → ReadsAll t (reverse d) items
-whole_kept t d items k l m count led = record {
-  few = let len : length (reverse d) ≡ length d = length-reverse d in omega (arith, len);
-  led = led;
-  rest = λ n p a b h. let len : length (reverse d) ≡ length d = length-reverse d in absurd (omega (arith, len, a, b));
-}
-
 pub byte_at_end : (d : List ℕ) (k : ℕ) → k < length d → slice_get (reverse d) k ≡ Some (get_or d (length d - 1 - k) 0)
 byte_at_end d k l = byte_back d k (get_or d (length d - 1 - k) 0) l refl
 

@@ -1,5 +1,5 @@
 -- Two ascending lists, from some places on.
-use Rattle.std.proofs.Common.{◌≡◌, ℕ, zero, suc, ◌+◌, ◌<◌, ◌≤◌, ◌⊎◌, List, [], ◌∷◌, length, get_or, drop, inl, inr, sym, subst, arith, add-one}
+use Rattle.std.proofs.Common.{◌≡◌, ℕ, zero, suc, ◌+◌, ◌<◌, ◌≤◌, ◌⊎◌, List, [], ◌∷◌, get_or, drop, inl, inr, sym, subst, arith, add-one}
 use Rattle.std.specs.List.{AllByRecursion}
 use Rattle.span_core.specs.Lists.{Has, IsInOrder}
 
@@ -26,18 +26,9 @@ drop_cases (x ∷ xs) zero r (inl e) = inl e
 drop_cases (x ∷ xs) zero r (inr k) = inr k
 drop_cases (x ∷ xs) (suc i) r h = drop_cases xs i r h
 
-drop_none : (xs : List ℕ) (i r : ℕ) → length xs ≤ i → Has (drop i xs) r → ⊥
-drop_none [] zero r l h = h
-drop_none [] (suc i) r l h = h
-drop_none (x ∷ xs) zero r l h = omega (arith, l)
-drop_none (x ∷ xs) (suc i) r l h = drop_none xs i r (omega (arith, l)) h
-
 -- what both have stands behind i in the one and behind j in the other
 abbrev pub StandBehind : List ℕ → List ℕ → ℕ → ℕ → Type 0
 StandBehind a b i j = (r : ℕ) → Has a r → Has b r → Has (drop i a) r × Has (drop j b) r
-
-pub stand_at_first : (a b : List ℕ) → StandBehind a b 0 0
-stand_at_first a b r h k = (h, k)
 
 after : (xs : List ℕ) (i r : ℕ) → (get_or xs i 0 ≡ r → ⊥) → Has (drop i xs) r → Has (drop (i + 1) xs) r
 after xs i r apart h =
@@ -61,7 +52,3 @@ stand_right a b i j up less h r k l =
 -- a number that both have is no less than the one at i
 pub shared_least : (a b : List ℕ) (i j r : ℕ) → Ascends a → StandBehind a b i j → Has a r → Has b r → get_or a i 0 ≤ r
 shared_least a b i j r up h k l = least_at a i r up (h r k l).0
-
-pub none_shared : (a b : List ℕ) (i j r : ℕ) → StandBehind a b i j → (length a ≤ i) ⊎ (length b ≤ j) → Has a r → Has b r → ⊥
-none_shared a b i j r h (inl l) k m = drop_none a i r l (h r k m).0
-none_shared a b i j r h (inr l) k m = drop_none b j r l (h r k m).1

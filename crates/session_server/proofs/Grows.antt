@@ -1,9 +1,8 @@
 -- What is held of reading a session's document.
-use Rattle.std.proofs.Common.{arith, zero, suc, Fits, w8, slice_index_or, ◌≡◌, ◌+◌, ◌<◌, ◌≤◌, ◌^◌, ◌⊎◌, ℕ, Bool, true, false, List, [], ◌∷◌, ◌++◌, length, take, drop, Option, Some, None, MatchOption, Result, Ok, Err, IfOk, IfErr, inl, inr, refl, sym, ap, ◌∙◌, subst, length-append}
+use Rattle.std.proofs.Common.{arith, zero, suc, Fits, w8, slice_index_or, ◌≡◌, ◌+◌, ◌<◌, ◌≤◌, ◌^◌, ℕ, Bool, true, false, List, [], ◌∷◌, ◌++◌, length, take, drop, Option, MatchOption, inl, inr, refl, sym, ap, ◌∙◌, subst, length-append}
 use Rattle.std.specs.Prelude.{if◌then◌else◌, map, nat_lt}
 use Rattle.serde_json.specs.View.{view}
 use Rattle.serde_json.specs.declared.value.Value.{Value}
-use Rattle.std.specs.List.{flat_map}
 use Rattle.span_core.specs.Lists.{Has}
 use Rattle.span_core.proofs.HasLaws.{Has-append_cases, Has-append_left, Has-append_right}
 use Rattle.spanner_model.specs.Captures.{VarName}
@@ -19,7 +18,7 @@ use Rattle.one_pass.proofs.Sets.{weight_covers}
 use Rattle.growing_document.specs.Faults.{IsAppendFault, IsRowsFault, IsWeightFault}
 use Rattle.growing_document.specs.Grown.{AreBytes, AreRowsRead, Grown, IsAppended, IsAsked, at_start}
 use Rattle.growing_document.specs.Lengths.{IsAskedAt, ends_at, weight_at}
-use Rattle.growing_document.specs.Numbers.{questions_in, end_look_ups_at, first_sets, look_ups_in, sets_in, weight_with}
+use Rattle.growing_document.specs.Numbers.{questions_in, end_look_ups_at, first_sets, look_ups_in, sets_in}
 use Rattle.growing_document.specs.declared.fault.GrowFault.{GrowFault}
 use Rattle.growing_document.specs.declared.fault.GrowFault.TheVariants as fault
 use Rattle.growing_document.proofs.Insides.{bytes_more}
@@ -133,10 +132,6 @@ halt_at_rows q d names g fault.OutOfMemory r f = tt
 pub kept_of : (k : Known) (c : CodeSession) (s : Session) → IsSession k c s → IsKept k c s
 kept_of k c s (inl (all, o)) = o.kept
 kept_of k c s (inr w) = w.kept
-
-pub waits_of : (k : Known) (c : CodeSession) (s : Session) → c.grown ≡ true → IsSession k c s → IsWaiting k c s
-waits_of k c s grown (inl (all, o)) = let no = o.ready in absurd (cc)
-waits_of k c s grown (inr w) = w
 
 pub rows_halt : (k : Known) (c : CodeSession) (s : Session) (e : GrowFault) (h : Halt) → h ≡ halt_of e → IsRowsFault c.growing e → IsWaiting k c s → IsRowsHalt s h
 rows_halt k c s e h is f w = subst (IsRowsHalt s) (sym is) (by e f)

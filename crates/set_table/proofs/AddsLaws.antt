@@ -5,7 +5,7 @@ use Rattle.std.specs.List.{filter}
 use Rattle.std.specs.FinSet as bytes
 use Rattle.std.proofs.Math.Pow.{pow_mono}
 use Rattle.std.proofs.Math.Seq.{drop-append_seam}
-use Rattle.std.proofs.lemmas.List.{append-nil, length-map, take_all, take_more}
+use Rattle.std.proofs.lemmas.List.{length-map, take_all, take_more}
 use Rattle.std.proofs.lemmas.List.Elements.{filter-append}
 use Rattle.span_core.specs.declared.edge.Edge.{Edge}
 use Rattle.span_core.specs.declared.TheConstants.{MOST_VARIABLES}
@@ -140,18 +140,6 @@ rest_put sets0 sets es0 es (p ∷ ps) e w some few is at marks pushed case =
       weighs = weight_with sets0 sets (p ∷ ps) (length (p ∷ ps)) w is refl case;
       small = elim case as (λ _. w ≤ 6000000) [ inl k ↦ omega (arith, k.1) | inr k ↦ omega (arith, k.1, few) ];
     }
-
-pub rest_none : (sets : List (List ℕ)) (es : List Edge) (idle : List ℕ) → length idle ≡ 0 → PutsEdges (rest_edge idle) sets sets es es 0
-rest_none sets es [] l = record {
-  known = refl;
-  made = [];
-  pushed = sym (append-nil es);
-  named = refl;
-  numbers = λ e h. absurd h;
-  weighs = refl;
-  small = omega arith;
-}
-rest_none sets es (p ∷ ps) l = absurd (omega (arith, l))
 
 -- ---- ends
 

@@ -1,16 +1,16 @@
 -- Edges that are made one by one.
 use Rattle.std.proofs.Common.{◌≡◌, ℕ, zero, suc, ◌+◌, ◌-◌, ◌*◌, ◌<◌, ◌≤◌, ◌⊎◌, List, [], ◌∷◌, ◌++◌, length, map, take, drop, inl, inr, refl, sym, ap, subst, arith, ◌∙◌, append_assoc, length-append, length-drop}
 use Rattle.std.proofs.Math.Seq.{drop-nil}
-use Rattle.std.proofs.lemmas.List.{append-nil, length-map, map-append}
+use Rattle.std.proofs.lemmas.List.{map-append}
 use Rattle.std.proofs.lemmas.List.Sums.{sum_by-append}
 use Rattle.span_core.specs.declared.edge.Edge.{Edge}
 use Rattle.span_core.specs.Lists.{Has}
 use Rattle.span_core.proofs.HasLaws.{Has-append_cases}
 use Rattle.automaton_reading.specs.Reading.{Reach}
 use Rattle.set_table.specs.Cut.{cut}
-use Rattle.set_table.specs.Named.{IsLongerBy, PutsEdges, PutsRun, run}
+use Rattle.set_table.specs.Named.{IsLongerBy, PutsRun, run}
 use Rattle.set_table.specs.Tabled.{edge_named, sets_weight, with_set, with_sets}
-use Rattle.set_table.proofs.SetsLaws.{at_place, longer_itself, longer_then, set_stays, with_set_cases, with_set_longer}
+use Rattle.set_table.proofs.SetsLaws.{at_place, longer_then, set_stays, with_set_cases, with_set_longer}
 
 -- what a set weighs where it is put in
 pub weight_with : (sets new : List (List ℕ)) (s : List ℕ) (n w : ℕ) → new ≡ with_set sets s → length s ≡ n →
@@ -30,12 +30,6 @@ weight_with sets new s n w is len case = go (with_set_cases sets s) case
         one : (x : List ℕ) → sets_weight (x ∷ []) ≡ 1 + length x
         one x = omega arith
 
-pub few_with : (sets new : List (List ℕ)) (s : List ℕ) → new ≡ with_set sets s → length new ≤ length sets + 1
-few_with sets new s is = elim (with_set_cases sets s) [
-  | inl e ↦ let h = ap length (is ∙ e) in omega (arith, h)
-  | inr e ↦ let h = ap length (is ∙ e) in omega (arith, h, length-append sets (s ∷ []))
-]
-
 -- the edges so far, and the numbers that are left
 pub record IsNaming (codes : List ℕ) (sets0 sets : List (List ℕ)) (edges0 edges : List Edge) (at w : ℕ) : Type 0 where
   pub within : at ≤ length codes
@@ -48,20 +42,6 @@ pub record IsNaming (codes : List ℕ) (sets0 sets : List (List ℕ)) (edges0 ed
   pub small : w ≤ 3 * at
   pub few : length sets ≤ length sets0 + at
   pub longer : IsLongerBy sets0 sets
-
-pub naming_none : (codes : List ℕ) (sets : List (List ℕ)) (edges : List Edge) → IsNaming codes sets sets edges edges 0 0
-naming_none codes sets edges = record {
-  within = omega arith;
-  known = refl;
-  made = [];
-  pushed = sym (append-nil edges);
-  named = refl;
-  numbers = λ e h. absurd h;
-  weighs = refl;
-  small = omega arith;
-  few = omega arith;
-  longer = longer_itself sets;
-}
 
 pub named_stay : (sets more : List (List ℕ)) (made : List Edge) → ((e : Edge) → Has made e → e.to < length sets) → map (edge_named (sets ++ more)) made ≡ map (edge_named sets) made
 named_stay sets more [] l = refl
@@ -118,20 +98,4 @@ naming_more codes sets0 sets new edges0 edges more at w count added n p =
       small = omega (arith, n.small, p.small);
       few = omega (arith, n.few, p.few, p.some);
       longer = longer_then sets0 sets new n.longer longer;
-    }
-
-pub naming_all : (codes : List ℕ) (sets0 sets : List (List ℕ)) (edges0 edges : List Edge) (at w : ℕ) →
-    IsNaming codes sets0 sets edges0 edges at w → length codes ≤ at → length codes ≤ 2000000 → PutsEdges (cut codes) sets0 sets edges0 edges w
-naming_all codes sets0 sets edges0 edges at w n end few =
-    let none : drop at codes ≡ [] = drop_past at codes end in
-    let named : map (edge_named sets) n.made ≡ cut codes = sym (append-nil (map (edge_named sets) n.made)) ∙ (ap (λ (x : List ℕ). map (edge_named sets) n.made ++ cut x) (sym none) ∙ n.named) in
-    let len : length n.made ≡ length (cut codes) = sym (length-map n.made (edge_named sets)) ∙ ap length named in
-    record {
-      known = ap (λ (x : List ℕ). with_sets sets (map (λ (e : Reach). e.to) (cut x))) (sym none) ∙ n.known;
-      made = n.made;
-      pushed = n.pushed;
-      named = named;
-      numbers = n.numbers;
-      weighs = omega (arith, n.weighs, len);
-      small = omega (arith, n.small, n.within, few);
     }

@@ -72,18 +72,6 @@ read_at runs numbers p s l =
 pub run_of : (runs numbers : List ℕ) (p : ℕ) → IsSpread runs numbers → p < length (spread runs numbers) → p / 16 < length runs
 run_of runs numbers p s l = let e = place_split p in omega (arith, l, spread_length runs numbers (are_within runs numbers s), e)
 
--- ---- none
-
-pub spread_none : (numbers : List ℕ) → numbers ≡ replicate 16 0 → IsSpread [] numbers
-spread_none numbers e = record {
-  blocks = 1;
-  whole = ap length e ∙ length-replicate {A = ℕ} 16 0;
-  some = omega arith;
-  zeros = λ j l. ap (λ xs. get_or xs j 0) e ∙ zeros 16 j;
-  within = λ i. omega arith;
-  own = λ i j e p. absurd (omega (arith, p));
-}
-
 -- ---- runs that are as before, or have the block of zeros
 
 pub spread_kept : (runs more numbers : List ℕ) → IsSpread runs numbers → ((i : ℕ) → (get_or more i 0 ≡ get_or runs i 0) ⊎ (get_or more i 0 ≡ 0)) → IsSpread more numbers

@@ -8,14 +8,13 @@ use Rattle.span_core.specs.Intervals.{Covers}
 use Rattle.span_core.specs.Lists.{Has}
 use Rattle.span_core.proofs.HasLaws.{Has-slice_get}
 use Rattle.spanner_model.specs.Captures.{VarName}
-use Rattle.spanner_model.specs.Expression.{ExprTree, QueryTree, join_all, minus, union_all}
+use Rattle.spanner_model.specs.Expression.{ExprTree, QueryTree, join_all, union_all}
 use Rattle.spanner_model.specs.Sound.{IsSound}
 use Rattle.spanner_model.specs.Tree.{Tree}
 use Rattle.spanner_model.proofs.TreeLaws.{take_at_more}
 use Rattle.automaton_reading.proofs.Matching.{cons_sum}
 use Rattle.query_automaton.proofs.Combining.{Join, Union}
 use Rattle.query_automaton.proofs.CompileLaws.{asked_part}
-use Rattle.query_automaton.proofs.MinusLaws.{asked_left, asked_right}
 use Rattle.query_automaton.proofs.PieceLaws.{asked_body, asked_let}
 use Rattle.filter_laws.specs.Touching.{HasMinus, IsTouchedBy, SomeAtom, SomeAtomOf, TouchedOf, sum_atoms}
 use Rattle.segment_filter.specs.declared.fault.FilterFault.{FilterFault}
@@ -31,12 +30,6 @@ union_sound es (q, n, asked) e h = (q, n, asked_part Union q n es e h asked)
 
 pub join_sound : (es : List ExprTree) → IsInSound (join_all es) → (e : ExprTree) → Has es e → IsInSound e
 join_sound es (q, n, asked) e h = (q, n, asked_part Join q n es e h asked)
-
-pub left_sound : (e g : ExprTree) → IsInSound (minus e g) → IsInSound e
-left_sound e g (q, n, asked) = (q, n, asked_left q n e g asked)
-
-pub right_sound : (e g : ExprTree) → IsInSound (minus e g) → IsInSound g
-right_sound e g (q, n, asked) = (q, n, asked_right q n e g asked)
 
 pub let_sound : (q : QueryTree) (n : ℕ) (l : VarName × ExprTree) → IsSound q → slice_get q.lets n ≡ Some l → IsInSound l.1
 let_sound q n l sound at = (q, n, asked_let q n l sound at)
@@ -194,11 +187,6 @@ module _ (d : List ℕ) where
   pub touched_all : (es : List ExprTree) (k : ℕ) (before after : List (ℕ × ℕ)) → length es ≤ k → AddsTouched d (join_all (take k es)) before after → AddsTouched d (join_all es) before after
   touched_all es k before after past adds = subst (λ (gs : List ExprTree). AddsTouched d (join_all gs) before after) (take_all k es past) adds
 
-  -- those of the left side of a difference, and then those of the right one
-  pub touched_both : (e g : ExprTree) (before mid after : List (ℕ × ℕ)) → AddsTouched d e before mid → AddsTouched d g mid after → AddsTouched d (minus e g) before after
-  touched_both e g before mid after first next i =
-      touched_then (IsTouchedIn d e i) (IsTouchedIn d g i) (IsTouchedIn d (minus e g) i) (Covers before i) (Covers mid i) (Covers after i) (λ h. h, λ h. h) (first i) (next i)
-
   -- those of the lets, and then those of the body
   touched_all_of : (q : QueryTree) (k : ℕ) (mid after : List (ℕ × ℕ)) → length q.lets ≤ k →
       AddsTouched d (join_all (take k (let_exprs q.lets))) [] mid → AddsTouched d q.body mid after → (i : ℕ) → Covers after i ↔ SomeAtomOf (λ s t f. IsTouchedBy s t f d i) q
@@ -230,14 +218,6 @@ module _ (d : List ℕ) where
   pub full_part : (limit : ℕ) (es : List ExprTree) (k : ℕ) (e : ExprTree) → slice_get es k ≡ Some e → (fault : FilterFault) → HasFullAtom d limit e fault → HasFullAtom d limit (join_all es) fault
   full_part limit es k e at (Full weight) h = some_part (IsFullAtom d limit weight) es e (Has-slice_get es k e at) h
   full_part limit es k e at OutOfMemory h = tt
-
-  pub full_left : (limit : ℕ) (e g : ExprTree) (fault : FilterFault) → HasFullAtom d limit e fault → HasFullAtom d limit (minus e g) fault
-  full_left limit e g (Full weight) h = inl h
-  full_left limit e g OutOfMemory h = tt
-
-  pub full_right : (limit : ℕ) (e g : ExprTree) (fault : FilterFault) → HasFullAtom d limit g fault → HasFullAtom d limit (minus e g) fault
-  full_right limit e g (Full weight) h = inr h
-  full_right limit e g OutOfMemory h = tt
 
   pub full_let : (limit : ℕ) (q : QueryTree) → ¬ HasMinus q → (k : ℕ) (l : VarName × ExprTree) → slice_get q.lets k ≡ Some l → (fault : FilterFault) → HasFullAtom d limit l.1 fault →
       IsFilterFault q d true limit fault

@@ -260,9 +260,6 @@ next_fits q checks names d old new row last n =
 
 -- what going further did, where it found a row and where it found none
 module _ (q : QueryTree) (checks : List Check) (names : List VarName) (d : List ℕ) (old new : List SpanRow) (row : SpanRow) where
-  pub goes_next : (b : Bool) → OnTrue b (IsNextPassing checks names d old row new) → OnTrue b (passing checks names d old ≡ row ∷ passing checks names d new)
-  goes_next true n = next_passes checks names d old new row n
-  goes_next false n = tt
 
   pub goes_within : (b : Bool) → AreLast q d names old → OnTrue b (IsNextPassing checks names d old row new) → OnTrue b (FitsRow (length names) (length d) row)
   goes_within true last n = next_fits q checks names d old new row last n

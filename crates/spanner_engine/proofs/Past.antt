@@ -1,7 +1,6 @@
 -- Spans that end past the document.
-use Rattle.std.proofs.Common.{◌≡◌, ℕ, ◌+◌, ◌<◌, ◌≤◌, length, Option, Some, inl, inr, sym, ap, ◌∙◌, subst, arith}
-use Rattle.std.specs.Prelude.{slice_get, unwrap_or}
-use Rattle.std.proofs.lemmas.Bool.{cases_lt}
+use Rattle.std.proofs.Common.{◌≡◌, ℕ, ◌<◌, ◌≤◌, length, Some, arith}
+use Rattle.std.specs.Prelude.{slice_get}
 use Rattle.span_core.specs.declared.span.Span.{Span}
 use Rattle.span_core.proofs.HasLaws.{Has-slice_get, place_of-Has}
 use Rattle.spanner_model.specs.Answers.{SpanRow}
@@ -20,14 +19,3 @@ none_past n row within past =
     let low : past.0.end ≤ n = within place.0 past.0 place.1 place.2 in
     let high : n < past.0.end = past.2 in
     omega (arith, low, high)
-
-same_span : (row : SpanRow) (k : ℕ) (s t : Span) → slice_get row k ≡ Some (Some s) → slice_get row k ≡ Some (Some t) → s ≡ t
-same_span row k s t a b = ap (λ (o : Option (Option Span)). unwrap_or (unwrap_or o (Some s)) s) (sym a ∙ b)
-
-pub one_within : (n k : ℕ) (row : SpanRow) (s : Span) → AreWithin n k row → slice_get row k ≡ Some (Some s) → s.end ≤ n → AreWithin n (k + 1) row
-one_within n k row s before at low j t less is = elim (cases_lt j k) [
-  | inl lt ↦ before j t lt is
-  | inr ge ↦ (
-      let same : j ≡ k = omega (arith, less, ge) in
-      subst (λ (u : Span). u.end ≤ n) (same_span row k s t at (subst (λ (i : ℕ). slice_get row i ≡ Some (Some t)) same is)) low)
-]

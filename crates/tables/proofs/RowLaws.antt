@@ -1,5 +1,5 @@
 -- Rows of picked spans, or of none, end within a document where all spans do.
-use Rattle.std.proofs.Common.{◌≤◌, ◌<◌, ◌≡◌, ◌+◌, ℕ, List, Option, None, Some, [], ◌∷◌, ◌++◌, length, get_or, sym, subst}
+use Rattle.std.proofs.Common.{◌≤◌, ◌<◌, ◌≡◌, ◌+◌, ℕ, List, Option, None, [], ◌∷◌, ◌++◌, length, get_or, sym, subst}
 use Rattle.std.specs.List.{All}
 use Rattle.std.specs.Option.{ForSome}
 use Rattle.std.proofs.lemmas.List.{length-append}
@@ -22,6 +22,3 @@ one_longer row s = length-append row (s ∷ [])
 
 pub none_ends : (n : ℕ) → EndsBy n None
 none_ends n x is = absurd (cc)
-
-pub some_ends : (n : ℕ) (s : Span) → s.end ≤ n → EndsBy n (Some s)
-some_ends n s at x is = let same : s ≡ x = cc in subst (λ (u : Span). u.end ≤ n) same at
