@@ -1,6 +1,6 @@
 -- What is held is of the lengths at which rows were asked for, and a reduct holds no more than what it reduces.
-use Rattle.std.proofs.Common.{◌≡◌, ℕ, ◌+◌, ◌≤◌, ◌⊎◌, List, [], ◌∷◌, ◌++◌, Option, length, map, take, inl, inr, refl, sym, ap, subst, arith, ◌∙◌}
-use Rattle.std.specs.List.{flat_map, sum_by}
+use Rattle.std.proofs.Common.{◌≡◌, ℕ, ◌+◌, ◌≤◌, List, [], ◌∷◌, ◌++◌, Option, length, map, take, inl, inr, refl, sym, ap, subst, arith}
+use Rattle.std.specs.List.{sum_by}
 use Rattle.std.specs.Str.{bytes_eq}
 use Rattle.std.proofs.Common.{length-append}
 use Rattle.std.proofs.lemmas.List.{take-append-le}
@@ -8,17 +8,14 @@ use Rattle.std.proofs.Math.Seq.{take-length}
 use Rattle.span_core.specs.Lists.{Has}
 use Rattle.span_core.proofs.HasLaws.{Has-append_cases, Has-append_left, Has-append_right, Has-map, Has-map_cases}
 use Rattle.marked_automaton.specs.Automaton.{Automaton, Marked}
-use Rattle.marked_automaton.specs.Reduct.{IsReduct, Reduces}
+use Rattle.marked_automaton.specs.Reduct.{IsReduct}
 use Rattle.marked_automaton.proofs.Passing.{flat_map_cases, has_flat_map}
-use Rattle.automaton_reading.specs.Reading.{Question, ended, LookUp, next_sets, once, look_ups_asked, look_up_edges}
+use Rattle.automaton_reading.specs.Reading.{Question, ended, LookUp, next_sets, once, look_up_edges}
 use Rattle.automaton_reading.proofs.MeasureLaws.{Covers, IsLookUpShadow, IsShadow, next_covers, once_look_ups, once_sets, look_up_no_more, look_ups_cover, start_covers}
 use Rattle.one_pass.specs.Places.{sets_after, sets_met}
 use Rattle.one_pass.proofs.Sets.{weight_covers}
-use Rattle.growing_document.specs.Faults.{IsAppendFault, IsRowsFault}
-use Rattle.growing_document.specs.Grown.{Grown, IsAppended, IsAsked, at_start}
-use Rattle.growing_document.specs.Lengths.{IsAskedAt, LengthsLaw, ReductWeighs, ends_at, weight_at}
+use Rattle.growing_document.specs.Lengths.{LengthsLaw, ReductWeighs, ends_at, weight_at}
 use Rattle.growing_document.specs.Numbers.{questions_in, end_look_ups, end_look_ups_at, first_sets, look_ups_in, sets_at_end, sets_in, weight_with}
-use Rattle.growing_document.specs.declared.fault.GrowFault.TheVariants.{Full}
 
 -- ---- reducts
 

@@ -8,7 +8,7 @@ use Rattle.one_pass.specs.Held.{weight_of}
 use Rattle.one_pass.specs.Places.{asks, bytes_at, sets_met}
 use Rattle.one_pass.proofs.Sets.{look_ups_append}
 use Rattle.growing_document.specs.Lengths.{WholeWeighs, ends_at}
-use Rattle.growing_document.specs.Numbers.{questions_in, end_look_ups_at, first_sets, look_ups_in, sets_at_end, sets_in}
+use Rattle.growing_document.specs.Numbers.{questions_in, end_look_ups_at, first_sets, look_ups_in, sets_in}
 
 -- where every position is read, what is asked are the bytes, and then the ends
 questions_all : (K : ℕ → Bool) (d : List ℕ) (i : ℕ) (gap : Bool) → ((j : ℕ) → i ≤ j → j ≤ i + length d → IsTrue (K j)) →

@@ -12,7 +12,7 @@ use Rattle.span_core.specs.declared.edge.Edge.{Edge}
 use Rattle.output_graph.specs.Cells.{NamedLink}
 use Rattle.output_graph.specs.Source as edge
 use Rattle.output_graph.specs.Graph as out
-use Rattle.output_graph.specs.Graph.{Graph, Source, IsCost, IsPlace, IsStepped, LeadsTo, source_of, sources, targets, sets_of}
+use Rattle.output_graph.specs.Graph.{Graph, Source, IsCost, IsStepped, LeadsTo, source_of, sources, targets, sets_of}
 use Rattle.output_graph.specs.Sound.{edges_of, edges_of_ends}
 use Rattle.one_pass.specs.Layers.{Brings, BringsEnd, GraphView, HasCost, HasEndedSource, HasStepped, HasWord, IsPast, first_layer, no_source, numbers_of, source_at}
 use Rattle.one_pass.specs.Seen.{ending_from, stepping_from, whole, words_to}

@@ -18,7 +18,7 @@ use Rattle.query_parser.specs.declared.fault.QueryFault.{QueryFault}
 use Rattle.query_parser.specs.declared.fault.QueryFault.TheVariants.{TooManyVariables, TooLong, TestVariable}
 use Rattle.query_parser.specs.Spells.{SpellsQuery}
 use Rattle.query_parser.specs.Reads.{is_whole}
-use Rattle.query_parser.specs.Faults.{IsReadFault, KeepsTooMany, HasFault, IsQueryText}
+use Rattle.query_parser.specs.Faults.{IsReadFault, KeepsTooMany, HasFault}
 use Rattle.query_parser.specs.Faults as plain_fault
 use Rattle.query_parser.specs.Nest.{Nest, reading_of, outermost}
 use Rattle.query_parser.specs.Step.{word_at, EndsAfter, Ends}

@@ -6,11 +6,11 @@ use Rattle.formula_parser.specs.Runs.{StandsAt}
 use Rattle.query_parser.specs.declared.fault.QueryFault.{QueryFault}
 use Rattle.query_parser.specs.declared.fault.QueryFault.TheVariants.{Formula, Unexpected}
 use Rattle.query_parser.specs.Tokens.{Token, word_token, TokenAt, atom_at, word_at, sign_at}
-use Rattle.query_parser.specs.Reads.{Reading, Refusal, unexpected, next, is_whole, nothing_read, ReadsQuery, start_read, blank_read, token_read}
+use Rattle.query_parser.specs.Reads.{Reading, Refusal, unexpected, next, is_whole, ReadsQuery, start_read, blank_read, token_read}
 use Rattle.query_parser.specs.Reads as reads
 use Rattle.query_parser.specs.Faults.{refused, IsReadFault, bad_atom, atom_out_of_place, token_refused, no_token, not_whole, KeepsTooMany}
 use Rattle.query_parser.specs.Nest.{Nest, Move, Body, Last, Frame, at_start, at_unit, unit, move, mark_of, reading_of, outermost, wants_unit, whole_query, ends_body, with_unit}
-use Rattle.query_parser.specs.Step.{Next, goes, reads_atom, stops, moved, signs, ends, step, EndsAfter, Ends}
+use Rattle.query_parser.specs.Step.{reads_atom, stops, moved, ends, step, EndsAfter, Ends}
 use Rattle.query_parser.specs.Step as code
 use Rattle.query_parser.proofs.MoveLaws.{seen, shape}
 use Rattle.query_parser.proofs.TextLaws.{Answer, at_end}

@@ -9,7 +9,7 @@ use Rattle.spanner_model.specs.Expression.{ExprTree}
 use Rattle.query_parser.specs.declared.TheConstants.{MOST_OPEN, MOST_MINUSES}
 use Rattle.query_parser.specs.Tokens.{Token, atom_token, let_word, union_word, join_word, project_word, none_word, name_token, equals, semicolon, open_paren, close_paren, comma, minus_word}
 use Rattle.query_parser.specs.Spells.{names_of}
-use Rattle.query_parser.specs.Reads.{Mark, Reading, Refusal, unexpected, name_too_long, name_twice, unknown_name, too_deep, is_among, finds_room, next, marked}
+use Rattle.query_parser.specs.Reads.{Reading, Refusal, unexpected, name_too_long, name_twice, unknown_name, too_deep, is_among, finds_room, next, marked}
 use Rattle.query_parser.specs.Reads as mark
 use Rattle.query_parser.specs.Nest.{Frame, Last, at_start, after_let, after_name, at_unit, unit, after_project, after_none, after_kept, after_comma, Nest, Move, mark_of, reading_of, find, number_from, move, opens, speaks_of, reads_name, opened, with_last, next_side, subtracts}
 

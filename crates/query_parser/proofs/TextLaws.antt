@@ -9,7 +9,7 @@ use Rattle.query_parser.specs.declared.fault.QueryFault.TheVariants.{Unexpected}
 use Rattle.query_parser.specs.Tokens.{Token, atom_token, let_word, union_word, join_word, project_word, none_word, name_token, word_token, TokenAt, atom_at, word_at, sign_at, HasTokens, text_ends, blank_first, token_first}
 use Rattle.query_parser.specs.Spells.{SpellsQuery}
 use Rattle.query_parser.specs.Nest.{Nest, Move, Body, move, outermost, wants_unit, whole_query}
-use Rattle.query_parser.specs.Step.{Next, goes, reads_atom, stops, moved, signs, ends, words, step, EndsAfter, Ends}
+use Rattle.query_parser.specs.Step.{reads_atom, stops, moved, ends, step, EndsAfter, Ends}
 use Rattle.query_parser.specs.Step as code
 use Rattle.query_parser.proofs.Lists.{eq_true}
 use Rattle.query_parser.proofs.SpelledMoves.{Runs, reads_query}

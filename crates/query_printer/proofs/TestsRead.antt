@@ -7,7 +7,7 @@ use Rattle.spanner_model.specs.Captures.{VarName}
 use Rattle.spanner_model.specs.Answer.{IsResultVar}
 use Rattle.spanner_model.specs.Sound.{IsFreeName}
 use Rattle.query_parser.specs.declared.asks.Asked.{Asked}
-use Rattle.query_parser.specs.Tokens.{Token, name_token, open_paren, close_paren, comma, HasTokens}
+use Rattle.query_parser.specs.Tokens.{Token, name_token, open_paren, close_paren, comma}
 use Rattle.query_parser.specs.Spells.{Spells}
 use Rattle.query_parser.specs.Tested.{TestedTree, asked_of, where_word, Placed, HasPlaced, SpellsTest, one_test, SpellsTests, first_test, more_tests, SpellsWhere, no_test, tests_follow, SpellsTested}
 use Rattle.query_parser.proofs.TestMoves.{tokens_of, tokens_placed}

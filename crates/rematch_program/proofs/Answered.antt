@@ -1,5 +1,5 @@
 -- From what was written of the rows that were left to a case of the run.
-use Rattle.std.proofs.Common.{◌≡◌, ℕ, ◌≤◌, Bool, List, Option, None, suc, length, refl, sym, ap, ◌∙◌, subst}
+use Rattle.std.proofs.Common.{◌≡◌, ℕ, Bool, List, Option, None, suc, length, sym, subst}
 use Rattle.std.specs.Prelude.{codes, nat_lt}
 use Rattle.std.proofs.lemmas.Bool.{le-leb, leb-true}
 use Rattle.rm_outside.specs.declared.status.Status.{Status}
@@ -14,8 +14,6 @@ use Rattle.spanner_model.specs.Answers.{AreResultNames, SpanRow}
 use Rattle.spanner_engine.specs.Fitting.{AreLast}
 use Rattle.spanner_engine.specs.Begun.{begin_steps, row_kept}
 use Rattle.spanner_engine.specs.Left.{AreLeft, RowsLeft, Source, checks_over, passing_over}
-use Rattle.spanner_engine.specs.Passing.{passing}
-use Rattle.trial_maker.specs.Trial.{trial_text}
 use Rattle.rm_outside.specs.Change.{Change}
 use Rattle.rematch_program.specs.Work.{clock, work}
 use Rattle.note_texts.specs.Notes.{line}

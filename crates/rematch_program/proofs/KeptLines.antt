@@ -1,5 +1,5 @@
 -- The lines of a page, where their fields are kept.
-use Rattle.std.proofs.Common.{◌≡◌, ℕ, Bool, List, length, ap, ◌∙◌, sym}
+use Rattle.std.proofs.Common.{◌≡◌, ℕ, Bool, List, length, ap, ◌∙◌}
 use Rattle.spanner_model.specs.Captures.{VarName}
 use Rattle.spanner_model.specs.Answers.{SpanRow}
 use Rattle.row_writer.specs.Kept.{Line, kept_text}

@@ -1,6 +1,5 @@
 -- What the answers of the queries' reader, and of the look for the tests, tell.
-use Rattle.std.proofs.Common.{◌≡◌, ◌⊎◌, List, [], ◌∷◌, ℕ, Result, Ok, Err, inl, inr, refl, sym, ap, ◌∙◌, subst}
-use Rattle.span_core.specs.Lists.{Has}
+use Rattle.std.proofs.Common.{◌≡◌, ◌⊎◌, List, [], ◌∷◌, ℕ, Result, Ok, Err, inl, inr, refl, sym, ◌∙◌, subst}
 use Rattle.query_parser.specs.declared.asks.Asked.{Asked}
 use Rattle.query_parser.specs.declared.asks.Tested.{Tested}
 use Rattle.query_parser.specs.declared.fault.QueryFault.{QueryFault}
@@ -8,7 +7,6 @@ use Rattle.query_parser.specs.declared.fault.QueryFault.TheVariants.{Formula, Ch
 use Rattle.query_parser.specs.Tested.{HasTestedFault, IsTestedText, TestedTree}
 use Rattle.query_parser.specs.TestedAnswers.{IsTestedAnswer}
 use Rattle.query_parser.specs.TestedView.{tested_of}
-use Rattle.span_tests.specs.Listed.{IsNamed}
 use Rattle.spanner_engine.specs.Passing.{AreKnown, FirstUnknown, HasFaultUnder, IsOnlyTested, Known, of_text, unknown_test}
 use Rattle.rematch_program.specs.Run.{IsOnlyFault}
 

@@ -1,5 +1,5 @@
 -- A query without tests runs as before there were any.
-use Rattle.std.proofs.Common.{◌≡◌, ◌⊎◌, ◌↔◌, ℕ, List, [], Bool, Option, Some, None, refl, sym, subst}
+use Rattle.std.proofs.Common.{◌≡◌, ◌↔◌, ℕ, List, [], Bool, Option, Some, None, refl, sym, subst}
 use Rattle.rm_outside.specs.declared.status.Status.{Status}
 use Rattle.command_line.specs.RequestView.{RequestView}
 use Rattle.spanner_model.specs.Captures.{VarName}

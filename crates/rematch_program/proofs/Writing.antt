@@ -2,7 +2,7 @@
 use Rattle.std.proofs.Common.{◌≡◌, ℕ, Bool, List, [], ◌∷◌, ◌++◌, Option, length, sym, ap, ◌∙◌, subst}
 use Rattle.std.specs.Prelude.{nat_lt}
 use Rattle.command_line.specs.RequestView.{RequestView}
-use Rattle.rm_outside.specs.Change.{change, Adds, AddsPart}
+use Rattle.rm_outside.specs.Change.{change, AddsPart}
 use Rattle.rm_outside.specs.Flow.{Flow}
 use Rattle.row_writer.specs.Kept.{Line, kept_text}
 use Rattle.spanner_model.specs.Captures.{VarName}

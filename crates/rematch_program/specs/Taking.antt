@@ -1,5 +1,5 @@
 -- Taking the rows of a page or of a summary, of the answers that are left: which these are, what is written of them, and what it costs.
-use Rattle.std.specs.Prelude.{ℕ, ◌+◌, ◌*◌, ◌≤◌, Bool, List, [], ◌∷◌, Option, length, nat_lt, take}
+use Rattle.std.specs.Prelude.{ℕ, ◌+◌, ◌≤◌, Bool, List, [], ◌∷◌, Option, length, nat_lt, take}
 use Rattle.command_line.specs.RequestView.{RequestView}
 use Rattle.spanner_model.specs.Captures.{VarName}
 use Rattle.spanner_model.specs.Answers.{SpanRow}
@@ -7,7 +7,7 @@ use Rattle.spanner_engine.specs.Left.{RowsLeft, checks_over, passing_over}
 use Rattle.spanner_engine.specs.Passing.{Check, passing}
 use Rattle.rematch_program.specs.Work.{Clock, TakesAtMost}
 use Rattle.rematch_program.specs.Pages.{first_rows, last_note, page_text}
-use Rattle.rematch_program.specs.Steps.{next_steps, row_steps}
+use Rattle.rematch_program.specs.Steps.{row_steps}
 use Rattle.rematch_program.specs.Testing.{tried_steps}
 
 -- ---- what it costs

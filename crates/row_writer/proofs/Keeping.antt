@@ -1,9 +1,6 @@
 -- Fields that are kept.
-use Rattle.std.proofs.Common.{◌≡◌, ℕ, zero, suc, ◌+◌, ◌<◌, ◌≤◌, Bool, ◌&&◌, true, false, nat_le, List, [], ◌∷◌, ◌++◌, length, take, drop, map, set, get_or, refl, sym, ap, ap₂, ◌∙◌, zero-add, append_assoc, arith, Option}
+use Rattle.std.proofs.Common.{◌≡◌, ℕ, zero, suc, ◌+◌, ◌<◌, ◌≤◌, Bool, List, [], ◌∷◌, ◌++◌, length, take, drop, set, get_or, refl, sym, ap, ap₂, ◌∙◌, zero-add, append_assoc, arith, Option}
 use Rattle.std.proofs.lemmas.List.{take-take, take-append-le, length-take-le}
-use Rattle.std.specs.List.{list_all}
-use Rattle.std.proofs.lemmas.Bool.{leb-true}
-use Rattle.cell_text.specs.Cells.{ends_by}
 use Rattle.span_core.specs.declared.span.Span.{Span}
 use Rattle.row_writer.specs.declared.style.Style.TheVariants as style
 use Rattle.row_writer.specs.Kept.{Field, Head, cells_text, head_with, heads_of, line_room, member_head, more_members, more_names, more_tabs, quote_room, styled_cell}

@@ -3,7 +3,6 @@ use Rattle.std.proofs.Common.{◌≡◌, ◌⊎◌, ℕ, zero, suc, ◌+◌, ◌
 use Rattle.std.specs.Prelude.{slice_get}
 use Rattle.std.proofs.lemmas.Bool.{cases_eq}
 use Rattle.std.proofs.lemmas.List.{take_all}
-use Rattle.span_core.specs.Lists.{Has}
 use Rattle.marked_automaton.proofs.Listed.{some_same}
 use Rattle.automaton_reading.specs.Reading.{Reach, byte_read, edges}
 use Rattle.set_table.specs.Tabled.{Asking, Tabled, asking, once_asked, set_at}

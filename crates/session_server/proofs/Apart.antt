@@ -1,11 +1,10 @@
 -- The replies of a session are those that it would get alone.
-use Rattle.std.proofs.Common.{arith, ◌≡◌, ◌≢◌, ◌⊎◌, ◌+◌, ℕ, ◌<◌, ◌≤◌, Bool, true, false, List, [], ◌∷◌, length, filter, take, Option, Some, None, inl, inr, refl, sym, ap, ◌∙◌, subst}
+use Rattle.std.proofs.Common.{arith, ◌≡◌, ◌≢◌, ◌⊎◌, ◌+◌, ℕ, ◌≤◌, Bool, true, false, List, [], ◌∷◌, length, take, Option, Some, None, inl, inr, refl, sym, ap, ◌∙◌, subst}
 use Rattle.std.specs.Prelude.{codes, nat_lt, if◌then◌else◌, option_and_then}
 use Rattle.std.proofs.lemmas.Bool.{cases_eq}
 use Rattle.std.proofs.lemmas.Bool.Decides.{nat_tests}
-use Rattle.serde_json.specs.Data.{Data, number, unsigned}
+use Rattle.serde_json.specs.Data.{Data}
 use Rattle.serde_json.specs.Find.{get, as_number, as_u64}
-use Rattle.serde_json.specs.Read.{read}
 use Rattle.span_core.specs.Lists.{Has}
 use Rattle.spanner_model.specs.Captures.{VarName}
 use Rattle.spanner_model.specs.Answers.{SpanRow, AreResultNames, AreAnswers}
@@ -15,7 +14,7 @@ use Rattle.spanner_engine.specs.Passing.{Known, IsOnlyTested}
 use Rattle.note_texts.specs.Notes.{table_note}
 use Rattle.session_server.specs.declared.TheConstants.{MOST_GROWN, SESSION_TABLE}
 use Rattle.session_server.specs.Requests.{Request, open_request, next_request, grow_request, close_request, session_id, request_object, IsRequest}
-use Rattle.session_server.specs.Replies.{Session, Sessions, begun, giving, growing, asking, IsHeavy, session_of, without, with_session, changed, to_come, Reply, opened, given_rows, grown_to, closed, error_of, no_request, Answers, taken, full, refused, opens, gives, heavy_next, grows, long, heavy_grown, closes, next_of_none, grow_of_none, close_of_none, wants_memory, IsReply, to_request, to_no_request, AreReplies, no_line, first_line, is_about, replies_of, IsLineOf, AreLinesOf, none_of, one_of, other_of, SessionsAreApart}
+use Rattle.session_server.specs.Replies.{Session, Sessions, begun, giving, growing, asking, session_of, without, to_come, Reply, opened, given_rows, grown_to, closed, error_of, no_request, Answers, taken, full, refused, opens, gives, heavy_next, grows, long, heavy_grown, closes, next_of_none, grow_of_none, close_of_none, wants_memory, IsReply, to_request, to_no_request, AreReplies, no_line, first_line, is_about, replies_of, IsLineOf, AreLinesOf, none_of, one_of, other_of, SessionsAreApart}
 use Rattle.session_server.proofs.SessionLaws.{of_with, of_with_other, of_changed, of_changed_other, of_without, of_without_other, only, of_only, few_only, changed_only, without_only}
 
 -- ---- the number of a request

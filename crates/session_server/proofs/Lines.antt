@@ -1,11 +1,10 @@
 -- The lines that were served so far, and all of them.
-use Rattle.std.proofs.Common.{arith, ◌≡◌, ◌≢◌, ◌⊎◌, ◌+◌, ◌-◌, ◌<◌, ◌≤◌, ℕ, suc, Bool, true, false, List, [], ◌∷◌, ◌++◌, length, Option, Some, None, Result, Ok, Err, inl, inr, refl, sym, ap, ◌∙◌, subst, append_assoc, append-nil, length-append}
+use Rattle.std.proofs.Common.{arith, ◌≡◌, ◌⊎◌, ◌+◌, ◌<◌, ◌≤◌, ℕ, Bool, true, false, List, [], ◌∷◌, ◌++◌, length, Option, Some, None, Ok, Err, inl, inr, refl, sym, ap, ◌∙◌, subst, append_assoc, append-nil, length-append}
 use Rattle.std.specs.Prelude.{codes}
-use Rattle.std.specs.List.{flat_map}
 use Rattle.std.specs.Io.KnownBytes.{Appends}
 use Rattle.std.proofs.KnownBytes.{Appends-nil, Appends-trans}
 use Rattle.std.proofs.lemmas.List.Concat.{flat_map-append}
-use Rattle.rm_outside.specs.Change.{Adds, AddsPart, Change, Failed}
+use Rattle.rm_outside.specs.Change.{Adds, Change, Failed}
 use Rattle.rm_outside.specs.Faults.{Rose}
 use Rattle.rm_outside.specs.Sink.{AppendsPart}
 use Rattle.rm_outside.specs.Source.{AsksLine, IsNextLong, IsSpent, LineTaken, NextLine, TakesLine, TakesLines}
@@ -20,7 +19,7 @@ use Rattle.session_server.specs.declared.TheConstants.{MOST_LINE_BYTES}
 use Rattle.session_server.specs.declared.answering.Opened.{Opened}
 use Rattle.session_server.specs.Open.{AreOpen}
 use Rattle.session_server.specs.Replies.{AreReplies, IsReply, Reply, Sessions, first_line, no_line, replies_text, reply_text}
-use Rattle.session_server.specs.Serve.{AreShort, Is, IsServed, Reports, Served, Serves, ServesAll, ServesLines, all_served, cut, line_too_long, source_failed, too_many, wants_memory, whole, write_failed}
+use Rattle.session_server.specs.Serve.{AreShort, IsServed, Reports, Served, Serves, ServesAll, ServesLines, all_served, cut, line_too_long, source_failed, too_many, wants_memory, whole, write_failed}
 
 -- ---- one line more
 

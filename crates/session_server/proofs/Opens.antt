@@ -13,7 +13,7 @@ use Rattle.session_server.specs.declared.session.Session.{Session as CodeSession
 use Rattle.std.proofs.lemmas.Bool.Decides.{nat_tests}
 use Rattle.spanner_engine.specs.Passing.{Known}
 use Rattle.session_server.specs.declared.answering.Opened.{Opened}
-use Rattle.session_server.specs.Replies.{Answers, IsRefused, IsReply, begun, closes, close_of_none, closed, error_of, full, no_request, opened, opens, refused, taken, to_no_request, to_request, wants_memory, Reply, reply_text, Session, Sessions, session_of, with_session, without}
+use Rattle.session_server.specs.Replies.{Answers, IsRefused, IsReply, begun, closes, closed, error_of, full, no_request, opened, opens, refused, taken, to_no_request, to_request, wants_memory, Reply, reply_text, Session, Sessions, session_of, with_session, without}
 use Rattle.session_server.specs.declared.session.Refusal.{Refusal}
 use Rattle.session_server.specs.declared.session.Refusal.TheVariants.{Note}
 use Rattle.session_server.specs.Standing.{IsBegun, IsRefusal, IsSession}

@@ -1,5 +1,5 @@
 -- Why a session was not opened.
-use Rattle.std.proofs.Common.{◌≡◌, ◌⊎◌, inl, inr, List, [], ◌∷◌, length, ℕ, Ok, Err, sym, subst, refl, ap}
+use Rattle.std.proofs.Common.{◌≡◌, ◌⊎◌, inl, inr, List, [], ◌∷◌, length, ℕ, Ok, Err, sym, subst, refl}
 use Rattle.std.specs.Prelude.{Result, IfOk}
 use Rattle.std.specs.Str.{IsUtf8}
 use Rattle.spanner_model.specs.Captures.{VarName}
@@ -17,7 +17,7 @@ use Rattle.session_server.specs.declared.session.Ready.{Ready}
 use Rattle.session_server.specs.declared.session.Refusal.{Refusal}
 use Rattle.session_server.specs.declared.session.Refusal.TheVariants.{Note, OutOfMemory}
 use Rattle.note_texts.specs.Notes.{fault_note, size_note, table_note}
-use Rattle.session_server.specs.Replies.{HeavyNote, IsHeavy, by_states, by_table, by_ways, IsRefused, by_text, by_size}
+use Rattle.session_server.specs.Replies.{IsHeavy, by_states, by_table, by_ways, by_text, by_size}
 use Rattle.session_server.specs.Standing.{IsRefusal, IsTooHeavy, MatchNote}
 
 -- a fault of a text

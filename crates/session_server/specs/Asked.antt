@@ -1,6 +1,6 @@
 -- What the code's requests stand for.
-use Rattle.std.specs.Prelude.{◌≡◌, ◌≢◌, ◌<◌, ◌^◌, ℕ, List, Option, None, Some}
-use Rattle.serde_json.specs.Data.{Data, Members, member, object, string, number, unsigned}
+use Rattle.std.specs.Prelude.{◌≡◌, ◌≢◌, ℕ, List, Option, None, Some}
+use Rattle.serde_json.specs.Data.{Data, Members, member, number, unsigned}
 use Rattle.session_server.specs.declared.requests.Request.{Request as CodeRequest}
 use Rattle.session_server.specs.declared.requests.Request.TheVariants as code
 use Rattle.session_server.specs.Requests.{Request, open_request, next_request, grow_request, close_request, request_object, IsInRange}

@@ -1,6 +1,6 @@
 -- What serving does: the relation between what the source gives, the bytes added to out and notes, the faults that rose, and the status.
-use Rattle.std.specs.Prelude.{◌≡◌, ◌<◌, ◌≤◌, ◌⊎◌, ◌+◌, ℕ, List, [], ◌∷◌, ◌++◌, length, Option, Some, codes}
-use Rattle.rm_outside.specs.Change.{Change, IsQuiet, Adds, AddsPart, Failed}
+use Rattle.std.specs.Prelude.{◌≡◌, ◌≤◌, ◌⊎◌, ℕ, List, [], ◌∷◌, length, Option, Some, codes}
+use Rattle.rm_outside.specs.Change.{Change, Adds, AddsPart, Failed}
 use Rattle.rm_outside.specs.Source.{IsSpent, IsNextLong, TakesLine, TakesLines}
 use Rattle.rm_outside.specs.declared.status.Status.{Status}
 use Rattle.rm_outside.specs.declared.status.Status.TheVariants as status

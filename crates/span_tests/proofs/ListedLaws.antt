@@ -1,11 +1,11 @@
 -- Where a name stands in a list of tests.
-use Rattle.std.proofs.Common.{rules, arith, ◌≡◌, ◌<◌, ◌≤◌, ◌+◌, ℕ, List, [], ◌∷◌, length, get_or, Some, slice_get, sym, ap, subst, ◌∙◌, refl, ◌⊎◌, inl, inr}
+use Rattle.std.proofs.Common.{rules, arith, ◌≡◌, ◌<◌, ◌≤◌, ◌+◌, ℕ, List, [], ◌∷◌, length, get_or, Some, sym, ap, subst, ◌∙◌, refl, ◌⊎◌, inl, inr}
 use Rattle.std.proofs.lemmas.Option.{slice_get_read, slice_get_within, get_or_from_slice_get}
 use Rattle.std.proofs.Common.{zero, suc, Bool, true, false}
 use Rattle.std.specs.Prelude.{if◌then◌else◌}
 use Rattle.std.specs.Str.{bytes_eq}
 use Rattle.std.proofs.lemmas.Slice.Eq.{bytes_eq-Decides}
-use Rattle.span_tests.specs.Listed.{IsNamedAt, IsNamed, IsFirstNamed, number_at, number_named}
+use Rattle.span_tests.specs.Listed.{IsNamedAt, IsNamed, number_at, number_named}
 
 -- the test that was read has the name
 pub named_here : (tests : List (List ℕ × ℕ)) (k : ℕ) (test : List ℕ × ℕ) (name : List ℕ) → k < length tests → test ≡ get_or tests k test → test.0 ≡ name → IsNamedAt tests name k

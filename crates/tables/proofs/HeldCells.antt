@@ -1,7 +1,7 @@
 -- Cells that are held while others are made and released.
-use Rattle.std.proofs.Common.{◌≡◌, ℕ, ◌-◌, ◌<◌, sym, ap, ◌∙◌, arith}
-use Rattle.node_arena.specs.Cells.{Holds, hold, with_hold, less_hold}
-use Rattle.node_arena.proofs.Holds.{held_apart, held_now, held_still, hold_here, hold_other}
+use Rattle.std.proofs.Common.{◌≡◌, ℕ, ◌<◌, sym}
+use Rattle.node_arena.specs.Cells.{Holds, hold, with_hold}
+use Rattle.node_arena.proofs.Holds.{held_apart, held_now, held_still}
 
 -- four cells that are held, made one after another
 module _ (h0 h1 h2 h3 : Holds) (a b c d : ℕ) (first : 0 < hold h0 a) (e1 : h1 ≡ with_hold h0 b 1) (fresh1 : hold h0 b ≡ 0)

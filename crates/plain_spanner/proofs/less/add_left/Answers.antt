@@ -1,6 +1,5 @@
 use Rattle.std.proofs.Common.{◌≡◌, false, sym, ◌∙◌, rules}
 use Rattle.std.proofs.lemmas.Bool.{true≢false}
-use Rattle.span_core.specs.Lists.{Has}
 use Rattle.plain_spanner.proofs.LessLaws.{pushed_has, pushed_kept, pushed_only}
 use Rattle.plain_spanner.proofs.less.add_left.Goals as goal
 

@@ -1,8 +1,7 @@
-use Rattle.std.proofs.Common.{◌≡◌, ◌<◌, ◌⊎◌, List, length, take, get_or, arith, sym, ap, subst, ◌∙◌}
+use Rattle.std.proofs.Common.{◌≡◌, ◌<◌, ◌⊎◌, List, length, get_or, arith, sym, ap, subst, ◌∙◌}
 use Rattle.span_core.specs.Lists.{Has}
 use Rattle.span_core.proofs.HasLaws.{Has-get_or}
 use Rattle.spanner_model.specs.Answers.{SpanRow}
-use Rattle.plain_spanner.specs.Listed.{Tells}
 use Rattle.plain_spanner.proofs.LessLaws.{left_all, left_more, left_none}
 use Rattle.plain_spanner.proofs.less.less.Goals as goal
 

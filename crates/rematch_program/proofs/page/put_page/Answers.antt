@@ -1,4 +1,4 @@
-use Rattle.std.proofs.Common.{List, ℕ, sym, ap, ◌∙◌, length, subst}
+use Rattle.std.proofs.Common.{List, ℕ, ap, ◌∙◌, length, subst}
 use Rattle.command_line.specs.RequestView.{request_view}
 use Rattle.rm_outside.specs.Change.{change, Adds, AddsPart}
 use Rattle.spanner_engine.specs.Left.{Source}

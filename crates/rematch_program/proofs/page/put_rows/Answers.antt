@@ -6,7 +6,7 @@ use Rattle.spanner_engine.specs.Left.{passing_over}
 use Rattle.rematch_program.specs.Pages.{FitsIf, first_rows, row_if}
 use Rattle.rematch_program.specs.Taking.{coming, page_rows}
 use Rattle.rematch_program.specs.Work.{SoFar}
-use Rattle.rematch_program.specs.Written.{Fits, lines_of}
+use Rattle.rematch_program.specs.Written.{lines_of}
 use Rattle.rematch_program.proofs.Gathers.{rows_passed}
 use Rattle.rematch_program.proofs.PageSteps.{ends_after, ends_none, ends_on, first_of_none, fits_page, further, goes_on, goes_out, last_try, took_found, took_none, tried_all, tried_some}
 use Rattle.rematch_program.proofs.Writing.{fits_now, line_cut, line_passed, still_same}

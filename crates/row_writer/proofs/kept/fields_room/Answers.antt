@@ -1,4 +1,4 @@
-use Rattle.std.proofs.Common.{◌≡◌, ℕ, ◌+◌, ◌<◌, [], ◌∷◌, true, drop, length, get_or, sym, ap, ◌∙◌, arith, List, Option}
+use Rattle.std.proofs.Common.{◌≡◌, ◌+◌, ◌<◌, [], ◌∷◌, true, drop, length, get_or, sym, ap, ◌∙◌, arith, List, Option}
 use Rattle.std.proofs.lemmas.List.{drop_more, drop_all}
 use Rattle.span_core.specs.declared.span.Span.{Span}
 use Rattle.row_writer.specs.declared.style.Style.{Style}

@@ -1,4 +1,4 @@
-use Rattle.std.proofs.Common.{◌≡◌, List, ℕ, IfOk, codes, sym, subst}
+use Rattle.std.proofs.Common.{List, IfOk, codes, sym, subst}
 use Rattle.session_server.specs.declared.answering.Opened.{Opened}
 use Rattle.session_server.specs.Requests.{grow_request}
 use Rattle.session_server.specs.Replies.{error_of, grow_of_none}

@@ -1,4 +1,4 @@
-use Rattle.std.proofs.Common.{rules, ◌≡◌, ◌∙◌, List, ℕ, codes, subst}
+use Rattle.std.proofs.Common.{rules, List, codes, subst}
 use Rattle.spanner_engine.specs.Passing.{known}
 use Rattle.session_server.specs.declared.answering.Opened.{Opened}
 use Rattle.session_server.specs.Requests.{next_request}

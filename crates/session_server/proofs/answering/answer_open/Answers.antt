@@ -1,4 +1,4 @@
-use Rattle.std.proofs.Common.{rules, arith, ◌≡◌, ◌≤◌, List, ℕ, codes, length, subst}
+use Rattle.std.proofs.Common.{rules, arith, ◌≤◌, List, codes, length, subst}
 use Rattle.spanner_engine.specs.Passing.{known}
 use Rattle.session_server.specs.declared.TheConstants.{MOST_SESSIONS}
 use Rattle.session_server.specs.declared.answering.Opened.{Opened}

@@ -1,4 +1,4 @@
-use Rattle.std.proofs.Common.{◌≡◌, List, ℕ, sym, subst, ap, ◌∙◌}
+use Rattle.std.proofs.Common.{List, ℕ, sym, subst, ap, ◌∙◌}
 use Rattle.spanner_engine.specs.Passing.{known}
 use Rattle.spanner_model.specs.Captures.{VarName}
 use Rattle.session_server.specs.declared.answering.Opened.{Opened}

@@ -1,4 +1,4 @@
-use Rattle.std.proofs.Common.{rules, arith, ◌≡◌, ◌≢◌, ◌≤◌, ◌+◌, length}
+use Rattle.std.proofs.Common.{rules, arith}
 use Rattle.session_server.proofs.Opens.{none_more}
 use Rattle.session_server.proofs.answering.place_of.Goals as goal
 

@@ -1,4 +1,4 @@
-use Rattle.std.proofs.Common.{rules, arith, true, false, ◌≡◌, ◌≤◌, ◌∙◌, List, ℕ, Option, [], ◌++◌, codes, inl, inr, refl, sym, ap, subst}
+use Rattle.std.proofs.Common.{rules, arith, true, false, ◌≡◌, ◌∙◌, List, ℕ, ◌++◌, codes, inl, inr, refl, sym, ap, subst}
 use Rattle.rm_outside.specs.Change.{change}
 use Rattle.rm_outside.specs.declared.status.Status.TheVariants as status
 use Rattle.note_texts.specs.Notes.{counted, line, note_bytes}

@@ -1,4 +1,4 @@
-use Rattle.std.proofs.Common.{◌≡◌, ◌∙◌, List, ℕ, [], ◌∷◌, length, sym, ap, subst}
+use Rattle.std.proofs.Common.{◌≡◌, ◌∙◌, List, [], ◌∷◌, length, sym, ap, subst}
 use Rattle.marked_automaton.specs.Automaton.{Marked}
 use Rattle.spanner_model.specs.ExprView.{query_of}
 use Rattle.spanner_model.specs.Answers.{AreAnswers}

@@ -1,4 +1,4 @@
-use Rattle.std.proofs.Common.{rules, ◌≡◌, refl}
+use Rattle.std.proofs.Common.{refl}
 use Rattle.query_parser.specs.TestedView.{tested_of}
 use Rattle.spanner_engine.specs.Passing.{known}
 use Rattle.session_server.specs.declared.session.Start.{Start}

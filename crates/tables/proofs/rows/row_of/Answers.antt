@@ -1,4 +1,4 @@
-use Rattle.std.proofs.Common.{sym, subst, ◌≡◌, ℕ, ◌+◌, ◌∷◌, ◌++◌, [], length, List, Option, Some}
+use Rattle.std.proofs.Common.{sym, subst, ◌≡◌, ℕ, ◌+◌, ◌∷◌, ◌++◌, [], length, List, Option}
 use Rattle.std.specs.List.{All}
 use Rattle.std.proofs.Math.Nat.{mod-lt}
 use Rattle.span_core.specs.declared.span.Span.{Span}

@@ -1,4 +1,4 @@
-use Rattle.std.proofs.Common.{◌≡◌, ℕ, List, OnErr, OnOk, ◌++◌, length, refl, sym, ap, ◌∙◌, subst}
+use Rattle.std.proofs.Common.{ℕ, List, ◌++◌, sym, subst}
 use Rattle.rm_outside.specs.Change.{change, AddsPart}
 use Rattle.rematch_program.specs.Work.{Passes}
 use Rattle.rematch_program.specs.Written.{Fits, Page, line_of, page_of}

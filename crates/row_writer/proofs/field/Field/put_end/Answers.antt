@@ -1,4 +1,4 @@
-use Rattle.std.proofs.Common.{◌≡◌, ◌≤◌, ◌+◌, ◌∙◌, ◌++◌, ◌∷◌, [], ap, sym, List, ℕ, take, Some, append_assoc, arith}
+use Rattle.std.proofs.Common.{◌≡◌, ◌+◌, ◌∙◌, ◌++◌, ◌∷◌, [], ap, sym, List, ℕ, take, Some, append_assoc, arith}
 use Rattle.std.specs.Fmt.{decimal}
 use Rattle.row_writer.proofs.Keeping.{behind_opening, front_written}
 use Rattle.row_writer.specs.Kept.{Field}

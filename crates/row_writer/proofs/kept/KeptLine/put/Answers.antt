@@ -1,4 +1,4 @@
-use Rattle.std.proofs.Common.{◌≡◌, length, sym, ap, ◌∙◌}
+use Rattle.std.proofs.Common.{length, sym, ap, ◌∙◌}
 use Rattle.row_writer.specs.Kept.{Line}
 use Rattle.row_writer.proofs.Keeping.{length_heads}
 use Rattle.row_writer.proofs.kept.KeptLine.put.Goals as goal

@@ -1,4 +1,4 @@
-use Rattle.std.proofs.Common.{◌≡◌, ◌∙◌, sym, subst}
+use Rattle.std.proofs.Common.{◌∙◌, sym, subst}
 use Rattle.spanner_model.specs.Answers.{AreResultNames}
 use Rattle.query_parser.specs.Tested.{TestedTree}
 use Rattle.spanner_engine.specs.Passing.{AreKnown, known}

@@ -1,7 +1,6 @@
-use Rattle.std.proofs.Common.{rules, ◌≡◌, ◌∙◌, List, ℕ, true, length, sym, subst, ap}
+use Rattle.std.proofs.Common.{◌≡◌, ◌∙◌, List, ℕ, true, length, sym, subst}
 use Rattle.std.specs.List.{list_all}
-use Rattle.spanner_model.specs.Answers.{AreResultNames, SpanRow}
-use Rattle.spanner_model.specs.Expression.{QueryTree}
+use Rattle.spanner_model.specs.Answers.{AreResultNames}
 use Rattle.cell_text.specs.Cells.{ends_by}
 use Rattle.query_parser.specs.Tested.{TestedTree}
 use Rattle.spanner_engine.specs.Passing.{known}

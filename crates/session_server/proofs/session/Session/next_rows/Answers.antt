@@ -1,4 +1,4 @@
-use Rattle.std.proofs.Common.{rules, arith, ◌≡◌, ◌≤◌, ◌∙◌, ℕ, Bool, true, false}
+use Rattle.std.proofs.Common.{rules, arith, ◌≡◌, ◌∙◌, true, false}
 use Rattle.spanner_engine.specs.Passing.{known}
 use Rattle.session_server.specs.Replies.{giving}
 use Rattle.session_server.proofs.Giving.{end_given, full_given, on_false, on_true, one_given}
