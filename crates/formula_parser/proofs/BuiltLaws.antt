@@ -1,9 +1,9 @@
 -- What is spelled is well built.
-use Rattle.std.proofs.Common.{◌≡◌, ◌≢◌, ℕ, zero, suc, ◌+◌, ◌*◌, ◌<◌, ◌≤◌, true, false, not, ◌&&◌, ◌||◌, List, [], ◌∷◌, ◌++◌, drop, get_or, map, Option, Some, IfOk, Result, Ok, Err, ap, sym, ◌∙◌, subst, arith}
+use Rattle.std.proofs.Common.{◌≡◌, ◌≢◌, ℕ, zero, suc, ◌+◌, ◌*◌, ◌<◌, ◌≤◌, true, false, not, ◌&&◌, List, [], ◌∷◌, ◌++◌, drop, get_or, map, Option, Some, IfOk, Result, Ok, Err, ap, sym, ◌∙◌, subst, arith}
 use Rattle.std.specs.Ordering.{nat_cmp}
 use Rattle.std.specs.Cmp.{nat_cmp_total}
 use Rattle.std.specs.FinSet as set
-use Rattle.std.specs.FinSet.{contains-union, contains-difference, contains-insert, contains-empty}
+use Rattle.std.specs.FinSet.{contains-difference, contains-insert, contains-empty}
 use Rattle.std.specs.Option.{ForSome}
 use Rattle.std.proofs.lemmas.Bool.{true≢false}
 use Rattle.std.proofs.lemmas.Bool.Decides.{nat_tests}
@@ -29,22 +29,17 @@ use Rattle.formula_parser.specs.Repeats.{IsRepeat, star, plus, maybe, exactly, a
 use Rattle.formula_parser.specs.Spells.{seq_tree, alt_tree, IsPlain, literal, wide, bang, dot, escape, class, SpellsAlt, SpellsSeq, SpellsPiece, SpellsUnit, lone_arm, more_arms, no_piece, more_pieces, once, again, plain, group_of, capture_of, given, IsAtomOver, IsAtomAt, over_bytes, over_characters}
 use Rattle.formula_parser.proofs.ClassSets.{single_bytes, others_bytes, escape_bytes}
 use Rattle.formula_parser.proofs.ClassLaws.{class_built}
+use Rattle.formula_parser.proofs.CharSetLaws.{single_has, has_first}
 
 -- a set with a member is not empty
 has_some : (s : Bytes) (b : ℕ) → set.contains s b ≡ true → ¬ (s ≡ set.empty)
 has_some s b has e = true≢false (sym has ∙ ap (λ t. set.contains t b) e ∙ contains-empty nat_cmp b)
 
-has_single : (b : ℕ) → set.contains (single b) b ≡ true
-has_single b = contains-insert nat_cmp_total set.empty b b ∙ grind (arith, nat_tests)
-
 has_between : (low high b : ℕ) → low ≤ b → b ≤ high → set.contains (bytes_between low high) b ≡ true
 has_between low high b from to = contains-bytes_between low high b ∙ grind (arith, nat_tests)
 
-has_first : (s t : Bytes) (b : ℕ) → set.contains s b ≡ true → set.contains (set.union s t) b ≡ true
-has_first s t b has = contains-union nat_cmp_total s t b ∙ ap (λ v. v || set.contains t b) has
-
 single_built : (b : ℕ) → b < 256 → IsByteClass (single b)
-single_built b small = (has_some (single b) b (has_single b), single_bytes b small)
+single_built b small = (has_some (single b) b (single_has b), single_bytes b small)
 
 dot_built : IsByteClass all_but_newline
 dot_built =
@@ -62,11 +57,11 @@ escape_has a_word_byte = (
       (has_first digits (bytes_between 65 90) 48 (has_between 48 57 48 (omega arith) (omega arith))),
 )
 escape_has a_space = (9, has_first (bytes_between 9 13) (single 32) 9 (has_between 9 13 9 (omega arith) (omega arith)))
-escape_has newline = (10, has_single 10)
-escape_has tab = (9, has_single 9)
-escape_has carriage_return = (13, has_single 13)
-escape_has (hex {x = x} {y = y} a b) = (16 * x + y, has_single (16 * x + y))
-escape_has (itself {c = c} p) = (c, has_single c)
+escape_has newline = (10, single_has 10)
+escape_has tab = (9, single_has 9)
+escape_has carriage_return = (13, single_has 13)
+escape_has (hex {x = x} {y = y} a b) = (16 * x + y, single_has (16 * x + y))
+escape_has (itself {c = c} p) = (c, single_has c)
 
 escape_built : {e : List ℕ} {x : Elem} → IsEscape e x → IsByteClass (elem_set x)
 escape_built {x = x} is = let has = escape_has is in (has_some (elem_set x) has.0 has.1, escape_bytes is)

@@ -1,7 +1,8 @@
 -- The kinds of bytes that begin a token.
-use Rattle.std.proofs.Common.{◌≡◌, ◌≢◌, ℕ, ◌≤◌, Bool, true, false, nat_eq, nat_lt, refl, sym, subst, arith, ◌⊎◌, inl, inr}
+use Rattle.std.proofs.Common.{◌≡◌, ◌≢◌, ℕ, ◌≤◌, Bool, true, false, nat_lt, refl, sym, subst, arith, ◌⊎◌, inl, inr}
 use Rattle.std.proofs.lemmas.Bool.Decides.{nat_tests}
 use Rattle.formula_parser.specs.Spells.{IsNoneOf, specials, IsLiteral}
+use Rattle.formula_parser.proofs.ClassBytes.{same_or_not}
 
 -- a byte of C0 or more
 abbrev pub IsWide : ℕ → Type 0
@@ -26,14 +27,6 @@ pub data Byte : ℕ → Type 0 where
   is_backslash : Byte 92
   is_literal : {b : ℕ} → IsLiteral b → Byte b
   is_wide : {b : ℕ} → IsWide b → Byte b
-
--- equal or not
-same_or_not : (b c : ℕ) → (b ≡ c) ⊎ (b ≢ c)
-same_or_not b c = by (nat_eq b c) refl
-  where
-    by : (v : Bool) → nat_eq b c ≡ v → (b ≡ c) ⊎ (b ≢ c)
-    by true e = inl (grind (arith, nat_tests))
-    by false e = inr (grind (arith, nat_tests))
 
 is_byte : (b c : ℕ) → Byte c → (b ≢ c → Byte b) → Byte b
 is_byte b c here other = by (same_or_not b c)

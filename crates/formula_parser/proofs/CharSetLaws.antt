@@ -6,7 +6,7 @@ use Rattle.std.specs.Ordering.{nat_cmp, eq_by_cmp}
 use Rattle.std.specs.Cmp.{nat_cmp_total}
 use Rattle.std.specs.FinSet as set
 use Rattle.std.specs.FinSet.{contains-union, contains-intersection, contains-difference, contains-insert, contains-empty, contains-retain, nat_cmp-IsAntisymmetric}
-use Rattle.std.proofs.lemmas.Bool.{and_parts, cases_lt, true≢false}
+use Rattle.std.proofs.lemmas.Bool.{and_parts, cases_lt, true≢false, or_left, or_right}
 use Rattle.std.proofs.lemmas.Bool.Decides.{nat_tests}
 use Rattle.span_core.specs.ByteSets.{bytes_between}
 use Rattle.span_core.specs.ByteWordLaws.{contains-bytes_between}
@@ -34,19 +34,11 @@ IsCharBetween low high c = IsScalar c × (low ≤ c) × (c ≤ high)
 pub holds_none : Holds [] set.empty
 holds_none c = (λ h. absurd h, λ h. absurd (true≢false (sym h.1 ∙ contains-empty nat_cmp c)))
 
-either_or : (a b : Bool) → a ≡ true → (a || b) ≡ true
-either_or true b e = refl
-either_or false b e = absurd (true≢false (sym e))
-
-or_either : (a b : Bool) → b ≡ true → (a || b) ≡ true
-or_either true b e = refl
-or_either false b e = e
-
-has_first : (s t : Bytes) (c : ℕ) → set.contains s c ≡ true → set.contains (set.union s t) c ≡ true
-has_first s t c e = contains-union nat_cmp_total s t c ∙ either_or (set.contains s c) (set.contains t c) e
+pub has_first : (s t : Bytes) (c : ℕ) → set.contains s c ≡ true → set.contains (set.union s t) c ≡ true
+has_first s t c e = contains-union nat_cmp_total s t c ∙ or_left (set.contains s c) (set.contains t c) e
 
 has_second : (s t : Bytes) (c : ℕ) → set.contains t c ≡ true → set.contains (set.union s t) c ≡ true
-has_second s t c e = contains-union nat_cmp_total s t c ∙ or_either (set.contains s c) (set.contains t c) e
+has_second s t c e = contains-union nat_cmp_total s t c ∙ or_right (set.contains s c) (set.contains t c) e
 
 pub holds_more : (new old : List (ℕ × ℕ)) (s t : Bytes) (More : ℕ → Type 0) → Holds old s → ((c : ℕ) → More c ↔ (IsScalar c × IsTrue (set.contains t c))) →
     IsJoined new old More → Holds new (set.union s t)
@@ -82,7 +74,7 @@ single_is c q h =
     ap (λ x. eq_by_cmp nat_cmp q c || x) (sym (contains-empty nat_cmp q)) ∙ sym (contains-insert nat_cmp_total set.empty c q) ∙ h in
     grind (arith, nat_tests)
 
-single_has : (c : ℕ) → set.contains (single c) c ≡ true
+pub single_has : (c : ℕ) → set.contains (single c) c ≡ true
 single_has c = contains-insert nat_cmp_total set.empty c c ∙ grind (arith, nat_tests)
 
 pub holds_single : (new old : List (ℕ × ℕ)) (c : ℕ) → old ≡ [] → IsJoined new old (IsCharBetween c c) → Holds new (set.insert set.empty c)

@@ -9,7 +9,7 @@ use Rattle.formula_parser.specs.Names.{is_word, HasHead}
 use Rattle.formula_parser.specs.Tokens.{head_at}
 use Rattle.formula_parser.proofs.RunLaws.{run_of, run_is, run_rest, after_token}
 
-start_continues : (c : ℕ) → is_name_start c ≡ true → is_name_byte c ≡ true
+pub start_continues : (c : ℕ) → is_name_start c ≡ true → is_name_byte c ≡ true
 start_continues c h = grind (arith, nat_tests)
 
 pub word_all : (x : List ℕ) → is_word x ≡ true → list_all is_name_byte x ≡ true

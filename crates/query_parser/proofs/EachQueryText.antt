@@ -17,12 +17,13 @@ use Rattle.formula_parser.specs.Faults.{HasFault as HasAtomFault}
 use Rattle.formula_parser.proofs.RunLaws.{run_of}
 use Rattle.formula_parser.proofs.BuiltLaws.{IsText, text_of}
 use Rattle.formula_parser.proofs.AtomLaws as atoms
+use Rattle.formula_parser.proofs.HeadLaws.{start_continues}
 use Rattle.query_parser.specs.declared.TheConstants.{MOST_TEXT_BYTES}
 use Rattle.query_parser.specs.declared.fault.QueryFault.{QueryFault}
 use Rattle.query_parser.specs.declared.fault.QueryFault.TheVariants.{Formula, Unexpected, TooManyVariables, TooLong}
-use Rattle.query_parser.specs.Tokens.{atom_token, word_token}
+use Rattle.query_parser.specs.Tokens.{word_token}
 use Rattle.query_parser.specs.Spells.{SpellsQuery}
-use Rattle.query_parser.specs.Reads.{start_read, unexpected}
+use Rattle.query_parser.specs.Reads.{start_read}
 use Rattle.query_parser.specs.Faults.{IsReadFault, KeepsTooMany, HasFault, IsQueryText, too_long, unreadable, too_many_kept, too_many_captured, not_sound}
 use Rattle.query_parser.specs.Nest.{Nest, Move, Body, move, outermost, wants_unit, whole_query, with_unit}
 use Rattle.query_parser.specs.Step.{Next, goes, reads_atom, stops, moved, ends, step, Ends}
@@ -31,8 +32,9 @@ use Rattle.query_parser.specs.Laws.{IsReadOrRefused, HasQueryOrFault}
 use Rattle.query_parser.proofs.TextLaws.{Answer, ends_spelled}
 use Rattle.query_parser.proofs.FaultLaws.{ends_fault, ends_kept}
 use Rattle.query_parser.proofs.SoundQuery.{query_formed, sound_query}
-use Rattle.query_parser.proofs.StepLaws.{Front, blank, slash, starts, sign, stray, front_of, blank_step, word_step, sign_step, stray_step, start_continues, ends_more, ends_atom, atom_due}
+use Rattle.query_parser.proofs.StepLaws.{Front, blank, slash, starts, sign, stray, front_of, blank_step, word_step, sign_step, stray_step, ends_more, ends_atom, atom_due}
 use Rattle.query_parser.proofs.ToldQueries.{told_names, QueryPassesOrFault, query_passes_or_fault}
+use Rattle.query_parser.proofs.TurnLaws.{atom_moves}
 
 -- ---- steps
 
@@ -79,9 +81,6 @@ atom_longer : (text : List ℕ) (at : ℕ) (a : AtomTree) (q : ℕ) → IsAtomAt
 atom_longer text at a q is =
     let e = atoms.atom_ends text at (a, q) is in
     omega (arith, length-drop q text, length-drop at text, e.moves, e.within)
-
-atom_moves : (a : AtomTree) (n : Nest) → wants_unit n.last ≡ true → move (atom_token a) n ≡ Ok (with_unit (atom a.from_start a.to_end a.formula) n)
-atom_moves a n w = ap (λ b. if b then Ok (with_unit (atom a.from_start a.to_end a.formula) n) else Err unexpected) w
 
 abbrev Ended : List ℕ → ℕ → Nest → Type 0
 Ended text at n = (r : Answer) × Ends text at n r

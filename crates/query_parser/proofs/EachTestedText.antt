@@ -24,7 +24,7 @@ use Rattle.query_parser.specs.Nest.{Nest, reading_of, outermost}
 use Rattle.query_parser.specs.Step.{word_at, EndsAfter, Ends}
 use Rattle.query_parser.specs.TokenRuns.{Run, run_ends, IsReadTo}
 use Rattle.query_parser.specs.Tested.{TestedTree, where_word, Placed, HasPlaced, SpellsWhere, no_test, tests_follow, SpellsTested, ends_tests, HasNoTests, of_query, without_tests, with_tests, FirstMissing, HasTestedFault, too_long, unreadable, too_many_kept, too_many_captured, not_sound, no_variable, IsTestedText}
-use Rattle.query_parser.specs.TestSteps.{TestLast, after_test, TestsRead, tests_at, no_test_read, test_mark, test_move, TestNext, test_goes, test_stops, test_step, TestsStop, end_stops, TestsBegin, IsReadAs, without_where, with_where}
+use Rattle.query_parser.specs.TestSteps.{after_test, TestsRead, tests_at, no_test_read, test_mark, test_move, TestNext, test_goes, test_stops, test_step, TestsStop, end_stops, TestsBegin, IsReadAs, without_where, with_where}
 use Rattle.query_parser.specs.TestedLaws.{plain, QueriesAreAsBefore, EachTextIsTold}
 use Rattle.query_parser.proofs.TextLaws.{spelled_ends, ends_spelled}
 use Rattle.query_parser.proofs.FaultLaws.{fault_ends}
@@ -35,7 +35,7 @@ use Rattle.query_parser.proofs.TestMoves.{tokens_of, placed_tokens, not_none}
 use Rattle.query_parser.proofs.TestTurns.{Went, step_went, stop_fault, fault_stops, Stopped}
 use Rattle.query_parser.proofs.TestedReading.{ends_halts, ends_run, no_tests_here, whole_found, begin_begins, read_spelled, spelled_read}
 use Rattle.query_parser.proofs.TestedFaults.{one_tested, tested_not_both, one_tested_fault, read_kept}
-use Rattle.query_parser.proofs.TestedCode.{where_told, where_not, tested_formed, tested_sound}
+use Rattle.query_parser.proofs.TestedCode.{where_told, where_not, tested_formed, tested_sound, ended}
 
 -- ---- where tests begin
 
@@ -61,10 +61,6 @@ begins_or_not text e f = by (fault_ends f)
 abbrev TestsEnd : List ℕ → ℕ → TestsRead → Type 0
 TestsEnd text p s =
     (e : ℕ) × (f : TestsRead) × Run test_move text p s e f × (((d : QueryFault) × TestsStop text e f d) ⊎ ((drop e text ≡ []) × (f.last ≡ after_test)))
-
-ended : (l : TestLast) → ends_tests (test_mark l) ≡ true → l ≡ after_test
-ended after_test w = refl
-ended l w = absurd (cc)
 
 none_left : (text : List ℕ) (p : ℕ) (s : TestsRead) → drop p text ≡ [] → TestsEnd text p s
 none_left text p s here = by (ends_tests (test_mark s.last)) refl

@@ -1,22 +1,23 @@
 -- What the grammar spells is formed.
-use Rattle.std.proofs.Common.{◌≡◌, ℕ, zero, suc, ◌+◌, ◌*◌, ◌<◌, ◌≤◌, List, [], ◌∷◌, ◌++◌, length, length-append, Some, slice_get, get_or, ap, refl, sym, subst, ◌∙◌, arith, inl, inr, ◌⊎◌}
+use Rattle.std.proofs.Common.{◌≡◌, ℕ, suc, ◌+◌, ◌*◌, ◌<◌, ◌≤◌, List, [], ◌∷◌, ◌++◌, length, length-append, Some, slice_get, get_or, sym, subst, ◌∙◌, arith, inl, inr, ◌⊎◌}
 use Rattle.std.proofs.lemmas.Option.{slice_get_within}
 use Rattle.span_core.specs.Lists.{Has}
-use Rattle.span_core.specs.NameSets.{Ascending, AreVariables}
+use Rattle.span_core.specs.NameSets.{AreVariables}
 use Rattle.span_core.proofs.HasLaws.{Has-get_or}
-use Rattle.span_core.proofs.NameSetLaws.{none_are_variables, with_ascends}
+use Rattle.span_core.proofs.NameSetLaws.{none_are_variables}
 use Rattle.spanner_model.specs.Captures.{VarName}
 use Rattle.spanner_model.specs.WellBuilt.{IsWellBuilt}
 use Rattle.spanner_model.specs.Expression.{ExprTree, union_end, union, join_end, join, union_all, join_all}
 use Rattle.spanner_model.specs.Sound.{IsFreeName, expr_nesting}
 use Rattle.spanner_model.proofs.NameLaws.{with_cases}
 use Rattle.span_core.specs.NameSets.{with_name}
+use Rattle.span_core.proofs.ListLaws.{get_more_cases}
 use Rattle.query_parser.specs.declared.TheConstants.{MOST_OPEN, MOST_MINUSES}
 use Rattle.query_parser.specs.Tokens.{Token, atom_token, let_word, union_word, join_word, project_word, none_word, name_token, equals, semicolon, open_paren, close_paren, comma, minus_word}
 use Rattle.query_parser.specs.Minuses.{minuses_in, minuses_in_lets}
 use Rattle.query_parser.specs.Spells.{union_tree, join_tree, with_names, SpellsNames, one_name, more_names, SpellsKeep, keeps_none, keeps_names, SpellsExpr, lone_conj, more_conjs, less_conj, SpellsConj, lone_unit, more_units, SpellsUnit, atom_unit, named_unit, group_of, projection_of, SpellsLets, no_let, more_lets}
 use Rattle.query_parser.specs.Formed.{IsFormed, AreUnitedFormed, AreJoinedFormed}
-use Rattle.query_parser.proofs.Lists.{has_last}
+use Rattle.query_parser.proofs.Lists.{has_last, with_names_ascend}
 use Rattle.query_parser.proofs.MinusLaws.{lets_more}
 use Rattle.query_parser.proofs.MoveLaws.{names_len}
 
@@ -100,16 +101,11 @@ keep_free : {t : List Token} {kept : List VarName} → SpellsKeep t kept → (x 
 keep_free keeps_none x h = absurd h
 keep_free (keeps_names {xs = xs} s few) x h = elim (kept_from [] xs x h) [ inl g ↦ absurd g | inr g ↦ names_free s x g ]
 
--- they are a set
-names_ascend : (names xs : List VarName) → Ascending names → Ascending (with_names names xs)
-names_ascend names [] up = up
-names_ascend names (x ∷ xs) up = names_ascend (with_name x names) xs (with_ascends x names up)
-
 keep_set : {t : List Token} {kept : List VarName} → SpellsKeep t kept → AreVariables kept
 keep_set keeps_none = none_are_variables
 keep_set (keeps_names {xs = xs} s few) = record {
   few = few;
-  ascending = names_ascend [] xs none_are_variables.ascending;
+  ascending = with_names_ascend [] xs none_are_variables.ascending;
   named = λ k d l. (keep_free (keeps_names s few) (get_or (with_names [] xs) k d) (Has-get_or (with_names [] xs) k d l)).0;
 }
 
@@ -161,18 +157,11 @@ formed_whole {names = names} {es = es} s b few =
     let x = formed_expr s b in
     let u = formed_union (length names) (3 * MOST_OPEN + 1) es x.1 x.0 in (u.0, omega (arith, u.1, few))
 
--- lets, one after another
-pub get_last : {X : Type 0} (xs : List X) (y z : X) (k : ℕ) → slice_get (xs ++ y ∷ []) k ≡ Some z → (slice_get xs k ≡ Some z) ⊎ ((k ≡ length xs) × (y ≡ z))
-get_last [] y z zero e = let same : y ≡ z = cc in inr (refl, same)
-get_last [] y z (suc k) e = absurd (cc)
-get_last (x ∷ xs) y z zero e = inl e
-get_last (x ∷ xs) y z (suc k) e = elim (get_last xs y z k e) [ inl g ↦ inl g | inr g ↦ inr (ap suc g.0, g.1) ]
-
 pub formed_lets : {t : List Token} {lets : List (VarName × ExprTree)} → SpellsLets t lets → AtomsBuilt t → minuses_in_lets lets ≤ MOST_MINUSES →
     (k : ℕ) (l : VarName × ExprTree) → slice_get lets k ≡ Some l → IsFormed k l.1 × (expr_nesting l.1 ≤ 600) × IsFreeName l.0
 formed_lets no_let b few k l is = absurd (cc)
 formed_lets (more_lets {t = t} {u = u} {lets = lets} {x = x} {es = es} s free new e) b few k l is =
-    by (get_last lets (x, union_tree es) l k is)
+    by (get_more_cases lets (x, union_tree es) l k is)
     (formed_lets s (built_split t (let_word ∷ name_token x ∷ equals ∷ (u ++ semicolon ∷ [])) b).0 (omega (arith, few, lets_more lets x (union_tree es))) k l)
   where
     by : (slice_get lets k ≡ Some l) ⊎ ((k ≡ length lets) × ((x, union_tree es) ≡ l)) →

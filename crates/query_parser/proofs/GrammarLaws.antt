@@ -1,5 +1,5 @@
 -- The laws of the grammar and of the faults that are met when a text is read.
-use Rattle.std.proofs.Common.{◌≡◌, inl, inr, ℕ, zero, suc, ◌+◌, true, false, List, Ok, Err, ap, sym, subst, ◌∙◌}
+use Rattle.std.proofs.Common.{◌≡◌, inl, inr, ℕ, zero, suc, ◌+◌, true, false, List, Ok, Err, ap, sym, subst, ◌∙◌, true≢false}
 use Rattle.spanner_model.specs.Expression.{AtomTree, QueryTree}
 use Rattle.formula_parser.proofs.AtomLaws.{one_tree, no_tree_with_fault, one_fault}
 use Rattle.query_parser.specs.declared.fault.QueryFault.TheVariants.{Formula}
@@ -47,9 +47,6 @@ one_query text q r a b =
     let pair : ◌≡◌ {A = Body} (q, false) (r, false) = cc in
     ap (λ (b : Body). b.0) pair
 
-true_not_false : true ≡ false → ⊥
-true_not_false e = absurd (cc)
-
 pub no_query_with_read_fault : HasNoQueryWithReadFault
 no_query_with_read_fault text q a =
     ((λ e d. let same = same_answer text (Ok (q, false)) (Err e) (spelled_ends text q a) (fault_ends d) in absurd (cc)), (λ k. by (kept_ends text k)))
@@ -58,7 +55,7 @@ no_query_with_read_fault text q a =
     by (p, e) =
         let same : ◌≡◌ {A = Answer} (Ok (p, true)) (Ok (q, false)) = same_answer text (Ok (p, true)) (Ok (q, false)) e (spelled_ends text q a) in
         let pair : ◌≡◌ {A = Body} (p, true) (q, false) = cc in
-        true_not_false (ap (λ (b : Body). b.1) pair)
+        true≢false (ap (λ (b : Body). b.1) pair)
 
 pub one_read_fault : HasOneReadFault
 one_read_fault text e a =

@@ -39,7 +39,7 @@ among_has (y ∷ ys) x e = by (bytes_eq y x) refl (among_has ys x)
     by true d others = inl (eq_is y x d)
     by false d others = inr (others (sym (ap (λ b. b || is_among ys x) d) ∙ e))
 
-or_true : (b : Bool) → (b || true) ≡ true
+pub or_true : (b : Bool) → (b || true) ≡ true
 or_true true = refl
 or_true false = refl
 

@@ -6,10 +6,11 @@ use Rattle.span_core.specs.Names.{is_name_start, is_name_byte}
 use Rattle.spanner_model.specs.Expression.{AtomTree}
 use Rattle.formula_parser.proofs.AtomLaws.{one_tree}
 use Rattle.formula_parser.proofs.RunLaws.{run_is}
+use Rattle.formula_parser.proofs.HeadLaws.{start_continues}
 use Rattle.query_parser.specs.Tokens.{Token, atom_token, is_blank, sign_token, word_token, IsStray, IsWordAt, TokenAt, atom_at, word_at, sign_at, BlankAt}
 use Rattle.query_parser.specs.Reads.{Refusal}
 use Rattle.query_parser.specs.TokenRuns.{Run, run_ends, run_blank, run_token}
-use Rattle.query_parser.proofs.StepLaws.{start_continues, start_no_blank, sign_is, sign_no_other}
+use Rattle.query_parser.proofs.StepLaws.{start_no_blank, sign_is, sign_no_other}
 
 -- ---- one token at a place
 

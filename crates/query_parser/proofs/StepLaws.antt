@@ -10,6 +10,7 @@ use Rattle.formula_parser.specs.Names.{is_word}
 use Rattle.formula_parser.specs.Spells.{IsAtomAt}
 use Rattle.formula_parser.proofs.RunLaws.{run_of, run_is}
 use Rattle.spanner_model.specs.Expression.{AtomTree, atom}
+use Rattle.formula_parser.proofs.HeadLaws.{start_continues}
 use Rattle.query_parser.specs.declared.fault.QueryFault.{QueryFault}
 use Rattle.query_parser.specs.declared.fault.QueryFault.TheVariants.{Unexpected}
 use Rattle.query_parser.specs.Tokens.{Token, atom_token, equals, semicolon, open_paren, close_paren, comma, word_token, sign_token, is_blank, IsStray, IsWordAt, TokenAt, atom_at, word_at, sign_at, BlankAt}
@@ -133,9 +134,6 @@ ends_atom text at q a n m r is found moves (steps, e) = (suc steps, inr (is, (a,
 
 pub at_blank : (text : List ℕ) (at : ℕ) (n : Nest) → BlankAt text at → step at (drop at text) n ≡ goes 1 n
 at_blank text at n (c, (rest, stands), b) = ap (λ t. step at t n) stands ∙ blank_step at c rest n b
-
-pub start_continues : (c : ℕ) → is_name_start c ≡ true → is_name_byte c ≡ true
-start_continues c h = grind (arith, nat_tests)
 
 -- what the token at a place does
 pub data Steps (text : List ℕ) (at : ℕ) : Token → ℕ → Type 0 where

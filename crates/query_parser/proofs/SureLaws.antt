@@ -1,6 +1,6 @@
 -- Sure variables: they are variables, whether one is sure can be told, and those of unions and joins by their parts.
 use Rattle.std.proofs.Common.{◌≡◌, ◌↔◌, ℕ, zero, suc, Bool, true, false, List, [], ◌∷◌, ◌++◌, Option, Some, None, inl, inr, refl, sym, ap, subst, arith}
-use Rattle.std.specs.Prelude.{slice_get, nat_eq, MatchBool}
+use Rattle.std.specs.Prelude.{slice_get, nat_eq}
 use Rattle.std.specs.Option.{IsSomeAnd}
 use Rattle.std.proofs.lemmas.Bool.Decides.{nat_tests}
 use Rattle.span_core.specs.Lists.{Has}
@@ -11,10 +11,10 @@ use Rattle.spanner_model.specs.WellBuilt.{IsBuilt, AreParts}
 use Rattle.spanner_model.specs.Expression.{ExprTree, atom, named, union_end, union, join_end, join, project, minus, union_all, join_all}
 use Rattle.spanner_model.specs.Answer.{VarOf}
 use Rattle.spanner_model.specs.Sound.{SureOf, sure_of_lets}
-use Rattle.spanner_model.proofs.Deciding.{Told, told_name, told_has}
+use Rattle.spanner_model.proofs.Deciding.{Told, told_name, told_has, told_choice, told_either}
 use Rattle.spanner_model.proofs.GatheredLaws.{NamesInTurn}
 use Rattle.query_parser.specs.Formed.{IsFormed, AreJoinedFormed}
-use Rattle.query_parser.proofs.ToldNames.{told_both, told_either}
+use Rattle.query_parser.proofs.ToldNames.{told_both}
 
 -- ---- sure variables are variables
 
@@ -126,10 +126,6 @@ module _ (S : ℕ → VarName → Type 0) (told : (k : ℕ) (x : VarName) → To
   told_sure_of (join e rest) x = told_either (told_sure_of e x) (told_sure_of rest x)
   told_sure_of (project kept e) x = told_both (told_has kept x) (told_sure_of e x)
   told_sure_of (minus e g) x = told_sure_of e x
-
-told_choice : (b : Bool) {P Q : Type 0} → Told P → Told Q → Told (MatchBool b P Q)
-told_choice true p q = p
-told_choice false p q = q
 
 told_sure_let : (lets : List (VarName × ExprTree)) (n : ℕ) (x : VarName) → ((k : ℕ) (y : VarName) → Told (sure_of_lets lets n k y)) → (o : Option (VarName × ExprTree)) →
     Told (IsSomeAnd o (λ l. SureOf (sure_of_lets lets n) l.1 x))

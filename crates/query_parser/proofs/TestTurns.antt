@@ -5,6 +5,7 @@ use Rattle.std.proofs.lemmas.List.Sums.{take_while-cons}
 use Rattle.span_core.specs.Names.{is_name, is_name_start, is_name_byte}
 use Rattle.spanner_model.specs.Captures.{VarName}
 use Rattle.formula_parser.proofs.RunLaws.{run_of}
+use Rattle.formula_parser.proofs.HeadLaws.{start_continues}
 use Rattle.query_parser.specs.declared.asks.Asked.{Asked}
 use Rattle.query_parser.specs.declared.fault.QueryFault.{QueryFault}
 use Rattle.query_parser.specs.declared.fault.QueryFault.TheVariants.{Unexpected, OutOfMemory}
@@ -17,7 +18,7 @@ use Rattle.query_parser.specs.Tested.{TestMark, next_of_tests, reads_test_name, 
 use Rattle.query_parser.specs.Tested as grammar
 use Rattle.query_parser.specs.TestSteps.{TestLast, at_test, after_test_name, after_test_open, after_test_var, after_test, TestsRead, tests_at, no_test_read, test_mark, TestMove, test_name_read, test_move, TestNext, test_goes, test_stops, test_moved, test_words, test_signs, test_step, TestsStop, atom_stops, token_stops, stray_stops, end_stops}
 use Rattle.query_parser.specs.TestAnswers.{IsTestStep, AreReadFrom}
-use Rattle.query_parser.proofs.StepLaws.{Front, blank, slash, starts, sign, stray, front_of, start_no_blank, sign_is, sign_no_other, start_continues, word_here}
+use Rattle.query_parser.proofs.StepLaws.{Front, blank, slash, starts, sign, stray, front_of, start_no_blank, sign_is, sign_no_other, word_here}
 use Rattle.query_parser.proofs.RunsMeet.{run_on, Halted, end_halts, one_token, word_front, same_front, no_slash_starts, no_slash_sign, no_blank_slash, blank_no_token, end_no_token, stray_no_blank, stray_no_token}
 
 -- ---- what is read of tests, and what may come next

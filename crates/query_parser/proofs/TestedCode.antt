@@ -147,7 +147,7 @@ query_ends text at n x run here is = without_where (run_goes run (Ok (query_of x
 
 -- ---- the end of the tests
 
-ended : (l : TestLast) → ends_tests (test_mark l) ≡ true → l ≡ after_test
+pub ended : (l : TestLast) → ends_tests (test_mark l) ≡ true → l ≡ after_test
 ended after_test w = refl
 ended l w = absurd (cc)
 

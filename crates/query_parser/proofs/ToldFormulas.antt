@@ -5,12 +5,12 @@ use Rattle.span_core.specs.Lists.{Has}
 use Rattle.spanner_model.specs.Tree.{Tree, empty, one, cat_end, cat, alt_end, alt, rep, cap}
 use Rattle.spanner_model.specs.Sequential.{HasVar, IsSequential}
 use Rattle.spanner_model.specs.WellBuilt.{IsBuilt, AreParts, AreArms}
-use Rattle.spanner_model.proofs.Deciding.{Told, told_var}
+use Rattle.spanner_model.proofs.Deciding.{Told, told_var, told_either}
 use Rattle.span_core.proofs.HasLaws.{Has-append_left, Has-append_right, Has-append_cases}
 use Rattle.functional_check.specs.declared.checking.CheckFault.{CheckFault}
 use Rattle.functional_check.specs.declared.checking.CheckFault.TheVariants.{BoundTwice, UnderRepeat}
 use Rattle.functional_check.specs.Faults.{IsLeast, InTwoParts, HasSequentialParts, InnerFault, IsFault}
-use Rattle.query_parser.proofs.ToldNames.{told_both, told_either, least_or_none}
+use Rattle.query_parser.proofs.ToldNames.{told_both, least_or_none}
 use Rattle.query_parser.proofs.SureLaws.{told_most}
 
 -- the names of a formula

@@ -22,11 +22,6 @@ told_both (inl p) (inl q) = inl (p, q)
 told_both (inl p) (inr n) = inr (λ h. n h.1)
 told_both (inr n) q = inr (λ h. n h.0)
 
-pub told_either : {P Q : Type 0} → Told P → Told Q → Told (P ⊎ Q)
-told_either (inl p) q = inl (inl p)
-told_either (inr n) (inl q) = inl (inr q)
-told_either (inr n) (inr m) = inr (λ h. elim h [ inl p ↦ n p | inr q ↦ m q ])
-
 pub told_not : {P : Type 0} → Told P → Told (¬ P)
 told_not (inl p) = inr (λ n. n p)
 told_not (inr n) = inl n

@@ -12,7 +12,7 @@ use Rattle.spanner_model.specs.Tree.{Tree}
 use Rattle.spanner_model.specs.Expression.{ExprTree, QueryTree, atom, named, union_end, union, join_end, join, project, minus}
 use Rattle.spanner_model.specs.Answer.{VarOf, vars_of_lets}
 use Rattle.spanner_model.specs.Sound.{NameIn, NameInLets, NameOf, SureOf, SharesSure, sure_of_lets}
-use Rattle.spanner_model.proofs.Deciding.{Told, told_has, told_of, told_lets}
+use Rattle.spanner_model.proofs.Deciding.{Told, told_has, told_of, told_lets, told_either}
 use Rattle.span_core.proofs.HasLaws.{Has-append_left, Has-append_right, Has-append_cases, Has-slice_get}
 use Rattle.functional_check.specs.Faults.{IsLeast, IsFault}
 use Rattle.functional_check.specs.declared.checking.CheckFault.{CheckFault}
@@ -21,7 +21,7 @@ use Rattle.query_parser.specs.declared.fault.QueryFault.{QueryFault}
 use Rattle.query_parser.specs.declared.fault.QueryFault.TheVariants.{Check, JoinUnsure, UnknownVariable, MinusVariables}
 use Rattle.query_parser.specs.TreeFaults.{Passes, PassesUnder, HasPassingParts, Clashes, ClashesFirst, IsOfOneSide, InnerFault, IsExprFault, IsFaultUnder, LetPasses, IsLetFault, IsTreeFault}
 use Rattle.query_parser.specs.Formed.{IsFormed, AreUnitedFormed, AreJoinedFormed, IsFormedQuery, PassesQuery}
-use Rattle.query_parser.proofs.ToldNames.{told_both, told_either, told_not, least_or_none, told_few, held}
+use Rattle.query_parser.proofs.ToldNames.{told_both, told_not, least_or_none, told_few, held}
 use Rattle.query_parser.proofs.SureLaws.{told_sure_of, told_sure_lets}
 use Rattle.query_parser.proofs.ToldFormulas.{formula_names, var_listed, listed_var, sequential_or_fault}
 

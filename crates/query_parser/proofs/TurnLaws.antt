@@ -1,5 +1,5 @@
 -- Turns of the code.
-use Rattle.std.proofs.Common.{◌≡◌, inl, inr, ℕ, zero, suc, ◌+◌, ◌<◌, ◌≤◌, Bool, true, List, [], ◌∷◌, length, drop, length-drop, length-append, Result, Ok, Err, ap, refl, sym, ◌∙◌, arith, if◌then◌else◌}
+use Rattle.std.proofs.Common.{◌≡◌, inl, inr, ℕ, zero, ◌+◌, ◌<◌, ◌≤◌, Bool, true, List, [], ◌∷◌, length, drop, length-drop, length-append, Result, Ok, Err, ap, sym, ◌∙◌, arith, if◌then◌else◌}
 use Rattle.spanner_model.specs.declared.query.Query.{Query}
 use Rattle.query_parser.specs.declared.fault.QueryFault.{QueryFault}
 use Rattle.query_parser.specs.declared.fault.QueryFault.TheVariants.{OutOfMemory}
@@ -55,10 +55,3 @@ pub end_answers : (text : List ℕ) (at : ℕ) (n : Nest) (r : Result (Query × 
 end_answers text at n (Ok x) P here is next = next _ (zero, inl (ap (λ t. step at t n) here ∙ is))
 end_answers text at n (Err OutOfMemory) P here is next = tt
 end_answers text at n (Err e) P here is next = next (Err e) (zero, inl (ap (λ t. step at t n) here ∙ is))
-
--- behind its end a text has no more
-pub drop_all : (k : ℕ) (t : List ℕ) → length t ≤ k → drop k t ≡ []
-drop_all zero [] h = refl
-drop_all zero (c ∷ t) h = absurd (omega arith)
-drop_all (suc k) [] h = refl
-drop_all (suc k) (c ∷ t) h = drop_all k t (omega arith)

@@ -1,7 +1,8 @@
 use Rattle.std.proofs.Common.{rules, ◌+◌, ◌≤◌, length, arith, length-drop}
 use Rattle.std.proofs.lemmas.Result.{err_from_is_err_and}
+use Rattle.std.proofs.lemmas.List.{drop_all}
 use Rattle.query_parser.specs.View.{nest_of}
-use Rattle.query_parser.proofs.TurnLaws.{turn_within, turn_on, turn_fails, end_answers, drop_all}
+use Rattle.query_parser.proofs.TurnLaws.{turn_within, turn_on, turn_fails, end_answers}
 use Rattle.query_parser.proofs.reader.read_by_turns.Goals as goal
 
 pub returns-in_err-at : goal.returns-in_err-at

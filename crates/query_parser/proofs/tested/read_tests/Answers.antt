@@ -1,10 +1,10 @@
 use Rattle.std.proofs.Common.{rules, ◌+◌, ◌≤◌, length, arith, length-drop}
 use Rattle.std.proofs.lemmas.Result.{err_from_is_err_and}
+use Rattle.std.proofs.lemmas.List.{drop_all}
 use Rattle.query_parser.specs.TestSteps.{test_move}
 use Rattle.query_parser.specs.TestAnswers.{tests_of}
 use Rattle.query_parser.proofs.RunsMeet.{run_on}
 use Rattle.query_parser.proofs.TestTurns.{turn_goes, turn_fails}
-use Rattle.query_parser.proofs.TurnLaws.{drop_all}
 use Rattle.query_parser.proofs.TestedCode.{tests_whole, tests_cut, run_begins}
 use Rattle.query_parser.proofs.tested.read_tests.Goals as goal
 

@@ -1,10 +1,11 @@
 use Rattle.std.proofs.Common.{rules, Bool, sym, subst, ◌+◌, ◌≤◌, length, arith, length-drop}
 use Rattle.std.proofs.lemmas.Result.{err_from_is_err_and}
+use Rattle.std.proofs.lemmas.List.{drop_all}
 use Rattle.spanner_model.specs.declared.query.Query.{Query}
 use Rattle.spanner_model.specs.ExprView.{query_of}
 use Rattle.query_parser.specs.View.{nest_of}
 use Rattle.query_parser.specs.TestSteps.{IsReadAs}
-use Rattle.query_parser.proofs.TurnLaws.{turn_within, drop_all}
+use Rattle.query_parser.proofs.TurnLaws.{turn_within}
 use Rattle.query_parser.proofs.TestedReading.{turn_runs}
 use Rattle.query_parser.proofs.TestedCode.{where_told, where_not, query_begins, query_fails, query_ends_fails, query_ends}
 use Rattle.query_parser.proofs.tested.read_turns.Goals as goal
