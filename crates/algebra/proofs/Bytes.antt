@@ -1,17 +1,14 @@
 -- Bytes that are in two sets.
-use Rattle.std.proofs.Common.{◌≡◌, ℕ, Bool, true, false, List, [], ◌∷◌, refl, sym, ap, ◌∙◌}
-use Rattle.std.specs.Prelude.{◌&&◌, ◌||◌}
+use Rattle.std.proofs.Common.{◌≡◌, ℕ, true, List, [], ◌∷◌, refl, sym, ap, ◌∙◌}
+use Rattle.std.specs.Prelude.{◌&&◌}
 use Rattle.std.specs.List.{list_any}
 use Rattle.std.specs.Ordering.{nat_cmp, eq_by_cmp}
 use Rattle.std.specs.FinSet as set
 use Rattle.std.proofs.lemmas.Cmp.{nat_cmp_total, eq_by_cmp_equiv}
+use Rattle.std.proofs.lemmas.Bool.{or_left}
 use Rattle.marked_automaton.specs.Automaton.{ByteClass, HasByte}
 use Rattle.algebra.specs.Operations.{is_some_list, has_some, meet}
 use Rattle.marked_automaton.proofs.Passing.{both_true, left_true, right_true}
-
-or_left : (a b : Bool) → a ≡ true → (a || b) ≡ true
-or_left true b e = refl
-or_left false b e = absurd (cc)
 
 equal_itself : (x : ℕ) → eq_by_cmp nat_cmp x x ≡ true
 equal_itself x = (eq_by_cmp_equiv nat_cmp_total).refl x

@@ -29,10 +29,10 @@ use Rattle.algebra.specs.Operations.{has_some, is_some_list}
 use Rattle.algebra.proofs.Bytes.{some_has}
 use Rattle.std.specs.Ordering.{nat_cmp, eq_by_cmp}
 use Rattle.std.proofs.lemmas.Cmp.{nat_cmp_total}
+use Rattle.span_core.proofs.ListLaws.{get_left}
 use Rattle.marked_automaton.proofs.Segments.{filter_yes, filter_no}
 use Rattle.algebra.proofs.Joins.{pair_same}
 use Rattle.algebra.proofs.Places.{match_len, place_in, place_there}
-use Rattle.algebra.proofs.ReductUnions.{get_left}
 
 module _ {X Y : Type 0} (P Q : X → Y → Type 0) where
   pub matched_more : ((x : X) (y : Y) → P x y → Q x y) → (xs : List X) (ys : List Y) → Matched P xs ys → Matched Q xs ys

@@ -5,7 +5,7 @@ use Rattle.std.specs.List.{filter, flat_map}
 use Rattle.std.specs.List.Sorted.{IsPermutation}
 use Rattle.std.proofs.lemmas.List.Elements.{filter-append}
 use Rattle.std.proofs.lemmas.List.Sorted.{IsPermutation-refl, IsPermutation-cons, IsPermutation-sym, IsPermutation-trans, IsPermutation-middle, IsPermutation-append_right}
-use Rattle.std.proofs.lemmas.Bool.{eqb-true, eq-eqb}
+use Rattle.std.proofs.lemmas.Bool.{eqb-true, eq-eqb, or_right}
 use Rattle.span_core.specs.Lists.{Has, AreDistinct}
 use Rattle.algebra.specs.declared.pairs.Pair.{Pair}
 use Rattle.algebra.specs.Pairs.{pair_of, pairs, those_at, pairs_at}
@@ -74,10 +74,6 @@ one_of_has (k ∷ keys) r e = go (is_pair k r) refl (one_of_has keys r) e
     go : (b : Bool) → is_pair k r ≡ b → (one_of keys r ≡ true → Has keys r) → (b || one_of keys r) ≡ true → Has (k ∷ keys) r
     go true at rest e = inl (is_pair_same k r at)
     go false at rest e = inr (rest e)
-
-or_right : (b c : Bool) → c ≡ true → (b || c) ≡ true
-or_right true c e = refl
-or_right false c e = e
 
 pub has_one_of : (keys : List Pair) (r : Pair) → Has keys r → one_of keys r ≡ true
 has_one_of [] r h = absurd h

@@ -1,6 +1,6 @@
 -- Results of joins, by cases.
 use Rattle.std.proofs.Common.{◌≡◌, ℕ, ◌<◌, ◌≤◌, List, sym, subst, arith, ◌∙◌}
-use Rattle.std.specs.Prelude.{IfErr, IfOk}
+use Rattle.std.specs.Prelude.{IfOk}
 use Rattle.std.specs.declared.result.Result.{Result}
 use Rattle.std.specs.declared.result.Result.TheVariants.{Ok, Err}
 use Rattle.spanner_model.specs.Captures.{VarName}
@@ -28,14 +28,6 @@ join_by A B all is (Ok j) P h g names made = record {
   reached = g j.graph made;
 }
 join_by A B all is (Err e) P h g names made = tt
-
-pub ok_by : (r : Result Marked SizeFault) (P Q : Marked → Type 0) → ((j : Marked) → P j → Q j) → IfOk r P → IfOk r Q
-ok_by (Ok j) P Q h k = h j k
-ok_by (Err e) P Q h k = tt
-
-pub fault_by : (r : Result Marked SizeFault) (P Q : SizeFault → Type 0) → ((e : SizeFault) → P e → Q e) → IfErr r P → IfErr r Q
-fault_by (Ok j) P Q h f = tt
-fault_by (Err e) P Q h f = h e f
 
 -- what a join is, by its clauses
 module _ (A B : Marked) where

@@ -10,9 +10,11 @@ use Rattle.std.proofs.lemmas.Cmp.{nat_cmp_total}
 use Rattle.std.proofs.lemmas.List.{map-append, length-map}
 use Rattle.std.proofs.lemmas.List.Sorted.{length_permutation}
 use Rattle.std.proofs.lemmas.Option.{slice_get_within, slice_get-get_or}
+use Rattle.std.proofs.lemmas.Result.{IfErr-weaker}
 use Rattle.spanner_model.specs.Captures.{VarName}
 use Rattle.span_core.specs.Lists.{Has}
 use Rattle.span_core.proofs.HasLaws.{Has-append_left, Has-get_or, Has-map, Has-map_cases, Has-slice_get, place_of-Has}
+use Rattle.span_core.proofs.ListLaws.{get_left, filter_no_more}
 use Rattle.marked_automaton.specs.declared.way.Way.{Way}
 use Rattle.marked_automaton.specs.Automaton.{Automaton, ByteClass, IsMarked, IsWayOf, Marked, all_bytes, idle_way}
 use Rattle.marked_automaton.specs.declared.fault.SizeFault.{SizeFault}
@@ -34,12 +36,11 @@ use Rattle.marked_automaton.proofs.Passing.{both_true, filter_cases, flat_map_ca
 use Rattle.algebra.proofs.Followed.{no_bytes, pairs_few, some_bytes}
 use Rattle.algebra.proofs.Gathered.{gathered, one_of}
 use Rattle.marked_automaton.proofs.Segments.{filter_yes, filter_no}
-use Rattle.algebra.proofs.JoinResults.{fault_by, join_by, within_more}
+use Rattle.algebra.proofs.JoinResults.{join_by, within_more}
 use Rattle.algebra.proofs.Places.{match_from, match_len, match_of, place_there}
-use Rattle.algebra.proofs.ReductUnions.{get_left}
 use Rattle.algebra.proofs.Reached.{AreSides, IsOfFound, coded_stop, coded_way, found_reduces, of_pairs}
 use Rattle.algebra.proofs.RenamingLaws.{agree_is, joined_is, joined_small, moved_none, power_le}
-use Rattle.algebra.proofs.Searched.{filter_no_more, gathered_ways, row_has}
+use Rattle.algebra.proofs.Searched.{gathered_ways, row_has}
 
 -- pairs of images make what pairs make
 module _ {X Y U V R S : Type 0} (test : U → V → Bool) (make : U → V → R) (code : R → S) (hx : X → U) (hy : Y → V) (test0 : X → Y → Bool) (make0 : X → Y → S) where
@@ -416,6 +417,6 @@ module _ {A B : Marked} (a : IsMarked A) (b : IsMarked B) (all : List VarName) w
 
       pub fault_made : all ≡ all_names A.names B.names → (r : Result Marked SizeFault) → IfErr r (IsSizeFaultWithin (length keys) (length made)) → IfErr r (IsJoinFault A B)
       fault_made all_are r h =
-          fault_by r (IsSizeFaultWithin (length keys) (length made)) (IsJoinFault A B)
+          IfErr-weaker r (IsSizeFaultWithin (length keys) (length made)) (IsJoinFault A B)
           (λ e f. subst (λ ns. IsSizeFaultWithin (n1 * n2) (length (join_over A B ns).ways) e) all_are
           (within_more (length keys) (n1 * n2) (length made) (length J.ways) e keys_few made_few f)) h

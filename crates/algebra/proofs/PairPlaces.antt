@@ -3,18 +3,16 @@ use Rattle.std.proofs.Common.{◌≡◌, ℕ, zero, suc, ◌+◌, ◌≤◌, Boo
 use Rattle.std.specs.Prelude.{map, slice_get, nat_eq, if◌then◌else◌, ◌&&◌, cond}
 use Rattle.std.specs.List.{filter, flat_map}
 use Rattle.std.specs.Option.{option_map}
-use Rattle.std.proofs.lemmas.Bool.{eqb-true, eq-eqb}
+use Rattle.std.proofs.lemmas.Bool.{eqb-true, eq-eqb, false≢true}
+use Rattle.span_core.proofs.ListLaws.{get_left}
 use Rattle.marked_automaton.proofs.Passing.{both_true, left_true, right_true}
 use Rattle.marked_automaton.proofs.Listed.{get_map_cases, get_map}
 use Rattle.marked_automaton.proofs.Listed.{some_same}
-use Rattle.algebra.proofs.ReductUnions.{get_left, get_right, get_append_cases}
+use Rattle.algebra.proofs.ReductUnions.{get_right, get_append_cases}
 
 pub record Spot : Type 0 where
   pub one : ℕ
   pub two : ℕ
-
-false_true : false ≡ true → ⊥
-false_true f = cc
 
 module _ {Y : Type 0} (t : Y → Bool) where
   -- the places of what passes, counted from o on
@@ -50,7 +48,7 @@ module _ {Y : Type 0} (t : Y → Bool) where
       go : (b : Bool) → b ≡ true → o ≡ o + 0 →
           (k : ℕ) × (slice_get (if b then o ∷ places_of ys (suc o) else places_of ys (suc o)) k ≡ Some (o + 0)) × (slice_get (cond b (x ∷ filter t ys) (filter t ys)) k ≡ Some y)
       go true at z = (0, ap Some z, e)
-      go false at z = absurd (false_true at)
+      go false at z = absurd (false≢true at)
   place_exists (x ∷ ys) o (suc j) y e h = go (t x) (place_exists ys (suc o) j y e h)
     where
       go : (b : Bool) → (k : ℕ) × (slice_get (places_of ys (suc o)) k ≡ Some (suc o + j)) × (slice_get (filter t ys) k ≡ Some y) →

@@ -14,6 +14,7 @@ use Rattle.algebra.specs.Operations.{moved_way, moved_stop, union_of}
 use Rattle.marked_automaton.specs.Reduct.{IsReachedIn, IsReached, HasEnd, Knows, IsReduct}
 use Rattle.algebra.specs.Laws.{ReductOfUnion}
 use Rattle.span_core.proofs.HasLaws.{Has-append_left, Has-append_right, Has-append_cases, Has-map, Has-map_cases}
+use Rattle.span_core.proofs.ListLaws.{get_left}
 use Rattle.marked_automaton.proofs.Listed.{get_map_cases, get_map}
 use Rattle.marked_automaton.proofs.Listed.{some_same, place_has}
 
@@ -38,11 +39,6 @@ sum_left n k f1 f2 b a l e = sum_first n k f1 f2 b l ∙ e
 
 sum_right : (n k : ℕ) (f1 f2 : ℕ → Option ℕ) (b a c : ℕ) → b ≡ n + c → f2 c ≡ Some a → sum_map n k f1 f2 b ≡ Some (k + a)
 sum_right n k f1 f2 b a c at e = sum_second n k f1 f2 b c at ∙ ap (option_map (λ a. k + a)) e
-
-pub get_left : {X : Type 0} (xs ys : List X) (k : ℕ) (x : X) → slice_get xs k ≡ Some x → slice_get (xs ++ ys) k ≡ Some x
-get_left [] ys k x e = absurd (cc)
-get_left (y ∷ xs) ys zero x e = e
-get_left (y ∷ xs) ys (suc k) x e = get_left xs ys k x e
 
 pub get_right : {X : Type 0} (xs ys : List X) (k j : ℕ) (x : X) → k ≡ length xs + j → slice_get ys j ≡ Some x → slice_get (xs ++ ys) k ≡ Some x
 get_right [] ys k j x at e = let f : j ≡ k = omega (arith, at) in subst (λ k. slice_get ys k ≡ Some x) f e

@@ -4,6 +4,7 @@ use Rattle.std.specs.Prelude.{IfErr, IfOk}
 use Rattle.std.specs.List.{filter}
 use Rattle.std.specs.declared.result.Result.{Result}
 use Rattle.std.proofs.lemmas.Bool.{true≢false}
+use Rattle.std.proofs.lemmas.Result.{IfOk-weaker, IfErr-weaker}
 use Rattle.spanner_model.specs.Captures.{VarName}
 use Rattle.span_core.proofs.HasLaws.{Has-map_cases}
 use Rattle.marked_automaton.specs.declared.way.Way.{Way}
@@ -21,7 +22,7 @@ use Rattle.algebra.specs.JoinedNames.{all_names}
 use Rattle.algebra.specs.Joining.{IsGroupedOf, IsJoinFault, IsJoinOf, join_over}
 use Rattle.algebra.specs.Operations.{goes_with, has_some, join_of, meet, pair_way}
 use Rattle.algebra.proofs.Followed.{no_bytes}
-use Rattle.algebra.proofs.JoinResults.{fault_by, ok_by, within_more}
+use Rattle.algebra.proofs.JoinResults.{within_more}
 use Rattle.algebra.proofs.ReductJoins.{reduct_of_join}
 use Rattle.algebra.proofs.Whole.{join_whole}
 
@@ -66,13 +67,13 @@ module _ (A1 A2 B1 B2 : Marked) (a1 : IsMarked A1) (a2 : IsMarked A2) (b1 : IsMa
 -- the join with a first, or a second, automaton that is grouped first
 module _ (A B G : Marked) (r : Result Marked SizeFault) where
   pub first_join : IsMarked B → IsGroupedOf A G → IfOk r (IsJoinOf G B) → IfOk r (IsJoinOf A B)
-  first_join b g = ok_by r (IsJoinOf G B) (IsJoinOf A B) (join_more G B A B g.new b g.old b g.names refl g.reduct (reduct_of_itself B.graph b.whole))
+  first_join b g = IfOk-weaker r (IsJoinOf G B) (IsJoinOf A B) (join_more G B A B g.new b g.old b g.names refl g.reduct (reduct_of_itself B.graph b.whole))
 
   pub first_fault : IsMarked B → IsGroupedOf A G → IfErr r (IsJoinFault G B) → IfErr r (IsJoinFault A B)
-  first_fault b g = fault_by r (IsJoinFault G B) (IsJoinFault A B) (fault_more G B A B g.new b g.old b g.names refl g.reduct (reduct_of_itself B.graph b.whole))
+  first_fault b g = IfErr-weaker r (IsJoinFault G B) (IsJoinFault A B) (fault_more G B A B g.new b g.old b g.names refl g.reduct (reduct_of_itself B.graph b.whole))
 
   pub second_join : IsMarked A → IsGroupedOf B G → IfOk r (IsJoinOf A G) → IfOk r (IsJoinOf A B)
-  second_join a g = ok_by r (IsJoinOf A G) (IsJoinOf A B) (join_more A G A B a g.new a g.old refl g.names (reduct_of_itself A.graph a.whole) g.reduct)
+  second_join a g = IfOk-weaker r (IsJoinOf A G) (IsJoinOf A B) (join_more A G A B a g.new a g.old refl g.names (reduct_of_itself A.graph a.whole) g.reduct)
 
   pub second_fault : IsMarked A → IsGroupedOf B G → IfErr r (IsJoinFault A G) → IfErr r (IsJoinFault A B)
-  second_fault a g = fault_by r (IsJoinFault A G) (IsJoinFault A B) (fault_more A G A B a g.new a g.old refl g.names (reduct_of_itself A.graph a.whole) g.reduct)
+  second_fault a g = IfErr-weaker r (IsJoinFault A G) (IsJoinFault A B) (fault_more A G A B a g.new a g.old refl g.names (reduct_of_itself A.graph a.whole) g.reduct)

@@ -5,7 +5,7 @@ use mathlib.Core.Bool.{beq, not}
 use Rattle.std.specs.Str.{bytes_eq}
 use Rattle.std.proofs.Math.Nat.{mod-eq_of_lt, zero-div}
 use Rattle.std.proofs.lemmas.Nat.{div-mul-add, mod-mul-add, mod-pow-add, div_below, mod_below, pow-add}
-use Rattle.std.proofs.lemmas.Bool.{eq-eqb, ne_eqb, eqb-true}
+use Rattle.std.proofs.lemmas.Bool.{eq-eqb, ne_eqb, eqb-true, false≢true}
 use Rattle.std.proofs.lemmas.List.{length-map}
 use Rattle.spanner_model.specs.Captures.{VarName}
 use Rattle.span_core.specs.declared.TheConstants.{MOST_VARIABLES}
@@ -18,9 +18,6 @@ use Rattle.marked_automaton.proofs.Listed.{some_same}
 use Rattle.algebra.specs.JoinedMarks.{has_name, agree_on, joined}
 use Rattle.algebra.specs.Renaming.{place_shift, shift_of, bits_up, moved_marks}
 use Rattle.algebra.proofs.Joins.{pair_same}
-
-false_true : false ≡ true → ⊥
-false_true e = cc
 
 pub bits_small : (o : Option ℕ) (m : ℕ) → bits_up o m < 4
 bits_small None m = omega arith
@@ -51,15 +48,15 @@ place_small (y ∷ ys) x s e = go (bytes_eq y x) (place_small ys x s) e
     go true rest e = omega (arith, some_same (2 * length ys) s e)
     go false rest e = omega (arith, rest e)
 
-place_none : (names : List VarName) (x : VarName) → has_name names x ≡ false → place_shift names x ≡ None
+pub place_none : (names : List VarName) (x : VarName) → has_name names x ≡ false → place_shift names x ≡ None
 place_none [] x e = refl
 place_none (y ∷ ys) x e = go (bytes_eq y x) (place_none ys x) e
   where
     go : (b : Bool) → (has_name ys x ≡ false → place_shift ys x ≡ None) → (b || has_name ys x) ≡ false → (if b then Some (2 * length ys) else place_shift ys x) ≡ None
-    go true rest e = absurd (false_true (sym e))
+    go true rest e = absurd (false≢true (sym e))
     go false rest e = rest e
 
-place_at : (names : List VarName) (x : VarName) (k : ℕ) → AreDistinct names → slice_get names k ≡ Some x → place_shift names x ≡ Some (2 * (length names - k - 1))
+pub place_at : (names : List VarName) (x : VarName) (k : ℕ) → AreDistinct names → slice_get names k ≡ Some x → place_shift names x ≡ Some (2 * (length names - k - 1))
 place_at [] x k d e = absurd (cc)
 place_at (y ∷ ys) x zero d e =
     let n : 2 * length ys ≡ 2 * (suc (length ys) - 0 - 1) = omega arith in
@@ -118,9 +115,9 @@ digits_same a b c d p l m = go (nat_eq a b) (nat_eq c d) refl refl
         let y : c ≡ d = eqb-true c d f in
         eq-eqb (a * p + c) (b * p + d) (λ i. x i * p + y i)
     go true false e f =
-        ne_eqb (a * p + c) (b * p + d) (λ g. false_true (sym f ∙ eq-eqb c d (pair_same p a c b d l m g).1))
+        ne_eqb (a * p + c) (b * p + d) (λ g. false≢true (sym f ∙ eq-eqb c d (pair_same p a c b d l m g).1))
     go false t e f =
-        ne_eqb (a * p + c) (b * p + d) (λ g. false_true (sym e ∙ eq-eqb a b (pair_same p a c b d l m g).0))
+        ne_eqb (a * p + c) (b * p + d) (λ g. false≢true (sym e ∙ eq-eqb a b (pair_same p a c b d l m g).0))
 
 module _ (names1 names2 : List VarName) (m n : ℕ) (small1 : m < 2 ^ (2 * length names1)) (small2 : n < 2 ^ (2 * length names2)) where
   abbrev One : VarName → ℕ
@@ -221,22 +218,16 @@ found_has names x None some none = go (has_name names x) refl
     go false e = e
 
 pub shift_against : (names other : List VarName) (wanted : Bool) (x : VarName) (b : Bool) → has_name other x ≡ b → not (beq b wanted) ≡ true → shift_of names other wanted x ≡ None
-shift_against names other true x true e n = absurd (false_true n)
+shift_against names other true x true e n = absurd (false≢true n)
 shift_against names other false x true e n = ap (λ h. if h then None else place_shift names x) e
 shift_against names other true x false e n = ap (λ h. if h then place_shift names x else None) e
-shift_against names other false x false e n = absurd (false_true n)
+shift_against names other false x false e n = absurd (false≢true n)
 
 pub shift_as_wanted : (names other : List VarName) (wanted : Bool) (x : VarName) (b : Bool) → has_name other x ≡ b → not (beq b wanted) ≡ false → shift_of names other wanted x ≡ place_shift names x
 shift_as_wanted names other true x true e w = ap (λ h. if h then place_shift names x else None) e
-shift_as_wanted names other false x true e w = absurd (false_true (sym w))
-shift_as_wanted names other true x false e w = absurd (false_true (sym w))
+shift_as_wanted names other false x true e w = absurd (false≢true (sym w))
+shift_as_wanted names other true x false e w = absurd (false≢true (sym w))
 shift_as_wanted names other false x false e w = ap (λ h. if h then None else place_shift names x) e
-
-pub shift_at : (names : List VarName) (x : VarName) (k : ℕ) → AreDistinct names → slice_get names k ≡ Some x → place_shift names x ≡ Some (2 * (length names - k - 1))
-shift_at = place_at
-
-pub shift_nowhere : (names : List VarName) (x : VarName) → has_name names x ≡ false → place_shift names x ≡ None
-shift_nowhere = place_none
 
 pub power_le : (a b : ℕ) → a ≤ b → 2 ^ a ≤ 2 ^ b
 power_le a b le =

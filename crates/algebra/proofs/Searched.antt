@@ -1,5 +1,5 @@
 -- The search of pairs as a whole.
-use Rattle.std.proofs.Common.{◌≡◌, ℕ, zero, suc, ◌+◌, ◌*◌, ◌<◌, ◌≤◌, ◌⊎◌, Bool, List, [], ◌∷◌, ◌++◌, length, map, get_or, take, nat_eq, inl, inr, refl, sym, ap, subst, arith, ◌∙◌, append_assoc}
+use Rattle.std.proofs.Common.{◌≡◌, ℕ, zero, suc, ◌+◌, ◌*◌, ◌<◌, ◌≤◌, ◌⊎◌, List, [], ◌∷◌, ◌++◌, length, map, get_or, take, nat_eq, inl, inr, refl, sym, ap, subst, arith, ◌∙◌, append_assoc}
 use Rattle.std.specs.Prelude.{Option}
 use Rattle.std.specs.List.{filter, flat_map}
 use Rattle.std.proofs.lemmas.Grind.{flat_map-append}
@@ -8,12 +8,12 @@ use Rattle.std.proofs.lemmas.List.Sorted.{length_permutation}
 use Rattle.std.proofs.lemmas.Bool.{eqb-true}
 use Rattle.span_core.specs.Lists.{Has, AreDistinct}
 use Rattle.span_core.proofs.HasLaws.{Has-append_left, Has-append_right, Has-take, Has-take_more_cases}
+use Rattle.span_core.proofs.ListLaws.{filter_no_more}
 use Rattle.marked_automaton.specs.declared.way.Way.{Way}
 use Rattle.marked_automaton.specs.declared.TheConstants.{MOST_STATES}
 use Rattle.marked_automaton.specs.declared.fault.SizeFault.{SizeFault}
 use Rattle.marked_automaton.specs.Faults.{IsSizeFaultWithin}
 use Rattle.marked_automaton.proofs.Permuted.{permutation_placed, has_placed}
-use Rattle.marked_automaton.proofs.Filtered.{kept_no_more}
 use Rattle.algebra.specs.declared.halves.HalfWay.{HalfWay}
 use Rattle.marked_automaton.specs.Automaton.{Automaton}
 use Rattle.algebra.specs.declared.halves.Operand.{Operand}
@@ -23,7 +23,6 @@ use Rattle.algebra.specs.Sides.{IsProductRefusal, graph_of, half_ways_of}
 use Rattle.algebra.specs.Pairs.{pair_of, pairs, those_at, PairWay, AreRowsOf, AreStarted, AreWithin, IsRefusalOf, LeadWithin, half_from, way_from, way_pair, ways_at, ways_meet}
 use Rattle.algebra.proofs.Gathered.{one_of, gathered, those_map}
 use Rattle.marked_automaton.proofs.Passing.{filter_cases}
-use Rattle.algebra.proofs.Places.{keep_if, filter_is}
 
 pub rows_more : {R : Type 0} (f : Pair → List R) (keys found : List Pair) (done : ℕ) (k : Pair) → done < length keys → k ≡ get_or keys done k →
     flat_map f (take (done + 1) (keys ++ found)) ≡ flat_map f (take done keys) ++ f k
@@ -41,9 +40,6 @@ read_pair xs ys i d e same l = ap (λ zs. get_or zs i d) same ∙ any ys i l
 
 pub row_has : {X : Type 0} (at : X → ℕ) (p : ℕ) (xs : List X) (x : X) → Has (those_at at p xs) x → Has xs x × (at x ≡ p)
 row_has at p xs x h = let r = filter_cases (λ x. nat_eq (at x) p) xs x h in (r.0, eqb-true (at x) p r.1)
-
-pub filter_no_more : {X : Type 0} (t : X → Bool) (xs : List X) → length (filter t xs) ≤ length xs
-filter_no_more t xs = omega (arith, kept_no_more (keep_if t) xs, ap length (filter_is t xs))
 
 pub apart_take : (n : ℕ) (keys : List Pair) → AreDistinct keys → AreDistinct (take n keys)
 apart_take zero keys d = tt

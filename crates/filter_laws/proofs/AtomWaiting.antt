@@ -12,9 +12,10 @@ use Rattle.place_automaton.specs.Reads.{Shown}
 use Rattle.spanner_model.specs.Sequential.{IsSequential}
 use Rattle.place_automaton.specs.Repeats.{HasOrderedRepeats}
 use Rattle.place_automaton.specs.Words.{atom_automaton, closing_of, opening_of}
-use Rattle.place_automaton.proofs.AtomRuns.{after_there, idle_there, unless_cases}
+use Rattle.place_automaton.proofs.AtomRuns.{after_there, idle_there}
 use Rattle.place_automaton.proofs.FormulaShows.{shows_formula}
 use Rattle.place_automaton.proofs.Ranges.{places_lie}
+use Rattle.place_automaton.proofs.WholeLaws.{unless_cases}
 use Rattle.filter_laws.specs.Idling.{HasIdleWays}
 use Rattle.filter_laws.specs.Laws.{AtomAtMore, AtomAtTouched, AtomWaits}
 use Rattle.filter_laws.specs.Touching.{IsTouchedBy}

@@ -11,13 +11,13 @@ use Rattle.marked_automaton.specs.Marks.{remarked, remarked_stop, remarked_way}
 use Rattle.marked_automaton.specs.Reduct.{IsReduct}
 use Rattle.marked_automaton.proofs.Listed.{some_same}
 use Rattle.marked_automaton.proofs.Passing.{filter_cases, flat_map_cases, has_flat_map}
+use Rattle.marked_automaton.proofs.ReductWords.{way_back, end_back}
 use Rattle.algebra.specs.Operations.{ends_with, join_of, moved_stop, moved_way, pair_stop, pair_way, union_of}
 use Rattle.algebra.proofs.Bytes.{meet_left, meet_right}
 use Rattle.algebra.proofs.Joins.{pair_same}
 use Rattle.algebra.proofs.Whole.{pair_of}
 use Rattle.filter_laws.specs.Idling.{IsLed, LeadsOut, Passes, WaitsOutside}
 use Rattle.filter_laws.specs.Laws.{JoinWaits, ProjectionWaits, ReductWaits, UnionWaits}
-use Rattle.filter_laws.proofs.ReductWays.{end_back, way_back}
 
 -- ---- projections
 

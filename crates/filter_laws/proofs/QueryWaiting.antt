@@ -1,9 +1,7 @@
 -- The automaton of a query only waits at the positions that no atom of its text touches.
-use Rattle.std.proofs.Common.{◌≡◌, ℕ, zero, suc, ◌*◌, ◌^◌, ◌/◌, ◌%◌, ◌≤◌, ◌⊎◌, Bool, true, false, List, [], ◌∷◌, length, Option, Some, None, inl, inr, refl, sym, ap, arith, ◌∙◌}
+use Rattle.std.proofs.Common.{◌≡◌, ℕ, zero, suc, ◌*◌, ◌^◌, ◌≤◌, ◌⊎◌, Bool, true, false, List, [], ◌∷◌, length, Option, Some, None, inl, inr, refl, sym, ap, arith, ◌∙◌}
 use Rattle.std.specs.Prelude.{IsTrue, slice_get, nat_eq, if◌then◌else◌}
-use Rattle.std.specs.Str.{bytes_eq}
 use Rattle.std.specs.Option.{ForSome}
-use Rattle.std.proofs.Math.Nat.{zero-div, zero-mod}
 use Rattle.spanner_model.specs.Captures.{VarName}
 use Rattle.spanner_model.specs.Expression.{ExprTree, atom, named, union_end, union, join_end, join, project, minus}
 use Rattle.spanner_model.specs.Answer.{vars_of_lets}
@@ -12,6 +10,7 @@ use Rattle.spanner_model.specs.Sound.{AreJoined, AreUnited, IsSoundExpr, IsSound
 use Rattle.span_core.proofs.HasLaws.{Has-slice_get}
 use Rattle.marked_automaton.specs.Automaton.{Automaton, IsWhole, Marked}
 use Rattle.marked_automaton.specs.Marks.{bits_of, left_of}
+use Rattle.marked_automaton.proofs.Erased.{bits_zero, left_zero}
 use Rattle.place_automaton.proofs.BuiltRepeats.{ordered_repeats}
 use Rattle.place_automaton.proofs.WholeLaws.{whole_law}
 use Rattle.algebra.specs.JoinedMarks.{agree_on, has_name, joined}
@@ -32,20 +31,6 @@ use Rattle.filter_laws.proofs.GapReading.{accepts_read, read_accepts}
 use Rattle.filter_laws.proofs.OperationsWait.{join_waits, projection_waits, reduct_waits, union_waits}
 
 -- ---- of no markers nothing is left, and none are joined
-
-bits_zero : (names : List VarName) (x : VarName) → bits_of names 0 x ≡ 0
-bits_zero [] x = refl
-bits_zero (y ∷ ys) x = go (bytes_eq y x) (bits_zero ys x)
-  where
-    go : (b : Bool) → bits_of ys 0 x ≡ 0 → (if b then 0 / 2 ^ (2 * length ys) else bits_of ys (0 % 2 ^ (2 * length ys)) x) ≡ 0
-    go true rest = zero-div (2 ^ (2 * length ys))
-    go false rest = ap (λ m. bits_of ys m x) (zero-mod (2 ^ (2 * length ys))) ∙ rest
-
-left_zero : (names kept : List VarName) → left_of names kept 0 ≡ 0
-left_zero names [] = refl
-left_zero names (x ∷ kept) =
-    let here : bits_of names 0 x * 2 ^ (2 * length kept) ≡ 0 * 2 ^ (2 * length kept) = ap (λ b. b * 2 ^ (2 * length kept)) (bits_zero names x) in
-    omega (arith, here, left_zero names kept)
 
 joined_zero : (names1 names2 all : List VarName) → joined names1 names2 all 0 0 ≡ 0
 joined_zero names1 names2 [] = refl

@@ -6,11 +6,11 @@ use Rattle.span_core.proofs.HasLaws.{Has-append_left, Has-append_right, Has-map}
 use Rattle.marked_automaton.specs.declared.way.Way.{Way}
 use Rattle.marked_automaton.specs.declared.way.Stop.{Stop}
 use Rattle.marked_automaton.specs.Automaton.{Automaton, idle_way}
+use Rattle.marked_automaton.proofs.Listed.{compared}
 use Rattle.place_automaton.specs.Places.{Places, placed}
 use Rattle.place_automaton.specs.Atom.{AreBytes, automaton_of_places, place_stops, stop_before, unless, way_after, way_from_first}
 use Rattle.place_automaton.specs.Words.{closing_of, opening_of}
 use Rattle.place_automaton.proofs.AtomRuns.{after_there, any_byte, first_there, follow_there, idle_there, unless_has}
-use Rattle.place_automaton.proofs.Blocks.{compared}
 use Rattle.place_automaton.proofs.Ranges.{LiesFrom, places_lie}
 use Rattle.filter_laws.specs.Idling.{IsLed, LeadsOut, Passes}
 use Rattle.filter_laws.specs.Sharing.{SharingLaw}

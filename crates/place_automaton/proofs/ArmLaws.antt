@@ -1,5 +1,5 @@
 -- The arms of an alternation, one after another.
-use Rattle.std.proofs.Common.{◌≡◌, ℕ, ◌+◌, Bool, true, false, List, [], ◌∷◌, ◌++◌, take, Some, inl, inr, refl, sym, ap, ◌∙◌, subst, arith, append_assoc}
+use Rattle.std.proofs.Common.{◌≡◌, ℕ, ◌+◌, Bool, true, false, List, [], ◌∷◌, ◌++◌, take, Some, inl, inr, refl, sym, ap, ◌∙◌, subst, arith, append_assoc, append-nil}
 use Rattle.std.specs.Prelude.{slice_get, nat_eq, if◌then◌else◌, ◌||◌}
 use Rattle.std.specs.List.{list_any}
 use Rattle.std.proofs.lemmas.Bool.{eq-eqb}
@@ -11,7 +11,6 @@ use Rattle.place_automaton.specs.declared.placing.Draft.{Draft}
 use Rattle.place_automaton.specs.Drafts.{places_of, HasPlaced}
 use Rattle.place_automaton.specs.Sides.{Sides, sides_of, alt_sides}
 use Rattle.place_automaton.specs.Places.{Places, add_once, either_once, alt_places, never_placed}
-use Rattle.place_automaton.proofs.JoinLists.{append_nil}
 use Rattle.place_automaton.proofs.Shows.{any_has, either_left}
 
 has_any : (n : ℕ) (ms : List ℕ) → Has ms n → list_any (nat_eq n) ms ≡ true
@@ -62,9 +61,9 @@ alt_first : (T : Places) (k j : ℕ) → AreDistinct T.null → alt_places T (ne
 alt_first T k j small = λ i. record {
   count = count i;
   null = either_none T.null small i;
-  first = append_nil T.first i;
-  last = append_nil T.last i;
-  follow = append_nil T.follow i;
+  first = append-nil T.first i;
+  last = append-nil T.last i;
+  follow = append-nil T.follow i;
 }
   where
     count : T.count + 0 ≡ 0 + T.count

@@ -11,8 +11,9 @@ use Rattle.place_automaton.specs.Atom.{automaton_of_atom, AreBytes, FitsWithBloc
 use Rattle.place_automaton.specs.Places.{Places, placed}
 use Rattle.place_automaton.specs.Reads.{Shown, blocks}
 use Rattle.spanner_model.specs.Sequential.{IsSequential}
+use Rattle.marked_automaton.proofs.Listed.{compared}
 use Rattle.place_automaton.proofs.AtomRuns.{accepts_shown, shown_accepts}
-use Rattle.place_automaton.proofs.Blocks.{compared, fit_outside}
+use Rattle.place_automaton.proofs.Blocks.{fit_outside}
 use Rattle.place_automaton.proofs.FormulaShows.{shows_formula}
 use Rattle.place_automaton.proofs.PlaceReads.{reads_same}
 use Rattle.place_automaton.proofs.Ranges.{places_lie}

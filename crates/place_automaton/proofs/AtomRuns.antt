@@ -11,15 +11,12 @@ use Rattle.place_automaton.specs.declared.piece.Entry.{Entry}
 use Rattle.place_automaton.specs.Places.{Places, way_into}
 use Rattle.place_automaton.specs.Atom.{way_from_first, way_after, stop_before, unless, place_stops, after_ways, automaton_of_places, AreBytes}
 use Rattle.place_automaton.specs.Reads.{Shown}
-use Rattle.place_automaton.proofs.Blocks.{compared}
 use Rattle.span_core.proofs.HasLaws.{Has-append_left, Has-append_right, Has-append_cases, Has-map, Has-map_cases}
 use Rattle.place_automaton.proofs.Ranges.{LiesFrom}
 use Rattle.marked_automaton.proofs.Walks.{walk_more, walk_then}
+use Rattle.marked_automaton.proofs.Listed.{compared}
 use Rattle.place_automaton.proofs.Walks.{Crosses, IsSplit, first_cross}
-
-pub unless_cases : {X : Type 0} (b : Bool) (xs : List X) (x : X) → Has (unless b xs) x → (b ≡ false) × Has xs x
-unless_cases true xs x h = absurd h
-unless_cases false xs x h = (refl, h)
+use Rattle.place_automaton.proofs.WholeLaws.{unless_cases}
 
 pub unless_has : {X : Type 0} (b : Bool) (xs : List X) (x : X) → b ≡ false → Has xs x → Has (unless b xs) x
 unless_has true xs x e h = absurd (cc)

@@ -1,5 +1,5 @@
 -- Blocks of captures.
-use Rattle.std.proofs.Common.{◌≡◌, ℕ, zero, suc, ◌+◌, ◌<◌, ◌≤◌, ◌⊎◌, List, [], ◌∷◌, ◌++◌, inl, inr, refl, ap, arith, ◌∙◌}
+use Rattle.std.proofs.Common.{◌≡◌, ℕ, zero, suc, ◌+◌, ◌<◌, ◌≤◌, ◌⊎◌, List, [], ◌∷◌, ◌++◌, inl, inr, ap, arith, ◌∙◌}
 use Rattle.std.specs.Prelude.{nat_eq, if◌then◌else◌}
 use Rattle.std.proofs.lemmas.Bool.{eq-eqb, ne_eqb}
 use Rattle.span_core.specs.declared.span.Span.{Span}
@@ -8,16 +8,6 @@ use Rattle.spanner_model.specs.Fit.{Piece, Then, Nothing, Times, Fit}
 use Rattle.spanner_model.specs.Tree.{Tree, empty, one, cat_end, cat, alt_end, alt, rep, cap}
 use Rattle.spanner_model.proofs.FitLaws.{times_le, fit_le}
 use Rattle.place_automaton.specs.Reads.{blocks}
-
-pub compared : (p k : ℕ) → (p < k) ⊎ ((p ≡ k) ⊎ (k < p))
-compared zero zero = inr (inl refl)
-compared zero (suc k) = inl (omega arith)
-compared (suc p) zero = inr (inr (omega arith))
-compared (suc p) (suc k) =
-    elim (compared p k) [
-      | inl l ↦ inl (omega (arith, l))
-      | inr r ↦ elim r [ inl e ↦ inr (inl (ap suc e)) | inr g ↦ inr (inr (omega (arith, g))) ]
-    ]
 
 -- what a bit counts where it stands, and elsewhere
 pub bit_here : (q p v : ℕ) → q ≡ p → (if nat_eq q p then v else 0) ≡ v

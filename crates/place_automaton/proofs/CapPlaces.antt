@@ -10,11 +10,11 @@ use Rattle.span_core.proofs.HasLaws.{Has-slice_get}
 use Rattle.place_automaton.specs.Drafts.{places_of, AreNamed}
 use Rattle.place_automaton.specs.Sides.{CanCapture, Sides, sides_of, MarkOf}
 use Rattle.spanner_model.specs.Sequential.{IsSequential}
+use Rattle.marked_automaton.proofs.Erasing.{same_name, name_itself}
 use Rattle.place_automaton.specs.Repeats.{HasOrderedRepeats}
 use Rattle.place_automaton.specs.Words.{opening_of, closing_of}
 use Rattle.place_automaton.proofs.FineLaws.{IsFine, Within, HasClasses, VarBits, mark_apart, fine_places}
 use Rattle.place_automaton.proofs.MarkBits.{HasBit, apart_sum, sum_bit, own_apart, behind, opening_is, closing_is}
-use Rattle.place_automaton.proofs.RowBlocks.{same_name, name_itself}
 
 -- where a name stands tells how many stand behind it
 behind_at : (names : List VarName) (k : ℕ) (x : VarName) → AreDistinct names → slice_get names k ≡ Some x → behind names x + suc k ≡ length names

@@ -1,8 +1,8 @@
 -- Sums and products of numbers that are kept up to a greatest one.
 use Rattle.std.proofs.Common.{◌≡◌, ℕ, zero, suc, ◌+◌, ◌-◌, ◌*◌, ◌^◌, ◌≤◌, min, inl, inr, refl, sym, ap, ◌∙◌, arith}
 use Rattle.std.proofs.Math.Nat.{mul-le-mul_left, mul-le-mul_right}
+use Rattle.marked_automaton.proofs.Listed.{compared}
 use Rattle.place_automaton.specs.Capped.{capped}
-use Rattle.place_automaton.proofs.Blocks.{compared}
 
 module _ (m : ℕ) where
   min_add : (x y : ℕ) → min (min x m + min y m) m ≡ min (x + y) m

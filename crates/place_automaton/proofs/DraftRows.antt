@@ -1,5 +1,5 @@
 -- Parts that come to a draft one after another.
-use Rattle.std.proofs.Common.{◌≡◌, ℕ, ◌+◌, List, [], ◌∷◌, ◌++◌, length, take, map, Some, inl, inr, sym, ap, ◌∙◌, subst, arith, append_assoc}
+use Rattle.std.proofs.Common.{◌≡◌, ℕ, ◌+◌, List, [], ◌∷◌, ◌++◌, length, take, map, Some, inl, inr, sym, ap, ◌∙◌, subst, arith, append_assoc, append-nil}
 use Rattle.std.specs.Prelude.{slice_get, Result, Ok, Err, IfOk, OnOk}
 use Rattle.std.proofs.lemmas.List.{map-append}
 use Rattle.spanner_model.specs.Captures.{VarName}
@@ -13,7 +13,6 @@ use Rattle.spanner_model.specs.Sequential.{IsSequential}
 use Rattle.place_automaton.specs.Repeats.{HasOrderedRepeats}
 use Rattle.place_automaton.specs.Words.{opening_of, closing_of}
 use Rattle.place_automaton.proofs.FineLaws.{HasClasses, VarBits, vars_apart, fine_places, fine_joins}
-use Rattle.place_automaton.proofs.JoinLists.{append_nil}
 use Rattle.place_automaton.proofs.Rows.{in_turn, total, follows, row_places, row_is, row_count, row_follow, in_turn_more, total_more, follows_more, parts_row, copies, copies_more}
 
 -- these parts have come, and the pieces are their ends
@@ -23,13 +22,13 @@ pub record IsRow (Ps : List Places) (old new : Draft) (xs : List Sides) : Type 0
   pub ways : new.ways.items ≡ old.ways.items ++ follows Ps
 
 pub row_none : (d : Draft) (xs : List Sides) → xs ≡ [] → IsRow [] d d xs
-row_none d xs e = record { pieces = e; next = omega arith; ways = sym (append_nil d.ways.items) }
+row_none d xs e = record { pieces = e; next = omega arith; ways = sym (append-nil d.ways.items) }
 
 pub row_one : (P : Places) (a b : Draft) (e : Sides) (xs : List Sides) → HasPlaced P a b e → xs ≡ e ∷ [] → IsRow (P ∷ []) a b xs
 row_one P a b e xs h at = record {
   pieces = at ∙ ap (λ x. x ∷ []) h.sides;
   next = omega (arith, h.next);
-  ways = h.ways ∙ ap (λ ys. a.ways.items ++ ys) (sym (append_nil P.follow));
+  ways = h.ways ∙ ap (λ ys. a.ways.items ++ ys) (sym (append-nil P.follow));
 }
 
 pub row_more : (Ps : List Places) (P : Places) (a b c : Draft) (xs ys : List Sides) (e : Sides) →
@@ -99,7 +98,3 @@ copies_next F i k a b c xs ys e from row h is =
 pub ok_both : {A E : Type 0} (r : Result A E) (P R : A → Type 0) (Q : Type 0) → ((a : A) → P a → Q → R a) → IfOk r P → OnOk r Q → IfOk r R
 ok_both (Ok a) P R Q f p q = f a p q
 ok_both (Err e) P R Q f p q = tt
-
-pub ok_by : {A E : Type 0} (r : Result A E) (P R : A → Type 0) → ((a : A) → P a → R a) → IfOk r P → IfOk r R
-ok_by (Ok a) P R f p = f a p
-ok_by (Err e) P R f p = tt

@@ -46,10 +46,6 @@ stops_same m (s ∷ ss) z =
     let f : ℕ → Stop = λ n. record { state = s.state; marks = n } in
     ap (λ x. x ∷ ss) (ap f same) ∙ ap (λ xs. stop_with m s ∷ xs) (stops_same m ss z)
 
-pub append_nil : {X : Type 0} (xs : List X) → xs ++ [] ≡ xs
-append_nil [] = refl
-append_nil (x ∷ xs) = ap (λ ys. x ∷ ys) (append_nil xs)
-
 -- an item between two places of a list, to which others have come
 pub cut_item : {X : Type 0} (xs now more : List X) (from end k : ℕ) (x : X) → from ≤ k → k < end → end ≤ length xs → now ≡ xs ++ more → x ≡ get_or now k x →
     (k - from < length (take (end - from) (drop from xs))) × (x ≡ get_or (take (end - from) (drop from xs)) (k - from) x)

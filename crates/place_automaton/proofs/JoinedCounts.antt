@@ -1,5 +1,5 @@
 -- Parts are counted from left to right as they are counted from right to left.
-use Rattle.std.proofs.Common.{◌≡◌, ℕ, ◌+◌, ◌*◌, List, [], ◌∷◌, ◌++◌, length, map, refl, sym, ap, ◌∙◌, arith}
+use Rattle.std.proofs.Common.{◌≡◌, ℕ, ◌+◌, ◌*◌, List, [], ◌∷◌, ◌++◌, length, map, refl, sym, ap, ◌∙◌, arith, append-nil}
 use Rattle.std.proofs.Math.Nat.{mul-add, mul_assoc}
 use Rattle.std.proofs.lemmas.List.{map-append}
 use Rattle.std.proofs.lemmas.List.Concat.{flat_map-append}
@@ -8,7 +8,6 @@ use Rattle.spanner_model.specs.Tree.{Tree, cat_all}
 use Rattle.place_automaton.specs.Counts.{PlaceCounts, counts, counts_cat, counts_nothing}
 use Rattle.place_automaton.specs.Places.{sums}
 use Rattle.place_automaton.proofs.CountLaws.{length_product}
-use Rattle.place_automaton.proofs.JoinLists.{append_nil}
 use Rattle.place_automaton.proofs.OncePlaces.{counts_nothing_behind}
 
 map_twice : (m n : ℕ) (ks : List ℕ) → map (◌+◌ m) (map (◌+◌ n) ks) ≡ map (◌+◌ (m + n)) ks
@@ -59,7 +58,7 @@ map_zero (m ∷ ms) = ap (λ n. n ∷ map (◌+◌ 0) ms) (let e : 0 + m ≡ m =
 nothing_before : (a : PlaceCounts) → counts_cat counts_nothing a ≡ a
 nothing_before a = λ i. record {
   places = places i;
-  null = (append_nil (map (◌+◌ 0) a.null) ∙ map_zero a.null) i;
+  null = (append-nil (map (◌+◌ 0) a.null) ∙ map_zero a.null) i;
   first = first i;
   last = last (length a.null) i;
   follow = follow i;

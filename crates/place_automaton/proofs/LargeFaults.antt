@@ -4,6 +4,7 @@ use Rattle.std.specs.Prelude.{IfErr, IsErrAnd, OnErr, OnOk}
 use Rattle.std.proofs.lemmas.Bool.{le-ltb, lt-ltb}
 use Rattle.spanner_model.specs.Captures.{VarName}
 use Rattle.spanner_model.specs.Tree.{Tree, rep}
+use Rattle.marked_automaton.proofs.Listed.{compared}
 use Rattle.place_automaton.specs.declared.TheConstants.{MOST_SETS}
 use Rattle.place_automaton.specs.declared.counting.CountFault.{CountFault}
 use Rattle.place_automaton.specs.declared.counting.CountFault.TheVariants.{LargeNull}
@@ -11,7 +12,6 @@ use Rattle.place_automaton.specs.declared.numbers.Numbers.{Numbers}
 use Rattle.place_automaton.specs.Capped.{AreCapped}
 use Rattle.place_automaton.specs.Counts.{PlaceCounts, counts_over, has_large_null, largest_null_over}
 use Rattle.place_automaton.specs.Variables.{with_vars}
-use Rattle.place_automaton.proofs.Blocks.{compared}
 use Rattle.place_automaton.proofs.CountLaws.{mul_same}
 
 -- null is said to be too large only where it is

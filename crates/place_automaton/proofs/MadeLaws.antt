@@ -1,5 +1,5 @@
 -- What the automaton of an atom is made of is of its states, its markers and some bytes.
-use Rattle.std.proofs.Common.{◌≡◌, ℕ, zero, suc, ◌+◌, ◌*◌, ◌^◌, ◌<◌, ◌↔◌, Bool, true, false, List, [], ◌∷◌, ◌++◌, length, map, inl, inr, refl, sym, ap, ◌∙◌, subst, arith}
+use Rattle.std.proofs.Common.{◌≡◌, ℕ, zero, suc, ◌+◌, ◌*◌, ◌^◌, ◌<◌, ◌↔◌, Bool, false, List, [], ◌∷◌, ◌++◌, length, map, inl, inr, refl, sym, ap, ◌∙◌, subst, arith}
 use Rattle.std.specs.FinSet as set
 use Rattle.std.specs.Ordering.{nat_cmp}
 use Rattle.std.proofs.Math.Nat.{one-le-pow}
@@ -24,7 +24,8 @@ use Rattle.place_automaton.specs.Words.{atom_automaton}
 use Rattle.place_automaton.proofs.FineLaws.{Within, SomeByte, IsFine, HasClasses, VarBits, fine_places}
 use Rattle.span_core.proofs.HasLaws.{Has-append_left, Has-append_right, Has-append_cases, Has-map_cases}
 use Rattle.place_automaton.proofs.MarkBits.{below_power, bit_below}
-use Rattle.place_automaton.proofs.WholeLaws.{whole_law}
+use Rattle.place_automaton.proofs.WholeLaws.{whole_law, unless_cases}
+use Rattle.place_automaton.proofs.AtomRuns.{unless_has}
 
 -- the ways that came are those of the automaton
 pub made_ways : (s t : Bool) (P : Places) (after : ℕ) (E : Sides) (none own all : List Way) → none ≡ [] → own ≡ none ++ P.follow → after ≡ 1 + P.count → E ≡ sides_of P →
@@ -35,14 +36,6 @@ made_ways s t P after E none own all a b c d e =
 
 all_some : SomeByte all_bytes
 all_some e = false≢true (sym (ap (λ (b : set.FinSet nat_cmp). set.contains b 0) e ∙ contains-empty nat_cmp 0) ∙ all_contain 0 (omega arith))
-
-unless_cases : {X : Type 0} (b : Bool) (xs : List X) (x : X) → Has (unless b xs) x → (b ≡ false) × Has xs x
-unless_cases true xs x h = absurd h
-unless_cases false xs x h = (refl, h)
-
-unless_has : {X : Type 0} (b : Bool) (xs : List X) (x : X) → b ≡ false → Has xs x → Has (unless b xs) x
-unless_has true xs x e h = absurd (false≢true (sym e))
-unless_has false xs x e h = h
 
 module _ (names : List VarName) (s t : Bool) (f : Tree) where
   abbrev pub A : Automaton

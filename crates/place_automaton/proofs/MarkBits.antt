@@ -9,9 +9,9 @@ use Rattle.std.proofs.lemmas.Nat.{or_disjoint, div-add-mod'}
 use Rattle.std.proofs.lemmas.Nat.Bits.{bit_at-zero, bit_at-lt, bit_at_and, bit_at_or, same_from_bits, bit_at-pow_other, bit_at_cat_high}
 use Rattle.spanner_model.specs.Captures.{VarName}
 use Rattle.span_core.specs.Lists.{Has}
+use Rattle.marked_automaton.proofs.Erasing.{same_name, name_itself}
 use Rattle.place_automaton.specs.Sides.{JoinAsSum}
 use Rattle.place_automaton.specs.Words.{opening_of, closing_of}
-use Rattle.place_automaton.proofs.RowBlocks.{same_name, name_itself}
 
 abbrev pub HasBit : ℕ → ℕ → Type 0
 HasBit m i = bit_at m i ≡ 1

@@ -1,12 +1,12 @@
 -- A repetition of once at most is its formula, or its formula or nothing.
-use Rattle.std.proofs.Common.{◌≡◌, ℕ, zero, suc, ◌+◌, ◌≤◌, Bool, true, false, List, [], ◌∷◌, ◌++◌, length, map, Some, refl, sym, ap, ◌∙◌, arith}
+use Rattle.std.proofs.Common.{◌≡◌, ℕ, zero, suc, ◌+◌, ◌≤◌, Bool, true, false, List, [], ◌∷◌, ◌++◌, length, map, Some, refl, sym, ap, ◌∙◌, arith, append-nil}
 use Rattle.std.specs.Prelude.{◌==◌, ◌*◌, if◌then◌else◌}
 use Rattle.std.specs.List.{flat_map}
 use Rattle.std.proofs.lemmas.Bool.{ne_eqb}
 use Rattle.marked_automaton.specs.declared.way.Stop.{Stop}
 use Rattle.place_automaton.specs.Counts.{PlaceCounts, counts_cat, counts_nothing, counts_opt, counts_repeated}
 use Rattle.place_automaton.specs.Places.{Places, Placed, sums, ways_between, entry_with, stop_with, cat_places, opt_places, nothing_placed, repeated}
-use Rattle.place_automaton.proofs.JoinLists.{append_nil, stops_same}
+use Rattle.place_automaton.proofs.JoinLists.{stops_same}
 
 pub sums_zero : (ms : List ℕ) → sums ms (0 ∷ []) ≡ ms
 sums_zero [] = refl
@@ -24,9 +24,9 @@ cat_nothing : (P : Places) (j : ℕ) → cat_places P (nothing_placed j) ≡ P
 cat_nothing P j = λ i. record {
   count = count i;
   null = sums_zero P.null i;
-  first = (ap (λ es. P.first ++ es) (no_entries P.null) ∙ append_nil P.first) i;
-  last = (append_nil (map (stop_with 0) P.last) ∙ sym (stops_same 0 P.last refl)) i;
-  follow = (ap (λ ws. P.follow ++ ws) (no_ways P.last) ∙ append_nil P.follow) i;
+  first = (ap (λ es. P.first ++ es) (no_entries P.null) ∙ append-nil P.first) i;
+  last = (append-nil (map (stop_with 0) P.last) ∙ sym (stops_same 0 P.last refl)) i;
+  follow = (ap (λ ws. P.follow ++ ws) (no_ways P.last) ∙ append-nil P.follow) i;
 }
   where
     count : P.count + 0 ≡ P.count

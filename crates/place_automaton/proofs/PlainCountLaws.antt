@@ -32,7 +32,9 @@ use Rattle.place_automaton.proofs.CountLaws.{count_law, lengths, length_append, 
 use Rattle.place_automaton.proofs.FormulaShows.{shows_formula}
 use Rattle.place_automaton.proofs.NameLists.{list_ascends, vars_are}
 use Rattle.span_core.proofs.HasLaws.{Has-append_cases}
-use Rattle.place_automaton.proofs.RowBlocks.{block_at, fit_once, row_blocks, not_captured, same_name, name_itself}
+use Rattle.spanner_model.proofs.AnswerLaws.{span_of-absent}
+use Rattle.marked_automaton.proofs.Erasing.{same_name, name_itself}
+use Rattle.place_automaton.proofs.RowBlocks.{block_at, fit_once, row_blocks}
 use Rattle.place_automaton.proofs.Shows.{sums_cases, once_cases, either_left, either_right}
 
 pub record CountsAre (P : Places) (c : PlainCounts) : Type 0 where
@@ -192,7 +194,7 @@ module _ (names : List VarName) (dis : AreDistinct names) where
 
       go : (o : Option Span) → span_of c x ≡ o → span_of c x ≡ span_of e x
       go None at =
-          at ∙ sym (not_captured e x (λ k. none_some the_empty_span
+          at ∙ sym (span_of-absent e x (λ k. none_some the_empty_span
           (sym at ∙ at_itself f c x hc (fit_sure f [] 0 0 c hc x (functional_sure f x ok (fit_only_vars f [] 0 0 e he x k))))))
       go (Some s) at =
           let k = span_captured c x s at in

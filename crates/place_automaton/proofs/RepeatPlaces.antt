@@ -1,5 +1,5 @@
 -- Repetitions, written out as copies.
-use Rattle.std.proofs.Common.{◌≡◌, ℕ, zero, suc, ◌+◌, ◌-◌, ◌≤◌, Bool, true, false, List, [], ◌∷◌, ◌++◌, map, Option, Some, None, max, inl, inr, refl, sym, ap, ◌∙◌, subst, arith, append_assoc}
+use Rattle.std.proofs.Common.{◌≡◌, ℕ, zero, suc, ◌+◌, ◌-◌, ◌≤◌, Bool, true, false, List, [], ◌∷◌, ◌++◌, map, Option, Some, None, max, inl, inr, refl, sym, ap, ◌∙◌, subst, arith, append_assoc, append-nil}
 use Rattle.std.specs.Prelude.{◌==◌, ◌&&◌, if◌then◌else◌}
 use Rattle.std.proofs.lemmas.Bool.{ne_eqb}
 use Rattle.std.proofs.lemmas.List.{map-append}
@@ -9,7 +9,6 @@ use Rattle.place_automaton.specs.Drafts.{HasPlaced, copies_of}
 use Rattle.place_automaton.specs.Sides.{Sides, sides_of, opt_sides, again_sides, row_sides, row_ways}
 use Rattle.place_automaton.specs.Places.{Places, Placed, ways_between, cat_places, opt_places, plus_places, nothing_placed, plus_placed, copies_then, at_most, repeated}
 use Rattle.place_automaton.proofs.DraftRows.{IsRow}
-use Rattle.place_automaton.proofs.JoinLists.{append_nil}
 use Rattle.place_automaton.proofs.Ranges.{LiesFrom}
 use Rattle.place_automaton.proofs.Rows.{total, follows, row_places, row_is, row_count, row_follow, total_more, follows_more, copies, copies_more, bounded_row, unbounded_row}
 
@@ -156,7 +155,7 @@ none_placed F k (suc n) (Some m) e le = absurd (omega (arith, e, le m refl))
 
 pub nothing_done : (W : Places) (d : Draft) (e : Sides) → W ≡ nothing_placed 0 → e ≡ sides_of (nothing_placed 0) → HasPlaced W d d e
 nothing_done W d e is h =
-    subst (λ (V : Places). HasPlaced V d d e) (sym is) (record { sides = h; next = omega arith; ways = sym (append_nil d.ways.items) })
+    subst (λ (V : Places). HasPlaced V d d e) (sym is) (record { sides = h; next = omega arith; ways = sym (append-nil d.ways.items) })
 
 -- a part that may be left out, or may not
 pub once_done : (b : Bool) (P : Places) (a c : Draft) (e p : Sides) → HasPlaced P a c e → p ≡ (if b then opt_sides e else e) → HasPlaced (if b then opt_places P else P) a c p

@@ -3,7 +3,6 @@ use Rattle.std.proofs.Common.{◌≡◌, ℕ, zero, suc, ◌+◌, ◌*◌, ◌^�
 use Rattle.std.specs.Prelude.{map, nat_eq, if◌then◌else◌}
 use Rattle.std.specs.Str.{bytes_eq}
 use Rattle.std.proofs.lemmas.List.{length-map}
-use Rattle.std.proofs.lemmas.Slice.Eq.{bytes_eq-Decides}
 use Rattle.spanner_model.specs.Captures.{VarName, Captures, Captured, AreApart, span_of, row_of}
 use Rattle.spanner_model.specs.Fit.{Piece, Times, Fit}
 use Rattle.span_core.specs.Lists.{Has, AreDistinct}
@@ -12,6 +11,8 @@ use Rattle.spanner_model.specs.Tree.{Tree, empty, one, cat_end, cat, alt_end, al
 use Rattle.span_core.specs.declared.span.Span.{Span}
 use Rattle.spanner_model.proofs.CapturesLaws.{Captured-append_cases, row_same}
 use Rattle.spanner_model.proofs.FitLaws.{fit_only_vars}
+use Rattle.spanner_model.proofs.AnswerLaws.{span_of-absent}
+use Rattle.marked_automaton.proofs.Erasing.{same_name, name_itself}
 use Rattle.place_automaton.specs.Reads.{blocks}
 use Rattle.place_automaton.specs.Words.{opening_of, closing_of, AtomRowLaw}
 use Rattle.place_automaton.proofs.AtomLaws.{atom_law}
@@ -70,24 +71,12 @@ fit_once (alt f rest) d i j m (inr h) = fit_once rest d i j m h
 fit_once (rep f least most) d i j m h = times_once (Fit f d) (λ i j m. fit_once f d i j m) h.0 i j m h.3
 fit_once (cap x f) d i j m h = subst IsOnce (sym h.6) (h.5, fit_once f d i j h.1 h.4)
 
-pub same_name : (x y : VarName) → bytes_eq x y ≡ true → x ≡ y
-same_name x y e = (bytes_eq-Decides x y).0 e
-
-pub name_itself : (x y : VarName) → x ≡ y → bytes_eq x y ≡ true
-name_itself x y e = (bytes_eq-Decides x y).1 e
-
 other_name : (x y : VarName) → (x ≡ y → ⊥) → bytes_eq x y ≡ false
 other_name x y h = go (bytes_eq x y) refl
   where
     go : (b : Bool) → bytes_eq x y ≡ b → bytes_eq x y ≡ false
     go true e = absurd (h (same_name x y e))
     go false e = e
-
--- what is not captured has no span
-pub not_captured : (m : Captures) (x : VarName) → (Captured m x → ⊥) → span_of m x ≡ None
-not_captured [] x h = refl
-not_captured (c ∷ m) x h =
-    ap (λ b. if b then Some c.1 else span_of m x) (other_name c.0 x (λ e. h (inl e))) ∙ not_captured m x (λ a. h (inr a))
 
 -- the other names have the spans that they had
 others : (names : List VarName) (x : VarName) (s : Span) (m : Captures) → (Has names x → ⊥) → map (span_of ((x, s) ∷ m)) names ≡ map (span_of m) names
@@ -116,7 +105,7 @@ module _ (p : ℕ) where
       go rest true e k =
           let same : y ≡ x = same_name y x e in
           let head : span_of ((x, s) ∷ m) y ≡ Some s = ap (λ b. if b then Some s else span_of m y) (name_itself x y (sym same)) in
-          let old : span_of m y ≡ None = not_captured m y (λ a. free (subst (Captured m) same a)) in
+          let old : span_of m y ≡ None = span_of-absent m y (λ a. free (subst (Captured m) same a)) in
           let tail = others names x s m (λ a. dis.0 (subst (Has names) (sym same) a)) in
           let l1 = length-map names (span_of ((x, s) ∷ m)) in
           let new_head : bits_at (span_of ((x, s) ∷ m) y) (length (map (span_of ((x, s) ∷ m)) names)) p ≡ bits_at (Some s) (length names) p =

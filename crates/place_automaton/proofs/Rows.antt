@@ -1,12 +1,11 @@
 -- Parts whose places are numbered one after another.
-use Rattle.std.proofs.Common.{◌≡◌, ℕ, zero, suc, ◌+◌, ◌≤◌, List, [], ◌∷◌, ◌++◌, length, map, refl, sym, ap, ◌∙◌, arith, append_assoc}
+use Rattle.std.proofs.Common.{◌≡◌, ℕ, zero, suc, ◌+◌, ◌≤◌, List, [], ◌∷◌, ◌++◌, length, map, refl, sym, ap, ◌∙◌, arith, append_assoc, append-nil}
 use Rattle.std.specs.Prelude.{replicate}
 use Rattle.spanner_model.specs.Captures.{VarName}
 use Rattle.spanner_model.specs.Tree.{Tree, cat_all}
 use Rattle.marked_automaton.specs.declared.way.Way.{Way}
 use Rattle.place_automaton.specs.Sides.{Sides, sides_of, cat_sides, opt_sides, row_sides, row_ways}
 use Rattle.place_automaton.specs.Places.{Places, Placed, ways_between, nothing_placed, cat_places, opt_places, copies_then, at_most, placed}
-use Rattle.place_automaton.proofs.JoinLists.{append_nil}
 
 abbrev pub in_turn : List Placed → ℕ → List Places
 in_turn [] k = []
@@ -54,7 +53,7 @@ follow_step P r Ps Q R ends follow =
 
 pub row_follow : (r : ℕ) (Ps : List Places) (Q : Places) →
     (row_places r Ps Q).follow ≡ follows Ps ++ (Q.follow ++ row_ways r (map sides_of Ps) (sides_of Q))
-row_follow r [] Q = sym (append_nil Q.follow)
+row_follow r [] Q = sym (append-nil Q.follow)
 row_follow zero (P ∷ Ps) Q = follow_step P zero Ps Q (row_places zero Ps Q) (row_is zero Ps Q) (row_follow zero Ps Q)
 row_follow (suc r) (P ∷ Ps) Q = follow_step P r Ps Q (row_places r Ps Q) (row_is r Ps Q) (row_follow r Ps Q)
 
@@ -70,7 +69,7 @@ total_more [] P = omega arith
 total_more (Q ∷ Ps) P = omega (arith, total_more Ps P)
 
 pub follows_more : (Ps : List Places) (P : Places) → follows (Ps ++ P ∷ []) ≡ follows Ps ++ P.follow
-follows_more [] P = append_nil P.follow
+follows_more [] P = append-nil P.follow
 follows_more (Q ∷ Ps) P = ap (λ F. Q.follow ++ F) (follows_more Ps P) ∙ sym (append_assoc Q.follow (follows Ps) P.follow)
 
 -- a concatenation

@@ -13,9 +13,10 @@ use Rattle.marked_automaton.specs.Automaton.{ByteClass, ReadsByte}
 use Rattle.place_automaton.specs.declared.piece.Entry.{Entry}
 use Rattle.place_automaton.specs.Places.{Places, add_once, either_once, sums, nothing_placed, never_placed, one_placed, cat_places, alt_places, opt_places, plus_places, cap_places}
 use Rattle.place_automaton.specs.Reads.{Reads, Shown, blocks}
-use Rattle.place_automaton.proofs.Blocks.{bit_here, bit_apart, cap_block, compared, blocks_append, IsEmptyOutside, DoesNotEndBefore}
+use Rattle.place_automaton.proofs.Blocks.{bit_here, bit_apart, cap_block, blocks_append, IsEmptyOutside, DoesNotEndBefore}
 use Rattle.span_core.proofs.HasLaws.{Has-map, Has-map_cases}
 use Rattle.marked_automaton.proofs.Passing.{has_flat_map, flat_map_cases}
+use Rattle.marked_automaton.proofs.Listed.{compared}
 use Rattle.place_automaton.proofs.PlaceReads.{reads_same, reads_after_null, reads_before_null, reads_across, reads_of_cat, reads_once, reads_again, reads_of_plus, reads_in_cap, reads_of_cap, reads_in_left, reads_in_right, reads_of_alt}
 use Rattle.place_automaton.proofs.Ranges.{LiesFrom}
 

@@ -11,7 +11,7 @@ use Rattle.place_automaton.specs.Words.{WholeLaw, opening_of, closing_of}
 use Rattle.span_core.proofs.HasLaws.{Has-append_cases, Has-map_cases}
 use Rattle.place_automaton.proofs.Ranges.{LiesFrom, places_lie}
 
-unless_cases : {X : Type 0} (b : Bool) (xs : List X) (x : X) → Has (unless b xs) x → (b ≡ false) × Has xs x
+pub unless_cases : {X : Type 0} (b : Bool) (xs : List X) (x : X) → Has (unless b xs) x → (b ≡ false) × Has xs x
 unless_cases true xs x h = absurd h
 unless_cases false xs x h = (refl, h)
 

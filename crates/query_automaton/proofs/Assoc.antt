@@ -2,7 +2,7 @@
 use Rattle.std.proofs.Common.{◌≡◌, ◌⊎◌, ◌↔◌, Option, None, inl, inr, refl, sym, ◌∙◌}
 use Rattle.spanner_model.specs.Captures.{VarName, Mapping}
 use Rattle.spanner_model.specs.Answer.{IsRestriction}
-use Rattle.spanner_model.proofs.Deciding.{Told}
+use Rattle.spanner_model.proofs.Deciding.{Told, told_either}
 use Rattle.query_automaton.proofs.Words.{Together}
 
 abbrev pick : {P : Type 0} {X : Type 0} → Told P → Option X → Option X
@@ -24,11 +24,6 @@ restricted_is R told m x = (λ r. there r (told x), λ out. apart out (told x))
     apart out (inl p) = absurd (out p)
     apart out (inr n) = refl
 
-pub told_or : {X Y : Type 0} → Told X → Told Y → Told (X ⊎ Y)
-told_or (inl x) t = inl (inl x)
-told_or (inr nx) (inl y) = inl (inr y)
-told_or {X} {Y} (inr nx) (inr ny) = inr (λ h. elim h [ inl x ↦ nx x | inr y ↦ ny y ])
-
 -- a part of a part
 part_of_part : (P R : VarName → Type 0) (m n k : Mapping) → ((x : VarName) → P x → R x) → IsRestriction R m n → IsRestriction P n k → IsRestriction P m k
 part_of_part P R m n k sub h g x = (λ p. (g x).0 p ∙ (h x).0 (sub x p), (g x).1)
@@ -46,10 +41,10 @@ module _ (P Q R : VarName → Type 0) (A B C : Mapping → Type 0)
   QR x = Q x ⊎ R x
 
   told_pq : (x : VarName) → Told (PQ x)
-  told_pq x = told_or (told_p x) (told_q x)
+  told_pq x = told_either (told_p x) (told_q x)
 
   told_qr : (x : VarName) → Told (QR x)
-  told_qr x = told_or (told_q x) (told_r x)
+  told_qr x = told_either (told_q x) (told_r x)
 
   to_right : (m : Mapping) → Together PQ (Together P A Q B) R C m → Together P A QR (Together Q B R C) m
   to_right m h =

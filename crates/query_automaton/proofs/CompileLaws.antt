@@ -1,9 +1,6 @@
 -- What is made of the parts of an expression when it is compiled.
-use Rattle.std.proofs.Common.{◌≡◌, ℕ, Bool, true, false, map, ◌+◌, ◌<◌, ◌≤◌, List, [], ◌∷◌, length, take, drop, Some, inl, inr, refl, sym, ap, subst, arith, ◌∙◌}
+use Rattle.std.proofs.Common.{◌≡◌, ℕ, map, ◌+◌, ◌<◌, ◌≤◌, List, [], ◌∷◌, length, take, drop, Some, inl, inr, refl, sym, ap, subst, arith, ◌∙◌}
 use Rattle.std.specs.Prelude.{slice_get}
-use Rattle.std.specs.FinSet as set
-use Rattle.std.specs.List.{filter}
-use Rattle.std.specs.Ordering.{nat_cmp}
 use Rattle.std.proofs.Math.Seq.{take-length}
 use Rattle.std.proofs.lemmas.List.{take-append-drop}
 use Rattle.span_core.specs.NameSets.{Ascending}
@@ -23,7 +20,7 @@ use Rattle.spanner_model.proofs.TreeLaws.{take_at_more}
 use Rattle.marked_automaton.specs.declared.way.Way.{Way}
 use Rattle.marked_automaton.specs.declared.fault.SizeFault.{SizeFault}
 use Rattle.marked_automaton.specs.declared.fault.SizeFault.TheVariants.{States, Ways, OutOfMemory}
-use Rattle.marked_automaton.specs.Automaton.{Automaton, ByteClass, HasByte, IsWhole, IsMarked, Marked}
+use Rattle.marked_automaton.specs.Automaton.{Automaton, IsWhole, IsMarked, Marked}
 use Rattle.marked_automaton.specs.Laws.{WaysHaveBytes}
 use Rattle.marked_automaton.specs.Marks.{left_of, remarked_way}
 use Rattle.marked_automaton.specs.Reduct.{Reduces, ReducesMarked}
@@ -31,18 +28,17 @@ use Rattle.marked_automaton.proofs.Reducts.{reduct_of_reduct}
 use Rattle.marked_automaton.proofs.Sizes.{reduct_is_no_larger}
 use Rattle.algebra.specs.JoinedMarks.{agree_on, joined}
 use Rattle.algebra.specs.JoinedNames.{all_names}
-use Rattle.algebra.specs.Operations.{union_of, join_of, goes_with, pair_way, has_some, meet, moved_way}
+use Rattle.algebra.specs.Operations.{union_of, join_of, moved_way}
 use Rattle.algebra.specs.Uniting.{graph_over, union_over}
-use Rattle.algebra.proofs.Bytes.{some_has}
-use Rattle.marked_automaton.proofs.Passing.{filter_cases, flat_map_cases, right_true}
 use Rattle.algebra.proofs.ReductJoins.{reduct_of_join}
 use Rattle.algebra.proofs.UnionsOver.{reduct_of_union_over, union_over_whole}
 use Rattle.algebra.proofs.Whole.{join_whole}
+use Rattle.algebra.proofs.Rejoined.{join_bytes}
+use Rattle.algebra.proofs.NamesLaws.{all_ascend, all_are}
 use Rattle.query_automaton.specs.BegunQuery.{BegunQuery, CanCompile}
 use Rattle.query_automaton.specs.Compiling.{IsAsked, AreCompiled, IsCompiledFrom}
 use Rattle.query_automaton.specs.Parts.{HasLargePartOf, HasSmallAtoms, numbers_of}
 use Rattle.query_automaton.specs.QueryAutomaton.{of_union, of_join, automaton_of, united, together, of_lets}
-use Rattle.query_automaton.proofs.Names.{all_ascend, all_are}
 use Rattle.query_automaton.proofs.Combining.{AreTooLarge, HaveFewNames, Operation, Union, Join, all_of, of_two}
 use Rattle.query_automaton.proofs.Combined.{alone, first_taken, grown, part_at, step_is_part, two_parts}
 use Rattle.query_automaton.proofs.QueryWords.{expr_for, lets_for}
@@ -85,20 +81,6 @@ small_more es k y at h g e i =
     ]
 
 -- ---- unions and joins of reducts
-
--- the ways of a join have some byte
-join_bytes : (agree : ℕ → ℕ → Bool) (both : ℕ → ℕ → ℕ) (A B : Automaton) → WaysHaveBytes (join_of agree both A B)
-join_bytes agree both A B y h e =
-    let r = flat_map_cases (λ x. map (pair_way agree both B.states x) (filter (goes_with agree both x) B.ways)) A.ways y h in
-    let s = Has-map_cases (pair_way agree both B.states r.0) (filter (goes_with agree both r.0) B.ways) y r.2 in
-    let go = (filter_cases (goes_with agree both r.0) B.ways s.0 s.1).1 in
-    let some = some_has (meet r.0.bytes s.0.bytes) (right_true (agree r.0.marks s.0.marks) (has_some (meet r.0.bytes s.0.bytes)) go) in
-    let here : HasByte set.empty some.0 = subst (λ (b : ByteClass). HasByte b some.0) (ap (λ (g : Way). g.bytes) s.2 ∙ e) some.1 in
-    let none : set.contains (set.empty {R = nat_cmp}) some.0 ≡ false = set.contains-empty nat_cmp some.0 in
-    absurd (false_true (sym none ∙ here))
-  where
-    false_true : false ≡ true → ⊥
-    false_true f = cc
 
 -- those of a union have those of its parts
 union_bytes : (A B : Automaton) → WaysHaveBytes A → WaysHaveBytes B → WaysHaveBytes (union_of A B)

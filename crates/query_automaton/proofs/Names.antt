@@ -1,15 +1,10 @@
 -- The variables of unions and joins, as ascending lists.
-use Rattle.std.proofs.Common.{◌⊎◌, ◌↔◌, List, [], ◌∷◌, inl, inr, subst}
-use Rattle.span_core.specs.NameSets.{Ascending, with_name}
-use Rattle.span_core.proofs.NameSetLaws.{with_ascends}
+use Rattle.std.proofs.Common.{◌⊎◌, List, [], ◌∷◌, inl, inr, subst}
+use Rattle.span_core.specs.NameSets.{with_name}
 use Rattle.span_core.specs.Lists.{Has}
 use Rattle.spanner_model.specs.Captures.{VarName}
 use Rattle.spanner_model.proofs.NameLaws.{with_cases, with_here, with_there}
 use Rattle.algebra.specs.JoinedNames.{all_names}
-
-pub all_ascend : (more names : List VarName) → Ascending names → Ascending (all_names names more)
-all_ascend [] names h = h
-all_ascend (x ∷ more) names h = all_ascend more (with_name x names) (with_ascends x names h)
 
 all_keep : (more names : List VarName) (x : VarName) → Has names x → Has (all_names names more) x
 all_keep [] names x h = h
@@ -27,6 +22,3 @@ all_cases (y ∷ more) names x h =
       | inl a ↦ elim (with_cases y x names a) [ inl e ↦ inr (inl e) | inr b ↦ inl b ]
       | inr a ↦ inr (inr a)
     ]
-
-pub all_are : (names more : List VarName) (x : VarName) → Has (all_names names more) x ↔ (Has names x ⊎ Has more x)
-all_are names more x = (all_cases more names x, λ h. elim h [ inl a ↦ all_keep more names x a | inr a ↦ all_there more names x a ])

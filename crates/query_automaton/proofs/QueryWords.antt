@@ -12,7 +12,7 @@ use Rattle.spanner_model.specs.Expression.{ExprTree, QueryTree, atom, named, uni
 use Rattle.spanner_model.specs.Answer.{VarOf, IsRestriction, FitsSomewhere, Answer, vars_of_lets, answers_of_lets, IsResultVar, IsAnswer}
 use Rattle.spanner_model.specs.Sound.{IsSound, IsSoundUnder, IsSoundExpr, AreUnited, AreJoined, sure_of_lets}
 use Rattle.spanner_model.proofs.AnswerLaws.{answer_absent}
-use Rattle.spanner_model.proofs.Deciding.{Told, told_of, told_lets}
+use Rattle.spanner_model.proofs.Deciding.{Told, told_of, told_lets, told_either}
 use Rattle.spanner_model.proofs.Ends.{answer_ends}
 use Rattle.spanner_model.proofs.NameLaws.{ascending-distinct}
 use Rattle.marked_automaton.specs.Automaton.{Marked}
@@ -27,7 +27,7 @@ use Rattle.place_automaton.specs.Variables.{with_vars}
 use Rattle.query_automaton.specs.QueryAutomaton.{of_atom, of_union, of_join, automaton_of, united, together, of_lets, of_one_let, of_query}
 use Rattle.place_automaton.proofs.NameLists.{list_ascends, vars_are}
 use Rattle.query_automaton.proofs.Words.{IsFor, for_minus, for_same, for_union, for_projection, Together, for_join}
-use Rattle.query_automaton.proofs.Assoc.{together_assoc, told_or}
+use Rattle.query_automaton.proofs.Assoc.{together_assoc}
 
 -- ---- atoms
 
@@ -108,7 +108,7 @@ module _ (d : List ℕ) (bytes : AreBytes d) (n : ℕ) (V S : ℕ → VarName �
       let Q : VarName → Type 0 = VarOf V e in
       let R : VarName → Type 0 = VarOf V rest in
       let more = others.joined_parts (λ x. P x ⊎ Q x) (Together P B Q (Answer V A d e)) (of_join M (automaton_of L e)) h.1
-      (λ x. told_or (told_p x) (told_of V told e x)) (for_join d P Q B (Answer V A d e) M (automaton_of L e) b (first.whole h.0)) in
+      (λ x. told_either (told_p x) (told_of V told e x)) (for_join d P Q B (Answer V A d e) M (automaton_of L e) b (first.whole h.0)) in
       for_same d (λ x. (P x ⊎ Q x) ⊎ R x) (λ x. P x ⊎ VarOf V (join e rest) x)
       (Together (λ x. P x ⊎ Q x) (Together P B Q (Answer V A d e)) R (Answer V A d rest)) (Together P B (VarOf V (join e rest)) (Answer V A d (join e rest)))
       (together L M (join e rest))

@@ -26,12 +26,12 @@ use Rattle.algebra.proofs.UnionsOver.{union_over_law, union_over_whole}
 use Rattle.algebra.proofs.Joins.{join_law}
 use Rattle.algebra.proofs.Whole.{join_whole}
 use Rattle.algebra.specs.Rows.{LiesWithin, merged}
+use Rattle.algebra.proofs.NamesLaws.{all_ascend, all_are}
 use Rattle.algebra_minus.specs.Difference.{IsDifference}
 use Rattle.algebra_minus.specs.DifferenceOf.{difference_of}
 use Rattle.algebra_minus.proofs.DifferenceMade.{difference_made}
 use Rattle.algebra_minus.proofs.Words.{difference_law}
 use Rattle.query_automaton.specs.QueryAutomaton.{of_union, of_join, of_minus, of_projection}
-use Rattle.query_automaton.proofs.Names.{all_ascend, all_are}
 
 -- M is an automaton for these answers, which give spans to the variables of P alone
 pub record IsFor (d : List ℕ) (P : VarName → Type 0) (A : Mapping → Type 0) (M : Marked) : Type 0 where

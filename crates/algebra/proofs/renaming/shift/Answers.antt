@@ -2,7 +2,7 @@ use Rattle.std.proofs.Common.{◌-◌, ◌*◌, Some, sym, ap, arith, ◌∙◌}
 use Rattle.std.specs.Prelude.{is_some}
 use Rattle.std.proofs.lemmas.Option.{slice_get_within}
 use Rattle.spanner_model.proofs.NameLaws.{ascending-distinct}
-use Rattle.algebra.proofs.RenamingLaws.{found_has, shift_against, shift_as_wanted, shift_at, shift_nowhere}
+use Rattle.algebra.proofs.RenamingLaws.{found_has, shift_against, shift_as_wanted, place_at, place_none}
 use Rattle.algebra.proofs.renaming.shift.Goals as goal
 
 pub returns-then-is_there-wanted : goal.returns-then-is_there-wanted
@@ -22,7 +22,7 @@ returns-in-Some c =
     let x = c.args.name.now in
     let names = c.args.names.now in
     let has = found_has c.args.other.now x c.find.result c.find.ensures.some c.find.ensures.none ∙ sym c.is_some-is_there.ensures in
-    let at = shift_at names x c.in-Some.k (ascending-distinct names c.len-len.ensures.ascending) c.in-Some.ensures.some in
+    let at = place_at names x c.in-Some.k (ascending-distinct names c.len-len.ensures.ascending) c.in-Some.ensures.some in
     ap (λ n. Some (2 * (n - c.in-Some.k - 1))) c.len-len.ensures.value
     ∙ sym (shift_as_wanted names c.args.other.now c.args.wanted x c.is_some-is_there.result has c.if-is_there-wanted.false ∙ at)
 
@@ -32,4 +32,4 @@ returns-in-None c =
     let names = c.args.names.now in
     let has = found_has c.args.other.now x c.find.result c.find.ensures.some c.find.ensures.none ∙ sym c.is_some-is_there.ensures in
     let none = found_has names x c.find-2.result c.find-2.ensures.some c.find-2.ensures.none ∙ ap is_some c.in-None.is in
-    sym (shift_as_wanted names c.args.other.now c.args.wanted x c.is_some-is_there.result has c.if-is_there-wanted.false ∙ shift_nowhere names x none)
+    sym (shift_as_wanted names c.args.other.now c.args.wanted x c.is_some-is_there.result has c.if-is_there-wanted.false ∙ place_none names x none)

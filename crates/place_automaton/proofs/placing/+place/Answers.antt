@@ -1,6 +1,7 @@
 use Rattle.std.proofs.Common.{◌≡◌, ℕ, ◌+◌, ◌-◌, ◌*◌, ◌≤◌, List, [], ◌∷◌, ◌++◌, Option, max, map, IfOk, length, take, drop, refl, sym, ap, ◌∙◌, subst, arith}
 use Rattle.std.specs.Prelude.{Some, ◌==◌, if◌then◌else◌}
 use Rattle.std.proofs.Math.Seq.{take-length}
+use Rattle.std.proofs.lemmas.Result.{IfOk-weaker}
 use Rattle.marked_automaton.specs.declared.TheConstants.{MOST_STATES}
 use Rattle.span_core.specs.Lists.{Has}
 use Rattle.spanner_model.specs.Tree.{cap, rep, cat_all, alt_all}
@@ -21,7 +22,7 @@ use Rattle.place_automaton.specs.Words.{opening_of, closing_of}
 use Rattle.place_automaton.proofs.ArmLaws.{arms_next}
 use Rattle.place_automaton.proofs.BuiltRepeats.{ordered_repeats}
 use Rattle.place_automaton.proofs.CapPlaces.{can_capture}
-use Rattle.place_automaton.proofs.DraftRows.{IsRow, copies_next, ok_both, ok_by, parts_next, parts_joins, placers, row_done}
+use Rattle.place_automaton.proofs.DraftRows.{IsRow, copies_next, ok_both, parts_next, parts_joins, placers, row_done}
 use Rattle.place_automaton.proofs.FineLaws.{VarBits, built_classes, fine_places, fine_unmarked}
 use Rattle.place_automaton.proofs.MoveLaws.{first_below, first_copy, first_ways, once_more, place_moves, some_copy, ways_within}
 use Rattle.place_automaton.proofs.MarkBits.{no_bits}
@@ -187,7 +188,7 @@ place_repeat-returns-then-copies-eq0 t c =
     let k = c.args.draft.now.next in
     let none = none_placed F k c.args.least c.args.most (sym c.copies_of-copies.ensures ∙ c.if-copies-eq0.true) (λ m e. (c.requires.built.0.1.1 m e).0) in
     let W = repeated c.args.least c.args.most F k in
-    ok_by c.nothing.result (λ (p : Sides). p ≡ nothing_sides) (λ (p : Sides). HasPlaced W c.args.draft.now c.args.draft.now p)
+    IfOk-weaker c.nothing.result (λ (p : Sides). p ≡ nothing_sides) (λ (p : Sides). HasPlaced W c.args.draft.now c.args.draft.now p)
     (λ p e. nothing_done W c.args.draft.now p none e) c.nothing.ensures
 
 pub place_repeat-place-requires : goal.place_repeat-place-requires
@@ -224,7 +225,7 @@ place_repeat-returns-then-draft-before t c =
     let zeros : (m : ℕ) → Has (F k).null m → 0 ≡ m = λ m h. sym (no_bits m (λ i b. let v = set.within m h i b in c.requires.bare v.0 v.1)) in
     let E = c.in_ok-first.first in
     let W = repeated c.args.least c.args.most F k in
-    ok_by c.opt_if.result (λ (p : Sides). p ≡ (if c.args.least == 0 then opt_sides E else E)) (λ (p : Sides). HasPlaced W c.args.draft.now c.place.new.draft p)
+    IfOk-weaker c.opt_if.result (λ (p : Sides). p ≡ (if c.args.least == 0 then opt_sides E else E)) (λ (p : Sides). HasPlaced W c.args.draft.now c.place.new.draft p)
     (λ p e. flat_done F k c.args.least c.args.most c.args.draft.now c.place.new.draft E p
     (places_lie (opening_of names) (closing_of names) f k) set.distinct zeros c.in_ok-first.ensures c.if-draft-before.true e) c.opt_if.ensures
 
@@ -249,7 +250,7 @@ place_once-returns t c =
     let k = c.args.draft.now.next in
     let E = c.in_ok-piece.piece in
     let is = once_is c.args.least F k (c.requires.built.0.1.1 1 refl).0 in
-    ok_by c.opt_if.result (λ (p : Sides). p ≡ (if c.args.least == 0 then opt_sides E else E)) (λ (p : Sides). HasPlaced (repeated c.args.least (Some 1) F k) c.args.draft.now c.place.new.draft p)
+    IfOk-weaker c.opt_if.result (λ (p : Sides). p ≡ (if c.args.least == 0 then opt_sides E else E)) (λ (p : Sides). HasPlaced (repeated c.args.least (Some 1) F k) c.args.draft.now c.place.new.draft p)
     (λ p e. subst (λ (W : Places). HasPlaced W c.args.draft.now c.place.new.draft p) (sym is) (once_done (c.args.least == 0) (F k) c.args.draft.now c.place.new.draft E p c.in_ok-piece.ensures e))
     c.opt_if.ensures
 

@@ -1,20 +1,16 @@
-use Rattle.std.proofs.Common.{◌≡◌, ◌+◌, Bool, true, false, ◌&&◌, List, [], ◌∷◌, ◌++◌, nat_eq, refl, inl, sym, subst, ap, arith, ◌∙◌}
-use Rattle.std.proofs.lemmas.Bool.{eq-eqb, ne_eqb, true≢false}
+use Rattle.std.proofs.Common.{◌≡◌, ◌+◌, true, false, ◌&&◌, List, [], ◌∷◌, ◌++◌, nat_eq, refl, inl, sym, subst, ap, arith, ◌∙◌}
+use Rattle.std.proofs.lemmas.Bool.{eq-eqb, ne_eqb, true≢false, and_right}
 use Rattle.std.specs.Prelude.{slice_get, Some}
 use Rattle.std.proofs.lemmas.Option.{slice_get_within}
 use Rattle.span_core.specs.Lists.{Has}
+use Rattle.span_core.proofs.ListLaws.{get_left}
 use Rattle.marked_automaton.specs.declared.way.Way.{Way}
 use Rattle.marked_automaton.specs.declared.fault.SizeFault.{SizeFault}
 use Rattle.algebra.specs.Operations.{has_some, meet}
 use Rattle.algebra.specs.Pairs.{PairWay, IsFollowed, IsRefusalOf, way_pair, ways_meet, ways_with}
 use Rattle.marked_automaton.proofs.Passing.{both_true}
 use Rattle.algebra.proofs.Followed.{followed_none, row_none, row_one, no_bytes, some_bytes, handed_on}
-use Rattle.algebra.proofs.ReductUnions.{get_left}
 use Rattle.algebra.proofs.pairs.Search.follow_both.Goals as goal
-
-and_false : (a b : Bool) → b ≡ false → (a && b) ≡ false
-and_false true b e = e
-and_false false b e = refl
 
 pub returns-then-number-clause-followed : goal.returns-then-number-clause-followed
 returns-then-number-clause-followed c =
@@ -30,7 +26,7 @@ returns-then-is_empty-clause-followed c =
     let x = c.args.x.now in
     let y = c.args.y.now in
     let empty : has_some (meet x.way.bytes y.way.bytes) ≡ false = no_bytes (meet x.way.bytes y.way.bytes) (sym c.meet-bytes.ensures ∙ c.is_empty.ensures.0 c.if-is_empty.true) in
-    let none : ways_with x (y ∷ []) ≡ [] = row_none ways_meet way_pair x y (and_false (nat_eq x.shared y.shared) (has_some (meet x.way.bytes y.way.bytes)) empty) in
+    let none : ways_with x (y ∷ []) ≡ [] = row_none ways_meet way_pair x y (and_right (nat_eq x.shared y.shared) (has_some (meet x.way.bytes y.way.bytes)) empty) in
     subst (λ (r : List PairWay). IsFollowed r c.args.self.now.found.keys c.args.self.now.ways.items c.args.self.now.found.keys c.args.self.now.ways.items) (sym none)
     (followed_none c.args.self.now.found.keys c.args.self.now.ways.items)
 

@@ -1,11 +1,11 @@
 use Rattle.std.proofs.Common.{◌≡◌, ◌+◌, List, ◌++◌, take, drop, length, rules, refl, sym, subst, arith, ◌∙◌, append_assoc}
 use Rattle.std.specs.Prelude.{slice_get, Some}
+use Rattle.span_core.proofs.ListLaws.{get_left}
 use Rattle.marked_automaton.specs.declared.fault.SizeFault.{SizeFault}
 use Rattle.marked_automaton.specs.declared.fault.SizeFault.TheVariants.{Ways}
 use Rattle.algebra.specs.Pairs.{PairWay, IsFollowed, IsRefusalOf, pair_of, pairs, way_pair, ways_meet, ways_with}
 use Rattle.algebra.proofs.Alike.{Has-item}
 use Rattle.algebra.proofs.Followed.{followed_none, followed_then, refusal_then, refusal_of_ways, pairs_more, pairs_split, handed_on}
-use Rattle.algebra.proofs.ReductUnions.{get_left}
 use Rattle.algebra.proofs.pairs.Search.follow_pair.Goals as goal
 
 pub loop-x-init : goal.loop-x-init

@@ -1,10 +1,10 @@
 use Rattle.std.proofs.Common.{◌≡◌, ◌+◌, List, [], ◌∷◌, take, drop, refl, sym, subst}
 use Rattle.std.specs.Prelude.{slice_get, Some}
+use Rattle.span_core.proofs.ListLaws.{get_left}
 use Rattle.marked_automaton.specs.declared.fault.SizeFault.{SizeFault}
 use Rattle.algebra.specs.Pairs.{PairWay, IsFollowed, IsRefusalOf, pair_of, way_pair, ways_meet, ways_with}
 use Rattle.algebra.proofs.Alike.{Has-item}
 use Rattle.algebra.proofs.Followed.{followed_none, followed_then, refusal_then, row_more, row_split, handed_on}
-use Rattle.algebra.proofs.ReductUnions.{get_left}
 use Rattle.algebra.proofs.pairs.Search.follow_way.Goals as goal
 
 pub loop-y-init : goal.loop-y-init

@@ -1,11 +1,11 @@
 use Rattle.std.proofs.Common.{◌≡◌, length, inl, inr, sym, ap, ◌∙◌, subst, arith}
+use Rattle.std.proofs.lemmas.Result.{IfOk-weaker, IfErr-weaker}
 use Rattle.spanner_model.specs.Expression.{ExprTree, join_all, minus, project, union_all}
 use Rattle.spanner_model.specs.ExprView.{expr_of, exprs_of, query_of}
 use Rattle.spanner_model.specs.Answer.{vars_of_lets}
 use Rattle.spanner_model.specs.Sound.{sure_of_lets}
 use Rattle.spanner_model.proofs.ExprTrees.{expr_of-Minus, expr_of-Named, expr_of-Project}
 use Rattle.algebra.proofs.Followed.{handed_on}
-use Rattle.algebra.proofs.JoinResults.{fault_by, ok_by}
 use Rattle.marked_automaton.specs.Reduct.{ReducesMarked}
 use Rattle.query_automaton.specs.BegunQuery.{BegunQuery, CanCompile, HasLargePartIn, IsCompiledIn}
 use Rattle.query_automaton.specs.QueryAutomaton.{of_lets, of_minus}
@@ -114,7 +114,7 @@ expression-returns-in_ok-second-in-Minus-clause-made t c =
     let left = subst (IsCompiledIn b f) (sym c.as_automaton.ensures) c.in_ok-first-in-Minus.ensures.made in
     let made = subst (λ (d : BegunQuery). IsCompiledIn d g c.in_ok-second-in-Minus.second) c.in_ok-first-in-Minus.ensures.same c.in_ok-second-in-Minus.ensures.made in
     let right = subst (IsCompiledIn b g) (sym c.as_automaton-in-Minus.ensures) made in
-    ok_by c.differing.result (λ alone. ReducesMarked alone (of_minus a p)) (IsCompiledIn b (expr_of c.args.expr.now))
+    IfOk-weaker c.differing.result (λ alone. ReducesMarked alone (of_minus a p)) (IsCompiledIn b (expr_of c.args.expr.now))
     (λ alone h. subst (λ (w : ExprTree). IsCompiledIn b w alone) (sym e)
     (differed q b.lets can.known f g can.asked a p left right c.differing.ensures.marked alone h)) c.differing.ensures.made
 
@@ -132,7 +132,7 @@ expression-returns-in_ok-second-in-Minus-clause-fault t c =
     let left = subst (IsCompiledIn b f) (sym c.as_automaton.ensures) c.in_ok-first-in-Minus.ensures.made in
     let made = subst (λ (d : BegunQuery). IsCompiledIn d g c.in_ok-second-in-Minus.second) c.in_ok-first-in-Minus.ensures.same c.in_ok-second-in-Minus.ensures.made in
     let right = subst (IsCompiledIn b g) (sym c.as_automaton-in-Minus.ensures) made in
-    fault_by c.differing.result _ (HasLargePartIn b (expr_of c.args.expr.now))
+    IfErr-weaker c.differing.result _ (HasLargePartIn b (expr_of c.args.expr.now))
     (λ fault h. subst (λ (w : ExprTree). HasLargePartIn b w fault) (sym e)
     (minus_too_large q b.lets can.known f g can.asked a p left right c.differing.ensures.marked fault h)) c.differing.ensures.fault
 
