@@ -6,6 +6,7 @@ use Rattle.span_core.specs.Order.{StandsBefore}
 use Rattle.node_arena.specs.declared.row.Entry.{Entry}
 use Rattle.node_arena.specs.declared.row.Entry.TheVariants.{Nothing, Done, Row}
 use Rattle.span_core.specs.Lists.{Has}
+use Rattle.span_core.proofs.HasLaws.{Has-append_cases, Has-map_cases}
 use Rattle.node_arena.specs.Words.{Word}
 use Rattle.output_graph.specs.Order.{LeadsBefore}
 use Rattle.output_graph.specs.Listed.{Lists, AreLists}
@@ -13,7 +14,6 @@ use Rattle.node_arena.specs.Rows.{NamedRow, rows, HasRow, IsThere}
 use Rattle.output_graph.specs.RowLists.{AreMade, AreLed}
 use Rattle.enumerator.specs.Enumeration.{SpanRow, IsWordOfRow, AreInBlockOrder}
 use Rattle.enumerator.specs.Rows.{Positions, no_positions, row_under, rows_of}
-use Rattle.enumerator.proofs.Lists.{has_cases, has_map_cases}
 use Rattle.output_graph.proofs.RowLaws.{rows_nothing, rows_done}
 use Rattle.enumerator.proofs.SeekLaws.{listed_led}
 use Rattle.enumerator.proofs.Words.{AscendsFrom, AreSome, are_some, ascends_from, listed_here, listed_other, listed_before, is_row_of_word}
@@ -38,7 +38,7 @@ in_order_map : (x : ℕ × ℕ) (ws : List Word) → AreInOrder ws → AreInOrde
 in_order_map x [] h = tt
 in_order_map x (w ∷ ws) h = (
   λ v there.
-      let r = has_map_cases (λ (u : Word). x ∷ u) ws v there in
+      let r = Has-map_cases (λ (u : Word). x ∷ u) ws v there in
       subst (λ y. Before (x ∷ w) y) r.2 (inr (refl, h.0 r.0 r.1)),
   in_order_map x ws h.1,
 )
@@ -46,7 +46,7 @@ in_order_map x (w ∷ ws) h = (
 in_order_append : (xs ys : List Word) → AreInOrder xs → AreInOrder ys → ((x y : Word) → Has xs x → Has ys y → Before x y) → AreInOrder (xs ++ ys)
 in_order_append [] ys a b f = b
 in_order_append (x ∷ xs) ys a b f = (
-  λ v there. elim (has_cases xs ys v there) as (λ _. Before x v) [
+  λ v there. elim (Has-append_cases xs ys v there) as (λ _. Before x v) [
     | inl h ↦ a.0 v h
     | inr h ↦ f x v (inl refl) h
   ],
@@ -65,7 +65,7 @@ rows_in_order (r ∷ older) (Row k) made led there = elim (cases_eq r.name k) as
       (in_order_map (r.at, r.marks) (rows older r.child) (rows_in_order older r.child made.1 led.1 made.0.child_there))
       (rows_in_order older r.next made.1 led.1 made.0.next_there)
       (λ x y hx hy.
-      let c = has_map_cases (λ (w : Word). (r.at, r.marks) ∷ w) (rows older r.child) x hx in
+      let c = Has-map_cases (λ (w : Word). (r.at, r.marks) ∷ w) (rows older r.child) x hx in
       subst (λ z. Before z y) c.2 (before_by_lead (r.at, r.marks) c.0 y (led.0 y hy))))
   | inr ne ↦
       let further : HasRow older k = elim there.1 as (λ _. HasRow older k) [
@@ -137,7 +137,7 @@ rows_stand : (v : ℕ) (P : Positions) (ws : List Word) → ((w : Word) → Has 
 rows_stand v P [] words order = tt
 rows_stand v P (w ∷ ws) words order = (
   λ q h.
-      let c = has_map_cases (row_under v 0 P) ws q h in
+      let c = Has-map_cases (row_under v 0 P) ws q h in
       subst (λ (z : SpanRow). StandsBefore (row_under v 0 P w) z) c.2 (row_stands v P w c.0 (words w (inl refl)) (words c.0 (inr c.1)) (order.0 c.0 c.1)),
   rows_stand v P ws (λ u h. words u (inr h)) order.1,
 )

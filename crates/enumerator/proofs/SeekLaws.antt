@@ -9,6 +9,7 @@ use Rattle.span_core.specs.Order.{StandsBefore}
 use Rattle.node_arena.specs.declared.row.Entry.{Entry}
 use Rattle.node_arena.specs.declared.row.Entry.TheVariants.{Nothing, Done, Row}
 use Rattle.span_core.specs.Lists.{Has}
+use Rattle.span_core.proofs.HasLaws.{Has-append_cases, Has-map_cases}
 use Rattle.node_arena.specs.Words.{Word}
 use Rattle.output_graph.specs.Order.{LeadsBefore}
 use Rattle.output_graph.specs.Listed.{Lists, AreLists}
@@ -19,7 +20,7 @@ use Rattle.enumerator.specs.Enumeration.{SpanRow, IsRestAfter, IsWordOfRow}
 use Rattle.enumerator.specs.Rows.{Positions, put, row_under, rows_of, waiting_rows, no_positions}
 use Rattle.enumerator.specs.Waiting.{Fits, IsWaiting, AreBelow, AreStacked, waited}
 use Rattle.enumerator.specs.Seeking.{HasNoBlock, IsNextBlock}
-use Rattle.enumerator.proofs.Lists.{has_cases, has_map_cases, map_same}
+use Rattle.enumerator.proofs.Lists.{map_same}
 use Rattle.output_graph.proofs.RowLaws.{rows_at, rows_nothing, rows_done}
 use Rattle.enumerator.proofs.StoreLaws.{reach, led_at, child_reach, next_reach, reach_few}
 use Rattle.enumerator.proofs.RowLaws.{row_under_agree, below_stacked, waited_stacked, waited_rows}
@@ -166,11 +167,11 @@ module _ (store : List NamedRow) (made : AreMade store) (v : ℕ) (after : SpanR
           front = s.front ++ mine;
           whole_is = s.whole_is ∙ (ap (λ xs. s.front ++ (xs ++ waiting_rows store v P fs)) split
               ∙ (ap (λ xs. s.front ++ xs) (append_assoc mine nexts (waiting_rows store v P fs)) ∙ sym (append_assoc s.front mine (nexts ++ waiting_rows store v P fs))));
-          passed = λ q h b. elim (has_cases s.front mine q h) as (λ _. ⊥) [
+          passed = λ q h b. elim (Has-append_cases s.front mine q h) as (λ _. ⊥) [
             | inl old ↦ s.passed q old b
             | inr new ↦
-                let u = has_map_cases (row_under v m P) (map (λ (w : Word). own ∷ w) (rows store r.child)) q new in
-                let c = has_map_cases (λ (w : Word). own ∷ w) (rows store r.child) u.0 u.1 in
+                let u = Has-map_cases (row_under v m P) (map (λ (w : Word). own ∷ w) (rows store r.child)) q new in
+                let c = Has-map_cases (λ (w : Word). own ∷ w) (rows store r.child) u.0 u.1 in
                 let here = child_row store made v m k r is c.0 c.1 in
                 let row_is : row_under v m P (own ∷ c.0) ≡ q = ap (row_under v m P) c.2 ∙ u.2 in
                 led_not_after from after v m P x own c.0 next (s.tails (own ∷ c.0) here) lead (cell_new store made v m k r is waiting).some
@@ -195,9 +196,9 @@ module _ (store : List NamedRow) (made : AreMade store) (v : ℕ) (after : SpanR
           waits = λ q h.
               let kept = next_rows_kept store made v m k r is waiting P fs s.below in
               let h' : Has (map (row_under v m P) (rows store r.next) ++ waiting_rows store v P fs) q = subst (λ xs. Has xs q) (sym kept) h in
-              elim (has_cases (map (row_under v m P) (rows store r.next)) (waiting_rows store v P fs) q h') as (λ _. StandsBefore after q) [
+              elim (Has-append_cases (map (row_under v m P) (rows store r.next)) (waiting_rows store v P fs) q h') as (λ _. StandsBefore after q) [
                 | inl new ↦
-                    let u = has_map_cases (row_under v m P) (rows store r.next) q new in
+                    let u = Has-map_cases (row_under v m P) (rows store r.next) q new in
                     subst (λ (z : SpanRow). StandsBefore after z) u.2
                     (led_after from after v m P own u.0 next (s.tails u.0 (next_row store made v m k r is u.0 u.1)) (led_at store k r made led is u.0 u.1))
                 | inr old ↦ s.waits q old
@@ -212,8 +213,8 @@ module _ (store : List NamedRow) (made : AreMade store) (v : ℕ) (after : SpanR
     -- the given row's next block comes before the cell's: so it does before all of its rows
     pub cell_led : AreLed store → (x : ℕ × ℕ) → LeadsBlock x own → (w : Word) → Has (rows store (Row k)) w → LeadsBefore x w
     cell_led led x lead w h =
-        elim (has_cases (map (λ (u : Word). own ∷ u) (rows store r.child)) (rows store r.next) w (subst (λ ws. Has ws w) (cell_rows store made v m k r is) h)) as (λ _. LeadsBefore x w) [
-          | inl mine ↦ let c = has_map_cases (λ (u : Word). own ∷ u) (rows store r.child) w mine in subst (λ (u : Word). LeadsBefore x u) c.2 lead
+        elim (Has-append_cases (map (λ (u : Word). own ∷ u) (rows store r.child)) (rows store r.next) w (subst (λ ws. Has ws w) (cell_rows store made v m k r is) h)) as (λ _. LeadsBefore x w) [
+          | inl mine ↦ let c = Has-map_cases (λ (u : Word). own ∷ u) (rows store r.child) w mine in subst (λ (u : Word). LeadsBefore x u) c.2 lead
           | inr further ↦ lead_further x w lead (led_at store k r made led is w further)
         ]
       where
@@ -236,9 +237,9 @@ module _ (store : List NamedRow) (v : ℕ) (after : SpanRow) (P : Positions) (m 
       s.whole_is ∙ ap (λ xs. s.front ++ xs) (sym (waited_rows store v m P e fs)),
       s.passed,
       λ q h.
-          elim (has_cases (map (row_under v m P) (rows store e)) (waiting_rows store v P fs) q (subst (λ xs. Has xs q) (waited_rows store v m P e fs) h)) as (λ _. StandsBefore after q) [
+          elim (Has-append_cases (map (row_under v m P) (rows store e)) (waiting_rows store v P fs) q (subst (λ xs. Has xs q) (waited_rows store v m P e fs) h)) as (λ _. StandsBefore after q) [
             | inl new ↦
-                let u = has_map_cases (row_under v m P) (rows store e) q new in
+                let u = Has-map_cases (row_under v m P) (rows store e) q new in
                 subst (λ (z : SpanRow). StandsBefore after z) u.2 (led_after from after v m P x u.0 next (s.tails u.0 u.1) (lead u.0 u.1))
             | inr old ↦ s.waits q old
           ],
@@ -254,10 +255,10 @@ module _ (store : List NamedRow) (v : ℕ) (after : SpanRow) (P : Positions) (m 
       s.front ++ map (row_under v m P) (rows store e),
       s.whole_is ∙ sym (append_assoc s.front (map (row_under v m P) (rows store e)) (waiting_rows store v P fs)),
       λ q h b.
-          elim (has_cases s.front (map (row_under v m P) (rows store e)) q h) as (λ _. ⊥) [
+          elim (Has-append_cases s.front (map (row_under v m P) (rows store e)) q h) as (λ _. ⊥) [
             | inl old ↦ s.passed q old b
             | inr new ↦
-                let u = has_map_cases (row_under v m P) (rows store e) q new in
+                let u = Has-map_cases (row_under v m P) (rows store e) q new in
                 none_after from after v m P u.0 none (s.tails u.0 u.1) (subst (λ (z : SpanRow). StandsBefore after z) (sym u.2) b)
           ],
       s.waits,

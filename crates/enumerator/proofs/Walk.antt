@@ -2,9 +2,11 @@
 use Rattle.std.proofs.Common.{◌≡◌, ℕ, ◌+◌, ◌*◌, ◌<◌, ◌≤◌, List, ◌∷◌, ◌++◌, map, length, Some, refl, sym, ap, ap₂, ◌∙◌, subst, append_assoc, arith}
 use Rattle.std.specs.Int.Bits.{bit_or}
 use Rattle.std.proofs.lemmas.List.{map-append}
+use Rattle.std.proofs.lemmas.Simd.{map-map}
 use Rattle.node_arena.specs.declared.row.Entry.{Entry}
 use Rattle.node_arena.specs.declared.row.Entry.TheVariants.{Nothing, Done, Row}
 use Rattle.span_core.specs.Lists.{Has}
+use Rattle.span_core.proofs.HasLaws.{Has-append_left, Has-append_right, Has-map}
 use Rattle.node_arena.specs.Words.{Word}
 use Rattle.node_arena.specs.Rows.{NamedRow, rows, row_at}
 use Rattle.output_graph.specs.RowLists.{AreMade}
@@ -12,7 +14,6 @@ use Rattle.enumerator.specs.declared.stack.Waiting.{Waiting}
 use Rattle.enumerator.specs.Enumeration.{SpanRow}
 use Rattle.enumerator.specs.Rows.{Positions, put, row_of, row_under, rows_under, waiting_rows}
 use Rattle.enumerator.specs.Waiting.{IsNew, left, IsWaiting, AreBelow, AreStacked, waited}
-use Rattle.enumerator.proofs.Lists.{map_map, has_map, has_left, has_right}
 use Rattle.enumerator.proofs.Bits.{new_left, unset_few}
 use Rattle.output_graph.proofs.RowLaws.{rows_at, rows_done, some_row}
 use Rattle.enumerator.proofs.RowLaws.{rows_agree, put_kept, waiting_kept, below_few, below_stacked, waited_below, waited_rows}
@@ -42,10 +43,10 @@ module _ (store : List NamedRow) (made : AreMade store) (v m k : ℕ) (r : Named
 
   pub child_row : (w : Word) → Has (rows store r.child) w → Has (rows store (Row k)) (block ∷ w)
   child_row w h = subst (λ ws. Has ws (block ∷ w)) (sym cell_rows)
-      (has_left (map (λ (u : Word). block ∷ u) (rows store r.child)) (rows store r.next) (block ∷ w) (has_map (λ (u : Word). block ∷ u) (rows store r.child) w h))
+      (Has-append_left (map (λ (u : Word). block ∷ u) (rows store r.child)) (rows store r.next) (block ∷ w) (Has-map (λ (u : Word). block ∷ u) (rows store r.child) w h))
 
   pub next_row : (w : Word) → Has (rows store r.next) w → Has (rows store (Row k)) w
-  next_row w h = subst (λ ws. Has ws w) (sym cell_rows) (has_right (map (λ (u : Word). block ∷ u) (rows store r.child)) (rows store r.next) w h)
+  next_row w h = subst (λ ws. Has ws w) (sym cell_rows) (Has-append_right (map (λ (u : Word). block ∷ u) (rows store r.child)) (rows store r.next) w h)
 
   module _ (waits : IsWaiting store v (frame m (Row k))) where
     pub cell_new : IsNew v m r.marks
@@ -72,7 +73,7 @@ module _ (store : List NamedRow) (made : AreMade store) (v m k : ℕ) (r : Named
     cell_rows_under P =
         ap (map (row_under v m P)) cell_rows
         ∙ (map-append (row_under v m P) (map (λ (w : Word). block ∷ w) (rows store r.child)) (rows store r.next)
-        ∙ ap (λ xs. xs ++ map (row_under v m P) (rows store r.next)) (map_map (row_under v m P) (λ (w : Word). block ∷ w) (rows store r.child)))
+        ∙ ap (λ xs. xs ++ map (row_under v m P) (rows store r.next)) (map-map (row_under v m P) (λ (w : Word). block ∷ w) (rows store r.child)))
 
     -- those of its next, and of what waits, do not see the block
     pub next_rows_kept : (P : Positions) (fs : List Waiting) → AreBelow store v m fs

@@ -2,7 +2,7 @@
 use Rattle.std.proofs.Common.{◌≡◌, ◌⊎◌, ℕ, zero, suc, ◌+◌, ◌*◌, ◌<◌, ◌≤◌, Bool, true, false, List, [], ◌∷◌, ◌++◌, length, get_or, set, take, replicate, Some, inl, inr, refl, sym, ap, subst, arith, ◌∙◌, length-append, ◌-◌, add-one, if◌then◌else◌}
 use Rattle.std.specs.Prelude.{slice_get}
 use Rattle.std.proofs.lemmas.List.{get_or_append_left, take_more}
-use Rattle.std.proofs.lemmas.Option.{slice_get_within}
+use Rattle.std.proofs.lemmas.Option.{slice_get_within, same_Some}
 use Rattle.std.proofs.lemmas.Bool.{cases_eq}
 use Rattle.std.specs.List.{list_any}
 use Rattle.std.specs.Str.{bytes_eq}
@@ -10,17 +10,15 @@ use Rattle.span_core.proofs.HasLaws.{Has-take_more_cases}
 use Rattle.span_core.specs.declared.edge.Edge.{Edge}
 use Rattle.marked_automaton.specs.Automaton.{Automaton}
 use Rattle.span_core.specs.Lists.{Has}
+use Rattle.span_core.proofs.ListLaws.{get_left, get_set_same, get_last}
 use Rattle.automaton_reading.specs.Reading.{LookUp, byte_read, Reach, edges}
 use Rattle.set_table.specs.Tabled.{with_set}
 use Rattle.output_graph.specs.Source.{Edges}
-use Rattle.output_graph.proofs.SetLaws.{get_left, get_set_other, get_set_same, take_all}
+use Rattle.output_graph.proofs.SetLaws.{get_set_other, take_all}
 use Rattle.one_pass.specs.declared.known.KnownStep.{KnownStep}
 use Rattle.one_pass.specs.Held.{TableView, AreNumbered, StaysOn, look_up_of, set_named}
 use Rattle.one_pass.specs.Known.{AreLookUps, AreStill, IsEntry, IsKnown, IsLookUp, IsStepOf, layer_at}
 use Rattle.one_pass.specs.Passes.{HasGrown}
-
-some_is : {X : Type 0} (x y : X) → Some x ≡ Some y → x ≡ y
-some_is x y e = cc
 
 -- ---- a table that grows
 
@@ -134,7 +132,7 @@ known_layer t layers entries steps s known = record {
 
 zeros : (n k e : ℕ) → slice_get (replicate n 0) k ≡ Some e → e ≡ 0
 zeros zero k e at = cc
-zeros (suc n) zero e at = sym (some_is 0 e at)
+zeros (suc n) zero e at = sym (same_Some 0 e at)
 zeros (suc n) (suc k) e at = zeros n k e at
 
 either_part : (xs ys : List ℕ) (k e : ℕ) → slice_get (xs ++ ys) k ≡ Some e → (slice_get xs k ≡ Some e) ⊎ ((j : ℕ) × (slice_get ys j ≡ Some e))
@@ -176,15 +174,11 @@ known_step t layers entries steps step known = record {
     still_true b sets e (inr (inl still)) = inr (inl still)
     still_true b sets e (inr (inr (p, old, is, at, of))) = inr (inr (p, old, is, get_left steps (step ∷ []) p old at, of))
 
-last_there : (steps : List KnownStep) (step : KnownStep) → slice_get (steps ++ step ∷ []) (length steps) ≡ Some step
-last_there [] step = refl
-last_there (x ∷ steps) step = last_there steps step
-
 -- the step that came last
 pub entry_last : (t : TableView) (layers : List (List ℕ)) (steps : List KnownStep) (step : KnownStep) (b : ℕ) (sets : List ℕ) (place e : ℕ) → place ≡ length steps → e ≡ place + 2 →
     AreLookUps t b sets step.program.groups → slice_get layers step.next ≡ Some step.program.targets → IsEntry t layers (steps ++ step ∷ []) b sets e
 entry_last t layers steps step b sets place e is sum look_ups next =
-    inr (inr (length steps, step, omega arith, last_there steps step, record { look_ups = look_ups; next = next }))
+    inr (inr (length steps, step, omega arith, get_last steps step, record { look_ups = look_ups; next = next }))
 
 -- ---- one entry more
 
@@ -195,7 +189,7 @@ known_entry t layers entries steps k b e at small is within entry known = record
   each = λ j c d less there. elim (cases_eq at (256 * j + c)) as (λ _. IsEntry t layers steps c (layer_at layers j) d) [
     | inl same ↦
         let here : slice_get (set entries at e) at ≡ Some d = subst (λ n. slice_get (set entries at e) n ≡ Some d) (sym same) there in
-        let value : e ≡ d = some_is e d (sym (get_set_same entries at e within) ∙ here) in
+        let value : e ≡ d = same_Some e d (sym (get_set_same entries at e within) ∙ here) in
         let layer : k ≡ j = omega arith in
         let byte : b ≡ c = omega arith in
         subst (λ n. IsEntry t layers steps n (layer_at layers j) d) byte (subst (λ n. IsEntry t layers steps b (layer_at layers n) d) layer (subst (λ n. IsEntry t layers steps b (layer_at layers k) n) value entry))
@@ -239,7 +233,7 @@ layer_there (x ∷ layers) zero h = refl
 layer_there (x ∷ layers) (suc k) h = layer_there layers k (omega arith)
 
 pub layer_is : (layers : List (List ℕ)) (k : ℕ) (sets : List ℕ) → slice_get layers k ≡ Some sets → layer_at layers k ≡ sets
-layer_is layers k sets at = some_is (layer_at layers k) sets (sym (layer_there layers k (slice_get_within layers k sets at)) ∙ at)
+layer_is layers k sets at = same_Some (layer_at layers k) sets (sym (layer_there layers k (slice_get_within layers k sets at)) ∙ at)
 
 pub layer_kept : (old new : List (List ℕ)) (k : ℕ) → ((j : ℕ) (sets : List ℕ) → slice_get old j ≡ Some sets → slice_get new j ≡ Some sets) → k < length old →
     (k < length new) × (layer_at new k ≡ layer_at old k)
@@ -263,7 +257,7 @@ entry_step t layers steps b sets e not_one not_none (inr (inr (p, step, is, at, 
     (step, subst (λ n. slice_get steps n ≡ Some step) same at, of)
 
 pub step_is : (steps : List KnownStep) (k : ℕ) (x y : KnownStep) → slice_get steps k ≡ Some x → slice_get steps k ≡ Some y → x ≡ y
-step_is steps k x y at there = some_is x y (sym at ∙ there)
+step_is steps k x y at there = same_Some x y (sym at ∙ there)
 
 -- ---- the sets of a graph's layer, one after another
 
@@ -272,7 +266,7 @@ sets_more sets k s at = ap (λ n. take n sets) (add-one k) ∙ by sets k s at
   where
     by : (xs : List ℕ) (k s : ℕ) → slice_get xs k ≡ Some s → take (suc k) xs ≡ take k xs ++ s ∷ []
     by [] k s at = cc
-    by (x ∷ xs) zero s at = ap (λ y. y ∷ []) (some_is x s at)
+    by (x ∷ xs) zero s at = ap (λ y. y ∷ []) (same_Some x s at)
     by (x ∷ xs) (suc k) s at = ap (λ (ys : List ℕ). x ∷ ys) (by xs k s at)
 
 pub look_ups_next : (t : TableView) (b : ℕ) (sets : List ℕ) (k : ℕ) (groups later : List Edges) (group : Edges) → k < length sets → AreLookUps t b (take k sets) groups → IsLookUp t b (get_or sets k 0) group →

@@ -3,7 +3,7 @@ use Rattle.std.proofs.Common.{◌≡◌, ℕ, ◌+◌, ◌≤◌, Bool, true, fa
 use Rattle.std.specs.Prelude.{nat_lt, ◌||◌}
 use Rattle.std.specs.List.{sum_by}
 use Rattle.std.specs.Str.{bytes_eq}
-use Rattle.std.proofs.lemmas.Bool.{cases_eq, cases_lt, lt-ltb, ltb-true}
+use Rattle.std.proofs.lemmas.Bool.{cases_eq, cases_lt, lt-ltb, ltb-true, or_left, or_right}
 use Rattle.std.proofs.lemmas.List.Sums.{sum_by-append, sum_by-le-sum_by}
 use Rattle.span_core.specs.Lists.{Has, AreDistinct}
 use Rattle.span_core.specs.declared.edge.Edge.{Edge}
@@ -26,17 +26,10 @@ or_more : (a b c : Bool) → (b ≡ true → c ≡ true) → (a || b) ≡ true �
 or_more true b c h e = refl
 or_more false b c h e = h e
 
-or_here : (a b : Bool) → a ≡ true → (a || b) ≡ true
-or_here a b e = ap (λ x. x || b) e
-
-or_there : (a b : Bool) → b ≡ true → (a || b) ≡ true
-or_there true b e = refl
-or_there false b e = e
-
 lt_more : (k m n : ℕ) → m ≤ n → nat_lt k m ≡ true → nat_lt k n ≡ true
 lt_more k m n le e = lt-ltb k n (let l = ltb-true k m e in omega (arith, l, le))
 
-sum_has : {X : Type 0} (f : X → ℕ) (xs : List X) (x : X) → Has xs x → f x ≤ sum_by f xs
+pub sum_has : {X : Type 0} (f : X → ℕ) (xs : List X) (x : X) → Has xs x → f x ≤ sum_by f xs
 sum_has f [] x h = absurd h
 sum_has f (y ∷ xs) x (inl e) = let s = cons_sum f y xs in let same = ap f e in omega (arith, s, same)
 sum_has f (y ∷ xs) x (inr h) = let s = cons_sum f y xs in let r = sum_has f xs x h in omega (arith, s, r)
@@ -87,10 +80,10 @@ module _ (A : Automaton) where
     making_step [] is old new most lone = omega (arith, most)
     making_step (r ∷ []) is old new most lone = elim (cases_eq r.marks 0) as (λ _. new ≤ old + making_of A sets a set) [
       | inl none ↦ elim (cases_lt 1 (edges_to A sets a r.to)) as (λ _. new ≤ old + making_of A sets a set) [
-        | inl two ↦ counted (or_there (nat_lt 0 r.marks) _ (or_there (nat_lt 1 (length (edges A set a))) _ (lt-ltb 1 (edges_to A sets a r.to) two)))
+        | inl two ↦ counted (or_right (nat_lt 0 r.marks) _ (or_right (nat_lt 1 (length (edges A set a))) _ (lt-ltb 1 (edges_to A sets a r.to) two)))
         | inr few ↦ (let l = lone r refl none (omega (arith, few)) in omega (arith, l))
       ]
-      | inr some ↦ counted (or_here (nat_lt 0 r.marks) _ (lt-ltb 0 r.marks (grind arith)))
+      | inr some ↦ counted (or_left (nat_lt 0 r.marks) _ (lt-ltb 0 r.marks (grind arith)))
     ]
       where
         counted : is_making A sets a set r ≡ true → new ≤ old + making_of A sets a set
@@ -103,7 +96,7 @@ module _ (A : Automaton) where
         let f : Reach → ℕ = λ x. one_if (is_making A sets a set x) in
         let many = ap length is in
         let two : nat_lt 1 (length (edges A set a)) ≡ true = lt-ltb 1 (length (edges A set a)) (omega (arith, many)) in
-        let all = all_making (r ∷ q ∷ rs) (λ e. or_there (nat_lt 0 e.marks) _ (or_here (nat_lt 1 (length (edges A set a))) _ two)) in
+        let all = all_making (r ∷ q ∷ rs) (λ e. or_right (nat_lt 0 e.marks) _ (or_left (nat_lt 1 (length (edges A set a))) _ two)) in
         let same = ap (sum_by f) is in
         omega (arith, most, all, same)
 

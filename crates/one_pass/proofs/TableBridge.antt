@@ -1,20 +1,19 @@
 -- A table that notes what it was asked by the sets' numbers, as one that notes the sets.
 use Rattle.std.proofs.Common.{◌≡◌, ℕ, zero, suc, ◌+◌, ◌<◌, ◌⊎◌, Bool, true, false, List, [], ◌∷◌, ◌++◌, length, get_or, map, Some, inl, inr, refl, sym, ap, subst, arith, ◌∙◌, append_assoc}
-use Rattle.std.specs.Prelude.{if◌then◌else◌, nat_eq, slice_get, ◌||◌}
+use Rattle.std.specs.Prelude.{if◌then◌else◌, slice_get, ◌||◌}
 use Rattle.std.specs.List.{list_any, sum_by}
 use Rattle.std.specs.Str.{bytes_eq}
-use Rattle.std.proofs.lemmas.Bool.{eqb-true, eq-eqb}
 use Rattle.std.proofs.lemmas.List.{append-nil, get_or_append_left}
 use Rattle.span_core.specs.Lists.{Has, AreDistinct}
 use Rattle.span_core.proofs.HasLaws.{Has-append_left, Has-append_right, Has-append_cases, Has-map, Has-map_cases}
 use Rattle.span_core.specs.declared.edge.Edge.{Edge}
 use Rattle.marked_automaton.specs.Automaton.{Automaton}
-use Rattle.marked_automaton.proofs.Passing.{both_true, left_true, right_true}
-use Rattle.automaton_reading.specs.Reading.{Question, question_same, byte_read, rest_taken, ended, Reach, LookUp, once, look_up_edges, look_up_same}
+use Rattle.automaton_reading.specs.Reading.{Question, byte_read, rest_taken, ended, Reach, LookUp, once, look_up_edges, look_up_same}
 use Rattle.automaton_reading.proofs.Matching.{once_has}
-use Rattle.automaton_reading.proofs.MeasureLaws.{ask_itself, bytes_itself, look_up_itself, same_ask, same_bytes, same_look_up}
+use Rattle.automaton_reading.proofs.MeasureLaws.{bytes_itself, look_up_itself, same_bytes, same_look_up}
 use Rattle.one_pass.specs.Held.{AreNumbered, HasMade, IsSound, IsTooHeavy, look_up_of, targets}
 use Rattle.set_table.specs.Tabled.{Asking, Tabled, IsTabled, asked_first, asked_weight, asking_same, edge_named, fresh, once_asked, reached, set_at, was_asked, weight, with_set, with_sets}
+use Rattle.set_table.proofs.HeldLaws.{asking_told, asking_itself}
 use Rattle.one_pass.specs.Builds.{IsNew}
 use Rattle.one_pass.specs.Seen.{held, look_up_in}
 use Rattle.one_pass.proofs.Composing.{named_apart}
@@ -24,15 +23,6 @@ pub held_new : (A : Automaton) (limit : ℕ) → IsNew A (held (fresh A limit))
 held_new A limit = record { graph = refl; sets = refl; look_ups = refl }
 
 -- ---- what was asked, and look-ups
-
-same_asking : (r s : Asking) → asking_same r s ≡ true → r ≡ s
-same_asking r s e =
-    let sets = eqb-true r.set s.set (left_true (nat_eq r.set s.set) (question_same r.ask s.ask) e) in
-    let asks = same_ask r.ask s.ask (right_true (nat_eq r.set s.set) (question_same r.ask s.ask) e) in
-    ap (λ n. let w : Asking = record { set = n; ask = r.ask } in w) sets ∙ ap (λ a. let w : Asking = record { set = s.set; ask = a } in w) asks
-
-asking_itself : (r : Asking) → asking_same r r ≡ true
-asking_itself r = both_true (nat_eq r.set r.set) (question_same r.ask r.ask) (eq-eqb r.set r.set refl) (ask_itself r.ask)
 
 has_any : (rs : List Asking) (r : Asking) → Has rs r → list_any (asking_same r) rs ≡ true
 has_any [] r h = absurd h
@@ -48,7 +38,7 @@ any_has [] r e = absurd (cc)
 any_has (s ∷ rs) r e = by (asking_same r s) refl (any_has rs r) e
   where
     by : (b : Bool) → asking_same r s ≡ b → (list_any (asking_same r) rs ≡ true → Has rs r) → (b || list_any (asking_same r) rs) ≡ true → Has (s ∷ rs) r
-    by true at rest e = inl (sym (same_asking r s at))
+    by true at rest e = inl (sym (asking_told r s at))
     by false at rest e = inr (rest e)
 
 -- sets that are distinct tell their numbers

@@ -1,6 +1,6 @@
 -- One action after another.
 use Rattle.std.proofs.Common.{◌≡◌, ℕ, zero, suc, ◌+◌, ◌-◌, ◌<◌, ◌≤◌, List, [], ◌∷◌, ◌++◌, drop, length, Option, Some, IfSome, refl, sym, ap, ◌∙◌, subst, arith, get_or, slice_get}
-use Rattle.std.proofs.lemmas.Option.{slice_get_within}
+use Rattle.std.proofs.lemmas.Option.{slice_get_within, same_Some}
 use Rattle.node_arena.specs.Cells.{HasCell, Holds, NamedLink, hold, less_hold, new_link, with_hold}
 use Rattle.node_arena.specs.Release.{Released}
 use Rattle.output_graph.specs.declared.program.Action.{Action}
@@ -9,7 +9,6 @@ use Rattle.output_graph.specs.declared.program.Link.{Link}
 use Rattle.output_graph.specs.Forward.{Layer}
 use Rattle.output_graph.specs.Running.{Leads, Point, also_in, point}
 use Rattle.output_graph.specs.Sets.{cells_in}
-use Rattle.output_graph.proofs.SetLaws.{some_is}
 
 drop_head : (actions : List Action) (i : ℕ) (a : Action) → i < length actions → a ≡ get_or actions i a → drop i actions ≡ a ∷ drop (suc i) actions
 drop_head [] i a h e = absurd (omega arith)
@@ -34,7 +33,7 @@ cell_within sources k c e = let w = slice_get_within (cells_in sources) k c e in
 
 pub cell_read : (sources : Layer) (k c : ℕ) (p : ℕ × ℕ) → p ≡ get_or sources k p → slice_get (cells_in sources) k ≡ Some c → p.1 ≡ c
 cell_read [] k c p is e = cc
-cell_read (q ∷ sources) zero c p is e = ap (λ (x : ℕ × ℕ). x.1) is ∙ some_is q.1 c e
+cell_read (q ∷ sources) zero c p is e = ap (λ (x : ℕ × ℕ). x.1) is ∙ same_Some q.1 c e
 cell_read (q ∷ sources) (suc k) c p is e = cell_read sources k c p is e
 
 -- the action at i

@@ -8,12 +8,13 @@ use Rattle.node_arena.specs.Rows.{NamedRow, HasRow, IsThere}
 use Rattle.node_arena.specs.Closing.{Entries, head, with_head, first_heads}
 use Rattle.node_arena.specs.declared.row.Entry.{Entry}
 use Rattle.node_arena.specs.declared.row.Entry.TheVariants.{Nothing, Done, Row}
+use Rattle.node_arena.proofs.ClosingViews.{head_here, head_other}
 use Rattle.output_graph.specs.Grown.{IsOpen, AreGrown}
 use Rattle.output_graph.specs.Turn.{names}
 use Rattle.output_graph.specs.RowLists.{handed_entry, row_cell}
 use Rattle.output_graph.specs.Loop.{IsInTurn, IsEntryOfFrom, AreListed, first_entries, handed_to}
 use Rattle.output_graph.proofs.LoopLaws.{turn_begins, turn_takes, turn_puts, turn_ends}
-use Rattle.output_graph.proofs.Heads.{head_here, head_other, head_first, head_rest}
+use Rattle.output_graph.proofs.Heads.{head_first, head_rest}
 
 pub code_begins : (cells : List NamedLink) (accept : ℕ) → AreGrown cells → IsOpen cells accept →
     IsInTurn (λ w. Has (words cells accept) w) (length cells) cells (first_heads (Some accept)) []

@@ -3,6 +3,7 @@ use Rattle.std.proofs.Common.{◌≡◌, ℕ, zero, suc, ◌+◌, ◌<◌, ◌�
 use Rattle.std.proofs.lemmas.Bool.{cases_eq, cond-true, cond-false}
 use Rattle.std.proofs.Math.Seq.{take-length}
 use Rattle.std.proofs.lemmas.List.{length-map}
+use Rattle.std.proofs.lemmas.Option.{same_Some, none-some}
 use Rattle.span_core.specs.Lists.{Has, AreDistinct}
 use Rattle.span_core.proofs.HasLaws.{Has-map_cases}
 use Rattle.node_arena.specs.Words.{Word, words, words_from, words_also, block_of}
@@ -17,12 +18,6 @@ use Rattle.output_graph.specs.Sets.{paired, cells_in}
 use Rattle.output_graph.proofs.WordLemmas.{words_here, words_other, past_at_here, past_at_other}
 use Rattle.output_graph.proofs.LayerLaws.{IsLayer, layer_sound, cells_of, has_cell_of, cell_of_pair, pair_of_cell, set_of_cell}
 use Rattle.output_graph.proofs.GraphLaws.{same_pair}
-
-some_same : (a b : ℕ) → Some a ≡ Some b → a ≡ b
-some_same a b e = cc
-
-none_some : (a : ℕ) → None ≡ Some a → ⊥
-none_some a e = absurd (cc)
 
 -- before a source is stepped, the layer is one from which the next step begins
 pub now_is_layer : (g : Graph) (holds : Holds) → IsSound g holds → g.stepped ≡ 0 → IsLayer g.cells g.layer holds
@@ -49,7 +44,7 @@ now_is_layer g holds sound start =
       held = λ s c is. a.held.at_left c (left s c is);
       only = λ c some. elim (a.held.only c some) as (λ _. (s : ℕ) × (cell_of g.layer s ≡ Some c)) [
         | inl h ↦ set_of_cell g.layer c sound.sets (subst (λ (xs : List ℕ). Has xs c) all h)
-        | inr h ↦ absurd (none_some c (ap (λ (l : Layer). cell_of l h.0) (sym empty) ∙ h.1))
+        | inr h ↦ absurd (none-some c (ap (λ (l : Layer). cell_of l h.0) (sym empty) ∙ h.1))
       ];
       sets = sound.sets;
     }
@@ -135,7 +130,7 @@ module _ (copy : ℕ → ℕ) where
 
   no_from : (o : Option ℕ) → renamed_one copy o ≡ None → o ≡ None
   no_from None e = refl
-  no_from (Some d) e = absurd (none_some (copy d) (sym e))
+  no_from (Some d) e = absurd (none-some (copy d) (sym e))
 
   -- copies grow as the cells do
   pub grown_renamed : (cells : List NamedLink) → IsOneToOne copy cells → AreGrown cells → AreLinked (map (renamed copy) cells) → AreGrown (map (renamed copy) cells)
@@ -174,21 +169,21 @@ module _ (copy : ℕ → ℕ) where
       )
 
   cell_of_copied : (layer : Layer) (s c : ℕ) → cell_of layer s ≡ Some c → cell_of (map (copied_pair copy) layer) s ≡ Some (copy c)
-  cell_of_copied [] s c e = absurd (none_some c e)
+  cell_of_copied [] s c e = absurd (none-some c e)
   cell_of_copied (p ∷ layer) s c e = elim (cases_eq p.0 s) as (λ _. cell_of (map (copied_pair copy) (p ∷ layer)) s ≡ Some (copy c)) [
     | inl is ↦ cond-true (nat_eq p.0 s) (Some (copy p.1)) (cell_of (map (copied_pair copy) layer) s) (eq-eqb p.0 s is)
-        ∙ ap (λ k. Some (copy k)) (some_same p.1 c (sym (cond-true (nat_eq p.0 s) (Some p.1) (cell_of layer s) (eq-eqb p.0 s is)) ∙ e))
+        ∙ ap (λ k. Some (copy k)) (same_Some p.1 c (sym (cond-true (nat_eq p.0 s) (Some p.1) (cell_of layer s) (eq-eqb p.0 s is)) ∙ e))
     | inr ne ↦ cond-false (nat_eq p.0 s) (Some (copy p.1)) (cell_of (map (copied_pair copy) layer) s) (ne_eqb p.0 s ne)
         ∙ cell_of_copied layer s c (sym (cond-false (nat_eq p.0 s) (Some p.1) (cell_of layer s) (ne_eqb p.0 s ne)) ∙ e)
   ]
 
   copied_cell_of : (layer : Layer) (s q : ℕ) → cell_of (map (copied_pair copy) layer) s ≡ Some q → (c : ℕ) × (cell_of layer s ≡ Some c) × (copy c ≡ q)
-  copied_cell_of [] s q e = absurd (none_some q e)
+  copied_cell_of [] s q e = absurd (none-some q e)
   copied_cell_of (p ∷ layer) s q e = elim (cases_eq p.0 s) as (λ _. (c : ℕ) × (cell_of (p ∷ layer) s ≡ Some c) × (copy c ≡ q)) [
     | inl is ↦ (
       p.1,
       cond-true (nat_eq p.0 s) (Some p.1) (cell_of layer s) (eq-eqb p.0 s is),
-      some_same (copy p.1) q (sym (cond-true (nat_eq p.0 s) (Some (copy p.1)) (cell_of (map (copied_pair copy) layer) s) (eq-eqb p.0 s is)) ∙ e),
+      same_Some (copy p.1) q (sym (cond-true (nat_eq p.0 s) (Some (copy p.1)) (cell_of (map (copied_pair copy) layer) s) (eq-eqb p.0 s is)) ∙ e),
     )
     | inr ne ↦
         let r = copied_cell_of layer s q (sym (cond-false (nat_eq p.0 s) (Some (copy p.1)) (cell_of (map (copied_pair copy) layer) s) (ne_eqb p.0 s ne)) ∙ e) in

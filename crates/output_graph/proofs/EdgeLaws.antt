@@ -1,6 +1,7 @@
 -- The edges of a source, with what is held.
 use Rattle.std.proofs.Common.{◌≡◌, ◌⊎◌, ◌↔◌, ℕ, ◌+◌, ◌-◌, ◌<◌, ◌≤◌, List, [], ◌∷◌, length, Option, Some, None, IfSome, inl, inr, refl, sym, ap, ◌∙◌, subst, arith, nat_eq, eq-eqb, ne_eqb}
 use Rattle.std.proofs.lemmas.Bool.{cases_eq, cond-true, cond-false}
+use Rattle.std.proofs.lemmas.Option.{same_Some}
 use Rattle.span_core.specs.Lists.{Has, AreDistinct}
 use Rattle.node_arena.specs.Cells.{NamedLink, HasCell, Holds, hold, with_hold, less_hold, without, new_link}
 use Rattle.node_arena.specs.Release.{Released, no_more, one_more}
@@ -12,9 +13,6 @@ use Rattle.output_graph.specs.Sound.{AreHeldOnce, TellTargets, Among, Amid, CanE
 use Rattle.output_graph.proofs.ForwardLaws.{cell_of_set, cell_of_other}
 use Rattle.output_graph.proofs.SourceLaws.{source_ends, marked_edge, markless_edge, handed_edge, between_without}
 use Rattle.output_graph.proofs.HoldLaws.{held_by_edge, held_by_move, held_by_rest}
-
-some_same : (a b : ℕ) → Some a ≡ Some b → a ≡ b
-some_same a b e = cc
 
 pub some_then : (o : Option ℕ) (P : ℕ → Type 0) → ((b : ℕ) → o ≡ Some b → P b) → IfSome o P
 some_then None P f = tt
@@ -203,14 +201,6 @@ moved_ends at c to cells next holds none = record {
   hands_on = λ r e new. omega arith;
 }
 
--- a set that has a cell is there
-pub cell_there : (next : Layer) (s c : ℕ) → cell_of next s ≡ Some c → Has (sets_of next) s
-cell_there [] s c e = cc
-cell_there (p ∷ next) s c e = elim (cases_eq p.0 s) as (λ _. Has (sets_of (p ∷ next)) s) [
-  | inl same ↦ inl same
-  | inr ne ↦ inr (cell_there next s c (sym (cond-false (nat_eq p.0 s) (Some p.1) (cell_of next s) (ne_eqb p.0 s ne)) ∙ e))
-]
-
 -- the last edge joins the target's cell
 pub joined_ends : (at c marks to name : ℕ) (cells mid cells_after : List NamedLink) (next next_after : Layer) (holds holds_mid holds_after : Holds) → marks ≡ 0 →
     (HasCell cells name → ⊥) → mid ≡ new_link name at marks c (cell_of next to) ∷ cells → holds_mid ≡ with_hold (less_hold holds (cell_of next to)) name 1 →
@@ -231,7 +221,7 @@ joined_ends at c marks to name cells mid cells_after next next_after holds holds
           a.inside.not_after
           (λ s at_s. elim (cases_eq to s) as (λ _. ⊥) [
             | inl e ↦
-                let named : name ≡ c = some_same name c (sym (cell_of_set next to name) ∙ (ap (λ n. cell_of (set_cell next to name) n) e ∙ at_s)) in
+                let named : name ≡ c = same_Some name c (sym (cell_of_set next to name) ∙ (ap (λ n. cell_of (set_cell next to name) n) e ∙ at_s)) in
                 fresh (subst (λ n. HasCell cells n) (sym named) (a.inside.growing.left_there c (inl refl)))
             | inr ne ↦ a.inside.growing.next_apart s c (sym (cell_of_other next to s name ne) ∙ at_s) (inl refl)
           ])

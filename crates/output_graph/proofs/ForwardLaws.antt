@@ -1,6 +1,7 @@
 -- The step of one edge.
 use Rattle.std.proofs.Common.{◌≡◌, ◌⊎◌, ℕ, List, [], ◌∷◌, ◌++◌, map, Option, Some, None, inl, inr, refl, sym, ap, ◌∙◌, subst, if◌then◌else◌, nat_eq, eq-eqb, ne_eqb}
 use Rattle.std.proofs.lemmas.Bool.{cases_eq, cond-true, cond-false}
+use Rattle.std.proofs.lemmas.Option.{same_Some}
 use Rattle.span_core.specs.Lists.{Has, AreDistinct}
 use Rattle.node_arena.specs.Words.{Word, words, words_also}
 use Rattle.node_arena.specs.Cells.{NamedLink, HasCell, new_link}
@@ -34,9 +35,6 @@ cell_of_other (p ∷ layer) s r c ne = elim (cases_eq p.0 s) as (λ _. cell_of (
       ap (λ y. cell_of y r) is ∙ ap (λ (o : Option ℕ). if nat_eq p.0 r then Some p.1 else o) (cell_of_other layer s r c ne)
 ]
 
-some_same : (a b : ℕ) → Some a ≡ Some b → a ≡ b
-some_same a b e = cc
-
 module _ (sources left : List ℕ) (W : ℕ → List Word) (at : ℕ) (done : List Choice) (cells : List NamedLink) (next : Layer)
     (apart : AreSources sources W at) (so_far : Stepping sources left W at done cells next) where
   -- two choices of one word are one
@@ -58,7 +56,7 @@ module _ (sources left : List ℕ) (W : ℕ → List Word) (at : ℕ) (done : Li
     new_word w h = elim (word_cases link cells w (λ (none : link.from ≡ None). cc) h) as (λ _. Chosen W at (e ∷ done) e.to w) [
       | inl a ↦ let r = so_far.sound e.to a.0 w a.1 a.2 in (r.0, r.1, inr r.2, r.3, r.4, r.5)
       | inr b ↦
-          let is : e.cell ≡ b.0 = some_same e.cell b.0 b.2 in
+          let is : e.cell ≡ b.0 = same_Some e.cell b.0 b.2 in
           (e, b.1, inl refl, refl, subst (λ xs. Has xs b.1) (so_far.source_words e.cell is_left) (subst (λ n. Has (words cells n) b.1) (sym is) b.3), b.4)
     ]
 
@@ -93,7 +91,7 @@ module _ (sources left : List ℕ) (W : ℕ → List Word) (at : ℕ) (done : Li
     -- what the next layer has at s
     after_cases : (s c : ℕ) → cell_of next_after s ≡ Some c → ((e.to ≡ s) × (name ≡ c)) ⊎ ((e.to ≡ s → ⊥) × (cell_of next s ≡ Some c))
     after_cases s c is = elim (cases_eq e.to s) as (λ _. ((e.to ≡ s) × (name ≡ c)) ⊎ ((e.to ≡ s → ⊥) × (cell_of next s ≡ Some c))) [
-      | inl p ↦ inl (p, some_same name c (sym (cell_of_set next e.to name) ∙ (ap (λ n. cell_of next_after n) p ∙ is)))
+      | inl p ↦ inl (p, same_Some name c (sym (cell_of_set next e.to name) ∙ (ap (λ n. cell_of next_after n) p ∙ is)))
       | inr ne ↦ inr (ne, sym (cell_of_other next e.to s name ne) ∙ is)
     ]
 

@@ -17,15 +17,12 @@ use Rattle.output_graph.proofs.LayerLaws.{layer_sound, next_is_layer}
 use Rattle.output_graph.proofs.RunLaws.{made_none, source_leads}
 use Rattle.output_graph.proofs.SteppedLaws.{can_step, is_cost, is_stepped, sound_after}
 use Rattle.output_graph.proofs.ProgramLaws.{edges_drop, edges_take, placed_drop, placed_take, targets_split}
+use Rattle.output_graph.proofs.PlanLaws.{nothing}
 
 pub source_there : (sources : Layer) (k : ℕ) → k < length sources → (p : ℕ × ℕ) × (slice_get sources k ≡ Some p)
 source_there [] k h = absurd (omega arith)
 source_there (p ∷ sources) zero h = (p, refl)
 source_there (p ∷ sources) (suc k) h = source_there sources k (omega arith)
-
-nothing_left : (moves : List Move) → edges_in moves ≡ [] → moves ≡ []
-nothing_left [] e = refl
-nothing_left (m ∷ moves) e = absurd (let l = ap length e in omega arith)
 
 spent_later : (edges old new before after k : ℕ) → IsSpent edges old new before after → IsSpent edges old new (before + k + 1) (after + (k + 1))
 spent_later edges old new before after k s =
@@ -62,7 +59,7 @@ module _ (sources : Layer) (first : Graph) (at : ℕ) (groups : List Edges) (bef
       (subst (λ (n : ℕ). AreStepped first at groups (graph_of cells sources next n going.last) before (now + n)) all (going.onward (graph_of cells sources next k going.last) (now + k) (refl, refl)))
       (subst (λ (n : ℕ). IsSound (graph_of cells sources next n going.last) holds) all going.sound)
       (subst (λ (p : Places). AreHeld sources made p.held next) going.places going.held)
-      (ap (λ (ms : List Move). targets_from (sets_of next) ms) (sym (nothing_left left going.counted)) ∙ going.targets)
+      (ap (λ (ms : List Move). targets_from (sets_of next) ms) (sym (nothing left going.counted)) ∙ going.targets)
 
   pub all_lead : (counts : List ℕ) (left : List Move) (k : ℕ) (s : Places) (made : List ℕ) (cells : List NamedLink) (next : Layer) (holds : Holds) (now : ℕ) →
       IsGoing sources first at groups before sets fin every counts left k s made cells next holds now → Leads sources at Then (all_actions k s counts left) (point made cells holds now)

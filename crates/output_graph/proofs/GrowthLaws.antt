@@ -1,15 +1,13 @@
 -- The cells stay well grown in a step.
 use Rattle.std.proofs.Common.{◌≡◌, ◌⊎◌, ℕ, ◌<◌, ◌≤◌, List, [], ◌∷◌, Option, Some, None, inl, inr, refl, sym, ap, ◌∙◌, subst, arith}
 use Rattle.std.proofs.lemmas.Bool.{cases_eq}
+use Rattle.std.proofs.lemmas.Option.{same_Some}
 use Rattle.span_core.specs.Lists.{Has}
 use Rattle.node_arena.specs.Cells.{NamedLink, HasCell, new_link}
 use Rattle.output_graph.specs.Grown.{past, past_at, IsOpen, Closes, Continues, AreGrown}
 use Rattle.output_graph.specs.Forward.{Layer, cell_of, set_cell, Growing, ComesNext, LeavesOut}
 use Rattle.output_graph.proofs.WordLemmas.{past_at_other, past_at_le, past_has, other_name}
 use Rattle.output_graph.proofs.ForwardLaws.{cell_of_set, cell_of_other}
-
-some_same : (a b : ℕ) → Some a ≡ Some b → a ≡ b
-some_same a b e = cc
 
 -- a cell that is closed is there
 pub closed_there : (cells : List NamedLink) (d : NamedLink) (c : ℕ) → AreGrown cells → Has cells d → Closes d c → HasCell cells c
@@ -45,7 +43,7 @@ module _ (left after : List ℕ) (at : ℕ) (cells : List NamedLink) (next : Lay
   next_after = set_cell next to name
 
   from_is : (b : ℕ) → link.from ≡ Some b → c ≡ b
-  from_is b e = some_same c b e
+  from_is b e = same_Some c b e
 
   link_continues : Continues cells link
   link_continues = record {
@@ -70,7 +68,7 @@ module _ (left after : List ℕ) (at : ℕ) (cells : List NamedLink) (next : Lay
 
   after_cases : (s b : ℕ) → cell_of next_after s ≡ Some b → ((to ≡ s) × (name ≡ b)) ⊎ ((to ≡ s → ⊥) × (cell_of next s ≡ Some b))
   after_cases s b is = elim (cases_eq to s) as (λ _. ((to ≡ s) × (name ≡ b)) ⊎ ((to ≡ s → ⊥) × (cell_of next s ≡ Some b))) [
-    | inl p ↦ inl (p, some_same name b (sym (cell_of_set next to name) ∙ (ap (λ n. cell_of next_after n) p ∙ is)))
+    | inl p ↦ inl (p, same_Some name b (sym (cell_of_set next to name) ∙ (ap (λ n. cell_of next_after n) p ∙ is)))
     | inr ne ↦ inr (ne, sym (cell_of_other next to s name ne) ∙ is)
   ]
 
@@ -113,7 +111,7 @@ module _ (left after : List ℕ) (at : ℕ) (cells : List NamedLink) (next : Lay
     (c to : ℕ) (is_left : Has left c) (gone : Has after c → ⊥) (rest : (b : ℕ) → Has after b → Has left b) (none : cell_of next to ≡ None) where
   moved_cases : (s b : ℕ) → cell_of (set_cell next to c) s ≡ Some b → ((to ≡ s) × (c ≡ b)) ⊎ ((to ≡ s → ⊥) × (cell_of next s ≡ Some b))
   moved_cases s b is = elim (cases_eq to s) as (λ _. ((to ≡ s) × (c ≡ b)) ⊎ ((to ≡ s → ⊥) × (cell_of next s ≡ Some b))) [
-    | inl p ↦ inl (p, some_same c b (sym (cell_of_set next to c) ∙ (ap (λ n. cell_of (set_cell next to c) n) p ∙ is)))
+    | inl p ↦ inl (p, same_Some c b (sym (cell_of_set next to c) ∙ (ap (λ n. cell_of (set_cell next to c) n) p ∙ is)))
     | inr ne ↦ inr (ne, sym (cell_of_other next to s c ne) ∙ is)
   ]
 

@@ -1,7 +1,9 @@
 -- The registers of places, beside the cells of the next layer.
-use Rattle.std.proofs.Common.{◌≡◌, ℕ, zero, suc, ◌+◌, ◌<◌, ◌≤◌, List, [], ◌∷◌, ◌++◌, set, take, drop, length, Some, None, IfSome, inl, inr, refl, sym, ap, ◌∙◌, subst, arith, nat_eq, eq-eqb, ne_eqb, get_or, slice_get, add-one}
+use Rattle.std.proofs.Common.{◌≡◌, ℕ, zero, suc, ◌+◌, ◌<◌, ◌≤◌, List, [], ◌∷◌, ◌++◌, set, take, drop, length, Some, None, IfSome, inl, inr, refl, sym, ap, ◌∙◌, subst, arith, nat_eq, eq-eqb, ne_eqb, slice_get, add-one}
 use Rattle.std.proofs.lemmas.Bool.{cases_eq, cond-true, cond-false}
+use Rattle.std.proofs.lemmas.Option.{same_Some}
 use Rattle.span_core.specs.Lists.{Has}
+use Rattle.span_core.proofs.ListLaws.{get_left}
 use Rattle.output_graph.specs.declared.program.Register.{Register}
 use Rattle.output_graph.specs.declared.program.Register.TheVariants.{Kept, Made}
 use Rattle.output_graph.specs.Forward.{Layer, cell_of, set_cell}
@@ -10,7 +12,6 @@ use Rattle.output_graph.specs.Plans.{AreInPlace, IsInPlace, put}
 use Rattle.output_graph.specs.Programs.{place_in}
 use Rattle.output_graph.specs.Running.{AreHeld, IsThere, also_in, cell_in}
 use Rattle.output_graph.specs.Sets.{cells_in}
-use Rattle.output_graph.proofs.SetLaws.{get_left, some_is}
 
 -- a register keeps its cell where one more is made
 pub there_more : (sources : Layer) (made : List ℕ) (name : ℕ) (r : Register) (c : ℕ) → cell_in sources made r ≡ Some c → cell_in sources (made ++ name ∷ []) r ≡ Some c
@@ -102,7 +103,7 @@ held_once sources made (r ∷ held) [] ys a b e = absurd a
 held_once sources made (r ∷ held) (x ∷ xs) [] a b e = absurd b
 held_once sources made (r ∷ held) (x ∷ xs) (y ∷ ys) a b e =
     let set : x.0 ≡ y.0 = first x.0 y.0 (sets_of xs) (sets_of ys) e in
-    let cell : x.1 ≡ y.1 = some_is x.1 y.1 (sym a.0 ∙ b.0) in
+    let cell : x.1 ≡ y.1 = same_Some x.1 y.1 (sym a.0 ∙ b.0) in
     let rest : xs ≡ ys = held_once sources made held xs ys a.1 b.1 (later x.0 y.0 (sets_of xs) (sets_of ys) e) in
     λ i. (set i, cell i) ∷ rest i
   where
@@ -114,7 +115,7 @@ held_once sources made (r ∷ held) (x ∷ xs) (y ∷ ys) a b e =
 
 pub cell_there : (sources : Layer) (k : ℕ) (p : ℕ × ℕ) → slice_get sources k ≡ Some p → slice_get (cells_in sources) k ≡ Some p.1
 cell_there [] k p e = cc
-cell_there (q ∷ sources) zero p e = ap (λ (x : ℕ × ℕ). Some x.1) (some_is q p e)
+cell_there (q ∷ sources) zero p e = ap (λ (x : ℕ × ℕ). Some x.1) (same_Some q p e)
 cell_there (q ∷ sources) (suc k) p e = cell_there sources k p e
 
 -- ---- one place after another
@@ -122,7 +123,7 @@ cell_there (q ∷ sources) (suc k) p e = cell_there sources k p e
 pub held_there : (sources : Layer) (made : List ℕ) (held : List Register) (next : Layer) (k : ℕ) (r : Register) → AreHeld sources made held next → slice_get held k ≡ Some r → IsThere sources made r
 held_there sources made [] next k r are e = cc
 held_there sources made (x ∷ held) [] k r are e = absurd are
-held_there sources made (x ∷ held) (p ∷ next) zero r are e = (p.1, ap (λ (y : Register). cell_in sources made y) (sym (some_is x r e)) ∙ are.0)
+held_there sources made (x ∷ held) (p ∷ next) zero r are e = (p.1, ap (λ (y : Register). cell_in sources made y) (sym (same_Some x r e)) ∙ are.0)
 held_there sources made (x ∷ held) (p ∷ next) (suc k) r are e = held_there sources made held next k r are.1 e
 
 pub held_snoc : (sources : Layer) (made : List ℕ) (held : List Register) (next : Layer) (r : Register) (p : ℕ × ℕ) → AreHeld sources made held next → cell_in sources made r ≡ Some p.1 →
@@ -138,14 +139,14 @@ sets_snoc (q ∷ next) p = ap (λ (ss : List ℕ). q.0 ∷ ss) (sets_snoc next p
 
 pub take_next : {A : Type 0} (xs : List A) (k : ℕ) (x : A) → slice_get xs k ≡ Some x → take (suc k) xs ≡ take k xs ++ x ∷ []
 take_next [] k x e = cc
-take_next {A = A} (y ∷ xs) zero x e = ap (λ (z : A). z ∷ []) (some_is y x e)
+take_next {A = A} (y ∷ xs) zero x e = ap (λ (z : A). z ∷ []) (same_Some y x e)
 take_next {A = A} (y ∷ xs) (suc k) x e = ap (λ (ys : List A). y ∷ ys) (take_next xs k x e)
 
 -- ---- in place
 
 pub in_place_at : (j k n : ℕ) (held : List Register) (r : Register) → AreInPlace j held → slice_get held k ≡ Some r → n ≡ j + k → IsInPlace n r
 in_place_at j k n [] r are e is = cc
-in_place_at j zero n (x ∷ held) r are e is = subst (λ (m : ℕ). IsInPlace m r) (omega arith) (subst (λ (y : Register). IsInPlace j y) (some_is x r e) are.0)
+in_place_at j zero n (x ∷ held) r are e is = subst (λ (m : ℕ). IsInPlace m r) (omega arith) (subst (λ (y : Register). IsInPlace j y) (same_Some x r e) are.0)
 in_place_at j (suc k) n (x ∷ held) r are e is = in_place_at (suc j) k n held r are.1 e (omega arith)
 
 pub write_take : (xs : Layer) (k : ℕ) (p : ℕ × ℕ) → k < length xs → take (suc k) (set xs k p) ≡ take k xs ++ p ∷ []
@@ -180,11 +181,6 @@ drop_there xs ys k p e is = sym (first ys k) ∙ (ap (λ (l : Layer). slice_get 
     first [] (suc n) = refl
     first (x ∷ l) zero = refl
     first (x ∷ l) (suc n) = first l n
-
-pub read_there : {A : Type 0} (xs : List A) (k : ℕ) (d : A) → k < length xs → slice_get xs k ≡ Some (get_or xs k d)
-read_there [] k d h = absurd (omega arith)
-read_there (x ∷ xs) zero d h = refl
-read_there (x ∷ xs) (suc k) d h = read_there xs k d (omega arith)
 
 pub take_length : {A : Type 0} (xs : List A) (k : ℕ) → k ≤ length xs → length (take k xs) ≡ k
 take_length [] zero h = refl

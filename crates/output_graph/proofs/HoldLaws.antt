@@ -1,23 +1,14 @@
 -- What is held, through edges and the end of a source.
 use Rattle.std.proofs.Common.{◌≡◌, ◌⊎◌, ℕ, ◌-◌, ◌<◌, List, ◌∷◌, Option, Some, None, inl, inr, refl, sym, ap, ◌∙◌, subst, arith}
 use Rattle.std.proofs.lemmas.Bool.{cases_eq}
+use Rattle.std.proofs.lemmas.Option.{same_Some}
 use Rattle.span_core.specs.Lists.{Has}
 use Rattle.node_arena.specs.Cells.{NamedLink, HasCell, Holds, hold, with_hold, less_hold}
+use Rattle.node_arena.proofs.Counts.{names_or_not}
+use Rattle.node_arena.proofs.Holds.{hold_here, hold_other}
 use Rattle.output_graph.specs.Forward.{Layer, cell_of, set_cell, Growing}
 use Rattle.output_graph.specs.Sound.{AreHeldOnce}
-use Rattle.output_graph.proofs.Holds.{hold_here, hold_other}
 use Rattle.output_graph.proofs.ForwardLaws.{cell_of_set, cell_of_other}
-
-some_same : (a b : ℕ) → Some a ≡ Some b → a ≡ b
-some_same a b e = cc
-
--- whether it is that cell
-same_cell : (o : Option ℕ) (b : ℕ) → (o ≡ Some b) ⊎ (o ≡ Some b → ⊥)
-same_cell None b = inr (λ e. cc)
-same_cell (Some c) b = elim (cases_eq c b) as (λ _. (Some c ≡ Some b) ⊎ (Some c ≡ Some b → ⊥)) [
-  | inl e ↦ inl (ap Some e)
-  | inr ne ↦ inr (λ e. ne (some_same c b e))
-]
 
 less_other : (holds : Holds) (o : Option ℕ) (b : ℕ) → (o ≡ Some b → ⊥) → hold (less_hold holds o) b ≡ hold holds b
 less_other holds None b ne = refl
@@ -25,7 +16,7 @@ less_other holds (Some c) b ne = hold_other holds c (hold holds c - 1) b (λ e. 
 
 less_here : (holds : Holds) (o : Option ℕ) (b : ℕ) → o ≡ Some b → hold (less_hold holds o) b ≡ hold holds b - 1
 less_here holds None b e = cc
-less_here holds (Some c) b e = let same = some_same c b e in subst (λ n. hold (less_hold holds (Some c)) n ≡ hold holds n - 1) same (hold_here holds c (hold holds c - 1))
+less_here holds (Some c) b e = let same = same_Some c b e in subst (λ n. hold (less_hold holds (Some c)) n ≡ hold holds n - 1) same (hold_here holds c (hold holds c - 1))
 
 -- an edge's cell takes the hold of `also`
 module _ (left : List ℕ) (at : ℕ) (cells : List NamedLink) (next : Layer) (g : Growing left at cells next) (holds : Holds) (h : AreHeldOnce holds left next)
@@ -41,7 +32,7 @@ module _ (left : List ℕ) (at : ℕ) (cells : List NamedLink) (next : Layer) (g
     at_left = λ b hb. by_other b (λ e. fresh (subst (λ n. HasCell cells n) e (g.left_there b hb))) (λ e. g.next_apart to b e hb) ∙ h.at_left b hb;
     at_next = λ s b at_s. elim (cases_eq to s) as (λ _. hold after b ≡ 1) [
       | inl e ↦
-          let named : name ≡ b = some_same name b (sym (cell_of_set next to name) ∙ (ap (λ n. cell_of (set_cell next to name) n) e ∙ at_s)) in
+          let named : name ≡ b = same_Some name b (sym (cell_of_set next to name) ∙ (ap (λ n. cell_of (set_cell next to name) n) e ∙ at_s)) in
           subst (λ n. hold after n ≡ 1) named (hold_here (less_hold holds (cell_of next to)) name 1)
       | inr ne ↦
           let old : cell_of next s ≡ Some b = sym (cell_of_other next to s name ne) ∙ at_s in
@@ -49,7 +40,7 @@ module _ (left : List ℕ) (at : ℕ) (cells : List NamedLink) (next : Layer) (g
     ];
     only = λ b has. elim (cases_eq b name) as (λ _. Has left b ⊎ ((s : ℕ) × (cell_of (set_cell next to name) s ≡ Some b))) [
       | inl e ↦ inr (to, cell_of_set next to name ∙ ap Some (sym e))
-      | inr ne ↦ elim (same_cell (cell_of next to) b) as (λ _. Has left b ⊎ ((s : ℕ) × (cell_of (set_cell next to name) s ≡ Some b))) [
+      | inr ne ↦ elim (names_or_not (cell_of next to) b) as (λ _. Has left b ⊎ ((s : ℕ) × (cell_of (set_cell next to name) s ≡ Some b))) [
         | inl also ↦
             let one = h.at_next to b also in
             let gone = hold_other (less_hold holds (cell_of next to)) name 1 b ne in
@@ -73,7 +64,7 @@ held_by_move left c to next holds h none = record {
   at_left = λ b hb. h.at_left b (inr hb);
   at_next = λ s b at_s. elim (cases_eq to s) as (λ _. hold holds b ≡ 1) [
     | inl e ↦
-        let same : c ≡ b = some_same c b (sym (cell_of_set next to c) ∙ (ap (λ n. cell_of (set_cell next to c) n) e ∙ at_s)) in
+        let same : c ≡ b = same_Some c b (sym (cell_of_set next to c) ∙ (ap (λ n. cell_of (set_cell next to c) n) e ∙ at_s)) in
         subst (λ n. hold holds n ≡ 1) same (h.at_left c (inl refl))
     | inr ne ↦ h.at_next s b (sym (cell_of_other next to s c ne) ∙ at_s)
   ];

@@ -1,6 +1,7 @@
 -- A layer from which the next step begins.
 use Rattle.std.proofs.Common.{◌≡◌, ℕ, zero, suc, ◌<◌, ◌≤◌, Bool, true, false, List, [], ◌∷◌, ◌++◌, map, drop, length, Option, Some, None, inl, inr, refl, sym, ap, ◌∙◌, subst, arith, if◌then◌else◌, nat_eq, eq-eqb, ne_eqb}
 use Rattle.std.proofs.lemmas.Bool.{cases_eq, cond-true, cond-false}
+use Rattle.std.proofs.lemmas.Option.{same_Some}
 use Rattle.span_core.specs.Lists.{Has, AreDistinct}
 use Rattle.node_arena.specs.Words.{Word, words, words_from, words_also, block_of}
 use Rattle.node_arena.specs.Cells.{NamedLink, HasCell, Holds, hold, with_hold, root_link}
@@ -9,13 +10,10 @@ use Rattle.output_graph.specs.Forward.{Layer, cell_of, AreSources, SetsAreApart}
 use Rattle.output_graph.specs.Graph.{Graph, sets_of}
 use Rattle.output_graph.specs.Sound.{IsReady, IsPlaceOf, IsSound, left_cells}
 use Rattle.span_core.proofs.HasLaws.{Has-append_cases, Has-map_cases}
+use Rattle.node_arena.proofs.Holds.{hold_here, hold_other}
 use Rattle.output_graph.proofs.WordLemmas.{words_here, words_other, past_more, past_marked}
-use Rattle.output_graph.proofs.Holds.{hold_here, hold_other}
 use Rattle.output_graph.proofs.StepLaws.{sets_are_apart}
 use Rattle.output_graph.proofs.SourceLaws.{between_begins}
-
-some_same : (a b : ℕ) → Some a ≡ Some b → a ≡ b
-some_same a b e = cc
 
 abbrev pub cells_of : Layer → List ℕ
 cells_of layer = map (λ (p : ℕ × ℕ). p.1) layer
@@ -30,7 +28,7 @@ has_set_of (p ∷ layer) s c e = elim (cases_eq p.0 s) as (λ _. Has (sets_of (p
 pub has_cell_of : (layer : Layer) (s c : ℕ) → cell_of layer s ≡ Some c → Has (cells_of layer) c
 has_cell_of [] s c e = cc
 has_cell_of (p ∷ layer) s c e = elim (cases_eq p.0 s) as (λ _. Has (cells_of (p ∷ layer)) c) [
-  | inl is ↦ inl (some_same p.1 c (sym (cond-true (nat_eq p.0 s) (Some p.1) (cell_of layer s) (eq-eqb p.0 s is)) ∙ e))
+  | inl is ↦ inl (same_Some p.1 c (sym (cond-true (nat_eq p.0 s) (Some p.1) (cell_of layer s) (eq-eqb p.0 s is)) ∙ e))
   | inr ne ↦ inr (has_cell_of layer s c (sym (cond-false (nat_eq p.0 s) (Some p.1) (cell_of layer s) (ne_eqb p.0 s ne)) ∙ e))
 ]
 
@@ -48,7 +46,7 @@ pub pair_of_cell : (layer : Layer) (s c : ℕ) → cell_of layer s ≡ Some c �
 pair_of_cell [] s c e = cc
 pair_of_cell (p ∷ layer) s c e = elim (cases_eq p.0 s) as (λ _. Has (p ∷ layer) (s, c)) [
   | inl is ↦
-      let cell : p.1 ≡ c = some_same p.1 c (sym (cond-true (nat_eq p.0 s) (Some p.1) (cell_of layer s) (eq-eqb p.0 s is)) ∙ e) in
+      let cell : p.1 ≡ c = same_Some p.1 c (sym (cond-true (nat_eq p.0 s) (Some p.1) (cell_of layer s) (eq-eqb p.0 s is)) ∙ e) in
       inl (λ i. (is i, cell i))
   | inr ne ↦ inr (pair_of_cell layer s c (sym (cond-false (nat_eq p.0 s) (Some p.1) (cell_of layer s) (ne_eqb p.0 s ne)) ∙ e))
 ]
@@ -129,7 +127,7 @@ layer_sources cells layer holds i at le = record {
       let r = set_of_cell layer c i.sets hc in
       let q = set_of_cell layer b i.sets hb in
       let same : r.0 ≡ q.0 = i.apart r.0 q.0 c b u r.1 q.1 hu hv in
-      some_same c b (sym r.1 ∙ (ap (λ n. cell_of layer n) same ∙ q.1));
+      same_Some c b (sym r.1 ∙ (ap (λ n. cell_of layer n) same ∙ q.1));
 }
 
 pub layer_ready : (cells : List NamedLink) (layer : Layer) (holds : Holds) → IsLayer cells layer holds → (at : ℕ) → past cells ≤ at → IsReady at cells (cells_of layer) [] holds
@@ -220,7 +218,7 @@ root_grown root = (
 
 only_one : (set root s c : ℕ) → cell_of ((set, root) ∷ []) s ≡ Some c → (set ≡ s) × (root ≡ c)
 only_one set root s c e = elim (cases_eq set s) as (λ _. (set ≡ s) × (root ≡ c)) [
-  | inl is ↦ (is, some_same root c (sym (cond-true (nat_eq set s) (Some root) None (eq-eqb set s is)) ∙ e))
+  | inl is ↦ (is, same_Some root c (sym (cond-true (nat_eq set s) (Some root) None (eq-eqb set s is)) ∙ e))
   | inr ne ↦ (let clash : None ≡ Some c = sym (cond-false (nat_eq set s) (Some root) None (ne_eqb set s ne)) ∙ e in cc)
 ]
 

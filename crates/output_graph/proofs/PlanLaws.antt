@@ -1,5 +1,5 @@
 -- Plans: one edge more, and one source more.
-use Rattle.std.proofs.Common.{◌≡◌, ℕ, zero, suc, ◌+◌, ◌<◌, ◌≤◌, Bool, true, false, IsTrue, ◌||◌, List, [], ◌∷◌, ◌++◌, take, drop, length, None, refl, sym, ap, ◌∙◌, subst, arith, set, slice_get, append_assoc, append-nil, length-append}
+use Rattle.std.proofs.Common.{◌≡◌, ℕ, zero, suc, ◌+◌, ◌<◌, ◌≤◌, Bool, true, false, IsTrue, ◌||◌, List, [], ◌∷◌, ◌++◌, take, drop, length, refl, sym, ap, ◌∙◌, subst, arith, set, append_assoc, append-nil, length-append}
 use Rattle.std.proofs.lemmas.List.{length-map}
 use Rattle.span_core.specs.declared.edge.Edge.{Edge}
 use Rattle.output_graph.specs.declared.program.Action.{Action}
@@ -23,11 +23,6 @@ pub put_behind : (held : List Register) (k : ℕ) (r : Register) → length held
 put_behind [] k r h = refl
 put_behind (x ∷ held) zero r h = absurd (omega arith)
 put_behind (x ∷ held) (suc k) r h = ap (λ (xs : List Register). x ∷ xs) (put_behind held k r (omega arith))
-
-pub none_there : (held : List Register) (k : ℕ) → length held ≤ k → slice_get held k ≡ None
-none_there [] k h = refl
-none_there (x ∷ held) zero h = absurd (omega arith)
-none_there (x ∷ held) (suc k) h = none_there held k (omega arith)
 
 -- ---- moves, from the first
 
@@ -67,7 +62,7 @@ or_no false b e = sym e
 
 -- ---- counts, from the first
 
-nothing : (moves : List Move) → edges_in moves ≡ [] → moves ≡ []
+pub nothing : (moves : List Move) → edges_in moves ≡ [] → moves ≡ []
 nothing [] e = refl
 nothing (m ∷ moves) e = absurd (let l = ap length e in omega arith)
 

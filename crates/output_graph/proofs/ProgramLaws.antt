@@ -3,6 +3,7 @@ use Rattle.std.proofs.Common.{◌≡◌, ℕ, zero, suc, ◌<◌, ◌≤◌, Lis
 use Rattle.std.specs.List.{flat_map}
 use Rattle.std.proofs.lemmas.List.{take-append-drop}
 use Rattle.std.proofs.lemmas.Bool.{cases_eq, cond-true, cond-false}
+use Rattle.std.proofs.lemmas.Option.{same_Some}
 use Rattle.span_core.specs.Lists.{Has}
 use Rattle.output_graph.specs.declared.program.Move.{Move}
 use Rattle.output_graph.specs.Forward.{Layer, set_cell}
@@ -10,7 +11,7 @@ use Rattle.output_graph.specs.Source.{Edges, Descend}
 use Rattle.output_graph.specs.Graph.{sets_of}
 use Rattle.output_graph.specs.Sets.{HasNot}
 use Rattle.output_graph.specs.Programs.{AllDescend, ArePlaced, AreCounted, cut, edge_in, edges_in, place_in, targets_from, with_target}
-use Rattle.output_graph.proofs.SetLaws.{AreSingle, not_first, not_later, single_tail, some_is, take_all}
+use Rattle.output_graph.proofs.SetLaws.{AreSingle, not_first, not_later, single_tail, take_all}
 
 -- ---- the place of a set among pairs
 
@@ -27,7 +28,7 @@ placed_there (p ∷ pairs) s k is h = elim (cases_eq p.0 s) as (λ _. (c : ℕ) 
 ]
 
 not_here : (q : ℕ × ℕ) (pairs : Layer) (s : ℕ) → (q.0 ≡ s → ⊥) → HasNot pairs s → HasNot (q ∷ pairs) s
-not_here q pairs s ne rest zero p e is = ne (ap (λ (x : ℕ × ℕ). x.0) (some_is q p e) ∙ is)
+not_here q pairs s ne rest zero p e is = ne (ap (λ (x : ℕ × ℕ). x.0) (same_Some q p e) ∙ is)
 not_here q pairs s ne rest (suc j) p e is = rest j p e is
 
 pub placed_none : (pairs : Layer) (s k : ℕ) → k ≡ place_in (sets_of pairs) s → length pairs ≤ k → HasNot pairs s
@@ -43,7 +44,7 @@ placed_none (q ∷ pairs) s k is h = elim (cases_eq q.0 s) as (λ _. HasNot (q �
 pub place_found : (pairs : Layer) (k s c : ℕ) → AreSingle pairs → slice_get pairs k ≡ Some (s, c) → k ≡ place_in (sets_of pairs) s
 place_found [] k s c one e = cc
 place_found (p ∷ pairs) zero s c one e =
-    let is : p ≡ (s, c) = some_is p (s, c) e in
+    let is : p ≡ (s, c) = same_Some p (s, c) e in
     sym (cond-true (nat_eq p.0 s) 0 (suc (place_in (sets_of pairs) s)) (eq-eqb p.0 s (ap (λ (x : ℕ × ℕ). x.0) is)))
 place_found (p ∷ pairs) (suc k) s c one e = elim (cases_eq p.0 s) as (λ _. suc k ≡ place_in (sets_of (p ∷ pairs)) s) [
   | inl is ↦ (let r : zero ≡ suc k = one zero (suc k) p (s, c) refl e is in absurd (omega arith))

@@ -1,41 +1,13 @@
 -- A cell that nothing names is given back: the words of the others stay, and they stay well grown.
-use Rattle.std.proofs.Common.{◌≡◌, ℕ, ◌+◌, ◌≤◌, max, Bool, true, false, List, [], ◌∷◌, ◌++◌, map, Option, Some, None, inl, inr, refl, sym, ap, ap₂, ◌∙◌, subst, arith, if◌then◌else◌, nat_eq, eq-eqb, ne_eqb}
-use Rattle.std.proofs.lemmas.Bool.{cases_eq, cond-true, cond-false}
-use Rattle.span_core.specs.Lists.{Has}
+use Rattle.std.proofs.Common.{◌≡◌, ℕ, ◌+◌, ◌≤◌, max, Bool, true, false, List, [], ◌∷◌, ◌++◌, map, Option, Some, None, inl, inr, refl, sym, ap, ap₂, ◌∙◌, subst, arith, if◌then◌else◌, nat_eq}
+use Rattle.std.proofs.lemmas.Bool.{cases_eq}
 use Rattle.node_arena.specs.Words.{Word, words, words_from, words_also, block_of}
-use Rattle.node_arena.specs.Cells.{NamedLink, HasCell, without, IsUnnamed}
+use Rattle.node_arena.specs.Cells.{NamedLink, without, IsUnnamed}
+use Rattle.node_arena.proofs.Without.{without_first, without_later, without_less, without_keeps}
 use Rattle.output_graph.specs.Grown.{past, past_at, IsOpen, Continues, AreGrown}
 use Rattle.output_graph.proofs.WordLemmas.{words_here, words_other, past_more, past_at_other, past_at_here}
 
 module _ (k : ℕ) where
-  without_here : (l : NamedLink) (older : List NamedLink) → l.name ≡ k → without k (l ∷ older) ≡ older
-  without_here l older e = cond-true (nat_eq l.name k) older (l ∷ without k older) (eq-eqb l.name k e)
-
-  without_other : (l : NamedLink) (older : List NamedLink) → (l.name ≡ k → ⊥) → without k (l ∷ older) ≡ l ∷ without k older
-  without_other l older ne = cond-false (nat_eq l.name k) older (l ∷ without k older) (ne_eqb l.name k ne)
-
-  pub without_less : (cells : List NamedLink) (l : NamedLink) → Has (without k cells) l → Has cells l
-  without_less [] l h = h
-  without_less (m ∷ older) l h = elim (cases_eq m.name k) as (λ _. Has (m ∷ older) l) [
-    | inl e ↦ inr (subst (λ xs. Has xs l) (without_here m older e) h)
-    | inr ne ↦ elim (subst (λ xs. Has xs l) (without_other m older ne) h) as (λ _. Has (m ∷ older) l) [
-      | inl is ↦ inl is
-      | inr a ↦ inr (without_less older l a)
-    ]
-  ]
-
-  pub without_keeps : (cells : List NamedLink) (c : ℕ) → (c ≡ k → ⊥) → HasCell cells c → HasCell (without k cells) c
-  without_keeps [] c ne there = there
-  without_keeps (m ∷ older) c ne there = elim (cases_eq m.name k) as (λ _. HasCell (without k (m ∷ older)) c) [
-    | inl e ↦ subst (λ xs. HasCell xs c) (sym (without_here m older e)) (elim there.1 as (λ _. HasCell older c) [
-      | inl is ↦ absurd (ne (sym there.2 ∙ (ap (λ (x : NamedLink). x.name) (sym is) ∙ e)))
-      | inr h ↦ (there.0, h, there.2)
-    ])
-    | inr other ↦ subst (λ xs. HasCell xs c) (sym (without_other m older other)) (elim there.1 as (λ _. HasCell (m ∷ without k older) c) [
-      | inl is ↦ (there.0, inl is, there.2)
-      | inr h ↦ let r = without_keeps older c ne (there.0, h, there.2) in (r.0, inr r.1, r.2)
-    ])
-  ]
 
   same_from : (W V : ℕ → List Word) (b : Word) (o : Option ℕ) → ((c : ℕ) → o ≡ Some c → W c ≡ V c) → words_from W b o ≡ words_from V b o
   same_from W V b None f = refl
@@ -49,8 +21,8 @@ module _ (k : ℕ) where
   pub words_without : (cells : List NamedLink) (c : ℕ) → IsUnnamed cells k → (c ≡ k → ⊥) → words (without k cells) c ≡ words cells c
   words_without [] c un ne = refl
   words_without (l ∷ older) c un ne = elim (cases_eq l.name k) as (λ _. words (without k (l ∷ older)) c ≡ words (l ∷ older) c) [
-    | inl e ↦ ap (λ xs. words xs c) (without_here l older e) ∙ sym (words_other l older c (λ is. ne (sym is ∙ e)))
-    | inr other ↦ ap (λ xs. words xs c) (without_other l older other) ∙ elim (cases_eq l.name c) as (λ _. words (l ∷ without k older) c ≡ words (l ∷ older) c) [
+    | inl e ↦ ap (λ xs. words xs c) (without_first k l older e) ∙ sym (words_other l older c (λ is. ne (sym is ∙ e)))
+    | inr other ↦ ap (λ xs. words xs c) (without_later k l older other) ∙ elim (cases_eq l.name c) as (λ _. words (l ∷ without k older) c ≡ words (l ∷ older) c) [
       | inl is ↦
           let rest : IsUnnamed older k = λ d h. un d (inr h) in
           let f = same_from (words (without k older)) (words older) (block_of l) l.from
@@ -70,8 +42,8 @@ module _ (k : ℕ) where
   pub past_without : (cells : List NamedLink) → past (without k cells) ≤ past cells
   past_without [] = omega arith
   past_without (l ∷ older) = elim (cases_eq l.name k) as (λ _. past (without k (l ∷ older)) ≤ past (l ∷ older)) [
-    | inl e ↦ subst (λ xs. past xs ≤ past (l ∷ older)) (sym (without_here l older e)) (past_more l older)
-    | inr ne ↦ subst (λ xs. past xs ≤ past (l ∷ older)) (sym (without_other l older ne))
+    | inl e ↦ subst (λ xs. past xs ≤ past (l ∷ older)) (sym (without_first k l older e)) (past_more l older)
+    | inr ne ↦ subst (λ xs. past xs ≤ past (l ∷ older)) (sym (without_later k l older ne))
         (past_by (nat_eq l.marks 0) (l.at + 1) (past (without k older)) (past older) (past_without older))
   ]
 
@@ -80,8 +52,8 @@ module _ (k : ℕ) where
   past_at_without (l ∷ older) c ne = elim (cases_eq l.name k) as (λ _. past_at (without k (l ∷ older)) c ≤ past_at (l ∷ older) c) [
     | inl e ↦
         let a = past_at_other l older c (λ is. ne (sym is ∙ e)) in
-        subst (λ xs. past_at xs c ≤ past_at (l ∷ older) c) (sym (without_here l older e)) (omega arith)
-    | inr other ↦ subst (λ xs. past_at xs c ≤ past_at (l ∷ older) c) (sym (without_other l older other)) (elim (cases_eq l.name c) as (λ _. past_at (l ∷ without k older) c ≤ past_at (l ∷ older) c) [
+        subst (λ xs. past_at xs c ≤ past_at (l ∷ older) c) (sym (without_first k l older e)) (omega arith)
+    | inr other ↦ subst (λ xs. past_at xs c ≤ past_at (l ∷ older) c) (sym (without_later k l older other)) (elim (cases_eq l.name c) as (λ _. past_at (l ∷ without k older) c ≤ past_at (l ∷ older) c) [
       | inl is ↦ subst (λ n. past_at (l ∷ without k older) n ≤ past_at (l ∷ older) n) is
           (let a = past_at_here l (without k older) in let b = past_at_here l older in
           let p : past (l ∷ without k older) ≤ past (l ∷ older) = past_by (nat_eq l.marks 0) (l.at + 1) (past (without k older)) (past older) (past_without older) in
@@ -95,28 +67,28 @@ module _ (k : ℕ) where
   ]
 
   open_without : (cells : List NamedLink) (c : ℕ) → IsOpen cells c → IsOpen (without k cells) c
-  open_without cells c o d h = o d (without_less cells d h)
+  open_without cells c o d h = o d (without_less k cells d h)
 
   pub grown_without : (cells : List NamedLink) → AreGrown cells → IsUnnamed cells k → AreGrown (without k cells)
   grown_without [] g un = g
   grown_without (l ∷ older) g un = elim (cases_eq l.name k) as (λ _. AreGrown (without k (l ∷ older))) [
-    | inl e ↦ subst AreGrown (sym (without_here l older e)) g.1
+    | inl e ↦ subst AreGrown (sym (without_first k l older e)) g.1
     | inr ne ↦
         let can = g.0 in
         let not_from : (c : ℕ) → l.from ≡ Some c → c ≡ k → ⊥ = λ c is q. un l (inl refl) (inl (is ∙ ap Some q)) in
         let not_also : (c : ℕ) → l.also ≡ Some c → c ≡ k → ⊥ = λ c is q. un l (inl refl) (inr (is ∙ ap Some q)) in
-        let less = without_less older in
+        let less = without_less k older in
         let step : Continues (without k older) l = record {
           fresh = λ there. can.fresh (there.0, less there.0 there.1, there.2);
           first_is_root = λ none. ap (λ xs. without k xs) (can.first_is_root none);
           unmarked = can.unmarked;
-          from_there = λ c is. without_keeps older c (not_from c is) (can.from_there c is);
-          also_there = λ c is. without_keeps older c (not_also c is) (can.also_there c is);
+          from_there = λ c is. without_keeps k older c (not_from c is) (can.from_there c is);
+          also_there = λ c is. without_keeps k older c (not_also c is) (can.also_there c is);
           apart = can.apart;
           from_open = λ c is. open_without older c (can.from_open c is);
           also_open = λ c is. open_without older c (can.also_open c is);
           later = λ c is some. let a = can.later c is some in let b = past_at_without older c (not_from c is) in omega arith;
           descends = λ c d is some h from md. can.descends c d is some (less d h) from md;
         } in
-        subst AreGrown (sym (without_other l older ne)) (step, grown_without older g.1 (λ d h. un d (inr h)))
+        subst AreGrown (sym (without_later k l older ne)) (step, grown_without older g.1 (λ d h. un d (inr h)))
   ]

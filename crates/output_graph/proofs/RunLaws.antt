@@ -1,6 +1,6 @@
 -- The actions of a source do what its moves do.
 use Rattle.std.proofs.Common.{◌≡◌, ℕ, suc, ◌+◌, ◌-◌, ◌<◌, ◌≤◌, Bool, true, false, ◌&&◌, ◌||◌, List, [], ◌∷◌, ◌++◌, length, Option, Some, None, IfSome, inl, inr, refl, sym, ap, ◌∙◌, subst, arith, nat_eq, eq-eqb, ne_eqb, slice_get, append_assoc, length-append}
-use Rattle.std.proofs.lemmas.Bool.{cases_eq}
+use Rattle.std.proofs.lemmas.Bool.{cases_eq, and_parts}
 use Rattle.span_core.specs.Lists.{Has}
 use Rattle.node_arena.specs.Cells.{HasCell, Holds, NamedLink, hold, less_hold, new_link, with_hold}
 use Rattle.output_graph.specs.declared.program.Action.{Action}
@@ -28,11 +28,6 @@ made_none at c cells next holds = record {
   reached = λ s. ((λ h. inl h), (λ h. elim h as (λ _. Has (sets_of next) s) [ inl a ↦ a | inr b ↦ absurd b.1 ]));
   few = omega arith;
 }
-
-both : (a b : Bool) → (a && b) ≡ true → (a ≡ true) × (b ≡ true)
-both true true e = (refl, refl)
-both true false e = cc
-both false b e = cc
 
 not_both : (b : Bool) → (true && b) ≡ false → b ≡ false
 not_both b e = e
@@ -86,11 +81,11 @@ module _ (sources : Layer) (at k c : ℕ) (Then : Point → Type 0) (later : Lis
       IsMid es (m ∷ rest) s made cells_mid next_mid holds_mid now → hands_on s.held m ≡ true →
       Leads sources at Then (((acts true k s m ++ actions_after k (moved true k s m) rest) ++ release_of (true || keeps k (moved true k s m) rest) k) ++ later) (point made cells_mid holds_mid now)
   handed_mid es m (x ∷ rest) s made cells_mid next_mid holds_mid now mid on_it =
-      let marks : m.marks ≡ 0 = is_eq m.marks 0 (both (nat_eq m.marks 0) (nat_eq m.place (length s.held)) on_it).0 in
+      let marks : m.marks ≡ 0 = is_eq m.marks 0 (and_parts (nat_eq m.marks 0) (nat_eq m.place (length s.held)) on_it).0 in
       let none = ap length (last_edge at c m.marks m.to (edges_in (x ∷ rest)) cells_mid next_mid holds_mid marks mid.can) in
       absurd (omega arith)
   handed_mid es m [] s made cells_mid next_mid holds_mid now mid on_it =
-      let tests = both (nat_eq m.marks 0) (nat_eq m.place (length s.held)) on_it in
+      let tests = and_parts (nat_eq m.marks 0) (nat_eq m.place (length s.held)) on_it in
       let marks : m.marks ≡ 0 = is_eq m.marks 0 tests.0 in
       let place : m.place ≡ length s.held = is_eq m.place (length s.held) tests.1 in
       let free : cell_of next_mid m.to ≡ None = place_free next_mid m.to (sym mid.placed.0 ∙ (place ∙ held_length sources made s.held next_mid mid.held)) in

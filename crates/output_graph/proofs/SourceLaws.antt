@@ -3,13 +3,13 @@ use Rattle.std.proofs.Common.{◌≡◌, ℕ, ◌<◌, ◌≤◌, List, [], ◌�
 use Rattle.span_core.specs.Lists.{Has}
 use Rattle.node_arena.specs.Words.{Word, words}
 use Rattle.node_arena.specs.Cells.{NamedLink, HasCell, without, IsUnnamed, new_link}
+use Rattle.node_arena.proofs.Without.{without_less}
 use Rattle.output_graph.specs.Grown.{past, IsOpen, AreGrown}
 use Rattle.output_graph.specs.Forward.{Layer, cell_of, set_cell, Choice, AreSources, Stepping, Growing}
 use Rattle.output_graph.specs.Source.{Edges, Descend, InSource, Between}
 use Rattle.output_graph.proofs.ForwardLaws.{edge_step}
 use Rattle.output_graph.proofs.GrowthLaws.{edge_grows, move_grows, comes_next_own, comes_next_other, step_grows, first_comes_next}
 use Rattle.output_graph.proofs.StepLaws.{move_step, step_begins, step_without, growing_without}
-use Rattle.output_graph.proofs.ReleaseLaws.{without_less}
 
 -- fewer sources are left
 pub step_fewer : (sources left after : List ℕ) (W : ℕ → List Word) (at : ℕ) (done : List Choice) (cells : List NamedLink) (next : Layer) →

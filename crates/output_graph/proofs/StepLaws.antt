@@ -1,15 +1,14 @@
 -- The beginning and the end of a step, and an edge whose source hands its cell on.
 use Rattle.std.proofs.Common.{◌≡◌, ◌⊎◌, ℕ, List, [], ◌∷◌, ◌++◌, Some, None, inl, inr, refl, sym, ap, ◌∙◌, subst, arith, nat_eq, append-nil, eq-eqb}
 use Rattle.std.proofs.lemmas.Bool.{cases_eq, cond-true}
+use Rattle.std.proofs.lemmas.Option.{same_Some}
 use Rattle.span_core.specs.Lists.{Has, AreDistinct}
 use Rattle.node_arena.specs.Words.{Word, words}
 use Rattle.node_arena.specs.Cells.{NamedLink, HasCell, without, IsUnnamed}
+use Rattle.node_arena.proofs.Without.{without_less, without_keeps}
 use Rattle.output_graph.specs.Forward.{Layer, cell_of, set_cell, mark_block, Choice, Chosen, InLayer, AreSources, Stepping, SetsAreApart, Growing}
-use Rattle.output_graph.proofs.ReleaseLaws.{words_without, without_keeps, without_less, grown_without, past_at_without}
+use Rattle.output_graph.proofs.ReleaseLaws.{words_without, grown_without, past_at_without}
 use Rattle.output_graph.proofs.ForwardLaws.{cell_of_set, cell_of_other, choice_told}
-
-some_same : (a b : ℕ) → Some a ≡ Some b → a ≡ b
-some_same a b e = cc
 
 -- before the first edge
 pub step_begins : (sources : List ℕ) (at : ℕ) (cells : List NamedLink) → ((c : ℕ) → Has sources c → HasCell cells c) → Stepping sources sources (words cells) at [] cells []
@@ -32,7 +31,7 @@ module _ (sources left : List ℕ) (W : ℕ → List Word) (at : ℕ) (done : Li
     (e : Choice) (is_source : Has sources e.cell) (is_left : Has left e.cell) (none : e.marks ≡ 0) (empty : cell_of next e.to ≡ None) where
   moved_cases : (s b : ℕ) → cell_of (set_cell next e.to e.cell) s ≡ Some b → ((e.to ≡ s) × (e.cell ≡ b)) ⊎ ((e.to ≡ s → ⊥) × (cell_of next s ≡ Some b))
   moved_cases s b is = elim (cases_eq e.to s) as (λ _. ((e.to ≡ s) × (e.cell ≡ b)) ⊎ ((e.to ≡ s → ⊥) × (cell_of next s ≡ Some b))) [
-    | inl p ↦ inl (p, some_same e.cell b (sym (cell_of_set next e.to e.cell) ∙ (ap (λ n. cell_of (set_cell next e.to e.cell) n) p ∙ is)))
+    | inl p ↦ inl (p, same_Some e.cell b (sym (cell_of_set next e.to e.cell) ∙ (ap (λ n. cell_of (set_cell next e.to e.cell) n) p ∙ is)))
     | inr ne ↦ inr (ne, sym (cell_of_other next e.to s e.cell ne) ∙ is)
   ]
 

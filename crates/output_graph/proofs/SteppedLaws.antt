@@ -1,6 +1,6 @@
 -- What stepping a source does to the graph.
 use Rattle.std.proofs.Common.{◌≡◌, ◌⊎◌, ◌↔◌, ℕ, zero, suc, ◌+◌, ◌-◌, List, [], ◌∷◌, ◌++◌, map, drop, slice_get, Some, inl, inr, refl, sym, ap, ap₂, ◌∙◌, subst, arith, add-one}
-use Rattle.std.proofs.lemmas.Option.{slice_get_within}
+use Rattle.std.proofs.lemmas.Option.{slice_get_within, same_Some}
 use Rattle.span_core.specs.Lists.{Has, AreDistinct}
 use Rattle.node_arena.specs.Words.{Word, words}
 use Rattle.node_arena.specs.Cells.{NamedLink, Holds}
@@ -12,12 +12,9 @@ use Rattle.span_core.proofs.HasLaws.{Has-map_cases}
 use Rattle.output_graph.proofs.SourceLaws.{source_begins}
 use Rattle.output_graph.proofs.LayerLaws.{cells_of, cell_of_pair, pair_of_cell}
 
-some_is : (x y : ℕ × ℕ) → Some x ≡ Some y → x ≡ y
-some_is x y e = cc
-
 pub drop_at : (layer : Layer) (k : ℕ) (p : ℕ × ℕ) → slice_get layer k ≡ Some p → drop k layer ≡ p ∷ drop (suc k) layer
 drop_at [] k p e = cc
-drop_at (q ∷ layer) zero p e = ap (λ (x : ℕ × ℕ). x ∷ layer) (some_is q p e)
+drop_at (q ∷ layer) zero p e = ap (λ (x : ℕ × ℕ). x ∷ layer) (same_Some q p e)
 drop_at (q ∷ layer) (suc k) p e = drop_at layer k p e
 
 -- the words of a layer, by its sets and by its cells

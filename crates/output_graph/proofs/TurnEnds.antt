@@ -5,10 +5,11 @@ use Rattle.std.specs.Ordering.{nat_cmp}
 use Rattle.std.specs.Cmp.{unsigned_tied}
 use Rattle.std.proofs.lemmas.Cmp.{nat_cmp_total}
 use Rattle.std.specs.FinMap as map
+use Rattle.std.proofs.lemmas.Option.{same_Some}
 use Rattle.span_core.specs.Lists.{Has}
 use Rattle.node_arena.specs.Words.{Word, words}
 use Rattle.node_arena.specs.Cells.{NamedLink, HasCell, Holds, hold, IsLive, held, named}
-use Rattle.node_arena.specs.Rows.{NamedRow, rows}
+use Rattle.node_arena.specs.Rows.{NamedRow}
 use Rattle.node_arena.specs.Closing.{Entries, first_heads, accepting}
 use Rattle.node_arena.specs.declared.row.Entry.{Entry}
 use Rattle.node_arena.specs.declared.row.Entry.TheVariants.{Nothing}
@@ -20,26 +21,19 @@ use Rattle.output_graph.specs.Sound.{IsSound}
 use Rattle.output_graph.proofs.CodeTurn.{code_begins}
 use Rattle.output_graph.proofs.LayerLaws.{IsLayer, next_is_layer, has_set_of}
 use Rattle.output_graph.proofs.SteppedLaws.{word_in, word_out}
-
-some_same : (a b : ℕ) → Some a ≡ Some b → a ≡ b
-some_same a b e = cc
-
--- no cell is left, and none was the root: then nothing is accepted
-no_rows : (store : List NamedRow) → rows store Nothing ≡ []
-no_rows [] = refl
-no_rows (r ∷ store) = refl
+use Rattle.output_graph.proofs.RowLaws.{rows_nothing}
 
 pub none_left : (Accepted : Word → Type 0) (most : ℕ) (cells : List NamedLink) (heads : Entries) (store : List NamedRow) → cells ≡ [] → IsInTurn Accepted most cells heads store → AreListed Accepted most store Nothing
 none_left Accepted most cells heads store is t = record {
   exact = λ w. (
-    (λ h. absurd (subst (λ (xs : List Word). Has xs w) (no_rows store) h)),
+    (λ h. absurd (subst (λ (xs : List Word). Has xs w) (rows_nothing store) h)),
     (λ a. let r = t.turned.turning.whole w a in absurd (subst (λ (xs : List NamedLink). Has (words xs r.0) r.1) is r.3)),
   );
-  in_order = subst (λ (xs : List Word). Rattle.output_graph.specs.Order.AreInOrder xs) (sym (no_rows store)) tt;
+  in_order = subst (λ (xs : List Word). Rattle.output_graph.specs.Order.AreInOrder xs) (sym (rows_nothing store)) tt;
   made = t.turned.keeps.made;
   led = t.turned.led;
   first_there = tt;
-  ascend = λ w h. absurd (subst (λ (xs : List Word). Has xs w) (no_rows store) h);
+  ascend = λ w h. absurd (subst (λ (xs : List Word). Has xs w) (rows_nothing store) h);
   marked = t.turned.marked;
   few = (let f = t.turned.few in omega arith);
 }
@@ -83,7 +77,7 @@ turn_as P Q most cells heads store same t = record {
 }
 
 by_cell : (cells : List NamedLink) (a : ℕ) (w : Word) → Has (words cells a) w ↔ IsAcceptedBy cells (Some a) w
-by_cell cells a w = ((λ h. (a, refl, h)), (λ r. subst (λ n. Has (words cells n) w) (sym (some_same a r.0 r.1)) r.2))
+by_cell cells a w = ((λ h. (a, refl, h)), (λ r. subst (λ n. Has (words cells n) w) (sym (same_Some a r.0 r.1)) r.2))
 
 none_begins : (heads : Entries) → IsInTurn (λ w. IsAcceptedBy [] None w) 0 [] heads []
 none_begins heads = record {
@@ -148,7 +142,7 @@ module _ (g : Graph) (holds : Holds) (sound : IsSound g holds) (ended : g.steppe
 
   pub is_accepting : (accept : Option ℕ) → accept ≡ cell_of g.next 0 → IsAccepting holds accept
   is_accepting None e = λ c. unheld c (λ is. (let clash : None ≡ Some c = e ∙ is in cc))
-  is_accepting (Some a) e = (layer.held 0 a (sym e), (λ c ne. unheld c (λ is. ne (some_same c a (sym is ∙ sym e)))))
+  is_accepting (Some a) e = (layer.held 0 a (sym e), (λ c ne. unheld c (λ is. ne (same_Some c a (sym is ∙ sym e)))))
 
   pub turn_ready : ((c : ℕ) → HasCell g.cells c ↔ IsLive holds g.cells c) → (accept : Option ℕ) → accept ≡ cell_of g.next 0 →
       IsInTurn (λ w. IsAcceptedBy g.cells accept w) (length g.cells) g.cells (first_heads accept) []

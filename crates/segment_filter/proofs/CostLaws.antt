@@ -1,6 +1,5 @@
 -- The readings that are made cost as much as those of the definition.
-use Rattle.std.proofs.Common.{◌≡◌, ℕ, suc, ◌+◌, ◌*◌, ◌≤◌, ◌↔◌, List, [], ◌∷◌, Bool, true, false, length, sym, ap, subst, arith, ◌∙◌}
-use Rattle.std.specs.Prelude.{cond}
+use Rattle.std.proofs.Common.{◌≡◌, ℕ, ◌+◌, ◌*◌, ◌≤◌, ◌↔◌, List, [], Bool, true, sym, ap, subst, arith, ◌∙◌}
 use Rattle.std.specs.List.{filter}
 use Rattle.std.proofs.Math.Nat.{mul-le-mul_right}
 use Rattle.std.proofs.lemmas.List.{length-map}
@@ -10,6 +9,7 @@ use Rattle.spanner_model.specs.Sequential.{HasVar}
 use Rattle.span_core.specs.Lists.{Has}
 use Rattle.spanner_model.specs.Tree.{Tree}
 use Rattle.span_core.proofs.HasLaws.{Has-map, Has-map_cases}
+use Rattle.span_core.proofs.ListLaws.{filter_no_more}
 use Rattle.spanner_model.proofs.NameLaws.{same_names}
 use Rattle.marked_automaton.specs.declared.way.Way.{Way}
 use Rattle.marked_automaton.specs.declared.way.Stop.{Stop}
@@ -66,14 +66,6 @@ none_remarked A y h = let x = Has-map_cases (remarked_way (λ m. 0)) A.ways y h 
 
 none_reversed : (A : Automaton) → TakesNone A → TakesNone (reversed A)
 none_reversed A none y h = let x = Has-map_cases turned_way A.ways y h in sym (ap (λ (g : Way). g.marks) x.2) ∙ none x.0 x.1
-
-filter_no_more : {X : Type 0} (test : X → Bool) (xs : List X) → length (filter test xs) ≤ length xs
-filter_no_more test [] = omega arith
-filter_no_more {X} test (x ∷ xs) = go (test x) (filter_no_more test xs)
-  where
-    go : (b : Bool) → length (filter test xs) ≤ length xs → length (cond b (x ∷ filter test xs) (filter test xs)) ≤ suc (length xs)
-    go true l = omega (arith, l)
-    go false l = omega (arith, l)
 
 module _ (names : List VarName) (s t : Bool) (f : Tree) (A : Marked) (marked : IsMarked A) (r : Rearranges A.graph (atom_automaton names s t f)) where
   abbrev F : Automaton

@@ -3,6 +3,7 @@ use Rattle.std.proofs.Common.{◌≡◌, ◌⊎◌, ℕ, zero, suc, ◌+◌, ◌
 use Rattle.std.specs.Prelude.{slice_get}
 use Rattle.std.proofs.lemmas.Bool.{cases_eq}
 use Rattle.std.proofs.lemmas.List.{take_all}
+use Rattle.span_core.proofs.ListLaws.{get_set_same}
 use Rattle.marked_automaton.proofs.Listed.{some_same}
 use Rattle.automaton_reading.specs.Reading.{Reach, byte_read, edges}
 use Rattle.set_table.specs.Tabled.{Asking, Tabled, asking, once_asked, set_at}
@@ -64,11 +65,6 @@ told_room t entries later wanted n true is more told = λ set b e small at some.
     ]
 
 -- ---- one entry more
-
-get_set_same : (xs : List ℕ) (i x : ℕ) → i < length xs → slice_get (set xs i x) i ≡ Some x
-get_set_same [] i x h = absurd (omega (arith, h))
-get_set_same (y ∷ xs) zero x h = refl
-get_set_same (y ∷ xs) (suc i) x h = get_set_same xs i x (omega (arith, h))
 
 get_set_other : (xs : List ℕ) (i j x : ℕ) → (i ≡ j → ⊥) → slice_get (set xs i x) j ≡ slice_get xs j
 get_set_other [] i j x ne = refl

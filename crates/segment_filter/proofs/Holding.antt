@@ -1,20 +1,19 @@
 -- What a table has that a document is read by is no less than what the reading comes to.
 use Rattle.std.proofs.Common.{◌≡◌, ℕ, zero, suc, ◌+◌, ◌<◌, ◌≤◌, ◌⊎◌, List, [], ◌∷◌, ◌++◌, Bool, true, false, Option, Some, None, drop, map, length, inl, inr, refl, sym, ap, subst, arith, ◌∙◌}
-use Rattle.std.specs.Prelude.{nat_eq, slice_get, if◌then◌else◌, ◌||◌}
+use Rattle.std.specs.Prelude.{slice_get, if◌then◌else◌, ◌||◌}
 use Rattle.std.specs.List.{list_any, sum_by}
 use Rattle.std.specs.Str.{bytes_eq}
 use Rattle.std.proofs.Math.Seq.{drop-cons}
-use Rattle.std.proofs.lemmas.Bool.{eqb-true}
 use Rattle.std.proofs.lemmas.Option.{get_or_from_slice_get, slice_get_within}
 use Rattle.span_core.specs.Lists.{Has}
 use Rattle.span_core.proofs.HasLaws.{Has-append_cases, Has-append_left, Has-append_right, Has-get_or}
 use Rattle.marked_automaton.specs.Automaton.{Automaton}
 use Rattle.marked_automaton.proofs.Listed.{some_same}
-use Rattle.marked_automaton.proofs.Passing.{left_true, right_true}
-use Rattle.automaton_reading.specs.Reading.{Question, Reach, LookUp, question_same, byte_read, edges, next_sets, once, reach_with, look_up_edges, look_up_same, look_ups_asked, set_of, ways_taken}
+use Rattle.automaton_reading.specs.Reading.{Question, Reach, LookUp, byte_read, edges, next_sets, once, reach_with, look_up_edges, look_up_same, look_ups_asked, set_of, ways_taken}
 use Rattle.automaton_reading.proofs.Matching.{has_once, match_sum, once_distinct}
-use Rattle.automaton_reading.proofs.MeasureLaws.{bytes_itself, look_up_itself, same_ask, same_bytes, same_look_up}
+use Rattle.automaton_reading.proofs.MeasureLaws.{bytes_itself, look_up_itself, same_bytes, same_look_up}
 use Rattle.set_table.specs.Tabled.{Asking, Tabled, asked_edges, asked_first, asking, asking_same, once_asked, reached, set_at, was_asked, weight, with_set, with_sets}
+use Rattle.set_table.proofs.HeldLaws.{asking_told}
 use Rattle.segment_filter.specs.Next.{IsNext, IsTarget}
 use Rattle.segment_filter.specs.Sets.{TakesNone}
 use Rattle.segment_filter.specs.Weights.{bytes_read, reading_weight, sets_asked, sets_read}
@@ -22,18 +21,12 @@ use Rattle.segment_filter.proofs.SetLaws.{edge_is, grows_asked}
 
 -- ---- what was asked stays
 
-same_asking : (r s : Asking) → asking_same r s ≡ true → r ≡ s
-same_asking r s e =
-    let sets = eqb-true r.set s.set (left_true (nat_eq r.set s.set) (question_same r.ask s.ask) e) in
-    let asks = same_ask r.ask s.ask (right_true (nat_eq r.set s.set) (question_same r.ask s.ask) e) in
-    λ i. record { set = sets i; ask = asks i }
-
 any_has : (rs : List Asking) (r : Asking) → list_any (asking_same r) rs ≡ true → Has rs r
 any_has [] r e = absurd (cc)
 any_has (s ∷ rs) r e = by (asking_same r s) refl (any_has rs r) e
   where
     by : (b : Bool) → asking_same r s ≡ b → (list_any (asking_same r) rs ≡ true → Has rs r) → (b || list_any (asking_same r) rs) ≡ true → Has (s ∷ rs) r
-    by true at rest e = inl (sym (same_asking r s at))
+    by true at rest e = inl (sym (asking_told r s at))
     by false at rest e = inr (rest e)
 
 with_stay : (sets more : List (List ℕ)) (x : List ℕ) → Has sets x → Has (with_sets sets more) x

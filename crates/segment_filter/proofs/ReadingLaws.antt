@@ -3,7 +3,7 @@ use Rattle.std.proofs.Common.{◌≡◌, ℕ, zero, suc, ◌+◌, ◌-◌, ◌<�
 use Rattle.std.specs.Prelude.{reverse, slice_get, nat_eq, nat_lt, if◌then◌else◌, ◌&&◌, not}
 use Rattle.std.specs.List.{filter}
 use Rattle.std.proofs.lemmas.Bool.{eq-eqb, eqb-true, lt-ltb, ltb-true}
-use Rattle.std.proofs.lemmas.List.{get_or-reverse, length-reverse}
+use Rattle.std.proofs.lemmas.List.{get_or-reverse}
 use Rattle.std.proofs.lemmas.Option.{get_or_from_slice_get, slice_get-get_or}
 use Rattle.spanner_model.specs.Captures.{VarName}
 use Rattle.span_core.specs.Lists.{Has}
@@ -19,6 +19,8 @@ use Rattle.marked_automaton.proofs.Listed.{compared, some_same}
 use Rattle.marked_automaton.proofs.Passing.{filter_cases, has_filter}
 use Rattle.place_automaton.specs.Places.{Places, placed}
 use Rattle.spanner_model.specs.Sequential.{IsSequential}
+use Rattle.marked_automaton.proofs.ReductWords.{way_back, way_there, end_back}
+use Rattle.marked_automaton.proofs.Reversal.{reads_reversed}
 use Rattle.place_automaton.specs.Repeats.{HasOrderedRepeats}
 use Rattle.place_automaton.specs.Words.{atom_automaton, closing_of, opening_of}
 use Rattle.place_automaton.proofs.BuiltRepeats.{ordered_repeats}
@@ -32,7 +34,6 @@ use Rattle.segment_filter.specs.Sets.{AreReadingsOf, MeetAt, TakesNone}
 use Rattle.filter_laws.specs.Sharing.{places_of}
 use Rattle.filter_laws.specs.Touching.{IsTouchedBy}
 use Rattle.filter_laws.proofs.PassLaws.{pass_on}
-use Rattle.filter_laws.proofs.ReductWays.{end_back, way_back, way_there}
 use Rattle.filter_laws.proofs.SharingLaws.{sharing_law}
 
 -- ---- walks by steps
@@ -51,13 +52,6 @@ module _ (A B : Automaton) (same : HasStepsOf A B) (d : List ℕ) where
   )
 
 -- ---- turned round
-
-byte_turned : (d : List ℕ) (i j b : ℕ) → i + j + 1 ≡ length d → slice_get d i ≡ Some b → slice_get (reverse d) j ≡ Some b
-byte_turned d i j b at h =
-    let len : length (reverse d) ≡ length d = length-reverse d in
-    let e : length d - 1 - j ≡ i = omega arith in
-    slice_get-get_or (reverse d) j 0 (omega (arith, len))
-    ∙ ap Some (get_or-reverse d j 0 (omega arith) ∙ (ap (λ k. get_or d k 0) e ∙ get_or_from_slice_get d i b 0 h))
 
 byte_straight : (d : List ℕ) (i j b : ℕ) → i + j + 1 ≡ length d → slice_get (reverse d) j ≡ Some b → slice_get d i ≡ Some b
 byte_straight d i j b at h =
@@ -82,7 +76,7 @@ module _ (R B : Automaton) (d : List ℕ) (steps : (p b q : ℕ) → StepsTo R p
       let rest = pass_straight n k (suc i) p h.0.to (omega (arith, at)) h.4 in
       subst (λ x. Passes R.ways (reverse d) k (suc n) p x) y.4
       (pass_on R.ways (reverse d) n k (k + n) p y.0 refl (subst (Passes R.ways (reverse d) k n p) (sym y.2) rest) y.1
-      (h.3.0, byte_turned d i (k + n) h.3.0 (omega (arith, at)) h.3.1, y.3))
+      (h.3.0, reads_reversed d i (k + n) h.3.0 (omega (arith, at)) h.3.1, y.3))
 
   pub out_turned : ((p : ℕ) → Has R.starts p ↔ CanEnd B p) → (i p : ℕ) → i ≤ length d → IsLed R (reverse d) (length d - i) p ↔ LeadsOut B d i p
   out_turned starts i p l = (

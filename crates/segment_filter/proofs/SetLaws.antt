@@ -20,6 +20,7 @@ use Rattle.filter_laws.specs.Idling.{IsLed, Passes}
 use Rattle.segment_filter.specs.Sets.{Extends, Grows, HaveShared, IsAt, MeetAt, ReadsAll, TakesNone}
 use Rattle.segment_filter.specs.Next.{IsNext, IsTarget}
 use Rattle.set_table.specs.Tabled.{Asking, IsTabled, Tabled, asked_first, once_asked, reached, set_at, was_asked, with_set, with_sets}
+use Rattle.set_table.proofs.HeldLaws.{get_cases}
 use Rattle.filter_laws.proofs.PassLaws.{led_on, pass_cut}
 
 -- a way leads from a member to q on the byte
@@ -212,13 +213,6 @@ module _ (new old : Tabled) (d : List ℕ) (k j b : ℕ) (none : TakesNone old.g
         | inr o ↦ let t = subst (λ es. IsTarget new.sets es None) o.1 next in let e = t.1 in absurd (cc)
       ]
 
-last_cases : (xs : List ℕ) (j k i : ℕ) → slice_get (xs ++ j ∷ []) k ≡ Some i → (slice_get xs k ≡ Some i) ⊎ ((k ≡ length xs) × (j ≡ i))
-last_cases [] j zero i e = inr (refl, some_same j i e)
-last_cases [] j (suc k) i e = absurd (cc)
-last_cases (x ∷ xs) j zero i e = inl e
-last_cases (x ∷ xs) j (suc k) i e =
-    elim (last_cases xs j k i e) [ inl h ↦ inl h | inr h ↦ inr (omega (arith, h.0), h.1) ]
-
 -- the sets with these numbers are those that the bytes lead to
 abbrev pub AreLed : Tabled → List ℕ → List ℕ → Type 0
 AreLed t d numbers = (k j : ℕ) → slice_get numbers k ≡ Some j → IsAt t d k j
@@ -228,7 +222,7 @@ led_grows new old d numbers e h k j at = at_grows new old d k j e (h k j at)
 
 pub led_more : (t : Tabled) (d numbers : List ℕ) (j : ℕ) → AreLed t d numbers → IsAt t d (length numbers) j → AreLed t d (numbers ++ j ∷ [])
 led_more t d numbers j h last k i at =
-    elim (last_cases numbers j k i at) [
+    elim (get_cases numbers j k i at) [
       | inl e ↦ h k i e
       | inr e ↦ subst (IsAt t d k) e.1 (subst (λ n. IsAt t d n j) (sym e.0) last)
     ]

@@ -1,32 +1,30 @@
 -- What a table has that a document is read by is no more than what the reading comes to.
 use Rattle.std.proofs.Common.{◌≡◌, ℕ, zero, suc, ◌+◌, ◌*◌, ◌<◌, ◌≤◌, ◌⊎◌, List, [], ◌∷◌, ◌++◌, Bool, true, false, Option, Some, None, map, length, length-append, inl, inr, refl, sym, ap, subst, arith, ◌∙◌}
-use Rattle.std.specs.Prelude.{nat_eq, slice_get, if◌then◌else◌, ◌||◌}
+use Rattle.std.specs.Prelude.{slice_get, if◌then◌else◌, ◌||◌}
 use Rattle.std.specs.List.{flat_map, list_any, sum_by}
 use Rattle.std.specs.Option.{unwrap_or}
 use Rattle.std.specs.Str.{bytes_eq}
 use Rattle.std.proofs.Math.Nat.{mul-le-mul_left}
-use Rattle.std.proofs.lemmas.Bool.{eq-eqb}
 use Rattle.span_core.specs.Lists.{AreDistinct, Has}
-use Rattle.span_core.proofs.HasLaws.{Has-append_cases, Has-append_left, Has-append_right, Has-get_or, Has-map, Has-map_cases}
+use Rattle.span_core.proofs.HasLaws.{Has-append_cases, Has-append_left, Has-append_right, Has-map, Has-map_cases}
 use Rattle.marked_automaton.specs.Automaton.{Automaton, size}
 use Rattle.marked_automaton.proofs.Listed.{some_same}
-use Rattle.marked_automaton.proofs.Passing.{both_true, has_flat_map}
-use Rattle.automaton_reading.specs.Reading.{Question, Reach, LookUp, question_same, byte_read, edges, next_sets, once, look_up_edges, look_up_same, look_ups_asked, set_of}
+use Rattle.marked_automaton.proofs.Passing.{has_flat_map}
+use Rattle.automaton_reading.specs.Reading.{Question, Reach, LookUp, byte_read, edges, next_sets, once, look_up_edges, look_up_same, look_ups_asked, set_of}
 use Rattle.automaton_reading.proofs.Matching.{length_sum, match_sum, once_has}
-use Rattle.automaton_reading.proofs.MeasureLaws.{ask_itself, bytes_itself, look_up_itself, same_bytes, same_look_up}
+use Rattle.automaton_reading.proofs.MeasureLaws.{bytes_itself, look_up_itself, same_bytes, same_look_up}
 use Rattle.segment_filter.specs.declared.fault.FilterFault.{FilterFault}
 use Rattle.segment_filter.specs.declared.fault.FilterFault.TheVariants.{Full, OutOfMemory}
 use Rattle.segment_filter.specs.Sets.{Extends, IsFullBy, TakesNone}
 use Rattle.segment_filter.specs.Next.{IsNext, IsTarget}
 use Rattle.set_table.specs.Tabled.{Asking, IsTabled, Tabled, fresh, once_asked, asked_edges, asked_first, asking, asking_same, reached, set_at, sets_weight, was_asked, weight, with_set, with_sets}
+use Rattle.set_table.proofs.HeldLaws.{asking_itself, has_with_sets}
+use Rattle.set_table.proofs.StayLaws.{number_told}
 use Rattle.segment_filter.specs.Weights.{IsFullWithin, bytes_read, reading_look_ups, reading_weight, sets_asked, sets_read}
 use Rattle.segment_filter.proofs.Holding.{HoldsAll, IsHolding, holding_all, holding_ends, holding_next, holding_starts, weight_no_less}
 use Rattle.segment_filter.proofs.SetLaws.{extends_all}
 
 -- ---- tests for equality
-
-asking_itself : (r : Asking) → asking_same r r ≡ true
-asking_itself r = both_true (nat_eq r.set r.set) (question_same r.ask r.ask) (eq-eqb r.set r.set refl) (ask_itself r.ask)
 
 has_any : {X : Type 0} (same : X → X → Bool) (itself : (x : X) → same x x ≡ true) (xs : List X) (x : X) → Has xs x → list_any (same x) xs ≡ true
 has_any same itself [] x h = absurd h
@@ -92,13 +90,6 @@ pub record IsWithin (A : Automaton) (d : List ℕ) (t : Tabled) : Type 0 where
   pub sets_apart : AreDistinct t.sets
   pub asked_apart : AreDistinct t.asked
 
-place_one : (xs : List (List ℕ)) (i j : ℕ) → AreDistinct xs → i < length xs → j < length xs → set_at xs i ≡ set_at xs j → i ≡ j
-place_one [] i j d l m e = absurd (omega (arith, l))
-place_one (x ∷ xs) zero zero d l m e = refl
-place_one (x ∷ xs) zero (suc j) d l m e = absurd (d.0 (subst (Has xs) (sym e) (Has-get_or xs j [] (omega (arith, m)))))
-place_one (x ∷ xs) (suc i) zero d l m e = absurd (d.0 (subst (Has xs) e (Has-get_or xs i [] (omega (arith, l)))))
-place_one (x ∷ xs) (suc i) (suc j) d l m e = let r = place_one xs i j d.1 (omega (arith, l)) (omega (arith, m)) e in ap suc r
-
 module _ (A : Automaton) (d : List ℕ) (t : Tabled) (h : IsWithin A d t) where
   -- a look-up that was asked for, and the look-up that it is
   IsLookUpOf : Asking → LookUp → Type 0
@@ -113,7 +104,7 @@ module _ (A : Automaton) (d : List ℕ) (t : Tabled) (h : IsWithin A d t) where
   unfolding IsLookUpOf
   one_asking x z y a b =
       let same = a.1 ∙ sym b.1 in
-      let sets = place_one t.sets x.set z.set h.sets_apart (h.below x a.0) (h.below z b.0) (ap (λ (r : LookUp). r.set) same) in
+      let sets = number_told t.sets x.set z.set h.sets_apart (h.below x a.0) (h.below z b.0) (ap (λ (r : LookUp). r.set) same) in
       let asks : x.ask ≡ z.ask = ap (λ (r : LookUp). r.ask) same in
       λ i. record { set = sets i; ask = asks i }
 
@@ -166,14 +157,6 @@ with_cases sets s x h = go (list_any (bytes_eq s) sets) h
     go true k = inl k
     go false k = elim (Has-append_cases sets (s ∷ []) x k) [ inl m ↦ inl m | inr m ↦ elim m [ inl e ↦ inr e | inr n ↦ absurd n ] ]
 
-all_cases : (sets more : List (List ℕ)) (x : List ℕ) → Has (with_sets sets more) x → Has sets x ⊎ Has more x
-all_cases sets [] x h = inl h
-all_cases sets (s ∷ more) x h =
-    elim (all_cases (with_set sets s) more x h) as (λ _. Has sets x ⊎ Has (s ∷ more) x) [
-      | inl k ↦ elim (with_cases sets s x k) as (λ _. Has sets x ⊎ Has (s ∷ more) x) [ inl m ↦ inl m | inr e ↦ inr (inl e) ]
-      | inr k ↦ inr (inr k)
-    ]
-
 asks_at : (d : List ℕ) (k b : ℕ) → slice_get d k ≡ Some b → slice_get (map byte_read d) k ≡ Some (byte_read b)
 asks_at [] k b e = absurd (cc)
 asks_at (c ∷ d) zero b e = ap (λ o. Some (byte_read (unwrap_or o b))) e
@@ -208,7 +191,7 @@ module _ (A : Automaton) (d : List ℕ) (t : Tabled) (k j b : ℕ) (h : IsWithin
 
   new_sets : (set : List ℕ) → Has first.sets set → Has (sets_read A d) set
   new_sets set m =
-      elim (all_cases t.sets (reached t.graph (set_at t.sets j) (byte_read b)) set m) as (λ _. Has (sets_read A d) set) [
+      elim (has_with_sets t.sets (reached t.graph (set_at t.sets j) (byte_read b)) set m) as (λ _. Has (sets_read A d) set) [
         | inl o ↦ h.sets set o
         | inr n ↦
             let e = Has-map_cases (λ (x : Reach). x.to) (edges t.graph (set_at t.sets j) (byte_read b)) set n in

@@ -1,16 +1,16 @@
 -- What is added for a question.
-use Rattle.std.proofs.Common.{◌≡◌, ℕ, suc, ◌+◌, ◌-◌, ◌*◌, ◌^◌, ◌<◌, ◌≤◌, ◌⊎◌, Bool, true, false, cond, List, [], ◌∷◌, ◌++◌, length, map, take, drop, get_or, Some, inl, inr, refl, sym, ap, subst, arith, ◌∙◌, length-append}
+use Rattle.std.proofs.Common.{◌≡◌, ℕ, suc, ◌+◌, ◌-◌, ◌*◌, ◌^◌, ◌<◌, ◌≤◌, ◌⊎◌, Bool, true, false, List, [], ◌∷◌, ◌++◌, length, map, take, drop, Some, inl, inr, refl, sym, ap, subst, arith, ◌∙◌, length-append}
 use Rattle.std.specs.Prelude.{if◌then◌else◌, nat_eq, nat_lt, ◌&&◌, slice_get}
 use Rattle.std.specs.List.{filter}
 use Rattle.std.specs.FinSet as bytes
 use Rattle.std.proofs.Math.Pow.{pow_mono}
 use Rattle.std.proofs.Math.Seq.{drop-append_seam}
-use Rattle.std.proofs.lemmas.List.{length-map, take_all, take_more}
-use Rattle.std.proofs.lemmas.List.Elements.{filter-append}
+use Rattle.std.proofs.lemmas.List.{length-map, take_all}
 use Rattle.span_core.specs.declared.edge.Edge.{Edge}
 use Rattle.span_core.specs.declared.TheConstants.{MOST_VARIABLES}
 use Rattle.span_core.specs.Lists.{Has, IsInOrder}
 use Rattle.span_core.proofs.HasLaws.{Has-get_or, Has-map, Has-map_cases, Has-append_cases}
+use Rattle.span_core.proofs.ListLaws.{filter_no_more}
 use Rattle.marked_automaton.specs.declared.way.Stop.{Stop}
 use Rattle.marked_automaton.specs.Automaton.{Automaton, Marked, IsMarked}
 use Rattle.marked_automaton.proofs.Passing.{filter_cases}
@@ -43,18 +43,6 @@ pub length_set : (xs : List ℕ) → length (set_of xs) ≤ length xs
 length_set [] = omega arith
 length_set (x ∷ xs) = omega (arith, length_put_up x (set_of xs), length_set xs)
 
-pub filter_le : {X : Type 0} (t : X → Bool) (xs : List X) → length (filter t xs) ≤ length xs
-filter_le t [] = omega arith
-filter_le t (x ∷ xs) = go (t x) (filter_le t xs)
-  where
-    go : (b : Bool) → length (filter t xs) ≤ length xs → length (cond b (x ∷ filter t xs) (filter t xs)) ≤ suc (length xs)
-    go true l = omega (arith, l)
-    go false l = omega (arith, l)
-
--- one element more that passes, or does not
-pub filter_more : {X : Type 0} (t : X → Bool) (xs : List X) (i : ℕ) (d : X) → i < length xs → filter t (take (i + 1) xs) ≡ filter t (take i xs) ++ cond (t (get_or xs i d)) (get_or xs i d ∷ []) []
-filter_more t xs i d l = ap (filter t) (take_more xs i d l) ∙ filter-append t (take i xs) (get_or xs i d ∷ [])
-
 -- a set has no more members than there are numbers below a bound
 room_above : (xs : List ℕ) (low n : ℕ) → IsInOrder ◌<◌ xs → ((p : ℕ) → Has xs p → low ≤ p) → ((p : ℕ) → Has xs p → p < n) → low ≤ n → length xs + low ≤ n
 room_above [] low n up a b l = omega (arith, l)
@@ -84,7 +72,7 @@ codes_few M S b marked =
       arith,
       length_set (map code_of (ways_taken M.graph S b)),
       length-map (ways_taken M.graph S b) code_of,
-      filter_le (λ z. is_among S z.from && bytes.contains z.bytes b) M.graph.ways,
+      filter_no_more (λ z. is_among S z.from && bytes.contains z.bytes b) M.graph.ways,
       marked.few_ways,
     )
 

@@ -6,11 +6,12 @@ use Rattle.std.specs.FinSet as bytes
 use Rattle.std.proofs.Math.Seq.{get_or-append_right}
 use Rattle.std.proofs.lemmas.Bool.{eqb-true, eq-eqb, cases_lt}
 use Rattle.std.proofs.lemmas.List.{length-set, length-replicate, get_or-replicate, get_or-set_same, get_or-set_other, get_or_append_left, get_or_past, get_or_read, map-append}
-use Rattle.std.proofs.lemmas.List.Sums.{sum_by-append}
+use Rattle.std.proofs.lemmas.List.Sums.{sum_by-append, sum_by-cons}
 use Rattle.std.proofs.lemmas.Option.{slice_get-get_or}
 use Rattle.span_core.specs.declared.edge.Edge.{Edge}
 use Rattle.span_core.specs.Lists.{AreDistinct, Has, IsInOrder}
 use Rattle.span_core.proofs.HasLaws.{Has-map, Has-map_cases, Has-append_cases, Has-slice_get, Has-take, place_of-Has}
+use Rattle.span_core.proofs.ListLaws.{get_left, get_last}
 use Rattle.marked_automaton.specs.declared.way.Way.{Way}
 use Rattle.marked_automaton.specs.declared.way.Stop.{Stop}
 use Rattle.marked_automaton.specs.Automaton.{Automaton, IsWhole, Marked}
@@ -68,16 +69,7 @@ place_apart k l p q h g e =
 
 -- ---- lists
 
-get_left : {X : Type 0} (xs ys : List X) (i : ℕ) (x : X) → slice_get xs i ≡ Some x → slice_get (xs ++ ys) i ≡ Some x
-get_left [] ys i x e = absurd (cc)
-get_left (y ∷ xs) ys zero x e = e
-get_left (y ∷ xs) ys (suc i) x e = get_left xs ys i x e
-
-get_last : {X : Type 0} (xs : List X) (x : X) → slice_get (xs ++ x ∷ []) (length xs) ≡ Some x
-get_last [] x = refl
-get_last (y ∷ xs) x = get_last xs x
-
-get_cases : {X : Type 0} (xs : List X) (y : X) (i : ℕ) (x : X) → slice_get (xs ++ y ∷ []) i ≡ Some x → (slice_get xs i ≡ Some x) ⊎ ((i ≡ length xs) × (y ≡ x))
+pub get_cases : {X : Type 0} (xs : List X) (y : X) (i : ℕ) (x : X) → slice_get (xs ++ y ∷ []) i ≡ Some x → (slice_get xs i ≡ Some x) ⊎ ((i ≡ length xs) × (y ≡ x))
 get_cases [] y zero x e = inr (refl, some_same y x e)
 get_cases [] y (suc i) x e = absurd (cc)
 get_cases (z ∷ xs) y zero x e = inl e
@@ -102,16 +94,13 @@ has_drop (suc n) (y ∷ xs) x h = inr (has_drop n xs x h)
 pub has_part : {X : Type 0} (first count : ℕ) (xs : List X) (x : X) → Has (part first count xs) x → Has xs x
 has_part first count xs x h = has_drop first xs x (Has-take (drop first xs) count x h)
 
-sum_cons : {X : Type 0} (f : X → ℕ) (x : X) (xs : List X) → sum_by f (x ∷ xs) ≡ f x + sum_by f xs
-sum_cons f x xs = let e = sum_by-append f (x ∷ []) xs in omega (arith, e)
-
-sum_same : {X : Type 0} (f g : X → ℕ) (xs : List X) → ((x : X) → Has xs x → f x ≡ g x) → sum_by f xs ≡ sum_by g xs
+pub sum_same : {X : Type 0} (f g : X → ℕ) (xs : List X) → ((x : X) → Has xs x → f x ≡ g x) → sum_by f xs ≡ sum_by g xs
 sum_same f g [] h = refl
-sum_same f g (x ∷ xs) h = let r = sum_same f g xs (λ y k. h y (inr k)) in omega (arith, sum_cons f x xs, sum_cons g x xs, r, h x (inl refl))
+sum_same f g (x ∷ xs) h = let r = sum_same f g xs (λ y k. h y (inr k)) in omega (arith, sum_by-cons f x xs, sum_by-cons g x xs, r, h x (inl refl))
 
 pub length_weight : (sets : List (List ℕ)) → length sets ≤ sets_weight sets
 length_weight [] = omega arith
-length_weight (s ∷ sets) = omega (arith, length_weight sets, sum_cons (λ (x : List ℕ). 1 + length x) s sets)
+length_weight (s ∷ sets) = omega (arith, length_weight sets, sum_by-cons (λ (x : List ℕ). 1 + length x) s sets)
 
 -- ---- sets that are reached
 
@@ -391,7 +380,7 @@ held_fresh A sets answers es ends numbers start w whole is one no_answers no_edg
       places = ap length zero_numbers ∙ (places_length 272 [] (omega arith) ∙ (let e : 272 ≡ 272 * length sets = omega (arith, ap length one) in e));
       found = λ k q i l h e. let z : 0 ≡ suc i = sym (none (place_in k q)) ∙ e in absurd (omega (arith, z));
       there = λ i x e. absurd (let h = Has-slice_get answers i x e in subst (λ (zs : List Answer). Has zs x) no_answers h);
-      weighs = let a = ap sets_weight one in let b = sum_cons (λ (s : List ℕ). 1 + length s) start [] in let c : asked_weight A sets (askings answers) ≡ 0 = ap (λ (zs : List Answer). asked_weight A sets (askings zs)) no_answers in omega (arith, a, b, c, weight);
+      weighs = let a = ap sets_weight one in let b = sum_by-cons (λ (s : List ℕ). 1 + length s) start [] in let c : asked_weight A sets (askings answers) ≡ 0 = ap (λ (zs : List Answer). asked_weight A sets (askings zs)) no_answers in omega (arith, a, b, c, weight);
       few = omega (arith, ap length one, ap length no_answers, ap length no_edges, ap length no_ends, weight);
     }
 
@@ -597,7 +586,7 @@ rest_is_one (p ∷ ps) r rs e = ((let f : r ≡ record { marks = 0; to = p ∷ p
     differ : p ∷ ps ≡ [] → ⊥
     differ f = cc
 
-at_number : (sets : List (List ℕ)) (k : ℕ) → k < length sets → slice_get sets k ≡ Some (set_at sets k)
+pub at_number : (sets : List (List ℕ)) (k : ℕ) → k < length sets → slice_get sets k ≡ Some (set_at sets k)
 at_number sets k l = slice_get-get_or sets k [] l
 
 pub some_rest : (t : Tabled) (k : ℕ) (es : List Edge) (f : Edge) → HasEdges t (asking k rest_taken) es → (length es ≡ 0 → ⊥) → f ≡ get_or es 0 f → (slice_get t.sets f.to ≡ Some (idle_of t k)) × (idle_of t k ≡ [] → ⊥)

@@ -55,11 +55,6 @@ drop_drop zero k xs = let e : k ≡ 0 + k = omega arith in ap (λ i. drop i xs) 
 drop_drop (suc n) k [] = drop-nil k ∙ (let e : suc (n + k) ≡ suc n + k = omega arith in ap (λ i. drop i []) e)
 drop_drop (suc n) k (x ∷ xs) = drop_drop n k xs ∙ (let e : suc (n + k) ≡ suc n + k = omega arith in ap (λ i. drop i (x ∷ xs)) e)
 
-pub drop_past : {X : Type 0} (n : ℕ) (xs : List X) → length xs ≤ n → drop n xs ≡ []
-drop_past n [] l = drop-nil n
-drop_past zero (x ∷ xs) l = absurd (omega arith)
-drop_past (suc n) (x ∷ xs) l = drop_past n xs (omega (arith, l))
-
 -- what a slice to the end is
 pub rest_is : {X : Type 0} (at : ℕ) (xs : List X) → take (length xs - at) (drop at xs) ≡ drop at xs
 rest_is at xs = ap (λ n. take n (drop at xs)) (sym (length-drop at xs)) ∙ whole (drop at xs)

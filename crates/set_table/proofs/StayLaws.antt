@@ -24,7 +24,7 @@ use Rattle.set_table.proofs.HeldLaws.{edges_are, same_question}
 use Rattle.set_table.specs.Tabled.{Asking, HasEdges, Stays, Tabled, asking, edge_named, one_edge, set_at}
 
 -- a set's number is told by the set
-number_told : (sets : List (List ℕ)) (j k : ℕ) → AreDistinct sets → j < length sets → k < length sets → set_at sets j ≡ set_at sets k → j ≡ k
+pub number_told : (sets : List (List ℕ)) (j k : ℕ) → AreDistinct sets → j < length sets → k < length sets → set_at sets j ≡ set_at sets k → j ≡ k
 number_told [] j k d l m e = absurd (omega arith)
 number_told (s ∷ sets) zero zero d l m e = refl
 number_told (s ∷ sets) zero (suc k) d l m e = absurd (d.0 (subst (Has sets) (sym e) (has_at sets k (omega (arith, m)))))

@@ -2,47 +2,24 @@
 use Rattle.std.proofs.Common.{◌≡◌, ℕ, zero, suc, ◌+◌, ◌*◌, ◌≤◌, Bool, true, false, ◌&&◌, List, [], ◌∷◌, ◌++◌, length, take, filter, Option, Some, None, inl, inr, refl, sym, ap, ◌∙◌, subst, arith, append-nil}
 use Rattle.std.specs.Bool.{OnTrue, OnFalse}
 use Rattle.std.specs.Prelude.{slice_get, if◌then◌else◌}
-use Rattle.std.specs.Str.{bytes_eq}
-use Rattle.std.proofs.lemmas.Slice.Eq.{bytes_eq-Decides}
 use Rattle.span_core.specs.declared.span.Span.{Span}
-use Rattle.span_core.specs.Lists.{Has, AreDistinct}
-use Rattle.span_core.proofs.HasLaws.{Has-slice_get}
-use Rattle.spanner_model.specs.Captures.{VarName, Mapping, mapping_of, row_of}
+use Rattle.span_core.specs.Lists.{Has}
+use Rattle.span_core.proofs.HasLaws.{Has-slice_get, Has-append_right, Contains-Has}
+use Rattle.spanner_model.specs.Captures.{VarName, Mapping, row_of}
 use Rattle.spanner_model.specs.Expression.{QueryTree}
 use Rattle.spanner_model.specs.Answers.{SpanRow}
 use Rattle.spanner_model.proofs.Ends.{EndsBy, query_ends}
 use Rattle.query_parser.specs.declared.asks.Asked.{Asked}
 use Rattle.std.specs.Prelude.{IfSome, IfNone, is_none, Contains}
+use Rattle.std.proofs.lemmas.List.Elements.{filter-append}
+use Rattle.std.proofs.lemmas.List.{length_push}
 use Rattle.spanner_model.proofs.NameLaws.{ascending-distinct}
 use Rattle.span_core.specs.NameSets.{Ascending}
+use Rattle.spanner_model.proofs.RowLaws.{mapping_of-outside, mapping_of-at, row_length}
 use Rattle.span_tests.specs.Listed.{IsNamed, IsFirstNamed}
 use Rattle.spanner_engine.specs.Fitting.{AreLast, FitsRow}
 use Rattle.spanner_engine.specs.Left.{EndsIn}
 use Rattle.spanner_engine.specs.Passing.{AreKnown, Check, FirstUnknown, IsNextPassing, Known, check_of, checks_of, passes, passing, row_passes, span_passes}
-
--- ---- the span of a name
-
-pub mapping_of-outside : (names : List VarName) (row : SpanRow) (x : VarName) → (Has names x → ⊥) → mapping_of names row x ≡ None
-mapping_of-outside [] row x out = refl
-mapping_of-outside (y ∷ names) [] x out = refl
-mapping_of-outside (y ∷ names) (s ∷ row) x out = by (bytes_eq y x) refl (mapping_of-outside names row x (λ h. out (inr h)))
-  where
-    by : (a : Bool) → bytes_eq y x ≡ a → mapping_of names row x ≡ None → (if a then s else mapping_of names row x) ≡ None
-    by true e later = absurd (out (inl ((bytes_eq-Decides y x).0 e)))
-    by false e later = later
-
-pub mapping_of-at : (names : List VarName) (row : SpanRow) (k : ℕ) (x : VarName) (s : Option Span) → AreDistinct names → slice_get names k ≡ Some x → slice_get row k ≡ Some s → mapping_of names row x ≡ s
-mapping_of-at [] row k x s d a b = absurd (cc)
-mapping_of-at (y ∷ names) [] k x s d a b = absurd (cc)
-mapping_of-at (y ∷ names) (t ∷ row) zero x s d a b =
-    let e : y ≡ x = cc in
-    let f : t ≡ s = cc in
-    ap (λ (c : Bool). if c then t else mapping_of names row x) ((bytes_eq-Decides y x).1 e) ∙ f
-mapping_of-at (y ∷ names) (t ∷ row) (suc k) x s d a b = by (bytes_eq y x) refl (mapping_of-at names row k x s d.1 a b)
-  where
-    by : (c : Bool) → bytes_eq y x ≡ c → mapping_of names row x ≡ s → (if c then t else mapping_of names row x) ≡ s
-    by true e later = absurd (d.0 (subst (Has names) (sym ((bytes_eq-Decides y x).0 e)) (Has-slice_get names k x a)))
-    by false e later = later
 
 -- ---- tests one by one
 
@@ -115,14 +92,6 @@ module _ (checks : List Check) (names : List VarName) (d : List ℕ) where
   abbrev those : List SpanRow → List SpanRow
   those rows = passing checks names d rows
 
-filter-append : {X : Type 0} (f : X → Bool) (xs ys : List X) → filter f (xs ++ ys) ≡ filter f xs ++ filter f ys
-filter-append f [] ys = refl
-filter-append f (x ∷ xs) ys = by (f x) (filter-append f xs ys)
-  where
-    by : (b : Bool) → filter f (xs ++ ys) ≡ filter f xs ++ filter f ys → (if b then x ∷ filter f (xs ++ ys) else filter f (xs ++ ys)) ≡ (if b then x ∷ filter f xs else filter f xs) ++ filter f ys
-    by true e = ap (λ (zs : List _). x ∷ zs) e
-    by false e = e
-
 pub passing_append : (checks : List Check) (names : List VarName) (d : List ℕ) (xs ys : List SpanRow) → passing checks names d (xs ++ ys) ≡ passing checks names d xs ++ passing checks names d ys
 passing_append [] names d xs ys = refl
 passing_append (c ∷ checks) names d xs ys = filter-append (passes (c ∷ checks) names d) xs ys
@@ -149,19 +118,11 @@ row_ends n [] m ends s h = absurd h
 row_ends n (x ∷ names) m ends s (inl e) = ends x s e
 row_ends n (x ∷ names) m ends s (inr h) = row_ends n names m ends s h
 
-row_long : (names : List VarName) (m : Mapping) → length (row_of names m) ≡ length names
-row_long [] m = refl
-row_long (x ∷ names) m = ap suc (row_long names m)
-
-has_right : {X : Type 0} (xs ys : List X) (y : X) → Has ys y → Has (xs ++ ys) y
-has_right [] ys y h = h
-has_right (x ∷ xs) ys y h = inr (has_right xs ys y h)
-
 pub last_fit : (q : QueryTree) (d : List ℕ) (names : List VarName) (rest : List SpanRow) (row : SpanRow) → AreLast q d names rest → Has rest row → FitsRow (length names) (length d) row
 last_fit q d names rest row last h =
-    let there : Has last.all row = subst (λ (rs : List SpanRow). Has rs row) (sym last.joined) (has_right last.front rest row h) in
+    let there : Has last.all row = subst (λ (rs : List SpanRow). Has rs row) (sym last.joined) (Has-append_right last.front rest row h) in
     let g = last.answers.each_answers row there in
-    let fits : FitsRow (length names) (length d) (row_of names g.0) = record { lengths = row_long names g.0; inside = row_ends (length d) names g.0 (query_ends q d g.0 g.1) } in
+    let fits : FitsRow (length names) (length d) (row_of names g.0) = record { lengths = row_length names g.0; inside = row_ends (length d) names g.0 (query_ends q d g.0 g.1) } in
     subst (λ (r : SpanRow). FitsRow (length names) (length d) r) (sym g.2) fits
 
 pub last_rest : (q : QueryTree) (d : List ℕ) (names : List VarName) (tried rest old : List SpanRow) → old ≡ tried ++ rest → AreLast q d names old → AreLast q d names rest
@@ -186,11 +147,6 @@ pub not_named : (tests : List (List ℕ × ℕ)) (name : List ℕ) (r : Option �
 not_named tests name None none not = not
 not_named tests name (Some k) none not = absurd (cc)
 
-has_contains : (names : List VarName) (x : VarName) → Has names x → Contains names x
-has_contains [] x h = absurd h
-has_contains (y ∷ names) x (inl e) = (0, omega arith, e)
-has_contains (y ∷ names) x (inr h) = let c = has_contains names x h in (suc c.0, omega (arith, c.1), c.2)
-
 -- what a test says of a row is what it says of the span at the place of its variable
 module _ (k : Known) (names : List VarName) (d : List ℕ) (row : SpanRow) (a : Asked) where
   pub passes_at : (place : ℕ) (o : Option Span) (b : Bool) → Ascending names → slice_get names place ≡ Some a.var → slice_get row place ≡ Some o → b ≡ span_passes (check_of k a).1 d o →
@@ -198,7 +154,7 @@ module _ (k : Known) (names : List VarName) (d : List ℕ) (row : SpanRow) (a : 
   passes_at place o b ascend name at is = is ∙ ap (span_passes (check_of k a).1 d) (sym (mapping_of-at names row place a.var o (ascending-distinct names ascend) name at))
 
   pub fails_outside : ¬ Contains names a.var → false ≡ row_passes names d row (check_of k a)
-  fails_outside out = ap (span_passes (check_of k a).1 d) (sym (mapping_of-outside names row a.var (λ h. out (has_contains names a.var h))))
+  fails_outside out = ap (span_passes (check_of k a).1 d) (sym (mapping_of-outside names row a.var (λ h. out (Contains-Has names a.var h))))
 
 -- ---- one answer further
 
@@ -214,10 +170,6 @@ joins (x ∷ a) b c = ap (λ (xs : List SpanRow). x ∷ xs) (joins a b c)
 pub one_tried : (front rest new old : List SpanRow) (row : SpanRow) → old ≡ front ++ rest → rest ≡ row ∷ new → old ≡ (front ++ row ∷ []) ++ new
 one_tried front rest new old row is next = is ∙ ap (λ (xs : List SpanRow). front ++ xs) next ∙ joins front (row ∷ []) new
 
-length-more : (front : List SpanRow) (row : SpanRow) → length (front ++ row ∷ []) ≡ length front + 1
-length-more [] row = omega arith
-length-more (x ∷ front) row = let h = length-more front row in omega (arith, h)
-
 -- the steps of one more that was tried
 next_unit : (n unit : ℕ) → (n + 1) * unit ≡ n * unit + unit
 next_unit n unit = omega arith
@@ -231,7 +183,7 @@ steps_by old now next after v w tests n m e same inv further asked =
 pub steps_more : (old now next after v w tests : ℕ) (front : List SpanRow) (row : SpanRow) → w ≡ v → now ≤ old + length front * (4 * v + 4 + tests) → next ≤ now + 2 * w → after ≤ next + tests →
     after ≤ old + length (front ++ row ∷ []) * (4 * v + 4 + tests)
 steps_more old now next after v w tests front row same inv further asked =
-    steps_by old now next after v w tests (length front) (length (front ++ row ∷ [])) (length-more front row) same inv further asked
+    steps_by old now next after v w tests (length front) (length (front ++ row ∷ [])) (length_push front row) same inv further asked
 
 pub first_fits : (q : QueryTree) (d : List ℕ) (names : List VarName) (rest new : List SpanRow) (row shown : SpanRow) → AreLast q d names rest → rest ≡ row ∷ new → shown ≡ row → FitsRow (length names) (length d) shown
 first_fits q d names rest new row shown last is same =
@@ -239,7 +191,7 @@ first_fits q d names rest new row shown last is same =
 
 -- ---- rows that are given
 
-passes_first : (checks : List Check) (names : List VarName) (d : List ℕ) (row : SpanRow) (rows : List SpanRow) → passes checks names d row ≡ true → passing checks names d (row ∷ rows) ≡ row ∷ passing checks names d rows
+pub passes_first : (checks : List Check) (names : List VarName) (d : List ℕ) (row : SpanRow) (rows : List SpanRow) → passes checks names d row ≡ true → passing checks names d (row ∷ rows) ≡ row ∷ passing checks names d rows
 passes_first [] names d row rows is = refl
 passes_first (c ∷ checks) names d row rows is =
     ap (λ (b : Bool). if b then row ∷ filter (passes (c ∷ checks) names d) rows else filter (passes (c ∷ checks) names d) rows) is
@@ -256,7 +208,7 @@ next_ends checks names d old new row n = (n.tried ++ row ∷ [], n.joined ∙ jo
 next_fits : (q : QueryTree) (checks : List Check) (names : List VarName) (d : List ℕ) (old new : List SpanRow) (row : SpanRow) → AreLast q d names old → IsNextPassing checks names d old row new →
     FitsRow (length names) (length d) row
 next_fits q checks names d old new row last n =
-    last_fit q d names old row last (subst (λ (rs : List SpanRow). Has rs row) (sym n.joined) (has_right n.tried (row ∷ new) row (inl refl)))
+    last_fit q d names old row last (subst (λ (rs : List SpanRow). Has rs row) (sym n.joined) (Has-append_right n.tried (row ∷ new) row (inl refl)))
 
 -- what going further did, where it found a row and where it found none
 module _ (q : QueryTree) (checks : List Check) (names : List VarName) (d : List ℕ) (old new : List SpanRow) (row : SpanRow) where

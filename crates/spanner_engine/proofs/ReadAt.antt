@@ -1,12 +1,11 @@
 -- The positions at which a document is read, as sets.
 use Rattle.std.proofs.Common.{◌≡◌, ℕ, ◌+◌, ◌<◌, ◌≤◌, ◌⊎◌, ◌↔◌, Bool, true, false, List, [], ◌∷◌, length, Option, Some, None, inl, inr, refl, sym, subst, arith}
-use Rattle.std.specs.Prelude.{◌&&◌, ◌||◌, nat_le, IsTrue}
-use Rattle.std.proofs.lemmas.Bool.{le-leb, leb-true, true≢false}
+use Rattle.std.specs.Prelude.{IsTrue}
+use Rattle.std.proofs.lemmas.Bool.{true≢false}
 use Rattle.span_core.specs.Intervals.{Covers}
 use Rattle.spanner_model.specs.Answers.{SpanRow}
 use Rattle.spanner_model.specs.Expression.{ExprTree, QueryTree, atom, join, join_end, minus, named, project, union, union_end}
 use Rattle.spanner_model.specs.Tree.{Tree}
-use Rattle.marked_automaton.proofs.Passing.{both_true, left_true, or_left, or_right, right_true}
 use Rattle.marked_automaton.specs.Automaton.{Automaton}
 use Rattle.automaton_reading.specs.Reading.{edges_K, weight_K}
 use Rattle.filter_laws.specs.Touching.{Contains, HasMinus, IsSetOf, SomeAtom, TouchedOf}
@@ -15,6 +14,7 @@ use Rattle.set_table.specs.declared.fault.TableFault.TheVariants.{Full}
 use Rattle.one_pass.specs.Builds.{build}
 use Rattle.one_pass.specs.Faults.{IsReadFault}
 use Rattle.one_pass.specs.Places.{is_touched}
+use Rattle.one_pass.proofs.LawProofs.{touched_covers, covers_touched}
 use Rattle.spanner_engine.specs.Begun.{AreRead, IsReadAt, IsReadWithin, begin_steps, cells_sought, counted, filter_steps, table_weight}
 
 -- ---- sets
@@ -28,25 +28,6 @@ same_truth false false h = refl
 
 pub same_set : (P : ℕ → Type 0) (K J : ℕ → Bool) → IsSetOf K P → IsSetOf J P → K ≡ J
 same_set P K J k j = let at : (i : ℕ) → K i ≡ J i = λ i. same_truth (K i) (J i) (λ h. (j i).1 ((k i).0 h), λ h. (k i).1 ((j i).0 h)) in λ x i. at i x
-
--- ---- intervals
-
-touched_covers : (parts : List (ℕ × ℕ)) (i : ℕ) → IsTrue (is_touched parts i) → Covers parts i
-touched_covers [] i h = absurd (cc)
-touched_covers (part ∷ parts) i h = by (touched_covers parts i) (nat_le part.0 i && nat_le i part.1) refl h
-  where
-    by : (IsTrue (is_touched parts i) → Covers parts i) → (c : Bool) → (nat_le part.0 i && nat_le i part.1) ≡ c → IsTrue (c || is_touched parts i) → Covers (part ∷ parts) i
-    by later true at k = inl (
-      leb-true part.0 i (left_true (nat_le part.0 i) (nat_le i part.1) at),
-      leb-true i part.1 (right_true (nat_le part.0 i) (nat_le i part.1) at),
-    )
-    by later false at k = inr (later k)
-
-covers_touched : (parts : List (ℕ × ℕ)) (i : ℕ) → Covers parts i → IsTrue (is_touched parts i)
-covers_touched [] i h = absurd h
-covers_touched (part ∷ parts) i (inl h) =
-    or_left (nat_le part.0 i && nat_le i part.1) (is_touched parts i) (both_true (nat_le part.0 i) (nat_le i part.1) (le-leb part.0 i h.0) (le-leb i part.1 h.1))
-covers_touched (part ∷ parts) i (inr h) = or_right (nat_le part.0 i && nat_le i part.1) (is_touched parts i) (covers_touched parts i h)
 
 -- ---- within the document
 

@@ -1,6 +1,5 @@
 -- The rows of the words that are read are the answers.
 use Rattle.std.proofs.Common.{◌≡◌, ℕ, ◌+◌, ◌<◌, ◌≤◌, Bool, true, List, [], ◌∷◌, length, Option, Some, None, inl, inr, refl, sym, ◌∙◌, subst, arith}
-use Rattle.std.specs.List.{AllByRecursion}
 use Rattle.std.proofs.lemmas.Bool.{cases_lt}
 use Rattle.std.proofs.lemmas.List.{length-map}
 use Rattle.span_core.specs.declared.span.Span.{Span}
@@ -22,6 +21,7 @@ use Rattle.one_pass.specs.Words.{Word}
 use Rattle.automaton_reading.proofs.Determined.{reading_law}
 use Rattle.place_automaton.specs.Atom.{AreBytes}
 use Rattle.query_automaton.specs.CompiledQuery.{IsCompiled}
+use Rattle.set_table.proofs.Ascending.{has_all}
 use Rattle.spanner_engine.specs.Laws.{CompiledAcceptsRows, ReadsAnswers, RowsAfterAreTheRest, RowsAreAnswers, WholeRowsAreAnswers, WordsAreOfRows}
 use Rattle.spanner_engine.proofs.WordLaws.{word_ends, word_is_block_list, word_lists}
 
@@ -122,13 +122,9 @@ module _ (q : QueryTree) (A : Marked) (d : List ℕ) where
 
 -- ---- orders and rests
 
-all_later : (P : SpanRow → Type 0) (rows : List SpanRow) → ((later : SpanRow) → Has rows later → P later) → AllByRecursion P rows
-all_later P [] h = tt
-all_later P (r ∷ rows) h = (h r (inl refl), all_later P rows (λ later g. h later (inr g)))
-
 pub in_order : (rows : List SpanRow) → AreInBlockOrder rows → IsInOrder StandsBefore rows
 in_order [] h = tt
-in_order (r ∷ rows) h = (all_later (StandsBefore r) rows h.0, in_order rows h.1)
+in_order (r ∷ rows) h = (has_all (StandsBefore r) rows h.0, in_order rows h.1)
 
 pub rows_after : RowsAfterAreTheRest
 rows_after after rows rest h = h

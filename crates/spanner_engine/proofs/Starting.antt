@@ -1,7 +1,6 @@
 -- The table of the start states alone.
-use Rattle.std.proofs.Common.{◌≡◌, ℕ, ◌+◌, ◌≤◌, Bool, true, false, List, [], ◌∷◌, length, map, inl, inr, refl, sym, subst, arith}
+use Rattle.std.proofs.Common.{◌≡◌, ℕ, ◌+◌, ◌≤◌, Bool, true, false, List, [], ◌∷◌, length, map, inl, refl, sym, subst, arith}
 use Rattle.std.specs.Prelude.{◌||◌, if◌then◌else◌}
-use Rattle.std.specs.List.{sum_by}
 use Rattle.std.specs.Str.{bytes_eq}
 use Rattle.span_core.specs.Lists.{Has}
 use Rattle.marked_automaton.specs.Automaton.{Automaton}
@@ -12,12 +11,7 @@ use Rattle.set_table.specs.Tabled.{IsRefusal, fresh, weight}
 use Rattle.set_table.specs.declared.fault.TableFault.{TableFault}
 use Rattle.set_table.specs.declared.fault.TableFault.TheVariants.{Full, OutOfMemory}
 use Rattle.one_pass.specs.Faults.{IsReadFault}
-
--- one element counts no more than all
-sum_has : {X : Type 0} (v : X → ℕ) (xs : List X) (x : X) → Has xs x → v x ≤ sum_by v xs
-sum_has v [] x h = absurd h
-sum_has v (y ∷ xs) x (inl e) = omega (arith, cons_sum v y xs, subst (λ z. v z ≤ v y) e (omega arith))
-sum_has v (y ∷ xs) x (inr h) = omega (arith, cons_sum v y xs, sum_has v xs x h)
+use Rattle.one_pass.proofs.Making.{sum_has}
 
 module _ (A : Automaton) (d : List ℕ) (K : ℕ → Bool) where
   -- something is asked of the start states

@@ -1,13 +1,14 @@
 use Rattle.std.proofs.Common.{◌+◌, ◌++◌, min, length, subst}
 use Rattle.std.specs.Prelude.{IfErr, OnErr, OnOk}
 use Rattle.std.specs.List.{slice_range}
+use Rattle.std.proofs.lemmas.Result.{on_ok_weaker, on_err_weaker}
 use Rattle.one_pass.specs.Seen.{held, whole}
 use Rattle.one_pass.specs.Faults.{IsFaultAt}
 use Rattle.one_pass.specs.Passes.{HasRead, HasStopped, pass, stop}
 use Rattle.one_pass.specs.Places.{bytes_at, gap_at}
 use Rattle.one_pass.proofs.Composing.{stopped_before}
 use Rattle.one_pass.proofs.Faulting.{both_read, fault_before, then_fault, then_stopped}
-use Rattle.one_pass.proofs.Results.{if_err, on_err, on_ok}
+use Rattle.one_pass.proofs.Results.{if_err}
 use Rattle.one_pass.proofs.KnownLaws.{known_read}
 use Rattle.one_pass.proofs.passes.read_part.Goals as goal
 
@@ -29,7 +30,7 @@ returns-clause-read g c =
     subst (λ e. OnOk c.read_piece.result (HasRead c.args.table.now.graph (gap_at c.args.at c.args.part.0 ++ bytes_at c.args.part.0 (slice_range c.args.doc.now c.args.part.0 e))
     (pass (held c.args.table.now) (whole c.args.graph.now) c.args.steps.now) (pass (held c.read_piece.new.table) (whole c.read_piece.new.graph) c.read_piece.new.steps)))
     c.min-end.ensures
-    (on_ok c.read_piece.result
+    (on_ok_weaker c.read_piece.result
     (both_read (gap_at c.args.at c.args.part.0) (bytes_at c.args.part.0 (slice_range c.args.doc.now c.args.part.0 c.min-end.result))
     (pass (held c.args.table.now) (whole c.args.graph.now) c.args.steps.now) (pass (held c.read_gap.new.table) (whole c.read_gap.new.graph) c.read_gap.new.steps) c.args.at
     c.in_default.ensures.read c.in_default.ensures.ready (pass (held c.read_piece.new.table) (whole c.read_piece.new.graph) c.read_piece.new.steps))
@@ -40,7 +41,7 @@ returns-clause-stopped g c =
     subst (λ e. OnErr c.read_piece.result (HasStopped c.args.table.now.graph (gap_at c.args.at c.args.part.0 ++ bytes_at c.args.part.0 (slice_range c.args.doc.now c.args.part.0 e))
     (pass (held c.args.table.now) (whole c.args.graph.now) c.args.steps.now) (stop (held c.read_piece.new.table) c.read_piece.new.steps)))
     c.min-end.ensures
-    (on_err c.read_piece.result
+    (on_err_weaker c.read_piece.result
     (then_stopped (gap_at c.args.at c.args.part.0) (bytes_at c.args.part.0 (slice_range c.args.doc.now c.args.part.0 c.min-end.result))
     (pass (held c.args.table.now) (whole c.args.graph.now) c.args.steps.now) (pass (held c.read_gap.new.table) (whole c.read_gap.new.graph) c.read_gap.new.steps) c.args.at
     c.in_default.ensures.read c.in_default.ensures.ready (stop (held c.read_piece.new.table) c.read_piece.new.steps))

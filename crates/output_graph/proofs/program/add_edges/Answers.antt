@@ -1,6 +1,7 @@
 use Rattle.std.proofs.Common.{◌≡◌, ◌||◌, Some, slice_get, sym, ap, ◌∙◌, add-one, take}
+use Rattle.std.proofs.lemmas.Option.{slice_get-get_or}
 use Rattle.span_core.specs.declared.edge.Edge.{Edge}
-use Rattle.output_graph.proofs.HeldLaws.{read_there, take_next}
+use Rattle.output_graph.proofs.HeldLaws.{take_next}
 use Rattle.output_graph.proofs.PlanLaws.{edges_next, edges_none, or_no, or_yes}
 use Rattle.output_graph.proofs.program.add_edges.Goals as goal
 use Rattle.output_graph.proofs.program.add_edges.Goals.{then-branch, else-branch}
@@ -12,7 +13,7 @@ pub loop-edge-preserved : goal.loop-edge-preserved
 loop-edge-preserved c =
     let i = c.loop-edge.edge-index in
     let e : Edge = c.edge-item.result in
-    let there : slice_get c.args.edges.now i ≡ Some e = read_there c.args.edges.now i e c.loop-edge-test.true ∙ ap Some (sym c.edge-item.is) in
+    let there : slice_get c.args.edges.now i ≡ Some e = slice_get-get_or c.args.edges.now i e c.loop-edge-test.true ∙ ap Some (sym c.edge-item.is) in
     let now : c.if-branch.kept ≡ (c.loop-edge.kept || c.in_ok-add_edge.field-0) =
     elim c.if-branch.branch as (λ _. c.if-branch.kept ≡ (c.loop-edge.kept || c.in_ok-add_edge.field-0)) [
       | then-branch w ↦ w.kept-is ∙ or_yes c.loop-edge.kept c.in_ok-add_edge.field-0 w.if-branch.true

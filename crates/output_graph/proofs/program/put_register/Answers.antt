@@ -1,5 +1,6 @@
 use Rattle.std.proofs.Common.{sym, ◌∙◌, arith}
-use Rattle.output_graph.proofs.PlanLaws.{none_there, put_behind, put_within}
+use Rattle.std.proofs.lemmas.Option.{slice_get_past}
+use Rattle.output_graph.proofs.PlanLaws.{put_behind, put_within}
 use Rattle.output_graph.proofs.program.put_register.Goals as goal
 
 pub returns-then-place-len-clause-held : goal.returns-then-place-len-clause-held
@@ -14,7 +15,7 @@ returns-clause-had c =
     let has = c.args.held.now.ok.0 in
     let len = c.len.ensures in
     let le = c.if-place-len.false in
-    sym (none_there c.args.held.now.items c.args.place (omega arith))
+    sym (slice_get_past c.args.held.now.items c.args.place (omega arith))
 
 pub returns-clause-held : goal.returns-clause-held
 returns-clause-held c =

@@ -1,19 +1,19 @@
 use Rattle.std.proofs.Common.{◌≡◌, ◌<◌, ℕ, List, length, get_or, slice_get, Some, sym, ap, ◌∙◌, arith, take}
 use Rattle.std.proofs.lemmas.List.{length-set}
-use Rattle.std.proofs.lemmas.Option.{slice_get_read}
+use Rattle.std.proofs.lemmas.Option.{slice_get_read, slice_get-get_or}
 use Rattle.output_graph.specs.declared.program.Register.{Register}
 use Rattle.output_graph.specs.declared.program.Register.TheVariants.{Kept}
 use Rattle.output_graph.specs.Forward.{Layer}
 use Rattle.output_graph.specs.Graph.{sets_of}
 use Rattle.output_graph.specs.Sets.{cells_in}
-use Rattle.output_graph.proofs.HeldLaws.{cell_there, drop_there, held_there, in_place_at, read_there, settled_held, settled_rest, settled_sets, targets_long}
+use Rattle.output_graph.proofs.HeldLaws.{cell_there, drop_there, held_there, in_place_at, settled_held, settled_rest, settled_sets, targets_long}
 use Rattle.output_graph.proofs.SetLaws.{take_all}
 use Rattle.output_graph.proofs.registers.keep.Goals as goal
 
 pub settled-cell-requires : goal.settled-cell-requires
 settled-cell-requires c = (
   c.args.sources.now.items,
-  held_there c.args.sources.now.items c.args.made.now c.args.held.now c.requires.held.0 c.loop-k.k _ c.requires.held.1 (read_there c.args.held.now c.loop-k.k (Kept 0) c.loop-k-test.true),
+  held_there c.args.sources.now.items c.args.made.now c.args.held.now c.requires.held.0 c.loop-k.k _ c.requires.held.1 (slice_get-get_or c.args.held.now c.loop-k.k (Kept 0) c.loop-k-test.true),
 )
 
 pub bounds-targets-k : goal.bounds-targets-k
@@ -35,8 +35,8 @@ loop-k-preserved c =
     let most = c.requires.within in
     let l = targets_long old c.args.made.now held c.requires.held.0 targets c.requires.held.1 c.requires.held.2 in
     let within : k < length now = omega arith in
-    let at_held : slice_get held k ≡ Some r = read_there held k (Kept 0) test in
-    let at_targets : slice_get targets k ≡ Some (get_or targets k 0) = read_there targets k 0 (omega arith) in
+    let at_held : slice_get held k ≡ Some r = slice_get-get_or held k (Kept 0) test in
+    let at_targets : slice_get targets k ≡ Some (get_or targets k 0) = slice_get-get_or targets k 0 (omega arith) in
     let has = c.loop-k.sources.ok.0 in
     let there : slice_get now k ≡ Some c.index.result.now = slice_get_read _ _ _ _ has (omega arith) c.index.ensures in
     let own : slice_get (cells_in old) k ≡ Some c.index.result.now.1 = cell_there old k c.index.result.now (drop_there now old k c.index.result.now i.rest there) in

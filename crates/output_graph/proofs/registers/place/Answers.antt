@@ -1,9 +1,10 @@
 use Rattle.std.proofs.Common.{◌≡◌, ◌++◌, [], ◌∷◌, ℕ, List, get_or, slice_get, Some, sym, ap, ◌∙◌, arith, take, add-one}
+use Rattle.std.proofs.lemmas.Option.{slice_get-get_or}
 use Rattle.output_graph.specs.declared.program.Register.{Register}
 use Rattle.output_graph.specs.declared.program.Register.TheVariants.{Kept}
 use Rattle.output_graph.specs.Forward.{Layer}
 use Rattle.output_graph.specs.Graph.{sets_of}
-use Rattle.output_graph.proofs.HeldLaws.{held_snoc, held_there, read_there, sets_snoc, take_next, targets_long}
+use Rattle.output_graph.proofs.HeldLaws.{held_snoc, held_there, sets_snoc, take_next, targets_long}
 use Rattle.output_graph.proofs.SetLaws.{take_all}
 use Rattle.output_graph.proofs.registers.place.Goals as goal
 
@@ -11,7 +12,7 @@ pub cell-cell-requires : goal.cell-cell-requires
 cell-cell-requires c =
     rw (c.loop-k.invariant.sources, c.loop-k.invariant.made)
     (held_there c.args.registers.now.sources.items c.args.registers.now.made.items c.args.held.now c.requires.held.0 c.loop-k.k _ c.requires.held.1
-    (read_there c.args.held.now c.loop-k.k (Kept 0) c.loop-k-test.true))
+    (slice_get-get_or c.args.held.now c.loop-k.k (Kept 0) c.loop-k-test.true))
 
 pub bounds-targets-k : goal.bounds-targets-k
 bounds-targets-k c =
@@ -30,8 +31,8 @@ loop-k-preserved c =
     let r : Register = get_or held k (Kept 0) in
     let l = targets_long c.args.registers.now.sources.items c.args.registers.now.made.items held c.requires.held.0 targets c.requires.held.1 c.requires.held.2 in
     let test = c.loop-k-test.true in
-    let at_held : slice_get held k ≡ Some r = read_there held k (Kept 0) test in
-    let at_targets : slice_get targets k ≡ Some (get_or targets k 0) = read_there targets k 0 (omega arith) in
+    let at_held : slice_get held k ≡ Some r = slice_get-get_or held k (Kept 0) test in
+    let at_targets : slice_get targets k ≡ Some (get_or targets k 0) = slice_get-get_or targets k 0 (omega arith) in
     let items : c.push_reserved.new.self.items ≡ placed ++ (get_or targets k 0, c.cell-cell.result) ∷ [] = c.push_reserved.ensures.items in
     let len = c.push_reserved.ensures.len in
     let capacity = c.push_reserved.ensures.capacity in

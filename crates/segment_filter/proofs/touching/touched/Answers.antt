@@ -1,6 +1,7 @@
 use Rattle.std.proofs.Common.{ℕ, ◌+◌, ◌≤◌, ◌↔◌, length, arith}
 use Rattle.std.specs.Prelude.{reverse, List, []}
 use Rattle.std.proofs.lemmas.Option.{get_or_from_slice_get}
+use Rattle.std.proofs.lemmas.Result.{IfOk-weaker, on_ok_weaker, IfErr-weaker}
 use Rattle.span_core.specs.Intervals.{Covers}
 use Rattle.place_automaton.specs.Atom.{AreBytes}
 use Rattle.place_automaton.specs.Words.{atom_automaton}
@@ -11,7 +12,6 @@ use Rattle.segment_filter.specs.Costs.{backward_of, filter_weight, forward_of, p
 use Rattle.segment_filter.specs.Sets.{MeetAt}
 use Rattle.filter_laws.specs.Touching.{IsTouchedBy}
 use Rattle.segment_filter.specs.Weights.{IsFullWithin, reading_look_ups, reading_weight}
-use Rattle.segment_filter.proofs.Results.{fault_by, ok_by, on_ok}
 use Rattle.segment_filter.proofs.CostLaws.{steps_within}
 use Rattle.segment_filter.proofs.WeightLaws.{full_wider}
 use Rattle.segment_filter.proofs.touching.touched.Goals as goal
@@ -23,7 +23,7 @@ returns-clause-ok g c =
     let F = c.in-Ok.readings.forward.graph in
     let R = c.in-Ok.readings.backward.graph in
     let most = c.in-Ok.readings.most in
-    ok_by c.touched_by.result (λ (t : List (ℕ × ℕ)). (i : ℕ) → Covers t i ↔ ((i ≤ length d) × MeetAt F R most d i))
+    IfOk-weaker c.touched_by.result (λ (t : List (ℕ × ℕ)). (i : ℕ) → Covers t i ↔ ((i ≤ length d) × MeetAt F R most d i))
     (λ (t : List (ℕ × ℕ)). (i : ℕ) → Covers t i ↔ IsTouchedBy c.args.atom.now.from_start c.args.atom.now.to_end (tree_of c.args.atom.now.formula) d i)
     (λ t h i. let m = c.in-Ok.ensures.meet.meet d bytes i in (λ k. m.0 ((h i).0 k), λ k. (h i).1 (m.1 k)))
     c.touched_by.ensures.ok
@@ -33,7 +33,7 @@ returns-clause-within g c =
     let d = c.args.doc.now in
     let ahead = (c.in-Ok.ensures.costs.ahead d).0 in
     let behind = (c.in-Ok.ensures.costs.behind (reverse d)).0 in
-    on_ok c.touched_by.result (λ within. omega (arith, within, ahead, behind)) c.touched_by.ensures.within
+    on_ok_weaker c.touched_by.result (λ within. omega (arith, within, ahead, behind)) c.touched_by.ensures.within
 
 pub returns-clause-full : goal.returns-clause-full
 returns-clause-full g c =
@@ -46,7 +46,7 @@ returns-clause-full g c =
     let ahead = (c.in-Ok.ensures.costs.ahead d).0 in
     let behind = (c.in-Ok.ensures.costs.behind (reverse d)).0 in
     let le : reading_weight R (reverse d) + reading_weight F d ≤ filter_weight (with_vars [] f) s t f d = omega (arith, ahead, behind) in
-    fault_by c.touched_by.result (λ e. IsFullWithin c.args.limit (reading_weight R (reverse d) + reading_weight F d) e)
+    IfErr-weaker c.touched_by.result (λ e. IsFullWithin c.args.limit (reading_weight R (reverse d) + reading_weight F d) e)
     (λ e. IsFullWithin c.args.limit (filter_weight (with_vars [] f) s t f d) e)
     (λ e h. full_wider c.args.limit (reading_weight R (reverse d) + reading_weight F d) (filter_weight (with_vars [] f) s t f d) e le h)
     c.touched_by.ensures.full

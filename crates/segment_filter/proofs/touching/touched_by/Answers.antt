@@ -1,8 +1,8 @@
 use Rattle.std.proofs.Common.{◌≡◌, ◌+◌, refl, subst, arith}
 use Rattle.std.specs.Prelude.{reverse}
+use Rattle.std.proofs.lemmas.Result.{on_ok_weaker, IfErr-weaker}
 use Rattle.segment_filter.specs.Weights.{IsFullWithin, reading_weight}
 use Rattle.set_table.specs.Tabled.{Tabled, fresh, weight}
-use Rattle.segment_filter.proofs.Results.{fault_by, on_ok}
 use Rattle.segment_filter.proofs.WeightLaws.{fresh_weighs, full_wider}
 use Rattle.segment_filter.proofs.touching.touched_by.Goals as goal
 
@@ -30,7 +30,7 @@ returns-clause-full g c =
     let ahead = reading_weight c.args.readings.now.forward.graph d in
     let spent = weight c.read_back.new.table in
     let weighs = subst (λ (t : Tabled). spent ≡ reading_weight t.graph (reverse d)) c.in-Ok.ensures.ok c.in-Ok-read_back.ensures.weight in
-    fault_by c.touched_ahead.result (λ e. IsFullWithin c.args.limit (spent + ahead) e) (λ e. IsFullWithin c.args.limit (back + ahead) e)
+    IfErr-weaker c.touched_ahead.result (λ e. IsFullWithin c.args.limit (spent + ahead) e) (λ e. IsFullWithin c.args.limit (back + ahead) e)
     (λ e h. full_wider c.args.limit (spent + ahead) (back + ahead) e (omega (arith, weighs)) h) c.touched_ahead.ensures.full
 
 pub returns-clause-within : goal.returns-clause-within
@@ -38,4 +38,4 @@ returns-clause-within g c =
     let d = c.args.doc.now in
     let spent = weight c.read_back.new.table in
     let weighs = subst (λ (t : Tabled). spent ≡ reading_weight t.graph (reverse d)) c.in-Ok.ensures.ok c.in-Ok-read_back.ensures.weight in
-    on_ok c.touched_ahead.result (λ within. omega (arith, within, weighs)) c.touched_ahead.ensures.within
+    on_ok_weaker c.touched_ahead.result (λ within. omega (arith, within, weighs)) c.touched_ahead.ensures.within

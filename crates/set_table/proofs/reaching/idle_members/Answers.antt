@@ -1,11 +1,11 @@
 use Rattle.std.proofs.Common.{◌≡◌, ℕ, Bool, true, false, List, [], ◌∷◌, ◌++◌, cond, get_or, take, sym, ap, ◌∙◌}
 use Rattle.std.specs.List.{filter}
 use Rattle.std.proofs.lemmas.List.{append-nil}
+use Rattle.std.proofs.lemmas.List.Elements.{filter_more}
 use Rattle.span_core.specs.Lists.{Has}
 use Rattle.span_core.proofs.HasLaws.{Has-get_or}
 use Rattle.automaton_reading.specs.Reading.{is_among}
 use Rattle.automaton_reading.proofs.Determined.{among_has, has_among}
-use Rattle.set_table.proofs.AddsLaws.{filter_more}
 use Rattle.set_table.proofs.reaching.idle_members.Goals.{then-is_idle+in_ok-push, else-is_idle}
 use Rattle.set_table.proofs.reaching.idle_members.Goals as goal
 

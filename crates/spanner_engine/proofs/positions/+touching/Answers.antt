@@ -1,5 +1,6 @@
 use Rattle.std.specs.Prelude.{OnOk}
 use Rattle.std.proofs.Common.{IfErr, IfOk, sym, ap, ◌∙◌, subst, arith}
+use Rattle.std.proofs.lemmas.Result.{IfOk-weaker, on_ok_weaker, IfErr-weaker}
 use Rattle.span_core.proofs.HasLaws.{Has-slice_get}
 use Rattle.spanner_model.specs.Expression.{ExprTree, join_all, union_all}
 use Rattle.spanner_model.specs.ExprView.{expr_of, exprs_of}
@@ -9,7 +10,7 @@ use Rattle.spanner_model.proofs.Nodes.{expr_nodes}
 use Rattle.filter_laws.specs.Touching.{SomeAtom}
 use Rattle.spanner_engine.specs.Filtering.{AddsTouched, HasFullAtom, IsHeavy, IsInSound, steps_in}
 use Rattle.spanner_engine.proofs.AtomWalk.{full_part, full_union, join_sound, none_all, none_more, none_union, steps_first, steps_more, steps_part, steps_union, touched_all, touched_more, touched_none, touched_union, union_sound}
-use Rattle.spanner_engine.proofs.Results.{err_by, handed_on, ok_by, on_ok}
+use Rattle.spanner_engine.proofs.Results.{handed_on}
 use Rattle.spanner_engine.proofs.positions.+touching.Goals as goal
 
 -- ---- the parts of a union or a join
@@ -81,7 +82,7 @@ touched_in-returns-in-Union-clause-touched g t c =
     let is = ap expr_of c.in-Union.is ∙ expr_of-Union c.in-Union.parts in
     let r = c.touched_among.result in
     subst (λ (e : ExprTree). IfOk r (AddsTouched d e c.args.before)) (sym is)
-    (ok_by r (AddsTouched d (join_all es) c.args.before) (AddsTouched d (union_all es) c.args.before) (touched_union d es c.args.before) c.touched_among.ensures.touched)
+    (IfOk-weaker r (AddsTouched d (join_all es) c.args.before) (AddsTouched d (union_all es) c.args.before) (touched_union d es c.args.before) c.touched_among.ensures.touched)
 
 pub touched_in-returns-in-Union-clause-within : goal.touched_in-returns-in-Union-clause-within
 touched_in-returns-in-Union-clause-within g t c =
@@ -89,7 +90,7 @@ touched_in-returns-in-Union-clause-within g t c =
     let es = exprs_of c.in-Union.parts in
     let is = ap expr_of c.in-Union.is ∙ expr_of-Union c.in-Union.parts in
     let r = c.touched_among.result in
-    subst (λ (e : ExprTree). OnOk r (¬ SomeAtom P e)) (sym is) (on_ok r (none_union P es) c.touched_among.ensures.within)
+    subst (λ (e : ExprTree). OnOk r (¬ SomeAtom P e)) (sym is) (on_ok_weaker r (none_union P es) c.touched_among.ensures.within)
 
 pub touched_in-returns-in-Union-clause-fault : goal.touched_in-returns-in-Union-clause-fault
 touched_in-returns-in-Union-clause-fault g t c =
@@ -98,7 +99,7 @@ touched_in-returns-in-Union-clause-fault g t c =
     let is = ap expr_of c.in-Union.is ∙ expr_of-Union c.in-Union.parts in
     let r = c.touched_among.result in
     subst (λ (e : ExprTree). IfErr r (HasFullAtom d c.args.limit e)) (sym is)
-    (err_by r (HasFullAtom d c.args.limit (join_all es)) (HasFullAtom d c.args.limit (union_all es)) (full_union d c.args.limit es) c.touched_among.ensures.fault)
+    (IfErr-weaker r (HasFullAtom d c.args.limit (join_all es)) (HasFullAtom d c.args.limit (union_all es)) (full_union d c.args.limit es) c.touched_among.ensures.fault)
 
 pub touched_in-returns-in-Union-clause-steps : goal.touched_in-returns-in-Union-clause-steps
 touched_in-returns-in-Union-clause-steps g t c =

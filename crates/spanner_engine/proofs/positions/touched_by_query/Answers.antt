@@ -1,4 +1,5 @@
 use Rattle.std.proofs.Common.{ℕ, ◌≤◌, ◌↔◌, true, List, [], length, arith}
+use Rattle.std.proofs.lemmas.Result.{IfOk-weaker, on_ok_weaker, IfErr-weaker}
 use Rattle.spanner_model.specs.Captures.{VarName}
 use Rattle.spanner_model.specs.Expression.{ExprTree}
 use Rattle.spanner_model.specs.ExprView.{expr_of, query_of}
@@ -6,7 +7,7 @@ use Rattle.filter_laws.specs.Touching.{TouchedOf}
 use Rattle.span_core.specs.Intervals.{Covers}
 use Rattle.spanner_engine.specs.Filtering.{AddsTouched, HasFullAtom, IsFilterFault, IsHeavy}
 use Rattle.spanner_engine.proofs.AtomWalk.{body_sound, full_body, full_let, let_at, let_exprs, let_sound, none_more, none_of, steps_body, steps_let, steps_more, touched_more, touched_of}
-use Rattle.spanner_engine.proofs.Results.{err_by, handed_on, ok_by, on_ok}
+use Rattle.spanner_engine.proofs.Results.{handed_on}
 use Rattle.spanner_engine.proofs.positions.touched_by_query.Goals as goal
 
 pub touched_in-requires-clause-sound : goal.touched_in-requires-clause-sound
@@ -47,19 +48,19 @@ returns-clause-touched g c =
     let d = c.args.doc.now in
     let q = query_of c.args.query.now in
     let past : length q.lets ≤ c.loop-k.k = omega (arith, c.len-k-end.ensures, c.loop-k-test.false) in
-    ok_by c.touched_in-2.result (AddsTouched d q.body c.loop-k.found) (λ (t : List (ℕ × ℕ)). (i : ℕ) → Covers t i ↔ TouchedOf q d i)
+    IfOk-weaker c.touched_in-2.result (AddsTouched d q.body c.loop-k.found) (λ (t : List (ℕ × ℕ)). (i : ℕ) → Covers t i ↔ TouchedOf q d i)
     (λ t adds. touched_of d q c.requires.plain c.loop-k.k c.loop-k.found t past c.loop-k.invariant.0 adds) c.touched_in-2.ensures.touched
 
 pub returns-clause-within : goal.returns-clause-within
 returns-clause-within g c =
     let past : length (query_of c.args.query.now).lets ≤ c.loop-k.k = omega (arith, c.len-k-end.ensures, c.loop-k-test.false) in
-    on_ok c.touched_in-2.result (none_of (IsHeavy c.args.doc.now c.args.limit) (query_of c.args.query.now) c.loop-k.k past c.loop-k.invariant.2) c.touched_in-2.ensures.within
+    on_ok_weaker c.touched_in-2.result (none_of (IsHeavy c.args.doc.now c.args.limit) (query_of c.args.query.now) c.loop-k.k past c.loop-k.invariant.2) c.touched_in-2.ensures.within
 
 pub returns-clause-fault : goal.returns-clause-fault
 returns-clause-fault g c =
     let d = c.args.doc.now in
     let q = query_of c.args.query.now in
-    err_by c.touched_in-2.result (HasFullAtom d c.args.limit q.body) (IsFilterFault q d true c.args.limit) (λ f h. full_body d c.args.limit q c.requires.plain f h) c.touched_in-2.ensures.fault
+    IfErr-weaker c.touched_in-2.result (HasFullAtom d c.args.limit q.body) (IsFilterFault q d true c.args.limit) (λ f h. full_body d c.args.limit q c.requires.plain f h) c.touched_in-2.ensures.fault
 
 pub returns-clause-steps : goal.returns-clause-steps
 returns-clause-steps g c =

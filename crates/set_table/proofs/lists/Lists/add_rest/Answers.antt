@@ -1,9 +1,10 @@
 use Rattle.std.proofs.Common.{◌≡◌, length, refl, ap, subst, arith, rules, ◌∙◌}
 use Rattle.std.specs.List.{filter}
 use Rattle.span_core.specs.Lists.{Has}
+use Rattle.span_core.proofs.ListLaws.{filter_no_more}
 use Rattle.automaton_reading.specs.Reading.{is_among, rest_edge}
 use Rattle.set_table.specs.Tabled.{set_at}
-use Rattle.set_table.proofs.AddsLaws.{adds_edges, below_few, filter_le, ready_set}
+use Rattle.set_table.proofs.AddsLaws.{adds_edges, below_few, ready_set}
 use Rattle.set_table.proofs.lists.Lists.add_rest.Goals as goal
 
 pub idle_members-requires : goal.idle_members-requires
@@ -18,7 +19,7 @@ put_rest-requires-clause-few_members c =
     let S = set_at s.sets c.args.set in
     let r = ready_set M s c.args.set c.requires in
     let idle : c.in_ok-idle.idle.items ≡ filter (is_among M.graph.idle) S = c.in_ok-idle.ensures ∙ ap (filter (is_among M.graph.idle)) c.at.ensures in
-    omega (arith, ap length idle, filter_le (is_among M.graph.idle) S, below_few M.graph.states S r.order r.states, c.requires.marked.few_states)
+    omega (arith, ap length idle, filter_no_more (is_among M.graph.idle) S, below_few M.graph.states S r.order r.states, c.requires.marked.few_states)
 
 pub returns-clause-added : goal.returns-clause-added
 returns-clause-added c =
