@@ -1,7 +1,7 @@
 -- The printed form of a set of bytes is a unit that stands for it.
-use Rattle.std.proofs.Common.{◌≡◌, ◌≢◌, ℕ, zero, suc, ◌+◌, ◌-◌, ◌<◌, ◌≤◌, ◌⊎◌, inl, inr, Bool, true, false, not, ◌&&◌, ◌||◌, ◌==◌, List, [], ◌∷◌, ◌++◌, ap, sym, refl, ◌∙◌, subst, arith, append_assoc, if◌then◌else◌}
+use Rattle.std.proofs.Common.{◌≡◌, ◌≢◌, ℕ, zero, suc, ◌+◌, ◌-◌, ◌<◌, ◌≤◌, ◌⊎◌, inl, inr, true, false, not, ◌&&◌, ◌||◌, ◌==◌, List, [], ◌∷◌, ◌++◌, ap, sym, refl, ◌∙◌, subst, arith, append_assoc, if◌then◌else◌}
 use Rattle.std.specs.FinSet as set
-use Rattle.std.proofs.lemmas.Bool.{and_parts}
+use Rattle.std.proofs.lemmas.Bool.{and_parts, not-true}
 use Rattle.std.proofs.lemmas.Bool.Decides.{nat_tests}
 use Rattle.std.proofs.lemmas.List.{append-nil}
 use Rattle.spanner_model.specs.Tree.{one}
@@ -147,10 +147,6 @@ one_is s bytes only after =
 
 -- ---- a set
 
-not_true : (v : Bool) → not v ≡ true → v ≡ false
-not_true true e = absurd (cc)
-not_true false e = refl
-
 equal : (m n : ℕ) → (m == n) ≡ true → m ≡ n
 equal m n h = grind (arith, nat_tests)
 
@@ -162,5 +158,5 @@ set_plain s built after =
     (λ h. by_bool (λ v. IsPlain of_bytes (if v then 46 ∷ [] else 91 ∷ (runs_text s 256 ++ 93 ∷ [])) (one s) after) (members s 256 == 255 && not (set.contains s 10))
     (λ k.
     let parts = and_parts (members s 256 == 255) (not (set.contains s 10)) k in
-    subst (λ r. IsPlain of_bytes (46 ∷ []) (one r) after) (sym (dot_is s built.1 (equal (members s 256) 255 parts.0) (not_true (set.contains s 10) parts.1))) (dot refl))
+    subst (λ r. IsPlain of_bytes (46 ∷ []) (one r) after) (sym (dot_is s built.1 (equal (members s 256) 255 parts.0) (not-true (set.contains s 10) parts.1))) (dot refl))
     (λ k. class_is s built after))

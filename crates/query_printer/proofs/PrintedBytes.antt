@@ -2,7 +2,7 @@
 use Rattle.std.proofs.Common.{◌≡◌, ◌≢◌, ℕ, ◌+◌, ◌*◌, ◌/◌, ◌%◌, ◌<◌, Bool, true, false, not, ◌==◌, List, [], ◌∷◌, ◌++◌, ap, refl, ◌∙◌, subst, arith, if◌then◌else◌}
 use Rattle.std.specs.Prelude.{slice_index}
 use Rattle.std.specs.List.{list_all}
-use Rattle.std.proofs.lemmas.Bool.{and_parts}
+use Rattle.std.proofs.lemmas.Bool.{and_parts, not-true}
 use Rattle.std.proofs.lemmas.Bool.Decides.{nat_tests}
 use Rattle.hex.specs.Hex.{hex_digit_value, encode_with, lower_digits}
 use Rattle.hex.proofs.HexLemmas.{IsDigits-lower_digits}
@@ -14,6 +14,7 @@ use Rattle.formula_parser.specs.Classes.{IsElem, plain, escaped}
 use Rattle.formula_parser.specs.Spells.{IsNoneOf, specials, IsPlain, literal, escape, IsLiteral}
 use Rattle.query_printer.specs.PrintedFormula.{is_shown, hex_text, byte_text}
 use Rattle.formula_parser.specs.Alphabet.{of_bytes}
+use Rattle.query_printer.proofs.PrintedSigns.{equal}
 
 -- the byte itself, or a backslash and an escape
 pub data IsByteText : ℕ → List ℕ → Type 0 where
@@ -37,18 +38,15 @@ if_is : (v : Bool) (x y : List ℕ) (b : ℕ) → (v ≡ true → IsByteText b x
 if_is true x y b first second = first refl
 if_is false x y b first second = second refl
 
-same_byte : (b c : ℕ) → (b == c) ≡ true → c ≡ b
-same_byte b c e = grind (arith, nat_tests)
-
 marked : (b : ℕ) → is_shown b ≡ false → is_between 33 126 b ≡ true → is_punctuation b ≡ true
 marked b hides ascii = grind (arith, nat_tests)
 
 pub byte_is : (b : ℕ) → b < 256 → IsByteText b (byte_text b)
 byte_is b small =
     if_is (is_shown b) _ _ b (λ h. shown h)
-    (λ hides. if_is (b == 10) _ _ b (λ e. subst (λ x. IsByteText x (92 ∷ 110 ∷ [])) (same_byte b 10 e) (hidden newline))
-    (λ n1. if_is (b == 9) _ _ b (λ e. subst (λ x. IsByteText x (92 ∷ 116 ∷ [])) (same_byte b 9 e) (hidden tab))
-    (λ n2. if_is (b == 13) _ _ b (λ e. subst (λ x. IsByteText x (92 ∷ 114 ∷ [])) (same_byte b 13 e) (hidden carriage_return))
+    (λ hides. if_is (b == 10) _ _ b (λ e. subst (λ x. IsByteText x (92 ∷ 110 ∷ [])) (equal b 10 e) (hidden newline))
+    (λ n1. if_is (b == 9) _ _ b (λ e. subst (λ x. IsByteText x (92 ∷ 116 ∷ [])) (equal b 9 e) (hidden tab))
+    (λ n2. if_is (b == 13) _ _ b (λ e. subst (λ x. IsByteText x (92 ∷ 114 ∷ [])) (equal b 13 e) (hidden carriage_return))
     (λ n3. if_is (is_between 33 126 b) _ _ b (λ ascii. hidden (itself (marked b hides ascii)))
     (λ n4. hex_is b small)))))
 
@@ -60,15 +58,11 @@ shown_small b h = grind (arith, nat_tests)
 shown_not : (b c : ℕ) → is_shown b ≡ true → is_shown c ≡ false → b ≢ c
 shown_not b c h hides e = let same = ap is_shown e in absurd (cc)
 
-not_true : (v : Bool) → not v ≡ true → v ≡ false
-not_true true e = absurd (cc)
-not_true false e = refl
-
 none_of : (b : ℕ) → is_shown b ≡ true → (cs : List ℕ) → list_all (λ c. not (is_shown c)) cs ≡ true → IsNoneOf b cs
 none_of b h [] all = tt
 none_of b h (c ∷ cs) all =
     let parts = and_parts (not (is_shown c)) (list_all (λ c. not (is_shown c)) cs) all in
-    (shown_not b c h (not_true (is_shown c) parts.0), none_of b h cs parts.1)
+    (shown_not b c h (not-true (is_shown c) parts.0), none_of b h cs parts.1)
 
 shown_literal : (b : ℕ) → is_shown b ≡ true → IsLiteral b
 shown_literal b h = (none_of b h specials refl, let small = shown_small b h in omega arith)

@@ -11,6 +11,7 @@ use Rattle.span_core.specs.ByteWordLaws.{contains-bytes_between}
 use Rattle.formula_parser.specs.Sets.{Bytes, single, all_but_newline}
 use Rattle.query_printer.specs.PrintedFormula.{members, begins_run, run_end}
 use Rattle.formula_parser.proofs.ClassSets.{AreBytes}
+use Rattle.query_parser.proofs.Lists.{or_true}
 
 pub by_bool : (P : Bool → Type 0) (v : Bool) → (v ≡ true → P true) → (v ≡ false → P false) → P v
 by_bool P true first second = first refl
@@ -119,10 +120,6 @@ unfolding runs_set
 runs_more s n q h =
     by_bool (λ v. set.contains (if v then set.union (runs_set s n) (run_set n (run_end s (255 - n) n)) else runs_set s n) q ≡ true) (begins_run s n)
     (λ b. union_has (runs_set s n) (run_set n (run_end s (255 - n) n)) q ∙ ap (λ v. v || set.contains (run_set n (run_end s (255 - n) n)) q) h) (λ b. h)
-
-or_true : (v : Bool) → (v || true) ≡ true
-or_true true = refl
-or_true false = refl
 
 in_last : (s : Bytes) (n r : ℕ) → begins_run s n ≡ true → n ≤ r → r ≤ run_end s (255 - n) n → set.contains (runs_set s (suc n)) r ≡ true
 unfolding runs_set

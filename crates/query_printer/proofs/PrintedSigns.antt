@@ -36,7 +36,7 @@ number_is n small = record {
   small = small;
 }
 
-equal : (m n : ℕ) → (m == n) ≡ true → n ≡ m
+pub equal : (m n : ℕ) → (m == n) ≡ true → n ≡ m
 equal m n h = grind (arith, nat_tests)
 
 pub sign_is : (least : ℕ) (most : Option ℕ) → AreRepeatNumbers least most → IsRepeat (sign least most) least most

@@ -3,7 +3,7 @@ use Rattle.std.proofs.Common.{◌≡◌, ℕ, ◌+◌, ◌≤◌, true, false, �
 use Rattle.std.specs.Prelude.{codes, not, ◌==◌, ◌⊎◌}
 use Rattle.std.specs.List.{list_all}
 use Rattle.std.specs.Str.{bytes_eq}
-use Rattle.std.proofs.lemmas.List.{append-nil, drop-drop, drop_all}
+use Rattle.std.proofs.lemmas.List.{append-nil, drop_all}
 use Rattle.std.proofs.lemmas.Bool.{and_parts, true≢false}
 use Rattle.std.proofs.lemmas.Bool.Decides.{eqb_tells}
 use Rattle.span_core.specs.declared.TheConstants.{MOST_NAME_BYTES}
@@ -22,7 +22,7 @@ use Rattle.formula_parser.proofs.AtomLaws.{spelled_inside}
 use Rattle.formula_parser.proofs.SignLaws.{one_inside}
 use Rattle.query_printer.specs.PrintedFormula.{tied_text, atom_text}
 use Rattle.query_printer.specs.PrintedFormula as formulas
-use Rattle.formula_parser.proofs.RunLaws.{after_token}
+use Rattle.formula_parser.proofs.ClassTexts.{drop_token}
 use Rattle.query_printer.proofs.PrintLaws.{printed_spells}
 use Rattle.query_parser.specs.Tokens.{Token, atom_token, let_word, union_word, join_word, project_word, none_word, name_token, equals, semicolon, open_paren, close_paren, comma, minus_word, word_token, sign_token, is_blank, atom_at, word_at, sign_at, HasTokens, text_ends, blank_first, token_first}
 use Rattle.query_parser.specs.Tested.{where_word}
@@ -41,16 +41,13 @@ LexedAlways u ts = (after : List ℕ) → Lexed u ts after
 abbrev pub Lexes : List ℕ → List Token → Type 0
 Lexes u ts = (after : List ℕ) → begins is_name_byte after ≡ false → Lexed u ts after
 
-dropped : (text : List ℕ) (p : ℕ) (u v : List ℕ) → drop p text ≡ u ++ v → drop (p + length u) text ≡ v
-dropped text p u v is = sym (drop-drop (length u) p text) ∙ ap (drop (length u)) is ∙ after_token u v
-
 -- one after the other
 pub lexed_both : (u v : List ℕ) (ts us : List Token) (after : List ℕ) → Lexed u ts (v ++ after) → Lexed v us after → Lexed (u ++ v) (ts ++ us) after
 lexed_both u v ts us after first second text p more is has =
     let here : drop p text ≡ u ++ (v ++ after) = is ∙ append_assoc u v after in
     let end : p + length (u ++ v) ≡ (p + length u) + length v = omega (arith, length-append u v) in
     subst (HasTokens text p) (sym (append_assoc ts us more))
-    (first text p (us ++ more) here (second text (p + length u) more (dropped text p u (v ++ after) here) (subst (λ (k : ℕ). HasTokens text k more) end has)))
+    (first text p (us ++ more) here (second text (p + length u) more (drop_token text p u (v ++ after) here) (subst (λ (k : ℕ). HasTokens text k more) end has)))
 
 -- ---- one token
 
@@ -75,7 +72,7 @@ unsigned (c ∷ t) stops = by (eqb_tells c 117)
 pub lexed_atom : (a : AtomTree) (after : List ℕ) → begins is_name_byte after ≡ false → IsWellBuilt a.formula → formulas.most_open a.formula ≤ 100 → Lexed (atom_text a) (atom_token a ∷ []) after
 lexed_atom a after stops built few text p more is has =
     let u = tied_text a in
-    let inner : drop (p + 1) text ≡ u ++ 47 ∷ after = dropped text p (47 ∷ []) ((u ++ 47 ∷ []) ++ after) is ∙ append_assoc u (47 ∷ []) after in
+    let inner : drop (p + 1) text ≡ u ++ 47 ∷ after = drop_token text p (47 ∷ []) ((u ++ 47 ∷ []) ++ after) is ∙ append_assoc u (47 ∷ []) after in
     let long : p + length (atom_text a) ≡ p + 1 + length u + 1 = omega (arith, length-append u (47 ∷ [])) in
     let spells = printed_spells a after built few in
     let none : HasNoSign text p = λ w v closed. (let same = one_inside closed.0 (spelled_inside of_bytes u a after spells) v after (sym closed.1 ∙ inner) in ap is_sign same.1 ∙ unsigned after stops) in

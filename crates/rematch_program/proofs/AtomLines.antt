@@ -2,12 +2,12 @@
 use Rattle.std.proofs.Common.{◌≡◌, ℕ, suc, ◌+◌, List, [], ◌∷◌, ◌++◌, Some, Result, Ok, Err, IfOk, length, drop, take, refl, sym, ap, ◌∙◌, subst, arith, length-append}
 use Rattle.std.proofs.lemmas.Grind.{flat_map-append}
 use Rattle.std.specs.Prelude.{slice_get}
-use Rattle.std.proofs.lemmas.List.{append-nil, append_assoc, take_more}
-use Rattle.std.proofs.lemmas.Option.{slice_get_within, get_or_from_slice_get}
+use Rattle.std.proofs.lemmas.List.{append-nil, append_assoc}
 use Rattle.cell_text.proofs.Lists.{at_drop}
 use Rattle.query_printer.specs.PrintedQuery.{further}
 use Rattle.spanner_model.specs.Captures.{VarName}
 use Rattle.spanner_model.specs.Expression.{AtomTree, ExprTree, union_all, join_all}
+use Rattle.spanner_model.proofs.TreeLaws.{take_at_more}
 use Rattle.rematch_program.specs.Explained.{HasLines, atom_line, atom_lines, atoms_among, atoms_in, atoms_of}
 
 pub of_union : (parts : List ExprTree) → atoms_of (union_all parts) ≡ atoms_among parts
@@ -43,15 +43,11 @@ pub then_lines : {E : Type 0} (r : Result ℕ E) (before : ℕ) (old : List ℕ)
 then_lines (Ok all) before old xs mid text ys new first then_ = more_lines before old xs mid text ys all new first then_
 then_lines (Err e) before old xs mid text ys new first then_ = tt
 
--- the elements up to a place, and that which stands there
-take_at : {X : Type 0} (xs : List X) (k : ℕ) (x : X) → slice_get xs k ≡ Some x → take (k + 1) xs ≡ take k xs ++ x ∷ []
-take_at xs k x at = take_more xs k x (slice_get_within xs k x at) ∙ ap (λ y. take k xs ++ y ∷ []) (get_or_from_slice_get xs k x x at)
-
 -- one part more
 pub part_lines : (before : ℕ) (old : List ℕ) (parts : List ExprTree) (k : ℕ) (e : ExprTree) (mid : ℕ) (text : List ℕ) (all : ℕ) (new : List ℕ) → slice_get parts k ≡ Some e →
     HasLines before old (atoms_among (take k parts)) mid text → HasLines mid text (atoms_of e) all new → HasLines before old (atoms_among (take (k + 1) parts)) all new
 part_lines before old parts k e mid text all new at first then_ =
-    let one : take (k + 1) parts ≡ take k parts ++ e ∷ [] = take_at parts k e at in
+    let one : take (k + 1) parts ≡ take k parts ++ e ∷ [] = take_at_more parts k e at in
     let atoms : atoms_among (take (k + 1) parts) ≡ atoms_among (take k parts) ++ atoms_of e =
     ap atoms_among one ∙ flat_map-append atoms_of (take k parts) (e ∷ []) ∙ ap (λ t. atoms_among (take k parts) ++ t) (append-nil (atoms_of e)) in
     subst (λ xs. HasLines before old xs all new) (sym atoms) (more_lines before old (atoms_among (take k parts)) mid text (atoms_of e) all new first then_)
@@ -60,7 +56,7 @@ part_lines before old parts k e mid text all new at first then_ =
 pub let_lines : (before : ℕ) (old : List ℕ) (lets : List (VarName × ExprTree)) (k : ℕ) (name : VarName) (e : ExprTree) (mid : ℕ) (text : List ℕ) (all : ℕ) (new : List ℕ) → slice_get lets k ≡ Some (name, e) →
     HasLines before old (atoms_in (take k lets)) mid text → HasLines mid text (atoms_of e) all new → HasLines before old (atoms_in (take (k + 1) lets)) all new
 let_lines before old lets k name e mid text all new at first then_ =
-    let one : take (k + 1) lets ≡ take k lets ++ (name, e) ∷ [] = take_at lets k (name, e) at in
+    let one : take (k + 1) lets ≡ take k lets ++ (name, e) ∷ [] = take_at_more lets k (name, e) at in
     let atoms : atoms_in (take (k + 1) lets) ≡ atoms_in (take k lets) ++ atoms_of e =
     ap atoms_in one ∙ flat_map-append (λ (l : VarName × ExprTree). atoms_of l.1) (take k lets) ((name, e) ∷ []) ∙ ap (λ t. atoms_in (take k lets) ++ t) (append-nil (atoms_of e)) in
     subst (λ xs. HasLines before old xs all new) (sym atoms) (more_lines before old (atoms_in (take k lets)) mid text (atoms_of e) all new first then_)

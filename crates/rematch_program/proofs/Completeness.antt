@@ -28,6 +28,7 @@ use Rattle.spanner_engine.specs.Begun.{AreRead, HasHeavyAtom, row_kept, table_we
 use Rattle.spanner_engine.specs.Passing.{Check, Known, checks_of}
 use Rattle.rematch_program.specs.Limits.{PartsAreSmall}
 use Rattle.note_texts.specs.Notes.{line}
+use Rattle.session_server.proofs.Lines.{rose_from}
 use Rattle.rematch_program.specs.Pages.{IsAfter, CursorFits, page_text, last_note}
 use Rattle.rematch_program.specs.Testing.{AreAllPassing, IsPassingPageOf, TrialKeeps, explain_tested}
 use Rattle.rematch_program.specs.Trials.{trial_summary}
@@ -106,12 +107,9 @@ record IsLater (s later : Shelved) : Type 0 where
   counts : (n : Text) → s.before.faults n ≤ later.before.faults n
   ends : later.after ≡ s.after
 
-rose_earlier : (a b c : ℕ) → a ≤ b → Rose b c → Rose a c
-rose_earlier a b c le rose = omega arith
-
 faults_earlier : (s later : Shelved) (name : Text) → IsLater s later → HasFaults later name → HasFaults s name
 faults_earlier s later name is rose =
-    let P : Told → Type 0 = λ t. Rose (later.before.faults name) (t.faults name) in rose_earlier _ _ _ (is.counts name) (subst P is.ends rose)
+    let P : Told → Type 0 = λ t. Rose (later.before.faults name) (t.faults name) in rose_from _ _ _ (is.counts name) (subst P is.ends rose)
 
 has_later : (s later : Shelved) (a : RequestView) (names : List VarName) (after : Option Kept) (document : Text) → IsLater s later → HasDocument a names after document s → HasDocument a names after document later
 has_later s later a names after document is has =

@@ -1,12 +1,13 @@
 -- The atoms of a sound query can be counted.
-use Rattle.std.proofs.Common.{ℕ, List, [], ◌∷◌, length, inl, inr, sym, subst}
+use Rattle.std.proofs.Common.{ℕ, List, length, inl, inr, subst}
 use Rattle.span_core.specs.Lists.{AtMost, Has}
 use Rattle.span_core.specs.declared.TheConstants.{MOST_VARIABLES}
 use Rattle.spanner_model.specs.Captures.{VarName}
 use Rattle.spanner_model.specs.Expression.{ExprTree, QueryTree, atom, named, union_end, union, join_end, join, minus, project}
-use Rattle.spanner_model.specs.Sound.{AreJoined, AreUnited, IsSound, IsSoundExpr, NameIn, NameInLets, NameOf, sure_of_lets}
+use Rattle.spanner_model.specs.Sound.{AreJoined, AreUnited, IsSound, IsSoundExpr, NameIn, NameOf, sure_of_lets}
 use Rattle.spanner_model.specs.Answer.{vars_of_lets}
 use Rattle.span_core.proofs.HasLaws.{Has-append_cases, Has-append_left, Has-append_right, place_of-Has}
+use Rattle.query_parser.proofs.ReachLaws.{let_name}
 use Rattle.marked_automaton.proofs.Passing.{flat_map_cases, has_flat_map}
 use Rattle.rematch_program.specs.Explained.{AreCounted, IsCounted, atoms_among, atoms_in, atoms_of}
 
@@ -63,16 +64,11 @@ module _ (N : VarName → Type 0) (few : AtMost MOST_VARIABLES N) (V S : ℕ →
     of_joined (project kept e) ok inside a h = absurd ok
     of_joined (minus e g) ok inside a h = absurd ok
 
-in_lets : (lets : List (VarName × ExprTree)) (l : VarName × ExprTree) (x : VarName) → Has lets l → NameIn l.1 x → NameInLets lets x
-in_lets [] l x h v = absurd h
-in_lets (m ∷ lets) l x (inl e) v = inl (subst (λ (k : VarName × ExprTree). NameIn k.1 x) (sym e) v)
-in_lets (m ∷ lets) l x (inr h) v = inr (in_lets lets l x h v)
-
 pub sound_lets_counted : (q : QueryTree) → IsSound q → AreCounted (atoms_in q.lets)
 sound_lets_counted q sound a h =
     let r = flat_map_cases (λ (l : VarName × ExprTree). atoms_of l.1) q.lets a h in
     let p = place_of-Has q.lets r.0 r.1 in
-    of_expr (NameOf q) sound.few (vars_of_lets q.lets p.0) (sure_of_lets q.lets p.0) p.0 r.0.1 (sound.sound_lets p.0 r.0 p.2).0 (λ x v. inl (in_lets q.lets r.0 x r.1 v)) a r.2
+    of_expr (NameOf q) sound.few (vars_of_lets q.lets p.0) (sure_of_lets q.lets p.0) p.0 r.0.1 (sound.sound_lets p.0 r.0 p.2).0 (λ x v. inl (let_name q.lets r.0 x r.1 v)) a r.2
 
 pub sound_body_counted : (q : QueryTree) → IsSound q → AreCounted (atoms_of q.body)
 sound_body_counted q sound = of_expr (NameOf q) sound.few (vars_of_lets q.lets (length q.lets)) (sure_of_lets q.lets (length q.lets)) (length q.lets) q.body sound.sound_body.0 (λ x v. inr v)

@@ -1,5 +1,5 @@
 -- The rows of answers fit the page of their document.
-use Rattle.std.proofs.Common.{◌≡◌, ℕ, ◌≤◌, List, [], ◌∷◌, length, map, Option, Some, None, true, inl, inr, refl, sym, subst, arith}
+use Rattle.std.proofs.Common.{◌≡◌, ℕ, ◌≤◌, List, [], ◌∷◌, length, map, Option, Some, None, true, refl, sym, subst, arith}
 use Rattle.std.specs.List.{list_all}
 use Rattle.std.proofs.lemmas.List.{length-map}
 use Rattle.span_core.specs.declared.span.Span.{Span}
@@ -10,6 +10,7 @@ use Rattle.spanner_model.specs.Answers.{SpanRow, AreAnswers}
 use Rattle.spanner_model.proofs.Ends.{EndsBy, query_ends}
 use Rattle.cell_text.specs.Cells.{ends_by}
 use Rattle.spanner_engine.specs.Fitting.{FitsRow}
+use Rattle.session_server.proofs.Giving.{all_inside}
 use Rattle.rematch_program.specs.Pages.{FitsPage}
 
 pub span_inside : (n : ℕ) (o : Option Span) → ((s : Span) → o ≡ Some s → s.end ≤ n) → ends_by n o ≡ true
@@ -29,13 +30,5 @@ answers_fit q d names rows a row h =
     let fits : FitsPage (length names) (length d) (row_of names g.0) = record { lengths = length-map names g.0; inside = row_inside (length d) names g.0 (query_ends q d g.0 g.1) } in
     subst (λ (r : SpanRow). FitsPage (length names) (length d) r) (sym g.2) fits
 
--- the same, where the ends of the spans are told
-spans_inside : (n : ℕ) (row : SpanRow) → ((s : Span) → Has row (Some s) → s.end ≤ n) → list_all (ends_by n) row ≡ true
-spans_inside n [] h = refl
-spans_inside n (o ∷ row) h =
-    let here = span_inside n o (λ s e. h s (inl e)) in
-    let later = spans_inside n row (λ s k. h s (inr k)) in
-    simp (here, later) refl
-
 pub fits_of : (width n : ℕ) (row : SpanRow) → FitsRow width n row → FitsPage width n row
-fits_of width n row f = record { lengths = f.lengths; inside = spans_inside n row f.inside }
+fits_of width n row f = record { lengths = f.lengths; inside = all_inside n row f.inside }

@@ -1,7 +1,6 @@
 -- Pages of the answers that pass.
-use Rattle.std.proofs.Common.{◌≡◌, ℕ, suc, ◌<◌, ◌↔◌, Bool, true, false, IsTrue, List, [], ◌∷◌, length, filter, Option, Some, None, if◌then◌else◌, inl, inr, refl, sym, ap, ◌∙◌, subst, arith, length-take}
+use Rattle.std.proofs.Common.{◌≡◌, ℕ, suc, ◌<◌, ◌↔◌, Bool, true, false, IsTrue, List, [], ◌∷◌, length, filter, Option, Some, None, refl, sym, ap, ◌∙◌, subst, arith, length-take}
 use Rattle.std.proofs.lemmas.List.{take_all}
-use Rattle.span_core.specs.Lists.{Has}
 use Rattle.spanner_model.specs.Captures.{VarName}
 use Rattle.spanner_model.specs.Expression.{QueryTree}
 use Rattle.spanner_model.specs.Answers.{SpanRow, AreAnswers, IsRest}
@@ -9,8 +8,9 @@ use Rattle.query_parser.specs.declared.asks.Asked.{Asked}
 use Rattle.spanner_engine.specs.Begun.{begin_steps}
 use Rattle.spanner_engine.specs.Fitting.{AreLast}
 use Rattle.spanner_engine.specs.Left.{AreLeft}
-use Rattle.spanner_engine.specs.Passing.{Check, Known, checks_of, passes, passing}
+use Rattle.spanner_engine.specs.Passing.{Check, Known, checks_of, passing}
 use Rattle.spanner_engine.proofs.PassingLaws.{passing_append}
+use Rattle.session_server.proofs.Giving.{has_passing}
 use Rattle.rematch_program.specs.Work.{clock}
 use Rattle.rematch_program.specs.Pages.{first_rows}
 use Rattle.rematch_program.specs.Steps.{KeepsWithin}
@@ -18,19 +18,6 @@ use Rattle.rematch_program.specs.Taking.{PageTakes, TrialTakes}
 use Rattle.rematch_program.specs.Testing.{AreAllPassing, IsPassingPageOf, PageKeeps, TrialKeeps}
 
 -- ---- those that pass
-
-has_filtered : (f : SpanRow → Bool) (rows : List SpanRow) (r : SpanRow) → Has (filter f rows) r → Has rows r
-has_filtered f [] r h = h
-has_filtered f (x ∷ rows) r h = by (f x) (has_filtered f rows r) h
-  where
-    by : (b : Bool) → (Has (filter f rows) r → Has rows r) → Has (if b then x ∷ filter f rows else filter f rows) r → Has (x ∷ rows) r
-    by true later (inl e) = inl e
-    by true later (inr k) = inr (later k)
-    by false later k = inr (later k)
-
-has_passing : (checks : List Check) (names : List VarName) (d : List ℕ) (rows : List SpanRow) (r : SpanRow) → Has (passing checks names d rows) r → Has rows r
-has_passing [] names d rows r h = h
-has_passing (c ∷ checks) names d rows r h = has_filtered (passes (c ∷ checks) names d) rows r h
 
 -- those after a row are the rest of those that pass
 rest_passes : (checks : List Check) (names : List VarName) (d : List ℕ) (after : Option SpanRow) (rows rest : List SpanRow) → IsRest after rows rest →

@@ -4,6 +4,7 @@ use Rattle.std.specs.Prelude.{nat_lt, nat_le, ◌==◌, if◌then◌else◌}
 use Rattle.std.specs.List.{flat_map, list_all}
 use Rattle.std.proofs.lemmas.Bool.Decides.{nat_tests}
 use Rattle.std.proofs.lemmas.List.Folds.{list_all_at}
+use Rattle.std.proofs.lemmas.Bool.{and_parts}
 use Rattle.hex.specs.Hex.{encode_with, lower_digits}
 use Rattle.json.specs.Print.{escape, escape_byte, quoted}
 use Rattle.span_core.specs.Names.{is_name, is_name_start, is_name_byte}
@@ -25,10 +26,6 @@ bare_byte b low quote backslash =
     let high : nat_lt b 32 ≡ false = grind (arith, nat_tests) in
     simp (n34, n92, n8, n12, n10, n13, n9, high) refl
 
-both : (a b : Bool) → (a && b) ≡ true → (a ≡ true) × (b ≡ true)
-both true b e = (refl, e)
-both false b e = absurd (cc)
-
 -- ---- names
 
 name_byte : (b : ℕ) → is_name_byte b ≡ true → escape_byte b ≡ b ∷ []
@@ -46,14 +43,14 @@ name_start b e =
 name_rest : (bytes : List ℕ) → list_all is_name_byte bytes ≡ true → escape bytes ≡ bytes
 name_rest [] h = refl
 name_rest (b ∷ bytes) h =
-    let parts = both (is_name_byte b) (list_all is_name_byte bytes) h in
+    let parts = and_parts (is_name_byte b) (list_all is_name_byte bytes) h in
     ap₂ (λ (xs ys : List ℕ). xs ++ ys) (name_byte b parts.0) (name_rest bytes parts.1)
 
 -- a name needs no escape
 pub name_quoted : (name : List ℕ) → IsTrue (is_name name) → quoted name ≡ 34 ∷ (name ++ 34 ∷ [])
 name_quoted [] h = absurd (cc)
 name_quoted (b ∷ bytes) h =
-    let parts = both (is_name_start b) (list_all is_name_byte bytes) (both (nat_lt (length bytes) 32) (is_name_start b && list_all is_name_byte bytes) h).1 in
+    let parts = and_parts (is_name_start b) (list_all is_name_byte bytes) (and_parts (nat_lt (length bytes) 32) (is_name_start b && list_all is_name_byte bytes) h).1 in
     ap (λ (xs : List ℕ). 34 ∷ (xs ++ 34 ∷ [])) (ap₂ (λ (xs ys : List ℕ). xs ++ ys) (name_start b parts.0) (name_rest bytes parts.1))
 
 -- ---- text forms

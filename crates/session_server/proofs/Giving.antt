@@ -28,7 +28,7 @@ use Rattle.std.proofs.lemmas.Bool.Decides.{nat_tests}
 use Rattle.session_server.specs.Replies.{Session, begun, giving, row_data, to_come}
 use Rattle.session_server.specs.Standing.{GivesOne, GivesSoFar, HasGiven, IsKept, IsReadOn, IsSession, IsSessionOver}
 use Rattle.spanner_engine.specs.Passing.{AreKnown, Check, IsNextPassing, Known, checks_of, passes, passing}
-use Rattle.spanner_engine.proofs.PassingLaws.{last_fit, passing_append}
+use Rattle.spanner_engine.proofs.PassingLaws.{last_fit, next_passes}
 
 -- the JSON object of a row does not look at the document
 pub same_members : (d : List ℕ) (names : List VarName) (row : SpanRow) → json_members d false names row ≡ json_members [] false names row
@@ -44,7 +44,7 @@ has_drop zero rows row h = h
 has_drop (suc n) [] row h = h
 has_drop (suc n) (r ∷ rows) row h = inr (has_drop n rows row h)
 
-has_filter : (f : SpanRow → Bool) (rows : List SpanRow) (row : SpanRow) → Has (filter f rows) row → Has rows row
+pub has_filter : (f : SpanRow → Bool) (rows : List SpanRow) (row : SpanRow) → Has (filter f rows) row → Has rows row
 has_filter f [] row h = h
 has_filter f (r ∷ rows) row h = by (f r) h (has_filter f rows row)
   where
@@ -53,7 +53,7 @@ has_filter f (r ∷ rows) row h = by (f r) h (has_filter f rows row)
     by true (inr h) later = inr (later h)
     by false h later = inr (later h)
 
-has_passing : (checks : List Check) (names : List VarName) (d : List ℕ) (rows : List SpanRow) (row : SpanRow) → Has (passing checks names d rows) row → Has rows row
+pub has_passing : (checks : List Check) (names : List VarName) (d : List ℕ) (rows : List SpanRow) (row : SpanRow) → Has (passing checks names d rows) row → Has rows row
 has_passing [] names d rows row h = h
 has_passing (c ∷ checks) names d rows row h = has_filter (passes (c ∷ checks) names d) rows row h
 
@@ -84,15 +84,6 @@ drop_more n rows rest row is =
     by zero (r ∷ rs) at = cc
     by (suc k) [] at = absurd (cc)
     by (suc k) (r ∷ rs) at = by k rs at
-
-passing_first : (checks : List Check) (names : List VarName) (d : List ℕ) (row : SpanRow) (rows : List SpanRow) → passes checks names d row ≡ true → passing checks names d (row ∷ rows) ≡ row ∷ passing checks names d rows
-passing_first [] names d row rows is = refl
-passing_first (c ∷ checks) names d row rows is = ap (λ (b : Bool). if b then row ∷ filter (passes (c ∷ checks) names d) rows else filter (passes (c ∷ checks) names d) rows) is
-
--- what is left of those that pass, where the next one was found
-pub next_passes : (checks : List Check) (names : List VarName) (d : List ℕ) (old new : List SpanRow) (row : SpanRow) → IsNextPassing checks names d old row new → passing checks names d old ≡ row ∷ passing checks names d new
-next_passes checks names d old new row n =
-    ap (passing checks names d) n.joined ∙ passing_append checks names d n.tried (row ∷ new) ∙ ap (λ (xs : List SpanRow). xs ++ passing checks names d (row ∷ new)) n.fail ∙ passing_first checks names d row new n.passed
 
 pub comes_next : (checks : List Check) (names : List VarName) (d : List ℕ) (given : ℕ) (all old new : List SpanRow) (row : SpanRow) (o : Option SpanRow) →
     drop given (passing checks names d all) ≡ row ∷ passing checks names d old →

@@ -1,5 +1,5 @@
 -- What is held of reading a session's document.
-use Rattle.std.proofs.Common.{arith, zero, suc, Fits, w8, slice_index_or, ◌≡◌, ◌+◌, ◌<◌, ◌≤◌, ◌^◌, ℕ, Bool, true, false, List, [], ◌∷◌, ◌++◌, length, take, drop, Option, MatchOption, inl, inr, refl, sym, ap, ◌∙◌, subst, length-append}
+use Rattle.std.proofs.Common.{arith, zero, suc, ◌≡◌, ◌+◌, ◌<◌, ◌≤◌, ◌^◌, ℕ, Bool, true, false, List, [], ◌∷◌, ◌++◌, length, take, drop, Option, MatchOption, inl, inr, refl, sym, ap, ◌∙◌, subst, length-append}
 use Rattle.std.specs.Prelude.{if◌then◌else◌, map, nat_lt}
 use Rattle.serde_json.specs.View.{view}
 use Rattle.serde_json.specs.declared.value.Value.{Value}
@@ -21,7 +21,6 @@ use Rattle.growing_document.specs.Lengths.{IsAskedAt, ends_at, weight_at}
 use Rattle.growing_document.specs.Numbers.{questions_in, end_look_ups_at, first_sets, look_ups_in, sets_in}
 use Rattle.growing_document.specs.declared.fault.GrowFault.{GrowFault}
 use Rattle.growing_document.specs.declared.fault.GrowFault.TheVariants as fault
-use Rattle.growing_document.proofs.Insides.{bytes_more}
 use Rattle.growing_document.proofs.Lengths.{lengths_law, reduct_weighs}
 use Rattle.spanner_engine.specs.Begun.{counted}
 use Rattle.spanner_engine.specs.Fitting.{AreLast}
@@ -153,10 +152,6 @@ grow_halt k c s text e h is f stands = subst (IsGrowHalt s text) (sym is) (by e 
 
 no_bytes : AreBytes []
 no_bytes i b h = absurd (cc)
-
--- what a slice of bytes holds
-pub are_bytes : (d : List ℕ) → ((i : ℕ) → Fits w8 (slice_index_or d i 0)) → AreBytes d
-are_bytes d fits = bytes_more [] d no_bytes fits
 
 bytes_append : (a b : List ℕ) → AreBytes a → AreBytes b → AreBytes (a ++ b)
 bytes_append [] b p q i x h = q i x h

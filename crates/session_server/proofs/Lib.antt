@@ -1,10 +1,10 @@
 mod SessionLaws
 mod Apart
 mod Refusals
-mod Giving
+pub mod Giving
 mod Replied
-mod Opens
+pub mod Opens
 mod NextRows
 mod Few
 mod Grows
-mod Lines
+pub mod Lines

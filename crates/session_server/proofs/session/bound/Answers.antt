@@ -1,10 +1,10 @@
 use Rattle.std.proofs.Common.{refl}
 use Rattle.query_parser.specs.TestedView.{tested_of}
 use Rattle.spanner_engine.specs.Passing.{known}
+use Rattle.growing_document.proofs.Insides.{fits_bytes}
 use Rattle.session_server.specs.declared.session.Start.{Start}
 use Rattle.session_server.specs.Standing.{session_with}
 use Rattle.session_server.proofs.Giving.{begun_session}
-use Rattle.session_server.proofs.Grows.{are_bytes}
 use Rattle.session_server.proofs.Refusals.{refused_size}
 use Rattle.session_server.proofs.session.bound.Goals as goal
 
@@ -21,6 +21,6 @@ returns-clause-opened g c =
       c.requires.spelled,
       c.in-Ok.ensures.small,
       c.in-Ok.ensures.names,
-      begun_session k t (session_with c.args.tested.now s) c.args.document.now c.in-Ok.begun.answers.rest refl refl c.in-Ok.ensures.growing c.requires.few (are_bytes c.args.document.now c.type_inv.document)
+      begun_session k t (session_with c.args.tested.now s) c.args.document.now c.in-Ok.begun.answers.rest refl refl c.in-Ok.ensures.growing c.requires.few (fits_bytes c.args.document.now c.type_inv.document)
           c.in-Ok.ensures.names c.requires.spelled.tests_known c.in-Ok.ensures.all c.next_tested-next.ensures.last c.next_tested-next.ensures.next,
     )
