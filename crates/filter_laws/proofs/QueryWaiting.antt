@@ -1,5 +1,5 @@
 -- The automaton of a query only waits at the positions that no atom of its text touches.
-use Rattle.std.proofs.Common.{◌≡◌, ℕ, zero, suc, ◌*◌, ◌^◌, ◌≤◌, ◌⊎◌, Bool, true, false, List, [], ◌∷◌, length, Option, Some, None, inl, inr, refl, sym, ap, arith, ◌∙◌}
+use Rattle.std.proofs.Common.{◌≡◌, ℕ, zero, suc, ◌*◌, ◌^◌, ◌≤◌, ◌⊎◌, Bool, true, false, List, [], ◌∷◌, length, Option, Some, None, inl, inr, refl, sym, ap, arith, ◌∙◌, true≢false}
 use Rattle.std.specs.Prelude.{IsTrue, slice_get, nat_eq, if◌then◌else◌}
 use Rattle.std.specs.Option.{ForSome}
 use Rattle.spanner_model.specs.Captures.{VarName}
@@ -76,12 +76,9 @@ module _ (d : List ℕ) (K : ℕ → Bool) where
 
   full_waits : ((i : ℕ) → i ≤ length d → IsTrue (K i)) → (A : Automaton) → WaitsOutside A d K
   full_waits full A = record {
-    states = λ i p k led out. absurd (differ (sym (full i (omega (arith, out.2))) ∙ k));
-    ways = λ i y k h led byte out. absurd (differ (sym (full i (omega (arith, out.2))) ∙ k));
+    states = λ i p k led out. absurd (true≢false (sym (full i (omega (arith, out.2))) ∙ k));
+    ways = λ i y k h led byte out. absurd (true≢false (sym (full i (omega (arith, out.2))) ∙ k));
   }
-    where
-      differ : true ≡ false → ⊥
-      differ e = cc
 
   first_of_union : (e rest : ExprTree) → Has_all (union e rest) → Has_all e
   first_of_union e rest has i t = has i (elim t as (λ _. Touched (union e rest) i) [ inl a ↦ inl (inl a) | inr m ↦ inr (inl m.0, m.1) ])

@@ -4,7 +4,7 @@ use Rattle.std.specs.Prelude.{◌↔◌, slice_get}
 use Rattle.std.specs.List.{AllByRecursion}
 use Rattle.std.specs.Option.{unwrap_or}
 use Rattle.std.proofs.Math.Seq.{drop-cons}
-use Rattle.std.proofs.lemmas.Bool.{eqb-true, eq-eqb}
+use Rattle.std.proofs.lemmas.Bool.{eqb-true, eq-eqb, false≢true}
 use Rattle.std.proofs.lemmas.List.{length-map}
 use Rattle.span_core.specs.Lists.{Has, AreDistinct, IsInOrder}
 use Rattle.span_core.proofs.HasLaws.{Has-append_left, Has-append_right, Has-append_cases, Has-map, Has-map_cases}
@@ -153,13 +153,11 @@ words_here : (s : ℕ) (xs : List Source) (w : Word) → HasWord xs s w → Has 
 words_here s [] w h = absurd h.1
 words_here s (x ∷ xs) w h = by (words_here s xs w) (nat_eq x.set s) refl h.1
   where
-    no_way : false ≡ true → ⊥
-    no_way e = cc
 
     by : (HasWord xs s w → Has (words_to s xs) w) → (b : Bool) → nat_eq x.set s ≡ b → Has (x ∷ xs) h.0 → Has (if b then x.words ++ words_to s xs else words_to s xs) w
     by rest true at (inl e) = Has-append_left x.words (words_to s xs) w (subst (λ (y : Source). Has y.words w) (sym e) h.3)
     by rest true at (inr k) = Has-append_right x.words (words_to s xs) w (rest (h.0, k, h.2, h.3))
-    by rest false at (inl e) = absurd (no_way (sym at ∙ eq-eqb x.set s (ap (λ (y : Source). y.set) e ∙ h.2)))
+    by rest false at (inl e) = absurd (false≢true (sym at ∙ eq-eqb x.set s (ap (λ (y : Source). y.set) e ∙ h.2)))
     by rest false at (inr k) = rest (h.0, k, h.2, h.3)
 
 words_have : (s : ℕ) (xs : List Source) (w : Word) → Has (words_to s xs) w ↔ HasWord xs s w

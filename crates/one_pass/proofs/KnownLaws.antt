@@ -15,6 +15,7 @@ use Rattle.automaton_reading.specs.Reading.{LookUp, byte_read, Reach, edges}
 use Rattle.set_table.specs.Tabled.{with_set}
 use Rattle.output_graph.specs.Source.{Edges}
 use Rattle.output_graph.proofs.SetLaws.{get_set_other, take_all}
+use Rattle.output_graph.proofs.HeldLaws.{take_next}
 use Rattle.one_pass.specs.declared.known.KnownStep.{KnownStep}
 use Rattle.one_pass.specs.Held.{TableView, AreNumbered, StaysOn, look_up_of, set_named}
 use Rattle.one_pass.specs.Known.{AreLookUps, AreStill, IsEntry, IsKnown, IsLookUp, IsStepOf, layer_at}
@@ -262,12 +263,7 @@ step_is steps k x y at there = same_Some x y (sym at ∙ there)
 -- ---- the sets of a graph's layer, one after another
 
 pub sets_more : (sets : List ℕ) (k s : ℕ) → slice_get sets k ≡ Some s → take (k + 1) sets ≡ take k sets ++ s ∷ []
-sets_more sets k s at = ap (λ n. take n sets) (add-one k) ∙ by sets k s at
-  where
-    by : (xs : List ℕ) (k s : ℕ) → slice_get xs k ≡ Some s → take (suc k) xs ≡ take k xs ++ s ∷ []
-    by [] k s at = cc
-    by (x ∷ xs) zero s at = ap (λ y. y ∷ []) (same_Some x s at)
-    by (x ∷ xs) (suc k) s at = ap (λ (ys : List ℕ). x ∷ ys) (by xs k s at)
+sets_more sets k s at = ap (λ n. take n sets) (add-one k) ∙ take_next sets k s at
 
 pub look_ups_next : (t : TableView) (b : ℕ) (sets : List ℕ) (k : ℕ) (groups later : List Edges) (group : Edges) → k < length sets → AreLookUps t b (take k sets) groups → IsLookUp t b (get_or sets k 0) group →
     later ≡ groups ++ group ∷ [] → AreLookUps t b (take (k + 1) sets) later

@@ -3,7 +3,8 @@ use Rattle.std.proofs.Common.{◌≡◌, ℕ, zero, suc, ◌+◌, ◌<◌, ◌�
 use Rattle.std.specs.Prelude.{if◌then◌else◌, slice_get, ◌||◌}
 use Rattle.std.specs.List.{list_any, sum_by}
 use Rattle.std.specs.Str.{bytes_eq}
-use Rattle.std.proofs.lemmas.List.{append-nil, get_or_append_left}
+use Rattle.std.proofs.lemmas.List.{append-nil, get_or_append_left, map_push}
+use Rattle.std.proofs.lemmas.Bool.{false≢true}
 use Rattle.span_core.specs.Lists.{Has, AreDistinct}
 use Rattle.span_core.proofs.HasLaws.{Has-append_left, Has-append_right, Has-append_cases, Has-map, Has-map_cases}
 use Rattle.span_core.specs.declared.edge.Edge.{Edge}
@@ -131,7 +132,7 @@ module _ (t : Tabled) (tabled : IsTabled t) (r : Asking) (given : r.set < length
           let kept = with_kept (reached t.graph (set_at t.sets r.set) r.ask) t.sets in
           let new = with_sets t.sets (reached t.graph (set_at t.sets r.set) r.ask) in
           let look_ups : map (look_up_in new) (t.asked ++ r ∷ []) ≡ map (look_up_in t.sets) t.asked ++ look_up ∷ [] =
-          map_snoc (look_up_in new) t.asked r
+          map_push (look_up_in new) t.asked r
           ∙ (ap (λ look_ups. look_ups ++ look_up_in new r ∷ []) (look_ups_same kept.0 new kept.1 t.asked tabled.asked)
           ∙ ap (λ x. map (look_up_in t.sets) t.asked ++ x) (look_ups_same kept.0 new kept.1 (r ∷ []) one)) in
           record {
@@ -145,30 +146,22 @@ module _ (t : Tabled) (tabled : IsTabled t) (r : Asking) (given : r.set < length
             sound = held_sound (asked_first t r) after;
             holds = subst (λ (rs : List LookUp). Has rs look_up) (sym look_ups) (Has-append_right (map (look_up_in t.sets) t.asked) (look_up ∷ []) look_up (inl refl));
             look_ups = inr (
-              λ h. no (sym at ∙ has_any t.asked r (has_look_up t.sets t.asked r tabled.sets_apart tabled.asked given h)),
+              λ h. false≢true (sym at ∙ has_any t.asked r (has_look_up t.sets t.asked r tabled.sets_apart tabled.asked given h)),
               look_ups,
               omega arith,
             );
           }
         where
-          no : false ≡ true → ⊥
-          no e = cc
 
           one : (s : Asking) → Has (r ∷ []) s → s.set < length t.sets
           one s (inl e) = subst (λ (q : Asking). q.set < length t.sets) e given
           one s (inr n) = absurd n
-
-          map_snoc : (f : Asking → LookUp) (xs : List Asking) (x : Asking) → map f (xs ++ x ∷ []) ≡ map f xs ++ f x ∷ []
-          map_snoc f [] x = refl
-          map_snoc f (y ∷ xs) x = ap (λ ys. f y ∷ ys) (map_snoc f xs x)
 
   -- ---- a refusal
 
   with_one : (sets : List (List ℕ)) (s : List ℕ) → AreDistinct sets → AreDistinct (with_set sets s)
   with_one sets s d = by (list_any (bytes_eq s) sets) refl
     where
-      no : false ≡ true → ⊥
-      no e = cc
 
       or_true : (b : Bool) → (b || true) ≡ true
       or_true true = refl
@@ -191,7 +184,7 @@ module _ (t : Tabled) (tabled : IsTabled t) (r : Asking) (given : r.set < length
 
       by : (b : Bool) → list_any (bytes_eq s) sets ≡ b → AreDistinct (if b then sets else sets ++ s ∷ [])
       by true at = d
-      by false at = snoc sets d (λ h. no (sym at ∙ set_any sets h))
+      by false at = snoc sets d (λ h. false≢true (sym at ∙ set_any sets h))
 
   with_distinct : (more sets : List (List ℕ)) → AreDistinct sets → AreDistinct (with_sets sets more)
   with_distinct [] sets d = d
@@ -204,8 +197,6 @@ module _ (t : Tabled) (tabled : IsTabled t) (r : Asking) (given : r.set < length
   pub held_heavy : (w : ℕ) → w ≡ weight (once_asked t r) → (once_asked t r).limit < w → IsTooHeavy (held t) look_up w
   held_heavy w is more = by (was_asked t r) refl is more
     where
-      no : false ≡ true → ⊥
-      no e = cc
 
       by : (b : Bool) → was_asked t r ≡ b → w ≡ weight (if b then t else asked_first t r) → (if b then t else asked_first t r).limit < w → IsTooHeavy (held t) look_up w
       by true at is more = let l = tabled.within in absurd (omega (arith, l, is, more))
@@ -220,7 +211,7 @@ module _ (t : Tabled) (tabled : IsTabled t) (r : Asking) (given : r.set < length
           (λ x h. once_has bytes_eq same_bytes bytes_itself (t.sets ++ targets A look_up) x (some_set x h)) in
           let look_ups_less =
           sum_covers (λ (q : LookUp). 1 + look_up_edges A q) (once look_up_same (look_up ∷ map (look_up_in t.sets) t.asked)) (map (look_up_in t.sets) (t.asked ++ r ∷ []))
-          (look_ups_distinct t.sets (t.asked ++ r ∷ []) tabled.sets_apart all (snoc t.asked tabled.asked_apart (λ h. no (sym at ∙ has_any t.asked r h))))
+          (look_ups_distinct t.sets (t.asked ++ r ∷ []) tabled.sets_apart all (snoc t.asked tabled.asked_apart (λ h. false≢true (sym at ∙ has_any t.asked r h))))
           (λ q h. once_has look_up_same same_look_up look_up_itself (look_up ∷ map (look_up_in t.sets) t.asked) q (some_look_up q h)) in
           let look_ups_sum = sum_look_ups new (t.asked ++ r ∷ []) ∙ ap (sum_by (λ (q : LookUp). 1 + look_up_edges A q)) look_ups_are in
           record { is = omega (arith, is, sets_less, look_ups_less, look_ups_sum); more = more }

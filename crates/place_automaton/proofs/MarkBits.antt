@@ -4,7 +4,7 @@ use Rattle.std.specs.Prelude.{bit_or, bit_and, if◌then◌else◌}
 use Rattle.std.specs.Int.{bit_at}
 use Rattle.std.specs.Str.{bytes_eq}
 use Rattle.std.proofs.Math.Nat.{one-le-pow, mod-lt}
-use Rattle.std.proofs.lemmas.Bool.{cases_eq}
+use Rattle.std.proofs.lemmas.Bool.{cases_eq, false≢true}
 use Rattle.std.proofs.lemmas.Nat.{or_disjoint, div-add-mod'}
 use Rattle.std.proofs.lemmas.Nat.Bits.{bit_at-zero, bit_at-lt, bit_at_and, bit_at_or, same_from_bits, bit_at-pow_other, bit_at_cat_high}
 use Rattle.spanner_model.specs.Captures.{VarName}
@@ -74,10 +74,7 @@ abbrev at_name : {A : Type 0} → A → A → Bool → A
 at_name a b c = if c then a else b
 
 other_there : (y x : VarName) (ys : List VarName) → bytes_eq y x ≡ false → Has (y ∷ ys) x → Has ys x
-other_there y x ys e (inl same) = absurd (differ (sym e ∙ name_itself y x same))
-  where
-    differ : false ≡ true → ⊥
-    differ f = cc
+other_there y x ys e (inl same) = absurd (false≢true (sym e ∙ name_itself y x same))
 other_there y x ys e (inr h) = h
 
 pub behind_less : (names : List VarName) (x : VarName) → Has names x → behind names x < length names

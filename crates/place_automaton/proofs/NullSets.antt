@@ -1,5 +1,5 @@
 -- Null is a set of blocks: none is there twice, and each has bits of the formula's variables alone.
-use Rattle.std.proofs.Common.{◌≡◌, ℕ, zero, suc, ◌+◌, ◌-◌, ◌<◌, ◌≤◌, ◌⊎◌, Bool, true, false, List, [], ◌∷◌, ◌++◌, map, max, Option, Some, None, inl, inr, refl, sym, ap, ◌∙◌, subst, arith}
+use Rattle.std.proofs.Common.{◌≡◌, ℕ, zero, suc, ◌+◌, ◌-◌, ◌<◌, ◌≤◌, ◌⊎◌, Bool, true, false, List, [], ◌∷◌, ◌++◌, map, max, Option, Some, None, inl, inr, refl, sym, ap, ◌∙◌, subst, arith, true≢false}
 use Rattle.std.specs.Prelude.{bit_or, nat_eq, ◌||◌, if◌then◌else◌}
 use Rattle.std.specs.List.{list_any}
 use Rattle.std.specs.Int.{bit_at}
@@ -73,10 +73,7 @@ has_any n (m ∷ ms) h e = by (has_any n ms) (nat_eq n m) refl e h
   where
     by : (Has ms n → list_any (nat_eq n) ms ≡ false → ⊥) → (b : Bool) → nat_eq n m ≡ b → (b || list_any (nat_eq n) ms) ≡ false → Has (m ∷ ms) n → ⊥
     by rest true at f h = cc
-    by rest false at f (inl same) = differ (sym (eq-eqb n m (sym same)) ∙ at)
-      where
-        differ : true ≡ false → ⊥
-        differ g = cc
+    by rest false at f (inl same) = true≢false (sym (eq-eqb n m (sym same)) ∙ at)
     by rest false at f (inr h) = rest h f
 
 once_distinct : (n : ℕ) (ms : List ℕ) → AreDistinct ms → AreDistinct (add_once n ms)

@@ -3,8 +3,9 @@ use Rattle.std.proofs.Common.{◌≡◌, ℕ, zero, suc, ◌+◌, ◌*◌, ◌-�
 use Rattle.std.specs.Prelude.{map, max, if◌then◌else◌, ◌||◌}
 use Rattle.std.specs.List.{flat_map}
 use Rattle.std.specs.Str.{bytes_eq}
-use Rattle.std.proofs.lemmas.Bool.{eq-eqb, le-ltb}
+use Rattle.std.proofs.lemmas.Bool.{eq-eqb, le-ltb, false≢true}
 use Rattle.std.proofs.lemmas.List.{length-map}
+use Rattle.std.proofs.lemmas.Option.{none-some}
 use Rattle.spanner_model.specs.Captures.{VarName, Captures, Captured, span_of}
 use Rattle.spanner_model.specs.Fit.{Piece, Times, Fit}
 use Rattle.spanner_model.specs.Sequential.{HasVar}
@@ -155,10 +156,7 @@ captured_span (c ∷ m) x h = go (captured_span m x) (bytes_eq c.0 x) refl h
     go : (Captured m x → (c : VarName × Span) × Has m c × (span_of m x ≡ Some c.1)) → (b : Bool) → bytes_eq c.0 x ≡ b → Captured (c ∷ m) x →
         (a : VarName × Span) × Has (c ∷ m) a × (span_of (c ∷ m) x ≡ Some a.1)
     go rest true e k = (c, inl refl, ap (λ b. if b then Some c.1 else span_of m x) e)
-    go rest false e (inl same) = absurd (false_true (sym e ∙ name_itself c.0 x same))
-      where
-        false_true : false ≡ true → ⊥
-        false_true f = cc
+    go rest false e (inl same) = absurd (false≢true (sym e ∙ name_itself c.0 x same))
     go rest false e (inr k) = let r = rest k in (r.0, inr r.1, ap (λ b. if b then Some c.1 else span_of m x) e ∙ r.2)
 
 span_captured : (m : Captures) (x : VarName) (s : Span) → span_of m x ≡ Some s → Captured m x
@@ -189,12 +187,10 @@ module _ (names : List VarName) (dis : AreDistinct names) where
   same_spans : (f : Tree) → IsFunctional f → (c e : Captures) → Fit f [] 0 0 c → Fit f [] 0 0 e → (x : VarName) → span_of c x ≡ span_of e x
   same_spans f ok c e hc he x = go (span_of c x) refl
     where
-      none_some : (s : Span) → None ≡ Some s → ⊥
-      none_some s q = cc
 
       go : (o : Option Span) → span_of c x ≡ o → span_of c x ≡ span_of e x
       go None at =
-          at ∙ sym (span_of-absent e x (λ k. none_some the_empty_span
+          at ∙ sym (span_of-absent e x (λ k. none-some the_empty_span
           (sym at ∙ at_itself f c x hc (fit_sure f [] 0 0 c hc x (functional_sure f x ok (fit_only_vars f [] 0 0 e he x k))))))
       go (Some s) at =
           let k = span_captured c x s at in

@@ -3,6 +3,7 @@ use Rattle.std.proofs.Common.{◌≡◌, ℕ, zero, suc, ◌+◌, ◌*◌, ◌^�
 use Rattle.std.specs.Prelude.{map, nat_eq, if◌then◌else◌}
 use Rattle.std.specs.Str.{bytes_eq}
 use Rattle.std.proofs.lemmas.List.{length-map}
+use Rattle.std.proofs.lemmas.Bool.{false≢true}
 use Rattle.spanner_model.specs.Captures.{VarName, Captures, Captured, AreApart, span_of, row_of}
 use Rattle.spanner_model.specs.Fit.{Piece, Times, Fit}
 use Rattle.span_core.specs.Lists.{Has, AreDistinct}
@@ -117,7 +118,7 @@ module _ (p : ℕ) where
           let tails : block_at (map (span_of ((x, s) ∷ m)) names) p ≡ block_at (map (span_of m) names) p = ap (λ r. block_at r p) tail in
           omega (arith, new_head, old_head, bits_here, tails)
       go rest false e k =
-          let apart : y ≡ x → ⊥ = λ a. false_true (sym e ∙ name_itself y x a) in
+          let apart : y ≡ x → ⊥ = λ a. false≢true (sym e ∙ name_itself y x a) in
           let head : span_of ((x, s) ∷ m) y ≡ span_of m y = ap (λ b. if b then Some s else span_of m y) (other_name x y (λ a. apart (sym a))) in
           let there : Has names x = elim k [ inl a ↦ absurd (apart a) | inr a ↦ a ] in
           let l1 = length-map names (span_of ((x, s) ∷ m)) in
@@ -128,9 +129,6 @@ module _ (p : ℕ) where
           ap (λ b. (if nat_eq s.start p then (if b then 2 ^ (2 * length names + 1) else opening_of names x) else 0)
           + (if nat_eq s.end p then (if b then 2 ^ (2 * length names) else closing_of names x) else 0)) e in
           omega (arith, heads, bits_there, rest there free)
-        where
-          false_true : false ≡ true → ⊥
-          false_true f = cc
 
   pub row_blocks : (names : List VarName) (c : Captures) → AreDistinct names → IsOnce c → ((x : VarName) → Captured c x → Has names x) →
       blocks (opening_of names) (closing_of names) c p ≡ block_at (row_of names (span_of c)) p

@@ -19,6 +19,7 @@ use Rattle.marked_automaton.proofs.Listed.{get_map, get_map_cases, same_or_not, 
 use Rattle.marked_automaton.proofs.Passing.{filter_cases, left_true, right_true, both_true}
 use Rattle.automaton_reading.specs.Reading.{Question, byte_read, rest_taken, ended, question_same, set_of, blocks_down, is_among, Reach, reach_with, rest_edge, ways_taken, edges}
 use Rattle.automaton_reading.proofs.Determined.{has_set}
+use Rattle.automaton_reading.proofs.MeasureLaws.{same_ask, ask_itself}
 use Rattle.set_table.specs.declared.answer.TableQuestion.{TableQuestion}
 use Rattle.set_table.specs.declared.answer.TableQuestion.TheVariants.{Byte, Rest, Ends}
 use Rattle.set_table.specs.declared.answer.Answer.{Answer}
@@ -389,27 +390,11 @@ held_fresh A sets answers es ends numbers start w whole is one no_answers no_edg
 pub asking_told : (r s : Asking) → asking_same r s ≡ true → r ≡ s
 asking_told r s e =
     let a = eqb-true r.set s.set (left_true (nat_eq r.set s.set) (question_same r.ask s.ask) e) in
-    let b = ask_told r.ask s.ask (right_true (nat_eq r.set s.set) (question_same r.ask s.ask) e) in
+    let b = same_ask r.ask s.ask (right_true (nat_eq r.set s.set) (question_same r.ask s.ask) e) in
     (λ i. let t : Asking = record { set = a i; ask = b i } in t)
-  where
-    ask_told : (a b : Question) → question_same a b ≡ true → a ≡ b
-    ask_told (byte_read b) (byte_read c) e = ap byte_read (eqb-true b c e)
-    ask_told (byte_read b) rest_taken e = absurd (cc)
-    ask_told (byte_read b) ended e = absurd (cc)
-    ask_told rest_taken (byte_read c) e = absurd (cc)
-    ask_told rest_taken rest_taken e = refl
-    ask_told rest_taken ended e = absurd (cc)
-    ask_told ended (byte_read c) e = absurd (cc)
-    ask_told ended rest_taken e = absurd (cc)
-    ask_told ended ended e = refl
 
 pub asking_itself : (r : Asking) → asking_same r r ≡ true
 asking_itself r = both_true (nat_eq r.set r.set) (question_same r.ask r.ask) (eq-eqb r.set r.set refl) (ask_itself r.ask)
-  where
-    ask_itself : (a : Question) → question_same a a ≡ true
-    ask_itself (byte_read b) = eq-eqb b b refl
-    ask_itself rest_taken = refl
-    ask_itself ended = refl
 
 pub has_asked : (r : Asking) (rs : List Asking) → Has rs r → list_any (asking_same r) rs ≡ true
 has_asked r [] h = absurd h

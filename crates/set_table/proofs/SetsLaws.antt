@@ -4,6 +4,7 @@ use Rattle.std.specs.Prelude.{if◌then◌else◌, ◌||◌, slice_get}
 use Rattle.std.specs.List.{list_any, IsDistinct}
 use Rattle.std.specs.Str.{bytes_eq}
 use Rattle.std.proofs.lemmas.List.{append-nil, map-append}
+use Rattle.std.proofs.lemmas.Bool.{false≢true}
 use Rattle.indexmap.specs.IndexSet.{insert_key}
 use Rattle.span_core.specs.Lists.{AreDistinct}
 use Rattle.span_core.proofs.HasLaws.{Has-map_cases}
@@ -37,12 +38,9 @@ module _ {X : Type 0} (f : X → List ℕ) (eq : X → X → Bool) (is : (x y : 
         let m = Has-map_cases f vs (f v) h in
         let e : eq v m.0 ≡ false = all_has (λ y. eq v y ≡ false) vs m.0 d.0 m.1 in
         let t : eq v m.0 ≡ true = is v m.0 ∙ (ap (bytes_eq (f v)) m.2 ∙ bytes_itself (f v)) in
-        differ (sym e ∙ t)),
+        false≢true (sym e ∙ t)),
     lists_apart vs d.1,
   )
-    where
-      differ : false ≡ true → ⊥
-      differ e = cc
 
 -- ---- sets with one put in
 

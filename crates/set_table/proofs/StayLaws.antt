@@ -4,7 +4,7 @@ use Rattle.std.specs.Prelude.{nat_eq, ◌||◌, IsTrue, ◌↔◌}
 use Rattle.std.specs.Ordering.{nat_cmp}
 use Rattle.std.specs.Cmp.{nat_cmp_total, unsigned_tied}
 use Rattle.std.specs.FinSet.{contains-union, contains-insert, contains-empty}
-use Rattle.std.proofs.lemmas.Bool.{eqb-true, eq-eqb, cases_lt}
+use Rattle.std.proofs.lemmas.Bool.{eqb-true, eq-eqb, cases_lt, false≢true}
 use Rattle.marked_automaton.proofs.Passing.{or_left, or_right}
 use Rattle.std.specs.FinSet as bytes
 use Rattle.span_core.specs.declared.edge.Edge.{Edge}
@@ -118,13 +118,10 @@ pub no_stays : (A : Automaton) (limit : ℕ) (sets : List (List ℕ)) (answers :
 no_stays A limit sets answers stays none count empty = record {
   count = count;
   are = λ k b. (
-    (λ t. absurd (differ (sym (ap (λ v. bytes.contains v b) (empty k) ∙ contains-empty nat_cmp b) ∙ t))),
+    (λ t. absurd (false≢true (sym (ap (λ v. bytes.contains v b) (empty k) ∙ contains-empty nat_cmp b) ∙ t))),
     (λ st. absurd (subst (λ (xs : List Answer). Has (askings xs) (asking k (byte_read b))) none st.asked)),
   );
 }
-  where
-    differ : false ≡ true → ⊥
-    differ e = cc
 
 module _ (A : Automaton) (limit : ℕ) (sets0 sets : List (List ℕ)) (answers0 : List Answer) (es : List Edge) (ends numbers : List ℕ) (w : ℕ) (x : Answer) (longer : IsLongerBy sets0 sets)
     (held : IsHeld A sets (answers0 ++ x ∷ []) es ends numbers w) (before : (y : Answer) → Has answers0 y → y.set < length sets0) (apart : AreDistinct sets) (within : x.set < length sets) where

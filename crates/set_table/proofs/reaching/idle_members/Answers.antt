@@ -1,7 +1,8 @@
-use Rattle.std.proofs.Common.{◌≡◌, ℕ, Bool, true, false, List, [], ◌∷◌, ◌++◌, cond, get_or, take, sym, ap, ◌∙◌}
+use Rattle.std.proofs.Common.{◌≡◌, ℕ, true, false, List, [], ◌∷◌, ◌++◌, cond, get_or, take, sym, ap, ◌∙◌}
 use Rattle.std.specs.List.{filter}
 use Rattle.std.proofs.lemmas.List.{append-nil}
 use Rattle.std.proofs.lemmas.List.Elements.{filter_more}
+use Rattle.std.proofs.lemmas.Bool.{false_from_ne_true, false≢true}
 use Rattle.span_core.specs.Lists.{Has}
 use Rattle.span_core.proofs.HasLaws.{Has-get_or}
 use Rattle.automaton_reading.specs.Reading.{is_among}
@@ -10,11 +11,7 @@ use Rattle.set_table.proofs.reaching.idle_members.Goals.{then-is_idle+in_ok-push
 use Rattle.set_table.proofs.reaching.idle_members.Goals as goal
 
 not_among : (xs : List ℕ) (x : ℕ) → (Has xs x → ⊥) → is_among xs x ≡ false
-not_among xs x absent = go (is_among xs x) (λ e. absent (among_has xs x e))
-  where
-    go : (b : Bool) → (b ≡ true → ⊥) → b ≡ false
-    go true h = absurd (h (λ i. true))
-    go false h = (λ i. false)
+not_among xs x absent = false_from_ne_true (is_among xs x) (λ e. absent (among_has xs x e))
 
 pub is_idle-requires : goal.is_idle-requires
 is_idle-requires c =
@@ -34,9 +31,6 @@ loop-state-preserved c =
           let yes : t x ≡ true = has_among c.args.automaton.now.graph.idle x (c.is_idle.ensures.0 w.if-is_idle.true) in
           (λ j. (w.idle-is j).items) ∙ (w.in_ok-push.ensures.items ∙ ((λ j. c.loop-state.invariant j ++ x ∷ []) ∙ sym (more ∙ ap (λ b. filter t (take i xs) ++ cond b (x ∷ []) []) yes)))
       | else-is_idle w ↦
-          let not_there : t x ≡ false = not_among c.args.automaton.now.graph.idle x (λ h. differ (sym w.if-is_idle.false ∙ c.is_idle.ensures.1 h)) in
+          let not_there : t x ≡ false = not_among c.args.automaton.now.graph.idle x (λ h. false≢true (sym w.if-is_idle.false ∙ c.is_idle.ensures.1 h)) in
           (λ j. (w.idle-is j).items) ∙ (c.loop-state.invariant ∙ sym (more ∙ (ap (λ b. filter t (take i xs) ++ cond b (x ∷ []) []) not_there ∙ append-nil (filter t (take i xs)))))
     ]
-  where
-    differ : false ≡ true → ⊥
-    differ e = cc
