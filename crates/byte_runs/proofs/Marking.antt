@@ -3,7 +3,7 @@ use Rattle.std.proofs.Common.{◌≡◌, ℕ, ◌+◌, ◌<◌, Bool, true, fals
 use Rattle.std.specs.Prelude.{◌||◌}
 use Rattle.std.specs.Ordering.{nat_cmp}
 use Rattle.std.specs.FinSet.{FinSet}
-use Rattle.std.proofs.lemmas.Bool.{cases_eq, cases_lt}
+use Rattle.std.proofs.lemmas.Bool.{cases_eq}
 use Rattle.std.proofs.lemmas.List.{get_or-set_same, get_or-set_other}
 use Rattle.memchr.specs.Find.{Nowhere, Passes}
 use Rattle.span_core.specs.ByteSets.{bytes_between}
@@ -53,10 +53,6 @@ eight_unmarked marks bytes i e =
 
     no : (j : ℕ) → is_marked marks (slice_index bytes j) ≡ false → is_marked marks (slice_index bytes j) ≡ true → ⊥
     no j is p = absurd (cc)
-
--- nowhere here and nowhere behind it
-pub joined : (P : ℕ → Type 0) (i j k : ℕ) → Nowhere P i j → Nowhere P j k → Nowhere P i k
-joined P i j k first second n low less p = elim (cases_lt n j) [ inl l ↦ first n low l p | inr le ↦ second n le less p ]
 
 -- one byte more of a table
 pub one_more_mark : (set_of : FinSet nat_cmp) (marks : List Bool) (n : ℕ) (mark : Bool) → mark ≡ is_outside set_of n → n < length marks →

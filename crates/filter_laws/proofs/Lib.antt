@@ -1,6 +1,5 @@
 pub mod PassLaws
 pub mod GapReading
-pub mod ReductWays
 pub mod OperationsWait
 pub mod AtomParts
 pub mod AtomWaiting

@@ -31,10 +31,6 @@ later : (from : ℕ) (ranges : List (ℕ × ℕ)) → AllByRecursion (λ part. f
 later from [] h = tt
 later from (part ∷ ranges) h = (omega (arith, h.0), later from ranges h.1)
 
-past : (from : ℕ) (ranges : List (ℕ × ℕ)) → AllByRecursion (λ part. from + 2 ≤ part.0) ranges → AllByRecursion (λ next. from + 1 < next.0) ranges
-past from [] h = tt
-past from (part ∷ ranges) h = (omega (arith, h.0), past from ranges h.1)
-
 -- all start past the first one
 rest_past : (a b from : ℕ) (rest : List (ℕ × ℕ)) → a ≤ b → from < a → AllByRecursion (λ next. b + 1 < next.0) rest → AllByRecursion (λ next. from + 1 < next.0) rest
 rest_past a b from [] le lt h = tt

@@ -185,15 +185,3 @@ leaves_byte old b s none holds c = (
     | inr more ↦ (let same : c ≡ b = omega (arith, more, h.0) in absurd (true≢false (sym h.1 ∙ ap (set.contains s) same ∙ none)))
   ],
 )
-
-pub none_below : (s : Bytes) → HoldsBelow [] 0 s
-none_below s c = (λ h. absurd h, λ h. absurd (omega (arith, h.0)))
-
-pub all_below : (ranges : List (ℕ × ℕ)) (s : Bytes) → HoldsBelow ranges 256 s → ((c : ℕ) → IsTrue (set.contains s c) → c < 256) → Holds ranges s
-all_below ranges s holds small c = (
-  λ h. (let v = (holds c).0 h in (byte_scalar c v.0, v.1)),
-  λ h. (holds c).1 (small c h.1, h.1),
-)
-  where
-    byte_scalar : (c : ℕ) → c < 256 → IsScalar c
-    byte_scalar c small = grind (arith, nat_tests)

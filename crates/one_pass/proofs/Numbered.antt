@@ -1,11 +1,11 @@
 -- Edges to the sets of a table, by the sets' numbers; and what is greater than all behind it.
-use Rattle.std.proofs.Common.{◌≡◌, ℕ, zero, suc, ◌<◌, List, [], ◌∷◌, length, get_or, map, Some, inl, inr, refl, sym, ap, arith, ◌∙◌}
+use Rattle.std.proofs.Common.{◌≡◌, ℕ, zero, suc, ◌<◌, List, [], ◌∷◌, length, get_or, Some, inl, inr, refl, sym, ap, arith, ◌∙◌}
 use Rattle.std.specs.Prelude.{slice_get}
 use Rattle.std.specs.Option.{unwrap_or}
 use Rattle.span_core.specs.Lists.{Has}
 use Rattle.span_core.specs.declared.edge.Edge.{Edge}
 use Rattle.automaton_reading.specs.Reading.{Reach}
-use Rattle.one_pass.specs.Held.{TableView, AreNumbered, marks_of}
+use Rattle.one_pass.specs.Held.{TableView, AreNumbered}
 
 module _ (t : TableView) where
   pub edge_reach : (es : List Edge) (rs : List Reach) (e : Edge) → AreNumbered t es rs → Has es e →
@@ -35,9 +35,3 @@ pub named_there : (xs : List (List ℕ)) (k : ℕ) (set : List ℕ) → slice_ge
 named_there [] k set e = absurd (cc)
 named_there (x ∷ xs) zero set e = (omega arith, ap (λ o. unwrap_or o x) e)
 named_there (x ∷ xs) (suc k) set e = let r = named_there xs k set e in (omega (arith, r.0), r.1)
-
--- ---- edges stand in descending order of their blocks
-
-marks_by : (f : ℕ → Reach) (ms : List ℕ) → ((m : ℕ) → (f m).marks ≡ m) → marks_of (map f ms) ≡ ms
-marks_by f [] same = refl
-marks_by f (m ∷ ms) same = ap (λ x. x ∷ marks_of (map f ms)) (same m) ∙ ap (λ xs. m ∷ xs) (marks_by f ms same)

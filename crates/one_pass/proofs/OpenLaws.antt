@@ -1,8 +1,7 @@
 -- What a caller knows between two places, and what is always true there.
-use Rattle.std.proofs.Common.{◌≡◌, ℕ, ◌<◌, ◌≤◌, List, [], ◌∷◌, length, map, inl, inr, refl, sym, ap, subst, arith}
+use Rattle.std.proofs.Common.{◌≡◌, ℕ, ◌<◌, List, [], ◌∷◌, length, map, inl, inr, refl, sym, ap, subst, arith}
 use Rattle.std.proofs.lemmas.Option.{slice_get_within}
 use Rattle.span_core.specs.Lists.{Has}
-use Rattle.span_core.specs.Intervals.{Covers}
 use Rattle.automaton_reading.specs.Reading.{set_of}
 use Rattle.set_table.specs.Tabled.{IsTabled, Tabled}
 use Rattle.output_graph.specs.Graph.{AreApart, Graph, Source, source_of, sources}
@@ -46,11 +45,3 @@ open_first t g s tabled zero_set is none begun = record {
     by_past : (x : Source) (w : Word) (b : ℕ × ℕ) → Has (first_source s ∷ []) x → Has x.words w → Has w b → ⊥
     by_past x w b (inl e) m n = empty w b (subst (λ (y : Source). Has y.words w) (sym e) m) n
     by_past x w b (inr h) m n = absurd h
-
--- all positions of a document
-pub covers_all : (ps : List (ℕ × ℕ)) (n m q : ℕ) → ps ≡ (0, n) ∷ [] → n ≤ m → Covers ps q → q ≤ m
-covers_all ps n m q is le h = by (subst (λ (xs : List (ℕ × ℕ)). Covers xs q) is h)
-  where
-    by : Covers ((0, n) ∷ []) q → q ≤ m
-    by (inl k) = omega (arith, k, le)
-    by (inr k) = absurd k

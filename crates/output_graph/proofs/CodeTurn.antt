@@ -1,5 +1,5 @@
 -- The steps of the code's loop.
-use Rattle.std.proofs.Common.{◌≡◌, ℕ, ◌<◌, List, [], ◌∷◌, length, Option, Some, None, IfSome, inl, inr, refl, sym, ap, ◌∙◌, subst, arith, if◌then◌else◌, nat_eq, eq-eqb, ne_eqb}
+use Rattle.std.proofs.Common.{◌≡◌, ℕ, ◌<◌, List, [], ◌∷◌, length, Option, Some, None, inl, inr, refl, sym, ap, ◌∙◌, subst, arith, if◌then◌else◌, nat_eq, eq-eqb, ne_eqb}
 use Rattle.std.proofs.lemmas.Bool.{cases_eq, cond-true, cond-false}
 use Rattle.span_core.specs.Lists.{Has}
 use Rattle.node_arena.specs.Words.{Word, words}
@@ -35,20 +35,8 @@ module _ (Accepted : Word → Type 0) (most : ℕ) (l : NamedLink) (older : List
   pub from_there : (f : ℕ) → l.from ≡ Some f → HasCell older f
   from_there f is = t.turned.grown.0.from_there f is
 
-  pub also_there : IfSome l.also (λ a. HasCell older a)
-  also_there = some_then l.also (λ a is. t.turned.grown.0.also_there a is)
-    where
-      some_then : (o : Option ℕ) → ((a : ℕ) → o ≡ Some a → HasCell older a) → IfSome o (λ a. HasCell older a)
-      some_then None f = tt
-      some_then (Some a) f = f a refl
-
   older_same : (c : ℕ) → HasCell older c → head heads c ≡ t.entries c
   older_same c there = t.same c (there.0, inr there.1, there.2)
-
-  pub next_there : (f : ℕ) (next : Entry) (taken : Entries) → ((c : ℕ) → HasCell older c → head taken c ≡ head heads c) → l.from ≡ Some f → next ≡ head taken f → IsThere store next
-  next_there f next taken kept from is =
-      let there = from_there f from in
-      subst (λ e. IsThere store e) (sym (is ∙ (kept f there ∙ older_same f there))) (t.turned.keeps.there f)
 
   module _ (taken : Entries) (kept : (c : ℕ) → HasCell older c → head taken c ≡ head heads c) (f : ℕ) (mine next e : Entry) (after : Entries)
       (from : l.from ≡ Some f) (is_mine : mine ≡ head heads l.name) (is_next : next ≡ head taken f) (is_after : after ≡ handed_to (with_head taken f e) l.also mine) where

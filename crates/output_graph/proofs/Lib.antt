@@ -7,7 +7,6 @@ pub mod GrowthLaws
 pub mod ReleaseLaws
 pub mod StepLaws
 pub mod SourceLaws
-pub mod Holds
 pub mod HoldLaws
 pub mod EdgeLaws
 pub mod MakeLaws

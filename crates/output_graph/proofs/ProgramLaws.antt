@@ -4,7 +4,6 @@ use Rattle.std.specs.List.{flat_map}
 use Rattle.std.proofs.lemmas.List.{take-append-drop}
 use Rattle.std.proofs.lemmas.Bool.{cases_eq, cond-true, cond-false}
 use Rattle.std.proofs.lemmas.Option.{same_Some}
-use Rattle.span_core.specs.Lists.{Has}
 use Rattle.output_graph.specs.declared.program.Move.{Move}
 use Rattle.output_graph.specs.Forward.{Layer, set_cell}
 use Rattle.output_graph.specs.Source.{Edges, Descend}
@@ -135,12 +134,6 @@ edges_drop (x ∷ xs) (suc n) = edges_drop xs n
 pub edges_length : (xs : List Move) → length (edges_in xs) ≡ length xs
 edges_length [] = refl
 edges_length (x ∷ xs) = ap suc (edges_length xs)
-
-pub has_drop : (xs : List Move) (n : ℕ) (m : Move) → Has (drop n xs) m → Has xs m
-has_drop [] zero m h = absurd h
-has_drop [] (suc n) m h = absurd h
-has_drop (x ∷ xs) zero m h = h
-has_drop (x ∷ xs) (suc n) m h = inr (has_drop xs n m h)
 
 -- ---- one source more
 

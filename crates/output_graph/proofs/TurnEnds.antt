@@ -15,7 +15,6 @@ use Rattle.node_arena.specs.declared.row.Entry.{Entry}
 use Rattle.node_arena.specs.declared.row.Entry.TheVariants.{Nothing}
 use Rattle.output_graph.specs.Forward.{cell_of}
 use Rattle.output_graph.specs.Loop.{IsInTurn, AreListed, IsAcceptedBy, IsAccepting}
-use Rattle.output_graph.specs.Listed.{AreLists, lists_of}
 use Rattle.output_graph.specs.Graph.{Graph, targets, sets_of, HasWord}
 use Rattle.output_graph.specs.Sound.{IsSound}
 use Rattle.output_graph.proofs.CodeTurn.{code_begins}
@@ -37,9 +36,6 @@ none_left Accepted most cells heads store is t = record {
   marked = t.turned.marked;
   few = (let f = t.turned.few in omega arith);
 }
-
-pub are_lists : (Accepted : Word → Type 0) (most : ℕ) (store : List NamedRow) (first : Entry) → AreListed Accepted most store first → AreLists (lists_of store first)
-are_lists Accepted most store first l = record { made = l.made; led = l.led; there = l.first_there; marked = l.marked }
 
 -- another way to say what is accepted
 pub listed_as : (P Q : Word → Type 0) (most : ℕ) (store : List NamedRow) (first : Entry) → ((w : Word) → P w ↔ Q w) → AreListed P most store first → AreListed Q most store first

@@ -149,9 +149,6 @@ module _ (l : NamedLink) (h : Heads) (Accepted : Word → Type 0) (can : Continu
     subst AreInOrder (sym head_stays) (t.in_order l.name),
   )
 
-not_first : (l m : NamedLink) (older : List NamedLink) → Continues (m ∷ older) l → l.from ≡ None → ⊥
-not_first l m older can none = let e = can.first_is_root none in cc
-
 module _ (cells : List NamedLink) (accept : ℕ) (open_ : IsOpen cells accept) where
   start_here : (c : ℕ) (s : Word) → Has (start accept c) s → (c ≡ accept) × (s ≡ [])
   start_here c s there = elim (cases_eq c accept) as (λ _. (c ≡ accept) × (s ≡ [])) [

@@ -1,5 +1,5 @@
 -- Parts that come to a draft one after another.
-use Rattle.std.proofs.Common.{◌≡◌, ℕ, ◌+◌, List, [], ◌∷◌, ◌++◌, length, take, map, Some, inl, inr, sym, ap, ◌∙◌, subst, arith, append_assoc, append-nil}
+use Rattle.std.proofs.Common.{◌≡◌, ℕ, ◌+◌, List, [], ◌∷◌, ◌++◌, length, take, map, Some, inl, inr, sym, ap, ◌∙◌, subst, arith, append_assoc}
 use Rattle.std.specs.Prelude.{slice_get, Result, Ok, Err, IfOk, OnOk}
 use Rattle.std.proofs.lemmas.List.{map-append}
 use Rattle.spanner_model.specs.Captures.{VarName}
@@ -20,16 +20,6 @@ pub record IsRow (Ps : List Places) (old new : Draft) (xs : List Sides) : Type 0
   pub pieces : xs ≡ map sides_of Ps
   pub next : new.next ≡ old.next + total Ps
   pub ways : new.ways.items ≡ old.ways.items ++ follows Ps
-
-pub row_none : (d : Draft) (xs : List Sides) → xs ≡ [] → IsRow [] d d xs
-row_none d xs e = record { pieces = e; next = omega arith; ways = sym (append-nil d.ways.items) }
-
-pub row_one : (P : Places) (a b : Draft) (e : Sides) (xs : List Sides) → HasPlaced P a b e → xs ≡ e ∷ [] → IsRow (P ∷ []) a b xs
-row_one P a b e xs h at = record {
-  pieces = at ∙ ap (λ x. x ∷ []) h.sides;
-  next = omega (arith, h.next);
-  ways = h.ways ∙ ap (λ ys. a.ways.items ++ ys) (sym (append-nil P.follow));
-}
 
 pub row_more : (Ps : List Places) (P : Places) (a b c : Draft) (xs ys : List Sides) (e : Sides) →
     IsRow Ps a b xs → HasPlaced P b c e → ys ≡ xs ++ e ∷ [] → IsRow (Ps ++ P ∷ []) a c ys

@@ -59,9 +59,6 @@ pub sum_within : (B C : Bits) (a b c : ℕ) → Apart B C → Within B a → Wit
 sum_within B C a b c apart wa wb e i h =
     elim (sum_bit a b i (λ j x y. apart j (wa j x) (wb j y)) (ap (λ m. bit_at m i) e ∙ h)) [ inl x ↦ inl (wa i x) | inr y ↦ inr (wb i y) ]
 
-along : {X : Type 0} (marks : X → ℕ) (x y : X) (B : Bits) → x ≡ y → Within B (marks x) → Within B (marks y)
-along marks x y B e w = subst (λ z. Within B (marks z)) e w
-
 module _ (B C : Bits) (apart : Apart B C) (P Q : Places) (p : IsFine B P) (q : IsFine C Q) where
   abbrev D : Bits
   D i = B i ⊎ C i

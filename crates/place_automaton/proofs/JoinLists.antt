@@ -58,9 +58,3 @@ cut_item xs now more from end k x low high within e at = (
       ∙ (sym (get_or-drop from xs (k - from) x)
       ∙ sym (get_or-take (end - from) (drop from xs) (k - from) x (omega (arith, low, high))))))),
 )
-
--- a list of one
-pub single_is : {X : Type 0} (xs : List X) (d : X) → length xs ≡ 1 → xs ≡ get_or xs 0 d ∷ []
-single_is [] d e = absurd (omega (arith, e))
-single_is (x ∷ []) d e = refl
-single_is (x ∷ y ∷ xs) d e = absurd (omega (arith, e))

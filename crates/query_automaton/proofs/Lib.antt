@@ -3,7 +3,6 @@ pub mod Combined
 pub mod Combining
 pub mod CompileLaws
 pub mod FarBack
-pub mod Names
 pub mod PartLaws
 pub mod PieceLaws
 pub mod QueryWords

@@ -1,8 +1,8 @@
 -- The printed forms of the code's formulas, and of their parts in turn.
-use Rattle.std.proofs.Common.{◌≡◌, ℕ, ◌+◌, ◌<◌, ◌≤◌, Bool, true, false, ◌==◌, List, [], ◌∷◌, ◌++◌, length, drop, Some, ap, sym, refl, ◌∙◌, arith, append_assoc, if◌then◌else◌}
+use Rattle.std.proofs.Common.{◌≡◌, ℕ, ◌+◌, ◌<◌, Bool, true, false, ◌==◌, List, [], ◌∷◌, ◌++◌, drop, Some, ap, sym, refl, ◌∙◌, arith, append_assoc, if◌then◌else◌}
 use Rattle.std.specs.Prelude.{slice_get, nat_lt}
 use Rattle.std.proofs.lemmas.Bool.Decides.{nat_tests}
-use Rattle.std.proofs.lemmas.List.{drop_all, append-nil}
+use Rattle.std.proofs.lemmas.List.{append-nil}
 use Rattle.spanner_model.specs.Tree.{Tree, cat_all, alt_all}
 use Rattle.spanner_model.specs.View.{tree_of, trees_of}
 use Rattle.spanner_model.specs.declared.formula.Formula.{Formula}
@@ -96,14 +96,3 @@ arms_step ts k t w e is = by (k == 0) refl
         let later : nat_lt 0 k ≡ true = grind (arith, nat_tests) in
         arms_later ts k h ∙ ap (λ us. more_arms (alt_all us)) (split_at ts k t e) ∙ ap (λ u. 124 ∷ u) rest
         ∙ ap (λ v. given v 124 ++ (wrapped w (printed t) ++ arms_from (k + 1) ts)) (sym later)
-
-none_left : (ts : List Tree) → length ts ≤ 0 → printed (alt_all ts) ≡ []
-none_left [] past = refl
-none_left (t ∷ ts) past = absurd (omega (arith, past))
-
-pub arms_end : (ts : List Tree) (k : ℕ) → length ts ≤ k → arms_from k ts ≡ []
-arms_end ts k past = by (k == 0) refl
-  where
-    by : (v : Bool) → (k == 0) ≡ v → arms_from k ts ≡ []
-    by true h = let none : k ≡ 0 = grind (arith, nat_tests) in arms_first ts k h ∙ none_left ts (omega (arith, past, none))
-    by false h = arms_later ts k h ∙ ap (λ us. more_arms (alt_all us)) (drop_all k ts past)

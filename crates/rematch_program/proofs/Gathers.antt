@@ -1,7 +1,7 @@
 -- Puts one after another.
 use Rattle.std.proofs.Common.{◌≡◌, ℕ, List, [], ◌++◌, Option, ap, ◌∙◌, sym, refl, subst, append_assoc, append-nil, ◌+◌, ◌-◌, ◌≤◌, length, take, drop, zero-add, arith}
 use Rattle.std.specs.List.{copy_within}
-use Rattle.std.proofs.lemmas.List.{drop-take, length-drop, length-take-le, take-append-drop, take-take}
+use Rattle.std.proofs.lemmas.List.{drop-take, length-drop, take-append-drop, take-take}
 use Rattle.std.proofs.lemmas.List.Edits.{take-paste}
 use Rattle.std.proofs.KnownBytes.{Appends-nil, Appends-trans}
 use Rattle.std.specs.Io.KnownBytes.{Appends}
@@ -92,6 +92,3 @@ moved_front at end old new low inside is =
     ap (take n) is ∙ ap (λ k. take k (copy_within old at end 0)) (sym (zero-add n)) ∙ take-paste old 0 (drop at old) n none few in
     let there : take n (drop at old) ≡ drop at (take end old) = sym (drop-take at n old) ∙ ap (λ k. drop at (take k old)) whole in
     ap (λ (xs : List ℕ). take at old ++ xs) (moved ∙ there) ∙ ap (λ (xs : List ℕ). xs ++ drop at (take end old)) (sym (take-take at end old low)) ∙ take-append-drop at (take end old)
-
-pub nothing_taken : (n : ℕ) (xs : List ℕ) → take n xs ≡ [] → n ≤ length xs → n ≡ 0
-nothing_taken n xs is inside = omega (arith, length-take-le n xs inside, ap length is)

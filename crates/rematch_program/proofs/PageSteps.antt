@@ -2,7 +2,7 @@
 use Rattle.std.specs.Prelude.{◌↔◌, Bool, true, false, IsTrue, codes, nat_lt}
 use Rattle.std.proofs.lemmas.Bool.{le-leb, leb-true, true≢false}
 use Rattle.std.specs.Bool.{OnTrue, OnFalse}
-use Rattle.std.proofs.Common.{◌≡◌, ◌≢◌, ℕ, zero, suc, ◌+◌, ◌-◌, ◌*◌, ◌<◌, ◌≤◌, List, [], ◌∷◌, ◌++◌, length, take, Option, Some, None, if◌then◌else◌, refl, sym, ap, ◌∙◌, subst, arith, append-nil, append_assoc, length-append}
+use Rattle.std.proofs.Common.{◌≡◌, ℕ, zero, suc, ◌+◌, ◌-◌, ◌*◌, ◌<◌, ◌≤◌, List, [], ◌∷◌, ◌++◌, length, Option, Some, None, if◌then◌else◌, refl, sym, ap, ◌∙◌, subst, arith, append-nil, append_assoc, length-append}
 use Rattle.std.specs.List.{flat_map}
 use Rattle.std.proofs.lemmas.List.Concat.{flat_map-cons}
 use Rattle.spanner_model.specs.Captures.{VarName}
@@ -23,10 +23,6 @@ use Rattle.rematch_program.specs.Taking.{PageTakes}
 use Rattle.rematch_program.proofs.Inside.{fits_of}
 use Rattle.rematch_program.proofs.PassingPages.{length_checks}
 use Rattle.rematch_program.proofs.TakingLaws.{page_takes, steps_ended, steps_found}
-
-pub one_taken : (n : ℕ) (row : SpanRow) (rest : List SpanRow) → n ≢ 0 → first_rows (Some n) (row ∷ rest) ≡ row ∷ first_rows (Some (n - 1)) rest
-one_taken zero row rest some = absurd (some refl)
-one_taken (suc n) row rest some = let e : n ≡ suc n - 1 = omega arith in ap (λ k. row ∷ take k rest) e
 
 pub first_of_none : (limit : Option ℕ) → first_rows limit [] ≡ []
 first_of_none None = refl

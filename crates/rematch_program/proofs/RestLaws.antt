@@ -1,5 +1,5 @@
 -- The rows after a row, and the first of them.
-use Rattle.std.proofs.Common.{◌≡◌, ℕ, zero, suc, List, [], ◌∷◌, length, drop, Option, Some, None, inr, sym, subst}
+use Rattle.std.proofs.Common.{◌≡◌, ℕ, List, length, Option, Some, None, sym, subst}
 use Rattle.span_core.specs.Lists.{Has}
 use Rattle.span_core.specs.declared.kept.Kept.{Kept}
 use Rattle.spanner_engine.specs.Begun.{row_kept}
@@ -8,11 +8,6 @@ use Rattle.spanner_model.specs.Answers.{SpanRow, IsRest}
 use Rattle.span_core.proofs.HasLaws.{Has-append_right}
 use Rattle.row_cursor.specs.CursorTexts.{IsCursorText}
 use Rattle.rematch_program.specs.Pages.{HasWidth, IsAfter}
-
-pub Has-drop : (rows : List SpanRow) (k : ℕ) (r : SpanRow) → Has (drop k rows) r → Has rows r
-Has-drop rows zero r h = h
-Has-drop [] (suc k) r h = h
-Has-drop (x ∷ rows) (suc k) r h = inr (Has-drop rows k r h)
 
 -- ---- the page
 

@@ -4,7 +4,7 @@ use Rattle.std.specs.Prelude.{nat_lt}
 use Rattle.std.specs.Bool.{OnFalse}
 use Rattle.std.proofs.lemmas.List.{drop-take, drop-drop}
 use Rattle.std.proofs.lemmas.Bool.{ltb-true, ltb-false}
-use Rattle.std.proofs.KnownBytes.{Consumes-kept, Consumes-nil, Consumes-trans}
+use Rattle.std.proofs.KnownBytes.{Consumes-kept, Consumes-trans}
 use Rattle.std.specs.Io.KnownBytes.{Consumes, IsAtEnd, Keeps, prepend_known}
 use Rattle.rm_outside.specs.declared.source.LineFault.{LineFault}
 use Rattle.rm_outside.specs.declared.source.LineFault.TheVariants.{Failed, TooLong, OutOfMemory}
@@ -97,9 +97,6 @@ pub record IsTaking (limit : ℕ) (old now : Option (List ℕ)) (before after : 
   pub inside : HasNoEnd part
   pub appended : after ≡ before ++ part
   pub taken : Consumes old now part
-
-pub nothing_taken : (limit : ℕ) (old : Option (List ℕ)) (before : List ℕ) → IsTaking limit old old before before 0
-nothing_taken limit old before = record { part = []; counted = refl; few = omega arith; inside = tt; appended = sym (append-nil before); taken = Consumes-nil old }
 
 no_end_in : (a b : List ℕ) → HasNoEnd a → HasNoEnd b → HasNoEnd (a ++ b)
 no_end_in [] b p q = q

@@ -1,7 +1,7 @@
 -- Known bytes over several reads or writes.
-use Rattle.std.proofs.Common.{◌≡◌, ◌+◌, ◌-◌, ℕ, List, [], ◌++◌, length, take, drop, Option, refl, sym}
-use Rattle.std.proofs.KnownBytes.{Appends-kept, Appends-trans, Consumes-nil}
-use Rattle.std.proofs.lemmas.List.{take-append-drop, append-nil, take_rest}
+use Rattle.std.proofs.Common.{◌≡◌, ◌+◌, ◌-◌, ℕ, List, ◌++◌, length, take, drop, Option}
+use Rattle.std.proofs.KnownBytes.{Appends-kept, Appends-trans}
+use Rattle.std.proofs.lemmas.List.{take-append-drop, take_rest}
 use Rattle.std.proofs.Math.Seq.{take-add}
 use Rattle.std.specs.Io.KnownBytes.{Appends, Consumes, Keeps}
 use Rattle.rm_outside.specs.Sink.{AppendsPart}
@@ -27,7 +27,3 @@ pub record ReadSoFar (start now : Option (List ℕ)) (old new : List ℕ) (seen 
   pub appended : new ≡ old ++ bytes
   pub count : length bytes ≡ seen
   pub consumed : Consumes start now bytes
-
--- before the first read
-pub read_nothing : (o : Option (List ℕ)) (xs : List ℕ) → ReadSoFar o o xs xs 0
-read_nothing o xs = record { bytes = []; appended = sym (append-nil xs); count = refl; consumed = Consumes-nil o }

@@ -1,5 +1,5 @@
 -- The first edge of a set on a byte, as a table answers it.
-use Rattle.std.proofs.Common.{◌≡◌, ℕ, ◌<◌, Bool, true, false, List, [], ◌∷◌, length, map, inl, refl, sym, ap, subst, arith, ◌∙◌, if◌then◌else◌, Result, Ok, Err, Option}
+use Rattle.std.proofs.Common.{◌≡◌, ℕ, ◌<◌, List, [], ◌∷◌, length, map, inl, refl, sym, ap, subst, ◌∙◌, Result, Ok, Err, Option}
 use Rattle.std.specs.Prelude.{IfOk, MatchResult}
 use Rattle.segment_filter.specs.declared.fault.FilterFault.{FilterFault}
 use Rattle.std.specs.Borrow.{Bor}
@@ -8,7 +8,7 @@ use Rattle.segment_filter.proofs.SetLaws.{grows_asked}
 use Rattle.span_core.specs.declared.edge.Edge.{Edge}
 use Rattle.span_core.specs.Lists.{Has}
 use Rattle.automaton_reading.specs.Reading.{Reach, byte_read, edges}
-use Rattle.set_table.specs.Tabled.{Asking, HasEdges, IsRefusal, IsTabled, Tabled, asked_first, asking, edge_named, once_asked, set_at, was_asked, weight}
+use Rattle.set_table.specs.Tabled.{Asking, HasEdges, IsRefusal, Tabled, asking, edge_named, once_asked, set_at}
 use Rattle.segment_filter.specs.Next.{IsNext, IsTarget, first_target}
 
 target_is : (t : Tabled) (es : List Edge) (rs : List Reach) → map (edge_named t.sets) es ≡ rs → ((e : Edge) → Has es e → e.to < length t.sets) → IsTarget t.sets rs (first_target es)
@@ -25,16 +25,6 @@ target_is t (e ∷ es) (r ∷ rs) named given =
 pub next_is : (t0 t : Tabled) (set b : ℕ) → t ≡ once_asked t0 (asking set (byte_read b)) → (es : List Edge) → HasEdges t (asking set (byte_read b)) es →
     edges t.graph (set_at t.sets set) (byte_read b) ≡ edges t0.graph (set_at t0.sets set) (byte_read b) → IsNext t0 set b t.sets (first_target es)
 next_is t0 t set b is es h same = target_is t es (edges t0.graph (set_at t0.sets set) (byte_read b)) (h.named ∙ same) h.targets
-
--- what was asked before is not refused
-pub not_asked : (t : Tabled) (r : Asking) (w : ℕ) → IsTabled t → w ≡ weight (once_asked t r) → (once_asked t r).limit < w →
-    (was_asked t r ≡ false) × (t.limit < w) × (w ≡ weight (asked_first t r))
-not_asked t r w tabled is more = by (was_asked t r) refl is more
-  where
-    by : (b : Bool) → was_asked t r ≡ b → w ≡ weight (if b then t else asked_first t r) → (if b then t else asked_first t r).limit < w →
-        (was_asked t r ≡ false) × (t.limit < w) × (w ≡ weight (asked_first t r))
-    by true at is more = let l = tabled.within in absurd (omega (arith, l, is, more))
-    by false at is more = (at, more, is)
 
 pub look_up_ok : (t0 t : Tabled) (r : Asking) (o : Result (Bor (List Edge)) TableFault) (es : Bor (List Edge)) →
     MatchResult o (λ es. (t ≡ once_asked t0 r) × HasEdges t r es.now) (λ e. (t ≡ t0) × IsRefusal (once_asked t0 r) e) → o ≡ Ok es →

@@ -9,5 +9,4 @@ pub mod Alike
 pub mod CostLaws
 pub mod FirstTargets
 pub mod Remembering
-pub mod Results
 pub mod DenseLaws

@@ -1,13 +1,12 @@
 -- An automaton turned round, start by start.
-use Rattle.std.proofs.Common.{◌≡◌, ℕ, ◌+◌, ◌<◌, List, [], ◌∷◌, ◌++◌, length, get_or, take, sym, ap, subst, arith, ◌∙◌}
+use Rattle.std.proofs.Common.{◌≡◌, ℕ, ◌<◌, List, [], length, get_or, take, sym, ap, subst, arith}
 use Rattle.std.specs.Prelude.{map}
 use Rattle.std.specs.List.{filter}
-use Rattle.std.proofs.lemmas.List.{map-append, take_more}
 use Rattle.span_core.specs.Lists.{Has}
 use Rattle.span_core.proofs.HasLaws.{Has-get_or, Has-map_cases}
 use Rattle.marked_automaton.specs.declared.way.Way.{Way}
 use Rattle.marked_automaton.specs.declared.way.Stop.{Stop}
-use Rattle.marked_automaton.specs.Automaton.{Automaton, IsMarked, IsWayOf, Marked, turned_way, with_start}
+use Rattle.marked_automaton.specs.Automaton.{Automaton, IsMarked, IsWayOf, Marked, turned_way}
 use Rattle.marked_automaton.proofs.Passing.{filter_cases}
 use Rattle.segment_filter.specs.Readings.{moves_on}
 use Rattle.segment_filter.specs.Sets.{TakesNone}
@@ -38,14 +37,6 @@ turned_to A n = record {
   stops = [];
   idle = [];
 }
-
-pub turned_more : (A : Automaton) (n : ℕ) (x : Stop) → n < length A.stops → get_or A.stops n x ≡ x → with_start x.state (turned_to A n) ≡ turned_to A (n + 1)
-turned_more A n x l at =
-    let one : take (n + 1) A.stops ≡ take n A.stops ++ x ∷ [] = take_more A.stops n x l ∙ ap (λ z. take n A.stops ++ z ∷ []) at in
-    let starts : map (λ (y : Stop). y.state) (take (n + 1) A.stops) ≡ map (λ (y : Stop). y.state) (take n A.stops) ++ x.state ∷ [] =
-    ap (map (λ (y : Stop). y.state)) one ∙ map-append (λ (y : Stop). y.state) (take n A.stops) (x ∷ []) in
-    let with_starts : List ℕ → Automaton = λ ss. record { states = A.states; starts = ss; ways = map turned_way (filter moves_on A.ways); stops = []; idle = [] } in
-    ap with_starts (sym starts)
 
 pub stop_inside : (A : Marked) → IsMarked A → (B : Automaton) (n i : ℕ) (xs : List Stop) (x : Stop) → xs ≡ A.graph.stops → i < length xs → x ≡ get_or xs i x →
     B ≡ turned_to A.graph n → x.state < B.states

@@ -1,5 +1,5 @@
 -- What a table has that a document is read by is no more than what the reading comes to.
-use Rattle.std.proofs.Common.{◌≡◌, ℕ, zero, suc, ◌+◌, ◌*◌, ◌<◌, ◌≤◌, ◌⊎◌, List, [], ◌∷◌, ◌++◌, Bool, true, false, Option, Some, None, map, length, length-append, inl, inr, refl, sym, ap, subst, arith, ◌∙◌}
+use Rattle.std.proofs.Common.{◌≡◌, ℕ, zero, suc, ◌+◌, ◌*◌, ◌<◌, ◌≤◌, List, [], ◌∷◌, ◌++◌, Bool, true, false, Option, Some, None, map, length, length-append, inl, inr, refl, sym, ap, subst, arith, ◌∙◌}
 use Rattle.std.specs.Prelude.{slice_get, if◌then◌else◌, ◌||◌}
 use Rattle.std.specs.List.{flat_map, list_any, sum_by}
 use Rattle.std.specs.Option.{unwrap_or}
@@ -149,13 +149,6 @@ with_distinct sets s d = go (list_any (bytes_eq s) sets) refl
 all_distinct : (sets more : List (List ℕ)) → AreDistinct sets → AreDistinct (with_sets sets more)
 all_distinct sets [] d = d
 all_distinct sets (s ∷ more) d = all_distinct (with_set sets s) more (with_distinct sets s d)
-
-with_cases : (sets : List (List ℕ)) (s x : List ℕ) → Has (with_set sets s) x → Has sets x ⊎ (s ≡ x)
-with_cases sets s x h = go (list_any (bytes_eq s) sets) h
-  where
-    go : (b : Bool) → Has (if b then sets else sets ++ s ∷ []) x → Has sets x ⊎ (s ≡ x)
-    go true k = inl k
-    go false k = elim (Has-append_cases sets (s ∷ []) x k) [ inl m ↦ inl m | inr m ↦ elim m [ inl e ↦ inr e | inr n ↦ absurd n ] ]
 
 asks_at : (d : List ℕ) (k b : ℕ) → slice_get d k ≡ Some b → slice_get (map byte_read d) k ≡ Some (byte_read b)
 asks_at [] k b e = absurd (cc)

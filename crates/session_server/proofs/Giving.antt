@@ -213,18 +213,6 @@ module _ (k : Known) (old : CodeSession) (s : Session) (all : List SpanRow) wher
   abbrev coming : List SpanRow
   coming = to_come k s old.vars all
 
-  -- at first
-  pub none_given : IsSessionOver k old s all → GivesSoFar k old old 0 [] s all
-  none_given o = record {
-    vars = refl;
-    few = omega arith;
-    rows = refl;
-    now = subst (λ (x : Session). IsSessionOver k old x all) (as_given 0 s.given (omega arith)) o;
-  }
-    where
-      as_given : (n m : ℕ) → m ≡ s.given + n → record s { given = m } ≡ giving n s
-      as_given n m e = ap (λ (g : ℕ). record s { given = g }) e
-
   left_now : (now : CodeSession) (count : ℕ) (vars : List VarName) → vars ≡ old.vars → to_come k (giving count s) vars all ≡ drop count coming
   left_now now count vars same =
       ap (λ (vs : List VarName). to_come k (giving count s) vs all) same ∙ drop_twice s.given count (passing (checks_of k s.query.asked) old.vars s.document all)

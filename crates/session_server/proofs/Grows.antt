@@ -150,9 +150,6 @@ grow_halt k c s text e h is f stands = subst (IsGrowHalt s text) (sym is) (by e 
     by fault.Spent f = tt
     by fault.OutOfMemory f = tt
 
-no_bytes : AreBytes []
-no_bytes i b h = absurd (cc)
-
 bytes_append : (a b : List ℕ) → AreBytes a → AreBytes b → AreBytes (a ++ b)
 bytes_append [] b p q i x h = q i x h
 bytes_append (y ∷ a) b p q zero x h = p zero x h
@@ -181,28 +178,6 @@ now_waits k c s text h few bytes a stands =
 
 abbrev asked_now : Session → Bool → List ℕ
 asked_now s b = if b then length s.document ∷ s.asked else s.asked
-
--- nothing is asked where it has not grown
-pub not_asked : (k : Known) (c : CodeSession) (s : Session) → c.grown ≡ false → IsSession k c s → (all : List SpanRow) × IsSessionOver k c (asking s) all
-not_asked k c s still (inr w) = let no = w.waits in absurd (cc)
-not_asked k c s still (inl (all, o)) = (
-  all,
-  record {
-    kept = record {
-      query = o.kept.query;
-      growing = subst (λ (b : Bool). IsReadOn s.query.query s.document (asked_now s b) c.vars c.growing) (sym o.same) o.kept.growing;
-      few = o.kept.few;
-      bytes = o.kept.bytes;
-      names = o.kept.names;
-      tests_known = o.kept.tests_known;
-    };
-    ready = o.ready;
-    same = refl;
-    answers = o.answers;
-    last = o.last;
-    next = o.next;
-  },
-)
 
 -- its rows are asked for: what is had of them is all answers
 module _ (k : Known) (c : CodeSession) (s : Session) (h : Grown) (whole old : List SpanRow) (e : List ℕ) (held : e ≡ h.document) (a : IsAsked c.growing h)

@@ -5,7 +5,7 @@ use Rattle.std.specs.List.{filter, list_any, sum_by}
 use Rattle.std.specs.FinSet as bytes
 use Rattle.std.proofs.Math.Seq.{get_or-append_right}
 use Rattle.std.proofs.lemmas.Bool.{eqb-true, eq-eqb, cases_lt}
-use Rattle.std.proofs.lemmas.List.{length-set, length-replicate, get_or-replicate, get_or-set_same, get_or-set_other, get_or_append_left, get_or_past, get_or_read, map-append}
+use Rattle.std.proofs.lemmas.List.{length-set, length-replicate, get_or-replicate, get_or-set_same, get_or-set_other, get_or_append_left, get_or_past, map-append}
 use Rattle.std.proofs.lemmas.List.Sums.{sum_by-append, sum_by-cons}
 use Rattle.std.proofs.lemmas.Option.{slice_get-get_or}
 use Rattle.span_core.specs.declared.edge.Edge.{Edge}
@@ -472,10 +472,6 @@ is_tabled M limit w s sound apart = record {
         let question : x.question ≡ y.question = same_question x.question y.question (ap (λ (r : Asking). r.ask) same) in
         let n : suc i ≡ suc j = sym (sound.held.there i x e) ∙ ((λ k. get_or s.numbers (place_in (set k) (question k)) 0) ∙ sound.held.there j y f) in
         omega (arith, n)
-
--- a number as it is read
-pub number_read : (numbers : List ℕ) (p at n : ℕ) → p ≡ at → at < length numbers → n ≡ get_or numbers p n → get_or numbers at 0 ≡ n
-number_read numbers p at n e l h = sym (get_or_read numbers at n l (h ∙ ap (λ i. get_or numbers i n) e) 0)
 
 -- ---- answers, as they are read
 

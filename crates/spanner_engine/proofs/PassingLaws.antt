@@ -88,10 +88,6 @@ module _ (k : Known) (names : List VarName) (d : List ℕ) (row : SpanRow) where
 
 -- ---- rows one by one
 
-module _ (checks : List Check) (names : List VarName) (d : List ℕ) where
-  abbrev those : List SpanRow → List SpanRow
-  those rows = passing checks names d rows
-
 pub passing_append : (checks : List Check) (names : List VarName) (d : List ℕ) (xs ys : List SpanRow) → passing checks names d (xs ++ ys) ≡ passing checks names d xs ++ passing checks names d ys
 passing_append [] names d xs ys = refl
 passing_append (c ∷ checks) names d xs ys = filter-append (passes (c ∷ checks) names d) xs ys
@@ -102,14 +98,6 @@ one_fails (c ∷ checks) names d row fails = ap (λ (b : Bool). if b then row �
 
 pub more_fail : (checks : List Check) (names : List VarName) (d : List ℕ) (tried : List SpanRow) (row : SpanRow) → passing checks names d tried ≡ [] → passes checks names d row ≡ false → passing checks names d (tried ++ row ∷ []) ≡ []
 more_fail checks names d tried row fail fails = passing_append checks names d tried (row ∷ []) ∙ ap (λ (xs : List SpanRow). xs ++ passing checks names d (row ∷ [])) fail ∙ one_fails checks names d row fails
-
-pub none_pass : (checks : List Check) (names : List VarName) (d : List ℕ) (tried rest old : List SpanRow) → old ≡ tried ++ rest → rest ≡ [] → passing checks names d tried ≡ [] → passing checks names d old ≡ []
-none_pass checks names d tried rest old is none fail =
-    ap (passing checks names d) is ∙ passing_append checks names d tried rest ∙ ap (λ (xs : List SpanRow). xs ++ passing checks names d rest) fail ∙ ap (passing checks names d) none ∙ of_none checks
-  where
-    of_none : (cs : List Check) → passing cs names d [] ≡ []
-    of_none [] = refl
-    of_none (c ∷ cs) = refl
 
 -- ---- the last of the answers fit
 

@@ -1,5 +1,5 @@
 -- Rows of picked spans, or of none, end within a document where all spans do.
-use Rattle.std.proofs.Common.{◌≤◌, ◌<◌, ◌≡◌, ◌+◌, ℕ, List, Option, None, [], ◌∷◌, ◌++◌, length, get_or, sym, subst}
+use Rattle.std.proofs.Common.{◌≤◌, ◌<◌, ◌≡◌, ◌+◌, ℕ, List, Option, [], ◌∷◌, ◌++◌, length, get_or, sym, subst}
 use Rattle.std.specs.List.{All}
 use Rattle.std.specs.Option.{ForSome}
 use Rattle.std.proofs.lemmas.List.{length-append}
@@ -19,6 +19,3 @@ one_more n row s before at = All-append (EndsBy n) row (s ∷ []) before (All-co
 
 pub one_longer : (row : List (Option Span)) (s : Option Span) → length (row ++ s ∷ []) ≡ length row + 1
 one_longer row s = length-append row (s ∷ [])
-
-pub none_ends : (n : ℕ) → EndsBy n None
-none_ends n x is = absurd (cc)

@@ -1,1 +1,0 @@
--- Ways and ends of a reduct, and those of what it reduces.

@@ -1,1 +1,0 @@
--- What holds of an answer that is not known.

@@ -1,1 +1,0 @@
--- What holds of a result holds of it in a weaker form.
