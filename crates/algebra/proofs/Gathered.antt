@@ -14,7 +14,6 @@ use Rattle.marked_automaton.proofs.Segments.{filter_yes, filter_no}
 
 -- of tests of which no element passes both, what passes one is what passes the first, and then the second
 module _ {X : Type 0} (s t : X → Bool) (apart : (x : X) → s x ≡ true → t x ≡ false) where
-
   pub parted : (xs : List X) → IsPermutation (filter (λ x. s x || t x) xs) (filter s xs ++ filter t xs)
   parted [] = IsPermutation-refl []
   parted (x ∷ xs) = go (s x) (t x) refl refl (parted xs)

@@ -153,7 +153,6 @@ words_here : (s : ℕ) (xs : List Source) (w : Word) → HasWord xs s w → Has 
 words_here s [] w h = absurd h.1
 words_here s (x ∷ xs) w h = by (words_here s xs w) (nat_eq x.set s) refl h.1
   where
-
     by : (HasWord xs s w → Has (words_to s xs) w) → (b : Bool) → nat_eq x.set s ≡ b → Has (x ∷ xs) h.0 → Has (if b then x.words ++ words_to s xs else words_to s xs) w
     by rest true at (inl e) = Has-append_left x.words (words_to s xs) w (subst (λ (y : Source). Has y.words w) (sym e) h.3)
     by rest true at (inr k) = Has-append_right x.words (words_to s xs) w (rest (h.0, k, h.2, h.3))

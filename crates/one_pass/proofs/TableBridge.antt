@@ -152,7 +152,6 @@ module _ (t : Tabled) (tabled : IsTabled t) (r : Asking) (given : r.set < length
             );
           }
         where
-
           one : (s : Asking) → Has (r ∷ []) s → s.set < length t.sets
           one s (inl e) = subst (λ (q : Asking). q.set < length t.sets) e given
           one s (inr n) = absurd n
@@ -162,7 +161,6 @@ module _ (t : Tabled) (tabled : IsTabled t) (r : Asking) (given : r.set < length
   with_one : (sets : List (List ℕ)) (s : List ℕ) → AreDistinct sets → AreDistinct (with_set sets s)
   with_one sets s d = by (list_any (bytes_eq s) sets) refl
     where
-
       or_true : (b : Bool) → (b || true) ≡ true
       or_true true = refl
       or_true false = refl
@@ -197,7 +195,6 @@ module _ (t : Tabled) (tabled : IsTabled t) (r : Asking) (given : r.set < length
   pub held_heavy : (w : ℕ) → w ≡ weight (once_asked t r) → (once_asked t r).limit < w → IsTooHeavy (held t) look_up w
   held_heavy w is more = by (was_asked t r) refl is more
     where
-
       by : (b : Bool) → was_asked t r ≡ b → w ≡ weight (if b then t else asked_first t r) → (if b then t else asked_first t r).limit < w → IsTooHeavy (held t) look_up w
       by true at is more = let l = tabled.within in absurd (omega (arith, l, is, more))
       by false at is more =

@@ -89,7 +89,6 @@ module _ (p : ReadingPlace) (P : Pass) (at : ℕ) (ready : IsReady P at) (k : �
         stopped_by_graph P.table.graph p P (take k P.graph.layer) Q x refl past there known t n made_here e count g m cost left split
 
     module _ (es : List Edge) (numbered : AreNumbered t es (edges t.graph (set_named t set) p.ask)) where
-
       numbered_here : AreNumbered t es (edges t.graph (set_named t x.set) p.ask)
       numbered_here = subst (λ s. AreNumbered t es (edges t.graph (set_named t s) p.ask)) (sym set_is) numbered
 

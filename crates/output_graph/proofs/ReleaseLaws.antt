@@ -8,7 +8,6 @@ use Rattle.output_graph.specs.Grown.{past, past_at, IsOpen, Continues, AreGrown}
 use Rattle.output_graph.proofs.WordLemmas.{words_here, words_other, past_more, past_at_other, past_at_here}
 
 module _ (k : ℕ) where
-
   same_from : (W V : ℕ → List Word) (b : Word) (o : Option ℕ) → ((c : ℕ) → o ≡ Some c → W c ≡ V c) → words_from W b o ≡ words_from V b o
   same_from W V b None f = refl
   same_from W V b (Some c) f = ap (λ ws. map (λ (w : Word). w ++ b) ws) (f c refl)

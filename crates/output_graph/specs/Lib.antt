@@ -13,7 +13,6 @@ pub mod Turn
 pub mod RowLists
 pub mod Loop
 pub mod Listed
-
 -- of the arena below it, what callers of a graph speak of
 pub use Rattle.node_arena.specs.Rows
 pub use Rattle.node_arena.specs.Cells

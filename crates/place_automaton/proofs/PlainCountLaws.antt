@@ -187,7 +187,6 @@ module _ (names : List VarName) (dis : AreDistinct names) where
   same_spans : (f : Tree) → IsFunctional f → (c e : Captures) → Fit f [] 0 0 c → Fit f [] 0 0 e → (x : VarName) → span_of c x ≡ span_of e x
   same_spans f ok c e hc he x = go (span_of c x) refl
     where
-
       go : (o : Option Span) → span_of c x ≡ o → span_of c x ≡ span_of e x
       go None at =
           at ∙ sym (span_of-absent e x (λ k. none-some the_empty_span

@@ -200,7 +200,6 @@ next_fits q checks names d old new row last n =
 
 -- what going further did, where it found a row and where it found none
 module _ (q : QueryTree) (checks : List Check) (names : List VarName) (d : List ℕ) (old new : List SpanRow) (row : SpanRow) where
-
   pub goes_within : (b : Bool) → AreLast q d names old → OnTrue b (IsNextPassing checks names d old row new) → OnTrue b (FitsRow (length names) (length d) row)
   goes_within true last n = next_fits q checks names d old new row last n
   goes_within false last n = tt
