@@ -4,6 +4,7 @@ use Rattle.spanner_model.specs.Captures.{VarName, Captures}
 use Rattle.spanner_model.specs.Fit.{Fit}
 use Rattle.span_core.specs.Lists.{Has}
 use Rattle.spanner_model.specs.Tree.{Tree}
+use Rattle.spanner_model.specs.Expression.{AtomTree}
 use Rattle.span_core.proofs.HasLaws.{Has-append_cases}
 use Rattle.marked_automaton.specs.Automaton.{idle_way}
 use Rattle.place_automaton.specs.Atom.{unless}
@@ -23,7 +24,16 @@ use Rattle.filter_laws.proofs.AtomParts.{IsInPart, IsRead, places_wait}
 use Rattle.filter_laws.proofs.GapReading.{waiting_law}
 use Rattle.filter_laws.proofs.PassLaws.{passes_walk, walk_passes}
 
-module _ (names : List VarName) (s t : Bool) (f : Tree) where
+module _ (names : List VarName) (atom : AtomTree) where
+  abbrev s : Bool
+  s = atom.from_start
+
+  abbrev t : Bool
+  t = atom.to_end
+
+  abbrev f : Tree
+  f = atom.formula
+
   abbrev pub P : Places
   P = placed (opening_of names) (closing_of names) f 1
 
@@ -46,32 +56,32 @@ module _ (names : List VarName) (s t : Bool) (f : Tree) where
             let r = k.2 in
             inr (k.0, r.0, r.1, k.1, r.2, r.3, r.5, walk_passes P.follow d w k.0 (suc a) r.0.to r.1.state r.6)
 
-    pub part_touched : (i : ℕ) → IsInPart s t P d i → IsTouchedBy s t f d i
+    pub part_touched : (i : ℕ) → IsInPart s t P d i → IsTouchedBy atom d i
     part_touched i h = let c = read_fits h.0 h.1 h.2 in (h.0, h.1, c.0, c.1, h.3, h.4, h.5, h.6, h.7)
 
-    pub touched_part : (i : ℕ) → IsTouchedBy s t f d i → IsInPart s t P d i
+    pub touched_part : (i : ℕ) → IsTouchedBy atom d i → IsInPart s t P d i
     touched_part i h = (h.0, h.1, fits_read h.0 h.1 h.2 h.3, h.4, h.5, h.6, h.7, h.8)
 
-  idle_ways : HasIdleWays (atom_automaton names s t f)
+  idle_ways : HasIdleWays (atom_automaton names atom)
   idle_ways p h =
       elim (Has-append_cases (unless s (0 ∷ [])) (unless t (suc P.count ∷ [])) p h) [
         | inl a ↦ let r = unless_cases s (0 ∷ []) p a in elim r.1 [
-          | inl e ↦ subst (λ x. Has (atom_automaton names s t f).ways (idle_way x)) e (idle_there s t P (places_lie (opening_of names) (closing_of names) f 1) [] (λ i. 0) r.0)
+          | inl e ↦ subst (λ x. Has (atom_automaton names atom).ways (idle_way x)) e (idle_there s t P (places_lie (opening_of names) (closing_of names) f 1) [] (λ i. 0) r.0)
           | inr b ↦ absurd b
         ]
         | inr a ↦ let r = unless_cases t (suc P.count ∷ []) p a in elim r.1 [
-          | inl e ↦ subst (λ x. Has (atom_automaton names s t f).ways (idle_way x)) e (after_there s t P (places_lie (opening_of names) (closing_of names) f 1) [] (λ i. 0) r.0 (idle_way (suc P.count)) (inl refl))
+          | inl e ↦ subst (λ x. Has (atom_automaton names atom).ways (idle_way x)) e (after_there s t P (places_lie (opening_of names) (closing_of names) f 1) [] (λ i. 0) r.0 (idle_way (suc P.count)) (inl refl))
           | inr b ↦ absurd b
         ]
       ]
 
 pub atom_waits : AtomWaits
-atom_waits names s t f seq ord d K has =
-    places_wait s t (P names s t f) (places_lie (opening_of names) (closing_of names) f 1) d K (λ i h. has i (part_touched names s t f seq ord d i h))
+atom_waits names a seq ord d K has =
+    places_wait a.from_start a.to_end (P names a) (places_lie (opening_of names) (closing_of names) a.formula 1) d K (λ i h. has i (part_touched names a seq ord d i h))
 
 pub atom_at_more : AtomAtMore
-atom_at_more names s t f seq ord d bytes K has =
-    waiting_law (atom_automaton names s t f) (idle_ways names s t f) d bytes K (atom_waits names s t f seq ord d K has)
+atom_at_more names a seq ord d bytes K has =
+    waiting_law (atom_automaton names a) (idle_ways names a) d bytes K (atom_waits names a seq ord d K has)
 
 pub atom_at_touched : AtomAtTouched
-atom_at_touched names s t f seq ord d bytes K is = atom_at_more names s t f seq ord d bytes K (λ i h. (is i).1 h)
+atom_at_touched names a seq ord d bytes K is = atom_at_more names a seq ord d bytes K (λ i h. (is i).1 h)

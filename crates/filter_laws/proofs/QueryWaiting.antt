@@ -52,13 +52,13 @@ module _ (d : List ℕ) (K : ℕ → Bool) where
   Waits M = IsWhole M.graph × WaitsOutside M.graph d K
 
   abbrev Touched : ExprTree → ℕ → Type 0
-  Touched e i = SomeAtom (λ s t f. IsTouchedBy s t f d i) e ⊎ (HasMinusIn e × (i ≤ length d))
+  Touched e i = SomeAtom (λ a. IsTouchedBy a d i) e ⊎ (HasMinusIn e × (i ≤ length d))
 
   abbrev Has_all : ExprTree → Type 0
   Has_all e = Contains K (Touched e)
 
-  some_within : (e : ExprTree) (i : ℕ) → SomeAtom (λ s t f. IsTouchedBy s t f d i) e → i ≤ length d
-  some_within (atom s t f) i h = omega (arith, h.4, h.8)
+  some_within : (e : ExprTree) (i : ℕ) → SomeAtom (λ a. IsTouchedBy a d i) e → i ≤ length d
+  some_within (atom a) i h = omega (arith, h.4, h.8)
   some_within (named k) i h = absurd h
   some_within union_end i h = absurd h
   some_within (union e rest) i (inl h) = some_within e i h
@@ -135,10 +135,10 @@ module _ (d : List ℕ) (K : ℕ → Bool) where
       joined_parts : (M : Marked) → AreJoined V S n e → Has_all e → Waits M → Waits (together L M e)
 
     all_wait : (e : ExprTree) → AllWait e
-    all_wait (atom s t f) = record {
+    all_wait (atom a) = record {
       whole = λ h has. (
-        whole_law (with_vars [] f) s t f,
-        atom_waits (with_vars [] f) s t f h.1 (ordered_repeats f h.0) d K (λ i t. has i (inl t)),
+        whole_law (with_vars [] a.formula) a,
+        atom_waits (with_vars [] a.formula) a h.1 (ordered_repeats a.formula h.0) d K (λ i t. has i (inl t)),
       );
       united_parts = λ M h has m. absurd h;
       joined_parts = λ M h has m. absurd h;

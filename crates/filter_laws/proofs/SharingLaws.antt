@@ -162,9 +162,9 @@ module _ (s t : Bool) (P : Places) (lies : LiesFrom 1 P) (d : List ℕ) where
                 )
 
 pub sharing_law : SharingLaw
-sharing_law names s t f seq ord d bytes i =
-    let P = placed (opening_of names) (closing_of names) f 1 in
-    let lies = places_lie (opening_of names) (closing_of names) f 1 in (
-      (λ h. part_shared s t P lies d bytes i (touched_part names s t f seq ord d i h)),
-      (λ h. part_touched names s t f seq ord d i (shared_part s t P lies d i h)),
+sharing_law names a seq ord d bytes i =
+    let P = placed (opening_of names) (closing_of names) a.formula 1 in
+    let lies = places_lie (opening_of names) (closing_of names) a.formula 1 in (
+      (λ h. part_shared a.from_start a.to_end P lies d bytes i (touched_part names a seq ord d i h)),
+      (λ h. part_touched names a seq ord d i (shared_part a.from_start a.to_end P lies d i h)),
     )

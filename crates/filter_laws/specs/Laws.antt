@@ -1,10 +1,9 @@
 -- Laws of reading a document at some of its positions alone.
 use Rattle.std.specs.Prelude.{◌≡◌, ℕ, ◌↔◌, Bool, true, List}
 use Rattle.spanner_model.specs.Captures.{VarName, Mapping, row_of}
-use Rattle.spanner_model.specs.Expression.{QueryTree}
+use Rattle.spanner_model.specs.Expression.{AtomTree, QueryTree}
 use Rattle.spanner_model.specs.Answer.{IsAnswer}
 use Rattle.spanner_model.specs.Sound.{IsSound}
-use Rattle.spanner_model.specs.Tree.{Tree}
 use Rattle.marked_automaton.specs.Automaton.{Automaton, IsMarked, IsWhole, Marked}
 use Rattle.marked_automaton.specs.Marks.{remarked}
 use Rattle.marked_automaton.specs.Reduct.{Reduces, ReducesMarked}
@@ -30,20 +29,20 @@ WaitingLaw =
 -- the automaton of an atom, at the positions that the atom touches
 abbrev pub AtomAtTouched : Type 0
 AtomAtTouched =
-    (names : List VarName) (s t : Bool) (f : Tree) → IsSequential f → HasOrderedRepeats f →
-    (d : List ℕ) → AreBytes d → (K : ℕ → Bool) → IsSetOf K (IsTouchedBy s t f d) → ReadsTheSame (atom_automaton names s t f) d K
+    (names : List VarName) (a : AtomTree) → IsSequential a.formula → HasOrderedRepeats a.formula →
+    (d : List ℕ) → AreBytes d → (K : ℕ → Bool) → IsSetOf K (IsTouchedBy a d) → ReadsTheSame (atom_automaton names a) d K
 
 -- and at these and any others
 abbrev pub AtomAtMore : Type 0
 AtomAtMore =
-    (names : List VarName) (s t : Bool) (f : Tree) → IsSequential f → HasOrderedRepeats f →
-    (d : List ℕ) → AreBytes d → (K : ℕ → Bool) → Contains K (IsTouchedBy s t f d) → ReadsTheSame (atom_automaton names s t f) d K
+    (names : List VarName) (a : AtomTree) → IsSequential a.formula → HasOrderedRepeats a.formula →
+    (d : List ℕ) → AreBytes d → (K : ℕ → Bool) → Contains K (IsTouchedBy a d) → ReadsTheSame (atom_automaton names a) d K
 
 -- it only waits outside of them
 abbrev pub AtomWaits : Type 0
 AtomWaits =
-    (names : List VarName) (s t : Bool) (f : Tree) → IsSequential f → HasOrderedRepeats f →
-    (d : List ℕ) (K : ℕ → Bool) → Contains K (IsTouchedBy s t f d) → WaitsOutside (atom_automaton names s t f) d K
+    (names : List VarName) (a : AtomTree) → IsSequential a.formula → HasOrderedRepeats a.formula →
+    (d : List ℕ) (K : ℕ → Bool) → Contains K (IsTouchedBy a d) → WaitsOutside (atom_automaton names a) d K
 
 -- what is made of automata that only wait outside of K does too
 abbrev pub UnionWaits : Type 0

@@ -4,18 +4,17 @@ use Rattle.std.specs.List.{sum_by}
 use Rattle.span_core.specs.Lists.{Has}
 use Rattle.spanner_model.specs.Captures.{VarName, Captures}
 use Rattle.spanner_model.specs.Fit.{Fit}
-use Rattle.spanner_model.specs.Tree.{Tree}
-use Rattle.spanner_model.specs.Expression.{ExprTree, QueryTree, atom, named, union_end, union, join_end, join, project, minus}
+use Rattle.spanner_model.specs.Expression.{AtomTree, ExprTree, QueryTree, atom, named, union_end, union, join_end, join, project, minus}
 
 -- some part, tied as the atom says, fits, and the position is from its start to its end, both included
-abbrev pub IsTouchedBy : Bool → Bool → Tree → List ℕ → ℕ → Type 0
-IsTouchedBy from_start to_end f d i =
-    (a : ℕ) × (b : ℕ) × (c : Captures) × Fit f d a b c × (b ≤ length d)
-    × (IsTrue from_start → a ≡ 0) × (IsTrue to_end → b ≡ length d) × (a ≤ i) × (i ≤ b)
+abbrev pub IsTouchedBy : AtomTree → List ℕ → ℕ → Type 0
+IsTouchedBy t d i =
+    (a : ℕ) × (b : ℕ) × (c : Captures) × Fit t.formula d a b c × (b ≤ length d)
+    × (IsTrue t.from_start → a ≡ 0) × (IsTrue t.to_end → b ≡ length d) × (a ≤ i) × (i ≤ b)
 
 -- it holds of some atom of the expression
-abbrev pub SomeAtom : (Bool → Bool → Tree → Type 0) → ExprTree → Type 0
-SomeAtom P (atom s t f) = P s t f
+abbrev pub SomeAtom : (AtomTree → Type 0) → ExprTree → Type 0
+SomeAtom P (atom a) = P a
 SomeAtom P (named k) = ⊥
 SomeAtom P union_end = ⊥
 SomeAtom P (union e rest) = SomeAtom P e ⊎ SomeAtom P rest
@@ -25,12 +24,12 @@ SomeAtom P (project kept e) = SomeAtom P e
 SomeAtom P (minus e g) = SomeAtom P e ⊎ SomeAtom P g
 
 -- of some atom of the query's text, be it of a let, named or not, or of the body
-abbrev pub SomeAtomOf : (Bool → Bool → Tree → Type 0) → QueryTree → Type 0
+abbrev pub SomeAtomOf : (AtomTree → Type 0) → QueryTree → Type 0
 SomeAtomOf P q = ((l : VarName × ExprTree) × Has q.lets l × SomeAtom P l.1) ⊎ SomeAtom P q.body
 
 -- what the atoms of the expression come to together
-abbrev pub sum_atoms : (Bool → Bool → Tree → ℕ) → ExprTree → ℕ
-sum_atoms m (atom s t f) = m s t f
+abbrev pub sum_atoms : (AtomTree → ℕ) → ExprTree → ℕ
+sum_atoms m (atom a) = m a
 sum_atoms m (named k) = 0
 sum_atoms m union_end = 0
 sum_atoms m (union e rest) = sum_atoms m e + sum_atoms m rest
@@ -40,12 +39,12 @@ sum_atoms m (project kept e) = sum_atoms m e
 sum_atoms m (minus e g) = sum_atoms m e + sum_atoms m g
 
 -- and those of the query's text
-abbrev pub sum_atoms_of : (Bool → Bool → Tree → ℕ) → QueryTree → ℕ
+abbrev pub sum_atoms_of : (AtomTree → ℕ) → QueryTree → ℕ
 sum_atoms_of m q = sum_by (λ (l : VarName × ExprTree). sum_atoms m l.1) q.lets + sum_atoms m q.body
 
 -- a difference stands in the expression
 abbrev pub HasMinusIn : ExprTree → Type 0
-HasMinusIn (atom s t f) = ⊥
+HasMinusIn (atom a) = ⊥
 HasMinusIn (named k) = ⊥
 HasMinusIn union_end = ⊥
 HasMinusIn (union e rest) = HasMinusIn e ⊎ HasMinusIn rest
@@ -60,7 +59,7 @@ HasMinus q = ((l : VarName × ExprTree) × Has q.lets l × HasMinusIn l.1) ⊎ H
 
 -- some atom of the query's text touches the position; where a difference stands in the text, each is touched
 abbrev pub TouchedOf : QueryTree → List ℕ → ℕ → Type 0
-TouchedOf q d i = SomeAtomOf (λ s t f. IsTouchedBy s t f d i) q ⊎ (HasMinus q × (i ≤ length d))
+TouchedOf q d i = SomeAtomOf (λ a. IsTouchedBy a d i) q ⊎ (HasMinus q × (i ≤ length d))
 
 -- K has each position that is P
 abbrev pub Contains : (ℕ → Bool) → (ℕ → Type 0) → Type 0

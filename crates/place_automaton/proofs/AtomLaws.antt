@@ -1,10 +1,11 @@
 -- The automaton of an atom accepts exactly the words of its answers.
-use Rattle.std.proofs.Common.{◌≡◌, ℕ, ◌≤◌, List, Bool, inl, inr, sym, ap, subst, arith, ◌∙◌}
+use Rattle.std.proofs.Common.{◌≡◌, ℕ, ◌≤◌, List, inl, inr, sym, ap, subst, arith, ◌∙◌}
 use Rattle.spanner_model.specs.Captures.{VarName, Captures}
 use Rattle.spanner_model.specs.Fit.{Fit}
 use Rattle.place_automaton.specs.Repeats.{HasOrderedRepeats}
 use Rattle.span_core.specs.Lists.{Has}
 use Rattle.spanner_model.specs.Tree.{Tree}
+use Rattle.spanner_model.specs.Expression.{AtomTree}
 use Rattle.spanner_model.proofs.FitLaws.{fit_le}
 use Rattle.marked_automaton.specs.Automaton.{Accepts}
 use Rattle.place_automaton.specs.Atom.{automaton_of_atom, AreBytes, FitsWithBlocks, AtomLaw}
@@ -28,7 +29,10 @@ shown_same P d i j w v e le (inr h) =
           (λ p l u. e p (omega (arith, l)) (omega (arith, u, h.1))) h.2,
     )
 
-module _ (opening closing : VarName → ℕ) (s t : Bool) (f : Tree) (seq : IsSequential f) (ord : HasOrderedRepeats f) (d : List ℕ) (w : ℕ → ℕ) where
+module _ (opening closing : VarName → ℕ) (atom : AtomTree) (seq : IsSequential atom.formula) (ord : HasOrderedRepeats atom.formula) (d : List ℕ) (w : ℕ → ℕ) where
+  abbrev f : Tree
+  f = atom.formula
+
   abbrev B : Captures → ℕ → ℕ
   B = blocks opening closing
 
@@ -57,9 +61,9 @@ module _ (opening closing : VarName → ℕ) (s t : Bool) (f : Tree) (seq : IsSe
         ],
       )
 
-  accepted_fits : Accepts (automaton_of_atom opening closing s t f) d w → FitsWithBlocks opening closing s t f d w
+  accepted_fits : Accepts (automaton_of_atom opening closing atom) d w → FitsWithBlocks opening closing atom d w
   accepted_fits h =
-      let a = accepts_shown s t (placed opening closing f 1) (places_lie opening closing f 1) d w h in
+      let a = accepts_shown atom.from_start atom.to_end (placed opening closing f 1) (places_lie opening closing f 1) d w h in
       let r = shown_fits a.0 a.1 a.6 in
       let out = fit_outside opening closing f d a.0 a.1 r.0 r.1 in (
         a.0,
@@ -78,12 +82,12 @@ module _ (opening closing : VarName → ℕ) (s t : Bool) (f : Tree) (seq : IsSe
         ],
       )
 
-  fitted_accepts : AreBytes d → FitsWithBlocks opening closing s t f d w → Accepts (automaton_of_atom opening closing s t f) d w
+  fitted_accepts : AreBytes d → FitsWithBlocks opening closing atom d w → Accepts (automaton_of_atom opening closing atom) d w
   fitted_accepts ok h =
       let le = fit_le f d h.0 h.1 h.2 h.3 in
       let out = fit_outside opening closing f d h.0 h.1 h.2 h.3 in
       let sh = (shows_formula opening closing d f seq ord 1).shown h.0 h.1 h.2 h.3 in
-      shown_accepts s t (placed opening closing f 1) (places_lie opening closing f 1) d w ok (
+      shown_accepts atom.from_start atom.to_end (placed opening closing f 1) (places_lie opening closing f 1) d w ok (
         h.0,
         h.1,
         le,
@@ -96,5 +100,5 @@ module _ (opening closing : VarName → ℕ) (s t : Bool) (f : Tree) (seq : IsSe
       )
 
 pub atom_law : AtomLaw
-atom_law opening closing s t f seq ord d ok w =
-    (accepted_fits opening closing s t f seq ord d w, fitted_accepts opening closing s t f seq ord d w ok)
+atom_law opening closing a seq ord d ok w =
+    (accepted_fits opening closing a seq ord d w, fitted_accepts opening closing a seq ord d w ok)

@@ -5,6 +5,7 @@ use Rattle.std.specs.List.{flat_map}
 use Rattle.std.proofs.lemmas.List.{length-map}
 use Rattle.spanner_model.specs.Captures.{VarName}
 use Rattle.spanner_model.specs.Tree.{Tree, empty, one, cat_end, cat, alt_end, alt, rep, cap}
+use Rattle.spanner_model.specs.Expression.{AtomTree}
 use Rattle.marked_automaton.specs.declared.TheConstants.{MOST_WAYS}
 use Rattle.marked_automaton.specs.Automaton.{idle_way}
 use Rattle.place_automaton.specs.Atom.{way_from_first, way_after, stop_before, unless, place_stops, after_ways, automaton_of_places}
@@ -168,17 +169,18 @@ ways_lengths s t F c r =
           ap (λ (ms : List ℕ). length ms) r.null,
         )
 
-pub all_ways : (s t : Bool) (f : Tree) → length (atom_automaton (with_vars [] f) s t f).ways ≡ ways_of s t (counts_over (with_vars [] f) f)
-all_ways s t f =
+pub all_ways : (a : AtomTree) → length (atom_automaton (with_vars [] a.formula) a).ways ≡ ways_of a.from_start a.to_end (counts_over (with_vars [] a.formula) a.formula)
+all_ways a =
+    let f = a.formula in
     let names = with_vars [] f in
-    ways_lengths s t (placed (opening_of names) (closing_of names) f 1) (counts_over names f) (lengths (opening_of names) (closing_of names) f 1)
+    ways_lengths a.from_start a.to_end (placed (opening_of names) (closing_of names) f 1) (counts_over names f) (lengths (opening_of names) (closing_of names) f 1)
 
 -- the number of ways, where no null is large and where one is
-pub small_ways : (s t : Bool) (f : Tree) → has_large_null f ≡ false → ways_of s t (counts_over (with_vars [] f) f) ≡ count_ways s t f
-small_ways s t f e = ap (λ (b : Bool). if b then MOST_WAYS + 1 else ways_of s t (counts_over (with_vars [] f) f)) (sym e)
+pub small_ways : (a : AtomTree) → has_large_null a.formula ≡ false → ways_of a.from_start a.to_end (counts_over (with_vars [] a.formula) a.formula) ≡ count_ways a
+small_ways a e = ap (λ (b : Bool). if b then MOST_WAYS + 1 else ways_of a.from_start a.to_end (counts_over (with_vars [] a.formula) a.formula)) (sym e)
 
 pub count_law : CountLaw
-count_law s t f =
-    let names = with_vars [] f in
-    let r = lengths (opening_of names) (closing_of names) f 1 in
-    (ap (λ n. 1 + n + (if t then 0 else 1)) r.places, λ e. all_ways s t f ∙ small_ways s t f e)
+count_law a =
+    let names = with_vars [] a.formula in
+    let r = lengths (opening_of names) (closing_of names) a.formula 1 in
+    (ap (λ n. 1 + n + (if a.to_end then 0 else 1)) r.places, λ e. all_ways a ∙ small_ways a e)

@@ -5,6 +5,7 @@ use Rattle.std.specs.Option.{ForSome}
 use Rattle.spanner_model.specs.Captures.{VarName}
 use Rattle.span_core.specs.Lists.{Has, AreDistinct}
 use Rattle.spanner_model.specs.Tree.{Tree, empty, one, cat_end, cat, alt_end, alt, rep, cap}
+use Rattle.spanner_model.specs.Expression.{AtomTree}
 use Rattle.span_core.proofs.HasLaws.{Has-append_cases, Has-map_cases}
 use Rattle.marked_automaton.specs.declared.way.Stop.{Stop}
 use Rattle.place_automaton.specs.Atom.{place_stops, stop_before, unless}
@@ -206,6 +207,7 @@ module _ (F : Places) (lies : LiesFrom 1 F) where
       apart false x a b = elim b [ inl e ↦ omega (arith, not_after x a, ap (λ (z : Stop). z.state) e) | inr n ↦ n ]
 
 -- no state of the automaton has an end twice
-pub stops_once : (names : List VarName) (s t : Bool) (f : Tree) → AreNamed names f → IsSequential f → HasOrderedRepeats f → AreDistinct (atom_automaton names s t f).stops
-stops_once names s t f vars seq ord =
-    stops_distinct (P names f 1) (lie names f 1) t (last_set names f seq ord vars 1).distinct (null_set names f seq ord vars 1).distinct
+pub stops_once : (names : List VarName) (a : AtomTree) → AreNamed names a.formula → IsSequential a.formula → HasOrderedRepeats a.formula → AreDistinct (atom_automaton names a).stops
+stops_once names a vars seq ord =
+    let f = a.formula in
+    stops_distinct (P names f 1) (lie names f 1) a.to_end (last_set names f seq ord vars 1).distinct (null_set names f seq ord vars 1).distinct

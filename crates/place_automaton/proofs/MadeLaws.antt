@@ -9,6 +9,7 @@ use Rattle.span_core.proofs.ByteSetLaws.{all_contain}
 use Rattle.spanner_model.specs.Captures.{VarName}
 use Rattle.span_core.specs.Lists.{Has}
 use Rattle.spanner_model.specs.Tree.{Tree}
+use Rattle.spanner_model.specs.Expression.{AtomTree}
 use Rattle.marked_automaton.specs.declared.way.Way.{Way}
 use Rattle.marked_automaton.specs.declared.way.Stop.{Stop}
 use Rattle.marked_automaton.specs.Automaton.{Automaton, IsWayOf, all_bytes, idle_way}
@@ -37,9 +38,18 @@ made_ways s t P after E none own all a b c d e =
 all_some : SomeByte all_bytes
 all_some e = false≢true (sym (ap (λ (b : set.FinSet nat_cmp). set.contains b 0) e ∙ contains-empty nat_cmp 0) ∙ all_contain 0 (omega arith))
 
-module _ (names : List VarName) (s t : Bool) (f : Tree) where
+module _ (names : List VarName) (a : AtomTree) where
+  abbrev s : Bool
+  s = a.from_start
+
+  abbrev t : Bool
+  t = a.to_end
+
+  abbrev f : Tree
+  f = a.formula
+
   abbrev pub A : Automaton
-  A = atom_automaton names s t f
+  A = atom_automaton names a
 
   abbrev pub P : Places
   P = places_of names f 1
@@ -121,7 +131,7 @@ module _ (names : List VarName) (s t : Bool) (f : Tree) where
 
     pub is_way : (n : ℕ) (y : Way) → n ≡ A.states → Has A.ways y → IsWayOf n (length names) y
     is_way n y at h =
-        let whole = whole_law names s t f in
+        let whole = whole_law names a in
         let fits = way_fits y h in
         record { from = omega (arith, whole.froms y h, at); to = omega (arith, whole.tos y h, at); marks = fits.0; bytes = fits.1 }
 

@@ -371,13 +371,14 @@ ways_counted s t F c r =
         omega (arith, length-map (place_stops F) (way_after (suc F.count)), length_append F.last (map stop_before F.null), length-map F.null stop_before, r.last, r.null)
 
 pub functional_counts : FunctionalCountLaw
-functional_counts s t f ok ord =
+functional_counts a ok ord =
+    let f = a.formula in
     let names = with_vars [] f in
     let dis = ascending-distinct names (list_ascends f) in
     let vars : (x : VarName) → HasVar f x → Has names x = λ x h. (vars_are f x).1 h in
-    let new = count_law s t f in
+    let new = count_law a in
     let old = counted names dis f ok ord vars 1 in
     let small : largest_null_over names f ≤ MOST_SETS = omega (arith, functional_largest names dis f ok ord vars 1 (omega arith)) in (
-      sym new.0 ∙ ap (λ n. 1 + n + (if t then 0 else 1)) old.0.places,
-      sym (new.1 (le-ltb MOST_SETS (largest_null_over names f) small)) ∙ ways_counted s t (placed (opening_of names) (closing_of names) f 1) (plain f) old.0,
+      sym new.0 ∙ ap (λ n. 1 + n + (if a.to_end then 0 else 1)) old.0.places,
+      sym (new.1 (le-ltb MOST_SETS (largest_null_over names f) small)) ∙ ways_counted a.from_start a.to_end (placed (opening_of names) (closing_of names) f 1) (plain f) old.0,
     )

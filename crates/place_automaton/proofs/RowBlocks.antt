@@ -139,8 +139,9 @@ module _ (p : ℕ) where
       omega (arith, rest, here)
 
 pub atom_row_law : AtomRowLaw
-atom_row_law names s t f dis vars seq ord d ok w =
-    let law = atom_law (opening_of names) (closing_of names) s t f seq ord d ok w in (
+atom_row_law names a dis vars seq ord d ok w =
+    let f = a.formula in
+    let law = atom_law (opening_of names) (closing_of names) a seq ord d ok w in (
       (λ h.
           let r = law.0 h in (
             span_of r.2,

@@ -75,4 +75,4 @@ module _ (s t : Bool) (P : Places) (lies : LiesFrom 1 P) where
   }
 
 pub whole_law : WholeLaw
-whole_law names s t f = whole_of_places s t (placed (opening_of names) (closing_of names) f 1) (places_lie (opening_of names) (closing_of names) f 1)
+whole_law names a = whole_of_places a.from_start a.to_end (placed (opening_of names) (closing_of names) a.formula 1) (places_lie (opening_of names) (closing_of names) a.formula 1)

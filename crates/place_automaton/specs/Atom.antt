@@ -3,7 +3,7 @@ use Rattle.std.specs.Prelude.{◌≡◌, ℕ, suc, ◌+◌, ◌<◌, ◌≤◌, 
 use Rattle.spanner_model.specs.Captures.{VarName, Captures}
 use Rattle.spanner_model.specs.Fit.{Fit}
 use Rattle.place_automaton.specs.Repeats.{HasOrderedRepeats}
-use Rattle.spanner_model.specs.Tree.{Tree}
+use Rattle.spanner_model.specs.Expression.{AtomTree}
 use Rattle.marked_automaton.specs.declared.way.Way.{Way}
 use Rattle.marked_automaton.specs.declared.way.Stop.{Stop}
 use Rattle.marked_automaton.specs.Automaton.{Automaton, Accepts, all_bytes, idle_way}
@@ -42,22 +42,22 @@ automaton_of_places from_start to_end P = record {
   idle = unless from_start (0 ∷ []) ++ unless to_end (suc P.count ∷ []);
 }
 
-abbrev pub automaton_of_atom : (VarName → ℕ) → (VarName → ℕ) → Bool → Bool → Tree → Automaton
-automaton_of_atom opening closing from_start to_end f = automaton_of_places from_start to_end (placed opening closing f 1)
+abbrev pub automaton_of_atom : (VarName → ℕ) → (VarName → ℕ) → AtomTree → Automaton
+automaton_of_atom opening closing a = automaton_of_places a.from_start a.to_end (placed opening closing a.formula 1)
 
 abbrev pub AreBytes : List ℕ → Type 0
 AreBytes d = (i b : ℕ) → slice_get d i ≡ Some b → b < 256
 
 -- the formula fits a part, tied as the atom says, and w gives each position the block of the captures
-abbrev pub FitsWithBlocks : (VarName → ℕ) → (VarName → ℕ) → Bool → Bool → Tree → List ℕ → (ℕ → ℕ) → Type 0
-FitsWithBlocks opening closing from_start to_end f d w =
-    (i : ℕ) × (j : ℕ) × (c : Captures) × Fit f d i j c × (j ≤ length d)
-    × (IsTrue from_start → i ≡ 0) × (IsTrue to_end → j ≡ length d)
+abbrev pub FitsWithBlocks : (VarName → ℕ) → (VarName → ℕ) → AtomTree → List ℕ → (ℕ → ℕ) → Type 0
+FitsWithBlocks opening closing a d w =
+    (i : ℕ) × (j : ℕ) × (c : Captures) × Fit a.formula d i j c × (j ≤ length d)
+    × (IsTrue a.from_start → i ≡ 0) × (IsTrue a.to_end → j ≡ length d)
     × ((p : ℕ) → p ≤ length d → w p ≡ blocks opening closing c p)
 
 -- the automaton of an atom accepts exactly the words of its answers
 abbrev pub AtomLaw : Type 0
 AtomLaw =
-    (opening closing : VarName → ℕ) (from_start to_end : Bool) (f : Tree) → IsSequential f → HasOrderedRepeats f →
+    (opening closing : VarName → ℕ) (a : AtomTree) → IsSequential a.formula → HasOrderedRepeats a.formula →
     (d : List ℕ) → AreBytes d → (w : ℕ → ℕ) →
-    Accepts (automaton_of_atom opening closing from_start to_end f) d w ↔ FitsWithBlocks opening closing from_start to_end f d w
+    Accepts (automaton_of_atom opening closing a) d w ↔ FitsWithBlocks opening closing a d w

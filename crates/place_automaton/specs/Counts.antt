@@ -2,6 +2,7 @@
 use Rattle.std.specs.Prelude.{ℕ, zero, suc, ◌+◌, ◌-◌, ◌*◌, max, List, [], ◌∷◌, length, map, nat_lt, Option, Some, None, Bool, if◌then◌else◌}
 use Rattle.spanner_model.specs.Captures.{VarName}
 use Rattle.spanner_model.specs.Tree.{Tree, empty, one, cat_end, cat, alt_end, alt, rep, cap}
+use Rattle.spanner_model.specs.Expression.{AtomTree}
 use Rattle.marked_automaton.specs.declared.TheConstants.{MOST_WAYS}
 use Rattle.place_automaton.specs.declared.TheConstants.{MOST_SETS}
 use Rattle.place_automaton.specs.Places.{add_once, either_once, sums}
@@ -111,10 +112,10 @@ ways_of from_start to_end c =
 abbrev pub has_large_null : Tree → Bool
 has_large_null f = nat_lt MOST_SETS (largest_null_over (with_vars [] f) f)
 
-abbrev pub count_states : Bool → Bool → Tree → ℕ
-count_states from_start to_end f = states_of to_end (counts_over (with_vars [] f) f)
+abbrev pub count_states : AtomTree → ℕ
+count_states a = states_of a.to_end (counts_over (with_vars [] a.formula) a.formula)
 
 -- one more than an automaton may have, where null is large
-abbrev pub count_ways : Bool → Bool → Tree → ℕ
-count_ways from_start to_end f =
-    if has_large_null f then MOST_WAYS + 1 else ways_of from_start to_end (counts_over (with_vars [] f) f)
+abbrev pub count_ways : AtomTree → ℕ
+count_ways a =
+    if has_large_null a.formula then MOST_WAYS + 1 else ways_of a.from_start a.to_end (counts_over (with_vars [] a.formula) a.formula)

@@ -1,6 +1,7 @@
 -- Worked numbers.
-use Rattle.std.specs.Prelude.{◌≡◌, ℕ, zero, suc, List, [], ◌∷◌, Some, true, false, length}
+use Rattle.std.specs.Prelude.{◌≡◌, ℕ, zero, suc, List, [], ◌∷◌, Some, length}
 use Rattle.spanner_model.specs.Tree.{Tree, empty, cat_all, rep, cap}
+use Rattle.spanner_model.specs.Expression.{tied, untied}
 use Rattle.spanner_model.specs.Examples.{a, b, star, x}
 use Rattle.marked_automaton.specs.Automaton.{Automaton}
 use Rattle.place_automaton.specs.Counts.{count_states, count_ways}
@@ -36,15 +37,15 @@ optionals letter zero = []
 optionals letter (suc n) = maybe (cap (letter ∷ []) empty) ∷ optionals (suc letter) n
 
 abbrev pub star_automaton : Automaton
-star_automaton = atom_automaton (x ∷ []) false false star_in_x
+star_automaton = atom_automaton (x ∷ []) (untied star_in_x)
 
 abbrev pub CountsOfTheExamples : Type 0
 CountsOfTheExamples =
     (star_automaton.states ≡ 3) × (length star_automaton.ways ≡ 6)
-    × (count_states false false star_in_x ≡ 3) × (count_ways false false star_in_x ≡ 6)
-    × (count_states false false many_a ≡ 20002)
-    × (count_ways false false many_optional ≡ 4504503)
-    × (count_states false false optional_x ≡ 4) × (count_ways false false optional_x ≡ 6)
-    × (count_ways true true (cat_all (optionals 97 16)) ≡ 0)
-    × (count_ways true true (cat_all (optionals 97 17)) ≡ 2000001)
-    × (count_ways true true (cat_all (a ∷ optionals 97 32)) ≡ 1)
+    × (count_states (untied star_in_x) ≡ 3) × (count_ways (untied star_in_x) ≡ 6)
+    × (count_states (untied many_a) ≡ 20002)
+    × (count_ways (untied many_optional) ≡ 4504503)
+    × (count_states (untied optional_x) ≡ 4) × (count_ways (untied optional_x) ≡ 6)
+    × (count_ways (tied (cat_all (optionals 97 16))) ≡ 0)
+    × (count_ways (tied (cat_all (optionals 97 17))) ≡ 2000001)
+    × (count_ways (tied (cat_all (a ∷ optionals 97 32))) ≡ 1)

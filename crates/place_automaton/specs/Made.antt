@@ -4,7 +4,7 @@ use Rattle.span_core.specs.NameSets.{Ascending}
 use Rattle.spanner_model.specs.Captures.{VarName}
 use Rattle.spanner_model.specs.Sequential.{HasVar}
 use Rattle.span_core.specs.Lists.{Has}
-use Rattle.spanner_model.specs.Tree.{Tree}
+use Rattle.spanner_model.specs.Expression.{AtomTree}
 use Rattle.marked_automaton.specs.declared.way.Way.{Way}
 use Rattle.marked_automaton.specs.declared.way.Stop.{Stop}
 use Rattle.marked_automaton.specs.Automaton.{Automaton, AreGrouped, Marked, idle_way}
@@ -47,10 +47,10 @@ pub record IsFinished (from_start to_end : Bool) (after : ℕ) (P : Sides) (old 
   pub idle : (p : ℕ) → Has new.idle p ↔ (Has old.idle p ⊎ Has (idle_states from_start to_end after) p)
 
 -- the automaton of an atom over the variables of its formula, but for the order of the ways
-pub record IsMade (from_start to_end : Bool) (f : Tree) (A : Marked) : Type 0 where
+pub record IsMade (a : AtomTree) (A : Marked) : Type 0 where
   pub ascending : Ascending A.names
-  pub names : (x : VarName) → Has A.names x ↔ HasVar f x
-  pub reduct : Rearranges A.graph (atom_automaton A.names from_start to_end f)
-  pub ways : length A.graph.ways ≡ ways_of from_start to_end (counts_over (with_vars [] f) f)
+  pub names : (x : VarName) → Has A.names x ↔ HasVar a.formula x
+  pub reduct : Rearranges A.graph (atom_automaton A.names a)
+  pub ways : length A.graph.ways ≡ ways_of a.from_start a.to_end (counts_over (with_vars [] a.formula) a.formula)
   pub grouped : AreGrouped A.graph.ways
-  pub stops : A.graph.stops ≡ (atom_automaton A.names from_start to_end f).stops
+  pub stops : A.graph.stops ≡ (atom_automaton A.names a).stops

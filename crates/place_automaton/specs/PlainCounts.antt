@@ -1,7 +1,8 @@
 -- The numbers of the automaton of a functional formula, where the empty string fits with one block or with
 -- none: null is a number, and no marker is looked at.
-use Rattle.std.specs.Prelude.{ℕ, zero, suc, ◌+◌, ◌-◌, ◌*◌, max, Option, Some, None, Bool, if◌then◌else◌}
+use Rattle.std.specs.Prelude.{ℕ, zero, suc, ◌+◌, ◌-◌, ◌*◌, max, Option, Some, None, if◌then◌else◌}
 use Rattle.spanner_model.specs.Tree.{Tree, empty, one, cat_end, cat, alt_end, alt, rep, cap}
+use Rattle.spanner_model.specs.Expression.{AtomTree}
 
 pub record PlainCounts : Type 0 where
   pub places : ℕ
@@ -67,9 +68,10 @@ plain (alt f rest) = plain_alt (plain f) (plain rest)
 plain (rep f least most) = plain_repeated least most (plain f)
 plain (cap x f) = plain f
 
-abbrev pub plain_states : Bool → Bool → Tree → ℕ
-plain_states from_start to_end f = 1 + (plain f).places + (if to_end then 0 else 1)
+abbrev pub plain_states : AtomTree → ℕ
+plain_states a = 1 + (plain a.formula).places + (if a.to_end then 0 else 1)
 
-abbrev pub plain_ways : Bool → Bool → Tree → ℕ
-plain_ways from_start to_end f =
-    (plain f).first + (plain f).follow + (if from_start then 0 else 1) + (if to_end then 0 else (plain f).last + 1 + (plain f).null)
+abbrev pub plain_ways : AtomTree → ℕ
+plain_ways a =
+    let c = plain a.formula in
+    c.first + c.follow + (if a.from_start then 0 else 1) + (if a.to_end then 0 else c.last + 1 + c.null)

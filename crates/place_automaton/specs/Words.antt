@@ -1,5 +1,5 @@
 -- The words of rows.
-use Rattle.std.specs.Prelude.{◌≡◌, ℕ, ◌+◌, ◌*◌, ◌^◌, ◌≤◌, ◌↔◌, Bool, List, [], ◌∷◌, length, if◌then◌else◌}
+use Rattle.std.specs.Prelude.{◌≡◌, ℕ, ◌+◌, ◌*◌, ◌^◌, ◌≤◌, ◌↔◌, List, [], ◌∷◌, length, if◌then◌else◌}
 use Rattle.std.specs.Str.{bytes_eq}
 use Rattle.spanner_model.specs.Answer.{FitsSomewhere}
 use Rattle.spanner_model.specs.Captures.{VarName, Mapping, row_of}
@@ -8,7 +8,7 @@ use Rattle.place_automaton.specs.Repeats.{HasOrderedRepeats}
 use Rattle.span_core.specs.Lists.{Has, AreDistinct}
 use Rattle.span_core.specs.Block.{block}
 use Rattle.spanner_model.specs.Answers.{SpanRow}
-use Rattle.spanner_model.specs.Tree.{Tree}
+use Rattle.spanner_model.specs.Expression.{AtomTree}
 use Rattle.place_automaton.specs.Atom.{automaton_of_atom, AreBytes}
 use Rattle.marked_automaton.specs.Automaton.{Automaton, Accepts, IsWhole}
 
@@ -26,19 +26,19 @@ abbrev pub IsWordOf : SpanRow → List ℕ → (ℕ → ℕ) → Type 0
 IsWordOf row d w = (p : ℕ) → p ≤ length d → w p ≡ block row p
 
 -- w is the word of the row of an answer
-abbrev pub IsAnswerWord : List VarName → Bool → Bool → Tree → List ℕ → (ℕ → ℕ) → Type 0
-IsAnswerWord names from_start to_end f d w =
-    (m : Mapping) × FitsSomewhere from_start to_end f d m × IsWordOf (row_of names m) d w
+abbrev pub IsAnswerWord : List VarName → AtomTree → List ℕ → (ℕ → ℕ) → Type 0
+IsAnswerWord names a d w =
+    (m : Mapping) × FitsSomewhere a d m × IsWordOf (row_of names m) d w
 
-abbrev pub atom_automaton : List VarName → Bool → Bool → Tree → Automaton
-atom_automaton names from_start to_end f = automaton_of_atom (opening_of names) (closing_of names) from_start to_end f
+abbrev pub atom_automaton : List VarName → AtomTree → Automaton
+atom_automaton names a = automaton_of_atom (opening_of names) (closing_of names) a
 
 abbrev pub AtomRowLaw : Type 0
 AtomRowLaw =
-    (names : List VarName) (from_start to_end : Bool) (f : Tree) → AreDistinct names → ((x : VarName) → HasVar f x → Has names x) →
-    IsSequential f → HasOrderedRepeats f → (d : List ℕ) → AreBytes d → (w : ℕ → ℕ) →
-    Accepts (atom_automaton names from_start to_end f) d w ↔ IsAnswerWord names from_start to_end f d w
+    (names : List VarName) (a : AtomTree) → AreDistinct names → ((x : VarName) → HasVar a.formula x → Has names x) →
+    IsSequential a.formula → HasOrderedRepeats a.formula → (d : List ℕ) → AreBytes d → (w : ℕ → ℕ) →
+    Accepts (atom_automaton names a) d w ↔ IsAnswerWord names a d w
 
 -- the automaton of an atom has no state outside of its states
 abbrev pub WholeLaw : Type 0
-WholeLaw = (names : List VarName) (from_start to_end : Bool) (f : Tree) → IsWhole (atom_automaton names from_start to_end f)
+WholeLaw = (names : List VarName) (a : AtomTree) → IsWhole (atom_automaton names a)

@@ -8,7 +8,7 @@ ghost use Rattle.span_core.specs.NameSets.{Ascending};
 ghost use Rattle.spanner_model.specs.Captures.{VarName};
 ghost use Rattle.spanner_model.specs.Sequential.{HasVar, IsSequential};
 ghost use Rattle.span_core.specs.Lists.{Has, AreDistinct, AtMost};
-ghost use Rattle.spanner_model.specs.View.{tree_of};
+ghost use Rattle.spanner_model.specs.View.{tree_of, atom_of};
 ghost use Rattle.spanner_model.specs.WellBuilt.{IsWellBuilt};
 ghost use Rattle.marked_automaton.specs.declared.TheConstants.{MOST_STATES, MOST_WAYS};
 ghost use Rattle.marked_automaton.specs.declared.way.Stop.{Stop};
@@ -47,16 +47,16 @@ pub fn of_atom(alloc: Global, atom: &Atom) -> Result<Automaton, SizeFault>
     requires sequential { IsSequential (tree_of atom.now.formula) }
     requires few { AtMost MOST_VARIABLES (HasVar (tree_of atom.now.formula)) }
     ensures names { IfOk result (λ a. Ascending a.names × ((x : VarName) → Has a.names x ↔ HasVar (tree_of atom.now.formula) x)) }
-    ensures reduct { IfOk result (λ a. Rearranges a.graph (atom_automaton a.names atom.now.from_start atom.now.to_end (tree_of atom.now.formula))) }
-    ensures ways { IfOk result (λ a. length a.graph.ways ≡ count_ways atom.now.from_start atom.now.to_end (tree_of atom.now.formula)) }
+    ensures reduct { IfOk result (λ a. Rearranges a.graph (atom_automaton a.names (atom_of atom.now))) }
+    ensures ways { IfOk result (λ a. length a.graph.ways ≡ count_ways (atom_of atom.now)) }
     ensures grouped { IfOk result (λ a. AreGrouped a.graph.ways) }
     ensures ends { IfOk result (λ a. AreDistinct a.graph.stops) }
     ensures small { OnOk result
-        ((count_states atom.now.from_start atom.now.to_end (tree_of atom.now.formula) ≤ MOST_STATES)
-        × (count_ways atom.now.from_start atom.now.to_end (tree_of atom.now.formula) ≤ MOST_WAYS)) }
+        ((count_states (atom_of atom.now) ≤ MOST_STATES)
+        × (count_ways (atom_of atom.now) ≤ MOST_WAYS)) }
     ensures err { IfErr result (λ e. IsRefusalOf
-        (capped (count_states atom.now.from_start atom.now.to_end (tree_of atom.now.formula)))
-        (capped (count_ways atom.now.from_start atom.now.to_end (tree_of atom.now.formula))) e) }
+        (capped (count_states (atom_of atom.now)))
+        (capped (count_ways (atom_of atom.now))) e) }
 {
     let states = states_of_atom(atom);
     if states > u64::from(MOST_STATES) {
@@ -87,8 +87,8 @@ fn made(alloc: Global, atom: &Atom, room: usize) -> Result<Automaton, OutOfMemor
     requires built { IsWellBuilt (tree_of atom.now.formula) }
     requires sequential { IsSequential (tree_of atom.now.formula) }
     requires few { AtMost MOST_VARIABLES (HasVar (tree_of atom.now.formula)) }
-    requires states { count_states atom.now.from_start atom.now.to_end (tree_of atom.now.formula) ≤ MOST_STATES }
-    ensures { IfOk result (IsMade atom.now.from_start atom.now.to_end (tree_of atom.now.formula)) }
+    requires states { count_states (atom_of atom.now) ≤ MOST_STATES }
+    ensures { IfOk result (IsMade (atom_of atom.now)) }
 {
     let vars = vars_of(&atom.formula);
     let mut draft = Draft {

@@ -8,7 +8,7 @@ ghost use Rattle.span_core.specs.declared.TheConstants.{MOST_VARIABLES};
 ghost use Rattle.span_core.specs.Lists.{AreDistinct, AtMost, Has};
 ghost use Rattle.spanner_model.specs.Sequential.{HasVar, IsSequential};
 ghost use Rattle.spanner_model.specs.Tree.{Tree, cat_all, alt_all};
-ghost use Rattle.spanner_model.specs.View.{tree_of, trees_of};
+ghost use Rattle.spanner_model.specs.View.{tree_of, trees_of, atom_of};
 ghost use Rattle.spanner_model.specs.WellBuilt.{IsWellBuilt};
 ghost use Rattle.place_automaton.specs.declared.TheConstants.{MOST_SETS};
 ghost use Rattle.place_automaton.specs.declared.counting.CountFault.TheVariants.{LargeNull, OutOfMemory};
@@ -69,8 +69,8 @@ pub fn count(alloc: Global, atom: &Atom) -> Result<Counts, OutOfMemory>
     requires built { IsWellBuilt (tree_of atom.now.formula) }
     requires sequential { IsSequential (tree_of atom.now.formula) }
     requires few { AtMost MOST_VARIABLES (HasVar (tree_of atom.now.formula)) }
-    ensures states { IfOk result (λ c. c.states ≡ min (count_states atom.now.from_start atom.now.to_end (tree_of atom.now.formula)) (2 ^ 64 - 1)) }
-    ensures ways { IfOk result (λ c. c.ways ≡ min (count_ways atom.now.from_start atom.now.to_end (tree_of atom.now.formula)) (2 ^ 64 - 1)) }
+    ensures states { IfOk result (λ c. c.states ≡ min (count_states (atom_of atom.now)) (2 ^ 64 - 1)) }
+    ensures ways { IfOk result (λ c. c.ways ≡ min (count_ways (atom_of atom.now)) (2 ^ 64 - 1)) }
 {
     let states = states_of_atom(atom);
     let ways = match numbers_of(alloc, &atom.formula) {
@@ -84,7 +84,7 @@ pub fn count(alloc: Global, atom: &Atom) -> Result<Counts, OutOfMemory>
 /// The states of the automaton of the atom, or 2^64 - 1 where they are more.
 pub(crate) fn states_of_atom(atom: &Atom) -> u64
     requires { IsWellBuilt (tree_of atom.now.formula) }
-    ensures { result ≡ capped (count_states atom.now.from_start atom.now.to_end (tree_of atom.now.formula)) }
+    ensures { result ≡ capped (count_states (atom_of atom.now)) }
 {
     let inner = count_places(&atom.formula).saturating_add(1);
     if atom.to_end {

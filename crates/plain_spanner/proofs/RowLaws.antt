@@ -98,7 +98,7 @@ module _ (to_end : Bool) (f : Tree) (d : List ℕ) (names : List VarName) where
   pub places_all : (from_start : Bool) (n : ℕ) (H : SpanRow → Type 0) →
       ((i : ℕ) → i < n → (i ≤ length d) × (IsTrue from_start → i ≡ 0)) →
       ((i : ℕ) → i ≤ length d → (IsTrue from_start → i ≡ 0) → i < n) →
-      Tells H (IsRowOf (FitsBefore n to_end f d) names) → Tells H (IsRowOf (FitsSomewhere from_start to_end f d) names)
+      Tells H (IsRowOf (FitsBefore n to_end f d) names) → Tells H (IsRowOf (FitsSomewhere (record { from_start = from_start; to_end = to_end; formula = f }) d) names)
   places_all from_start n H only enough all = record {
     each_so = λ r h.
         let a = all.each_so r h in

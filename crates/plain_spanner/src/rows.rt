@@ -1,7 +1,7 @@
 //! All answers of an atom.
 ghost use Rattle.std.specs.Prelude.{◌≡◌, ◌↔◌, ◌⊎◌, ℕ, ◌<◌, ◌≤◌, List, [], length, IfOk, OnOk, IsTrue};
 ghost use Rattle.span_core.specs.Lists.{Has};
-ghost use Rattle.spanner_model.specs.View.{tree_of};
+ghost use Rattle.spanner_model.specs.View.{tree_of, atom_of};
 ghost use Rattle.spanner_model.specs.Captures.{span_of, row_of};
 ghost use Rattle.spanner_model.specs.Sequential.{HasVar, IsSequential};
 ghost use Rattle.spanner_model.specs.WellBuilt.{IsWellBuilt};
@@ -24,8 +24,7 @@ pub fn atom_table(alloc: Global, atom: &Atom, doc: &[u8]) -> Result<Table, OutOf
     requires sequential { IsSequential (tree_of atom.now.formula) }
     requires room { HaveRoom [] (HasVar (tree_of atom.now.formula)) }
     requires short { length doc.now ≤ MOST_DOCUMENT_BYTES }
-    ensures { IfOk result (λ t. IsTable (HasVar (tree_of atom.now.formula))
-        (FitsSomewhere atom.now.from_start atom.now.to_end (tree_of atom.now.formula) doc.now) t.names t.rows.items) }
+    ensures { IfOk result (λ t. IsTable (HasVar (tree_of atom.now.formula)) (FitsSomewhere (atom_of atom.now) doc.now) t.names t.rows.items) }
 {
     let mut names = VarSet::empty();
     let all = gather(&atom.formula, &mut names);

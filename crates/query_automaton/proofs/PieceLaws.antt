@@ -1,15 +1,15 @@
 -- What is made of atoms, names, projections and lets when they are compiled.
-use Rattle.std.proofs.Common.{◌≡◌, ℕ, zero, suc, ◌<◌, ◌≤◌, ◌↔◌, ◌⊎◌, Bool, List, [], ◌∷◌, ◌++◌, length, length-append, Some, inl, inr, refl, sym, ap, subst, arith, ◌∙◌}
+use Rattle.std.proofs.Common.{◌≡◌, ℕ, zero, suc, ◌<◌, ◌≤◌, ◌↔◌, ◌⊎◌, List, [], ◌∷◌, ◌++◌, length, length-append, Some, inl, inr, refl, sym, ap, subst, arith, ◌∙◌}
 use Rattle.std.specs.Prelude.{slice_get, if◌then◌else◌, ◌-◌, ◌^◌}
 use Rattle.std.proofs.Math.Nat.{min-le_left}
 use Rattle.std.proofs.lemmas.Bool.{eq-eqb, ne_eqb, cases_lt}
 use Rattle.std.proofs.lemmas.Option.{slice_get_within}
 use Rattle.span_core.specs.NameSets.{Ascending}
 use Rattle.span_core.specs.Lists.{Has}
-use Rattle.spanner_model.specs.Tree.{Tree}
 use Rattle.spanner_model.specs.Captures.{VarName}
 use Rattle.spanner_model.specs.Sequential.{HasVar}
-use Rattle.spanner_model.specs.Expression.{ExprTree, QueryTree, atom, project}
+use Rattle.spanner_model.specs.Tree.{Tree}
+use Rattle.spanner_model.specs.Expression.{AtomTree, ExprTree, QueryTree, atom, project}
 use Rattle.spanner_model.specs.declared.query.Query.{Query}
 use Rattle.spanner_model.specs.ExprView.{query_of}
 use Rattle.spanner_model.specs.Sound.{IsSound}
@@ -39,7 +39,10 @@ use Rattle.query_automaton.proofs.CompileLaws.{asked_sub, shape}
 
 -- ---- atoms
 
-module _ (s t : Bool) (f : Tree) where
+module _ (u : AtomTree) where
+  abbrev f : Tree
+  f = u.formula
+
   atom_ascends : Ascending (with_vars [] f)
   atom_ascends = list_ascends f
 
@@ -48,18 +51,18 @@ module _ (s t : Bool) (f : Tree) where
       same_names names (with_vars [] f) up atom_ascends (λ x h. (vars_are f x).1 ((all x).0 h)) (λ x h. (all x).1 ((vars_are f x).0 h))
 
   -- an automaton that is made for the atom, and what is left of it
-  pub atom_made : (a c : Marked) → Ascending a.names → ((x : VarName) → Has a.names x ↔ HasVar f x) → Reduces a.graph (atom_automaton a.names s t f) →
-      c.names ≡ a.names → Reduces c.graph a.graph → ReducesMarked c (of_atom s t f)
+  pub atom_made : (a c : Marked) → Ascending a.names → ((x : VarName) → Has a.names x ↔ HasVar f x) → Reduces a.graph (atom_automaton a.names u) →
+      c.names ≡ a.names → Reduces c.graph a.graph → ReducesMarked c (of_atom u)
   atom_made a c up all made names left =
       let same = atom_names a.names up all in
-      (names ∙ same, reduct_of_reduct c.graph a.graph (of_atom s t f).graph left (subst (λ (ns : List VarName). Reduces a.graph (atom_automaton ns s t f)) same made))
+      (names ∙ same, reduct_of_reduct c.graph a.graph (of_atom u).graph left (subst (λ (ns : List VarName). Reduces a.graph (atom_automaton ns u)) same made))
 
   abbrev counted : PartNumbers
-  counted = record { states = count_states s t f; ways = count_ways s t f }
+  counted = record { states = count_states u; ways = count_ways u }
 
-  pub atom_fault : (L : ℕ → Marked) (fault : SizeFault) → IsRefusalOf (capped (count_states s t f)) (capped (count_ways s t f)) fault → HasLargePartOf L (atom s t f) fault
-  atom_fault L (States count) h = (omega (arith, h.0, h.1), (counted, refl, omega (arith, h.1, min-le_left (count_states s t f) (2 ^ 64 - 1))))
-  atom_fault L (Ways count) h = (omega (arith, h.1, h.2), (counted, refl, omega (arith, h.2, min-le_left (count_ways s t f) (2 ^ 64 - 1))))
+  pub atom_fault : (L : ℕ → Marked) (fault : SizeFault) → IsRefusalOf (capped (count_states u)) (capped (count_ways u)) fault → HasLargePartOf L (atom u) fault
+  atom_fault L (States count) h = (omega (arith, h.0, h.1), (counted, refl, omega (arith, h.1, min-le_left (count_states u) (2 ^ 64 - 1))))
+  atom_fault L (Ways count) h = (omega (arith, h.1, h.2), (counted, refl, omega (arith, h.2, min-le_left (count_ways u) (2 ^ 64 - 1))))
   atom_fault L OutOfMemory h = tt
 
 -- ---- projections

@@ -4,11 +4,10 @@ use Rattle.std.specs.Prelude.{slice_get, nat_eq, MatchBool, if◌then◌else◌}
 use Rattle.std.specs.Option.{IsSomeAnd, ForSome}
 use Rattle.std.proofs.lemmas.Bool.{eqb-false, cases_lt}
 use Rattle.span_core.specs.NameSets.{Ascending}
-use Rattle.spanner_model.specs.Tree.{Tree}
 use Rattle.spanner_model.specs.Captures.{VarName, Mapping}
 use Rattle.spanner_model.specs.Sequential.{HasVar, IsSequential}
 use Rattle.spanner_model.specs.WellBuilt.{IsWellBuilt}
-use Rattle.spanner_model.specs.Expression.{ExprTree, QueryTree, atom, named, union_end, union, join_end, join, project, minus}
+use Rattle.spanner_model.specs.Expression.{AtomTree, ExprTree, QueryTree, atom, named, union_end, union, join_end, join, project, minus}
 use Rattle.spanner_model.specs.Answer.{VarOf, IsRestriction, FitsSomewhere, Answer, vars_of_lets, answers_of_lets, IsResultVar, IsAnswer}
 use Rattle.spanner_model.specs.Sound.{IsSound, IsSoundUnder, IsSoundExpr, AreUnited, AreJoined, sure_of_lets}
 use Rattle.spanner_model.proofs.AnswerLaws.{answer_absent}
@@ -31,20 +30,20 @@ use Rattle.query_automaton.proofs.Assoc.{together_assoc}
 
 -- ---- atoms
 
-pub for_atom : (d : List ℕ) → AreBytes d → (s t : Bool) (f : Tree) → IsWellBuilt f → IsSequential f → IsFor d (HasVar f) (FitsSomewhere s t f d) (of_atom s t f)
-for_atom d bytes s t f built sequential = record {
-  whole = whole_law (with_vars [] f) s t f;
+pub for_atom : (d : List ℕ) → AreBytes d → (a : AtomTree) → IsWellBuilt a.formula → IsSequential a.formula → IsFor d (HasVar a.formula) (FitsSomewhere a d) (of_atom a)
+for_atom d bytes a built sequential = record {
+  whole = whole_law (with_vars [] a.formula) a;
   ascending = ascending;
-  names = vars_are f;
-  absent = λ m h x out. answer_absent (λ k x. ⊥) (λ k m. ⊥) d (λ k m h x out. absurd h) (atom s t f) m h x out;
-  ends = λ m h. answer_ends (λ k x. ⊥) (λ k m. ⊥) d (λ k m h. absurd h) (atom s t f) m h;
+  names = vars_are a.formula;
+  absent = λ m h x out. answer_absent (λ k x. ⊥) (λ k m. ⊥) d (λ k m h x out. absurd h) (atom a) m h x out;
+  ends = λ m h. answer_ends (λ k x. ⊥) (λ k m. ⊥) d (λ k m h. absurd h) (atom a) m h;
   respects = λ m n same h. (h.0, h.1, h.2, h.3, h.4, h.5, h.6, λ x. sym (same x) ∙ h.7 x);
-  words = atom_row_law (with_vars [] f) s t f (ascending-distinct (with_vars [] f) ascending) (λ x h. (vars_are f x).1 h)
-      sequential (ordered_repeats f built) d bytes;
+  words = atom_row_law (with_vars [] a.formula) a (ascending-distinct (with_vars [] a.formula) ascending) (λ x h. (vars_are a.formula x).1 h)
+      sequential (ordered_repeats a.formula built) d bytes;
 }
   where
-    ascending : Ascending (with_vars [] f)
-    ascending = list_ascends f
+    ascending : Ascending (with_vars [] a.formula)
+    ascending = list_ascends a.formula
 
 -- ---- expressions
 
@@ -137,8 +136,8 @@ module _ (d : List ℕ) (bytes : AreBytes d) (n : ℕ) (V S : ℕ → VarName �
       (others.joined_parts (VarOf V e) (Answer V A d e) (automaton_of L e) h.1 (told_of V told e) (first.whole h.0))
 
   all_for : (e : ExprTree) → AllFor e
-  all_for (atom s t f) = record {
-    whole = λ h. for_atom d bytes s t f h.0 h.1;
+  all_for (atom a) = record {
+    whole = λ h. for_atom d bytes a h.0 h.1;
     united_parts = λ P B M h b. absurd h;
     joined_parts = λ P B M h v b. absurd h;
   }

@@ -22,7 +22,7 @@ numbers_of M = record { states = M.graph.states; ways = length M.graph.ways }
 module _ (L : ℕ → Marked) where
   abbrev mutual
     pub HasPart : ExprTree → PartNumbers → Type 0
-    HasPart (atom s t f) n = n ≡ record { states = count_states s t f; ways = count_ways s t f }
+    HasPart (atom a) n = n ≡ record { states = count_states a; ways = count_ways a }
     HasPart (named k) n = n ≡ numbers_of (L k)
     HasPart union_end n = ⊥
     HasPart (union e rest) n = HasPart e n ⊎ HasUnionStep (automaton_of L e) rest n
@@ -56,7 +56,7 @@ HasLargePart q fault =
 
 -- each atom of the expression is within the limits
 abbrev pub HasSmallAtoms : ExprTree → Type 0
-HasSmallAtoms (atom s t f) = (count_states s t f ≤ MOST_STATES) × (count_ways s t f ≤ MOST_WAYS)
+HasSmallAtoms (atom a) = (count_states a ≤ MOST_STATES) × (count_ways a ≤ MOST_WAYS)
 HasSmallAtoms (named k) = Unit {0}
 HasSmallAtoms union_end = Unit {0}
 HasSmallAtoms (union e rest) = HasSmallAtoms e × HasSmallAtoms rest

@@ -1,8 +1,7 @@
 -- The automaton of a query, with nothing trimmed: what the numbers of states and ways are counted on.
-use Rattle.std.specs.Prelude.{ℕ, Bool, zero, suc, List, [], Option, Some, None, slice_get, length, nat_eq, if◌then◌else◌}
-use Rattle.spanner_model.specs.Tree.{Tree}
+use Rattle.std.specs.Prelude.{ℕ, zero, suc, List, [], Option, Some, None, slice_get, length, nat_eq, if◌then◌else◌}
 use Rattle.spanner_model.specs.Captures.{VarName}
-use Rattle.spanner_model.specs.Expression.{ExprTree, QueryTree, atom, named, union_end, union, join_end, join, project, minus}
+use Rattle.spanner_model.specs.Expression.{AtomTree, ExprTree, QueryTree, atom, named, union_end, union, join_end, join, project, minus}
 use Rattle.marked_automaton.specs.Automaton.{Marked, bare}
 use Rattle.marked_automaton.specs.Marks.{left_of, remarked}
 use Rattle.place_automaton.specs.Variables.{with_vars}
@@ -13,9 +12,8 @@ use Rattle.algebra.specs.Operations.{join_of}
 use Rattle.algebra.specs.Uniting.{union_over}
 use Rattle.algebra_minus.specs.DifferenceOf.{difference_of}
 
-abbrev pub of_atom : Bool → Bool → Tree → Marked
-of_atom from_start to_end f =
-    let names = with_vars [] f in record { names = names; graph = atom_automaton names from_start to_end f }
+abbrev pub of_atom : AtomTree → Marked
+of_atom a = let names = with_vars [] a.formula in record { names = names; graph = atom_automaton names a }
 
 abbrev pub of_union : Marked → Marked → Marked
 of_union A B = let names = all_names A.names B.names in record { names = names; graph = union_over A B names }
@@ -39,7 +37,7 @@ no_automaton = record { names = []; graph = bare 0 }
 module _ (L : ℕ → Marked) where
   abbrev mutual
     pub automaton_of : ExprTree → Marked
-    automaton_of (atom s t f) = of_atom s t f
+    automaton_of (atom a) = of_atom a
     automaton_of (named k) = L k
     automaton_of union_end = no_automaton
     automaton_of (union e rest) = united (automaton_of e) rest

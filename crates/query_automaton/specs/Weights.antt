@@ -1,7 +1,8 @@
 -- What reading costs on an example that is worked out by hand.
-use Rattle.std.specs.Prelude.{◌≡◌, ℕ, true, [], ◌∷◌, ◌++◌, Some, List, replicate, false}
+use Rattle.std.specs.Prelude.{◌≡◌, ℕ, true, [], ◌∷◌, ◌++◌, Some, List, replicate}
 use Rattle.spanner_model.specs.Examples.{a, b, c, star, x}
 use Rattle.spanner_model.specs.Tree.{Tree, cat_all, alt_all, rep, cap}
+use Rattle.spanner_model.specs.Expression.{untied}
 use Rattle.marked_automaton.specs.Automaton.{Automaton}
 use Rattle.place_automaton.specs.Words.{atom_automaton}
 use Rattle.automaton_reading.specs.Reading.{look_ups_K, weight_K}
@@ -14,7 +15,7 @@ abbrev pub a_far_back : Tree
 a_far_back = cat_all (star a_or_b ∷ a ∷ rep a_or_b 12 (Some 12) ∷ cap x c ∷ [])
 
 abbrev pub far_back_automaton : Automaton
-far_back_automaton = atom_automaton (x ∷ []) false false a_far_back
+far_back_automaton = atom_automaton (x ∷ []) (untied a_far_back)
 
 -- thirteen bytes a, and c
 abbrev pub far_back_document : List ℕ

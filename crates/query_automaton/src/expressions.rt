@@ -7,12 +7,12 @@
 ghost use Rattle.std.specs.Prelude.{◌≡◌, ◌<◌, ◌≤◌, ◌++◌, [], ◌∷◌, length, slice_get, Some, IfOk, IfErr, OnOk};
 ghost use Rattle.span_core.specs.declared.TheConstants.{MOST_VARIABLES};
 ghost use Rattle.spanner_model.specs.Captures.{VarName};
-ghost use Rattle.spanner_model.specs.Expression.{atom as atom_tree, join_all, union_all};
+ghost use Rattle.spanner_model.specs.Expression.{atom as atom_expr, join_all, union_all};
 ghost use Rattle.spanner_model.specs.ExprView.{expr_of, exprs_of, query_of};
 ghost use Rattle.spanner_model.specs.Sequential.{HasVar, IsSequential};
 ghost use Rattle.spanner_model.specs.Sound.{IsSound};
 ghost use Rattle.span_core.specs.Lists.{AtMost, Has};
-ghost use Rattle.spanner_model.specs.View.{tree_of};
+ghost use Rattle.spanner_model.specs.View.{tree_of, atom_of};
 ghost use Rattle.spanner_model.specs.WellBuilt.{IsWellBuilt};
 ghost use Rattle.marked_automaton.specs.Automaton.{IsMarked};
 ghost use Rattle.marked_automaton.specs.Faults.{IsSizeFaultWithin};
@@ -183,8 +183,8 @@ impl<'q> Compiler<'q> {
         requires sequential { IsSequential (tree_of atom.now.formula) }
         requires few { AtMost MOST_VARIABLES (HasVar (tree_of atom.now.formula)) }
         ensures same { self.new ≡ self.old }
-        ensures made { IfOk result (IsCompiledIn self.old (atom_tree atom.now.from_start atom.now.to_end (tree_of atom.now.formula))) }
-        ensures fault { IfErr result (HasLargePartIn self.old (atom_tree atom.now.from_start atom.now.to_end (tree_of atom.now.formula))) }
+        ensures made { IfOk result (IsCompiledIn self.old (atom_expr (atom_of atom.now))) }
+        ensures fault { IfErr result (HasLargePartIn self.old (atom_expr (atom_of atom.now))) }
     {
         let whole = of_atom(self.alloc, atom)?;
         spend(&mut self.effort, &whole)?;

@@ -92,7 +92,7 @@ some_end (suc fuel) text at n h = by (step at (drop at text) n) refl (within at 
     with_atom : step at (drop at text) n ≡ reads_atom → ((at' : ℕ) (n' : Nest) → length (drop at' text) < fuel → Ended text at' n') →
         ((x : AtomTree × ℕ) × IsAtomAt text at x) ⊎ ((e : FormulaFault) × HasAtomFault text at e) → Ended text at n
     with_atom is again (inl (x, found)) =
-        let m = with_unit (atom x.0.from_start x.0.to_end x.0.formula) n in
+        let m = with_unit (atom x.0) n in
         let r = again x.1 m (omega (arith, atom_longer text at x.0 x.1 found, h)) in
         (r.0, ends_atom text at x.1 x.0 n m r.0 is found (atom_moves x.0 n (atom_due text at n is).1) r.1)
     with_atom is again (inr (e, fault)) = (Err (Formula e), (0, inr (is, (e, fault, refl))))

@@ -66,7 +66,7 @@ refusal_step : {text : List ℕ} {p q : ℕ} {t : Token} (n : Nest) (why : Refus
 refusal_step {text = text} {p = p} n why (by_atom {a = a} does found) e = does n ∙ by (wants_unit n.last) refl e
   where
     by : (b : Bool) → wants_unit n.last ≡ b →
-        ◌≡◌ {A = Result Reading Refusal} (seen (if b then Ok (with_unit (atom a.from_start a.to_end a.formula) n) else Err unexpected)) (Err why) →
+        ◌≡◌ {A = Result Reading Refusal} (seen (if b then Ok (with_unit (atom a) n) else Err unexpected)) (Err why) →
         slashes p n ≡ stops (Err (refused why p))
     by true w e = absurd (cc)
     by false w e =

@@ -52,7 +52,7 @@ read_memory (not_whole r at w) e = absurd (cc)
 
 module _ (V S : ℕ → VarName → Type 0) where
   own_memory : (e : ExprTree) → OwnFault V S e memory_fault → ⊥
-  own_memory (atom s t f) h = h
+  own_memory (atom a) h = h
   own_memory (named k) h = h
   own_memory union_end h = h
   own_memory (union e rest) h = h
@@ -73,7 +73,7 @@ module _ (V S : ℕ → VarName → Type 0) where
   inner_memory (project kept e) f = over_memory e (inner_memory e) f
   inner_memory (minus e g) (inl f) = over_memory e (inner_memory e) f
   inner_memory (minus e g) (inr f) = over_memory g (inner_memory g) f.1
-  inner_memory (atom s t f) i = i
+  inner_memory (atom a) i = i
   inner_memory (named k) i = i
   inner_memory union_end i = i
   inner_memory join_end i = i

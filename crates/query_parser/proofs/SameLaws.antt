@@ -25,7 +25,7 @@ module _ (V W S T : ℕ → VarName → Type 0) (same : SameVars V W) (same_sure
   sure_back = sure_same T S (turned S T same_sure)
 
   pub same_passes : (e : ExprTree) → Passes V S e → Passes W T e
-  same_passes (atom s t f) p = p
+  same_passes (atom a) p = p
   same_passes (named k) p = tt
   same_passes union_end p = tt
   same_passes (union e rest) p = (same_passes e p.0, same_passes rest p.1)
@@ -40,7 +40,7 @@ module _ (V W S T : ℕ → VarName → Type 0) (same : SameVars V W) (same_sure
   same_parts (join e rest) p = (same_passes e p.0, same_parts rest p.1)
   same_parts (project kept e) p = same_passes e p
   same_parts (minus e g) p = (same_passes e p.0, same_passes g p.1)
-  same_parts (atom s t f) p = tt
+  same_parts (atom a) p = tt
   same_parts (named k) p = tt
   same_parts union_end p = tt
   same_parts join_end p = tt
@@ -57,7 +57,7 @@ module _ (V W S T : ℕ → VarName → Type 0) (same : SameVars V W) (same_sure
   same_first : (before : List ExprTree) (rest : ExprTree) (x : VarName) → ClashesFirst V S before rest x → ClashesFirst W T before rest x
   same_first before (join e rest) x (inl h) = inl (same_least (Clashes V S before e) (Clashes W T before e) x (same_clashes before e) h)
   same_first before (join e rest) x (inr h) = inr ((λ y c. h.0 y ((same_clashes before e y).1 c)), same_first (e ∷ before) rest x h.1)
-  same_first before (atom s t f) x h = absurd h
+  same_first before (atom a) x h = absurd h
   same_first before (named k) x h = absurd h
   same_first before union_end x h = absurd h
   same_first before (union e rest) x h = absurd h
@@ -72,7 +72,7 @@ module _ (V W S T : ℕ → VarName → Type 0) (same : SameVars V W) (same_sure
   )
 
   same_own : (e : ExprTree) (f : QueryFault) → OwnFault V S e f → OwnFault W T e f
-  same_own (atom s t r) (Check c) o = o
+  same_own (atom a) (Check c) o = o
   same_own (join e rest) (JoinUnsure x) o = same_first (e ∷ []) rest x o
   same_own (project kept e) (UnknownVariable x) o =
       same_least (λ y. Has kept y × ¬ VarOf V e y) (λ y. Has kept y × ¬ VarOf W e y) x
@@ -92,7 +92,7 @@ module _ (V W S T : ℕ → VarName → Type 0) (same : SameVars V W) (same_sure
   same_inner (project kept e) f i = same_over e f (same_inner e f) i
   same_inner (minus e g) f (inl i) = inl (same_over e f (same_inner e f) i)
   same_inner (minus e g) f (inr i) = inr (same_passes e i.0, same_over g f (same_inner g f) i.1)
-  same_inner (atom s t r) f i = absurd i
+  same_inner (atom a) f i = absurd i
   same_inner (named k) f i = absurd i
   same_inner union_end f i = absurd i
   same_inner join_end f i = absurd i

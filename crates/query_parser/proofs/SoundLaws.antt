@@ -8,7 +8,7 @@ use Rattle.query_parser.specs.Formed.{IsFormed, AreUnitedFormed, AreJoinedFormed
 
 mutual
   pub sound_expr : (V S : ℕ → VarName → Type 0) (n : ℕ) (e : ExprTree) → IsFormed n e → Passes V S e → IsSoundExpr V S n e
-  sound_expr V S n (atom s t f) b p = (b, p)
+  sound_expr V S n (atom a) b p = (b, p)
   sound_expr V S n (named k) b p = b
   sound_expr V S n union_end b p = b
   sound_expr V S n (union e rest) b p = (sound_expr V S n e b.0 p.0, united V S n rest b.1 p.1, b.2)
@@ -29,7 +29,7 @@ mutual
 
 mutual
   pub sound_passes : (V S : ℕ → VarName → Type 0) (n : ℕ) (e : ExprTree) → IsSoundExpr V S n e → Passes V S e
-  sound_passes V S n (atom s t f) b = b.1
+  sound_passes V S n (atom a) b = b.1
   sound_passes V S n (named k) b = tt
   sound_passes V S n union_end b = tt
   sound_passes V S n (union e rest) b = (sound_passes V S n e b.0, united_passes V S n rest b.1)

@@ -224,9 +224,9 @@ mutual
       (cs : List ExprTree) (left : Option ExprTree) (us : List ExprTree) (l : Last) → Wants l → names ≡ names_of a.lets → AreGood names → length a.below + room ≡ MOST_OPEN →
       m + minuses_in e ≤ MOST_MINUSES → ReadsUnit a m kept cs left us l t e
   reads_unit (atom_unit {a = x}) a m kept cs left us l w same good deep few =
-      (m, omega arith, (inside a m kept cs left us (unit (atom x.from_start x.to_end x.formula)), atom_moves w, refl))
+      (m, omega arith, (inside a m kept cs left us (unit (atom x)), atom_moves w, refl))
     where
-      atom_moves : {l : Last} → Wants l → move (atom_token x) (inside a m kept cs left us l) ≡ Ok (inside a m kept cs left us (unit (atom x.from_start x.to_end x.formula)))
+      atom_moves : {l : Last} → Wants l → move (atom_token x) (inside a m kept cs left us l) ≡ Ok (inside a m kept cs left us (unit (atom x)))
       atom_moves first = refl
       atom_moves later = refl
   reads_unit {names = names} (named_unit {k = k} {x = x} is) a m kept cs left us l w same good deep few =

@@ -158,7 +158,7 @@ token_steps {text = text} {at = at} (sign_at {c = c} {t = t} (rest, stands) is) 
 pub atom_wanted : (a : AtomTree) (n m : Nest) → move (atom_token a) n ≡ Ok m → wants_unit n.last ≡ true
 atom_wanted a n m e = by (wants_unit n.last) refl e
   where
-    by : (b : Bool) → wants_unit n.last ≡ b → ◌≡◌ {A = Move} (if b then Ok (with_unit (atom a.from_start a.to_end a.formula) n) else Err unexpected) (Ok m) → wants_unit n.last ≡ true
+    by : (b : Bool) → wants_unit n.last ≡ b → ◌≡◌ {A = Move} (if b then Ok (with_unit (atom a) n) else Err unexpected) (Ok m) → wants_unit n.last ≡ true
     by true w e = w
     by false w e = absurd (cc)
 

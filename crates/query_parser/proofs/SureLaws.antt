@@ -41,7 +41,7 @@ mutual
 module _ (V S : ℕ → VarName → Type 0) (among : (k : ℕ) (x : VarName) → S k x → V k x) where
   mutual
     pub sure_var : (n : ℕ) (e : ExprTree) (x : VarName) → IsFormed n e → SureOf S e x → VarOf V e x
-    sure_var n (atom s t f) x c h = sure_of_formula f x c.0 h
+    sure_var n (atom a) x c h = sure_of_formula a.formula x c.0 h
     sure_var n (named k) x c h = among k x h
     sure_var n union_end x c h = absurd c
     sure_var n (union e rest) x c h = inl (sure_var n e x c.0 h.0)
@@ -118,7 +118,7 @@ told_sure (cap y f) x = told_either (told_name y x) (told_sure f x)
 -- under lets whose sure variables can be told
 module _ (S : ℕ → VarName → Type 0) (told : (k : ℕ) (x : VarName) → Told (S k x)) where
   pub told_sure_of : (e : ExprTree) (x : VarName) → Told (SureOf S e x)
-  told_sure_of (atom s t f) x = told_sure f x
+  told_sure_of (atom a) x = told_sure a.formula x
   told_sure_of (named k) x = told k x
   told_sure_of union_end x = inl tt
   told_sure_of (union e rest) x = told_both (told_sure_of e x) (told_sure_of rest x)

@@ -134,11 +134,11 @@ frame_closes lets current (f ∷ below) top g many count m e r = done _ m e (rea
 pub reads_token : (t : Token) (ts : List Token) (lets : List (VarName × ExprTree)) (current : Option VarName) (below : List Frame) (top : Frame) (last : Last) (many : Bool) (count : ℕ) (m : Nest) →
     IsProper t → move t (nest lets current below top last many count) ≡ Ok m → m.many ≡ false → Read ts lets current below top last → IsRead (ts ++ t ∷ []) m
 reads_token (atom_token a) ts lets current below top at_start many count m p e f r =
-    done (nest lets current below top (unit (atom a.from_start a.to_end a.formula)) many count) m e
-    (read_unit (atom_token a) (atom a.from_start a.to_end a.formula) (λ room. atom_unit) (body_begins r))
+    done (nest lets current below top (unit (atom a)) many count) m e
+    (read_unit (atom_token a) (atom a) (λ room. atom_unit) (body_begins r))
 reads_token (atom_token a) ts lets current below top at_unit many count m p e f r =
-    done (nest lets current below top (unit (atom a.from_start a.to_end a.formula)) many count) m e
-    (read_unit (atom_token a) (atom a.from_start a.to_end a.formula) (λ room. atom_unit) r)
+    done (nest lets current below top (unit (atom a)) many count) m e
+    (read_unit (atom_token a) (atom a) (λ room. atom_unit) r)
 reads_token let_word ts lets current below top at_start many count m p e f r = done (nest lets current below top after_let many count) m e (read_let r)
 reads_token union_word ts lets current below top (unit g) many count m p e f r = done _ m e (read_union r)
 reads_token join_word ts lets current below top (unit g) many count m p e f r = done _ m e (read_join r)

@@ -8,8 +8,7 @@ use Rattle.span_core.specs.declared.TheConstants.{MOST_VARIABLES}
 use Rattle.spanner_model.specs.Captures.{VarName}
 use Rattle.span_core.specs.Lists.{Has, AtMost}
 use Rattle.spanner_model.specs.Sequential.{IsSequential}
-use Rattle.spanner_model.specs.Tree.{Tree}
-use Rattle.spanner_model.specs.Expression.{ExprTree, QueryTree, atom, named, union_end, union, join_end, join, project, minus}
+use Rattle.spanner_model.specs.Expression.{AtomTree, ExprTree, QueryTree, atom, named, union_end, union, join_end, join, project, minus}
 use Rattle.spanner_model.specs.Answer.{VarOf, vars_of_lets}
 use Rattle.spanner_model.specs.Sound.{NameIn, NameInLets, NameOf, SureOf, SharesSure, sure_of_lets}
 use Rattle.spanner_model.proofs.Deciding.{Told, told_has, told_of, told_lets, told_either}
@@ -28,7 +27,7 @@ use Rattle.query_parser.proofs.ToldFormulas.{formula_names, var_listed, listed_v
 -- ---- the names of expressions: `all` has those of the lets
 
 abbrev expr_vars : List VarName → ExprTree → List VarName
-expr_vars all (atom s t f) = formula_names f
+expr_vars all (atom a) = formula_names a.formula
 expr_vars all (named k) = all
 expr_vars all union_end = []
 expr_vars all (union e rest) = expr_vars all e ++ expr_vars all rest
@@ -41,7 +40,7 @@ expr_vars all (minus e g) = expr_vars all e
 module _ (V S : ℕ → VarName → Type 0) (told : (k : ℕ) (x : VarName) → Told (V k x)) (told_sure : (k : ℕ) (x : VarName) → Told (S k x))
     (all : List VarName) (listed : (k : ℕ) (x : VarName) → V k x → Has all x) where
   vars_listed : (e : ExprTree) (x : VarName) → VarOf V e x → Has (expr_vars all e) x
-  vars_listed (atom s t f) x h = var_listed f x h
+  vars_listed (atom a) x h = var_listed a.formula x h
   vars_listed (named k) x h = listed k x h
   vars_listed union_end x h = absurd h
   vars_listed (union e rest) x (inl h) = Has-append_left (expr_vars all e) (expr_vars all rest) x (vars_listed e x h)
@@ -122,9 +121,9 @@ module _ (V S : ℕ → VarName → Type 0) (told : (k : ℕ) (x : VarName) → 
   abbrev PartsOrFault : ExprTree → Type 0
   PartsOrFault e = HasPassingParts V S e ⊎ ((fault : QueryFault) × InnerFault V S e fault)
 
-  atom_or_fault : (s t : Bool) (f : Tree) → IsSequential f ⊎ ((e : CheckFault) × IsFault f e) → PassesOrFault (atom s t f)
-  atom_or_fault s t f (inl ok) = inl ok
-  atom_or_fault s t f (inr h) = inr (Check h.0, inr (tt, h.1))
+  atom_or_fault : (a : AtomTree) → IsSequential a.formula ⊎ ((e : CheckFault) × IsFault a.formula e) → PassesOrFault (atom a)
+  atom_or_fault a (inl ok) = inl ok
+  atom_or_fault a (inr h) = inr (Check h.0, inr (tt, h.1))
 
   -- x is kept and is not there
   abbrev IsMissing : List VarName → ExprTree → VarName → Type 0
@@ -132,7 +131,7 @@ module _ (V S : ℕ → VarName → Type 0) (told : (k : ℕ) (x : VarName) → 
 
   mutual
     pub passes_or_fault : (n : ℕ) (e : ExprTree) → IsFormed n e → PassesOrFault e
-    passes_or_fault n (atom s t f) c = atom_or_fault s t f (sequential_or_fault f c.0)
+    passes_or_fault n (atom a) c = atom_or_fault a (sequential_or_fault a.formula c.0)
     passes_or_fault n (named k) c = inl tt
     passes_or_fault n union_end c = inl tt
     passes_or_fault n (union e rest) c = by (passes_or_fault n e c.0) (united_or_fault n rest c.1)
@@ -210,7 +209,7 @@ lets_vars [] = []
 lets_vars (l ∷ lets) = expr_vars [] l.1 ++ lets_vars lets
 
 var_from : (V : ℕ → VarName → Type 0) (e : ExprTree) (x : VarName) → VarOf V e x → Has (expr_vars [] e) x ⊎ ((k : ℕ) × V k x)
-var_from V (atom s t f) x h = inl (var_listed f x h)
+var_from V (atom a) x h = inl (var_listed a.formula x h)
 var_from V (named k) x h = inr (k, h)
 var_from V union_end x h = absurd h
 var_from V (union e rest) x (inl h) = elim (var_from V e x h) [ inl m ↦ inl (Has-append_left (expr_vars [] e) (expr_vars [] rest) x m) | inr m ↦ inr m ]
@@ -292,7 +291,7 @@ query_passes_or_fault q c = by (lets_or_fault q.lets c.0 (length q.lets) 0 (omeg
 -- ---- whether the names of a query are too many
 
 abbrev expr_names : ExprTree → List VarName
-expr_names (atom s t f) = formula_names f
+expr_names (atom a) = formula_names a.formula
 expr_names (named k) = []
 expr_names union_end = []
 expr_names (union e rest) = expr_names e ++ expr_names rest
@@ -308,7 +307,7 @@ in_either a b x {P} {Q} p q = (
 )
 
 names_are : (e : ExprTree) (x : VarName) → Has (expr_names e) x ↔ NameIn e x
-names_are (atom s t f) x = (listed_var f x, var_listed f x)
+names_are (atom a) x = (listed_var a.formula x, var_listed a.formula x)
 names_are (named k) x = (λ h. h, λ h. h)
 names_are union_end x = (λ h. h, λ h. h)
 names_are (union e rest) x = in_either (expr_names e) (expr_names rest) x (names_are e x) (names_are rest x)

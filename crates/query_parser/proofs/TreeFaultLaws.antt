@@ -1,10 +1,9 @@
 -- An expression that passes has no fault, and one has one fault at most.
-use Rattle.std.proofs.Common.{◌≡◌, ℕ, Bool, List, [], ◌∷◌, ap, refl, sym, ◌∙◌, subst, inl, inr}
+use Rattle.std.proofs.Common.{◌≡◌, ℕ, List, [], ◌∷◌, ap, refl, sym, ◌∙◌, subst, inl, inr}
 use Rattle.span_core.specs.Lists.{Has}
 use Rattle.spanner_model.specs.Captures.{VarName}
-use Rattle.spanner_model.specs.Tree.{Tree}
 use Rattle.functional_check.specs.declared.checking.CheckFault.{CheckFault}
-use Rattle.spanner_model.specs.Expression.{ExprTree, atom, named, union_end, union, join_end, join, project, minus}
+use Rattle.spanner_model.specs.Expression.{AtomTree, ExprTree, atom, named, union_end, union, join_end, join, project, minus}
 use Rattle.spanner_model.specs.Answer.{VarOf}
 use Rattle.spanner_model.specs.Sound.{SharesSure}
 use Rattle.functional_check.specs.Faults.{IsFault, IsLeast}
@@ -16,7 +15,7 @@ use Rattle.query_parser.specs.TreeFaults.{Passes, HasPassingParts, Clashes, Clas
 
 module _ (V S : ℕ → VarName → Type 0) where
   passing_parts : (e : ExprTree) → Passes V S e → HasPassingParts V S e
-  passing_parts (atom s t f) p = tt
+  passing_parts (atom a) p = tt
   passing_parts (named k) p = tt
   passing_parts union_end p = tt
   passing_parts (union e rest) p = (p.0, passing_parts rest p.1)
@@ -33,7 +32,7 @@ module _ (V S : ℕ → VarName → Type 0) where
       next : (g : ExprTree) → Has (e ∷ before) g → SharesSure V S g rest
       next g (inl is) = subst (λ (w : ExprTree). SharesSure V S w rest) is p.2
       next g (inr has) = (share g has).1
-  none_clashes before (atom s t f) share p x h = h
+  none_clashes before (atom a) share p x h = h
   none_clashes before (named k) share p x h = h
   none_clashes before union_end share p x h = h
   none_clashes before (union e rest) share p x h = h
@@ -46,7 +45,7 @@ module _ (V S : ℕ → VarName → Type 0) where
   one_clashes before (join e rest) x y (inl h) (inr g) = absurd (g.0 x h.0)
   one_clashes before (join e rest) x y (inr h) (inl g) = absurd (h.0 y g.0)
   one_clashes before (join e rest) x y (inr h) (inr g) = one_clashes (e ∷ before) rest x y h.1 g.1
-  one_clashes before (atom s t f) x y h g = absurd h
+  one_clashes before (atom a) x y h g = absurd h
   one_clashes before (named k) x y h g = absurd h
   one_clashes before union_end x y h g = absurd h
   one_clashes before (union e rest) x y h g = absurd h
@@ -55,7 +54,7 @@ module _ (V S : ℕ → VarName → Type 0) where
   one_clashes before (minus e f) x y h g = absurd h
 
   own_none : (e : ExprTree) (fault : QueryFault) → Passes V S e → OwnFault V S e fault → ⊥
-  own_none (atom s t f) (Check c) p o = no_fault f c p o
+  own_none (atom a) (Check c) p o = no_fault a.formula c p o
   own_none (join e rest) (JoinUnsure x) p o = none_clashes (e ∷ []) rest first p.1 x o
     where
       first : (g : ExprTree) → Has (e ∷ []) g → SharesSure V S g rest
@@ -65,9 +64,9 @@ module _ (V S : ℕ → VarName → Type 0) where
   own_none (minus e g) (MinusVariables x) p o = elim o.0 [ inl h ↦ h.1 ((p.2 x).0 h.0) | inr h ↦ h.1 ((p.2 x).1 h.0) ]
   own_none e fault p o = absurd o
 
-  own_atom : (s t : Bool) (r : Tree) (f : QueryFault) → OwnFault V S (atom s t r) f → (c : CheckFault) × (f ≡ Check c) × IsFault r c
-  own_atom s t r (Check c) a = (c, refl, a)
-  own_atom s t r f a = absurd a
+  own_atom : (u : AtomTree) (f : QueryFault) → OwnFault V S (atom u) f → (c : CheckFault) × (f ≡ Check c) × IsFault u.formula c
+  own_atom u (Check c) a = (c, refl, a)
+  own_atom u f a = absurd a
 
   own_join : (e rest : ExprTree) (f : QueryFault) → OwnFault V S (join e rest) f → (x : VarName) × (f ≡ JoinUnsure x) × ClashesFirst V S (e ∷ []) rest x
   own_join e rest (JoinUnsure x) a = (x, refl, a)
@@ -83,9 +82,9 @@ module _ (V S : ℕ → VarName → Type 0) where
   own_minus e g f a = absurd a
 
   own_one : (e : ExprTree) (f g : QueryFault) → OwnFault V S e f → OwnFault V S e g → f ≡ g
-  own_one (atom s t r) f g a b =
-      let (c, is, x) = own_atom s t r f a in
-      let (d, same, y) = own_atom s t r g b in is ∙ ap (λ z. Check z) (fault_one r c d x y) ∙ sym same
+  own_one (atom u) f g a b =
+      let (c, is, x) = own_atom u f a in
+      let (d, same, y) = own_atom u g b in is ∙ ap (λ z. Check z) (fault_one u.formula c d x y) ∙ sym same
   own_one (join e rest) f g a b =
       let (c, is, x) = own_join e rest f a in
       let (d, same, y) = own_join e rest g b in is ∙ ap (λ z. JoinUnsure z) (one_clashes (e ∷ []) rest c d x y) ∙ sym same
@@ -112,7 +111,7 @@ module _ (V S : ℕ → VarName → Type 0) where
   inner_none (project kept e) fault p f = over_none e fault (inner_none e fault) p f
   inner_none (minus e g) fault p (inl f) = over_none e fault (inner_none e fault) p.0 f
   inner_none (minus e g) fault p (inr i) = over_none g fault (inner_none g fault) p.1 i.1
-  inner_none (atom s t f) fault p i = i
+  inner_none (atom a) fault p i = i
   inner_none (named k) fault p i = i
   inner_none union_end fault p i = i
   inner_none join_end fault p i = i
@@ -141,7 +140,7 @@ module _ (V S : ℕ → VarName → Type 0) where
   inner_one (minus e h) f g (inl a) (inr b) = absurd (expr_none e f b.0 a)
   inner_one (minus e h) f g (inr a) (inl b) = absurd (expr_none e g a.0 b)
   inner_one (minus e h) f g (inr a) (inr b) = over_one h f g (inner_one h f g) a.1 b.1
-  inner_one (atom s t r) f g a b = absurd a
+  inner_one (atom u) f g a b = absurd a
   inner_one (named k) f g a b = absurd a
   inner_one union_end f g a b = absurd a
   inner_one join_end f g a b = absurd a

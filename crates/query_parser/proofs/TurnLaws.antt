@@ -33,8 +33,8 @@ turn_within text at n m len (inr (is, (a, found, same))) =
     let (stands, wants) = atom_due text at n is in
     let w = token_within (atom_at stands found) in (omega (arith, w.0), omega (arith, w.1))
 
-pub atom_moves : (a : AtomTree) (n : Nest) → wants_unit n.last ≡ true → move (atom_token a) n ≡ Ok (with_unit (atom a.from_start a.to_end a.formula) n)
-atom_moves a n w = ap (λ b. if b then Ok (with_unit (atom a.from_start a.to_end a.formula) n) else Err unexpected) w
+pub atom_moves : (a : AtomTree) (n : Nest) → wants_unit n.last ≡ true → move (atom_token a) n ≡ Ok (with_unit (atom a) n)
+atom_moves a n w = ap (λ b. if b then Ok (with_unit (atom a) n) else Err unexpected) w
 
 -- a turn, and then the others
 pub turn_on : (text : List ℕ) (at len : ℕ) (n m : Nest) (r : Answer) → IsTurn (Ok len) text at n m → Ends text (at + len) m r → Ends text at n r

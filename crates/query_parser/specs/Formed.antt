@@ -12,7 +12,7 @@ use Rattle.query_parser.specs.TreeFaults.{PassesUnder, LetPasses}
 -- an expression under n lets
 abbrev mutual
   pub IsFormed : ℕ → ExprTree → Type 0
-  IsFormed n (atom s t f) = IsWellBuilt f
+  IsFormed n (atom a) = IsWellBuilt a.formula
   IsFormed n (named k) = k < n
   IsFormed n union_end = ⊥
   IsFormed n (union e rest) = IsFormed n e × AreUnitedFormed n rest × ¬ (rest ≡ union_end)

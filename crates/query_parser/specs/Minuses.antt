@@ -5,7 +5,7 @@ use Rattle.spanner_model.specs.Expression.{ExprTree, QueryTree, atom, named, uni
 
 -- of an expression: each word `minus` that is read as a sign makes one
 abbrev pub minuses_in : ExprTree → ℕ
-minuses_in (atom s t f) = 0
+minuses_in (atom a) = 0
 minuses_in (named k) = 0
 minuses_in union_end = 0
 minuses_in (union e rest) = minuses_in e + minuses_in rest

@@ -223,7 +223,7 @@ abbrev pub with_unit : ExprTree → Nest → Nest
 with_unit e n = with_last (unit e) n
 
 abbrev pub move : Token → Nest → Move
-move (atom_token a) n = if wants_unit n.last then Ok (with_unit (atom a.from_start a.to_end a.formula) n) else Err unexpected
+move (atom_token a) n = if wants_unit n.last then Ok (with_unit (atom a) n) else Err unexpected
 move let_word n = moves_let n.last n
 move union_word n = moves_union n.last n
 move join_word n = moves_join n.last n

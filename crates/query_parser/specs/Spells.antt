@@ -56,7 +56,7 @@ mutual
         SpellsConj names room (t ++ join_word ∷ u) (es ++ e ∷ [])
 
   pub data SpellsUnit (names : List VarName) : ℕ → List Token → ExprTree → Type 0 where
-    atom_unit : {room : ℕ} {a : AtomTree} → SpellsUnit names room (atom_token a ∷ []) (atom a.from_start a.to_end a.formula)
+    atom_unit : {room : ℕ} {a : AtomTree} → SpellsUnit names room (atom_token a ∷ []) (atom a)
     named_unit : {room k : ℕ} {x : VarName} → slice_get names k ≡ Some x → SpellsUnit names room (name_token x ∷ []) (named k)
     group_of : {room : ℕ} {t : List Token} {es : List ExprTree} → SpellsExpr names room t es → SpellsUnit names (suc room) (open_paren ∷ (t ++ close_paren ∷ [])) (union_tree es)
     projection_of : {room : ℕ} {t u : List Token} {kept : List VarName} {es : List ExprTree} → SpellsKeep t kept → SpellsExpr names room u es →

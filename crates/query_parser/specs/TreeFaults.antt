@@ -16,7 +16,7 @@ module _ (V S : ℕ → VarName → Type 0) where
   -- Formulas are sequential, what two parts of a join share is sure in both, a projection keeps variables that are there, and both sides of a
   -- difference have the same variables.
   abbrev pub Passes : ExprTree → Type 0
-  Passes (atom s t f) = IsSequential f
+  Passes (atom a) = IsSequential a.formula
   Passes (named k) = Unit {0}
   Passes union_end = Unit {0}
   Passes (union e rest) = Passes e × Passes rest
@@ -50,7 +50,7 @@ module _ (V S : ℕ → VarName → Type 0) where
 
   -- the fault of an expression itself, where there is none inside it
   abbrev pub OwnFault : ExprTree → QueryFault → Type 0
-  OwnFault (atom s t f) (Check e) = IsFault f e
+  OwnFault (atom a) (Check e) = IsFault a.formula e
   OwnFault (join e rest) (JoinUnsure x) = ClashesFirst (e ∷ []) rest x
   OwnFault (project kept e) (UnknownVariable x) = IsLeast (λ y. Has kept y × ¬ VarOf V e y) x
   OwnFault (minus e g) (MinusVariables x) = IsLeast (IsOfOneSide e g) x

@@ -20,7 +20,7 @@ IsStep (Err fault) next n = next ≡ stops (Err fault)
 -- the code read the atom at the place, and left this open, or memory ran out
 abbrev pub ReadAtom : Result ℕ QueryFault → List ℕ → ℕ → Nest → Nest → Type 0
 ReadAtom (Ok len) text at n m =
-    (a : AtomTree) × IsAtomAt text at (a, at + len) × (m ≡ with_unit (atom a.from_start a.to_end a.formula) n)
+    (a : AtomTree) × IsAtomAt text at (a, at + len) × (m ≡ with_unit (atom a) n)
 ReadAtom (Err OutOfMemory) text at n m = Unit {0}
 ReadAtom (Err fault) text at n m = (e : FormulaFault) × HasAtomFault text at e × (fault ≡ Formula e)
 

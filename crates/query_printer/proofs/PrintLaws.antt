@@ -3,7 +3,7 @@ use Rattle.std.proofs.Common.{◌≡◌, ◌≢◌, ℕ, zero, suc, ◌+◌, ◌
 use Rattle.std.proofs.lemmas.List.{append-nil}
 use Rattle.spanner_model.specs.Tree.{Tree, empty, one, cat_end, cat, alt_end, alt, rep, cap, cat_all, alt_all}
 use Rattle.spanner_model.specs.WellBuilt.{IsBuilt, AreParts, AreArms, IsWellBuilt}
-use Rattle.spanner_model.specs.Expression.{AtomTree}
+use Rattle.spanner_model.specs.Expression.{AtomTree, untied}
 use Rattle.formula_parser.specs.Names.{head_text}
 use Rattle.formula_parser.specs.Spells.{seq_tree, alt_tree, SpellsAlt, SpellsSeq, SpellsPiece, SpellsUnit, lone_arm, more_arms as further_arms, no_piece, more_pieces, once, again, plain, group_of, capture_of, given, Spells, IsAtomAt, over_bytes}
 use Rattle.formula_parser.specs.Alphabet.{of_bytes}
@@ -159,7 +159,7 @@ printed_is_atom before after a unsigned built few =
     (u, after, stands, spells, omega (arith, length-append u (47 ∷ [])))
 
 -- The printed form of a formula spells it.
-pub formula_spells : (f : Tree) (after : List ℕ) → IsWellBuilt f → most_open f ≤ 100 → Spells of_bytes (printed f) (record { from_start = false; to_end = false; formula = f }) after
+pub formula_spells : (f : Tree) (after : List ℕ) → IsWellBuilt f → most_open f ≤ 100 → Spells of_bytes (printed f) (untied f) after
 formula_spells f after built few =
-    let a : AtomTree = record { from_start = false; to_end = false; formula = f } in
+    let a = untied f in
     subst (λ t. Spells of_bytes t a after) (append-nil (printed f)) (printed_spells a after built few)

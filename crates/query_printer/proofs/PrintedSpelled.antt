@@ -181,7 +181,7 @@ module _ (names known : List VarName) (n : ℕ)
       let (x, there, here, free) = told k within in
       (name_token x ∷ [], subst (λ o. Lexes (unwrap_or o []) (name_token x ∷ [])) (sym here) (λ after stops. lexed_name x after free stops), named_unit there)
 
-  atom_text_unit : (room : ℕ) (a : AtomTree) → IsWellBuilt a.formula → formulas.most_open a.formula ≤ 100 → AsUnit room (atom_text a) (atom a.from_start a.to_end a.formula)
+  atom_text_unit : (room : ℕ) (a : AtomTree) → IsWellBuilt a.formula → formulas.most_open a.formula ≤ 100 → AsUnit room (atom_text a) (atom a)
   atom_text_unit room a built few = (atom_token a ∷ [], (λ after stops. lexed_atom a after stops built few), atom_unit)
 
   projected_text : (room : ℕ) (kept : List VarName) (u : List ℕ) (e : ExprTree) → ((x : VarName) → Has kept x → IsFreeName x) → AreVariables kept → AsExpr room u e →
@@ -212,7 +212,7 @@ module _ (names known : List VarName) (n : ℕ)
 
   mutual
     pub spelled : (e : ExprTree) → IsFormed n e → most_in_atoms e ≤ 100 → (room : ℕ) → most_open e ≤ room → Forms room (printed names e) e (shape e)
-    spelled (atom s t f) c few room h = atom_text_unit room (record { from_start = s; to_end = t; formula = f }) c few
+    spelled (atom a) c few room h = atom_text_unit room a c few
     spelled (named k) c few room h = named_text room k c
     spelled union_end c few room h = absurd c
     spelled (union e rest) c few room h =

@@ -27,7 +27,7 @@ module _ (V S : ℕ → VarName → Type 0) (N : VarName → Type 0) (few : AtMo
 
   mutual
     pub sound_formed : (n : ℕ) (e : ExprTree) → ((x : VarName) → NameIn e x → N x) → IsSoundExpr V S n e → IsFormed n e
-    sound_formed n (atom s t f) names h = h.0
+    sound_formed n (atom a) names h = h.0
     sound_formed n (named k) names h = h
     sound_formed n union_end names h = absurd h
     sound_formed n (union e rest) names h = (sound_formed n e (λ x a. names x (inl a)) h.0, united_formed n rest (λ x a. names x (inr a)) h.1, h.2)
@@ -62,7 +62,7 @@ query_is_formed q s = (
 -- under more lets it is formed too
 mutual
   pub formed_under : (n m : ℕ) (e : ExprTree) → n ≤ m → IsFormed n e → IsFormed m e
-  formed_under n m (atom s t f) le h = h
+  formed_under n m (atom a) le h = h
   formed_under n m (named k) le h = omega (arith, le, h)
   formed_under n m union_end le h = absurd h
   formed_under n m (union e rest) le h = (formed_under n m e le h.0, united_under n m rest le h.1, h.2)

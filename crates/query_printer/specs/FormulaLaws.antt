@@ -2,7 +2,7 @@
 use Rattle.std.specs.Prelude.{◌≡◌, ℕ, ◌+◌, ◌≤◌, false, List, ◌++◌, length}
 use Rattle.spanner_model.specs.Tree.{Tree}
 use Rattle.spanner_model.specs.WellBuilt.{IsWellBuilt}
-use Rattle.spanner_model.specs.Expression.{AtomTree}
+use Rattle.spanner_model.specs.Expression.{AtomTree, untied}
 use Rattle.formula_parser.specs.Alphabet.{of_bytes}
 use Rattle.formula_parser.specs.Signs.{is_sign}
 use Rattle.formula_parser.specs.Spells.{Spells, IsAtomAt}
@@ -12,7 +12,7 @@ use Rattle.query_printer.specs.PrintedFormula.{printed, most_open, tied_text, at
 abbrev pub FormulasSpell : Type 0
 FormulasSpell =
     (f : Tree) (after : List ℕ) → IsWellBuilt f → most_open f ≤ 100 →
-    Spells of_bytes (printed f) (record { from_start = false; to_end = false; formula = f }) after
+    Spells of_bytes (printed f) (untied f) after
 
 -- with its ties it spells the atom
 abbrev pub AtomsSpell : Type 0

@@ -16,7 +16,7 @@ pub data Shape : Type 0 where
   a_union : Shape
 
 abbrev pub shape : ExprTree → Shape
-shape (atom s t f) = a_unit
+shape (atom a) = a_unit
 shape (named k) = a_unit
 shape union_end = a_union
 shape (union e rest) = a_union
@@ -51,7 +51,7 @@ keep_text (x ∷ xs) = joined (44 ∷ []) (x ∷ xs)
 -- `names` are those of the lets, by number
 abbrev mutual
   pub printed : List VarName → ExprTree → List ℕ
-  printed names (atom s t f) = atom_text (record { from_start = s; to_end = t; formula = f })
+  printed names (atom a) = atom_text a
   printed names (named k) = unwrap_or (slice_get names k) []
   printed names union_end = []
   printed names (union e rest) = joined (codes " union ") (wrapped (wraps_in_union (shape e)) (printed names e) ∷ conj_texts names rest)
@@ -83,7 +83,7 @@ query_text q = lets_text (names_of q.lets) q.lets ++ printed (names_of q.lets) q
 
 -- how many parentheses are open at once in the printed form, those of its atoms apart
 abbrev pub most_open : ExprTree → ℕ
-most_open (atom s t f) = 0
+most_open (atom a) = 0
 most_open (named k) = 0
 most_open union_end = 0
 most_open (union e rest) = max (wrapped_open (wraps_in_union (shape e)) (most_open e)) (most_open rest)
@@ -94,7 +94,7 @@ most_open (minus e g) = max (wrapped_open (wraps_in_union (shape e)) (most_open 
 
 -- how many parentheses and captures are open at once in one of its atoms
 abbrev pub most_in_atoms : ExprTree → ℕ
-most_in_atoms (atom s t f) = formulas.most_open f
+most_in_atoms (atom a) = formulas.most_open a.formula
 most_in_atoms (named k) = 0
 most_in_atoms union_end = 0
 most_in_atoms (union e rest) = max (most_in_atoms e) (most_in_atoms rest)

@@ -3,8 +3,7 @@ use Rattle.std.proofs.Common.{ℕ, suc, ◌<◌, ◌≤◌, Bool, true, false, L
 use Rattle.span_core.specs.Lists.{Has}
 use Rattle.span_core.proofs.HasLaws.{place_of-Has}
 use Rattle.spanner_model.specs.Captures.{VarName}
-use Rattle.spanner_model.specs.Tree.{Tree}
-use Rattle.spanner_model.specs.Expression.{ExprTree, QueryTree, atom, named, union_end, union, join_end, join, minus, project}
+use Rattle.spanner_model.specs.Expression.{AtomTree, ExprTree, QueryTree, atom, named, union_end, union, join_end, join, minus, project}
 use Rattle.spanner_model.specs.Sequential.{IsSequential}
 use Rattle.spanner_model.specs.Sound.{AreJoined, AreUnited, IsSound, IsSoundExpr, IsSoundUnder}
 use Rattle.spanner_model.specs.WellBuilt.{IsWellBuilt}
@@ -12,7 +11,7 @@ use Rattle.place_automaton.specs.Atom.{AreBytes}
 use Rattle.place_automaton.specs.Words.{atom_automaton}
 use Rattle.place_automaton.proofs.BuiltRepeats.{ordered_repeats}
 use Rattle.filter_laws.specs.Idling.{IsLed, LeadsOut}
-use Rattle.filter_laws.specs.Sharing.{IsShared, places_of}
+use Rattle.filter_laws.specs.Sharing.{IsShared, from_the_start, places_of}
 use Rattle.filter_laws.specs.Touching.{HasMinus, HasMinusIn, IsTouchedBy, SomeAtom, SomeAtomOf, TouchedOf}
 use Rattle.filter_laws.proofs.SharingLaws.{sharing_law}
 use Rattle.spanner_engine.specs.Begun.{IsReadAt}
@@ -22,33 +21,32 @@ use Rattle.read_positions.proofs.Passing.{decide_led, decide_out}
 
 -- ---- an atom
 
-decide_shared : (s t : Bool) (f : Tree) (d : List ℕ) (i : ℕ) → Decided (IsShared [] s t f d i)
-decide_shared s t f d i =
+decide_shared : (a : AtomTree) (d : List ℕ) (i : ℕ) → Decided (IsShared [] a d i)
+decide_shared a d i =
+    let A = atom_automaton [] a in
+    let B = atom_automaton [] (from_the_start a) in
+    let places = places_of [] a.formula in
     decide_same
-    ((r : ℕ) × (r < suc (places_of [] f)) × (IsLed (atom_automaton [] s t f) d i r × LeadsOut (atom_automaton [] true t f) d i r))
-    (IsShared [] s t f d i) (
-      λ h. (h.0, (let l : h.0 ≤ places_of [] f = omega (arith, h.1) in l), h.2.0, h.2.1),
-      λ h. (h.0, (let l : h.0 < suc (places_of [] f) = omega (arith, h.1) in l), (h.2, h.3)),
+    ((r : ℕ) × (r < suc places) × (IsLed A d i r × LeadsOut B d i r))
+    (IsShared [] a d i) (
+      λ h. (h.0, (let l : h.0 ≤ places = omega (arith, h.1) in l), h.2.0, h.2.1),
+      λ h. (h.0, (let l : h.0 < suc places = omega (arith, h.1) in l), (h.2, h.3)),
     )
     (decide_below
-    (λ (r : ℕ). IsLed (atom_automaton [] s t f) d i r × LeadsOut (atom_automaton [] true t f) d i r)
-    (λ r. decide_both
-    (IsLed (atom_automaton [] s t f) d i r)
-    (LeadsOut (atom_automaton [] true t f) d i r)
-    (decide_led (atom_automaton [] s t f) d i r)
-    (decide_out (atom_automaton [] true t f) d i r))
-    (suc (places_of [] f)))
+    (λ (r : ℕ). IsLed A d i r × LeadsOut B d i r)
+    (λ r. decide_both (IsLed A d i r) (LeadsOut B d i r) (decide_led A d i r) (decide_out B d i r))
+    (suc places))
 
-decide_touched : (s t : Bool) (f : Tree) → IsWellBuilt f → IsSequential f → (d : List ℕ) → AreBytes d → (i : ℕ) → Decided (IsTouchedBy s t f d i)
-decide_touched s t f built sequential d bytes i =
-    let law = sharing_law [] s t f sequential (ordered_repeats f built) d bytes i in
-    decide_same (IsShared [] s t f d i) (IsTouchedBy s t f d i) (law.1, law.0) (decide_shared s t f d i)
+decide_touched : (a : AtomTree) → IsWellBuilt a.formula → IsSequential a.formula → (d : List ℕ) → AreBytes d → (i : ℕ) → Decided (IsTouchedBy a d i)
+decide_touched a built sequential d bytes i =
+    let law = sharing_law [] a sequential (ordered_repeats a.formula built) d bytes i in
+    decide_same (IsShared [] a d i) (IsTouchedBy a d i) (law.1, law.0) (decide_shared a d i)
 
 -- ---- the atoms of a sound expression
 
 -- each atom is well built and sequential
 abbrev AtomsFit : ExprTree → Type 0
-AtomsFit (atom s t f) = IsWellBuilt f × IsSequential f
+AtomsFit (atom a) = IsWellBuilt a.formula × IsSequential a.formula
 AtomsFit (named k) = Unit {0}
 AtomsFit union_end = Unit {0}
 AtomsFit (union e rest) = AtomsFit e × AtomsFit rest
@@ -65,7 +63,7 @@ module _ (V S : ℕ → VarName → Type 0) (n : ℕ) where
     joined : AreJoined V S n e → AtomsFit e
 
   all_fit : (e : ExprTree) → Fit e
-  all_fit (atom s t f) = record { whole = λ h. h; united = λ h. absurd h; joined = λ h. absurd h }
+  all_fit (atom a) = record { whole = λ h. h; united = λ h. absurd h; joined = λ h. absurd h }
   all_fit (named k) = record { whole = λ h. tt; united = λ h. absurd h; joined = λ h. absurd h }
   all_fit union_end = record { whole = λ h. absurd h; united = λ h. tt; joined = λ h. absurd h }
   all_fit (union e rest) =
@@ -86,9 +84,9 @@ module _ (V S : ℕ → VarName → Type 0) (n : ℕ) where
   fits : (e : ExprTree) → IsSoundExpr V S n e → AtomsFit e
   fits e h = (all_fit e).whole h
 
-module _ (P : Bool → Bool → Tree → Type 0) (decide : (s t : Bool) (f : Tree) → IsWellBuilt f → IsSequential f → Decided (P s t f)) where
+module _ (P : AtomTree → Type 0) (decide : (a : AtomTree) → IsWellBuilt a.formula → IsSequential a.formula → Decided (P a)) where
   decide_atoms : (e : ExprTree) → AtomsFit e → Decided (SomeAtom P e)
-  decide_atoms (atom s t f) fit = decide s t f fit.0 fit.1
+  decide_atoms (atom a) fit = decide a fit.0 fit.1
   decide_atoms (named k) fit = inr (λ h. h)
   decide_atoms union_end fit = inr (λ h. h)
   decide_atoms (union e rest) fit = decide_either (SomeAtom P e) (SomeAtom P rest) (decide_atoms e fit.0) (decide_atoms rest fit.1)
@@ -99,7 +97,7 @@ module _ (P : Bool → Bool → Tree → Type 0) (decide : (s t : Bool) (f : Tre
 
 -- whether a difference stands in an expression
 decide_minus : (e : ExprTree) → Decided (HasMinusIn e)
-decide_minus (atom s t f) = inr (λ h. h)
+decide_minus (atom a) = inr (λ h. h)
 decide_minus (named k) = inr (λ h. h)
 decide_minus union_end = inr (λ h. h)
 decide_minus (union e rest) = decide_either (HasMinusIn e) (HasMinusIn rest) (decide_minus e) (decide_minus rest)
@@ -118,16 +116,16 @@ module _ (q : QueryTree) (sound : IsSound q) (d : List ℕ) (bytes : AreBytes d)
       fits _ _ _ l.1 under.0
 
   -- some atom touches the position
-  decide_touching : (i : ℕ) → Decided (SomeAtomOf (λ s t f. IsTouchedBy s t f d i) q)
+  decide_touching : (i : ℕ) → Decided (SomeAtomOf (λ a. IsTouchedBy a d i) q)
   decide_touching i =
-      let one : (s t : Bool) (f : Tree) → IsWellBuilt f → IsSequential f → Decided (IsTouchedBy s t f d i) =
-      λ s t f built sequential. decide_touched s t f built sequential d bytes i in
+      let one : (a : AtomTree) → IsWellBuilt a.formula → IsSequential a.formula → Decided (IsTouchedBy a d i) =
+      λ a built sequential. decide_touched a built sequential d bytes i in
       decide_either
-      ((l : VarName × ExprTree) × Has q.lets l × SomeAtom (λ s t f. IsTouchedBy s t f d i) l.1)
-      (SomeAtom (λ s t f. IsTouchedBy s t f d i) q.body)
-      (decide_some (λ (l : VarName × ExprTree). SomeAtom (λ s t f. IsTouchedBy s t f d i) l.1) q.lets
-      (λ l h. decide_atoms (λ s t f. IsTouchedBy s t f d i) one l.1 (let_fits l h)))
-      (decide_atoms (λ s t f. IsTouchedBy s t f d i) one q.body (fits _ _ _ q.body sound.sound_body.0))
+      ((l : VarName × ExprTree) × Has q.lets l × SomeAtom (λ a. IsTouchedBy a d i) l.1)
+      (SomeAtom (λ a. IsTouchedBy a d i) q.body)
+      (decide_some (λ (l : VarName × ExprTree). SomeAtom (λ a. IsTouchedBy a d i) l.1) q.lets
+      (λ l h. decide_atoms (λ a. IsTouchedBy a d i) one l.1 (let_fits l h)))
+      (decide_atoms (λ a. IsTouchedBy a d i) one q.body (fits _ _ _ q.body sound.sound_body.0))
 
   decide_differs : Decided (HasMinus q)
   decide_differs =
@@ -140,7 +138,7 @@ module _ (q : QueryTree) (sound : IsSound q) (d : List ℕ) (bytes : AreBytes d)
   decide_query : (i : ℕ) → Decided (TouchedOf q d i)
   decide_query i =
       decide_either
-      (SomeAtomOf (λ s t f. IsTouchedBy s t f d i) q)
+      (SomeAtomOf (λ a. IsTouchedBy a d i) q)
       (HasMinus q × (i ≤ length d))
       (decide_touching i)
       (decide_both (HasMinus q) (i ≤ length d) decide_differs (decide_le i (length d)))

@@ -51,8 +51,8 @@ line_of k states ways = line (codes "atom " ++ decimal k ++ codes " states " ++ 
 
 same_line : (k : ℕ) (a : AtomTree) → IsFunctional a.formula → IsWellBuilt a.formula → atom_line k a ≡ plain_atom_line k a
 same_line k a f built =
-    let (states, ways) = functional_counts a.from_start a.to_end a.formula f (ordered_repeats a.formula built) in
-    ap (λ n. line_of k n (count_ways a.from_start a.to_end a.formula)) states ∙ ap (λ n. line_of k (plain_states a.from_start a.to_end a.formula) n) ways
+    let (states, ways) = functional_counts a f (ordered_repeats a.formula built) in
+    ap (λ n. line_of k n (count_ways a)) states ∙ ap (λ n. line_of k (plain_states a) n) ways
 
 pub as_before : FunctionalQueriesAreServedAsBefore
 as_before = record {

@@ -14,8 +14,8 @@ use Rattle.rematch_program.specs.Explained.{AreCounted, IsCounted, atoms_among, 
 module _ (N : VarName → Type 0) (few : AtMost MOST_VARIABLES N) (V S : ℕ → VarName → Type 0) (n : ℕ) where
   mutual
     of_expr : (e : ExprTree) → IsSoundExpr V S n e → ((x : VarName) → NameIn e x → N x) → AreCounted (atoms_of e)
-    of_expr (atom s t f) ok inside a (inl e) = subst IsCounted e (ok.0, ok.1, (few.0, few.1, λ x h. few.2 x (inside x h)))
-    of_expr (atom s t f) ok inside a (inr h) = absurd h
+    of_expr (atom b) ok inside a (inl e) = subst IsCounted e (ok.0, ok.1, (few.0, few.1, λ x h. few.2 x (inside x h)))
+    of_expr (atom b) ok inside a (inr h) = absurd h
     of_expr (named k) ok inside a h = absurd h
     of_expr union_end ok inside a h = absurd h
     of_expr (union e rest) ok inside a h =
@@ -43,7 +43,7 @@ module _ (N : VarName → Type 0) (few : AtMost MOST_VARIABLES N) (V S : ℕ →
           | inl p ↦ of_expr e ok.0 (λ x v. inside x (inl v)) a p
           | inr q ↦ of_united rest ok.1 (λ x v. inside x (inr v)) a q
         ]
-    of_united (atom s t f) ok inside a h = absurd ok
+    of_united (atom b) ok inside a h = absurd ok
     of_united (named k) ok inside a h = absurd ok
     of_united join_end ok inside a h = absurd ok
     of_united (join e rest) ok inside a h = absurd ok
@@ -57,7 +57,7 @@ module _ (N : VarName → Type 0) (few : AtMost MOST_VARIABLES N) (V S : ℕ →
           | inl p ↦ of_expr e ok.0 (λ x v. inside x (inl v)) a p
           | inr q ↦ of_joined rest ok.1 (λ x v. inside x (inr v)) a q
         ]
-    of_joined (atom s t f) ok inside a h = absurd ok
+    of_joined (atom b) ok inside a h = absurd ok
     of_joined (named k) ok inside a h = absurd ok
     of_joined union_end ok inside a h = absurd ok
     of_joined (union e rest) ok inside a h = absurd ok

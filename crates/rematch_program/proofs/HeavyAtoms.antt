@@ -1,14 +1,13 @@
 -- What holds of some atom of a query.
-use Rattle.std.proofs.Common.{ℕ, ◌<◌, ◌≤◌, inl, inr, Bool, List, arith}
-use Rattle.spanner_model.specs.Tree.{Tree}
-use Rattle.spanner_model.specs.Expression.{ExprTree, QueryTree, atom, named, union_end, union, join_end, join, minus, project}
+use Rattle.std.proofs.Common.{ℕ, ◌<◌, ◌≤◌, inl, inr, List, arith}
+use Rattle.spanner_model.specs.Expression.{AtomTree, ExprTree, QueryTree, atom, named, union_end, union, join_end, join, minus, project}
 use Rattle.filter_laws.specs.Touching.{SomeAtom, SomeAtomOf}
 use Rattle.segment_filter.specs.Costs.{atom_weight}
 use Rattle.spanner_engine.specs.Begun.{HasHeavyAtom}
 
-module _ (P Q : Bool → Bool → Tree → Type 0) (then_ : (s t : Bool) (f : Tree) → P s t f → Q s t f) where
+module _ (P Q : AtomTree → Type 0) (then_ : (a : AtomTree) → P a → Q a) where
   some_then : (e : ExprTree) → SomeAtom P e → SomeAtom Q e
-  some_then (atom s t f) h = then_ s t f h
+  some_then (atom a) h = then_ a h
   some_then (named k) h = absurd h
   some_then union_end h = absurd h
   some_then (union e rest) (inl h) = inl (some_then e h)
@@ -25,7 +24,7 @@ module _ (P Q : Bool → Bool → Tree → Type 0) (then_ : (s t : Bool) (f : Tr
   some_of_then q (inr h) = inr (some_then q.body h)
 
 -- a weight that passes the limit, and is no more than that of some atom
-pub heavy_atom : (q : QueryTree) (d : List ℕ) (limit weight : ℕ) → SomeAtomOf (λ s t f. (limit < weight) × (weight ≤ atom_weight s t f d)) q → HasHeavyAtom q d limit
+pub heavy_atom : (q : QueryTree) (d : List ℕ) (limit weight : ℕ) → SomeAtomOf (λ a. (limit < weight) × (weight ≤ atom_weight a d)) q → HasHeavyAtom q d limit
 heavy_atom q d limit weight some =
-    some_of_then (λ s t f. (limit < weight) × (weight ≤ atom_weight s t f d)) (λ s t f. limit < atom_weight s t f d)
-    (λ s t f h. let (over, within) = h in omega (arith, over, within)) q some
+    some_of_then (λ a. (limit < weight) × (weight ≤ atom_weight a d)) (λ a. limit < atom_weight a d)
+    (λ a h. let (over, within) = h in omega (arith, over, within)) q some

@@ -39,7 +39,7 @@ mutual
 module _ (V S : ℕ → VarName → Type 0) (n : ℕ) where
   mutual
     name_in : (e : ExprTree) (x : VarName) → IsSoundExpr V S n e → NameIn e x → IsTrue (is_name x)
-    name_in (atom s t f) x h v = built_named f x h.0.0 v
+    name_in (atom a) x h v = built_named a.formula x h.0.0 v
     name_in (named k) x h v = absurd v
     name_in union_end x h v = absurd h
     name_in (union e rest) x h (inl v) = name_in e x h.0 v

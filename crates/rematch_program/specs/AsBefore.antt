@@ -25,8 +25,8 @@ pub record AreTotalAnswers (q : QueryTree) (d : List ℕ) (names : List VarName)
 abbrev pub plain_atom_line : ℕ → AtomTree → List ℕ
 plain_atom_line k a =
     line (codes "atom " ++ decimal k
-    ++ codes " states " ++ shown_number (plain_states a.from_start a.to_end a.formula)
-    ++ codes " ways " ++ shown_number (plain_ways a.from_start a.to_end a.formula))
+    ++ codes " states " ++ shown_number (plain_states a)
+    ++ codes " ways " ++ shown_number (plain_ways a))
 
 -- They are sound. Their answers are the same list, of rows in which no variable is absent, so that pages and cursors, which are
 -- functions of rows, are the same bytes; and each atom is told with the same numbers.

@@ -14,7 +14,7 @@ use Rattle.note_texts.specs.Notes.{line}
 
 -- the atoms of an expression, from left to right
 abbrev pub atoms_of : ExprTree → List AtomTree
-atoms_of (atom s t f) = record { from_start = s; to_end = t; formula = f } ∷ []
+atoms_of (atom a) = a ∷ []
 atoms_of (named k) = []
 atoms_of union_end = []
 atoms_of (union e rest) = atoms_of e ++ atoms_of rest
@@ -50,8 +50,8 @@ shown_number n = decimal (min n (2 ^ 64 - 1))
 abbrev pub atom_line : ℕ → AtomTree → List ℕ
 atom_line k a =
     line (codes "atom " ++ decimal k
-    ++ codes " states " ++ shown_number (count_states a.from_start a.to_end a.formula)
-    ++ codes " ways " ++ shown_number (count_ways a.from_start a.to_end a.formula))
+    ++ codes " states " ++ shown_number (count_states a)
+    ++ codes " ways " ++ shown_number (count_ways a))
 
 -- atoms with their numbers, from this one on
 abbrev pub atom_lines : ℕ → List AtomTree → List ℕ

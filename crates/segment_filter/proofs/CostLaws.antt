@@ -8,6 +8,7 @@ use Rattle.spanner_model.specs.Captures.{VarName}
 use Rattle.spanner_model.specs.Sequential.{HasVar}
 use Rattle.span_core.specs.Lists.{Has}
 use Rattle.spanner_model.specs.Tree.{Tree}
+use Rattle.spanner_model.specs.Expression.{AtomTree}
 use Rattle.span_core.proofs.HasLaws.{Has-map, Has-map_cases}
 use Rattle.span_core.proofs.ListLaws.{filter_no_more}
 use Rattle.spanner_model.proofs.NameLaws.{same_names}
@@ -22,6 +23,7 @@ use Rattle.place_automaton.specs.Words.{atom_automaton, closing_of, opening_of}
 use Rattle.place_automaton.proofs.Ranges.{places_lie}
 use Rattle.place_automaton.specs.Variables.{with_vars}
 use Rattle.place_automaton.proofs.NameLists.{list_ascends, vars_are}
+use Rattle.filter_laws.specs.Sharing.{from_the_start}
 use Rattle.segment_filter.specs.Costs.{CostAs, backward_of, forward_of}
 use Rattle.segment_filter.specs.Readings.{CanEnd, HasStepsOf, StepsTo, moves_on, turned}
 use Rattle.segment_filter.specs.Sets.{TakesNone}
@@ -67,21 +69,30 @@ none_remarked A y h = let x = Has-map_cases (remarked_way (λ m. 0)) A.ways y h 
 none_reversed : (A : Automaton) → TakesNone A → TakesNone (reversed A)
 none_reversed A none y h = let x = Has-map_cases turned_way A.ways y h in sym (ap (λ (g : Way). g.marks) x.2) ∙ none x.0 x.1
 
-module _ (names : List VarName) (s t : Bool) (f : Tree) (A : Marked) (marked : IsMarked A) (r : Rearranges A.graph (atom_automaton names s t f)) where
+module _ (names : List VarName) (a : AtomTree) (A : Marked) (marked : IsMarked A) (r : Rearranges A.graph (atom_automaton names a)) where
+  abbrev s : Bool
+  s = a.from_start
+
+  abbrev t : Bool
+  t = a.to_end
+
+  abbrev f : Tree
+  f = a.formula
+
   abbrev F : Automaton
-  F = Plain names s t f A.graph marked.whole r
+  F = Plain names a A.graph marked.whole r
 
   abbrev B : Automaton
-  B = atom_automaton names s t f
+  B = atom_automaton names a
 
   abbrev T : Automaton
-  T = atom_automaton names true t f
+  T = atom_automaton names (from_the_start a)
 
   same : HasStepsOf F B
-  same = plain_steps names s t f A.graph marked.whole r
+  same = plain_steps names a A.graph marked.whole r
 
   none : TakesNone F
-  none = plain_none names s t f A.graph marked.whole r
+  none = plain_none names a A.graph marked.whole r
 
   size_ahead : size F ≤ size B
   size_ahead =
@@ -93,13 +104,13 @@ module _ (names : List VarName) (s t : Bool) (f : Tree) (A : Marked) (marked : I
       let l = filter_no_more moves_on F.ways in
       omega (arith, size_ahead, l, length-map (filter moves_on F.ways) turned_way)
 
-  pub plain_costs : CostAs names s t f F (turned F)
+  pub plain_costs : CostAs names a F (turned F)
   plain_costs =
       let lies = places_lie (opening_of names) (closing_of names) f 1 in
       let P = placed (opening_of names) (closing_of names) f 1 in record {
-        ahead = alike_law F (forward_of names s t f) none (none_remarked B) same.starts
+        ahead = alike_law F (forward_of names a) none (none_remarked B) same.starts
             (λ p c q. (λ h. (steps_remarked (λ m. 0) B p c q).1 ((same.steps p c q).0 h), λ h. (same.steps p c q).1 ((steps_remarked (λ m. 0) B p c q).0 h)));
-        behind = alike_law (turned F) (backward_of names t f) (turned_none F none) (none_reversed (remarked (λ m. 0) T) (none_remarked T))
+        behind = alike_law (turned F) (backward_of names a) (turned_none F none) (none_reversed (remarked (λ m. 0) T) (none_remarked T))
             (λ p. (
               λ h. (starts_reversed (remarked (λ m. 0) T) p).1 ((ends_remarked (λ m. 0) T p).1 ((turned_starts s t P lies F same p).0 h)),
               λ h. (turned_starts s t P lies F same p).1 ((ends_remarked (λ m. 0) T p).0 ((starts_reversed (remarked (λ m. 0) T) p).0 h)),
@@ -113,12 +124,12 @@ module _ (names : List VarName) (s t : Bool) (f : Tree) (A : Marked) (marked : I
       }
 
   pub costs_made : (keep : List VarName) (X R : Automaton) → keep ≡ [] → X ≡ remarked (left_of names keep) A.graph → R ≡ turned X →
-      Ascending names → ((x : VarName) → Has names x ↔ HasVar f x) → CostAs (with_vars [] f) s t f X R
+      Ascending names → ((x : VarName) → Has names x ↔ HasVar f x) → CostAs (with_vars [] f) a X R
   costs_made keep X R empty is back up are =
       let plain : F ≡ X = sym (is ∙ ap (λ k. remarked (left_of names k) A.graph) empty) in
       let turned_plain : turned F ≡ R = ap turned plain ∙ sym back in
-      subst (λ ns. CostAs ns s t f X R) (names_one f names up are)
-      (subst (λ (x : Automaton). CostAs names s t f x R) plain (subst (λ (y : Automaton). CostAs names s t f F y) turned_plain plain_costs))
+      subst (λ ns. CostAs ns a X R) (names_one f names up are)
+      (subst (λ (x : Automaton). CostAs names a x R) plain (subst (λ (y : Automaton). CostAs names a F y) turned_plain plain_costs))
 
 -- the steps of both readings, by the numbers of the definition
 pub steps_within : (s0 s1 n z y z' a b a' b' p : ℕ) → s1 ≤ s0 + (2 * (n + 1) + z * b + y * a) → z ≤ z' → y ≤ z' → b ≡ b' → a ≡ a' →

@@ -7,7 +7,7 @@ use Rattle.std.proofs.lemmas.List.{get_or-reverse}
 use Rattle.std.proofs.lemmas.Option.{get_or_from_slice_get, slice_get-get_or}
 use Rattle.spanner_model.specs.Captures.{VarName}
 use Rattle.span_core.specs.Lists.{Has}
-use Rattle.spanner_model.specs.Tree.{Tree}
+use Rattle.spanner_model.specs.Expression.{AtomTree}
 use Rattle.spanner_model.specs.WellBuilt.{IsWellBuilt}
 use Rattle.span_core.proofs.HasLaws.{Has-map, Has-map_cases}
 use Rattle.marked_automaton.specs.declared.way.Way.{Way}
@@ -267,15 +267,17 @@ turned_none A none y h =
     let x = Has-map_cases turned_way (filter moves_on A.ways) y h in
     sym (ap (λ (g : Way). g.marks) x.2) ∙ none x.0 (filter_cases moves_on A.ways x.0 x.1).0
 
-module _ (names : List VarName) (s t : Bool) (f : Tree) (seq : IsSequential f) (ord : HasOrderedRepeats f) (F : Automaton)
-    (same : HasStepsOf F (atom_automaton names s t f)) (none : TakesNone F) (most : ℕ) (is : most ≡ places_of names f) where
+module _ (names : List VarName) (a : AtomTree) (seq : IsSequential a.formula) (ord : HasOrderedRepeats a.formula) (F : Automaton)
+    (same : HasStepsOf F (atom_automaton names a)) (none : TakesNone F) (most : ℕ) (is : most ≡ places_of names a.formula) where
   abbrev P : Places
-  P = placed (opening_of names) (closing_of names) f 1
+  P = placed (opening_of names) (closing_of names) a.formula 1
 
-  meet : (d : List ℕ) → AreBytes d → (i : ℕ) → ((i ≤ length d) × MeetAt F (turned F) most d i) ↔ IsTouchedBy s t f d i
+  meet : (d : List ℕ) → AreBytes d → (i : ℕ) → ((i ≤ length d) × MeetAt F (turned F) most d i) ↔ IsTouchedBy a d i
   meet d bytes i =
-      let lies = places_lie (opening_of names) (closing_of names) f 1 in
-      let law = sharing_law names s t f seq ord d bytes i in (
+      let s = a.from_start in
+      let t = a.to_end in
+      let lies = places_lie (opening_of names) (closing_of names) a.formula 1 in
+      let law = sharing_law names a seq ord d bytes i in (
         λ h. law.1 (
           h.1.0,
           omega (arith, h.1.3, is),
@@ -288,26 +290,26 @@ module _ (names : List VarName) (s t : Bool) (f : Tree) (seq : IsSequential f) (
             (l, (r.0, (led_forward s t P lies F same d i r.0).1 r.2, (led_back s t P lies F same d i r.0 l).1 r.3, omega (arith, r.1, is))),
       )
 
-  pub are_readings : AreReadingsOf s t f F (turned F) most
+  pub are_readings : AreReadingsOf a F (turned F) most
   are_readings = record { forward = none; backward = turned_none F none; meet = meet }
 
 -- as they are made
-module _ (names : List VarName) (s t : Bool) (f : Tree) (A : Automaton) (whole : IsWhole A) (r : Rearranges A (atom_automaton names s t f)) where
+module _ (names : List VarName) (a : AtomTree) (A : Automaton) (whole : IsWhole A) (r : Rearranges A (atom_automaton names a)) where
   abbrev pub Plain : Automaton
   Plain = remarked (left_of names []) A
 
-  pub plain_steps : HasStepsOf Plain (atom_automaton names s t f)
-  plain_steps = steps_of_rearranged A (atom_automaton names s t f) (left_of names []) whole (whole_law names s t f) r
+  pub plain_steps : HasStepsOf Plain (atom_automaton names a)
+  plain_steps = steps_of_rearranged A (atom_automaton names a) (left_of names []) whole (whole_law names a) r
 
   pub plain_none : TakesNone Plain
   plain_none = remarked_none A (left_of names []) (λ m. refl)
 
-  pub plain_states : A.states ≡ 1 + places_of names f + (if t then 0 else 1)
+  pub plain_states : A.states ≡ 1 + places_of names a.formula + (if a.to_end then 0 else 1)
   plain_states = plain_steps.states
 
-  pub plain_readings : IsWellBuilt f → IsSequential f → (most : ℕ) → most ≡ places_of names f → AreReadingsOf s t f Plain (turned Plain) most
+  pub plain_readings : IsWellBuilt a.formula → IsSequential a.formula → (most : ℕ) → most ≡ places_of names a.formula → AreReadingsOf a Plain (turned Plain) most
   plain_readings built sequential most is =
-      are_readings names s t f sequential (ordered_repeats f built) Plain plain_steps plain_none most is
+      are_readings names a sequential (ordered_repeats a.formula built) Plain plain_steps plain_none most is
 
 pub last_place : (t : Bool) (states places beyond : ℕ) → states ≡ 1 + places + (if t then 0 else 1) → ((t ≡ true) × (beyond ≡ 1)) ⊎ ((t ≡ false) × (beyond ≡ 2)) →
     (beyond ≤ states) × (states - beyond ≡ places)
@@ -316,11 +318,11 @@ last_place false states places beyond e (inl h) = absurd (let f = h.0 in cc)
 last_place true states places beyond e (inr h) = absurd (let f = h.0 in cc)
 last_place false states places beyond e (inr h) = (omega (arith, e, h.1), omega (arith, e, h.1))
 
-module _ (names : List VarName) (s t : Bool) (f : Tree) (A : Automaton) (whole : IsWhole A) (r : Rearranges A (atom_automaton names s t f)) where
-  pub readings_made : IsWellBuilt f → IsSequential f → (keep : List VarName) (F R : Automaton) (most : ℕ) → keep ≡ [] → F ≡ remarked (left_of names keep) A → R ≡ turned F →
-      most ≡ places_of names f → AreReadingsOf s t f F R most
+module _ (names : List VarName) (a : AtomTree) (A : Automaton) (whole : IsWhole A) (r : Rearranges A (atom_automaton names a)) where
+  pub readings_made : IsWellBuilt a.formula → IsSequential a.formula → (keep : List VarName) (F R : Automaton) (most : ℕ) → keep ≡ [] → F ≡ remarked (left_of names keep) A → R ≡ turned F →
+      most ≡ places_of names a.formula → AreReadingsOf a F R most
   readings_made built sequential keep F R most none is back places =
-      let plain : Plain names s t f A whole r ≡ F = sym (is ∙ ap (λ k. remarked (left_of names k) A) none) in
-      let turned_plain : turned (Plain names s t f A whole r) ≡ R = ap turned plain ∙ sym back in
-      subst (λ (X : Automaton). AreReadingsOf s t f X R most) plain
-      (subst (λ (Y : Automaton). AreReadingsOf s t f (Plain names s t f A whole r) Y most) turned_plain (plain_readings names s t f A whole r built sequential most places))
+      let plain : Plain names a A whole r ≡ F = sym (is ∙ ap (λ k. remarked (left_of names k) A) none) in
+      let turned_plain : turned (Plain names a A whole r) ≡ R = ap turned plain ∙ sym back in
+      subst (λ (X : Automaton). AreReadingsOf a X R most) plain
+      (subst (λ (Y : Automaton). AreReadingsOf a (Plain names a A whole r) Y most) turned_plain (plain_readings names a A whole r built sequential most places))

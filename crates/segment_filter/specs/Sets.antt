@@ -6,7 +6,7 @@ use Rattle.marked_automaton.specs.Automaton.{Automaton}
 use Rattle.segment_filter.specs.declared.fault.FilterFault.{FilterFault}
 use Rattle.segment_filter.specs.declared.fault.FilterFault.TheVariants.{Full, OutOfMemory}
 use Rattle.filter_laws.specs.Idling.{IsLed}
-use Rattle.spanner_model.specs.Tree.{Tree}
+use Rattle.spanner_model.specs.Expression.{AtomTree}
 use Rattle.place_automaton.specs.Atom.{AreBytes}
 use Rattle.filter_laws.specs.Touching.{IsTouchedBy}
 use Rattle.set_table.specs.Tabled.{Asking, Tabled, asked_first, set_at, was_asked, weight}
@@ -50,7 +50,7 @@ abbrev pub MeetAt : Automaton → Automaton → ℕ → List ℕ → ℕ → Typ
 MeetAt F R most d i = (r : ℕ) × IsLed F d i r × IsLed R (reverse d) (length d - i) r × (r ≤ most)
 
 -- two readings whose meetings are the positions that an atom touches
-pub record AreReadingsOf (s t : Bool) (f : Tree) (F R : Automaton) (most : ℕ) : Type 0 where
+pub record AreReadingsOf (a : AtomTree) (F R : Automaton) (most : ℕ) : Type 0 where
   pub forward : TakesNone F
   pub backward : TakesNone R
-  pub meet : (d : List ℕ) → AreBytes d → (i : ℕ) → ((i ≤ length d) × MeetAt F R most d i) ↔ IsTouchedBy s t f d i
+  pub meet : (d : List ℕ) → AreBytes d → (i : ℕ) → ((i ≤ length d) × MeetAt F R most d i) ↔ IsTouchedBy a d i

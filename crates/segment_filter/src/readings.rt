@@ -7,7 +7,7 @@ ghost use Rattle.std.specs.List.{filter};
 ghost use Rattle.marked_automaton.specs.Automaton.{turned_way};
 ghost use Rattle.spanner_model.specs.Sequential.{HasVar, IsSequential};
 ghost use Rattle.span_core.specs.Lists.{AtMost};
-ghost use Rattle.spanner_model.specs.View.{tree_of};
+ghost use Rattle.spanner_model.specs.View.{tree_of, atom_of};
 ghost use Rattle.spanner_model.specs.WellBuilt.{IsWellBuilt};
 ghost use Rattle.span_core.specs.declared.TheConstants.{MOST_VARIABLES};
 ghost use Rattle.place_automaton.specs.Variables.{with_vars};
@@ -36,8 +36,8 @@ impl Readings {
         requires built { IsWellBuilt (tree_of atom.now.formula) }
         requires sequential { IsSequential (tree_of atom.now.formula) }
         requires few { AtMost MOST_VARIABLES (HasVar (tree_of atom.now.formula)) }
-        ensures costs { IfOk result (λ r. CostAs (with_vars [] (tree_of atom.now.formula)) atom.now.from_start atom.now.to_end (tree_of atom.now.formula) r.forward.graph r.backward.graph) }
-        ensures meet { IfOk result (λ r. AreReadingsOf atom.now.from_start atom.now.to_end (tree_of atom.now.formula) r.forward.graph r.backward.graph r.most) }
+        ensures costs { IfOk result (λ r. CostAs (with_vars [] (tree_of atom.now.formula)) (atom_of atom.now) r.forward.graph r.backward.graph) }
+        ensures meet { IfOk result (λ r. AreReadingsOf (atom_of atom.now) r.forward.graph r.backward.graph r.most) }
     {
         let Ok(marked) = of_atom(alloc, atom) else {
             return Err(FilterFault::OutOfMemory);

@@ -9,7 +9,7 @@ ghost use Rattle.segment_filter.specs.Weights.{IsFullWithin, both_take, both_wei
 ghost use Rattle.span_core.specs.declared.TheConstants.{MOST_VARIABLES};
 ghost use Rattle.spanner_model.specs.Sequential.{HasVar, IsSequential};
 ghost use Rattle.span_core.specs.Lists.{AtMost};
-ghost use Rattle.spanner_model.specs.View.{tree_of};
+ghost use Rattle.spanner_model.specs.View.{tree_of, atom_of};
 ghost use Rattle.spanner_model.specs.WellBuilt.{IsWellBuilt};
 ghost use Rattle.segment_filter.specs.Costs.{atom_weight, readings_weight, touching_steps};
 ghost use Rattle.filter_laws.specs.Touching.{IsTouchedBy};
@@ -45,10 +45,10 @@ pub fn touched<L: Ledger>(
     requires few { AtMost MOST_VARIABLES (HasVar (tree_of atom.now.formula)) }
     requires doc { length doc.now ≤ 2 ^ 28 }
     requires limit { limit ≤ 100000000 }
-    ensures ok { IfOk result (λ t. (i : ℕ) → Covers t i ↔ IsTouchedBy atom.now.from_start atom.now.to_end (tree_of atom.now.formula) doc.now i) }
-    ensures within { OnOk result (readings_weight atom.now.from_start atom.now.to_end (tree_of atom.now.formula) doc.now ≤ limit) }
-    ensures full { IfErr result (λ e. IsFullWithin limit (atom_weight atom.now.from_start atom.now.to_end (tree_of atom.now.formula) doc.now) e) }
-    ensures steps { steps.new ≤ steps.old + touching_steps atom.now.from_start atom.now.to_end (tree_of atom.now.formula) doc.now }
+    ensures ok { IfOk result (λ t. (i : ℕ) → Covers t i ↔ IsTouchedBy (atom_of atom.now) doc.now i) }
+    ensures within { OnOk result (readings_weight (atom_of atom.now) doc.now ≤ limit) }
+    ensures full { IfErr result (λ e. IsFullWithin limit (atom_weight (atom_of atom.now) doc.now) e) }
+    ensures steps { steps.new ≤ steps.old + touching_steps (atom_of atom.now) doc.now }
 {
     let Ok(readings) = Readings::of(alloc, atom) else {
         return Err(FilterFault::OutOfMemory);

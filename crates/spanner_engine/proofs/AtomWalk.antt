@@ -8,9 +8,8 @@ use Rattle.span_core.specs.Intervals.{Covers}
 use Rattle.span_core.specs.Lists.{Has}
 use Rattle.span_core.proofs.HasLaws.{Has-slice_get}
 use Rattle.spanner_model.specs.Captures.{VarName}
-use Rattle.spanner_model.specs.Expression.{ExprTree, QueryTree, join_all, union_all}
+use Rattle.spanner_model.specs.Expression.{AtomTree, ExprTree, QueryTree, join_all, union_all}
 use Rattle.spanner_model.specs.Sound.{IsSound}
-use Rattle.spanner_model.specs.Tree.{Tree}
 use Rattle.spanner_model.proofs.TreeLaws.{take_at_more}
 use Rattle.automaton_reading.proofs.Matching.{cons_sum}
 use Rattle.query_automaton.proofs.Combining.{Join, Union}
@@ -51,7 +50,7 @@ one_more G L B E later = (forth, back)
     back (inl (inr b)) = inr (later.1 (inl b))
     back (inr c) = inr (later.1 (inr c))
 
-module _ (P : Bool → Bool → Tree → Type 0) where
+module _ (P : AtomTree → Type 0) where
   pub some_union : (es : List ExprTree) → SomeAtom P (union_all es) ↔ SomeAtom P (join_all es)
   some_union [] = (λ h. h, λ h. h)
   some_union (e ∷ es) =
@@ -110,7 +109,7 @@ module _ (P : Bool → Bool → Tree → Type 0) where
 
 -- ---- what the atoms of parts come to
 
-module _ (m : Bool → Bool → Tree → ℕ) where
+module _ (m : AtomTree → ℕ) where
   pub sum_union : (es : List ExprTree) → sum_atoms m (union_all es) ≡ sum_atoms m (join_all es)
   sum_union [] = refl
   sum_union (e ∷ es) = ap (λ (n : ℕ). sum_atoms m e + n) (sum_union es)
@@ -147,7 +146,7 @@ module _ (d : List ℕ) where
   -- those of a union are those of the join of its parts
   pub touched_union : (es : List ExprTree) (before after : List (ℕ × ℕ)) → AddsTouched d (join_all es) before after → AddsTouched d (union_all es) before after
   touched_union es before after adds i =
-      let same = some_union (λ s t f. IsTouchedBy s t f d i) es in (
+      let same = some_union (λ a. IsTouchedBy a d i) es in (
         λ h. elim ((adds i).0 h) as (λ _. Covers before i ⊎ IsTouchedIn d (union_all es) i) [ inl a ↦ inl a | inr b ↦ inr (same.1 b) ],
         λ h. (adds i).1 (elim h as (λ _. Covers before i ⊎ IsTouchedIn d (join_all es) i) [ inl a ↦ inl a | inr b ↦ inr (same.0 b) ]),
       )
@@ -181,7 +180,7 @@ module _ (d : List ℕ) where
       subst (λ (gs : List ExprTree). AddsTouched d (join_all gs) before after) (sym (take_at_more es k e at)) (
       λ i.
       touched_then (IsTouchedIn d (join_all (take k es)) i) (IsTouchedIn d e i) (IsTouchedIn d (join_all (take k es ++ e ∷ [])) i) (Covers before i) (Covers mid i) (Covers after i)
-      (some_more (λ s t f. IsTouchedBy s t f d i) (take k es) e) (first i) (next i))
+      (some_more (λ a. IsTouchedBy a d i) (take k es) e) (first i) (next i))
 
   -- all of them
   pub touched_all : (es : List ExprTree) (k : ℕ) (before after : List (ℕ × ℕ)) → length es ≤ k → AddsTouched d (join_all (take k es)) before after → AddsTouched d (join_all es) before after
@@ -189,12 +188,12 @@ module _ (d : List ℕ) where
 
   -- those of the lets, and then those of the body
   touched_all_of : (q : QueryTree) (k : ℕ) (mid after : List (ℕ × ℕ)) → length q.lets ≤ k →
-      AddsTouched d (join_all (take k (let_exprs q.lets))) [] mid → AddsTouched d q.body mid after → (i : ℕ) → Covers after i ↔ SomeAtomOf (λ s t f. IsTouchedBy s t f d i) q
+      AddsTouched d (join_all (take k (let_exprs q.lets))) [] mid → AddsTouched d q.body mid after → (i : ℕ) → Covers after i ↔ SomeAtomOf (λ a. IsTouchedBy a d i) q
   touched_all_of q k mid after past lets body i =
-      let S : Type 0 = SomeAtomOf (λ s t f. IsTouchedBy s t f d i) q in
+      let S : Type 0 = SomeAtomOf (λ a. IsTouchedBy a d i) q in
       let long : length (let_exprs q.lets) ≤ k = omega (arith, past, length-map q.lets (λ (l : VarName × ExprTree). l.1)) in
       let all = touched_all (let_exprs q.lets) k [] mid long lets in
-      let named = some_let (λ s t f. IsTouchedBy s t f d i) q.lets in (
+      let named = some_let (λ a. IsTouchedBy a d i) q.lets in (
         λ h. elim ((body i).0 h) as (λ _. S) [
           | inl a ↦ elim ((all i).0 a) as (λ _. S) [ inl b ↦ absurd b | inr b ↦ inl (named.0 b) ]
           | inr c ↦ inr c
@@ -231,14 +230,14 @@ module _ (d : List ℕ) where
   -- ---- steps
 
   pub steps_union : (es : List ExprTree) → steps_in d (union_all es) ≡ steps_in d (join_all es)
-  steps_union es = sum_union (λ s t f. touching_steps s t f d) es
+  steps_union es = sum_union (λ a. touching_steps a d) es
 
   pub steps_more : (es : List ExprTree) (k : ℕ) (e : ExprTree) → slice_get es k ≡ Some e → (old mid new : ℕ) →
       mid ≤ old + steps_in d (join_all (take k es)) → new ≤ mid + steps_in d e → new ≤ old + steps_in d (join_all (take (k + 1) es))
-  steps_more es k e at old mid new first next = omega (arith, first, next, sum_more (λ s t f. touching_steps s t f d) es k e at)
+  steps_more es k e at old mid new first next = omega (arith, first, next, sum_more (λ a. touching_steps a d) es k e at)
 
   pub steps_first : (es : List ExprTree) (k old new : ℕ) → new ≤ old + steps_in d (join_all (take k es)) → new ≤ old + steps_in d (join_all es)
-  steps_first es k old new first = omega (arith, first, sum_within (λ s t f. touching_steps s t f d) es k)
+  steps_first es k old new first = omega (arith, first, sum_within (λ a. touching_steps a d) es k)
 
   pub steps_part : (es : List ExprTree) (k : ℕ) (e : ExprTree) → slice_get es k ≡ Some e → (old mid new : ℕ) →
       mid ≤ old + steps_in d (join_all (take k es)) → new ≤ mid + steps_in d e → new ≤ old + steps_in d (join_all es)
@@ -246,14 +245,14 @@ module _ (d : List ℕ) where
       steps_first es (k + 1) old new (steps_more es k e at old mid new first next)
 
   module _ (q : QueryTree) (k : ℕ) (old mid new : ℕ) (first : mid ≤ old + steps_in d (join_all (take k (let_exprs q.lets)))) where
-    lets_cost : sum_atoms (λ s t f. touching_steps s t f d) (join_all (take k (let_exprs q.lets))) ≤ sum_by (λ (l : VarName × ExprTree). sum_atoms (λ s t f. touching_steps s t f d) l.1) q.lets
-    lets_cost = omega (arith, sum_within (λ s t f. touching_steps s t f d) (let_exprs q.lets) k, sum_let (λ s t f. touching_steps s t f d) q.lets)
+    lets_cost : sum_atoms (λ a. touching_steps a d) (join_all (take k (let_exprs q.lets))) ≤ sum_by (λ (l : VarName × ExprTree). sum_atoms (λ a. touching_steps a d) l.1) q.lets
+    lets_cost = omega (arith, sum_within (λ a. touching_steps a d) (let_exprs q.lets) k, sum_let (λ a. touching_steps a d) q.lets)
 
     -- where a let's walk ends early
     pub steps_let : (l : VarName × ExprTree) → slice_get q.lets k ≡ Some l → new ≤ mid + steps_in d l.1 → new ≤ old + filter_steps true q d
     steps_let l at next =
         let part = steps_part (let_exprs q.lets) k l.1 (let_at q.lets k l at) old mid new first next in
-        omega (arith, part, sum_let (λ s t f. touching_steps s t f d) q.lets)
+        omega (arith, part, sum_let (λ a. touching_steps a d) q.lets)
 
     pub steps_body : new ≤ mid + steps_in d q.body → new ≤ old + filter_steps true q d
     steps_body next = omega (arith, first, next, lets_cost)

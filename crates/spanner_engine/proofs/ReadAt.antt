@@ -4,8 +4,7 @@ use Rattle.std.specs.Prelude.{IsTrue}
 use Rattle.std.proofs.lemmas.Bool.{true≢false}
 use Rattle.span_core.specs.Intervals.{Covers}
 use Rattle.spanner_model.specs.Answers.{SpanRow}
-use Rattle.spanner_model.specs.Expression.{ExprTree, QueryTree, atom, join, join_end, minus, named, project, union, union_end}
-use Rattle.spanner_model.specs.Tree.{Tree}
+use Rattle.spanner_model.specs.Expression.{AtomTree, ExprTree, QueryTree, atom, join, join_end, minus, named, project, union, union_end}
 use Rattle.marked_automaton.specs.Automaton.{Automaton}
 use Rattle.automaton_reading.specs.Reading.{edges_K, weight_K}
 use Rattle.filter_laws.specs.Touching.{Contains, HasMinus, IsSetOf, SomeAtom, TouchedOf}
@@ -32,8 +31,8 @@ same_set P K J k j = let at : (i : ℕ) → K i ≡ J i = λ i. same_truth (K i)
 -- ---- within the document
 
 -- what follows for each atom
-some_then : (P : Bool → Bool → Tree → Type 0) (X : Type 0) → ((s t : Bool) (f : Tree) → P s t f → X) → (e : ExprTree) → SomeAtom P e → X
-some_then P X then_ (atom s t f) h = then_ s t f h
+some_then : (P : AtomTree → Type 0) (X : Type 0) → ((a : AtomTree) → P a → X) → (e : ExprTree) → SomeAtom P e → X
+some_then P X then_ (atom a) h = then_ a h
 some_then P X then_ (named k) h = absurd h
 some_then P X then_ union_end h = absurd h
 some_then P X then_ (union e rest) (inl h) = some_then P X then_ e h
@@ -46,8 +45,8 @@ some_then P X then_ (minus e g) (inl h) = some_then P X then_ e h
 some_then P X then_ (minus e g) (inr h) = some_then P X then_ g h
 
 pub touched_within : (q : QueryTree) (d : List ℕ) (i : ℕ) → TouchedOf q d i → i ≤ length d
-touched_within q d i (inl (inl h)) = some_then _ (i ≤ length d) (λ s t f p. omega (arith, p.4, p.8)) h.0.1 h.2
-touched_within q d i (inl (inr h)) = some_then _ (i ≤ length d) (λ s t f p. omega (arith, p.4, p.8)) q.body h
+touched_within q d i (inl (inl h)) = some_then _ (i ≤ length d) (λ a p. omega (arith, p.4, p.8)) h.0.1 h.2
+touched_within q d i (inl (inr h)) = some_then _ (i ≤ length d) (λ a p. omega (arith, p.4, p.8)) q.body h
 touched_within q d i (inr h) = h.1
 
 pub read_within : (filter : Bool) (q : QueryTree) (d : List ℕ) (i : ℕ) → IsReadAt filter q d i → i ≤ length d

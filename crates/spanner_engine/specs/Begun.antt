@@ -58,11 +58,11 @@ IsReadWithin A q d filter limit = (K : ℕ → Bool) → AreRead filter q d K �
 -- to find the positions, at most; nothing where all are read
 abbrev pub filter_steps : Bool → QueryTree → List ℕ → ℕ
 filter_steps false q d = 0
-filter_steps true q d = sum_atoms_of (λ s t f. touching_steps s t f d) q
+filter_steps true q d = sum_atoms_of (λ a. touching_steps a d) q
 
 -- some atom of the query's text passes the limit
 abbrev pub HasHeavyAtom : QueryTree → List ℕ → ℕ → Type 0
-HasHeavyAtom q d limit = SomeAtomOf (λ s t f. limit < atom_weight s t f d) q
+HasHeavyAtom q d limit = SomeAtomOf (λ a. limit < atom_weight a d) q
 
 -- one step for each cell, to go to the place after a row; none where no row is given
 abbrev pub cells_sought : ℕ → Option SpanRow → ℕ
@@ -79,7 +79,7 @@ begin_steps filter q d K after =
 abbrev pub IsBeginFault : QueryTree → List ℕ → Bool → Option Kept → ℕ → BeginFault → Type 0
 IsBeginFault q d filter after limit (CursorOther kept found) = KeepsOther (length d) after kept × (found ≡ length d)
 IsBeginFault q d filter after limit CursorPlace = IsPast (length d) after
-IsBeginFault q d filter after limit (Filter weight) = IsTrue filter × ¬ HasMinus q × SomeAtomOf (λ s t f. (limit < weight) × (weight ≤ atom_weight s t f d)) q
+IsBeginFault q d filter after limit (Filter weight) = IsTrue filter × ¬ HasMinus q × SomeAtomOf (λ a. (limit < weight) × (weight ≤ atom_weight a d)) q
 IsBeginFault q d filter after limit (Table weight) =
     (limit < weight) × ((K : ℕ → Bool) → AreRead filter q d K → weight ≤ table_weight q d K)
 IsBeginFault q d filter after limit OutOfMemory = Unit {0}

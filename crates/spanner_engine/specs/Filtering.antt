@@ -1,8 +1,7 @@
 -- What a walk through the atoms of a query finds, why it ends early, and what it costs.
 use Rattle.std.specs.Prelude.{ℕ, ◌<◌, ◌≤◌, ◌⊎◌, ◌↔◌, Bool, List, IsTrue}
 use Rattle.span_core.specs.Intervals.{Covers}
-use Rattle.spanner_model.specs.Expression.{ExprTree, QueryTree}
-use Rattle.spanner_model.specs.Tree.{Tree}
+use Rattle.spanner_model.specs.Expression.{AtomTree, ExprTree, QueryTree}
 use Rattle.query_automaton.specs.Compiling.{IsAsked}
 use Rattle.filter_laws.specs.Touching.{HasMinus, IsTouchedBy, SomeAtom, SomeAtomOf, sum_atoms}
 use Rattle.segment_filter.specs.Costs.{atom_weight, readings_weight, touching_steps}
@@ -15,15 +14,15 @@ IsInSound e = (q : QueryTree) × (n : ℕ) × IsAsked q n e
 
 -- some atom of the expression touches the position
 abbrev pub IsTouchedIn : List ℕ → ExprTree → ℕ → Type 0
-IsTouchedIn d e i = SomeAtom (λ s t f. IsTouchedBy s t f d i) e
+IsTouchedIn d e i = SomeAtom (λ a. IsTouchedBy a d i) e
 
 -- the positions that the atoms of the expression touch are added
 abbrev pub AddsTouched : List ℕ → ExprTree → List (ℕ × ℕ) → List (ℕ × ℕ) → Type 0
 AddsTouched d e before after = (i : ℕ) → Covers after i ↔ (Covers before i ⊎ IsTouchedIn d e i)
 
 -- the limit is passed by this weight, and the atom weighs no less
-abbrev pub IsFullAtom : List ℕ → ℕ → ℕ → Bool → Bool → Tree → Type 0
-IsFullAtom d limit weight s t f = (limit < weight) × (weight ≤ atom_weight s t f d)
+abbrev pub IsFullAtom : List ℕ → ℕ → ℕ → AtomTree → Type 0
+IsFullAtom d limit weight a = (limit < weight) × (weight ≤ atom_weight a d)
 
 -- why a walk ends early: some atom of the expression passes the limit so; want of memory has no cause
 abbrev pub HasFullAtom : List ℕ → ℕ → ExprTree → FilterFault → Type 0
@@ -36,8 +35,8 @@ IsFilterFault q d filter limit (Full weight) = IsTrue filter × ¬ HasMinus q ×
 IsFilterFault q d filter limit OutOfMemory = Unit {0}
 
 -- the two readings of the atom weigh more than the limit
-abbrev pub IsHeavy : List ℕ → ℕ → Bool → Bool → Tree → Type 0
-IsHeavy d limit s t f = limit < readings_weight s t f d
+abbrev pub IsHeavy : List ℕ → ℕ → AtomTree → Type 0
+IsHeavy d limit a = limit < readings_weight a d
 
 -- with the filter, the readings of no atom of a text without differences weigh more than the limit
 abbrev pub AreWithin : QueryTree → List ℕ → Bool → ℕ → Type 0
@@ -45,4 +44,4 @@ AreWithin q d filter limit = IsTrue filter → ¬ HasMinus q → ¬ SomeAtomOf (
 
 -- to find what the atoms of the expression touch
 abbrev pub steps_in : List ℕ → ExprTree → ℕ
-steps_in d e = sum_atoms (λ s t f. touching_steps s t f d) e
+steps_in d e = sum_atoms (λ a. touching_steps a d) e

@@ -6,10 +6,10 @@ ghost use Rattle.std.specs.Prelude.{◌≡◌, ℕ, ◌+◌, ◌^◌, ◌≤◌,
 ghost use Rattle.std.specs.Bool.{OnFalse, OnTrue};
 ghost use Rattle.span_core.specs.Intervals.{Covers};
 ghost use Rattle.span_core.specs.Lists.{Has};
-ghost use Rattle.spanner_model.specs.Expression.{ExprTree, atom as atom_tree, join_all};
+ghost use Rattle.spanner_model.specs.Expression.{ExprTree, atom as atom_expr, join_all};
 ghost use Rattle.spanner_model.specs.ExprView.{expr_of, exprs_of, query_of};
 ghost use Rattle.spanner_model.specs.Sound.{IsSound};
-ghost use Rattle.spanner_model.specs.View.{tree_of};
+ghost use Rattle.spanner_model.specs.View.{atom_of};
 ghost use Rattle.filter_laws.specs.Touching.{HasMinus, SomeAtom, SomeAtomOf};
 ghost use Rattle.spanner_engine.specs.Begun.{IsReadAt, filter_steps};
 ghost use Rattle.spanner_engine.specs.Filtering.{AddsTouched, AreWithin, HasFullAtom, IsFilterFault, IsHeavy, IsInSound, steps_in};
@@ -146,13 +146,13 @@ fn touched_by_atom<L: Ledger>(
     limit: u64,
     steps: &mut Steps<L>,
 ) -> Result<Touched, FilterFault>
-    requires sound { IsInSound (atom_tree atom.now.from_start atom.now.to_end (tree_of atom.now.formula)) }
+    requires sound { IsInSound (atom_expr (atom_of atom.now)) }
     requires few { length doc.now ≤ 2 ^ 28 }
     requires limit { limit ≤ 100000000 }
-    ensures touched { IfOk result (AddsTouched doc.now (atom_tree atom.now.from_start atom.now.to_end (tree_of atom.now.formula)) before) }
-    ensures within { OnOk result (¬ SomeAtom (IsHeavy doc.now limit) (atom_tree atom.now.from_start atom.now.to_end (tree_of atom.now.formula))) }
-    ensures fault { IfErr result (HasFullAtom doc.now limit (atom_tree atom.now.from_start atom.now.to_end (tree_of atom.now.formula))) }
-    ensures steps { steps.new ≤ steps.old + steps_in doc.now (atom_tree atom.now.from_start atom.now.to_end (tree_of atom.now.formula)) }
+    ensures touched { IfOk result (AddsTouched doc.now (atom_expr (atom_of atom.now)) before) }
+    ensures within { OnOk result (¬ SomeAtom (IsHeavy doc.now limit) (atom_expr (atom_of atom.now))) }
+    ensures fault { IfErr result (HasFullAtom doc.now limit (atom_expr (atom_of atom.now))) }
+    ensures steps { steps.new ≤ steps.old + steps_in doc.now (atom_expr (atom_of atom.now)) }
 {
     let here = touched(alloc, atom, doc, limit, steps)?;
     Ok(before.merge(alloc, &here)?)

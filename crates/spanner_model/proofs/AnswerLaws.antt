@@ -23,7 +23,7 @@ span_of-absent (p ∷ c) x out = by (bytes_eq p.0 x) refl (span_of-absent c x (�
 -- under lets whose answers are absent outside their variables
 module _ (V : ℕ → VarName → Type 0) (A : ℕ → Mapping → Type 0) (d : List ℕ) (lets_absent : (k : ℕ) (m : Mapping) → A k m → (x : VarName) → (V k x → ⊥) → m x ≡ None) where
   pub answer_absent : (e : ExprTree) (m : Mapping) → Answer V A d e m → (x : VarName) → (VarOf V e x → ⊥) → m x ≡ None
-  answer_absent (atom s t f) m h x out = h.7 x ∙ span_of-absent h.2 x (λ a. out (fit_only_vars f d h.0 h.1 h.2 h.3 x a))
+  answer_absent (atom a) m h x out = h.7 x ∙ span_of-absent h.2 x (λ c. out (fit_only_vars a.formula d h.0 h.1 h.2 h.3 x c))
   answer_absent (named k) m h x out = lets_absent k m h x out
   answer_absent union_end m h x out = absurd h
   answer_absent (union e rest) m (inl h) x out = answer_absent e m h x (λ v. out (inl v))
@@ -75,10 +75,10 @@ span_of-given (p ∷ c) x h = span_by (bytes_eq p.0 x) p c x (bytes_eq-Decides p
 module _ (V S : ℕ → VarName → Type 0) (A : ℕ → Mapping → Type 0) (d : List ℕ)
     (given : (k : ℕ) (m : Mapping) → A k m → (x : VarName) → S k x → V k x × Gives m x) where
   pub answer_sure : (e : ExprTree) (m : Mapping) → Answer V A d e m → (x : VarName) → SureOf S e x → VarOf V e x × Gives m x
-  answer_sure (atom s t f) m h x v =
-      let a = fit_sure f d h.0 h.1 h.2 h.3 x v in
-      let g = span_of-given h.2 x a in
-      (fit_only_vars f d h.0 h.1 h.2 h.3 x a, (g.0, h.7 x ∙ g.1))
+  answer_sure (atom a) m h x v =
+      let c = fit_sure a.formula d h.0 h.1 h.2 h.3 x v in
+      let g = span_of-given h.2 x c in
+      (fit_only_vars a.formula d h.0 h.1 h.2 h.3 x c, (g.0, h.7 x ∙ g.1))
   answer_sure (named k) m h x v = given k m h x v
   answer_sure union_end m h x v = absurd h
   answer_sure (union e rest) m (inl h) x v = let r = answer_sure e m h x v.0 in (inl r.0, r.1)

@@ -44,7 +44,7 @@ told_var (cap y f) x = told_either (told_name y x) (told_var f x)
 -- under lets whose variables can be told
 module _ (V : ℕ → VarName → Type 0) (told : (k : ℕ) (x : VarName) → Told (V k x)) where
   pub told_of : (e : ExprTree) (x : VarName) → Told (VarOf V e x)
-  told_of (atom s t f) x = told_var f x
+  told_of (atom a) x = told_var a.formula x
   told_of (named k) x = told k x
   told_of union_end x = inr (λ h. h)
   told_of (union e rest) x = told_either (told_of e x) (told_of rest x)

@@ -67,8 +67,8 @@ given_not_absent o s is none = let both : Some s ≡ None = sym is ∙ none in a
 
 module _ (V : ℕ → VarName → Type 0) (A : ℕ → Mapping → Type 0) (d : List ℕ) (lets_end : (k : ℕ) (m : Mapping) → A k m → EndsBy (length d) m) where
   pub answer_ends : (e : ExprTree) (m : Mapping) → Answer V A d e m → EndsBy (length d) m
-  answer_ends (atom s t f) m h x p is =
-      span_of_ends (length d) h.2 (fit_ends f d h.0 h.1 h.2 (omega (arith, h.4, fit_le f d h.0 h.1 h.2 h.3)) h.3) x p (sym (h.7 x) ∙ is)
+  answer_ends (atom a) m h x p is =
+      span_of_ends (length d) h.2 (fit_ends a.formula d h.0 h.1 h.2 (omega (arith, h.4, fit_le a.formula d h.0 h.1 h.2 h.3)) h.3) x p (sym (h.7 x) ∙ is)
   answer_ends (named k) m h x p is = lets_end k m h x p is
   answer_ends union_end m h x p is = absurd h
   answer_ends (union e rest) m (inl h) x p is = answer_ends e m h x p is

@@ -21,7 +21,7 @@ SameVars V W = (k : ℕ) (x : VarName) → V k x ↔ W k x
 -- ---- the same variables of lets make the same variables of expressions
 
 pub var_same : (V W : LetVars) → SameVars V W → (e : ExprTree) (x : VarName) → VarOf V e x → VarOf W e x
-var_same V W same (atom s t f) x h = h
+var_same V W same (atom a) x h = h
 var_same V W same (named k) x h = (same k x).0 h
 var_same V W same union_end x h = h
 var_same V W same (union e rest) x (inl h) = inl (var_same V W same e x h)
@@ -37,7 +37,7 @@ turned V W same k x = ((same k x).1, (same k x).0)
 
 -- likewise for sure variables
 pub sure_same : (S T : LetVars) → SameVars S T → (e : ExprTree) (x : VarName) → SureOf S e x → SureOf T e x
-sure_same S T same (atom s t f) x h = h
+sure_same S T same (atom a) x h = h
 sure_same S T same (named k) x h = (same k x).0 h
 sure_same S T same union_end x h = h
 sure_same S T same (union e rest) x h = (sure_same S T same e x h.0, sure_same S T same rest x h.1)
@@ -56,7 +56,7 @@ module _ (V W S T : LetVars) (same : SameVars V W) (sure : SameVars S T) where
         (sure_same S T sure e x both.0, sure_same S T sure g x both.1),
     shares_same e rest h.1,
   )
-  shares_same e (atom s t f) h = tt
+  shares_same e (atom a) h = tt
   shares_same e (named k) h = tt
   shares_same e union_end h = tt
   shares_same e (union g rest) h = tt
@@ -67,7 +67,7 @@ module _ (V W S T : LetVars) (same : SameVars V W) (sure : SameVars S T) where
 -- a sound expression under n lets names the first n lets alone
 mutual
   pub sound_under : (V S : LetVars) (n : ℕ) (e : ExprTree) → IsSoundExpr V S n e → IsUnderLets n e
-  sound_under V S n (atom s t f) h = h.0
+  sound_under V S n (atom a) h = h.0
   sound_under V S n (named k) h = h
   sound_under V S n union_end h = absurd h
   sound_under V S n (union e rest) h = (sound_under V S n e h.0, united_under V S n rest h.1)
@@ -173,7 +173,7 @@ join_named (g ∷ es) e x (inr h) v = inr (join_named es e x h v)
 -- the variables of a sound expression are names of its atoms, or variables of the lets
 mutual
   pub var_named : (V S : LetVars) (N : VarName → Type 0) → ((k : ℕ) (x : VarName) → V k x → N x) → (n : ℕ) (e : ExprTree) (x : VarName) → IsSoundExpr V S n e → VarOf V e x → NameIn e x ⊎ N x
-  var_named V S N known n (atom s t f) x h v = inl v
+  var_named V S N known n (atom a) x h v = inl v
   var_named V S N known n (named k) x h v = inr (known k x v)
   var_named V S N known n union_end x h v = absurd h
   var_named V S N known n (union e rest) x h (inl v) = elim (var_named V S N known n e x h.0 v) as (λ _. (NameIn e x ⊎ NameIn rest x) ⊎ N x) [ inl a ↦ inl (inl a) | inr b ↦ inr b ]

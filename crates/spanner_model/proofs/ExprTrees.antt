@@ -4,7 +4,7 @@ use Rattle.std.specs.Prelude.{slice_get}
 use Rattle.std.specs.Option.{option_map}
 use Rattle.std.proofs.lemmas.List.{length-map}
 use Rattle.std.proofs.lemmas.Option.{slice_get-get_or, slice_get-map}
-use Rattle.spanner_model.specs.View.{tree_of}
+use Rattle.spanner_model.specs.View.{atom_of}
 use Rattle.spanner_model.specs.Expression.{ExprTree, atom, named, project, minus, union_all, join_all}
 use Rattle.spanner_model.specs.ExprView.{node_expr, part_exprs, expr_of, exprs_of}
 use Rattle.spanner_model.specs.declared.formula.Atom as atom_type
@@ -12,7 +12,7 @@ use Rattle.spanner_model.specs.declared.expression.Expr.{Expr, Expr-F, fold-roll
 use Rattle.spanner_model.specs.declared.expression.Exprs.{Exprs, out-Exprs, fold_out-Exprs}
 use Rattle.spanner_model.specs.declared.expression.Expr.TheVariants.{Atom, Named, Union, Join, Project, rolls-Atom, rolls-Named, rolls-Union, rolls-Join, rolls-Project, Minus, rolls-Minus}
 
-pub expr_of-Atom : (a : atom_type.Atom) → expr_of (Atom a) ≡ atom a.from_start a.to_end (tree_of a.formula)
+pub expr_of-Atom : (a : atom_type.Atom) → expr_of (Atom a) ≡ atom (atom_of a)
 expr_of-Atom a = ap expr_of (sym (rolls-Atom a)) ∙ fold-roll-Expr ExprTree (List ExprTree) node_expr part_exprs (Expr-F.Atom a)
 
 pub expr_of-Named : (k : ℕ) → expr_of (Named k) ≡ named k

@@ -65,7 +65,7 @@ functional_sure (cap y f) x ok (inr v) = inr (functional_sure f x ok.0 v)
 -- of parts that agree each has a variable that some has
 first_var : (V : ℕ → VarName → Type 0) (e rest : ExprTree) (x : VarName) → AgreesWithParts V e rest → VarOf V e x ⊎ VarOf V rest x → VarOf V e x
 first_var V e rest x agree (inl a) = a
-first_var V e (atom s t f) x agree (inr b) = (agree x).1 b
+first_var V e (atom a) x agree (inr b) = (agree x).1 b
 first_var V e (named k) x agree (inr b) = (agree x).1 b
 first_var V e union_end x agree (inr b) = absurd b
 first_var V e (union g r) x agree (inr b) = (agree x).1 b
@@ -76,7 +76,7 @@ first_var V e (minus g k) x agree (inr b) = (agree x).1 b
 
 module _ (V S : ℕ → VarName → Type 0) (lets_sure : (k : ℕ) (x : VarName) → V k x → S k x) where
   parts_sure : (e rest : ExprTree) (x : VarName) → AgreesWithParts V e rest → VarOf V e x → (VarOf V rest x → SureOf S rest x) → SureOf S rest x
-  parts_sure e (atom s t f) x agree v go = go ((agree x).0 v)
+  parts_sure e (atom a) x agree v go = go ((agree x).0 v)
   parts_sure e (named k) x agree v go = go ((agree x).0 v)
   parts_sure e union_end x agree v go = tt
   parts_sure e (union g r) x agree v go = go ((agree x).0 v)
@@ -87,7 +87,7 @@ module _ (V S : ℕ → VarName → Type 0) (lets_sure : (k : ℕ) (x : VarName)
 
   mutual
     pub functional_gives : (n : ℕ) (e : ExprTree) → IsFunctionalExpr V n e → (x : VarName) → VarOf V e x → SureOf S e x
-    functional_gives n (atom s t f) ok x v = functional_sure f x ok.1 v
+    functional_gives n (atom a) ok x v = functional_sure a.formula x ok.1 v
     functional_gives n (named k) ok x v = lets_sure k x v
     functional_gives n union_end ok x v = absurd v
     functional_gives n (union e rest) ok x v =
@@ -119,7 +119,7 @@ module _ (V S : ℕ → VarName → Type 0) (lets_sure : (k : ℕ) (x : VarName)
 
   mutual
     pub sound : (n : ℕ) (e : ExprTree) → IsFunctionalExpr V n e → IsSoundExpr V S n e
-    sound n (atom s t f) ok = (ok.0, functional_sequential f ok.1)
+    sound n (atom a) ok = (ok.0, functional_sequential a.formula ok.1)
     sound n (named k) ok = ok
     sound n union_end ok = ok
     sound n (union e rest) ok = (sound n e ok.0, united_sound n rest ok.1, ok.2)
@@ -182,7 +182,7 @@ module _ (V S : ℕ → VarName → Type 0) (A T : ℕ → Mapping → Type 0) (
     (back : (k : ℕ) (m : Mapping) → A k m → T k m) where
   mutual
     pub total_answers : (n : ℕ) (e : ExprTree) (m : Mapping) → IsFunctionalExpr V n e → TotalAnswer V T d e m → Answer V A d e m
-    total_answers n (atom s t f) m ok h = h
+    total_answers n (atom a) m ok h = h
     total_answers n (named k) m ok h = go k m h
     total_answers n union_end m ok h = h
     total_answers n (union e rest) m ok (inl h) = inl (total_answers n e m ok.0 h)
@@ -204,7 +204,7 @@ module _ (V S : ℕ → VarName → Type 0) (A T : ℕ → Mapping → Type 0) (
     joined_answers n _ m ok h = absurd ok
 
     pub answers_total : (n : ℕ) (e : ExprTree) (m : Mapping) → IsFunctionalExpr V n e → Answer V A d e m → TotalAnswer V T d e m
-    answers_total n (atom s t f) m ok h = h
+    answers_total n (atom a) m ok h = h
     answers_total n (named k) m ok h = back k m h
     answers_total n union_end m ok h = h
     answers_total n (union e rest) m ok (inl h) = inl (answers_total n e m ok.0 h)

@@ -16,7 +16,7 @@ nodes (cap x f) = 1 + nodes f
 
 -- how many nodes the expression has
 abbrev pub expr_nodes : ExprTree → ℕ
-expr_nodes (atom s t f) = 1
+expr_nodes (atom a) = 1
 expr_nodes (named k) = 1
 expr_nodes union_end = 0
 expr_nodes (union e rest) = 1 + expr_nodes e + expr_nodes rest

@@ -1,18 +1,17 @@
 -- The answers of a query on a document, as mappings (Fagin et al. 2015, the algebra of spanners).
 --   That an atom fits some part of the document, unless it is tied, and that expressions have names by
 --   `let`, is this project's own.
-use Rattle.std.specs.Prelude.{◌≡◌, ℕ, zero, suc, slice_get, ◌≤◌, ◌⊎◌, Bool, List, length, None, nat_eq, IsTrue, MatchBool}
+use Rattle.std.specs.Prelude.{◌≡◌, ℕ, zero, suc, slice_get, ◌≤◌, ◌⊎◌, List, length, None, nat_eq, IsTrue, MatchBool}
 use Rattle.std.specs.Option.{IsSomeAnd}
 use Rattle.span_core.specs.Lists.{Has}
-use Rattle.spanner_model.specs.Tree.{Tree}
-use Rattle.spanner_model.specs.Expression.{ExprTree, QueryTree, atom, named, union_end, union, join_end, join, project, minus}
+use Rattle.spanner_model.specs.Expression.{AtomTree, ExprTree, QueryTree, atom, named, union_end, union, join_end, join, project, minus}
 use Rattle.spanner_model.specs.Captures.{VarName, Captures, Mapping, span_of}
 use Rattle.spanner_model.specs.Fit.{Fit}
 use Rattle.spanner_model.specs.Sequential.{HasVar}
 
 -- the variables of an expression; V k has those of the let k
 abbrev pub VarOf : (ℕ → VarName → Type 0) → ExprTree → VarName → Type 0
-VarOf V (atom s t f) x = HasVar f x
+VarOf V (atom a) x = HasVar a.formula x
 VarOf V (named k) x = V k x
 VarOf V union_end x = ⊥
 VarOf V (union e rest) x = VarOf V e x ⊎ VarOf V rest x
@@ -26,16 +25,16 @@ abbrev pub IsRestriction : (VarName → Type 0) → Mapping → Mapping → Type
 IsRestriction V m n = (x : VarName) → (V x → n x ≡ m x) × ((V x → ⊥) → n x ≡ None)
 
 -- an atom's answer: with it the formula fits some part of the document, tied as the atom says
-abbrev pub FitsSomewhere : Bool → Bool → Tree → List ℕ → Mapping → Type 0
-FitsSomewhere from_start to_end f d m =
-    (i : ℕ) × (j : ℕ) × (c : Captures) × Fit f d i j c × (j ≤ length d)
-    × (IsTrue from_start → i ≡ 0) × (IsTrue to_end → j ≡ length d) × ((x : VarName) → m x ≡ span_of c x)
+abbrev pub FitsSomewhere : AtomTree → List ℕ → Mapping → Type 0
+FitsSomewhere a d m =
+    (i : ℕ) × (j : ℕ) × (c : Captures) × Fit a.formula d i j c × (j ≤ length d)
+    × (IsTrue a.from_start → i ≡ 0) × (IsTrue a.to_end → j ≡ length d) × ((x : VarName) → m x ≡ span_of c x)
 
 -- m is an answer of the expression on d; V k has the variables, and A k the answers, of the let k
 --   A join of several parts is that of the first with the join of the others.
 module _ (V : ℕ → VarName → Type 0) (A : ℕ → Mapping → Type 0) (d : List ℕ) where
   abbrev pub Answer : ExprTree → Mapping → Type 0
-  Answer (atom s t f) m = FitsSomewhere s t f d m
+  Answer (atom a) m = FitsSomewhere a d m
   Answer (named k) m = A k m
   Answer union_end m = ⊥
   Answer (union e rest) m = Answer e m ⊎ Answer rest m

@@ -1,5 +1,5 @@
 -- The meaning on small documents.
-use Rattle.std.specs.Prelude.{ℕ, ◌+◌, true, false, [], ◌∷◌, Some, None, codes}
+use Rattle.std.specs.Prelude.{ℕ, ◌+◌, [], ◌∷◌, Some, None, codes}
 use Rattle.std.specs.FinSet as set
 use Rattle.std.proofs.Math.Nat.{le-add_right}
 use Rattle.span_core.specs.declared.span.Span.{Span}
@@ -7,7 +7,7 @@ use Rattle.span_core.specs.ByteSets.{bytes_between}
 use Rattle.span_core.specs.Order.{StandsBefore}
 use Rattle.spanner_model.specs.Tree.{Tree, one, cat_all, alt_all, rep, cap}
 use Rattle.spanner_model.specs.Captures.{VarName, span_of}
-use Rattle.spanner_model.specs.Expression.{ExprTree, QueryTree, atom, union_all, join_all, project}
+use Rattle.spanner_model.specs.Expression.{ExprTree, QueryTree, atom, tied, untied, union_all, join_all, project}
 use Rattle.spanner_model.specs.Answer.{FitsSomewhere}
 use Rattle.spanner_model.specs.Sound.{IsSound}
 use Rattle.spanner_model.specs.Answers.{SpanRow, IsAnswerRow, AreAnswers}
@@ -42,7 +42,7 @@ y = codes "y"
 
 -- an atom that is not tied, and a query without lets
 abbrev pub free : Tree → ExprTree
-free f = atom false false f
+free f = atom (untied f)
 
 abbrev pub query : ExprTree → QueryTree
 query e = record { lets = []; body = e }
@@ -71,7 +71,7 @@ EmptyDocument = AreAnswers (query (free (cap x (star a)))) [] (x ∷ []) (row1 (
 -- /^!x{a*}$/ on `aa`: the whole document, and no shorter part
 abbrev pub Tied : Type 0
 Tied =
-    let answers = IsAnswerRow (query (atom true true (cap x (star a)))) (codes "aa") (x ∷ []) in
+    let answers = IsAnswerRow (query (atom (tied (cap x (star a))))) (codes "aa") (x ∷ []) in
     answers (row1 (span 0 2)) × ¬ answers (row1 (span 0 1))
 
 -- /!x{a}(a|aa)*/ on `aaa`: however many ways there are, the row is one
@@ -142,8 +142,8 @@ UnionRows =
 abbrev pub UnsureJoin : Type 0
 UnsureJoin =
     let q = query (join_all (free x_or_b ∷ (free (cap x dot) ∷ []))) in
-    FitsSomewhere false false x_or_b (codes "ab") (λ z. None)
-    × FitsSomewhere false false (cap x dot) (codes "ab") (span_of ((x, span 1 1) ∷ []))
+    FitsSomewhere (untied x_or_b) (codes "ab") (λ z. None)
+    × FitsSomewhere (untied (cap x dot)) (codes "ab") (span_of ((x, span 1 1) ∷ []))
     × ¬ IsAnswerRow q (codes "ab") (x ∷ []) (row1 (span 1 1)) × ¬ IsSound q
 
 -- block order looks at all variables at a position before it looks at the next position:

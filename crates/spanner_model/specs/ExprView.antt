@@ -1,7 +1,7 @@
 -- The tree that an expression, or a query, of the code stands for.
 use Rattle.std.specs.Prelude.{List, map}
 use Rattle.spanner_model.specs.Captures.{VarName}
-use Rattle.spanner_model.specs.View.{tree_of}
+use Rattle.spanner_model.specs.View.{atom_of}
 use Rattle.spanner_model.specs.Expression.{ExprTree, QueryTree, atom, named, project, minus, union_all, join_all}
 use Rattle.spanner_model.specs.declared.expression.Expr.{Expr}
 use Rattle.spanner_model.specs.declared.expression.Exprs.{Exprs}
@@ -12,7 +12,7 @@ use Rattle.spanner_model.specs.declared.query.Query.{Query}
 
 -- one node, with the tree of each child in its place
 abbrev pub node_expr : Expr-F ExprTree (List ExprTree) → ExprTree
-node_expr (Expr-F.Atom a) = atom a.from_start a.to_end (tree_of a.formula)
+node_expr (Expr-F.Atom a) = atom (atom_of a)
 node_expr (Expr-F.Named k) = named k
 node_expr (Expr-F.Union parts) = union_all parts
 node_expr (Expr-F.Join parts) = join_all parts

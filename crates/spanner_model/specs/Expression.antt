@@ -1,5 +1,5 @@
 -- Expressions and queries as trees: what the code's `Expr` and `Query` stand for.
-use Rattle.std.specs.Prelude.{ℕ, Bool, List, [], ◌∷◌}
+use Rattle.std.specs.Prelude.{ℕ, Bool, true, false, List, [], ◌∷◌}
 use Rattle.spanner_model.specs.Tree.{Tree}
 use Rattle.spanner_model.specs.Captures.{VarName}
 
@@ -9,9 +9,16 @@ pub record AtomTree : Type 0 where
   pub to_end : Bool
   pub formula : Tree
 
+-- the atom of a formula that is tied nowhere
+abbrev pub untied : Tree → AtomTree
+untied f = record { from_start = false; to_end = false; formula = f }
+
+-- and of one that is tied at both ends
+abbrev pub tied : Tree → AtomTree
+tied f = record { from_start = true; to_end = true; formula = f }
+
 pub data ExprTree : Type 0 where
-  -- tied to the document's start, tied to its end, the formula
-  atom : Bool → Bool → Tree → ExprTree
+  atom : AtomTree → ExprTree
   -- the let of this number, counted from 0
   named : ℕ → ExprTree
   -- a union: its first part and the parts that follow; `union_end` is that none follows

@@ -42,7 +42,7 @@ AgreesWithParts V e rest = (x : VarName) → VarOf V e x ↔ VarOf V rest x
 -- an expression of functional formulas and unions of equal variables under n lets, of which V k has the variables of the let k
 abbrev mutual
   pub IsFunctionalExpr : (ℕ → VarName → Type 0) → ℕ → ExprTree → Type 0
-  IsFunctionalExpr V n (atom s t f) = IsWellBuilt f × IsFunctional f
+  IsFunctionalExpr V n (atom a) = IsWellBuilt a.formula × IsFunctional a.formula
   IsFunctionalExpr V n (named k) = k < n
   IsFunctionalExpr V n union_end = ⊥
   IsFunctionalExpr V n (union e rest) = IsFunctionalExpr V n e × AreUnitedEqual V n rest × ¬ (rest ≡ union_end) × AgreesWithParts V e rest
@@ -83,7 +83,7 @@ HasExactly V m = ((x : VarName) → V x → (s : Span) × (m x ≡ Some s)) × (
 -- m is an answer on d, where a join's answer has exactly the variables of its parts
 module _ (V : ℕ → VarName → Type 0) (A : ℕ → Mapping → Type 0) (d : List ℕ) where
   abbrev pub TotalAnswer : ExprTree → Mapping → Type 0
-  TotalAnswer (atom s t f) m = FitsSomewhere s t f d m
+  TotalAnswer (atom a) m = FitsSomewhere a d m
   TotalAnswer (named k) m = A k m
   TotalAnswer union_end m = ⊥
   TotalAnswer (union e rest) m = TotalAnswer e m ⊎ TotalAnswer rest m

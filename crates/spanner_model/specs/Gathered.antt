@@ -29,7 +29,7 @@ vars_in known k x = IsSomeAnd (slice_get known k) (λ names. Has names x)
 
 -- its formulas are well built, and of lets it names the first n alone
 abbrev pub IsUnderLets : ℕ → ExprTree → Type 0
-IsUnderLets n (atom s t f) = IsWellBuilt f
+IsUnderLets n (atom a) = IsWellBuilt a.formula
 IsUnderLets n (named k) = k < n
 IsUnderLets n union_end = Unit {0}
 IsUnderLets n (union e rest) = IsUnderLets n e × IsUnderLets n rest

@@ -23,7 +23,7 @@ IsFreeName x = IsTrue (is_name x) × ¬ Has words x
 -- x is a sure variable of the expression: each answer gives it a span; S k has those of the let k
 --   Of no parts of a union every name is sure, since nothing answers.
 abbrev pub SureOf : (ℕ → VarName → Type 0) → ExprTree → VarName → Type 0
-SureOf S (atom s t f) x = IsSure f x
+SureOf S (atom a) x = IsSure a.formula x
 SureOf S (named k) x = S k x
 SureOf S union_end x = Unit {0}
 SureOf S (union e rest) x = SureOf S e x × SureOf S rest x
@@ -54,7 +54,7 @@ module _ (V S : ℕ → VarName → Type 0) where
   -- a sound expression under n lets; what a projection keeps is a set, as the list that ascends strictly
   abbrev mutual
     pub IsSoundExpr : ℕ → ExprTree → Type 0
-    IsSoundExpr n (atom s t f) = IsWellBuilt f × IsSequential f
+    IsSoundExpr n (atom a) = IsWellBuilt a.formula × IsSequential a.formula
     IsSoundExpr n (named k) = k < n
     IsSoundExpr n union_end = ⊥
     IsSoundExpr n (union e rest) = IsSoundExpr n e × AreUnited n rest × ¬ (rest ≡ union_end)
@@ -77,7 +77,7 @@ module _ (V S : ℕ → VarName → Type 0) where
 
 -- how many unions, joins, projections and differences stand inside each other
 abbrev pub expr_nesting : ExprTree → ℕ
-expr_nesting (atom s t f) = 0
+expr_nesting (atom a) = 0
 expr_nesting (named k) = 0
 expr_nesting union_end = 1
 expr_nesting (union e rest) = max (suc (expr_nesting e)) (expr_nesting rest)
@@ -92,7 +92,7 @@ IsSoundUnder lets n e = IsSoundExpr (vars_of_lets lets n) (sure_of_lets lets n) 
 
 -- x is a name in an atom of the expression, kept or not
 abbrev pub NameIn : ExprTree → VarName → Type 0
-NameIn (atom s t f) x = HasVar f x
+NameIn (atom a) x = HasVar a.formula x
 NameIn (named k) x = ⊥
 NameIn union_end x = ⊥
 NameIn (union e rest) x = NameIn e x ⊎ NameIn rest x

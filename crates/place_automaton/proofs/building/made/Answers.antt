@@ -4,7 +4,7 @@ use Rattle.span_core.specs.NameSets.{Ascending}
 use Rattle.spanner_model.specs.Captures.{VarName}
 use Rattle.spanner_model.specs.Sequential.{HasVar}
 use Rattle.span_core.specs.Lists.{Has}
-use Rattle.spanner_model.specs.View.{tree_of}
+use Rattle.spanner_model.specs.View.{tree_of, atom_of}
 use Rattle.span_core.proofs.HasLaws.{Has-get_or}
 use Rattle.spanner_model.proofs.NameLaws.{ascending-distinct}
 use Rattle.marked_automaton.specs.declared.way.Way.{Way}
@@ -41,72 +41,71 @@ states_of-states-requires c =
 pub with_ways-requires : goal.with_ways-requires
 with_ways-requires c = λ k d l.
     let names = c.vars_of-vars.result in
-    let atom = c.args.atom.now in
-    let f = tree_of atom.formula in
+    let a = atom_of c.args.atom.now in
+    let f = a.formula in
     let P = places_of names f 1 in
     let ws = c.push_outer.new.ways.items in
-    let all = made_ways atom.from_start atom.to_end P c.place.new.draft.next c.in_ok-piece.piece c.in_ok-with_capacity.field-0.items c.place.new.draft.ways.items ws
+    let all = made_ways a.from_start a.to_end P c.place.new.draft.next c.in_ok-piece.piece c.in_ok-with_capacity.field-0.items c.place.new.draft.ways.items ws
     c.in_ok-with_capacity.ensures.items c.in_ok-piece.ensures.ways c.in_ok-piece.ensures.next c.in_ok-piece.ensures.sides c.in_ok-push_outer.ensures in
     let has = subst (λ (xs : List Way). Has xs (get_or ws k d)) all (Has-get_or ws k d l) in
-    let states : c.states_of-states.result ≡ (atom_automaton names atom.from_start atom.to_end f).states =
-    c.states_of-states.ensures ∙ ap (λ (n : ℕ). n + (if atom.to_end then 0 else 1)) c.in_ok-piece.ensures.next in
-    is_way names atom.from_start atom.to_end f c.requires.sequential (ordered_repeats f c.requires.built) (built_classes f c.requires.built.0) (vars_named f names c.vars_of-vars.ensures)
+    let states : c.states_of-states.result ≡ (atom_automaton names a).states =
+    c.states_of-states.ensures ∙ ap (λ (n : ℕ). n + (if a.to_end then 0 else 1)) c.in_ok-piece.ensures.next in
+    is_way names a c.requires.sequential (ordered_repeats f c.requires.built) (built_classes f c.requires.built.0) (vars_named f names c.vars_of-vars.ensures)
     c.states_of-states.result (get_or ws k d) states has
 
 pub finish-requires-clause-stops : goal.finish-requires-clause-stops
 finish-requires-clause-stops c = λ x h.
     let names = c.vars_of-vars.result in
-    let atom = c.args.atom.now in
-    let f = tree_of atom.formula in
-    let states : c.states_of-states.result ≡ (atom_automaton names atom.from_start atom.to_end f).states =
-    c.states_of-states.ensures ∙ ap (λ (n : ℕ). n + (if atom.to_end then 0 else 1)) c.in_ok-piece.ensures.next in
+    let a = atom_of c.args.atom.now in
+    let states : c.states_of-states.result ≡ (atom_automaton names a).states =
+    c.states_of-states.ensures ∙ ap (λ (n : ℕ). n + (if a.to_end then 0 else 1)) c.in_ok-piece.ensures.next in
     let graph = ap (λ (A : Automaton). A.states) c.in-Ok.ensures.ok.1 in
-    let there = stop_there names atom.from_start atom.to_end f c.in_ok-piece.piece x c.in_ok-piece.ensures.sides h in
-    omega (arith, (whole_law names atom.from_start atom.to_end f).stops x there, states, graph)
+    let there = stop_there names a c.in_ok-piece.piece x c.in_ok-piece.ensures.sides h in
+    omega (arith, (whole_law names a).stops x there, states, graph)
 
 pub finish-requires-clause-marks : goal.finish-requires-clause-marks
 finish-requires-clause-marks c = λ x h.
     let names = c.vars_of-vars.result in
-    let atom = c.args.atom.now in
-    let f = tree_of atom.formula in
-    let there = stop_there names atom.from_start atom.to_end f c.in_ok-piece.piece x c.in_ok-piece.ensures.sides h in
+    let a = atom_of c.args.atom.now in
+    let f = a.formula in
+    let there = stop_there names a c.in_ok-piece.piece x c.in_ok-piece.ensures.sides h in
     subst (λ (ns : List VarName). IsBlockOf (length ns) x.marks) (sym c.in-Ok.ensures.ok.0)
-    (stop_marks names atom.from_start atom.to_end f c.requires.sequential (ordered_repeats f c.requires.built) (built_classes f c.requires.built.0) (vars_named f names c.vars_of-vars.ensures) x there)
+    (stop_marks names a c.requires.sequential (ordered_repeats f c.requires.built) (built_classes f c.requires.built.0) (vars_named f names c.vars_of-vars.ensures) x there)
 
 pub finish-requires-clause-before_way : goal.finish-requires-clause-before_way
 finish-requires-clause-before_way c = λ e.
     let names = c.vars_of-vars.result in
-    let atom = c.args.atom.now in
-    let f = tree_of atom.formula in
+    let a = atom_of c.args.atom.now in
+    let f = a.formula in
     let P = places_of names f 1 in
     let ws = c.push_outer.new.ways.items in
-    let all = made_ways atom.from_start atom.to_end P c.place.new.draft.next c.in_ok-piece.piece c.in_ok-with_capacity.field-0.items c.place.new.draft.ways.items ws
+    let all = made_ways a.from_start a.to_end P c.place.new.draft.next c.in_ok-piece.piece c.in_ok-with_capacity.field-0.items c.place.new.draft.ways.items ws
     c.in_ok-with_capacity.ensures.items c.in_ok-piece.ensures.ways c.in_ok-piece.ensures.next c.in_ok-piece.ensures.sides c.in_ok-push_outer.ensures in
     let graph = ap (λ (A : Automaton). A.ways) c.in-Ok.ensures.ok.1 in
-    subst (λ (xs : List Way). Has xs (idle_way 0)) (sym (graph ∙ all)) (before_way names atom.from_start atom.to_end f e)
+    subst (λ (xs : List Way). Has xs (idle_way 0)) (sym (graph ∙ all)) (before_way names a e)
 
 pub finish-requires-clause-after_way : goal.finish-requires-clause-after_way
 finish-requires-clause-after_way c = λ e.
     let names = c.vars_of-vars.result in
-    let atom = c.args.atom.now in
-    let f = tree_of atom.formula in
+    let a = atom_of c.args.atom.now in
+    let f = a.formula in
     let P = places_of names f 1 in
     let ws = c.push_outer.new.ways.items in
-    let all = made_ways atom.from_start atom.to_end P c.place.new.draft.next c.in_ok-piece.piece c.in_ok-with_capacity.field-0.items c.place.new.draft.ways.items ws
+    let all = made_ways a.from_start a.to_end P c.place.new.draft.next c.in_ok-piece.piece c.in_ok-with_capacity.field-0.items c.place.new.draft.ways.items ws
     c.in_ok-with_capacity.ensures.items c.in_ok-piece.ensures.ways c.in_ok-piece.ensures.next c.in_ok-piece.ensures.sides c.in_ok-push_outer.ensures in
     let graph = ap (λ (A : Automaton). A.ways) c.in-Ok.ensures.ok.1 in
     subst (λ (xs : List Way). Has xs (idle_way c.place.new.draft.next)) (sym (graph ∙ all))
-    (after_way names atom.from_start atom.to_end f c.place.new.draft.next c.in_ok-piece.ensures.next e)
+    (after_way names a c.place.new.draft.next c.in_ok-piece.ensures.next e)
 
 pub returns : goal.returns
 returns c =
     let names = c.vars_of-vars.result in
-    let atom = c.args.atom.now in
-    let s = atom.from_start in
-    let t = atom.to_end in
-    let f = tree_of atom.formula in
+    let a = atom_of c.args.atom.now in
+    let s = a.from_start in
+    let t = a.to_end in
+    let f = a.formula in
     let P = places_of names f 1 in
-    let A = atom_automaton names s t f in
+    let A = atom_automaton names a in
     let ws = c.push_outer.new.ways.items in
     let after = c.place.new.draft.next in
     let all = made_ways s t P after c.in_ok-piece.piece c.in_ok-with_capacity.field-0.items c.place.new.draft.ways.items ws
@@ -136,8 +135,8 @@ returns c =
     record {
       ascending = subst Ascending (sym same_names) ascends;
       names = subst (λ (ns : List VarName). (x : VarName) → Has ns x ↔ HasVar f x) (sym same_names) exactly;
-      reduct = subst (λ (ns : List VarName). Rearranges c.group_ways.new.self.graph (atom_automaton ns s t f)) (sym same_names) reduct;
-      ways = last.same.3 ∙ (ap length (sym ways) ∙ subst (λ (ns : List VarName). length (atom_automaton ns s t f).ways ≡ ways_of s t (counts_over (with_vars [] f) f)) (sym is) (all_ways s t f));
+      reduct = subst (λ (ns : List VarName). Rearranges c.group_ways.new.self.graph (atom_automaton ns a)) (sym same_names) reduct;
+      ways = last.same.3 ∙ (ap length (sym ways) ∙ subst (λ (ns : List VarName). length (atom_automaton ns a).ways ≡ ways_of s t (counts_over (with_vars [] f) f)) (sym is) (all_ways a));
       grouped = last.grouped;
-      stops = last.same.1 ∙ (sym stops ∙ ap (λ (ns : List VarName). (atom_automaton ns s t f).stops) (sym same_names));
+      stops = last.same.1 ∙ (sym stops ∙ ap (λ (ns : List VarName). (atom_automaton ns a).stops) (sym same_names));
     }

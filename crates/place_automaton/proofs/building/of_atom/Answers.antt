@@ -1,6 +1,6 @@
 use Rattle.std.proofs.Common.{sym, subst}
 use Rattle.span_core.specs.Lists.{AreDistinct}
-use Rattle.spanner_model.specs.View.{tree_of}
+use Rattle.spanner_model.specs.View.{tree_of, atom_of}
 use Rattle.place_automaton.proofs.BuiltRepeats.{ordered_repeats}
 use Rattle.place_automaton.proofs.LastSets.{stops_once}
 use Rattle.place_automaton.proofs.building.of_atom.Goals as goal
@@ -11,4 +11,4 @@ returns-clause-ends c =
     let h = c.in_ok-automaton.ensures in
     let f = tree_of c.args.atom.now.formula in
     subst AreDistinct (sym h.stops)
-    (stops_once a.names c.args.atom.now.from_start c.args.atom.now.to_end f (λ x v. (h.names x).1 v) c.requires.sequential (ordered_repeats f c.requires.built))
+    (stops_once a.names (atom_of c.args.atom.now) (λ x v. (h.names x).1 v) c.requires.sequential (ordered_repeats f c.requires.built))

@@ -2,7 +2,7 @@ use Rattle.std.proofs.Common.{◌≡◌, ◌⊎◌, List, [], ◌∷◌, length,
 use Rattle.span_core.specs.Lists.{Has}
 use Rattle.spanner_model.specs.Answers.{SpanRow}
 use Rattle.spanner_model.specs.Answer.{FitsSomewhere}
-use Rattle.spanner_model.specs.View.{tree_of}
+use Rattle.spanner_model.specs.View.{tree_of, atom_of}
 use Rattle.spanner_model.specs.Fit.{Fit}
 use Rattle.plain_spanner.specs.Listed.{Tells, FromSome, CapturesAndEnds, HasFit, Continued, AreWithin}
 use Rattle.plain_spanner.specs.Tables.{IsRowOf, IsRowOfFits}
@@ -50,5 +50,5 @@ returns c =
         λ h. gathered_are g c.empty-names.result names c.gather-all.result c.empty-names.ensures c.if-prove.false c.gather-all.ensures.added x h,
         λ v. are_gathered g c.empty-names.result names c.gather-all.result c.empty-names.ensures c.if-prove.false c.gather-all.ensures.added x v,
       );
-      listed = tells_through (Has c.sort_once.new.values.items) (Has c.loop-from.rows.items) (IsRowOf (FitsSomewhere atom.from_start atom.to_end g d) names) c.sort_once.ensures.adds_none c.sort_once.ensures.keeps listed;
+      listed = tells_through (Has c.sort_once.new.values.items) (Has c.loop-from.rows.items) (IsRowOf (FitsSomewhere (atom_of atom) d) names) c.sort_once.ensures.adds_none c.sort_once.ensures.keeps listed;
     }

@@ -7,7 +7,7 @@ use Rattle.place_automaton.specs.Atom.{AreBytes}
 use Rattle.place_automaton.specs.Words.{atom_automaton}
 use Rattle.marked_automaton.specs.Automaton.{size}
 use Rattle.place_automaton.specs.Variables.{with_vars}
-use Rattle.spanner_model.specs.View.{tree_of}
+use Rattle.spanner_model.specs.View.{atom_of}
 use Rattle.segment_filter.specs.Costs.{backward_of, filter_weight, forward_of, pairs_met}
 use Rattle.segment_filter.specs.Sets.{MeetAt}
 use Rattle.filter_laws.specs.Touching.{IsTouchedBy}
@@ -24,7 +24,7 @@ returns-clause-ok g c =
     let R = c.in-Ok.readings.backward.graph in
     let most = c.in-Ok.readings.most in
     IfOk-weaker c.touched_by.result (λ (t : List (ℕ × ℕ)). (i : ℕ) → Covers t i ↔ ((i ≤ length d) × MeetAt F R most d i))
-    (λ (t : List (ℕ × ℕ)). (i : ℕ) → Covers t i ↔ IsTouchedBy c.args.atom.now.from_start c.args.atom.now.to_end (tree_of c.args.atom.now.formula) d i)
+    (λ (t : List (ℕ × ℕ)). (i : ℕ) → Covers t i ↔ IsTouchedBy (atom_of c.args.atom.now) d i)
     (λ t h i. let m = c.in-Ok.ensures.meet.meet d bytes i in (λ k. m.0 ((h i).0 k), λ k. (h i).1 (m.1 k)))
     c.touched_by.ensures.ok
 
@@ -38,29 +38,25 @@ returns-clause-within g c =
 pub returns-clause-full : goal.returns-clause-full
 returns-clause-full g c =
     let d = c.args.doc.now in
-    let s = c.args.atom.now.from_start in
-    let t = c.args.atom.now.to_end in
-    let f = tree_of c.args.atom.now.formula in
+    let a = atom_of c.args.atom.now in
     let F = c.in-Ok.readings.forward.graph in
     let R = c.in-Ok.readings.backward.graph in
     let ahead = (c.in-Ok.ensures.costs.ahead d).0 in
     let behind = (c.in-Ok.ensures.costs.behind (reverse d)).0 in
-    let le : reading_weight R (reverse d) + reading_weight F d ≤ filter_weight (with_vars [] f) s t f d = omega (arith, ahead, behind) in
+    let le : reading_weight R (reverse d) + reading_weight F d ≤ filter_weight (with_vars [] a.formula) a d = omega (arith, ahead, behind) in
     IfErr-weaker c.touched_by.result (λ e. IsFullWithin c.args.limit (reading_weight R (reverse d) + reading_weight F d) e)
-    (λ e. IsFullWithin c.args.limit (filter_weight (with_vars [] f) s t f d) e)
-    (λ e h. full_wider c.args.limit (reading_weight R (reverse d) + reading_weight F d) (filter_weight (with_vars [] f) s t f d) e le h)
+    (λ e. IsFullWithin c.args.limit (filter_weight (with_vars [] a.formula) a d) e)
+    (λ e h. full_wider c.args.limit (reading_weight R (reverse d) + reading_weight F d) (filter_weight (with_vars [] a.formula) a d) e le h)
     c.touched_by.ensures.full
 
 pub returns-clause-steps : goal.returns-clause-steps
 returns-clause-steps g c =
     let d = c.args.doc.now in
-    let s = c.args.atom.now.from_start in
-    let t = c.args.atom.now.to_end in
-    let f = tree_of c.args.atom.now.formula in
-    let names = with_vars [] f in
+    let a = atom_of c.args.atom.now in
+    let names = with_vars [] a.formula in
     let F = c.in-Ok.readings.forward.graph in
     let R = c.in-Ok.readings.backward.graph in
     let costs = c.in-Ok.ensures.costs in
-    steps_within c.args.steps.now c.touched_by.new.steps (length d) (size R) (size F) (size (atom_automaton names s t f)) (reading_look_ups F d) (reading_look_ups R (reverse d))
-    (reading_look_ups (forward_of names s t f) d) (reading_look_ups (backward_of names t f) (reverse d)) (pairs_met (forward_of names s t f) (backward_of names t f) d)
+    steps_within c.args.steps.now c.touched_by.new.steps (length d) (size R) (size F) (size (atom_automaton names a)) (reading_look_ups F d) (reading_look_ups R (reverse d))
+    (reading_look_ups (forward_of names a) d) (reading_look_ups (backward_of names a) (reverse d)) (pairs_met (forward_of names a) (backward_of names a) d)
     c.touched_by.ensures.steps costs.behind_size costs.ahead_size (costs.behind (reverse d)).1 (costs.ahead d).1

@@ -4,7 +4,7 @@ use Rattle.span_core.specs.declared.span.Span.{Span}
 use Rattle.spanner_model.specs.Tree.{cap}
 use Rattle.spanner_model.specs.Captures.{Captures, span_of}
 use Rattle.spanner_model.specs.Fit.{Fit, Times}
-use Rattle.spanner_model.specs.Expression.{atom}
+use Rattle.spanner_model.specs.Expression.{atom, tied}
 use Rattle.spanner_model.specs.Answers.{IsAnswerRow}
 use Rattle.spanner_model.specs.Examples.{a, star, x, span, query, row1}
 use Rattle.spanner_model.proofs.ExampleLaws.{fits_byte, fits_cap, no_times, more_times, fits_rep}
@@ -22,7 +22,7 @@ run = more_times (Fit a d) 1 0 1 2 (fits_byte 97 d 0 refl) (more_times (Fit a d)
 fit : Fit (cap x (star a)) d 0 2 all_x
 fit = fits_cap x (star a) d 0 2 [] (fits_rep a 0 2 d 0 2 (omega arith) run) (λ n. n)
 
-no_less : IsAnswerRow (query (atom true true (cap x (star a)))) d (x ∷ []) (row1 (span 0 1)) → ⊥
+no_less : IsAnswerRow (query (atom (tied (cap x (star a))))) d (x ∷ []) (row1 (span 0 1)) → ⊥
 no_less (m, h, e) =
     let fits = h.3 in
     let ends : h.1 ≡ 2 = h.6 refl in

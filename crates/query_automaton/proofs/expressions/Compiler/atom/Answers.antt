@@ -1,6 +1,6 @@
 use Rattle.std.proofs.Common.{length, sym, subst}
 use Rattle.spanner_model.specs.ExprView.{query_of}
-use Rattle.spanner_model.specs.View.{tree_of}
+use Rattle.spanner_model.specs.View.{atom_of}
 use Rattle.marked_automaton.specs.Automaton.{Marked}
 use Rattle.marked_automaton.specs.Reduct.{ReducesMarked}
 use Rattle.marked_automaton.proofs.Rearranged.{rearranged_reduces}
@@ -14,20 +14,18 @@ use Rattle.query_automaton.proofs.expressions.Compiler.atom.Goals as goal
 
 pub returns-in_err-whole-clause-fault : goal.returns-in_err-whole-clause-fault
 returns-in_err-whole-clause-fault c =
-    let a = c.args.atom.now in
-    let f = tree_of a.formula in
+    let a = atom_of c.args.atom.now in
     let b = c.args.self.now in
-    handed_on (HasLargePartIn b (atom a.from_start a.to_end f)) c.from_residual.result c.in_err-whole.field-0.0 c.from_residual.ensures.1
-    (atom_fault a.from_start a.to_end f (of_lets (query_of b.query).lets (length b.lets)) c.in_err-whole.field-0.0 c.in_err-whole.ensures.err)
+    handed_on (HasLargePartIn b (atom a)) c.from_residual.result c.in_err-whole.field-0.0 c.from_residual.ensures.1
+    (atom_fault a (of_lets (query_of b.query).lets (length b.lets)) c.in_err-whole.field-0.0 c.in_err-whole.ensures.err)
 
 pub returns-clause-made : goal.returns-clause-made
 returns-clause-made c =
-    let a = c.args.atom.now in
-    let f = tree_of a.formula in
+    let a = atom_of c.args.atom.now in
     let whole = c.in_ok-whole.whole in
     let of = c.in_ok-whole.ensures in
     let trim = c.in_ok-trim in
-    let made : ReducesMarked trim.field-0 (of_atom a.from_start a.to_end f) =
-    atom_made a.from_start a.to_end f whole trim.field-0 of.names.0 of.names.1
-    (rearranged_reduces whole.graph (atom_automaton whole.names a.from_start a.to_end f) of.reduct) trim.ensures.names trim.ensures.reduct in
-    record { reduces = subst (λ (m : Marked). ReducesMarked m (of_atom a.from_start a.to_end f)) (sym c.in_ok-new.ensures) made; small = of.small }
+    let made : ReducesMarked trim.field-0 (of_atom a) =
+    atom_made a whole trim.field-0 of.names.0 of.names.1
+    (rearranged_reduces whole.graph (atom_automaton whole.names a) of.reduct) trim.ensures.names trim.ensures.reduct in
+    record { reduces = subst (λ (m : Marked). ReducesMarked m (of_atom a)) (sym c.in_ok-new.ensures) made; small = of.small }
