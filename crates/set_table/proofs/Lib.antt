@@ -8,4 +8,3 @@ pub mod AddsLaws
 pub mod HeldLaws
 pub mod StayLaws
 pub mod SpreadLaws
-pub mod OnceLaws
