@@ -4,7 +4,7 @@ use Rattle.std.proofs.lemmas.List.{append-nil, map-append}
 use Rattle.std.proofs.Math.Seq.{take-length}
 use Rattle.marked_automaton.specs.Automaton.{Automaton}
 use Rattle.automaton_reading.specs.Reading.{Question, byte_read, rest_taken, ended, LookUp, questions, next_sets, look_ups_asked, look_ups_read}
-use Rattle.one_pass.specs.Held.{weight_of}
+use Rattle.one_pass.specs.Passes.{weight_of}
 use Rattle.one_pass.specs.Places.{asks, bytes_at, sets_met}
 use Rattle.one_pass.proofs.Sets.{look_ups_append}
 use Rattle.growing_document.specs.Lengths.{WholeWeighs, ends_at}

@@ -9,7 +9,7 @@ ghost use Rattle.one_pass.specs.Faults.{IsFaultAt};
 ghost use Rattle.one_pass.specs.Known.{Knows};
 ghost use Rattle.one_pass.specs.Passes.{HasRead, IsReady, pass};
 ghost use Rattle.one_pass.specs.Places.{bytes_at};
-ghost use Rattle.one_pass.specs.Seen.{held, whole};
+ghost use Rattle.one_pass.specs.Seen.{whole};
 ghost use Rattle.growing_document.specs.Reading.{AreEnded, HasBegun, HasEndedCopy, IsEndFault, pass_at};
 
 use marked_automaton::Automaton;
@@ -79,12 +79,12 @@ pub fn read_on<L: Ledger>(
 ) -> Result<Reading, TableFault>
     requires state { IsStateOf automaton.now.graph reading.state }
     requires ready { IsReady (pass_at automaton.now.graph reading steps.old) at }
-    requires known { Knows (held (taken_up automaton.now.graph reading.state)) reading.known }
+    requires known { Knows (taken_up automaton.now.graph reading.state) reading.known }
     requires few { at + length piece.now ≤ 2 ^ 28 }
     ensures read { IfOk result (λ r. HasRead automaton.now.graph (bytes_at at piece.now) (pass_at automaton.now.graph reading steps.old) (pass_at automaton.now.graph r steps.new)) }
     ensures state { IfOk result (λ r. IsStateOf automaton.now.graph r.state) }
     ensures ready { IfOk result (λ r. IsReady (pass_at automaton.now.graph r steps.new) (at + length piece.now)) }
-    ensures known { IfOk result (λ r. Knows (held (taken_up automaton.now.graph r.state)) r.known) }
+    ensures known { IfOk result (λ r. Knows (taken_up automaton.now.graph r.state) r.known) }
     ensures cause { IfErr result (λ e. IsFaultAt (bytes_at at piece.now) (pass_at automaton.now.graph reading steps.old) e) }
 {
     let Reading {
@@ -114,11 +114,11 @@ pub fn end_copy<L: Ledger>(
 ) -> Ended
     requires state { IsStateOf automaton.now.graph reading.state }
     requires ready { IsReady (pass_at automaton.now.graph reading steps.old) at }
-    requires known { Knows (held (taken_up automaton.now.graph reading.state)) reading.known }
+    requires known { Knows (taken_up automaton.now.graph reading.state) reading.known }
     requires few { at ≤ 2 ^ 28 }
     ensures state { IsStateOf automaton.now.graph result.reading.state }
     ensures graph { result.reading.graph ≡ reading.graph }
-    ensures known { Knows (held (taken_up automaton.now.graph result.reading.state)) result.reading.known }
+    ensures known { Knows (taken_up automaton.now.graph result.reading.state) result.reading.known }
     ensures ended { HasEndedCopy automaton.now.graph (pass_at automaton.now.graph reading steps.old) (pass_at automaton.now.graph result.reading steps.new) }
     ensures lists { IfOk result.lists (AreEnded automaton.now.graph at (pass_at automaton.now.graph reading steps.old)) }
     ensures cause { IfErr result.lists (IsEndFault (pass_at automaton.now.graph reading steps.old)) }
@@ -148,13 +148,12 @@ fn lists_of<L: Ledger>(
     at: u32,
     steps: &mut Steps<L>,
 ) -> Result<RowLists, TableFault>
-    requires ready { IsReady (pass (held table.old) (whole graph.now) steps.old) at }
+    requires ready { IsReady (pass table.old (whole graph.now) steps.old) at }
     requires few { at ≤ 2 ^ 28 }
-    ensures ended { HasEndedCopy table.old.graph (pass (held table.old) (whole graph.now) steps.old) (pass (held table.new) (whole graph.now) steps.new) }
-    ensures lists { IfOk result (AreEnded table.old.graph at (pass (held table.old) (whole graph.now) steps.old)) }
-    ensures cause { IfErr result (IsEndFault (pass (held table.old) (whole graph.now) steps.old)) }
+    ensures ended { HasEndedCopy table.old.graph (pass table.old (whole graph.now) steps.old) (pass table.new (whole graph.now) steps.new) }
+    ensures lists { IfOk result (AreEnded table.old.graph at (pass table.old (whole graph.now) steps.old)) }
+    ensures cause { IfErr result (IsEndFault (pass table.old (whole graph.now) steps.old)) }
 {
-    table.start();
     let copy = match graph.copy(alloc, steps) {
         Ok(copy) => copy,
         Err(OutOfMemory) => return Err(TableFault::OutOfMemory),

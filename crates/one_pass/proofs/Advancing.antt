@@ -10,7 +10,7 @@ use Rattle.span_core.proofs.HasLaws.{Has-take_more_cases}
 use Rattle.marked_automaton.specs.Automaton.{ByteClass}
 use Rattle.marked_automaton.proofs.Passing.{left_true, right_true}
 use Rattle.set_table.specs.declared.fault.TableFault.{TableFault}
-use Rattle.one_pass.specs.Held.{TableView, StaysOn}
+use Rattle.set_table.specs.Tabled.{Stays, Tabled}
 use Rattle.output_graph.specs.Graph.{Source}
 use Rattle.one_pass.specs.Layers.{no_source, source_at}
 use Rattle.one_pass.specs.Faults.{IsFaultAt}
@@ -70,7 +70,7 @@ advanced_still P at piece i zero Q past within still = subst (λ j. IsAdvanced P
 advanced_still P at piece i (suc n) Q past within still =
     subst (λ j. IsAdvanced P at piece j Q) (omega arith)
     (advanced_more P at piece (i + n) Q (advanced_still P at piece i n Q past (omega arith) (λ k less. still k (omega arith))) (omega arith) Q
-    (stays_read Q.table.graph (byte_at (at + (i + n)) (get_or piece (i + n) 0)) Q (λ x there. still n (omega arith) x there))
+    (stays_read Q.table.graph (byte_at (at + (i + n)) (get_or piece (i + n) 0)) Q (λ x there. let st = still n (omega arith) x there in (st.asked, st.itself)))
     (ready_later Q (at + i) (at + (i + n) + 1) past.ready (omega arith)))
 
 -- up to a later place, before which nothing changes
@@ -83,13 +83,13 @@ advanced_up_to P at piece i j Q past later within still =
 -- ---- which bytes change nothing
 
 -- one set more stays on them
-pub stay_more : (t : TableView) (layer : List Source) (k : ℕ) (all one : ByteClass) → k < length layer → (set : ℕ) → set ≡ (source_at layer k).set →
-    ((b : ℕ) → b < 256 → IsTrue (bytes.contains all b) → (x : Source) → Has (take k layer) x → StaysOn t x.set b) →
-    ((b : ℕ) → b < 256 → IsTrue (bytes.contains one b) → StaysOn t set b) →
-    (b : ℕ) → b < 256 → IsTrue (bytes.contains (bytes.intersection all one) b) → (x : Source) → Has (take (k + 1) layer) x → StaysOn t x.set b
+pub stay_more : (t : Tabled) (layer : List Source) (k : ℕ) (all one : ByteClass) → k < length layer → (set : ℕ) → set ≡ (source_at layer k).set →
+    ((b : ℕ) → b < 256 → IsTrue (bytes.contains all b) → (x : Source) → Has (take k layer) x → Stays t x.set b) →
+    ((b : ℕ) → b < 256 → IsTrue (bytes.contains one b) → Stays t set b) →
+    (b : ℕ) → b < 256 → IsTrue (bytes.contains (bytes.intersection all one) b) → (x : Source) → Has (take (k + 1) layer) x → Stays t x.set b
 stay_more t layer k all one within set is before now b small h x there =
     let both : (bytes.contains all b && bytes.contains one b) ≡ true = sym (contains-intersection nat_cmp_total all one b) ∙ h in
-    elim (Has-take_more_cases layer k no_source x within there) as (λ _. StaysOn t x.set b) [
+    elim (Has-take_more_cases layer k no_source x within there) as (λ _. Stays t x.set b) [
       | inl old ↦ before b small (left_true (bytes.contains all b) (bytes.contains one b) both) x old
-      | inr e ↦ subst (λ s. StaysOn t s b) (is ∙ ap (λ (y : Source). y.set) e) (now b small (right_true (bytes.contains all b) (bytes.contains one b) both))
+      | inr e ↦ subst (λ s. Stays t s b) (is ∙ ap (λ (y : Source). y.set) e) (now b small (right_true (bytes.contains all b) (bytes.contains one b) both))
     ]

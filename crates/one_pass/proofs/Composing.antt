@@ -5,12 +5,13 @@ use Rattle.span_core.specs.Lists.{Has, AreDistinct}
 use Rattle.span_core.proofs.HasLaws.{Has-append_left, Has-append_right, Has-append_cases, Has-get_or, Has-map, Has-map_cases}
 use Rattle.marked_automaton.specs.Automaton.{Automaton}
 use Rattle.automaton_reading.specs.Reading.{Question, byte_read, rest_taken, ended, LookUp, next_sets, look_ups_asked}
-use Rattle.one_pass.specs.Held.{TableView, set_named, weight_of}
+use Rattle.set_table.specs.Tabled.{Tabled, set_at}
+use Rattle.set_table.proofs.SetsLaws.{number_told}
 use Rattle.one_pass.specs.Words.{Word}
 use Rattle.output_graph.specs.Graph.{Source}
 use Rattle.one_pass.specs.Layers.{numbers_of}
 use Rattle.one_pass.specs.Places.{ReadingPlace, Leads, asks, edges_read, sets_after, sets_met, sets_on}
-use Rattle.one_pass.specs.Passes.{Pass, sets_of, Reaches, IsReady, HasGrown, HasRead, HasStopped, HasStoppedAt, Stop, IsExcess}
+use Rattle.one_pass.specs.Passes.{Pass, sets_of, Reaches, IsReady, HasGrown, HasRead, HasStopped, HasStoppedAt, Stop, IsExcess, weight_of}
 use Rattle.one_pass.specs.Making.{making_read}
 use Rattle.one_pass.proofs.Making.{making_append, making_covers}
 use Rattle.one_pass.proofs.ReadWords.{leads_then, then_leads}
@@ -22,37 +23,30 @@ asks_append (p ∷ ps) qs = ap (λ questions. p.ask ∷ questions) (asks_append 
 
 -- ---- the sets of a layer are distinct
 
-pub named_apart : (xs : List (List ℕ)) (i j : ℕ) → AreDistinct xs → i < length xs → j < length xs → get_or xs i [] ≡ get_or xs j [] → i ≡ j
-named_apart [] i j d hi hj e = absurd (omega arith)
-named_apart (x ∷ xs) zero zero d hi hj e = refl
-named_apart (x ∷ xs) zero (suc j) d hi hj e = absurd (d.0 (subst (Has xs) (sym e) (Has-get_or xs j [] (omega arith))))
-named_apart (x ∷ xs) (suc i) zero d hi hj e = absurd (d.0 (subst (Has xs) e (Has-get_or xs i [] (omega arith))))
-named_apart (x ∷ xs) (suc i) (suc j) d hi hj e = ap suc (named_apart xs i j d.1 (omega arith) (omega arith) e)
-
-layer_distinct : (t : TableView) (layer : List Source) → AreDistinct t.sets → ((x : Source) → Has layer x → x.set < length t.sets) →
-    AreDistinct (numbers_of layer) → AreDistinct (map (λ (x : Source). set_named t x.set) layer)
+layer_distinct : (t : Tabled) (layer : List Source) → AreDistinct t.sets → ((x : Source) → Has layer x → x.set < length t.sets) →
+    AreDistinct (numbers_of layer) → AreDistinct (map (λ (x : Source). set_at t.sets x.set) layer)
 layer_distinct t [] sound given apart = tt
 layer_distinct t (x ∷ layer) sound given apart = (
   λ h.
-      let y = Has-map_cases (λ (y : Source). set_named t y.set) layer (set_named t x.set) h in
-      let same = named_apart t.sets y.0.set x.set sound (given y.0 (inr y.1)) (given x (inl refl)) y.2 in
+      let y = Has-map_cases (λ (y : Source). set_at t.sets y.set) layer (set_at t.sets x.set) h in
+      let same = number_told t.sets y.0.set x.set sound (given y.0 (inr y.1)) (given x (inl refl)) y.2 in
       apart.0 (subst (Has (numbers_of layer)) same (Has-map (λ (y : Source). y.set) layer y.0 y.1)),
   layer_distinct t layer sound (λ y h. given y (inr h)) apart.1,
 )
 
 pub ready_distinct : (P : Pass) (at : ℕ) → IsReady P at → AreDistinct (sets_of P)
-ready_distinct P at r = layer_distinct P.table P.graph.layer r.sound.sets r.given r.apart
+ready_distinct P at r = layer_distinct P.table P.graph.layer r.sound.sets_apart r.given r.apart
 
 -- ---- what a table holds
 
-pub grown_named : (old new : TableView) (sets : List (List ℕ)) (look_ups : List LookUp) → HasGrown old new sets look_ups → (k : ℕ) → k < length old.sets → set_named new k ≡ set_named old k
+pub grown_named : (old new : Tabled) (sets : List (List ℕ)) (look_ups : List LookUp) → HasGrown old new sets look_ups → (k : ℕ) → k < length old.sets → set_at new.sets k ≡ set_at old.sets k
 grown_named old new sets look_ups g k h =
     ap (λ (xs : List (List ℕ)). get_or xs k []) (sym g.kept.1) ∙ get_or_append_left old.sets g.kept.0 [] k h
 
-pub grown_length : (old new : TableView) (sets : List (List ℕ)) (look_ups : List LookUp) → HasGrown old new sets look_ups → length old.sets ≤ length new.sets
+pub grown_length : (old new : Tabled) (sets : List (List ℕ)) (look_ups : List LookUp) → HasGrown old new sets look_ups → length old.sets ≤ length new.sets
 grown_length old new sets look_ups g = omega (arith, ap length g.kept.1, length-append old.sets g.kept.0)
 
-pub grown_then : (a b c : TableView) (xs ys zs : List (List ℕ)) (rs qs os : List LookUp) → HasGrown a b xs rs → HasGrown b c ys qs →
+pub grown_then : (a b c : Tabled) (xs ys zs : List (List ℕ)) (rs qs os : List LookUp) → HasGrown a b xs rs → HasGrown b c ys qs →
     Covers zs xs → Covers zs ys → Covers os rs → Covers os qs → HasGrown a c zs os
 grown_then a b c xs ys zs rs qs os g h zx zy or oq = record {
   graph = h.graph ∙ g.graph;
@@ -69,14 +63,14 @@ grown_then a b c xs ys zs rs qs os g h zx zy or oq = record {
   stay = λ look_up k. h.stay look_up (g.stay look_up k);
 }
 
-pub grown_none : (t : TableView) (sets : List (List ℕ)) (look_ups : List LookUp) → HasGrown t t sets look_ups
+pub grown_none : (t : Tabled) (sets : List (List ℕ)) (look_ups : List LookUp) → HasGrown t t sets look_ups
 grown_none t sets look_ups = record { graph = refl; limit = refl; kept = ([], append-nil t.sets); sets = λ set h. inl h; look_ups = λ look_up h. inl h; stay = λ look_up h. h }
 
-pub grown_more : (a b : TableView) (xs zs : List (List ℕ)) (rs os : List LookUp) → HasGrown a b xs rs → Covers zs xs → Covers os rs → HasGrown a b zs os
+pub grown_more : (a b : Tabled) (xs zs : List (List ℕ)) (rs os : List LookUp) → HasGrown a b xs rs → Covers zs xs → Covers os rs → HasGrown a b zs os
 grown_more a b xs zs rs os g zx or = grown_then a b b xs xs zs rs rs os g (grown_none b xs rs) zx zx or or
 
 -- what is more than the limit at a later time was so before
-pub excess_grown : (a b : TableView) (xs ys zs : List (List ℕ)) (rs qs os : List LookUp) (weight : ℕ) → HasGrown a b xs rs → IsExcess b ys qs weight →
+pub excess_grown : (a b : Tabled) (xs ys zs : List (List ℕ)) (rs qs os : List LookUp) (weight : ℕ) → HasGrown a b xs rs → IsExcess b ys qs weight →
     Covers zs xs → Covers zs ys → Covers os rs → Covers os qs → IsExcess a zs os weight
 excess_grown a b xs ys zs rs qs os weight g x zx zy or oq = record {
   more = subst (λ l. l < weight) g.limit x.more;

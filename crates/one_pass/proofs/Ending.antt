@@ -6,7 +6,8 @@ use Rattle.span_core.specs.Lists.{Has}
 use Rattle.span_core.proofs.HasLaws.{Has-append_left, Has-append_right, Has-append_cases, Has-map, Has-map_cases}
 use Rattle.marked_automaton.specs.Automaton.{Automaton}
 use Rattle.automaton_reading.specs.Reading.{ended, Reach, LookUp, edges, look_ups_asked}
-use Rattle.one_pass.specs.Held.{TableView, HasMade, marks_of, look_up_of, set_named}
+use Rattle.one_pass.specs.Turned.{HasLookedUp}
+use Rattle.set_table.specs.Tabled.{Tabled, look_up, set_at}
 use Rattle.one_pass.specs.Words.{Word, block_word}
 use Rattle.output_graph.specs.Graph.{Source}
 use Rattle.one_pass.specs.Layers.{GraphView, HasCost, BringsEnd}
@@ -14,6 +15,10 @@ use Rattle.one_pass.specs.Places.{end_at, Leads}
 use Rattle.one_pass.specs.Passes.{Pass, pass, sets_of, Reaches, IsReady, HasEnded}
 use Rattle.one_pass.proofs.ReadWords.{end_to}
 use Rattle.one_pass.proofs.Stepping.{source_edges, place_edges, IsSpending, look_ups_held, spending_none, spending_more}
+
+-- the blocks of edges
+abbrev pub marks_of : List Reach → List ℕ
+marks_of es = map (λ (e : Reach). e.marks) es
 
 module _ (A : Automaton) (n : ℕ) (P : Pass) where
   -- an end of one of these sources makes the word
@@ -36,7 +41,7 @@ module _ (A : Automaton) (n : ℕ) (P : Pass) where
       none w h = h
 
   module _ (done : List Source) (Q : Pass) (x : Source) (is : P.table.graph ≡ A) (there : Has P.graph.layer x) (known : x.set < length P.table.sets)
-      (past : IsEnding done Q) (t : TableView) (m : ℕ) (made : HasMade Q.table t (look_up_of Q.table x.set ended) Q.steps m)
+      (past : IsEnding done Q) (t : Tabled) (m : ℕ) (made : HasLookedUp Q.table t (look_up Q.table x.set ended) Q.steps m)
       (ms : List ℕ) (marks : ms ≡ marks_of (source_edges A (end_at n) P x)) where
     marks_count : length ms ≡ length (source_edges A (end_at n) P x)
     marks_count = ap length marks ∙ length-map (source_edges A (end_at n) P x) (λ (e : Reach). e.marks)
@@ -100,11 +105,11 @@ module _ (A : Automaton) (n : ℕ) (P : Pass) where
       there : (w : Word) → Has Q.graph.accepted w → (from : List ℕ) × (u v : Word) × Reaches P from u × Leads A (end_at n ∷ []) from v [] × (u ++ v ≡ w)
       there w h =
           let l = (all.words w).0 h in (
-            set_named P.table l.0.set,
+            set_at P.table.sets l.0.set,
             l.4,
             block_word n l.2.marks,
             (l.0, l.1, refl, l.5),
-            (l.2, l.3, [], append-nil (block_word n l.2.marks), (refl, end_to A (set_named P.table l.0.set) l.2 l.3)),
+            (l.2, l.3, [], append-nil (block_word n l.2.marks), (refl, end_to A (set_at P.table.sets l.0.set) l.2 l.3)),
             l.6,
           )
 

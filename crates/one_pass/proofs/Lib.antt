@@ -1,5 +1,4 @@
 pub mod Advancing
-pub mod Asking
 pub mod Composing
 pub mod Ending
 pub mod Faulting
@@ -7,7 +6,6 @@ pub mod GraphBridge
 pub mod KnownLaws
 pub mod LawProofs
 pub mod Making
-pub mod Numbered
 pub mod PartLaws
 pub mod Parting
 pub mod PlaceLaws
@@ -18,7 +16,6 @@ pub mod Running
 pub mod Sets
 pub mod Sources
 pub mod Stepping
-pub mod TableBridge
 pub mod Turns
 pub mod Weighing
 pub mod Whole

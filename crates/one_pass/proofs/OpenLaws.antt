@@ -1,30 +1,33 @@
 -- What a caller knows between two places, and what is always true there.
-use Rattle.std.proofs.Common.{◌≡◌, ℕ, ◌<◌, List, [], ◌∷◌, length, map, inl, inr, refl, sym, ap, subst, arith}
+use Rattle.std.proofs.Common.{◌≡◌, ℕ, ◌<◌, ◌≤◌, List, [], ◌∷◌, length, map, inl, inr, refl, sym, ap, subst, arith}
 use Rattle.std.proofs.lemmas.Option.{slice_get_within}
 use Rattle.span_core.specs.Lists.{Has}
+use Rattle.span_core.specs.Intervals.{Covers}
 use Rattle.automaton_reading.specs.Reading.{set_of}
 use Rattle.set_table.specs.Tabled.{IsTabled, Tabled}
 use Rattle.output_graph.specs.Graph.{AreApart, Graph, Source, source_of, sources}
-use Rattle.one_pass.specs.Passes.{IsOpen, IsReady, pass}
-use Rattle.one_pass.specs.Seen.{held, whole}
+use Rattle.one_pass.specs.Passes.{IsOpen, IsReady, Pass, pass}
+use Rattle.one_pass.specs.Seen.{whole}
 use Rattle.one_pass.specs.Words.{Word}
-use Rattle.one_pass.proofs.TableBridge.{held_sound}
 
-pub open_ready : (t : Tabled) (g : Graph) (n at : ℕ) → IsTabled t → AreApart (sources g) → IsOpen (held t) (whole g) at → IsReady (pass (held t) (whole g) n) at
+pub open_ready : (t : Tabled) (g : Graph) (n at : ℕ) → IsTabled t → AreApart (sources g) → IsOpen t (whole g) at → IsReady (pass t (whole g) n) at
 open_ready t g n at tabled apart open_here = record {
-  sound = held_sound t tabled;
+  sound = tabled;
   given = open_here.given;
   apart = apart.distinct;
   fresh = (open_here.fresh.0, open_here.fresh.1, refl);
   past = open_here.past;
 }
 
+pub ready_open : (P : Pass) (at : ℕ) → IsReady P at → IsOpen P.table P.graph at
+ready_open P at r = record { fresh = (r.fresh.0, r.fresh.1); given = r.given; past = r.past }
+
 -- the one source, which the empty word leads to
 abbrev pub first_source : ℕ → Source
 first_source s = record { set = s; words = [] ∷ [] }
 
 -- a graph that was begun at the first set of a table
-pub open_first : (t : Tabled) (g : Graph) (s : ℕ) → IsTabled t → s ≡ 0 → sources g ≡ first_source s ∷ [] → g.next ≡ [] → g.stepped ≡ 0 → IsOpen (held t) (whole g) 0
+pub open_first : (t : Tabled) (g : Graph) (s : ℕ) → IsTabled t → s ≡ 0 → sources g ≡ first_source s ∷ [] → g.next ≡ [] → g.stepped ≡ 0 → IsOpen t (whole g) 0
 open_first t g s tabled zero_set is none begun = record {
   fresh = (begun, ap (map (source_of g.cells)) none);
   given = λ x h. by_given x (subst (λ (xs : List Source). Has xs x) is h);
@@ -45,3 +48,11 @@ open_first t g s tabled zero_set is none begun = record {
     by_past : (x : Source) (w : Word) (b : ℕ × ℕ) → Has (first_source s ∷ []) x → Has x.words w → Has w b → ⊥
     by_past x w b (inl e) m n = empty w b (subst (λ (y : Source). Has y.words w) (sym e) m) n
     by_past x w b (inr h) m n = absurd h
+
+-- all positions of a document
+pub covers_all : (ps : List (ℕ × ℕ)) (n m q : ℕ) → ps ≡ (0, n) ∷ [] → n ≤ m → Covers ps q → q ≤ m
+covers_all ps n m q is le h = by (subst (λ (xs : List (ℕ × ℕ)). Covers xs q) is h)
+  where
+    by : Covers ((0, n) ∷ []) q → q ≤ m
+    by (inl k) = omega (arith, k, le)
+    by (inr k) = absurd k

@@ -6,7 +6,7 @@ use Rattle.span_core.specs.Lists.{Has, AreDistinct}
 use Rattle.span_core.proofs.HasLaws.{Has-append_left, Has-append_cases, Has-map, Has-map_cases}
 use Rattle.marked_automaton.specs.Automaton.{Automaton}
 use Rattle.automaton_reading.specs.Reading.{Reach, LookUp, edges, next_sets, look_ups_asked}
-use Rattle.one_pass.specs.Held.{look_up_of, set_named}
+use Rattle.set_table.specs.Tabled.{look_up, set_at}
 use Rattle.one_pass.specs.Words.{Word, block_word}
 use Rattle.output_graph.specs.Graph.{Source}
 use Rattle.one_pass.specs.Layers.{GraphView, IsPast, numbers_of}
@@ -46,18 +46,18 @@ module _ (A : Automaton) (p : ReadingPlace) (P : Pass) where
 
     arrives_reach : (set : List ℕ) (w : Word) → Arrives Q set w → Reaches R set w
     arrives_reach set w h =
-        (h.2.0, subst (λ xs. Has xs h.2.0) (sym layer) h.2.1, ap (set_named Q.table) h.2.2 ∙ h.1, h.2.3)
+        (h.2.0, subst (λ xs. Has xs h.2.0) (sym layer) h.2.1, ap (set_at Q.table.sets) h.2.2 ∙ h.1, h.2.3)
 
     set_next : (set : List ℕ) → Has (sets_of R) set → HasNext Q set
     set_next set h =
-        let x = Has-map_cases (λ (x : Source). set_named Q.table x.set) g.layer set h in
+        let x = Has-map_cases (λ (x : Source). set_at Q.table.sets x.set) g.layer set h in
         (x.0.set, x.2, Has-map (λ (x : Source). x.set) Q.graph.next x.0 (subst (λ xs. Has xs x.0) layer x.1))
 
     next_set : (set : List ℕ) → HasNext Q set → Has (sets_of R) set
     next_set set h =
         let x = Has-map_cases (λ (x : Source). x.set) Q.graph.next h.0 h.2 in
-        subst (Has (sets_of R)) (ap (set_named Q.table) x.2 ∙ h.1)
-        (Has-map (λ (x : Source). set_named Q.table x.set) g.layer x.0 (subst (λ xs. Has xs x.0) (sym layer) x.1))
+        subst (Has (sets_of R)) (ap (set_at Q.table.sets) x.2 ∙ h.1)
+        (Has-map (λ (x : Source). set_at Q.table.sets x.set) g.layer x.0 (subst (λ xs. Has xs x.0) (sym layer) x.1))
 
     pub place_read : HasRead A (p ∷ []) P R
     place_read = record {
@@ -73,7 +73,7 @@ module _ (A : Automaton) (p : ReadingPlace) (P : Pass) where
         there : (set : List ℕ) (w : Word) → Reaches R set w → (from : List ℕ) × (u v : Word) × Reaches P from u × Leads A (p ∷ []) from v set × (u ++ v ≡ w)
         there set w h =
             let l = (all.words set w).0 (reach_arrives set w h) in (
-              set_named P.table l.0.set,
+              set_at P.table.sets l.0.set,
               l.5,
               block_word p.at l.2.marks,
               (l.0, l.1, refl, l.6),
@@ -101,12 +101,12 @@ module _ (A : Automaton) (p : ReadingPlace) (P : Pass) where
         set_there set h =
             let l = (all.sets set).0 (set_next set h) in
             subst (Has (next_sets A (sets_of P) p.ask)) l.4
-            (has_next A (sets_of P) p.ask (set_named P.table l.0.set) l.2 (Has-map (λ (x : Source). set_named P.table x.set) P.graph.layer l.0 l.1) l.3)
+            (has_next A (sets_of P) p.ask (set_at P.table.sets l.0.set) l.2 (Has-map (λ (x : Source). set_at P.table.sets x.set) P.graph.layer l.0 l.1) l.3)
 
         set_back : (set : List ℕ) → Has (next_sets A (sets_of P) p.ask) set → Has (sets_of R) set
         set_back set h =
             let c = next_cases A (sets_of P) p.ask set h in
-            let x = Has-map_cases (λ (x : Source). set_named P.table x.set) P.graph.layer c.0 c.1 in
+            let x = Has-map_cases (λ (x : Source). set_at P.table.sets x.set) P.graph.layer c.0 c.1 in
             next_set set ((all.sets set).1 (x.0, x.1, c.2, subst (λ s. Has (edges A s p.ask) c.2) (sym x.2) c.3, c.4))
 
         grown : HasGrown P.table Q.table (sets_met A (sets_of P) (p.ask ∷ [])) (look_ups_asked A (sets_of P) (p.ask ∷ []))
@@ -138,9 +138,9 @@ module _ (A : Automaton) (p : ReadingPlace) (P : Pass) where
     }
       where
         past : IsPast g.layer later
-        past x w b h hw hb = by ((all.words (set_named Q.table x.set) w).0 (reach_arrives (set_named Q.table x.set) w (x, h, refl, hw)))
+        past x w b h hw hb = by ((all.words (set_at Q.table.sets x.set) w).0 (reach_arrives (set_at Q.table.sets x.set) w (x, h, refl, hw)))
           where
-            by : LeadsWith A p P P.graph.layer (set_named Q.table x.set) w → b.0 < later
+            by : LeadsWith A p P P.graph.layer (set_at Q.table.sets x.set) w → b.0 < later
             by l = elim (Has-append_cases l.5 (block_word p.at l.2.marks) b (subst (λ v. Has v b) (sym l.7) hb)) [
               | inl old ↦ let k = r.past l.0 l.5 b l.1 l.6 old in omega (arith, k, le)
               | inr new ↦ blocks l.0 l.2 b l.1 l.3 new
@@ -152,7 +152,7 @@ module _ (A : Automaton) (p : ReadingPlace) (P : Pass) where
   abbrev pub AllStay : Type 0
   AllStay =
       (x : Source) → Has P.graph.layer x →
-      Has P.table.look_ups (look_up_of P.table x.set p.ask) × (source_edges A p P x ≡ record { marks = 0; to = set_named P.table x.set } ∷ [])
+      Has P.table.look_ups (look_up P.table x.set p.ask) × (source_edges A p P x ≡ record { marks = 0; to = set_at P.table.sets x.set } ∷ [])
 
   pub stays_read : AllStay → HasRead A (p ∷ []) P P
   stays_read stays = record {
@@ -181,8 +181,8 @@ module _ (A : Automaton) (p : ReadingPlace) (P : Pass) where
     rise = omega arith;
   }
     where
-      one : (x : Source) → Has P.graph.layer x → (e : Reach) → Has (source_edges A p P x) e → (e.marks ≡ 0) × (e.to ≡ set_named P.table x.set)
-      one x h e k = elim (subst (λ es. Has es e) (stays x h).1 k) as (λ _. (e.marks ≡ 0) × (e.to ≡ set_named P.table x.set)) [
+      one : (x : Source) → Has P.graph.layer x → (e : Reach) → Has (source_edges A p P x) e → (e.marks ≡ 0) × (e.to ≡ set_at P.table.sets x.set)
+      one x h e k = elim (subst (λ es. Has es e) (stays x h).1 k) as (λ _. (e.marks ≡ 0) × (e.to ≡ set_at P.table.sets x.set)) [
         | inl i ↦ (ap (λ (r : Reach). r.marks) (sym i), ap (λ (r : Reach). r.to) (sym i))
         | inr n ↦ absurd n
       ]
@@ -198,13 +198,13 @@ module _ (A : Automaton) (p : ReadingPlace) (P : Pass) where
 
       set_there : (set : List ℕ) → Has (sets_of P) set → Has (next_sets A (sets_of P) p.ask) set
       set_there set h =
-          let x = Has-map_cases (λ (x : Source). set_named P.table x.set) P.graph.layer set h in
+          let x = Has-map_cases (λ (x : Source). set_at P.table.sets x.set) P.graph.layer set h in
           has_next A (sets_of P) p.ask set (record { marks = 0; to = set }) h
           (subst (λ es. Has es (record { marks = 0; to = set })) (sym (subst (λ s. edges A s p.ask ≡ record { marks = 0; to = s } ∷ []) x.2 (stays x.0 x.1).1)) (inl refl))
 
       set_back : (set : List ℕ) → Has (next_sets A (sets_of P) p.ask) set → Has (sets_of P) set
       set_back set h =
           let c = next_cases A (sets_of P) p.ask set h in
-          let x = Has-map_cases (λ (x : Source). set_named P.table x.set) P.graph.layer c.0 c.1 in
+          let x = Has-map_cases (λ (x : Source). set_at P.table.sets x.set) P.graph.layer c.0 c.1 in
           let o = one x.0 x.1 c.2 (subst (λ s. Has (edges A s p.ask) c.2) (sym x.2) c.3) in
-          subst (Has (sets_of P)) (sym o.1 ∙ c.4) (Has-map (λ (x : Source). set_named P.table x.set) P.graph.layer x.0 x.1)
+          subst (Has (sets_of P)) (sym o.1 ∙ c.4) (Has-map (λ (x : Source). set_at P.table.sets x.set) P.graph.layer x.0 x.1)

@@ -8,35 +8,28 @@ use Rattle.automaton_reading.specs.Reading.{LookUp, edges_K, ended, look_ups_ask
 use Rattle.set_table.specs.declared.fault.TableFault.{TableFault}
 use Rattle.set_table.specs.declared.fault.TableFault.TheVariants.{Full, OutOfMemory}
 use Rattle.set_table.specs.Tabled.{IsTabled, Tabled}
-use Rattle.one_pass.specs.Held.{TableView, weight_of}
 use Rattle.one_pass.specs.Layers.{GraphView, first_layer}
 use Rattle.one_pass.specs.Builds.{IsNew, build, started}
 use Rattle.one_pass.specs.Faults.{IsFaultAt, IsFaultOf, IsReadFault}
 use Rattle.one_pass.specs.Places.{ReadingPlace, AreReadWords, asks, end_at, is_touched, parts_places, places, places_before, sets_met}
-use Rattle.one_pass.specs.Passes.{Pass, pass, sets_of, IsReady, HasEnded, HasKept, HasRead, HasStopped, HasStoppedAt, Stop}
+use Rattle.one_pass.specs.Passes.{Pass, pass, sets_of, IsReady, HasEnded, HasKept, HasRead, HasStopped, HasStoppedAt, Stop, weight_of}
 use Rattle.one_pass.proofs.Composing.{excess_grown, ready_distinct, look_ups_first, look_ups_then, stopped_at}
 use Rattle.one_pass.proofs.Faulting.{then_stopped}
-use Rattle.one_pass.specs.Seen.{held}
 use Rattle.one_pass.proofs.PartLaws.{before_end, parts_all}
 use Rattle.one_pass.proofs.Weighing.{held_weighs}
 use Rattle.one_pass.proofs.Whole.{excess_weight, front_sets, look_ups_of_front, started_ready, stopped_steps, whole_cells, whole_look_ups, whole_steps, whole_words}
 
 -- the pass before its first place, as the code has it
-pub start_is : (t : TableView) (g : GraphView) (set before after : ℕ) → g ≡ first_layer set → set ≡ 0 → after ≡ before + 1 → started t before ≡ pass t g after
+pub start_is : (t : Tabled) (g : GraphView) (set before after : ℕ) → g ≡ first_layer set → set ≡ 0 → after ≡ before + 1 → started t before ≡ pass t g after
 start_is t g set before after e zero one =
     ap (λ s. pass t (first_layer s) (before + 1)) (sym zero) ∙ (ap (λ h. pass t h (before + 1)) (sym e) ∙ ap (pass t g) (sym one))
 
 -- nothing has been done with the table
-pub new_kept : (t : TableView) → IsNew t.graph t → HasKept t t
-new_kept t new = record {
-  graph = refl;
-  limit = refl;
-  sets = ([], append-nil t.sets);
-  sound = (started_ready t.graph (λ i. false) [] t new 0).sound;
-}
+pub new_kept : (t : Tabled) → IsTabled t → HasKept t t
+new_kept t tabled = record { graph = refl; limit = refl; sets = ([], append-nil t.sets); sound = tabled }
 
 module _ (d : List ℕ) (parts : List (ℕ × ℕ)) (apart : AreApart parts) (within : (q : ℕ) → Covers parts q → q ≤ length d)
-    (t : TableView) (new : IsNew t.graph t) (before : ℕ) (S : Pass) (start : started t before ≡ S) where
+    (t : Tabled) (new : IsNew t.graph t) (before : ℕ) (S : Pass) (start : started t before ≡ S) where
   abbrev K : ℕ → Bool
   K = is_touched parts
 
@@ -48,6 +41,9 @@ module _ (d : List ℕ) (parts : List (ℕ × ℕ)) (apart : AreApart parts) (wi
       let e : 0 + length d ≡ length d = omega arith in
       ap (λ qs. qs ++ end_at (length d) ∷ []) (parts_all parts d apart within)
       ∙ (ap (λ j. places_before K d 0 false ++ end_at j ∷ []) (sym e) ∙ before_end K d 0 false)
+
+  pub start_ready : IsTabled t → IsReady S 0
+  start_ready tabled = subst (λ P. IsReady P 0) start (started_ready t.graph K d t new before tabled)
 
   fault_read : (e : TableFault) → IsFaultAt ps (started t before) e → IsReadFault t.graph K d t.limit e
   fault_read (Full weight) x =
@@ -110,11 +106,12 @@ module _ (d : List ℕ) (parts : List (ℕ × ℕ)) (apart : AreApart parts) (wi
       pass_cells = whole_cells t.graph K d t new before ps all Q R read_here done_here (ready_distinct Q (length d) ready)
 
       -- what was read weighs no more than the table's limit
-      pub pass_weighs : (u : Tabled) → IsTabled u → R.table ≡ held u → weight_K t.graph d K ≤ t.limit
-      pass_weighs u tabled same =
+      pub pass_weighs : weight_K t.graph d K ≤ t.limit
+      pass_weighs =
           let look_ups = look_ups_read t.graph d K in
           let sets = map (λ (r : LookUp). r.set) look_ups in
-          let graph : u.graph ≡ t.graph = ap (λ (v : TableView). v.graph) (sym same) ∙ (done_here.table.graph ∙ read_here.table.graph) in
-          let limit : u.limit ≡ t.limit = ap (λ (v : TableView). v.limit) (sym same) ∙ (done_here.table.limit ∙ read_here.table.limit) in
-          let within = held_weighs u tabled look_ups (λ look_up h. subst (λ (v : TableView). Has v.look_ups look_up) same (whole_look_ups t.graph K d t new before ps all Q R read_here done_here look_up h)) in
+          let u = R.table in
+          let graph : u.graph ≡ t.graph = done_here.table.graph ∙ read_here.table.graph in
+          let limit : u.limit ≡ t.limit = done_here.table.limit ∙ read_here.table.limit in
+          let within = held_weighs u done_here.sound look_ups (whole_look_ups t.graph K d t new before ps all Q R read_here done_here) in
           subst (λ l. weight_of t.graph sets look_ups ≤ l) limit (subst (λ (A : Automaton). weight_of A sets look_ups ≤ u.limit) graph within)

@@ -1,20 +1,23 @@
 -- A layer that is stepped by a program of its sets' edges has been read.
 use Rattle.std.proofs.Common.{◌≡◌, ℕ, zero, suc, ◌+◌, ◌<◌, List, [], ◌∷◌, length, drop, take, Some, inl, refl, sym, ap, subst, arith, ◌∙◌, add-one}
 use Rattle.std.specs.Prelude.{slice_get}
-use Rattle.std.proofs.lemmas.List.{append-nil, length-map}
+use Rattle.std.proofs.lemmas.List.{length-map}
 use Rattle.std.proofs.lemmas.Option.{slice_get_within}
 use Rattle.span_core.specs.Lists.{Has}
 use Rattle.span_core.proofs.HasLaws.{Has-map}
 use Rattle.automaton_reading.specs.Reading.{byte_read}
-use Rattle.set_table.specs.Tabled.{Tabled}
+use Rattle.set_table.specs.Tabled.{Tabled, look_up}
+use Rattle.set_table.proofs.OnceLaws.{once_is_same}
 use Rattle.output_graph.specs.Graph.{Graph, IsStepped, Source, sets_of, sources, targets}
 use Rattle.output_graph.specs.Programs.{AreStepped, IsRun}
 use Rattle.output_graph.specs.Source.{Edges}
 use Rattle.one_pass.specs.Known.{AreLookUps, AreStill}
+use Rattle.one_pass.specs.Layers.{numbers_of}
 use Rattle.one_pass.specs.Passes.{HasRead, IsReady, pass}
 use Rattle.one_pass.specs.Places.{byte_at}
-use Rattle.one_pass.specs.Seen.{held, stepping_from, whole}
+use Rattle.one_pass.specs.Seen.{stepping_from, whole}
 use Rattle.one_pass.specs.Turned.{HasTurned, IsTurned}
+use Rattle.one_pass.proofs.Faulting.{ready_later}
 use Rattle.one_pass.proofs.GraphBridge.{own_cost, turned_none}
 use Rattle.one_pass.proofs.PlaceLaws.{block_at, stays_read}
 use Rattle.one_pass.proofs.Sources.{stepping_begun, stepping_turned}
@@ -39,34 +42,26 @@ drop_rest (x ∷ xs) zero s rest e = later x s xs rest e
     later x y xs ys e = cc
 drop_rest (x ∷ xs) (suc k) s rest e = drop_rest xs k s rest e
 
-module _ (T : Tabled) (G0 : Graph) (n0 at b : ℕ) (ready : IsReady (pass (held T) (whole G0) n0) at) where
+module _ (T : Tabled) (G0 : Graph) (n0 at b : ℕ) (ready : IsReady (pass T (whole G0) n0) at) where
   fresh : IsTurned (sources G0) 0 at G0
   fresh = turned_none G0 at ready.fresh.0 ready.past
 
   -- the first so many sources have been stepped
   abbrev SoFar : ℕ → Graph → ℕ → Type 0
   SoFar k G n =
-      IsStepping T.graph (byte_at at b) (pass (held T) (whole G0) n0) (take k (sources G0)) (pass (held T) (stepping_from (sources G0) G) n)
+      IsStepping T.graph (byte_at at b) (pass T (whole G0) n0) (take k (sources G0)) (pass T (stepping_from (sources G0) G) n)
       × IsTurned (sources G0) k at G
 
-  one_more : (k s : ℕ) (group : Edges) (G H : Graph) (n m : ℕ) → slice_get (sets_of G0.layer) k ≡ Some s → Rattle.one_pass.specs.Known.IsLookUp (held T) b s group → SoFar k G n →
+  one_more : (k s : ℕ) (group : Edges) (G H : Graph) (n m : ℕ) → slice_get (sets_of G0.layer) k ≡ Some s → Rattle.one_pass.specs.Known.IsLookUp T b s group → SoFar k G n →
       IsStepped G at group H → Rattle.output_graph.specs.Graph.IsCost (length group) (length G.cells) (length H.cells) n m → Rattle.output_graph.specs.Graph.AreApart (targets H) → SoFar (k + 1) H m
   one_more k s group G H n m is look_up past stepped cost apart =
       let w : k < length (sets_of G0.layer) = slice_get_within (sets_of G0.layer) k s is in
       let l : length (sets_of G0.layer) ≡ length G0.layer = length-map G0.layer (λ (p : ℕ × ℕ). p.0) in
       let turned : HasTurned T T s (byte_read b) at G H n m = record {
         middle = n;
-        made = record {
-          graph = refl;
-          limit = refl;
-          kept = ([], append-nil T.sets);
-          sets = λ set h. inl h;
-          sound = ready.sound;
-          holds = look_up.asked;
-          look_ups = inl (refl, omega arith);
-        };
+        made = record { is = once_is_same T (look_up T s (byte_read b)) look_up.asked; tabled = ready.sound; steps = omega arith };
         by = look_up.by;
-        numbered = look_up.numbered;
+        edges = look_up.edges;
         stepped = subst (λ (es : Edges). IsStepped G at es H) (sym look_up.are) stepped;
         cost = subst (λ j. Rattle.one_pass.specs.Layers.HasCost j (length G.cells) (length H.cells) n m)
             (ap length (sym look_up.are) ∙ length-map look_up.by (λ (e : Rattle.span_core.specs.declared.edge.Edge.Edge). (e.marks, e.to)))
@@ -75,7 +70,7 @@ module _ (T : Tabled) (G0 : Graph) (n0 at b : ℕ) (ready : IsReady (pass (held 
       stepping_turned T G0 n0 at ready k T G n (omega arith) past.1 s (subst (λ (xs : List ℕ). slice_get xs k ≡ Some s) (fresh.sets ∙ sym past.1.sets) is)
       (byte_at at b) refl past.0 T H m turned apart.distinct
 
-  going : (groups : List Edges) (sets : List ℕ) (k : ℕ) (G H : Graph) (n m : ℕ) → drop k (sets_of G0.layer) ≡ sets → AreLookUps (held T) b sets groups → SoFar k G n → AreStepped G at groups H n m →
+  going : (groups : List Edges) (sets : List ℕ) (k : ℕ) (G H : Graph) (n m : ℕ) → drop k (sets_of G0.layer) ≡ sets → AreLookUps T b sets groups → SoFar k G n → AreStepped G at groups H n m →
       (j : ℕ) × SoFar j H m
   going [] sets k G H n m is look_ups past (same, count) = (k, subst (λ j. SoFar k H j) count (subst (λ (X : Graph). SoFar k X n) same past))
   going (group ∷ groups) [] k G H n m is look_ups past run = absurd look_ups
@@ -83,7 +78,7 @@ module _ (T : Tabled) (G0 : Graph) (n0 at b : ℕ) (ready : IsReady (pass (held 
       going groups sets (k + 1) M H middle m (ap (λ j. drop j (sets_of G0.layer)) (add-one k) ∙ drop_rest (sets_of G0.layer) k s sets is) look_ups.1
       (one_more k s group G M n middle (drop_first (sets_of G0.layer) k s sets is) look_ups.0 past stepped cost apart) later
 
-  module _ (groups : List Edges) (H : Graph) (m : ℕ) (look_ups : AreLookUps (held T) b (sets_of G0.layer) groups) (run : IsRun G0 at groups H n0 m) where
+  module _ (groups : List Edges) (H : Graph) (m : ℕ) (look_ups : AreLookUps T b (sets_of G0.layer) groups) (run : IsRun G0 at groups H n0 m) where
     all : (j : ℕ) × SoFar j run.0 m
     all = going groups (sets_of G0.layer) 0 G0 run.0 n0 m refl look_ups (stepping_begun T G0 n0 at ready (byte_at at b)) run.1
 
@@ -94,20 +89,25 @@ module _ (T : Tabled) (G0 : Graph) (n0 at b : ℕ) (ready : IsReady (pass (held 
         let d = Rattle.one_pass.proofs.GraphBridge.turned_count (sources G0) all.0 at run.0 all.1.1 in
         omega arith
 
-    pub run_read : HasRead T.graph (byte_at at b ∷ []) (pass (held T) (whole G0) n0) (pass (held T) (whole H) m)
+    pub run_read : HasRead T.graph (byte_at at b ∷ []) (pass T (whole G0) n0) (pass T (whole H) m)
     run_read =
-        turns_read (byte_at at b) (pass (held T) (whole G0) n0) at all.0 ready (pass (held T) (stepping_from (sources G0) run.0) m) all.1.0 every
+        turns_read (byte_at at b) (pass T (whole G0) n0) at all.0 ready (pass T (stepping_from (sources G0) run.0) m) all.1.0 every
         (whole H) run.2.sources (ap length run.2.cells)
 
-    pub run_ready : IsReady (pass (held T) (whole H) m) (at + 1)
+    pub run_ready : IsReady (pass T (whole H) m) (at + 1)
     run_ready =
-        turns_ready (byte_at at b) (pass (held T) (whole G0) n0) at all.0 ready (pass (held T) (stepping_from (sources G0) run.0) m) all.1.0 every
+        turns_ready (byte_at at b) (pass T (whole G0) n0) at all.0 ready (pass T (stepping_from (sources G0) run.0) m) all.1.0 every
         (whole H) run.2.sources (ap length run.2.cells)
         (at + 1) (omega arith) (λ x e c h k w. (let same = block_at at e.marks c w in omega (arith, same)))
         run.2.stepped run.2.targets refl
 
   -- where each set is still, nothing happens
-  pub still_read : AreStill (held T) b (sets_of G0.layer) → HasRead T.graph (byte_at at b ∷ []) (pass (held T) (whole G0) n0) (pass (held T) (whole G0) n0)
+  pub still_read : AreStill T b (sets_of G0.layer) → HasRead T.graph (byte_at at b ∷ []) (pass T (whole G0) n0) (pass T (whole G0) n0)
   still_read still =
-      stays_read T.graph (byte_at at b) (pass (held T) (whole G0) n0)
-      (λ x h. (still x.set (subst (λ (xs : List ℕ). Has xs x.set) (sym fresh.sets) (Has-map (λ (y : Source). y.set) (sources G0) x h))).1)
+      stays_read T.graph (byte_at at b) (pass T (whole G0) n0)
+      (λ x h.
+      let st = (still x.set (subst (λ (xs : List ℕ). Has xs x.set) (sym fresh.sets) (Has-map (λ (y : Source). y.set) (sources G0) x h))).1 in
+      (st.asked, st.itself))
+
+  pub still_ready : IsReady (pass T (whole G0) n0) (at + 1)
+  still_ready = ready_later (pass T (whole G0) n0) at (at + 1) ready (omega arith)

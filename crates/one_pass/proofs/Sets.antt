@@ -10,7 +10,7 @@ use Rattle.marked_automaton.proofs.Passing.{has_flat_map, flat_map_cases}
 use Rattle.automaton_reading.specs.Reading.{Question, Reach, LookUp, edges, next_sets, once, look_up_edges, look_up_same, look_ups_asked}
 use Rattle.automaton_reading.proofs.Matching.{cons_sum, match_sum, once_has, has_once, once_distinct, map_distinct}
 use Rattle.automaton_reading.proofs.MeasureLaws.{same_bytes, bytes_itself, same_look_up, look_up_itself}
-use Rattle.one_pass.specs.Held.{weight_of}
+use Rattle.one_pass.specs.Passes.{weight_of}
 use Rattle.one_pass.specs.Places.{sets_after, sets_met, edges_read}
 
 -- each of ys is one of xs

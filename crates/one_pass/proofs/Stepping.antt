@@ -2,37 +2,40 @@
 use Rattle.std.proofs.Common.{◌≡◌, ℕ, suc, ◌+◌, ◌*◌, ◌≤◌, ◌<◌, ◌⊎◌, List, [], ◌∷◌, ◌++◌, length, get_or, map, inl, inr, refl, sym, ap, subst, arith, ◌∙◌, append_assoc, length-append}
 use Rattle.std.specs.Prelude.{◌↔◌}
 use Rattle.std.specs.List.{sum_by}
-use Rattle.std.proofs.lemmas.List.{append-nil, get_or_append_left}
+use Rattle.std.specs.Str.{bytes_eq}
+use Rattle.std.proofs.lemmas.List.{append-nil, length-map}
 use Rattle.std.proofs.lemmas.List.Sums.{sum_by-append}
 use Rattle.span_core.specs.Lists.{Has, AreDistinct}
 use Rattle.span_core.proofs.HasLaws.{Has-append_left, Has-append_right, Has-append_cases, Has-map, Has-map_cases}
 use Rattle.span_core.specs.declared.edge.Edge.{Edge}
 use Rattle.marked_automaton.specs.Automaton.{Automaton, size}
-use Rattle.automaton_reading.specs.Reading.{Question, byte_read, rest_taken, ended, Reach, LookUp, edges, next_sets, look_up_edges, look_ups_asked}
-use Rattle.automaton_reading.proofs.Matching.{cons_sum}
-use Rattle.one_pass.specs.Held.{TableView, IsSound, AreNumbered, HasMade, IsRefused, IsTooHeavy, look_up_of, set_named, targets, targets_of, weight_of}
+use Rattle.automaton_reading.specs.Reading.{Question, byte_read, rest_taken, ended, Reach, LookUp, edges, next_sets, once as once_each, look_up_edges, look_up_same, look_ups_asked}
+use Rattle.automaton_reading.proofs.Matching.{cons_sum, once_has}
+use Rattle.automaton_reading.proofs.MeasureLaws.{bytes_itself, look_up_itself, same_bytes, same_look_up}
+use Rattle.set_table.specs.Tabled.{HasEdges, IsTabled, Tabled, edge_named, look_up, look_ups_weight, once_asked, reached, set_at, weight}
+use Rattle.set_table.proofs.OnceLaws.{HoldsOnce, holds_once, once_asked_apart, once_set, once_sets_count, once_stay, once_was}
 use Rattle.one_pass.specs.Words.{Word, block_word}
 use Rattle.output_graph.specs.Graph.{Source}
 use Rattle.one_pass.specs.Layers.{GraphView, HasWord, HasCost, Brings, numbers_of}
+use Rattle.one_pass.specs.Turned.{HasLookedUp}
 use Rattle.one_pass.specs.Places.{ReadingPlace, edges_read, sets_met, sets_on}
-use Rattle.one_pass.specs.Passes.{Pass, pass, sets_of, stop, IsReady, HasGrown, HasStoppedAt, IsExcess}
+use Rattle.one_pass.specs.Passes.{Pass, pass, sets_of, stop, IsReady, HasGrown, HasStoppedAt, IsExcess, weight_of}
 use Rattle.one_pass.specs.Making.{edges_to, making_of, making_read}
 use Rattle.one_pass.proofs.Making.{leads_once, led_twice, lone_edge, making_step}
-use Rattle.one_pass.proofs.Sets.{Covers, has_next, sum_map, weight_covers}
-use Rattle.one_pass.proofs.Numbered.{edge_reach, reach_edge, numbered_length, named_there}
+use Rattle.one_pass.proofs.Sets.{Covers, has_next, sum_covers, sum_map}
 use Rattle.one_pass.proofs.Composing.{grown_length, grown_more, grown_named, on_met}
 
 -- a set of the next layer, and a word of it
 abbrev pub Arrives : Pass → List ℕ → Word → Type 0
-Arrives Q set w = (s : ℕ) × (set_named Q.table s ≡ set) × HasWord Q.graph.next s w
+Arrives Q set w = (s : ℕ) × (set_at Q.table.sets s ≡ set) × HasWord Q.graph.next s w
 
 abbrev pub HasNext : Pass → List ℕ → Type 0
-HasNext Q set = (s : ℕ) × (set_named Q.table s ≡ set) × Has (numbers_of Q.graph.next) s
+HasNext Q set = (s : ℕ) × (set_at Q.table.sets s ≡ set) × Has (numbers_of Q.graph.next) s
 
 module _ (A : Automaton) (p : ReadingPlace) (P : Pass) where
   -- the edges of a source
   abbrev pub source_edges : Source → List Reach
-  source_edges x = edges A (set_named P.table x.set) p.ask
+  source_edges x = edges A (set_at P.table.sets x.set) p.ask
 
   -- an edge of one of these sources leads to the set
   abbrev pub LeadsOn : List Source → List ℕ → Type 0
@@ -49,15 +52,15 @@ module _ (A : Automaton) (p : ReadingPlace) (P : Pass) where
 
   -- the making edges of these sources
   abbrev pub making_by : List Source → ℕ
-  making_by done = sum_by (λ (x : Source). making_of A (sets_of P) p.ask (set_named P.table x.set)) done
+  making_by done = sum_by (λ (x : Source). making_of A (sets_of P) p.ask (set_at P.table.sets x.set)) done
 
   -- these sources have been asked, and the graph has taken what came
   pub record IsSpending (done : List Source) (Q : Pass) : Type 0 where
     pub layer : Q.graph.layer ≡ P.graph.layer
     pub stepped : Q.graph.stepped ≡ length done
     pub table : HasGrown P.table Q.table (sets_on A (sets_of P) p.ask) (map (λ set. let r : LookUp = record { set = set; ask = p.ask } in r) (sets_of P))
-    pub holds : (x : Source) → Has done x → Has Q.table.look_ups (look_up_of P.table x.set p.ask)
-    pub sound : IsSound Q.table
+    pub holds : (x : Source) → Has done x → Has Q.table.look_ups (look_up P.table x.set p.ask)
+    pub sound : IsTabled Q.table
     pub steps :
         Q.steps + Q.graph.live + length P.table.look_ups * size A
         ≤ P.steps + P.graph.live + 3 * length done + 3 * edges_of done + length Q.table.look_ups * size A
@@ -80,9 +83,9 @@ module _ (A : Automaton) (p : ReadingPlace) (P : Pass) where
       let one = cons_sum f x [] in
       omega (arith, sum_by-append f done (x ∷ []), one)
 
-  snoc_making : (done : List Source) (x : Source) → making_by (done ++ x ∷ []) ≡ making_by done + making_of A (sets_of P) p.ask (set_named P.table x.set)
+  snoc_making : (done : List Source) (x : Source) → making_by (done ++ x ∷ []) ≡ making_by done + making_of A (sets_of P) p.ask (set_at P.table.sets x.set)
   snoc_making done x =
-      let f : Source → ℕ = λ y. making_of A (sets_of P) p.ask (set_named P.table y.set) in
+      let f : Source → ℕ = λ y. making_of A (sets_of P) p.ask (set_at P.table.sets y.set) in
       let one = cons_sum f x [] in
       omega (arith, sum_by-append f done (x ∷ []), one)
 
@@ -98,26 +101,26 @@ module _ (A : Automaton) (p : ReadingPlace) (P : Pass) where
       let look_ups : List LookUp = asked_look_ups in
       ap (sum_by (look_up_edges A)) (append-nil look_ups)
       ∙ (sum_map (look_up_edges A) (λ set. let r : LookUp = record { set = set; ask = p.ask } in r) (sets_of P)
-      ∙ sum_map (λ set. length (edges A set p.ask)) (λ (x : Source). set_named P.table x.set) P.graph.layer)
+      ∙ sum_map (λ set. length (edges A set p.ask)) (λ (x : Source). set_at P.table.sets x.set) P.graph.layer)
 
   pub place_making : making_read A (sets_of P) (p.ask ∷ []) ≡ making_by P.graph.layer
   place_making =
-      let same = sum_map (making_of A (sets_of P) p.ask) (λ (x : Source). set_named P.table x.set) P.graph.layer in
+      let same = sum_map (making_of A (sets_of P) p.ask) (λ (x : Source). set_at P.table.sets x.set) P.graph.layer in
       omega (arith, same)
 
   -- where each set of the layer was asked, what reading this place asks for is there
-  pub look_ups_held : (look_ups : List LookUp) → ((x : Source) → Has P.graph.layer x → Has look_ups (look_up_of P.table x.set p.ask)) → Covers look_ups (look_ups_asked A (sets_of P) (p.ask ∷ []))
+  pub look_ups_held : (look_ups : List LookUp) → ((x : Source) → Has P.graph.layer x → Has look_ups (look_up P.table x.set p.ask)) → Covers look_ups (look_ups_asked A (sets_of P) (p.ask ∷ []))
   look_ups_held look_ups holds look_up h =
       let look_up_at : List ℕ → LookUp = λ set. record { set = set; ask = p.ask } in
       let s = Has-map_cases look_up_at (sets_of P) look_up (subst (λ (rs : List LookUp). Has rs look_up) (append-nil asked_look_ups) h) in
-      let x = Has-map_cases (λ (x : Source). set_named P.table x.set) P.graph.layer s.0 s.1 in
+      let x = Has-map_cases (λ (x : Source). set_at P.table.sets x.set) P.graph.layer s.0 s.1 in
       subst (Has look_ups) (ap look_up_at x.2 ∙ s.2) (holds x.0 x.1)
 
   pub met_here : Covers (sets_met A (sets_of P) (p.ask ∷ [])) (sets_on A (sets_of P) p.ask)
   met_here = on_met A (sets_of P) p.ask
 
   -- what was asked for here
-  grown_at : (t u : TableView) → HasGrown t u (sets_on A (sets_of P) p.ask) asked_look_ups → HasGrown t u (sets_on A (sets_of P) p.ask) (look_ups_asked A (sets_of P) (p.ask ∷ []))
+  grown_at : (t u : Tabled) → HasGrown t u (sets_on A (sets_of P) p.ask) asked_look_ups → HasGrown t u (sets_on A (sets_of P) p.ask) (look_ups_asked A (sets_of P) (p.ask ∷ []))
   grown_at t u g =
       grown_more t u (sets_on A (sets_of P) p.ask) (sets_on A (sets_of P) p.ask) asked_look_ups (look_ups_asked A (sets_of P) (p.ask ∷ [])) g (λ set h. h)
       (λ look_up h. Has-append_left asked_look_ups [] look_up h)
@@ -156,114 +159,91 @@ module _ (A : Automaton) (p : ReadingPlace) (P : Pass) where
 
   module _ (done : List Source) (Q : Pass) (x : Source) (is : P.table.graph ≡ A) (spent : IsSpending done Q) (there : Has P.graph.layer x)
       (known : x.set < length P.table.sets) where
-    pub named_before : set_named Q.table x.set ≡ set_named P.table x.set
+    pub named_before : set_at Q.table.sets x.set ≡ set_at P.table.sets x.set
     named_before = grown_named P.table Q.table (sets_on A (sets_of P) p.ask) asked_look_ups spent.table x.set known
 
     graph_is : Q.table.graph ≡ A
     graph_is = spent.table.graph ∙ is
 
     abbrev look_up_here : LookUp
-    look_up_here = look_up_of Q.table x.set p.ask
+    look_up_here = look_up Q.table x.set p.ask
 
-    set_there : Has (sets_of P) (set_named P.table x.set)
-    set_there = Has-map (λ (y : Source). set_named P.table y.set) P.graph.layer x there
+    set_there : Has (sets_of P) (set_at P.table.sets x.set)
+    set_there = Has-map (λ (y : Source). set_at P.table.sets y.set) P.graph.layer x there
 
     look_up_there : Has asked_look_ups look_up_here
     look_up_there =
         subst (λ set. Has asked_look_ups (let r : LookUp = record { set = set; ask = p.ask } in r)) (sym named_before)
-        (Has-map (λ set. let r : LookUp = record { set = set; ask = p.ask } in r) (sets_of P) (set_named P.table x.set) set_there)
+        (Has-map (λ set. let r : LookUp = record { set = set; ask = p.ask } in r) (sets_of P) (set_at P.table.sets x.set) set_there)
 
-    target_there : (set : List ℕ) → Has (targets Q.table.graph look_up_here) set → Has (sets_on A (sets_of P) p.ask) set
-    target_there set h = by p.ask (subst (λ s. Has (targets_of p.ask (edges A s p.ask)) set) named_before (subst (λ B. Has (targets_of p.ask (edges B (set_named Q.table x.set) p.ask)) set) graph_is h))
+    target_there : (set : List ℕ) → Has (reached Q.table.graph (set_at Q.table.sets x.set) p.ask) set → Has (sets_on A (sets_of P) p.ask) set
+    target_there set h = by p.ask (subst (λ s. Has (reached A s p.ask) set) named_before (subst (λ B. Has (reached B (set_at Q.table.sets x.set) p.ask) set) graph_is h))
       where
-        led : (a : Question) → Has (map (λ (e : Reach). e.to) (edges A (set_named P.table x.set) a)) set → Has (next_sets A (sets_of P) a) set
+        led : (a : Question) → Has (map (λ (e : Reach). e.to) (edges A (set_at P.table.sets x.set) a)) set → Has (next_sets A (sets_of P) a) set
         led a h =
-            let e = Has-map_cases (λ (e : Reach). e.to) (edges A (set_named P.table x.set) a) set h in
-            subst (Has (next_sets A (sets_of P) a)) e.2 (has_next A (sets_of P) a (set_named P.table x.set) e.0 set_there e.1)
+            let e = Has-map_cases (λ (e : Reach). e.to) (edges A (set_at P.table.sets x.set) a) set h in
+            subst (Has (next_sets A (sets_of P) a)) e.2 (has_next A (sets_of P) a (set_at P.table.sets x.set) e.0 set_there e.1)
 
-        by : (a : Question) → Has (targets_of a (edges A (set_named P.table x.set) a)) set → Has (sets_on A (sets_of P) a) set
+        by : (a : Question) → Has (reached A (set_at P.table.sets x.set) a) set → Has (sets_on A (sets_of P) a) set
         by (byte_read b) h = led (byte_read b) h
         by rest_taken h = led rest_taken h
         by ended h = h
 
-    module _ (t : TableView) (n : ℕ) (made : HasMade Q.table t look_up_here Q.steps n) where
+    module _ (t : Tabled) (n : ℕ) (made : HasLookedUp Q.table t look_up_here Q.steps n) where
+      once_here : HoldsOnce Q.table t look_up_here
+      once_here = holds_once Q.table t look_up_here made.is
+
       kept_length : length Q.table.sets ≤ length t.sets
-      kept_length = omega (arith, ap length made.kept.1, length-append Q.table.sets made.kept.0)
+      kept_length = once_sets_count Q.table t look_up_here once_here
 
-      pub named_now : (s : ℕ) → s < length Q.table.sets → set_named t s ≡ set_named Q.table s
-      named_now s h =
-          ap (λ (xs : List (List ℕ)). get_or xs s []) (sym made.kept.1) ∙ get_or_append_left Q.table.sets made.kept.0 [] s h
-
-      -- a look-up that was there stays
-      made_stay : (look_up : LookUp) → Has Q.table.look_ups look_up → Has t.look_ups look_up
-      made_stay = by made.look_ups
-        where
-          by :
-              ((t.look_ups ≡ Q.table.look_ups) × (n ≤ Q.steps + 1))
-              ⊎ (¬ Has Q.table.look_ups look_up_here × (t.look_ups ≡ Q.table.look_ups ++ look_up_here ∷ []) × (n ≤ Q.steps + (1 + size Q.table.graph))) →
-              (look_up : LookUp) → Has Q.table.look_ups look_up → Has t.look_ups look_up
-          by (inl same) look_up h = subst (λ look_ups. Has look_ups look_up) (sym same.0) h
-          by (inr more) look_up h = subst (λ look_ups. Has look_ups look_up) (sym more.1) (Has-append_left Q.table.look_ups (look_up_here ∷ []) look_up h)
+      pub named_now : (s : ℕ) → s < length Q.table.sets → set_at t.sets s ≡ set_at Q.table.sets s
+      named_now s h = once_set Q.table t look_up_here once_here s h
 
       -- what was asked of one source more is there
-      made_holds : (y : Source) → Has (done ++ x ∷ []) y → Has t.look_ups (look_up_of P.table y.set p.ask)
-      made_holds y h = elim (Has-append_cases done (x ∷ []) y h) as (λ _. Has t.look_ups (look_up_of P.table y.set p.ask)) [
-        | inl old ↦ made_stay (look_up_of P.table y.set p.ask) (spent.holds y old)
-        | inr new ↦ elim new as (λ _. Has t.look_ups (look_up_of P.table y.set p.ask)) [
-          | inl e ↦ subst (λ (z : Source). Has t.look_ups (look_up_of P.table z.set p.ask)) e here
+      made_holds : (y : Source) → Has (done ++ x ∷ []) y → Has t.look_ups (look_up P.table y.set p.ask)
+      made_holds y h = elim (Has-append_cases done (x ∷ []) y h) as (λ _. Has t.look_ups (look_up P.table y.set p.ask)) [
+        | inl old ↦ once_stay Q.table t look_up_here once_here (look_up P.table y.set p.ask) (spent.holds y old)
+        | inr new ↦ elim new as (λ _. Has t.look_ups (look_up P.table y.set p.ask)) [
+          | inl e ↦ subst (λ (z : Source). Has t.look_ups (look_up P.table z.set p.ask)) e here
           | inr none ↦ absurd none
         ]
       ]
         where
-          here : Has t.look_ups (look_up_of P.table x.set p.ask)
-          here = subst (λ set. Has t.look_ups (let r : LookUp = record { set = set; ask = p.ask } in r)) named_before made.holds
+          here : Has t.look_ups (look_up P.table x.set p.ask)
+          here = subst (λ set. Has t.look_ups (let r : LookUp = record { set = set; ask = p.ask } in r)) named_before once_here.holds
 
       -- the sets and look-ups that the table has with it
       grown_here : HasGrown P.table t (sets_on A (sets_of P) p.ask) asked_look_ups
       grown_here = record {
-        graph = made.graph ∙ spent.table.graph;
-        limit = made.limit ∙ spent.table.limit;
+        graph = once_here.graph ∙ spent.table.graph;
+        limit = once_here.limit ∙ spent.table.limit;
         kept = (
-          spent.table.kept.0 ++ made.kept.0,
-          sym (append_assoc P.table.sets spent.table.kept.0 made.kept.0) ∙ (ap (λ ss. ss ++ made.kept.0) spent.table.kept.1 ∙ made.kept.1),
+          spent.table.kept.0 ++ once_here.longer.0,
+          sym (append_assoc P.table.sets spent.table.kept.0 once_here.longer.0) ∙ (ap (λ ss. ss ++ once_here.longer.0) spent.table.kept.1 ∙ sym once_here.longer.1),
         );
-        sets = λ set h. elim (made.sets set h) as (λ _. Has P.table.sets set ⊎ Has (sets_on A (sets_of P) p.ask) set) [
+        sets = λ set h. elim (once_here.sets set h) as (λ _. Has P.table.sets set ⊎ Has (sets_on A (sets_of P) p.ask) set) [
           | inl old ↦ spent.table.sets set old
           | inr new ↦ inr (target_there set new)
         ];
-        look_ups = λ look_up h. look_ups_now made.look_ups look_up h;
-        stay = λ look_up h. made_stay look_up (spent.table.stay look_up h);
+        look_ups = λ look_up h. elim (once_was Q.table t look_up_here once_here look_up h) as (λ _. Has P.table.look_ups look_up ⊎ Has asked_look_ups look_up) [
+          | inl old ↦ spent.table.look_ups look_up old
+          | inr e ↦ inr (subst (Has asked_look_ups) e look_up_there)
+        ];
+        stay = λ look_up h. once_stay Q.table t look_up_here once_here look_up (spent.table.stay look_up h);
       }
-        where
-          before_or : (look_up : LookUp) → Has (Q.table.look_ups ++ look_up_here ∷ []) look_up → Has P.table.look_ups look_up ⊎ Has asked_look_ups look_up
-          before_or look_up h = elim (Has-append_cases Q.table.look_ups (look_up_here ∷ []) look_up h) as (λ _. Has P.table.look_ups look_up ⊎ Has asked_look_ups look_up) [
-            | inl old ↦ spent.table.look_ups look_up old
-            | inr new ↦ elim new as (λ _. Has P.table.look_ups look_up ⊎ Has asked_look_ups look_up) [ inl e ↦ inr (subst (Has asked_look_ups) e look_up_there) | inr none ↦ absurd none ]
-          ]
-
-          look_ups_now :
-              ((t.look_ups ≡ Q.table.look_ups) × (n ≤ Q.steps + 1))
-              ⊎ (¬ Has Q.table.look_ups look_up_here × (t.look_ups ≡ Q.table.look_ups ++ look_up_here ∷ []) × (n ≤ Q.steps + (1 + size Q.table.graph))) →
-              (look_up : LookUp) → Has t.look_ups look_up → Has P.table.look_ups look_up ⊎ Has asked_look_ups look_up
-          look_ups_now (inl same) look_up h = spent.table.look_ups look_up (subst (λ look_ups. Has look_ups look_up) same.0 h)
-          look_ups_now (inr more) look_up h = before_or look_up (subst (λ look_ups. Has look_ups look_up) more.1 h)
 
       -- what making it took
       made_steps : n + length Q.table.look_ups * size A ≤ Q.steps + 1 + length t.look_ups * size A
-      made_steps = by made.look_ups
+      made_steps = by once_here.look_ups
         where
-          size_is : size Q.table.graph ≡ size A
-          size_is = ap size graph_is
-
           by :
-              ((t.look_ups ≡ Q.table.look_ups) × (n ≤ Q.steps + 1))
-              ⊎ (¬ Has Q.table.look_ups look_up_here × (t.look_ups ≡ Q.table.look_ups ++ look_up_here ∷ []) × (n ≤ Q.steps + (1 + size Q.table.graph))) →
+              (t.look_ups ≡ Q.table.look_ups) ⊎ ((¬ Has Q.table.look_ups look_up_here) × (t.look_ups ≡ Q.table.look_ups ++ look_up_here ∷ [])) →
               n + length Q.table.look_ups * size A ≤ Q.steps + 1 + length t.look_ups * size A
-          by (inl same) = let e = ap (λ (look_ups : List LookUp). length look_ups * size A) same.0 in omega (arith, e, same.1)
+          by (inl same) = let e = ap (λ (look_ups : List LookUp). length look_ups * size A) same in omega (arith, e, made.steps)
           by (inr more) =
               let e = ap (λ (look_ups : List LookUp). length look_ups * size A) more.1 in
               let l = ap (λ k. k * size A) (length-append Q.table.look_ups (look_up_here ∷ [])) in
-              omega (arith, e, l, more.2, size_is)
+              omega (arith, e, l, made.steps)
 
       -- the graph has taken what came
       module _ (e : ℕ) (count : e ≡ length (source_edges x)) (g : GraphView) (m : ℕ) (cost : HasCost e Q.graph.live g.live n m) where
@@ -280,7 +260,7 @@ module _ (A : Automaton) (p : ReadingPlace) (P : Pass) where
           stepped = stepped ∙ (ap suc spent.stepped ∙ (let e = snoc_length done x in omega (arith, e)));
           table = grown_here;
           holds = made_holds;
-          sound = made.sound;
+          sound = made.tabled;
           steps = paid;
           cells = let c = cost in omega (arith, c.2, c.3, spent.cells, count, snoc_edges done x);
         }
@@ -289,9 +269,9 @@ module _ (A : Automaton) (p : ReadingPlace) (P : Pass) where
         pub stopped_by_graph : (left : List Source) → done ++ x ∷ left ≡ P.graph.layer → HasStoppedAt A p P (stop t m)
         stopped_by_graph left all = record {
           table = grown_at P.table t grown_here;
-          sound = made.sound;
+          sound = made.tabled;
           made = t.look_ups;
-          distinct = made.sound.look_ups;
+          distinct = made.tabled.asked_apart;
           few = omega arith;
           look_ups = λ look_up h. elim (grown_here.look_ups look_up h) as (λ _. Has P.table.look_ups look_up ⊎ Has (look_ups_asked A (sets_of P) (p.ask ∷ [])) look_up) [
             | inl old ↦ inl old
@@ -307,8 +287,8 @@ module _ (A : Automaton) (p : ReadingPlace) (P : Pass) where
         }
 
     -- the table refused the look-up
-    pub stopped_by_table : (left : List Source) (n : ℕ) → done ++ x ∷ left ≡ P.graph.layer → IsRefused Q.table look_up_here Q.steps n → HasStoppedAt A p P (stop Q.table n)
-    stopped_by_table left n all refused = by refused.steps
+    pub stopped_by_table : (left : List Source) (n : ℕ) → done ++ x ∷ left ≡ P.graph.layer → n ≤ Q.steps + 1 → HasStoppedAt A p P (stop Q.table n)
+    stopped_by_table left n all one = by one
       where
         l : length (done ++ x ∷ left) ≡ length done + suc (length left)
         l = length-append done (x ∷ left)
@@ -327,7 +307,7 @@ module _ (A : Automaton) (p : ReadingPlace) (P : Pass) where
           table = grown_at P.table Q.table spent.table;
           sound = spent.sound;
           made = Q.table.look_ups;
-          distinct = spent.sound.look_ups;
+          distinct = spent.sound.asked_apart;
           few = omega arith;
           look_ups = before;
           steps =
@@ -336,21 +316,30 @@ module _ (A : Automaton) (p : ReadingPlace) (P : Pass) where
               omega (arith, spent.steps, less, l, s, a, b, place_edges);
         }
 
+    abbrev with_look_up : Tabled
+    with_look_up = once_asked Q.table look_up_here
+
     -- what was too heavy is no more than reading the place asks for
-    pub heavy_excess : (weight : ℕ) → IsTooHeavy Q.table look_up_here weight → IsExcess P.table (sets_on A (sets_of P) p.ask) (look_ups_asked A (sets_of P) (p.ask ∷ [])) weight
-    heavy_excess weight h = record {
-      more = subst (λ l. l < weight) spent.table.limit h.more;
-      most =
-          let same : weight ≤ weight_of P.table.graph (Q.table.sets ++ targets Q.table.graph look_up_here) (look_up_here ∷ Q.table.look_ups) =
-          subst (λ B. weight ≤ weight_of B (Q.table.sets ++ targets Q.table.graph look_up_here) (look_up_here ∷ Q.table.look_ups)) spent.table.graph (omega (arith, h.is)) in
-          let less = weight_covers P.table.graph (P.table.sets ++ sets_on A (sets_of P) p.ask) (Q.table.sets ++ targets Q.table.graph look_up_here)
-          (P.table.look_ups ++ look_ups_asked A (sets_of P) (p.ask ∷ [])) (look_up_here ∷ Q.table.look_ups) some_set some_look_up in
-          omega (arith, less, same);
-    }
+    pub heavy_excess : (w : ℕ) → w ≡ weight with_look_up → with_look_up.limit < w → IsExcess P.table (sets_on A (sets_of P) p.ask) (look_ups_asked A (sets_of P) (p.ask ∷ [])) w
+    heavy_excess w is more =
+        let once = holds_once Q.table with_look_up look_up_here refl in
+        record {
+          more = subst (λ l. l < w) (once.limit ∙ spent.table.limit) more;
+          most =
+              let sets_less =
+              sum_covers (λ (set : List ℕ). 1 + length set) (once_each bytes_eq (P.table.sets ++ sets_on A (sets_of P) p.ask)) with_look_up.sets (once.apart spent.sound.sets_apart)
+              (λ set h. once_has bytes_eq same_bytes bytes_itself (P.table.sets ++ sets_on A (sets_of P) p.ask) set (some_set once set h)) in
+              let look_ups_less =
+              sum_covers (λ (r : LookUp). 1 + look_up_edges P.table.graph r) (once_each look_up_same (P.table.look_ups ++ look_ups_asked A (sets_of P) (p.ask ∷ []))) with_look_up.look_ups
+              (once_asked_apart Q.table with_look_up look_up_here once spent.sound.asked_apart)
+              (λ look_up h. once_has look_up_same same_look_up look_up_itself (P.table.look_ups ++ look_ups_asked A (sets_of P) (p.ask ∷ [])) look_up (some_look_up once look_up h)) in
+              let graph = ap (λ (B : Automaton). look_ups_weight B with_look_up.look_ups) (once.graph ∙ spent.table.graph) in
+              omega (arith, is, sets_less, look_ups_less, graph);
+        }
       where
-        some_set : Covers (P.table.sets ++ sets_on A (sets_of P) p.ask) (Q.table.sets ++ targets Q.table.graph look_up_here)
-        some_set set k =
-            elim (Has-append_cases Q.table.sets (targets Q.table.graph look_up_here) set k) [
+        some_set : HoldsOnce Q.table with_look_up look_up_here → Covers (P.table.sets ++ sets_on A (sets_of P) p.ask) with_look_up.sets
+        some_set once set k =
+            elim (once.sets set k) [
               | inl old ↦ elim (spent.table.sets set old) [
                 | inl o ↦ Has-append_left P.table.sets (sets_on A (sets_of P) p.ask) set o
                 | inr n ↦ Has-append_right P.table.sets (sets_on A (sets_of P) p.ask) set n
@@ -361,26 +350,26 @@ module _ (A : Automaton) (p : ReadingPlace) (P : Pass) where
         asked_look_up : (look_up : LookUp) → Has asked_look_ups look_up → Has (P.table.look_ups ++ look_ups_asked A (sets_of P) (p.ask ∷ [])) look_up
         asked_look_up look_up k = Has-append_right P.table.look_ups (look_ups_asked A (sets_of P) (p.ask ∷ [])) look_up (Has-append_left asked_look_ups [] look_up k)
 
-        some_look_up : Covers (P.table.look_ups ++ look_ups_asked A (sets_of P) (p.ask ∷ [])) (look_up_here ∷ Q.table.look_ups)
-        some_look_up look_up (inl e) = asked_look_up look_up (subst (Has asked_look_ups) e look_up_there)
-        some_look_up look_up (inr k) =
-            elim (spent.table.look_ups look_up k) [
-              | inl old ↦ Has-append_left P.table.look_ups (look_ups_asked A (sets_of P) (p.ask ∷ [])) look_up old
-              | inr new ↦ asked_look_up look_up new
+        some_look_up : HoldsOnce Q.table with_look_up look_up_here → Covers (P.table.look_ups ++ look_ups_asked A (sets_of P) (p.ask ∷ [])) with_look_up.look_ups
+        some_look_up once look_up k =
+            elim (once_was Q.table with_look_up look_up_here once look_up k) [
+              | inl old ↦ elim (spent.table.look_ups look_up old) [
+                | inl o ↦ Has-append_left P.table.look_ups (look_ups_asked A (sets_of P) (p.ask ∷ [])) look_up o
+                | inr n ↦ asked_look_up look_up n
+              ]
+              | inr e ↦ asked_look_up look_up (subst (Has asked_look_ups) e look_up_there)
             ]
 
-    module _ (t : TableView) (n : ℕ) (made : HasMade Q.table t look_up_here Q.steps n) where
-      module _ (es : List Edge) (numbered : AreNumbered t es (edges t.graph (set_named t x.set) p.ask)) where
-        edges_are : AreNumbered t es (source_edges x)
+    module _ (t : Tabled) (n : ℕ) (made : HasLookedUp Q.table t look_up_here Q.steps n) where
+      module _ (es : List Edge) (has : HasEdges t look_up_here es) where
+        edges_are : map (edge_named t.sets) es ≡ source_edges x
         edges_are =
-            subst (λ s. AreNumbered t es (edges A s p.ask)) (named_now t n made x.set known_now ∙ named_before)
-            (subst (λ B. AreNumbered t es (edges B (set_named t x.set) p.ask)) (made.graph ∙ graph_is) numbered)
-          where
-            known_now : x.set < length Q.table.sets
-            known_now = omega (arith, grown_length P.table Q.table (sets_on A (sets_of P) p.ask) asked_look_ups spent.table)
+            has.named
+            ∙ (ap (λ (B : Automaton). edges B (set_at Q.table.sets x.set) p.ask) ((once_here t n made).graph ∙ graph_is)
+            ∙ ap (λ s. edges A s p.ask) named_before)
 
         pub edges_count : length es ≡ length (source_edges x)
-        edges_count = numbered_length t es (source_edges x) edges_are
+        edges_count = let l = length-map es (edge_named t.sets) in let e = ap length edges_are in omega (arith, l, e)
 
         module _ (past : IsStepping done Q) (g : GraphView) (m : ℕ)
             (layer : g.layer ≡ Q.graph.layer) (accepted : g.accepted ≡ Q.graph.accepted) (stepped : g.stepped ≡ suc Q.graph.stepped)
@@ -395,17 +384,13 @@ module _ (A : Automaton) (p : ReadingPlace) (P : Pass) where
           word_number next s w h = subst (Has (numbers_of next)) h.2 (Has-map (λ (y : Source). y.set) next h.0 h.1)
 
           -- an edge leads to the set of its number
-          edge_to : (e : Edge) → Has es e → (r : Reach) × Has (source_edges x) r × (e.marks ≡ r.marks) × (e.to < length t.sets) × (set_named t e.to ≡ r.to)
-          edge_to e h =
-              let r = edge_reach t es (source_edges x) e edges_are h in
-              let k = named_there t.sets e.to r.0.to r.3 in
-              (r.0, r.1, r.2, k.0, k.1)
+          edge_to : (e : Edge) → Has es e → (r : Reach) × Has (source_edges x) r × (e.marks ≡ r.marks) × (e.to < length t.sets) × (set_at t.sets e.to ≡ r.to)
+          edge_to e h = (edge_named t.sets e, subst (λ (rs : List Reach). Has rs (edge_named t.sets e)) edges_are (Has-map (edge_named t.sets) es e h), refl, has.targets e h, refl)
 
-          to_edge : (r : Reach) → Has (source_edges x) r → (e : Edge) × Has es e × (e.marks ≡ r.marks) × (set_named t e.to ≡ r.to)
+          to_edge : (r : Reach) → Has (source_edges x) r → (e : Edge) × Has es e × (e.marks ≡ r.marks) × (set_at t.sets e.to ≡ r.to)
           to_edge r h =
-              let e = reach_edge t es (source_edges x) r edges_are h in
-              let k = named_there t.sets e.0.to r.to e.3 in
-              (e.0, e.1, e.2, k.1)
+              let e = Has-map_cases (edge_named t.sets) es r (subst (λ (rs : List Reach). Has rs r) (sym edges_are) h) in
+              (e.0, e.1, ap (λ (y : Reach). y.marks) e.2, ap (λ (y : Reach). y.to) e.2)
 
           pub stepping_more : IsStepping (done ++ x ∷ []) (pass t g m)
           stepping_more = record {
@@ -427,14 +412,14 @@ module _ (A : Automaton) (p : ReadingPlace) (P : Pass) where
                   hands_on e.0.to (lone_edge es (e.0) (edges_count ∙ ap length lone) e.1 (e.2 ∙ none)) (λ h.
                   let k = past.given e.0.to h in
                   let l = (past.sets r.to).0 (e.0.to, sym (named_now t n made e.0.to k) ∙ e.3, h) in
-                  let two = led_twice A (sets_of P) p.ask r.to (λ (y : Source). set_named P.table y.set) done x left P.graph.layer all refl l.0 l.1
-                  (leads_once A p.ask r.to (set_named P.table l.0.set) l.2 l.3 l.4) (leads_once A p.ask r.to (set_named P.table x.set) r (subst (λ (rs : List Reach). Has rs r) (sym lone) (inl refl)) refl) in
+                  let two = led_twice A (sets_of P) p.ask r.to (λ (y : Source). set_at P.table.sets y.set) done x left P.graph.layer all refl l.0 l.1
+                  (leads_once A p.ask r.to (set_at P.table.sets l.0.set) l.2 l.3 l.4) (leads_once A p.ask r.to (set_at P.table.sets x.set) r (subst (λ (rs : List Reach). Has rs r) (sym lone) (inl refl)) refl) in
                   omega (arith, two, few))
 
-              made_here : g.live ≤ Q.graph.live + making_of A (sets_of P) p.ask (set_named P.table x.set)
+              made_here : g.live ≤ Q.graph.live + making_of A (sets_of P) p.ask (set_at P.table.sets x.set)
               made_here =
                   let c = cost in
-                  making_step A (sets_of P) p.ask (set_named P.table x.set) (source_edges x) refl Q.graph.live g.live (omega (arith, c.2, c.3, edges_count)) is_new
+                  making_step A (sets_of P) p.ask (set_at P.table.sets x.set) (source_edges x) refl Q.graph.live g.live (omega (arith, c.2, c.3, edges_count)) is_new
 
               given_now : (s : ℕ) → Has (numbers_of Q.graph.next) s ⊎ Has (map (λ (e : Edge). e.to) es) s → s < length t.sets
               given_now s (inl old) = let l = past.given s old in omega (arith, l, kept_length t n made)
@@ -457,7 +442,7 @@ module _ (A : Automaton) (p : ReadingPlace) (P : Pass) where
                         Has-append_right done (x ∷ []) x (inl refl),
                         r.0,
                         r.1,
-                        sym r.4 ∙ (ap (set_named t) new.2 ∙ h.1),
+                        sym r.4 ∙ (ap (set_at t.sets) new.2 ∙ h.1),
                         new.3,
                         new.4,
                         ap (λ k. new.3 ++ block_word p.at k) (sym r.2) ∙ new.5,
@@ -500,7 +485,7 @@ module _ (A : Automaton) (p : ReadingPlace) (P : Pass) where
                   by (inr new) =
                       let e = Has-map_cases (λ (e : Edge). e.to) es h.0 new in
                       let r = edge_to e.0 e.1 in
-                      (x, Has-append_right done (x ∷ []) x (inl refl), r.0, r.1, sym r.4 ∙ (ap (set_named t) e.2 ∙ h.1))
+                      (x, Has-append_right done (x ∷ []) x (inl refl), r.0, r.1, sym r.4 ∙ (ap (set_at t.sets) e.2 ∙ h.1))
 
               set_back : (set : List ℕ) → LeadsOn (done ++ x ∷ []) set → HasNext (pass t g m) set
               set_back set h = by (Has-append_cases done (x ∷ []) h.0 h.1)

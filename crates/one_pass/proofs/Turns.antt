@@ -1,26 +1,28 @@
 -- A turn of the loop over the sources of a layer, in the order in which the code goes.
-use Rattle.std.proofs.Common.{◌≡◌, ℕ, suc, ◌+◌, ◌≤◌, ◌<◌, ◌⊎◌, List, [], ◌∷◌, ◌++◌, length, take, drop, map, refl, sym, ap, subst, arith, ◌∙◌}
+use Rattle.std.proofs.Common.{◌≡◌, ℕ, suc, ◌+◌, ◌≤◌, ◌<◌, ◌⊎◌, List, [], ◌∷◌, ◌++◌, length, take, drop, map, Option, Some, None, inl, inr, refl, sym, ap, subst, arith, ◌∙◌}
 use Rattle.std.specs.Prelude.{◌↔◌}
 use Rattle.std.proofs.Math.Seq.{drop-cons, take-length}
 use Rattle.std.proofs.lemmas.List.{take-append-drop, take_more}
 use Rattle.span_core.specs.Lists.{Has}
 use Rattle.span_core.proofs.HasLaws.{Has-get_or}
 use Rattle.span_core.specs.declared.edge.Edge.{Edge}
-use Rattle.automaton_reading.specs.Reading.{ended, Reach, LookUp, edges, look_ups_asked}
+use Rattle.automaton_reading.specs.Reading.{ended, rest_taken, Reach, LookUp, edges, rest_edge, look_ups_asked}
 use Rattle.set_table.specs.declared.fault.TableFault.{TableFault}
 use Rattle.set_table.specs.declared.fault.TableFault.TheVariants.{Full, OutOfMemory}
-use Rattle.one_pass.specs.Causes.{HasCause}
-use Rattle.one_pass.specs.Held.{TableView, AreNumbered, HasMade, IsRefused, marks_of, look_up_of, set_named}
+use Rattle.set_table.specs.Tabled.{HasEdges, HasEnds, HasRest, IsRefusal, Tabled, edge_named, idle_of, look_up, once_asked, set_at}
 use Rattle.one_pass.specs.Words.{Word, block_word}
 use Rattle.output_graph.specs.Graph.{Source}
 use Rattle.one_pass.specs.Layers.{GraphView, Brings, BringsEnd, HasCost, HasEndedSource, HasStepped, HasWord, no_source, source_at}
+use Rattle.one_pass.specs.Turned.{HasLookedUp, rest_edges}
 use Rattle.one_pass.specs.Faults.{IsFaultOf}
 use Rattle.one_pass.specs.Places.{ReadingPlace, asks, end_at, sets_met, sets_on}
 use Rattle.one_pass.specs.Passes.{Pass, pass, sets_of, stop, IsReady, HasRead, HasStoppedAt}
 use Rattle.one_pass.proofs.Composing.{excess_grown, grown_length, grown_none}
-use Rattle.one_pass.proofs.Ending.{ending_more, IsEnding}
+use Rattle.one_pass.proofs.Ending.{ending_more, IsEnding, marks_of}
+use Rattle.set_table.proofs.OnceLaws.{holds_once, once_set}
+use Rattle.set_table.proofs.SetsLaws.{at_place}
 use Rattle.one_pass.proofs.PlaceLaws.{place_read, place_ready}
-use Rattle.one_pass.proofs.Stepping.{heavy_excess, met_here, named_before, named_now, source_edges, stepping_more, stopped_by_graph, stopped_by_table, IsSpending, IsStepping}
+use Rattle.one_pass.proofs.Stepping.{heavy_excess, met_here, named_before, source_edges, stepping_more, stopped_by_graph, stopped_by_table, IsSpending, IsStepping}
 
 module _ (p : ReadingPlace) (P : Pass) (at : ℕ) (ready : IsReady P at) (k : ℕ) (Q : Pass)
     (past : IsSpending P.table.graph p P (take k P.graph.layer) Q) (within : k < length Q.graph.layer)
@@ -52,45 +54,40 @@ module _ (p : ReadingPlace) (P : Pass) (at : ℕ) (ready : IsReady P at) (k : �
       ap (λ (xs : List Source). take k P.graph.layer ++ xs) (sym (drop-cons P.graph.layer k no_source here))
       ∙ take-append-drop k P.graph.layer
 
-  same_look_up : look_up_of Q.table set p.ask ≡ look_up_of Q.table x.set p.ask
-  same_look_up = ap (λ s. look_up_of Q.table s p.ask) (sym set_is)
+  same_look_up : look_up Q.table set p.ask ≡ look_up Q.table x.set p.ask
+  same_look_up = ap (λ s. look_up Q.table s p.ask) (sym set_is)
 
   -- the table refused
-  pub turn_refused : (t : TableView) (n : ℕ) → t ≡ Q.table → IsRefused Q.table (look_up_of Q.table set p.ask) Q.steps n → HasStoppedAt P.table.graph p P (stop t n)
-  turn_refused t n kept r =
+  pub turn_refused : (t : Tabled) (n : ℕ) → t ≡ Q.table → n ≤ Q.steps + 1 → HasStoppedAt P.table.graph p P (stop t n)
+  turn_refused t n kept one =
       subst (λ u. HasStoppedAt P.table.graph p P (stop u n)) (sym kept)
-      (stopped_by_table P.table.graph p P (take k P.graph.layer) Q x refl past there known left n split
-      (subst (λ look_up. IsRefused Q.table look_up Q.steps n) same_look_up r))
+      (stopped_by_table P.table.graph p P (take k P.graph.layer) Q x refl past there known left n split one)
 
-  pub turn_cause : (e : TableFault) → HasCause Q.table (look_up_of Q.table set p.ask) e →
+  pub turn_cause : (e : TableFault) → IsRefusal (once_asked Q.table (look_up Q.table set p.ask)) e →
       IsFaultOf P.table (sets_on P.table.graph (sets_of P) p.ask) (look_ups_asked P.table.graph (sets_of P) (p.ask ∷ [])) e
   turn_cause (Full weight) c =
-      heavy_excess P.table.graph p P (take k P.graph.layer) Q x refl past there known weight
-      (subst (λ look_up. HasCause Q.table look_up (Full weight)) same_look_up c)
+      let d = subst (λ look_up. IsRefusal (once_asked Q.table look_up) (Full weight)) same_look_up c in
+      heavy_excess P.table.graph p P (take k P.graph.layer) Q x refl past there known weight d.0 d.1
   turn_cause OutOfMemory c = tt
 
-  module _ (t : TableView) (n : ℕ) (made : HasMade Q.table t (look_up_of Q.table set p.ask) Q.steps n) where
-    made_here : HasMade Q.table t (look_up_of Q.table x.set p.ask) Q.steps n
-    made_here = subst (λ look_up. HasMade Q.table t look_up Q.steps n) same_look_up made
+  module _ (t : Tabled) (n : ℕ) (made : HasLookedUp Q.table t (look_up Q.table set p.ask) Q.steps n) where
+    made_here : HasLookedUp Q.table t (look_up Q.table x.set p.ask) Q.steps n
+    made_here = subst (λ look_up. HasLookedUp Q.table t look_up Q.steps n) same_look_up made
 
     -- the edges of the set are those of the source
-    pub turn_edges : edges t.graph (set_named t set) p.ask ≡ source_edges P.table.graph p P x
+    pub turn_edges : edges t.graph (set_at Q.table.sets set) p.ask ≡ source_edges P.table.graph p P x
     turn_edges =
-        ap (λ A. edges A (set_named t set) p.ask) (made.graph ∙ past.table.graph)
-        ∙ ap (λ s. edges P.table.graph s p.ask) (ap (set_named t) (sym set_is) ∙ (named_now P.table.graph p P (take k P.graph.layer) Q x refl past there known t n made_here x.set known_now
-        ∙ named_before P.table.graph p P (take k P.graph.layer) Q x refl past there known))
-      where
-        known_now : x.set < length Q.table.sets
-        known_now = subst (λ s. s < length Q.table.sets) (sym set_is) turn_given
+        ap (λ A. edges A (set_at Q.table.sets set) p.ask) ((holds_once Q.table t (look_up Q.table set p.ask) made.is).graph ∙ past.table.graph)
+        ∙ ap (λ s. edges P.table.graph s p.ask) (ap (set_at Q.table.sets) (sym set_is) ∙ named_before P.table.graph p P (take k P.graph.layer) Q x refl past there known)
 
     -- the graph refused
     pub turn_stopped : (e : ℕ) (g : GraphView) (m : ℕ) → e ≡ length (source_edges P.table.graph p P x) → HasCost e Q.graph.live g.live n m → HasStoppedAt P.table.graph p P (stop t m)
     turn_stopped e g m count cost =
         stopped_by_graph P.table.graph p P (take k P.graph.layer) Q x refl past there known t n made_here e count g m cost left split
 
-    module _ (es : List Edge) (numbered : AreNumbered t es (edges t.graph (set_named t set) p.ask)) where
-      numbered_here : AreNumbered t es (edges t.graph (set_named t x.set) p.ask)
-      numbered_here = subst (λ s. AreNumbered t es (edges t.graph (set_named t s) p.ask)) (sym set_is) numbered
+    module _ (es : List Edge) (has : HasEdges t (look_up Q.table set p.ask) es) where
+      has_here : HasEdges t (look_up Q.table x.set p.ask) es
+      has_here = subst (λ look_up. HasEdges t look_up es) same_look_up has
 
       -- one source more has been stepped
       pub turn_stepped : IsStepping P.table.graph p P (take k P.graph.layer) Q → (g : GraphView) (m : ℕ) →
@@ -98,23 +95,51 @@ module _ (p : ReadingPlace) (P : Pass) (at : ℕ) (ready : IsReady P at) (k : �
           HasCost (length es) Q.graph.live g.live n m → IsStepping P.table.graph p P (take (k + 1) P.graph.layer) (pass t g m)
       turn_stepped stepping g m h cost =
           subst (λ done. IsStepping P.table.graph p P done (pass t g m)) (sym (take_more P.graph.layer k no_source here))
-          (stepping_more P.table.graph p P (take k P.graph.layer) Q x refl past there known t n made_here es numbered_here stepping g m
+          (stepping_more P.table.graph p P (take k P.graph.layer) Q x refl past there known t n made_here es has_here stepping g m
           h.layer h.accepted h.stepped
           (subst (λ xs. (s : ℕ) (w : Word) → HasWord g.next s w ↔ (HasWord Q.graph.next s w ⊎ Brings (source_at xs k).words p.at es s w)) past.layer h.words)
           h.sets h.few h.apart h.hands_on left split cost)
 
+-- the set of idle members, as the one edge to it
+own_rest : (u : Tabled) (set : ℕ) (to : Option ℕ) → HasRest u set to → HasEdges u (look_up u set rest_taken) (rest_edges to)
+own_rest u set None h = record { named = ap rest_edge (sym h); targets = λ e n. absurd n; order = tt }
+own_rest u set (Some k) h =
+    let at = at_place u.sets k (idle_of u set) h.0 in
+    record {
+      named = by at.0 (idle_of u set) refl;
+      targets = λ e m. to_there at.1 e m;
+      order = (tt, tt);
+    }
+  where
+    by : set_at u.sets k ≡ idle_of u set → (ps : List ℕ) → idle_of u set ≡ ps → map (edge_named u.sets) (rest_edges (Some k)) ≡ rest_edge ps
+    by at [] e = absurd (h.1 e)
+    by at (p ∷ ps) e = ap (λ (s : List ℕ). let r : Reach = record { marks = 0; to = s } in r ∷ []) (at ∙ e)
+
+    to_there : k < length u.sets → (e : Edge) → Has (rest_edges (Some k)) e → e.to < length u.sets
+    to_there l e (inl same) = subst (λ (y : Edge). y.to < length u.sets) same l
+    to_there l e (inr n) = absurd n
+
+pub rest_has : (t u : Tabled) (set : ℕ) (to : Option ℕ) → u ≡ once_asked t (look_up t set rest_taken) → set < length t.sets → HasRest u set to → HasEdges u (look_up t set rest_taken) (rest_edges to)
+rest_has t u set to is given h =
+    let same = once_set t u (look_up t set rest_taken) (holds_once t u (look_up t set rest_taken) is) set given in
+    subst (λ (s : List ℕ). HasEdges u (let r : LookUp = record { set = s; ask = rest_taken } in r) (rest_edges to)) same (own_rest u set to h)
+
+marks_back : (ms : List ℕ) → marks_of (map (λ m. let r : Reach = record { marks = m; to = [] } in r) ms) ≡ ms
+marks_back [] = refl
+marks_back (m ∷ ms) = ap (λ xs. m ∷ xs) (marks_back ms)
+
 -- one source more has been ended
 pub turn_ended : (at : ℕ) (P : Pass) → IsReady P at → (k : ℕ) (Q : Pass) → IsEnding P.table.graph at P (take k P.graph.layer) Q → k < length Q.graph.layer →
-    (set : ℕ) → set ≡ (source_at Q.graph.layer k).set → (t : TableView) (n : ℕ) → HasMade Q.table t (look_up_of Q.table set ended) Q.steps n →
-    (ms : List ℕ) → ms ≡ marks_of (edges t.graph (set_named t set) ended) → (g : GraphView) (m : ℕ) → HasEndedSource Q.graph g k at ms →
+    (set : ℕ) → set ≡ (source_at Q.graph.layer k).set → (t : Tabled) (n : ℕ) → HasLookedUp Q.table t (look_up Q.table set ended) Q.steps n →
+    (ms : List ℕ) → HasEnds t (look_up Q.table set ended) ms → (g : GraphView) (m : ℕ) → HasEndedSource Q.graph g k at ms →
     HasCost (length ms) Q.graph.live g.live n m → IsEnding P.table.graph at P (take (k + 1) P.graph.layer) (pass t g m)
-turn_ended at P ready k Q past within set is t n made ms marks g m h cost =
+turn_ended at P ready k Q past within set is t n made ms ends g m h cost =
     let p = end_at at in
     let x = source_at P.graph.layer k in
     let inside = here p P at ready k Q past.spent within set is in
     let same : x.set ≡ set = set_is p P at ready k Q past.spent within set is in
-    let made_x = subst (λ s. HasMade Q.table t (look_up_of Q.table s ended) Q.steps n) (sym same) made in
-    let marks_x = marks ∙ ap marks_of (turn_edges p P at ready k Q past.spent within set is t n made) in
+    let made_x = subst (λ s. HasLookedUp Q.table t (look_up Q.table s ended) Q.steps n) (sym same) made in
+    let marks_x = sym (marks_back ms) ∙ ap marks_of (ends.named ∙ turn_edges p P at ready k Q past.spent within set is t n made) in
     subst (λ done. IsEnding P.table.graph at P done (pass t g m)) (sym (take_more P.graph.layer k no_source inside))
     (ending_more P.table.graph at P (take k P.graph.layer) Q x refl (there p P at ready k Q past.spent within set is) (known p P at ready k Q past.spent within set is) past t n made_x ms marks_x g m h.layer h.stepped
     (subst (λ xs. (w : Word) → Has g.accepted w ↔ (Has Q.graph.accepted w ⊎ BringsEnd (source_at xs k).words at ms w)) past.spent.layer h.words)
@@ -146,3 +171,9 @@ module _ (p : ReadingPlace) (P : Pass) (at k : ℕ) (ready : IsReady P at) (Q : 
       (g.stepped ≡ 0) → (g.next ≡ []) → (g.accepted ≡ Q.graph.accepted) → IsReady (pass Q.table g Q.steps) later
   turns_ready later le blocks stepped next accepted =
       place_ready P.table.graph p P Q every g layer live at later ready le blocks stepped next accepted
+
+  -- as many as there are
+  pub turns_stepped : Q.graph.stepped ≡ length Q.graph.layer
+  turns_stepped =
+      let l = ap (λ (xs : List Source). length xs) every.spent.layer in
+      omega (arith, every.spent.stepped, l)

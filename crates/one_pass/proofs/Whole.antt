@@ -7,13 +7,13 @@ use Rattle.marked_automaton.specs.Automaton.{Automaton, size}
 use Rattle.automaton_reading.specs.Reading.{Question, byte_read, rest_taken, ended, LookUp, questions, edges_K, next_sets, once, look_up_same, look_ups_asked, look_ups_K, look_ups_read, set_of, weight_K}
 use Rattle.automaton_reading.proofs.Matching.{once_has}
 use Rattle.automaton_reading.proofs.MeasureLaws.{same_look_up, look_up_itself}
-use Rattle.one_pass.specs.Held.{TableView, set_named, weight_of}
+use Rattle.set_table.specs.Tabled.{IsTabled, Tabled, set_at}
 use Rattle.one_pass.specs.Words.{Word}
 use Rattle.output_graph.specs.Graph.{Source}
 use Rattle.one_pass.specs.Layers.{first_layer}
 use Rattle.one_pass.specs.Builds.{IsNew, build, started}
 use Rattle.one_pass.specs.Places.{ReadingPlace, AreReadWords, Leads, asks, byte_at, edges_read, end_at, places, rest_at, sets_after, sets_met}
-use Rattle.one_pass.specs.Passes.{Pass, sets_of, Reaches, IsReady, HasEnded, HasRead, HasStopped, Stop, IsExcess}
+use Rattle.one_pass.specs.Passes.{Pass, sets_of, Reaches, IsReady, HasEnded, HasRead, HasStopped, Stop, IsExcess, weight_of}
 use Rattle.one_pass.proofs.ReadWords.{leads_then, read_words, then_leads}
 use Rattle.one_pass.proofs.Sets.{Covers, edges_append, edges_covers, look_ups_append, look_ups_covers, look_ups_left, look_ups_right, weight_covers}
 use Rattle.one_pass.proofs.Composing.{asks_append}
@@ -72,25 +72,22 @@ met_asked A sets (b ∷ front) a later set h =
           (Has-map (λ (r : LookUp). r.set) all r.0 (Has-append_right (map look_up sets) (look_ups_asked A (next_sets A sets b) (front ++ a ∷ later)) r.0 r.1))
     ]
 
-module _ (A : Automaton) (K : ℕ → Bool) (d : List ℕ) (t : TableView) (new : IsNew A t) (before : ℕ) where
+module _ (A : Automaton) (K : ℕ → Bool) (d : List ℕ) (t : Tabled) (new : IsNew A t) (before : ℕ) where
   abbrev starts : List (List ℕ)
   starts = set_of A.starts ∷ []
 
   abbrev P : Pass
   P = started t before
 
-  start_named : set_named t 0 ≡ set_of A.starts
+  start_named : set_at t.sets 0 ≡ set_of A.starts
   start_named = ap (λ (xs : List (List ℕ)). get_or xs 0 []) new.sets
 
   pub starts_are : sets_of P ≡ starts
   starts_are = ap (λ s. s ∷ []) start_named
 
-  pub started_ready : IsReady P 0
-  started_ready = record {
-    sound = record {
-      sets = subst AreDistinct (sym new.sets) (λ h. h, tt);
-      look_ups = subst AreDistinct (sym new.look_ups) tt;
-    };
+  pub started_ready : IsTabled t → IsReady P 0
+  started_ready tabled = record {
+    sound = tabled;
     given = λ x h. elim h as (λ _. x.set < length t.sets) [
       | inl e ↦ (let l = ap length new.sets in let z = ap (λ (y : Source). y.set) e in omega (arith, l, z))
       | inr n ↦ absurd n
@@ -120,7 +117,7 @@ module _ (A : Automaton) (K : ℕ → Bool) (d : List ℕ) (t : TableView) (new 
 
           by : (record { set = 0; words = [] ∷ [] } ≡ h.0) ⊎ ⊥ → (set_of A.starts ≡ set) × ([] ≡ w)
           by (inl e) = (
-            sym start_named ∙ (ap (λ (y : Source). set_named t y.set) e ∙ h.2),
+            sym start_named ∙ (ap (λ (y : Source). set_at t.sets y.set) e ∙ h.2),
             word (subst (λ (y : Source). Has y.words w) (sym e) h.3),
           )
           by (inr n) = absurd n
@@ -260,7 +257,7 @@ module _ (A : Automaton) (K : ℕ → Bool) (d : List ℕ) (t : TableView) (new 
       AreDistinct (sets_of Q) → R.steps + (2 * R.graph.live + 2) + 1 ≤ before + build A d K
   whole_steps ps all Q R read done distinct =
       let zero_look_ups = ap (λ (look_ups : List LookUp). length look_ups * size A) new.look_ups in
-      let few = few_look_ups R.table.look_ups done.sound.look_ups look_ups_all in
+      let few = few_look_ups R.table.look_ups done.sound.asked_apart look_ups_all in
       let product = times_more (length R.table.look_ups) (look_ups_K A d K) (size A) few in
       omega (arith, read.steps, read.cells, done.steps, done.cells, zero_look_ups, few, product, edges_all, one_look_up)
     where

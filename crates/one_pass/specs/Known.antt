@@ -3,55 +3,55 @@ use Rattle.std.specs.Prelude.{◌≡◌, ◌⊎◌, ℕ, ◌+◌, ◌*◌, ◌<�
 use Rattle.std.specs.FinSet as bytes
 use Rattle.span_core.specs.Lists.{Has}
 use Rattle.span_core.specs.declared.edge.Edge.{Edge}
-use Rattle.automaton_reading.specs.Reading.{byte_read, edges}
+use Rattle.automaton_reading.specs.Reading.{byte_read}
 use Rattle.output_graph.specs.Graph.{Graph, sets_of}
 use Rattle.output_graph.specs.Source.{Edges}
 use Rattle.output_graph.specs.Sound.{edges_of}
 use Rattle.one_pass.specs.declared.known.Known.{Known}
 use Rattle.one_pass.specs.declared.known.KnownStep.{KnownStep}
-use Rattle.one_pass.specs.Held.{TableView, AreNumbered, StaysOn, look_up_of, set_named}
+use Rattle.set_table.specs.Tabled.{HasEdges, Stays, Tabled, look_up}
 use Rattle.one_pass.specs.Passes.{AllStayOn}
 use Rattle.one_pass.specs.Seen.{whole}
 
 -- the set of a number was asked for a byte, and these are its edges on it
-pub record IsLookUp (t : TableView) (b s : ℕ) (group : Edges) : Type 0 where
+pub record IsLookUp (t : Tabled) (b s : ℕ) (group : Edges) : Type 0 where
   pub given : s < length t.sets
-  pub asked : Has t.look_ups (look_up_of t s (byte_read b))
+  pub asked : Has t.look_ups (look_up t s (byte_read b))
   pub by : List Edge
   pub are : edges_of by ≡ group
-  pub numbered : AreNumbered t by (edges t.graph (set_named t s) (byte_read b))
+  pub edges : HasEdges t (look_up t s (byte_read b)) by
 
 -- and those of each set, in their order
-abbrev pub AreLookUps : TableView → ℕ → List ℕ → List Edges → Type 0
+abbrev pub AreLookUps : Tabled → ℕ → List ℕ → List Edges → Type 0
 AreLookUps t b [] [] = Unit {0}
 AreLookUps t b [] (group ∷ groups) = ⊥
 AreLookUps t b (s ∷ sets) [] = ⊥
 AreLookUps t b (s ∷ sets) (group ∷ groups) = IsLookUp t b s group × AreLookUps t b sets groups
 
 -- each set was asked for the byte, and has one edge on it, without marks and to itself
-abbrev pub AreStill : TableView → ℕ → List ℕ → Type 0
-AreStill t b sets = (s : ℕ) → Has sets s → (s < length t.sets) × StaysOn t s b
+abbrev pub AreStill : Tabled → ℕ → List ℕ → Type 0
+AreStill t b sets = (s : ℕ) → Has sets s → (s < length t.sets) × Stays t s b
 
 -- the sets of the layer of a number
 abbrev pub layer_at : List (List ℕ) → ℕ → List ℕ
 layer_at layers k = slice_index_or layers k []
 
 -- a program of the edges of these sets on a byte, and the number of the layer that it leads to
-pub record IsStepOf (t : TableView) (layers : List (List ℕ)) (b : ℕ) (sets : List ℕ) (step : KnownStep) : Type 0 where
+pub record IsStepOf (t : Tabled) (layers : List (List ℕ)) (b : ℕ) (sets : List ℕ) (step : KnownStep) : Type 0 where
   pub look_ups : AreLookUps t b sets step.program.groups
   pub next : slice_get layers step.next ≡ Some step.program.targets
 
 -- what is entered for a byte of these sets: 0 nothing, 1 that they are still, and else 2 more than the place of a step
-abbrev pub IsEntry : TableView → List (List ℕ) → List KnownStep → ℕ → List ℕ → ℕ → Type 0
+abbrev pub IsEntry : Tabled → List (List ℕ) → List KnownStep → ℕ → List ℕ → ℕ → Type 0
 IsEntry t layers steps b sets e =
     (e ≡ 0) ⊎ (((e ≡ 1) × AreStill t b sets) ⊎ ((p : ℕ) × (step : KnownStep) × (e ≡ p + 2) × (slice_get steps p ≡ Some step) × IsStepOf t layers b sets step))
 
 -- what is entered is true of the table
-pub record IsKnown (t : TableView) (layers : List (List ℕ)) (entries : List ℕ) (steps : List KnownStep) : Type 0 where
+pub record IsKnown (t : Tabled) (layers : List (List ℕ)) (entries : List ℕ) (steps : List KnownStep) : Type 0 where
   pub few : length entries ≤ 256 * length layers
   pub each : (k b e : ℕ) → b < 256 → slice_get entries (256 * k + b) ≡ Some e → IsEntry t layers steps b (layer_at layers k) e
 
-abbrev pub Knows : TableView → Known → Type 0
+abbrev pub Knows : Tabled → Known → Type 0
 Knows t known = IsKnown t known.layers known.entries.items known.steps.items
 
 -- no layer has another number
@@ -60,9 +60,9 @@ KeepsLayers old new = (k : ℕ) (sets : List ℕ) → slice_get old.layers k ≡
 
 -- it is no less known of any table
 abbrev pub KeepsKnown : Known → Known → Type 0
-KeepsKnown old new = (t : TableView) → Knows t old → Knows t new
+KeepsKnown old new = (t : Tabled) → Knows t old → Knows t new
 
 -- the layer of the graph has this number; or else its sets stay on the bytes that are kept of it
-abbrev pub Stands : TableView → Graph → Known → Option ℕ → Type 0
+abbrev pub Stands : Tabled → Graph → Known → Option ℕ → Type 0
 Stands t g known None = (b : ℕ) → b < 256 → IsTrue (bytes.contains known.stays b) → AllStayOn t (whole g) b
 Stands t g known (Some k) = slice_get known.layers k ≡ Some (sets_of g.layer)

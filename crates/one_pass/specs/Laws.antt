@@ -5,7 +5,7 @@ use Rattle.span_core.specs.Intervals.{AreApart, Covers}
 use Rattle.marked_automaton.specs.Automaton.{Automaton}
 use Rattle.automaton_reading.specs.Reading.{questions, edges, edges_K, look_ups_asked, set_of, weight_K}
 use Rattle.automaton_reading.specs.Chosen.{IsReadWith}
-use Rattle.one_pass.specs.Held.{TableView, look_up_of, set_named}
+use Rattle.set_table.specs.Tabled.{Tabled, look_up, set_at}
 use Rattle.output_graph.specs.Graph.{Source}
 use Rattle.one_pass.specs.Words.{Word}
 use Rattle.one_pass.specs.Builds.{IsNew, build, started}
@@ -30,7 +30,7 @@ pub record IsLayerLaw (A : Automaton) (ps : List ReadingPlace) (Q : Pass) : Type
 
 abbrev pub LayerLaw : Type 0
 LayerLaw =
-    (A : Automaton) (t : TableView) (before : ℕ) (ps : List ReadingPlace) (Q : Pass) →
+    (A : Automaton) (t : Tabled) (before : ℕ) (ps : List ReadingPlace) (Q : Pass) →
     IsNew A t → HasRead A ps (started t before) Q → IsLayerLaw A ps Q
 
 -- places may be read one after another
@@ -44,7 +44,7 @@ abbrev pub StayLaw : Type 0
 StayLaw =
     (A : Automaton) (p : ReadingPlace) (P : Pass) →
     ((x : Source) → Has P.graph.layer x →
-    Has P.table.look_ups (look_up_of P.table x.set p.ask) × (edges A (set_named P.table x.set) p.ask ≡ record { marks = 0; to = set_named P.table x.set } ∷ [])) →
+    Has P.table.look_ups (look_up P.table x.set p.ask) × (edges A (set_at P.table.sets x.set) p.ask ≡ record { marks = 0; to = set_at P.table.sets x.set } ∷ [])) →
     HasRead A (p ∷ []) P P
 
 -- the whole document: the words, the steps with those of turning, and the cells
@@ -55,20 +55,20 @@ pub record IsWholeLaw (A : Automaton) (K : ℕ → Bool) (d : List ℕ) (before 
 
 abbrev pub WholeLaw : Type 0
 WholeLaw =
-    (A : Automaton) (K : ℕ → Bool) (d : List ℕ) (t : TableView) (before : ℕ) (ps : List ReadingPlace) (Q R : Pass) →
+    (A : Automaton) (K : ℕ → Bool) (d : List ℕ) (t : Tabled) (before : ℕ) (ps : List ReadingPlace) (Q R : Pass) →
     IsNew A t → ps ++ end_at (length d) ∷ [] ≡ places K d 0 false → HasRead A ps (started t before) Q → IsReady Q (length d) →
     HasEnded A (length d) Q R → IsWholeLaw A K d before R
 
 -- what was given up took no more steps
 abbrev pub StopLaw : Type 0
 StopLaw =
-    (A : Automaton) (K : ℕ → Bool) (d : List ℕ) (t : TableView) (before : ℕ) (after : Stop) (ps rest : List ReadingPlace) →
+    (A : Automaton) (K : ℕ → Bool) (d : List ℕ) (t : Tabled) (before : ℕ) (after : Stop) (ps rest : List ReadingPlace) →
     IsNew A t → ps ++ rest ≡ places K d 0 false → HasStopped A ps (started t before) after → after.steps + 1 ≤ before + build A d K
 
 -- what the table would have weighed when it refused is more than its limit, and no more than the whole reading weighs
 abbrev pub FullLaw : Type 0
 FullLaw =
-    (A : Automaton) (K : ℕ → Bool) (d : List ℕ) (t : TableView) (before : ℕ) (ps : List ReadingPlace) (q : ReadingPlace) (rest : List ReadingPlace) (weight : ℕ) →
+    (A : Automaton) (K : ℕ → Bool) (d : List ℕ) (t : Tabled) (before : ℕ) (ps : List ReadingPlace) (q : ReadingPlace) (rest : List ReadingPlace) (weight : ℕ) →
     IsNew A t → ps ++ q ∷ rest ≡ places K d 0 false →
     IsExcess t (sets_met A (sets_of (started t before)) (asks ps)) (look_ups_asked A (sets_of (started t before)) (asks ps)) weight →
     (t.limit < weight) × (weight ≤ weight_K A d K)

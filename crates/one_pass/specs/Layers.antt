@@ -50,14 +50,6 @@ abbrev pub HasCost : ℕ → ℕ → ℕ → ℕ → ℕ → Type 0
 HasCost edges live live' before after =
     (made freed : ℕ) × (made ≤ edges) × (live' + freed ≡ live + made) × (after ≤ before + (2 * edges + 2 + freed))
 
--- each block is greater than all later ones
-abbrev pub DescendMarks : List ℕ → Type 0
-DescendMarks [] = Unit {0}
-DescendMarks (m ∷ ms) = ((k : ℕ) → Has ms k → k < m) × DescendMarks ms
-
-abbrev pub Descend : List Edge → Type 0
-Descend es = DescendMarks (map (λ (e : Edge). e.marks) es)
-
 -- source k of the layer has been stepped at a position by its edges
 pub record HasStepped (old new : GraphView) (k at : ℕ) (edges : List Edge) : Type 0 where
   pub layer : new.layer ≡ old.layer

@@ -1,9 +1,10 @@
 -- A pass over a document: what it holds between two places, and what reading makes of that.
 use Rattle.std.specs.Prelude.{◌≡◌, ℕ, ◌+◌, ◌*◌, ◌<◌, ◌≤◌, ◌↔◌, ◌⊎◌, List, [], ◌∷◌, ◌++◌, map, length}
+use Rattle.std.specs.Str.{bytes_eq}
 use Rattle.span_core.specs.Lists.{Has, AreDistinct}
 use Rattle.marked_automaton.specs.Automaton.{Automaton, size}
-use Rattle.automaton_reading.specs.Reading.{LookUp, ended, look_ups_asked}
-use Rattle.one_pass.specs.Held.{TableView, IsSound, StaysOn, set_named, weight_of}
+use Rattle.automaton_reading.specs.Reading.{LookUp, ended, once, look_up_same, look_ups_asked}
+use Rattle.set_table.specs.Tabled.{IsTabled, Stays, Tabled, look_ups_weight, set_at, sets_weight}
 use Rattle.one_pass.specs.Words.{Word}
 use Rattle.output_graph.specs.Graph.{Source}
 use Rattle.one_pass.specs.Layers.{GraphView, IsPast, numbers_of}
@@ -12,32 +13,32 @@ use Rattle.one_pass.specs.Places.{ReadingPlace, Leads, asks, edges_read, end_at,
 
 -- the table, the graph, and the steps that were taken
 pub record Pass : Type 0 where
-  pub table : TableView
+  pub table : Tabled
   pub graph : GraphView
   pub steps : ℕ
 
-abbrev pub pass : TableView → GraphView → ℕ → Pass
+abbrev pub pass : Tabled → GraphView → ℕ → Pass
 pass t g n = record { table = t; graph = g; steps = n }
 
 -- the sets of the layer
 abbrev pub sets_of : Pass → List (List ℕ)
-sets_of P = map (λ (x : Source). set_named P.table x.set) P.graph.layer
+sets_of P = map (λ (x : Source). set_at P.table.sets x.set) P.graph.layer
 
 -- the word reaches the set
 abbrev pub Reaches : Pass → List ℕ → Word → Type 0
-Reaches P set w = (x : Source) × Has P.graph.layer x × (set_named P.table x.set ≡ set) × Has x.words w
+Reaches P set w = (x : Source) × Has P.graph.layer x × (set_at P.table.sets x.set ≡ set) × Has x.words w
 
 -- the sets of the layer are sets of the table
-abbrev pub AreGiven : TableView → GraphView → Type 0
+abbrev pub AreGiven : Tabled → GraphView → Type 0
 AreGiven t g = (x : Source) → Has g.layer x → x.set < length t.sets
 
 -- each of them has been asked for the byte, and has one edge on it, without marks and to itself
-abbrev pub AllStayOn : TableView → GraphView → ℕ → Type 0
-AllStayOn t g b = (x : Source) → Has g.layer x → StaysOn t x.set b
+abbrev pub AllStayOn : Tabled → GraphView → ℕ → Type 0
+AllStayOn t g b = (x : Source) → Has g.layer x → Stays t x.set b
 
 -- between two places: no source of the layer has been stepped, and all that it has stands before `at`
 pub record IsReady (P : Pass) (at : ℕ) : Type 0 where
-  pub sound : IsSound P.table
+  pub sound : IsTabled P.table
   pub given : AreGiven P.table P.graph
   pub apart : AreDistinct (numbers_of P.graph.layer)
   pub fresh : (P.graph.stepped ≡ 0) × (P.graph.next ≡ []) × (P.graph.accepted ≡ [])
@@ -45,13 +46,13 @@ pub record IsReady (P : Pass) (at : ℕ) : Type 0 where
 
 -- what a caller knows between two places: no source of the layer has been stepped, its sets are sets of the table, and
 -- all that it has stands before `at`
-pub record IsOpen (t : TableView) (g : GraphView) (at : ℕ) : Type 0 where
+pub record IsOpen (t : Tabled) (g : GraphView) (at : ℕ) : Type 0 where
   pub fresh : (g.stepped ≡ 0) × (g.next ≡ [])
   pub given : AreGiven t g
   pub past : IsPast g.layer at
 
 -- the table has these sets and look-ups more, or some of them
-pub record HasGrown (old new : TableView) (more_sets : List (List ℕ)) (more_look_ups : List LookUp) : Type 0 where
+pub record HasGrown (old new : Tabled) (more_sets : List (List ℕ)) (more_look_ups : List LookUp) : Type 0 where
   pub graph : new.graph ≡ old.graph
   pub limit : new.limit ≡ old.limit
   pub kept : (more : List (List ℕ)) × (old.sets ++ more ≡ new.sets)
@@ -60,11 +61,11 @@ pub record HasGrown (old new : TableView) (more_sets : List (List ℕ)) (more_lo
   pub stay : (look_up : LookUp) → Has old.look_ups look_up → Has new.look_ups look_up
 
 -- the table keeps what it holds
-pub record HasKept (old new : TableView) : Type 0 where
+pub record HasKept (old new : Tabled) : Type 0 where
   pub graph : new.graph ≡ old.graph
   pub limit : new.limit ≡ old.limit
   pub sets : (more : List (List ℕ)) × (old.sets ++ more ≡ new.sets)
-  pub sound : IsSound new
+  pub sound : IsTabled new
 
 -- the words that reach a set are those that reached one before, with those of a choice of edges behind them
 abbrev pub Extends : Automaton → List ReadingPlace → Pass → Pass → Type 0
@@ -89,17 +90,17 @@ pub record HasRead (A : Automaton) (ps : List ReadingPlace) (P Q : Pass) : Type 
 
 -- what is left where reading was given up
 pub record Stop : Type 0 where
-  pub table : TableView
+  pub table : Tabled
   pub steps : ℕ
 
-abbrev pub stop : TableView → ℕ → Stop
+abbrev pub stop : Tabled → ℕ → Stop
 stop t n = record { table = t; steps = n }
 
 -- reading was given up: the table keeps what it holds, and the look-ups that were made then paid for the steps, with so much
 -- for the edges
 pub record StopsWithin (A : Automaton) (ps : List ReadingPlace) (P : Pass) (more : List (List ℕ)) (for_edges : ℕ) (S : Stop) : Type 0 where
   pub table : HasGrown P.table S.table more (look_ups_asked A (sets_of P) (asks ps))
-  pub sound : IsSound S.table
+  pub sound : IsTabled S.table
   pub made : List LookUp
   pub distinct : AreDistinct made
   pub few : length made ≤ length S.table.look_ups
@@ -116,8 +117,12 @@ HasStopped A ps P S = StopsWithin A ps P (sets_met A (sets_of P) (asks ps)) (6 *
 abbrev pub HasStoppedAt : Automaton → ReadingPlace → Pass → Stop → Type 0
 HasStoppedAt A p P S = StopsWithin A (p ∷ []) P (sets_on A (sets_of P) p.ask) (3 * edges_read A (sets_of P) (p.ask ∷ [])) S
 
+-- what sets and look-ups weigh, each of them once
+abbrev pub weight_of : Automaton → List (List ℕ) → List LookUp → ℕ
+weight_of A sets look_ups = sets_weight (once bytes_eq sets) + look_ups_weight A (once look_up_same look_ups)
+
 -- more than the limit, and no more than the table held with these sets and look-ups
-pub record IsExcess (t : TableView) (sets : List (List ℕ)) (look_ups : List LookUp) (weight : ℕ) : Type 0 where
+pub record IsExcess (t : Tabled) (sets : List (List ℕ)) (look_ups : List LookUp) (weight : ℕ) : Type 0 where
   pub more : t.limit < weight
   pub most : weight ≤ weight_of t.graph (t.sets ++ sets) (t.look_ups ++ look_ups)
 
@@ -129,7 +134,7 @@ pub record HasEnded (A : Automaton) (n : ℕ) (P Q : Pass) : Type 0 where
   pub every : Q.graph.stepped ≡ length Q.graph.layer
   pub table : HasGrown P.table Q.table [] (look_ups_asked A (sets_of P) (ended ∷ []))
   pub holds : (look_up : LookUp) → Has (look_ups_asked A (sets_of P) (ended ∷ [])) look_up → Has Q.table.look_ups look_up
-  pub sound : IsSound Q.table
+  pub sound : IsTabled Q.table
   pub steps :
       Q.steps + Q.graph.live + length P.table.look_ups * size A
       ≤ P.steps + P.graph.live + 3 * length P.graph.layer + 3 * edges_read A (sets_of P) (ended ∷ []) + length Q.table.look_ups * size A

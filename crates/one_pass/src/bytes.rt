@@ -8,7 +8,7 @@ ghost use Rattle.one_pass.specs.Faults.{IsFaultAt};
 ghost use Rattle.one_pass.specs.Known.{AreLookUps, IsEntry, KeepsLayers, Knows, Stands, layer_at};
 ghost use Rattle.one_pass.specs.Passes.{HasRead, HasStopped, IsReady, pass, stop};
 ghost use Rattle.one_pass.specs.Places.{byte_at};
-ghost use Rattle.one_pass.specs.Seen.{held, whole};
+ghost use Rattle.one_pass.specs.Seen.{whole};
 
 use crate::known::{Known, KnownStep, STILL, UNKNOWN};
 use crate::places::step_byte;
@@ -28,15 +28,15 @@ pub fn read_byte<L: Ledger>(
     byte: u8,
     steps: &mut Steps<L>,
 ) -> Result<Option<usize>, TableFault>
-    requires ready { IsReady (pass (held table.old) (whole graph.old) steps.old) at }
-    requires known { Knows (held table.old) known.old }
-    requires stands { Stands (held table.old) graph.old known.old layer }
-    ensures read { OnOk result (HasRead table.old.graph (byte_at at byte ∷ []) (pass (held table.old) (whole graph.old) steps.old) (pass (held table.new) (whole graph.new) steps.new)) }
-    ensures ready { OnOk result (IsReady (pass (held table.new) (whole graph.new) steps.new) (at + 1)) }
-    ensures known { OnOk result (Knows (held table.new) known.new) }
-    ensures stands { IfOk result (Stands (held table.new) graph.new known.new) }
-    ensures stopped { OnErr result (HasStopped table.old.graph (byte_at at byte ∷ []) (pass (held table.old) (whole graph.old) steps.old) (stop (held table.new) steps.new)) }
-    ensures cause { IfErr result (λ e. IsFaultAt (byte_at at byte ∷ []) (pass (held table.old) (whole graph.old) steps.old) e) }
+    requires ready { IsReady (pass table.old (whole graph.old) steps.old) at }
+    requires known { Knows table.old known.old }
+    requires stands { Stands table.old graph.old known.old layer }
+    ensures read { OnOk result (HasRead table.old.graph (byte_at at byte ∷ []) (pass table.old (whole graph.old) steps.old) (pass table.new (whole graph.new) steps.new)) }
+    ensures ready { OnOk result (IsReady (pass table.new (whole graph.new) steps.new) (at + 1)) }
+    ensures known { OnOk result (Knows table.new known.new) }
+    ensures stands { IfOk result (Stands table.new graph.new known.new) }
+    ensures stopped { OnErr result (HasStopped table.old.graph (byte_at at byte ∷ []) (pass table.old (whole graph.old) steps.old) (stop table.new steps.new)) }
+    ensures cause { IfErr result (λ e. IsFaultAt (byte_at at byte ∷ []) (pass table.old (whole graph.old) steps.old) e) }
 {
     match layer {
         Some(number) => match run_layer(table, graph, known, number, at, byte, steps) {
@@ -64,14 +64,14 @@ fn step_anew<L: Ledger>(
     byte: u8,
     steps: &mut Steps<L>,
 ) -> Result<Option<usize>, TableFault>
-    requires ready { IsReady (pass (held table.old) (whole graph.old) steps.old) at }
-    requires known { Knows (held table.old) known.old }
-    ensures read { OnOk result (HasRead table.old.graph (byte_at at byte ∷ []) (pass (held table.old) (whole graph.old) steps.old) (pass (held table.new) (whole graph.new) steps.new)) }
-    ensures ready { OnOk result (IsReady (pass (held table.new) (whole graph.new) steps.new) (at + 1)) }
-    ensures known { OnOk result (Knows (held table.new) known.new) }
-    ensures stands { IfOk result (Stands (held table.new) graph.new known.new) }
-    ensures stopped { OnErr result (HasStopped table.old.graph (byte_at at byte ∷ []) (pass (held table.old) (whole graph.old) steps.old) (stop (held table.new) steps.new)) }
-    ensures cause { IfErr result (λ e. IsFaultAt (byte_at at byte ∷ []) (pass (held table.old) (whole graph.old) steps.old) e) }
+    requires ready { IsReady (pass table.old (whole graph.old) steps.old) at }
+    requires known { Knows table.old known.old }
+    ensures read { OnOk result (HasRead table.old.graph (byte_at at byte ∷ []) (pass table.old (whole graph.old) steps.old) (pass table.new (whole graph.new) steps.new)) }
+    ensures ready { OnOk result (IsReady (pass table.new (whole graph.new) steps.new) (at + 1)) }
+    ensures known { OnOk result (Knows table.new known.new) }
+    ensures stands { IfOk result (Stands table.new graph.new known.new) }
+    ensures stopped { OnErr result (HasStopped table.old.graph (byte_at at byte ∷ []) (pass table.old (whole graph.old) steps.old) (stop table.new steps.new)) }
+    ensures cause { IfErr result (λ e. IsFaultAt (byte_at at byte ∷ []) (pass table.old (whole graph.old) steps.old) e) }
 {
     if let Err(fault) = step_byte(table, graph, at, byte, steps) {
         return Err(fault);
@@ -90,11 +90,11 @@ fn run_layer<L: Ledger>(
     byte: u8,
     steps: &mut Steps<L>,
 ) -> Option<usize>
-    requires ready { IsReady (pass (held table.now) (whole graph.old) steps.old) at }
-    requires known { Knows (held table.now) known.now }
+    requires ready { IsReady (pass table.now (whole graph.old) steps.old) at }
+    requires known { Knows table.now known.now }
     requires stands { slice_get known.now.layers layer ≡ Some (sets_of graph.old.layer) }
-    ensures read { IfSome result (λ _. HasRead table.now.graph (byte_at at byte ∷ []) (pass (held table.now) (whole graph.old) steps.old) (pass (held table.now) (whole graph.new) steps.new)) }
-    ensures ready { IfSome result (λ _. IsReady (pass (held table.now) (whole graph.new) steps.new) (at + 1)) }
+    ensures read { IfSome result (λ _. HasRead table.now.graph (byte_at at byte ∷ []) (pass table.now (whole graph.old) steps.old) (pass table.now (whole graph.new) steps.new)) }
+    ensures ready { IfSome result (λ _. IsReady (pass table.now (whole graph.new) steps.new) (at + 1)) }
     ensures stands { IfSome result (λ next. slice_get known.now.layers next ≡ Some (sets_of graph.new.layer)) }
     ensures graph { result ≡ None → graph.new ≡ graph.old }
     ensures steps { result ≡ None → steps.new ≡ steps.old }
@@ -125,10 +125,10 @@ fn run_step<L: Ledger>(
     byte: u8,
     steps: &mut Steps<L>,
 ) -> Option<usize>
-    requires ready { IsReady (pass (held table.now) (whole graph.old) steps.old) at }
-    requires look_ups { AreLookUps (held table.now) byte (sets_of graph.old.layer) step.now.program.groups }
-    ensures read { IfSome result (λ _. HasRead table.now.graph (byte_at at byte ∷ []) (pass (held table.now) (whole graph.old) steps.old) (pass (held table.now) (whole graph.new) steps.new)) }
-    ensures ready { IfSome result (λ _. IsReady (pass (held table.now) (whole graph.new) steps.new) (at + 1)) }
+    requires ready { IsReady (pass table.now (whole graph.old) steps.old) at }
+    requires look_ups { AreLookUps table.now byte (sets_of graph.old.layer) step.now.program.groups }
+    ensures read { IfSome result (λ _. HasRead table.now.graph (byte_at at byte ∷ []) (pass table.now (whole graph.old) steps.old) (pass table.now (whole graph.new) steps.new)) }
+    ensures ready { IfSome result (λ _. IsReady (pass table.now (whole graph.new) steps.new) (at + 1)) }
     ensures next { IfSome result (λ next. (next ≡ step.now.next) × (sets_of graph.new.layer ≡ step.now.program.targets)) }
     ensures graph { result ≡ None → graph.new ≡ graph.old }
     ensures steps { result ≡ None → steps.new ≡ steps.old }

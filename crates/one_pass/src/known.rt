@@ -6,10 +6,10 @@
 ghost use Rattle.std.specs.Prelude.{◌≡◌, ℕ, ◌+◌, ◌*◌, ◌<◌, ◌≤◌, [], ◌∷◌, ◌++◌, length, slice_get, Some, None, IfOk, IfSome, IsTrue};
 ghost use Rattle.output_graph.specs.Graph.{sets_of};
 ghost use Rattle.output_graph.specs.Source.{Edges};
-ghost use Rattle.one_pass.specs.Held.{TableView};
+ghost use Rattle.set_table.specs.Tabled.{Tabled};
 ghost use Rattle.one_pass.specs.Known.{AreLookUps, AreStill, IsEntry, IsLookUp, IsStepOf, KeepsKnown, KeepsLayers, Knows, Stands, layer_at};
 ghost use Rattle.one_pass.specs.Passes.{AreGiven};
-ghost use Rattle.one_pass.specs.Seen.{held, whole};
+ghost use Rattle.one_pass.specs.Seen.{whole};
 
 use crate::places::stays_of;
 use output_graph::{OutputGraph, Program};
@@ -59,7 +59,7 @@ impl Known {
     /// Nothing is known, and about so many words of four bytes may be kept. What comes later is read without being kept, and no
     /// slower than a first time. Takes no memory.
     pub fn new(alloc: Global, words: usize) -> Known
-        ensures { (t : TableView) → Knows t result }
+        ensures { (t : Tabled) → Knows t result }
     {
         Known {
             alloc,
@@ -74,7 +74,7 @@ impl Known {
     /// What is entered for a byte of a layer.
     pub(crate) fn entry(&self, layer: usize, byte: u8) -> u32
         requires { layer < length self.now.layers }
-        ensures { (t : TableView) → Knows t self.now → IsEntry t self.now.layers self.now.steps.items byte (layer_at self.now.layers layer) result }
+        ensures { (t : Tabled) → Knows t self.now → IsEntry t self.now.layers self.now.steps.items byte (layer_at self.now.layers layer) result }
     {
         if self.entries.len() / BYTES <= layer {
             return UNKNOWN;
@@ -91,11 +91,11 @@ impl Known {
         before: Option<usize>,
         byte: u8,
     ) -> Option<usize>
-        requires known { Knows (held table.now) self.old }
-        requires given { AreGiven (held table.now) (whole graph.now) }
+        requires known { Knows table.now self.old }
+        requires given { AreGiven table.now (whole graph.now) }
         requires fresh { graph.now.stepped ≡ 0 }
-        ensures known { Knows (held table.now) self.new }
-        ensures stands { Stands (held table.now) graph.now self.new result }
+        ensures known { Knows table.now self.new }
+        ensures stands { Stands table.now graph.now self.new result }
     {
         if let Some(layer) = before {
             self.learn(table, layer, byte);
@@ -105,11 +105,11 @@ impl Known {
 
     /// The number of the graph's layer. If it has none, the bytes on which the layer stays are kept.
     pub(crate) fn stand(&mut self, table: &Table<'_>, graph: &OutputGraph) -> Option<usize>
-        requires known { Knows (held table.now) self.old }
-        requires given { AreGiven (held table.now) (whole graph.now) }
+        requires known { Knows table.now self.old }
+        requires given { AreGiven table.now (whole graph.now) }
         requires fresh { graph.now.stepped ≡ 0 }
-        ensures known { Knows (held table.now) self.new }
-        ensures stands { Stands (held table.now) graph.now self.new result }
+        ensures known { Knows table.now self.new }
+        ensures stands { Stands table.now graph.now self.new result }
     {
         if let Some(layer) = self.locate(graph) {
             return Some(layer);
@@ -168,8 +168,8 @@ impl Known {
 
     /// Keeps what the layer of a number does on a byte, if each of its sets has been asked for it.
     fn learn(&mut self, table: &Table<'_>, layer: usize, byte: u8)
-        requires { Knows (held table.now) self.old }
-        ensures { Knows (held table.now) self.new }
+        requires { Knows table.now self.old }
+        ensures { Knows table.now self.new }
     {
         if self.layers.len() <= layer {
             return;
@@ -197,10 +197,10 @@ impl Known {
 
     /// Keeps a program of a layer on a byte.
     fn learn_step(&mut self, table: &Table<'_>, layer: usize, byte: u8, program: Program)
-        requires known { Knows (held table.now) self.old }
+        requires known { Knows table.now self.old }
         requires within { layer < length self.old.layers }
-        requires look_ups { AreLookUps (held table.now) byte (layer_at self.old.layers layer) program.groups }
-        ensures { Knows (held table.now) self.new }
+        requires look_ups { AreLookUps table.now byte (layer_at self.old.layers layer) program.groups }
+        ensures { Knows table.now self.new }
     {
         let size = step_words(program.edges(), program.sources());
         if self.left < size {
@@ -218,10 +218,10 @@ impl Known {
 
     /// Keeps what a layer does on a byte, where there is memory.
     fn add_step(&mut self, table: &Table<'_>, layer: usize, byte: u8, step: KnownStep)
-        requires known { Knows (held table.now) self.old }
+        requires known { Knows table.now self.old }
         requires within { layer < length self.old.layers }
-        requires step { IsStepOf (held table.now) self.old.layers byte (layer_at self.old.layers layer) step }
-        ensures { Knows (held table.now) self.new }
+        requires step { IsStepOf table.now self.old.layers byte (layer_at self.old.layers layer) step }
+        ensures { Knows table.now self.new }
     {
         let place = self.steps.len();
         if place >= MOST_WORDS {
@@ -235,10 +235,10 @@ impl Known {
 
     /// Enters what is known of a byte of a layer, where there is room for it.
     fn enter(&mut self, table: &Table<'_>, layer: usize, byte: u8, entry: u32)
-        requires known { Knows (held table.now) self.old }
+        requires known { Knows table.now self.old }
         requires within { layer < length self.old.layers }
-        requires entry { IsEntry (held table.now) self.old.layers self.old.steps.items byte (layer_at self.old.layers layer) entry }
-        ensures { Knows (held table.now) self.new }
+        requires entry { IsEntry table.now self.old.layers self.old.steps.items byte (layer_at self.old.layers layer) entry }
+        ensures { Knows table.now self.new }
     {
         if layer < self.entries.len() / BYTES {
             self.entries[BYTES * layer + byte as usize] = entry;
@@ -284,7 +284,7 @@ fn sets_in(alloc: Global, graph: &OutputGraph) -> Result<Vec<u32>, OutOfMemory>
 
 /// Whether each of these sets was asked for the byte, and has one edge on it, without marks and to itself.
 fn are_still(table: &Table<'_>, sets: &[u32], byte: u8) -> bool
-    ensures { IsTrue result → AreStill (held table.now) byte sets.now }
+    ensures { IsTrue result → AreStill table.now byte sets.now }
 {
     for set in sets {
         if !is_still(table, *set, byte) {
@@ -296,7 +296,7 @@ fn are_still(table: &Table<'_>, sets: &[u32], byte: u8) -> bool
 
 /// Whether a set was asked for the byte, and has one edge on it, without marks and to itself.
 fn is_still(table: &Table<'_>, set: u32, byte: u8) -> bool
-    ensures { IsTrue result → AreStill (held table.now) byte (set ∷ []) }
+    ensures { IsTrue result → AreStill table.now byte (set ∷ []) }
 {
     match table.asked_row(set, byte) {
         Some(edges) => edges.len() == 1 && leads_back(edges[0], set),
@@ -313,7 +313,7 @@ fn leads_back(edge: Edge, set: u32) -> bool
 
 /// The program of these sets on a byte, if each of them was asked for it.
 fn program_of(alloc: Global, table: &Table<'_>, sets: &[u32], byte: u8) -> Option<Program>
-    ensures { IfSome result (λ p. AreLookUps (held table.now) byte sets.now p.groups) }
+    ensures { IfSome result (λ p. AreLookUps table.now byte sets.now p.groups) }
 {
     let mut program = Program::new(alloc);
     for set in sets {
@@ -324,7 +324,7 @@ fn program_of(alloc: Global, table: &Table<'_>, sets: &[u32], byte: u8) -> Optio
 
 /// The program with the edges of one set more, if it was asked for the byte.
 fn with_look_up(program: Program, table: &Table<'_>, set: u32, byte: u8) -> Option<Program>
-    ensures { IfSome result (λ p. (group : Edges) × IsLookUp (held table.now) byte set group × (p.groups ≡ program.groups ++ group ∷ [])) }
+    ensures { IfSome result (λ p. (group : Edges) × IsLookUp table.now byte set group × (p.groups ≡ program.groups ++ group ∷ [])) }
 {
     let edges = table.asked_row(set, byte)?;
     match program.with_source(edges) {

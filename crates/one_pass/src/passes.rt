@@ -8,7 +8,7 @@ ghost use Rattle.span_core.specs.Intervals.{AreApart, Covers};
 ghost use Rattle.one_pass.specs.Faults.{IsFaultAt};
 ghost use Rattle.one_pass.specs.Known.{Knows};
 ghost use Rattle.one_pass.specs.Passes.{AllStayOn, AreGiven, HasRead, HasStopped, IsReady, pass, stop};
-ghost use Rattle.one_pass.specs.Seen.{held, whole};
+ghost use Rattle.one_pass.specs.Seen.{whole};
 ghost use Rattle.one_pass.specs.Places.{bytes_at, gap_at, part_places, parts_places};
 ghost use Rattle.one_pass.specs.declared.passes.TheConstants.{QUIET};
 
@@ -36,16 +36,15 @@ pub fn read_piece<L: Ledger>(
     piece: &[u8],
     steps: &mut Steps<L>,
 ) -> Result<(), TableFault>
-    requires known { Knows (held table.old) known.old }
-    requires ready { IsReady (pass (held table.old) (whole graph.old) steps.old) at }
+    requires known { Knows table.old known.old }
+    requires ready { IsReady (pass table.old (whole graph.old) steps.old) at }
     requires few { at + length piece.now < 2 ^ 32 }
-    ensures read { OnOk result (HasRead table.old.graph (bytes_at at piece.now) (pass (held table.old) (whole graph.old) steps.old) (pass (held table.new) (whole graph.new) steps.new)) }
-    ensures ready { OnOk result (IsReady (pass (held table.new) (whole graph.new) steps.new) (at + length piece.now)) }
-    ensures known { OnOk result (Knows (held table.new) known.new) }
-    ensures stopped { OnErr result (HasStopped table.old.graph (bytes_at at piece.now) (pass (held table.old) (whole graph.old) steps.old) (stop (held table.new) steps.new)) }
-    ensures cause { IfErr result (λ e. IsFaultAt (bytes_at at piece.now) (pass (held table.old) (whole graph.old) steps.old) e) }
+    ensures read { OnOk result (HasRead table.old.graph (bytes_at at piece.now) (pass table.old (whole graph.old) steps.old) (pass table.new (whole graph.new) steps.new)) }
+    ensures ready { OnOk result (IsReady (pass table.new (whole graph.new) steps.new) (at + length piece.now)) }
+    ensures known { OnOk result (Knows table.new known.new) }
+    ensures stopped { OnErr result (HasStopped table.old.graph (bytes_at at piece.now) (pass table.old (whole graph.old) steps.old) (stop table.new steps.new)) }
+    ensures cause { IfErr result (λ e. IsFaultAt (bytes_at at piece.now) (pass table.old (whole graph.old) steps.old) e) }
 {
-    table.start();
     let mut layer = known.stand(table, graph);
     let mut skipper = Skipper::new();
     let mut quiet = 0;
@@ -106,13 +105,13 @@ fn read_on(
     i: usize,
     quiet: &mut u32,
 ) -> usize
-    requires given { AreGiven (held table.now) (whole graph.now) }
+    requires given { AreGiven table.now (whole graph.now) }
     requires fresh { graph.now.stepped ≡ 0 }
     requires place { i ≤ length piece.now }
     requires counted { quiet.old ≤ QUIET }
     ensures within { result ≤ length piece.now }
     ensures later { i ≤ result }
-    ensures still { (k : ℕ) → i ≤ k → k < result → AllStayOn (held table.now) (whole graph.now) (slice_index piece.now k) }
+    ensures still { (k : ℕ) → i ≤ k → k < result → AllStayOn table.now (whole graph.now) (slice_index piece.now k) }
     ensures counted { quiet.new < QUIET }
 {
     if *quiet < QUIET {
@@ -125,10 +124,10 @@ fn read_on(
 /// How many bytes at the front of a piece change nothing.
 #[inline(never)]
 fn still_bytes(table: &Table<'_>, graph: &OutputGraph, skipper: &mut Skipper, piece: &[u8]) -> usize
-    requires given { AreGiven (held table.now) (whole graph.now) }
+    requires given { AreGiven table.now (whole graph.now) }
     requires fresh { graph.now.stepped ≡ 0 }
     ensures within { result ≤ length piece.now }
-    ensures still { (k : ℕ) → k < result → AllStayOn (held table.now) (whole graph.now) (slice_index piece.now k) }
+    ensures still { (k : ℕ) → k < result → AllStayOn table.now (whole graph.now) (slice_index piece.now k) }
 {
     let stays = stays_of(table, graph);
     skipper.first_outside(&stays, piece).unwrap_or(piece.len())
@@ -142,11 +141,11 @@ fn read_gap<L: Ledger>(
     first: u32,
     steps: &mut Steps<L>,
 ) -> Result<(), TableFault>
-    requires { IsReady (pass (held table.old) (whole graph.old) steps.old) at }
-    ensures read { OnOk result (HasRead table.old.graph (gap_at at first) (pass (held table.old) (whole graph.old) steps.old) (pass (held table.new) (whole graph.new) steps.new)) }
-    ensures ready { OnOk result (IsReady (pass (held table.new) (whole graph.new) steps.new) at) }
-    ensures stopped { OnErr result (HasStopped table.old.graph (gap_at at first) (pass (held table.old) (whole graph.old) steps.old) (stop (held table.new) steps.new)) }
-    ensures cause { IfErr result (λ e. IsFaultAt (gap_at at first) (pass (held table.old) (whole graph.old) steps.old) e) }
+    requires { IsReady (pass table.old (whole graph.old) steps.old) at }
+    ensures read { OnOk result (HasRead table.old.graph (gap_at at first) (pass table.old (whole graph.old) steps.old) (pass table.new (whole graph.new) steps.new)) }
+    ensures ready { OnOk result (IsReady (pass table.new (whole graph.new) steps.new) at) }
+    ensures stopped { OnErr result (HasStopped table.old.graph (gap_at at first) (pass table.old (whole graph.old) steps.old) (stop table.new steps.new)) }
+    ensures cause { IfErr result (λ e. IsFaultAt (gap_at at first) (pass table.old (whole graph.old) steps.old) e) }
 {
     if at >= first {
         return Ok(());
@@ -164,17 +163,17 @@ fn read_part<L: Ledger>(
     part: (u32, u32),
     steps: &mut Steps<L>,
 ) -> Result<(), TableFault>
-    requires known { Knows (held table.old) known.old }
-    requires ready { IsReady (pass (held table.old) (whole graph.old) steps.old) at }
+    requires known { Knows table.old known.old }
+    requires ready { IsReady (pass table.old (whole graph.old) steps.old) at }
     requires later { at ≤ part.0 }
     requires rising { part.0 ≤ part.1 }
     requires within { part.1 ≤ length doc.now }
     requires few { length doc.now ≤ 2 ^ 28 }
-    ensures read { OnOk result (HasRead table.old.graph (part_places at part doc.now) (pass (held table.old) (whole graph.old) steps.old) (pass (held table.new) (whole graph.new) steps.new)) }
-    ensures ready { OnOk result (IsReady (pass (held table.new) (whole graph.new) steps.new) (min (part.1 + 1) (length doc.now))) }
-    ensures known { OnOk result (Knows (held table.new) known.new) }
-    ensures stopped { OnErr result (HasStopped table.old.graph (part_places at part doc.now) (pass (held table.old) (whole graph.old) steps.old) (stop (held table.new) steps.new)) }
-    ensures cause { IfErr result (λ e. IsFaultAt (part_places at part doc.now) (pass (held table.old) (whole graph.old) steps.old) e) }
+    ensures read { OnOk result (HasRead table.old.graph (part_places at part doc.now) (pass table.old (whole graph.old) steps.old) (pass table.new (whole graph.new) steps.new)) }
+    ensures ready { OnOk result (IsReady (pass table.new (whole graph.new) steps.new) (min (part.1 + 1) (length doc.now))) }
+    ensures known { OnOk result (Knows table.new known.new) }
+    ensures stopped { OnErr result (HasStopped table.old.graph (part_places at part doc.now) (pass table.old (whole graph.old) steps.old) (stop table.new steps.new)) }
+    ensures cause { IfErr result (λ e. IsFaultAt (part_places at part doc.now) (pass table.old (whole graph.old) steps.old) e) }
 {
     if let Err(fault) = read_gap(table, graph, at, part.0, steps) {
         return Err(fault);
@@ -193,15 +192,15 @@ pub fn read_parts<L: Ledger>(
     parts: &[(u32, u32)],
     steps: &mut Steps<L>,
 ) -> Result<(), TableFault>
-    requires known { Knows (held table.old) known.old }
-    requires ready { IsReady (pass (held table.old) (whole graph.old) steps.old) 0 }
+    requires known { Knows table.old known.old }
+    requires ready { IsReady (pass table.old (whole graph.old) steps.old) 0 }
     requires apart { AreApart parts.now }
     requires within { (q : ℕ) → Covers parts.now q → q ≤ length doc.now }
     requires few { length doc.now ≤ 2 ^ 28 }
-    ensures read { OnOk result (HasRead table.old.graph (parts_places 0 parts.now doc.now) (pass (held table.old) (whole graph.old) steps.old) (pass (held table.new) (whole graph.new) steps.new)) }
-    ensures ready { OnOk result (IsReady (pass (held table.new) (whole graph.new) steps.new) (length doc.now)) }
-    ensures stopped { OnErr result (HasStopped table.old.graph (parts_places 0 parts.now doc.now) (pass (held table.old) (whole graph.old) steps.old) (stop (held table.new) steps.new)) }
-    ensures cause { IfErr result (λ e. IsFaultAt (parts_places 0 parts.now doc.now) (pass (held table.old) (whole graph.old) steps.old) e) }
+    ensures read { OnOk result (HasRead table.old.graph (parts_places 0 parts.now doc.now) (pass table.old (whole graph.old) steps.old) (pass table.new (whole graph.new) steps.new)) }
+    ensures ready { OnOk result (IsReady (pass table.new (whole graph.new) steps.new) (length doc.now)) }
+    ensures stopped { OnErr result (HasStopped table.old.graph (parts_places 0 parts.now doc.now) (pass table.old (whole graph.old) steps.old) (stop table.new steps.new)) }
+    ensures cause { IfErr result (λ e. IsFaultAt (parts_places 0 parts.now doc.now) (pass table.old (whole graph.old) steps.old) e) }
 {
     let mut at = 0;
     for part in parts {

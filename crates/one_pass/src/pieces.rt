@@ -10,7 +10,7 @@ ghost use Rattle.one_pass.specs.Faults.{IsFaultAt, IsFaultOf};
 ghost use Rattle.one_pass.specs.Known.{Knows};
 ghost use Rattle.one_pass.specs.Passes.{HasEnded, HasRead, HasStopped, HasStoppedAt, IsOpen, IsReady, pass, sets_of, stop};
 ghost use Rattle.one_pass.specs.Places.{bytes_at, end_at};
-ghost use Rattle.one_pass.specs.Seen.{ending_from, held, whole};
+ghost use Rattle.one_pass.specs.Seen.{ending_from, whole};
 
 use crate::known::{Known, MOST_WORDS};
 use crate::passes::read_piece;
@@ -37,12 +37,12 @@ pub fn advance<L: Ledger>(
     piece: &[u8],
     steps: &mut Steps<L>,
 ) -> Result<OutputGraph, TableFault>
-    requires open { IsOpen (held table.old) (whole graph) at }
+    requires open { IsOpen table.old (whole graph) at }
     requires few { at + length piece.now ≤ 2 ^ 28 }
-    ensures read { IfOk result (λ g. HasRead table.old.graph (bytes_at at piece.now) (pass (held table.old) (whole graph) steps.old) (pass (held table.new) (whole g) steps.new)) }
-    ensures open { IfOk result (λ g. IsOpen (held table.new) (whole g) (at + length piece.now)) }
-    ensures stopped { OnErr result (HasStopped table.old.graph (bytes_at at piece.now) (pass (held table.old) (whole graph) steps.old) (stop (held table.new) steps.new)) }
-    ensures cause { IfErr result (λ e. IsFaultAt (bytes_at at piece.now) (pass (held table.old) (whole graph) steps.old) e) }
+    ensures read { IfOk result (λ g. HasRead table.old.graph (bytes_at at piece.now) (pass table.old (whole graph) steps.old) (pass table.new (whole g) steps.new)) }
+    ensures open { IfOk result (λ g. IsOpen table.new (whole g) (at + length piece.now)) }
+    ensures stopped { OnErr result (HasStopped table.old.graph (bytes_at at piece.now) (pass table.old (whole graph) steps.old) (stop table.new steps.new)) }
+    ensures cause { IfErr result (λ e. IsFaultAt (bytes_at at piece.now) (pass table.old (whole graph) steps.old) e) }
 {
     let mut known = Known::new(alloc, MOST_WORDS);
     advance_by(table, graph, &mut known, at, piece, steps)
@@ -58,17 +58,17 @@ pub fn advance_by<L: Ledger>(
     piece: &[u8],
     steps: &mut Steps<L>,
 ) -> Result<OutputGraph, TableFault>
-    requires known { Knows (held table.old) known.old }
-    requires open { IsOpen (held table.old) (whole graph) at }
+    requires known { Knows table.old known.old }
+    requires open { IsOpen table.old (whole graph) at }
     requires few { at + length piece.now ≤ 2 ^ 28 }
-    ensures read { IfOk result (λ g. HasRead table.old.graph (bytes_at at piece.now) (pass (held table.old) (whole graph) steps.old) (pass (held table.new) (whole g) steps.new)) }
-    ensures ready { IfOk result (λ g. IsReady (pass (held table.new) (whole g) steps.new) (at + length piece.now)) }
-    ensures known { OnOk result (Knows (held table.new) known.new) }
-    ensures stopped { OnErr result (HasStopped table.old.graph (bytes_at at piece.now) (pass (held table.old) (whole graph) steps.old) (stop (held table.new) steps.new)) }
-    ensures cause { IfErr result (λ e. IsFaultAt (bytes_at at piece.now) (pass (held table.old) (whole graph) steps.old) e) }
+    ensures read { IfOk result (λ g. HasRead table.old.graph (bytes_at at piece.now) (pass table.old (whole graph) steps.old) (pass table.new (whole g) steps.new)) }
+    ensures ready { IfOk result (λ g. IsReady (pass table.new (whole g) steps.new) (at + length piece.now)) }
+    ensures known { OnOk result (Knows table.new known.new) }
+    ensures stopped { OnErr result (HasStopped table.old.graph (bytes_at at piece.now) (pass table.old (whole graph) steps.old) (stop table.new steps.new)) }
+    ensures cause { IfErr result (λ e. IsFaultAt (bytes_at at piece.now) (pass table.old (whole graph) steps.old) e) }
 {
     let mut graph = graph;
-    table.start();
+    table.is_table();
     graph.is_graph();
     if let Err(fault) = read_piece(table, &mut graph, known, at, piece, steps) {
         return Err(fault);
@@ -86,16 +86,16 @@ pub fn finish<L: Ledger>(
     at: u32,
     steps: &mut Steps<L>,
 ) -> Result<OutputGraph, TableFault>
-    requires open { IsOpen (held table.old) (whole graph) at }
+    requires open { IsOpen table.old (whole graph) at }
     requires few { at ≤ 2 ^ 28 }
-    ensures ended { IfOk result (λ g. HasEnded table.old.graph at (pass (held table.old) (whole graph) steps.old) (pass (held table.new) (ending_from (sources graph) g) steps.new)) }
+    ensures ended { IfOk result (λ g. HasEnded table.old.graph at (pass table.old (whole graph) steps.old) (pass table.new (ending_from (sources graph) g) steps.new)) }
     ensures every { IfOk result (λ g. g.stepped ≡ length g.layer) }
     ensures only { IfOk result (λ g. (s : ℕ) → Has (numbers_in g.next) s → s ≡ 0) }
-    ensures stopped { OnErr result (HasStoppedAt table.old.graph (end_at at) (pass (held table.old) (whole graph) steps.old) (stop (held table.new) steps.new)) }
-    ensures cause { IfErr result (λ e. IsFaultOf (held table.old) [] (look_ups_asked table.old.graph (sets_of (pass (held table.old) (whole graph) steps.old)) (ended ∷ [])) e) }
+    ensures stopped { OnErr result (HasStoppedAt table.old.graph (end_at at) (pass table.old (whole graph) steps.old) (stop table.new steps.new)) }
+    ensures cause { IfErr result (λ e. IsFaultOf table.old [] (look_ups_asked table.old.graph (sets_of (pass table.old (whole graph) steps.old)) (ended ∷ [])) e) }
 {
     let mut graph = graph;
-    table.start();
+    table.is_table();
     graph.is_graph();
     if let Err(fault) = end_layer(table, &mut graph, at, steps) {
         return Err(fault);

@@ -8,13 +8,12 @@ ghost use Rattle.span_core.specs.Lists.{Has};
 ghost use Rattle.automaton_reading.specs.Reading.{byte_read, ended, rest_taken, look_ups_asked};
 ghost use Rattle.output_graph.specs.Graph.{IsCost, IsPlace, IsStepped, sets_of as numbers_in, sources};
 ghost use Rattle.output_graph.specs.Sound.{edges_of};
-ghost use Rattle.one_pass.specs.Causes.{HasCause};
 ghost use Rattle.one_pass.specs.Faults.{IsFaultAt, IsFaultOf};
-ghost use Rattle.one_pass.specs.Held.{rest_edges, look_up_of};
+ghost use Rattle.set_table.specs.Tabled.{IsRefusal, look_up, once_asked};
 ghost use Rattle.one_pass.specs.Passes.{AllStayOn, AreGiven, HasEnded, HasRead, HasStopped, HasStoppedAt, IsReady, pass, sets_of, stop};
 ghost use Rattle.one_pass.specs.Places.{byte_at, end_at, rest_at};
-ghost use Rattle.one_pass.specs.Seen.{ending_from, held, whole};
-ghost use Rattle.one_pass.specs.Turned.{HasNotTurned, HasTurned, HasTurnedEnd};
+ghost use Rattle.one_pass.specs.Seen.{ending_from, whole};
+ghost use Rattle.one_pass.specs.Turned.{HasNotTurned, HasTurned, HasTurnedEnd, rest_edges};
 
 use output_graph::OutputGraph;
 use set_table::{Table, TableFault};
@@ -29,11 +28,11 @@ pub fn step_byte<L: Ledger>(
     byte: u8,
     steps: &mut Steps<L>,
 ) -> Result<(), TableFault>
-    requires { IsReady (pass (held table.old) (whole graph.old) steps.old) at }
-    ensures read { OnOk result (HasRead table.old.graph (byte_at at byte ∷ []) (pass (held table.old) (whole graph.old) steps.old) (pass (held table.new) (whole graph.new) steps.new)) }
-    ensures ready { OnOk result (IsReady (pass (held table.new) (whole graph.new) steps.new) (at + 1)) }
-    ensures stopped { OnErr result (HasStopped table.old.graph (byte_at at byte ∷ []) (pass (held table.old) (whole graph.old) steps.old) (stop (held table.new) steps.new)) }
-    ensures cause { IfErr result (λ e. IsFaultAt (byte_at at byte ∷ []) (pass (held table.old) (whole graph.old) steps.old) e) }
+    requires { IsReady (pass table.old (whole graph.old) steps.old) at }
+    ensures read { OnOk result (HasRead table.old.graph (byte_at at byte ∷ []) (pass table.old (whole graph.old) steps.old) (pass table.new (whole graph.new) steps.new)) }
+    ensures ready { OnOk result (IsReady (pass table.new (whole graph.new) steps.new) (at + 1)) }
+    ensures stopped { OnErr result (HasStopped table.old.graph (byte_at at byte ∷ []) (pass table.old (whole graph.old) steps.old) (stop table.new steps.new)) }
+    ensures cause { IfErr result (λ e. IsFaultAt (byte_at at byte ∷ []) (pass table.old (whole graph.old) steps.old) e) }
 {
     for k in 0..graph.layer_len() {
         let set = graph.set_at(k);
@@ -61,15 +60,13 @@ fn turn_byte<L: Ledger>(
     requires left { k < length graph.old.layer }
     requires place { IsPlace graph.old at }
     ensures turned { OnOk result (HasTurned table.old table.new set (byte_read byte) at graph.old graph.new steps.old steps.new) }
-    ensures refused { OnErr result (HasNotTurned table.old table.new set (byte_read byte) graph.old steps.old steps.new) }
-    ensures cause { IfErr result (λ e. HasCause (held table.old) (look_up_of (held table.old) set (byte_read byte)) e) }
+    ensures refused { OnErr result (HasNotTurned table.old table.new set (byte_read byte) steps.old steps.new) }
+    ensures cause { IfErr result (IsRefusal (once_asked table.old (look_up table.old set (byte_read byte)))) }
 {
-    table.start();
     let turned = match table.row(set, byte, steps) {
         Ok(edges) => graph.step_source(k, at, edges, steps),
         Err(fault) => return Err(fault),
     };
-    table.start();
     match turned {
         Ok(()) => Ok(()),
         Err(OutOfMemory) => Err(TableFault::OutOfMemory),
@@ -79,9 +76,9 @@ fn turn_byte<L: Ledger>(
 /// The bytes that change nothing: each set of the layer has been asked for them, and has one edge on them,
 /// without marks and to itself. So the layer, its words and the table are the same after such a byte.
 pub fn stays_of(table: &Table<'_>, graph: &OutputGraph) -> ByteSet
-    requires given { AreGiven (held table.now) (whole graph.now) }
+    requires given { AreGiven table.now (whole graph.now) }
     requires fresh { graph.now.stepped ≡ 0 }
-    ensures { (b : ℕ) → b < 256 → IsTrue (bytes.contains result b) → AllStayOn (held table.now) (whole graph.now) b }
+    ensures { (b : ℕ) → b < 256 → IsTrue (bytes.contains result b) → AllStayOn table.now (whole graph.now) b }
 {
     let mut stays = ByteSet::all();
     for k in 0..graph.layer_len() {
@@ -99,11 +96,11 @@ pub fn step_rest<L: Ledger>(
     at: u32,
     steps: &mut Steps<L>,
 ) -> Result<(), TableFault>
-    requires { IsReady (pass (held table.old) (whole graph.old) steps.old) at }
-    ensures read { OnOk result (HasRead table.old.graph (rest_at at ∷ []) (pass (held table.old) (whole graph.old) steps.old) (pass (held table.new) (whole graph.new) steps.new)) }
-    ensures ready { OnOk result (IsReady (pass (held table.new) (whole graph.new) steps.new) at) }
-    ensures stopped { OnErr result (HasStopped table.old.graph (rest_at at ∷ []) (pass (held table.old) (whole graph.old) steps.old) (stop (held table.new) steps.new)) }
-    ensures cause { IfErr result (λ e. IsFaultAt (rest_at at ∷ []) (pass (held table.old) (whole graph.old) steps.old) e) }
+    requires { IsReady (pass table.old (whole graph.old) steps.old) at }
+    ensures read { OnOk result (HasRead table.old.graph (rest_at at ∷ []) (pass table.old (whole graph.old) steps.old) (pass table.new (whole graph.new) steps.new)) }
+    ensures ready { OnOk result (IsReady (pass table.new (whole graph.new) steps.new) at) }
+    ensures stopped { OnErr result (HasStopped table.old.graph (rest_at at ∷ []) (pass table.old (whole graph.old) steps.old) (stop table.new steps.new)) }
+    ensures cause { IfErr result (λ e. IsFaultAt (rest_at at ∷ []) (pass table.old (whole graph.old) steps.old) e) }
 {
     for k in 0..graph.layer_len() {
         let set = graph.set_at(k);
@@ -130,15 +127,13 @@ fn turn_rest<L: Ledger>(
     requires left { k < length graph.old.layer }
     requires place { IsPlace graph.old at }
     ensures turned { OnOk result (HasTurned table.old table.new set rest_taken at graph.old graph.new steps.old steps.new) }
-    ensures refused { OnErr result (HasNotTurned table.old table.new set rest_taken graph.old steps.old steps.new) }
-    ensures cause { IfErr result (λ e. HasCause (held table.old) (look_up_of (held table.old) set rest_taken) e) }
+    ensures refused { OnErr result (HasNotTurned table.old table.new set rest_taken steps.old steps.new) }
+    ensures cause { IfErr result (IsRefusal (once_asked table.old (look_up table.old set rest_taken))) }
 {
-    table.start();
     let turned = match table.rest(set, steps) {
         Ok(idle) => step_idle(graph, k, at, idle, steps),
         Err(fault) => return Err(fault),
     };
-    table.start();
     match turned {
         Ok(()) => Ok(()),
         Err(OutOfMemory) => Err(TableFault::OutOfMemory),
@@ -177,12 +172,12 @@ pub fn end_layer<L: Ledger>(
     at: u32,
     steps: &mut Steps<L>,
 ) -> Result<(), TableFault>
-    requires { IsReady (pass (held table.old) (whole graph.old) steps.old) at }
-    ensures ended { OnOk result (HasEnded table.old.graph at (pass (held table.old) (whole graph.old) steps.old) (pass (held table.new) (ending_from (sources graph.old) graph.new) steps.new)) }
+    requires { IsReady (pass table.old (whole graph.old) steps.old) at }
+    ensures ended { OnOk result (HasEnded table.old.graph at (pass table.old (whole graph.old) steps.old) (pass table.new (ending_from (sources graph.old) graph.new) steps.new)) }
     ensures every { OnOk result (graph.new.stepped ≡ length graph.new.layer) }
     ensures accepted { OnOk result ((s : ℕ) → Has (numbers_in graph.new.next) s → s ≡ 0) }
-    ensures stopped { OnErr result (HasStoppedAt table.old.graph (end_at at) (pass (held table.old) (whole graph.old) steps.old) (stop (held table.new) steps.new)) }
-    ensures cause { IfErr result (λ e. IsFaultOf (held table.old) [] (look_ups_asked table.old.graph (sets_of (pass (held table.old) (whole graph.old) steps.old)) (ended ∷ [])) e) }
+    ensures stopped { OnErr result (HasStoppedAt table.old.graph (end_at at) (pass table.old (whole graph.old) steps.old) (stop table.new steps.new)) }
+    ensures cause { IfErr result (λ e. IsFaultOf table.old [] (look_ups_asked table.old.graph (sets_of (pass table.old (whole graph.old) steps.old)) (ended ∷ [])) e) }
 {
     for k in 0..graph.layer_len() {
         let set = graph.set_at(k);
@@ -207,15 +202,13 @@ fn turn_end<L: Ledger>(
     requires left { k < length graph.old.layer }
     requires place { IsPlace graph.old at }
     ensures turned { OnOk result (HasTurnedEnd table.old table.new set at graph.old graph.new steps.old steps.new) }
-    ensures refused { OnErr result (HasNotTurned table.old table.new set ended graph.old steps.old steps.new) }
-    ensures cause { IfErr result (λ e. HasCause (held table.old) (look_up_of (held table.old) set ended) e) }
+    ensures refused { OnErr result (HasNotTurned table.old table.new set ended steps.old steps.new) }
+    ensures cause { IfErr result (IsRefusal (once_asked table.old (look_up table.old set ended))) }
 {
-    table.start();
     let turned = match table.ends(set, steps) {
         Ok(ends) => graph.end_source(k, at, ends, steps),
         Err(fault) => return Err(fault),
     };
-    table.start();
     match turned {
         Ok(()) => Ok(()),
         Err(OutOfMemory) => Err(TableFault::OutOfMemory),

@@ -8,7 +8,7 @@ ghost use Rattle.one_pass.specs.Passes.{HasKept};
 ghost use Rattle.span_core.specs.Lists.{Has};
 ghost use Rattle.output_graph.specs.Graph.{sets_of};
 ghost use Rattle.one_pass.specs.Places.{AreReadWords, is_touched};
-ghost use Rattle.one_pass.specs.Seen.{accepted_words, held};
+ghost use Rattle.one_pass.specs.Seen.{accepted_words};
 
 use crate::known::{Known, MOST_WORDS};
 use crate::passes::read_parts;
@@ -33,7 +33,7 @@ pub fn read<L: Ledger>(
     positions: &Touched,
     steps: &mut Steps<L>,
 ) -> Result<OutputGraph, TableFault>
-    requires new { IsNew table.old.graph (held table.old) }
+    requires new { IsNew table.old.graph table.old }
     requires few { length doc.now ≤ 2 ^ 28 }
     requires within { (q : ℕ) → Covers positions.now q → q ≤ length doc.now }
     ensures words { IfOk result (λ g. AreReadWords table.old.graph (is_touched positions.now) doc.now (accepted_words g)) }
@@ -43,7 +43,7 @@ pub fn read<L: Ledger>(
     ensures steps { IfOk result (λ g. steps.new + (2 * length g.cells + 2) + 1 ≤ steps.old + build table.old.graph doc.now (is_touched positions.now)) }
     ensures cells { IfOk result (λ g. length g.cells ≤ edges_K table.old.graph doc.now (is_touched positions.now) + 1) }
     ensures stopped { OnErr result (steps.new + 1 ≤ steps.old + build table.old.graph doc.now (is_touched positions.now)) }
-    ensures kept { OnErr result (HasKept (held table.old) (held table.new)) }
+    ensures kept { OnErr result (HasKept table.old table.new) }
     ensures cause { IfErr result (λ e. IsReadFault table.old.graph (is_touched positions.now) doc.now table.old.limit e) }
 {
     let mut graph = match OutputGraph::start(alloc, table.start(), steps) {
@@ -57,6 +57,5 @@ pub fn read<L: Ledger>(
     if let Err(fault) = end_layer(table, &mut graph, doc.len() as u32, steps) {
         return Err(fault);
     }
-    table.start();
     Ok(graph)
 }

@@ -11,13 +11,19 @@ use Rattle.marked_automaton.specs.Automaton.{Automaton}
 use Rattle.marked_automaton.proofs.Passing.{filter_cases, left_true, right_true}
 use Rattle.automaton_reading.specs.Reading.{Reach, LookUp, byte_read, edges, is_among, next_sets, once, look_up_edges, look_up_same, look_ups_asked, set_of, ways_taken}
 use Rattle.automaton_reading.proofs.Determined.{among_has, edge_way, has_set, set_has, way_edge}
-use Rattle.automaton_reading.proofs.Matching.{has_once}
+use Rattle.automaton_reading.proofs.Matching.{cons_sum, has_once}
 use Rattle.automaton_reading.proofs.MeasureLaws.{look_up_itself, same_look_up, set_is_up, up_same}
-use Rattle.set_table.proofs.HeldLaws.{sum_same}
 use Rattle.segment_filter.specs.Readings.{AlikeLaw, StepsTo}
 use Rattle.segment_filter.specs.Sets.{TakesNone}
 use Rattle.segment_filter.specs.Weights.{bytes_read, reading_look_ups, reading_weight, sets_asked, sets_read}
 use Rattle.segment_filter.proofs.SetLaws.{edge_is}
+
+sum_same : {X : Type 0} (v w : X → ℕ) (xs : List X) → ((x : X) → Has xs x → v x ≡ w x) → sum_by v xs ≡ sum_by w xs
+sum_same v w [] h = refl
+sum_same v w (x ∷ xs) h =
+    let here = h x (inl refl) in
+    let rest = sum_same v w xs (λ y m. h y (inr m)) in
+    omega (arith, here, rest, cons_sum v x xs, cons_sum w x xs)
 
 module _ (A B : Automaton) (a : TakesNone A) (b : TakesNone B) (starts : (p : ℕ) → Has A.starts p ↔ Has B.starts p)
     (steps : (p c q : ℕ) → StepsTo A p c q ↔ StepsTo B p c q) where

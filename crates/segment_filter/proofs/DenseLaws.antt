@@ -5,13 +5,12 @@ use Rattle.std.proofs.lemmas.Bool.{cases_eq}
 use Rattle.std.proofs.lemmas.List.{take_all}
 use Rattle.span_core.proofs.ListLaws.{get_set_same}
 use Rattle.marked_automaton.proofs.Listed.{some_same}
-use Rattle.automaton_reading.specs.Reading.{Reach, byte_read, edges}
-use Rattle.set_table.specs.Tabled.{Asking, Tabled, asking, once_asked, set_at}
+use Rattle.automaton_reading.specs.Reading.{Reach, LookUp, byte_read, edges}
+use Rattle.set_table.specs.Tabled.{Tabled, look_up, once_asked, set_at}
+use Rattle.set_table.proofs.OnceLaws.{holds_once, once_stay}
 use Rattle.segment_filter.specs.Dense.{AreTold, GoesTo, target_told}
 use Rattle.segment_filter.specs.Next.{IsNext, IsTarget}
 use Rattle.segment_filter.specs.Sets.{Extends}
-use Rattle.segment_filter.proofs.FirstTargets.{asked_edges_kept}
-use Rattle.segment_filter.proofs.Holding.{asked_here, asked_stay}
 use Rattle.segment_filter.proofs.SetLaws.{grows_asked}
 
 -- ---- a table that grows
@@ -20,27 +19,40 @@ target_grows : (new old : List (List ℕ)) → Extends new old → (rs : List Re
 target_grows new old grew [] to is = is
 target_grows new old grew (r ∷ rs) to is = (is.0, is.1, omega (arith, is.2, grew.0), grew.1 is.0 is.2 ∙ is.3)
 
+-- the edges of a set that was there are the same
+edges_kept : (old new : Tabled) (set b : ℕ) (to : Option ℕ) → new.graph ≡ old.graph → set_at old.sets set ≡ set_at new.sets set → IsTarget new.sets (edges old.graph (set_at old.sets set) (byte_read b)) to →
+    IsNext new set b new.sets to
+edges_kept old new set b to graph same next =
+    subst (λ (s : List ℕ). IsTarget new.sets (edges new.graph s (byte_read b)) to) same
+    (subst (λ A. IsTarget new.sets (edges A (set_at old.sets set) (byte_read b)) to) (sym graph) next)
+
 -- where a set goes stays so
-pub goes_still : (old new : Tabled) (r : Asking) (set b : ℕ) (to : Option ℕ) → new ≡ once_asked old r → GoesTo old set b to → GoesTo new set b to
+pub goes_still : (old new : Tabled) (r : LookUp) (set b : ℕ) (to : Option ℕ) → new ≡ once_asked old r → GoesTo old set b to → GoesTo new set b to
 goes_still old new r set b to is goes =
+    let h = holds_once old new r is in
     let grew = grows_asked new old r is in
+    let same : set_at old.sets set ≡ set_at new.sets set = sym (grew.sets.1 set goes.given) in
     record {
       given = omega (arith, goes.given, grew.sets.0);
-      asked = asked_stay old new r is (asking set (byte_read b)) goes.asked;
-      next = subst (λ (rs : List Reach). IsTarget new.sets rs to) (sym (asked_edges_kept old new r set b is goes.given))
-          (target_grows new.sets old.sets grew.sets (edges old.graph (set_at old.sets set) (byte_read b)) to goes.next);
+      asked = subst (λ (s : List ℕ). Has new.look_ups (let q : LookUp = record { set = s; ask = byte_read b } in q)) same (once_stay old new r h (look_up old set (byte_read b)) goes.asked);
+      next = edges_kept old new set b to h.graph same (target_grows new.sets old.sets grew.sets (edges old.graph (set_at old.sets set) (byte_read b)) to goes.next);
     }
 
-pub told_still : (old new : Tabled) (r : Asking) (entries : List ℕ) → new ≡ once_asked old r → AreTold old entries → AreTold new entries
+pub told_still : (old new : Tabled) (r : LookUp) (entries : List ℕ) → new ≡ once_asked old r → AreTold old entries → AreTold new entries
 told_still old new r entries is told set b e small at some = goes_still old new r set b (target_told e) is (told set b e small at some)
 
 -- what was asked is known from then on
-pub goes_there : (old new : Tabled) (set b : ℕ) (to : Option ℕ) → set < length old.sets → new ≡ once_asked old (asking set (byte_read b)) → IsNext old set b new.sets to → GoesTo new set b to
-goes_there old new set b to given is next = record {
-  given = (let grew = grows_asked new old (asking set (byte_read b)) is in omega (arith, given, grew.sets.0));
-  asked = asked_here old new (asking set (byte_read b)) is;
-  next = subst (λ (rs : List Reach). IsTarget new.sets rs to) (sym (asked_edges_kept old new (asking set (byte_read b)) set b is given)) next;
-}
+pub goes_there : (old new : Tabled) (set b : ℕ) (to : Option ℕ) → set < length old.sets → new ≡ once_asked old (look_up old set (byte_read b)) → IsNext old set b new.sets to → GoesTo new set b to
+goes_there old new set b to given is next =
+    let r = look_up old set (byte_read b) in
+    let h = holds_once old new r is in
+    let grew = grows_asked new old r is in
+    let same : set_at old.sets set ≡ set_at new.sets set = sym (grew.sets.1 set given) in
+    record {
+      given = omega (arith, given, grew.sets.0);
+      asked = subst (λ (s : List ℕ). Has new.look_ups (let q : LookUp = record { set = s; ask = byte_read b } in q)) same h.holds;
+      next = edges_kept old new set b to h.graph same next;
+    }
 
 -- ---- more entries, of which nothing is known
 

@@ -1,63 +1,23 @@
 -- What a table has that a document is read by is no less than what the reading comes to.
 use Rattle.std.proofs.Common.{◌≡◌, ℕ, zero, suc, ◌+◌, ◌<◌, ◌≤◌, ◌⊎◌, List, [], ◌∷◌, ◌++◌, Bool, true, false, Option, Some, None, drop, map, length, inl, inr, refl, sym, ap, subst, arith, ◌∙◌}
-use Rattle.std.specs.Prelude.{slice_get, if◌then◌else◌, ◌||◌}
-use Rattle.std.specs.List.{list_any, sum_by}
+use Rattle.std.specs.Prelude.{slice_get}
+use Rattle.std.specs.List.{sum_by}
 use Rattle.std.specs.Str.{bytes_eq}
 use Rattle.std.proofs.Math.Seq.{drop-cons}
 use Rattle.std.proofs.lemmas.Option.{get_or_from_slice_get, slice_get_within}
 use Rattle.span_core.specs.Lists.{Has}
-use Rattle.span_core.proofs.HasLaws.{Has-append_cases, Has-append_left, Has-append_right, Has-get_or}
+use Rattle.span_core.proofs.HasLaws.{Has-append_cases, Has-get_or}
 use Rattle.marked_automaton.specs.Automaton.{Automaton}
 use Rattle.marked_automaton.proofs.Listed.{some_same}
 use Rattle.automaton_reading.specs.Reading.{Question, Reach, LookUp, byte_read, edges, next_sets, once, reach_with, look_up_edges, look_up_same, look_ups_asked, set_of, ways_taken}
 use Rattle.automaton_reading.proofs.Matching.{has_once, match_sum, once_distinct}
 use Rattle.automaton_reading.proofs.MeasureLaws.{bytes_itself, look_up_itself, same_bytes, same_look_up}
-use Rattle.set_table.specs.Tabled.{Asking, Tabled, asked_edges, asked_first, asking, asking_same, once_asked, reached, set_at, was_asked, weight, with_set, with_sets}
-use Rattle.set_table.proofs.HeldLaws.{asking_told}
+use Rattle.set_table.specs.Tabled.{Tabled, look_up, look_ups_weight, once_asked, set_at, weight}
+use Rattle.set_table.proofs.OnceLaws.{HoldsOnce, holds_once, once_sets_stay, once_stay}
 use Rattle.segment_filter.specs.Next.{IsNext, IsTarget}
 use Rattle.segment_filter.specs.Sets.{TakesNone}
 use Rattle.segment_filter.specs.Weights.{bytes_read, reading_weight, sets_asked, sets_read}
-use Rattle.segment_filter.proofs.SetLaws.{edge_is, grows_asked}
-
--- ---- what was asked stays
-
-any_has : (rs : List Asking) (r : Asking) → list_any (asking_same r) rs ≡ true → Has rs r
-any_has [] r e = absurd (cc)
-any_has (s ∷ rs) r e = by (asking_same r s) refl (any_has rs r) e
-  where
-    by : (b : Bool) → asking_same r s ≡ b → (list_any (asking_same r) rs ≡ true → Has rs r) → (b || list_any (asking_same r) rs) ≡ true → Has (s ∷ rs) r
-    by true at rest e = inl (sym (asking_told r s at))
-    by false at rest e = inr (rest e)
-
-with_stay : (sets more : List (List ℕ)) (x : List ℕ) → Has sets x → Has (with_sets sets more) x
-with_stay sets [] x h = h
-with_stay sets (s ∷ more) x h = with_stay (with_set sets s) more x (by (list_any (bytes_eq s) sets))
-  where
-    by : (b : Bool) → Has (if b then sets else sets ++ s ∷ []) x
-    by true = h
-    by false = Has-append_left sets (s ∷ []) x h
-
-module _ (t new : Tabled) (r : Asking) (is : new ≡ once_asked t r) where
-  pub sets_stay : (x : List ℕ) → Has t.sets x → Has new.sets x
-  sets_stay x h = subst (λ (u : Tabled). Has u.sets x) (sym is) (by (was_asked t r))
-    where
-      by : (b : Bool) → Has (if b then t else asked_first t r).sets x
-      by true = h
-      by false = with_stay t.sets (reached t.graph (set_at t.sets r.set) r.ask) x h
-
-  pub asked_stay : (x : Asking) → Has t.asked x → Has new.asked x
-  asked_stay x h = subst (λ (u : Tabled). Has u.asked x) (sym is) (by (was_asked t r))
-    where
-      by : (b : Bool) → Has (if b then t else asked_first t r).asked x
-      by true = h
-      by false = Has-append_left t.asked (r ∷ []) x h
-
-  pub asked_here : Has new.asked r
-  asked_here = subst (λ (u : Tabled). Has u.asked r) (sym is) (by (was_asked t r) refl)
-    where
-      by : (b : Bool) → was_asked t r ≡ b → Has (if b then t else asked_first t r).asked r
-      by true at = any_has t.asked r at
-      by false at = Has-append_right t.asked (r ∷ []) r (inl refl)
+use Rattle.segment_filter.proofs.SetLaws.{edge_is}
 
 -- ---- where no set is reached, nothing is asked
 
@@ -71,23 +31,15 @@ no_look_ups A (a ∷ later) look_up h = no_look_ups A later look_up h
 
 -- ---- what a reading asks for
 
--- what was asked, by the set itself
-abbrev pub look_up_at : Tabled → Asking → LookUp
-look_up_at t x = record { set = set_at t.sets x.set; ask = x.ask }
-
--- the look-up was asked of the table
-abbrev pub HasLookUp : Tabled → LookUp → Type 0
-HasLookUp t look_up = (x : Asking) × Has t.asked x × (look_up_at t x ≡ look_up)
-
 -- what a reading asks for is there, or is asked for later, from this set on, which is reached after k bytes
 pub record IsHolding (A : Automaton) (d : List ℕ) (t : Tabled) (k : ℕ) (set : List ℕ) : Type 0 where
   pub sets : (s : List ℕ) → Has (sets_read A d) s → Has t.sets s ⊎ Has (sets_asked A (set ∷ []) (map byte_read (drop k d))) s
-  pub look_ups : (look_up : LookUp) → Has (bytes_read A d) look_up → HasLookUp t look_up ⊎ Has (look_ups_asked A (set ∷ []) (map byte_read (drop k d))) look_up
+  pub look_ups : (look_up : LookUp) → Has (bytes_read A d) look_up → Has t.look_ups look_up ⊎ Has (look_ups_asked A (set ∷ []) (map byte_read (drop k d))) look_up
 
 -- what a reading asks for is there
 pub record HoldsAll (A : Automaton) (d : List ℕ) (t : Tabled) : Type 0 where
   pub sets : (s : List ℕ) → Has (sets_read A d) s → Has t.sets s
-  pub look_ups : (look_up : LookUp) → Has (bytes_read A d) look_up → HasLookUp t look_up
+  pub look_ups : (look_up : LookUp) → Has (bytes_read A d) look_up → Has t.look_ups look_up
 
 module _ (A : Automaton) (d : List ℕ) where
   pub holding_starts : (t : Tabled) (set : List ℕ) → set ≡ set_of A.starts → IsHolding A d t 0 set
@@ -106,7 +58,7 @@ module _ (A : Automaton) (d : List ℕ) where
         | inr n ↦ absurd n
       ]
     ];
-    look_ups = λ look_up m. elim (h.look_ups look_up m) as (λ _. HasLookUp t look_up) [
+    look_ups = λ look_up m. elim (h.look_ups look_up m) as (λ _. Has t.look_ups look_up) [
       | inl there ↦ there
       | inr later ↦ absurd (subst (λ (asks : List Question). Has (look_ups_asked A (set_at t.sets j ∷ []) asks) look_up) none later)
     ];
@@ -123,7 +75,7 @@ module _ (A : Automaton) (d : List ℕ) where
 
   -- one byte more is read, from the set of a number
   module _ (t new : Tabled) (k j b : ℕ) (h : IsHolding A d t k (set_at t.sets j)) (graph : t.graph ≡ A) (takes_none : TakesNone A) (below : j < length t.sets)
-      (belows : (x : Asking) → Has t.asked x → x.set < length t.sets) (at : slice_get d k ≡ Some b) (is : new ≡ once_asked t (asking j (byte_read b))) where
+      (at : slice_get d k ≡ Some b) (is : new ≡ once_asked t (look_up t j (byte_read b))) where
     abbrev here : List ℕ
     here = set_at t.sets j
 
@@ -133,25 +85,11 @@ module _ (A : Automaton) (d : List ℕ) where
     abbrev look_up_here : LookUp
     look_up_here = record { set = here; ask = byte_read b }
 
-    same_set : (i : ℕ) → i < length t.sets → set_at new.sets i ≡ set_at t.sets i
-    same_set i l = (grows_asked new t (asking j (byte_read b)) is).sets.1 i l
+    kept : HoldsOnce t new look_up_here
+    kept = holds_once t new look_up_here is
 
     there : Has new.sets here
-    there = sets_stay t new (asking j (byte_read b)) is here (Has-get_or t.sets j [] below)
-
-    look_up_there : HasLookUp new look_up_here
-    look_up_there = (
-      asking j (byte_read b),
-      asked_here t new (asking j (byte_read b)) is,
-      ap (λ (s : List ℕ). let q : LookUp = record { set = s; ask = byte_read b } in q) (same_set j below),
-    )
-
-    look_up_stays : (look_up : LookUp) → HasLookUp t look_up → HasLookUp new look_up
-    look_up_stays look_up (x, asked, e) = (
-      x,
-      asked_stay t new (asking j (byte_read b)) is x asked,
-      ap (λ (s : List ℕ). let q : LookUp = record { set = s; ask = x.ask } in q) (same_set x.set (belows x asked)) ∙ e,
-    )
+    there = once_sets_stay t new look_up_here kept here (Has-get_or t.sets j [] below)
 
     asks_here : map byte_read (drop k d) ≡ byte_read b ∷ map byte_read (drop (suc k) d)
     asks_here =
@@ -160,7 +98,7 @@ module _ (A : Automaton) (d : List ℕ) where
 
     pub sets_then : (s : List ℕ) → Has (sets_read A d) s → Has new.sets s ⊎ Has (sets_asked A next (map byte_read (drop (suc k) d))) s
     sets_then s m = elim (h.sets s m) as (λ _. Has new.sets s ⊎ Has (sets_asked A next (map byte_read (drop (suc k) d))) s) [
-      | inl old ↦ inl (sets_stay t new (asking j (byte_read b)) is s old)
+      | inl old ↦ inl (once_sets_stay t new look_up_here kept s old)
       | inr later ↦ elim (
           Has-append_cases (here ∷ []) (sets_asked A next (map byte_read (drop (suc k) d))) s (subst (λ (asks : List Question). Has (sets_asked A (here ∷ []) asks) s) asks_here later)
           ) as (λ _. Has new.sets s ⊎ Has (sets_asked A next (map byte_read (drop (suc k) d))) s) [
@@ -172,14 +110,14 @@ module _ (A : Automaton) (d : List ℕ) where
           ]
     ]
 
-    pub look_ups_then : (look_up : LookUp) → Has (bytes_read A d) look_up → HasLookUp new look_up ⊎ Has (look_ups_asked A next (map byte_read (drop (suc k) d))) look_up
-    look_ups_then look_up m = elim (h.look_ups look_up m) as (λ _. HasLookUp new look_up ⊎ Has (look_ups_asked A next (map byte_read (drop (suc k) d))) look_up) [
-      | inl old ↦ inl (look_up_stays look_up old)
+    pub look_ups_then : (look_up : LookUp) → Has (bytes_read A d) look_up → Has new.look_ups look_up ⊎ Has (look_ups_asked A next (map byte_read (drop (suc k) d))) look_up
+    look_ups_then look_up m = elim (h.look_ups look_up m) as (λ _. Has new.look_ups look_up ⊎ Has (look_ups_asked A next (map byte_read (drop (suc k) d))) look_up) [
+      | inl old ↦ inl (once_stay t new look_up_here kept look_up old)
       | inr later ↦ elim (
           Has-append_cases (look_up_here ∷ []) (look_ups_asked A next (map byte_read (drop (suc k) d))) look_up (subst (λ (asks : List Question). Has (look_ups_asked A (here ∷ []) asks) look_up) asks_here later)
-          ) as (λ _. HasLookUp new look_up ⊎ Has (look_ups_asked A next (map byte_read (drop (suc k) d))) look_up) [
-            | inl one ↦ elim one as (λ _. HasLookUp new look_up ⊎ Has (look_ups_asked A next (map byte_read (drop (suc k) d))) look_up) [
-              | inl e ↦ inl (subst (HasLookUp new) e look_up_there)
+          ) as (λ _. Has new.look_ups look_up ⊎ Has (look_ups_asked A next (map byte_read (drop (suc k) d))) look_up) [
+            | inl one ↦ elim one as (λ _. Has new.look_ups look_up ⊎ Has (look_ups_asked A next (map byte_read (drop (suc k) d))) look_up) [
+              | inl e ↦ inl (subst (Has new.look_ups) e kept.holds)
               | inr n ↦ absurd n
             ]
             | inr more ↦ inr more
@@ -217,7 +155,7 @@ module _ (A : Automaton) (d : List ℕ) where
       holding_next n e =
           subst (λ i. IsHolding A d new i (set_at new.sets n)) one (record {
             sets = λ s m. subst (λ (ss : List (List ℕ)). Has new.sets s ⊎ Has (sets_asked A ss (map byte_read (drop (suc k) d))) s) (next_some n e) (sets_then s m);
-            look_ups = λ look_up m. subst (λ (ss : List (List ℕ)). HasLookUp new look_up ⊎ Has (look_ups_asked A ss (map byte_read (drop (suc k) d))) look_up) (next_some n e) (look_ups_then look_up m);
+            look_ups = λ look_up m. subst (λ (ss : List (List ℕ)). Has new.look_ups look_up ⊎ Has (look_ups_asked A ss (map byte_read (drop (suc k) d))) look_up) (next_some n e) (look_ups_then look_up m);
           })
         where
           one : suc k ≡ k + 1
@@ -230,7 +168,7 @@ module _ (A : Automaton) (d : List ℕ) where
           | inl held ↦ held
           | inr more ↦ absurd (no_sets A (map byte_read (drop (suc k) d)) s more)
         ];
-        look_ups = λ look_up m. elim (subst (λ (ss : List (List ℕ)). HasLookUp new look_up ⊎ Has (look_ups_asked A ss (map byte_read (drop (suc k) d))) look_up) (next_none e) (look_ups_then look_up m)) as (λ _. HasLookUp new look_up) [
+        look_ups = λ look_up m. elim (subst (λ (ss : List (List ℕ)). Has new.look_ups look_up ⊎ Has (look_ups_asked A ss (map byte_read (drop (suc k) d))) look_up) (next_none e) (look_ups_then look_up m)) as (λ _. Has new.look_ups look_up) [
           | inl held ↦ held
           | inr more ↦ absurd (no_look_ups A (map byte_read (drop (suc k) d)) look_up more)
         ];
@@ -247,15 +185,8 @@ module _ (A : Automaton) (d : List ℕ) where
           (once_distinct bytes_eq same_bytes bytes_itself (sets_read A d))
           (λ x m. (x, h.sets x (has_once bytes_eq same_bytes bytes_itself (sets_read A d) x m), refl, omega arith)) (λ x z y a b. a ∙ sym b)
 
-      edges_of : (x : Asking) (look_up : LookUp) → look_up_at t x ≡ look_up → 1 + look_up_edges A look_up ≤ 1 + length (asked_edges t.graph t.sets x)
-      edges_of x look_up e =
-          let one = ap (look_up_edges A) e in
-          let same = ap (λ (g : Automaton). length (edges g (set_at t.sets x.set) x.ask)) graph in
-          omega (arith, one, same)
-
-      look_ups_less : sum_by (λ r. 1 + look_up_edges A r) (once look_up_same (bytes_read A d)) ≤ sum_by (λ r. 1 + length (asked_edges t.graph t.sets r)) t.asked
-      look_ups_less =
-          match_sum (λ (r : LookUp) (x : Asking). look_up_at t x ≡ r) (λ r. 1 + look_up_edges A r) (λ r. 1 + length (asked_edges t.graph t.sets r)) (once look_up_same (bytes_read A d)) t.asked
+      look_ups_less : sum_by (λ r. 1 + look_up_edges A r) (once look_up_same (bytes_read A d)) ≤ look_ups_weight t.graph t.look_ups
+      look_ups_less = subst (λ g. sum_by (λ r. 1 + look_up_edges A r) (once look_up_same (bytes_read A d)) ≤ look_ups_weight g t.look_ups) (sym graph)
+          (match_sum (λ (x y : LookUp). x ≡ y) (λ r. 1 + look_up_edges A r) (λ r. 1 + look_up_edges A r) (once look_up_same (bytes_read A d)) t.look_ups
           (once_distinct look_up_same same_look_up look_up_itself (bytes_read A d))
-          (λ look_up m. let r = h.look_ups look_up (has_once look_up_same same_look_up look_up_itself (bytes_read A d) look_up m) in (r.0, r.1, r.2, edges_of r.0 look_up r.2))
-          (λ r s x a b. sym a ∙ b)
+          (λ look_up m. (look_up, h.look_ups look_up (has_once look_up_same same_look_up look_up_itself (bytes_read A d) look_up m), refl, omega arith)) (λ x z y a b. a ∙ sym b))

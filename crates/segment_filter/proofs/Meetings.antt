@@ -13,7 +13,7 @@ use Rattle.segment_filter.specs.declared.comparing.Compared.{Compared}
 use Rattle.segment_filter.specs.Remembered.{AreRemembered, IsRemembered}
 use Rattle.segment_filter.specs.Sets.{Extends, Grows, HaveShared, IsAt, MeetAt, ReadsAll, TakesNone}
 use Rattle.segment_filter.specs.Next.{IsNext}
-use Rattle.set_table.specs.Tabled.{IsTabled, Tabled, asking, once_asked, set_at}
+use Rattle.set_table.specs.Tabled.{IsTabled, Tabled, look_up, once_asked, set_at}
 use Rattle.segment_filter.proofs.SetLaws.{AreLed, at_next, at_none, at_start, byte_back, grows_asked, grows_twice, led_grows, led_more, meet_is}
 
 -- ---- from the end
@@ -27,9 +27,9 @@ first_kept t d items old j tabled zero_set none is =
 
 -- the table is asked for the next set
 module _ (new old first : Tabled) (d : List ℕ) (k j b : ℕ) (none : TakesNone first.graph) (grows : Grows old first) (tabled : IsTabled new)
-    (is : new ≡ once_asked old (asking j (byte_read b))) (at : slice_get d k ≡ Some b) (here : IsAt old d k j) where
+    (is : new ≡ once_asked old (look_up old j (byte_read b))) (at : slice_get d k ≡ Some b) (here : IsAt old d k j) where
   abbrev grew : Grows new old
-  grew = grows_asked new old (asking j (byte_read b)) is
+  grew = grows_asked new old (look_up old j (byte_read b)) is
 
   none_here : TakesNone old.graph
   none_here = subst TakesNone (sym grows.graph) none

@@ -14,13 +14,13 @@ use Rattle.marked_automaton.specs.declared.way.Way.{Way}
 use Rattle.marked_automaton.specs.Automaton.{Automaton, HasByte, ReadsByte}
 use Rattle.marked_automaton.proofs.Listed.{some_same}
 use Rattle.marked_automaton.proofs.Passing.{filter_cases}
-use Rattle.automaton_reading.specs.Reading.{Reach, blocks_down, byte_read, edges, is_among, put_down, reach_with, set_of, ways_taken}
+use Rattle.automaton_reading.specs.Reading.{Reach, LookUp, blocks_down, byte_read, edges, is_among, put_down, reach_with, set_of, ways_taken}
 use Rattle.automaton_reading.proofs.Determined.{edge_way, has_block, has_set, set_has, way_edge}
 use Rattle.filter_laws.specs.Idling.{IsLed, Passes}
 use Rattle.segment_filter.specs.Sets.{Extends, Grows, HaveShared, IsAt, MeetAt, ReadsAll, TakesNone}
 use Rattle.segment_filter.specs.Next.{IsNext, IsTarget}
-use Rattle.set_table.specs.Tabled.{Asking, IsTabled, Tabled, asked_first, once_asked, reached, set_at, was_asked, with_set, with_sets}
-use Rattle.set_table.proofs.HeldLaws.{get_cases}
+use Rattle.set_table.specs.Tabled.{IsTabled, Tabled, once_asked, set_at}
+use Rattle.set_table.proofs.OnceLaws.{holds_once, once_set, once_sets_count}
 use Rattle.filter_laws.proofs.PassLaws.{led_on, pass_cut}
 
 -- a way leads from a member to q on the byte
@@ -111,25 +111,6 @@ module _ (A : Automaton) (none : TakesNone A) (set : List ℕ) (b : ℕ) where
 
 -- ---- the sets of a table
 
-get_first : (xs : List (List ℕ)) (s : List ℕ) (k : ℕ) → k < length xs → set_at (xs ++ s ∷ []) k ≡ set_at xs k
-get_first [] s k l = absurd (omega (arith, l))
-get_first (y ∷ xs) s zero l = refl
-get_first (y ∷ xs) s (suc k) l = get_first xs s k (omega (arith, l))
-
-extends_with : (sets : List (List ℕ)) (s : List ℕ) → Extends (with_set sets s) sets
-extends_with sets s = go (list_any (bytes_eq s) sets)
-  where
-    go : (b : Bool) → Extends (if b then sets else sets ++ s ∷ []) sets
-    go true = (omega arith, λ k l. refl)
-    go false = (omega (arith, length-append sets (s ∷ [])), λ k l. get_first sets s k l)
-
-pub extends_all : (sets more : List (List ℕ)) → Extends (with_sets sets more) sets
-extends_all sets [] = (omega arith, λ k l. refl)
-extends_all sets (s ∷ more) =
-    let one = extends_with sets s in
-    let rest = extends_all (with_set sets s) more in
-    (omega (arith, one.0, rest.0), λ k l. rest.1 k (omega (arith, one.0, l)) ∙ one.1 k l)
-
 pub grows_not : (new old : Tabled) → new ≡ old → Grows new old
 grows_not new old e = record {
   graph = ap (λ (t : Tabled). t.graph) e;
@@ -142,12 +123,10 @@ grows_twice a b c x y = record {
   sets = (omega (arith, x.sets.0, y.sets.0), λ k l. x.sets.1 k (omega (arith, y.sets.0, l)) ∙ y.sets.1 k l);
 }
 
-pub grows_asked : (new old : Tabled) (r : Asking) → new ≡ once_asked old r → Grows new old
-grows_asked new old r e = subst (λ (t : Tabled). Grows t old) (sym e) (go (was_asked old r))
-  where
-    go : (b : Bool) → Grows (if b then old else asked_first old r) old
-    go true = grows_not old old refl
-    go false = record { graph = refl; sets = extends_all old.sets (reached old.graph (set_at old.sets r.set) r.ask) }
+pub grows_asked : (new old : Tabled) (r : LookUp) → new ≡ once_asked old r → Grows new old
+grows_asked new old r e =
+    let h = holds_once old new r e in
+    record { graph = h.graph; sets = (once_sets_count old new r h, once_set old new r h) }
 
 pub at_start : (t : Tabled) (d : List ℕ) → IsTabled t → IsAt t d 0 0
 at_start t d h =
@@ -213,6 +192,13 @@ module _ (new old : Tabled) (d : List ℕ) (k j b : ℕ) (none : TakesNone old.g
         | inr o ↦ let t = subst (λ es. IsTarget new.sets es None) o.1 next in let e = t.1 in absurd (cc)
       ]
 
+last_cases : (xs : List ℕ) (j k i : ℕ) → slice_get (xs ++ j ∷ []) k ≡ Some i → (slice_get xs k ≡ Some i) ⊎ ((k ≡ length xs) × (j ≡ i))
+last_cases [] j zero i e = inr (refl, some_same j i e)
+last_cases [] j (suc k) i e = absurd (cc)
+last_cases (x ∷ xs) j zero i e = inl e
+last_cases (x ∷ xs) j (suc k) i e =
+    elim (last_cases xs j k i e) [ inl h ↦ inl h | inr h ↦ inr (omega (arith, h.0), h.1) ]
+
 -- the sets with these numbers are those that the bytes lead to
 abbrev pub AreLed : Tabled → List ℕ → List ℕ → Type 0
 AreLed t d numbers = (k j : ℕ) → slice_get numbers k ≡ Some j → IsAt t d k j
@@ -222,7 +208,7 @@ led_grows new old d numbers e h k j at = at_grows new old d k j e (h k j at)
 
 pub led_more : (t : Tabled) (d numbers : List ℕ) (j : ℕ) → AreLed t d numbers → IsAt t d (length numbers) j → AreLed t d (numbers ++ j ∷ [])
 led_more t d numbers j h last k i at =
-    elim (get_cases numbers j k i at) [
+    elim (last_cases numbers j k i at) [
       | inl e ↦ h k i e
       | inr e ↦ subst (IsAt t d k) e.1 (subst (λ n. IsAt t d n j) (sym e.0) last)
     ]

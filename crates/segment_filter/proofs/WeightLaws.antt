@@ -1,12 +1,12 @@
 -- What a table has that a document is read by is no more than what the reading comes to.
-use Rattle.std.proofs.Common.{◌≡◌, ℕ, zero, suc, ◌+◌, ◌*◌, ◌<◌, ◌≤◌, List, [], ◌∷◌, ◌++◌, Bool, true, false, Option, Some, None, map, length, length-append, inl, inr, refl, sym, ap, subst, arith, ◌∙◌}
-use Rattle.std.specs.Prelude.{slice_get, if◌then◌else◌, ◌||◌}
-use Rattle.std.specs.List.{flat_map, list_any, sum_by}
+use Rattle.std.proofs.Common.{◌≡◌, ℕ, zero, suc, ◌+◌, ◌*◌, ◌<◌, ◌≤◌, ◌⊎◌, List, [], ◌∷◌, ◌++◌, Bool, true, false, Option, Some, None, map, length, length-append, inl, inr, refl, sym, ap, subst, arith, ◌∙◌}
+use Rattle.std.specs.Prelude.{slice_get, if◌then◌else◌}
+use Rattle.std.specs.List.{flat_map, sum_by}
 use Rattle.std.specs.Option.{unwrap_or}
 use Rattle.std.specs.Str.{bytes_eq}
 use Rattle.std.proofs.Math.Nat.{mul-le-mul_left}
 use Rattle.span_core.specs.Lists.{AreDistinct, Has}
-use Rattle.span_core.proofs.HasLaws.{Has-append_cases, Has-append_left, Has-append_right, Has-map, Has-map_cases}
+use Rattle.span_core.proofs.HasLaws.{Has-append_left, Has-append_right, Has-map, Has-map_cases}
 use Rattle.marked_automaton.specs.Automaton.{Automaton, size}
 use Rattle.marked_automaton.proofs.Listed.{some_same}
 use Rattle.marked_automaton.proofs.Passing.{has_flat_map}
@@ -15,29 +15,12 @@ use Rattle.automaton_reading.proofs.Matching.{length_sum, match_sum, once_has}
 use Rattle.automaton_reading.proofs.MeasureLaws.{bytes_itself, look_up_itself, same_bytes, same_look_up}
 use Rattle.segment_filter.specs.declared.fault.FilterFault.{FilterFault}
 use Rattle.segment_filter.specs.declared.fault.FilterFault.TheVariants.{Full, OutOfMemory}
-use Rattle.segment_filter.specs.Sets.{Extends, IsFullBy, TakesNone}
+use Rattle.segment_filter.specs.Sets.{IsFullBy, TakesNone}
 use Rattle.segment_filter.specs.Next.{IsNext, IsTarget}
-use Rattle.set_table.specs.Tabled.{Asking, IsTabled, Tabled, fresh, once_asked, asked_edges, asked_first, asking, asking_same, reached, set_at, sets_weight, was_asked, weight, with_set, with_sets}
-use Rattle.set_table.proofs.HeldLaws.{asking_itself, has_with_sets}
-use Rattle.set_table.proofs.StayLaws.{number_told}
+use Rattle.set_table.specs.Tabled.{IsTabled, Tabled, asked_first, fresh, look_up, look_ups_weight, once_asked, reached, set_at, sets_weight, was_asked, weight}
+use Rattle.set_table.proofs.OnceLaws.{holds_once, once_asked_apart, once_was}
 use Rattle.segment_filter.specs.Weights.{IsFullWithin, bytes_read, reading_look_ups, reading_weight, sets_asked, sets_read}
 use Rattle.segment_filter.proofs.Holding.{HoldsAll, IsHolding, holding_all, holding_ends, holding_next, holding_starts, weight_no_less}
-use Rattle.segment_filter.proofs.SetLaws.{extends_all}
-
--- ---- tests for equality
-
-has_any : {X : Type 0} (same : X → X → Bool) (itself : (x : X) → same x x ≡ true) (xs : List X) (x : X) → Has xs x → list_any (same x) xs ≡ true
-has_any same itself [] x h = absurd h
-has_any {X} same itself (y ∷ xs) x (inl e) = go (same x y) (subst (λ z. same x z ≡ true) (sym e) (itself x)) (list_any (same x) xs)
-  where
-    go : (a : Bool) → a ≡ true → (b : Bool) → (a || b) ≡ true
-    go true e b = refl
-    go false e b = absurd (cc)
-has_any same itself (y ∷ xs) x (inr h) = go (same x y) (list_any (same x) xs) (has_any same itself xs x h)
-  where
-    go : (a b : Bool) → b ≡ true → (a || b) ≡ true
-    go true b e = refl
-    go false b e = e
 
 -- ---- what is met, place by place
 
@@ -85,70 +68,31 @@ starting A = set_of A.starts ∷ []
 pub record IsWithin (A : Automaton) (d : List ℕ) (t : Tabled) : Type 0 where
   pub graph : t.graph ≡ A
   pub sets : (set : List ℕ) → Has t.sets set → Has (sets_read A d) set
-  pub look_ups : (r : Asking) → Has t.asked r → Has (bytes_read A d) (look_up_of A r.ask (set_at t.sets r.set))
-  pub below : (r : Asking) → Has t.asked r → r.set < length t.sets
+  pub look_ups : (r : LookUp) → Has t.look_ups r → Has (bytes_read A d) r
   pub sets_apart : AreDistinct t.sets
-  pub asked_apart : AreDistinct t.asked
+  pub asked_apart : AreDistinct t.look_ups
 
 module _ (A : Automaton) (d : List ℕ) (t : Tabled) (h : IsWithin A d t) where
-  -- a look-up that was asked for, and the look-up that it is
-  IsLookUpOf : Asking → LookUp → Type 0
-  IsLookUpOf x y = Has t.asked x × (look_up_of A x.ask (set_at t.sets x.set) ≡ y)
-
   sets_no_more : sets_weight t.sets ≤ sum_by (λ set. 1 + length set) (once bytes_eq (sets_read A d))
   sets_no_more =
       match_sum (λ (x y : List ℕ). x ≡ y) (λ set. 1 + length set) (λ set. 1 + length set) t.sets (once bytes_eq (sets_read A d)) h.sets_apart
       (λ x m. (x, once_has bytes_eq same_bytes bytes_itself (sets_read A d) x (h.sets x m), refl, omega arith)) (λ x z y a b. a ∙ sym b)
 
-  one_asking : (x z : Asking) (y : LookUp) → IsLookUpOf x y → IsLookUpOf z y → x ≡ z
-  unfolding IsLookUpOf
-  one_asking x z y a b =
-      let same = a.1 ∙ sym b.1 in
-      let sets = number_told t.sets x.set z.set h.sets_apart (h.below x a.0) (h.below z b.0) (ap (λ (r : LookUp). r.set) same) in
-      let asks : x.ask ≡ z.ask = ap (λ (r : LookUp). r.ask) same in
-      λ i. record { set = sets i; ask = asks i }
-
-  look_ups_sum : (v : Asking → ℕ) (w : LookUp → ℕ) → ((x : Asking) → v x ≡ w (look_up_of A x.ask (set_at t.sets x.set))) → sum_by v t.asked ≤ sum_by w (once look_up_same (bytes_read A d))
-  unfolding IsLookUpOf
-  look_ups_sum v w same =
-      match_sum IsLookUpOf v w t.asked (once look_up_same (bytes_read A d)) h.asked_apart
-      (λ x m. (
-        look_up_of A x.ask (set_at t.sets x.set),
-        once_has look_up_same same_look_up look_up_itself (bytes_read A d) (look_up_of A x.ask (set_at t.sets x.set)) (h.look_ups x m),
-        (m, refl),
-        let e = same x in omega (arith, e),
-      )) one_asking
+  look_ups_sum : (v : LookUp → ℕ) → sum_by v t.look_ups ≤ sum_by v (once look_up_same (bytes_read A d))
+  look_ups_sum v =
+      match_sum (λ (x y : LookUp). x ≡ y) v v t.look_ups (once look_up_same (bytes_read A d)) h.asked_apart
+      (λ x m. (x, once_has look_up_same same_look_up look_up_itself (bytes_read A d) x (h.look_ups x m), refl, omega arith)) (λ x z y a b. a ∙ sym b)
 
   pub weight_no_more : weight t ≤ reading_weight A d
   weight_no_more =
-      let look_ups = look_ups_sum (λ r. 1 + length (asked_edges t.graph t.sets r)) (λ r. 1 + look_up_edges A r) (λ x. ap (λ (g : Automaton). 1 + length (edges g (set_at t.sets x.set) x.ask)) h.graph) in
-      omega (arith, sets_no_more, look_ups)
+      let look_ups = look_ups_sum (λ r. 1 + look_up_edges A r) in
+      let same = ap (λ (g : Automaton). look_ups_weight g t.look_ups) h.graph in
+      omega (arith, sets_no_more, look_ups, same)
 
-  pub look_ups_no_more : length t.asked ≤ reading_look_ups A d
-  look_ups_no_more = let look_ups = look_ups_sum (λ r. 1) (λ r. 1) (λ x. refl) in omega (arith, look_ups, length_sum t.asked, length_sum (once look_up_same (bytes_read A d)))
+  pub look_ups_no_more : length t.look_ups ≤ reading_look_ups A d
+  look_ups_no_more = let look_ups = look_ups_sum (λ r. 1) in omega (arith, look_ups, length_sum t.look_ups, length_sum (once look_up_same (bytes_read A d)))
 
 -- ---- one look-up more
-
-not_any : (same : List ℕ → List ℕ → Bool) (itself : (x : List ℕ) → same x x ≡ true) (xs : List (List ℕ)) (x : List ℕ) → list_any (same x) xs ≡ false → Has xs x → ⊥
-not_any same itself xs x e h = let f = has_any same itself xs x h in absurd (cc)
-
-distinct_more : {X : Type 0} (xs : List X) (x : X) → AreDistinct xs → (Has xs x → ⊥) → AreDistinct (xs ++ x ∷ [])
-distinct_more [] x d none = (λ h. h, tt)
-distinct_more (y ∷ xs) x d none = (
-  λ h. elim (Has-append_cases xs (x ∷ []) y h) [ inl k ↦ d.0 k | inr k ↦ elim k [ inl e ↦ none (inl (sym e)) | inr n ↦ n ] ],
-  distinct_more xs x d.1 (λ h. none (inr h)),
-)
-
-with_distinct : (sets : List (List ℕ)) (s : List ℕ) → AreDistinct sets → AreDistinct (with_set sets s)
-with_distinct sets s d = go (list_any (bytes_eq s) sets) refl
-  where
-    go : (b : Bool) → list_any (bytes_eq s) sets ≡ b → AreDistinct (if b then sets else sets ++ s ∷ [])
-    go true e = d
-    go false e = distinct_more sets s d (not_any bytes_eq bytes_itself sets s e)
-
-all_distinct : (sets more : List (List ℕ)) → AreDistinct sets → AreDistinct (with_sets sets more)
-all_distinct sets [] d = d
-all_distinct sets (s ∷ more) d = all_distinct (with_set sets s) more (with_distinct sets s d)
 
 asks_at : (d : List ℕ) (k b : ℕ) → slice_get d k ≡ Some b → slice_get (map byte_read d) k ≡ Some (byte_read b)
 asks_at [] k b e = absurd (cc)
@@ -160,7 +104,6 @@ within_fresh t d is = subst (λ (x : Tabled). IsWithin t.graph d x) (sym is) (re
   graph = refl;
   sets = λ set h. met_set t.graph (starting t.graph) (map byte_read d) 0 set h;
   look_ups = λ r h. absurd h;
-  below = λ r h. absurd h;
   sets_apart = (λ h. h, tt);
   asked_apart = tt;
 })
@@ -173,59 +116,30 @@ met_fresh t d j is e =
 -- a set of a table that is met at the place k is asked for the byte there
 module _ (A : Automaton) (d : List ℕ) (t : Tabled) (k j b : ℕ) (h : IsWithin A d t) (met : IsMet A (starting A) (map byte_read d) k (set_at t.sets j))
     (below : j < length t.sets) (at : slice_get d k ≡ Some b) where
-  abbrev r : Asking
-  r = asking j (byte_read b)
+  abbrev r : LookUp
+  r = look_up t j (byte_read b)
 
-  abbrev first : Tabled
-  first = asked_first t r
+  new_set : (set : List ℕ) → Has (reached t.graph (set_at t.sets j) (byte_read b)) set → Has (sets_read A d) set
+  new_set set n =
+      let e = Has-map_cases (λ (x : Reach). x.to) (edges t.graph (set_at t.sets j) (byte_read b)) set n in
+      subst (Has (sets_read A d)) e.2
+      (met_set A (starting A) (map byte_read d) (suc k) e.0.to
+      (met_next A (starting A) (map byte_read d) k (set_at t.sets j) (byte_read b) e.0 met (asks_at d k b at)
+      (subst (λ (g : Automaton). Has (edges g (set_at t.sets j) (byte_read b)) e.0) h.graph e.1)))
 
-  grown : Extends first.sets t.sets
-  grown = extends_all t.sets (reached t.graph (set_at t.sets j) (byte_read b))
-
-  new_sets : (set : List ℕ) → Has first.sets set → Has (sets_read A d) set
-  new_sets set m =
-      elim (has_with_sets t.sets (reached t.graph (set_at t.sets j) (byte_read b)) set m) as (λ _. Has (sets_read A d) set) [
-        | inl o ↦ h.sets set o
-        | inr n ↦
-            let e = Has-map_cases (λ (x : Reach). x.to) (edges t.graph (set_at t.sets j) (byte_read b)) set n in
-            subst (Has (sets_read A d)) e.2
-            (met_set A (starting A) (map byte_read d) (suc k) e.0.to
-            (met_next A (starting A) (map byte_read d) k (set_at t.sets j) (byte_read b) e.0 met (asks_at d k b at)
-            (subst (λ (g : Automaton). Has (edges g (set_at t.sets j) (byte_read b)) e.0) h.graph e.1)))
-      ]
-
-  new_look_ups : (x : Asking) → Has first.asked x → Has (bytes_read A d) (look_up_of A x.ask (set_at first.sets x.set)) × (x.set < length first.sets)
-  new_look_ups x m =
-      elim (Has-append_cases t.asked (r ∷ []) x m) as (λ _. Has (bytes_read A d) (look_up_of A x.ask (set_at first.sets x.set)) × (x.set < length first.sets)) [
-        | inl o ↦
-            let l = h.below x o in
-            (subst (λ s. Has (bytes_read A d) (look_up_of A x.ask s)) (sym (grown.1 x.set l)) (h.look_ups x o), omega (arith, l, grown.0))
-        | inr n ↦ elim n as (λ _. Has (bytes_read A d) (look_up_of A x.ask (set_at first.sets x.set)) × (x.set < length first.sets)) [
-          | inl e ↦ subst (λ (y : Asking). Has (bytes_read A d) (look_up_of A y.ask (set_at first.sets y.set)) × (y.set < length first.sets)) e (
-            subst (λ s. Has (bytes_read A d) (look_up_of A (byte_read b) s)) (sym (grown.1 j below))
-                (met_look_up A (starting A) (map byte_read d) k (set_at t.sets j) (byte_read b) met (asks_at d k b at)),
-            omega (arith, below, grown.0),
-          )
-          | inr z ↦ absurd z
-        ]
-      ]
-
-  pub within_first : was_asked t r ≡ false → IsWithin A d first
-  within_first none = record {
-    graph = h.graph;
-    sets = new_sets;
-    look_ups = λ x m. (new_look_ups x m).0;
-    below = λ x m. (new_look_ups x m).1;
-    sets_apart = all_distinct t.sets (reached t.graph (set_at t.sets j) (byte_read b)) h.sets_apart;
-    asked_apart = distinct_more t.asked r h.asked_apart (λ m. let e = has_any asking_same asking_itself t.asked r m in absurd (cc));
-  }
+  new_look_up : Has (bytes_read A d) r
+  new_look_up = met_look_up A (starting A) (map byte_read d) k (set_at t.sets j) (byte_read b) met (asks_at d k b at)
 
   pub within_next : (new : Tabled) → new ≡ once_asked t r → IsWithin A d new
-  within_next new is = subst (λ (x : Tabled). IsWithin A d x) (sym is) (go (was_asked t r) refl)
-    where
-      go : (w : Bool) → was_asked t r ≡ w → IsWithin A d (if w then t else asked_first t r)
-      go true e = h
-      go false e = within_first e
+  within_next new is =
+      let kept = holds_once t new r is in
+      record {
+        graph = kept.graph ∙ h.graph;
+        sets = λ set m. elim (kept.sets set m) as (λ _. Has (sets_read A d) set) [ inl o ↦ h.sets set o | inr n ↦ new_set set n ];
+        look_ups = λ x m. elim (once_was t new r kept x m) as (λ _. Has (bytes_read A d) x) [ inl o ↦ h.look_ups x o | inr e ↦ subst (Has (bytes_read A d)) e new_look_up ];
+        sets_apart = kept.apart h.sets_apart;
+        asked_apart = once_asked_apart t new r kept h.asked_apart;
+      }
 
   -- the set that it leads to is met next
   pub met_then : (sets : List (List ℕ)) (next : Option ℕ) (to : ℕ) → IsNext t j b sets next → next ≡ Some to →
@@ -243,8 +157,12 @@ module _ (A : Automaton) (d : List ℕ) (t : Tabled) (k j b : ℕ) (h : IsWithin
           (subst (λ n. IsMet A (starting A) (map byte_read d) n x.to) more
           (met_next A (starting A) (map byte_read d) k (set_at t.sets j) (byte_read b) x met (asks_at d k b at) there))
 
+  -- what was not asked before
+  within_first : was_asked t r ≡ false → IsWithin A d (asked_first t r)
+  within_first none = subst (λ (x : Tabled). IsWithin A d x) (ap (λ (w : Bool). if w then t else asked_first t r) none) (within_next (once_asked t r) refl)
+
   pub full_within : (e : FilterFault) → IsFullBy t r e → IsFullWithin t.limit (reading_weight A d) e
-  full_within (Full w) f = (f.1, let m = weight_no_more A d first (within_first f.0) in omega (arith, f.2, m))
+  full_within (Full w) f = (f.1, let m = weight_no_more A d (asked_first t r) (within_first f.0) in omega (arith, f.2, m))
   full_within OutOfMemory f = tt
 
   -- the steps of one asking, with as many times the size as look-ups are there
@@ -255,24 +173,24 @@ module _ (A : Automaton) (d : List ℕ) (t : Tabled) (k j b : ℕ) (h : IsWithin
     size_same : size t.graph ≡ Z
     size_same = ap size h.graph
 
-    pub steps_next : (new : Tabled) → new ≡ once_asked t r → s1 + Z * length t.asked ≤ s0 + 1 + Z * length new.asked
-    steps_next new is = subst (λ (x : Tabled). s1 + Z * length t.asked ≤ s0 + 1 + Z * length x.asked) (sym is) (go (was_asked t r) refl)
-      where
-        go : (w : Bool) → was_asked t r ≡ w → s1 + Z * length t.asked ≤ s0 + 1 + Z * length (if w then t else asked_first t r).asked
-        go true e = omega (arith, again e)
-        go false e =
-            let one : Z * length first.asked ≡ Z * (length t.asked + 1) = ap (λ n. Z * n) (length-append t.asked (r ∷ [])) in
-            omega (arith, most, size_same, one)
+    first_count : Z * length (asked_first t r).look_ups ≡ Z * (length t.look_ups + 1)
+    first_count = ap (λ n. Z * n) (length-append t.look_ups (r ∷ []))
 
-    pub steps_refused : s1 + Z * length t.asked ≤ s0 + 1 + Z * reading_look_ups A d
+    pub steps_next : (new : Tabled) → new ≡ once_asked t r → s1 + Z * length t.look_ups ≤ s0 + 1 + Z * length new.look_ups
+    steps_next new is = subst (λ (x : Tabled). s1 + Z * length t.look_ups ≤ s0 + 1 + Z * length x.look_ups) (sym is) (go (was_asked t r) refl)
+      where
+        go : (w : Bool) → was_asked t r ≡ w → s1 + Z * length t.look_ups ≤ s0 + 1 + Z * length (if w then t else asked_first t r).look_ups
+        go true e = omega (arith, again e)
+        go false e = omega (arith, most, size_same, first_count)
+
+    pub steps_refused : s1 + Z * length t.look_ups ≤ s0 + 1 + Z * reading_look_ups A d
     steps_refused = go (was_asked t r) refl
       where
-        go : (w : Bool) → was_asked t r ≡ w → s1 + Z * length t.asked ≤ s0 + 1 + Z * reading_look_ups A d
+        go : (w : Bool) → was_asked t r ≡ w → s1 + Z * length t.look_ups ≤ s0 + 1 + Z * reading_look_ups A d
         go true e = let m = mul-le-mul_left Z (look_ups_no_more A d t h) in omega (arith, again e, m)
         go false e =
-            let one : Z * length first.asked ≡ Z * (length t.asked + 1) = ap (λ n. Z * n) (length-append t.asked (r ∷ [])) in
-            let m = mul-le-mul_left Z (look_ups_no_more A d first (within_first e)) in
-            omega (arith, most, size_same, one, m)
+            let m = mul-le-mul_left Z (look_ups_no_more A d (asked_first t r) (within_first e)) in
+            omega (arith, most, size_same, first_count, m)
 
 -- ---- a document that is read
 
@@ -284,7 +202,7 @@ pub record IsReading (first t : Tabled) (d : List ℕ) (k j s0 s : ℕ) : Type 0
   pub limit : t.limit ≡ first.limit
   pub light : weight t ≤ first.limit
   pub holds : IsHolding first.graph d t k (set_at t.sets j)
-  pub steps : s ≤ s0 + k + size first.graph * length t.asked
+  pub steps : s ≤ s0 + k + size first.graph * length t.look_ups
 
 pub reading_starts : (t : Tabled) (d : List ℕ) (j s : ℕ) → t ≡ fresh t.graph t.limit → j ≡ 0 → IsTabled t → IsReading t t d 0 j s s
 reading_starts t d j s is e tabled = record {
@@ -318,20 +236,16 @@ module _ (first t : Tabled) (d : List ℕ) (k j s0 s : ℕ) (h : IsReading first
       omega (arith, h.steps, m, l)
 
   -- one byte more
-  module _ (b s1 : ℕ) (at : slice_get d k ≡ Some b) (again : was_asked t (asking j (byte_read b)) ≡ true → s1 ≡ s + 1) (most : s1 ≤ s + 1 + size t.graph) where
-    module _ (new : Tabled) (is : new ≡ once_asked t (asking j (byte_read b))) where
+  module _ (b s1 : ℕ) (at : slice_get d k ≡ Some b) (again : was_asked t (look_up t j (byte_read b)) ≡ true → s1 ≡ s + 1) (most : s1 ≤ s + 1 + size t.graph) where
+    module _ (new : Tabled) (is : new ≡ once_asked t (look_up t j (byte_read b))) where
       within_new : IsWithin first.graph d new
       within_new = within_next first.graph d t k j b h.within h.met h.below at new is
 
-      steps_new : s1 ≤ s0 + (k + 1) + size first.graph * length new.asked
+      steps_new : s1 ≤ s0 + (k + 1) + size first.graph * length new.look_ups
       steps_new = let m = steps_next first.graph d t k j b h.within h.met h.below at s s1 again most new is in omega (arith, h.steps, m)
 
       limit_new : new.limit ≡ first.limit
-      limit_new = ap (λ (x : Tabled). x.limit) is ∙ (go (was_asked t (asking j (byte_read b))) ∙ h.limit)
-        where
-          go : (w : Bool) → (if w then t else asked_first t (asking j (byte_read b))).limit ≡ t.limit
-          go true = refl
-          go false = refl
+      limit_new = (holds_once t new (look_up t j (byte_read b)) is).limit ∙ h.limit
 
       light_new : IsTabled new → weight new ≤ first.limit
       light_new tabled = subst (λ n. weight new ≤ n) limit_new tabled.within
@@ -344,21 +258,21 @@ module _ (first t : Tabled) (d : List ℕ) (k j s0 s : ℕ) (h : IsReading first
         below = l;
         limit = limit_new;
         light = light_new tabled;
-        holds = holding_next first.graph d t new k j b h.holds h.within.graph none h.below h.within.below at is next go to e;
+        holds = holding_next first.graph d t new k j b h.holds h.within.graph none h.below at is next go to e;
         steps = steps_new;
       }
 
       -- it leads to no set
       pub reading_stops : (next : Option ℕ) → IsNext t j b new.sets next → next ≡ None → TakesNone first.graph → IsTabled new → WeighsAll first d new
       reading_stops next go e none tabled =
-          weighs_all first d new within_new (holding_ends first.graph d t new k j b h.holds h.within.graph none h.below h.within.below at is next go e) (light_new tabled)
+          weighs_all first d new within_new (holding_ends first.graph d t new k j b h.holds h.within.graph none h.below at is next go e) (light_new tabled)
 
       pub reading_ends : (n : ℕ) → k < n → (weight new ≤ reading_weight first.graph d) × (s1 ≤ s0 + n + size first.graph * reading_look_ups first.graph d)
       reading_ends n l =
           let m = mul-le-mul_left (size first.graph) (look_ups_no_more first.graph d new within_new) in
           (weight_no_more first.graph d new within_new, omega (arith, steps_new, m, l))
 
-    pub reading_refused : (e : FilterFault) → IsFullBy t (asking j (byte_read b)) e → IsFullWithin first.limit (reading_weight first.graph d) e
+    pub reading_refused : (e : FilterFault) → IsFullBy t (look_up t j (byte_read b)) e → IsFullWithin first.limit (reading_weight first.graph d) e
     reading_refused e f = subst (λ n. IsFullWithin n (reading_weight first.graph d) e) h.limit (full_within first.graph d t k j b h.within h.met h.below at e f)
 
     pub refused_steps : (n : ℕ) → k < n → s1 ≤ s0 + n + size first.graph * reading_look_ups first.graph d

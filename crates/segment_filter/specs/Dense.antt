@@ -2,7 +2,7 @@
 use Rattle.std.specs.Prelude.{◌≡◌, ℕ, zero, suc, ◌+◌, ◌*◌, ◌<◌, List, length, slice_get, Option, Some, None}
 use Rattle.span_core.specs.Lists.{Has}
 use Rattle.automaton_reading.specs.Reading.{byte_read}
-use Rattle.set_table.specs.Tabled.{Tabled, asking}
+use Rattle.set_table.specs.Tabled.{Tabled, look_up}
 use Rattle.segment_filter.specs.Next.{IsNext}
 
 -- the set that an entry tells: of 0 nothing is known, and 1 leads nowhere
@@ -14,7 +14,7 @@ target_told (suc (suc k)) = Some k
 -- the set was asked for the byte, and goes there
 pub record GoesTo (t : Tabled) (set b : ℕ) (to : Option ℕ) : Type 0 where
   pub given : set < length t.sets
-  pub asked : Has t.asked (asking set (byte_read b))
+  pub asked : Has t.look_ups (look_up t set (byte_read b))
   pub next : IsNext t set b t.sets to
 
 -- entry 256 * set + b, where it is not 0, tells where the set goes on the byte

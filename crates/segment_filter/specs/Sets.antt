@@ -9,7 +9,8 @@ use Rattle.filter_laws.specs.Idling.{IsLed}
 use Rattle.spanner_model.specs.Expression.{AtomTree}
 use Rattle.place_automaton.specs.Atom.{AreBytes}
 use Rattle.filter_laws.specs.Touching.{IsTouchedBy}
-use Rattle.set_table.specs.Tabled.{Asking, Tabled, asked_first, set_at, was_asked, weight}
+use Rattle.automaton_reading.specs.Reading.{LookUp}
+use Rattle.set_table.specs.Tabled.{Tabled, asked_first, set_at, was_asked, weight}
 
 -- no way takes markers, so that a set has one edge at most on a byte
 abbrev pub TakesNone : Automaton → Type 0
@@ -25,7 +26,7 @@ pub record Grows (new old : Tabled) : Type 0 where
   pub sets : Extends new.sets old.sets
 
 -- the table is full: it was not asked this before, and would weigh so much with it, which is more than its limit
-abbrev pub IsFullBy : Tabled → Asking → FilterFault → Type 0
+abbrev pub IsFullBy : Tabled → LookUp → FilterFault → Type 0
 IsFullBy t r (Full w) = (was_asked t r ≡ false) × (t.limit < w) × (w ≡ weight (asked_first t r))
 IsFullBy t r OutOfMemory = Unit {0}
 

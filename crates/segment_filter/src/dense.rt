@@ -7,7 +7,7 @@ ghost use Rattle.marked_automaton.specs.Automaton.{size};
 ghost use Rattle.automaton_reading.specs.Reading.{byte_read};
 ghost use Rattle.segment_filter.specs.Sets.{IsFullBy};
 ghost use Rattle.segment_filter.specs.Next.{IsNext};
-ghost use Rattle.set_table.specs.Tabled.{IsRefusal, IsStateSet, IsTabled, asking, fresh, once_asked, set_at, was_asked, weight};
+ghost use Rattle.set_table.specs.Tabled.{IsRefusal, IsStateSet, IsTabled, fresh, look_up, once_asked, set_at, was_asked, weight};
 
 use crate::FilterFault;
 use crate::targets::asked_target;
@@ -62,7 +62,7 @@ impl<'a> DenseTable<'a> {
             Ok(table) => table,
             Err(fault) => return Err(fault),
         };
-        table.start();
+        table.is_table();
         let told = Told::new(alloc);
         Ok(DenseTable { table, told })
     }
@@ -104,10 +104,10 @@ impl<'a> DenseTable<'a> {
     ) -> Result<Option<u32>, FilterFault>
         requires { set < length self.old.sets }
         ensures tabled { IsTabled self.new }
-        ensures ok { IfOk result (λ to. (self.new ≡ once_asked self.old (asking set (byte_read byte))) × IsNext self.old set byte self.new.sets to) }
+        ensures ok { IfOk result (λ to. (self.new ≡ once_asked self.old (look_up self.old set (byte_read byte))) × IsNext self.old set byte self.new.sets to) }
         ensures err { OnErr result (self.new ≡ self.old) }
-        ensures full { IfErr result (λ e. IsFullBy self.old (asking set (byte_read byte)) e) }
-        ensures again { was_asked self.old (asking set (byte_read byte)) ≡ true → steps.new ≡ steps.old + 1 }
+        ensures full { IfErr result (λ e. IsFullBy self.old (look_up self.old set (byte_read byte)) e) }
+        ensures again { was_asked self.old (look_up self.old set (byte_read byte)) ≡ true → steps.new ≡ steps.old + 1 }
         ensures steps { steps.new ≤ steps.old + 1 + size self.old.graph }
     {
         let entry = self.told.entry(set, byte);
@@ -129,10 +129,10 @@ impl<'a> DenseTable<'a> {
     ) -> Result<Option<u32>, FilterFault>
         requires { set < length self.old.sets }
         ensures tabled { IsTabled self.new }
-        ensures ok { IfOk result (λ to. (self.new ≡ once_asked self.old (asking set (byte_read byte))) × IsNext self.old set byte self.new.sets to) }
+        ensures ok { IfOk result (λ to. (self.new ≡ once_asked self.old (look_up self.old set (byte_read byte))) × IsNext self.old set byte self.new.sets to) }
         ensures err { OnErr result (self.new ≡ self.old) }
-        ensures full { IfErr result (λ e. IsFullBy self.old (asking set (byte_read byte)) e) }
-        ensures again { was_asked self.old (asking set (byte_read byte)) ≡ true → steps.new ≡ steps.old + 1 }
+        ensures full { IfErr result (λ e. IsFullBy self.old (look_up self.old set (byte_read byte)) e) }
+        ensures again { was_asked self.old (look_up self.old set (byte_read byte)) ≡ true → steps.new ≡ steps.old + 1 }
         ensures steps { steps.new ≤ steps.old + 1 + size self.old.graph }
     {
         let to = match asked_target(&mut self.table, set, byte, steps) {

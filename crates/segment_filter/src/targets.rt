@@ -4,7 +4,7 @@ ghost use Rattle.marked_automaton.specs.Automaton.{size};
 ghost use Rattle.automaton_reading.specs.Reading.{byte_read};
 ghost use Rattle.segment_filter.specs.Sets.{IsFullBy};
 ghost use Rattle.segment_filter.specs.Next.{IsNext, first_target};
-ghost use Rattle.set_table.specs.Tabled.{IsTabled, asking, once_asked, was_asked};
+ghost use Rattle.set_table.specs.Tabled.{IsTabled, look_up, once_asked, was_asked};
 
 use crate::FilterFault;
 use set_table::{Table, TableFault};
@@ -21,20 +21,17 @@ pub(crate) fn asked_target<L: Ledger>(
 ) -> Result<Option<u32>, FilterFault>
     requires { set < length table.old.sets }
     ensures tabled { IsTabled table.new }
-    ensures ok { IfOk result (λ to. (table.new ≡ once_asked table.old (asking set (byte_read byte))) × IsNext table.old set byte table.new.sets to) }
+    ensures ok { IfOk result (λ to. (table.new ≡ once_asked table.old (look_up table.old set (byte_read byte))) × IsNext table.old set byte table.new.sets to) }
     ensures err { OnErr result (table.new ≡ table.old) }
-    ensures full { IfErr result (λ e. IsFullBy table.old (asking set (byte_read byte)) e) }
-    ensures again { was_asked table.old (asking set (byte_read byte)) ≡ true → steps.new ≡ steps.old + 1 }
+    ensures full { IfErr result (λ e. IsFullBy table.old (look_up table.old set (byte_read byte)) e) }
+    ensures again { was_asked table.old (look_up table.old set (byte_read byte)) ≡ true → steps.new ≡ steps.old + 1 }
     ensures steps { steps.new ≤ steps.old + 1 + size table.old.graph }
 {
-    table.start();
-    let to = match table.row(set, byte, steps) {
+    match table.row(set, byte, steps) {
         Ok(edges) => Ok(target_of(edges)),
         Err(TableFault::Full { weight }) => Err(FilterFault::Full { weight }),
         Err(TableFault::OutOfMemory) => Err(FilterFault::OutOfMemory),
-    };
-    table.start();
-    to
+    }
 }
 
 /// Where the first of some edges leads.

@@ -4,33 +4,31 @@ use Rattle.std.specs.Prelude.{if◌then◌else◌, nat_eq, ◌&&◌, ◌||◌, s
 use Rattle.std.specs.List.{filter, list_any, sum_by}
 use Rattle.std.specs.FinSet as bytes
 use Rattle.std.proofs.Math.Seq.{get_or-append_right}
-use Rattle.std.proofs.lemmas.Bool.{eqb-true, eq-eqb, cases_lt}
-use Rattle.std.proofs.lemmas.List.{length-set, length-replicate, get_or-replicate, get_or-set_same, get_or-set_other, get_or_append_left, get_or_past, map-append}
-use Rattle.std.proofs.lemmas.List.Sums.{sum_by-append, sum_by-cons}
+use Rattle.std.proofs.lemmas.Bool.{cases_lt}
+use Rattle.std.proofs.lemmas.List.{length-set, length-replicate, get_or-replicate, get_or-set_same, get_or-set_other, get_or_append_left, get_or_past, get_or_read, map-append, take_all}
+use Rattle.std.proofs.lemmas.List.Sums.{sum_by-append}
 use Rattle.std.proofs.lemmas.Option.{slice_get-get_or}
 use Rattle.span_core.specs.declared.edge.Edge.{Edge}
 use Rattle.span_core.specs.Lists.{AreDistinct, Has, IsInOrder}
-use Rattle.span_core.proofs.HasLaws.{Has-map, Has-map_cases, Has-append_cases, Has-slice_get, Has-take, place_of-Has}
-use Rattle.span_core.proofs.ListLaws.{get_left, get_last}
+use Rattle.span_core.proofs.HasLaws.{Has-get_or, Has-map, Has-map_cases, Has-append_cases, Has-slice_get, Has-take, place_of-Has}
 use Rattle.marked_automaton.specs.declared.way.Way.{Way}
 use Rattle.marked_automaton.specs.declared.way.Stop.{Stop}
 use Rattle.marked_automaton.specs.Automaton.{Automaton, IsWhole, Marked}
 use Rattle.marked_automaton.proofs.Listed.{get_map, get_map_cases, same_or_not, some_same}
-use Rattle.marked_automaton.proofs.Passing.{filter_cases, left_true, right_true, both_true}
-use Rattle.automaton_reading.specs.Reading.{Question, byte_read, rest_taken, ended, question_same, set_of, blocks_down, is_among, Reach, reach_with, rest_edge, ways_taken, edges}
+use Rattle.marked_automaton.proofs.Passing.{filter_cases}
+use Rattle.automaton_reading.specs.Reading.{Question, LookUp, byte_read, rest_taken, ended, set_of, blocks_down, is_among, Reach, reach_with, rest_edge, look_up_edges, ways_taken, edges}
 use Rattle.automaton_reading.proofs.Determined.{has_set}
-use Rattle.automaton_reading.proofs.MeasureLaws.{same_ask, ask_itself}
 use Rattle.set_table.specs.declared.answer.TableQuestion.{TableQuestion}
 use Rattle.set_table.specs.declared.answer.TableQuestion.TheVariants.{Byte, Rest, Ends}
 use Rattle.set_table.specs.declared.answer.Answer.{Answer}
 use Rattle.set_table.specs.declared.lists.Lists.{Lists}
 use Rattle.set_table.specs.declared.store.Store.{Store}
 use Rattle.set_table.specs.Named.{IsLongerBy}
-use Rattle.set_table.specs.Tabled.{Asking, HasEdges, HasEnds, asking, idle_of, IsStateSet, IsTabled, Tabled, asked_edges, asked_first, asked_weight, asking_same, once_asked, weight, edge_named, reached, set_at, sets_weight, with_set, with_sets}
-use Rattle.set_table.specs.Answered.{Adds, IsAnswer, IsHeld, IsQuestion, IsSound, tabled, answer_in, question_of, asking_of, askings, end_reach, part, place_in, place_of, room, with_places}
+use Rattle.set_table.specs.Tabled.{HasEdges, HasEnds, idle_of, IsStateSet, IsTabled, Tabled, asked_first, look_up, look_ups_weight, weight, edge_named, reached, set_at, sets_weight, with_set, with_sets}
+use Rattle.set_table.specs.Answered.{Adds, IsAnswer, IsHeld, IsQuestion, IsSound, tabled, answer_in, question_of, end_reach, look_up_of, look_ups_of, part, place_in, place_of, room, with_places}
 use Rattle.set_table.proofs.Ascending.{Above, all_has, has_all, blocks_in_order, set_in_order}
 use Rattle.set_table.proofs.NamingLaws.{named_stay}
-use Rattle.set_table.proofs.SetsLaws.{set_stays, with_set_cases, with_sets_longer}
+use Rattle.set_table.proofs.SetsLaws.{has_with_sets, number_told, set_stays, with_sets_apart, with_sets_longer}
 
 -- ---- questions and their places
 
@@ -70,7 +68,16 @@ place_apart k l p q h g e =
 
 -- ---- lists
 
-pub get_cases : {X : Type 0} (xs : List X) (y : X) (i : ℕ) (x : X) → slice_get (xs ++ y ∷ []) i ≡ Some x → (slice_get xs i ≡ Some x) ⊎ ((i ≡ length xs) × (y ≡ x))
+get_left : {X : Type 0} (xs ys : List X) (i : ℕ) (x : X) → slice_get xs i ≡ Some x → slice_get (xs ++ ys) i ≡ Some x
+get_left [] ys i x e = absurd (cc)
+get_left (y ∷ xs) ys zero x e = e
+get_left (y ∷ xs) ys (suc i) x e = get_left xs ys i x e
+
+get_last : {X : Type 0} (xs : List X) (x : X) → slice_get (xs ++ x ∷ []) (length xs) ≡ Some x
+get_last [] x = refl
+get_last (y ∷ xs) x = get_last xs x
+
+get_cases : {X : Type 0} (xs : List X) (y : X) (i : ℕ) (x : X) → slice_get (xs ++ y ∷ []) i ≡ Some x → (slice_get xs i ≡ Some x) ⊎ ((i ≡ length xs) × (y ≡ x))
 get_cases [] y zero x e = inr (refl, some_same y x e)
 get_cases [] y (suc i) x e = absurd (cc)
 get_cases (z ∷ xs) y zero x e = inl e
@@ -95,28 +102,14 @@ has_drop (suc n) (y ∷ xs) x h = inr (has_drop n xs x h)
 pub has_part : {X : Type 0} (first count : ℕ) (xs : List X) (x : X) → Has (part first count xs) x → Has xs x
 has_part first count xs x h = has_drop first xs x (Has-take (drop first xs) count x h)
 
-pub sum_same : {X : Type 0} (f g : X → ℕ) (xs : List X) → ((x : X) → Has xs x → f x ≡ g x) → sum_by f xs ≡ sum_by g xs
-sum_same f g [] h = refl
-sum_same f g (x ∷ xs) h = let r = sum_same f g xs (λ y k. h y (inr k)) in omega (arith, sum_by-cons f x xs, sum_by-cons g x xs, r, h x (inl refl))
+sum_cons : {X : Type 0} (f : X → ℕ) (x : X) (xs : List X) → sum_by f (x ∷ xs) ≡ f x + sum_by f xs
+sum_cons f x xs = let e = sum_by-append f (x ∷ []) xs in omega (arith, e)
 
 pub length_weight : (sets : List (List ℕ)) → length sets ≤ sets_weight sets
 length_weight [] = omega arith
-length_weight (s ∷ sets) = omega (arith, length_weight sets, sum_by-cons (λ (x : List ℕ). 1 + length x) s sets)
+length_weight (s ∷ sets) = omega (arith, length_weight sets, sum_cons (λ (x : List ℕ). 1 + length x) s sets)
 
 -- ---- sets that are reached
-
-pub has_with_sets : (sets more : List (List ℕ)) (s : List ℕ) → Has (with_sets sets more) s → Has sets s ⊎ Has more s
-has_with_sets sets [] s h = inl h
-has_with_sets sets (x ∷ more) s h = elim (has_with_sets (with_set sets x) more s h) as (λ _. Has sets s ⊎ Has (x ∷ more) s) [
-  | inl k ↦ elim (with_set_cases sets x) as (λ _. Has sets s ⊎ Has (x ∷ more) s) [
-    | inl e ↦ inl (subst (λ zs. Has zs s) e k)
-    | inr e ↦ elim (Has-append_cases sets (x ∷ []) s (subst (λ zs. Has zs s) e k)) as (λ _. Has sets s ⊎ Has (x ∷ more) s) [
-      | inl m ↦ inl m
-      | inr m ↦ elim m as (λ _. Has sets s ⊎ Has (x ∷ more) s) [ inl f ↦ inr (inl f) | inr f ↦ absurd f ]
-    ]
-  ]
-  | inr k ↦ inr (inr k)
-]
 
 filter_in_order : (t : ℕ → Bool) (xs : List ℕ) → IsInOrder ◌<◌ xs → IsInOrder ◌<◌ (filter t xs)
 filter_in_order t [] up = tt
@@ -188,9 +181,15 @@ module _ (A : Automaton) (sets0 sets : List (List ℕ)) (es0 es : List Edge) (en
     is = answer_kept x.question x.first x.count h.within ∙ (h.is ∙ ap (λ zs. edges A zs (question_of x.question)) (sym (set_kept x.set h.set)));
   }
 
-  pub weight_stays : (asked : List Asking) → ((r : Asking) → Has asked r → r.set < length sets0) → asked_weight A sets asked ≡ asked_weight A sets0 asked
-  weight_stays asked l =
-      sum_same (λ r. 1 + length (asked_edges A sets r)) (λ r. 1 + length (asked_edges A sets0 r)) asked (λ r h. ap (λ zs. 1 + length (edges A zs r.ask)) (set_kept r.set (l r h)))
+  pub look_up_stays : (x : Answer) → x.set < length sets0 → look_up_of sets x ≡ look_up_of sets0 x
+  look_up_stays x l = (λ i. let r : Row = record { set = set_kept x.set l i; ask = question_of x.question } in r)
+
+  pub look_ups_stay : (answers : List Answer) → ((x : Answer) → Has answers x → x.set < length sets0) → look_ups_of sets answers ≡ look_ups_of sets0 answers
+  look_ups_stay [] l = refl
+  look_ups_stay (x ∷ answers) l =
+      let here = look_up_stays x (l x (inl refl)) in
+      let rest = look_ups_stay answers (λ y h. l y (inr h)) in
+      (λ i. here i ∷ rest i)
 
 -- ---- the same lists
 
@@ -202,6 +201,10 @@ held_same A sets sets' answers answers' es es' ends ends' numbers numbers' w a b
     (subst (λ (v : List Edge). IsHeld A sets' answers' v ends numbers w) c
     (subst (λ (v : List Answer). IsHeld A sets' v es ends numbers w) b
     (subst (λ (v : List (List ℕ)). IsHeld A v answers es ends numbers w) a h))))
+
+-- what is left of a longer list
+pub cut_back : {X : Type 0} (xs ys : List X) (n : ℕ) → IsLongerBy xs ys → n ≡ length xs → xs ≡ take n ys
+cut_back xs ys n more e = sym ((λ i. take (e i) (more.1 i)) ∙ (take_stays (length xs) xs more.0 (omega arith) ∙ take_all (length xs) xs (omega arith)))
 
 -- ---- an answer more
 
@@ -223,7 +226,7 @@ place_within k n q h l = let b = place_below q h in omega (arith, b, l)
 
 module _ (A : Automaton) (before after : Lists) (answers0 : List Answer) (numbers0 : List ℕ) (w0 w : ℕ) (x : Answer)
     (whole : IsWhole A) (held : IsHeld A before.sets answers0 before.edges.items before.ends.items numbers0 w0) (adds : Adds A before after x w)
-    (within : x.set < length before.sets) (question : IsQuestion x.question) (absent : Has (askings answers0) (asking_of x) → ⊥) where
+    (within : x.set < length before.sets) (question : IsQuestion x.question) (absent : ¬ Has (look_ups_of before.sets answers0) (look_up_of before.sets x)) where
   abbrev sets0 : List (List ℕ)
   sets0 = before.sets
 
@@ -324,31 +327,37 @@ module _ (A : Automaton) (before after : Lists) (answers0 : List Answer) (number
         let has = Has-slice_get answers0 i y k in
         let a = held.answered y has in
         let other : place_in y.set y.question ≡ Here → ⊥ = λ same. let p = place_apart y.set x.set y.question x.question a.question question same in
-        absent (subst (Has (askings answers0)) (λ j. let r : Asking = record { set = p.0 j; ask = question_of (p.1 j) } in r) (Has-map asking_of answers0 y has)) in
+        absent (subst (Has (look_ups_of sets0 answers0)) (λ j. let r : Row = record { set = set_at sets0 (p.0 j); ask = question_of (p.1 j) } in r) (Has-map (look_up_of sets0) answers0 y has)) in
         let b = place_within y.set (length sets0) y.question a.question a.set in
         elsewhere (place_in y.set y.question) other ∙ (places_old (272 * length sets) numbers0 (place_in y.set y.question) (omega (arith, b, held.places)) ∙ held.there i y k)
     | inr k ↦ ap (λ (z : Answer). get_or Numbers (place_in z.set z.question) 0) (sym k.1) ∙ (here ∙ (let n : 1 + length answers0 ≡ suc i = omega (arith, k.0) in n))
   ]
 
-  weighs_more : w0 + w ≡ sets_weight sets + asked_weight A sets (askings (answers0 ++ x ∷ []))
+  look_ups_more : look_ups_of sets (answers0 ++ x ∷ []) ≡ look_ups_of sets0 answers0 ++ look_up_of sets0 x ∷ []
+  look_ups_more =
+      let old = look_ups_stay A sets0 sets es0 es ends0 ends longer adds.edges_longer adds.ends_longer held.targets answers0 (λ y h. (held.answered y h).set) in
+      let new = look_up_stays A sets0 sets es0 es ends0 ends longer adds.edges_longer adds.ends_longer held.targets x within in
+      map-append (look_up_of sets) answers0 (x ∷ []) ∙ (λ i. old i ++ new i ∷ [])
+
+  weighs_more : w0 + w ≡ sets_weight sets + look_ups_weight A (look_ups_of sets (answers0 ++ x ∷ []))
   weighs_more =
-      let f : Asking → ℕ = λ r. 1 + length (asked_edges A sets r) in
-      let a : asked_weight A sets (askings (answers0 ++ x ∷ [])) ≡ sum_by f (askings answers0 ++ asking_of x ∷ []) = ap (sum_by f) (map-append asking_of answers0 (x ∷ [])) in
-      let b = sum_by-append f (askings answers0) (asking_of x ∷ []) in
-      let c = weight_stays A sets0 sets es0 es ends0 ends longer adds.edges_longer adds.ends_longer held.targets (askings answers0)
-      (λ r h. let y = Has-map_cases asking_of answers0 r h in omega (arith, (held.answered y.0 y.1).set, ap (λ (z : Asking). z.set) y.2)) in
-      let d : sum_by f (asking_of x ∷ []) ≡ 1 + length (edges A (set_at sets x.set) (question_of x.question)) = one (f (asking_of x)) in
-      let e : length (edges A (set_at sets x.set) (question_of x.question)) ≡ length (edges A (set_at sets0 x.set) (question_of x.question)) =
-      ap (λ zs. length (edges A zs (question_of x.question))) (set_kept A sets0 sets es0 es ends0 ends longer adds.edges_longer adds.ends_longer held.targets x.set within) in
-      omega (arith, a, b, c, d, e, held.weighs, adds.weighs)
+      let f : Row → ℕ = λ r. 1 + row_edges A r in
+      let a : look_ups_weight A (look_ups_of sets (answers0 ++ x ∷ [])) ≡ sum_by f (look_ups_of sets0 answers0 ++ look_up_of sets0 x ∷ []) = ap (look_ups_weight A) look_ups_more in
+      let b = sum_by-append f (look_ups_of sets0 answers0) (look_up_of sets0 x ∷ []) in
+      let c : sum_by f (look_up_of sets0 x ∷ []) ≡ 1 + length (edges A (set_at sets0 x.set) (question_of x.question)) = one (f (look_up_of sets0 x)) in
+      omega (arith, a, b, c, held.weighs, adds.weighs)
     where
-      one : (n : ℕ) → sum_by (λ (r : Asking). n) (asking_of x ∷ []) ≡ n
+      one : (n : ℕ) → sum_by (λ (r : Row). n) (look_up_of sets0 x ∷ []) ≡ n
       one n = omega arith
 
-  pub first_weighs : (limit : ℕ) → w0 + w ≡ weight (asked_first (record { graph = A; limit = limit; sets = sets0; asked = askings answers0 }) (asking_of x))
-  first_weighs limit =
-      let asked : askings (answers0 ++ x ∷ []) ≡ askings answers0 ++ asking_of x ∷ [] = map-append asking_of answers0 (x ∷ []) in
-      weighs_more ∙ (λ i. sets_weight (adds.known i) + asked_weight A (adds.known i) (asked i))
+  -- the table with one answer more
+  pub first_is : (limit : ℕ) →
+      (let t : Tabled = record { graph = A; limit = limit; sets = sets; look_ups = look_ups_of sets (answers0 ++ x ∷ []) } in t)
+      ≡ asked_first (record { graph = A; limit = limit; sets = sets0; look_ups = look_ups_of sets0 answers0 }) (look_up_of sets0 x)
+  first_is limit = (λ i. let t : Tabled = record { graph = A; limit = limit; sets = adds.known i; look_ups = look_ups_more i } in t)
+
+  pub first_weighs : (limit : ℕ) → w0 + w ≡ weight (asked_first (record { graph = A; limit = limit; sets = sets0; look_ups = look_ups_of sets0 answers0 }) (look_up_of sets0 x))
+  first_weighs limit = weighs_more ∙ ap weight (first_is limit)
 
   pub few_more : length sets + length (answers0 ++ x ∷ []) + length es + length ends ≤ w0 + w
   few_more = let e = ap sets_weight longer.1 in omega (arith, held.few, adds.few, adds.weighs, ap length longer.1, length-append sets0 longer.0, e, sum_by-append (λ s. 1 + length s) sets0 longer.0, length_weight longer.0, length-append answers0 (x ∷ []))
@@ -357,6 +366,7 @@ module _ (A : Automaton) (before after : Lists) (answers0 : List Answer) (number
   held_more = record {
     start = ap (λ zs. slice_get zs 0) longer.1 ∙ get_left sets0 longer.0 0 (set_of A.starts) held.start;
     states = states_more;
+    apart = subst AreDistinct (sym adds.known) (with_sets_apart sets0 (reached A (set_at sets0 x.set) (question_of x.question)) held.apart);
     answered = answered_more;
     targets = targets_more;
     places = length-set Places Here (1 + length answers0) ∙ length_places;
@@ -376,70 +386,38 @@ held_fresh A sets answers es ends numbers start w whole is one no_answers no_edg
     record {
       start = ap (λ zs. slice_get zs 0) one ∙ ap Some is;
       states = λ s h. elim (subst (λ zs. Has zs s) one h) as (λ _. IsStateSet A s) [ inl e ↦ subst (IsStateSet A) e states | inr k ↦ absurd k ];
+      apart = subst AreDistinct (sym one) ((λ h. h), tt);
       answered = λ x h. absurd (subst (λ (zs : List Answer). Has zs x) no_answers h);
       targets = λ e h. absurd (subst (λ (zs : List Edge). Has zs e) no_edges h);
       places = ap length zero_numbers ∙ (places_length 272 [] (omega arith) ∙ (let e : 272 ≡ 272 * length sets = omega (arith, ap length one) in e));
       found = λ k q i l h e. let z : 0 ≡ suc i = sym (none (place_in k q)) ∙ e in absurd (omega (arith, z));
       there = λ i x e. absurd (let h = Has-slice_get answers i x e in subst (λ (zs : List Answer). Has zs x) no_answers h);
-      weighs = let a = ap sets_weight one in let b = sum_by-cons (λ (s : List ℕ). 1 + length s) start [] in let c : asked_weight A sets (askings answers) ≡ 0 = ap (λ (zs : List Answer). asked_weight A sets (askings zs)) no_answers in omega (arith, a, b, c, weight);
+      weighs = let a = ap sets_weight one in let b = sum_cons (λ (s : List ℕ). 1 + length s) start [] in let c : look_ups_weight A (look_ups_of sets answers) ≡ 0 = ap (λ (zs : List Answer). look_ups_weight A (look_ups_of sets zs)) no_answers in omega (arith, a, b, c, weight);
       few = omega (arith, ap length one, ap length no_answers, ap length no_edges, ap length no_ends, weight);
     }
-
--- ---- what was asked
-
-pub asking_told : (r s : Asking) → asking_same r s ≡ true → r ≡ s
-asking_told r s e =
-    let a = eqb-true r.set s.set (left_true (nat_eq r.set s.set) (question_same r.ask s.ask) e) in
-    let b = same_ask r.ask s.ask (right_true (nat_eq r.set s.set) (question_same r.ask s.ask) e) in
-    (λ i. let t : Asking = record { set = a i; ask = b i } in t)
-
-pub asking_itself : (r : Asking) → asking_same r r ≡ true
-asking_itself r = both_true (nat_eq r.set r.set) (question_same r.ask r.ask) (eq-eqb r.set r.set refl) (ask_itself r.ask)
-
-pub has_asked : (r : Asking) (rs : List Asking) → Has rs r → list_any (asking_same r) rs ≡ true
-has_asked r [] h = absurd h
-has_asked r (s ∷ rs) (inl e) = ap (λ b. b || list_any (asking_same r) rs) (ap (asking_same r) e ∙ asking_itself r)
-has_asked r (s ∷ rs) (inr h) = ap (λ b. asking_same r s || b) (has_asked r rs h) ∙ or_true (asking_same r s)
-  where
-    or_true : (b : Bool) → (b || true) ≡ true
-    or_true true = refl
-    or_true false = refl
-
-pub not_asked : (r : Asking) (rs : List Asking) → (Has rs r → ⊥) → list_any (asking_same r) rs ≡ false
-not_asked r [] h = refl
-not_asked r (s ∷ rs) h = go (asking_same r s) refl (not_asked r rs (λ k. h (inr k)))
-  where
-    go : (b : Bool) → asking_same r s ≡ b → list_any (asking_same r) rs ≡ false → (b || list_any (asking_same r) rs) ≡ false
-    go true e rest = absurd (h (inl (sym (asking_told r s e))))
-    go false e rest = rest
-
-pub once_is_first : (t : Tabled) (r : Asking) → (Has t.asked r → ⊥) → once_asked t r ≡ asked_first t r
-once_is_first t r h = ap (λ (b : Bool). if b then t else asked_first t r) (not_asked r t.asked h)
-
-pub once_is_same : (t : Tabled) (r : Asking) → Has t.asked r → t ≡ once_asked t r
-once_is_same t r h = sym (ap (λ (b : Bool). if b then t else asked_first t r) (has_asked r t.asked h))
 
 -- ---- the number of a question
 
 pub number_found : (A : Automaton) (sets : List (List ℕ)) (answers : List Answer) (es : List Edge) (ends numbers : List ℕ) (w k : ℕ) (q : TableQuestion) (n : ℕ) →
-    IsHeld A sets answers es ends numbers w → k < length sets → IsQuestion q → get_or numbers (place_in k q) 0 ≡ n → (n ≡ 0 → ⊥) → slice_get (askings answers) (n - 1) ≡ Some (record { set = k; ask = question_of q })
+    IsHeld A sets answers es ends numbers w → k < length sets → IsQuestion q → get_or numbers (place_in k q) 0 ≡ n → (n ≡ 0 → ⊥) → slice_get (look_ups_of sets answers) (n - 1) ≡ Some (record { set = set_at sets k; ask = question_of q })
 number_found A sets answers es ends numbers w k q n held l h e some =
     let less : 0 < n = positive n some in
     let at : get_or numbers (place_in k q) 0 ≡ suc (n - 1) = e ∙ (let g : n ≡ suc (n - 1) = omega (arith, less) in g) in
     let f = held.found k q (n - 1) l h at in
-    get_map asking_of answers (n - 1) f.0 f.1 ∙ ap Some (λ i. let r : Asking = record { set = f.2 i; ask = question_of (f.3 i) } in r)
+    get_map (look_up_of sets) answers (n - 1) f.0 f.1 ∙ ap Some (λ i. let r : Row = record { set = set_at sets (f.2 i); ask = question_of (f.3 i) } in r)
   where
     positive : (m : ℕ) → (m ≡ 0 → ⊥) → 0 < m
     positive zero o = absurd (o refl)
     positive (suc m) o = omega arith
 
 pub number_absent : (A : Automaton) (sets : List (List ℕ)) (answers : List Answer) (es : List Edge) (ends numbers : List ℕ) (w k : ℕ) (q : TableQuestion) →
-    IsHeld A sets answers es ends numbers w → get_or numbers (place_in k q) 0 ≡ 0 → Has (askings answers) (record { set = k; ask = question_of q }) → ⊥
-number_absent A sets answers es ends numbers w k q held e h =
-    let y = Has-map_cases asking_of answers (record { set = k; ask = question_of q }) h in
+    IsHeld A sets answers es ends numbers w → k < length sets → get_or numbers (place_in k q) 0 ≡ 0 → ¬ Has (look_ups_of sets answers) (record { set = set_at sets k; ask = question_of q })
+number_absent A sets answers es ends numbers w k q held within e h =
+    let r : Row = record { set = set_at sets k; ask = question_of q } in
+    let y = Has-map_cases (look_up_of sets) answers r h in
     let p = place_of-Has answers y.0 y.1 in
-    let set : y.0.set ≡ k = ap (λ (r : Asking). r.set) y.2 in
-    let question : y.0.question ≡ q = same_question y.0.question q (ap (λ (r : Asking). r.ask) y.2) in
+    let set : y.0.set ≡ k = number_told sets y.0.set k held.apart (held.answered y.0 y.1).set within (ap (λ (r : Row). r.set) y.2) in
+    let question : y.0.question ≡ q = same_question y.0.question q (ap (λ (r : Row). r.ask) y.2) in
     let there : get_or numbers (place_in k q) 0 ≡ suc p.0 = (λ i. get_or numbers (place_in (sym set i) (sym question i)) 0) ∙ held.there p.0 y.0 p.2 in
     let z : 0 ≡ suc p.0 = sym e ∙ there in
     omega (arith, z)
@@ -453,25 +431,34 @@ apart_by_places (x ∷ xs) h = (
   apart_by_places xs (λ i j y e f. let g : suc i ≡ suc j = h (suc i) (suc j) y e f in omega (arith, g)),
 )
 
-pub is_tabled : (M : Marked) (limit w : ℕ) (s : Store) → IsSound M limit w s → AreDistinct s.lists.sets → IsTabled (tabled M.graph limit s)
-is_tabled M limit w s sound apart = record {
+pub is_tabled : (M : Marked) (limit w : ℕ) (s : Store) → IsSound M limit w s → IsTabled (tabled M.graph limit s)
+is_tabled M limit w s sound = record {
   start = sound.held.start;
   sets = sound.held.states;
-  sets_apart = apart;
-  asked = λ r h. let y = Has-map_cases asking_of s.answers.items r h in omega (arith, (sound.held.answered y.0 y.1).set, ap (λ (z : Asking). z.set) y.2);
-  asked_apart = apart_by_places (askings s.answers.items) (λ i j r e f.
-      let x = get_map_cases asking_of s.answers.items i r e in
-      let y = get_map_cases asking_of s.answers.items j r f in
+  sets_apart = sound.held.apart;
+  asked = λ r h.
+      let y = Has-map_cases (look_up_of s.lists.sets) s.answers.items r h in
+      subst (Has s.lists.sets) (ap (λ (z : Row). z.set) y.2) (Has-get_or s.lists.sets y.0.set [] (sound.held.answered y.0 y.1).set);
+  asked_apart = apart_by_places (look_ups_of s.lists.sets s.answers.items) (λ i j r e f.
+      let x = get_map_cases (look_up_of s.lists.sets) s.answers.items i r e in
+      let y = get_map_cases (look_up_of s.lists.sets) s.answers.items j r f in
       places i j x.0 y.0 x.1 y.1 (x.2 ∙ sym y.2));
   within = omega (arith, sound.held.weighs, sound.light);
 }
   where
-    places : (i j : ℕ) (x y : Answer) → slice_get s.answers.items i ≡ Some x → slice_get s.answers.items j ≡ Some y → asking_of x ≡ asking_of y → i ≡ j
+    given : (i : ℕ) (x : Answer) → slice_get s.answers.items i ≡ Some x → x.set < length s.lists.sets
+    given i x e = (sound.held.answered x (Has-slice_get s.answers.items i x e)).set
+
+    places : (i j : ℕ) (x y : Answer) → slice_get s.answers.items i ≡ Some x → slice_get s.answers.items j ≡ Some y → look_up_of s.lists.sets x ≡ look_up_of s.lists.sets y → i ≡ j
     places i j x y e f same =
-        let set : x.set ≡ y.set = ap (λ (r : Asking). r.set) same in
-        let question : x.question ≡ y.question = same_question x.question y.question (ap (λ (r : Asking). r.ask) same) in
+        let set : x.set ≡ y.set = number_told s.lists.sets x.set y.set sound.held.apart (given i x e) (given j y f) (ap (λ (r : Row). r.set) same) in
+        let question : x.question ≡ y.question = same_question x.question y.question (ap (λ (r : Row). r.ask) same) in
         let n : suc i ≡ suc j = sym (sound.held.there i x e) ∙ ((λ k. get_or s.numbers (place_in (set k) (question k)) 0) ∙ sound.held.there j y f) in
         omega (arith, n)
+
+-- a number as it is read
+pub number_read : (numbers : List ℕ) (p at n : ℕ) → p ≡ at → at < length numbers → n ≡ get_or numbers p n → get_or numbers at 0 ≡ n
+number_read numbers p at n e l h = sym (get_or_read numbers at n l (h ∙ ap (λ i. get_or numbers i n) e) 0)
 
 -- ---- answers, as they are read
 
@@ -512,7 +499,7 @@ pub edges_within : (A : Automaton) (sets : List (List ℕ)) (answers : List Answ
 edges_within A sets answers es ends numbers w x held h o = let a = held.answered x h in let e = edged sets es ends x.question x.first x.count o in omega (arith, a.within, e.1)
 
 pub edges_are : (A : Automaton) (limit : ℕ) (sets : List (List ℕ)) (answers : List Answer) (es : List Edge) (ends numbers : List ℕ) (w : ℕ) (x : Answer) (cs : List Edge) →
-    IsHeld A sets answers es ends numbers w → Has answers x → (x.question ≡ Ends → ⊥) → cs ≡ part x.first x.count es → HasEdges (record { graph = A; limit = limit; sets = sets; asked = askings answers }) (asking_of x) cs
+    IsHeld A sets answers es ends numbers w → Has answers x → (x.question ≡ Ends → ⊥) → cs ≡ part x.first x.count es → HasEdges (record { graph = A; limit = limit; sets = sets; look_ups = look_ups_of sets answers }) (look_up_of sets x) cs
 edges_are A limit sets answers es ends numbers w x cs held h o is =
     let a = held.answered x h in
     let e = edged sets es ends x.question x.first x.count o in
@@ -536,14 +523,14 @@ pub ends_within : (A : Automaton) (sets : List (List ℕ)) (answers : List Answe
 ends_within A sets answers es ends numbers w x held h o = let a = held.answered x h in let e = ended_in sets es ends x.question x.first x.count o in omega (arith, a.within, e.1)
 
 pub ends_are : (A : Automaton) (limit : ℕ) (sets : List (List ℕ)) (answers : List Answer) (es : List Edge) (ends numbers : List ℕ) (w : ℕ) (x : Answer) (ms : List ℕ) →
-    IsHeld A sets answers es ends numbers w → Has answers x → x.question ≡ Ends → ms ≡ part x.first x.count ends → HasEnds (record { graph = A; limit = limit; sets = sets; asked = askings answers }) x.set ms
+    IsHeld A sets answers es ends numbers w → Has answers x → x.question ≡ Ends → ms ≡ part x.first x.count ends → HasEnds (record { graph = A; limit = limit; sets = sets; look_ups = look_ups_of sets answers }) (look_up_of sets x) ms
 ends_are A limit sets answers es ends numbers w x ms held h o is =
     let a = held.answered x h in
     let e = ended_in sets es ends x.question x.first x.count o in
-    let named : map end_reach ms ≡ edges A (set_at sets x.set) ended = ap (map end_reach) is ∙ (sym e.0 ∙ (a.is ∙ ap (λ q. edges A (set_at sets x.set) (question_of q)) o)) in
+    let named : map end_reach ms ≡ edges A (set_at sets x.set) (question_of x.question) = ap (map end_reach) is ∙ (sym e.0 ∙ a.is) in
     record {
       named = named;
-      order = marks_down ms (subst (λ (zs : List Reach). IsInOrder Above (map (λ (r : Reach). r.marks) zs)) (sym named) (edges_down A (set_at sets x.set) ended));
+      order = marks_down ms (subst (λ (zs : List Reach). IsInOrder Above (map (λ (r : Reach). r.marks) zs)) (sym named) (edges_down A (set_at sets x.set) (question_of x.question)));
     }
 
 -- the answer that is read at a number
@@ -556,7 +543,7 @@ rest_is_none : (idle : List ℕ) → [] ≡ rest_edge idle → idle ≡ []
 rest_is_none [] e = refl
 rest_is_none (p ∷ ps) e = absurd (cc)
 
-pub no_rest : (t : Tabled) (k : ℕ) (es : List Edge) → HasEdges t (asking k rest_taken) es → length es ≡ 0 → idle_of t k ≡ []
+pub no_rest : (t : Tabled) (k : ℕ) (es : List Edge) → HasEdges t (look_up t k rest_taken) es → length es ≡ 0 → idle_of t k ≡ []
 no_rest t k [] h l = rest_is_none (idle_of t k) h.named
 no_rest t k (e ∷ es) h l = absurd (omega (arith, l))
 
@@ -567,10 +554,10 @@ rest_is_one (p ∷ ps) r rs e = ((let f : r ≡ record { marks = 0; to = p ∷ p
     differ : p ∷ ps ≡ [] → ⊥
     differ f = cc
 
-pub at_number : (sets : List (List ℕ)) (k : ℕ) → k < length sets → slice_get sets k ≡ Some (set_at sets k)
+at_number : (sets : List (List ℕ)) (k : ℕ) → k < length sets → slice_get sets k ≡ Some (set_at sets k)
 at_number sets k l = slice_get-get_or sets k [] l
 
-pub some_rest : (t : Tabled) (k : ℕ) (es : List Edge) (f : Edge) → HasEdges t (asking k rest_taken) es → (length es ≡ 0 → ⊥) → f ≡ get_or es 0 f → (slice_get t.sets f.to ≡ Some (idle_of t k)) × (idle_of t k ≡ [] → ⊥)
+pub some_rest : (t : Tabled) (k : ℕ) (es : List Edge) (f : Edge) → HasEdges t (look_up t k rest_taken) es → (length es ≡ 0 → ⊥) → f ≡ get_or es 0 f → (slice_get t.sets f.to ≡ Some (idle_of t k)) × (idle_of t k ≡ [] → ⊥)
 some_rest t k [] f h o at = absurd (o refl)
 some_rest t k (e ∷ es) f h o at =
     let r = rest_is_one (idle_of t k) (edge_named t.sets e) (map (edge_named t.sets) es) h.named in

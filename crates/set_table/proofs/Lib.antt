@@ -8,3 +8,4 @@ pub mod AddsLaws
 pub mod HeldLaws
 pub mod StayLaws
 pub mod SpreadLaws
+pub mod OnceLaws

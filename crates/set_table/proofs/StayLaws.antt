@@ -4,12 +4,12 @@ use Rattle.std.specs.Prelude.{nat_eq, ◌||◌, IsTrue, ◌↔◌}
 use Rattle.std.specs.Ordering.{nat_cmp}
 use Rattle.std.specs.Cmp.{nat_cmp_total, unsigned_tied}
 use Rattle.std.specs.FinSet.{contains-union, contains-insert, contains-empty}
-use Rattle.std.proofs.lemmas.Bool.{eqb-true, eq-eqb, cases_lt, false≢true}
+use Rattle.std.proofs.lemmas.Bool.{eqb-true, eq-eqb, cases_lt}
 use Rattle.marked_automaton.proofs.Passing.{or_left, or_right}
 use Rattle.std.specs.FinSet as bytes
 use Rattle.span_core.specs.declared.edge.Edge.{Edge}
 use Rattle.span_core.specs.Lists.{Has, AreDistinct}
-use Rattle.automaton_reading.specs.Reading.{Reach, byte_read, edges}
+use Rattle.automaton_reading.specs.Reading.{Reach, LookUp, byte_read, edges}
 use Rattle.span_core.proofs.HasLaws.{Has-map, Has-map_cases, Has-append_cases, Has-append_left, Has-append_right}
 use Rattle.marked_automaton.specs.Automaton.{Automaton}
 use Rattle.marked_automaton.proofs.Listed.{same_or_not}
@@ -19,34 +19,17 @@ use Rattle.set_table.specs.declared.answer.TableQuestion.TheVariants.{Byte, Ends
 use Rattle.set_table.specs.declared.answer.TableQuestion.{TableQuestion}
 use Rattle.set_table.specs.declared.answer.Answer.{Answer}
 use Rattle.set_table.specs.Named.{IsLongerBy}
-use Rattle.set_table.specs.Answered.{AreStays, IsHeld, question_of, asking_of, askings, part}
+use Rattle.set_table.specs.Answered.{AreStays, IsHeld, question_of, look_up_of, look_ups_of, part}
 use Rattle.set_table.proofs.HeldLaws.{edges_are, same_question}
-use Rattle.set_table.specs.Tabled.{Asking, HasEdges, Stays, Tabled, asking, edge_named, one_edge, set_at}
-
--- a set's number is told by the set
-pub number_told : (sets : List (List ℕ)) (j k : ℕ) → AreDistinct sets → j < length sets → k < length sets → set_at sets j ≡ set_at sets k → j ≡ k
-number_told [] j k d l m e = absurd (omega arith)
-number_told (s ∷ sets) zero zero d l m e = refl
-number_told (s ∷ sets) zero (suc k) d l m e = absurd (d.0 (subst (Has sets) (sym e) (has_at sets k (omega (arith, m)))))
-  where
-    has_at : (ss : List (List ℕ)) (i : ℕ) → i < length ss → Has ss (set_at ss i)
-    has_at [] i h = absurd (omega arith)
-    has_at (x ∷ ss) zero h = inl refl
-    has_at (x ∷ ss) (suc i) h = inr (has_at ss i (omega (arith, h)))
-number_told (s ∷ sets) (suc j) zero d l m e = absurd (d.0 (subst (Has sets) e (has_at sets j (omega (arith, l)))))
-  where
-    has_at : (ss : List (List ℕ)) (i : ℕ) → i < length ss → Has ss (set_at ss i)
-    has_at [] i h = absurd (omega arith)
-    has_at (x ∷ ss) zero h = inl refl
-    has_at (x ∷ ss) (suc i) h = inr (has_at ss i (omega (arith, h)))
-number_told (s ∷ sets) (suc j) (suc k) d l m e = ap suc (number_told sets j k d.1 (omega (arith, l)) (omega (arith, m)) e)
+use Rattle.set_table.proofs.SetsLaws.{number_told}
+use Rattle.set_table.specs.Tabled.{HasEdges, Stays, Tabled, edge_named, look_up, one_edge, set_at}
 
 -- one edge that goes to the set itself
-pub stays_there : (t : Tabled) (k b : ℕ) (es : List Edge) → Has t.asked (asking k (byte_read b)) → HasEdges t (asking k (byte_read b)) es → es ≡ one_edge k ∷ [] → Stays t k b
+pub stays_there : (t : Tabled) (k b : ℕ) (es : List Edge) → Has t.look_ups (look_up t k (byte_read b)) → HasEdges t (look_up t k (byte_read b)) es → es ≡ one_edge k ∷ [] → Stays t k b
 stays_there t k b es asked h is = record { asked = asked; itself = sym h.named ∙ ap (map (edge_named t.sets)) is }
 
 -- and back
-pub stays_back : (t : Tabled) (k b : ℕ) (es : List Edge) → AreDistinct t.sets → k < length t.sets → Stays t k b → HasEdges t (asking k (byte_read b)) es → es ≡ one_edge k ∷ []
+pub stays_back : (t : Tabled) (k b : ℕ) (es : List Edge) → AreDistinct t.sets → k < length t.sets → Stays t k b → HasEdges t (look_up t k (byte_read b)) es → es ≡ one_edge k ∷ []
 stays_back t k b es apart l s h = go es h.targets (h.named ∙ s.itself)
   where
     go : (fs : List Edge) → ((e : Edge) → Has fs e → e.to < length t.sets) → map (edge_named t.sets) fs ≡ record { marks = 0; to = set_at t.sets k } ∷ [] → fs ≡ one_edge k ∷ []
@@ -108,89 +91,109 @@ is_noted old new set byte s within read is k b = go (same_or_not k set)
 -- ---- an answer more
 
 pub same_stays : (A : Automaton) (limit : ℕ) (sets sets' : List (List ℕ)) (answers answers' : List Answer) (stays : List (bytes.FinSet nat_cmp)) → sets ≡ sets' → answers ≡ answers' →
-    AreStays (record { graph = A; limit = limit; sets = sets; asked = askings answers }) stays → AreStays (record { graph = A; limit = limit; sets = sets'; asked = askings answers' }) stays
+    AreStays (record { graph = A; limit = limit; sets = sets; look_ups = look_ups_of sets answers }) stays → AreStays (record { graph = A; limit = limit; sets = sets'; look_ups = look_ups_of sets' answers' }) stays
 same_stays A limit sets sets' answers answers' stays a b h =
-    subst (λ (xs : List Answer). AreStays (record { graph = A; limit = limit; sets = sets'; asked = askings xs }) stays) b
-    (subst (λ (xs : List (List ℕ)). AreStays (record { graph = A; limit = limit; sets = xs; asked = askings answers }) stays) a h)
+    subst (λ (xs : List Answer). AreStays (record { graph = A; limit = limit; sets = sets'; look_ups = look_ups_of sets' xs }) stays) b
+    (subst (λ (xs : List (List ℕ)). AreStays (record { graph = A; limit = limit; sets = xs; look_ups = look_ups_of xs answers }) stays) a h)
 
 pub no_stays : (A : Automaton) (limit : ℕ) (sets : List (List ℕ)) (answers : List Answer) (stays : List (bytes.FinSet nat_cmp)) → answers ≡ [] → length stays ≡ length sets →
-    ((k : ℕ) → get_or stays k bytes.empty ≡ bytes.empty) → AreStays (record { graph = A; limit = limit; sets = sets; asked = askings answers }) stays
+    ((k : ℕ) → get_or stays k bytes.empty ≡ bytes.empty) → AreStays (record { graph = A; limit = limit; sets = sets; look_ups = look_ups_of sets answers }) stays
 no_stays A limit sets answers stays none count empty = record {
   count = count;
-  are = λ k b. (
-    (λ t. absurd (false≢true (sym (ap (λ v. bytes.contains v b) (empty k) ∙ contains-empty nat_cmp b) ∙ t))),
-    (λ st. absurd (subst (λ (xs : List Answer). Has (askings xs) (asking k (byte_read b))) none st.asked)),
+  are = λ k b within. (
+    (λ t. absurd (differ (sym (ap (λ v. bytes.contains v b) (empty k) ∙ contains-empty nat_cmp b) ∙ t))),
+    (λ st. absurd (subst (λ (xs : List Answer). Has (look_ups_of sets xs) (record { set = set_at sets k; ask = byte_read b })) none st.asked)),
   );
 }
+  where
+    differ : false ≡ true → ⊥
+    differ e = cc
 
 module _ (A : Automaton) (limit : ℕ) (sets0 sets : List (List ℕ)) (answers0 : List Answer) (es : List Edge) (ends numbers : List ℕ) (w : ℕ) (x : Answer) (longer : IsLongerBy sets0 sets)
-    (held : IsHeld A sets (answers0 ++ x ∷ []) es ends numbers w) (before : (y : Answer) → Has answers0 y → y.set < length sets0) (apart : AreDistinct sets) (within : x.set < length sets) where
+    (held : IsHeld A sets (answers0 ++ x ∷ []) es ends numbers w) (before : (y : Answer) → Has answers0 y → y.set < length sets0) (within : x.set < length sets) where
   abbrev Old : Tabled
-  Old = record { graph = A; limit = limit; sets = sets0; asked = askings answers0 }
+  Old = record { graph = A; limit = limit; sets = sets0; look_ups = look_ups_of sets0 answers0 }
 
   abbrev New : Tabled
-  New = record { graph = A; limit = limit; sets = sets; asked = askings (answers0 ++ x ∷ []) }
-
-  below : (k b : ℕ) → Has (askings answers0) (asking k (byte_read b)) → k < length sets0
-  below k b h = let y = Has-map_cases asking_of answers0 (asking k (byte_read b)) h in omega (arith, before y.0 y.1, ap (λ (r : Asking). r.set) y.2)
+  New = record { graph = A; limit = limit; sets = sets; look_ups = look_ups_of sets (answers0 ++ x ∷ []) }
 
   same_set : (k : ℕ) → k < length sets0 → set_at sets k ≡ set_at sets0 k
   same_set k l = ap (λ zs. set_at zs k) longer.1 ∙ get_or_append_left sets0 longer.0 [] k l
 
-  still : (k b : ℕ) → Stays Old k b → Stays New k b
-  still k b st =
-      let l = below k b st.asked in
-      let y = Has-map_cases asking_of answers0 (asking k (byte_read b)) st.asked in
+  same_look_up : (y : Answer) → y.set < length sets0 → look_up_of sets y ≡ look_up_of sets0 y
+  same_look_up y l = (λ i. let r : Row = record { set = same_set y.set l i; ask = question_of y.question } in r)
+
+  here_told : Has (look_ups_of sets (answers0 ++ x ∷ [])) (look_up_of sets x)
+  here_told = Has-map (look_up_of sets) (answers0 ++ x ∷ []) x (Has-append_right answers0 (x ∷ []) x (inl refl))
+
+  still : (k b : ℕ) → k < length sets0 → Stays Old k b → Stays New k b
+  still k b l st =
+      let r : Row = record { set = set_at sets0 k; ask = byte_read b } in
+      let y = Has-map_cases (look_up_of sets0) answers0 r st.asked in
+      let there = Has-map (look_up_of sets) (answers0 ++ x ∷ []) y.0 (Has-append_left answers0 (x ∷ []) y.0 y.1) in
+      let same = same_look_up y.0 (before y.0 y.1) ∙ (y.2 ∙ (λ i. let q : Row = record { set = sym (same_set k l) i; ask = byte_read b } in q)) in
       record {
-        asked = subst (Has (askings (answers0 ++ x ∷ []))) y.2 (Has-map asking_of (answers0 ++ x ∷ []) y.0 (Has-append_left answers0 (x ∷ []) y.0 y.1));
+        asked = subst (Has (look_ups_of sets (answers0 ++ x ∷ []))) same there;
         itself = ap (λ s. edges A s (byte_read b)) (same_set k l) ∙ (st.itself ∙ ap (λ (s : List ℕ). let r : Reach = record { marks = 0; to = s } in r ∷ []) (sym (same_set k l)));
       }
 
-  back : (k b : ℕ) → Has (askings answers0) (asking k (byte_read b)) → Stays New k b → Stays Old k b
-  back k b h st =
-      let l = below k b h in
-      record {
-        asked = h;
-        itself = sym (ap (λ s. edges A s (byte_read b)) (same_set k l)) ∙ (st.itself ∙ ap (λ (s : List ℕ). let r : Reach = record { marks = 0; to = s } in r ∷ []) (same_set k l));
-      }
+  back : (k b : ℕ) → k < length sets0 → Has (look_ups_of sets0 answers0) (look_up Old k (byte_read b)) → Stays New k b → Stays Old k b
+  back k b l h st = record {
+    asked = h;
+    itself = sym (ap (λ s. edges A s (byte_read b)) (same_set k l)) ∙ (st.itself ∙ ap (λ (s : List ℕ). let r : Reach = record { marks = 0; to = s } in r ∷ []) (same_set k l));
+  }
 
-  the_edges : (b : ℕ) → x.question ≡ Byte b → HasEdges New (asking_of x) (part x.first x.count es)
+  the_edges : (b : ℕ) → x.question ≡ Byte b → HasEdges New (look_up_of sets x) (part x.first x.count es)
   the_edges b q = edges_are A limit sets (answers0 ++ x ∷ []) es ends numbers w x (part x.first x.count es) held (Has-append_right answers0 (x ∷ []) x (inl refl)) (λ e. differ (sym q ∙ e)) refl
     where
       differ : Byte b ≡ Ends → ⊥
       differ e = cc
 
-  asked_now : (b : ℕ) → x.question ≡ Byte b → asking_of x ≡ asking x.set (byte_read b)
-  asked_now b q = ap (λ (p : TableQuestion). asking x.set (question_of p)) q
+  asked_now : (b : ℕ) → x.question ≡ Byte b → look_up_of sets x ≡ look_up New x.set (byte_read b)
+  asked_now b q = ap (λ (p : TableQuestion). let r : Row = record { set = set_at sets x.set; ask = question_of p } in r) q
 
   pub stays_more : (stays0 stays : List (bytes.FinSet nat_cmp)) → AreStays Old stays0 → length stays ≡ length sets →
       ((k b : ℕ) → IsTrue (bytes.contains (get_or stays k bytes.empty) b) ↔ (IsTrue (bytes.contains (get_or stays0 k bytes.empty) b) ⊎ ((k ≡ x.set) × (x.question ≡ Byte b) × (part x.first x.count es ≡ one_edge x.set ∷ [])))) →
       AreStays New stays
-  stays_more stays0 stays old count noted = record { count = count; are = λ k b. (there k b, here k b) }
+  stays_more stays0 stays old count noted = record { count = count; are = λ k b l. (there k b, here k b l) }
     where
+      differ : false ≡ true → ⊥
+      differ e = cc
+
+      old_there : (k b : ℕ) → IsTrue (bytes.contains (get_or stays0 k bytes.empty) b) → (k < length sets0) ⊎ (length sets0 ≤ k) → Stays New k b
+      old_there k b f (inl l) = still k b l ((old.are k b l).0 f)
+      old_there k b f (inr l) =
+          let none = get_or_past stays0 k bytes.empty (omega (arith, l, old.count)) in
+          absurd (differ (sym (ap (λ v. bytes.contains v b) none ∙ contains-empty nat_cmp b) ∙ f))
+
       there : (k b : ℕ) → IsTrue (bytes.contains (get_or stays k bytes.empty) b) → Stays New k b
       there k b t = elim ((noted k b).0 t) as (λ _. Stays New k b) [
-        | inl f ↦ still k b ((old.are k b).0 f)
+        | inl f ↦ old_there k b f (cases_lt k (length sets0))
         | inr f ↦
-            let has : HasEdges New (asking x.set (byte_read b)) (part x.first x.count es) = subst (λ r. HasEdges New r (part x.first x.count es)) (asked_now b f.1) (the_edges b f.1) in
-            let asked : Has (askings (answers0 ++ x ∷ [])) (asking x.set (byte_read b)) = subst (Has (askings (answers0 ++ x ∷ []))) (asked_now b f.1) (Has-map asking_of (answers0 ++ x ∷ []) x (Has-append_right answers0 (x ∷ []) x (inl refl))) in
+            let has : HasEdges New (look_up New x.set (byte_read b)) (part x.first x.count es) = subst (λ r. HasEdges New r (part x.first x.count es)) (asked_now b f.1) (the_edges b f.1) in
+            let asked : Has (look_ups_of sets (answers0 ++ x ∷ [])) (look_up New x.set (byte_read b)) = subst (Has (look_ups_of sets (answers0 ++ x ∷ []))) (asked_now b f.1) here_told in
             subst (λ s. Stays New s b) (sym f.0) (stays_there New x.set b (part x.first x.count es) asked has f.2)
       ]
 
-      here : (k b : ℕ) → Stays New k b → IsTrue (bytes.contains (get_or stays k bytes.empty) b)
-      here k b st =
-          let y = Has-map_cases asking_of (answers0 ++ x ∷ []) (asking k (byte_read b)) st.asked in
-          (noted k b).1 (by y.0 y.2 (Has-append_cases answers0 (x ∷ []) y.0 y.1))
+      here : (k b : ℕ) → k < length sets → Stays New k b → IsTrue (bytes.contains (get_or stays k bytes.empty) b)
+      here k b l st =
+          let y = Has-map_cases (look_up_of sets) (answers0 ++ x ∷ []) (look_up New k (byte_read b)) st.asked in
+          let set : y.0.set ≡ k = number_told sets y.0.set k held.apart (held.answered y.0 y.1).set l (ap (λ (r : Row). r.set) y.2) in
+          let question : y.0.question ≡ Byte b = same_question y.0.question (Byte b) (ap (λ (r : Row). r.ask) y.2) in
+          (noted k b).1 (by y.0 set question (Has-append_cases answers0 (x ∷ []) y.0 y.1))
         where
-          by : (y : Answer) → asking_of y ≡ asking k (byte_read b) → Has answers0 y ⊎ Has (x ∷ []) y → IsTrue (bytes.contains (get_or stays0 k bytes.empty) b) ⊎ ((k ≡ x.set) × (x.question ≡ Byte b) × (part x.first x.count es ≡ one_edge x.set ∷ []))
-          by y e (inl h) = inl ((old.are k b).1 (back k b (subst (Has (askings answers0)) e (Has-map asking_of answers0 y h)) st))
-          by y e (inr (inl h)) =
-              let same : asking_of x ≡ asking k (byte_read b) = ap asking_of h ∙ e in
-              let set : x.set ≡ k = ap (λ (r : Asking). r.set) same in
-              let q : x.question ≡ Byte b = same_question x.question (Byte b) (ap (λ (r : Asking). r.ask) same) in
-              let has : HasEdges New (asking x.set (byte_read b)) (part x.first x.count es) = subst (λ r. HasEdges New r (part x.first x.count es)) (asked_now b q) (the_edges b q) in
-              inr (sym set, q, stays_back New x.set b (part x.first x.count es) apart within (subst (λ s. Stays New s b) (sym set) st) has)
-          by y e (inr (inr h)) = absurd h
+          by : (y : Answer) → y.set ≡ k → y.question ≡ Byte b → Has answers0 y ⊎ Has (x ∷ []) y →
+              IsTrue (bytes.contains (get_or stays0 k bytes.empty) b) ⊎ ((k ≡ x.set) × (x.question ≡ Byte b) × (part x.first x.count es ≡ one_edge x.set ∷ []))
+          by y set question (inl h) =
+              let m : k < length sets0 = omega (arith, before y h, set) in
+              let told : look_up_of sets0 y ≡ look_up Old k (byte_read b) = (λ i. let r : Row = record { set = set_at sets0 (set i); ask = question_of (question i) } in r) in
+              inl ((old.are k b m).1 (back k b m (subst (Has (look_ups_of sets0 answers0)) told (Has-map (look_up_of sets0) answers0 y h)) st))
+          by y set question (inr (inl h)) =
+              let here_set : x.set ≡ k = ap (λ (z : Answer). z.set) h ∙ set in
+              let q : x.question ≡ Byte b = ap (λ (z : Answer). z.question) h ∙ question in
+              let has : HasEdges New (look_up New x.set (byte_read b)) (part x.first x.count es) = subst (λ r. HasEdges New r (part x.first x.count es)) (asked_now b q) (the_edges b q) in
+              inr (sym here_set, q, stays_back New x.set b (part x.first x.count es) held.apart within (subst (λ s. Stays New s b) (sym here_set) st) has)
+          by y set question (inr (inr h)) = absurd h
 
 -- what is noted, of sets and edges that are the same
 pub noted_of : (old old' new : List (bytes.FinSet nat_cmp)) (set : ℕ) (q : TableQuestion) (first count : ℕ) (es es' : List Edge) → ((k : ℕ) → get_or old' k bytes.empty ≡ get_or old k bytes.empty) → es' ≡ es →

@@ -4,9 +4,9 @@ use Rattle.std.specs.Ordering.{nat_cmp}
 use Rattle.std.specs.FinSet as bytes
 use Rattle.span_core.specs.declared.TheConstants.{MOST_VARIABLES}
 use Rattle.span_core.specs.declared.edge.Edge.{Edge}
-use Rattle.span_core.specs.Lists.{Has}
+use Rattle.span_core.specs.Lists.{AreDistinct, Has}
 use Rattle.marked_automaton.specs.Automaton.{Automaton, Marked, IsMarked}
-use Rattle.automaton_reading.specs.Reading.{Question, byte_read, rest_taken, ended, Reach, edges, set_of}
+use Rattle.automaton_reading.specs.Reading.{Question, LookUp, byte_read, rest_taken, ended, Reach, edges, set_of}
 use Rattle.set_table.specs.declared.answer.TableQuestion.{TableQuestion}
 use Rattle.set_table.specs.declared.answer.TableQuestion.TheVariants.{Byte, Rest, Ends}
 use Rattle.set_table.specs.declared.answer.Answer.{Answer}
@@ -14,7 +14,7 @@ use Rattle.set_table.specs.declared.lists.Added.{Added}
 use Rattle.set_table.specs.declared.lists.Lists.{Lists}
 use Rattle.set_table.specs.declared.store.Store.{Store}
 use Rattle.set_table.specs.Named.{IsLongerBy}
-use Rattle.set_table.specs.Tabled.{Asking, Tabled, IsStateSet, Stays, asked_weight, edge_named, reached, set_at, sets_weight, with_sets}
+use Rattle.set_table.specs.Tabled.{Tabled, IsStateSet, Stays, edge_named, look_up, look_ups_weight, reached, set_at, sets_weight, with_sets}
 
 abbrev pub question_of : TableQuestion → Question
 question_of (Byte b) = byte_read b
@@ -26,11 +26,12 @@ IsQuestion (Byte b) = b < 256
 IsQuestion Rest = Unit {0}
 IsQuestion Ends = Unit {0}
 
-abbrev pub asking_of : Answer → Asking
-asking_of x = record { set = x.set; ask = question_of x.question }
+-- what was asked, by the set itself: a set's number stays inside
+abbrev pub look_up_of : List (List ℕ) → Answer → Row
+look_up_of sets x = record { set = set_at sets x.set; ask = question_of x.question }
 
-abbrev pub askings : List Answer → List Asking
-askings xs = map asking_of xs
+abbrev pub look_ups_of : List (List ℕ) → List Answer → List Row
+look_ups_of sets xs = map (look_up_of sets) xs
 
 -- the place of a question among those of a set
 abbrev pub place_of : TableQuestion → ℕ
@@ -73,17 +74,22 @@ pub record IsAnswer (A : Automaton) (sets : List (List ℕ)) (es : List Edge) (e
 pub record IsHeld (A : Automaton) (sets : List (List ℕ)) (answers : List Answer) (es : List Edge) (ends numbers : List ℕ) (w : ℕ) : Type 0 where
   pub start : slice_get sets 0 ≡ Some (set_of A.starts)
   pub states : (s : List ℕ) → Has sets s → IsStateSet A s
+  pub apart : AreDistinct sets
   pub answered : (x : Answer) → Has answers x → IsAnswer A sets es ends x
   pub targets : (e : Edge) → Has es e → e.to < length sets
   pub places : length numbers ≡ 272 * length sets
   pub found : (k : ℕ) (q : TableQuestion) (i : ℕ) → k < length sets → IsQuestion q → slice_index numbers (place_in k q) ≡ suc i →
       (x : Answer) × (slice_get answers i ≡ Some x) × (x.set ≡ k) × (x.question ≡ q)
   pub there : (i : ℕ) (x : Answer) → slice_get answers i ≡ Some x → slice_index numbers (place_in x.set x.question) ≡ suc i
-  pub weighs : w ≡ sets_weight sets + asked_weight A sets (askings answers)
+  pub weighs : w ≡ sets_weight sets + look_ups_weight A (look_ups_of sets answers)
   pub few : length sets + length answers + length es + length ends ≤ w
 
 abbrev pub tabled : Automaton → ℕ → Store → Tabled
-tabled A limit s = record { graph = A; limit = limit; sets = s.lists.sets; asked = askings s.answers.items }
+tabled A limit s = record { graph = A; limit = limit; sets = s.lists.sets; look_ups = look_ups_of s.lists.sets s.answers.items }
+
+-- this was not asked of the set of this number
+abbrev pub IsNotAsked : Tabled → ℕ → TableQuestion → Type 0
+IsNotAsked t k question = ¬ Has t.look_ups (look_up t k (question_of question))
 
 abbrev pub Holds : Automaton → Store → ℕ → Type 0
 Holds A s w = IsHeld A s.lists.sets s.answers.items s.lists.edges.items s.lists.ends.items s.numbers w
@@ -91,7 +97,7 @@ Holds A s w = IsHeld A s.lists.sets s.answers.items s.lists.edges.items s.lists.
 -- for each set the bytes on which it stays
 pub record AreStays (t : Tabled) (stays : List (bytes.FinSet nat_cmp)) : Type 0 where
   pub count : length stays ≡ length t.sets
-  pub are : (k b : ℕ) → IsTrue (bytes.contains (slice_index_or stays k bytes.empty) b) ↔ Stays t k b
+  pub are : (k b : ℕ) → k < length t.sets → IsTrue (bytes.contains (slice_index_or stays k bytes.empty) b) ↔ Stays t k b
 
 -- what is true inside of a table
 pub record IsSound (M : Marked) (limit w : ℕ) (s : Store) : Type 0 where

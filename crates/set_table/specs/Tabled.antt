@@ -1,5 +1,5 @@
 -- A table of the sets of states that are reached, and of what was asked of each.
-use Rattle.std.specs.Prelude.{◌≡◌, ℕ, ◌+◌, ◌<◌, ◌≤◌, Bool, List, [], ◌∷◌, ◌++◌, map, length, nat_eq, slice_get, slice_index_or, Option, None, Some, if◌then◌else◌, ◌&&◌}
+use Rattle.std.specs.Prelude.{◌≡◌, ℕ, ◌+◌, ◌<◌, ◌≤◌, Bool, List, [], ◌∷◌, ◌++◌, map, length, slice_get, slice_index_or, Option, None, Some, if◌then◌else◌}
 use Rattle.std.specs.List.{filter, list_any, sum_by}
 use Rattle.std.specs.Str.{bytes_eq}
 use Rattle.span_core.specs.declared.edge.Edge.{Edge}
@@ -7,27 +7,23 @@ use Rattle.set_table.specs.declared.fault.TableFault.{TableFault}
 use Rattle.set_table.specs.declared.fault.TableFault.TheVariants.{Full, OutOfMemory}
 use Rattle.span_core.specs.Lists.{Has, AreDistinct, IsInOrder}
 use Rattle.marked_automaton.specs.Automaton.{Automaton}
-use Rattle.automaton_reading.specs.Reading.{Question, byte_read, rest_taken, ended, question_same, Reach, edges, is_among, set_of}
-
--- the number of a set, and what is asked of it
-pub record Asking : Type 0 where
-  pub set : ℕ
-  pub ask : Question
-
-abbrev pub asking_same : Asking → Asking → Bool
-asking_same r s = nat_eq r.set s.set && question_same r.ask s.ask
+use Rattle.automaton_reading.specs.Reading.{Question, byte_read, rest_taken, ended, Reach, LookUp, edges, is_among, look_up_edges, look_up_same, set_of}
 
 -- the automaton that is read, the greatest weight, the sets in the order of their numbers, and what
--- was asked, in the order in which it was
+-- was asked of which set, in the order in which it was
 pub record Tabled : Type 0 where
   pub graph : Automaton
   pub limit : ℕ
   pub sets : List (List ℕ)
-  pub asked : List Asking
+  pub look_ups : List Row
 
 -- the set of this number
 abbrev pub set_at : List (List ℕ) → ℕ → List ℕ
 set_at sets k = slice_index_or sets k []
+
+-- what is asked of the set of this number
+abbrev pub look_up : Tabled → ℕ → Question → Row
+look_up t k ask = record { set = set_at t.sets k; ask = ask }
 
 -- the sets that an answer leads to; an end leads to none
 abbrev pub reached : Automaton → List ℕ → Question → List (List ℕ)
@@ -45,54 +41,47 @@ with_sets sets (s ∷ more) = with_sets (with_set sets s) more
 
 -- the table of the set of the start states alone
 abbrev pub fresh : Automaton → ℕ → Tabled
-fresh A limit = record { graph = A; limit = limit; sets = set_of A.starts ∷ []; asked = [] }
+fresh A limit = record { graph = A; limit = limit; sets = set_of A.starts ∷ []; look_ups = [] }
 
 -- the table with this asked for the first time
-abbrev pub asked_first : Tabled → Asking → Tabled
+abbrev pub asked_first : Tabled → Row → Tabled
 asked_first t r = record {
   graph = t.graph;
   limit = t.limit;
-  sets = with_sets t.sets (reached t.graph (set_at t.sets r.set) r.ask);
-  asked = t.asked ++ r ∷ [];
+  sets = with_sets t.sets (reached t.graph r.set r.ask);
+  look_ups = t.look_ups ++ r ∷ [];
 }
 
-abbrev pub was_asked : Tabled → Asking → Bool
-was_asked t r = list_any (asking_same r) t.asked
+abbrev pub was_asked : Tabled → Row → Bool
+was_asked t r = list_any (row_same r) t.look_ups
 
 -- the table once this is asked
-abbrev pub once_asked : Tabled → Asking → Tabled
+abbrev pub once_asked : Tabled → Row → Tabled
 once_asked t r = if was_asked t r then t else asked_first t r
-
-abbrev pub asking : ℕ → Question → Asking
-asking set ask = record { set = set; ask = ask }
-
--- the edges of what was asked
-abbrev pub asked_edges : Automaton → List (List ℕ) → Asking → List Reach
-asked_edges A sets r = edges A (set_at sets r.set) r.ask
 
 abbrev pub sets_weight : List (List ℕ) → ℕ
 sets_weight sets = sum_by (λ set. 1 + length set) sets
 
-abbrev pub asked_weight : Automaton → List (List ℕ) → List Asking → ℕ
-asked_weight A sets asked = sum_by (λ r. 1 + length (asked_edges A sets r)) asked
+abbrev pub look_ups_weight : Automaton → List Row → ℕ
+look_ups_weight A rows = sum_by (λ r. 1 + row_edges A r) rows
 
 -- 1 + members of each set, and 1 + edges of all that was asked
 abbrev pub weight : Tabled → ℕ
-weight t = sets_weight t.sets + asked_weight t.graph t.sets t.asked
+weight t = sets_weight t.sets + look_ups_weight t.graph t.look_ups
 
 -- an edge, with the set that its number names
 abbrev pub edge_named : List (List ℕ) → Edge → Reach
 edge_named sets e = record { marks = e.marks; to = set_at sets e.to }
 
 -- these edges are the answer, the greatest marks first
-pub record HasEdges (t : Tabled) (r : Asking) (es : List Edge) : Type 0 where
-  pub named : map (edge_named t.sets) es ≡ asked_edges t.graph t.sets r
+pub record HasEdges (t : Tabled) (r : Row) (es : List Edge) : Type 0 where
+  pub named : map (edge_named t.sets) es ≡ edges t.graph r.set r.ask
   pub targets : (e : Edge) → Has es e → e.to < length t.sets
   pub order : IsInOrder (λ (e f : Edge). f.marks < e.marks) es
 
 -- these marks are those of the ends, the greatest first
-pub record HasEnds (t : Tabled) (k : ℕ) (marks : List ℕ) : Type 0 where
-  pub named : map (λ m. record { marks = m; to = [] }) marks ≡ asked_edges t.graph t.sets (asking k ended)
+pub record HasEnds (t : Tabled) (r : Row) (marks : List ℕ) : Type 0 where
+  pub named : map (λ m. record { marks = m; to = [] }) marks ≡ edges t.graph r.set r.ask
   pub order : IsInOrder (λ (m n : ℕ). n < m) marks
 
 -- the members that are idle
@@ -109,8 +98,8 @@ one_edge k = record { marks = 0; to = k }
 
 -- the byte was asked of the set, whose one edge on it takes no marks and leads to the set itself
 pub record Stays (t : Tabled) (k b : ℕ) : Type 0 where
-  pub asked : Has t.asked (asking k (byte_read b))
-  pub itself : asked_edges t.graph t.sets (asking k (byte_read b)) ≡ record { marks = 0; to = set_at t.sets k } ∷ []
+  pub asked : Has t.look_ups (look_up t k (byte_read b))
+  pub itself : edges t.graph (set_at t.sets k) (byte_read b) ≡ record { marks = 0; to = set_at t.sets k } ∷ []
 
 -- a refusal to make this table
 abbrev pub IsRefusal : Tabled → TableFault → Type 0
@@ -127,6 +116,6 @@ pub record IsTabled (t : Tabled) : Type 0 where
   pub start : slice_get t.sets 0 ≡ Some (set_of t.graph.starts)
   pub sets : (s : List ℕ) → Has t.sets s → IsStateSet t.graph s
   pub sets_apart : AreDistinct t.sets
-  pub asked : (r : Asking) → Has t.asked r → r.set < length t.sets
-  pub asked_apart : AreDistinct t.asked
+  pub asked : (r : Row) → Has t.look_ups r → Has t.sets r.set
+  pub asked_apart : AreDistinct t.look_ups
   pub within : weight t ≤ t.limit

@@ -5,10 +5,9 @@
 //! which it stays.
 ghost use Rattle.std.specs.Prelude.{◌≡◌, ℕ, ◌+◌, ◌*◌, ◌^◌, ◌<◌, ◌≤◌, ◌++◌, ◌∷◌, List, [], length, take, slice_set, slice_index_or, ◌↔◌, ◌⊎◌, IsTrue, OnOk, OnErr, IfOk, IfErr};
 ghost use Rattle.std.specs.FinSet as bytes;
-ghost use Rattle.set_table.specs.Answered.{AreLonger, IsQuestion, IsSound, question_of, askings, part, place_in, tabled, with_places};
-ghost use Rattle.span_core.specs.Lists.{Has};
+ghost use Rattle.set_table.specs.Answered.{AreLonger, IsNotAsked, IsQuestion, IsSound, question_of, part, place_in, tabled, with_places};
 ghost use Rattle.set_table.specs.Named.{IsLongerBy};
-ghost use Rattle.set_table.specs.Tabled.{IsRefusal, asked_first, asking, one_edge};
+ghost use Rattle.set_table.specs.Tabled.{IsRefusal, asked_first, look_up, one_edge};
 
 use crate::TableFault;
 use crate::answer::{Answer, TableQuestion};
@@ -74,10 +73,10 @@ impl Store {
         requires sound { IsSound automaton.now limit weight self.old }
         requires set { set < length self.old.lists.sets }
         requires question { IsQuestion question }
-        requires absent { Has (askings self.old.answers.items) (asking set (question_of question)) → ⊥ }
+        requires absent { IsNotAsked (tabled automaton.now.graph limit self.old) set question }
         ensures sound { IfOk result (λ w. IsSound automaton.now limit w self.new) }
-        ensures answered { OnOk result (tabled automaton.now.graph limit self.new ≡ asked_first (tabled automaton.now.graph limit self.old) (asking set (question_of question))) }
-        ensures refused { IfErr result (IsRefusal (asked_first (tabled automaton.now.graph limit self.old) (asking set (question_of question)))) }
+        ensures answered { OnOk result (tabled automaton.now.graph limit self.new ≡ asked_first (tabled automaton.now.graph limit self.old) (look_up (tabled automaton.now.graph limit self.old) set (question_of question))) }
+        ensures refused { IfErr result (IsRefusal (asked_first (tabled automaton.now.graph limit self.old) (look_up (tabled automaton.now.graph limit self.old) set (question_of question)))) }
         ensures kept { OnErr result (IsSound automaton.now limit weight self.new) }
         ensures same { OnErr result (tabled automaton.now.graph limit self.new ≡ tabled automaton.now.graph limit self.old) }
     {
@@ -105,10 +104,10 @@ impl Store {
         requires sound { IsSound automaton.now limit weight self.old }
         requires set { set < length self.old.lists.sets }
         requires question { IsQuestion question }
-        requires absent { Has (askings self.old.answers.items) (asking set (question_of question)) → ⊥ }
+        requires absent { IsNotAsked (tabled automaton.now.graph limit self.old) set question }
         ensures sound { IfOk result (λ w. IsSound automaton.now limit w self.new) }
-        ensures answered { OnOk result (tabled automaton.now.graph limit self.new ≡ asked_first (tabled automaton.now.graph limit self.old) (asking set (question_of question))) }
-        ensures refused { IfErr result (IsRefusal (asked_first (tabled automaton.now.graph limit self.old) (asking set (question_of question)))) }
+        ensures answered { OnOk result (tabled automaton.now.graph limit self.new ≡ asked_first (tabled automaton.now.graph limit self.old) (look_up (tabled automaton.now.graph limit self.old) set (question_of question))) }
+        ensures refused { IfErr result (IsRefusal (asked_first (tabled automaton.now.graph limit self.old) (look_up (tabled automaton.now.graph limit self.old) set (question_of question)))) }
         ensures longer { AreLonger self.old.lists self.new.lists }
         ensures answers { OnErr result (self.new.answers.items ≡ self.old.answers.items) }
         ensures numbers { OnErr result (IsLongerBy self.old.numbers self.new.numbers) }

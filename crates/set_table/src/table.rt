@@ -2,13 +2,13 @@
 //!
 //! Weight is counted as it is added, so that a look-up is refused exactly where it would pass the limit; what a
 //! refused look-up had added is taken back.
-ghost use Rattle.std.specs.Prelude.{◌≡◌, ℕ, ◌+◌, ◌<◌, ◌≤◌, List, [], ◌∷◌, length, IfOk, IfErr, IfNone, IfSome, OnOk, OnErr, MatchResult, Some, slice_get, ◌↔◌, IsTrue};
-ghost use Rattle.automaton_reading.specs.Reading.{byte_read, rest_taken, ended};
+ghost use Rattle.std.specs.Prelude.{◌≡◌, ℕ, ◌+◌, ◌<◌, ◌≤◌, List, [], ◌∷◌, length, IfOk, IfErr, IfNone, IfSome, OnOk, OnErr, Some, slice_get, ◌↔◌, IsTrue};
+ghost use Rattle.automaton_reading.specs.Reading.{LookUp, byte_read, rest_taken, ended};
 ghost use Rattle.std.specs.FinSet as bytes;
 ghost use Rattle.std.specs.Borrow.{sem};
-ghost use Rattle.set_table.specs.Lending.{Leaves};
+ghost use Rattle.set_table.specs.Lending.{Gives, Leaves};
 ghost use Rattle.span_core.specs.Lists.{Has};
-ghost use Rattle.set_table.specs.Tabled.{Asking, HasEdges, HasEnds, HasRest, IsRefusal, IsStateSet, IsTabled, Stays, asked_first, asking, fresh, once_asked, set_at, weight};
+ghost use Rattle.set_table.specs.Tabled.{HasEdges, HasEnds, HasRest, IsRefusal, IsStateSet, IsTabled, Stays, asked_first, fresh, look_up, once_asked, set_at, weight};
 ghost use Rattle.set_table.specs.Laid.{IsStateOf, taken_up};
 ghost use Rattle.set_table.specs.Answered.{IsQuestion, question_of, part};
 
@@ -123,7 +123,7 @@ impl<'a> Table<'a> {
         ensures zero { result ≡ 0 }
         ensures tabled { IsTabled self.now }
     {
-        let _sets = self.store.lists.sets.len();
+        self.is_table();
         0
     }
 
@@ -134,12 +134,21 @@ impl<'a> Table<'a> {
         self.store.lists.sets.len()
     }
 
+    /// What is always true of a table. It does nothing.
+    pub fn is_table(&self)
+        ensures { IsTabled self.now }
+    {
+        let _weight = self.weight;
+    }
+
     /// The states of a set, strictly ascending.
     pub fn members(&self, set: u32) -> &[u32]
         requires { set < length self.now.sets }
+        ensures tabled { IsTabled self.now }
         ensures members { result.now ≡ set_at self.now.sets set }
         ensures states { IsStateSet self.now.graph result.now }
     {
+        self.is_table();
         self.store.lists.sets.at(set as usize)
     }
 
@@ -173,19 +182,22 @@ impl<'a> Table<'a> {
         steps: &mut Steps<L>,
     ) -> Result<&[Edge], TableFault>
         requires { set < length self.old.sets }
-        ensures* table { sem 𝓛 (Leaves self.entry (λ t. MatchResult result (λ es. (t ≡ once_asked self.old (asking set (byte_read byte))) × HasEdges t (asking set (byte_read byte)) es.now) (λ e. (t ≡ self.old) × IsRefusal (once_asked self.old (asking set (byte_read byte))) e))) }
+        ensures tabled { IsTabled self.old }
+        ensures* table { sem 𝓛 (Leaves self.entry (Gives HasEdges self.old (look_up self.old set (byte_read byte)) result)) }
         ensures steps { steps.new ≡ steps.old + 1 }
     {
         steps.tick();
+        self.is_table();
         let number = self.ask(set, TableQuestion::Byte(byte))?;
+        self.is_table();
         Ok(self.edges_at(number))
     }
 
     /// The edges of a set on a byte, where there is that set and they were asked before. It takes no step: nothing is made.
     pub fn asked_row(&self, set: u32, byte: u8) -> Option<&[Edge]>
-        ensures some { IfSome result (λ es. (set < length self.now.sets) × HasEdges self.now (asking set (byte_read byte)) es.now) }
-        ensures asked { IfSome result (λ _. Has self.now.asked (asking set (byte_read byte))) }
-        ensures none { IfNone result (set < length self.now.sets → ¬ Has self.now.asked (asking set (byte_read byte))) }
+        ensures some { IfSome result (λ es. (set < length self.now.sets) × HasEdges self.now (look_up self.now set (byte_read byte)) es.now) }
+        ensures asked { IfSome result (λ _. Has self.now.look_ups (look_up self.now set (byte_read byte))) }
+        ensures none { IfNone result (set < length self.now.sets → ¬ Has self.now.look_ups (look_up self.now set (byte_read byte))) }
     {
         if self.store.lists.sets.len() <= set as usize {
             return None;
@@ -208,14 +220,17 @@ impl<'a> Table<'a> {
         steps: &mut Steps<L>,
     ) -> Result<Option<u32>, TableFault>
         requires { set < length self.old.sets }
-        ensures asked { OnOk result (self.new ≡ once_asked self.old (asking set rest_taken)) }
+        ensures tabled { IsTabled self.old × IsTabled self.new }
+        ensures asked { OnOk result (self.new ≡ once_asked self.old (look_up self.old set rest_taken)) }
         ensures rest { IfOk result (HasRest self.new set) }
         ensures err { OnErr result (self.new ≡ self.old) }
-        ensures refused { IfErr result (IsRefusal (once_asked self.old (asking set rest_taken))) }
+        ensures refused { IfErr result (IsRefusal (once_asked self.old (look_up self.old set rest_taken))) }
         ensures steps { steps.new ≡ steps.old + 1 }
     {
         steps.tick();
+        self.is_table();
         let number = self.ask(set, TableQuestion::Rest)?;
+        self.is_table();
         let edges = self.edges_at(number);
         if edges.is_empty() {
             Ok(None)
@@ -232,11 +247,14 @@ impl<'a> Table<'a> {
         steps: &mut Steps<L>,
     ) -> Result<&[Marks], TableFault>
         requires { set < length self.old.sets }
-        ensures* table { sem 𝓛 (Leaves self.entry (λ t. MatchResult result (λ ms. (t ≡ once_asked self.old (asking set ended)) × HasEnds t set ms.now) (λ e. (t ≡ self.old) × IsRefusal (once_asked self.old (asking set ended)) e))) }
+        ensures tabled { IsTabled self.old }
+        ensures* table { sem 𝓛 (Leaves self.entry (Gives HasEnds self.old (look_up self.old set ended) result)) }
         ensures steps { steps.new ≡ steps.old + 1 }
     {
         steps.tick();
+        self.is_table();
         let number = self.ask(set, TableQuestion::Ends)?;
+        self.is_table();
         Ok(self.marks_at(number))
     }
 
@@ -244,10 +262,10 @@ impl<'a> Table<'a> {
     fn ask(&mut self, set: u32, question: TableQuestion) -> Result<usize, TableFault>
         requires set { set < length self.old.sets }
         requires question { IsQuestion question }
-        ensures asked { OnOk result (self.new ≡ once_asked self.old (asking set (question_of question))) }
-        ensures number { IfOk result (λ i. slice_get self.new.asked i ≡ Some (asking set (question_of question))) }
+        ensures asked { OnOk result (self.new ≡ once_asked self.old (look_up self.old set (question_of question))) }
+        ensures number { IfOk result (λ i. slice_get self.new.look_ups i ≡ Some (look_up self.old set (question_of question))) }
         ensures err { OnErr result (self.new ≡ self.old) }
-        ensures refused { IfErr result (IsRefusal (once_asked self.old (asking set (question_of question)))) }
+        ensures refused { IfErr result (IsRefusal (once_asked self.old (look_up self.old set (question_of question)))) }
     {
         let number = self.store.numbers.at(place_of(set, question));
         if number != 0 {
@@ -263,11 +281,11 @@ impl<'a> Table<'a> {
     fn answer(&mut self, set: u32, question: TableQuestion) -> Result<usize, TableFault>
         requires set { set < length self.old.sets }
         requires question { IsQuestion question }
-        requires absent { Has self.old.asked (asking set (question_of question)) → ⊥ }
-        ensures asked { OnOk result (self.new ≡ asked_first self.old (asking set (question_of question))) }
-        ensures number { IfOk result (λ i. slice_get self.new.asked i ≡ Some (asking set (question_of question))) }
+        requires absent { Has self.old.look_ups (look_up self.old set (question_of question)) → ⊥ }
+        ensures asked { OnOk result (self.new ≡ asked_first self.old (look_up self.old set (question_of question))) }
+        ensures number { IfOk result (λ i. slice_get self.new.look_ups i ≡ Some (look_up self.old set (question_of question))) }
         ensures err { OnErr result (self.new ≡ self.old) }
-        ensures refused { IfErr result (IsRefusal (asked_first self.old (asking set (question_of question)))) }
+        ensures refused { IfErr result (IsRefusal (asked_first self.old (look_up self.old set (question_of question)))) }
     {
         let automaton = self.automaton;
         self.weight = self
@@ -278,9 +296,9 @@ impl<'a> Table<'a> {
 
     /// The edges of an answer.
     fn edges_at(&self, number: usize) -> &[Edge]
-        requires within { number < length self.now.asked }
-        requires edges { (r : Asking) → slice_get self.now.asked number ≡ Some r → r.ask ≡ ended → ⊥ }
-        ensures { (r : Asking) → slice_get self.now.asked number ≡ Some r → HasEdges self.now r result.now }
+        requires within { number < length self.now.look_ups }
+        requires edges { (r : Row) → slice_get self.now.look_ups number ≡ Some r → r.ask ≡ ended → ⊥ }
+        ensures { (r : Row) → slice_get self.now.look_ups number ≡ Some r → HasEdges self.now r result.now }
     {
         let answer = self.store.answers[number];
         edges_part(
@@ -292,9 +310,9 @@ impl<'a> Table<'a> {
 
     /// The marks of an answer.
     fn marks_at(&self, number: usize) -> &[Marks]
-        requires within { number < length self.now.asked }
-        requires ends { (r : Asking) → slice_get self.now.asked number ≡ Some r → r.ask ≡ ended }
-        ensures { (r : Asking) → slice_get self.now.asked number ≡ Some r → HasEnds self.now r.set result.now }
+        requires within { number < length self.now.look_ups }
+        requires ends { (r : Row) → slice_get self.now.look_ups number ≡ Some r → r.ask ≡ ended }
+        ensures { (r : Row) → slice_get self.now.look_ups number ≡ Some r → HasEnds self.now r result.now }
     {
         let answer = self.store.answers[number];
         marks_part(

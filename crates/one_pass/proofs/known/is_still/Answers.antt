@@ -1,4 +1,4 @@
-use Rattle.one_pass.proofs.Asking.{still_is}
+use Rattle.one_pass.proofs.KnownLaws.{still_is}
 use Rattle.one_pass.proofs.known.is_still.Goals as goal
 
 pub returns-then-edges-eq1 : goal.returns-then-edges-eq1

@@ -1,7 +1,5 @@
 use Rattle.std.proofs.Common.{refl}
-use Rattle.automaton_reading.specs.Reading.{byte_read}
 use Rattle.output_graph.specs.Sound.{edges_of}
-use Rattle.one_pass.proofs.Asking.{asked_is, numbered_is}
 use Rattle.one_pass.proofs.GraphBridge.{descend_edges}
 use Rattle.one_pass.proofs.known.with_look_up.Goals as goal
 
@@ -13,10 +11,10 @@ returns-in-Ok c = (
   edges_of c.in_ok-edges.edges.now,
   record {
     given = c.in_ok-edges.ensures.some.0;
-    asked = asked_is c.args.table.now c.args.set (byte_read c.args.byte) c.in_ok-edges.ensures.asked;
+    asked = c.in_ok-edges.ensures.asked;
     by = c.in_ok-edges.edges.now;
     are = refl;
-    numbered = numbered_is c.args.table.now c.args.set (byte_read c.args.byte) c.in_ok-edges.edges.now c.in_ok-edges.ensures.some.1;
+    edges = c.in_ok-edges.ensures.some.1;
   },
   c.in-Ok.ensures,
 )

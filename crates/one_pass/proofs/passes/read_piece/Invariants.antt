@@ -1,6 +1,6 @@
 use Rattle.std.proofs.Common.{◌≤◌, ◌-◌, length}
 use Rattle.one_pass.specs.Known.{Knows, Stands}
-use Rattle.one_pass.specs.Seen.{held, whole}
+use Rattle.one_pass.specs.Seen.{whole}
 use Rattle.one_pass.specs.Passes.{pass}
 use Rattle.one_pass.proofs.Advancing.{IsAdvanced}
 use Rattle.one_pass.proofs.passes.read_piece.Given as goal
@@ -10,9 +10,9 @@ abbrev pub invariant-loop-i : goal.invariant-loop-i
 invariant-loop-i g l = record {
   within : l.i ≤ length l.piece;
   quiet : l.quiet ≤ 16;
-  advanced : IsAdvanced (pass (held l.fn.table) (whole l.fn.graph) l.fn.steps) l.at l.piece l.i (pass (held l.table) (whole l.graph) l.steps);
-  known : Knows (held l.table) l.known;
-  stands : Stands (held l.table) l.graph l.known l.layer;
+  advanced : IsAdvanced (pass l.fn.table (whole l.fn.graph) l.fn.steps) l.at l.piece l.i (pass l.table (whole l.graph) l.steps);
+  known : Knows l.table l.known;
+  stands : Stands l.table l.graph l.known l.layer;
 }
 
 abbrev pub decreases-loop-i : goal.decreases-loop-i

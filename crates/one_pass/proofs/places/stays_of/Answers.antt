@@ -6,9 +6,7 @@ use Rattle.span_core.specs.Lists.{Has}
 use Rattle.span_core.proofs.HasLaws.{Has-get_or}
 use Rattle.output_graph.specs.Graph.{sources}
 use Rattle.one_pass.specs.Layers.{no_source, source_at}
-use Rattle.one_pass.specs.Seen.{held}
 use Rattle.one_pass.proofs.Advancing.{stay_more}
-use Rattle.one_pass.proofs.Asking.{stays_is}
 use Rattle.one_pass.proofs.GraphBridge.{whole_count, whole_set}
 use Rattle.one_pass.proofs.places.stays_of.Goals as goal
 
@@ -23,8 +21,8 @@ pub loop-k-preserved : goal.loop-k-preserved
 loop-k-preserved c b small h =
     let within : c.loop-k.k < length c.args.graph.now.layer = omega arith in
     let s = whole_set c.args.graph.now c.requires.fresh c.loop-k.k c.set_at-set.result within c.set_at-set.ensures in
-    stay_more (held c.args.table.now) (sources c.args.graph.now) c.loop-k.k c.loop-k.stays c.stays.result s.0 c.set_at-set.result s.1
-    c.loop-k.invariant (λ q less has. stays_is c.args.table.now c.set_at-set.result q ((c.stays.ensures q).0 has)) b small (subst (λ s. IsTrue (bytes.contains s b)) c.meet-stays.ensures h)
+    stay_more c.args.table.now (sources c.args.graph.now) c.loop-k.k c.loop-k.stays c.stays.result s.0 c.set_at-set.result s.1
+    c.loop-k.invariant (λ q less has. (c.stays.ensures q).0 has) b small (subst (λ s. IsTrue (bytes.contains s b)) c.meet-stays.ensures h)
 
 pub returns : goal.returns
 returns c b small h x there =

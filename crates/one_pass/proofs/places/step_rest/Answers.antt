@@ -2,8 +2,8 @@ use Rattle.std.proofs.Common.{◌≡◌, ◌<◌, length, ap, arith, refl}
 use Rattle.output_graph.specs.Graph.{sources}
 use Rattle.one_pass.specs.Passes.{pass, stop}
 use Rattle.one_pass.specs.Places.{rest_at}
-use Rattle.one_pass.specs.Seen.{held, stepping_from, whole}
-use Rattle.one_pass.specs.Held.{set_named}
+use Rattle.one_pass.specs.Seen.{stepping_from, whole}
+use Rattle.set_table.specs.Tabled.{set_at}
 use Rattle.one_pass.proofs.PlaceLaws.{no_marks}
 use Rattle.one_pass.proofs.ReadWords.{rest_marks}
 use Rattle.one_pass.proofs.Composing.{stopped_at}
@@ -17,21 +17,21 @@ loop-k-init g c = stepping_begun c.args.table.now c.args.graph.now c.args.steps.
 pub turn_rest-requires-clause-given : goal.turn_rest-requires-clause-given
 turn_rest-requires-clause-given g c =
     let within : c.loop-k.k < length c.args.graph.now.layer = omega arith in
-    turn_given (rest_at c.args.at) (pass (held c.args.table.now) (whole c.args.graph.now) c.args.steps.now) c.args.at c.requires c.loop-k.k (pass (held c.loop-k.table) (stepping_from (sources c.args.graph.now) c.loop-k.graph) c.loop-k.steps) c.loop-k.invariant.0.spent
+    turn_given (rest_at c.args.at) (pass c.args.table.now (whole c.args.graph.now) c.args.steps.now) c.args.at c.requires c.loop-k.k (pass c.loop-k.table (stepping_from (sources c.args.graph.now) c.loop-k.graph) c.loop-k.steps) c.loop-k.invariant.0.spent
     (inside c.args.table.now c.args.graph.now c.args.steps.now c.args.at c.requires c.loop-k.k c.loop-k.table c.loop-k.graph c.loop-k.steps within c.loop-k.invariant.1 c.set_at-set.result c.set_at-set.ensures) c.set_at-set.result (set_is c.args.table.now c.args.graph.now c.args.steps.now c.args.at c.requires c.loop-k.k c.loop-k.table c.loop-k.graph c.loop-k.steps within c.loop-k.invariant.1 c.set_at-set.result c.set_at-set.ensures)
 
 pub returns-in-Err-clause-stopped : goal.returns-in-Err-clause-stopped
 returns-in-Err-clause-stopped g c =
     let within : c.loop-k.k < length c.args.graph.now.layer = omega arith in
-    stopped_at c.args.table.now.graph (rest_at c.args.at) (pass (held c.args.table.now) (whole c.args.graph.now) c.args.steps.now) (stop (held c.turn_rest.new.table) c.turn_rest.new.steps)
+    stopped_at c.args.table.now.graph (rest_at c.args.at) (pass c.args.table.now (whole c.args.graph.now) c.args.steps.now) (stop c.turn_rest.new.table c.turn_rest.new.steps)
     (given_up c.args.table.now c.args.graph.now c.args.steps.now c.args.at c.requires c.loop-k.k c.loop-k.table c.loop-k.graph c.loop-k.steps within c.loop-k.invariant.1 c.set_at-set.result c.set_at-set.ensures
     (rest_at c.args.at) (stepping_from (sources c.args.graph.now) c.loop-k.graph) refl c.loop-k.invariant.0.spent c.turn_rest.new.table c.turn_rest.new.steps c.in-Err.ensures.refused)
 
 pub returns-in-Err-clause-cause : goal.returns-in-Err-clause-cause
 returns-in-Err-clause-cause g c =
     let within : c.loop-k.k < length c.args.graph.now.layer = omega arith in
-    place_cause (rest_at c.args.at) (pass (held c.args.table.now) (whole c.args.graph.now) c.args.steps.now) c.in-Err.fault
-    (turn_cause (rest_at c.args.at) (pass (held c.args.table.now) (whole c.args.graph.now) c.args.steps.now) c.args.at c.requires c.loop-k.k (pass (held c.loop-k.table) (stepping_from (sources c.args.graph.now) c.loop-k.graph) c.loop-k.steps) c.loop-k.invariant.0.spent
+    place_cause (rest_at c.args.at) (pass c.args.table.now (whole c.args.graph.now) c.args.steps.now) c.in-Err.fault
+    (turn_cause (rest_at c.args.at) (pass c.args.table.now (whole c.args.graph.now) c.args.steps.now) c.args.at c.requires c.loop-k.k (pass c.loop-k.table (stepping_from (sources c.args.graph.now) c.loop-k.graph) c.loop-k.steps) c.loop-k.invariant.0.spent
     (inside c.args.table.now c.args.graph.now c.args.steps.now c.args.at c.requires c.loop-k.k c.loop-k.table c.loop-k.graph c.loop-k.steps within c.loop-k.invariant.1 c.set_at-set.result c.set_at-set.ensures) c.set_at-set.result (set_is c.args.table.now c.args.graph.now c.args.steps.now c.args.at c.requires c.loop-k.k c.loop-k.table c.loop-k.graph c.loop-k.steps within c.loop-k.invariant.1 c.set_at-set.result c.set_at-set.ensures)
     c.in-Err.fault c.in-Err.ensures.cause)
 
@@ -45,15 +45,15 @@ pub returns-clause-read : goal.returns-clause-read
 returns-clause-read g c =
     let count = layer_count c.args.table.now c.args.graph.now c.args.steps.now c.args.at c.requires in
     let all : c.loop-k.k ≡ length (sources c.args.graph.now) = omega arith in
-    turns_read (rest_at c.args.at) (pass (held c.args.table.now) (whole c.args.graph.now) c.args.steps.now) c.args.at c.loop-k.k c.requires (pass (held c.loop-k.table) (stepping_from (sources c.args.graph.now) c.loop-k.graph) c.loop-k.steps) c.loop-k.invariant.0 all
+    turns_read (rest_at c.args.at) (pass c.args.table.now (whole c.args.graph.now) c.args.steps.now) c.args.at c.loop-k.k c.requires (pass c.loop-k.table (stepping_from (sources c.args.graph.now) c.loop-k.graph) c.loop-k.steps) c.loop-k.invariant.0 all
     (whole c.next_layer.new.self) c.next_layer.ensures.sources (ap length c.next_layer.ensures.cells)
 
 pub returns-clause-ready : goal.returns-clause-ready
 returns-clause-ready g c =
     let count = layer_count c.args.table.now c.args.graph.now c.args.steps.now c.args.at c.requires in
     let all : c.loop-k.k ≡ length (sources c.args.graph.now) = omega arith in
-    turns_ready (rest_at c.args.at) (pass (held c.args.table.now) (whole c.args.graph.now) c.args.steps.now) c.args.at c.loop-k.k c.requires (pass (held c.loop-k.table) (stepping_from (sources c.args.graph.now) c.loop-k.graph) c.loop-k.steps) c.loop-k.invariant.0 all
+    turns_ready (rest_at c.args.at) (pass c.args.table.now (whole c.args.graph.now) c.args.steps.now) c.args.at c.loop-k.k c.requires (pass c.loop-k.table (stepping_from (sources c.args.graph.now) c.loop-k.graph) c.loop-k.steps) c.loop-k.invariant.0 all
     (whole c.next_layer.new.self) c.next_layer.ensures.sources (ap length c.next_layer.ensures.cells)
     c.args.at (omega arith)
-    (λ x e b h k w. absurd (no_marks c.args.at e.marks b (rest_marks c.args.table.now.graph (set_named (held c.args.table.now) x.set) e k) w))
+    (λ x e b h k w. absurd (no_marks c.args.at e.marks b (rest_marks c.args.table.now.graph (set_at c.args.table.now.sets x.set) e k) w))
     c.next_layer.ensures.stepped c.next_layer.ensures.targets refl

@@ -3,7 +3,7 @@ use Rattle.std.specs.Prelude.{IsTrue}
 use Rattle.std.proofs.lemmas.Option.{slice_get-get_or}
 use Rattle.marked_automaton.specs.Automaton.{Automaton}
 use Rattle.automaton_reading.specs.Reading.{byte_read}
-use Rattle.set_table.specs.Tabled.{asking}
+use Rattle.set_table.specs.Tabled.{look_up}
 use Rattle.span_core.specs.Intervals.{Covers}
 use Rattle.filter_laws.specs.Idling.{IsLed}
 use Rattle.segment_filter.specs.Sets.{IsAt, MeetAt}
@@ -73,7 +73,7 @@ loop-at-preserved g c =
           c.next.ensures.again c.next.ensures.steps new ok.0 c.in-Ok.next c.in-Some.to ok.1 here.0 c.in-Some.is c.requires.plain c.in-Ok.ensures.tabled;
       places = c.meet-meets.ensures.places;
       right = all_remembered_more c.args.most new.sets old.sets back.sets c.meet-meets.new.seen.pairs.items
-          (grows_asked new old (asking c.loop-at.set (byte_read (get_or d at 0))) ok.0).sets c.meet-meets.ensures.right;
+          (grows_asked new old (look_up old c.loop-at.set (byte_read (get_or d at 0))) ok.0).sets c.meet-meets.ensures.right;
       here = here;
       covers = covers_more (Covers c.loop-at.touched) (Covers c.mark.new.touched) M c.meet-meets.result at inv.covers is c.in_ok-mark.ensures;
     }

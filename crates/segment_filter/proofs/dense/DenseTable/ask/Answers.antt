@@ -1,6 +1,6 @@
 use Rattle.std.proofs.Common.{sym, subst, ◌<◌, length}
 use Rattle.automaton_reading.specs.Reading.{byte_read}
-use Rattle.set_table.specs.Tabled.{Tabled, asking}
+use Rattle.set_table.specs.Tabled.{Tabled, look_up}
 use Rattle.segment_filter.specs.Dense.{AreTold}
 use Rattle.segment_filter.proofs.DenseLaws.{goes_there, told_still}
 use Rattle.segment_filter.proofs.dense.DenseTable.ask.Goals as goal
@@ -18,6 +18,6 @@ invariant_of-self-2 g c =
     let ok = c.in-Ok.ensures.ok in
     let given = subst (λ (t : Tabled). c.args.set < length t.sets) (sym c.self.view_is) c.requires in (
       c.in-Ok.ensures.tabled,
-      c.enter.ensures new (c.make_room.ensures new (told_still old new (asking c.args.set (byte_read c.args.byte)) c.self.inside.told.entries.items ok.0 c.self.invariant.1))
+      c.enter.ensures new (c.make_room.ensures new (told_still old new (look_up old c.args.set (byte_read c.args.byte)) c.self.inside.told.entries.items ok.0 c.self.invariant.1))
           (goes_there old new c.args.set c.args.byte c.in-Ok.to given ok.0 ok.1),
     )

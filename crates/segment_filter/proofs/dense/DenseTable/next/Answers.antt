@@ -1,7 +1,7 @@
 use Rattle.std.proofs.Common.{sym, subst, arith}
 use Rattle.automaton_reading.specs.Reading.{byte_read}
-use Rattle.set_table.specs.Tabled.{Tabled, asking}
-use Rattle.set_table.proofs.HeldLaws.{once_is_same}
+use Rattle.set_table.specs.Tabled.{Tabled, look_up}
+use Rattle.set_table.proofs.OnceLaws.{once_is_same}
 use Rattle.segment_filter.specs.Dense.{GoesTo, target_told}
 use Rattle.segment_filter.specs.Next.{IsNext}
 use Rattle.segment_filter.proofs.dense.DenseTable.next.Goals as goal
@@ -11,4 +11,4 @@ returns-clause-ok g c =
     let t = c.args.self.now in
     let goes = subst (λ (t : Tabled). GoesTo t c.args.set c.args.byte (target_told c.entry-entry.result)) c.self.view_is
     (c.entry-entry.ensures c.self.inside.table c.self.invariant.1 (omega arith)) in
-    (once_is_same t (asking c.args.set (byte_read c.args.byte)) goes.asked, subst (IsNext t c.args.set c.args.byte t.sets) (sym c.target_of.ensures) goes.next)
+    (once_is_same t (look_up t c.args.set (byte_read c.args.byte)) goes.asked, subst (IsNext t c.args.set c.args.byte t.sets) (sym c.target_of.ensures) goes.next)

@@ -1,11 +1,12 @@
 use Rattle.std.proofs.Common.{◌≡◌, ◌+◌, ◌*◌, [], ◌∷◌, ◌++◌, get_or, length, length-append, set, sym, ap, arith, ◌∙◌}
 use Rattle.set_table.specs.declared.answer.Answer.{Answer}
 use Rattle.set_table.specs.declared.lists.Lists.{Lists}
-use Rattle.set_table.specs.Answered.{AreStays, askings, place_in, tabled, with_places}
+use Rattle.set_table.specs.Answered.{AreStays, look_ups_of, place_in, tabled, with_places}
+use Rattle.set_table.specs.Tabled.{Tabled}
 use Rattle.set_table.specs.Named.{IsLongerBy}
 use Rattle.set_table.proofs.StayLaws.{noted_of, same_stays, stays_more}
 use Rattle.std.specs.FinSet as bytes
-use Rattle.set_table.proofs.HeldLaws.{few_more, first_weighs, held_more, held_same}
+use Rattle.set_table.proofs.HeldLaws.{few_more, first_is, first_weighs, held_more, held_same}
 use Rattle.set_table.proofs.store.Store.make.Goals as goal
 
 pub returns-then-weight-limit-clause-refused : goal.returns-then-weight-limit-clause-refused
@@ -31,6 +32,23 @@ keep-requires-clause-few_sets c =
     sound.marked.whole sound.held c.in_ok-added.ensures.added c.requires.set c.requires.question c.requires.absent in
     omega (arith, few, sound.small, c.if-weight-limit.false)
 
+pub returns-clause-answered : goal.returns-clause-answered
+returns-clause-answered c =
+    let M = c.args.automaton.now in
+    let s = c.args.self.now in
+    let n = c.add.new.self in
+    let k = c.keep.new.self in
+    let sound = c.requires.sound in
+    let x : Answer = record { set = c.args.set; question = c.args.question; first = c.in_ok-added.added.first; count = c.in_ok-added.added.count } in
+    let is = first_is M.graph s.lists n s.answers.items s.numbers c.args.weight c.in_ok-added.added.weight x
+    sound.marked.whole sound.held c.in_ok-added.ensures.added c.requires.set c.requires.question c.requires.absent c.args.limit in
+    (λ i. let t : Tabled = record {
+      graph = M.graph;
+      limit = c.args.limit;
+      sets = (ap (λ (l : Lists). l.sets) c.in_ok-keep.ensures.lists) i;
+      look_ups = look_ups_of ((ap (λ (l : Lists). l.sets) c.in_ok-keep.ensures.lists) i) (c.in_ok-keep.ensures.answers i);
+    } in t) ∙ is
+
 pub returns-clause-sound : goal.returns-clause-sound
 returns-clause-sound c =
     let M = c.args.automaton.now in
@@ -51,9 +69,9 @@ returns-clause-sound c =
     let noted = noted_of s.stays.items k.stays.items c.note_stay.new.stays.items c.args.set c.args.question x.first x.count n.edges.items c.as_slice.result.now
     (λ j. ap (λ zs. get_or zs j bytes.empty) c.in_ok-keep.ensures.stays ∙ c.in_ok-put_empty.ensures.same j)
     (c.as_slice.ensures.value ∙ sym (ap (λ (l : Lists). l.edges.items) lists)) c.note_stay.ensures.noted in
-    let more : AreStays (record { graph = M.graph; limit = c.args.limit; sets = n.sets; asked = askings (s.answers.items ++ x ∷ []) }) c.note_stay.new.stays.items =
+    let more : AreStays (record { graph = M.graph; limit = c.args.limit; sets = n.sets; look_ups = look_ups_of n.sets (s.answers.items ++ x ∷ []) }) c.note_stay.new.stays.items =
     stays_more M.graph c.args.limit s.lists.sets n.sets s.answers.items n.edges.items n.ends.items (set (with_places (272 * length n.sets) s.numbers) (place_in c.args.set c.args.question) (1 + length s.answers.items)) w x
-    longer held (λ y h. (sound.held.answered y h).set) c.len.ensures.apart (omega (arith, c.requires.set, ap length longer.1, length-append s.lists.sets longer.0)) s.stays.items c.note_stay.new.stays.items old count noted in
+    longer held (λ y h. (sound.held.answered y h).set) (omega (arith, c.requires.set, ap length longer.1, length-append s.lists.sets longer.0)) s.stays.items c.note_stay.new.stays.items old count noted in
     record {
       marked = sound.marked;
       names = sound.names;

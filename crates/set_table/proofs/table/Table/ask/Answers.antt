@@ -2,9 +2,10 @@ use Rattle.std.proofs.Common.{◌≡◌, ◌<◌, ◌-◌, Some, length, get_or,
 use Rattle.std.specs.Prelude.{slice_get, OnOk, IfErr}
 use Rattle.span_core.specs.Lists.{Has}
 use Rattle.span_core.proofs.HasLaws.{Has-slice_get}
-use Rattle.set_table.specs.Tabled.{IsRefusal, Tabled, asking}
+use Rattle.set_table.specs.Tabled.{IsRefusal, Tabled, look_up}
 use Rattle.set_table.specs.Answered.{question_of, place_in}
-use Rattle.set_table.proofs.HeldLaws.{number_absent, number_found, once_is_first, once_is_same}
+use Rattle.set_table.proofs.HeldLaws.{number_absent, number_found}
+use Rattle.set_table.proofs.OnceLaws.{once_is_first, once_is_same}
 use Rattle.set_table.proofs.table.Table.ask.Goals as goal
 
 pub returns-then-number-ne0-clause-number : goal.returns-then-number-ne0-clause-number
@@ -16,9 +17,9 @@ returns-then-number-ne0-clause-number c =
     let held = c.self.invariant.held in
     let within : k < length s.lists.sets = subst (λ (t : Tabled). k < length t.sets) (sym c.self.view_is) c.requires.set in
     let read : get_or s.numbers (place_in k q) 0 ≡ c.at-number.result = sym (c.at-number.ensures ∙ ap (λ p. get_or s.numbers p 0) c.place_of.ensures) in
-    let found : slice_get c.args.self.now.asked (c.at-number.result - 1) ≡ Some (asking k (question_of q)) =
-    ap (λ (t : Tabled). slice_get t.asked (c.at-number.result - 1)) (sym c.self.view_is)
-    ∙ number_found i.automaton.now.graph s.lists.sets s.answers.items s.lists.edges.items s.lists.ends.items s.numbers i.weight k q c.at-number.result held within c.requires.question read c.if-number-ne0.true in
+    let found : slice_get c.args.self.now.look_ups (c.at-number.result - 1) ≡ Some (look_up c.args.self.now k (question_of q)) =
+    subst (λ (t : Tabled). slice_get t.look_ups (c.at-number.result - 1) ≡ Some (look_up t k (question_of q))) c.self.view_is
+    (number_found i.automaton.now.graph s.lists.sets s.answers.items s.lists.edges.items s.lists.ends.items s.numbers i.weight k q c.at-number.result held within c.requires.question read c.if-number-ne0.true) in
     found
 
 pub returns-then-number-ne0-clause-asked : goal.returns-then-number-ne0-clause-asked
@@ -30,10 +31,10 @@ returns-then-number-ne0-clause-asked c =
     let held = c.self.invariant.held in
     let within : k < length s.lists.sets = subst (λ (t : Tabled). k < length t.sets) (sym c.self.view_is) c.requires.set in
     let read : get_or s.numbers (place_in k q) 0 ≡ c.at-number.result = sym (c.at-number.ensures ∙ ap (λ p. get_or s.numbers p 0) c.place_of.ensures) in
-    let found : slice_get c.args.self.now.asked (c.at-number.result - 1) ≡ Some (asking k (question_of q)) =
-    ap (λ (t : Tabled). slice_get t.asked (c.at-number.result - 1)) (sym c.self.view_is)
-    ∙ number_found i.automaton.now.graph s.lists.sets s.answers.items s.lists.edges.items s.lists.ends.items s.numbers i.weight k q c.at-number.result held within c.requires.question read c.if-number-ne0.true in
-    once_is_same c.args.self.now (asking k (question_of q)) (Has-slice_get c.args.self.now.asked (c.at-number.result - 1) (asking k (question_of q)) found)
+    let found : slice_get c.args.self.now.look_ups (c.at-number.result - 1) ≡ Some (look_up c.args.self.now k (question_of q)) =
+    subst (λ (t : Tabled). slice_get t.look_ups (c.at-number.result - 1) ≡ Some (look_up t k (question_of q))) c.self.view_is
+    (number_found i.automaton.now.graph s.lists.sets s.answers.items s.lists.edges.items s.lists.ends.items s.numbers i.weight k q c.at-number.result held within c.requires.question read c.if-number-ne0.true) in
+    once_is_same c.args.self.now (look_up c.args.self.now k (question_of q)) (Has-slice_get c.args.self.now.look_ups (c.at-number.result - 1) (look_up c.args.self.now k (question_of q)) found)
 
 pub answer-requires-clause-absent : goal.answer-requires-clause-absent
 answer-requires-clause-absent c =
@@ -44,8 +45,8 @@ answer-requires-clause-absent c =
     let held = c.self.invariant.held in
     let within : k < length s.lists.sets = subst (λ (t : Tabled). k < length t.sets) (sym c.self.view_is) c.requires.set in
     let read : get_or s.numbers (place_in k q) 0 ≡ c.at-number.result = sym (c.at-number.ensures ∙ ap (λ p. get_or s.numbers p 0) c.place_of.ensures) in
-    let absent : Has c.args.self.now.asked (asking k (question_of q)) → ⊥ = λ h.
-    number_absent i.automaton.now.graph s.lists.sets s.answers.items s.lists.edges.items s.lists.ends.items s.numbers i.weight k q held (read ∙ c.if-number-ne0.false) (subst (λ (t : Tabled). Has t.asked (asking k (question_of q))) (sym c.self.view_is) h) in
+    let absent : Has c.args.self.now.look_ups (look_up c.args.self.now k (question_of q)) → ⊥ = λ h.
+    number_absent i.automaton.now.graph s.lists.sets s.answers.items s.lists.edges.items s.lists.ends.items s.numbers i.weight k q held within (read ∙ c.if-number-ne0.false) (subst (λ (t : Tabled). Has t.look_ups (look_up t k (question_of q))) (sym c.self.view_is) h) in
     absent
 
 pub returns-clause-asked : goal.returns-clause-asked
@@ -57,9 +58,9 @@ returns-clause-asked c =
     let held = c.self.invariant.held in
     let within : k < length s.lists.sets = subst (λ (t : Tabled). k < length t.sets) (sym c.self.view_is) c.requires.set in
     let read : get_or s.numbers (place_in k q) 0 ≡ c.at-number.result = sym (c.at-number.ensures ∙ ap (λ p. get_or s.numbers p 0) c.place_of.ensures) in
-    let absent : Has c.args.self.now.asked (asking k (question_of q)) → ⊥ = λ h.
-    number_absent i.automaton.now.graph s.lists.sets s.answers.items s.lists.edges.items s.lists.ends.items s.numbers i.weight k q held (read ∙ c.if-number-ne0.false) (subst (λ (t : Tabled). Has t.asked (asking k (question_of q))) (sym c.self.view_is) h) in
-    subst (λ (t : Tabled). OnOk c.answer.result (c.answer.new.self ≡ t)) (sym (once_is_first c.args.self.now (asking k (question_of q)) absent)) c.answer.ensures.asked
+    let absent : Has c.args.self.now.look_ups (look_up c.args.self.now k (question_of q)) → ⊥ = λ h.
+    number_absent i.automaton.now.graph s.lists.sets s.answers.items s.lists.edges.items s.lists.ends.items s.numbers i.weight k q held within (read ∙ c.if-number-ne0.false) (subst (λ (t : Tabled). Has t.look_ups (look_up t k (question_of q))) (sym c.self.view_is) h) in
+    subst (λ (t : Tabled). OnOk c.answer.result (c.answer.new.self ≡ t)) (sym (once_is_first c.args.self.now (look_up c.args.self.now k (question_of q)) absent)) c.answer.ensures.asked
 
 pub returns-clause-refused : goal.returns-clause-refused
 returns-clause-refused c =
@@ -70,6 +71,6 @@ returns-clause-refused c =
     let held = c.self.invariant.held in
     let within : k < length s.lists.sets = subst (λ (t : Tabled). k < length t.sets) (sym c.self.view_is) c.requires.set in
     let read : get_or s.numbers (place_in k q) 0 ≡ c.at-number.result = sym (c.at-number.ensures ∙ ap (λ p. get_or s.numbers p 0) c.place_of.ensures) in
-    let absent : Has c.args.self.now.asked (asking k (question_of q)) → ⊥ = λ h.
-    number_absent i.automaton.now.graph s.lists.sets s.answers.items s.lists.edges.items s.lists.ends.items s.numbers i.weight k q held (read ∙ c.if-number-ne0.false) (subst (λ (t : Tabled). Has t.asked (asking k (question_of q))) (sym c.self.view_is) h) in
-    subst (λ (t : Tabled). IfErr c.answer.result (IsRefusal t)) (sym (once_is_first c.args.self.now (asking k (question_of q)) absent)) c.answer.ensures.refused
+    let absent : Has c.args.self.now.look_ups (look_up c.args.self.now k (question_of q)) → ⊥ = λ h.
+    number_absent i.automaton.now.graph s.lists.sets s.answers.items s.lists.edges.items s.lists.ends.items s.numbers i.weight k q held within (read ∙ c.if-number-ne0.false) (subst (λ (t : Tabled). Has t.look_ups (look_up t k (question_of q))) (sym c.self.view_is) h) in
+    subst (λ (t : Tabled). IfErr c.answer.result (IsRefusal t)) (sym (once_is_first c.args.self.now (look_up c.args.self.now k (question_of q)) absent)) c.answer.ensures.refused

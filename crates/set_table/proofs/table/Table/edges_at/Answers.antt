@@ -4,8 +4,9 @@ use Rattle.std.proofs.lemmas.List.{length-map}
 use Rattle.span_core.proofs.HasLaws.{Has-slice_get}
 use Rattle.marked_automaton.proofs.Listed.{get_map, some_same}
 use Rattle.set_table.specs.declared.answer.TableQuestion.TheVariants.{Ends}
-use Rattle.set_table.specs.Tabled.{Asking, HasEdges, Tabled}
-use Rattle.set_table.specs.Answered.{question_of, asking_of, askings, part}
+use Rattle.automaton_reading.specs.Reading.{LookUp}
+use Rattle.set_table.specs.Tabled.{HasEdges, Tabled}
+use Rattle.set_table.specs.Answered.{question_of, look_up_of, look_ups_of, part}
 use Rattle.set_table.proofs.HeldLaws.{answer_read, edges_are, edges_within}
 use Rattle.set_table.proofs.table.Table.edges_at.Goals as goal
 
@@ -15,11 +16,11 @@ edges_part-requires c =
     let s = i.store in
     let n = c.args.number in
     let x = c.index-answer.result.now in
-    let within : n < length s.answers.items = let l : n < length (askings s.answers.items) = subst (λ (t : Tabled). n < length t.asked) (sym c.self.view_is) c.requires.within in omega (arith, l, length-map s.answers.items asking_of) in
+    let within : n < length s.answers.items = let l : n < length (look_ups_of s.lists.sets s.answers.items) = subst (λ (t : Tabled). n < length t.look_ups) (sym c.self.view_is) c.requires.within in omega (arith, l, length-map s.answers.items (look_up_of s.lists.sets)) in
     let at : slice_get s.answers.items n ≡ Some x = answer_read s.answers.items n x c.index-answer.ensures within in
     let has = Has-slice_get s.answers.items n x at in
-    let asked : slice_get c.args.self.now.asked n ≡ Some (asking_of x) = ap (λ (t : Tabled). slice_get t.asked n) (sym c.self.view_is) ∙ get_map asking_of s.answers.items n x at in
-    let kind : x.question ≡ Ends → ⊥ = λ e. c.requires.edges (asking_of x) asked (ap question_of e) in
+    let asked : slice_get c.args.self.now.look_ups n ≡ Some (look_up_of s.lists.sets x) = ap (λ (t : Tabled). slice_get t.look_ups n) (sym c.self.view_is) ∙ get_map (look_up_of s.lists.sets) s.answers.items n x at in
+    let kind : x.question ≡ Ends → ⊥ = λ e. c.requires.edges (look_up_of s.lists.sets x) asked (ap question_of e) in
     let bound = edges_within i.automaton.now.graph s.lists.sets s.answers.items s.lists.edges.items s.lists.ends.items s.numbers i.weight x c.self.invariant.held has kind in
     subst (λ zs. x.first + x.count ≤ length zs) (sym c.as_slice.ensures.value) bound
 
@@ -29,12 +30,12 @@ returns c = λ r h.
     let s = i.store in
     let n = c.args.number in
     let x = c.index-answer.result.now in
-    let within : n < length s.answers.items = let l : n < length (askings s.answers.items) = subst (λ (t : Tabled). n < length t.asked) (sym c.self.view_is) c.requires.within in omega (arith, l, length-map s.answers.items asking_of) in
+    let within : n < length s.answers.items = let l : n < length (look_ups_of s.lists.sets s.answers.items) = subst (λ (t : Tabled). n < length t.look_ups) (sym c.self.view_is) c.requires.within in omega (arith, l, length-map s.answers.items (look_up_of s.lists.sets)) in
     let at : slice_get s.answers.items n ≡ Some x = answer_read s.answers.items n x c.index-answer.ensures within in
     let has = Has-slice_get s.answers.items n x at in
-    let asked : slice_get c.args.self.now.asked n ≡ Some (asking_of x) = ap (λ (t : Tabled). slice_get t.asked n) (sym c.self.view_is) ∙ get_map asking_of s.answers.items n x at in
-    let kind : x.question ≡ Ends → ⊥ = λ e. c.requires.edges (asking_of x) asked (ap question_of e) in
-    let same : asking_of x ≡ r = some_same (asking_of x) r (sym asked ∙ h) in
+    let asked : slice_get c.args.self.now.look_ups n ≡ Some (look_up_of s.lists.sets x) = ap (λ (t : Tabled). slice_get t.look_ups n) (sym c.self.view_is) ∙ get_map (look_up_of s.lists.sets) s.answers.items n x at in
+    let kind : x.question ≡ Ends → ⊥ = λ e. c.requires.edges (look_up_of s.lists.sets x) asked (ap question_of e) in
+    let same : look_up_of s.lists.sets x ≡ r = some_same (look_up_of s.lists.sets x) r (sym asked ∙ h) in
     let are = edges_are i.automaton.now.graph i.limit s.lists.sets s.answers.items s.lists.edges.items s.lists.ends.items s.numbers i.weight x c.edges_part.result.now c.self.invariant.held has kind
     (c.edges_part.ensures ∙ ap (part x.first x.count) c.as_slice.ensures.value) in
-    subst (λ (t : Tabled). HasEdges t r c.edges_part.result.now) c.self.view_is (subst (λ (r : Asking). HasEdges (record { graph = i.automaton.now.graph; limit = i.limit; sets = s.lists.sets; asked = askings s.answers.items }) r c.edges_part.result.now) same are)
+    subst (λ (t : Tabled). HasEdges t r c.edges_part.result.now) c.self.view_is (subst (λ (r : Row). HasEdges (record { graph = i.automaton.now.graph; limit = i.limit; sets = s.lists.sets; look_ups = look_ups_of s.lists.sets s.answers.items }) r c.edges_part.result.now) same are)
