@@ -16,8 +16,8 @@ use spanner_model::{Formula, Parts};
 use std::alloc::Global;
 
 /// Where the fits of the formula end that begin at one of the starts.
-#[cycle(ends)]
-pub fn ends(
+#[cycle(reached_from)]
+pub fn reached_from(
     alloc: Global,
     formula: &Formula,
     doc: &[u8],
@@ -78,7 +78,7 @@ fn add_after_byte(
 }
 
 /// Where the parts end, one after another.
-#[cycle(ends)]
+#[cycle(reached_from)]
 fn in_turn(
     alloc: Global,
     parts: &Parts,
@@ -96,13 +96,13 @@ fn in_turn(
         if reached.is_empty() {
             return Ok(reached);
         }
-        reached = ends(alloc, parts.at(k), doc, &reached)?;
+        reached = reached_from(alloc, parts.at(k), doc, &reached)?;
     }
     Ok(reached)
 }
 
 /// Where one of the arms ends.
-#[cycle(ends)]
+#[cycle(reached_from)]
 fn by_arms(
     alloc: Global,
     parts: &Parts,
@@ -117,7 +117,7 @@ fn by_arms(
 {
     let mut all = Vec::new(alloc);
     for k in 0..parts.len() {
-        let mut others = ends(alloc, parts.at(k), doc, starts)?;
+        let mut others = reached_from(alloc, parts.at(k), doc, starts)?;
         all.append(&mut others)?;
     }
     sort_once(&mut all);
@@ -125,7 +125,7 @@ fn by_arms(
 }
 
 /// Where exactly so many fits of the formula end, one after another.
-#[cycle(ends)]
+#[cycle(reached_from)]
 fn repeated(
     alloc: Global,
     sub: &Formula,
@@ -144,14 +144,14 @@ fn repeated(
         if reached.is_empty() {
             return Ok(reached);
         }
-        reached = ends(alloc, sub, doc, &reached)?;
+        reached = reached_from(alloc, sub, doc, &reached)?;
     }
     Ok(reached)
 }
 
 /// Where at most so many fits of the formula end, one after another. It goes on from each end once, and
 /// stops where no fit leads to a new one.
-#[cycle(ends)]
+#[cycle(reached_from)]
 fn repeated_more(
     alloc: Global,
     sub: &Formula,
@@ -172,7 +172,7 @@ fn repeated_more(
         if done == reached.len() {
             return Ok(reached.into_ends());
         }
-        let next = ends(alloc, sub, doc, reached.after(done))?;
+        let next = reached_from(alloc, sub, doc, reached.after(done))?;
         done = reached.len();
         reached.add_all(&next)?;
     }

@@ -11,7 +11,7 @@ ghost use Rattle.plain_spanner.specs.Listed.{Tells, FromSome, IsBare, HasFit, Co
 
 use crate::MOST_DOCUMENT_BYTES;
 use crate::bare::{are_bare, is_bare};
-use crate::ends::ends;
+use crate::ends::reached_from;
 use span_core::{Name, OutOfMemory, Span};
 use spanner_model::{Formula, Parts};
 use std::alloc::{AllocError, Global};
@@ -120,7 +120,7 @@ fn go_on_bare(
     let mut all = Vec::new(alloc);
     for first in firsts {
         let places = first.ends();
-        let later = ends(alloc, formula, doc, places)?;
+        let later = reached_from(alloc, formula, doc, places)?;
         add_branch(alloc, &mut all, first.captures(), later)?;
     }
     Ok(all)

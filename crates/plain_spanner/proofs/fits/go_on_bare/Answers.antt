@@ -10,8 +10,8 @@ use Rattle.plain_spanner.proofs.TellsLaws.{tells_or, tells_only, from_none, from
 use Rattle.plain_spanner.proofs.FitLists.{GoesFrom, branches_go_on, bare_branch, no_fits}
 use Rattle.plain_spanner.proofs.fits.go_on_bare.Goals as goal
 
-pub ends-requires-clause-within : goal.ends-requires-clause-within
-ends-requires-clause-within c = λ k h.
+pub reached_from-requires-clause-within : goal.reached_from-requires-clause-within
+reached_from-requires-clause-within c = λ k h.
     let b = c.first-item.result in
     let here : Has c.args.firsts.now b = subst (λ (x : CapturesAndEnds). Has c.args.firsts.now x) (sym c.first-item.is) (Has-get_or c.args.firsts.now c.loop-first.first-index b c.loop-first-test.true) in
     c.requires.within (k, b.0) (b.1, here, subst (λ (xs : List ℕ). Has xs k) c.ends-places.ensures h)

@@ -6,10 +6,10 @@ use Rattle.spanner_model.specs.Fit.{Fit}
 use Rattle.spanner_model.proofs.Nodes.{nodes}
 use Rattle.plain_spanner.specs.Listed.{Tells, FromSome, LeadsOn, LeadsTimes, LeadsIn}
 use Rattle.plain_spanner.proofs.RepeatLaws.{Closed}
-use Rattle.plain_spanner.proofs.ends.+ends.Given as goal
+use Rattle.plain_spanner.proofs.ends.+reached_from.Given as goal
 
-abbrev pub decreases-ends : goal.decreases-ends
-decreases-ends l = 2 * nodes (tree_of l.formula.now) + 1
+abbrev pub decreases-reached_from : goal.decreases-reached_from
+decreases-reached_from l = 2 * nodes (tree_of l.formula.now) + 1
 
 abbrev pub decreases-in_turn : goal.decreases-in_turn
 decreases-in_turn l = 2 * nodes (cat_all (trees_of l.parts.now))

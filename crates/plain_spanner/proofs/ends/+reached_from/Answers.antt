@@ -19,36 +19,36 @@ use Rattle.plain_spanner.proofs.BareLaws.{bare_same, bare_part, bare_take}
 use Rattle.plain_spanner.proofs.TellsLaws.{tells_through, tells_only, tells_appended_to, from_none, from_more, from_all, empty_list}
 use Rattle.plain_spanner.proofs.RepeatLaws.{Closed, times_snoc, times_unsnoc, times_begin, lists_repeat, leads_then, leads_none, leads_within, Has-drop, rounds_none, closed_none, closed_more, rounds_more, rounds_done}
 use Rattle.plain_spanner.proofs.EndLaws.{turn_splits, turn_joins, turn_begins, arms_done, leads_nothing, times_stay, rounds_within}
-use Rattle.plain_spanner.proofs.ends.+ends.Goals as goal
+use Rattle.plain_spanner.proofs.ends.+reached_from.Goals as goal
 
-pub ends-in_turn-requires : goal.ends-in_turn-requires
-ends-in_turn-requires t c =
+pub reached_from-in_turn-requires : goal.reached_from-in_turn-requires
+reached_from-in_turn-requires t c =
     let p = has_parts c.args.formula.now c.in-Cat.parts (inl c.in-Cat.is) in
     let b = bare_same (tree_of c.args.formula.now) (cat_all (trees_of c.in-Cat.parts)) p.vars in
     (omega (arith, p.size), (p.built c.requires.built, (b.1 c.requires.bare, (c.requires.short, c.requires.within))))
 
-pub ends-by_arms-requires : goal.ends-by_arms-requires
-ends-by_arms-requires t c =
+pub reached_from-by_arms-requires : goal.reached_from-by_arms-requires
+reached_from-by_arms-requires t c =
     let p = has_parts c.args.formula.now c.in-Alt.parts (inr c.in-Alt.is) in
     let b = bare_same (tree_of c.args.formula.now) (cat_all (trees_of c.in-Alt.parts)) p.vars in
     (omega (arith, p.size), (p.built c.requires.built, (b.1 c.requires.bare, (c.requires.short, c.requires.within))))
 
-pub ends-repeated-requires : goal.ends-repeated-requires
-ends-repeated-requires t c =
+pub reached_from-repeated-requires : goal.reached_from-repeated-requires
+reached_from-repeated-requires t c =
     let e = ap tree_of c.in-Rep.is ∙ tree_of-Rep c.in-Rep.sub c.in-Rep.least c.in-Rep.most ∙ ap (λ x. rep (tree_of x) c.in-Rep.least c.in-Rep.most) (sym c.deref.ensures) in
     let w = subst IsWellBuilt e c.requires.built in
     let n = ap nodes e in
     let deep = w.1 in
     (omega (arith, n), ((w.0.0, omega (arith, deep)), (subst IsBare e c.requires.bare, (c.requires.short, c.requires.within))))
 
-pub ends-rounds-more-requires : goal.ends-rounds-more-requires
-ends-rounds-more-requires t c =
+pub reached_from-rounds-more-requires : goal.reached_from-rounds-more-requires
+reached_from-rounds-more-requires t c =
     let e = ap tree_of c.in-Rep.is ∙ tree_of-Rep c.in-Rep.sub c.in-Rep.least c.in-Rep.most in
     let w = subst IsWellBuilt e c.requires.built in
     λ b is. (w.0.1.1 b is).0
 
-pub ends-repeated_more-requires : goal.ends-repeated_more-requires
-ends-repeated_more-requires t c =
+pub reached_from-repeated_more-requires : goal.reached_from-repeated_more-requires
+reached_from-repeated_more-requires t c =
     let e = ap tree_of c.in-Rep.is ∙ tree_of-Rep c.in-Rep.sub c.in-Rep.least c.in-Rep.most ∙ ap (λ x. rep (tree_of x) c.in-Rep.least c.in-Rep.most) (sym c.deref-in-Rep.ensures) in
     let w = subst IsWellBuilt e c.requires.built in
     let n = ap nodes e in
@@ -60,8 +60,8 @@ ends-repeated_more-requires t c =
     (subst (λ (ys : List ℕ). Has ys k) c.deref-in-Rep-2.ensures.value h) in
     (omega (arith, n), ((w.0.0, omega (arith, deep)), (subst IsBare e c.requires.bare, (c.requires.short, within))))
 
-pub ends-returns-in_ok-first-in-Rep : goal.ends-returns-in_ok-first-in-Rep
-ends-returns-in_ok-first-in-Rep t c =
+pub reached_from-returns-in_ok-first-in-Rep : goal.reached_from-returns-in_ok-first-in-Rep
+reached_from-returns-in_ok-first-in-Rep t c =
     let least = c.in-Rep.least in
     let most = c.in-Rep.most in
     let d = c.args.doc.now in
@@ -77,28 +77,28 @@ ends-returns-in_ok-first-in-Rep t c =
     (lists_repeat (Fit f d) (λ i j m h. fit_no_vars f d i j m bare h) (λ i j m h. fit_le f d i j m h) least c.rounds-more.result (length d) most starts c.in_ok-first-in-Rep.first.items (Has v.items)
     (λ i j n s h. times_stay f d n i j (c.requires.within i s) h) c.rounds-more.ensures.capped c.rounds-more.ensures.enough c.in_ok-first-in-Rep.ensures so'')) c.repeated_more.ensures
 
-pub ends-returns-in-Cat : goal.ends-returns-in-Cat
-ends-returns-in-Cat t c =
+pub reached_from-returns-in-Cat : goal.reached_from-returns-in-Cat
+reached_from-returns-in-Cat t c =
     let e = ap tree_of c.in-Cat.is ∙ tree_of-Cat c.in-Cat.parts in
     subst (λ (f : Tree). IfOk c.in_turn.result (λ v. Tells (Has v.items) (LeadsOn (Fit f c.args.doc.now) c.args.starts.now))) (sym e) c.in_turn.ensures
 
-pub ends-returns-in-Alt : goal.ends-returns-in-Alt
-ends-returns-in-Alt t c =
+pub reached_from-returns-in-Alt : goal.reached_from-returns-in-Alt
+reached_from-returns-in-Alt t c =
     let e = ap tree_of c.in-Alt.is ∙ tree_of-Alt c.in-Alt.parts in
     subst (λ (f : Tree). IfOk c.by_arms.result (λ v. Tells (Has v.items) (LeadsOn (Fit f c.args.doc.now) c.args.starts.now))) (sym e) c.by_arms.ensures
 
-pub ends-returns-in-One : goal.ends-returns-in-One
-ends-returns-in-One t c =
+pub reached_from-returns-in-One : goal.reached_from-returns-in-One
+reached_from-returns-in-One t c =
     let e = ap tree_of c.in-One.is ∙ tree_of-One c.in-One.set in
     subst (λ (f : Tree). IfOk c.after_byte.result (λ v. Tells (Has v.items) (LeadsOn (Fit f c.args.doc.now) c.args.starts.now))) (sym e) c.after_byte.ensures
 
-pub ends-returns-in-Cap : goal.ends-returns-in-Cap
-ends-returns-in-Cap t c =
+pub reached_from-returns-in-Cap : goal.reached_from-returns-in-Cap
+reached_from-returns-in-Cap t c =
     let e = ap tree_of c.in-Cap.is ∙ tree_of-Cap c.in-Cap.field-0 c.in-Cap.field-1 in
     absurd (subst IsBare e c.requires.bare c.in-Cap.field-0 (inl refl))
 
-pub in_turn-ends-requires : goal.in_turn-ends-requires
-in_turn-ends-requires t c =
+pub in_turn-reached_from-requires : goal.in_turn-reached_from-requires
+in_turn-reached_from-requires t c =
     let ts = trees_of c.args.parts.now in
     let d = c.args.doc.now in
     let g = cat_all (take c.loop-k.k ts) in
@@ -135,8 +135,8 @@ in_turn-returns t c =
     let e : c.loop-k.k ≡ length ts = omega arith in
     subst (λ (us : List Tree). Tells (Has c.loop-k.reached.items) (LeadsOn (Fit (cat_all us) c.args.doc.now) c.args.starts.now)) (ap (λ n. take n ts) e ∙ take-length ts) c.loop-k.invariant
 
-pub by_arms-ends-requires : goal.by_arms-ends-requires
-by_arms-ends-requires t c =
+pub by_arms-reached_from-requires : goal.by_arms-reached_from-requires
+by_arms-reached_from-requires t c =
     let ts = trees_of c.args.parts.now in
     let has = Has-slice_get ts c.loop-k.k (tree_of c.at.result.now) c.at.ensures in
     (omega (arith, part_nodes ts (tree_of c.at.result.now) has), (c.requires.built (tree_of c.at.result.now) has, (bare_part ts (tree_of c.at.result.now) has c.requires.bare, (c.requires.short, c.requires.within))))
@@ -162,8 +162,8 @@ by_arms-returns t c =
     let listed = tells_only (Has c.loop-k.all.items) (Has []) (FromSome R ts) (λ x h. h) (from_all R (Has []) (Has c.loop-k.all.items) ts c.loop-k.k (omega arith) (omega arith) c.loop-k.invariant) in
     tells_through (Has c.sort_once.new.values.items) (Has c.loop-k.all.items) (LeadsOn (Fit (alt_all ts) d) c.args.starts.now) c.sort_once.ensures.adds_none c.sort_once.ensures.keeps (arms_done d ts c.args.starts.now (Has c.loop-k.all.items) listed)
 
-pub repeated-ends-requires : goal.repeated-ends-requires
-repeated-ends-requires t c =
+pub repeated-reached_from-requires : goal.repeated-reached_from-requires
+repeated-reached_from-requires t c =
     let f = tree_of c.args.sub.now in
     let d = c.args.doc.now in
     let within : (k : ℕ) → Has c.deref.result.now k → k ≤ length d = λ k h.
@@ -209,8 +209,8 @@ repeated_more-loop-round-init t c =
     let all = subst (λ (ys : List ℕ). Tells (Has c.add_all.new.self.ends.items) (λ j. Has ys j ⊎ Has c.args.starts.now j)) c.new-reached.ensures c.in_ok-add_all.ensures.all in
     (omega arith, rounds_none (Fit f d) bare c.args.starts.now (Has c.add_all.new.self.ends.items) all, closed_none (Fit f d) bare c.args.starts.now c.add_all.new.self.ends.items)
 
-pub repeated_more-ends-requires : goal.repeated_more-ends-requires
-repeated_more-ends-requires t c =
+pub repeated_more-reached_from-requires : goal.repeated_more-reached_from-requires
+repeated_more-reached_from-requires t c =
     let f = tree_of c.args.sub.now in
     let d = c.args.doc.now in
     let within : (k : ℕ) → Has c.after.result.now k → k ≤ length d = λ k h.
