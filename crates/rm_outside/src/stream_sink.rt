@@ -18,14 +18,8 @@ pub struct OutSink<W> {
     faults: u64,
 }
 
-/// The sink of the notes, over a writer that does not hold bytes back, as standard error.
-///
-/// It fails, and tells what was written, as `OutSink` does.
-#[derive(Drop)]
-pub struct NoteSink<W> {
-    to: W,
-    faults: u64,
-}
+/// The sink of the notes, over standard error, which is one such.
+pub type NoteSink<W> = OutSink<W>;
 
 impl<W: Write> OutSink<W> {
     /// A sink over this writer, with no fault so far.
@@ -37,33 +31,7 @@ impl<W: Write> OutSink<W> {
     }
 }
 
-impl<W: Write> NoteSink<W> {
-    /// A sink over this writer, with no fault so far.
-    pub fn new(to: W) -> NoteSink<W>
-        ensures writer { result.to ≡ to }
-        ensures faults { result.faults ≡ 0 }
-    {
-        NoteSink { to, faults: 0 }
-    }
-}
-
 impl<W: Write> Sink for OutSink<W> {
-    ghost told = { λ s. flow (W.contents s.to) s.faults };
-
-    fn put(&mut self, bytes: &[u8]) -> Result<(), SinkFailed>
-        ensures ok { OnOk result (Appends (W.contents self.old.to) (W.contents self.new.to) bytes.now) }
-        ensures part { OnErr result (AppendsPart (W.contents self.old.to) (W.contents self.new.to) bytes.now) }
-        ensures later { self.old.faults ≤ self.new.faults }
-        ensures failed { OnErr result (Rose self.old.faults self.new.faults) }
-
-        // The count rises at a failure alone.
-        ensures count { CountsErr self.old.faults self.new.faults result }
-    {
-        put_all(&mut self.to, &mut self.faults, bytes)
-    }
-}
-
-impl<W: Write> Sink for NoteSink<W> {
     ghost told = { λ s. flow (W.contents s.to) s.faults };
 
     fn put(&mut self, bytes: &[u8]) -> Result<(), SinkFailed>
