@@ -4,7 +4,7 @@ ghost use Rattle.formula_parser.specs.Runs.{begins};
 ghost use Rattle.formula_parser.specs.Signs.{is_sign, passed, closing_from, sign_in};
 ghost use Rattle.span_core.specs.Names.{is_name_byte};
 
-use crate::tokens::is_name_byte;
+use span_core::is_name_byte;
 
 /// How many bytes are passed on the way to the closing slash: none where it stands here, two where a pair
 /// does. None where the text ends.

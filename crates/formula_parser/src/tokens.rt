@@ -6,7 +6,7 @@
 ghost use Rattle.std.specs.Prelude.{◌≡◌, ◌+◌, ◌≤◌, ◌<◌, ◌&&◌, ◌-◌, length, drop, nat_le, if◌then◌else◌, Some, None, IfSome};
 ghost use Rattle.std.specs.List.{take_while, list_all};
 ghost use Rattle.std.specs.Option.{option_map};
-ghost use Rattle.span_core.specs.Names.{is_name_start, is_name_byte};
+ghost use Rattle.span_core.specs.Names.{is_name_byte};
 ghost use Rattle.formula_parser.specs.Sets.{digits, word_bytes, spaces};
 ghost use Rattle.formula_parser.specs.Runs.{begins_with};
 ghost use Rattle.formula_parser.specs.Escapes.{elem_set, hex_value, is_punctuation};
@@ -16,7 +16,7 @@ ghost use Rattle.formula_parser.specs.Spells.{is_tail};
 ghost use Rattle.formula_parser.specs.Tokens.{escape_at, head_at, number_at, between_at, most_at, rest_at, bounds_at, tails};
 ghost use Rattle.formula_parser.specs.View.{elem_of, escape_of, bounds_of};
 
-use span_core::ByteSet;
+use span_core::{ByteSet, is_name_byte, is_name_start};
 use spanner_model::MOST_REPEATS;
 
 /// What an escape, or an element of a class, stands for.
@@ -115,12 +115,6 @@ pub(crate) fn begins_with(text: &[u8], byte: u8) -> bool
     }
 }
 
-pub(crate) fn is_name_byte(c: u8) -> bool
-    ensures { result ≡ is_name_byte c }
-{
-    c.is_ascii_alphanumeric() || c == b'_'
-}
-
 /// The name bytes at the front.
 fn name_run_len(text: &[u8]) -> usize
     ensures value { result ≡ length (take_while is_name_byte text.now) }
@@ -137,12 +131,6 @@ pub(crate) fn name_run(text: &[u8]) -> &[u8]
     run
 }
 
-fn starts_word(c: u8) -> bool
-    ensures { result ≡ is_name_start c }
-{
-    c.is_ascii_alphabetic() || c == b'_'
-}
-
 fn all_name_bytes(text: &[u8]) -> bool
     ensures { result ≡ list_all is_name_byte text.now }
 {
@@ -153,7 +141,7 @@ fn is_word(word: &[u8]) -> bool
     ensures { result ≡ is_word word.now }
 {
     match word.split_first() {
-        Some((first, others)) => starts_word(*first) && all_name_bytes(others),
+        Some((first, others)) => is_name_start(*first) && all_name_bytes(others),
         None => false,
     }
 }

@@ -7,8 +7,8 @@ ghost use Rattle.query_parser.specs.TestAnswers.{tests_of, IsTestStep};
 
 use crate::asks::{Asked, Asks};
 use crate::fault::QueryFault;
-use crate::tokens::{Sign, Word, is_blank, sign_of, starts_word, word_at, word_of};
-use span_core::Name;
+use crate::tokens::{Sign, Word, is_blank, sign_of, word_at, word_of};
+use span_core::{Name, is_name_start};
 use std::alloc::Global;
 
 /// The name of a test, and its place.
@@ -161,7 +161,7 @@ pub(crate) fn test_turn(at: usize, rest: &[u8], tests: &mut SoFar) -> Result<usi
     if is_blank(*c) {
         return Ok(1);
     }
-    if starts_word(*c) {
+    if is_name_start(*c) {
         return test_word(at, word_at(rest), tests);
     }
     test_sign(at, *c, tests)

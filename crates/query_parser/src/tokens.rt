@@ -2,10 +2,12 @@
 ghost use Rattle.std.specs.Prelude.{◌≡◌, ◌≤◌, length};
 ghost use Rattle.std.specs.List.{take_while};
 ghost use Rattle.std.specs.Option.{option_map};
-ghost use Rattle.span_core.specs.Names.{is_name_start, is_name_byte};
+ghost use Rattle.span_core.specs.Names.{is_name_byte};
 ghost use Rattle.query_parser.specs.Tokens.{word_token, sign_token, is_blank};
 ghost use Rattle.query_parser.specs.Step.{word_at};
 ghost use Rattle.query_parser.specs.View.{word_of, sign_of};
+
+use span_core::is_name_byte;
 
 /// The words of queries, and any other word.
 #[derive(Clone, Copy, Debug)]
@@ -65,18 +67,6 @@ pub(crate) fn is_blank(c: u8) -> bool
     ensures { result ≡ is_blank c }
 {
     matches!(c, b' ' | b'\t' | b'\n' | b'\r')
-}
-
-pub(crate) fn starts_word(c: u8) -> bool
-    ensures { result ≡ is_name_start c }
-{
-    c.is_ascii_alphabetic() || c == b'_'
-}
-
-fn is_name_byte(c: u8) -> bool
-    ensures { result ≡ is_name_byte c }
-{
-    c.is_ascii_alphanumeric() || c == b'_'
 }
 
 /// The name bytes at the front.

@@ -16,10 +16,10 @@ ghost use Rattle.query_parser.specs.Turn.{IsStep, ReadAtom, IsTurn, IsEnd, Answe
 use crate::fault::QueryFault;
 use crate::named::Named;
 use crate::nest::{Frame, Last, Nest};
-use crate::tokens::{Sign, Word, is_blank, sign_of, starts_word, word_at, word_of};
+use crate::tokens::{Sign, Word, is_blank, sign_of, word_at, word_of};
 use crate::{MOST_MINUSES, MOST_OPEN};
 use formula_parser::{FormulaFault, read_atom};
-use span_core::{Name, VarSet};
+use span_core::{Name, VarSet, is_name_start};
 use spanner_model::{Expr, Query};
 use std::alloc::Global;
 use std::mem;
@@ -353,7 +353,7 @@ pub(crate) fn take_turn(
         }
         return atom(alloc, text, at, nest);
     }
-    if starts_word(*c) {
+    if is_name_start(*c) {
         return word(alloc, at, word_at(rest), nest);
     }
     sign(alloc, at, *c, nest)
