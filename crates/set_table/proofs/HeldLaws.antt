@@ -182,7 +182,7 @@ module _ (A : Automaton) (sets0 sets : List (List ℕ)) (es0 es : List Edge) (en
   }
 
   pub look_up_stays : (x : Answer) → x.set < length sets0 → look_up_of sets x ≡ look_up_of sets0 x
-  look_up_stays x l = (λ i. let r : Row = record { set = set_kept x.set l i; ask = question_of x.question } in r)
+  look_up_stays x l = (λ i. let r : LookUp = record { set = set_kept x.set l i; ask = question_of x.question } in r)
 
   pub look_ups_stay : (answers : List Answer) → ((x : Answer) → Has answers x → x.set < length sets0) → look_ups_of sets answers ≡ look_ups_of sets0 answers
   look_ups_stay [] l = refl
@@ -327,7 +327,7 @@ module _ (A : Automaton) (before after : Lists) (answers0 : List Answer) (number
         let has = Has-slice_get answers0 i y k in
         let a = held.answered y has in
         let other : place_in y.set y.question ≡ Here → ⊥ = λ same. let p = place_apart y.set x.set y.question x.question a.question question same in
-        absent (subst (Has (look_ups_of sets0 answers0)) (λ j. let r : Row = record { set = set_at sets0 (p.0 j); ask = question_of (p.1 j) } in r) (Has-map (look_up_of sets0) answers0 y has)) in
+        absent (subst (Has (look_ups_of sets0 answers0)) (λ j. let r : LookUp = record { set = set_at sets0 (p.0 j); ask = question_of (p.1 j) } in r) (Has-map (look_up_of sets0) answers0 y has)) in
         let b = place_within y.set (length sets0) y.question a.question a.set in
         elsewhere (place_in y.set y.question) other ∙ (places_old (272 * length sets) numbers0 (place_in y.set y.question) (omega (arith, b, held.places)) ∙ held.there i y k)
     | inr k ↦ ap (λ (z : Answer). get_or Numbers (place_in z.set z.question) 0) (sym k.1) ∙ (here ∙ (let n : 1 + length answers0 ≡ suc i = omega (arith, k.0) in n))
@@ -341,13 +341,13 @@ module _ (A : Automaton) (before after : Lists) (answers0 : List Answer) (number
 
   weighs_more : w0 + w ≡ sets_weight sets + look_ups_weight A (look_ups_of sets (answers0 ++ x ∷ []))
   weighs_more =
-      let f : Row → ℕ = λ r. 1 + row_edges A r in
+      let f : LookUp → ℕ = λ r. 1 + look_up_edges A r in
       let a : look_ups_weight A (look_ups_of sets (answers0 ++ x ∷ [])) ≡ sum_by f (look_ups_of sets0 answers0 ++ look_up_of sets0 x ∷ []) = ap (look_ups_weight A) look_ups_more in
       let b = sum_by-append f (look_ups_of sets0 answers0) (look_up_of sets0 x ∷ []) in
       let c : sum_by f (look_up_of sets0 x ∷ []) ≡ 1 + length (edges A (set_at sets0 x.set) (question_of x.question)) = one (f (look_up_of sets0 x)) in
       omega (arith, a, b, c, held.weighs, adds.weighs)
     where
-      one : (n : ℕ) → sum_by (λ (r : Row). n) (look_up_of sets0 x ∷ []) ≡ n
+      one : (n : ℕ) → sum_by (λ (r : LookUp). n) (look_up_of sets0 x ∷ []) ≡ n
       one n = omega arith
 
   -- the table with one answer more
@@ -404,7 +404,7 @@ number_found A sets answers es ends numbers w k q n held l h e some =
     let less : 0 < n = positive n some in
     let at : get_or numbers (place_in k q) 0 ≡ suc (n - 1) = e ∙ (let g : n ≡ suc (n - 1) = omega (arith, less) in g) in
     let f = held.found k q (n - 1) l h at in
-    get_map (look_up_of sets) answers (n - 1) f.0 f.1 ∙ ap Some (λ i. let r : Row = record { set = set_at sets (f.2 i); ask = question_of (f.3 i) } in r)
+    get_map (look_up_of sets) answers (n - 1) f.0 f.1 ∙ ap Some (λ i. let r : LookUp = record { set = set_at sets (f.2 i); ask = question_of (f.3 i) } in r)
   where
     positive : (m : ℕ) → (m ≡ 0 → ⊥) → 0 < m
     positive zero o = absurd (o refl)
@@ -413,11 +413,11 @@ number_found A sets answers es ends numbers w k q n held l h e some =
 pub number_absent : (A : Automaton) (sets : List (List ℕ)) (answers : List Answer) (es : List Edge) (ends numbers : List ℕ) (w k : ℕ) (q : TableQuestion) →
     IsHeld A sets answers es ends numbers w → k < length sets → get_or numbers (place_in k q) 0 ≡ 0 → ¬ Has (look_ups_of sets answers) (record { set = set_at sets k; ask = question_of q })
 number_absent A sets answers es ends numbers w k q held within e h =
-    let r : Row = record { set = set_at sets k; ask = question_of q } in
+    let r : LookUp = record { set = set_at sets k; ask = question_of q } in
     let y = Has-map_cases (look_up_of sets) answers r h in
     let p = place_of-Has answers y.0 y.1 in
-    let set : y.0.set ≡ k = number_told sets y.0.set k held.apart (held.answered y.0 y.1).set within (ap (λ (r : Row). r.set) y.2) in
-    let question : y.0.question ≡ q = same_question y.0.question q (ap (λ (r : Row). r.ask) y.2) in
+    let set : y.0.set ≡ k = number_told sets y.0.set k held.apart (held.answered y.0 y.1).set within (ap (λ (r : LookUp). r.set) y.2) in
+    let question : y.0.question ≡ q = same_question y.0.question q (ap (λ (r : LookUp). r.ask) y.2) in
     let there : get_or numbers (place_in k q) 0 ≡ suc p.0 = (λ i. get_or numbers (place_in (sym set i) (sym question i)) 0) ∙ held.there p.0 y.0 p.2 in
     let z : 0 ≡ suc p.0 = sym e ∙ there in
     omega (arith, z)
@@ -438,7 +438,7 @@ is_tabled M limit w s sound = record {
   sets_apart = sound.held.apart;
   asked = λ r h.
       let y = Has-map_cases (look_up_of s.lists.sets) s.answers.items r h in
-      subst (Has s.lists.sets) (ap (λ (z : Row). z.set) y.2) (Has-get_or s.lists.sets y.0.set [] (sound.held.answered y.0 y.1).set);
+      subst (Has s.lists.sets) (ap (λ (z : LookUp). z.set) y.2) (Has-get_or s.lists.sets y.0.set [] (sound.held.answered y.0 y.1).set);
   asked_apart = apart_by_places (look_ups_of s.lists.sets s.answers.items) (λ i j r e f.
       let x = get_map_cases (look_up_of s.lists.sets) s.answers.items i r e in
       let y = get_map_cases (look_up_of s.lists.sets) s.answers.items j r f in
@@ -451,8 +451,8 @@ is_tabled M limit w s sound = record {
 
     places : (i j : ℕ) (x y : Answer) → slice_get s.answers.items i ≡ Some x → slice_get s.answers.items j ≡ Some y → look_up_of s.lists.sets x ≡ look_up_of s.lists.sets y → i ≡ j
     places i j x y e f same =
-        let set : x.set ≡ y.set = number_told s.lists.sets x.set y.set sound.held.apart (given i x e) (given j y f) (ap (λ (r : Row). r.set) same) in
-        let question : x.question ≡ y.question = same_question x.question y.question (ap (λ (r : Row). r.ask) same) in
+        let set : x.set ≡ y.set = number_told s.lists.sets x.set y.set sound.held.apart (given i x e) (given j y f) (ap (λ (r : LookUp). r.set) same) in
+        let question : x.question ≡ y.question = same_question x.question y.question (ap (λ (r : LookUp). r.ask) same) in
         let n : suc i ≡ suc j = sym (sound.held.there i x e) ∙ ((λ k. get_or s.numbers (place_in (set k) (question k)) 0) ∙ sound.held.there j y f) in
         omega (arith, n)
 

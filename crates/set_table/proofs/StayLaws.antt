@@ -121,17 +121,17 @@ module _ (A : Automaton) (limit : ℕ) (sets0 sets : List (List ℕ)) (answers0 
   same_set k l = ap (λ zs. set_at zs k) longer.1 ∙ get_or_append_left sets0 longer.0 [] k l
 
   same_look_up : (y : Answer) → y.set < length sets0 → look_up_of sets y ≡ look_up_of sets0 y
-  same_look_up y l = (λ i. let r : Row = record { set = same_set y.set l i; ask = question_of y.question } in r)
+  same_look_up y l = (λ i. let r : LookUp = record { set = same_set y.set l i; ask = question_of y.question } in r)
 
   here_told : Has (look_ups_of sets (answers0 ++ x ∷ [])) (look_up_of sets x)
   here_told = Has-map (look_up_of sets) (answers0 ++ x ∷ []) x (Has-append_right answers0 (x ∷ []) x (inl refl))
 
   still : (k b : ℕ) → k < length sets0 → Stays Old k b → Stays New k b
   still k b l st =
-      let r : Row = record { set = set_at sets0 k; ask = byte_read b } in
+      let r : LookUp = record { set = set_at sets0 k; ask = byte_read b } in
       let y = Has-map_cases (look_up_of sets0) answers0 r st.asked in
       let there = Has-map (look_up_of sets) (answers0 ++ x ∷ []) y.0 (Has-append_left answers0 (x ∷ []) y.0 y.1) in
-      let same = same_look_up y.0 (before y.0 y.1) ∙ (y.2 ∙ (λ i. let q : Row = record { set = sym (same_set k l) i; ask = byte_read b } in q)) in
+      let same = same_look_up y.0 (before y.0 y.1) ∙ (y.2 ∙ (λ i. let q : LookUp = record { set = sym (same_set k l) i; ask = byte_read b } in q)) in
       record {
         asked = subst (Has (look_ups_of sets (answers0 ++ x ∷ []))) same there;
         itself = ap (λ s. edges A s (byte_read b)) (same_set k l) ∙ (st.itself ∙ ap (λ (s : List ℕ). let r : Reach = record { marks = 0; to = s } in r ∷ []) (sym (same_set k l)));
@@ -150,7 +150,7 @@ module _ (A : Automaton) (limit : ℕ) (sets0 sets : List (List ℕ)) (answers0 
       differ e = cc
 
   asked_now : (b : ℕ) → x.question ≡ Byte b → look_up_of sets x ≡ look_up New x.set (byte_read b)
-  asked_now b q = ap (λ (p : TableQuestion). let r : Row = record { set = set_at sets x.set; ask = question_of p } in r) q
+  asked_now b q = ap (λ (p : TableQuestion). let r : LookUp = record { set = set_at sets x.set; ask = question_of p } in r) q
 
   pub stays_more : (stays0 stays : List (bytes.FinSet nat_cmp)) → AreStays Old stays0 → length stays ≡ length sets →
       ((k b : ℕ) → IsTrue (bytes.contains (get_or stays k bytes.empty) b) ↔ (IsTrue (bytes.contains (get_or stays0 k bytes.empty) b) ⊎ ((k ≡ x.set) × (x.question ≡ Byte b) × (part x.first x.count es ≡ one_edge x.set ∷ [])))) →
@@ -178,15 +178,15 @@ module _ (A : Automaton) (limit : ℕ) (sets0 sets : List (List ℕ)) (answers0 
       here : (k b : ℕ) → k < length sets → Stays New k b → IsTrue (bytes.contains (get_or stays k bytes.empty) b)
       here k b l st =
           let y = Has-map_cases (look_up_of sets) (answers0 ++ x ∷ []) (look_up New k (byte_read b)) st.asked in
-          let set : y.0.set ≡ k = number_told sets y.0.set k held.apart (held.answered y.0 y.1).set l (ap (λ (r : Row). r.set) y.2) in
-          let question : y.0.question ≡ Byte b = same_question y.0.question (Byte b) (ap (λ (r : Row). r.ask) y.2) in
+          let set : y.0.set ≡ k = number_told sets y.0.set k held.apart (held.answered y.0 y.1).set l (ap (λ (r : LookUp). r.set) y.2) in
+          let question : y.0.question ≡ Byte b = same_question y.0.question (Byte b) (ap (λ (r : LookUp). r.ask) y.2) in
           (noted k b).1 (by y.0 set question (Has-append_cases answers0 (x ∷ []) y.0 y.1))
         where
           by : (y : Answer) → y.set ≡ k → y.question ≡ Byte b → Has answers0 y ⊎ Has (x ∷ []) y →
               IsTrue (bytes.contains (get_or stays0 k bytes.empty) b) ⊎ ((k ≡ x.set) × (x.question ≡ Byte b) × (part x.first x.count es ≡ one_edge x.set ∷ []))
           by y set question (inl h) =
               let m : k < length sets0 = omega (arith, before y h, set) in
-              let told : look_up_of sets0 y ≡ look_up Old k (byte_read b) = (λ i. let r : Row = record { set = set_at sets0 (set i); ask = question_of (question i) } in r) in
+              let told : look_up_of sets0 y ≡ look_up Old k (byte_read b) = (λ i. let r : LookUp = record { set = set_at sets0 (set i); ask = question_of (question i) } in r) in
               inl ((old.are k b m).1 (back k b m (subst (Has (look_ups_of sets0 answers0)) told (Has-map (look_up_of sets0) answers0 y h)) st))
           by y set question (inr (inl h)) =
               let here_set : x.set ≡ k = ap (λ (z : Answer). z.set) h ∙ set in

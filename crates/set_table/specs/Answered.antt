@@ -27,10 +27,10 @@ IsQuestion Rest = Unit {0}
 IsQuestion Ends = Unit {0}
 
 -- what was asked, by the set itself: a set's number stays inside
-abbrev pub look_up_of : List (List ℕ) → Answer → Row
+abbrev pub look_up_of : List (List ℕ) → Answer → LookUp
 look_up_of sets x = record { set = set_at sets x.set; ask = question_of x.question }
 
-abbrev pub look_ups_of : List (List ℕ) → List Answer → List Row
+abbrev pub look_ups_of : List (List ℕ) → List Answer → List LookUp
 look_ups_of sets xs = map (look_up_of sets) xs
 
 -- the place of a question among those of a set

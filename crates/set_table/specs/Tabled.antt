@@ -15,14 +15,14 @@ pub record Tabled : Type 0 where
   pub graph : Automaton
   pub limit : ℕ
   pub sets : List (List ℕ)
-  pub look_ups : List Row
+  pub look_ups : List LookUp
 
 -- the set of this number
 abbrev pub set_at : List (List ℕ) → ℕ → List ℕ
 set_at sets k = slice_index_or sets k []
 
 -- what is asked of the set of this number
-abbrev pub look_up : Tabled → ℕ → Question → Row
+abbrev pub look_up : Tabled → ℕ → Question → LookUp
 look_up t k ask = record { set = set_at t.sets k; ask = ask }
 
 -- the sets that an answer leads to; an end leads to none
@@ -44,7 +44,7 @@ abbrev pub fresh : Automaton → ℕ → Tabled
 fresh A limit = record { graph = A; limit = limit; sets = set_of A.starts ∷ []; look_ups = [] }
 
 -- the table with this asked for the first time
-abbrev pub asked_first : Tabled → Row → Tabled
+abbrev pub asked_first : Tabled → LookUp → Tabled
 asked_first t r = record {
   graph = t.graph;
   limit = t.limit;
@@ -52,18 +52,18 @@ asked_first t r = record {
   look_ups = t.look_ups ++ r ∷ [];
 }
 
-abbrev pub was_asked : Tabled → Row → Bool
-was_asked t r = list_any (row_same r) t.look_ups
+abbrev pub was_asked : Tabled → LookUp → Bool
+was_asked t r = list_any (look_up_same r) t.look_ups
 
 -- the table once this is asked
-abbrev pub once_asked : Tabled → Row → Tabled
+abbrev pub once_asked : Tabled → LookUp → Tabled
 once_asked t r = if was_asked t r then t else asked_first t r
 
 abbrev pub sets_weight : List (List ℕ) → ℕ
 sets_weight sets = sum_by (λ set. 1 + length set) sets
 
-abbrev pub look_ups_weight : Automaton → List Row → ℕ
-look_ups_weight A rows = sum_by (λ r. 1 + row_edges A r) rows
+abbrev pub look_ups_weight : Automaton → List LookUp → ℕ
+look_ups_weight A look_ups = sum_by (λ r. 1 + look_up_edges A r) look_ups
 
 -- 1 + members of each set, and 1 + edges of all that was asked
 abbrev pub weight : Tabled → ℕ
@@ -74,13 +74,13 @@ abbrev pub edge_named : List (List ℕ) → Edge → Reach
 edge_named sets e = record { marks = e.marks; to = set_at sets e.to }
 
 -- these edges are the answer, the greatest marks first
-pub record HasEdges (t : Tabled) (r : Row) (es : List Edge) : Type 0 where
+pub record HasEdges (t : Tabled) (r : LookUp) (es : List Edge) : Type 0 where
   pub named : map (edge_named t.sets) es ≡ edges t.graph r.set r.ask
   pub targets : (e : Edge) → Has es e → e.to < length t.sets
   pub order : IsInOrder (λ (e f : Edge). f.marks < e.marks) es
 
 -- these marks are those of the ends, the greatest first
-pub record HasEnds (t : Tabled) (r : Row) (marks : List ℕ) : Type 0 where
+pub record HasEnds (t : Tabled) (r : LookUp) (marks : List ℕ) : Type 0 where
   pub named : map (λ m. record { marks = m; to = [] }) marks ≡ edges t.graph r.set r.ask
   pub order : IsInOrder (λ (m n : ℕ). n < m) marks
 
@@ -116,6 +116,6 @@ pub record IsTabled (t : Tabled) : Type 0 where
   pub start : slice_get t.sets 0 ≡ Some (set_of t.graph.starts)
   pub sets : (s : List ℕ) → Has t.sets s → IsStateSet t.graph s
   pub sets_apart : AreDistinct t.sets
-  pub asked : (r : Row) → Has t.look_ups r → Has t.sets r.set
+  pub asked : (r : LookUp) → Has t.look_ups r → Has t.sets r.set
   pub asked_apart : AreDistinct t.look_ups
   pub within : weight t ≤ t.limit

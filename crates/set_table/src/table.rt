@@ -297,8 +297,8 @@ impl<'a> Table<'a> {
     /// The edges of an answer.
     fn edges_at(&self, number: usize) -> &[Edge]
         requires within { number < length self.now.look_ups }
-        requires edges { (r : Row) → slice_get self.now.look_ups number ≡ Some r → r.ask ≡ ended → ⊥ }
-        ensures { (r : Row) → slice_get self.now.look_ups number ≡ Some r → HasEdges self.now r result.now }
+        requires edges { (r : LookUp) → slice_get self.now.look_ups number ≡ Some r → r.ask ≡ ended → ⊥ }
+        ensures { (r : LookUp) → slice_get self.now.look_ups number ≡ Some r → HasEdges self.now r result.now }
     {
         let answer = self.store.answers[number];
         edges_part(
@@ -311,8 +311,8 @@ impl<'a> Table<'a> {
     /// The marks of an answer.
     fn marks_at(&self, number: usize) -> &[Marks]
         requires within { number < length self.now.look_ups }
-        requires ends { (r : Row) → slice_get self.now.look_ups number ≡ Some r → r.ask ≡ ended }
-        ensures { (r : Row) → slice_get self.now.look_ups number ≡ Some r → HasEnds self.now r result.now }
+        requires ends { (r : LookUp) → slice_get self.now.look_ups number ≡ Some r → r.ask ≡ ended }
+        ensures { (r : LookUp) → slice_get self.now.look_ups number ≡ Some r → HasEnds self.now r result.now }
     {
         let answer = self.store.answers[number];
         marks_part(

@@ -11,7 +11,7 @@ use Rattle.span_core.proofs.HasLaws.{Has-slice_get}
 use Rattle.set_table.proofs.HeldLaws.{number_absent, number_found}
 use Rattle.set_table.proofs.table.Table.asked_row.Goals as goal
 
-not_ended : (s : List ℕ) (b : Question) (r : Row) → Some (let q : Row = record { set = s; ask = b } in q) ≡ Some r → r.ask ≡ b
+not_ended : (s : List ℕ) (b : Question) (r : LookUp) → Some (let q : LookUp = record { set = s; ask = b } in q) ≡ Some r → r.ask ≡ b
 not_ended s b r e = cc
 
 byte_is_no_end : (b : ℕ) → byte_read b ≡ ended → ⊥

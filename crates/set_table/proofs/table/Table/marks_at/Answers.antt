@@ -38,4 +38,4 @@ returns c = λ r h.
     let same : look_up_of s.lists.sets x ≡ r = some_same (look_up_of s.lists.sets x) r (sym asked ∙ h) in
     let are = ends_are i.automaton.now.graph i.limit s.lists.sets s.answers.items s.lists.edges.items s.lists.ends.items s.numbers i.weight x c.marks_part.result.now c.self.invariant.held has kind
     (c.marks_part.ensures ∙ ap (part x.first x.count) c.as_slice.ensures.value) in
-    subst (λ (t : Tabled). HasEnds t r c.marks_part.result.now) c.self.view_is (subst (λ (r : Row). HasEnds (record { graph = i.automaton.now.graph; limit = i.limit; sets = s.lists.sets; look_ups = look_ups_of s.lists.sets s.answers.items }) r c.marks_part.result.now) same are)
+    subst (λ (t : Tabled). HasEnds t r c.marks_part.result.now) c.self.view_is (subst (λ (r : LookUp). HasEnds (record { graph = i.automaton.now.graph; limit = i.limit; sets = s.lists.sets; look_ups = look_ups_of s.lists.sets s.answers.items }) r c.marks_part.result.now) same are)
