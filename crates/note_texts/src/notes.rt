@@ -2,7 +2,7 @@
 ghost use Rattle.std.specs.Prelude.{◌≡◌, ◌++◌, codes, OnOk, OnErr};
 ghost use Rattle.std.specs.Fmt.{decimal};
 ghost use Rattle.std.specs.Str.{IsUtf8};
-ghost use Rattle.cell_text.specs.Cells.{IsFront};
+ghost use Rattle.span_core.specs.Lists.{IsPrefixOf};
 ghost use Rattle.note_texts.specs.Notes.{QuotesUtf8, about, at_place, check_note, counted, fault_note, fixed_text, formula_note, note_text, size_note};
 
 use crate::note::{FixedNote, Note};
@@ -32,7 +32,7 @@ pub fn push_note(note: &Note<'_>, out: &mut Vec<u8>) -> Result<(), OutOfMemory>
 
 fn push_text(note: &Note<'_>, out: &mut Vec<u8>) -> Result<(), OutOfMemory>
     ensures ok { OnOk result (out.new.items ≡ out.old.items ++ note_text note.now) }
-    ensures front { IsFront out.old.items out.new.items }
+    ensures front { IsPrefixOf out.old.items out.new.items }
     ensures utf8 { QuotesUtf8 note.now → IsUtf8 (note_text note.now) }
 {
     match *note {
@@ -61,7 +61,7 @@ fn push_text(note: &Note<'_>, out: &mut Vec<u8>) -> Result<(), OutOfMemory>
 #[tactic(auto, using(crate::proofs::Fixed::without_end))]
 fn push_fixed(note: FixedNote, out: &mut Vec<u8>) -> Result<(), OutOfMemory>
     ensures ok { OnOk result (out.new.items ≡ out.old.items ++ fixed_text note) }
-    ensures front { IsFront out.old.items out.new.items }
+    ensures front { IsPrefixOf out.old.items out.new.items }
     ensures utf8 { IsUtf8 (fixed_text note) }
 {
     let line = note.as_line().as_bytes();
@@ -72,7 +72,7 @@ fn push_fixed(note: FixedNote, out: &mut Vec<u8>) -> Result<(), OutOfMemory>
 #[tactic(auto, using(crate::proofs::Utf8::both_utf8))]
 fn push_behind(what: &str, bytes: &[u8], out: &mut Vec<u8>) -> Result<(), OutOfMemory>
     ensures ok { OnOk result (out.new.items ≡ out.old.items ++ (what.now ++ bytes.now)) }
-    ensures front { IsFront out.old.items out.new.items }
+    ensures front { IsPrefixOf out.old.items out.new.items }
     ensures utf8 { IsUtf8 bytes.now → IsUtf8 (what.now ++ bytes.now) }
 {
     let what = what.as_bytes();
@@ -89,7 +89,7 @@ fn push_two(
     out: &mut Vec<u8>,
 ) -> Result<(), OutOfMemory>
     ensures ok { OnOk result (out.new.items ≡ out.old.items ++ (at_place before.now first ++ at_place between.now second)) }
-    ensures front { IsFront out.old.items out.new.items }
+    ensures front { IsPrefixOf out.old.items out.new.items }
     ensures utf8 { IsUtf8 (at_place before.now first ++ at_place between.now second) }
 {
     push_number(before, first, out)?;
@@ -98,7 +98,7 @@ fn push_two(
 
 fn push_query(fault: &QueryFault, out: &mut Vec<u8>) -> Result<(), OutOfMemory>
     ensures ok { OnOk result (out.new.items ≡ out.old.items ++ fault_note fault.now) }
-    ensures front { IsFront out.old.items out.new.items }
+    ensures front { IsPrefixOf out.old.items out.new.items }
     ensures utf8 { IsUtf8 (fault_note fault.now) }
 {
     match fault {
@@ -145,7 +145,7 @@ fn push_query(fault: &QueryFault, out: &mut Vec<u8>) -> Result<(), OutOfMemory>
 
 fn push_size(fault: &SizeFault, out: &mut Vec<u8>) -> Result<(), OutOfMemory>
     ensures ok { OnOk result (out.new.items ≡ out.old.items ++ size_note fault.now) }
-    ensures front { IsFront out.old.items out.new.items }
+    ensures front { IsPrefixOf out.old.items out.new.items }
     ensures utf8 { IsUtf8 (size_note fault.now) }
 {
     match fault {
@@ -161,7 +161,7 @@ fn push_size(fault: &SizeFault, out: &mut Vec<u8>) -> Result<(), OutOfMemory>
 
 fn push_formula(fault: &FormulaFault, out: &mut Vec<u8>) -> Result<(), OutOfMemory>
     ensures ok { OnOk result (out.new.items ≡ out.old.items ++ formula_note fault.now) }
-    ensures front { IsFront out.old.items out.new.items }
+    ensures front { IsPrefixOf out.old.items out.new.items }
     ensures utf8 { IsUtf8 (formula_note fault.now) }
 {
     match fault {
@@ -183,7 +183,7 @@ fn push_formula(fault: &FormulaFault, out: &mut Vec<u8>) -> Result<(), OutOfMemo
 
 fn push_check(fault: &CheckFault, out: &mut Vec<u8>) -> Result<(), OutOfMemory>
     ensures ok { OnOk result (out.new.items ≡ out.old.items ++ check_note fault.now) }
-    ensures front { IsFront out.old.items out.new.items }
+    ensures front { IsPrefixOf out.old.items out.new.items }
     ensures utf8 { IsUtf8 (check_note fault.now) }
 {
     match fault {
@@ -198,7 +198,7 @@ fn push_check(fault: &CheckFault, out: &mut Vec<u8>) -> Result<(), OutOfMemory>
 #[tactic(auto, using(crate::proofs::Utf8::number_utf8))]
 fn push_number(what: &str, number: u64, out: &mut Vec<u8>) -> Result<(), OutOfMemory>
     ensures ok { OnOk result (out.new.items ≡ out.old.items ++ at_place what.now number) }
-    ensures front { IsFront out.old.items out.new.items }
+    ensures front { IsPrefixOf out.old.items out.new.items }
     ensures utf8 { IsUtf8 (at_place what.now number) }
 {
     let what = what.as_bytes();
@@ -209,7 +209,7 @@ fn push_number(what: &str, number: u64, out: &mut Vec<u8>) -> Result<(), OutOfMe
 
 fn push_at(what: &str, at: usize, out: &mut Vec<u8>) -> Result<(), OutOfMemory>
     ensures ok { OnOk result (out.new.items ≡ out.old.items ++ at_place what.now at) }
-    ensures front { IsFront out.old.items out.new.items }
+    ensures front { IsPrefixOf out.old.items out.new.items }
     ensures utf8 { IsUtf8 (at_place what.now at) }
 {
     push_number(what, at as u64, out)
@@ -224,7 +224,7 @@ fn push_counted(
     out: &mut Vec<u8>,
 ) -> Result<(), OutOfMemory>
     ensures ok { OnOk result (out.new.items ≡ out.old.items ++ counted before.now number after.now) }
-    ensures front { IsFront out.old.items out.new.items }
+    ensures front { IsPrefixOf out.old.items out.new.items }
     ensures utf8 { IsUtf8 (counted before.now number after.now) }
 {
     let last = after.as_bytes();
@@ -236,7 +236,7 @@ fn push_counted(
 #[tactic(auto, using(crate::proofs::Utf8::about_utf8))]
 fn push_about(before: &str, name: &Name, after: &str, out: &mut Vec<u8>) -> Result<(), OutOfMemory>
     ensures ok { OnOk result (out.new.items ≡ out.old.items ++ about before.now name.now after.now) }
-    ensures front { IsFront out.old.items out.new.items }
+    ensures front { IsPrefixOf out.old.items out.new.items }
     ensures utf8 { IsUtf8 (about before.now name.now after.now) }
 {
     let (before, middle, after) = (before.as_bytes(), name.as_bytes(), after.as_bytes());

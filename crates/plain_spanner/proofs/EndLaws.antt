@@ -1,5 +1,5 @@
 -- Ends, by the cases of a formula.
-use Rattle.std.proofs.Common.{◌≡◌, ℕ, ◌+◌, ◌≤◌, ◌⊎◌, Bool, true, false, ◌||◌, List, [], ◌∷◌, ◌++◌, length, take, drop, Some, inl, inr, refl, sym, ap, ◌∙◌, subst, arith, append_assoc}
+use Rattle.std.proofs.Common.{◌≡◌, ℕ, ◌+◌, ◌≤◌, ◌⊎◌, Bool, true, false, ◌||◌, List, [], ◌∷◌, ◌++◌, length, take, drop, Some, inl, inr, refl, sym, ap, ◌∙◌, subst, arith}
 use Rattle.std.specs.Prelude.{slice_get, nat_eq, IsTrue}
 use Rattle.std.specs.FinSet.{FinSet, contains}
 use Rattle.std.specs.Ordering.{nat_cmp}
@@ -9,7 +9,7 @@ use Rattle.spanner_model.specs.Captures.{Captures}
 use Rattle.spanner_model.specs.Tree.{Tree, one, cat_all, alt_all}
 use Rattle.spanner_model.specs.Fit.{Piece, Times, Nothing, Fit}
 use Rattle.spanner_model.proofs.FitLaws.{fit_no_vars, fit_within, times_within}
-use Rattle.plain_spanner.specs.Listed.{Tells, FromSome, IsBare, Begins, LeadsOn, LeadsIn, has_number}
+use Rattle.plain_spanner.specs.Listed.{Tells, FromSome, IsBare, LeadsOn, LeadsIn, has_number}
 use Rattle.plain_spanner.proofs.PartLists.{cat_more_split, cat_more_join, cat_begins, arm_of, of_arm}
 use Rattle.plain_spanner.proofs.TellsLaws.{tells_pushed}
 
@@ -25,18 +25,6 @@ there_number (x ∷ xs) j h = by (nat_eq x j) refl (there_number xs j)
     by : (a : Bool) → nat_eq x j ≡ a → (has_number xs j ≡ true → Has xs j) → Has (x ∷ xs) j
     by true e later = inl (eq_of_test x j e)
     by false e later = inr (later (ap (λ b. b || has_number xs j) (sym e) ∙ h))
-
--- ---- lists that begin alike
-
-pub begins_same : {X : Type 0} (xs : List X) → Begins xs xs
-begins_same xs = ([], nil xs)
-  where
-    nil : {X : Type 0} (xs : List X) → xs ≡ xs ++ []
-    nil [] = refl
-    nil (x ∷ xs) = ap (λ ys. x ∷ ys) (nil xs)
-
-pub begins_then : {X : Type 0} (xs ys zs : List X) → Begins xs ys → Begins ys zs → Begins xs zs
-begins_then {X = X} xs ys zs a b = (a.0 ++ b.0, b.1 ∙ ap (λ (w : List X). w ++ b.0) a.1 ∙ append_assoc xs a.0 b.0)
 
 -- one end more of those that are equal to themselves
 pub only_equal : (xs : List ℕ) (S H : ℕ → Type 0) → Tells H (λ j. S j ⊎ FromSome (λ (x : ℕ) (y : ℕ). x ≡ y) xs j) → Tells H (λ j. S j ⊎ Has xs j)

@@ -4,12 +4,12 @@ use Rattle.std.specs.Option.{ForSome}
 use Rattle.std.proofs.Math.Seq.{take-length}
 use Rattle.std.proofs.lemmas.Bool.{cases_lt}
 use Rattle.std.proofs.lemmas.List.{take-append-drop}
-use Rattle.span_core.specs.Lists.{Has}
+use Rattle.span_core.specs.Lists.{Has, IsPrefixOf}
 use Rattle.spanner_model.specs.Captures.{Captures}
 use Rattle.spanner_model.specs.Fit.{Piece, Times}
 use Rattle.spanner_model.proofs.ExampleLaws.{more_times}
 use Rattle.span_core.proofs.HasLaws.{Has-append_left, Has-append_right, Has-append_cases}
-use Rattle.plain_spanner.specs.Listed.{Tells, Begins, LeadsOn, LeadsTimes, LeadsIn}
+use Rattle.plain_spanner.specs.Listed.{Tells, LeadsOn, LeadsTimes, LeadsIn}
 
 module _ (P : Piece) (bare : (i j : ℕ) (m : Captures) → P i j m → m ≡ []) where
   pub times_bare : (c i j : ℕ) (m : Captures) → Times P c i j m → m ≡ []
@@ -114,11 +114,11 @@ leads_within P n starts xs stays within all k h = let a = all.each_so k h in sta
 
 -- ---- rounds that go on from each end once
 
-Has-begins : (xs ys : List ℕ) (x : ℕ) → Begins xs ys → Has xs x → Has ys x
-Has-begins xs ys x b h = subst (λ zs. Has zs x) (sym b.1) (Has-append_left xs b.0 x h)
+Has-begins : (xs ys : List ℕ) (x : ℕ) → IsPrefixOf xs ys → Has xs x → Has ys x
+Has-begins xs ys x b h = subst (λ zs. Has zs x) (sym b.joined) (Has-append_left xs b.rest x h)
 
-take_begins : (xs ys : List ℕ) → Begins xs ys → take (length xs) ys ≡ xs
-take_begins xs ys b = ap (take (length xs)) b.1 ∙ whole xs b.0
+take_begins : (xs ys : List ℕ) → IsPrefixOf xs ys → take (length xs) ys ≡ xs
+take_begins xs ys b = ap (take (length xs)) b.joined ∙ whole xs b.rest
   where
     whole : (xs more : List ℕ) → take (length xs) (xs ++ more) ≡ xs
     whole [] more = refl
@@ -145,7 +145,7 @@ module _ (P : Piece) (bare : (i j : ℕ) (m : Captures) → P i j m → m ≡ []
   pub closed_none : (reached : List ℕ) → Closed P 0 reached
   closed_none reached j h = absurd h.1
 
-  pub closed_more : (done : ℕ) (reached next grown : List ℕ) → Closed P done reached → Begins reached grown → Tells (Has next) (LeadsOn P (drop done reached)) → Tells (Has grown) (λ j. Has reached j ⊎ Has next j) →
+  pub closed_more : (done : ℕ) (reached next grown : List ℕ) → Closed P done reached → IsPrefixOf reached grown → Tells (Has next) (LeadsOn P (drop done reached)) → Tells (Has grown) (λ j. Has reached j ⊎ Has next j) →
       Closed P (length reached) grown
   closed_more done reached next grown closed begins on all j h =
       let whole = subst (λ ys. Has ys h.0) (take_begins reached grown begins) h.1 in
@@ -155,7 +155,7 @@ module _ (P : Piece) (bare : (i j : ℕ) (m : Captures) → P i j m → m ≡ []
         | inr a ↦ all.all_there j (inr (on.all_there j (h.0, a, h.2)))
       ]
 
-  pub rounds_more : (c done : ℕ) (reached next grown : List ℕ) → Tells (Has reached) (LeadsIn P 0 c starts) → Closed P done reached → Begins reached grown → Tells (Has next) (LeadsOn P (drop done reached)) →
+  pub rounds_more : (c done : ℕ) (reached next grown : List ℕ) → Tells (Has reached) (LeadsIn P 0 c starts) → Closed P done reached → IsPrefixOf reached grown → Tells (Has next) (LeadsOn P (drop done reached)) →
       Tells (Has grown) (λ j. Has reached j ⊎ Has next j) → Tells (Has grown) (LeadsIn P 0 (c + 1) starts)
   rounds_more c done reached next grown so_far closed begins on all = record {
     each_so = λ j h. elim (all.each_so j h) as (λ _. LeadsIn P 0 (c + 1) starts j) [

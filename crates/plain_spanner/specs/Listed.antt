@@ -21,10 +21,6 @@ FromSome {X} R xs y = (x : X) × Has xs x × R x y
 abbrev pub IsBare : Tree → Type 0
 IsBare f = (x : VarName) → HasVar f x → ⊥
 
--- the second list begins with the first
-abbrev pub Begins : {X : Type 0} → List X → List X → Type 0
-Begins {X} xs ys = (more : List X) × (ys ≡ xs ++ more)
-
 -- a number is in the list
 abbrev pub has_number : List ℕ → ℕ → Bool
 has_number xs j = list_any (λ x. nat_eq x j) xs

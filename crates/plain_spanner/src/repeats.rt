@@ -3,8 +3,8 @@ ghost use Rattle.std.specs.Prelude.{◌≡◌, true, ◌⊎◌, ℕ, ◌+◌, �
 ghost use Rattle.std.specs.Option.{ForSome};
 ghost use Rattle.std.specs.Ordering.{nat_cmp};
 ghost use Rattle.std.specs.BTreeSet.{contains};
-ghost use Rattle.span_core.specs.Lists.{Has};
-ghost use Rattle.plain_spanner.specs.Listed.{Tells, Begins, has_number};
+ghost use Rattle.span_core.specs.Lists.{Has, IsPrefixOf};
+ghost use Rattle.plain_spanner.specs.Listed.{Tells, has_number};
 
 use span_core::OutOfMemory;
 use std::alloc::Global;
@@ -54,7 +54,7 @@ impl Reached {
     /// Adds those of the ends that are new.
     pub fn add_all(&mut self, ends: &[usize]) -> Result<(), OutOfMemory>
         ensures all { OnOk result (Tells (Has self.new.ends.items) (λ j. Has self.old.ends.items j ⊎ Has ends.now j)) }
-        ensures grown { OnOk result (Begins self.old.ends.items self.new.ends.items) }
+        ensures grown { OnOk result (IsPrefixOf self.old.ends.items self.new.ends.items) }
     {
         for end in ends {
             self.add(*end)?;
@@ -64,7 +64,7 @@ impl Reached {
 
     fn add(&mut self, end: usize) -> Result<(), OutOfMemory>
         ensures all { OnOk result (Tells (Has self.new.ends.items) (λ j. Has self.old.ends.items j ⊎ (end ≡ j))) }
-        ensures grown { OnOk result (Begins self.old.ends.items self.new.ends.items) }
+        ensures grown { OnOk result (IsPrefixOf self.old.ends.items self.new.ends.items) }
     {
         if !self.known.contains(&end) {
             self.ends.push(end)?;

@@ -6,6 +6,7 @@ use Rattle.std.specs.Result.{OnOk}
 use Rattle.std.proofs.lemmas.Bool.Decides.{nat_tests}
 use Rattle.std.proofs.lemmas.List.{drop_all, length-map}
 use Rattle.std.proofs.lemmas.Option.{slice_get-map}
+use Rattle.span_core.proofs.ListLaws.{appended}
 use Rattle.spanner_model.specs.Captures.{VarName}
 use Rattle.spanner_model.specs.Expression.{ExprTree, union_all, join_all}
 use Rattle.spanner_model.specs.ExprView.{expr_of, exprs_of}
@@ -15,7 +16,7 @@ use Rattle.spanner_model.specs.declared.expression.Expr.TheVariants.{Union, Join
 use Rattle.spanner_model.proofs.ExprTrees.{expr_of-Union, expr_of-Join}
 use Rattle.spanner_model.proofs.TreeLaws.{split_at}
 use Rattle.query_printer.specs.PrintedFormula.{wrapped}
-use Rattle.query_printer.proofs.PrintedTrees.{appended, ended}
+use Rattle.query_printer.proofs.PrintedTrees.{ended}
 use Rattle.query_printer.specs.PrintedQuery.{a_join, a_union, shape, wraps_in_union, wraps_in_join, further, joined, keep_text, printed, conj_texts, unit_texts, lets_text, let_text}
 
 -- five texts, one after another

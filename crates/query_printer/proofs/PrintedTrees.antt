@@ -13,23 +13,13 @@ use Rattle.spanner_model.proofs.Nodes.{nodes}
 use Rattle.span_core.proofs.HasLaws.{Has-slice_get}
 use Rattle.spanner_model.proofs.TreeLaws.{split_at, part_nodes, arms_nodes}
 use Rattle.formula_parser.specs.Spells.{given}
-use Rattle.query_printer.specs.PrintedFormula.{IsFront, a_cat, an_alt, shape, wraps_arm, wraps_part, wrapped, printed, more_arms}
+use Rattle.query_printer.specs.PrintedFormula.{a_cat, an_alt, shape, wraps_arm, wraps_part, wrapped, printed, more_arms}
 
 -- ---- what was appended
-
-pub front_more : (a b c : List ℕ) → IsFront a b → IsFront b c → IsFront a c
-front_more a b c h k = record { more = h.more ++ k.more; is = k.is ∙ ap (λ (xs : List ℕ). xs ++ k.more) h.is ∙ append_assoc a h.more k.more }
-
-pub front_same : (a : List ℕ) → IsFront a a
-front_same a = record { more = []; is = sym (append-nil a) }
 
 -- the text u after the text t
 pub grown : (a t u n m : List ℕ) → n ≡ a ++ t → m ≡ n ++ u → m ≡ a ++ (t ++ u)
 grown a t u n m e f = f ∙ ap (λ (xs : List ℕ). xs ++ u) e ∙ append_assoc a t u
-
--- after the text p, u is left of t
-pub appended : (a p n t u whole : List ℕ) → n ≡ a ++ p → t ≡ p ++ u → a ++ t ≡ whole → n ++ u ≡ whole
-appended a p n t u whole e f h = ap (λ (xs : List ℕ). xs ++ u) e ∙ append_assoc a p u ∙ ap (λ (xs : List ℕ). a ++ xs) (sym f) ∙ h
 
 pub ended : (a t whole : List ℕ) → t ≡ [] → a ++ t ≡ whole → a ≡ whole
 ended a t whole e h = sym (append-nil a) ∙ ap (λ (xs : List ℕ). a ++ xs) (sym e) ∙ h

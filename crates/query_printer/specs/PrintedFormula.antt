@@ -1,5 +1,5 @@
 -- The printed forms of formulas and of atoms.
-use Rattle.std.specs.Prelude.{◌≡◌, ℕ, zero, suc, ◌+◌, ◌-◌, ◌==◌, max, Bool, true, false, not, ◌&&◌, ◌||◌, List, [], ◌∷◌, ◌++◌, Option, Some, None, if◌then◌else◌}
+use Rattle.std.specs.Prelude.{ℕ, zero, suc, ◌+◌, ◌-◌, ◌==◌, max, Bool, true, false, not, ◌&&◌, ◌||◌, List, [], ◌∷◌, ◌++◌, Option, Some, None, if◌then◌else◌}
 use Rattle.std.specs.Fmt.{decimal}
 use Rattle.std.specs.FinSet as set
 use Rattle.hex.specs.Hex.{encode_lower}
@@ -10,11 +10,6 @@ use Rattle.formula_parser.specs.Sets.{Bytes}
 use Rattle.formula_parser.specs.Escapes.{is_between}
 use Rattle.formula_parser.specs.Names.{head_text}
 use Rattle.formula_parser.specs.Spells.{given}
-
--- something was appended
-pub record IsFront (front whole : List ℕ) : Type 0 where
-  pub more : List ℕ
-  pub is : whole ≡ front ++ more
 
 -- ---- bytes
 

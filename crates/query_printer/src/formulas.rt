@@ -4,6 +4,7 @@
 //! only where the grammar needs them. Every byte that is printed is ASCII and none depends on what follows.
 ghost use Rattle.std.specs.Prelude.{◌≡◌, ℕ, ◌+◌, ◌-◌, ◌==◌, ◌++◌, ◌∷◌, [], OnOk, OnErr, if◌then◌else◌};
 ghost use Rattle.std.specs.Fmt.{decimal};
+ghost use Rattle.span_core.specs.Lists.{IsPrefixOf};
 ghost use Rattle.spanner_model.specs.Tree.{rep, cap, cat_all, alt_all};
 ghost use Rattle.spanner_model.specs.View.{tree_of, trees_of, atom_of};
 ghost use Rattle.spanner_model.specs.WellBuilt.{IsWellBuilt};
@@ -11,7 +12,7 @@ ghost use Rattle.formula_parser.specs.Spells.{given};
 ghost use Rattle.formula_parser.specs.Names.{head_text};
 ghost use Rattle.query_printer.specs.FormulaShape.{shape_of};
 ghost use Rattle.query_printer.specs.FormulaLaws.{FormulasSpell, AtomsSpell, AtomsStand};
-ghost use Rattle.query_printer.specs.PrintedFormula.{IsFront, is_shown, hex_text, byte_text, members, begins_run, run_end, run_text, runs_text, set_text, sign, exactly_text, at_least_text, between_text, shape, wraps_arm, wraps_part, wraps_operand, wrapped, printed, tied_text, atom_text};
+ghost use Rattle.query_printer.specs.PrintedFormula.{is_shown, hex_text, byte_text, members, begins_run, run_end, run_text, runs_text, set_text, sign, exactly_text, at_least_text, between_text, shape, wraps_arm, wraps_part, wraps_operand, wrapped, printed, tied_text, atom_text};
 
 use crate::pushing::push;
 use itoa::Buffer;
@@ -111,7 +112,7 @@ pub fn printed_forms_spell_their_trees()
 
 fn push_atom(atom: &Atom, out: &mut Vec<u8>) -> Result<(), OutOfMemory>
     ensures ok { OnOk result (out.new.items ≡ out.old.items ++ atom_text (atom_of atom.now)) }
-    ensures front { IsFront out.old.items out.new.items }
+    ensures front { IsPrefixOf out.old.items out.new.items }
 {
     push(b"/", out)?;
     push_tied(atom, out)?;
@@ -121,7 +122,7 @@ fn push_atom(atom: &Atom, out: &mut Vec<u8>) -> Result<(), OutOfMemory>
 /// Appends what stands between the slashes.
 fn push_tied(atom: &Atom, out: &mut Vec<u8>) -> Result<(), OutOfMemory>
     ensures ok { OnOk result (out.new.items ≡ out.old.items ++ tied_text (atom_of atom.now)) }
-    ensures front { IsFront out.old.items out.new.items }
+    ensures front { IsPrefixOf out.old.items out.new.items }
 {
     push_given(atom.from_start, b'^', out)?;
     push_formula(&atom.formula, out)?;
@@ -131,7 +132,7 @@ fn push_tied(atom: &Atom, out: &mut Vec<u8>) -> Result<(), OutOfMemory>
 /// Appends the byte, where it is to be there.
 fn push_given(there: bool, byte: u8, out: &mut Vec<u8>) -> Result<(), OutOfMemory>
     ensures ok { OnOk result (out.new.items ≡ out.old.items ++ given there byte) }
-    ensures front { IsFront out.old.items out.new.items }
+    ensures front { IsPrefixOf out.old.items out.new.items }
 {
     if there {
         return push(&[byte], out);
@@ -142,7 +143,7 @@ fn push_given(there: bool, byte: u8, out: &mut Vec<u8>) -> Result<(), OutOfMemor
 #[cycle(print)]
 fn push_formula(formula: &Formula, out: &mut Vec<u8>) -> Result<(), OutOfMemory>
     ensures ok { OnOk result (out.new.items ≡ out.old.items ++ printed (tree_of formula.now)) }
-    ensures front { IsFront out.old.items out.new.items }
+    ensures front { IsPrefixOf out.old.items out.new.items }
 {
     match formula {
         Formula::Empty => push(b"()", out),
@@ -162,7 +163,7 @@ fn push_repeat(
     out: &mut Vec<u8>,
 ) -> Result<(), OutOfMemory>
     ensures ok { OnOk result (out.new.items ≡ out.old.items ++ printed (rep (tree_of sub.now) least most)) }
-    ensures front { IsFront out.old.items out.new.items }
+    ensures front { IsPrefixOf out.old.items out.new.items }
 {
     push_wrapped(Shape::of(sub).wraps_operand(), sub, out)?;
     push_sign(least, most, out)
@@ -171,7 +172,7 @@ fn push_repeat(
 #[cycle(print)]
 fn push_capture(name: &Name, sub: &Formula, out: &mut Vec<u8>) -> Result<(), OutOfMemory>
     ensures ok { OnOk result (out.new.items ≡ out.old.items ++ printed (cap name.now (tree_of sub.now))) }
-    ensures front { IsFront out.old.items out.new.items }
+    ensures front { IsPrefixOf out.old.items out.new.items }
 {
     push_head(name.as_bytes(), out)?;
     push_formula(sub, out)?;
@@ -182,7 +183,7 @@ fn push_capture(name: &Name, sub: &Formula, out: &mut Vec<u8>) -> Result<(), Out
 #[cycle(print)]
 fn push_parts(parts: &Parts, out: &mut Vec<u8>) -> Result<(), OutOfMemory>
     ensures ok { OnOk result (out.new.items ≡ out.old.items ++ printed (cat_all (trees_of parts.now))) }
-    ensures front { IsFront out.old.items out.new.items }
+    ensures front { IsPrefixOf out.old.items out.new.items }
 {
     for k in 0..parts.len() {
         let part = parts.at(k);
@@ -195,7 +196,7 @@ fn push_parts(parts: &Parts, out: &mut Vec<u8>) -> Result<(), OutOfMemory>
 #[cycle(print)]
 fn push_arms(arms: &Parts, out: &mut Vec<u8>) -> Result<(), OutOfMemory>
     ensures ok { OnOk result (out.new.items ≡ out.old.items ++ printed (alt_all (trees_of arms.now))) }
-    ensures front { IsFront out.old.items out.new.items }
+    ensures front { IsPrefixOf out.old.items out.new.items }
 {
     for k in 0..arms.len() {
         let arm = arms.at(k);
@@ -209,7 +210,7 @@ fn push_arms(arms: &Parts, out: &mut Vec<u8>) -> Result<(), OutOfMemory>
 #[cycle(print)]
 fn push_wrapped(wraps: bool, formula: &Formula, out: &mut Vec<u8>) -> Result<(), OutOfMemory>
     ensures ok { OnOk result (out.new.items ≡ out.old.items ++ wrapped wraps (printed (tree_of formula.now))) }
-    ensures front { IsFront out.old.items out.new.items }
+    ensures front { IsPrefixOf out.old.items out.new.items }
 {
     if !wraps {
         return push_formula(formula, out);
@@ -222,7 +223,7 @@ fn push_wrapped(wraps: bool, formula: &Formula, out: &mut Vec<u8>) -> Result<(),
 /// Appends the head of a capture.
 fn push_head(name: &[u8], out: &mut Vec<u8>) -> Result<(), OutOfMemory>
     ensures ok { OnOk result (out.new.items ≡ out.old.items ++ head_text name.now) }
-    ensures front { IsFront out.old.items out.new.items }
+    ensures front { IsPrefixOf out.old.items out.new.items }
 {
     push(b"!", out)?;
     push(name, out)?;
@@ -231,7 +232,7 @@ fn push_head(name: &[u8], out: &mut Vec<u8>) -> Result<(), OutOfMemory>
 
 fn push_sign(least: u16, most: Option<u16>, out: &mut Vec<u8>) -> Result<(), OutOfMemory>
     ensures ok { OnOk result (out.new.items ≡ out.old.items ++ sign least most) }
-    ensures front { IsFront out.old.items out.new.items }
+    ensures front { IsPrefixOf out.old.items out.new.items }
 {
     match (least, most) {
         (0, None) => push(b"*", out),
@@ -245,7 +246,7 @@ fn push_sign(least: u16, most: Option<u16>, out: &mut Vec<u8>) -> Result<(), Out
 
 fn push_at_least(least: u16, out: &mut Vec<u8>) -> Result<(), OutOfMemory>
     ensures ok { OnOk result (out.new.items ≡ out.old.items ++ at_least_text least) }
-    ensures front { IsFront out.old.items out.new.items }
+    ensures front { IsPrefixOf out.old.items out.new.items }
 {
     push(b"{", out)?;
     push_number(least, out)?;
@@ -254,7 +255,7 @@ fn push_at_least(least: u16, out: &mut Vec<u8>) -> Result<(), OutOfMemory>
 
 fn push_exactly(times: u16, out: &mut Vec<u8>) -> Result<(), OutOfMemory>
     ensures ok { OnOk result (out.new.items ≡ out.old.items ++ exactly_text times) }
-    ensures front { IsFront out.old.items out.new.items }
+    ensures front { IsPrefixOf out.old.items out.new.items }
 {
     push(b"{", out)?;
     push_number(times, out)?;
@@ -263,7 +264,7 @@ fn push_exactly(times: u16, out: &mut Vec<u8>) -> Result<(), OutOfMemory>
 
 fn push_between(least: u16, most: u16, out: &mut Vec<u8>) -> Result<(), OutOfMemory>
     ensures ok { OnOk result (out.new.items ≡ out.old.items ++ between_text least most) }
-    ensures front { IsFront out.old.items out.new.items }
+    ensures front { IsPrefixOf out.old.items out.new.items }
 {
     push(b"{", out)?;
     push_number(least, out)?;
@@ -273,7 +274,7 @@ fn push_between(least: u16, most: u16, out: &mut Vec<u8>) -> Result<(), OutOfMem
 /// Appends the end of a repeat with two numbers, from its comma on.
 fn push_most(most: u16, out: &mut Vec<u8>) -> Result<(), OutOfMemory>
     ensures ok { OnOk result (out.new.items ≡ out.old.items ++ 44 ∷ (decimal most ++ 125 ∷ [])) }
-    ensures front { IsFront out.old.items out.new.items }
+    ensures front { IsPrefixOf out.old.items out.new.items }
 {
     push(b",", out)?;
     push_number(most, out)?;
@@ -282,7 +283,7 @@ fn push_most(most: u16, out: &mut Vec<u8>) -> Result<(), OutOfMemory>
 
 fn push_number(number: u16, out: &mut Vec<u8>) -> Result<(), OutOfMemory>
     ensures ok { OnOk result (out.new.items ≡ out.old.items ++ decimal number) }
-    ensures front { IsFront out.old.items out.new.items }
+    ensures front { IsPrefixOf out.old.items out.new.items }
 {
     let mut buffer = Buffer::new();
     push(buffer.format(number).as_bytes(), out)
@@ -291,7 +292,7 @@ fn push_number(number: u16, out: &mut Vec<u8>) -> Result<(), OutOfMemory>
 #[tactic(auto, unfolding(crate::specs::PrintedFormula::set_text))]
 fn push_set(set: &ByteSet, out: &mut Vec<u8>) -> Result<(), OutOfMemory>
     ensures ok { OnOk result (out.new.items ≡ out.old.items ++ set_text set.now) }
-    ensures front { IsFront out.old.items out.new.items }
+    ensures front { IsPrefixOf out.old.items out.new.items }
 {
     let count = members(set);
     if count == 1 {
@@ -305,7 +306,7 @@ fn push_set(set: &ByteSet, out: &mut Vec<u8>) -> Result<(), OutOfMemory>
 
 fn push_class(set: &ByteSet, out: &mut Vec<u8>) -> Result<(), OutOfMemory>
     ensures ok { OnOk result (out.new.items ≡ out.old.items ++ 91 ∷ (runs_text set.now 256 ++ 93 ∷ [])) }
-    ensures front { IsFront out.old.items out.new.items }
+    ensures front { IsPrefixOf out.old.items out.new.items }
 {
     push(b"[", out)?;
     push_runs(set, out)?;
@@ -329,7 +330,7 @@ fn members(set: &ByteSet) -> usize
 /// Appends the maximal runs of the set, ascending.
 fn push_runs(set: &ByteSet, out: &mut Vec<u8>) -> Result<(), OutOfMemory>
     ensures ok { OnOk result (out.new.items ≡ out.old.items ++ runs_text set.now 256) }
-    ensures front { IsFront out.old.items out.new.items }
+    ensures front { IsPrefixOf out.old.items out.new.items }
 {
     for number in 0..256usize {
         push_run_at(number as u8, set, out)?;
@@ -341,7 +342,7 @@ fn push_runs(set: &ByteSet, out: &mut Vec<u8>) -> Result<(), OutOfMemory>
 fn push_run_at(first: u8, set: &ByteSet, out: &mut Vec<u8>) -> Result<(), OutOfMemory>
     ensures ok { OnOk result (out.new.items
         ≡ out.old.items ++ (if begins_run set.now first then run_text first (run_end set.now (255 - first) first) else [])) }
-    ensures front { IsFront out.old.items out.new.items }
+    ensures front { IsPrefixOf out.old.items out.new.items }
 {
     if begins_run(set, first) {
         return push_run(first, run_end(set, first), out);
@@ -369,7 +370,7 @@ fn run_end(set: &ByteSet, byte: u8) -> u8
 
 fn push_run(first: u8, last: u8, out: &mut Vec<u8>) -> Result<(), OutOfMemory>
     ensures ok { OnOk result (out.new.items ≡ out.old.items ++ run_text first last) }
-    ensures front { IsFront out.old.items out.new.items }
+    ensures front { IsPrefixOf out.old.items out.new.items }
 {
     push_byte(first, out)?;
     if first == last {
@@ -381,7 +382,7 @@ fn push_run(first: u8, last: u8, out: &mut Vec<u8>) -> Result<(), OutOfMemory>
 
 fn push_byte(byte: u8, out: &mut Vec<u8>) -> Result<(), OutOfMemory>
     ensures ok { OnOk result (out.new.items ≡ out.old.items ++ byte_text byte) }
-    ensures front { IsFront out.old.items out.new.items }
+    ensures front { IsPrefixOf out.old.items out.new.items }
 {
     if is_shown(byte) {
         return push(&[byte], out);
@@ -404,7 +405,7 @@ fn is_shown(byte: u8) -> bool
 /// Appends the byte by its number.
 fn push_hex(byte: u8, out: &mut Vec<u8>) -> Result<(), OutOfMemory>
     ensures ok { OnOk result (out.new.items ≡ out.old.items ++ hex_text byte) }
-    ensures front { IsFront out.old.items out.new.items }
+    ensures front { IsPrefixOf out.old.items out.new.items }
 {
     push(b"\\x", out)?;
     push(&hex_digits(byte), out)

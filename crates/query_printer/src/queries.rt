@@ -3,13 +3,13 @@
 //! A named expression prints the name of its `let`; a union in a join stands in parentheses, and a join in a union
 //! does not. A difference is in parentheses where a union is, and so is a union that is one of its sides.
 ghost use Rattle.std.specs.Prelude.{◌≡◌, ◌++◌, ◌∷◌, [], ◌<◌, ◌≤◌, length, slice_get, unwrap_or, OnOk, OnErr, if◌then◌else◌};
-ghost use Rattle.span_core.specs.Lists.{Has};
+ghost use Rattle.span_core.specs.Lists.{Has, IsPrefixOf};
 ghost use Rattle.spanner_model.specs.Expression.{ExprTree, union_all, join_all, project, minus};
 ghost use Rattle.spanner_model.specs.ExprView.{expr_of, exprs_of, lets_of, query_of};
 ghost use Rattle.spanner_model.specs.Sound.{IsSound};
 ghost use Rattle.spanner_model.specs.WellBuilt.{IsWellBuilt};
 ghost use Rattle.spanner_model.specs.View.{tree_of, atom_of};
-ghost use Rattle.query_printer.specs.PrintedFormula.{IsFront, wrapped, atom_text};
+ghost use Rattle.query_printer.specs.PrintedFormula.{wrapped, atom_text};
 ghost use Rattle.query_parser.specs.Spells.{names_of};
 ghost use Rattle.query_parser.specs.declared.TheConstants.{MOST_TEXT_BYTES};
 ghost use Rattle.query_parser.specs.Faults.{IsQueryText};
@@ -97,7 +97,7 @@ pub fn printed_forms_spell_their_queries()
 pub(crate) fn push_query(query: &Query, out: &mut Vec<u8>) -> Result<(), OutOfMemory>
     requires { IsFormedQuery (query_of query.now) }
     ensures ok { OnOk result (out.new.items ≡ out.old.items ++ query_text (query_of query.now)) }
-    ensures front { IsFront out.old.items out.new.items }
+    ensures front { IsPrefixOf out.old.items out.new.items }
 {
     for k in 0..query.lets.len() {
         push_let(query.lets.at(k), &query.lets, out)?;
@@ -109,7 +109,7 @@ pub(crate) fn push_query(query: &Query, out: &mut Vec<u8>) -> Result<(), OutOfMe
 fn push_let(named: &(Name, Expr), lets: &Lets, out: &mut Vec<u8>) -> Result<(), OutOfMemory>
     requires { IsFormed (length (lets_of lets.now)) (expr_of named.now.1) }
     ensures ok { OnOk result (out.new.items ≡ out.old.items ++ let_text (names_of (lets_of lets.now)) (named.now.0, expr_of named.now.1)) }
-    ensures front { IsFront out.old.items out.new.items }
+    ensures front { IsPrefixOf out.old.items out.new.items }
 {
     push(b"let ", out)?;
     push(named.0.as_bytes(), out)?;
@@ -122,7 +122,7 @@ fn push_let(named: &(Name, Expr), lets: &Lets, out: &mut Vec<u8>) -> Result<(), 
 fn push_expr(expr: &Expr, lets: &Lets, out: &mut Vec<u8>) -> Result<(), OutOfMemory>
     requires { IsFormed (length (lets_of lets.now)) (expr_of expr.now) }
     ensures ok { OnOk result (out.new.items ≡ out.old.items ++ printed (names_of (lets_of lets.now)) (expr_of expr.now)) }
-    ensures front { IsFront out.old.items out.new.items }
+    ensures front { IsPrefixOf out.old.items out.new.items }
 {
     match expr {
         Expr::Atom(atom) => push_atom(atom, out),
@@ -139,7 +139,7 @@ fn push_expr(expr: &Expr, lets: &Lets, out: &mut Vec<u8>) -> Result<(), OutOfMem
 fn push_union(parts: &Exprs, lets: &Lets, out: &mut Vec<u8>) -> Result<(), OutOfMemory>
     requires { (e : ExprTree) → Has (exprs_of parts.now) e → IsFormed (length (lets_of lets.now)) e }
     ensures ok { OnOk result (out.new.items ≡ out.old.items ++ printed (names_of (lets_of lets.now)) (union_all (exprs_of parts.now))) }
-    ensures front { IsFront out.old.items out.new.items }
+    ensures front { IsPrefixOf out.old.items out.new.items }
 {
     for k in 0..parts.len() {
         let part = parts.at(k);
@@ -154,7 +154,7 @@ fn push_union(parts: &Exprs, lets: &Lets, out: &mut Vec<u8>) -> Result<(), OutOf
 fn push_join(parts: &Exprs, lets: &Lets, out: &mut Vec<u8>) -> Result<(), OutOfMemory>
     requires { (e : ExprTree) → Has (exprs_of parts.now) e → IsFormed (length (lets_of lets.now)) e }
     ensures ok { OnOk result (out.new.items ≡ out.old.items ++ printed (names_of (lets_of lets.now)) (join_all (exprs_of parts.now))) }
-    ensures front { IsFront out.old.items out.new.items }
+    ensures front { IsPrefixOf out.old.items out.new.items }
 {
     for k in 0..parts.len() {
         let part = parts.at(k);
@@ -175,7 +175,7 @@ fn push_difference(
     requires left { IsFormed (length (lets_of lets.now)) (expr_of left.now) }
     requires right { IsFormed (length (lets_of lets.now)) (expr_of right.now) }
     ensures ok { OnOk result (out.new.items ≡ out.old.items ++ printed (names_of (lets_of lets.now)) (minus (expr_of left.now) (expr_of right.now))) }
-    ensures front { IsFront out.old.items out.new.items }
+    ensures front { IsPrefixOf out.old.items out.new.items }
 {
     push_wrapped(Shape::of(left).wraps_in_union(), left, lets, out)?;
     push(b" minus ", out)?;
@@ -191,7 +191,7 @@ fn push_projection(
 ) -> Result<(), OutOfMemory>
     requires { IsFormed (length (lets_of lets.now)) (expr_of sub.now) }
     ensures ok { OnOk result (out.new.items ≡ out.old.items ++ printed (names_of (lets_of lets.now)) (project kept.now (expr_of sub.now))) }
-    ensures front { IsFront out.old.items out.new.items }
+    ensures front { IsPrefixOf out.old.items out.new.items }
 {
     push(b"project ", out)?;
     push_keep(kept, out)?;
@@ -205,7 +205,7 @@ fn push_projection(
 fn push_wrapped(wraps: bool, expr: &Expr, lets: &Lets, out: &mut Vec<u8>) -> Result<(), OutOfMemory>
     requires { IsFormed (length (lets_of lets.now)) (expr_of expr.now) }
     ensures ok { OnOk result (out.new.items ≡ out.old.items ++ wrapped wraps (printed (names_of (lets_of lets.now)) (expr_of expr.now))) }
-    ensures front { IsFront out.old.items out.new.items }
+    ensures front { IsPrefixOf out.old.items out.new.items }
 {
     if !wraps {
         return push_expr(expr, lets, out);
@@ -218,7 +218,7 @@ fn push_wrapped(wraps: bool, expr: &Expr, lets: &Lets, out: &mut Vec<u8>) -> Res
 fn push_atom(atom: &Atom, out: &mut Vec<u8>) -> Result<(), OutOfMemory>
     requires { IsWellBuilt (tree_of atom.now.formula) }
     ensures ok { OnOk result (out.new.items ≡ out.old.items ++ atom_text (atom_of atom.now)) }
-    ensures front { IsFront out.old.items out.new.items }
+    ensures front { IsPrefixOf out.old.items out.new.items }
 {
     print_atom(atom, out)
 }
@@ -227,7 +227,7 @@ fn push_atom(atom: &Atom, out: &mut Vec<u8>) -> Result<(), OutOfMemory>
 fn push_name(k: u32, lets: &Lets, out: &mut Vec<u8>) -> Result<(), OutOfMemory>
     requires { k < length (lets_of lets.now) }
     ensures ok { OnOk result (out.new.items ≡ out.old.items ++ unwrap_or (slice_get (names_of (lets_of lets.now)) k) []) }
-    ensures front { IsFront out.old.items out.new.items }
+    ensures front { IsPrefixOf out.old.items out.new.items }
 {
     push(lets.at(k as usize).0.as_bytes(), out)
 }
@@ -235,7 +235,7 @@ fn push_name(k: u32, lets: &Lets, out: &mut Vec<u8>) -> Result<(), OutOfMemory>
 /// Appends the names that a projection keeps.
 fn push_keep(kept: &VarSet, out: &mut Vec<u8>) -> Result<(), OutOfMemory>
     ensures ok { OnOk result (out.new.items ≡ out.old.items ++ keep_text kept.now) }
-    ensures front { IsFront out.old.items out.new.items }
+    ensures front { IsPrefixOf out.old.items out.new.items }
 {
     if kept.len() == 0 {
         return push(b"none", out);
@@ -250,7 +250,7 @@ fn push_keep(kept: &VarSet, out: &mut Vec<u8>) -> Result<(), OutOfMemory>
 /// Appends the bytes, where they are to be there.
 pub(crate) fn push_given(there: bool, bytes: &[u8], out: &mut Vec<u8>) -> Result<(), OutOfMemory>
     ensures ok { OnOk result (out.new.items ≡ out.old.items ++ (if there then bytes.now else [])) }
-    ensures front { IsFront out.old.items out.new.items }
+    ensures front { IsPrefixOf out.old.items out.new.items }
 {
     if there {
         return push(bytes, out);

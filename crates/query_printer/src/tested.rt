@@ -1,9 +1,9 @@
 //! Prints queries with tests.
 ghost use Rattle.std.specs.Prelude.{◌≡◌, ◌++◌, OnOk, OnErr};
+ghost use Rattle.span_core.specs.Lists.{IsPrefixOf};
 ghost use Rattle.spanner_model.specs.ExprView.{query_of};
 ghost use Rattle.spanner_model.specs.Sound.{IsSound};
 ghost use Rattle.query_parser.specs.Formed.{IsFormedQuery};
-ghost use Rattle.query_printer.specs.PrintedFormula.{IsFront};
 ghost use Rattle.query_printer.specs.PrintedTested.{test_text, tests_text, tested_text, TestedAreRead};
 
 use crate::pushing::push;
@@ -38,7 +38,7 @@ pub fn printed_tests_are_read()
 fn push_tested(tested: &Tested, out: &mut Vec<u8>) -> Result<(), OutOfMemory>
     requires { IsFormedQuery (query_of tested.now.query) }
     ensures ok { OnOk result (out.new.items ≡ out.old.items ++ tested_text (query_of tested.now.query) tested.now.asked) }
-    ensures front { IsFront out.old.items out.new.items }
+    ensures front { IsPrefixOf out.old.items out.new.items }
 {
     push_query(&tested.query, out)?;
     if tested.asked.len() == 0 {
@@ -50,7 +50,7 @@ fn push_tested(tested: &Tested, out: &mut Vec<u8>) -> Result<(), OutOfMemory>
 
 fn push_tests(asked: &Asks, out: &mut Vec<u8>) -> Result<(), OutOfMemory>
     ensures ok { OnOk result (out.new.items ≡ out.old.items ++ tests_text asked.now) }
-    ensures front { IsFront out.old.items out.new.items }
+    ensures front { IsPrefixOf out.old.items out.new.items }
 {
     for k in 0..asked.len() {
         push_given(k > 0, b", ", out)?;
@@ -61,7 +61,7 @@ fn push_tests(asked: &Asks, out: &mut Vec<u8>) -> Result<(), OutOfMemory>
 
 fn push_test(asked: &Asked, out: &mut Vec<u8>) -> Result<(), OutOfMemory>
     ensures ok { OnOk result (out.new.items ≡ out.old.items ++ test_text asked.now) }
-    ensures front { IsFront out.old.items out.new.items }
+    ensures front { IsPrefixOf out.old.items out.new.items }
 {
     push(asked.test.as_bytes(), out)?;
     push(b"(", out)?;

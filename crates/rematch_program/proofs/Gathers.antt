@@ -15,7 +15,7 @@ pub part_more : (old new : Option (List ℕ)) (xs ys : List ℕ) → AppendsPart
 part_more old new xs ys p = record {
   part = p.part;
   added = p.added;
-  prefix = record { rest = p.prefix.rest ++ ys; joined = sym (append_assoc p.part p.prefix.rest ys) ∙ ap (λ zs. zs ++ ys) p.prefix.joined };
+  prefix = record { rest = p.prefix.rest ++ ys; joined = ap (λ zs. zs ++ ys) p.prefix.joined ∙ append_assoc p.part p.prefix.rest ys };
 }
 
 -- xs and then a part of ys
@@ -23,7 +23,7 @@ pub part_after : (old mid new : Option (List ℕ)) (xs ys : List ℕ) → Append
 part_after old mid new xs ys whole p = record {
   part = xs ++ p.part;
   added = Appends-trans old mid new xs p.part whole p.added;
-  prefix = record { rest = p.prefix.rest; joined = append_assoc xs p.part p.prefix.rest ∙ ap (λ zs. xs ++ zs) p.prefix.joined };
+  prefix = record { rest = p.prefix.rest; joined = ap (λ zs. xs ++ zs) p.prefix.joined ∙ sym (append_assoc xs p.part p.prefix.rest) };
 }
 
 -- nothing is a part of anything

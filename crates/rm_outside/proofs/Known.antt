@@ -1,5 +1,5 @@
 -- Known bytes over several reads or writes.
-use Rattle.std.proofs.Common.{◌≡◌, ◌+◌, ◌-◌, ℕ, List, ◌++◌, length, take, drop, Option}
+use Rattle.std.proofs.Common.{◌≡◌, ◌+◌, ◌-◌, ℕ, List, ◌++◌, length, take, drop, Option, sym}
 use Rattle.std.proofs.KnownBytes.{Appends-kept, Appends-trans}
 use Rattle.std.proofs.lemmas.List.{take-append-drop, take_rest}
 use Rattle.std.proofs.Math.Seq.{take-add}
@@ -19,7 +19,7 @@ appends_kept = Appends-kept
 
 -- the first bytes are a part of all
 pub part_of : (a b : Option (List ℕ)) (at : ℕ) (xs : List ℕ) → Appends a b (take at xs) → AppendsPart a b xs
-part_of a b at xs p = record { part = take at xs; added = p; prefix = record { rest = drop at xs; joined = take-append-drop at xs } }
+part_of a b at xs p = record { part = take at xs; added = p; prefix = record { rest = drop at xs; joined = sym (take-append-drop at xs) } }
 
 -- what was read so far: so many bytes, taken from the known ones and added to the old ones
 pub record ReadSoFar (start now : Option (List ℕ)) (old new : List ℕ) (seen : ℕ) : Type 0 where

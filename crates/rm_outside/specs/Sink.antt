@@ -1,12 +1,8 @@
 -- What a put adds, and what a fault leaves of it.
-use Rattle.std.specs.Prelude.{◌≡◌, List, ℕ, ◌++◌, Option, Result, Ok, Err}
+use Rattle.std.specs.Prelude.{◌≡◌, List, ℕ, Option, Result, Ok, Err}
 use Rattle.std.specs.Io.KnownBytes.{Appends}
+use Rattle.span_core.specs.Lists.{IsPrefixOf}
 use Rattle.rm_outside.specs.Faults.{counted}
-
--- part is a prefix of whole
-pub record IsPrefixOf (part whole : List ℕ) : Type 0 where
-  pub rest : List ℕ
-  pub joined : part ++ rest ≡ whole
 
 -- where the bytes are told, a prefix of these bytes was added
 pub record AppendsPart (old new : Option (List ℕ)) (bytes : List ℕ) : Type 0 where

@@ -110,8 +110,8 @@ module _ (k : Known) (most : ℕ) (start now before after : Option (List ℕ)) (
         ServesLines k most source out status.Write (line (codes "write failed"))
     ends_write source out begins goes puts part failed =
         let all_text = replies_text s.replies in
-        let joined : (all_text ++ part.part) ++ part.prefix.rest ≡ replies_text (s.replies ++ reply ∷ []) =
-        append_assoc all_text part.part part.prefix.rest ∙ ap (λ (xs : List ℕ). all_text ++ xs) (part.prefix.joined ∙ told) ∙ sym (text_more s.replies reply) in
+        let joined : replies_text (s.replies ++ reply ∷ []) ≡ (all_text ++ part.part) ++ part.prefix.rest =
+        text_more s.replies reply ∙ ap (λ (xs : List ℕ). all_text ++ xs) (sym told ∙ part.prefix.joined) ∙ sym (append_assoc all_text part.part part.prefix.rest) in
         let added : Appends before out.new.bytes (all_text ++ part.part) = Appends-trans before after out.new.bytes all_text part.part s.wrote part.added in
         write_failed (s.texts ++ text ∷ []) (s.replies ++ reply ∷ [])
         (subst (λ (o : Option (List ℕ)). TakesLines o (s.texts ++ text ∷ []) source.new.bytes) (sym begins)

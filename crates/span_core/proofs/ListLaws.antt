@@ -1,9 +1,9 @@
--- What stands at a place of a list, and lists whose elements all are of a kind.
-use Rattle.std.proofs.Common.{◌≡◌, ℕ, zero, suc, ◌<◌, ◌≤◌, ◌⊎◌, Bool, true, false, cond, List, [], ◌∷◌, ◌++◌, length, set, Some, inl, inr, refl, ap, subst, arith}
+-- What stands at a place of a list, prefixes, and lists whose elements all are of a kind.
+use Rattle.std.proofs.Common.{◌≡◌, ℕ, zero, suc, ◌<◌, ◌≤◌, ◌⊎◌, Bool, true, false, cond, List, [], ◌∷◌, ◌++◌, length, set, Some, inl, inr, refl, sym, ap, ◌∙◌, subst, arith, append_assoc, append-nil}
 use Rattle.std.specs.Prelude.{slice_get}
 use Rattle.std.specs.List.{AllByRecursion, filter}
 use Rattle.std.proofs.lemmas.Option.{same_Some}
-use Rattle.span_core.specs.Lists.{Has}
+use Rattle.span_core.specs.Lists.{Has, IsPrefixOf}
 
 module _ {X : Type 0} where
   -- a place that is there
@@ -32,6 +32,16 @@ module _ {X : Type 0} where
   get_set_same [] i x h = absurd (omega (arith, h))
   get_set_same (y ∷ xs) zero x h = refl
   get_set_same (y ∷ xs) (suc i) x h = get_set_same xs i x (omega (arith, h))
+
+  pub prefix_same : (xs : List X) → IsPrefixOf xs xs
+  prefix_same xs = record { rest = []; joined = sym (append-nil xs) }
+
+  pub prefix_then : (xs ys zs : List X) → IsPrefixOf xs ys → IsPrefixOf ys zs → IsPrefixOf xs zs
+  prefix_then xs ys zs a b = record { rest = a.rest ++ b.rest; joined = b.joined ∙ ap (λ (w : List X). w ++ b.rest) a.joined ∙ append_assoc xs a.rest b.rest }
+
+  -- behind p, u is left of t
+  pub appended : (a p n t u whole : List X) → n ≡ a ++ p → t ≡ p ++ u → a ++ t ≡ whole → n ++ u ≡ whole
+  appended a p n t u whole e f h = ap (λ (xs : List X). xs ++ u) e ∙ append_assoc a p u ∙ ap (λ (xs : List X). a ++ xs) (sym f) ∙ h
 
   -- what holds of all holds of each
   pub all_has : (P : X → Type 0) (xs : List X) (x : X) → AllByRecursion P xs → Has xs x → P x

@@ -1,7 +1,8 @@
 use Rattle.std.proofs.Common.{◌+◌, ◌++◌, ap, refl, ◌∙◌, arith}
+use Rattle.span_core.proofs.ListLaws.{prefix_then, appended}
 use Rattle.spanner_model.specs.View.{tree_of, trees_of}
 use Rattle.query_printer.specs.PrintedFormula.{wraps_arm, wraps_part, printed, wrapped}
-use Rattle.query_printer.proofs.PrintedTrees.{part_less, arm_less, parts_step, arms_step, arms_from, appended, front_more}
+use Rattle.query_printer.proofs.PrintedTrees.{part_less, arm_less, parts_step, arms_step, arms_from}
 use Rattle.query_printer.proofs.formulas.+print.Goals as goal
 
 pub push_parts-push_wrapped-requires : goal.push_parts-push_wrapped-requires
@@ -20,7 +21,7 @@ push_parts-loop-k-preserved t c =
     record {
       printed = appended c.loop-k.out.items (wrapped c.wraps_part.result (printed f)) c.push_wrapped.new.out.items _ _ _ c.in_ok-push_wrapped.ensures.ok
           (parts_step ts c.loop-k.k f c.wraps_part.result c.at-part.ensures w) c.loop-k.invariant.printed;
-      front = front_more _ _ _ c.loop-k.invariant.front c.in_ok-push_wrapped.ensures.front;
+      front = prefix_then _ _ _ c.loop-k.invariant.front c.in_ok-push_wrapped.ensures.front;
     }
 
 pub push_arms-loop-k-preserved : goal.push_arms-loop-k-preserved
@@ -33,5 +34,5 @@ push_arms-loop-k-preserved t c =
     record {
       printed = appended c.push_given.new.out.items (wrapped c.wraps_arm.result (printed f)) c.push_wrapped.new.out.items _ (arms_from (c.loop-k.k + 1) ts) _
           c.in_ok-push_wrapped.ensures.ok refl barred;
-      front = front_more _ _ _ (front_more _ _ _ c.loop-k.invariant.front c.in_ok-push_given.ensures.front) c.in_ok-push_wrapped.ensures.front;
+      front = prefix_then _ _ _ (prefix_then _ _ _ c.loop-k.invariant.front c.in_ok-push_given.ensures.front) c.in_ok-push_wrapped.ensures.front;
     }

@@ -1,8 +1,9 @@
 use Rattle.std.proofs.Common.{◌≡◌, ◌+◌, ◌*◌, ◌++◌, drop}
+use Rattle.span_core.specs.Lists.{IsPrefixOf}
 use Rattle.spanner_model.specs.Tree.{cat_all, alt_all}
 use Rattle.spanner_model.specs.View.{tree_of, trees_of}
 use Rattle.spanner_model.proofs.Nodes.{nodes}
-use Rattle.query_printer.specs.PrintedFormula.{IsFront, printed}
+use Rattle.query_printer.specs.PrintedFormula.{printed}
 use Rattle.query_printer.proofs.PrintedTrees.{arms_from}
 use Rattle.query_printer.proofs.formulas.+print.Given as goal
 
@@ -27,11 +28,11 @@ decreases-push_arms l = 3 * nodes (alt_all (trees_of l.arms.now))
 abbrev pub invariant-push_parts-loop-k : goal.invariant-push_parts-loop-k
 invariant-push_parts-loop-k l = record {
   printed : l.out.items ++ printed (cat_all (drop l.k (trees_of l.parts))) ≡ l.fn.out.items ++ printed (cat_all (trees_of l.parts));
-  front : IsFront l.fn.out.items l.out.items;
+  front : IsPrefixOf l.fn.out.items l.out.items;
 }
 
 abbrev pub invariant-push_arms-loop-k : goal.invariant-push_arms-loop-k
 invariant-push_arms-loop-k l = record {
   printed : l.out.items ++ arms_from l.k (trees_of l.arms) ≡ l.fn.out.items ++ printed (alt_all (trees_of l.arms));
-  front : IsFront l.fn.out.items l.out.items;
+  front : IsPrefixOf l.fn.out.items l.out.items;
 }

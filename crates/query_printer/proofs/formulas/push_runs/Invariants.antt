@@ -1,9 +1,10 @@
 use Rattle.std.proofs.Common.{◌≡◌, ◌++◌}
-use Rattle.query_printer.specs.PrintedFormula.{IsFront, runs_text}
+use Rattle.span_core.specs.Lists.{IsPrefixOf}
+use Rattle.query_printer.specs.PrintedFormula.{runs_text}
 use Rattle.query_printer.proofs.formulas.push_runs.Given as goal
 
 abbrev pub invariant-loop-number : goal.invariant-loop-number
 invariant-loop-number l = record {
   printed : l.out.items ≡ l.fn.out.items ++ runs_text l.set l.number;
-  front : IsFront l.fn.out.items l.out.items;
+  front : IsPrefixOf l.fn.out.items l.out.items;
 }

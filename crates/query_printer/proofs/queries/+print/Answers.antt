@@ -2,10 +2,10 @@ use Rattle.std.proofs.Common.{[], ◌∷◌, length, map, ap, subst, ◌∙◌, 
 use Rattle.std.specs.Prelude.{codes}
 use Rattle.spanner_model.specs.ExprView.{expr_of, exprs_of, lets_of}
 use Rattle.span_core.proofs.HasLaws.{Has-slice_get}
+use Rattle.span_core.proofs.ListLaws.{prefix_then}
 use Rattle.spanner_model.proofs.Nodes.{expr_nodes}
 use Rattle.spanner_model.proofs.ExprLaws.{part_size, union_size}
 use Rattle.spanner_model.proofs.ExprTrees.{expr_of-Union, expr_of-Join}
-use Rattle.query_printer.proofs.PrintedTrees.{front_more}
 use Rattle.query_parser.specs.Spells.{names_of}
 use Rattle.query_parser.specs.Formed.{IsFormed}
 use Rattle.query_printer.specs.PrintedQuery.{wraps_in_union, wraps_in_join, keep_text, printed}
@@ -44,11 +44,11 @@ push_join-push_wrapped-requires t c =
 
 pub push_union-returns-in_err-push_wrapped-clause-front : goal.push_union-returns-in_err-push_wrapped-clause-front
 push_union-returns-in_err-push_wrapped-clause-front t c =
-    front_more _ _ _ (front_more _ _ _ c.loop-k.invariant.front c.in_ok-push_given.ensures.front) c.in_err-push_wrapped.ensures.front
+    prefix_then _ _ _ (prefix_then _ _ _ c.loop-k.invariant.front c.in_ok-push_given.ensures.front) c.in_err-push_wrapped.ensures.front
 
 pub push_join-returns-in_err-push_wrapped-clause-front : goal.push_join-returns-in_err-push_wrapped-clause-front
 push_join-returns-in_err-push_wrapped-clause-front t c =
-    front_more _ _ _ (front_more _ _ _ c.loop-k.invariant.front c.in_ok-push_given.ensures.front) c.in_err-push_wrapped.ensures.front
+    prefix_then _ _ _ (prefix_then _ _ _ c.loop-k.invariant.front c.in_ok-push_given.ensures.front) c.in_err-push_wrapped.ensures.front
 
 pub push_union-loop-k-preserved : goal.push_union-loop-k-preserved
 push_union-loop-k-preserved t c =
@@ -60,7 +60,7 @@ push_union-loop-k-preserved t c =
       printed = texts_put c.loop-k.out.items (codes " union ") (map (conj_text names) es) c.loop-k.k (conj_text names e) c.push_given.new.out.items c.push_wrapped.new.out.items _
           (text_at (conj_text names) es c.loop-k.k e c.at-part.ensures) c.in_ok-push_given.ensures.ok
           (conj_put names e c.wraps_in_union.result c.push_given.new.out.items c.push_wrapped.new.out.items w c.in_ok-push_wrapped.ensures.ok) c.loop-k.invariant.printed;
-      front = front_more _ _ _ (front_more _ _ _ c.loop-k.invariant.front c.in_ok-push_given.ensures.front) c.in_ok-push_wrapped.ensures.front;
+      front = prefix_then _ _ _ (prefix_then _ _ _ c.loop-k.invariant.front c.in_ok-push_given.ensures.front) c.in_ok-push_wrapped.ensures.front;
     }
 
 pub push_join-loop-k-preserved : goal.push_join-loop-k-preserved
@@ -73,7 +73,7 @@ push_join-loop-k-preserved t c =
       printed = texts_put c.loop-k.out.items (codes " join ") (map (unit_text names) es) c.loop-k.k (unit_text names e) c.push_given.new.out.items c.push_wrapped.new.out.items _
           (text_at (unit_text names) es c.loop-k.k e c.at-part.ensures) c.in_ok-push_given.ensures.ok
           (unit_put names e c.wraps_in_join.result c.push_given.new.out.items c.push_wrapped.new.out.items w c.in_ok-push_wrapped.ensures.ok) c.loop-k.invariant.printed;
-      front = front_more _ _ _ (front_more _ _ _ c.loop-k.invariant.front c.in_ok-push_given.ensures.front) c.in_ok-push_wrapped.ensures.front;
+      front = prefix_then _ _ _ (prefix_then _ _ _ c.loop-k.invariant.front c.in_ok-push_given.ensures.front) c.in_ok-push_wrapped.ensures.front;
     }
 
 pub push_union-returns-clause-ok : goal.push_union-returns-clause-ok

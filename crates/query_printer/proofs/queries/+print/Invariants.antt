@@ -1,9 +1,9 @@
 use Rattle.std.proofs.Common.{◌≡◌, ◌+◌, ◌*◌, ◌++◌, map}
 use Rattle.std.specs.Prelude.{codes}
+use Rattle.span_core.specs.Lists.{IsPrefixOf}
 use Rattle.spanner_model.specs.Expression.{join_all}
 use Rattle.spanner_model.specs.ExprView.{expr_of, exprs_of, lets_of}
 use Rattle.spanner_model.proofs.Nodes.{expr_nodes}
-use Rattle.query_printer.specs.PrintedFormula.{IsFront}
 use Rattle.query_parser.specs.Spells.{names_of}
 use Rattle.query_printer.specs.PrintedQuery.{joined}
 use Rattle.query_printer.proofs.PrintedParts.{texts_from, conj_text, unit_text}
@@ -31,12 +31,12 @@ abbrev pub invariant-push_union-loop-k : goal.invariant-push_union-loop-k
 invariant-push_union-loop-k l = record {
   printed : l.out.items ++ texts_from (codes " union ") l.k (map (conj_text (names_of (lets_of l.lets))) (exprs_of l.parts))
       ≡ l.fn.out.items ++ joined (codes " union ") (map (conj_text (names_of (lets_of l.lets))) (exprs_of l.parts));
-  front : IsFront l.fn.out.items l.out.items;
+  front : IsPrefixOf l.fn.out.items l.out.items;
 }
 
 abbrev pub invariant-push_join-loop-k : goal.invariant-push_join-loop-k
 invariant-push_join-loop-k l = record {
   printed : l.out.items ++ texts_from (codes " join ") l.k (map (unit_text (names_of (lets_of l.lets))) (exprs_of l.parts))
       ≡ l.fn.out.items ++ joined (codes " join ") (map (unit_text (names_of (lets_of l.lets))) (exprs_of l.parts));
-  front : IsFront l.fn.out.items l.out.items;
+  front : IsPrefixOf l.fn.out.items l.out.items;
 }

@@ -1,5 +1,5 @@
 use Rattle.std.proofs.Common.{arith, ◌∷◌, []}
-use Rattle.query_printer.proofs.PrintedTrees.{front_more}
+use Rattle.span_core.proofs.ListLaws.{prefix_then}
 use Rattle.query_printer.proofs.PrintedParts.{texts_put, keep_some}
 use Rattle.query_printer.proofs.queries.push_keep.Goals as goal
 
@@ -7,7 +7,7 @@ pub loop-k-preserved : goal.loop-k-preserved
 loop-k-preserved c = record {
   printed = texts_put c.loop-k.out.items (44 ∷ []) c.args.kept.now c.loop-k.k c.at.result.now c.push_given.new.out.items c.push-in-loop-k.new.out.items _ c.at.ensures.value
       c.in_ok-push_given.ensures.ok (rw c.as_bytes.ensures.value at c.in_ok-push.ensures.ok) c.loop-k.invariant.printed;
-  front = front_more _ _ _ (front_more _ _ _ c.loop-k.invariant.front c.in_ok-push_given.ensures.front) c.in_ok-push.ensures.front;
+  front = prefix_then _ _ _ (prefix_then _ _ _ c.loop-k.invariant.front c.in_ok-push_given.ensures.front) c.in_ok-push.ensures.front;
 }
 
 pub returns-clause-ok : goal.returns-clause-ok

@@ -1,5 +1,5 @@
 use Rattle.std.proofs.Common.{◌≡◌, ◌++◌, ◌∷◌, []}
-use Rattle.query_printer.specs.PrintedFormula.{IsFront}
+use Rattle.span_core.specs.Lists.{IsPrefixOf}
 use Rattle.query_printer.specs.PrintedQuery.{joined}
 use Rattle.query_printer.proofs.PrintedParts.{texts_from}
 use Rattle.query_printer.proofs.queries.push_keep.Given as goal
@@ -7,5 +7,5 @@ use Rattle.query_printer.proofs.queries.push_keep.Given as goal
 abbrev pub invariant-loop-k : goal.invariant-loop-k
 invariant-loop-k l = record {
   printed : l.out.items ++ texts_from (44 ∷ []) l.k l.kept ≡ l.fn.out.items ++ joined (44 ∷ []) l.kept;
-  front : IsFront l.fn.out.items l.out.items;
+  front : IsPrefixOf l.fn.out.items l.out.items;
 }

@@ -1,8 +1,8 @@
 use Rattle.std.proofs.Common.{ℕ, List, length, refl, arith}
 use Rattle.std.proofs.lemmas.Option.{slice_get_within}
+use Rattle.span_core.proofs.ListLaws.{prefix_then, prefix_same}
 use Rattle.spanner_model.specs.Expression.{ExprTree}
 use Rattle.spanner_model.specs.ExprView.{expr_of, lets_of}
-use Rattle.query_printer.proofs.PrintedTrees.{front_more, front_same}
 use Rattle.query_parser.specs.Spells.{names_of}
 use Rattle.query_printer.specs.PrintedQuery.{printed}
 use Rattle.query_printer.proofs.PrintedParts.{lets_put, query_put}
@@ -21,7 +21,7 @@ loop-k-preserved c =
     record {
       printed = lets_put (names_of lets) lets c.loop-k.k (c.at.result.now.0, expr_of c.at.result.now.1) c.loop-k.out.items c.push_let.new.out.items _ c.at.ensures c.in_ok-push_let.ensures.ok
           c.loop-k.invariant.printed;
-      front = front_more _ _ _ c.loop-k.invariant.front c.in_ok-push_let.ensures.front;
+      front = prefix_then _ _ _ c.loop-k.invariant.front c.in_ok-push_let.ensures.front;
     }
 
 pub returns-clause-ok : goal.returns-clause-ok
@@ -31,4 +31,4 @@ returns-clause-ok c =
     (omega (arith, c.loop-k-test.false, c.len-k-end.ensures)) c.loop-k.invariant.printed c.push_expr.ensures.ok
 
 pub loop-k-init : goal.loop-k-init
-loop-k-init c = record { printed = refl; front = front_same c.args.out.now.items }
+loop-k-init c = record { printed = refl; front = prefix_same c.args.out.now.items }
