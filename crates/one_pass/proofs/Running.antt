@@ -54,17 +54,17 @@ module _ (T : Tabled) (G0 : Graph) (n0 at b : ℕ) (ready : IsReady (pass T (who
 
   one_more : (k s : ℕ) (group : Edges) (G H : Graph) (n m : ℕ) → slice_get (sets_of G0.layer) k ≡ Some s → Rattle.one_pass.specs.Known.IsLookUp T b s group → SoFar k G n →
       IsStepped G at group H → Rattle.output_graph.specs.Graph.IsCost (length group) (length G.cells) (length H.cells) n m → Rattle.output_graph.specs.Graph.AreApart (targets H) → SoFar (k + 1) H m
-  one_more k s group G H n m is look_up past stepped cost apart =
+  one_more k s group G H n m is told past stepped cost apart =
       let w : k < length (sets_of G0.layer) = slice_get_within (sets_of G0.layer) k s is in
       let l : length (sets_of G0.layer) ≡ length G0.layer = length-map G0.layer (λ (p : ℕ × ℕ). p.0) in
       let turned : HasTurned T T s (byte_read b) at G H n m = record {
         middle = n;
-        made = record { is = once_is_same T (look_up T s (byte_read b)) look_up.asked; tabled = ready.sound; steps = omega arith };
-        by = look_up.by;
-        edges = look_up.edges;
-        stepped = subst (λ (es : Edges). IsStepped G at es H) (sym look_up.are) stepped;
+        made = record { is = once_is_same T (look_up T s (byte_read b)) told.asked; tabled = ready.sound; steps = omega arith };
+        by = told.by;
+        edges = told.edges;
+        stepped = subst (λ (es : Edges). IsStepped G at es H) (sym told.are) stepped;
         cost = subst (λ j. Rattle.one_pass.specs.Layers.HasCost j (length G.cells) (length H.cells) n m)
-            (ap length (sym look_up.are) ∙ length-map look_up.by (λ (e : Rattle.span_core.specs.declared.edge.Edge.Edge). (e.marks, e.to)))
+            (ap length (sym told.are) ∙ length-map told.by (λ (e : Rattle.span_core.specs.declared.edge.Edge.Edge). (e.marks, e.to)))
             (own_cost (length group) (length G.cells) (length H.cells) n m cost);
       } in
       stepping_turned T G0 n0 at ready k T G n (omega arith) past.1 s (subst (λ (xs : List ℕ). slice_get xs k ≡ Some s) (fresh.sets ∙ sym past.1.sets) is)

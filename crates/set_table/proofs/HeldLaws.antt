@@ -554,7 +554,7 @@ rest_is_one (p ∷ ps) r rs e = ((let f : r ≡ record { marks = 0; to = p ∷ p
     differ : p ∷ ps ≡ [] → ⊥
     differ f = cc
 
-at_number : (sets : List (List ℕ)) (k : ℕ) → k < length sets → slice_get sets k ≡ Some (set_at sets k)
+pub at_number : (sets : List (List ℕ)) (k : ℕ) → k < length sets → slice_get sets k ≡ Some (set_at sets k)
 at_number sets k l = slice_get-get_or sets k [] l
 
 pub some_rest : (t : Tabled) (k : ℕ) (es : List Edge) (f : Edge) → HasEdges t (look_up t k rest_taken) es → (length es ≡ 0 → ⊥) → f ≡ get_or es 0 f → (slice_get t.sets f.to ≡ Some (idle_of t k)) × (idle_of t k ≡ [] → ⊥)
