@@ -14,7 +14,7 @@ ghost use Rattle.query_printer.specs.FormulaShape.{shape_of};
 ghost use Rattle.query_printer.specs.FormulaLaws.{FormulasSpell, AtomsSpell, AtomsStand};
 ghost use Rattle.query_printer.specs.PrintedFormula.{is_shown, hex_text, byte_text, members, begins_run, run_end, run_text, runs_text, set_text, sign, exactly_text, at_least_text, between_text, shape, wraps_arm, wraps_part, wraps_operand, wrapped, printed, tied_text, atom_text};
 
-use crate::pushing::push;
+use cell_text::push_bytes;
 use itoa::Buffer;
 use span_core::{ByteSet, Name, OutOfMemory};
 use spanner_model::{Atom, Formula, Parts};
@@ -114,9 +114,9 @@ fn push_atom(atom: &Atom, out: &mut Vec<u8>) -> Result<(), OutOfMemory>
     ensures ok { OnOk result (out.new.items ≡ out.old.items ++ atom_text (atom_of atom.now)) }
     ensures front { IsPrefixOf out.old.items out.new.items }
 {
-    push(b"/", out)?;
+    push_bytes(b"/", out)?;
     push_tied(atom, out)?;
-    push(b"/", out)
+    push_bytes(b"/", out)
 }
 
 /// Appends what stands between the slashes.
@@ -135,7 +135,7 @@ fn push_given(there: bool, byte: u8, out: &mut Vec<u8>) -> Result<(), OutOfMemor
     ensures front { IsPrefixOf out.old.items out.new.items }
 {
     if there {
-        return push(&[byte], out);
+        return push_bytes(&[byte], out);
     }
     Ok(())
 }
@@ -146,7 +146,7 @@ fn push_formula(formula: &Formula, out: &mut Vec<u8>) -> Result<(), OutOfMemory>
     ensures front { IsPrefixOf out.old.items out.new.items }
 {
     match formula {
-        Formula::Empty => push(b"()", out),
+        Formula::Empty => push_bytes(b"()", out),
         Formula::One(set) => push_set(set, out),
         Formula::Cat(parts) => push_parts(parts, out),
         Formula::Alt(arms) => push_arms(arms, out),
@@ -176,7 +176,7 @@ fn push_capture(name: &Name, sub: &Formula, out: &mut Vec<u8>) -> Result<(), Out
 {
     push_head(name.as_bytes(), out)?;
     push_formula(sub, out)?;
-    push(b"}", out)
+    push_bytes(b"}", out)
 }
 
 /// Appends the parts of a concatenation.
@@ -215,9 +215,9 @@ fn push_wrapped(wraps: bool, formula: &Formula, out: &mut Vec<u8>) -> Result<(),
     if !wraps {
         return push_formula(formula, out);
     }
-    push(b"(", out)?;
+    push_bytes(b"(", out)?;
     push_formula(formula, out)?;
-    push(b")", out)
+    push_bytes(b")", out)
 }
 
 /// Appends the head of a capture.
@@ -225,9 +225,9 @@ fn push_head(name: &[u8], out: &mut Vec<u8>) -> Result<(), OutOfMemory>
     ensures ok { OnOk result (out.new.items ≡ out.old.items ++ head_text name.now) }
     ensures front { IsPrefixOf out.old.items out.new.items }
 {
-    push(b"!", out)?;
-    push(name, out)?;
-    push(b"{", out)
+    push_bytes(b"!", out)?;
+    push_bytes(name, out)?;
+    push_bytes(b"{", out)
 }
 
 fn push_sign(least: u16, most: Option<u16>, out: &mut Vec<u8>) -> Result<(), OutOfMemory>
@@ -235,9 +235,9 @@ fn push_sign(least: u16, most: Option<u16>, out: &mut Vec<u8>) -> Result<(), Out
     ensures front { IsPrefixOf out.old.items out.new.items }
 {
     match (least, most) {
-        (0, None) => push(b"*", out),
-        (1, None) => push(b"+", out),
-        (0, Some(1)) => push(b"?", out),
+        (0, None) => push_bytes(b"*", out),
+        (1, None) => push_bytes(b"+", out),
+        (0, Some(1)) => push_bytes(b"?", out),
         (_, None) => push_at_least(least, out),
         (_, Some(most)) if least == most => push_exactly(least, out),
         (_, Some(most)) => push_between(least, most, out),
@@ -248,25 +248,25 @@ fn push_at_least(least: u16, out: &mut Vec<u8>) -> Result<(), OutOfMemory>
     ensures ok { OnOk result (out.new.items ≡ out.old.items ++ at_least_text least) }
     ensures front { IsPrefixOf out.old.items out.new.items }
 {
-    push(b"{", out)?;
+    push_bytes(b"{", out)?;
     push_number(least, out)?;
-    push(b",}", out)
+    push_bytes(b",}", out)
 }
 
 fn push_exactly(times: u16, out: &mut Vec<u8>) -> Result<(), OutOfMemory>
     ensures ok { OnOk result (out.new.items ≡ out.old.items ++ exactly_text times) }
     ensures front { IsPrefixOf out.old.items out.new.items }
 {
-    push(b"{", out)?;
+    push_bytes(b"{", out)?;
     push_number(times, out)?;
-    push(b"}", out)
+    push_bytes(b"}", out)
 }
 
 fn push_between(least: u16, most: u16, out: &mut Vec<u8>) -> Result<(), OutOfMemory>
     ensures ok { OnOk result (out.new.items ≡ out.old.items ++ between_text least most) }
     ensures front { IsPrefixOf out.old.items out.new.items }
 {
-    push(b"{", out)?;
+    push_bytes(b"{", out)?;
     push_number(least, out)?;
     push_most(most, out)
 }
@@ -276,9 +276,9 @@ fn push_most(most: u16, out: &mut Vec<u8>) -> Result<(), OutOfMemory>
     ensures ok { OnOk result (out.new.items ≡ out.old.items ++ 44 ∷ (decimal most ++ 125 ∷ [])) }
     ensures front { IsPrefixOf out.old.items out.new.items }
 {
-    push(b",", out)?;
+    push_bytes(b",", out)?;
     push_number(most, out)?;
-    push(b"}", out)
+    push_bytes(b"}", out)
 }
 
 fn push_number(number: u16, out: &mut Vec<u8>) -> Result<(), OutOfMemory>
@@ -286,7 +286,7 @@ fn push_number(number: u16, out: &mut Vec<u8>) -> Result<(), OutOfMemory>
     ensures front { IsPrefixOf out.old.items out.new.items }
 {
     let mut buffer = Buffer::new();
-    push(buffer.format(number).as_bytes(), out)
+    push_bytes(buffer.format(number).as_bytes(), out)
 }
 
 #[tactic(auto, unfolding(crate::specs::PrintedFormula::set_text))]
@@ -298,7 +298,7 @@ fn push_set(set: &ByteSet, out: &mut Vec<u8>) -> Result<(), OutOfMemory>
     if count == 1 {
         push_runs(set, out)
     } else if count == 255 && !set.contains(b'\n') {
-        push(b".", out)
+        push_bytes(b".", out)
     } else {
         push_class(set, out)
     }
@@ -308,9 +308,9 @@ fn push_class(set: &ByteSet, out: &mut Vec<u8>) -> Result<(), OutOfMemory>
     ensures ok { OnOk result (out.new.items ≡ out.old.items ++ 91 ∷ (runs_text set.now 256 ++ 93 ∷ [])) }
     ensures front { IsPrefixOf out.old.items out.new.items }
 {
-    push(b"[", out)?;
+    push_bytes(b"[", out)?;
     push_runs(set, out)?;
-    push(b"]", out)
+    push_bytes(b"]", out)
 }
 
 /// How many bytes are in the set.
@@ -376,7 +376,7 @@ fn push_run(first: u8, last: u8, out: &mut Vec<u8>) -> Result<(), OutOfMemory>
     if first == last {
         return Ok(());
     }
-    push(b"-", out)?;
+    push_bytes(b"-", out)?;
     push_byte(last, out)
 }
 
@@ -385,13 +385,13 @@ fn push_byte(byte: u8, out: &mut Vec<u8>) -> Result<(), OutOfMemory>
     ensures front { IsPrefixOf out.old.items out.new.items }
 {
     if is_shown(byte) {
-        return push(&[byte], out);
+        return push_bytes(&[byte], out);
     }
     match byte {
-        b'\n' => push(b"\\n", out),
-        b'\t' => push(b"\\t", out),
-        b'\r' => push(b"\\r", out),
-        b'!'..=b'~' => push(&[b'\\', byte], out),
+        b'\n' => push_bytes(b"\\n", out),
+        b'\t' => push_bytes(b"\\t", out),
+        b'\r' => push_bytes(b"\\r", out),
+        b'!'..=b'~' => push_bytes(&[b'\\', byte], out),
         _ => push_hex(byte, out),
     }
 }
@@ -407,8 +407,8 @@ fn push_hex(byte: u8, out: &mut Vec<u8>) -> Result<(), OutOfMemory>
     ensures ok { OnOk result (out.new.items ≡ out.old.items ++ hex_text byte) }
     ensures front { IsPrefixOf out.old.items out.new.items }
 {
-    push(b"\\x", out)?;
-    push(&hex_digits(byte), out)
+    push_bytes(b"\\x", out)?;
+    push_bytes(&hex_digits(byte), out)
 }
 
 /// The two digits of the byte, in lower case.

@@ -8,6 +8,5 @@ pub use queries::{print_query, printed_forms_spell_their_queries};
 pub use tested::{print_tested, printed_tests_are_read};
 
 mod formulas;
-mod pushing;
 mod queries;
 mod tested;

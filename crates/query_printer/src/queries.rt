@@ -19,7 +19,7 @@ ghost use Rattle.query_printer.specs.QueryShape.{shape_of};
 ghost use Rattle.query_printer.specs.QueryLaws.{QueriesSpell, QueriesAreRead};
 
 use crate::formulas::print_atom;
-use crate::pushing::push;
+use cell_text::push_bytes;
 use span_core::{Name, OutOfMemory, VarSet};
 use spanner_model::{Atom, Expr, Exprs, Lets, Query};
 
@@ -111,11 +111,11 @@ fn push_let(named: &(Name, Expr), lets: &Lets, out: &mut Vec<u8>) -> Result<(), 
     ensures ok { OnOk result (out.new.items ≡ out.old.items ++ let_text (names_of (lets_of lets.now)) (named.now.0, expr_of named.now.1)) }
     ensures front { IsPrefixOf out.old.items out.new.items }
 {
-    push(b"let ", out)?;
-    push(named.0.as_bytes(), out)?;
-    push(b" = ", out)?;
+    push_bytes(b"let ", out)?;
+    push_bytes(named.0.as_bytes(), out)?;
+    push_bytes(b" = ", out)?;
     push_expr(&named.1, lets, out)?;
-    push(b"; ", out)
+    push_bytes(b"; ", out)
 }
 
 #[cycle(print)]
@@ -178,7 +178,7 @@ fn push_difference(
     ensures front { IsPrefixOf out.old.items out.new.items }
 {
     push_wrapped(Shape::of(left).wraps_in_union(), left, lets, out)?;
-    push(b" minus ", out)?;
+    push_bytes(b" minus ", out)?;
     push_wrapped(Shape::of(right).wraps_in_union(), right, lets, out)
 }
 
@@ -193,11 +193,11 @@ fn push_projection(
     ensures ok { OnOk result (out.new.items ≡ out.old.items ++ printed (names_of (lets_of lets.now)) (project kept.now (expr_of sub.now))) }
     ensures front { IsPrefixOf out.old.items out.new.items }
 {
-    push(b"project ", out)?;
+    push_bytes(b"project ", out)?;
     push_keep(kept, out)?;
-    push(b" (", out)?;
+    push_bytes(b" (", out)?;
     push_expr(sub, lets, out)?;
-    push(b")", out)
+    push_bytes(b")", out)
 }
 
 /// Appends an expression, in parentheses where it is to have them.
@@ -210,9 +210,9 @@ fn push_wrapped(wraps: bool, expr: &Expr, lets: &Lets, out: &mut Vec<u8>) -> Res
     if !wraps {
         return push_expr(expr, lets, out);
     }
-    push(b"(", out)?;
+    push_bytes(b"(", out)?;
     push_expr(expr, lets, out)?;
-    push(b")", out)
+    push_bytes(b")", out)
 }
 
 fn push_atom(atom: &Atom, out: &mut Vec<u8>) -> Result<(), OutOfMemory>
@@ -229,7 +229,7 @@ fn push_name(k: u32, lets: &Lets, out: &mut Vec<u8>) -> Result<(), OutOfMemory>
     ensures ok { OnOk result (out.new.items ≡ out.old.items ++ unwrap_or (slice_get (names_of (lets_of lets.now)) k) []) }
     ensures front { IsPrefixOf out.old.items out.new.items }
 {
-    push(lets.at(k as usize).0.as_bytes(), out)
+    push_bytes(lets.at(k as usize).0.as_bytes(), out)
 }
 
 /// Appends the names that a projection keeps.
@@ -238,11 +238,11 @@ fn push_keep(kept: &VarSet, out: &mut Vec<u8>) -> Result<(), OutOfMemory>
     ensures front { IsPrefixOf out.old.items out.new.items }
 {
     if kept.len() == 0 {
-        return push(b"none", out);
+        return push_bytes(b"none", out);
     }
     for k in 0..kept.len() {
         push_given(k > 0, b",", out)?;
-        push(kept.at(k).as_bytes(), out)?;
+        push_bytes(kept.at(k).as_bytes(), out)?;
     }
     Ok(())
 }
@@ -253,7 +253,7 @@ pub(crate) fn push_given(there: bool, bytes: &[u8], out: &mut Vec<u8>) -> Result
     ensures front { IsPrefixOf out.old.items out.new.items }
 {
     if there {
-        return push(bytes, out);
+        return push_bytes(bytes, out);
     }
     Ok(())
 }

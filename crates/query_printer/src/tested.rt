@@ -6,8 +6,8 @@ ghost use Rattle.spanner_model.specs.Sound.{IsSound};
 ghost use Rattle.query_parser.specs.Formed.{IsFormedQuery};
 ghost use Rattle.query_printer.specs.PrintedTested.{test_text, tests_text, tested_text, TestedAreRead};
 
-use crate::pushing::push;
 use crate::queries::{push_given, push_query};
+use cell_text::push_bytes;
 use query_parser::{Asked, Asks, Tested};
 use span_core::OutOfMemory;
 
@@ -44,7 +44,7 @@ fn push_tested(tested: &Tested, out: &mut Vec<u8>) -> Result<(), OutOfMemory>
     if tested.asked.len() == 0 {
         return Ok(());
     }
-    push(b" where ", out)?;
+    push_bytes(b" where ", out)?;
     push_tests(&tested.asked, out)
 }
 
@@ -63,8 +63,8 @@ fn push_test(asked: &Asked, out: &mut Vec<u8>) -> Result<(), OutOfMemory>
     ensures ok { OnOk result (out.new.items ≡ out.old.items ++ test_text asked.now) }
     ensures front { IsPrefixOf out.old.items out.new.items }
 {
-    push(asked.test.as_bytes(), out)?;
-    push(b"(", out)?;
-    push(asked.var.as_bytes(), out)?;
-    push(b")", out)
+    push_bytes(asked.test.as_bytes(), out)?;
+    push_bytes(b"(", out)?;
+    push_bytes(asked.var.as_bytes(), out)?;
+    push_bytes(b")", out)
 }
