@@ -11,11 +11,12 @@ use Rattle.spanner_model.specs.Captures.{VarName}
 use Rattle.span_core.specs.declared.TheConstants.{MOST_VARIABLES}
 use Rattle.span_core.specs.Lists.{Has, AreDistinct}
 use Rattle.span_core.proofs.HasLaws.{Has-slice_get, Has-map_cases, Contains-Has}
+use Rattle.span_core.specs.NameSets.{has_name}
 use Rattle.spanner_model.proofs.NameLaws.{Has-list_any, list_any-Has}
 use Rattle.marked_automaton.specs.Marks.{bits_of}
 use Rattle.marked_automaton.proofs.Erasing.{same_name, name_itself, four_times, digit_before}
 use Rattle.marked_automaton.proofs.Listed.{some_same}
-use Rattle.algebra.specs.JoinedMarks.{has_name, agree_on, joined}
+use Rattle.algebra.specs.JoinedMarks.{agree_on, joined}
 use Rattle.algebra.specs.Renaming.{place_shift, shift_of, bits_up, moved_marks}
 use Rattle.algebra.proofs.Joins.{pair_same}
 

@@ -11,10 +11,11 @@ use Rattle.span_core.specs.Digits.{digit}
 use Rattle.span_core.specs.OrderLaws.{digits_tell}
 use Rattle.spanner_model.specs.Captures.{VarName, Mapping, row_of}
 use Rattle.span_core.specs.Lists.{Has}
+use Rattle.span_core.specs.NameSets.{has_name}
 use Rattle.spanner_model.proofs.NameLaws.{Has-list_any, list_any-Has}
 use Rattle.marked_automaton.specs.Marks.{bits_of}
 use Rattle.marked_automaton.proofs.Erasing.{digits, block_digits, bits_law}
-use Rattle.algebra.specs.JoinedMarks.{has_name, agree_on, joined}
+use Rattle.algebra.specs.JoinedMarks.{agree_on, joined}
 use Rattle.algebra.specs.Rows.{BlocksAgree, BlocksAreJoined, merged}
 use Rattle.marked_automaton.proofs.Passing.{both_true, left_true, right_true}
 

@@ -1,12 +1,8 @@
 -- The blocks of a join, from the blocks of its two parts.
 use Rattle.std.specs.Prelude.{ℕ, ◌+◌, ◌*◌, ◌^◌, Bool, true, List, [], ◌∷◌, length, if◌then◌else◌, nat_eq, ◌&&◌}
-use Rattle.std.specs.List.{list_any}
-use Rattle.std.specs.Str.{bytes_eq}
+use Rattle.span_core.specs.NameSets.{has_name}
 use Rattle.spanner_model.specs.Captures.{VarName}
 use Rattle.marked_automaton.specs.Marks.{bits_of}
-
-abbrev pub has_name : List VarName → VarName → Bool
-has_name names x = list_any (λ y. bytes_eq y x) names
 
 -- two blocks have the same bits of each of these names that both have
 abbrev pub agree_on : List VarName → List VarName → List VarName → ℕ → ℕ → Bool

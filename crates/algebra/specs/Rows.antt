@@ -5,7 +5,8 @@ use Rattle.span_core.specs.declared.span.Span.{Span}
 use Rattle.span_core.specs.Block.{block}
 use Rattle.spanner_model.specs.Captures.{VarName, Mapping, row_of}
 use Rattle.span_core.specs.Lists.{Has, AreDistinct}
-use Rattle.algebra.specs.JoinedMarks.{has_name, agree_on, joined}
+use Rattle.span_core.specs.NameSets.{has_name}
+use Rattle.algebra.specs.JoinedMarks.{agree_on, joined}
 
 -- each span of these variables lies in a document of so many bytes
 abbrev pub LiesWithin : ℕ → List VarName → Mapping → Type 0

@@ -8,6 +8,7 @@ use Rattle.std.proofs.lemmas.Bool.{le-leb, ltb-true}
 use Rattle.std.proofs.lemmas.List.{get_or-drop, length-drop}
 use Rattle.std.proofs.Math.Seq.{take-length}
 use Rattle.std.proofs.lemmas.Bool.Decides.{eqb_tells, leb_tells}
+use Rattle.std.proofs.Math.Bool.{or-false, and-false, or-true}
 use Rattle.memchr.specs.Find.{IsFirstByte, Nowhere, NoneBefore, Passes, is_byte, is_byte2, is_byte3}
 use Rattle.byte_runs.specs.Runs.{AreOutsideBelow, HaveSameBytes, IsTestBelow, is_outside}
 use Rattle.byte_runs.specs.declared.skipper.Leaving.{Leaving}
@@ -39,18 +40,6 @@ same_bytes s t e f b less = agree (contains s b) (contains t b) (none_is_outside
 pub all_bytes : (b : ℕ) → b < 256 → contains (bytes_between 0 255) b ≡ true
 all_bytes b less = contains-bytes_between 0 255 b ∙ ap (λ x. x && nat_le b 255) (le-leb 0 b (omega arith)) ∙ le-leb b 255 (omega arith)
 
-or_false : (x : Bool) → (x || false) ≡ x
-or_false true = refl
-or_false false = refl
-
-and_false : (x : Bool) → (x && false) ≡ false
-and_false true = refl
-and_false false = refl
-
-or_true : (x : Bool) → (x || true) ≡ true
-or_true true = refl
-or_true false = refl
-
 -- below one more number: below as before, or that number
 below_more : (b n : ℕ) → nat_lt b (n + 1) ≡ (nat_lt b n || (b == n))
 below_more b n = grind (arith, leb_tells (b + 1) (n + 1), leb_tells (b + 1) n, eqb_tells b n)
@@ -61,11 +50,11 @@ one_more set n old new out is grown b = grown b ∙ ap (λ x. x || (b == n)) (is
   where
     both : (((b == n) ≡ true) × (b ≡ n)) ⊎ (((b == n) ≡ false) × ((b ≡ n) → ⊥)) → ((nat_lt b n && is_outside set b) || (b == n)) ≡ (nat_lt b (n + 1) && is_outside set b)
     both (inl e) =
-        ap (λ x. (nat_lt b n && is_outside set b) || x) e.0 ∙ or_true (nat_lt b n && is_outside set b)
-        ∙ sym (ap (λ x. x && is_outside set b) (below_more b n ∙ ap (λ x. nat_lt b n || x) e.0 ∙ or_true (nat_lt b n)) ∙ ap not (ap (contains set) e.1 ∙ out))
+        ap (λ x. (nat_lt b n && is_outside set b) || x) e.0 ∙ or-true (nat_lt b n && is_outside set b)
+        ∙ sym (ap (λ x. x && is_outside set b) (below_more b n ∙ ap (λ x. nat_lt b n || x) e.0 ∙ or-true (nat_lt b n)) ∙ ap not (ap (contains set) e.1 ∙ out))
     both (inr e) =
-        ap (λ x. (nat_lt b n && is_outside set b) || x) e.0 ∙ or_false (nat_lt b n && is_outside set b)
-        ∙ sym (ap (λ x. x && is_outside set b) (below_more b n ∙ ap (λ x. nat_lt b n || x) e.0 ∙ or_false (nat_lt b n)))
+        ap (λ x. (nat_lt b n && is_outside set b) || x) e.0 ∙ or-false (nat_lt b n && is_outside set b)
+        ∙ sym (ap (λ x. x && is_outside set b) (below_more b n ∙ ap (λ x. nat_lt b n || x) e.0 ∙ or-false (nat_lt b n)))
 
 -- what is outside below one more number that is not
 none_more : (set : FinSet nat_cmp) (n : ℕ) (test : ℕ → Bool) → contains set n ≡ true → IsTestBelow n set test → IsTestBelow (n + 1) set test
@@ -74,8 +63,8 @@ none_more set n test inside is b = is b ∙ both (eqb_tells b n)
     both : (((b == n) ≡ true) × (b ≡ n)) ⊎ (((b == n) ≡ false) × ((b ≡ n) → ⊥)) → (nat_lt b n && is_outside set b) ≡ (nat_lt b (n + 1) && is_outside set b)
     both (inl e) =
         let no : is_outside set b ≡ false = ap not (ap (contains set) e.1 ∙ inside) in
-        ap (λ x. nat_lt b n && x) no ∙ and_false (nat_lt b n) ∙ sym (ap (λ x. nat_lt b (n + 1) && x) no ∙ and_false (nat_lt b (n + 1)))
-    both (inr e) = sym (ap (λ x. x && is_outside set b) (below_more b n ∙ ap (λ x. nat_lt b n || x) e.0 ∙ or_false (nat_lt b n)))
+        ap (λ x. nat_lt b n && x) no ∙ and-false (nat_lt b n) ∙ sym (ap (λ x. nat_lt b (n + 1) && x) no ∙ and-false (nat_lt b (n + 1)))
+    both (inr e) = sym (ap (λ x. x && is_outside set b) (below_more b n ∙ ap (λ x. nat_lt b n || x) e.0 ∙ or-false (nat_lt b n)))
 
 pub first_outside : (set : FinSet nat_cmp) (n : ℕ) → contains set n ≡ false → AreOutsideBelow n set NoByte → AreOutsideBelow (n + 1) set (One n)
 first_outside set n out is = one_more set n (λ b. false) (is_byte n) out is (λ b. refl)

@@ -1,57 +1,23 @@
 -- The rows of row lists stand in block order.
-use Rattle.std.proofs.Common.{◌≡◌, ◌⊎◌, ℕ, ◌+◌, ◌<◌, List, [], ◌∷◌, ◌++◌, map, inl, inr, refl, sym, ap, ◌∙◌, subst, arith, nat_eq, eq-eqb, ne_eqb}
+use Rattle.std.proofs.Common.{◌≡◌, ℕ, ◌+◌, ◌<◌, List, [], ◌∷◌, ◌++◌, map, inl, inr, refl, sym, ap, ◌∙◌, subst, arith, nat_eq, eq-eqb, ne_eqb}
 use Rattle.std.proofs.lemmas.Bool.{cases_eq, cases_lt, cond-true, cond-false}
 use Rattle.span_core.specs.Blocks.{listed}
 use Rattle.span_core.specs.Order.{StandsBefore}
 use Rattle.node_arena.specs.declared.row.Entry.{Entry}
 use Rattle.node_arena.specs.declared.row.Entry.TheVariants.{Nothing, Done, Row}
 use Rattle.span_core.specs.Lists.{Has}
-use Rattle.span_core.proofs.HasLaws.{Has-append_cases, Has-map_cases}
+use Rattle.span_core.proofs.HasLaws.{Has-map_cases}
 use Rattle.node_arena.specs.Words.{Word}
-use Rattle.output_graph.specs.Order.{LeadsBefore}
+use Rattle.output_graph.specs.Order.{Before, AreInOrder}
 use Rattle.output_graph.specs.Listed.{Lists, AreLists}
 use Rattle.node_arena.specs.Rows.{NamedRow, rows, HasRow, IsThere}
 use Rattle.output_graph.specs.RowLists.{AreMade, AreLed}
 use Rattle.enumerator.specs.Enumeration.{SpanRow, IsWordOfRow, AreInBlockOrder}
 use Rattle.enumerator.specs.Rows.{Positions, no_positions, row_under, rows_of}
 use Rattle.output_graph.proofs.RowLaws.{rows_nothing, rows_done}
+use Rattle.output_graph.proofs.OrderLemmas.{before_by_lead, in_order_map, in_order_append}
 use Rattle.enumerator.proofs.SeekLaws.{listed_led}
 use Rattle.enumerator.proofs.Words.{AscendsFrom, AreSome, are_some, ascends_from, listed_here, listed_other, listed_before, is_row_of_word}
-
--- ---- words in order
-
--- at the first position at which their blocks differ, the first word's block is the greater
-abbrev Before : Word → Word → Type 0
-Before [] v = ⊥
-Before (x ∷ w) [] = Unit {0}
-Before (x ∷ w) (y ∷ v) = LeadsBefore x (y ∷ v) ⊎ ((x ≡ y) × Before w v)
-
-abbrev AreInOrder : List Word → Type 0
-AreInOrder [] = Unit {0}
-AreInOrder (w ∷ ws) = ((v : Word) → Has ws v → Before w v) × AreInOrder ws
-
-before_by_lead : (x : ℕ × ℕ) (t y : Word) → LeadsBefore x y → Before (x ∷ t) y
-before_by_lead x t [] h = tt
-before_by_lead x t (z ∷ v) h = inl h
-
-in_order_map : (x : ℕ × ℕ) (ws : List Word) → AreInOrder ws → AreInOrder (map (λ w. x ∷ w) ws)
-in_order_map x [] h = tt
-in_order_map x (w ∷ ws) h = (
-  λ v there.
-      let r = Has-map_cases (λ (u : Word). x ∷ u) ws v there in
-      subst (λ y. Before (x ∷ w) y) r.2 (inr (refl, h.0 r.0 r.1)),
-  in_order_map x ws h.1,
-)
-
-in_order_append : (xs ys : List Word) → AreInOrder xs → AreInOrder ys → ((x y : Word) → Has xs x → Has ys y → Before x y) → AreInOrder (xs ++ ys)
-in_order_append [] ys a b f = b
-in_order_append (x ∷ xs) ys a b f = (
-  λ v there. elim (Has-append_cases xs ys v there) as (λ _. Before x v) [
-    | inl h ↦ a.0 v h
-    | inr h ↦ f x v (inl refl) h
-  ],
-  in_order_append xs ys a.1 b (λ p q hp hq. f p q (inr hp) hq),
-)
 
 -- what is led is in order
 rows_in_order : (store : List NamedRow) (e : Entry) → AreMade store → AreLed store → IsThere store e → AreInOrder (rows store e)

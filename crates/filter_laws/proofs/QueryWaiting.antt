@@ -8,12 +8,13 @@ use Rattle.spanner_model.specs.Answer.{vars_of_lets}
 use Rattle.span_core.specs.Lists.{Has}
 use Rattle.spanner_model.specs.Sound.{AreJoined, AreUnited, IsSoundExpr, IsSoundUnder, sure_of_lets}
 use Rattle.span_core.proofs.HasLaws.{Has-slice_get}
+use Rattle.span_core.specs.NameSets.{has_name}
 use Rattle.marked_automaton.specs.Automaton.{Automaton, IsWhole, Marked}
 use Rattle.marked_automaton.specs.Marks.{bits_of, left_of}
 use Rattle.marked_automaton.proofs.Erased.{bits_zero, left_zero}
 use Rattle.place_automaton.proofs.BuiltRepeats.{ordered_repeats}
 use Rattle.place_automaton.proofs.WholeLaws.{whole_law}
-use Rattle.algebra.specs.JoinedMarks.{agree_on, has_name, joined}
+use Rattle.algebra.specs.JoinedMarks.{agree_on, joined}
 use Rattle.algebra.specs.JoinedNames.{all_names}
 use Rattle.algebra.specs.Uniting.{graph_over}
 use Rattle.algebra.proofs.Alike.{remarked_whole}

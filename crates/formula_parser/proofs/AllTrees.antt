@@ -9,6 +9,7 @@ use Rattle.std.specs.FinSet as set
 use Rattle.std.specs.FinSet.{same_set, nat_cmp-IsAntisymmetric, contains-intersection, contains-empty}
 use Rattle.std.proofs.lemmas.Bool.{and_parts, cases_lt, true≢false}
 use Rattle.std.proofs.lemmas.Bool.Decides.{nat_tests}
+use Rattle.std.proofs.Math.Bool.{and-false}
 use Rattle.span_core.specs.Intervals.{Covers, AreApart}
 use Rattle.spanner_model.specs.Tree.{Tree, alt_end}
 use Rattle.unicode_classes.specs.Texts.{AreCharacters}
@@ -149,16 +150,12 @@ characters_in s = set.intersection all_characters s
 characters_are : (s : Bytes) → AreAllCharacters (characters_in s)
 characters_are s = λ c h. in_all c (and_parts (set.contains all_characters c) (set.contains s c) (sym (contains-intersection nat_cmp_total all_characters s c) ∙ h)).0
 
-and_false : (a : Bool) → (a && false) ≡ false
-and_false true = refl
-and_false false = refl
-
 characters_same : (s : Bytes) → AreAllCharacters s → characters_in s ≡ s
 characters_same s all = same_set nat_cmp_total nat_cmp-IsAntisymmetric (characters_in s) s (λ c. contains-intersection nat_cmp_total all_characters s c ∙ by c (set.contains s c) refl)
   where
     by : (c : ℕ) (b : Bool) → set.contains s c ≡ b → (set.contains all_characters c && set.contains s c) ≡ set.contains s c
     by c true e = ap (λ b. b && set.contains s c) (all_in c (all c e))
-    by c false e = ap (λ b. set.contains all_characters c && b) e ∙ and_false (set.contains all_characters c) ∙ sym e
+    by c false e = ap (λ b. set.contains all_characters c && b) e ∙ and-false (set.contains all_characters c) ∙ sym e
 
 -- the tree of a set that has ranges
 tree_of_ranges : EachSetHasATree → (ranges : List (ℕ × ℕ)) → AreApart ranges → AreCharacters ranges → Tree

@@ -2,7 +2,7 @@
 use Rattle.std.proofs.Common.{◌≡◌, Bool, true, false, List, [], ◌∷◌, inl, inr, refl, sym, ap, subst, ◌∙◌}
 use Rattle.std.specs.Prelude.{◌&&◌, ◌||◌, cond}
 use Rattle.std.specs.List.{filter, flat_map}
-use Rattle.span_core.specs.Lists.{Has}
+use Rattle.span_core.specs.Lists.{Has, AreDistinct}
 use Rattle.span_core.proofs.HasLaws.{Has-append_left, Has-append_right, Has-append_cases}
 
 pub has_flat_map : {X Y : Type 0} (f : X → List Y) (xs : List X) (x : X) (y : Y) → Has xs x → Has (f x) y → Has (flat_map f xs) y
@@ -27,6 +27,14 @@ filter_cases t (y ∷ xs) x h = go (filter_cases t xs x) (t y) refl h
     go rest true at (inl e) = (inl e, ap t (sym e) ∙ at)
     go rest true at (inr h) = let r = rest h in (inr r.0, r.1)
     go rest false at h = let r = rest h in (inr r.0, r.1)
+
+pub filter_distinct : {X : Type 0} (t : X → Bool) (xs : List X) → AreDistinct xs → AreDistinct (filter t xs)
+filter_distinct t [] d = tt
+filter_distinct {X} t (x ∷ xs) d = go (t x) (filter_distinct t xs d.1)
+  where
+    go : (b : Bool) → AreDistinct (filter t xs) → AreDistinct (cond b (x ∷ filter t xs) (filter t xs))
+    go true rest = ((λ h. d.0 (filter_cases t xs x h).0), rest)
+    go false rest = rest
 
 pub has_filter : {X : Type 0} (t : X → Bool) (xs : List X) (x : X) → Has xs x → t x ≡ true → Has (filter t xs) x
 has_filter t [] x h e = absurd h

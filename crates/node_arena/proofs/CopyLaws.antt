@@ -4,6 +4,7 @@ use Rattle.std.proofs.Math.Seq.{take-append_seam}
 use Rattle.std.proofs.lemmas.Bool.{cases_eq}
 use Rattle.std.proofs.lemmas.List.{length-map}
 use Rattle.std.specs.FinMap as fin_map
+use Rattle.std.proofs.lemmas.Option.{same_Some}
 use Rattle.span_core.specs.Lists.{Has}
 use Rattle.span_core.proofs.HasLaws.{Has-map, Has-map_cases}
 use Rattle.node_arena.specs.declared.TheConstants.{NONE, MOST_CELLS, MOST_HOLDS}
@@ -15,8 +16,8 @@ use Rattle.node_arena.specs.Copies.{renamed, renamed_one, IsOneToOne, IsCopy}
 use Rattle.node_arena.specs.Copying.{copy_in, HaveSlots, moved_node, AreMoved}
 use Rattle.node_arena.proofs.Branches.{if_same, if_apart}
 use Rattle.node_arena.proofs.Holds.{or_zero_positive}
-use Rattle.node_arena.proofs.NodeLaws.{node_here, node_past, node_none, node_there, cell_there, count_kept, some_not_none, same_node}
-use Rattle.node_arena.proofs.Counts.{cell_or_not, named_there, same_some}
+use Rattle.node_arena.proofs.NodeLaws.{node_here, node_past, node_none, node_there, cell_there, count_kept, some_not_none}
+use Rattle.node_arena.proofs.Counts.{cell_or_not, named_there}
 use Rattle.node_arena.proofs.Chains.{held_part, held_else, seen_is, seen_kept}
 
 module _ (copy : ℕ → ℕ) where
@@ -32,7 +33,7 @@ module _ (copy : ℕ → ℕ) where
 
   pub some_renamed : (o : Option ℕ) (c : ℕ) → renamed_one copy o ≡ Some c → (d : ℕ) × (o ≡ Some d) × (copy d ≡ c)
   some_renamed None c e = absurd (some_not_none c e)
-  some_renamed (Some d) c e = (d, refl, same_some (copy d) c e)
+  some_renamed (Some d) c e = (d, refl, same_Some (copy d) c e)
 
   one_older : (l : NamedLink) (older : List NamedLink) → IsOneToOne copy (l ∷ older) → IsOneToOne copy older
   one_older l older one c d hc hd e = one c d (hc.0, inr hc.1, hc.2) (hd.0, inr hd.1, hd.2) e
@@ -103,7 +104,7 @@ module _ (copy : ℕ → ℕ) where
     node_moved count other newer (l ∷ older) c n one e same =
         elim (cases_eq l.name c) as (λ _. node_at other (copy newer) (map (renamed copy) (l ∷ older)) (copy c) ≡ Some (moved_node copy n)) [
           | inl is ↦
-              let mine : n ≡ node_of (count c) newer (first_of older) l = same_node n _ (sym e ∙ node_here count newer l older c is) in
+              let mine : n ≡ node_of (count c) newer (first_of older) l = same_Some n _ (sym e ∙ node_here count newer l older c is) in
               node_here other (copy newer) (renamed copy l) (map (renamed copy) older) (copy c) (ap copy is)
               ∙ (ap (λ k. Some (node_of k (copy newer) (first_of (map (renamed copy) older)) (renamed copy l))) same
               ∙ (ap Some (node_renamed (count c) newer l older) ∙ ap (λ (x : Node). Some (moved_node copy x)) (sym mine)))

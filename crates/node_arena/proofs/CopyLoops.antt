@@ -3,6 +3,7 @@ use Rattle.std.proofs.Common.{map as map_list}
 use Rattle.std.proofs.Common.{◌≡◌, ℕ, zero, suc, ◌++◌, take, drop, slice_set, ◌-◌, ◌<◌, ◌⊎◌, inl, inr, List, [], ◌∷◌, length, get_or, Option, Some, None, IsSome, IfSome, is_some, refl, sym, ap, ap₂, subst, ◌∙◌, arith}
 use Rattle.std.proofs.lemmas.Bool.{cases_eq}
 use Rattle.std.specs.FinMap as map
+use Rattle.std.proofs.lemmas.Option.{same_Some}
 use Rattle.node_arena.proofs.Maps.{insert_here, insert_other, empty_at}
 use Rattle.node_arena.specs.declared.TheConstants.{NONE, MOST_CELLS}
 use Rattle.node_arena.specs.declared.node.Node.{Node}
@@ -10,7 +11,7 @@ use Rattle.node_arena.specs.declared.numbers.Numbers.{Numbers}
 use Rattle.node_arena.specs.Cells.{NamedLink, Cells, HasCell, AreLinked}
 use Rattle.node_arena.specs.Nodes.{Nodes, IsKept, node_at, node_of, first_of, count_of}
 use Rattle.node_arena.specs.Copying.{HaveSlots, IsPut, moved_node, AreMoved, copy_in}
-use Rattle.node_arena.proofs.NodeLaws.{node_here, node_past, same_node, some_not_none}
+use Rattle.node_arena.proofs.NodeLaws.{node_here, node_past, some_not_none}
 
 -- from the number `at` on there are these cells, so many
 pub record IsLeft (nodes : Nodes) (cells left : List NamedLink) (at number : ℕ) : Type 0 where
@@ -41,7 +42,7 @@ module _ (nodes : Nodes) (cells : List NamedLink) (l : NamedLink) (older : List 
   next_left node e = record {
     count = left.count;
     newer = l.name;
-    first = ap (λ (x : Node). x.older) (same_node node _ (sym e ∙ here_is));
+    first = ap (λ (x : Node). x.older) (same_Some node _ (sym e ∙ here_is));
     number_is = let n = left.number_is in omega arith;
     linked = left.linked.1;
     stored = λ c h. left.stored c (h.0, inr h.1, h.2) ∙ node_past left.count left.newer l older c (λ e. left.linked.0.fresh (subst (λ x. HasCell older x) (sym e) h));
@@ -75,7 +76,7 @@ some_node nodes cells (l ∷ older) at number walk some = ap is_some (here_is no
 
 next_is : (o : Option Node) (node : Node) (next : ℕ) → o ≡ Some node → IfSome o (λ n. next ≡ n.older) → next ≡ node.older
 next_is None node next e is = absurd (some_not_none node e)
-next_is (Some n) node next e is = is ∙ ap (λ (x : Node). x.older) (same_node n node e)
+next_is (Some n) node next e is = is ∙ ap (λ (x : Node). x.older) (same_Some n node e)
 
 -- no slot is in use
 slots_none : (copy : ℕ → ℕ) (copies : Nodes) (P : ℕ → Type 0) → copies ≡ map.empty → ((c : ℕ) → P c → ⊥) → HaveSlots copy copies P
@@ -240,7 +241,7 @@ move_by nodes copies copy cells (l ∷ older) at number node walk slots moved so
       slots = slots_set copy copies (HasCell cells) at (copy at) (moved_node copy node) slots mine refl;
       moved = λ c n p f. elim (here_or_past nodes cells l older at number walk c p.1) as (λ _. map.get (map.insert copies (copy at) (moved_node copy node)) (copy c) ≡ Some (moved_node copy n)) [
         | inl is ↦
-            let same : node ≡ n = same_node node n (sym e ∙ (ap (map.get nodes) (sym is) ∙ f)) in
+            let same : node ≡ n = same_Some node n (sym e ∙ (ap (map.get nodes) (sym is) ∙ f)) in
             ap (map.get (map.insert copies (copy at) (moved_node copy node))) (ap copy is)
             ∙ (insert_here copies (copy at) (moved_node copy node) ∙ ap (λ (x : Node). Some (moved_node copy x)) same)
         | inr r ↦ insert_other copies (copy at) (moved_node copy node) (copy c) (λ g. r.0 (slots.apart c at p.0 mine g)) ∙ moved c n (p.0, r.1) f

@@ -3,15 +3,12 @@ use Rattle.std.proofs.Common.{◌≡◌, ℕ, suc, ◌+◌, ◌-◌, ◌^◌, �
 use Rattle.std.proofs.lemmas.Bool.{cases_eq, or_cases, false≢true}
 use Rattle.std.proofs.lemmas.Map.Steps.{length-le_from_distinct_below}
 use Rattle.std.specs.List.{IsDistinct, AllByRecursion, list_any}
-use Rattle.std.proofs.lemmas.Option.{none-some}
+use Rattle.std.proofs.lemmas.Option.{none-some, same_Some}
 use Rattle.span_core.specs.Lists.{Has}
 use Rattle.node_arena.specs.declared.TheConstants.{MOST_CELLS, MOST_HOLDS, DONE}
 use Rattle.node_arena.specs.Cells.{NamedLink, Holds, HasCell, Names, IsNamed, IsUnnamed, AreLinked, hold}
 use Rattle.node_arena.specs.Nodes.{names_once, named_times, count_of}
 use Rattle.node_arena.proofs.Branches.{if_same, if_apart}
-
-pub same_some : {X : Type 0} (x y : X) → Some x ≡ Some y → x ≡ y
-same_some x y e = cc
 
 -- a name is that of a cell or not
 pub cell_or_not : (cells : List NamedLink) (c : ℕ) → HasCell cells c ⊎ (HasCell cells c → ⊥)
@@ -36,7 +33,7 @@ pub names_or_not : (o : Option ℕ) (c : ℕ) → (o ≡ Some c) ⊎ (o ≡ Some
 names_or_not None c = inr (λ e. absurd (none-some c e))
 names_or_not (Some d) c = elim (cases_eq d c) as (λ _. (Some d ≡ Some c) ⊎ (Some d ≡ Some c → ⊥)) [
   | inl e ↦ inl (ap Some e)
-  | inr ne ↦ inr (λ is. ne (same_some d c is))
+  | inr ne ↦ inr (λ is. ne (same_Some d c is))
 ]
 
 pub once_at_most : (o : Option ℕ) (c : ℕ) → names_once o c ≤ 1

@@ -2,6 +2,7 @@
 use Rattle.std.proofs.Common.{◌≡◌, ℕ, ◌+◌, ◌-◌, if◌then◌else◌, nat_eq, nat_lt, inl, inr, List, [], ◌∷◌, Option, Some, None, is_some, refl, sym, ap, subst, ◌∙◌, arith}
 use Rattle.std.proofs.lemmas.Bool.{cases_eq, cond-true, cond-false}
 use Rattle.std.specs.FinMap as map
+use Rattle.std.proofs.lemmas.Option.{same_Some}
 use Rattle.node_arena.specs.declared.TheConstants.{NONE}
 use Rattle.node_arena.specs.declared.node.Node.{Node}
 use Rattle.span_core.specs.Lists.{Has}
@@ -9,7 +10,7 @@ use Rattle.node_arena.specs.Cells.{NamedLink, HasCell}
 use Rattle.node_arena.specs.Nodes.{Nodes, Stored, AreWaiting, threaded, first_waiting, number_of, names_once, lowered, lowered_by, IsEnd}
 use Rattle.node_arena.proofs.Branches.{if_same, if_apart, lt_true, lt_false}
 use Rattle.node_arena.proofs.NodeLaws.{node_none, node_there, same_count, count_kept, recounted}
-use Rattle.node_arena.proofs.Counts.{named_one, named_zero, same_some}
+use Rattle.node_arena.proofs.Counts.{named_one, named_zero}
 
 pub threaded_same : (waiting : List ℕ) (f g : ℕ → ℕ) (c : ℕ) → f c ≡ g c → threaded waiting f c ≡ threaded waiting g c
 threaded_same [] f g c e = e
@@ -72,7 +73,7 @@ module _ (nodes : Nodes) (f g : ℕ → ℕ) (cells : List NamedLink) (waiting :
       let idle : Has waiting d → ⊥ = λ h. let z = waiting_zero f cells waiting d stored.each h in absurd (omega arith) in
       let kept = count_kept (threaded waiting f) NONE cells d n r.1 in
       let is : n.count ≡ g d + 1 = kept ∙ (threaded_other waiting f d idle ∙ fd) in
-      let others : (c : ℕ) → (c ≡ d → ⊥) → f c ≡ g c = λ c ne. let e = less c in let z = named_zero (Some d) c (λ q. ne (sym (same_some d c q))) in omega arith in
+      let others : (c : ℕ) → (c ≡ d → ⊥) → f c ≡ g c = λ c ne. let e = less c in let z = named_zero (Some d) c (λ q. ne (sym (same_Some d c q))) in omega arith in
       let less_zero : (c : ℕ) → f c ≡ 0 → g c ≡ 0 = λ c z. let e = less c in omega arith in
       let fewer : Nodes = map.insert nodes d (record n { count = n.count - 1 }) in
       let last : Nodes = map.insert nodes d (record n { count = first_waiting waiting }) in

@@ -2,6 +2,7 @@
 use Rattle.std.proofs.Common.{◌≡◌, ℕ, ◌+◌, ◌-◌, ◌<◌, ◌≤◌, if◌then◌else◌, nat_eq, ◌⊎◌, inl, inr, List, [], ◌∷◌, length, Some, IsSome, IfSome, is_some, refl, sym, ap, ap₂, subst, ◌∙◌, arith}
 use Rattle.std.proofs.lemmas.Bool.{cases_eq}
 use Rattle.std.specs.FinMap as map
+use Rattle.std.proofs.lemmas.Option.{same_Some}
 use Rattle.node_arena.proofs.Maps.{remove_other}
 use Rattle.node_arena.specs.declared.TheConstants.{NONE, MOST_CELLS, MOST_HOLDS}
 use Rattle.node_arena.specs.declared.node.Node.{Node}
@@ -12,7 +13,7 @@ use Rattle.node_arena.specs.Nodes.{Nodes, IsKept, Stored, AreWaiting, threaded, 
 use Rattle.node_arena.proofs.Branches.{if_same}
 use Rattle.node_arena.proofs.Holds.{hold_here, hold_other}
 use Rattle.node_arena.proofs.NodeLaws.{node_there, node_none, same_count}
-use Rattle.node_arena.proofs.Counts.{named_one, named_zero, some_named, none_unnamed, named_there, same_some}
+use Rattle.node_arena.proofs.Counts.{named_one, named_zero, some_named, none_unnamed, named_there}
 use Rattle.node_arena.proofs.Without.{Taken, taken, unlinked_stored, without_keeps, without_gone, length_without, linked_without, cell_before_without}
 use Rattle.node_arena.proofs.Unlinking.{newer_there, older_there, newer_apart, older_apart, first_without}
 use Rattle.node_arena.proofs.KeptLaws.{if_some}
@@ -52,7 +53,7 @@ module _ (nodes : Nodes) (newest live : ℕ) (v : Cells) (kept : IsKept nodes ne
         (let h = hold_here v.holds cell (hold v.holds cell - 1) in let one = named_one (Some cell) cell refl in omega arith)
     | inr ne ↦
         let h = hold_other v.holds cell (hold v.holds cell - 1) c ne in
-        let z = named_zero (Some cell) c (λ e. ne (sym (same_some cell c e))) in
+        let z = named_zero (Some cell) c (λ e. ne (sym (same_Some cell c e))) in
         omega arith
   ]
 
@@ -68,7 +69,7 @@ module _ (nodes : Nodes) (newest live : ℕ) (v : Cells) (kept : IsKept nodes ne
 
   pub release_end : (k : ℕ) → k ≡ cell → IsEnd nodes k
   release_end k e = subst (λ x. IsEnd nodes x) (sym e)
-      (end_of nodes (count_of v.holds v.cells) holds_count v.cells [] all_counted (no_cell v.cells kept.small) (Some cell) (λ d is. subst (λ x. HasCell v.cells x) (same_some cell d is) there))
+      (end_of nodes (count_of v.holds v.cells) holds_count v.cells [] all_counted (no_cell v.cells kept.small) (Some cell) (λ d is. subst (λ x. HasCell v.cells x) (same_Some cell d is) there))
     where
       holds_count : ℕ → ℕ
       holds_count c = count_of holds v.cells c
@@ -83,7 +84,7 @@ module _ (nodes : Nodes) (newest live : ℕ) (v : Cells) (kept : IsKept nodes ne
   release_begins new k pending ek en ep =
       let r : IsLowered (count_of holds v.cells) v.cells (lowered nodes cell NONE) =
       lower_stored nodes (count_of v.holds v.cells) (count_of holds v.cells) v.cells [] all_counted (no_cell v.cells kept.small) (Some cell)
-      (λ d is. subst (λ x. HasCell v.cells x) (same_some cell d is) there) less in
+      (λ d is. subst (λ x. HasCell v.cells x) (same_Some cell d is) there) less in
       let en' : new ≡ (lowered nodes cell NONE).0 = en ∙ ap (λ x. (lowered nodes x NONE).0) ek in
       record {
         cells = v.cells;

@@ -2,13 +2,14 @@
 use Rattle.std.proofs.Common.{◌≡◌, ℕ, suc, ◌+◌, inl, inr, List, [], ◌∷◌, length, Some, refl, sym, ap, subst, ◌∙◌, arith}
 use Rattle.std.proofs.lemmas.Bool.{cases_eq}
 use Rattle.std.specs.FinMap as map
+use Rattle.std.proofs.lemmas.Option.{same_Some}
 use Rattle.node_arena.specs.declared.TheConstants.{NONE}
 use Rattle.node_arena.specs.declared.node.Node.{Node}
 use Rattle.span_core.specs.Lists.{Has}
 use Rattle.node_arena.specs.Cells.{NamedLink, HasCell, IsUnnamed, AreLinked, Follows, without}
 use Rattle.node_arena.specs.Nodes.{Nodes, AreNodes, node_at, number_of, names_once, named_times, unlinked}
 use Rattle.node_arena.proofs.Branches.{if_same, if_apart}
-use Rattle.node_arena.proofs.NodeLaws.{node_here, node_past, node_none, same_node, some_not_none}
+use Rattle.node_arena.proofs.NodeLaws.{node_here, node_past, node_none, some_not_none}
 use Rattle.node_arena.proofs.Counts.{cell_or_not}
 use Rattle.node_arena.proofs.Unlinking.{rejoined, unlinked_here, unlinked_other, node_without}
 
@@ -105,7 +106,7 @@ pub taken : (count : ℕ → ℕ) (newer : ℕ) (cells : List NamedLink) (k : �
 taken count newer [] k n e = absurd (some_not_none n e)
 taken count newer (l ∷ older) k n e = elim (cases_eq l.name k) as (λ _. Taken count (l ∷ older) k n) [
   | inl is ↦
-      let node = same_node n _ (sym e ∙ node_here count newer l older k is) in
+      let node = same_Some n _ (sym e ∙ node_here count newer l older k is) in
       record {
         link = l;
         there = inl refl;

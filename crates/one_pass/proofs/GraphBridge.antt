@@ -1,7 +1,6 @@
 -- A graph shows only the sources that are still to be stepped; a pass sees it with the whole layer.
 use Rattle.std.proofs.Common.{◌≡◌, ℕ, zero, suc, ◌+◌, ◌<◌, ◌⊎◌, Bool, true, false, List, [], ◌∷◌, ◌++◌, length, drop, map, Some, inl, inr, refl, sym, ap, subst, arith, ◌∙◌, nat_eq, if◌then◌else◌}
 use Rattle.std.specs.Prelude.{◌↔◌, slice_get}
-use Rattle.std.specs.List.{AllByRecursion}
 use Rattle.std.specs.Option.{unwrap_or}
 use Rattle.std.proofs.Math.Seq.{drop-cons}
 use Rattle.std.proofs.lemmas.Bool.{eqb-true, eq-eqb, false≢true}
@@ -9,6 +8,7 @@ use Rattle.std.proofs.lemmas.List.{length-map}
 use Rattle.span_core.specs.Lists.{Has, AreDistinct, IsInOrder}
 use Rattle.span_core.proofs.HasLaws.{Has-append_left, Has-append_right, Has-append_cases, Has-map, Has-map_cases}
 use Rattle.span_core.specs.declared.edge.Edge.{Edge}
+use Rattle.span_core.proofs.ListLaws.{all_has}
 use Rattle.output_graph.specs.Cells.{NamedLink}
 use Rattle.output_graph.specs.Source as edge
 use Rattle.output_graph.specs.Graph as out
@@ -63,17 +63,12 @@ numbers_are cells (p ∷ layer) = ap (λ xs. p.0 ∷ xs) (numbers_are cells laye
 
 -- ---- blocks descend
 
-each_has : {X : Type 0} (R : X → Type 0) (xs : List X) (x : X) → AllByRecursion R xs → Has xs x → R x
-each_has R [] x a h = absurd h
-each_has R (y ∷ ys) x a (inl e) = subst R e a.0
-each_has R (y ∷ ys) x a (inr h) = each_has R ys x a.1 h
-
 pub descend_edges : (es : List Edge) → IsInOrder (λ (e f : Edge). f.marks < e.marks) es → edge.Descend (edges_of es)
 descend_edges [] h = tt
 descend_edges (e ∷ es) h = (
   λ f k.
       let g = Has-map_cases (λ (e : Edge). (e.marks, e.to)) es f k in
-      subst (λ (p : ℕ × ℕ). p.0 < e.marks) g.2 (each_has (λ (f : Edge). f.marks < e.marks) es g.0 h.0 g.1),
+      subst (λ (p : ℕ × ℕ). p.0 < e.marks) g.2 (all_has (λ (f : Edge). f.marks < e.marks) es g.0 h.0 g.1),
   descend_edges es h.1,
 )
 
@@ -82,7 +77,7 @@ descend_ends [] h = tt
 descend_ends (m ∷ ms) h = (
   λ f k.
       let g = Has-map_cases (λ (m : ℕ). let p : ℕ × ℕ = (m, 0) in p) ms f k in
-      subst (λ (p : ℕ × ℕ). p.0 < m) g.2 (each_has (λ (n : ℕ). n < m) ms g.0 h.0 g.1),
+      subst (λ (p : ℕ × ℕ). p.0 < m) g.2 (all_has (λ (n : ℕ). n < m) ms g.0 h.0 g.1),
   descend_ends ms h.1,
 )
 

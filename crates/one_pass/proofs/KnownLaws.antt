@@ -10,7 +10,7 @@ use Rattle.span_core.proofs.HasLaws.{Has-take_more_cases}
 use Rattle.span_core.specs.declared.edge.Edge.{Edge}
 use Rattle.marked_automaton.specs.Automaton.{Automaton}
 use Rattle.span_core.specs.Lists.{Has}
-use Rattle.span_core.proofs.ListLaws.{get_left, get_set_same, get_last}
+use Rattle.span_core.proofs.ListLaws.{get_left, get_set_same, get_last, zeros, either_part}
 use Rattle.automaton_reading.specs.Reading.{LookUp, byte_read, Reach, edges}
 use Rattle.output_graph.specs.Source.{Edges}
 use Rattle.output_graph.proofs.SetLaws.{get_set_other, take_all}
@@ -130,16 +130,6 @@ known_layer t layers entries steps s known = record {
     still_true b sets e (inr (inr (p, step, is, at, of))) = inr (inr (p, step, is, at, record { look_ups = of.look_ups; next = with_keeps layers s step.next step.program.targets of.next }))
 
 -- ---- more entries, which are unknown
-
-zeros : (n k e : ℕ) → slice_get (replicate n 0) k ≡ Some e → e ≡ 0
-zeros zero k e at = cc
-zeros (suc n) zero e at = sym (same_Some 0 e at)
-zeros (suc n) (suc k) e at = zeros n k e at
-
-either_part : (xs ys : List ℕ) (k e : ℕ) → slice_get (xs ++ ys) k ≡ Some e → (slice_get xs k ≡ Some e) ⊎ ((j : ℕ) × (slice_get ys j ≡ Some e))
-either_part [] ys k e at = inr (k, at)
-either_part (x ∷ xs) ys zero e at = inl at
-either_part (x ∷ xs) ys (suc k) e at = either_part xs ys k e at
 
 zeros_length : (n : ℕ) → length {A = ℕ} (replicate n 0) ≡ n
 zeros_length zero = refl

@@ -1,6 +1,7 @@
 -- Plans: one edge more, and one source more.
 use Rattle.std.proofs.Common.{◌≡◌, ℕ, zero, suc, ◌+◌, ◌<◌, ◌≤◌, Bool, true, false, IsTrue, ◌||◌, List, [], ◌∷◌, ◌++◌, take, drop, length, refl, sym, ap, ◌∙◌, subst, arith, set, append_assoc, append-nil, length-append}
 use Rattle.std.proofs.lemmas.List.{length-map}
+use Rattle.std.proofs.Math.Bool.{or-false}
 use Rattle.span_core.specs.declared.edge.Edge.{Edge}
 use Rattle.output_graph.specs.declared.program.Action.{Action}
 use Rattle.output_graph.specs.declared.program.Move.{Move}
@@ -38,16 +39,12 @@ actions_more k s (x ∷ xs) m =
     ap (λ (xs : List Action). acts (hands_on s.held x) k s x ++ xs) (actions_more k t xs m)
     ∙ sym (append_assoc (acts (hands_on s.held x) k s x) (actions_after k t xs) (acts (hands_on (places_after k t xs).held m) k (places_after k t xs) m))
 
-or_false : (b : Bool) → (b || false) ≡ b
-or_false true = refl
-or_false false = refl
-
 or_assoc : (a b c : Bool) → (a || (b || c)) ≡ ((a || b) || c)
 or_assoc true b c = refl
 or_assoc false b c = refl
 
 pub keeps_more : (k : ℕ) (s : Places) (xs : List Move) (m : Move) → keeps k s (xs ++ m ∷ []) ≡ (keeps k s xs || hands_on (places_after k s xs).held m)
-keeps_more k s [] m = or_false (hands_on s.held m)
+keeps_more k s [] m = or-false (hands_on s.held m)
 keeps_more k s (x ∷ xs) m =
     let t : Places = moved (hands_on s.held x) k s x in
     ap (λ (b : Bool). hands_on s.held x || b) (keeps_more k t xs m) ∙ or_assoc (hands_on s.held x) (keeps k t xs) (hands_on (places_after k t xs).held m)

@@ -2,9 +2,9 @@
 use Rattle.std.proofs.Common.{◌≡◌, ◌+◌, ℕ, List, [], ◌∷◌, ◌++◌, take, drop, Some, inl, inr, sym, ap, ◌∙◌, subst}
 use Rattle.std.specs.Prelude.{slice_get}
 use Rattle.std.proofs.lemmas.List.{take-append-drop}
+use Rattle.span_core.proofs.ListLaws.{at_drop}
 use Rattle.spanner_model.specs.Captures.{VarName}
 use Rattle.spanner_model.specs.Tree.{Tree, cat, cat_all}
-use Rattle.spanner_model.proofs.TreeLaws.{split_at}
 use Rattle.spanner_model.specs.Sequential.{HasVar, IsSequential}
 use Rattle.place_automaton.specs.Repeats.{HasOrderedRepeats}
 use Rattle.place_automaton.proofs.NullCounts.{IsCountable}
@@ -35,7 +35,7 @@ front_ordered (u ∷ ts) t us ok = let r = front_ordered ts t us ok.1 in ((ok.0,
 pub front_countable : (names : List VarName) (ts : List Tree) (k : ℕ) (t : Tree) → slice_get ts k ≡ Some t → IsCountable names (cat_all ts) → IsCountable names (cat (cat_all (take k ts)) t)
 front_countable names ts k t at ok =
     let us = drop (k + 1) ts in
-    let e : ts ≡ take k ts ++ t ∷ us = sym (take-append-drop k ts) ∙ ap (λ vs. take k ts ++ vs) (split_at ts k t at) in
+    let e : ts ≡ take k ts ++ t ∷ us = sym (take-append-drop k ts) ∙ ap (λ vs. take k ts ++ vs) (at_drop ts k t at) in
     let all = subst (λ vs. IsCountable names (cat_all vs)) e ok in (
       front_sequential (take k ts) t us all.0,
       front_ordered (take k ts) t us all.1,

@@ -10,6 +10,7 @@ use Rattle.span_core.specs.Lists.{Has, AreDistinct}
 use Rattle.span_core.specs.Block.{opening_bit, closing_bit, marker, markers, markers_from, block}
 use Rattle.spanner_model.specs.Tree.{Tree, empty, one, cat_end, cat, alt_end, alt, rep, cap}
 use Rattle.span_core.specs.declared.span.Span.{Span}
+use Rattle.span_core.proofs.NameSetLaws.{names_differ}
 use Rattle.spanner_model.proofs.CapturesLaws.{Captured-append_cases, row_same}
 use Rattle.spanner_model.proofs.FitLaws.{fit_only_vars}
 use Rattle.spanner_model.proofs.AnswerLaws.{span_of-absent}
@@ -72,18 +73,11 @@ fit_once (alt f rest) d i j m (inr h) = fit_once rest d i j m h
 fit_once (rep f least most) d i j m h = times_once (Fit f d) (λ i j m. fit_once f d i j m) h.0 i j m h.3
 fit_once (cap x f) d i j m h = subst IsOnce (sym h.6) (h.5, fit_once f d i j h.1 h.4)
 
-other_name : (x y : VarName) → (x ≡ y → ⊥) → bytes_eq x y ≡ false
-other_name x y h = go (bytes_eq x y) refl
-  where
-    go : (b : Bool) → bytes_eq x y ≡ b → bytes_eq x y ≡ false
-    go true e = absurd (h (same_name x y e))
-    go false e = e
-
 -- the other names have the spans that they had
 others : (names : List VarName) (x : VarName) (s : Span) (m : Captures) → (Has names x → ⊥) → map (span_of ((x, s) ∷ m)) names ≡ map (span_of m) names
 others [] x s m h = refl
 others (y ∷ names) x s m h =
-    let e : span_of ((x, s) ∷ m) y ≡ span_of m y = ap (λ b. if b then Some s else span_of m y) (other_name x y (λ e. h (inl (sym e)))) in
+    let e : span_of ((x, s) ∷ m) y ≡ span_of m y = ap (λ b. if b then Some s else span_of m y) (names_differ x y (λ e. h (inl (sym e)))) in
     λ i. e i ∷ others names x s m (λ a. h (inr a)) i
 
 none_block : (names : List VarName) (p : ℕ) → block_at (row_of names (span_of [])) p ≡ 0
@@ -119,7 +113,7 @@ module _ (p : ℕ) where
           omega (arith, new_head, old_head, bits_here, tails)
       go rest false e k =
           let apart : y ≡ x → ⊥ = λ a. false≢true (sym e ∙ name_itself y x a) in
-          let head : span_of ((x, s) ∷ m) y ≡ span_of m y = ap (λ b. if b then Some s else span_of m y) (other_name x y (λ a. apart (sym a))) in
+          let head : span_of ((x, s) ∷ m) y ≡ span_of m y = ap (λ b. if b then Some s else span_of m y) (names_differ x y (λ a. apart (sym a))) in
           let there : Has names x = elim k [ inl a ↦ absurd (apart a) | inr a ↦ a ] in
           let l1 = length-map names (span_of ((x, s) ∷ m)) in
           let l2 = length-map names (span_of m) in

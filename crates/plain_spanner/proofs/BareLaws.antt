@@ -4,19 +4,18 @@ use Rattle.std.specs.Prelude.{slice_get}
 use Rattle.span_core.specs.Lists.{Has}
 use Rattle.spanner_model.specs.Captures.{VarName}
 use Rattle.spanner_model.specs.Tree.{Tree, cat_all}
-use Rattle.spanner_model.specs.Sequential.{HasVar}
+use Rattle.spanner_model.specs.Sequential.{HasVar, HasNoVar}
 use Rattle.span_core.proofs.HasLaws.{Has-append_cases, Has-take}
 use Rattle.spanner_model.proofs.TreeLaws.{take_at_more, parts_have, part_has}
-use Rattle.plain_spanner.specs.Listed.{IsBare}
 
-pub bare_same : (f g : Tree) → ((x : VarName) → HasVar g x ↔ HasVar f x) → IsBare g ↔ IsBare f
+pub bare_same : (f g : Tree) → ((x : VarName) → HasVar g x ↔ HasVar f x) → HasNoVar g ↔ HasNoVar f
 bare_same f g same = (λ b x v. b x ((same x).1 v), λ b x v. b x ((same x).0 v))
 
 -- a part of what is bare
-pub bare_part : (ts : List Tree) (t : Tree) → Has ts t → IsBare (cat_all ts) → IsBare t
+pub bare_part : (ts : List Tree) (t : Tree) → Has ts t → HasNoVar (cat_all ts) → HasNoVar t
 bare_part ts t has b x v = b x (part_has ts t x has v)
 
-pub bare_more : (ts : List Tree) (k : ℕ) (t : Tree) → slice_get ts k ≡ Some t → IsBare (cat_all (take k ts)) → IsBare t → IsBare (cat_all (take (k + 1) ts))
+pub bare_more : (ts : List Tree) (k : ℕ) (t : Tree) → slice_get ts k ≡ Some t → HasNoVar (cat_all (take k ts)) → HasNoVar t → HasNoVar (cat_all (take (k + 1) ts))
 bare_more ts k t at b one x v =
     let p = parts_have (take k ts ++ t ∷ []) x (subst (λ us. HasVar (cat_all us) x) (take_at_more ts k t at) v) in
     elim (Has-append_cases (take k ts) (t ∷ []) p.0 p.1) [
@@ -24,5 +23,5 @@ bare_more ts k t at b one x v =
       | inr a ↦ elim a [ inl e ↦ one x (subst (λ (u : Tree). HasVar u x) (sym e) p.2) | inr n ↦ n ]
     ]
 
-pub bare_take : (ts : List Tree) (k : ℕ) → IsBare (cat_all ts) → IsBare (cat_all (take k ts))
+pub bare_take : (ts : List Tree) (k : ℕ) → HasNoVar (cat_all ts) → HasNoVar (cat_all (take k ts))
 bare_take ts k b x v = let p = parts_have (take k ts) x v in b x (part_has ts p.0 x (Has-take ts k p.0 p.1) p.2)

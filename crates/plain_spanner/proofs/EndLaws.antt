@@ -9,7 +9,8 @@ use Rattle.spanner_model.specs.Captures.{Captures}
 use Rattle.spanner_model.specs.Tree.{Tree, one, cat_all, alt_all}
 use Rattle.spanner_model.specs.Fit.{Piece, Times, Nothing, Fit}
 use Rattle.spanner_model.proofs.FitLaws.{fit_no_vars, fit_within, times_within}
-use Rattle.plain_spanner.specs.Listed.{Tells, FromSome, IsBare, LeadsOn, LeadsIn, has_number}
+use Rattle.spanner_model.specs.Sequential.{HasNoVar}
+use Rattle.plain_spanner.specs.Listed.{Tells, FromSome, LeadsOn, LeadsIn, has_number}
 use Rattle.plain_spanner.proofs.PartLists.{cat_more_split, cat_more_join, cat_begins, arm_of, of_arm}
 use Rattle.plain_spanner.proofs.TellsLaws.{tells_pushed}
 
@@ -44,7 +45,7 @@ module _ (d : List ℕ) (ts : List Tree) (k : ℕ) (t : Tree) (at : slice_get ts
   nothing_of : (P : Piece) (i j : ℕ) (m : Captures) → ((i j : ℕ) (m : Captures) → P i j m → m ≡ []) → P i j m → P i j []
   nothing_of P i j m bare p = subst (λ n. P i j n) (bare i j m p) p
 
-  pub turn_splits : IsBare (cat_all (take k ts)) → IsBare t → (i j : ℕ) → Fit (cat_all (take (k + 1) ts)) d i j [] → (n : ℕ) × Fit (cat_all (take k ts)) d i n [] × Fit t d n j []
+  pub turn_splits : HasNoVar (cat_all (take k ts)) → HasNoVar t → (i j : ℕ) → Fit (cat_all (take (k + 1) ts)) d i j [] → (n : ℕ) × Fit (cat_all (take k ts)) d i n [] × Fit t d n j []
   turn_splits firsts bare i j h =
       let s = cat_more_split d ts k t i j [] at h in
       (s.0, nothing_of (Fit (cat_all (take k ts)) d) i s.0 s.1 (λ i j m. fit_no_vars (cat_all (take k ts)) d i j m firsts) s.3, nothing_of (Fit t d) s.0 j s.2 (λ i j m. fit_no_vars t d i j m bare) s.4)
@@ -52,7 +53,7 @@ module _ (d : List ℕ) (ts : List Tree) (k : ℕ) (t : Tree) (at : slice_get ts
   pub turn_joins : (i n j : ℕ) → Fit (cat_all (take k ts)) d i n [] → Fit t d n j [] → Fit (cat_all (take (k + 1) ts)) d i j []
   turn_joins i n j p q = cat_more_join d ts k t i j [] at (n, [], [], p, q, λ x a b. a, refl)
 
-pub turn_begins : (d : List ℕ) (ts : List Tree) (k : ℕ) → IsBare (cat_all ts) → (i j : ℕ) → Fit (cat_all ts) d i j [] → (n : ℕ) × Fit (cat_all (take k ts)) d i n [] × ((m : Captures) × Fit (cat_all (drop k ts)) d n j m)
+pub turn_begins : (d : List ℕ) (ts : List Tree) (k : ℕ) → HasNoVar (cat_all ts) → (i j : ℕ) → Fit (cat_all ts) d i j [] → (n : ℕ) × Fit (cat_all (take k ts)) d i n [] × ((m : Captures) × Fit (cat_all (drop k ts)) d n j m)
 turn_begins d ts k bare i j h =
     let s = cat_begins d ts k i j [] h in
     (s.0, subst (λ n. Fit (cat_all (take k ts)) d i s.0 n) (front_nil s.1 s.2 s.6) s.3, (s.2, s.4))

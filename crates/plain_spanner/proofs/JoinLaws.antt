@@ -9,7 +9,7 @@ use Rattle.span_core.specs.Comparison.{row_cmp}
 use Rattle.span_core.specs.ComparisonLaws.{row_cmp_total}
 use Rattle.std.proofs.lemmas.Bool.{cases_lt, false≢true}
 use Rattle.span_core.specs.declared.TheConstants.{MOST_VARIABLES}
-use Rattle.span_core.specs.NameSets.{Ascending, with_name}
+use Rattle.span_core.specs.NameSets.{Ascending, with_name, has_name}
 use Rattle.span_core.specs.Lists.{Has}
 use Rattle.spanner_model.specs.Captures.{VarName, Mapping, row_of, mapping_of}
 use Rattle.spanner_model.specs.Answers.{SpanRow}
@@ -21,7 +21,7 @@ use Rattle.spanner_model.proofs.GatheredLaws.{gathered_name, gathered_all}
 use Rattle.spanner_model.proofs.CapturesLaws.{row_same_on}
 use Rattle.spanner_model.proofs.NameLaws.{list_any-Has, Has-list_any}
 use Rattle.plain_spanner.specs.Listed.{Tells, FromSome}
-use Rattle.plain_spanner.specs.Tables.{IsRowOf, has_name, row_over, Meet, merged, IsJoined, JoinsWith, JoinsRow, IsPlaceOf}
+use Rattle.plain_spanner.specs.Tables.{IsRowOf, row_over, Meet, merged, IsJoined, JoinsWith, JoinsRow, IsPlaceOf}
 use Rattle.plain_spanner.proofs.RowLaws.{row_eq_exact, mapping_of-row_of}
 
 -- ---- names in turn

@@ -5,7 +5,7 @@ use Rattle.std.specs.Option.{IsSomeAnd}
 use Rattle.std.proofs.lemmas.Bool.{false≢true, cases_lt}
 use Rattle.std.proofs.lemmas.Bool.Decides.{nat_tests}
 use Rattle.std.proofs.lemmas.Option.{slice_get_within}
-use Rattle.span_core.specs.NameSets.{Ascending}
+use Rattle.span_core.specs.NameSets.{Ascending, has_name}
 use Rattle.span_core.proofs.NameSetLaws.{none_are_variables}
 use Rattle.span_core.specs.Lists.{Has}
 use Rattle.spanner_model.specs.Captures.{VarName, Mapping}
@@ -30,7 +30,7 @@ use Rattle.spanner_model.proofs.GatheredLaws.{in_more, exprs_in_turn}
 use Rattle.spanner_model.proofs.PartLaws.{union_some, some_union, join_outside, join_each, each_join, told_under}
 use Rattle.plain_spanner.specs.Listed.{Tells}
 use Rattle.plain_spanner.specs.declared.table.Table.{Table}
-use Rattle.plain_spanner.specs.Tables.{IsRowOf, IsTable, IsTableOf, IsAsked, AreTables, has_name, IsLeft, IsUnited, IsJoined}
+use Rattle.plain_spanner.specs.Tables.{IsRowOf, IsTable, IsTableOf, IsAsked, AreTables, IsLeft, IsUnited, IsJoined}
 use Rattle.spanner_model.proofs.RowLaws.{row_length}
 use Rattle.plain_spanner.proofs.TellsLaws.{tells_same}
 use Rattle.plain_spanner.proofs.JoinLaws.{JoinOf, join_listed}

@@ -1,9 +1,9 @@
 -- Repetition of pieces that capture nothing.
-use Rattle.std.proofs.Common.{◌≡◌, ℕ, zero, suc, ◌+◌, ◌-◌, ◌≤◌, ◌⊎◌, List, [], ◌∷◌, ◌++◌, length, take, drop, Option, inl, inr, refl, sym, ap, ◌∙◌, subst, arith}
+use Rattle.std.proofs.Common.{◌≡◌, ℕ, zero, suc, ◌+◌, ◌-◌, ◌≤◌, ◌⊎◌, List, [], ◌++◌, length, take, drop, Option, inl, inr, refl, sym, ap, ◌∙◌, subst, arith}
 use Rattle.std.specs.Option.{ForSome}
 use Rattle.std.proofs.Math.Seq.{take-length}
 use Rattle.std.proofs.lemmas.Bool.{cases_lt}
-use Rattle.std.proofs.lemmas.List.{take-append-drop}
+use Rattle.std.proofs.lemmas.List.{take-append-drop, take_at}
 use Rattle.span_core.specs.Lists.{Has, IsPrefixOf}
 use Rattle.spanner_model.specs.Captures.{Captures}
 use Rattle.spanner_model.specs.Fit.{Piece, Times}
@@ -118,11 +118,7 @@ Has-begins : (xs ys : List ℕ) (x : ℕ) → IsPrefixOf xs ys → Has xs x → 
 Has-begins xs ys x b h = subst (λ zs. Has zs x) (sym b.joined) (Has-append_left xs b.rest x h)
 
 take_begins : (xs ys : List ℕ) → IsPrefixOf xs ys → take (length xs) ys ≡ xs
-take_begins xs ys b = ap (take (length xs)) b.joined ∙ whole xs b.rest
-  where
-    whole : (xs more : List ℕ) → take (length xs) (xs ++ more) ≡ xs
-    whole [] more = refl
-    whole (x ∷ xs) more = ap (λ ys. x ∷ ys) (whole xs more)
+take_begins xs ys b = ap (take (length xs)) b.joined ∙ take_at xs b.rest (length xs) refl
 
 pub Has-drop : (xs : List ℕ) (k x : ℕ) → Has (drop k xs) x → Has xs x
 Has-drop xs k x h = subst (λ ys. Has ys x) (take-append-drop k xs) (Has-append_right (take k xs) (drop k xs) x h)

@@ -10,11 +10,12 @@ use Rattle.spanner_model.specs.Answers.{SpanRow}
 use Rattle.spanner_model.specs.Gathered.{HaveRoom}
 use Rattle.spanner_model.specs.Sound.{sure_of_lets, NameOf, IsSound}
 use Rattle.span_core.proofs.HasLaws.{Has-take}
+use Rattle.span_core.specs.NameSets.{has_name}
 use Rattle.spanner_model.proofs.NameLaws.{list_any-Has, Has-list_any}
 use Rattle.spanner_model.proofs.ExprLaws.{var_named, lets_named, union_part, join_part, join_var_part, union_vars, union_named, join_named}
 use Rattle.spanner_model.proofs.CapturesLaws.{row_same, row_same_on}
 use Rattle.plain_spanner.specs.Listed.{Tells, FromSome}
-use Rattle.plain_spanner.specs.Tables.{IsRowOf, IsTable, IsAsked, has_name, row_over, IsLeft, IsRowOver, IsUnited}
+use Rattle.plain_spanner.specs.Tables.{IsRowOf, IsTable, IsAsked, row_over, IsLeft, IsRowOver, IsUnited}
 use Rattle.spanner_model.proofs.RowLaws.{row_length, mapping_of-outside}
 use Rattle.plain_spanner.proofs.RowLaws.{mapping_of-row_of, row_over-row_of}
 

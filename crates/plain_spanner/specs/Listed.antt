@@ -4,8 +4,6 @@ use Rattle.std.specs.Prelude.{◌≡◌, Bool, nat_eq, ℕ, ◌+◌, ◌≤◌, 
 use Rattle.span_core.specs.declared.span.Span.{Span}
 use Rattle.span_core.specs.Lists.{Has}
 use Rattle.spanner_model.specs.Captures.{VarName, Captures}
-use Rattle.spanner_model.specs.Tree.{Tree}
-use Rattle.spanner_model.specs.Sequential.{HasVar}
 use Rattle.spanner_model.specs.Fit.{Piece, Times}
 
 -- H is true of what Q is true of, and of nothing else
@@ -16,10 +14,6 @@ pub record Tells {X : Type 0} (H Q : X → Type 0) : Type 0 where
 -- some x of the list is so related to y
 abbrev pub FromSome : {X Y : Type 0} → (X → Y → Type 0) → List X → Y → Type 0
 FromSome {X} R xs y = (x : X) × Has xs x × R x y
-
--- no variable is in the formula
-abbrev pub IsBare : Tree → Type 0
-IsBare f = (x : VarName) → HasVar f x → ⊥
 
 -- a number is in the list
 abbrev pub has_number : List ℕ → ℕ → Bool

@@ -1,8 +1,6 @@
 -- Tables of answers: names, and rows over them.
 use Rattle.std.specs.Prelude.{◌≡◌, ℕ, ◌↔◌, ◌⊎◌, Bool, List, length, slice_get, Some, IsTrue, if◌then◌else◌}
-use Rattle.std.specs.List.{list_any}
-use Rattle.std.specs.Str.{bytes_eq}
-use Rattle.span_core.specs.NameSets.{Ascending}
+use Rattle.span_core.specs.NameSets.{Ascending, has_name}
 use Rattle.span_core.specs.Lists.{Has}
 use Rattle.spanner_model.specs.Captures.{VarName, Mapping, span_of, row_of, mapping_of}
 use Rattle.spanner_model.specs.Expression.{QueryTree, ExprTree}
@@ -29,10 +27,6 @@ pub record IsTable (V : VarName → Type 0) (A : Mapping → Type 0) (names : Li
 -- the table of an expression's answers, under the first n lets of a query
 abbrev pub IsTableOf : QueryTree → List ℕ → ℕ → ExprTree → List VarName → List SpanRow → Type 0
 IsTableOf q d n e = IsTable (VarOf (vars_of_lets q.lets n) e) (Answer (vars_of_lets q.lets n) (answers_of_lets q.lets d n) d e)
-
--- a name is in the list
-abbrev pub has_name : List VarName → VarName → Bool
-has_name names x = list_any (λ y. bytes_eq y x) names
 
 -- the row over the other names of a row over these names; a name that stands in the others alone is absent
 abbrev pub row_over : List VarName → List VarName → SpanRow → SpanRow

@@ -2,14 +2,14 @@
 ghost use Rattle.std.specs.Prelude.{◌↔◌, IsTrue};
 ghost use Rattle.spanner_model.specs.View.{tree_of, trees_of};
 ghost use Rattle.spanner_model.specs.Tree.{cat_all};
-ghost use Rattle.plain_spanner.specs.Listed.{IsBare};
+ghost use Rattle.spanner_model.specs.Sequential.{HasNoVar};
 
 use spanner_model::{Formula, Parts};
 
 /// Whether the formula has no variable.
 #[cycle(bare)]
 pub fn is_bare(formula: &Formula) -> bool
-    ensures { IsTrue result ↔ IsBare (tree_of formula.now) }
+    ensures { IsTrue result ↔ HasNoVar (tree_of formula.now) }
 {
     match formula {
         Formula::Empty | Formula::One(_) => true,
@@ -22,7 +22,7 @@ pub fn is_bare(formula: &Formula) -> bool
 /// Whether none of the formulas has a variable.
 #[cycle(bare)]
 pub fn are_bare(parts: &Parts) -> bool
-    ensures { IsTrue result ↔ IsBare (cat_all (trees_of parts.now)) }
+    ensures { IsTrue result ↔ HasNoVar (cat_all (trees_of parts.now)) }
 {
     for k in 0..parts.len() {
         if !is_bare(parts.at(k)) {

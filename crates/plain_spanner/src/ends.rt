@@ -6,7 +6,8 @@ ghost use Rattle.spanner_model.specs.View.{tree_of, trees_of};
 ghost use Rattle.spanner_model.specs.Tree.{Tree, one, rep, cat_all, alt_all};
 ghost use Rattle.spanner_model.specs.Fit.{Fit};
 ghost use Rattle.spanner_model.specs.WellBuilt.{IsWellBuilt};
-ghost use Rattle.plain_spanner.specs.Listed.{Tells, IsBare, LeadsOn, LeadsTimes, LeadsIn};
+ghost use Rattle.spanner_model.specs.Sequential.{HasNoVar};
+ghost use Rattle.plain_spanner.specs.Listed.{Tells, LeadsOn, LeadsTimes, LeadsIn};
 
 use crate::MOST_DOCUMENT_BYTES;
 use crate::order::sort_once;
@@ -24,7 +25,7 @@ pub fn reached_from(
     starts: &[usize],
 ) -> Result<Vec<usize>, OutOfMemory>
     requires built { IsWellBuilt (tree_of formula.now) }
-    requires bare { IsBare (tree_of formula.now) }
+    requires bare { HasNoVar (tree_of formula.now) }
     requires short { length doc.now ≤ MOST_DOCUMENT_BYTES }
     requires within { (k : ℕ) → Has starts.now k → k ≤ length doc.now }
     ensures { IfOk result (λ v. Tells (Has v.items) (LeadsOn (Fit (tree_of formula.now) doc.now) starts.now)) }
@@ -86,7 +87,7 @@ fn in_turn(
     starts: &[usize],
 ) -> Result<Vec<usize>, OutOfMemory>
     requires built { (t : Tree) → Has (trees_of parts.now) t → IsWellBuilt t }
-    requires bare { IsBare (cat_all (trees_of parts.now)) }
+    requires bare { HasNoVar (cat_all (trees_of parts.now)) }
     requires short { length doc.now ≤ MOST_DOCUMENT_BYTES }
     requires within { (k : ℕ) → Has starts.now k → k ≤ length doc.now }
     ensures { IfOk result (λ v. Tells (Has v.items) (LeadsOn (Fit (cat_all (trees_of parts.now)) doc.now) starts.now)) }
@@ -110,7 +111,7 @@ fn by_arms(
     starts: &[usize],
 ) -> Result<Vec<usize>, OutOfMemory>
     requires built { (t : Tree) → Has (trees_of parts.now) t → IsWellBuilt t }
-    requires bare { IsBare (cat_all (trees_of parts.now)) }
+    requires bare { HasNoVar (cat_all (trees_of parts.now)) }
     requires short { length doc.now ≤ MOST_DOCUMENT_BYTES }
     requires within { (k : ℕ) → Has starts.now k → k ≤ length doc.now }
     ensures { IfOk result (λ v. Tells (Has v.items) (LeadsOn (Fit (alt_all (trees_of parts.now)) doc.now) starts.now)) }
@@ -134,7 +135,7 @@ fn repeated(
     starts: &[usize],
 ) -> Result<Vec<usize>, OutOfMemory>
     requires built { IsWellBuilt (tree_of sub.now) }
-    requires bare { IsBare (tree_of sub.now) }
+    requires bare { HasNoVar (tree_of sub.now) }
     requires short { length doc.now ≤ MOST_DOCUMENT_BYTES }
     requires within { (k : ℕ) → Has starts.now k → k ≤ length doc.now }
     ensures { IfOk result (λ v. Tells (Has v.items) (LeadsTimes (Fit (tree_of sub.now) doc.now) count starts.now)) }
@@ -160,7 +161,7 @@ fn repeated_more(
     starts: &[usize],
 ) -> Result<Vec<usize>, OutOfMemory>
     requires built { IsWellBuilt (tree_of sub.now) }
-    requires bare { IsBare (tree_of sub.now) }
+    requires bare { HasNoVar (tree_of sub.now) }
     requires short { length doc.now ≤ MOST_DOCUMENT_BYTES }
     requires within { (k : ℕ) → Has starts.now k → k ≤ length doc.now }
     ensures { IfOk result (λ v. Tells (Has v.items) (LeadsIn (Fit (tree_of sub.now) doc.now) 0 most starts.now)) }

@@ -6,8 +6,8 @@ ghost use Rattle.spanner_model.specs.View.{tree_of, trees_of};
 ghost use Rattle.spanner_model.specs.Tree.{Tree, rep, cap, cat_all, alt_all};
 ghost use Rattle.spanner_model.specs.Fit.{Fit};
 ghost use Rattle.spanner_model.specs.WellBuilt.{IsWellBuilt};
-ghost use Rattle.spanner_model.specs.Sequential.{IsSequential};
-ghost use Rattle.plain_spanner.specs.Listed.{Tells, FromSome, IsBare, HasFit, Continued, AreWithin, EndAndCaptures, CapturedFrom, CapturedAt};
+ghost use Rattle.spanner_model.specs.Sequential.{IsSequential, HasNoVar};
+ghost use Rattle.plain_spanner.specs.Listed.{Tells, FromSome, HasFit, Continued, AreWithin, EndAndCaptures, CapturedFrom, CapturedAt};
 
 use crate::MOST_DOCUMENT_BYTES;
 use crate::bare::{are_bare, is_bare};
@@ -112,7 +112,7 @@ fn go_on_bare(
     firsts: &[Branch],
 ) -> Result<Vec<Branch>, OutOfMemory>
     requires built { IsWellBuilt (tree_of formula.now) }
-    requires bare { IsBare (tree_of formula.now) }
+    requires bare { HasNoVar (tree_of formula.now) }
     requires short { length doc.now ≤ MOST_DOCUMENT_BYTES }
     requires within { AreWithin (length doc.now) firsts.now }
     ensures { IfOk result (λ v. Tells (HasFit v.items) (Continued (HasFit firsts.now) (Fit (tree_of formula.now) doc.now))) }

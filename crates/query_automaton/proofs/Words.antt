@@ -5,7 +5,7 @@ use Rattle.std.proofs.lemmas.Bool.{cases_lt}
 use Rattle.std.specs.Option.{ForSome}
 use Rattle.span_core.specs.declared.span.Span.{Span}
 use Rattle.span_core.specs.Block.{block}
-use Rattle.span_core.specs.NameSets.{Ascending}
+use Rattle.span_core.specs.NameSets.{Ascending, has_name}
 use Rattle.span_core.specs.Lists.{Has}
 use Rattle.spanner_model.specs.Captures.{VarName, Mapping, row_of}
 use Rattle.spanner_model.specs.Answer.{IsRestriction}
@@ -17,7 +17,7 @@ use Rattle.marked_automaton.specs.Marks.{left_of}
 use Rattle.marked_automaton.proofs.Erasing.{erasing_law}
 use Rattle.marked_automaton.proofs.Projections.{projection_law}
 use Rattle.place_automaton.specs.Words.{IsWordOf}
-use Rattle.algebra.specs.JoinedMarks.{has_name, agree_on, joined}
+use Rattle.algebra.specs.JoinedMarks.{agree_on, joined}
 use Rattle.algebra.specs.JoinedNames.{all_names}
 use Rattle.algebra.specs.Uniting.{IsAcceptedOver}
 use Rattle.algebra.proofs.Alike.{remarked_whole}

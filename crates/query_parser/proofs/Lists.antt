@@ -7,9 +7,10 @@ use Rattle.std.specs.declared.cmp.Ordering.TheVariants.{Less, Equal, Greater}
 use Rattle.std.proofs.lemmas.Slice.Eq.{bytes_eq-Decides}
 use Rattle.std.proofs.lemmas.Map.Lookups.{exact_bytes}
 use Rattle.std.proofs.lemmas.Bool.Decides.{nat_tests}
+use Rattle.std.proofs.Math.Bool.{or-true}
 use Rattle.span_core.specs.declared.TheConstants.{MOST_VARIABLES}
 use Rattle.span_core.specs.NameSets.{name_cmp, by_order, with_name, Ascending}
-use Rattle.span_core.proofs.NameSetLaws.{there_is, with_ascends}
+use Rattle.span_core.proofs.NameSetLaws.{there_is, with_ascends, names_differ}
 use Rattle.span_core.specs.Lists.{Has, AreDistinct}
 use Rattle.span_core.proofs.HasLaws.{Has-Contains, Contains-Has}
 use Rattle.spanner_model.specs.Captures.{VarName}
@@ -23,13 +24,6 @@ eq_true x y e = (bytes_eq-Decides x y).1 e
 pub eq_is : (x y : VarName) → bytes_eq x y ≡ true → x ≡ y
 eq_is x y e = (bytes_eq-Decides x y).0 e
 
-pub eq_false : (x y : VarName) → (x ≡ y → ⊥) → bytes_eq x y ≡ false
-eq_false x y differ = by (bytes_eq x y) refl
-  where
-    by : (b : Bool) → bytes_eq x y ≡ b → bytes_eq x y ≡ false
-    by false e = e
-    by true e = absurd (differ (eq_is x y e))
-
 -- among the names
 pub among_has : (names : List VarName) (x : VarName) → is_among names x ≡ true → Has names x
 among_has [] x e = absurd (cc)
@@ -39,14 +33,10 @@ among_has (y ∷ ys) x e = by (bytes_eq y x) refl (among_has ys x)
     by true d others = inl (eq_is y x d)
     by false d others = inr (others (sym (ap (λ b. b || is_among ys x) d) ∙ e))
 
-pub or_true : (b : Bool) → (b || true) ≡ true
-or_true true = refl
-or_true false = refl
-
 pub has_among : (names : List VarName) (x : VarName) → Has names x → is_among names x ≡ true
 has_among [] x h = absurd h
 has_among (y ∷ ys) x (inl e) = ap (λ b. b || is_among ys x) (eq_true y x e)
-has_among (y ∷ ys) x (inr h) = ap (λ b. bytes_eq y x || b) (has_among ys x h) ∙ or_true (bytes_eq y x)
+has_among (y ∷ ys) x (inr h) = ap (λ b. bytes_eq y x || b) (has_among ys x h) ∙ or-true (bytes_eq y x)
 
 pub not_among : (names : List VarName) (x : VarName) → (Has names x → ⊥) → is_among names x ≡ false
 not_among names x none = by (is_among names x) refl
@@ -61,7 +51,7 @@ among_not names x e h = let d = has_among names x h in absurd (cc)
 pub find_none : (names : List VarName) (x : VarName) → (Has names x → ⊥) → find names x ≡ None
 find_none [] x none = refl
 find_none (y ∷ ys) x none =
-    ap (λ b. number_from b (find ys x)) (eq_false y x (λ e. none (inl e))) ∙ ap (number_from false) (find_none ys x (λ h. none (inr h)))
+    ap (λ b. number_from b (find ys x)) (names_differ y x (λ e. none (inl e))) ∙ ap (number_from false) (find_none ys x (λ h. none (inr h)))
 
 -- the name with a number is that of its place
 pub find_gives : (names : List VarName) (x : VarName) (k : ℕ) → find names x ≡ Some k → slice_get names k ≡ Some x
@@ -165,7 +155,7 @@ adds_room true kept x h = by (h.0 refl)
   where
     by : Contains kept x ⊎ (length kept < MOST_VARIABLES) → true ≡ finds_room kept x
     by (inl c) = sym (ap (λ b. b || nat_lt (length kept) MOST_VARIABLES) (has_among kept x (Has-Contains kept x c)))
-    by (inr few) = let room : nat_lt (length kept) MOST_VARIABLES ≡ true = grind (arith, nat_tests) in sym (ap (λ b. is_among kept x || b) room ∙ or_true (is_among kept x))
+    by (inr few) = let room : nat_lt (length kept) MOST_VARIABLES ≡ true = grind (arith, nat_tests) in sym (ap (λ b. is_among kept x || b) room ∙ or-true (is_among kept x))
 adds_room false kept x h = by (is_among kept x) refl (nat_lt (length kept) MOST_VARIABLES) refl
   where
     by : (a : Bool) → is_among kept x ≡ a → (b : Bool) → nat_lt (length kept) MOST_VARIABLES ≡ b → false ≡ finds_room kept x

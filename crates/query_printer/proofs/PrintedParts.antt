@@ -6,7 +6,7 @@ use Rattle.std.specs.Result.{OnOk}
 use Rattle.std.proofs.lemmas.Bool.Decides.{nat_tests}
 use Rattle.std.proofs.lemmas.List.{drop_all, length-map}
 use Rattle.std.proofs.lemmas.Option.{slice_get-map}
-use Rattle.span_core.proofs.ListLaws.{appended}
+use Rattle.span_core.proofs.ListLaws.{appended, at_drop}
 use Rattle.spanner_model.specs.Captures.{VarName}
 use Rattle.spanner_model.specs.Expression.{ExprTree, union_all, join_all}
 use Rattle.spanner_model.specs.ExprView.{expr_of, exprs_of}
@@ -14,7 +14,6 @@ use Rattle.spanner_model.specs.declared.expression.Expr.{Expr}
 use Rattle.spanner_model.specs.declared.expression.Exprs.{Exprs}
 use Rattle.spanner_model.specs.declared.expression.Expr.TheVariants.{Union, Join}
 use Rattle.spanner_model.proofs.ExprTrees.{expr_of-Union, expr_of-Join}
-use Rattle.spanner_model.proofs.TreeLaws.{split_at}
 use Rattle.query_printer.specs.PrintedFormula.{wrapped}
 use Rattle.query_printer.proofs.PrintedTrees.{ended}
 use Rattle.query_printer.specs.PrintedQuery.{a_join, a_union, shape, wraps_in_union, wraps_in_join, further, joined, keep_text, printed, conj_texts, unit_texts, lets_text, let_text}
@@ -74,12 +73,12 @@ texts_step between ts k t e = by (k == 0) refl
     by true h =
         let none : k ≡ 0 = grind (arith, nat_tests) in
         let lone : nat_lt 0 k ≡ false = grind (arith, nat_tests) in
-        let whole : ts ≡ t ∷ drop (k + 1) ts = ap (λ n. drop n ts) (sym none) ∙ split_at ts k t e in
+        let whole : ts ≡ t ∷ drop (k + 1) ts = ap (λ n. drop n ts) (sym none) ∙ at_drop ts k t e in
         texts_first between ts k h ∙ ap (joined between) whole ∙ rest
         ∙ ap (λ b. (if b then between else []) ++ (t ++ texts_from between (k + 1) ts)) (sym lone)
     by false h =
         let later : nat_lt 0 k ≡ true = grind (arith, nat_tests) in
-        texts_later between ts k h ∙ ap (further between) (split_at ts k t e) ∙ ap (λ u. between ++ u) rest
+        texts_later between ts k h ∙ ap (further between) (at_drop ts k t e) ∙ ap (λ u. between ++ u) rest
         ∙ ap (λ b. (if b then between else []) ++ (t ++ texts_from between (k + 1) ts)) (sym later)
 
 none_left : (between : List ℕ) (ts : List (List ℕ)) → length ts ≤ 0 → joined between ts ≡ []
@@ -158,7 +157,7 @@ keep_some (x ∷ xs) a b k some past is = texts_done b (44 ∷ []) (x ∷ xs) k 
 pub lets_put : (names : List VarName) (lets : List (VarName × ExprTree)) (k : ℕ) (l : VarName × ExprTree) (a b whole : List ℕ) → slice_get lets k ≡ Some l → b ≡ a ++ let_text names l →
     a ++ lets_text names (drop k lets) ≡ whole → b ++ lets_text names (drop (k + 1) lets) ≡ whole
 lets_put names lets k l a b whole at put before =
-    appended a (let_text names l) b (lets_text names (drop k lets)) (lets_text names (drop (k + 1) lets)) whole put (ap (lets_text names) (split_at lets k l at)) before
+    appended a (let_text names l) b (lets_text names (drop k lets)) (lets_text names (drop (k + 1) lets)) whole put (ap (lets_text names) (at_drop lets k l at)) before
 
 lets_done : (names : List VarName) (lets : List (VarName × ExprTree)) (k : ℕ) (a whole : List ℕ) → length lets ≤ k → a ++ lets_text names (drop k lets) ≡ whole → a ≡ whole
 lets_done names lets k a whole past is = ended a (lets_text names (drop k lets)) whole (ap (lets_text names) (drop_all k lets past)) is

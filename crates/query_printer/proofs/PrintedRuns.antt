@@ -6,12 +6,12 @@ use Rattle.std.specs.FinSet as set
 use Rattle.std.specs.FinSet.{same_set, nat_cmp-IsAntisymmetric, contains-union, contains-difference, contains-insert, contains-empty}
 use Rattle.std.proofs.lemmas.Bool.{and_parts}
 use Rattle.std.proofs.lemmas.Bool.Decides.{nat_tests}
+use Rattle.std.proofs.Math.Bool.{or-true}
 use Rattle.span_core.specs.ByteSets.{bytes_between}
 use Rattle.span_core.specs.ByteWordLaws.{contains-bytes_between}
 use Rattle.formula_parser.specs.Sets.{Bytes, single, all_but_newline}
 use Rattle.query_printer.specs.PrintedFormula.{members, begins_run, run_end}
-use Rattle.formula_parser.proofs.ClassSets.{AreBytes}
-use Rattle.query_parser.proofs.Lists.{or_true}
+use Rattle.formula_parser.proofs.ClassSets.{AreBytes, or_cases}
 
 pub by_bool : (P : Bool → Type 0) (v : Bool) → (v ≡ true → P true) → (v ≡ false → P false) → P v
 by_bool P true first second = first refl
@@ -94,10 +94,6 @@ runs_set s (suc n) = if begins_run s n then set.union (runs_set s n) (run_set n 
 union_has : (s t : Bytes) (q : ℕ) → set.contains (set.union s t) q ≡ (set.contains s q || set.contains t q)
 union_has s t q = contains-union nat_cmp_total s t q
 
-or_either : (v w : Bool) (P : Type 0) → (v ≡ true → P) → (w ≡ true → P) → (v || w) ≡ true → P
-or_either true w P first second h = first refl
-or_either false w P first second h = second h
-
 runs_in : (s : Bytes) (n q : ℕ) → set.contains (runs_set s n) q ≡ true → set.contains s q ≡ true
 unfolding runs_set
 runs_in s zero q h = let no = contains-empty nat_cmp q in absurd (cc)
@@ -105,7 +101,7 @@ runs_in s (suc n) q h =
     let e = run_end s (255 - n) n in
     by_bool (λ v. set.contains (if v then set.union (runs_set s n) (run_set n e) else runs_set s n) q ≡ true → set.contains s q ≡ true) (begins_run s n)
     (λ b is.
-    or_either (set.contains (runs_set s n) q) (set.contains (run_set n e) q) (set.contains s q ≡ true) (runs_in s n q)
+    or_cases (set.contains (runs_set s n) q) (set.contains (run_set n e) q) (set.contains s q ≡ true) (runs_in s n q)
     (λ last.
     let range = and_parts (nat_le n q) (nat_le q e) (sym (in_run n e q) ∙ last) in
     let low = range.0 in
@@ -127,7 +123,7 @@ in_last s n r b low high =
     let e = run_end s (255 - n) n in
     let has : set.contains (run_set n e) r ≡ true = in_run n e r ∙ grind (arith, nat_tests) in
     ap (λ v. set.contains (if v then set.union (runs_set s n) (run_set n e) else runs_set s n) r) b
-    ∙ union_has (runs_set s n) (run_set n e) r ∙ ap (λ v. set.contains (runs_set s n) r || v) has ∙ or_true (set.contains (runs_set s n) r)
+    ∙ union_has (runs_set s n) (run_set n e) r ∙ ap (λ v. set.contains (runs_set s n) r || v) has ∙ or-true (set.contains (runs_set s n) r)
 
 pub begins_after : (s : Bytes) (m : ℕ) → begins_run s (suc m) ≡ (set.contains s (suc m) && not (set.contains s m))
 begins_after s m =

@@ -10,6 +10,7 @@ use Rattle.span_core.specs.declared.TheConstants.{MOST_NAME_BYTES}
 use Rattle.span_core.specs.Names.{is_name, is_name_start, is_name_byte}
 use Rattle.spanner_model.specs.Captures.{VarName}
 use Rattle.span_core.specs.Lists.{Has}
+use Rattle.span_core.proofs.NameSetLaws.{names_differ}
 use Rattle.spanner_model.specs.Sound.{words, IsFreeName}
 use Rattle.spanner_model.specs.WellBuilt.{IsWellBuilt}
 use Rattle.spanner_model.specs.Expression.{AtomTree}
@@ -26,7 +27,6 @@ use Rattle.formula_parser.proofs.ClassTexts.{drop_token}
 use Rattle.query_printer.proofs.PrintLaws.{printed_spells}
 use Rattle.query_parser.specs.Tokens.{Token, atom_token, let_word, union_word, join_word, project_word, none_word, name_token, equals, semicolon, open_paren, close_paren, comma, minus_word, word_token, sign_token, is_blank, atom_at, word_at, sign_at, HasTokens, text_ends, blank_first, token_first}
 use Rattle.query_parser.specs.Tested.{where_word}
-use Rattle.query_parser.proofs.Lists.{eq_false}
 use Rattle.query_parser.proofs.TextLaws.{word_by}
 
 -- wherever u stands before this text, it has these tokens
@@ -86,11 +86,11 @@ name_word (c ∷ x) h = (and_parts (nat_lt (length x) MOST_NAME_BYTES) (is_name_
 
 name_is_token : (x : VarName) → (Has words x → ⊥) → word_token x ≡ name_token x
 name_is_token x free =
-    let a = eq_false x (codes "let") (λ e. free (inl (sym e))) in
-    let b = eq_false x (codes "union") (λ e. free (inr (inl (sym e)))) in
-    let d = eq_false x (codes "join") (λ e. free (inr (inr (inl (sym e))))) in
-    let e = eq_false x (codes "project") (λ e. free (inr (inr (inr (inl (sym e)))))) in
-    let f = eq_false x (codes "none") (λ e. free (inr (inr (inr (inr (inl (sym e))))))) in
+    let a = names_differ x (codes "let") (λ e. free (inl (sym e))) in
+    let b = names_differ x (codes "union") (λ e. free (inr (inl (sym e)))) in
+    let d = names_differ x (codes "join") (λ e. free (inr (inr (inl (sym e))))) in
+    let e = names_differ x (codes "project") (λ e. free (inr (inr (inr (inl (sym e)))))) in
+    let f = names_differ x (codes "none") (λ e. free (inr (inr (inr (inr (inl (sym e))))))) in
     ap (λ v. word_by v (bytes_eq x (codes "union")) (bytes_eq x (codes "join")) (bytes_eq x (codes "project")) (bytes_eq x (codes "none")) x) a
     ∙ ap (λ v. word_by false v (bytes_eq x (codes "join")) (bytes_eq x (codes "project")) (bytes_eq x (codes "none")) x) b
     ∙ ap (λ v. word_by false false v (bytes_eq x (codes "project")) (bytes_eq x (codes "none")) x) d

@@ -11,7 +11,8 @@ use Rattle.spanner_model.specs.declared.formula.Formula.TheVariants.{Cat, Alt}
 use Rattle.spanner_model.proofs.Trees.{tree_of-Cat, tree_of-Alt}
 use Rattle.spanner_model.proofs.Nodes.{nodes}
 use Rattle.span_core.proofs.HasLaws.{Has-slice_get}
-use Rattle.spanner_model.proofs.TreeLaws.{split_at, part_nodes, arms_nodes}
+use Rattle.span_core.proofs.ListLaws.{at_drop}
+use Rattle.spanner_model.proofs.TreeLaws.{part_nodes, arms_nodes}
 use Rattle.formula_parser.specs.Spells.{given}
 use Rattle.query_printer.specs.PrintedFormula.{a_cat, an_alt, shape, wraps_arm, wraps_part, wrapped, printed, more_arms}
 
@@ -51,7 +52,7 @@ arm_less ts k t e = omega (arith, part_less ts k t e, arms_nodes ts)
 pub parts_step : (ts : List Tree) (k : ℕ) (t : Tree) (w : Bool) → slice_get ts k ≡ Some t → w ≡ wraps_part (shape t) →
     printed (cat_all (drop k ts)) ≡ wrapped w (printed t) ++ printed (cat_all (drop (k + 1) ts))
 parts_step ts k t w e is =
-    ap (λ us. printed (cat_all us)) (split_at ts k t e) ∙ ap (λ v. wrapped v (printed t) ++ printed (cat_all (drop (k + 1) ts))) (sym is)
+    ap (λ us. printed (cat_all us)) (at_drop ts k t e) ∙ ap (λ v. wrapped v (printed t) ++ printed (cat_all (drop (k + 1) ts))) (sym is)
 
 -- the arms from k on, with a bar before each but the first
 abbrev pub arms_from : ℕ → List Tree → List ℕ
@@ -79,10 +80,10 @@ arms_step ts k t w e is = by (k == 0) refl
     by true h =
         let none : k ≡ 0 = grind (arith, nat_tests) in
         let lone : nat_lt 0 k ≡ false = grind (arith, nat_tests) in
-        let whole : ts ≡ t ∷ drop (k + 1) ts = ap (λ n. drop n ts) (sym none) ∙ split_at ts k t e in
+        let whole : ts ≡ t ∷ drop (k + 1) ts = ap (λ n. drop n ts) (sym none) ∙ at_drop ts k t e in
         arms_first ts k h ∙ ap (λ us. printed (alt_all us)) whole ∙ rest
         ∙ ap (λ v. given v 124 ++ (wrapped w (printed t) ++ arms_from (k + 1) ts)) (sym lone)
     by false h =
         let later : nat_lt 0 k ≡ true = grind (arith, nat_tests) in
-        arms_later ts k h ∙ ap (λ us. more_arms (alt_all us)) (split_at ts k t e) ∙ ap (λ u. 124 ∷ u) rest
+        arms_later ts k h ∙ ap (λ us. more_arms (alt_all us)) (at_drop ts k t e) ∙ ap (λ u. 124 ∷ u) rest
         ∙ ap (λ v. given v 124 ++ (wrapped w (printed t) ++ arms_from (k + 1) ts)) (sym later)

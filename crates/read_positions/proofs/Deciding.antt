@@ -1,21 +1,9 @@
--- What can be told: that it is so, or that it is not.
-use Rattle.std.proofs.Common.{◌≡◌, ℕ, zero, suc, ◌<◌, ◌≤◌, ◌⊎◌, Bool, true, false, List, [], ◌∷◌, inl, inr, refl, sym, subst, arith}
+-- What can be told of members of lists, and of numbers.
+use Rattle.std.proofs.Common.{◌≡◌, ℕ, zero, suc, ◌<◌, Bool, true, false, List, [], ◌∷◌, inl, inr, refl, sym, subst, arith}
 use Rattle.std.specs.Prelude.{◌↔◌, IsTrue}
 use Rattle.std.proofs.lemmas.Bool.{cases_lt, true≢false}
 use Rattle.span_core.specs.Lists.{Has}
-
-abbrev pub Decided : Type 0 → Type 0
-Decided P = P ⊎ (P → ⊥)
-
-pub decide_both : (P Q : Type 0) → Decided P → Decided Q → Decided (P × Q)
-decide_both P Q (inl p) (inl q) = inl (p, q)
-decide_both P Q (inl p) (inr never) = inr (λ h. never h.1)
-decide_both P Q (inr never) d = inr (λ h. never h.0)
-
-pub decide_either : (P Q : Type 0) → Decided P → Decided Q → Decided (P ⊎ Q)
-decide_either P Q (inl p) d = inl (inl p)
-decide_either P Q (inr never) (inl q) = inl (inr q)
-decide_either P Q (inr never) (inr nowhere) = inr (λ h. elim h [ inl p ↦ never p | inr q ↦ nowhere q ])
+use Rattle.span_core.proofs.Deciding.{Decided}
 
 pub decide_same : (P Q : Type 0) → P ↔ Q → Decided P → Decided Q
 decide_same P Q both (inl p) = inl (both.0 p)
@@ -24,9 +12,6 @@ decide_same P Q both (inr never) = inr (λ q. never (both.1 q))
 pub decide_true : (b : Bool) → Decided (IsTrue b)
 decide_true true = inl refl
 decide_true false = inr (λ e. true≢false (sym e))
-
-pub decide_le : (a b : ℕ) → Decided (a ≤ b)
-decide_le a b = elim (cases_lt b a) [ inl l ↦ inr (λ h. omega (arith, l, h)) | inr l ↦ inl (omega (arith, l)) ]
 
 -- of some element of a list
 pub decide_some : {X : Type 0} (P : X → Type 0) (xs : List X) → ((x : X) → Has xs x → Decided (P x)) → Decided ((x : X) × Has xs x × P x)

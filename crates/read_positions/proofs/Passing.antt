@@ -4,11 +4,12 @@ use Rattle.std.specs.Prelude.{slice_get, unwrap_or, IsTrue}
 use Rattle.std.specs.FinSet as bytes
 use Rattle.std.proofs.lemmas.Bool.{cases_eq, cases_lt}
 use Rattle.span_core.specs.Lists.{Has}
+use Rattle.span_core.proofs.Deciding.{Decided, decide_both}
 use Rattle.marked_automaton.specs.declared.way.Way.{Way}
 use Rattle.marked_automaton.specs.declared.way.Stop.{Stop}
 use Rattle.marked_automaton.specs.Automaton.{Automaton, ByteClass, ReadsByte}
 use Rattle.filter_laws.specs.Idling.{IsLed, LeadsOut, Passes}
-use Rattle.read_positions.proofs.Deciding.{Decided, decide_both, decide_same, decide_some, decide_true}
+use Rattle.read_positions.proofs.Deciding.{decide_same, decide_some, decide_true}
 
 decide_byte : (d : List ℕ) (i : ℕ) (set : ByteClass) → Decided (ReadsByte d i set)
 decide_byte d i set = go (slice_get d i) refl

@@ -2,6 +2,7 @@
 use Rattle.std.proofs.Common.{ℕ, suc, ◌<◌, ◌≤◌, Bool, true, false, List, [], length, inl, inr, arith}
 use Rattle.span_core.specs.Lists.{Has}
 use Rattle.span_core.proofs.HasLaws.{place_of-Has}
+use Rattle.span_core.proofs.Deciding.{Decided, decide_both, decide_either, decide_le}
 use Rattle.spanner_model.specs.Captures.{VarName}
 use Rattle.spanner_model.specs.Expression.{AtomTree, ExprTree, QueryTree, atom, named, union_end, union, join_end, join, minus, project}
 use Rattle.spanner_model.specs.Sequential.{IsSequential}
@@ -16,7 +17,7 @@ use Rattle.filter_laws.specs.Touching.{HasMinus, HasMinusIn, IsTouchedBy, SomeAt
 use Rattle.filter_laws.proofs.SharingLaws.{sharing_law}
 use Rattle.spanner_engine.specs.Begun.{IsReadAt}
 use Rattle.read_positions.specs.ReadPositions.{ReadAreASet}
-use Rattle.read_positions.proofs.Deciding.{Decided, decide_below, decide_both, decide_either, decide_le, decide_same, decide_some, is_so, so_where}
+use Rattle.read_positions.proofs.Deciding.{decide_below, decide_same, decide_some, is_so, so_where}
 use Rattle.read_positions.proofs.Passing.{decide_led, decide_out}
 
 -- ---- an atom

@@ -3,7 +3,7 @@ use Rattle.std.proofs.Common.{◌≡◌, ℕ, suc, ◌+◌, List, [], ◌∷◌,
 use Rattle.std.proofs.lemmas.Grind.{flat_map-append}
 use Rattle.std.specs.Prelude.{slice_get}
 use Rattle.std.proofs.lemmas.List.{append-nil, append_assoc}
-use Rattle.cell_text.proofs.Lists.{at_drop}
+use Rattle.span_core.proofs.ListLaws.{at_drop}
 use Rattle.query_printer.specs.PrintedQuery.{further}
 use Rattle.spanner_model.specs.Captures.{VarName}
 use Rattle.spanner_model.specs.Expression.{AtomTree, ExprTree, union_all, join_all}

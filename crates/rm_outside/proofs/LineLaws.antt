@@ -2,7 +2,7 @@
 use Rattle.std.proofs.Common.{arith, ◌≡◌, ◌≢◌, ◌⊎◌, ◌+◌, ◌<◌, ℕ, suc, Bool, true, false, List, [], ◌∷◌, ◌++◌, length, take, drop, inl, inr, refl, sym, ap, ◌∙◌, subst}
 use Rattle.std.specs.Prelude.{cond}
 use Rattle.std.specs.List.{take_while}
-use Rattle.std.proofs.lemmas.List.{take_all}
+use Rattle.std.proofs.lemmas.List.{take_all, take_at}
 use Rattle.std.proofs.lemmas.List.Sums.{take_while-cons}
 use Rattle.std.proofs.lemmas.Bool.Decides.{nat_tests}
 use Rattle.rm_outside.specs.Lines.{is_inside_line}
@@ -46,10 +46,6 @@ line_ends (b ∷ bytes) = by (is_inside_line b) refl (line_ends bytes)
     by true e (inr later) = inr (subst (λ (line : List ℕ). b ∷ bytes ≡ line) (sym (first_true b bytes e)) (ap (λ (xs : List ℕ). b ∷ xs) later))
     by false e later = inl (subst (λ (line : List ℕ). b ∷ bytes ≡ line ++ 10 ∷ drop (suc (length line)) (b ∷ bytes)) (sym (first_false b bytes e)) (ap (λ (x : ℕ). x ∷ bytes) (outside b e)))
 
-the_token : (u rest : List ℕ) → take (length u) (u ++ rest) ≡ u
-the_token [] rest = refl
-the_token (c ∷ u) rest = ap (λ (xs : List ℕ). c ∷ xs) (the_token u rest)
-
 longer : (u rest : List ℕ) → length u < length (u ++ 10 ∷ rest)
 longer [] rest = omega arith
 longer (c ∷ u) rest = let h = longer u rest in omega (arith, h)
@@ -61,7 +57,7 @@ drop_all (x ∷ xs) = drop_all xs
 -- so many first bytes are the line
 pub line_is : (bytes : List ℕ) → take (length (line_of bytes)) bytes ≡ line_of bytes
 line_is bytes = elim (line_ends bytes) [
-  | inl e ↦ ap (take (length (line_of bytes))) e ∙ the_token (line_of bytes) (10 ∷ drop (suc (length (line_of bytes))) bytes)
+  | inl e ↦ ap (take (length (line_of bytes))) e ∙ take_at (line_of bytes) (10 ∷ drop (suc (length (line_of bytes))) bytes) (length (line_of bytes)) refl
   | inr e ↦ ap (take (length (line_of bytes))) e ∙ take_all (length (line_of bytes)) (line_of bytes) (omega arith)
 ]
 

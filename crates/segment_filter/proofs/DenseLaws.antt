@@ -1,9 +1,9 @@
 -- What a dense list tells: it stays true while the table grows, and more may be entered.
-use Rattle.std.proofs.Common.{◌≡◌, ◌⊎◌, ℕ, zero, suc, ◌+◌, ◌*◌, ◌-◌, ◌<◌, ◌≤◌, Bool, true, false, List, [], ◌∷◌, ◌++◌, length, set, take, replicate, Option, Some, None, inl, inr, refl, sym, ap, subst, arith, ◌∙◌, if◌then◌else◌}
+use Rattle.std.proofs.Common.{◌≡◌, ℕ, zero, suc, ◌+◌, ◌*◌, ◌-◌, ◌<◌, ◌≤◌, Bool, true, false, List, [], ◌∷◌, ◌++◌, length, set, take, replicate, Option, Some, None, inl, inr, refl, sym, ap, subst, arith, ◌∙◌, if◌then◌else◌}
 use Rattle.std.specs.Prelude.{slice_get}
 use Rattle.std.proofs.lemmas.Bool.{cases_eq}
 use Rattle.std.proofs.lemmas.List.{take_all}
-use Rattle.span_core.proofs.ListLaws.{get_set_same}
+use Rattle.span_core.proofs.ListLaws.{get_set_same, zeros, either_part}
 use Rattle.marked_automaton.proofs.Listed.{some_same}
 use Rattle.automaton_reading.specs.Reading.{Reach, LookUp, byte_read, edges}
 use Rattle.set_table.specs.Tabled.{Tabled, look_up, once_asked, set_at}
@@ -55,16 +55,6 @@ goes_there old new set b to given is next =
     }
 
 -- ---- more entries, of which nothing is known
-
-zeros : (n k e : ℕ) → slice_get (replicate n 0) k ≡ Some e → e ≡ 0
-zeros zero k e at = absurd (cc)
-zeros (suc n) zero e at = sym (some_same 0 e at)
-zeros (suc n) (suc k) e at = zeros n k e at
-
-either_part : (xs ys : List ℕ) (k e : ℕ) → slice_get (xs ++ ys) k ≡ Some e → (slice_get xs k ≡ Some e) ⊎ ((j : ℕ) × (slice_get ys j ≡ Some e))
-either_part [] ys k e at = inr (k, at)
-either_part (x ∷ xs) ys zero e at = inl at
-either_part (x ∷ xs) ys (suc k) e at = either_part xs ys k e at
 
 pub told_room : (t : Tabled) (entries later : List ℕ) (wanted n : ℕ) (ok : Bool) → later ≡ (if ok then take wanted entries ++ replicate (wanted - n) 0 else entries) →
     length entries ≤ wanted → AreTold t entries → AreTold t later

@@ -1,15 +1,10 @@
 -- Two ascending lists, from some places on.
 use Rattle.std.proofs.Common.{◌≡◌, ℕ, zero, suc, ◌+◌, ◌<◌, ◌≤◌, ◌⊎◌, List, [], ◌∷◌, get_or, drop, inl, inr, sym, subst, arith, add-one}
-use Rattle.std.specs.List.{AllByRecursion}
 use Rattle.span_core.specs.Lists.{Has, IsInOrder}
+use Rattle.span_core.proofs.ListLaws.{all_has}
 
 abbrev pub Ascends : List ℕ → Type 0
 Ascends xs = IsInOrder ◌<◌ xs
-
-all_has : (P : ℕ → Type 0) (xs : List ℕ) (r : ℕ) → AllByRecursion P xs → Has xs r → P r
-all_has P [] r h k = absurd k
-all_has P (x ∷ xs) r h (inl e) = subst P e h.0
-all_has P (x ∷ xs) r h (inr k) = all_has P xs r h.1 k
 
 -- what stands behind the place i is no less than what stands there
 pub least_at : (xs : List ℕ) (i r : ℕ) → Ascends xs → Has (drop i xs) r → get_or xs i 0 ≤ r

@@ -1,7 +1,7 @@
 -- The rows that a session gives, one by one.
 use Rattle.std.proofs.Common.{arith, ◌≡◌, ◌≤◌, ◌+◌, ℕ, zero, suc, Bool, true, false, List, [], ◌∷◌, ◌++◌, length, drop, take, map, Option, Some, None, MatchOption, inl, inr, refl, sym, ap, ◌∙◌, subst}
 use Rattle.std.specs.List.{list_all}
-use Rattle.std.specs.Bool.{OnTrue, OnFalse}
+use Rattle.std.specs.Bool.{OnTrue}
 use Rattle.std.specs.Prelude.{filter, if◌then◌else◌}
 use Rattle.serde_json.specs.Data.{Data, Members, member, object}
 use Rattle.serde_json.specs.View.{view}
@@ -266,10 +266,6 @@ module _ (k : Known) (old : CodeSession) (s : Session) (all : List SpanRow) wher
           is_some o ≡ nat_lt most (length coming)
       by None is = let end = none_left most coming (sym (left_now now most now.vars so.vars) ∙ is) in grind (arith, nat_tests, end)
       by (Some r) is = let more = some_left most coming _ r (sym (left_now now most now.vars so.vars) ∙ is) in grind (arith, nat_tests, more)
-
-pub on_false : (b : Bool) (P : Type 0) → b ≡ false → OnFalse b P → P
-on_false true P e h = absurd (cc)
-on_false false P e h = h
 
 pub on_true : (b : Bool) (P : Type 0) → b ≡ true → OnTrue b P → P
 on_true true P e h = h

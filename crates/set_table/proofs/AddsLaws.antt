@@ -10,7 +10,7 @@ use Rattle.span_core.specs.declared.edge.Edge.{Edge}
 use Rattle.span_core.specs.declared.TheConstants.{MOST_VARIABLES}
 use Rattle.span_core.specs.Lists.{Has, IsInOrder}
 use Rattle.span_core.proofs.HasLaws.{Has-get_or, Has-map, Has-map_cases, Has-append_cases}
-use Rattle.span_core.proofs.ListLaws.{filter_no_more}
+use Rattle.span_core.proofs.ListLaws.{filter_no_more, all_has}
 use Rattle.marked_automaton.specs.declared.way.Stop.{Stop}
 use Rattle.marked_automaton.specs.Automaton.{Automaton, Marked, IsMarked}
 use Rattle.marked_automaton.proofs.Passing.{filter_cases}
@@ -23,7 +23,7 @@ use Rattle.set_table.specs.Cut.{code_of, cut, mark_of, marks_among, marks_code}
 use Rattle.set_table.specs.Named.{IsLongerBy, PutsEdges}
 use Rattle.set_table.specs.Tabled.{IsStateSet, edge_named, reached, set_at, sets_weight, with_set, with_sets}
 use Rattle.set_table.specs.Answered.{Adds, IsReady, answer_in, question_of, end_reach, part, room}
-use Rattle.set_table.proofs.Ascending.{Above, all_has, has_all, blocks_are, set_in_order}
+use Rattle.set_table.proofs.Ascending.{Above, has_all, blocks_are, set_in_order}
 use Rattle.set_table.proofs.CutLaws.{AreNarrow, cut_is}
 use Rattle.set_table.proofs.NamingLaws.{weight_with}
 use Rattle.set_table.proofs.SetsLaws.{at_place, longer_itself}

@@ -1,5 +1,5 @@
 -- Lists in a strict order are told by their members.
-use Rattle.std.proofs.Common.{◌≡◌, ℕ, ◌<◌, ◌≤◌, ◌⊎◌, ltb-true, ltb-false, cond, Bool, true, false, List, [], ◌∷◌, inl, inr, refl, sym, subst, arith, ◌∙◌, Contains, eqb}
+use Rattle.std.proofs.Common.{◌≡◌, ℕ, ◌<◌, ◌≤◌, ltb-true, ltb-false, cond, Bool, true, false, List, [], ◌∷◌, inl, inr, refl, sym, subst, arith, Contains, eqb}
 use Rattle.std.specs.Prelude.{if◌then◌else◌, nat_eq, nat_lt}
 use Rattle.std.specs.List.{AllByRecursion, dedup}
 use Rattle.std.specs.List.Sorted.{IsPermutation, IsSorted, IsStrictlySortedBy}
@@ -11,44 +11,22 @@ use Rattle.std.proofs.lemmas.List.Sorted.{Contains-permutation, IsPermutation-sy
 use Rattle.std.proofs.lemmas.Map.Keys.{IsStrictlyIncreasing-dedup, sorted_from_strictly_increasing}
 use Rattle.span_core.specs.Lists.{Has, IsInOrder}
 use Rattle.span_core.proofs.HasLaws.{Has-Contains, Contains-Has}
+use Rattle.span_core.proofs.ListLaws.{all_has, same_in_order}
 use Rattle.automaton_reading.specs.Reading.{put_up, put_down, set_of, blocks_down}
 use Rattle.automaton_reading.proofs.Determined.{put_up_cases, put_down_cases, set_has, has_set, blocks_has, has_block}
-
-pub all_has : {X : Type 0} (P : X → Type 0) (xs : List X) (x : X) → AllByRecursion P xs → Has xs x → P x
-all_has P [] x all h = absurd h
-all_has P (y ∷ xs) x all (inl e) = subst P e all.0
-all_has P (y ∷ xs) x all (inr h) = all_has P xs x all.1 h
 
 pub has_all : {X : Type 0} (P : X → Type 0) (xs : List X) → ((x : X) → Has xs x → P x) → AllByRecursion P xs
 has_all P [] all = tt
 has_all P (y ∷ xs) all = (all y (inl refl), has_all P xs (λ x h. all x (inr h)))
 
-module _ {X : Type 0} (R : X → X → Type 0) (irreflexive : (x : X) → R x x → ⊥) (transitive : (x y z : X) → R x y → R y z → R x z) where
-  -- two lists in order with the same members are one
-  pub in_order_same : (xs ys : List X) → IsInOrder R xs → IsInOrder R ys → ((x : X) → Has xs x → Has ys x) → ((x : X) → Has ys x → Has xs x) → xs ≡ ys
-  in_order_same [] [] a b there back = refl
-  in_order_same [] (y ∷ ys) a b there back = absurd (back y (inl refl))
-  in_order_same (x ∷ xs) [] a b there back = absurd (there x (inl refl))
-  in_order_same (x ∷ xs) (y ∷ ys) a b there back =
-      let e : y ≡ x = first (there x (inl refl)) (back y (inl refl)) in
-      let rest = in_order_same xs ys a.1 b.1
-      (λ z h. elim (there z (inr h)) as (λ _. Has ys z) [ inl f ↦ absurd (irreflexive x (subst (R x) (sym f ∙ e) (all_has (R x) xs z a.0 h))) | inr g ↦ g ])
-      (λ z h. elim (back z (inr h)) as (λ _. Has xs z) [ inl f ↦ absurd (irreflexive y (subst (R y) (sym f ∙ sym e) (all_has (R y) ys z b.0 h))) | inr g ↦ g ]) in
-      (λ i. sym e i ∷ rest i)
-    where
-      first : (y ≡ x) ⊎ Has ys x → (x ≡ y) ⊎ Has xs y → y ≡ x
-      first (inl f) g = f
-      first (inr f) (inl g) = sym g
-      first (inr f) (inr g) = absurd (irreflexive x (transitive x y x (all_has (R x) xs y a.0 g) (all_has (R y) ys x b.0 f)))
-
 pub ascending_same : (xs ys : List ℕ) → IsInOrder ◌<◌ xs → IsInOrder ◌<◌ ys → ((x : ℕ) → Has xs x → Has ys x) → ((x : ℕ) → Has ys x → Has xs x) → xs ≡ ys
-ascending_same xs ys = in_order_same ◌<◌ (λ x h. omega arith) (λ x y z g h. omega arith) xs ys
+ascending_same xs ys = same_in_order ◌<◌ (λ x y h g. let a : x < y = h in let b : y < x = g in omega (arith, a, b)) xs ys
 
 abbrev pub Above : ℕ → ℕ → Type 0
 Above x y = y < x
 
 pub descending_same : (xs ys : List ℕ) → IsInOrder Above xs → IsInOrder Above ys → ((x : ℕ) → Has xs x → Has ys x) → ((x : ℕ) → Has ys x → Has xs x) → xs ≡ ys
-descending_same xs ys = in_order_same Above (λ x h. omega arith) (λ x y z g h. omega arith) xs ys
+descending_same xs ys = same_in_order Above (λ x y h g. let a : y < x = h in let b : x < y = g in omega (arith, a, b)) xs ys
 
 pub put_up_in_order : (p : ℕ) (qs : List ℕ) → IsInOrder ◌<◌ qs → IsInOrder ◌<◌ (put_up p qs)
 put_up_in_order p [] h = (tt, tt)

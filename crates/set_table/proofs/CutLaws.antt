@@ -5,12 +5,13 @@ use Rattle.std.specs.List.{filter}
 use Rattle.std.proofs.lemmas.Bool.{eqb-true, eqb-false, eq-eqb, cases_lt}
 use Rattle.span_core.specs.Lists.{Has, IsInOrder}
 use Rattle.span_core.proofs.HasLaws.{Has-map, Has-map_cases}
+use Rattle.span_core.proofs.ListLaws.{all_has}
 use Rattle.marked_automaton.specs.declared.way.Way.{Way}
 use Rattle.automaton_reading.specs.Reading.{Reach, reach_with, set_of, blocks_down}
 use Rattle.automaton_reading.proofs.Determined.{set_has, has_set}
 use Rattle.marked_automaton.proofs.Passing.{filter_cases, has_filter}
 use Rattle.set_table.specs.Cut.{code, code_of, marks_of, to_of, one_reach, join, cut}
-use Rattle.set_table.proofs.Ascending.{all_has, has_all, Above, set_is, blocks_are, set_in_order}
+use Rattle.set_table.proofs.Ascending.{has_all, Above, set_is, blocks_are, set_in_order}
 
 abbrev pub marks_in : List Reach → List ℕ
 marks_in es = map (λ (e : Reach). e.marks) es

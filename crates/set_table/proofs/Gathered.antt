@@ -10,13 +10,14 @@ use Rattle.std.proofs.lemmas.Bool.{eq-eqb, cases_lt, eqb-true}
 use Rattle.std.proofs.lemmas.List.Sorted.{searched}
 use Rattle.span_core.specs.Lists.{Has, IsInOrder}
 use Rattle.span_core.proofs.HasLaws.{Has-map, Has-map_cases, Has-get_or, Contains-Has}
+use Rattle.span_core.proofs.ListLaws.{all_has}
 use Rattle.marked_automaton.specs.declared.way.Way.{Way}
 use Rattle.marked_automaton.specs.Automaton.{Automaton, ways_from}
 use Rattle.marked_automaton.proofs.Passing.{filter_cases, has_filter, has_flat_map, flat_map_cases, both_true, left_true, right_true}
 use Rattle.automaton_reading.specs.Reading.{is_among, set_of, ways_taken}
 use Rattle.automaton_reading.proofs.Determined.{set_has, has_set, has_among, among_has}
 use Rattle.set_table.specs.Cut.{code_of, codes_at}
-use Rattle.set_table.proofs.Ascending.{all_has, set_in_order, ascending_same}
+use Rattle.set_table.proofs.Ascending.{set_in_order, ascending_same}
 
 -- ---- members
 

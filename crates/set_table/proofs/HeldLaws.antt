@@ -11,6 +11,7 @@ use Rattle.std.proofs.lemmas.Option.{slice_get-get_or}
 use Rattle.span_core.specs.declared.edge.Edge.{Edge}
 use Rattle.span_core.specs.Lists.{AreDistinct, Has, IsInOrder}
 use Rattle.span_core.proofs.HasLaws.{Has-get_or, Has-map, Has-map_cases, Has-append_cases, Has-slice_get, Has-take, place_of-Has}
+use Rattle.span_core.proofs.ListLaws.{all_has}
 use Rattle.marked_automaton.specs.declared.way.Way.{Way}
 use Rattle.marked_automaton.specs.declared.way.Stop.{Stop}
 use Rattle.marked_automaton.specs.Automaton.{Automaton, IsWhole, Marked}
@@ -26,7 +27,7 @@ use Rattle.set_table.specs.declared.store.Store.{Store}
 use Rattle.set_table.specs.Named.{IsLongerBy}
 use Rattle.set_table.specs.Tabled.{HasEdges, HasEnds, idle_of, IsStateSet, IsTabled, Tabled, asked_first, look_up, look_ups_weight, weight, edge_named, reached, set_at, sets_weight, with_set, with_sets}
 use Rattle.set_table.specs.Answered.{Adds, IsAnswer, IsHeld, IsQuestion, IsSound, tabled, answer_in, question_of, end_reach, look_up_of, look_ups_of, part, place_in, place_of, room, with_places}
-use Rattle.set_table.proofs.Ascending.{Above, all_has, has_all, blocks_in_order, set_in_order}
+use Rattle.set_table.proofs.Ascending.{Above, has_all, blocks_in_order, set_in_order}
 use Rattle.set_table.proofs.NamingLaws.{named_stay}
 use Rattle.set_table.proofs.SetsLaws.{has_with_sets, number_told, set_stays, with_sets_apart, with_sets_longer}
 

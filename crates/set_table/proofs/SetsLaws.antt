@@ -4,19 +4,13 @@ use Rattle.std.specs.Prelude.{if◌then◌else◌, ◌||◌, slice_get}
 use Rattle.std.specs.List.{list_any, IsDistinct}
 use Rattle.std.specs.Str.{bytes_eq}
 use Rattle.std.proofs.lemmas.List.{append-nil, map-append}
-use Rattle.std.proofs.lemmas.Slice.Eq.{bytes_eq-Decides}
+use Rattle.automaton_reading.proofs.MeasureLaws.{bytes_itself}
 use Rattle.indexmap.specs.IndexSet.{insert_key}
 use Rattle.span_core.specs.Lists.{AreDistinct, Has}
 use Rattle.span_core.proofs.HasLaws.{Has-append_cases, Has-append_left, Has-get_or, Has-map_cases}
+use Rattle.span_core.proofs.ListLaws.{all_has}
 use Rattle.set_table.specs.Named.{IsLongerBy}
 use Rattle.set_table.specs.Tabled.{set_at, with_set, with_sets}
-use Rattle.set_table.proofs.Ascending.{all_has}
-
-pub same_bytes : (x y : List ℕ) → bytes_eq x y ≡ true → x ≡ y
-same_bytes x y e = (bytes_eq-Decides x y).0 e
-
-pub bytes_itself : (x : List ℕ) → bytes_eq x x ≡ true
-bytes_itself x = (bytes_eq-Decides x x).1 refl
 
 -- values that are compared by their lists
 module _ {X : Type 0} (f : X → List ℕ) (eq : X → X → Bool) (is : (x y : X) → eq x y ≡ bytes_eq (f x) (f y)) where

@@ -13,11 +13,7 @@ use Rattle.span_core.specs.BlockLaws.{block_below}
 use Rattle.span_core.specs.Blocks.{listed, IsRowOfBlocks, IsMarked, IsMarkedOnce, IsOpenedAndClosed, HasMarker, HaveFault, FaultsTellNoRow}
 use Rattle.span_core.proofs.BlockBits.{marked_present, row_opens, row_closes, start_is, end_is, set_here, block_opens, block_closes, absent_opens, absent_closes}
 use Rattle.span_core.proofs.ListedBlocks.{past_listed, listed_past}
-
--- ---- what can be decided
-
-abbrev Decided : Type 0 → Type 0
-Decided P = P ⊎ (P → ⊥)
+use Rattle.span_core.proofs.Deciding.{Decided, decide_both, decide_either, decide_not, decide_le}
 
 -- whether P holds of a number below n
 module _ (P : ℕ → Type 0) (decide : (k : ℕ) → Decided (P k)) where
@@ -35,23 +31,6 @@ module _ (P : ℕ → Type 0) (decide : (k : ℕ) → Decided (P k)) where
   search_below : (n : ℕ) → FoundBelow n
   search_below zero = inr (λ k l p. omega arith)
   search_below (suc n) = one_more n (search_below n) (decide n)
-
-decide_both : (P Q : Type 0) → Decided P → Decided Q → Decided (P × Q)
-decide_both P Q (inl p) (inl q) = inl (p, q)
-decide_both P Q (inl p) (inr refuted) = inr (λ h. refuted h.1)
-decide_both P Q (inr refuted) d = inr (λ h. refuted h.0)
-
-decide_either : (P Q : Type 0) → Decided P → Decided Q → Decided (P ⊎ Q)
-decide_either P Q (inl p) d = inl (inl p)
-decide_either P Q (inr refuted) (inl q) = inl (inr q)
-decide_either P Q (inr refuted) (inr refuted') = inr (λ h. elim h [ inl p ↦ refuted p | inr q ↦ refuted' q ])
-
-decide_not : (P : Type 0) → Decided P → Decided (P → ⊥)
-decide_not P (inl p) = inr (λ refuted. refuted p)
-decide_not P (inr refuted) = inl refuted
-
-pub decide_le : (a b : ℕ) → Decided (a ≤ b)
-decide_le a b = elim (cases_lt b a) [ inl l ↦ inr (λ h. omega (arith, l, h)) | inr l ↦ inl (omega (arith, l)) ]
 
 -- ---- the bits of the blocks
 

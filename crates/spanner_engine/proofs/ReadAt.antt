@@ -1,7 +1,7 @@
 -- The positions at which a document is read, as sets.
-use Rattle.std.proofs.Common.{◌≡◌, ℕ, ◌+◌, ◌<◌, ◌≤◌, ◌⊎◌, ◌↔◌, Bool, true, false, List, [], ◌∷◌, length, Option, Some, None, inl, inr, refl, sym, subst, arith}
-use Rattle.std.specs.Prelude.{IsTrue}
+use Rattle.std.proofs.Common.{◌≡◌, ℕ, ◌+◌, ◌<◌, ◌≤◌, ◌⊎◌, ◌↔◌, Bool, true, false, List, [], ◌∷◌, length, Option, Some, None, inl, inr, sym, subst, arith}
 use Rattle.std.proofs.lemmas.Bool.{true≢false}
+use Rattle.std.specs.Bool.{one_answer}
 use Rattle.span_core.specs.Intervals.{Covers}
 use Rattle.spanner_model.specs.Answers.{SpanRow}
 use Rattle.spanner_model.specs.Expression.{AtomTree, ExprTree, QueryTree, atom, join, join_end, minus, named, project, union, union_end}
@@ -19,14 +19,8 @@ use Rattle.spanner_engine.specs.Begun.{AreRead, IsReadAt, IsReadWithin, begin_st
 -- ---- sets
 
 -- two sets of the same positions are the same
-same_truth : (a b : Bool) → IsTrue a ↔ IsTrue b → a ≡ b
-same_truth true true h = refl
-same_truth true false h = absurd (true≢false (sym (h.0 refl)))
-same_truth false true h = absurd (true≢false (sym (h.1 refl)))
-same_truth false false h = refl
-
 pub same_set : (P : ℕ → Type 0) (K J : ℕ → Bool) → IsSetOf K P → IsSetOf J P → K ≡ J
-same_set P K J k j = let at : (i : ℕ) → K i ≡ J i = λ i. same_truth (K i) (J i) (λ h. (j i).1 ((k i).0 h), λ h. (k i).1 ((j i).0 h)) in λ x i. at i x
+same_set P K J k j = let at : (i : ℕ) → K i ≡ J i = λ i. one_answer (K i) (J i) (k i) (j i) in λ x i. at i x
 
 -- ---- within the document
 

@@ -1,7 +1,6 @@
 -- Lists in order, pages, and that both are determined.
 use Rattle.std.proofs.Common.{◌≡◌, ℕ, zero, suc, ◌+◌, ◌-◌, ◌<◌, Bool, true, false, List, [], ◌∷◌, ◌++◌, length, take, drop, Option, Some, None, IsTrue, inl, inr, refl, sym, ap, ◌∙◌, subst, arith, append_assoc, length-drop}
 use Rattle.std.proofs.Math.Seq.{take-add}
-use Rattle.std.specs.List.{AllByRecursion}
 use Rattle.std.proofs.lemmas.Bool.{cases_lt}
 use Rattle.std.proofs.lemmas.List.{take-append-drop}
 use Rattle.span_core.specs.Block.{block}
@@ -11,6 +10,7 @@ use Rattle.spanner_model.specs.Captures.{VarName}
 use Rattle.spanner_model.specs.Expression.{QueryTree}
 use Rattle.spanner_model.specs.Answers.{SpanRow, AreInBlockOrder, AreAnswers, IsRest, IsPage, page_end}
 use Rattle.span_core.proofs.HasLaws.{Has-append_right, Has-append_cases}
+use Rattle.span_core.proofs.ListLaws.{all_has, same_in_order}
 
 -- ---- of two rows one stands before the other at most
 
@@ -27,33 +27,6 @@ not_both a b h g =
 -- ---- lists in an order
 
 module _ {X : Type 0} (Before : X → X → Type 0) (apart : (x y : X) → Before x y → Before y x → ⊥) where
-  all_has : (P : X → Type 0) (xs : List X) (x : X) → AllByRecursion P xs → Has xs x → P x
-  all_has P [] x a h = absurd h
-  all_has P (y ∷ xs) x a (inl e) = subst P e a.0
-  all_has P (y ∷ xs) x a (inr h) = all_has P xs x a.1 h
-
-  heads : (x y : X) (xs ys : List X) → IsInOrder Before (x ∷ xs) → IsInOrder Before (y ∷ ys) → Has (y ∷ ys) x → Has (x ∷ xs) y → x ≡ y
-  heads x y xs ys up vp (inl e) b = sym e
-  heads x y xs ys up vp (inr a) (inl e) = e
-  heads x y xs ys up vp (inr a) (inr b) = absurd (apart x y (all_has (Before x) xs y up.0 b) (all_has (Before y) ys x vp.0 a))
-
-  tail : (x z : X) (xs ys : List X) → IsInOrder Before (x ∷ xs) → Has xs z → Has (x ∷ ys) z → Has ys z
-  tail x z xs ys up a (inl e) = let b = all_has (Before x) xs z up.0 a in absurd (apart x x (subst (Before x) (sym e) b) (subst (Before x) (sym e) b))
-  tail x z xs ys up a (inr h) = h
-
-  -- lists in order with the same members are equal
-  pub same_in_order : (xs ys : List X) → IsInOrder Before xs → IsInOrder Before ys → ((z : X) → Has xs z → Has ys z) → ((z : X) → Has ys z → Has xs z) → xs ≡ ys
-  same_in_order [] [] up vp f g = refl
-  same_in_order [] (y ∷ ys) up vp f g = absurd (g y (inl refl))
-  same_in_order (x ∷ xs) [] up vp f g = absurd (f x (inl refl))
-  same_in_order (x ∷ xs) (y ∷ ys) up vp f g =
-      let e : x ≡ y = heads x y xs ys up vp (f x (inl refl)) (g y (inl refl)) in
-      let up' : IsInOrder Before (y ∷ xs) = subst (λ (h : X). IsInOrder Before (h ∷ xs)) e up in
-      let rest : xs ≡ ys = same_in_order xs ys up.1 vp.1
-      (λ z h. tail y z xs ys up' h (f z (inr h)))
-      (λ z h. tail y z ys xs vp h (subst (λ (k : X). Has (k ∷ xs) z) e (g z (inr h)))) in
-      ap (λ k. k ∷ xs) e ∙ ap (λ k. y ∷ k) rest
-
   -- what is in the front stands before what is behind
   pub front_before : (xs ys : List X) (x y : X) → IsInOrder Before (xs ++ ys) → Has xs x → Has ys y → Before x y
   front_before [] ys x y up h g = absurd h

@@ -1,5 +1,5 @@
 -- The parts of concatenations and alternations.
-use Rattle.std.proofs.Common.{◌≡◌, ℕ, suc, ◌+◌, ◌<◌, ◌≤◌, ◌⊎◌, ◌↔◌, List, [], ◌∷◌, ◌++◌, length, get_or, take, drop, Some, inl, inr, refl, sym, ap, ◌∙◌, subst, arith, add-one, drop-cons}
+use Rattle.std.proofs.Common.{◌≡◌, ℕ, ◌+◌, ◌<◌, ◌≤◌, ◌⊎◌, ◌↔◌, List, [], ◌∷◌, ◌++◌, length, get_or, take, Some, inl, inr, refl, sym, ap, ◌∙◌, subst, arith}
 use Rattle.std.specs.Prelude.{slice_get}
 use Rattle.std.proofs.lemmas.List.{take_more}
 use Rattle.std.proofs.lemmas.Option.{slice_get_within, get_or_from_slice_get}
@@ -9,13 +9,6 @@ use Rattle.spanner_model.specs.Captures.{VarName}
 use Rattle.spanner_model.specs.Sequential.{HasVar, IsSequential}
 use Rattle.spanner_model.specs.WellBuilt.{IsBuilt, AreParts, AreArms, nesting, IsWellBuilt}
 use Rattle.spanner_model.proofs.Nodes.{nodes}
-
--- the part at a place, and those after it
-pub split_at : {X : Type 0} (ts : List X) (k : ℕ) (t : X) → slice_get ts k ≡ Some t → drop k ts ≡ t ∷ drop (k + 1) ts
-split_at ts k t e =
-    let within = slice_get_within ts k t e in
-    let here : get_or ts k t ≡ t = get_or_from_slice_get ts k t t e in
-    rw add-one (drop-cons ts k t within ∙ ap (λ x. x ∷ drop (suc k) ts) here)
 
 -- the parts before a place, and that part
 pub take_at_more : {X : Type 0} (ts : List X) (k : ℕ) (t : X) → slice_get ts k ≡ Some t → take (k + 1) ts ≡ take k ts ++ t ∷ []

@@ -5,8 +5,9 @@ use Rattle.spanner_model.specs.Tree.{rep, cap, cat_all, alt_all}
 use Rattle.spanner_model.specs.WellBuilt.{IsWellBuilt}
 use Rattle.span_core.specs.Lists.{Has}
 use Rattle.span_core.proofs.HasLaws.{Has-slice_get}
+use Rattle.span_core.proofs.ListLaws.{at_drop}
 use Rattle.spanner_model.proofs.Nodes.{nodes}
-use Rattle.spanner_model.proofs.TreeLaws.{split_at, take_at_more, part_has, arms_have, part_nodes, arms_nodes, parts_well_built, arms_well_built, sequential_part, sequential_arm}
+use Rattle.spanner_model.proofs.TreeLaws.{take_at_more, part_has, arms_have, part_nodes, arms_nodes, parts_well_built, arms_well_built, sequential_part, sequential_arm}
 use Rattle.spanner_model.proofs.Trees.{tree_of-Cat, tree_of-Alt, tree_of-Rep, tree_of-Cap}
 use Rattle.place_automaton.specs.Capped.{AreCapped}
 use Rattle.place_automaton.specs.Counts.{PlaceCounts, counts_opt, counts_over, counts_repeated, largest_null_over}
@@ -80,7 +81,7 @@ count_arms-loop-waiting-preserved t c =
     let f = tree_of c.at.result.now in
     let rest = drop c.loop-waiting.waiting ts in
     let next : k + 1 ≡ c.loop-waiting.waiting = omega arith in
-    let e = split_at ts k f c.at.ensures ∙ ap (λ n. f ∷ drop n ts) next in
+    let e = at_drop ts k f c.at.ensures ∙ ap (λ n. f ∷ drop n ts) next in
     let both = c.in_ok-alt.ensures (counts_over names f) (counts_over names (alt_all rest)) c.in_ok-arm.ensures.ok c.loop-waiting.invariant.1 in
     let size = ap (λ (ms : List ℕ). length ms) both.null in (
       omega arith,
@@ -167,7 +168,7 @@ count_arms-returns-in_err-numbers-clause-err t c =
     let f = tree_of c.at.result.now in
     let rest = drop c.loop-waiting.waiting ts in
     let next : k + 1 ≡ c.loop-waiting.waiting = omega arith in
-    let e = split_at ts k f c.at.ensures ∙ ap (λ n. f ∷ drop n ts) next in
+    let e = at_drop ts k f c.at.ensures ∙ ap (λ n. f ∷ drop n ts) next in
     let both = c.in_ok-alt.ensures (counts_over names f) (counts_over names (alt_all rest)) c.in_ok-arm.ensures.ok c.loop-waiting.invariant.1 in
     let size = ap (λ (ms : List ℕ). length ms) both.null in
     let all = arms_largest (opening_of names) (closing_of names) ts k in

@@ -8,7 +8,7 @@ use Rattle.span_core.proofs.HasLaws.{Has-slice_get}
 use Rattle.spanner_model.proofs.NodeParts.{has_parts}
 use Rattle.spanner_model.proofs.TreeLaws.{part_nodes}
 use Rattle.spanner_model.proofs.Trees.{tree_of-Rep, tree_of-Cap}
-use Rattle.plain_spanner.specs.Listed.{IsBare}
+use Rattle.spanner_model.specs.Sequential.{HasNoVar}
 use Rattle.plain_spanner.proofs.BareLaws.{bare_same, bare_part, bare_more}
 use Rattle.plain_spanner.proofs.bare.+bare.Goals as goal
 
@@ -25,12 +25,12 @@ is_bare-returns-in-Cat t c =
 pub is_bare-returns-in-Rep : goal.is_bare-returns-in-Rep
 is_bare-returns-in-Rep t c =
     let e = ap tree_of c.in-Rep.is ∙ tree_of-Rep c.in-Rep.sub c.in-Rep.field-1 c.in-Rep.field-2 ∙ ap (λ x. rep (tree_of x) c.in-Rep.field-1 c.in-Rep.field-2) (sym c.deref.ensures) in
-    subst (λ (f : Tree). IsTrue c.is_bare.result ↔ IsBare f) (sym e) c.is_bare.ensures
+    subst (λ (f : Tree). IsTrue c.is_bare.result ↔ HasNoVar f) (sym e) c.is_bare.ensures
 
 pub is_bare-returns-in-Cap : goal.is_bare-returns-in-Cap
 is_bare-returns-in-Cap t c =
     let e = ap tree_of c.in-Cap.is ∙ tree_of-Cap c.in-Cap.field-0 c.in-Cap.field-1 in
-    (λ r. absurd (false≢true r), λ b. absurd (subst IsBare e b c.in-Cap.field-0 (inl refl)))
+    (λ r. absurd (false≢true r), λ b. absurd (subst HasNoVar e b c.in-Cap.field-0 (inl refl)))
 
 pub are_bare-is_bare-requires : goal.are_bare-is_bare-requires
 are_bare-is_bare-requires t c =
@@ -51,4 +51,4 @@ pub are_bare-returns : goal.are_bare-returns
 are_bare-returns t c =
     let ts = trees_of c.args.parts.now in
     let e : c.loop-k.k ≡ length ts = omega arith in
-    (λ r. subst (λ us. IsBare (cat_all us)) (ap (λ n. take n ts) e ∙ take-length ts) c.loop-k.invariant, λ b. refl)
+    (λ r. subst (λ us. HasNoVar (cat_all us)) (ap (λ n. take n ts) e ∙ take-length ts) c.loop-k.invariant, λ b. refl)

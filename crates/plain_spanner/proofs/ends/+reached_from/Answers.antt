@@ -14,7 +14,8 @@ use Rattle.spanner_model.proofs.NodeParts.{has_parts}
 use Rattle.spanner_model.proofs.Nodes.{nodes}
 use Rattle.spanner_model.proofs.TreeLaws.{part_nodes}
 use Rattle.spanner_model.proofs.Trees.{tree_of-One, tree_of-Cat, tree_of-Alt, tree_of-Rep, tree_of-Cap}
-use Rattle.plain_spanner.specs.Listed.{Tells, FromSome, IsBare, LeadsOn, LeadsTimes, LeadsIn}
+use Rattle.spanner_model.specs.Sequential.{HasNoVar}
+use Rattle.plain_spanner.specs.Listed.{Tells, FromSome, LeadsOn, LeadsTimes, LeadsIn}
 use Rattle.plain_spanner.proofs.BareLaws.{bare_same, bare_part, bare_take}
 use Rattle.plain_spanner.proofs.TellsLaws.{tells_through, tells_only, tells_appended_to, from_none, from_more, from_all, empty_list}
 use Rattle.plain_spanner.proofs.RepeatLaws.{Closed, times_snoc, times_unsnoc, times_begin, lists_repeat, leads_then, leads_none, leads_within, Has-drop, rounds_none, closed_none, closed_more, rounds_more, rounds_done}
@@ -39,7 +40,7 @@ reached_from-repeated-requires t c =
     let w = subst IsWellBuilt e c.requires.built in
     let n = ap nodes e in
     let deep = w.1 in
-    (omega (arith, n), ((w.0.0, omega (arith, deep)), (subst IsBare e c.requires.bare, (c.requires.short, c.requires.within))))
+    (omega (arith, n), ((w.0.0, omega (arith, deep)), (subst HasNoVar e c.requires.bare, (c.requires.short, c.requires.within))))
 
 pub reached_from-rounds-more-requires : goal.reached_from-rounds-more-requires
 reached_from-rounds-more-requires t c =
@@ -58,7 +59,7 @@ reached_from-repeated_more-requires t c =
     let within : (k : ℕ) → Has c.deref-in-Rep-2.result.now k → k ≤ length d = λ k h.
     leads_within (Times (Fit f d) c.in-Rep.least) (length d) c.args.starts.now c.in_ok-first-in-Rep.first.items (λ i j le h. times_stay f d c.in-Rep.least i j le h) c.requires.within c.in_ok-first-in-Rep.ensures k
     (subst (λ (ys : List ℕ). Has ys k) c.deref-in-Rep-2.ensures.value h) in
-    (omega (arith, n), ((w.0.0, omega (arith, deep)), (subst IsBare e c.requires.bare, (c.requires.short, within))))
+    (omega (arith, n), ((w.0.0, omega (arith, deep)), (subst HasNoVar e c.requires.bare, (c.requires.short, within))))
 
 pub reached_from-returns-in_ok-first-in-Rep : goal.reached_from-returns-in_ok-first-in-Rep
 reached_from-returns-in_ok-first-in-Rep t c =
@@ -69,7 +70,7 @@ reached_from-returns-in_ok-first-in-Rep t c =
     let f = tree_of c.deref.result.now in
     let e = ap tree_of c.in-Rep.is ∙ tree_of-Rep c.in-Rep.sub least most ∙ ap (λ x. rep (tree_of x) least most) (sym c.deref.ensures) in
     let same : tree_of c.deref-in-Rep.result.now ≡ f = ap tree_of (c.deref-in-Rep.ensures ∙ sym c.deref.ensures) in
-    let bare = subst IsBare e c.requires.bare in
+    let bare = subst HasNoVar e c.requires.bare in
     IfOk-weaker c.repeated_more.result _ _ (λ v so.
     let so' = subst (λ (g : Tree). Tells (Has v.items) (LeadsIn (Fit g d) 0 c.rounds-more.result c.deref-in-Rep-2.result.now)) same so in
     let so'' = subst (λ (xs : List ℕ). Tells (Has v.items) (LeadsIn (Fit f d) 0 c.rounds-more.result xs)) c.deref-in-Rep-2.ensures.value so' in
@@ -95,7 +96,7 @@ reached_from-returns-in-One t c =
 pub reached_from-returns-in-Cap : goal.reached_from-returns-in-Cap
 reached_from-returns-in-Cap t c =
     let e = ap tree_of c.in-Cap.is ∙ tree_of-Cap c.in-Cap.field-0 c.in-Cap.field-1 in
-    absurd (subst IsBare e c.requires.bare c.in-Cap.field-0 (inl refl))
+    absurd (subst HasNoVar e c.requires.bare c.in-Cap.field-0 (inl refl))
 
 pub in_turn-reached_from-requires : goal.in_turn-reached_from-requires
 in_turn-reached_from-requires t c =

@@ -7,7 +7,7 @@ use Rattle.spanner_model.specs.View.{tree_of, trees_of}
 use Rattle.spanner_model.specs.Tree.{Tree, cap, cat_all}
 use Rattle.spanner_model.specs.Fit.{Fit}
 use Rattle.spanner_model.specs.WellBuilt.{IsWellBuilt}
-use Rattle.spanner_model.specs.Sequential.{IsSequential}
+use Rattle.spanner_model.specs.Sequential.{IsSequential, HasNoVar}
 use Rattle.spanner_model.proofs.FitLaws.{fit_within}
 use Rattle.span_core.proofs.HasLaws.{Has-slice_get, Has-get_or}
 use Rattle.spanner_model.proofs.NodeParts.{has_parts}
@@ -15,7 +15,7 @@ use Rattle.spanner_model.proofs.Nodes.{nodes}
 use Rattle.spanner_model.proofs.TreeLaws.{part_nodes, sequential_part, sequential_arm}
 use Rattle.spanner_model.proofs.Trees.{tree_of-One, tree_of-Empty, tree_of-Cat, tree_of-Alt, tree_of-Cap}
 use Rattle.plain_spanner.specs.declared.TheConstants.{MOST_DOCUMENT_BYTES}
-use Rattle.plain_spanner.specs.Listed.{Tells, FromSome, EndAndCaptures, CapturesAndEnds, IsBare, HasFit, Continued, AreWithin, CapturedFrom, CapturedAt}
+use Rattle.plain_spanner.specs.Listed.{Tells, FromSome, EndAndCaptures, CapturesAndEnds, HasFit, Continued, AreWithin, CapturedFrom, CapturedAt}
 use Rattle.plain_spanner.proofs.BareLaws.{bare_same}
 use Rattle.plain_spanner.proofs.PartLists.{cat_more_split, cat_more_join, cat_begins}
 use Rattle.plain_spanner.proofs.TellsLaws.{tells_or, tells_only, from_none, from_more, from_all, empty_list}
@@ -41,9 +41,9 @@ go_on-go_on_bare-requires-clause-bare t c =
 
 pub go_on-go_on_bare-requires-in-Empty-clause-bare : goal.go_on-go_on_bare-requires-in-Empty-clause-bare
 go_on-go_on_bare-requires-in-Empty-clause-bare t c =
-    elim c.in-Empty.is as (λ _. IsBare (tree_of c.args.formula.now)) [
-      | inl e ↦ subst IsBare (sym (ap tree_of e ∙ tree_of-Empty)) (λ x v. v)
-      | inr o ↦ subst IsBare (sym (ap tree_of o.1 ∙ tree_of-One o.0)) (λ x v. v)
+    elim c.in-Empty.is as (λ _. HasNoVar (tree_of c.args.formula.now)) [
+      | inl e ↦ subst HasNoVar (sym (ap tree_of e ∙ tree_of-Empty)) (λ x v. v)
+      | inr o ↦ subst HasNoVar (sym (ap tree_of o.1 ∙ tree_of-One o.0)) (λ x v. v)
     ]
 
 pub go_on-captured-requires : goal.go_on-captured-requires

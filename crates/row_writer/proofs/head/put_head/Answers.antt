@@ -1,6 +1,6 @@
 use Rattle.std.proofs.Common.{ℕ, List, Some, take, sym, ap, ◌∙◌, subst, length, arith, ◌≤◌}
 use Rattle.span_core.specs.declared.TheConstants.{MOST_NAME_BYTES}
-use Rattle.cell_text.proofs.Lists.{at_drop}
+use Rattle.span_core.proofs.ListLaws.{at_drop}
 use Rattle.row_writer.proofs.Fields.{field_more, name_short}
 use Rattle.row_writer.proofs.head.put_head.Goals as goal
 

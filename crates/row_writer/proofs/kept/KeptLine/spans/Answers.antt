@@ -1,5 +1,5 @@
 use Rattle.std.proofs.Common.{◌+◌, drop, ap, ◌∙◌}
-use Rattle.cell_text.proofs.Lists.{at_drop}
+use Rattle.span_core.proofs.ListLaws.{at_drop}
 use Rattle.row_writer.specs.Kept.{heads_of, spans_heads}
 use Rattle.row_writer.proofs.Keeping.{heads_append, names_more}
 use Rattle.row_writer.proofs.kept.KeptLine.spans.Goals as goal
