@@ -6,7 +6,7 @@ use Rattle.span_core.proofs.HasLaws.{Has-append_cases, Has-append_left, Has-appe
 use Rattle.marked_automaton.specs.declared.way.Way.{Way}
 use Rattle.marked_automaton.specs.declared.way.Stop.{Stop}
 use Rattle.marked_automaton.specs.Automaton.{Automaton, ReadsByte, idle_way}
-use Rattle.place_automaton.specs.declared.piece.Entry.{Entry}
+use Rattle.place_automaton.specs.declared.fragment.Entry.{Entry}
 use Rattle.place_automaton.specs.Places.{Places}
 use Rattle.place_automaton.specs.Atom.{after_ways, automaton_of_places, place_stops, stop_before, unless, way_after, way_from_first}
 use Rattle.place_automaton.proofs.AtomRuns.{WayCases, not_true, only_idle_after, stop_cases, unless_has, way_cases}

@@ -15,16 +15,16 @@ use Rattle.place_automaton.specs.Words.{opening_of, closing_of}
 use Rattle.place_automaton.proofs.FineLaws.{HasClasses, VarBits, vars_apart, fine_places, fine_joins}
 use Rattle.place_automaton.proofs.Rows.{in_turn, total, follows, row_places, row_is, row_count, row_follow, in_turn_more, total_more, follows_more, parts_row, copies, copies_more}
 
--- these parts have come, and the pieces are their ends
+-- these parts have come, and the fragments are their ends
 pub record IsRow (Ps : List Places) (old new : Draft) (xs : List Sides) : Type 0 where
-  pub pieces : xs ≡ map sides_of Ps
+  pub fragments : xs ≡ map sides_of Ps
   pub next : new.next ≡ old.next + total Ps
   pub ways : new.ways.items ≡ old.ways.items ++ follows Ps
 
 pub row_more : (Ps : List Places) (P : Places) (a b c : Draft) (xs ys : List Sides) (e : Sides) →
     IsRow Ps a b xs → HasPlaced P b c e → ys ≡ xs ++ e ∷ [] → IsRow (Ps ++ P ∷ []) a c ys
 row_more Ps P a b c xs ys e r h at = record {
-  pieces = at ∙ (ap (λ zs. zs ++ e ∷ []) r.pieces ∙ (ap (λ x. map sides_of Ps ++ x ∷ []) h.sides ∙ sym (map-append sides_of Ps (P ∷ []))));
+  fragments = at ∙ (ap (λ zs. zs ++ e ∷ []) r.fragments ∙ (ap (λ x. map sides_of Ps ++ x ∷ []) h.sides ∙ sym (map-append sides_of Ps (P ∷ []))));
   next = omega (arith, h.next, r.next, total_more Ps P);
   ways = h.ways ∙ (ap (λ ws. ws ++ P.follow) r.ways ∙ (append_assoc a.ways.items (follows Ps) P.follow ∙ ap (λ ws. a.ways.items ++ ws) (sym (follows_more Ps P))));
 }
@@ -35,10 +35,10 @@ pub row_done : (r : ℕ) (Ps : List Places) (W : Places) (a b c : Draft) (xs : L
     c.ways.items ≡ b.ways.items ++ row_ways r xs nothing_sides → HasPlaced W a c p
 row_done r Ps W a b c xs p is row ends next ways =
     let N = nothing_placed 0 in
-    let ways' = ways ∙ (ap (λ ws. ws ++ row_ways r xs nothing_sides) row.ways ∙ (ap (λ zs. (a.ways.items ++ follows Ps) ++ row_ways r zs nothing_sides) row.pieces
+    let ways' = ways ∙ (ap (λ ws. ws ++ row_ways r xs nothing_sides) row.ways ∙ (ap (λ zs. (a.ways.items ++ follows Ps) ++ row_ways r zs nothing_sides) row.fragments
     ∙ (append_assoc a.ways.items (follows Ps) (row_ways r (map sides_of Ps) nothing_sides) ∙ ap (λ ws. a.ways.items ++ ws) (sym (row_follow r Ps N))))) in
     subst (λ (V : Places). HasPlaced V a c p) (sym is) (record {
-      sides = ends ∙ (ap (λ zs. row_sides r zs nothing_sides) row.pieces ∙ sym (row_is r Ps N));
+      sides = ends ∙ (ap (λ zs. row_sides r zs nothing_sides) row.fragments ∙ sym (row_is r Ps N));
       next = omega (arith, next, row.next, row_count r Ps N);
       ways = ways';
     })

@@ -13,7 +13,7 @@ use Rattle.spanner_model.specs.WellBuilt.{IsBuilt, AreParts, AreArms}
 use Rattle.marked_automaton.specs.declared.way.Way.{Way}
 use Rattle.marked_automaton.specs.declared.way.Stop.{Stop}
 use Rattle.marked_automaton.specs.Automaton.{ByteClass}
-use Rattle.place_automaton.specs.declared.piece.Entry.{Entry}
+use Rattle.place_automaton.specs.declared.fragment.Entry.{Entry}
 use Rattle.place_automaton.specs.Sides.{sides_of, MarkOf, JoinAsSums, IsUnmarked}
 use Rattle.place_automaton.specs.Places.{Places, Placed, ways_between, entry_with, stop_with, nothing_placed, never_placed, one_placed, cat_places, alt_places, opt_places, plus_places, cap_places, plus_placed, copies_then, at_most, repeated, placed}
 use Rattle.place_automaton.specs.Repeats.{HasOrderedRepeats}

@@ -3,7 +3,7 @@ use Rattle.std.proofs.Common.{◌≡◌, ℕ, zero, suc, ◌+◌, ◌-◌, ◌<�
 use Rattle.std.specs.Prelude.{slice_set}
 use Rattle.std.proofs.lemmas.List.{take_more, map-append, append_assoc, get_or-drop, get_or-take, get_or_append_left, length-drop, length-take}
 use Rattle.marked_automaton.specs.declared.way.Stop.{Stop}
-use Rattle.place_automaton.specs.declared.piece.Entry.{Entry}
+use Rattle.place_automaton.specs.declared.fragment.Entry.{Entry}
 use Rattle.place_automaton.specs.Places.{entry_with, stop_with}
 
 module _ {X : Type 0} (f : X → X) where

@@ -7,7 +7,7 @@ use Rattle.spanner_model.specs.Captures.{VarName}
 use Rattle.spanner_model.specs.Tree.{Tree, empty, one, cat_end, cat, alt_end, alt, rep, cap}
 use Rattle.marked_automaton.specs.declared.way.Way.{Way}
 use Rattle.marked_automaton.specs.declared.way.Stop.{Stop}
-use Rattle.place_automaton.specs.declared.piece.Entry.{Entry}
+use Rattle.place_automaton.specs.declared.fragment.Entry.{Entry}
 use Rattle.place_automaton.specs.Sides.{Sides, sides_of}
 use Rattle.place_automaton.specs.Moves.{entry_moved, stop_moved, way_moved, places_moved, LieBelow}
 use Rattle.place_automaton.specs.Places.{Places, Placed, way_into, ways_between, entry_with, stop_with, cat_places, alt_places, opt_places, plus_places, cap_places, cat_placed, alt_placed, opt_placed, plus_placed, copies_then, at_most, repeated, placed}

@@ -6,7 +6,7 @@ use Rattle.span_core.specs.Lists.{Has}
 use Rattle.marked_automaton.specs.declared.way.Way.{Way}
 use Rattle.marked_automaton.specs.declared.way.Stop.{Stop}
 use Rattle.marked_automaton.specs.Automaton.{ReadsByte, Walk}
-use Rattle.place_automaton.specs.declared.piece.Entry.{Entry}
+use Rattle.place_automaton.specs.declared.fragment.Entry.{Entry}
 use Rattle.place_automaton.specs.Places.{Places, way_into, ways_between, entry_with, stop_with, cat_places, alt_places, plus_places, cap_places}
 use Rattle.place_automaton.specs.Reads.{Reads}
 use Rattle.span_core.proofs.HasLaws.{Has-append_left, Has-append_right, Has-append_cases, Has-map, Has-map_cases}

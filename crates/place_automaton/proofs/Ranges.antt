@@ -8,7 +8,7 @@ use Rattle.spanner_model.specs.Tree.{Tree, empty, one, cat_end, cat, alt_end, al
 use Rattle.marked_automaton.specs.declared.way.Way.{Way}
 use Rattle.marked_automaton.specs.declared.way.Stop.{Stop}
 use Rattle.marked_automaton.specs.Automaton.{ByteClass}
-use Rattle.place_automaton.specs.declared.piece.Entry.{Entry}
+use Rattle.place_automaton.specs.declared.fragment.Entry.{Entry}
 use Rattle.place_automaton.specs.Places.{Places, Placed, way_into, ways_between, entry_with, stop_with, cat_places, alt_places, opt_places, plus_places, cap_places, nothing_placed, never_placed, one_placed, cat_placed, plus_placed, copies_then, at_most, repeated, placed}
 use Rattle.span_core.proofs.HasLaws.{Has-append_cases, Has-map_cases}
 use Rattle.marked_automaton.proofs.Passing.{flat_map_cases}

@@ -205,7 +205,7 @@ again_done F least k j a b c xs p many row next ends ways =
     let Q = again_places least P in
     let q = again_is (least == 0) P in
     let front = map sides_of Ps in
-    let split : xs ≡ front ++ sides_of P ∷ [] = row.pieces ∙ (ap (map sides_of) all ∙ map-append sides_of Ps (P ∷ [])) in
+    let split : xs ≡ front ++ sides_of P ∷ [] = row.fragments ∙ (ap (map sides_of) all ∙ map-append sides_of Ps (P ∷ [])) in
     let fs = follows Ps in
     let between = ways_between P.last P.first in
     let rw = row_ways least front (again_sides least (sides_of P)) in

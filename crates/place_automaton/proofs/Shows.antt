@@ -10,7 +10,7 @@ use Rattle.span_core.specs.Lists.{Has}
 use Rattle.spanner_model.specs.Tree.{one}
 use Rattle.marked_automaton.specs.declared.way.Stop.{Stop}
 use Rattle.marked_automaton.specs.Automaton.{ByteClass, ReadsByte}
-use Rattle.place_automaton.specs.declared.piece.Entry.{Entry}
+use Rattle.place_automaton.specs.declared.fragment.Entry.{Entry}
 use Rattle.place_automaton.specs.Places.{Places, add_once, either_once, sums, nothing_placed, never_placed, one_placed, cat_places, alt_places, opt_places, plus_places, cap_places}
 use Rattle.place_automaton.specs.Reads.{Reads, Shown, blocks}
 use Rattle.place_automaton.proofs.Blocks.{bit_here, bit_apart, cap_block, blocks_append, IsEmptyOutside, DoesNotEndBefore}

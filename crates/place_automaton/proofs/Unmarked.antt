@@ -5,7 +5,7 @@ use Rattle.std.specs.List.{flat_map}
 use Rattle.std.specs.Int.Bits.{or_zero_l}
 use Rattle.span_core.specs.Lists.{Has}
 use Rattle.marked_automaton.specs.declared.way.Stop.{Stop}
-use Rattle.place_automaton.specs.declared.piece.Entry.{Entry}
+use Rattle.place_automaton.specs.declared.fragment.Entry.{Entry}
 use Rattle.place_automaton.specs.Sides.{Sides, sides_of, JoinAsSums, IsUnmarked, cat_sides, opt_sides, row_sides, RowJoins, again_sides, nothing_sides}
 use Rattle.place_automaton.specs.Places.{Placed, entry_with, stop_with}
 use Rattle.span_core.proofs.HasLaws.{Has-append_cases}

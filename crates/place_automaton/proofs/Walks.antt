@@ -4,7 +4,7 @@ use Rattle.span_core.specs.Lists.{Has}
 use Rattle.marked_automaton.specs.declared.way.Way.{Way}
 use Rattle.marked_automaton.specs.declared.way.Stop.{Stop}
 use Rattle.marked_automaton.specs.Automaton.{ReadsByte, Walk}
-use Rattle.place_automaton.specs.declared.piece.Entry.{Entry}
+use Rattle.place_automaton.specs.declared.fragment.Entry.{Entry}
 use Rattle.place_automaton.specs.Places.{way_into}
 
 -- the first way that crosses from an end to an entry: n1 ways before it, n2 after it

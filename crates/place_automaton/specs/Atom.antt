@@ -7,7 +7,7 @@ use Rattle.spanner_model.specs.Expression.{AtomTree}
 use Rattle.marked_automaton.specs.declared.way.Way.{Way}
 use Rattle.marked_automaton.specs.declared.way.Stop.{Stop}
 use Rattle.marked_automaton.specs.Automaton.{Automaton, Accepts, all_bytes, idle_way}
-use Rattle.place_automaton.specs.declared.piece.Entry.{Entry}
+use Rattle.place_automaton.specs.declared.fragment.Entry.{Entry}
 use Rattle.place_automaton.specs.Places.{Places, placed}
 use Rattle.place_automaton.specs.Reads.{blocks}
 use Rattle.spanner_model.specs.Sequential.{IsSequential}

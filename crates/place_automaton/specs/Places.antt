@@ -6,7 +6,7 @@ use Rattle.spanner_model.specs.Tree.{Tree, empty, one, cat_end, cat, alt_end, al
 use Rattle.marked_automaton.specs.declared.way.Way.{Way}
 use Rattle.marked_automaton.specs.declared.way.Stop.{Stop}
 use Rattle.marked_automaton.specs.Automaton.{ByteClass}
-use Rattle.place_automaton.specs.declared.piece.Entry.{Entry}
+use Rattle.place_automaton.specs.declared.fragment.Entry.{Entry}
 
 pub record Places : Type 0 where
   -- how many places

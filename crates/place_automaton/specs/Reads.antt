@@ -4,7 +4,7 @@ use Rattle.spanner_model.specs.Captures.{VarName, Captures}
 use Rattle.span_core.specs.Lists.{Has}
 use Rattle.marked_automaton.specs.declared.way.Stop.{Stop}
 use Rattle.marked_automaton.specs.Automaton.{ReadsByte, Walk}
-use Rattle.place_automaton.specs.declared.piece.Entry.{Entry}
+use Rattle.place_automaton.specs.declared.fragment.Entry.{Entry}
 use Rattle.place_automaton.specs.Places.{Places}
 
 -- a first place reads the byte at i, n further places read on from there; the block at i is a, the one

@@ -21,9 +21,9 @@ ghost use Rattle.place_automaton.specs.Refusals.{IsRefusalOf};
 ghost use Rattle.place_automaton.specs.Words.{atom_automaton};
 
 use crate::counting::{CountFault, TOO_MANY_WAYS, numbers_of, states_of_atom};
+use crate::fragment::Fragment;
 use crate::null_sets::MOST_PAIRS;
 use crate::outer::{add_stop_unless, push_idle_unless, set_idle_unless};
-use crate::piece::Piece;
 use crate::placing::{Draft, place};
 use crate::variables::vars_of;
 use crate::{BEFORE, MOST_ENDS};
@@ -96,15 +96,15 @@ fn made(alloc: Global, atom: &Atom, room: usize) -> Result<Automaton, OutOfMemor
         ways: Vec::with_capacity(alloc, room)?,
         left: MOST_PAIRS,
     };
-    let piece = place(alloc, &vars, &atom.formula, &mut draft)?;
+    let fragment = place(alloc, &vars, &atom.formula, &mut draft)?;
     let after = draft.next;
     let mut ways = draft.ways;
-    push_outer(alloc, atom, &piece, after, &mut ways)?;
+    push_outer(alloc, atom, &fragment, after, &mut ways)?;
     let states = states_of(atom.to_end, after);
     let Ok(mut automaton) = Automaton::with_ways(alloc, vars, states, ways) else {
         return Err(OutOfMemory);
     };
-    finish(alloc, atom, &piece, after, &mut automaton)?;
+    finish(alloc, atom, &fragment, after, &mut automaton)?;
     automaton.group_ways(alloc)?;
     Ok(automaton)
 }
@@ -121,40 +121,40 @@ fn states_of(to_end: bool, after: u32) -> u32
 fn push_outer(
     alloc: Global,
     atom: &Atom,
-    piece: &Piece,
+    fragment: &Fragment,
     after: u32,
     ways: &mut Vec<Way>,
 ) -> Result<(), OutOfMemory>
-    ensures { OnOk result (ways.new.items ≡ ways.old.items ++ outer_ways atom.now.from_start atom.now.to_end after piece.now) }
+    ensures { OnOk result (ways.new.items ≡ ways.old.items ++ outer_ways atom.now.from_start atom.now.to_end after fragment.now) }
 {
-    piece.push_firsts(ways)?;
+    fragment.push_firsts(ways)?;
     push_idle_unless(atom.from_start, BEFORE, ways)?;
     push_idle_unless(atom.to_end, after, ways)?;
     if atom.to_end {
         return Ok(());
     }
-    piece.push_afters(alloc, after, ways)
+    fragment.push_afters(alloc, after, ways)
 }
 
 /// Adds the start, the ends and the idle states.
 fn finish(
     alloc: Global,
     atom: &Atom,
-    piece: &Piece,
+    fragment: &Fragment,
     after: u32,
     automaton: &mut Automaton,
 ) -> Result<(), OutOfMemory>
     requires start { 0 < automaton.old.graph.states }
     requires after { atom.now.to_end ≡ false → after < automaton.old.graph.states }
-    requires stops { (x : Stop) → Has (end_stops piece.now) x → x.state < automaton.old.graph.states }
-    requires marks { (x : Stop) → Has (end_stops piece.now) x → IsBlockOf (length automaton.old.names) x.marks }
+    requires stops { (x : Stop) → Has (end_stops fragment.now) x → x.state < automaton.old.graph.states }
+    requires marks { (x : Stop) → Has (end_stops fragment.now) x → IsBlockOf (length automaton.old.names) x.marks }
     requires before_way { atom.now.from_start ≡ false → Has automaton.old.graph.ways (idle_way 0) }
     requires after_way { atom.now.to_end ≡ false → Has automaton.old.graph.ways (idle_way after) }
     ensures names { automaton.new.names ≡ automaton.old.names }
-    ensures ok { OnOk result (IsFinished atom.now.from_start atom.now.to_end after piece.now automaton.old.graph automaton.new.graph) }
+    ensures ok { OnOk result (IsFinished atom.now.from_start atom.now.to_end after fragment.now automaton.old.graph automaton.new.graph) }
 {
     automaton.add_start(BEFORE)?;
-    piece.add_stops(alloc, automaton)?;
+    fragment.add_stops(alloc, automaton)?;
     add_stop_unless(atom.to_end, after, automaton)?;
     set_idle_unless(atom.from_start, BEFORE, automaton)?;
     set_idle_unless(atom.to_end, after, automaton)

@@ -6,11 +6,11 @@ ghost use Rattle.std.specs.Prelude.{◌≡◌, ℕ, ◌++◌, map, IfOk, OnOk};
 ghost use Rattle.std.specs.List.{flat_map};
 ghost use Rattle.span_core.specs.Lists.{Has};
 ghost use Rattle.marked_automaton.specs.declared.way.Stop.{Stop};
-ghost use Rattle.place_automaton.specs.declared.piece.Entry.{Entry};
+ghost use Rattle.place_automaton.specs.declared.fragment.Entry.{Entry};
 ghost use Rattle.place_automaton.specs.Sides.{JoinAsSum};
 ghost use Rattle.place_automaton.specs.Places.{way_into, ways_between, entry_with, stop_with};
 
-use crate::piece::Entry;
+use crate::fragment::Entry;
 use marked_automaton::{Stop, Way};
 use span_core::{Marks, OutOfMemory};
 

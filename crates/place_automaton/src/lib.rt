@@ -13,13 +13,13 @@ pub use counting::{Counts, count};
 
 mod building;
 mod counting;
+mod fragment;
 mod joins;
 pub mod laws;
 mod moving;
 mod null_sets;
 mod numbers;
 mod outer;
-mod piece;
 mod place_count;
 mod placing;
 mod variables;

@@ -7,10 +7,10 @@ ghost use Rattle.span_core.specs.Lists.{Has};
 ghost use Rattle.marked_automaton.specs.declared.TheConstants.{MOST_STATES};
 ghost use Rattle.marked_automaton.specs.declared.way.Stop.{Stop};
 ghost use Rattle.marked_automaton.specs.declared.way.Way.{Way};
-ghost use Rattle.place_automaton.specs.declared.piece.Entry.{Entry};
+ghost use Rattle.place_automaton.specs.declared.fragment.Entry.{Entry};
 ghost use Rattle.place_automaton.specs.Moves.{entry_moved, stop_moved, way_moved};
 
-use crate::piece::Entry;
+use crate::fragment::Entry;
 use marked_automaton::{Stop, Way};
 use span_core::OutOfMemory;
 use std::alloc::Global;

@@ -10,7 +10,7 @@ ghost use Rattle.place_automaton.specs.Atom.{stop_before, unless, way_after, way
 ghost use Rattle.place_automaton.specs.Made.{after_stop, with_stops};
 
 use crate::BEFORE;
-use crate::piece::Entry;
+use crate::fragment::Entry;
 use marked_automaton::{Automaton, Stop, Way};
 use span_core::{ByteSet, Marks, OutOfMemory};
 use std::alloc::Global;

@@ -19,8 +19,8 @@ ghost use Rattle.place_automaton.specs.Places.{Places};
 ghost use Rattle.spanner_model.specs.Sequential.{HasNoVar, IsSequential};
 ghost use Rattle.place_automaton.specs.Words.{opening_of, closing_of};
 
+use crate::fragment::{Fragment, join_again, join_row};
 use crate::moving::push_moved_ways;
-use crate::piece::{Piece, join_again, join_row};
 use marked_automaton::Way;
 use span_core::{ByteSet, Marks, Name, OutOfMemory, VarSet};
 use spanner_model::{Formula, Parts};
@@ -67,25 +67,25 @@ impl Draft {
         }
     }
 
-    /// Places a formula once more, whose ends are those of the piece and which added this. The ends and the
+    /// Places a formula once more, whose ends are those of the fragment and which added this. The ends and the
     /// ways are the same, but for the numbers of the places.
     fn place_again(
         &mut self,
         alloc: Global,
-        piece: &Piece,
+        fragment: &Fragment,
         added: &Added,
-    ) -> Result<Piece, OutOfMemory>
+    ) -> Result<Fragment, OutOfMemory>
         requires behind { added.now.first ≤ self.old.next }
         requires room { self.old.next + added.now.places ≤ MOST_STATES }
         requires order { added.now.from ≤ added.now.end }
         requires within { added.now.end ≤ length self.old.ways.items }
-        requires below { LieBelow (added.now.first + added.now.places) piece.now (take (added.now.end - added.now.from) (drop added.now.from self.old.ways.items)) }
-        ensures { (P : Places) → piece.now ≡ sides_of P → added.now.places ≡ P.count
+        requires below { LieBelow (added.now.first + added.now.places) fragment.now (take (added.now.end - added.now.from) (drop added.now.from self.old.ways.items)) }
+        ensures { (P : Places) → fragment.now ≡ sides_of P → added.now.places ≡ P.count
             → take (added.now.end - added.now.from) (drop added.now.from self.old.ways.items) ≡ P.follow
             → IfOk result (HasPlaced (places_moved (self.old.next - added.now.first) P) self.old self.new) }
     {
         let by = self.next - added.first;
-        let again = piece.moved(alloc, by)?;
+        let again = fragment.moved(alloc, by)?;
         push_moved_ways(added.from, added.end, by, &mut self.ways)?;
         self.next += added.places;
         Ok(again)
@@ -99,7 +99,7 @@ pub(crate) fn place(
     vars: &VarSet,
     formula: &Formula,
     draft: &mut Draft,
-) -> Result<Piece, OutOfMemory>
+) -> Result<Fragment, OutOfMemory>
     requires built { IsWellBuilt (tree_of formula.now) }
     requires sequential { IsSequential (tree_of formula.now) }
     requires distinct { AreDistinct vars.now }
@@ -108,7 +108,7 @@ pub(crate) fn place(
     ensures { IfOk result (HasPlaced (places_of vars.now (tree_of formula.now) draft.old.next) draft.old draft.new) }
 {
     match formula {
-        Formula::Empty => Piece::nothing(alloc),
+        Formula::Empty => Fragment::nothing(alloc),
         Formula::One(bytes) => place_one(alloc, bytes, draft),
         Formula::Cat(parts) => place_parts(alloc, vars, parts, draft),
         Formula::Alt(arms) => place_arms(alloc, vars, arms, draft),
@@ -119,20 +119,20 @@ pub(crate) fn place(
             place_repeat(alloc, vars, sub, *least, *most, draft)
         }
         Formula::Cap(name, sub) => {
-            let piece = place(alloc, vars, sub, draft)?;
-            Ok(captured(vars, name, piece))
+            let fragment = place(alloc, vars, sub, draft)?;
+            Ok(captured(vars, name, fragment))
         }
     }
 }
 
 /// Places one byte.
-fn place_one(alloc: Global, bytes: &ByteSet, draft: &mut Draft) -> Result<Piece, OutOfMemory>
+fn place_one(alloc: Global, bytes: &ByteSet, draft: &mut Draft) -> Result<Fragment, OutOfMemory>
     requires { draft.old.next + 1 ≤ MOST_STATES }
     ensures { (names : List VarName) → IfOk result (HasPlaced (places_of names (one bytes.now) draft.old.next) draft.old draft.new) }
 {
-    let piece = Piece::one(alloc, bytes, draft.next)?;
+    let fragment = Fragment::one(alloc, bytes, draft.next)?;
     draft.next += 1;
-    Ok(piece)
+    Ok(fragment)
 }
 
 /// Places the parts of a concatenation, and joins them.
@@ -142,7 +142,7 @@ fn place_parts(
     vars: &VarSet,
     parts: &Parts,
     draft: &mut Draft,
-) -> Result<Piece, OutOfMemory>
+) -> Result<Fragment, OutOfMemory>
     requires built { (f : Tree) → Has (trees_of parts.now) f → IsWellBuilt f }
     requires sequential { IsSequential (cat_all (trees_of parts.now)) }
     requires distinct { AreDistinct vars.now }
@@ -150,13 +150,13 @@ fn place_parts(
     requires room { draft.old.next + (counts_over vars.now (cat_all (trees_of parts.now))).places ≤ MOST_STATES }
     ensures { IfOk result (HasPlaced (places_of vars.now (cat_all (trees_of parts.now)) draft.old.next) draft.old draft.new) }
 {
-    let mut pieces = Vec::with_capacity(alloc, parts.len())?;
+    let mut fragments = Vec::with_capacity(alloc, parts.len())?;
     for k in 0..parts.len() {
-        let piece = place(alloc, vars, parts.at(k), draft)?;
-        pieces.push(piece)?;
+        let fragment = place(alloc, vars, parts.at(k), draft)?;
+        fragments.push(fragment)?;
     }
-    let rest = Piece::nothing(alloc)?;
-    join_row(alloc, pieces, parts.len(), rest, &mut draft.ways)
+    let rest = Fragment::nothing(alloc)?;
+    join_row(alloc, fragments, parts.len(), rest, &mut draft.ways)
 }
 
 /// Places the arms of an alternation.
@@ -166,7 +166,7 @@ fn place_arms(
     vars: &VarSet,
     arms: &Parts,
     draft: &mut Draft,
-) -> Result<Piece, OutOfMemory>
+) -> Result<Fragment, OutOfMemory>
     requires built { (f : Tree) → Has (trees_of arms.now) f → IsWellBuilt f }
     requires sequential { IsSequential (alt_all (trees_of arms.now)) }
     requires distinct { AreDistinct vars.now }
@@ -174,7 +174,7 @@ fn place_arms(
     requires room { draft.old.next + (counts_over vars.now (alt_all (trees_of arms.now))).places ≤ MOST_STATES }
     ensures { IfOk result (HasPlaced (places_of vars.now (alt_all (trees_of arms.now)) draft.old.next) draft.old draft.new) }
 {
-    let mut all = Piece::never(alloc);
+    let mut all = Fragment::never(alloc);
     for k in 0..arms.len() {
         let arm = place(alloc, vars, arms.at(k), draft)?;
         all = all.alt(arm, &mut draft.left)?;
@@ -190,7 +190,7 @@ fn place_once(
     sub: &Formula,
     least: u16,
     draft: &mut Draft,
-) -> Result<Piece, OutOfMemory>
+) -> Result<Fragment, OutOfMemory>
     requires built { IsWellBuilt (rep (tree_of sub.now) least (Some 1)) }
     requires sequential { IsSequential (tree_of sub.now) }
     requires distinct { AreDistinct vars.now }
@@ -198,8 +198,8 @@ fn place_once(
     requires room { draft.old.next + (counts_over vars.now (rep (tree_of sub.now) least (Some 1))).places ≤ MOST_STATES }
     ensures { IfOk result (HasPlaced (places_of vars.now (rep (tree_of sub.now) least (Some 1)) draft.old.next) draft.old draft.new) }
 {
-    let piece = place(alloc, vars, sub, draft)?;
-    piece.opt_if(least == 0)
+    let fragment = place(alloc, vars, sub, draft)?;
+    fragment.opt_if(least == 0)
 }
 
 /// Places any other repetition, written out as copies of its formula, in which no capture stands. Where a
@@ -212,7 +212,7 @@ fn place_repeat(
     least: u16,
     most: Option<u16>,
     draft: &mut Draft,
-) -> Result<Piece, OutOfMemory>
+) -> Result<Fragment, OutOfMemory>
     requires built { IsWellBuilt (rep (tree_of sub.now) least most) }
     requires sequential { IsSequential (tree_of sub.now) }
     requires bare { HasNoVar (tree_of sub.now) }
@@ -223,7 +223,7 @@ fn place_repeat(
 {
     let copies = copies_of(least, most);
     if copies == 0 {
-        return Piece::nothing(alloc);
+        return Fragment::nothing(alloc);
     }
     let (before, from) = (draft.next, draft.ways.len());
     let first = place(alloc, vars, sub, draft)?;
@@ -231,19 +231,19 @@ fn place_repeat(
         return first.opt_if(least == 0);
     }
     let added = draft.added_since(before, from);
-    let mut pieces = Vec::with_capacity(alloc, usize::from(copies))?;
-    pieces.push(first)?;
+    let mut fragments = Vec::with_capacity(alloc, usize::from(copies))?;
+    fragments.push(first)?;
     for _copy in 1..copies {
-        let piece = draft.place_again(alloc, &pieces[0], &added)?;
-        pieces.push(piece)?;
+        let fragment = draft.place_again(alloc, &fragments[0], &added)?;
+        fragments.push(fragment)?;
     }
     let required = usize::from(least);
     match most {
         Some(_) => {
-            let rest = Piece::nothing(alloc)?;
-            join_row(alloc, pieces, required, rest, &mut draft.ways)
+            let rest = Fragment::nothing(alloc)?;
+            join_row(alloc, fragments, required, rest, &mut draft.ways)
         }
-        None => join_again(alloc, pieces, required, &mut draft.ways),
+        None => join_again(alloc, fragments, required, &mut draft.ways),
     }
 }
 
@@ -267,18 +267,18 @@ pub(crate) fn copies_of(least: u16, most: Option<u16>) -> u16
     }
 }
 
-/// The piece in a capture of this name.
-fn captured(vars: &VarSet, name: &Name, piece: Piece) -> Piece
+/// The fragment in a capture of this name.
+fn captured(vars: &VarSet, name: &Name, fragment: Fragment) -> Fragment
     requires distinct { AreDistinct vars.now }
     requires named { Has vars.now name.now }
-    requires marks { CanCapture (opening_of vars.now name.now) (closing_of vars.now name.now) piece }
-    ensures { result ≡ cap_sides (opening_of vars.now name.now) (closing_of vars.now name.now) piece }
+    requires marks { CanCapture (opening_of vars.now name.now) (closing_of vars.now name.now) fragment }
+    ensures { result ≡ cap_sides (opening_of vars.now name.now) (closing_of vars.now name.now) fragment }
 {
     match vars.find(name) {
         Some(k) => {
             let count = vars.len();
-            piece.captured(Marks::opening(k, count), Marks::closing(k, count))
+            fragment.captured(Marks::opening(k, count), Marks::closing(k, count))
         }
-        None => piece,
+        None => fragment,
     }
 }

@@ -36,7 +36,7 @@ place-requires-clause-named c = vars_named (tree_of c.args.atom.now.formula) c.v
 pub states_of-states-requires : goal.states_of-states-requires
 states_of-states-requires c =
     let names = c.vars_of-vars.result in
-    omega (arith, c.in_ok-piece.ensures.next, place_count (opening_of names) (closing_of names) (tree_of c.args.atom.now.formula) 1, same_places names (tree_of c.args.atom.now.formula) c.vars_of-vars.ensures, c.requires.states)
+    omega (arith, c.in_ok-fragment.ensures.next, place_count (opening_of names) (closing_of names) (tree_of c.args.atom.now.formula) 1, same_places names (tree_of c.args.atom.now.formula) c.vars_of-vars.ensures, c.requires.states)
 
 pub with_ways-requires : goal.with_ways-requires
 with_ways-requires c = λ k d l.
@@ -45,11 +45,11 @@ with_ways-requires c = λ k d l.
     let f = a.formula in
     let P = places_of names f 1 in
     let ws = c.push_outer.new.ways.items in
-    let all = made_ways a.from_start a.to_end P c.place.new.draft.next c.in_ok-piece.piece c.in_ok-with_capacity.field-0.items c.place.new.draft.ways.items ws
-    c.in_ok-with_capacity.ensures.items c.in_ok-piece.ensures.ways c.in_ok-piece.ensures.next c.in_ok-piece.ensures.sides c.in_ok-push_outer.ensures in
+    let all = made_ways a.from_start a.to_end P c.place.new.draft.next c.in_ok-fragment.fragment c.in_ok-with_capacity.field-0.items c.place.new.draft.ways.items ws
+    c.in_ok-with_capacity.ensures.items c.in_ok-fragment.ensures.ways c.in_ok-fragment.ensures.next c.in_ok-fragment.ensures.sides c.in_ok-push_outer.ensures in
     let has = subst (λ (xs : List Way). Has xs (get_or ws k d)) all (Has-get_or ws k d l) in
     let states : c.states_of-states.result ≡ (atom_automaton names a).states =
-    c.states_of-states.ensures ∙ ap (λ (n : ℕ). n + (if a.to_end then 0 else 1)) c.in_ok-piece.ensures.next in
+    c.states_of-states.ensures ∙ ap (λ (n : ℕ). n + (if a.to_end then 0 else 1)) c.in_ok-fragment.ensures.next in
     is_way names a c.requires.sequential (ordered_repeats f c.requires.built) (built_classes f c.requires.built.0) (vars_named f names c.vars_of-vars.ensures)
     c.states_of-states.result (get_or ws k d) states has
 
@@ -58,9 +58,9 @@ finish-requires-clause-stops c = λ x h.
     let names = c.vars_of-vars.result in
     let a = atom_of c.args.atom.now in
     let states : c.states_of-states.result ≡ (atom_automaton names a).states =
-    c.states_of-states.ensures ∙ ap (λ (n : ℕ). n + (if a.to_end then 0 else 1)) c.in_ok-piece.ensures.next in
+    c.states_of-states.ensures ∙ ap (λ (n : ℕ). n + (if a.to_end then 0 else 1)) c.in_ok-fragment.ensures.next in
     let graph = ap (λ (A : Automaton). A.states) c.in-Ok.ensures.ok.1 in
-    let there = stop_there names a c.in_ok-piece.piece x c.in_ok-piece.ensures.sides h in
+    let there = stop_there names a c.in_ok-fragment.fragment x c.in_ok-fragment.ensures.sides h in
     omega (arith, (whole_law names a).stops x there, states, graph)
 
 pub finish-requires-clause-marks : goal.finish-requires-clause-marks
@@ -68,7 +68,7 @@ finish-requires-clause-marks c = λ x h.
     let names = c.vars_of-vars.result in
     let a = atom_of c.args.atom.now in
     let f = a.formula in
-    let there = stop_there names a c.in_ok-piece.piece x c.in_ok-piece.ensures.sides h in
+    let there = stop_there names a c.in_ok-fragment.fragment x c.in_ok-fragment.ensures.sides h in
     subst (λ (ns : List VarName). IsBlockOf (length ns) x.marks) (sym c.in-Ok.ensures.ok.0)
     (stop_marks names a c.requires.sequential (ordered_repeats f c.requires.built) (built_classes f c.requires.built.0) (vars_named f names c.vars_of-vars.ensures) x there)
 
@@ -79,8 +79,8 @@ finish-requires-clause-before_way c = λ e.
     let f = a.formula in
     let P = places_of names f 1 in
     let ws = c.push_outer.new.ways.items in
-    let all = made_ways a.from_start a.to_end P c.place.new.draft.next c.in_ok-piece.piece c.in_ok-with_capacity.field-0.items c.place.new.draft.ways.items ws
-    c.in_ok-with_capacity.ensures.items c.in_ok-piece.ensures.ways c.in_ok-piece.ensures.next c.in_ok-piece.ensures.sides c.in_ok-push_outer.ensures in
+    let all = made_ways a.from_start a.to_end P c.place.new.draft.next c.in_ok-fragment.fragment c.in_ok-with_capacity.field-0.items c.place.new.draft.ways.items ws
+    c.in_ok-with_capacity.ensures.items c.in_ok-fragment.ensures.ways c.in_ok-fragment.ensures.next c.in_ok-fragment.ensures.sides c.in_ok-push_outer.ensures in
     let graph = ap (λ (A : Automaton). A.ways) c.in-Ok.ensures.ok.1 in
     subst (λ (xs : List Way). Has xs (idle_way 0)) (sym (graph ∙ all)) (before_way names a e)
 
@@ -91,11 +91,11 @@ finish-requires-clause-after_way c = λ e.
     let f = a.formula in
     let P = places_of names f 1 in
     let ws = c.push_outer.new.ways.items in
-    let all = made_ways a.from_start a.to_end P c.place.new.draft.next c.in_ok-piece.piece c.in_ok-with_capacity.field-0.items c.place.new.draft.ways.items ws
-    c.in_ok-with_capacity.ensures.items c.in_ok-piece.ensures.ways c.in_ok-piece.ensures.next c.in_ok-piece.ensures.sides c.in_ok-push_outer.ensures in
+    let all = made_ways a.from_start a.to_end P c.place.new.draft.next c.in_ok-fragment.fragment c.in_ok-with_capacity.field-0.items c.place.new.draft.ways.items ws
+    c.in_ok-with_capacity.ensures.items c.in_ok-fragment.ensures.ways c.in_ok-fragment.ensures.next c.in_ok-fragment.ensures.sides c.in_ok-push_outer.ensures in
     let graph = ap (λ (A : Automaton). A.ways) c.in-Ok.ensures.ok.1 in
     subst (λ (xs : List Way). Has xs (idle_way c.place.new.draft.next)) (sym (graph ∙ all))
-    (after_way names a c.place.new.draft.next c.in_ok-piece.ensures.next e)
+    (after_way names a c.place.new.draft.next c.in_ok-fragment.ensures.next e)
 
 pub returns : goal.returns
 returns c =
@@ -108,8 +108,8 @@ returns c =
     let A = atom_automaton names a in
     let ws = c.push_outer.new.ways.items in
     let after = c.place.new.draft.next in
-    let all = made_ways s t P after c.in_ok-piece.piece c.in_ok-with_capacity.field-0.items c.place.new.draft.ways.items ws
-    c.in_ok-with_capacity.ensures.items c.in_ok-piece.ensures.ways c.in_ok-piece.ensures.next c.in_ok-piece.ensures.sides c.in_ok-push_outer.ensures in
+    let all = made_ways s t P after c.in_ok-fragment.fragment c.in_ok-with_capacity.field-0.items c.place.new.draft.ways.items ws
+    c.in_ok-with_capacity.ensures.items c.in_ok-fragment.ensures.ways c.in_ok-fragment.ensures.next c.in_ok-fragment.ensures.sides c.in_ok-push_outer.ensures in
     let bare = c.in-Ok.ensures.ok in
     let done = c.in_ok-finish.ensures in
     let last = c.in_ok-group_ways.ensures in
@@ -118,14 +118,14 @@ returns c =
     let exactly : (x : VarName) → Has names x ↔ HasVar f x = subst (λ (ns : List VarName). (x : VarName) → Has ns x ↔ HasVar f x) (sym is) (vars_are f) in
     let same_names : c.group_ways.new.self.names ≡ names = last.names ∙ (done.names ∙ bare.0) in
     let B = c.finish.new.automaton.graph in
-    let next : after ≡ suc P.count = c.in_ok-piece.ensures.next ∙ (let e : 1 + P.count ≡ suc P.count = omega arith in e) in
+    let next : after ≡ suc P.count = c.in_ok-fragment.ensures.next ∙ (let e : 1 + P.count ≡ suc P.count = omega arith in e) in
     let states : A.states ≡ B.states =
-    sym (done.ok.states ∙ (ap (λ (A : Automaton). A.states) bare.1 ∙ (c.states_of-states.ensures ∙ ap (λ (n : ℕ). n + (if t then 0 else 1)) c.in_ok-piece.ensures.next))) in
+    sym (done.ok.states ∙ (ap (λ (A : Automaton). A.states) bare.1 ∙ (c.states_of-states.ensures ∙ ap (λ (n : ℕ). n + (if t then 0 else 1)) c.in_ok-fragment.ensures.next))) in
     let starts : A.starts ≡ B.starts = sym (done.ok.starts ∙ ap (λ (A : Automaton). A.starts ++ 0 ∷ []) bare.1) in
     let ways : A.ways ≡ B.ways = sym (done.ok.ways ∙ (ap (λ (A : Automaton). A.ways) bare.1 ∙ all)) in
     let stops : A.stops ≡ B.stops =
-    sym (done.ok.stops ∙ (ap (λ (A : Automaton). A.stops ++ all_stops t after c.in_ok-piece.piece) bare.1
-    ∙ (ap (λ (n : ℕ). all_stops t n c.in_ok-piece.piece) next ∙ ap (λ (E : Sides). all_stops t (suc P.count) E) c.in_ok-piece.ensures.sides))) in
+    sym (done.ok.stops ∙ (ap (λ (A : Automaton). A.stops ++ all_stops t after c.in_ok-fragment.fragment) bare.1
+    ∙ (ap (λ (n : ℕ). all_stops t n c.in_ok-fragment.fragment) next ∙ ap (λ (E : Sides). all_stops t (suc P.count) E) c.in_ok-fragment.ensures.sides))) in
     let none : (p : ℕ) → Has c.in-Ok.automaton.graph.idle p → ⊥ = λ p h. subst (λ (A : Automaton). Has A.idle p) bare.1 h in
     let idle : (p : ℕ) → Has B.idle p ↔ Has A.idle p = λ p. (
       (λ h. elim ((done.ok.idle p).0 h) [ inl a ↦ absurd (none p a) | inr b ↦ subst (λ (n : ℕ). Has (idle_states s t n) p) next b ]),

@@ -77,7 +77,7 @@ place-captured-requires-clause-marks t c =
     let e = ap tree_of c.in-Cap.is ∙ tree_of-Cap x c.in-Cap.sub ∙ ap (λ y. cap x (tree_of y)) (sym c.deref-in-Cap.ensures) in
     let w = subst IsWellBuilt e c.requires.built in
     can_capture c.args.vars.now x f (subst IsSequential e c.requires.sequential) (ordered_repeats f (w.0.0, omega (arith, w.1))) (built_classes f w.0.0)
-    (subst (AreNamed c.args.vars.now) e c.requires.named) c.args.draft.now.next c.in_ok-piece-in-Cap.piece c.in_ok-piece-in-Cap.ensures.sides
+    (subst (AreNamed c.args.vars.now) e c.requires.named) c.args.draft.now.next c.in_ok-fragment-in-Cap.fragment c.in_ok-fragment-in-Cap.ensures.sides
 
 pub place-returns-in-One : goal.place-returns-in-One
 place-returns-in-One t c =
@@ -150,7 +150,7 @@ pub place_parts-loop-k-preserved : goal.place_parts-loop-k-preserved
 place_parts-loop-k-preserved t c =
     let ts = trees_of c.args.parts.now in
     parts_next c.args.vars.now ts c.loop-k.k c.args.draft.now.next (tree_of c.at.result.now) c.args.draft.now c.loop-k.draft c.place.new.draft
-    c.loop-k.pieces.items c.push.new.self.items c.in_ok-piece.piece c.at.ensures refl c.loop-k.invariant c.in_ok-piece.ensures c.in_ok-push.ensures.items
+    c.loop-k.fragments.items c.push.new.self.items c.in_ok-fragment.fragment c.at.ensures refl c.loop-k.invariant c.in_ok-fragment.ensures c.in_ok-push.ensures.items
 
 pub place_parts-join_row-requires : goal.place_parts-join_row-requires
 place_parts-join_row-requires t c =
@@ -159,10 +159,10 @@ place_parts-join_row-requires t c =
     let n = c.args.draft.now.next in
     let at : c.loop-k.k ≡ length ts = omega (arith, c.len-k-end.ensures) in
     let all : take c.loop-k.k ts ≡ ts = ap (λ k. take k ts) at ∙ take-length ts in
-    let pieces = c.loop-k.invariant.pieces ∙ ap (λ us. map sides_of (in_turn (placers names us) n)) all in
+    let fragments = c.loop-k.invariant.fragments ∙ ap (λ us. map sides_of (in_turn (placers names us) n)) all in
     let joins = parts_joins names ts c.requires.sequential (all_ordered ts c.requires.built) (all_classes ts c.requires.built) c.requires.named n in
-    subst (λ (Q : Sides). RowJoins c.len-2.result c.loop-k.pieces.items Q) (sym c.in_ok-rest.ensures)
-    (subst (λ (r : ℕ). RowJoins r c.loop-k.pieces.items nothing_sides) (sym c.len-2.ensures) (subst (λ (xs : List Sides). RowJoins (length ts) xs nothing_sides) (sym pieces) joins))
+    subst (λ (Q : Sides). RowJoins c.len-2.result c.loop-k.fragments.items Q) (sym c.in_ok-rest.ensures)
+    (subst (λ (r : ℕ). RowJoins r c.loop-k.fragments.items nothing_sides) (sym c.len-2.ensures) (subst (λ (xs : List Sides). RowJoins (length ts) xs nothing_sides) (sym fragments) joins))
 
 pub place_parts-returns : goal.place_parts-returns
 place_parts-returns t c =
@@ -171,9 +171,9 @@ place_parts-returns t c =
     let a = c.args.draft.now in
     let at : c.loop-k.k ≡ length ts = omega (arith, c.len-k-end.ensures) in
     let all : take c.loop-k.k ts ≡ ts = ap (λ k. take k ts) at ∙ take-length ts in
-    let row = subst (λ us. IsRow (in_turn (placers names us) a.next) a c.loop-k.draft c.loop-k.pieces.items) all c.loop-k.invariant in
+    let row = subst (λ us. IsRow (in_turn (placers names us) a.next) a c.loop-k.draft c.loop-k.fragments.items) all c.loop-k.invariant in
     let new : Draft = record { next = c.loop-k.draft.next; ways = c.join_row.new.ways; left = c.loop-k.draft.left } in
-    let xs = c.loop-k.pieces.items in
+    let xs = c.loop-k.fragments.items in
     ok_both c.join_row.result (λ (p : Sides). p ≡ row_sides c.len-2.result xs c.in_ok-rest.rest) (λ (p : Sides). HasPlaced (places_of names (cat_all ts) a.next) a new p)
     (c.join_row.new.ways.items ≡ c.loop-k.draft.ways.items ++ row_ways c.len-2.result xs c.in_ok-rest.rest)
     (λ p ends ways. row_done (length ts) (in_turn (placers names ts) a.next) (places_of names (cat_all ts) a.next) a c.loop-k.draft new xs p
@@ -248,16 +248,16 @@ place_once-returns t c =
     let f = tree_of c.args.sub.now in
     let F = places_of names f in
     let k = c.args.draft.now.next in
-    let E = c.in_ok-piece.piece in
+    let E = c.in_ok-fragment.fragment in
     let is = once_is c.args.least F k (c.requires.built.0.1.1 1 refl).0 in
     IfOk-weaker c.opt_if.result (λ (p : Sides). p ≡ (if c.args.least == 0 then opt_sides E else E)) (λ (p : Sides). HasPlaced (repeated c.args.least (Some 1) F k) c.args.draft.now c.place.new.draft p)
-    (λ p e. subst (λ (W : Places). HasPlaced W c.args.draft.now c.place.new.draft p) (sym is) (once_done (c.args.least == 0) (F k) c.args.draft.now c.place.new.draft E p c.in_ok-piece.ensures e))
+    (λ p e. subst (λ (W : Places). HasPlaced W c.args.draft.now c.place.new.draft p) (sym is) (once_done (c.args.least == 0) (F k) c.args.draft.now c.place.new.draft E p c.in_ok-fragment.ensures e))
     c.opt_if.ensures
 
 pub place_repeat-index-requires : goal.place_repeat-index-requires
 place_repeat-index-requires t c =
     let F = places_of c.args.vars.now (tree_of c.args.sub.now) in
-    omega (arith, c.loop-copy.pieces.ok.0, some_copy F c.args.draft.now.next c.loop-copy._copy c.loop-copy.pieces.items c.loop-copy.auto._copy c.loop-copy.invariant.pieces)
+    omega (arith, c.loop-copy.fragments.ok.0, some_copy F c.args.draft.now.next c.loop-copy._copy c.loop-copy.fragments.items c.loop-copy.auto._copy c.loop-copy.invariant.fragments)
 
 pub place_repeat-place_again-requires-clause-room : goal.place_repeat-place_again-requires-clause-room
 place_repeat-place_again-requires-clause-room t c =
@@ -295,7 +295,7 @@ place_repeat-place_again-requires-clause-below t c =
     let ways = take (added.result.end - added.result.from) (drop added.result.from c.loop-copy.draft.ways.items) in
     first_below F a.next (added.result.first + added.result.places) c.index.result.now ways
     (places_lie (opening_of names) (closing_of names) f a.next) (omega (arith, added.ensures.first, added.ensures.places, c.in_ok-first.ensures.next))
-    (first_copy F a.next i c.loop-copy.pieces.items c.index.result.now l row.pieces c.index.ensures)
+    (first_copy F a.next i c.loop-copy.fragments.items c.index.result.now l row.fragments c.index.ensures)
     (first_ways F a.next a.ways.items c.place.new.draft.ways.items c.loop-copy.draft.ways.items
     added.result.from added.result.end c.in_ok-first.ensures.ways (omega (arith, added.ensures.from, c.len-from.ensures, a.ways.ok.0)) added.ensures.end i l row.ways)
 
@@ -311,17 +311,17 @@ place_repeat-loop-copy-preserved t c =
     let b = c.loop-copy.draft in
     let added = c.added_since-added in
     let new = c.place_again.new.self in
-    let piece = c.in_ok-piece.piece in
-    let again : HasPlaced (places_moved (b.next - added.result.first) (F a.next)) b new piece =
-    c.in_ok-piece.ensures (F a.next)
-    (first_copy F a.next i c.loop-copy.pieces.items c.index.result.now l row.pieces c.index.ensures)
+    let fragment = c.in_ok-fragment.fragment in
+    let again : HasPlaced (places_moved (b.next - added.result.first) (F a.next)) b new fragment =
+    c.in_ok-fragment.ensures (F a.next)
+    (first_copy F a.next i c.loop-copy.fragments.items c.index.result.now l row.fragments c.index.ensures)
     (omega (arith, added.ensures.places, c.in_ok-first.ensures.next))
     (first_ways F a.next a.ways.items c.place.new.draft.ways.items b.ways.items
     added.result.from added.result.end c.in_ok-first.ensures.ways (omega (arith, added.ensures.from, c.len-from.ensures, a.ways.ok.0)) added.ensures.end i l row.ways) in
     let is = ap (λ (k : ℕ). places_moved (b.next - k) (F a.next)) added.ensures.first
     ∙ once_more F (place_moves (opening_of names) (closing_of names) f) a.next b.next (omega (arith, row.next)) in
-    copies_next F i a.next a b new c.loop-copy.pieces.items c.push-in-loop-copy.new.self.items piece refl row
-    (subst (λ (P : Places). HasPlaced P b new piece) is again) c.in_ok-push-2.ensures.items
+    copies_next F i a.next a b new c.loop-copy.fragments.items c.push-in-loop-copy.new.self.items fragment refl row
+    (subst (λ (P : Places). HasPlaced P b new fragment) is again) c.in_ok-push-2.ensures.items
 
 pub place_repeat-join_row-requires : goal.place_repeat-join_row-requires
 place_repeat-join_row-requires t c =
@@ -331,8 +331,8 @@ place_repeat-join_row-requires t c =
     let bare : (j : ℕ) → IsUnmarked (sides_of (F j)) = λ j.
     fine_unmarked (VarBits names f) (λ i b. c.requires.bare b.0 b.1) (F j)
     (fine_places names f c.requires.sequential (ordered_repeats f (c.requires.built.0.0, omega (arith, c.requires.built.1))) (built_classes f c.requires.built.0.0) c.requires.named j) in
-    row_joins c.from-required.result c.loop-copy.pieces.items c.in_ok-rest-in-Some.rest
-    (subst AllUnmarked (sym c.loop-copy.invariant.pieces) (copies_unmarked F bare c.loop-copy._copy c.args.draft.now.next))
+    row_joins c.from-required.result c.loop-copy.fragments.items c.in_ok-rest-in-Some.rest
+    (subst AllUnmarked (sym c.loop-copy.invariant.fragments) (copies_unmarked F bare c.loop-copy._copy c.args.draft.now.next))
     (subst IsUnmarked (sym c.in_ok-rest-in-Some.ensures) nothing_unmarked)
 
 pub place_repeat-join_again-requires : goal.place_repeat-join_again-requires
@@ -343,7 +343,7 @@ place_repeat-join_again-requires t c =
     let bare : (j : ℕ) → IsUnmarked (sides_of (F j)) = λ j.
     fine_unmarked (VarBits names f) (λ i b. c.requires.bare b.0 b.1) (F j)
     (fine_places names f c.requires.sequential (ordered_repeats f (c.requires.built.0.0, omega (arith, c.requires.built.1))) (built_classes f c.requires.built.0.0) c.requires.named j) in
-    subst AllUnmarked (sym c.loop-copy.invariant.pieces) (copies_unmarked F bare c.loop-copy._copy c.args.draft.now.next)
+    subst AllUnmarked (sym c.loop-copy.invariant.fragments) (copies_unmarked F bare c.loop-copy._copy c.args.draft.now.next)
 
 pub place_repeat-returns-in_ok-rest-in-Some : goal.place_repeat-returns-in_ok-rest-in-Some
 place_repeat-returns-in_ok-rest-in-Some t c =
@@ -357,7 +357,7 @@ place_repeat-returns-in_ok-rest-in-Some t c =
     let many : n ≡ m = c.copies_of-copies.ensures ∙ ap (copies_of least) c.in-Some.is in
     let some : 1 ≤ n = omega (arith, c.if-copies-eq0.false) in
     let at : c.loop-copy._copy ≡ m = omega (arith, many, c.loop-copy-test.false, c.loop-copy.auto._copy-end some) in
-    let xs = c.loop-copy.pieces.items in
+    let xs = c.loop-copy.fragments.items in
     let row = subst (λ (j : ℕ). IsRow (copies F j a.next) a c.loop-copy.draft xs) at c.loop-copy.invariant in
     let new : Draft = record { next = c.loop-copy.draft.next; ways = c.join_row.new.ways; left = c.loop-copy.draft.left } in
     let W = repeated least most F a.next in
@@ -380,7 +380,7 @@ place_repeat-returns-in-None t c =
     let n = c.copies_of-copies.result in
     let many : n ≡ max least 1 = c.copies_of-copies.ensures ∙ ap (copies_of least) c.in-None.is in
     let at : c.loop-copy._copy ≡ max least 1 = omega (arith, many, c.loop-copy-test.false, c.loop-copy.auto._copy-end (omega (arith, many))) in
-    let xs = c.loop-copy.pieces.items in
+    let xs = c.loop-copy.fragments.items in
     let new : Draft = record { next = b.next; ways = c.join_again.new.ways; left = b.left } in
     let r = c.from-required.result in
     let is = ap (λ (o : Option ℕ). repeated least o F a.next) c.in-None.is in

@@ -23,10 +23,10 @@ abbrev pub decreases-place_once : goal.decreases-place_once
 decreases-place_once l = 2 * nodes (tree_of l.sub.now) + 2
 
 abbrev pub invariant-place_parts-loop-k : goal.invariant-place_parts-loop-k
-invariant-place_parts-loop-k l = IsRow (in_turn (placers l.vars (take l.k (trees_of l.parts))) l.fn.draft.next) l.fn.draft l.draft l.pieces.items
+invariant-place_parts-loop-k l = IsRow (in_turn (placers l.vars (take l.k (trees_of l.parts))) l.fn.draft.next) l.fn.draft l.draft l.fragments.items
 
 abbrev pub invariant-place_arms-loop-k : goal.invariant-place_arms-loop-k
 invariant-place_arms-loop-k l = HasPlaced (places_of l.vars (alt_all (take l.k (trees_of l.arms))) l.fn.draft.next) l.fn.draft l.draft l.all
 
 abbrev pub invariant-place_repeat-loop-copy : goal.invariant-place_repeat-loop-copy
-invariant-place_repeat-loop-copy l = IsRow (copies (places_of l.vars (tree_of l.sub)) l._copy l.fn.draft.next) l.fn.draft l.draft l.pieces.items
+invariant-place_repeat-loop-copy l = IsRow (copies (places_of l.vars (tree_of l.sub)) l._copy l.fn.draft.next) l.fn.draft l.draft l.fragments.items

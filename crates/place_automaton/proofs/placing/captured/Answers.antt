@@ -12,7 +12,7 @@ captured-requires c =
     let x = c.args.name.now in
     let o = c.opening.ensures ∙ (ap (λ (v : ℕ). 2 ^ opening_bit v c.in-Some.k) c.len-count.ensures.value ∙ opening_at names c.in-Some.k x c.requires.distinct c.in-Some.ensures.some) in
     let e = c.closing.ensures ∙ (ap (λ (v : ℕ). 2 ^ closing_bit v c.in-Some.k) c.len-count.ensures.value ∙ closing_at names c.in-Some.k x c.requires.distinct c.in-Some.ensures.some) in
-    subst (λ (n : ℕ). CanCapture n c.closing.result c.args.piece) (sym o) (subst (λ (n : ℕ). CanCapture (opening_of names x) n c.args.piece) (sym e) c.requires.marks)
+    subst (λ (n : ℕ). CanCapture n c.closing.result c.args.fragment) (sym o) (subst (λ (n : ℕ). CanCapture (opening_of names x) n c.args.fragment) (sym e) c.requires.marks)
 
 pub returns-in-Some : goal.returns-in-Some
 returns-in-Some c =
@@ -20,7 +20,7 @@ returns-in-Some c =
     let x = c.args.name.now in
     let o = c.opening.ensures ∙ (ap (λ (v : ℕ). 2 ^ opening_bit v c.in-Some.k) c.len-count.ensures.value ∙ opening_at names c.in-Some.k x c.requires.distinct c.in-Some.ensures.some) in
     let e = c.closing.ensures ∙ (ap (λ (v : ℕ). 2 ^ closing_bit v c.in-Some.k) c.len-count.ensures.value ∙ closing_at names c.in-Some.k x c.requires.distinct c.in-Some.ensures.some) in
-    c.captured.ensures ∙ (ap (λ (n : ℕ). cap_sides n c.closing.result c.args.piece) o ∙ ap (λ (n : ℕ). cap_sides (opening_of names x) n c.args.piece) e)
+    c.captured.ensures ∙ (ap (λ (n : ℕ). cap_sides n c.closing.result c.args.fragment) o ∙ ap (λ (n : ℕ). cap_sides (opening_of names x) n c.args.fragment) e)
 
 pub returns-in-None : goal.returns-in-None
 returns-in-None c = absurd (c.in-None.ensures.none (Contains-Has c.args.vars.now c.args.name.now c.requires.named))

@@ -1,7 +1,7 @@
 //! Parts of a formula whose places are numbered, known by their two sides.
 //!
-//! Joining two pieces adds a way from each end of the front one through each entry of the back one. A side passes a
-//! piece that fits the empty string, once for each set of markers of such a fit, and takes these with it.
+//! Joining two fragments adds a way from each end of the front one through each entry of the back one. A side passes a
+//! fragment that fits the empty string, once for each set of markers of such a fit, and takes these with it.
 ghost use Rattle.std.specs.Prelude.{◌≡◌, ℕ, ◌+◌, List, [], ◌∷◌, ◌++◌, ◌<◌, ◌≤◌, length, map, IfOk, OnOk, IsTrue, if◌then◌else◌};
 ghost use Rattle.span_core.specs.Lists.{Has};
 ghost use Rattle.place_automaton.specs.Sides.{CanCapture, nothing_sides, never_sides, one_sides, cat_sides, alt_sides, opt_sides, cap_sides, JoinAsSums, IsUnmarked, Sides, RowJoins, again_sides, row_sides, row_ways};
@@ -9,7 +9,7 @@ ghost use Rattle.marked_automaton.specs.declared.way.Stop.{Stop};
 ghost use Rattle.marked_automaton.specs.Automaton.{IsBlockOf};
 ghost use Rattle.place_automaton.specs.Atom.{way_after, way_from_first};
 ghost use Rattle.marked_automaton.specs.declared.TheConstants.{MOST_STATES};
-ghost use Rattle.place_automaton.specs.declared.piece.Entry.{Entry};
+ghost use Rattle.place_automaton.specs.declared.fragment.Entry.{Entry};
 ghost use Rattle.place_automaton.specs.Made.{end_stops, with_stops};
 ghost use Rattle.place_automaton.specs.Moves.{sides_moved};
 ghost use Rattle.place_automaton.specs.Places.{ways_between};
@@ -39,13 +39,13 @@ pub struct Entry {
 /// The two sides of a part of a formula, whose places are numbered: the sets of markers with which it fits
 /// the empty string, the ways into the places that it begins with, and the places that it ends with.
 #[derive(Drop)]
-pub(crate) struct Piece {
+pub(crate) struct Fragment {
     null: Vec<Marks>,
     first: Vec<Entry>,
     last: Vec<Stop>,
 }
 
-impl Model for Piece {
+impl Model for Fragment {
     ghost use Rattle.place_automaton.specs.Sides.{Sides};
 
     ghost Value = { Sides };
@@ -57,12 +57,12 @@ impl Model for Piece {
     ghost view = { λ p. record { null = p.null.items; first = p.first.items; last = p.last.items } };
 }
 
-impl Piece {
+impl Fragment {
     /// The empty formula.
-    pub(crate) fn nothing(alloc: Global) -> Result<Piece, OutOfMemory>
+    pub(crate) fn nothing(alloc: Global) -> Result<Fragment, OutOfMemory>
         ensures { IfOk result (λ p. p ≡ nothing_sides) }
     {
-        Ok(Piece {
+        Ok(Fragment {
             null: only_none(alloc)?,
             first: Vec::new(alloc),
             last: Vec::new(alloc),
@@ -70,10 +70,10 @@ impl Piece {
     }
 
     /// An alternation of no arms.
-    pub(crate) fn never(alloc: Global) -> Piece
+    pub(crate) fn never(alloc: Global) -> Fragment
         ensures { result ≡ never_sides }
     {
-        Piece {
+        Fragment {
             null: Vec::new(alloc),
             first: Vec::new(alloc),
             last: Vec::new(alloc),
@@ -81,7 +81,7 @@ impl Piece {
     }
 
     /// One of these bytes, at the place of this number.
-    pub(crate) fn one(alloc: Global, bytes: &ByteSet, place: u32) -> Result<Piece, OutOfMemory>
+    pub(crate) fn one(alloc: Global, bytes: &ByteSet, place: u32) -> Result<Fragment, OutOfMemory>
         ensures { IfOk result (λ p. p ≡ one_sides bytes.now place) }
     {
         let mut first = Vec::new(alloc);
@@ -95,7 +95,7 @@ impl Piece {
             state: place,
             marks: Marks::none(),
         })?;
-        Ok(Piece {
+        Ok(Fragment {
             null: Vec::new(alloc),
             first,
             last,
@@ -106,9 +106,9 @@ impl Piece {
     pub(crate) fn cat(
         self,
         alloc: Global,
-        rest: Piece,
+        rest: Fragment,
         ways: &mut Vec<Way>,
-    ) -> Result<Piece, OutOfMemory>
+    ) -> Result<Fragment, OutOfMemory>
         requires { JoinAsSums self rest }
         ensures sides { IfOk result (λ p. p ≡ cat_sides self rest) }
         ensures ways { OnOk result (ways.new.items ≡ ways.old.items ++ ways_between self.last rest.first) }
@@ -117,17 +117,17 @@ impl Piece {
         let first = all_entries(self.first, &self.null, rest.first)?;
         let last = all_stops(rest.last, &rest.null, self.last)?;
         let null = joined_with(alloc, self.null, rest.null)?;
-        Ok(Piece { null, first, last })
+        Ok(Fragment { null, first, last })
     }
 
     /// This and then the rest, or nothing if that may be. The ways between them are added.
     fn before(
         self,
         alloc: Global,
-        rest: Piece,
+        rest: Fragment,
         optional: bool,
         ways: &mut Vec<Way>,
-    ) -> Result<Piece, OutOfMemory>
+    ) -> Result<Fragment, OutOfMemory>
         requires { JoinAsSums self rest }
         ensures sides { IfOk result (λ p. p ≡ (if optional then opt_sides (cat_sides self rest) else cat_sides self rest)) }
         ensures ways { OnOk result (ways.new.items ≡ ways.old.items ++ ways_between self.last rest.first) }
@@ -137,7 +137,7 @@ impl Piece {
     }
 
     /// This or the other. So many pairs of sets may still be compared.
-    pub(crate) fn alt(self, other: Piece, left: &mut u64) -> Result<Piece, OutOfMemory>
+    pub(crate) fn alt(self, other: Fragment, left: &mut u64) -> Result<Fragment, OutOfMemory>
         ensures { IfOk result (λ p. p ≡ alt_sides self other) }
     {
         let sets = self.null.len();
@@ -149,16 +149,16 @@ impl Piece {
         let mut last = self.last;
         let mut ends = other.last;
         last.append(&mut ends)?;
-        Ok(Piece { null, first, last })
+        Ok(Fragment { null, first, last })
     }
 
     /// This or nothing.
-    pub(crate) fn opt(self) -> Result<Piece, OutOfMemory>
+    pub(crate) fn opt(self) -> Result<Fragment, OutOfMemory>
         ensures { IfOk result (λ p. p ≡ opt_sides self) }
     {
         let mut null = self.null;
         add_unless_there(Marks::none(), &mut null)?;
-        Ok(Piece {
+        Ok(Fragment {
             null,
             first: self.first,
             last: self.last,
@@ -166,7 +166,7 @@ impl Piece {
     }
 
     /// This, or nothing if that may be.
-    pub(crate) fn opt_if(self, optional: bool) -> Result<Piece, OutOfMemory>
+    pub(crate) fn opt_if(self, optional: bool) -> Result<Fragment, OutOfMemory>
         ensures { IfOk result (λ p. p ≡ (if optional then opt_sides self else self)) }
     {
         if optional { self.opt() } else { Ok(self) }
@@ -219,7 +219,7 @@ impl Piece {
     }
 
     /// This with other places, whose numbers are greater by so many.
-    pub(crate) fn moved(&self, alloc: Global, by: u32) -> Result<Piece, OutOfMemory>
+    pub(crate) fn moved(&self, alloc: Global, by: u32) -> Result<Fragment, OutOfMemory>
         requires firsts { (e : Entry) → Has self.now.first e → e.to + by ≤ MOST_STATES }
         requires lasts { (s : Stop) → Has self.now.last s → s.state + by ≤ MOST_STATES }
         ensures { IfOk result (λ p. p ≡ sides_moved by self.now) }
@@ -227,11 +227,11 @@ impl Piece {
         let first = moved_entries(alloc, &self.first, by)?;
         let last = moved_stops(alloc, &self.last, by)?;
         let null = copied_sets(alloc, &self.null)?;
-        Ok(Piece { null, first, last })
+        Ok(Fragment { null, first, last })
     }
 
     /// This in a capture, whose markers are these.
-    pub(crate) fn captured(self, opening: Marks, closing: Marks) -> Piece
+    pub(crate) fn captured(self, opening: Marks, closing: Marks) -> Fragment
         requires { CanCapture opening closing self }
         ensures { result ≡ cap_sides opening closing self }
     {
@@ -241,48 +241,48 @@ impl Piece {
         mark_entries(opening, &mut first);
         let mut last = self.last;
         mark_stops(closing, &mut last);
-        Piece { null, first, last }
+        Fragment { null, first, last }
     }
 }
 
-/// The pieces one after another and then the rest, where the first so many are required and each other
+/// The fragments one after another and then the rest, where the first so many are required and each other
 /// may stand only where all before it do. The ways between them are added.
 pub(crate) fn join_row(
     alloc: Global,
-    mut pieces: Vec<Piece>,
+    mut fragments: Vec<Fragment>,
     required: usize,
-    rest: Piece,
+    rest: Fragment,
     ways: &mut Vec<Way>,
-) -> Result<Piece, OutOfMemory>
-    requires { RowJoins required pieces.items rest }
-    ensures sides { IfOk result (λ p. p ≡ row_sides required pieces.items rest) }
-    ensures ways { OnOk result (ways.new.items ≡ ways.old.items ++ row_ways required pieces.items rest) }
+) -> Result<Fragment, OutOfMemory>
+    requires { RowJoins required fragments.items rest }
+    ensures sides { IfOk result (λ p. p ≡ row_sides required fragments.items rest) }
+    ensures ways { OnOk result (ways.new.items ≡ ways.old.items ++ row_ways required fragments.items rest) }
 {
     let mut row = rest;
-    while let Some(piece) = pieces.pop() {
-        let optional = pieces.len() >= required;
-        row = piece.before(alloc, row, optional, ways)?;
+    while let Some(fragment) = fragments.pop() {
+        let optional = fragments.len() >= required;
+        row = fragment.before(alloc, row, optional, ways)?;
     }
     Ok(row)
 }
 
-/// The pieces one after another, of which the last may come again and again, and may be left out where
+/// The fragments one after another, of which the last may come again and again, and may be left out where
 /// none is required. No markers stand in them.
 pub(crate) fn join_again(
     alloc: Global,
-    mut pieces: Vec<Piece>,
+    mut fragments: Vec<Fragment>,
     required: usize,
     ways: &mut Vec<Way>,
-) -> Result<Piece, OutOfMemory>
-    requires { (P : Sides) → Has pieces.items P → IsUnmarked P }
-    ensures sides { IfOk result (λ p. (front : List Sides) (last : Sides) → pieces.items ≡ front ++ last ∷ [] → p ≡ row_sides required front (again_sides required last)) }
-    ensures ways { OnOk result ((front : List Sides) (last : Sides) → pieces.items ≡ front ++ last ∷ []
+) -> Result<Fragment, OutOfMemory>
+    requires { (P : Sides) → Has fragments.items P → IsUnmarked P }
+    ensures sides { IfOk result (λ p. (front : List Sides) (last : Sides) → fragments.items ≡ front ++ last ∷ [] → p ≡ row_sides required front (again_sides required last)) }
+    ensures ways { OnOk result ((front : List Sides) (last : Sides) → fragments.items ≡ front ++ last ∷ []
         → ways.new.items ≡ (ways.old.items ++ ways_between last.last last.first) ++ row_ways required front (again_sides required last)) }
 {
-    let Some(last) = pieces.pop() else {
-        return Piece::nothing(alloc);
+    let Some(last) = fragments.pop() else {
+        return Fragment::nothing(alloc);
     };
     last.push_again(ways)?;
     let rest = last.opt_if(required == 0)?;
-    join_row(alloc, pieces, required, rest, ways)
+    join_row(alloc, fragments, required, rest, ways)
 }

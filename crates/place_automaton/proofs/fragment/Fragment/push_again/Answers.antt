@@ -1,7 +1,7 @@
 use Rattle.std.proofs.Common.{inl, inr, refl, ap, ◌∙◌, subst}
 use Rattle.span_core.specs.Lists.{Has}
 use Rattle.place_automaton.specs.Sides.{Sides}
-use Rattle.place_automaton.proofs.piece.Piece.push_again.Goals as goal
+use Rattle.place_automaton.proofs.fragment.Fragment.push_again.Goals as goal
 
 pub push_ways-requires : goal.push_ways-requires
 push_ways-requires c = λ s e hs he.

@@ -5,7 +5,7 @@ use Rattle.marked_automaton.specs.Automaton.{Automaton, IsBlockOf}
 use Rattle.place_automaton.specs.Atom.{stop_before}
 use Rattle.place_automaton.specs.Sides.{Sides}
 use Rattle.span_core.proofs.HasLaws.{Has-append_left, Has-append_right}
-use Rattle.place_automaton.proofs.piece.Piece.add_stops.Goals as goal
+use Rattle.place_automaton.proofs.fragment.Fragment.add_stops.Goals as goal
 
 pub add_last_stops-requires-clause-state : goal.add_last_stops-requires-clause-state
 add_last_stops-requires-clause-state c = λ x h.

@@ -1,7 +1,7 @@
 use Rattle.std.proofs.Common.{inl, inr, refl, ap, ◌∙◌, subst}
 use Rattle.span_core.specs.Lists.{Has}
 use Rattle.place_automaton.specs.Sides.{Sides}
-use Rattle.place_automaton.proofs.piece.Piece.captured.Goals as goal
+use Rattle.place_automaton.proofs.fragment.Fragment.captured.Goals as goal
 
 pub mark_entries-requires : goal.mark_entries-requires
 mark_entries-requires c = λ e he.

@@ -3,7 +3,7 @@ use Rattle.span_core.specs.Lists.{Has}
 use Rattle.place_automaton.specs.Sides.{IsUnmarked}
 use Rattle.span_core.proofs.HasLaws.{Has-append_left, Has-append_right}
 use Rattle.place_automaton.proofs.Unmarked.{unmarked_joins, again_unmarked, row_joins}
-use Rattle.place_automaton.proofs.piece.join_again.Goals as goal
+use Rattle.place_automaton.proofs.fragment.join_again.Goals as goal
 
 pub push_again-requires : goal.push_again-requires
 push_again-requires c =
