@@ -8,12 +8,12 @@ pub use difference::{minus, minus_within};
 
 mod difference;
 pub mod laws;
+mod partitions;
 mod pieces;
-mod rows;
 mod search;
 mod stops;
 
-/// The most states of sets, and parts of rows, that are kept while a difference is made, some 200 MB. Where
+/// The most states of sets, and parts of partitions, that are kept while a difference is made, some 200 MB. Where
 /// there are more, want of memory is answered, which needs no cause and says nothing of the automata.
 pub const MOST_KEPT: usize = 20_000_000;
 
