@@ -67,7 +67,7 @@ module _ (d : List ℕ) (K : ℕ → Bool) where
   some_within join_end i h = absurd h
   some_within (join e rest) i (inl h) = some_within e i h
   some_within (join e rest) i (inr h) = some_within rest i h
-  some_within (project kept e) i h = some_within e i h
+  some_within (project names e) i h = some_within e i h
   some_within (minus e g) i (inl h) = some_within e i h
   some_within (minus e g) i (inr h) = some_within g i h
 
@@ -125,8 +125,8 @@ module _ (d : List ℕ) (K : ℕ → Bool) where
   two_differ : ((i : ℕ) → i ≤ length d → IsTrue (K i)) → (M N : Marked) → Waits M → Waits N → Waits (of_minus M N)
   two_differ full M N m n = ((difference_made M.graph N.graph m.0 n.0).4.whole, full_waits full (of_minus M N).graph)
 
-  projected : (kept : List VarName) (M : Marked) → Waits M → Waits (of_projection kept M)
-  projected kept M m = over_waits kept M m
+  projected : (names : List VarName) (M : Marked) → Waits M → Waits (of_projection names M)
+  projected names M m = over_waits names M m
 
   module _ (V S : ℕ → VarName → Type 0) (n : ℕ) (L : ℕ → Marked) (lets : (k : ℕ) → Waits (L k)) where
     -- what is shown of an expression: as it is, as the parts of a union that follow, and as those of a join
@@ -161,8 +161,8 @@ module _ (d : List ℕ) (K : ℕ → Bool) where
           (all_wait rest).joined_parts (of_join M (automaton_of L e)) h.1 (rest_of_join e rest has)
           (two_joined M (automaton_of L e) m ((all_wait e).whole h.0 (first_of_join e rest has)));
     }
-    all_wait (project kept e) = record {
-      whole = λ h has. projected kept (automaton_of L e) ((all_wait e).whole h.0 has);
+    all_wait (project names e) = record {
+      whole = λ h has. projected names (automaton_of L e) ((all_wait e).whole h.0 has);
       united_parts = λ M h has m. absurd h;
       joined_parts = λ M h has m. absurd h;
     }

@@ -20,7 +20,7 @@ SomeAtom P union_end = ⊥
 SomeAtom P (union e rest) = SomeAtom P e ⊎ SomeAtom P rest
 SomeAtom P join_end = ⊥
 SomeAtom P (join e rest) = SomeAtom P e ⊎ SomeAtom P rest
-SomeAtom P (project kept e) = SomeAtom P e
+SomeAtom P (project names e) = SomeAtom P e
 SomeAtom P (minus e g) = SomeAtom P e ⊎ SomeAtom P g
 
 -- of some atom of the query's text, be it of a let, named or not, or of the body
@@ -35,7 +35,7 @@ sum_atoms m union_end = 0
 sum_atoms m (union e rest) = sum_atoms m e + sum_atoms m rest
 sum_atoms m join_end = 0
 sum_atoms m (join e rest) = sum_atoms m e + sum_atoms m rest
-sum_atoms m (project kept e) = sum_atoms m e
+sum_atoms m (project names e) = sum_atoms m e
 sum_atoms m (minus e g) = sum_atoms m e + sum_atoms m g
 
 -- and those of the query's text
@@ -50,7 +50,7 @@ HasMinusIn union_end = ⊥
 HasMinusIn (union e rest) = HasMinusIn e ⊎ HasMinusIn rest
 HasMinusIn join_end = ⊥
 HasMinusIn (join e rest) = HasMinusIn e ⊎ HasMinusIn rest
-HasMinusIn (project kept e) = HasMinusIn e
+HasMinusIn (project names e) = HasMinusIn e
 HasMinusIn (minus e g) = Unit {0}
 
 -- in the query's text

@@ -118,17 +118,17 @@ bits_at names x None m at dis small = no_bits names m x at
 bits_at names x (Some j) m at dis small = bits_at_place names x j m at dis small
 
 -- the digits at the places of the kept names are what is left of a block
-pub picked_is_left : (names kept : List VarName) (places : List (Option ℕ)) (m : ℕ) → AreDistinct names → ArePlaces names kept places → m < 2 ^ (2 * length names) →
-    picked (length names) places m ≡ left_of names kept m
+pub picked_is_left : (names keep : List VarName) (places : List (Option ℕ)) (m : ℕ) → AreDistinct names → ArePlaces names keep places → m < 2 ^ (2 * length names) →
+    picked (length names) places m ≡ left_of names keep m
 picked_is_left names [] [] m dis are small = refl
 picked_is_left names [] (place ∷ places) m dis are small = absurd (omega (arith, are.0))
-picked_is_left names (x ∷ kept) [] m dis are small = absurd (omega (arith, are.0))
-picked_is_left names (x ∷ kept) (place ∷ places) m dis are small =
-    let len : length places ≡ length kept = omega (arith, are.0) in
-    let rest = picked_is_left names kept places m dis (len, λ k y at. are.1 (suc k) y at) small in
+picked_is_left names (x ∷ keep) [] m dis are small = absurd (omega (arith, are.0))
+picked_is_left names (x ∷ keep) (place ∷ places) m dis are small =
+    let len : length places ≡ length keep = omega (arith, are.0) in
+    let rest = picked_is_left names keep places m dis (len, λ k y at. are.1 (suc k) y at) small in
     let here = bits_at names x place m (are.1 zero x refl) dis small in
     ap (λ n. digit_at (length names) place m * 2 ^ (2 * n) + picked (length names) places m) len
-    ∙ (ap (λ d. d * 2 ^ (2 * length kept) + picked (length names) places m) (sym here) ∙ ap (λ r. bits_of names m x * 2 ^ (2 * length kept) + r) rest)
+    ∙ (ap (λ d. d * 2 ^ (2 * length keep) + picked (length names) places m) (sym here) ∙ ap (λ r. bits_of names m x * 2 ^ (2 * length keep) + r) rest)
 
 digit_below : (all m : ℕ) (place : Option ℕ) → digit_at all place m < 4
 digit_below all m None = omega arith

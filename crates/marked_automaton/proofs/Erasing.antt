@@ -104,17 +104,17 @@ any_bits : (names : List VarName) (x : VarName) (m : Mapping) (p : ℕ) → Has 
 any_bits names x m p (inl h) = bits_law names x m p h
 any_bits names x m p (inr absent) = absent_bits names x m p absent ∙ sym (ap (λ s. digit s p) absent)
 
-left_digits : (names kept : List VarName) (m : Mapping) → ((x : VarName) → Has kept x → Has names x ⊎ (m x ≡ None)) → (p : ℕ) →
-    left_of names kept (digits (row_of names m) p) ≡ digits (row_of kept m) p
+left_digits : (names keep : List VarName) (m : Mapping) → ((x : VarName) → Has keep x → Has names x ⊎ (m x ≡ None)) → (p : ℕ) →
+    left_of names keep (digits (row_of names m) p) ≡ digits (row_of keep m) p
 left_digits names [] m there p = refl
-left_digits names (x ∷ kept) m there p =
+left_digits names (x ∷ keep) m there p =
     let here = any_bits names x m p (there x (inl refl)) in
-    let rest = left_digits names kept m (λ y h. there y (inr h)) p in
-    let len : length (map m kept) ≡ length kept = length-map kept m in
-    ap (λ v. v * 2 ^ (2 * length kept) + left_of names kept (digits (row_of names m) p)) here
-    ∙ (ap (λ v. digit (m x) p * 2 ^ (2 * length kept) + v) rest
-    ∙ ap (λ n. digit (m x) p * 2 ^ (2 * n) + digits (row_of kept m) p) (sym len))
+    let rest = left_digits names keep m (λ y h. there y (inr h)) p in
+    let len : length (map m keep) ≡ length keep = length-map keep m in
+    ap (λ v. v * 2 ^ (2 * length keep) + left_of names keep (digits (row_of names m) p)) here
+    ∙ (ap (λ v. digit (m x) p * 2 ^ (2 * length keep) + v) rest
+    ∙ ap (λ n. digit (m x) p * 2 ^ (2 * n) + digits (row_of keep m) p) (sym len))
 
 pub erasing_law : ErasingLaw
-erasing_law names kept m there p =
-    ap (left_of names kept) (block_digits (row_of names m) p) ∙ (left_digits names kept m there p ∙ sym (block_digits (row_of kept m) p))
+erasing_law names keep m there p =
+    ap (left_of names keep) (block_digits (row_of names m) p) ∙ (left_digits names keep m there p ∙ sym (block_digits (row_of keep m) p))

@@ -15,13 +15,13 @@ use Rattle.marked_automaton.specs.Marks.{bits_of, left_of, remarked_way, remarke
 use Rattle.marked_automaton.proofs.Erasing.{name_itself, same_name}
 
 -- of names that do not have the first, what is left is left of the lower bits
-left_below : (y : VarName) (ys kept : List VarName) (m : ℕ) → ¬ Has kept y → left_of (y ∷ ys) kept m ≡ left_of ys kept (m % 2 ^ (2 * length ys))
+left_below : (y : VarName) (ys keep : List VarName) (m : ℕ) → ¬ Has keep y → left_of (y ∷ ys) keep m ≡ left_of ys keep (m % 2 ^ (2 * length ys))
 left_below y ys [] m none = refl
-left_below y ys (x ∷ kept) m none =
+left_below y ys (x ∷ keep) m none =
     let low : ℕ = m % 2 ^ (2 * length ys) in
     let here = ap (λ b. if b then m / 2 ^ (2 * length ys) else bits_of ys low x) (other (bytes_eq y x) refl) in
-    ap (λ d. d * 2 ^ (2 * length kept) + left_of (y ∷ ys) kept m) here
-    ∙ ap (λ r. bits_of ys low x * 2 ^ (2 * length kept) + r) (left_below y ys kept m (λ h. none (inr h)))
+    ap (λ d. d * 2 ^ (2 * length keep) + left_of (y ∷ ys) keep m) here
+    ∙ ap (λ r. bits_of ys low x * 2 ^ (2 * length keep) + r) (left_below y ys keep m (λ h. none (inr h)))
   where
     other : (b : Bool) → bytes_eq y x ≡ b → bytes_eq y x ≡ false
     other true e = absurd (none (inl (sym (same_name y x e))))
@@ -48,17 +48,17 @@ keeping_law names A dis blocks =
     ∙ ap (λ xs. record { states = A.states; starts = A.starts; ways = A.ways; stops = xs; idle = A.idle }) stops
 
 -- as many names, each one of the others, are all of them
-pub all_kept : (kept names : List VarName) → Ascending kept → Ascending names → ((x : VarName) → Has kept x → Has names x) → length kept ≡ length names → kept ≡ names
-all_kept kept names up vp sub len = same_names kept names up vp sub back
+pub all_kept : (keep names : List VarName) → Ascending keep → Ascending names → ((x : VarName) → Has keep x → Has names x) → length keep ≡ length names → keep ≡ names
+all_kept keep names up vp sub len = same_names keep names up vp sub back
   where
-    back : (x : VarName) → Has names x → Has kept x
-    back x h = go (list_any (λ y. bytes_eq y x) kept) refl
+    back : (x : VarName) → Has names x → Has keep x
+    back x h = go (list_any (λ y. bytes_eq y x) keep) refl
       where
-        go : (b : Bool) → list_any (λ y. bytes_eq y x) kept ≡ b → Has kept x
-        go true e = Has-list_any kept x e
+        go : (b : Bool) → list_any (λ y. bytes_eq y x) keep ≡ b → Has keep x
+        go true e = Has-list_any keep x e
         go false e =
-            let none : ¬ Has kept x = λ k. false_true (sym e ∙ list_any-Has kept x k) in
-            let more = distinct-le (x ∷ kept) names (none, ascending-distinct kept up) (λ z g. elim g as (λ _. Has names z) [ inl at ↦ subst (Has names) at h | inr k ↦ sub z k ]) in
+            let none : ¬ Has keep x = λ k. false_true (sym e ∙ list_any-Has keep x k) in
+            let more = distinct-le (x ∷ keep) names (none, ascending-distinct keep up) (λ z g. elim g as (λ _. Has names z) [ inl at ↦ subst (Has names) at h | inr k ↦ sub z k ]) in
             absurd (omega (arith, more, len))
           where
             false_true : false ≡ true → ⊥

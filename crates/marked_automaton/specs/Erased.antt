@@ -10,9 +10,9 @@ IsPlaceOf names x None = ¬ Has names x
 
 -- the place of each kept name among all names
 abbrev pub ArePlaces : List VarName → List VarName → List (Option ℕ) → Type 0
-ArePlaces names kept places =
-    (length places ≡ length kept)
-    × ((k : ℕ) (x : VarName) → slice_get kept k ≡ Some x → IsPlaceOf names x (slice_index_or places k None))
+ArePlaces names keep places =
+    (length places ≡ length keep)
+    × ((k : ℕ) (x : VarName) → slice_get keep k ≡ Some x → IsPlaceOf names x (slice_index_or places k None))
 
 -- the digit in base 4 of a block of so many variables that stands at a place
 abbrev pub digit_at : ℕ → Option ℕ → ℕ → ℕ

@@ -16,7 +16,7 @@ bits_of (y ∷ ys) m x = if bytes_eq y x then m / 2 ^ (2 * length ys) else bits_
 -- what is left, over the kept names, of a block over all names; a kept name that is not among them has no bits
 abbrev pub left_of : List VarName → List VarName → ℕ → ℕ
 left_of names [] m = 0
-left_of names (x ∷ kept) m = bits_of names m x * 2 ^ (2 * length kept) + left_of names kept m
+left_of names (x ∷ keep) m = bits_of names m x * 2 ^ (2 * length keep) + left_of names keep m
 
 abbrev pub remarked_way : (ℕ → ℕ) → Way → Way
 remarked_way e y = record { from = y.from; marks = e y.marks; bytes = y.bytes; to = y.to }
@@ -37,5 +37,5 @@ remarked e A = record {
 -- what is left of a row's blocks are the blocks of the row over the kept names, where those that it had no place for are absent
 abbrev pub ErasingLaw : Type 0
 ErasingLaw =
-    (names kept : List VarName) (m : Mapping) → ((x : VarName) → Has kept x → Has names x ⊎ (m x ≡ None)) → (p : ℕ) →
-    left_of names kept (block (row_of names m) p) ≡ block (row_of kept m) p
+    (names keep : List VarName) (m : Mapping) → ((x : VarName) → Has keep x → Has names x ⊎ (m x ≡ None)) → (p : ℕ) →
+    left_of names keep (block (row_of names m) p) ≡ block (row_of keep m) p

@@ -43,10 +43,10 @@ impl Eraser {
     fn left(&self, marks: Marks) -> Marks
         ensures { result ≡ picked self.now.all self.now.places.items marks }
     {
-        let kept = self.places.len();
+        let count = self.places.len();
         let mut left = Marks::none();
         for (k, place) in self.places.iter().enumerate() {
-            left = with_digit(left, self.digit(marks, *place), k, kept);
+            left = with_digit(left, self.digit(marks, *place), k, count);
         }
         left
     }

@@ -49,8 +49,8 @@ mapping_of-row_of (y ∷ names) n x h = by (bytes_eq y x) refl h (mapping_of-row
     by false e (inl same) later = let clash : true ≡ false = sym ((bytes_eq-Decides y x).1 same) ∙ e in absurd (cc)
     by false e (inr h) later = later h
 
-pub row_over-row_of : (names kept : List VarName) (n : Mapping) → ((x : VarName) → Has kept x → Has names x) → row_over names kept (row_of names n) ≡ row_of kept n
-row_over-row_of names kept n in_names = row_same_on kept (mapping_of names (row_of names n)) n (λ x h. mapping_of-row_of names n x (in_names x h))
+pub row_over-row_of : (names keep : List VarName) (n : Mapping) → ((x : VarName) → Has keep x → Has names x) → row_over names keep (row_of names n) ≡ row_of keep n
+row_over-row_of names keep n in_names = row_same_on keep (mapping_of names (row_of names n)) n (λ x h. mapping_of-row_of names n x (in_names x h))
 
 -- ---- the places that an atom's fits begin at
 

@@ -27,8 +27,8 @@ asked_united q n es e has a = record { sound = a.sound; sound_expr = union_part 
 pub asked_joined : (q : QueryTree) (n : ℕ) (es : List ExprTree) (e : ExprTree) → Has es e → IsAsked q n (join_all es) → IsAsked q n e
 asked_joined q n es e has a = record { sound = a.sound; sound_expr = join_part (vars_of_lets q.lets n) (sure_of_lets q.lets n) n es e a.sound_expr has; named = λ x h. a.named x (join_named es e x has h) }
 
-pub asked_sub : (q : QueryTree) (n : ℕ) (kept : List VarName) (e : ExprTree) → IsAsked q n (project kept e) → IsAsked q n e
-asked_sub q n kept e a = record { sound = a.sound; sound_expr = a.sound_expr.0; named = a.named }
+pub asked_sub : (q : QueryTree) (n : ℕ) (names : List VarName) (e : ExprTree) → IsAsked q n (project names e) → IsAsked q n e
+asked_sub q n names e a = record { sound = a.sound; sound_expr = a.sound_expr.0; named = a.named }
 
 -- the variables of what is asked are names of the query
 pub asked_var : (q : QueryTree) (n : ℕ) (e : ExprTree) (x : VarName) → IsAsked q n e → VarOf (vars_of_lets q.lets n) e x → NameOf q x
@@ -56,28 +56,28 @@ rows_of_table V A names rows t r h = let s = t.listed.each_so r h in ap length s
 
 -- ---- projections
 
-pub restricts : (kept : List VarName) (n : Mapping) → IsRestriction (Has kept) n (λ x. if has_name kept x then n x else None)
-restricts kept n x =
-    (λ h. ap (λ (b : Bool). if b then n x else None) (list_any-Has kept x h), λ out. by (has_name kept x) refl out)
+pub restricts : (names : List VarName) (n : Mapping) → IsRestriction (Has names) n (λ x. if has_name names x then n x else None)
+restricts names n x =
+    (λ h. ap (λ (b : Bool). if b then n x else None) (list_any-Has names x h), λ out. by (has_name names x) refl out)
   where
-    by : (b : Bool) → has_name kept x ≡ b → (Has kept x → ⊥) → (if b then n x else None) ≡ None
-    by true e out = absurd (out (Has-list_any kept x e))
+    by : (b : Bool) → has_name names x ≡ b → (Has names x → ⊥) → (if b then n x else None) ≡ None
+    by true e out = absurd (out (Has-list_any names x e))
     by false e out = refl
 
-module _ (A : Mapping → Type 0) (names kept : List VarName) (rows : List SpanRow) (H : SpanRow → Type 0) (in_names : (x : VarName) → Has kept x → Has names x) where
-  pub kept_listed : Tells (Has rows) (IsRowOf A names) → Tells H (FromSome (IsRowOver names kept) rows) →
-      Tells H (IsRowOf (λ m. (n : Mapping) × A n × IsRestriction (Has kept) n m) kept)
+module _ (A : Mapping → Type 0) (names keep : List VarName) (rows : List SpanRow) (H : SpanRow → Type 0) (in_names : (x : VarName) → Has keep x → Has names x) where
+  pub kept_listed : Tells (Has rows) (IsRowOf A names) → Tells H (FromSome (IsRowOver names keep) rows) →
+      Tells H (IsRowOf (λ m. (n : Mapping) × A n × IsRestriction (Has keep) n m) keep)
   kept_listed all out = record {
     each_so = λ r h.
         let s = out.each_so r h in
         let t = all.each_so s.0 s.1 in
         let n = t.0 in
-        let m : Mapping = λ x. if has_name kept x then n x else None in
-        let is = restricts kept n in
-        (m, (n, t.1, is), s.2 ∙ ap (λ (a : SpanRow). row_over names kept a) t.2 ∙ row_over-row_of names kept n in_names ∙ row_same_on kept n m (λ x h. sym ((is x).0 h)));
+        let m : Mapping = λ x. if has_name keep x then n x else None in
+        let is = restricts keep n in
+        (m, (n, t.1, is), s.2 ∙ ap (λ (a : SpanRow). row_over names keep a) t.2 ∙ row_over-row_of names keep n in_names ∙ row_same_on keep n m (λ x h. sym ((is x).0 h)));
     all_there = λ r h.
         let n = h.1.0 in
-        out.all_there r (row_of names n, all.all_there (row_of names n) (n, h.1.1, refl), h.2 ∙ row_same_on kept h.0 n (λ x k. (h.1.2 x).0 k) ∙ sym (row_over-row_of names kept n in_names));
+        out.all_there r (row_of names n, all.all_there (row_of names n) (n, h.1.1, refl), h.2 ∙ row_same_on keep h.0 n (λ x k. (h.1.2 x).0 k) ∙ sym (row_over-row_of names keep n in_names));
   }
 
 pub kept_all : (A : Mapping → Type 0) (names : List VarName) (rows : List SpanRow) (H : SpanRow → Type 0) → Tells (Has rows) (IsRowOf A names) → Tells H (FromSome (IsRowOver names names) rows) →

@@ -38,9 +38,9 @@ pub fn expr_table(
         }
         Expr::Union(parts) => union_table(alloc, query, tables, parts, doc),
         Expr::Join(parts) => join_table(alloc, query, tables, parts, doc),
-        Expr::Project(kept, sub) => {
+        Expr::Project(names, sub) => {
             let inner = expr_table(alloc, query, tables, sub, doc)?;
-            inner.over(alloc, kept)
+            inner.over(alloc, names)
         }
         Expr::Minus(left, right) => {
             let first = expr_table(alloc, query, tables, left, doc)?;

@@ -61,8 +61,8 @@ asked_part o q n es e h a = record {
   named = λ x v. a.named x (part_named o es e x h v);
 }
 
-pub asked_sub : (q : QueryTree) (n : ℕ) (kept : List VarName) (e : ExprTree) → IsAsked q n (project kept e) → IsAsked q n e
-asked_sub q n kept e a = record { sound = a.sound; sound_expr = a.sound_expr.0; named = λ x v. a.named x v }
+pub asked_sub : (q : QueryTree) (n : ℕ) (names : List VarName) (e : ExprTree) → IsAsked q n (project names e) → IsAsked q n e
+asked_sub q n names e a = record { sound = a.sound; sound_expr = a.sound_expr.0; named = λ x v. a.named x v }
 
 -- ---- parts with small atoms
 

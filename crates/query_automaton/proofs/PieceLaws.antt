@@ -67,32 +67,32 @@ module _ (u : AtomTree) where
 
 -- ---- projections
 
-module _ (q : QueryTree) (lets : List Marked) (known : AreCompiled q lets) (kept : List VarName) (e : ExprTree) (asked : IsAsked q (length lets) (project kept e))
+module _ (q : QueryTree) (lets : List Marked) (known : AreCompiled q lets) (keep : List VarName) (e : ExprTree) (asked : IsAsked q (length lets) (project keep e))
     (a : Marked) (part : IsCompiledFrom q (length lets) e a) where
   abbrev E : Marked
   E = automaton_of (of_lets q.lets (length lets)) e
 
-  pub kept_there : (x : VarName) → Has kept x → Has a.names x
+  pub kept_there : (x : VarName) → Has keep x → Has a.names x
   kept_there x h =
-      let sh = shape q lets known e (asked_sub q (length lets) kept e asked) in
+      let sh = shape q lets known e (asked_sub q (length lets) keep e asked) in
       subst (λ (ns : List VarName). Has ns x) (sym part.reduces.0) ((sh.names x).1 (asked.sound_expr.1 x h).0)
 
-  pub projected : (p : Marked) → p.names ≡ kept → Reduces p.graph (remarked (left_of a.names kept) a.graph) → IsCompiledFrom q (length lets) (project kept e) p
+  pub projected : (p : Marked) → p.names ≡ keep → Reduces p.graph (remarked (left_of a.names keep) a.graph) → IsCompiledFrom q (length lets) (project keep e) p
   projected p names reduces = record {
     reduces = (
       names,
-      reduct_of_reduct p.graph (remarked (left_of E.names kept) a.graph) (remarked (left_of E.names kept) E.graph)
-          (subst (λ (ns : List VarName). Reduces p.graph (remarked (left_of ns kept) a.graph)) part.reduces.0 reduces)
-          (reduct_of_projection a.graph E.graph (left_of E.names kept) part.reduces.1),
+      reduct_of_reduct p.graph (remarked (left_of E.names keep) a.graph) (remarked (left_of E.names keep) E.graph)
+          (subst (λ (ns : List VarName). Reduces p.graph (remarked (left_of ns keep) a.graph)) part.reduces.0 reduces)
+          (reduct_of_projection a.graph E.graph (left_of E.names keep) part.reduces.1),
     );
     small = part.small;
   }
 
 -- all variables are kept
-pub kept_all : (kept : List VarName) (a : Marked) → IsMarked a → Ascending kept → Ascending a.names → ((x : VarName) → Has kept x → Has a.names x) → length kept ≡ length a.names →
-    (a.names ≡ kept) × Reduces a.graph (remarked (left_of a.names kept) a.graph)
-kept_all kept a marked up vp sub len =
-    let same = all_kept kept a.names up vp sub len in
+pub kept_all : (names : List VarName) (a : Marked) → IsMarked a → Ascending names → Ascending a.names → ((x : VarName) → Has names x → Has a.names x) → length names ≡ length a.names →
+    (a.names ≡ names) × Reduces a.graph (remarked (left_of a.names names) a.graph)
+kept_all names a marked up vp sub len =
+    let same = all_kept names a.names up vp sub len in
     let nothing = keeping_law a.names a.graph (ascending-distinct a.names vp) (record { ways = marked.way_marks; stops = marked.stop_marks }) in (
       sym same,
       subst (λ (ns : List VarName). Reduces a.graph (remarked (left_of a.names ns) a.graph)) (sym same)

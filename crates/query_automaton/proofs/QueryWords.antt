@@ -154,8 +154,8 @@ module _ (d : List ℕ) (bytes : AreBytes d) (n : ℕ) (V S : ℕ → VarName �
     united_parts = λ P B M h b. absurd h;
     joined_parts = next_joined e rest (all_for e) (all_for rest);
   }
-  all_for (project kept e) = record {
-    whole = λ h. for_projection d (VarOf V e) (Answer V A d e) kept (automaton_of L e) h.2 (λ x k. (h.1 x k).0) ((all_for e).whole h.0);
+  all_for (project names e) = record {
+    whole = λ h. for_projection d (VarOf V e) (Answer V A d e) names (automaton_of L e) h.2 (λ x k. (h.1 x k).0) ((all_for e).whole h.0);
     united_parts = λ P B M h b. absurd h;
     joined_parts = λ P B M h v b. absurd h;
   }

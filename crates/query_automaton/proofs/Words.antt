@@ -114,57 +114,57 @@ for_union d P Q A B M N a b = record {
 
 -- ---- projection
 
-pub for_projection : (d : List ℕ) (P : VarName → Type 0) (A : Mapping → Type 0) (kept : List VarName) (M : Marked) →
-    Ascending kept → ((x : VarName) → Has kept x → P x) → IsFor d P A M →
-    IsFor d (Has kept) (λ m. (n : Mapping) × A n × IsRestriction (Has kept) n m) (of_projection kept M)
-for_projection d P A kept M up sub a = record {
-  whole = remarked_whole (left_of M.names kept) M.graph a.whole;
+pub for_projection : (d : List ℕ) (P : VarName → Type 0) (A : Mapping → Type 0) (names : List VarName) (M : Marked) →
+    Ascending names → ((x : VarName) → Has names x → P x) → IsFor d P A M →
+    IsFor d (Has names) (λ m. (n : Mapping) × A n × IsRestriction (Has names) n m) (of_projection names M)
+for_projection d P A names M up sub a = record {
+  whole = remarked_whole (left_of M.names names) M.graph a.whole;
   ascending = up;
   names = λ x. (λ h. h, λ h. h);
   absent = λ m h x out. (h.2 x).1 out;
-  ends = λ m h x s is. ends m h x s is (has_name kept x) refl;
-  respects = λ m n e h. (h.0, h.1, restriction_same (Has kept) h.0 m n e h.2);
+  ends = λ m h x s is. ends m h x s is (has_name names x) refl;
+  respects = λ m n e h. (h.0, h.1, restriction_same (Has names) h.0 m n e h.2);
   words = λ w. (there w, back w);
 }
   where
-    ends : (m : Mapping) → (n : Mapping) × A n × IsRestriction (Has kept) n m → (x : VarName) (s : Span) → m x ≡ Some s → (b : Bool) → has_name kept x ≡ b → s.end ≤ length d
-    ends m h x s is true at = a.ends h.0 h.1 x s (sym ((h.2 x).0 (Has-list_any kept x at)) ∙ is)
+    ends : (m : Mapping) → (n : Mapping) × A n × IsRestriction (Has names) n m → (x : VarName) (s : Span) → m x ≡ Some s → (b : Bool) → has_name names x ≡ b → s.end ≤ length d
+    ends m h x s is true at = a.ends h.0 h.1 x s (sym ((h.2 x).0 (Has-list_any names x at)) ∙ is)
     ends m h x s is false at =
-        let none : m x ≡ None = (h.2 x).1 (λ g. let e : true ≡ false = sym (list_any-Has kept x g) ∙ at in absurd (cc)) in
+        let none : m x ≡ None = (h.2 x).1 (λ g. let e : true ≡ false = sym (list_any-Has names x g) ∙ at in absurd (cc)) in
         let both : Some s ≡ None = sym is ∙ none in absurd (cc)
 
     kept_of : Mapping → Mapping
-    kept_of n x = if has_name kept x then n x else None
+    kept_of n x = if has_name names x then n x else None
 
-    apart : (n : Mapping) (x : VarName) → (Has kept x → ⊥) → (b : Bool) → has_name kept x ≡ b → (if b then n x else None) ≡ None
-    apart n x out true at = absurd (out (Has-list_any kept x at))
+    apart : (n : Mapping) (x : VarName) → (Has names x → ⊥) → (b : Bool) → has_name names x ≡ b → (if b then n x else None) ≡ None
+    apart n x out true at = absurd (out (Has-list_any names x at))
     apart n x out false at = refl
 
-    kept_is : (n : Mapping) → IsRestriction (Has kept) n (kept_of n)
+    kept_is : (n : Mapping) → IsRestriction (Has names) n (kept_of n)
     kept_is n x = (
-      λ h. ap (λ b. if b then n x else None) (list_any-Has kept x h),
-      λ out. apart n x out (has_name kept x) refl,
+      λ h. ap (λ b. if b then n x else None) (list_any-Has names x h),
+      λ out. apart n x out (has_name names x) refl,
     )
 
-    erased : (n : Mapping) (p : ℕ) → left_of M.names kept (block (row_of M.names n) p) ≡ block (row_of kept n) p
-    erased n p = erasing_law M.names kept n (λ x h. inl ((a.names x).1 (sub x h))) p
+    erased : (n : Mapping) (p : ℕ) → left_of M.names names (block (row_of M.names n) p) ≡ block (row_of names n) p
+    erased n p = erasing_law M.names names n (λ x h. inl ((a.names x).1 (sub x h))) p
 
-    there : (w : ℕ → ℕ) → Accepts (of_projection kept M).graph d w → (m : Mapping) × ((n : Mapping) × A n × IsRestriction (Has kept) n m) × IsWordOf (row_of kept m) d w
+    there : (w : ℕ → ℕ) → Accepts (of_projection names M).graph d w → (m : Mapping) × ((n : Mapping) × A n × IsRestriction (Has names) n m) × IsWordOf (row_of names m) d w
     there w h =
-        let v = (projection_law M.graph (left_of M.names kept) d w).0 h in
+        let v = (projection_law M.graph (left_of M.names names) d w).0 h in
         let r = (a.words v.0).0 v.1 in
-        let rows : row_of kept r.0 ≡ row_of kept (kept_of r.0) = row_same_on kept r.0 (kept_of r.0) (λ x g. sym ((kept_is r.0 x).0 g)) in (
+        let rows : row_of names r.0 ≡ row_of names (kept_of r.0) = row_same_on names r.0 (kept_of r.0) (λ x g. sym ((kept_is r.0 x).0 g)) in (
           kept_of r.0,
           (r.0, r.1, kept_is r.0),
-          λ p l. v.2 p l ∙ (ap (left_of M.names kept) (r.2 p l) ∙ (erased r.0 p ∙ ap (λ (row : List (Option Span)). block row p) rows)),
+          λ p l. v.2 p l ∙ (ap (left_of M.names names) (r.2 p l) ∙ (erased r.0 p ∙ ap (λ (row : List (Option Span)). block row p) rows)),
         )
 
-    back : (w : ℕ → ℕ) → (m : Mapping) × ((n : Mapping) × A n × IsRestriction (Has kept) n m) × IsWordOf (row_of kept m) d w → Accepts (of_projection kept M).graph d w
+    back : (w : ℕ → ℕ) → (m : Mapping) × ((n : Mapping) × A n × IsRestriction (Has names) n m) × IsWordOf (row_of names m) d w → Accepts (of_projection names M).graph d w
     back w h =
         let n = h.1.0 in
         let v : ℕ → ℕ = block (row_of M.names n) in
-        let rows : row_of kept h.0 ≡ row_of kept n = row_same_on kept h.0 n (λ x g. (h.1.2 x).0 g) in
-        (projection_law M.graph (left_of M.names kept) d w).1 (
+        let rows : row_of names h.0 ≡ row_of names n = row_same_on names h.0 n (λ x g. (h.1.2 x).0 g) in
+        (projection_law M.graph (left_of M.names names) d w).1 (
           v,
           (a.words v).1 (n, h.1.1, λ p l. refl),
           λ p l. h.2 p l ∙ (ap (λ (row : List (Option Span)). block row p) rows ∙ sym (erased n p)),

@@ -28,7 +28,7 @@ module _ (L : ℕ → Marked) where
     HasPart (union e rest) n = HasPart e n ⊎ HasUnionStep (automaton_of L e) rest n
     HasPart join_end n = ⊥
     HasPart (join e rest) n = HasPart e n ⊎ HasJoinStep (automaton_of L e) rest n
-    HasPart (project kept e) n = HasPart e n ⊎ (n ≡ numbers_of (automaton_of L (project kept e)))
+    HasPart (project names e) n = HasPart e n ⊎ (n ≡ numbers_of (automaton_of L (project names e)))
     HasPart (minus e g) n = HasPart e n ⊎ (HasPart g n ⊎ (n ≡ numbers_of (automaton_of L (minus e g))))
 
     pub HasUnionStep : Marked → ExprTree → PartNumbers → Type 0
@@ -62,7 +62,7 @@ HasSmallAtoms union_end = Unit {0}
 HasSmallAtoms (union e rest) = HasSmallAtoms e × HasSmallAtoms rest
 HasSmallAtoms join_end = Unit {0}
 HasSmallAtoms (join e rest) = HasSmallAtoms e × HasSmallAtoms rest
-HasSmallAtoms (project kept e) = HasSmallAtoms e
+HasSmallAtoms (project names e) = HasSmallAtoms e
 HasSmallAtoms (minus e g) = HasSmallAtoms e × HasSmallAtoms g
 
 abbrev pub AtomsAreSmall : QueryTree → Type 0

@@ -24,7 +24,7 @@ of_join A B =
     record { names = names; graph = join_of (agree_on A.names B.names names) (joined A.names B.names names) A.graph B.graph }
 
 abbrev pub of_projection : List VarName → Marked → Marked
-of_projection kept A = record { names = kept; graph = remarked (left_of A.names kept) A.graph }
+of_projection names A = record { names = names; graph = remarked (left_of A.names names) A.graph }
 
 abbrev pub of_minus : Marked → Marked → Marked
 of_minus A B = record { names = A.names; graph = difference_of A.graph B.graph }
@@ -43,7 +43,7 @@ module _ (L : ℕ → Marked) where
     automaton_of (union e rest) = united (automaton_of e) rest
     automaton_of join_end = no_automaton
     automaton_of (join e rest) = together (automaton_of e) rest
-    automaton_of (project kept e) = of_projection kept (automaton_of e)
+    automaton_of (project names e) = of_projection names (automaton_of e)
     automaton_of (minus e g) = of_minus (automaton_of e) (automaton_of g)
 
     -- with the parts of a union that follow

@@ -116,9 +116,9 @@ impl<'q> Compiler<'q> {
             Expr::Named(k) => Ok(self.named(*k)?),
             Expr::Union(parts) => self.union(parts),
             Expr::Join(parts) => self.join(parts),
-            Expr::Project(kept, sub) => {
+            Expr::Project(names, sub) => {
                 let inner = self.expression(sub)?;
-                Ok(self.projected(inner, kept)?)
+                Ok(self.projected(inner, names)?)
             }
             Expr::Minus(left, right) => {
                 let first = self.expression(left)?;
@@ -202,19 +202,19 @@ impl<'q> Compiler<'q> {
     /// What is left of an automaton on the kept variables. Where these are all that it has, it is the
     /// automaton itself, and nothing is copied.
     #[inline(never)]
-    fn projected(&mut self, inner: Shared, kept: &VarSet) -> Result<Shared, OutOfMemory>
-        requires { (x : VarName) → Has kept.now x → Has inner.names x }
+    fn projected(&mut self, inner: Shared, names: &VarSet) -> Result<Shared, OutOfMemory>
+        requires { (x : VarName) → Has names.now x → Has inner.names x }
         ensures same { self.new ≡ self.old }
-        ensures names { IfOk result (λ p. p.names ≡ kept.now) }
-        ensures reduct { IfOk result (λ p. Reduces p.graph (remarked (left_of inner.names kept.now) inner.graph)) }
+        ensures names { IfOk result (λ p. p.names ≡ names.now) }
+        ensures reduct { IfOk result (λ p. Reduces p.graph (remarked (left_of inner.names names.now) inner.graph)) }
     {
         let whole = inner.as_automaton();
         prove!(whole.states() <= MOST_STATES);
-        if kept.len() == whole.vars().len() {
+        if names.len() == whole.vars().len() {
             return Ok(inner);
         }
         spend(&mut self.effort, whole)?;
-        Ok(Shared::new(self.alloc, project(self.alloc, whole, kept)?)?)
+        Ok(Shared::new(self.alloc, project(self.alloc, whole, names)?)?)
     }
 
     /// The union of the parts so far with one part more, made in place; what a `let` has is copied.

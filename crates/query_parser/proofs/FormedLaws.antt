@@ -97,11 +97,11 @@ names_free (more_names {x = y} {xs = xs} s free) x h = by (has_last xs y x h) (n
     by (inl g) others = others g
     by (inr e) others = subst IsFreeName e free
 
-keep_free : {t : List Token} {kept : List VarName} → SpellsKeep t kept → (x : VarName) → Has kept x → IsFreeName x
+keep_free : {t : List Token} {names : List VarName} → SpellsKeep t names → (x : VarName) → Has names x → IsFreeName x
 keep_free keeps_none x h = absurd h
 keep_free (keeps_names {xs = xs} s few) x h = elim (kept_from [] xs x h) [ inl g ↦ absurd g | inr g ↦ names_free s x g ]
 
-keep_set : {t : List Token} {kept : List VarName} → SpellsKeep t kept → AreVariables kept
+keep_set : {t : List Token} {names : List VarName} → SpellsKeep t names → AreVariables names
 keep_set keeps_none = none_are_variables
 keep_set (keeps_names {xs = xs} s few) = record {
   few = few;

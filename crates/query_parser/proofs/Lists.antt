@@ -122,12 +122,12 @@ with_name_new x (y ∷ ys) new = by (with_name_new x ys) (name_cmp x y) refl
     by more Greater e = ap suc (more others)
 
 -- a name finds room where the list with it is not too long
-pub room_for : (kept : List VarName) (x : VarName) → length (with_name x kept) ≤ MOST_VARIABLES → finds_room kept x ≡ true
-room_for kept x few = by (is_among kept x) refl
+pub room_for : (names : List VarName) (x : VarName) → length (with_name x names) ≤ MOST_VARIABLES → finds_room names x ≡ true
+room_for names x few = by (is_among names x) refl
   where
-    by : (b : Bool) → is_among kept x ≡ b → (b || nat_lt (length kept) MOST_VARIABLES) ≡ true
+    by : (b : Bool) → is_among names x ≡ b → (b || nat_lt (length names) MOST_VARIABLES) ≡ true
     by true e = refl
-    by false e = let longer = with_name_new x kept e in grind (arith, nat_tests)
+    by false e = let longer = with_name_new x names e in grind (arith, nat_tests)
 
 has_at : (names : List VarName) (x : VarName) → Has names x → (i : ℕ) × (i < length names) × (get_or names i x ≡ x)
 has_at [] x h = absurd h
@@ -139,34 +139,34 @@ with_names_ascend names [] h = h
 with_names_ascend names (x ∷ xs) h = with_names_ascend (with_name x names) xs (with_ascends x names h)
 
 -- with a name that finds room the list is not too long
-pub room_keeps : (kept : List VarName) (x : VarName) → Ascending kept → length kept ≤ MOST_VARIABLES → finds_room kept x ≡ true →
-    length (with_name x kept) ≤ MOST_VARIABLES
-room_keeps kept x up few room = by (is_among kept x) refl room
+pub room_keeps : (keep : List VarName) (x : VarName) → Ascending keep → length keep ≤ MOST_VARIABLES → finds_room keep x ≡ true →
+    length (with_name x keep) ≤ MOST_VARIABLES
+room_keeps keep x up few room = by (is_among keep x) refl room
   where
-    by : (b : Bool) → is_among kept x ≡ b → (b || nat_lt (length kept) MOST_VARIABLES) ≡ true → length (with_name x kept) ≤ MOST_VARIABLES
+    by : (b : Bool) → is_among keep x ≡ b → (b || nat_lt (length keep) MOST_VARIABLES) ≡ true → length (with_name x keep) ≤ MOST_VARIABLES
     by true e h =
-        let g = has_at kept x (among_has kept x e) in
-        subst (λ (names : List VarName). length names ≤ MOST_VARIABLES) (sym (there_is kept g.0 x up g.1 g.2)) few
-    by false e h = let longer = with_name_new x kept e in grind (arith, nat_tests)
+        let g = has_at keep x (among_has keep x e) in
+        subst (λ (names : List VarName). length names ≤ MOST_VARIABLES) (sym (there_is keep g.0 x up g.1 g.2)) few
+    by false e h = let longer = with_name_new x keep e in grind (arith, nat_tests)
 
 -- what adding a name answers
-pub adds_room : (r : Bool) (kept : List VarName) (x : VarName) → (IsTrue r ↔ (Contains kept x ⊎ (length kept < MOST_VARIABLES))) → r ≡ finds_room kept x
-adds_room true kept x h = by (h.0 refl)
+pub adds_room : (r : Bool) (names : List VarName) (x : VarName) → (IsTrue r ↔ (Contains names x ⊎ (length names < MOST_VARIABLES))) → r ≡ finds_room names x
+adds_room true names x h = by (h.0 refl)
   where
-    by : Contains kept x ⊎ (length kept < MOST_VARIABLES) → true ≡ finds_room kept x
-    by (inl c) = sym (ap (λ b. b || nat_lt (length kept) MOST_VARIABLES) (has_among kept x (Has-Contains kept x c)))
-    by (inr few) = let room : nat_lt (length kept) MOST_VARIABLES ≡ true = grind (arith, nat_tests) in sym (ap (λ b. is_among kept x || b) room ∙ or-true (is_among kept x))
-adds_room false kept x h = by (is_among kept x) refl (nat_lt (length kept) MOST_VARIABLES) refl
+    by : Contains names x ⊎ (length names < MOST_VARIABLES) → true ≡ finds_room names x
+    by (inl c) = sym (ap (λ b. b || nat_lt (length names) MOST_VARIABLES) (has_among names x (Has-Contains names x c)))
+    by (inr few) = let room : nat_lt (length names) MOST_VARIABLES ≡ true = grind (arith, nat_tests) in sym (ap (λ b. is_among names x || b) room ∙ or-true (is_among names x))
+adds_room false names x h = by (is_among names x) refl (nat_lt (length names) MOST_VARIABLES) refl
   where
-    by : (a : Bool) → is_among kept x ≡ a → (b : Bool) → nat_lt (length kept) MOST_VARIABLES ≡ b → false ≡ finds_room kept x
-    by true e b f = let d = h.1 (inl (Contains-Has kept x (among_has kept x e))) in absurd (cc)
-    by false e true f = let few : length kept < MOST_VARIABLES = grind (arith, nat_tests) in let d = h.1 (inr few) in absurd (cc)
-    by false e false f = sym (ap (λ b. b || nat_lt (length kept) MOST_VARIABLES) e ∙ f)
+    by : (a : Bool) → is_among names x ≡ a → (b : Bool) → nat_lt (length names) MOST_VARIABLES ≡ b → false ≡ finds_room names x
+    by true e b f = let d = h.1 (inl (Contains-Has names x (among_has names x e))) in absurd (cc)
+    by false e true f = let few : length names < MOST_VARIABLES = grind (arith, nat_tests) in let d = h.1 (inr few) in absurd (cc)
+    by false e false f = sym (ap (λ b. b || nat_lt (length names) MOST_VARIABLES) e ∙ f)
 
-pub adds_kept : (r : Bool) (kept new : List VarName) (x : VarName) → r ≡ finds_room kept x → OnTrue r (new ≡ with_name x kept) → OnFalse r (new ≡ kept) →
-    new ≡ (if finds_room kept x then with_name x kept else kept)
-adds_kept true kept new x is added same = added ∙ ap (λ b. if b then with_name x kept else kept) is
-adds_kept false kept new x is added same = same ∙ ap (λ b. if b then with_name x kept else kept) is
+pub adds_kept : (r : Bool) (names new : List VarName) (x : VarName) → r ≡ finds_room names x → OnTrue r (new ≡ with_name x names) → OnFalse r (new ≡ names) →
+    new ≡ (if finds_room names x then with_name x names else names)
+adds_kept true names new x is added same = added ∙ ap (λ b. if b then with_name x names else names) is
+adds_kept false names new x is added same = same ∙ ap (λ b. if b then with_name x names else names) is
 
 -- a name is in a list or not
 pub is_in : (names : List VarName) (x : VarName) → Has names x ⊎ (Has names x → ⊥)

@@ -61,9 +61,9 @@ whole_count f e =
     let conj = whole_conj f.units e in
     omega (arith, expr_count f.conjs (less f.left conj), less_count f.left conj, conj_count f.units e)
 
-pub keeping_count : (kept : Option (List VarName)) (e : ExprTree) → minuses_in (keeping kept e) ≡ minuses_in e
+pub keeping_count : (keep : Option (List VarName)) (e : ExprTree) → minuses_in (keeping keep e) ≡ minuses_in e
 keeping_count None e = refl
 keeping_count (Some names) e = refl
 
 pub closed_count : (f : Frame) (e : ExprTree) → minuses_in (closed f e) ≡ minuses_of_frame f + minuses_in e
-closed_count f e = keeping_count f.kept (whole f e) ∙ whole_count f e
+closed_count f e = keeping_count f.names (whole f e) ∙ whole_count f e

@@ -64,17 +64,17 @@ unit_seen x n =
     ∙ ap (λ r. if is_name x then r else Err name_too_long)
     (speaks_seen (find (names_of n.lets) x) n ∙ ap (λ b. named_next b (reading_of n)) (found_among (names_of n.lets) x))
 
-keep_seen : (kept : List VarName) (x : VarName) (n : Nest) →
-    seen (reads_name x (Ok (if finds_room kept x then with_last (after_kept (with_name x kept)) n else record n { last = after_kept kept; many = true })))
-    ≡ (if is_name x then Ok (if finds_room kept x then marked (mark.after_kept (with_name x kept)) (reading_of n) else record (reading_of n) { mark = mark.after_kept kept; many = true }) else Err name_too_long)
-keep_seen kept x n =
-    seen_if (is_name x) (Ok (if finds_room kept x then with_last (after_kept (with_name x kept)) n else record n { last = after_kept kept; many = true })) (Err name_too_long)
+keep_seen : (names : List VarName) (x : VarName) (n : Nest) →
+    seen (reads_name x (Ok (if finds_room names x then with_last (after_kept (with_name x names)) n else record n { last = after_kept names; many = true })))
+    ≡ (if is_name x then Ok (if finds_room names x then marked (mark.after_kept (with_name x names)) (reading_of n) else record (reading_of n) { mark = mark.after_kept names; many = true }) else Err name_too_long)
+keep_seen names x n =
+    seen_if (is_name x) (Ok (if finds_room names x then with_last (after_kept (with_name x names)) n else record n { last = after_kept names; many = true })) (Err name_too_long)
     ∙ ap (λ r. if is_name x then Ok r else Err name_too_long)
-    (reading_if (finds_room kept x) (with_last (after_kept (with_name x kept)) n) (record n { last = after_kept kept; many = true }))
+    (reading_if (finds_room names x) (with_last (after_kept (with_name x names)) n) (record n { last = after_kept names; many = true }))
 
-open_seen : (kept : Option (List VarName)) (n : Nest) →
-    seen (opens kept n) ≡ (if nat_lt (length n.below) MOST_OPEN then Ok (record (reading_of n) { opened = suc (length n.below); mark = mark.at_unit }) else Err too_deep)
-open_seen kept n = seen_if (nat_lt (length n.below) MOST_OPEN) (Ok (opened kept n)) (Err too_deep)
+open_seen : (names : Option (List VarName)) (n : Nest) →
+    seen (opens names n) ≡ (if nat_lt (length n.below) MOST_OPEN then Ok (record (reading_of n) { opened = suc (length n.below); mark = mark.at_unit }) else Err too_deep)
+open_seen names n = seen_if (nat_lt (length n.below) MOST_OPEN) (Ok (opened names n)) (Err too_deep)
 
 pub names_more : (lets : List (VarName × ExprTree)) (x : VarName) (e : ExprTree) → names_of (lets ++ (x, e) ∷ []) ≡ names_of lets ++ x ∷ []
 names_more [] x e = refl
@@ -89,7 +89,7 @@ shape_at join_word lets current below top (unit e) many minuses = refl
 shape_at project_word lets current below top at_start many minuses = refl
 shape_at none_word lets current below top after_project many minuses = refl
 shape_at equals lets current below top after_name many minuses = refl
-shape_at comma lets current below top (after_kept kept) many minuses = refl
+shape_at comma lets current below top (after_kept keep) many minuses = refl
 shape_at (atom_token a) lets current below top at_start many minuses = refl
 shape_at (atom_token a) lets current below top at_unit many minuses = refl
 shape_at (name_token x) lets current below top at_start many minuses = unit_seen x (make lets current below top at_start many minuses)
@@ -100,12 +100,12 @@ shape_at (name_token x) lets current below top after_let many minuses =
     seen_if (is_name x) twice (Err name_too_long)
     ∙ ap (λ r. if is_name x then r else Err name_too_long) (seen_if (is_among (names_of lets) x) (Err name_twice) (Ok (record n { current = Some x; last = after_name })))
 shape_at (name_token x) lets current below top after_project many minuses = keep_seen [] x (make lets current below top after_project many minuses)
-shape_at (name_token x) lets current below top (after_comma kept) many minuses = keep_seen kept x (make lets current below top (after_comma kept) many minuses)
+shape_at (name_token x) lets current below top (after_comma keep) many minuses = keep_seen keep x (make lets current below top (after_comma keep) many minuses)
 shape_at (name_token x) lets current below top (unit e) many minuses = minus_seen x e (make lets current below top (unit e) many minuses)
 shape_at open_paren lets current below top at_start many minuses = open_seen None (make lets current below top at_start many minuses)
 shape_at open_paren lets current below top at_unit many minuses = open_seen None (make lets current below top at_unit many minuses)
 shape_at open_paren lets current below top after_none many minuses = open_seen (Some []) (make lets current below top after_none many minuses)
-shape_at open_paren lets current below top (after_kept kept) many minuses = open_seen (Some kept) (make lets current below top (after_kept kept) many minuses)
+shape_at open_paren lets current below top (after_kept keep) many minuses = open_seen (Some keep) (make lets current below top (after_kept keep) many minuses)
 shape_at close_paren lets current [] top (unit e) many minuses = refl
 shape_at close_paren lets current (f ∷ below) top (unit e) many minuses = refl
 shape_at semicolon lets (Some x) [] top (unit e) many minuses =

@@ -33,7 +33,7 @@ module _ (names : List VarName) (room : ℕ) where
 
   -- names that a projection keeps
   abbrev pub KeptBefore : List VarName → List Token → Type 0
-  KeptBefore kept t = (xs : List VarName) × SpellsNames t xs × (with_names [] xs ≡ kept) × (length kept ≤ MOST_VARIABLES)
+  KeptBefore keep t = (xs : List VarName) × SpellsNames t xs × (with_names [] xs ≡ keep) × (length keep ≤ MOST_VARIABLES)
 
   -- the last thing read
   abbrev pub LastRead : Last → List Token → Type 0
@@ -44,13 +44,13 @@ module _ (names : List VarName) (room : ℕ) where
   LastRead (unit e) t = SpellsUnit names room t e
   LastRead after_project t = t ≡ project_word ∷ []
   LastRead after_none t = t ≡ project_word ∷ none_word ∷ []
-  LastRead (after_kept kept) t = (d : List Token) × (t ≡ project_word ∷ d) × KeptBefore kept d
-  LastRead (after_comma kept) t = (d : List Token) × (t ≡ project_word ∷ (d ++ comma ∷ [])) × KeptBefore kept d
+  LastRead (after_kept keep) t = (d : List Token) × (t ≡ project_word ∷ d) × KeptBefore keep d
+  LastRead (after_comma keep) t = (d : List Token) × (t ≡ project_word ∷ (d ++ comma ∷ [])) × KeptBefore keep d
 
   -- the opener of a frame
   abbrev pub OpenerRead : Option (List VarName) → List Token → Type 0
   OpenerRead None t = t ≡ open_paren ∷ []
-  OpenerRead (Some kept) t = (d : List Token) × (t ≡ project_word ∷ (d ++ open_paren ∷ [])) × SpellsKeep d kept
+  OpenerRead (Some keep) t = (d : List Token) × (t ≡ project_word ∷ (d ++ open_paren ∷ [])) × SpellsKeep d keep
 
 -- the tokens of a frame before its last unit
 pub record FrameRead (names : List VarName) (room : ℕ) (conjs : List ExprTree) (left : Option ExprTree) (units : List ExprTree) (t : List Token) : Type 0 where
@@ -60,12 +60,12 @@ pub record FrameRead (names : List VarName) (room : ℕ) (conjs : List ExprTree)
   pub conjs_read : ConjsBefore names room conjs left front
   pub units_read : UnitsBefore names room units back
 
--- the tokens of all frames around one that keeps `kept`, its opener among them
+-- the tokens of all frames around one that keeps `keep`, its opener among them
 abbrev pub Outside : List VarName → ℕ → Option (List VarName) → List Frame → List Token → Type 0
-Outside names room kept [] t = (kept ≡ None) × (t ≡ []) × (room ≡ MOST_OPEN)
-Outside names room kept (f ∷ below) t =
+Outside names room keep [] t = (keep ≡ None) × (t ≡ []) × (room ≡ MOST_OPEN)
+Outside names room keep (f ∷ below) t =
     (a : List Token) × (b : List Token) × (c : List Token) × (t ≡ a ++ (b ++ c))
-    × Outside names (suc room) f.kept below a × FrameRead names (suc room) f.conjs f.left f.units b × OpenerRead names room kept c
+    × Outside names (suc room) f.names below a × FrameRead names (suc room) f.conjs f.left f.units b × OpenerRead names room keep c
 
 -- the tokens at the beginning of a let, or of the body
 abbrev pub LetNamed : List VarName → List Token → Option VarName → List Token → Type 0
@@ -100,7 +100,7 @@ pub record Read (ts : List Token) (lets : List (VarName × ExprTree)) (current :
   pub splits : ts ≡ whole_lets ++ (let_text ++ (outside ++ (inside ++ here)))
   pub lets_read : SpellsLets whole_lets lets
   pub let_read : LetRead (names_of lets) last current let_text
-  pub outside_read : Outside (names_of lets) room top.kept below outside
+  pub outside_read : Outside (names_of lets) room top.names below outside
   pub inside_read : FrameRead (names_of lets) room top.conjs top.left top.units inside
   pub here_read : LastRead (names_of lets) room last here
   pub bare : IsBare last below top
@@ -136,10 +136,10 @@ expr_of {names = names} {room = room} {t = t} {es = es} [] (Some l) f (d, fs, is
 expr_of (c ∷ cs) (Some l) f none s = absurd none
 
 -- the expression of a frame, once its last unit is read
-pub whole_read : {names : List VarName} {room : ℕ} {b t : List Token} {cs us : List ExprTree} {left : Option ExprTree} {e : ExprTree} → (kept : Option (List VarName)) →
+pub whole_read : {names : List VarName} {room : ℕ} {b t : List Token} {cs us : List ExprTree} {left : Option ExprTree} {e : ExprTree} → (keep : Option (List VarName)) →
     FrameRead names room cs left us b → SpellsUnit names room t e →
-    (ds : List ExprTree) × (whole (record { kept = kept; conjs = cs; left = left; units = us }) e ≡ union_tree ds) × SpellsExpr names room (b ++ t) ds
-whole_read {names = names} {room = room} {b = b} {t = t} {cs = cs} {us = us} {left = left} {e = e} kept f s =
+    (ds : List ExprTree) × (whole (record { names = keep; conjs = cs; left = left; units = us }) e ≡ union_tree ds) × SpellsExpr names room (b ++ t) ds
+whole_read {names = names} {room = room} {b = b} {t = t} {cs = cs} {us = us} {left = left} {e = e} keep f s =
     let (es, is, c) = conj_of us f.back f.units_read s in
     let (ds, same, x) = expr_of cs left f.front f.conjs_read c in (
       ds,
@@ -148,30 +148,30 @@ whole_read {names = names} {room = room} {b = b} {t = t} {cs = cs} {us = us} {le
     )
 
 -- the frame around a closed one has one unit more
-pub closed_read : {names : List VarName} {room : ℕ} {t : List Token} {ds : List ExprTree} (kept : Option (List VarName)) (c : List Token) → OpenerRead names room kept c →
-    SpellsExpr names room t ds → SpellsUnit names (suc room) (c ++ (t ++ close_paren ∷ [])) (keeping kept (union_tree ds))
+pub closed_read : {names : List VarName} {room : ℕ} {t : List Token} {ds : List ExprTree} (keep : Option (List VarName)) (c : List Token) → OpenerRead names room keep c →
+    SpellsExpr names room t ds → SpellsUnit names (suc room) (c ++ (t ++ close_paren ∷ [])) (keeping keep (union_tree ds))
 closed_read {names = names} {room = room} {t = t} {ds = ds} None c is s =
     subst (λ x. SpellsUnit names (suc room) (x ++ (t ++ close_paren ∷ [])) (union_tree ds)) (sym is) (group_of s)
-closed_read {names = names} {room = room} {t = t} {ds = ds} (Some kept) c (d, is, k) s =
-    subst (λ x. SpellsUnit names (suc room) x (project kept (union_tree ds)))
+closed_read {names = names} {room = room} {t = t} {ds = ds} (Some keep) c (d, is, k) s =
+    subst (λ x. SpellsUnit names (suc room) x (project keep (union_tree ds)))
     (ap (λ x. project_word ∷ x) (sym (append_assoc d (open_paren ∷ []) (t ++ close_paren ∷ []))) ∙ ap (λ x. x ++ (t ++ close_paren ∷ [])) (sym is)) (projection_of k s)
 
 pub no_frame : (names : List VarName) (room : ℕ) → FrameRead names room [] None [] []
 no_frame names room = record { front = []; back = []; splits = refl; conjs_read = refl; units_read = refl }
 
-pub outside_room : (names : List VarName) (room : ℕ) (kept : Option (List VarName)) (below : List Frame) (t : List Token) → Outside names room kept below t →
+pub outside_room : (names : List VarName) (room : ℕ) (keep : Option (List VarName)) (below : List Frame) (t : List Token) → Outside names room keep below t →
     length below + room ≡ MOST_OPEN
-outside_room names room kept [] t o = omega (arith, o.2)
-outside_room names room kept (f ∷ below) t (a, b, c, is, o, inner, opener) = omega (arith, outside_room names (suc room) f.kept below a o)
+outside_room names room keep [] t o = omega (arith, o.2)
+outside_room names room keep (f ∷ below) t (a, b, c, is, o, inner, opener) = omega (arith, outside_room names (suc room) f.names below a o)
 
 splits_more : (ts w l o i h x : List Token) → ts ≡ w ++ (l ++ (o ++ (i ++ h))) → ts ++ x ≡ w ++ (l ++ (o ++ (i ++ (h ++ x))))
 splits_more ts w l o i h x e = ap (λ t. t ++ x) e ∙ simp append_assoc
 
 -- where nothing of an expression was read, the other tokens are none
-bare_outside : (names : List VarName) (room : ℕ) (kept : Option (List VarName)) (o : List Token) (below : List Frame) → below ≡ [] → Outside names room kept below o →
-    (o ≡ []) × (kept ≡ None) × (room ≡ MOST_OPEN)
-bare_outside names room kept o [] e (k, is, full) = (is, k, full)
-bare_outside names room kept o (f ∷ below) e h = absurd (cc)
+bare_outside : (names : List VarName) (room : ℕ) (keep : Option (List VarName)) (o : List Token) (below : List Frame) → below ≡ [] → Outside names room keep below o →
+    (o ≡ []) × (keep ≡ None) × (room ≡ MOST_OPEN)
+bare_outside names room keep o [] e (k, is, full) = (is, k, full)
+bare_outside names room keep o (f ∷ below) e h = absurd (cc)
 
 bare_frame : {names : List VarName} {room : ℕ} {i : List Token} (cs : List ExprTree) (left : Option ExprTree) (us : List ExprTree) → cs ≡ [] → left ≡ None → us ≡ [] →
     FrameRead names room cs left us i → i ≡ []
@@ -183,7 +183,7 @@ bare_frame [] None (u ∷ us) e l d f = absurd (cc)
 bare_text : {ts : List Token} {lets : List (VarName × ExprTree)} {current : Option VarName} {below : List Frame} {top : Frame} {last : Last}
     (r : Read ts lets current below top last) → below ≡ [] → top ≡ empty_frame None → r.here ≡ [] → ts ≡ r.whole_lets ++ r.let_text
 bare_text {lets = lets} {below = below} {top = top} r no_below no_top no_here =
-    let o = (bare_outside (names_of lets) r.room top.kept r.outside below no_below r.outside_read).0 in
+    let o = (bare_outside (names_of lets) r.room top.names r.outside below no_below r.outside_read).0 in
     let i = bare_frame top.conjs top.left top.units (ap (λ f. f.conjs) no_top) (ap (λ f. f.left) no_top) (ap (λ f. f.units) no_top) r.inside_read in
     r.splits ∙ ap (λ h. r.whole_lets ++ (r.let_text ++ (r.outside ++ (r.inside ++ h)))) no_here
     ∙ ap (λ i. r.whole_lets ++ (r.let_text ++ (r.outside ++ (i ++ [])))) i ∙ ap (λ o. r.whole_lets ++ (r.let_text ++ (o ++ []))) o
@@ -308,20 +308,20 @@ read_kept x free room r =
     read_here (name_token x) (after_kept (with_name x [])) r r.let_read
     (name_token x ∷ [], ap (λ h. h ++ name_token x ∷ []) r.here_read, (x ∷ [], one_name free, refl, room_keeps [] x (with_names_ascend [] [] none_are_variables.ascending) (omega arith) room)) tt
 
-pub read_comma : {ts : List Token} {lets : List (VarName × ExprTree)} {current : Option VarName} {below : List Frame} {top : Frame} {kept : List VarName} →
-    Read ts lets current below top (after_kept kept) → Read (ts ++ comma ∷ []) lets current below top (after_comma kept)
-read_comma {kept = kept} r =
-    let (d, is, k) = r.here_read in read_here comma (after_comma kept) r r.let_read (d, ap (λ h. h ++ comma ∷ []) is, k) tt
+pub read_comma : {ts : List Token} {lets : List (VarName × ExprTree)} {current : Option VarName} {below : List Frame} {top : Frame} {names : List VarName} →
+    Read ts lets current below top (after_kept names) → Read (ts ++ comma ∷ []) lets current below top (after_comma names)
+read_comma {names = names} r =
+    let (d, is, k) = r.here_read in read_here comma (after_comma names) r r.let_read (d, ap (λ h. h ++ comma ∷ []) is, k) tt
 
-pub read_kept_more : {ts : List Token} {lets : List (VarName × ExprTree)} {current : Option VarName} {below : List Frame} {top : Frame} {kept : List VarName} (x : VarName) →
-    IsFreeName x → finds_room kept x ≡ true → Read ts lets current below top (after_comma kept) → Read (ts ++ name_token x ∷ []) lets current below top (after_kept (with_name x kept))
-read_kept_more {kept = kept} x free room r =
+pub read_kept_more : {ts : List Token} {lets : List (VarName × ExprTree)} {current : Option VarName} {below : List Frame} {top : Frame} {names : List VarName} (x : VarName) →
+    IsFreeName x → finds_room names x ≡ true → Read ts lets current below top (after_comma names) → Read (ts ++ name_token x ∷ []) lets current below top (after_kept (with_name x names))
+read_kept_more {names = names} x free room r =
     let (d, is, (xs, s, same, few)) = r.here_read in
-    let up : Ascending kept = subst Ascending same (with_names_ascend [] xs none_are_variables.ascending) in
-    read_here (name_token x) (after_kept (with_name x kept)) r r.let_read (
+    let up : Ascending names = subst Ascending same (with_names_ascend [] xs none_are_variables.ascending) in
+    read_here (name_token x) (after_kept (with_name x names)) r r.let_read (
       d ++ comma ∷ name_token x ∷ [],
       ap (λ h. h ++ name_token x ∷ []) is ∙ ap (λ y. project_word ∷ y) (append_assoc d (comma ∷ []) (name_token x ∷ [])),
-      (xs ++ x ∷ [], more_names s free, with_names_more [] xs x ∙ ap (with_name x) same, room_keeps kept x up few room),
+      (xs ++ x ∷ [], more_names s free, with_names_more [] xs x ∙ ap (with_name x) same, room_keeps names x up few room),
     ) tt
 
 room_left : (k room : ℕ) → k + room ≡ MOST_OPEN → k < MOST_OPEN → (left : ℕ) × (room ≡ suc left)
@@ -330,11 +330,11 @@ room_left k (suc left) e few = (left, refl)
 
 -- a parenthesis, where `c` ends with it
 pub read_open : {ts : List Token} {lets : List (VarName × ExprTree)} {current : Option VarName} {below : List Frame} {top : Frame} {last : Last}
-    (kept : Option (List VarName)) (r : Read ts lets current below top last) → LetDone (names_of lets) current r.let_text →
-    ((room : ℕ) → OpenerRead (names_of lets) room kept (r.here ++ open_paren ∷ [])) → length below < MOST_OPEN →
-    Read (ts ++ open_paren ∷ []) lets current (top ∷ below) (empty_frame kept) at_unit
-read_open {ts = ts} {lets = lets} {below = below} {top = top} kept r l opener few =
-    let (left, is) = room_left (length below) r.room (outside_room (names_of lets) r.room top.kept below r.outside r.outside_read) few in
+    (names : Option (List VarName)) (r : Read ts lets current below top last) → LetDone (names_of lets) current r.let_text →
+    ((room : ℕ) → OpenerRead (names_of lets) room names (r.here ++ open_paren ∷ [])) → length below < MOST_OPEN →
+    Read (ts ++ open_paren ∷ []) lets current (top ∷ below) (empty_frame names) at_unit
+read_open {ts = ts} {lets = lets} {below = below} {top = top} names r l opener few =
+    let (left, is) = room_left (length below) r.room (outside_room (names_of lets) r.room top.names below r.outside r.outside_read) few in
     let c = r.here ++ open_paren ∷ [] in
     record {
       room = left;
@@ -352,7 +352,7 @@ read_open {ts = ts} {lets = lets} {below = below} {top = top} kept r l opener fe
         r.inside,
         c,
         refl,
-        subst (λ k. Outside (names_of lets) k top.kept below r.outside) is r.outside_read,
+        subst (λ k. Outside (names_of lets) k top.names below r.outside) is r.outside_read,
         subst (λ k. FrameRead (names_of lets) k top.conjs top.left top.units r.inside) is r.inside_read,
         opener left,
       );
@@ -451,7 +451,7 @@ pub read_minus : {ts : List Token} {lets : List (VarName × ExprTree)} {current 
     Read ts lets current below top (unit e) →
     Read (ts ++ name_token minus_word ∷ []) lets current below (record top { conjs = []; left = Some (whole top e); units = [] }) at_unit
 read_minus {ts = ts} {lets = lets} {top = top} {e = e} r =
-    let (ds, same, x) = whole_read top.kept r.inside_read r.here_read in
+    let (ds, same, x) = whole_read top.names r.inside_read r.here_read in
     let sign = name_token minus_word in
     record {
       room = r.room;
@@ -480,7 +480,7 @@ pub read_close : {ts : List Token} {lets : List (VarName × ExprTree)} {current 
     Read ts lets current (outer ∷ below) top (unit e) → Read (ts ++ close_paren ∷ []) lets current below outer (unit (closed top e))
 read_close {ts = ts} {lets = lets} {top = top} {e = e} r =
     let (a, b, c, is, o, f, k) = r.outside_read in
-    let (ds, same, x) = whole_read top.kept r.inside_read r.here_read in
+    let (ds, same, x) = whole_read top.names r.inside_read r.here_read in
     let here = c ++ ((r.inside ++ r.here) ++ close_paren ∷ []) in
     record {
       room = suc r.room;
@@ -495,7 +495,7 @@ read_close {ts = ts} {lets = lets} {top = top} {e = e} r =
       let_read = r.let_read;
       outside_read = o;
       inside_read = f;
-      here_read = subst (λ g. SpellsUnit (names_of lets) (suc r.room) here (keeping top.kept g)) (sym same) (closed_read top.kept c k x);
+      here_read = subst (λ g. SpellsUnit (names_of lets) (suc r.room) here (keeping top.names g)) (sym same) (closed_read top.names c k x);
       bare = tt;
     }
 
@@ -503,7 +503,7 @@ read_close {ts = ts} {lets = lets} {top = top} {e = e} r =
 pub read_semicolon : {ts : List Token} {lets : List (VarName × ExprTree)} {top : Frame} {e : ExprTree} (x : VarName) →
     Read ts lets (Some x) [] top (unit e) → Read (ts ++ semicolon ∷ []) (lets ++ (x, whole top e) ∷ []) None [] (empty_frame None) at_start
 read_semicolon {ts = ts} {lets = lets} {top = top} {e = e} x r =
-    let (ds, same, s) = whole_read top.kept r.inside_read r.here_read in
+    let (ds, same, s) = whole_read top.names r.inside_read r.here_read in
     let (l, free, new) = r.let_read in
     let room : r.room ≡ MOST_OPEN = r.outside_read.2 in
     let u = r.inside ++ r.here in
@@ -523,7 +523,7 @@ read_semicolon {ts = ts} {lets = lets} {top = top} {e = e} x r =
 pub read_whole : {ts : List Token} {lets : List (VarName × ExprTree)} {top : Frame} {e : ExprTree} → Read ts lets None [] top (unit e) →
     minuses_of (record { lets = lets; body = whole top e }) ≤ MOST_MINUSES → Spells ts (record { lets = lets; body = whole top e })
 read_whole {ts = ts} {lets = lets} {top = top} {e = e} r few =
-    let (ds, same, s) = whole_read top.kept r.inside_read r.here_read in
+    let (ds, same, s) = whole_read top.names r.inside_read r.here_read in
     let u = r.inside ++ r.here in (
       r.whole_lets,
       u,

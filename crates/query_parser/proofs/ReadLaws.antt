@@ -58,7 +58,7 @@ module _ (V S : ℕ → VarName → Type 0) where
   own_memory (union e rest) h = h
   own_memory join_end h = h
   own_memory (join e rest) h = h
-  own_memory (project kept e) h = h
+  own_memory (project names e) h = h
   own_memory (minus e g) h = h
 
   over_memory : (e : ExprTree) → (InnerFault V S e memory_fault → ⊥) → IsExprFault V S e memory_fault → ⊥
@@ -70,7 +70,7 @@ module _ (V S : ℕ → VarName → Type 0) where
   inner_memory (union e rest) (inr i) = inner_memory rest i.1
   inner_memory (join e rest) (inl f) = over_memory e (inner_memory e) f
   inner_memory (join e rest) (inr i) = inner_memory rest i.1
-  inner_memory (project kept e) f = over_memory e (inner_memory e) f
+  inner_memory (project names e) f = over_memory e (inner_memory e) f
   inner_memory (minus e g) (inl f) = over_memory e (inner_memory e) f
   inner_memory (minus e g) (inr f) = over_memory g (inner_memory g) f.1
   inner_memory (atom a) i = i

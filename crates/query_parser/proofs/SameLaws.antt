@@ -31,14 +31,14 @@ module _ (V W S T : ℕ → VarName → Type 0) (same : SameVars V W) (same_sure
   same_passes (union e rest) p = (same_passes e p.0, same_passes rest p.1)
   same_passes join_end p = tt
   same_passes (join e rest) p = (same_passes e p.0, same_passes rest p.1, shares_same V W S T same same_sure e rest p.2)
-  same_passes (project kept e) p = (same_passes e p.0, λ x h. forth e x (p.1 x h))
+  same_passes (project names e) p = (same_passes e p.0, λ x h. forth e x (p.1 x h))
   same_passes (minus e g) p =
       (same_passes e p.0, same_passes g p.1, λ x. (λ h. forth g x ((p.2 x).0 (back e x h)), λ h. forth e x ((p.2 x).1 (back g x h))))
 
   same_parts : (e : ExprTree) → HasPassingParts V S e → HasPassingParts W T e
   same_parts (union e rest) p = (same_passes e p.0, same_parts rest p.1)
   same_parts (join e rest) p = (same_passes e p.0, same_parts rest p.1)
-  same_parts (project kept e) p = same_passes e p
+  same_parts (project names e) p = same_passes e p
   same_parts (minus e g) p = (same_passes e p.0, same_passes g p.1)
   same_parts (atom a) p = tt
   same_parts (named k) p = tt
@@ -62,7 +62,7 @@ module _ (V W S T : ℕ → VarName → Type 0) (same : SameVars V W) (same_sure
   same_first before union_end x h = absurd h
   same_first before (union e rest) x h = absurd h
   same_first before join_end x h = absurd h
-  same_first before (project kept e) x h = absurd h
+  same_first before (project names e) x h = absurd h
   same_first before (minus e g) x h = absurd h
 
   same_side : (e g : ExprTree) (y : VarName) → IsOfOneSide V S e g y ↔ IsOfOneSide W T e g y
@@ -74,8 +74,8 @@ module _ (V W S T : ℕ → VarName → Type 0) (same : SameVars V W) (same_sure
   same_own : (e : ExprTree) (f : QueryFault) → OwnFault V S e f → OwnFault W T e f
   same_own (atom a) (Check c) o = o
   same_own (join e rest) (JoinUnsure x) o = same_first (e ∷ []) rest x o
-  same_own (project kept e) (UnknownVariable x) o =
-      same_least (λ y. Has kept y × ¬ VarOf V e y) (λ y. Has kept y × ¬ VarOf W e y) x
+  same_own (project names e) (UnknownVariable x) o =
+      same_least (λ y. Has names y × ¬ VarOf V e y) (λ y. Has names y × ¬ VarOf W e y) x
       (λ y. (λ h. (h.0, λ v. h.1 (back e y v)), λ h. (h.0, λ v. h.1 (forth e y v)))) o
   same_own (minus e g) (MinusVariables x) o = same_least (IsOfOneSide V S e g) (IsOfOneSide W T e g) x (same_side e g) o
   same_own e f o = absurd o
@@ -89,7 +89,7 @@ module _ (V W S T : ℕ → VarName → Type 0) (same : SameVars V W) (same_sure
   same_inner (union e rest) f (inr i) = inr (same_passes e i.0, same_inner rest f i.1)
   same_inner (join e rest) f (inl i) = inl (same_over e f (same_inner e f) i)
   same_inner (join e rest) f (inr i) = inr (same_passes e i.0, same_inner rest f i.1)
-  same_inner (project kept e) f i = same_over e f (same_inner e f) i
+  same_inner (project names e) f i = same_over e f (same_inner e f) i
   same_inner (minus e g) f (inl i) = inl (same_over e f (same_inner e f) i)
   same_inner (minus e g) f (inr i) = inr (same_passes e i.0, same_over g f (same_inner g f) i.1)
   same_inner (atom a) f i = absurd i

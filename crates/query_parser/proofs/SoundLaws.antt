@@ -14,7 +14,7 @@ mutual
   sound_expr V S n (union e rest) b p = (sound_expr V S n e b.0 p.0, united V S n rest b.1 p.1, b.2)
   sound_expr V S n join_end b p = b
   sound_expr V S n (join e rest) b p = (sound_expr V S n e b.0 p.0, joined V S n rest b.1 p.1, b.2, p.2)
-  sound_expr V S n (project kept e) b p = (sound_expr V S n e b.0 p.0, (λ x h. (p.1 x h, b.1 x h)), b.2.ascending)
+  sound_expr V S n (project names e) b p = (sound_expr V S n e b.0 p.0, (λ x h. (p.1 x h, b.1 x h)), b.2.ascending)
   sound_expr V S n (minus e g) b p = (sound_expr V S n e b.0 p.0, sound_expr V S n g b.1 p.1, p.2)
 
   united : (V S : ℕ → VarName → Type 0) (n : ℕ) (e : ExprTree) → AreUnitedFormed n e → Passes V S e → AreUnited V S n e
@@ -35,7 +35,7 @@ mutual
   sound_passes V S n (union e rest) b = (sound_passes V S n e b.0, united_passes V S n rest b.1)
   sound_passes V S n join_end b = tt
   sound_passes V S n (join e rest) b = (sound_passes V S n e b.0, joined_passes V S n rest b.1, b.3)
-  sound_passes V S n (project kept e) b = (sound_passes V S n e b.0, λ x h. (b.1 x h).0)
+  sound_passes V S n (project names e) b = (sound_passes V S n e b.0, λ x h. (b.1 x h).0)
   sound_passes V S n (minus e g) b = (sound_passes V S n e b.0, sound_passes V S n g b.1, b.2)
 
   united_passes : (V S : ℕ → VarName → Type 0) (n : ℕ) (e : ExprTree) → AreUnited V S n e → Passes V S e

@@ -38,11 +38,11 @@ pub record Around : Type 0 where
 
 -- with so many signs `minus` before
 abbrev pub inside : Around → ℕ → Option (List VarName) → List ExprTree → Option ExprTree → List ExprTree → Last → Nest
-inside a m kept conjs left units last = record {
+inside a m names conjs left units last = record {
   lets = a.lets;
   current = a.current;
   below = a.below;
-  top = record { kept = kept; conjs = conjs; left = left; units = units };
+  top = record { names = names; conjs = conjs; left = left; units = units };
   last = last;
   many = a.many;
   minuses = m;
@@ -70,16 +70,16 @@ whole_expr_is [] c = refl
 whole_expr_is (d ∷ ds) c = cons_union d c ds
 
 -- the expression of a frame, by what its tokens spell
-pub whole_is : (kept : Option (List VarName)) (cs : List ExprTree) (left : Option ExprTree) (us es : List ExprTree) (e : ExprTree) →
-    es ≡ cs ++ less left (join_tree (us ++ e ∷ [])) ∷ [] → whole (record { kept = kept; conjs = cs; left = left; units = us }) e ≡ union_tree es
-whole_is kept cs left us es e is =
+pub whole_is : (names : Option (List VarName)) (cs : List ExprTree) (left : Option ExprTree) (us es : List ExprTree) (e : ExprTree) →
+    es ≡ cs ++ less left (join_tree (us ++ e ∷ [])) ∷ [] → whole (record { names = names; conjs = cs; left = left; units = us }) e ≡ union_tree es
+whole_is names cs left us es e is =
     whole_expr_is cs (less left (whole_conj us e)) ∙ ap (λ c. union_tree (cs ++ less left c ∷ [])) (whole_conj_is us e) ∙ ap union_tree (sym is)
 
 pub name_read : (x : VarName) (m : Move) → is_name x ≡ true → reads_name x m ≡ m
 name_read x m h = ap (λ b. if b then m else Err name_too_long) h
 
-room_opens : (kept : Option (List VarName)) (n : Nest) → length n.below < MOST_OPEN → opens kept n ≡ Ok (opened kept n)
-room_opens kept n room = grind (arith, nat_tests)
+room_opens : (names : Option (List VarName)) (n : Nest) → length n.below < MOST_OPEN → opens names n ≡ Ok (opened names n)
+room_opens names n room = grind (arith, nat_tests)
 
 few_true : (k : ℕ) → k < MOST_MINUSES → nat_lt k MOST_MINUSES ≡ true
 few_true k few = grind (arith, nat_tests)
@@ -89,11 +89,11 @@ minus_moves e n few =
     ap (λ b. if b then (if nat_lt n.minuses MOST_MINUSES then Ok (next_side e n) else Err too_deep) else Err unexpected) (eq_true minus_word minus_word refl)
     ∙ ap (λ b. if b then Ok (next_side e n) else Err too_deep) (few_true n.minuses few)
 
-keeps_more : (kept : List VarName) (x : VarName) (n : Nest) → is_name x ≡ true → length (with_name x kept) ≤ MOST_VARIABLES →
-    keeps kept x n ≡ Ok (with_last (after_kept (with_name x kept)) n)
-keeps_more kept x n name few =
-    let more : Bool → Nest = λ b. if b then with_last (after_kept (with_name x kept)) n else record n { last = after_kept kept; many = true } in
-    name_read x (Ok (more (finds_room kept x))) name ∙ ap (λ b. Ok (more b)) (room_for kept x few)
+keeps_more : (names : List VarName) (x : VarName) (n : Nest) → is_name x ≡ true → length (with_name x names) ≤ MOST_VARIABLES →
+    keeps names x n ≡ Ok (with_last (after_kept (with_name x names)) n)
+keeps_more names x n name few =
+    let more : Bool → Nest = λ b. if b then with_last (after_kept (with_name x names)) n else record n { last = after_kept names; many = true } in
+    name_read x (Ok (more (finds_room names x))) name ∙ ap (λ b. Ok (more b)) (room_for names x few)
 
 -- the names that a projection keeps
 reads_names : {t : List Token} {xs : List VarName} → SpellsNames t xs → (a : Around) (m : ℕ) (top : Option (List VarName)) (cs : List ExprTree) (left : Option ExprTree)
@@ -102,31 +102,31 @@ reads_names : {t : List Token} {xs : List VarName} → SpellsNames t xs → (a :
 reads_names (one_name {x = x} free) a m top cs left us few =
     (inside a m top cs left us (after_kept (with_name x [])), keeps_more [] x (inside a m top cs left us after_project) free.0 few, refl)
 reads_names (more_names {t = t} {x = x} {xs = xs} s free) a m top cs left us few =
-    let kept = with_names [] xs in
+    let keep = with_names [] xs in
     let more = with_names_more [] xs x in
-    let fits : length (with_name x kept) ≤ MOST_VARIABLES = subst (λ (names : List VarName). length names ≤ MOST_VARIABLES) more few in
-    let fewer : length kept ≤ MOST_VARIABLES = omega (arith, with_name_longer x kept, fits) in
+    let fits : length (with_name x keep) ≤ MOST_VARIABLES = subst (λ (names : List VarName). length names ≤ MOST_VARIABLES) more few in
+    let fewer : length keep ≤ MOST_VARIABLES = omega (arith, with_name_longer x keep, fits) in
     let at = inside a m top cs left us in
-    runs_to (at after_project) (at (after_kept (with_name x kept))) (at (after_kept (with_names [] (xs ++ x ∷ [])))) (t ++ comma ∷ name_token x ∷ [])
-    (runs_on (at after_project) (at (after_kept kept)) (at (after_kept (with_name x kept))) t (comma ∷ name_token x ∷ []) (reads_names s a m top cs left us fewer)
-    (at (after_comma kept), refl, (at (after_kept (with_name x kept)), keeps_more kept x (at (after_comma kept)) free.0 fits, refl)))
+    runs_to (at after_project) (at (after_kept (with_name x keep))) (at (after_kept (with_names [] (xs ++ x ∷ [])))) (t ++ comma ∷ name_token x ∷ [])
+    (runs_on (at after_project) (at (after_kept keep)) (at (after_kept (with_name x keep))) t (comma ∷ name_token x ∷ []) (reads_names s a m top cs left us fewer)
+    (at (after_comma keep), refl, (at (after_kept (with_name x keep)), keeps_more keep x (at (after_comma keep)) free.0 fits, refl)))
     (ap (λ names. inside a m top cs left us (after_kept names)) (sym more))
 
 -- what a projection keeps, and its parenthesis
 abbrev pub deeper : Around → Option (List VarName) → List ExprTree → Option ExprTree → List ExprTree → Around
-deeper a kept cs left us = record a { below = record { kept = kept; conjs = cs; left = left; units = us } ∷ a.below }
+deeper a names cs left us = record a { below = record { names = names; conjs = cs; left = left; units = us } ∷ a.below }
 
-reads_keep : {t : List Token} {kept : List VarName} → SpellsKeep t kept → (a : Around) (m : ℕ) (top : Option (List VarName)) (cs : List ExprTree) (left : Option ExprTree)
+reads_keep : {t : List Token} {names : List VarName} → SpellsKeep t names → (a : Around) (m : ℕ) (top : Option (List VarName)) (cs : List ExprTree) (left : Option ExprTree)
     (us : List ExprTree) → length a.below < MOST_OPEN →
-    Runs (inside a m top cs left us after_project) (t ++ open_paren ∷ []) (inside (deeper a top cs left us) m (Some kept) [] None [] at_unit)
+    Runs (inside a m top cs left us after_project) (t ++ open_paren ∷ []) (inside (deeper a top cs left us) m (Some names) [] None [] at_unit)
 reads_keep keeps_none a m top cs left us room =
     let n = inside a m top cs left us after_none in
     (n, refl, (inside (deeper a top cs left us) m (Some []) [] None [] at_unit, room_opens (Some []) n room, refl))
 reads_keep (keeps_names {t = t} {xs = xs} s few) a m top cs left us room =
-    let kept = with_names [] xs in
-    let n = inside a m top cs left us (after_kept kept) in
-    let k = inside (deeper a top cs left us) m (Some kept) [] None [] at_unit in
-    runs_on (inside a m top cs left us after_project) n k t (open_paren ∷ []) (reads_names s a m top cs left us few) (k, room_opens (Some kept) n room, refl)
+    let names = with_names [] xs in
+    let n = inside a m top cs left us (after_kept names) in
+    let k = inside (deeper a top cs left us) m (Some names) [] None [] at_unit in
+    runs_on (inside a m top cs left us after_project) n k t (open_paren ∷ []) (reads_names s a m top cs left us few) (k, room_opens (Some names) n room, refl)
 
 -- the names of lets: distinct, and each a name
 abbrev pub AreGood : List VarName → Type 0
@@ -134,45 +134,45 @@ AreGood names = AreDistinct names × ((x : VarName) → Has names x → is_name 
 
 -- where the tokens of an expression lead
 abbrev pub ReadsExpr : Around → ℕ → Option (List VarName) → Last → List Token → List ExprTree → Type 0
-ReadsExpr a m kept l t es =
+ReadsExpr a m names l t es =
     (cs : List ExprTree) × (left : Option ExprTree) × (us : List ExprTree) × (e : ExprTree) × (k : ℕ)
     × (es ≡ cs ++ less left (join_tree (us ++ e ∷ [])) ∷ []) × (k ≡ m + minuses_among es)
-    × Runs (inside a m kept [] None [] l) t (inside a k kept cs left us (unit e))
+    × Runs (inside a m names [] None [] l) t (inside a k names cs left us (unit e))
 
 abbrev ReadsConj : Around → ℕ → Option (List VarName) → List ExprTree → Option ExprTree → Last → List Token → List ExprTree → Type 0
-ReadsConj a m kept cs left l t es =
+ReadsConj a m names cs left l t es =
     (us : List ExprTree) × (e : ExprTree) × (k : ℕ) × (es ≡ us ++ e ∷ []) × (k ≡ m + minuses_among es)
-    × Runs (inside a m kept cs left [] l) t (inside a k kept cs left us (unit e))
+    × Runs (inside a m names cs left [] l) t (inside a k names cs left us (unit e))
 
 abbrev ReadsUnit : Around → ℕ → Option (List VarName) → List ExprTree → Option ExprTree → List ExprTree → Last → List Token → ExprTree → Type 0
-ReadsUnit a m kept cs left us l t e =
-    (k : ℕ) × (k ≡ m + minuses_in e) × Runs (inside a m kept cs left us l) t (inside a k kept cs left us (unit e))
+ReadsUnit a m names cs left us l t e =
+    (k : ℕ) × (k ≡ m + minuses_in e) × Runs (inside a m names cs left us l) t (inside a k names cs left us (unit e))
 
 -- the parenthesis that ends a group or a projection
-closes : (a : Around) (m : ℕ) (top kept : Option (List VarName)) (cs : List ExprTree) (left : Option ExprTree) (us : List ExprTree) (t : List Token) (es : List ExprTree) →
-    ReadsExpr (deeper a top cs left us) m kept at_unit t es →
+closes : (a : Around) (m : ℕ) (top names : Option (List VarName)) (cs : List ExprTree) (left : Option ExprTree) (us : List ExprTree) (t : List Token) (es : List ExprTree) →
+    ReadsExpr (deeper a top cs left us) m names at_unit t es →
     (k : ℕ) × (k ≡ m + minuses_among es)
-    × Runs (inside (deeper a top cs left us) m kept [] None [] at_unit) (t ++ close_paren ∷ []) (inside a k top cs left us (unit (keeping kept (union_tree es))))
-closes a m top kept cs left us t es (ds, side, vs, e, k, is, count, run) =
+    × Runs (inside (deeper a top cs left us) m names [] None [] at_unit) (t ++ close_paren ∷ []) (inside a k top cs left us (unit (keeping names (union_tree es))))
+closes a m top names cs left us t es (ds, side, vs, e, k, is, count, run) =
     let b = deeper a top cs left us in
-    let end = inside a k top cs left us (unit (keeping kept (union_tree es))) in (
+    let end = inside a k top cs left us (unit (keeping names (union_tree es))) in (
       k,
       count,
-      runs_on (inside b m kept [] None [] at_unit) (inside b k kept ds side vs (unit e)) end t (close_paren ∷ []) run
-          (end, ap (λ f. Ok (inside a k top cs left us (unit (keeping kept f)))) (whole_is kept ds side vs es e is), refl),
+      runs_on (inside b m names [] None [] at_unit) (inside b k names ds side vs (unit e)) end t (close_paren ∷ []) run
+          (end, ap (λ f. Ok (inside a k top cs left us (unit (keeping names f)))) (whole_is names ds side vs es e is), refl),
     )
 
 mutual
-  pub reads_expr : {names : List VarName} {room : ℕ} {t : List Token} {es : List ExprTree} → SpellsExpr names room t es → (a : Around) (m : ℕ) (kept : Option (List VarName))
-      (l : Last) → Wants l → names ≡ names_of a.lets → AreGood names → length a.below + room ≡ MOST_OPEN → m + minuses_among es ≤ MOST_MINUSES → ReadsExpr a m kept l t es
-  reads_expr (lone_conj {es = gs} s) a m kept l w same good deep few =
-      let (us, e, k, is, count, run) = reads_conj s a m kept [] None l w same good deep (omega (arith, few, join_count gs)) in
+  pub reads_expr : {names : List VarName} {room : ℕ} {t : List Token} {es : List ExprTree} → SpellsExpr names room t es → (a : Around) (m : ℕ) (keep : Option (List VarName))
+      (l : Last) → Wants l → names ≡ names_of a.lets → AreGood names → length a.below + room ≡ MOST_OPEN → m + minuses_among es ≤ MOST_MINUSES → ReadsExpr a m keep l t es
+  reads_expr (lone_conj {es = gs} s) a m keep l w same good deep few =
+      let (us, e, k, is, count, run) = reads_conj s a m keep [] None l w same good deep (omega (arith, few, join_count gs)) in
       ([], None, us, e, k, ap (λ es. join_tree es ∷ []) is, omega (arith, count, join_count gs), run)
-  reads_expr (more_conjs {t = t} {u = u} {fs = fs} {es = gs} s c) a m kept l w same good deep few =
+  reads_expr (more_conjs {t = t} {u = u} {fs = fs} {es = gs} s c) a m keep l w same good deep few =
       let total = among_more fs (join_tree gs) in
-      let (cs, left, us, e, k, is, count, run) = reads_expr s a m kept l w same good deep (omega (arith, few, total)) in
+      let (cs, left, us, e, k, is, count, run) = reads_expr s a m keep l w same good deep (omega (arith, few, total)) in
       let ds = cs ++ less left (whole_conj us e) ∷ [] in
-      let (vs, f, j, is', count', run') = reads_conj c a k kept ds None at_unit later same good deep (omega (arith, few, total, count, join_count gs)) in (
+      let (vs, f, j, is', count', run') = reads_conj c a k keep ds None at_unit later same good deep (omega (arith, few, total, count, join_count gs)) in (
         ds,
         None,
         vs,
@@ -180,16 +180,16 @@ mutual
         j,
         ap (λ fs. fs ++ join_tree gs ∷ []) (is ∙ ap (λ d. cs ++ less left d ∷ []) (sym (whole_conj_is us e))) ∙ ap (λ es. ds ++ join_tree es ∷ []) is',
         omega (arith, total, count, count', join_count gs),
-        runs_on (inside a m kept [] None [] l) (inside a k kept cs left us (unit e)) (inside a j kept ds None vs (unit f)) t (union_word ∷ u) run
-            (inside a k kept ds None [] at_unit, refl, run'),
+        runs_on (inside a m keep [] None [] l) (inside a k keep cs left us (unit e)) (inside a j keep ds None vs (unit f)) t (union_word ∷ u) run
+            (inside a k keep ds None [] at_unit, refl, run'),
       )
-  reads_expr (less_conj {t = t} {u = u} {fs = fs} {es = gs} s c) a m kept l w same good deep few =
+  reads_expr (less_conj {t = t} {u = u} {fs = fs} {es = gs} s c) a m keep l w same good deep few =
       let sides = union_count fs in
-      let (cs, left, us, e, k, is, count, run) = reads_expr s a m kept l w same good deep (omega (arith, few, sides)) in
-      let n = inside a k kept cs left us (unit e) in
+      let (cs, left, us, e, k, is, count, run) = reads_expr s a m keep l w same good deep (omega (arith, few, sides)) in
+      let n = inside a k keep cs left us (unit e) in
       let side = whole n.top e in
-      let united = whole_is kept cs left us fs e is in
-      let (vs, f, j, is', count', run') = reads_conj c a (suc k) kept [] (Some side) at_unit later same good deep (omega (arith, few, sides, count, join_count gs)) in (
+      let united = whole_is keep cs left us fs e is in
+      let (vs, f, j, is', count', run') = reads_conj c a (suc k) keep [] (Some side) at_unit later same good deep (omega (arith, few, sides, count, join_count gs)) in (
         [],
         Some side,
         vs,
@@ -197,64 +197,64 @@ mutual
         j,
         ap (λ d. minus d (join_tree gs) ∷ []) (sym united) ∙ ap (λ es. minus side (join_tree es) ∷ []) is',
         omega (arith, sides, count, count', join_count gs),
-        runs_on (inside a m kept [] None [] l) n (inside a j kept [] (Some side) vs (unit f)) t (name_token minus_word ∷ u) run
-            (inside a (suc k) kept [] (Some side) [] at_unit, minus_moves e n (omega (arith, few, sides, count)), run'),
+        runs_on (inside a m keep [] None [] l) n (inside a j keep [] (Some side) vs (unit f)) t (name_token minus_word ∷ u) run
+            (inside a (suc k) keep [] (Some side) [] at_unit, minus_moves e n (omega (arith, few, sides, count)), run'),
       )
 
-  reads_conj : {names : List VarName} {room : ℕ} {t : List Token} {es : List ExprTree} → SpellsConj names room t es → (a : Around) (m : ℕ) (kept : Option (List VarName))
+  reads_conj : {names : List VarName} {room : ℕ} {t : List Token} {es : List ExprTree} → SpellsConj names room t es → (a : Around) (m : ℕ) (keep : Option (List VarName))
       (cs : List ExprTree) (left : Option ExprTree) (l : Last) → Wants l → names ≡ names_of a.lets → AreGood names → length a.below + room ≡ MOST_OPEN →
-      m + minuses_among es ≤ MOST_MINUSES → ReadsConj a m kept cs left l t es
-  reads_conj (lone_unit {e = e} s) a m kept cs left l w same good deep few =
-      let (k, count, run) = reads_unit s a m kept cs left [] l w same good deep (omega (arith, few)) in ([], e, k, refl, omega (arith, count), run)
-  reads_conj (more_units {t = t} {u = u} {es = ds} {e = e} s c) a m kept cs left l w same good deep few =
+      m + minuses_among es ≤ MOST_MINUSES → ReadsConj a m keep cs left l t es
+  reads_conj (lone_unit {e = e} s) a m keep cs left l w same good deep few =
+      let (k, count, run) = reads_unit s a m keep cs left [] l w same good deep (omega (arith, few)) in ([], e, k, refl, omega (arith, count), run)
+  reads_conj (more_units {t = t} {u = u} {es = ds} {e = e} s c) a m keep cs left l w same good deep few =
       let total = among_more ds e in
-      let (us, f, k, is, count, run) = reads_conj s a m kept cs left l w same good deep (omega (arith, few, total)) in
+      let (us, f, k, is, count, run) = reads_conj s a m keep cs left l w same good deep (omega (arith, few, total)) in
       let vs = us ++ f ∷ [] in
-      let (j, count', run') = reads_unit c a k kept cs left vs at_unit later same good deep (omega (arith, few, total, count)) in (
+      let (j, count', run') = reads_unit c a k keep cs left vs at_unit later same good deep (omega (arith, few, total, count)) in (
         vs,
         e,
         j,
         ap (λ es. es ++ e ∷ []) is,
         omega (arith, total, count, count'),
-        runs_on (inside a m kept cs left [] l) (inside a k kept cs left us (unit f)) (inside a j kept cs left vs (unit e)) t (join_word ∷ u) run
-            (inside a k kept cs left vs at_unit, refl, run'),
+        runs_on (inside a m keep cs left [] l) (inside a k keep cs left us (unit f)) (inside a j keep cs left vs (unit e)) t (join_word ∷ u) run
+            (inside a k keep cs left vs at_unit, refl, run'),
       )
 
-  reads_unit : {names : List VarName} {room : ℕ} {t : List Token} {e : ExprTree} → SpellsUnit names room t e → (a : Around) (m : ℕ) (kept : Option (List VarName))
+  reads_unit : {names : List VarName} {room : ℕ} {t : List Token} {e : ExprTree} → SpellsUnit names room t e → (a : Around) (m : ℕ) (keep : Option (List VarName))
       (cs : List ExprTree) (left : Option ExprTree) (us : List ExprTree) (l : Last) → Wants l → names ≡ names_of a.lets → AreGood names → length a.below + room ≡ MOST_OPEN →
-      m + minuses_in e ≤ MOST_MINUSES → ReadsUnit a m kept cs left us l t e
-  reads_unit (atom_unit {a = x}) a m kept cs left us l w same good deep few =
-      (m, omega arith, (inside a m kept cs left us (unit (atom x)), atom_moves w, refl))
+      m + minuses_in e ≤ MOST_MINUSES → ReadsUnit a m keep cs left us l t e
+  reads_unit (atom_unit {a = x}) a m keep cs left us l w same good deep few =
+      (m, omega arith, (inside a m keep cs left us (unit (atom x)), atom_moves w, refl))
     where
-      atom_moves : {l : Last} → Wants l → move (atom_token x) (inside a m kept cs left us l) ≡ Ok (inside a m kept cs left us (unit (atom x)))
+      atom_moves : {l : Last} → Wants l → move (atom_token x) (inside a m keep cs left us l) ≡ Ok (inside a m keep cs left us (unit (atom x)))
       atom_moves first = refl
       atom_moves later = refl
-  reads_unit {names = names} (named_unit {k = k} {x = x} is) a m kept cs left us l w same good deep few =
-      (m, omega arith, (inside a m kept cs left us (unit (named k)), name_moves w, refl))
+  reads_unit {names = names} (named_unit {k = k} {x = x} is) a m keep cs left us l w same good deep few =
+      (m, omega arith, (inside a m keep cs left us (unit (named k)), name_moves w, refl))
     where
-      speaks : (l : Last) → reads_name x (speaks_of (find (names_of a.lets) x) (inside a m kept cs left us l)) ≡ Ok (inside a m kept cs left us (unit (named k)))
+      speaks : (l : Last) → reads_name x (speaks_of (find (names_of a.lets) x) (inside a m keep cs left us l)) ≡ Ok (inside a m keep cs left us (unit (named k)))
       speaks l =
-          name_read x (speaks_of (find (names_of a.lets) x) (inside a m kept cs left us l)) (good.1 x (get_has names x k is))
-          ∙ ap (λ f. speaks_of f (inside a m kept cs left us l)) (ap (λ ns. find ns x) (sym same) ∙ get_finds names x k good.0 is)
+          name_read x (speaks_of (find (names_of a.lets) x) (inside a m keep cs left us l)) (good.1 x (get_has names x k is))
+          ∙ ap (λ f. speaks_of f (inside a m keep cs left us l)) (ap (λ ns. find ns x) (sym same) ∙ get_finds names x k good.0 is)
 
-      name_moves : {l : Last} → Wants l → move (name_token x) (inside a m kept cs left us l) ≡ Ok (inside a m kept cs left us (unit (named k)))
+      name_moves : {l : Last} → Wants l → move (name_token x) (inside a m keep cs left us l) ≡ Ok (inside a m keep cs left us (unit (named k)))
       name_moves first = speaks at_start
       name_moves later = speaks at_unit
-  reads_unit (group_of {t = t} {es = es} s) a m kept cs left us l w same good deep few =
-      let b = deeper a kept cs left us in
+  reads_unit (group_of {t = t} {es = es} s) a m keep cs left us l w same good deep few =
+      let b = deeper a keep cs left us in
       let inner = reads_expr s b m None at_unit later same good (omega (arith, deep)) (omega (arith, few, union_count es)) in
-      let (k, count, run) = closes a m kept None cs left us t es inner in
+      let (k, count, run) = closes a m keep None cs left us t es inner in
       (k, omega (arith, count, union_count es), (inside b m None [] None [] at_unit, open_moves w, run))
     where
-      open_moves : {l : Last} → Wants l → move open_paren (inside a m kept cs left us l) ≡ Ok (inside (deeper a kept cs left us) m None [] None [] at_unit)
-      open_moves first = room_opens None (inside a m kept cs left us at_start) (omega (arith, deep))
-      open_moves later = room_opens None (inside a m kept cs left us at_unit) (omega (arith, deep))
-  reads_unit (projection_of {t = t} {u = u} {kept = ks} {es = es} p s) a m kept cs left us l w same good deep few =
-      let b = deeper a kept cs left us in
-      let start = inside a m kept cs left us after_project in
+      open_moves : {l : Last} → Wants l → move open_paren (inside a m keep cs left us l) ≡ Ok (inside (deeper a keep cs left us) m None [] None [] at_unit)
+      open_moves first = room_opens None (inside a m keep cs left us at_start) (omega (arith, deep))
+      open_moves later = room_opens None (inside a m keep cs left us at_unit) (omega (arith, deep))
+  reads_unit (projection_of {t = t} {u = u} {keep = ks} {es = es} p s) a m keep cs left us l w same good deep few =
+      let b = deeper a keep cs left us in
+      let start = inside a m keep cs left us after_project in
       let inner = reads_expr s b m (Some ks) at_unit later same good (omega (arith, deep)) (omega (arith, few, union_count es)) in
-      let (k, count, run) = closes a m kept (Some ks) cs left us u es inner in
-      let end = inside a k kept cs left us (unit (project ks (union_tree es))) in (
+      let (k, count, run) = closes a m keep (Some ks) cs left us u es inner in
+      let end = inside a k keep cs left us (unit (project ks (union_tree es))) in (
         k,
         omega (arith, count, union_count es),
         (
@@ -262,11 +262,11 @@ mutual
           project_moves w,
           subst (λ ts. Runs start ts end) (append_assoc t (open_paren ∷ []) (u ++ close_paren ∷ []))
               (runs_on start (inside b m (Some ks) [] None [] at_unit) end (t ++ open_paren ∷ []) (u ++ close_paren ∷ [])
-              (reads_keep p a m kept cs left us (omega (arith, deep))) run),
+              (reads_keep p a m keep cs left us (omega (arith, deep))) run),
         ),
       )
     where
-      project_moves : {l : Last} → Wants l → move project_word (inside a m kept cs left us l) ≡ Ok (inside a m kept cs left us after_project)
+      project_moves : {l : Last} → Wants l → move project_word (inside a m keep cs left us l) ≡ Ok (inside a m keep cs left us after_project)
       project_moves first = refl
       project_moves later = refl
 

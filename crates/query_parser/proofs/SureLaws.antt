@@ -48,7 +48,7 @@ module _ (V S : ℕ → VarName → Type 0) (among : (k : ℕ) (x : VarName) →
     sure_var n join_end x c h = absurd c
     sure_var n (join e rest) x c (inl h) = inl (sure_var n e x c.0 h)
     sure_var n (join e rest) x c (inr h) = inr (joined_sure_var n rest x c.1 h)
-    sure_var n (project kept e) x c h = h.0
+    sure_var n (project names e) x c h = h.0
     sure_var n (minus e g) x c h = sure_var n e x c.0 h
 
     joined_sure_var : (n : ℕ) (e : ExprTree) (x : VarName) → AreJoinedFormed n e → SureOf S e x → VarOf V e x
@@ -124,7 +124,7 @@ module _ (S : ℕ → VarName → Type 0) (told : (k : ℕ) (x : VarName) → To
   told_sure_of (union e rest) x = told_both (told_sure_of e x) (told_sure_of rest x)
   told_sure_of join_end x = inr (λ h. h)
   told_sure_of (join e rest) x = told_either (told_sure_of e x) (told_sure_of rest x)
-  told_sure_of (project kept e) x = told_both (told_has kept x) (told_sure_of e x)
+  told_sure_of (project names e) x = told_both (told_has names x) (told_sure_of e x)
   told_sure_of (minus e g) x = told_sure_of e x
 
 told_sure_let : (lets : List (VarName × ExprTree)) (n : ℕ) (x : VarName) → ((k : ℕ) (y : VarName) → Told (sure_of_lets lets n k y)) → (o : Option (VarName × ExprTree)) →

@@ -58,22 +58,22 @@ let_moves x n m e = by (is_name x) refl (is_among (names_of n.lets) x) refl e
     by true d true f e = absurd (cc)
     by false d a f e = absurd (cc)
 
-pub keep_moves : (kept : List VarName) (x : VarName) (n m : Nest) → keeps kept x n ≡ Ok m → m.many ≡ false →
-    (is_name x ≡ true) × (finds_room kept x ≡ true) × ◌≡◌ {A = Move} (Ok (with_last (after_kept (with_name x kept)) n)) (Ok m)
-keep_moves kept x n m e few = by (is_name x) refl (finds_room kept x) refl e
+pub keep_moves : (names : List VarName) (x : VarName) (n m : Nest) → keeps names x n ≡ Ok m → m.many ≡ false →
+    (is_name x ≡ true) × (finds_room names x ≡ true) × ◌≡◌ {A = Move} (Ok (with_last (after_kept (with_name x names)) n)) (Ok m)
+keep_moves names x n m e few = by (is_name x) refl (finds_room names x) refl e
   where
-    by : (b : Bool) → is_name x ≡ b → (a : Bool) → finds_room kept x ≡ a →
-        ◌≡◌ {A = Move} (if b then Ok (if a then with_last (after_kept (with_name x kept)) n else record n { last = after_kept kept; many = true }) else Err name_too_long) (Ok m) →
-        (is_name x ≡ true) × (finds_room kept x ≡ true) × ◌≡◌ {A = Move} (Ok (with_last (after_kept (with_name x kept)) n)) (Ok m)
+    by : (b : Bool) → is_name x ≡ b → (a : Bool) → finds_room names x ≡ a →
+        ◌≡◌ {A = Move} (if b then Ok (if a then with_last (after_kept (with_name x names)) n else record n { last = after_kept names; many = true }) else Err name_too_long) (Ok m) →
+        (is_name x ≡ true) × (finds_room names x ≡ true) × ◌≡◌ {A = Move} (Ok (with_last (after_kept (with_name x names)) n)) (Ok m)
     by true d true f e = (d, f, e)
-    by true d false f e = let g : true ≡ m.many = ap (λ k. k.many) (same_nest (record n { last = after_kept kept; many = true }) m e) in absurd (cc)
+    by true d false f e = let g : true ≡ m.many = ap (λ k. k.many) (same_nest (record n { last = after_kept names; many = true }) m e) in absurd (cc)
     by false d a f e = absurd (cc)
 
-pub open_moves : (kept : Option (List VarName)) (n m : Nest) → opens kept n ≡ Ok m → (length n.below < MOST_OPEN) × ◌≡◌ {A = Move} (Ok (opened kept n)) (Ok m)
-open_moves kept n m e = by (nat_lt (length n.below) MOST_OPEN) refl e
+pub open_moves : (names : Option (List VarName)) (n m : Nest) → opens names n ≡ Ok m → (length n.below < MOST_OPEN) × ◌≡◌ {A = Move} (Ok (opened names n)) (Ok m)
+open_moves names n m e = by (nat_lt (length n.below) MOST_OPEN) refl e
   where
-    by : (b : Bool) → nat_lt (length n.below) MOST_OPEN ≡ b → ◌≡◌ {A = Move} (if b then Ok (opened kept n) else Err too_deep) (Ok m) →
-        (length n.below < MOST_OPEN) × ◌≡◌ {A = Move} (Ok (opened kept n)) (Ok m)
+    by : (b : Bool) → nat_lt (length n.below) MOST_OPEN ≡ b → ◌≡◌ {A = Move} (if b then Ok (opened names n) else Err too_deep) (Ok m) →
+        (length n.below < MOST_OPEN) × ◌≡◌ {A = Move} (Ok (opened names n)) (Ok m)
     by true d e = (grind (arith, nat_tests), e)
     by false d e = absurd (cc)
 
@@ -105,14 +105,14 @@ none_opens {lets = lets} {current = current} {below = below} {top = top} many co
     done (opened (Some []) (nest lets current below top after_none many count)) m o.1
     (read_open (Some []) r r.let_read (λ room. (none_word ∷ [], ap (λ h. h ++ open_paren ∷ []) r.here_read, keeps_none)) o.0)
 
-kept_opens : {ts : List Token} {lets : List (VarName × ExprTree)} {current : Option VarName} {below : List Frame} {top : Frame} (kept : List VarName) (many : Bool) (count : ℕ) (m : Nest) →
-    opens (Some kept) (nest lets current below top (after_kept kept) many count) ≡ Ok m → Read ts lets current below top (after_kept kept) → IsRead (ts ++ open_paren ∷ []) m
-kept_opens {lets = lets} {current = current} {below = below} {top = top} kept many count m e r =
-    let o = open_moves (Some kept) (nest lets current below top (after_kept kept) many count) m e in
+kept_opens : {ts : List Token} {lets : List (VarName × ExprTree)} {current : Option VarName} {below : List Frame} {top : Frame} (keep : List VarName) (many : Bool) (count : ℕ) (m : Nest) →
+    opens (Some keep) (nest lets current below top (after_kept keep) many count) ≡ Ok m → Read ts lets current below top (after_kept keep) → IsRead (ts ++ open_paren ∷ []) m
+kept_opens {lets = lets} {current = current} {below = below} {top = top} keep many count m e r =
+    let o = open_moves (Some keep) (nest lets current below top (after_kept keep) many count) m e in
     let (d, is, (xs, s, same, few)) = r.here_read in
-    let spelled : SpellsKeep d kept = subst (SpellsKeep d) same (keeps_names s (subst (λ (names : List VarName). length names ≤ MOST_VARIABLES) (sym same) few)) in
-    done (opened (Some kept) (nest lets current below top (after_kept kept) many count)) m o.1
-    (read_open (Some kept) r r.let_read (λ room. (d, ap (λ h. h ++ open_paren ∷ []) is, spelled)) o.0)
+    let spelled : SpellsKeep d keep = subst (SpellsKeep d) same (keeps_names s (subst (λ (names : List VarName). length names ≤ MOST_VARIABLES) (sym same) few)) in
+    done (opened (Some keep) (nest lets current below top (after_kept keep) many count)) m o.1
+    (read_open (Some keep) r r.let_read (λ room. (d, ap (λ h. h ++ open_paren ∷ []) is, spelled)) o.0)
 
 unit_named : {ts : List Token} {lets : List (VarName × ExprTree)} {current : Option VarName} {below : List Frame} {top : Frame} (x : VarName) (last : Last) (many : Bool) (count : ℕ) (m : Nest) →
     reads_name x (speaks_of (find (names_of lets) x) (nest lets current below top last many count)) ≡ Ok m → Read ts lets current below top at_unit → IsRead (ts ++ name_token x ∷ []) m
@@ -157,31 +157,31 @@ reads_token (name_token x) ts lets current below top after_project many count m 
 reads_token (name_token x) ts lets current below top (unit g) many count m p e f r =
     let (same, few, is) = minus_moves x g (nest lets current below top (unit g) many count) m e in
     done _ m is (subst (λ y. Read (ts ++ name_token y ∷ []) lets current below (record top { conjs = []; left = Some (whole top g); units = [] }) at_unit) (sym same) (read_minus r))
-reads_token (name_token x) ts lets current below top (after_comma kept) many count m p e f r =
-    let (name, room, is) = keep_moves kept x (nest lets current below top (after_comma kept) many count) m e f in
-    done (nest lets current below top (after_kept (with_name x kept)) many count) m is (read_kept_more x (name, p) room r)
+reads_token (name_token x) ts lets current below top (after_comma names) many count m p e f r =
+    let (name, room, is) = keep_moves names x (nest lets current below top (after_comma names) many count) m e f in
+    done (nest lets current below top (after_kept (with_name x names)) many count) m is (read_kept_more x (name, p) room r)
 reads_token equals ts lets current below top after_name many count m p e f r = done (nest lets current below top at_unit many count) m e (read_equals r)
 reads_token semicolon ts lets current below top (unit g) many count m p e f r = let_ends lets current below top g many count m e r
 reads_token open_paren ts lets current below top at_start many count m p e f r = group_opens many count m e (body_begins r)
 reads_token open_paren ts lets current below top at_unit many count m p e f r = group_opens many count m e r
 reads_token open_paren ts lets current below top after_none many count m p e f r = none_opens many count m e r
-reads_token open_paren ts lets current below top (after_kept kept) many count m p e f r = kept_opens kept many count m e r
+reads_token open_paren ts lets current below top (after_kept names) many count m p e f r = kept_opens names many count m e r
 reads_token close_paren ts lets current below top (unit g) many count m p e f r = frame_closes lets current below top g many count m e r
-reads_token comma ts lets current below top (after_kept kept) many count m p e f r = done (nest lets current below top (after_comma kept) many count) m e (read_comma r)
+reads_token comma ts lets current below top (after_kept names) many count m p e f r = done (nest lets current below top (after_comma names) many count) m e (read_comma r)
 reads_token t ts lets current below top last many count m p e f r = absurd (cc)
 
 -- a projection that keeps too many names stays
 same_many : (k m : Nest) → ◌≡◌ {A = Move} (Ok k) (Ok m) → k.many ≡ true → m.many ≡ true
 same_many k m e h = ap (λ n. n.many) (sym (same_nest k m e)) ∙ h
 
-keep_many : (kept : List VarName) (x : VarName) (n m : Nest) → keeps kept x n ≡ Ok m → n.many ≡ true → m.many ≡ true
-keep_many kept x n m e h = by (is_name x) (finds_room kept x) e
+keep_many : (names : List VarName) (x : VarName) (n m : Nest) → keeps names x n ≡ Ok m → n.many ≡ true → m.many ≡ true
+keep_many names x n m e h = by (is_name x) (finds_room names x) e
   where
     by : (b a : Bool) →
-        ◌≡◌ {A = Move} (if b then Ok (if a then with_last (after_kept (with_name x kept)) n else record n { last = after_kept kept; many = true }) else Err name_too_long) (Ok m) →
+        ◌≡◌ {A = Move} (if b then Ok (if a then with_last (after_kept (with_name x names)) n else record n { last = after_kept names; many = true }) else Err name_too_long) (Ok m) →
         m.many ≡ true
-    by true true e = same_many (with_last (after_kept (with_name x kept)) n) m e h
-    by true false e = same_many (record n { last = after_kept kept; many = true }) m e refl
+    by true true e = same_many (with_last (after_kept (with_name x names)) n) m e h
+    by true false e = same_many (record n { last = after_kept names; many = true }) m e refl
     by false a e = absurd (cc)
 
 let_many : (lets : List (VarName × ExprTree)) (current : Option VarName) (below : List Frame) (g : ExprTree) (many : Bool) (count : ℕ) (m : Nest) →
@@ -210,15 +210,15 @@ stays_many (name_token x) lets current below top at_unit many count m e h = same
 stays_many (name_token x) lets current below top after_let many count m e h = same_many _ m (let_moves x (nest lets current below top after_let many count) m e).2 h
 stays_many (name_token x) lets current below top after_project many count m e h = keep_many [] x (nest lets current below top after_project many count) m e h
 stays_many (name_token x) lets current below top (unit g) many count m e h = same_many _ m (minus_moves x g (nest lets current below top (unit g) many count) m e).2 h
-stays_many (name_token x) lets current below top (after_comma kept) many count m e h = keep_many kept x (nest lets current below top (after_comma kept) many count) m e h
+stays_many (name_token x) lets current below top (after_comma names) many count m e h = keep_many names x (nest lets current below top (after_comma names) many count) m e h
 stays_many equals lets current below top after_name many count m e h = same_many _ m e h
 stays_many semicolon lets current below top (unit g) many count m e h = let_many lets current below (whole top g) many count m e h
 stays_many open_paren lets current below top at_start many count m e h = same_many _ m (open_moves None (nest lets current below top at_start many count) m e).1 h
 stays_many open_paren lets current below top at_unit many count m e h = same_many _ m (open_moves None (nest lets current below top at_unit many count) m e).1 h
 stays_many open_paren lets current below top after_none many count m e h = same_many _ m (open_moves (Some []) (nest lets current below top after_none many count) m e).1 h
-stays_many open_paren lets current below top (after_kept kept) many count m e h = same_many _ m (open_moves (Some kept) (nest lets current below top (after_kept kept) many count) m e).1 h
+stays_many open_paren lets current below top (after_kept names) many count m e h = same_many _ m (open_moves (Some names) (nest lets current below top (after_kept names) many count) m e).1 h
 stays_many close_paren lets current below top (unit g) many count m e h = close_many lets current below (closed top g) many count m e h
-stays_many comma lets current below top (after_kept kept) many count m e h = same_many _ m e h
+stays_many comma lets current below top (after_kept names) many count m e h = same_many _ m e h
 stays_many t lets current below top last many count m e h = absurd (cc)
 
 runs_many : (ts : List Token) (n m : Nest) → Runs n ts m → n.many ≡ true → m.many ≡ true
@@ -262,17 +262,17 @@ IsCounted n = Counted n.lets n.below n.top n.last n.minuses
 same_count : (k m : Nest) → ◌≡◌ {A = Move} (Ok k) (Ok m) → IsCounted k → IsCounted m
 same_count k m e c = subst IsCounted (same_nest k m e) c
 
-keep_count : (kept : List VarName) (x : VarName) (n m : Nest) → keeps kept x n ≡ Ok m → (n.last ≡ after_project) ⊎ (n.last ≡ after_comma kept) → IsCounted n → IsCounted m
-keep_count kept x n m e at c = by (is_name x) (finds_room kept x) e
+keep_count : (names : List VarName) (x : VarName) (n m : Nest) → keeps names x n ≡ Ok m → (n.last ≡ after_project) ⊎ (n.last ≡ after_comma names) → IsCounted n → IsCounted m
+keep_count names x n m e at c = by (is_name x) (finds_room names x) e
   where
     none : last_count n.last ≡ 0
     none = elim at [ inl is ↦ ap last_count is | inr is ↦ ap last_count is ]
 
     by : (b a : Bool) →
-        ◌≡◌ {A = Move} (if b then Ok (if a then with_last (after_kept (with_name x kept)) n else record n { last = after_kept kept; many = true }) else Err name_too_long) (Ok m) →
+        ◌≡◌ {A = Move} (if b then Ok (if a then with_last (after_kept (with_name x names)) n else record n { last = after_kept names; many = true }) else Err name_too_long) (Ok m) →
         IsCounted m
-    by true true e = same_count (with_last (after_kept (with_name x kept)) n) m e (omega (arith, c.0, none), c.1)
-    by true false e = same_count (record n { last = after_kept kept; many = true }) m e (omega (arith, c.0, none), c.1)
+    by true true e = same_count (with_last (after_kept (with_name x names)) n) m e (omega (arith, c.0, none), c.1)
+    by true false e = same_count (record n { last = after_kept names; many = true }) m e (omega (arith, c.0, none), c.1)
     by false a e = absurd (cc)
 
 let_count : (lets : List (VarName × ExprTree)) (current : Option VarName) (below : List Frame) (top : Frame) (g : ExprTree) (many : Bool) (count : ℕ) (m : Nest) →
@@ -305,8 +305,8 @@ stays_counted (name_token x) lets current below top at_unit many count m e c =
 stays_counted (name_token x) lets current below top after_let many count m e c =
     same_count _ m (let_moves x (nest lets current below top after_let many count) m e).2 (omega (arith, c.0), c.1)
 stays_counted (name_token x) lets current below top after_project many count m e c = keep_count [] x (nest lets current below top after_project many count) m e (inl refl) c
-stays_counted (name_token x) lets current below top (after_comma kept) many count m e c =
-    keep_count kept x (nest lets current below top (after_comma kept) many count) m e (inr refl) c
+stays_counted (name_token x) lets current below top (after_comma names) many count m e c =
+    keep_count names x (nest lets current below top (after_comma names) many count) m e (inr refl) c
 stays_counted (name_token x) lets current below top (unit g) many count m e c =
     let (same, few, is) = minus_moves x g (nest lets current below top (unit g) many count) m e in
     same_count _ m is (omega (arith, c.0, whole_count top g), omega (arith, few))
@@ -318,10 +318,10 @@ stays_counted open_paren lets current below top at_unit many count m e c =
     same_count _ m (open_moves None (nest lets current below top at_unit many count) m e).1 (omega (arith, c.0), c.1)
 stays_counted open_paren lets current below top after_none many count m e c =
     same_count _ m (open_moves (Some []) (nest lets current below top after_none many count) m e).1 (omega (arith, c.0), c.1)
-stays_counted open_paren lets current below top (after_kept kept) many count m e c =
-    same_count _ m (open_moves (Some kept) (nest lets current below top (after_kept kept) many count) m e).1 (omega (arith, c.0), c.1)
+stays_counted open_paren lets current below top (after_kept names) many count m e c =
+    same_count _ m (open_moves (Some names) (nest lets current below top (after_kept names) many count) m e).1 (omega (arith, c.0), c.1)
 stays_counted close_paren lets current below top (unit g) many count m e c = close_count lets current below top g many count m e c
-stays_counted comma lets current below top (after_kept kept) many count m e c = same_count _ m e (omega (arith, c.0), c.1)
+stays_counted comma lets current below top (after_kept names) many count m e c = same_count _ m e (omega (arith, c.0), c.1)
 stays_counted t lets current below top last many count m e c = absurd (cc)
 
 pub runs_counted : (ts : List Token) (n m : Nest) → Runs n ts m → IsCounted n → IsCounted m

@@ -33,7 +33,7 @@ expr_vars all union_end = []
 expr_vars all (union e rest) = expr_vars all e ++ expr_vars all rest
 expr_vars all join_end = []
 expr_vars all (join e rest) = expr_vars all e ++ expr_vars all rest
-expr_vars all (project kept e) = kept
+expr_vars all (project names e) = names
 expr_vars all (minus e g) = expr_vars all e
 
 -- under lets whose variables, and sure ones, can be told, and whose variables are listed
@@ -48,7 +48,7 @@ module _ (V S : ℕ → VarName → Type 0) (told : (k : ℕ) (x : VarName) → 
   vars_listed join_end x h = absurd h
   vars_listed (join e rest) x (inl h) = Has-append_left (expr_vars all e) (expr_vars all rest) x (vars_listed e x h)
   vars_listed (join e rest) x (inr h) = Has-append_right (expr_vars all e) (expr_vars all rest) x (vars_listed rest x h)
-  vars_listed (project kept e) x h = h
+  vars_listed (project names e) x h = h
   vars_listed (minus e g) x h = vars_listed e x h
 
   -- ---- what the parts of a join share
@@ -127,7 +127,7 @@ module _ (V S : ℕ → VarName → Type 0) (told : (k : ℕ) (x : VarName) → 
 
   -- x is kept and is not there
   abbrev IsMissing : List VarName → ExprTree → VarName → Type 0
-  IsMissing kept e x = Has kept x × ¬ VarOf V e x
+  IsMissing names e x = Has names x × ¬ VarOf V e x
 
   mutual
     pub passes_or_fault : (n : ℕ) (e : ExprTree) → IsFormed n e → PassesOrFault e
@@ -151,15 +151,15 @@ module _ (V S : ℕ → VarName → Type 0) (told : (k : ℕ) (x : VarName) → 
         by (inr h) later = inr (h.0, inl (inl h.1))
         by (inl ok) (inr h) = inr (h.0, inl (inr (ok, h.1)))
         by (inl ok) (inl others) = share ok others (clashes_or_shares n (e ∷ []) rest c.1)
-    passes_or_fault n (project kept e) c = by (passes_or_fault n e c.0)
+    passes_or_fault n (project names e) c = by (passes_or_fault n e c.0)
       where
-        missing : Passes V S e → ((x : VarName) × IsLeast (IsMissing kept e) x) ⊎ ((x : VarName) → IsMissing kept e x → ⊥) → PassesOrFault (project kept e)
+        missing : Passes V S e → ((x : VarName) × IsLeast (IsMissing names e) x) ⊎ ((x : VarName) → IsMissing names e x → ⊥) → PassesOrFault (project names e)
         missing ok (inl h) = inr (UnknownVariable h.0, inr (ok, h.1))
         missing ok (inr none) = inl (ok, λ x h. held (told_of V told e x) (λ m. none x (h, m)))
 
-        by : PassesOrFault e → PassesOrFault (project kept e)
+        by : PassesOrFault e → PassesOrFault (project names e)
         by (inr h) = inr (h.0, inl h.1)
-        by (inl ok) = missing ok (least_or_none (IsMissing kept e) (λ x. told_both (told_has kept x) (told_not (told_of V told e x))) kept (λ x h. h.0))
+        by (inl ok) = missing ok (least_or_none (IsMissing names e) (λ x. told_both (told_has names x) (told_not (told_of V told e x))) names (λ x h. h.0))
     passes_or_fault n (minus e g) c = by (passes_or_fault n e c.0) (passes_or_fault n g c.1)
       where
         told_side : (x : VarName) → Told (IsOfOneSide V S e g x)
@@ -217,7 +217,7 @@ var_from V (union e rest) x (inr h) = elim (var_from V rest x h) [ inl m ↦ inl
 var_from V join_end x h = absurd h
 var_from V (join e rest) x (inl h) = elim (var_from V e x h) [ inl m ↦ inl (Has-append_left (expr_vars [] e) (expr_vars [] rest) x m) | inr m ↦ inr m ]
 var_from V (join e rest) x (inr h) = elim (var_from V rest x h) [ inl m ↦ inl (Has-append_right (expr_vars [] e) (expr_vars [] rest) x m) | inr m ↦ inr m ]
-var_from V (project kept e) x h = inl h
+var_from V (project names e) x h = inl h
 var_from V (minus e g) x h = var_from V e x h
 
 let_listed : (lets : Lets) (l : VarName × ExprTree) (x : VarName) → Has lets l → Has (expr_vars [] l.1) x → Has (lets_vars lets) x
@@ -297,7 +297,7 @@ expr_names union_end = []
 expr_names (union e rest) = expr_names e ++ expr_names rest
 expr_names join_end = []
 expr_names (join e rest) = expr_names e ++ expr_names rest
-expr_names (project kept e) = expr_names e
+expr_names (project names e) = expr_names e
 expr_names (minus e g) = expr_names e ++ expr_names g
 
 in_either : (a b : List VarName) (x : VarName) {P Q : Type 0} → (Has a x ↔ P) → (Has b x ↔ Q) → Has (a ++ b) x ↔ (P ⊎ Q)
@@ -313,7 +313,7 @@ names_are union_end x = (λ h. h, λ h. h)
 names_are (union e rest) x = in_either (expr_names e) (expr_names rest) x (names_are e x) (names_are rest x)
 names_are join_end x = (λ h. h, λ h. h)
 names_are (join e rest) x = in_either (expr_names e) (expr_names rest) x (names_are e x) (names_are rest x)
-names_are (project kept e) x = names_are e x
+names_are (project names e) x = names_are e x
 names_are (minus e g) x = in_either (expr_names e) (expr_names g) x (names_are e x) (names_are g x)
 
 abbrev lets_names : Lets → List VarName

@@ -21,7 +21,7 @@ module _ (V S : ℕ → VarName → Type 0) where
   passing_parts (union e rest) p = (p.0, passing_parts rest p.1)
   passing_parts join_end p = tt
   passing_parts (join e rest) p = (p.0, passing_parts rest p.1)
-  passing_parts (project kept e) p = p.0
+  passing_parts (project names e) p = p.0
   passing_parts (minus e g) p = (p.0, p.1)
 
   -- where each part before shares with those that follow only what is sure in both, no variable clashes
@@ -37,7 +37,7 @@ module _ (V S : ℕ → VarName → Type 0) where
   none_clashes before union_end share p x h = h
   none_clashes before (union e rest) share p x h = h
   none_clashes before join_end share p x h = h
-  none_clashes before (project kept e) share p x h = h
+  none_clashes before (project names e) share p x h = h
   none_clashes before (minus e g) share p x h = h
 
   one_clashes : (before : List ExprTree) (rest : ExprTree) (x y : VarName) → ClashesFirst V S before rest x → ClashesFirst V S before rest y → x ≡ y
@@ -50,7 +50,7 @@ module _ (V S : ℕ → VarName → Type 0) where
   one_clashes before union_end x y h g = absurd h
   one_clashes before (union e rest) x y h g = absurd h
   one_clashes before join_end x y h g = absurd h
-  one_clashes before (project kept e) x y h g = absurd h
+  one_clashes before (project names e) x y h g = absurd h
   one_clashes before (minus e f) x y h g = absurd h
 
   own_none : (e : ExprTree) (fault : QueryFault) → Passes V S e → OwnFault V S e fault → ⊥
@@ -60,7 +60,7 @@ module _ (V S : ℕ → VarName → Type 0) where
       first : (g : ExprTree) → Has (e ∷ []) g → SharesSure V S g rest
       first g (inl is) = subst (λ (w : ExprTree). SharesSure V S w rest) is p.2
       first g (inr n) = absurd n
-  own_none (project kept e) (UnknownVariable x) p o = o.0.1 (p.1 x o.0.0)
+  own_none (project names e) (UnknownVariable x) p o = o.0.1 (p.1 x o.0.0)
   own_none (minus e g) (MinusVariables x) p o = elim o.0 [ inl h ↦ h.1 ((p.2 x).0 h.0) | inr h ↦ h.1 ((p.2 x).1 h.0) ]
   own_none e fault p o = absurd o
 
@@ -72,10 +72,10 @@ module _ (V S : ℕ → VarName → Type 0) where
   own_join e rest (JoinUnsure x) a = (x, refl, a)
   own_join e rest f a = absurd a
 
-  own_project : (kept : List VarName) (e : ExprTree) (f : QueryFault) → OwnFault V S (project kept e) f →
-      (x : VarName) × (f ≡ UnknownVariable x) × IsLeast (λ y. Has kept y × ¬ VarOf V e y) x
-  own_project kept e (UnknownVariable x) a = (x, refl, a)
-  own_project kept e f a = absurd a
+  own_project : (names : List VarName) (e : ExprTree) (f : QueryFault) → OwnFault V S (project names e) f →
+      (x : VarName) × (f ≡ UnknownVariable x) × IsLeast (λ y. Has names y × ¬ VarOf V e y) x
+  own_project names e (UnknownVariable x) a = (x, refl, a)
+  own_project names e f a = absurd a
 
   own_minus : (e g : ExprTree) (f : QueryFault) → OwnFault V S (minus e g) f → (x : VarName) × (f ≡ MinusVariables x) × IsLeast (IsOfOneSide V S e g) x
   own_minus e g (MinusVariables x) a = (x, refl, a)
@@ -88,9 +88,9 @@ module _ (V S : ℕ → VarName → Type 0) where
   own_one (join e rest) f g a b =
       let (c, is, x) = own_join e rest f a in
       let (d, same, y) = own_join e rest g b in is ∙ ap (λ z. JoinUnsure z) (one_clashes (e ∷ []) rest c d x y) ∙ sym same
-  own_one (project kept e) f g a b =
-      let (c, is, x) = own_project kept e f a in
-      let (d, same, y) = own_project kept e g b in is ∙ ap (λ z. UnknownVariable z) (least_one (λ z. Has kept z × ¬ VarOf V e z) c d x y) ∙ sym same
+  own_one (project names e) f g a b =
+      let (c, is, x) = own_project names e f a in
+      let (d, same, y) = own_project names e g b in is ∙ ap (λ z. UnknownVariable z) (least_one (λ z. Has names z × ¬ VarOf V e z) c d x y) ∙ sym same
   own_one (minus e h) f g a b =
       let (c, is, x) = own_minus e h f a in
       let (d, same, y) = own_minus e h g b in is ∙ ap (λ z. MinusVariables z) (least_one (IsOfOneSide V S e h) c d x y) ∙ sym same
@@ -108,7 +108,7 @@ module _ (V S : ℕ → VarName → Type 0) where
   inner_none (union e rest) fault p (inr i) = inner_none rest fault p.1 i.1
   inner_none (join e rest) fault p (inl f) = over_none e fault (inner_none e fault) p.0 f
   inner_none (join e rest) fault p (inr i) = inner_none rest fault p.1 i.1
-  inner_none (project kept e) fault p f = over_none e fault (inner_none e fault) p f
+  inner_none (project names e) fault p f = over_none e fault (inner_none e fault) p f
   inner_none (minus e g) fault p (inl f) = over_none e fault (inner_none e fault) p.0 f
   inner_none (minus e g) fault p (inr i) = over_none g fault (inner_none g fault) p.1 i.1
   inner_none (atom a) fault p i = i
@@ -135,7 +135,7 @@ module _ (V S : ℕ → VarName → Type 0) where
   inner_one (join e rest) f g (inl a) (inr b) = absurd (expr_none e f b.0 a)
   inner_one (join e rest) f g (inr a) (inl b) = absurd (expr_none e g a.0 b)
   inner_one (join e rest) f g (inr a) (inr b) = inner_one rest f g a.1 b.1
-  inner_one (project kept e) f g a b = over_one e f g (inner_one e f g) a b
+  inner_one (project names e) f g a b = over_one e f g (inner_one e f g) a b
   inner_one (minus e h) f g (inl a) (inl b) = over_one e f g (inner_one e f g) a b
   inner_one (minus e h) f g (inl a) (inr b) = absurd (expr_none e f b.0 a)
   inner_one (minus e h) f g (inr a) (inl b) = absurd (expr_none e g a.0 b)

@@ -56,12 +56,12 @@ IsUnsureIn a b x = Has a.vars x × Has b.vars x × ¬ (Has a.sure x × Has b.sur
 
 -- what a projection to these names leaves of these variables
 abbrev pub IsProjectionOf : List VarName → List VarName → Bound → Result Bound QueryFault → Type 0
-IsProjectionOf names kept b result =
+IsProjectionOf names keep b result =
     MatchResult result
-    (λ left. ((x : VarName) → Has (members names left.vars) x ↔ Has kept x)
-    × ((x : VarName) → Has (members names left.sure) x ↔ (Has kept x × Has (members names b.sure) x))
-    × ((x : VarName) → Has kept x → Has (members names b.vars) x))
-    (λ fault. (x : VarName) × IsLeast (λ y. Has kept y × ¬ Has (members names b.vars) y) x × (fault ≡ UnknownVariable x))
+    (λ left. ((x : VarName) → Has (members names left.vars) x ↔ Has keep x)
+    × ((x : VarName) → Has (members names left.sure) x ↔ (Has keep x × Has (members names b.sure) x))
+    × ((x : VarName) → Has keep x → Has (members names b.vars) x))
+    (λ fault. (x : VarName) × IsLeast (λ y. Has keep y × ¬ Has (members names b.vars) y) x × (fault ≡ UnknownVariable x))
 
 -- x is in one of the two alone
 abbrev pub IsInOne : BoundNames → BoundNames → VarName → Type 0

@@ -18,7 +18,7 @@ abbrev mutual
   IsFormed n (union e rest) = IsFormed n e × AreUnitedFormed n rest × ¬ (rest ≡ union_end)
   IsFormed n join_end = ⊥
   IsFormed n (join e rest) = IsFormed n e × AreJoinedFormed n rest × ¬ (rest ≡ join_end)
-  IsFormed n (project kept e) = IsFormed n e × ((x : VarName) → Has kept x → IsFreeName x) × AreVariables kept
+  IsFormed n (project names e) = IsFormed n e × ((x : VarName) → Has names x → IsFreeName x) × AreVariables names
   IsFormed n (minus e g) = IsFormed n e × IsFormed n g
 
   -- the parts that follow one of a union

@@ -11,7 +11,7 @@ minuses_in union_end = 0
 minuses_in (union e rest) = minuses_in e + minuses_in rest
 minuses_in join_end = 0
 minuses_in (join e rest) = minuses_in e + minuses_in rest
-minuses_in (project kept e) = minuses_in e
+minuses_in (project names e) = minuses_in e
 minuses_in (minus e g) = suc (minuses_in e + minuses_in g)
 
 abbrev pub minuses_in_lets : List (VarName × ExprTree) → ℕ

@@ -14,7 +14,7 @@ use Rattle.query_parser.specs.Reads as mark
 -- what an open parenthesis keeps, where it is that of a projection; the conjunctions that are whole, what the last conjunction is to be
 -- taken from, and the units before the last one
 pub record Frame : Type 0 where
-  pub kept : Option (List VarName)
+  pub names : Option (List VarName)
   pub conjs : List ExprTree
   pub left : Option ExprTree
   pub units : List ExprTree
@@ -50,15 +50,15 @@ mark_of at_unit = mark.at_unit
 mark_of (unit e) = mark.after_unit
 mark_of after_project = mark.after_project
 mark_of after_none = mark.after_none
-mark_of (after_kept kept) = mark.after_kept kept
-mark_of (after_comma kept) = mark.after_comma kept
+mark_of (after_kept names) = mark.after_kept names
+mark_of (after_comma names) = mark.after_comma names
 
 -- the reading, without the trees
 abbrev pub reading_of : Nest → Reading
 reading_of n = record { names = names_of n.lets; current = n.current; opened = length n.below; mark = mark_of n.last; many = n.many; minuses = n.minuses }
 
 abbrev pub empty_frame : Option (List VarName) → Frame
-empty_frame kept = record { kept = kept; conjs = []; left = None; units = [] }
+empty_frame names = record { names = names; conjs = []; left = None; units = [] }
 
 abbrev pub outermost : Nest
 outermost = record { lets = []; current = None; below = []; top = empty_frame None; last = at_start; many = false; minuses = 0 }
@@ -87,11 +87,11 @@ whole f e = whole_expr f.conjs (less f.left (whole_conj f.units e))
 
 abbrev pub keeping : Option (List VarName) → ExprTree → ExprTree
 keeping None e = e
-keeping (Some kept) e = project kept e
+keeping (Some names) e = project names e
 
 -- what a frame is in the one around it
 abbrev pub closed : Frame → ExprTree → ExprTree
-closed f e = keeping f.kept (whole f e)
+closed f e = keeping f.names (whole f e)
 
 abbrev pub next_unit : ExprTree → Nest → Nest
 next_unit e n = record n { top = record (n.top) { units = n.top.units ++ e ∷ [] }; last = at_unit }
@@ -106,7 +106,7 @@ next_side e n =
     record n { top = record (n.top) { conjs = []; left = Some (whole n.top e); units = [] }; last = at_unit; minuses = suc n.minuses }
 
 abbrev pub opened : Option (List VarName) → Nest → Nest
-opened kept n = record n { below = n.top ∷ n.below; top = empty_frame kept; last = at_unit }
+opened names n = record n { below = n.top ∷ n.below; top = empty_frame names; last = at_unit }
 
 -- the number of a name: k + 1 where it is that of the name k behind the first one, else 0 where it is the first one
 abbrev pub number_from : Bool → Option ℕ → Option ℕ
@@ -123,7 +123,7 @@ abbrev pub Move : Type 0
 Move = Result Nest Refusal
 
 abbrev pub opens : Option (List VarName) → Nest → Move
-opens kept n = if nat_lt (length n.below) MOST_OPEN then Ok (opened kept n) else Err too_deep
+opens names n = if nat_lt (length n.below) MOST_OPEN then Ok (opened names n) else Err too_deep
 
 abbrev pub moves_let : Last → Nest → Move
 moves_let at_start n = Ok (with_last after_let n)
@@ -151,14 +151,14 @@ moves_equals after_name n = Ok (with_last at_unit n)
 moves_equals _ n = Err unexpected
 
 abbrev pub moves_comma : Last → Nest → Move
-moves_comma (after_kept kept) n = Ok (with_last (after_comma kept) n)
+moves_comma (after_kept names) n = Ok (with_last (after_comma names) n)
 moves_comma _ n = Err unexpected
 
 abbrev pub moves_open : Last → Nest → Move
 moves_open at_start n = opens None n
 moves_open at_unit n = opens None n
 moves_open after_none n = opens (Some []) n
-moves_open (after_kept kept) n = opens (Some kept) n
+moves_open (after_kept names) n = opens (Some names) n
 moves_open _ n = Err unexpected
 
 -- the innermost frame is closed with this expression, and those around it are left
@@ -193,8 +193,8 @@ speaks_of None n = Err unknown_name
 speaks_of (Some k) n = Ok (with_last (unit (named k)) n)
 
 abbrev pub keeps : List VarName → VarName → Nest → Move
-keeps kept x n =
-    reads_name x (Ok (if finds_room kept x then with_last (after_kept (with_name x kept)) n else record n { last = after_kept kept; many = true }))
+keeps names x n =
+    reads_name x (Ok (if finds_room names x then with_last (after_kept (with_name x names)) n else record n { last = after_kept names; many = true }))
 
 -- the sign `minus`
 abbrev pub subtracts : VarName → ExprTree → Nest → Move
@@ -210,7 +210,7 @@ moves_name x at_start n = reads_name x (speaks_of (find (names_of n.lets) x) n)
 moves_name x after_let n = begins_let x n
 moves_name x at_unit n = reads_name x (speaks_of (find (names_of n.lets) x) n)
 moves_name x after_project n = keeps [] x n
-moves_name x (after_comma kept) n = keeps kept x n
+moves_name x (after_comma names) n = keeps names x n
 moves_name x l n = moves_minus x l n
 
 -- a unit is due

@@ -46,7 +46,7 @@ is_among (y ∷ ys) x = bytes_eq y x || is_among ys x
 
 -- one name more to keep finds room
 abbrev pub finds_room : List VarName → VarName → Bool
-finds_room kept x = is_among kept x || nat_lt (length kept) MOST_VARIABLES
+finds_room names x = is_among names x || nat_lt (length names) MOST_VARIABLES
 
 abbrev pub marked : Mark → Reading → Reading
 marked m r = record r { mark = m }
@@ -65,8 +65,8 @@ begins_let x r = reads_name x (if is_among r.names x then Err name_twice else Ok
 
 -- A name that is kept, after these.
 abbrev pub keeps : List VarName → VarName → Reading → Result Reading Refusal
-keeps kept x r =
-    reads_name x (Ok (if finds_room kept x then marked (after_kept (with_name x kept)) r else record r { mark = after_kept kept; many = true }))
+keeps names x r =
+    reads_name x (Ok (if finds_room names x then marked (after_kept (with_name x names)) r else record r { mark = after_kept names; many = true }))
 
 -- A token where a unit is due.
 abbrev pub begins_unit : Reading → Token → Result Reading Refusal
@@ -107,9 +107,9 @@ next after_unit r semicolon = ends_let r.opened r.current r
 next after_project r none_word = Ok (marked after_none r)
 next after_project r (name_token x) = keeps [] x r
 next after_none r open_paren = opens r
-next (after_kept kept) r comma = Ok (marked (after_comma kept) r)
-next (after_kept kept) r open_paren = opens r
-next (after_comma kept) r (name_token x) = keeps kept x r
+next (after_kept names) r comma = Ok (marked (after_comma names) r)
+next (after_kept names) r open_paren = opens r
+next (after_comma names) r (name_token x) = keeps names x r
 next _ r t = Err unexpected
 
 -- a unit is due

@@ -59,8 +59,8 @@ mutual
     atom_unit : {room : ℕ} {a : AtomTree} → SpellsUnit names room (atom_token a ∷ []) (atom a)
     named_unit : {room k : ℕ} {x : VarName} → slice_get names k ≡ Some x → SpellsUnit names room (name_token x ∷ []) (named k)
     group_of : {room : ℕ} {t : List Token} {es : List ExprTree} → SpellsExpr names room t es → SpellsUnit names (suc room) (open_paren ∷ (t ++ close_paren ∷ [])) (union_tree es)
-    projection_of : {room : ℕ} {t u : List Token} {kept : List VarName} {es : List ExprTree} → SpellsKeep t kept → SpellsExpr names room u es →
-        SpellsUnit names (suc room) (project_word ∷ (t ++ open_paren ∷ (u ++ close_paren ∷ []))) (project kept (union_tree es))
+    projection_of : {room : ℕ} {t u : List Token} {keep : List VarName} {es : List ExprTree} → SpellsKeep t keep → SpellsExpr names room u es →
+        SpellsUnit names (suc room) (project_word ∷ (t ++ open_paren ∷ (u ++ close_paren ∷ []))) (project keep (union_tree es))
 
 -- the names of lets
 abbrev pub names_of : List (VarName × ExprTree) → List VarName

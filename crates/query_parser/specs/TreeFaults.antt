@@ -22,14 +22,14 @@ module _ (V S : ℕ → VarName → Type 0) where
   Passes (union e rest) = Passes e × Passes rest
   Passes join_end = Unit {0}
   Passes (join e rest) = Passes e × Passes rest × SharesSure V S e rest
-  Passes (project kept e) = Passes e × ((x : VarName) → Has kept x → VarOf V e x)
+  Passes (project names e) = Passes e × ((x : VarName) → Has names x → VarOf V e x)
   Passes (minus e g) = Passes e × Passes g × ((x : VarName) → VarOf V e x ↔ VarOf V g x)
 
   -- the parts of an expression pass
   abbrev pub HasPassingParts : ExprTree → Type 0
   HasPassingParts (union e rest) = Passes e × HasPassingParts rest
   HasPassingParts (join e rest) = Passes e × HasPassingParts rest
-  HasPassingParts (project kept e) = Passes e
+  HasPassingParts (project names e) = Passes e
   HasPassingParts (minus e g) = Passes e × Passes g
   HasPassingParts _ = Unit {0}
 
@@ -52,7 +52,7 @@ module _ (V S : ℕ → VarName → Type 0) where
   abbrev pub OwnFault : ExprTree → QueryFault → Type 0
   OwnFault (atom a) (Check e) = IsFault a.formula e
   OwnFault (join e rest) (JoinUnsure x) = ClashesFirst (e ∷ []) rest x
-  OwnFault (project kept e) (UnknownVariable x) = IsLeast (λ y. Has kept y × ¬ VarOf V e y) x
+  OwnFault (project names e) (UnknownVariable x) = IsLeast (λ y. Has names y × ¬ VarOf V e y) x
   OwnFault (minus e g) (MinusVariables x) = IsLeast (IsOfOneSide e g) x
   OwnFault _ _ = ⊥
 
@@ -64,7 +64,7 @@ module _ (V S : ℕ → VarName → Type 0) where
   abbrev pub InnerFault : ExprTree → QueryFault → Type 0
   InnerFault (union e rest) fault = IsFaultOver (InnerFault e fault) e fault ⊎ (Passes e × InnerFault rest fault)
   InnerFault (join e rest) fault = IsFaultOver (InnerFault e fault) e fault ⊎ (Passes e × InnerFault rest fault)
-  InnerFault (project kept e) fault = IsFaultOver (InnerFault e fault) e fault
+  InnerFault (project names e) fault = IsFaultOver (InnerFault e fault) e fault
   InnerFault (minus e g) fault = IsFaultOver (InnerFault e fault) e fault ⊎ (Passes e × IsFaultOver (InnerFault g fault) g fault)
   InnerFault _ fault = ⊥
 

@@ -31,19 +31,19 @@ sign_of code_sign.Close = close_paren
 sign_of code_sign.Comma = comma
 
 abbrev pub frame_of : CodeFrame → Frame
-frame_of f = record { kept = f.kept; conjs = exprs_of f.conjs; left = option_map expr_of f.left; units = exprs_of f.units }
+frame_of f = record { names = f.names; conjs = exprs_of f.conjs; left = option_map expr_of f.left; units = exprs_of f.units }
 
 -- the last thing read, where a projection keeps these names
 abbrev pub last_of : List VarName → CodeLast → Last
-last_of kept code_last.Start = at_start
-last_of kept code_last.Let = after_let
-last_of kept code_last.LetName = after_name
-last_of kept code_last.Before = at_unit
-last_of kept (code_last.Unit e) = unit (expr_of e)
-last_of kept code_last.Project = after_project
-last_of kept code_last.KeepNone = after_none
-last_of kept code_last.Kept = after_kept kept
-last_of kept code_last.Comma = after_comma kept
+last_of names code_last.Start = at_start
+last_of names code_last.Let = after_let
+last_of names code_last.LetName = after_name
+last_of names code_last.Before = at_unit
+last_of names (code_last.Unit e) = unit (expr_of e)
+last_of names code_last.Project = after_project
+last_of names code_last.KeepNone = after_none
+last_of names code_last.Kept = after_kept names
+last_of names code_last.Comma = after_comma names
 
 -- the code's list has the innermost frame last
 abbrev pub nest_of : CodeNest → Nest
@@ -52,7 +52,7 @@ nest_of n = record {
   current = n.current;
   below = map frame_of (reverse n.below.items);
   top = frame_of n.top;
-  last = last_of n.kept n.last;
+  last = last_of n.names n.last;
   many = n.many;
   minuses = n.minuses;
 }

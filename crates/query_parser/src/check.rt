@@ -96,9 +96,9 @@ pub(crate) fn check_expr(expr: &Expr, names: &VarSet, known: &[Bound]) -> Result
         Expr::Named(k) => Ok(known[*k as usize]),
         Expr::Union(parts) => check_union(parts, names, known),
         Expr::Join(parts) => check_join(parts, names, known),
-        Expr::Project(kept, sub) => {
+        Expr::Project(keep, sub) => {
             let bound = check_expr(sub, names, known)?;
-            projected(kept, bound, names)
+            projected(keep, bound, names)
         }
         Expr::Minus(left, right) => {
             let bound = check_expr(left, names, known)?;
@@ -153,13 +153,13 @@ fn check_join(parts: &Exprs, names: &VarSet, known: &[Bound]) -> Result<Bound, Q
 }
 
 /// A projection to these names of an expression with these variables.
-fn projected(kept: &VarSet, bound: Bound, names: &VarSet) -> Result<Bound, QueryFault>
+fn projected(keep: &VarSet, bound: Bound, names: &VarSet) -> Result<Bound, QueryFault>
     requires { Ascending names.now }
-    ensures { IsProjectionOf names.now kept.now bound result }
+    ensures { IsProjectionOf names.now keep.now bound result }
 {
     let mut vars = NameBits::empty();
-    for k in 0..kept.len() {
-        let name = kept.at(k);
+    for k in 0..keep.len() {
+        let name = keep.at(k);
         if !bound.vars.has(name, names) {
             return Err(QueryFault::UnknownVariable { var: *name });
         }

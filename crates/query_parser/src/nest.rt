@@ -20,7 +20,7 @@ use std::mem;
 /// since then, what the last one is to be taken from, and the units before the last one.
 #[derive(Drop)]
 pub(crate) struct Frame {
-    pub(crate) kept: Option<VarSet>,
+    pub(crate) names: Option<VarSet>,
     pub(crate) conjs: Exprs,
     pub(crate) left: Option<Expr>,
     pub(crate) units: Exprs,
@@ -55,7 +55,7 @@ pub(crate) struct Nest {
     pub(crate) top: Frame,
     pub(crate) last: Last,
     /// The names that the projection keeps whose names are being read.
-    pub(crate) kept: VarSet,
+    pub(crate) names: VarSet,
     /// Whether some projection keeps too many names.
     pub(crate) many: bool,
     /// The signs `minus` so far.
@@ -109,24 +109,24 @@ fn whole_expr(conjs: Exprs, last: Expr) -> Result<Expr, OutOfMemory>
 }
 
 /// What a projection, or a group, has of an expression.
-fn keeping(alloc: Global, kept: Option<VarSet>, expr: Expr) -> Result<Expr, OutOfMemory>
-    ensures { IfOk result (λ e. expr_of e ≡ keeping kept (expr_of expr)) }
+fn keeping(alloc: Global, names: Option<VarSet>, expr: Expr) -> Result<Expr, OutOfMemory>
+    ensures { IfOk result (λ e. expr_of e ≡ keeping names (expr_of expr)) }
 {
-    match kept {
+    match names {
         None => Ok(expr),
-        Some(kept) => match Box::new(alloc, expr) {
-            Ok(sub) => Ok(Expr::Project(kept, sub)),
+        Some(names) => match Box::new(alloc, expr) {
+            Ok(sub) => Ok(Expr::Project(names, sub)),
             Err(_) => Err(OutOfMemory),
         },
     }
 }
 
 impl Frame {
-    pub(crate) fn new(alloc: Global, kept: Option<VarSet>) -> Frame
-        ensures { frame_of result ≡ empty_frame kept }
+    pub(crate) fn new(alloc: Global, names: Option<VarSet>) -> Frame
+        ensures { frame_of result ≡ empty_frame names }
     {
         Frame {
-            kept,
+            names,
             conjs: Exprs::new(alloc),
             left: None,
             units: Exprs::new(alloc),
@@ -147,7 +147,7 @@ impl Frame {
         ensures { IfOk result (λ e. expr_of e ≡ closed (frame_of self) (expr_of last)) }
     {
         let Frame {
-            kept,
+            names,
             conjs,
             left,
             units,
@@ -155,7 +155,7 @@ impl Frame {
         let conj = whole_conj(units, last)?;
         let part = less(alloc, left, conj)?;
         let expr = whole_expr(conjs, part)?;
-        keeping(alloc, kept, expr)
+        keeping(alloc, names, expr)
     }
 }
 
@@ -169,7 +169,7 @@ impl Nest {
             below: Vec::new(alloc),
             top: Frame::new(alloc, None),
             last: Last::Start,
-            kept: VarSet::empty(),
+            names: VarSet::empty(),
             many: false,
             minuses: 0,
         }
@@ -177,7 +177,7 @@ impl Nest {
 
     /// Whether a unit is due.
     pub(crate) fn wants_unit(&self) -> bool
-        ensures { result ≡ wants_unit (last_of self.now.kept self.now.last) }
+        ensures { result ≡ wants_unit (last_of self.now.names self.now.last) }
     {
         matches!(self.last, Last::Start | Last::Before)
     }
@@ -216,18 +216,18 @@ impl Nest {
     {
         self.last = Last::Before;
         self.minuses += 1;
-        let kept = mem::replace(&mut self.top.kept, None);
-        let top = mem::replace(&mut self.top, Frame::new(alloc, kept));
+        let names = mem::replace(&mut self.top.names, None);
+        let top = mem::replace(&mut self.top, Frame::new(alloc, names));
         self.top.left = Some(top.whole(alloc, unit)?);
         Ok(())
     }
 
     /// A parenthesis, which keeps these names where it is that of a projection.
-    pub(crate) fn open(&mut self, alloc: Global, kept: Option<VarSet>) -> Result<(), OutOfMemory>
-        ensures { OnOk result (nest_of self.new ≡ opened kept (nest_of self.old)) }
+    pub(crate) fn open(&mut self, alloc: Global, names: Option<VarSet>) -> Result<(), OutOfMemory>
+        ensures { OnOk result (nest_of self.new ≡ opened names (nest_of self.old)) }
     {
         self.last = Last::Before;
-        let outer = mem::replace(&mut self.top, Frame::new(alloc, kept));
+        let outer = mem::replace(&mut self.top, Frame::new(alloc, names));
         match self.below.push(outer) {
             Ok(()) => Ok(()),
             Err(_) => Err(OutOfMemory),

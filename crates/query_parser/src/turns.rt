@@ -120,22 +120,22 @@ fn speak_of(at: usize, word: &[u8], nest: &mut Nest) -> Result<usize, QueryFault
 }
 
 /// Adds a name, where it finds room.
-fn add(kept: &mut VarSet, name: Name) -> bool
-    ensures room { result ≡ finds_room kept.old name }
-    ensures kept { kept.new ≡ (if finds_room kept.old name then with_name name kept.old else kept.old) }
+fn add(names: &mut VarSet, name: Name) -> bool
+    ensures room { result ≡ finds_room names.old name }
+    ensures kept { names.new ≡ (if finds_room names.old name then with_name name names.old else names.old) }
 {
-    kept.add(name)
+    names.add(name)
 }
 
 /// A name that a projection keeps.
 fn keep(at: usize, word: &[u8], nest: &mut Nest) -> Result<usize, QueryFault>
-    ensures { IsStep result (moved at (length word.now) (keeps nest.old.kept word.now (nest_of nest.old))) (nest_of nest.new) }
+    ensures { IsStep result (moved at (length word.now) (keeps nest.old.names word.now (nest_of nest.old))) (nest_of nest.new) }
 {
     let Some(name) = Name::read(word) else {
         return Err(QueryFault::NameTooLong { at });
     };
     nest.last = Last::Kept;
-    if add(&mut nest.kept, name) {
+    if add(&mut nest.names, name) {
         Ok(word.len())
     } else {
         nest.many = true;
@@ -170,7 +170,7 @@ fn name(alloc: Global, at: usize, word: &[u8], nest: &mut Nest) -> Result<usize,
         Last::Start | Last::Before => speak_of(at, word, nest),
         Last::Let => begin_let(at, word, nest),
         Last::Project => {
-            nest.kept = VarSet::empty();
+            nest.names = VarSet::empty();
             keep(at, word, nest)
         }
         Last::Comma => keep(at, word, nest),
@@ -221,15 +221,15 @@ fn comma(at: usize, nest: &mut Nest) -> Result<usize, QueryFault>
 fn open(
     alloc: Global,
     at: usize,
-    kept: Option<VarSet>,
+    names: Option<VarSet>,
     nest: &mut Nest,
 ) -> Result<usize, QueryFault>
-    ensures { IsStep result (moved at 1 (opens kept (nest_of nest.old))) (nest_of nest.new) }
+    ensures { IsStep result (moved at 1 (opens names (nest_of nest.old))) (nest_of nest.new) }
 {
     if nest.below.len() >= MOST_OPEN {
         return Err(QueryFault::TooDeep { at });
     }
-    nest.open(alloc, kept)?;
+    nest.open(alloc, names)?;
     Ok(1)
 }
 
@@ -240,8 +240,8 @@ fn open_paren(alloc: Global, at: usize, nest: &mut Nest) -> Result<usize, QueryF
         Last::Start | Last::Before => open(alloc, at, None, nest),
         Last::KeepNone => open(alloc, at, Some(VarSet::empty()), nest),
         Last::Kept => {
-            let kept = nest.kept.copy();
-            open(alloc, at, Some(kept), nest)
+            let names = nest.names.copy();
+            open(alloc, at, Some(names), nest)
         }
         _ => Err(QueryFault::Unexpected { at }),
     }

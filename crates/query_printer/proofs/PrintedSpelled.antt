@@ -45,7 +45,7 @@ names_spelled (x ∷ rest) free u xs (ts, lexes, s) =
     (ts ++ comma ∷ name_token x ∷ [], lexes_more u (44 ∷ []) x ts (name_token x ∷ []) comma lexes (λ after. lexed_sign 44 comma after refl) (λ after. refl) (λ after stops. lexed_name x after here stops), more_names s here) in
     (r.0, subst (λ v. Lexes v r.0) (more_texts u (44 ∷ []) x rest) r.1, subst (SpellsNames r.0) (append_assoc xs (x ∷ []) rest) r.2)
 
-keep_spelled : (kept : List VarName) → ((x : VarName) → Has kept x → IsFreeName x) → AreVariables kept → (ts : List Token) × Lexes (keep_text kept) ts × SpellsKeep ts kept
+keep_spelled : (names : List VarName) → ((x : VarName) → Has names x → IsFreeName x) → AreVariables names → (ts : List Token) × Lexes (keep_text names) ts × SpellsKeep ts names
 keep_spelled [] free set = (none_word ∷ [], lexed_none, keeps_none)
 keep_spelled (x ∷ xs) free set =
     let here = free x (inl refl) in
@@ -184,19 +184,19 @@ module _ (names known : List VarName) (n : ℕ)
   atom_text_unit : (room : ℕ) (a : AtomTree) → IsWellBuilt a.formula → formulas.most_open a.formula ≤ 100 → AsUnit room (atom_text a) (atom a)
   atom_text_unit room a built few = (atom_token a ∷ [], (λ after stops. lexed_atom a after stops built few), atom_unit)
 
-  projected_text : (room : ℕ) (kept : List VarName) (u : List ℕ) (e : ExprTree) → ((x : VarName) → Has kept x → IsFreeName x) → AreVariables kept → AsExpr room u e →
-      AsUnit (suc room) (codes "project " ++ (keep_text kept ++ (codes " (" ++ (u ++ 41 ∷ [])))) (project kept e)
-  projected_text room kept u e free set (ts, es, lexes, s, is) =
-      let (ks, keeps, k) = keep_spelled kept free set in
+  projected_text : (room : ℕ) (keep : List VarName) (u : List ℕ) (e : ExprTree) → ((x : VarName) → Has keep x → IsFreeName x) → AreVariables keep → AsExpr room u e →
+      AsUnit (suc room) (codes "project " ++ (keep_text keep ++ (codes " (" ++ (u ++ 41 ∷ [])))) (project keep e)
+  projected_text room keep u e free set (ts, es, lexes, s, is) =
+      let (ks, keeps, k) = keep_spelled keep free set in
       let inner = ts ++ close_paren ∷ [] in
       let whole = project_word ∷ (ks ++ open_paren ∷ inner) in (
         whole,
         (λ after stops.
-            lexed_both (codes "project ") (keep_text kept ++ (codes " (" ++ (u ++ 41 ∷ []))) (project_word ∷ []) (ks ++ open_paren ∷ inner) after (lexed_project _)
-            (lexed_both (keep_text kept) (codes " (" ++ (u ++ 41 ∷ [])) ks (open_paren ∷ inner) after (keeps _ refl)
+            lexed_both (codes "project ") (keep_text keep ++ (codes " (" ++ (u ++ 41 ∷ []))) (project_word ∷ []) (ks ++ open_paren ∷ inner) after (lexed_project _)
+            (lexed_both (keep_text keep) (codes " (" ++ (u ++ 41 ∷ [])) ks (open_paren ∷ inner) after (keeps _ refl)
             (lexed_both (codes " (") (u ++ 41 ∷ []) (open_paren ∷ []) inner after (lexed_open _)
             (lexed_both u (41 ∷ []) ts (close_paren ∷ []) after (lexes (41 ∷ after) refl) (lexed_sign 41 close_paren after refl))))),
-        subst (λ f. SpellsUnit known (suc room) whole (project kept f)) is (projection_of k s),
+        subst (λ f. SpellsUnit known (suc room) whole (project keep f)) is (projection_of k s),
       )
 
   -- the sides of a difference
@@ -226,9 +226,9 @@ module _ (names known : List VarName) (n : ℕ)
         let here = in_join room (most_open e) (printed names e) e (shape e) (spelled e c.0 (omega arith)) (omega arith) in
         whole_join room (u ++ further (codes " join ") (unit_texts names rest)) e rest c.2
         (units_spelled rest c.1 (omega arith) room (omega arith) u (e ∷ []) (first_unit room u e here))
-    spelled (project kept e) c few zero h = absurd (omega arith)
-    spelled (project kept e) c few (suc room) h =
-        projected_text room kept (printed names e) e c.1 c.2 (forms_expr room (printed names e) e (shape e) (spelled e c.0 few room (omega arith)))
+    spelled (project keep e) c few zero h = absurd (omega arith)
+    spelled (project keep e) c few (suc room) h =
+        projected_text room keep (printed names e) e c.1 c.2 (forms_expr room (printed names e) e (shape e) (spelled e c.0 few room (omega arith)))
     spelled (minus e g) c few room h =
         let left = in_union room (most_open e) (printed names e) e (shape e) (spelled e c.0 (omega arith)) (omega arith) in
         let right = in_union room (most_open g) (printed names g) g (shape g) (spelled g c.1 (omega arith)) (omega arith) in

@@ -13,11 +13,11 @@ use Rattle.spanner_model.proofs.NameLaws.{ascending-distinct}
 use Rattle.query_parser.specs.Formed.{IsFormed, AreUnitedFormed, AreJoinedFormed, IsFormedQuery}
 
 -- a set of names of the query has no more than these
-kept_set : (N : VarName → Type 0) → AtMost MOST_VARIABLES N → (kept : List VarName) → Ascending kept → ((x : VarName) → Has kept x → IsFreeName x × N x) → AreVariables kept
-kept_set N least kept up are = record {
-  few = (let le = distinct-le kept least.0 (ascending-distinct kept up) (λ x h. least.2 x (are x h).1) in omega (arith, le, least.1));
+kept_set : (N : VarName → Type 0) → AtMost MOST_VARIABLES N → (names : List VarName) → Ascending names → ((x : VarName) → Has names x → IsFreeName x × N x) → AreVariables names
+kept_set N least names up are = record {
+  few = (let le = distinct-le names least.0 (ascending-distinct names up) (λ x h. least.2 x (are x h).1) in omega (arith, le, least.1));
   ascending = up;
-  named = λ k d l. (are (get_or kept k d) (Has-get_or kept k d l)).0.0;
+  named = λ k d l. (are (get_or names k d) (Has-get_or names k d l)).0.0;
 }
 
 -- an expression under lets whose variables are of these names, as are those of its atoms
@@ -33,10 +33,10 @@ module _ (V S : ℕ → VarName → Type 0) (N : VarName → Type 0) (few : AtMo
     sound_formed n (union e rest) names h = (sound_formed n e (λ x a. names x (inl a)) h.0, united_formed n rest (λ x a. names x (inr a)) h.1, h.2)
     sound_formed n join_end names h = absurd h
     sound_formed n (join e rest) names h = (sound_formed n e (λ x a. names x (inl a)) h.0, joined_formed n rest (λ x a. names x (inr a)) h.1, h.2)
-    sound_formed n (project kept e) names h = (
+    sound_formed n (project keep e) names h = (
       sound_formed n e names h.0,
       (λ x has. (h.1 x has).1),
-      kept_set N few kept h.2 (λ x has. ((h.1 x has).1, of_these n e names h.0 x (h.1 x has).0)),
+      kept_set N few keep h.2 (λ x has. ((h.1 x has).1, of_these n e names h.0 x (h.1 x has).0)),
     )
     sound_formed n (minus e g) names h = (sound_formed n e (λ x a. names x (inl a)) h.0, sound_formed n g (λ x a. names x (inr a)) h.1)
 
@@ -68,7 +68,7 @@ mutual
   formed_under n m (union e rest) le h = (formed_under n m e le h.0, united_under n m rest le h.1, h.2)
   formed_under n m join_end le h = absurd h
   formed_under n m (join e rest) le h = (formed_under n m e le h.0, joined_under n m rest le h.1, h.2)
-  formed_under n m (project kept e) le h = (formed_under n m e le h.0, h.1, h.2)
+  formed_under n m (project names e) le h = (formed_under n m e le h.0, h.1, h.2)
   formed_under n m (minus e g) le h = (formed_under n m e le h.0, formed_under n m g le h.1)
 
   united_under : (n m : ℕ) (e : ExprTree) → n ≤ m → AreUnitedFormed n e → AreUnitedFormed m e

@@ -22,7 +22,7 @@ shape union_end = a_union
 shape (union e rest) = a_union
 shape join_end = a_join
 shape (join e rest) = a_join
-shape (project kept e) = a_unit
+shape (project names e) = a_unit
 shape (minus e g) = a_union
 
 -- in parentheses among the parts of a union or as a side of a difference, among the parts of a join
@@ -57,7 +57,7 @@ abbrev mutual
   printed names (union e rest) = joined (codes " union ") (wrapped (wraps_in_union (shape e)) (printed names e) ∷ conj_texts names rest)
   printed names join_end = []
   printed names (join e rest) = joined (codes " join ") (wrapped (wraps_in_join (shape e)) (printed names e) ∷ unit_texts names rest)
-  printed names (project kept e) = codes "project " ++ (keep_text kept ++ (codes " (" ++ (printed names e ++ 41 ∷ [])))
+  printed names (project keep e) = codes "project " ++ (keep_text keep ++ (codes " (" ++ (printed names e ++ 41 ∷ [])))
   printed names (minus e g) = wrapped (wraps_in_union (shape e)) (printed names e) ++ (codes " minus " ++ wrapped (wraps_in_union (shape g)) (printed names g))
 
   -- the parts that follow one of a union, and one of a join
@@ -89,7 +89,7 @@ most_open union_end = 0
 most_open (union e rest) = max (wrapped_open (wraps_in_union (shape e)) (most_open e)) (most_open rest)
 most_open join_end = 0
 most_open (join e rest) = max (wrapped_open (wraps_in_join (shape e)) (most_open e)) (most_open rest)
-most_open (project kept e) = suc (most_open e)
+most_open (project names e) = suc (most_open e)
 most_open (minus e g) = max (wrapped_open (wraps_in_union (shape e)) (most_open e)) (wrapped_open (wraps_in_union (shape g)) (most_open g))
 
 -- how many parentheses and captures are open at once in one of its atoms
@@ -100,7 +100,7 @@ most_in_atoms union_end = 0
 most_in_atoms (union e rest) = max (most_in_atoms e) (most_in_atoms rest)
 most_in_atoms join_end = 0
 most_in_atoms (join e rest) = max (most_in_atoms e) (most_in_atoms rest)
-most_in_atoms (project kept e) = most_in_atoms e
+most_in_atoms (project names e) = most_in_atoms e
 most_in_atoms (minus e g) = max (most_in_atoms e) (most_in_atoms g)
 
 -- the printed form nests within the limits of what is read, which are the same for a query and for an atom

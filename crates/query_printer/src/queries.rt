@@ -129,7 +129,7 @@ fn push_expr(expr: &Expr, lets: &Lets, out: &mut Vec<u8>) -> Result<(), OutOfMem
         Expr::Named(k) => push_name(*k, lets, out),
         Expr::Union(parts) => push_union(parts, lets, out),
         Expr::Join(parts) => push_join(parts, lets, out),
-        Expr::Project(kept, sub) => push_projection(kept, sub, lets, out),
+        Expr::Project(names, sub) => push_projection(names, sub, lets, out),
         Expr::Minus(left, right) => push_difference(left, right, lets, out),
     }
 }
@@ -184,17 +184,17 @@ fn push_difference(
 
 #[cycle(print)]
 fn push_projection(
-    kept: &VarSet,
+    names: &VarSet,
     sub: &Expr,
     lets: &Lets,
     out: &mut Vec<u8>,
 ) -> Result<(), OutOfMemory>
     requires { IsFormed (length (lets_of lets.now)) (expr_of sub.now) }
-    ensures ok { OnOk result (out.new.items ≡ out.old.items ++ printed (names_of (lets_of lets.now)) (project kept.now (expr_of sub.now))) }
+    ensures ok { OnOk result (out.new.items ≡ out.old.items ++ printed (names_of (lets_of lets.now)) (project names.now (expr_of sub.now))) }
     ensures front { IsPrefixOf out.old.items out.new.items }
 {
     push_bytes(b"project ", out)?;
-    push_keep(kept, out)?;
+    push_keep(names, out)?;
     push_bytes(b" (", out)?;
     push_expr(sub, lets, out)?;
     push_bytes(b")", out)
@@ -233,16 +233,16 @@ fn push_name(k: u32, lets: &Lets, out: &mut Vec<u8>) -> Result<(), OutOfMemory>
 }
 
 /// Appends the names that a projection keeps.
-fn push_keep(kept: &VarSet, out: &mut Vec<u8>) -> Result<(), OutOfMemory>
-    ensures ok { OnOk result (out.new.items ≡ out.old.items ++ keep_text kept.now) }
+fn push_keep(names: &VarSet, out: &mut Vec<u8>) -> Result<(), OutOfMemory>
+    ensures ok { OnOk result (out.new.items ≡ out.old.items ++ keep_text names.now) }
     ensures front { IsPrefixOf out.old.items out.new.items }
 {
-    if kept.len() == 0 {
+    if names.len() == 0 {
         return push_bytes(b"none", out);
     }
-    for k in 0..kept.len() {
+    for k in 0..names.len() {
         push_given(k > 0, b",", out)?;
-        push_bytes(kept.at(k).as_bytes(), out)?;
+        push_bytes(names.at(k).as_bytes(), out)?;
     }
     Ok(())
 }

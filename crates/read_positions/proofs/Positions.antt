@@ -53,7 +53,7 @@ AtomsFit union_end = Unit {0}
 AtomsFit (union e rest) = AtomsFit e × AtomsFit rest
 AtomsFit join_end = Unit {0}
 AtomsFit (join e rest) = AtomsFit e × AtomsFit rest
-AtomsFit (project kept e) = AtomsFit e
+AtomsFit (project names e) = AtomsFit e
 AtomsFit (minus e g) = AtomsFit e × AtomsFit g
 
 module _ (V S : ℕ → VarName → Type 0) (n : ℕ) where
@@ -76,7 +76,7 @@ module _ (V S : ℕ → VarName → Type 0) (n : ℕ) where
       let a = all_fit e in
       let b = all_fit rest in
       record { whole = λ h. (a.whole h.0, b.joined h.1); united = λ h. absurd h; joined = λ h. (a.whole h.0, b.joined h.1) }
-  all_fit (project kept e) = let a = all_fit e in record { whole = λ h. a.whole h.0; united = λ h. absurd h; joined = λ h. absurd h }
+  all_fit (project names e) = let a = all_fit e in record { whole = λ h. a.whole h.0; united = λ h. absurd h; joined = λ h. absurd h }
   all_fit (minus e g) =
       let a = all_fit e in
       let b = all_fit g in
@@ -93,7 +93,7 @@ module _ (P : AtomTree → Type 0) (decide : (a : AtomTree) → IsWellBuilt a.fo
   decide_atoms (union e rest) fit = decide_either (SomeAtom P e) (SomeAtom P rest) (decide_atoms e fit.0) (decide_atoms rest fit.1)
   decide_atoms join_end fit = inr (λ h. h)
   decide_atoms (join e rest) fit = decide_either (SomeAtom P e) (SomeAtom P rest) (decide_atoms e fit.0) (decide_atoms rest fit.1)
-  decide_atoms (project kept e) fit = decide_atoms e fit
+  decide_atoms (project names e) fit = decide_atoms e fit
   decide_atoms (minus e g) fit = decide_either (SomeAtom P e) (SomeAtom P g) (decide_atoms e fit.0) (decide_atoms g fit.1)
 
 -- whether a difference stands in an expression
@@ -104,7 +104,7 @@ decide_minus union_end = inr (λ h. h)
 decide_minus (union e rest) = decide_either (HasMinusIn e) (HasMinusIn rest) (decide_minus e) (decide_minus rest)
 decide_minus join_end = inr (λ h. h)
 decide_minus (join e rest) = decide_either (HasMinusIn e) (HasMinusIn rest) (decide_minus e) (decide_minus rest)
-decide_minus (project kept e) = decide_minus e
+decide_minus (project names e) = decide_minus e
 decide_minus (minus e g) = inl tt
 
 -- ---- a query

@@ -29,7 +29,7 @@ module _ (N : VarName → Type 0) (few : AtMost MOST_VARIABLES N) (V S : ℕ →
           | inl p ↦ of_expr e ok.0 (λ x v. inside x (inl v)) a p
           | inr q ↦ of_joined rest ok.1 (λ x v. inside x (inr v)) a q
         ]
-    of_expr (project kept e) ok inside a h = of_expr e ok.0 inside a h
+    of_expr (project names e) ok inside a h = of_expr e ok.0 inside a h
     of_expr (minus e g) ok inside a h =
         elim (Has-append_cases (atoms_of e) (atoms_of g) a h) [
           | inl p ↦ of_expr e ok.0 (λ x v. inside x (inl v)) a p
@@ -47,7 +47,7 @@ module _ (N : VarName → Type 0) (few : AtMost MOST_VARIABLES N) (V S : ℕ →
     of_united (named k) ok inside a h = absurd ok
     of_united join_end ok inside a h = absurd ok
     of_united (join e rest) ok inside a h = absurd ok
-    of_united (project kept e) ok inside a h = absurd ok
+    of_united (project names e) ok inside a h = absurd ok
     of_united (minus e g) ok inside a h = absurd ok
 
     of_joined : (e : ExprTree) → AreJoined V S n e → ((x : VarName) → NameIn e x → N x) → AreCounted (atoms_of e)
@@ -61,7 +61,7 @@ module _ (N : VarName → Type 0) (few : AtMost MOST_VARIABLES N) (V S : ℕ →
     of_joined (named k) ok inside a h = absurd ok
     of_joined union_end ok inside a h = absurd ok
     of_joined (union e rest) ok inside a h = absurd ok
-    of_joined (project kept e) ok inside a h = absurd ok
+    of_joined (project names e) ok inside a h = absurd ok
     of_joined (minus e g) ok inside a h = absurd ok
 
 pub sound_lets_counted : (q : QueryTree) → IsSound q → AreCounted (atoms_in q.lets)

@@ -15,7 +15,7 @@ module _ (P Q : AtomTree → Type 0) (then_ : (a : AtomTree) → P a → Q a) wh
   some_then join_end h = absurd h
   some_then (join e rest) (inl h) = inl (some_then e h)
   some_then (join e rest) (inr h) = inr (some_then rest h)
-  some_then (project kept e) h = some_then e h
+  some_then (project names e) h = some_then e h
   some_then (minus e g) (inl h) = inl (some_then e h)
   some_then (minus e g) (inr h) = inr (some_then g h)
 

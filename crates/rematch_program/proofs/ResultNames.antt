@@ -47,7 +47,7 @@ module _ (V S : ℕ → VarName → Type 0) (n : ℕ) where
     name_in join_end x h v = absurd h
     name_in (join e rest) x h (inl v) = name_in e x h.0 v
     name_in (join e rest) x h (inr v) = joined_in rest x h.1 v
-    name_in (project kept e) x h v = name_in e x h.0 v
+    name_in (project names e) x h v = name_in e x h.0 v
     name_in (minus e g) x h (inl v) = name_in e x h.0 v
     name_in (minus e g) x h (inr v) = name_in g x h.1 v
 

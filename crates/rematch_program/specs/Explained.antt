@@ -20,7 +20,7 @@ atoms_of union_end = []
 atoms_of (union e rest) = atoms_of e ++ atoms_of rest
 atoms_of join_end = []
 atoms_of (join e rest) = atoms_of e ++ atoms_of rest
-atoms_of (project kept e) = atoms_of e
+atoms_of (project names e) = atoms_of e
 atoms_of (minus e g) = atoms_of e ++ atoms_of g
 
 -- the atoms of parts, from left to right

@@ -34,7 +34,7 @@ some_then P X then_ (union e rest) (inr h) = some_then P X then_ rest h
 some_then P X then_ join_end h = absurd h
 some_then P X then_ (join e rest) (inl h) = some_then P X then_ e h
 some_then P X then_ (join e rest) (inr h) = some_then P X then_ rest h
-some_then P X then_ (project kept e) h = some_then P X then_ e h
+some_then P X then_ (project names e) h = some_then P X then_ e h
 some_then P X then_ (minus e g) (inl h) = some_then P X then_ e h
 some_then P X then_ (minus e g) (inr h) = some_then P X then_ g h
 

@@ -30,7 +30,7 @@ module _ (V : ℕ → VarName → Type 0) (A : ℕ → Mapping → Type 0) (d : 
   answer_absent (union e rest) m (inr h) x out = answer_absent rest m h x (λ v. out (inr v))
   answer_absent join_end m h x out = h x
   answer_absent (join e rest) m h x out = h.6 x out
-  answer_absent (project kept e) m h x out = (h.2 x).1 out
+  answer_absent (project names e) m h x out = (h.2 x).1 out
   answer_absent (minus e g) m h x out = answer_absent e m h.0 x out
 
 pub lets_absent : (lets : List (VarName × ExprTree)) (d : List ℕ) (n k : ℕ) (m : Mapping) → answers_of_lets lets d n k m → (x : VarName) → (vars_of_lets lets n k x → ⊥) → m x ≡ None
@@ -88,7 +88,7 @@ module _ (V S : ℕ → VarName → Type 0) (A : ℕ → Mapping → Type 0) (d 
       let r = answer_sure e h.0 h.3 x v in (inl r.0, (r.1.0, sym ((h.2 x).0 r.0) ∙ r.1.1))
   answer_sure (join e rest) m h x (inr v) =
       let r = answer_sure rest h.1 h.5 x v in (inr r.0, (r.1.0, sym ((h.4 x).0 r.0) ∙ r.1.1))
-  answer_sure (project kept e) m h x v =
+  answer_sure (project names e) m h x v =
       let r = answer_sure e h.0 h.1 x v.1 in (v.0, (r.1.0, (h.2 x).0 v.0 ∙ r.1.1))
   answer_sure (minus e g) m h x v = answer_sure e m h.0 x v
 

@@ -50,7 +50,7 @@ module _ (V : ℕ → VarName → Type 0) (told : (k : ℕ) (x : VarName) → To
   told_of (union e rest) x = told_either (told_of e x) (told_of rest x)
   told_of join_end x = inr (λ h. h)
   told_of (join e rest) x = told_either (told_of e x) (told_of rest x)
-  told_of (project kept e) x = told_has kept x
+  told_of (project names e) x = told_has names x
   told_of (minus e g) x = told_of e x
 
 pub told_choice : (b : Bool) {P Q : Type 0} → Told P → Told Q → Told (MatchBool b P Q)

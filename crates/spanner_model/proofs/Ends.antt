@@ -81,9 +81,9 @@ module _ (V : ℕ → VarName → Type 0) (A : ℕ → Mapping → Type 0) (d : 
         | inr b ↦ (let le = answer_ends rest h.1 h.5 x p ((h.4 x).0 b ∙ is) in omega (arith, le, past))
       ] in
       given_not_absent (m x) p is (h.6 x outside))
-  answer_ends (project kept e) m h x p is =
+  answer_ends (project names e) m h x p is =
       by_cases (length d) p (λ past.
-      let outside : Has kept x → ⊥ = λ a. (let le = answer_ends e h.0 h.1 x p (sym ((h.2 x).0 a) ∙ is) in omega (arith, le, past)) in
+      let outside : Has names x → ⊥ = λ a. (let le = answer_ends e h.0 h.1 x p (sym ((h.2 x).0 a) ∙ is) in omega (arith, le, past)) in
       given_not_absent (m x) p is ((h.2 x).1 outside))
   answer_ends (minus e g) m h x p is = answer_ends e m h.0 x p is
 

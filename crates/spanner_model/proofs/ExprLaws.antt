@@ -29,7 +29,7 @@ var_same V W same (union e rest) x (inr h) = inr (var_same V W same rest x h)
 var_same V W same join_end x h = h
 var_same V W same (join e rest) x (inl h) = inl (var_same V W same e x h)
 var_same V W same (join e rest) x (inr h) = inr (var_same V W same rest x h)
-var_same V W same (project kept e) x h = h
+var_same V W same (project names e) x h = h
 var_same V W same (minus e g) x h = var_same V W same e x h
 
 pub turned : (V W : LetVars) → SameVars V W → SameVars W V
@@ -44,7 +44,7 @@ sure_same S T same (union e rest) x h = (sure_same S T same e x h.0, sure_same S
 sure_same S T same join_end x h = h
 sure_same S T same (join e rest) x (inl h) = inl (sure_same S T same e x h)
 sure_same S T same (join e rest) x (inr h) = inr (sure_same S T same rest x h)
-sure_same S T same (project kept e) x h = (h.0, sure_same S T same e x h.1)
+sure_same S T same (project names e) x h = (h.0, sure_same S T same e x h.1)
 sure_same S T same (minus e g) x h = sure_same S T same e x h
 
 -- and so the same expressions are sound
@@ -61,7 +61,7 @@ module _ (V W S T : LetVars) (same : SameVars V W) (sure : SameVars S T) where
   shares_same e union_end h = tt
   shares_same e (union g rest) h = tt
   shares_same e join_end h = tt
-  shares_same e (project kept g) h = tt
+  shares_same e (project names g) h = tt
   shares_same e (minus g k) h = tt
 
 -- a sound expression under n lets names the first n lets alone
@@ -73,7 +73,7 @@ mutual
   sound_under V S n (union e rest) h = (sound_under V S n e h.0, united_under V S n rest h.1)
   sound_under V S n join_end h = absurd h
   sound_under V S n (join e rest) h = (sound_under V S n e h.0, joined_under V S n rest h.1)
-  sound_under V S n (project kept e) h = sound_under V S n e h.0
+  sound_under V S n (project names e) h = sound_under V S n e h.0
   sound_under V S n (minus e g) h = (sound_under V S n e h.0, sound_under V S n g h.1)
 
   united_under : (V S : LetVars) (n : ℕ) (e : ExprTree) → AreUnited V S n e → IsUnderLets n e
@@ -181,7 +181,7 @@ mutual
   var_named V S N known n join_end x h v = absurd h
   var_named V S N known n (join e rest) x h (inl v) = elim (var_named V S N known n e x h.0 v) as (λ _. (NameIn e x ⊎ NameIn rest x) ⊎ N x) [ inl a ↦ inl (inl a) | inr b ↦ inr b ]
   var_named V S N known n (join e rest) x h (inr v) = elim (joined_named V S N known n rest x h.1 v) as (λ _. (NameIn e x ⊎ NameIn rest x) ⊎ N x) [ inl a ↦ inl (inr a) | inr b ↦ inr b ]
-  var_named V S N known n (project kept e) x h v = var_named V S N known n e x h.0 (h.1 x v).0
+  var_named V S N known n (project names e) x h v = var_named V S N known n e x h.0 (h.1 x v).0
   var_named V S N known n (minus e g) x h v = elim (var_named V S N known n e x h.0 v) as (λ _. (NameIn e x ⊎ NameIn g x) ⊎ N x) [ inl a ↦ inl (inl a) | inr b ↦ inr b ]
 
   united_named : (V S : LetVars) (N : VarName → Type 0) → ((k : ℕ) (x : VarName) → V k x → N x) → (n : ℕ) (e : ExprTree) (x : VarName) → AreUnited V S n e → VarOf V e x → NameIn e x ⊎ N x

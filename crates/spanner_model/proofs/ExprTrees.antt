@@ -24,9 +24,9 @@ expr_of-Union parts = ap expr_of (sym (rolls-Union parts)) ∙ fold-roll-Expr Ex
 pub expr_of-Join : (parts : Exprs) → expr_of (Join parts) ≡ join_all (exprs_of parts)
 expr_of-Join parts = ap expr_of (sym (rolls-Join parts)) ∙ fold-roll-Expr ExprTree (List ExprTree) node_expr part_exprs (Expr-F.Join parts)
 
-pub expr_of-Project : (kept : List (List ℕ)) (sub : Box Expr Global) → expr_of (Project kept sub) ≡ project kept (expr_of sub.value)
-expr_of-Project kept sub =
-    ap expr_of (sym (rolls-Project kept sub)) ∙ fold-roll-Expr ExprTree (List ExprTree) node_expr part_exprs (Expr-F.Project kept sub)
+pub expr_of-Project : (names : List (List ℕ)) (sub : Box Expr Global) → expr_of (Project names sub) ≡ project names (expr_of sub.value)
+expr_of-Project names sub =
+    ap expr_of (sym (rolls-Project names sub)) ∙ fold-roll-Expr ExprTree (List ExprTree) node_expr part_exprs (Expr-F.Project names sub)
 
 pub expr_of-Minus : (left right : Box Expr Global) → expr_of (Minus left right) ≡ minus (expr_of left.value) (expr_of right.value)
 expr_of-Minus left right =

@@ -71,7 +71,7 @@ first_var V e union_end x agree (inr b) = absurd b
 first_var V e (union g r) x agree (inr b) = (agree x).1 b
 first_var V e join_end x agree (inr b) = (agree x).1 b
 first_var V e (join g r) x agree (inr b) = (agree x).1 b
-first_var V e (project kept g) x agree (inr b) = (agree x).1 b
+first_var V e (project names g) x agree (inr b) = (agree x).1 b
 first_var V e (minus g k) x agree (inr b) = (agree x).1 b
 
 module _ (V S : ℕ → VarName → Type 0) (lets_sure : (k : ℕ) (x : VarName) → V k x → S k x) where
@@ -82,7 +82,7 @@ module _ (V S : ℕ → VarName → Type 0) (lets_sure : (k : ℕ) (x : VarName)
   parts_sure e (union g r) x agree v go = go ((agree x).0 v)
   parts_sure e join_end x agree v go = go ((agree x).0 v)
   parts_sure e (join g r) x agree v go = go ((agree x).0 v)
-  parts_sure e (project kept g) x agree v go = go ((agree x).0 v)
+  parts_sure e (project names g) x agree v go = go ((agree x).0 v)
   parts_sure e (minus g k) x agree v go = go ((agree x).0 v)
 
   mutual
@@ -96,7 +96,7 @@ module _ (V S : ℕ → VarName → Type 0) (lets_sure : (k : ℕ) (x : VarName)
     functional_gives n join_end ok x v = absurd v
     functional_gives n (join e rest) ok x (inl v) = inl (functional_gives n e ok.0 x v)
     functional_gives n (join e rest) ok x (inr v) = inr (joined_sure n rest ok.1 x v)
-    functional_gives n (project kept e) ok x v = (v, functional_gives n e ok.0 x (ok.1 x v).0)
+    functional_gives n (project names e) ok x v = (v, functional_gives n e ok.0 x (ok.1 x v).0)
     functional_gives n (minus e g) ok x v = functional_gives n e ok.0 x v
 
     united_sure : (n : ℕ) (e : ExprTree) → AreUnitedEqual V n e → (x : VarName) → VarOf V e x → SureOf S e x
@@ -125,7 +125,7 @@ module _ (V S : ℕ → VarName → Type 0) (lets_sure : (k : ℕ) (x : VarName)
     sound n (union e rest) ok = (sound n e ok.0, united_sound n rest ok.1, ok.2)
     sound n join_end ok = ok
     sound n (join e rest) ok = (sound n e ok.0, joined_sound n rest ok.1, ok.2, shares n e rest ok.0 ok.1)
-    sound n (project kept e) ok = (sound n e ok.0, ok.1, ok.2)
+    sound n (project names e) ok = (sound n e ok.0, ok.1, ok.2)
     sound n (minus e g) ok = (sound n e ok.0, sound n g ok.1, ok.2)
 
     united_sound : (n : ℕ) (e : ExprTree) → AreUnitedEqual V n e → AreUnited V S n e
@@ -189,7 +189,7 @@ module _ (V S : ℕ → VarName → Type 0) (A T : ℕ → Mapping → Type 0) (
     total_answers n (union e rest) m ok (inr h) = inr (united_answers n rest m ok.1 h)
     total_answers n join_end m ok h = absurd ok
     total_answers n (join e rest) m ok h = (h.0, h.1, h.2, total_answers n e h.0 ok.0 h.3, h.4, joined_answers n rest h.1 ok.1 h.5, h.6.1)
-    total_answers n (project kept e) m ok h = (h.0, total_answers n e h.0 ok.0 h.1, h.2)
+    total_answers n (project names e) m ok h = (h.0, total_answers n e h.0 ok.0 h.1, h.2)
     total_answers n (minus e g) m ok h = (total_answers n e m ok.0 h.0, λ r. h.1 (answers_total n g m ok.1 r))
 
     united_answers : (n : ℕ) (e : ExprTree) (m : Mapping) → AreUnitedEqual V n e → TotalAnswer V T d e m → Answer V A d e m
@@ -214,7 +214,7 @@ module _ (V S : ℕ → VarName → Type 0) (A T : ℕ → Mapping → Type 0) (
         let exactly : HasExactly (λ x. VarOf V e x ⊎ VarOf V rest x) m =
         (λ x v. (answer_sure V S A d given (join e rest) m h x (functional_gives V S all_sure n (join e rest) ok x v)).1, h.6) in
         (h.0, h.1, h.2, answers_total n e h.0 ok.0 h.3, h.4, joined_total n rest h.1 ok.1 h.5, exactly)
-    answers_total n (project kept e) m ok h = (h.0, answers_total n e h.0 ok.0 h.1, h.2)
+    answers_total n (project names e) m ok h = (h.0, answers_total n e h.0 ok.0 h.1, h.2)
     answers_total n (minus e g) m ok h = (answers_total n e m ok.0 h.0, λ r. h.1 (total_answers n g m ok.1 r))
 
     united_total : (n : ℕ) (e : ExprTree) (m : Mapping) → AreUnitedEqual V n e → Answer V A d e m → TotalAnswer V T d e m

@@ -22,5 +22,5 @@ expr_nodes union_end = 0
 expr_nodes (union e rest) = 1 + expr_nodes e + expr_nodes rest
 expr_nodes join_end = 0
 expr_nodes (join e rest) = 1 + expr_nodes e + expr_nodes rest
-expr_nodes (project kept e) = 1 + expr_nodes e
+expr_nodes (project names e) = 1 + expr_nodes e
 expr_nodes (minus e g) = 1 + expr_nodes e + expr_nodes g

@@ -17,7 +17,7 @@ VarOf V union_end x = ⊥
 VarOf V (union e rest) x = VarOf V e x ⊎ VarOf V rest x
 VarOf V join_end x = ⊥
 VarOf V (join e rest) x = VarOf V e x ⊎ VarOf V rest x
-VarOf V (project kept e) x = Has kept x
+VarOf V (project names e) x = Has names x
 VarOf V (minus e g) x = VarOf V e x
 
 -- n is m on these variables, and elsewhere absent
@@ -44,7 +44,7 @@ module _ (V : ℕ → VarName → Type 0) (A : ℕ → Mapping → Type 0) (d : 
       × IsRestriction (VarOf V e) m n1 × Answer e n1
       × IsRestriction (VarOf V rest) m n2 × Answer rest n2
       × ((x : VarName) → (VarOf V e x ⊎ VarOf V rest x → ⊥) → m x ≡ None)
-  Answer (project kept e) m = (n : Mapping) × Answer e n × IsRestriction (Has kept) n m
+  Answer (project names e) m = (n : Mapping) × Answer e n × IsRestriction (Has names) n m
   Answer (minus e g) m = Answer e m × ¬ Answer g m
 
 -- the variables of the first n lets, by number: of each its own, under the lets before it

@@ -16,7 +16,7 @@ node_expr (Expr-F.Atom a) = atom (atom_of a)
 node_expr (Expr-F.Named k) = named k
 node_expr (Expr-F.Union parts) = union_all parts
 node_expr (Expr-F.Join parts) = join_all parts
-node_expr (Expr-F.Project kept sub) = project kept sub.value
+node_expr (Expr-F.Project names sub) = project names sub.value
 node_expr (Expr-F.Minus left right) = minus left.value right.value
 
 abbrev pub part_exprs : Exprs-F ExprTree (List ExprTree) → List ExprTree

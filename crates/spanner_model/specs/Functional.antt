@@ -48,8 +48,8 @@ abbrev mutual
   IsFunctionalExpr V n (union e rest) = IsFunctionalExpr V n e × AreUnitedEqual V n rest × ¬ (rest ≡ union_end) × AgreesWithParts V e rest
   IsFunctionalExpr V n join_end = ⊥
   IsFunctionalExpr V n (join e rest) = IsFunctionalExpr V n e × AreJoinedFunctional V n rest × ¬ (rest ≡ join_end)
-  IsFunctionalExpr V n (project kept e) =
-      IsFunctionalExpr V n e × ((x : VarName) → Has kept x → VarOf V e x × IsFreeName x) × Ascending kept
+  IsFunctionalExpr V n (project names e) =
+      IsFunctionalExpr V n e × ((x : VarName) → Has names x → VarOf V e x × IsFreeName x) × Ascending names
   IsFunctionalExpr V n (minus e g) = IsFunctionalExpr V n e × IsFunctionalExpr V n g × ((x : VarName) → VarOf V e x ↔ VarOf V g x)
 
   -- the parts that follow one of a union
@@ -93,7 +93,7 @@ module _ (V : ℕ → VarName → Type 0) (A : ℕ → Mapping → Type 0) (d : 
       × IsRestriction (VarOf V e) m n1 × TotalAnswer e n1
       × IsRestriction (VarOf V rest) m n2 × TotalAnswer rest n2
       × HasExactly (λ x. VarOf V e x ⊎ VarOf V rest x) m
-  TotalAnswer (project kept e) m = (n : Mapping) × TotalAnswer e n × IsRestriction (Has kept) n m
+  TotalAnswer (project names e) m = (n : Mapping) × TotalAnswer e n × IsRestriction (Has names) n m
   TotalAnswer (minus e g) m = TotalAnswer e m × ¬ TotalAnswer g m
 
 -- the answers of the first n lets, by number

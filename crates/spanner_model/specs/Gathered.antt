@@ -35,5 +35,5 @@ IsUnderLets n union_end = Unit {0}
 IsUnderLets n (union e rest) = IsUnderLets n e × IsUnderLets n rest
 IsUnderLets n join_end = Unit {0}
 IsUnderLets n (join e rest) = IsUnderLets n e × IsUnderLets n rest
-IsUnderLets n (project kept e) = IsUnderLets n e
+IsUnderLets n (project names e) = IsUnderLets n e
 IsUnderLets n (minus e g) = IsUnderLets n e × IsUnderLets n g

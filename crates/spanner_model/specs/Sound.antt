@@ -29,7 +29,7 @@ SureOf S union_end x = Unit {0}
 SureOf S (union e rest) x = SureOf S e x × SureOf S rest x
 SureOf S join_end x = ⊥
 SureOf S (join e rest) x = SureOf S e x ⊎ SureOf S rest x
-SureOf S (project kept e) x = Has kept x × SureOf S e x
+SureOf S (project names e) x = Has names x × SureOf S e x
 SureOf S (minus e g) x = SureOf S e x
 
 -- the sure variables of the first n lets, by number: of each its own, under the lets before it
@@ -60,7 +60,7 @@ module _ (V S : ℕ → VarName → Type 0) where
     IsSoundExpr n (union e rest) = IsSoundExpr n e × AreUnited n rest × ¬ (rest ≡ union_end)
     IsSoundExpr n join_end = ⊥
     IsSoundExpr n (join e rest) = IsSoundExpr n e × AreJoined n rest × ¬ (rest ≡ join_end) × SharesSure e rest
-    IsSoundExpr n (project kept e) = IsSoundExpr n e × ((x : VarName) → Has kept x → VarOf V e x × IsFreeName x) × Ascending kept
+    IsSoundExpr n (project names e) = IsSoundExpr n e × ((x : VarName) → Has names x → VarOf V e x × IsFreeName x) × Ascending names
     IsSoundExpr n (minus e g) = IsSoundExpr n e × IsSoundExpr n g × ((x : VarName) → VarOf V e x ↔ VarOf V g x)
 
     -- the parts that follow one of a union
@@ -83,7 +83,7 @@ expr_nesting union_end = 1
 expr_nesting (union e rest) = max (suc (expr_nesting e)) (expr_nesting rest)
 expr_nesting join_end = 1
 expr_nesting (join e rest) = max (suc (expr_nesting e)) (expr_nesting rest)
-expr_nesting (project kept e) = suc (expr_nesting e)
+expr_nesting (project names e) = suc (expr_nesting e)
 expr_nesting (minus e g) = suc (max (expr_nesting e) (expr_nesting g))
 
 -- a sound expression under the first n lets, in which not too many stand inside each other
@@ -98,7 +98,7 @@ NameIn union_end x = ⊥
 NameIn (union e rest) x = NameIn e x ⊎ NameIn rest x
 NameIn join_end x = ⊥
 NameIn (join e rest) x = NameIn e x ⊎ NameIn rest x
-NameIn (project kept e) x = NameIn e x
+NameIn (project names e) x = NameIn e x
 NameIn (minus e g) x = NameIn e x ⊎ NameIn g x
 
 abbrev pub NameInLets : List (VarName × ExprTree) → VarName → Type 0

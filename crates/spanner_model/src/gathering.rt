@@ -110,7 +110,7 @@ fn gather_expr(expr: &Expr, known: &[VarSet], into: &mut VarSet) -> bool
         Expr::Atom(atom) => gather_formula(&atom.formula, into),
         Expr::Named(k) => gather_all(&known[*k as usize], into),
         Expr::Union(parts) | Expr::Join(parts) => gather_exprs(parts, known, into),
-        Expr::Project(kept, _) => gather_all(kept, into),
+        Expr::Project(names, _) => gather_all(names, into),
         Expr::Minus(left, _) => gather_expr(left, known, into),
     }
 }

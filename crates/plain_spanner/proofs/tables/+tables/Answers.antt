@@ -92,17 +92,17 @@ expr_table-returns-in-Join t c =
 
 pub expr_table-expr_table-requires : goal.expr_table-expr_table-requires
 expr_table-expr_table-requires t c =
-    let e = ap expr_of c.in-Project.is ∙ expr_of-Project c.in-Project.kept c.in-Project.sub ∙ ap (λ x. project c.in-Project.kept (expr_of x)) (sym c.deref.ensures) in
+    let e = ap expr_of c.in-Project.is ∙ expr_of-Project c.in-Project.names c.in-Project.sub ∙ ap (λ x. project c.in-Project.names (expr_of x)) (sym c.deref.ensures) in
     let size = ap expr_nodes e in
     let a = subst (IsAsked (query_of c.args.query.now) (length c.args.tables.now)) e c.requires.asked in
-    (omega (arith, size), (c.requires.known, (asked_sub (query_of c.args.query.now) (length c.args.tables.now) c.in-Project.kept (expr_of c.deref.result.now) a, c.requires.short)))
+    (omega (arith, size), (c.requires.known, (asked_sub (query_of c.args.query.now) (length c.args.tables.now) c.in-Project.names (expr_of c.deref.result.now) a, c.requires.short)))
 
 pub expr_table-over-requires-in-Project : goal.expr_table-over-requires-in-Project
 expr_table-over-requires-in-Project t c =
     let q = query_of c.args.query.now in
     let n = length c.args.tables.now in
     let g = expr_of c.deref.result.now in
-    let e = ap expr_of c.in-Project.is ∙ expr_of-Project c.in-Project.kept c.in-Project.sub ∙ ap (λ x. project c.in-Project.kept (expr_of x)) (sym c.deref.ensures) in
+    let e = ap expr_of c.in-Project.is ∙ expr_of-Project c.in-Project.names c.in-Project.sub ∙ ap (λ x. project c.in-Project.names (expr_of x)) (sym c.deref.ensures) in
     let u = c.in_ok-inner-in-Project.inner in
     rows_of_table (VarOf (vars_of_lets q.lets n) g) (Answer (vars_of_lets q.lets n) (answers_of_lets q.lets c.args.doc.now n) c.args.doc.now g) u.names u.rows.items c.in_ok-inner-in-Project.ensures
 
@@ -112,19 +112,19 @@ expr_table-returns-in_ok-inner-in-Project t c =
     let d = c.args.doc.now in
     let n = length c.args.tables.now in
     let g = expr_of c.deref.result.now in
-    let kept = c.in-Project.kept in
-    let e = ap expr_of c.in-Project.is ∙ expr_of-Project kept c.in-Project.sub ∙ ap (λ x. project kept (expr_of x)) (sym c.deref.ensures) in
+    let names = c.in-Project.names in
+    let e = ap expr_of c.in-Project.is ∙ expr_of-Project names c.in-Project.sub ∙ ap (λ x. project names (expr_of x)) (sym c.deref.ensures) in
     let a = subst (IsAsked q n) e c.requires.asked in
     let u = c.in_ok-inner-in-Project.inner in
     let known = c.in_ok-inner-in-Project.ensures in
-    let in_names = λ (x : VarName) (h : Has kept x). (known.named x).1 (a.sound_expr.1 x h).0 in
+    let in_names = λ (x : VarName) (h : Has names x). (known.named x).1 (a.sound_expr.1 x h).0 in
     subst (λ (w : ExprTree). IfOk c.over-in-Project.result (λ t. IsTableOf q d n w t.names t.rows.items)) (sym e)
-    (ok_both c.over-in-Project.result (λ (t : Table). t.names ≡ kept) (λ (t : Table). Tells (Has t.rows.items) (FromSome (IsRowOver u.names kept) u.rows.items)) (λ (t : Table). IsTableOf q d n (project kept g) t.names t.rows.items)
-    (λ t same rows. subst (λ (ns : List VarName). IsTableOf q d n (project kept g) ns t.rows.items) (sym same)
+    (ok_both c.over-in-Project.result (λ (t : Table). t.names ≡ names) (λ (t : Table). Tells (Has t.rows.items) (FromSome (IsRowOver u.names names) u.rows.items)) (λ (t : Table). IsTableOf q d n (project names g) t.names t.rows.items)
+    (λ t same rows. subst (λ (ns : List VarName). IsTableOf q d n (project names g) ns t.rows.items) (sym same)
     (record {
       ascending = c.over-in-Project.ensures.ascending;
       named = λ x. (λ h. h, λ h. h);
-      listed = kept_listed (Answer (vars_of_lets q.lets n) (answers_of_lets q.lets d n) d g) u.names kept u.rows.items (Has t.rows.items) in_names known.listed rows;
+      listed = kept_listed (Answer (vars_of_lets q.lets n) (answers_of_lets q.lets d n) d g) u.names names u.rows.items (Has t.rows.items) in_names known.listed rows;
     }))
     c.over-in-Project.ensures.names c.over-in-Project.ensures.rows)
 

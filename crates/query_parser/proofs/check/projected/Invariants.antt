@@ -7,6 +7,6 @@ use Rattle.query_parser.proofs.check.projected.Given as goal
 
 abbrev pub invariant-loop-k : goal.invariant-loop-k
 invariant-loop-k l = record {
-  vars : Adds [] (Has (take l.k l.kept)) (members l.names l.vars);
-  known : (x : VarName) → Has (take l.k l.kept) x → Has (members l.names l.bound.vars) x;
+  vars : Adds [] (Has (take l.k l.keep)) (members l.names l.vars);
+  known : (x : VarName) → Has (take l.k l.keep) x → Has (members l.names l.bound.vars) x;
 }

@@ -88,6 +88,6 @@ push_join-returns-clause-ok t c =
 
 pub push_projection-returns-clause-ok : goal.push_projection-returns-clause-ok
 push_projection-returns-clause-ok t c =
-    five_on c.push_bytes-3.result c.args.out.now.items (codes "project ") (keep_text c.args.kept.now) (codes " (") (printed (names_of (lets_of c.args.lets.now)) (expr_of c.args.sub.now)) (41 ∷ [])
+    five_on c.push_bytes-3.result c.args.out.now.items (codes "project ") (keep_text c.args.names.now) (codes " (") (printed (names_of (lets_of c.args.lets.now)) (expr_of c.args.sub.now)) (41 ∷ [])
     c.push_bytes.new.out.items c.push_keep.new.out.items c.push_bytes-2.new.out.items c.push_expr.new.out.items c.push_bytes-3.new.out.items c.in_ok-push_bytes.ensures.ok c.in_ok-push_keep.ensures.ok
     c.in_ok-push_bytes-2.ensures.ok c.in_ok-push_expr.ensures.ok c.push_bytes-3.ensures.ok

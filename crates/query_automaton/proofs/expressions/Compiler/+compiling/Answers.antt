@@ -38,23 +38,23 @@ pub expression-projected-requires : goal.expression-projected-requires
 expression-projected-requires t c =
     let b = c.args.self.now in
     let q = query_of b.query in
-    let kept = c.in-Project.kept in
-    let e = ap expr_of c.in-Project.is ∙ (expr_of-Project kept c.in-Project.sub ∙ ap (λ x. project kept (expr_of x)) (sym c.deref.ensures)) in
+    let names = c.in-Project.names in
+    let e = ap expr_of c.in-Project.is ∙ (expr_of-Project names c.in-Project.sub ∙ ap (λ x. project names (expr_of x)) (sym c.deref.ensures)) in
     let inner = c.in_ok-inner-in-Project in
     let can = subst (CanCompile b) e c.requires in
-    kept_there q b.lets can.known kept (expr_of c.deref.result.now) can.asked inner.inner inner.ensures.made
+    kept_there q b.lets can.known names (expr_of c.deref.result.now) can.asked inner.inner inner.ensures.made
 
 pub expression-returns-in_ok-projected-in-Project-clause-made : goal.expression-returns-in_ok-projected-in-Project-clause-made
 expression-returns-in_ok-projected-in-Project-clause-made t c =
     let b = c.args.self.now in
     let q = query_of b.query in
-    let kept = c.in-Project.kept in
-    let e = ap expr_of c.in-Project.is ∙ (expr_of-Project kept c.in-Project.sub ∙ ap (λ x. project kept (expr_of x)) (sym c.deref.ensures)) in
+    let names = c.in-Project.names in
+    let e = ap expr_of c.in-Project.is ∙ (expr_of-Project names c.in-Project.sub ∙ ap (λ x. project names (expr_of x)) (sym c.deref.ensures)) in
     let inner = c.in_ok-inner-in-Project in
     let can = subst (CanCompile b) e c.requires in
     let p = c.in_ok-projected-in-Project in
     subst (λ (w : ExprTree). IsCompiledIn b w p.field-0) (sym e)
-    (projected q b.lets can.known kept (expr_of c.deref.result.now) can.asked inner.inner inner.ensures.made p.field-0 p.ensures.names p.ensures.reduct)
+    (projected q b.lets can.known names (expr_of c.deref.result.now) can.asked inner.inner inner.ensures.made p.field-0 p.ensures.names p.ensures.reduct)
 
 -- ---- a difference
 
