@@ -11,7 +11,7 @@ use Rattle.spanner_model.specs.Fit.{Piece, Then, Nothing, Times, Fit}
 use Rattle.spanner_model.specs.Sequential.{HasVar, IsSequential}
 use Rattle.spanner_model.proofs.FitLaws.{fit_only_vars, fit_le, fit_within}
 use Rattle.span_core.proofs.HasLaws.{Has-append_left, Has-append_right, Has-append_cases}
-use Rattle.plain_spanner.specs.Listed.{Tells, FromSome, EndAndCaptures, CapturesAndEnds, HasFit, Continued, AreWithin, LeadsOn, CapturedTo, CapturedAt, CapturedFrom}
+use Rattle.plain_spanner.specs.Listed.{Tells, FromSome, EndAndCaptures, CapturesAndEnds, HasFit, Continued, EndWithin, LeadsOn, CapturedTo, CapturedAt, CapturedFrom}
 use Rattle.plain_spanner.proofs.PartLists.{one_part, part_one, arm_of, of_arm, parts_apart}
 
 -- ---- branches
@@ -95,7 +95,7 @@ module _ (A : EndAndCaptures → Type 0) (P Q R : Piece) (to : (i j : ℕ) (m : 
   }
 
 pub go_within : (A : EndAndCaptures → Type 0) (P : Piece) (n : ℕ) (xs : List CapturesAndEnds) → ((i j : ℕ) (m : Captures) → i ≤ n → P i j m → j ≤ n) → ((f : EndAndCaptures) → A f → f.0 ≤ n) →
-    Tells (HasFit xs) (Continued A P) → AreWithin n xs
+    Tells (HasFit xs) (Continued A P) → EndWithin n xs
 go_within A P n xs stays within all f h = let a = all.each_so f h in stays a.0 f.0 a.2 (within (a.0, a.1) a.3) a.4
 
 -- ---- parts, arms and captures
@@ -229,7 +229,7 @@ spanned x i j m0 m1 s start end = record {
 }
 
 -- the fit of nothing at a place
-pub here_within : (place n : ℕ) → place ≤ n → AreWithin n (([], place ∷ []) ∷ [])
+pub here_within : (place n : ℕ) → place ≤ n → EndWithin n (([], place ∷ []) ∷ [])
 here_within place n le f h =
     let o = of_branch [] (place ∷ []) f h in
     let e : place ≡ f.0 = elim o.1 as (λ _. place ≡ f.0) [ inl e ↦ e | inr no_more ↦ absurd no_more ] in

@@ -21,7 +21,7 @@ use Rattle.spanner_model.proofs.GatheredLaws.{gathered_name, gathered_all}
 use Rattle.spanner_model.proofs.CapturesLaws.{row_same_on}
 use Rattle.spanner_model.proofs.NameLaws.{list_any-Has, Has-list_any}
 use Rattle.plain_spanner.specs.Listed.{Tells, FromSome}
-use Rattle.plain_spanner.specs.Tables.{IsRowOf, row_over, Meet, merged, IsJoined, JoinsWith, JoinsRow, IsPlaceOf}
+use Rattle.plain_spanner.specs.Tables.{IsRowOf, row_over, Meet, merged, IsJoined, JoinsWith, JoinsRow, HasKeyAt}
 use Rattle.plain_spanner.proofs.RowLaws.{row_eq_exact, mapping_of-row_of}
 
 -- ---- names in turn
@@ -147,7 +147,7 @@ rows_joined names V W lefts rights H all = record {
 
 -- the places that were found for a row's key are those of the rows that it meets
 pub joins_found : (names V W shared : List VarName) (rights : List SpanRow) (a : SpanRow) (places : List ℕ) → ((x : VarName) → Has shared x ↔ (Has V x × Has W x)) →
-    ((p : ℕ) → Has places p ↔ IsPlaceOf W shared rights (row_over V shared a) p) → Tells (FromSome (JoinsWith names V W a rights) places) (JoinsRow names V W rights a)
+    ((p : ℕ) → Has places p ↔ HasKeyAt W shared rights (row_over V shared a) p) → Tells (FromSome (JoinsWith names V W a rights) places) (JoinsRow names V W rights a)
 joins_found names V W shared rights a places are found = record {
   each_so = λ r h.
       let j = h.2 in
@@ -164,7 +164,7 @@ joins_found names V W shared rights a places are found = record {
     row_is x y e = cc
 
 pub joins_nothing : (names V W shared : List VarName) (rights : List SpanRow) (a : SpanRow) → ((x : VarName) → Has shared x ↔ (Has V x × Has W x)) →
-    ((p : ℕ) → IsPlaceOf W shared rights (row_over V shared a) p → ⊥) → (r : SpanRow) → JoinsRow names V W rights a r → ⊥
+    ((p : ℕ) → HasKeyAt W shared rights (row_over V shared a) p → ⊥) → (r : SpanRow) → JoinsRow names V W rights a r → ⊥
 joins_nothing names V W shared rights a are none r h =
     let p = place_of-Has rights h.0 h.1 in none p.0 (h.0, p.2, sym (key_of_meet V W shared a h.0 are h.2))
 
@@ -251,10 +251,10 @@ module _ {X : Type 0} (items : X → List ℕ) where
 
 -- one row more whose place is kept under its key
 pub places_of_more : (names key_names : List VarName) (rows : List SpanRow) (k : ℕ) (row key : SpanRow) (Old New : SpanRow → ℕ → Type 0) → slice_get rows k ≡ Some row → key ≡ row_over names key_names row →
-    ((q : SpanRow) (p : ℕ) → Old q p ↔ ((p < k) × IsPlaceOf names key_names rows q p)) → ((q : SpanRow) (p : ℕ) → New q p ↔ (Old q p ⊎ ((key ≡ q) × (k ≡ p)))) →
-    (q : SpanRow) (p : ℕ) → New q p ↔ ((p < k + 1) × IsPlaceOf names key_names rows q p)
+    ((q : SpanRow) (p : ℕ) → Old q p ↔ ((p < k) × HasKeyAt names key_names rows q p)) → ((q : SpanRow) (p : ℕ) → New q p ↔ (Old q p ⊎ ((key ≡ q) × (k ≡ p)))) →
+    (q : SpanRow) (p : ℕ) → New q p ↔ ((p < k + 1) × HasKeyAt names key_names rows q p)
 places_of_more names key_names rows k row key Old New at is old new q p = (
-  λ h. elim ((new q p).0 h) as (λ _. (p < k + 1) × IsPlaceOf names key_names rows q p) [
+  λ h. elim ((new q p).0 h) as (λ _. (p < k + 1) × HasKeyAt names key_names rows q p) [
     | inl o ↦ (let a = (old q p).0 o in let l = a.0 in (omega arith, a.1))
     | inr e ↦ (omega (arith, e.1), (row, subst (λ n. slice_get rows n ≡ Some row) e.1 at, sym is ∙ e.0))
   ],

@@ -53,8 +53,8 @@ Continued A P fit =
     (k : ℕ) × (m1 : Captures) × (m2 : Captures) × A (k, m1) × P k fit.0 m2 × (fit.1 ≡ m1 ++ m2)
 
 -- the fits of all branches end in the document, which has n bytes
-abbrev pub AreWithin : ℕ → List CapturesAndEnds → Type 0
-AreWithin n branches = (fit : EndAndCaptures) → HasFit branches fit → fit.0 ≤ n
+abbrev pub EndWithin : ℕ → List CapturesAndEnds → Type 0
+EndWithin n branches = (fit : EndAndCaptures) → HasFit branches fit → fit.0 ≤ n
 
 -- after the captures m0 a capture from i to j, in which m1 is captured
 abbrev pub CapturedTo : VarName → ℕ → Captures → Captures → ℕ → EndAndCaptures → Type 0

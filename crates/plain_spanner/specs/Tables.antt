@@ -61,8 +61,8 @@ abbrev pub AreRows : List VarName → List SpanRow → Type 0
 AreRows names rows = (r : SpanRow) → Has rows r → length r ≡ length names
 
 -- the row at this place has the key
-abbrev pub IsPlaceOf : List VarName → List VarName → List SpanRow → SpanRow → ℕ → Type 0
-IsPlaceOf names key_names rows key p = (r : SpanRow) × (slice_get rows p ≡ Some r) × (row_over names key_names r ≡ key)
+abbrev pub HasKeyAt : List VarName → List VarName → List SpanRow → SpanRow → ℕ → Type 0
+HasKeyAt names key_names rows key p = (r : SpanRow) × (slice_get rows p ≡ Some r) × (row_over names key_names r ≡ key)
 
 -- the row over these names of a and of the row at a place
 abbrev pub JoinsWith : List VarName → List VarName → List VarName → SpanRow → List SpanRow → ℕ → SpanRow → Type 0

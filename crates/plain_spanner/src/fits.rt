@@ -7,7 +7,7 @@ ghost use Rattle.spanner_model.specs.Tree.{Tree, rep, cap, cat_all, alt_all};
 ghost use Rattle.spanner_model.specs.Fit.{Fit};
 ghost use Rattle.spanner_model.specs.WellBuilt.{IsWellBuilt};
 ghost use Rattle.spanner_model.specs.Sequential.{IsSequential, HasNoVar};
-ghost use Rattle.plain_spanner.specs.Listed.{Tells, FromSome, HasFit, Continued, AreWithin, EndAndCaptures, CapturedFrom, CapturedAt};
+ghost use Rattle.plain_spanner.specs.Listed.{Tells, FromSome, HasFit, Continued, EndWithin, EndAndCaptures, CapturedFrom, CapturedAt};
 
 use crate::MOST_DOCUMENT_BYTES;
 use crate::bare::{are_bare, is_bare};
@@ -80,7 +80,7 @@ pub fn go_on(
     requires built { IsWellBuilt (tree_of formula.now) }
     requires sequential { IsSequential (tree_of formula.now) }
     requires short { length doc.now ≤ MOST_DOCUMENT_BYTES }
-    requires within { AreWithin (length doc.now) firsts.now }
+    requires within { EndWithin (length doc.now) firsts.now }
     ensures { IfOk result (λ v. Tells (HasFit v.items) (Continued (HasFit firsts.now) (Fit (tree_of formula.now) doc.now))) }
 {
     match formula {
@@ -114,7 +114,7 @@ fn go_on_bare(
     requires built { IsWellBuilt (tree_of formula.now) }
     requires bare { HasNoVar (tree_of formula.now) }
     requires short { length doc.now ≤ MOST_DOCUMENT_BYTES }
-    requires within { AreWithin (length doc.now) firsts.now }
+    requires within { EndWithin (length doc.now) firsts.now }
     ensures { IfOk result (λ v. Tells (HasFit v.items) (Continued (HasFit firsts.now) (Fit (tree_of formula.now) doc.now))) }
 {
     let mut all = Vec::new(alloc);
@@ -154,7 +154,7 @@ fn in_turn(
     requires built { (t : Tree) → Has (trees_of parts.now) t → IsWellBuilt t }
     requires sequential { IsSequential (cat_all (trees_of parts.now)) }
     requires short { length doc.now ≤ MOST_DOCUMENT_BYTES }
-    requires within { AreWithin (length doc.now) firsts.now }
+    requires within { EndWithin (length doc.now) firsts.now }
     ensures { IfOk result (λ v. Tells (HasFit v.items) (Continued (HasFit firsts.now) (Fit (cat_all (trees_of parts.now)) doc.now))) }
 {
     let mut reached = copies(alloc, firsts)?;
@@ -188,7 +188,7 @@ fn by_arms(
     requires built { (t : Tree) → Has (trees_of parts.now) t → IsWellBuilt t }
     requires sequential { IsSequential (alt_all (trees_of parts.now)) }
     requires short { length doc.now ≤ MOST_DOCUMENT_BYTES }
-    requires within { AreWithin (length doc.now) firsts.now }
+    requires within { EndWithin (length doc.now) firsts.now }
     ensures { IfOk result (λ v. Tells (HasFit v.items) (Continued (HasFit firsts.now) (Fit (alt_all (trees_of parts.now)) doc.now))) }
 {
     let mut all = Vec::new(alloc);
@@ -212,7 +212,7 @@ fn once_at_most(
     requires sequential { IsSequential (tree_of sub.now) }
     requires once { least ≤ 1 }
     requires short { length doc.now ≤ MOST_DOCUMENT_BYTES }
-    requires within { AreWithin (length doc.now) firsts.now }
+    requires within { EndWithin (length doc.now) firsts.now }
     ensures { IfOk result (λ v. Tells (HasFit v.items) (Continued (HasFit firsts.now) (Fit (rep (tree_of sub.now) least (Some 1)) doc.now))) }
 {
     let mut all = go_on(alloc, sub, doc, firsts)?;
@@ -236,7 +236,7 @@ fn captured(
     requires built { IsWellBuilt (tree_of sub.now) }
     requires sequential { IsSequential (cap name.now (tree_of sub.now)) }
     requires short { length doc.now ≤ MOST_DOCUMENT_BYTES }
-    requires within { AreWithin (length doc.now) firsts.now }
+    requires within { EndWithin (length doc.now) firsts.now }
     ensures { IfOk result (λ v. Tells (HasFit v.items) (Continued (HasFit firsts.now) (Fit (cap name.now (tree_of sub.now)) doc.now))) }
 {
     let mut all = Vec::new(alloc);

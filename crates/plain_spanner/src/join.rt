@@ -10,7 +10,7 @@ ghost use Rattle.spanner_model.specs.Captures.{row_of};
 ghost use Rattle.spanner_model.specs.Answers.{SpanRow};
 ghost use Rattle.spanner_model.specs.Gathered.{Adds, HaveRoom};
 ghost use Rattle.plain_spanner.specs.Listed.{Tells, FromSome};
-ghost use Rattle.plain_spanner.specs.Tables.{AreRows, row_over, IsJoined, merged, IsPlaceOf, JoinsWith, JoinsRow};
+ghost use Rattle.plain_spanner.specs.Tables.{AreRows, row_over, IsJoined, merged, HasKeyAt, JoinsWith, JoinsRow};
 
 use crate::table::{Table, row_with, span_in};
 use span_core::{MOST_VARIABLES, Name, OutOfMemory, Row, Span, VarSet};
@@ -88,7 +88,7 @@ fn places_by_key(
 ) -> Result<BTreeMap<Row, Vec<usize>>, OutOfMemory>
     requires { AreRows table.now.names table.now.rows.items }
     ensures { IfOk result (λ m. (key : SpanRow) (p : ℕ) → IsSomeAnd (get row_cmp m key) (λ v. Has v.items p)
-        ↔ IsPlaceOf table.now.names key_names.now table.now.rows.items key p) }
+        ↔ HasKeyAt table.now.names key_names.now table.now.rows.items key p) }
 {
     let mut places = BTreeMap::new(alloc);
     for (place, row) in table.rows.iter().enumerate() {
@@ -128,7 +128,7 @@ fn add_joins(
     requires right { AreRows right.now.names right.now.rows.items }
     requires shared { (x : VarName) → Has shared.now x ↔ (Has left_names.now x × Has right.now.names x) }
     requires places { (key : SpanRow) (p : ℕ) → IsSomeAnd (get row_cmp places.now key) (λ v. Has v.items p)
-        ↔ IsPlaceOf right.now.names shared.now right.now.rows.items key p }
+        ↔ HasKeyAt right.now.names shared.now right.now.rows.items key p }
     ensures { OnOk result (Tells (Has rows.new.items) (λ r. Has rows.old.items r
         ⊎ JoinsRow names.now left_names.now right.now.names right.now.rows.items row.now r)) }
 {

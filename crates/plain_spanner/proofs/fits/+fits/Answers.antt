@@ -15,7 +15,7 @@ use Rattle.spanner_model.proofs.Nodes.{nodes}
 use Rattle.spanner_model.proofs.TreeLaws.{part_nodes, sequential_part, sequential_arm}
 use Rattle.spanner_model.proofs.Trees.{tree_of-One, tree_of-Empty, tree_of-Cat, tree_of-Alt, tree_of-Cap}
 use Rattle.plain_spanner.specs.declared.TheConstants.{MOST_DOCUMENT_BYTES}
-use Rattle.plain_spanner.specs.Listed.{Tells, FromSome, EndAndCaptures, CapturesAndEnds, HasFit, Continued, AreWithin, CapturedFrom, CapturedAt}
+use Rattle.plain_spanner.specs.Listed.{Tells, FromSome, EndAndCaptures, CapturesAndEnds, HasFit, Continued, EndWithin, CapturedFrom, CapturedAt}
 use Rattle.plain_spanner.proofs.BareLaws.{bare_same}
 use Rattle.plain_spanner.proofs.PartLists.{cat_more_split, cat_more_join, cat_begins}
 use Rattle.plain_spanner.proofs.TellsLaws.{tells_or, tells_only, from_none, from_more, from_all, empty_list}
@@ -77,7 +77,7 @@ in_turn-go_on-requires t c =
     let u = tree_of c.at.result.now in
     let has = Has-slice_get ts c.loop-k.k u c.at.ensures in
     let within = go_within (HasFit c.args.firsts.now) (Fit g d) (length d) c.loop-k.reached.items (λ i j m le h. fit_within g d i j m le h) c.requires.within c.loop-k.invariant in
-    (omega (arith, part_nodes ts u has), (c.requires.built u has, (sequential_part ts u has c.requires.sequential, (c.requires.short, subst (λ (xs : List CapturesAndEnds). AreWithin (length d) xs) (sym c.deref.ensures.value) within))))
+    (omega (arith, part_nodes ts u has), (c.requires.built u has, (sequential_part ts u has c.requires.sequential, (c.requires.short, subst (λ (xs : List CapturesAndEnds). EndWithin (length d) xs) (sym c.deref.ensures.value) within))))
 
 pub in_turn-loop-k-init : goal.in_turn-loop-k-init
 in_turn-loop-k-init t c = goes_nowhere c.args.firsts.now c.in_ok-reached.reached.items c.in_ok-reached.ensures
@@ -173,7 +173,7 @@ add_captured-go_on-requires t c =
     let places = c.ends-places.result.now in
     let place = get_or places c.loop-place.place-index 0 in
     let le = c.requires.within place (subst (λ (xs : List ℕ). Has xs place) c.ends-places.ensures (Has-get_or places c.loop-place.place-index 0 c.loop-place-test.true)) in
-    let within = subst (λ (b : CapturesAndEnds). AreWithin (length c.args.doc.now) (b ∷ [])) (sym c.in_ok-at.ensures) (here_within place (length c.args.doc.now) le) in
+    let within = subst (λ (b : CapturesAndEnds). EndWithin (length c.args.doc.now) (b ∷ [])) (sym c.in_ok-at.ensures) (here_within place (length c.args.doc.now) le) in
     (omega arith, (c.requires.built, (c.requires.sequential, (c.requires.short, within))))
 
 pub add_captured-add_named-requires : goal.add_captured-add_named-requires

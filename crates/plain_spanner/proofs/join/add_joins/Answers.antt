@@ -4,7 +4,7 @@ use Rattle.std.proofs.lemmas.Option.{slice_get_within}
 use Rattle.span_core.specs.Lists.{Has}
 use Rattle.spanner_model.specs.Answers.{SpanRow}
 use Rattle.plain_spanner.specs.Listed.{Tells, FromSome}
-use Rattle.plain_spanner.specs.Tables.{IsPlaceOf, JoinsWith, JoinsRow, row_over}
+use Rattle.plain_spanner.specs.Tables.{HasKeyAt, JoinsWith, JoinsRow, row_over}
 use Rattle.plain_spanner.proofs.TellsLaws.{tells_or, tells_unchanged}
 use Rattle.plain_spanner.proofs.JoinLaws.{joins_found, joins_nothing}
 use Rattle.plain_spanner.proofs.join.add_joins.Goals as goal
@@ -19,7 +19,7 @@ pub returns-in_default : goal.returns-in_default
 returns-in_default c =
     tells_unchanged (Has c.args.rows.now.items) (JoinsRow c.args.names.now c.args.left_names.now c.args.right.now.names c.args.right.now.rows.items c.args.row.now)
     (joins_nothing c.args.names.now c.args.left_names.now c.args.right.now.names c.args.shared.now c.args.right.now.rows.items c.args.row.now c.requires.shared (λ p place.
-    let key = subst (λ (k : SpanRow). IsPlaceOf c.args.right.now.names c.args.shared.now c.args.right.now.rows.items k p) (sym c.row_with-key.ensures) place in
+    let key = subst (λ (k : SpanRow). HasKeyAt c.args.right.now.names c.args.shared.now c.args.right.now.rows.items k p) (sym c.row_with-key.ensures) place in
     let there = (c.requires.places c.row_with-key.result p).1 key in
     subst (λ (o : Option (Vec ℕ Global)). IsSomeAnd o (λ v. Has v.items p)) (sym c.in_default.ensures.value) there))
 
@@ -32,8 +32,8 @@ returns c =
     let a = c.args.row.now in
     let shared = c.args.shared.now in
     let places = c.in-Some.found.now.items in
-    let found : (p : ℕ) → Has places p ↔ IsPlaceOf W shared rights (row_over V shared a) p = λ p.
-    subst (λ (k : SpanRow). Has places p ↔ IsPlaceOf W shared rights k p) c.row_with-key.ensures
-    (subst (λ (o : Option (Vec ℕ Global)). IsSomeAnd o (λ v. Has v.items p) ↔ IsPlaceOf W shared rights c.row_with-key.result p) (sym c.in-Some.ensures.value) (c.requires.places c.row_with-key.result p)) in
+    let found : (p : ℕ) → Has places p ↔ HasKeyAt W shared rights (row_over V shared a) p = λ p.
+    subst (λ (k : SpanRow). Has places p ↔ HasKeyAt W shared rights k p) c.row_with-key.ensures
+    (subst (λ (o : Option (Vec ℕ Global)). IsSomeAnd o (λ v. Has v.items p) ↔ HasKeyAt W shared rights c.row_with-key.result p) (sym c.in-Some.ensures.value) (c.requires.places c.row_with-key.result p)) in
     let added = subst (λ (xs : List ℕ). Tells (Has c.add_joined.new.rows.items) (λ r. Has c.args.rows.now.items r ⊎ FromSome (JoinsWith names V W a rights) xs r)) c.deref.ensures.value c.in_ok-add_joined.ensures in
     tells_or (Has c.add_joined.new.rows.items) (Has c.args.rows.now.items) (FromSome (JoinsWith names V W a rights) places) (JoinsRow names V W rights a) added (joins_found names V W shared rights a places c.requires.shared found)

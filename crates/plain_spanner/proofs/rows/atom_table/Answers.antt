@@ -4,7 +4,7 @@ use Rattle.spanner_model.specs.Answers.{SpanRow}
 use Rattle.spanner_model.specs.Answer.{FitsSomewhere}
 use Rattle.spanner_model.specs.View.{tree_of, atom_of}
 use Rattle.spanner_model.specs.Fit.{Fit}
-use Rattle.plain_spanner.specs.Listed.{Tells, FromSome, CapturesAndEnds, HasFit, Continued, AreWithin}
+use Rattle.plain_spanner.specs.Listed.{Tells, FromSome, CapturesAndEnds, HasFit, Continued, EndWithin}
 use Rattle.plain_spanner.specs.Tables.{IsRowOf, IsRowOfFits}
 use Rattle.plain_spanner.proofs.TellsLaws.{tells_through}
 use Rattle.plain_spanner.proofs.FitLists.{here_within}
@@ -14,7 +14,7 @@ use Rattle.plain_spanner.proofs.rows.atom_table.Goals as goal
 pub go_on-requires-clause-within : goal.go_on-requires-clause-within
 go_on-requires-clause-within c =
     let o = c.places-from-end.ensures.only c.loop-from.from c.loop-from-test.true in
-    subst (λ (b : CapturesAndEnds). AreWithin (length c.args.doc.now) (b ∷ [])) (sym c.in_ok-at.ensures) (here_within c.loop-from.from (length c.args.doc.now) o.0)
+    subst (λ (b : CapturesAndEnds). EndWithin (length c.args.doc.now) (b ∷ [])) (sym c.in_ok-at.ensures) (here_within c.loop-from.from (length c.args.doc.now) o.0)
 
 pub loop-from-init : goal.loop-from-init
 loop-from-init c =
