@@ -1,7 +1,7 @@
+use Rattle.std.proofs.Common.{subst}
 use Rattle.automaton_reading.specs.Reading.{byte_read}
-use Rattle.set_table.specs.Tabled.{HasEdges, look_up}
+use Rattle.set_table.specs.Tabled.{HasEdges, IsRefusal, look_up, once_asked}
 use Rattle.set_table.proofs.OnceLaws.{gives_err, gives_ok}
-use Rattle.set_table.specs.declared.fault.TableFault.TheVariants as table
 use Rattle.segment_filter.proofs.FirstTargets.{next_is, not_asked}
 use Rattle.segment_filter.proofs.targets.asked_target.Goals as goal
 
@@ -12,6 +12,8 @@ returns-in-Ok-clause-ok g c =
 
 pub returns-in-Err-Full-clause-full : goal.returns-in-Err-Full-clause-full
 returns-in-Err-Full-clause-full g c =
-    let r = look_up c.args.table.now c.args.set (byte_read c.args.byte) in
-    let refused = gives_err HasEdges c.args.table.now r c.row.result c.row.follows.lender-at-none c.row.follows.holds-at-none (table.Full c.in-Err-Full.weight) c.in-Err-Full.is in
-    not_asked c.args.table.now r c.in-Err-Full.weight c.row.ensures.tabled refused.1.0 refused.1.1
+    let t = c.args.table.now in
+    let r = look_up t c.args.set (byte_read c.args.byte) in
+    let refused = gives_err HasEdges t r c.row.result c.row.follows.lender-at-none c.row.follows.holds-at-none c.in-Err-Full.field-0 c.in-Err-Full.is in
+    let full = subst (IsRefusal (once_asked t r)) c.in-Err-Full.field-0-is refused.1 in
+    not_asked t r c.in-Err-Full.weight c.row.ensures.tabled full.0 full.1
