@@ -1,5 +1,5 @@
 -- What a table has that a document is read by is no less than what the reading comes to.
-use Rattle.std.proofs.Common.{◌≡◌, ℕ, zero, suc, ◌+◌, ◌<◌, ◌≤◌, ◌⊎◌, List, [], ◌∷◌, ◌++◌, Bool, true, false, Option, Some, None, drop, map, length, inl, inr, refl, sym, ap, subst, arith, ◌∙◌}
+use Rattle.std.proofs.Common.{◌≡◌, ℕ, zero, suc, ◌+◌, ◌<◌, ◌≤◌, ◌⊎◌, List, [], ◌∷◌, ◌++◌, Option, Some, None, drop, map, length, inl, inr, refl, sym, ap, subst, arith, ◌∙◌}
 use Rattle.std.specs.Prelude.{slice_get}
 use Rattle.std.specs.List.{sum_by}
 use Rattle.std.specs.Str.{bytes_eq}
@@ -25,27 +25,27 @@ no_sets : (A : Automaton) (asks : List Question) (s : List ℕ) → Has (sets_as
 no_sets A [] s h = h
 no_sets A (a ∷ later) s h = no_sets A later s h
 
-no_look_ups : (A : Automaton) (asks : List Question) (look_up : LookUp) → Has (look_ups_asked A [] asks) look_up → ⊥
-no_look_ups A [] look_up h = h
-no_look_ups A (a ∷ later) look_up h = no_look_ups A later look_up h
+no_look_ups : (A : Automaton) (asks : List Question) (r : LookUp) → Has (look_ups_asked A [] asks) r → ⊥
+no_look_ups A [] r h = h
+no_look_ups A (a ∷ later) r h = no_look_ups A later r h
 
 -- ---- what a reading asks for
 
 -- what a reading asks for is there, or is asked for later, from this set on, which is reached after k bytes
 pub record IsHolding (A : Automaton) (d : List ℕ) (t : Tabled) (k : ℕ) (set : List ℕ) : Type 0 where
   pub sets : (s : List ℕ) → Has (sets_read A d) s → Has t.sets s ⊎ Has (sets_asked A (set ∷ []) (map byte_read (drop k d))) s
-  pub look_ups : (look_up : LookUp) → Has (bytes_read A d) look_up → Has t.look_ups look_up ⊎ Has (look_ups_asked A (set ∷ []) (map byte_read (drop k d))) look_up
+  pub look_ups : (r : LookUp) → Has (bytes_read A d) r → Has t.look_ups r ⊎ Has (look_ups_asked A (set ∷ []) (map byte_read (drop k d))) r
 
 -- what a reading asks for is there
 pub record HoldsAll (A : Automaton) (d : List ℕ) (t : Tabled) : Type 0 where
   pub sets : (s : List ℕ) → Has (sets_read A d) s → Has t.sets s
-  pub look_ups : (look_up : LookUp) → Has (bytes_read A d) look_up → Has t.look_ups look_up
+  pub look_ups : (r : LookUp) → Has (bytes_read A d) r → Has t.look_ups r
 
 module _ (A : Automaton) (d : List ℕ) where
   pub holding_starts : (t : Tabled) (set : List ℕ) → set ≡ set_of A.starts → IsHolding A d t 0 set
   holding_starts t set e = record {
     sets = λ s h. inr (subst (λ (x : List ℕ). Has (sets_asked A (x ∷ []) (map byte_read d)) s) (sym e) h);
-    look_ups = λ look_up h. inr (subst (λ (x : List ℕ). Has (look_ups_asked A (x ∷ []) (map byte_read d)) look_up) (sym e) h);
+    look_ups = λ r h. inr (subst (λ (x : List ℕ). Has (look_ups_asked A (x ∷ []) (map byte_read d)) r) (sym e) h);
   }
 
   -- all bytes were read
@@ -58,9 +58,9 @@ module _ (A : Automaton) (d : List ℕ) where
         | inr n ↦ absurd n
       ]
     ];
-    look_ups = λ look_up m. elim (h.look_ups look_up m) as (λ _. Has t.look_ups look_up) [
+    look_ups = λ r m. elim (h.look_ups r m) as (λ _. Has t.look_ups r) [
       | inl there ↦ there
-      | inr later ↦ absurd (subst (λ (asks : List Question). Has (look_ups_asked A (set_at t.sets j ∷ []) asks) look_up) none later)
+      | inr later ↦ absurd (subst (λ (asks : List Question). Has (look_ups_asked A (set_at t.sets j ∷ []) asks) r) none later)
     ];
   }
     where
@@ -110,13 +110,13 @@ module _ (A : Automaton) (d : List ℕ) where
           ]
     ]
 
-    pub look_ups_then : (look_up : LookUp) → Has (bytes_read A d) look_up → Has new.look_ups look_up ⊎ Has (look_ups_asked A next (map byte_read (drop (suc k) d))) look_up
-    look_ups_then look_up m = elim (h.look_ups look_up m) as (λ _. Has new.look_ups look_up ⊎ Has (look_ups_asked A next (map byte_read (drop (suc k) d))) look_up) [
-      | inl old ↦ inl (once_stay t new look_up_here kept look_up old)
+    pub look_ups_then : (r : LookUp) → Has (bytes_read A d) r → Has new.look_ups r ⊎ Has (look_ups_asked A next (map byte_read (drop (suc k) d))) r
+    look_ups_then r m = elim (h.look_ups r m) as (λ _. Has new.look_ups r ⊎ Has (look_ups_asked A next (map byte_read (drop (suc k) d))) r) [
+      | inl old ↦ inl (once_stay t new look_up_here kept r old)
       | inr later ↦ elim (
-          Has-append_cases (look_up_here ∷ []) (look_ups_asked A next (map byte_read (drop (suc k) d))) look_up (subst (λ (asks : List Question). Has (look_ups_asked A (here ∷ []) asks) look_up) asks_here later)
-          ) as (λ _. Has new.look_ups look_up ⊎ Has (look_ups_asked A next (map byte_read (drop (suc k) d))) look_up) [
-            | inl one ↦ elim one as (λ _. Has new.look_ups look_up ⊎ Has (look_ups_asked A next (map byte_read (drop (suc k) d))) look_up) [
+          Has-append_cases (look_up_here ∷ []) (look_ups_asked A next (map byte_read (drop (suc k) d))) r (subst (λ (asks : List Question). Has (look_ups_asked A (here ∷ []) asks) r) asks_here later)
+          ) as (λ _. Has new.look_ups r ⊎ Has (look_ups_asked A next (map byte_read (drop (suc k) d))) r) [
+            | inl one ↦ elim one as (λ _. Has new.look_ups r ⊎ Has (look_ups_asked A next (map byte_read (drop (suc k) d))) r) [
               | inl e ↦ inl (subst (Has new.look_ups) e kept.holds)
               | inr n ↦ absurd n
             ]
@@ -155,7 +155,7 @@ module _ (A : Automaton) (d : List ℕ) where
       holding_next n e =
           subst (λ i. IsHolding A d new i (set_at new.sets n)) one (record {
             sets = λ s m. subst (λ (ss : List (List ℕ)). Has new.sets s ⊎ Has (sets_asked A ss (map byte_read (drop (suc k) d))) s) (next_some n e) (sets_then s m);
-            look_ups = λ look_up m. subst (λ (ss : List (List ℕ)). Has new.look_ups look_up ⊎ Has (look_ups_asked A ss (map byte_read (drop (suc k) d))) look_up) (next_some n e) (look_ups_then look_up m);
+            look_ups = λ r m. subst (λ (ss : List (List ℕ)). Has new.look_ups r ⊎ Has (look_ups_asked A ss (map byte_read (drop (suc k) d))) r) (next_some n e) (look_ups_then r m);
           })
         where
           one : suc k ≡ k + 1
@@ -168,9 +168,9 @@ module _ (A : Automaton) (d : List ℕ) where
           | inl held ↦ held
           | inr more ↦ absurd (no_sets A (map byte_read (drop (suc k) d)) s more)
         ];
-        look_ups = λ look_up m. elim (subst (λ (ss : List (List ℕ)). Has new.look_ups look_up ⊎ Has (look_ups_asked A ss (map byte_read (drop (suc k) d))) look_up) (next_none e) (look_ups_then look_up m)) as (λ _. Has new.look_ups look_up) [
+        look_ups = λ r m. elim (subst (λ (ss : List (List ℕ)). Has new.look_ups r ⊎ Has (look_ups_asked A ss (map byte_read (drop (suc k) d))) r) (next_none e) (look_ups_then r m)) as (λ _. Has new.look_ups r) [
           | inl held ↦ held
-          | inr more ↦ absurd (no_look_ups A (map byte_read (drop (suc k) d)) look_up more)
+          | inr more ↦ absurd (no_look_ups A (map byte_read (drop (suc k) d)) r more)
         ];
       }
 
@@ -189,4 +189,4 @@ module _ (A : Automaton) (d : List ℕ) where
       look_ups_less = subst (λ g. sum_by (λ r. 1 + look_up_edges A r) (once look_up_same (bytes_read A d)) ≤ look_ups_weight g t.look_ups) (sym graph)
           (match_sum (λ (x y : LookUp). x ≡ y) (λ r. 1 + look_up_edges A r) (λ r. 1 + look_up_edges A r) (once look_up_same (bytes_read A d)) t.look_ups
           (once_distinct look_up_same same_look_up look_up_itself (bytes_read A d))
-          (λ look_up m. (look_up, h.look_ups look_up (has_once look_up_same same_look_up look_up_itself (bytes_read A d) look_up m), refl, omega arith)) (λ x z y a b. a ∙ sym b))
+          (λ r m. (r, h.look_ups r (has_once look_up_same same_look_up look_up_itself (bytes_read A d) r m), refl, omega arith)) (λ x z y a b. a ∙ sym b))

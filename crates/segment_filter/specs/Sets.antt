@@ -1,5 +1,5 @@
 -- Documents read by the sets of a table.
-use Rattle.std.specs.Prelude.{◌≡◌, ℕ, ◌+◌, ◌-◌, ◌<◌, ◌≤◌, List, length, slice_get, reverse, ◌↔◌, Bool, false, Some}
+use Rattle.std.specs.Prelude.{◌≡◌, ℕ, ◌+◌, ◌-◌, ◌<◌, ◌≤◌, List, length, slice_get, reverse, ◌↔◌, false, Some}
 use Rattle.span_core.specs.Lists.{Has, IsInOrder}
 use Rattle.marked_automaton.specs.declared.way.Way.{Way}
 use Rattle.marked_automaton.specs.Automaton.{Automaton}
