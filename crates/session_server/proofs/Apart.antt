@@ -13,7 +13,7 @@ use Rattle.query_automaton.specs.Parts.{AtomsAreSmall}
 use Rattle.spanner_engine.specs.Passing.{Known, IsOnlyTested}
 use Rattle.note_texts.specs.Notes.{table_note}
 use Rattle.session_server.specs.declared.TheConstants.{MOST_GROWN, SESSION_TABLE}
-use Rattle.session_server.specs.Requests.{Request, open_request, next_request, grow_request, close_request, session_id, request_object, IsRequest}
+use Rattle.session_server.specs.Requests.{SessionRequest, open_request, next_request, grow_request, close_request, session_id, request_object, IsRequest}
 use Rattle.session_server.specs.Replies.{Session, Sessions, begun, giving, growing, asking, session_of, without, to_come, Reply, opened, given_rows, grown_to, closed, error_of, no_request, Answers, taken, full, refused, opens, gives, heavy_next, grows, long, heavy_grown, closes, next_of_none, grow_of_none, close_of_none, wants_memory, IsReply, to_request, to_no_request, AreReplies, no_line, first_line, is_about, replies_of, IsLineOf, AreLinesOf, none_of, one_of, other_of, SessionsAreApart}
 use Rattle.session_server.proofs.SessionLaws.{of_with, of_with_other, of_changed, of_changed_other, of_without, of_without_other, only, of_only, few_only, changed_only, without_only}
 
@@ -23,14 +23,14 @@ use Rattle.session_server.proofs.SessionLaws.{of_with, of_with_other, of_changed
 abbrev id_in : Data → Option ℕ
 id_in d = option_and_then as_u64 (option_and_then as_number (get (codes "id") d))
 
-has_id : (r : Request) → id_in (request_object r) ≡ Some (session_id r)
+has_id : (r : SessionRequest) → id_in (request_object r) ≡ Some (session_id r)
 has_id (open_request n query document) = refl
 has_id (next_request n most) = refl
 has_id (grow_request n more) = refl
 has_id (close_request n) = refl
 
 -- a line has one number
-one_id : (text : List ℕ) (r q : Request) → IsRequest text r → IsRequest text q → session_id r ≡ session_id q
+one_id : (text : List ℕ) (r q : SessionRequest) → IsRequest text r → IsRequest text q → session_id r ≡ session_id q
 one_id text r q is also =
     let objects : Some (request_object r) ≡ Some (request_object q) = sym is.reads ∙ also.reads in
     let same : Some (session_id r) ≡ Some (session_id q) = sym (has_id r) ∙ ap (option_and_then id_in) objects ∙ has_id q in
@@ -38,7 +38,7 @@ one_id text r q is also =
 
 -- ---- a request of the session
 
-is_own : (k : Known) (all : Sessions) (r : Request) (reply : Reply) (after : Sessions) → Answers k all r reply after → is_about (session_id r) reply ≡ true
+is_own : (k : Known) (all : Sessions) (r : SessionRequest) (reply : Reply) (after : Sessions) → Answers k all r reply after → is_about (session_id r) reply ≡ true
 is_own k all _ _ after (taken s e) = grind (arith, nat_tests)
 is_own k all _ _ after (full e l) = grind (arith, nat_tests)
 is_own k all _ _ after (refused note e l why) = grind (arith, nat_tests)
@@ -85,7 +85,7 @@ module _ (k : Known) (n : ℕ) where
       (grows s (of_only n (Some s)) few)))
 
   -- the session is open no more
-  alone_ends : (s : Session) (r : Request) (reply : Reply) (o p : Option Session) → o ≡ Some s → p ≡ None →
+  alone_ends : (s : Session) (r : SessionRequest) (reply : Reply) (o p : Option Session) → o ≡ Some s → p ≡ None →
       (session_of (only n (Some s)) n ≡ Some s → Answers k (only n (Some s)) r reply (without n (only n (Some s)))) → Answers k (only n o) r reply (only n p)
   alone_ends s r reply o p e f step =
       subst (λ (a : Option Session). Answers k (only n a) r reply (only n p)) (sym e)
@@ -93,12 +93,12 @@ module _ (k : Known) (n : ℕ) where
       (subst (λ (after : Sessions). Answers k (only n (Some s)) r reply after) (without_only n (Some s))
       (step (of_only n (Some s)))))
 
-alone_memory : (k : Known) (r : Request) (o p : Option Session) → p ≡ None → Answers k (only (session_id r) o) r (error_of (session_id r) (codes "memory")) (only (session_id r) p)
+alone_memory : (k : Known) (r : SessionRequest) (o p : Option Session) → p ≡ None → Answers k (only (session_id r) o) r (error_of (session_id r) (codes "memory")) (only (session_id r) p)
 alone_memory k r o p f =
     subst (λ (b : Option Session). Answers k (only (session_id r) o) r (error_of (session_id r) (codes "memory")) (only (session_id r) b)) (sym f)
     (subst (λ (after : Sessions). Answers k (only (session_id r) o) r (error_of (session_id r) (codes "memory")) after) (without_only (session_id r) o) wants_memory)
 
-alone : (k : Known) (all : Sessions) (r : Request) (reply : Reply) (after : Sessions) → Answers k all r reply after → reply ≢ error_of (session_id r) (codes "full") →
+alone : (k : Known) (all : Sessions) (r : SessionRequest) (reply : Reply) (after : Sessions) → Answers k all r reply after → reply ≢ error_of (session_id r) (codes "full") →
     Answers k (only (session_id r) (session_of all (session_id r))) r reply (only (session_id r) (session_of after (session_id r)))
 alone k all _ _ _ (taken {n} s e) room = taken s (of_only n (session_of all n) ∙ e)
 alone k all _ _ _ (full e l) room = absurd (room refl)
@@ -121,7 +121,7 @@ alone k all r _ _ wants_memory room = alone_memory k r (session_of all (session_
 
 -- ---- a request of another session
 
-not_own : (k : Known) (all : Sessions) (r : Request) (reply : Reply) (after : Sessions) (n : ℕ) → Answers k all r reply after → session_id r ≢ n →
+not_own : (k : Known) (all : Sessions) (r : SessionRequest) (reply : Reply) (after : Sessions) (n : ℕ) → Answers k all r reply after → session_id r ≢ n →
     (is_about n reply ≡ false) × (session_of after n ≡ session_of all n)
 not_own k all _ _ _ n (taken s e) differ = (grind (arith, nat_tests, differ), refl)
 not_own k all _ _ _ n (full e l) differ = (grind (arith, nat_tests, differ), refl)
@@ -167,7 +167,7 @@ no_more k n text texts reply replies o m p about not same rest = record {
       (subst (λ (a : Option Session). AreReplies k (only n a) rest.own (replies_of n replies) (only n p)) same rest.run);
 }
 
-of_request : (k : Known) (n : ℕ) (all mid : Sessions) (text : List ℕ) (texts : List (List ℕ)) (r : Request) (reply : Reply) (replies : List Reply) (p : Option Session) →
+of_request : (k : Known) (n : ℕ) (all mid : Sessions) (text : List ℕ) (texts : List (List ℕ)) (r : SessionRequest) (reply : Reply) (replies : List Reply) (p : Option Session) →
     IsRequest text r → Answers k all r reply mid → (reply ≢ error_of n (codes "full")) → Alone k n texts replies (session_of mid n) p →
     (session_id r ≡ n) ⊎ (session_id r ≢ n) → Alone k n (text ∷ texts) (reply ∷ replies) (session_of all n) p
 of_request k n all mid text texts r reply replies p is step room rest (inl same) =

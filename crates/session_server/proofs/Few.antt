@@ -3,7 +3,7 @@ use Rattle.std.proofs.Common.{arith, ◌<◌, ◌≤◌, ℕ, Bool, true, false,
 use Rattle.std.specs.Prelude.{not, ◌==◌, if◌then◌else◌}
 use Rattle.spanner_engine.specs.Passing.{Known}
 use Rattle.session_server.specs.declared.TheConstants.{MOST_SESSIONS}
-use Rattle.session_server.specs.Requests.{Request, session_id}
+use Rattle.session_server.specs.Requests.{SessionRequest, session_id}
 use Rattle.session_server.specs.Replies.{Session, Sessions, without, with_session, changed, begun, giving, growing, asking, to_come, Reply, Answers, taken, full, refused, opens, gives, heavy_next, grows, long, heavy_grown, closes, next_of_none, grow_of_none, close_of_none, wants_memory, to_request, to_no_request, AreReplies, no_line, first_line, FewAreOpen}
 
 fewer : (n : ℕ) (all : Sessions) → length (without n all) ≤ length all
@@ -28,7 +28,7 @@ one_more n s all h = let e = length-append all ((n, s) ∷ []) in omega (arith, 
 less : (a b : ℕ) → a ≤ b → b ≤ MOST_SESSIONS → a ≤ MOST_SESSIONS
 less a b h k = omega (arith, h, k)
 
-step : (k : Known) (all : Sessions) (r : Request) (reply : Reply) (after : Sessions) → Answers k all r reply after → length all ≤ MOST_SESSIONS → length after ≤ MOST_SESSIONS
+step : (k : Known) (all : Sessions) (r : SessionRequest) (reply : Reply) (after : Sessions) → Answers k all r reply after → length all ≤ MOST_SESSIONS → length after ≤ MOST_SESSIONS
 step k all _ _ _ (taken s e) h = h
 step k all _ _ _ (full e l) h = h
 step k all _ _ _ (refused note e l why) h = h

@@ -15,7 +15,7 @@ use Rattle.note_texts.specs.Notes.{line, table_note}
 use Rattle.session_server.specs.declared.TheConstants.{MOST_GROWN, SESSION_TABLE}
 use Rattle.session_server.specs.declared.session.Halt.{Halt}
 use Rattle.session_server.specs.declared.session.Halt.TheVariants as halt
-use Rattle.session_server.specs.Requests.{Request, grow_request, next_request}
+use Rattle.session_server.specs.Requests.{SessionRequest, grow_request, next_request}
 use Rattle.session_server.specs.Replies.{Answers, asking, error_of, gives, given_rows, growing, grown_to, grows, heavy_grown, long, session_of, giving, reply_text, rows_object, Session, Sessions, changed, to_come, without}
 use Rattle.session_server.specs.Standing.{GivesPage, IsGrowHalt, IsRowsHalt, IsSession}
 use Rattle.session_server.specs.Open.{AreOpen, HasNone, IsPlaceOf, LosesOne, RepliesTo}
@@ -89,7 +89,7 @@ replies_given {E} k (Ok s) cs id p most c new values more at there same given te
 
 -- ---- a session that is closed since it weighs too much
 
-pub heavy_closed : {E : Type 0} (k : Known) (r : Result (String Global) E) (cs new : List Opened) (id p : ℕ) (c d : Opened) (request : Request) →
+pub heavy_closed : {E : Type 0} (k : Known) (r : Result (String Global) E) (cs new : List Opened) (id p : ℕ) (c d : Opened) (request : SessionRequest) →
     IsPlaceOf cs id p → slice_get cs p ≡ Some c → d.id ≡ id → new ≡ filter (λ c. not (c.id == id)) (slice_set cs p d) →
     ((all : Sessions) (s : Session) → session_of all id ≡ Some s → IsSession k c.session s → Answers k all request (error_of id (table_note SESSION_TABLE)) (without id all)) →
     IfOk r (λ s. string_bytes s ≡ reply_text (error_of id (table_note SESSION_TABLE))) → IfOk r (RepliesTo k cs new request)

@@ -6,7 +6,7 @@ use Rattle.std.specs.declared.alloc.Global.{Global}
 use Rattle.std.specs.Str.{IsUtf8}
 use Rattle.serde_json.specs.Data.{Data}
 use Rattle.serde_json.specs.Read.{read}
-use Rattle.session_server.specs.Requests.{IsNoRequest, IsRequest, Request, close_request, open_request, request_object, session_id}
+use Rattle.session_server.specs.Requests.{IsNoRequest, IsRequest, SessionRequest, close_request, open_request, request_object, session_id}
 use Rattle.session_server.specs.Asked.{IsNoObject, IsObjectOf}
 use Rattle.session_server.specs.declared.TheConstants.{MOST_SESSIONS}
 use Rattle.session_server.specs.declared.session.Session.{Session as CodeSession}
@@ -105,7 +105,7 @@ found_open k (c ∷ cs) (s ∷ all) id (suc p) o none here =
 
 -- ---- replies that leave the sessions as they are, and a close
 
-pub replies_same : {E : Type 0} (k : Known) (r : Result (String Global) E) (cs : List Opened) (request : Request) (reply : Reply) → ((all : Sessions) → AreOpen k cs all → Answers k all request reply all) →
+pub replies_same : {E : Type 0} (k : Known) (r : Result (String Global) E) (cs : List Opened) (request : SessionRequest) (reply : Reply) → ((all : Sessions) → AreOpen k cs all → Answers k all request reply all) →
     IfOk r (λ s. string_bytes s ≡ reply_text reply) → IfOk r (RepliesTo k cs cs request)
 replies_same k (Ok s) cs request reply f is = λ all o. (reply, all, f all o, is, o)
 replies_same k (Err e) cs request reply f is = tt
@@ -170,14 +170,14 @@ replies_opened k cs new id text document t d c line none room same held pushed_o
 abbrev pub RepliesTo_line : Known → List Opened → List Opened → List ℕ → String Global → Type 0
 RepliesTo_line k old new text line = (all : Sessions) → AreOpen k old all → (r : Reply) × (after : Sessions) × IsReply k all text r after × (string_bytes line ≡ reply_text r) × AreOpen k new after
 
-pub line_of_request : (k : Known) (old new : List Opened) (text : List ℕ) (request : Request) (line : String Global) → IsRequest text request → RepliesTo k old new request line → RepliesTo_line k old new text line
+pub line_of_request : (k : Known) (old new : List Opened) (text : List ℕ) (request : SessionRequest) (line : String Global) → IsRequest text request → RepliesTo k old new request line → RepliesTo_line k old new text line
 line_of_request k old new text request line is replies = λ all o. let (r, after, answers, told, stands) = replies all o in (r, after, to_request is answers, told, stands)
 
 pub line_of_none : {E : Type 0} (k : Known) (cs : List Opened) (text : List ℕ) (r : Result (String Global) E) → IsNoRequest text → IfOk r (λ s. string_bytes s ≡ reply_text no_request) → IfOk r (RepliesTo_line k cs cs text)
 line_of_none k cs text (Err e) none told = tt
 line_of_none k cs text (Ok s) none told = λ all o. (no_request, all, to_no_request none, told, o)
 
-pub line_of_memory : {E : Type 0} (k : Known) (old mid new : List Opened) (text : List ℕ) (request : Request) (id : ℕ) (r : Result (String Global) E) → IsRequest text request → id ≡ session_id request →
+pub line_of_memory : {E : Type 0} (k : Known) (old mid new : List Opened) (text : List ℕ) (request : SessionRequest) (id : ℕ) (r : Result (String Global) E) → IsRequest text request → id ≡ session_id request →
     LosesOne k old mid (session_id request) → new ≡ filter (λ c. not (c.id == id)) mid → IfOk r (λ s. string_bytes s ≡ reply_text (error_of id (codes "memory"))) → IfOk r (RepliesTo_line k old new text)
 line_of_memory k old mid new text request id (Err e) is same loses closed_now told = tt
 line_of_memory k old mid new text request id (Ok s) is same loses closed_now told = λ all o.
@@ -191,7 +191,7 @@ line_of_memory k old mid new text request id (Ok s) is same loses closed_now tol
     )
 
 -- the line's value is this request, or none
-pub is_request : (text : List ℕ) (d : Data) (r : Request) → IsUtf8 text → read text ≡ Some d → IsObjectOf d r → IsRequest text r
+pub is_request : (text : List ℕ) (d : Data) (r : SessionRequest) → IsUtf8 text → read text ≡ Some d → IsObjectOf d r → IsRequest text r
 is_request text d r utf8 reads is = record { utf8 = utf8; reads = reads ∙ ap (λ (x : Data). Some x) is.0; range = is.1 }
 
 pub is_no_value : (text : List ℕ) → (IsUtf8 text → read text ≡ None) → IsNoRequest text

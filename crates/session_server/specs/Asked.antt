@@ -1,23 +1,23 @@
 -- What the code's requests stand for.
 use Rattle.std.specs.Prelude.{◌≡◌, ◌≢◌, ℕ, List, Option, None, Some}
 use Rattle.serde_json.specs.Data.{Data, Members, member, number, unsigned}
-use Rattle.session_server.specs.declared.requests.Request.{Request as CodeRequest}
-use Rattle.session_server.specs.declared.requests.Request.TheVariants as code
-use Rattle.session_server.specs.Requests.{Request, open_request, next_request, grow_request, close_request, request_object, IsInRange}
+use Rattle.session_server.specs.declared.requests.SessionRequest.{SessionRequest as CodeRequest}
+use Rattle.session_server.specs.declared.requests.SessionRequest.TheVariants as code
+use Rattle.session_server.specs.Requests.{SessionRequest, open_request, next_request, grow_request, close_request, request_object, IsInRange}
 
-abbrev pub request_of : CodeRequest → Request
+abbrev pub request_of : CodeRequest → SessionRequest
 request_of (code.Open id query document) = open_request id query.now document.now
 request_of (code.Next id most) = next_request id most
 request_of (code.Grow id text) = grow_request id text.now
 request_of (code.Close id) = close_request id
 
 -- the value is this request
-abbrev pub IsObjectOf : Data → Request → Type 0
+abbrev pub IsObjectOf : Data → SessionRequest → Type 0
 IsObjectOf d r = (d ≡ request_object r) × IsInRange r
 
 -- the value is none
 abbrev pub IsNoObject : Data → Type 0
-IsNoObject d = (r : Request) → ¬ IsObjectOf d r
+IsNoObject d = (r : SessionRequest) → ¬ IsObjectOf d r
 
 -- the first member has this name and a value that is made of something, and these are the others; or it has none such
 module _ {X : Type 0} (value : X → Data) where

@@ -19,7 +19,7 @@ use Rattle.growing_document.specs.Lengths.{weight_at}
 use Rattle.spanner_engine.specs.Passing.{Known, HasFaultUnder, IsOnlyTested, checks_of, passing}
 use Rattle.session_server.specs.declared.TheConstants.{MOST_GROWN, MOST_SESSIONS, SESSION_TABLE}
 use Rattle.note_texts.specs.Notes.{line, fault_note, states_note, ways_note, table_note}
-use Rattle.session_server.specs.Requests.{Request, open_request, next_request, grow_request, close_request, session_id, IsRequest, IsNoRequest}
+use Rattle.session_server.specs.Requests.{SessionRequest, open_request, next_request, grow_request, close_request, session_id, IsRequest, IsNoRequest}
 
 -- ---- sessions
 
@@ -149,7 +149,7 @@ abbrev pub to_come : Known → Session → List VarName → List SpanRow → Lis
 to_come k s names all = drop s.given (passing (checks_of k s.query.asked) names s.document all)
 
 -- Want of memory may stand in place of any other reply to a request; the session of that number is closed then.
-pub data Answers (k : Known) (all : Sessions) : Request → Reply → Sessions → Type 0 where
+pub data Answers (k : Known) (all : Sessions) : SessionRequest → Reply → Sessions → Type 0 where
   taken : {n : ℕ} {query document : List ℕ} (s : Session) → session_of all n ≡ Some s →
       Answers k all (open_request n query document) (error_of n (codes "taken")) all
   full : {n : ℕ} {query document : List ℕ} → session_of all n ≡ None → MOST_SESSIONS ≤ length all →
@@ -176,11 +176,11 @@ pub data Answers (k : Known) (all : Sessions) : Request → Reply → Sessions �
   next_of_none : {n most : ℕ} → session_of all n ≡ None → Answers k all (next_request n most) (error_of n (codes "not open")) all
   grow_of_none : {n : ℕ} {text : List ℕ} → session_of all n ≡ None → Answers k all (grow_request n text) (error_of n (codes "not open")) all
   close_of_none : {n : ℕ} → session_of all n ≡ None → Answers k all (close_request n) (error_of n (codes "not open")) all
-  wants_memory : {r : Request} → Answers k all r (error_of (session_id r) (codes "memory")) (without (session_id r) all)
+  wants_memory : {r : SessionRequest} → Answers k all r (error_of (session_id r) (codes "memory")) (without (session_id r) all)
 
 -- the reply to a line
 pub data IsReply (k : Known) (all : Sessions) (text : List ℕ) : Reply → Sessions → Type 0 where
-  to_request : {r : Request} {reply : Reply} {after : Sessions} → IsRequest text r → Answers k all r reply after → IsReply k all text reply after
+  to_request : {r : SessionRequest} {reply : Reply} {after : Sessions} → IsRequest text r → Answers k all r reply after → IsReply k all text reply after
   to_no_request : IsNoRequest text → IsReply k all text no_request all
 
 -- ---- the replies to lines
@@ -211,7 +211,7 @@ replies_of n replies = filter (is_about n) replies
 
 -- the line is a request with this number
 abbrev pub IsLineOf : ℕ → List ℕ → Type 0
-IsLineOf n text = (r : Request) × IsRequest text r × (session_id r ≡ n)
+IsLineOf n text = (r : SessionRequest) × IsRequest text r × (session_id r ≡ n)
 
 -- of these lines those with this number, in order
 pub data AreLinesOf (n : ℕ) : List (List ℕ) → List (List ℕ) → Type 0 where

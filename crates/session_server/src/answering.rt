@@ -9,7 +9,7 @@ ghost use Rattle.session_server.specs.Replies.{IsReply, Reply, Sessions, error_o
 ghost use Rattle.session_server.specs.Open.{AreOpen, HasNone, IsPlaceOf, LosesOne, RepliesTo};
 
 use crate::replies::{closed, error_of, given, grown, no_request, opened};
-use crate::requests::{Request, request_in, value_of};
+use crate::requests::{SessionRequest, request_in, value_of};
 use crate::session::{Halt, Refusal, Session};
 use crate::{MOST_SESSIONS, SESSION_TABLE};
 use note_texts::{Note, push_note};
@@ -60,7 +60,7 @@ fn answer_request<J: Judge, L: Ledger>(
     alloc: Global,
     tests: &Tests<J>,
     sessions: &mut Vec<Opened>,
-    request: Request<'_>,
+    request: SessionRequest<'_>,
     steps: &mut Steps<L>,
 ) -> Result<String, OutOfMemory>
     requires stands { (all : Sessions) × AreOpen (known tests.now J.judges) sessions.old.items all }
@@ -68,14 +68,14 @@ fn answer_request<J: Judge, L: Ledger>(
     ensures memory { OnErr result (LosesOne (known tests.now J.judges) sessions.old.items sessions.new.items (id_of (request_of request.entry))) }
 {
     match request {
-        Request::Open {
+        SessionRequest::Open {
             id,
             query,
             document,
         } => answer_open(alloc, tests, sessions, id, query, document, steps),
-        Request::Next { id, most } => answer_next(alloc, tests, sessions, id, most, steps),
-        Request::Grow { id, text } => answer_grow(alloc, sessions, id, text, steps),
-        Request::Close { id } => answer_close(alloc, sessions, id),
+        SessionRequest::Next { id, most } => answer_next(alloc, tests, sessions, id, most, steps),
+        SessionRequest::Grow { id, text } => answer_grow(alloc, sessions, id, text, steps),
+        SessionRequest::Close { id } => answer_close(alloc, sessions, id),
     }
 }
 

@@ -16,7 +16,7 @@ use std::collections::btree_map::Iter;
 
 /// What is asked of the session with this number.
 #[derive(Clone, Copy)]
-pub(crate) enum Request<'v> {
+pub(crate) enum SessionRequest<'v> {
     Open {
         id: u32,
         query: &'v str,
@@ -35,15 +35,15 @@ pub(crate) enum Request<'v> {
     },
 }
 
-impl Request<'_> {
+impl SessionRequest<'_> {
     pub(crate) fn id(&self) -> u32
         ensures { result ≡ id_of (request_of self.now) }
     {
         match self {
-            Request::Open { id, .. } => *id,
-            Request::Next { id, .. } => *id,
-            Request::Grow { id, .. } => *id,
-            Request::Close { id } => *id,
+            SessionRequest::Open { id, .. } => *id,
+            SessionRequest::Next { id, .. } => *id,
+            SessionRequest::Grow { id, .. } => *id,
+            SessionRequest::Close { id } => *id,
         }
     }
 }
@@ -65,7 +65,7 @@ pub(crate) fn value_of(alloc: Global, line: &[u8]) -> Result<Option<Value>, OutO
 }
 
 /// The request that a JSON value is, if it is one.
-pub(crate) fn request_in(value: &Value) -> Option<Request<'_>>
+pub(crate) fn request_in(value: &Value) -> Option<SessionRequest<'_>>
     ensures some { IfSome result (λ r. IsObjectOf (view value.now) (request_of r)) }
     ensures none { IfNone result (IsNoObject (view value.now)) }
 {
@@ -75,7 +75,7 @@ pub(crate) fn request_in(value: &Value) -> Option<Request<'_>>
     }
 }
 
-fn request_with(members: &Map<String, Value>) -> Option<Request<'_>>
+fn request_with(members: &Map<String, Value>) -> Option<SessionRequest<'_>>
     ensures some { IfSome result (λ r. IsObjectOf (object (members_view members.now.entries)) (request_of r)) }
     ensures none { IfNone result (IsNoObject (object (members_view members.now.entries))) }
 {
@@ -91,7 +91,7 @@ fn request_with(members: &Map<String, Value>) -> Option<Request<'_>>
     close_in(members)
 }
 
-fn open_in(members: &Map<String, Value>) -> Option<Request<'_>>
+fn open_in(members: &Map<String, Value>) -> Option<SessionRequest<'_>>
     ensures some { IfSome result (λ r. IsObjectOf (object (members_view members.now.entries)) (request_of r)) }
     ensures none { IfNone result ((id : ℕ) (query document : List ℕ) → ¬ IsObjectOf (object (members_view members.now.entries)) (open_request id query document)) }
 {
@@ -111,14 +111,14 @@ fn open_in(members: &Map<String, Value>) -> Option<Request<'_>>
     if !is_empty(&mut left) {
         return None;
     }
-    Some(Request::Open {
+    Some(SessionRequest::Open {
         id,
         query,
         document,
     })
 }
 
-fn next_in(members: &Map<String, Value>) -> Option<Request<'_>>
+fn next_in(members: &Map<String, Value>) -> Option<SessionRequest<'_>>
     ensures some { IfSome result (λ r. IsObjectOf (object (members_view members.now.entries)) (request_of r)) }
     ensures none { IfNone result ((id most : ℕ) → ¬ IsObjectOf (object (members_view members.now.entries)) (next_request id most)) }
 {
@@ -138,13 +138,13 @@ fn next_in(members: &Map<String, Value>) -> Option<Request<'_>>
     if most < 1 || most > MOST_ROWS_ASKED {
         return None;
     }
-    Some(Request::Next {
+    Some(SessionRequest::Next {
         id,
         most: most as u32,
     })
 }
 
-fn grow_in(members: &Map<String, Value>) -> Option<Request<'_>>
+fn grow_in(members: &Map<String, Value>) -> Option<SessionRequest<'_>>
     ensures some { IfSome result (λ r. IsObjectOf (object (members_view members.now.entries)) (request_of r)) }
     ensures none { IfNone result ((id : ℕ) (more : List ℕ) → ¬ IsObjectOf (object (members_view members.now.entries)) (grow_request id more)) }
 {
@@ -161,10 +161,10 @@ fn grow_in(members: &Map<String, Value>) -> Option<Request<'_>>
     if !is_empty(&mut left) {
         return None;
     }
-    Some(Request::Grow { id, text: more })
+    Some(SessionRequest::Grow { id, text: more })
 }
 
-fn close_in(members: &Map<String, Value>) -> Option<Request<'_>>
+fn close_in(members: &Map<String, Value>) -> Option<SessionRequest<'_>>
     ensures some { IfSome result (λ r. IsObjectOf (object (members_view members.now.entries)) (request_of r)) }
     ensures none { IfNone result ((id : ℕ) → ¬ IsObjectOf (object (members_view members.now.entries)) (close_request id)) }
 {
@@ -178,7 +178,7 @@ fn close_in(members: &Map<String, Value>) -> Option<Request<'_>>
     if !is_empty(&mut left) {
         return None;
     }
-    Some(Request::Close { id })
+    Some(SessionRequest::Close { id })
 }
 
 /// The next member, if it has this name.
