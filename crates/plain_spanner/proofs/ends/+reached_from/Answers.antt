@@ -231,7 +231,7 @@ repeated_more-loop-round-preserved t c =
     let on = subst (λ (ys : List ℕ). Tells (Has next) (LeadsOn P ys)) c.after.ensures c.in_ok-next.ensures in
     let all = subst (λ (ys : List ℕ). Tells (Has grown) (λ j. Has reached j ⊎ Has ys j)) c.deref.ensures.value c.in_ok-add_all-2.ensures.all in
     let begins = c.in_ok-add_all-2.ensures.grown in (
-      omega (arith, c.len-done.ensures, ap length begins.1, length-append reached begins.0),
+      omega (arith, c.len-done.ensures, ap length begins.joined, length-append reached begins.rest),
       rounds_more P bare c.args.starts.now c.loop-round._round c.loop-round.done reached next grown c.loop-round.invariant.1 c.loop-round.invariant.2 begins on all,
       subst (λ n. Closed P n grown) (sym c.len-done.ensures) (closed_more P bare c.args.starts.now c.loop-round.done reached next grown c.loop-round.invariant.2 begins on all),
     )
