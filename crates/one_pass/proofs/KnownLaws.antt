@@ -1,24 +1,28 @@
 -- What is known of whole layers: it stays true while the table grows, and more may be entered.
-use Rattle.std.proofs.Common.{◌≡◌, ◌⊎◌, ℕ, zero, suc, ◌+◌, ◌*◌, ◌<◌, ◌≤◌, Bool, true, false, List, [], ◌∷◌, ◌++◌, length, get_or, map, set, take, replicate, Some, inl, inr, refl, sym, ap, subst, arith, ◌∙◌, length-append, ◌-◌, add-one, if◌then◌else◌}
-use Rattle.std.specs.Prelude.{slice_get}
+use Rattle.std.proofs.Common.{◌≡◌, ◌⊎◌, ℕ, zero, suc, ◌+◌, ◌<◌, ◌≤◌, Bool, true, false, List, [], ◌∷◌, ◌++◌, length, get_or, map, take, Some, inl, inr, refl, sym, ap, subst, arith, ◌∙◌, length-append, ◌-◌, add-one, if◌then◌else◌}
+use Rattle.std.specs.Prelude.{◌&&◌, ◌==◌, slice_get, slice_index}
+use Rattle.std.specs.Bool.{Decides}
+use Rattle.std.proofs.lemmas.Bool.{and_from, and_parts, eqb-true, eq-eqb}
 use Rattle.std.proofs.lemmas.List.{get_or_append_left, take_more}
 use Rattle.std.proofs.lemmas.Option.{slice_get_within, same_Some}
-use Rattle.std.proofs.lemmas.Bool.{cases_eq}
 use Rattle.std.specs.List.{list_any}
 use Rattle.std.specs.Str.{bytes_eq}
 use Rattle.span_core.proofs.HasLaws.{Has-take_more_cases}
 use Rattle.span_core.specs.declared.edge.Edge.{Edge}
 use Rattle.marked_automaton.specs.Automaton.{Automaton}
 use Rattle.span_core.specs.Lists.{Has}
-use Rattle.span_core.proofs.ListLaws.{get_left, get_set_same, get_last, zeros, either_part}
+use Rattle.span_core.proofs.ListLaws.{get_left, get_last}
 use Rattle.automaton_reading.specs.Reading.{LookUp, byte_read, Reach, edges}
 use Rattle.output_graph.specs.Source.{Edges}
-use Rattle.output_graph.proofs.SetLaws.{get_set_other, take_all}
 use Rattle.output_graph.proofs.HeldLaws.{take_next}
+use Rattle.one_pass.specs.declared.entries.Entries.{Entries}
 use Rattle.one_pass.specs.declared.known.KnownStep.{KnownStep}
 use Rattle.set_table.specs.Tabled.{HasEdges, Stays, Tabled, edge_named, look_up, set_at, with_set}
 use Rattle.set_table.proofs.NamingLaws.{named_stay}
-use Rattle.one_pass.specs.Known.{AreLookUps, AreStill, IsEntry, IsKnown, IsLookUp, IsStepOf, layer_at}
+use Rattle.one_pass.specs.Entered.{has_entry, place_in}
+use Rattle.one_pass.specs.Entries.{entry_at}
+use Rattle.one_pass.proofs.EntryLaws.{within_asked}
+use Rattle.one_pass.specs.Known.{AreAlike, AreLookUps, AreStill, IsAlike, IsEntry, IsKnown, IsLookUp, IsStepOf, layer_at}
 use Rattle.one_pass.specs.Passes.{HasGrown}
 
 -- ---- a table that grows
@@ -75,22 +79,19 @@ module _ (t u : Tabled) (more : List (List ℕ)) (graph : u.graph ≡ t.graph) (
   entry_grown layers steps b sets e (inr (inl still)) = inr (inl (still.0, still_grown b sets still.1))
   entry_grown layers steps b sets e (inr (inr (p, step, is, at, of))) = inr (inr (p, step, is, at, record { look_ups = look_ups_grown b sets step.program.groups of.look_ups; next = of.next }))
 
-  pub known_grown : (layers : List (List ℕ)) (entries : List ℕ) (steps : List KnownStep) → IsKnown t layers entries steps → IsKnown u layers entries steps
+  pub known_grown : (layers : List (List ℕ)) (entries : Entries) (steps : List KnownStep) → IsKnown t layers entries steps → IsKnown u layers entries steps
   known_grown layers entries steps k = record {
     few = k.few;
-    each = λ l b e small at. entry_grown layers steps b (layer_at layers l) e (k.each l b e small at);
+    each = λ l b small. entry_grown layers steps b (layer_at layers l) (entry_at entries l b) (k.each l b small);
   }
 
-pub known_read : (t u : Tabled) (sets : List (List ℕ)) (look_ups : List _) (layers : List (List ℕ)) (entries : List ℕ) (steps : List KnownStep) → HasGrown t u sets look_ups → IsKnown t layers entries steps → IsKnown u layers entries steps
+pub known_read : (t u : Tabled) (sets : List (List ℕ)) (look_ups : List _) (layers : List (List ℕ)) (entries : Entries) (steps : List KnownStep) → HasGrown t u sets look_ups → IsKnown t layers entries steps → IsKnown u layers entries steps
 known_read t u sets look_ups layers entries steps g k = known_grown t u g.kept.0 g.graph g.kept.1 g.stay layers entries steps k
 
 -- ---- nothing is known
 
-pub known_none : (t : Tabled) (layers : List (List ℕ)) (entries : List ℕ) (steps : List KnownStep) → entries ≡ [] → IsKnown t layers entries steps
-known_none t layers entries steps none = record {
-  few = (let l = ap length none in omega arith);
-  each = λ k b e small at. absurd (let w = slice_get_within entries (256 * k + b) e at in let l = ap length none in omega arith);
-}
+pub known_none : (t : Tabled) (layers : List (List ℕ)) (entries : Entries) (steps : List KnownStep) → length entries.asked.items ≡ 0 → ((k b : ℕ) → entry_at entries k b ≡ 0) → IsKnown t layers entries steps
+known_none t layers entries steps none each = record { few = omega arith; each = λ k b small. inl (each k b) }
 
 -- ---- one layer more
 
@@ -115,13 +116,26 @@ with_layer layers s k h = by (list_any (bytes_eq s) layers)
     by true = refl
     by false = get_or_append_left layers (s ∷ []) [] k h
 
-pub known_layer : (t : Tabled) (layers : List (List ℕ)) (entries : List ℕ) (steps : List KnownStep) (s : List ℕ) → IsKnown t layers entries steps → IsKnown t (with_set layers s) entries steps
+-- an entry is 0, or one of a layer within
+none_or_within : (entries : Entries) (k b : ℕ) → (entry_at entries k b ≡ 0) ⊎ (k < length entries.asked.items)
+none_or_within entries k b = by (has_entry entries.asked.items k b) refl
+  where
+    n : ℕ
+    n = slice_index entries.numbers.items (place_in entries.classes.count entries.classes.numbers k b)
+
+    by : (v : Bool) → has_entry entries.asked.items k b ≡ v → ((if v then n else 0) ≡ 0) ⊎ (k < length entries.asked.items)
+    by false is = inl refl
+    by true is = inr (within_asked entries.asked.items k b is)
+
+pub known_layer : (t : Tabled) (layers : List (List ℕ)) (entries : Entries) (steps : List KnownStep) (s : List ℕ) → IsKnown t layers entries steps → IsKnown t (with_set layers s) entries steps
 known_layer t layers entries steps s known = record {
   few = omega (arith, known.few, with_length layers s);
-  each = λ k b e small at.
-      let w = slice_get_within entries (256 * k + b) e at in
-      let within : k < length layers = omega (arith, w, known.few) in
-      subst (λ (sets : List ℕ). IsEntry t (with_set layers s) steps b sets e) (sym (with_layer layers s k within)) (still_true b (layer_at layers k) e (known.each k b e small at));
+  each = λ k b small. elim (none_or_within entries k b) as (λ _. IsEntry t (with_set layers s) steps b (layer_at (with_set layers s) k) (entry_at entries k b)) [
+    | inl none ↦ inl none
+    | inr row ↦
+        let within : k < length layers = omega (arith, row, known.few) in
+        subst (λ (sets : List ℕ). IsEntry t (with_set layers s) steps b sets (entry_at entries k b)) (sym (with_layer layers s k within)) (still_true b (layer_at layers k) (entry_at entries k b) (known.each k b small))
+  ];
 }
   where
     still_true : (b : ℕ) (sets : List ℕ) (e : ℕ) → IsEntry t layers steps b sets e → IsEntry t (with_set layers s) steps b sets e
@@ -129,35 +143,21 @@ known_layer t layers entries steps s known = record {
     still_true b sets e (inr (inl still)) = inr (inl still)
     still_true b sets e (inr (inr (p, step, is, at, of))) = inr (inr (p, step, is, at, record { look_ups = of.look_ups; next = with_keeps layers s step.next step.program.targets of.next }))
 
--- ---- more entries, which are unknown
+-- ---- room for more layers
 
-zeros_length : (n : ℕ) → length {A = ℕ} (replicate n 0) ≡ n
-zeros_length zero = refl
-zeros_length (suc n) = ap suc (zeros_length n)
-
-pub known_room : (t : Tabled) (layers : List (List ℕ)) (entries later : List ℕ) (steps : List KnownStep) (wanted n : ℕ) (ok : Bool) →
-    later ≡ (if ok then take wanted entries ++ replicate (wanted - n) 0 else entries) → n ≡ length entries → length entries ≤ wanted → wanted ≡ 256 * length layers →
-    IsKnown t layers entries steps → IsKnown t layers later steps
-known_room t layers entries later steps wanted n false is count more few known = subst (λ (xs : List ℕ). IsKnown t layers xs steps) (sym is) known
-known_room t layers entries later steps wanted n true is count more few known =
-    let all : later ≡ entries ++ replicate (wanted - n) 0 = is ∙ ap (λ (xs : List ℕ). xs ++ replicate (wanted - n) 0) (take_all entries wanted more) in
-    let len = ap length all ∙ length-append entries (replicate (wanted - n) 0) in
-    let zero_len = zeros_length (wanted - n) in
-    record {
-      few = omega arith;
-      each = λ k b e small at.
-          elim (either_part entries (replicate (wanted - n) 0) (256 * k + b) e (subst (λ (xs : List ℕ). slice_get xs (256 * k + b) ≡ Some e) all at)) as (λ _. IsEntry t layers steps b (layer_at layers k) e) [
-            | inl old ↦ known.each k b e small old
-            | inr new ↦ inl (zeros (wanted - n) new.0 e new.1)
-          ];
-    }
+pub known_room : (t : Tabled) (layers : List (List ℕ)) (old new : Entries) (steps : List KnownStep) → ((k b : ℕ) → b < 256 → entry_at new k b ≡ entry_at old k b) → length new.asked.items ≤ length layers → IsKnown t layers old steps →
+    IsKnown t layers new steps
+known_room t layers old new steps same few known = record {
+  few = few;
+  each = λ k b small. subst (λ e. IsEntry t layers steps b (layer_at layers k) e) (sym (same k b small)) (known.each k b small);
+}
 
 -- ---- one step more
 
-pub known_step : (t : Tabled) (layers : List (List ℕ)) (entries : List ℕ) (steps : List KnownStep) (step : KnownStep) → IsKnown t layers entries steps → IsKnown t layers entries (steps ++ step ∷ [])
+pub known_step : (t : Tabled) (layers : List (List ℕ)) (entries : Entries) (steps : List KnownStep) (step : KnownStep) → IsKnown t layers entries steps → IsKnown t layers entries (steps ++ step ∷ [])
 known_step t layers entries steps step known = record {
   few = known.few;
-  each = λ k b e small at. still_true b (layer_at layers k) e (known.each k b e small at);
+  each = λ k b small. still_true b (layer_at layers k) (entry_at entries k b) (known.each k b small);
 }
   where
     still_true : (b : ℕ) (sets : List ℕ) (e : ℕ) → IsEntry t layers steps b sets e → IsEntry t layers (steps ++ step ∷ []) b sets e
@@ -173,25 +173,63 @@ entry_last t layers steps step b sets place e is sum look_ups next =
 
 -- ---- one entry more
 
-pub known_entry : (t : Tabled) (layers : List (List ℕ)) (entries : List ℕ) (steps : List KnownStep) (k b e at : ℕ) → b < 256 → at ≡ 256 * k + b → at < length entries →
-    IsEntry t layers steps b (layer_at layers k) e → IsKnown t layers entries steps → IsKnown t layers (set entries at e) steps
-known_entry t layers entries steps k b e at small is within entry known = record {
-  few = (let l = set_length entries at e in let f = known.few in omega arith);
-  each = λ j c d less there. elim (cases_eq at (256 * j + c)) as (λ _. IsEntry t layers steps c (layer_at layers j) d) [
-    | inl same ↦
-        let here : slice_get (set entries at e) at ≡ Some d = subst (λ n. slice_get (set entries at e) n ≡ Some d) (sym same) there in
-        let value : e ≡ d = same_Some e d (sym (get_set_same entries at e within) ∙ here) in
-        let layer : k ≡ j = omega arith in
-        let byte : b ≡ c = omega arith in
-        subst (λ n. IsEntry t layers steps n (layer_at layers j) d) byte (subst (λ n. IsEntry t layers steps b (layer_at layers n) d) layer (subst (λ n. IsEntry t layers steps b (layer_at layers k) n) value entry))
-    | inr ne ↦ known.each j c d less (sym (get_set_other entries at (256 * j + c) e ne) ∙ there)
+pub known_entry : (t : Tabled) (layers : List (List ℕ)) (old new : Entries) (steps : List KnownStep) (layer byte e : ℕ) →
+    ((k b : ℕ) → b < 256 → (entry_at new k b ≡ entry_at old k b) ⊎ ((k ≡ layer) × (b ≡ byte) × (entry_at new k b ≡ e))) → length new.asked.items ≡ length old.asked.items → IsEntry t layers steps byte (layer_at layers layer) e →
+    IsKnown t layers old steps → IsKnown t layers new steps
+known_entry t layers old new steps layer byte e entered rows entry known = record {
+  few = omega (arith, known.few, rows);
+  each = λ k b small. elim (entered k b small) as (λ _. IsEntry t layers steps b (layer_at layers k) (entry_at new k b)) [
+    | inl same ↦ subst (λ n. IsEntry t layers steps b (layer_at layers k) n) (sym same) (known.each k b small)
+    | inr (row, here, value) ↦
+        subst (λ n. IsEntry t layers steps b (layer_at layers k) n) (sym value)
+        (subst (λ n. IsEntry t layers steps n (layer_at layers k) e) (sym here) (subst (λ n. IsEntry t layers steps byte (layer_at layers n) e) (sym row) entry))
   ];
 }
-  where
-    set_length : (xs : List ℕ) (i x : ℕ) → length (set xs i x) ≡ length xs
-    set_length [] i x = refl
-    set_length (y ∷ xs) zero x = refl
-    set_length (y ∷ xs) (suc i) x = ap suc (set_length xs i x)
+
+-- ---- bytes on which sets have the same edges
+
+look_ups_alike : (t : Tabled) (b other : ℕ) (sets : List ℕ) (groups : List Edges) → AreAlike t b other sets → AreLookUps t other sets groups → AreLookUps t b sets groups
+look_ups_alike t b other [] [] alike all = tt
+look_ups_alike t b other [] (g ∷ groups) alike all = absurd all
+look_ups_alike t b other (s ∷ sets) [] alike all = absurd all
+look_ups_alike t b other (s ∷ sets) (g ∷ groups) alike all =
+    let one = alike s (inl refl) in (
+      record {
+        given = one.given;
+        asked = one.asked;
+        by = all.0.by;
+        are = all.0.are;
+        edges = record { named = all.0.edges.named ∙ sym one.same; targets = all.0.edges.targets; order = all.0.edges.order };
+      },
+      look_ups_alike t b other sets groups (λ n h. alike n (inr h)) all.1,
+    )
+
+pub entry_alike : (t : Tabled) (layers : List (List ℕ)) (steps : List KnownStep) (b other : ℕ) (sets : List ℕ) (e : ℕ) → AreAlike t b other sets → IsEntry t layers steps other sets e → IsEntry t layers steps b sets e
+entry_alike t layers steps b other sets e alike (inl none) = inl none
+entry_alike t layers steps b other sets e alike (inr (inl still)) =
+    inr (inl (still.0, λ s h. let one = alike s h in (one.given, record { asked = one.asked; itself = one.same ∙ (still.1 s h).1.itself })))
+entry_alike t layers steps b other sets e alike (inr (inr (p, step, is, at, of))) =
+    inr (inr (p, step, is, at, record { look_ups = look_ups_alike t b other sets step.program.groups alike of.look_ups; next = of.next }))
+
+-- what `==` says of two edges
+pub same_edge : (a b : Edge) → Decides ((a.marks == b.marks) && (a.to == b.to)) (a ≡ b)
+same_edge a b = (
+  λ yes.
+      (let p = and_parts (a.marks == b.marks) (a.to == b.to) yes in λ i. (let e : Edge = record { marks = eqb-true a.marks b.marks p.0 i; to = eqb-true a.to b.to p.1 i } in e)),
+  λ same. and_from (a.marks == b.marks) (a.to == b.to) (eq-eqb a.marks b.marks (ap (λ (e : Edge). e.marks) same)) (eq-eqb a.to b.to (ap (λ (e : Edge). e.to) same)),
+)
+
+-- a set whose edges on two bytes are equal
+pub alike_is : (t : Tabled) (set b other s : ℕ) (es fs : List Edge) → (set < length t.sets) × HasEdges t (look_up t set (byte_read b)) es → Has t.look_ups (look_up t set (byte_read b)) → HasEdges t (look_up t set (byte_read other)) fs →
+    es ≡ fs → (set ≡ s) ⊎ ⊥ → IsAlike t b other s
+alike_is t set b other s es fs has there others same (inr none) = absurd none
+alike_is t set b other s es fs has there others same (inl is) =
+    subst (λ n. IsAlike t b other n) is
+    (record { given = has.0; asked = there; same = sym has.1.named ∙ (ap (map (edge_named t.sets)) same ∙ others.named) })
+
+-- sets that are alike, one after another
+pub alike_more : (t : Tabled) (b other : ℕ) (sets : List ℕ) (k x : ℕ) → k < length sets → x ≡ get_or sets k 0 → AreAlike t b other (take k sets) → AreAlike t b other (x ∷ []) → AreAlike t b other (take (k + 1) sets)
+alike_more t b other sets k x within is all one s h = elim (Has-take_more_cases sets k 0 s within h) as (λ _. IsAlike t b other s) [ inl old ↦ all s old | inr same ↦ one s (inl (is ∙ same)) ]
 
 -- ---- the look-ups of a layer, one after another
 

@@ -1,6 +1,8 @@
 pub mod Advancing
+pub mod ClassLaws
 pub mod Composing
 pub mod Ending
+pub mod EntryLaws
 pub mod Faulting
 pub mod GraphBridge
 pub mod KnownLaws

@@ -1,15 +1,17 @@
 -- What is kept of whole layers: what each does on a byte.
-use Rattle.std.specs.Prelude.{◌≡◌, ◌⊎◌, ℕ, ◌+◌, ◌*◌, ◌<◌, ◌≤◌, List, [], ◌∷◌, length, Option, Some, None, slice_get, slice_index_or, IsTrue}
+use Rattle.std.specs.Prelude.{◌≡◌, ◌⊎◌, ℕ, ◌+◌, ◌<◌, ◌≤◌, List, [], ◌∷◌, length, Option, Some, None, slice_get, slice_index_or, IsTrue}
 use Rattle.std.specs.FinSet as bytes
 use Rattle.span_core.specs.Lists.{Has}
 use Rattle.span_core.specs.declared.edge.Edge.{Edge}
-use Rattle.automaton_reading.specs.Reading.{byte_read}
+use Rattle.automaton_reading.specs.Reading.{byte_read, edges}
 use Rattle.output_graph.specs.Graph.{Graph, sets_of}
 use Rattle.output_graph.specs.Source.{Edges}
 use Rattle.output_graph.specs.Sound.{edges_of}
+use Rattle.one_pass.specs.declared.entries.Entries.{Entries}
 use Rattle.one_pass.specs.declared.known.Known.{Known}
 use Rattle.one_pass.specs.declared.known.KnownStep.{KnownStep}
-use Rattle.set_table.specs.Tabled.{HasEdges, Stays, Tabled, look_up}
+use Rattle.set_table.specs.Tabled.{HasEdges, Stays, Tabled, look_up, set_at}
+use Rattle.one_pass.specs.Entries.{entry_at}
 use Rattle.one_pass.specs.Passes.{AllStayOn}
 use Rattle.one_pass.specs.Seen.{whole}
 
@@ -32,6 +34,15 @@ AreLookUps t b (s ∷ sets) (group ∷ groups) = IsLookUp t b s group × AreLook
 abbrev pub AreStill : Tabled → ℕ → List ℕ → Type 0
 AreStill t b sets = (s : ℕ) → Has sets s → (s < length t.sets) × Stays t s b
 
+-- the set of a number was asked for a byte, and has the same edges on it as on another
+pub record IsAlike (t : Tabled) (b other s : ℕ) : Type 0 where
+  pub given : s < length t.sets
+  pub asked : Has t.look_ups (look_up t s (byte_read b))
+  pub same : edges t.graph (set_at t.sets s) (byte_read b) ≡ edges t.graph (set_at t.sets s) (byte_read other)
+
+abbrev pub AreAlike : Tabled → ℕ → ℕ → List ℕ → Type 0
+AreAlike t b other sets = (s : ℕ) → Has sets s → IsAlike t b other s
+
 -- the sets of the layer of a number
 abbrev pub layer_at : List (List ℕ) → ℕ → List ℕ
 layer_at layers k = slice_index_or layers k []
@@ -47,12 +58,12 @@ IsEntry t layers steps b sets e =
     (e ≡ 0) ⊎ (((e ≡ 1) × AreStill t b sets) ⊎ ((p : ℕ) × (step : KnownStep) × (e ≡ p + 2) × (slice_get steps p ≡ Some step) × IsStepOf t layers b sets step))
 
 -- what is entered is true of the table
-pub record IsKnown (t : Tabled) (layers : List (List ℕ)) (entries : List ℕ) (steps : List KnownStep) : Type 0 where
-  pub few : length entries ≤ 256 * length layers
-  pub each : (k b e : ℕ) → b < 256 → slice_get entries (256 * k + b) ≡ Some e → IsEntry t layers steps b (layer_at layers k) e
+pub record IsKnown (t : Tabled) (layers : List (List ℕ)) (entries : Entries) (steps : List KnownStep) : Type 0 where
+  pub few : length entries.asked.items ≤ length layers
+  pub each : (k b : ℕ) → b < 256 → IsEntry t layers steps b (layer_at layers k) (entry_at entries k b)
 
 abbrev pub Knows : Tabled → Known → Type 0
-Knows t known = IsKnown t known.layers known.entries.items known.steps.items
+Knows t known = IsKnown t known.layers known.entries known.steps.items
 
 -- no layer has another number
 abbrev pub KeepsLayers : Known → Known → Type 0

@@ -10,7 +10,8 @@ ghost use Rattle.one_pass.specs.Passes.{HasRead, HasStopped, IsReady, pass, stop
 ghost use Rattle.one_pass.specs.Places.{byte_at};
 ghost use Rattle.one_pass.specs.Seen.{whole};
 
-use crate::known::{Known, KnownStep, STILL, UNKNOWN};
+use crate::entries::UNKNOWN;
+use crate::known::{Known, KnownStep, STILL};
 use crate::places::step_byte;
 use output_graph::OutputGraph;
 use set_table::{Table, TableFault};

@@ -1,16 +1,19 @@
 //! Whole layers, worked out once: what a layer does on a byte.
 //!
 //! A layer, as the list of its sets, has a number, found by hash only where a step led to it that was not known. What
-//! it does on a byte is entered once, in a dense table of layers and bytes. All of it follows from what the table of
-//! sets has answered, which never changes, so that it may be forgotten, or never kept, at any time.
+//! it does on a byte is entered once for all bytes of a class, and serves those that each of its sets was asked for. All of
+//! it follows from what the table of sets has answered, which never changes, so that it may be forgotten, or never kept, at
+//! any time.
 ghost use Rattle.std.specs.Prelude.{◌≡◌, ℕ, ◌+◌, ◌*◌, ◌<◌, ◌≤◌, [], ◌∷◌, ◌++◌, length, slice_get, Some, None, IfOk, IfSome, IsTrue};
 ghost use Rattle.output_graph.specs.Graph.{sets_of};
 ghost use Rattle.output_graph.specs.Source.{Edges};
 ghost use Rattle.set_table.specs.Tabled.{Tabled};
-ghost use Rattle.one_pass.specs.Known.{AreLookUps, AreStill, IsEntry, IsLookUp, IsStepOf, KeepsKnown, KeepsLayers, Knows, Stands, layer_at};
+ghost use Rattle.one_pass.specs.Known.{AreAlike, AreLookUps, AreStill, IsEntry, IsLookUp, IsStepOf, KeepsKnown, KeepsLayers, Knows, Stands, layer_at};
 ghost use Rattle.one_pass.specs.Passes.{AreGiven};
 ghost use Rattle.one_pass.specs.Seen.{whole};
 
+use crate::classes::Classes;
+use crate::entries::Entries;
 use crate::places::stays_of;
 use output_graph::{OutputGraph, Program};
 use set_table::{NumberedLists, Table};
@@ -26,11 +29,8 @@ pub(crate) const MOST_WORDS: usize = 4_194_304;
 /// The words of a step beside those of its edges and sources.
 const STEP_WORDS: usize = 32;
 
-/// How many bytes there are.
-const BYTES: usize = 256;
-
-/// Nothing is known.
-pub const UNKNOWN: u32 = 0;
+/// The words of the largest layer that is kept.
+const MOST_LAYER_WORDS: usize = 264 + MOST_SETS;
 
 /// Nothing changes.
 pub const STILL: u32 = 1;
@@ -49,10 +49,11 @@ pub(crate) struct KnownStep {
 pub struct Known {
     alloc: Global,
     pub(crate) layers: NumberedLists,
-    pub(crate) entries: Vec<u32>,
+    pub(crate) entries: Entries,
     pub(crate) steps: Vec<KnownStep>,
     pub(crate) stays: ByteSet,
     left: usize,
+    anew: u64,
 }
 
 impl Known {
@@ -64,22 +65,35 @@ impl Known {
         Known {
             alloc,
             layers: NumberedLists::new(alloc),
-            entries: Vec::new(alloc),
+            entries: Entries::new(alloc, Classes::one()),
             steps: Vec::new(alloc),
             stays: ByteSet::empty(),
             left: words,
+            anew: 0,
         }
     }
 
+    /// How many programs of layers are kept.
+    pub fn programs(&self) -> usize
+        ensures { result ≡ length self.now.steps.items }
+    {
+        self.steps.len()
+    }
+
+    /// How many bytes were read set by set, since nothing was known of them.
+    pub fn anew(&self) -> u64
+        ensures { result ≡ self.now.anew }
+    {
+        self.anew
+    }
+
     /// What is entered for a byte of a layer.
+    #[inline(always)]
     pub(crate) fn entry(&self, layer: usize, byte: u8) -> u32
         requires { layer < length self.now.layers }
         ensures { (t : Tabled) → Knows t self.now → IsEntry t self.now.layers self.now.steps.items byte (layer_at self.now.layers layer) result }
     {
-        if self.entries.len() / BYTES <= layer {
-            return UNKNOWN;
-        }
-        self.entries[BYTES * layer + byte as usize]
+        self.entries.at(layer, byte)
     }
 
     /// Keeps what the layer of a number does on a byte, which has been asked of each of its sets, and where the graph
@@ -97,6 +111,7 @@ impl Known {
         ensures known { Knows table.now self.new }
         ensures stands { Stands table.now graph.now self.new result }
     {
+        self.anew = self.anew.saturating_add(1);
         if let Some(layer) = before {
             self.learn(table, layer, byte);
         }
@@ -111,7 +126,7 @@ impl Known {
         ensures known { Knows table.now self.new }
         ensures stands { Stands table.now graph.now self.new result }
     {
-        if let Some(layer) = self.locate(graph) {
+        if let Some(layer) = self.locate(table, graph) {
             return Some(layer);
         }
         self.stays = stays_of(table, graph);
@@ -119,16 +134,26 @@ impl Known {
     }
 
     /// The number of the graph's layer, if it is kept.
-    fn locate(&mut self, graph: &OutputGraph) -> Option<usize>
+    fn locate(&mut self, table: &Table<'_>, graph: &OutputGraph) -> Option<usize>
         ensures keeps { KeepsKnown self.old self.new }
         ensures number { IfSome result (λ k. slice_get self.new.layers k ≡ Some (sets_of graph.now.layer)) }
     {
-        if graph.layer_len() > MOST_SETS || self.left < BYTES {
+        if graph.layer_len() > MOST_SETS || self.left < MOST_LAYER_WORDS {
             return None;
         }
+        self.begin(table);
         match sets_in(self.alloc, graph) {
             Ok(sets) => self.number(sets),
             Err(_) => None,
+        }
+    }
+
+    /// Sorts bytes into classes, if no layer is kept yet.
+    fn begin(&mut self, table: &Table<'_>)
+        ensures keeps { KeepsKnown self.old self.new }
+    {
+        if self.layers.len() == 0 {
+            self.entries = Entries::new(self.alloc, Classes::of_ways(self.alloc, table.ways()));
         }
     }
 
@@ -138,7 +163,7 @@ impl Known {
         ensures layers { KeepsLayers self.old self.new }
         ensures number { IfSome result (λ k. slice_get self.new.layers k ≡ Some sets.items) }
     {
-        let size = BYTES + sets.len();
+        let size = self.entries.layer_words() + sets.len();
         if self.left < size {
             return None;
         }
@@ -151,19 +176,8 @@ impl Known {
             return Some(number);
         }
         self.left -= size;
-        self.make_room();
+        self.entries.make_room(self.layers.len());
         Some(number)
-    }
-
-    /// Entries for all layers, where there is memory.
-    fn make_room(&mut self)
-        ensures keeps { KeepsKnown self.old self.new }
-        ensures layers { self.new.layers ≡ self.old.layers }
-    {
-        let layers = self.layers.len();
-        if layers <= MOST_WORDS && self.entries.len() < BYTES * layers {
-            let _room = self.entries.resize(BYTES * layers, UNKNOWN);
-        }
     }
 
     /// Keeps what the layer of a number does on a byte, if each of its sets has been asked for it.
@@ -174,6 +188,31 @@ impl Known {
         if self.layers.len() <= layer {
             return;
         }
+        match self.entries.like(layer, byte) {
+            Some(other) => self.learn_alike(table, layer, byte, other),
+            None => self.learn_first(table, layer, byte),
+        }
+    }
+
+    /// Keeps that a layer does on a byte what it does on another, if each of its sets has been asked for it and has the same
+    /// edges on both.
+    fn learn_alike(&mut self, table: &Table<'_>, layer: usize, byte: u8, other: u8)
+        requires known { Knows table.now self.old }
+        requires within { layer < length self.old.layers }
+        ensures { Knows table.now self.new }
+    {
+        if are_alike(table, self.layers.at(layer), byte, other) {
+            let entry = self.entries.at(layer, other);
+            self.enter(table, layer, byte, entry);
+        }
+    }
+
+    /// As `learn`, where nothing is entered for the class of the byte.
+    fn learn_first(&mut self, table: &Table<'_>, layer: usize, byte: u8)
+        requires known { Knows table.now self.old }
+        requires within { layer < length self.old.layers }
+        ensures { Knows table.now self.new }
+    {
         if are_still(table, self.layers.at(layer), byte) {
             self.enter(table, layer, byte, STILL);
             return;
@@ -240,9 +279,7 @@ impl Known {
         requires entry { IsEntry table.now self.old.layers self.old.steps.items byte (layer_at self.old.layers layer) entry }
         ensures { Knows table.now self.new }
     {
-        if layer < self.entries.len() / BYTES {
-            self.entries[BYTES * layer + byte as usize] = entry;
-        }
+        self.entries.enter(layer, byte, entry);
     }
 }
 
@@ -309,6 +346,31 @@ fn leads_back(edge: Edge, set: u32) -> bool
     ensures { IsTrue result → edge ≡ record { marks = 0; to = set } }
 {
     edge.marks.is_none() && edge.to == set
+}
+
+/// Whether each of these sets was asked for the byte, and has the same edges on it as on the other.
+fn are_alike(table: &Table<'_>, sets: &[u32], byte: u8, other: u8) -> bool
+    ensures { IsTrue result → AreAlike table.now byte other sets.now }
+{
+    for set in sets {
+        if !is_alike(table, *set, byte, other) {
+            return false;
+        }
+    }
+    true
+}
+
+/// Whether a set was asked for the byte, and has the same edges on it as on the other.
+fn is_alike(table: &Table<'_>, set: u32, byte: u8, other: u8) -> bool
+    ensures { IsTrue result → AreAlike table.now byte other (set ∷ []) }
+{
+    let Some(edges) = table.asked_row(set, byte) else {
+        return false;
+    };
+    match table.asked_row(set, other) {
+        Some(others) => edges == others,
+        None => false,
+    }
 }
 
 /// The program of these sets on a byte, if each of them was asked for it.

@@ -12,6 +12,8 @@ pub use pieces::{advance, advance_by, finish};
 pub use reading::read;
 
 mod bytes;
+mod classes;
+mod entries;
 mod known;
 pub mod laws;
 mod listing;

@@ -6,8 +6,8 @@ use Rattle.one_pass.proofs.known.Known.add_step.Goals as goal
 pub enter-requires-clause-known : goal.enter-requires-clause-known
 enter-requires-clause-known c =
     let s = c.args.self.now in
-    subst (λ xs. IsKnown c.args.table.now s.layers s.entries.items xs) (sym c.in-Ok.ensures.items)
-    (known_step c.args.table.now s.layers s.entries.items s.steps.items c.args.step c.requires.known)
+    subst (λ xs. IsKnown c.args.table.now s.layers s.entries xs) (sym c.in-Ok.ensures.items)
+    (known_step c.args.table.now s.layers s.entries s.steps.items c.args.step c.requires.known)
 
 pub enter-requires-clause-entry : goal.enter-requires-clause-entry
 enter-requires-clause-entry c =

@@ -1,8 +1,8 @@
-use Rattle.std.proofs.Common.{arith}
-use Rattle.std.proofs.lemmas.Option.{slice_get_read}
+use Rattle.std.proofs.Common.{sym, subst, arith}
+use Rattle.one_pass.specs.Known.{IsEntry, layer_at}
 use Rattle.one_pass.proofs.known.Known.entry.Goals as goal
 
 pub returns : goal.returns
 returns c = λ t known.
-    let has = c.args.self.now.entries.ok.0 in
-    known.each c.args.layer c.args.byte c.index.result.now (omega (arith, c.ranges.byte.fits)) (slice_get_read _ _ _ _ has (omega arith) c.index.ensures)
+    let s = c.args.self.now in
+    subst (λ e. IsEntry t s.layers s.steps.items c.args.byte (layer_at s.layers c.args.layer) e) (sym c.at.ensures) (known.each c.args.layer c.args.byte (omega (arith, c.ranges.byte.fits)))

@@ -1,0 +1,155 @@
+-- Entries by classes of bytes: where there is none, more room, and one entry more.
+use Rattle.std.proofs.Common.{◌≡◌, ◌⊎◌, ℕ, zero, suc, ◌+◌, ◌-◌, ◌*◌, ◌<◌, ◌≤◌, Bool, true, false, List, ◌++◌, length, get_or, set as put, take, replicate, inl, inr, refl, sym, ap, subst, arith, ◌∙◌, if◌then◌else◌}
+use Rattle.std.specs.Prelude.{slice_index, IsTrue, ◌↔◌}
+use Rattle.std.specs.Ordering.{nat_cmp}
+use Rattle.std.specs.FinSet.{contains-empty}
+use Rattle.std.specs.FinSet as bytes
+use Rattle.std.proofs.lemmas.Bool.{cases_eq, cases_lt}
+use Rattle.std.proofs.lemmas.List.{get_or-set_same, get_or-set_other, get_or_append_left, get_or_past, get_or_read, take_all}
+use Rattle.std.proofs.lemmas.Nat.{mul-add-lt}
+use Rattle.std.proofs.Math.Seq.{get_or-append_right}
+use Rattle.set_table.proofs.StayLaws.{is_noted}
+use Rattle.one_pass.specs.Entered.{has_entry, place_in}
+
+abbrev Sets : Type 0
+Sets = List (bytes.FinSet nat_cmp)
+
+differ : false ≡ true → ⊥
+differ e = cc
+
+-- past the layers there is none
+pub none_past : (asked : Sets) (k b : ℕ) → length asked ≤ k → has_entry asked k b ≡ false
+none_past asked k b past = ap (λ s. bytes.contains s b) (get_or_past asked k bytes.empty past) ∙ contains-empty nat_cmp b
+
+-- a layer with an entry is within
+pub within_asked : (asked : Sets) (k b : ℕ) → has_entry asked k b ≡ true → k < length asked
+within_asked asked k b has = elim (cases_lt k (length asked)) as (λ _. k < length asked) [ inl less ↦ less | inr past ↦ absurd (differ (sym (none_past asked k b past) ∙ has)) ]
+
+-- the place of an entry is within
+pub place_within : (count class k layers total : ℕ) → class < count → k < layers → count * layers ≤ total → count * k + class < total
+place_within count class k layers total small less room =
+    let turned : count * k ≡ k * count = omega arith in
+    let all : count * layers ≡ layers * count = omega arith in
+    omega (arith, mul-add-lt k count class layers less small, room, turned, all)
+
+-- ---- more sets, which are empty
+
+more_empty : (n j : ℕ) (s : bytes.FinSet nat_cmp) → s ≡ bytes.empty → get_or (replicate n s) j bytes.empty ≡ bytes.empty
+more_empty zero j s is = refl
+more_empty (suc n) zero s is = is
+more_empty (suc n) (suc j) s is = more_empty n j s is
+
+pub same_sets : (asked new : Sets) (wanted n : ℕ) (ok : Bool) (s : bytes.FinSet nat_cmp) → new ≡ (if ok then take wanted asked ++ replicate (wanted - n) s else asked) → s ≡ bytes.empty → length asked ≤ wanted →
+    (k : ℕ) → get_or new k bytes.empty ≡ get_or asked k bytes.empty
+same_sets asked new wanted n false s is none more k = ap (λ (xs : Sets). get_or xs k bytes.empty) is
+same_sets asked new wanted n true s is none more k =
+    let all : new ≡ asked ++ replicate (wanted - n) s = is ∙ ap (λ (xs : Sets). xs ++ replicate (wanted - n) s) (take_all wanted asked more) in
+    ap (λ (xs : Sets). get_or xs k bytes.empty) all ∙ elim (cases_lt k (length asked)) as (λ _. get_or (asked ++ replicate (wanted - n) s) k bytes.empty ≡ get_or asked k bytes.empty) [
+      | inl less ↦ get_or_append_left asked (replicate (wanted - n) s) bytes.empty k less
+      | inr past ↦ get_or-append_right asked (replicate (wanted - n) s) k bytes.empty past ∙ (more_empty (wanted - n) (k - length asked) s none ∙ sym (get_or_past asked k bytes.empty past))
+    ]
+
+-- there are as many as before, or as wanted
+pub rows_room : (count rows total wide wanted n later : ℕ) (ok : Bool) → later ≡ (if ok then wanted else n) → n ≡ rows → count * rows ≤ total → total ≤ wide → count * wanted ≤ wide → count * later ≤ wide
+rows_room count rows total wide wanted n later false is same room more enough = let e = ap (λ k. count * k) (is ∙ same) in omega (arith, e, room, more)
+rows_room count rows total wide wanted n later true is same room more enough = let e = ap (λ k. count * k) is in omega (arith, e, enough)
+
+-- ---- room for more layers
+
+module _ (asked new : Sets) (numbers wide : List ℕ) (count : ℕ) (classes : List ℕ) (small : (b : ℕ) → b < 256 → slice_index classes b < count) (room : count * length asked ≤ length numbers)
+    (same : (k : ℕ) → get_or new k bytes.empty ≡ get_or asked k bytes.empty) (kept : (j : ℕ) → j < length numbers → slice_index wide j ≡ slice_index numbers j) where
+  same_asked : (k b : ℕ) → has_entry new k b ≡ has_entry asked k b
+  same_asked k b = ap (λ s. bytes.contains s b) (same k)
+
+  same_place : (k b : ℕ) → b < 256 → has_entry asked k b ≡ true → slice_index wide (place_in count classes k b) ≡ slice_index numbers (place_in count classes k b)
+  same_place k b less has = kept (place_in count classes k b) (place_within count (slice_index classes b) k (length asked) (length numbers) (small b less) (within_asked asked k b has) room)
+
+  pub room_entry : (k b : ℕ) → b < 256 → (if has_entry new k b then slice_index wide (place_in count classes k b) else 0) ≡ (if has_entry asked k b then slice_index numbers (place_in count classes k b) else 0)
+  room_entry k b less = ap (λ v. if v then slice_index wide (place_in count classes k b) else 0) (same_asked k b) ∙ by (has_entry asked k b) refl
+    where
+      by : (v : Bool) → has_entry asked k b ≡ v → (if v then slice_index wide (place_in count classes k b) else 0) ≡ (if v then slice_index numbers (place_in count classes k b) else 0)
+      by false is = refl
+      by true is = same_place k b less is
+
+  pub room_some : ((k b : ℕ) → b < 256 → IsTrue (has_entry asked k b) → 0 < slice_index numbers (place_in count classes k b)) → (k b : ℕ) → b < 256 → IsTrue (has_entry new k b) → 0 < slice_index wide (place_in count classes k b)
+  room_some old k b less has =
+      let was = sym (same_asked k b) ∙ has in
+      subst (λ n. 0 < n) (sym (same_place k b less was)) (old k b less was)
+
+-- ---- one entry more
+
+module _ (asked new : Sets) (numbers : List ℕ) (place : ℕ → ℕ → ℕ) (layer byte e : ℕ) (noted : (k b : ℕ) → IsTrue (has_entry new k b) ↔ (IsTrue (has_entry asked k b) ⊎ ((k ≡ layer) × (byte ≡ b)))) (within : place layer byte < length numbers)
+    (some : 0 < e) (had : (slice_index numbers (place layer byte) ≡ 0) ⊎ (slice_index numbers (place layer byte) ≡ e)) (old : (k b : ℕ) → b < 256 → IsTrue (has_entry asked k b) → 0 < slice_index numbers (place k b)) where
+  abbrev After : List ℕ
+  After = put numbers (place layer byte) e
+
+  here : (k b : ℕ) → k ≡ layer → byte ≡ b → slice_index After (place k b) ≡ e
+  here k b row same =
+      let at : place k b ≡ place layer byte = ap (λ n. place n b) row ∙ ap (place layer) (sym same) in
+      ap (slice_index After) at ∙ get_or-set_same numbers (place layer byte) e 0 within
+
+  -- what was entered is still there
+  there : (k b : ℕ) → b < 256 → IsTrue (has_entry asked k b) → slice_index After (place k b) ≡ slice_index numbers (place k b)
+  there k b less has = elim (cases_eq (place layer byte) (place k b)) as (λ _. slice_index After (place k b) ≡ slice_index numbers (place k b)) [
+    | inl same ↦
+        let more : 0 < slice_index numbers (place layer byte) = subst (λ n. 0 < slice_index numbers n) (sym same) (old k b less has) in
+        let is : slice_index numbers (place layer byte) ≡ e = elim had as (λ _. slice_index numbers (place layer byte) ≡ e) [ inl none ↦ absurd (omega (arith, more, none)) | inr one ↦ one ] in
+        ap (slice_index After) (sym same) ∙ (get_or-set_same numbers (place layer byte) e 0 within ∙ (sym is ∙ ap (slice_index numbers) same))
+    | inr other ↦ get_or-set_other numbers (place layer byte) (place k b) e 0 (λ back. other (sym back))
+  ]
+
+  pub more_some : (k b : ℕ) → b < 256 → IsTrue (has_entry new k b) → 0 < slice_index After (place k b)
+  more_some k b less has = elim ((noted k b).0 has) as (λ _. 0 < slice_index After (place k b)) [
+    | inl was ↦ subst (λ n. 0 < n) (sym (there k b less was)) (old k b less was)
+    | inr (row, same) ↦ subst (λ n. 0 < n) (sym (here k b row same)) some
+  ]
+
+  abbrev Before_at : ℕ → ℕ → ℕ
+  Before_at k b = if has_entry asked k b then slice_index numbers (place k b) else 0
+
+  abbrev After_at : ℕ → ℕ → ℕ
+  After_at k b = if has_entry new k b then slice_index After (place k b) else 0
+
+  pub more_entered : (k b : ℕ) → b < 256 → (After_at k b ≡ Before_at k b) ⊎ ((k ≡ layer) × (b ≡ byte) × (After_at k b ≡ e))
+  more_entered k b less = by (has_entry new k b) refl
+    where
+      was : (v : Bool) → has_entry asked k b ≡ v → has_entry new k b ≡ false → Before_at k b ≡ 0
+      was false is none = ap (λ v. if v then slice_index numbers (place k b) else 0) is
+      was true is none = absurd (differ (sym none ∙ (noted k b).1 (inl is)))
+
+      by : (v : Bool) → has_entry new k b ≡ v → (After_at k b ≡ Before_at k b) ⊎ ((k ≡ layer) × (b ≡ byte) × (After_at k b ≡ e))
+      by false is = inl (ap (λ v. if v then slice_index After (place k b) else 0) is ∙ sym (was (has_entry asked k b) refl is))
+      by true is =
+          let now : After_at k b ≡ slice_index After (place k b) = ap (λ v. if v then slice_index After (place k b) else 0) is in
+          elim ((noted k b).0 is) as (λ _. (After_at k b ≡ Before_at k b) ⊎ ((k ≡ layer) × (b ≡ byte) × (After_at k b ≡ e))) [
+            | inl had ↦ inl (now ∙ (there k b less had ∙ sym (ap (λ v. if v then slice_index numbers (place k b) else 0) had)))
+            | inr (row, same) ↦ inr (row, sym same, now ∙ here k b row same)
+          ]
+
+-- as the code enters it
+module _ (asked : Sets) (numbers : List ℕ) (count : ℕ) (classes : List ℕ) (layer byte e place had : ℕ) (was one with_one : bytes.FinSet nat_cmp) (in_asked : layer < length asked) (at : place ≡ place_in count classes layer byte)
+    (in_numbers : place < length numbers) (read : had ≡ get_or numbers place had) (free : (had ≡ 0) ⊎ (had ≡ e)) (some : 0 < e) (read_set : was ≡ get_or asked layer was) (single : one ≡ bytes.insert bytes.empty byte)
+    (joined : with_one ≡ bytes.union was one) (old : (k b : ℕ) → b < 256 → IsTrue (has_entry asked k b) → 0 < slice_index numbers (place_in count classes k b)) where
+  noted : (k b : ℕ) → IsTrue (has_entry (put asked layer with_one) k b) ↔ (IsTrue (has_entry asked k b) ⊎ ((k ≡ layer) × (byte ≡ b)))
+  noted = is_noted asked (put asked layer with_one) layer byte was in_asked read_set (ap (put asked layer) (joined ∙ ap (bytes.union was) single))
+
+  free_there : (slice_index numbers (place_in count classes layer byte) ≡ 0) ⊎ (slice_index numbers (place_in count classes layer byte) ≡ e)
+  free_there =
+      let is : slice_index numbers (place_in count classes layer byte) ≡ had = ap (slice_index numbers) (sym at) ∙ sym (get_or_read numbers place had in_numbers read 0) in
+      elim free as (λ _. (slice_index numbers (place_in count classes layer byte) ≡ 0) ⊎ (slice_index numbers (place_in count classes layer byte) ≡ e)) [ inl none ↦ inl (is ∙ none) | inr same ↦ inr (is ∙ same) ]
+
+  within : place_in count classes layer byte < length numbers
+  within = subst (λ n. n < length numbers) at in_numbers
+
+  pub entered_some : (k b : ℕ) → b < 256 → IsTrue (has_entry (put asked layer with_one) k b) → 0 < slice_index (put numbers place e) (place_in count classes k b)
+  entered_some k b less has =
+      subst (λ n. 0 < slice_index (put numbers n e) (place_in count classes k b)) (sym at)
+      (more_some asked (put asked layer with_one) numbers (place_in count classes) layer byte e noted within some free_there old k b less has)
+
+  pub entered : (k b : ℕ) → b < 256 →
+      ((if has_entry (put asked layer with_one) k b then slice_index (put numbers place e) (place_in count classes k b) else 0) ≡ (if has_entry asked k b then slice_index numbers (place_in count classes k b) else 0)) ⊎ ((k ≡ layer) × (b ≡ byte) ×
+      ((if has_entry (put asked layer with_one) k b then slice_index (put numbers place e) (place_in count classes k b) else 0) ≡ e))
+  entered k b less =
+      subst (λ n. ((if has_entry (put asked layer with_one) k b then slice_index (put numbers n e) (place_in count classes k b) else 0) ≡ (if has_entry asked k b then slice_index numbers (place_in count classes k b) else 0)) ⊎ ((k ≡ layer) × (b ≡ byte) ×
+      ((if has_entry (put asked layer with_one) k b then slice_index (put numbers n e) (place_in count classes k b) else 0) ≡ e))) (sym at)
+      (more_entered asked (put asked layer with_one) numbers (place_in count classes) layer byte e noted within some free_there old k b less)

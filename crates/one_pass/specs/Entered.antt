@@ -1,0 +1,12 @@
+-- Where entries of layers and bytes stand: by classes of bytes.
+use Rattle.std.specs.Prelude.{ℕ, ◌+◌, ◌*◌, Bool, List, slice_index, slice_index_or}
+use Rattle.std.specs.Ordering.{nat_cmp}
+use Rattle.std.specs.FinSet as bytes
+
+-- whether a byte was asked in the layer of a number
+abbrev pub has_entry : List (bytes.FinSet nat_cmp) → ℕ → ℕ → Bool
+has_entry asked k b = bytes.contains (slice_index_or asked k bytes.empty) b
+
+-- the place of a byte's class, of so many, in the layer of a number
+abbrev pub place_in : ℕ → List ℕ → ℕ → ℕ → ℕ
+place_in count classes k b = count * k + slice_index classes b
