@@ -16,7 +16,7 @@ use crate::answer::TableQuestion;
 use crate::reaching::start_set;
 use crate::store::{Store, edges_part, place_of};
 use crate::{TableFault, TableState};
-use marked_automaton::Automaton;
+use marked_automaton::{Automaton, Way};
 use span_core::{ByteSet, Edge, Marks, OutOfMemory, Steps};
 use std::alloc::Global;
 use std::marker::Model;
@@ -150,6 +150,13 @@ impl<'a> Table<'a> {
     {
         self.is_table();
         self.store.lists.sets.at(set as usize)
+    }
+
+    /// The ways of its automaton.
+    pub fn ways(&self) -> &[Way]
+        ensures { result.now ≡ self.now.graph.ways }
+    {
+        self.automaton.ways()
     }
 
     /// What the table weighs: 1 + members of each set, and 1 + edges of all that was asked.
