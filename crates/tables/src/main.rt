@@ -9,7 +9,7 @@
 //!
 //! Then it checks what is made of pairs of automata, the positions that atoms touch, what is read of formulas, the sets
 //! of the names of properties, and that what finds no room is refused; reads a document that nothing matches, of which
-//! one cell alone is kept; and tells the sizes with which some large queries are compiled or refused.
+//! one cell alone is kept, and one of equal lines, of which few bytes are read set by set; and tells the sizes with which some large queries are compiled or refused.
 //!
 //! That all this is so is proved of the crates. What a run shows is what no contract says: that the calls succeed on
 //! such inputs, and are refused at the limits.
@@ -34,6 +34,7 @@ mod pairs;
 mod pieces;
 mod properties;
 mod reading;
+mod repeated;
 mod room;
 mod rows;
 mod sizes;
@@ -50,6 +51,7 @@ use idle::cells_after;
 use main_tests::program_tests;
 use pairs::check_pair;
 use properties::{PROPERTIES, agrees};
+use repeated::kept_of_letters;
 use room::all_are_refused;
 use sizes::{counted_of_text, size_of_text};
 use span_core::{Name, OutOfMemory};
@@ -213,7 +215,8 @@ fn check_properties(rt: &HostRuntime) -> io::Result<Ending> {
     Ok(Ending::Agrees)
 }
 
-/// Checks that what finds no room is refused, and that a document that nothing matches takes none.
+/// Checks that what finds no room is refused, that a document that nothing matches takes none, and what is kept of one of
+/// equal lines.
 fn check_memory(rt: &HostRuntime) -> io::Result<Ending> {
     match all_are_refused(rt.alloc()) {
         Ok(refused) => println!(rt; "refused {refused}")?,
@@ -223,6 +226,10 @@ fn check_memory(rt: &HostRuntime) -> io::Result<Ending> {
     match cells_after(rt.alloc()) {
         Ok(live) => println!(rt; "live cells {live}")?,
         Err(fault) => return ended_by(rt, "live cells", &fault),
+    }
+    match kept_of_letters(rt.alloc()) {
+        Ok(kept) => println!(rt; "programs {} read set by set {}", kept.programs, kept.anew)?,
+        Err(fault) => return ended_by(rt, "programs", &fault),
     }
     Ok(Ending::Agrees)
 }

@@ -1,0 +1,59 @@
+//! A document of one line over and over, of whose bytes few are read set by set.
+ghost use Rattle.std.specs.Prelude.{◌≡◌, ◌<◌};
+
+use crate::fault::Fault;
+use one_pass::{Known, advance_by};
+use output_graph::OutputGraph;
+use query_automaton::compile;
+use query_parser::read_query;
+use set_table::Table;
+use span_core::Steps;
+use std::alloc::Global;
+use std::marker::Brand;
+use std::sync::ledger::{Blank, Ledger};
+
+/// The limit of the table's weight.
+const LIMIT: u64 = 1_000;
+
+/// How much is kept of layers.
+const WORDS: usize = 65_536;
+
+/// How often the line stands in the document.
+const LINES: usize = 1_000;
+
+/// What was kept of the document.
+pub(crate) struct Kept {
+    /// How many programs of layers.
+    pub(crate) programs: usize,
+    /// How many bytes were read set by set.
+    pub(crate) anew: u64,
+}
+
+/// What is kept of the alphabet, 1,000 times, where each letter is looked for. Three layers follow one another: before a
+/// letter, behind the first, and behind two, which stays; each does the same on all letters, and has one program. Each
+/// letter is read set by set once in the last of them, and two before.
+pub(crate) fn kept_of_letters(alloc: Global) -> Result<Kept, Fault> {
+    kept_of::<Brand>(alloc, Blank::new(1))
+}
+
+fn kept_of<L: Ledger>(alloc: Global, blank: Blank) -> Result<Kept, Fault>
+    requires name { blank.name ≡ L.name }
+    requires parts { blank.parts ≡ L.parts }
+    requires some { 0 < L.parts }
+{
+    let mut steps = Steps::<L>::new(blank);
+    let query = read_query(alloc, b"/!x{[a-z]}/")?;
+    let compiled = compile(alloc, &query)?;
+    let mut document = Vec::new(alloc);
+    for _ in 0..LINES {
+        document.extend_from_slice(b"abcdefghijklmnopqrstuvwxyz")?;
+    }
+    let mut table = Table::new(alloc, compiled.automaton(), LIMIT, &mut steps)?;
+    let graph = OutputGraph::start(alloc, table.start(), &mut steps)?;
+    let mut known = Known::new(alloc, WORDS);
+    advance_by(&mut table, graph, &mut known, 0, &document, &mut steps)?;
+    Ok(Kept {
+        programs: known.programs(),
+        anew: known.anew(),
+    })
+}
