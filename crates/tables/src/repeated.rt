@@ -22,6 +22,7 @@ const WORDS: usize = 65_536;
 const LINES: usize = 1_000;
 
 /// What was kept of the document.
+#[derive(Clone, Copy)]
 pub(crate) struct Kept {
     /// How many programs of layers.
     pub(crate) programs: usize,
