@@ -169,7 +169,7 @@ fn append_to<L: Ledger>(
     let Some(before) = mem::replace(reading, None) else {
         return Err(GrowFault::Spent);
     };
-    let after = match read_on(automaton, before, document.len() as u32, piece, steps) {
+    let after = match read_on(automaton, before, piece, steps) {
         Ok(after) => after,
         Err(fault) => return Err(grown_fault(fault)),
     };
@@ -188,7 +188,7 @@ fn live_of(automaton: &Automaton, limit: u64, document: &Vec<u8>, reading: &Opti
 {
     let _facts = (automaton.states(), limit, document.len());
     match reading {
-        Some(reading) => reading.graph.live(),
+        Some(reading) => reading.pass.graph().live(),
         None => 0,
     }
 }

@@ -6,14 +6,15 @@ ghost use Rattle.std.specs.Prelude.{◌≡◌, ℕ, ◌+◌, ◌*◌, ◌^◌, �
 ghost use Rattle.set_table.specs.Laid.{IsStateOf, taken_up};
 ghost use Rattle.set_table.specs.Tabled.{IsRefusal, fresh};
 ghost use Rattle.one_pass.specs.Faults.{IsFaultAt};
+ghost use Rattle.one_pass.specs.Going.{GoesOn};
 ghost use Rattle.one_pass.specs.Known.{Knows};
-ghost use Rattle.one_pass.specs.Passes.{HasRead, IsReady, pass};
+ghost use Rattle.one_pass.specs.Passes.{IsReady, pass};
 ghost use Rattle.one_pass.specs.Places.{bytes_at};
 ghost use Rattle.one_pass.specs.Seen.{whole};
-ghost use Rattle.growing_document.specs.Reading.{AreEnded, HasBegun, HasEndedCopy, IsEndFault, pass_at};
+ghost use Rattle.growing_document.specs.Reading.{AreEnded, HasBegun, HasEndedCopy, HasReadOn, IsEndFault, pass_at};
 
 use marked_automaton::Automaton;
-use one_pass::{Known, advance_by, finish};
+use one_pass::{Pass, finish};
 use output_graph::{OutputGraph, RowLists};
 use set_table::{Table, TableFault, TableState};
 use span_core::{OutOfMemory, Steps};
@@ -28,8 +29,7 @@ const KNOWN_WORDS: usize = 65_536;
 #[derive(Drop)]
 pub struct Reading {
     pub state: TableState,
-    pub graph: OutputGraph,
-    pub known: Known,
+    pub pass: Pass,
 }
 
 /// What is held after the rows were asked for, and their lists.
@@ -55,52 +55,39 @@ pub fn begin<L: Ledger>(
         Ok(table) => table,
         Err(fault) => return Err(fault),
     };
-    let start = table.start();
-    match OutputGraph::start(alloc, start, steps) {
-        Ok(graph) => {
-            graph.is_graph();
-            Ok(Reading {
-                state: table.lay_down(),
-                graph,
-                known: Known::new(alloc, KNOWN_WORDS),
-            })
-        }
+    match Pass::begin(alloc, KNOWN_WORDS, &table, steps) {
+        Ok(pass) => Ok(Reading {
+            state: table.lay_down(),
+            pass,
+        }),
         Err(OutOfMemory) => Err(TableFault::OutOfMemory),
     }
 }
 
-/// Reads a piece of the document, which stands at `at`. After a refusal what was held is given up.
+/// Reads a piece of the document, behind what has been read. After a refusal what was held is given up.
 pub fn read_on<L: Ledger>(
     automaton: &Automaton,
     reading: Reading,
-    at: u32,
     piece: &[u8],
     steps: &mut Steps<L>,
 ) -> Result<Reading, TableFault>
     requires state { IsStateOf automaton.now.graph reading.state }
-    requires ready { IsReady (pass_at automaton.now.graph reading steps.old) at }
-    requires known { Knows (taken_up automaton.now.graph reading.state) reading.known }
-    requires few { at + length piece.now ≤ 2 ^ 28 }
-    ensures read { IfOk result (λ r. HasRead automaton.now.graph (bytes_at at piece.now) (pass_at automaton.now.graph reading steps.old) (pass_at automaton.now.graph r steps.new)) }
+    requires goes_on { GoesOn (taken_up automaton.now.graph reading.state) reading.pass }
+    requires few { reading.pass.at + length piece.now ≤ 2 ^ 28 }
+    ensures read { IfOk result (λ r. HasReadOn automaton.now.graph reading steps.old piece.now r steps.new) }
     ensures state { IfOk result (λ r. IsStateOf automaton.now.graph r.state) }
-    ensures ready { IfOk result (λ r. IsReady (pass_at automaton.now.graph r steps.new) (at + length piece.now)) }
-    ensures known { IfOk result (λ r. Knows (taken_up automaton.now.graph r.state) r.known) }
-    ensures cause { IfErr result (λ e. IsFaultAt (bytes_at at piece.now) (pass_at automaton.now.graph reading steps.old) e) }
+    ensures goes_on { IfOk result (λ r. GoesOn (taken_up automaton.now.graph r.state) r.pass) }
+    ensures at { IfOk result (λ r. r.pass.at ≡ reading.pass.at + length piece.now) }
+    ensures cause { IfErr result (IsFaultAt (bytes_at reading.pass.at piece.now) (pass_at automaton.now.graph reading steps.old)) }
 {
-    let Reading {
-        state,
-        graph,
-        mut known,
-    } = reading;
+    let Reading { state, mut pass } = reading;
     let mut table = Table::take_up(automaton, state);
-    let graph = match advance_by(&mut table, graph, &mut known, at, piece, steps) {
-        Ok(graph) => graph,
-        Err(fault) => return Err(fault),
-    };
+    if let Err(fault) = pass.read(&mut table, piece, steps) {
+        return Err(fault);
+    }
     Ok(Reading {
         state: table.lay_down(),
-        graph,
-        known,
+        pass,
     })
 }
 
@@ -113,28 +100,23 @@ pub fn end_copy<L: Ledger>(
     steps: &mut Steps<L>,
 ) -> Ended
     requires state { IsStateOf automaton.now.graph reading.state }
-    requires ready { IsReady (pass_at automaton.now.graph reading steps.old) at }
-    requires known { Knows (taken_up automaton.now.graph reading.state) reading.known }
+    requires goes_on { GoesOn (taken_up automaton.now.graph reading.state) reading.pass }
+    requires at { reading.pass.at ≡ at }
     requires few { at ≤ 2 ^ 28 }
     ensures state { IsStateOf automaton.now.graph result.reading.state }
-    ensures graph { result.reading.graph ≡ reading.graph }
-    ensures known { Knows (taken_up automaton.now.graph result.reading.state) result.reading.known }
+    ensures pass { result.reading.pass ≡ reading.pass }
+    ensures known { Knows (taken_up automaton.now.graph result.reading.state) result.reading.pass.known }
     ensures ended { HasEndedCopy automaton.now.graph (pass_at automaton.now.graph reading steps.old) (pass_at automaton.now.graph result.reading steps.new) }
     ensures lists { IfOk result.lists (AreEnded automaton.now.graph at (pass_at automaton.now.graph reading steps.old)) }
     ensures cause { IfErr result.lists (IsEndFault (pass_at automaton.now.graph reading steps.old)) }
 {
-    let Reading {
-        state,
-        graph,
-        known,
-    } = reading;
+    let Reading { state, pass } = reading;
     let mut table = Table::take_up(automaton, state);
-    let lists = lists_of(alloc, &mut table, &graph, at, steps);
+    let lists = lists_of(alloc, &mut table, pass.graph(), at, steps);
     Ended {
         reading: Reading {
             state: table.lay_down(),
-            graph,
-            known,
+            pass,
         },
         lists,
     }
@@ -148,7 +130,7 @@ fn lists_of<L: Ledger>(
     at: u32,
     steps: &mut Steps<L>,
 ) -> Result<RowLists, TableFault>
-    requires ready { IsReady (pass table.old (whole graph.now) steps.old) at }
+    requires ready { IsReady table.old (whole graph.now) at }
     requires few { at ≤ 2 ^ 28 }
     ensures ended { HasEndedCopy table.old.graph (pass table.old (whole graph.now) steps.old) (pass table.new (whole graph.now) steps.new) }
     ensures lists { IfOk result (AreEnded table.old.graph at (pass table.old (whole graph.now) steps.old)) }

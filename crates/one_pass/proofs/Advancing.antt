@@ -12,73 +12,83 @@ use Rattle.marked_automaton.proofs.Passing.{left_true, right_true}
 use Rattle.set_table.specs.declared.fault.TableFault.{TableFault}
 use Rattle.set_table.specs.Tabled.{Stays, Tabled}
 use Rattle.output_graph.specs.Graph.{Source}
+use Rattle.one_pass.specs.declared.pass.Pass.{Pass}
+use Rattle.one_pass.specs.declared.known.Known.{Known}
+use Rattle.one_pass.specs.Known.{Knows}
+use Rattle.one_pass.specs.Going.{GivesUp, GoesOn, Reads, come}
 use Rattle.one_pass.specs.Layers.{no_source, source_at}
-use Rattle.one_pass.specs.Faults.{IsFaultAt}
 use Rattle.one_pass.specs.Places.{ReadingPlace, byte_at, bytes_at}
-use Rattle.one_pass.specs.Passes.{AllStayOn, Pass, IsReady, HasRead, HasStopped, Stop}
-use Rattle.one_pass.proofs.Composing.{stopped_before}
-use Rattle.one_pass.proofs.Faulting.{both_read, bytes_more, bytes_split, fault_before, ready_later, then_fault, then_stopped}
-use Rattle.one_pass.proofs.PlaceLaws.{stays_read}
+use Rattle.one_pass.specs.Passes.{AllStayOn}
+use Rattle.one_pass.specs.Seen.{whole}
+use Rattle.one_pass.proofs.Faulting.{bytes_more, bytes_split, read_none}
+use Rattle.one_pass.proofs.Goings.{both_reads, gives_up_before, then_gives_up}
+use Rattle.one_pass.proofs.Running.{stay_reads}
 
 -- so many bytes of the piece have been read
-pub record IsAdvanced (P : Pass) (at : ℕ) (piece : List ℕ) (i : ℕ) (Q : Pass) : Type 0 where
-  pub read : HasRead P.table.graph (bytes_at at (take i piece)) P Q
-  pub ready : IsReady Q (at + i)
+pub record IsAdvanced (t0 : Tabled) (p0 : Pass) (n0 : ℕ) (piece : List ℕ) (i : ℕ) (t : Tabled) (p : Pass) (n : ℕ) : Type 0 where
+  pub reads : Reads (bytes_at p0.at (take i piece)) t0 p0 n0 t p n
+  pub at : p.at ≡ p0.at + i
 
-module _ (P : Pass) (at : ℕ) (piece : List ℕ) (i : ℕ) (Q : Pass) (past : IsAdvanced P at piece i Q) where
+-- none, but of whole layers something else is known
+pub advanced_none : {t : Tabled} {p : Pass} {n : ℕ} {piece : List ℕ} {known : Known} → GoesOn t p → Knows t known →
+    IsAdvanced t p n piece 0 t (record { graph = p.graph; known = known; at = p.at }) n
+advanced_none {t} {p} {n} goes knows = record {
+  reads = record { read = read_none t.graph (come t p n); goes_on = record { ready = goes.ready; known = knows } };
+  at = omega arith;
+}
+
+module _ {t0 : Tabled} {p0 : Pass} {n0 : ℕ} {piece : List ℕ} {i : ℕ} {t : Tabled} {p : Pass} {n : ℕ} (past : IsAdvanced t0 p0 n0 piece i t p n) where
   -- all have been read
-  pub advanced_read : i ≡ length piece → HasRead P.table.graph (bytes_at at piece) P Q
-  advanced_read all =
-      subst (λ xs. HasRead P.table.graph (bytes_at at xs) P Q) (ap (λ j. take j piece) all ∙ take-length piece) past.read
+  pub advanced_all : i ≡ length piece → Reads (bytes_at p0.at piece) t0 p0 n0 t p n
+  advanced_all full = subst (λ xs. Reads (bytes_at p0.at xs) t0 p0 n0 t p n) (ap (λ j. take j piece) full ∙ take-length piece) past.reads
 
   module _ (within : i < length piece) where
     abbrev b : ℕ
     b = get_or piece i 0
 
     abbrev front : List ReadingPlace
-    front = bytes_at at (take i piece)
+    front = bytes_at p0.at (take i piece)
 
     abbrev here : List ReadingPlace
-    here = byte_at (at + i) b ∷ []
+    here = byte_at (p0.at + i) b ∷ []
 
     -- one byte more has been read
-    pub advanced_more : (R : Pass) → HasRead Q.table.graph here Q R → IsReady R (at + i + 1) → IsAdvanced P at piece (i + 1) R
-    advanced_more R read ready = record {
-      read =
-          subst (λ ps. HasRead P.table.graph ps P R) (sym (bytes_more at piece i within b refl))
-          (both_read front here P Q (at + i) past.read past.ready R read);
-      ready = ready_later R (at + i + 1) (at + (i + 1)) ready (omega arith);
+    pub advanced_more : {u : Tabled} {q : Pass} {m : ℕ} → Reads (byte_at p.at b ∷ []) t p n u q m → q.at ≡ p.at + 1 → IsAdvanced t0 p0 n0 piece (i + 1) u q m
+    advanced_more {u} {q} {m} one next = record {
+      reads =
+          subst (λ ps. Reads ps t0 p0 n0 u q m) (sym (bytes_more p0.at piece i within b refl))
+          (both_reads front here past.reads (subst (λ j. Reads (byte_at j b ∷ []) t p n u q m) past.at one));
+      at = omega (arith, next, past.at);
     }
 
     -- it was given up
-    pub advanced_stopped : (after : Stop) → HasStopped Q.table.graph here Q after → HasStopped P.table.graph (bytes_at at piece) P after
-    advanced_stopped after s =
-        subst (λ ps. HasStopped P.table.graph ps P after) (bytes_split at piece i within b refl)
-        (stopped_before P.table.graph (front ++ here) (bytes_at (at + i + 1) (drop (suc i) piece)) P after
-        (then_stopped front here P Q (at + i) past.read past.ready after s))
-
-    pub advanced_fault : (e : TableFault) → IsFaultAt here Q e → IsFaultAt (bytes_at at piece) P e
-    advanced_fault e x =
-        subst (λ ps. IsFaultAt ps P e) (bytes_split at piece i within b refl)
-        (fault_before (front ++ here) (bytes_at (at + i + 1) (drop (suc i) piece)) P e
-        (then_fault front here P Q (at + i) past.read past.ready e x))
+    pub advanced_gives_up : {u : Tabled} {m : ℕ} {e : TableFault} → GivesUp (byte_at p.at b ∷ []) t p n u m e → GivesUp (bytes_at p0.at piece) t0 p0 n0 u m e
+    advanced_gives_up {u} {m} {e} up =
+        subst (λ ps. GivesUp ps t0 p0 n0 u m e) (bytes_split p0.at piece i within b refl)
+        (gives_up_before (front ++ here) (bytes_at (p0.at + i + 1) (drop (suc i) piece))
+        (then_gives_up front here past.reads (subst (λ j. GivesUp (byte_at j b ∷ []) t p n u m e) past.at up)))
 
 -- so many bytes more, on which nothing changes
-pub advanced_still : (P : Pass) (at : ℕ) (piece : List ℕ) (i n : ℕ) (Q : Pass) → IsAdvanced P at piece i Q → i + n ≤ length piece →
-    ((k : ℕ) → k < n → AllStayOn Q.table Q.graph (get_or piece (i + k) 0)) → IsAdvanced P at piece (i + n) Q
-advanced_still P at piece i zero Q past within still = subst (λ j. IsAdvanced P at piece j Q) (omega arith) past
-advanced_still P at piece i (suc n) Q past within still =
-    subst (λ j. IsAdvanced P at piece j Q) (omega arith)
-    (advanced_more P at piece (i + n) Q (advanced_still P at piece i n Q past (omega arith) (λ k less. still k (omega arith))) (omega arith) Q
-    (stays_read Q.table.graph (byte_at (at + (i + n)) (get_or piece (i + n) 0)) Q (λ x there. let st = still n (omega arith) x there in (st.asked, st.itself)))
-    (ready_later Q (at + i) (at + (i + n) + 1) past.ready (omega arith)))
+advanced_still : (t0 : Tabled) (p0 : Pass) (n0 : ℕ) (piece : List ℕ) (i : ℕ) (t : Tabled) (p : Pass) (n : ℕ) → IsAdvanced t0 p0 n0 piece i t p n → (j : ℕ) → i + j ≤ length piece →
+    ((k : ℕ) → k < j → AllStayOn t (whole p.graph) (get_or piece (i + k) 0)) → IsAdvanced t0 p0 n0 piece (i + j) t (record { graph = p.graph; known = p.known; at = p.at + j }) n
+advanced_still t0 p0 n0 piece i t p n past zero within still =
+    subst (λ k. IsAdvanced t0 p0 n0 piece k t (record { graph = p.graph; known = p.known; at = p.at + 0 }) n) (omega arith)
+    (subst (λ k. IsAdvanced t0 p0 n0 piece i t (record { graph = p.graph; known = p.known; at = k }) n) (omega arith) past)
+advanced_still t0 p0 n0 piece i t p n past (suc j) within still =
+    let before = advanced_still t0 p0 n0 piece i t p n past j (omega arith) (λ k less. still k (omega arith)) in
+    subst (λ k. IsAdvanced t0 p0 n0 piece k t (record { graph = p.graph; known = p.known; at = p.at + suc j }) n) (omega arith)
+    (subst (λ k. IsAdvanced t0 p0 n0 piece (i + j + 1) t (record { graph = p.graph; known = p.known; at = k }) n) (omega arith)
+    (advanced_more before (omega arith) (stay_reads before.reads.goes_on (still j (omega arith))) refl))
 
 -- up to a later place, before which nothing changes
-pub advanced_up_to : (P : Pass) (at : ℕ) (piece : List ℕ) (i j : ℕ) (Q : Pass) → IsAdvanced P at piece i Q → i ≤ j → j ≤ length piece →
-    ((k : ℕ) → i ≤ k → k < j → AllStayOn Q.table Q.graph (get_or piece k 0)) → IsAdvanced P at piece j Q
-advanced_up_to P at piece i j Q past later within still =
-    subst (λ m. IsAdvanced P at piece m Q) (omega arith)
-    (advanced_still P at piece i (j - i) Q past (omega arith) (λ k less. still (i + k) (omega arith) (omega arith)))
+pub advanced_up_to : {t0 : Tabled} {p0 : Pass} {n0 : ℕ} {piece : List ℕ} {i j : ℕ} {t : Tabled} {p q : Pass} {n : ℕ} → IsAdvanced t0 p0 n0 piece i t p n → i ≤ j → j ≤ length piece →
+    ((k : ℕ) → i ≤ k → k < j → AllStayOn t (whole p.graph) (get_or piece k 0)) → q.graph ≡ p.graph → q.known ≡ p.known → q.at + i ≡ p.at + j → IsAdvanced t0 p0 n0 piece j t q n
+advanced_up_to {t0} {p0} {n0} {piece} {i} {j} {t} {p} {q} {n} past later within still graph known at =
+    subst (λ g. IsAdvanced t0 p0 n0 piece j t (record { graph = g; known = q.known; at = q.at }) n) (sym graph)
+    (subst (λ k. IsAdvanced t0 p0 n0 piece j t (record { graph = p.graph; known = k; at = q.at }) n) (sym known)
+    (subst (λ k. IsAdvanced t0 p0 n0 piece j t (record { graph = p.graph; known = p.known; at = k }) n) (omega (arith, at))
+    (subst (λ k. IsAdvanced t0 p0 n0 piece k t (record { graph = p.graph; known = p.known; at = p.at + (j - i) }) n) (omega arith)
+    (advanced_still t0 p0 n0 piece i t p n past (j - i) (omega arith) (λ k less. still (i + k) (omega arith) (omega arith))))))
 
 -- ---- which bytes change nothing
 

@@ -1,8 +1,8 @@
 -- Places that are read one after another.
-use Rattle.std.proofs.Common.{◌≡◌, ℕ, zero, suc, ◌+◌, ◌≤◌, ◌<◌, ◌⊎◌, List, [], ◌∷◌, ◌++◌, length, get_or, map, inl, inr, refl, sym, ap, subst, arith, ◌∙◌, append_assoc, length-append}
+use Rattle.std.proofs.Common.{◌≡◌, ℕ, ◌+◌, ◌≤◌, ◌<◌, ◌⊎◌, List, [], ◌∷◌, ◌++◌, length, get_or, map, inl, inr, refl, sym, ap, subst, arith, ◌∙◌, append_assoc, length-append}
 use Rattle.std.proofs.lemmas.List.{append-nil, get_or_append_left}
 use Rattle.span_core.specs.Lists.{Has, AreDistinct}
-use Rattle.span_core.proofs.HasLaws.{Has-append_left, Has-append_right, Has-append_cases, Has-get_or, Has-map, Has-map_cases}
+use Rattle.span_core.proofs.HasLaws.{Has-append_left, Has-append_right, Has-append_cases, Has-map, Has-map_cases}
 use Rattle.marked_automaton.specs.Automaton.{Automaton}
 use Rattle.automaton_reading.specs.Reading.{Question, byte_read, rest_taken, ended, LookUp, next_sets, look_ups_asked}
 use Rattle.set_table.specs.Tabled.{Tabled, set_at}
@@ -11,7 +11,7 @@ use Rattle.one_pass.specs.Words.{Word}
 use Rattle.output_graph.specs.Graph.{Source}
 use Rattle.one_pass.specs.Layers.{numbers_of}
 use Rattle.one_pass.specs.Places.{ReadingPlace, Leads, asks, edges_read, sets_after, sets_met, sets_on}
-use Rattle.one_pass.specs.Passes.{Pass, sets_of, Reaches, IsReady, HasGrown, HasRead, HasStopped, HasStoppedAt, Stop, IsExcess, weight_of}
+use Rattle.one_pass.specs.Passes.{Progress, sets_of, Reaches, IsReady, HasGrown, HasRead, HasStopped, HasStoppedAt, Stop, IsExcess, weight_of}
 use Rattle.one_pass.specs.Making.{making_read}
 use Rattle.one_pass.proofs.Making.{making_append, making_covers}
 use Rattle.one_pass.proofs.ReadWords.{leads_then, then_leads}
@@ -34,7 +34,7 @@ layer_distinct t (x ∷ layer) sound given apart = (
   layer_distinct t layer sound (λ y h. given y (inr h)) apart.1,
 )
 
-pub ready_distinct : (P : Pass) (at : ℕ) → IsReady P at → AreDistinct (sets_of P)
+pub ready_distinct : (P : Progress) (at : ℕ) → IsReady P.table P.graph at → AreDistinct (sets_of P)
 ready_distinct P at r = layer_distinct P.table P.graph.layer r.sound.sets_apart r.given r.apart
 
 -- ---- what a table holds
@@ -102,7 +102,7 @@ excess_grown a b xs ys zs rs qs os weight g x zx zy or oq = record {
 
 -- ---- two lists of places
 
-module _ (A : Automaton) (ps qs : List ReadingPlace) (P Q : Pass) (read : HasRead A ps P Q) where
+module _ (A : Automaton) (ps qs : List ReadingPlace) (P Q : Progress) (read : HasRead A ps P Q) where
   covers : Covers (sets_after A (sets_of P) (asks ps)) (sets_of Q)
   covers set h = (read.sets set).0 h
 
@@ -139,7 +139,7 @@ module _ (A : Automaton) (ps qs : List ReadingPlace) (P Q : Pass) (read : HasRea
       let all = ap (making_read A (sets_of P)) all_asks ∙ making_append A (sets_of P) (asks ps) (asks qs) in
       omega (arith, less, all)
 
-  pub read_then : (R : Pass) → AreDistinct (sets_of Q) → HasRead A qs Q R → HasRead A (ps ++ qs) P R
+  pub read_then : (R : Progress) → AreDistinct (sets_of Q) → HasRead A qs Q R → HasRead A (ps ++ qs) P R
   read_then R distinct later = record {
     words = λ set w. (there set w, back set w);
     sets = λ set. (
@@ -225,12 +225,12 @@ on_met A sets rest_taken set k = Has-append_right sets (next_sets A sets rest_ta
 on_met A sets ended set k = absurd k
 
 -- what was given up at one place
-pub stopped_at : (A : Automaton) (p : ReadingPlace) (P : Pass) (S : Stop) → HasStoppedAt A p P S → HasStopped A (p ∷ []) P S
+pub stopped_at : (A : Automaton) (p : ReadingPlace) (P : Progress) (S : Stop) → HasStoppedAt A p P S → HasStopped A (p ∷ []) P S
 stopped_at A p P S s = record { table = grown_more P.table S.table (sets_on A (sets_of P) p.ask) (sets_met A (sets_of P) (p.ask ∷ [])) (look_ups_asked A (sets_of P) (p.ask ∷ [])) (look_ups_asked A (sets_of P) (p.ask ∷ [])) s.table (on_met A (sets_of P) p.ask) (λ look_up h. h); sound = s.sound; made = s.made; distinct = s.distinct; few = s.few; look_ups = s.look_ups; steps = omega (arith, s.steps) }
 
 -- ---- what was given up before more places
 
-module _ (A : Automaton) (ps qs : List ReadingPlace) (P : Pass) where
+module _ (A : Automaton) (ps qs : List ReadingPlace) (P : Progress) where
   pub stopped_before : (after : Stop) → HasStopped A ps P after → HasStopped A (ps ++ qs) P after
   stopped_before after s = record {
     table = grown_more P.table after.table

@@ -12,7 +12,7 @@ use Rattle.one_pass.specs.Words.{Word, block_word}
 use Rattle.output_graph.specs.Graph.{Source}
 use Rattle.one_pass.specs.Layers.{GraphView, HasCost, BringsEnd}
 use Rattle.one_pass.specs.Places.{end_at, Leads}
-use Rattle.one_pass.specs.Passes.{Pass, pass, sets_of, Reaches, IsReady, HasEnded}
+use Rattle.one_pass.specs.Passes.{Progress, pass, sets_of, Reaches, IsReady, HasEnded}
 use Rattle.one_pass.proofs.ReadWords.{end_to}
 use Rattle.one_pass.proofs.Stepping.{source_edges, place_edges, IsSpending, look_ups_held, spending_none, spending_more}
 
@@ -20,18 +20,18 @@ use Rattle.one_pass.proofs.Stepping.{source_edges, place_edges, IsSpending, look
 abbrev pub marks_of : List Reach → List ℕ
 marks_of es = map (λ (e : Reach). e.marks) es
 
-module _ (A : Automaton) (n : ℕ) (P : Pass) where
+module _ (A : Automaton) (n : ℕ) (P : Progress) where
   -- an end of one of these sources makes the word
   abbrev pub EndsOn : List Source → Word → Type 0
   EndsOn done w =
       (x : Source) × Has done x × (e : Reach) × Has (source_edges A (end_at n) P x) e × (u : Word) × Has x.words u × (u ++ block_word n e.marks ≡ w)
 
   -- these sources have been ended
-  pub record IsEnding (done : List Source) (Q : Pass) : Type 0 where
+  pub record IsEnding (done : List Source) (Q : Progress) : Type 0 where
     pub spent : IsSpending A (end_at n) P done Q
     pub words : (w : Word) → Has Q.graph.accepted w ↔ EndsOn done w
 
-  pub ending_none : (at : ℕ) → IsReady P at → IsEnding [] P
+  pub ending_none : (at : ℕ) → IsReady P.table P.graph at → IsEnding [] P
   ending_none at r = record {
     spent = spending_none A (end_at n) P at r;
     words = λ w. (λ h. absurd (none w (subst (λ ws. Has ws w) r.fresh.2 h)), λ h. absurd h.1);
@@ -40,7 +40,7 @@ module _ (A : Automaton) (n : ℕ) (P : Pass) where
       none : (w : Word) → Has [] w → ⊥
       none w h = h
 
-  module _ (done : List Source) (Q : Pass) (x : Source) (is : P.table.graph ≡ A) (there : Has P.graph.layer x) (known : x.set < length P.table.sets)
+  module _ (done : List Source) (Q : Progress) (x : Source) (is : P.table.graph ≡ A) (there : Has P.graph.layer x) (known : x.set < length P.table.sets)
       (past : IsEnding done Q) (t : Tabled) (m : ℕ) (made : HasLookedUp Q.table t (look_up Q.table x.set ended) Q.steps m)
       (ms : List ℕ) (marks : ms ≡ marks_of (source_edges A (end_at n) P x)) where
     marks_count : length ms ≡ length (source_edges A (end_at n) P x)
@@ -81,7 +81,7 @@ module _ (A : Automaton) (n : ℕ) (P : Pass) where
             by (inr (inr none)) = absurd none
 
   -- all have been ended
-  pub all_ended : (Q : Pass) → IsEnding P.graph.layer Q → HasEnded A n P Q
+  pub all_ended : (Q : Progress) → IsEnding P.graph.layer Q → HasEnded A n P Q
   all_ended Q all = record {
     words = λ w. (there w, back w);
     table = record {

@@ -7,15 +7,17 @@ use Rattle.marked_automaton.specs.Automaton.{Automaton}
 use Rattle.automaton_reading.specs.Reading.{look_ups_asked}
 use Rattle.set_table.specs.declared.fault.TableFault.{TableFault}
 use Rattle.set_table.specs.declared.fault.TableFault.TheVariants.{Full, OutOfMemory}
+use Rattle.set_table.specs.Tabled.{Tabled}
 use Rattle.one_pass.specs.Faults.{IsFaultAt, IsFaultOf}
+use Rattle.one_pass.specs.Layers.{GraphView}
 use Rattle.one_pass.specs.Places.{ReadingPlace, asks, byte_at, bytes_at, sets_met}
-use Rattle.one_pass.specs.Passes.{Pass, sets_of, IsReady, HasRead, HasStopped, Stop}
+use Rattle.one_pass.specs.Passes.{Progress, sets_of, IsReady, HasRead, HasStopped, Stop}
 use Rattle.one_pass.proofs.Composing.{asks_append, excess_grown, grown_none, met_first, met_then, read_then, ready_distinct, look_ups_first, look_ups_then, stopped_then}
 use Rattle.one_pass.proofs.Sets.{Covers, met_left, look_ups_left}
 
 -- ready for a position, and so for a later one
-pub ready_later : (P : Pass) (at later : ℕ) → IsReady P at → at ≤ later → IsReady P later
-ready_later P at later r le = record {
+pub ready_later : {t : Tabled} {g : GraphView} {at : ℕ} (later : ℕ) → IsReady t g at → at ≤ later → IsReady t g later
+ready_later later r le = record {
   sound = r.sound;
   given = r.given;
   apart = r.apart;
@@ -24,7 +26,7 @@ ready_later P at later r le = record {
 }
 
 -- no place has been read
-pub read_none : (A : Automaton) (P : Pass) → HasRead A [] P P
+pub read_none : (A : Automaton) (P : Progress) → HasRead A [] P P
 read_none A P = record {
   words = λ set w. (
     λ h. (set, w, [], h, (refl, refl), append-nil w),
@@ -43,8 +45,8 @@ read_none A P = record {
 
 -- ---- after some places
 
-module _ (ps qs : List ReadingPlace) (P Q : Pass) (at : ℕ) (read : HasRead P.table.graph ps P Q) (ready : IsReady Q at) where
-  pub both_read : (R : Pass) → HasRead Q.table.graph qs Q R → HasRead P.table.graph (ps ++ qs) P R
+module _ (ps qs : List ReadingPlace) (P Q : Progress) (at : ℕ) (read : HasRead P.table.graph ps P Q) (ready : IsReady Q.table Q.graph at) where
+  pub both_read : (R : Progress) → HasRead Q.table.graph qs Q R → HasRead P.table.graph (ps ++ qs) P R
   both_read R later =
       read_then P.table.graph ps qs P Q read R (ready_distinct Q at ready) (subst (λ A. HasRead A qs Q R) read.table.graph later)
 
@@ -65,7 +67,7 @@ module _ (ps qs : List ReadingPlace) (P Q : Pass) (at : ℕ) (read : HasRead P.t
 
 -- ---- before others
 
-module _ (ps qs : List ReadingPlace) (P : Pass) where
+module _ (ps qs : List ReadingPlace) (P : Progress) where
   pub fault_before : (e : TableFault) → IsFaultAt ps P e → IsFaultAt (ps ++ qs) P e
   fault_before (Full weight) x =
       let A = P.table.graph in

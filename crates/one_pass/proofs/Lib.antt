@@ -4,6 +4,7 @@ pub mod Composing
 pub mod Ending
 pub mod EntryLaws
 pub mod Faulting
+pub mod Goings
 pub mod GraphBridge
 pub mod KnownLaws
 pub mod LawProofs
@@ -13,7 +14,6 @@ pub mod Parting
 pub mod PlaceLaws
 pub mod ReadLaws
 pub mod ReadWords
-pub mod Results
 pub mod Running
 pub mod Sets
 pub mod Sources

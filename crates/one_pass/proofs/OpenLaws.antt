@@ -1,17 +1,20 @@
 -- What a caller knows between two places, and what is always true there.
-use Rattle.std.proofs.Common.{◌≡◌, ℕ, ◌<◌, ◌≤◌, List, [], ◌∷◌, length, map, inl, inr, refl, sym, ap, subst, arith}
+use Rattle.std.proofs.Common.{◌≡◌, ℕ, ◌+◌, ◌<◌, ◌≤◌, List, [], ◌∷◌, length, map, inl, inr, refl, sym, ap, subst, arith, ◌∙◌}
 use Rattle.std.proofs.lemmas.Option.{slice_get_within}
 use Rattle.span_core.specs.Lists.{Has}
 use Rattle.span_core.specs.Intervals.{Covers}
 use Rattle.automaton_reading.specs.Reading.{set_of}
 use Rattle.set_table.specs.Tabled.{IsTabled, Tabled}
 use Rattle.output_graph.specs.Graph.{AreApart, Graph, Source, source_of, sources}
-use Rattle.one_pass.specs.Passes.{IsOpen, IsReady, Pass, pass}
+use Rattle.one_pass.specs.Builds.{started}
+use Rattle.one_pass.specs.Layers.{first_layer}
+use Rattle.one_pass.specs.Passes.{IsOpen, IsReady, pass}
 use Rattle.one_pass.specs.Seen.{whole}
 use Rattle.one_pass.specs.Words.{Word}
+use Rattle.one_pass.proofs.GraphBridge.{first_is_whole}
 
-pub open_ready : (t : Tabled) (g : Graph) (n at : ℕ) → IsTabled t → AreApart (sources g) → IsOpen t (whole g) at → IsReady (pass t (whole g) n) at
-open_ready t g n at tabled apart open_here = record {
+pub open_ready : (t : Tabled) (g : Graph) (at : ℕ) → IsTabled t → AreApart (sources g) → IsOpen t (whole g) at → IsReady t (whole g) at
+open_ready t g at tabled apart open_here = record {
   sound = tabled;
   given = open_here.given;
   apart = apart.distinct;
@@ -19,8 +22,8 @@ open_ready t g n at tabled apart open_here = record {
   past = open_here.past;
 }
 
-pub ready_open : (P : Pass) (at : ℕ) → IsReady P at → IsOpen P.table P.graph at
-ready_open P at r = record { fresh = (r.fresh.0, r.fresh.1); given = r.given; past = r.past }
+pub ready_open : (t : Tabled) (g : Graph) (at : ℕ) → IsReady t (whole g) at → IsOpen t (whole g) at
+ready_open t g at r = record { fresh = (r.fresh.0, r.fresh.1); given = r.given; past = r.past }
 
 -- the one source, which the empty word leads to
 abbrev pub first_source : ℕ → Source
@@ -56,3 +59,9 @@ covers_all ps n m q is le h = by (subst (λ (xs : List (ℕ × ℕ)). Covers xs 
     by : Covers ((0, n) ∷ []) q → q ≤ m
     by (inl k) = omega (arith, k, le)
     by (inr k) = absurd k
+
+-- which is how a whole reading begins
+pub begun_is : (t : Tabled) (g : Graph) (s before after : ℕ) → sources g ≡ first_source s ∷ [] → g.next ≡ [] → g.stepped ≡ 0 → length g.cells ≡ 1 → s ≡ 0 → after ≡ before + 1 →
+    pass t (whole g) after ≡ started t before
+begun_is t g s before after is none begun one zero_set step =
+    ap (λ h. pass t h after) (first_is_whole g s is none begun one) ∙ (ap (λ k. pass t (first_layer k) after) zero_set ∙ ap (pass t (first_layer 0)) step)

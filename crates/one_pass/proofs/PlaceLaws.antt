@@ -11,7 +11,7 @@ use Rattle.one_pass.specs.Words.{Word, block_word}
 use Rattle.output_graph.specs.Graph.{Source}
 use Rattle.one_pass.specs.Layers.{GraphView, IsPast, numbers_of}
 use Rattle.one_pass.specs.Places.{ReadingPlace, Leads, sets_met}
-use Rattle.one_pass.specs.Passes.{Pass, pass, sets_of, Reaches, IsReady, HasGrown, HasRead}
+use Rattle.one_pass.specs.Passes.{Progress, pass, sets_of, Reaches, IsReady, HasGrown, HasRead}
 use Rattle.one_pass.proofs.Sets.{Covers, next_cases, has_next}
 use Rattle.one_pass.proofs.Composing.{grown_none}
 use Rattle.one_pass.proofs.Stepping.{Arrives, HasNext, source_edges, LeadsWith, place_edges, place_making, IsStepping, met_here, look_ups_held}
@@ -30,15 +30,15 @@ block_at i m b h = go (nat_eq m 0) h
     go false (inl e) = ap (λ (c : ℕ × ℕ). c.0) (sym e)
     go false (inr h) = absurd h
 
-module _ (A : Automaton) (p : ReadingPlace) (P : Pass) where
+module _ (A : Automaton) (p : ReadingPlace) (P : Progress) where
   abbrev asked_look_ups : List LookUp
   asked_look_ups = map (λ set. let r : LookUp = record { set = set; ask = p.ask } in r) (sets_of P)
 
   look_ups_here : Covers (look_ups_asked A (sets_of P) (p.ask ∷ [])) asked_look_ups
   look_ups_here look_up h = Has-append_left asked_look_ups [] look_up h
 
-  module _ (Q : Pass) (all : IsStepping A p P P.graph.layer Q) (g : GraphView) (layer : g.layer ≡ Q.graph.next) (live : g.live ≡ Q.graph.live) where
-    abbrev R : Pass
+  module _ (Q : Progress) (all : IsStepping A p P P.graph.layer Q) (g : GraphView) (layer : g.layer ≡ Q.graph.next) (live : g.live ≡ Q.graph.live) where
+    abbrev R : Progress
     R = pass Q.table g Q.steps
 
     reach_arrives : (set : List ℕ) (w : Word) → Reaches R set w → Arrives Q set w
@@ -126,9 +126,9 @@ module _ (A : Automaton) (p : ReadingPlace) (P : Pass) where
         }
 
     -- the layer that comes next is ready for a later position, or for the same where no edge has marks
-    pub place_ready : (at later : ℕ) → IsReady P at → at ≤ later →
+    pub place_ready : (at later : ℕ) → IsReady P.table P.graph at → at ≤ later →
         ((x : Source) (e : Reach) (b : ℕ × ℕ) → Has P.graph.layer x → Has (source_edges A p P x) e → Has (block_word p.at e.marks) b → b.0 < later) →
-        (g.stepped ≡ 0) → (g.next ≡ []) → (g.accepted ≡ Q.graph.accepted) → IsReady R later
+        (g.stepped ≡ 0) → (g.next ≡ []) → (g.accepted ≡ Q.graph.accepted) → IsReady R.table R.graph later
     place_ready at later r le blocks stepped next accepted = record {
       sound = all.spent.sound;
       given = λ x h. all.given x.set (Has-map (λ (x : Source). x.set) Q.graph.next x (subst (λ xs. Has xs x) layer h));

@@ -1,5 +1,5 @@
 -- A layer that is stepped by a program of its sets' edges has been read.
-use Rattle.std.proofs.Common.{◌≡◌, ℕ, zero, suc, ◌+◌, ◌<◌, List, [], ◌∷◌, length, drop, take, Some, inl, refl, sym, ap, subst, arith, ◌∙◌, add-one}
+use Rattle.std.proofs.Common.{◌≡◌, ℕ, zero, suc, ◌+◌, ◌-◌, ◌<◌, List, [], ◌∷◌, length, drop, take, Some, refl, sym, ap, subst, arith, ◌∙◌, add-one}
 use Rattle.std.specs.Prelude.{slice_get}
 use Rattle.std.proofs.lemmas.List.{length-map}
 use Rattle.std.proofs.lemmas.Option.{slice_get_within}
@@ -11,14 +11,19 @@ use Rattle.set_table.proofs.OnceLaws.{once_is_same}
 use Rattle.output_graph.specs.Graph.{Graph, IsStepped, Source, sets_of, sources, targets}
 use Rattle.output_graph.specs.Programs.{AreStepped, IsRun}
 use Rattle.output_graph.specs.Source.{Edges}
-use Rattle.one_pass.specs.Known.{AreLookUps, AreStill}
+use Rattle.one_pass.specs.declared.known.Known.{Known}
+use Rattle.one_pass.specs.declared.known.KnownStep.{KnownStep}
+use Rattle.one_pass.specs.declared.pass.Pass.{Pass}
+use Rattle.one_pass.specs.Going.{GoesOn, Reads, come}
+use Rattle.one_pass.specs.Known.{AreLookUps, AreStill, IsEntry, IsStepOf, layer_at}
 use Rattle.one_pass.specs.Layers.{numbers_of}
-use Rattle.one_pass.specs.Passes.{HasRead, IsReady, pass}
+use Rattle.one_pass.specs.Passes.{AllStayOn, HasRead, IsReady, pass}
 use Rattle.one_pass.specs.Places.{byte_at}
 use Rattle.one_pass.specs.Seen.{stepping_from, whole}
 use Rattle.one_pass.specs.Turned.{HasTurned, IsTurned}
 use Rattle.one_pass.proofs.Faulting.{ready_later}
 use Rattle.one_pass.proofs.GraphBridge.{own_cost, turned_none}
+use Rattle.one_pass.proofs.KnownLaws.{entry_step, layer_is, step_is}
 use Rattle.one_pass.proofs.PlaceLaws.{block_at, stays_read}
 use Rattle.one_pass.proofs.Sources.{stepping_begun, stepping_turned}
 use Rattle.one_pass.proofs.Stepping.{IsStepping}
@@ -42,7 +47,7 @@ drop_rest (x ∷ xs) zero s rest e = later x s xs rest e
     later x y xs ys e = cc
 drop_rest (x ∷ xs) (suc k) s rest e = drop_rest xs k s rest e
 
-module _ (T : Tabled) (G0 : Graph) (n0 at b : ℕ) (ready : IsReady (pass T (whole G0) n0) at) where
+module _ (T : Tabled) (G0 : Graph) (n0 at b : ℕ) (ready : IsReady T (whole G0) at) where
   fresh : IsTurned (sources G0) 0 at G0
   fresh = turned_none G0 at ready.fresh.0 ready.past
 
@@ -89,12 +94,12 @@ module _ (T : Tabled) (G0 : Graph) (n0 at b : ℕ) (ready : IsReady (pass T (who
         let d = Rattle.one_pass.proofs.GraphBridge.turned_count (sources G0) all.0 at run.0 all.1.1 in
         omega arith
 
-    pub run_read : HasRead T.graph (byte_at at b ∷ []) (pass T (whole G0) n0) (pass T (whole H) m)
+    run_read : HasRead T.graph (byte_at at b ∷ []) (pass T (whole G0) n0) (pass T (whole H) m)
     run_read =
         turns_read (byte_at at b) (pass T (whole G0) n0) at all.0 ready (pass T (stepping_from (sources G0) run.0) m) all.1.0 every
         (whole H) run.2.sources (ap length run.2.cells)
 
-    pub run_ready : IsReady (pass T (whole H) m) (at + 1)
+    run_ready : IsReady T (whole H) (at + 1)
     run_ready =
         turns_ready (byte_at at b) (pass T (whole G0) n0) at all.0 ready (pass T (stepping_from (sources G0) run.0) m) all.1.0 every
         (whole H) run.2.sources (ap length run.2.cells)
@@ -102,12 +107,39 @@ module _ (T : Tabled) (G0 : Graph) (n0 at b : ℕ) (ready : IsReady (pass T (who
         run.2.stepped run.2.targets refl
 
   -- where each set is still, nothing happens
-  pub still_read : AreStill T b (sets_of G0.layer) → HasRead T.graph (byte_at at b ∷ []) (pass T (whole G0) n0) (pass T (whole G0) n0)
-  still_read still =
-      stays_read T.graph (byte_at at b) (pass T (whole G0) n0)
-      (λ x h.
-      let st = (still x.set (subst (λ (xs : List ℕ). Has xs x.set) (sym fresh.sets) (Has-map (λ (y : Source). y.set) (sources G0) x h))).1 in
-      (st.asked, st.itself))
+  still_stay : AreStill T b (sets_of G0.layer) → AllStayOn T (whole G0) b
+  still_stay still x h = (still x.set (subst (λ (xs : List ℕ). Has xs x.set) (sym fresh.sets) (Has-map (λ (y : Source). y.set) (sources G0) x h))).1
 
-  pub still_ready : IsReady (pass T (whole G0) n0) (at + 1)
-  still_ready = ready_later (pass T (whole G0) n0) at (at + 1) ready (omega arith)
+-- ---- a pass that has run, or passed over a byte
+
+module _ {t : Tabled} {p : Pass} {n b : ℕ} (goes : GoesOn t p) where
+  pub run_reads : (groups : List Edges) {H : Graph} {m : ℕ} → AreLookUps t b (sets_of p.graph.layer) groups → IsRun p.graph p.at groups H n m →
+      Reads (byte_at p.at b ∷ []) t p n t (record { graph = H; known = p.known; at = p.at + 1 }) m
+  run_reads groups {H} {m} look_ups run = record {
+    read = run_read t p.graph n p.at b goes.ready groups H m look_ups run;
+    goes_on = record { ready = run_ready t p.graph n p.at b goes.ready groups H m look_ups run; known = goes.known };
+  }
+
+  pub stay_reads : AllStayOn t (whole p.graph) b → Reads (byte_at p.at b ∷ []) t p n t (record { graph = p.graph; known = p.known; at = p.at + 1 }) n
+  stay_reads stay = record {
+    read = stays_read t.graph (byte_at p.at b) (come t p n) (λ x h. let st = stay x h in (st.asked, st.itself));
+    goes_on = record { ready = ready_later (p.at + 1) goes.ready (omega arith); known = goes.known };
+  }
+
+  pub still_reads : AreStill t b (sets_of p.graph.layer) → Reads (byte_at p.at b ∷ []) t p n t (record { graph = p.graph; known = p.known; at = p.at + 1 }) n
+  still_reads still = stay_reads (still_stay t p.graph n p.at b goes.ready still)
+
+-- ---- the program that is entered for a byte of a layer
+
+module _ (known : Known) (layer : ℕ) {t : Tabled} {b e : ℕ} {sets : List ℕ} (there : slice_get known.layers layer ≡ Some sets) (not_still : e ≡ 1 → ⊥) (not_none : e ≡ 0 → ⊥)
+    (entry : IsEntry t known.layers known.steps.items b (layer_at known.layers layer) e) where
+  abbrev found : (step : KnownStep) × (slice_get known.steps.items (e - 2) ≡ Some step) × IsStepOf t known.layers b (layer_at known.layers layer) step
+  found = entry_step t known.layers known.steps.items b (layer_at known.layers layer) e not_still not_none entry
+
+  pub step_within : e - 2 < length known.steps.items
+  step_within = slice_get_within known.steps.items (e - 2) found.0 found.1
+
+  pub step_found : {step : KnownStep} → slice_get known.steps.items (e - 2) ≡ Some step → IsStepOf t known.layers b sets step
+  step_found {step} read =
+      subst (λ (x : KnownStep). IsStepOf t known.layers b sets x) (step_is known.steps.items (e - 2) found.0 step found.1 read)
+      (subst (λ (xs : List ℕ). IsStepOf t known.layers b xs found.0) (layer_is known.layers layer sets there) found.2)

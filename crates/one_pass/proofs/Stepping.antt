@@ -1,5 +1,5 @@
 -- One place: the sources of the layer are stepped one after another.
-use Rattle.std.proofs.Common.{◌≡◌, ℕ, suc, ◌+◌, ◌*◌, ◌≤◌, ◌<◌, ◌⊎◌, List, [], ◌∷◌, ◌++◌, length, get_or, map, inl, inr, refl, sym, ap, subst, arith, ◌∙◌, append_assoc, length-append}
+use Rattle.std.proofs.Common.{◌≡◌, ℕ, suc, ◌+◌, ◌*◌, ◌≤◌, ◌<◌, ◌⊎◌, List, [], ◌∷◌, ◌++◌, length, map, inl, inr, refl, sym, ap, subst, arith, ◌∙◌, append_assoc, length-append}
 use Rattle.std.specs.Prelude.{◌↔◌}
 use Rattle.std.specs.List.{sum_by}
 use Rattle.std.specs.Str.{bytes_eq}
@@ -19,20 +19,20 @@ use Rattle.output_graph.specs.Graph.{Source}
 use Rattle.one_pass.specs.Layers.{GraphView, HasWord, HasCost, Brings, numbers_of}
 use Rattle.one_pass.specs.Turned.{HasLookedUp}
 use Rattle.one_pass.specs.Places.{ReadingPlace, edges_read, sets_met, sets_on}
-use Rattle.one_pass.specs.Passes.{Pass, pass, sets_of, stop, IsReady, HasGrown, HasStoppedAt, IsExcess, weight_of}
+use Rattle.one_pass.specs.Passes.{Progress, pass, sets_of, stop, IsReady, HasGrown, HasStoppedAt, IsExcess}
 use Rattle.one_pass.specs.Making.{edges_to, making_of, making_read}
 use Rattle.one_pass.proofs.Making.{leads_once, led_twice, lone_edge, making_step}
 use Rattle.one_pass.proofs.Sets.{Covers, has_next, sum_covers, sum_map}
-use Rattle.one_pass.proofs.Composing.{grown_length, grown_more, grown_named, on_met}
+use Rattle.one_pass.proofs.Composing.{grown_more, grown_named, on_met}
 
 -- a set of the next layer, and a word of it
-abbrev pub Arrives : Pass → List ℕ → Word → Type 0
+abbrev pub Arrives : Progress → List ℕ → Word → Type 0
 Arrives Q set w = (s : ℕ) × (set_at Q.table.sets s ≡ set) × HasWord Q.graph.next s w
 
-abbrev pub HasNext : Pass → List ℕ → Type 0
+abbrev pub HasNext : Progress → List ℕ → Type 0
 HasNext Q set = (s : ℕ) × (set_at Q.table.sets s ≡ set) × Has (numbers_of Q.graph.next) s
 
-module _ (A : Automaton) (p : ReadingPlace) (P : Pass) where
+module _ (A : Automaton) (p : ReadingPlace) (P : Progress) where
   -- the edges of a source
   abbrev pub source_edges : Source → List Reach
   source_edges x = edges A (set_at P.table.sets x.set) p.ask
@@ -55,7 +55,7 @@ module _ (A : Automaton) (p : ReadingPlace) (P : Pass) where
   making_by done = sum_by (λ (x : Source). making_of A (sets_of P) p.ask (set_at P.table.sets x.set)) done
 
   -- these sources have been asked, and the graph has taken what came
-  pub record IsSpending (done : List Source) (Q : Pass) : Type 0 where
+  pub record IsSpending (done : List Source) (Q : Progress) : Type 0 where
     pub layer : Q.graph.layer ≡ P.graph.layer
     pub stepped : Q.graph.stepped ≡ length done
     pub table : HasGrown P.table Q.table (sets_on A (sets_of P) p.ask) (map (λ set. let r : LookUp = record { set = set; ask = p.ask } in r) (sets_of P))
@@ -67,7 +67,7 @@ module _ (A : Automaton) (p : ReadingPlace) (P : Pass) where
     pub cells : Q.graph.live ≤ P.graph.live + edges_of done
 
   -- and they have been stepped
-  pub record IsStepping (done : List Source) (Q : Pass) : Type 0 where
+  pub record IsStepping (done : List Source) (Q : Progress) : Type 0 where
     pub spent : IsSpending done Q
     pub accepted : Q.graph.accepted ≡ []
     pub words : (set : List ℕ) (w : Word) → Arrives Q set w ↔ LeadsWith done set w
@@ -126,7 +126,7 @@ module _ (A : Automaton) (p : ReadingPlace) (P : Pass) where
       (λ look_up h. Has-append_left asked_look_ups [] look_up h)
 
   -- nothing has been stepped
-  pub spending_none : (at : ℕ) → IsReady P at → IsSpending [] P
+  pub spending_none : (at : ℕ) → IsReady P.table P.graph at → IsSpending [] P
   spending_none at r = record {
     layer = refl;
     stepped = r.fresh.0;
@@ -137,7 +137,7 @@ module _ (A : Automaton) (p : ReadingPlace) (P : Pass) where
     cells = omega arith;
   }
 
-  pub stepping_none : (at : ℕ) → IsReady P at → IsStepping [] P
+  pub stepping_none : (at : ℕ) → IsReady P.table P.graph at → IsStepping [] P
   stepping_none at r = record {
     spent = spending_none at r;
     accepted = r.fresh.2;
@@ -157,7 +157,7 @@ module _ (A : Automaton) (p : ReadingPlace) (P : Pass) where
 
   -- ---- one source more
 
-  module _ (done : List Source) (Q : Pass) (x : Source) (is : P.table.graph ≡ A) (spent : IsSpending done Q) (there : Has P.graph.layer x)
+  module _ (done : List Source) (Q : Progress) (x : Source) (is : P.table.graph ≡ A) (spent : IsSpending done Q) (there : Has P.graph.layer x)
       (known : x.set < length P.table.sets) where
     pub named_before : set_at Q.table.sets x.set ≡ set_at P.table.sets x.set
     named_before = grown_named P.table Q.table (sets_on A (sets_of P) p.ask) asked_look_ups spent.table x.set known

@@ -16,7 +16,7 @@ use Rattle.one_pass.specs.Layers.{GraphView, Brings, BringsEnd, HasCost, HasEnde
 use Rattle.one_pass.specs.Turned.{HasLookedUp, rest_edges}
 use Rattle.one_pass.specs.Faults.{IsFaultOf}
 use Rattle.one_pass.specs.Places.{ReadingPlace, asks, end_at, sets_met, sets_on}
-use Rattle.one_pass.specs.Passes.{Pass, pass, sets_of, stop, IsReady, HasRead, HasStoppedAt}
+use Rattle.one_pass.specs.Passes.{Progress, pass, sets_of, stop, IsReady, HasRead, HasStoppedAt}
 use Rattle.one_pass.proofs.Composing.{excess_grown, grown_length, grown_none}
 use Rattle.one_pass.proofs.Ending.{ending_more, IsEnding, marks_of}
 use Rattle.set_table.proofs.OnceLaws.{holds_once, once_set}
@@ -24,7 +24,7 @@ use Rattle.set_table.proofs.SetsLaws.{at_place}
 use Rattle.one_pass.proofs.PlaceLaws.{place_read, place_ready}
 use Rattle.one_pass.proofs.Stepping.{heavy_excess, met_here, named_before, source_edges, stepping_more, stopped_by_graph, stopped_by_table, IsSpending, IsStepping}
 
-module _ (p : ReadingPlace) (P : Pass) (at : ℕ) (ready : IsReady P at) (k : ℕ) (Q : Pass)
+module _ (p : ReadingPlace) (P : Progress) (at : ℕ) (ready : IsReady P.table P.graph at) (k : ℕ) (Q : Progress)
     (past : IsSpending P.table.graph p P (take k P.graph.layer) Q) (within : k < length Q.graph.layer)
     (set : ℕ) (is : set ≡ (source_at Q.graph.layer k).set) where
   abbrev x : Source
@@ -129,7 +129,7 @@ marks_back [] = refl
 marks_back (m ∷ ms) = ap (λ xs. m ∷ xs) (marks_back ms)
 
 -- one source more has been ended
-pub turn_ended : (at : ℕ) (P : Pass) → IsReady P at → (k : ℕ) (Q : Pass) → IsEnding P.table.graph at P (take k P.graph.layer) Q → k < length Q.graph.layer →
+pub turn_ended : (at : ℕ) (P : Progress) → IsReady P.table P.graph at → (k : ℕ) (Q : Progress) → IsEnding P.table.graph at P (take k P.graph.layer) Q → k < length Q.graph.layer →
     (set : ℕ) → set ≡ (source_at Q.graph.layer k).set → (t : Tabled) (n : ℕ) → HasLookedUp Q.table t (look_up Q.table set ended) Q.steps n →
     (ms : List ℕ) → HasEnds t (look_up Q.table set ended) ms → (g : GraphView) (m : ℕ) → HasEndedSource Q.graph g k at ms →
     HasCost (length ms) Q.graph.live g.live n m → IsEnding P.table.graph at P (take (k + 1) P.graph.layer) (pass t g m)
@@ -146,7 +146,7 @@ turn_ended at P ready k Q past within set is t n made ms ends g m h cost =
     cost)
 
 -- what is the cause at a place, with the sets that are met there
-pub place_cause : (p : ReadingPlace) (P : Pass) (e : TableFault) →
+pub place_cause : (p : ReadingPlace) (P : Progress) (e : TableFault) →
     IsFaultOf P.table (sets_on P.table.graph (sets_of P) p.ask) (look_ups_asked P.table.graph (sets_of P) (p.ask ∷ [])) e →
     IsFaultOf P.table (sets_met P.table.graph (sets_of P) (asks (p ∷ []))) (look_ups_asked P.table.graph (sets_of P) (asks (p ∷ []))) e
 place_cause p P (Full weight) x =
@@ -158,7 +158,7 @@ place_cause p P (Full weight) x =
 place_cause p P OutOfMemory x = tt
 
 -- all sources have been stepped
-module _ (p : ReadingPlace) (P : Pass) (at k : ℕ) (ready : IsReady P at) (Q : Pass) (past : IsStepping P.table.graph p P (take k P.graph.layer) Q)
+module _ (p : ReadingPlace) (P : Progress) (at k : ℕ) (ready : IsReady P.table P.graph at) (Q : Progress) (past : IsStepping P.table.graph p P (take k P.graph.layer) Q)
     (all : k ≡ length P.graph.layer) (g : GraphView) (layer : g.layer ≡ Q.graph.next) (live : g.live ≡ Q.graph.live) where
   every : IsStepping P.table.graph p P P.graph.layer Q
   every = subst (λ done. IsStepping P.table.graph p P done Q) (ap (λ j. take j P.graph.layer) all ∙ take-length P.graph.layer) past
@@ -168,7 +168,7 @@ module _ (p : ReadingPlace) (P : Pass) (at k : ℕ) (ready : IsReady P at) (Q : 
 
   pub turns_ready : (later : ℕ) → at ≤ later →
       ((x : Source) (e : Reach) (b : ℕ × ℕ) → Has P.graph.layer x → Has (source_edges P.table.graph p P x) e → Has (block_word p.at e.marks) b → b.0 < later) →
-      (g.stepped ≡ 0) → (g.next ≡ []) → (g.accepted ≡ Q.graph.accepted) → IsReady (pass Q.table g Q.steps) later
+      (g.stepped ≡ 0) → (g.next ≡ []) → (g.accepted ≡ Q.graph.accepted) → IsReady Q.table g later
   turns_ready later le blocks stepped next accepted =
       place_ready P.table.graph p P Q every g layer live at later ready le blocks stepped next accepted
 

@@ -1,5 +1,5 @@
 -- A table that holds the look-ups of a reading weighs no less than the reading.
-use Rattle.std.proofs.Common.{◌≡◌, ℕ, ◌+◌, ◌≤◌, List, [], length, map, ap, subst, arith, ◌∙◌}
+use Rattle.std.proofs.Common.{ℕ, ◌+◌, ◌≤◌, List, length, map, subst, arith}
 use Rattle.std.specs.List.{sum_by}
 use Rattle.std.specs.Str.{bytes_eq}
 use Rattle.span_core.specs.Lists.{Has}

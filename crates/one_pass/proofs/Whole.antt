@@ -13,7 +13,7 @@ use Rattle.output_graph.specs.Graph.{Source}
 use Rattle.one_pass.specs.Layers.{first_layer}
 use Rattle.one_pass.specs.Builds.{IsNew, build, started}
 use Rattle.one_pass.specs.Places.{ReadingPlace, AreReadWords, Leads, asks, byte_at, edges_read, end_at, places, rest_at, sets_after, sets_met}
-use Rattle.one_pass.specs.Passes.{Pass, sets_of, Reaches, IsReady, HasEnded, HasRead, HasStopped, Stop, IsExcess, weight_of}
+use Rattle.one_pass.specs.Passes.{Progress, sets_of, Reaches, IsReady, HasEnded, HasRead, HasStopped, Stop, IsExcess, weight_of}
 use Rattle.one_pass.proofs.ReadWords.{leads_then, read_words, then_leads}
 use Rattle.one_pass.proofs.Sets.{Covers, edges_append, edges_covers, look_ups_append, look_ups_covers, look_ups_left, look_ups_right, weight_covers}
 use Rattle.one_pass.proofs.Composing.{asks_append}
@@ -76,7 +76,7 @@ module _ (A : Automaton) (K : ℕ → Bool) (d : List ℕ) (t : Tabled) (new : I
   abbrev starts : List (List ℕ)
   starts = set_of A.starts ∷ []
 
-  abbrev P : Pass
+  abbrev P : Progress
   P = started t before
 
   start_named : set_at t.sets 0 ≡ set_of A.starts
@@ -85,7 +85,7 @@ module _ (A : Automaton) (K : ℕ → Bool) (d : List ℕ) (t : Tabled) (new : I
   pub starts_are : sets_of P ≡ starts
   starts_are = ap (λ s. s ∷ []) start_named
 
-  pub started_ready : IsTabled t → IsReady P 0
+  pub started_ready : IsTabled t → IsReady P.table P.graph 0
   started_ready tabled = record {
     sound = tabled;
     given = λ x h. elim h as (λ _. x.set < length t.sets) [
@@ -126,7 +126,7 @@ module _ (A : Automaton) (K : ℕ → Bool) (d : List ℕ) (t : Tabled) (new : I
       back h = (record { set = 0; words = [] ∷ [] }, inl refl, start_named ∙ h.0, inl h.1)
 
   -- the layer after some places has the words of the choices there, and the sets that are reached
-  pub layer_words : (ps : List ReadingPlace) (Q : Pass) → HasRead A ps P Q → (set : List ℕ) (w : Word) → Reaches Q set w ↔ Leads A ps (set_of A.starts) w set
+  pub layer_words : (ps : List ReadingPlace) (Q : Progress) → HasRead A ps P Q → (set : List ℕ) (w : Word) → Reaches Q set w ↔ Leads A ps (set_of A.starts) w set
   layer_words ps Q read set w = (
     λ h.
         let r = (read.words set w).0 h in
@@ -136,12 +136,12 @@ module _ (A : Automaton) (K : ℕ → Bool) (d : List ℕ) (t : Tabled) (new : I
     λ h. (read.words set w).1 (set_of A.starts, [], w, (first_word (set_of A.starts) []).1 (refl, refl), h, refl),
   )
 
-  pub layer_sets : (ps : List ReadingPlace) (Q : Pass) → HasRead A ps P Q → (set : List ℕ) → Has (sets_of Q) set ↔ Has (sets_after A starts (asks ps)) set
+  pub layer_sets : (ps : List ReadingPlace) (Q : Progress) → HasRead A ps P Q → (set : List ℕ) → Has (sets_of Q) set ↔ Has (sets_after A starts (asks ps)) set
   layer_sets ps Q read set = subst (λ sets. Has (sets_of Q) set ↔ Has (sets_after A sets (asks ps)) set) starts_are (read.sets set)
 
   -- ---- the end
 
-  module _ (ps : List ReadingPlace) (all : ps ++ end_at (length d) ∷ [] ≡ places K d 0 false) (Q R : Pass) (read : HasRead A ps P Q) (done : HasEnded A (length d) Q R) where
+  module _ (ps : List ReadingPlace) (all : ps ++ end_at (length d) ∷ [] ≡ places K d 0 false) (Q R : Progress) (read : HasRead A ps P Q) (done : HasEnded A (length d) Q R) where
     pub whole_words : AreReadWords A K d R.graph.accepted
     whole_words u = (
       λ h. (read_words A K d u).0 (to_choice h),
@@ -253,7 +253,7 @@ module _ (A : Automaton) (K : ℕ → Bool) (d : List ℕ) (t : Tabled) (new : I
   look_ups_of_front = front_look_ups
 
   -- reading and turning take no more than is built
-  pub whole_steps : (ps : List ReadingPlace) → ps ++ end_at (length d) ∷ [] ≡ places K d 0 false → (Q R : Pass) → HasRead A ps P Q → HasEnded A (length d) Q R →
+  pub whole_steps : (ps : List ReadingPlace) → ps ++ end_at (length d) ∷ [] ≡ places K d 0 false → (Q R : Progress) → HasRead A ps P Q → HasEnded A (length d) Q R →
       AreDistinct (sets_of Q) → R.steps + (2 * R.graph.live + 2) + 1 ≤ before + build A d K
   whole_steps ps all Q R read done distinct =
       let zero_look_ups = ap (λ (look_ups : List LookUp). length look_ups * size A) new.look_ups in
@@ -286,7 +286,7 @@ module _ (A : Automaton) (K : ℕ → Bool) (d : List ℕ) (t : Tabled) (new : I
           omega (arith, a, b, c, e)
 
   -- the table holds each look-up that is asked for
-  pub whole_look_ups : (ps : List ReadingPlace) → ps ++ end_at (length d) ∷ [] ≡ places K d 0 false → (Q R : Pass) → HasRead A ps P Q → HasEnded A (length d) Q R →
+  pub whole_look_ups : (ps : List ReadingPlace) → ps ++ end_at (length d) ∷ [] ≡ places K d 0 false → (Q R : Progress) → HasRead A ps P Q → HasEnded A (length d) Q R →
       Covers R.table.look_ups (look_ups_read A d K)
   whole_look_ups ps all Q R read done look_up h =
       let both = ap (look_ups_asked A starts) (sym (front_asks ps (end_at (length d) ∷ []) all)) ∙ look_ups_append A starts (asks ps) (ended ∷ []) in
@@ -296,7 +296,7 @@ module _ (A : Automaton) (K : ℕ → Bool) (d : List ℕ) (t : Tabled) (new : I
       ]
 
   -- no more cells are live than edges were read, and one
-  pub whole_cells : (ps : List ReadingPlace) → ps ++ end_at (length d) ∷ [] ≡ places K d 0 false → (Q R : Pass) → HasRead A ps P Q → HasEnded A (length d) Q R →
+  pub whole_cells : (ps : List ReadingPlace) → ps ++ end_at (length d) ∷ [] ≡ places K d 0 false → (Q R : Progress) → HasRead A ps P Q → HasEnded A (length d) Q R →
       AreDistinct (sets_of Q) → R.graph.live ≤ edges_K A d K + 1
   whole_cells ps all Q R read done distinct =
       let a = ap (λ sets. edges_read A sets (asks ps)) starts_are in

@@ -10,7 +10,7 @@ use Rattle.output_graph.specs.Graph.{Source}
 use Rattle.one_pass.specs.Words.{Word}
 use Rattle.one_pass.specs.Builds.{IsNew, build, started}
 use Rattle.one_pass.specs.Places.{ReadingPlace, AreReadWords, Leads, asks, end_at, is_touched, parts_places, places, sets_after, sets_met, word_of}
-use Rattle.one_pass.specs.Passes.{Pass, Stop, sets_of, HasEnded, HasRead, HasStopped, IsExcess, IsReady, Reaches}
+use Rattle.one_pass.specs.Passes.{Progress, Stop, sets_of, HasEnded, HasRead, HasStopped, IsExcess, IsReady, Reaches}
 
 -- choices of edges at the places of a document make the words that are read
 abbrev pub ChoiceLaw : Type 0
@@ -24,39 +24,39 @@ PlaceLaw = (K : ℕ → Bool) (d : List ℕ) (i : ℕ) (in_gap : Bool) → asks 
 
 -- after the places up to a position the layer has the sets that are reached, each with the words of the choices
 -- that lead there
-pub record IsLayerLaw (A : Automaton) (ps : List ReadingPlace) (Q : Pass) : Type 0 where
+pub record IsLayerLaw (A : Automaton) (ps : List ReadingPlace) (Q : Progress) : Type 0 where
   pub words : (set : List ℕ) (w : Word) → Reaches Q set w ↔ Leads A ps (set_of A.starts) w set
   pub sets : (set : List ℕ) → Has (sets_of Q) set ↔ Has (sets_after A (set_of A.starts ∷ []) (asks ps)) set
 
 abbrev pub LayerLaw : Type 0
 LayerLaw =
-    (A : Automaton) (t : Tabled) (before : ℕ) (ps : List ReadingPlace) (Q : Pass) →
+    (A : Automaton) (t : Tabled) (before : ℕ) (ps : List ReadingPlace) (Q : Progress) →
     IsNew A t → HasRead A ps (started t before) Q → IsLayerLaw A ps Q
 
 -- places may be read one after another
 abbrev pub StepLaw : Type 0
 StepLaw =
-    (A : Automaton) (ps qs : List ReadingPlace) (P Q R : Pass) (at : ℕ) →
-    HasRead A ps P Q → IsReady Q at → HasRead A qs Q R → HasRead A (ps ++ qs) P R
+    (A : Automaton) (ps qs : List ReadingPlace) (P Q R : Progress) (at : ℕ) →
+    HasRead A ps P Q → IsReady Q.table Q.graph at → HasRead A qs Q R → HasRead A (ps ++ qs) P R
 
 -- where each set of the layer has been asked, and has one edge, without marks and to itself, the place has been read before it is
 abbrev pub StayLaw : Type 0
 StayLaw =
-    (A : Automaton) (p : ReadingPlace) (P : Pass) →
+    (A : Automaton) (p : ReadingPlace) (P : Progress) →
     ((x : Source) → Has P.graph.layer x →
     Has P.table.look_ups (look_up P.table x.set p.ask) × (edges A (set_at P.table.sets x.set) p.ask ≡ record { marks = 0; to = set_at P.table.sets x.set } ∷ [])) →
     HasRead A (p ∷ []) P P
 
 -- the whole document: the words, the steps with those of turning, and the cells
-pub record IsWholeLaw (A : Automaton) (K : ℕ → Bool) (d : List ℕ) (before : ℕ) (R : Pass) : Type 0 where
+pub record IsWholeLaw (A : Automaton) (K : ℕ → Bool) (d : List ℕ) (before : ℕ) (R : Progress) : Type 0 where
   pub words : AreReadWords A K d R.graph.accepted
   pub steps : R.steps + (2 * R.graph.live + 2) + 1 ≤ before + build A d K
   pub cells : R.graph.live ≤ edges_K A d K + 1
 
 abbrev pub WholeLaw : Type 0
 WholeLaw =
-    (A : Automaton) (K : ℕ → Bool) (d : List ℕ) (t : Tabled) (before : ℕ) (ps : List ReadingPlace) (Q R : Pass) →
-    IsNew A t → ps ++ end_at (length d) ∷ [] ≡ places K d 0 false → HasRead A ps (started t before) Q → IsReady Q (length d) →
+    (A : Automaton) (K : ℕ → Bool) (d : List ℕ) (t : Tabled) (before : ℕ) (ps : List ReadingPlace) (Q R : Progress) →
+    IsNew A t → ps ++ end_at (length d) ∷ [] ≡ places K d 0 false → HasRead A ps (started t before) Q → IsReady Q.table Q.graph (length d) →
     HasEnded A (length d) Q R → IsWholeLaw A K d before R
 
 -- what was given up took no more steps

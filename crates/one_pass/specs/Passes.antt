@@ -11,21 +11,21 @@ use Rattle.one_pass.specs.Layers.{GraphView, IsPast, numbers_of}
 use Rattle.one_pass.specs.Making.{making_read}
 use Rattle.one_pass.specs.Places.{ReadingPlace, Leads, asks, edges_read, end_at, sets_after, sets_met, sets_on}
 
--- the table, the graph, and the steps that were taken
-pub record Pass : Type 0 where
+-- how far a pass has come: the table, the graph, and the steps that were taken
+pub record Progress : Type 0 where
   pub table : Tabled
   pub graph : GraphView
   pub steps : ℕ
 
-abbrev pub pass : Tabled → GraphView → ℕ → Pass
+abbrev pub pass : Tabled → GraphView → ℕ → Progress
 pass t g n = record { table = t; graph = g; steps = n }
 
 -- the sets of the layer
-abbrev pub sets_of : Pass → List (List ℕ)
+abbrev pub sets_of : Progress → List (List ℕ)
 sets_of P = map (λ (x : Source). set_at P.table.sets x.set) P.graph.layer
 
 -- the word reaches the set
-abbrev pub Reaches : Pass → List ℕ → Word → Type 0
+abbrev pub Reaches : Progress → List ℕ → Word → Type 0
 Reaches P set w = (x : Source) × Has P.graph.layer x × (set_at P.table.sets x.set ≡ set) × Has x.words w
 
 -- the sets of the layer are sets of the table
@@ -37,12 +37,12 @@ abbrev pub AllStayOn : Tabled → GraphView → ℕ → Type 0
 AllStayOn t g b = (x : Source) → Has g.layer x → Stays t x.set b
 
 -- between two places: no source of the layer has been stepped, and all that it has stands before `at`
-pub record IsReady (P : Pass) (at : ℕ) : Type 0 where
-  pub sound : IsTabled P.table
-  pub given : AreGiven P.table P.graph
-  pub apart : AreDistinct (numbers_of P.graph.layer)
-  pub fresh : (P.graph.stepped ≡ 0) × (P.graph.next ≡ []) × (P.graph.accepted ≡ [])
-  pub past : IsPast P.graph.layer at
+pub record IsReady (t : Tabled) (g : GraphView) (at : ℕ) : Type 0 where
+  pub sound : IsTabled t
+  pub given : AreGiven t g
+  pub apart : AreDistinct (numbers_of g.layer)
+  pub fresh : (g.stepped ≡ 0) × (g.next ≡ []) × (g.accepted ≡ [])
+  pub past : IsPast g.layer at
 
 -- what a caller knows between two places: no source of the layer has been stepped, its sets are sets of the table, and
 -- all that it has stands before `at`
@@ -68,13 +68,13 @@ pub record HasKept (old new : Tabled) : Type 0 where
   pub sound : IsTabled new
 
 -- the words that reach a set are those that reached one before, with those of a choice of edges behind them
-abbrev pub Extends : Automaton → List ReadingPlace → Pass → Pass → Type 0
+abbrev pub Extends : Automaton → List ReadingPlace → Progress → Progress → Type 0
 Extends A ps P Q =
     (set : List ℕ) (w : Word) →
     Reaches Q set w ↔ ((from : List ℕ) × (u v : Word) × Reaches P from u × Leads A ps from v set × (u ++ v ≡ w))
 
 -- the places have been read: what they ask for is there
-pub record HasRead (A : Automaton) (ps : List ReadingPlace) (P Q : Pass) : Type 0 where
+pub record HasRead (A : Automaton) (ps : List ReadingPlace) (P Q : Progress) : Type 0 where
   pub words : Extends A ps P Q
   pub sets : (set : List ℕ) → Has (sets_of Q) set ↔ Has (sets_after A (sets_of P) (asks ps)) set
   pub table : HasGrown P.table Q.table (sets_met A (sets_of P) (asks ps)) (look_ups_asked A (sets_of P) (asks ps))
@@ -98,7 +98,7 @@ stop t n = record { table = t; steps = n }
 
 -- reading was given up: the table keeps what it holds, and the look-ups that were made then paid for the steps, with so much
 -- for the edges
-pub record StopsWithin (A : Automaton) (ps : List ReadingPlace) (P : Pass) (more : List (List ℕ)) (for_edges : ℕ) (S : Stop) : Type 0 where
+pub record StopsWithin (A : Automaton) (ps : List ReadingPlace) (P : Progress) (more : List (List ℕ)) (for_edges : ℕ) (S : Stop) : Type 0 where
   pub table : HasGrown P.table S.table more (look_ups_asked A (sets_of P) (asks ps))
   pub sound : IsTabled S.table
   pub made : List LookUp
@@ -110,11 +110,11 @@ pub record StopsWithin (A : Automaton) (ps : List ReadingPlace) (P : Pass) (more
       ≤ P.steps + P.graph.live + 3 * length P.graph.layer + for_edges + length made * size A
 
 -- with 6 for each edge where places are read
-abbrev pub HasStopped : Automaton → List ReadingPlace → Pass → Stop → Type 0
+abbrev pub HasStopped : Automaton → List ReadingPlace → Progress → Stop → Type 0
 HasStopped A ps P S = StopsWithin A ps P (sets_met A (sets_of P) (asks ps)) (6 * edges_read A (sets_of P) (asks ps)) S
 
 -- and 3 where it was one place, whose sets alone are made
-abbrev pub HasStoppedAt : Automaton → ReadingPlace → Pass → Stop → Type 0
+abbrev pub HasStoppedAt : Automaton → ReadingPlace → Progress → Stop → Type 0
 HasStoppedAt A p P S = StopsWithin A (p ∷ []) P (sets_on A (sets_of P) p.ask) (3 * edges_read A (sets_of P) (p.ask ∷ [])) S
 
 -- what sets and look-ups weigh, each of them once
@@ -127,7 +127,7 @@ pub record IsExcess (t : Tabled) (sets : List (List ℕ)) (look_ups : List LookU
   pub most : weight ≤ weight_of t.graph (t.sets ++ sets) (t.look_ups ++ look_ups)
 
 -- the sources of the layer have been ended at n
-pub record HasEnded (A : Automaton) (n : ℕ) (P Q : Pass) : Type 0 where
+pub record HasEnded (A : Automaton) (n : ℕ) (P Q : Progress) : Type 0 where
   pub words :
       (w : Word) →
       Has Q.graph.accepted w ↔ ((from : List ℕ) × (u v : Word) × Reaches P from u × Leads A (end_at n ∷ []) from v [] × (u ++ v ≡ w))

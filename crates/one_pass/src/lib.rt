@@ -8,7 +8,8 @@
 
 pub use known::Known;
 pub use listing::read_rows;
-pub use pieces::{advance, advance_by, finish};
+pub use pass::Pass;
+pub use pieces::{advance, finish};
 pub use reading::read;
 
 mod bytes;
@@ -17,7 +18,8 @@ mod entries;
 mod known;
 pub mod laws;
 mod listing;
-mod passes;
+mod parts;
+mod pass;
 mod pieces;
 mod places;
 mod reading;

@@ -1,20 +1,18 @@
 //! Reading on where a document grows at its end.
 //!
-//! A pass is a table and a graph between two places. They are handed in and out, so that a caller keeps them between
-//! the pieces that come.
+//! A table and a graph between two places are handed in and out, so that a caller keeps them between the pieces that come.
+//! Who keeps a `Pass` in place of the graph keeps what is known of whole layers too.
 ghost use Rattle.std.specs.Prelude.{◌≡◌, ℕ, ◌+◌, ◌^◌, ◌≤◌, [], ◌∷◌, length, IfErr, IfOk, OnErr, OnOk};
 ghost use Rattle.span_core.specs.Lists.{Has};
 ghost use Rattle.automaton_reading.specs.Reading.{ended, look_ups_asked};
 ghost use Rattle.output_graph.specs.Graph.{sets_of as numbers_in, sources};
 ghost use Rattle.one_pass.specs.Faults.{IsFaultAt, IsFaultOf};
-ghost use Rattle.one_pass.specs.Known.{Knows};
-ghost use Rattle.one_pass.specs.Passes.{HasEnded, HasRead, HasStopped, HasStoppedAt, IsOpen, IsReady, pass, sets_of, stop};
+ghost use Rattle.one_pass.specs.Passes.{HasEnded, HasRead, HasStopped, HasStoppedAt, IsOpen, pass, sets_of, stop};
 ghost use Rattle.one_pass.specs.Places.{bytes_at, end_at};
 ghost use Rattle.one_pass.specs.Seen.{ending_from, whole};
 
 use crate::known::{Known, MOST_WORDS};
-use crate::passes::read_piece;
-use crate::places::end_layer;
+use crate::pass::Pass;
 use output_graph::OutputGraph;
 use set_table::{Table, TableFault};
 use span_core::Steps;
@@ -44,43 +42,21 @@ pub fn advance<L: Ledger>(
     ensures stopped { OnErr result (HasStopped table.old.graph (bytes_at at piece.now) (pass table.old (whole graph) steps.old) (stop table.new steps.new)) }
     ensures cause { IfErr result (λ e. IsFaultAt (bytes_at at piece.now) (pass table.old (whole graph) steps.old) e) }
 {
-    let mut known = Known::new(alloc, MOST_WORDS);
-    advance_by(table, graph, &mut known, at, piece, steps)
-}
-
-/// As `advance`, by what is known of whole layers of this table, which is kept for the next piece. So a piece costs no
-/// more than it would in one document.
-pub fn advance_by<L: Ledger>(
-    table: &mut Table<'_>,
-    graph: OutputGraph,
-    known: &mut Known,
-    at: u32,
-    piece: &[u8],
-    steps: &mut Steps<L>,
-) -> Result<OutputGraph, TableFault>
-    requires known { Knows table.old known.old }
-    requires open { IsOpen table.old (whole graph) at }
-    requires few { at + length piece.now ≤ 2 ^ 28 }
-    ensures read { IfOk result (λ g. HasRead table.old.graph (bytes_at at piece.now) (pass table.old (whole graph) steps.old) (pass table.new (whole g) steps.new)) }
-    ensures ready { IfOk result (λ g. IsReady (pass table.new (whole g) steps.new) (at + length piece.now)) }
-    ensures known { OnOk result (Knows table.new known.new) }
-    ensures stopped { OnErr result (HasStopped table.old.graph (bytes_at at piece.now) (pass table.old (whole graph) steps.old) (stop table.new steps.new)) }
-    ensures cause { IfErr result (λ e. IsFaultAt (bytes_at at piece.now) (pass table.old (whole graph) steps.old) e) }
-{
-    let mut graph = graph;
     table.is_table();
     graph.is_graph();
-    if let Err(fault) = read_piece(table, &mut graph, known, at, piece, steps) {
+    let known = Known::new(alloc, MOST_WORDS);
+    let mut pass = Pass { graph, known, at };
+    if let Err(fault) = pass.read(table, piece, steps) {
         return Err(fault);
     }
-    Ok(graph)
+    Ok(pass.graph)
 }
 
 /// Ends each source of the layer at `at`, the end of the document, under the conditions of `advance`. No set but
 /// that of the ends is reached, so that the graph may be turned. It takes at most g - g' + 3l + 3e + r * size
 /// steps; the refusals are those of `advance`.
 pub fn finish<L: Ledger>(
-    _alloc: Global,
+    alloc: Global,
     table: &mut Table<'_>,
     graph: OutputGraph,
     at: u32,
@@ -94,11 +70,8 @@ pub fn finish<L: Ledger>(
     ensures stopped { OnErr result (HasStoppedAt table.old.graph (end_at at) (pass table.old (whole graph) steps.old) (stop table.new steps.new)) }
     ensures cause { IfErr result (λ e. IsFaultOf table.old [] (look_ups_asked table.old.graph (sets_of (pass table.old (whole graph) steps.old)) (ended ∷ [])) e) }
 {
-    let mut graph = graph;
     table.is_table();
     graph.is_graph();
-    if let Err(fault) = end_layer(table, &mut graph, at, steps) {
-        return Err(fault);
-    }
-    Ok(graph)
+    let known = Known::new(alloc, 0);
+    Pass { graph, known, at }.end(table, steps)
 }

@@ -2,69 +2,128 @@
 //!
 //! A place is a byte, the first position of a gap, or the end; the three differ in what is looked up and in where the
 //! edges lead.
-ghost use Rattle.std.specs.Prelude.{◌≡◌, ℕ, ◌+◌, ◌<◌, [], ◌∷◌, length, IfErr, IsTrue, OnOk, OnErr};
+ghost use Rattle.std.specs.Prelude.{◌≡◌, ℕ, ◌+◌, ◌*◌, ◌^◌, ◌<◌, ◌≤◌, [], ◌∷◌, length, IfErr, IfOk, IsTrue, OnErr, OnOk};
 ghost use Rattle.std.specs.FinSet as bytes;
 ghost use Rattle.span_core.specs.Lists.{Has};
-ghost use Rattle.automaton_reading.specs.Reading.{byte_read, ended, rest_taken, look_ups_asked};
-ghost use Rattle.output_graph.specs.Graph.{IsCost, IsPlace, IsStepped, sets_of as numbers_in, sources};
+ghost use Rattle.automaton_reading.specs.Reading.{byte_read, ended, rest_taken};
+ghost use Rattle.output_graph.specs.Graph.{IsCost, IsPlace, IsStepped, sets_of};
 ghost use Rattle.output_graph.specs.Sound.{edges_of};
-ghost use Rattle.one_pass.specs.Faults.{IsFaultAt, IsFaultOf};
 ghost use Rattle.set_table.specs.Tabled.{IsRefusal, look_up, once_asked};
-ghost use Rattle.one_pass.specs.Passes.{AllStayOn, AreGiven, HasEnded, HasRead, HasStopped, HasStoppedAt, IsReady, pass, sets_of, stop};
-ghost use Rattle.one_pass.specs.Places.{byte_at, end_at, rest_at};
-ghost use Rattle.one_pass.specs.Seen.{ending_from, whole};
+ghost use Rattle.one_pass.specs.Going.{Ends, GivesUp, GivesUpEnd, GoesOn, Reads};
+ghost use Rattle.one_pass.specs.Passes.{AllStayOn, AreGiven};
+ghost use Rattle.one_pass.specs.Places.{byte_at, rest_at};
+ghost use Rattle.one_pass.specs.Seen.{whole};
 ghost use Rattle.one_pass.specs.Turned.{HasNotTurned, HasTurned, HasTurnedEnd, rest_edges};
 
+use crate::pass::Pass;
 use output_graph::OutputGraph;
 use set_table::{Table, TableFault};
 use span_core::{ByteSet, Edge, Marks, OutOfMemory, Steps};
 use std::sync::ledger::Ledger;
 
-/// Steps each source of the layer by its edges on a byte, which stands at `at`.
-pub fn step_byte<L: Ledger>(
-    table: &mut Table<'_>,
-    graph: &mut OutputGraph,
-    at: u32,
-    byte: u8,
-    steps: &mut Steps<L>,
-) -> Result<(), TableFault>
-    requires { IsReady (pass table.old (whole graph.old) steps.old) at }
-    ensures read { OnOk result (HasRead table.old.graph (byte_at at byte ∷ []) (pass table.old (whole graph.old) steps.old) (pass table.new (whole graph.new) steps.new)) }
-    ensures ready { OnOk result (IsReady (pass table.new (whole graph.new) steps.new) (at + 1)) }
-    ensures stopped { OnErr result (HasStopped table.old.graph (byte_at at byte ∷ []) (pass table.old (whole graph.old) steps.old) (stop table.new steps.new)) }
-    ensures cause { IfErr result (λ e. IsFaultAt (byte_at at byte ∷ []) (pass table.old (whole graph.old) steps.old) e) }
-{
-    for k in 0..graph.layer_len() {
-        let set = graph.set_at(k);
-        if let Err(fault) = turn_byte(table, graph, k, set, at, byte, steps) {
-            return Err(fault);
+impl Pass {
+    /// Steps each source of the layer by its edges on a byte.
+    pub(crate) fn step_byte<L: Ledger>(
+        &mut self,
+        table: &mut Table<'_>,
+        byte: u8,
+        steps: &mut Steps<L>,
+    ) -> Result<(), TableFault>
+        requires goes_on { GoesOn table.old self.old }
+        requires few { self.old.at + 1 < 2 ^ 32 }
+        ensures read { OnOk result (Reads (byte_at self.old.at byte ∷ []) table.old self.old steps.old table.new self.new steps.new) }
+        ensures at { OnOk result (self.new.at ≡ self.old.at + 1) }
+        ensures given_up { IfErr result (GivesUp (byte_at self.old.at byte ∷ []) table.old self.old steps.old table.new steps.new) }
+    {
+        let at = self.at;
+        for k in 0..self.graph.layer_len() {
+            let set = self.graph.set_at(k);
+            if let Err(fault) = turn_byte(table, &mut self.graph, (k, set), at, byte, steps) {
+                return Err(fault);
+            }
+            self.graph.is_graph();
         }
-        graph.is_graph();
+        self.graph.next_layer();
+        self.at = at + 1;
+        Ok(())
     }
-    graph.next_layer();
-    Ok(())
+
+    /// Goes from each source of the layer to the set of its idle members, without marks, at the first position of a gap. It
+    /// stands at `to` then.
+    pub(crate) fn step_rest<L: Ledger>(
+        &mut self,
+        table: &mut Table<'_>,
+        to: u32,
+        steps: &mut Steps<L>,
+    ) -> Result<(), TableFault>
+        requires goes_on { GoesOn table.old self.old }
+        requires later { self.old.at ≤ to }
+        ensures read { OnOk result (Reads (rest_at self.old.at ∷ []) table.old self.old steps.old table.new self.new steps.new) }
+        ensures at { OnOk result (self.new.at ≡ to) }
+        ensures given_up { IfErr result (GivesUp (rest_at self.old.at ∷ []) table.old self.old steps.old table.new steps.new) }
+    {
+        let at = self.at;
+        for k in 0..self.graph.layer_len() {
+            let set = self.graph.set_at(k);
+            if let Err(fault) = turn_rest(table, &mut self.graph, (k, set), at, steps) {
+                return Err(fault);
+            }
+            self.graph.is_graph();
+        }
+        self.graph.next_layer();
+        self.at = to;
+        Ok(())
+    }
+
+    /// Ends each source of the layer at the end of the document, which is where the pass stands. No set but that of the ends
+    /// is reached, so that the graph may be turned. It takes at most g - g' + 3l + 3e + r * size steps, as told at `read`; so
+    /// are the refusals.
+    pub fn end<L: Ledger>(
+        self,
+        table: &mut Table<'_>,
+        steps: &mut Steps<L>,
+    ) -> Result<OutputGraph, TableFault>
+        requires { GoesOn table.old self }
+        ensures ended { IfOk result (λ g. Ends table.old self steps.old table.new g steps.new) }
+        ensures every { IfOk result (λ g. g.stepped ≡ length g.layer) }
+        ensures only { IfOk result (λ g. (s : ℕ) → Has (sets_of g.next) s → s ≡ 0) }
+        ensures given_up { IfErr result (GivesUpEnd table.old self steps.old table.new steps.new) }
+    {
+        let Pass {
+            mut graph,
+            known: _,
+            at,
+        } = self;
+        for k in 0..graph.layer_len() {
+            let set = graph.set_at(k);
+            if let Err(fault) = turn_end(table, &mut graph, (k, set), at, steps) {
+                return Err(fault);
+            }
+        }
+        Ok(graph)
+    }
 }
 
-/// Asks a set for its edges on a byte, and steps the source by them.
+/// Asks the set of a source, of which the place in the layer and the set are told, for its edges on a byte, and steps the
+/// source by them.
 fn turn_byte<L: Ledger>(
     table: &mut Table<'_>,
     graph: &mut OutputGraph,
-    k: usize,
-    set: u32,
+    source: (usize, u32),
     at: u32,
     byte: u8,
     steps: &mut Steps<L>,
 ) -> Result<(), TableFault>
-    requires given { set < length table.old.sets }
-    requires source { k ≡ graph.old.stepped }
-    requires left { k < length graph.old.layer }
+    requires given { source.1 < length table.old.sets }
+    requires source { source.0 ≡ graph.old.stepped }
+    requires left { source.0 < length graph.old.layer }
     requires place { IsPlace graph.old at }
-    ensures turned { OnOk result (HasTurned table.old table.new set (byte_read byte) at graph.old graph.new steps.old steps.new) }
-    ensures refused { OnErr result (HasNotTurned table.old table.new set (byte_read byte) steps.old steps.new) }
-    ensures cause { IfErr result (IsRefusal (once_asked table.old (look_up table.old set (byte_read byte)))) }
+    ensures turned { OnOk result (HasTurned table.old table.new source.1 (byte_read byte) at graph.old graph.new steps.old steps.new) }
+    ensures refused { OnErr result (HasNotTurned table.old table.new source.1 (byte_read byte) steps.old steps.new) }
+    ensures cause { IfErr result (IsRefusal (once_asked table.old (look_up table.old source.1 (byte_read byte)))) }
 {
-    let turned = match table.row(set, byte, steps) {
-        Ok(edges) => graph.step_source(k, at, edges, steps),
+    let turned = match table.row(source.1, byte, steps) {
+        Ok(edges) => graph.step_source(source.0, at, edges, steps),
         Err(fault) => return Err(fault),
     };
     match turned {
@@ -73,65 +132,24 @@ fn turn_byte<L: Ledger>(
     }
 }
 
-/// The bytes that change nothing: each set of the layer has been asked for them, and has one edge on them,
-/// without marks and to itself. So the layer, its words and the table are the same after such a byte.
-pub fn stays_of(table: &Table<'_>, graph: &OutputGraph) -> ByteSet
-    requires given { AreGiven table.now (whole graph.now) }
-    requires fresh { graph.now.stepped ≡ 0 }
-    ensures { (b : ℕ) → b < 256 → IsTrue (bytes.contains result b) → AllStayOn table.now (whole graph.now) b }
-{
-    let mut stays = ByteSet::all();
-    for k in 0..graph.layer_len() {
-        let set = graph.set_at(k);
-        stays = stays.meet(&table.stays(set));
-    }
-    stays
-}
-
-/// Goes from each source of the layer to the set of its idle members, without marks. It stands at the
-/// same position before and after.
-pub fn step_rest<L: Ledger>(
-    table: &mut Table<'_>,
-    graph: &mut OutputGraph,
-    at: u32,
-    steps: &mut Steps<L>,
-) -> Result<(), TableFault>
-    requires { IsReady (pass table.old (whole graph.old) steps.old) at }
-    ensures read { OnOk result (HasRead table.old.graph (rest_at at ∷ []) (pass table.old (whole graph.old) steps.old) (pass table.new (whole graph.new) steps.new)) }
-    ensures ready { OnOk result (IsReady (pass table.new (whole graph.new) steps.new) at) }
-    ensures stopped { OnErr result (HasStopped table.old.graph (rest_at at ∷ []) (pass table.old (whole graph.old) steps.old) (stop table.new steps.new)) }
-    ensures cause { IfErr result (λ e. IsFaultAt (rest_at at ∷ []) (pass table.old (whole graph.old) steps.old) e) }
-{
-    for k in 0..graph.layer_len() {
-        let set = graph.set_at(k);
-        if let Err(fault) = turn_rest(table, graph, k, set, at, steps) {
-            return Err(fault);
-        }
-        graph.is_graph();
-    }
-    graph.next_layer();
-    Ok(())
-}
-
-/// Asks a set for its idle members, and steps the source to their set, if there is one.
+/// Asks the set of a source for its idle members, and steps the source to their set, if there is one.
 fn turn_rest<L: Ledger>(
     table: &mut Table<'_>,
     graph: &mut OutputGraph,
-    k: usize,
-    set: u32,
+    source: (usize, u32),
     at: u32,
     steps: &mut Steps<L>,
 ) -> Result<(), TableFault>
-    requires given { set < length table.old.sets }
-    requires source { k ≡ graph.old.stepped }
-    requires left { k < length graph.old.layer }
+    requires given { source.1 < length table.old.sets }
+    requires source { source.0 ≡ graph.old.stepped }
+    requires left { source.0 < length graph.old.layer }
     requires place { IsPlace graph.old at }
-    ensures turned { OnOk result (HasTurned table.old table.new set rest_taken at graph.old graph.new steps.old steps.new) }
-    ensures refused { OnErr result (HasNotTurned table.old table.new set rest_taken steps.old steps.new) }
-    ensures cause { IfErr result (IsRefusal (once_asked table.old (look_up table.old set rest_taken))) }
+    ensures turned { OnOk result (HasTurned table.old table.new source.1 rest_taken at graph.old graph.new steps.old steps.new) }
+    ensures refused { OnErr result (HasNotTurned table.old table.new source.1 rest_taken steps.old steps.new) }
+    ensures cause { IfErr result (IsRefusal (once_asked table.old (look_up table.old source.1 rest_taken))) }
 {
-    let turned = match table.rest(set, steps) {
-        Ok(idle) => step_idle(graph, k, at, idle, steps),
+    let turned = match table.rest(source.1, steps) {
+        Ok(idle) => step_idle(graph, source.0, at, idle, steps),
         Err(fault) => return Err(fault),
     };
     match turned {
@@ -164,53 +182,43 @@ fn step_idle<L: Ledger>(
     }
 }
 
-/// Ends each source of the layer at the end of the document. No set but that of the ends is reached, so that the
-/// graph may be turned.
-pub fn end_layer<L: Ledger>(
-    table: &mut Table<'_>,
-    graph: &mut OutputGraph,
-    at: u32,
-    steps: &mut Steps<L>,
-) -> Result<(), TableFault>
-    requires { IsReady (pass table.old (whole graph.old) steps.old) at }
-    ensures ended { OnOk result (HasEnded table.old.graph at (pass table.old (whole graph.old) steps.old) (pass table.new (ending_from (sources graph.old) graph.new) steps.new)) }
-    ensures every { OnOk result (graph.new.stepped ≡ length graph.new.layer) }
-    ensures accepted { OnOk result ((s : ℕ) → Has (numbers_in graph.new.next) s → s ≡ 0) }
-    ensures stopped { OnErr result (HasStoppedAt table.old.graph (end_at at) (pass table.old (whole graph.old) steps.old) (stop table.new steps.new)) }
-    ensures cause { IfErr result (λ e. IsFaultOf table.old [] (look_ups_asked table.old.graph (sets_of (pass table.old (whole graph.old) steps.old)) (ended ∷ [])) e) }
-{
-    for k in 0..graph.layer_len() {
-        let set = graph.set_at(k);
-        if let Err(fault) = turn_end(table, graph, k, set, at, steps) {
-            return Err(fault);
-        }
-    }
-    Ok(())
-}
-
-/// Asks a set for its ends, and ends the source by them.
+/// Asks the set of a source for its ends, and ends the source by them.
 fn turn_end<L: Ledger>(
     table: &mut Table<'_>,
     graph: &mut OutputGraph,
-    k: usize,
-    set: u32,
+    source: (usize, u32),
     at: u32,
     steps: &mut Steps<L>,
 ) -> Result<(), TableFault>
-    requires given { set < length table.old.sets }
-    requires source { k ≡ graph.old.stepped }
-    requires left { k < length graph.old.layer }
+    requires given { source.1 < length table.old.sets }
+    requires source { source.0 ≡ graph.old.stepped }
+    requires left { source.0 < length graph.old.layer }
     requires place { IsPlace graph.old at }
-    ensures turned { OnOk result (HasTurnedEnd table.old table.new set at graph.old graph.new steps.old steps.new) }
-    ensures refused { OnErr result (HasNotTurned table.old table.new set ended steps.old steps.new) }
-    ensures cause { IfErr result (IsRefusal (once_asked table.old (look_up table.old set ended))) }
+    ensures turned { OnOk result (HasTurnedEnd table.old table.new source.1 at graph.old graph.new steps.old steps.new) }
+    ensures refused { OnErr result (HasNotTurned table.old table.new source.1 ended steps.old steps.new) }
+    ensures cause { IfErr result (IsRefusal (once_asked table.old (look_up table.old source.1 ended))) }
 {
-    let turned = match table.ends(set, steps) {
-        Ok(ends) => graph.end_source(k, at, ends, steps),
+    let turned = match table.ends(source.1, steps) {
+        Ok(ends) => graph.end_source(source.0, at, ends, steps),
         Err(fault) => return Err(fault),
     };
     match turned {
         Ok(()) => Ok(()),
         Err(OutOfMemory) => Err(TableFault::OutOfMemory),
     }
+}
+
+/// The bytes that change nothing: each set of the layer has been asked for them, and has one edge on them,
+/// without marks and to itself. So the layer, its words and the table are the same after such a byte.
+pub fn stays_of(table: &Table<'_>, graph: &OutputGraph) -> ByteSet
+    requires given { AreGiven table.now (whole graph.now) }
+    requires fresh { graph.now.stepped ≡ 0 }
+    ensures { (b : ℕ) → b < 256 → IsTrue (bytes.contains result b) → AllStayOn table.now (whole graph.now) b }
+{
+    let mut stays = ByteSet::all();
+    for k in 0..graph.layer_len() {
+        let set = graph.set_at(k);
+        stays = stays.meet(&table.stays(set));
+    }
+    stays
 }

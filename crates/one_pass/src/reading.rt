@@ -10,9 +10,8 @@ ghost use Rattle.output_graph.specs.Graph.{sets_of};
 ghost use Rattle.one_pass.specs.Places.{AreReadWords, is_touched};
 ghost use Rattle.one_pass.specs.Seen.{accepted_words};
 
-use crate::known::{Known, MOST_WORDS};
-use crate::passes::read_parts;
-use crate::places::end_layer;
+use crate::known::MOST_WORDS;
+use crate::pass::Pass;
 use output_graph::OutputGraph;
 use set_table::{Table, TableFault};
 use span_core::{OutOfMemory, Steps, Touched};
@@ -46,16 +45,12 @@ pub fn read<L: Ledger>(
     ensures kept { OnErr result (HasKept table.old table.new) }
     ensures cause { IfErr result (λ e. IsReadFault table.old.graph (is_touched positions.now) doc.now table.old.limit e) }
 {
-    let mut graph = match OutputGraph::start(alloc, table.start(), steps) {
-        Ok(graph) => graph,
+    let mut pass = match Pass::begin(alloc, MOST_WORDS, table, steps) {
+        Ok(pass) => pass,
         Err(OutOfMemory) => return Err(TableFault::OutOfMemory),
     };
-    let mut known = Known::new(alloc, MOST_WORDS);
-    if let Err(fault) = read_parts(table, &mut graph, &mut known, doc, positions.parts(), steps) {
+    if let Err(fault) = pass.read_parts(table, doc, positions.parts(), steps) {
         return Err(fault);
     }
-    if let Err(fault) = end_layer(table, &mut graph, doc.len() as u32, steps) {
-        return Err(fault);
-    }
-    Ok(graph)
+    pass.end(table, steps)
 }

@@ -2,8 +2,7 @@
 ghost use Rattle.std.specs.Prelude.{◌≡◌, ◌<◌};
 
 use crate::fault::Fault;
-use one_pass::{Known, advance_by};
-use output_graph::OutputGraph;
+use one_pass::Pass;
 use query_automaton::compile;
 use query_parser::read_query;
 use set_table::Table;
@@ -50,11 +49,10 @@ fn kept_of<L: Ledger>(alloc: Global, blank: Blank) -> Result<Kept, Fault>
         document.extend_from_slice(b"abcdefghijklmnopqrstuvwxyz")?;
     }
     let mut table = Table::new(alloc, compiled.automaton(), LIMIT, &mut steps)?;
-    let graph = OutputGraph::start(alloc, table.start(), &mut steps)?;
-    let mut known = Known::new(alloc, WORDS);
-    advance_by(&mut table, graph, &mut known, 0, &document, &mut steps)?;
+    let mut pass = Pass::begin(alloc, WORDS, &table, &mut steps)?;
+    pass.read(&mut table, &document, &mut steps)?;
     Ok(Kept {
-        programs: known.programs(),
-        anew: known.anew(),
+        programs: pass.known().programs(),
+        anew: pass.known().anew(),
     })
 }

@@ -1,4 +1,25 @@
+use Rattle.std.proofs.Common.{subst}
+use Rattle.one_pass.specs.Passes.{IsOpen}
+use Rattle.one_pass.specs.Seen.{whole}
+use Rattle.one_pass.proofs.OpenLaws.{open_ready, ready_open}
 use Rattle.one_pass.proofs.pieces.advance.Goals as goal
 
-pub advance_by-requires-clause-known : goal.advance_by-requires-clause-known
-advance_by-requires-clause-known g c = c.new-known.ensures c.args.table.now
+pub read-requires-clause-goes_on : goal.read-requires-clause-goes_on
+read-requires-clause-goes_on g c = record {
+  ready = open_ready c.args.table.now c.args.graph c.args.at c.is_table.ensures c.is_graph.ensures.sources c.requires.open;
+  known = c.new-known.ensures c.args.table.now;
+}
+
+pub returns-in-Err-clause-stopped : goal.returns-in-Err-clause-stopped
+returns-in-Err-clause-stopped g c = c.in-Err.ensures.given_up.stopped
+
+pub returns-in-Err-clause-cause : goal.returns-in-Err-clause-cause
+returns-in-Err-clause-cause g c = c.in-Err.ensures.given_up.cause
+
+pub returns-clause-read : goal.returns-clause-read
+returns-clause-read g c = c.in_default.ensures.read.read
+
+pub returns-clause-open : goal.returns-clause-open
+returns-clause-open g c =
+    subst (λ j. IsOpen c.read.new.table (whole c.read.new.self.graph) j) c.in_default.ensures.at
+    (ready_open c.read.new.table c.read.new.self.graph c.read.new.self.at c.in_default.ensures.read.goes_on.ready)

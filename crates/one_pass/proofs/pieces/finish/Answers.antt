@@ -1,5 +1,18 @@
+use Rattle.std.proofs.lemmas.Result.{IfErr-weaker}
 use Rattle.one_pass.proofs.OpenLaws.{open_ready}
 use Rattle.one_pass.proofs.pieces.finish.Goals as goal
 
-pub end_layer-requires : goal.end_layer-requires
-end_layer-requires g c = open_ready c.args.table.now c.args.graph c.args.steps.now c.args.at c.is_table.ensures c.is_graph.ensures.sources c.requires.open
+pub end-requires : goal.end-requires
+end-requires g c = record {
+  ready = open_ready c.args.table.now c.args.graph c.args.at c.is_table.ensures c.is_graph.ensures.sources c.requires.open;
+  known = c.new-known.ensures c.args.table.now;
+}
+
+pub returns-clause-ended : goal.returns-clause-ended
+returns-clause-ended g c = c.end.ensures.ended
+
+pub returns-clause-stopped : goal.returns-clause-stopped
+returns-clause-stopped g c = IfErr-weaker c.end.result _ _ (λ e up. up.stopped) c.end.ensures.given_up
+
+pub returns-clause-cause : goal.returns-clause-cause
+returns-clause-cause g c = IfErr-weaker c.end.result _ _ (λ e up. up.cause) c.end.ensures.given_up

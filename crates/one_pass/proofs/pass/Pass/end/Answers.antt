@@ -1,0 +1,25 @@
+use Rattle.std.proofs.Common.{arith}
+use Rattle.one_pass.proofs.Sources.{ended_all, ended_every, ended_given, ended_gives_up, ended_more, ended_none}
+use Rattle.one_pass.proofs.pass.Pass.end.Goals as goal
+
+pub loop-k-init : goal.loop-k-init
+loop-k-init g c = ended_none c.requires
+
+pub turn_end-requires-clause-given : goal.turn_end-requires-clause-given
+turn_end-requires-clause-given g c = ended_given c.requires c.loop-k.invariant (omega arith) c.set_at-set.ensures
+
+pub returns-in-Err-clause-given_up : goal.returns-in-Err-clause-given_up
+returns-in-Err-clause-given_up g c =
+    ended_gives_up c.requires c.loop-k.invariant (omega arith) c.set_at-set.ensures c.in-Err.ensures.refused c.in-Err.ensures.cause
+
+pub loop-k-preserved : goal.loop-k-preserved
+loop-k-preserved g c = ended_more c.requires c.loop-k.invariant (omega arith) c.set_at-set.ensures c.in_default.ensures.turned
+
+pub returns-clause-ended : goal.returns-clause-ended
+returns-clause-ended g c = ended_all c.requires c.loop-k.invariant (omega arith)
+
+pub returns-clause-every : goal.returns-clause-every
+returns-clause-every g c = ended_every c.requires c.loop-k.invariant (omega arith)
+
+pub returns-clause-only : goal.returns-clause-only
+returns-clause-only g c = c.loop-k.invariant.only

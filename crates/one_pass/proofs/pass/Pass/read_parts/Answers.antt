@@ -1,0 +1,50 @@
+use Rattle.std.proofs.Common.{arith}
+use Rattle.std.proofs.lemmas.Result.{IfErr-weaker, on_ok_weaker}
+use Rattle.one_pass.proofs.Parting.{at_end, before_end, gap_gives_up, gap_reads, part_later, part_rising, part_within, up_to_end, up_to_gives_up, up_to_more, up_to_none}
+use Rattle.one_pass.proofs.pass.Pass.read_parts.Goals as goal
+
+pub loop-part-init : goal.loop-part-init
+loop-part-init g c = up_to_none c.requires.goes_on c.requires.first c.requires.apart
+
+pub read_part-requires-clause-goes_on : goal.read_part-requires-clause-goes_on
+read_part-requires-clause-goes_on g c = c.loop-part.invariant.reads.goes_on
+
+pub read_part-requires-clause-later : goal.read_part-requires-clause-later
+read_part-requires-clause-later g c = part_later c.loop-part.invariant c.requires.within (omega arith)
+
+pub read_part-requires-clause-rising : goal.read_part-requires-clause-rising
+read_part-requires-clause-rising g c = part_rising c.loop-part.invariant c.requires.within (omega arith)
+
+pub read_part-requires-clause-within : goal.read_part-requires-clause-within
+read_part-requires-clause-within g c = part_within c.loop-part.invariant c.requires.within (omega arith)
+
+pub returns-in-Err-clause-given_up : goal.returns-in-Err-clause-given_up
+returns-in-Err-clause-given_up g c = up_to_gives_up c.loop-part.invariant c.requires.within (omega arith) c.in-Err.ensures.given_up
+
+pub overflow_add-next : goal.overflow_add-next
+overflow_add-next g c =
+    let last = part_within c.loop-part.invariant c.requires.within (omega arith) in
+    omega (arith, last, c.requires.few)
+
+pub loop-part-preserved : goal.loop-part-preserved
+loop-part-preserved g c = up_to_more c.loop-part.invariant c.requires.within (omega arith) c.in_default.ensures.read c.in_default.ensures.at
+
+pub step_rest-requires-clause-goes_on : goal.step_rest-requires-clause-goes_on
+step_rest-requires-clause-goes_on g c = c.loop-part.invariant.reads.goes_on
+
+pub step_rest-requires-clause-later : goal.step_rest-requires-clause-later
+step_rest-requires-clause-later g c = before_end c.loop-part.invariant c.requires.within (omega arith)
+
+pub returns-clause-read : goal.returns-clause-read
+returns-clause-read g c =
+    on_ok_weaker c.step_rest.result (gap_reads c.loop-part.invariant c.requires.within (omega arith) (omega arith)) c.step_rest.ensures.read
+
+pub returns-clause-given_up : goal.returns-clause-given_up
+returns-clause-given_up g c =
+    IfErr-weaker c.step_rest.result _ _ (λ e up. gap_gives_up c.loop-part.invariant c.requires.within (omega arith) (omega arith) up) c.step_rest.ensures.given_up
+
+pub returns-then-next-doc-clause-read : goal.returns-then-next-doc-clause-read
+returns-then-next-doc-clause-read g c = up_to_end c.loop-part.invariant c.requires.within (omega arith) (omega arith)
+
+pub returns-then-next-doc-clause-at : goal.returns-then-next-doc-clause-at
+returns-then-next-doc-clause-at g c = at_end c.loop-part.invariant c.requires.within (omega arith) (omega arith)

@@ -1,0 +1,40 @@
+-- A pass as a value, beside the table that it reads by: where it may go on, and what its acts do.
+use Rattle.std.specs.Prelude.{ℕ, List, [], ◌∷◌}
+use Rattle.automaton_reading.specs.Reading.{ended, look_ups_asked}
+use Rattle.output_graph.specs.Graph.{Graph, sources}
+use Rattle.set_table.specs.Tabled.{Tabled}
+use Rattle.set_table.specs.declared.fault.TableFault.{TableFault}
+use Rattle.one_pass.specs.declared.pass.Pass.{Pass}
+use Rattle.one_pass.specs.Faults.{IsFaultAt, IsFaultOf}
+use Rattle.one_pass.specs.Known.{Knows}
+use Rattle.one_pass.specs.Passes.{HasEnded, HasRead, HasStopped, HasStoppedAt, IsReady, Progress, pass, sets_of, stop}
+use Rattle.one_pass.specs.Places.{ReadingPlace, end_at}
+use Rattle.one_pass.specs.Seen.{ending_from, whole}
+
+-- how far the pass has come
+abbrev pub come : Tabled → Pass → ℕ → Progress
+come t p n = pass t (whole p.graph) n
+
+-- it may go on with the table: it stands between two places, and what it knows of layers is true
+pub record GoesOn (t : Tabled) (p : Pass) : Type 0 where
+  pub ready : IsReady t (whole p.graph) p.at
+  pub known : Knows t p.known
+
+-- it has read these places, and may go on
+pub record Reads (ps : List ReadingPlace) (t : Tabled) (p : Pass) (n : ℕ) (u : Tabled) (q : Pass) (m : ℕ) : Type 0 where
+  pub read : HasRead t.graph ps (come t p n) (come u q m)
+  pub goes_on : GoesOn u q
+
+-- or it was given up at one of them
+pub record GivesUp (ps : List ReadingPlace) (t : Tabled) (p : Pass) (n : ℕ) (u : Tabled) (m : ℕ) (e : TableFault) : Type 0 where
+  pub stopped : HasStopped t.graph ps (come t p n) (stop u m)
+  pub cause : IsFaultAt ps (come t p n) e
+
+-- its sources have been ended where it stands, which left this graph
+abbrev pub Ends : Tabled → Pass → ℕ → Tabled → Graph → ℕ → Type 0
+Ends t p n u g m = HasEnded t.graph p.at (come t p n) (pass u (ending_from (sources p.graph) g) m)
+
+-- or it was given up there
+pub record GivesUpEnd (t : Tabled) (p : Pass) (n : ℕ) (u : Tabled) (m : ℕ) (e : TableFault) : Type 0 where
+  pub stopped : HasStoppedAt t.graph (end_at p.at) (come t p n) (stop u m)
+  pub cause : IsFaultOf t [] (look_ups_asked t.graph (sets_of (come t p n)) (ended ∷ [])) e
