@@ -16,6 +16,7 @@ pub mod PlaceLaws
 pub mod GraphLaws
 pub mod ProgramLaws
 pub mod PlanLaws
+pub mod PoolLaws
 pub mod HeldLaws
 pub mod RunLaws
 pub mod ActionLaws

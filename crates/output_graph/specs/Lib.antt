@@ -9,6 +9,7 @@ pub mod Programs
 pub mod Plans
 pub mod Sound
 pub mod Running
+pub mod Pools
 pub mod Turn
 pub mod RowLists
 pub mod Loop

@@ -9,19 +9,23 @@ ghost use Rattle.output_graph.specs.Source.{Descend};
 ghost use Rattle.output_graph.specs.Graph.{HasWord, sources, targets, sets_of, IsPlace, IsStepped, IsCost, IsReached, AreApart};
 ghost use Rattle.output_graph.specs.Sound.{edges_of, edges_of_ends};
 ghost use Rattle.output_graph.specs.Loop.{AreListed};
+ghost use Rattle.output_graph.specs.Plans.{IsPlan};
+ghost use Rattle.output_graph.specs.Pools.{AreOfPlan, meaning_of, program_at};
 ghost use Rattle.output_graph.specs.Programs.{IsRun};
 
 use crate::edges::{ACCEPTED, make_edges, make_ends};
 use crate::layer::Layer;
 use crate::program::Program;
+use crate::programs::Programs;
 use crate::registers::Registers;
 use crate::row_lists::RowLists;
-use crate::running::run_plan;
+use crate::running::{PlanLists, lists_of, run_plan};
 use crate::turning::turn_cells;
 use node_arena::Arena;
 use span_core::{Edge, Marks, OutOfMemory, Steps};
 use std::alloc::Global;
 use std::marker::Model;
+use std::snapshot::Snapshot;
 use std::sync::ledger::Ledger;
 
 /// The words that lead to each set of a layer, and those that lead on from it so far.
@@ -198,19 +202,63 @@ impl OutputGraph {
         ensures refused { OnErr result (self.new ≡ self.old) }
         ensures uncounted { OnErr result (steps.new ≡ steps.old) }
     {
+        let same = Snapshot::of(&program.plan);
+        self.run_lists(at, lists_of(&program.plan, &same), steps)
+    }
+
+    /// As `step_layer`, by program `k` of those in a pool.
+    pub fn run_program<L: Ledger>(
+        &mut self,
+        at: u32,
+        programs: &Programs,
+        k: usize,
+        steps: &mut Steps<L>,
+    ) -> Result<(), OutOfMemory>
+        requires within { k < length programs.now }
+        requires begun { self.old.stepped ≡ 0 }
+        requires every { length (program_at programs.now k).groups ≡ length self.old.layer }
+        requires place { IsPlace self.old at }
+        ensures run { OnOk result (IsRun self.old at (program_at programs.now k).groups self.new steps.old steps.new) }
+        ensures targets { OnOk result (sets_of self.new.layer ≡ (program_at programs.now k).targets) }
+        ensures counted { OnOk result (steps.old + length (program_at programs.now k).groups ≤ steps.new) }
+        ensures refused { OnErr result (self.new ≡ self.old) }
+        ensures uncounted { OnErr result (steps.new ≡ steps.old) }
+    {
+        self.run_lists(at, programs.lists(k), steps)
+    }
+
+    /// As `step_layer`, by the lists of a plan.
+    fn run_lists<L: Ledger>(
+        &mut self,
+        at: u32,
+        lists: PlanLists<'_>,
+        steps: &mut Steps<L>,
+    ) -> Result<(), OutOfMemory>
+        requires lists { AreOfPlan lists }
+        requires plan { IsPlan lists.plan.now.value }
+        requires begun { self.old.stepped ≡ 0 }
+        requires every { length (meaning_of lists.plan.now.value).groups ≡ length self.old.layer }
+        requires place { IsPlace self.old at }
+        ensures run { OnOk result (IsRun self.old at (meaning_of lists.entry.plan.now.value).groups self.new steps.old steps.new) }
+        ensures targets { OnOk result (sets_of self.new.layer ≡ lists.entry.plan.now.value.targets.items) }
+        ensures counted { OnOk result (steps.old + length (meaning_of lists.entry.plan.now.value).groups ≤ steps.new) }
+        ensures refused { OnErr result (self.new ≡ self.old) }
+        ensures uncounted { OnErr result (steps.new ≡ steps.old) }
+    {
         self.arena.is_arena();
-        let plan = &program.plan;
-        self.arena.reserve(plan.actions.len())?;
-        self.registers.reserve(plan.actions.len(), plan.held.len())?;
+        self.arena.reserve(lists.actions.len())?;
+        self.registers
+            .reserve(lists.actions.len(), lists.held.len())?;
         run_plan(
             &mut self.arena,
             &mut self.registers,
             at,
             self.at,
-            plan,
+            lists,
             steps,
         );
-        self.registers.settle(plan.targets.as_slice(), plan.held.as_slice(), plan.in_place);
+        self.registers
+            .settle(lists.targets, lists.held, lists.in_place);
         Ok(())
     }
 

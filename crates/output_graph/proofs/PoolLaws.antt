@@ -1,0 +1,67 @@
+-- Lists that programs share: what stands in them stays as they grow.
+use Rattle.std.proofs.Common.{◌≡◌, ◌⊎◌, ℕ, zero, suc, ◌-◌, ◌<◌, ◌≤◌, List, [], ◌∷◌, ◌++◌, take, drop, length, Option, Some, None, inl, inr, refl, sym, ap, ◌∙◌, subst, arith, slice_get, append-nil, length-append}
+use Rattle.std.proofs.lemmas.List.{length-drop}
+use Rattle.std.proofs.lemmas.Option.{same_Some}
+use Rattle.output_graph.specs.declared.programs.Part.{Part}
+use Rattle.output_graph.specs.declared.programs.Piece.{Piece}
+use Rattle.output_graph.specs.declared.programs.Pool.{Pool}
+use Rattle.output_graph.specs.Pools.{ArePooled, HasPiece, IsPart}
+use Rattle.output_graph.proofs.ProgramLaws.{drop_more, take_more}
+
+-- the second list goes on where the first ends
+abbrev pub GoesOn : {A : Type 0} → List A → List A → Type 0
+GoesOn {A = A} xs ys = (rest : List A) × (ys ≡ xs ++ rest)
+
+pub goes_on_same : {A : Type 0} (xs : List A) → GoesOn xs xs
+goes_on_same xs = ([], sym (append-nil xs))
+
+pub piece_stays : {A : Type 0} (xs ys these : List A) (piece : Piece) → GoesOn xs ys → HasPiece xs piece these → HasPiece ys piece these
+piece_stays {A = A} xs ys these piece on has =
+    let within = has.within in
+    let ordered = has.ordered in
+    let more = ap length on.1 ∙ length-append xs on.0 in
+    let left = length-drop piece.from xs in
+    record {
+      ordered = has.ordered;
+      within = omega arith;
+      are =
+          ap (λ (zs : List A). take (piece.to - piece.from) (drop piece.from zs)) on.1
+          ∙ (ap (λ (zs : List A). take (piece.to - piece.from) zs) (drop_more xs on.0 piece.from (omega arith))
+          ∙ (take_more (drop piece.from xs) on.0 (piece.to - piece.from) (omega arith) ∙ has.are));
+    }
+
+pub part_stays : (old new : Pool) (part : Part) → GoesOn old.actions.items new.actions.items → GoesOn old.targets.items new.targets.items → GoesOn old.held.items new.held.items → IsPart old part → IsPart new part
+part_stays old new part actions targets held is = record {
+  is_plan = is.is_plan;
+  actions = piece_stays old.actions.items new.actions.items part.plan.value.actions.items part.actions actions is.actions;
+  targets = piece_stays old.targets.items new.targets.items part.plan.value.targets.items part.targets targets is.targets;
+  held = piece_stays old.held.items new.held.items part.plan.value.held.items part.held held is.held;
+  sources = is.sources;
+  in_place = is.in_place;
+}
+
+-- the lists go on, and no part is added
+pub pool_stays : (old new : Pool) → ArePooled old → GoesOn old.actions.items new.actions.items → GoesOn old.targets.items new.targets.items → GoesOn old.held.items new.held.items →
+    new.parts.items ≡ old.parts.items → ArePooled new
+pool_stays old new are actions targets held same k part at =
+    part_stays old new part actions targets held (are k part (subst (λ (ps : List Part). slice_get ps k ≡ Some part) same at))
+
+last_or_before : (parts : List Part) (last : Part) (k : ℕ) (part : Part) → slice_get (parts ++ last ∷ []) k ≡ Some part → (slice_get parts k ≡ Some part) ⊎ (last ≡ part)
+last_or_before [] last zero part at = inr (same_Some last part at)
+last_or_before [] last (suc k) part at = cc
+last_or_before (p ∷ parts) last zero part at = inl at
+last_or_before (p ∷ parts) last (suc k) part at = last_or_before parts last k part at
+
+-- and one part is
+pub pool_next : (old new : Pool) (last : Part) → ArePooled old → GoesOn old.actions.items new.actions.items → GoesOn old.targets.items new.targets.items → GoesOn old.held.items new.held.items →
+    new.parts.items ≡ old.parts.items ++ last ∷ [] → IsPart new last → ArePooled new
+pool_next old new last are actions targets held next is k part at =
+    elim (last_or_before old.parts.items last k part (subst (λ (ps : List Part). slice_get ps k ≡ Some part) next at)) as (λ _. IsPart new part) [
+      | inl before ↦ part_stays old new part actions targets held (are k part before)
+      | inr same ↦ subst (λ (p : Part). IsPart new p) same is
+    ]
+
+-- a piece of one list is one list
+pub same_piece : {A : Type 0} (xs ys these those : List A) (piece : Piece) → HasPiece xs piece these → HasPiece ys piece those → xs ≡ ys → these ≡ those
+same_piece {A = A} xs ys these those piece one two same =
+    sym one.are ∙ (ap (λ (zs : List A). take (piece.to - piece.from) (drop piece.from zs)) same ∙ two.are)

@@ -1,0 +1,182 @@
+//! Programs in lists that they share.
+//!
+//! A program that stands alone has lists of its own, each somewhere else in memory. Here they lie one behind another, so
+//! that running one reads few places; and of the edges, which no run reads, nothing is kept.
+ghost use Rattle.std.specs.Prelude.{◌≡◌, ◌<◌, ◌≤◌, ◌++◌, ◌∷◌, [], List, length, IfOk, OnErr, OnOk};
+ghost use Rattle.output_graph.specs.Plans.{IsPlan};
+ghost use Rattle.output_graph.specs.Pools.{AreOfPlan, ArePooled, HasPiece, meaning_of, program_at, programs_in};
+
+use crate::program::{Action, Plan, Program, Register};
+use crate::running::PlanLists;
+use span_core::OutOfMemory;
+use std::alloc::Global;
+use std::marker::Model;
+use std::snapshot::Snapshot;
+
+/// Where a piece of a list begins, and where it ends.
+#[derive(Clone, Copy, Drop)]
+pub(crate) struct Piece {
+    pub(crate) from: u32,
+    pub(crate) to: u32,
+}
+
+/// What a program has of each list. `plan` stands for the plan that it has come of, which only clauses read.
+#[derive(Drop)]
+pub(crate) struct Part {
+    pub(crate) plan: Snapshot<Plan>,
+    pub(crate) actions: Piece,
+    pub(crate) targets: Piece,
+    pub(crate) held: Piece,
+    pub(crate) sources: u32,
+    pub(crate) in_place: bool,
+}
+
+/// The lists of all programs, one behind another.
+#[derive(Drop)]
+pub(crate) struct Pool {
+    pub(crate) actions: Vec<Action>,
+    pub(crate) targets: Vec<u32>,
+    pub(crate) held: Vec<Register>,
+    pub(crate) parts: Vec<Part>,
+}
+
+/// Programs, one behind another in lists that they share.
+#[derive(Drop)]
+pub struct Programs {
+    pool: Pool,
+}
+
+impl Model for Programs {
+    ghost use Rattle.std.specs.Prelude.{List};
+    ghost use Rattle.output_graph.specs.Programs.{Steps};
+    ghost use Rattle.output_graph.specs.Pools.{ArePooled, programs_in};
+
+    ghost Value = { List Steps };
+
+    ghost view = { λ p. programs_in p.pool.parts.items };
+
+    ghost invariant = { λ p. ArePooled p.pool };
+}
+
+impl Programs {
+    /// No programs. Takes no memory.
+    pub fn new(alloc: Global) -> Programs
+        ensures { result ≡ [] }
+    {
+        Programs {
+            pool: Pool {
+                actions: Vec::new(alloc),
+                targets: Vec::new(alloc),
+                held: Vec::new(alloc),
+                parts: Vec::new(alloc),
+            },
+        }
+    }
+
+    /// How many there are.
+    pub fn len(&self) -> usize
+        ensures { result ≡ length self.now }
+    {
+        self.pool.parts.len()
+    }
+
+    /// Adds a program, the last, and tells its number.
+    pub fn add(&mut self, program: &Program) -> Result<usize, OutOfMemory>
+        ensures number { IfOk result (λ k. k ≡ length self.old) }
+        ensures added { OnOk result (self.new ≡ self.old ++ program.now ∷ []) }
+        ensures refused { OnErr result (self.new ≡ self.old) }
+    {
+        add_plan(&mut self.pool, &program.plan)
+    }
+
+    /// The sets of the next layer of program `k`, in their order.
+    pub fn targets(&self, k: usize) -> &[u32]
+        requires { k < length self.now }
+        ensures { result.now ≡ (program_at self.now k).targets }
+    {
+        self.lists(k).targets
+    }
+
+    /// What running program `k` reads.
+    pub(crate) fn lists(&self, k: usize) -> PlanLists<'_>
+        requires { k < length self.now }
+        ensures lists { AreOfPlan result }
+        ensures plan { IsPlan result.plan.now.value }
+        ensures program { meaning_of result.plan.now.value ≡ program_at self.now k }
+    {
+        lists_at(&self.pool, k)
+    }
+}
+
+/// What running program `k` reads.
+fn lists_at(pool: &Pool, k: usize) -> PlanLists<'_>
+    requires pooled { ArePooled pool.now }
+    requires within { k < length pool.now.parts.items }
+    ensures lists { AreOfPlan result }
+    ensures plan { IsPlan result.plan.now.value }
+    ensures program { meaning_of result.plan.now.value ≡ program_at (programs_in pool.now.parts.items) k }
+{
+    let part = &pool.parts[k];
+    PlanLists {
+        plan: &part.plan,
+        actions: piece_of(pool.actions.as_slice(), part.actions),
+        targets: piece_of(pool.targets.as_slice(), part.targets),
+        held: piece_of(pool.held.as_slice(), part.held),
+        sources: part.sources as usize,
+        in_place: part.in_place,
+    }
+}
+
+/// A piece of a list.
+fn piece_of<T>(list: &[T], piece: Piece) -> &[T]
+    requires { (these : List T) × HasPiece list.now piece these }
+    ensures { HasPiece list.now piece result.now }
+{
+    &list[piece.from as usize..piece.to as usize]
+}
+
+/// Adds the lists of a plan, the last. If memory runs out, what was added of them is named by no part.
+fn add_plan(pool: &mut Pool, plan: &Plan) -> Result<usize, OutOfMemory>
+    requires pooled { ArePooled pool.old }
+    requires plan { IsPlan plan.now }
+    ensures pooled { ArePooled pool.new }
+    ensures number { IfOk result (λ k. k ≡ length pool.old.parts.items) }
+    ensures added { OnOk result (programs_in pool.new.parts.items ≡ programs_in pool.old.parts.items ++ meaning_of plan.now ∷ []) }
+    ensures refused { OnErr result (pool.new.parts.items ≡ pool.old.parts.items) }
+{
+    let actions = append(&mut pool.actions, plan.actions.as_slice())?;
+    let targets = append(&mut pool.targets, plan.targets.as_slice())?;
+    let held = append(&mut pool.held, plan.held.as_slice())?;
+    let sources = small(plan.counts.len())?;
+    let number = pool.parts.len();
+    pool.parts.push(Part {
+        plan: Snapshot::of(plan),
+        actions,
+        targets,
+        held,
+        sources,
+        in_place: plan.in_place,
+    })?;
+    Ok(number)
+}
+
+/// Puts these behind a list, and tells where they stand.
+fn append<T: Copy>(list: &mut Vec<T>, more: &[T]) -> Result<Piece, OutOfMemory>
+    ensures old { (rest : List T) × (list.new.items ≡ list.old.items ++ rest) }
+    ensures piece { IfOk result (λ p. HasPiece list.new.items p more.now) }
+{
+    let from = small(list.len())?;
+    list.extend_from_slice(more)?;
+    let to = small(list.len())?;
+    Ok(Piece { from, to })
+}
+
+/// A number, which must be less than 2^32.
+fn small(number: usize) -> Result<u32, OutOfMemory>
+    ensures { IfOk result (λ n. n ≡ number) }
+{
+    match u32::try_from(number) {
+        Ok(number) => Ok(number),
+        Err(_) => Err(OutOfMemory),
+    }
+}
