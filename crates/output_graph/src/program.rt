@@ -24,16 +24,16 @@ pub(crate) struct Move {
 #[derive(Clone, Copy, Drop)]
 pub(crate) enum Register {
     /// The cell of this source.
-    Kept(usize),
+    Kept(u32),
     /// The cell that the program makes when it has made so many.
-    Made(usize),
+    Made(u32),
 }
 
 /// A cell to make: its marks, the source that it continues, and what its target has so far.
 #[derive(Clone, Copy, Drop)]
 pub(crate) struct Link {
     pub(crate) marks: Marks,
-    pub(crate) from: usize,
+    pub(crate) from: u32,
     pub(crate) also: Option<Register>,
 }
 
@@ -43,7 +43,7 @@ pub(crate) enum Action {
     /// Makes a cell.
     Make(Link),
     /// Gives up the hold of this source.
-    Release(usize),
+    Release(u32),
 }
 
 /// The moves of each source, and what they do to cells: the actions in their order, and where the cell of each target is
@@ -55,7 +55,7 @@ pub(crate) struct Plan {
     pub(crate) targets: Vec<u32>,
     pub(crate) actions: Vec<Action>,
     pub(crate) held: Vec<Register>,
-    pub(crate) made: usize,
+    pub(crate) made: u32,
     pub(crate) in_place: bool,
 }
 
@@ -134,16 +134,16 @@ fn add_source(plan: &mut Plan, edges: &[Edge]) -> Result<(), OutOfMemory>
     ensures plan { OnOk result (IsPlan plan.new) }
     ensures groups { OnOk result (cut plan.new.counts.items (edges_in plan.new.moves.items) ≡ cut plan.old.counts.items (edges_in plan.old.moves.items) ++ edges_of edges.now ∷ []) }
 {
-    let source = plan.counts.len();
+    let source = small(plan.counts.len())?;
     let kept = add_edges(plan, source, edges)?;
     add_release(&mut plan.actions, source, kept)?;
     plan.counts.push(edges.len())?;
-    plan.in_place = is_in_place(plan.held.as_slice(), source + 1);
+    plan.in_place = is_in_place(plan.held.as_slice(), plan.counts.len());
     Ok(())
 }
 
 /// The end of a source, whose hold is given up unless its cell was handed on.
-fn add_release(actions: &mut Vec<Action>, source: usize, kept: bool) -> Result<(), OutOfMemory>
+fn add_release(actions: &mut Vec<Action>, source: u32, kept: bool) -> Result<(), OutOfMemory>
     ensures { OnOk result (actions.new.items ≡ actions.old.items ++ release_of kept source) }
 {
     if kept {
@@ -170,13 +170,13 @@ fn stays(register: Register, place: usize) -> bool
     ensures { IsTrue result → IsInPlace place register }
 {
     match register {
-        Register::Kept(source) => source == place,
+        Register::Kept(source) => source as usize == place,
         Register::Made(_) => true,
     }
 }
 
 /// The edges of a source, and whether its cell is handed on.
-fn add_edges(plan: &mut Plan, source: usize, edges: &[Edge]) -> Result<bool, OutOfMemory>
+fn add_edges(plan: &mut Plan, source: u32, edges: &[Edge]) -> Result<bool, OutOfMemory>
     requires { plan.old.made ≤ length plan.old.actions.items }
     ensures { IfOk result (λ kept. HasEdges source plan.old edges.now plan.new kept) }
 {
@@ -190,7 +190,7 @@ fn add_edges(plan: &mut Plan, source: usize, edges: &[Edge]) -> Result<bool, Out
 }
 
 /// An edge of a source, and whether the source's cell is handed on.
-fn add_edge(plan: &mut Plan, source: usize, edge: Edge) -> Result<bool, OutOfMemory>
+fn add_edge(plan: &mut Plan, source: u32, edge: Edge) -> Result<bool, OutOfMemory>
     requires { plan.old.made ≤ length plan.old.actions.items }
     ensures { IfOk result (λ kept. HasEdge source plan.old edge plan.new kept) }
 {
@@ -206,6 +206,7 @@ fn add_edge(plan: &mut Plan, source: usize, edge: Edge) -> Result<bool, OutOfMem
         let _had = put_register(&mut plan.held, place, Register::Kept(source))?;
         return Ok(true);
     }
+    let more = small(plan.made as usize + 1)?;
     let made = Register::Made(plan.made);
     let also = put_register(&mut plan.held, place, made)?;
     plan.actions.push(Action::Make(Link {
@@ -213,7 +214,7 @@ fn add_edge(plan: &mut Plan, source: usize, edge: Edge) -> Result<bool, OutOfMem
         from: source,
         also,
     }))?;
-    plan.made += 1;
+    plan.made = more;
     Ok(false)
 }
 
@@ -264,4 +265,14 @@ fn place_of(sets: &[u32], set: u32) -> usize
         }
     }
     sets.len()
+}
+
+/// A number, which must be less than 2^32.
+pub(crate) fn small(number: usize) -> Result<u32, OutOfMemory>
+    ensures { IfOk result (λ n. n ≡ number) }
+{
+    match u32::try_from(number) {
+        Ok(number) => Ok(number),
+        Err(_) => Err(OutOfMemory),
+    }
 }

@@ -6,7 +6,7 @@ ghost use Rattle.std.specs.Prelude.{◌≡◌, ◌<◌, ◌≤◌, ◌++◌, ◌
 ghost use Rattle.output_graph.specs.Plans.{IsPlan};
 ghost use Rattle.output_graph.specs.Pools.{AreOfPlan, ArePooled, HasPiece, meaning_of, program_at, programs_in};
 
-use crate::program::{Action, Plan, Program, Register};
+use crate::program::{Action, Plan, Program, Register, small};
 use crate::running::PlanLists;
 use span_core::OutOfMemory;
 use std::alloc::Global;
@@ -169,14 +169,4 @@ fn append<T: Copy>(list: &mut Vec<T>, more: &[T]) -> Result<Piece, OutOfMemory>
     list.extend_from_slice(more)?;
     let to = small(list.len())?;
     Ok(Piece { from, to })
-}
-
-/// A number, which must be less than 2^32.
-fn small(number: usize) -> Result<u32, OutOfMemory>
-    ensures { IfOk result (λ n. n ≡ number) }
-{
-    match u32::try_from(number) {
-        Ok(number) => Ok(number),
-        Err(_) => Err(OutOfMemory),
-    }
 }

@@ -90,8 +90,8 @@ impl Registers {
         ensures { cell_in self.now.sources.items self.now.made.items register ≡ Some result }
     {
         match register {
-            Register::Kept(k) => self.sources[k].1,
-            Register::Made(k) => self.made[k],
+            Register::Kept(k) => self.sources[k as usize].1,
+            Register::Made(k) => self.made[k as usize],
         }
     }
 
@@ -186,7 +186,7 @@ fn settled(register: Register, own: Cell, made: &[Cell]) -> Cell
 {
     match register {
         Register::Kept(_) => own,
-        Register::Made(k) => made[k],
+        Register::Made(k) => made[k as usize],
     }
 }
 

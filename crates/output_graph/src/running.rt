@@ -65,12 +65,12 @@ pub(crate) fn run_plan<L: Ledger>(
     for action in lists.actions {
         match *action {
             Action::Make(link) => {
-                let from = registers.sources[link.from].1;
+                let from = registers.sources[link.from as usize].1;
                 let also = registers.cell_of(link.also);
                 let cell = arena.link(at, link.marks, from, also, steps);
                 registers.made.push_reserved(cell);
             }
-            Action::Release(k) => arena.release(registers.sources[k].1, steps),
+            Action::Release(k) => arena.release(registers.sources[k as usize].1, steps),
         }
     }
     count(lists.sources, steps);

@@ -1,4 +1,4 @@
-use Rattle.std.proofs.Common.{◌≡◌, ◌++◌, [], ◌∷◌, length, length-append, refl, ap, ◌∙◌, subst, arith, List}
+use Rattle.std.proofs.Common.{◌≡◌, ◌++◌, [], ◌∷◌, length, refl, ap, ◌∙◌, subst, arith, List}
 use Rattle.output_graph.specs.declared.program.Plan.{Plan}
 use Rattle.output_graph.specs.declared.program.Register.{Register}
 use Rattle.output_graph.specs.Plans.{AreInPlace}
@@ -10,13 +10,16 @@ returns-clause-plan c =
     let old : Plan = c.args.plan.now in
     let so = c.in_ok-kept.ensures in
     let has = old.counts.ok.0 in
-    let source : c.len-source.result ≡ length old.counts.items = (let l = c.len-source.ensures in omega arith) in
+    let many = c.len.ensures in
+    let is = c.in_ok-source.ensures in
+    let source : c.in_ok-source.source ≡ length old.counts.items = omega arith in
     let counts : c.push.new.self.items ≡ old.counts.items ++ length c.args.edges.now ∷ [] = c.in_ok-push.ensures.items ∙ ap (λ v. v.items ++ length c.args.edges.now ∷ []) so.counts in
-    let long = ap length counts ∙ length-append old.counts.items (length c.args.edges.now ∷ []) in
-    plan_next c.len-source.result old c.requires.plan source c.args.edges.now c.requires.descend c.add_edges.new.plan c.in_ok-kept.kept so _ counts refl refl refl refl c.in_ok-add_release.ensures
+    plan_next c.in_ok-source.source old c.requires.plan source c.args.edges.now c.requires.descend c.add_edges.new.plan c.in_ok-kept.kept so _ counts refl refl refl refl c.in_ok-add_release.ensures
     (λ on_it.
     let r = c.is_in_place-plan.ensures on_it in
     let few = r.1 in
+    let more = c.len-2.ensures in
+    let now = c.push.new.self.ok.0 in
     (subst (λ (hs : List Register). AreInPlace 0 hs) c.as_slice.ensures.value r.0, (let l = ap length c.as_slice.ensures.value in omega arith)))
 
 pub returns-clause-groups : goal.returns-clause-groups
@@ -24,4 +27,4 @@ returns-clause-groups c =
     let old : Plan = c.args.plan.now in
     let so = c.in_ok-kept.ensures in
     let counts : c.push.new.self.items ≡ old.counts.items ++ length c.args.edges.now ∷ [] = c.in_ok-push.ensures.items ∙ ap (λ v. v.items ++ length c.args.edges.now ∷ []) so.counts in
-    groups_next c.len-source.result old c.requires.plan c.args.edges.now c.add_edges.new.plan c.in_ok-kept.kept so c.push.new.self.items c.add_edges.new.plan.moves.items counts refl
+    groups_next c.in_ok-source.source old c.requires.plan c.args.edges.now c.add_edges.new.plan c.in_ok-kept.kept so c.push.new.self.items c.add_edges.new.plan.moves.items counts refl
