@@ -1,8 +1,6 @@
 -- Programs in lists that they share.
 use Rattle.std.specs.Prelude.{◌≡◌, ◌≤◌, ◌-◌, ℕ, List, [], map, take, drop, length, slice_get, slice_index_or, Some}
-use Rattle.output_graph.specs.declared.program.Action.{Action}
 use Rattle.output_graph.specs.declared.program.Plan.{Plan}
-use Rattle.output_graph.specs.declared.program.Register.{Register}
 use Rattle.output_graph.specs.declared.programs.Part.{Part}
 use Rattle.output_graph.specs.declared.programs.Piece.{Piece}
 use Rattle.output_graph.specs.declared.programs.Pool.{Pool}

@@ -1,8 +1,6 @@
 use Rattle.std.proofs.Common.{refl, arith}
-use Rattle.output_graph.specs.declared.programs.Part.{Part}
 use Rattle.output_graph.specs.declared.programs.Pool.{Pool}
-use Rattle.output_graph.specs.Pools.{IsPart}
-use Rattle.output_graph.proofs.PoolLaws.{goes_on_same, piece_stays, pool_next, pool_stays}
+use Rattle.output_graph.proofs.PoolLaws.{goes_on_same, pool_next, pool_stays}
 use Rattle.output_graph.proofs.programs.add_plan.Goals as goal
 
 pub returns-in_err-actions-clause-pooled : goal.returns-in_err-actions-clause-pooled
