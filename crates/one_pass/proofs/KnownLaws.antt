@@ -16,7 +16,7 @@ use Rattle.automaton_reading.specs.Reading.{LookUp, byte_read, Reach, edges}
 use Rattle.output_graph.specs.Source.{Edges}
 use Rattle.output_graph.proofs.HeldLaws.{take_next}
 use Rattle.one_pass.specs.declared.entries.Entries.{Entries}
-use Rattle.one_pass.specs.declared.known.KnownStep.{KnownStep}
+use Rattle.one_pass.specs.KnownSteps.{KnownStep}
 use Rattle.set_table.specs.Tabled.{HasEdges, Stays, Tabled, edge_named, look_up, set_at, with_set}
 use Rattle.set_table.proofs.NamingLaws.{named_stay}
 use Rattle.one_pass.specs.Entered.{has_entry, place_in}

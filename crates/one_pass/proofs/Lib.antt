@@ -7,6 +7,7 @@ pub mod Faulting
 pub mod Goings
 pub mod GraphBridge
 pub mod KnownLaws
+pub mod KnownStepLaws
 pub mod LawProofs
 pub mod Making
 pub mod PartLaws

@@ -12,7 +12,8 @@ use Rattle.output_graph.specs.Graph.{Graph, IsStepped, Source, sets_of, sources,
 use Rattle.output_graph.specs.Programs.{AreStepped, IsRun}
 use Rattle.output_graph.specs.Source.{Edges}
 use Rattle.one_pass.specs.declared.known.Known.{Known}
-use Rattle.one_pass.specs.declared.known.KnownStep.{KnownStep}
+use Rattle.one_pass.specs.KnownSteps.{KnownStep, known_step_at}
+use Rattle.one_pass.proofs.KnownStepLaws.{step_there}
 use Rattle.one_pass.specs.declared.pass.Pass.{Pass}
 use Rattle.one_pass.specs.Going.{GoesOn, Reads, come}
 use Rattle.one_pass.specs.Known.{AreLookUps, AreStill, IsEntry, IsStepOf, layer_at}
@@ -132,14 +133,14 @@ module _ {t : Tabled} {p : Pass} {n b : ℕ} (goes : GoesOn t p) where
 -- ---- the program that is entered for a byte of a layer
 
 module _ (known : Known) (layer : ℕ) {t : Tabled} {b e : ℕ} {sets : List ℕ} (there : slice_get known.layers layer ≡ Some sets) (not_still : e ≡ 1 → ⊥) (not_none : e ≡ 0 → ⊥)
-    (entry : IsEntry t known.layers known.steps.items b (layer_at known.layers layer) e) where
-  abbrev found : (step : KnownStep) × (slice_get known.steps.items (e - 2) ≡ Some step) × IsStepOf t known.layers b (layer_at known.layers layer) step
-  found = entry_step t known.layers known.steps.items b (layer_at known.layers layer) e not_still not_none entry
+    (entry : IsEntry t known.layers known.steps b (layer_at known.layers layer) e) where
+  abbrev found : (step : KnownStep) × (slice_get known.steps (e - 2) ≡ Some step) × IsStepOf t known.layers b (layer_at known.layers layer) step
+  found = entry_step t known.layers known.steps b (layer_at known.layers layer) e not_still not_none entry
 
-  pub step_within : e - 2 < length known.steps.items
-  step_within = slice_get_within known.steps.items (e - 2) found.0 found.1
+  pub step_within : e - 2 < length known.steps
+  step_within = slice_get_within known.steps (e - 2) found.0 found.1
 
-  pub step_found : {step : KnownStep} → slice_get known.steps.items (e - 2) ≡ Some step → IsStepOf t known.layers b sets step
-  step_found {step} read =
-      subst (λ (x : KnownStep). IsStepOf t known.layers b sets x) (step_is known.steps.items (e - 2) found.0 step found.1 read)
+  pub step_found : IsStepOf t known.layers b sets (known_step_at known.steps (e - 2))
+  step_found =
+      subst (λ (x : KnownStep). IsStepOf t known.layers b sets x) (sym (step_there known.steps (e - 2) found.0 found.1))
       (subst (λ (xs : List ℕ). IsStepOf t known.layers b xs found.0) (layer_is known.layers layer sets there) found.2)

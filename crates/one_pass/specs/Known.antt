@@ -9,9 +9,9 @@ use Rattle.output_graph.specs.Source.{Edges}
 use Rattle.output_graph.specs.Sound.{edges_of}
 use Rattle.one_pass.specs.declared.entries.Entries.{Entries}
 use Rattle.one_pass.specs.declared.known.Known.{Known}
-use Rattle.one_pass.specs.declared.known.KnownStep.{KnownStep}
 use Rattle.set_table.specs.Tabled.{HasEdges, Stays, Tabled, look_up, set_at}
 use Rattle.one_pass.specs.Entries.{entry_at}
+use Rattle.one_pass.specs.KnownSteps.{KnownStep}
 use Rattle.one_pass.specs.Passes.{AllStayOn}
 use Rattle.one_pass.specs.Seen.{whole}
 
@@ -63,7 +63,7 @@ pub record IsKnown (t : Tabled) (layers : List (List ℕ)) (entries : Entries) (
   pub each : (k b : ℕ) → b < 256 → IsEntry t layers steps b (layer_at layers k) (entry_at entries k b)
 
 abbrev pub Knows : Tabled → Known → Type 0
-Knows t known = IsKnown t known.layers known.entries known.steps.items
+Knows t known = IsKnown t known.layers known.entries known.steps
 
 -- no layer has another number
 abbrev pub KeepsLayers : Known → Known → Type 0

@@ -97,11 +97,11 @@ impl Pass {
         if entry == UNKNOWN {
             return None;
         }
-        let step = &self.known.steps[entry as usize - 2];
-        match self.graph.step_layer(self.at, &step.program, steps) {
+        let k = entry as usize - 2;
+        match self.graph.run_program(self.at, self.known.steps.programs(), k, steps) {
             Ok(()) => {
                 self.at += 1;
-                Some(step.next)
+                Some(self.known.steps.next(k))
             }
             Err(_) => None,
         }

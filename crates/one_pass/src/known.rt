@@ -9,11 +9,13 @@ ghost use Rattle.output_graph.specs.Graph.{sets_of};
 ghost use Rattle.output_graph.specs.Source.{Edges};
 ghost use Rattle.set_table.specs.Tabled.{Tabled};
 ghost use Rattle.one_pass.specs.Known.{AreAlike, AreLookUps, AreStill, IsEntry, IsLookUp, IsStepOf, KeepsKnown, KeepsLayers, Knows, Stands, layer_at};
+ghost use Rattle.one_pass.specs.KnownSteps.{known_step_of};
 ghost use Rattle.one_pass.specs.Passes.{AreGiven};
 ghost use Rattle.one_pass.specs.Seen.{whole};
 
 use crate::classes::Classes;
 use crate::entries::Entries;
+use crate::known_steps::KnownSteps;
 use crate::places::stays_of;
 use output_graph::{OutputGraph, Program};
 use set_table::{NumberedLists, Table};
@@ -27,20 +29,13 @@ const MOST_SETS: usize = 256;
 pub(crate) const MOST_WORDS: usize = 4_194_304;
 
 /// The words of a step beside those of its edges and sources.
-const STEP_WORDS: usize = 32;
+const STEP_WORDS: usize = 12;
 
 /// The words of the largest layer that is kept.
 const MOST_LAYER_WORDS: usize = 264 + MOST_SETS;
 
 /// Nothing changes.
 pub const STILL: u32 = 1;
-
-/// What a layer does on a byte, and the number of the layer that it leads to.
-#[derive(Drop)]
-pub(crate) struct KnownStep {
-    pub(crate) program: Program,
-    pub(crate) next: usize,
-}
 
 /// Layers with numbers, by their sets in their order, and what each does on the bytes that were read in it. All of it
 /// is true of the table, which never changes what it has answered; so it may be forgotten at any time, and want of
@@ -50,7 +45,7 @@ pub struct Known {
     alloc: Global,
     pub(crate) layers: NumberedLists,
     pub(crate) entries: Entries,
-    pub(crate) steps: Vec<KnownStep>,
+    pub(crate) steps: KnownSteps,
     pub(crate) stays: ByteSet,
     left: usize,
     anew: u64,
@@ -66,7 +61,7 @@ impl Known {
             alloc,
             layers: NumberedLists::new(alloc),
             entries: Entries::new(alloc, Classes::one()),
-            steps: Vec::new(alloc),
+            steps: KnownSteps::new(alloc),
             stays: ByteSet::empty(),
             left: words,
             anew: 0,
@@ -75,7 +70,7 @@ impl Known {
 
     /// How many programs of layers are kept.
     pub fn programs(&self) -> usize
-        ensures { result ≡ length self.now.steps.items }
+        ensures { result ≡ length self.now.steps }
     {
         self.steps.len()
     }
@@ -91,7 +86,7 @@ impl Known {
     #[inline(always)]
     pub(crate) fn entry(&self, layer: usize, byte: u8) -> u32
         requires { layer < length self.now.layers }
-        ensures { (t : Tabled) → Knows t self.now → IsEntry t self.now.layers self.now.steps.items byte (layer_at self.now.layers layer) result }
+        ensures { (t : Tabled) → Knows t self.now → IsEntry t self.now.layers self.now.steps byte (layer_at self.now.layers layer) result }
     {
         self.entries.at(layer, byte)
     }
@@ -221,7 +216,7 @@ impl Known {
             return;
         }
         if let Some(program) = program_of(self.alloc, table, self.layers.at(layer), byte) {
-            self.learn_step(table, layer, byte, program);
+            self.learn_step(table, layer, byte, &program);
         }
     }
 
@@ -235,10 +230,10 @@ impl Known {
     }
 
     /// Keeps a program of a layer on a byte.
-    fn learn_step(&mut self, table: &Table<'_>, layer: usize, byte: u8, program: Program)
+    fn learn_step(&mut self, table: &Table<'_>, layer: usize, byte: u8, program: &Program)
         requires known { Knows table.now self.old }
         requires within { layer < length self.old.layers }
-        requires look_ups { AreLookUps table.now byte (layer_at self.old.layers layer) program.groups }
+        requires look_ups { AreLookUps table.now byte (layer_at self.old.layers layer) program.now.groups }
         ensures { Knows table.now self.new }
     {
         let size = step_words(program.edges(), program.sources());
@@ -252,21 +247,28 @@ impl Known {
         let Some(next) = self.number(sets) else {
             return;
         };
-        self.add_step(table, layer, byte, KnownStep { program, next });
+        self.add_step(table, layer, byte, program, next);
     }
 
     /// Keeps what a layer does on a byte, where there is memory.
-    fn add_step(&mut self, table: &Table<'_>, layer: usize, byte: u8, step: KnownStep)
+    fn add_step(
+        &mut self,
+        table: &Table<'_>,
+        layer: usize,
+        byte: u8,
+        program: &Program,
+        next: usize,
+    )
         requires known { Knows table.now self.old }
         requires within { layer < length self.old.layers }
-        requires step { IsStepOf table.now self.old.layers byte (layer_at self.old.layers layer) step }
+        requires step { IsStepOf table.now self.old.layers byte (layer_at self.old.layers layer) (known_step_of program.now next) }
         ensures { Knows table.now self.new }
     {
         let place = self.steps.len();
         if place >= MOST_WORDS {
             return;
         }
-        match self.steps.push(step) {
+        match self.steps.add(program, next) {
             Ok(()) => self.enter(table, layer, byte, place as u32 + 2),
             Err(_) => {}
         }
@@ -276,7 +278,7 @@ impl Known {
     fn enter(&mut self, table: &Table<'_>, layer: usize, byte: u8, entry: u32)
         requires known { Knows table.now self.old }
         requires within { layer < length self.old.layers }
-        requires entry { IsEntry table.now self.old.layers self.old.steps.items byte (layer_at self.old.layers layer) entry }
+        requires entry { IsEntry table.now self.old.layers self.old.steps byte (layer_at self.old.layers layer) entry }
         ensures { Knows table.now self.new }
     {
         self.entries.enter(layer, byte, entry);
@@ -285,7 +287,7 @@ impl Known {
 
 /// How many words a program of so many edges and sources takes, about.
 fn step_words(edges: usize, sources: usize) -> usize {
-    STEP_WORDS + 4 * edges.min(MOST_WORDS) + 2 * sources.min(MOST_WORDS)
+    STEP_WORDS + 8 * edges.min(MOST_WORDS) + 4 * sources.min(MOST_WORDS)
 }
 
 /// How many edges these sets have on a byte, of those that were asked for it.

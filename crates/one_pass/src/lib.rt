@@ -16,6 +16,7 @@ mod bytes;
 mod classes;
 mod entries;
 mod known;
+mod known_steps;
 pub mod laws;
 mod listing;
 mod parts;

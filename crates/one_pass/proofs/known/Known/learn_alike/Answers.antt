@@ -8,5 +8,5 @@ enter-requires-clause-entry c =
     let s = c.args.self.now in
     let sets = layer_at s.layers c.args.layer in
     let alike : AreAlike c.args.table.now c.args.byte c.args.other sets = subst (AreAlike c.args.table.now c.args.byte c.args.other) c.at.ensures (c.are_alike.ensures c.if-are_alike.true) in
-    subst (λ e. IsEntry c.args.table.now s.layers s.steps.items c.args.byte sets e) (sym c.at-entry.ensures)
-    (entry_alike c.args.table.now s.layers s.steps.items c.args.byte c.args.other sets _ alike (c.requires.known.each c.args.layer c.args.other (omega (arith, c.ranges.other.fits))))
+    subst (λ e. IsEntry c.args.table.now s.layers s.steps c.args.byte sets e) (sym c.at-entry.ensures)
+    (entry_alike c.args.table.now s.layers s.steps c.args.byte c.args.other sets _ alike (c.requires.known.each c.args.layer c.args.other (omega (arith, c.ranges.other.fits))))

@@ -16,6 +16,6 @@ pub add_step-requires-clause-step : goal.add_step-requires-clause-step
 add_step-requires-clause-step c =
     let kept = layer_kept _ _ c.args.layer c.number.ensures.layers c.requires.within in
     record {
-      look_ups = subst (λ sets. AreLookUps c.args.table.now c.args.byte sets c.args.program.groups) (sym kept.1) c.requires.look_ups;
+      look_ups = subst (λ sets. AreLookUps c.args.table.now c.args.byte sets c.args.program.now.groups) (sym kept.1) c.requires.look_ups;
       next = c.in-Some.ensures.number ∙ ap Some (c.in-Ok.ensures ∙ c.targets.ensures);
     }
