@@ -24,7 +24,7 @@ use Rattle.one_pass.specs.Seen.{stepping_from, whole}
 use Rattle.one_pass.specs.Turned.{HasTurned, IsTurned}
 use Rattle.one_pass.proofs.Faulting.{ready_later}
 use Rattle.one_pass.proofs.GraphBridge.{own_cost, turned_none}
-use Rattle.one_pass.proofs.KnownLaws.{entry_step, layer_is, step_is}
+use Rattle.one_pass.proofs.KnownLaws.{entry_step, layer_is}
 use Rattle.one_pass.proofs.PlaceLaws.{block_at, stays_read}
 use Rattle.one_pass.proofs.Sources.{stepping_begun, stepping_turned}
 use Rattle.one_pass.proofs.Stepping.{IsStepping}

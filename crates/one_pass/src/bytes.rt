@@ -98,7 +98,10 @@ impl Pass {
             return None;
         }
         let k = entry as usize - 2;
-        match self.graph.run_program(self.at, self.known.steps.programs(), k, steps) {
+        match self
+            .graph
+            .run_program(self.at, self.known.steps.programs(), k, steps)
+        {
             Ok(()) => {
                 self.at += 1;
                 Some(self.known.steps.next(k))

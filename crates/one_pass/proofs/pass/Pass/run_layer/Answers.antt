@@ -54,5 +54,5 @@ returns-in-Ok-clause-stands g c =
     let entry = c.entry-entry.ensures c.args.table.now c.requires.goes_on.known in
     let step = step_found k c.args.layer c.requires.stands c.if-entry-eq-STILL.false c.if-entry-eq-UNKNOWN.false entry in
     let targets = c.in-Ok.ensures.targets
-      ∙ ap (λ (p : Steps). p.targets) (ap (λ (ps : List Steps). program_at ps (c.entry-entry.result - 2)) c.programs.ensures ∙ program_is k.steps (c.entry-entry.result - 2)) in
+    ∙ ap (λ (p : Steps). p.targets) (ap (λ (ps : List Steps). program_at ps (c.entry-entry.result - 2)) c.programs.ensures ∙ program_is k.steps (c.entry-entry.result - 2)) in
     subst (λ n. slice_get k.layers n ≡ Some (sets_of c.run_program.new.self.layer)) (sym c.next.ensures) (step.next ∙ ap Some (sym targets))
