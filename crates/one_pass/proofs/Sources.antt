@@ -164,6 +164,9 @@ module _ {t : Tabled} {p : Pass} {n : ℕ} (goes : GoesOn t p) where
   ended_none = let b = ending_begun t p.graph n p.at goes.ready in record { ending = b.0; turned = b.1; only = b.2 }
 
   module _ {k : ℕ} {u : Tabled} {g : Graph} {m : ℕ} (past : IsEndedTo t p n k u g m) where
+    pub ended_many : length g.layer ≡ length p.graph.layer
+    ended_many = turned_count (sources p.graph) k p.at g past.turned ∙ sym (layer_count t p.graph n p.at goes.ready)
+
     module _ (within : k < length p.graph.layer) {set : ℕ} (named : slice_get (sets_of g.layer) k ≡ Some set) where
       end_inside : k < length (sources p.graph)
       end_inside = inside t p.graph n p.at goes.ready k u g m within past.turned set named

@@ -1,9 +1,15 @@
 use Rattle.std.proofs.Common.{arith}
-use Rattle.one_pass.proofs.Sources.{ended_all, ended_every, ended_given, ended_gives_up, ended_more, ended_none}
+use Rattle.one_pass.proofs.Sources.{ended_all, ended_every, ended_given, ended_gives_up, ended_many, ended_more, ended_none}
 use Rattle.one_pass.proofs.pass.Pass.end.Goals as goal
 
 pub loop-k-init : goal.loop-k-init
 loop-k-init g c = ended_none c.requires
+
+pub set_at-set-requires : goal.set_at-set-requires
+set_at-set-requires g c = let many = ended_many c.requires c.loop-k.invariant in omega (arith, many)
+
+pub turn_end-requires-clause-left : goal.turn_end-requires-clause-left
+turn_end-requires-clause-left g c = let many = ended_many c.requires c.loop-k.invariant in omega (arith, many)
 
 pub turn_end-requires-clause-given : goal.turn_end-requires-clause-given
 turn_end-requires-clause-given g c = ended_given c.requires c.loop-k.invariant (omega arith) c.set_at-set.ensures
