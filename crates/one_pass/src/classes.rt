@@ -11,8 +11,9 @@ use std::alloc::Global;
 /// How many bytes there are.
 pub(crate) const BYTES: usize = 256;
 
-/// By so many sets of bytes the classes are parted at most. Where there are more, each byte has a class of its own.
-const MOST_SETS: usize = 16_384;
+/// So many sets of bytes part the classes at most. Where ways have more, each byte has a class of its own, so that a short
+/// document does not pay for what only a long one needs.
+const MOST_SETS: usize = 64;
 
 /// For each byte the number of its class.
 #[derive(Drop)]
@@ -85,20 +86,28 @@ fn part_with(parts: &[ByteSet], byte: u8) -> u8
 
 /// All bytes, parted by the set of each of these ways. None where the sets are too many, or memory is short.
 fn parts_of(alloc: Global, ways: &[Way]) -> Option<Vec<ByteSet>> {
+    let mut sets = Vec::new(alloc);
     let mut parts = Vec::new(alloc);
     parts.push(ByteSet::all()).ok()?;
-    let mut last = ByteSet::all();
-    let mut left = MOST_SETS;
     for way in ways {
-        if !are_equal(&way.bytes, &last) {
-            if left == 0 || !part(&mut parts, &way.bytes) {
+        if !has_set(&sets, &way.bytes) {
+            if sets.len() >= MOST_SETS || !part(&mut parts, &way.bytes) {
                 return None;
             }
-            last = way.bytes;
-            left -= 1;
+            sets.push(way.bytes).ok()?;
         }
     }
     Some(parts)
+}
+
+/// Whether a set is among these.
+fn has_set(sets: &[ByteSet], set: &ByteSet) -> bool {
+    for other in sets {
+        if are_equal(other, set) {
+            return true;
+        }
+    }
+    false
 }
 
 /// Parts each of these sets by whether its bytes are in another, and tells whether there was memory.
