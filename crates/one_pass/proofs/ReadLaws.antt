@@ -32,7 +32,7 @@ pub record IsGivenUp (d : List ℕ) (K : ℕ → Bool) (t : Tabled) (before : �
   pub cause : IsReadFault t.graph K d t.limit e
 
 module _ (d : List ℕ) (parts : List (ℕ × ℕ)) (apart : AreApart parts) (within : (q : ℕ) → Covers parts q → q ≤ length d)
-    {t : Tabled} (new : IsNew t.graph t) (before : ℕ) (p : Pass) (n : ℕ) (begun : come t p n ≡ started t before) where
+    {t : Tabled} (new : IsNew t.graph t) (before : ℕ) (p : Pass) (n : ℕ) (begun : come t p n ≡ started t before) (xs : List (ℕ × ℕ)) (same : xs ≡ parts) where
   abbrev K : ℕ → Bool
   K = is_touched parts
 
@@ -51,8 +51,9 @@ module _ (d : List ℕ) (parts : List (ℕ × ℕ)) (apart : AreApart parts) (wi
       (front_sets t.graph K d t new before ps (end_at (length d)) [] all) (look_ups_of_front t.graph K d t new before ps (end_at (length d) ∷ []) all)
   fault_read OutOfMemory x = tt
 
-  pub parts_give_up : {u : Tabled} {m : ℕ} {e : TableFault} → GivesUp ps t p n u m e → IsGivenUp d K t before u m e
-  parts_give_up {u} {m} {e} up =
+  pub parts_give_up : {u : Tabled} {m : ℕ} {e : TableFault} → GivesUp (parts_places 0 xs d) t p n u m e → IsGivenUp d K t before u m e
+  parts_give_up {u} {m} {e} given =
+      let up = subst (λ ys. GivesUp (parts_places 0 ys d) t p n u m e) same given in
       let k = subst (λ P. HasStopped t.graph ps P (stop u m)) begun up.stopped in
       record {
         steps = stopped_steps t.graph K d t new before ps (end_at (length d) ∷ []) all (stop u m) k;
@@ -60,7 +61,10 @@ module _ (d : List ℕ) (parts : List (ℕ × ℕ)) (apart : AreApart parts) (wi
         cause = fault_read e (subst (λ P. IsFaultOf t (sets_met t.graph (sets_of P) (asks ps)) (look_ups_asked t.graph (sets_of P) (asks ps)) e) begun up.cause);
       }
 
-  module _ {u : Tabled} {q : Pass} {m : ℕ} (reads : Reads ps t p n u q m) (end : q.at ≡ length d) where
+  module _ {u : Tabled} {q : Pass} {m : ℕ} (given : Reads (parts_places 0 xs d) t p n u q m) (end : q.at ≡ length d) where
+    reads : Reads ps t p n u q m
+    reads = subst (λ ys. Reads (parts_places 0 ys d) t p n u q m) same given
+
     abbrev Q : Progress
     Q = come u q m
 

@@ -171,9 +171,3 @@ module _ (p : ReadingPlace) (P : Progress) (at k : ℕ) (ready : IsReady P.table
       (g.stepped ≡ 0) → (g.next ≡ []) → (g.accepted ≡ Q.graph.accepted) → IsReady Q.table g later
   turns_ready later le blocks stepped next accepted =
       place_ready P.table.graph p P Q every g layer live at later ready le blocks stepped next accepted
-
-  -- as many as there are
-  pub turns_stepped : Q.graph.stepped ≡ length Q.graph.layer
-  turns_stepped =
-      let l = ap (λ (xs : List Source). length xs) every.spent.layer in
-      omega (arith, every.spent.stepped, l)

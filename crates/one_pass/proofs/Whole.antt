@@ -7,13 +7,12 @@ use Rattle.marked_automaton.specs.Automaton.{Automaton, size}
 use Rattle.automaton_reading.specs.Reading.{Question, byte_read, rest_taken, ended, LookUp, questions, edges_K, next_sets, once, look_up_same, look_ups_asked, look_ups_K, look_ups_read, set_of, weight_K}
 use Rattle.automaton_reading.proofs.Matching.{once_has}
 use Rattle.automaton_reading.proofs.MeasureLaws.{same_look_up, look_up_itself}
-use Rattle.set_table.specs.Tabled.{IsTabled, Tabled, set_at}
+use Rattle.set_table.specs.Tabled.{Tabled, set_at}
 use Rattle.one_pass.specs.Words.{Word}
 use Rattle.output_graph.specs.Graph.{Source}
-use Rattle.one_pass.specs.Layers.{first_layer}
 use Rattle.one_pass.specs.Builds.{IsNew, build, started}
 use Rattle.one_pass.specs.Places.{ReadingPlace, AreReadWords, Leads, asks, byte_at, edges_read, end_at, places, rest_at, sets_after, sets_met}
-use Rattle.one_pass.specs.Passes.{Progress, sets_of, Reaches, IsReady, HasEnded, HasRead, HasStopped, Stop, IsExcess, weight_of}
+use Rattle.one_pass.specs.Passes.{Progress, sets_of, Reaches, HasEnded, HasRead, HasStopped, Stop, IsExcess, weight_of}
 use Rattle.one_pass.proofs.ReadWords.{leads_then, read_words, then_leads}
 use Rattle.one_pass.proofs.Sets.{Covers, edges_append, edges_covers, look_ups_append, look_ups_covers, look_ups_left, look_ups_right, weight_covers}
 use Rattle.one_pass.proofs.Composing.{asks_append}
@@ -84,26 +83,6 @@ module _ (A : Automaton) (K : ℕ → Bool) (d : List ℕ) (t : Tabled) (new : I
 
   pub starts_are : sets_of P ≡ starts
   starts_are = ap (λ s. s ∷ []) start_named
-
-  pub started_ready : IsTabled t → IsReady P.table P.graph 0
-  started_ready tabled = record {
-    sound = tabled;
-    given = λ x h. elim h as (λ _. x.set < length t.sets) [
-      | inl e ↦ (let l = ap length new.sets in let z = ap (λ (y : Source). y.set) e in omega (arith, l, z))
-      | inr n ↦ absurd n
-    ];
-    apart = (λ h. h, tt);
-    fresh = (refl, refl, refl);
-    past = λ x w b h hw hb. absurd (none x w b h hw hb);
-  }
-    where
-      none : (x : Source) (w : Word) (b : ℕ × ℕ) → Has (first_layer 0).layer x → Has x.words w → Has w b → ⊥
-      none x w b (inl e) hw hb = by (subst (λ (y : Source). Has y.words w) (sym e) hw)
-        where
-          by : ([] ≡ w) ⊎ ⊥ → ⊥
-          by (inl f) = subst (λ v. Has v b) (sym f) hb
-          by (inr n) = n
-      none x w b (inr n) hw hb = n
 
   first_word : (set : List ℕ) (w : Word) → Reaches P set w ↔ ((set_of A.starts ≡ set) × ([] ≡ w))
   first_word set w = (there, back)
