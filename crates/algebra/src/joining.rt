@@ -20,8 +20,8 @@ pub(crate) fn grouped(alloc: Global, a: &Automaton) -> Result<Automaton, OutOfMe
 {
     let mut copy = a.copy(alloc)?;
     copy.group_ways(alloc)?;
-    // What `states` says of each automaton holds of these two.
-    let _both = (a.states(), copy.states());
+    a.is_marked();
+    copy.is_marked();
     Ok(copy)
 }
 
@@ -38,8 +38,7 @@ pub(crate) fn join_to(
     ensures fault { IfErr result (IsJoinFault a.now b.now) }
     ensures effort { effort.new ≤ effort.old }
 {
-    // What `states` says of each automaton holds of this one.
-    let _whole = a.states();
+    a.is_marked();
     if b.is_grouped() {
         return join_grouped(alloc, a, b, effort);
     }
@@ -61,8 +60,8 @@ fn join_grouped(
     ensures fault { IfErr result (IsJoinFault a.now b.now) }
     ensures effort { effort.new ≤ effort.old }
 {
-    // What `states` says of each automaton holds of these two.
-    let _both = (a.states(), b.states());
+    a.is_marked();
+    b.is_marked();
     let all = names_of_both(a.vars(), b.vars());
     let left = Operand::of(alloc, a, &all, a, true, b)?;
     let right = Operand::of(alloc, b, &all, a, false, a)?;

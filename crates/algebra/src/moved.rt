@@ -20,8 +20,7 @@ pub(crate) fn add_ways(whole: &mut Automaton, part: &Automaton, by: u32) -> Resu
     ensures ways { OnOk result (IsWithWays by part.now.graph whole.old.graph whole.new.graph) }
     ensures fault { IfErr result (λ e. e ≡ WantOfMemory) }
 {
-    // What `states` says of each automaton holds of this one.
-    let _whole = part.states();
+    part.is_marked();
     let ways = part.ways();
     for way in ways {
         whole.add_way(Way {
@@ -43,8 +42,7 @@ pub(crate) fn add_part(whole: &mut Automaton, part: &Automaton, by: u32) -> Resu
     ensures names { whole.new.names ≡ whole.old.names }
     ensures part { OnOk result (IsWithPart by part.now.graph whole.old.graph whole.new.graph) }
 {
-    // What `states` says of each automaton holds of this one.
-    let _whole = part.states();
+    part.is_marked();
     add_starts(whole, part, by)?;
     add_stops(whole, part, by)?;
     add_idle(whole, part, by)

@@ -62,8 +62,7 @@ pub fn project(alloc: Global, a: &Automaton, keep: &VarSet) -> Result<Automaton,
     ensures names { IfOk result (λ p. p.names ≡ keep.now) }
     ensures reduct { IfOk result (λ p. Reduces p.graph (remarked (left_of a.now.names keep.now) a.now.graph)) }
 {
-    // What `states` says of each automaton holds of this one.
-    let _states = a.states();
+    a.is_marked();
     a.erase(alloc, keep)
 }
 
@@ -111,8 +110,7 @@ pub fn join_within(
         (length (join_of (agree_on a.now.names b.now.names (all_names a.now.names b.now.names)) (joined a.now.names b.now.names (all_names a.now.names b.now.names)) a.now.graph b.now.graph).ways) e) }
     ensures effort { effort.new ≤ effort.old }
 {
-    // What `states` says of each automaton holds of this one.
-    let _whole = b.states();
+    b.is_marked();
     if a.is_grouped() {
         return join_to(alloc, a, b, effort);
     }

@@ -84,8 +84,8 @@ impl Rows {
         ensures rows { OnOk result (AreRowsOf (half_ways_of left.now) (half_ways_of right.now) pair self.new.left.items self.new.right.items) }
         ensures few { OnOk result ((length self.new.left.items ≤ MOST_WAYS) × (length self.new.right.items ≤ MOST_WAYS)) }
     {
-        // What `states` says of each automaton holds of these two.
-        let _both = (left.automaton.states(), right.automaton.states());
+        left.automaton.is_marked();
+        right.automaton.is_marked();
         let lefts = left.automaton.ways_from(pair.left);
         let rights = right.automaton.ways_from(pair.right);
         if lefts.is_empty() || rights.is_empty() {

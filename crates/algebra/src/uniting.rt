@@ -37,8 +37,7 @@ pub(crate) fn is_over(automaton: &Automaton, all: &VarSet) -> bool
     requires { (x : List ℕ) → Has automaton.now.names x → Has all.now x }
     ensures { OnTrue result (IsOver all.now automaton.now automaton.now) }
 {
-    // What `states` says of each automaton holds of this one.
-    let _whole = automaton.states();
+    automaton.is_marked();
     automaton.vars().len() == all.len()
 }
 

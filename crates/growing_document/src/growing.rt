@@ -158,7 +158,7 @@ fn append_to<L: Ledger>(
     ensures fault { IfErr result (IsAppendFault (seen automaton.now limit document.old.items reading.old) piece.now) }
     ensures left { IfErr result (λ e. seen automaton.now limit document.new.items reading.new ≡ left_by (seen automaton.now limit document.old.items reading.old) e) }
 {
-    let _facts = automaton.states();
+    automaton.is_marked();
     if reading.is_none() {
         return Err(GrowFault::Spent);
     }
@@ -186,7 +186,8 @@ fn live_of(automaton: &Automaton, limit: u64, document: &Vec<u8>, reading: &Opti
     ensures value { result ≡ (seen automaton.now limit document.now.items reading.now).live }
     ensures grown { IsGrown (seen automaton.now limit document.now.items reading.now) }
 {
-    let _facts = (automaton.states(), limit, document.len());
+    automaton.is_marked();
+    let _seen = (limit, document.len());
     match reading {
         Some(reading) => reading.pass.graph().live(),
         None => 0,
@@ -212,7 +213,8 @@ fn rows_of<L: Ledger>(
     ensures spent { (seen automaton.now limit document.now.items reading.old).spent ≡ true → IsErrOf result Spent }
     ensures fault { IfErr result (IsRowsFault (seen automaton.now limit document.now.items reading.old)) }
 {
-    let _facts = (automaton.states(), limit);
+    automaton.is_marked();
+    let _seen = limit;
     let Some(before) = mem::replace(reading, None) else {
         return Err(GrowFault::Spent);
     };

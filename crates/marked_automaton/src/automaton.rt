@@ -228,6 +228,13 @@ impl Automaton {
         self.states
     }
 
+    /// What is always true of an automaton: what it holds fits together, and no more than so many states and ways.
+    pub fn is_marked(&self)
+        ensures { IsMarked self.now }
+    {
+        let _states = self.states;
+    }
+
     /// The ways.
     pub fn ways(&self) -> &[Way]
         ensures { result.now ≡ self.now.graph.ways }

@@ -66,7 +66,8 @@ impl<'a> Table<'a> {
         ensures steps { steps.new ≡ steps.old + 1 }
     {
         steps.tick();
-        let _facts = (automaton.states(), automaton.vars().len());
+        automaton.is_marked();
+        let _names = automaton.vars().len();
         let start = start_set(alloc, automaton.starts())?;
         let weight = 1 + start.len() as u64;
         if weight > limit {
@@ -104,7 +105,8 @@ impl<'a> Table<'a> {
         requires { IsStateOf automaton.now.graph state }
         ensures { result ≡ taken_up automaton.now.graph state }
     {
-        let _facts = (automaton.states(), automaton.vars().len());
+        automaton.is_marked();
+        let _names = automaton.vars().len();
         let TableState {
             limit,
             weight,

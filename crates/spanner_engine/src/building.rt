@@ -47,8 +47,7 @@ pub(crate) fn all_answers<L: Ledger>(
     ensures steps { steps.new ≤ steps.old + build (counted (query_of compiled.now.query)) doc.now (is_touched positions) }
 {
     let automaton = compiled.automaton();
-    // What holds of each automaton: reading a reduct costs no more.
-    let _facts = automaton.states();
+    automaton.is_marked();
     let lists = lists_of(alloc, automaton, doc, &positions, limit, steps)?;
     Ok(Enumerator::new(lists, compiled.vars().len()))
 }

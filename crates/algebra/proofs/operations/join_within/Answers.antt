@@ -14,18 +14,18 @@ returns-then-is_grouped-clause-reached c = reached_of c.args.a.now c.args.b.now 
 pub returns-clause-names : goal.returns-clause-names
 returns-clause-names c =
     names_of c.args.a.now c.args.b.now c.join_to-2.result
-    (first_join c.args.a.now c.args.b.now c.in_ok-first.first c.join_to-2.result c.states-whole.ensures.marked c.in_ok-first.ensures c.join_to-2.ensures.join)
+    (first_join c.args.a.now c.args.b.now c.in_ok-first.first c.join_to-2.result c.is_marked.ensures c.in_ok-first.ensures c.join_to-2.ensures.join)
 
 pub returns-clause-reduct : goal.returns-clause-reduct
 returns-clause-reduct c =
     reduct_of c.args.a.now c.args.b.now c.join_to-2.result
-    (first_join c.args.a.now c.args.b.now c.in_ok-first.first c.join_to-2.result c.states-whole.ensures.marked c.in_ok-first.ensures c.join_to-2.ensures.join)
+    (first_join c.args.a.now c.args.b.now c.in_ok-first.first c.join_to-2.result c.is_marked.ensures c.in_ok-first.ensures c.join_to-2.ensures.join)
 
 pub returns-clause-reached : goal.returns-clause-reached
 returns-clause-reached c =
     reached_of c.args.a.now c.args.b.now c.join_to-2.result
-    (first_join c.args.a.now c.args.b.now c.in_ok-first.first c.join_to-2.result c.states-whole.ensures.marked c.in_ok-first.ensures c.join_to-2.ensures.join)
+    (first_join c.args.a.now c.args.b.now c.in_ok-first.first c.join_to-2.result c.is_marked.ensures c.in_ok-first.ensures c.join_to-2.ensures.join)
 
 pub returns-clause-fault : goal.returns-clause-fault
 returns-clause-fault c =
-    first_fault c.args.a.now c.args.b.now c.in_ok-first.first c.join_to-2.result c.states-whole.ensures.marked c.in_ok-first.ensures c.join_to-2.ensures.fault
+    first_fault c.args.a.now c.args.b.now c.in_ok-first.first c.join_to-2.result c.is_marked.ensures c.in_ok-first.ensures c.join_to-2.ensures.fault

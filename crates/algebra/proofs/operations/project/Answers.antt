@@ -17,5 +17,5 @@ go G h (Err x) e = tt
 pub returns-clause-reduct : goal.returns-clause-reduct
 returns-clause-reduct c =
     let e = left_of c.args.a.now.names c.args.keep.now in
-    let whole = remarked_whole e c.args.a.now.graph c.states-states.ensures.marked.whole in
+    let whole = remarked_whole e c.args.a.now.graph c.is_marked.ensures.whole in
     go (remarked e c.args.a.now.graph) (reduct_of_itself (remarked e c.args.a.now.graph) whole) c.erase.result c.erase.ensures.graph

@@ -12,33 +12,33 @@ returns-in_err-lists-clause-cause g c =
     let K = is_touched c.args.positions in
     let fault = c.in_err-lists.field-0.0 in
     handed_on (IsReadFault (counted q) K c.args.doc.now c.args.limit) c.from_residual.result fault c.from_residual.ensures.1
-    (read_fault q c.args.compiled.now.automaton c.automaton-automaton.result.now c.automaton-automaton.ensures.compiled c.automaton-automaton.ensures.automaton c.states-facts.ensures.marked
+    (read_fault q c.args.compiled.now.automaton c.automaton-automaton.result.now c.automaton-automaton.ensures.compiled c.automaton-automaton.ensures.automaton c.is_marked.ensures
     c.args.doc.now K c.args.limit fault c.in_err-lists.ensures.cause)
 
 pub returns-in_err-lists-clause-steps : goal.returns-in_err-lists-clause-steps
 returns-in_err-lists-clause-steps g c =
-    steps_within (query_of c.args.compiled.now.query) c.args.compiled.now.automaton c.automaton-automaton.result.now c.automaton-automaton.ensures.compiled c.automaton-automaton.ensures.automaton c.states-facts.ensures.marked
+    steps_within (query_of c.args.compiled.now.query) c.args.compiled.now.automaton c.automaton-automaton.result.now c.automaton-automaton.ensures.compiled c.automaton-automaton.ensures.automaton c.is_marked.ensures
     c.args.doc.now (is_touched c.args.positions) c.args.steps.now c.lists_of.new.steps c.lists_of.ensures.steps
 
 pub new-requires-clause-rows : goal.new-requires-clause-rows
 new-requires-clause-rows g c =
-    rows_to_list (query_of c.args.compiled.now.query) c.args.compiled.now.automaton c.automaton-automaton.result.now c.automaton-automaton.ensures.compiled c.automaton-automaton.ensures.automaton c.states-facts.ensures.marked
+    rows_to_list (query_of c.args.compiled.now.query) c.args.compiled.now.automaton c.automaton-automaton.result.now c.automaton-automaton.ensures.compiled c.automaton-automaton.ensures.automaton c.is_marked.ensures
     c.args.doc.now (is_touched c.args.positions) c.requires.touched
     c.type_inv.doc _ c.in_ok-lists.ensures.words c.len.result c.vars.result.now c.len.ensures.value c.vars.ensures
 
 pub returns-clause-answers : goal.returns-clause-answers
 returns-clause-answers g c =
-    answers_listed (query_of c.args.compiled.now.query) c.args.compiled.now.automaton c.automaton-automaton.result.now c.automaton-automaton.ensures.compiled c.automaton-automaton.ensures.automaton c.states-facts.ensures.marked
+    answers_listed (query_of c.args.compiled.now.query) c.args.compiled.now.automaton c.automaton-automaton.result.now c.automaton-automaton.ensures.compiled c.automaton-automaton.ensures.automaton c.is_marked.ensures
     c.args.doc.now (is_touched c.args.positions) c.requires.touched
     c.type_inv.doc _ c.in_ok-lists.ensures.words c.len.result c.vars.result.now c.len.ensures.value c.vars.ensures
     c.new.result.whole c.new.ensures.whole c.new.ensures.order
 
 pub returns-clause-cells : goal.returns-clause-cells
 returns-clause-cells g c =
-    cells_within (query_of c.args.compiled.now.query) c.args.compiled.now.automaton c.automaton-automaton.result.now c.automaton-automaton.ensures.compiled c.automaton-automaton.ensures.automaton c.states-facts.ensures.marked
+    cells_within (query_of c.args.compiled.now.query) c.args.compiled.now.automaton c.automaton-automaton.result.now c.automaton-automaton.ensures.compiled c.automaton-automaton.ensures.automaton c.is_marked.ensures
     c.args.doc.now (is_touched c.args.positions) c.new.result.cells _ c.new.ensures.cells c.in_ok-lists.ensures.cells
 
 pub returns-clause-steps : goal.returns-clause-steps
 returns-clause-steps g c =
-    steps_within (query_of c.args.compiled.now.query) c.args.compiled.now.automaton c.automaton-automaton.result.now c.automaton-automaton.ensures.compiled c.automaton-automaton.ensures.automaton c.states-facts.ensures.marked
+    steps_within (query_of c.args.compiled.now.query) c.args.compiled.now.automaton c.automaton-automaton.result.now c.automaton-automaton.ensures.compiled c.automaton-automaton.ensures.automaton c.is_marked.ensures
     c.args.doc.now (is_touched c.args.positions) c.args.steps.now c.lists_of.new.steps c.lists_of.ensures.steps

@@ -40,6 +40,6 @@ pub returns-clause-few : goal.returns-clause-few
 returns-clause-few c =
     let A = graph_of c.args.left.now in
     let B = graph_of c.args.right.now in (
-      row_few _ _ c.args.pair.left MOST_WAYS A.ways c.ways_from-lefts.result.now _ c.ways_from-lefts.ensures c.in_ok-put_half_ways.ensures c.states.ensures.marked.few_ways,
-      row_few _ _ c.args.pair.right MOST_WAYS B.ways c.ways_from-rights.result.now _ c.ways_from-rights.ensures c.in_ok-put_half_ways-2.ensures c.states-2.ensures.marked.few_ways,
+      row_few _ _ c.args.pair.left MOST_WAYS A.ways c.ways_from-lefts.result.now _ c.ways_from-lefts.ensures c.in_ok-put_half_ways.ensures c.is_marked.ensures.few_ways,
+      row_few _ _ c.args.pair.right MOST_WAYS B.ways c.ways_from-rights.result.now _ c.ways_from-rights.ensures c.in_ok-put_half_ways-2.ensures c.is_marked-2.ensures.few_ways,
     )
