@@ -10,11 +10,11 @@ invariant_of-result g c =
     let s = c.in_ok-store.store in
     record {
       marked = c.is_marked.ensures;
-      names = omega (arith, c.len.ensures.value, c.len.ensures.few, ap length c.vars.ensures);
+      names = omega (arith, c.len-names.ensures.value, c.len-names.ensures.few, ap length c.vars.ensures);
       small = c.requires;
       light = c.if-weight-limit.false;
-      held = held_fresh M.graph s.lists.sets s.answers.items s.lists.edges.items s.lists.ends.items s.numbers c.in_ok-start.start.items (1 + c.len-2.result) c.is_marked.ensures.whole
+      held = held_fresh M.graph s.lists.sets s.answers.items s.lists.edges.items s.lists.ends.items s.numbers c.in_ok-start.start.items (1 + c.len.result) c.is_marked.ensures.whole
           (c.in_ok-start.ensures ∙ ap set_of c.starts.ensures) c.in_ok-store.ensures.sets c.in_ok-store.ensures.answers c.in_ok-store.ensures.edges c.in_ok-store.ensures.ends c.in_ok-store.ensures.numbers
-          (omega (arith, c.len-2.ensures, c.in_ok-start.start.ok));
+          (omega (arith, c.len.ensures, c.in_ok-start.start.ok));
       stays = no_stays M.graph c.args.limit s.lists.sets s.answers.items s.stays.items c.in_ok-store.ensures.answers (c.in_ok-store.ensures.stay_of_each ∙ sym (ap length c.in_ok-store.ensures.sets)) c.in_ok-store.ensures.stays;
     }
