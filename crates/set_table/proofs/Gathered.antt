@@ -28,22 +28,19 @@ climbs (x ∷ xs) h zero (suc j) l m = let k = all_has (λ y. x < y) xs (get_or 
 climbs (x ∷ xs) h (suc i) zero l m = absurd (omega arith)
 climbs (x ∷ xs) h (suc i) (suc j) l m = climbs xs h.1 i j (omega (arith, l)) (omega (arith, m))
 
-pub searched_is : (xs : List ℕ) (x : ℕ) (r : Result ℕ ℕ) → IsInOrder ◌<◌ xs → IsBinarySearchResult (λ y. nat_cmp y x) xs r → is_ok r ≡ is_among xs x
-searched_is xs x r up found = by r (searched xs x r found (λ i j. climbs xs up i j))
+-- a member that is found, or that is none
+pub searched_at : (xs : List ℕ) (x : ℕ) (r : Result ℕ ℕ) → IsInOrder ◌<◌ xs → IsBinarySearchResult (λ y. nat_cmp y x) xs r → MatchResult r (λ i. (i < length xs) × (get_or xs i 0 ≡ x)) (λ _. Has xs x → ⊥)
+searched_at xs x r up found = by r (searched xs x r found (λ i j. climbs xs up i j))
   where
-    absent : (b : Bool) → is_among xs x ≡ b → (Has xs x → ⊥) → false ≡ b
-    absent true e there = absurd (there (among_has xs x e))
-    absent false e there = refl
-
     by : (s : Result ℕ ℕ) → MatchResult s (λ i. (i < length xs) × (get_or xs i 0 ≡ x)) (λ i. (i ≤ length xs) × ((k : ℕ) → k < i → get_or xs k 0 < x) × ((k : ℕ) → i ≤ k → k < length xs → x < get_or xs k 0)) →
-        is_ok s ≡ is_among xs x
-    by (Ok i) h = sym (has_among xs x (subst (Has xs) h.1 (Has-get_or xs i 0 h.0)))
-    by (Err i) h = absent (is_among xs x) refl (λ m.
+        MatchResult s (λ i. (i < length xs) × (get_or xs i 0 ≡ x)) (λ _. Has xs x → ⊥)
+    by (Ok i) h = h
+    by (Err i) h = λ m.
         let p = Contains-Has xs x m in
         elim (cases_lt p.0 i) [
           | inl l ↦ let k = h.1 p.0 l in omega (arith, k, at p)
           | inr l ↦ let k = h.2 p.0 l p.1 in omega (arith, k, at p)
-        ])
+        ]
       where
         at : (p : (k : ℕ) × (k < length xs) × (get_or xs k x ≡ x)) → get_or xs p.0 0 ≡ x
         at p = same xs p.0 p.1 ∙ p.2
@@ -52,6 +49,17 @@ searched_is xs x r up found = by r (searched xs x r found (λ i j. climbs xs up 
             same [] k l = absurd (omega arith)
             same (y ∷ ys) zero l = refl
             same (y ∷ ys) (suc k) l = same ys k (omega (arith, l))
+
+pub searched_is : (xs : List ℕ) (x : ℕ) (r : Result ℕ ℕ) → IsInOrder ◌<◌ xs → IsBinarySearchResult (λ y. nat_cmp y x) xs r → is_ok r ≡ is_among xs x
+searched_is xs x r up found = by r (searched_at xs x r up found)
+  where
+    absent : (b : Bool) → is_among xs x ≡ b → (Has xs x → ⊥) → false ≡ b
+    absent true e there = absurd (there (among_has xs x e))
+    absent false e there = refl
+
+    by : (s : Result ℕ ℕ) → MatchResult s (λ i. (i < length xs) × (get_or xs i 0 ≡ x)) (λ _. Has xs x → ⊥) → is_ok s ≡ is_among xs x
+    by (Ok i) h = sym (has_among xs x (subst (Has xs) h.1 (Has-get_or xs i 0 h.0)))
+    by (Err i) h = absent (is_among xs x) refl h
 
 pub set_same : (xs ys : List ℕ) → ((x : ℕ) → Has xs x → Has ys x) → ((x : ℕ) → Has ys x → Has xs x) → set_of xs ≡ set_of ys
 set_same xs ys there back =

@@ -1,7 +1,7 @@
 -- What a table holds, and what it holds once an answer is kept.
 use Rattle.std.proofs.Common.{◌≡◌, ℕ, zero, suc, ◌+◌, ◌-◌, ◌*◌, ◌<◌, ◌≤◌, ◌⊎◌, Bool, true, false, cond, List, [], ◌∷◌, ◌++◌, length, map, take, drop, get_or, set, Some, inl, inr, refl, sym, ap, subst, arith, ◌∙◌, length-append}
-use Rattle.std.specs.Prelude.{if◌then◌else◌, nat_eq, ◌&&◌, ◌||◌, slice_get, replicate}
-use Rattle.std.specs.List.{filter, list_any, sum_by}
+use Rattle.std.specs.Prelude.{nat_eq, ◌&&◌, slice_get, replicate}
+use Rattle.std.specs.List.{filter, sum_by}
 use Rattle.std.specs.FinSet as bytes
 use Rattle.std.proofs.Math.Seq.{get_or-append_right}
 use Rattle.std.proofs.lemmas.Bool.{cases_lt}
@@ -25,7 +25,7 @@ use Rattle.set_table.specs.declared.answer.Answer.{Answer}
 use Rattle.set_table.specs.declared.lists.Lists.{Lists}
 use Rattle.set_table.specs.declared.store.Store.{Store}
 use Rattle.set_table.specs.Named.{IsLongerBy}
-use Rattle.set_table.specs.Tabled.{HasEdges, HasEnds, idle_of, IsStateSet, IsTabled, Tabled, asked_first, look_up, look_ups_weight, weight, edge_named, reached, set_at, sets_weight, with_set, with_sets}
+use Rattle.set_table.specs.Tabled.{HasEdges, HasEnds, idle_of, IsStateSet, IsTabled, Tabled, asked_first, look_up, look_ups_weight, weight, edge_named, reached, set_at, sets_weight}
 use Rattle.set_table.specs.Answered.{Adds, IsAnswer, IsHeld, IsQuestion, IsSound, tabled, answer_in, question_of, end_reach, look_up_of, look_ups_of, part, place_in, place_of, room, with_places}
 use Rattle.set_table.proofs.Ascending.{Above, has_all, blocks_in_order, set_in_order}
 use Rattle.set_table.proofs.NamingLaws.{named_stay}

@@ -6,6 +6,7 @@ pub mod RunLaws
 pub mod NamingLaws
 pub mod AddsLaws
 pub mod HeldLaws
+pub mod StayingLaws
 pub mod StayLaws
 pub mod SpreadLaws
 pub mod OnceLaws

@@ -1,5 +1,5 @@
 -- What a table holds once something is asked of it.
-use Rattle.std.proofs.Common.{◌≡◌, ℕ, ◌+◌, ◌<◌, ◌≤◌, ◌⊎◌, Bool, true, false, List, [], ◌∷◌, ◌++◌, length, length-append, inl, inr, refl, sym, ap, subst, arith, ◌∙◌}
+use Rattle.std.proofs.Common.{◌≡◌, ℕ, ◌<◌, ◌≤◌, ◌⊎◌, Bool, true, false, List, [], ◌∷◌, ◌++◌, length, length-append, inl, inr, refl, sym, ap, subst, arith, ◌∙◌}
 use Rattle.std.specs.Prelude.{if◌then◌else◌, ◌||◌, MatchResult, Result, Ok, Err}
 use Rattle.std.specs.Borrow.{Bor}
 use Rattle.std.specs.List.{list_any}
@@ -10,7 +10,7 @@ use Rattle.automaton_reading.proofs.MeasureLaws.{look_up_itself, same_look_up}
 use Rattle.set_table.specs.declared.fault.TableFault.{TableFault}
 use Rattle.set_table.specs.Lending.{Gives}
 use Rattle.set_table.specs.Named.{IsLongerBy}
-use Rattle.set_table.specs.Tabled.{IsRefusal, IsTabled, Tabled, asked_first, once_asked, reached, set_at, was_asked}
+use Rattle.set_table.specs.Tabled.{IsRefusal, Tabled, asked_first, once_asked, reached, set_at, was_asked}
 use Rattle.set_table.proofs.SetsLaws.{apart_more, has_with_sets, longer_itself, set_stays, with_sets_apart, with_sets_longer}
 
 -- ---- whether it was asked

@@ -1,5 +1,5 @@
 -- Answers, and where they stand.
-use Rattle.std.specs.Prelude.{◌≡◌, ℕ, suc, ◌+◌, ◌-◌, ◌*◌, ◌^◌, ◌<◌, ◌≤◌, ◌⊎◌, List, [], ◌++◌, replicate, map, length, take, drop, slice_get, slice_index, slice_index_or, Some, IsTrue, ◌↔◌}
+use Rattle.std.specs.Prelude.{◌≡◌, ℕ, suc, ◌+◌, ◌-◌, ◌*◌, ◌^◌, ◌<◌, ◌≤◌, ◌⊎◌, List, [], ◌∷◌, ◌++◌, replicate, map, length, take, drop, slice_get, slice_index, slice_index_or, Some, IsTrue, ◌↔◌}
 use Rattle.std.specs.Ordering.{nat_cmp}
 use Rattle.std.specs.FinSet as bytes
 use Rattle.span_core.specs.declared.TheConstants.{MOST_VARIABLES}
@@ -14,7 +14,7 @@ use Rattle.set_table.specs.declared.lists.Added.{Added}
 use Rattle.set_table.specs.declared.lists.Lists.{Lists}
 use Rattle.set_table.specs.declared.store.Store.{Store}
 use Rattle.set_table.specs.Named.{IsLongerBy}
-use Rattle.set_table.specs.Tabled.{Tabled, IsStateSet, Stays, edge_named, look_up, look_ups_weight, reached, set_at, sets_weight, with_sets}
+use Rattle.set_table.specs.Tabled.{HasStayed, Tabled, IsStateSet, Stays, StaysOn, edge_named, look_up, look_ups_weight, one_edge, reached, set_at, sets_weight, with_sets}
 
 abbrev pub question_of : TableQuestion → Question
 question_of (Byte b) = byte_read b
@@ -94,10 +94,20 @@ IsNotAsked t k question = ¬ Has t.look_ups (look_up t k (question_of question))
 abbrev pub Holds : Automaton → Store → ℕ → Type 0
 Holds A s w = IsHeld A s.lists.sets s.answers.items s.lists.edges.items s.lists.ends.items s.numbers w
 
--- for each set the bytes on which it stays
+-- the answer is the one edge without marks to its own set
+abbrev pub LeadsBack : List Edge → Answer → Type 0
+LeadsBack es x = part x.first x.count es ≡ one_edge x.set ∷ []
+
+-- for each set that has stayed on a byte, all bytes on which it stays
 pub record AreStays (t : Tabled) (stays : List (bytes.FinSet nat_cmp)) : Type 0 where
   pub count : length stays ≡ length t.sets
-  pub are : (k b : ℕ) → k < length t.sets → IsTrue (bytes.contains (slice_index_or stays k bytes.empty) b) ↔ Stays t k b
+  pub are : (k b : ℕ) → k < length t.sets → IsTrue (bytes.contains (slice_index_or stays k bytes.empty) b) ↔ (HasStayed t k × Stays t k b)
+
+-- what is noted of an answer's set: all bytes on which it stays, where this is one that was not noted before, and else the same
+abbrev pub IsNoted : Automaton → List (List ℕ) → List Edge → Answer → bytes.FinSet nat_cmp → bytes.FinSet nat_cmp → Type 0
+IsNoted A sets es x old new =
+    ((c : ℕ) × (x.question ≡ Byte c) × LeadsBack es x × ((b : ℕ) → IsTrue (bytes.contains new b) ↔ StaysOn A (set_at sets x.set) b))
+    ⊎ ((new ≡ old) × ((b : ℕ) → x.question ≡ Byte b → LeadsBack es x → IsTrue (bytes.contains old b)))
 
 -- what is true inside of a table
 pub record IsSound (M : Marked) (limit w : ℕ) (s : Store) : Type 0 where

@@ -9,3 +9,4 @@ pub mod Laid
 pub mod Lending
 -- what the functions inside promise each other
 pub mod Spread
+pub mod Staying

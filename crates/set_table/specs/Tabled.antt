@@ -96,10 +96,19 @@ HasRest t k (Some n) = (slice_get t.sets n ≡ Some (idle_of t k)) × ¬ (idle_o
 abbrev pub one_edge : ℕ → Edge
 one_edge k = record { marks = 0; to = k }
 
--- the byte was asked of the set, whose one edge on it takes no marks and leads to the set itself
-pub record Stays (t : Tabled) (k b : ℕ) : Type 0 where
-  pub asked : Has t.look_ups (look_up t k (byte_read b))
-  pub itself : edges t.graph (set_at t.sets k) (byte_read b) ≡ record { marks = 0; to = set_at t.sets k } ∷ []
+-- the one edge of the set on the byte takes no marks and leads to the set itself
+abbrev pub StaysOn : Automaton → List ℕ → ℕ → Type 0
+StaysOn A set b = edges A set (byte_read b) ≡ record { marks = 0; to = set } ∷ []
+
+-- the set of this number stays on the byte
+abbrev pub Stays : Tabled → ℕ → ℕ → Type 0
+Stays t k b = StaysOn t.graph (set_at t.sets k) b
+
+-- the set of this number was asked for a byte on which it stays
+pub record HasStayed (t : Tabled) (k : ℕ) : Type 0 where
+  pub byte : ℕ
+  pub asked : Has t.look_ups (look_up t k (byte_read byte))
+  pub stays : Stays t k byte
 
 -- a refusal to make this table
 abbrev pub IsRefusal : Tabled → TableFault → Type 0

@@ -17,5 +17,6 @@ mod naming;
 mod numbered_lists;
 mod reaching;
 mod state;
+mod staying;
 mod store;
 mod table;

@@ -158,7 +158,7 @@ fn put_stops(codes: &mut Vec<u128>, stops: &[Stop], members: &[u32]) -> Result<(
 }
 
 /// Whether the state is a member.
-fn has_state(members: &[u32], state: u32) -> bool
+pub(crate) fn has_state(members: &[u32], state: u32) -> bool
     requires { IsInOrder ◌<◌ members.now }
     ensures { result ≡ is_among members.now state }
 {

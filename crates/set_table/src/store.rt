@@ -1,18 +1,20 @@
 //! What a table holds: lists of sets, edges and ends, and answers that stand in them.
 //!
 //! An answer is a part of the list of edges, and a dense index, 272 places a set, tells its number: 256 bytes, the
-//! rest and the ends. A refusal cuts the lists back to their old lengths. Beside them each set notes the bytes on
-//! which it stays.
+//! rest and the ends. A refusal cuts the lists back to their old lengths. Beside them each set that has stayed on a byte
+//! notes all bytes on which it stays.
 ghost use Rattle.std.specs.Prelude.{◌≡◌, ℕ, ◌+◌, ◌*◌, ◌^◌, ◌<◌, ◌≤◌, ◌++◌, ◌∷◌, List, [], length, take, slice_set, slice_index_or, ◌↔◌, ◌⊎◌, IsTrue, OnOk, OnErr, IfOk, IfErr};
 ghost use Rattle.std.specs.FinSet as bytes;
-ghost use Rattle.set_table.specs.Answered.{AreLonger, IsNotAsked, IsQuestion, IsSound, question_of, part, place_in, tabled, with_places};
+ghost use Rattle.set_table.specs.Answered.{AreLonger, IsNotAsked, IsNoted, IsQuestion, IsSound, question_of, part, place_in, tabled, with_places};
 ghost use Rattle.set_table.specs.Named.{IsLongerBy};
-ghost use Rattle.set_table.specs.Tabled.{IsRefusal, asked_first, look_up, one_edge};
+ghost use Rattle.span_core.specs.Lists.{IsInOrder};
+ghost use Rattle.set_table.specs.Tabled.{IsRefusal, asked_first, look_up, one_edge, set_at};
 
 use crate::TableFault;
 use crate::answer::{Answer, TableQuestion};
 use crate::index::Index;
 use crate::lists::Lists;
+use crate::staying::stays_of;
 use marked_automaton::Automaton;
 use span_core::{ByteSet, Edge, OutOfMemory};
 use std::alloc::Global;
@@ -31,7 +33,7 @@ pub(crate) struct Store {
     pub(crate) answers: Vec<Answer>,
     /// For each set and question the number of its answer and 1, or 0 where it has none.
     pub(crate) numbers: Index,
-    /// For each set the bytes that were asked of it whose only edge takes no marks and leads to the set itself.
+    /// For each set that was asked for a byte on which it stays, all such bytes; for others none.
     pub(crate) stays: Vec<ByteSet>,
 }
 
@@ -125,9 +127,38 @@ impl Store {
             count: added.count as u32,
         };
         put_empty(&mut self.stays, self.lists.sets.len())?;
+        let stays = self.noted(automaton, answer)?;
         self.keep(answer)?;
-        note_stay(&mut self.stays, self.lists.edges.as_slice(), answer);
+        self.stays[set as usize] = stays;
         Ok(weight)
+    }
+
+    /// What is noted of an answer's set: where it stays on the byte, all bytes on which it does.
+    fn noted(&self, automaton: &Automaton, answer: Answer) -> Result<ByteSet, OutOfMemory>
+        requires set { answer.set < length self.now.lists.sets }
+        requires order { IsInOrder ◌<◌ (set_at self.now.lists.sets answer.set) }
+        requires stays { length self.now.stays.items ≡ length self.now.lists.sets }
+        requires question { IsQuestion answer.question }
+        requires within { answer.question ≡ TableQuestion.Ends ⊎ (answer.first + answer.count ≤ length self.now.lists.edges.items) }
+        ensures { IfOk result (IsNoted automaton.now.graph self.now.lists.sets self.now.lists.edges.items answer (slice_index_or self.now.stays.items answer.set bytes.empty)) }
+    {
+        let noted = self.stays[answer.set as usize];
+        let TableQuestion::Byte(byte) = answer.question else {
+            return Ok(noted);
+        };
+        let edges = edges_part(
+            self.lists.edges.as_slice(),
+            answer.first as usize,
+            answer.count as usize,
+        );
+        if noted.contains(byte) || !leads_back(edges, answer.set) {
+            return Ok(noted);
+        }
+        stays_of(
+            self.alloc,
+            automaton,
+            self.lists.sets.at(answer.set as usize),
+        )
     }
 
     /// Keeps the first sets, edges and ends alone, so many as it says.
@@ -174,7 +205,7 @@ impl Store {
 }
 
 /// Appends empty sets until there are so many.
-fn put_empty(stays: &mut Vec<ByteSet>, count: usize) -> Result<(), OutOfMemory>
+pub(crate) fn put_empty(stays: &mut Vec<ByteSet>, count: usize) -> Result<(), OutOfMemory>
     requires { length stays.old.items ≤ count }
     ensures longer { IsLongerBy stays.old.items stays.new.items }
     ensures same { (k : ℕ) → slice_index_or stays.new.items k bytes.empty ≡ slice_index_or stays.old.items k bytes.empty }
@@ -184,24 +215,6 @@ fn put_empty(stays: &mut Vec<ByteSet>, count: usize) -> Result<(), OutOfMemory>
         stays.push(ByteSet::empty())?;
     }
     Ok(())
-}
-
-/// Notes the byte of an answer whose only edge takes no marks and leads to the set itself.
-fn note_stay(stays: &mut Vec<ByteSet>, edges: &[Edge], answer: Answer)
-    requires set { answer.set < length stays.old.items }
-    requires question { IsQuestion answer.question }
-    requires within { answer.question ≡ TableQuestion.Ends ⊎ (answer.first + answer.count ≤ length edges.now) }
-    ensures length { length stays.new.items ≡ length stays.old.items }
-    ensures noted { (k b : ℕ) → IsTrue (bytes.contains (slice_index_or stays.new.items k bytes.empty) b) ↔ (IsTrue (bytes.contains (slice_index_or stays.old.items k bytes.empty) b) ⊎ ((k ≡ answer.set) × (answer.question ≡ TableQuestion.Byte b) × (part answer.first answer.count edges.now ≡ one_edge answer.set ∷ []))) }
-{
-    if let TableQuestion::Byte(byte) = answer.question {
-        let edges = edges_part(edges, answer.first as usize, answer.count as usize);
-        if leads_back(edges, answer.set) {
-            let at = answer.set as usize;
-            let noted = stays[at].union(&ByteSet::single(byte));
-            stays[at] = noted;
-        }
-    }
 }
 
 /// So many edges, from the first on.

@@ -8,7 +8,7 @@ ghost use Rattle.std.specs.FinSet as bytes;
 ghost use Rattle.std.specs.Borrow.{sem};
 ghost use Rattle.set_table.specs.Lending.{Gives, Leaves};
 ghost use Rattle.span_core.specs.Lists.{Has};
-ghost use Rattle.set_table.specs.Tabled.{HasEdges, HasEnds, HasRest, IsRefusal, IsStateSet, IsTabled, Stays, asked_first, fresh, look_up, once_asked, set_at, weight};
+ghost use Rattle.set_table.specs.Tabled.{HasEdges, HasEnds, HasStayed, HasRest, IsRefusal, IsStateSet, IsTabled, Stays, asked_first, fresh, look_up, once_asked, set_at, weight};
 ghost use Rattle.set_table.specs.Laid.{IsStateOf, taken_up};
 ghost use Rattle.set_table.specs.Answered.{IsQuestion, question_of, part};
 
@@ -169,11 +169,11 @@ impl<'a> Table<'a> {
         self.weight
     }
 
-    /// The bytes that were asked of a set before whose only edge takes no marks and leads to the set
-    /// itself: a reader may pass over them.
+    /// The bytes on which a set stays, once it was asked for one of them; before that none. A reader may pass over them: their
+    /// one edge takes no marks and leads to the set itself.
     pub fn stays(&self, set: u32) -> ByteSet
         requires { set < length self.now.sets }
-        ensures { (b : ℕ) → IsTrue (bytes.contains result b) ↔ Stays self.now set b }
+        ensures { (b : ℕ) → IsTrue (bytes.contains result b) ↔ (HasStayed self.now set × Stays self.now set b) }
     {
         self.store.stays[set as usize]
     }

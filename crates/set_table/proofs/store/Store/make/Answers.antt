@@ -1,11 +1,10 @@
-use Rattle.std.proofs.Common.{◌≡◌, ◌+◌, ◌*◌, [], ◌∷◌, ◌++◌, get_or, length, length-append, set, sym, ap, arith, ◌∙◌}
+use Rattle.std.proofs.Common.{◌≡◌, ◌+◌, ◌*◌, [], ◌∷◌, ◌++◌, length, length-append, length-set, set, sym, ap, arith, ◌∙◌}
 use Rattle.set_table.specs.declared.answer.Answer.{Answer}
 use Rattle.set_table.specs.declared.lists.Lists.{Lists}
 use Rattle.set_table.specs.Answered.{AreStays, look_ups_of, place_in, tabled, with_places}
 use Rattle.set_table.specs.Tabled.{Tabled}
 use Rattle.set_table.specs.Named.{IsLongerBy}
-use Rattle.set_table.proofs.StayLaws.{noted_of, same_stays, stays_more}
-use Rattle.std.specs.FinSet as bytes
+use Rattle.set_table.proofs.StayLaws.{longer_by_none, same_stays, stays_more, still_in_order}
 use Rattle.set_table.proofs.HeldLaws.{few_more, first_is, first_weighs, held_more, held_same}
 use Rattle.set_table.proofs.store.Store.make.Goals as goal
 
@@ -65,13 +64,11 @@ returns-clause-sound c =
     let answers : s.answers.items ++ x ∷ [] ≡ k.answers.items = sym c.in_ok-keep.ensures.answers in
     let longer : IsLongerBy s.lists.sets n.sets = c.in_ok-added.ensures.longer.sets in
     let old : AreStays (tabled M.graph c.args.limit s) s.stays.items = sound.stays in
-    let count : length c.note_stay.new.stays.items ≡ length n.sets = omega (arith, c.note_stay.ensures.length, ap length c.in_ok-keep.ensures.stays, c.in_ok-put_empty.ensures.count, c.len.ensures.value) in
-    let noted = noted_of s.stays.items k.stays.items c.note_stay.new.stays.items c.args.set c.args.question x.first x.count n.edges.items c.as_slice.result.now
-    (λ j. ap (λ zs. get_or zs j bytes.empty) c.in_ok-keep.ensures.stays ∙ c.in_ok-put_empty.ensures.same j)
-    (c.as_slice.ensures.value ∙ sym (ap (λ (l : Lists). l.edges.items) lists)) c.note_stay.ensures.noted in
-    let more : AreStays (record { graph = M.graph; limit = c.args.limit; sets = n.sets; look_ups = look_ups_of n.sets (s.answers.items ++ x ∷ []) }) c.note_stay.new.stays.items =
+    let count : length c.put_empty.new.stays.items ≡ length n.sets = omega (arith, c.in_ok-put_empty.ensures.count, c.len.ensures.value) in
+    let more : AreStays (record { graph = M.graph; limit = c.args.limit; sets = n.sets; look_ups = look_ups_of n.sets (s.answers.items ++ x ∷ []) }) (set k.stays.items c.args.set c.in_ok-stays.stays) =
     stays_more M.graph c.args.limit s.lists.sets n.sets s.answers.items n.edges.items n.ends.items (set (with_places (272 * length n.sets) s.numbers) (place_in c.args.set c.args.question) (1 + length s.answers.items)) w x
-    longer held (λ y h. (sound.held.answered y h).set) (omega (arith, c.requires.set, ap length longer.1, length-append s.lists.sets longer.0)) s.stays.items c.note_stay.new.stays.items old count noted in
+    longer held (λ y h. (sound.held.answered y h).set) (omega (arith, c.requires.set, ap length longer.1, length-append s.lists.sets longer.0)) s.stays.items c.put_empty.new.stays.items (set k.stays.items c.args.set c.in_ok-stays.stays) c.in_ok-stays.stays
+    old c.in_ok-put_empty.ensures.same count c.in_ok-stays.ensures (ap (λ zs. set zs c.args.set c.in_ok-stays.stays) c.in_ok-keep.ensures.stays) (length-set k.stays.items c.args.set c.in_ok-stays.stays ∙ ap length c.in_ok-keep.ensures.stays) in
     record {
       marked = sound.marked;
       names = sound.names;
@@ -81,5 +78,14 @@ returns-clause-sound c =
           (set (with_places (272 * length n.sets) s.numbers) (place_in c.args.set c.args.question) (1 + length s.answers.items)) k.numbers w
           sets answers (ap (λ (l : Lists). l.edges.items) lists) (ap (λ (l : Lists). l.ends.items) lists)
           (sym c.in_ok-keep.ensures.numbers) held;
-      stays = same_stays M.graph c.args.limit n.sets k.lists.sets (s.answers.items ++ x ∷ []) k.answers.items c.note_stay.new.stays.items sets answers more;
+      stays = same_stays M.graph c.args.limit n.sets k.lists.sets (s.answers.items ++ x ∷ []) k.answers.items (set k.stays.items c.args.set c.in_ok-stays.stays) sets answers more;
     }
+
+pub noted-requires-clause-order : goal.noted-requires-clause-order
+noted-requires-clause-order c = still_in_order c.args.automaton.now.graph c.args.self.now.lists.sets c.add.new.self.sets c.args.set c.requires.sound.held.states c.in_ok-added.ensures.longer.sets c.requires.set
+
+pub returns-in_err-put_empty-clause-numbers : goal.returns-in_err-put_empty-clause-numbers
+returns-in_err-put_empty-clause-numbers c = longer_by_none c.from_residual-in_err-put_empty.result c.args.self.now.numbers
+
+pub returns-in_err-stays-clause-numbers : goal.returns-in_err-stays-clause-numbers
+returns-in_err-stays-clause-numbers c = longer_by_none c.from_residual-in_err-stays.result c.args.self.now.numbers

@@ -1,0 +1,143 @@
+//! The bytes on which a set of states stays, told from the ways of its members.
+//!
+//! It stays on a byte where the ways on it take no marks, lead to members alone, and lead to each of them. All bytes are
+//! told at once, by one look at each way.
+ghost use Rattle.std.specs.Prelude.{◌≡◌, ℕ, ◌<◌, ◌∷◌, ◌++◌, [], List, length, slice_index_or, IfNone, IfOk, IfSome, IsTrue, ◌↔◌};
+ghost use Rattle.std.specs.FinSet as bytes;
+ghost use Rattle.span_core.specs.Lists.{Has, IsInOrder};
+ghost use Rattle.marked_automaton.specs.Automaton.{AreGrouped};
+ghost use Rattle.marked_automaton.specs.declared.way.Way.{Way as WayOf};
+ghost use Rattle.std.specs.List.{filter, flat_map};
+ghost use Rattle.automaton_reading.specs.Reading.{is_among};
+ghost use Rattle.marked_automaton.specs.Automaton.{ways_from};
+ghost use Rattle.set_table.specs.Staying.{AreGathered, IsInside};
+ghost use Rattle.set_table.specs.Tabled.{StaysOn};
+
+use crate::reaching::has_state;
+use crate::store::put_empty;
+use marked_automaton::{Automaton, Way};
+use span_core::{ByteSet, OutOfMemory};
+use std::alloc::Global;
+
+/// Where ways of a set's members lead, byte by byte.
+#[derive(Drop)]
+struct Leading {
+    /// For each member the bytes of ways without marks that lead to it.
+    to_members: Vec<ByteSet>,
+    /// The bytes of all other ways.
+    elsewhere: ByteSet,
+}
+
+/// The bytes on which a set of states stays.
+pub(crate) fn stays_of(
+    alloc: Global,
+    automaton: &Automaton,
+    members: &[u32],
+) -> Result<ByteSet, OutOfMemory>
+    requires { IsInOrder ◌<◌ members.now }
+    ensures { IfOk result (λ s. (b : ℕ) → IsTrue (bytes.contains s b) ↔ StaysOn automaton.now.graph members.now b) }
+{
+    if members.is_empty() {
+        return Ok(ByteSet::empty());
+    }
+    let mut leading = Leading::nowhere(alloc, members.len())?;
+    if automaton.is_grouped() {
+        leading.add_from(members, automaton);
+    } else {
+        leading.add_among(members, automaton.ways());
+    }
+    Ok(leading.stays())
+}
+
+impl Leading {
+    /// No way leads anywhere, of so many members.
+    fn nowhere(alloc: Global, members: usize) -> Result<Leading, OutOfMemory>
+        ensures { IfOk result (λ x. (states : List ℕ) → length states ≡ members → AreGathered states [] x) }
+    {
+        let mut to_members = Vec::new(alloc);
+        put_empty(&mut to_members, members)?;
+        Ok(Leading {
+            to_members,
+            elsewhere: ByteSet::empty(),
+        })
+    }
+
+    /// Adds a way from a member.
+    fn add(&mut self, members: &[u32], way: &Way)
+        requires order { IsInOrder ◌<◌ members.now }
+        requires count { length self.old.to_members.items ≡ length members.now }
+        ensures count { length self.new.to_members.items ≡ length members.now }
+        ensures gathered { (ways : List WayOf) → AreGathered members.now ways self.old → AreGathered members.now (ways ++ way.now ∷ []) self.new }
+    {
+        match member_at(members, way) {
+            Some(place) => {
+                let bytes = self.to_members[place].union(&way.bytes);
+                self.to_members[place] = bytes;
+            }
+            None => self.elsewhere = self.elsewhere.union(&way.bytes),
+        }
+    }
+
+    /// Adds ways from members.
+    fn add_all(&mut self, members: &[u32], ways: &[Way])
+        requires order { IsInOrder ◌<◌ members.now }
+        requires count { length self.old.to_members.items ≡ length members.now }
+        ensures count { length self.new.to_members.items ≡ length members.now }
+        ensures gathered { (before : List WayOf) → AreGathered members.now before self.old → AreGathered members.now (before ++ ways.now) self.new }
+    {
+        for way in ways {
+            self.add(members, way);
+        }
+    }
+
+    /// Adds the ways from each member, where the ways stand in the order of states.
+    fn add_from(&mut self, members: &[u32], automaton: &Automaton)
+        requires order { IsInOrder ◌<◌ members.now }
+        requires grouped { AreGrouped automaton.now.graph.ways }
+        requires none { AreGathered members.now [] self.old }
+        ensures { AreGathered members.now (flat_map (ways_from automaton.now.graph.ways) members.now) self.new }
+    {
+        for state in members {
+            self.add_all(members, automaton.ways_from(*state));
+        }
+    }
+
+    /// Adds those of all ways that lead from members.
+    fn add_among(&mut self, members: &[u32], ways: &[Way])
+        requires order { IsInOrder ◌<◌ members.now }
+        requires none { AreGathered members.now [] self.old }
+        ensures { AreGathered members.now (filter (λ (y : WayOf). is_among members.now y.from) ways.now) self.new }
+    {
+        for way in ways {
+            if has_state(members, way.from) {
+                self.add(members, way);
+            }
+        }
+    }
+
+    /// The bytes that lead to each member, and nowhere else.
+    fn stays(&self) -> ByteSet
+        requires { 0 < length self.now.to_members.items }
+        ensures there { (b : ℕ) → IsTrue (bytes.contains result b) → (k : ℕ) → k < length self.now.to_members.items → IsTrue (bytes.contains (slice_index_or self.now.to_members.items k bytes.empty) b) }
+        ensures only { (b : ℕ) → IsTrue (bytes.contains result b) → ¬ IsTrue (bytes.contains self.now.elsewhere b) }
+        ensures all { (b : ℕ) → ((k : ℕ) → k < length self.now.to_members.items → IsTrue (bytes.contains (slice_index_or self.now.to_members.items k bytes.empty) b)) → ¬ IsTrue (bytes.contains self.now.elsewhere b) → IsTrue (bytes.contains result b) }
+    {
+        let mut stays = self.to_members[0];
+        for bytes in self.to_members.as_slice() {
+            stays = stays.meet(bytes);
+        }
+        stays.without(&self.elsewhere)
+    }
+}
+
+/// The place of the member that a way leads to without marks, if it does.
+fn member_at(members: &[u32], way: &Way) -> Option<usize>
+    requires { IsInOrder ◌<◌ members.now }
+    ensures some { IfSome result (λ k. (k < length members.now) × (slice_index_or members.now k 0 ≡ way.now.to) × (way.now.marks ≡ 0)) }
+    ensures none { IfNone result (¬ IsInside members.now way.now) }
+{
+    if !way.marks.is_none() {
+        return None;
+    }
+    members.binary_search(&way.to).ok()
+}
