@@ -14,7 +14,7 @@ use Rattle.one_pass.specs.Layers.{GraphView, HasCost, BringsEnd}
 use Rattle.one_pass.specs.Places.{end_at, Leads}
 use Rattle.one_pass.specs.Passes.{Progress, pass, sets_of, Reaches, IsReady, HasEnded}
 use Rattle.one_pass.proofs.ReadWords.{end_to}
-use Rattle.one_pass.proofs.Stepping.{source_edges, place_edges, IsSpending, look_ups_held, spending_none, spending_more}
+use Rattle.one_pass.proofs.Stepping.{source_edges, place_edges, IsSpending, each_look_up, spending_none, spending_more}
 
 -- the blocks of edges
 abbrev pub marks_of : List Reach → List ℕ
@@ -95,7 +95,7 @@ module _ (A : Automaton) (n : ℕ) (P : Progress) where
       ];
       stay = all.spent.table.stay;
     };
-    holds = look_ups_held A (end_at n) P Q.table.look_ups all.spent.holds;
+    holds = each_look_up A (end_at n) P (Has Q.table.look_ups) all.spent.holds;
     every = (let l = ap (λ (xs : List Source). length xs) all.spent.layer in omega (arith, all.spent.stepped, l));
     sound = all.spent.sound;
     steps = omega (arith, all.spent.steps, place_edges A (end_at n) P);

@@ -37,7 +37,7 @@ read_none A P = record {
   );
   sets = λ set. (λ h. h, λ h. h);
   table = grown_none P.table (sets_of P) [];
-  holds = λ look_up h. absurd h;
+  tells = λ look_up h. absurd h;
   steps = omega arith;
   cells = omega arith;
   rise = omega arith;

@@ -17,13 +17,14 @@ use Rattle.output_graph.specs.Source.{Edges}
 use Rattle.output_graph.proofs.HeldLaws.{take_next}
 use Rattle.one_pass.specs.declared.entries.Entries.{Entries}
 use Rattle.one_pass.specs.KnownSteps.{KnownStep}
-use Rattle.set_table.specs.Tabled.{HasEdges, Stays, Tabled, edge_named, look_up, set_at, with_set}
+use Rattle.set_table.specs.Tabled.{HasEdges, Tabled, edge_named, look_up, set_at, with_set}
 use Rattle.set_table.proofs.NamingLaws.{named_stay}
 use Rattle.one_pass.specs.Entered.{has_entry, place_in}
 use Rattle.one_pass.specs.Entries.{entry_at}
 use Rattle.one_pass.proofs.EntryLaws.{within_asked}
 use Rattle.one_pass.specs.Known.{AreAlike, AreLookUps, AreStill, IsAlike, IsEntry, IsKnown, IsLookUp, IsStepOf, layer_at}
 use Rattle.one_pass.specs.Passes.{HasGrown}
+use Rattle.one_pass.specs.Weights.{Stays}
 
 -- ---- a table that grows
 
@@ -68,10 +69,7 @@ module _ (t u : Tabled) (more : List (List ℕ)) (graph : u.graph ≡ t.graph) (
   still_grown b sets still s h =
       let one = still s h in (
         given_grown s one.0,
-        record {
-          asked = asked_grown b s one.0 one.1.asked;
-          itself = sym (edges_grown s b one.0) ∙ (one.1.itself ∙ ap (λ (set : List ℕ). let r : Reach = record { marks = 0; to = set } in r ∷ []) (sym (named_grown s one.0)));
-        },
+        sym (edges_grown s b one.0) ∙ (one.1 ∙ ap (λ (set : List ℕ). let r : Reach = record { marks = 0; to = set } in r ∷ []) (sym (named_grown s one.0))),
       )
 
   entry_grown : (layers : List (List ℕ)) (steps : List KnownStep) (b : ℕ) (sets : List ℕ) (e : ℕ) → IsEntry t layers steps b sets e → IsEntry u layers steps b sets e
@@ -207,7 +205,7 @@ look_ups_alike t b other (s ∷ sets) (g ∷ groups) alike all =
 pub entry_alike : (t : Tabled) (layers : List (List ℕ)) (steps : List KnownStep) (b other : ℕ) (sets : List ℕ) (e : ℕ) → AreAlike t b other sets → IsEntry t layers steps other sets e → IsEntry t layers steps b sets e
 entry_alike t layers steps b other sets e alike (inl none) = inl none
 entry_alike t layers steps b other sets e alike (inr (inl still)) =
-    inr (inl (still.0, λ s h. let one = alike s h in (one.given, record { asked = one.asked; itself = one.same ∙ (still.1 s h).1.itself })))
+    inr (inl (still.0, λ s h. let one = alike s h in (one.given, one.same ∙ (still.1 s h).1)))
 entry_alike t layers steps b other sets e alike (inr (inr (p, step, is, at, of))) =
     inr (inr (p, step, is, at, record { look_ups = look_ups_alike t b other sets step.program.groups alike of.look_ups; next = of.next }))
 
@@ -259,14 +257,14 @@ lone_edge [] e one first = absurd (omega (arith, one))
 lone_edge (x ∷ []) e one first = ap (λ (y : Edge). y ∷ []) (sym first)
 lone_edge (x ∷ y ∷ es) e one first = absurd (omega (arith, one))
 
--- the one edge of a set that was asked leads back to it
-pub still_is : (t : Tabled) (set b s : ℕ) (es : List Edge) (e : Edge) → (set < length t.sets) × HasEdges t (look_up t set (byte_read b)) es → Has t.look_ups (look_up t set (byte_read b)) →
+-- the one edge of a set leads back to it
+pub still_is : (t : Tabled) (set b s : ℕ) (es : List Edge) (e : Edge) → (set < length t.sets) × HasEdges t (look_up t set (byte_read b)) es →
     length es ≡ 1 → e ≡ get_or es 0 e → e ≡ record { marks = 0; to = set } → (set ≡ s) ⊎ ⊥ → (s < length t.sets) × Stays t s b
-still_is t set b s es e has there one first back (inr none) = absurd none
-still_is t set b s es e has there one first back (inl same) =
+still_is t set b s es e has one first back (inr none) = absurd none
+still_is t set b s es e has one first back (inl same) =
     let only : es ≡ record { marks = 0; to = set } ∷ [] = lone_edge es e one first ∙ ap (λ (y : Edge). y ∷ []) back in
     subst (λ n. (n < length t.sets) × Stays t n b) same
-    (has.0, record { asked = there; itself = sym has.1.named ∙ ap (map (edge_named t.sets)) only })
+    (has.0, sym has.1.named ∙ ap (map (edge_named t.sets)) only)
 
 -- ---- layers keep their numbers
 

@@ -19,6 +19,7 @@ pub mod Running
 pub mod Sets
 pub mod Sources
 pub mod Stepping
+pub mod Telling
 pub mod Turns
 pub mod Weighing
 pub mod Whole

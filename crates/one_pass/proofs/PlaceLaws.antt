@@ -12,9 +12,11 @@ use Rattle.output_graph.specs.Graph.{Source}
 use Rattle.one_pass.specs.Layers.{GraphView, IsPast, numbers_of}
 use Rattle.one_pass.specs.Places.{ReadingPlace, Leads, sets_met}
 use Rattle.one_pass.specs.Passes.{Progress, pass, sets_of, Reaches, IsReady, HasGrown, HasRead}
+use Rattle.one_pass.specs.Weights.{Tells}
 use Rattle.one_pass.proofs.Sets.{Covers, next_cases, has_next}
 use Rattle.one_pass.proofs.Composing.{grown_none}
-use Rattle.one_pass.proofs.Stepping.{Arrives, HasNext, source_edges, LeadsWith, place_edges, place_making, IsStepping, met_here, look_ups_held}
+use Rattle.one_pass.proofs.Stepping.{Arrives, HasNext, source_edges, LeadsWith, place_edges, place_making, IsStepping, met_here, each_look_up}
+use Rattle.one_pass.proofs.Telling.{held_tells}
 
 pub no_marks : (i m : ℕ) (b : ℕ × ℕ) → m ≡ 0 → Has (block_word i m) b → ⊥
 no_marks i m b e h = none (subst (λ k. Has (block_word i k) b) e h)
@@ -64,7 +66,7 @@ module _ (A : Automaton) (p : ReadingPlace) (P : Progress) where
       words = λ set w. (there set w, back set w);
       sets = λ set. (set_there set, set_back set);
       table = grown;
-      holds = look_ups_held A p P Q.table.look_ups all.spent.holds;
+      tells = each_look_up A p P (Tells Q.table) (λ x h. held_tells Q.table all.spent.sound (look_up P.table x.set p.ask) (all.spent.holds x h));
       steps = omega (arith, all.spent.steps, all.few, place_edges A p P, live, ap length layer);
       cells = omega (arith, all.spent.cells, place_edges A p P, live);
       rise = omega (arith, all.rise, place_making A p P, live);
@@ -148,11 +150,11 @@ module _ (A : Automaton) (p : ReadingPlace) (P : Progress) where
 
   -- ---- a place that changes nothing
 
-  -- each set of the layer has been asked, and has one edge, without marks and to itself
+  -- the table tells the look-up of each set of the layer, which is one edge, without marks and to the set itself
   abbrev pub AllStay : Type 0
   AllStay =
       (x : Source) → Has P.graph.layer x →
-      Has P.table.look_ups (look_up P.table x.set p.ask) × (source_edges A p P x ≡ record { marks = 0; to = set_at P.table.sets x.set } ∷ [])
+      Tells P.table (look_up P.table x.set p.ask) × (source_edges A p P x ≡ record { marks = 0; to = set_at P.table.sets x.set } ∷ [])
 
   pub stays_read : AllStay → HasRead A (p ∷ []) P P
   stays_read stays = record {
@@ -175,7 +177,7 @@ module _ (A : Automaton) (p : ReadingPlace) (P : Progress) where
     );
     sets = λ set. (set_there set, set_back set);
     table = grown_none P.table (sets_met A (sets_of P) (p.ask ∷ [])) (look_ups_asked A (sets_of P) (p.ask ∷ []));
-    holds = look_ups_held A p P P.table.look_ups (λ x h. (stays x h).0);
+    tells = each_look_up A p P (Tells P.table) (λ x h. (stays x h).0);
     steps = omega arith;
     cells = omega arith;
     rise = omega arith;

@@ -1,9 +1,9 @@
 -- What the parts of a whole pass give.
-use Rattle.std.proofs.Common.{◌≡◌, ℕ, ◌+◌, ◌*◌, ◌≤◌, Bool, false, List, [], ◌∷◌, ◌++◌, length, map, sym, ap, subst, arith, ◌∙◌, refl}
+use Rattle.std.proofs.Common.{◌≡◌, ℕ, ◌+◌, ◌*◌, ◌≤◌, Bool, false, List, [], ◌∷◌, ◌++◌, length, sym, ap, subst, arith, ◌∙◌, refl}
 use Rattle.std.proofs.lemmas.List.{append-nil}
 use Rattle.marked_automaton.specs.Automaton.{Automaton}
 use Rattle.span_core.specs.Intervals.{AreApart, Covers}
-use Rattle.automaton_reading.specs.Reading.{LookUp, edges_K, ended, look_ups_asked, look_ups_read, weight_K}
+use Rattle.automaton_reading.specs.Reading.{edges_K, ended, look_ups_asked, look_ups_read}
 use Rattle.set_table.specs.declared.fault.TableFault.{TableFault}
 use Rattle.set_table.specs.declared.fault.TableFault.TheVariants.{Full, OutOfMemory}
 use Rattle.set_table.specs.Tabled.{IsTabled, Tabled}
@@ -13,13 +13,14 @@ use Rattle.one_pass.specs.Builds.{IsNew, build, started}
 use Rattle.one_pass.specs.Faults.{IsFaultAt, IsFaultOf, IsReadFault}
 use Rattle.one_pass.specs.Going.{Ends, GivesUp, GivesUpEnd, Reads, come}
 use Rattle.one_pass.specs.Places.{ReadingPlace, AreReadWords, asks, end_at, is_touched, parts_places, places, places_before, sets_met}
-use Rattle.one_pass.specs.Passes.{Progress, pass, sets_of, HasEnded, HasKept, HasRead, HasStopped, HasStoppedAt, stop, weight_of}
+use Rattle.one_pass.specs.Passes.{Progress, pass, sets_of, HasEnded, HasKept, HasRead, HasStopped, HasStoppedAt, stop}
 use Rattle.one_pass.specs.Seen.{accepted_words, ending_from}
+use Rattle.one_pass.specs.Weights.{least_weight_K}
 use Rattle.one_pass.proofs.Composing.{excess_grown, ready_distinct, look_ups_first, look_ups_then, stopped_at}
 use Rattle.one_pass.proofs.Faulting.{then_stopped}
 use Rattle.one_pass.proofs.PartLaws.{before_end, parts_all}
-use Rattle.one_pass.proofs.Weighing.{held_weighs}
-use Rattle.one_pass.proofs.Whole.{excess_weight, front_sets, look_ups_of_front, stopped_steps, whole_cells, whole_look_ups, whole_steps, whole_words}
+use Rattle.one_pass.proofs.Weighing.{least_weight, told_weighs}
+use Rattle.one_pass.proofs.Whole.{excess_weight, front_sets, look_ups_of_front, stopped_steps, whole_cells, whole_steps, whole_tells, whole_words}
 
 -- nothing has been done with the table
 pub new_kept : (t : Tabled) → IsTabled t → HasKept t t
@@ -111,12 +112,11 @@ module _ (d : List ℕ) (parts : List (ℕ × ℕ)) (apart : AreApart parts) (wi
       pub pass_cells : length g.cells ≤ edges_K t.graph d K + 1
       pass_cells = whole_cells t.graph K d t new before ps all Q R read_here done_here (ready_distinct Q q.at reads.goes_on.ready)
 
-      -- what was read weighs no more than the table's limit
-      pub pass_weighs : weight_K t.graph d K ≤ t.limit
+      -- what has to be held of the reading weighs no more than the table's limit
+      pub pass_weighs : least_weight_K t.graph d K ≤ t.limit
       pass_weighs =
           let look_ups = look_ups_read t.graph d K in
-          let sets = map (λ (r : LookUp). r.set) look_ups in
           let graph : v.graph ≡ t.graph = done_here.table.graph ∙ read_here.table.graph in
           let limit : v.limit ≡ t.limit = done_here.table.limit ∙ read_here.table.limit in
-          let held = held_weighs v done_here.sound look_ups (whole_look_ups t.graph K d t new before ps all Q R read_here done_here) in
-          subst (λ l. weight_of t.graph sets look_ups ≤ l) limit (subst (λ (A : Automaton). weight_of A sets look_ups ≤ v.limit) graph held)
+          let told = told_weighs v done_here.sound look_ups (whole_tells t.graph K d t new before ps all Q R read_here done_here) in
+          subst (λ l. least_weight t.graph look_ups ≤ l) limit (subst (λ (A : Automaton). least_weight A look_ups ≤ v.limit) graph told)

@@ -27,6 +27,7 @@ use Rattle.one_pass.proofs.Faulting.{ready_later}
 use Rattle.one_pass.proofs.GraphBridge.{own_cost, turned_count}
 use Rattle.one_pass.proofs.KnownLaws.{entry_step, layer_is}
 use Rattle.one_pass.proofs.PlaceLaws.{block_at, stays_read}
+use Rattle.one_pass.proofs.Telling.{stays_tells}
 use Rattle.one_pass.proofs.Sources.{IsSteppedTo, layer_count, stepped_all, stepped_more, stepped_none, turned_first}
 
 drop_first : (xs : List ℕ) (k s : ℕ) (rest : List ℕ) → drop k xs ≡ s ∷ rest → slice_get xs k ≡ Some s
@@ -90,7 +91,7 @@ module _ {t : Tabled} {p : Pass} {n b : ℕ} (goes : GoesOn t p) where
 
   pub stay_reads : AllStayOn t (whole p.graph) b → Reads (byte_at p.at b ∷ []) t p n t (record { graph = p.graph; known = p.known; at = p.at + 1 }) n
   stay_reads stay = record {
-    read = stays_read t.graph (byte_at p.at b) (come t p n) (λ x h. let st = stay x h in (st.asked, st.itself));
+    read = stays_read t.graph (byte_at p.at b) (come t p n) (λ x h. (stays_tells t x.set b (goes.ready.given x h) (stay x h), stay x h));
     goes_on = record { ready = ready_later (p.at + 1) goes.ready (omega arith); known = goes.known };
   }
 

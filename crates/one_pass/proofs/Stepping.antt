@@ -108,13 +108,14 @@ module _ (A : Automaton) (p : ReadingPlace) (P : Progress) where
       let same = sum_map (making_of A (sets_of P) p.ask) (λ (x : Source). set_at P.table.sets x.set) P.graph.layer in
       omega (arith, same)
 
-  -- where each set of the layer was asked, what reading this place asks for is there
-  pub look_ups_held : (look_ups : List LookUp) → ((x : Source) → Has P.graph.layer x → Has look_ups (look_up P.table x.set p.ask)) → Covers look_ups (look_ups_asked A (sets_of P) (p.ask ∷ []))
-  look_ups_held look_ups holds look_up h =
+  -- what is true of the look-up of each set of the layer is true of each that reading this place asks for
+  pub each_look_up : (T : LookUp → Type 0) → ((x : Source) → Has P.graph.layer x → T (look_up P.table x.set p.ask)) →
+      (r : LookUp) → Has (look_ups_asked A (sets_of P) (p.ask ∷ [])) r → T r
+  each_look_up T each look_up h =
       let look_up_at : List ℕ → LookUp = λ set. record { set = set; ask = p.ask } in
       let s = Has-map_cases look_up_at (sets_of P) look_up (subst (λ (rs : List LookUp). Has rs look_up) (append-nil asked_look_ups) h) in
       let x = Has-map_cases (λ (x : Source). set_at P.table.sets x.set) P.graph.layer s.0 s.1 in
-      subst (Has look_ups) (ap look_up_at x.2 ∙ s.2) (holds x.0 x.1)
+      subst T (ap look_up_at x.2 ∙ s.2) (each x.0 x.1)
 
   pub met_here : Covers (sets_met A (sets_of P) (p.ask ∷ [])) (sets_on A (sets_of P) p.ask)
   met_here = on_met A (sets_of P) p.ask

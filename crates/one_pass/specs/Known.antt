@@ -9,11 +9,12 @@ use Rattle.output_graph.specs.Source.{Edges}
 use Rattle.output_graph.specs.Sound.{edges_of}
 use Rattle.one_pass.specs.declared.entries.Entries.{Entries}
 use Rattle.one_pass.specs.declared.known.Known.{Known}
-use Rattle.set_table.specs.Tabled.{HasEdges, Stays, Tabled, look_up, set_at}
+use Rattle.set_table.specs.Tabled.{HasEdges, Tabled, look_up, set_at}
 use Rattle.one_pass.specs.Entries.{entry_at}
 use Rattle.one_pass.specs.KnownSteps.{KnownStep}
 use Rattle.one_pass.specs.Passes.{AllStayOn}
 use Rattle.one_pass.specs.Seen.{whole}
+use Rattle.one_pass.specs.Weights.{Stays}
 
 -- the set of a number was asked for a byte, and these are its edges on it
 pub record IsLookUp (t : Tabled) (b s : ℕ) (group : Edges) : Type 0 where
@@ -30,7 +31,7 @@ AreLookUps t b [] (group ∷ groups) = ⊥
 AreLookUps t b (s ∷ sets) [] = ⊥
 AreLookUps t b (s ∷ sets) (group ∷ groups) = IsLookUp t b s group × AreLookUps t b sets groups
 
--- each set was asked for the byte, and has one edge on it, without marks and to itself
+-- each is the number of a set, which has one edge on the byte, without marks and to itself
 abbrev pub AreStill : Tabled → ℕ → List ℕ → Type 0
 AreStill t b sets = (s : ℕ) → Has sets s → (s < length t.sets) × Stays t s b
 

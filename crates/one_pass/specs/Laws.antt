@@ -3,14 +3,13 @@ use Rattle.std.specs.Prelude.{◌≡◌, ℕ, ◌+◌, ◌*◌, ◌<◌, ◌≤�
 use Rattle.span_core.specs.Lists.{Has}
 use Rattle.span_core.specs.Intervals.{AreApart, Covers}
 use Rattle.marked_automaton.specs.Automaton.{Automaton}
-use Rattle.automaton_reading.specs.Reading.{questions, edges, edges_K, look_ups_asked, set_of, weight_K}
+use Rattle.automaton_reading.specs.Reading.{questions, edges_K, look_ups_asked, set_of, weight_K}
 use Rattle.automaton_reading.specs.Chosen.{IsReadWith}
-use Rattle.set_table.specs.Tabled.{Tabled, look_up, set_at}
-use Rattle.output_graph.specs.Graph.{Source}
+use Rattle.set_table.specs.Tabled.{Tabled}
 use Rattle.one_pass.specs.Words.{Word}
 use Rattle.one_pass.specs.Builds.{IsNew, build, started}
-use Rattle.one_pass.specs.Places.{ReadingPlace, AreReadWords, Leads, asks, end_at, is_touched, parts_places, places, sets_after, sets_met, word_of}
-use Rattle.one_pass.specs.Passes.{Progress, Stop, sets_of, HasEnded, HasRead, HasStopped, IsExcess, IsReady, Reaches}
+use Rattle.one_pass.specs.Places.{ReadingPlace, AreReadWords, Leads, asks, byte_at, end_at, is_touched, parts_places, places, sets_after, sets_met, word_of}
+use Rattle.one_pass.specs.Passes.{AllStayOn, AreGiven, Progress, Stop, sets_of, HasEnded, HasRead, HasStopped, IsExcess, IsReady, Reaches}
 
 -- choices of edges at the places of a document make the words that are read
 abbrev pub ChoiceLaw : Type 0
@@ -39,13 +38,11 @@ StepLaw =
     (A : Automaton) (ps qs : List ReadingPlace) (P Q R : Progress) (at : ℕ) →
     HasRead A ps P Q → IsReady Q.table Q.graph at → HasRead A qs Q R → HasRead A (ps ++ qs) P R
 
--- where each set of the layer has been asked, and has one edge, without marks and to itself, the place has been read before it is
+-- where each set of the layer has one edge on the byte, without marks and to itself, the byte has been read before it is,
+-- asked or not
 abbrev pub StayLaw : Type 0
 StayLaw =
-    (A : Automaton) (p : ReadingPlace) (P : Progress) →
-    ((x : Source) → Has P.graph.layer x →
-    Has P.table.look_ups (look_up P.table x.set p.ask) × (edges A (set_at P.table.sets x.set) p.ask ≡ record { marks = 0; to = set_at P.table.sets x.set } ∷ [])) →
-    HasRead A (p ∷ []) P P
+    (P : Progress) (i b : ℕ) → AreGiven P.table P.graph → AllStayOn P.table P.graph b → HasRead P.table.graph (byte_at i b ∷ []) P P
 
 -- the whole document: the words, the steps with those of turning, and the cells
 pub record IsWholeLaw (A : Automaton) (K : ℕ → Bool) (d : List ℕ) (before : ℕ) (R : Progress) : Type 0 where

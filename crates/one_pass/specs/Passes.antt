@@ -4,12 +4,13 @@ use Rattle.std.specs.Str.{bytes_eq}
 use Rattle.span_core.specs.Lists.{Has, AreDistinct}
 use Rattle.marked_automaton.specs.Automaton.{Automaton, size}
 use Rattle.automaton_reading.specs.Reading.{LookUp, ended, once, look_up_same, look_ups_asked}
-use Rattle.set_table.specs.Tabled.{IsTabled, Stays, Tabled, look_ups_weight, set_at, sets_weight}
+use Rattle.set_table.specs.Tabled.{IsTabled, Tabled, look_ups_weight, set_at, sets_weight}
 use Rattle.one_pass.specs.Words.{Word}
 use Rattle.output_graph.specs.Graph.{Source}
 use Rattle.one_pass.specs.Layers.{GraphView, IsPast, numbers_of}
 use Rattle.one_pass.specs.Making.{making_read}
 use Rattle.one_pass.specs.Places.{ReadingPlace, Leads, asks, edges_read, end_at, sets_after, sets_met, sets_on}
+use Rattle.one_pass.specs.Weights.{Stays, Tells}
 
 -- how far a pass has come: the table, the graph, and the steps that were taken
 pub record Progress : Type 0 where
@@ -32,7 +33,7 @@ Reaches P set w = (x : Source) × Has P.graph.layer x × (set_at P.table.sets x.
 abbrev pub AreGiven : Tabled → GraphView → Type 0
 AreGiven t g = (x : Source) → Has g.layer x → x.set < length t.sets
 
--- each of them has been asked for the byte, and has one edge on it, without marks and to itself
+-- each of them has one edge on the byte, without marks and to itself
 abbrev pub AllStayOn : Tabled → GraphView → ℕ → Type 0
 AllStayOn t g b = (x : Source) → Has g.layer x → Stays t x.set b
 
@@ -73,12 +74,12 @@ Extends A ps P Q =
     (set : List ℕ) (w : Word) →
     Reaches Q set w ↔ ((from : List ℕ) × (u v : Word) × Reaches P from u × Leads A ps from v set × (u ++ v ≡ w))
 
--- the places have been read: what they ask for is there
+-- the places have been read: what they ask for is told
 pub record HasRead (A : Automaton) (ps : List ReadingPlace) (P Q : Progress) : Type 0 where
   pub words : Extends A ps P Q
   pub sets : (set : List ℕ) → Has (sets_of Q) set ↔ Has (sets_after A (sets_of P) (asks ps)) set
   pub table : HasGrown P.table Q.table (sets_met A (sets_of P) (asks ps)) (look_ups_asked A (sets_of P) (asks ps))
-  pub holds : (look_up : LookUp) → Has (look_ups_asked A (sets_of P) (asks ps)) look_up → Has Q.table.look_ups look_up
+  pub tells : (look_up : LookUp) → Has (look_ups_asked A (sets_of P) (asks ps)) look_up → Tells Q.table look_up
   -- the sizes of the layers and of the graph pay for the steps, with 6 for each edge and the automaton's size
   -- for each look-up that was made
   pub steps :

@@ -208,8 +208,8 @@ fn turn_end<L: Ledger>(
     }
 }
 
-/// The bytes that change nothing: each set of the layer has been asked for them, and has one edge on them,
-/// without marks and to itself. So the layer, its words and the table are the same after such a byte.
+/// The bytes that change nothing: each set of the layer has one edge on them, without marks and to itself. So the
+/// layer, its words and the table are the same after such a byte.
 pub fn stays_of(table: &Table<'_>, graph: &OutputGraph) -> ByteSet
     requires given { AreGiven table.now (whole graph.now) }
     requires fresh { graph.now.stepped ≡ 0 }

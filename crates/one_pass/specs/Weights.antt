@@ -1,0 +1,41 @@
+-- What a table weighs at the least that a document was read by.
+use Rattle.std.specs.Prelude.{◌≡◌, ◌⊎◌, ℕ, ◌+◌, Bool, false, not, List, [], ◌∷◌, map, nat_eq, ◌&&◌, IsTrue}
+use Rattle.std.specs.List.{filter}
+use Rattle.std.specs.Str.{bytes_eq}
+use Rattle.span_core.specs.Lists.{Has}
+use Rattle.marked_automaton.specs.Automaton.{Automaton}
+use Rattle.automaton_reading.specs.Reading.{LookUp, Question, Reach, byte_read, edges, ended, look_up_same, look_ups_read, once, rest_taken}
+use Rattle.set_table.specs.Tabled.{Tabled, look_ups_weight, set_at, sets_weight}
+
+-- the one edge of a set on a byte takes no marks and leads to the set itself
+abbrev pub Stays : Tabled → ℕ → ℕ → Type 0
+Stays t k b = edges t.graph (set_at t.sets k) (byte_read b) ≡ record { marks = 0; to = set_at t.sets k } ∷ []
+
+-- these are one edge, without marks and to the set
+abbrev pub is_one_back : List ℕ → List Reach → Bool
+is_one_back set [] = false
+is_one_back set (e ∷ []) = nat_eq e.marks 0 && bytes_eq e.to set
+is_one_back set (e ∷ f ∷ es) = false
+
+-- so are the edges of the set on what is asked, which is a byte
+abbrev pub is_asked_back : Automaton → List ℕ → Question → Bool
+is_asked_back A set (byte_read b) = is_one_back set (edges A set (byte_read b))
+is_asked_back A set rest_taken = false
+is_asked_back A set ended = false
+
+-- the look-up is of a byte on which its set stays
+abbrev pub leads_back : Automaton → LookUp → Bool
+leads_back A r = is_asked_back A r.set r.ask
+
+-- the table tells what is asked: it holds the look-up, or the set, to which the look-up leads back
+pub record Tells (t : Tabled) (r : LookUp) : Type 0 where
+  pub set : Has t.sets r.set
+  pub answer : Has t.look_ups r ⊎ IsTrue (leads_back t.graph r)
+
+-- what a table weighs at the least that a document was read by: 1 + members of each set that is reached, and
+-- 1 + edges of each look-up but those of bytes on which a set stays
+abbrev pub least_weight_K : Automaton → List ℕ → (ℕ → Bool) → ℕ
+least_weight_K A d K =
+    let look_ups = look_ups_read A d K in
+    sets_weight (once bytes_eq (map (λ (r : LookUp). r.set) look_ups))
+    + look_ups_weight A (once look_up_same (filter (λ r. not (leads_back A r)) look_ups))
