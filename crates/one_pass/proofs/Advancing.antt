@@ -10,7 +10,7 @@ use Rattle.span_core.proofs.HasLaws.{Has-take_more_cases}
 use Rattle.marked_automaton.specs.Automaton.{ByteClass}
 use Rattle.marked_automaton.proofs.Passing.{left_true, right_true}
 use Rattle.set_table.specs.declared.fault.TableFault.{TableFault}
-use Rattle.set_table.specs.Tabled.{Tabled}
+use Rattle.set_table.specs.Tabled.{Stays, Tabled}
 use Rattle.output_graph.specs.Graph.{Source}
 use Rattle.one_pass.specs.declared.pass.Pass.{Pass}
 use Rattle.one_pass.specs.declared.known.Known.{Known}
@@ -20,7 +20,6 @@ use Rattle.one_pass.specs.Layers.{no_source, source_at}
 use Rattle.one_pass.specs.Places.{ReadingPlace, byte_at, bytes_at}
 use Rattle.one_pass.specs.Passes.{AllStayOn}
 use Rattle.one_pass.specs.Seen.{whole}
-use Rattle.one_pass.specs.Weights.{Stays}
 use Rattle.one_pass.proofs.Faulting.{bytes_more, bytes_split, read_none}
 use Rattle.one_pass.proofs.Goings.{both_reads, gives_up_before, then_gives_up}
 use Rattle.one_pass.proofs.Running.{stay_reads}

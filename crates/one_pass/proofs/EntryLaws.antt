@@ -1,14 +1,16 @@
 -- Entries by classes of bytes: where there is none, more room, and one entry more.
 use Rattle.std.proofs.Common.{◌≡◌, ◌⊎◌, ℕ, zero, suc, ◌+◌, ◌-◌, ◌*◌, ◌<◌, ◌≤◌, Bool, true, false, List, ◌++◌, length, get_or, set as put, take, replicate, inl, inr, refl, sym, ap, subst, arith, ◌∙◌, if◌then◌else◌}
-use Rattle.std.specs.Prelude.{slice_index, IsTrue, ◌↔◌}
+use Rattle.std.specs.Prelude.{nat_eq, slice_index, IsTrue, ◌||◌, ◌↔◌}
 use Rattle.std.specs.Ordering.{nat_cmp}
-use Rattle.std.specs.FinSet.{contains-empty}
+use Rattle.std.specs.Cmp.{nat_cmp_total, unsigned_tied}
+use Rattle.std.specs.FinSet.{contains-empty, contains-insert, contains-union}
 use Rattle.std.specs.FinSet as bytes
-use Rattle.std.proofs.lemmas.Bool.{cases_eq, cases_lt}
+use Rattle.std.proofs.lemmas.Bool.{cases_eq, cases_lt, eq-eqb, eqb-true}
 use Rattle.std.proofs.lemmas.List.{get_or-set_same, get_or-set_other, get_or_append_left, get_or_past, get_or_read, take_all}
 use Rattle.std.proofs.lemmas.Nat.{mul-add-lt}
 use Rattle.std.proofs.Math.Seq.{get_or-append_right}
-use Rattle.set_table.proofs.StayLaws.{is_noted}
+use Rattle.marked_automaton.proofs.Listed.{same_or_not}
+use Rattle.marked_automaton.proofs.Passing.{or_left, or_right}
 use Rattle.one_pass.specs.Entered.{has_entry, place_in}
 
 abbrev Sets : Type 0
@@ -16,6 +18,42 @@ Sets = List (bytes.FinSet nat_cmp)
 
 differ : false ≡ true → ⊥
 differ e = cc
+
+-- a byte more in a set
+with_one : (s : bytes.FinSet nat_cmp) (k q : ℕ) → bytes.contains (bytes.union s (bytes.insert bytes.empty k)) q ≡ (bytes.contains s q || nat_eq q k)
+with_one s k q =
+    contains-union nat_cmp_total s (bytes.insert bytes.empty k) q
+    ∙ ap (λ v. bytes.contains s q || v) (contains-insert nat_cmp_total bytes.empty k q ∙ ((λ i. unsigned_tied q k i || contains-empty nat_cmp q i) ∙ or_false (nat_eq q k)))
+  where
+    or_false : (v : Bool) → (v || false) ≡ v
+    or_false true = refl
+    or_false false = refl
+
+-- what is noted of it
+is_noted : (old new : List (bytes.FinSet nat_cmp)) (set byte : ℕ) (s : bytes.FinSet nat_cmp) → set < length old → s ≡ get_or old set s → new ≡ put old set (bytes.union s (bytes.insert bytes.empty byte)) →
+    (k b : ℕ) → IsTrue (bytes.contains (get_or new k bytes.empty) b) ↔ (IsTrue (bytes.contains (get_or old k bytes.empty) b) ⊎ ((k ≡ set) × (byte ≡ b)))
+is_noted old new set byte s within read is k b = go (same_or_not k set)
+  where
+    go : (k ≡ set) ⊎ (k ≡ set → ⊥) → IsTrue (bytes.contains (get_or new k bytes.empty) b) ↔ (IsTrue (bytes.contains (get_or old k bytes.empty) b) ⊎ ((k ≡ set) × (byte ≡ b)))
+    go (inl e) =
+        let here : get_or new k bytes.empty ≡ bytes.union s (bytes.insert bytes.empty byte) = ap (λ v. get_or new v bytes.empty) e ∙ (ap (λ v. get_or v set bytes.empty) is ∙ get_or-set_same old set (bytes.union s (bytes.insert bytes.empty byte)) bytes.empty within) in
+        let before : s ≡ get_or old k bytes.empty = get_or_read old set s within read bytes.empty ∙ ap (λ v. get_or old v bytes.empty) (sym e) in
+        let told : bytes.contains (get_or new k bytes.empty) b ≡ (bytes.contains (get_or old k bytes.empty) b || nat_eq b byte) = ap (λ v. bytes.contains v b) here ∙ (with_one s byte b ∙ ap (λ v. bytes.contains v b || nat_eq b byte) before) in (
+          (λ t. split (bytes.contains (get_or old k bytes.empty) b) refl (sym told ∙ t)),
+          (λ h. told ∙ elim h as (λ _. (bytes.contains (get_or old k bytes.empty) b || nat_eq b byte) ≡ true) [
+            | inl f ↦ or_left (bytes.contains (get_or old k bytes.empty) b) (nat_eq b byte) f
+            | inr f ↦ or_right (bytes.contains (get_or old k bytes.empty) b) (nat_eq b byte) (eq-eqb b byte (sym f.1))
+          ]),
+        )
+      where
+        split : (v : Bool) → bytes.contains (get_or old k bytes.empty) b ≡ v → (v || nat_eq b byte) ≡ true → IsTrue (bytes.contains (get_or old k bytes.empty) b) ⊎ ((k ≡ set) × (byte ≡ b))
+        split true f t = inl f
+        split false f t = inr (e, sym (eqb-true b byte t))
+    go (inr other) =
+        let same : get_or new k bytes.empty ≡ get_or old k bytes.empty = ap (λ v. get_or v k bytes.empty) is ∙ get_or-set_other old set k (bytes.union s (bytes.insert bytes.empty byte)) bytes.empty other in (
+          (λ t. inl (sym (ap (λ v. bytes.contains v b) same) ∙ t)),
+          (λ h. elim h as (λ _. bytes.contains (get_or new k bytes.empty) b ≡ true) [ inl f ↦ ap (λ v. bytes.contains v b) same ∙ f | inr f ↦ absurd (other f.0) ]),
+        )
 
 -- past the layers there is none
 pub none_past : (asked : Sets) (k b : ℕ) → length asked ≤ k → has_entry asked k b ≡ false

@@ -17,14 +17,13 @@ use Rattle.output_graph.specs.Source.{Edges}
 use Rattle.output_graph.proofs.HeldLaws.{take_next}
 use Rattle.one_pass.specs.declared.entries.Entries.{Entries}
 use Rattle.one_pass.specs.KnownSteps.{KnownStep}
-use Rattle.set_table.specs.Tabled.{HasEdges, Tabled, edge_named, look_up, set_at, with_set}
+use Rattle.set_table.specs.Tabled.{HasEdges, Stays, Tabled, edge_named, look_up, set_at, with_set}
 use Rattle.set_table.proofs.NamingLaws.{named_stay}
 use Rattle.one_pass.specs.Entered.{has_entry, place_in}
 use Rattle.one_pass.specs.Entries.{entry_at}
 use Rattle.one_pass.proofs.EntryLaws.{within_asked}
 use Rattle.one_pass.specs.Known.{AreAlike, AreLookUps, AreStill, IsAlike, IsEntry, IsKnown, IsLookUp, IsStepOf, layer_at}
 use Rattle.one_pass.specs.Passes.{HasGrown}
-use Rattle.one_pass.specs.Weights.{Stays}
 
 -- ---- a table that grows
 

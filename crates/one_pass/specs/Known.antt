@@ -9,12 +9,11 @@ use Rattle.output_graph.specs.Source.{Edges}
 use Rattle.output_graph.specs.Sound.{edges_of}
 use Rattle.one_pass.specs.declared.entries.Entries.{Entries}
 use Rattle.one_pass.specs.declared.known.Known.{Known}
-use Rattle.set_table.specs.Tabled.{HasEdges, Tabled, look_up, set_at}
+use Rattle.set_table.specs.Tabled.{HasEdges, Stays, Tabled, look_up, set_at}
 use Rattle.one_pass.specs.Entries.{entry_at}
 use Rattle.one_pass.specs.KnownSteps.{KnownStep}
 use Rattle.one_pass.specs.Passes.{AllStayOn}
 use Rattle.one_pass.specs.Seen.{whole}
-use Rattle.one_pass.specs.Weights.{Stays}
 
 -- the set of a number was asked for a byte, and these are its edges on it
 pub record IsLookUp (t : Tabled) (b s : ℕ) (group : Edges) : Type 0 where

@@ -4,13 +4,13 @@ use Rattle.std.specs.Str.{bytes_eq}
 use Rattle.span_core.specs.Lists.{Has, AreDistinct}
 use Rattle.marked_automaton.specs.Automaton.{Automaton, size}
 use Rattle.automaton_reading.specs.Reading.{LookUp, ended, once, look_up_same, look_ups_asked}
-use Rattle.set_table.specs.Tabled.{IsTabled, Tabled, look_ups_weight, set_at, sets_weight}
+use Rattle.set_table.specs.Tabled.{IsTabled, Stays, Tabled, look_ups_weight, set_at, sets_weight}
 use Rattle.one_pass.specs.Words.{Word}
 use Rattle.output_graph.specs.Graph.{Source}
 use Rattle.one_pass.specs.Layers.{GraphView, IsPast, numbers_of}
 use Rattle.one_pass.specs.Making.{making_read}
 use Rattle.one_pass.specs.Places.{ReadingPlace, Leads, asks, edges_read, end_at, sets_after, sets_met, sets_on}
-use Rattle.one_pass.specs.Weights.{Stays, Tells}
+use Rattle.one_pass.specs.Weights.{Tells}
 
 -- how far a pass has come: the table, the graph, and the steps that were taken
 pub record Progress : Type 0 where

@@ -1,15 +1,11 @@
 -- What a table weighs at the least that a document was read by.
-use Rattle.std.specs.Prelude.{◌≡◌, ◌⊎◌, ℕ, ◌+◌, Bool, false, not, List, [], ◌∷◌, map, nat_eq, ◌&&◌, IsTrue}
+use Rattle.std.specs.Prelude.{◌⊎◌, ℕ, ◌+◌, Bool, false, not, List, [], ◌∷◌, map, nat_eq, ◌&&◌, IsTrue}
 use Rattle.std.specs.List.{filter}
 use Rattle.std.specs.Str.{bytes_eq}
 use Rattle.span_core.specs.Lists.{Has}
 use Rattle.marked_automaton.specs.Automaton.{Automaton}
 use Rattle.automaton_reading.specs.Reading.{LookUp, Question, Reach, byte_read, edges, ended, look_up_same, look_ups_read, once, rest_taken}
-use Rattle.set_table.specs.Tabled.{Tabled, look_ups_weight, set_at, sets_weight}
-
--- the one edge of a set on a byte takes no marks and leads to the set itself
-abbrev pub Stays : Tabled → ℕ → ℕ → Type 0
-Stays t k b = edges t.graph (set_at t.sets k) (byte_read b) ≡ record { marks = 0; to = set_at t.sets k } ∷ []
+use Rattle.set_table.specs.Tabled.{Tabled, look_ups_weight, sets_weight}
 
 -- these are one edge, without marks and to the set
 abbrev pub is_one_back : List ℕ → List Reach → Bool

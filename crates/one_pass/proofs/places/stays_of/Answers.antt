@@ -22,7 +22,7 @@ loop-k-preserved c b small h =
     let within : c.loop-k.k < length c.args.graph.now.layer = omega arith in
     let s = whole_set c.args.graph.now c.requires.fresh c.loop-k.k c.set_at-set.result within c.set_at-set.ensures in
     stay_more c.args.table.now (sources c.args.graph.now) c.loop-k.k c.loop-k.stays c.stays.result s.0 c.set_at-set.result s.1
-    c.loop-k.invariant (λ q less has. ((c.stays.ensures q).0 has).itself) b small (subst (λ s. IsTrue (bytes.contains s b)) c.meet-stays.ensures h)
+    c.loop-k.invariant (λ q less has. ((c.stays.ensures q).0 has).1) b small (subst (λ s. IsTrue (bytes.contains s b)) c.meet-stays.ensures h)
 
 pub returns : goal.returns
 returns c b small h x there =

@@ -3,7 +3,7 @@ use Rattle.std.specs.Prelude.{IsTrue}
 use Rattle.std.specs.FinSet as bytes
 use Rattle.span_core.specs.Lists.{Has}
 use Rattle.output_graph.specs.Graph.{Source, sources}
-use Rattle.one_pass.specs.Weights.{Stays}
+use Rattle.set_table.specs.Tabled.{Stays}
 use Rattle.one_pass.proofs.places.stays_of.Given as goal
 
 -- the sets so far stay on them
