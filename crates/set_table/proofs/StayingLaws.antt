@@ -20,7 +20,7 @@ use Rattle.marked_automaton.proofs.Passing.{filter_cases, has_filter, has_flat_m
 use Rattle.automaton_reading.specs.Reading.{Reach, is_among, set_of, ways_taken, reach_with, blocks_down}
 use Rattle.automaton_reading.proofs.Determined.{among_has, has_among, edge_way, way_edge, has_block}
 use Rattle.set_table.specs.declared.staying.Leading.{Leading}
-use Rattle.set_table.specs.Staying.{AreGathered, IsInside, LeadsElsewhere, LeadsTo}
+use Rattle.set_table.specs.Staying.{AreGathered, GoesElsewhere, GoesTo, IsInside, LeadsBackOn}
 use Rattle.set_table.specs.Tabled.{StaysOn}
 use Rattle.set_table.proofs.Ascending.{blocks_are, set_is}
 
@@ -63,32 +63,32 @@ inside_or members y = go (nat_eq y.marks 0) refl (is_among members y.to) refl
 -- ---- a way more
 
 module _ (members : List ℕ) (ways : List Way) (y : Way) where
-  to_more : (q b : ℕ) → LeadsTo (ways ++ y ∷ []) q b → LeadsTo ways q b ⊎ (IsTrue (bytes.contains y.bytes b) × (y.marks ≡ 0) × (y.to ≡ q))
+  to_more : (q b : ℕ) → GoesTo (ways ++ y ∷ []) q b → GoesTo ways q b ⊎ (IsTrue (bytes.contains y.bytes b) × (y.marks ≡ 0) × (y.to ≡ q))
   to_more q b h = by (Has-append_cases ways (y ∷ []) h.0 h.1)
     where
-      by : Has ways h.0 ⊎ Has (y ∷ []) h.0 → LeadsTo ways q b ⊎ (IsTrue (bytes.contains y.bytes b) × (y.marks ≡ 0) × (y.to ≡ q))
+      by : Has ways h.0 ⊎ Has (y ∷ []) h.0 → GoesTo ways q b ⊎ (IsTrue (bytes.contains y.bytes b) × (y.marks ≡ 0) × (y.to ≡ q))
       by (inl m) = inl (h.0, m, h.2, h.3, h.4)
       by (inr (inl e)) = inr (subst (λ (z : Way). IsTrue (bytes.contains z.bytes b)) (sym e) h.2, ap (λ (z : Way). z.marks) e ∙ h.3, ap (λ (z : Way). z.to) e ∙ h.4)
       by (inr (inr m)) = absurd m
 
-  to_before : (q b : ℕ) → LeadsTo ways q b → LeadsTo (ways ++ y ∷ []) q b
+  to_before : (q b : ℕ) → GoesTo ways q b → GoesTo (ways ++ y ∷ []) q b
   to_before q b h = (h.0, Has-append_left ways (y ∷ []) h.0 h.1, h.2, h.3, h.4)
 
-  to_here : (q b : ℕ) → IsTrue (bytes.contains y.bytes b) → y.marks ≡ 0 → y.to ≡ q → LeadsTo (ways ++ y ∷ []) q b
+  to_here : (q b : ℕ) → IsTrue (bytes.contains y.bytes b) → y.marks ≡ 0 → y.to ≡ q → GoesTo (ways ++ y ∷ []) q b
   to_here q b byte marks to = (y, Has-append_right ways (y ∷ []) y (inl refl), byte, marks, to)
 
-  else_more : (b : ℕ) → LeadsElsewhere (ways ++ y ∷ []) members b → LeadsElsewhere ways members b ⊎ (IsTrue (bytes.contains y.bytes b) × (IsInside members y → ⊥))
+  else_more : (b : ℕ) → GoesElsewhere (ways ++ y ∷ []) members b → GoesElsewhere ways members b ⊎ (IsTrue (bytes.contains y.bytes b) × (IsInside members y → ⊥))
   else_more b h = by (Has-append_cases ways (y ∷ []) h.0 h.1)
     where
-      by : Has ways h.0 ⊎ Has (y ∷ []) h.0 → LeadsElsewhere ways members b ⊎ (IsTrue (bytes.contains y.bytes b) × (IsInside members y → ⊥))
+      by : Has ways h.0 ⊎ Has (y ∷ []) h.0 → GoesElsewhere ways members b ⊎ (IsTrue (bytes.contains y.bytes b) × (IsInside members y → ⊥))
       by (inl m) = inl (h.0, m, h.2, h.3)
       by (inr (inl e)) = inr (subst (λ (z : Way). IsTrue (bytes.contains z.bytes b)) (sym e) h.2, subst (λ (z : Way). IsInside members z → ⊥) (sym e) h.3)
       by (inr (inr m)) = absurd m
 
-  else_before : (b : ℕ) → LeadsElsewhere ways members b → LeadsElsewhere (ways ++ y ∷ []) members b
+  else_before : (b : ℕ) → GoesElsewhere ways members b → GoesElsewhere (ways ++ y ∷ []) members b
   else_before b h = (h.0, Has-append_left ways (y ∷ []) h.0 h.1, h.2, h.3)
 
-  else_here : (b : ℕ) → IsTrue (bytes.contains y.bytes b) → (IsInside members y → ⊥) → LeadsElsewhere (ways ++ y ∷ []) members b
+  else_here : (b : ℕ) → IsTrue (bytes.contains y.bytes b) → (IsInside members y → ⊥) → GoesElsewhere (ways ++ y ∷ []) members b
   else_here b byte out = (y, Has-append_right ways (y ∷ []) y (inl refl), byte, out)
 
 in_union : (s t : bytes.FinSet nat_cmp) (b : ℕ) → IsTrue (bytes.contains (bytes.union s t) b) ↔ (IsTrue (bytes.contains s b) ⊎ IsTrue (bytes.contains t b))
@@ -123,13 +123,13 @@ gathered_at members y old new k s u up within at marks read union is same_else s
     within_old : k < length old.to_members.items
     within_old = omega (arith, within, g.count)
 
-    each : (j b : ℕ) → j < length members → (j ≡ k) ⊎ (j ≡ k → ⊥) → IsTrue (bytes.contains (get_or new.to_members.items j bytes.empty) b) ↔ LeadsTo (ways ++ y ∷ []) (get_or members j 0) b
+    each : (j b : ℕ) → j < length members → (j ≡ k) ⊎ (j ≡ k → ⊥) → IsTrue (bytes.contains (get_or new.to_members.items j bytes.empty) b) ↔ GoesTo (ways ++ y ∷ []) (get_or members j 0) b
     each j b l (inl e) =
         let here : get_or new.to_members.items j bytes.empty ≡ bytes.union s y.bytes =
         ap (λ v. get_or new.to_members.items v bytes.empty) e ∙ (ap (λ v. get_or v k bytes.empty) is ∙ (get_or-set_same old.to_members.items k u bytes.empty within_old ∙ union)) in
         let before : get_or old.to_members.items j bytes.empty ≡ s = ap (λ v. get_or old.to_members.items v bytes.empty) e ∙ sym (get_or_read old.to_members.items k s within_old read bytes.empty) in
         let to : y.to ≡ get_or members j 0 = sym at ∙ ap (λ v. get_or members v 0) (sym e) in (
-          (λ t. elim ((in_union s y.bytes b).0 (sym (ap (λ v. bytes.contains v b) here) ∙ t)) as (λ _. LeadsTo (ways ++ y ∷ []) (get_or members j 0) b) [
+          (λ t. elim ((in_union s y.bytes b).0 (sym (ap (λ v. bytes.contains v b) here) ∙ t)) as (λ _. GoesTo (ways ++ y ∷ []) (get_or members j 0) b) [
             | inl f ↦ to_before members ways y (get_or members j 0) b ((g.to_members j b l).0 (ap (λ v. bytes.contains v b) before ∙ f))
             | inr f ↦ to_here members ways y (get_or members j 0) b f marks to
           ]),
@@ -161,7 +161,7 @@ gathered_elsewhere members y old new out is union ways g = record {
         ]),
       );
   elsewhere = λ b. (
-    (λ t. elim ((in_union old.elsewhere y.bytes b).0 (sym (ap (λ v. bytes.contains v b) union) ∙ t)) as (λ _. LeadsElsewhere (ways ++ y ∷ []) members b) [
+    (λ t. elim ((in_union old.elsewhere y.bytes b).0 (sym (ap (λ v. bytes.contains v b) union) ∙ t)) as (λ _. GoesElsewhere (ways ++ y ∷ []) members b) [
       | inl f ↦ else_before members ways y b ((g.elsewhere b).0 f)
       | inr f ↦ else_here members ways y b f out
     ]),
@@ -212,18 +212,18 @@ module _ (A : Automaton) (members : List ℕ) (ways : List Way) (x : Leading) (u
       let r = (are y).0 h in
       has_filter (λ z. is_among members z.from && bytes.contains z.bytes b) A.ways y r.0 (both_true (is_among members y.from) (bytes.contains y.bytes b) (has_among members y.from r.1) byte)
 
-  pub gathered_stays : ((k : ℕ) → k < length x.to_members.items → IsTrue (bytes.contains (get_or x.to_members.items k bytes.empty) b)) → (IsTrue (bytes.contains x.elsewhere b) → ⊥) → StaysOn A members b
-  gathered_stays all nowhere = ap (map (reach_with taken)) (sym no_marks) ∙ ap (λ (s : List ℕ). let r : Reach = record { marks = 0; to = s } in r ∷ []) (sym to_members)
+  pub gathered_stays : LeadsBackOn x b → StaysOn A members b
+  gathered_stays back_on = ap (map (reach_with taken)) (sym no_marks) ∙ ap (λ (s : List ℕ). let r : Reach = record { marks = 0; to = s } in r ∷ []) (sym to_members)
     where
       inside : (y : Way) → Has taken y → IsInside members y
       inside y h =
           let w = taken_way y h in
-          elim (inside_or members y) as (λ _. IsInside members y) [ inl i ↦ i | inr out ↦ absurd (nowhere ((g.elsewhere b).1 (y, w.0, w.1, out))) ]
+          elim (inside_or members y) as (λ _. IsInside members y) [ inl i ↦ i | inr out ↦ absurd (back_on.nowhere_else ((g.elsewhere b).1 (y, w.0, w.1, out))) ]
 
       led : (q : ℕ) → Has members q → (y : Way) × Has taken y × (y.marks ≡ 0) × (y.to ≡ q)
       led q h =
           let k = some_place members q h in
-          let y = (g.to_members k.0 b k.1).0 (all k.0 (omega (arith, k.1, g.count))) in
+          let y = (g.to_members k.0 b k.1).0 (back_on.to_each k.0 (omega (arith, k.1, g.count))) in
           (y.0, way_taken y.0 y.1 y.2, y.3, y.4 ∙ k.2)
 
       no_marks : 0 ∷ [] ≡ blocks_down (map (λ (y : Way). y.marks) taken)
@@ -250,8 +250,8 @@ module _ (A : Automaton) (members : List ℕ) (ways : List Way) (x : Leading) (u
           let y = Has-map_cases (λ (y : Way). y.to) unmarked q h in
           subst (Has members) y.2 (inside y.0 (filter_cases (λ (y : Way). nat_eq y.marks 0) taken y.0 y.1).0).1)
 
-  pub stays_gathered : StaysOn A members b → ((k : ℕ) → k < length x.to_members.items → IsTrue (bytes.contains (get_or x.to_members.items k bytes.empty) b)) × (IsTrue (bytes.contains x.elsewhere b) → ⊥)
-  stays_gathered h = (all, nowhere)
+  pub stays_gathered : StaysOn A members b → LeadsBackOn x b
+  stays_gathered h = record { to_each = all; nowhere_else = nowhere }
     where
       only : (e : Reach) → Has (back ∷ []) e → back ≡ e
       only e (inl f) = f
@@ -358,7 +358,7 @@ met_more xs n x s t l read meet h b = (there, back)
     back : IsTrue (bytes.contains (get_or xs 0 bytes.empty) b) × ((k : ℕ) → k < n + 1 → IsTrue (bytes.contains (get_or xs k bytes.empty) b)) → IsTrue (bytes.contains t b)
     back g = both ∙ both_true (bytes.contains s b) (bytes.contains x b) ((h b).1 (g.0, λ k m. g.1 k (omega (arith, m)))) (ap (λ v. bytes.contains v b) here ∙ g.1 n (omega (arith)))
 
--- what is left of it without another set
+-- what is left of a set without another
 pub in_difference : (s e t : bytes.FinSet nat_cmp) (b : ℕ) → t ≡ bytes.difference s e → IsTrue (bytes.contains t b) ↔ (IsTrue (bytes.contains s b) × (IsTrue (bytes.contains e b) → ⊥))
 in_difference s e t b is = (
   (λ h. let j = sym told ∙ h in (left_true (bytes.contains s b) (not (bytes.contains e b)) j, λ f. differ (ap not (sym f) ∙ right_true (bytes.contains s b) (not (bytes.contains e b)) j))),
@@ -375,6 +375,14 @@ in_difference s e t b is = (
     by true f n = absurd (n f)
     by false f n = refl
 
+-- and what is left of all of them without another set
+pub met_told : (x : Leading) (n : ℕ) (s t : bytes.FinSet nat_cmp) → 0 < length x.to_members.items → n ≡ length x.to_members.items → AreMet x.to_members.items n s → t ≡ bytes.difference s x.elsewhere →
+    (b : ℕ) → IsTrue (bytes.contains t b) ↔ LeadsBackOn x b
+met_told x n s t some all met is b = (
+  (λ h. let r = (in_difference s x.elsewhere t b is).0 h in record { to_each = λ k l. ((met b).0 r.0).1 k (omega (arith, l, all)); nowhere_else = r.1 }),
+  (λ h. (in_difference s x.elsewhere t b is).1 ((met b).1 (h.to_each 0 some, λ k l. h.to_each k (omega (arith, l, all))), h.nowhere_else)),
+)
+
 -- of no members nothing is told, and of some what is gathered
 pub stays_nowhere : (A : Automaton) (members : List ℕ) (s : bytes.FinSet nat_cmp) → length members ≡ 0 → s ≡ bytes.empty → (b : ℕ) → IsTrue (bytes.contains s b) ↔ StaysOn A members b
 stays_nowhere A [] s none is b = ((λ t. absurd (differ (sym (ap (λ v. bytes.contains v b) is ∙ contains-empty nat_cmp b) ∙ t))), (λ h. absurd (none_stays A b h)))
@@ -385,11 +393,8 @@ stays_nowhere A (p ∷ members) s none is b = absurd (omega (arith, none))
 
 pub stays_told : (A : Automaton) (members : List ℕ) (ways : List Way) (x : Leading) (s : bytes.FinSet nat_cmp) → IsInOrder ◌<◌ members → 0 < length members → AreGathered members ways x →
     ((y : Way) → Has ways y ↔ (Has A.ways y × Has members y.from)) →
-    ((b : ℕ) → IsTrue (bytes.contains s b) → (k : ℕ) → k < length x.to_members.items → IsTrue (bytes.contains (get_or x.to_members.items k bytes.empty) b)) →
-    ((b : ℕ) → IsTrue (bytes.contains s b) → IsTrue (bytes.contains x.elsewhere b) → ⊥) →
-    ((b : ℕ) → ((k : ℕ) → k < length x.to_members.items → IsTrue (bytes.contains (get_or x.to_members.items k bytes.empty) b)) → (IsTrue (bytes.contains x.elsewhere b) → ⊥) → IsTrue (bytes.contains s b)) →
-    (b : ℕ) → IsTrue (bytes.contains s b) ↔ StaysOn A members b
-stays_told A members ways x s up some g are there only all b = (
-  (λ t. gathered_stays A members ways x up some g are b (there b t) (only b t)),
-  (λ h. let r = stays_gathered A members ways x up some g are b h in all b r.0 r.1),
+    ((b : ℕ) → IsTrue (bytes.contains s b) ↔ LeadsBackOn x b) → (b : ℕ) → IsTrue (bytes.contains s b) ↔ StaysOn A members b
+stays_told A members ways x s up some g are told b = (
+  (λ t. gathered_stays A members ways x up some g are b ((told b).0 t)),
+  (λ h. (told b).1 (stays_gathered A members ways x up some g are b h)),
 )

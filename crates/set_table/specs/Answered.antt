@@ -109,6 +109,10 @@ IsNoted A sets es x old new =
     ((c : ℕ) × (x.question ≡ Byte c) × LeadsBack es x × ((b : ℕ) → IsTrue (bytes.contains new b) ↔ StaysOn A (set_at sets x.set) b))
     ⊎ ((new ≡ old) × ((b : ℕ) → x.question ≡ Byte b → LeadsBack es x → IsTrue (bytes.contains old b)))
 
+-- and that of what is held
+abbrev pub IsNotedIn : Automaton → Store → Answer → bytes.FinSet nat_cmp → Type 0
+IsNotedIn A s x new = IsNoted A s.lists.sets s.lists.edges.items x (slice_index_or s.stays.items x.set bytes.empty) new
+
 -- what is true inside of a table
 pub record IsSound (M : Marked) (limit w : ℕ) (s : Store) : Type 0 where
   pub marked : IsMarked M

@@ -6,19 +6,24 @@ use Rattle.marked_automaton.specs.declared.way.Way.{Way}
 use Rattle.set_table.specs.declared.staying.Leading.{Leading}
 
 -- one of these ways takes the byte and no marks, and leads to the state
-abbrev pub LeadsTo : List Way → ℕ → ℕ → Type 0
-LeadsTo ways q b = (y : Way) × Has ways y × IsTrue (bytes.contains y.bytes b) × (y.marks ≡ 0) × (y.to ≡ q)
+abbrev pub GoesTo : List Way → ℕ → ℕ → Type 0
+GoesTo ways q b = (y : Way) × Has ways y × IsTrue (bytes.contains y.bytes b) × (y.marks ≡ 0) × (y.to ≡ q)
 
 -- a way without marks that leads to one of these states
 abbrev pub IsInside : List ℕ → Way → Type 0
 IsInside members y = (y.marks ≡ 0) × Has members y.to
 
 -- one of these ways takes the byte, and is none of those
-abbrev pub LeadsElsewhere : List Way → List ℕ → ℕ → Type 0
-LeadsElsewhere ways members b = (y : Way) × Has ways y × IsTrue (bytes.contains y.bytes b) × ¬ IsInside members y
+abbrev pub GoesElsewhere : List Way → List ℕ → ℕ → Type 0
+GoesElsewhere ways members b = (y : Way) × Has ways y × IsTrue (bytes.contains y.bytes b) × ¬ IsInside members y
+
+-- the byte leads to each member, and nowhere else
+pub record LeadsBackOn (x : Leading) (b : ℕ) : Type 0 where
+  pub to_each : (k : ℕ) → k < length x.to_members.items → IsTrue (bytes.contains (slice_index_or x.to_members.items k bytes.empty) b)
+  pub nowhere_else : ¬ IsTrue (bytes.contains x.elsewhere b)
 
 -- gathered from these ways: for each member the bytes that lead to it, and those that lead elsewhere
 pub record AreGathered (members : List ℕ) (ways : List Way) (x : Leading) : Type 0 where
   pub count : length x.to_members.items ≡ length members
-  pub to_members : (k b : ℕ) → k < length members → IsTrue (bytes.contains (slice_index_or x.to_members.items k bytes.empty) b) ↔ LeadsTo ways (slice_index_or members k 0) b
-  pub elsewhere : (b : ℕ) → IsTrue (bytes.contains x.elsewhere b) ↔ LeadsElsewhere ways members b
+  pub to_members : (k b : ℕ) → k < length members → IsTrue (bytes.contains (slice_index_or x.to_members.items k bytes.empty) b) ↔ GoesTo ways (slice_index_or members k 0) b
+  pub elsewhere : (b : ℕ) → IsTrue (bytes.contains x.elsewhere b) ↔ GoesElsewhere ways members b

@@ -10,7 +10,7 @@ ghost use Rattle.marked_automaton.specs.declared.way.Way.{Way as WayOf};
 ghost use Rattle.std.specs.List.{filter, flat_map};
 ghost use Rattle.automaton_reading.specs.Reading.{is_among};
 ghost use Rattle.marked_automaton.specs.Automaton.{ways_from};
-ghost use Rattle.set_table.specs.Staying.{AreGathered, IsInside};
+ghost use Rattle.set_table.specs.Staying.{AreGathered, IsInside, LeadsBackOn};
 ghost use Rattle.set_table.specs.Tabled.{StaysOn};
 
 use crate::reaching::has_state;
@@ -118,9 +118,7 @@ impl Leading {
     /// The bytes that lead to each member, and nowhere else.
     fn stays(&self) -> ByteSet
         requires { 0 < length self.now.to_members.items }
-        ensures there { (b : ℕ) → IsTrue (bytes.contains result b) → (k : ℕ) → k < length self.now.to_members.items → IsTrue (bytes.contains (slice_index_or self.now.to_members.items k bytes.empty) b) }
-        ensures only { (b : ℕ) → IsTrue (bytes.contains result b) → ¬ IsTrue (bytes.contains self.now.elsewhere b) }
-        ensures all { (b : ℕ) → ((k : ℕ) → k < length self.now.to_members.items → IsTrue (bytes.contains (slice_index_or self.now.to_members.items k bytes.empty) b)) → ¬ IsTrue (bytes.contains self.now.elsewhere b) → IsTrue (bytes.contains result b) }
+        ensures { (b : ℕ) → IsTrue (bytes.contains result b) ↔ LeadsBackOn self.now b }
     {
         let mut stays = self.to_members[0];
         for bytes in self.to_members.as_slice() {

@@ -5,7 +5,7 @@
 //! notes all bytes on which it stays.
 ghost use Rattle.std.specs.Prelude.{◌≡◌, ℕ, ◌+◌, ◌*◌, ◌^◌, ◌<◌, ◌≤◌, ◌++◌, ◌∷◌, List, [], length, take, slice_set, slice_index_or, ◌↔◌, ◌⊎◌, IsTrue, OnOk, OnErr, IfOk, IfErr};
 ghost use Rattle.std.specs.FinSet as bytes;
-ghost use Rattle.set_table.specs.Answered.{AreLonger, IsNotAsked, IsNoted, IsQuestion, IsSound, question_of, part, place_in, tabled, with_places};
+ghost use Rattle.set_table.specs.Answered.{AreLonger, IsNotAsked, IsNotedIn, IsQuestion, IsSound, question_of, part, place_in, tabled, with_places};
 ghost use Rattle.set_table.specs.Named.{IsLongerBy};
 ghost use Rattle.span_core.specs.Lists.{IsInOrder};
 ghost use Rattle.set_table.specs.Tabled.{IsRefusal, asked_first, look_up, one_edge, set_at};
@@ -140,7 +140,7 @@ impl Store {
         requires stays { length self.now.stays.items ≡ length self.now.lists.sets }
         requires question { IsQuestion answer.question }
         requires within { answer.question ≡ TableQuestion.Ends ⊎ (answer.first + answer.count ≤ length self.now.lists.edges.items) }
-        ensures { IfOk result (IsNoted automaton.now.graph self.now.lists.sets self.now.lists.edges.items answer (slice_index_or self.now.stays.items answer.set bytes.empty)) }
+        ensures { IfOk result (IsNotedIn automaton.now.graph self.now answer) }
     {
         let noted = self.stays[answer.set as usize];
         let TableQuestion::Byte(byte) = answer.question else {

@@ -9,7 +9,7 @@
 //!
 //! Then it checks what is made of pairs of automata, the positions that atoms touch, what is read of formulas, the sets
 //! of the names of properties, and that what finds no room is refused; reads a document that nothing matches, of which
-//! one cell alone is kept, and one of equal lines, of which few bytes are read set by set; and tells the sizes with which some large queries are compiled or refused.
+//! one cell alone is kept, and two of equal lines, of which few bytes are read set by set; and tells the sizes with which some large queries are compiled or refused.
 //!
 //! That all this is so is proved of the crates. What a run shows is what no contract says: that the calls succeed on
 //! such inputs, and are refused at the limits.
@@ -51,7 +51,7 @@ use idle::cells_after;
 use main_tests::program_tests;
 use pairs::check_pair;
 use properties::{PROPERTIES, agrees};
-use repeated::kept_of_letters;
+use repeated::{kept_of_digits, kept_of_letters};
 use room::all_are_refused;
 use sizes::{counted_of_text, size_of_text};
 use span_core::{Name, OutOfMemory};
@@ -230,6 +230,10 @@ fn check_memory(rt: &HostRuntime) -> io::Result<Ending> {
     match kept_of_letters(rt.alloc()) {
         Ok(kept) => println!(rt; "programs {} read set by set {}", kept.programs, kept.anew)?,
         Err(fault) => return ended_by(rt, "programs", &fault),
+    }
+    match kept_of_digits(rt.alloc()) {
+        Ok(kept) => println!(rt; "of digits {} read set by set {}", kept.programs, kept.anew)?,
+        Err(fault) => return ended_by(rt, "of digits", &fault),
     }
     Ok(Ending::Agrees)
 }

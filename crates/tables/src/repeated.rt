@@ -1,5 +1,5 @@
 //! A document of one line over and over, of whose bytes few are read set by set.
-ghost use Rattle.std.specs.Prelude.{◌≡◌, ◌<◌};
+ghost use Rattle.std.specs.Prelude.{◌≡◌, ◌<◌, ◌≤◌, length};
 
 use crate::fault::Fault;
 use one_pass::Pass;
@@ -33,20 +33,42 @@ pub(crate) struct Kept {
 /// letter, behind the first, and behind two, which stays; each does the same on all letters, and has one program. Each
 /// letter is read set by set once in the last of them, and two before.
 pub(crate) fn kept_of_letters(alloc: Global) -> Result<Kept, Fault> {
-    kept_of::<Brand>(alloc, Blank::new(1))
+    kept_of::<Brand>(
+        alloc,
+        Blank::new(1),
+        b"/!x{[a-z]}/",
+        b"abcdefghijklmnopqrstuvwxyz",
+    )
 }
 
-fn kept_of<L: Ledger>(alloc: Global, blank: Blank) -> Result<Kept, Fault>
+/// What is kept of 32 digits 0 and one of each other digit, 1,000 times, where letters are looked for: the digit 0 alone is
+/// read set by set, since no set moves on the others.
+pub(crate) fn kept_of_digits(alloc: Global) -> Result<Kept, Fault> {
+    kept_of::<Brand>(
+        alloc,
+        Blank::new(1),
+        b"/!x{[a-z]}/",
+        b"00000000000000000000000000000000123456789",
+    )
+}
+
+fn kept_of<L: Ledger>(
+    alloc: Global,
+    blank: Blank,
+    query: &[u8],
+    line: &[u8],
+) -> Result<Kept, Fault>
     requires name { blank.name ≡ L.name }
     requires parts { blank.parts ≡ L.parts }
     requires some { 0 < L.parts }
+    requires few { length line.now ≤ 64 }
 {
     let mut steps = Steps::<L>::new(blank);
-    let query = read_query(alloc, b"/!x{[a-z]}/")?;
+    let query = read_query(alloc, query)?;
     let compiled = compile(alloc, &query)?;
     let mut document = Vec::new(alloc);
     for _ in 0..LINES {
-        document.extend_from_slice(b"abcdefghijklmnopqrstuvwxyz")?;
+        document.extend_from_slice(line)?;
     }
     let mut table = Table::new(alloc, compiled.automaton(), LIMIT, &mut steps)?;
     let mut pass = Pass::begin(alloc, WORDS, &table, &mut steps)?;

@@ -20,10 +20,10 @@ returns c =
     elim c.if-is_grouped.branch [
       | then-is_grouped w ↦
           stays_told A members (flat_map (ways_from A.ways) members) c.if-is_grouped.leading c.stays.result c.requires some
-          (subst (AreGathered members _) (sym w.leading-is) w.add_from.ensures) (from_each A members) c.stays.ensures.there c.stays.ensures.only c.stays.ensures.all
+          (subst (AreGathered members _) (sym w.leading-is) w.add_from.ensures) (from_each A members) c.stays.ensures
       | else-is_grouped w ↦
           stays_told A members (filter (λ (y : Way). is_among members y.from) A.ways) c.if-is_grouped.leading c.stays.result c.requires some
-          (subst (AreGathered members _) (sym w.leading-is) (subst (λ ws. AreGathered members (filter (λ (y : Way). is_among members y.from) ws) w.add_among.new.self) w.ways.ensures w.add_among.ensures)) (from_all A members) c.stays.ensures.there c.stays.ensures.only c.stays.ensures.all
+          (subst (AreGathered members _) (sym w.leading-is) (subst (λ ws. AreGathered members (filter (λ (y : Way). is_among members y.from) ws) w.add_among.new.self) w.ways.ensures w.add_among.ensures)) (from_all A members) c.stays.ensures
     ]
   where
     some_there : (n : ℕ) → (n ≡ 0 → ⊥) → 0 < n
