@@ -106,6 +106,18 @@ impl Registers {
         }
     }
 
+    /// Gives each target the cell of its register, which is that of its own place, as nothing was made: only names are
+    /// written.
+    pub(crate) fn rename(&mut self, targets: &[u32], held: &[Register])
+        requires held { (next : Layer) × AreHeld self.old.sources.items [] held.now next × (sets_of next ≡ targets.now) }
+        requires in_place { AreInPlace 0 held.now }
+        requires within { length held.now ≤ length self.old.sources.items }
+        ensures held { AreHeld self.old.sources.items [] held.now self.new.sources.items }
+        ensures sets { sets_of self.new.sources.items ≡ targets.now }
+    {
+        keep(&mut self.sources, &[], targets, held);
+    }
+
     /// Gives each target the cell of its register, and makes them the sets of the layer. Where no cell moves, only names and
     /// cells that were made are written.
     pub(crate) fn settle(&mut self, targets: &[u32], held: &[Register], in_place: bool)
