@@ -16,9 +16,36 @@ use span_core::Steps;
 use std::sync::ledger::Ledger;
 
 impl Pass {
-    /// Reads a byte: by what is known of the layer, and else source by source. `layer` is the number of the graph's layer,
-    /// if it has one; so is what comes out.
-    pub(crate) fn read_byte<L: Ledger>(
+    /// Reads a byte by what is known of the layer, and tells the number of the next one. Where nothing is known, or memory
+    /// runs out, nothing is done. `layer` is the number of the graph's layer, if it has one.
+    #[inline(always)]
+    pub(crate) fn run_known<L: Ledger>(
+        &mut self,
+        table: &Table<'_>,
+        layer: Option<usize>,
+        byte: u8,
+        steps: &mut Steps<L>,
+    ) -> Option<usize>
+        requires goes_on { GoesOn table.now self.old }
+        requires stands { Stands table.now self.old.graph self.old.known layer }
+        requires few { self.old.at + 1 < 2 ^ 32 }
+        ensures read { IfSome result (λ _. Reads (byte_at self.old.at byte ∷ []) table.now self.old steps.old table.now self.new steps.new) }
+        ensures at { IfSome result (λ _. self.new.at ≡ self.old.at + 1) }
+        ensures stands { IfSome result (λ next. Stands table.now self.new.graph self.new.known (Some next)) }
+        ensures nothing { result ≡ None → self.new ≡ self.old }
+        ensures steps { result ≡ None → steps.new ≡ steps.old }
+    {
+        match layer {
+            Some(number) => self.run_layer(table, number, byte, steps),
+            None => None,
+        }
+    }
+
+    /// Reads a byte of which nothing is known of the layer: source by source, and what they do is kept. `layer` is as for
+    /// `run_known`; so is what comes out.
+    #[cold]
+    #[inline(never)]
+    pub(crate) fn read_unknown<L: Ledger>(
         &mut self,
         table: &mut Table<'_>,
         layer: Option<usize>,
@@ -34,45 +61,22 @@ impl Pass {
         ensures given_up { IfErr result (GivesUp (byte_at self.old.at byte ∷ []) table.old self.old steps.old table.new steps.new) }
     {
         match layer {
-            Some(number) => match self.run_layer(table, number, byte, steps) {
-                Some(next) => Ok(Some(next)),
-                None => self.step_anew(table, layer, byte, steps),
-            },
+            Some(_) => {}
             None => {
                 if self.known.stays.contains(byte) {
                     self.at += 1;
                     return Ok(None);
                 }
-                self.step_anew(table, None, byte, steps)
             }
         }
-    }
-
-    /// Reads a byte source by source, and keeps what the layer does on it.
-    #[cold]
-    #[inline(never)]
-    fn step_anew<L: Ledger>(
-        &mut self,
-        table: &mut Table<'_>,
-        layer: Option<usize>,
-        byte: u8,
-        steps: &mut Steps<L>,
-    ) -> Result<Option<usize>, TableFault>
-        requires goes_on { GoesOn table.old self.old }
-        requires few { self.old.at + 1 < 2 ^ 32 }
-        ensures read { OnOk result (Reads (byte_at self.old.at byte ∷ []) table.old self.old steps.old table.new self.new steps.new) }
-        ensures at { OnOk result (self.new.at ≡ self.old.at + 1) }
-        ensures stands { IfOk result (Stands table.new self.new.graph self.new.known) }
-        ensures given_up { IfErr result (GivesUp (byte_at self.old.at byte ∷ []) table.old self.old steps.old table.new steps.new) }
-    {
         if let Err(fault) = self.step_byte(table, byte, steps) {
             return Err(fault);
         }
         Ok(self.known.note(table, &self.graph, layer, byte))
     }
 
-    /// Does what is known of a layer on a byte, and tells the number of the next layer. Where nothing is known, or memory
-    /// runs out, nothing is done.
+    /// As `run_known`, where the layer has this number.
+    #[inline(always)]
     fn run_layer<L: Ledger>(
         &mut self,
         table: &Table<'_>,

@@ -27,6 +27,29 @@ const QUIET: u32 = 16;
 /// A search that passed over so many bytes went far.
 const FAR: usize = 32;
 
+/// The search for the next byte that may change something.
+#[derive(Drop)]
+struct Search {
+    skipper: Skipper,
+    /// For how many bytes the layer counts as unchanged.
+    quiet: u32,
+    /// The layer in which the last search went far, if it did.
+    far: Option<usize>,
+}
+
+impl Search {
+    /// Nothing has been searched for.
+    fn new() -> Search
+        ensures { result.quiet ≡ 0 }
+    {
+        Search {
+            skipper: Skipper::new(),
+            quiet: 0,
+            far: None,
+        }
+    }
+}
+
 /// The forward pass: the graph with its layer, what is known of whole layers, and where it stands. It goes with one table,
 /// and may be kept between the pieces of a document that come.
 #[derive(Drop)]
@@ -94,58 +117,86 @@ impl Pass {
         ensures given_up { IfErr result (GivesUp (bytes_at self.old.at piece.now) table.old self.old steps.old table.new steps.new) }
     {
         let mut layer = self.known.stand(table, &self.graph);
-        let mut skipper = Skipper::new();
-        let mut quiet = 0;
-        let mut far = None;
+        let mut search = Search::new();
         let mut i = 0;
         while i < piece.len() {
-            let searched = quiet == QUIET;
-            let here = self.read_on(table, &mut skipper, piece, i, &mut quiet);
+            let here = self.read_on(table, &mut search, layer, piece, i);
             if here == piece.len() {
                 break;
             }
-            if searched {
-                far = if here - i >= FAR { layer } else { None };
-            }
-            let next = match self.read_byte(table, layer, piece[here], steps) {
-                Ok(next) => next,
-                Err(fault) => return Err(fault),
+            let byte = piece[here];
+            let next = match self.run_known(table, layer, byte, steps) {
+                Some(next) => Some(next),
+                None => match self.read_unknown(table, layer, byte, steps) {
+                    Ok(next) => next,
+                    Err(fault) => return Err(fault),
+                },
             };
-            quiet = quiet_at(layer, next, far, quiet);
+            search.quiet = quiet_at(layer, next, search.far, search.quiet);
             layer = next;
             i = here + 1;
         }
         Ok(())
     }
 
-    /// Goes on to where a piece is read on from a place: behind the bytes that change nothing, if the layer has been the same
-    /// for a while. `quiet` counts for how many bytes.
+    /// Goes on to where a piece is read on from a place: behind the bytes that change nothing, if the layer, of which the
+    /// number is told, has been the same for a while.
     #[inline(always)]
     fn read_on(
         &mut self,
         table: &Table<'_>,
-        skipper: &mut Skipper,
+        search: &mut Search,
+        layer: Option<usize>,
         piece: &[u8],
         i: usize,
-        quiet: &mut u32,
     ) -> usize
         requires goes_on { GoesOn table.now self.old }
         requires few { self.old.at + length piece.now < 2 ^ 32 + i }
         requires place { i ≤ length piece.now }
-        requires counted { quiet.old ≤ QUIET }
+        requires counted { search.old.quiet ≤ QUIET }
         ensures graph { self.new.graph ≡ self.old.graph }
         ensures known { self.new.known ≡ self.old.known }
         ensures at { self.new.at + i ≡ self.old.at + result }
         ensures within { result ≤ length piece.now }
         ensures later { i ≤ result }
         ensures still { (k : ℕ) → i ≤ k → k < result → AllStayOn table.now (whole self.old.graph) (slice_index piece.now k) }
-        ensures counted { quiet.new < QUIET }
+        ensures counted { search.new.quiet < QUIET }
     {
-        if *quiet < QUIET {
+        if search.quiet < QUIET {
             return i;
         }
-        *quiet = 0;
-        let still = still_bytes(table, &self.graph, skipper, &piece[i..]);
+        self.pass_over(table, search, layer, piece, i)
+    }
+
+    /// As `read_on`, where the layer has been the same for long enough.
+    #[inline(never)]
+    fn pass_over(
+        &mut self,
+        table: &Table<'_>,
+        search: &mut Search,
+        layer: Option<usize>,
+        piece: &[u8],
+        i: usize,
+    ) -> usize
+        requires goes_on { GoesOn table.now self.old }
+        requires few { self.old.at + length piece.now < 2 ^ 32 + i }
+        requires place { i ≤ length piece.now }
+        ensures graph { self.new.graph ≡ self.old.graph }
+        ensures known { self.new.known ≡ self.old.known }
+        ensures at { self.new.at + i ≡ self.old.at + result }
+        ensures within { result ≤ length piece.now }
+        ensures later { i ≤ result }
+        ensures still { (k : ℕ) → i ≤ k → k < result → AllStayOn table.now (whole self.old.graph) (slice_index piece.now k) }
+        ensures counted { search.new.quiet < QUIET }
+    {
+        let stays = stays_of(table, &self.graph);
+        let rest = &piece[i..];
+        let still = search
+            .skipper
+            .first_outside(&stays, rest)
+            .unwrap_or(rest.len());
+        search.quiet = 0;
+        search.far = if still >= FAR { layer } else { None };
         self.at += still as u32;
         i + still
     }
@@ -184,16 +235,4 @@ fn quiet_at(before: Option<usize>, after: Option<usize>, far: Option<usize>, qui
         (Some(layer), Some(kept)) if layer == kept => QUIET,
         _ => 0,
     }
-}
-
-/// How many bytes at the front of a piece change nothing.
-#[inline(never)]
-fn still_bytes(table: &Table<'_>, graph: &OutputGraph, skipper: &mut Skipper, piece: &[u8]) -> usize
-    requires given { AreGiven table.now (whole graph.now) }
-    requires fresh { graph.now.stepped ≡ 0 }
-    ensures within { result ≤ length piece.now }
-    ensures still { (k : ℕ) → k < result → AllStayOn table.now (whole graph.now) (slice_index piece.now k) }
-{
-    let stays = stays_of(table, graph);
-    skipper.first_outside(&stays, piece).unwrap_or(piece.len())
 }

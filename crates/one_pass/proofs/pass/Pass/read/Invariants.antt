@@ -7,7 +7,7 @@ use Rattle.one_pass.proofs.pass.Pass.read.Given as goal
 abbrev pub invariant-loop-i : goal.invariant-loop-i
 invariant-loop-i g l = record {
   within : l.i ≤ length l.piece;
-  quiet : l.quiet ≤ 16;
+  quiet : l.search.quiet ≤ 16;
   advanced : IsAdvanced l.fn.table l.fn.self l.fn.steps l.piece l.i l.table l.self l.steps;
   stands : Stands l.table l.self.graph l.self.known l.layer;
 }

@@ -2,7 +2,7 @@ use Rattle.std.proofs.Common.{◌-◌, ◌<◌, length, drop, get_or, arith, sub
 use Rattle.std.proofs.lemmas.List.{get_or-drop, get_or-take}
 use Rattle.one_pass.specs.Passes.{AllStayOn}
 use Rattle.one_pass.specs.Seen.{whole}
-use Rattle.one_pass.proofs.pass.Pass.read_on.Goals as goal
+use Rattle.one_pass.proofs.pass.Pass.pass_over.Goals as goal
 
 pub returns-clause-still : goal.returns-clause-still
 returns-clause-still c k later less =

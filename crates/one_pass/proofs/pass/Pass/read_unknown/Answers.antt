@@ -1,7 +1,7 @@
 use Rattle.std.proofs.Common.{sym, subst, ◌∙◌, arith}
 use Rattle.one_pass.specs.Known.{Stands}
 use Rattle.one_pass.proofs.Running.{stay_reads}
-use Rattle.one_pass.proofs.pass.Pass.read_byte.Goals as goal
+use Rattle.one_pass.proofs.pass.Pass.read_unknown.Goals as goal
 
 pub returns-then-contains-clause-read : goal.returns-then-contains-clause-read
 returns-then-contains-clause-read g c =
