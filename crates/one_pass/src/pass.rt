@@ -189,12 +189,7 @@ impl Pass {
         ensures still { (k : ℕ) → i ≤ k → k < result → AllStayOn table.now (whole self.old.graph) (slice_index piece.now k) }
         ensures counted { search.new.quiet < QUIET }
     {
-        let stays = stays_of(table, &self.graph);
-        let rest = &piece[i..];
-        let still = search
-            .skipper
-            .first_outside(&stays, rest)
-            .unwrap_or(rest.len());
+        let still = still_bytes(table, &self.graph, &mut search.skipper, &piece[i..]);
         search.quiet = 0;
         search.far = if still >= FAR { layer } else { None };
         self.at += still as u32;
@@ -235,4 +230,15 @@ fn quiet_at(before: Option<usize>, after: Option<usize>, far: Option<usize>, qui
         (Some(layer), Some(kept)) if layer == kept => QUIET,
         _ => 0,
     }
+}
+
+/// How many bytes at the front of a piece change nothing.
+fn still_bytes(table: &Table<'_>, graph: &OutputGraph, skipper: &mut Skipper, piece: &[u8]) -> usize
+    requires given { AreGiven table.now (whole graph.now) }
+    requires fresh { graph.now.stepped ≡ 0 }
+    ensures within { result ≤ length piece.now }
+    ensures still { (k : ℕ) → k < result → AllStayOn table.now (whole graph.now) (slice_index piece.now k) }
+{
+    let stays = stays_of(table, graph);
+    skipper.first_outside(&stays, piece).unwrap_or(piece.len())
 }
