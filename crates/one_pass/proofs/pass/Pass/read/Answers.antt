@@ -64,11 +64,11 @@ loop-i-preserved g c =
     let b = get_or c.args.piece.now c.read_on-here.result 0 in
     elim c.match-run_known.branch [
       | in-Some w ↦ rw (w.self-is, w.table-is, w.steps-is, w.next-is) (record {
-          within = omega (arith, within);
-          quiet = c.quiet_at.ensures;
-          advanced = advanced_more past within w.in-Some.ensures.read w.in-Some.ensures.at;
-          stands = w.in-Some.ensures.stands;
-        })
+        within = omega (arith, within);
+        quiet = c.quiet_at.ensures;
+        advanced = advanced_more past within w.in-Some.ensures.read w.in-Some.ensures.at;
+        stands = w.in-Some.ensures.stands;
+      })
       | in-None+in-Ok w ↦
           let same : c.run_known.new.self ≡ c.read_on-here.new.self = w.in-None.ensures.nothing refl in
           let uncounted : c.run_known.new.steps ≡ c.loop-i.steps = w.in-None.ensures.steps refl in
