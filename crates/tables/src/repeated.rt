@@ -52,12 +52,7 @@ pub(crate) fn kept_of_digits(alloc: Global) -> Result<Kept, Fault> {
     )
 }
 
-fn kept_of<L: Ledger>(
-    alloc: Global,
-    blank: Blank,
-    query: &[u8],
-    line: &[u8],
-) -> Result<Kept, Fault>
+fn kept_of<L: Ledger>(alloc: Global, blank: Blank, query: &[u8], line: &[u8]) -> Result<Kept, Fault>
     requires name { blank.name ≡ L.name }
     requires parts { blank.parts ≡ L.parts }
     requires some { 0 < L.parts }
