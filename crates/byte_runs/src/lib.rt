@@ -1,4 +1,4 @@
-//! The end of a run of bytes of one set.
+//! The end of a run of bytes of one set, and the next place from which bytes keep to several sets in turn.
 //!
 //! Most runs are short: those of a set that was not asked for before are gone through byte by byte at first. Behind
 //! that the set is prepared: the bytes that end its runs are worked out, which are searched for where they are at most
@@ -6,6 +6,8 @@
 //! set, and anew only for a long run of another, so that a pass that asks for one set again and again searches at once.
 #![tactic(auto)]
 
+pub use chain::Chain;
 pub use skipper::Skipper;
 
+mod chain;
 mod skipper;

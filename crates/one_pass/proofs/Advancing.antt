@@ -4,6 +4,7 @@ use Rattle.std.specs.Prelude.{IsTrue, ◌&&◌}
 use Rattle.std.specs.FinSet as bytes
 use Rattle.std.specs.FinSet.{contains-intersection}
 use Rattle.std.specs.Cmp.{nat_cmp_total}
+use Rattle.std.proofs.lemmas.List.{length-drop, length-take-le}
 use Rattle.std.proofs.Math.Seq.{take-length}
 use Rattle.span_core.specs.Lists.{Has}
 use Rattle.span_core.proofs.HasLaws.{Has-take_more_cases}
@@ -18,11 +19,11 @@ use Rattle.one_pass.specs.Known.{Knows}
 use Rattle.one_pass.specs.Going.{GivesUp, GoesOn, Reads, come}
 use Rattle.one_pass.specs.Layers.{no_source, source_at}
 use Rattle.one_pass.specs.Places.{ReadingPlace, byte_at, bytes_at}
-use Rattle.one_pass.specs.Passes.{AllStayOn}
+use Rattle.one_pass.specs.Passes.{AllLeadBack}
 use Rattle.one_pass.specs.Seen.{whole}
-use Rattle.one_pass.proofs.Faulting.{bytes_more, bytes_split, read_none}
+use Rattle.one_pass.proofs.BackLaws.{back_read}
+use Rattle.one_pass.proofs.Faulting.{bytes_append, bytes_more, bytes_split, read_none, ready_later}
 use Rattle.one_pass.proofs.Goings.{both_reads, gives_up_before, then_gives_up}
-use Rattle.one_pass.proofs.Running.{stay_reads}
 
 -- so many bytes of the piece have been read
 pub record IsAdvanced (t0 : Tabled) (p0 : Pass) (n0 : ℕ) (piece : List ℕ) (i : ℕ) (t : Tabled) (p : Pass) (n : ℕ) : Type 0 where
@@ -68,27 +69,42 @@ module _ {t0 : Tabled} {p0 : Pass} {n0 : ℕ} {piece : List ℕ} {i : ℕ} {t : 
         (gives_up_before (front ++ here) (bytes_at (p0.at + i + 1) (drop (suc i) piece))
         (then_gives_up front here past.reads (subst (λ j. GivesUp (byte_at j b ∷ []) t p n u m e) past.at up)))
 
--- so many bytes more, on which nothing changes
-advanced_still : (t0 : Tabled) (p0 : Pass) (n0 : ℕ) (piece : List ℕ) (i : ℕ) (t : Tabled) (p : Pass) (n : ℕ) → IsAdvanced t0 p0 n0 piece i t p n → (j : ℕ) → i + j ≤ length piece →
-    ((k : ℕ) → k < j → AllStayOn t (whole p.graph) (get_or piece (i + k) 0)) → IsAdvanced t0 p0 n0 piece (i + j) t (record { graph = p.graph; known = p.known; at = p.at + j }) n
-advanced_still t0 p0 n0 piece i t p n past zero within still =
-    subst (λ k. IsAdvanced t0 p0 n0 piece k t (record { graph = p.graph; known = p.known; at = p.at + 0 }) n) (omega arith)
-    (subst (λ k. IsAdvanced t0 p0 n0 piece i t (record { graph = p.graph; known = p.known; at = k }) n) (omega arith) past)
-advanced_still t0 p0 n0 piece i t p n past (suc j) within still =
-    let before = advanced_still t0 p0 n0 piece i t p n past j (omega arith) (λ k less. still k (omega arith)) in
-    subst (λ k. IsAdvanced t0 p0 n0 piece k t (record { graph = p.graph; known = p.known; at = p.at + suc j }) n) (omega arith)
-    (subst (λ k. IsAdvanced t0 p0 n0 piece (i + j + 1) t (record { graph = p.graph; known = p.known; at = k }) n) (omega arith)
-    (advanced_more before (omega arith) (stay_reads before.reads.goes_on (still j (omega arith))) refl))
+-- bytes over which each set of the layer leads back to itself
+over_reads : {t : Tabled} {p : Pass} {n : ℕ} (d : List ℕ) → GoesOn t p → AllLeadBack t (whole p.graph) d → Reads (bytes_at p.at d) t p n t (record { graph = p.graph; known = p.known; at = p.at + length d }) n
+over_reads {t} {p} {n} d goes back = record {
+  read = back_read (come t p n) p.at d back;
+  goes_on = record { ready = ready_later (p.at + length d) goes.ready (omega arith); known = goes.known };
+}
 
--- up to a later place, before which nothing changes
-pub advanced_up_to : {t0 : Tabled} {p0 : Pass} {n0 : ℕ} {piece : List ℕ} {i j : ℕ} {t : Tabled} {p q : Pass} {n : ℕ} → IsAdvanced t0 p0 n0 piece i t p n → i ≤ j → j ≤ length piece →
-    ((k : ℕ) → i ≤ k → k < j → AllStayOn t (whole p.graph) (get_or piece k 0)) → q.graph ≡ p.graph → q.known ≡ p.known → q.at + i ≡ p.at + j → IsAdvanced t0 p0 n0 piece j t q n
-advanced_up_to {t0} {p0} {n0} {piece} {i} {j} {t} {p} {q} {n} past later within still graph known at =
-    subst (λ g. IsAdvanced t0 p0 n0 piece j t (record { graph = g; known = q.known; at = q.at }) n) (sym graph)
-    (subst (λ k. IsAdvanced t0 p0 n0 piece j t (record { graph = p.graph; known = k; at = q.at }) n) (sym known)
-    (subst (λ k. IsAdvanced t0 p0 n0 piece j t (record { graph = p.graph; known = p.known; at = k }) n) (omega (arith, at))
-    (subst (λ k. IsAdvanced t0 p0 n0 piece k t (record { graph = p.graph; known = p.known; at = p.at + (j - i) }) n) (omega arith)
-    (advanced_still t0 p0 n0 piece i t p n past (j - i) (omega arith) (λ k less. still (i + k) (omega arith) (omega arith))))))
+take_both : (i k : ℕ) (xs : List ℕ) → take i xs ++ take k (drop i xs) ≡ take (i + k) xs
+take_both zero k xs = let e : k ≡ 0 + k = omega arith in ap (λ n. take n xs) e
+take_both (suc i) zero [] = let e : suc i ≡ suc i + 0 = omega arith in ap (λ n. take n []) e
+take_both (suc i) (suc k) [] = let e : suc (i + suc k) ≡ suc i + suc k = omega arith in ap (λ n. take n []) e
+take_both (suc i) k (x ∷ xs) = let e : suc (i + k) ≡ suc i + k = omega arith in ap (λ ys. x ∷ ys) (take_both i k xs) ∙ ap (λ n. take n (x ∷ xs)) e
+
+-- up to a later place, from which each set of the layer leads back to itself
+pub advanced_over : {t0 : Tabled} {p0 : Pass} {n0 : ℕ} {piece : List ℕ} {i j : ℕ} {t : Tabled} {p q : Pass} {n : ℕ} → IsAdvanced t0 p0 n0 piece i t p n → i ≤ j → j ≤ length piece →
+    AllLeadBack t (whole p.graph) (take (j - i) (drop i piece)) → q.graph ≡ p.graph → q.known ≡ p.known → q.at + i ≡ p.at + j → IsAdvanced t0 p0 n0 piece j t q n
+advanced_over {t0} {p0} {n0} {piece} {i} {j} {t} {p} {q} {n} past later within back graph known at =
+    let d : List ℕ = take (j - i) (drop i piece) in
+    let behind : length (drop i piece) ≡ length piece - i = length-drop i piece in
+    let long : length d ≡ j - i = length-take-le (j - i) (drop i piece) (omega (arith, behind, later, within)) in
+    let before : length (take i piece) ≡ i = length-take-le i piece (omega (arith, later, within)) in
+    let up : i + (j - i) ≡ j = omega (arith, later) in
+    let split : bytes_at p0.at (take j piece) ≡ bytes_at p0.at (take i piece) ++ bytes_at p.at d =
+    ap (λ k. bytes_at p0.at (take k piece)) (sym up)
+    ∙ (ap (bytes_at p0.at) (sym (take_both i (j - i) piece))
+    ∙ (bytes_append p0.at (take i piece) d ∙ ap (λ k. bytes_at p0.at (take i piece) ++ bytes_at k d) (ap (λ k. p0.at + k) before ∙ sym past.at))) in
+    let end : p.at + length d ≡ q.at = omega (arith, long, at, later) in
+    record {
+      reads =
+          subst (λ ps. Reads ps t0 p0 n0 t q n) (sym split)
+          (both_reads (bytes_at p0.at (take i piece)) (bytes_at p.at d) past.reads
+          (subst (λ g. Reads (bytes_at p.at d) t p n t (record { graph = g; known = q.known; at = q.at }) n) (sym graph)
+          (subst (λ k. Reads (bytes_at p.at d) t p n t (record { graph = p.graph; known = k; at = q.at }) n) (sym known)
+          (subst (λ k. Reads (bytes_at p.at d) t p n t (record { graph = p.graph; known = p.known; at = k }) n) end (over_reads d past.reads.goes_on back)))));
+      at = omega (arith, at, past.at, later);
+    }
 
 -- ---- which bytes change nothing
 

@@ -13,11 +13,12 @@ use Rattle.one_pass.specs.Layers.{numbers_of}
 use Rattle.one_pass.specs.Places.{ReadingPlace, Leads, asks, edges_read, sets_after, sets_met, sets_on}
 use Rattle.one_pass.specs.Passes.{Progress, sets_of, Reaches, IsReady, HasGrown, HasRead, HasStopped, HasStoppedAt, Stop, IsExcess, weight_of}
 use Rattle.one_pass.specs.Making.{making_read}
-use Rattle.one_pass.specs.Weights.{Tells}
+use Rattle.one_pass.specs.Weights.{IsDue, Tells}
+use Rattle.one_pass.proofs.Due.{due_cases}
 use Rattle.one_pass.proofs.Making.{making_append, making_covers}
 use Rattle.one_pass.proofs.ReadWords.{leads_then, then_leads}
 use Rattle.one_pass.proofs.Telling.{tells_grown}
-use Rattle.one_pass.proofs.Sets.{Covers, after_covers, met_covers, look_ups_covers, edges_covers, after_append, edges_append, met_left, met_right, look_ups_append, look_ups_left, look_ups_right, weight_covers}
+use Rattle.one_pass.proofs.Sets.{Covers, after_covers, met_covers, look_ups_covers, edges_covers, after_append, edges_append, met_left, met_right, look_ups_left, look_ups_right, weight_covers}
 
 pub asks_append : (ps qs : List ReadingPlace) → asks (ps ++ qs) ≡ asks ps ++ asks qs
 asks_append [] qs = refl
@@ -165,14 +166,11 @@ module _ (A : Automaton) (ps qs : List ReadingPlace) (P Q : Progress) (read : Ha
       all_after : sets_after A (sets_of P) (asks (ps ++ qs)) ≡ sets_after A (sets_after A (sets_of P) (asks ps)) (asks qs)
       all_after = ap (sets_after A (sets_of P)) all_asks ∙ after_append A (sets_of P) (asks ps) (asks qs)
 
-      all_told : (look_up : LookUp) → Has (look_ups_asked A (sets_of P) (asks (ps ++ qs))) look_up → Tells R.table look_up
-      all_told look_up h =
-          let all = ap (look_ups_asked A (sets_of P)) all_asks ∙ look_ups_append A (sets_of P) (asks ps) (asks qs) in
-          elim (
-          Has-append_cases (look_ups_asked A (sets_of P) (asks ps)) (look_ups_asked A (sets_after A (sets_of P) (asks ps)) (asks qs)) look_up (subst (λ (look_ups : List LookUp). Has look_ups look_up) all h)
-          ) as (λ _. Tells R.table look_up) [
+      all_told : (look_up : LookUp) → IsDue A (sets_of P) (ps ++ qs) look_up → Tells R.table look_up
+      all_told look_up due =
+          elim (due_cases A (sets_of P) (sets_of Q) ps qs (λ s k. (read.sets s).1 k) covers look_up due) as (λ _. Tells R.table look_up) [
             | inl first ↦ tells_grown Q.table R.table (sets_met A (sets_of Q) (asks qs)) (look_ups_asked A (sets_of Q) (asks qs)) later.table look_up (read.tells look_up first)
-            | inr last ↦ later.tells look_up (look_ups_covers A (sets_of Q) (sets_after A (sets_of P) (asks ps)) (asks qs) (λ s k. (read.sets s).1 k) look_up last)
+            | inr last ↦ later.tells look_up last
           ]
 
       there : (set : List ℕ) (w : Word) → Reaches R set w →

@@ -13,6 +13,7 @@ use Rattle.one_pass.specs.Layers.{GraphView}
 use Rattle.one_pass.specs.Places.{ReadingPlace, asks, byte_at, bytes_at, sets_met}
 use Rattle.one_pass.specs.Passes.{Progress, sets_of, IsReady, HasRead, HasStopped, Stop}
 use Rattle.one_pass.proofs.Composing.{asks_append, excess_grown, grown_none, met_first, met_then, read_then, ready_distinct, look_ups_first, look_ups_then, stopped_then}
+use Rattle.one_pass.proofs.Due.{due_asked}
 use Rattle.one_pass.proofs.Sets.{Covers, met_left, look_ups_left}
 
 -- ready for a position, and so for a later one
@@ -37,7 +38,7 @@ read_none A P = record {
   );
   sets = λ set. (λ h. h, λ h. h);
   table = grown_none P.table (sets_of P) [];
-  tells = λ look_up h. absurd h;
+  tells = λ look_up due. absurd (due_asked A (sets_of P) [] look_up due);
   steps = omega arith;
   cells = omega arith;
   rise = omega arith;

@@ -1,4 +1,7 @@
 pub mod Advancing
+pub mod AheadLaws
+pub mod Due
+pub mod BackLaws
 pub mod ClassLaws
 pub mod Composing
 pub mod Ending
@@ -21,6 +24,7 @@ pub mod Sources
 pub mod Stepping
 pub mod Telling
 pub mod Turns
+pub mod WaitLaws
 pub mod Weighing
 pub mod Whole
 pub mod OpenLaws

@@ -13,6 +13,7 @@ use Rattle.one_pass.specs.Layers.{GraphView, IsPast, numbers_of}
 use Rattle.one_pass.specs.Places.{ReadingPlace, Leads, sets_met}
 use Rattle.one_pass.specs.Passes.{Progress, pass, sets_of, Reaches, IsReady, HasGrown, HasRead}
 use Rattle.one_pass.specs.Weights.{Tells}
+use Rattle.one_pass.proofs.Due.{due_asked}
 use Rattle.one_pass.proofs.Sets.{Covers, next_cases, has_next}
 use Rattle.one_pass.proofs.Composing.{grown_none}
 use Rattle.one_pass.proofs.Stepping.{Arrives, HasNext, source_edges, LeadsWith, place_edges, place_making, IsStepping, met_here, each_look_up}
@@ -66,7 +67,9 @@ module _ (A : Automaton) (p : ReadingPlace) (P : Progress) where
       words = λ set w. (there set w, back set w);
       sets = λ set. (set_there set, set_back set);
       table = grown;
-      tells = each_look_up A p P (Tells Q.table) (λ x h. held_tells Q.table all.spent.sound (look_up P.table x.set p.ask) (all.spent.holds x h));
+      tells = λ r due.
+          each_look_up A p P (Tells Q.table) (λ x h. held_tells Q.table all.spent.sound (look_up P.table x.set p.ask) (all.spent.holds x h)) r
+          (due_asked A (sets_of P) (p ∷ []) r due);
       steps = omega (arith, all.spent.steps, all.few, place_edges A p P, live, ap length layer);
       cells = omega (arith, all.spent.cells, place_edges A p P, live);
       rise = omega (arith, all.rise, place_making A p P, live);
@@ -177,7 +180,7 @@ module _ (A : Automaton) (p : ReadingPlace) (P : Progress) where
     );
     sets = λ set. (set_there set, set_back set);
     table = grown_none P.table (sets_met A (sets_of P) (p.ask ∷ [])) (look_ups_asked A (sets_of P) (p.ask ∷ []));
-    tells = each_look_up A p P (Tells P.table) (λ x h. (stays x h).0);
+    tells = λ r due. each_look_up A p P (Tells P.table) (λ x h. (stays x h).0) r (due_asked A (sets_of P) (p ∷ []) r due);
     steps = omega arith;
     cells = omega arith;
     rise = omega arith;

@@ -3,7 +3,7 @@ use Rattle.std.proofs.Common.{◌≡◌, ℕ, ◌+◌, ◌*◌, ◌≤◌, Bool,
 use Rattle.std.proofs.lemmas.List.{append-nil}
 use Rattle.marked_automaton.specs.Automaton.{Automaton}
 use Rattle.span_core.specs.Intervals.{AreApart, Covers}
-use Rattle.automaton_reading.specs.Reading.{edges_K, ended, look_ups_asked, look_ups_read}
+use Rattle.automaton_reading.specs.Reading.{edges_K, ended, look_ups_asked}
 use Rattle.set_table.specs.declared.fault.TableFault.{TableFault}
 use Rattle.set_table.specs.declared.fault.TableFault.TheVariants.{Full, OutOfMemory}
 use Rattle.set_table.specs.Tabled.{IsTabled, Tabled}
@@ -15,11 +15,11 @@ use Rattle.one_pass.specs.Going.{Ends, GivesUp, GivesUpEnd, Reads, come}
 use Rattle.one_pass.specs.Places.{ReadingPlace, AreReadWords, asks, end_at, is_touched, parts_places, places, places_before, sets_met}
 use Rattle.one_pass.specs.Passes.{Progress, pass, sets_of, HasEnded, HasKept, HasRead, HasStopped, HasStoppedAt, stop}
 use Rattle.one_pass.specs.Seen.{accepted_words, ending_from}
-use Rattle.one_pass.specs.Weights.{least_weight_K}
+use Rattle.one_pass.specs.Weights.{WeighsWithin, least_weight}
 use Rattle.one_pass.proofs.Composing.{excess_grown, ready_distinct, look_ups_first, look_ups_then, stopped_at}
 use Rattle.one_pass.proofs.Faulting.{then_stopped}
 use Rattle.one_pass.proofs.PartLaws.{before_end, parts_all}
-use Rattle.one_pass.proofs.Weighing.{least_weight, told_weighs}
+use Rattle.one_pass.proofs.Weighing.{told_weighs}
 use Rattle.one_pass.proofs.Whole.{excess_weight, front_sets, look_ups_of_front, stopped_steps, whole_cells, whole_steps, whole_tells, whole_words}
 
 -- nothing has been done with the table
@@ -112,11 +112,10 @@ module _ (d : List ℕ) (parts : List (ℕ × ℕ)) (apart : AreApart parts) (wi
       pub pass_cells : length g.cells ≤ edges_K t.graph d K + 1
       pass_cells = whole_cells t.graph K d t new before ps all Q R read_here done_here (ready_distinct Q q.at reads.goes_on.ready)
 
-      -- what has to be held of the reading weighs no more than the table's limit
-      pub pass_weighs : least_weight_K t.graph d K ≤ t.limit
-      pass_weighs =
-          let look_ups = look_ups_read t.graph d K in
+      -- what has to be told of the reading weighs no more than the table's limit
+      pub pass_weighs : WeighsWithin t.graph d K t.limit
+      pass_weighs look_ups due =
           let graph : v.graph ≡ t.graph = done_here.table.graph ∙ read_here.table.graph in
           let limit : v.limit ≡ t.limit = done_here.table.limit ∙ read_here.table.limit in
-          let told = told_weighs v done_here.sound look_ups (whole_tells t.graph K d t new before ps all Q R read_here done_here) in
+          let told = told_weighs v done_here.sound look_ups (λ r h. whole_tells t.graph K d t new before ps all Q R read_here done_here r (due r h)) in
           subst (λ l. least_weight t.graph look_ups ≤ l) limit (subst (λ (A : Automaton). least_weight A look_ups ≤ v.limit) graph told)

@@ -11,15 +11,12 @@ use Rattle.automaton_reading.specs.Reading.{LookUp, once, look_up_edges, look_up
 use Rattle.automaton_reading.proofs.Matching.{has_once, once_distinct}
 use Rattle.automaton_reading.proofs.MeasureLaws.{bytes_itself, look_up_itself, same_bytes, same_look_up}
 use Rattle.set_table.specs.Tabled.{IsTabled, Tabled, look_ups_weight, sets_weight}
-use Rattle.one_pass.specs.Weights.{Tells, leads_back}
+use Rattle.one_pass.specs.Weights.{Tells, leads_back, least_weight}
 use Rattle.one_pass.proofs.Sets.{Covers, sum_covers}
 
 -- the look-ups that have to be held
 abbrev going_on : Automaton → List LookUp → List LookUp
 going_on A look_ups = filter (λ (r : LookUp). not (leads_back A r)) look_ups
-
-abbrev pub least_weight : Automaton → List LookUp → ℕ
-least_weight A look_ups = sets_weight (once bytes_eq (map (λ (r : LookUp). r.set) look_ups)) + look_ups_weight A (once look_up_same (going_on A look_ups))
 
 module _ (t : Tabled) (tabled : IsTabled t) (look_ups : List LookUp) (tells : (r : LookUp) → Has look_ups r → Tells t r) where
   abbrev sets : List (List ℕ)

@@ -13,10 +13,11 @@ use Rattle.output_graph.specs.Graph.{Source}
 use Rattle.one_pass.specs.Builds.{IsNew, build, started}
 use Rattle.one_pass.specs.Places.{ReadingPlace, AreReadWords, Leads, asks, byte_at, edges_read, end_at, places, rest_at, sets_after, sets_met}
 use Rattle.one_pass.specs.Passes.{Progress, sets_of, Reaches, HasEnded, HasRead, HasStopped, Stop, IsExcess, weight_of}
-use Rattle.one_pass.specs.Weights.{Tells}
+use Rattle.one_pass.specs.Weights.{IsDue, Tells}
 use Rattle.one_pass.proofs.ReadWords.{leads_then, read_words, then_leads}
-use Rattle.one_pass.proofs.Sets.{Covers, edges_append, edges_covers, look_ups_append, look_ups_covers, look_ups_left, look_ups_right, weight_covers}
+use Rattle.one_pass.proofs.Sets.{Covers, edges_append, edges_covers, look_ups_covers, look_ups_left, look_ups_right, weight_covers}
 use Rattle.one_pass.proofs.Composing.{asks_append}
+use Rattle.one_pass.proofs.Due.{due_asked, due_cases}
 use Rattle.one_pass.proofs.Telling.{held_tells, tells_grown}
 
 -- the places ask what reading asks
@@ -266,18 +267,15 @@ module _ (A : Automaton) (K : ℕ → Bool) (d : List ℕ) (t : Tabled) (new : I
           let e = edges_covers A (sets_after A starts (asks ps)) (sets_of Q) (ended ∷ []) distinct (λ set k. (layer_sets ps Q read set).0 k) in
           omega (arith, a, b, c, e)
 
-  -- the table tells each look-up that is asked for
+  -- the table tells each look-up that has to be told
   pub whole_tells : (ps : List ReadingPlace) → ps ++ end_at (length d) ∷ [] ≡ places K d 0 false → (Q R : Progress) → HasRead A ps P Q → HasEnded A (length d) Q R →
-      (look_up : LookUp) → Has (look_ups_read A d K) look_up → Tells R.table look_up
-  whole_tells ps all Q R read done look_up h =
-      let both = ap (look_ups_asked A starts) (sym (front_asks ps (end_at (length d) ∷ []) all)) ∙ look_ups_append A starts (asks ps) (ended ∷ []) in
-      elim (Has-append_cases (look_ups_asked A starts (asks ps)) (look_ups_asked A (sets_after A starts (asks ps)) (ended ∷ [])) look_up (subst (λ (look_ups : List LookUp). Has look_ups look_up) both h)) as (λ _. Tells R.table look_up) [
+      (look_up : LookUp) → IsDue A starts (places K d 0 false) look_up → Tells R.table look_up
+  whole_tells ps all Q R read done look_up due =
+      elim (due_cases A starts (sets_of Q) ps (end_at (length d) ∷ []) (λ set k. (layer_sets ps Q read set).1 k) (λ set k. (layer_sets ps Q read set).0 k) look_up (subst (λ qs. IsDue A starts qs look_up) (sym all) due)) as (λ _. Tells R.table look_up) [
         | inl first ↦
             tells_grown Q.table R.table [] (look_ups_asked A (sets_of Q) (ended ∷ [])) done.table look_up
-            (read.tells look_up (subst (λ sets. Has (look_ups_asked A sets (asks ps)) look_up) (sym starts_are) first))
-        | inr last ↦
-            held_tells R.table done.sound look_up
-            (done.holds look_up (look_ups_covers A (sets_of Q) (sets_after A starts (asks ps)) (ended ∷ []) (λ set k. (layer_sets ps Q read set).1 k) look_up last))
+            (read.tells look_up (subst (λ sets. IsDue A sets ps look_up) (sym starts_are) first))
+        | inr last ↦ held_tells R.table done.sound look_up (done.holds look_up (due_asked A (sets_of Q) (end_at (length d) ∷ []) look_up last))
       ]
 
   -- no more cells are live than edges were read, and one

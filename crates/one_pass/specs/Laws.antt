@@ -8,8 +8,8 @@ use Rattle.automaton_reading.specs.Chosen.{IsReadWith}
 use Rattle.set_table.specs.Tabled.{Tabled}
 use Rattle.one_pass.specs.Words.{Word}
 use Rattle.one_pass.specs.Builds.{IsNew, build, started}
-use Rattle.one_pass.specs.Places.{ReadingPlace, AreReadWords, Leads, asks, byte_at, end_at, is_touched, parts_places, places, sets_after, sets_met, word_of}
-use Rattle.one_pass.specs.Passes.{AllStayOn, AreGiven, Progress, Stop, sets_of, HasEnded, HasRead, HasStopped, IsExcess, IsReady, Reaches}
+use Rattle.one_pass.specs.Places.{ReadingPlace, AreReadWords, Leads, asks, byte_at, bytes_at, end_at, is_touched, parts_places, places, sets_after, sets_met, word_of}
+use Rattle.one_pass.specs.Passes.{AllLeadBack, AllStayOn, AreGiven, Progress, Stop, sets_of, HasEnded, HasRead, HasStopped, IsExcess, IsReady, Reaches}
 
 -- choices of edges at the places of a document make the words that are read
 abbrev pub ChoiceLaw : Type 0
@@ -43,6 +43,10 @@ StepLaw =
 abbrev pub StayLaw : Type 0
 StayLaw =
     (P : Progress) (i b : ℕ) → AreGiven P.table P.graph → AllStayOn P.table P.graph b → HasRead P.table.graph (byte_at i b ∷ []) P P
+
+-- bytes over which each set of the layer leads back to itself alone, without marks, have been read before they are, asked or not
+abbrev pub BackLaw : Type 0
+BackLaw = (P : Progress) (i : ℕ) (bytes : List ℕ) → AllLeadBack P.table P.graph bytes → HasRead P.table.graph (bytes_at i bytes) P P
 
 -- the whole document: the words, the steps with those of turning, and the cells
 pub record IsWholeLaw (A : Automaton) (K : ℕ → Bool) (d : List ℕ) (before : ℕ) (R : Progress) : Type 0 where

@@ -10,7 +10,8 @@ use Rattle.output_graph.specs.Graph.{Source}
 use Rattle.one_pass.specs.Layers.{GraphView, IsPast, numbers_of}
 use Rattle.one_pass.specs.Making.{making_read}
 use Rattle.one_pass.specs.Places.{ReadingPlace, Leads, asks, edges_read, end_at, sets_after, sets_met, sets_on}
-use Rattle.one_pass.specs.Weights.{Tells}
+use Rattle.one_pass.specs.Waiting.{LeadsBack}
+use Rattle.one_pass.specs.Weights.{IsDue, Tells}
 
 -- how far a pass has come: the table, the graph, and the steps that were taken
 pub record Progress : Type 0 where
@@ -36,6 +37,10 @@ AreGiven t g = (x : Source) → Has g.layer x → x.set < length t.sets
 -- each of them has one edge on the byte, without marks and to itself
 abbrev pub AllStayOn : Tabled → GraphView → ℕ → Type 0
 AllStayOn t g b = (x : Source) → Has g.layer x → Stays t x.set b
+
+-- each of them leads over these bytes to itself alone, without marks
+abbrev pub AllLeadBack : Tabled → GraphView → List ℕ → Type 0
+AllLeadBack t g bytes = (x : Source) → Has g.layer x → LeadsBack t.graph (set_at t.sets x.set) bytes
 
 -- between two places: no source of the layer has been stepped, and all that it has stands before `at`
 pub record IsReady (t : Tabled) (g : GraphView) (at : ℕ) : Type 0 where
@@ -74,12 +79,12 @@ Extends A ps P Q =
     (set : List ℕ) (w : Word) →
     Reaches Q set w ↔ ((from : List ℕ) × (u v : Word) × Reaches P from u × Leads A ps from v set × (u ++ v ≡ w))
 
--- the places have been read: what they ask for is told
+-- the places have been read: what they ask for is told, but where it may be passed over
 pub record HasRead (A : Automaton) (ps : List ReadingPlace) (P Q : Progress) : Type 0 where
   pub words : Extends A ps P Q
   pub sets : (set : List ℕ) → Has (sets_of Q) set ↔ Has (sets_after A (sets_of P) (asks ps)) set
   pub table : HasGrown P.table Q.table (sets_met A (sets_of P) (asks ps)) (look_ups_asked A (sets_of P) (asks ps))
-  pub tells : (look_up : LookUp) → Has (look_ups_asked A (sets_of P) (asks ps)) look_up → Tells Q.table look_up
+  pub tells : (look_up : LookUp) → IsDue A (sets_of P) ps look_up → Tells Q.table look_up
   -- the sizes of the layers and of the graph pay for the steps, with 6 for each edge and the automaton's size
   -- for each look-up that was made
   pub steps :

@@ -24,3 +24,4 @@ mod pass;
 mod pieces;
 mod places;
 mod reading;
+mod waiting;

@@ -1,19 +1,22 @@
 //! The forward pass: pieces of bytes, and gaps between them.
 //!
 //! A piece is read byte by byte, by what is known of whole layers where it is known. Where nothing has changed for a
-//! while, the next byte on which something may change is searched for (`byte_runs`). A gap takes one step, in which each
+//! while, the next byte on which something may change is searched for (`byte_runs`); where the layer waits, the next place
+//! from which something may come through (`waiting`). A gap takes one step, in which each
 //! set goes to its idle members.
-ghost use Rattle.std.specs.Prelude.{◌≡◌, ℕ, ◌+◌, ◌*◌, ◌^◌, ◌<◌, ◌≤◌, length, slice_index, IfErr, IfOk, OnErr, OnOk};
+ghost use Rattle.std.specs.Prelude.{◌≡◌, ℕ, ◌+◌, ◌-◌, ◌*◌, ◌^◌, ◌<◌, ◌≤◌, None, drop, length, slice_index, take, IfErr, IfOk, OnErr, OnOk};
 ghost use Rattle.set_table.specs.Tabled.{IsTabled};
 ghost use Rattle.one_pass.specs.Builds.{started};
 ghost use Rattle.one_pass.specs.Going.{GivesUp, GoesOn, Reads, come};
-ghost use Rattle.one_pass.specs.Passes.{AllStayOn, AreGiven};
+ghost use Rattle.one_pass.specs.Ahead.{KnowsWaiting};
+ghost use Rattle.one_pass.specs.Passes.{AllLeadBack, AllStayOn, AreGiven};
 ghost use Rattle.one_pass.specs.Places.{bytes_at, gap_at};
 ghost use Rattle.one_pass.specs.Seen.{whole};
 ghost use Rattle.one_pass.specs.declared.pass.TheConstants.{QUIET};
 
 use crate::known::Known;
 use crate::places::stays_of;
+use crate::waiting::Ahead;
 use byte_runs::Skipper;
 use output_graph::OutputGraph;
 use set_table::{Table, TableFault};
@@ -31,6 +34,7 @@ const FAR: usize = 32;
 #[derive(Drop)]
 struct Search {
     skipper: Skipper,
+    ahead: Ahead,
     /// For how many bytes the layer counts as unchanged.
     quiet: u32,
     /// The layer in which the last search went far, if it did.
@@ -39,11 +43,13 @@ struct Search {
 
 impl Search {
     /// Nothing has been searched for.
-    fn new() -> Search
-        ensures { result.quiet ≡ 0 }
+    fn new(alloc: Global) -> Search
+        ensures quiet { result.quiet ≡ 0 }
+        ensures waiting { result.ahead.waiting ≡ None }
     {
         Search {
             skipper: Skipper::new(),
+            ahead: Ahead::new(alloc),
             quiet: 0,
             far: None,
         }
@@ -116,11 +122,31 @@ impl Pass {
         ensures at { OnOk result (self.new.at ≡ self.old.at + length piece.now) }
         ensures given_up { IfErr result (GivesUp (bytes_at self.old.at piece.now) table.old self.old steps.old table.new steps.new) }
     {
+        let mut search = Search::new(self.known.alloc());
+        self.read_by(table, &mut search, piece, steps)
+    }
+
+    /// As `read`, by a search.
+    #[inline(always)]
+    fn read_by<L: Ledger>(
+        &mut self,
+        table: &mut Table<'_>,
+        search: &mut Search,
+        piece: &[u8],
+        steps: &mut Steps<L>,
+    ) -> Result<(), TableFault>
+        requires goes_on { GoesOn table.old self.old }
+        requires few { self.old.at + length piece.now < 2 ^ 32 }
+        requires begun { search.old.quiet ≤ QUIET }
+        requires waits { KnowsWaiting table.old.graph.ways search.old.ahead.waiting }
+        ensures read { OnOk result (Reads (bytes_at self.old.at piece.now) table.old self.old steps.old table.new self.new steps.new) }
+        ensures at { OnOk result (self.new.at ≡ self.old.at + length piece.now) }
+        ensures given_up { IfErr result (GivesUp (bytes_at self.old.at piece.now) table.old self.old steps.old table.new steps.new) }
+    {
         let mut layer = self.known.stand(table, &self.graph);
-        let mut search = Search::new();
         let mut i = 0;
         while i < piece.len() {
-            let here = self.read_on(table, &mut search, layer, piece, i);
+            let here = self.read_on(table, search, layer, piece, i);
             if here == piece.len() {
                 break;
             }
@@ -154,12 +180,14 @@ impl Pass {
         requires few { self.old.at + length piece.now < 2 ^ 32 + i }
         requires place { i ≤ length piece.now }
         requires counted { search.old.quiet ≤ QUIET }
+        requires waits { KnowsWaiting table.now.graph.ways search.old.ahead.waiting }
         ensures graph { self.new.graph ≡ self.old.graph }
         ensures known { self.new.known ≡ self.old.known }
         ensures at { self.new.at + i ≡ self.old.at + result }
         ensures within { result ≤ length piece.now }
         ensures later { i ≤ result }
-        ensures still { (k : ℕ) → i ≤ k → k < result → AllStayOn table.now (whole self.old.graph) (slice_index piece.now k) }
+        ensures back { AllLeadBack table.now (whole self.old.graph) (take (result - i) (drop i piece.now)) }
+        ensures waits { KnowsWaiting table.now.graph.ways search.new.ahead.waiting }
         ensures counted { search.new.quiet < QUIET }
     {
         if search.quiet < QUIET {
@@ -181,19 +209,22 @@ impl Pass {
         requires goes_on { GoesOn table.now self.old }
         requires few { self.old.at + length piece.now < 2 ^ 32 + i }
         requires place { i ≤ length piece.now }
+        requires waits { KnowsWaiting table.now.graph.ways search.old.ahead.waiting }
         ensures graph { self.new.graph ≡ self.old.graph }
         ensures known { self.new.known ≡ self.old.known }
         ensures at { self.new.at + i ≡ self.old.at + result }
         ensures within { result ≤ length piece.now }
         ensures later { i ≤ result }
-        ensures still { (k : ℕ) → i ≤ k → k < result → AllStayOn table.now (whole self.old.graph) (slice_index piece.now k) }
+        ensures back { AllLeadBack table.now (whole self.old.graph) (take (result - i) (drop i piece.now)) }
+        ensures waits { KnowsWaiting table.now.graph.ways search.new.ahead.waiting }
         ensures counted { search.new.quiet < QUIET }
     {
-        let still = still_bytes(table, &self.graph, &mut search.skipper, &piece[i..]);
+        let (_, rest) = piece.split_at(i);
+        let over = bytes_over(table, &self.graph, search, i, rest);
         search.quiet = 0;
-        search.far = if still >= FAR { layer } else { None };
-        self.at += still as u32;
-        i + still
+        search.far = if over >= FAR { layer } else { None };
+        self.at += over as u32;
+        i + over
     }
 
     /// Skips the positions before `to`, by one step to the idle members, if there are any. The refusals are those of `read`.
@@ -230,6 +261,29 @@ fn quiet_at(before: Option<usize>, after: Option<usize>, far: Option<usize>, qui
         (Some(layer), Some(kept)) if layer == kept => QUIET,
         _ => 0,
     }
+}
+
+/// Over how many bytes at the front of these, before which so many stand, the layer stays or comes back to itself, as far as
+/// a search tells.
+fn bytes_over(
+    table: &Table<'_>,
+    graph: &OutputGraph,
+    search: &mut Search,
+    before: usize,
+    bytes: &[u8],
+) -> usize
+    requires given { AreGiven table.now (whole graph.now) }
+    requires fresh { graph.now.stepped ≡ 0 }
+    requires waits { KnowsWaiting table.now.graph.ways search.old.ahead.waiting }
+    ensures within { result ≤ length bytes.now }
+    ensures back { AllLeadBack table.now (whole graph.now) (take result bytes.now) }
+    ensures waits { KnowsWaiting table.now.graph.ways search.new.ahead.waiting }
+{
+    let over = search.ahead.passed(table, graph, before, bytes);
+    if over > 0 {
+        return over;
+    }
+    still_bytes(table, graph, &mut search.skipper, bytes)
 }
 
 /// How many bytes at the front of a piece change nothing.

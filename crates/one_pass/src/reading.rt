@@ -9,7 +9,7 @@ ghost use Rattle.span_core.specs.Lists.{Has};
 ghost use Rattle.output_graph.specs.Graph.{sets_of};
 ghost use Rattle.one_pass.specs.Places.{AreReadWords, is_touched};
 ghost use Rattle.one_pass.specs.Seen.{accepted_words};
-ghost use Rattle.one_pass.specs.Weights.{least_weight_K};
+ghost use Rattle.one_pass.specs.Weights.{WeighsWithin};
 
 use crate::known::MOST_WORDS;
 use crate::pass::Pass;
@@ -24,7 +24,7 @@ use std::sync::ledger::Ledger;
 /// it ends every set. The table is new; on refusal it keeps what it holds, and the graph is given up.
 ///
 /// The accepted words are those that are read; the sets that are reached and their look-ups, but those of bytes on
-/// which a set stays, then weigh no more than the table's limit. `TableFault::Full` comes only where the weight of
+/// which a set stays and what may be passed over, then weigh no more than the table's limit. `TableFault::Full` comes only where the weight of
 /// the reading passes it, and tells a weight that is no more. The steps, with two for each live cell of the graph
 /// and two more, which are for turning it, are at most what `build` allows less one.
 pub fn read<L: Ledger>(
@@ -40,7 +40,7 @@ pub fn read<L: Ledger>(
     ensures words { IfOk result (λ g. AreReadWords table.old.graph (is_touched positions.now) doc.now (accepted_words g)) }
     ensures ended { IfOk result (λ g. g.stepped ≡ length g.layer) }
     ensures only { IfOk result (λ g. (s : ℕ) → Has (sets_of g.next) s → s ≡ 0) }
-    ensures weighs { OnOk result (least_weight_K table.old.graph doc.now (is_touched positions.now) ≤ table.old.limit) }
+    ensures weighs { OnOk result (WeighsWithin table.old.graph doc.now (is_touched positions.now) table.old.limit) }
     ensures steps { IfOk result (λ g. steps.new + (2 * length g.cells + 2) + 1 ≤ steps.old + build table.old.graph doc.now (is_touched positions.now)) }
     ensures cells { IfOk result (λ g. length g.cells ≤ edges_K table.old.graph doc.now (is_touched positions.now) + 1) }
     ensures stopped { OnErr result (steps.new + 1 ≤ steps.old + build table.old.graph doc.now (is_touched positions.now)) }

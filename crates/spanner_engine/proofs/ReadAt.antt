@@ -13,7 +13,7 @@ use Rattle.set_table.specs.declared.fault.TableFault.TheVariants.{Full}
 use Rattle.one_pass.specs.Builds.{build}
 use Rattle.one_pass.specs.Faults.{IsReadFault}
 use Rattle.one_pass.specs.Places.{is_touched}
-use Rattle.one_pass.specs.Weights.{least_weight_K}
+use Rattle.one_pass.specs.Weights.{WeighsWithin}
 use Rattle.one_pass.proofs.LawProofs.{touched_covers, covers_touched}
 use Rattle.spanner_engine.specs.Begun.{AreRead, IsReadAt, IsReadWithin, begin_steps, cells_sought, counted, filter_steps, table_weight}
 
@@ -84,8 +84,8 @@ module _ (filter : Bool) (q p : QueryTree) (is : p ≡ q) (d : List ℕ) (parts 
   for_each : (P : (ℕ → Bool) → Type 0) → P (is_touched parts) → (K : ℕ → Bool) → AreRead filter q d K → P K
   for_each P given K are = subst P (same_set (IsReadAt filter q d) (is_touched parts) K are_read are) given
 
-  pub read_limit : (A : Automaton) (limit : ℕ) → least_weight_K A d (is_touched parts) ≤ limit → IsReadWithin A q d filter limit
-  read_limit A limit le = for_each (λ K. least_weight_K A d K ≤ limit) le
+  pub read_limit : (A : Automaton) (limit : ℕ) → WeighsWithin A d (is_touched parts) limit → IsReadWithin A q d filter limit
+  read_limit A limit le = for_each (λ K. WeighsWithin A d K limit) le
 
   pub table_cause : (limit weight : ℕ) (fault : TableFault) → fault ≡ Full weight → IsReadFault (counted q) (is_touched parts) d limit fault →
       (limit < weight) × ((K : ℕ → Bool) → AreRead filter q d K → weight ≤ table_weight q d K)

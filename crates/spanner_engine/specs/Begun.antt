@@ -9,7 +9,7 @@ use Rattle.marked_automaton.specs.Automaton.{Automaton}
 use Rattle.automaton_reading.specs.Reading.{edges_K, weight_K}
 use Rattle.query_automaton.specs.QueryAutomaton.{of_query}
 use Rattle.one_pass.specs.Builds.{build}
-use Rattle.one_pass.specs.Weights.{least_weight_K}
+use Rattle.one_pass.specs.Weights.{WeighsWithin}
 use Rattle.filter_laws.specs.Touching.{HasMinus, IsSetOf, SomeAtomOf, TouchedOf, sum_atoms_of}
 use Rattle.segment_filter.specs.Costs.{atom_weight, touching_steps}
 use Rattle.spanner_engine.specs.declared.beginning.BeginFault.{BeginFault}
@@ -54,7 +54,7 @@ table_weight q d K = weight_K (counted q) d K
 
 -- what reading the document with this automaton at the positions must hold weighs no more than the limit
 abbrev pub IsReadWithin : Automaton → QueryTree → List ℕ → Bool → ℕ → Type 0
-IsReadWithin A q d filter limit = (K : ℕ → Bool) → AreRead filter q d K → least_weight_K A d K ≤ limit
+IsReadWithin A q d filter limit = (K : ℕ → Bool) → AreRead filter q d K → WeighsWithin A d K limit
 
 -- to find the positions, at most; nothing where all are read
 abbrev pub filter_steps : Bool → QueryTree → List ℕ → ℕ

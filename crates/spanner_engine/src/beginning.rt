@@ -62,7 +62,7 @@ pub enum BeginFault {
 /// the query's automaton with nothing left out. The weight that either tells is more than the limit, and no
 /// more than what is weighed. Where there are answers, what reading the document must hold weighs no more than the
 /// limit, counted on the automaton that is read: the sets that are reached and their look-ups, but those of bytes on
-/// which a set stays.
+/// which a set stays and what stands between two places at which each set is the same, which may be passed over.
 ///
 /// The steps are counted on the same automaton: 8 for each position and one more, 8 for each edge, 1 and
 /// the automaton's size for each look-up; and with the filter what it takes to find the positions of each atom. To

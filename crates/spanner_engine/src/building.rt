@@ -11,7 +11,7 @@ ghost use Rattle.output_graph.specs.Rows.{rows};
 ghost use Rattle.one_pass.specs.Builds.{build};
 ghost use Rattle.one_pass.specs.Faults.{IsReadFault};
 ghost use Rattle.one_pass.specs.Places.{AreReadWords, is_touched};
-ghost use Rattle.one_pass.specs.Weights.{least_weight_K};
+ghost use Rattle.one_pass.specs.Weights.{WeighsWithin};
 ghost use Rattle.filter_laws.specs.Touching.{Contains, TouchedOf};
 ghost use Rattle.spanner_engine.specs.Begun.{counted};
 
@@ -43,7 +43,7 @@ pub(crate) fn all_answers<L: Ledger>(
     ensures rest { IfOk result (λ e. e.rest ≡ e.whole) }
     ensures variables { IfOk result (λ e. e.variables ≡ length compiled.now.automaton.names) }
     ensures cells { IfOk result (λ e. e.cells ≤ edges_K (counted (query_of compiled.now.query)) doc.now (is_touched positions) + 1) }
-    ensures weighs { OnOk result (least_weight_K compiled.now.automaton.graph doc.now (is_touched positions) ≤ limit) }
+    ensures weighs { OnOk result (WeighsWithin compiled.now.automaton.graph doc.now (is_touched positions) limit) }
     ensures cause { IfErr result (IsReadFault (counted (query_of compiled.now.query)) (is_touched positions) doc.now limit) }
     ensures steps { steps.new ≤ steps.old + build (counted (query_of compiled.now.query)) doc.now (is_touched positions) }
 {
@@ -68,7 +68,7 @@ fn lists_of<L: Ledger>(
     requires within { (q : ℕ) → Covers positions.now q → q ≤ length doc.now }
     ensures words { IfOk result (λ lists. AreReadWords automaton.now.graph (is_touched positions.now) doc.now (rows lists.store lists.first)) }
     ensures cells { IfOk result (λ lists. length lists.store ≤ edges_K automaton.now.graph doc.now (is_touched positions.now) + 1) }
-    ensures weighs { OnOk result (least_weight_K automaton.now.graph doc.now (is_touched positions.now) ≤ limit) }
+    ensures weighs { OnOk result (WeighsWithin automaton.now.graph doc.now (is_touched positions.now) limit) }
     ensures cause { IfErr result (IsReadFault automaton.now.graph (is_touched positions.now) doc.now limit) }
     ensures steps { steps.new ≤ steps.old + build automaton.now.graph doc.now (is_touched positions.now) }
 {

@@ -1,14 +1,14 @@
-use Rattle.std.proofs.Common.{◌-◌, ◌<◌, length, drop, get_or, arith, subst, ap, ◌∙◌}
-use Rattle.std.proofs.lemmas.List.{get_or-drop, get_or-take}
-use Rattle.one_pass.specs.Passes.{AllStayOn}
+use Rattle.std.proofs.Common.{◌≡◌, ◌+◌, ◌-◌, List, ℕ, take, drop, arith, subst}
+use Rattle.one_pass.specs.Passes.{AllLeadBack}
 use Rattle.one_pass.specs.Seen.{whole}
 use Rattle.one_pass.proofs.pass.Pass.pass_over.Goals as goal
 
-pub returns-clause-still : goal.returns-clause-still
-returns-clause-still c k later less =
-    let piece = c.args.piece.now in
+pub returns-clause-back : goal.returns-clause-back
+returns-clause-back c =
+    let t = c.args.table.now in
+    let g = whole c.args.self.now.graph in
     let i = c.args.i in
-    let at : k - i < length piece - i = omega (arith, c.still_bytes-still.ensures.within) in
-    subst (AllStayOn c.args.table.now (whole c.args.self.now.graph))
-    (get_or-take (length piece - i) (drop i piece) (k - i) 0 at ∙ get_or-drop i piece (k - i) 0 ∙ ap (λ n. get_or piece n 0) (omega arith))
-    (c.still_bytes-still.ensures.still (k - i) (omega arith))
+    let over = c.bytes_over-over.result in
+    let same : over ≡ (i + over) - i = omega arith in
+    subst (λ (n : ℕ). AllLeadBack t g (take n (drop i c.args.piece.now))) same
+    (subst (λ (xs : List ℕ). AllLeadBack t g (take over xs)) c.split_at.ensures.back c.bytes_over-over.ensures.back)

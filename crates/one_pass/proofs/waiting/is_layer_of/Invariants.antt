@@ -1,0 +1,10 @@
+use Rattle.std.proofs.Common.{take}
+use Rattle.span_core.specs.Lists.{Has}
+use Rattle.output_graph.specs.Graph.{Source, sources}
+use Rattle.set_table.specs.Tabled.{set_at}
+use Rattle.one_pass.specs.Waiting.{IsOf}
+use Rattle.one_pass.proofs.waiting.is_layer_of.Given as goal
+
+-- those so far
+abbrev pub invariant-loop-k : goal.invariant-loop-k
+invariant-loop-k l = (x : Source) → Has (take l.k (sources l.graph)) x → IsOf l.states (set_at l.table.sets x.set)

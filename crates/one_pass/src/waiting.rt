@@ -1,0 +1,431 @@
+//! Layers that wait: where what leaves them takes bytes of known sets in turn, the next place that it may begin at is
+//! searched for.
+//!
+//! A state waits where it has a way to itself, without marks, on each byte. What leaves the states of a layer that waits takes
+//! bytes of some sets in turn, which the ways tell. Up to a place before which the bytes nowhere keep to these sets each set
+//! of the layer leads back to itself, whatever was under way on the way there; so the layer is the same, and what stands
+//! between need not be read.
+ghost use Rattle.std.specs.Prelude.{◌≡◌, ℕ, ◌<◌, ◌≤◌, ◌↔◌, List, None, true, length, take, IfSome, IsTrue};
+ghost use Rattle.std.specs.FinSet as bytes;
+ghost use Rattle.span_core.specs.Lists.{Has};
+ghost use Rattle.output_graph.specs.Graph.{Source, sources};
+ghost use Rattle.set_table.specs.Tabled.{set_at};
+ghost use Rattle.one_pass.specs.Ahead.{HasAdded, KnowsWaiting};
+ghost use Rattle.one_pass.specs.Passes.{AllLeadBack, AreGiven};
+ghost use Rattle.one_pass.specs.Seen.{whole};
+ghost use Rattle.one_pass.specs.Waiting.{Forces, IsLevel, IsLoop, IsLooping, IsOf, Waits};
+
+use byte_runs::Chain;
+use marked_automaton::Way;
+use output_graph::OutputGraph;
+use set_table::Table;
+use span_core::ByteSet;
+use std::alloc::{AllocError, Global};
+
+/// Fewer bytes are not searched.
+const LONG: usize = 1024;
+
+/// A search costs as much as reading so many bytes, about.
+const COST: usize = 128;
+
+/// So many bytes may be lost at first, and again after a pause.
+const FIRST_CREDIT: usize = 512;
+
+/// So many bytes that were gained may be lost again at most.
+const MOST_CREDIT: usize = 16_384;
+
+/// Over so many bytes no search is made where searching gained nothing.
+const PAUSE: usize = 65_536;
+
+/// So many bytes are looked at by one search at first, and where one passed over few.
+const FIRST_WINDOW: usize = 4_096;
+
+/// And at most, where searches pass over all of them.
+const MOST_WINDOW: usize = 1_048_576;
+
+/// More states than these are not looked at.
+const MOST_STATES: usize = 64;
+
+/// So many sets a chain has at most.
+const MOST_SETS: usize = 16;
+
+/// One look at ways is taken for so many bytes at most.
+const SHARE: usize = 16;
+
+/// So often each way is looked at for a chain, about.
+const LOOKS: usize = 20;
+
+/// Where ways lead: the bytes that they take, and the states.
+#[derive(Drop)]
+pub(crate) struct Level {
+    pub(crate) bytes: ByteSet,
+    pub(crate) next: Vec<u32>,
+}
+
+/// States that wait, and the chain of sets that leads out of them.
+#[derive(Drop)]
+pub(crate) struct Waiting {
+    pub(crate) states: Vec<u32>,
+    pub(crate) chain: Chain,
+}
+
+/// What is searched for where a layer waits.
+#[derive(Drop)]
+pub(crate) struct Ahead {
+    alloc: Global,
+    pub(crate) waiting: Option<Waiting>,
+    /// How many looks at ways it took.
+    spent: usize,
+    /// How many bytes a search looks at.
+    window: usize,
+    /// How many bytes may be lost to searches that gain nothing.
+    credit: usize,
+    /// Up to where no search is made.
+    paused: usize,
+}
+
+impl Ahead {
+    /// Nothing has been worked out.
+    pub(crate) fn new(alloc: Global) -> Ahead
+        ensures { result.waiting ≡ None }
+    {
+        Ahead {
+            alloc,
+            waiting: None,
+            spent: 0,
+            window: FIRST_WINDOW,
+            credit: FIRST_CREDIT,
+            paused: 0,
+        }
+    }
+
+    /// Over how many bytes at the front of these, before which so many stand, each set of the graph's layer leads back to
+    /// itself, as far as a search tells; 0 where none is made.
+    pub(crate) fn passed(
+        &mut self,
+        table: &Table<'_>,
+        graph: &OutputGraph,
+        before: usize,
+        bytes: &[u8],
+    ) -> usize
+        requires given { AreGiven table.now (whole graph.now) }
+        requires fresh { graph.now.stepped ≡ 0 }
+        requires waits { KnowsWaiting table.now.graph.ways self.old.waiting }
+        ensures waits { KnowsWaiting table.now.graph.ways self.new.waiting }
+        ensures within { result ≤ length bytes.now }
+        ensures back { AllLeadBack table.now (whole graph.now) (take result bytes.now) }
+    {
+        if bytes.len() < LONG || before < self.paused {
+            return 0;
+        }
+        self.work_out(table, graph, before.saturating_add(bytes.len()));
+        let (front, _) = bytes.split_at(bytes.len().min(self.window));
+        let over = passed_by(&self.waiting, table, graph, front);
+        self.count(before, over);
+        over
+    }
+
+    /// Works out the chain of the graph's layer, unless it is known or would cost too much for so many bytes.
+    fn work_out(&mut self, table: &Table<'_>, graph: &OutputGraph, bytes: usize)
+        requires given { AreGiven table.now (whole graph.now) }
+        requires fresh { graph.now.stepped ≡ 0 }
+        requires waits { KnowsWaiting table.now.graph.ways self.old.waiting }
+        ensures waits { KnowsWaiting table.now.graph.ways self.new.waiting }
+    {
+        if is_known(&self.waiting, table, graph) {
+            return;
+        }
+        let spent = table
+            .ways()
+            .len()
+            .saturating_mul(LOOKS)
+            .saturating_add(self.spent);
+        if spent > bytes / SHARE {
+            return;
+        }
+        self.spent = spent;
+        match waiting_of(self.alloc, table, graph) {
+            Some(waiting) => self.waiting = Some(waiting),
+            None => {}
+        }
+    }
+
+    /// Counts a search behind so many bytes that passed over so many: whether it gained more than it cost, and how many
+    /// bytes the next one looks at.
+    fn count(&mut self, before: usize, over: usize)
+        ensures { self.new.waiting ≡ self.old.waiting }
+    {
+        if over < COST {
+            self.window = FIRST_WINDOW;
+        } else if over >= self.window / 2 {
+            self.window = self.window.saturating_mul(4).min(MOST_WINDOW);
+        }
+        let credit = self.credit.saturating_add(over).min(MOST_CREDIT);
+        if credit >= COST {
+            self.credit = credit - COST;
+            return;
+        }
+        self.credit = FIRST_CREDIT;
+        self.paused = before.saturating_add(PAUSE);
+    }
+}
+
+/// As `Ahead::passed`, by what is known.
+fn passed_by(
+    waiting: &Option<Waiting>,
+    table: &Table<'_>,
+    graph: &OutputGraph,
+    bytes: &[u8],
+) -> usize
+    requires given { AreGiven table.now (whole graph.now) }
+    requires fresh { graph.now.stepped ≡ 0 }
+    requires waits { KnowsWaiting table.now.graph.ways waiting.now }
+    ensures within { result ≤ length bytes.now }
+    ensures back { AllLeadBack table.now (whole graph.now) (take result bytes.now) }
+{
+    match waiting {
+        Some(waiting) => passed_from(waiting, table, graph, bytes),
+        None => 0,
+    }
+}
+
+/// As `passed_by`, where something is known.
+fn passed_from(waiting: &Waiting, table: &Table<'_>, graph: &OutputGraph, bytes: &[u8]) -> usize
+    requires given { AreGiven table.now (whole graph.now) }
+    requires fresh { graph.now.stepped ≡ 0 }
+    requires waits { Waits table.now.graph.ways waiting.now.states.items waiting.now.chain }
+    ensures within { result ≤ length bytes.now }
+    ensures back { AllLeadBack table.now (whole graph.now) (take result bytes.now) }
+{
+    table.is_table();
+    if !is_layer_of(waiting.states.as_slice(), table, graph) {
+        return 0;
+    }
+    waiting.chain.next_place(bytes)
+}
+
+/// Whether the layer's states are among those of which something is known.
+fn is_known(waiting: &Option<Waiting>, table: &Table<'_>, graph: &OutputGraph) -> bool
+    requires given { AreGiven table.now (whole graph.now) }
+    requires fresh { graph.now.stepped ≡ 0 }
+{
+    match waiting {
+        Some(waiting) => is_layer_of(waiting.states.as_slice(), table, graph),
+        None => false,
+    }
+}
+
+/// Whether each set of the layer has a member, and all of them are among these states.
+fn is_layer_of(states: &[u32], table: &Table<'_>, graph: &OutputGraph) -> bool
+    requires given { AreGiven table.now (whole graph.now) }
+    requires fresh { graph.now.stepped ≡ 0 }
+    ensures { IsTrue result → (x : Source) → Has (sources graph.now) x → IsOf states.now (set_at table.now.sets x.set) }
+{
+    for k in 0..graph.layer_len() {
+        if !is_of(states, table.members(graph.set_at(k))) {
+            return false;
+        }
+    }
+    true
+}
+
+/// Whether a set has a member, and all of them are among these states.
+fn is_of(states: &[u32], set: &[u32]) -> bool
+    ensures { IsTrue result → IsOf states.now set.now }
+{
+    if set.is_empty() {
+        return false;
+    }
+    for state in set {
+        if !has(states, *state) {
+            return false;
+        }
+    }
+    true
+}
+
+/// Whether the state is among these.
+fn has(states: &[u32], state: u32) -> bool
+    ensures { IsTrue result ↔ Has states.now state }
+{
+    for member in states {
+        if *member == state {
+            return true;
+        }
+    }
+    false
+}
+
+/// The states of the layer and the chain that leads out of them, if all of them wait and there is one.
+fn waiting_of(alloc: Global, table: &Table<'_>, graph: &OutputGraph) -> Option<Waiting>
+    requires given { AreGiven table.now (whole graph.now) }
+    requires fresh { graph.now.stepped ≡ 0 }
+    ensures { IfSome result (λ w. Waits table.now.graph.ways w.states.items w.chain) }
+{
+    let states = match states_of(alloc, table, graph) {
+        Some(states) => states,
+        None => return None,
+    };
+    if !all_loop(table.ways(), states.as_slice()) {
+        return None;
+    }
+    let sets = match chain_of(alloc, table.ways(), states.as_slice()) {
+        Some(sets) => sets,
+        None => return None,
+    };
+    match Chain::new(alloc, sets) {
+        Some(chain) => Some(Waiting { states, chain }),
+        None => None,
+    }
+}
+
+/// The states of the layer's sets, if they are few.
+fn states_of(alloc: Global, table: &Table<'_>, graph: &OutputGraph) -> Option<Vec<u32>>
+    requires given { AreGiven table.now (whole graph.now) }
+    requires fresh { graph.now.stepped ≡ 0 }
+{
+    let mut states = Vec::new(alloc);
+    for k in 0..graph.layer_len() {
+        if !put_all(&mut states, table.members(graph.set_at(k))) {
+            return None;
+        }
+    }
+    Some(states)
+}
+
+/// Puts these states among others, and tells whether they are few.
+fn put_all(states: &mut Vec<u32>, more: &[u32]) -> bool {
+    for state in more {
+        if !put(states, *state) {
+            return false;
+        }
+    }
+    true
+}
+
+/// Puts a state among others, and tells whether they are few.
+fn put(states: &mut Vec<u32>, state: u32) -> bool
+    ensures kept { (x : ℕ) → Has states.old.items x → Has states.new.items x }
+    ensures there { IsTrue result → Has states.new.items state }
+{
+    if has(states.as_slice(), state) {
+        return true;
+    }
+    if states.len() >= MOST_STATES {
+        return false;
+    }
+    match states.push(state) {
+        Ok(()) => true,
+        Err(_) => false,
+    }
+}
+
+/// Whether each of the states has a way to itself, without marks, on each byte.
+fn all_loop(ways: &[Way], states: &[u32]) -> bool
+    ensures { IsTrue result → (p : ℕ) → Has states.now p → IsLooping ways.now p }
+{
+    for state in states {
+        if !loops(ways, *state) {
+            return false;
+        }
+    }
+    true
+}
+
+/// Whether the state has a way to itself, without marks, on each byte.
+fn loops(ways: &[Way], state: u32) -> bool
+    ensures { IsTrue result → IsLooping ways.now state }
+{
+    for way in ways {
+        if way.from == state && is_loop(way) && is_all(&way.bytes) {
+            return true;
+        }
+    }
+    false
+}
+
+/// Whether the way leads to where it leads from, without marks.
+fn is_loop(way: &Way) -> bool
+    ensures { IsTrue result → IsLoop way.now }
+{
+    way.marks.is_none() && way.to == way.from
+}
+
+/// Whether each byte is in the set.
+fn is_all(set: &ByteSet) -> bool
+    ensures { IsTrue result → (b : ℕ) → b < 256 → IsTrue (bytes.contains set.now b) }
+{
+    set.negation().is_empty()
+}
+
+/// The sets of bytes that what leaves the states takes in turn.
+fn chain_of(alloc: Global, ways: &[Way], states: &[u32]) -> Option<Vec<ByteSet>>
+    ensures { IfSome result (λ sets. Forces ways.now true states.now sets.items) }
+{
+    let mut sets = Vec::new(alloc);
+    let mut from = match copied(alloc, states) {
+        Some(from) => from,
+        None => return None,
+    };
+    let mut leaving = true;
+    for _ in 0..MOST_SETS {
+        let level = match level_of(alloc, ways, from.as_slice(), leaving) {
+            Some(level) => level,
+            None => return Some(sets),
+        };
+        let Level { bytes, next } = level;
+        if bytes.is_empty() || is_all(&bytes) {
+            return Some(sets);
+        }
+        match sets.push(bytes) {
+            Ok(()) => {}
+            Err(_) => return None,
+        }
+        from = next;
+        leaving = false;
+    }
+    Some(sets)
+}
+
+/// A list of the same states.
+fn copied(alloc: Global, states: &[u32]) -> Option<Vec<u32>>
+    ensures { IfSome result (λ copy. copy.items ≡ states.now) }
+{
+    let mut copy = Vec::new(alloc);
+    match copy.extend_from_slice(states) {
+        Ok(()) => Some(copy),
+        Err(AllocError) => None,
+    }
+}
+
+/// The bytes that the ways from these states take, and where they lead, loops left out if so told; None where that are many
+/// states.
+fn level_of(alloc: Global, ways: &[Way], from: &[u32], leaving: bool) -> Option<Level>
+    ensures { IfSome result (λ l. IsLevel leaving ways.now from.now l.bytes l.next.items) }
+{
+    let mut level = Level {
+        bytes: ByteSet::empty(),
+        next: Vec::new(alloc),
+    };
+    for way in ways {
+        if !add_way(&mut level, from, leaving, way) {
+            return None;
+        }
+    }
+    Some(level)
+}
+
+/// Adds a way to a level, if it leads from one of these states and is not left out, and tells whether its states are few.
+fn add_way(level: &mut Level, from: &[u32], leaving: bool, way: &Way) -> bool
+    ensures { IsTrue result → HasAdded leaving from.now way.now level.old level.new }
+{
+    if !has(from, way.from) {
+        return true;
+    }
+    if leaving && is_loop(way) {
+        return true;
+    }
+    let bytes = level.bytes.union(&way.bytes);
+    level.bytes = bytes;
+    put(&mut level.next, way.to)
+}
