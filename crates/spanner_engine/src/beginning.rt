@@ -6,6 +6,7 @@ ghost use Rattle.std.specs.Prelude.{◌≡◌, ℕ, ◌+◌, ◌^◌, ◌≤◌,
 ghost use Rattle.std.specs.Option.{ForSome, IfSome, option_copied};
 ghost use Rattle.spanner_model.specs.Answers.{IsRest};
 ghost use Rattle.spanner_model.specs.ExprView.{query_of};
+ghost use Rattle.query_automaton.specs.CompiledQuery.{IsCompiled};
 ghost use Rattle.spanner_engine.specs.Begun.{AreRead, IsBeginFault, IsPast, IsReadWithin, KeepsOther, begin_steps, cells_sought, row_kept};
 ghost use Rattle.spanner_engine.specs.Filtering.{AreWithin};
 ghost use Rattle.spanner_engine.specs.Left.{AreLeft};
@@ -16,10 +17,12 @@ use crate::building::all_answers;
 use crate::place::{is_past, other_length};
 use crate::positions::positions_read;
 use enumerator::Enumerator;
+use marked_automaton::Automaton;
 use query_automaton::Compiled;
 use segment_filter::FilterFault;
 use set_table::TableFault;
 use span_core::{Kept, Steps};
+use spanner_model::Query;
 use std::alloc::Global;
 use std::sync::ledger::Ledger;
 
@@ -90,6 +93,43 @@ pub fn begin<L: Ledger>(
     ensures steps { (K : ℕ → Bool) → AreRead options.filter (query_of compiled.now.query) doc.now K →
         steps.new ≤ steps.old + begin_steps options.filter (query_of compiled.now.query) doc.now K (row_kept (option_copied after.entry)) }
 {
+    begin_by(
+        alloc,
+        compiled.query(),
+        compiled.automaton(),
+        doc,
+        after,
+        options,
+        steps,
+    )
+}
+
+/// The same of a query and an automaton that it was compiled to, for a caller that keeps the two side by side: what
+/// `Compiled` has as its invariant is asked here.
+pub fn begin_by<L: Ledger>(
+    alloc: Global,
+    query: &Query,
+    automaton: &Automaton,
+    doc: &[u8],
+    after: Option<&Kept>,
+    options: Options,
+    steps: &mut Steps<L>,
+) -> Result<Answers, BeginFault>
+    requires compiled { IsCompiled (query_of query.now) automaton.now }
+    requires few { length doc.now ≤ 2 ^ 28 }
+    requires row { IfSome (option_copied after) (λ kept. length kept.row ≡ length automaton.now.names) }
+    requires limit { options.limit ≤ 100000000 }
+    ensures left { IfOk result (λ a. AreLeft (query_of query.now) doc.now automaton.now.names (row_kept (option_copied after.entry)) a.rest) }
+    ensures variables { IfOk result (λ a. a.variables ≡ length automaton.now.names) }
+    ensures other { (kept : ℕ) → KeepsOther (length doc.now) (option_copied after.entry) kept → IsErrOf result (CursorOther kept (length doc.now)) }
+    ensures place { IsPast (length doc.now) (option_copied after.entry) → IsErrOf result CursorPlace }
+    ensures still { (kept found : ℕ) → IsErrOf result CursorPlace ⊎ IsErrOf result (CursorOther kept found) → steps.new ≡ steps.old }
+    ensures fault { IfErr result (IsBeginFault (query_of query.now) doc.now options.filter (option_copied after.entry) options.limit) }
+    ensures weighs { OnOk result (IsReadWithin automaton.now.graph (query_of query.now) doc.now options.filter options.limit) }
+    ensures atoms { OnOk result (AreWithin (query_of query.now) doc.now options.filter options.limit) }
+    ensures steps { (K : ℕ → Bool) → AreRead options.filter (query_of query.now) doc.now K →
+        steps.new ≤ steps.old + begin_steps options.filter (query_of query.now) doc.now K (row_kept (option_copied after.entry)) }
+{
     let found = doc.len() as u32;
     if let Some(kept) = other_length(after, found) {
         return Err(BeginFault::CursorOther { kept, found });
@@ -97,12 +137,12 @@ pub fn begin<L: Ledger>(
     if is_past(after, doc.len()) {
         return Err(BeginFault::CursorPlace);
     }
-    let positions = match positions_read(alloc, compiled.query(), doc, options, steps) {
+    let positions = match positions_read(alloc, query, doc, options, steps) {
         Ok(positions) => positions,
         Err(FilterFault::Full { weight }) => return Err(BeginFault::Filter { weight }),
         Err(FilterFault::OutOfMemory) => return Err(BeginFault::OutOfMemory),
     };
-    let rows = match all_answers(alloc, compiled, doc, positions, options.limit, steps) {
+    let rows = match all_answers(alloc, query, automaton, doc, positions, options.limit, steps) {
         Ok(rows) => rows,
         Err(TableFault::Full { weight }) => return Err(BeginFault::Table { weight }),
         Err(TableFault::OutOfMemory) => return Err(BeginFault::OutOfMemory),

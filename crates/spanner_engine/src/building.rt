@@ -6,6 +6,7 @@ ghost use Rattle.std.specs.Prelude.{◌≡◌, ℕ, ◌+◌, ◌^◌, ◌≤◌,
 ghost use Rattle.span_core.specs.Intervals.{Covers};
 ghost use Rattle.spanner_model.specs.Answers.{AreAnswers};
 ghost use Rattle.spanner_model.specs.ExprView.{query_of};
+ghost use Rattle.query_automaton.specs.CompiledQuery.{IsCompiled};
 ghost use Rattle.automaton_reading.specs.Reading.{edges_K};
 ghost use Rattle.output_graph.specs.Rows.{rows};
 ghost use Rattle.one_pass.specs.Builds.{build};
@@ -19,9 +20,9 @@ use enumerator::Enumerator;
 use marked_automaton::Automaton;
 use one_pass::read_rows;
 use output_graph::RowLists;
-use query_automaton::Compiled;
 use set_table::{Table, TableFault};
 use span_core::{Steps, Touched};
+use spanner_model::Query;
 use std::alloc::Global;
 use std::sync::ledger::Ledger;
 
@@ -29,28 +30,29 @@ use std::sync::ledger::Ledger;
 /// gives an enumerator of the answers, which stands before the first. The positions are let go.
 pub(crate) fn all_answers<L: Ledger>(
     alloc: Global,
-    compiled: &Compiled<'_>,
+    _query: &Query,
+    automaton: &Automaton,
     doc: &[u8],
     positions: Touched,
     limit: u64,
     steps: &mut Steps<L>,
 ) -> Result<Enumerator, TableFault>
+    requires compiled { IsCompiled (query_of _query.now) automaton.now }
     requires few { length doc.now ≤ 2 ^ 28 }
     requires limit { limit ≤ 100000000 }
     requires within { (i : ℕ) → Covers positions i → i ≤ length doc.now }
-    requires touched { Contains (is_touched positions) (TouchedOf (query_of compiled.now.query) doc.now) }
-    ensures answers { IfOk result (λ e. AreAnswers (query_of compiled.now.query) doc.now compiled.now.automaton.names e.whole) }
+    requires touched { Contains (is_touched positions) (TouchedOf (query_of _query.now) doc.now) }
+    ensures answers { IfOk result (λ e. AreAnswers (query_of _query.now) doc.now automaton.now.names e.whole) }
     ensures rest { IfOk result (λ e. e.rest ≡ e.whole) }
-    ensures variables { IfOk result (λ e. e.variables ≡ length compiled.now.automaton.names) }
-    ensures cells { IfOk result (λ e. e.cells ≤ edges_K (counted (query_of compiled.now.query)) doc.now (is_touched positions) + 1) }
-    ensures weighs { OnOk result (WeighsWithin compiled.now.automaton.graph doc.now (is_touched positions) limit) }
-    ensures cause { IfErr result (IsReadFault (counted (query_of compiled.now.query)) (is_touched positions) doc.now limit) }
-    ensures steps { steps.new ≤ steps.old + build (counted (query_of compiled.now.query)) doc.now (is_touched positions) }
+    ensures variables { IfOk result (λ e. e.variables ≡ length automaton.now.names) }
+    ensures cells { IfOk result (λ e. e.cells ≤ edges_K (counted (query_of _query.now)) doc.now (is_touched positions) + 1) }
+    ensures weighs { OnOk result (WeighsWithin automaton.now.graph doc.now (is_touched positions) limit) }
+    ensures cause { IfErr result (IsReadFault (counted (query_of _query.now)) (is_touched positions) doc.now limit) }
+    ensures steps { steps.new ≤ steps.old + build (counted (query_of _query.now)) doc.now (is_touched positions) }
 {
-    let automaton = compiled.automaton();
     automaton.is_marked();
     let lists = lists_of(alloc, automaton, doc, &positions, limit, steps)?;
-    Ok(Enumerator::new(lists, compiled.vars().len()))
+    Ok(Enumerator::new(lists, automaton.vars().len()))
 }
 
 /// The lists of the words with which a document is read at some positions. The table that it is read with

@@ -5,7 +5,7 @@
 #![tactic(auto)]
 
 pub use answers::Answers;
-pub use beginning::{BeginFault, Options, begin};
+pub use beginning::{BeginFault, Options, begin, begin_by};
 pub use query_automaton::{Compiled, compile};
 pub use rows::TestedRows;
 pub use tested::{advance_tested, bind, next_tested};

@@ -1,47 +1,27 @@
-use Rattle.std.proofs.Common.{ap, subst}
+use Rattle.std.proofs.Common.{◌≡◌, ◌+◌, ◌≤◌, ℕ, Bool, IfOk, IfErr, OnOk, subst}
 use Rattle.std.specs.Option.{option_copied}
-use Rattle.spanner_model.specs.Expression.{QueryTree}
+use Rattle.spanner_model.specs.declared.query.Query.{Query}
 use Rattle.spanner_model.specs.ExprView.{query_of}
-use Rattle.spanner_engine.specs.Begun.{row_kept}
+use Rattle.marked_automaton.specs.Automaton.{Marked}
+use Rattle.spanner_engine.specs.Begun.{AreRead, IsBeginFault, begin_steps, row_kept}
 use Rattle.spanner_engine.specs.Filtering.{AreWithin}
-use Rattle.spanner_engine.proofs.ReadAt.{parts_contain, parts_within, read_limit, steps_read, steps_sought, table_cause}
+use Rattle.spanner_engine.specs.Left.{AreLeft}
 use Rattle.spanner_engine.proofs.beginning.begin.Goals as goal
 
-pub all_answers-requires-clause-within : goal.all_answers-requires-clause-within
-all_answers-requires-clause-within g c =
-    parts_within c.args.options.filter (query_of c.args.compiled.now.query) (query_of c.query.result.now) (ap query_of c.query.ensures.query) c.args.doc.now c.in-Ok.positions c.in-Ok.ensures.read
+pub returns-clause-left : goal.returns-clause-left
+returns-clause-left g c =
+    subst (λ (A : Marked). IfOk c.begin_by.result (λ a. AreLeft (query_of c.args.compiled.now.query) c.args.doc.now A.names (row_kept (option_copied c.args.after)) a.rest)) c.automaton.ensures.automaton
+    (subst (λ (Q : Query). IfOk c.begin_by.result (λ a. AreLeft (query_of Q) c.args.doc.now c.automaton.result.now.names (row_kept (option_copied c.args.after)) a.rest)) c.query.ensures.query c.begin_by.ensures.left)
 
-pub all_answers-requires-clause-touched : goal.all_answers-requires-clause-touched
-all_answers-requires-clause-touched g c =
-    parts_contain c.args.options.filter (query_of c.args.compiled.now.query) (query_of c.query.result.now) (ap query_of c.query.ensures.query) c.args.doc.now c.in-Ok.positions c.in-Ok.ensures.read
-
-pub returns-in-Err-Full-all_answers-clause-fault : goal.returns-in-Err-Full-all_answers-clause-fault
-returns-in-Err-Full-all_answers-clause-fault g c =
-    let full = c.in-Err-Full-all_answers in
-    table_cause c.args.options.filter (query_of c.args.compiled.now.query) (query_of c.query.result.now) (ap query_of c.query.ensures.query) c.args.doc.now c.in-Ok.positions c.in-Ok.ensures.read
-    c.args.options.limit full.weight full.field-0 full.field-0-is full.ensures.cause
-
-pub returns-in-Err-Full-all_answers-clause-steps : goal.returns-in-Err-Full-all_answers-clause-steps
-returns-in-Err-Full-all_answers-clause-steps g c =
-    steps_read c.args.options.filter (query_of c.args.compiled.now.query) (query_of c.query.result.now) (ap query_of c.query.ensures.query) c.args.doc.now c.in-Ok.positions c.in-Ok.ensures.read
-    c.args.steps.now c.positions_read.new.steps c.all_answers.new.steps (row_kept (option_copied c.args.after)) c.positions_read.ensures.steps c.all_answers.ensures.steps
-
-pub returns-in-Err-OutOfMemory-all_answers-clause-steps : goal.returns-in-Err-OutOfMemory-all_answers-clause-steps
-returns-in-Err-OutOfMemory-all_answers-clause-steps g c =
-    steps_read c.args.options.filter (query_of c.args.compiled.now.query) (query_of c.query.result.now) (ap query_of c.query.ensures.query) c.args.doc.now c.in-Ok.positions c.in-Ok.ensures.read
-    c.args.steps.now c.positions_read.new.steps c.all_answers.new.steps (row_kept (option_copied c.args.after)) c.positions_read.ensures.steps c.all_answers.ensures.steps
-
-pub returns-clause-weighs : goal.returns-clause-weighs
-returns-clause-weighs g c =
-    read_limit c.args.options.filter (query_of c.args.compiled.now.query) (query_of c.query.result.now) (ap query_of c.query.ensures.query) c.args.doc.now c.in-Ok.positions c.in-Ok.ensures.read
-    c.args.compiled.now.automaton.graph c.args.options.limit c.in-Ok-all_answers.ensures.weighs
+pub returns-clause-fault : goal.returns-clause-fault
+returns-clause-fault g c =
+    subst (λ (Q : Query). IfErr c.begin_by.result (IsBeginFault (query_of Q) c.args.doc.now c.args.options.filter (option_copied c.args.after) c.args.options.limit)) c.query.ensures.query c.begin_by.ensures.fault
 
 pub returns-clause-atoms : goal.returns-clause-atoms
 returns-clause-atoms g c =
-    subst (λ (q : QueryTree). AreWithin q c.args.doc.now c.args.options.filter c.args.options.limit) (ap query_of c.query.ensures.query) c.in-Ok.ensures.within
+    subst (λ (Q : Query). OnOk c.begin_by.result (AreWithin (query_of Q) c.args.doc.now c.args.options.filter c.args.options.limit)) c.query.ensures.query c.begin_by.ensures.atoms
 
 pub returns-clause-steps : goal.returns-clause-steps
 returns-clause-steps g c =
-    steps_sought c.args.options.filter (query_of c.args.compiled.now.query) (query_of c.query.result.now) (ap query_of c.query.ensures.query) c.args.doc.now c.in-Ok.positions c.in-Ok.ensures.read
-    c.args.steps.now c.positions_read.new.steps c.all_answers.new.steps c.from_row.new.steps c.in-Ok-all_answers.rows.cells (row_kept (option_copied c.args.after))
-    c.positions_read.ensures.steps c.all_answers.ensures.steps c.in-Ok-all_answers.ensures.cells c.from_row.ensures.steps
+    subst (λ (Q : Query). (K : ℕ → Bool) → AreRead c.args.options.filter (query_of Q) c.args.doc.now K → c.begin_by.new.steps ≤ c.args.steps.now + begin_steps c.args.options.filter (query_of Q) c.args.doc.now K (row_kept (option_copied c.args.after)))
+    c.query.ensures.query c.begin_by.ensures.steps

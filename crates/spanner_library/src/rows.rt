@@ -1,0 +1,111 @@
+//! Rows that are still to come.
+ghost use Rattle.std.specs.Prelude.{◌≡◌, ◌*◌, ◌^◌, ◌≤◌, length};
+ghost use Rattle.spanner_model.specs.Answers.{AreResultNames};
+ghost use Rattle.spanner_model.specs.ExprView.{query_of};
+ghost use Rattle.spanner_engine.specs.Fitting.{AreLast};
+ghost use Rattle.spanner_engine.specs.Passing.{AreKnown, checks_of, known};
+ghost use Rattle.spanner_library.specs.Library.{Given, checks_by, tree};
+
+use crate::Prepared;
+use crate::cells::put_row;
+use query_parser::Tested;
+use span_core::{Steps, VarSet};
+use span_tests::{Judge, Tests};
+use spanner_engine::{Answers, advance_tested};
+use std::marker::Model;
+use std::sync::ledger::Ledger;
+
+/// The rows of a query on a document that are still to come.
+///
+/// They hold the lists of rows that were made of the document, and neither the document nor the query.
+#[derive(Drop)]
+pub struct Rows {
+    answers: Answers,
+}
+
+impl Model for Rows {
+    ghost use Rattle.spanner_library.specs.Library.{RowsToCome};
+
+    ghost Value = { RowsToCome };
+
+    ghost view = { λ r. record {
+      variables = r.answers.variables;
+      rest = r.answers.rest;
+    } };
+}
+
+impl Rows {
+    /// The rows of answers that are still to come. It takes no memory.
+    pub(crate) fn over(answers: Answers) -> Rows
+        ensures variables { result.variables ≡ answers.variables }
+        ensures rest { result.rest ≡ answers.rest }
+    {
+        Rows { answers }
+    }
+
+    /// Gives the next rows for which all tests hold, so many at most: for each its spans in the order of the variables, each as where it starts
+    /// and where it ends, or twice `ABSENT`. What is left of `out` stays as it was. The number of the rows is told; it is less than `most`
+    /// only where no row remains. It takes no memory.
+    ///
+    /// The rows are those of this query on this document.
+    pub fn fill<J: Judge, L: Ledger>(
+        &mut self,
+        query: &Prepared<J>,
+        document: &[u8],
+        out: &mut [u32],
+        most: usize,
+        steps: &mut Steps<L>,
+    ) -> usize
+        requires few { length document.now ≤ 2 ^ 28 }
+        requires last { AreLast (tree query.now).query document.now query.now.names self.old.rest }
+        requires room { most * (2 * length query.now.names) ≤ length out.old }
+        ensures given { Given (checks_by J.judges query.now) query.now.names document.now self.old.rest self.new.rest out.old out.new most result }
+        ensures last { AreLast (tree query.now).query document.now query.now.names self.new.rest }
+        ensures variables { self.new.variables ≡ self.old.variables }
+        ensures len { length out.new ≡ length out.old }
+    {
+        fill_from(
+            &mut self.answers,
+            query.tested(),
+            query.vars(),
+            query.tests(),
+            document,
+            out,
+            most,
+            steps,
+        )
+    }
+}
+
+/// The same over answers.
+fn fill_from<J: Judge, L: Ledger>(
+    answers: &mut Answers,
+    tested: &Tested,
+    vars: &VarSet,
+    tests: &Tests<J>,
+    document: &[u8],
+    out: &mut [u32],
+    most: usize,
+    steps: &mut Steps<L>,
+) -> usize
+    requires names { AreResultNames (query_of tested.now.query) vars.now }
+    requires few { length document.now ≤ 2 ^ 28 }
+    requires last { AreLast (query_of tested.now.query) document.now vars.now answers.old.rest }
+    requires bound { AreKnown (known tests.now J.judges) tested.now.asked }
+    requires room { most * (2 * length vars.now) ≤ length out.old }
+    ensures given { Given (checks_of (known tests.now J.judges) tested.now.asked) vars.now document.now answers.old.rest answers.new.rest out.old out.new most result }
+    ensures last { AreLast (query_of tested.now.query) document.now vars.now answers.new.rest }
+    ensures variables { answers.new.variables ≡ answers.old.variables }
+    ensures len { length out.new ≡ length out.old }
+{
+    let width = 2 * vars.len();
+    let mut count = 0;
+    while count < most {
+        if !advance_tested(answers, tested, vars, tests, document, steps) {
+            return count;
+        }
+        put_row(out, count * width, answers.spans());
+        count += 1;
+    }
+    count
+}
