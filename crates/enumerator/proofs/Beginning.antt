@@ -1,14 +1,14 @@
 -- An enumerator before the first row.
-use Rattle.std.proofs.Common.{◌≡◌, ℕ, ◌≤◌, List, [], ◌∷◌, map, refl, ◌∙◌, append-nil}
+use Rattle.std.proofs.Common.{◌≡◌, ℕ, ◌≤◌, List, [], ◌∷◌, map, take, refl, ◌∙◌, append-nil}
 use Rattle.std.proofs.Common as common
 use Rattle.span_core.specs.declared.TheConstants.{MOST_VARIABLES}
 use Rattle.span_core.specs.Lists.{Has}
 use Rattle.node_arena.specs.Words.{Word}
 use Rattle.output_graph.specs.Listed.{Lists, AreLists}
 use Rattle.node_arena.specs.Rows.{rows}
-use Rattle.enumerator.specs.Enumeration.{IsWordOfRow, AreRowsOf}
+use Rattle.enumerator.specs.Enumeration.{IsWordOfRow, AreRowsOf, SpanRow}
 use Rattle.enumerator.specs.Enumerating.{IsEnumerating}
-use Rattle.enumerator.specs.Rows.{Positions, no_positions, row_under, rows_of, waiting_rows}
+use Rattle.enumerator.specs.Rows.{Positions, no_positions, positions_of, row_of, row_under, rows_of, waiting_rows}
 use Rattle.enumerator.specs.Waiting.{waited}
 use Rattle.enumerator.proofs.Lists.{map_same}
 use Rattle.enumerator.proofs.RowLaws.{row_under_agree, waited_stacked, waited_rows}
@@ -26,10 +26,11 @@ pub rest_is_whole : (lists : Lists) (v : ℕ) (P : Positions) → waiting_rows l
 rest_is_whole lists v P =
     waited_rows lists.store v 0 P lists.first [] ∙ (append-nil (map (row_under v 0 P) (rows lists.store lists.first)) ∙ any_positions v P no_positions (rows lists.store lists.first))
 
-pub begins : (lists : Lists) (v : ℕ) → v ≤ MOST_VARIABLES → AreLists lists → ((w : Word) → Has (rows lists.store lists.first) w → IsWordOfRow v w) → IsEnumerating lists v (waited 0 lists.first [])
-begins lists v few sound words = record {
+pub begins : (lists : Lists) (v : ℕ) (spans : SpanRow) (positions : List ℕ) → ((P : Positions) → take v spans ≡ row_of v 0 P) → v ≤ MOST_VARIABLES → AreLists lists → ((w : Word) → Has (rows lists.store lists.first) w → IsWordOfRow v w) → IsEnumerating lists v (waited 0 lists.first []) spans 0 positions
+begins lists v spans positions read few sound words = record {
   few = few;
   sound = sound;
   words = words;
+  row = read (positions_of positions);
   stacked = waited_stacked lists.store v 0 lists.first [] tt (λ some. record { there = sound.there; some = some; fit = λ w h. fits_word v w (words w h) });
 }

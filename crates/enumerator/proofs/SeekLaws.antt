@@ -18,13 +18,13 @@ use Rattle.output_graph.specs.RowLists.{AreMade, AreLed}
 use Rattle.enumerator.specs.declared.stack.Waiting.{Waiting}
 use Rattle.enumerator.specs.Enumeration.{SpanRow, IsRestAfter, IsWordOfRow}
 use Rattle.enumerator.specs.Rows.{Positions, put, row_under, rows_of, waiting_rows, no_positions}
-use Rattle.enumerator.specs.Waiting.{Fits, IsWaiting, AreBelow, AreStacked, waited}
+use Rattle.enumerator.specs.Waiting.{frame, Fits, IsWaiting, AreBelow, AreStacked, waited}
 use Rattle.enumerator.specs.Seeking.{HasNoBlock, IsNextBlock}
 use Rattle.enumerator.proofs.Lists.{map_same}
 use Rattle.output_graph.proofs.RowLaws.{rows_at, rows_nothing, rows_done}
 use Rattle.enumerator.proofs.StoreLaws.{reach, led_at, child_reach, next_reach, reach_few}
 use Rattle.enumerator.proofs.RowLaws.{row_under_agree, below_stacked, waited_stacked, waited_rows}
-use Rattle.enumerator.proofs.Walk.{frame, cell_rows, child_row, next_row, cell_new, cell_below, next_rows_kept, cell_splits}
+use Rattle.enumerator.proofs.Walk.{cell_rows, child_row, next_row, cell_new, cell_below, next_rows_kept, cell_splits}
 use Rattle.enumerator.proofs.Words.{AscendsFrom, listed_here, listed_other, listed_before, ascends_from, is_row_of_word, fits_word}
 
 -- ---- blocks and order

@@ -36,6 +36,10 @@ left v m = unset (2 * v) m
 abbrev pub AreWithin : ℕ → ℕ → Type 0
 AreWithin m n = (bit : ℕ) → has m bit ≡ true → has n bit ≡ true
 
+-- an entry under settled markers
+abbrev pub frame : ℕ → Entry → Waiting
+frame m e = record { settled = m; entry = e }
+
 -- an entry that waits has rows, and their blocks may follow what is settled
 pub record IsWaiting (store : List NamedRow) (v : ℕ) (f : Waiting) : Type 0 where
   pub there : IsThere store f.entry

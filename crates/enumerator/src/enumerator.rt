@@ -6,7 +6,7 @@ ghost use Rattle.node_arena.specs.Words.{Word};
 ghost use Rattle.node_arena.specs.Rows.{rows};
 ghost use Rattle.enumerator.specs.Enumeration.{AreInBlockOrder, AreRowsOf, IsRestAfter, IsWordOfRow};
 
-use crate::positions::{MOST_MARKERS, row_of};
+use crate::positions::{MOST_MARKERS, absent_spans, read_spans, row_of};
 use crate::seeking::seek_row;
 use crate::stack::Stack;
 use crate::walking::{next_row, wait};
@@ -26,6 +26,8 @@ pub struct Enumerator {
     positions: [u32; MOST_MARKERS],
     spans: [Option<Span>; MOST_VARIABLES],
     stack: Stack,
+    /// The markers of the row that it stands at.
+    settled: Marks,
 }
 
 impl Model for Enumerator {
@@ -45,7 +47,7 @@ impl Model for Enumerator {
       row = take e.variables e.spans;
     } };
 
-    ghost invariant = { λ e. IsEnumerating e.lists e.variables e.stack };
+    ghost invariant = { λ e. IsEnumerating e.lists e.variables e.stack e.spans e.settled e.positions };
 }
 
 impl Enumerator {
@@ -62,12 +64,15 @@ impl Enumerator {
         lists.are_lists();
         let mut stack = Stack::new();
         wait(&mut stack, Marks::none(), lists.first());
+        let positions = [0; MOST_MARKERS];
+        let spans = absent_spans(v, &positions);
         Enumerator {
             lists,
             variables: v,
-            positions: [0; MOST_MARKERS],
-            spans: [None; MOST_VARIABLES],
+            positions,
+            spans,
             stack,
+            settled: Marks::none(),
         }
     }
 
@@ -89,6 +94,8 @@ impl Enumerator {
             &mut self.stack,
             steps,
         );
+        self.settled = Marks::none();
+        read_spans(self.variables, self.settled, &self.positions, &mut self.spans);
     }
 
     /// Goes to the next row; false exactly where none is left, and from then on until a seek. It takes no
@@ -104,6 +111,7 @@ impl Enumerator {
         next_row(
             &self.lists,
             self.variables,
+            &mut self.settled,
             &mut self.positions,
             &mut self.spans,
             &mut self.stack,

@@ -1,0 +1,69 @@
+//! A line of which one number is open.
+//!
+//! Where rows differ in the end of one span alone, the bytes before that number and behind it stay. They are kept once, and a
+//! line is then two copies of a fixed length, and the digits of a number.
+ghost use Rattle.std.specs.Prelude.{◌≡◌, ◌+◌, ◌≤◌, ◌++◌, take, length, IfSome};
+ghost use Rattle.row_writer.specs.Open.{open_text, open_with};
+
+use cell_text::{put_bytes, put_number};
+use std::marker::Model;
+
+/// The most bytes before the number.
+pub const FRONT_BYTES: usize = 64;
+
+/// The most bytes behind it. Both and the number have room where a line of one field has it.
+pub const BACK_BYTES: usize = 48;
+
+/// A line with a number in it that is open, seen as the bytes before it and behind it.
+#[derive(Drop)]
+pub struct OpenLine {
+    front: [u8; FRONT_BYTES],
+    back: [u8; BACK_BYTES],
+    front_len: usize,
+    back_len: usize,
+}
+
+impl Model for OpenLine {
+    ghost use Rattle.std.specs.Prelude.{◌≤◌, take};
+    ghost use Rattle.row_writer.specs.Open.{Open, open_with};
+
+    ghost Value = { Open };
+
+    ghost view = { λ o. open_with (take o.front_len o.front) (take o.back_len o.back) };
+
+    ghost invariant = { λ o. (o.front_len ≤ 64) × (o.back_len ≤ 48) };
+}
+
+impl OpenLine {
+    /// The line with these bytes on the two sides of the number; None where one side has too many.
+    pub fn of(before: &[u8], behind: &[u8]) -> Option<OpenLine>
+        ensures { IfSome result (λ o. o ≡ open_with before.now behind.now) }
+    {
+        if before.len() > FRONT_BYTES || behind.len() > BACK_BYTES {
+            return None;
+        }
+        let mut front = [0; FRONT_BYTES];
+        let mut back = [0; BACK_BYTES];
+        let front_len = put_bytes(before, &mut front, 0);
+        let back_len = put_bytes(behind, &mut back, 0);
+        Some(OpenLine {
+            front,
+            back,
+            front_len,
+            back_len,
+        })
+    }
+
+    /// Writes the line with this number at a position, and says where it ends.
+    #[inline(always)]
+    pub fn put(&self, number: u32, buffer: &mut [u8], at: usize) -> usize
+        requires { at + 128 ≤ length buffer.old }
+        ensures end { result ≤ at + 122 }
+        ensures text { take result buffer.new ≡ take at buffer.old ++ open_text self.now number }
+    {
+        let _front = put_bytes(&self.front, buffer, at);
+        let end = put_number(number, buffer, at + self.front_len);
+        let _back = put_bytes(&self.back, buffer, end);
+        end + self.back_len
+    }
+}
