@@ -92,8 +92,8 @@ pub fn join(alloc: Global, a: &Automaton, b: &Automaton) -> Result<Automaton, Si
 /// and one for each way at the two states. Where one of the states has no ways, it takes none. The ends that
 /// go together are not counted.
 ///
-/// Where no step is left then, the join is refused with `States` if the product of the numbers of states is
-/// more than `MOST_STATES`, and the count is that product. If the product is not more, the join goes on.
+/// Where no step is left then, the join is refused: with `States` if the product of the numbers of states is
+/// more than `MOST_STATES`, and the count is that product, and else with want of memory, which needs no cause.
 /// `Ways`, and `States` for the pairs that it found, come as from `join`.
 pub fn join_within(
     alloc: Global,

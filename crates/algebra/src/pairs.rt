@@ -37,7 +37,7 @@ struct Rows {
 }
 
 /// All pairs that are reached from pairs of starts, and the ways between them. The first pairs, so many as
-/// it says, are those of starts. Where the effort is used up and the pairs may be too many, it is refused.
+/// it says, are those of starts. Where the effort is used up, it is refused.
 pub(crate) fn searched(
     alloc: Global,
     left: &Operand<'_>,
@@ -160,7 +160,8 @@ impl Search {
     }
 
     /// Follows each pair that is found, also those that are found meanwhile. The steps of a pair are taken
-    /// from the effort before its ways are tried.
+    /// from the effort before its ways are tried. Where none is left then, it is refused: by the states if
+    /// there may be too many pairs of them, and else for want of memory.
     fn follow_all(
         &mut self,
         alloc: Global,
@@ -188,6 +189,7 @@ impl Search {
             effort.spend(rows.steps());
             if effort.is_spent() {
                 fit_in_pairs(left.automaton, right.automaton)?;
+                return Err(SizeFault::OutOfMemory);
             }
             self.follow_pair(done as u32, rows.left.as_slice(), rows.right.as_slice())?;
             done += 1;

@@ -85,3 +85,7 @@ loop-done-preserved c =
 
 pub returns-clause-apart : goal.returns-clause-apart
 returns-clause-apart c = keys_apart _ (λ k. search rules) c.loop-done.self.found.keys c.len.ensures.unique
+
+-- no step is left, and there are not too many states: want of memory, which has no cause
+pub returns-then-is_spent-clause-fault : goal.returns-then-is_spent-clause-fault
+returns-then-is_spent-clause-fault c = inl (λ n1 n2 w within lead few. search rules)
