@@ -10,6 +10,7 @@ mod difference;
 pub mod laws;
 mod partitions;
 mod pieces;
+mod rows;
 mod search;
 mod stops;
 
