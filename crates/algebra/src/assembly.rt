@@ -11,12 +11,16 @@ ghost use Rattle.marked_automaton.specs.Faults.{IsSizeFaultWithin};
 ghost use Rattle.algebra.specs.Sides.{IsAssembledOf, graph_of};
 ghost use Rattle.algebra.specs.Pairs.{AreWithin, HasAllButStarts, HasAllButStops, IsIdleHere, IsIdlePair, IsStopAt, Matched, half_at, pairs, stop_at, stop_pair, stops_at_pair, stops_meet, stops_with};
 
+use crate::effort::Effort;
 use crate::halves::{HalfStop, Operand};
 use crate::pairs::{Pair, Search};
 use crate::rows::stops_from;
 use marked_automaton::{Automaton, SizeFault, Stop};
 use span_core::{Marks, OutOfMemory, VarSet};
 use std::alloc::Global;
+
+/// The most ends that a join has, some 130 MB. Where there are more, want of memory is answered, which needs no cause.
+const MOST_ENDS: usize = 8_000_000;
 
 /// The automaton over these variables whose states are the pairs that were found, the first `starts` of
 /// which are its starts, with the ways that were made.
@@ -27,6 +31,7 @@ pub(crate) fn assembled(
     starts: u32,
     left: &Operand<'_>,
     right: &Operand<'_>,
+    effort: &mut Effort,
 ) -> Result<Automaton, SizeFault>
     requires few { length vars ≤ MOST_VARIABLES }
     requires few_states { length search.found.keys ≤ MOST_STATES }
@@ -40,6 +45,7 @@ pub(crate) fn assembled(
     ensures names { IfOk result (λ j. j.names ≡ vars) }
     ensures made { IfOk result (λ j. IsAssembledOf left.now right.now search.found.keys starts search.ways.items j.graph) }
     ensures fault { IfErr result (λ e. IsSizeFaultWithin (length search.found.keys) (length search.ways.items) e) }
+    ensures effort { effort.new ≤ effort.old }
 {
     let states = search.found.len() as u32;
     let mut automaton = Automaton::with_ways(alloc, vars, states, search.ways)?;
@@ -50,6 +56,7 @@ pub(crate) fn assembled(
         found,
         left.stops.as_slice(),
         right.stops.as_slice(),
+        effort,
     )?;
     add_idle(&mut automaton, found, left.automaton, right.automaton)?;
     Ok(automaton)
@@ -111,12 +118,14 @@ fn add_stop_of(
     })
 }
 
-/// Adds the ends that these make with each other, at a state.
+/// Adds the ends that these make with each other, at a state. A step is taken from the effort for each two. Where none
+/// is left then, or there are more than `MOST_ENDS`, it is refused.
 fn add_stops_at(
     automaton: &mut Automaton,
     state: u32,
     xs: &[HalfStop],
     ys: &[HalfStop],
+    effort: &mut Effort,
 ) -> Result<(), OutOfMemory>
     requires state { state < automaton.old.graph.states }
     requires few { length automaton.old.names ≤ MOST_VARIABLES }
@@ -124,8 +133,16 @@ fn add_stops_at(
     ensures names { automaton.new.names ≡ automaton.old.names }
     ensures stops { OnOk result (automaton.new.graph.stops ≡ automaton.old.graph.stops ++ map (stop_at state) (pairs stops_meet stop_pair ys.now xs.now)) }
     ensures same { OnOk result (HasAllButStops automaton.new.graph automaton.old.graph) }
+    ensures effort { effort.new ≤ effort.old }
 {
     for x in xs {
+        effort.spend(ys.len() as u64);
+        if effort.is_spent() {
+            return Err(OutOfMemory);
+        }
+        if automaton.stops().len() > MOST_ENDS {
+            return Err(OutOfMemory);
+        }
         add_stops_with(automaton, state, x, ys)?;
     }
     Ok(())
@@ -137,6 +154,7 @@ fn add_stops(
     found: &[Pair],
     xs: &[HalfStop],
     ys: &[HalfStop],
+    effort: &mut Effort,
 ) -> Result<(), OutOfMemory>
     requires states { automaton.old.graph.states ≡ length found.now }
     requires few_states { length found.now ≤ MOST_STATES }
@@ -147,6 +165,7 @@ fn add_stops(
     ensures names { automaton.new.names ≡ automaton.old.names }
     ensures stops { OnOk result ((made : List StopOf) × (automaton.new.graph.stops ≡ automaton.old.graph.stops ++ made) × Matched (IsStopAt found.now) (flat_map (stops_at_pair xs.now ys.now) found.now) made) }
     ensures same { OnOk result (HasAllButStops automaton.new.graph automaton.old.graph) }
+    ensures effort { effort.new ≤ effort.old }
 {
     for state in 0..found.len() {
         let pair = found[state];
@@ -155,6 +174,7 @@ fn add_stops(
             state as u32,
             stops_from(xs, pair.left),
             stops_from(ys, pair.right),
+            effort,
         )?;
     }
     Ok(())

@@ -66,5 +66,5 @@ fn join_grouped(
     let left = Operand::of(alloc, a, &all, a, true, b)?;
     let right = Operand::of(alloc, b, &all, a, false, a)?;
     let (search, starts) = searched(alloc, &left, &right, effort)?;
-    assembled(alloc, all, search, starts, &left, &right)
+    assembled(alloc, all, search, starts, &left, &right, effort)
 }

@@ -89,8 +89,9 @@ pub fn join(alloc: Global, a: &Automaton, b: &Automaton) -> Result<Automaton, Si
 
 /// The join of `a` and `b`, as `join` makes it, with a bound on the work. Before it tries the ways at a pair
 /// of states with each other, it takes from `effort` one step for each two that it tries, one of each state,
-/// and one for each way at the two states. Where one of the states has no ways, it takes none. The ends that
-/// go together are not counted.
+/// and one for each way at the two states. Where one of the states has no ways, it takes none. When all pairs are
+/// found, it takes one step for each two ends of a pair, and then no step that is left, or more than 8,000,000 ends,
+/// is want of memory.
 ///
 /// Where no step is left then, the join is refused: with `States` if the product of the numbers of states is
 /// more than `MOST_STATES`, and the count is that product, and else with want of memory, which needs no cause.

@@ -1,4 +1,4 @@
-use Rattle.std.proofs.Common.{◌≡◌, ◌+◌, ◌*◌, ◌^◌, ◌<◌, ◌++◌, List, [], length, map, take, get_or, refl, sym, ap, subst, ◌∙◌, append_assoc}
+use Rattle.std.proofs.Common.{◌≡◌, ◌+◌, ◌*◌, ◌^◌, ◌<◌, ◌++◌, List, [], length, map, take, get_or, refl, sym, ap, subst, arith, ◌∙◌, append_assoc}
 use Rattle.std.specs.Prelude.{slice_get, Some}
 use Rattle.std.specs.List.{flat_map}
 use Rattle.std.proofs.lemmas.List.{append-nil}
@@ -51,4 +51,5 @@ loop-state-preserved c =
         ways = ok.same.ways ∙ inv.same.ways;
         idle = ok.same.idle ∙ inv.same.idle;
       };
+      effort = omega (arith, c.add_stops_at.ensures.effort, inv.effort);
     }

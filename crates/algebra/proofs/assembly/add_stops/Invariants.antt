@@ -1,4 +1,4 @@
-use Rattle.std.proofs.Common.{◌≡◌, ◌++◌, List, take}
+use Rattle.std.proofs.Common.{◌≡◌, ◌≤◌, ◌++◌, List, take}
 use Rattle.std.specs.List.{flat_map}
 use Rattle.marked_automaton.specs.declared.way.Stop.{Stop}
 use Rattle.algebra.specs.Pairs.{HasAllButStops, IsStopAt, Matched, stops_at_pair}
@@ -10,4 +10,5 @@ invariant-loop-state l = record {
   stops : (made : List Stop) × (l.automaton.graph.stops ≡ l.initial.automaton.graph.stops ++ made)
       × Matched (IsStopAt l.found) (flat_map (stops_at_pair l.xs l.ys) (take l.state l.found)) made;
   same : HasAllButStops l.automaton.graph l.initial.automaton.graph;
+  effort : l.effort ≤ l.initial.effort;
 }
