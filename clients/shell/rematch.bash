@@ -48,7 +48,7 @@ _rematch_to() {
         -e|--max-table|--var|--columns|--most-rows) return ;;
     esac
     case $word in
-        -*) _rematch_open '-e -q -o --filter --max-table --var --columns --sort --forward --frames --most-rows --help' ;;
+        -*) _rematch_open '-e -q -o --filter --max-table --var --columns --sort --forward --sorted --frames --most-rows --help' ;;
         *) if [[ $COMP_CWORD == 1 ]]; then _rematch_words 'csv tsv kwic bed gff ann html count check'; else _rematch_files; fi ;;
     esac
 }

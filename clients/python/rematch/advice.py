@@ -38,11 +38,34 @@ def advise(text: Union[str, bytes]) -> List[Advice]:
     rules = [rule for rule in _RULES if rule not in _OF_ONE_ATOM or not words & {b'join', b'minus'}]
     if any(part.kind == 'anchor' for _, parts in atoms for part in parts):
         rules = [rule for rule in rules if rule not in _OF_THE_ENDS]
+    found += _lets(query, [atom for atom, _ in atoms])
     for atom, parts in atoms:
         for rule in rules:
             told = rule(atom, parts)
             if told is not None and told.message not in {advice.message for advice in found}:
                 found.append(told)
+    return found
+
+
+_STRIPPED = re.compile(rb'/(?:[^\\/]|\\.)*/', re.S)
+_LET = re.compile(rb'\blet\s+(\w+)\s*=')
+
+
+def _lets(query: bytes, atoms: Sequence[Atom]) -> List[Advice]:
+    """Of each let that is used nowhere: whether its name stands in braces in a formula, where it is so many letters."""
+    outside = _STRIPPED.sub(lambda atom: b' ' * len(atom[0]), query)
+    found: List[Advice] = []
+    for let in _LET.finditer(outside):
+        name = let[1]
+        if len(re.findall(rb'\b%s\b' % re.escape(name), outside)) > 1:
+            continue
+        shown = name.decode()
+        within = next((atom for atom in atoms if b'{' + name + b'}' in atom.text), None)
+        if within is None:
+            found.append(Advice(let.start(1), f'{shown} is used nowhere'))
+        else:
+            found.append(Advice(within.offset + within.text.index(b'{' + name + b'}') + 1,
+                                f'in a formula {shown} is these letters: a let names a query, which is joined with another, and not a part of a formula'))
     return found
 
 
@@ -107,6 +130,14 @@ def _edges(atom: Atom, parts: Sequence[Part]) -> Optional[Advice]:
                   'found: add a union with ^ or $ in its place')
 
 
+def _line_feeds(atom: Atom, parts: Sequence[Part]) -> Optional[Advice]:
+    for part, behind in zip(parts, parts[1:]):
+        is_field = part.kind == 'class' and part.text.startswith(b'[^') and re.search(rb' |\\t', part.text) is not None
+        if is_field and _is_open(behind) and not re.search(rb'\\n|\\s|\\x0[aA]|\n', part.text):
+            return Advice(part.offset, r'this class has the line feed too, so a field may go on over lines: add \n to it')
+    return None
+
+
 def _quotes(atom: Atom, parts: Sequence[Part]) -> Optional[Advice]:
     found = re.search(rb'(["\'`])!\w+\{\[\^\1[^]]*\][*+]\}\1', atom.text)
     if found is None:
@@ -116,6 +147,6 @@ def _quotes(atom: Atom, parts: Sequence[Part]) -> Optional[Advice]:
 
 
 _RULES: Sequence[Callable[[Atom, Sequence[Part]], Optional[Advice]]] = (
-    _plain_words, _named_class, _open_start, _open_end, _first_line, _edges, _quotes)
+    _plain_words, _named_class, _open_start, _open_end, _first_line, _edges, _line_feeds, _quotes)
 _OF_ONE_ATOM = (_open_start, _open_end, _edges, _quotes)
 _OF_THE_ENDS = (_first_line, _edges)

@@ -5,17 +5,20 @@ import argparse
 import os
 import sys
 from itertools import islice
-from typing import Callable, Dict, Iterator, List, Optional, TextIO, Tuple
+from typing import TYPE_CHECKING, Callable, Dict, Iterator, List, Optional, TextIO, Tuple
 
 from .advice import advise
 from .command import run_told
 from .documents import Document
 from .faults import DocumentError, RematchError
 from .match import Row
-from .packed import Given, given_document, oddity_of
+from .packed import Given, doubt_of, given_document, oddity_of
 from .pieces import NoReach, reach
 from .progress import Progress
 from .query import Query
+
+if TYPE_CHECKING:
+    from .sequences import Site
 
 __all__ = ['main']
 
@@ -41,6 +44,7 @@ def _parser() -> argparse.ArgumentParser:
     parser.add_argument('--columns', type=int, default=35, metavar='N', help='kwic: columns on either side (35)')
     parser.add_argument('--sort', choices=['left', 'right'], help='kwic: by the words before, or behind')
     parser.add_argument('--forward', action='store_true', help='bed, gff: the forward strand alone')
+    parser.add_argument('--sorted', action='store_true', help='bed, gff: by record and place, as bedtools wants it (all rows are held)')
     parser.add_argument('--frames', action='store_true', help='bed: the reading frame in the name')
     parser.add_argument('--most-rows', type=int, default=5000, metavar='N', help='html: rows of each document (5000)')
     parser.add_argument('documents', nargs='*', metavar='DOC')
@@ -56,6 +60,10 @@ class _Command:
         self.progress = progress
         self.query = self.read_query()
         self.name: Optional[str] = None  # of the document that is read
+        self.fault: Optional[DocumentError] = None  # of the last document that could not be read
+        if self.given.form in ('csv', 'tsv', 'count') and not self.query.variables:
+            print('the query has no capture: its answer is one row where it fits, in however many places; put !name{..} around what is '
+                  'counted', file=sys.stderr)
 
     def read_query(self) -> Query:
         words = {'filter': self.given.filter, 'max_table': self.given.max_table}
@@ -66,9 +74,18 @@ class _Command:
         return Query.from_file(self.given.name, **words)
 
     def documents(self) -> Iterator[Given]:
-        for name in self.given.documents or ['-']:
+        names = self.given.documents or ['-']
+        for name in names:
             self.name = name
-            found = given_document(name)
+            try:
+                found = given_document(name)
+            except DocumentError as fault:
+                if len(names) == 1:
+                    raise
+                fault.filename = name
+                self.fault = fault  # told now, and the others are read
+                print(f'{name}: {fault}', file=sys.stderr)
+                continue
             self.progress.begin(name, found.document)
             yield found
 
@@ -82,8 +99,11 @@ class _Command:
     def tell_oddity(self, found: Given, has_rows: bool) -> None:
         """What may be the reason that a document has no row, on standard error."""
         oddity = None if has_rows else oddity_of(found.data[:4096])
+        doubt = doubt_of(found.data[:1 << 16], self.query) if oddity is None else None
         if oddity is not None:
             print(f'{found.name}: no row, and {oddity}', file=sys.stderr)
+        elif doubt is not None:
+            print(f'{found.name}: {doubt}', file=sys.stderr)
 
     # -- The forms
 
@@ -113,16 +133,23 @@ class _Command:
             self.out.write(context.shown(columns, label) + '\n')
 
     def bed(self) -> None:
-        from .sequences import sites, write_bed
+        from .sequences import write_bed
         for found in self.documents():
-            write_bed(self.progress.counted(sites(self.query, found.data[:], both=not self.given.forward, left_out=self.left_out(found))),
-                      self.query.variables, self.out, frames=self.given.frames)
+            write_bed(self.progress.counted(self.sites(found)), self.query.variables, self.out, frames=self.given.frames)
 
     def gff(self) -> None:
-        from .sequences import sites, write_gff
+        from .sequences import write_gff
         for found in self.documents():
-            write_gff(self.progress.counted(sites(self.query, found.data[:], both=not self.given.forward, left_out=self.left_out(found))),
-                      self.query.variables, self.out)
+            write_gff(self.progress.counted(self.sites(found)), self.query.variables, self.out)
+
+    def sites(self, found: Given) -> Iterator['Site']:
+        """The sites of a document, by record and place where that is asked for; of proteins it is told that they have no other strand."""
+        from .sequences import are_proteins, in_order, sites
+        data = found.data[:]
+        if not self.given.forward and are_proteins(data):
+            print(f'{found.name}: it has letters of proteins, which have no other strand: --forward leaves it out', file=sys.stderr)
+        every = sites(self.query, data, both=not self.given.forward, left_out=self.left_out(found))
+        return in_order(every, data) if self.given.sorted else every
 
     def left_out(self, found: Given) -> Callable[[int], None]:
         def tell(rows: int) -> None:
@@ -196,10 +223,13 @@ def main(words: Optional[List[str]] = None) -> int:
                 forms: Dict[str, Callable[[], None]] = {name: getattr(command, name) for name in _FORMS}
                 try:
                     forms[given.form]()
+                    is_whole = command.fault is None
                 except (RematchError, NoReach) as fault:
                     fault.filename = command.name  # type: ignore[union-attr]
                     raise
                 out.flush()
+            if not is_whole:
+                raise SystemExit(5)
         finally:
             if out is not sys.stdout:
                 out.close()

@@ -36,7 +36,7 @@ class Hint(NamedTuple):
 _UNEXPECTED = 'query: unexpected at A'
 _ESCAPE = 'query: bad escape at A'
 _REPEAT = 'query: bad repeat at A'
-_WORDS = 'the words are union, join, project x (..) and let, in small letters'
+_WORDS = 'the words are union, join, minus, project x (..) and let, in small letters'
 _OTHER_WORDS = rb'(?!union|join|minus|project|let|where)(?i:and|or|not|union|join|minus|project|let|where)\b'
 _SLASHES = 'a formula stands between slashes: /../'
 
@@ -48,6 +48,7 @@ HINTS: Tuple[Hint, ...] = (
     Hint(_UNEXPECTED, '/(?P<x>a)/', 'a capture is written !name{..}', rb'\?P?<'),
     Hint(_UNEXPECTED, '/(?i)a/', 'there are no flags but u: list both letters, [Ff]', rb'\?[a-z]+[:)]'),
     Hint(_UNEXPECTED, '/*a/', 'a repeat has nothing before it; for the sign itself put a backslash before it', rb'[?*+{]'),
+    Hint(_UNEXPECTED, '/a/g', 'u is the only flag, and every match is told without one: drop it', rb'[gmsx]+\s*\Z', rb'/'),
     Hint(_UNEXPECTED, '/a/i', 'u is the only flag; for both letters write [Aa]', rb'[A-Za-z]+\s*\Z', rb'/'),
     Hint(_UNEXPECTED, '/usr/bin/', r'the formula ended at the slash before; a slash inside of a formula is \/', rb'[^\s;|&]',
          rb'/'),
@@ -58,13 +59,14 @@ HINTS: Tuple[Hint, ...] = (
     Hint(_UNEXPECTED, '/a]/', r'for the sign itself put a backslash before it: \] \) \}', rb'[])}]'),
     Hint(_UNEXPECTED, '/a/ AND /b/', _WORDS, _OTHER_WORDS),
     Hint(_UNEXPECTED, '/a/ | /b/', 'between atoms stands union for either and join for both; | is of a formula', rb'[|&]'),
+    Hint(_UNEXPECTED, '# failed', 'there are no comments in a query', rb'#|--|//'),
     Hint(_UNEXPECTED, '/a/;', 'a ; ends a let, and the query behind the lets has none', rb';'),
     Hint(_UNEXPECTED, '"a"', _SLASHES, rb"[\"'^\\.$!\d]"),
     Hint(_UNEXPECTED, 'let w = /a/;', 'the query ends too early: behind the lets stands what is asked, and each ( has its )', rb'\Z'),
     Hint(_UNEXPECTED, '/a/ /b/', 'between two atoms stands union, join or minus', rb'/'),
     Hint(_UNEXPECTED, 'project (/!x{a}/)', 'this cannot stand here: a query is let NAME = ..; and then atoms /../ with union, join, minus and '
           'project NAMES (..) around them'),
-    Hint('query: not closed at A', '/a[/]/', r'a slash inside of a formula is \/, in a class too', rb'[^/][^/]*/(?!\s*\Z)'),
+    Hint('query: not closed at A', '/a[/]/', r'a slash inside of a formula is \/, in a class too', rb'\[[^]/]*/(?!\s*\Z)'),
     Hint('query: not closed at A', '/a', r'the closing slash is missing; a slash inside of a formula is \/', rb'/'),
     Hint('query: not closed at A', '/(ab/', 'what begins here is not ended before the closing slash; for the sign itself put a backslash before it'),
     Hint(_ESCAPE, r'/\bthe\b/', r'there is no word boundary: write [^\w] before or after the capture', rb'\\b'),

@@ -6,8 +6,9 @@ search of the file as it is.
 """
 from __future__ import annotations
 
+import re
 from bisect import bisect_right
-from typing import Callable, Iterable, Iterator, List, NamedTuple, Optional, Sequence, TextIO
+from typing import Callable, Iterable, Iterator, List, NamedTuple, Optional, Sequence, TextIO, Tuple
 from urllib.parse import quote
 
 from .documents import Document
@@ -16,7 +17,7 @@ from .match import Row
 from .query import Query
 from ._reach import NoReach
 
-__all__ = ['Record', 'Site', 'frame_of', 'other_strand', 'records_of', 'sites', 'write_bed', 'write_gff']
+__all__ = ['Record', 'Site', 'are_proteins', 'frame_of', 'in_order', 'other_strand', 'records_of', 'sites', 'write_bed', 'write_gff']
 
 _BATCH = 200_000_000  # bytes of records that one run searches
 _OTHER = bytes.maketrans(b'ACGTURYKMBVDHSWN', b'TGCAAYRMKVBHDSWN')
@@ -67,6 +68,30 @@ def records_of(data: bytes) -> List[Record]:
     if not found:
         raise DocumentError('no record of FASTA, which begins with > at the start of a line', 5)
     return found
+
+
+_PROTEINS = re.compile(rb'[EFILPQefilpq]')  # letters that no nucleotide has, also no open one
+
+
+def are_proteins(data: bytes) -> bool:
+    """Whether the first record has a letter that stands in proteins alone.
+
+    >>> are_proteins(b'>p\\nMKEL\\n'), are_proteins(b'>d\\nACGTN\\n')
+    (True, False)
+    """
+    _, _, letters = data[:1 << 16].partition(b'\n')
+    return _PROTEINS.search(letters.partition(b'\n>')[0]) is not None
+
+
+def in_order(found: Iterable['Site'], data: bytes) -> Iterator['Site']:
+    """The sites by the records of the file, and in each by the place of their first letter; all of them are held."""
+    numbers = {record.name: number for number, record in reversed(list(enumerate(records_of(data))))}
+
+    def place(site: 'Site') -> Tuple[int, int, int]:
+        spans = [span for span in zip(site.row[::2], site.row[1::2]) if span[0] >= 0]
+        return numbers[site.record.name], min(start for start, _ in spans), max(end for _, end in spans)
+
+    return iter(sorted(found, key=place))
 
 
 def other_strand(letters: bytes) -> bytes:

@@ -30,7 +30,7 @@ def _colours(names: Sequence[str]) -> str:
 
 
 _STYLE = ('''
-.rm{font:15px/1.4 system-ui,sans-serif;''' + _colours(_LIGHT) + '''--rm-dim:#868e96;--rm-rule:#e9ecef;--rm-lit:#ffe066}
+.rm{font:15px/1.4 system-ui,sans-serif;''' + _colours(_LIGHT) + '''--rm-dim:#687078;--rm-rule:#e9ecef;--rm-lit:#ffe066;--rm-sign:#212529;--rm-ground:#fff;color:var(--rm-sign);background:var(--rm-ground)}
 .rm-key b{display:inline-block;width:1.6em;height:.5em;border-radius:2px;margin:0 .3em 0 1em}
 .rm-line{display:flex;border-top:1px solid var(--rm-rule);padding:.2em 0;overflow:hidden}
 .rm-no{flex:none;width:4.5em;color:var(--rm-dim);font:12px/24px ui-monospace,monospace;text-align:right;padding-right:1em;user-select:none}
@@ -47,7 +47,7 @@ _STYLE = ('''
 .rm-rows code{font-family:ui-monospace,"DejaVu Sans Mono",monospace}
 .rm-rows summary{color:var(--rm-dim);cursor:pointer}
 .rm-lit{background-color:var(--rm-lit);border-radius:2px}
-@media (prefers-color-scheme:dark){.rm{''' + _colours(_DARK) + '''--rm-dim:#adb5bd;--rm-rule:#343a40;--rm-lit:#5c4a00}}
+@media (prefers-color-scheme:dark){.rm{''' + _colours(_DARK) + '''--rm-dim:#adb5bd;--rm-rule:#343a40;--rm-lit:#5c4a00;--rm-sign:#dee2e6;--rm-ground:#16191d}}
 ''')
 _PAGE_STYLE = '''
 :root{color-scheme:light dark}
@@ -56,9 +56,9 @@ h1{font-size:1.3em}
 @media (prefers-color-scheme:dark){body{color:#dee2e6;background:#16191d}}
 '''
 _SCRIPT = '''
-document.addEventListener('mouseover',e=>{document.querySelectorAll('.rm-lit').forEach(x=>x.classList.remove('rm-lit'));
+['mouseover','focusin'].forEach(k=>document.addEventListener(k,e=>{document.querySelectorAll('.rm-lit').forEach(x=>x.classList.remove('rm-lit'));
 const t=e.target.closest('[data-r]');if(!t)return;const v=t.closest('.rm');
-t.dataset.r.split(' ').forEach(r=>v.querySelectorAll('[data-r~="'+r+'"]').forEach(x=>x.classList.add('rm-lit')))});
+t.dataset.r.split(' ').forEach(r=>v.querySelectorAll('[data-r~="'+r+'"]').forEach(x=>x.classList.add('rm-lit')))}));
 '''
 
 
@@ -251,7 +251,7 @@ class _View:
                 text = text[:_TEXT] + ('…' if len(text) > _TEXT or end > start + 4 * _TEXT else '')
                 cells.append(f'<i style="background:var(--rm{name % len(_LIGHT)})"></i>{escape(shown)} {self.told(start, end)} '
                              f'<bdi><code>{_shown(text.encode("utf-8", "surrogatepass"))}</code></bdi>')
-        return f'<li data-r="{number}"><b>{number + 1}</b>{"".join(cells) or "()"}</li>'
+        return f'<li data-r="{number}" tabindex="0"><b>{number + 1}</b>{"".join(cells) or "()"}</li>'
 
 
 def _numbers(bar: _Bar) -> str:
@@ -293,7 +293,7 @@ def fragment(document: Document, names: Sequence[str], rows: Sequence[Row], *, o
 
 def page(sections: Iterable[Tuple[str, Document, Sequence[Row], bool]], names: Sequence[str], title: str) -> Iterable[str]:
     """A whole page, in parts: of each document its title, itself, its rows, and whether there are more of them."""
-    yield (f'<!doctype html>\n<html><head><meta charset="utf-8"><meta name="viewport" content="width=device-width">'
+    yield (f'<!doctype html>\n<html lang="en"><head><meta charset="utf-8"><meta name="viewport" content="width=device-width">'
            f'<title>{escape(title)}</title><style>{_PAGE_STYLE}{_STYLE}</style></head><body>\n')
     for name, document, rows, is_cut in sections:
         first = ', the first rows alone' if is_cut else ''
