@@ -5,20 +5,25 @@
 //     others hyperscan PATTERN DOCUMENT   each end of a match with its leftmost beginning (SOM_LEFTMOST), no captures
 //     others re2 PATTERN DOCUMENT         the leftmost match with its groups, and on behind its end
 //
+// The document is mapped into memory, so none of the three copies it. PCRE2 keeps its start optimisations; auto-possession is
+// switched off, since (*FAIL) asks for the matches that it would cut away.
+//
 // It prints the number of rows. Built by bench/workloads.py: g++ -O3 -std=c++20 others.cpp -lpcre2-8 -lhs -lre2
 #define PCRE2_CODE_UNIT_WIDTH 8
 #include <hs/hs.h>
 #include <pcre2.h>
 #include <re2/re2.h>
 
+#include <fcntl.h>
+#include <sys/mman.h>
+#include <sys/stat.h>
+
 #include <algorithm>
 #include <array>
 #include <cstdio>
 #include <cstdlib>
-#include <cstring>
-#include <fstream>
-#include <iterator>
 #include <string>
+#include <string_view>
 #include <vector>
 
 using Row = std::array<uint32_t, 4>;  // at most two groups, a start and an end each
@@ -38,12 +43,12 @@ static int note(pcre2_callout_block* block, void* into) {
     return 0;
 }
 
-static size_t pcre2(const std::string& pattern, const std::string& document) {
+static size_t pcre2(const std::string& pattern, std::string_view document) {
     const std::string whole = pattern + "(?C1)(*FAIL)";
     int error = 0;
     PCRE2_SIZE at = 0;
     pcre2_code* code = pcre2_compile(reinterpret_cast<PCRE2_SPTR>(whole.data()), whole.size(),
-                                     PCRE2_NO_AUTO_POSSESS | PCRE2_NO_START_OPTIMIZE, &error, &at, nullptr);
+                                     PCRE2_NO_AUTO_POSSESS, &error, &at, nullptr);
     if (!code || pcre2_jit_compile(code, PCRE2_JIT_COMPLETE) != 0) fail("pcre2: pattern");
     pcre2_match_context* context = pcre2_match_context_create(nullptr);
     pcre2_jit_stack* stack = pcre2_jit_stack_create(1 << 20, 512 << 20, nullptr);
@@ -62,7 +67,7 @@ static int count(unsigned, unsigned long long, unsigned long long, unsigned, voi
     return 0;
 }
 
-static size_t hyperscan(const std::string& pattern, const std::string& document) {
+static size_t hyperscan(const std::string& pattern, std::string_view document) {
     hs_database_t* database = nullptr;
     hs_compile_error_t* error = nullptr;
     if (hs_compile(pattern.c_str(), HS_FLAG_SOM_LEFTMOST | HS_FLAG_DOTALL, HS_MODE_BLOCK, nullptr, &database, &error) != HS_SUCCESS) fail(error->message);
@@ -73,12 +78,12 @@ static size_t hyperscan(const std::string& pattern, const std::string& document)
     return rows;
 }
 
-static size_t re2_rows(const std::string& pattern, const std::string& document) {
+static size_t re2_rows(const std::string& pattern, std::string_view document) {
     RE2::Options options;
     options.set_encoding(RE2::Options::EncodingLatin1);
     const RE2 compiled(pattern, options);
     if (!compiled.ok()) fail("re2: pattern");
-    const re2::StringPiece text(document);
+    const re2::StringPiece text(document.data(), document.size());
     re2::StringPiece groups[3];
     const int wanted = std::min(3, compiled.NumberOfCapturingGroups() + 1);
     size_t rows = 0;
@@ -91,10 +96,20 @@ static size_t re2_rows(const std::string& pattern, const std::string& document) 
     return rows;
 }
 
+static std::string_view mapped(const char* path) {
+    const int file = open(path, O_RDONLY);
+    struct stat facts;
+    if (file < 0 || fstat(file, &facts) != 0) fail("document");
+    const size_t size = static_cast<size_t>(facts.st_size);
+    if (size == 0) return {};
+    void* bytes = mmap(nullptr, size, PROT_READ, MAP_PRIVATE | MAP_POPULATE, file, 0);
+    if (bytes == MAP_FAILED) fail("map");
+    return {static_cast<const char*>(bytes), size};
+}
+
 int main(int words, char** word) {
     if (words != 4) fail("usage: others pcre2|hyperscan|re2 PATTERN DOCUMENT");
-    std::ifstream file(word[3], std::ios::binary);
-    const std::string document((std::istreambuf_iterator<char>(file)), std::istreambuf_iterator<char>());
+    const std::string_view document = mapped(word[3]);
     const std::string engine = word[1];
     size_t rows = 0;
     if (engine == "pcre2") rows = pcre2(word[2], document);

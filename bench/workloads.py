@@ -5,7 +5,8 @@
                        [--engine PATH --bodies stay,layer] [--growth] [--instructions]
 
 Each tool gets the same document; what it prints goes to /dev/null, and its rows are counted in a run of
-their own. A figure is the seconds of processor time, the median of N runs, with the most memory.
+their own. The tools run in turn, N rounds of all of them, so that a busy hour meets each alike. A figure is the
+seconds of processor time, the median of the N runs, and the least of them, with the most memory.
 
     rematch     all rows, in order
     bodies      all rows, in order: another program with rematch's command line and an option --engine BODY;
@@ -119,15 +120,21 @@ def run(command, given):
     return Run(float(seconds), int(peak) / 1024) if ended else None
 
 
-def measure(command, given):
-    """The median of the seconds of several runs, and the most memory."""
-    runs = []
+def in_turn(tools, given):
+    """The runs of each tool that ends in time: a first run, then as many rounds of all as were asked for."""
+    runs = {tool: run(command, given) for tool, command in tools.items()}
+    found = {tool: [] for tool, first in runs.items() if first}
     for _ in range(given.times):
-        one = run(command, given)
-        if one is None:
-            return None
-        runs.append(one)
-    return Run(statistics.median(r.seconds for r in runs), max(r.peak for r in runs))
+        for tool in found:
+            one = run(tools[tool], given)
+            if one:
+                found[tool].append(one)
+    return found
+
+
+def figure(runs):
+    """The median and the least of the seconds, and the most memory."""
+    return statistics.median(r.seconds for r in runs), min(r.seconds for r in runs), max(r.peak for r in runs)
 
 
 def output(tool, command):
@@ -146,23 +153,20 @@ def show(work, given):
     with open(document, 'wb') as out:
         length = documents.write(work.kind, work.size, work.seed, out)
     print('\n%s: %s, %d bytes, `%s`\n' % (work.name, work.what, length, ' '.join((work.query,) + work.more)))
-    print('| Tool | Seconds | MB | Rows | Share |\n|---|---|---|---|---|')
+    print('| Tool | Seconds | Least | MB | Rows | Share |\n|---|---|---|---|---|---|')
+    tools = {tool: command for tool, command in commands(work, given, document) if shutil.which(command[0])}
+    runs = in_turn(tools, given)
     total = text = None
     for tool, command in commands(work, given, document):
-        if not shutil.which(command[0]):
-            print('| %s | not installed | | | |' % tool)
+        if not runs.get(tool):
+            print('| %s | %s | | | | |' % (tool, 'more than %g' % given.seconds if tool in tools else 'not installed'))
             continue
-        first = run(command, given)
-        if first is None:
-            print('| %s | more than %g | | | |' % (tool, given.seconds))
-            continue
-        best = measure(command, given) or first
         told, rows = output(tool, command)
         if tool == 'rematch':
             total, text = rows, told
         apart = tool in given.bodies.split(',') and text is not None and told != text
         share = '%.4g%%' % (100 * rows / total) if total and not work.more else '-'
-        print('| %s | %.3f | %.0f | %d | %s |%s' % (tool, best.seconds, best.peak, rows, share, ' OTHER TEXT' if apart else ''))
+        print('| %s | %.3f | %.3f | %.0f | %d | %s |%s' % (tool, *figure(runs[tool]), rows, share, ' OTHER TEXT' if apart else ''))
         sys.stdout.flush()
 
 
@@ -174,10 +178,10 @@ def show_growth(given):
             with open(document, 'wb') as out:
                 length = documents.write(work.kind, work.size * times, work.seed, out)
             command = [given.program, '-e', work.query, document]
-            best = measure(command, given)
+            seconds, _, peak = figure(in_turn({'rematch': command}, given)['rematch'])
             rows = output('rematch', command)[1]
             print('| %s | %d | %d | %d | %.3f | %.0f | %.0f | %.0f |' % (
-                work.name, times, length, rows, best.seconds, best.seconds / length * 1e9, best.seconds / rows * 1e9, best.peak))
+                work.name, times, length, rows, seconds, seconds / length * 1e9, seconds / rows * 1e9, peak))
             sys.stdout.flush()
 
 
