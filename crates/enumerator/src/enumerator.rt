@@ -95,7 +95,12 @@ impl Enumerator {
             steps,
         );
         self.settled = Marks::none();
-        read_spans(self.variables, self.settled, &self.positions, &mut self.spans);
+        read_spans(
+            self.variables,
+            self.settled,
+            &self.positions,
+            &mut self.spans,
+        );
     }
 
     /// Goes to the next row; false exactly where none is left, and from then on until a seek. It takes no

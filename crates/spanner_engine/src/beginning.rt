@@ -142,7 +142,15 @@ pub fn begin_by<L: Ledger>(
         Err(FilterFault::Full { weight }) => return Err(BeginFault::Filter { weight }),
         Err(FilterFault::OutOfMemory) => return Err(BeginFault::OutOfMemory),
     };
-    let rows = match all_answers(alloc, query, automaton, doc, positions, options.limit, steps) {
+    let rows = match all_answers(
+        alloc,
+        query,
+        automaton,
+        doc,
+        positions,
+        options.limit,
+        steps,
+    ) {
         Ok(rows) => rows,
         Err(TableFault::Full { weight }) => return Err(BeginFault::Table { weight }),
         Err(TableFault::OutOfMemory) => return Err(BeginFault::OutOfMemory),

@@ -52,7 +52,7 @@ returns-clause-next g c =
       | else-is_done w ↦ w.positions-is
     ] in
     let new : positions_of c.place.new.positions ≡ put (positions_of c.args.positions.now) (c.at-cell.result.at, c.at-cell.result.marks) =
-        λ i bit. (c.place.ensures bit ∙ ap (λ ps. put (positions_of ps) (c.at-cell.result.at, c.at-cell.result.marks) bit) kept) i in
+    λ i bit. (c.place.ensures bit ∙ ap (λ ps. put (positions_of ps) (c.at-cell.result.at, c.at-cell.result.marks) bit) kept) i in
     let row = rw (new, c.with-begun.ensures, c.wait.ensures) at c.settle-settled.ensures.row in
     top_child c.args.lists.now.store c.args.v (positions_of c.args.positions.now) c.args.stack.now c.pop.new.self c.in-Some.waiting c.in-Some.ensures c.requires.stacked c.requires.sound.made c.in-Row.id (named_row c.in-Row.id c.at-cell.result) c.at-cell.ensures.row c.in-Row.is ∙ row
     ∙ ap (λ (r : SpanRow). r ∷ waiting_rows c.args.lists.now.store c.args.v (positions_of c.settle-settled.new.positions) c.settle-settled.new.stack) (sym c.read_spans-2.ensures)
