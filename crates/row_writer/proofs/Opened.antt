@@ -4,9 +4,9 @@ use Rattle.std.specs.Fmt.{decimal}
 use Rattle.span_core.specs.declared.span.Span.{Span}
 use Rattle.row_writer.specs.declared.style.Style.{Style}
 use Rattle.row_writer.specs.declared.style.Style.TheVariants as style
-use Rattle.row_writer.specs.Kept.{Head, Line, cells_text, kept_text, line_end, styled_cell, text_under}
+use Rattle.row_writer.specs.Kept.{Head, Line, cells_text, line_end, styled_cell, text_under}
 use Rattle.row_writer.specs.KeptField.{opening, numbers, sign, span_rest}
-use Rattle.row_writer.specs.Open.{Open, open_with, open_text, IsOpenAt, before_end, behind_end, open_at}
+use Rattle.row_writer.specs.Open.{IsOpenAt, before_end, behind_end, open_at}
 use Rattle.row_writer.proofs.Keeping.{front_written}
 
 -- a cell without its text

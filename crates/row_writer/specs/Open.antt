@@ -1,8 +1,7 @@
 -- Lines of which one number is open: rows that differ in the end of one span have the same bytes before it and behind it.
-use Rattle.std.specs.Prelude.{◌≡◌, ℕ, zero, suc, List, [], ◌∷◌, ◌++◌, Option, Some, None, slice_get, set, false}
+use Rattle.std.specs.Prelude.{◌≡◌, ℕ, zero, suc, List, [], ◌∷◌, ◌++◌, Option, Some, None, IfSome, length, slice_get, set, false}
 use Rattle.std.specs.Fmt.{decimal}
 use Rattle.span_core.specs.declared.span.Span.{Span}
-use Rattle.row_writer.specs.declared.style.Style.{Style}
 use Rattle.row_writer.specs.Kept.{Head, Line, cells_text, kept_text, line_end, styled_cell}
 use Rattle.row_writer.specs.KeptField.{opening, sign, span_rest}
 
@@ -40,3 +39,16 @@ behind_end doc (head ∷ heads) (span ∷ row) (suc k) = behind_end doc heads ro
 -- the line of a row, open at the end of the span at this place
 abbrev pub open_at : Line → List (Option Span) → ℕ → ℕ → List ℕ → Open
 open_at kept row k start doc = open_with (before_end doc kept.heads row k start) (behind_end doc kept.heads row k ++ line_end kept.style)
+
+-- the row is the last one with another end of the span at this place
+pub record IsBeside (last row : List (Option Span)) (k : ℕ) (b : Span) : Type 0 where
+  pub before : Span
+  pub was : slice_get last k ≡ Some (Some before)
+  pub start : b.start ≡ before.start
+  pub now : slice_get row k ≡ Some (Some b)
+  pub others : row ≡ set last k (Some b)
+
+-- the last row has a place for each head, and the line that is open at a place is that of the last row with another end there
+pub record IsRun (line : Line) (last : List (Option Span)) (place : ℕ) (open_line : Option Open) : Type 0 where
+  pub lengths : length last ≡ length line.heads
+  pub opened : IfSome open_line (λ o. IsOpenAt line last place [] o)

@@ -1,10 +1,11 @@
 //! A field of a line, kept from one row to the next.
 ghost use Rattle.std.specs.Prelude.{◌≡◌, ℕ, ◌+◌, ◌≤◌, ◌++◌, ◌∷◌, [], take, length, IsTrue, Some};
 ghost use Rattle.std.specs.Bool.{OnTrue, OnFalse};
+ghost use Rattle.std.specs.Fmt.{decimal};
 ghost use Rattle.serde_json.specs.Data.{string};
 ghost use Rattle.serde_json.specs.Written.{compact_text};
 ghost use Rattle.row_writer.specs.Kept.{head_with, member_head};
-ghost use Rattle.row_writer.specs.KeptField.{absent, cell_front};
+ghost use Rattle.row_writer.specs.KeptField.{absent, cell_front, opening, sign as sign_of};
 ghost use Rattle.row_writer.specs.declared.style.Style.TheVariants as style;
 
 use crate::style::{Style, put_opening};
@@ -129,6 +130,30 @@ impl Field {
             Some(span) => self.put_span(span, buffer, at),
             None => self.put_absent(buffer, at),
         }
+    }
+
+    /// Takes a span, and writes the head and the cell up to the end of the span at a position.
+    pub(crate) fn put_start(&mut self, span: Span, buffer: &mut [u8], at: usize) -> usize
+        requires { at + FIELD_BYTES ≤ length buffer.old }
+        ensures head { self.new.head ≡ self.old.head }
+        ensures end { result ≤ at + 48 }
+        ensures text { take result buffer.new ≡ take at buffer.old ++ (self.old.head.before ++ (opening self.old.head.style ++ (decimal span.start ++ sign_of self.old.head.style ∷ []))) }
+    {
+        if span.start != self.span.start {
+            self.renew(span);
+            return self.put_half(buffer, at);
+        }
+        self.put_half(buffer, at)
+    }
+
+    /// Writes the head and the cell of the span up to its end at a position.
+    fn put_half(&self, buffer: &mut [u8], at: usize) -> usize
+        requires { at + FIELD_BYTES ≤ length buffer.old }
+        ensures end { result ≤ at + 48 }
+        ensures text { take result buffer.new ≡ take at buffer.old ++ (self.now.head.before ++ (opening self.now.head.style ++ (decimal self.now.span.start ++ sign_of self.now.head.style ∷ []))) }
+    {
+        let _whole = put_bytes(&self.bytes, buffer, at);
+        at + self.middle
     }
 
     /// Writes the head and the cell of an absent span at a position. The span that was taken last stays.

@@ -1,16 +1,16 @@
 //! The lines of one row after another, of which what stays the same is not written anew.
-ghost use Rattle.std.specs.Prelude.{◌≡◌, ℕ, ◌+◌, ◌^◌, ◌≤◌, ◌++◌, take, length, IsTrue, IfOk, Some, true};
+ghost use Rattle.std.specs.Prelude.{◌≡◌, ℕ, ◌+◌, ◌^◌, ◌<◌, ◌≤◌, ◌++◌, take, length, slice_get, IsTrue, IfOk, Some, true, false};
 ghost use Rattle.std.specs.List.{list_all};
 ghost use Rattle.cell_text.specs.Cells.{ends_by};
-ghost use Rattle.row_writer.specs.Kept.{cells_text, heads_of, json_kept, kept_text, line_room, quote_room, spans_kept, styled_cell, table_kept};
-ghost use Rattle.row_writer.specs.KeptField.{span_rest};
+ghost use Rattle.row_writer.specs.Kept.{heads_of, json_kept, kept_text, line_room, line_with, quote_room, spans_kept, table_kept};
 ghost use Rattle.row_writer.specs.declared.field.TheConstants.{FIELD_BYTES};
 ghost use Rattle.span_core.specs.declared.TheConstants.{MOST_VARIABLES};
 
+use crate::cells::put_fields;
 use crate::field::{FIELD_BYTES, Field};
-use crate::shown::{put_item, put_quoted};
+use crate::parted::{open_line, put_parted};
+use crate::run::{Beside, Run, find_beside};
 use crate::style::{Style, put_empty, put_line_end};
-use cell_text::put_byte;
 use span_core::{MOST_VARIABLES, OutOfMemory, Span, VarSet};
 use std::alloc::Global;
 use std::marker::Model;
@@ -18,11 +18,13 @@ use std::marker::Model;
 /// Writes the lines of rows in place, as spans, as lines of the table, or as JSON.
 ///
 /// It is seen as how the line is written, and what stands before each of its cells. The fields are kept from one row to
-/// the next, so that of a row only the numbers that changed are made into digits.
+/// the next, so that of a row only the numbers that changed are made into digits. Where rows without texts differ in the
+/// end of one span alone, the bytes before that end and behind it are kept as they are, from the second such row on.
 #[derive(Drop)]
 pub struct KeptLine {
     fields: Vec<Field>,
     style: Style,
+    run: Run,
 }
 
 impl Model for KeptLine {
@@ -31,6 +33,10 @@ impl Model for KeptLine {
     ghost Value = { Line };
 
     ghost view = { λ l. line_with l.style (heads_of l.fields.items) };
+
+    ghost use Rattle.row_writer.specs.Open.{IsRun};
+
+    ghost invariant = { λ l. IsRun (line_with l.style (heads_of l.fields.items)) l.run.last.items l.run.place l.run.line };
 }
 
 impl KeptLine {
@@ -45,8 +51,7 @@ impl KeptLine {
         for k in 1..vars.len() {
             fields.push(Field::named(false, vars.at(k)))?;
         }
-        let style = Style::Plain;
-        Ok(KeptLine { fields, style })
+        KeptLine::over(alloc, fields, Style::Plain)
     }
 
     /// For lines of the table over these variables.
@@ -60,8 +65,7 @@ impl KeptLine {
         for _k in 1..vars.len() {
             fields.push(Field::tabbed(false))?;
         }
-        let style = Style::Plain;
-        Ok(KeptLine { fields, style })
+        KeptLine::over(alloc, fields, Style::Plain)
     }
 
     /// For JSON lines over these variables.
@@ -75,8 +79,21 @@ impl KeptLine {
         for k in 1..vars.len() {
             fields.push(Field::member(b',', vars.at(k)))?;
         }
-        let style = Style::Json;
-        Ok(KeptLine { fields, style })
+        KeptLine::over(alloc, fields, Style::Json)
+    }
+
+    /// The line of these fields, before its first row.
+    fn over(alloc: Global, fields: Vec<Field>, style: Style) -> Result<KeptLine, OutOfMemory>
+        ensures { IfOk result (λ line. line ≡ line_with style (heads_of fields.items)) }
+    {
+        let mut last = Vec::new(alloc);
+        last.resize(fields.len(), None)?;
+        let run = Run {
+            last,
+            place: 0,
+            line: None,
+        };
+        Ok(KeptLine { fields, style, run })
     }
 
     /// The room that the line of a row needs where it is written by `put`.
@@ -112,8 +129,87 @@ impl KeptLine {
         if spans.is_empty() {
             return put_empty(self.style, buffer, at);
         }
-        let end = put_fields(self.fields.as_mut_slice(), spans, doc, texts, buffer, at);
-        put_line_end(self.style, buffer, end)
+        if texts {
+            let end = put_fields(self.fields.as_mut_slice(), spans, doc, texts, buffer, at);
+            return put_line_end(self.style, buffer, end);
+        }
+        self.put_bare(spans, doc, buffer, at)
+    }
+
+    /// Writes the line of a row with some variables, without texts.
+    #[inline(always)]
+    fn put_bare(
+        &mut self,
+        spans: &[Option<Span>],
+        doc: &[u8],
+        buffer: &mut [u8],
+        at: usize,
+    ) -> usize
+        requires some { 0 < length spans.now }
+        requires lengths { length spans.now ≡ length self.old.heads }
+        requires inside { IsTrue (list_all (ends_by (length doc.now)) spans.now) }
+        requires room { at + line_room false self.old.heads spans.now ≤ length buffer.old }
+        ensures line { self.new ≡ self.old }
+        ensures end { result ≤ at + line_room false self.old.heads spans.now }
+        ensures text { take result buffer.new ≡ take at buffer.old ++ kept_text self.old spans.now doc.now false }
+    {
+        let Some(beside) = find_beside(self.run.last.as_slice(), spans) else {
+            return self.put_other(spans, doc, buffer, at);
+        };
+        if beside.place == self.run.place {
+            if let Some(line) = &self.run.line {
+                return line.put(beside.span.end, buffer, at);
+            }
+        }
+        self.put_first(spans, beside, doc, buffer, at)
+    }
+
+    /// Writes the line of a row that is not beside the last one.
+    fn put_other(
+        &mut self,
+        spans: &[Option<Span>],
+        doc: &[u8],
+        buffer: &mut [u8],
+        at: usize,
+    ) -> usize
+        requires some { 0 < length spans.now }
+        requires lengths { length spans.now ≡ length self.old.heads }
+        requires inside { IsTrue (list_all (ends_by (length doc.now)) spans.now) }
+        requires room { at + line_room false self.old.heads spans.now ≤ length buffer.old }
+        ensures line { self.new ≡ self.old }
+        ensures end { result ≤ at + line_room false self.old.heads spans.now }
+        ensures text { take result buffer.new ≡ take at buffer.old ++ kept_text self.old spans.now doc.now false }
+    {
+        let end = put_fields(self.fields.as_mut_slice(), spans, doc, false, buffer, at);
+        let end = put_line_end(self.style, buffer, end);
+        self.run.line = None;
+        self.run.last.copy_from_slice(spans);
+        end
+    }
+
+    /// Writes the line of a row beside the last one, with which the lines of a run are open at the end of its span.
+    fn put_first(
+        &mut self,
+        spans: &[Option<Span>],
+        beside: Beside,
+        doc: &[u8],
+        buffer: &mut [u8],
+        at: usize,
+    ) -> usize
+        requires lengths { length spans.now ≡ length self.old.heads }
+        requires span { slice_get spans.now beside.place ≡ Some (Some beside.span) }
+        requires inside { IsTrue (list_all (ends_by (length doc.now)) spans.now) }
+        requires room { at + line_room false self.old.heads spans.now ≤ length buffer.old }
+        ensures line { self.new ≡ self.old }
+        ensures end { result ≤ at + line_room false self.old.heads spans.now }
+        ensures text { take result buffer.new ≡ take at buffer.old ++ kept_text self.old spans.now doc.now false }
+    {
+        let parts = put_parted(self.fields.as_mut_slice(), spans, beside, doc, buffer, at);
+        let end = put_line_end(self.style, buffer, parts.end);
+        self.run.line = open_line(buffer, at, parts, end);
+        self.run.place = beside.place;
+        self.run.last.copy_from_slice(spans);
+        end
     }
 }
 
@@ -143,75 +239,5 @@ fn field_room(style: Style, span: Option<Span>) -> usize
     match style {
         Style::Plain => FIELD_BYTES + 2 + 4 * bytes,
         Style::Json => FIELD_BYTES + 3 + 5 * bytes,
-    }
-}
-
-#[inline(always)]
-fn put_fields(
-    fields: &mut [Field],
-    spans: &[Option<Span>],
-    doc: &[u8],
-    texts: bool,
-    buffer: &mut [u8],
-    at: usize,
-) -> usize
-    requires lengths { length spans.now ≡ length fields.old }
-    requires inside { IsTrue (list_all (ends_by (length doc.now)) spans.now) }
-    requires room { at + line_room texts (heads_of fields.old) spans.now ≤ length buffer.old }
-    ensures heads { heads_of fields.new ≡ heads_of fields.old }
-    ensures end { result + 64 ≤ at + line_room texts (heads_of fields.old) spans.now }
-    ensures text { take result buffer.new ≡ take at buffer.old ++ cells_text doc.now texts (heads_of fields.old) spans.now }
-{
-    let mut end = at;
-    for k in 0..spans.len() {
-        end = put_kept(&mut fields[k], spans[k], doc, texts, buffer, end);
-    }
-    end
-}
-
-/// Takes a span into its field, and writes the field with the span's text where that is asked for.
-#[inline(always)]
-fn put_kept(
-    field: &mut Field,
-    span: Option<Span>,
-    doc: &[u8],
-    texts: bool,
-    buffer: &mut [u8],
-    at: usize,
-) -> usize
-    requires inside { IsTrue (ends_by (length doc.now) span) }
-    requires room { at + FIELD_BYTES + quote_room field.old.head.style texts span ≤ length buffer.old }
-    ensures head { field.new.head ≡ field.old.head }
-    ensures end { result ≤ at + FIELD_BYTES + quote_room field.old.head.style texts span }
-    ensures text { take result buffer.new
-        ≡ take at buffer.old ++ (field.old.head.before ++ styled_cell field.old.head.style doc.now texts span) }
-{
-    let end = field.put(span, buffer, at);
-    match span {
-        Some(span) => put_rest(field.style(), span, doc, texts, buffer, end),
-        None => end,
-    }
-}
-
-/// Writes what stands behind the numbers of a span.
-#[inline(always)]
-fn put_rest(
-    style: Style,
-    span: Span,
-    doc: &[u8],
-    texts: bool,
-    buffer: &mut [u8],
-    at: usize,
-) -> usize
-    requires inside { span.end ≤ length doc.now }
-    requires room { at + 1 + quote_room style texts (Some span) ≤ length buffer.old }
-    ensures end { result ≤ at + 1 + quote_room style texts (Some span) }
-    ensures text { take result buffer.new ≡ take at buffer.old ++ span_rest style doc.now texts span }
-{
-    match style {
-        Style::Plain if texts => put_quoted(span, doc, buffer, at),
-        Style::Plain => at,
-        Style::Json if texts => put_item(span, doc, buffer, at),
-        Style::Json => put_byte(b']', buffer, at),
     }
 }

@@ -6,7 +6,7 @@ use Rattle.cell_text.specs.Cells.{ends_by}
 use Rattle.row_writer.specs.Kept.{Head, cells_text, heads_of, line_room}
 use Rattle.row_writer.proofs.Keeping.{cells_more, heads_at, length_heads, room_more, same_heads}
 use Rattle.row_writer.proofs.Fields.{all_at}
-use Rattle.row_writer.proofs.kept.put_fields.Goals as goal
+use Rattle.row_writer.proofs.cells.put_fields.Goals as goal
 
 pub put_kept-end-requires-clause-inside : goal.put_kept-end-requires-clause-inside
 put_kept-end-requires-clause-inside c =

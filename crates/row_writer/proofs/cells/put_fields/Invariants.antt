@@ -1,6 +1,6 @@
 use Rattle.std.proofs.Common.{◌≡◌, ◌+◌, ◌≤◌, ◌++◌, take, drop}
 use Rattle.row_writer.specs.Kept.{cells_text, heads_of, line_room}
-use Rattle.row_writer.proofs.kept.put_fields.Given as goal
+use Rattle.row_writer.proofs.cells.put_fields.Given as goal
 
 abbrev pub invariant-loop-k : goal.invariant-loop-k
 invariant-loop-k l = record {

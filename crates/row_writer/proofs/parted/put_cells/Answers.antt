@@ -1,0 +1,55 @@
+use Rattle.std.proofs.Common.{◌≡◌, ◌+◌, ◌<◌, ◌++◌, ℕ, List, [], ◌∷◌, take, drop, length, get_or, refl, sym, ap, ◌∙◌, arith, append-nil, Option, false}
+use Rattle.std.proofs.lemmas.List.{drop_more, drop_all}
+use Rattle.std.proofs.lemmas.Option.{slice_get_read}
+use Rattle.span_core.specs.declared.span.Span.{Span}
+use Rattle.cell_text.specs.Cells.{ends_by}
+use Rattle.row_writer.specs.Kept.{Head, cells_text, heads_of}
+use Rattle.row_writer.proofs.Fields.{all_at}
+use Rattle.row_writer.proofs.Keeping.{cells_more, heads_at, same_heads}
+use Rattle.row_writer.proofs.LineParts.{no_cells, no_quote}
+use Rattle.row_writer.proofs.parted.put_cells.Goals as goal
+
+pub put_kept-end-requires-clause-inside : goal.put_kept-end-requires-clause-inside
+put_kept-end-requires-clause-inside c =
+    let span = c.index-spans-k.result in
+    let l : c.loop-k.k < length c.args.spans.now = omega arith in
+    let read = slice_get_read c.args.spans.now (length c.args.spans.now) c.loop-k.k span refl l c.index-spans-k.is in
+    all_at (ends_by (length c.args.doc.now)) c.args.spans.now c.loop-k.k span read c.requires.inside
+
+pub put_kept-end-requires-clause-room : goal.put_kept-end-requires-clause-room
+put_kept-end-requires-clause-room c =
+    let head = (get_or c.loop-k.fields c.loop-k.k c.index-fields-k.result).head in
+    omega (arith, c.loop-k.invariant.room, c.requires.room, c.loop-k.auto.buffer, no_quote head.style c.index-spans-k.result)
+
+pub loop-k-preserved : goal.loop-k-preserved
+loop-k-preserved c =
+    let i = c.loop-k.invariant in
+    let k = c.loop-k.k in
+    let spans = c.args.spans.now in
+    let fields = c.loop-k.fields in
+    let heads = heads_of c.args.fields.now in
+    let field = c.index-fields-k.result in
+    let span = c.index-spans-k.result in
+    let l : k < length spans = omega arith in
+    let n : k < length fields = omega (arith, c.requires.lengths) in
+    let head = (get_or fields k field).head in
+    let left : drop k heads ≡ head ∷ drop (k + 1) heads =
+    sym (ap (λ (hs : List Head). drop k hs) i.heads) ∙ heads_at fields k field n ∙ ap (λ (hs : List Head). head ∷ drop (k + 1) hs) i.heads in
+    let more : drop k spans ≡ span ∷ drop (k + 1) spans = drop_more spans k span l ∙ ap (λ (s : Option Span). s ∷ drop (k + 1) spans) (sym c.index-spans-k.is) in
+    record {
+      heads = same_heads fields k field c.put_kept-end.new.field n c.put_kept-end.ensures.head ∙ i.heads;
+      written = cells_more c.args.doc.now false (take c.loop-k.end c.loop-k.buffer) (take c.put_kept-end.result c.put_kept-end.new.buffer) head
+          (drop k heads) (drop (k + 1) heads) (drop k spans) (drop (k + 1) spans) span _ left more c.put_kept-end.ensures.text i.written;
+      room = omega (arith, i.room, c.put_kept-end.ensures.end, no_quote head.style span);
+    }
+
+pub returns-clause-text : goal.returns-clause-text
+returns-clause-text c =
+    let k = c.loop-k.k in
+    let spans = c.args.spans.now in
+    let left = drop k (heads_of c.args.fields.now) in
+    let done = take c.loop-k.end c.loop-k.buffer in
+    let none : drop k spans ≡ [] = drop_all k spans (omega arith) in
+    sym (append-nil done)
+    ∙ sym (ap (λ (xs : List ℕ). done ++ xs) (ap (λ (row : List (Option Span)). cells_text c.args.doc.now false left row) none ∙ no_cells c.args.doc.now left))
+    ∙ c.loop-k.invariant.written

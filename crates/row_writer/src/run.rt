@@ -1,0 +1,86 @@
+//! Rows that differ from the one before in the end of one span.
+ghost use Rattle.std.specs.Prelude.{◌≡◌, ℕ, ◌<◌, ◌≤◌, length, slice_get, IfSome};
+ghost use Rattle.std.specs.Bool.{OnTrue};
+ghost use Rattle.row_writer.specs.Open.{IsBeside};
+
+use crate::open::OpenLine;
+use span_core::Span;
+
+/// The row that was written last but by an open line, and that line, where the rows differ in the end of the span at this
+/// place alone.
+#[derive(Drop)]
+pub(crate) struct Run {
+    pub last: Vec<Option<Span>>,
+    pub place: usize,
+    pub line: Option<OpenLine>,
+}
+
+/// A row that has another end of the span at this place.
+#[derive(Clone, Copy)]
+pub(crate) struct Beside {
+    pub place: usize,
+    pub span: Span,
+}
+
+/// Where a row differs from the last one in the end of one span alone.
+#[inline(always)]
+pub(crate) fn find_beside(last: &[Option<Span>], spans: &[Option<Span>]) -> Option<Beside>
+    requires lengths { length spans.now ≡ length last.now }
+    ensures { IfSome result (λ b. IsBeside last.now spans.now b.place b.span) }
+{
+    let place = alike(last, spans);
+    if place >= spans.len() || !are_same_behind(last, spans, place) {
+        return None;
+    }
+    let Some(before) = last[place] else {
+        return None;
+    };
+    let Some(span) = spans[place] else {
+        return None;
+    };
+    if before.start != span.start {
+        return None;
+    }
+    Some(Beside { place, span })
+}
+
+/// How many spans of two rows are the same before one differs.
+#[inline(always)]
+fn alike(last: &[Option<Span>], spans: &[Option<Span>]) -> usize
+    requires lengths { length spans.now ≡ length last.now }
+    ensures { (j : ℕ) → j < result → slice_get last.now j ≡ slice_get spans.now j }
+{
+    for k in 0..spans.len() {
+        if !is_same(last[k], spans[k]) {
+            return k;
+        }
+    }
+    spans.len()
+}
+
+/// Whether two rows are the same behind this place.
+#[inline(always)]
+fn are_same_behind(last: &[Option<Span>], spans: &[Option<Span>], place: usize) -> bool
+    requires lengths { length spans.now ≡ length last.now }
+    requires within { place < length spans.now }
+    ensures { OnTrue result ((j : ℕ) → place < j → j < length spans.now → slice_get last.now j ≡ slice_get spans.now j) }
+{
+    for k in place + 1..spans.len() {
+        if !is_same(last[k], spans[k]) {
+            return false;
+        }
+    }
+    true
+}
+
+/// Whether both are absent, or are the same span.
+#[inline(always)]
+fn is_same(a: Option<Span>, b: Option<Span>) -> bool
+    ensures { OnTrue result (a ≡ b) }
+{
+    match (a, b) {
+        (Some(a), Some(b)) => a.start == b.start && a.end == b.end,
+        (None, None) => true,
+        _ => false,
+    }
+}
