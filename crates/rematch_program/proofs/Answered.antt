@@ -18,7 +18,7 @@ use Rattle.rm_outside.specs.Change.{Change}
 use Rattle.rematch_program.specs.Work.{clock, work}
 use Rattle.note_texts.specs.Notes.{line}
 use Rattle.rematch_program.specs.Pages.{CursorFits, first_rows, last_note, page_text}
-use Rattle.rematch_program.specs.Run.{FromDocument, FromPage, answered, paged, summed}
+use Rattle.rematch_program.specs.Run.{FromDocument, FromPage, IsHeldWithin, answered, paged, summed}
 use Rattle.rematch_program.specs.Steps.{KeepsWithin}
 use Rattle.rematch_program.specs.Taking.{AllTaken, PageTaken, PageTakes, TrialTakes, coming, page_note, whole_text}
 use Rattle.rematch_program.specs.Trials.{trial_summary}
@@ -49,13 +49,13 @@ module _ (judges : ℕ → List ℕ → Bool) (s : Source) (rest : List SpanRow)
       (PageTakes (checks_over judges u) u.names u.document rows (first_rows a.limit (passing_over judges u rows))) in
       subst (At s) are (subst (λ (u : Source). At u r.rest) over h)
 
-  pub page_answered : (after : Option Kept) → a.mode ≡ mode.Plain → CursorFits (length s.document) after → AreLeft q s.document s.names (row_kept after) rest →
+  pub page_answered : (after : Option Kept) → a.mode ≡ mode.Plain → CursorFits (length s.document) after → IsHeldWithin a.filter q s.document a.max_table → AreLeft q s.document s.names (row_kept after) rest →
       KeepsWithin a.filter q s.document (λ K. begin_steps a.filter q s.document K (row_kept after)) (clock old mid) →
       FromPage (work out (clock mid new)) end note (whole_text judges r a) (page_note judges r a) (PageTaken judges r a.limit) →
       FromDocument a q (checks_over judges s) (work out (clock old new)) end note s.names after s.document
-  page_answered after plain fits left few h =
+  page_answered after plain fits held left few h =
       let rows = passing_over judges s rest in
-      answered fits
+      answered fits held
       (paged plain page (nat_lt (length page) (length rows))
       (passing_page (checks_over judges s) q s.document s.names (row_kept after) a.limit rest (nat_lt (length page) (length rows)) left
       (λ t. leb-true (suc (length page)) (length rows) t, λ l. le-leb (suc (length page)) (length rows) l))
@@ -68,11 +68,11 @@ module _ (judges : ℕ → List ℕ → Bool) (s : Source) (rest : List SpanRow)
       (TrialTakes (checks_over judges u) u.names rows (passing_over judges u rows)) in
       subst (At s) are (subst (λ (u : Source). At u r.rest) over h)
 
-  pub trial_answered : (lines : ℕ) → a.mode ≡ mode.Trial lines → AreLeft q s.document s.names None rest →
+  pub trial_answered : (lines : ℕ) → a.mode ≡ mode.Trial lines → IsHeldWithin a.filter q s.document a.max_table → AreLeft q s.document s.names None rest →
       KeepsWithin a.filter q s.document (λ K. begin_steps a.filter q s.document K None) (clock old mid) →
       FromPage (work out (clock mid new)) end note (trial_summary lines r.source.names r.source.document (coming judges r)) (line (codes "end")) (AllTaken judges r) →
       FromDocument a q (checks_over judges s) (work out (clock old new)) end note s.names None s.document
-  trial_answered lines trial left few h =
-      answered tt
+  trial_answered lines trial held left few h =
+      answered tt held
       (summed lines trial (passing_over judges s rest) (all_passing (checks_over judges s) q s.document s.names rest left)
       (page_earlier out end note old mid new _ _ _ _ (trial_keeps a.filter q s.document s.names old mid new (checks_over judges s) rest left few) (summary_written lines h)))

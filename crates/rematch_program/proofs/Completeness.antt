@@ -175,7 +175,7 @@ module _ (k : Known) (words : List Text) (a : RequestView) (text : Text) (t : Te
     from_document : FromDocument a q checks w end note names after document → Goal
     from_document (not_begun why quiet) = memory (let (K, reads, light) = limits.light in never_unbegun a.filter q after document a.max_table w.steps end note fits limits.filtered K reads light why)
     from_document (out_of_memory is quiet) = memory is.ends
-    from_document (answered inside case) = from_answers case
+    from_document (answered inside held case) = from_answers case
 
   -- the plain command
   module _ (after : Option Kept) (document : Text) (plain : a.mode ≡ mode.Plain) (limits : IsWithinLimits a q document) where

@@ -18,13 +18,16 @@ use Rattle.query_parser.specs.Tested.{TestedTree, IsTestedText}
 use Rattle.row_cursor.specs.CursorTexts.{IsCursorText}
 use Rattle.rematch_program.specs.declared.TheConstants.{QUERY_LIMIT, DOCUMENT_LIMIT}
 use Rattle.marked_automaton.specs.declared.fault.SizeFault.TheVariants.{States, Ways}
+use Rattle.marked_automaton.specs.Automaton.{Marked}
+use Rattle.query_automaton.specs.CompiledQuery.{IsCompiled}
 use Rattle.query_automaton.specs.Parts.{AtomsAreSmall, HasLargePart}
 use Rattle.trial_maker.specs.Trial.{trial_text}
 use Rattle.filter_laws.specs.Touching.{HasMinus}
 use Rattle.rm_outside.specs.Change.{Change, IsQuiet, Adds, AddsPart, Failed}
 use Rattle.rematch_program.specs.Work.{Clock, Work, clock, work, StandsStill, DidNothing}
 use Rattle.rematch_program.specs.Testing.{AreAllPassing, IsPassingPageOf, PageKeeps, TrialKeeps, explain_tested}
-use Rattle.spanner_engine.specs.Begun.{AreRead, HasHeavyAtom, IsPast, KeepsOther, begin_steps, row_kept, table_weight}
+use Rattle.spanner_engine.specs.Begun.{AreRead, HasHeavyAtom, IsPast, IsReadWithin, KeepsOther, begin_steps, row_kept, table_weight}
+use Rattle.spanner_engine.specs.Filtering.{AreWithin}
 use Rattle.spanner_engine.specs.Passing.{AreKnown, Check, Known, HasFaultUnder, IsOnlyTested, checks_of, known}
 use Rattle.note_texts.specs.Notes.{counted, fault_note, filter_note, line, other_document_note, states_note, table_note, ways_note}
 use Rattle.rematch_program.specs.Steps.{KeepsWithin}
@@ -127,6 +130,14 @@ pub data IsExplained (t : TestedTree) (out : Change) (end : Status) (note : Text
       IsExplained t out end note
   by_memory : IsOutOfMemory end note → IsQuiet out → IsExplained t out end note
 
+-- what the answers are read from keeps the limit of the table: what reading the document must hold, counted on an automaton that the
+-- query was compiled to, and, with the filter, what the two readings of each atom meet
+pub record IsHeldWithin (filter : Bool) (q : QueryTree) (document : Text) (max_table : ℕ) : Type 0 where
+  pub automaton : Marked
+  pub compiled : IsCompiled q automaton
+  pub read : IsReadWithin automaton.graph q document filter max_table
+  pub atoms : AreWithin q document filter max_table
+
 module _ (a : RequestView) (q : QueryTree) (checks : List Check) (w : Work) (end : Status) (note : Text) where
   -- with all that is needed: a page of the answers that pass, or the summary of them all
   pub data FromAnswers (names : List VarName) (after : Option Kept) (document : Text) : Type 0 where
@@ -141,7 +152,7 @@ module _ (a : RequestView) (q : QueryTree) (checks : List Check) (w : Work) (end
   pub data FromDocument (names : List VarName) (after : Option Kept) (document : Text) : Type 0 where
     not_begun : IsNotBegun a.filter q after document a.max_table w.steps end note → IsQuiet w.out → FromDocument names after document
     out_of_memory : IsOutOfMemory end note → DidNothing w → FromDocument names after document
-    answered : CursorFits (length document) after → FromAnswers names after document → FromDocument names after document
+    answered : CursorFits (length document) after → IsHeldWithin a.filter q document a.max_table → FromAnswers names after document → FromDocument names after document
 
   module _ (s : Shelved) where
     -- with the place where the page begins

@@ -42,6 +42,7 @@ pub fn run_all<S: Shelf, R: Source, O: Sink, N: Sink, J: Judge, L: Ledger>(
         (change (N.told notes.old) (N.told notes.new))
         result }
     ensures untouched { map string_bytes words.now ≡ serving_words → IsUntouched (shelved (S.told shelf.old) (S.told shelf.new)) }
+    ensures unasked { map string_bytes words.now ≢ serving_words → R.told source.new ≡ R.told source.old }
     ensures run { map string_bytes words.now ≢ serving_words → RunTested (known tests.now J.judges) (map string_bytes words.now)
         (shelved (S.told shelf.old) (S.told shelf.new))
         (change (O.told out.old) (O.told out.new))

@@ -25,7 +25,7 @@ ghost use Rattle.note_texts.specs.Notes.{fault_note, note_bytes, size_note};
 ghost use Rattle.rematch_program.specs.Steps.{KeepsWithin};
 ghost use Rattle.rematch_program.specs.Pages.{CursorFits, HasWidth, IsAfter};
 ghost use Rattle.rematch_program.specs.Complete.{Completes};
-ghost use Rattle.rematch_program.specs.Run.{FetchFailed, Fetches, FromRequest, FromCursor, FromDocument, FromPlace, FromQuery, FromText, FromWords, Gives, Is, IsNotBegun, IsOutOfMemory, IsTooLarge, Reports, Run, RunTested, none_known, shelved};
+ghost use Rattle.rematch_program.specs.Run.{FetchFailed, Fetches, FromRequest, FromCursor, FromDocument, FromPlace, FromQuery, FromText, FromWords, Gives, Is, IsHeldWithin, IsNotBegun, IsOutOfMemory, IsTooLarge, Reports, Run, RunTested, none_known, shelved};
 
 use crate::explanation::write_explanation;
 use crate::outcome::Outcome;
@@ -466,6 +466,7 @@ fn begun<L: Ledger>(
     ensures fits { OnOk result (CursorFits (length document.now) (option_copied after.entry)) }
     ensures left { IfOk result (λ a. AreLeft (query_of compiled.now.query) document.now compiled.now.automaton.names (row_kept (option_copied after.entry)) a.rest) }
     ensures variables { IfOk result (λ a. a.variables ≡ length compiled.now.automaton.names) }
+    ensures held { OnOk result (IsHeldWithin (request_view request.now).filter (query_of compiled.now.query) document.now (request_view request.now).max_table) }
     ensures outcome { IfErr result (λ e. IsNotBegun (request_view request.now).filter (query_of compiled.now.query) (option_copied after.entry) document.now (request_view request.now).max_table (clock steps.old steps.new) e.status (note_bytes e.note)) }
     ensures steps { KeepsWithin (request_view request.now).filter (query_of compiled.now.query) document.now
         (λ K. begin_steps (request_view request.now).filter (query_of compiled.now.query) document.now K (row_kept (option_copied after.entry))) (clock steps.old steps.new) }

@@ -17,6 +17,10 @@ pub returns-in-Ok-clause-fits : goal.returns-in-Ok-clause-fits
 returns-in-Ok-clause-fits g c =
     fits_unless (length c.args.document.now) (option_copied c.args.after) (λ other keeps. let is = c.in-Ok.ensures.other other keeps in cc) (λ past. let is = c.in-Ok.ensures.place past in cc)
 
+pub returns-in-Ok-clause-held : goal.returns-in-Ok-clause-held
+returns-in-Ok-clause-held g c =
+    record { automaton = c.args.compiled.now.automaton; compiled = c.type_inv.compiled; read = c.in-Ok.ensures.weighs; atoms = c.in-Ok.ensures.atoms }
+
 pub returns-in-Err-CursorOther-clause-outcome : goal.returns-in-Err-CursorOther-clause-outcome
 returns-in-Err-CursorOther-clause-outcome g c =
     let d = c.args.document.now in

@@ -29,7 +29,7 @@ returns-in-Ok g c =
     record {
       case = page_answered g.J.Judge.judges s c.in-Ok.answers.rest c.new-rows.result source c.new-rows.ensures.rest (request_view c.args.request.now) (query_of asking.compiled.query) out
           c.write_page.result.status (note_bytes c.write_page.result.note) c.args.steps.now c.begun.new.steps c.write_page.new.steps (option_copied c.args.after)
-          c.requires.plain c.in-Ok.ensures.fits c.in-Ok.ensures.left c.in-Ok.ensures.steps c.write_page.ensures.case;
+          c.requires.plain c.in-Ok.ensures.fits c.in-Ok.ensures.held c.in-Ok.ensures.left c.in-Ok.ensures.steps c.write_page.ensures.case;
     }
 
 pub returns-in-Err : goal.returns-in-Err

@@ -23,5 +23,5 @@ returns-in-Ok g c =
     record {
       case = trial_answered g.J.Judge.judges s c.in-Ok.answers.rest c.new-rows.result source c.new-rows.ensures.rest (request_view c.args.request.now) (query_of asking.compiled.query) out
           c.write_summary.result.status (note_bytes c.write_summary.result.note) c.args.steps.now c.begun.new.steps c.write_summary.new.steps c.args.lines
-          c.requires.trial c.in-Ok.ensures.left c.in-Ok.ensures.steps c.write_summary.ensures.case;
+          c.requires.trial c.in-Ok.ensures.held c.in-Ok.ensures.left c.in-Ok.ensures.steps c.write_summary.ensures.case;
     }
