@@ -18,14 +18,15 @@ use std::sync::ledger::Ledger;
 /// How many documents are drawn for a query.
 const DOCUMENTS: u32 = 12;
 
-/// The most bytes of one.
-const MOST_BYTES: u16 = 20;
-
 /// How many pieces are cut off its front; the rest is one more.
 const CUTS: u32 = 8;
 
-/// The most bytes of such a piece.
-const MOST_PIECE: usize = 4;
+/// A document that is drawn, and the most bytes of the pieces that are cut off it.
+#[derive(Clone, Copy)]
+struct Drawn<'d> {
+    document: &'d [u8],
+    most_piece: usize,
+}
 
 /// What was compared.
 #[derive(Clone, Copy)]
@@ -63,7 +64,7 @@ pub(crate) fn check_group<L: Ledger>(
 ) -> Result<Tally, Fault> {
     let mut tally = Tally::none();
     for text in group.texts.lines() {
-        tally = tally.plus(check_text(alloc, text, group.bytes, draw, steps)?);
+        tally = tally.plus(check_text(alloc, text, group, draw, steps)?);
     }
     if tally.rows == 0 {
         return Err(Fault::NoRow);
@@ -74,18 +75,18 @@ pub(crate) fn check_group<L: Ledger>(
 fn check_text<L: Ledger>(
     alloc: Global,
     text: &str,
-    bytes: &[u8],
+    group: &Group,
     draw: &mut Draw,
     steps: &mut Steps<L>,
 ) -> Result<Tally, Fault> {
     let query = read_query(alloc, text.as_bytes())?;
-    check_query(alloc, &query, bytes, draw, steps)
+    check_query(alloc, &query, group, draw, steps)
 }
 
 fn check_query<L: Ledger>(
     alloc: Global,
     query: &Query,
-    bytes: &[u8],
+    group: &Group,
     draw: &mut Draw,
     steps: &mut Steps<L>,
 ) -> Result<Tally, Fault>
@@ -94,9 +95,19 @@ fn check_query<L: Ledger>(
     let compiled = compile(alloc, query)?;
     let mut tally = Tally::none();
     for _ in 0..DOCUMENTS {
-        let document = draw.document(alloc, bytes, MOST_BYTES)?;
+        let document = draw.document(alloc, group.bytes, group.most)?;
         let growing = begin_query(alloc, query, LIMIT, steps)?;
-        tally = tally.plus(check_document(alloc, &compiled, growing, &document, draw, steps)?);
+        tally = tally.plus(check_document(
+            alloc,
+            &compiled,
+            growing,
+            Drawn {
+                document: &document,
+                most_piece: group.most_piece,
+            },
+            draw,
+            steps,
+        )?);
     }
     Ok(tally)
 }
@@ -106,25 +117,25 @@ fn check_document<L: Ledger>(
     alloc: Global,
     compiled: &Compiled<'_>,
     growing: Growing,
-    document: &[u8],
+    drawn: Drawn<'_>,
     draw: &mut Draw,
     steps: &mut Steps<L>,
 ) -> Result<Tally, Fault> {
     let mut growing = growing;
-    compare_document(alloc, compiled, &mut growing, document, draw, steps)
+    compare_document(alloc, compiled, &mut growing, drawn, draw, steps)
 }
 
 fn compare_document<L: Ledger>(
     alloc: Global,
     compiled: &Compiled<'_>,
     growing: &mut Growing,
-    document: &[u8],
+    drawn: Drawn<'_>,
     draw: &mut Draw,
     steps: &mut Steps<L>,
 ) -> Result<Tally, Fault> {
     let before = compare(alloc, compiled, growing, steps)?;
-    let after = compare_pieces(alloc, compiled, growing, document, draw, steps)?;
-    is_kept(growing, document)?;
+    let after = compare_pieces(alloc, compiled, growing, drawn, draw, steps)?;
+    is_kept(growing, drawn.document)?;
     Ok(Tally {
         documents: 1,
         pieces: u64::from(CUTS) + 1,
@@ -137,14 +148,14 @@ fn compare_pieces<L: Ledger>(
     alloc: Global,
     compiled: &Compiled<'_>,
     growing: &mut Growing,
-    document: &[u8],
+    drawn: Drawn<'_>,
     draw: &mut Draw,
     steps: &mut Steps<L>,
 ) -> Result<u64, Fault> {
     let mut rows: u64 = 0;
-    let mut rest = document;
+    let mut rest = drawn.document;
     for _ in 0..CUTS {
-        let (piece, behind) = cut(rest, draw);
+        let (piece, behind) = cut(rest, drawn.most_piece, draw);
         let more = append_and_compare(alloc, compiled, growing, piece, steps)?;
         rows = rows.saturating_add(more);
         rest = behind;
@@ -154,8 +165,10 @@ fn compare_pieces<L: Ledger>(
 }
 
 /// A drawn piece of the front, and the rest.
-fn cut<'d>(rest: &'d [u8], draw: &mut Draw) -> (&'d [u8], &'d [u8]) {
-    let len = draw.below(MOST_PIECE + 1).min(rest.len());
+fn cut<'d>(rest: &'d [u8], most_piece: usize, draw: &mut Draw) -> (&'d [u8], &'d [u8]) {
+    let len = draw
+        .below(most_piece.saturating_add(1).max(1))
+        .min(rest.len());
     rest.split_at(len)
 }
 

@@ -1,17 +1,30 @@
 //! The tables of queries.
 
-/// Queries of one kind, one a line, and the bytes of the documents on which they are compared.
+/// Queries of one kind, one a line, and the documents on which they are compared.
 pub(crate) struct Group {
     pub(crate) name: &'static str,
+    /// The bytes of the documents.
     pub(crate) bytes: &'static [u8],
+    /// The most bytes of a document.
+    pub(crate) most: u16,
+    /// The most bytes of a piece, but for the last one.
+    pub(crate) most_piece: usize,
     pub(crate) texts: &'static str,
 }
 
+/// The most bytes of a document that is compared after pieces of a few bytes.
+const SHORT: u16 = 20;
+
+/// The most bytes of such a piece.
+const SHORT_PIECE: usize = 4;
+
 /// The queries of which drawn documents are cut into pieces.
-pub(crate) static GROUPS: [Group; 7] = [
+pub(crate) static GROUPS: [Group; 8] = [
     Group {
         name: "captures",
         bytes: b"abc",
+        most: SHORT,
+        most_piece: SHORT_PIECE,
         texts: r"/!x{a}c/
 /!x{a*}/
 /!x{(a|b)*a(a|b)}/
@@ -22,6 +35,8 @@ pub(crate) static GROUPS: [Group; 7] = [
     Group {
         name: "bounds",
         bytes: b"ab",
+        most: SHORT,
+        most_piece: SHORT_PIECE,
         texts: r"/!x{a}$/
 /^!x{a*}b/
 /^!x{[ab]*}$/
@@ -31,6 +46,8 @@ pub(crate) static GROUPS: [Group; 7] = [
     Group {
         name: "optional",
         bytes: b"ab",
+        most: SHORT,
+        most_piece: SHORT_PIECE,
         texts: r"/!x{a}|b/
 /(!x{a})?!y{b}/
 /a(!x{()})?b/
@@ -39,6 +56,8 @@ pub(crate) static GROUPS: [Group; 7] = [
     Group {
         name: "union",
         bytes: b"abc",
+        most: SHORT,
+        most_piece: SHORT_PIECE,
         texts: r"/!x{a}/ union /!y{b}/
 /!x{a+}c/ union /!x{b+}c/
 project none (/!x{a}/ union /!x{b}$/)",
@@ -46,6 +65,8 @@ project none (/!x{a}/ union /!x{b}$/)",
     Group {
         name: "join",
         bytes: b"abc",
+        most: SHORT,
+        most_piece: SHORT_PIECE,
         texts: r"/!x{a*}/ join /b/
 /!x{a*}!y{b*}/ join /!x{.*}!y{.+}/
 /!x{a}/ join /!y{b}$/
@@ -54,6 +75,8 @@ let w = /!x{a+}/; w join (w union /!x{b}/)",
     Group {
         name: "minus",
         bytes: b"ab",
+        most: SHORT,
+        most_piece: SHORT_PIECE,
         texts: r"/!x{a+}/ minus /!x{aa}/
 /!x{[ab]+}/ minus /!x{.*a}$/
 /!x{a}(!y{b})?/ minus /!x{a}!y{b}/",
@@ -61,9 +84,22 @@ let w = /!x{a+}/; w join (w union /!x{b}/)",
     Group {
         name: "characters",
         bytes: b"a\xc3\xa9",
+        most: SHORT,
+        most_piece: SHORT_PIECE,
         texts: r"/!x{é?}/
 /!x{[é-ü]|a}/u
 /!x{\p{L}+}/u",
+    },
+    Group {
+        name: "texts",
+        bytes: b"abc",
+        most: 2000,
+        most_piece: 300,
+        texts: r"/!x{abcab}/
+/a!x{bcc}(!y{a})?b(b|c)/
+/!x{(abb|cac)aa}/
+/!x{[bc]+}abca/
+/!x{aabb}/ union /!x{bbaa}/",
     },
 ];
 
