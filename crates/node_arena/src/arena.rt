@@ -20,7 +20,7 @@ use std::alloc::Global;
 use std::marker::Model;
 use std::sync::ledger::Ledger;
 
-/// Link cells with counts, in a list by age. A cell takes 32 bytes.
+/// Link cells with counts, in a list by age. A cell takes 32 bytes, and a free one four more.
 ///
 /// There is room for at most 2^31 - 2^16 cells, fewer than `MOST_CELLS`, and a call for more answers want of memory. A cell is held at
 /// most `MOST_HOLDS` times.

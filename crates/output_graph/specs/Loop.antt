@@ -48,6 +48,12 @@ abbrev pub handed_to : Entries → Option ℕ → Entry → Entries
 handed_to heads None e = heads
 handed_to heads (Some c) e = with_head heads c e
 
+-- the newest cell, with this block and this entry, is taken, and `from` and `also` got their heads: `left` are those before
+abbrev pub IsHanded : ℕ → ℕ → ℕ → Option ℕ → Entry → Entries → List NamedRow → List NamedLink → Entries → List NamedRow → Entry → Type 0
+IsHanded at marks from also mine heads store older after new e =
+    (left : Entries) × ((c : ℕ) → HasCell older c → head left c ≡ head heads c) × IsEntryOfFrom at marks mine (head left from) store new e
+    × (after ≡ handed_to (with_head left from e) also mine)
+
 -- what the code's loop keeps
 pub record IsInTurn (Accepted : Word → Type 0) (most : ℕ) (cells : List NamedLink) (heads : Entries) (store : List NamedRow) : Type 0 where
   pub entries : ℕ → Entry
