@@ -1,8 +1,9 @@
 -- Known bytes over several reads or writes.
-use Rattle.std.proofs.Common.{◌≡◌, ◌+◌, ◌-◌, ℕ, List, ◌++◌, length, take, drop, Option, sym}
+use Rattle.std.proofs.Common.{◌≡◌, ◌+◌, ◌-◌, ◌≤◌, ℕ, Bool, true, false, List, ◌++◌, length, take, drop, Option, sym, ap, ◌∙◌, arith}
+use Rattle.std.specs.Prelude.{if◌then◌else◌}
 use Rattle.std.proofs.KnownBytes.{Appends-kept, Appends-trans}
-use Rattle.std.proofs.lemmas.List.{take-append-drop, take_rest}
-use Rattle.std.proofs.Math.Seq.{take-add}
+use Rattle.std.proofs.lemmas.List.{length-append, take-append-drop, take-append-le, take-take, take_all, take_rest}
+use Rattle.std.proofs.Math.Seq.{take-add, take-append-add}
 use Rattle.std.specs.Io.KnownBytes.{Appends, Consumes, Keeps}
 use Rattle.rm_outside.specs.Sink.{AppendsPart}
 
@@ -27,3 +28,26 @@ pub record ReadSoFar (start now : Option (List ℕ)) (old new : List ℕ) (seen 
   pub appended : new ≡ old ++ bytes
   pub count : length bytes ≡ seen
   pub consumed : Consumes start now bytes
+
+-- the old elements stay where more room is made, and where it is not
+pub resized_front : (b : Bool) (start n : ℕ) (old fill : List ℕ) → length old ≡ start → start ≤ n → take start (if b then take n old ++ fill else old) ≡ old
+resized_front true start n old fill size up =
+    let all : length old ≤ n = omega (arith, size, up) in
+    let within : start ≤ length old = omega (arith, size) in
+    let low : length old ≤ start = omega (arith, size) in
+    ap (λ (xs : List ℕ). take start (xs ++ fill)) (take_all n old all) ∙ take-append-le start old fill within ∙ take_all start old low
+resized_front false start n old fill size up = take_all start old (omega (arith, size))
+
+-- what was read into a place behind the old bytes, and then cut behind what was read
+pub in_place : (start count len : ℕ) (old room part rest last : List ℕ) → take start room ≡ old → length old ≡ start → count ≤ length part → start + count ≤ len
+    → take (start + count) (take len ((take start room ++ (part ++ rest)) ++ last)) ≡ old ++ take count part
+in_place start count len old room part rest last front size few within =
+    let whole : take start room ++ (part ++ rest) ≡ old ++ (part ++ rest) = ap (λ (xs : List ℕ). xs ++ (part ++ rest)) front in
+    let long : start + count ≤ length (old ++ (part ++ rest)) = omega (arith, length-append old (part ++ rest), length-append part rest, size, few) in
+    let at : start + count ≡ length old + count = omega (arith, size) in
+    take-take (start + count) len ((take start room ++ (part ++ rest)) ++ last) within
+    ∙ ap (λ (xs : List ℕ). take (start + count) (xs ++ last)) whole
+    ∙ take-append-le (start + count) (old ++ (part ++ rest)) last long
+    ∙ ap (λ k. take k (old ++ (part ++ rest))) at
+    ∙ take-append-add old (part ++ rest) count
+    ∙ ap (λ (xs : List ℕ). old ++ xs) (take-append-le count part rest few)

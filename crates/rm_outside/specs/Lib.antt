@@ -13,3 +13,4 @@ pub mod MemorySource
 pub mod LineInput
 -- what the functions inside promise each other
 pub mod Lines
+pub mod Reading

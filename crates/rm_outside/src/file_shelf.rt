@@ -6,7 +6,7 @@ ghost use Rattle.rm_outside.specs.Told.{counts_alone};
 
 use crate::open_shelf::OpenShelf;
 use crate::opens::Opens;
-use std::fs::File;
+use std::fs::{File, OpenFile};
 use std::io;
 use std::io::{Input, Read};
 use std::rt::Files;
@@ -59,6 +59,16 @@ impl<R: Files + Input> Opens for SystemFiles<'_, R> {
                 self.faults = self.faults.saturating_add(1);
                 Err(error)
             }
+        }
+    }
+
+    fn size_hint(&self, opened: &SystemFile<R::Reader, R::File>) -> u64 {
+        match opened {
+            SystemFile::Input(_) => 0,
+            SystemFile::File(file) => match file.metadata() {
+                Ok(metadata) => metadata.len(),
+                Err(_) => 0,
+            },
         }
     }
 

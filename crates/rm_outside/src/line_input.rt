@@ -35,6 +35,9 @@ impl<R: Read + Drop> LineInput<R> {
     pub fn new(alloc: Global, from: R) -> Result<LineInput<R>, OutOfMemory>
         ensures left { IfOk result (λ s. left_of s.start s.end s.buffer.items (R.remaining s.from) ≡ R.remaining from) }
         ensures faults { IfOk result (λ s. s.faults ≡ 0) }
+
+        // Nothing was read.
+        ensures untouched { IfOk result (λ s. s.from ≡ from) }
     {
         let buffer = vec![in alloc; 0u8; PIECE]?;
         Ok(LineInput {

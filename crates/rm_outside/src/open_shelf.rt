@@ -1,11 +1,14 @@
 //! A shelf over whatever opens names.
-ghost use Rattle.std.specs.Prelude.{◌≡◌, ◌≤◌, ◌++◌, ℕ, List, [], ◌∷◌, None, Some, OnOk, OnErr, IfSome, IsErrOf, length, take, vec_len};
+ghost use Rattle.std.specs.Prelude.{◌≡◌, ◌≤◌, ◌<◌, ◌+◌, ◌++◌, ℕ, List, [], ◌∷◌, None, Some, OnOk, OnErr, IfOk, IfSome, IsErrOf, length, take, vec_len, vec_capacity};
 ghost use Rattle.rm_outside.specs.Faults.{Rose};
 ghost use Rattle.rm_outside.specs.Shelf.{Gains, SeenPast, ByLength, CountsFailure};
+ghost use Rattle.rm_outside.specs.Sink.{CountsErr};
 ghost use Rattle.rm_outside.specs.Told.{GrewBy, counts_alone};
+ghost use Rattle.rm_outside.specs.Reading.{ReadsOn};
 
 use crate::opens::Opens;
 use crate::{FetchFault, Shelf};
+use std::io;
 
 /// The most bytes that one read asks for.
 const PIECE: usize = 65536;
@@ -71,11 +74,19 @@ fn read_whole<O: Opens>(
     ensures no_other { (O.told opens.new).fetched ≡ (O.told opens.old).fetched }
 {
     let start = into.len();
+    make_room(opens.size_hint(opened).min(limit), into);
     let result = read_pieces(opens, name, opened, limit, into);
     if result.is_err() {
         into.truncate(start);
     }
     result
+}
+
+// Makes room for so many bytes more, if there is memory for them.
+fn make_room(bytes: u64, into: &mut Vec<u8>)
+    ensures { into.new.items ≡ into.old.items }
+{
+    let _is_made = into.reserve(bytes as usize).is_ok();
 }
 
 // Appends all that is left, or a part of it. A read of no bytes is the end.
@@ -100,24 +111,102 @@ fn read_pieces<O: Opens>(
     let mut seen = 0u64;
     while seen <= limit {
         let most = (limit - seen).min(PIECE as u64 - 1) as usize + 1;
-        match opens.read(name, opened, &mut buffer[..most]) {
-            Ok(0) => return Ok(()),
-            Ok(count) => {
-                if into.extend_from_slice(&buffer[..count]).is_err() {
-                    return Err(FetchFault::OutOfMemory);
-                }
-                seen += count as u64;
-            }
+        match read_on(opens, name, opened, &mut buffer[..most], into) {
+            Ok(Some(0)) => return Ok(()),
+            Ok(Some(count)) => seen += count as u64,
+            Ok(None) => return Err(FetchFault::OutOfMemory),
             Err(_) => return Err(FetchFault::Failed),
         }
     }
     Err(FetchFault::TooLong { seen })
 }
 
+// Appends what one read gives, at most as many bytes as the buffer has: it is read into the vector's own room, or where
+// there is none into the buffer. None where there is no memory.
+fn read_on<O: Opens>(
+    opens: &mut O,
+    name: &str,
+    opened: &mut O::Opened,
+    buffer: &mut [u8],
+    into: &mut Vec<u8>,
+) -> io::Result<Option<usize>>
+    requires some { 0 < length buffer.old }
+    ensures read { IfOk result (λ read. IfSome read (ReadsOn (length buffer.old) (O.Opened.remaining opened.old) (O.Opened.remaining opened.new) into.old.items into.new.items)) }
+    ensures front { take (vec_len into.old) into.new.items ≡ into.old.items }
+    ensures kept { (O.told opens.new).held ≡ (O.told opens.old).held }
+    ensures later { (n : List ℕ) → (O.told opens.old).faults n ≤ (O.told opens.new).faults n }
+    ensures count { CountsErr ((O.told opens.old).faults name.now) ((O.told opens.new).faults name.now) result }
+    ensures no_other { (O.told opens.new).fetched ≡ (O.told opens.old).fetched }
+{
+    let room = into.capacity().saturating_sub(into.len());
+    let most = room.min(buffer.len());
+    if most > 0 {
+        return read_in_place(opens, name, opened, most, into);
+    }
+    read_through(opens, name, opened, buffer, into)
+}
+
+// Appends what one read gives, at most so many bytes.
+fn read_in_place<O: Opens>(
+    opens: &mut O,
+    name: &str,
+    opened: &mut O::Opened,
+    most: usize,
+    into: &mut Vec<u8>,
+) -> io::Result<Option<usize>>
+    requires some { 0 < most }
+    requires room { vec_len into.old + most ≤ vec_capacity into.old }
+    ensures read { IfOk result (λ read. IfSome read (ReadsOn most (O.Opened.remaining opened.old) (O.Opened.remaining opened.new) into.old.items into.new.items)) }
+    ensures front { take (vec_len into.old) into.new.items ≡ into.old.items }
+    ensures kept { (O.told opens.new).held ≡ (O.told opens.old).held }
+    ensures later { (n : List ℕ) → (O.told opens.old).faults n ≤ (O.told opens.new).faults n }
+    ensures count { CountsErr ((O.told opens.old).faults name.now) ((O.told opens.new).faults name.now) result }
+    ensures no_other { (O.told opens.new).fetched ≡ (O.told opens.old).fetched }
+{
+    let start = into.len();
+    if into.resize(start + most, 0).is_err() {
+        return Ok(None);
+    }
+    let result = opens.read(name, opened, &mut into.as_mut_slice()[start..]);
+    match result {
+        Ok(count) => {
+            into.truncate(start + count);
+            Ok(Some(count))
+        }
+        Err(error) => Err(error),
+    }
+}
+
+// Appends what one read gives, by a buffer.
+fn read_through<O: Opens>(
+    opens: &mut O,
+    name: &str,
+    opened: &mut O::Opened,
+    buffer: &mut [u8],
+    into: &mut Vec<u8>,
+) -> io::Result<Option<usize>>
+    requires some { 0 < length buffer.old }
+    ensures read { IfOk result (λ read. IfSome read (ReadsOn (length buffer.old) (O.Opened.remaining opened.old) (O.Opened.remaining opened.new) into.old.items into.new.items)) }
+    ensures front { take (vec_len into.old) into.new.items ≡ into.old.items }
+    ensures kept { (O.told opens.new).held ≡ (O.told opens.old).held }
+    ensures later { (n : List ℕ) → (O.told opens.old).faults n ≤ (O.told opens.new).faults n }
+    ensures count { CountsErr ((O.told opens.old).faults name.now) ((O.told opens.new).faults name.now) result }
+    ensures no_other { (O.told opens.new).fetched ≡ (O.told opens.old).fetched }
+{
+    match opens.read(name, opened, buffer) {
+        Ok(count) => {
+            if into.extend_from_slice(&buffer[..count]).is_err() {
+                return Ok(None);
+            }
+            Ok(Some(count))
+        }
+        Err(error) => Err(error),
+    }
+}
+
 #[cfg(test)]
 mod tests {
     use super::*;
-    use std::io;
     use std::io::{ErrorKind, Read};
     use std::test::Fail;
 
@@ -125,6 +214,7 @@ mod tests {
     #[derive(Drop)]
     struct Held<'a> {
         bytes: &'a [u8],
+        hint: u64,
         faults: u64,
     }
 
@@ -135,6 +225,10 @@ mod tests {
 
         fn open(&mut self, _name: &str) -> io::Result<&'a [u8]> {
             Ok(self.bytes)
+        }
+
+        fn size_hint(&self, _opened: &&'a [u8]) -> u64 {
+            self.hint
         }
 
         fn read(
@@ -155,6 +249,7 @@ mod tests {
     fn fetches_what_is_told(rt: HostRuntime) -> Result<(), Fail> {
         let mut shelf = OpenShelf::over(Held {
             bytes: b"hello",
+            hint: 5,
             faults: 0,
         });
         let mut into = vec![in rt.alloc(); b'x']?;
@@ -164,6 +259,21 @@ mod tests {
         assert_eq!(rt; shelf.fetch("D", 5, &mut into), Ok(()));
         assert_eq!(rt; into.as_slice(), b"xhello".as_slice());
         assert_eq!(rt; shelf.opens.faults, 0);
+        Ok(())
+    }
+
+    #[test]
+    fn reads_all_whatever_the_hint(rt: HostRuntime) -> Result<(), Fail> {
+        for hint in [0, 3, 9, u64::MAX] {
+            let mut shelf = OpenShelf::over(Held {
+                bytes: b"hello",
+                hint,
+                faults: 0,
+            });
+            let mut into = vec![in rt.alloc(); b'x']?;
+            assert_eq!(rt; shelf.fetch("D", u64::MAX, &mut into), Ok(()));
+            assert_eq!(rt; into.as_slice(), b"xhello".as_slice());
+        }
         Ok(())
     }
 
@@ -196,6 +306,10 @@ mod tests {
 
         fn open(&mut self, _name: &str) -> io::Result<Failing> {
             Ok(Failing(self.bytes))
+        }
+
+        fn size_hint(&self, _opened: &Failing) -> u64 {
+            2
         }
 
         fn read(

@@ -27,6 +27,10 @@ pub trait Opens {
         ensures count { CountsErr ((told self.old).faults name.now) ((told self.new).faults name.now) result }
         ensures opened { GrewBy (name.now ∷ []) (told self.old).fetched (told self.new).fetched };
 
+    /// How many bytes are likely left in what was opened, for which room is made at once. Nothing rests on it: all is read that
+    /// comes, be it more or fewer. 0 where nothing is known.
+    fn size_hint(&self, opened: &Self::Opened) -> u64;
+
     /// Reads on in what this name was opened to, as the reader's own `read` does.
     fn read(
         &mut self,
