@@ -1,5 +1,6 @@
 -- The parts of a line round the end of a span.
-use Rattle.std.proofs.Common.{◌≡◌, ℕ, zero, suc, ◌+◌, ◌-◌, ◌*◌, ◌<◌, ◌≤◌, Bool, true, false, List, [], ◌∷◌, ◌++◌, length, take, drop, set, slice_get, Option, Some, None, refl, sym, ap, ap₂, ◌∙◌, append_assoc, arith, subst}
+use Rattle.std.proofs.Common.{◌≡◌, ℕ, zero, suc, ◌+◌, ◌-◌, ◌*◌, ◌<◌, ◌≤◌, Bool, true, false, List, [], ◌∷◌, ◌++◌, length, take, drop, set, slice_get, Option, Some, None}
+use Rattle.std.proofs.Common.{refl, sym, ap, ap₂, ◌∙◌, append_assoc, arith, subst}
 use Rattle.std.specs.Fmt.{decimal}
 use Rattle.std.specs.Prelude.{IfSome}
 use Rattle.std.specs.List.{list_all}
@@ -183,7 +184,8 @@ line_parted at f n e z b0 b4 b5 front digits back end inside fn ne ine one two t
     }
 
 -- the run that begins with a row whose line was written in parts
-pub run_begun : (kept : Line) (row last : List (Option Span)) (k : ℕ) (doc : List ℕ) (b : Span) (line : Option Open) (before behind : List ℕ) → length row ≡ length kept.heads → slice_get row k ≡ Some (Some b) → last ≡ row
+pub run_begun : (kept : Line) (row last : List (Option Span)) (k : ℕ) (doc : List ℕ) (b : Span) (line : Option Open) (before behind : List ℕ)
+    → length row ≡ length kept.heads → slice_get row k ≡ Some (Some b) → last ≡ row
     → IfSome line (λ o. o ≡ open_with before behind) → before ≡ before_end doc kept.heads row k b.start → behind ≡ behind_end doc kept.heads row k ++ line_end kept.style → IsRun kept last k line
 run_begun kept row last k doc b line before behind len is copy made front back =
     let law = (text_opened kept row k doc b len is).1 in

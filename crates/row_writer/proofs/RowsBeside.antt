@@ -13,7 +13,8 @@ module _ {X : Type 0} where
       slice_get_read xs (length xs) k x refl l a ∙ ap Some e ∙ sym (slice_get_read ys (length ys) k y refl m b)
 
   -- one place more is the same
-  pub same_more : (xs ys : List X) (from k j : ℕ) → ((i : ℕ) → from ≤ i → i < k → slice_get xs i ≡ slice_get ys i) → slice_get xs k ≡ slice_get ys k → from ≤ j → j < k + 1 → slice_get xs j ≡ slice_get ys j
+  pub same_more : (xs ys : List X) (from k j : ℕ) → ((i : ℕ) → from ≤ i → i < k → slice_get xs i ≡ slice_get ys i) → slice_get xs k ≡ slice_get ys k
+      → from ≤ j → j < k + 1 → slice_get xs j ≡ slice_get ys j
   same_more xs ys from k j before now low l = elim (cases_order j k) [
     | inl e ↦ ap (slice_get xs) e ∙ now ∙ sym (ap (slice_get ys) e)
     | inr o ↦ elim o [ inl m ↦ before j low m | inr m ↦ absurd (omega (arith, l, m)) ]

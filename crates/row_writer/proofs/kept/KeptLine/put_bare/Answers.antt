@@ -24,4 +24,5 @@ returns-in-Some-line-clause-text c =
     let at : IsOpenAt kept last c.self.inside.run.place [] c.in-Some-line.line =
     subst (λ (o : Option Open). IfSome o (λ p. IsOpenAt kept last c.self.inside.run.place [] p)) c.in-Some-line.is run.opened in
     c.put.ensures.text
-    ∙ ap (λ (xs : List ℕ). take c.args.at c.args.buffer.now ++ xs) (sym (beside_text kept last spans place c.self.inside.run.place c.args.doc.now c.in-Some-line.line span c.if-beside-self.true beside at))
+    ∙ ap (λ (xs : List ℕ). take c.args.at c.args.buffer.now ++ xs)
+    (sym (beside_text kept last spans place c.self.inside.run.place c.args.doc.now c.in-Some-line.line span c.if-beside-self.true beside at))

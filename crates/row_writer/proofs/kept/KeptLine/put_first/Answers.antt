@@ -59,7 +59,8 @@ invariant_of-self c =
     let line : line_with style (heads_of (take c.self.inside.fields.len (new ++ drop (length new) fields))) ≡ c.args.self.now =
     ap (λ (fs : List Field). line_with style (heads_of fs)) back ∙ ap (λ (hs : List Head). line_with style hs) (c.put_parted-parts.ensures.heads ∙ same) ∙ c.self.view_is in
     subst (λ (l : Line). IsRun l c.copy_from_slice.new.self.items place c.open_line-self-inside.result) (sym line)
-    (run_begun c.args.self.now spans c.copy_from_slice.new.self.items place doc span c.open_line-self-inside.result _ _ c.requires.lengths c.requires.span c.copy_from_slice.ensures.items c.open_line-self-inside.ensures
+    (run_begun c.args.self.now spans c.copy_from_slice.new.self.items place doc span c.open_line-self-inside.result _ _ c.requires.lengths c.requires.span
+    c.copy_from_slice.ensures.items c.open_line-self-inside.ensures
     (t.before ∙ ap (λ (hs : List Head). before_end doc hs spans place span.start) own)
     (t.behind ∙ ap₂ (λ (hs : List Head) (s : Style). behind_end doc hs spans place ++ line_end s) own (ap (λ (l : Line). l.style) c.self.view_is)))
 
@@ -79,5 +80,6 @@ returns-clause-text c =
     let own : heads ≡ c.args.self.now.heads = ap heads_of c.as_mut_slice.ensures.value ∙ ap (λ (l : Line). l.heads) c.self.view_is in
     let b = take c.args.at c.args.buffer.now in
     t.whole
-    ∙ ap₂ (λ (hs : List Head) (s : Style). b ++ (before_end doc hs spans place span.start ++ (decimal span.end ++ (behind_end doc hs spans place ++ line_end s)))) own (ap (λ (l : Line). l.style) c.self.view_is)
+    ∙ ap₂ (λ (hs : List Head) (s : Style). b ++ (before_end doc hs spans place span.start ++ (decimal span.end ++ (behind_end doc hs spans place ++ line_end s)))) own
+    (ap (λ (l : Line). l.style) c.self.view_is)
     ∙ ap (λ (xs : List ℕ). b ++ xs) (sym (text_opened c.args.self.now spans place doc span c.requires.lengths c.requires.span).0)
