@@ -1,29 +1,21 @@
 use Rattle.std.proofs.Common.{◌≡◌, ◌+◌, ◌<◌, [], ◌∷◌, length, get_or, arith, refl, subst, sym}
 use Rattle.one_pass.specs.declared.pass.Pass.{Pass}
-use Rattle.one_pass.specs.Ahead.{KnowsWaiting}
 use Rattle.one_pass.specs.Going.{GivesUp, Reads}
 use Rattle.one_pass.specs.Known.{Stands}
 use Rattle.one_pass.specs.Places.{byte_at}
-use Rattle.one_pass.proofs.Advancing.{advanced_all, advanced_gives_up, advanced_more, advanced_none, advanced_over}
-use Rattle.one_pass.proofs.pass.Pass.read_by.Goals.{in-Some, in-None+in-Ok}
-use Rattle.one_pass.proofs.pass.Pass.read_by.Goals as goal
+use Rattle.one_pass.proofs.Advancing.{advanced_all, advanced_gives_up, advanced_more, advanced_none, advanced_over, advanced_so}
+use Rattle.one_pass.proofs.pass.Pass.read.Goals.{in-Some, in-None+in-Ok}
+use Rattle.one_pass.proofs.pass.Pass.read.Goals as goal
 
 pub loop-i-init : goal.loop-i-init
 loop-i-init g c = record {
   within = omega arith;
-  quiet = omega arith;
-  advanced = advanced_none c.requires.goes_on c.stand-layer.ensures.known;
+  advanced = advanced_none c.requires.goes_on c.stand-layer.ensures.known c.requires.goes_on.waits;
   stands = c.stand-layer.ensures.stands;
-  waits = c.requires.waits;
 }
 
 pub read_on-here-requires-clause-goes_on : goal.read_on-here-requires-clause-goes_on
 read_on-here-requires-clause-goes_on g c = c.loop-i.invariant.advanced.reads.goes_on
-
--- the table's ways are those that it began with
-pub read_on-here-requires-clause-waits : goal.read_on-here-requires-clause-waits
-read_on-here-requires-clause-waits g c =
-    subst (λ A. KnowsWaiting A.ways c.loop-i.search.ahead.waiting) (sym c.loop-i.invariant.advanced.reads.read.table.graph) c.loop-i.invariant.waits
 
 pub read_on-here-requires-clause-few : goal.read_on-here-requires-clause-few
 read_on-here-requires-clause-few g c = omega (arith, c.loop-i.invariant.advanced.at)
@@ -31,7 +23,7 @@ read_on-here-requires-clause-few g c = omega (arith, c.loop-i.invariant.advanced
 pub run_known-requires-clause-goes_on : goal.run_known-requires-clause-goes_on
 run_known-requires-clause-goes_on g c =
     let r = c.read_on-here.ensures in
-    let past = advanced_over c.loop-i.invariant.advanced r.later r.within r.back r.graph r.known r.at in
+    let past = advanced_over c.loop-i.invariant.advanced r.later r.within r.back r.graph r.known r.at r.waits in
     past.reads.goes_on
 
 pub run_known-requires-clause-stands : goal.run_known-requires-clause-stands
@@ -46,7 +38,7 @@ run_known-requires-clause-few g c = omega (arith, c.loop-i.invariant.advanced.at
 pub returns-in-Err-clause-given_up : goal.returns-in-Err-clause-given_up
 returns-in-Err-clause-given_up g c =
     let r = c.read_on-here.ensures in
-    let past = advanced_over c.loop-i.invariant.advanced r.later r.within r.back r.graph r.known r.at in
+    let past = advanced_over c.loop-i.invariant.advanced r.later r.within r.back r.graph r.known r.at r.waits in
     let same : c.run_known.new.self ≡ c.read_on-here.new.self = c.in-None.ensures.nothing refl in
     let uncounted : c.run_known.new.steps ≡ c.loop-i.steps = c.in-None.ensures.steps refl in
     let b = get_or c.args.piece.now c.read_on-here.result 0 in
@@ -57,7 +49,7 @@ returns-in-Err-clause-given_up g c =
 pub returns-then-here-piece-clause-read : goal.returns-then-here-piece-clause-read
 returns-then-here-piece-clause-read g c =
     let r = c.read_on-here.ensures in
-    let past = advanced_over c.loop-i.invariant.advanced r.later r.within r.back r.graph r.known r.at in
+    let past = advanced_over c.loop-i.invariant.advanced r.later r.within r.back r.graph r.known r.at r.waits in
     advanced_all past (omega arith)
 
 pub returns-then-here-piece-clause-at : goal.returns-then-here-piece-clause-at
@@ -66,17 +58,14 @@ returns-then-here-piece-clause-at g c = omega (arith, c.loop-i.invariant.advance
 pub loop-i-preserved : goal.loop-i-preserved
 loop-i-preserved g c =
     let r = c.read_on-here.ensures in
-    let past = advanced_over c.loop-i.invariant.advanced r.later r.within r.back r.graph r.known r.at in
+    let past = advanced_over c.loop-i.invariant.advanced r.later r.within r.back r.graph r.known r.at r.waits in
     let within : c.read_on-here.result < length c.args.piece.now = omega (arith, r.within) in
     let b = get_or c.args.piece.now c.read_on-here.result 0 in
-    let waits = subst (λ A. KnowsWaiting A.ways c.read_on-here.new.search.ahead.waiting) c.loop-i.invariant.advanced.reads.read.table.graph r.waits in
     elim c.match-run_known.branch [
       | in-Some w ↦ rw (w.self-is, w.table-is, w.steps-is, w.next-is) (record {
         within = omega (arith, within);
-        quiet = c.quiet_at-search.ensures;
-        advanced = advanced_more past within w.in-Some.ensures.read w.in-Some.ensures.at;
+        advanced = let more = advanced_more past within w.in-Some.ensures.read w.in-Some.ensures.at in advanced_so more more.reads.goes_on.waits;
         stands = w.in-Some.ensures.stands;
-        waits = waits;
       })
       | in-None+in-Ok w ↦
           let same : c.run_known.new.self ≡ c.read_on-here.new.self = w.in-None.ensures.nothing refl in
@@ -86,10 +75,10 @@ loop-i-preserved g c =
           (subst (λ (q : Pass). Reads (byte_at q.at b ∷ []) c.loop-i.table q c.run_known.new.steps w.read_unknown.new.table w.read_unknown.new.self w.read_unknown.new.steps) same w.in-Ok.ensures.read) in
           rw (w.self-is, w.table-is, w.steps-is, w.next-is) (record {
             within = omega (arith, within);
-            quiet = c.quiet_at-search.ensures;
-            advanced = advanced_more past within read (subst (λ (q : Pass). w.read_unknown.new.self.at ≡ q.at + 1) same w.in-Ok.ensures.at);
+            advanced =
+                let more = advanced_more past within read (subst (λ (q : Pass). w.read_unknown.new.self.at ≡ q.at + 1) same w.in-Ok.ensures.at) in
+                advanced_so more more.reads.goes_on.waits;
             stands = w.in-Ok.ensures.stands;
-            waits = waits;
           })
     ]
 
