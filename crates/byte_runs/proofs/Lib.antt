@@ -1,3 +1,4 @@
 pub mod ChainLaws
+pub mod InnerLaws
 pub mod SetLaws
 pub mod Marking

@@ -1,4 +1,5 @@
-//! The end of a run of bytes of one set, and the next place from which bytes keep to several sets in turn.
+//! The end of a run of bytes of one set, the next place from which bytes keep to several sets in turn, and the next place at
+//! which a text ends.
 //!
 //! Most runs are short: those of a set that was not asked for before are gone through byte by byte at first. Behind
 //! that the set is prepared: the bytes that end its runs are worked out, which are searched for where they are at most
@@ -7,7 +8,9 @@
 #![tactic(auto)]
 
 pub use chain::Chain;
+pub use inner::InnerText;
 pub use skipper::Skipper;
 
 mod chain;
+mod inner;
 mod skipper;

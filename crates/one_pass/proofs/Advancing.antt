@@ -15,6 +15,8 @@ use Rattle.set_table.specs.Tabled.{Stays, Tabled}
 use Rattle.output_graph.specs.Graph.{Source}
 use Rattle.one_pass.specs.declared.pass.Pass.{Pass}
 use Rattle.one_pass.specs.declared.known.Known.{Known}
+use Rattle.one_pass.specs.declared.search.Search.{Search}
+use Rattle.one_pass.specs.Ahead.{KnowsWaiting}
 use Rattle.one_pass.specs.Known.{Knows}
 use Rattle.one_pass.specs.Going.{GivesUp, GoesOn, Reads, come}
 use Rattle.one_pass.specs.Layers.{no_source, source_at}
@@ -30,11 +32,11 @@ pub record IsAdvanced (t0 : Tabled) (p0 : Pass) (n0 : ℕ) (piece : List ℕ) (i
   pub reads : Reads (bytes_at p0.at (take i piece)) t0 p0 n0 t p n
   pub at : p.at ≡ p0.at + i
 
--- none, but of whole layers something else is known
-pub advanced_none : {t : Tabled} {p : Pass} {n : ℕ} {piece : List ℕ} {known : Known} → GoesOn t p → Knows t known →
-    IsAdvanced t p n piece 0 t (record { graph = p.graph; known = known; at = p.at }) n
-advanced_none {t} {p} {n} goes knows = record {
-  reads = record { read = read_none t.graph (come t p n); goes_on = record { ready = goes.ready; known = knows } };
+-- none, but of whole layers something else is known, and something else is searched for
+pub advanced_none : {t : Tabled} {p : Pass} {n : ℕ} {piece : List ℕ} {known : Known} {search : Search} → GoesOn t p → Knows t known → KnowsWaiting t.graph.ways search.ahead.waiting →
+    IsAdvanced t p n piece 0 t (record { graph = p.graph; known = known; search = search; at = p.at }) n
+advanced_none {t} {p} {n} goes knows waits = record {
+  reads = record { read = read_none t.graph (come t p n); goes_on = record { ready = goes.ready; known = knows; waits = waits } };
   at = omega arith;
 }
 
@@ -42,6 +44,13 @@ module _ {t0 : Tabled} {p0 : Pass} {n0 : ℕ} {piece : List ℕ} {i : ℕ} {t : 
   -- all have been read
   pub advanced_all : i ≡ length piece → Reads (bytes_at p0.at piece) t0 p0 n0 t p n
   advanced_all full = subst (λ xs. Reads (bytes_at p0.at xs) t0 p0 n0 t p n) (ap (λ j. take j piece) full ∙ take-length piece) past.reads
+
+  -- something else is searched for
+  pub advanced_so : {search : Search} → KnowsWaiting t.graph.ways search.ahead.waiting → IsAdvanced t0 p0 n0 piece i t (record { graph = p.graph; known = p.known; search = search; at = p.at }) n
+  advanced_so waits = record {
+    reads = record { read = past.reads.read; goes_on = record { ready = past.reads.goes_on.ready; known = past.reads.goes_on.known; waits = waits } };
+    at = past.at;
+  }
 
   module _ (within : i < length piece) where
     abbrev b : ℕ
@@ -70,10 +79,11 @@ module _ {t0 : Tabled} {p0 : Pass} {n0 : ℕ} {piece : List ℕ} {i : ℕ} {t : 
         (then_gives_up front here past.reads (subst (λ j. GivesUp (byte_at j b ∷ []) t p n u m e) past.at up)))
 
 -- bytes over which each set of the layer leads back to itself
-over_reads : {t : Tabled} {p : Pass} {n : ℕ} (d : List ℕ) → GoesOn t p → AllLeadBack t (whole p.graph) d → Reads (bytes_at p.at d) t p n t (record { graph = p.graph; known = p.known; at = p.at + length d }) n
-over_reads {t} {p} {n} d goes back = record {
+over_reads : {t : Tabled} {p : Pass} {n : ℕ} (d : List ℕ) (search : Search) → KnowsWaiting t.graph.ways search.ahead.waiting → GoesOn t p → AllLeadBack t (whole p.graph) d →
+    Reads (bytes_at p.at d) t p n t (record { graph = p.graph; known = p.known; search = search; at = p.at + length d }) n
+over_reads {t} {p} {n} d search waits goes back = record {
   read = back_read (come t p n) p.at d back;
-  goes_on = record { ready = ready_later (p.at + length d) goes.ready (omega arith); known = goes.known };
+  goes_on = record { ready = ready_later (p.at + length d) goes.ready (omega arith); known = goes.known; waits = waits };
 }
 
 take_both : (i k : ℕ) (xs : List ℕ) → take i xs ++ take k (drop i xs) ≡ take (i + k) xs
@@ -84,8 +94,9 @@ take_both (suc i) k (x ∷ xs) = let e : suc (i + k) ≡ suc i + k = omega arith
 
 -- up to a later place, from which each set of the layer leads back to itself
 pub advanced_over : {t0 : Tabled} {p0 : Pass} {n0 : ℕ} {piece : List ℕ} {i j : ℕ} {t : Tabled} {p q : Pass} {n : ℕ} → IsAdvanced t0 p0 n0 piece i t p n → i ≤ j → j ≤ length piece →
-    AllLeadBack t (whole p.graph) (take (j - i) (drop i piece)) → q.graph ≡ p.graph → q.known ≡ p.known → q.at + i ≡ p.at + j → IsAdvanced t0 p0 n0 piece j t q n
-advanced_over {t0} {p0} {n0} {piece} {i} {j} {t} {p} {q} {n} past later within back graph known at =
+    AllLeadBack t (whole p.graph) (take (j - i) (drop i piece)) → q.graph ≡ p.graph → q.known ≡ p.known → q.at + i ≡ p.at + j →
+    KnowsWaiting t.graph.ways q.search.ahead.waiting → IsAdvanced t0 p0 n0 piece j t q n
+advanced_over {t0} {p0} {n0} {piece} {i} {j} {t} {p} {q} {n} past later within back graph known at waits =
     let d : List ℕ = take (j - i) (drop i piece) in
     let behind : length (drop i piece) ≡ length piece - i = length-drop i piece in
     let long : length d ≡ j - i = length-take-le (j - i) (drop i piece) (omega (arith, behind, later, within)) in
@@ -100,9 +111,9 @@ advanced_over {t0} {p0} {n0} {piece} {i} {j} {t} {p} {q} {n} past later within b
       reads =
           subst (λ ps. Reads ps t0 p0 n0 t q n) (sym split)
           (both_reads (bytes_at p0.at (take i piece)) (bytes_at p.at d) past.reads
-          (subst (λ g. Reads (bytes_at p.at d) t p n t (record { graph = g; known = q.known; at = q.at }) n) (sym graph)
-          (subst (λ k. Reads (bytes_at p.at d) t p n t (record { graph = p.graph; known = k; at = q.at }) n) (sym known)
-          (subst (λ k. Reads (bytes_at p.at d) t p n t (record { graph = p.graph; known = p.known; at = k }) n) end (over_reads d past.reads.goes_on back)))));
+          (subst (λ g. Reads (bytes_at p.at d) t p n t (record { graph = g; known = q.known; search = q.search; at = q.at }) n) (sym graph)
+          (subst (λ k. Reads (bytes_at p.at d) t p n t (record { graph = p.graph; known = k; search = q.search; at = q.at }) n) (sym known)
+          (subst (λ k. Reads (bytes_at p.at d) t p n t (record { graph = p.graph; known = p.known; search = q.search; at = k }) n) end (over_reads d q.search waits past.reads.goes_on back)))));
       at = omega (arith, at, past.at, later);
     }
 

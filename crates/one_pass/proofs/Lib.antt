@@ -9,6 +9,7 @@ pub mod EntryLaws
 pub mod Faulting
 pub mod Goings
 pub mod GraphBridge
+pub mod InsideLaws
 pub mod KnownLaws
 pub mod KnownStepLaws
 pub mod LawProofs

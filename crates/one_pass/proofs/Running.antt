@@ -51,7 +51,7 @@ drop_rest (x ∷ xs) (suc k) s rest e = drop_rest xs k s rest e
 module _ (t : Tabled) (p : Pass) (n b : ℕ) (goes : GoesOn t p) where
   -- the first so many sources have been stepped
   abbrev SoFar : ℕ → Graph → ℕ → Type 0
-  SoFar k G m = IsSteppedTo (byte_at p.at b) t p n k t (record { graph = G; known = p.known; at = p.at }) m
+  SoFar k G m = IsSteppedTo (byte_at p.at b) t p n k t (record { graph = G; known = p.known; search = p.search; at = p.at }) m
 
   one_more : (k s : ℕ) (group : Edges) (G H : Graph) (m l : ℕ) → slice_get (sets_of p.graph.layer) k ≡ Some s → IsLookUp t b s group → SoFar k G m →
       IsStepped G p.at group H → IsCost (length group) (length G.cells) (length H.cells) m l → AreApart (targets H) → SoFar (k + 1) H l
@@ -82,21 +82,21 @@ module _ (t : Tabled) (p : Pass) (n b : ℕ) (goes : GoesOn t p) where
 
 module _ {t : Tabled} {p : Pass} {n b : ℕ} (goes : GoesOn t p) where
   pub run_reads : (groups : List Edges) {H : Graph} {m : ℕ} → AreLookUps t b (sets_of p.graph.layer) groups → IsRun p.graph p.at groups H n m →
-      Reads (byte_at p.at b ∷ []) t p n t (record { graph = H; known = p.known; at = p.at + 1 }) m
+      Reads (byte_at p.at b ∷ []) t p n t (record { graph = H; known = p.known; search = p.search; at = p.at + 1 }) m
   run_reads groups {H} {m} look_ups run =
       let all : (j : ℕ) × SoFar t p n b goes j run.0 m = going t p n b goes groups (sets_of p.graph.layer) 0 p.graph run.0 n m refl look_ups (stepped_none goes) run.1 in
       let full : all.0 ≡ length p.graph.layer = omega (arith, all.1.turned.stepped, run.2.every, turned_count (sources p.graph) all.0 p.at run.0 all.1.turned, layer_count t p n goes) in
       stepped_all goes all.1 full H run.2.sources run.2.cells run.2.stepped run.2.targets (p.at + 1) (omega arith)
       (λ x e c h k w. (let same = block_at p.at e.marks c w in omega (arith, same)))
 
-  pub stay_reads : AllStayOn t (whole p.graph) b → Reads (byte_at p.at b ∷ []) t p n t (record { graph = p.graph; known = p.known; at = p.at + 1 }) n
+  pub stay_reads : AllStayOn t (whole p.graph) b → Reads (byte_at p.at b ∷ []) t p n t (record { graph = p.graph; known = p.known; search = p.search; at = p.at + 1 }) n
   stay_reads stay = record {
     read = stays_read t.graph (byte_at p.at b) (come t p n) (λ x h. (stays_tells t x.set b (goes.ready.given x h) (stay x h), stay x h));
-    goes_on = record { ready = ready_later (p.at + 1) goes.ready (omega arith); known = goes.known };
+    goes_on = record { ready = ready_later (p.at + 1) goes.ready (omega arith); known = goes.known; waits = goes.waits };
   }
 
   -- where each set is still, nothing happens
-  pub still_reads : AreStill t b (sets_of p.graph.layer) → Reads (byte_at p.at b ∷ []) t p n t (record { graph = p.graph; known = p.known; at = p.at + 1 }) n
+  pub still_reads : AreStill t b (sets_of p.graph.layer) → Reads (byte_at p.at b ∷ []) t p n t (record { graph = p.graph; known = p.known; search = p.search; at = p.at + 1 }) n
   still_reads still =
       let first = turned_first t p n goes in
       stay_reads (λ x h. (still x.set (subst (λ (xs : List ℕ). Has xs x.set) (sym first.sets) (Has-map (λ (y : Source). y.set) (sources p.graph) x h))).1)

@@ -9,7 +9,9 @@ use Rattle.set_table.specs.declared.fault.TableFault.{TableFault}
 use Rattle.output_graph.specs.Graph.{Graph, Source, sets_of, sources, targets}
 use Rattle.output_graph.specs.Sound.{edges_of, edges_of_ends}
 use Rattle.one_pass.specs.declared.pass.Pass.{Pass}
+use Rattle.one_pass.specs.declared.search.Search.{Search}
 use Rattle.one_pass.specs.Going.{Ends, GivesUp, GivesUpEnd, GoesOn, Reads, come}
+use Rattle.one_pass.specs.Ahead.{KnowsWaiting}
 use Rattle.one_pass.specs.Known.{Knows}
 use Rattle.one_pass.specs.Layers.{GraphView, HasStepped, numbers_of, source_at}
 use Rattle.one_pass.specs.Passes.{HasRead, HasStoppedAt, Progress, pass, stop}
@@ -60,10 +62,11 @@ pub record IsSteppedTo (pl : ReadingPlace) (t : Tabled) (p : Pass) (n k : ℕ) (
   pub stepping : IsStepping t.graph pl (come t p n) (take k (sources p.graph)) (pass u (stepping_from (sources p.graph) q.graph) m)
   pub turned : IsTurned (sources p.graph) k p.at q.graph
   pub known : q.known ≡ p.known
+  pub search : q.search ≡ p.search
 
 module _ {pl : ReadingPlace} {t : Tabled} {p : Pass} {n : ℕ} (goes : GoesOn t p) where
   pub stepped_none : IsSteppedTo pl t p n 0 t p n
-  stepped_none = record { stepping = stepping_none t.graph pl (come t p n) p.at goes.ready; turned = turned_first t p n goes; known = refl }
+  stepped_none = record { stepping = stepping_none t.graph pl (come t p n) p.at goes.ready; turned = turned_first t p n goes; known = refl; search = refl }
 
   module _ {k : ℕ} {u : Tabled} {q : Pass} {m : ℕ} (past : IsSteppedTo pl t p n k u q m) where
     abbrev so_far : Progress
@@ -89,7 +92,7 @@ module _ {pl : ReadingPlace} {t : Tabled} {p : Pass} {n : ℕ} (goes : GoesOn t 
 
       -- one more has been stepped
       pub stepped_more : pl.at ≡ p.at → {v : Tabled} {H : Graph} {l : ℕ} → HasTurned u v set pl.ask p.at q.graph H m l → AreDistinct (numbers_of (targets H)) →
-          IsSteppedTo pl t p n (k + 1) v (record { graph = H; known = q.known; at = q.at }) l
+          IsSteppedTo pl t p n (k + 1) v (record { graph = H; known = q.known; search = q.search; at = q.at }) l
       stepped_more here {v} {H} {l} h distinct = record {
         stepping =
             turn_stepped pl (come t p n) p.at goes.ready k so_far past.stepping.spent step_inside set step_set v h.middle h.made h.by h.edges
@@ -97,6 +100,7 @@ module _ {pl : ReadingPlace} {t : Tabled} {p : Pass} {n : ℕ} (goes : GoesOn t 
             (subst (λ j. HasStepped so_far.graph (stepping_from (sources p.graph) H) k j h.by) (sym here) (turned_stepped (sources p.graph) k p.at q.graph H h.by past.turned step_inside h.stepped distinct)) h.cost;
         turned = turned_more (sources p.graph) k p.at q.graph H (edges_of h.by) past.turned step_inside h.stepped;
         known = past.known;
+        search = past.search;
       }
 
     -- all have been stepped, and the graph has gone to the next layer
@@ -109,12 +113,13 @@ module _ {pl : ReadingPlace} {t : Tabled} {p : Pass} {n : ℕ} (goes : GoesOn t 
 
       pub stepped_all : (to : ℕ) → p.at ≤ to →
           ((x : Source) (e : Reach) (b : ℕ × ℕ) → Has (sources p.graph) x → Has (source_edges t.graph pl (come t p n) x) e → Has (block_word pl.at e.marks) b → b.0 < to) →
-          Reads (pl ∷ []) t p n u (record { graph = H; known = q.known; at = to }) m
+          Reads (pl ∷ []) t p n u (record { graph = H; known = q.known; search = q.search; at = to }) m
       stepped_all to later blocks = record {
         read = read_here;
         goes_on = record {
           ready = turns_ready pl (come t p n) p.at k goes.ready so_far past.stepping all (whole H) sources_are (ap length cells) to later blocks begun none refl;
           known = subst (λ known. Knows u known) (sym past.known) (known_read _ _ _ _ _ _ _ read_here.table goes.known);
+          waits = subst (λ (search : Search). KnowsWaiting u.graph.ways search.ahead.waiting) (sym past.search) (subst (λ A. KnowsWaiting A.ways p.search.ahead.waiting) (sym read_here.table.graph) goes.waits);
         };
       }
 

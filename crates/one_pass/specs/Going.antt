@@ -6,6 +6,7 @@ use Rattle.set_table.specs.Tabled.{Tabled}
 use Rattle.set_table.specs.declared.fault.TableFault.{TableFault}
 use Rattle.one_pass.specs.declared.pass.Pass.{Pass}
 use Rattle.one_pass.specs.Faults.{IsFaultAt, IsFaultOf}
+use Rattle.one_pass.specs.Ahead.{KnowsWaiting}
 use Rattle.one_pass.specs.Known.{Knows}
 use Rattle.one_pass.specs.Passes.{HasEnded, HasRead, HasStopped, HasStoppedAt, IsReady, Progress, pass, sets_of, stop}
 use Rattle.one_pass.specs.Places.{ReadingPlace, end_at}
@@ -15,10 +16,11 @@ use Rattle.one_pass.specs.Seen.{ending_from, whole}
 abbrev pub come : Tabled → Pass → ℕ → Progress
 come t p n = pass t (whole p.graph) n
 
--- it may go on with the table: it stands between two places, and what it knows of layers is true
+-- it may go on with the table: it stands between two places, and what it knows of layers, and of states that wait, is true
 pub record GoesOn (t : Tabled) (p : Pass) : Type 0 where
   pub ready : IsReady t (whole p.graph) p.at
   pub known : Knows t p.known
+  pub waits : KnowsWaiting t.graph.ways p.search.ahead.waiting
 
 -- it has read these places, and may go on
 pub record Reads (ps : List ReadingPlace) (t : Tabled) (p : Pass) (n : ℕ) (u : Tabled) (q : Pass) (m : ℕ) : Type 0 where

@@ -68,11 +68,6 @@ impl Known {
         }
     }
 
-    /// Where it takes memory from.
-    pub(crate) fn alloc(&self) -> Global {
-        self.alloc
-    }
-
     /// How many programs of layers are kept.
     pub fn programs(&self) -> usize
         ensures { result ≡ length self.now.steps }

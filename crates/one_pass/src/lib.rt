@@ -24,4 +24,5 @@ mod pass;
 mod pieces;
 mod places;
 mod reading;
+mod search;
 mod waiting;

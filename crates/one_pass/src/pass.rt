@@ -4,64 +4,30 @@
 //! while, the next byte on which something may change is searched for (`byte_runs`); where the layer waits, the next place
 //! from which something may come through (`waiting`). A gap takes one step, in which each
 //! set goes to its idle members.
-ghost use Rattle.std.specs.Prelude.{◌≡◌, ℕ, ◌+◌, ◌-◌, ◌*◌, ◌^◌, ◌<◌, ◌≤◌, None, drop, length, slice_index, take, IfErr, IfOk, OnErr, OnOk};
+ghost use Rattle.std.specs.Prelude.{◌≡◌, ℕ, ◌+◌, ◌-◌, ◌*◌, ◌^◌, ◌<◌, ◌≤◌, drop, length, take, IfErr, IfOk, OnErr, OnOk};
 ghost use Rattle.set_table.specs.Tabled.{IsTabled};
 ghost use Rattle.one_pass.specs.Builds.{started};
 ghost use Rattle.one_pass.specs.Going.{GivesUp, GoesOn, Reads, come};
 ghost use Rattle.one_pass.specs.Ahead.{KnowsWaiting};
-ghost use Rattle.one_pass.specs.Passes.{AllLeadBack, AllStayOn, AreGiven};
+ghost use Rattle.one_pass.specs.Passes.{AllLeadBack};
 ghost use Rattle.one_pass.specs.Places.{bytes_at, gap_at};
 ghost use Rattle.one_pass.specs.Seen.{whole};
-ghost use Rattle.one_pass.specs.declared.pass.TheConstants.{QUIET};
 
 use crate::known::Known;
-use crate::places::stays_of;
-use crate::waiting::Ahead;
-use byte_runs::Skipper;
+use crate::search::{FAR, QUIET, Search, bytes_over, quiet_at};
 use output_graph::OutputGraph;
 use set_table::{Table, TableFault};
 use span_core::{OutOfMemory, Steps};
 use std::alloc::Global;
 use std::sync::ledger::Ledger;
 
-/// After so many bytes that left the layer as it was, the next one that may change something is searched for.
-const QUIET: u32 = 16;
-
-/// A search that passed over so many bytes went far.
-const FAR: usize = 32;
-
-/// The search for the next byte that may change something.
-#[derive(Drop)]
-struct Search {
-    skipper: Skipper,
-    ahead: Ahead,
-    /// For how many bytes the layer counts as unchanged.
-    quiet: u32,
-    /// The layer in which the last search went far, if it did.
-    far: Option<usize>,
-}
-
-impl Search {
-    /// Nothing has been searched for.
-    fn new(alloc: Global) -> Search
-        ensures quiet { result.quiet ≡ 0 }
-        ensures waiting { result.ahead.waiting ≡ None }
-    {
-        Search {
-            skipper: Skipper::new(),
-            ahead: Ahead::new(alloc),
-            quiet: 0,
-            far: None,
-        }
-    }
-}
-
-/// The forward pass: the graph with its layer, what is known of whole layers, and where it stands. It goes with one table,
-/// and may be kept between the pieces of a document that come.
+/// The forward pass: the graph with its layer, what is known of whole layers, what is searched for, and where it stands. It
+/// goes with one table, and may be kept between the pieces of a document that come.
 #[derive(Drop)]
 pub struct Pass {
     pub(crate) graph: OutputGraph,
     pub(crate) known: Known,
+    pub(crate) search: Search,
     pub(crate) at: u32,
 }
 
@@ -85,6 +51,7 @@ impl Pass {
         Ok(Pass {
             graph,
             known: Known::new(alloc, words),
+            search: Search::new(alloc),
             at: 0,
         })
     }
@@ -122,31 +89,11 @@ impl Pass {
         ensures at { OnOk result (self.new.at ≡ self.old.at + length piece.now) }
         ensures given_up { IfErr result (GivesUp (bytes_at self.old.at piece.now) table.old self.old steps.old table.new steps.new) }
     {
-        let mut search = Search::new(self.known.alloc());
-        self.read_by(table, &mut search, piece, steps)
-    }
-
-    /// As `read`, by a search.
-    #[inline(always)]
-    fn read_by<L: Ledger>(
-        &mut self,
-        table: &mut Table<'_>,
-        search: &mut Search,
-        piece: &[u8],
-        steps: &mut Steps<L>,
-    ) -> Result<(), TableFault>
-        requires goes_on { GoesOn table.old self.old }
-        requires few { self.old.at + length piece.now < 2 ^ 32 }
-        requires begun { search.old.quiet ≤ QUIET }
-        requires waits { KnowsWaiting table.old.graph.ways search.old.ahead.waiting }
-        ensures read { OnOk result (Reads (bytes_at self.old.at piece.now) table.old self.old steps.old table.new self.new steps.new) }
-        ensures at { OnOk result (self.new.at ≡ self.old.at + length piece.now) }
-        ensures given_up { IfErr result (GivesUp (bytes_at self.old.at piece.now) table.old self.old steps.old table.new steps.new) }
-    {
         let mut layer = self.known.stand(table, &self.graph);
+        self.search.quiet = quiet_at(None, layer, self.search.far, 0);
         let mut i = 0;
         while i < piece.len() {
-            let here = self.read_on(table, search, layer, piece, i);
+            let here = self.read_on(table, layer, piece, i);
             if here == piece.len() {
                 break;
             }
@@ -158,7 +105,7 @@ impl Pass {
                     Err(fault) => return Err(fault),
                 },
             };
-            search.quiet = quiet_at(layer, next, search.far, search.quiet);
+            self.search.quiet = quiet_at(layer, next, self.search.far, self.search.quiet);
             layer = next;
             i = here + 1;
         }
@@ -168,32 +115,22 @@ impl Pass {
     /// Goes on to where a piece is read on from a place: behind the bytes that change nothing, if the layer, of which the
     /// number is told, has been the same for a while.
     #[inline(always)]
-    fn read_on(
-        &mut self,
-        table: &Table<'_>,
-        search: &mut Search,
-        layer: Option<usize>,
-        piece: &[u8],
-        i: usize,
-    ) -> usize
+    fn read_on(&mut self, table: &Table<'_>, layer: Option<usize>, piece: &[u8], i: usize) -> usize
         requires goes_on { GoesOn table.now self.old }
         requires few { self.old.at + length piece.now < 2 ^ 32 + i }
         requires place { i ≤ length piece.now }
-        requires counted { search.old.quiet ≤ QUIET }
-        requires waits { KnowsWaiting table.now.graph.ways search.old.ahead.waiting }
         ensures graph { self.new.graph ≡ self.old.graph }
         ensures known { self.new.known ≡ self.old.known }
         ensures at { self.new.at + i ≡ self.old.at + result }
         ensures within { result ≤ length piece.now }
         ensures later { i ≤ result }
         ensures back { AllLeadBack table.now (whole self.old.graph) (take (result - i) (drop i piece.now)) }
-        ensures waits { KnowsWaiting table.now.graph.ways search.new.ahead.waiting }
-        ensures counted { search.new.quiet < QUIET }
+        ensures waits { KnowsWaiting table.now.graph.ways self.new.search.ahead.waiting }
     {
-        if search.quiet < QUIET {
+        if self.search.quiet < QUIET {
             return i;
         }
-        self.pass_over(table, search, layer, piece, i)
+        self.pass_over(table, layer, piece, i)
     }
 
     /// As `read_on`, where the layer has been the same for long enough.
@@ -201,7 +138,6 @@ impl Pass {
     fn pass_over(
         &mut self,
         table: &Table<'_>,
-        search: &mut Search,
         layer: Option<usize>,
         piece: &[u8],
         i: usize,
@@ -209,20 +145,19 @@ impl Pass {
         requires goes_on { GoesOn table.now self.old }
         requires few { self.old.at + length piece.now < 2 ^ 32 + i }
         requires place { i ≤ length piece.now }
-        requires waits { KnowsWaiting table.now.graph.ways search.old.ahead.waiting }
         ensures graph { self.new.graph ≡ self.old.graph }
         ensures known { self.new.known ≡ self.old.known }
         ensures at { self.new.at + i ≡ self.old.at + result }
         ensures within { result ≤ length piece.now }
         ensures later { i ≤ result }
         ensures back { AllLeadBack table.now (whole self.old.graph) (take (result - i) (drop i piece.now)) }
-        ensures waits { KnowsWaiting table.now.graph.ways search.new.ahead.waiting }
-        ensures counted { search.new.quiet < QUIET }
+        ensures waits { KnowsWaiting table.now.graph.ways self.new.search.ahead.waiting }
     {
         let (_, rest) = piece.split_at(i);
-        let over = bytes_over(table, &self.graph, search, i, rest);
-        search.quiet = 0;
-        search.far = if over >= FAR { layer } else { None };
+        let at = self.at as usize;
+        let over = bytes_over(table, &self.graph, &mut self.search, at, rest);
+        self.search.quiet = 0;
+        self.search.far = if over >= FAR { layer } else { None };
         self.at += over as u32;
         i + over
     }
@@ -245,54 +180,4 @@ impl Pass {
         }
         self.step_rest(table, to, steps)
     }
-}
-
-/// For how many bytes the layer counts as unchanged behind one more: at once for enough, where it comes back to one in
-/// which the last search went far.
-#[inline(always)]
-fn quiet_at(before: Option<usize>, after: Option<usize>, far: Option<usize>, quiet: u32) -> u32
-    requires { quiet < QUIET }
-    ensures { result ≤ QUIET }
-{
-    if before == after {
-        return quiet + 1;
-    }
-    match (after, far) {
-        (Some(layer), Some(kept)) if layer == kept => QUIET,
-        _ => 0,
-    }
-}
-
-/// Over how many bytes at the front of these, before which so many stand, the layer stays or comes back to itself, as far as
-/// a search tells.
-fn bytes_over(
-    table: &Table<'_>,
-    graph: &OutputGraph,
-    search: &mut Search,
-    before: usize,
-    bytes: &[u8],
-) -> usize
-    requires given { AreGiven table.now (whole graph.now) }
-    requires fresh { graph.now.stepped ≡ 0 }
-    requires waits { KnowsWaiting table.now.graph.ways search.old.ahead.waiting }
-    ensures within { result ≤ length bytes.now }
-    ensures back { AllLeadBack table.now (whole graph.now) (take result bytes.now) }
-    ensures waits { KnowsWaiting table.now.graph.ways search.new.ahead.waiting }
-{
-    let over = search.ahead.passed(table, graph, before, bytes);
-    if over > 0 {
-        return over;
-    }
-    still_bytes(table, graph, &mut search.skipper, bytes)
-}
-
-/// How many bytes at the front of a piece change nothing.
-fn still_bytes(table: &Table<'_>, graph: &OutputGraph, skipper: &mut Skipper, piece: &[u8]) -> usize
-    requires given { AreGiven table.now (whole graph.now) }
-    requires fresh { graph.now.stepped ≡ 0 }
-    ensures within { result ≤ length piece.now }
-    ensures still { (k : ℕ) → k < result → AllStayOn table.now (whole graph.now) (slice_index piece.now k) }
-{
-    let stays = stays_of(table, graph);
-    skipper.first_outside(&stays, piece).unwrap_or(piece.len())
 }

@@ -13,6 +13,7 @@ ghost use Rattle.one_pass.specs.Seen.{ending_from, whole};
 
 use crate::known::{Known, MOST_WORDS};
 use crate::pass::Pass;
+use crate::search::Search;
 use output_graph::OutputGraph;
 use set_table::{Table, TableFault};
 use span_core::Steps;
@@ -44,8 +45,12 @@ pub fn advance<L: Ledger>(
 {
     table.is_table();
     graph.is_graph();
-    let known = Known::new(alloc, MOST_WORDS);
-    let mut pass = Pass { graph, known, at };
+    let mut pass = Pass {
+        graph,
+        known: Known::new(alloc, MOST_WORDS),
+        search: Search::new(alloc),
+        at,
+    };
     if let Err(fault) = pass.read(table, piece, steps) {
         return Err(fault);
     }
@@ -72,6 +77,11 @@ pub fn finish<L: Ledger>(
 {
     table.is_table();
     graph.is_graph();
-    let known = Known::new(alloc, 0);
-    Pass { graph, known, at }.end(table, steps)
+    let pass = Pass {
+        graph,
+        known: Known::new(alloc, 0),
+        search: Search::new(alloc),
+        at,
+    };
+    pass.end(table, steps)
 }

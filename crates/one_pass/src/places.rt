@@ -92,6 +92,7 @@ impl Pass {
         let Pass {
             mut graph,
             known: _,
+            search: _,
             at,
         } = self;
         for k in 0..graph.layer_len() {

@@ -23,6 +23,9 @@ use span_core::ByteSet;
 use std::alloc::{AllocError, Global};
 
 /// Fewer bytes are not searched.
+const SHORT: usize = 128;
+
+/// Nor are fewer than these, where the chain must first be worked out.
 const LONG: usize = 1024;
 
 /// A search costs as much as reading so many bytes, about.
@@ -99,13 +102,13 @@ impl Ahead {
         }
     }
 
-    /// Over how many bytes at the front of these, before which so many stand, each set of the graph's layer leads back to
+    /// Over how many bytes at the front of these, which begin at a position, each set of the graph's layer leads back to
     /// itself, as far as a search tells; 0 where none is made.
     pub(crate) fn passed(
         &mut self,
         table: &Table<'_>,
         graph: &OutputGraph,
-        before: usize,
+        at: usize,
         bytes: &[u8],
     ) -> usize
         requires given { AreGiven table.now (whole graph.now) }
@@ -115,13 +118,13 @@ impl Ahead {
         ensures within { result ≤ length bytes.now }
         ensures back { AllLeadBack table.now (whole graph.now) (take result bytes.now) }
     {
-        if bytes.len() < LONG || before < self.paused {
+        if at < self.paused || !are_long(&self.waiting, table, graph, bytes) {
             return 0;
         }
-        self.work_out(table, graph, before.saturating_add(bytes.len()));
+        self.work_out(table, graph, at.saturating_add(bytes.len()));
         let (front, _) = bytes.split_at(bytes.len().min(self.window));
         let over = passed_by(&self.waiting, table, graph, front);
-        self.count(before, over);
+        self.count(at, over);
         over
     }
 
@@ -150,9 +153,9 @@ impl Ahead {
         }
     }
 
-    /// Counts a search behind so many bytes that passed over so many: whether it gained more than it cost, and how many
-    /// bytes the next one looks at.
-    fn count(&mut self, before: usize, over: usize)
+    /// Counts a search at a position that passed over so many bytes: whether it gained more than it cost, and how many bytes
+    /// the next one looks at.
+    fn count(&mut self, at: usize, over: usize)
         ensures { self.new.waiting ≡ self.old.waiting }
     {
         if over < COST {
@@ -166,7 +169,7 @@ impl Ahead {
             return;
         }
         self.credit = FIRST_CREDIT;
-        self.paused = before.saturating_add(PAUSE);
+        self.paused = at.saturating_add(PAUSE);
     }
 }
 
@@ -202,6 +205,17 @@ fn passed_from(waiting: &Waiting, table: &Table<'_>, graph: &OutputGraph, bytes:
         return 0;
     }
     waiting.chain.next_place(bytes)
+}
+
+/// Whether there are enough bytes for a search.
+fn are_long(waiting: &Option<Waiting>, table: &Table<'_>, graph: &OutputGraph, bytes: &[u8]) -> bool
+    requires given { AreGiven table.now (whole graph.now) }
+    requires fresh { graph.now.stepped ≡ 0 }
+{
+    if bytes.len() >= LONG {
+        return true;
+    }
+    bytes.len() >= SHORT && is_known(waiting, table, graph)
 }
 
 /// Whether the layer's states are among those of which something is known.

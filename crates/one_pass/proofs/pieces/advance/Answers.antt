@@ -1,4 +1,5 @@
-use Rattle.std.proofs.Common.{subst}
+use Rattle.std.proofs.Common.{sym, subst}
+use Rattle.one_pass.specs.Ahead.{KnowsWaiting}
 use Rattle.one_pass.specs.Passes.{IsOpen}
 use Rattle.one_pass.specs.Seen.{whole}
 use Rattle.one_pass.proofs.OpenLaws.{open_ready, ready_open}
@@ -7,7 +8,8 @@ use Rattle.one_pass.proofs.pieces.advance.Goals as goal
 pub read-requires-clause-goes_on : goal.read-requires-clause-goes_on
 read-requires-clause-goes_on g c = record {
   ready = open_ready c.args.table.now c.args.graph c.args.at c.is_table.ensures c.is_graph.ensures.sources c.requires.open;
-  known = c.new-known.ensures c.args.table.now;
+  known = c.new.ensures c.args.table.now;
+  waits = subst (KnowsWaiting c.args.table.now.graph.ways) (sym c.new-2.ensures) tt;
 }
 
 pub returns-in-Err-clause-stopped : goal.returns-in-Err-clause-stopped

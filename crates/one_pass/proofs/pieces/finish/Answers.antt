@@ -1,11 +1,14 @@
+use Rattle.std.proofs.Common.{sym, subst}
 use Rattle.std.proofs.lemmas.Result.{IfErr-weaker}
+use Rattle.one_pass.specs.Ahead.{KnowsWaiting}
 use Rattle.one_pass.proofs.OpenLaws.{open_ready}
 use Rattle.one_pass.proofs.pieces.finish.Goals as goal
 
 pub end-requires : goal.end-requires
 end-requires g c = record {
   ready = open_ready c.args.table.now c.args.graph c.args.at c.is_table.ensures c.is_graph.ensures.sources c.requires.open;
-  known = c.new-known.ensures c.args.table.now;
+  known = c.new.ensures c.args.table.now;
+  waits = subst (KnowsWaiting c.args.table.now.graph.ways) (sym c.new-2.ensures) tt;
 }
 
 pub returns-clause-ended : goal.returns-clause-ended

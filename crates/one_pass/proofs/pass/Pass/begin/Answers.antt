@@ -1,3 +1,5 @@
+use Rattle.std.proofs.Common.{sym, subst}
+use Rattle.one_pass.specs.Ahead.{KnowsWaiting}
 use Rattle.one_pass.proofs.OpenLaws.{begun_is, open_first, open_ready}
 use Rattle.one_pass.proofs.pass.Pass.begin.Goals as goal
 
@@ -12,4 +14,4 @@ returns-clause-goes_on g c =
     let graph = c.in_ok-graph.graph in
     let e = c.in_ok-graph.ensures in
     let first = open_first t graph c.start.result c.start.ensures.tabled c.start.ensures.zero e.sources e.targets e.begun.0 in
-    record { ready = open_ready t graph 0 c.start.ensures.tabled c.is_graph.ensures.sources first; known = c.new.ensures t }
+    record { ready = open_ready t graph 0 c.start.ensures.tabled c.is_graph.ensures.sources first; known = c.new.ensures t; waits = subst (KnowsWaiting t.graph.ways) (sym c.new-2.ensures) tt }

@@ -1,0 +1,95 @@
+//! The search for the next byte of a piece that may change something, and what is kept of it between the pieces.
+ghost use Rattle.std.specs.Prelude.{◌≡◌, ℕ, ◌<◌, ◌≤◌, None, length, slice_index, take};
+ghost use Rattle.one_pass.specs.Ahead.{KnowsWaiting};
+ghost use Rattle.one_pass.specs.Passes.{AllLeadBack, AllStayOn, AreGiven};
+ghost use Rattle.one_pass.specs.Seen.{whole};
+
+use crate::places::stays_of;
+use crate::waiting::Ahead;
+use byte_runs::Skipper;
+use output_graph::OutputGraph;
+use set_table::Table;
+use std::alloc::Global;
+
+/// After so many bytes that left the layer as it was, the next one that may change something is searched for.
+pub(crate) const QUIET: u32 = 16;
+
+/// A search that passed over so many bytes went far.
+pub(crate) const FAR: usize = 32;
+
+/// The search for the next byte that may change something. What it works out of the ways stays true as the table grows.
+#[derive(Drop)]
+pub(crate) struct Search {
+    pub(crate) skipper: Skipper,
+    pub(crate) ahead: Ahead,
+    /// For how many bytes the layer counts as unchanged.
+    pub(crate) quiet: u32,
+    /// The layer in which the last search went far, if it did.
+    pub(crate) far: Option<usize>,
+}
+
+impl Search {
+    /// Nothing has been searched for.
+    pub(crate) fn new(alloc: Global) -> Search
+        ensures { result.ahead.waiting ≡ None }
+    {
+        Search {
+            skipper: Skipper::new(),
+            ahead: Ahead::new(alloc),
+            quiet: 0,
+            far: None,
+        }
+    }
+}
+
+/// For how many bytes the layer counts as unchanged behind one more: at once for enough, where it comes back to one in
+/// which the last search went far.
+#[inline(always)]
+pub(crate) fn quiet_at(
+    before: Option<usize>,
+    after: Option<usize>,
+    far: Option<usize>,
+    quiet: u32,
+) -> u32 {
+    if before == after {
+        return quiet.saturating_add(1);
+    }
+    match (after, far) {
+        (Some(layer), Some(kept)) if layer == kept => QUIET,
+        _ => 0,
+    }
+}
+
+/// Over how many bytes at the front of these, which begin at a position, the layer stays or comes back to itself, as far as a
+/// search tells.
+pub(crate) fn bytes_over(
+    table: &Table<'_>,
+    graph: &OutputGraph,
+    search: &mut Search,
+    at: usize,
+    bytes: &[u8],
+) -> usize
+    requires given { AreGiven table.now (whole graph.now) }
+    requires fresh { graph.now.stepped ≡ 0 }
+    requires waits { KnowsWaiting table.now.graph.ways search.old.ahead.waiting }
+    ensures within { result ≤ length bytes.now }
+    ensures back { AllLeadBack table.now (whole graph.now) (take result bytes.now) }
+    ensures waits { KnowsWaiting table.now.graph.ways search.new.ahead.waiting }
+{
+    let over = search.ahead.passed(table, graph, at, bytes);
+    if over > 0 {
+        return over;
+    }
+    still_bytes(table, graph, &mut search.skipper, bytes)
+}
+
+/// How many bytes at the front of a piece change nothing.
+fn still_bytes(table: &Table<'_>, graph: &OutputGraph, skipper: &mut Skipper, piece: &[u8]) -> usize
+    requires given { AreGiven table.now (whole graph.now) }
+    requires fresh { graph.now.stepped ≡ 0 }
+    ensures within { result ≤ length piece.now }
+    ensures still { (k : ℕ) → k < result → AllStayOn table.now (whole graph.now) (slice_index piece.now k) }
+{
+    let stays = stays_of(table, graph);
+    skipper.first_outside(&stays, piece).unwrap_or(piece.len())
+}
