@@ -24,8 +24,14 @@ put_start-front-requires c =
 
 pub put_number-number-requires : goal.put_number-number-requires
 put_number-number-requires c =
-    omega (arith, c.requires.room, c.requires.within, c.put_cells-end.ensures.end, c.put_start-front.ensures.end,
-    length-take-le c.args.beside.place c.args.spans.now (omega (arith, c.requires.within)))
+    omega (
+      arith,
+      c.requires.room,
+      c.requires.within,
+      c.put_cells-end.ensures.end,
+      c.put_start-front.ensures.end,
+      length-take-le c.args.beside.place c.args.spans.now (omega (arith, c.requires.within)),
+    )
 
 pub put_rest-end-requires-clause-inside : goal.put_rest-end-requires-clause-inside
 put_rest-end-requires-clause-inside c =
