@@ -13,6 +13,7 @@ pub mod InsideLaws
 pub mod KnownLaws
 pub mod KnownStepLaws
 pub mod LawProofs
+pub mod RegionLaws
 pub mod Making
 pub mod PartLaws
 pub mod Parting

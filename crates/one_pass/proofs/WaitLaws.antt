@@ -230,7 +230,7 @@ waits_back A states chain waits S order of d small left =
 
 -- ---- what a search tells
 
-small_taken : (d : List ℕ) (q : ℕ) → ((i : ℕ) → get_or d i 0 < 256) → AreSmall (take q d)
+pub small_taken : (d : List ℕ) (q : ℕ) → ((i : ℕ) → get_or d i 0 < 256) → AreSmall (take q d)
 small_taken d zero small = tt
 small_taken [] (suc q) small = tt
 small_taken (b ∷ d) (suc q) small = (small 0, small_taken d q (λ i. small (suc i)))

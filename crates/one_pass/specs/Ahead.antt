@@ -2,14 +2,22 @@
 use Rattle.std.specs.Prelude.{◌⊎◌, ℕ, Bool, List, Option, Some, None, IsTrue}
 use Rattle.span_core.specs.Lists.{Has}
 use Rattle.marked_automaton.specs.declared.way.Way.{Way}
+use Rattle.one_pass.specs.Inside.{WaitsInside}
 use Rattle.one_pass.specs.Waiting.{IsLoop, IsWithin, Waits}
+use Rattle.one_pass.specs.declared.waiting.Exit.{Exit}
+use Rattle.one_pass.specs.declared.waiting.Exit.TheVariants.{Front, Inside}
 use Rattle.one_pass.specs.declared.waiting.Level.{Level}
 use Rattle.one_pass.specs.declared.waiting.Waiting.{Waiting}
 
--- the states and the chain are true of these ways, where there are any
+-- what leaves the states takes bytes of a chain in turn; or it comes through behind a text alone
+abbrev pub LeaveBy : List Way → List ℕ → Exit → Type 0
+LeaveBy ways states (Front chain) = Waits ways states chain
+LeaveBy ways states (Inside inner) = WaitsInside ways states inner
+
+-- what is known of states is true of these ways, where there are any
 abbrev pub KnowsWaiting : List Way → Option Waiting → Type 0
 KnowsWaiting ways None = Unit {0}
-KnowsWaiting ways (Some w) = Waits ways w.states.items w.chain
+KnowsWaiting ways (Some w) = LeaveBy ways w.states.items w.exit
 
 -- a way was added to a level: its bytes and its state, where it leads from one of these states and is not left out
 pub record HasAdded (leaving : Bool) (from : List ℕ) (y : Way) (old new : Level) : Type 0 where

@@ -1,6 +1,7 @@
 -- A text inside: what leaves states that wait goes about in a region, which it leaves behind a text alone.
 use Rattle.std.specs.Prelude.{◌≡◌, ◌⊎◌, ℕ, zero, suc, List, [], ◌∷◌, length, slice_index}
 use Rattle.span_core.specs.Lists.{Has}
+use Rattle.byte_runs.specs.Inner.{Inner}
 use Rattle.marked_automaton.specs.declared.way.Way.{Way}
 use Rattle.marked_automaton.specs.Automaton.{HasByte}
 use Rattle.one_pass.specs.Waiting.{IsLoop, IsLooping}
@@ -28,6 +29,13 @@ pub record IsRegion (ways : List Way) (states region : List ℕ) (depth : ℕ �
 pub record Kills (ways : List Way) (states region : List ℕ) (b : ℕ) : Type 0 where
   pub inside : (y : Way) → Has ways y → Has region y.from → HasByte y.bytes b → ⊥
   pub outside : (y : Way) → Has ways y → Has states y.from → HasByte y.bytes b → IsLoop y
+
+-- there is such a region for the text, and its bytes kill
+pub record WaitsInside (ways : List Way) (states : List ℕ) (inner : Inner) : Type 0 where
+  pub region : List ℕ
+  pub depth : ℕ → ℕ
+  pub is : IsRegion ways states region depth inner.text
+  pub kills : (b : ℕ) → HasByte inner.kills b → Kills ways states region b
 
 -- the bytes that were read, the last first, begin with the first m of the text, the last of them first
 abbrev pub EndsIn : List ℕ → ℕ → List ℕ → Type 0

@@ -1,5 +1,5 @@
 //! Layers that wait: where what leaves them takes bytes of known sets in turn, the next place that it may begin at is
-//! searched for.
+//! searched for; where it comes through behind a text alone (`inside`), the next place at which the text ends.
 //!
 //! A state waits where it has a way to itself, without marks, on each byte. What leaves the states of a layer that waits takes
 //! bytes of some sets in turn, which the ways tell. Up to a place before which the bytes nowhere keep to these sets each set
@@ -10,12 +10,13 @@ ghost use Rattle.std.specs.FinSet as bytes;
 ghost use Rattle.span_core.specs.Lists.{Has};
 ghost use Rattle.output_graph.specs.Graph.{Source, sources};
 ghost use Rattle.set_table.specs.Tabled.{set_at};
-ghost use Rattle.one_pass.specs.Ahead.{HasAdded, KnowsWaiting};
+ghost use Rattle.one_pass.specs.Ahead.{HasAdded, KnowsWaiting, LeaveBy};
 ghost use Rattle.one_pass.specs.Passes.{AllLeadBack, AreGiven};
 ghost use Rattle.one_pass.specs.Seen.{whole};
-ghost use Rattle.one_pass.specs.Waiting.{Forces, IsLevel, IsLoop, IsLooping, IsOf, Waits};
+ghost use Rattle.one_pass.specs.Waiting.{Forces, IsLevel, IsLoop, IsLooping, IsOf};
 
-use byte_runs::Chain;
+use crate::inside::inside_of;
+use byte_runs::{Chain, InnerText};
 use marked_automaton::Way;
 use output_graph::OutputGraph;
 use set_table::Table;
@@ -55,8 +56,8 @@ const MOST_SETS: usize = 16;
 /// One look at ways is taken for so many bytes at most.
 const SHARE: usize = 16;
 
-/// So often each way is looked at for a chain, about.
-const LOOKS: usize = 20;
+/// So often each way is looked at for a chain or a text inside, about.
+const LOOKS: usize = 32;
 
 /// Where ways lead: the bytes that they take, and the states.
 #[derive(Drop)]
@@ -65,11 +66,20 @@ pub(crate) struct Level {
     pub(crate) next: Vec<u32>,
 }
 
-/// States that wait, and the chain of sets that leads out of them.
+/// How states that wait are left.
+#[derive(Drop)]
+pub(crate) enum Exit {
+    /// By bytes of sets in turn.
+    Front(Chain),
+    /// Behind a text alone.
+    Inside(InnerText),
+}
+
+/// States that wait, and how they are left.
 #[derive(Drop)]
 pub(crate) struct Waiting {
     pub(crate) states: Vec<u32>,
-    pub(crate) chain: Chain,
+    pub(crate) exit: Exit,
 }
 
 /// What is searched for where a layer waits.
@@ -128,7 +138,7 @@ impl Ahead {
         over
     }
 
-    /// Works out the chain of the graph's layer, unless it is known or would cost too much for so many bytes.
+    /// Works out how the graph's layer is left, unless it is known or would cost too much for so many bytes.
     fn work_out(&mut self, table: &Table<'_>, graph: &OutputGraph, bytes: usize)
         requires given { AreGiven table.now (whole graph.now) }
         requires fresh { graph.now.stepped ≡ 0 }
@@ -196,7 +206,7 @@ fn passed_by(
 fn passed_from(waiting: &Waiting, table: &Table<'_>, graph: &OutputGraph, bytes: &[u8]) -> usize
     requires given { AreGiven table.now (whole graph.now) }
     requires fresh { graph.now.stepped ≡ 0 }
-    requires waits { Waits table.now.graph.ways waiting.now.states.items waiting.now.chain }
+    requires waits { LeaveBy table.now.graph.ways waiting.now.states.items waiting.now.exit }
     ensures within { result ≤ length bytes.now }
     ensures back { AllLeadBack table.now (whole graph.now) (take result bytes.now) }
 {
@@ -204,7 +214,10 @@ fn passed_from(waiting: &Waiting, table: &Table<'_>, graph: &OutputGraph, bytes:
     if !is_layer_of(waiting.states.as_slice(), table, graph) {
         return 0;
     }
-    waiting.chain.next_place(bytes)
+    match &waiting.exit {
+        Exit::Front(chain) => chain.next_place(bytes),
+        Exit::Inside(text) => text.next_place(bytes),
+    }
 }
 
 /// Whether there are enough bytes for a search.
@@ -259,7 +272,7 @@ fn is_of(states: &[u32], set: &[u32]) -> bool
 }
 
 /// Whether the state is among these.
-fn has(states: &[u32], state: u32) -> bool
+pub(crate) fn has(states: &[u32], state: u32) -> bool
     ensures { IsTrue result ↔ Has states.now state }
 {
     for member in states {
@@ -270,11 +283,11 @@ fn has(states: &[u32], state: u32) -> bool
     false
 }
 
-/// The states of the layer and the chain that leads out of them, if all of them wait and there is one.
+/// The states of the layer and how they are left, if all of them wait and it can be searched for.
 fn waiting_of(alloc: Global, table: &Table<'_>, graph: &OutputGraph) -> Option<Waiting>
     requires given { AreGiven table.now (whole graph.now) }
     requires fresh { graph.now.stepped ≡ 0 }
-    ensures { IfSome result (λ w. Waits table.now.graph.ways w.states.items w.chain) }
+    ensures { IfSome result (λ w. LeaveBy table.now.graph.ways w.states.items w.exit) }
 {
     let states = match states_of(alloc, table, graph) {
         Some(states) => states,
@@ -283,12 +296,32 @@ fn waiting_of(alloc: Global, table: &Table<'_>, graph: &OutputGraph) -> Option<W
     if !all_loop(table.ways(), states.as_slice()) {
         return None;
     }
-    let sets = match chain_of(alloc, table.ways(), states.as_slice()) {
-        Some(sets) => sets,
-        None => return None,
-    };
-    match Chain::new(alloc, sets) {
-        Some(chain) => Some(Waiting { states, chain }),
+    match exit_of(alloc, table.ways(), states.as_slice()) {
+        Some(exit) => Some(Waiting { states, exit }),
+        None => None,
+    }
+}
+
+/// How these states are left, each of which loops on each byte, if it can be searched for.
+fn exit_of(alloc: Global, ways: &[Way], states: &[u32]) -> Option<Exit>
+    requires { (p : ℕ) → Has states.now p → IsLooping ways.now p }
+    ensures { IfSome result (LeaveBy ways.now states.now) }
+{
+    if let Some(chain) = front_of(alloc, ways, states) {
+        return Some(Exit::Front(chain));
+    }
+    match inside_of(alloc, ways, states) {
+        Some(text) => Some(Exit::Inside(text)),
+        None => None,
+    }
+}
+
+/// The chain that leads out of these states, if it can be searched for.
+fn front_of(alloc: Global, ways: &[Way], states: &[u32]) -> Option<Chain>
+    ensures { IfSome result (λ chain. Forces ways.now true states.now chain) }
+{
+    match chain_of(alloc, ways, states) {
+        Some(sets) => Chain::new(alloc, sets),
         None => None,
     }
 }
@@ -318,7 +351,7 @@ fn put_all(states: &mut Vec<u32>, more: &[u32]) -> bool {
 }
 
 /// Puts a state among others, and tells whether they are few.
-fn put(states: &mut Vec<u32>, state: u32) -> bool
+pub(crate) fn put(states: &mut Vec<u32>, state: u32) -> bool
     ensures kept { (x : ℕ) → Has states.old.items x → Has states.new.items x }
     ensures there { IsTrue result → Has states.new.items state }
 {
@@ -359,7 +392,7 @@ fn loops(ways: &[Way], state: u32) -> bool
 }
 
 /// Whether the way leads to where it leads from, without marks.
-fn is_loop(way: &Way) -> bool
+pub(crate) fn is_loop(way: &Way) -> bool
     ensures { IsTrue result → IsLoop way.now }
 {
     way.marks.is_none() && way.to == way.from
