@@ -1,4 +1,5 @@
 """What the tests of the release share: a small repository with a program in the place of rt, and the telling of what failed."""
+import multiprocessing
 import os
 import shutil
 import subprocess
@@ -166,21 +167,27 @@ def later():
     time.sleep(1.1)
 
 
+def told_of(check):
+    """Whether a check passed, in a new folder, and what there is to say of it; None where it was left out."""
+    with tempfile.TemporaryDirectory() as folder:
+        try:
+            check(os.path.realpath(folder))
+            return True, ''
+        except Missing as missing:
+            return None, 'skipped: %s, without %s' % (check.__name__, missing)
+        except Exception as fault:  # whatever a check meets is its failure
+            return False, 'FAIL %s: %s: %s' % (check.__name__, type(fault).__name__, fault)
+
+
 def run_checks(checks):
-    """Runs each in a new folder, and tells the count in the last line; the exit status."""
+    """Runs the checks that the command line names, or all, some side by side, and tells the count last; the exit status."""
+    asked = [check for check in checks if not sys.argv[1:] or check.__name__ in sys.argv[1:]]
     passed = failed = 0
-    words = sys.argv[1:]
-    for check in checks:
-        if words and check.__name__ not in words:
-            continue
-        with tempfile.TemporaryDirectory() as folder:
-            try:
-                check(os.path.realpath(folder))
-                passed += 1
-            except Missing as missing:
-                print('skipped: %s, without %s' % (check.__name__, missing))
-            except Exception as fault:  # whatever a check meets is its failure
-                failed += 1
-                print('FAIL %s: %s: %s' % (check.__name__, type(fault).__name__, fault))
+    with multiprocessing.get_context('fork').Pool(os.cpu_count()) as pool:
+        for is_passed, text in pool.imap(told_of, asked):
+            passed += is_passed is True
+            failed += is_passed is False
+            if text:
+                print(text)
     print('%d passed, %d failed' % (passed, failed))
     return 1 if failed else 0
