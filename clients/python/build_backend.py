@@ -1,69 +1,99 @@
-"""Builds the wheel of the package, with nothing but Python: with the built program inside where there is one, else pure.
+"""Builds the wheel of the package, with nothing but Python: with the program inside where there is one, else pure.
 
-So `pip install clients/python` works without a network, and the wheel of a machine on which the program was built brings the
-program with it: `rematch/bin/rematch`, which the package looks for first.
+So `pip install clients/python` works without a network. The program is the one that the variable REMATCH names; else the one built
+in this checkout, where it is newer than the release; else the released one, where it runs here. The wheel has it as
+`rematch/bin/rematch`, which the package looks for first, and as the command `rematch`.
 """
 import base64
+import gzip
 import hashlib
 import os
+import re
 import sys
 import zipfile
+import zlib
 
-NAME, VERSION = 'rematch_client', '0.1'
 HERE = os.path.dirname(os.path.abspath(__file__))
+ROOT = os.path.dirname(os.path.dirname(HERE))
+NAME = 'rematch_client'
 SCRIPTS = {'rematch-to': 'rematch.convert:main', 'rematch-cut': 'rematch.pieces:cut_main', 'rematch-piece': 'rematch.pieces:piece_main'}
-METADATA = f'''Metadata-Version: 2.1
-Name: {NAME.replace('_', '-')}
-Version: {VERSION}
-Summary: Every match of a query in a document: a client of the program rematch
-Requires-Python: >=3.8
-'''
+GLIBC = (2, 34)  # the oldest C library that the program runs on
+
+
+def _read(*names):
+    with open(os.path.join(*names), 'rb') as file:
+        return file.read()
+
+
+def _version():
+    return re.search("^VERSION = '(.+?)'", _read(HERE, 'rematch', 'version.py').decode(), re.M)[1]
+
+
+def _runs_released():
+    try:
+        name, version = os.confstr('CS_GNU_LIBC_VERSION').split()
+        is_new = name == 'glibc' and tuple(map(int, version.split('.')[:2])) >= GLIBC
+    except (AttributeError, OSError, ValueError):
+        return False
+    return sys.platform == 'linux' and os.uname().machine == 'x86_64' and is_new
 
 
 def _program():
-    given = os.environ.get('REMATCH') or os.path.join(HERE, '..', '..', 'crates', 'rematch', 'out', 'rematch')
-    return given if os.access(given, os.X_OK) and not os.path.isdir(given) else None
+    """The bytes of the program, or None."""
+    built, sources = os.path.join(ROOT, 'crates', 'rematch', 'out', 'rematch'), os.path.join(ROOT, 'release', 'SOURCES')
+    if os.environ.get('REMATCH'):
+        return _read(os.environ['REMATCH'])
+    if os.path.isfile(built) and not (os.path.isfile(sources) and os.stat(sources).st_mtime > os.stat(built).st_mtime):
+        return _read(built)
+    if not os.path.isfile(sources) or not _runs_released():
+        return None
+    named = re.search('^program (.+)$', _read(sources).decode(), re.M)
+    try:
+        program = gzip.decompress(_read(ROOT, 'release', 'rematch-x86_64-linux.gz'))
+    except (OSError, EOFError, zlib.error):
+        program = b''
+    if not named or hashlib.sha256(program).hexdigest() != named[1]:
+        raise RuntimeError('the release is damaged: release/rematch-x86_64-linux.gz is not the program that SOURCES names')
+    return program
 
 
-def _tag():
-    if _program() is None:
-        return 'py3-none-any'
-    return f'py3-none-linux_{os.uname().machine}'
+def _tag(program):
+    machine = os.uname().machine
+    libc = 'manylinux_%d_%d' % GLIBC if machine == 'x86_64' else 'linux'
+    return 'py3-none-any' if program is None else 'py3-none-%s_%s' % (libc, machine)
 
 
-def _entries():
-    scripts = dict(SCRIPTS)
+def _entries(program, base):
     package = os.path.join(HERE, 'rematch')
     for name in sorted(os.listdir(package)):
         if name.endswith('.py') or name == 'py.typed':
-            yield f'rematch/{name}', open(os.path.join(package, name), 'rb').read(), 0o644
-    program = _program()
+            yield 'rematch/' + name, _read(package, name), 0o644
     if program is not None:
-        yield 'rematch/bin/rematch', open(program, 'rb').read(), 0o755
-        yield f'{NAME}-{VERSION}.data/scripts/rematch', open(program, 'rb').read(), 0o755
-    info = f'{NAME}-{VERSION}.dist-info'
-    yield f'{info}/METADATA', METADATA.encode(), 0o644
-    is_pure = str(program is None).lower()
-    yield f'{info}/WHEEL', f'Wheel-Version: 1.0\nGenerator: rematch\nRoot-Is-Purelib: {is_pure}\nTag: {_tag()}\n'.encode(), 0o644
-    listed = '[console_scripts]\n' + ''.join(f'{name} = {call}\n' for name, call in scripts.items())
-    yield f'{info}/entry_points.txt', listed.encode(), 0o644
+        yield 'rematch/bin/rematch', program, 0o755
+        yield base + '.data/scripts/rematch', program, 0o755
+    lines = ['Metadata-Version: 2.1', 'Name: ' + NAME.replace('_', '-'), 'Version: ' + _version(), 'Requires-Python: >=3.8',
+             'Summary: Every match of a query in a document: a client of the program rematch']
+    yield base + '.dist-info/METADATA', '\n'.join([*lines, '']).encode(), 0o644
+    lines = ['Wheel-Version: 1.0', 'Generator: rematch', 'Root-Is-Purelib: %s' % str(program is None).lower(), 'Tag: ' + _tag(program)]
+    yield base + '.dist-info/WHEEL', '\n'.join([*lines, '']).encode(), 0o644
+    lines = ['[console_scripts]', *('%s = %s' % pair for pair in SCRIPTS.items())]
+    yield base + '.dist-info/entry_points.txt', '\n'.join([*lines, '']).encode(), 0o644
 
 
 def build_wheel(folder, config_settings=None, metadata_directory=None):
-    name = f'{NAME}-{VERSION}-{_tag()}.whl'
-    record = []
+    program, base, record = _program(), '%s-%s' % (NAME, _version()), []
+    name = '%s-%s.whl' % (base, _tag(program))
     with zipfile.ZipFile(os.path.join(folder, name), 'w', zipfile.ZIP_DEFLATED) as out:
         def put(path, data, mode):
-            entry = zipfile.ZipInfo(path, (2026, 1, 1, 0, 0, 0))
+            entry = zipfile.ZipInfo(path, (2026, 1, 1, 0, 0, 0))  # the same bytes whenever it is built
             entry.external_attr = (0o100000 | mode) << 16
             entry.compress_type = zipfile.ZIP_DEFLATED
             out.writestr(entry, data)
-        for path, data, mode in _entries():
+        for path, data, mode in _entries(program, base):
             put(path, data, mode)
             digest = base64.urlsafe_b64encode(hashlib.sha256(data).digest()).rstrip(b'=').decode()
-            record.append(f'{path},sha256={digest},{len(data)}')
-        path = f'{NAME}-{VERSION}.dist-info/RECORD'
-        put(path, '\n'.join([*record, path + ',,', '']).encode(), 0o644)
+            record.append('%s,sha256=%s,%d' % (path, digest, len(data)))
+        put(base + '.dist-info/RECORD', '\n'.join([*record, base + '.dist-info/RECORD,,', '']).encode(), 0o644)
     return name
 
 

@@ -1,18 +1,21 @@
 #!/bin/sh
-# Installs the built program and what stands beside it, and says what it put where.
+# Installs the program and what stands beside it, and says what it put where.
 #
 #   clients/shell/install.sh [--prefix DIR] [--program PATH] [--uninstall]
 #
-# DIR is ~/.local where none is given, and PATH crates/rematch/out/rematch. Nothing outside of DIR is touched; --uninstall
-# takes away what was put there. Python 3.8 makes the package one file; without it the program, the page of its manual and
-# completion are installed alone.
+# DIR is ~/.local where none is given. The program is that at PATH; without one it is that which was built in this checkout,
+# where it is newer than the release, and else the released one. Nothing outside of DIR is touched; --uninstall takes away what
+# was put there, and the folders in it that are empty then. Python 3.8 makes the package one file; without it the program, the
+# page of its manual and completion are installed alone.
 set -eu
 here=$(cd "$(dirname "$0")" && pwd)
 clients=$(dirname "$here")
 root=$(dirname "$clients")
 prefix=${HOME:-}/.local
-program=$root/crates/rematch/out/rematch
+program=
 action=install
+made=
+trap '[ -z "$made" ] || rm -rf "$made"' EXIT
 
 usage() {
     sed -n '4p' "$here/install.sh" | sed 's/^#   /usage: /' >&2
@@ -56,9 +59,27 @@ if [ "$action" = uninstall ]; then
             echo "removed $file"
         fi
     done
+    for folder in share/fish/vendor_completions.d share/fish share/zsh/site-functions share/zsh share/bash-completion/completions \
+        share/bash-completion share/man/man1 share/man share bin; do
+        rmdir "$prefix/$folder" 2>/dev/null || true
+    done
     exit 0
 fi
 
+made=$(mktemp -d)
+packed=$root/release/rematch-x86_64-linux.gz
+if [ -z "$program" ]; then
+    program=$root/crates/rematch/out/rematch
+    if [ -r "$packed" ] && { [ ! -x "$program" ] || [ "$packed" -nt "$program" ]; }; then
+        program=$made/rematch
+        gzip -dc "$packed" >"$program" || true
+        if [ "$(sha256sum <"$program")" != "$(sed -n 's/^program //p' "$root/release/SOURCES")  -" ]; then
+            echo "install.sh: the release is damaged: $packed is not the program that SOURCES beside it names" >&2
+            exit 1
+        fi
+        chmod 755 "$program"
+    fi
+fi
 if [ ! -x "$program" ] || [ ! -f "$program" ]; then
     echo "install.sh: there is no built program $program; ./rematch in the checkout builds it" >&2
     exit 1
@@ -92,8 +113,6 @@ for name in rematch-to rematch-piece; do
 done
 
 if command -v python3 >/dev/null 2>&1 && python3 -c 'import sys, zipapp; sys.exit(sys.version_info < (3, 8))' 2>/dev/null; then
-    made=$(mktemp -d)
-    trap 'rm -rf "$made"' EXIT
     mkdir "$made/app" "$made/app/rematch"
     cp "$clients"/python/rematch/*.py "$clients"/python/rematch/py.typed "$made/app/rematch"
     cp "$clients/python/rematch/__main__.py" "$made/app/__main__.py"

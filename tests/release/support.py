@@ -179,9 +179,18 @@ def told_of(check):
             return False, 'FAIL %s: %s: %s' % (check.__name__, type(fault).__name__, fault)
 
 
+def given_program():
+    """The program that `--program PATH` of the command line names, else the one built here, else the released one; None without any."""
+    words = sys.argv[1:]
+    if '--program' in words[:-1]:
+        return os.path.abspath(words[words.index('--program') + 1])
+    places = [os.path.join(ROOT, 'crates', 'rematch', 'out', 'rematch'), os.path.join(ROOT, 'release', 'out', 'rematch')]
+    return next((path for path in places if os.access(path, os.X_OK)), None)
+
+
 def run_checks(checks):
     """Runs the checks that the command line names, or all, some side by side, and tells the count last; the exit status."""
-    asked = [check for check in checks if not sys.argv[1:] or check.__name__ in sys.argv[1:]]
+    asked = [check for check in checks if check.__name__ in sys.argv[1:]] or checks
     passed = failed = 0
     with multiprocessing.get_context('fork').Pool(os.cpu_count()) as pool:
         for is_passed, text in pool.imap(told_of, asked):
