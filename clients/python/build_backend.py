@@ -1,7 +1,7 @@
 """Builds the wheel of the package, with nothing but Python: with the program inside where there is one, else pure.
 
-So `pip install clients/python` works without a network. The program is the one that the variable REMATCH names; else the one built
-in this checkout, where it is newer than the release; else the released one, where it runs here. The wheel has it as
+So `pip install clients/python` works without a network. The program is the one that the variable REMATCH names; else the one
+built in this checkout, where it is newer than the release; else the released one, where it runs here. The wheel has it as
 `rematch/bin/rematch`, which the package looks for first, and as the command `rematch`.
 """
 import base64
@@ -16,7 +16,8 @@ import zlib
 HERE = os.path.dirname(os.path.abspath(__file__))
 ROOT = os.path.dirname(os.path.dirname(HERE))
 NAME = 'rematch_client'
-SCRIPTS = {'rematch-to': 'rematch.convert:main', 'rematch-cut': 'rematch.pieces:cut_main', 'rematch-piece': 'rematch.pieces:piece_main'}
+SCRIPTS = {'rematch-to': 'rematch.convert:main', 'rematch-cut': 'rematch.pieces:cut_main',
+           'rematch-piece': 'rematch.pieces:piece_main'}
 GLIBC = (2, 34)  # the oldest C library that the program runs on
 
 
@@ -74,7 +75,8 @@ def _entries(program, base):
     lines = ['Metadata-Version: 2.1', 'Name: ' + NAME.replace('_', '-'), 'Version: ' + _version(), 'Requires-Python: >=3.8',
              'Summary: Every match of a query in a document: a client of the program rematch']
     yield base + '.dist-info/METADATA', '\n'.join([*lines, '']).encode(), 0o644
-    lines = ['Wheel-Version: 1.0', 'Generator: rematch', 'Root-Is-Purelib: %s' % str(program is None).lower(), 'Tag: ' + _tag(program)]
+    pure = 'true' if program is None else 'false'
+    lines = ['Wheel-Version: 1.0', 'Generator: rematch', 'Root-Is-Purelib: ' + pure, 'Tag: ' + _tag(program)]
     yield base + '.dist-info/WHEEL', '\n'.join([*lines, '']).encode(), 0o644
     lines = ['[console_scripts]', *('%s = %s' % pair for pair in SCRIPTS.items())]
     yield base + '.dist-info/entry_points.txt', '\n'.join([*lines, '']).encode(), 0o644

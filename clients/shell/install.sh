@@ -59,8 +59,8 @@ if [ "$action" = uninstall ]; then
             echo "removed $file"
         fi
     done
-    for folder in share/fish/vendor_completions.d share/fish share/zsh/site-functions share/zsh share/bash-completion/completions \
-        share/bash-completion share/man/man1 share/man share bin; do
+    for folder in share/fish/vendor_completions.d share/fish share/zsh/site-functions share/zsh \
+        share/bash-completion/completions share/bash-completion share/man/man1 share/man share bin; do
         rmdir "$prefix/$folder" 2>/dev/null || true
     done
     exit 0
@@ -117,7 +117,8 @@ if command -v python3 >/dev/null 2>&1 && python3 -c 'import sys, zipapp; sys.exi
     cp "$clients"/python/rematch/*.py "$clients"/python/rematch/py.typed "$made/app/rematch"
     cp "$clients/python/rematch/__main__.py" "$made/app/__main__.py"
     python3 -m zipapp -c -p '/usr/bin/env python3' -o "$made/rematch-to" "$made/app"
-    put "$made/rematch-to" "$bin/rematch-to" 755 "rows as tables, concordances and pages; also the Python package (PYTHONPATH=$bin/rematch-to)"
+    put "$made/rematch-to" "$bin/rematch-to" 755 \
+        "rows as tables, concordances and pages; also the Python package (PYTHONPATH=$bin/rematch-to)"
     link rematch-to "$bin/rematch-cut" "pieces of a document"
     link rematch-to "$bin/rematch-piece" "the rows of a piece"
 else

@@ -1,4 +1,4 @@
-"""What the tests of the release share: a small repository with a program in the place of rt, and the telling of what failed."""
+"""What the tests of the release share: a small repository with a program in the place of rt, and the report of what failed."""
 import multiprocessing
 import os
 import shutil
@@ -11,8 +11,8 @@ HERE = os.path.dirname(os.path.abspath(__file__))
 ROOT = os.path.dirname(os.path.dirname(HERE))
 CRATES = 'low: arrayvec\nbeside: low\nleft: low\nright: low\nmiddle: left right\nrematch: middle\n'
 IDENTITY = 'kit-1 logic 0123456789abcdef'
-TOOLS = ['sh', 'gzip', 'sha256sum', 'cksum', 'uname', 'find', 'sort', 'xargs', 'mktemp', 'rm', 'mv', 'cp', 'chmod', 'mkdir', 'readlink',
-         'tr', 'getconf', 'cat', 'sleep']  # what the script uses where nothing is built
+TOOLS = ['sh', 'gzip', 'sha256sum', 'cksum', 'uname', 'find', 'sort', 'xargs', 'mktemp', 'rm', 'mv', 'cp', 'chmod', 'mkdir',
+         'readlink', 'tr', 'getconf', 'cat', 'sleep']  # what the script uses where nothing is built
 
 # It proves nothing: it writes what it is asked into the file $ASKED, and makes the files that a build leaves.
 RT = r'''#!/bin/sh
@@ -141,8 +141,9 @@ class Tree:
 
     def call(self, name, *words, **more):
         """The status and all that a Python script of the release writes, in lines."""
-        done = subprocess.run([sys.executable, self.at(name), *words], env=self.environment(more.pop('path', self.with_rt()), **more),
-                              stdin=subprocess.DEVNULL, stdout=subprocess.PIPE, stderr=subprocess.STDOUT, timeout=60)
+        environment = self.environment(more.pop('path', self.with_rt()), **more)
+        done = subprocess.run([sys.executable, self.at(name), *words], env=environment, stdin=subprocess.DEVNULL,
+                              stdout=subprocess.PIPE, stderr=subprocess.STDOUT, timeout=60)
         return done.returncode, done.stdout.decode().splitlines()
 
     def asked_lines(self):
@@ -180,7 +181,7 @@ def told_of(check):
 
 
 def given_program():
-    """The program that `--program PATH` of the command line names, else the one built here, else the released one; None without any."""
+    """The program that `--program PATH` of the command line names, else the one built here, else the released one, else None."""
     words = sys.argv[1:]
     if '--program' in words[:-1]:
         return os.path.abspath(words[words.index('--program') + 1])
@@ -189,7 +190,7 @@ def given_program():
 
 
 def run_checks(checks):
-    """Runs the checks that the command line names, or all, some side by side, and tells the count last; the exit status."""
+    """Runs the checks that the command line names, or all, some side by side, prints the count, and returns the exit status."""
     asked = [check for check in checks if check.__name__ in sys.argv[1:]] or checks
     passed = failed = 0
     with multiprocessing.get_context('fork').Pool(os.cpu_count()) as pool:

@@ -22,7 +22,7 @@ def program_sum(path: Optional[str] = None) -> str:
 
 
 def version_text() -> str:
-    """What ``rematch-to --version`` tells: the version, the program's path and its sum.
+    """What ``rematch-to --version`` prints: the version, the program's path and its sum.
 
     >>> version_text().startswith('rematch 1.')
     True
