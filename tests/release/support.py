@@ -20,6 +20,7 @@ name=${PWD##*/}
 [ "$1" = version ] || echo "rt $* in $name" >>"$ASKED"
 case $1 in
 version) echo "kit-1 logic 0123456789abcdef" ;;
+ci) echo "all proved" ;;
 lib)
     for below in $(sed -n "s/^$name: //p" ../../crates.txt); do
         [ "$below" = arrayvec ] || [ -e "../$below/out/rlib/stamp" ] || { echo "$below is not built"; exit 1; }
