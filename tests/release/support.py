@@ -136,7 +136,7 @@ class Tree:
     def run(self, *words, script=None, path=None, cwd=None, before=None, **more):
         """The status, the output, the lines on standard error of the script; it has only the tools, or this path."""
         given = [script or self.at('rematch'), *words]
-        done = subprocess.run(given, cwd=cwd or self.folder, env=self.environment(path or self.tools, **more), timeout=60,
+        done = subprocess.run(given, cwd=cwd or self.folder, env=self.environment(path or self.tools, **more), timeout=300,
                               stdin=subprocess.DEVNULL, stdout=subprocess.PIPE, stderr=subprocess.PIPE, preexec_fn=before)
         return done.returncode, done.stdout.decode(), done.stderr.decode().splitlines()
 
@@ -144,7 +144,7 @@ class Tree:
         """The status and all that a Python script of the release writes, in lines."""
         environment = self.environment(more.pop('path', self.with_rt()), **more)
         done = subprocess.run([sys.executable, self.at(name), *words], env=environment, stdin=subprocess.DEVNULL,
-                              stdout=subprocess.PIPE, stderr=subprocess.STDOUT, timeout=60)
+                              stdout=subprocess.PIPE, stderr=subprocess.STDOUT, timeout=300)
         return done.returncode, done.stdout.decode().splitlines()
 
     def asked_lines(self):
