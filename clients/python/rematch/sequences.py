@@ -17,7 +17,8 @@ from .match import Row
 from .query import Query
 from ._reach import NoReach
 
-__all__ = ['Record', 'Site', 'are_proteins', 'frame_of', 'in_order', 'other_strand', 'records_of', 'sites', 'write_bed', 'write_gff']
+__all__ = ['GFF_HEAD', 'Record', 'Site', 'are_proteins', 'bed_lines', 'fasta_lines', 'frame_of', 'gff_lines', 'has_anchor', 'in_order', 'once',
+           'other_strand', 'records_of', 'sites', 'write_bed', 'write_gff']
 
 _BATCH = 200_000_000  # bytes of records that one run searches
 _OTHER = bytes.maketrans(b'ACGTURYKMBVDHSWN', b'TGCAAYRMKVBHDSWN')
@@ -123,7 +124,7 @@ def sites(query: Query, data: bytes, *, both: bool = True, left_out: Optional[Ca
     >>> [(site.record.name, site.strand, site.row) for site in sites(Query('/!m{TTAC}/'), b'>chr1\\nGAT\\nTACA\\n>chr2\\ntgtaatc\\n')]
     [('chr1', '+', (2, 6)), ('chr2', '-', (1, 5))]
     """
-    if _has_anchor(query):
+    if has_anchor(query):
         raise NoReach(r'an anchor would speak of all records together: a record has \n before it and behind it')
     records = records_of(data)
     lost = 0
@@ -138,7 +139,8 @@ def sites(query: Query, data: bytes, *, both: bool = True, left_out: Optional[Ca
         left_out(lost)
 
 
-def _has_anchor(query: Query) -> bool:
+def has_anchor(query: Query) -> bool:
+    """Whether an anchor stands in the query, which would speak of all records together."""
     from .formula import atoms_of, parts_of
     return any(part.kind == 'anchor' for atom in atoms_of(query.printed.encode()) for part in parts_of(atom))
 
@@ -183,7 +185,7 @@ def _on_record(row: Row, start: int, length: int, strand: str) -> Row:
 
 # -- What is written
 
-def write_bed(found: Iterable[Site], names: Sequence[str], out: TextIO, *, frames: bool = False) -> None:
+def bed_lines(found: Iterable[Site], names: Sequence[str], *, frames: bool = False) -> Iterator[str]:
     """BED of twelve columns, from 0: a row is a line whose spans are its blocks; where they overlap or are empty, a line a span.
 
     The name is that of the variables, with a point and the number of the row where it has several lines, and with the frame
@@ -198,15 +200,58 @@ def write_bed(found: Iterable[Site], names: Sequence[str], out: TextIO, *, frame
             name += f'({frame_of(site, start, end)})' if frames else ''
             sizes = ','.join(str(span.end - span.start) for span in group)
             begins = ','.join(str(span.start - start) for span in group)
-            out.write(f'{site.record.name}\t{start}\t{end}\t{name}\t0\t{site.strand}\t{start}\t{end}\t0\t{len(group)}\t{sizes}\t{begins}\n')
+            yield f'{site.record.name}\t{start}\t{end}\t{name}\t0\t{site.strand}\t{start}\t{end}\t0\t{len(group)}\t{sizes}\t{begins}\n'
 
 
-def write_gff(found: Iterable[Site], names: Sequence[str], out: TextIO) -> None:
+def write_bed(found: Iterable[Site], names: Sequence[str], out: TextIO, *, frames: bool = False) -> None:
+    """Writes the lines of `bed_lines`."""
+    out.writelines(bed_lines(found, names, frames=frames))
+
+
+GFF_HEAD = '##gff-version 3\n'
+
+
+def gff_lines(found: Iterable[Site], names: Sequence[str]) -> Iterator[str]:
     """GFF3, from 1: a line a span, with the number of its row and its frame. An empty span stands right of its place."""
-    out.write('##gff-version 3\n')
     for number, site in enumerate(found, 1):
         for span in site.spans(names):
             empty = ';empty=1' if span.start == span.end else ''
             start = max(1, span.start) if empty else span.start + 1
-            out.write(f'{quote(site.record.name, safe=".:^*$@!+_?|-")}\trematch\tsequence_feature\t{start}\t{max(start, span.end)}\t.\t{site.strand}\t.\t'
-                      f'Name={span.name};row={number};frame={frame_of(site, span.start, span.end)}{empty}\n')
+            yield (f'{quote(site.record.name, safe=".:^*$@!+_?|-")}\trematch\tsequence_feature\t{start}\t{max(start, span.end)}\t.\t{site.strand}\t.\t'
+                   f'Name={span.name};row={number};frame={frame_of(site, span.start, span.end)}{empty}\n')
+
+
+def write_gff(found: Iterable[Site], names: Sequence[str], out: TextIO) -> None:
+    """Writes a head, and the lines of `gff_lines`."""
+    out.write(GFF_HEAD)
+    out.writelines(gff_lines(found, names))
+
+
+def fasta_lines(found: Iterable[Site], names: Sequence[str]) -> Iterator[str]:
+    """FASTA: a record a span, ``RECORD:START-END(STRAND) VARIABLE``, counted as in BED, with its letters on that strand.
+
+    >>> print(*fasta_lines(sites(Query('/!m{TTAC}/'), b'>chr2\\ntgtaatc\\n'), ('m',)), sep='', end='')
+    >chr2:1-5(-) m
+    TTAC
+    """
+    for site in found:
+        for span in site.spans(names):
+            letters = site.record.letters[span.start:span.end]
+            letters = other_strand(letters) if site.strand == '-' else letters
+            yield f'>{site.record.name}:{span.start}-{span.end}({site.strand}) {span.name}\n{letters.decode("latin-1")}\n'
+
+
+def once(found: Iterable[Site]) -> Iterator[Site]:
+    """The sites without those of the other strand whose spans stand at the places of one of the forward strand, as palindromes do.
+
+    >>> [site.strand for site in once(sites(Query('/!x{GATC|GAT}/'), b'>r\\nGATC\\n'))]
+    ['+', '+', '-']
+    """
+    seen = set()
+    for site in found:
+        key = site.record.name, tuple(sorted(zip(site.row[::2], site.row[1::2])))
+        if site.strand == '+':
+            seen.add(key)
+        elif key in seen:
+            continue
+        yield site
