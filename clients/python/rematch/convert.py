@@ -24,6 +24,8 @@ from .to_words import Words, read_words
 
 __all__ = ['Command', 'main']
 
+_MANY = 3  # documents, of which small ones are asked of one program
+_WHOLE = ('bed', 'gff', 'fasta', 'ann', 'follow', 'check')  # the forms that search otherwise
 _HEAD = 1 << 20  # bytes of a document that are looked at for what may hide rows
 
 
@@ -58,8 +60,12 @@ class Command:
     def read_query(self) -> Query:
         words = {'filter': bool(self.given.filter), 'max_table': self.given.max_table}
         text = self.expansion.text
+        make = Query
+        if len(self.names) >= _MANY and not self.given.filter and self.given.max_table is None and self.given.form not in _WHOLE:
+            from .to_small import SmallDocuments
+            make = SmallDocuments
         try:
-            query = Query(text, **words)
+            query = make(text, **words)
         except QueryError as fault:
             raise self.expansion.fault(fault) from None
         if self.given.iupac:
@@ -69,8 +75,14 @@ class Command:
             made = captured(text)
             if made is None:
                 refuse('the query has no capture, so no row has a place: put !name{..} around what the lines have')
-            query = Query(made, **words)
+            query = make(made, **words)
         return query
+
+    def close(self) -> None:
+        """Ends what the command has begun."""
+        query = getattr(self, 'query', None)
+        if query is not None and type(query) is not Query:
+            query.close()
 
     def asks_for_lines(self) -> bool:
         return self.given.form == 'lines' or bool(self.given.lines)
@@ -263,7 +275,10 @@ def main(words: Optional[Iterable[str]] = None) -> int:
         try:
             with Progress() as progress:
                 command = Command(given, out, progress)
-                command.run()
+                try:
+                    command.run()
+                finally:
+                    command.close()
                 out.flush()
             found.append(1 if command.has_failed else command.status)
         finally:

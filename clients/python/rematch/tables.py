@@ -6,7 +6,7 @@ import unicodedata
 from array import array
 from bisect import bisect_right
 from itertools import accumulate
-from typing import Callable, Dict, Iterable, Iterator, List, NamedTuple, Optional, Sequence, TextIO, Tuple
+from typing import Any, Callable, Dict, Iterable, Iterator, List, NamedTuple, Optional, Sequence, TextIO, Tuple
 
 from .documents import _REST, Document
 from .match import Row
@@ -120,11 +120,11 @@ class Table:
         """The first line."""
         return self._layout.delimiter.join(self._names) + '\n'
 
-    def lines(self, given: Given, rows: Iterable[Row], first_line: int = 1) -> Iterator[str]:
-        """A line a row; ``first_line`` is the number of the document's first line."""
-        return self._usual(given, rows, first_line) if self._is_usual else self._chosen(given, rows, first_line)
+    def lines(self, given: Given, rows: Iterable[Row], first_line: int = 1, base: int = 0) -> Iterator[str]:
+        """A line a row; of a part of a document ``first_line`` is the number of its first line, and ``base`` where it begins."""
+        return (self._usual if self._is_usual else self._chosen)(given, rows, first_line, base)
 
-    def _usual(self, given: Given, rows: Iterable[Row], first_line: int) -> Iterator[str]:
+    def _usual(self, given: Given, rows: Iterable[Row], first_line: int, base: int) -> Iterator[str]:
         data, delimiter = given.data, self._layout.delimiter
         number = line_numbers(data)  # type: ignore[arg-type]
         name = _cell(given.name, delimiter)
@@ -133,25 +133,25 @@ class Table:
             cells = [name, '' if first is None else str(number(first) + first_line - 1)]
             places = iter(row)
             for start, end in zip(places, places):
-                cells += ('', '', '') if start < 0 else (str(start), str(end), _cell(_shown(data[start:end]), delimiter))
+                cells += ('', '', '') if start < 0 else (str(start + base), str(end + base), _cell(_shown(data[start:end]), delimiter))
             yield delimiter.join(cells) + '\n'
 
-    def _chosen(self, given: Given, rows: Iterable[Row], first_line: int) -> Iterator[str]:
+    def _chosen(self, given: Given, rows: Iterable[Row], first_line: int, base: int) -> Iterator[str]:
         data, delimiter = given.data, self._layout.delimiter
         number = line_numbers(data)  # type: ignore[arg-type]
-        told: Sequence[int] = Characters(data) if self._layout.is_in_characters else range(len(data) + 1)  # type: ignore[arg-type, assignment]
-        makers = [self._maker(name, given, number, told, first_line) for name in self._names]
+        told: Any = Characters(data) if self._layout.is_in_characters else range(base, base + len(data) + 1)  # type: ignore[arg-type]
+        makers = [self._maker(name, given, lambda place: number(place) + first_line - 1, told) for name in self._names]
         for row in rows:
             yield delimiter.join([maker(row) for maker in makers]) + '\n'
 
-    def _maker(self, name: str, given: Given, number: Callable[[int], int], told: Sequence[int], first_line: int) -> Callable[[Row], str]:
+    def _maker(self, name: str, given: Given, number: Callable[[int], int], told: Any) -> Callable[[Row], str]:
         """What makes the cells of a column."""
         data, delimiter = given.data, self._layout.delimiter
         if name == 'document':
             shown = _cell(given.name, delimiter)
             return lambda row: shown
         if name == 'line':
-            return lambda row: '' if _first(row) is None else str(number(_first(row)) + first_line - 1)  # type: ignore[arg-type]
+            return lambda row: '' if _first(row) is None else str(number(_first(row)))  # type: ignore[arg-type]
         if name in self._query.variables:
             at = 2 * self._query.variables.index(name)
             return lambda row: '' if row[at] < 0 else _cell(_shown(data[row[at]:row[at + 1]]), delimiter)

@@ -15,7 +15,7 @@ if TYPE_CHECKING:
     from .convert import Command
     from .sequences import Site
 
-__all__ = ['DOCUMENT_FORMS', 'Form', 'layout_of', 'refuse']
+__all__ = ['DOCUMENT_FORMS', 'Drawn', 'Form', 'layout_of', 'refuse']
 
 
 def refuse(message: str) -> NoReturn:
@@ -92,6 +92,35 @@ class _Tsv(_Csv):
     delimiter = '\t'
 
 
+class Drawn:
+    """So many of a list of any length, each with the same chance; the same ones for the same seed.
+
+    >>> drawn = Drawn(2, 7)
+    >>> drawn.add('abcde')
+    >>> drawn.in_order()
+    ['a', 'd']
+    """
+
+    def __init__(self, most: int, seed: int) -> None:
+        from random import Random
+        self._most = most
+        self._chance = Random(seed)
+        self._kept: List[Tuple[int, Any]] = []
+        self._seen = 0
+
+    def add(self, found: Iterable[Any]) -> None:
+        """Goes on with more of the list."""
+        for one in found:
+            place = self._seen if self._seen < self._most else self._chance.randrange(self._seen + 1)
+            if place < self._most:
+                self._kept[place:place + 1] = [(self._seen, one)]
+            self._seen += 1
+
+    def in_order(self) -> List[Any]:
+        """Those that were drawn, in the order of the list."""
+        return [one for _, one in sorted(self._kept, key=lambda kept: kept[0])]
+
+
 class _Kwic(Form):
     def __init__(self, command: 'Command') -> None:
         super().__init__(command)
@@ -103,11 +132,7 @@ class _Kwic(Form):
         self.label = max(map(len, self.command.names)) + 7
         self.is_text = self.given.sort is None and self.given.sample is None
         self.found: List[Context] = []
-        if self.given.sample is not None:
-            from random import Random
-            self.chance = Random(self.given.sample)
-            self.drawn: List[Tuple[int, Context]] = []
-            self.seen = 0
+        self.drawn = None if self.given.sample is None else Drawn(self.given.most, self.given.sample)
 
     def of(self, found: Given) -> Any:
         contexts = concordance(self.query, found, self.command.rows(found), self.name, self.columns)
@@ -117,21 +142,17 @@ class _Kwic(Form):
         return context.shown(self.columns, self.label, is_coloured=self.command.is_coloured) + '\n'
 
     def take(self, part: Part, value: List[Context]) -> Iterable[str]:
-        if self.given.sample is None:
+        if self.drawn is None:
             self.found += value
-            return ()
-        for context in value:  # each line is among the drawn ones with the same chance
-            place = self.seen if self.seen < self.given.most else self.chance.randrange(self.seen + 1)
-            if place < self.given.most:
-                self.drawn[place:place + 1] = [(self.seen, context)]
-            self.seen += 1
+        else:
+            self.drawn.add(value)
         return ()
 
     def end(self) -> Iterable[str]:
         if self.is_text:
             return
-        if self.given.sample is not None:
-            self.found = [context for _, context in sorted(self.drawn, key=lambda drawn: drawn[0])]
+        if self.drawn is not None:
+            self.found = self.drawn.in_order()
         yield from map(self.shown, islice(sorted_contexts(self.found, self.given.sort), self.given.most))
 
 
@@ -142,9 +163,10 @@ class _Lines(Form):
         super().__init__(command)
         if self.given.others and self.given.around:
             refuse('-v writes all other lines, so there are none around them: drop -C')
-        self.is_first = True
+        self.is_first = True  # whether nothing is written yet
 
     def of(self, found: Given) -> Iterator[str]:
+        is_begun = False
         data: bytes = found.data  # type: ignore[assignment]
         name = f'{found.name}:' if len(self.command.names) > 1 else ''
         around, is_coloured = self.given.around or 0, self.command.is_coloured
@@ -154,8 +176,8 @@ class _Lines(Form):
                 return
             if self.left is not None and is_counted:
                 self.left -= 1
-            gap = '--\n' if around and line.is_behind_a_gap and not self.is_first else ''
-            self.is_first = False
+            gap = '--\n' if around and not self.is_first and (line.is_behind_a_gap or not is_begun) else ''
+            self.is_first, is_begun = False, True
             place = name + (f'{line.number}:' if self.given.line_numbers else '')
             yield f'{gap}{place if is_counted else place.replace(":", "-")}{line.text(data, is_coloured=is_coloured)}\n'
 

@@ -60,9 +60,10 @@ def _touched(data: bytes, rows: Iterable[Row], *, keep: bool = False) -> Iterato
             start = data.rfind(b'\n', 0, extent[0]) + 1
             if start == len(data):
                 continue  # behind the last line feed is no line
-            if held is not None:
-                yield held
-            held = _Touched(start, _line_end(data, extent), [])
+            if held is None or start >= held.end:  # else at the end of a last line without a line feed
+                if held is not None:
+                    yield held
+                held = _Touched(start, _line_end(data, extent), [])
         if keep:
             held.spans.extend(zip(row[::2], row[1::2]))
     if held is not None:
