@@ -146,14 +146,13 @@ class _Reader:
         """What a formula is written out to, in pieces with their places."""
         pieces: List[Tuple[bytes, int, bool]] = []
         at = 0
-        if self.parts:
-            for use in _USE.finditer(atom.text):
-                if use[2] is None:
-                    self.refuse_in_class(use, atom)
-                    continue
-                pieces += self.plain(atom, at, use.start(), is_both_cases)
-                pieces += self.used(use, atom, is_both_cases)
-                at = use.end()
+        for use in _USE.finditer(atom.text):
+            if use[2] is None:
+                self.refuse_in_class(use, atom)
+                continue
+            pieces += self.plain(atom, at, use.start(), is_both_cases)
+            pieces += self.used(use, atom, is_both_cases)
+            at = use.end()
         return pieces + self.plain(atom, at, len(atom.text), is_both_cases)
 
     def refuse_in_class(self, use: 're.Match[bytes]', atom: Atom) -> None:

@@ -2,11 +2,13 @@
 from __future__ import annotations
 
 import os
+import pickle
+import signal
 import sys
 import tempfile
 from collections import deque
 from io import StringIO
-from typing import Any, Callable, Deque, Iterator, NamedTuple, Optional, Sequence, Tuple
+from typing import Any, Callable, Deque, Iterator, List, NamedTuple, Optional, Sequence, Tuple
 
 from .faults import ProgramError, RematchError
 from .match import Row
@@ -18,7 +20,7 @@ from ._reach import NoReach
 __all__ = ['Part', 'PieceOfDocument', 'done_in_order', 'parts_of_documents', 'read_aside', 'written_aside']
 
 _LEAST = 4_000_000  # bytes of a document that is taken in pieces, and of a piece
-_AHEAD = 2  # pieces of work for each process that are begun before their turn
+_TOGETHER, _MOST = 1_000_000, 64  # bytes of small documents that one process does, and how many
 
 
 class Part(NamedTuple):
@@ -73,21 +75,68 @@ class _Done(NamedTuple):
     value: Any
     notes: str
     fault: Optional[Exception]
+    errno: Optional[int]  # of the fault, which is lost on the way from another process
 
 
-_work: Optional[Callable[[Part], Any]] = None  # of the processes, which have it from the one that they come from
-
-
-def _do(part: Part) -> _Done:
-    assert _work is not None
+def _do(part: Part, work: Callable[[Part], Any]) -> _Done:
     told, sys.stderr = sys.stderr, StringIO()
     try:
-        value, fault = _work(part), None
+        value, fault = work(part), None
     except (RematchError, NoReach, OSError) as found:
         value, fault = None, found
     finally:
         notes, sys.stderr = sys.stderr.getvalue(), told
-    return _Done(value, notes, fault)
+    return _Done(value, notes, fault, getattr(fault, 'errno', None))
+
+
+class _Batch:
+    """Some parts, which a process of its own does, and what it has made of them."""
+
+    def __init__(self, parts: Sequence[Part], work: Callable[[Part], Any]) -> None:
+        self.parts = parts
+        self._file = tempfile.TemporaryFile(prefix='rematch-')
+        self._process = os.fork()
+        if not self._process:
+            status = 1
+            try:
+                pickle.dump([_do(part, work) for part in parts], self._file)
+                self._file.flush()
+                status = 0
+            finally:
+                os._exit(status)  # whatever happens, the child is no second one of the process that it comes from
+
+    def done(self) -> Sequence[_Done]:
+        """What was made of each part; it waits for the process."""
+        process, self._process = self._process, 0
+        if os.waitpid(process, 0)[1]:
+            raise ProgramError('a process of the command was ended from outside')
+        self._file.seek(0)
+        found: Sequence[_Done] = pickle.load(self._file)
+        self._file.close()
+        return found
+
+    def drop(self) -> None:
+        """Ends the process, where it is not over."""
+        if self._process:
+            os.kill(self._process, signal.SIGTERM)
+            os.waitpid(self._process, 0)
+            self._process = 0
+        self._file.close()
+
+
+def _batches(parts: Iterator[Part]) -> Iterator[List[Part]]:
+    """The parts, small documents together; standard input, which only the process itself can read, by itself."""
+    batch: List[Part] = []
+    size = 0
+    for part in parts:
+        length = 0 if part.name == '-' else part.piece.end - part.piece.start if part.piece else os.path.getsize(part.name) if os.path.isfile(part.name) else 0
+        if batch and (part.name == '-' or batch[-1].name == '-' or len(batch) == _MOST or size + length > _TOGETHER):
+            yield batch
+            batch, size = [], 0
+        batch.append(part)
+        size += length
+    if batch:
+        yield batch
 
 
 def done_in_order(parts: Iterator[Part], jobs: int, work: Callable[[Part], Any]) -> Iterator[Tuple[Part, Any, Optional[Exception]]]:
@@ -96,34 +145,30 @@ def done_in_order(parts: Iterator[Part], jobs: int, work: Callable[[Part], Any])
     >>> list(done_in_order(iter([Part('ab'), Part('c')]), 2, lambda part: len(part.name)))
     [(Part(name='ab', piece=None), 2, None), (Part(name='c', piece=None), 1, None)]
     """
-    global _work
-    from concurrent.futures import Future, ProcessPoolExecutor
-    from concurrent.futures.process import BrokenProcessPool
-    from multiprocessing import get_context
-    _work = work
-    begun: 'Deque[Tuple[Part, Optional[Future[_Done]]]]' = deque()
-    pool = ProcessPoolExecutor(jobs, mp_context=get_context('fork'))
+    begun: 'Deque[Tuple[Sequence[Part], Optional[_Batch]]]' = deque()
+    batches = _batches(parts)
+    sys.stdout.flush()
     try:
         while True:
-            while len(begun) < jobs * (1 + _AHEAD):
-                part = next(parts, None)
-                if part is None:
+            while len(begun) < jobs:
+                batch = next(batches, None)
+                if batch is None:
                     break
-                begun.append((part, pool.submit(_do, part) if part.name != '-' else None))  # standard input is of this process alone
+                begun.append((batch, None if batch[0].name == '-' else _Batch(batch, work)))
             if not begun:
                 return
-            part, future = begun.popleft()
-            done = _do(part) if future is None else future.result()
-            sys.stderr.write(done.notes)
-            yield part, done.value, done.fault
-    except BrokenProcessPool:
-        raise ProgramError('a process of the command was ended from outside') from None
+            batch, process = begun[0]
+            found = [_do(part, work) for part in batch] if process is None else process.done()
+            begun.popleft()
+            for part, done in zip(batch, found):
+                sys.stderr.write(done.notes)
+                if done.errno is not None:
+                    done.fault.errno = done.errno  # type: ignore[union-attr]
+                yield part, done.value, done.fault
     finally:
-        for _, future in begun:
-            if future is not None:
-                future.cancel()
-        pool.shutdown()
-        _work = None
+        for _, process in begun:
+            if process is not None:
+                process.drop()
 
 
 def written_aside(pieces: Iterator[str]) -> str:

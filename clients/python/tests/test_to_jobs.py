@@ -5,7 +5,7 @@ import unittest
 from unittest import mock
 
 import rematch
-from rematch import to_jobs, to_small
+from rematch import convert, to_jobs, to_small
 from support import Folder, children, needs_speed
 from commands import asked
 
@@ -15,6 +15,9 @@ DNA = b'>r\nACGATC\nGATCAC\n>s\nGATCGATC\n'
 class Jobs(Folder):
     def setUp(self):
         super().setUp()
+        runs_alone = mock.patch.object(convert, '_MANY', 99)
+        runs_alone.start()
+        self.addCleanup(runs_alone.stop)
         self.names = [self.file('d%d' % k, ''.join('%d a%d b\n' % (j, (j * k) % 7) for j in range(40 * k))) for k in range(5)]
         self.names += [self.file('p', gzip.compress(b'a1 b\na2 b')), self.file('u', b'a1 b\xff a\xe9')]
 
@@ -32,9 +35,11 @@ class Jobs(Folder):
             self.assertEqual(self.same(form, *words)[0], 0)
 
     def test_pieces_of_one_document(self):
+        one = [self.file('one', b'1 a1 b\n2 a2 b\n' * 6)]
         for form, words in (('csv', ()), ('count', ()), ('freq', ()), ('kwic', ('--sort', 'left')), ('kwic', ('--sample', '3', '-n', '5'))):
-            for query in (r'/!x{a\d} [^\n]*\n[^\n]*!y{b}/', r'/!x{b\n?}/', r'/!x{a[^c]*}b\n$/'):
-                self.same(form, *words, query=query, names=[self.file('one', b'1 a1 b\n2 a2 b\n' * 6)], sizes=(20,))
+            self.same(form, *words, query=r'/!x{a\d} [^\n]*\n[^\n]*!y{b}/', names=one, sizes=(20,))
+        for query in (r'/!x{b\n?}/', r'/!x{b}\n$/', r'/!x{a\d [^c]*b}\n$/'):  # the second and third have no reach, and are done whole
+            self.same('count', query=query, names=one, sizes=(20,))
         self.assertEqual(asked('csv', '-n', '3', '--jobs', '2', '-e', '/!x{a}/', self.names[3])[1].count('\n'), 4)
 
     def test_sequences(self):
@@ -45,7 +50,7 @@ class Jobs(Folder):
     def test_faults(self):
         gone = os.path.join(self.folder, 'gone')
         status, out, told = self.same('count', names=[self.names[1], gone, self.folder, self.names[2]], sizes=(60,))
-        self.assertEqual((status, out.count('\n'), told.count('\n')), (1, 3, 2))
+        self.assertEqual((status, out.count('\n'), told.count('\n'), out.splitlines()[-1].endswith(' total')), (1, 3, 2, True))
         self.assertEqual(asked('csv', '--jobs', '2', '-e', '/!x{a}/', gone)[0], 5)
         self.assertEqual(self.same('count', query='/!x{(a{1000}){20}}/', sizes=(1 << 40,))[0], 4)
 
@@ -71,14 +76,15 @@ class Jobs(Folder):
             self.assertEqual(sorted(os.listdir(self.folder)), before)
 
     def test_forms_that_take_no_jobs(self):
-        for form in ('html', 'ann', 'any', 'check', 'follow'):
+        for form in ('html', 'ann', 'any', 'follow'):
             status, _, told = asked(form, '--jobs', '2', '-e', '/!x{a}/', self.names[0])
             self.assertEqual((status, '--jobs is of csv' in told), (2, True), form)
 
 
 class Small(Folder):
-    DATA = (b'', b'a', b'aab\n', 'éa'.encode(), b'a\xff', b'b' * 70000 + b'a', b'a\0a"\\\x1f', b'\xe2\x80\xa8a')
+    DATA = (b'', b'a', b'aab\n', 'éa'.encode(), b'a\xff', b'b' * 99 + b'a', b'a\0a"\\\x1f', b'\xe2\x80\xa8a')
 
+    @mock.patch.object(to_small, '_SMALL', 90)
     def test_rows_are_those_of_runs(self):
         for text in ('/!x{a+}/', '/!x{a}|b/', '/a/', r'/^!x{.}/u'):
             plain, small = rematch.Query(text), to_small.SmallDocuments(text)
@@ -107,14 +113,14 @@ class Small(Folder):
         small.close()
 
     def test_one_program_for_all(self):
-        names = [self.file('d%d' % k, b'a' * k) for k in range(12)]
+        names = [self.file('d%d' % k, b'a' * k) for k in range(9)]
         with mock.patch.object(rematch.program.Run, '_start', side_effect=rematch.program.Run._start) as runs:
-            self.assertEqual(asked('count', '-e', '/!x{a}/', *names)[1].splitlines()[-1], '66 total')
+            self.assertEqual(asked('count', '-e', '/!x{a}/', *names)[1].splitlines()[-1], '36 total')
         self.assertEqual(runs.call_count, 1, 'the run that reads the query')
         self.assertEqual(children(), [])
         with mock.patch.object(rematch.program.Run, '_start', side_effect=rematch.program.Run._start) as runs:
             asked('count', '--max-table', '1000', '-e', '/!x{a}/', *names)
-        self.assertEqual(runs.call_count, 13)
+        self.assertEqual(runs.call_count, 10)
 
 
 if __name__ == '__main__':
