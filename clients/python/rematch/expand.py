@@ -168,7 +168,7 @@ class _Reader:
         part = self.parts.get(use[2])
         if part is None:
             fault = QueryError(f'query: unknown name at {place}', 3, self.found.source)
-            fault.hint = f'there is no part {use[2].decode()} before it, and %{{..}} uses one: for the signs themselves write \\%{{'
+            fault.hint = f'there is no part {use[2].decode()} before it, and %{{..}} uses one: the sign itself is \\{{'
             raise fault
         if part.atom.is_over_characters and not atom.is_over_characters:
             fault = QueryError(f'query: unexpected at {place}', 3, self.found.source)
