@@ -261,7 +261,7 @@ class _Places(Form):
     def sites(self, found: Given) -> Iterator['Site']:
         """The sites of a document, by record and place where that is asked for."""
         from .sequences import in_order, once, sites
-        data = found.data[:]
+        data: bytes = found.data  # type: ignore[assignment]
         self.tell_letters(found.name, data)
         every = sites(self.query, data, both=not self.given.forward, left_out=self.left_out(found))
         if self.given.strand_once:
