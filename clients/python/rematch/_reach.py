@@ -80,7 +80,8 @@ class _Query:
             self.take()
         most = self.expression().most  # tests of spans behind it reach nowhere
         if most == _NO_END:
-            raise NoReach('a repeat has no end' if self.are_bytes else 'a repeat over line feeds has no end, as of [^"]* or (.|\\n)*')
+            raise NoReach('a repeat has no end' if self.are_bytes
+                          else 'a repeat over line feeds has no end, as of [^"]* or (.|\\n)*')
         return int(most)
 
     def expression(self) -> _Sized:

@@ -50,7 +50,8 @@ class Command:
         self.name: Optional[str] = None  # of the document that is read
         self.has_failed = False  # whether a document could not be read, where there are several
         self.status = 0
-        self.is_coloured = given.color == 'always' or (given.color in (None, 'auto') and out.isatty() and not os.environ.get('NO_COLOR'))
+        self.is_coloured = given.color == 'always' or (given.color in (None, 'auto') and out.isatty()
+                                                       and not os.environ.get('NO_COLOR'))
         self.expansion: Expanded = expanded(read_source(given))
         if given.form == 'check' and given.expanded:
             return
@@ -185,7 +186,8 @@ class Command:
         for name in self.names:
             with self.guarded(name):
                 found = self.opened(Part(name))
-                if found.document is not None and self.query.any(found.document) or (found.document is None and any(True for _ in found.rows(self.query))):
+                if found.document is not None and self.query.any(found.document) or (found.document is None
+                                                                                     and any(True for _ in found.rows(self.query))):
                     self.has_failed = False
                     return
         self.status = 5 if self.has_failed else 1
@@ -247,7 +249,8 @@ class Command:
 
     def run(self) -> None:
         """Writes all that is asked for; a fault has the name of its document."""
-        others: Dict[str, Callable[[], None]] = {'any': self.any, 'ann': self.ann, 'html': self.html, 'follow': self.follow, 'check': self.check}
+        others: Dict[str, Callable[[], None]] = {'any': self.any, 'ann': self.ann, 'html': self.html, 'follow': self.follow,
+                                                 'check': self.check}
         try:
             if self.given.form in others:
                 others[self.given.form]()
@@ -271,7 +274,8 @@ def main(words: Optional[Iterable[str]] = None) -> int:
     def run() -> None:
         if hasattr(sys.stdout, 'reconfigure'):
             sys.stdout.reconfigure(encoding='utf-8', errors='surrogateescape', newline='\n')
-        out: TextIO = open(str(given.out), 'w', encoding='utf-8', errors='surrogateescape', newline='\n') if to_file else sys.stdout
+        out: TextIO = open(str(given.out), 'w', encoding='utf-8', errors='surrogateescape',
+                           newline='\n') if to_file else sys.stdout
         try:
             with Progress() as progress:
                 command = Command(given, out, progress)

@@ -13,7 +13,8 @@ __all__ = ['doubts_of', 'oddity_of']
 _SEEN = 1 << 20  # bytes of a document that are looked at
 _SEQUENCE = re.compile(rb'>[^\n]*\n[A-Za-z*.-]{20,}\r?\n[A-Za-z*.-]+')
 _MARKS = re.compile('[\u0300-\u036f]')
-_PACKED = ((b'PK\x03\x04', 'zip'), (b'\x28\xb5\x2f\xfd', 'zstd'), (b'\x1f\x9d', 'compress'), (b'7z\xbc\xaf', '7z'), (b'\x04\x22\x4d\x18', 'lz4'))
+_PACKED = ((b'PK\x03\x04', 'zip'), (b'\x28\xb5\x2f\xfd', 'zstd'), (b'\x1f\x9d', 'compress'), (b'7z\xbc\xaf', '7z'),
+           (b'\x04\x22\x4d\x18', 'lz4'))
 _UNPACKED_BY = {'zip': 'unzip -p', 'zstd': 'zstdcat', 'compress': 'zcat', '7z': '7z x -so', 'lz4': 'lz4cat'}
 
 
@@ -64,7 +65,8 @@ def doubts_of(data: bytes, query: Query, *, is_sequence: bool = False) -> List[s
         return []
     told = []
     if _SEQUENCE.match(head):
-        told.append('it is wrapped as FASTA is: a place over two lines is not found, nor one of the other strand; bed, gff and fasta search '
+        told.append('it is wrapped as FASTA is: a place over two lines is not found, nor one of the other strand; bed, gff and '
+                    'fasta search '
                     'its records')
     if not query.text.isascii() or any(atom.is_over_characters for atom in atoms_of(query.text)):
         told += _of_characters(head, query.text)

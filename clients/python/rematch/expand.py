@@ -260,7 +260,8 @@ def _other_case(low: int, high: int) -> bytes:
 
 # -- Letters of sequences
 
-_MEANS = {b'R': b'AG', b'Y': b'CTU', b'S': b'CG', b'W': b'ATU', b'K': b'GTU', b'M': b'AC', b'B': b'CGTU', b'D': b'AGTU', b'H': b'ACTU',
+_MEANS = {b'R': b'AG', b'Y': b'CTU', b'S': b'CG', b'W': b'ATU', b'K': b'GTU', b'M': b'AC', b'B': b'CGTU', b'D': b'AGTU',
+          b'H': b'ACTU',
           b'V': b'ACG', b'N': b'ACGTU'}
 
 

@@ -2,7 +2,8 @@
 
 Records of a strand are one document, each on a line of its own with a line feed before and behind it, so one run searches
 many. A long record is searched in windows, which overlap by the most that a row of the query can cover, so that its rows
-are those of the whole and one strand of it is held. A line of a file of sequences is wrapped anywhere and may be in small letters, which hides places from a
+are those of the whole and one strand of it is held. A line of a file of
+sequences is wrapped anywhere and may be in small letters, which hides places from a
 search of the file as it is.
 """
 from __future__ import annotations
@@ -12,13 +13,14 @@ from bisect import bisect_right
 from typing import Callable, Dict, Iterable, Iterator, List, NamedTuple, Optional, Sequence, TextIO, Tuple
 from urllib.parse import quote
 
-from .documents import MOST_BYTES, Document
+from .documents import MOST_BYTES
 from .faults import DocumentError
 from .match import Row
 from .query import Query
 from ._reach import NoReach, length_of_printed
 
-__all__ = ['GFF_HEAD', 'Record', 'Site', 'are_proteins', 'bed_lines', 'each_record', 'fasta_lines', 'frame_of', 'gff_lines', 'has_anchor', 'in_order', 'once',
+__all__ = ['GFF_HEAD', 'Record', 'Site', 'are_proteins', 'bed_lines', 'each_record', 'fasta_lines', 'frame_of', 'gff_lines',
+           'has_anchor', 'in_order', 'once',
            'other_strand', 'records_of', 'sites', 'write_bed', 'write_gff']
 
 _BATCH = 64_000_000  # bytes of records that one run searches
@@ -194,14 +196,15 @@ def _sites_of(query: Query, records: Sequence[Record], strand: str) -> Iterator[
 
 
 def _sites_of_long(query: Query, record: Record, strand: str) -> Iterator[Optional[Site]]:
-    """The sites of a long record, in windows where the query has a bound; else in one run, which takes so many bytes and no more."""
+    """The sites of a long record, in windows where the query has a bound; else in one run, which takes so many bytes at most."""
     total = len(record.letters) + 2
     try:
         most: Optional[int] = length_of_printed(query.printed.encode())
     except NoReach as reason:
         if total > MOST_BYTES:
             fault = DocumentError(f'document longer than {MOST_BYTES} bytes', 6)
-            fault.hint = (f'the record {record.name} has {len(record.letters)} letters, which windows could search, but {reason}: give it one, as in '
+            fault.hint = (f'the record {record.name} has {len(record.letters)} letters, which windows could search, but '
+                          f'{reason}: give it one, as in '
                           f'[ACGT]{{0,1000}}')
             raise fault from None
         most = None
@@ -300,7 +303,7 @@ def fasta_lines(found: Iterable[Site], names: Sequence[str]) -> Iterator[str]:
 
 
 def once(found: Iterable[Site]) -> Iterator[Site]:
-    """The sites without those of the other strand whose spans stand at the places of one of the forward strand, as palindromes do.
+    """The sites without those of the other strand whose spans have the places of one of the forward strand, as palindromes do.
 
     >>> [site.strand for site in once(sites(Query('/!x{GATC|GAT}/'), b'>r\\nGATC\\n'))]
     ['+', '+', '-']

@@ -13,7 +13,8 @@ from .match import Row
 from .packed import Given
 from .query import Query
 
-__all__ = ['Characters', 'Context', 'Layout', 'Table', 'concordance', 'extent_of', 'line_numbers', 'sorted_contexts', 'write_annotations']
+__all__ = ['Characters', 'Context', 'Layout', 'Table', 'concordance', 'extent_of', 'line_numbers', 'sorted_contexts',
+           'write_annotations']
 
 
 def line_numbers(data: bytes) -> Callable[[int], int]:
@@ -111,7 +112,8 @@ class Table:
             self._names = every if layout.columns is None else layout.columns
         missing = next((name for name in self._names if name not in every), None)
         if missing is not None:
-            raise ValueError(f'there is no column {missing!r}: there are {", ".join(every)}' + ('' if around else ', and with --context left and right'))
+            raise ValueError(f'there is no column {missing!r}: there are {", ".join(every)}' + ('' if around
+                                                                                                else ', and with --context left and right'))
         if layout.middle is not None and layout.middle not in query.variables:
             raise ValueError(f'the query has no variable {layout.middle}')
         self._is_usual = list(self._names) == every and not around and not layout.is_in_characters
@@ -133,13 +135,15 @@ class Table:
             cells = [name, '' if first is None else str(number(first) + first_line - 1)]
             places = iter(row)
             for start, end in zip(places, places):
-                cells += ('', '', '') if start < 0 else (str(start + base), str(end + base), _cell(_shown(data[start:end]), delimiter))
+                cells += ('', '', '') if start < 0 else (str(start + base), str(end + base),
+                                                         _cell(_shown(data[start:end]), delimiter))
             yield delimiter.join(cells) + '\n'
 
     def _chosen(self, given: Given, rows: Iterable[Row], first_line: int, base: int) -> Iterator[str]:
         data, delimiter = given.data, self._layout.delimiter
         number = line_numbers(data)  # type: ignore[arg-type]
-        told: Any = Characters(data) if self._layout.is_in_characters else range(base, base + len(data) + 1)  # type: ignore[arg-type]
+        told: Any = Characters(data) if self._layout.is_in_characters else range(base,
+                                                                                 base + len(data) + 1)  # type: ignore[arg-type]
         makers = [self._maker(name, given, lambda place: number(place) + first_line - 1, told) for name in self._names]
         for row in rows:
             yield delimiter.join([maker(row) for maker in makers]) + '\n'
@@ -210,7 +214,8 @@ def coloured(text: str) -> str:
 
 def _flat(text: str) -> str:
     """The text on one line."""
-    return ''.join(sign if sign.isprintable() or unicodedata.category(sign) == 'Cf' else '·' for sign in re.sub(r'\s+', ' ', text))
+    return ''.join(sign if sign.isprintable() or unicodedata.category(sign) == 'Cf' else '·'
+                   for sign in re.sub(r'\s+', ' ', text))
 
 
 def _width(sign: str) -> int:

@@ -223,7 +223,8 @@ class _Freq(Form):
 
     def __init__(self, command: 'Command') -> None:
         super().__init__(command)
-        self.names: Sequence[str] = self.query.variables if self.given.var is None else [name.strip() for name in self.given.var.split(',')]
+        self.names: Sequence[str] = self.query.variables if self.given.var is None else [name.strip()
+                                                                                         for name in self.given.var.split(',')]
         missing = next((name for name in self.names if name not in self.query.variables), None)
         if missing is not None:
             refuse(f'the query has no variable {missing}: it has {", ".join(self.query.variables) or "none"}')
@@ -277,7 +278,8 @@ class _Places(Form):
         letters = b'' if is_protein or self.given.iupac else open_letters(self.query.text)
         if letters:
             shown = ' '.join(letters.decode())
-            self.command.tell(f'{name}: the query has {shown} as plain letter{"s" if len(letters) > 1 else ""}: --iupac has each stand for what it means')
+            self.command.tell(f'{name}: the query has {shown} as plain letter{"s" if len(letters) > 1 else ""}: --iupac has '
+                              'each stand for what it means')
 
     def left_out(self, found: Given) -> Any:
         def tell(rows: int) -> None:
@@ -307,5 +309,6 @@ class _Fasta(_Places):
         return fasta_lines(self.sites(found), self.query.variables)
 
 
-DOCUMENT_FORMS: Dict[str, Type[Form]] = {'csv': _Csv, 'tsv': _Tsv, 'kwic': _Kwic, 'lines': _Lines, 'count': _Count, 'freq': _Freq, 'bed': _Bed,
+DOCUMENT_FORMS: Dict[str, Type[Form]] = {'csv': _Csv, 'tsv': _Tsv, 'kwic': _Kwic, 'lines': _Lines, 'count': _Count, 'freq': _Freq,
+                                         'bed': _Bed,
                                          'gff': _Gff, 'fasta': _Fasta}

@@ -1,4 +1,4 @@
-"""Documents, and pieces of long ones, side by side: each in a process of its own, what they write in the order of the documents."""
+"""Documents, and pieces of long ones, side by side: each in a process of its own, with the output in the order of documents."""
 from __future__ import annotations
 
 import os
@@ -53,7 +53,7 @@ class PieceOfDocument(Given):
 
 
 def parts_of_documents(names: Sequence[str], jobs: int, lines: Optional[int]) -> Iterator[Part]:
-    """The documents as pieces of work; where the query has a reach (``lines``) a long file is cut, so that each process has some of it."""
+    """The documents as pieces of work; where the query has a reach (``lines``) a long file is cut, so that all processes share it."""
     from .documents import packed_by
     for name in names:
         if lines is None or name == '-' or not os.path.isfile(name) or os.path.getsize(name) < 2 * _LEAST:
@@ -124,12 +124,19 @@ class _Batch:
         self._file.close()
 
 
+def _length(part: Part) -> int:
+    """The bytes of a part; 0 where that is not known before it is read."""
+    if part.piece is not None:
+        return part.piece.end - part.piece.start
+    return os.path.getsize(part.name) if part.name != '-' and os.path.isfile(part.name) else 0
+
+
 def _batches(parts: Iterator[Part]) -> Iterator[List[Part]]:
     """The parts, small documents together; standard input, which only the process itself can read, by itself."""
     batch: List[Part] = []
     size = 0
     for part in parts:
-        length = 0 if part.name == '-' else part.piece.end - part.piece.start if part.piece else os.path.getsize(part.name) if os.path.isfile(part.name) else 0
+        length = _length(part)
         if batch and (part.name == '-' or batch[-1].name == '-' or len(batch) == _MOST or size + length > _TOGETHER):
             yield batch
             batch, size = [], 0
@@ -139,7 +146,8 @@ def _batches(parts: Iterator[Part]) -> Iterator[List[Part]]:
         yield batch
 
 
-def done_in_order(parts: Iterator[Part], jobs: int, work: Callable[[Part], Any]) -> Iterator[Tuple[Part, Any, Optional[Exception]]]:
+def done_in_order(parts: Iterator[Part], jobs: int, work: Callable[[Part], Any]) -> Iterator[Tuple[Part, Any,
+                                                                                                   Optional[Exception]]]:
     """What ``work`` gives for each part, or its fault, in the order of the parts; so many processes work at once.
 
     >>> list(done_in_order(iter([Part('ab'), Part('c')]), 2, lambda part: len(part.name)))

@@ -71,7 +71,7 @@ def _touched(data: bytes, rows: Iterable[Row], *, keep: bool = False) -> Iterato
 
 
 def _line_end(data: bytes, extent: _Span) -> int:
-    """The end of the last line of an extent, behind its line feed; a line feed at the extent's end is of the line that it ends."""
+    """The end of the last line of an extent, behind its line feed; a line feed at the extent's end belongs to the line before."""
     end = data.find(b'\n', max(extent[0], extent[1] - 1))
     return len(data) if end < 0 else end + 1
 
@@ -98,7 +98,7 @@ def _lines(data: bytes, start: int, end: int) -> Iterator[_Span]:
 
 
 class Shown(NamedTuple):
-    """A line that is shown: its number, from 1, its place, whether a row touches it, the spans in it, and whether lines are left out before it."""
+    """A line that is shown: its number from 1, its place, whether a row touches it, its spans, whether lines are left out before."""
 
     number: int
     start: int
@@ -138,7 +138,8 @@ def _feeds(data: bytes, start: int, end: int) -> int:
     return sum(data[at:min(end, at + _BLOCK)].count(b'\n') for at in range(start, end, _BLOCK))
 
 
-def shown_lines(given: Given, rows: Iterable[Row], around: int = 0, *, others: bool = False, keep: bool = False) -> Iterator[Shown]:
+def shown_lines(given: Given, rows: Iterable[Row], around: int = 0, *, others: bool = False,
+                keep: bool = False) -> Iterator[Shown]:
     """The lines that rows touch, with so many lines around them; with ``others`` the lines that none touches.
 
     With ``keep`` they have the spans of the rows.

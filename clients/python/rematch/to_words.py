@@ -19,7 +19,8 @@ FORMS: Dict[str, Form] = {
     'csv': Form('a table: document, line, and start, end and text of each variable',
                 "rematch-to csv -q failed.query auth.log* >failed.csv\n"
                 "rematch-to csv --columns user,address -q failed.query auth.log\n\n"
-                'A column is document, line, x_start, x_end or x (the text of the variable x), and left and right with --context. '
+                'A column is document, line, x_start, x_end or x (the text of the variable x), and left and right with '
+                '--context. '
                 'Places count bytes from 0, with --characters characters.'),
     'tsv': Form('the same with tabs', "rematch-to tsv --texts -q failed.query auth.log | cut -f 3 | sort -u"),
     'kwic': Form('a concordance of one variable', "rematch-to kwic --sort right -e '/[^\\w]!w{the}[^\\w]/' text.txt\n"
@@ -28,22 +29,30 @@ FORMS: Dict[str, Form] = {
     'lines': Form('the whole lines that a row touches', "rematch-to lines -C 2 -q failed.query auth.log\n\n"
                   'A line is written once, as it is, from the first span of a row to its last. -v writes all other lines. '
                   'A query without a capture is taken as if all of each formula were captured.'),
-    'any': Form('nothing; the status is 0 where a row is found and 1 where none is', "if rematch-to any -q failed.query auth.log; then echo found; fi\n\n"
+    'any': Form('nothing; the status is 0 where a row is found and 1 where none is',
+                "if rematch-to any -q failed.query auth.log; then echo found; fi\n\n"
                 'The status is that of the fault where no row is found and a document could not be read.'),
-    'freq': Form('how often each text of a variable occurs, the most frequent first', "rematch-to freq --var user -q failed.query auth.log*\n"
+    'freq': Form('how often each text of a variable occurs, the most frequent first',
+                 "rematch-to freq --var user -q failed.query auth.log*\n"
                  "rematch-to freq -n 10 --var user,address -q failed.query auth.log*\n\n"
                  'A row counts once. The table has the column count and one for each variable that --var names (all of them).'),
-    'bed': Form('places in the records of FASTA, from 0', "rematch-to bed --sorted -q two_sites.query reads.fasta | bedtools merge -i -"),
+    'bed': Form('places in the records of FASTA, from 0',
+                "rematch-to bed --sorted -q two_sites.query reads.fasta | bedtools merge -i -"),
     'gff': Form('the same as GFF3, from 1', 'rematch-to gff -q two_sites.query reads.fasta'),
-    'fasta': Form('the letters of each span in the records of FASTA', "rematch-to fasta --iupac -e '/!site{GGNCC}/' genome.fa.gz\n\n"
-                  'A span is a record RECORD:START-END(STRAND) VARIABLE, counted as in BED; of the other strand it has the letters of that strand.'),
+    'fasta': Form('the letters of each span in the records of FASTA',
+                  "rematch-to fasta --iupac -e '/!site{GGNCC}/' genome.fa.gz\n\n"
+                  'A span is a record RECORD:START-END(STRAND) VARIABLE, counted as in BED; of the other strand it has the '
+                  'letters of that strand.'),
     'ann': Form('annotations as brat has them, in characters', 'rematch-to ann -q of_the.query text.txt >text.ann'),
     'html': Form('a page with the rows over their documents', 'rematch-to html -q of_the.query text.txt -o page.html'),
     'count': Form('how many rows each document has', "rematch-to count --lines -e '/Failed/' auth.log*\n\n"
                   '--lines counts the lines that a row touches, as grep -c does.'),
-    'follow': Form('the rows of a file that grows, as they come', "rematch-to follow --texts -q failed.query /var/log/auth.log\n\n"
-                   'It begins at the end of the file (--from-start: at its start), and writes the table of csv, a line once each row is complete. '
-                   'A file that was cut or replaced is read from its start. It ends by Ctrl-C, or after --idle seconds without news.'),
+    'follow': Form('the rows of a file that grows, as they come',
+                   "rematch-to follow --texts -q failed.query /var/log/auth.log\n\n"
+                   'It begins at the end of the file (--from-start: at its start), and writes the table of csv, a line once '
+                   'each row is complete. '
+                   'A file that was cut or replaced is read from its start. It ends by Ctrl-C, or after --idle seconds without '
+                   'news.'),
     'check': Form('what the query is, and advice on it', "rematch-to check -q failed.query\n"
                   "rematch-to check --expanded -e '/error/i'\n\n"
                   'It takes the words of the program rematch too, and says what is wrong with them.'),
@@ -72,14 +81,19 @@ _OPTIONS = (
     _option('--jobs', _JOBS, type=int, metavar='N', help='so many documents, and pieces of long ones, side by side (1)'),
     _option('-n', _FIRST, dest='most', type=int, metavar='N', help='at most so many rows, lines or texts'),
     _option('--var', ('csv', 'tsv', 'kwic', 'freq', 'follow'), metavar='X',
-            help='kwic, --context: the variable in the middle (the first one); freq: the variables that are counted, by commas (all)'),
-    _option('--columns', (*_TABLES, 'kwic'), metavar='A,B', help='tables: these columns in this order; kwic: a number, the columns on either side (35)'),
+            help='kwic, --context: the variable in the middle (the first one); freq: the variables that are counted, by commas '
+                 '(all)'),
+    _option('--columns', (*_TABLES, 'kwic'), metavar='A,B',
+            help='tables: these columns in this order; kwic: a number, the columns on either side (35)'),
     _option('--texts', _TABLES, action='store_true', help='document, line and the texts alone'),
-    _option('--context', _TABLES, type=int, metavar='N', help='the columns left and right: so many characters around the row, or around --var'),
+    _option('--context', _TABLES, type=int, metavar='N',
+            help='the columns left and right: so many characters around the row, or around --var'),
     _option('--characters', _TABLES, action='store_true', help='places count characters'),
     _option('--sort', ('kwic',), choices=['left', 'right', 'word'], help='by the words before, behind, or by the text itself'),
-    _option('--sample', ('kwic',), type=int, metavar='SEED', help='draw the -n lines by chance, the same ones for the same number'),
-    _option('--color', ('lines', 'kwic'), choices=['auto', 'always', 'never'], help='colour for what was found (auto: on a terminal)'),
+    _option('--sample', ('kwic',), type=int, metavar='SEED',
+            help='draw the -n lines by chance, the same ones for the same number'),
+    _option('--color', ('lines', 'kwic'), choices=['auto', 'always', 'never'],
+            help='colour for what was found (auto: on a terminal)'),
     _option('-C', ('lines',), dest='around', type=int, metavar='N', help='so many lines before and behind, too'),
     _option('-v', ('lines',), dest='others', action='store_true', help='the lines that no row touches'),
     _option('--line-numbers', ('lines',), action='store_true', help='the number of each line before it'),
@@ -96,10 +110,13 @@ _OPTIONS = (
     _option('--version', (), action='store_true', help='which rematch-to this is, and which program it runs'),
 )
 
-_QUERY = ('The query may have comments (# to the end of the line), i behind the closing slash for both cases of ASCII letters, and named parts: '
+_QUERY = ('The query may have comments (# to the end of the line), i behind the closing slash for both cases of ASCII letters, '
+          'and named parts: '
           'part ip = /[\\d.]+/; is used in a formula as %%{ip}.')
-_ABOUT = ('Write the rows of a query in many documents. Documents that are packed by gzip, bzip2 or xz are unpacked, by their content. Without '
-          'a document, and as -, standard input is read. Where one of several documents cannot be read the others are, and the status is 1.')
+_ABOUT = ('Write the rows of a query in many documents. Documents that are packed by gzip, bzip2 or xz are unpacked, by their '
+          'content. Without '
+          'a document, and as -, standard input is read. Where one of several documents cannot be read the others are, and the '
+          'status is 1.')
 
 
 class Words(argparse.Namespace):
@@ -135,7 +152,8 @@ def _parser(form: Optional[str] = None) -> _Parser:
     parser.add_argument('-q', dest='name', metavar='NAME', help='a file that holds the query')
     for option in _OPTIONS:
         if form is None or not option.forms or form in option.forms:
-            of = ', '.join(option.forms) + ': ' if own is None and 0 < len(option.forms) < 4 and not option.words['help'].startswith(option.forms) else ''
+            is_told = own is None and 0 < len(option.forms) < 4 and not option.words['help'].startswith(option.forms)
+            of = ', '.join(option.forms) + ': ' if is_told else ''
             parser.add_argument(option.name, **{**option.words, 'help': of + option.words['help']})
     parser.add_argument('documents', nargs='*', metavar='DOC')
     return parser
@@ -143,7 +161,8 @@ def _parser(form: Optional[str] = None) -> _Parser:
 
 def _filled(text: str) -> str:
     import textwrap
-    return '\n'.join(textwrap.fill(line, 100, subsequent_indent='') if len(line) > 100 else line for line in text.replace('%%', '%').split('\n'))
+    return '\n'.join(textwrap.fill(line, 100, subsequent_indent='') if len(line) > 100 else line
+                     for line in text.replace('%%', '%').split('\n'))
 
 
 def _list_of_forms() -> str:
@@ -183,7 +202,8 @@ def read_words(words: Sequence[str]) -> Words:
 
 
 def _refuse_numbers(parser: _Parser, given: Words) -> None:
-    for name, value, least in (('-n', given.most, 0), ('--jobs', given.jobs, 1), ('-C', given.around, 0), ('--context', given.context, 0),
+    for name, value, least in (('-n', given.most, 0), ('--jobs', given.jobs, 1), ('-C', given.around, 0),
+                               ('--context', given.context, 0),
                                ('--most-rows', given.most_rows, 1), ('--idle', given.idle, 0)):
         if value is not None and value < least:
             parser.error(f'{name} is {least} or more, not {value}')
@@ -223,7 +243,8 @@ _OTHERS = {
     '-B': 'lines around: rematch-to lines -C N -e QUERY DOC', '-C': 'lines around: rematch-to lines -C N -e QUERY DOC',
     '-H': 'the name of the document: rematch-to csv -e QUERY DOC .. has it in each row', '-m': 'at most so many rows: -n N',
     '-V': 'there is no --version: rematch-to --version', '--version': 'there is no --version: rematch-to --version',
-    '-h': 'there is no --help: man rematch, or rematch-to --help', '--help': 'there is no --help: man rematch, or rematch-to --help',
+    '-h': 'there is no --help: man rematch, or rematch-to --help',
+    '--help': 'there is no --help: man rematch, or rematch-to --help',
     '--json': 'rows as JSON: -f json', '--csv': 'rows as CSV: rematch-to csv -e QUERY DOC ..',
 }
 _WITH_VALUE = ('-e', '-q', '-n', '-a', '-f', '--max-table', '--trial')
@@ -325,12 +346,14 @@ def hint_of_words(words: Sequence[str]) -> Optional[str]:
         if near:
             return f'is {near[0]} meant?'
         if plain and _looks_like_a_query(plain[0]):
-            return f'the form is the first word, and the query is given by -e: rematch-to csv -e {plain[0]!r} {" ".join(plain[1:]) or "DOC .."}'
+            others = ' '.join(plain[1:]) or 'DOC ..'
+            return f'the form is the first word, and the query is given by -e: rematch-to csv -e {plain[0]!r} {others}'
     if '-f' in words and words.index('-f') + 1 < len(words):
         return f'the form is the first word: rematch-to {words[words.index("-f") + 1]} -e QUERY DOC ..'
     for word in words:
         if word in _OTHERS and word not in ('-C', '-v', '-h', '--help', '--version') or word in ('-t', '-a'):
-            return _OTHERS.get(word, 'the texts alone: --texts' if word == '-t' else 'rows behind a cursor are of the program: rematch -a CURSOR')
+            return _OTHERS.get(word, 'the texts alone: --texts' if word == '-t'
+                               else 'rows behind a cursor are of the program: rematch -a CURSOR')
     if plain and plain[0] in FORMS and not {'-e', '-q'} & {word[:2] for word in words}:
         return _QUERY_FIRST % plain[1] if len(plain) > 1 else 'the query is given by -e TEXT or -q NAME'
     return None

@@ -36,13 +36,17 @@ class Doubts(Folder):
 
     def test_accents_as_signs_of_their_own(self):
         text = 'Bu\u0308rger b\n'.encode()
-        self.assertRegex(self.told(text, '-e', r'/r!x{\p{L}+} /u'), r'^d: accents stand in it as signs of their own: .*\(NFC\)\n$')
-        for query, data in (('/ !x{b}\\n/', text), ('/!x{u\u0308}/', text), (r'/!x{u\p{Mn}}/u', text), ('/!x{ü}/', 'Bürger'.encode())):
+        self.assertRegex(self.told(text, '-e', r'/r!x{\p{L}+} /u'),
+                         r'^d: accents stand in it as signs of their own: .*\(NFC\)\n$')
+        for query, data in (('/ !x{b}\\n/', text), ('/!x{u\u0308}/', text), (r'/!x{u\p{Mn}}/u', text),
+                            ('/!x{ü}/', 'Bürger'.encode())):
             self.assertEqual(self.told(data, '-e', query), '', query)
 
     def test_packed_and_utf16_are_told_with_rows(self):
-        for data, part in ((b'PK\x03\x04a', 'packed by zip.*unzip -p'), (b'\x28\xb5\x2f\xfda', 'packed by zstd.*zstdcat'), (b'\xff\xfea\0', 'UTF-16'),
-                           (b'\xfe\xff\0a', 'UTF-16'), (gzip.compress(gzip.compress(b'a', mtime=0), mtime=0), 'packed by gzip once more')):
+        for data, part in ((b'PK\x03\x04a', 'packed by zip.*unzip -p'), (b'\x28\xb5\x2f\xfda', 'packed by zstd.*zstdcat'),
+                           (b'\xff\xfea\0', 'UTF-16'),
+                           (b'\xfe\xff\0a', 'UTF-16'), (gzip.compress(gzip.compress(b'a', mtime=0), mtime=0),
+                                                        'packed by gzip once more')):
             self.assertRegex(self.told(data, '-e', '/!x{a}/'), '^d: it .*%s.*\n$' % part)
             self.assertRegex(self.told(data, '-e', '/!x{zz}/', form='count'), '^d: it .*%s.*\n$' % part)
 
@@ -74,7 +78,8 @@ class Sequences(Folder):
 
     def test_iupac(self):
         path = self.file('d', b'>r\nTTGACCTTGGRCCTT\n')
-        self.assertEqual(asked('fasta', '--forward', '--iupac', '-e', '/!x{GNCC}/', path), (0, '>r:2-6(+) x\nGACC\n>r:9-13(+) x\nGRCC\n', ''))
+        self.assertEqual(asked('fasta', '--forward', '--iupac', '-e', '/!x{GNCC}/', path),
+                         (0, '>r:2-6(+) x\nGACC\n>r:9-13(+) x\nGRCC\n', ''))
         self.assertEqual(asked('fasta', '--forward', '--quiet', '-e', '/!x{GNCC}/', path)[1], '')
         # A letter fits those that mean no more than it does: W is A or T, so R, which may be G, does not fit it.
         self.assertEqual(asked('count', '--iupac', '-e', '/!x{a}/', path)[0], 2)
@@ -87,10 +92,12 @@ class Several(Folder):
     def setUp(self):
         super().setUp()
         self.gone = os.path.join(self.folder, 'gone')
-        self.names = [self.file('a', b'>r\na\n'), self.gone, self.folder, self.file('b', b'>r\naa\n'), self.file('c', gzip.compress(b'>r\na' * 99)[:-9])]
+        self.names = [self.file('a', b'>r\na\n'), self.gone, self.folder, self.file('b', b'>r\naa\n'),
+                      self.file('c', gzip.compress(b'>r\na' * 99)[:-9])]
 
     def test_each_form(self):
-        for form, found in (('csv', ['a,', 'b,', 'b,']), ('count', ['1 a', '2 b', '3 total']), ('freq', ['3,a']), ('lines', ['a:a', 'b:aa']), ('kwic', ['a:2', 'b:2', 'b:2']),
+        for form, found in (('csv', ['a,', 'b,', 'b,']), ('count', ['1 a', '2 b', '3 total']), ('freq', ['3,a']),
+                            ('lines', ['a:a', 'b:aa']), ('kwic', ['a:2', 'b:2', 'b:2']),
                             ('html', ['a', 'b'])):
             status, out, told = asked(form, '-e', '/!x{a}/', *self.names)
             self.assertEqual(status, 1, form)

@@ -21,8 +21,10 @@ class Columns(Folder):
 
     def test_chosen(self):
         self.assertEqual(self.table('--columns', 'who,n'), [['who', 'n'], ['é', '10.0'], ['b,"c', '7']])
-        self.assertEqual(self.table('--columns', 'line, n_start ,document'), [['line', 'n_start', 'document'], ['1', '9', 'd'], ['2', '27', 'd']])
-        self.assertEqual(self.table('--texts'), [['document', 'line', 'n', 'who'], ['d', '1', '10.0', 'é'], ['d', '2', '7', 'b,"c']])
+        self.assertEqual(self.table('--columns', 'line, n_start ,document'),
+                         [['line', 'n_start', 'document'], ['1', '9', 'd'], ['2', '27', 'd']])
+        self.assertEqual(self.table('--texts'), [['document', 'line', 'n', 'who'], ['d', '1', '10.0', 'é'],
+                                                 ['d', '2', '7', 'b,"c']])
         self.assertEqual(self.table('-n', '1', '--texts')[1:], [['d', '1', '10.0', 'é']])
         self.assertEqual(self.table('-n', '0')[1:], [])
 
@@ -35,7 +37,8 @@ class Columns(Folder):
         for row, wide in zip(self.table()[1:], self.table('--characters')[1:]):
             for at in (2, 3, 5, 6):
                 self.assertEqual(int(wide[at]), len(data[:int(row[at])].decode()))
-        self.assertEqual([row[5:] for row in self.table('--columns', 'n_start,n,who,document,line,who_end', '--characters')], [['who_end'], ['17'], ['34']])
+        self.assertEqual([row[5:] for row in self.table('--columns', 'n_start,n,who,document,line,who_end', '--characters')],
+                         [['who_end'], ['17'], ['34']])
 
     def test_characters_of_long_texts(self):
         pick = random.Random(3)
@@ -46,19 +49,24 @@ class Columns(Folder):
             self.assertEqual(places[at], len([byte for byte in data[:at] if byte & 0xC0 != 0x80]))
 
     def test_context(self):
-        self.assertEqual(self.table('--context', '3', '--columns', 'left,n,right', '--var', 'n'), [['left', 'n', 'right'], ['om ', '10.0', ' to'], ['om ', '7', ' to']])
+        self.assertEqual(self.table('--context', '3', '--columns', 'left,n,right', '--var', 'n'),
+                         [['left', 'n', 'right'], ['om ', '10.0', ' to'], ['om ', '7', ' to']])
         self.assertEqual(self.table('--context', '3')[1][-2:], ['om ', ' x '])
         self.assertEqual(self.table('--context', '0', '--texts')[1][-2:], ['', ''])
         # Characters, and not bytes, are counted, and a character that is cut is none.
-        self.assertEqual(self.table('--context', '2', '--columns', 'left', text='ééé from 1 to b\n', query='/é é?!x{f}/u union /é !x{f}/u'), [['left'], ['é ']])
+        self.assertEqual(self.table('--context', '2', '--columns', 'left', text='ééé from 1 to b\n',
+                                    query='/é é?!x{f}/u union /é !x{f}/u'), [['left'], ['é ']])
 
     def test_absent(self):
         rows = self.table('--context', '1', '--var', 'x', text='ab', query='/(!x{a})?!y{b}/')
-        self.assertEqual([row[2:] for row in rows[1:]], [['0', '1', 'a', '1', '2', 'b', '', 'b'], ['', '', '', '1', '2', 'b', '', '']])
+        self.assertEqual([row[2:] for row in rows[1:]], [['0', '1', 'a', '1', '2', 'b', '', 'b'],
+                                                         ['', '', '', '1', '2', 'b', '', '']])
 
     def test_refusals(self):
-        for words, part in ((('--columns', 'n,whom'), "no column 'whom': there are document, line, n_start"), (('--columns', ''), "no column ''"), (('--columns', 'left'), 'with --context'),
-                            (('--context', '-1'), '0 or more'), (('--context', '3', '--var', 'q'), 'no variable q'), (('--var', 'n'), 'give --context N too')):
+        for words, part in ((('--columns', 'n,whom'), "no column 'whom': there are document, line, n_start"),
+                            (('--columns', ''), "no column ''"), (('--columns', 'left'), 'with --context'),
+                            (('--context', '-1'), '0 or more'), (('--context', '3', '--var', 'q'), 'no variable q'),
+                            (('--var', 'n'), 'give --context N too')):
             status, out, told = asked('csv', '-e', QUERY, *words, self.file('d', TEXT))
             self.assertEqual((status, out, part in told), (2, '', True), told)
 
@@ -98,7 +106,8 @@ class Samples(Folder):
         self.assertEqual(drawn, sorted(drawn, key=lambda line: line.split()[-1]))
         self.assertEqual(self.kwic('--sort', 'right', '-n', '2'), self.kwic('--sort', 'right')[:2])
         path = self.file('w', 'b a C ')
-        self.assertEqual([line.split()[1] for line in lines('kwic', '-e', '/!w{[A-Za-z]}/', '--columns', '1', '--sort', 'word', path)[0]], ['a', 'b', 'C'])
+        self.assertEqual([line.split()[1] for line in lines('kwic', '-e', '/!w{[A-Za-z]}/', '--columns', '1', '--sort', 'word',
+                                                            path)[0]], ['a', 'b', 'C'])
 
 
 if __name__ == '__main__':

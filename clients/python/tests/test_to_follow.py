@@ -13,8 +13,10 @@ from rematch.to_follow import Growing
 from support import PYTHON, Folder, needs_speed
 from commands import asked
 
-QUERIES = (r'/!x{a}b/', r'/!x{a}\n!y{b}/', r'/!x{a+}[^\n]*\n[^\n]*\n?!y{b}/', r'/!x{\n}/', r'/!x{}\n/', r'/!x{a}/ union /!y{b}\n/', r'/!x{a}[ab]!y{}/ join /!y{}b/',
-           r'/!x{a}/ minus /!x{a}b/', r'/!x{a}b?/ minus /!x{a}\nb/', r'/!x{a}/ minus /b\n!x{a}/', r'/!x{a[^b]?}/ minus /!x{a}(.|\n){0,2}b/',
+QUERIES = (r'/!x{a}b/', r'/!x{a}\n!y{b}/', r'/!x{a+}[^\n]*\n[^\n]*\n?!y{b}/', r'/!x{\n}/', r'/!x{}\n/',
+           r'/!x{a}/ union /!y{b}\n/', r'/!x{a}[ab]!y{}/ join /!y{}b/',
+           r'/!x{a}/ minus /!x{a}b/', r'/!x{a}b?/ minus /!x{a}\nb/', r'/!x{a}/ minus /b\n!x{a}/',
+           r'/!x{a[^b]?}/ minus /!x{a}(.|\n){0,2}b/',
            r'/(\n[^\n]*){0,2}!x{ab?}/')
 
 
@@ -64,7 +66,8 @@ class Followed(Folder):
     def follow(self, path, *words, query='/!x{a.}/'):
         """A process that follows, and what it has written, line by line."""
         code = 'import sys; sys.argv[0] = "rematch-to"; from rematch.__main__ import run; sys.exit(run())'
-        run = subprocess.Popen([sys.executable, '-c', code, 'follow', '--columns', 'line,x_start,x', '-e', query, '--quiet', *words, path], stdout=subprocess.PIPE,
+        run = subprocess.Popen([sys.executable, '-c', code, 'follow', '--columns', 'line,x_start,x', '-e', query, '--quiet',
+                                *words, path], stdout=subprocess.PIPE,
                                stderr=subprocess.PIPE, env=dict(os.environ, PYTHONPATH=PYTHON))
         self.addCleanup(self.ended, run)
         self.assertEqual(run.stdout.readline(), b'line,x_start,x\n')
@@ -107,7 +110,8 @@ class Followed(Folder):
 
     def test_a_file_that_grows_here(self):
         path = self.file('d', b'')
-        thread = threading.Thread(target=lambda: [time.sleep(0.3), self.grow(path, b'a1\n'), time.sleep(0.3), self.grow(path, 'aé\n'.encode())])
+        thread = threading.Thread(target=lambda: [time.sleep(0.3), self.grow(path, b'a1\n'), time.sleep(0.3),
+                                                  self.grow(path, 'aé\n'.encode())])
         thread.start()
         status, out, _ = asked('follow', '--idle', '3', '-e', '/!x{a.}/u', '--texts', path)
         thread.join()
@@ -119,7 +123,8 @@ class Followed(Folder):
 
     def test_refusals(self):
         path = self.file('d', b'')
-        for words, status, part in (((path, path), 2, 'one file'), ((path, '--characters'), 2, 'bytes'), ((path, '--columns', 'y'), 2, 'no column'),
+        for words, status, part in (((path, path), 2, 'one file'), ((path, '--characters'), 2, 'bytes'),
+                                    ((path, '--columns', 'y'), 2, 'no column'),
                                     ((os.path.join(self.folder, 'gone'),), 5, 'No such file'), ((self.folder,), 5, 'directory')):
             found, _, told = asked('follow', '--idle', '0', '-e', '/!x{a}/', *words)
             self.assertEqual((found, part in told), (status, True), told)

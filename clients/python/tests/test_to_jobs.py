@@ -31,14 +31,17 @@ class Jobs(Folder):
         return alone
 
     def test_each_form(self):
-        for form, words in (('csv', ()), ('tsv', ('--characters',)), ('count', ()), ('count', ('--lines',)), ('freq', ()), ('kwic', ()), ('lines', ('-C', '1'))):
+        for form, words in (('csv', ()), ('tsv', ('--characters',)), ('count', ()), ('count', ('--lines',)), ('freq', ()),
+                            ('kwic', ()), ('lines', ('-C', '1'))):
             self.assertEqual(self.same(form, *words)[0], 0)
 
     def test_pieces_of_one_document(self):
         one = [self.file('one', b'1 a1 b\n2 a2 b\n' * 6)]
-        for form, words in (('csv', ()), ('count', ()), ('freq', ()), ('kwic', ('--sort', 'left')), ('kwic', ('--sample', '3', '-n', '5'))):
+        for form, words in (('csv', ()), ('count', ()), ('freq', ()), ('kwic', ('--sort', 'left')),
+                            ('kwic', ('--sample', '3', '-n', '5'))):
             self.same(form, *words, query=r'/!x{a\d} [^\n]*\n[^\n]*!y{b}/', names=one, sizes=(20,))
-        for query in (r'/!x{b\n?}/', r'/!x{b}\n$/', r'/!x{a\d [^c]*b}\n$/'):  # the second and third have no reach, and are done whole
+        for query in (r'/!x{b\n?}/', r'/!x{b}\n$/',
+                      r'/!x{a\d [^c]*b}\n$/'):  # the second and third have no reach, and are done whole
             self.same('count', query=query, names=one, sizes=(20,))
         self.assertEqual(asked('csv', '-n', '3', '--jobs', '2', '-e', '/!x{a}/', self.names[3])[1].count('\n'), 4)
 
@@ -61,7 +64,8 @@ class Jobs(Folder):
 
     def test_standard_input_among_others(self):
         for jobs in ('1', '2'):
-            self.assertEqual(asked('count', '--jobs', jobs, '-e', '/!x{a}/', self.names[1], '-', self.names[1], stdin=b'aaa')[1].splitlines()[1], '3 -')
+            self.assertEqual(asked('count', '--jobs', jobs, '-e', '/!x{a}/', self.names[1], '-', self.names[1],
+                                   stdin=b'aaa')[1].splitlines()[1], '3 -')
 
     def test_a_process_that_is_ended_from_outside(self):
         def work(part):

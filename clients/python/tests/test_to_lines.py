@@ -19,7 +19,8 @@ class Lines(Folder):
         path = self.file('d', TEXT)
         for query in ('/!x{one}/', '/one/', '/one/ union /o!x{n}e/', '/ONE/i'):
             self.assertEqual(lines('lines', '-e', query, path)[0], ['alpha one', 'gamma one one', 'zeta one'], query)
-        self.assertEqual(lines('lines', '--line-numbers', '-e', '/one/', path)[0], ['1:alpha one', '4:gamma one one', '7:zeta one'])
+        self.assertEqual(lines('lines', '--line-numbers', '-e', '/one/', path)[0],
+                         ['1:alpha one', '4:gamma one one', '7:zeta one'])
         self.assertEqual(lines('lines', '-n', '2', '-e', '/one/', path)[0], ['alpha one', 'gamma one one'])
         self.assertEqual(lines('lines', '-n', '0', '-e', '/one/', path)[0], [])
         self.assertEqual(lines('lines', '-v', '-e', '/one/', path)[0], ['beta two', '', 'delta', 'epsilon'])
@@ -33,7 +34,8 @@ class Lines(Folder):
             self.assertEqual(file.read(), b'a\xff\xc3\r\n')
 
     def test_edges(self):
-        for data, query, wanted in ((b'', '/a*/', []), (b'\n', '/!x{}\\n/', ['']), (b'a', '/a/', ['a']), (b'a\n', '/\\n!x{}/', []), (b'a\nb', '/\\n!x{}/', ['b']),
+        for data, query, wanted in ((b'', '/a*/', []), (b'\n', '/!x{}\\n/', ['']), (b'a', '/a/', ['a']),
+                                    (b'a\n', '/\\n!x{}/', []), (b'a\nb', '/\\n!x{}/', ['b']),
                                     (b'a\n\nb\n', '/!x{\\n}\\n/', ['a']), (b'ab\nab\n', '/!x{a}b\\n!y{a}/', ['ab', 'ab'])):
             self.assertEqual(lines('lines', '--quiet', '-e', query, self.file('d', data))[0], wanted, (data, query))
 
@@ -45,31 +47,38 @@ class Lines(Folder):
             text = ''.join(pick.choice('ab\n\n') for _ in range(pick.randrange(40))) + pick.choice(['', 'a', 'b\n'])
             path = self.file('d', text)
             for words, same in (((), ()), (('-v',), ('-v',)), (('-C', '1'), ('-C', '1')), (('-C', '2'), ('-C', '2'))):
-                wanted = subprocess.run(['grep', '-n', *same, 'ab*a', path], stdout=subprocess.PIPE, universal_newlines=True).stdout.splitlines()
+                wanted = subprocess.run(['grep', '-n', *same, 'ab*a', path], stdout=subprocess.PIPE,
+                                        universal_newlines=True).stdout.splitlines()
                 self.assertEqual(lines('lines', '--line-numbers', *words, '-e', '/!x{ab*a}/', path)[0], wanted, (text, words))
 
     @needs('grep')
     def test_several_documents(self):
         names = [self.file('one', TEXT), self.file('two', b'no\nxx one\nno\n')]
         self.assertEqual(lines('lines', '-C', '1', '-e', '/one/', *names)[0],
-                         subprocess.run(['grep', '-C', '1', 'one', *names], stdout=subprocess.PIPE, universal_newlines=True).stdout.splitlines())
+                         subprocess.run(['grep', '-C', '1', 'one', *names], stdout=subprocess.PIPE,
+                                        universal_newlines=True).stdout.splitlines())
 
     def test_refusals(self):
-        for words, part in ((('-e', '/a/ join /b/'), 'put !name{..}'), (('-e', 'let x = /a/; x'), 'put !name{..}'), (('-v', '-C', '1', '-e', '/a/'), 'drop -C'),
+        for words, part in ((('-e', '/a/ join /b/'), 'put !name{..}'), (('-e', 'let x = /a/; x'), 'put !name{..}'),
+                            (('-v', '-C', '1', '-e', '/a/'), 'drop -C'),
                             (('-C', '-1', '-e', '/a/'), '-C is 0 or more')):
             status, out, told = asked('lines', *words, self.file('d', TEXT))
             self.assertEqual((status, out, part in told), (2, '', True), told)
 
     def test_colour(self):
         path = self.file('d', b'aab one\n')
-        self.assertEqual(lines('lines', '--color', 'always', '-e', '/!x{a+}b one/', '--quiet', path)[0], ['\x1b[1;31maa\x1b[mb one'])
-        self.assertEqual(lines('lines', '--color', 'always', '-e', '/aa!x{b} !y{o}ne/', path)[0], ['aa\x1b[1;31mb\x1b[m \x1b[1;31mo\x1b[mne'])
+        self.assertEqual(lines('lines', '--color', 'always', '-e', '/!x{a+}b one/', '--quiet', path)[0],
+                         ['\x1b[1;31maa\x1b[mb one'])
+        self.assertEqual(lines('lines', '--color', 'always', '-e', '/aa!x{b} !y{o}ne/', path)[0],
+                         ['aa\x1b[1;31mb\x1b[m \x1b[1;31mo\x1b[mne'])
         self.assertEqual(lines('lines', '-e', '/!x{b}/', path)[0], ['aab one'])
         self.assertIn('\x1b[1;31mb\x1b[m', lines('kwic', '--color', 'always', '-e', '/!x{b}/', path)[0][0])
 
     def test_captured(self):
-        for text, wanted in ((rb'/a/', rb'/!match{a}/'), (rb'/^a$/', rb'/^!match{a}$/'), (rb'/a\$/', rb'/!match{a\$}/'), (rb'/\^a/u', rb'/!match{\^a}/u'), (rb'/^/', rb'/^!match{}/'),
-                             (rb'/$/', rb'/!match{}$/'), (rb'/a|b/ union /\/c/', rb'/!match{a|b}/ union /!match{\/c}/'), (rb'/a/ minus /b/', None),
+        for text, wanted in ((rb'/a/', rb'/!match{a}/'), (rb'/^a$/', rb'/^!match{a}$/'), (rb'/a\$/', rb'/!match{a\$}/'),
+                             (rb'/\^a/u', rb'/!match{\^a}/u'), (rb'/^/', rb'/^!match{}/'),
+                             (rb'/$/', rb'/!match{}$/'), (rb'/a|b/ union /\/c/', rb'/!match{a|b}/ union /!match{\/c}/'),
+                             (rb'/a/ minus /b/', None),
                              (rb'project none (/!x{a}/)', None), (b'/a\\\\$/', b'/!match{a\\\\}$/')):
             self.assertEqual(to_lines.captured(text), wanted)
             if wanted is not None:
@@ -80,7 +89,8 @@ class Lines(Folder):
         pick = random.Random(6)
         for turn in range(300):
             data = bytes(pick.choice(b'ab\n') for _ in range(pick.randrange(14)))
-            rows = sorted({tuple(sorted((pick.randrange(len(data) + 1), pick.randrange(len(data) + 1)))) for _ in range(pick.randrange(5))})
+            rows = sorted({tuple(sorted((pick.randrange(len(data) + 1), pick.randrange(len(data) + 1))))
+                           for _ in range(pick.randrange(5))})
             starts = [0] + [at + 1 for at, byte in enumerate(data) if byte == 10]
             whole = [(start, (data + b'\n').index(b'\n', start)) for start in starts if start < len(data)]
             wanted = [k for k, (start, end) in enumerate(whole, 1)
@@ -94,7 +104,8 @@ class Any(Folder):
     def test_status(self):
         yes, no, gone = self.file('yes', b'xa'), self.file('no', b'x'), os.path.join(self.folder, 'gone')
         for query in ('/!x{a}/', '/a/'):
-            for names, status in (((yes,), 0), ((no,), 1), ((no, yes), 0), ((no, no, no), 1), ((gone, yes), 0), ((no, gone), 5), ((gone,), 5), ((no, no, gone, yes), 0)):
+            for names, status in (((yes,), 0), ((no,), 1), ((no, yes), 0), ((no, no, no), 1), ((gone, yes), 0), ((no, gone), 5),
+                                  ((gone,), 5), ((no, no, gone, yes), 0)):
                 self.assertEqual(asked('any', '-e', query, *names)[:2], (status, ''), (query, names))
         self.assertEqual(asked('any', '-e', '/a(/', yes)[0], 3)
         self.assertEqual(asked('any', '-e', '/a/', stdin=b'ba')[0], 0)
@@ -117,7 +128,8 @@ class Counts(Folder):
         self.assertEqual(lines('freq', '-e', '/(!x{a})?=/', '--quiet', one)[0], ['count,x', '2,a', '1,'])
 
     def test_freq_refuses(self):
-        for words, part in ((('-e', '/!x{a}/', '--var', 'y'), 'no variable y: it has x'), (('-e', '/a/', '--quiet'), 'no variables')):
+        for words, part in ((('-e', '/!x{a}/', '--var', 'y'), 'no variable y: it has x'),
+                            (('-e', '/a/', '--quiet'), 'no variables')):
             status, out, told = asked('freq', *words, self.file('d', b'a'))
             self.assertEqual((status, out, part in told), (2, '', True), told)
 

@@ -11,15 +11,23 @@ from commands import asked
 class Wrong(Folder):
     def test_what_is_told(self):
         for words, part in (
-                ((), 'all forms'), (('/error/', 'd.log'), "rematch-to csv -e '/error/' d.log"), (('cvs', '-e', '/a/'), 'is csv meant?'),
-                (('csv', '/a/', 'd'), "-e '/a/'"), (('csv', 'd'), '-e TEXT or -q NAME'), (('csv', '-e', '/a/', '-q', 'q'), 'not by both'),
-                (('-f', 'csv', '-e', '/a/'), 'the form is the first word'), (('csv', '-e', '/a/', '-f', 'csv'), 'the form is the first word: rematch-to csv'),
-                (('csv', '-c', '-e', '/a/'), 'rematch-to count'), (('csv', '-i', '-e', '/a/'), '/../i'), (('csv', '-r', '-e', '/a/', '.'), 'by find'),
-                (('csv', '-t', '-e', '/a/'), '--texts'), (('csv', '-e', '/a/', '--sort', 'left'), '--sort is of kwic, and not of csv'),
+                ((), 'all forms'), (('/error/', 'd.log'), "rematch-to csv -e '/error/' d.log"),
+                (('cvs', '-e', '/a/'), 'is csv meant?'),
+                (('csv', '/a/', 'd'), "-e '/a/'"), (('csv', 'd'), '-e TEXT or -q NAME'),
+                (('csv', '-e', '/a/', '-q', 'q'), 'not by both'),
+                (('-f', 'csv', '-e', '/a/'), 'the form is the first word'),
+                (('csv', '-e', '/a/', '-f', 'csv'), 'the form is the first word: rematch-to csv'),
+                (('csv', '-c', '-e', '/a/'), 'rematch-to count'), (('csv', '-i', '-e', '/a/'), '/../i'),
+                (('csv', '-r', '-e', '/a/', '.'), 'by find'),
+                (('csv', '-t', '-e', '/a/'), '--texts'), (('csv', '-e', '/a/', '--sort', 'left'),
+                                                          '--sort is of kwic, and not of csv'),
                 (('csv', '-e', '/a/', '-n', '-1'), '-n is 0 or more'), (('csv', '-e', '/a/', '-n', 'x'), 'invalid int'),
-                (('csv', '-e', '/a/', '--jobs', '0'), '--jobs is 1 or more'), (('csv', '-e', '/a/', '--max-table', '0'), '1 to 100000000'),
-                (('kwic', '-e', '/a/', '--columns', 'x'), 'a number'), (('kwic', '-e', '/!x{a}/', '--sample', '3'), 'give -n N too'),
-                (('csv', '-e', '/!x{a}/', '--texts', '--columns', 'x'), 'give one of them'), (('csv', '--what', '-e', '/a/'), '--what'),
+                (('csv', '-e', '/a/', '--jobs', '0'), '--jobs is 1 or more'),
+                (('csv', '-e', '/a/', '--max-table', '0'), '1 to 100000000'),
+                (('kwic', '-e', '/a/', '--columns', 'x'), 'a number'),
+                (('kwic', '-e', '/!x{a}/', '--sample', '3'), 'give -n N too'),
+                (('csv', '-e', '/!x{a}/', '--texts', '--columns', 'x'), 'give one of them'),
+                (('csv', '--what', '-e', '/a/'), '--what'),
                 (('csv', '-e'), 'expected one argument')):
             status, out, told = asked(*words)
             self.assertEqual((status, out), (2, ''), words)
@@ -30,15 +38,21 @@ class Wrong(Folder):
     def test_words_of_the_program(self):
         for words, part in (
                 (('--help',), 'rematch-to --help'), (('-h',), 'rematch-to --help'), (('--version',), 'rematch-to --version'),
-                (('-e', '/a/', 'one', 'two'), 'one document'), (('-f', 'csv', '-e', '/a/', 'd'), 'rematch-to csv'), (('-f=kwic', '-e=/a/'), 'rematch-to kwic'),
-                (('-c', '/a/', 'd'), 'rematch-to count'), (('-i', '/a/', 'd'), '[Aa]'), (('-o', 'out', '-e', '/a/'), '> NAME'), (('/a/', 'd'), "-e '/a/'"),
-                (('a.log',), "-e 'a.log'"), (('-n', '-1', '-e', '/a/'), '-n=VALUE'), (('-n=-1', '-e', '/a/'), "not '-1'"), (('-nx', '-e', '/a/'), "not 'x'"),
-                (('-e', '/a/', '-e', '/b/'), 'given once'), (('-e', '/a/', '-q', 'q'), 'not by both'), (('--serve', 'd'), 'alone'),
-                (('--explain', '-e', '/a/', 'd'), 'nothing is searched'), (('-q', '-'), 'standard input'), (('--color', '-e', '/a/'), 'no option --color'), ((), '-q NAME')):
+                (('-e', '/a/', 'one', 'two'), 'one document'), (('-f', 'csv', '-e', '/a/', 'd'), 'rematch-to csv'),
+                (('-f=kwic', '-e=/a/'), 'rematch-to kwic'),
+                (('-c', '/a/', 'd'), 'rematch-to count'), (('-i', '/a/', 'd'), '[Aa]'), (('-o', 'out', '-e', '/a/'), '> NAME'),
+                (('/a/', 'd'), "-e '/a/'"),
+                (('a.log',), "-e 'a.log'"), (('-n', '-1', '-e', '/a/'), '-n=VALUE'), (('-n=-1', '-e', '/a/'), "not '-1'"),
+                (('-nx', '-e', '/a/'), "not 'x'"),
+                (('-e', '/a/', '-e', '/b/'), 'given once'), (('-e', '/a/', '-q', 'q'), 'not by both'),
+                (('--serve', 'd'), 'alone'),
+                (('--explain', '-e', '/a/', 'd'), 'nothing is searched'), (('-q', '-'), 'standard input'),
+                (('--color', '-e', '/a/'), 'no option --color'), ((), '-q NAME')):
             self.assertIn(part, str(to_words.hint_of_program_words(words)), words)
 
     def test_words_that_the_program_takes(self):
-        for words in (('-e', '/a/'), ('-e=/a/', '-n2', 'd'), ('-q', 'q', '-f', 'json', '-t', '-a', 'start', '-'), ('--serve',), ('-e', '/a/', '--explain'),
+        for words in (('-e', '/a/'), ('-e=/a/', '-n2', 'd'), ('-q', 'q', '-f', 'json', '-t', '-a', 'start', '-'), ('--serve',),
+                      ('-e', '/a/', '--explain'),
                       ('-e', '/a/', '--trial', '7'), ('-q', '-', 'd'), ('--filter', '--max-table=5', '-e', '/a/', '--', '-d')):
             self.assertIsNone(to_words.hint_of_program_words(words), words)
 
@@ -46,7 +60,8 @@ class Wrong(Folder):
         plain = asked('check', '-e', '/!x{a}/')
         self.assertEqual(asked('check', '-f', 'json', '-n', '2', '-t', '-e', '/!x{a}/', 'd'), plain)
         self.assertEqual(asked('check', '-n2', '--trial=7', '-e', '/!x{a}/')[0], 2)
-        self.assertEqual(asked('check', '-e', '/a/', 'one', 'two')[::2], (2, 'rematch-to: a run takes one document: rematch-to csv takes several\n'))
+        self.assertEqual(asked('check', '-e', '/a/', 'one', 'two')[::2],
+                         (2, 'rematch-to: a run takes one document: rematch-to csv takes several\n'))
         self.assertEqual(asked('check', '-f', 'csv', '-e', '/!x{a}/')[0], 2)
         self.assertEqual(asked('check', '-c', '/a/', 'd')[0], 2)
 
@@ -69,7 +84,8 @@ class Help(unittest.TestCase):
             self.assertTrue(examples, form)
 
     def test_version(self):
-        self.assertEqual(asked('--version'), (0, 'rematch-to %s\nprogram %s\n' % (rematch.__version__, rematch.find_program()), ''))
+        self.assertEqual(asked('--version'), (0, 'rematch-to %s\nprogram %s\n' % (rematch.__version__, rematch.find_program()),
+                                              ''))
 
 
 class Advice(Folder):

@@ -9,7 +9,8 @@ from rematch._reach import NoReach, length_of_printed
 from support import Folder
 from commands import asked
 
-QUERIES = ('/!x{GATC}/', '/!x{A[CG]?}[ACGT]{0,3}!y{T}/', r'/\n!x{[ACGT]}/', r'/!x{[ACGU]}\n/', '/!x{A}/ minus /!x{A}C/', '/!x{A}/ minus /C!x{A}/', '/!x{A.}/ join /G!x{A.}T?/',
+QUERIES = ('/!x{GATC}/', '/!x{A[CG]?}[ACGT]{0,3}!y{T}/', r'/\n!x{[ACGT]}/', r'/!x{[ACGU]}\n/', '/!x{A}/ minus /!x{A}C/',
+           '/!x{A}/ minus /C!x{A}/', '/!x{A.}/ join /G!x{A.}T?/',
            '/!x{A}|!y{CG}/', '/!x{}A/', r'/!x{\n?A}/', '/(!x{A})?!y{C}/', '/!x{A(C|GT)}!y{}/')
 
 
@@ -44,7 +45,8 @@ class Windows(Folder):
         with mock.patch.object(sequences, 'MOST_BYTES', 40):
             with self.assertRaises(rematch.DocumentError) as caught:
                 self.found(query, data, 10)
-            self.assertEqual((caught.exception.status, 'the record r has 45 letters' in caught.exception.hint, 'a repeat has no end' in caught.exception.hint), (6, True, True))
+            self.assertEqual((caught.exception.status, 'the record r has 45 letters' in caught.exception.hint,
+                              'a repeat has no end' in caught.exception.hint), (6, True, True))
             self.assertEqual(len(self.found(rematch.Query('/!x{GA{1,9}}/'), data, 10, both=False)[0]), 18)
 
     def test_the_command(self):
@@ -58,7 +60,8 @@ class Windows(Folder):
                 self.assertEqual((status, 'hint: the record r' in told), (6, True))
 
     def test_length(self):
-        for text, wanted in (('/!x{a}/', 1), ('/!x{é|b}/u', 2), ('/(a|bcd){2,5}!x{}/', 15), ('/!x{a}/ join /!x{a}b/', 3), ('/!x{abc}/ minus /!x{abc}de/', 5),
+        for text, wanted in (('/!x{a}/', 1), ('/!x{é|b}/u', 2), ('/(a|bcd){2,5}!x{}/', 15), ('/!x{a}/ join /!x{a}b/', 3),
+                             ('/!x{abc}/ minus /!x{abc}de/', 5),
                              ('/!x{[^\\n]}\\n?/', 2), ('let w = /!x{ab}/; w join w', 4)):
             self.assertEqual(length_of_printed(rematch.Query(text).printed.encode()), wanted, text)
         for text in ('/!x{a*}/', '/!x{a{2,}}/', '/^!x{a}/', '/!x{a}/ join /!y{b}/'):
@@ -70,7 +73,8 @@ class Once(Folder):
     def test_palindromes_once(self):
         path = self.file('f', b'>r\nGATCAAGATT\n>s\nGATC\n')
         status, out, _ = asked('bed', '--strand-once', '-e', '/!x{GAT[CT]}/', path)
-        self.assertEqual([tuple(line.split('\t')[k] for k in (0, 1, 5)) for line in out.splitlines()], [('r', '0', '+'), ('r', '6', '+'), ('s', '0', '+')])
+        self.assertEqual([tuple(line.split('\t')[k] for k in (0, 1, 5)) for line in out.splitlines()],
+                         [('r', '0', '+'), ('r', '6', '+'), ('s', '0', '+')])
         self.assertEqual(asked('bed', '-e', '/!x{GAT[CT]}/', path)[1].count('\n'), 5)
         # Two variables that change places are one palindrome, too.
         self.assertEqual(asked('gff', '--strand-once', '-e', '/!a{GA}!b{TC}/', path)[1].count('\n'), 1 + 2 * 2)
