@@ -199,6 +199,8 @@ def follow(command: 'Command') -> None:
     from .to_small import SmallDocuments
     if len(command.names) != 1:
         refuse('follow takes one file: start it once for each')
+    if command.given.var is not None and command.given.context is None:
+        refuse('--var is for --context here: give --context N too')
     if command.given.characters:
         refuse('follow counts bytes: drop --characters')
     try:
