@@ -38,18 +38,24 @@ _rematch() {
     esac
 }
 
+_rematch_to_options=$(printf '%s ' \
+    -e -q -o --quiet --filter --max-table --jobs -n --var --columns --texts --context --characters --sort --sample \
+    --color -C -v --line-numbers --lines --forward --iupac --sorted --strand-once --frames --most-rows --expanded \
+    --from-start --idle --version --help)
+
 _rematch_to() {
     local word=${COMP_WORDS[COMP_CWORD]} before=${COMP_WORDS[COMP_CWORD-1]}
     COMPREPLY=()
     case $before in
         -q) _rematch_files -X '!*.query'; return ;;
         -o) _rematch_files; return ;;
-        --sort) _rematch_words 'left right'; return ;;
-        -e|--max-table|--var|--columns|--most-rows) return ;;
+        --sort) _rematch_words 'left right word'; return ;;
+        --color) _rematch_words 'auto always never'; return ;;
+        -e|--max-table|--jobs|-n|--var|--columns|--context|--sample|-C|--most-rows|--idle) return ;;
     esac
     case $word in
-        -*) _rematch_open '-e -q -o --filter --max-table --var --columns --sort --forward --sorted --frames --most-rows --help' ;;
-        *) if [[ $COMP_CWORD == 1 ]]; then _rematch_words 'csv tsv kwic bed gff ann html count check'; else _rematch_files; fi ;;
+        -*) _rematch_open "$_rematch_to_options" ;;
+        *) if [[ $COMP_CWORD == 1 ]]; then _rematch_words 'csv tsv kwic lines any freq bed gff fasta ann html count follow check'; else _rematch_files; fi ;;
     esac
 }
 

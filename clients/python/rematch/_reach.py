@@ -12,7 +12,7 @@ from typing import Dict, FrozenSet, List, NamedTuple, Optional
 
 from .formula import Atom, Part, parts_of, repeat_of
 
-__all__ = ['NoReach', 'reach_of_printed']
+__all__ = ['NoReach', 'length_of_printed', 'reach_of_printed']
 
 _TOKEN = re.compile(rb'\s*(?:(?P<atom>/(?:[^\\/]|\\.)*/)|(?P<word>[A-Za-z_]\w*)|(?P<sign>[();=,]))', re.S)
 _ESCAPES = {b'\\n': 10, b'\\t': 9, b'\\r': 13}
@@ -44,8 +44,22 @@ def reach_of_printed(printed: bytes) -> int:
     return _Query(printed).reach()
 
 
+def length_of_printed(printed: bytes) -> int:
+    r"""The most bytes that the fits of a row cover together; `NoReach` where there is no such number.
+
+    >>> length_of_printed(rb'/!x{a}b{0,3}(cd|e)/ join /!x{[a-z]}?f/')
+    8
+    >>> length_of_printed(rb'/!x{a*}/')
+    Traceback (most recent call last):
+      ...
+    rematch._reach.NoReach: a repeat has no end
+    """
+    return _Query(printed, are_bytes=True).reach()
+
+
 class _Query:
-    def __init__(self, printed: bytes) -> None:
+    def __init__(self, printed: bytes, *, are_bytes: bool = False) -> None:
+        self.are_bytes = are_bytes  # whether all bytes are counted, and not the line feeds alone
         self.tokens: List[bytes] = [found[0].strip() for found in _TOKEN.finditer(printed)]
         self.place = 0
         self.lets: Dict[bytes, _Sized] = {}
@@ -66,7 +80,8 @@ class _Query:
             self.take()
         most = self.expression().most  # tests of spans behind it reach nowhere
         if most == _NO_END:
-            raise NoReach('a repeat over line feeds has no end, as of [^"]* or (.|\\n)*')
+            raise NoReach('a repeat has no end' if self.are_bytes
+                          else 'a repeat over line feeds has no end, as of [^"]* or (.|\\n)*')
         return int(most)
 
     def expression(self) -> _Sized:
@@ -95,7 +110,7 @@ class _Query:
     def unit(self) -> _Sized:
         token = self.take()
         if token.startswith(b'/'):
-            return _Formula(token).sized()
+            return _Formula(token, self.are_bytes).sized()
         if token == b'(':
             found = self.expression()
             self.take()
@@ -112,7 +127,8 @@ class _Query:
 
 
 class _Formula:
-    def __init__(self, printed: bytes) -> None:
+    def __init__(self, printed: bytes, are_bytes: bool) -> None:
+        self.are_bytes = are_bytes
         self.parts = parts_of(Atom(printed[1:-1], 1, False))
         self.printed = printed
         self.place = 0
@@ -160,6 +176,8 @@ class _Formula:
             most = self.arms()
             self.place += 1
             return most
+        if self.are_bytes:
+            return 1.0
         if part.kind == 'class':
             return float(_has_line_feed(part.text))
         return float(part.kind != 'dot' and _byte(part.text) == _LINE_FEED)

@@ -6,7 +6,9 @@ from typing import Callable, List, NamedTuple, Optional, Sequence, Union
 
 from .formula import Atom, Part, atoms_of, parts_of, repeat_of
 
-__all__ = ['Advice', 'advise']
+__all__ = ['Advice', 'advise', 'is_of_rows']
+
+_NO_CAPTURE = 'there is no capture, so the answer is one row () or none: put !name{..} around what is wanted'
 
 
 class Advice(NamedTuple):
@@ -32,7 +34,7 @@ def advise(text: Union[str, bytes]) -> List[Advice]:
     found: List[Advice] = []
     atoms = [(atom, parts_of(atom)) for atom in atoms_of(query)]
     if not any(part.kind == 'capture' for _, parts in atoms for part in parts):
-        found.append(Advice(0, 'there is no capture, so the answer is one row () or none: put !name{..} around what is wanted'))
+        found.append(Advice(0, _NO_CAPTURE))
     # What another atom says of a capture's surroundings is not looked at, so nothing is said of them then.
     words = set(re.findall(rb'\w+', re.sub(rb'/(?:[^\\/]|\\.)*/', b'', query)))
     rules = [rule for rule in _RULES if rule not in _OF_ONE_ATOM or not words & {b'join', b'minus'}]
@@ -45,6 +47,15 @@ def advise(text: Union[str, bytes]) -> List[Advice]:
             if told is not None and told.message not in {advice.message for advice in found}:
                 found.append(told)
     return found
+
+
+def is_of_rows(advice: Advice) -> bool:
+    """Whether it speaks of how many rows there are, and not of whether there is one.
+
+    >>> [is_of_rows(advice) for advice in advise(r'/!x{\\w+}[^\\w]/')]
+    [True, False]
+    """
+    return advice.message == _NO_CAPTURE or ' is a row too: ' in advice.message
 
 
 _STRIPPED = re.compile(rb'/(?:[^\\/]|\\.)*/', re.S)
@@ -130,10 +141,19 @@ def _edges(atom: Atom, parts: Sequence[Part]) -> Optional[Advice]:
                   'found: add a union with ^ or $ in its place')
 
 
+_FIELD = re.compile(rb'[ ,;:=&]|\\[t|]|\|')  # what stands between fields; a class that leaves out ends of sentences is of texts
+_SENTENCE = re.compile(rb'[.!?]|\\[.wd]')
+_LETTERS = re.compile(rb'\[\^[A-Z]+\]')
+
+
 def _line_feeds(atom: Atom, parts: Sequence[Part]) -> Optional[Advice]:
-    for part, behind in zip(parts, parts[1:]):
-        is_field = part.kind == 'class' and part.text.startswith(b'[^') and re.search(rb' |\\t', part.text) is not None
-        if is_field and _is_open(behind) and not re.search(rb'\\n|\\s|\\x0[aA]|\n', part.text):
+    for part, behind in zip(parts, [*parts[1:], None]):
+        if part.kind != 'class' or not part.text.startswith(b'[^') or re.search(rb'\\n|\\s|\\x0[aA]|\n', part.text):
+            continue
+        if _LETTERS.fullmatch(part.text):
+            return Advice(part.offset, r'this class has the line feed too, so a place may go on over lines or records: add \n to it')
+        is_field = _FIELD.search(part.text, 2) is not None and _SENTENCE.search(part.text, 2) is None
+        if is_field and behind is not None and _is_open(behind):
             return Advice(part.offset, r'this class has the line feed too, so a field may go on over lines: add \n to it')
     return None
 

@@ -8,9 +8,17 @@ from typing import Callable
 from .faults import RematchError
 from ._reach import NoReach
 
-__all__ = ['run_told']
+__all__ = ['REFUSED', 'line_of', 'run_told']
 
-_REFUSED = 4  # of what has no reach, which is a refusal for its size
+REFUSED = 4  # of what has no reach, which is a refusal for its size
+
+
+def line_of(fault: Exception) -> str:
+    """What is told of a fault, with the name of its document before it."""
+    name = getattr(fault, 'filename', None)
+    errno = getattr(fault, 'errno', None)
+    told = f'no reach: {fault}' if isinstance(fault, NoReach) else os.strerror(errno) if errno else str(fault)
+    return f'{name}: {told}' if name and name not in told else told
 
 
 def run_told(run: Callable[[], None]) -> int:
@@ -19,13 +27,11 @@ def run_told(run: Callable[[], None]) -> int:
         run()
         sys.stdout.flush()
     except RematchError as fault:
-        name = getattr(fault, 'filename', None)
-        print(f'{name}: {fault}' if name and name not in str(fault) else fault, file=sys.stderr)
+        print(line_of(fault) if getattr(fault, 'errno', None) is None else fault, file=sys.stderr)
         return fault.status if fault.status and fault.status > 0 else 1
     except NoReach as fault:
-        name = getattr(fault, 'filename', None)
-        print(f'{name}: no reach: {fault}' if name else f'no reach: {fault}', file=sys.stderr)
-        return _REFUSED
+        print(line_of(fault), file=sys.stderr)
+        return REFUSED
     except BrokenPipeError:
         os.dup2(os.open(os.devnull, os.O_WRONLY), sys.stdout.fileno())  # nothing is left to be flushed at the end
         return 0

@@ -1,95 +1,135 @@
-"""``rematch-to``: the rows of many documents as CSV, TSV, a concordance, BED, GFF, annotations, a page or a count."""
+"""``rematch-to``: the rows of many documents as tables, lines, a concordance, places in sequences, annotations, a page, or counts."""
 from __future__ import annotations
 
-import argparse
 import os
 import sys
+from contextlib import contextmanager
 from itertools import islice
-from typing import TYPE_CHECKING, Callable, Dict, Iterator, List, Optional, TextIO, Tuple
+from typing import Any, Callable, Dict, Iterable, Iterator, List, Optional, TextIO, Tuple
 
-from .advice import advise
-from .command import run_told
+from .advice import advise, is_of_rows
+from .command import line_of, run_told
 from .documents import Document
-from .faults import DocumentError, RematchError
+from .expand import Expanded, expanded, with_iupac
+from .faults import DocumentError, OutOfMemory, QueryError, RematchError, SizeError
 from .match import Row
-from .packed import Given, doubt_of, given_document, oddity_of
+from .doubts import doubts_of, oddity_of
+from .packed import Given
 from .pieces import NoReach, reach
 from .progress import Progress
 from .query import Query
+from .to_forms import DOCUMENT_FORMS, Form, refuse
+from .to_jobs import Part, done_in_order, parts_of_documents, read_aside, written_aside
+from .to_words import Words, read_words
 
-if TYPE_CHECKING:
-    from .sequences import Site
+__all__ = ['Command', 'main']
 
-__all__ = ['main']
-
-_FORMS = {'csv': 'a table: document, line, and start, end and text of each variable', 'tsv': 'the same with tabs',
-          'kwic': 'a concordance of one variable', 'bed': 'places in the records of FASTA, from 0', 'gff': 'the same as GFF3, from 1',
-          'ann': 'annotations as brat has them, in characters', 'html': 'a page with the rows over their documents',
-          'count': 'how many rows each document has', 'check': 'what the query is, and advice on it'}
-
-
-def _parser() -> argparse.ArgumentParser:
-    parser = argparse.ArgumentParser(
-        prog='rematch-to', description='Write the rows of a query in many documents. Documents that are packed by gzip, bzip2 or xz are '
-        'unpacked, by their content. Without a document, and as -, standard input is read.',
-        epilog='Forms: ' + '; '.join(f'{name}, {what}' for name, what in _FORMS.items()) + '.')
-    parser.add_argument('form', choices=list(_FORMS))
-    query = parser.add_mutually_exclusive_group(required=True)
-    query.add_argument('-e', dest='text', metavar='TEXT', help='the query')
-    query.add_argument('-q', dest='name', metavar='NAME', help='a file that holds the query')
-    parser.add_argument('-o', dest='out', metavar='NAME', help='write there; for ann of several documents a folder')
-    parser.add_argument('--filter', action='store_true', help='read only where the query touches a document')
-    parser.add_argument('--max-table', type=int, metavar='W', help='the most that the table of a reading may weigh')
-    parser.add_argument('--var', metavar='X', help='kwic: the variable in the middle (the first one)')
-    parser.add_argument('--columns', type=int, default=35, metavar='N', help='kwic: columns on either side (35)')
-    parser.add_argument('--sort', choices=['left', 'right'], help='kwic: by the words before, or behind')
-    parser.add_argument('--forward', action='store_true', help='bed, gff: the forward strand alone')
-    parser.add_argument('--sorted', action='store_true', help='bed, gff: by record and place, as bedtools wants it (all rows are held)')
-    parser.add_argument('--frames', action='store_true', help='bed: the reading frame in the name')
-    parser.add_argument('--most-rows', type=int, default=5000, metavar='N', help='html: rows of each document (5000)')
-    parser.add_argument('documents', nargs='*', metavar='DOC')
-    return parser
+_MANY = 3  # documents, of which small ones are asked of one program
+_WHOLE = ('bed', 'gff', 'fasta', 'ann', 'follow', 'check')  # the forms that search otherwise
+_HEAD = 1 << 20  # bytes of a document that are looked at for what may hide rows
 
 
-class _Command:
+def read_source(given: Words) -> bytes:
+    """The text of the query, as it is given."""
+    if given.text is not None:
+        return given.text.encode('utf-8', 'surrogateescape')
+    if given.name == '-':
+        return sys.stdin.buffer.read()
+    with open(str(given.name), 'rb') as file:
+        return file.read()
+
+
+class Command:
     """One run of the command: its words, its query, where it writes, and how far it is."""
 
-    def __init__(self, given: argparse.Namespace, out: TextIO, progress: Progress) -> None:
+    def __init__(self, given: Words, out: TextIO, progress: Progress) -> None:
         self.given = given
         self.out = out
         self.progress = progress
-        self.query = self.read_query()
+        self.names: List[str] = given.documents or ['-']
         self.name: Optional[str] = None  # of the document that is read
-        self.fault: Optional[DocumentError] = None  # of the last document that could not be read
-        if self.given.form in ('csv', 'tsv', 'count') and not self.query.variables:
-            print('the query has no capture: its answer is one row where it fits, in however many places; put !name{..} around what is '
-                  'counted', file=sys.stderr)
+        self.has_failed = False  # whether a document could not be read, where there are several
+        self.status = 0
+        self.is_coloured = given.color == 'always' or (given.color in (None, 'auto') and out.isatty()
+                                                       and not os.environ.get('NO_COLOR'))
+        self.expansion: Expanded = expanded(read_source(given))
+        if given.form == 'check' and given.expanded:
+            return
+        self.query = self.read_query()
+        self.tell_advice()
 
     def read_query(self) -> Query:
-        words = {'filter': self.given.filter, 'max_table': self.given.max_table}
-        if self.given.text is not None:
-            return Query(self.given.text, **words)
-        if self.given.name == '-':
-            return Query(sys.stdin.buffer.read(), **words)
-        return Query.from_file(self.given.name, **words)
+        words = {'filter': bool(self.given.filter), 'max_table': self.given.max_table}
+        text = self.expansion.text
+        make = Query
+        if len(self.names) >= _MANY and not self.given.filter and self.given.max_table is None and self.given.form not in _WHOLE:
+            from .to_small import SmallDocuments
+            make = SmallDocuments
+        try:
+            query = make(text, **words)
+        except QueryError as fault:
+            raise self.expansion.fault(fault) from None
+        if self.given.iupac:
+            query = Query(with_iupac(text), **words)
+        if self.asks_for_lines() and not query.variables:
+            from .to_lines import captured
+            made = captured(text)
+            if made is None:
+                refuse('the query has no capture, so no row has a place: put !name{..} around what the lines have')
+            query = make(made, **words)
+        return query
 
-    def documents(self) -> Iterator[Given]:
-        names = self.given.documents or ['-']
-        for name in names:
-            self.name = name
-            try:
-                found = given_document(name)
-            except DocumentError as fault:
-                if len(names) == 1:
-                    raise
-                fault.filename = name
-                self.fault = fault  # told now, and the others are read
-                print(f'{name}: {fault}', file=sys.stderr)
-                continue
-            self.progress.begin(name, found.document)
-            yield found
+    def close(self) -> None:
+        """Ends what the command has begun."""
+        query = getattr(self, 'query', None)
+        if query is not None and type(query) is not Query:
+            query.close()
+
+    def asks_for_lines(self) -> bool:
+        return self.given.form == 'lines' or bool(self.given.lines)
+
+    def tell(self, line: str) -> None:
+        """Tells what a reader may not expect, where that is wanted."""
+        if not self.given.quiet:
+            print(line, file=sys.stderr)
+
+    def tell_advice(self) -> None:
+        if self.given.form == 'check':
+            return
+        is_told = self.given.form == 'count' and not self.query.variables
+        if is_told:
+            self.tell('advice at 0: the query has no capture, so the count is 1 or 0: put !name{..} around what is counted, or count lines by --lines')
+        are_rows_known = is_told or self.asks_for_lines() or self.given.form == 'any'
+        for advice in advise(self.expansion.text):
+            if not (are_rows_known and is_of_rows(advice)):
+                self.tell(f'advice at {self.expansion.origin(advice.offset)}: {advice.message}')
+
+    # -- Documents, one after another
+
+    @contextmanager
+    def guarded(self, name: str) -> Iterator[None]:
+        """Tells the fault of a document, and goes on with the next one, where there are several."""
+        self.name = name
+        try:
+            yield
+        except (DocumentError, OutOfMemory, SizeError, NoReach) as fault:
+            if len(self.names) == 1 or (isinstance(fault, SizeError) and 'table' not in fault.note):
+                raise
+            fault.filename = name  # type: ignore[union-attr]
+            print(line_of(fault), file=sys.stderr)
+            self.has_failed = True
+
+    def opened(self, part: Part) -> Given:
+        """The document of a part; what may hide its rows is told."""
+        found = part.given()
+        self.progress.begin(found.name, found.document)
+        if part.piece is None or part.piece.start == 0:
+            for doubt in doubts_of(found.data[:_HEAD], self.query, is_sequence=self.given.form in ('bed', 'gff', 'fasta')):
+                self.tell(f'{found.name}: {doubt}')
+        return found
 
     def rows(self, found: Given) -> Iterator[Row]:
+        """The rows of a document, each counted; where there is none it is told what may be the reason."""
         has_rows = False
         for row in self.progress.counted(found.rows(self.query)):
             has_rows = True
@@ -97,143 +137,156 @@ class _Command:
         self.tell_oddity(found, has_rows)
 
     def tell_oddity(self, found: Given, has_rows: bool) -> None:
-        """What may be the reason that a document has no row, on standard error."""
-        oddity = None if has_rows else oddity_of(found.data[:4096])
-        doubt = doubt_of(found.data[:1 << 16], self.query) if oddity is None else None
+        """What may be the reason that a document has no row."""
+        oddity = None if has_rows or type(found) is not Given else oddity_of(found.data[:4096])
         if oddity is not None:
-            print(f'{found.name}: no row, and {oddity}', file=sys.stderr)
-        elif doubt is not None:
-            print(f'{found.name}: {doubt}', file=sys.stderr)
+            self.tell(f'{found.name}: no row, and {oddity}')
 
-    # -- The forms
+    def documents(self, form: Form) -> None:
+        """Writes what the form makes of each document."""
+        self.out.write(form.head())
+        jobs = 1 if self.given.most is not None and form.is_text else self.given.jobs or 1
+        for part, value in self.values(form, jobs) if jobs > 1 else self.values_in_turn(form):
+            self.out.writelines(value if form.is_text else form.take(part, value))
+            if form.left == 0 and form.is_text:
+                break
+        self.out.writelines(form.end())
 
-    def csv(self, delimiter: str = ',') -> None:
-        from .tables import table_head, table_lines
-        self.out.write(table_head(self.query, delimiter))
-        for found in self.documents():
-            self.out.writelines(table_lines(self.query, found, self.rows(found), delimiter))
+    def values_in_turn(self, form: Form) -> Iterator[Tuple[Part, Any]]:
+        for name in self.names:
+            with self.guarded(name):
+                part = Part(name)
+                value = form.of(self.opened(part))
+                if form.is_text:
+                    self.out.writelines(value)  # here, so that a fault in the midst of it is this document's
+                    value = ()
+                yield part, value
 
-    def tsv(self) -> None:
-        self.csv('\t')
+    def values(self, form: Form, jobs: int) -> Iterator[Tuple[Part, Any]]:
+        """The same by several processes, which have long documents in pieces where the query has a reach."""
+        def work(part: Part) -> Any:
+            value = form.of(self.opened(part))
+            return written_aside(value) if form.is_text else value
 
-    def kwic(self) -> None:
-        from .tables import Context, concordance, sorted_contexts
-        name = self.given.var or (self.query.variables or ('',))[0]
-        if name not in self.query.variables:
-            print(f'rematch-to: the query has no variable{" " + name if name else "s"}', file=sys.stderr)
-            raise SystemExit(2)
-        columns = max(1, self.given.columns)
-        label = max(map(len, self.given.documents or ['-'])) + 7
+        lines: Optional[int] = None
+        if form.takes_pieces:
+            try:
+                lines = reach(self.query)
+            except NoReach:
+                pass  # each document is then done whole
+        for part, value, fault in done_in_order(parts_of_documents(self.names, jobs, lines), jobs, work):
+            with self.guarded(part.name):
+                if fault is not None:
+                    raise fault
+                yield part, read_aside(value) if form.is_text else value
 
-        def found() -> Iterator[Context]:
-            for document in self.documents():
-                yield from concordance(self.query, document, self.rows(document), name, columns)
+    # -- The other forms
 
-        for context in sorted_contexts(found(), self.given.sort):
-            self.out.write(context.shown(columns, label) + '\n')
-
-    def bed(self) -> None:
-        from .sequences import write_bed
-        for found in self.documents():
-            write_bed(self.progress.counted(self.sites(found)), self.query.variables, self.out, frames=self.given.frames)
-
-    def gff(self) -> None:
-        from .sequences import write_gff
-        for found in self.documents():
-            write_gff(self.progress.counted(self.sites(found)), self.query.variables, self.out)
-
-    def sites(self, found: Given) -> Iterator['Site']:
-        """The sites of a document, by record and place where that is asked for; of proteins it is told that they have no other strand."""
-        from .sequences import are_proteins, in_order, sites
-        data = found.data[:]
-        if not self.given.forward and are_proteins(data):
-            print(f'{found.name}: it has letters of proteins, which have no other strand: --forward leaves it out', file=sys.stderr)
-        every = sites(self.query, data, both=not self.given.forward, left_out=self.left_out(found))
-        return in_order(every, data) if self.given.sorted else every
-
-    def left_out(self, found: Given) -> Callable[[int], None]:
-        def tell(rows: int) -> None:
-            print(f'{found.name}: {rows} rows are left out, whose spans lie in several records or in none', file=sys.stderr)
-        return tell
+    def any(self) -> None:
+        for name in self.names:
+            with self.guarded(name):
+                found = self.opened(Part(name))
+                if found.document is not None and self.query.any(found.document) or (found.document is None
+                                                                                     and any(True for _ in found.rows(self.query))):
+                    self.has_failed = False
+                    return
+        self.status = 5 if self.has_failed else 1
+        self.has_failed = False
 
     def ann(self) -> None:
         from .tables import write_annotations
-        for found in self.documents():
-            try:
-                document = Document(found.whole().data[:].decode('utf-8'))
-            except UnicodeDecodeError as reason:
-                raise DocumentError(f'no UTF-8 at {reason.start}, and annotations count characters', 5) from None
-            if len(self.given.documents) > 1:
-                path = os.path.join(self.given.out, os.path.basename(found.name) + '.ann')
-                with open(path, 'w', encoding='utf-8') as out:
-                    write_annotations(self.query, document, out)
-            else:
-                write_annotations(self.query, document, self.out)
+        for name in self.names:
+            with self.guarded(name):
+                found = self.opened(Part(name))
+                try:
+                    document = Document(found.whole().data[:].decode('utf-8'))
+                except UnicodeDecodeError as reason:
+                    raise DocumentError(f'no UTF-8 at {reason.start}, and annotations count characters', 5) from None
+                if len(self.names) > 1:
+                    path = os.path.join(str(self.given.out), os.path.basename(name) + '.ann')
+                    with open(path, 'w', encoding='utf-8') as out:
+                        write_annotations(self.query, document, out)
+                else:
+                    write_annotations(self.query, document, self.out)
 
     def html(self) -> None:
         from .view import page
+        most = self.given.most_rows or 5000
 
         def sections() -> Iterator[Tuple[str, Document, List[Row], bool]]:
-            for found in self.documents():
-                rows = self.rows(found)
-                shown = list(islice(rows, self.given.most_rows))
-                is_cut = next(rows, None) is not None
-                if is_cut:
-                    print(f'{found.name}: the first {self.given.most_rows} rows alone; --most-rows asks for more', file=sys.stderr)
-                yield found.name, found.whole(), shown, is_cut
+            for name in self.names:
+                section: Optional[Tuple[str, Document, List[Row], bool]] = None
+                with self.guarded(name):
+                    found = self.opened(Part(name))
+                    whole = found.whole()
+                    rows = self.rows(found)
+                    shown = list(islice(rows, most))
+                    is_cut = next(rows, None) is not None
+                    if is_cut:
+                        print(f'{name}: the first {most} rows alone; --most-rows asks for more', file=sys.stderr)
+                    section = name, whole, shown, is_cut
+                if section is not None:
+                    yield section
 
-        names = ', '.join(self.given.documents) or '-'
-        self.out.writelines(page(sections(), self.query.variables, names))
+        self.out.writelines(page(sections(), self.query.variables, ', '.join(self.names)))
 
-    def count(self) -> None:
-        total = 0
-        for found in self.documents():
-            rows = found.count(self.query)
-            self.tell_oddity(found, rows > 0)
-            total += rows
-            self.out.write(f'{rows} {found.name}\n')
-        if len(self.given.documents) > 1:
-            self.out.write(f'{total} total\n')
+    def follow(self) -> None:
+        from .to_follow import follow
+        follow(self)
 
     def check(self) -> None:
+        if self.given.expanded:
+            text = self.expansion.text
+            self.out.write(text.decode('utf-8', 'surrogateescape') + ('' if text.endswith(b'\n') else '\n'))
+            return
         self.out.write(self.query.explanation)
         try:
             self.out.write(f'reach {reach(self.query)} line feeds\n')
         except NoReach as reason:
             self.out.write(f'no reach: {reason}\n')
-        for advice in advise(self.query.text):
-            self.out.write(f'advice at {advice.offset}: {advice.message}\n')
+        for advice in advise(self.expansion.text):
+            self.out.write(f'advice at {self.expansion.origin(advice.offset)}: {advice.message}\n')
+
+    def run(self) -> None:
+        """Writes all that is asked for; a fault has the name of its document."""
+        others: Dict[str, Callable[[], None]] = {'any': self.any, 'ann': self.ann, 'html': self.html, 'follow': self.follow,
+                                                 'check': self.check}
+        try:
+            if self.given.form in others:
+                others[self.given.form]()
+            else:
+                self.documents(DOCUMENT_FORMS[self.given.form](self))
+        except (RematchError, NoReach) as fault:
+            if getattr(fault, 'filename', None) is None:
+                fault.filename = self.name  # type: ignore[union-attr]
+            raise
 
 
-def main(words: Optional[List[str]] = None) -> int:
-    """Runs the command; the exit status is that of the program for its faults, and 2 for words that are refused."""
-    parser = _parser()
-    given = parser.parse_intermixed_args(words)
+def main(words: Optional[Iterable[str]] = None) -> int:
+    """Runs the command; the status is that of the program for its faults, 2 for words that are refused, and 1 where one of several
+    documents could not be read."""
+    given = read_words(list(sys.argv[1:] if words is None else words))
     if given.form == 'ann' and len(given.documents) > 1 and not (given.out and os.path.isdir(given.out)):
-        parser.error('ann of several documents needs -o FOLDER')
+        refuse('ann of several documents needs -o FOLDER')
     to_file = given.out is not None and not os.path.isdir(given.out)
+    found: List[int] = []
 
     def run() -> None:
         if hasattr(sys.stdout, 'reconfigure'):
-            sys.stdout.reconfigure(encoding='utf-8', newline='\n')
-        out: TextIO = open(given.out, 'w', encoding='utf-8', newline='\n') if to_file else sys.stdout
+            sys.stdout.reconfigure(encoding='utf-8', errors='surrogateescape', newline='\n')
+        out: TextIO = open(str(given.out), 'w', encoding='utf-8', errors='surrogateescape',
+                           newline='\n') if to_file else sys.stdout
         try:
             with Progress() as progress:
-                command = _Command(given, out, progress)
-                forms: Dict[str, Callable[[], None]] = {name: getattr(command, name) for name in _FORMS}
+                command = Command(given, out, progress)
                 try:
-                    forms[given.form]()
-                    is_whole = command.fault is None
-                except (RematchError, NoReach) as fault:
-                    fault.filename = command.name  # type: ignore[union-attr]
-                    raise
+                    command.run()
+                finally:
+                    command.close()
                 out.flush()
-            if not is_whole:
-                raise SystemExit(5)
+            found.append(1 if command.has_failed else command.status)
         finally:
             if out is not sys.stdout:
                 out.close()
 
-    return run_told(run)
-
-
+    return run_told(run) or (found[0] if found else 0)

@@ -49,7 +49,7 @@ HINTS: Tuple[Hint, ...] = (
     Hint(_UNEXPECTED, '/(?i)a/', 'there are no flags but u: list both letters, [Ff]', rb'\?[a-z]+[:)]'),
     Hint(_UNEXPECTED, '/*a/', 'a repeat has nothing before it; for the sign itself put a backslash before it', rb'[?*+{]'),
     Hint(_UNEXPECTED, '/a/g', 'u is the only flag, and every match is told without one: drop it', rb'[gmsx]+\s*\Z', rb'/'),
-    Hint(_UNEXPECTED, '/a/i', 'u is the only flag; for both letters write [Aa]', rb'[A-Za-z]+\s*\Z', rb'/'),
+    Hint(_UNEXPECTED, '/a/i', 'u is the only flag; for both letters write [Aa], as rematch-to does for an i', rb'[A-Za-z]+\s*\Z', rb'/'),
     Hint(_UNEXPECTED, '/usr/bin/', r'the formula ended at the slash before; a slash inside of a formula is \/', rb'[^\s;|&]',
          rb'/'),
     Hint(_UNEXPECTED, '/[[:alpha:]]/', r'a [ in a class is written \[; there are no [:alpha:]: with the sign u there is \p{Alphabetic}',
@@ -57,9 +57,11 @@ HINTS: Tuple[Hint, ...] = (
     Hint(_UNEXPECTED, '/[é]/', 'a class over bytes has ASCII alone: put u behind the closing slash', rb'[\x80-\xff]'),
     Hint(_UNEXPECTED, '/[]/', r'a class is not empty, and a ] in it is written \]', rb'\]', rb'\[\^?'),
     Hint(_UNEXPECTED, '/a]/', r'for the sign itself put a backslash before it: \] \) \}', rb'[])}]'),
+    Hint(_UNEXPECTED, '/!x{a}/ where x > 5', 'behind where stand tests alone, with commas between them, as in where luhn(x), upper(y); what else is asked '
+          'of a row is asked of its texts, by csv or in Python', b'', rb'\bwhere\b[^/;]*'),
     Hint(_UNEXPECTED, '/a/ AND /b/', _WORDS, _OTHER_WORDS),
     Hint(_UNEXPECTED, '/a/ | /b/', 'between atoms stands union for either and join for both; | is of a formula', rb'[|&]'),
-    Hint(_UNEXPECTED, '# failed', 'there are no comments in a query', rb'#|--|//'),
+    Hint(_UNEXPECTED, '# failed', 'there are no comments in a query; rematch-to leaves out what stands behind a #', rb'#|--|//'),
     Hint(_UNEXPECTED, '/a/;', 'a ; ends a let, and the query behind the lets has none', rb';'),
     Hint(_UNEXPECTED, '"a"', _SLASHES, rb"[\"'^\\.$!\d]"),
     Hint(_UNEXPECTED, 'let w = /a/;', 'the query ends too early: behind the lets stands what is asked, and each ( has its )', rb'\Z'),
@@ -107,6 +109,8 @@ HINTS: Tuple[Hint, ...] = (
     Hint('query: not UTF-8 at A', '', 'write the query as UTF-8, or drop the u and match bytes'),
     Hint('query: unknown property at A', r'/\p{Greek}/u', r'there are Alphabetic, general categories (Lu, Nd, ..) and L M N P S Z C; a script '
           r'is a range, [\u{370}-\u{3ff}]'),
+    Hint('query: unknown name at A', 'part ip = /a/; /b/', 'parts are written out by rematch-to and rematch-piece; the program has let, which names a '
+          'query and not a part of a formula', rb'part\s+\w+\s*='),
     Hint('query: unknown name at A', '/a/ join AND', _WORDS, _OTHER_WORDS),
     Hint('query: unknown name at A', 'failed', 'a formula stands between slashes, /../, and a name is that of a let before it'),
     Hint('query: name twice at A', 'let w = /a/; let w = /b/; w', 'two lets have this name: rename one'),
@@ -122,14 +126,16 @@ HINTS: Tuple[Hint, ...] = (
     Hint('query: no variable X to test', '/!x{a}/ where luhn(y)', 'the rows have no such variable: it is not captured, or projected away'),
     Hint('query: more than 32 variables', '', 'a name that stands in several atoms counts once: use fewer names'),
     Hint('query: longer than 65536 bytes', '', 'shorten the query'),
-    Hint('size: more than 20000 states', '/(a{1000}){20}/', 'repeat less: each copy of a repeated part counts'),
+    Hint('size: more than 20000 states', '/(a{1000}){20}/', 'repeat less: each copy of a repeated part counts; for the first one behind, within a distance, write '
+          '(pair minus between) join near'),
     Hint('size: more than 2000000 ways', '/((a?){1000}){3}/', 'fewer alternatives that may follow each other, or fewer captures of the empty '
           'part that may be left out beside each other'),
     Hint('size: filter past W', '', 'leave filter out, or raise W by max_table'),
     Hint('size: table past W', '', 'raise W by max_table, or say more of what stands before a long repeat'),
     Hint('read failed: query', '', 'the file is not there, is a folder, or cannot be read'),
     Hint('read failed: document', '', 'the file is not there, is a folder, or cannot be read'),
-    Hint('document longer than 268435456 bytes', '', 'take it in pieces: rematch.pieces, rematch-cut and rematch-piece'),
+    Hint('document longer than 268435456 bytes', '', 'rematch-to takes it in pieces, at line ends where the query has a reach, and '
+          'records of sequences by bed, gff and fasta; in Python rematch.pieces'),
     Hint('cursor: not a cursor', '', 'give the text as Match.cursor or Page.cursor gave it; in a shell put quotes around it'),
     Hint('cursor: other variables', '', 'the cursor is of a query with other variables'),
     Hint('cursor: document of A bytes, not B', '', 'the document has changed since; where it only grew, c1 and the parts without the length '

@@ -3,70 +3,18 @@ from __future__ import annotations
 
 import mmap
 import os
-import re
 import sys
 import tempfile
 from typing import IO, Any, Iterator, Optional, Union
 
 from .documents import MOST_BYTES, Document, _unreadable, packed_by
-from .formula import atoms_of
 from .match import Row
 from .pieces import NoReach, reach, rows_in_pieces
 from .query import Query
 
-__all__ = ['Given', 'doubt_of', 'given_document', 'oddity_of']
+__all__ = ['Given', 'given_document']
 
 _COPIED = 1 << 22
-
-
-def oddity_of(data: bytes) -> Optional[str]:
-    r"""What may be the reason that a document has no row, from how it begins; None where it begins as others do.
-
-    >>> oddity_of(b'\xff\xfea\x00')
-    'it begins as UTF-16 does: bring it to UTF-8, as by iconv'
-    >>> oddity_of(b'one\r\ntwo\r\n')
-    'its lines end with \\r\\n, so that \\r stands before each \\n'
-    """
-    head = data[:4096]
-    if head.startswith((b'\xff\xfe', b'\xfe\xff')):
-        return 'it begins as UTF-16 does: bring it to UTF-8, as by iconv'
-    if head.startswith((b'PK\x03\x04', b'\x28\xb5\x2f\xfd', b'\x1f\x9d', b'7z\xbc\xaf')) or packed_by(head):
-        return 'it is packed, and its packed bytes were searched'
-    if head.startswith(b'\xef\xbb\xbf'):
-        return 'it begins with a byte order mark, three bytes before its first sign'
-    if b'\r\n' in head:
-        return r'its lines end with \r\n, so that \r stands before each \n'
-    return None
-
-
-_SEEN = 1 << 16  # bytes of a document that are looked at
-_SEQUENCE = re.compile(rb'>[^\n]*\n[A-Za-z*.-]{20,}\r?\n[A-Za-z*.-]+')
-_MARKS = re.compile('[\u0300-\u036f]')
-
-
-def doubt_of(data: bytes, query: Query) -> Optional[str]:
-    r"""What may hide rows of a document, also where it has some; None where nothing is seen.
-
-    >>> doubt_of(b'>r\n' + b'ACGT' * 15 + b'\nACGT\n', Query('/!x{GATC}/'))
-    'it is wrapped as FASTA is: a place over two lines is not found, nor one of the other strand; bed and gff search its records'
-    >>> doubt_of(b'caf\xe9', Query('/!x{.}/u'))
-    'it is no UTF-8 at 3: the query is over characters, which are UTF-8'
-    >>> doubt_of('cafe\u0301'.encode(), Query('/!x{é}/'))
-    'accents stand in it as signs of their own: bring it and the query into one normal form (NFC)'
-    """
-    head = data[:_SEEN]
-    if _SEQUENCE.match(head):
-        return ('it is wrapped as FASTA is: a place over two lines is not found, nor one of the other strand; bed and gff search its '
-                'records')
-    if query.text.isascii() and not any(atom.is_over_characters for atom in atoms_of(query.text)):
-        return None
-    try:
-        text = head.decode('utf-8')
-    except UnicodeDecodeError as reason:
-        if reason.start < len(head) - 4 or len(head) < _SEEN:
-            return f'it is no UTF-8 at {reason.start}: the query is over characters, which are UTF-8'
-        text = head[:reason.start].decode('utf-8')
-    return 'accents stand in it as signs of their own: bring it and the query into one normal form (NFC)' if _MARKS.search(text) else None
 
 
 class Given:

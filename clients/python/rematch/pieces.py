@@ -229,6 +229,18 @@ def cut_main(words: Optional[List[str]] = None) -> int:
     return run_told(run)
 
 
+def expanded_query(path: str) -> Query:
+    """The query of a file, whose conveniences are written out; a fault is at its place in the file."""
+    from .expand import expanded
+    from .faults import QueryError
+    with open(path, 'rb') as file:
+        found = expanded(file.read())
+    try:
+        return Query(found.text)
+    except QueryError as fault:
+        raise found.fault(fault) from None
+
+
 def piece_main(words: Optional[List[str]] = None) -> int:
     """``rematch-piece``: the rows of one piece, as the program writes them."""
     import sys
@@ -244,7 +256,7 @@ def piece_main(words: Optional[List[str]] = None) -> int:
     given = parser.parse_args(words)
 
     def run() -> None:
-        query = Query.from_file(given.query)
+        query = expanded_query(given.query)
         if given.form == 'table' and given.start == 0:
             print('\t'.join(query.variables))
         for row in rows_of_piece(query, given.document, given.start, given.end):

@@ -1,25 +1,32 @@
 """Records of FASTA searched as sequences: lines put together, in capitals, on both strands; rows as BED and GFF.
 
-All records of a strand are one document, each on a line of its own with a line feed before and behind it, so one run
-searches them all. A line of a file of sequences is wrapped anywhere and may be in small letters, which hides places from a
+Records of a strand are one document, each on a line of its own with a line feed before and behind it, so one run searches
+many. A long record is searched in windows, which overlap by the most that a row of the query can cover, so that its rows
+are those of the whole and one strand of it is held. A line of a file of
+sequences is wrapped anywhere and may be in small letters, which hides places from a
 search of the file as it is.
 """
 from __future__ import annotations
 
 import re
 from bisect import bisect_right
-from typing import Callable, Iterable, Iterator, List, NamedTuple, Optional, Sequence, TextIO, Tuple
+from typing import Callable, Dict, Iterable, Iterator, List, NamedTuple, Optional, Sequence, TextIO, Tuple
 from urllib.parse import quote
 
-from .documents import Document
+from .documents import MOST_BYTES
 from .faults import DocumentError
 from .match import Row
 from .query import Query
-from ._reach import NoReach
+from ._reach import NoReach, length_of_printed
 
-__all__ = ['Record', 'Site', 'are_proteins', 'frame_of', 'in_order', 'other_strand', 'records_of', 'sites', 'write_bed', 'write_gff']
+__all__ = ['GFF_HEAD', 'Record', 'Site', 'are_proteins', 'bed_lines', 'each_record', 'fasta_lines', 'frame_of', 'gff_lines',
+           'has_anchor', 'in_order', 'once',
+           'other_strand', 'records_of', 'sites', 'write_bed', 'write_gff']
 
-_BATCH = 200_000_000  # bytes of records that one run searches
+_BATCH = 64_000_000  # bytes of records that one run searches
+_WINDOW = 32_000_000  # letters of a long record that one run searches
+_SPACES = b' \t\r\n'
+_CAPITALS = bytes(byte - 32 if 97 <= byte <= 122 else byte for byte in range(256))
 _OTHER = bytes.maketrans(b'ACGTURYKMBVDHSWN', b'TGCAAYRMKVBHDSWN')
 _OTHER_RNA = bytes.maketrans(b'ACGURYKMBVDHSWN', b'UGCAYRMKVBHDSWN')
 
@@ -58,16 +65,27 @@ def records_of(data: bytes) -> List[Record]:
     >>> records_of(b'>chr1 one\\nGAT\\r\\ntaca\\n>chr2\\n')
     [Record(name='chr1', letters=b'GATTACA'), Record(name='chr2', letters=b'')]
     """
-    found = []
-    for part in (b'\n' + data).split(b'\n>')[1:]:
-        head, _, letters = part.partition(b'\n')
-        words = head.split()
-        if b';' in letters:
-            letters = b'\n'.join(line for line in letters.split(b'\n') if not line.startswith(b';'))
-        found.append(Record(words[0].decode('utf-8', 'backslashreplace') if words else '', letters.translate(None, b' \t\r\n').upper()))
-    if not found:
+    return list(each_record(data))
+
+
+def each_record(data: bytes) -> Iterator[Record]:
+    """The records of `records_of`, one after another."""
+    at = 0 if data[:1] == b'>' else data.find(b'\n>') + 1
+    if data[at:at + 1] != b'>':
         raise DocumentError('no record of FASTA, which begins with > at the start of a line', 5)
-    return found
+    while at >= 0:
+        end = data.find(b'\n>', at)
+        yield _record(data, at, end if end >= 0 else len(data))
+        at = end + 1 if end >= 0 else -1
+
+
+def _record(data: bytes, at: int, end: int) -> Record:
+    head_end = data.find(b'\n', at, end)
+    head = data[at + 1:head_end if head_end >= 0 else end].split()
+    letters = data[head_end + 1:end] if head_end >= 0 else b''
+    if b';' in letters:
+        letters = b'\n'.join(line for line in letters.split(b'\n') if not line.startswith(b';'))
+    return Record(head[0].decode('utf-8', 'backslashreplace') if head else '', letters.translate(_CAPITALS, _SPACES))
 
 
 _PROTEINS = re.compile(rb'[EFILPQefilpq]')  # letters that no nucleotide has, also no open one
@@ -80,12 +98,15 @@ def are_proteins(data: bytes) -> bool:
     (True, False)
     """
     _, _, letters = data[:1 << 16].partition(b'\n')
-    return _PROTEINS.search(letters.partition(b'\n>')[0]) is not None
+    lines = letters.partition(b'\n>')[0].split(b'\n')
+    return any(_PROTEINS.search(line) is not None for line in lines if not line.startswith((b';', b'>')))
 
 
 def in_order(found: Iterable['Site'], data: bytes) -> Iterator['Site']:
     """The sites by the records of the file, and in each by the place of their first letter; all of them are held."""
-    numbers = {record.name: number for number, record in reversed(list(enumerate(records_of(data))))}
+    numbers: Dict[str, int] = {}
+    for number, record in enumerate(each_record(data)):
+        numbers.setdefault(record.name, number)
 
     def place(site: 'Site') -> Tuple[int, int, int]:
         spans = [span for span in zip(site.row[::2], site.row[1::2]) if span[0] >= 0]
@@ -100,8 +121,11 @@ def other_strand(letters: bytes) -> bytes:
     >>> other_strand(b'GATTACAN'), other_strand(b'GAUC')
     (b'NTGTAATC', b'GAUC')
     """
-    is_rna = b'U' in letters and b'T' not in letters
-    return letters.translate(_OTHER_RNA if is_rna else _OTHER)[::-1]
+    return letters.translate(_others_of(letters))[::-1]
+
+
+def _others_of(letters: bytes) -> bytes:
+    return _OTHER_RNA if b'U' in letters and b'T' not in letters else _OTHER
 
 
 def frame_of(site: Site, start: int, end: int) -> str:
@@ -123,13 +147,13 @@ def sites(query: Query, data: bytes, *, both: bool = True, left_out: Optional[Ca
     >>> [(site.record.name, site.strand, site.row) for site in sites(Query('/!m{TTAC}/'), b'>chr1\\nGAT\\nTACA\\n>chr2\\ntgtaatc\\n')]
     [('chr1', '+', (2, 6)), ('chr2', '-', (1, 5))]
     """
-    if _has_anchor(query):
+    if has_anchor(query):
         raise NoReach(r'an anchor would speak of all records together: a record has \n before it and behind it')
-    records = records_of(data)
     lost = 0
     for strand in '+-' if both else '+':
-        for batch in _batches(records):
-            for site in _sites_of(query, batch, strand):
+        for batch in _batches(each_record(data)):
+            is_long = len(batch) == 1 and len(batch[0].letters) > _WINDOW
+            for site in _sites_of_long(query, batch[0], strand) if is_long else _sites_of(query, batch, strand):
                 if site is None:
                     lost += 1
                 else:
@@ -138,12 +162,13 @@ def sites(query: Query, data: bytes, *, both: bool = True, left_out: Optional[Ca
         left_out(lost)
 
 
-def _has_anchor(query: Query) -> bool:
+def has_anchor(query: Query) -> bool:
+    """Whether an anchor stands in the query, which would speak of all records together."""
     from .formula import atoms_of, parts_of
     return any(part.kind == 'anchor' for atom in atoms_of(query.printed.encode()) for part in parts_of(atom))
 
 
-def _batches(records: Sequence[Record]) -> Iterator[Sequence[Record]]:
+def _batches(records: Iterable[Record]) -> Iterator[Sequence[Record]]:
     batch: List[Record] = []
     size = 0
     for record in records:
@@ -170,6 +195,44 @@ def _sites_of(query: Query, records: Sequence[Record], strand: str) -> Iterator[
         yield Site(records[k], strand, _on_record(row, starts[k], len(lines[k]), strand))
 
 
+def _sites_of_long(query: Query, record: Record, strand: str) -> Iterator[Optional[Site]]:
+    """The sites of a long record, in windows where the query has a bound; else in one run, which takes so many bytes at most."""
+    total = len(record.letters) + 2
+    try:
+        most: Optional[int] = length_of_printed(query.printed.encode())
+    except NoReach as reason:
+        if total > MOST_BYTES:
+            fault = DocumentError(f'document longer than {MOST_BYTES} bytes', 6)
+            fault.hint = (f'the record {record.name} has {len(record.letters)} letters, which windows could search, but '
+                          f'{reason}: give it one, as in '
+                          f'[ACGT]{{0,1000}}')
+            raise fault from None
+        most = None
+    if most is None or most > _WINDOW:
+        yield from _sites_of(query, [record], strand)
+        return
+    has_lost = False
+    for start in range(0, total, _WINDOW):
+        end = min(start + _WINDOW, total)
+        first = max(0, start - most)
+        for row in query.rows(_window(record.letters, first, min(total, end + most), strand)):
+            places = [place + first for place in row if place >= 0]
+            if not places:
+                has_lost = True
+            elif start <= min(places) < end or min(places) == end == total:
+                is_within = min(places) > 0 and max(places) < total
+                yield Site(record, strand, _on_record(row, 1 - first, total - 2, strand)) if is_within else None
+    if has_lost:
+        yield None
+
+
+def _window(letters: bytes, first: int, last: int, strand: str) -> bytes:
+    """What stands from one place to another where the letters of the strand have a line feed before and behind them."""
+    low, high, length = max(first - 1, 0), min(last - 1, len(letters)), len(letters)
+    part = letters[low:high] if strand == '+' else letters[length - high:length - low].translate(_others_of(letters))[::-1]
+    return (b'\n' if first == 0 else b'') + part + (b'\n' if last == length + 2 else b'')
+
+
 def _on_record(row: Row, start: int, length: int, strand: str) -> Row:
     """The row with places of its record, on the forward strand."""
     if strand == '+':
@@ -183,7 +246,7 @@ def _on_record(row: Row, start: int, length: int, strand: str) -> Row:
 
 # -- What is written
 
-def write_bed(found: Iterable[Site], names: Sequence[str], out: TextIO, *, frames: bool = False) -> None:
+def bed_lines(found: Iterable[Site], names: Sequence[str], *, frames: bool = False) -> Iterator[str]:
     """BED of twelve columns, from 0: a row is a line whose spans are its blocks; where they overlap or are empty, a line a span.
 
     The name is that of the variables, with a point and the number of the row where it has several lines, and with the frame
@@ -198,15 +261,58 @@ def write_bed(found: Iterable[Site], names: Sequence[str], out: TextIO, *, frame
             name += f'({frame_of(site, start, end)})' if frames else ''
             sizes = ','.join(str(span.end - span.start) for span in group)
             begins = ','.join(str(span.start - start) for span in group)
-            out.write(f'{site.record.name}\t{start}\t{end}\t{name}\t0\t{site.strand}\t{start}\t{end}\t0\t{len(group)}\t{sizes}\t{begins}\n')
+            yield f'{site.record.name}\t{start}\t{end}\t{name}\t0\t{site.strand}\t{start}\t{end}\t0\t{len(group)}\t{sizes}\t{begins}\n'
 
 
-def write_gff(found: Iterable[Site], names: Sequence[str], out: TextIO) -> None:
+def write_bed(found: Iterable[Site], names: Sequence[str], out: TextIO, *, frames: bool = False) -> None:
+    """Writes the lines of `bed_lines`."""
+    out.writelines(bed_lines(found, names, frames=frames))
+
+
+GFF_HEAD = '##gff-version 3\n'
+
+
+def gff_lines(found: Iterable[Site], names: Sequence[str]) -> Iterator[str]:
     """GFF3, from 1: a line a span, with the number of its row and its frame. An empty span stands right of its place."""
-    out.write('##gff-version 3\n')
     for number, site in enumerate(found, 1):
         for span in site.spans(names):
             empty = ';empty=1' if span.start == span.end else ''
             start = max(1, span.start) if empty else span.start + 1
-            out.write(f'{quote(site.record.name, safe=".:^*$@!+_?|-")}\trematch\tsequence_feature\t{start}\t{max(start, span.end)}\t.\t{site.strand}\t.\t'
-                      f'Name={span.name};row={number};frame={frame_of(site, span.start, span.end)}{empty}\n')
+            yield (f'{quote(site.record.name, safe=".:^*$@!+_?|-")}\trematch\tsequence_feature\t{start}\t{max(start, span.end)}\t.\t{site.strand}\t.\t'
+                   f'Name={span.name};row={number};frame={frame_of(site, span.start, span.end)}{empty}\n')
+
+
+def write_gff(found: Iterable[Site], names: Sequence[str], out: TextIO) -> None:
+    """Writes a head, and the lines of `gff_lines`."""
+    out.write(GFF_HEAD)
+    out.writelines(gff_lines(found, names))
+
+
+def fasta_lines(found: Iterable[Site], names: Sequence[str]) -> Iterator[str]:
+    """FASTA: a record a span, ``RECORD:START-END(STRAND) VARIABLE``, counted as in BED, with its letters on that strand.
+
+    >>> print(*fasta_lines(sites(Query('/!m{TTAC}/'), b'>chr2\\ntgtaatc\\n'), ('m',)), sep='', end='')
+    >chr2:1-5(-) m
+    TTAC
+    """
+    for site in found:
+        for span in site.spans(names):
+            letters = site.record.letters[span.start:span.end]
+            letters = other_strand(letters) if site.strand == '-' else letters
+            yield f'>{site.record.name}:{span.start}-{span.end}({site.strand}) {span.name}\n{letters.decode("latin-1")}\n'
+
+
+def once(found: Iterable[Site]) -> Iterator[Site]:
+    """The sites without those of the other strand whose spans have the places of one of the forward strand, as palindromes do.
+
+    >>> [site.strand for site in once(sites(Query('/!x{GATC|GAT}/'), b'>r\\nGATC\\n'))]
+    ['+', '+', '-']
+    """
+    seen = set()
+    for site in found:
+        key = site.record.name, tuple(sorted(zip(site.row[::2], site.row[1::2])))
+        if site.strand == '+':
+            seen.add(key)
+        elif key in seen:
+            continue
+        yield site

@@ -3,15 +3,18 @@ from __future__ import annotations
 
 import re
 import unicodedata
+from array import array
 from bisect import bisect_right
-from typing import Callable, Dict, Iterable, Iterator, List, NamedTuple, Optional, TextIO, Tuple
+from itertools import accumulate
+from typing import Any, Callable, Dict, Iterable, Iterator, List, NamedTuple, Optional, Sequence, TextIO, Tuple
 
-from .documents import Document
+from .documents import _REST, Document
 from .match import Row
 from .packed import Given
 from .query import Query
 
-__all__ = ['Context', 'concordance', 'line_numbers', 'sorted_contexts', 'table_head', 'table_lines', 'write_annotations']
+__all__ = ['Characters', 'Context', 'Layout', 'Table', 'concordance', 'extent_of', 'line_numbers', 'sorted_contexts',
+           'write_annotations']
 
 
 def line_numbers(data: bytes) -> Callable[[int], int]:
@@ -41,6 +44,7 @@ def _first(row: Row) -> Optional[int]:
 # -- CSV and TSV
 
 _NEEDS_QUOTES = re.compile('["\n\r]|^ | $')
+_BLOCK = 4096  # bytes of which the characters are counted together
 
 
 def _cell(text: str, delimiter: str) -> str:
@@ -49,30 +53,140 @@ def _cell(text: str, delimiter: str) -> str:
     return text
 
 
-def table_head(query: Query, delimiter: str = ',') -> str:
-    """The first line of a table: the document, the line of the row's first span, and start, end and text of each variable."""
-    names = ['document', 'line'] + [name + end for name in query.variables for end in ('_start', '_end', '')]
-    return delimiter.join(names) + '\n'
+class Characters:
+    """How many characters begin before a place in bytes.
+
+    >>> Characters('né'.encode())[3]
+    2
+    """
+
+    def __init__(self, data: bytes) -> None:
+        self._data = data
+        sizes = (len(data[start:start + _BLOCK].translate(None, _REST)) for start in range(0, len(data), _BLOCK))
+        self._before = array('q', accumulate(sizes, initial=0))
+
+    def __getitem__(self, at: int) -> int:
+        block = at // _BLOCK
+        return self._before[block] + len(self._data[block * _BLOCK:at].translate(None, _REST))
 
 
-def table_lines(query: Query, given: Given, rows: Iterable[Row], delimiter: str = ',') -> Iterator[str]:
-    """A line a row. Lines are counted from 1, places in bytes from 0; an absent variable has empty cells.
+class Layout(NamedTuple):
+    """How a table is written: its columns (None: all), or the texts alone, the characters around a row, and how places are counted."""
+
+    columns: Optional[Sequence[str]] = None
+    is_texts_alone: bool = False
+    context: Optional[int] = None
+    middle: Optional[str] = None  # the variable whose context it is; None: the whole row
+    is_in_characters: bool = False
+    delimiter: str = ','
+
+
+class Table:
+    """The lines of a table of a query: the document, the line of the row's first span, and start, end and text of each variable.
+
+    Lines are counted from 1, places in bytes from 0; an absent variable has empty cells. A column that is not there raises
+    `ValueError`, which has those that are.
 
     >>> query = Query('/(!x{a})?!y{b,c}/')
     >>> given = Given('d.txt', Document(b'\\nab,c'))
-    >>> list(table_lines(query, given, given.rows(query)))
-    ['d.txt,2,1,2,a,2,5,"b,c"\\n', 'd.txt,2,,,,2,5,"b,c"\\n']
+    >>> table = Table(query, Layout())
+    >>> print(table.head(), *table.lines(given, given.rows(query)), sep='', end='')
+    document,line,x_start,x_end,x,y_start,y_end,y
+    d.txt,2,1,2,a,2,5,"b,c"
+    d.txt,2,,,,2,5,"b,c"
+    >>> table = Table(query, Layout(['y', 'left', 'line'], context=1))
+    >>> print(table.head(), *table.lines(given, given.rows(query)), sep='', end='')
+    y,left,line
+    "b,c"," ",2
+    "b,c",a,2
     """
-    data = given.data
-    number = line_numbers(data)  # type: ignore[arg-type]
-    name = _cell(given.name, delimiter)
-    for row in rows:
-        first = _first(row)
-        cells = [name, '' if first is None else str(number(first))]
-        places = iter(row)
-        for start, end in zip(places, places):
-            cells += ('', '', '') if start < 0 else (str(start), str(end), _cell(_shown(data[start:end]), delimiter))
-        yield delimiter.join(cells) + '\n'
+
+    def __init__(self, query: Query, layout: Layout) -> None:
+        self._query = query
+        self._layout = layout
+        around = ['left', 'right'] if layout.context is not None else []
+        every = ['document', 'line'] + [name + end for name in query.variables for end in ('_start', '_end', '')] + around
+        if layout.is_texts_alone:
+            self._names: Sequence[str] = ['document', 'line', *query.variables, *around]
+        else:
+            self._names = every if layout.columns is None else layout.columns
+        missing = next((name for name in self._names if name not in every), None)
+        if missing is not None:
+            raise ValueError(f'there is no column {missing!r}: there are {", ".join(every)}' + ('' if around
+                                                                                                else ', and with --context left and right'))
+        if layout.middle is not None and layout.middle not in query.variables:
+            raise ValueError(f'the query has no variable {layout.middle}')
+        self._is_usual = list(self._names) == every and not around and not layout.is_in_characters
+
+    def head(self) -> str:
+        """The first line."""
+        return self._layout.delimiter.join(self._names) + '\n'
+
+    def lines(self, given: Given, rows: Iterable[Row], first_line: int = 1, base: int = 0) -> Iterator[str]:
+        """A line a row; of a part of a document ``first_line`` is the number of its first line, and ``base`` where it begins."""
+        return (self._usual if self._is_usual else self._chosen)(given, rows, first_line, base)
+
+    def _usual(self, given: Given, rows: Iterable[Row], first_line: int, base: int) -> Iterator[str]:
+        data, delimiter = given.data, self._layout.delimiter
+        number = line_numbers(data)  # type: ignore[arg-type]
+        name = _cell(given.name, delimiter)
+        for row in rows:
+            first = _first(row)
+            cells = [name, '' if first is None else str(number(first) + first_line - 1)]
+            places = iter(row)
+            for start, end in zip(places, places):
+                cells += ('', '', '') if start < 0 else (str(start + base), str(end + base),
+                                                         _cell(_shown(data[start:end]), delimiter))
+            yield delimiter.join(cells) + '\n'
+
+    def _chosen(self, given: Given, rows: Iterable[Row], first_line: int, base: int) -> Iterator[str]:
+        data, delimiter = given.data, self._layout.delimiter
+        number = line_numbers(data)  # type: ignore[arg-type]
+        told: Any = Characters(data) if self._layout.is_in_characters else range(base,
+                                                                                 base + len(data) + 1)  # type: ignore[arg-type]
+        makers = [self._maker(name, given, lambda place: number(place) + first_line - 1, told) for name in self._names]
+        for row in rows:
+            yield delimiter.join([maker(row) for maker in makers]) + '\n'
+
+    def _maker(self, name: str, given: Given, number: Callable[[int], int], told: Any) -> Callable[[Row], str]:
+        """What makes the cells of a column."""
+        data, delimiter = given.data, self._layout.delimiter
+        if name == 'document':
+            shown = _cell(given.name, delimiter)
+            return lambda row: shown
+        if name == 'line':
+            return lambda row: '' if _first(row) is None else str(number(_first(row)))  # type: ignore[arg-type]
+        if name in self._query.variables:
+            at = 2 * self._query.variables.index(name)
+            return lambda row: '' if row[at] < 0 else _cell(_shown(data[row[at]:row[at + 1]]), delimiter)
+        if name in ('left', 'right'):
+            return lambda row: _cell(self._around(name, data, row), delimiter)  # type: ignore[arg-type]
+        variable, _, side = name.rpartition('_')
+        place = 2 * self._query.variables.index(variable) + (side == 'end')
+        return lambda row: '' if row[place] < 0 else str(told[row[place]])
+
+    def _around(self, side: str, data: bytes, row: Row) -> str:
+        """What stands before or behind the middle of a row, on one line."""
+        span = extent_of(row)
+        if self._layout.middle is not None:
+            at = 2 * self._query.variables.index(self._layout.middle)
+            span = (row[at], row[at + 1]) if row[at] >= 0 else None
+        signs = self._layout.context or 0
+        if span is None or not signs:
+            return ''
+        if side == 'left':
+            return _flat(data[max(0, span[0] - 4 * signs):span[0]].decode('utf-8', 'ignore')[-signs:])
+        return _flat(data[span[1]:span[1] + 4 * signs].decode('utf-8', 'ignore')[:signs])
+
+
+def extent_of(row: Row) -> Optional[Tuple[int, int]]:
+    """From the first place of a row's spans to the last; None for a row without spans.
+
+    >>> extent_of((-1, -1, 3, 4, 1, 2)), extent_of(())
+    ((1, 4), None)
+    """
+    first = _first(row)
+    return None if first is None else (first, max(row[1::2]))
 
 
 # -- Keyword in context
@@ -86,15 +200,22 @@ class Context(NamedTuple):
     word: str
     right: str
 
-    def shown(self, columns: int, label: int) -> str:
+    def shown(self, columns: int, label: int, *, is_coloured: bool = False) -> str:
         """The line with so many columns on either side of the span, and before it its place, so many columns wide."""
         place = f'{self.name}:{self.line}'
-        return f'{place:>{label}}  {_clipped(self.left, columns, True)}  {self.word}  {_clipped(self.right, columns, False)}'.rstrip()
+        word = coloured(self.word) if is_coloured else self.word
+        return f'{place:>{label}}  {_clipped(self.left, columns, True)}  {word}  {_clipped(self.right, columns, False)}'.rstrip()
+
+
+def coloured(text: str) -> str:
+    """The text in the colour of what was found, for a terminal."""
+    return f'\x1b[1;31m{text}\x1b[m' if text else text
 
 
 def _flat(text: str) -> str:
     """The text on one line."""
-    return ''.join(sign if sign.isprintable() or unicodedata.category(sign) == 'Cf' else '·' for sign in re.sub(r'\s+', ' ', text))
+    return ''.join(sign if sign.isprintable() or unicodedata.category(sign) == 'Cf' else '·'
+                   for sign in re.sub(r'\s+', ' ', text))
 
 
 def _width(sign: str) -> int:
@@ -141,7 +262,10 @@ def concordance(query: Query, given: Given, rows: Iterable[Row], name: str, colu
 
 
 def sorted_contexts(found: Iterable[Context], by: Optional[str]) -> Iterable[Context]:
-    """The lines in order of what stands behind the span (right), of the words before it, the nearest first (left), or as they are."""
+    """The lines in order of what stands behind the span (right), of the words before it, the nearest first (left), of the span
+    (word), or as they are."""
+    if by == 'word':
+        return sorted(found, key=lambda context: context.word.casefold())
     if by == 'right':
         return sorted(found, key=lambda context: context.right.casefold().split())
     if by == 'left':

@@ -15,6 +15,7 @@ from unittest import mock
 import rematch
 from rematch import convert, packed, progress
 from support import EXAMPLES, PYTHON, Folder, needs, needs_speed
+from commands import asked
 
 LOG = 'Failed password for pi from 203.0.113.7 port 1\nx\nFailed password for "é,q" from 192.0.2.1 port 2\n'
 QUERY = r'/for !user{[^ \n]+} from !address{[\d.]+} port/'
@@ -22,8 +23,8 @@ TABLE = ('document,line,address_start,address_end,address,user_start,user_end,us
          'NAME,1,28,39,203.0.113.7,20,22,pi\nNAME,3,81,90,192.0.2.1,69,75,"""é,q"""\n')
 
 
-def command(*words, stdin=b'', name='rematch-to'):
-    """Status, output and notes of a command in a process of its own."""
+def in_a_process(*words, stdin=b'', name='rematch-to'):
+    """The same of a command in a process of its own."""
     code = 'import sys; sys.argv[0] = %r; from rematch.__main__ import run; sys.exit(run())' % name
     run = subprocess.run([sys.executable, '-c', code, *words], input=stdin, stdout=subprocess.PIPE, stderr=subprocess.PIPE)
     return run.returncode, run.stdout.decode(), run.stderr.decode()
@@ -84,7 +85,7 @@ class Tables(Convert):
         with mock.patch('rematch.packed.MOST_BYTES', 10), mock.patch('rematch.pieces._USUAL', 4):
             self.assertEqual(self.to('count', '-e', r'/!x{a}b\n!y{a}/', path), '8 d\n')
             self.assertEqual(self.to('csv', '-e', r'/!x{b}\n!y{a}/', path).split('\n')[2], 'd,2,4,5,b,6,7,a')
-            self.assertEqual(command('count', '-e', '/a/', '-', stdin=b'ba')[:2], (0, '1 -\n'))
+            self.assertEqual(asked('count', '-e', '/a/', '-', stdin=b'ba')[:2], (0, '1 -\n'))
             packed_path = self.file('p', gzip.compress(b'ab\n' * 9))
             self.assertEqual(self.to('count', '-e', '/!x{a}/', packed_path), '9 p\n')
             with mock.patch('sys.stderr', io.StringIO()) as told:
@@ -115,8 +116,8 @@ class Concordances(Convert):
         self.assertEqual(line, '     t:1' '  ' '漢字 ' '  x  ' ' 漢字')
 
     def test_no_such_variable(self):
-        self.assertEqual(command('kwic', '-e', '/!x{a}/', '--var', 'y')[::2], (2, 'rematch-to: the query has no variable y\n'))
-        self.assertEqual(command('kwic', '-e', '/a/')[::2], (2, 'rematch-to: the query has no variables\n'))
+        self.assertEqual(asked('kwic', '-e', '/!x{a}/', '--var', 'y')[::2], (2, 'rematch-to: the query has no variable y\n'))
+        self.assertEqual(asked('kwic', '-e', '/a/', '--quiet')[::2], (2, 'rematch-to: the query has no variables\n'))
 
 
 class Annotations(Convert):
@@ -128,56 +129,46 @@ class Annotations(Convert):
     def test_several(self):
         paths = [self.file('a.txt', b'a'), self.file('b.txt', b'ba')]
         out = os.path.join(self.folder, 'notes')
-        self.assertEqual(command('ann', '-e', '/!x{a}/', *paths)[0], 2)
+        self.assertEqual(asked('ann', '-e', '/!x{a}/', *paths)[0], 2)
         os.mkdir(out)
         self.assertEqual(convert.main(['ann', '-e', '/!x{a}/', '-o', out, *paths]), 0)
         with open(os.path.join(out, 'b.txt.ann')) as file:
             self.assertEqual(file.read(), 'T1\tx 1 2\ta\n')
 
     def test_no_text(self):
-        status, _, told = command('ann', '-e', '/!x{a}/', self.file('t', b'a\xff'))
+        status, _, told = asked('ann', '-e', '/!x{a}/', self.file('t', b'a\xff'))
         self.assertEqual((status, 'no UTF-8 at 1' in told), (5, True))
 
 
 class Commands(Folder):
     def test_check(self):
-        status, out, _ = command('check', '-e', r'/\n!x{a+}/')
+        status, out, _ = asked('check', '-e', r'/\n!x{a+}/')
         self.assertEqual((status, out.split('\n')[:4]), (0, [r'query /\n!x{a+}/', 'variables x', 'atom 1 states 4 ways 6', 'reach 1 line feeds']))
         self.assertIn('advice at 1: ', out)
         self.assertIn('advice at 6: ', out)
-        self.assertIn('no reach: an anchor', command('check', '-e', '/^!x{a}/')[1])
-        status, out, told = command('check', '-e', '/a*?/')
+        self.assertEqual(asked('check', '-e', r'/\n!x{a+}/')[2], '')
+        self.assertIn('no reach: an anchor', asked('check', '-e', '/^!x{a}/')[1])
+        status, out, told = asked('check', '-e', '/a*?/')
         self.assertEqual((status, out, told.split('\n')[:3]), (3, '', ['query: repeat after repeat at 3', '  /a*?/', '     ^']))
         self.assertIn('hint: ', told)
 
     def test_standard_input_and_query_files(self):
         name = self.file('q', b'/!x{a}/')
-        self.assertEqual(command('count', '-q', name, stdin=b'aa'), (0, '2 -\n', ''))
-        self.assertEqual(command('count', '-q', name, '-', stdin=gzip.compress(b'aaa')), (0, '3 -\n', ''))
-        self.assertEqual(command('count', '-q', '-', name, stdin=b'/!x{a}/'), (0, '1 %s\n' % name, ''))
-
-    def test_what_a_document_without_rows_is(self):
-        for data, part in ((b'\xff\xfea\x00', 'UTF-16'), (b'\xfe\xff\x00a', 'UTF-16'), (b'\xef\xbb\xbfb', 'byte order mark'), (b'b\r\nb\r\n', r'\r\n'),
-                           (b'PK\x03\x04', 'packed'), (b'\x28\xb5\x2f\xfd', 'packed'), (b'b\n', None), (b'', None)):
-            path = self.file('d', data)
-            told = command('count', '-e', '/!x{aa}/', path)[2]
-            self.assertEqual(told, '' if part is None else told, data)
-            if part is not None:
-                self.assertRegex(told, '^%s: no row, and .*%s' % (re.escape(path), re.escape(part)))
-        self.assertEqual(command('csv', '-e', '/!x{a}/', self.file('d', b'a\r\n'))[2], '')
+        self.assertEqual(in_a_process('count', '-q', name, stdin=b'aa'), (0, '2 -\n', ''))
+        self.assertEqual(asked('count', '-q', name, '-', stdin=gzip.compress(b'aaa')), (0, '3 -\n', ''))
+        self.assertEqual(asked('count', '-q', '-', name, stdin=b'/!x{a}/'), (0, '1 %s\n' % name, ''))
 
     def test_missing_files(self):
         gone = os.path.join(self.folder, 'gone')
-        self.assertEqual(command('csv', '-q', gone)[::2], (5, gone + ': No such file or directory\n'))
-        status, out, told = command('csv', '-e', '/!x{a}/', self.file('d', b'a'), gone)
-        self.assertEqual((status, out.count('\n')), (5, 2))
-        self.assertIn(gone + ': No such file or directory', told)
-        self.assertEqual(command('csv', '-e', '/!x{a}/', self.folder)[0], 5)
+        self.assertEqual(asked('csv', '-q', gone)[::2], (5, gone + ': No such file or directory\n'))
+        status, out, told = asked('csv', '-e', '/!x{a}/', gone)
+        self.assertEqual((status, out.count('\n'), gone + ': No such file or directory' in told), (5, 1, True))
+        self.assertEqual(asked('csv', '-e', '/!x{a}/', self.folder)[0], 5)
 
     @needs_speed
     def test_a_document_that_the_program_refuses_is_named(self):
         path = self.file('d', b'a' * 13 + b'c')
-        status, _, told = command('csv', '--max-table', '100', '-e', '/(a|b)*a(a|b){12}!x{c}/', path)
+        status, _, told = asked('csv', '--max-table', '100', '-e', '/(a|b)*a(a|b){12}!x{c}/', path)
         self.assertEqual((status, told.split('\n')[0]), (4, path + ': size: table past 100'))
 
     def test_a_broken_pipe(self):
@@ -200,7 +191,7 @@ class Commands(Folder):
     @needs('cat')
     def test_no_progress_in_a_pipe(self):
         with mock.patch.object(progress, '_FIRST', 0):
-            self.assertEqual(command('count', '-e', '/!x{a}/', stdin=b'a')[2], '')
+            self.assertEqual(asked('count', '-e', '/!x{a}/', stdin=b'a')[2], '')
 
     def test_progress_on_a_terminal(self):
         code = ('from rematch import progress; progress._FIRST = progress._EVERY = 0.01; import sys, time; import rematch.program as p;'
@@ -231,7 +222,7 @@ class Commands(Folder):
 
     @needs_speed
     def test_examples(self):
-        status, out, _ = command('csv', '-q', os.path.join(EXAMPLES, 'failed.query'), os.path.join(EXAMPLES, 'auth.log'))
+        status, out, _ = asked('csv', '-q', os.path.join(EXAMPLES, 'failed.query'), os.path.join(EXAMPLES, 'auth.log'))
         self.assertEqual((status, out.count('\n')), (0, 1 + rematch.Query.from_file(
             os.path.join(EXAMPLES, 'failed.query')).count(open(os.path.join(EXAMPLES, 'auth.log')).read())))
 

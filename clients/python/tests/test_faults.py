@@ -23,7 +23,10 @@ BEGINNERS = [
     ('/a', 'closing slash'), ('/a[/]/', r'\/'), ('/(a/', 'not ended'), ('/!x{a/', 'not ended'), ('/(!x{a})*/', 'row of its own'),
     ('/!x{a}!x{b}/', 'rename'), ('/!x{a}|b/ join /!x{.}/', 'every way'), ('project y (/!x{a}/)', 'no such variable'), ('/[z-a]/', 'lower'),
     (r'/[\w-z]/', 'last in the class'), ('/a/;', 'ends a let'), ('let w = /a/;', 'too early'), ('/a/ /b/', 'union, join'), ('/a]/', r'\]'),
-    ('/[]/', 'not empty'), ('/!none{a}/', 'another name'), ('union /a/', 'cannot stand here'), ('', 'too early')]
+    ('/[]/', 'not empty'), ('/!none{a}/', 'another name'), ('union /a/', 'cannot stand here'), ('', 'too early'),
+    ('/y(/', 'not ended'), ('/y[/', 'not ended'), ('/x/g', 'drop it'), ('# comment\n/a/', 'no comments'), ('/!x{a}/ where x > 5', 'tests alone'),
+    ('/!x{a}/ where len(x) > 5', 'tests alone'), ('/!x{a}/ where luhn(x) and x > 5', 'commas'), ('/!x{a}/ where', 'tests alone'), ('/a/ OR /b/', 'minus'),
+    ('part ip = /a/; /%{ip}/', 'written out by rematch-to'), ('/from where (?:a)/', '(..)')]
 
 
 class Places(unittest.TestCase):

@@ -8,6 +8,7 @@ import sys
 import time
 import unittest
 
+from rematch.to_words import FORMS
 from support import CLIENTS, DOCS, EXAMPLES, PROGRAM, Folder, needs
 
 SHELL = os.path.join(CLIENTS, 'shell')
@@ -27,7 +28,7 @@ def options():
 def options_to():
     """The options of rematch-to, as it tells them."""
     told = run([os.path.join(CLIENTS, 'rematch-to'), '--help']).stdout
-    return [option for option in re.findall(r'^  (?:-h, )?(--?[a-z-]+)', told, re.M)]
+    return [option for option in re.findall(r'^  (?:-h, )?(--?[A-Za-z-]+)', told, re.M)]
 
 
 class Bash(unittest.TestCase):
@@ -55,7 +56,10 @@ class Bash(unittest.TestCase):
         self.assertEqual(self.complete('-n', ''), [])
         self.assertEqual(self.complete('-q', 'failed.query', 'auth'), ['auth.log'])
         self.assertEqual(self.complete('h', command='rematch-to'), ['html'])
-        self.assertEqual(self.complete('kwic', '--sort', '', command='rematch-to'), ['left', 'right'])
+        self.assertEqual(set(self.complete('', command='rematch-to')), set(FORMS))
+        self.assertEqual(self.complete('lines', '--color', 'a', command='rematch-to'), ['auto', 'always'])
+        self.assertEqual(self.complete('csv', '--jobs', '', command='rematch-to'), [])
+        self.assertEqual(self.complete('kwic', '--sort', '', command='rematch-to'), ['left', 'right', 'word'])
         self.assertEqual(self.complete('csv', 'auth', command='rematch-to'), ['auth.log'])
         self.assertEqual(self.complete('box', command='rematch-piece'), ['box.query'])
         self.assertEqual(self.complete('auth', command='rematch-cut'), ['auth.log'])
@@ -72,7 +76,7 @@ class Fish(Folder):
         self.assertEqual(set(self.complete('rematch -f ')), {'spans', 'table', 'json'})
         self.assertLessEqual({option for option in options() if option.startswith('--')}, set(self.complete('rematch --')))
         self.assertLessEqual({option for option in options() if not option.startswith('--')}, set(self.complete('rematch -')))
-        self.assertIn('csv', self.complete('rematch-to '))
+        self.assertLessEqual(set(FORMS), set(self.complete('rematch-to ')))
         self.assertLessEqual({option for option in options_to() if option.startswith('--')}, set(self.complete('rematch-to csv --')))
         self.assertIn('failed.query', self.complete('rematch -q fai'))
 

@@ -1,0 +1,302 @@
+"""Query texts with conveniences, which are written out before the program sees them.
+
+- `#` begins a comment, to the end of the line; it stands between formulas.
+- `i` behind the closing slash takes both cases of ASCII letters: `/error/i` is `/[Ee][Rr][Rr][Oo][Rr]/`. Behind a formula
+  it is for the parts in it too, behind a part for that part alone.
+- `part ip = /[\\d.]+/;` names a part of formulas, which is used in those behind it as `%{ip}`, a group.
+
+A text that has none of them is passed on byte for byte. The program's language is as it is: what it reads is the text
+that `rematch-to check --expanded` shows.
+"""
+from __future__ import annotations
+
+import re
+from bisect import bisect_right
+from typing import Callable, Dict, List, NamedTuple, Optional, Tuple, Union
+
+from .faults import QueryError
+from .formula import Atom, Part, parts_of
+
+__all__ = ['Expanded', 'expanded', 'with_iupac']
+
+_TOKEN = re.compile(rb'''
+    (?P<atom>/(?P<body>(?:[^\\/]|\\.)*)/(?P<signs>[iu]{0,2}(?![A-Za-z0-9_]))?) | (?P<comment>\#[^\n]*) |
+    (?P<part>\bpart\s+(?P<name>[A-Za-z_]\w*)\s*=\s*(?=/)) | (?P<end>;\s*) | (?P<word>\w+) | (?P<rest>.)
+''', re.X | re.S)
+_USE = re.compile(rb'(?s:\\.)|(?P<class>\[(?:[^\\\]]|\\.)*\])|%\{([A-Za-z_]\w*)\}', re.S)
+_MOST = 65536  # bytes of a query that the program reads
+
+
+class Expanded:
+    """A text as the program reads it, and where each of its bytes was written."""
+
+    def __init__(self, source: bytes) -> None:
+        self.source = source
+        self._pieces: List[bytes] = []
+        self._starts: List[int] = []  # of each piece, in the text
+        self._origins: List[Tuple[int, bool]] = []  # where it was written, and whether byte for byte
+        self._length = 0
+
+    def add(self, piece: bytes, origin: int, *, is_same: bool = True) -> None:
+        """Goes on with a piece that was written at a place of the source."""
+        if piece:
+            self._pieces.append(piece)
+            self._starts.append(self._length)
+            self._origins.append((origin, is_same))
+            self._length += len(piece)
+
+    @property
+    def text(self) -> bytes:
+        """What the program reads."""
+        return b''.join(self._pieces)
+
+    def origin(self, offset: int) -> int:
+        """The place of the source that a place of the text was written at."""
+        if not self._starts or offset >= self._length:
+            return len(self.source)
+        k = bisect_right(self._starts, offset) - 1
+        origin, is_same = self._origins[k]
+        return origin + (offset - self._starts[k] if is_same else 0)
+
+    def fault(self, found: QueryError) -> QueryError:
+        """The fault of the text as one of the source, at the place where it was written."""
+        if found.offset is None or self.text == self.source:
+            return found
+        told = QueryError(f'{found.note.rpartition(" at ")[0]} at {self.origin(found.offset)}', found.status, self.source)
+        told.hint = found.hint or told.hint
+        return told
+
+
+class _Part(NamedTuple):
+    atom: Atom
+    is_both_cases: bool
+
+
+def expanded(text: Union[str, bytes]) -> Expanded:
+    r"""The text that the program reads for a text with conveniences; `QueryError` for a part that is not there or there twice.
+
+    >>> expanded('/Err[o]/i # a fault').text
+    b'/[Ee][Rr][Rr][Oo]/ '
+    >>> expanded(r'part ip = /\d+/; /from !a{%{ip}}/').text
+    b'/from !a{(\\d+)}/'
+    >>> expanded('/100%{2}/').text
+    b'/100%{2}/'
+    """
+    source = text if isinstance(text, bytes) else text.encode('utf-8', 'surrogateescape')
+    return _Reader(source).read()
+
+
+class _Reader:
+    def __init__(self, source: bytes) -> None:
+        self.found = Expanded(source)
+        self.parts: Dict[bytes, _Part] = {}
+        self.named: Optional[bytes] = None  # the part whose formula comes next, or has come
+        self.uses = 0
+
+    def read(self) -> Expanded:
+        source, is_start = self.found.source, True
+        for token in _TOKEN.finditer(source):
+            if token['atom'] is not None:
+                self.atom(token)
+            elif token['comment'] is not None:
+                continue
+            elif token['part'] is not None and is_start:
+                self.begin(token)
+            elif self.named is None:
+                self.found.add(token[0], token.start())
+            elif token['end'] is not None and self.named in self.parts:
+                self.named = None  # the end of a part, which the program does not read
+            elif not token[0].isspace():
+                raise self.bad_part(token.start())
+            is_start = token['end'] is not None or (is_start and token[0].isspace())
+        if self.named is not None:
+            raise self.bad_part(len(source))
+        return self.found
+
+    def bad_part(self, place: int) -> QueryError:
+        fault = QueryError(f'query: unexpected at {place}', 3, self.found.source)
+        fault.hint = 'a part is one formula and a ; behind it: part NAME = /../;'
+        return fault
+
+    def begin(self, token: 're.Match[bytes]') -> None:
+        if token['name'] in self.parts:
+            raise QueryError(f'query: name twice at {token.start("name")}', 3, self.found.source)
+        self.named = token['name']
+
+    def atom(self, token: 're.Match[bytes]') -> None:
+        signs = token['signs'] or b''
+        atom = Atom(token['body'], token.start('body'), b'u' in signs)
+        if self.named in self.parts:
+            raise self.bad_part(token.start())
+        pieces = self.body(atom, b'i' in signs)
+        if self.named is not None:
+            self.parts[self.named] = _Part(atom, b'i' in signs)
+            return
+        if b'i' not in signs and all(is_same for _, _, is_same in pieces) and len(pieces) < 2:
+            self.found.add(token[0], token.start())
+            return
+        self.found.add(b'/', token.start())
+        for piece, origin, is_same in pieces:
+            self.found.add(piece, origin, is_same=is_same)
+        self.found.add(b'/' + (b'u' if b'u' in signs else b''), token.end('body'), is_same=False)
+        if self.found._length > 4 * _MOST:
+            raise QueryError(f'query: longer than {_MOST} bytes', 3, self.found.source)
+
+    def body(self, atom: Atom, is_both_cases: bool) -> List[Tuple[bytes, int, bool]]:
+        """What a formula is written out to, in pieces with their places."""
+        pieces: List[Tuple[bytes, int, bool]] = []
+        at = 0
+        for use in _USE.finditer(atom.text):
+            if use[2] is None:
+                self.refuse_in_class(use, atom)
+                continue
+            pieces += self.plain(atom, at, use.start(), is_both_cases)
+            pieces += self.used(use, atom, is_both_cases)
+            at = use.end()
+        return pieces + self.plain(atom, at, len(atom.text), is_both_cases)
+
+    def refuse_in_class(self, use: 're.Match[bytes]', atom: Atom) -> None:
+        for name in self.parts:
+            at = (use['class'] or b'').find(b'%{' + name + b'}')
+            if at >= 0:
+                fault = QueryError(f'query: unexpected at {atom.offset + use.start() + at}', 3, self.found.source)
+                fault.hint = 'a part is a formula, and stands in no class'
+                raise fault
+
+    def used(self, use: 're.Match[bytes]', atom: Atom, is_both_cases: bool) -> List[Tuple[bytes, int, bool]]:
+        place = atom.offset + use.start()
+        part = self.parts.get(use[2])
+        if part is None:
+            fault = QueryError(f'query: unknown name at {place}', 3, self.found.source)
+            fault.hint = f'there is no part {use[2].decode()} before it, and %{{..}} uses one: the sign itself is \\{{'
+            raise fault
+        if part.atom.is_over_characters and not atom.is_over_characters:
+            fault = QueryError(f'query: unexpected at {place}', 3, self.found.source)
+            fault.hint = 'the part is over characters (u behind its closing slash), and so must be the formula'
+            raise fault
+        self.uses += 1
+        if self.uses > _MOST:
+            raise QueryError(f'query: longer than {_MOST} bytes', 3, self.found.source)
+        return [(b'(', place, False), *self.body(part.atom, is_both_cases or part.is_both_cases), (b')', place, False)]
+
+    @staticmethod
+    def plain(atom: Atom, start: int, end: int, is_both_cases: bool) -> List[Tuple[bytes, int, bool]]:
+        text = atom.text[start:end]
+        if not is_both_cases:
+            return [(text, atom.offset + start, True)] if text else []
+        return _replaced(Atom(text, atom.offset + start, atom.is_over_characters), _both_cases)
+
+
+def _replaced(atom: Atom, change: Callable[[Part], bytes]) -> List[Tuple[bytes, int, bool]]:
+    """The parts of a formula, changed; what is behind a part that cannot be read stays as it is."""
+    pieces: List[Tuple[bytes, int, bool]] = []
+    end = 0
+    for part in parts_of(atom):
+        changed = change(part)
+        pieces.append((changed, part.offset, changed == part.text))
+        end = part.offset - atom.offset + len(part.text)
+    if end < len(atom.text):
+        pieces.append((atom.text[end:], atom.offset + end, True))
+    return pieces
+
+
+# -- Both cases
+
+_HEX = re.compile(rb'\\x[0-9A-Fa-f]{2}\Z')
+
+
+def _letter_of(text: bytes) -> bytes:
+    """The ASCII letter that a sign stands for; nothing where it is none."""
+    sign = bytes([int(text[2:], 16)]) if _HEX.match(text) else text
+    return sign if len(sign) == 1 and sign.isalpha() and sign.isascii() else b''
+
+
+def _both_cases(part: Part) -> bytes:
+    if part.kind in ('literal', 'escape'):
+        letter = _letter_of(part.text)
+        return b'[' + letter.upper() + letter.lower() + b']' if letter else part.text
+    return _class_of_both_cases(part.text) if part.kind == 'class' else part.text
+
+
+_ITEM = re.compile(rb'\\x[0-9A-Fa-f]{2}|\\[pu]\{\w+\}|(?s:\\.)|(?s:.)')
+
+
+def _class_of_both_cases(text: bytes) -> bytes:
+    """A class with the other case of each letter and of each range of letters, before the rest of it.
+
+    >>> _class_of_both_cases(b'[a-f_]'), _class_of_both_cases(b'[^x-]'), _class_of_both_cases(b'[0-9]')
+    (b'[A-Fa-f_]', b'[^Xx-]', b'[0-9]')
+    """
+    start = 2 if text.startswith(b'[^') else 1
+    signs = _ITEM.findall(text[start:-1])
+    more, at = b'', 0
+    while at < len(signs):
+        low, high = _number(signs[at]), _number(signs[at])
+        if at + 2 < len(signs) and signs[at + 1] == b'-' and low is not None and _number(signs[at + 2]) is not None:
+            high = _number(signs[at + 2])
+            at += 2
+        at += 1
+        if low is not None and high is not None:
+            more += _other_case(low, high)
+    return text[:start] + more + text[start:] if more else text
+
+
+def _number(sign: bytes) -> Optional[int]:
+    if _HEX.match(sign):
+        return int(sign[2:], 16)
+    if sign.startswith(b'\\'):
+        return None if sign[1:2].isalnum() else sign[1]
+    return sign[0] if len(sign) == 1 else None
+
+
+def _other_case(low: int, high: int) -> bytes:
+    found = b''
+    for first, last, by in ((65, 90, 32), (97, 122, -32)):
+        begin, end = max(low, first), min(high, last)
+        if begin <= end:
+            found += bytes([begin + by]) + (b'-' + bytes([end + by]) if end > begin else b'')
+    return found
+
+
+# -- Letters of sequences
+
+_MEANS = {b'R': b'AG', b'Y': b'CTU', b'S': b'CG', b'W': b'ATU', b'K': b'GTU', b'M': b'AC', b'B': b'CGTU', b'D': b'AGTU',
+          b'H': b'ACTU',
+          b'V': b'ACG', b'N': b'ACGTU'}
+
+
+def _iupac_class(letter: bytes) -> bytes:
+    """The letters that a letter of a pattern fits: those that mean no more than it does, itself among them."""
+    means = set(_MEANS[letter])
+    return b'[' + _MEANS[letter] + b''.join(sorted(open for open, of in _MEANS.items() if set(of) <= means)) + b']'
+
+
+def _iupac(part: Part) -> bytes:
+    return _iupac_class(part.text) if part.kind == 'literal' and part.text in _MEANS else part.text
+
+
+_ATOMS = re.compile(rb'/((?:[^\\/]|\\.)*)/', re.S)
+
+
+def with_iupac(text: bytes) -> bytes:
+    """The query with each open letter of nucleotides in it, as N or R, as a class of the letters that it means.
+
+    Letters in classes, and in names, stay as they are.
+
+    >>> with_iupac(b'/!N{GRC[NA]}/')
+    b'/!N{G[AGR]C[NA]}/'
+    """
+    def atom(found: 're.Match[bytes]') -> bytes:
+        return b'/' + b''.join(piece for piece, _, _ in _replaced(Atom(found[1], 0, False), _iupac)) + b'/'
+    return _ATOMS.sub(atom, text)
+
+
+def open_letters(text: bytes) -> bytes:
+    """The open letters of nucleotides that stand in the formulas of a query as plain letters.
+
+    >>> open_letters(b'/GGNCC!R{[N]}/ join /TATA/')
+    b'N'
+    """
+    found = {part.text for atom in _ATOMS.finditer(text) for part in parts_of(Atom(atom[1], 0, False))
+             if part.kind == 'literal' and part.text in _MEANS}
+    return b''.join(sorted(found))

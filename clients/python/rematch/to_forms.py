@@ -1,0 +1,314 @@
+"""The forms of ``rematch-to`` that take one document after another: what each makes of a document, and what is written of it."""
+from __future__ import annotations
+
+import sys
+from collections import Counter
+from itertools import islice
+from typing import TYPE_CHECKING, Any, Dict, Iterable, Iterator, List, NoReturn, Optional, Sequence, Tuple, Type
+
+from .packed import Given
+from .tables import Context, Layout, Table, concordance, sorted_contexts
+from .to_jobs import Part
+from .to_lines import count_lines, shown_lines
+
+if TYPE_CHECKING:
+    from .convert import Command
+    from .sequences import Site
+
+__all__ = ['DOCUMENT_FORMS', 'Drawn', 'Form', 'layout_of', 'refuse']
+
+
+def refuse(message: str) -> NoReturn:
+    """Ends the command since its words do not fit the query: a line, and status 2."""
+    print(f'rematch-to: {message}', file=sys.stderr)
+    raise SystemExit(2)
+
+
+class Form:
+    """What is made of each document: texts, which are written, or where ``is_text`` is false a value, which `take` gets."""
+
+    is_text = True
+    is_sequence = False  # whether records of sequences are searched
+    takes_pieces = True  # whether a piece of a document can be done by itself
+
+    def __init__(self, command: 'Command') -> None:
+        self.command = command
+        self.given = command.given
+        self.query = command.query
+        self.left: Optional[int] = command.given.most
+
+    def head(self) -> str:
+        """What is written before all documents."""
+        return ''
+
+    def of(self, found: Given) -> Any:
+        """What is made of a document, or of a piece of one."""
+        raise NotImplementedError
+
+    def take(self, part: Part, value: Any) -> Iterable[str]:
+        """What is written once the value of a part is there."""
+        return ()
+
+    def end(self) -> Iterable[str]:
+        """What is written behind all documents."""
+        return ()
+
+    def limited(self, texts: Iterable[str]) -> Iterator[str]:
+        """The texts, as many as are left of those that are asked for."""
+        if self.left is None:
+            yield from texts
+            return
+        for text in islice(texts, self.left):
+            self.left -= 1
+            yield text
+
+
+def layout_of(given: Any, delimiter: str = ',') -> Layout:
+    """The layout of a table that the words ask for."""
+    columns = None if given.columns is None else [name.strip() for name in given.columns.split(',')]
+    return Layout(columns, bool(given.texts), given.context, given.var, bool(given.characters), delimiter)
+
+
+class _Csv(Form):
+    delimiter = ','
+
+    def __init__(self, command: 'Command') -> None:
+        super().__init__(command)
+        if self.given.var is not None and self.given.context is None:
+            refuse('--var is for --context here: give --context N too')
+        try:
+            self.table = Table(self.query, layout_of(self.given, self.delimiter))
+        except ValueError as reason:
+            refuse(str(reason))
+
+    def head(self) -> str:
+        return self.table.head()
+
+    def of(self, found: Given) -> Iterator[str]:
+        return self.limited(self.table.lines(found, self.command.rows(found)))
+
+
+class _Tsv(_Csv):
+    delimiter = '\t'
+
+
+class Drawn:
+    """So many of a list of any length, each with the same chance; the same ones for the same seed.
+
+    >>> drawn = Drawn(2, 7)
+    >>> drawn.add('abcde')
+    >>> drawn.in_order()
+    ['a', 'd']
+    """
+
+    def __init__(self, most: int, seed: int) -> None:
+        from random import Random
+        self._most = most
+        self._chance = Random(seed)
+        self._kept: List[Tuple[int, Any]] = []
+        self._seen = 0
+
+    def add(self, found: Iterable[Any]) -> None:
+        """Goes on with more of the list."""
+        for one in found:
+            place = self._seen if self._seen < self._most else self._chance.randrange(self._seen + 1)
+            if place < self._most:
+                self._kept[place:place + 1] = [(self._seen, one)]
+            self._seen += 1
+
+    def in_order(self) -> List[Any]:
+        """Those that were drawn, in the order of the list."""
+        return [one for _, one in sorted(self._kept, key=lambda kept: kept[0])]
+
+
+class _Kwic(Form):
+    def __init__(self, command: 'Command') -> None:
+        super().__init__(command)
+        name = self.given.var or (self.query.variables or ('',))[0]
+        if name not in self.query.variables:
+            refuse(f'the query has no variable{" " + name if name else "s"}')
+        self.name = name
+        self.columns = 35 if self.given.columns is None else int(self.given.columns)
+        self.label = max(map(len, self.command.names)) + 7
+        self.is_text = self.given.sort is None and self.given.sample is None
+        self.found: List[Context] = []
+        self.drawn = None if self.given.sample is None else Drawn(self.given.most, self.given.sample)
+
+    def of(self, found: Given) -> Any:
+        contexts = concordance(self.query, found, self.command.rows(found), self.name, self.columns)
+        return self.limited(map(self.shown, contexts)) if self.is_text else list(contexts)
+
+    def shown(self, context: Context) -> str:
+        return context.shown(self.columns, self.label, is_coloured=self.command.is_coloured) + '\n'
+
+    def take(self, part: Part, value: List[Context]) -> Iterable[str]:
+        if self.drawn is None:
+            self.found += value
+        else:
+            self.drawn.add(value)
+        return ()
+
+    def end(self) -> Iterable[str]:
+        if self.is_text:
+            return
+        if self.drawn is not None:
+            self.found = self.drawn.in_order()
+        yield from map(self.shown, islice(sorted_contexts(self.found, self.given.sort), self.given.most))
+
+
+class _Lines(Form):
+    takes_pieces = False
+
+    def __init__(self, command: 'Command') -> None:
+        super().__init__(command)
+        if self.given.others and self.given.around:
+            refuse('-v writes all other lines, so there are none around them: drop -C')
+        self.is_first = True  # whether nothing is written yet
+
+    def of(self, found: Given) -> Iterator[str]:
+        is_begun = False
+        data: bytes = found.data  # type: ignore[assignment]
+        name = f'{found.name}:' if len(self.command.names) > 1 else ''
+        around, is_coloured = self.given.around or 0, self.command.is_coloured
+        for line in shown_lines(found, self.command.rows(found), around, others=bool(self.given.others), keep=is_coloured):
+            is_counted = line.is_touched
+            if self.left == 0:
+                return
+            if self.left is not None and is_counted:
+                self.left -= 1
+            gap = '--\n' if around and not self.is_first and (line.is_behind_a_gap or not is_begun) else ''
+            self.is_first, is_begun = False, True
+            place = name + (f'{line.number}:' if self.given.line_numbers else '')
+            yield f'{gap}{place if is_counted else place.replace(":", "-")}{line.text(data, is_coloured=is_coloured)}\n'
+
+
+class _Count(Form):
+    is_text = False
+
+    def __init__(self, command: 'Command') -> None:
+        super().__init__(command)
+        self.takes_pieces = not self.given.lines
+        self.total = 0
+        self.of_document: Optional[Tuple[str, int]] = None  # of which pieces may come
+
+    def of(self, found: Given) -> int:
+        if self.given.lines:
+            return count_lines(found, self.command.rows(found))
+        rows = found.count(self.query)
+        self.command.tell_oddity(found, rows > 0)
+        return rows
+
+    def take(self, part: Part, value: int) -> Iterable[str]:
+        self.total += value
+        is_same = part.piece is not None and part.piece.start > 0 and self.of_document is not None
+        if not is_same:
+            yield from self.told()
+        self.of_document = (part.name, value + (self.of_document[1] if is_same and self.of_document else 0))
+        if part.piece is None:
+            yield from self.told()
+
+    def told(self) -> Iterable[str]:
+        if self.of_document is not None:
+            yield f'{self.of_document[1]} {self.of_document[0]}\n'
+        self.of_document = None
+
+    def end(self) -> Iterable[str]:
+        yield from self.told()
+        if len(self.command.names) > 1:
+            yield f'{self.total} total\n'
+
+
+class _Freq(Form):
+    is_text = False
+
+    def __init__(self, command: 'Command') -> None:
+        super().__init__(command)
+        self.names: Sequence[str] = self.query.variables if self.given.var is None else [name.strip()
+                                                                                         for name in self.given.var.split(',')]
+        missing = next((name for name in self.names if name not in self.query.variables), None)
+        if missing is not None:
+            refuse(f'the query has no variable {missing}: it has {", ".join(self.query.variables) or "none"}')
+        if not self.names:
+            refuse('the query has no variables, and counts are of their texts: put !name{..} around what is counted')
+        self.counts: 'Counter[Tuple[bytes, ...]]' = Counter()
+
+    def of(self, found: Given) -> 'Counter[Tuple[bytes, ...]]':
+        data: bytes = found.data  # type: ignore[assignment]
+        at = [2 * self.query.variables.index(name) for name in self.names]
+        return Counter(tuple([data[row[k]:row[k + 1]] if row[k] >= 0 else b'' for k in at]) for row in self.command.rows(found))
+
+    def take(self, part: Part, value: 'Counter[Tuple[bytes, ...]]') -> Iterable[str]:
+        self.counts.update(value)
+        return ()
+
+    def end(self) -> Iterable[str]:
+        from .tables import _cell, _shown
+        yield ','.join(['count', *self.names]) + '\n'
+        for texts, count in islice(sorted(self.counts.items(), key=lambda item: (-item[1], item[0])), self.given.most):
+            yield ','.join([str(count), *(_cell(_shown(text), ',') for text in texts)]) + '\n'
+
+
+class _Places(Form):
+    is_sequence = True
+    takes_pieces = False
+
+    def __init__(self, command: 'Command') -> None:
+        from ._reach import NoReach
+        from .sequences import has_anchor
+        super().__init__(command)
+        if has_anchor(self.query):
+            raise NoReach(r'an anchor would speak of all records together: a record has \n before it and behind it')
+
+    def sites(self, found: Given) -> Iterator['Site']:
+        """The sites of a document, by record and place where that is asked for."""
+        from .sequences import in_order, once, sites
+        data: bytes = found.data  # type: ignore[assignment]
+        self.tell_letters(found.name, data)
+        every = sites(self.query, data, both=not self.given.forward, left_out=self.left_out(found))
+        if self.given.strand_once:
+            every = once(every)
+        return self.command.progress.counted(in_order(every, data) if self.given.sorted else every)
+
+    def tell_letters(self, name: str, data: bytes) -> None:
+        from .expand import open_letters
+        from .sequences import are_proteins
+        is_protein = are_proteins(data)
+        if is_protein and not self.given.forward:
+            self.command.tell(f'{name}: it has letters of proteins, which have no other strand: --forward leaves it out')
+        letters = b'' if is_protein or self.given.iupac else open_letters(self.query.text)
+        if letters:
+            shown = ' '.join(letters.decode())
+            self.command.tell(f'{name}: the query has {shown} as plain letter{"s" if len(letters) > 1 else ""}: --iupac has '
+                              'each stand for what it means')
+
+    def left_out(self, found: Given) -> Any:
+        def tell(rows: int) -> None:
+            print(f'{found.name}: {rows} rows are left out, whose spans lie in several records or in none', file=sys.stderr)
+        return tell
+
+
+class _Bed(_Places):
+    def of(self, found: Given) -> Iterator[str]:
+        from .sequences import bed_lines
+        return bed_lines(self.sites(found), self.query.variables, frames=bool(self.given.frames))
+
+
+class _Gff(_Places):
+    def head(self) -> str:
+        from .sequences import GFF_HEAD
+        return GFF_HEAD
+
+    def of(self, found: Given) -> Iterator[str]:
+        from .sequences import gff_lines
+        return gff_lines(self.sites(found), self.query.variables)
+
+
+class _Fasta(_Places):
+    def of(self, found: Given) -> Iterator[str]:
+        from .sequences import fasta_lines
+        return fasta_lines(self.sites(found), self.query.variables)
+
+
+DOCUMENT_FORMS: Dict[str, Type[Form]] = {'csv': _Csv, 'tsv': _Tsv, 'kwic': _Kwic, 'lines': _Lines, 'count': _Count, 'freq': _Freq,
+                                         'bed': _Bed,
+                                         'gff': _Gff, 'fasta': _Fasta}

@@ -1,0 +1,141 @@
+"""What may hide rows of a document is told, with rows and without; documents that cannot be read are told, and the others read."""
+import gzip
+import os
+import re
+import unittest
+from unittest import mock
+
+from rematch import packed, pieces
+from support import Folder
+from commands import asked, without
+
+FASTA = b'>one\n' + b'ACGT' * 15 + b'\nGATC\n'
+PROTEIN = b'>p\n' + b'MKELPQGATC' * 6 + b'\nMKEL\n'
+
+
+class Doubts(Folder):
+    def told(self, data, *words, form='csv'):
+        path = self.file('d', data)
+        status, _, told = asked(form, *words, path)
+        self.assertEqual(status, 0, told)
+        self.assertEqual(asked(form, *words, path, '--quiet')[2], '', 'what --quiet leaves')
+        return without(self.folder, told)
+
+    def test_fasta_under_the_forms_of_texts(self):
+        for form in ('csv', 'tsv', 'count', 'kwic', 'html', 'lines', 'freq'):
+            told = self.told(FASTA, '-e', '/!x{GAT}C/', form=form)
+            self.assertRegex(told, r'^d: it is wrapped as FASTA is: .* bed, gff and fasta search its records\n$', form)
+            self.assertEqual(self.told(b'>a quoted line\nmore of it\n>another\n', '-e', '/!x{more} /', form=form), '')
+        for form in ('bed', 'gff', 'fasta'):
+            self.assertEqual(self.told(FASTA, '-e', '/!x{GAT}C/', form=form), '')
+
+    def test_text_that_is_not_utf8(self):
+        for query, part in (('/ !x{.} /u', 'd: it is no UTF-8 at 3'), ('/ !x{é} /', 'no UTF-8'), ('/ !x{a} /', '')):
+            told = self.told(b'caf\xe9 a b', '-e', query)
+            self.assertEqual(part in told if part else told, True if part else '', query)
+
+    def test_accents_as_signs_of_their_own(self):
+        text = 'Bu\u0308rger b\n'.encode()
+        self.assertRegex(self.told(text, '-e', r'/r!x{\p{L}+} /u'),
+                         r'^d: accents stand in it as signs of their own: .*\(NFC\)\n$')
+        for query, data in (('/ !x{b}\\n/', text), ('/!x{u\u0308}/', text), (r'/!x{u\p{Mn}}/u', text),
+                            ('/!x{ü}/', 'Bürger'.encode())):
+            self.assertEqual(self.told(data, '-e', query), '', query)
+
+    def test_packed_and_utf16_are_told_with_rows(self):
+        for data, part in ((b'PK\x03\x04a', 'packed by zip.*unzip -p'), (b'\x28\xb5\x2f\xfda', 'packed by zstd.*zstdcat'),
+                           (b'\xff\xfea\0', 'UTF-16'),
+                           (b'\xfe\xff\0a', 'UTF-16'), (gzip.compress(gzip.compress(b'a', mtime=0), mtime=0),
+                                                        'packed by gzip once more')):
+            self.assertRegex(self.told(data, '-e', '/!x{a}/'), '^d: it .*%s.*\n$' % part)
+            self.assertRegex(self.told(data, '-e', '/!x{zz}/', form='count'), '^d: it .*%s.*\n$' % part)
+
+    def test_what_a_document_without_rows_is(self):
+        for data, part in ((b'\xef\xbb\xbfb', 'byte order mark'), (b'b\r\nb\r\n', r'\r\n'), (b'b\n', None), (b'', None)):
+            for form in ('count', 'csv'):
+                told = self.told(data, '-e', '/!x{aa}/', form=form)
+                if part is None:
+                    self.assertEqual(told, '')
+                else:
+                    self.assertRegex(told, '^d: no row, and .*%s' % re.escape(part))
+        self.assertEqual(self.told(b'a\r\n', '-e', '/!x{a}/'), '')
+
+
+class Sequences(Folder):
+    def test_proteins_on_both_strands(self):
+        path = self.file('p', PROTEIN)
+        for form in ('bed', 'gff', 'fasta'):
+            self.assertIn('letters of proteins', asked(form, '-e', '/!x{MK}/', path)[2])
+            self.assertEqual(asked(form, '-e', '/!x{MK}/', '--forward', path)[2], '')
+            self.assertEqual(asked(form, '-e', '/!x{MK}/', '--quiet', path)[2], '')
+
+    def test_open_letters_of_a_query(self):
+        path = self.file('d', FASTA)
+        self.assertRegex(asked('bed', '-e', '/!x{GRNTC}/', path)[2], r'd: the query has N R as plain letters: --iupac')
+        for words in (('-e', '/!N{GATC}/'), ('-e', '/!x{GRN}/', '--iupac'), ('-e', '/!x{GRN}/', '--quiet')):
+            self.assertEqual(asked('bed', *words, path)[2], '', words)
+        self.assertNotIn('iupac', asked('bed', '-e', '/!x{N[^P]T}/', self.file('p', PROTEIN))[2])
+
+    def test_iupac(self):
+        path = self.file('d', b'>r\nTTGACCTTGGRCCTT\n')
+        self.assertEqual(asked('fasta', '--forward', '--iupac', '-e', '/!x{GNCC}/', path),
+                         (0, '>r:2-6(+) x\nGACC\n>r:9-13(+) x\nGRCC\n', ''))
+        self.assertEqual(asked('fasta', '--forward', '--quiet', '-e', '/!x{GNCC}/', path)[1], '')
+        # A letter fits those that mean no more than it does: W is A or T, so R, which may be G, does not fit it.
+        self.assertEqual(asked('count', '--iupac', '-e', '/!x{a}/', path)[0], 2)
+        self.assertEqual(asked('fasta', '--forward', '--iupac', '-e', '/!x{GWCC}/', path)[1], '>r:2-6(+) x\nGACC\n')
+
+
+class Several(Folder):
+    """Where one of several documents cannot be read the others are, and the status is 1."""
+
+    def setUp(self):
+        super().setUp()
+        self.gone = os.path.join(self.folder, 'gone')
+        self.names = [self.file('a', b'>r\na\n'), self.gone, self.folder, self.file('b', b'>r\naa\n'),
+                      self.file('c', gzip.compress(b'>r\na' * 99)[:-9])]
+
+    def test_each_form(self):
+        for form, found in (('csv', ['a,', 'b,', 'b,']), ('count', ['1 a', '2 b', '3 total']), ('freq', ['3,a']),
+                            ('lines', ['a:a', 'b:aa']), ('kwic', ['a:2', 'b:2', 'b:2']),
+                            ('html', ['a', 'b'])):
+            status, out, told = asked(form, '-e', '/!x{a}/', *self.names)
+            self.assertEqual(status, 1, form)
+            self.assertEqual(without(self.folder, told).split('\n')[0], 'gone: No such file or directory')
+            self.assertIn(self.folder + ': Is a directory', told)
+            self.assertIn(os.path.join(self.folder, 'c') + ': ', told)
+            for part in found:
+                self.assertIn(part, without(self.folder, out), form)
+        for form in ('bed', 'gff', 'fasta'):
+            status, out, _ = asked(form, '-e', '/!x{A}/', '--forward', *self.names)
+            self.assertEqual((status, len([line for line in out.split('\n') if line.startswith(('r\t', '>r'))])), (1, 3), form)
+
+    def test_kwic_that_is_sorted_and_notes_in_a_folder(self):
+        self.assertEqual(asked('kwic', '--sort', 'right', '-e', '/!x{a}/', *self.names)[0], 1)
+        out = os.path.join(self.folder, 'out')
+        os.mkdir(out)
+        self.assertEqual(asked('ann', '-o', out, '-e', '/!x{a}/', *self.names)[0], 1)
+        self.assertEqual(sorted(os.listdir(out)), ['a.ann', 'b.ann'])
+        bad = [self.file('x', b'a\xff'), self.file('y', b'a')]
+        status, _, told = asked('ann', '-o', out, '-e', '/!x{a}/', *bad)
+        self.assertEqual((status, 'no UTF-8 at 1' in told, os.path.exists(os.path.join(out, 'y.ann'))), (1, True, True))
+
+    def test_a_missing_document_alone(self):
+        self.assertEqual(asked('count', '-e', '/!x{a}/', self.gone)[0], 5)
+        self.assertEqual(asked('count', '-e', '/!x{a}/', self.gone, self.gone)[0], 1)
+
+    def test_too_long_documents_among_others(self):
+        long = self.file('long', b'ab\n' * 5)
+        with mock.patch.object(packed, 'MOST_BYTES', 10), mock.patch.object(pieces, '_USUAL', 4):
+            status, out, told = asked('count', '-e', '/!x{a[^c]*}b/', '--quiet', self.names[0], long, self.names[3])
+            self.assertEqual((status, without(self.folder, out)), (1, '0 a\n0 b\n0 total\n'))
+            self.assertIn('long: no reach: it is too long for one run', told)
+            self.assertEqual(asked('count', '-e', '/!x{a}b/', self.names[0], long)[1].split('\n')[1], '5 ' + long)
+
+    def test_a_query_that_is_too_large_is_told_once(self):
+        status, _, told = asked('count', '-e', '/!x{(a{1000}){20}}/', self.names[0], self.names[3])
+        self.assertEqual((status, told.count('20000 states')), (4, 1))
+
+
+if __name__ == '__main__':
+    unittest.main()

@@ -1,0 +1,124 @@
+"""Query texts with comments, both cases of letters and named parts: what the program reads, and faults at their places."""
+import glob
+import itertools
+import os
+import random
+import re
+import unittest
+
+import rematch
+from rematch import expand
+from support import DOCS, EXAMPLES, Folder
+from commands import asked
+from test_convert import in_a_process
+
+
+def text(query):
+    return expand.expanded(query).text.decode()
+
+
+class Passed(unittest.TestCase):
+    def test_byte_for_byte(self):
+        """A text without conveniences is what it was."""
+        found = []
+        for path in glob.glob(os.path.join(EXAMPLES, '*.query')):
+            with open(path, 'rb') as file:
+                found.append(file.read())
+        with open(os.path.join(DOCS, 'LANGUAGE.md'), encoding='utf-8') as file:
+            found += [query.encode() for query in re.findall(r"rematch -e '([^']*)'", file.read())]
+        self.assertGreater(len(found), 60)
+        for query in found + [b'', b'/', b'\xff/\xff/', b'let part = /a/; part', b'let part=/a/;part join /#/', b'/100%{2}/',
+                              b'/[%{ip}]/', b'project part (/!part{#}/)',
+                              b'/a/g', b'/a/ii ', b'/a', b'a/i/b', b'/a\\/i', b'part', b'part = /a/']:
+            if query != b'/a/ii ':
+                self.assertEqual(expand.expanded(query).text, query)
+
+    def test_drawn_texts(self):
+        pick = random.Random(4)
+        for _ in range(2000):
+            query = ''.join(pick.choice(['/', 'a', '\\', '[', ']', '{', '[%{x}]', ' ', ';', 'let ', 'part', '=', 'u', '\n', '!x{',
+                                         '}', 'é']) for _ in range(pick.randrange(12))).encode()
+            if not re.search(rb'part\s+\w+\s*=', query):
+                found = expand.expanded(query)
+                self.assertEqual((found.text, [found.origin(at) for at in range(len(query))]), (query, list(range(len(query)))))
+
+
+class Written(unittest.TestCase):
+    def test_comments(self):
+        self.assertEqual(text('# one\n/a#/ # two /b/\nunion /b/#'), '\n/a#/ \nunion /b/')
+        self.assertEqual(text('let x = /a/; # which\n# not\nx'), 'let x = /a/; \n\nx')
+
+    def test_both_cases(self):
+        for query, wanted in (('/aZ1_é/i', '/[Aa][Zz]1_é/'), ('/!name{a{2}|b?}/i', '/!name{[Aa]{2}|[Bb]?}/'),
+                              ('/[a-c]/i', '/[A-Ca-c]/'), ('/[^A-Cx-]/iu', '/[^a-cXA-Cx-]/u'),
+                              ('/[0-9]\\d\\w\\n/i', '/[0-9]\\d\\w\\n/'), ('/\\x41\\./ui', '/[Aa]\\./u'),
+                              ('/[\\x41-\\x43]/i', '/[a-c\\x41-\\x43]/'), ('/^a$/i', '/^[Aa]$/'),
+                              ('/[X-c]/i', '/[x-zA-CX-c]/'), ('/\\p{Lu}a/ui', '/\\p{Lu}[Aa]/u'), ('//i', '//'),
+                              ('/a/i/b/', '/[Aa]//b/')):
+            self.assertEqual(text(query), wanted)
+
+    def test_both_cases_find_what_python_finds(self):
+        words = [''.join(letters) for letters in itertools.product('aAbB-', repeat=2)]
+        data = (' ' + '  '.join(words) + ' ')
+        for formula in ('ab', 'a[b-]', '[^b]B', 'a|b-', 'a?-', '[A-a]b'):
+            found = {match['x'] for match in rematch.Query(text('/ !x{%s} /i' % formula)).finditer(data)}
+            self.assertEqual(found, {word for word in re.findall(r'(?<= )(?:%s)(?= )' % formula, data, re.I)}, formula)
+
+    def test_parts(self):
+        for query, wanted in ((r'part ip = /[\d.]+/; /from !a{%{ip}} to !b{%{ip}}/', r'/from !a{([\d.]+)} to !b{([\d.]+)}/'),
+                              ('part x = /a|b/;\npart y = /%{x}c/;\nlet z = /%{y}{2}/; z', 'let z = /((a|b)c){2}/; z'),
+                              ('part x = /ab/; /%{x}c/i', '/([Aa][Bb])[Cc]/'), ('part x = /a/i; /%{x}c/', '/([Aa])c/'),
+                              ('part x = /é/u; /%{x}/u', '/(é)/u'),
+                              ('part x = /!n{a}/; /%{x}/', '/(!n{a})/'), (r'part x = /a/; /%\{x\}\%%{x}/', r'/%\{x\}\%(a)/'),
+                              ('part x = /a/; /b/', '/b/'),
+                              ('part x=/a/;let part = /%{x}/; part', 'let part = /(a)/; part')):
+            self.assertEqual(text(query), wanted)
+            rematch.Query(wanted)
+
+    def test_refused(self):
+        for query, at, part in (('part x = /a/; /%{y}/', 15, 'no part y'), ('/%{x}/ union /a/; part x = /a/;', 1, 'no part x'),
+                                ('/a%{ip}/', 2, 'no part ip'), ('part x = /a/; part x = /b/; /a/', 19, 'rename'),
+                                ('part x = /a/ /b/; /a/', 13, 'one formula'), ('part x = /a/', 12, 'one formula'),
+                                ('part x = /a/ union /b/; /c/', 13, 'one formula'),
+                                ('part x = /a/u; /%{x}/', 16, 'over characters'), ('part x = /a/; /[%{x}]/', 16, 'in no class'),
+                                ('part x = /%{x}/; /a/', 10, 'no part x')):
+            with self.assertRaises(rematch.QueryError) as caught:
+                expand.expanded(query)
+            self.assertEqual((caught.exception.offset, part in str(caught.exception.hint)), (at, True), query)
+
+    def test_parts_that_double(self):
+        query = 'part a0 = /x/; ' + ''.join('part a%d = /%%{a%d}%%{a%d}/; ' % (k, k - 1, k - 1)
+                                            for k in range(1, 40)) + '/%{a39}/'
+        with self.assertRaisesRegex(rematch.QueryError, 'longer than 65536 bytes'):
+            expand.expanded(query)
+
+
+class Places(Folder):
+    def fault(self, query):
+        return asked('csv', '-e', query)[2].split('\n')
+
+    def test_faults_are_where_they_were_written(self):
+        for query, caret in (('# what\n/abc/i join\n/a**/', '   ^'), ('/abc*?/i', '     ^'),
+                             ('part p = /a**/;\n/b%{p}/', '            ^'), ('/ab/i join', '          ^')):
+            told = self.fault(query)
+            at = next(k for k, line in enumerate(told) if set(line) <= set(' ^') and '^' in line)
+            self.assertEqual(told[at], '  ' + caret, query)
+            self.assertTrue(told[at - 1][2:] in query, query)
+
+    def test_check_shows_what_the_program_reads(self):
+        for query, wanted in (('/a/i # x', '/[Aa]/ \n'), ('/!x{a}/\n', '/!x{a}/\n'), ('part p = /b/; /%{p}(/', '/(b)(/\n')):
+            self.assertEqual(asked('check', '--expanded', '-e', query), (0, wanted, ''))
+        self.assertEqual(asked('check', '--expanded', '-q', self.file('q', b'/!x{\xc3\xa9}/'))[1], '/!x{é}/\n')
+        self.assertEqual(asked('check', '--expanded', '-e', 'part p = /b/; /%{q}/')[0], 3)
+        self.assertEqual(asked('csv', '--expanded', '-e', '/a/')[0], 2)
+        self.assertTrue(asked('check', '-e', '/!x{a}b/i # both')[1].startswith('query /!x{[Aa]}[Bb]/ \n'.rstrip() ))
+
+    def test_pieces_take_them(self):
+        document, query = self.file('d', b'Error\nok\nERROR\n'), self.file('q', b'part e = /error/i; # both\n/!x{%{e}}/')
+        self.assertEqual(in_a_process(query, document, '0', '15', name='rematch-piece')[:2], (0, 'x=0-5\nx=9-14\n'))
+        status, _, told = in_a_process(self.file('q', b'part e = /a**/;\n/%{e}/'), document, '0', '15', name='rematch-piece')
+        self.assertEqual((status, told.split('\n')[2]), (3, '  part e = /a**/;'))
+
+
+if __name__ == '__main__':
+    unittest.main()

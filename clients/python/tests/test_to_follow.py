@@ -1,0 +1,137 @@
+"""rematch-to follow: each row of a growing document once, and files that grow, are cut, replaced or away."""
+import os
+import random
+import subprocess
+import sys
+import threading
+import time
+import unittest
+
+import rematch
+from rematch.pieces import reach
+from rematch.to_follow import Growing
+from support import PYTHON, Folder, needs_speed
+from commands import asked
+
+QUERIES = (r'/!x{a}b/', r'/!x{a}\n!y{b}/', r'/!x{a+}[^\n]*\n[^\n]*\n?!y{b}/', r'/!x{\n}/', r'/!x{}\n/',
+           r'/!x{a}/ union /!y{b}\n/', r'/!x{a}[ab]!y{}/ join /!y{}b/',
+           r'/!x{a}/ minus /!x{a}b/', r'/!x{a}b?/ minus /!x{a}\nb/', r'/!x{a}/ minus /b\n!x{a}/',
+           r'/!x{a[^b]?}/ minus /!x{a}(.|\n){0,2}b/',
+           r'/(\n[^\n]*){0,2}!x{ab?}/')
+
+
+class Grown(unittest.TestCase):
+    def check(self, query, data, cuts):
+        wanted = list(query.rows(data))
+        growing = Growing(query, reach(query))
+        found, most = [], 0
+        for start, end in zip([0] + cuts, cuts + [len(data)]):
+            found += growing.grow(data[start:end])
+            most = max(most, growing.window.count(b'\n'))
+        found += growing.end()
+        self.assertEqual(sorted(found), sorted(wanted), (query, data, cuts))
+        self.assertEqual(len(found), len(set(found)))
+        return found
+
+    def test_rows_are_those_of_the_whole(self):
+        pick = random.Random(8)
+        for text in QUERIES:
+            query = rematch.Query(text)
+            for _ in range(6):
+                data = bytes(pick.choice(b'aab\n\n') for _ in range(pick.randrange(16)))
+                self.check(query, data, sorted(pick.randrange(len(data) + 1) for _ in range(pick.randrange(4))))
+
+    def test_a_row_is_given_when_its_line_ends(self):
+        growing = Growing(rematch.Query(r'/!x{a}b/'), 0)
+        self.assertEqual([growing.grow(part) for part in (b'ab', b'\n', b'ab\nab\na')], [[], [(0, 1)], [(3, 4), (6, 7)]])
+        self.assertEqual(growing.end(), [])
+
+    def test_a_row_that_may_be_taken_away_waits(self):
+        query = rematch.Query(r'/!x{a}/ minus /!x{a}\nb/')
+        growing = Growing(query, reach(query))
+        self.assertEqual([growing.grow(part) for part in (b'a\n', b'b\n', b'a\n', b'a\n')], [[], [], [], [(4, 5)]])
+        self.assertEqual(growing.end(), [(6, 7)])
+
+    def test_little_is_kept(self):
+        """Each line costs the same: what is searched anew are the lines that a row can reach."""
+        query = rematch.Query(r'/!x{a}\n!y{b}/')
+        growing = Growing(query, reach(query))
+        for k in range(60):
+            growing.grow(b'a\n' if k % 2 else b'b\n')
+            self.assertLessEqual(growing.window.count(b'\n'), 3)
+        self.assertEqual(growing.start + len(growing.window), 120)
+
+
+class Followed(Folder):
+    def follow(self, path, *words, query='/!x{a.}/'):
+        """A process that follows, and what it has written, line by line."""
+        code = 'import sys; sys.argv[0] = "rematch-to"; from rematch.__main__ import run; sys.exit(run())'
+        run = subprocess.Popen([sys.executable, '-c', code, 'follow', '--columns', 'line,x_start,x', '-e', query, '--quiet',
+                                *words, path], stdout=subprocess.PIPE,
+                               stderr=subprocess.PIPE, env=dict(os.environ, PYTHONPATH=PYTHON))
+        self.addCleanup(self.ended, run)
+        self.assertEqual(run.stdout.readline(), b'line,x_start,x\n')
+        return run
+
+    def ended(self, run):
+        if run.poll() is None:
+            run.kill()
+        run.wait()
+        run.stdout.close()
+        run.stderr.close()
+
+    def grow(self, path, data, mode='ab'):
+        with open(path, mode) as file:
+            file.write(data)
+
+    @needs_speed
+    def test_rows_as_they_come(self):
+        path = self.file('d', b'a0\n')
+        run = self.follow(path)
+        self.grow(path, b'a1\nxx\na')
+        self.assertEqual(run.stdout.readline(), b'2,3,a1\n')
+        self.grow(path, b'2\n')
+        self.assertEqual(run.stdout.readline(), b'4,9,a2\n')
+        self.grow(path, b'a3\n', 'wb')
+        self.assertEqual(run.stdout.readline(), b'1,0,a3\n')
+        self.assertRegex(run.stderr.readline().decode(), 'it was cut, and is read from its start')
+        os.rename(path, path + '.1')
+        self.grow(path, b'\na4\n')
+        self.assertEqual(run.stdout.readline(), b'2,1,a4\n')
+        self.assertRegex(run.stderr.readline().decode(), 'it was replaced')
+        run.send_signal(2)
+        self.assertEqual((run.wait(), run.stderr.read()), (130, b''))
+
+    def test_from_the_start_until_nothing_comes(self):
+        path = self.file('d', b'a0\nb\na1')
+        self.assertEqual(asked('follow', '--from-start', '--idle', '0', '-e', '/!x{a.}/', '--texts', path),
+                         (0, 'document,line,x\n{0},1,a0\n{0},3,a1\n'.format(path), ''))
+        self.assertEqual(asked('follow', '--idle', '0', '-e', '/!x{a.}/', '--texts', path)[:2], (0, 'document,line,x\n'))
+
+    def test_a_file_that_grows_here(self):
+        path = self.file('d', b'')
+        thread = threading.Thread(target=lambda: [time.sleep(0.3), self.grow(path, b'a1\n'), time.sleep(0.3),
+                                                  self.grow(path, 'aé\n'.encode())])
+        thread.start()
+        status, out, _ = asked('follow', '--idle', '3', '-e', '/!x{a.}/u', '--texts', path)
+        thread.join()
+        self.assertEqual((status, out.splitlines()[1:]), (0, [path + ',1,a1', path + ',2,aé']))
+
+    def test_standard_input(self):
+        self.assertEqual(asked('follow', '-e', '/!x{a.}/', '--columns', 'x', '-', stdin=b'a1\nba2')[1], 'x\na1\na2\n')
+        self.assertEqual(asked('follow', '-e', '/!x{a.}/', '--columns', 'x', stdin=b'a\xff\n')[1], 'x\na\\xff\n')
+
+    def test_refusals(self):
+        path = self.file('d', b'')
+        for words, status, part in (((path, path), 2, 'one file'), ((path, '--characters'), 2, 'bytes'),
+                                    ((path, '--columns', 'y'), 2, 'no column'),
+                                    ((os.path.join(self.folder, 'gone'),), 5, 'No such file'), ((self.folder,), 5, 'directory')):
+            found, _, told = asked('follow', '--idle', '0', '-e', '/!x{a}/', *words)
+            self.assertEqual((found, part in told), (status, True), told)
+        for query, part in (('/^!x{a}/', 'anchor'), ('/!x{a[^b]*}/', 'no end'), ('/a/', 'no variables')):
+            status, out, told = asked('follow', '--idle', '0', '-e', query, path)
+            self.assertEqual((status, out, 'no reach' in told and part in told), (4, '', True), told)
+
+
+if __name__ == '__main__':
+    unittest.main()
