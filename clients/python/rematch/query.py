@@ -5,7 +5,7 @@ import os
 from array import array
 from itertools import repeat
 from json import loads
-from typing import IO, TYPE_CHECKING, Any, Dict, Iterator, List, Optional, Sequence, Tuple, Union, overload
+from typing import IO, TYPE_CHECKING, Any, Dict, Iterable, Iterator, List, Optional, Sequence, Tuple, Union, overload
 
 from .documents import Document, Source, open_document
 from .faults import ProgramError
@@ -271,6 +271,17 @@ class Query(Variables):
             return sum(lines.count(b'\n') for lines in self._pieces(run))
         finally:
             run.close()
+
+    def map(self, texts: Iterable[Union[str, bytes]]) -> Iterator[Matches[Any]]:
+        """The rows of each of many texts, as a list a text, in order; what each gives is what `findall` gives of it.
+
+        Texts are searched together, so that short ones cost little. A fault is raised in the place of its text.
+
+        >>> [[match['x'] for match in found] for found in Query('/^!x{[a-z]+}=/').map(['one=1', 'two', 'three=3'])]
+        [['one'], [], ['three']]
+        """
+        from .many import Mapped
+        return Mapped(self).rows(texts)
 
     def rows(self, document: Source, *, after: str = 'start', limit: Optional[int] = None) -> Iterator[Row]:
         """The rows as flat tuples, start and end of each variable in turn, -1 and -1 for an absent one.
