@@ -56,6 +56,7 @@ class Document:
     """
 
     __slots__ = ('name', '_data', '_text', '_places', '_held', '_path', '_watched', '__weakref__')
+    _begins = 0  # where the data begins, of a part of what is followed
 
     def __init__(self, source: Source, encoding: Optional[str] = None) -> None:
         self.name: Optional[str] = None

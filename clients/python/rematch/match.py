@@ -234,7 +234,7 @@ class Matches(List[Match[AnyStr]]):
     """A list of rows, which a notebook shows as a view of the document."""
 
     def _repr_html_(self) -> Optional[str]:
-        if not self or not self[0]._query.variables:
+        if not self or not self[0]._query.variables or self[0]._document._begins:
             return None
         from .view import fragment
         first = self[0]

@@ -5,7 +5,7 @@ import os
 from array import array
 from itertools import repeat
 from json import loads
-from typing import IO, TYPE_CHECKING, Any, Dict, Iterable, Iterator, List, Optional, Sequence, Tuple, Union, overload
+from typing import IO, TYPE_CHECKING, Any, Callable, Dict, Iterable, Iterator, List, Optional, Sequence, Tuple, Union, overload
 
 from .documents import Document, Source, open_document
 from .faults import ProgramError
@@ -282,6 +282,25 @@ class Query(Variables):
         """
         from .many import Mapped
         return Mapped(self).rows(texts)
+
+    def follow(self, source: 'Union[str, os.PathLike[str], IO[bytes]]', *, from_end: bool = False, wait: float = 0.2,
+               quiet: Optional[float] = None, until: Optional[Callable[[], bool]] = None) -> Iterator[Match[bytes]]:
+        """The rows of a file that grows, as they come, as ``tail -f`` has its lines. ``source`` is a path or an open binary file.
+
+        Whole lines are searched, with as many before them as the query reaches, so that each step costs what is new; `NoReach`
+        tells why a query has no reach. Each row is given once. Of a query with ``minus`` that reaches over lines a row comes when
+        as many lines stand behind it. A file under the same name that is new, or shorter than what was read, is read from its start.
+
+        A path, ``str`` or another, is looked at every ``wait`` seconds. With ``from_end`` the whole lines that it has are passed over. It ends
+        when ``quiet`` seconds brought nothing new, or where ``until`` is true then; a stream ends with itself. What has no line feed
+        is searched at the end.
+
+        >>> import io
+        >>> [(match.span('x'), match['x']) for match in Query('/!x{[0-9]+} up/').follow(io.BytesIO(b'7 up, 8 up'))]
+        [((0, 1), b'7'), ((6, 7), b'8')]
+        """
+        from .follow import followed
+        return followed(self, source, from_end, wait, quiet, until)
 
     def rows(self, document: Source, *, after: str = 'start', limit: Optional[int] = None) -> Iterator[Row]:
         """The rows as flat tuples, start and end of each variable in turn, -1 and -1 for an absent one.
