@@ -25,7 +25,7 @@ class Reader(HTMLParser):
     def handle_starttag(self, tag, attributes):
         given = dict(attributes)
         kind = (given.get('class') or '').split(' ')[0]
-        if tag not in ('meta',):
+        if tag not in ('meta', 'input'):
             self.open.append((tag, kind))
         if kind == 'rm-text':
             self.texts.append('')
@@ -41,7 +41,7 @@ class Reader(HTMLParser):
         kinds = [kind for _, kind in self.open]
         if 'rm-text' in kinds and not {'rm-more', 'rm-fold'} & set(kinds):
             self.texts[-1] += data
-        if any(tag == 'li' for tag, _ in self.open):
+        if any(tag == 'li' for tag, _ in self.open) and 'rm-said' not in kinds:
             self.items[-1] += data
 
 
