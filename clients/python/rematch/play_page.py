@@ -13,25 +13,27 @@ h1{font-size:1.1em;margin:.2em 0}
 .pl-in{display:grid;grid-template-columns:1fr 1fr;gap:1em}
 .pl-in label{display:block;font-size:13px;margin-bottom:.2em}
 textarea{box-sizing:border-box;width:100%;height:9em;font:15px/1.4 ui-monospace,"DejaVu Sans Mono",monospace;resize:vertical;padding:.4em;tab-size:4}
-#fault{white-space:pre;overflow-x:auto;font:14px/1.4 ui-monospace,"DejaVu Sans Mono",monospace;margin:.5em 0;padding:.4em;border-left:4px solid #c92a2a}
-#fault:empty,#there[hidden]{display:none}
+#fault{margin:.5em 0;padding:.4em;border-left:4px solid #c92a2a;font-size:14px}
+#fault pre{overflow-x:auto;font:14px/1.4 ui-monospace,"DejaVu Sans Mono",monospace;margin:0}
+#fault p{margin:.3em 0 0}
+#fault:not(:has(:not(:empty))),#there[hidden]{display:none}
 .pl-bar{display:flex;flex-wrap:wrap;gap:.5em;align-items:center;padding:.5em 0;font-size:14px}
 .pl-bar button,#there{font:inherit;padding:.2em .6em}
 #rows[aria-busy=true]{opacity:.6}
 @media (max-width:700px){.pl-in{grid-template-columns:1fr}textarea{height:6em}}
 '''
 _SCRIPT = '''
-const $=i=>document.getElementById(i),query=$('query'),text=$('document'),fault=$('fault'),rows=$('rows'),say=$('say'),there=$('there');
+const $=i=>document.getElementById(i),query=$('query'),text=$('document'),fault=$('fault'),place=fault.firstChild,hint=fault.lastChild,rows=$('rows'),say=$('say'),there=$('there');
 let sent=text.defaultValue,number=0,first=0,late,reply={};
 const ask=async to=>{const mine=++number,body={query:query.value,first:to};const own=text.value;if(own!==sent)body.document=own;
 rows.setAttribute('aria-busy','true');let got;
 try{const r=await fetch('',{method:'POST',headers:{'Content-Type':'application/json'},body:JSON.stringify(body)});
 got=r.ok?await r.json():{fault:await r.text()};if(r.ok)sent=own}catch(e){got={fault:'rematch-play has ended: begin it anew'}}
 if(mine!==number||got.old)return;rows.setAttribute('aria-busy','false');reply=got;
-fault.textContent=got.fault||'';there.hidden=got.at==null;
-if(got.fault){say.textContent=query.value?'fault':'';if(!query.value)fault.textContent='';return}
+const told=query.value&&got.fault||'',k=told.indexOf('\\nhint: ');place.textContent=k<0?told:told.slice(0,k);
+hint.textContent=k<0?'':told.slice(k+1);there.hidden=!told||got.at==null;if(got.fault){say.textContent=told&&'fault';return}
 first=got.first;rows.innerHTML=got.html;
-say.textContent=got.rows?'rows '+(first+1)+' to '+(first+got.rows)+' of '+got.known+(got.all?'':' and more'):'no rows';
+say.textContent=got.rows?'rows '+(first+1)+' to '+(first+got.rows)+(got.all?' of '+got.known:', and more'):'no rows';
 $('back').disabled=!first;$('begin').disabled=!first;$('on').disabled=!got.more};
 const soon=()=>{clearTimeout(late);late=setTimeout(()=>ask(0),200)};
 query.addEventListener('input',soon);text.addEventListener('input',soon);
@@ -66,7 +68,7 @@ def page(query: str, document: str, name: str, nonce: str) -> str:
 <div><label for="document">Document</label><textarea id="document" lang="" dir="auto" spellcheck="false" autocomplete="off">
 {escape(document)}</textarea></div>
 </div>
-<pre id="fault" role="alert"></pre><button id="there" hidden>Go to the place</button>
+<div id="fault" role="alert"><pre></pre><p></p></div><button id="there" hidden>Go to the place</button>
 <div class="pl-bar"><button id="begin" disabled>First</button><button id="back" disabled>Previous</button><button id="on" disabled>Next</button>
 <output id="say" aria-live="polite"></output></div>
 <div id="rows" class="rm" role="region" aria-label="rows over their document"></div>
