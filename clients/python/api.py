@@ -18,14 +18,15 @@ GROUPS = [
     ('Queries', ['Query', 'compile', 'search', 'findall', 'finditer', 'sub']),
     ('Rows', ['Match', 'Matches', 'Page', 'NoVariable']),
     ('Documents', ['Document']),
-    ('Faults', ['RematchError', 'QueryError', 'SizeError', 'DocumentError', 'CursorError', 'OutOfMemory', 'ProgramError', 'ProgramNotFound']),
+    ('Faults', ['RematchError', 'QueryError', 'SizeError', 'DocumentError', 'CursorError', 'OutOfMemory', 'ProgramError',
+                'ProgramNotFound']),
     ('Many queries in one run', ['Server', 'Served', 'Session', 'SessionError']),
     ('Pieces, machines, advice', ['reach', 'NoReach', 'on_dask', 'advise', 'Advice', 'find_program']),
 ]
 HEAD = '''# The Python package, name by name
 
-clients/python/api.py writes this page from the texts of the package; clients/README.md has a walk through it. The package needs Python 3.9
-and the program. The examples begin with `from rematch import *`, and are tests.
+`clients/python/api.py` writes this page from the texts of the package; [clients/README.md](../clients/README.md) has a walk
+through it. The examples begin with `import rematch` and `from rematch import *`, and are tests.
 '''
 
 
@@ -55,8 +56,8 @@ def told(text):
 def signature(call):
     """The words of a call, without the types."""
     given = inspect.signature(call)
-    bare = [word.replace(annotation=inspect.Parameter.empty) for name, word in given.parameters.items() if name not in ('self', 'cls')]
-    return str(given.replace(parameters=bare, return_annotation=inspect.Signature.empty))
+    words = [word for word in given.parameters.values() if word.name not in ('self', 'cls')]
+    return str(given.replace(parameters=[word.replace(annotation=inspect.Parameter.empty) for word in words], return_annotation=inspect.Signature.empty))
 
 
 def members(kind):
@@ -93,10 +94,14 @@ def page():
         parts.append(f'## {title}')
         for name in names:
             value = named[name]
-            parts += of_class(name, value) if inspect.isclass(value) else [f'### {name}{signature(value)}\n\n{told(value.__doc__)}']
+            if inspect.isclass(value):
+                parts += of_class(name, value)
+            else:
+                parts.append(f'### {name}{signature(value)}\n\n{told(value.__doc__)}')
     parts.append(with_pandas())
     contents.append('- [pandas](#pandas): `series.rematch`')
-    return HEAD + '\n' + '\n'.join(wrapped(line, 126).replace('\n', '\n  ') for line in contents) + '\n\n' + '\n\n'.join(parts) + '\n'
+    listing = '\n'.join(wrapped(line, 126).replace('\n', '\n  ') for line in contents)
+    return '\n\n'.join([HEAD, listing, *parts]).replace('\n\n\n', '\n\n') + '\n'
 
 
 def with_pandas():
@@ -113,9 +118,12 @@ def with_pandas():
     return '\n\n'.join(parts)
 
 
-def main():
+def main(words):
     made = page()
-    if '--check' in sys.argv[1:]:
+    if words not in ([], ['--check']):
+        print('usage: clients/python/api.py [--check]', file=sys.stderr)
+        return 2
+    if words:
         with open(PAGE, encoding='utf-8') as file:
             is_new = file.read() == made
         print('docs/API.md is up to date' if is_new else 'docs/API.md is not up to date: clients/python/api.py writes it')
@@ -126,4 +134,4 @@ def main():
 
 
 if __name__ == '__main__':
-    sys.exit(main())
+    sys.exit(main(sys.argv[1:]))

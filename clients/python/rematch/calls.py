@@ -37,7 +37,8 @@ def search(query: Union[str, bytes, Query], document: 'Source', *, after: str = 
     return _query(query).search(document, after=after)
 
 
-def findall(query: Union[str, bytes, Query], document: 'Source', *, after: str = 'start', limit: Optional[int] = None) -> Matches[Any]:
+def findall(query: Union[str, bytes, Query], document: 'Source', *, after: str = 'start',
+            limit: Optional[int] = None) -> Matches[Any]:
     """The rows as a list.
 
     >>> findall('/!x{a+}/', 'aa')

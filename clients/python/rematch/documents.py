@@ -41,8 +41,8 @@ class Document:
     - an open binary file: where it can seek, all of it, whatever its position; else from its position to its end. An
       open text file: the same, as a ``str``.
 
-    With ``encoding``, as ``'utf-8'`` or ``'latin-1'``, bytes, a path or a binary file are read as text, once and at once, and are
-    as a ``str`` from then on; `DocumentError` tells the first byte that is none.
+    With ``encoding``, as ``'utf-8'`` or ``'latin-1'``, bytes, a path or a binary file are read as text at once, and are as a
+    ``str`` from then on; `DocumentError` tells the first byte that is none.
 
     A path of a packed file, and a text that is the name of a file, are taken as they are, with a warning: ``gzip.open`` and the
     like give open files.

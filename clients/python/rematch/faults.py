@@ -14,8 +14,8 @@ class RematchError(Exception):
     """A run that did not end with its page.
 
     ``status`` is the program's exit status (None where it has none), ``note`` the line that it wrote, ``hint`` what to
-    do about it, or None. ``request`` is what a `Server` was asked, with its ``id``, and None of a run. The text of the exception is
-    all of this.
+    do about it, or None. ``request`` is what a `Server` was asked, with its ``id``, and None of a run. The text of the
+    exception is all of this.
     """
 
     request: Optional[Dict[str, Any]] = None

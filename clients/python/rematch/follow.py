@@ -76,7 +76,7 @@ class Followed:
             return
         document = _Window(self.kept[:end], self.begins, self.name)
         if len(document.data) > MOST_BYTES:
-            raise DocumentError(f'document longer than {MOST_BYTES} bytes: what came at once, and the lines before it', 6, self.query.text)
+            raise DocumentError(f'document longer than {MOST_BYTES} bytes: a line, and those before it that the query reaches', 6)
         limit = self.begins + (self._back(end) if self.waits and not is_last else end)
         before, self.settled = self.settled, max(self.settled, limit)
         for row in self.query.rows(document.data):  # type: ignore[arg-type]

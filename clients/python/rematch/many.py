@@ -50,13 +50,18 @@ def _read_by(part: Part) -> Iterable[int]:
     return (_byte(part.text),) if part.kind in ('literal', 'escape') else ()
 
 
+def _formulas(printed: bytes) -> List[List[Part]]:
+    """The parts of each formula of a query."""
+    return [parts_of(Atom(found[1], 1, False)) for found in _ATOM.finditer(printed)]
+
+
 def bytes_read(printed: bytes) -> FrozenSet[int]:
     """The bytes that a formula of a query reads anywhere, from its printed form.
 
     >>> sorted(bytes_read(rb'/^!x{[a-c]}/ join /!x{a}e/'))
     [97, 98, 99, 101]
     """
-    return frozenset(byte for found in _ATOM.finditer(printed) for part in parts_of(Atom(found[1], 1, False)) for byte in _read_by(part))
+    return frozenset(byte for parts in _formulas(printed) for part in parts for byte in _read_by(part))
 
 
 def _is_sure(parts: List[Part]) -> bool:
@@ -68,9 +73,8 @@ def _is_sure(parts: List[Part]) -> bool:
 
 def _may_be_joined(printed: bytes) -> bool:
     """Whether the fits of each row touch one another, so that they lie in one text."""
-    atoms = [parts_of(Atom(found[1], 1, False)) for found in _ATOM.finditer(printed)]
     outside = _ATOM.sub(b' ', printed)
-    if re.search(rb'\bminus\b', outside) and (re.search(rb'\bproject\b', outside) or not all(map(_is_sure, atoms))):
+    if re.search(rb'\bminus\b', outside) and (re.search(rb'\bproject\b', outside) or not all(map(_is_sure, _formulas(printed)))):
         return False  # a row without spans may be taken away by that of another text
 
     def names(found: 're.Match[bytes]') -> bytes:
@@ -111,7 +115,7 @@ class Mapped:
         free = [byte for byte in dict.fromkeys([*_USUAL, *range(256)]) if byte not in read]
         is_one = bool(query.variables) and _may_be_joined(printed)
         self.separators: List[int] = free if is_one else []
-        self.has_ends = any(part.kind == 'anchor' for found in _ATOM.finditer(printed) for part in parts_of(Atom(found[1], 1, False)))
+        self.has_ends = any(part.kind == 'anchor' for parts in _formulas(printed) for part in parts)
         self._known: Tuple[int, Optional['Query']] = (-1, None)  # the separator of the newest batch, and its query
         self._server: Optional['Server'] = None
         self._served: Optional['Served'] = None
@@ -173,8 +177,9 @@ class Mapped:
                     self._known = byte, self.query
                 else:
                     try:
-                        text, filter, max_table, program = self.query._given
-                        self._known = byte, Query(_with_ends(self.printed, byte), filter=filter, max_table=max_table, program=program)
+                        _, filter, max_table, program = self.query._given
+                        ended = _with_ends(self.printed, byte)
+                        self._known = byte, Query(ended, filter=filter, max_table=max_table, program=program)
                     except (QueryError, SizeError):  # groups or states more than a query has
                         self._known = byte, None
             return self._known[1], separator

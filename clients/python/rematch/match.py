@@ -34,7 +34,7 @@ class NoVariable(KeyError):
     >>> match.group(0)
     Traceback (most recent call last):
       ...
-    rematch.match.NoVariable: there is no group 0: a row is a span for each variable, and no whole match; give a name of x, y, or use extent
+    rematch.match.NoVariable: there is no group 0: a row has spans and no whole match; name one of x, y, or use extent
     """
 
     def __str__(self) -> str:
@@ -50,9 +50,9 @@ class _Index(Dict[str, int]):
             raise NoVariable(f'{name!r} is no variable of the query, which has {names or "none"}')
         if not self:
             raise NoVariable(f'there is no group {name}: the query has no variable; write !name{{..}} around what is wanted')
-        reason = 'a row is a span for each variable, and no whole match' if name == 0 else 'variables have names, and no numbers'
-        remedy = f'give a name of {names}' + (', or use extent' if name == 0 else '')
-        raise NoVariable(f'there is no group {name}: {reason}; {remedy}')
+        if name == 0:
+            raise NoVariable(f'there is no group 0: a row has spans and no whole match; name one of {names}, or use extent')
+        raise NoVariable(f'there is no group {name!r}: variables have names, and no numbers; name one of {names}')
 
 
 _NO_NAME: Any = 0  # what ``re`` takes where no name is given: its group 0

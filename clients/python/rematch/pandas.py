@@ -32,14 +32,15 @@ class Accessor:
                 labels.append(label)
                 texts.append(value)
             elif not (pandas.api.types.is_scalar(value) and pandas.isna(value)):
-                raise TypeError(f'the value at {label!r} is a str or bytes, not {type(value).__name__}: series.astype(str) makes texts')
+                raise TypeError(f'the value at {label!r} is a str or bytes, not {type(value).__name__}: series.astype(str) '
+                                'makes texts')
         return labels, texts
 
     def table(self, query: Union[str, bytes, Query]) -> Any:
         """A frame with a line a row: of each variable x the columns ``x_start``, ``x_end`` and ``x``, as `Query.table` has them.
 
-        Its index is that of the series, with a level ``row`` behind it, which counts the rows of a text from 0; so ``join`` puts the
-        columns of the series' own frame beside it.
+        Its index is that of the series, with a level ``row`` behind it, which counts the rows of a text from 0:
+        ``frame.text.rematch.table(query).droplevel('row').join(frame)`` puts the other columns of a frame beside it.
 
         >>> series = pandas.Series(['one=1 two=2', None, 'three=3'], ['a', 'b', 'c'])
         >>> series.rematch.table('/!key{[a-z]+}=!value{[0-9]}/')[['value']].query('row == 1').values.tolist()
@@ -48,10 +49,11 @@ class Accessor:
         made = _query(query)
         labels, texts = self._texts()
         found: List[Matches[Any]] = list(made.map(texts))
-        levels = self._series.index.nlevels
+        if self._series.index.nlevels == 1:
+            labels = [(label,) for label in labels]
         names = [*self._series.index.names, 'row']
-        keys = [(*(label if levels > 1 else (label,)), row) for label, matches in zip(labels, found) for row in range(len(matches))]
-        index = pandas.MultiIndex.from_tuples(keys, names=names) if keys else pandas.MultiIndex.from_arrays([[]] * len(names), names=names)
+        keys = [(*label, row) for label, matches in zip(labels, found) for row in range(len(matches))]
+        index = pandas.MultiIndex.from_arrays(list(zip(*keys)) or [[]] * len(names), names=names)
         columns = {}
         for name in made.variables:
             spans = [match.span(name) or (-1, -1) for matches in found for match in matches]

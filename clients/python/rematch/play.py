@@ -1,7 +1,7 @@
 """``rematch-play``: a page on this machine alone, to write a query beside a document and see its rows as one types.
 
-The server listens on 127.0.0.1, answers one address with a secret in it, and ends with Ctrl-C. Queries are asked in sessions of the
-program. A newer question ends one that is still worked on, and none is worked on for more than some seconds.
+The server listens on 127.0.0.1, answers one address with a secret in it, and ends with Ctrl-C. Queries are asked in sessions
+of the program. A newer question ends one that is still worked on, and none is worked on for more than some seconds.
 """
 from __future__ import annotations
 
@@ -53,7 +53,10 @@ class Player:
             pass  # it was killed
 
     def ask(self, query: str, document: Optional[str], first: int) -> Dict[str, Any]:
-        """What the page shows: a screenful of rows from the row ``first`` on, or the fault. ``document`` is None where it has not changed."""
+        """What the page shows: a screenful of rows from the row ``first`` on, or the fault.
+
+        ``document`` is None where it is that of the question before.
+        """
         with self._count:
             self._newest += 1
             number = self._newest
@@ -102,8 +105,9 @@ class Player:
             self._rows += [match.row for match in session.next(min(1000, first + _SCREEN - len(self._rows)))]
         shown = self._rows[first:first + _SCREEN]
         has_more = session.more or first + _SCREEN < len(self._rows)
-        return {'html': section(_document(self.document), session.variables, shown, None, 1, first), 'first': first, 'rows': len(shown),
-                'known': len(self._rows), 'more': has_more, 'all': not session.more}
+        html = section(_document(self.document), session.variables, shown, None, 1, first)
+        return {'html': html, 'first': first, 'rows': len(shown), 'known': len(self._rows), 'more': has_more,
+                'all': not session.more}
 
 
 def _document(text: str) -> Document:
@@ -134,8 +138,9 @@ class _Handler(BaseHTTPRequestHandler):
 
     def _send(self, status: int, kind: str, body: bytes) -> None:
         self.send_response(status)
-        for name, value in (('Content-Type', kind), ('Content-Length', str(len(body))), ('Cache-Control', 'no-store'),
-                            ('X-Content-Type-Options', 'nosniff'), ('Referrer-Policy', 'no-referrer'), ('Content-Security-Policy', self.server.policy)):
+        heads = {'Content-Type': kind, 'Content-Length': str(len(body)), 'Cache-Control': 'no-store',
+                 'X-Content-Type-Options': 'nosniff', 'Referrer-Policy': 'no-referrer', 'Content-Security-Policy': self.server.policy}
+        for name, value in heads.items():
             self.send_header(name, value)
         self.end_headers()
         self.wfile.write(body)
@@ -229,8 +234,8 @@ def _text_of(name: str) -> str:
 def main(words: Optional[List[str]] = None) -> int:
     """Runs the command: status 0 at Ctrl-C, and that of the program for its faults."""
     from argparse import ArgumentParser
-    parser = ArgumentParser(prog='rematch-play', description='Open a page on this machine alone, to write a query beside a document and see its '
-                            'rows as one types. The address is written, with a secret in it; Ctrl-C ends it.')
+    parser = ArgumentParser(prog='rematch-play', description='Open a page on this machine alone, to write a query beside a '
+                            'document and see its rows as one types. The address is written, with a secret in it; Ctrl-C ends it.')
     text = parser.add_mutually_exclusive_group()
     text.add_argument('-e', dest='text', metavar='TEXT', default='', help='the query to begin with')
     text.add_argument('-q', dest='name', metavar='NAME', help='a file that holds it')

@@ -200,11 +200,12 @@ class Query(Variables):
         found = self.findall(document, after=after, limit=1)
         return found[0] if found else None
 
-    def sub(self, replacement: 'Replacement', document: Source, *, name: Optional[str] = None, count: int = 0) -> Union[str, bytes]:
+    def sub(self, replacement: 'Replacement', document: Source, *, name: Optional[str] = None,
+            count: int = 0) -> Union[str, bytes]:
         r"""The document with the spans of a variable replaced: of the one that the query has, of several of ``name``.
 
         Spans are taken from the left, of those that begin at one place the longest, and none that overlaps one before; with
-        ``count`` at most so many. ``replacement`` is a function of the `Match`, or a text in which ``\g<x>`` stands for what the
+        ``count`` at most so many. ``replacement`` is a function of the `Match`, or a text in which ``\g<x>`` is what the
         variable x takes. Of a ``str`` the answer is a ``str``, else bytes.
 
         >>> query = Query(r'/!user{\w+}@!host{\w+}/')
@@ -285,15 +286,16 @@ class Query(Variables):
 
     def follow(self, source: 'Union[str, os.PathLike[str], IO[bytes]]', *, from_end: bool = False, wait: float = 0.2,
                quiet: Optional[float] = None, until: Optional[Callable[[], bool]] = None) -> Iterator[Match[bytes]]:
-        """The rows of a file that grows, as they come, as ``tail -f`` has its lines. ``source`` is a path or an open binary file.
+        """The rows of a file that grows, as they come, as ``tail -f`` has its lines.
+
+        ``source`` is an open binary file, which ends by itself, or a path, also as a ``str``, which is looked at every ``wait``
+        seconds. Following a path ends when ``quiet`` seconds brought nothing new, or where ``until`` is true then; with
+        ``from_end`` the whole lines that are there are passed over. Where another file has the name, or it has become
+        shorter, it is read from its start.
 
         Whole lines are searched, with as many before them as the query reaches, so that each step costs what is new; `NoReach`
-        tells why a query has no reach. Each row is given once. Of a query with ``minus`` that reaches over lines a row comes when
-        as many lines stand behind it. A file under the same name that is new, or shorter than what was read, is read from its start.
-
-        A path, ``str`` or another, is looked at every ``wait`` seconds. With ``from_end`` the whole lines that it has are passed over. It ends
-        when ``quiet`` seconds brought nothing new, or where ``until`` is true then; a stream ends with itself. What has no line feed
-        is searched at the end.
+        tells why a query has no reach. Each row is given once. Of a query with ``minus`` that reaches over lines, a row comes
+        when as many lines stand behind it. What has no line feed is searched at the end.
 
         >>> import io
         >>> [(match.span('x'), match['x']) for match in Query('/!x{[0-9]+} up/').follow(io.BytesIO(b'7 up, 8 up'))]
@@ -344,7 +346,7 @@ class Query(Variables):
         """The rows as columns of one table: of each variable x the columns ``x_start``, ``x_end`` and ``x``, its text.
 
         ``pandas.DataFrame`` takes it as it is. An absent variable has -1, -1 and None. With ``encoding``, as ``'utf-8'``, the
-        document is read as text, as `Document` has it: its places count characters, and texts are ``str``.
+        document is read as text, as `Document` does it: its places count characters, and texts are ``str``.
 
         >>> Query('/(!x{a})?!y{b}/').table('ab')
         {'x_start': array('q', [0, -1]), 'x_end': array('q', [1, -1]), 'x': ['a', None],

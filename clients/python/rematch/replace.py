@@ -23,13 +23,13 @@ def _template(text: str, names: Tuple[str, ...]) -> Callable[[Match[Any]], Any]:
     >>> _template('[\\1]', ('x',))
     Traceback (most recent call last):
       ...
-    ValueError: in a replacement a backslash stands in \g<NAME> and in \\ alone, and not as \1; variables have names, and no numbers
+    ValueError: a backslash stands in \g<NAME> and in \\ alone, and not as \1; variables have names, and no numbers
     """
     rest = _GROUP.sub('', text)
     if '\\' in rest:
         at = rest.index('\\')
-        raise ValueError(rf'in a replacement a backslash stands in \g<NAME> and in \\ alone, and not as {rest[at:at + 2]}; variables have '
-                         'names, and no numbers')
+        raise ValueError(rf'a backslash stands in \g<NAME> and in \\ alone, and not as {rest[at:at + 2]}; '
+                         'variables have names, and no numbers')
     for found in _GROUP.finditer(text):
         if found[1] is not None and found[1] not in names:
             raise ValueError(f'the replacement has {found[0]}, and the query the variables {", ".join(names) or "none"}')
@@ -49,12 +49,13 @@ def _variable(query: 'Query', name: Optional[str]) -> str:
         query._index[name]  # raises where there is none
         return name
     if len(query.variables) != 1:
-        raise ValueError(f'of the variables {", ".join(query.variables) or "none"} one has to be named, whose spans are replaced: name=')
+        names = ', '.join(query.variables) or 'none'
+        raise ValueError(f'of the variables {names} one has to be named, whose spans are replaced: name=')
     return query.variables[0]
 
 
 def _taken(query: 'Query', document: Document, name: str, count: int) -> List[Match[Any]]:
-    """The rows whose spans are replaced: from the left, of those that begin at one place the longest, none that overlaps one before."""
+    """The rows whose spans are replaced: from the left, the longest of a place, and none that overlaps one before."""
     spans = {}
     for match in query.finditer(document):
         span = match.span(name)
@@ -80,7 +81,8 @@ def replaced(query: 'Query', replacement: Replacement, document: Document, name:
         make: Callable[[Match[Any]], Any] = replacement
     else:
         if not isinstance(replacement, kind):
-            raise TypeError(f'the document is {kind.__name__}, so the replacement is {kind.__name__} too, not {type(replacement).__name__}')
+            raise TypeError(f'the document is {kind.__name__}, so the replacement is {kind.__name__} too, not '
+                            f'{type(replacement).__name__}')
         text = replacement if isinstance(replacement, str) else replacement.decode('utf-8', 'surrogateescape')
         filled = _template(text, query.variables)
         make = filled if is_text else lambda match: filled(match).encode('utf-8', 'surrogateescape')
@@ -90,7 +92,8 @@ def replaced(query: 'Query', replacement: Replacement, document: Document, name:
         start, end = match.span(chosen) or (at, at)
         put = make(match)
         if not isinstance(put, kind):
-            raise TypeError(f'the document is {kind.__name__}, so the function gives {kind.__name__} too, not {type(put).__name__}')
+            raise TypeError(f'the document is {kind.__name__}, so the function gives {kind.__name__} too, not '
+                            f'{type(put).__name__}')
         parts += [document.text(at, start), put]
         at = end
     parts.append(document.text(at, len(document)))

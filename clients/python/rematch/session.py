@@ -27,7 +27,8 @@ _WAITED = 10  # seconds that a server has to end once its input has ended
 _Text = Union[str, bytes]
 
 
-_MEMBERS: Dict[str, Dict[str, type]] = {'open': {'query': str, 'doc': str}, 'next': {'n': int}, 'grow': {'text': str}, 'close': {}}
+_MEMBERS: Dict[str, Dict[str, type]] = {'open': {'query': str, 'doc': str}, 'next': {'n': int}, 'grow': {'text': str},
+                                        'close': {}}
 
 
 class SessionError(RematchError, RuntimeError):
@@ -73,16 +74,19 @@ def _fault(told: str, query: bytes) -> RematchError:
         return OutOfMemory('out of memory', 9, query)
     if told == 'long':
         return DocumentError('document longer than 16777216 bytes', 6, query)
-    return SessionError({'full': '64 sessions are open', 'not open': 'the session is not open', 'taken': 'a session with this id is open',
-                         'request': 'the server does not know this request'}.get(told, told), None, query)
+    notes = {'full': '64 sessions are open', 'not open': 'the session is not open', 'taken': 'a session with this id is open',
+             'request': 'the server does not know this request'}
+    return SessionError(notes.get(told, told), None, query)
 
 
 class Server:
     """A program that answers many queries, one after another or several at a time, and ends with the ``with`` block.
 
     ``program`` is its path, where it is not that of `find_program`. Threads may share a server: requests are answered one
-    by one. A server that dies raises `ProgramError` at the request that it does not answer. The next `query` or `open` starts it
-    anew, and each session of before raises `SessionError`, since it is lost. A program without sessions raises `ProgramError`.
+    by one. A program without sessions raises `ProgramError`.
+
+    A server that dies raises `ProgramError` at the request that it does not answer. The next `query` or `open` starts it
+    anew, which ``restarts`` counts, and each session of before raises `SessionError`, since it is lost.
 
     >>> with Server() as server:
     ...     query = server.query('/!x{a+}/')
@@ -102,7 +106,8 @@ class Server:
 
     def _start(self) -> None:
         try:
-            self._process = subprocess.Popen([self.program, '--serve'], stdin=subprocess.PIPE, stdout=subprocess.PIPE, stderr=subprocess.PIPE)
+            self._process = subprocess.Popen([self.program, '--serve'], stdin=subprocess.PIPE, stdout=subprocess.PIPE,
+                                             stderr=subprocess.PIPE)
         except OSError as fault:
             raise ProgramNotFound(f'the program {self.program} cannot be run: {fault.strerror}') from fault
         self._lost = None
@@ -231,8 +236,9 @@ class Server:
     def ask(self, request: Dict[str, Any]) -> Dict[str, Any]:
         """The reply to a request as docs/FORMATS.md has it ("Sessions"), for those who number their sessions themselves.
 
-        What is no request, and one of more than 1,048,576 bytes, is not sent, since the program tells no reason and ends: it raises
-        `SessionError` or `DocumentError` with the reason. An error reply is raised as everywhere; a fault has the ``request``.
+        What is no request is not sent, since the program tells no reason: it raises `SessionError` with the reason. Nor is one
+        of more than 1,048,576 bytes, at which the program ends: it raises `DocumentError`. An error reply is raised as
+        everywhere; a fault has the ``request``.
 
         >>> with Server() as server:
         ...     server.ask({'op': 'open', 'id': 7, 'query': '/!x{a}/', 'doc': 'a'}), server.ask({'op': 'next', 'id': 7, 'n': 9})

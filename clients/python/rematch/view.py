@@ -232,7 +232,8 @@ class _View:
         # first line moves it up again.
         high = ''
         for name, sure in (('near', _SURE), ('wide', _SURE_WIDE)):
-            first = [lane for bar, lane in zip(bars, placed) if lane is not None and bar.start < start + sure and bar.end > bar.start]
+            near = [lane for bar, lane in zip(bars, placed) if bar.start < start + sure and bar.end > bar.start]
+            first = [lane for lane in near if lane is not None]
             high += f'--rm-{name}:-{_depth(first)}px;' if first else ''
         high = high and f' style="{high}"'
         return (f'<div class="rm-line">{number}<div class="rm-text" lang="" dir="auto"{high}>'
@@ -294,7 +295,8 @@ class _View:
         rest = numbers[_LISTED:]
         if rest:
             items = ''.join(map(self.item, rest))
-            shown += f'<li><details><summary>{len(rest)} rows more</summary><ul class="rm-rows" role="list">{items}</ul></details></li>'
+            shown += (f'<li><details><summary>{len(rest)} rows more</summary><ul class="rm-rows" role="list">{items}</ul>'
+                      '</details></li>')
         return f'<ul class="rm-rows" role="list" aria-label="rows that begin here">{shown}</ul>\n'
 
     def item(self, number: int) -> str:
@@ -307,7 +309,8 @@ class _View:
                 text = text[:_TEXT] + ('…' if len(text) > _TEXT or end > start + 4 * _TEXT else '')
                 cells.append(f'<i style="background:var(--rm{name % len(_LIGHT)})"></i>{escape(shown)} {self.told(start, end)} '
                              f'<bdi lang=""><code>{_shown(text.encode("utf-8", "surrogatepass"))}</code></bdi>')
-        return f'<li data-r="{number}" tabindex="0"><b><span class="rm-said">row </span>{self.first + number + 1}</b>{"".join(cells) or "()"}</li>'
+        said = f'<b><span class="rm-said">row </span>{self.first + number + 1}</b>'
+        return f'<li data-r="{number}" tabindex="0">{said}{"".join(cells) or "()"}</li>'
 
 
 def _depth(taken: Sequence[int]) -> int:
@@ -332,8 +335,9 @@ def _folded(part: bytes) -> str:
     return f'{_shown(head.encode())}<span class="rm-fold"> .. {left:,} bytes .. </span>{_shown(tail.encode())}'
 
 
-def section(document: Document, names: Sequence[str], rows: Sequence[Row], of: Optional[int], context: int, first: int = 0) -> str:
-    """What stands in a view: the number of rows, the colours of the variables, lines with bars, rows. The words are those of `fragment`."""
+def section(document: Document, names: Sequence[str], rows: Sequence[Row], of: Optional[int], context: int,
+            first: int = 0) -> str:
+    """What stands in a view: the number of rows, the colours of the variables, lines with bars, rows; words as of `fragment`."""
     view = _View(document, names, rows, first)
     told = f'{len(rows)} row{"s" * (len(rows) != 1)}' + (f' of {of}' if of is not None and of > len(rows) else '')
     key = ''.join(f'<b style="background:var(--rm{k % len(_LIGHT)})"></b>{escape(name)}' for k, name in enumerate(names))
@@ -364,8 +368,8 @@ def page(sections: Iterable[Tuple[str, Document, Sequence[Row], bool]], names: S
     yield (f'<!doctype html>\n<html lang="en"><head><meta charset="utf-8"><meta name="viewport" content="width=device-width">'
            f'<title>{escape(title)}</title><style>{_PAGE_STYLE}{_STYLE}</style></head><body>\n'
            '<div class="rm-bar" role="search" hidden><button data-to="-1">Previous</button><button data-to="1">Next</button>'
-           '<input type="search" aria-label="Lines that have this text" placeholder="Filter lines"><output aria-live="polite"></output>'
-           '<a href="#documents" hidden>Documents</a></div>\n<main>\n')
+           '<input type="search" aria-label="Lines that have this text" placeholder="Filter lines">'
+           '<output aria-live="polite"></output><a href="#documents" hidden>Documents</a></div>\n<main>\n')
     listed: List[str] = []
     total = 0
     for number, (name, document, rows, is_cut) in enumerate(sections, 1):
@@ -376,7 +380,8 @@ def page(sections: Iterable[Tuple[str, Document, Sequence[Row], bool]], names: S
         total += len(rows)
     yield '</main>\n'
     if len(listed) > 1:
-        yield f'<nav id="documents" aria-labelledby="hd"><h2 id="hd">{len(listed)} documents</h2><ol class="rm-list">{"".join(listed)}</ol></nav>\n'
+        yield (f'<nav id="documents" aria-labelledby="hd"><h2 id="hd">{len(listed)} documents</h2>'
+               f'<ol class="rm-list">{"".join(listed)}</ol></nav>\n')
     parts = _PARTS_SCRIPT.replace('PART', str(_PART)) if total > _WHOLE else ''
     link = "document.querySelector('.rm-bar').hidden=document.querySelector('.rm-bar a').hidden=false;" if len(listed) > 1 else ''
     if link and not parts:

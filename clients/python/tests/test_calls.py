@@ -48,10 +48,10 @@ class Groups(unittest.TestCase):
     def test_no_group_0(self):
         match = rematch.search('/!x{a}(!y{c})?/', 'ab')
         for ask in (match.group, match.start, match.end, match.span, match.byte_span, lambda: match[0], lambda: match.group(0), lambda: list(match)):
-            with self.assertRaisesRegex(KeyError, '^there is no group 0: .* give a name of x, y, or use extent$') as caught:
+            with self.assertRaisesRegex(KeyError, '^there is no group 0: .* name one of x, y, or use extent$') as caught:
                 ask()
             self.assertIsInstance(caught.exception, rematch.NoVariable)
-        with self.assertRaisesRegex(rematch.NoVariable, '^there is no group 2: variables have names, and no numbers; give a name of x, y$'):
+        with self.assertRaisesRegex(rematch.NoVariable, '^there is no group 2: variables have names, and no numbers; name one of x, y$'):
             match.group(2)
         with self.assertRaisesRegex(rematch.NoVariable, "^'z' is no variable of the query, which has x, y$"):
             match.group('x', 'z')
