@@ -57,7 +57,8 @@ def signature(call):
     """The words of a call, without the types."""
     given = inspect.signature(call)
     words = [word for word in given.parameters.values() if word.name not in ('self', 'cls')]
-    return str(given.replace(parameters=[word.replace(annotation=inspect.Parameter.empty) for word in words], return_annotation=inspect.Signature.empty))
+    bare = [word.replace(annotation=inspect.Parameter.empty) for word in words]
+    return str(given.replace(parameters=bare, return_annotation=inspect.Signature.empty))
 
 
 def members(kind):

@@ -28,6 +28,7 @@ _ATOM = re.compile(rb'/((?:[^\\/]|\\.)*)/', re.S)
 _USUAL = [0x0a, 0x00, 0x1e, 0x1f, 0xff, 0xfe, 0xc0, 0xc1]  # what is seldom read, and what UTF-8 never has
 _LEAST, _MOST = 64, 1 << 14  # texts of the first batch, and of any
 _MOST_BYTES = 1 << 22  # of a batch
+_LONG = 1 << 16  # of a text that has a run rather than a session
 
 
 def _class_bytes(text: bytes) -> Iterator[int]:
@@ -158,7 +159,7 @@ class Mapped:
             return
         for text, _ in batch:
             try:
-                one = self._apart(text)
+                one = self._apart(text, len(batch) == 1 and self._server is None)
             except RematchError as fault:
                 fault.hint = f'it is text {number}, counted from 0' + (f'; {fault.hint}' if fault.hint else '')
                 raise
@@ -207,10 +208,10 @@ class Mapped:
 
     # -- A text by itself
 
-    def _apart(self, text: Text) -> Matches[Any]:
+    def _apart(self, text: Text, is_only: bool = False) -> Matches[Any]:
         from .session import Server
         try:
-            if self.query._words:  # a session takes no such words
+            if is_only or self.query._words or len(text) > _LONG:  # a session takes no such words, and is for short texts
                 return self.query.findall(_document(text, _encoded(text)))
             if self._server is None:
                 self._server = Server(self.query.program)

@@ -18,7 +18,7 @@ from .documents import Document
 from .faults import DocumentError, ProgramError, QueryError, RematchError
 from .match import Row
 from .play_page import page
-from .session import Server, Session
+from .session import Server, Session, SessionError
 from .view import section
 
 __all__ = ['Player', 'main', 'serve']
@@ -35,6 +35,7 @@ class Player:
 
     def __init__(self, text: str = '', seconds: float = _SECONDS) -> None:
         self.document = text
+        self.number = 0  # of the document, which counts those that were given
         self.seconds = seconds
         self._server = Server()
         self._session: Optional[Session] = None
@@ -52,10 +53,11 @@ class Player:
         except RematchError:
             pass  # it was killed
 
-    def ask(self, query: str, document: Optional[str], first: int) -> Dict[str, Any]:
+    def ask(self, query: str, document: Optional[str], first: int, known: int = 0) -> Dict[str, Any]:
         """What the page shows: a screenful of rows from the row ``first`` on, or the fault.
 
-        ``document`` is None where it is that of the question before.
+        ``document`` is None where it is the one with the number ``known``; where another page has given another one since, the answer
+        asks for it. An answer has the number of its document.
         """
         with self._count:
             self._newest += 1
@@ -64,11 +66,13 @@ class Player:
             self._server.kill()
             self._turn.acquire()
         try:
-            if document is not None:
-                self.document = document
+            if document is not None and document != self.document:
+                self.document, self.number = document, self.number + 1
+            elif document is None and known != self.number:
+                return {'again': True}
             if number != self._newest:
                 return {'old': True}
-            return self._answer(query, first)
+            return {**self._answer(query, first), 'known': self.number}
         finally:
             self._turn.release()
 
@@ -76,7 +80,11 @@ class Player:
         late = threading.Timer(self.seconds, self._server.kill)
         late.start()
         try:
-            return self._shown(query, first)
+            try:
+                return self._shown(query, first)
+            except SessionError:  # the program had ended
+                self._session = None
+                return self._shown(query, first)
         except QueryError as fault:
             return {'fault': str(fault), 'at': None if fault.offset is None else _units(fault.query[:fault.offset])}
         except ProgramError as fault:
@@ -106,7 +114,7 @@ class Player:
         shown = self._rows[first:first + _SCREEN]
         has_more = session.more or first + _SCREEN < len(self._rows)
         html = section(_document(self.document), session.variables, shown, None, 1, first)
-        return {'html': html, 'first': first, 'rows': len(shown), 'known': len(self._rows), 'more': has_more,
+        return {'html': html, 'first': first, 'rows': len(shown), 'found': len(self._rows), 'more': has_more,
                 'all': not session.more}
 
 
@@ -139,7 +147,8 @@ class _Handler(BaseHTTPRequestHandler):
     def _send(self, status: int, kind: str, body: bytes) -> None:
         self.send_response(status)
         heads = {'Content-Type': kind, 'Content-Length': str(len(body)), 'Cache-Control': 'no-store',
-                 'X-Content-Type-Options': 'nosniff', 'Referrer-Policy': 'no-referrer', 'Content-Security-Policy': self.server.policy}
+                 'X-Content-Type-Options': 'nosniff', 'Referrer-Policy': 'no-referrer',
+                 'Content-Security-Policy': self.server.policy}
         for name, value in heads.items():
             self.send_header(name, value)
         self.end_headers()
@@ -168,13 +177,13 @@ class _Handler(BaseHTTPRequestHandler):
             return
         try:
             asked = json.loads(self.rfile.read(int(length)))
-            query, document, first = asked['query'], asked.get('document'), asked['first']
-            if not isinstance(query, str) or not isinstance(first, int) or not isinstance(document, (str, type(None))):
+            query, document, first, known = asked['query'], asked.get('document'), asked['first'], asked.get('known', 0)
+            if not (isinstance(query, str) and isinstance(document, (str, type(None))) and type(first) is type(known) is int):
                 raise ValueError
         except (ValueError, KeyError, TypeError, AttributeError):
-            self._refuse(400, 'a question is an object with query, first, and perhaps document')
+            self._refuse(400, 'a question is an object with query and first, and perhaps document and known')
             return
-        reply = self.server.player.ask(query, document, first)
+        reply = self.server.player.ask(query, document, first, known)
         self._send(200, 'application/json', json.dumps(reply).encode())
 
 
@@ -235,7 +244,7 @@ def main(words: Optional[List[str]] = None) -> int:
     """Runs the command: status 0 at Ctrl-C, and that of the program for its faults."""
     from argparse import ArgumentParser
     parser = ArgumentParser(prog='rematch-play', description='Open a page on this machine alone, to write a query beside a '
-                            'document and see its rows as one types. The address is written, with a secret in it; Ctrl-C ends it.')
+                            'document and see its rows as one types. Its address is written, with a secret in it; Ctrl-C ends it.')
     text = parser.add_mutually_exclusive_group()
     text.add_argument('-e', dest='text', metavar='TEXT', default='', help='the query to begin with')
     text.add_argument('-q', dest='name', metavar='NAME', help='a file that holds it')

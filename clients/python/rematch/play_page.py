@@ -24,16 +24,17 @@ textarea{box-sizing:border-box;width:100%;height:9em;font:15px/1.4 ui-monospace,
 '''
 _SCRIPT = '''
 const $=i=>document.getElementById(i),query=$('query'),text=$('document'),fault=$('fault'),place=fault.firstChild,hint=fault.lastChild,rows=$('rows'),say=$('say'),there=$('there');
-let sent=text.defaultValue,number=0,first=0,late,reply={};
-const ask=async to=>{const mine=++number,body={query:query.value,first:to};const own=text.value;if(own!==sent)body.document=own;
+let sent=text.defaultValue,known=0,number=0,first=0,late,reply={};
+const ask=async to=>{const mine=++number,body={query:query.value,first:to,known};const own=text.value;if(own!==sent)body.document=own;
 rows.setAttribute('aria-busy','true');let got;
 try{const r=await fetch('',{method:'POST',headers:{'Content-Type':'application/json'},body:JSON.stringify(body)});
-got=r.ok?await r.json():{fault:await r.text()};if(r.ok)sent=own}catch(e){got={fault:'rematch-play has ended: begin it anew'}}
+got=r.ok?await r.json():{fault:await r.text()};if(got.again){sent=null;if(mine===number)return ask(to)}
+else if(got.known!=null){sent=own;known=got.known}}catch(e){got={fault:'rematch-play has ended: begin it anew'}}
 if(mine!==number||got.old)return;rows.setAttribute('aria-busy','false');reply=got;
 const told=query.value&&got.fault||'',k=told.indexOf('\\nhint: ');place.textContent=k<0?told:told.slice(0,k);
 hint.textContent=k<0?'':told.slice(k+1);there.hidden=!told||got.at==null;if(got.fault){say.textContent=told&&'fault';return}
 first=got.first;rows.innerHTML=got.html;
-say.textContent=got.rows?'rows '+(first+1)+' to '+(first+got.rows)+(got.all?' of '+got.known:', and more'):'no rows';
+say.textContent=got.rows?'rows '+(first+1)+' to '+(first+got.rows)+(got.all?' of '+got.found:', and more'):'no rows';
 $('back').disabled=!first;$('begin').disabled=!first;$('on').disabled=!got.more};
 const soon=()=>{clearTimeout(late);late=setTimeout(()=>ask(0),200)};
 query.addEventListener('input',soon);text.addEventListener('input',soon);

@@ -469,12 +469,15 @@ class Session:
         self._document = _Grown(self._kept)
 
     def close(self) -> None:
-        """Close the session; closing it again does nothing."""
+        """Close the session; closing it again, or when its server has ended, does nothing."""
         if self._is_open:
             self._is_open = False
             server = self._server
             if not server._is_closed and server._lost is None and server.restarts == self._restarts:
-                server._ask({'op': 'close', 'id': self._number}, self._query, self._restarts)
+                try:
+                    server._ask({'op': 'close', 'id': self._number}, self._query, self._restarts)
+                except ProgramError:
+                    pass  # the session has ended with its server, which the others are told
 
 
 class Served(Variables):

@@ -50,7 +50,7 @@ class Rows(unittest.TestCase):
     def test_apart(self):
         for text in APART:
             mapped = many.Mapped(rematch.Query(text))
-            with mock.patch.object(mapped, '_apart', side_effect=lambda text: [text]):
+            with mock.patch.object(mapped, '_apart', side_effect=lambda text, is_only: [text]):
                 self.assertEqual(list(mapped.rows(['b', 'ab'])), [['b'], ['ab']], text)
 
     def test_batches(self):

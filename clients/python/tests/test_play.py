@@ -5,17 +5,16 @@ import os
 import signal
 import subprocess
 import threading
-import time
 import unittest
 import urllib.error
 import urllib.request
+from unittest import mock
 
 import rematch
 from rematch import play
 from browser import Browser
-from support import CLIENTS, Folder, children, needs, needs_speed
-from test_session import FAKE, serves
-from support import PROGRAM
+from support import CLIENTS, PROGRAM, Folder, children, needs, needs_speed
+from test_session import serves
 
 COMMAND = os.path.join(CLIENTS, 'rematch-play')
 has_sessions = unittest.skipUnless(serves(PROGRAM), 'the program has no sessions')
@@ -76,9 +75,9 @@ class Asked(Served):
 
     def test_bad_questions(self):
         http = self.begin()
-        for data in (b'', b'{', b'[]', b'{}', b'\xff', b'{"query":1,"first":0}', b'{"query":"","first":"0"}', b'{"query":"","first":0,"document":1}'):
-            self.assertEqual(self.post(http, data), (400, 'a question is an object with query, first, and perhaps document\n'), data)
-        self.assertEqual(self.post(http, {'query': '/!x{a}/', 'first': 0, 'document': 'a'})[1]['known'], 1)
+        for data in (b'', b'{', b'[]', b'{}', b'\xff', b'{"query":1,"first":0}', b'{"query":"","first":"0"}', b'{"query":"","first":0,"known":null}', b'{"query":"","first":0,"document":1}'):
+            self.assertEqual(self.post(http, data), (400, 'a question is an object with query and first, and perhaps document and known\n'), data)
+        self.assertEqual(self.post(http, {'query': '/!x{a}/', 'first': 0, 'document': 'a'})[1]['found'], 1)
         with self.assertRaises(OSError):  # refused before it is read
             status, told = self.post(http, b'a', Content_Length='999999999')
             self.assertEqual((status, told), (413, 'document longer than 16777216 bytes\n'))
@@ -87,7 +86,7 @@ class Asked(Served):
     def test_rows_and_faults(self):
         http = self.begin('', 'aé\n')
         status, told = self.post(http, {'query': '/!x{a+}!y{é}/u', 'first': 0})
-        self.assertEqual((status, told['rows'], told['known'], told['more'], told['all'], told['first']), (200, 1, 1, False, True, 0))
+        self.assertEqual((status, told['rows'], told['found'], told['more'], told['all'], told['first']), (200, 1, 1, False, True, 0))
         self.assertIn('x 0–1', told['html'])
         self.assertIn('y 1–2', told['html'])
         told = self.post(http, {'query': '/é!x{a**}/', 'first': 0})[1]
@@ -95,18 +94,42 @@ class Asked(Served):
         self.assertIn('hint: ', told['fault'])
         self.assertEqual(self.post(http, {'query': '/!x{b}/', 'first': 0})[1]['rows'], 0)
         self.assertEqual(self.post(http, {'query': '/!x{b}/', 'first': 0, 'document': '<b>'})[1]['html'].count('&lt;'), 1)
-        self.assertIn('more than 20000 states', self.post(http, {'query': '/(a{1000}){20}/', 'first': 0})[1]['fault'])
+        self.assertIn('more than 20000 states', self.post(http, {'query': '/(a{1000}){20}/', 'first': 0, 'known': 1})[1]['fault'])
         self.assertIn('UTF-8', self.post(http, {'query': '/a/', 'first': 0, 'document': '\ud800'})[1]['fault'])
         self.assertEqual(self.post(http, {'query': '/a/', 'first': 0, 'document': 'a'})[1]['rows'], 1)
 
     def test_screens(self):
         http = self.begin('', 'a' * 250)
         got = [self.post(http, {'query': '/!x{a}/', 'first': first})[1] for first in (0, 100, 200, 0, 300)]
-        self.assertEqual([(told['first'], told['rows'], told['more'], told['known'], told['all']) for told in got],
+        self.assertEqual([(told['first'], told['rows'], told['more'], told['found'], told['all']) for told in got],
                          [(0, 100, True, 100, False), (100, 100, True, 200, False), (200, 50, False, 250, True), (0, 100, True, 250, True),
                           (300, 0, False, 250, True)])
         self.assertIn('row </span>101<', got[1]['html'])
         self.assertIn('row 101', got[1]['html'])
+
+    def test_two_pages(self):
+        """A page is never answered about the document of another one."""
+        http = self.begin('', 'a')
+        ask = {'query': '/!x{a}/', 'first': 0}
+        self.assertEqual([self.post(http, dict(ask, known=0))[1][name] for name in ('rows', 'known')], [1, 0])
+        self.assertEqual([self.post(http, dict(ask, known=0, document='aaa'))[1][name] for name in ('rows', 'known')], [3, 1])
+        self.assertEqual(self.post(http, dict(ask, known=0))[1], {'again': True})
+        self.assertEqual([self.post(http, dict(ask, known=1))[1][name] for name in ('rows', 'known')], [3, 1])
+        self.assertEqual([self.post(http, dict(ask, document='a'))[1][name] for name in ('rows', 'known')], [1, 2])
+
+    def test_a_program_that_has_ended(self):
+        player = play.Player('aa')
+        self.addCleanup(player.close)
+        self.assertEqual(player.ask('/!x{a}/', None, 0)['rows'], 2)
+        player._server.kill()
+        player._server._process.wait()
+        player.ask('/!x{a}/', None, 0)  # the session's rows are all there
+        with mock.patch.object(play, '_SCREEN', 1):
+            self.assertEqual(player.ask('/!x{a/', None, 0)['fault'].splitlines()[0], 'query: not closed at 1')
+            self.assertEqual(player.ask('/!x{a}/', None, 0)['rows'], 1)
+            player._server.kill()
+            player._server._process.wait()
+            self.assertEqual(player.ask('/!x{a}/', None, 1)['rows'], 1)
 
     def test_a_newer_question_ends_an_older(self):
         player = play.Player('a')

@@ -205,9 +205,15 @@ class Sessions:
             with self.assertRaisesRegex(rematch.SessionError, 'the session is lost with its server: open it anew'):
                 ask()
         session.close()
+        first, second = self.server.open('/!x{a}/', 'aa'), self.server.open('/!x{a}/', 'aa')
+        self.server.kill()
+        first.close()
+        with self.assertRaisesRegex(rematch.SessionError, 'lost with its server, which ended by signal 9'):
+            second.next()
+        self.assertEqual((served.count('aa'), self.server.restarts), (2, 2))
         self.server.kill()
         self.server._process.wait()
-        self.assertEqual((served.count('aa'), self.server.restarts), (2, 2))
+        self.assertEqual((served.count('aa'), self.server.restarts), (2, 3))
 
 
 class Fake(Sessions, unittest.TestCase):
