@@ -43,8 +43,8 @@ class Accessor:
         ``frame.text.rematch.table(query).droplevel('row').join(frame)`` puts the other columns of a frame beside it.
 
         >>> series = pandas.Series(['one=1 two=2', None, 'three=3'], ['a', 'b', 'c'])
-        >>> series.rematch.table('/!key{[a-z]+}=!value{[0-9]}/')[['value']].query('row == 1').values.tolist()
-        [['1']]
+        >>> series.rematch.table('/=!value{[0-9]}/').value.to_dict()
+        {('a', 0): '1', ('a', 1): '2', ('c', 0): '3'}
         """
         made = _query(query)
         labels, texts = self._texts()

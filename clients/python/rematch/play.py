@@ -44,6 +44,7 @@ class Player:
         self._turn = threading.Lock()
         self._count = threading.Lock()
         self._newest = 0
+        self._is_ended = False  # whether the question was ended from here
 
     def close(self) -> None:
         """End the program."""
@@ -63,7 +64,7 @@ class Player:
             self._newest += 1
             number = self._newest
         if not self._turn.acquire(timeout=_PATIENCE):
-            self._server.kill()
+            self._end_question()
             self._turn.acquire()
         try:
             if document is not None and document != self.document:
@@ -76,20 +77,27 @@ class Player:
         finally:
             self._turn.release()
 
+    def _end_question(self) -> None:
+        self._is_ended = True
+        self._server.kill()
+
     def _answer(self, query: str, first: int) -> Dict[str, Any]:
-        late = threading.Timer(self.seconds, self._server.kill)
+        self._is_ended = False
+        late = threading.Timer(self.seconds, self._end_question)
         late.start()
         try:
             try:
                 return self._shown(query, first)
-            except SessionError:  # the program had ended
-                self._session = None
+            except (SessionError, ProgramError):
+                if self._is_ended:
+                    raise
+                self._session = None  # the program had ended before; once more with a new one
                 return self._shown(query, first)
         except QueryError as fault:
             return {'fault': str(fault), 'at': None if fault.offset is None else _units(fault.query[:fault.offset])}
         except ProgramError as fault:
             self._session = None
-            if fault.status == -9:
+            if self._is_ended:
                 return {'fault': f'the query took more than {self.seconds:g} seconds, or a newer one came'}
             return {'fault': str(fault)}
         except RematchError as fault:
