@@ -205,14 +205,14 @@ class Query(Variables):
         r"""The document with the spans of a variable replaced: of the one that the query has, of several of ``name``.
 
         Spans are taken from the left, of those that begin at one place the longest, and none that overlaps one before; with
-        ``count`` at most so many. ``replacement`` is a function of the `Match`, or a text in which ``\g<x>`` is what the
-        variable x takes. Of a ``str`` the answer is a ``str``, else bytes.
+        ``count`` at most so many. ``replacement`` is a function of the `Match`, of several rows with the span the first, or a
+        text in which ``\g<x>`` is what the variable x takes in it. Of a ``str`` the answer is a ``str``, else bytes.
 
-        >>> query = Query(r'/!user{\w+}@!host{\w+}/')
-        >>> query.sub(r'\g<host>', 'ann@one bob@two', name='user')
-        'one@one two@two'
-        >>> query.sub(lambda match: match['host'].upper(), 'ann@one', name='host')
-        'ann@ONE'
+        >>> query = Query(r'/!user{\w+}@!host{\w+};/')
+        >>> query.sub(r'\g<host>', 'ann@one; bob@two;', name='user')
+        'one@one; two@two;'
+        >>> query.sub(lambda match: match['host'].upper(), 'ann@one;', name='host')
+        'ann@ONE;'
         """
         from .replace import replaced
         return replaced(self, replacement, open_document(document), name, count)

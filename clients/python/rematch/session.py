@@ -151,7 +151,9 @@ class Server:
         ...     server.query('/!x{a}/').count('aa'), server.restarts
         (2, 1)
         """
-        self._process.kill()
+        process = self._process
+        process.kill()
+        process.wait()
 
     def _end(self) -> None:
         """Waits for the program's end, and raises its fault where it did not end well."""

@@ -62,6 +62,7 @@ _STYLE = '''
 .rm-said{position:absolute;width:1px;height:1px;overflow:hidden;clip-path:inset(50%);white-space:nowrap}
 .rm :focus-visible{outline:2px solid;outline-offset:1px;border-radius:2px}
 .rm-lit{background-color:var(--rm-lit);border-radius:2px}
+.rm-rows .rm-lit>b{color:inherit}
 @media (max-width:600px){.rm-no{width:2.6em;padding-right:.6em;font-size:11px}.rm-skip{padding-left:3.2em}.rm-rows{margin-left:3.2em}}
 '''
 _PAGE_STYLE = '''
