@@ -28,6 +28,7 @@ _ATOM = re.compile(rb'/((?:[^\\/]|\\.)*)/', re.S)
 _USUAL = [0x0a, 0x00, 0x1e, 0x1f, 0xff, 0xfe, 0xc0, 0xc1]  # what is seldom read, and what UTF-8 never has
 _LEAST, _MOST = 64, 1 << 14  # texts of the first batch, and of any
 _MOST_BYTES = 1 << 22  # of a batch
+_MOST_WAITING = 200_000  # rows of a batch that are held while it is not known whether each has spans
 _LONG = 1 << 16  # of a text that has a run rather than a session
 
 
@@ -105,6 +106,10 @@ def _with_ends(printed: bytes, separator: int) -> bytes:
     return _ATOM.sub(ended, printed)
 
 
+class _NoSpans(Exception):
+    """A row of many texts has no spans."""
+
+
 class Mapped:
     """How a query is asked of many texts."""
 
@@ -116,6 +121,8 @@ class Mapped:
         free = [byte for byte in dict.fromkeys([*_USUAL, *range(256)]) if byte not in read]
         is_one = bool(query.variables) and _may_be_joined(printed)
         self.separators: List[int] = free if is_one else []
+        # Whether each row has spans, so that the rows of a text need not wait for those of the others.
+        self.is_sure = not re.search(rb'\bproject\b', _ATOM.sub(b' ', printed)) and all(map(_is_sure, _formulas(printed)))
         self.has_ends = any(part.kind == 'anchor' for parts in _formulas(printed) for part in parts)
         self._known: Tuple[int, Optional['Query']] = (-1, None)  # the separator of the newest batch, and its query
         self._server: Optional['Server'] = None
@@ -144,26 +151,28 @@ class Mapped:
     # -- One run for many texts
 
     def _of_batch(self, batch: List[Tuple[Text, bytes]], number: int) -> Iterator[Matches[Any]]:
-        found: Optional[List[Matches[Any]]] = None
         query, separator = self._joining(batch)
+        done = 0
         if query is not None and len(batch) > 1:
             try:
-                found = self._in_one(query, separator, batch)
-            except (SizeError, OutOfMemory):
-                middle = len(batch) // 2
-                yield from self._of_batch(batch[:middle], number)
-                yield from self._of_batch(batch[middle:], number + middle)
+                for found in self._in_one(query, separator, batch):
+                    done += 1
+                    yield found
                 return
-        if found is not None:
-            yield from found
-            return
-        for text, _ in batch:
+            except (SizeError, OutOfMemory):  # together, and perhaps not in halves
+                middle = (done + len(batch) + 1) // 2
+                if done < middle < len(batch):
+                    yield from self._of_batch(batch[done:middle], number + done)
+                    yield from self._of_batch(batch[middle:], number + middle)
+                    return
+            except _NoSpans:
+                pass
+        for at, (text, _) in enumerate(batch[done:], number + done):
             try:
                 one = self._apart(text, len(batch) == 1 and self._server is None)
             except RematchError as fault:
-                fault.hint = f'it is text {number}, counted from 0' + (f'; {fault.hint}' if fault.hint else '')
+                fault.hint = f'it is text {at}, counted from 0' + (f'; {fault.hint}' if fault.hint else '')
                 raise
-            number += 1
             yield one
 
     def _joining(self, batch: List[Tuple[Text, bytes]]) -> Tuple[Optional['Query'], bytes]:
@@ -186,25 +195,44 @@ class Mapped:
             return self._known[1], separator
         return None, b''
 
-    def _in_one(self, query: 'Query', separator: bytes, batch: List[Tuple[Text, bytes]]) -> Optional[List[Matches[Any]]]:
-        """The rows of each text by one run; None where a row has no spans, of which nobody knows the text."""
+    def _in_one(self, query: 'Query', separator: bytes, batch: List[Tuple[Text, bytes]]) -> Iterator[Matches[Any]]:
+        """The rows of each text by one run, a text as soon as its rows are there.
+
+        Where a row may have no spans, of which nobody knows the text, all are waited for, and `_NoSpans` is raised at such a row.
+        """
+        waiting: List[Matches[Any]] = []
+        rows = 0
+        for found in self._by_text(query, separator, batch):
+            if self.is_sure:
+                yield found
+                continue
+            waiting.append(found)
+            rows += len(found)
+            if rows > _MOST_WAITING:
+                raise SizeError(f'size: more than {_MOST_WAITING} rows that wait', 4, self.query.text)
+        yield from waiting
+
+    def _by_text(self, query: 'Query', separator: bytes, batch: List[Tuple[Text, bytes]]) -> Iterator[Matches[Any]]:
         joined = separator + separator.join(data for _, data in batch) + separator
-        found: List[Matches[Any]] = [Matches() for _ in batch]
-        at, start, end = -1, 0, 0  # the text that is looked at, and its place in the joined document
+        at, start, end = 0, 1, 1 + len(batch[0][1])  # the text that is looked at, and its place in the joined document
         document: Optional[Document] = None
+        found: Matches[Any] = Matches()
         for row in query.rows(joined):
             first = min((place for place in row[::2] if place >= 0), default=None)
             if first is None:
-                return None
+                raise _NoSpans
             if not 0 < first < len(joined):
                 continue  # before the first separator, or behind the last
             while first > end:
-                at, start, document = at + 1, end + 1, None
+                yield found
+                at, start, document, found = at + 1, end + 1, None, Matches()
                 end = start + len(batch[at][1])
             if document is None:
                 document = _document(*batch[at])
-            found[at].append(Match(self.query, document, tuple([place - start if place >= 0 else place for place in row])))
-        return found
+            found.append(Match(self.query, document, tuple([place - start if place >= 0 else place for place in row])))
+        yield found
+        for _ in batch[at + 1:]:
+            yield Matches()
 
     # -- A text by itself
 

@@ -68,14 +68,29 @@ class Rows(unittest.TestCase):
     def test_too_large_together(self):
         """A batch that is refused for its size is taken in halves."""
         query = rematch.Query('/!x{a}/')
-        run = many.Mapped._in_one
+        run = many.Mapped._by_text
 
         def refused(mapped, joined, separator, batch):
+            found = run(mapped, joined, separator, batch)
             if len(batch) > 2:
-                raise rematch.SizeError('size: table past 1', 4)
-            return run(mapped, joined, separator, batch)
-        with mock.patch.object(many.Mapped, '_in_one', refused):
-            self.assertEqual([len(found) for found in query.map(['', 'a', 'aa', 'aaa', 'aaaa'])], [0, 1, 2, 3, 4])
+                yield next(found)
+                raise rematch.OutOfMemory('out of memory', 9)
+            yield from found
+        with mock.patch.object(many.Mapped, '_by_text', refused):
+            self.assertEqual([len(found) for found in query.map(['', 'a', 'aa', 'aaa', 'aaaa', '', 'a'])], [0, 1, 2, 3, 4, 0, 1])
+
+    def test_rows_do_not_wait(self):
+        """A text is given when its rows are there, and many rows that would wait are taken in smaller batches."""
+        mapped = many.Mapped(rematch.Query('/!x{a}/'))
+        seen = []
+        with mock.patch.object(mapped.query, 'rows', return_value=iter(map(lambda k: seen.append(k) or (2 * k + 1, 2 * k + 2), range(9)))):
+            found = mapped.rows(['a'] * 9)
+            self.assertEqual([len(next(found)), len(seen)], [1, 2])
+            self.assertEqual([len(rows) for rows in found], [1] * 8)
+        query = rematch.Query('project x (/!x{a}!y{a*}/)')
+        self.assertFalse(many.Mapped(query).is_sure)
+        with mock.patch.object(many, '_MOST_WAITING', 3):
+            self.assertEqual([len(found) for found in query.map(['aa', 'a', 'aaa', 'a'])], [2, 1, 3, 1])
 
     def test_faults_in_their_places(self):
         query = rematch.Query('/!x{a}/')
