@@ -42,6 +42,7 @@ files="$bin/rematch
 $bin/rematch-to
 $bin/rematch-cut
 $bin/rematch-piece
+$bin/rematch-play
 $share/man/man1/rematch.1
 $bash_file
 $share/bash-completion/completions/rematch-to
@@ -121,8 +122,9 @@ if command -v python3 >/dev/null 2>&1 && python3 -c 'import sys, zipapp; sys.exi
         "rows as tables, concordances and pages; also the Python package (PYTHONPATH=$bin/rematch-to)"
     link rematch-to "$bin/rematch-cut" "pieces of a document"
     link rematch-to "$bin/rematch-piece" "the rows of a piece"
+    link rematch-to "$bin/rematch-play" "a page to write queries beside a document"
 else
-    echo "no Python 3.8: rematch-to, rematch-cut and rematch-piece are left out"
+    echo "no Python 3.8: rematch-to, rematch-cut, rematch-piece and rematch-play are left out"
 fi
 
 case ":${PATH:-}:" in

@@ -9,9 +9,9 @@ r"""Every match of a query in a document, over the program rematch.
     (1, 2) b
     (1, 2) bb
 
-The names here are all that is public: `Query` with `Match`, `Matches`, `Page` and `Document`; the faults, each also of a
-built-in kind; `advise`, on what is accepted and seldom meant; `Server`, for many queries of small documents and for
-documents that grow; `reach` and `NoReach`, for documents in pieces; `on_dask`, for many machines.
+The names here are all that is public: `Query` with `Match`, `Matches`, `Page` and `Document`; `search`, `findall`, `finditer`
+and `sub`, as ``re`` has them; the faults, each also of a built-in kind; `advise`, on what is accepted and seldom meant;
+`Server`, for many queries of small documents and for documents that grow; `reach` and `NoReach`, for documents in pieces; `on_dask`, for many machines.
 clients/README.md has examples.
 """
 from typing import TYPE_CHECKING, Any, List, Union
@@ -19,22 +19,24 @@ from typing import TYPE_CHECKING, Any, List, Union
 from .documents import Document
 from .faults import (CursorError, DocumentError, OutOfMemory, ProgramError, ProgramNotFound, QueryError, RematchError,
                      SizeError)
-from .match import Match, Matches, Page
+from .match import Match, Matches, NoVariable, Page
 from .program import find_program
 from .query import Query
 
 if TYPE_CHECKING:
     from ._dask import on_dask
     from .advice import Advice, advise
+    from .calls import findall, finditer, search, sub
     from .pieces import NoReach, reach
     from .session import Server, Session, SessionError
 
 __all__ = ['Query', 'Match', 'Matches', 'Page', 'Document', 'RematchError', 'QueryError', 'SizeError', 'DocumentError',
-           'CursorError', 'OutOfMemory', 'ProgramError', 'ProgramNotFound', 'find_program', 'compile', 'advise', 'Advice',
-           'Server', 'Session', 'SessionError', 'reach', 'NoReach', 'on_dask']
+           'CursorError', 'OutOfMemory', 'ProgramError', 'ProgramNotFound', 'NoVariable', 'find_program', 'compile', 'search',
+           'findall', 'finditer', 'sub', 'advise', 'Advice', 'Server', 'Session', 'SessionError', 'reach', 'NoReach', 'on_dask']
 __version__ = '0.1'
 
-_ELSEWHERE = {'advise': 'advice', 'Advice': 'advice', 'Server': 'session', 'Session': 'session', 'SessionError': 'session',
+_ELSEWHERE = {'findall': 'calls', 'finditer': 'calls', 'search': 'calls', 'sub': 'calls',
+              'advise': 'advice', 'Advice': 'advice', 'Server': 'session', 'Session': 'session', 'SessionError': 'session',
               'reach': 'pieces', 'NoReach': 'pieces', 'on_dask': '_dask'}
 
 

@@ -1,4 +1,4 @@
-"""``python3 -m rematch``, and the file that holds the package as a program: rematch-to, rematch-cut or rematch-piece by its name."""
+"""``python3 -m rematch``, and the file that holds the package as a program: by its name it is one of the commands."""
 import os
 import sys
 
@@ -10,6 +10,8 @@ def run() -> int:
         from rematch.pieces import cut_main as main
     elif name == 'rematch-piece':
         from rematch.pieces import piece_main as main
+    elif name == 'rematch-play':
+        from rematch.play import main
     else:
         from rematch.convert import main
     return main()

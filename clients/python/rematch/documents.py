@@ -41,6 +41,9 @@ class Document:
     - an open binary file: where it can seek, all of it, whatever its position; else from its position to its end. An
       open text file: the same, as a ``str``.
 
+    With ``encoding``, as ``'utf-8'`` or ``'latin-1'``, bytes, a path or a binary file are read as text at once, and are as a
+    ``str`` from then on; `DocumentError` tells the first byte that is none.
+
     A path of a packed file, and a text that is the name of a file, are taken as they are, with a warning: ``gzip.open`` and the
     like give open files.
 
@@ -48,13 +51,14 @@ class Document:
     match tells is of what was read then, also where the file is changed meanwhile. A file that is missing or cannot be
     read raises `DocumentError`.
 
-    >>> Document('né').data, len(Document('né'))
-    (b'n\xc3\xa9', 2)
+    >>> Document('né').data, len(Document('né')), len(Document(b'n\xc3\xa9')), len(Document(b'n\xc3\xa9', 'utf-8'))
+    (b'n\xc3\xa9', 2, 3, 2)
     """
 
     __slots__ = ('name', '_data', '_text', '_places', '_held', '_path', '_watched', '__weakref__')
+    _begins = 0  # where the data begins, of a part of what is followed
 
-    def __init__(self, source: Source) -> None:
+    def __init__(self, source: Source, encoding: Optional[str] = None) -> None:
         self.name: Optional[str] = None
         self._data: Union[None, bytes, mmap.mmap] = None
         self._text: Optional[str] = None
@@ -78,6 +82,23 @@ class Document:
             _warn_of_packed(self._path)
         else:
             self._take_file(source)
+        if encoding is not None and self._text is None:
+            self._decode(encoding)
+
+    def _decode(self, encoding: str) -> None:
+        data = self.data
+        try:
+            text = data[:].decode(encoding)
+        except UnicodeDecodeError as reason:
+            fault = DocumentError(f'read failed: document: no {encoding} at {reason.start}', 5)
+            fault.filename = self.name
+            fault.hint = 'give its own encoding; latin-1 takes every byte'
+            raise fault from reason
+        if self._held is not None:
+            os.close(self._held)
+            self._held = None
+        self._path = None
+        self._take_text(text)
 
     def __del__(self) -> None:
         for number in (getattr(self, '_held', None), getattr(self, '_watched', None)):

@@ -14,8 +14,11 @@ class RematchError(Exception):
     """A run that did not end with its page.
 
     ``status`` is the program's exit status (None where it has none), ``note`` the line that it wrote, ``hint`` what to
-    do about it, or None. The text of the exception is all of this.
+    do about it, or None. ``request`` is what a `Server` was asked, with its ``id``, and None of a run. The text of the
+    exception is all of this.
     """
+
+    request: Optional[Dict[str, Any]] = None
 
     def __init__(self, note: str, status: Optional[int] = None, query: bytes = b'') -> None:
         super().__init__(note)
@@ -35,6 +38,9 @@ class RematchError(Exception):
 
     def __str__(self) -> str:
         lines = [self.note, *self._lines()]
+        if self.request is not None and not isinstance(self, QueryError):
+            shown = str(self.request)
+            lines.append('in the request ' + (shown if len(shown) <= _WIDEST else shown[:_WIDEST] + '..'))
         if self.hint:
             lines.append('hint: ' + self.hint)
         return '\n'.join(lines)

@@ -6,7 +6,7 @@ from typing import TYPE_CHECKING, Any, AnyStr, Dict, Generic, Iterable, List, Op
 if TYPE_CHECKING:
     from .documents import Document
 
-__all__ = ['Match', 'Matches', 'Page', 'Row', 'Span', 'Variables']
+__all__ = ['Match', 'Matches', 'NoVariable', 'Page', 'Row', 'Span', 'Variables']
 
 Span = Tuple[int, int]
 """Start and end, counted from 0; the end is behind the last byte or character."""
@@ -26,13 +26,36 @@ class Variables:
         return f'c2:{length}{"".join(parts)}'
 
 
+class NoVariable(KeyError):
+    """A name that is no variable of the query, or a number: spans have names, and a row has no group 0.
+
+    >>> import rematch
+    >>> match = rematch.search('/!x{a}!y{b}/', 'ab')
+    >>> match.group(0)
+    Traceback (most recent call last):
+      ...
+    rematch.match.NoVariable: there is no group 0: a row has spans and no whole match; name one of x, y, or use extent
+    """
+
+    def __str__(self) -> str:
+        return str(self.args[0])
+
+
 class _Index(Dict[str, int]):
     """Where the places of each variable begin in a row."""
 
-    def __missing__(self, name: str) -> int:
-        raise KeyError(f'{name!r} is no variable of the query, which has {", ".join(self) or "none"}')
+    def __missing__(self, name: Any) -> int:
+        names = ', '.join(self)
+        if isinstance(name, str):
+            raise NoVariable(f'{name!r} is no variable of the query, which has {names or "none"}')
+        if not self:
+            raise NoVariable(f'there is no group {name}: the query has no variable; write !name{{..}} around what is wanted')
+        if name == 0:
+            raise NoVariable(f'there is no group 0: a row has spans and no whole match; name one of {names}, or use extent')
+        raise NoVariable(f'there is no group {name!r}: variables have names, and no numbers; name one of {names}')
 
 
+_NO_NAME: Any = 0  # what ``re`` takes where no name is given: its group 0
 _SHOWN = 200  # rows of a list that a notebook shows
 
 
@@ -40,7 +63,8 @@ class Match(Generic[AnyStr]):
     """One row: which part of the document each variable takes.
 
     Places are counted from 0, in bytes; where the document is a ``str``, in characters. A variable that the row leaves
-    out is absent: its span, start, end and text are None. A name that is no variable of the query raises `KeyError`.
+    out is absent: its span, start, end and text are None. A name that is no variable of the query raises `NoVariable`,
+    a `KeyError`; so does a number, and a call without a name, since a row has no whole match as ``re`` has its group 0.
 
     >>> import rematch
     >>> match = rematch.Query('/(!x{a})?!y{b}/').findall(b'ab')[1]
@@ -67,7 +91,7 @@ class Match(Generic[AnyStr]):
         """The row as `Query.rows` gives it, but in bytes for each document."""
         return self._row
 
-    def byte_span(self, name: str) -> Optional[Span]:
+    def byte_span(self, name: str = _NO_NAME) -> Optional[Span]:
         """Start and end in bytes, also where the document is a ``str``; None where the variable is absent.
 
         >>> import rematch
@@ -77,7 +101,7 @@ class Match(Generic[AnyStr]):
         row, at = self._row, self._query._index[name]
         return None if row[at] < 0 else (row[at], row[at + 1])
 
-    def span(self, name: str) -> Optional[Span]:
+    def span(self, name: str = _NO_NAME) -> Optional[Span]:
         """Start and end of what the variable takes; None where it is absent.
 
         >>> import rematch
@@ -91,7 +115,7 @@ class Match(Generic[AnyStr]):
         places = self._document._places
         return (start, row[at + 1]) if places is None else (places[start], places[row[at + 1]])
 
-    def start(self, name: str) -> Optional[int]:
+    def start(self, name: str = _NO_NAME) -> Optional[int]:
         """Where the variable's part begins; None where it is absent.
 
         >>> import rematch
@@ -101,7 +125,7 @@ class Match(Generic[AnyStr]):
         span = self.span(name)
         return None if span is None else span[0]
 
-    def end(self, name: str) -> Optional[int]:
+    def end(self, name: str = _NO_NAME) -> Optional[int]:
         """Where the variable's part ends, which is behind its last byte or character; None where it is absent.
 
         >>> import rematch
@@ -121,7 +145,7 @@ class Match(Generic[AnyStr]):
     @overload
     def group(self, name: str, other: str, /, *more: str) -> Tuple[Optional[AnyStr], ...]: ...
 
-    def group(self, name: str, /, *more: str) -> Any:
+    def group(self, name: str = _NO_NAME, /, *more: str) -> Any:
         """What a variable takes: bytes, of a ``str`` a ``str``; of several variables a tuple.
 
         >>> import rematch
@@ -129,6 +153,24 @@ class Match(Generic[AnyStr]):
         ('a', 'bb')
         """
         return tuple(map(self.__getitem__, (name, *more))) if more else self[name]
+
+    def groups(self, default: Any = None) -> Tuple[Any, ...]:
+        """What each variable takes, in the order of `Query.variables`; ``default`` where it is absent.
+
+        >>> import rematch
+        >>> rematch.Query('/!x{a}(!y{b})?/').findall('ab')[1].groups()
+        ('a', None)
+        """
+        return tuple([default if self._row[at] < 0 else self[name] for name, at in self._query._index.items()])
+
+    def keys(self) -> Tuple[str, ...]:
+        """The variables, so that ``dict(match)`` is `groupdict`.
+
+        >>> import rematch
+        >>> dict(rematch.search('/!x{a}!y{b}/', 'ab'))
+        {'x': 'a', 'y': 'b'}
+        """
+        return self._query.variables
 
     def groupdict(self) -> Dict[str, Optional[AnyStr]]:
         """What each variable takes, by its name.
@@ -192,7 +234,7 @@ class Matches(List[Match[AnyStr]]):
     """A list of rows, which a notebook shows as a view of the document."""
 
     def _repr_html_(self) -> Optional[str]:
-        if not self or not self[0]._query.variables:
+        if not self or not self[0]._query.variables or self[0]._document._begins:
             return None
         from .view import fragment
         first = self[0]

@@ -5,12 +5,15 @@ import os
 from array import array
 from itertools import repeat
 from json import loads
-from typing import IO, Any, Dict, Iterator, List, Optional, Sequence, Tuple, Union, overload
+from typing import IO, TYPE_CHECKING, Any, Callable, Dict, Iterable, Iterator, List, Optional, Sequence, Tuple, Union, overload
 
 from .documents import Document, Source, open_document
 from .faults import ProgramError
 from .match import Match, Matches, Page, Row, Variables
 from .program import Run, find_program
+
+if TYPE_CHECKING:
+    from .replace import Replacement
 
 __all__ = ['Query']
 
@@ -188,6 +191,32 @@ class Query(Variables):
         """
         return Matches(self.finditer(document, after=after, limit=limit))
 
+    def search(self, document: Source, *, after: str = 'start') -> Optional[Match[Any]]:
+        """The first row (behind the cursor), or None where there is none.
+
+        >>> Query('/!x{a+}/').search('baa')
+        <rematch.Match x=1-2>
+        """
+        found = self.findall(document, after=after, limit=1)
+        return found[0] if found else None
+
+    def sub(self, replacement: 'Replacement', document: Source, *, name: Optional[str] = None,
+            count: int = 0) -> Union[str, bytes]:
+        r"""The document with the spans of a variable replaced: of the one that the query has, of several of ``name``.
+
+        Spans are taken from the left, of those that begin at one place the longest, and none that overlaps one before; with
+        ``count`` at most so many. ``replacement`` is a function of the `Match`, of several rows with the span the first, or a
+        text in which ``\g<x>`` is what the variable x takes in it. Of a ``str`` the answer is a ``str``, else bytes.
+
+        >>> query = Query(r'/!user{\w+}@!host{\w+};/')
+        >>> query.sub(r'\g<host>', 'ann@one; bob@two;', name='user')
+        'one@one; two@two;'
+        >>> query.sub(lambda match: match['host'].upper(), 'ann@one;', name='host')
+        'ann@ONE;'
+        """
+        from .replace import replaced
+        return replaced(self, replacement, open_document(document), name, count)
+
     @overload
     def page(self, document: _Bytes, size: int, *, after: str = ...) -> Page[bytes]: ...
 
@@ -244,6 +273,37 @@ class Query(Variables):
         finally:
             run.close()
 
+    def map(self, texts: Iterable[Union[str, bytes]]) -> Iterator[Matches[Any]]:
+        """The rows of each of many texts, as a list a text, in order; what each gives is what `findall` gives of it.
+
+        Texts are searched together, so that short ones cost little. A fault is raised in the place of its text.
+
+        >>> [[match['x'] for match in found] for found in Query('/^!x{[a-z]+}=/').map(['one=1', 'two', 'three=3'])]
+        [['one'], [], ['three']]
+        """
+        from .many import Mapped
+        return Mapped(self).rows(texts)
+
+    def follow(self, source: 'Union[str, os.PathLike[str], IO[bytes]]', *, from_end: bool = False, wait: float = 0.2,
+               quiet: Optional[float] = None, until: Optional[Callable[[], bool]] = None) -> Iterator[Match[bytes]]:
+        """The rows of a file that grows, as they come, as ``tail -f`` has its lines.
+
+        ``source`` is an open binary file, which ends by itself, or a path, also as a ``str``, which is looked at every ``wait``
+        seconds. Following a path ends when ``quiet`` seconds brought nothing new, or where ``until`` is true then; with
+        ``from_end`` the whole lines that are there are passed over. Where another file has the name, or it has become
+        shorter, it is read from its start.
+
+        Whole lines are searched, with as many before them as the query reaches, so that each step costs what is new; `NoReach`
+        tells why a query has no reach. Each row is given once. Of a query with ``minus`` that reaches over lines, a row comes
+        when as many lines stand behind it. What has no line feed is searched at the end.
+
+        >>> import io
+        >>> [(match.span('x'), match['x']) for match in Query('/!x{[0-9]+} up/').follow(io.BytesIO(b'7 up, 8 up'))]
+        [((0, 1), b'7'), ((6, 7), b'8')]
+        """
+        from .follow import followed
+        return followed(self, source, from_end, wait, quiet, until)
+
     def rows(self, document: Source, *, after: str = 'start', limit: Optional[int] = None) -> Iterator[Row]:
         """The rows as flat tuples, start and end of each variable in turn, -1 and -1 for an absent one.
 
@@ -282,16 +342,17 @@ class Query(Variables):
         step = 2 * len(self.variables)
         return {name: (flat[at::step], flat[at + 1::step]) for name, at in self._index.items()}
 
-    def table(self, document: Source) -> Dict[str, Sequence[Any]]:
+    def table(self, document: Source, *, encoding: Optional[str] = None) -> Dict[str, Sequence[Any]]:
         """The rows as columns of one table: of each variable x the columns ``x_start``, ``x_end`` and ``x``, its text.
 
-        ``pandas.DataFrame`` takes it as it is. An absent variable has -1, -1 and None.
+        ``pandas.DataFrame`` takes it as it is. An absent variable has -1, -1 and None. With ``encoding``, as ``'utf-8'``, the
+        document is read as text, as `Document` does it: its places count characters, and texts are ``str``.
 
         >>> Query('/(!x{a})?!y{b}/').table('ab')
         {'x_start': array('q', [0, -1]), 'x_end': array('q', [1, -1]), 'x': ['a', None],
          'y_start': array('q', [1, 1]), 'y_end': array('q', [2, 2]), 'y': ['b', 'b']}
         """
-        opened = open_document(document)
+        opened = open_document(document) if encoding is None else Document(document, encoding)
         opened.data  # read once, so that places and texts are of the same bytes
         table: Dict[str, Sequence[Any]] = {}
         for name, (starts, ends) in self.columns(opened).items():

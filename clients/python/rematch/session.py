@@ -10,7 +10,7 @@ import subprocess
 import threading
 from array import array
 from itertools import accumulate
-from typing import Any, Dict, Iterator, List, Optional, Union
+from typing import Any, Dict, Iterator, List, Optional, Set, Union
 
 from .documents import _BEGINS, Document
 from .faults import DocumentError, OutOfMemory, ProgramError, ProgramNotFound, QueryError, RematchError, SizeError, error_of
@@ -27,8 +27,39 @@ _WAITED = 10  # seconds that a server has to end once its input has ended
 _Text = Union[str, bytes]
 
 
+_MEMBERS: Dict[str, Dict[str, type]] = {'open': {'query': str, 'doc': str}, 'next': {'n': int}, 'grow': {'text': str},
+                                        'close': {}}
+
+
 class SessionError(RematchError, RuntimeError):
-    """A request that the server refuses: the session is not open, or 64 are open already."""
+    """A request that is refused: it is none, its session is not open or is lost with its server, or 64 are open already."""
+
+
+def _refusal(request: Any) -> Optional[str]:
+    """Why this is no request; None where it is one.
+
+    >>> _refusal({'op': 'next', 'id': 1, 'n': 5000}), _refusal({'op': 'close', 'id': 1})
+    ('n is a whole number from 1 to 1000, not 5000', None)
+    """
+    if not isinstance(request, dict):
+        return f'it is an object with the members op and id, not {type(request).__name__}'
+    op = request.get('op')
+    if not isinstance(op, str) or op not in _MEMBERS:
+        return f'op is one of {", ".join(_MEMBERS)}, not {op!r}'
+    wanted: Dict[str, type] = {'id': int, **_MEMBERS[op]}
+    for name in (*wanted, *request):
+        if name not in request:
+            return f'{op} has the members op, {", ".join(wanted)}, and {name} is missing'
+        if name != 'op' and name not in wanted:
+            return f'{op} has the members op, {", ".join(wanted)}, and no {name!r}'
+    for name, kind in wanted.items():
+        value = request[name]
+        least, most = (0, (1 << 32) - 1) if name == 'id' else (1, _MOST_ROWS)
+        if kind is int and (type(value) is not int or not least <= value <= most):
+            return f'{name} is a whole number from {least} to {most}, not {value!r}'
+        if kind is str and not isinstance(value, str):
+            return f'{name} is a str, not {type(value).__name__}'
+    return None
 
 
 def _fault(told: str, query: bytes) -> RematchError:
@@ -43,15 +74,19 @@ def _fault(told: str, query: bytes) -> RematchError:
         return OutOfMemory('out of memory', 9, query)
     if told == 'long':
         return DocumentError('document longer than 16777216 bytes', 6, query)
-    return SessionError({'full': '64 sessions are open', 'not open': 'the session is not open',
-                         'request': 'the server does not know this request'}.get(told, told), None, query)
+    notes = {'full': '64 sessions are open', 'not open': 'the session is not open', 'taken': 'a session with this id is open',
+             'request': 'the server does not know this request'}
+    return SessionError(notes.get(told, told), None, query)
 
 
 class Server:
     """A program that answers many queries, one after another or several at a time, and ends with the ``with`` block.
 
     ``program`` is its path, where it is not that of `find_program`. Threads may share a server: requests are answered one
-    by one. A server that dies raises `ProgramError` at the next request. A program without sessions raises it too.
+    by one. A program without sessions raises `ProgramError`.
+
+    A server that dies raises `ProgramError` at the request that it does not answer. The next `query` or `open` starts it
+    anew, which ``restarts`` counts, and each session of before raises `SessionError`, since it is lost.
 
     >>> with Server() as server:
     ...     query = server.query('/!x{a+}/')
@@ -63,10 +98,20 @@ class Server:
         self.program = find_program() if program is None else program
         self._lock = threading.Lock()
         self._numbers = 0
+        self._asked: Set[int] = set()  # sessions that are open by `ask`
+        self._is_closed = False
+        self._lost: Optional[str] = None  # why the program ended, where it has
+        self.restarts = 0
+        self._start()
+
+    def _start(self) -> None:
         try:
-            self._process = subprocess.Popen([self.program, '--serve'], stdin=subprocess.PIPE, stdout=subprocess.PIPE, stderr=subprocess.PIPE)
+            self._process = subprocess.Popen([self.program, '--serve'], stdin=subprocess.PIPE, stdout=subprocess.PIPE,
+                                             stderr=subprocess.PIPE)
         except OSError as fault:
             raise ProgramNotFound(f'the program {self.program} cannot be run: {fault.strerror}') from fault
+        self._lost = None
+        self._asked.clear()
 
     def __enter__(self) -> 'Server':
         return self
@@ -82,8 +127,9 @@ class Server:
             self._release()
 
     def close(self) -> None:
-        """End the server, and all its sessions. A server that has died raises its fault."""
+        """End the server, and all its sessions. A server that has died raises its fault, where no request has raised it."""
         with self._lock:
+            self._is_closed = True
             process = self._process
             if process.stdin is None or process.stdin.closed:
                 return
@@ -97,12 +143,25 @@ class Server:
                 process.kill()
             self._end()
 
+    def kill(self) -> None:
+        """End the program at once, as from another thread when a request takes too long; that request raises `ProgramError`.
+
+        >>> with Server() as server:
+        ...     server.kill()
+        ...     server.query('/!x{a}/').count('aa'), server.restarts
+        (2, 1)
+        """
+        process = self._process
+        process.kill()
+        process.wait()
+
     def _end(self) -> None:
         """Waits for the program's end, and raises its fault where it did not end well."""
         assert self._process.stderr is not None
         told = self._process.stderr.read().decode('utf-8', 'backslashreplace').strip()
         status = self._process.wait()
         self._release()
+        self._lost = f'ended by signal {-status}' if status < 0 else f'ended with status {status}' + (f', {told}' if told else '')
         if status == 2:
             raise ProgramError(f'{self.program!r} knows no sessions (--serve)', status)
         if status:
@@ -118,16 +177,41 @@ class Server:
                 except BrokenPipeError:
                     pass
 
-    def _ask(self, request: Dict[str, Any], query: bytes) -> Dict[str, Any]:
-        """The reply to a request; an error reply is raised."""
+    def _give_up(self, why: str) -> None:
+        """Ends a program whose replies cannot be trusted any more."""
+        self._process.kill()
+        self._process.wait()
+        self._release()
+        self._lost = why
+
+    def _alive(self, is_open: bool, restarts: int) -> None:
+        """Starts the program anew for a session that is new, and raises `SessionError` for one that is lost."""
+        if self._is_closed:
+            raise SessionError('the server is closed')
+        if is_open and (self._lost is not None or self._process.poll() is not None):
+            self._release()
+            self._start()
+            self.restarts += 1
+        elif not is_open and (self._lost is not None or restarts != self.restarts):
+            why = f', which {self._lost}' if self._lost is not None else ''
+            raise SessionError(f'the session is lost with its server{why}: open it anew')
+
+    def _ask(self, request: Dict[str, Any], query: bytes, restarts: Optional[int] = None) -> Dict[str, Any]:
+        """The reply to a request; an error reply is raised. ``restarts`` are those of when its session was opened."""
+        try:
+            return self._answer(request, query, restarts)
+        except RematchError as fault:
+            fault.request, fault.query = request, query
+            raise
+
+    def _answer(self, request: Dict[str, Any], query: bytes, restarts: Optional[int]) -> Dict[str, Any]:
         line = _line(request)
         if len(line) > _LONGEST:
             raise DocumentError(f'request longer than {_LONGEST} bytes', 6, query)
         with self._lock:
+            self._alive(request.get('op') == 'open', self.restarts if restarts is None else restarts)
             process = self._process
-            if process.stdin is None or process.stdin.closed:
-                raise SessionError('the server is closed', None, query)
-            assert process.stdout is not None
+            assert process.stdin is not None and process.stdout is not None
             try:
                 process.stdin.write(line + b'\n')
                 process.stdin.flush()
@@ -137,22 +221,55 @@ class Server:
             if not reply.endswith(b'\n'):
                 self._end()
                 raise ProgramError(f'{self.program!r} ended before it answered')
-        try:
-            found: Dict[str, Any] = json.loads(reply)
-            told = found.get('error')
-            has_id = told == 'request' or found['id'] == request['id']
-        except (ValueError, AttributeError, KeyError):
-            raise ProgramError(f'{self.program!r} wrote a line that is no reply: {reply[:80]!r}') from None
-        if not has_id:
-            raise ProgramError(f'{self.program!r} answered another request: {reply[:80]!r}')
+            try:
+                found: Dict[str, Any] = json.loads(reply)
+                told = found.get('error')
+                has_id = told == 'request' or found['id'] == request['id']
+            except (ValueError, AttributeError, KeyError):
+                self._give_up('wrote a line that is no reply')
+                raise ProgramError(f'{self.program!r} wrote a line that is no reply: {reply[:80]!r}') from None
+            if not has_id:
+                self._give_up('answered another request')
+                raise ProgramError(f'{self.program!r} answered another request: {reply[:80]!r}')
         if told is not None:
             raise _fault(told, query)
         return found
 
+    def ask(self, request: Dict[str, Any]) -> Dict[str, Any]:
+        """The reply to a request as docs/FORMATS.md has it ("Sessions"), for those who number their sessions themselves.
+
+        What is no request is not sent, since the program tells no reason: it raises `SessionError` with the reason. Nor is one
+        of more than 1,048,576 bytes, at which the program ends: it raises `DocumentError`. An error reply is raised as
+        everywhere; a fault has the ``request``.
+
+        >>> with Server() as server:
+        ...     server.ask({'op': 'open', 'id': 7, 'query': '/!x{a}/', 'doc': 'a'}), server.ask({'op': 'next', 'id': 7, 'n': 9})
+        ({'id': 7, 'variables': ['x']}, {'id': 7, 'more': False, 'rows': [{'x': [0, 1]}]})
+        """
+        reason = _refusal(request)
+        try:
+            if reason is None:
+                _line(request)
+        except UnicodeError as fault:
+            reason = f'it is no UTF-8: {fault}'
+        if reason is not None:
+            refused = SessionError('no request: ' + reason)
+            refused.request = request
+            raise refused
+        reply = self._ask(request, request.get('query', '').encode('utf-8'))
+        with self._lock:
+            if request['op'] == 'open':
+                self._asked.add(request['id'])
+            elif request['op'] == 'close':
+                self._asked.discard(request['id'])
+        return reply
+
     def _number(self) -> int:
         with self._lock:
-            self._numbers = (self._numbers + 1) % (1 << 32)
-            return self._numbers
+            while True:
+                self._numbers = (self._numbers + 1) % (1 << 32)
+                if self._numbers not in self._asked:
+                    return self._numbers
 
     # -- What is asked
 
@@ -273,6 +390,7 @@ class Session:
         if not is_short:
             request['doc'] = ''
         reply = server._ask(request, self._query)
+        self._restarts = server.restarts
         self._is_open = True
         self._named = Variables(reply['variables'])
         self.variables = self._named.variables
@@ -301,7 +419,7 @@ class Session:
         if not self._is_open:
             raise SessionError('the session is not open', None, self._query)
         try:
-            return self._server._ask({**request, 'id': self._number}, self._query)
+            return self._server._ask({**request, 'id': self._number}, self._query, self._restarts)
         except (SizeError, OutOfMemory):
             self._is_open = False  # the server has closed it
             raise
@@ -353,11 +471,15 @@ class Session:
         self._document = _Grown(self._kept)
 
     def close(self) -> None:
-        """Close the session; closing it again does nothing."""
+        """Close the session; closing it again, or when its server has ended, does nothing."""
         if self._is_open:
             self._is_open = False
-            if self._server._process.stdin is not None and not self._server._process.stdin.closed:
-                self._server._ask({'op': 'close', 'id': self._number}, self._query)
+            server = self._server
+            if not server._is_closed and server._lost is None and server.restarts == self._restarts:
+                try:
+                    server._ask({'op': 'close', 'id': self._number}, self._query, self._restarts)
+                except ProgramError:
+                    pass  # the session has ended with its server, which the others are told
 
 
 class Served(Variables):

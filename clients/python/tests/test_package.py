@@ -1,19 +1,27 @@
 """The package as such: examples in its texts, what importing it costs, types."""
 import doctest
-import importlib
+import importlib.util
 import os
 import pkgutil
+import re
 import subprocess
 import sys
+import tempfile
 import unittest
+from unittest import mock
 
 import rematch
 from support import PROGRAM, PYTHON
 from test_session import FAKE, serves
 
 
+LEFT = {'__main__'}  # modules without examples that run here
+if importlib.util.find_spec('pandas') is None:
+    LEFT.add('pandas')
+
+
 def modules():
-    return ['rematch'] + ['rematch.' + found.name for found in pkgutil.iter_modules(rematch.__path__) if found.name != '__main__']
+    return ['rematch'] + ['rematch.' + found.name for found in pkgutil.iter_modules(rematch.__path__) if found.name not in LEFT]
 
 
 def load_tests(loader, tests, pattern):
@@ -44,6 +52,25 @@ class Package(unittest.TestCase):
                         self.assertIn('>>> ', value.__doc__, '%s.%s' % (kind.__name__, name))
                     self.assertIn('return', getattr(call, '__annotations__', {'return': 0}), '%s.%s' % (kind.__name__, name))
 
+    def test_api_page(self):
+        """docs/API.md is what the texts of the package give, each of its links has its heading, and another page is told."""
+        import api
+        made = api.page()
+        with open(api.PAGE, encoding='utf-8') as file:
+            self.assertEqual(file.read(), made, 'clients/python/api.py writes docs/API.md')
+        headings = {api.anchor(line.lstrip('# ')) for line in made.split('\n') if line.startswith('#')}
+        links = re.findall(r'\]\(#([^)]*)\)', made)
+        self.assertGreater(len(links), 6)
+        self.assertEqual(set(links) - headings, set())
+        for name in rematch.__all__:
+            self.assertRegex(made, r'\n### %s\b' % name)
+        with tempfile.NamedTemporaryFile('w', suffix='.md') as file:
+            file.write(made.replace('row', 'line', 1))
+            file.flush()
+            with mock.patch.object(api, 'PAGE', file.name), mock.patch('builtins.print') as told:
+                self.assertEqual(api.main(['--check']), 1)
+            told.assert_called_once_with('docs/API.md is not up to date: clients/python/api.py writes it')
+
     def test_typed(self):
         self.assertTrue(os.path.exists(os.path.join(PYTHON, 'rematch', 'py.typed')))
 
@@ -51,7 +78,8 @@ class Package(unittest.TestCase):
         """What importing costs is what it imports; clients/README.md has the time."""
         code = 'import sys; before = set(sys.modules); import rematch; print(*sorted(set(sys.modules) - before))'
         read = subprocess.run([sys.executable, '-c', code], stdout=subprocess.PIPE, universal_newlines=True, check=True).stdout.split()
-        for heavy in ('argparse', 'asyncio', 'csv', 'html', 'tempfile', 'unicodedata', 'rematch.hints', 'rematch.view'):
+        for heavy in ('argparse', 'asyncio', 'csv', 'html', 'tempfile', 'unicodedata', 'rematch.hints', 'rematch.view', 'rematch.many',
+                      'rematch.follow', 'rematch.replace', 'rematch.calls', 'http', 'pandas'):
             self.assertNotIn(heavy, read)
 
 

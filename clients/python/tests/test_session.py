@@ -163,6 +163,59 @@ class Sessions:
             self.server._ask({'op': 'next', 'id': 77, 'n': 1}, b'')
 
 
+    def test_requests_told_back(self):
+        """What is no request is not sent, and a fault has its request and says why."""
+        for request, reason in (({'op': 'what', 'id': 1}, "op is one of open, next, grow, close, not 'what'"), ([1], 'not list'),
+                                ({'op': 'next', 'id': 'a', 'n': 1}, "id is a whole number from 0 to 4294967295, not 'a'"),
+                                ({'op': 'next', 'id': 1, 'n': 5000}, 'n is a whole number from 1 to 1000, not 5000'),
+                                ({'op': 'next', 'id': 1}, 'next has the members op, id, n, and n is missing'),
+                                ({'op': 'close', 'id': 1, 'n': 2}, "close has the members op, id, and no 'n'"),
+                                ({'op': 'next', 'id': True, 'n': 1}, 'not True'), ({'op': 'grow', 'id': 1, 'text': b'a'}, 'text is a str, not bytes'),
+                                ({'op': 'grow', 'id': 1, 'text': '\ud800'}, 'no UTF-8')):
+            with self.assertRaisesRegex(rematch.SessionError, '^no request: (.|\n)*in the request ') as caught:
+                self.server.ask(request)
+            self.assertIn(reason, str(caught.exception))
+            self.assertEqual(caught.exception.request, request)
+        with self.assertRaisesRegex(rematch.DocumentError, 'request longer than 1048576 bytes'):
+            self.server.ask({'op': 'open', 'id': 1, 'query': '/a/', 'doc': 'a' * 1048576})
+        with self.assertRaisesRegex(rematch.SessionError, "the session is not open\nin the request {'op': 'close', 'id': 9}") as caught:
+            self.server.ask({'op': 'close', 'id': 9})
+        self.assertEqual(caught.exception.request['id'], 9)
+        with self.assertRaises(rematch.QueryError) as caught:
+            self.server.ask({'op': 'open', 'id': 1, 'query': '/a**/', 'doc': ''})
+        self.assertEqual((caught.exception.request['id'], caught.exception.column), (1, 4))
+        self.server.ask({'op': 'open', 'id': self.server._numbers + 1, 'query': '/!x{a}/', 'doc': 'a'})
+        with self.server.open('/!x{a}/', 'aa') as session:  # with another number
+            self.assertEqual(len(session.next()), 2)
+        with self.assertRaisesRegex(rematch.SessionError, 'a session with this id is open'):
+            self.server.ask({'op': 'open', 'id': self.server._numbers - 1, 'query': '/!x{a}/', 'doc': 'a'})
+        self.assertEqual(self.server.restarts, 0)
+
+    def test_killed(self):
+        """A server that dies is started anew; its sessions say that they are lost, and nothing else is."""
+        served, session = self.server.query('/!x{a}/'), self.server.open('/!x{a}/', 'aa')
+        self.server.kill()
+        with self.assertRaisesRegex(rematch.ProgramError, "signal 9\nin the request {'op': 'next', ") as caught:
+            session.next(1)
+        self.assertEqual((caught.exception.status, caught.exception.request['id']), (-9, session._number))
+        with self.assertRaisesRegex(rematch.SessionError, 'the session is lost with its server, which ended by signal 9: open it anew'):
+            session.next(1)
+        self.assertEqual((served.count('aa'), self.server.restarts), (2, 1))
+        for ask in (session.next, lambda: session.append('a')):
+            with self.assertRaisesRegex(rematch.SessionError, 'the session is lost with its server: open it anew'):
+                ask()
+        session.close()
+        first, second = self.server.open('/!x{a}/', 'aa'), self.server.open('/!x{a}/', 'aa')
+        self.server.kill()
+        first.close()
+        with self.assertRaisesRegex(rematch.SessionError, 'lost with its server, which ended by signal 9'):
+            second.next()
+        self.assertEqual((served.count('aa'), self.server.restarts), (2, 2))
+        self.server.kill()
+        self.server._process.wait()
+        self.assertEqual((served.count('aa'), self.server.restarts), (2, 3))
+
+
 class Fake(Sessions, unittest.TestCase):
     """Over sessions of the reference."""
 

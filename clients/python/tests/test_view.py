@@ -25,7 +25,7 @@ class Reader(HTMLParser):
     def handle_starttag(self, tag, attributes):
         given = dict(attributes)
         kind = (given.get('class') or '').split(' ')[0]
-        if tag not in ('meta',):
+        if tag not in ('meta', 'input'):
             self.open.append((tag, kind))
         if kind == 'rm-text':
             self.texts.append('')
@@ -41,7 +41,7 @@ class Reader(HTMLParser):
         kinds = [kind for _, kind in self.open]
         if 'rm-text' in kinds and not {'rm-more', 'rm-fold'} & set(kinds):
             self.texts[-1] += data
-        if any(tag == 'li' for tag, _ in self.open):
+        if any(tag == 'li' for tag, _ in self.open) and 'rm-said' not in kinds:
             self.items[-1] += data
 
 
@@ -150,6 +150,106 @@ class Pages(Folder):
         subprocess.run([*words, '--screenshot=' + picture, '--window-size=1000,900', address], stdout=subprocess.DEVNULL,
                        stderr=subprocess.DEVNULL, timeout=100)
         self.assertGreater(os.path.getsize(picture), 5000)
+
+    def made(self, sections):
+        """The address of a page."""
+        with open(os.path.join(self.folder, 'page.html'), 'w', encoding='utf-8') as file:
+            file.writelines(view.page(sections, ['x'], 'made'))
+        return 'file://' + file.name
+
+    def test_lists_and_parts(self):
+        """Several documents are listed, and only a page of more than 1,000 rows has parts."""
+        document = rematch.Document(b'a\n' * 1200)
+        rows = [(2 * k, 2 * k + 1) for k in range(1200)]
+        one, many = (''.join(view.page(sections, ['x'], 't')) for sections in ([('d', document, rows[:1000], False)],
+                                                                              [('d<', document, rows[:900], True), ('e', document, rows[:101], False)]))
+        self.assertIn('lang="en"', one)
+        self.assertNotIn('findLastIndex', one)
+        self.assertNotIn('<nav', one)
+        self.assertIn('findLastIndex', many)
+        self.assertIn('<a href="#d1">d&lt;</a> 900 rows, the first rows alone</li>', many)
+        self.assertEqual(many.count('tabindex="0"'), 1001)
+        Reader(many)
+
+    @needs('chromium')
+    def test_many_rows_in_a_browser(self):
+        from browser import Browser
+        data = b''.join(b'line %d a\n' % k for k in range(1500))
+        rows = [(at - 1, at) for at in range(len(data)) if data[at:at + 1] == b'\n']
+        other = b'other a\n\n' * 3
+        with Browser() as browser:
+            browser.open(self.made([('one', rematch.Document(data), rows, False), ('two', rematch.Document(other), [(6, 7), (15, 16)], False)]))
+            said, rows_seen = 'document.querySelector(".rm-bar output").textContent', '[...document.querySelectorAll("li[data-r]")].filter(x => x.checkVisibility()).length'
+            self.assertEqual([browser.value(said), browser.value(rows_seen)], ['rows 1 to 250 of 1502', 250])
+            self.assertLess(browser.value('document.body.scrollHeight'), 40000)
+            browser.press('Tab')  # Next, since Previous is of no use yet
+            browser.press('Enter')
+            self.assertEqual([browser.value(said), browser.value(rows_seen)], ['rows 251 to 500 of 1502', 250])
+            browser.press('Tab')
+            browser.write('LINE 77')
+            browser.until(said + ' == "rows 1 to 11 of 11 on lines that have the text"')
+            self.assertEqual(browser.value('document.querySelector("#d2").hidden'), True)
+            browser.press('Tab', 2)  # the list of documents, and then the first row
+            self.assertEqual(browser.value('document.activeElement.dataset.r'), '77')
+            self.assertEqual(browser.value('document.querySelectorAll(".rm-lit").length'), 2)
+            browser.press('ArrowDown')
+            self.assertEqual(browser.value('document.activeElement.dataset.r'), '770')
+            browser.press('End')
+            self.assertEqual(browser.value('document.activeElement.dataset.r'), '779')
+            browser.value('document.querySelector("#documents a[href=\'#d2\']").click()')
+            browser.until(said + ' == "rows 1501 to 1502 of 1502"')
+            self.assertEqual(browser.value('document.querySelector("input").value'), '')
+            browser.press('Tab')
+            self.assertEqual(browser.value(rows_seen), 2)
+            browser.value('document.querySelector("input").value = "no such text"; document.querySelector("input").dispatchEvent(new Event("input"))')
+            browser.until(said + ' == "no line has the text"')
+
+    @needs('chromium')
+    def test_folded_rows_by_keyboard(self):
+        from browser import Browser
+        with Browser(390, 900) as browser:
+            browser.open(self.made([('one', rematch.Document(b'a' * 30), [(0, k) for k in range(1, 31)], False)]))
+            browser.press('Tab', 8)
+            self.assertEqual(browser.value('document.activeElement.dataset.r'), '7')
+            browser.press('ArrowDown')
+            self.assertEqual(browser.value('[document.activeElement.dataset.r, document.querySelector("details").open]'), ['8', True])
+            tree = browser.ask('Accessibility.getFullAXTree')['nodes']
+            items = [node for node in tree if node.get('role', {}).get('value') == 'listitem']
+            self.assertGreaterEqual(len(items), 30)
+            self.assertIn('row 9', ' '.join(node.get('name', {}).get('value', '') for node in tree))
+
+    @needs('chromium')
+    def test_lines_keep_their_distance(self):
+        """Of a wrapped line those lines are high that have bars, and no others; the text of each keeps its number's height."""
+        from browser import Browser
+        text = 'word ' * 60
+        rows = [(0, k) for k in range(1, 5)]
+        with Browser(390, 900) as browser:
+            browser.open(self.made([('one', rematch.Document(text), rows, False)]))
+            height = browser.value('document.querySelector(".rm-text").getBoundingClientRect().height')
+            lines = browser.value('(()=>{const r=document.createRange();r.selectNodeContents(document.querySelector(".rm-text"));'
+                                  'return new Set([...r.getClientRects()].filter(x=>x.width>20).map(x=>Math.round(x.bottom/8))).size})()')
+            self.assertGreater(lines, 5)
+            self.assertLess(height, 24 * lines + 80)
+            self.assertEqual(browser.value('document.documentElement.scrollWidth'), 390)
+
+    @needs('chromium')
+    def test_colours_of_a_notebook(self):
+        from browser import Browser
+        shown = view.fragment(rematch.Document(b'ab'), ['x'], [(0, 1)])
+        ground = 'getComputedStyle(document.querySelector(".rm")).backgroundColor'
+        bar = 'getComputedStyle(document.querySelector(".rm")).getPropertyValue("--rm0").trim()'
+        for dark in (False, True):
+            with Browser(dark=dark) as browser:
+                for begin, wanted in (('<body data-jp-theme-light="false" style="--jp-layout-color0:#111">', ['rgb(17, 17, 17)', '#3bc9db']),
+                                      ('<body data-jp-theme-light="true" style="--jp-layout-color0:#fefefe">', ['rgb(254, 254, 254)', '#0b7285']),
+                                      ('<body class="vscode-dark" style="--vscode-editor-background:#222">', ['rgb(34, 34, 34)', '#3bc9db']),
+                                      ('<html theme=dark><body>', ['rgb(22, 25, 29)', '#3bc9db']),
+                                      ('<body>', ['rgb(22, 25, 29)', '#3bc9db'] if dark else ['rgb(255, 255, 255)', '#0b7285'])):
+                    with open(os.path.join(self.folder, 'book.html'), 'w') as file:
+                        file.write('<!doctype html>' + begin + shown)
+                    browser.open('file://' + file.name)
+                    self.assertEqual([browser.value(ground), browser.value(bar)], wanted, (begin, dark))
 
     @needs_speed
     def test_examples(self):

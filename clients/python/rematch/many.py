@@ -1,0 +1,277 @@
+"""A query on many texts: they are put behind one another and searched in one run, where that gives the rows of each.
+
+A fit that covers no separator lies in one text. So the texts are joined by a byte that no formula of the query reads, an
+anchor is a separator before or behind a formula, and a row belongs to the text in which its spans lie. Where there is no such
+byte, where the parts of a join share no variable, and of rows without spans, each text has a session of its own, and what no
+session takes has a run.
+"""
+from __future__ import annotations
+
+import re
+from typing import TYPE_CHECKING, Any, FrozenSet, Iterable, Iterator, List, Optional, Tuple, Union
+
+from ._reach import NoReach, _byte, reach_of_printed
+from .documents import Document
+from .faults import DocumentError, OutOfMemory, QueryError, RematchError, SizeError
+from .formula import Atom, Part, parts_of
+from .match import Match, Matches
+
+if TYPE_CHECKING:
+    from .query import Query
+    from .session import Served, Server
+
+__all__ = ['Mapped', 'bytes_read']
+
+Text = Union[str, bytes]
+
+_ATOM = re.compile(rb'/((?:[^\\/]|\\.)*)/', re.S)
+_USUAL = [0x0a, 0x00, 0x1e, 0x1f, 0xff, 0xfe, 0xc0, 0xc1]  # what is seldom read, and what UTF-8 never has
+_LEAST, _MOST = 64, 1 << 14  # texts of the first batch, and of any
+_MOST_BYTES = 1 << 22  # of a batch
+_MOST_WAITING = 200_000  # rows of a batch that are held while it is not known whether each has spans
+_LONG = 1 << 16  # of a text that has a run rather than a session
+
+
+def _class_bytes(text: bytes) -> Iterator[int]:
+    signs = re.findall(rb'\\x[0-9a-f]{2}|\\.|.', text[1:-1], re.S)
+    at = 0
+    while at < len(signs):
+        low = high = _byte(signs[at])
+        if at + 2 < len(signs) and signs[at + 1] == b'-':
+            high = _byte(signs[at + 2])
+            at += 2
+        at += 1
+        yield from range(low, high + 1)
+
+
+def _read_by(part: Part) -> Iterable[int]:
+    if part.kind == 'class':
+        return _class_bytes(part.text)
+    if part.kind == 'dot':
+        return (byte for byte in range(256) if byte != 0x0a)
+    return (_byte(part.text),) if part.kind in ('literal', 'escape') else ()
+
+
+def _formulas(printed: bytes) -> List[List[Part]]:
+    """The parts of each formula of a query."""
+    return [parts_of(Atom(found[1], 1, False)) for found in _ATOM.finditer(printed)]
+
+
+def bytes_read(printed: bytes) -> FrozenSet[int]:
+    """The bytes that a formula of a query reads anywhere, from its printed form.
+
+    >>> sorted(bytes_read(rb'/^!x{[a-c]}/ join /!x{a}e/'))
+    [97, 98, 99, 101]
+    """
+    return frozenset(byte for parts in _formulas(printed) for part in parts for byte in _read_by(part))
+
+
+def _is_sure(parts: List[Part]) -> bool:
+    """Whether each capture of a formula is in each of its fits, and there is one; where it is not seen at once, no."""
+    kinds = [part.kind for part in parts]
+    return ('capture' in kinds and 'bar' not in kinds
+            and not any(before == 'close' and part.kind == 'repeat' for before, part in zip(kinds, parts[1:])))
+
+
+def _may_be_joined(printed: bytes) -> bool:
+    """Whether the fits of each row touch one another, so that they lie in one text."""
+    outside = _ATOM.sub(b' ', printed)
+    if re.search(rb'\bminus\b', outside) and (re.search(rb'\bproject\b', outside) or not all(map(_is_sure, _formulas(printed)))):
+        return False  # a row without spans may be taken away by that of another text
+
+    def names(found: 're.Match[bytes]') -> bytes:
+        return b'/%s/' % b''.join(part.text + b'a}' for part in parts_of(Atom(found[1], 1, False)) if part.kind == 'capture')
+    try:
+        reach_of_printed(_ATOM.sub(names, printed))
+    except NoReach:
+        return False
+    return True
+
+
+def _with_ends(printed: bytes, separator: int) -> bytes:
+    r"""The query with a separator in the place of each anchor.
+
+    >>> _with_ends(rb'/^!x{a}|b/ union /!x{c}$/', 10)
+    b'/\\x0a(!x{a}|b)/ union /(!x{c})\\x0a/'
+    """
+    sign = b'\\x%02x' % separator
+
+    def ended(found: 're.Match[bytes]') -> bytes:
+        anchors = [part.text for part in parts_of(Atom(found[1], 1, False)) if part.kind == 'anchor']
+        if not anchors:
+            return found[0]
+        first, last = b'^' in anchors, b'$' in anchors
+        inner = found[1][first:len(found[1]) - last]
+        return b'/%s(%s)%s/' % (sign * first, inner or b'()', sign * last)
+    return _ATOM.sub(ended, printed)
+
+
+class _NoSpans(Exception):
+    """A row of many texts has no spans."""
+
+
+class Mapped:
+    """How a query is asked of many texts."""
+
+    def __init__(self, query: 'Query') -> None:
+        self.query = query
+        printed = query.printed.encode('utf-8', 'surrogateescape')
+        self.printed = printed
+        read = bytes_read(printed)
+        free = [byte for byte in dict.fromkeys([*_USUAL, *range(256)]) if byte not in read]
+        is_one = bool(query.variables) and _may_be_joined(printed)
+        self.separators: List[int] = free if is_one else []
+        # Whether each row has spans, so that the rows of a text need not wait for those of the others.
+        self.is_sure = not re.search(rb'\bproject\b', _ATOM.sub(b' ', printed)) and all(map(_is_sure, _formulas(printed)))
+        self.has_ends = any(part.kind == 'anchor' for parts in _formulas(printed) for part in parts)
+        self._known: Tuple[int, Optional['Query']] = (-1, None)  # the separator of the newest batch, and its query
+        self._server: Optional['Server'] = None
+        self._served: Optional['Served'] = None
+
+    def rows(self, texts: Iterable[Text]) -> Iterator[Matches[Any]]:
+        """The rows of each text, in order. A fault is raised in the place of its text, behind the rows of those before it."""
+        number, size = 0, _LEAST
+        given = iter(texts)
+        try:
+            while True:
+                batch, fault, is_end = _batch(given, size, number)
+                size = min(2 * size, _MOST)
+                for found in self._of_batch(batch, number):
+                    number += 1
+                    yield found
+                if fault is not None:
+                    raise fault
+                if is_end:
+                    return
+        finally:
+            if self._server is not None:
+                self._server.close()
+                self._server = self._served = None
+
+    # -- One run for many texts
+
+    def _of_batch(self, batch: List[Tuple[Text, bytes]], number: int) -> Iterator[Matches[Any]]:
+        query, separator = self._joining(batch)
+        done = 0
+        if query is not None and len(batch) > 1:
+            try:
+                for found in self._in_one(query, separator, batch):
+                    done += 1
+                    yield found
+                return
+            except (SizeError, OutOfMemory):  # together, and perhaps not in halves
+                middle = (done + len(batch) + 1) // 2
+                if done < middle < len(batch):
+                    yield from self._of_batch(batch[done:middle], number + done)
+                    yield from self._of_batch(batch[middle:], number + middle)
+                    return
+            except _NoSpans:
+                pass
+        for at, (text, _) in enumerate(batch[done:], number + done):
+            try:
+                one = self._apart(text, len(batch) == 1 and self._server is None)
+            except RematchError as fault:
+                fault.hint = f'it is text {at}, counted from 0' + (f'; {fault.hint}' if fault.hint else '')
+                raise
+            yield one
+
+    def _joining(self, batch: List[Tuple[Text, bytes]]) -> Tuple[Optional['Query'], bytes]:
+        """The query of a joined document and its separator; None where there is none."""
+        for byte in self.separators:
+            separator = bytes((byte,))
+            if self.has_ends and any(separator in data for _, data in batch):
+                continue
+            if self._known[0] != byte:
+                from .query import Query
+                if not self.has_ends:
+                    self._known = byte, self.query
+                else:
+                    try:
+                        _, filter, max_table, program = self.query._given
+                        ended = _with_ends(self.printed, byte)
+                        self._known = byte, Query(ended, filter=filter, max_table=max_table, program=program)
+                    except (QueryError, SizeError):  # groups or states more than a query has
+                        self._known = byte, None
+            return self._known[1], separator
+        return None, b''
+
+    def _in_one(self, query: 'Query', separator: bytes, batch: List[Tuple[Text, bytes]]) -> Iterator[Matches[Any]]:
+        """The rows of each text by one run, a text as soon as its rows are there.
+
+        Where a row may have no spans, of which nobody knows the text, all are waited for, and `_NoSpans` is raised at such a row.
+        """
+        waiting: List[Matches[Any]] = []
+        rows = 0
+        for found in self._by_text(query, separator, batch):
+            if self.is_sure:
+                yield found
+                continue
+            waiting.append(found)
+            rows += len(found)
+            if rows > _MOST_WAITING:
+                raise SizeError(f'size: more than {_MOST_WAITING} rows that wait', 4, self.query.text)
+        yield from waiting
+
+    def _by_text(self, query: 'Query', separator: bytes, batch: List[Tuple[Text, bytes]]) -> Iterator[Matches[Any]]:
+        joined = separator + separator.join(data for _, data in batch) + separator
+        at, start, end = 0, 1, 1 + len(batch[0][1])  # the text that is looked at, and its place in the joined document
+        document: Optional[Document] = None
+        found: Matches[Any] = Matches()
+        for row in query.rows(joined):
+            first = min((place for place in row[::2] if place >= 0), default=None)
+            if first is None:
+                raise _NoSpans
+            if not 0 < first < len(joined):
+                continue  # before the first separator, or behind the last
+            while first > end:
+                yield found
+                at, start, document, found = at + 1, end + 1, None, Matches()
+                end = start + len(batch[at][1])
+            if document is None:
+                document = _document(*batch[at])
+            found.append(Match(self.query, document, tuple([place - start if place >= 0 else place for place in row])))
+        yield found
+        for _ in batch[at + 1:]:
+            yield Matches()
+
+    # -- A text by itself
+
+    def _apart(self, text: Text, is_only: bool = False) -> Matches[Any]:
+        from .session import Server
+        try:
+            if is_only or self.query._words or len(text) > _LONG:  # a session takes no such words, and is for short texts
+                return self.query.findall(_document(text, _encoded(text)))
+            if self._server is None:
+                self._server = Server(self.query.program)
+            if self._served is None:
+                self._served = self._server.query(self.query.text)
+            found = self._served.findall(text)
+            return Matches(Match(self.query, match._document, match._row) for match in found)
+        except (DocumentError, SizeError, OutOfMemory):  # what no session takes, a run may
+            return self.query.findall(_document(text, _encoded(text)))
+
+
+def _encoded(text: Text) -> bytes:
+    return text.encode('utf-8', 'surrogatepass') if isinstance(text, str) else text
+
+
+def _document(text: Text, data: bytes) -> Document:
+    """The document of a text, which is never taken for the name of a file."""
+    document = Document(data)
+    if isinstance(text, str):
+        document._take_text(text)
+    return document
+
+
+def _batch(given: Iterator[Text], size: int, number: int) -> Tuple[List[Tuple[Text, bytes]], Optional[TypeError], bool]:
+    """The next texts with their bytes; the fault of the one behind them; whether they are the last."""
+    batch: List[Tuple[Text, bytes]] = []
+    length = 0
+    for text in given:
+        if not isinstance(text, (str, bytes)):
+            return batch, TypeError(f'text {number + len(batch)} is a str or bytes, not {type(text).__name__}'), True
+        batch.append((text, _encoded(text)))
+        length += len(batch[-1][1]) + 1
+        if len(batch) >= size or length >= _MOST_BYTES:
+            return batch, None, False
+    return batch, None, True

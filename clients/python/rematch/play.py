@@ -1,0 +1,285 @@
+"""``rematch-play``: a page on this machine alone, to write a query beside a document and see its rows as one types.
+
+The server listens on 127.0.0.1, answers one address with a secret in it, and ends with Ctrl-C. Queries are asked in sessions
+of the program. A newer question ends one that is still worked on, and none is worked on for more than some seconds.
+"""
+from __future__ import annotations
+
+import json
+import os
+import secrets
+import sys
+import threading
+from http.server import BaseHTTPRequestHandler, ThreadingHTTPServer
+from typing import Any, Dict, List, Optional, Tuple
+
+from .command import run_told
+from .documents import Document
+from .faults import DocumentError, ProgramError, QueryError, RematchError
+from .match import Row
+from .play_page import page
+from .session import Server, Session, SessionError
+from .view import section
+
+__all__ = ['Player', 'main', 'serve']
+
+MOST_BYTES = 16_777_216
+"""The most bytes of a document, which are those of a session."""
+_SCREEN = 100  # rows that are shown at once
+_SECONDS = 10.0  # that a question may take
+_PATIENCE = 0.2  # seconds that a newer question leaves an older one
+
+
+class Player:
+    """The questions of one page: the document that was given last, and the rows of the newest query."""
+
+    def __init__(self, text: str = '', seconds: float = _SECONDS) -> None:
+        self.document = text
+        self.number = 0  # of the document, which counts those that were given
+        self.seconds = seconds
+        self._server = Server()
+        self._session: Optional[Session] = None
+        self._asked: Tuple[str, str] = ('', '')  # the query and the document of the session
+        self._rows: List[Row] = []
+        self._turn = threading.Lock()
+        self._count = threading.Lock()
+        self._newest = 0
+        self._is_ended = False  # whether the question was ended from here
+
+    def close(self) -> None:
+        """End the program."""
+        self._server.kill()
+        try:
+            self._server.close()
+        except RematchError:
+            pass  # it was killed
+
+    def ask(self, query: str, document: Optional[str], first: int, known: int = 0) -> Dict[str, Any]:
+        """What the page shows: a screenful of rows from the row ``first`` on, or the fault.
+
+        ``document`` is None where it is the one with the number ``known``; where another page has given another one since, the answer
+        asks for it. An answer has the number of its document.
+        """
+        with self._count:
+            self._newest += 1
+            number = self._newest
+        if not self._turn.acquire(timeout=_PATIENCE):
+            self._end_question()
+            self._turn.acquire()
+        try:
+            if document is not None and document != self.document:
+                self.document, self.number = document, self.number + 1
+            elif document is None and known != self.number:
+                return {'again': True}
+            if number != self._newest:
+                return {'old': True}
+            return {**self._answer(query, first), 'known': self.number}
+        finally:
+            self._turn.release()
+
+    def _end_question(self) -> None:
+        self._is_ended = True
+        self._server.kill()
+
+    def _answer(self, query: str, first: int) -> Dict[str, Any]:
+        self._is_ended = False
+        late = threading.Timer(self.seconds, self._end_question)
+        late.start()
+        try:
+            try:
+                return self._shown(query, first)
+            except (SessionError, ProgramError):
+                if self._is_ended:
+                    raise
+                self._session = None  # the program had ended before; once more with a new one
+                return self._shown(query, first)
+        except QueryError as fault:
+            return {'fault': str(fault), 'at': None if fault.offset is None else _units(fault.query[:fault.offset])}
+        except ProgramError as fault:
+            self._session = None
+            if self._is_ended:
+                return {'fault': f'the query took more than {self.seconds:g} seconds, or a newer one came'}
+            return {'fault': str(fault)}
+        except RematchError as fault:
+            self._session = None
+            fault.request = None
+            return {'fault': str(fault)}
+        finally:
+            late.cancel()
+
+    def _shown(self, query: str, first: int) -> Dict[str, Any]:
+        if self._session is None or self._asked != (query, self.document):
+            if self._session is not None:
+                old, self._session = self._session, None
+                old.close()
+            self._rows = []
+            self._session = self._server.open(query, self.document)
+            self._asked = (query, self.document)
+        session = self._session
+        first = max(0, first - first % _SCREEN)
+        while session.more and len(self._rows) < first + _SCREEN:
+            self._rows += [match.row for match in session.next(min(1000, first + _SCREEN - len(self._rows)))]
+        shown = self._rows[first:first + _SCREEN]
+        has_more = session.more or first + _SCREEN < len(self._rows)
+        html = section(_document(self.document), session.variables, shown, None, 1, first)
+        return {'html': html, 'first': first, 'rows': len(shown), 'found': len(self._rows), 'more': has_more,
+                'all': not session.more}
+
+
+def _document(text: str) -> Document:
+    document = Document(b'')
+    document._take_text(text)
+    return document
+
+
+def _units(part: bytes) -> int:
+    """How many of the units in which a browser counts a text are in the beginning of a query."""
+    return len(part.decode('utf-8', 'replace').encode('utf-16-le')) // 2
+
+
+class _Handler(BaseHTTPRequestHandler):
+    server: '_Http'
+    protocol_version = 'HTTP/1.1'
+    server_version, sys_version = 'rematch-play', ''
+
+    def log_message(self, format: str, *words: Any) -> None:
+        """Nothing is written of what is asked."""
+
+    def _is_ours(self) -> bool:
+        """Whether the request has the secret, and the name of this server, so that no other page asks by this browser."""
+        host = self.headers.get('Host', '')
+        origin = self.headers.get('Origin')
+        return (host in self.server.hosts and (origin is None or origin == 'http://' + host)
+                and secrets.compare_digest(self.path.encode(), self.server.path.encode()))
+
+    def _send(self, status: int, kind: str, body: bytes) -> None:
+        self.send_response(status)
+        heads = {'Content-Type': kind, 'Content-Length': str(len(body)), 'Cache-Control': 'no-store',
+                 'X-Content-Type-Options': 'nosniff', 'Referrer-Policy': 'no-referrer',
+                 'Content-Security-Policy': self.server.policy}
+        for name, value in heads.items():
+            self.send_header(name, value)
+        self.end_headers()
+        self.wfile.write(body)
+
+    def _refuse(self, status: int, reason: str) -> None:
+        self.close_connection = True
+        self._send(status, 'text/plain; charset=utf-8', (reason + '\n').encode())
+
+    def do_GET(self) -> None:
+        if not self._is_ours():
+            self._refuse(404, 'nothing here: the address has a secret, which rematch-play has written')
+            return
+        self._send(200, 'text/html; charset=utf-8', self.server.page)
+
+    def do_POST(self) -> None:
+        if not self._is_ours():
+            self._refuse(404, 'nothing here: the address has a secret, which rematch-play has written')
+            return
+        length = self.headers.get('Content-Length', '')
+        if not length.isdigit():
+            self._refuse(411, 'a question says how long it is')
+            return
+        if int(length) > 7 * MOST_BYTES:
+            self._refuse(413, f'document longer than {MOST_BYTES} bytes')
+            return
+        try:
+            asked = json.loads(self.rfile.read(int(length)))
+            query, document, first, known = asked['query'], asked.get('document'), asked['first'], asked.get('known', 0)
+            if not (isinstance(query, str) and isinstance(document, (str, type(None))) and type(first) is type(known) is int):
+                raise ValueError
+        except (ValueError, KeyError, TypeError, AttributeError):
+            self._refuse(400, 'a question is an object with query and first, and perhaps document and known')
+            return
+        reply = self.server.player.ask(query, document, first, known)
+        self._send(200, 'application/json', json.dumps(reply).encode())
+
+
+class _Http(ThreadingHTTPServer):
+    daemon_threads = True
+
+    def __init__(self, port: int, player: Player, query: str, name: str) -> None:
+        super().__init__(('127.0.0.1', port), _Handler)
+        self.player = player
+        self.hosts = [f'{host}:{self.server_port}' for host in ('127.0.0.1', 'localhost')]
+        self.path = f'/{secrets.token_urlsafe(24)}/'
+        nonce = secrets.token_urlsafe(16)
+        self.page = page(query, player.document, name, nonce).encode('utf-8', 'replace')
+        self.policy = (f"default-src 'none'; script-src 'nonce-{nonce}'; style-src 'unsafe-inline'; connect-src 'self'; "
+                       "base-uri 'none'; form-action 'none'; frame-ancestors 'none'")
+
+    @property
+    def address(self) -> str:
+        """What a browser is given."""
+        return f'http://127.0.0.1:{self.server_port}{self.path}'
+
+    def handle_error(self, request: Any, client_address: Any) -> None:
+        """A browser that leaves is no fault; another is told."""
+        if not isinstance(sys.exc_info()[1], ConnectionError):
+            super().handle_error(request, client_address)
+
+
+def serve(query: str = '', text: str = '', name: str = '', port: int = 0, seconds: float = _SECONDS) -> _Http:
+    """A server for the page, which waits for ``serve_forever``; ``server_close`` and ``player.close`` end it."""
+    if len(text.encode('utf-8', 'surrogatepass')) > MOST_BYTES:
+        raise DocumentError(f'document longer than {MOST_BYTES} bytes', 6)
+    player = Player(text, seconds)
+    try:
+        return _Http(port, player, query, name)
+    except OSError as fault:
+        player.close()
+        fault.filename = fault.filename or f'port {port}'
+        raise
+
+
+def _text_of(name: str) -> str:
+    from .packed import given_document
+    try:
+        data = given_document(name).data
+        if len(data) > MOST_BYTES:
+            raise DocumentError(f'document longer than {MOST_BYTES} bytes', 6)
+        return data[:].decode('utf-8')
+    except UnicodeDecodeError as reason:
+        fault = DocumentError(f'no UTF-8 at {reason.start}, and the page shows text', 5)
+        fault.filename = name
+        raise fault from None
+    except DocumentError as fault:
+        fault.filename = name
+        raise
+
+
+def main(words: Optional[List[str]] = None) -> int:
+    """Runs the command: status 0 at Ctrl-C, and that of the program for its faults."""
+    from argparse import ArgumentParser
+    parser = ArgumentParser(prog='rematch-play', description='Open a page on this machine alone, to write a query beside a '
+                            'document and see its rows as one types. Its address is written, with a secret in it; Ctrl-C ends it.')
+    text = parser.add_mutually_exclusive_group()
+    text.add_argument('-e', dest='text', metavar='TEXT', default='', help='the query to begin with')
+    text.add_argument('-q', dest='name', metavar='NAME', help='a file that holds it')
+    parser.add_argument('--port', type=int, default=0, metavar='N', help='the port (any that is free)')
+    parser.add_argument('--open', action='store_true', help='open the address in the browser')
+    parser.add_argument('document', nargs='?', help='the document to begin with; packed ones are unpacked')
+    given = parser.parse_args(words)
+    if not 0 <= given.port < 65536:
+        parser.error(f'a port is 0 to 65535, not {given.port}')
+
+    def run() -> None:
+        query = given.text
+        if given.name is not None:
+            with open(given.name, encoding='utf-8', errors='surrogateescape') as file:
+                query = file.read()
+        document = '' if given.document is None else _text_of(given.document)
+        http = serve(query, document, os.path.basename(given.document or ''), given.port)
+        try:
+            print(http.address, flush=True)
+            if given.open:
+                import webbrowser
+                webbrowser.open(http.address)
+            http.serve_forever()
+        except KeyboardInterrupt:
+            pass
+        finally:
+            http.server_close()
+            http.player.close()
+
+    return run_told(run)

@@ -1,0 +1,275 @@
+"""The page to try queries: who may ask, what it answers, faults, many rows, questions that take too long; and in a browser."""
+import gzip
+import json
+import os
+import signal
+import subprocess
+import threading
+import unittest
+import urllib.error
+import urllib.request
+from unittest import mock
+
+import rematch
+from rematch import play
+from browser import Browser
+from support import CLIENTS, PROGRAM, Folder, children, needs, needs_speed
+from test_session import serves
+
+COMMAND = os.path.join(CLIENTS, 'rematch-play')
+has_sessions = unittest.skipUnless(serves(PROGRAM), 'the program has no sessions')
+
+
+class Served(Folder):
+    """A server in this process."""
+
+    def begin(self, *words, **more):
+        http = play.serve(*words, **more)
+        thread = threading.Thread(target=http.serve_forever, args=(0.05,))
+        thread.start()
+
+        def end():
+            http.shutdown()
+            thread.join()
+            http.server_close()
+            http.player.close()
+        self.addCleanup(end)
+        return http
+
+    def post(self, http, data, address=None, **heads):
+        """The status and what comes back."""
+        if not isinstance(data, bytes):
+            data = json.dumps(data).encode()
+        asked = urllib.request.Request(address or http.address, data=data, headers={name.replace('_', '-'): head for name, head in heads.items()})
+        try:
+            with urllib.request.urlopen(asked, timeout=100) as reply:
+                return reply.status, json.loads(reply.read())
+        except urllib.error.HTTPError as fault:
+            with fault:
+                return fault.code, fault.read().decode()
+
+
+@has_sessions
+class Asked(Served):
+    def test_who_may_ask(self):
+        http = self.begin('/!x{a}/', 'secret text')
+        root = 'http://127.0.0.1:%d' % http.server_port
+        self.assertEqual(http.server_address[0], '127.0.0.1')
+        with urllib.request.urlopen(http.address, timeout=100) as page:
+            self.assertIn(b'secret text', page.read())
+            self.assertIn("default-src 'none'", page.headers['Content-Security-Policy'])
+            self.assertEqual(page.headers['Cache-Control'], 'no-store')
+        question = {'query': '/!x{a}/', 'first': 0, 'document': 'a'}
+        for address, heads in ((root + '/', {}), (root + '/' + 'a' * 32 + '/', {}), (http.address + 'x', {}), (None, {'Host': 'evil.example'}),
+                               (None, {'Host': 'evil.example:%d' % http.server_port}), (None, {'Origin': 'http://evil.example'}), (None, {'Origin': 'null'})):
+            self.assertEqual(self.post(http, question, address, **heads)[0], 404, (address, heads))
+            try:
+                urllib.request.urlopen(urllib.request.Request(address or http.address, headers=heads), timeout=100).close()
+                self.fail(address)
+            except urllib.error.HTTPError as fault:
+                with fault:
+                    self.assertEqual((fault.code, b'secret text' in fault.read()), (404, False))
+        self.assertEqual(http.player.document, 'secret text')
+        self.assertEqual(self.post(http, question, Origin=root)[1]['rows'], 1)
+        self.assertEqual(self.post(http, question, Host='localhost:%d' % http.server_port)[0], 200)
+
+    def test_bad_questions(self):
+        http = self.begin()
+        for data in (b'', b'{', b'[]', b'{}', b'\xff', b'{"query":1,"first":0}', b'{"query":"","first":"0"}', b'{"query":"","first":0,"known":null}', b'{"query":"","first":0,"document":1}'):
+            self.assertEqual(self.post(http, data), (400, 'a question is an object with query and first, and perhaps document and known\n'), data)
+        self.assertEqual(self.post(http, {'query': '/!x{a}/', 'first': 0, 'document': 'a'})[1]['found'], 1)
+        with self.assertRaises(OSError):  # refused before it is read
+            status, told = self.post(http, b'a', Content_Length='999999999')
+            self.assertEqual((status, told), (413, 'document longer than 16777216 bytes\n'))
+            raise OSError
+
+    def test_rows_and_faults(self):
+        http = self.begin('', 'aé\n')
+        status, told = self.post(http, {'query': '/!x{a+}!y{é}/u', 'first': 0})
+        self.assertEqual((status, told['rows'], told['found'], told['more'], told['all'], told['first']), (200, 1, 1, False, True, 0))
+        self.assertIn('x 0–1', told['html'])
+        self.assertIn('y 1–2', told['html'])
+        told = self.post(http, {'query': '/é!x{a**}/', 'first': 0})[1]
+        self.assertEqual((told['at'], told['fault'].splitlines()[:3]), (7, ['query: repeat after repeat at 8', '  /é!x{a**}/', '         ^']))
+        self.assertIn('hint: ', told['fault'])
+        self.assertEqual(self.post(http, {'query': '/!x{b}/', 'first': 0})[1]['rows'], 0)
+        self.assertEqual(self.post(http, {'query': '/!x{b}/', 'first': 0, 'document': '<b>'})[1]['html'].count('&lt;'), 1)
+        self.assertIn('more than 20000 states', self.post(http, {'query': '/(a{1000}){20}/', 'first': 0, 'known': 1})[1]['fault'])
+        self.assertIn('UTF-8', self.post(http, {'query': '/a/', 'first': 0, 'document': '\ud800'})[1]['fault'])
+        self.assertEqual(self.post(http, {'query': '/a/', 'first': 0, 'document': 'a'})[1]['rows'], 1)
+
+    def test_screens(self):
+        http = self.begin('', 'a' * 250)
+        got = [self.post(http, {'query': '/!x{a}/', 'first': first})[1] for first in (0, 100, 200, 0, 300)]
+        self.assertEqual([(told['first'], told['rows'], told['more'], told['found'], told['all']) for told in got],
+                         [(0, 100, True, 100, False), (100, 100, True, 200, False), (200, 50, False, 250, True), (0, 100, True, 250, True),
+                          (300, 0, False, 250, True)])
+        self.assertIn('row </span>101<', got[1]['html'])
+        self.assertIn('row 101', got[1]['html'])
+
+    def test_two_pages(self):
+        """A page is never answered about the document of another one."""
+        http = self.begin('', 'a')
+        ask = {'query': '/!x{a}/', 'first': 0}
+        self.assertEqual([self.post(http, dict(ask, known=0))[1][name] for name in ('rows', 'known')], [1, 0])
+        self.assertEqual([self.post(http, dict(ask, known=0, document='aaa'))[1][name] for name in ('rows', 'known')], [3, 1])
+        self.assertEqual(self.post(http, dict(ask, known=0))[1], {'again': True})
+        self.assertEqual([self.post(http, dict(ask, known=1))[1][name] for name in ('rows', 'known')], [3, 1])
+        self.assertEqual([self.post(http, dict(ask, document='a'))[1][name] for name in ('rows', 'known')], [1, 2])
+
+    def test_a_program_that_has_ended(self):
+        player = play.Player('aa')
+        self.addCleanup(player.close)
+        self.assertEqual(player.ask('/!x{a}/', None, 0)['rows'], 2)
+        player._server.kill()
+        player._server._process.wait()
+        player.ask('/!x{a}/', None, 0)  # the session's rows are all there
+        with mock.patch.object(play, '_SCREEN', 1):
+            self.assertEqual(player.ask('/!x{a/', None, 0)['fault'].splitlines()[0], 'query: not closed at 1')
+            self.assertEqual(player.ask('/!x{a}/', None, 0)['rows'], 1)
+            player._server.kill()
+            player._server._process.wait()
+            self.assertEqual(player.ask('/!x{a}/', None, 1)['rows'], 1)
+
+    def test_a_newer_question_ends_an_older(self):
+        player = play.Player('a')
+        self.addCleanup(player.close)
+        real, entered = player._shown, threading.Event()
+
+        def slow(query, first):
+            if query == 'slow':
+                entered.set()
+                player._server._process.wait(60)
+                raise rematch.ProgramError('ended', -9)
+            return real(query, first)
+        player._shown = slow
+        found = []
+        thread = threading.Thread(target=lambda: found.append(player.ask('slow', None, 0)))
+        thread.start()
+        entered.wait(60)
+        self.assertEqual(player.ask('/!x{a}/', None, 0)['rows'], 1)
+        thread.join()
+        self.assertIn('a newer one came', found[0]['fault'])
+
+    def test_too_long(self):
+        player = play.Player('a', seconds=60)
+        self.addCleanup(player.close)
+        player.ask('/!x{a}/', None, 0)
+        player.seconds = 0.2
+
+        def slow(query, first):
+            os.kill(player._server._process.pid, signal.SIGSTOP)
+            return rematch.Session.next(player._session)
+        real, player._shown = player._shown, slow
+        self.assertEqual(player.ask('/!x{a}/', None, 0)['fault'], 'the query took more than 0.2 seconds, or a newer one came')
+        player._shown, player.seconds = real, 60
+        self.assertEqual(player.ask('/!x{a}/', None, 0)['rows'], 1)
+
+    def test_nothing_is_left(self):
+        before = children()
+        http = play.serve('', 'a')
+        http.player.ask('/!x{a}/', None, 0)
+        http.server_close()
+        http.player.close()
+        self.assertEqual(children(), before)
+
+    def test_port_that_is_taken(self):
+        http, before = self.begin(), children()
+        with self.assertRaises(OSError):
+            play.serve(port=http.server_port)
+        self.assertEqual(children(), before)
+
+
+class Command(Folder):
+    def run_it(self, *words):
+        run = subprocess.run([COMMAND, *words], stdout=subprocess.PIPE, stderr=subprocess.PIPE, stdin=subprocess.DEVNULL, timeout=100)
+        return run.returncode, run.stdout.decode(), run.stderr.decode()
+
+    def test_refused(self):
+        self.assertEqual(self.run_it('/no/such/file')[::2], (5, 'read failed: document\nhint: /no/such/file: No such file or directory\n'))
+        path = self.file('latin', b'caf\xe9')
+        self.assertEqual(self.run_it(path)[::2], (5, path + ': no UTF-8 at 3, and the page shows text\n'))
+        path = self.file('long', b'a' * 16777217)
+        self.assertEqual(self.run_it(path)[::2], (6, path + ': document longer than 16777216 bytes\n'))
+        self.assertEqual(self.run_it('-q', '/no/such/query')[::2], (5, '/no/such/query: No such file or directory\n'))
+        status, out, told = self.run_it('--port', '70000')
+        self.assertEqual((status, out, told.splitlines()[-1]), (2, '', 'rematch-play: error: a port is 0 to 65535, not 70000'))
+
+    @has_sessions
+    def test_ends_with_ctrl_c(self):
+        path = self.file('text.gz', gzip.compress(b'packed text'))
+        query = self.file('query', '/!x{é}/u')
+        process = subprocess.Popen([COMMAND, '-q', query, path], stdout=subprocess.PIPE, stderr=subprocess.PIPE)
+        address = process.stdout.readline().decode().strip()
+        self.assertRegex(address, r'^http://127[.]0[.]0[.]1:\d+/[-\w]{32}/$')
+        with urllib.request.urlopen(address, timeout=100) as page:
+            text = page.read().decode()
+        self.assertIn('packed text', text)
+        self.assertIn('/!x{é}/u', text)
+        process.send_signal(signal.SIGINT)
+        self.assertEqual((process.communicate(timeout=100), process.returncode), ((b'', b''), 0))
+        with self.assertRaises(OSError):
+            urllib.request.urlopen(address, timeout=100)
+
+
+@has_sessions
+@needs('chromium')
+class InABrowser(Served):
+    def pictured(self, browser, name):
+        if os.environ.get('REMATCH_PICTURES'):
+            browser.picture(os.path.join(os.environ['REMATCH_PICTURES'], name + '.png'))
+
+    def test_typing(self):
+        """By the keyboard alone: a query, a fault, its place, a row, the next rows, back to the query."""
+        http = self.begin('', 'one ab\ntwo aab\n' * 60, seconds=60)
+        with Browser() as browser:
+            browser.open(http.address)
+            self.assertEqual(browser.value('getComputedStyle(document.getElementById("fault")).display'), 'none')
+            self.assertEqual(browser.value('document.activeElement.id'), 'query')
+            browser.write('/!x{a+}!y{b*')
+            browser.until('document.getElementById("fault").textContent.includes("^")')
+            self.pictured(browser, 'fault-1280')
+            browser.write('}/')
+            browser.until('document.getElementById("say").textContent == "rows 1 to 100, and more"')
+            self.assertEqual(browser.value('document.getElementById("fault").textContent'), '')
+            self.pictured(browser, 'rows-1280')
+            browser.write('*')
+            browser.until('document.getElementById("fault").textContent.includes("hint: ")')
+            self.assertEqual(browser.value('getComputedStyle(document.getElementById("there")).display != "none"'), True)
+            browser.press('Tab', 2)
+            browser.press('Enter')
+            self.assertEqual(browser.value('[document.activeElement.id, document.activeElement.selectionStart]'), ['query', 14])
+            browser.value('query.setSelectionRange(14, 15)')
+            browser.ask('Input.dispatchKeyEvent', type='rawKeyDown', key='Delete', code='Delete', windowsVirtualKeyCode=46)
+            browser.until('document.getElementById("say").textContent == "rows 1 to 100, and more"')
+            browser.press('Tab', 3)  # the document, Next (First and Previous are of no use yet), the first row
+            self.assertEqual(browser.value('document.activeElement.closest("li").dataset.r'), '0')
+            self.assertGreater(browser.value('document.querySelectorAll(".rm-lit").length'), 1)
+            browser.press('ArrowDown', 2)
+            self.assertEqual(browser.value('document.activeElement.dataset.r'), '2')
+            browser.press('PageDown')
+            browser.until('document.getElementById("say").textContent.startsWith("rows 101 to 200, and")')
+            browser.until('document.activeElement.dataset.r == "0"')
+            self.assertEqual(browser.value('document.activeElement.textContent.startsWith("row 101")'), True)
+            browser.press('Escape')
+            self.assertEqual(browser.value('document.activeElement.id'), 'query')
+
+    @needs_speed
+    def test_large(self):
+        """A document of 1 MB that is changed, and 10,000 rows, of which the last screenful is reached."""
+        http = self.begin('/b!x{a}/', seconds=300)
+        with Browser(390, 900, dark=True) as browser:
+            browser.open(http.address)
+            browser.value('text.value = ("c".repeat(99) + "\\n").repeat(9900) + "ba\\n".repeat(10000); text.dispatchEvent(new Event("input"))')
+            browser.until('document.getElementById("say").textContent == "rows 1 to 100, and more"', 300)
+            self.assertEqual(http.player.document.count('\n'), 19900)
+            self.assertLess(browser.value('document.querySelectorAll("#rows li").length'), 101)
+            self.assertEqual(browser.value('document.documentElement.scrollWidth'), 390)
+            self.pictured(browser, 'large-390-dark')
+            browser.value('ask(9900)')
+            browser.until('document.getElementById("say").textContent == "rows 9901 to 10000 of 10000"', 300)
+            self.assertEqual(browser.value('document.getElementById("on").disabled'), True)
+
+
+if __name__ == '__main__':
+    unittest.main()
