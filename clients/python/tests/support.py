@@ -23,7 +23,9 @@ needs_speed = unittest.skipIf(IS_REFERENCE, 'the reference is too slow for it')
 
 
 def needs(*tools):
-    """Skips a test where one of these is not installed."""
+    """Skips a test where one of these is not installed. A browser is started only where REMATCH_BROWSER is set."""
+    if 'chromium' in tools and not os.environ.get('REMATCH_BROWSER'):
+        return unittest.skip('REMATCH_BROWSER is not set')
     missing = [tool for tool in tools if shutil.which(tool) is None]
     return unittest.skipIf(missing, '%s is not installed' % ', '.join(missing))
 
