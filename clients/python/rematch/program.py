@@ -26,6 +26,7 @@ def _beside() -> Iterator[str]:
     if os.path.isfile(above):  # this package is in a zip file
         yield os.path.join(os.path.dirname(os.path.realpath(above)), 'rematch')
     yield os.path.join(above, '..', '..', 'crates', 'rematch', 'out', 'rematch')
+    yield os.path.join(above, '..', '..', 'release', 'out', 'rematch')  # where ./rematch unpacks the released one
 
 
 def find_program() -> str:
