@@ -25,6 +25,7 @@ __all__ = ['GFF_HEAD', 'Record', 'Site', 'are_proteins', 'bed_lines', 'each_reco
 
 _BATCH = 64_000_000  # bytes of records that one run searches
 _WINDOW = 32_000_000  # letters of a long record that one run searches
+_BLOCK = 4_000_000  # bytes of a record that are read at once
 _SPACES = b' \t\r\n'
 _CAPITALS = bytes(byte - 32 if 97 <= byte <= 122 else byte for byte in range(256))
 _OTHER = bytes.maketrans(b'ACGTURYKMBVDHSWN', b'TGCAAYRMKVBHDSWN')
@@ -82,10 +83,25 @@ def each_record(data: bytes) -> Iterator[Record]:
 def _record(data: bytes, at: int, end: int) -> Record:
     head_end = data.find(b'\n', at, end)
     head = data[at + 1:head_end if head_end >= 0 else end].split()
-    letters = data[head_end + 1:end] if head_end >= 0 else b''
+    letters = _letters(data, head_end + 1, end) if head_end >= 0 else b''
+    return Record(head[0].decode('utf-8', 'backslashreplace') if head else '', letters)
+
+
+def _letters(data: bytes, start: int, end: int) -> bytes:
+    """The letters of some lines, of many in blocks, so that they are held once; lines that begin with ; are notes."""
+    if end - start > _BLOCK:
+        made = bytearray()
+        for at in range(start, end, _BLOCK):
+            block = data[at:min(at + _BLOCK, end)]
+            if b';' in block:
+                break
+            made += block.translate(_CAPITALS, _SPACES)
+        else:
+            return made  # type: ignore[return-value]
+    letters = data[start:end]
     if b';' in letters:
         letters = b'\n'.join(line for line in letters.split(b'\n') if not line.startswith(b';'))
-    return Record(head[0].decode('utf-8', 'backslashreplace') if head else '', letters.translate(_CAPITALS, _SPACES))
+    return letters.translate(_CAPITALS, _SPACES)
 
 
 _PROTEINS = re.compile(rb'[EFILPQefilpq]')  # letters that no nucleotide has, also no open one

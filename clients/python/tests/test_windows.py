@@ -69,6 +69,26 @@ class Windows(Folder):
                 length_of_printed(rematch.Query(text).printed.encode())
 
 
+class Records(unittest.TestCase):
+    def test_long_records_are_read_in_blocks(self):
+        pick = random.Random(12)
+        for _ in range(200):
+            data = b''.join(pick.choice([b'>r 1\n', b'ac', b'GT\r\n', b'\n', b' ', b'\n;n;\n']) for _ in range(pick.randrange(20)))
+            data = b'>q\n' + data
+            whole = [(record.name, bytes(record.letters)) for record in sequences.records_of(data)]
+            for block in (1, 3, 8):
+                with mock.patch.object(sequences, '_BLOCK', block):
+                    self.assertEqual([(record.name, bytes(record.letters)) for record in sequences.records_of(data)], whole)
+
+    def test_sites_of_records_in_blocks(self):
+        data = b'>r\n' + b'GATcaG\n' * 9
+        for form in ('bed', 'fasta', 'gff'):
+            wanted = asked(form, '-e', '/!x{CAGGA}|!y{TCC}/', stdin=data)
+            with mock.patch.object(sequences, '_BLOCK', 5), mock.patch.object(sequences, '_WINDOW', 10):
+                self.assertEqual(asked(form, '-e', '/!x{CAGGA}|!y{TCC}/', stdin=data), wanted)
+            self.assertGreater(wanted[1].count('\n'), 8)
+
+
 class Once(Folder):
     def test_palindromes_once(self):
         path = self.file('f', b'>r\nGATCAAGATT\n>s\nGATC\n')
