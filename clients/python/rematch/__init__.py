@@ -22,6 +22,7 @@ from .faults import (CursorError, DocumentError, OutOfMemory, ProgramError, Prog
 from .match import Match, Matches, NoVariable, Page
 from .program import find_program
 from .query import Query
+from .version import VERSION
 
 if TYPE_CHECKING:
     from ._dask import on_dask
@@ -33,7 +34,7 @@ if TYPE_CHECKING:
 __all__ = ['Query', 'Match', 'Matches', 'Page', 'Document', 'RematchError', 'QueryError', 'SizeError', 'DocumentError',
            'CursorError', 'OutOfMemory', 'ProgramError', 'ProgramNotFound', 'NoVariable', 'find_program', 'compile', 'search',
            'findall', 'finditer', 'sub', 'advise', 'Advice', 'Server', 'Session', 'SessionError', 'reach', 'NoReach', 'on_dask']
-__version__ = '0.1'
+__version__ = VERSION
 
 _ELSEWHERE = {'findall': 'calls', 'finditer': 'calls', 'search': 'calls', 'sub': 'calls',
               'advise': 'advice', 'Advice': 'advice', 'Server': 'session', 'Session': 'session', 'SessionError': 'session',

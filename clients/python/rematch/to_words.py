@@ -218,14 +218,8 @@ def _refuse_numbers(parser: _Parser, given: Words) -> None:
 
 
 def _tell_version() -> NoReturn:
-    from . import __version__
-    from .faults import ProgramNotFound
-    from .program import find_program
-    try:
-        program = find_program()
-    except ProgramNotFound as fault:
-        program = f'none: {fault.note}'
-    print(f'rematch-to {__version__}\nprogram {program}')
+    from .version import version_text
+    print(version_text())
     raise SystemExit(0)
 
 

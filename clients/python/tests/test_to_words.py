@@ -3,7 +3,7 @@ import re
 import unittest
 
 import rematch
-from rematch import to_words
+from rematch import to_words, version
 from support import Folder
 from commands import asked
 
@@ -84,8 +84,9 @@ class Help(unittest.TestCase):
             self.assertTrue(examples, form)
 
     def test_version(self):
-        self.assertEqual(asked('--version'), (0, 'rematch-to %s\nprogram %s\n' % (rematch.__version__, rematch.find_program()),
-                                              ''))
+        program = rematch.find_program()
+        told = 'rematch %s, program %s, sha256 %s\n' % (rematch.__version__, program, version.program_sum(program))
+        self.assertEqual(asked('--version'), (0, told, ''))
 
 
 class Advice(Folder):
