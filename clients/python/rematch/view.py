@@ -375,9 +375,9 @@ def page(sections: Iterable[Tuple[str, Document, Sequence[Row], bool]], names: S
     total = 0
     for number, (name, document, rows, is_cut) in enumerate(sections, 1):
         first = ', the first rows alone' if is_cut else ''
-        yield (f'<section id="d{number}" aria-labelledby="h{number}"><h1 id="h{number}">{escape(name)}{first}</h1>'
+        yield (f'<section id="doc-{number}" aria-labelledby="h{number}"><h1 id="h{number}">{escape(name)}{first}</h1>'
                f'<div class="rm">{section(document, names, rows, None, 1)}</div></section>\n')
-        listed.append(f'<li><a href="#d{number}">{escape(name)}</a> {len(rows)} row{"s" * (len(rows) != 1)}{first}</li>')
+        listed.append(f'<li><a href="#doc-{number}">{escape(name)}</a> {len(rows)} row{"s" * (len(rows) != 1)}{first}</li>')
         total += len(rows)
     yield '</main>\n'
     if len(listed) > 1:

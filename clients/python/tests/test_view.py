@@ -167,7 +167,7 @@ class Pages(Folder):
         self.assertNotIn('findLastIndex', one)
         self.assertNotIn('<nav', one)
         self.assertIn('findLastIndex', many)
-        self.assertIn('<a href="#d1">d&lt;</a> 900 rows, the first rows alone</li>', many)
+        self.assertIn('<a href="#doc-1">d&lt;</a> 900 rows, the first rows alone</li>', many)
         self.assertEqual(many.count('tabindex="0"'), 1001)
         Reader(many)
 
@@ -188,7 +188,7 @@ class Pages(Folder):
             browser.press('Tab')
             browser.write('LINE 77')
             browser.until(said + ' == "rows 1 to 11 of 11 on lines that have the text"')
-            self.assertEqual(browser.value('document.querySelector("#d2").hidden'), True)
+            self.assertEqual(browser.value('document.querySelector("#doc-2").hidden'), True)
             browser.press('Tab', 2)  # the list of documents, and then the first row
             self.assertEqual(browser.value('document.activeElement.dataset.r'), '77')
             self.assertEqual(browser.value('document.querySelectorAll(".rm-lit").length'), 2)
@@ -196,7 +196,7 @@ class Pages(Folder):
             self.assertEqual(browser.value('document.activeElement.dataset.r'), '770')
             browser.press('End')
             self.assertEqual(browser.value('document.activeElement.dataset.r'), '779')
-            browser.value('document.querySelector("#documents a[href=\'#d2\']").click()')
+            browser.value('document.querySelector("#documents a[href=\'#doc-2\']").click()')
             browser.until(said + ' == "rows 1501 to 1502 of 1502"')
             self.assertEqual(browser.value('document.querySelector("input").value'), '')
             browser.press('Tab')
