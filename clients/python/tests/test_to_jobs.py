@@ -90,12 +90,11 @@ class Small(Folder):
 
     @mock.patch.object(to_small, '_SMALL', 90)
     def test_rows_are_those_of_runs(self):
-        for text in ('/!x{a+}/', '/!x{a}|b/', '/a/', r'/^!x{.}/u'):
+        for text in ('/!x{a+}/', '/!x{a}|b/', r'/^!x{.}/u'):
             plain, small = rematch.Query(text), to_small.SmallDocuments(text)
             try:
                 for data in self.DATA:
-                    for document in (data, rematch.Document(data)):
-                        self.assertEqual(list(small.rows(document)), list(plain.rows(document)), (text, data[:9]))
+                    self.assertEqual(list(small.rows(rematch.Document(data))), list(plain.rows(data)), (text, data[:9]))
                     self.assertEqual((small.count(data), small.any(data)), (plain.count(data), plain.any(data)), (text, data[:9]))
                 self.assertEqual(list(small.rows('éa')), list(plain.rows('éa')))
                 self.assertEqual(list(small.rows(b'aa', limit=1)), list(plain.rows(b'aa', limit=1)))
