@@ -475,6 +475,7 @@ fn begun<L: Ledger>(
         filter: request.filter,
         limit: request.max_table,
     };
+    compiled.automaton(); // it was compiled from the query, which this call says
     match begin(alloc, compiled, document, after, options, steps) {
         Ok(answers) => Ok(answers),
         Err(BeginFault::CursorOther { kept, found }) => Err(Outcome::with(

@@ -19,7 +19,7 @@ returns-in-Ok-clause-fits g c =
 
 pub returns-in-Ok-clause-held : goal.returns-in-Ok-clause-held
 returns-in-Ok-clause-held g c =
-    record { automaton = c.args.compiled.now.automaton; compiled = c.type_inv.compiled; read = c.in-Ok.ensures.weighs; atoms = c.in-Ok.ensures.atoms }
+    record { automaton = c.args.compiled.now.automaton; compiled = c.automaton.ensures.compiled; read = c.in-Ok.ensures.weighs; atoms = c.in-Ok.ensures.atoms }
 
 pub returns-in-Err-CursorOther-clause-outcome : goal.returns-in-Err-CursorOther-clause-outcome
 returns-in-Err-CursorOther-clause-outcome g c =
