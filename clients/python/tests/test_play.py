@@ -199,7 +199,10 @@ class Command(Folder):
     def test_ends_with_ctrl_c(self):
         path = self.file('text.gz', gzip.compress(b'packed text'))
         query = self.file('query', '/!x{é}/u')
-        process = subprocess.Popen([COMMAND, '-q', query, path], stdout=subprocess.PIPE, stderr=subprocess.PIPE)
+        # Where the tests run in the background they ignore the signal, and so would what they start.
+        process = subprocess.Popen([COMMAND, '-q', query, path], stdout=subprocess.PIPE, stderr=subprocess.PIPE,
+                                   preexec_fn=lambda: signal.signal(signal.SIGINT, signal.SIG_DFL))
+        self.addCleanup(process.kill)
         address = process.stdout.readline().decode().strip()
         self.assertRegex(address, r'^http://127[.]0[.]0[.]1:\d+/[-\w]{32}/$')
         with urllib.request.urlopen(address, timeout=100) as page:
