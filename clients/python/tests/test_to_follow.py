@@ -100,7 +100,7 @@ class Followed(Folder):
         self.assertEqual(run.stdout.readline(), b'2,1,a4\n')
         self.assertRegex(run.stderr.readline().decode(), 'it was replaced')
         run.send_signal(2)
-        self.assertEqual((run.wait(), run.stderr.read()), (130, b''))
+        self.assertEqual((run.wait(100), run.stderr.read()), (130, b''))
 
     def test_from_the_start_until_nothing_comes(self):
         path = self.file('d', b'a0\nb\na1')
