@@ -33,11 +33,19 @@ def run_told(run: Callable[[], None]) -> int:
         print(line_of(fault), file=sys.stderr)
         return REFUSED
     except BrokenPipeError:
-        os.dup2(os.open(os.devnull, os.O_WRONLY), sys.stdout.fileno())  # nothing is left to be flushed at the end
+        _drop_output()
         return 0
     except KeyboardInterrupt:
         return 130
     except OSError as fault:
         print(f'{fault.filename or "write failed"}: {fault.strerror}', file=sys.stderr)
-        return 5 if fault.filename else 8
+        if fault.filename:
+            return 5
+        _drop_output()
+        return 8
     return 0
+
+
+def _drop_output() -> None:
+    """What is left cannot be written, and would be tried once more at the end."""
+    os.dup2(os.open(os.devnull, os.O_WRONLY), sys.stdout.fileno())
