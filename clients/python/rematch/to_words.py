@@ -99,7 +99,7 @@ _OPTIONS = (
     _option('--line-numbers', ('lines',), action='store_true', help='the number of each line before it'),
     _option('--lines', ('count',), action='store_true', help='count the lines that a row touches'),
     _option('--forward', _PLACES, action='store_true', help='the forward strand alone'),
-    _option('--iupac', _PLACES, action='store_true', help='letters such as N, R, Y in the query stand for what they mean'),
+    _option('--iupac', _PLACES, action='store_true', help='letters such as N, R, Y in the query stand for what they mean, but in classes'),
     _option('--sorted', _PLACES, action='store_true', help='by record and place, as bedtools wants it (all rows are held)'),
     _option('--strand-once', _PLACES, action='store_true', help='a palindrome, whose places both strands have, once'),
     _option('--frames', ('bed',), action='store_true', help='the reading frame in the name'),
