@@ -103,12 +103,12 @@ page_leaves_by (r ∷ page) left after rows rest front up h is e none =
     is ∙ ap (λ xs. front ++ xs) (e ∙ ap (λ xs. xs ++ left) l.2) ∙ sym (append_assoc front (l.0 ++ l.1 ∷ []) left) ∙ ap (λ xs. xs ++ left) (sym (append_assoc front l.0 (l.1 ∷ []))) in
     subst (λ (o : Option SpanRow). IsRest o rows left) (sym l.3) (rest_after rows (front ++ l.0) page left l.1 up whole)
 
-page_leaves : (a : ℕ) (after : Option SpanRow) (rows rest : List SpanRow) → AreInBlockOrder rows → IsRest after rows rest → IsRest (page_end (take a rest) after) rows (drop a rest)
+pub page_leaves : (a : ℕ) (after : Option SpanRow) (rows rest : List SpanRow) → AreInBlockOrder rows → IsRest after rows rest → IsRest (page_end (take a rest) after) rows (drop a rest)
 page_leaves a after rows rest up h =
     let f = rest_front after rows rest h in
     page_leaves_by (take a rest) (drop a rest) after rows rest f.0 up h f.1 (sym (take-append-drop a rest)) (drop_of_none a rest)
 
-take_both : (a b : ℕ) (rest : List SpanRow) → take a rest ++ take b (drop a rest) ≡ take (a + b) rest
+pub take_both : (a b : ℕ) (rest : List SpanRow) → take a rest ++ take b (drop a rest) ≡ take (a + b) rest
 take_both a b rest = sym (take-add a b rest)
 
 pub pages_join : (q : QueryTree) (d : List ℕ) (names : List VarName) (after : Option SpanRow) (a b : ℕ) (page next : List SpanRow) (more more' : Bool) →
