@@ -14,7 +14,7 @@ ghost use Rattle.one_pass.specs.Places.{bytes_at, gap_at};
 ghost use Rattle.one_pass.specs.Seen.{whole};
 
 use crate::known::Known;
-use crate::search::{FAR, QUIET, Search, bytes_over, quiet_at};
+use crate::search::{FAR, QUIET, Search, bytes_over, quiet_at, quiet_in};
 use output_graph::OutputGraph;
 use set_table::{Table, TableFault};
 use span_core::{OutOfMemory, Steps};
@@ -90,7 +90,7 @@ impl Pass {
         ensures given_up { IfErr result (GivesUp (bytes_at self.old.at piece.now) table.old self.old steps.old table.new steps.new) }
     {
         let mut layer = self.known.stand(table, &self.graph);
-        self.search.quiet = quiet_at(None, layer, self.search.far, 0);
+        self.search.quiet = quiet_in(layer, self.search.far, self.search.quiet);
         let mut i = 0;
         while i < piece.len() {
             let here = self.read_on(table, layer, piece, i);

@@ -29,16 +29,24 @@ pub(crate) struct Search {
 }
 
 impl Search {
-    /// Nothing has been searched for.
+    /// Nothing has been searched for: the first search is made at once.
     pub(crate) fn new(alloc: Global) -> Search
         ensures { result.ahead.waiting ≡ None }
     {
         Search {
             skipper: Skipper::new(),
             ahead: Ahead::new(alloc),
-            quiet: 0,
+            quiet: QUIET,
             far: None,
         }
+    }
+}
+
+/// For how many bytes a layer in which a piece begins counts as unchanged: for enough, where the last search went far in it.
+pub(crate) fn quiet_in(layer: Option<usize>, far: Option<usize>, quiet: u32) -> u32 {
+    match (layer, far) {
+        (Some(layer), Some(kept)) if layer == kept => QUIET,
+        _ => quiet,
     }
 }
 

@@ -59,6 +59,12 @@ const SHARE: usize = 16;
 /// So often each way is looked at for a chain or a text inside, about.
 const LOOKS: usize = 32;
 
+/// A set of a chain with so many bytes at most is narrow.
+const FEW: usize = 4;
+
+/// A chain is narrow where so many of its sets are.
+const LEAST_NARROW: usize = 3;
+
 /// Where ways lead: the bytes that they take, and the states.
 #[derive(Drop)]
 pub(crate) struct Level {
@@ -302,18 +308,50 @@ fn waiting_of(alloc: Global, table: &Table<'_>, graph: &OutputGraph) -> Option<W
     }
 }
 
-/// How these states are left, each of which loops on each byte, if it can be searched for.
+/// How these states are left, each of which loops on each byte, if it can be searched for: by a text inside rather than by a
+/// chain of wide sets, which begins at too many places.
 fn exit_of(alloc: Global, ways: &[Way], states: &[u32]) -> Option<Exit>
     requires { (p : ℕ) → Has states.now p → IsLooping ways.now p }
     ensures { IfSome result (LeaveBy ways.now states.now) }
 {
-    if let Some(chain) = front_of(alloc, ways, states) {
-        return Some(Exit::Front(chain));
+    if !is_narrow(alloc, ways, states) {
+        if let Some(text) = inside_of(alloc, ways, states) {
+            return Some(Exit::Inside(text));
+        }
     }
-    match inside_of(alloc, ways, states) {
-        Some(text) => Some(Exit::Inside(text)),
+    match front_of(alloc, ways, states) {
+        Some(chain) => Some(Exit::Front(chain)),
         None => None,
     }
+}
+
+/// Whether the chain that leads out of these states is narrow, so that few places keep to it.
+fn is_narrow(alloc: Global, ways: &[Way], states: &[u32]) -> bool {
+    let sets = match chain_of(alloc, ways, states) {
+        Some(sets) => sets,
+        None => return false,
+    };
+    let mut narrow: usize = 0;
+    for set in sets.as_slice() {
+        if has_few(set) {
+            narrow = narrow.saturating_add(1);
+        }
+    }
+    narrow >= LEAST_NARROW
+}
+
+/// Whether the set has few bytes.
+fn has_few(set: &ByteSet) -> bool {
+    let mut left = FEW;
+    for byte in 0..=u8::MAX {
+        if set.contains(byte) {
+            if left == 0 {
+                return false;
+            }
+            left -= 1;
+        }
+    }
+    true
 }
 
 /// The chain that leads out of these states, if it can be searched for.
