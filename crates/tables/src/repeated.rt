@@ -1,5 +1,5 @@
 //! A document of one line over and over, of whose bytes few are read set by set.
-ghost use Rattle.std.specs.Prelude.{◌≡◌, ◌<◌, ◌≤◌, length};
+ghost use Rattle.std.specs.Prelude.{◌≡◌, ◌^◌, ◌<◌, ◌≤◌, length};
 
 use crate::fault::Fault;
 use one_pass::Pass;
@@ -66,8 +66,20 @@ fn kept_of<L: Ledger>(alloc: Global, blank: Blank, query: &[u8], line: &[u8]) ->
         document.extend_from_slice(line)?;
     }
     let mut table = Table::new(alloc, compiled.automaton(), LIMIT, &mut steps)?;
-    let mut pass = Pass::begin(alloc, WORDS, &table, &mut steps)?;
-    pass.read(&mut table, &document, &mut steps)?;
+    kept_in(alloc, &mut table, &document, &mut steps)
+}
+
+/// What is kept of layers where a document is read by a table.
+fn kept_in<L: Ledger>(
+    alloc: Global,
+    table: &mut Table<'_>,
+    document: &[u8],
+    steps: &mut Steps<L>,
+) -> Result<Kept, Fault>
+    requires few { length document.now < 2 ^ 32 }
+{
+    let mut pass = Pass::begin(alloc, WORDS, table, steps)?;
+    pass.read(table, document, steps)?;
     Ok(Kept {
         programs: pass.known().programs(),
         anew: pass.known().anew(),
