@@ -7,6 +7,7 @@ pub mod CapPlaces
 pub mod CappedLaws
 pub mod CountLaws
 pub mod DraftRows
+mod EitherLaws
 pub mod FineLaws
 pub mod FormulaShows
 pub mod FrontParts

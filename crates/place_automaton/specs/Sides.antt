@@ -20,9 +20,6 @@ sides_of P = record { null = P.null; first = P.first; last = P.last }
 abbrev pub nothing_sides : Sides
 nothing_sides = record { null = 0 ∷ []; first = []; last = [] }
 
-abbrev pub never_sides : Sides
-never_sides = record { null = []; first = []; last = [] }
-
 abbrev pub one_sides : ByteClass → ℕ → Sides
 one_sides set k = record { null = []; first = record { marks = 0; bytes = set; to = k } ∷ []; last = record { state = k; marks = 0 } ∷ [] }
 
@@ -32,9 +29,6 @@ cat_sides P Q = record {
   first = P.first ++ flat_map (λ m. map (entry_with m) Q.first) P.null;
   last = Q.last ++ flat_map (λ m. map (stop_with m) P.last) Q.null;
 }
-
-abbrev pub alt_sides : Sides → Sides → Sides
-alt_sides P Q = record { null = either_once P.null Q.null; first = P.first ++ Q.first; last = P.last ++ Q.last }
 
 abbrev pub opt_sides : Sides → Sides
 opt_sides P = record { null = add_once 0 P.null; first = P.first; last = P.last }
@@ -75,6 +69,15 @@ abbrev pub row_sides : ℕ → List Sides → Sides → Sides
 row_sides required [] Q = Q
 row_sides zero (P ∷ Ps) Q = opt_sides (cat_sides P (row_sides zero Ps Q))
 row_sides (suc required) (P ∷ Ps) Q = cat_sides P (row_sides required Ps Q)
+
+-- the blocks with which the empty string fits any of the parts, each once
+abbrev pub any_null : List Sides → List ℕ
+any_null [] = []
+any_null (P ∷ Ps) = either_once P.null (any_null Ps)
+
+-- any of the parts
+abbrev pub any_sides : List Sides → Sides
+any_sides Ps = record { null = any_null Ps; first = flat_map (λ (P : Sides). P.first) Ps; last = flat_map (λ (P : Sides). P.last) Ps }
 
 abbrev pub less_one : ℕ → ℕ
 less_one zero = zero

@@ -4,7 +4,7 @@
 //! fragment that fits the empty string, once for each set of markers of such a fit, and takes these with it.
 ghost use Rattle.std.specs.Prelude.{◌≡◌, ℕ, ◌+◌, List, [], ◌∷◌, ◌++◌, ◌<◌, ◌≤◌, length, map, IfOk, OnOk, IsTrue, if◌then◌else◌};
 ghost use Rattle.span_core.specs.Lists.{Has};
-ghost use Rattle.place_automaton.specs.Sides.{CanCapture, nothing_sides, never_sides, one_sides, cat_sides, alt_sides, opt_sides, cap_sides, JoinAsSums, IsUnmarked, Sides, RowJoins, again_sides, row_sides, row_ways};
+ghost use Rattle.place_automaton.specs.Sides.{CanCapture, nothing_sides, one_sides, any_sides, cat_sides, opt_sides, cap_sides, JoinAsSums, IsUnmarked, Sides, RowJoins, again_sides, row_sides, row_ways};
 ghost use Rattle.marked_automaton.specs.declared.way.Stop.{Stop};
 ghost use Rattle.marked_automaton.specs.Automaton.{IsBlockOf};
 ghost use Rattle.place_automaton.specs.Atom.{way_after, way_from_first};
@@ -69,17 +69,6 @@ impl Fragment {
         })
     }
 
-    /// An alternation of no arms.
-    pub(crate) fn never(alloc: Global) -> Fragment
-        ensures { result ≡ never_sides }
-    {
-        Fragment {
-            null: Vec::new(alloc),
-            first: Vec::new(alloc),
-            last: Vec::new(alloc),
-        }
-    }
-
     /// One of these bytes, at the place of this number.
     pub(crate) fn one(alloc: Global, bytes: &ByteSet, place: u32) -> Result<Fragment, OutOfMemory>
         ensures { IfOk result (λ p. p ≡ one_sides bytes.now place) }
@@ -134,22 +123,6 @@ impl Fragment {
     {
         let both = self.cat(alloc, rest, ways)?;
         both.opt_if(optional)
-    }
-
-    /// This or the other. So many pairs of sets may still be compared.
-    pub(crate) fn alt(self, other: Fragment, left: &mut u64) -> Result<Fragment, OutOfMemory>
-        ensures { IfOk result (λ p. p ≡ alt_sides self other) }
-    {
-        let sets = self.null.len();
-        spend(sets, sets.saturating_add(other.null.len()), left)?;
-        let null = either_of(self.null, other.null)?;
-        let mut first = self.first;
-        let mut others = other.first;
-        first.append(&mut others)?;
-        let mut last = self.last;
-        let mut ends = other.last;
-        last.append(&mut ends)?;
-        Ok(Fragment { null, first, last })
     }
 
     /// This or nothing.
@@ -243,6 +216,30 @@ impl Fragment {
         mark_stops(closing, &mut last);
         Fragment { null, first, last }
     }
+}
+
+/// Any of the fragments. So many pairs of sets of markers may still be compared.
+///
+/// The sets are joined from the last fragment to the first: those of each are looked up among those behind it.
+pub(crate) fn join_arms(
+    alloc: Global,
+    mut fragments: Vec<Fragment>,
+    left: &mut u64,
+) -> Result<Fragment, OutOfMemory>
+    ensures { IfOk result (λ p. p ≡ any_sides fragments.items) }
+{
+    let mut first = Vec::new(alloc);
+    let mut last = Vec::new(alloc);
+    for fragment in &fragments {
+        first.extend_from_slice(&fragment.first)?;
+        last.extend_from_slice(&fragment.last)?;
+    }
+    let mut null = Vec::new(alloc);
+    while let Some(fragment) = fragments.pop() {
+        spend(fragment.null.len(), null.len(), left)?;
+        null = either_of(fragment.null, null)?;
+    }
+    Ok(Fragment { null, first, last })
 }
 
 /// The fragments one after another and then the rest, where the first so many are required and each other

@@ -1,5 +1,6 @@
 //! Lists of marker sets: those with which a formula fits the empty string.
-ghost use Rattle.std.specs.Prelude.{◌≡◌, ℕ, ◌+◌, ◌++◌, ◌∷◌, [], map, nat_eq, IfOk, IsTrue, OnOk};
+ghost use Rattle.std.specs.Prelude.{◌≡◌, ℕ, ◌+◌, List, ◌++◌, ◌∷◌, [], map, reverse, nat_eq, IfOk, IsTrue, OnOk};
+ghost use Rattle.std.specs.HashSet.{contains};
 ghost use Rattle.std.specs.List.{list_any};
 ghost use Rattle.span_core.specs.Lists.{Has};
 ghost use Rattle.place_automaton.specs.Sides.{JoinAsSum};
@@ -7,15 +8,26 @@ ghost use Rattle.place_automaton.specs.Places.{add_once, either_once, sums};
 
 use span_core::{Marks, OutOfMemory};
 use std::alloc::Global;
+use std::collections::HashSet;
 
 /// The most pairs of sets that are compared while an atom is counted, and again while it is placed. Past
-/// it memory is wanting: a few arms with thirteen captures each, all of which may be absent, come near it.
-pub(crate) const MOST_PAIRS: u64 = 400_000_000;
+/// it memory is wanting. An alternation takes at most `PAIRS_TO_FIND * 2 * MOST_SETS` for each arm that fits
+/// the empty string, so that 900 such arms are always joined.
+pub(crate) const MOST_PAIRS: u64 = 2_000_000_000;
 
-/// Takes so many times so many pairs from those that may still be compared.
+/// The most sets of an arm that are each compared with all others. More are looked up by hash.
+const FEW_SETS: usize = 16;
+
+/// How many pairs a set that is looked up counts as.
+const PAIRS_TO_FIND: u64 = 16;
+
+/// Takes the pairs that `either_of` compares of lists of so many sets from those that may still be compared.
 pub(crate) fn spend(front: usize, behind: usize, left: &mut u64) -> Result<(), OutOfMemory> {
-    let pairs = (front as u64).saturating_mul(behind as u64);
-    *left = left.checked_sub(pairs).ok_or(OutOfMemory)?;
+    let sets = (front as u64).saturating_add(behind as u64);
+    let times = PAIRS_TO_FIND.min(front as u64);
+    *left = left
+        .checked_sub(sets.saturating_mul(times))
+        .ok_or(OutOfMemory)?;
     Ok(())
 }
 
@@ -64,9 +76,23 @@ pub(crate) fn add_unless_there(marks: Marks, sets: &mut Vec<Marks>) -> Result<()
 
 /// Each set of the one or of the other, once.
 pub(crate) fn either_of(
-    mut front: Vec<Marks>,
-    behind: Vec<Marks>,
+    front: Vec<Marks>,
+    mut behind: Vec<Marks>,
 ) -> Result<Vec<Marks>, OutOfMemory>
+    ensures { IfOk result (λ v. v.items ≡ either_once front.items behind.items) }
+{
+    if front.len() <= FEW_SETS {
+        return either_of_few(front, behind);
+    }
+    let mut known = known_sets(&behind)?;
+    let mut all = new_sets(front, &mut known)?;
+    all.reverse();
+    all.append(&mut behind)?;
+    Ok(all)
+}
+
+/// The same, where each set of the one is compared with each of the other.
+fn either_of_few(mut front: Vec<Marks>, behind: Vec<Marks>) -> Result<Vec<Marks>, OutOfMemory>
     ensures { IfOk result (λ v. v.items ≡ either_once front.items behind.items) }
 {
     let mut all = behind;
@@ -74,6 +100,31 @@ pub(crate) fn either_of(
         add_unless_there(marks, &mut all)?;
     }
     Ok(all)
+}
+
+/// The numbers of the sets, to be looked up.
+fn known_sets(sets: &Vec<Marks>) -> Result<HashSet<u64>, OutOfMemory>
+    ensures { IfOk result (λ known. (m : ℕ) → contains nat_eq known m ≡ list_any (nat_eq m) sets.now.items) }
+{
+    let mut known = HashSet::with_capacity(*sets.allocator(), sets.len())?;
+    for set in sets {
+        known.insert(set.number())?;
+    }
+    Ok(known)
+}
+
+/// The sets that are not known, each once, from the last to the first.
+fn new_sets(mut front: Vec<Marks>, known: &mut HashSet<u64>) -> Result<Vec<Marks>, OutOfMemory>
+    ensures { (ns : List ℕ) → ((m : ℕ) → contains nat_eq known.old m ≡ list_any (nat_eq m) ns)
+        → IfOk result (λ v. reverse v.items ++ ns ≡ either_once front.items ns) }
+{
+    let mut new = Vec::new(*front.allocator());
+    while let Some(marks) = front.pop() {
+        if known.insert(marks.number())? {
+            new.push(marks)?;
+        }
+    }
+    Ok(new)
 }
 
 /// Whether the set without a marker is the only one.

@@ -121,8 +121,7 @@ impl Numbers {
     pub(crate) fn alt(self, rest: Numbers, left: &mut u64) -> Result<Numbers, OutOfMemory>
         ensures { (a b : PlaceCounts) → AreCapped a self → AreCapped b rest → IfOk result (λ c. AreCapped (counts_alt a b) c) }
     {
-        let sets = self.null.len();
-        spend(sets, sets.saturating_add(rest.null.len()), left)?;
+        spend(self.null.len(), rest.null.len(), left)?;
         let null = either_of(self.null, rest.null)?;
         Ok(Numbers {
             null,

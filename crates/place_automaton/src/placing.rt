@@ -1,8 +1,8 @@
 //! The places of a formula.
 //!
 //! Parts are placed from left to right, so that places are numbered in the order of the text, and then joined from
-//! the last to the first: the sides that grow are then those of the rest, no list is copied at a join, and ways come
-//! in the order of a definition that nests to the right. A repeated formula is gone through once; its further copies
+//! the last to the first: the sides that grow are then those of the rest, no list is copied at a join of parts that
+//! follow one another, and ways come in the order of a definition that nests to the right. A repeated formula is gone through once; its further copies
 //! are the first with greater numbers.
 ghost use Rattle.std.specs.Prelude.{◌≡◌, ◌↔◌, ◌+◌, ◌-◌, ◌≤◌, IfOk, IsTrue, List, Some, length, take, drop};
 ghost use Rattle.spanner_model.specs.Captures.{VarName};
@@ -19,7 +19,7 @@ ghost use Rattle.place_automaton.specs.Places.{Places};
 ghost use Rattle.spanner_model.specs.Sequential.{HasNoVar, IsSequential};
 ghost use Rattle.place_automaton.specs.Words.{opening_of, closing_of};
 
-use crate::fragment::{Fragment, join_again, join_row};
+use crate::fragment::{Fragment, join_again, join_arms, join_row};
 use crate::moving::push_moved_ways;
 use marked_automaton::Way;
 use span_core::{ByteSet, Marks, Name, OutOfMemory, VarSet};
@@ -174,12 +174,12 @@ fn place_arms(
     requires room { draft.old.next + (counts_over vars.now (alt_all (trees_of arms.now))).places ≤ MOST_STATES }
     ensures { IfOk result (HasPlaced (places_of vars.now (alt_all (trees_of arms.now)) draft.old.next) draft.old draft.new) }
 {
-    let mut all = Fragment::never(alloc);
+    let mut fragments = Vec::with_capacity(alloc, arms.len())?;
     for k in 0..arms.len() {
-        let arm = place(alloc, vars, arms.at(k), draft)?;
-        all = all.alt(arm, &mut draft.left)?;
+        let fragment = place(alloc, vars, arms.at(k), draft)?;
+        fragments.push(fragment)?;
     }
-    Ok(all)
+    join_arms(alloc, fragments, &mut draft.left)
 }
 
 /// Places a formula that comes once, or that may be left out where `least` is 0. Captures may stand in it.

@@ -14,12 +14,12 @@ use Rattle.spanner_model.proofs.Trees.{tree_of-One, tree_of-Cat, tree_of-Alt, tr
 use Rattle.place_automaton.specs.Counts.{counts_over}
 use Rattle.place_automaton.specs.declared.placing.Draft.{Draft}
 use Rattle.place_automaton.specs.Drafts.{AreNamed, HasPlaced, copies_of, places_of}
-use Rattle.place_automaton.specs.Sides.{Sides, IsUnmarked, RowJoins, again_sides, sides_of, nothing_sides, opt_sides, row_sides, row_ways}
+use Rattle.place_automaton.specs.Sides.{Sides, IsUnmarked, RowJoins, again_sides, any_sides, sides_of, nothing_sides, opt_sides, row_sides, row_ways}
 use Rattle.place_automaton.specs.Moves.{places_moved}
 use Rattle.place_automaton.specs.Places.{Places, repeated, ways_between}
 use Rattle.spanner_model.specs.Sequential.{IsSequential}
 use Rattle.place_automaton.specs.Words.{opening_of, closing_of}
-use Rattle.place_automaton.proofs.ArmLaws.{arms_next}
+use Rattle.place_automaton.proofs.ArmLaws.{arms_done}
 use Rattle.place_automaton.proofs.BuiltRepeats.{ordered_repeats}
 use Rattle.place_automaton.proofs.CapPlaces.{can_capture}
 use Rattle.place_automaton.proofs.DraftRows.{IsRow, copies_next, ok_both, parts_next, parts_joins, placers, row_done}
@@ -91,8 +91,7 @@ place_arms-place-requires t c =
     let ts = trees_of c.args.arms.now in
     let k = c.loop-k.k in
     let f = tree_of c.at.result.now in
-    let has = Has-slice_get ts k f c.at.ensures in
-    let front = take k ts in (
+    let has = Has-slice_get ts k f c.at.ensures in (
       omega (arith, part_nodes ts f has),
       (
         c.requires.built f has,
@@ -102,7 +101,7 @@ place_arms-place-requires t c =
             c.requires.distinct,
             (
               λ x v. c.requires.named x ((arms_have ts x).1 (part_has ts f x has v)),
-              omega (arith, c.loop-k.invariant.next, place_count (opening_of names) (closing_of names) (alt_all front) c.args.draft.now.next, arms_room (opening_of names) (closing_of names) front, arms_room (opening_of names) (closing_of names) ts, parts_room (opening_of names) (closing_of names) ts k f c.at.ensures, c.requires.room),
+              omega (arith, c.loop-k.invariant.next, turn_total (opening_of names) (closing_of names) (take k ts) c.args.draft.now.next, arms_room (opening_of names) (closing_of names) ts, parts_room (opening_of names) (closing_of names) ts k f c.at.ensures, c.requires.room),
             ),
           ),
         ),
@@ -111,17 +110,22 @@ place_arms-place-requires t c =
 
 pub place_arms-loop-k-preserved : goal.place_arms-loop-k-preserved
 place_arms-loop-k-preserved t c =
+    let ts = trees_of c.args.arms.now in
+    parts_next c.args.vars.now ts c.loop-k.k c.args.draft.now.next (tree_of c.at.result.now) c.args.draft.now c.loop-k.draft c.place.new.draft
+    c.loop-k.fragments.items c.push.new.self.items c.in_ok-fragment.fragment c.at.ensures refl c.loop-k.invariant c.in_ok-fragment.ensures c.in_ok-push.ensures.items
+
+pub place_arms-returns : goal.place_arms-returns
+place_arms-returns t c =
     let names = c.args.vars.now in
     let ts = trees_of c.args.arms.now in
-    let f = tree_of c.at.result.now in
-    let has = Has-slice_get ts c.loop-k.k f c.at.ensures in
-    let set = λ (n : ℕ). (null_set names f (sequential_arm ts f has c.requires.sequential) (ordered_repeats f (c.requires.built f has))
-    (λ x v. c.requires.named x ((arms_have ts x).1 (part_has ts f x has v))) n).distinct in
-    let new : Draft = record { next = c.place.new.draft.next; ways = c.place.new.draft.ways; left = c.alt.new.left } in
-    let h = c.in_ok-arm.ensures in
-    let placed : HasPlaced (places_of names f c.loop-k.draft.next) c.loop-k.draft new c.in_ok-arm.arm = record { sides = h.sides; next = h.next; ways = h.ways } in
-    arms_next names ts c.loop-k.k c.args.draft.now.next f c.args.draft.now c.loop-k.draft new c.loop-k.all c.in_ok-arm.arm c.in_ok-all.all
-    c.at.ensures refl set c.loop-k.invariant placed c.in_ok-all.ensures
+    let a = c.args.draft.now in
+    let at : c.loop-k.k ≡ length ts = omega (arith, c.len-k-end.ensures) in
+    let all : take c.loop-k.k ts ≡ ts = ap (λ k. take k ts) at ∙ take-length ts in
+    let row = subst (λ us. IsRow (in_turn (placers names us) a.next) a c.loop-k.draft c.loop-k.fragments.items) all c.loop-k.invariant in
+    let new : Draft = record { next = c.loop-k.draft.next; ways = c.loop-k.draft.ways; left = c.join_arms.new.left } in
+    let xs = c.loop-k.fragments.items in
+    IfOk-weaker c.join_arms.result (λ (p : Sides). p ≡ any_sides xs) (λ (p : Sides). HasPlaced (places_of names (alt_all ts) a.next) a new p)
+    (λ p is. arms_done names ts a.next a c.loop-k.draft new xs p row is refl refl) c.join_arms.ensures
 
 pub place_parts-place-requires : goal.place_parts-place-requires
 place_parts-place-requires t c =

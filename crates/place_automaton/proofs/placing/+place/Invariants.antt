@@ -1,8 +1,8 @@
 use Rattle.std.proofs.Common.{◌+◌, ◌*◌, take}
-use Rattle.spanner_model.specs.Tree.{cat_all, alt_all}
+use Rattle.spanner_model.specs.Tree.{cat_all}
 use Rattle.spanner_model.specs.View.{tree_of, trees_of}
 use Rattle.spanner_model.proofs.Nodes.{nodes}
-use Rattle.place_automaton.specs.Drafts.{HasPlaced, places_of}
+use Rattle.place_automaton.specs.Drafts.{places_of}
 use Rattle.place_automaton.proofs.DraftRows.{IsRow, placers}
 use Rattle.place_automaton.proofs.Rows.{in_turn, copies}
 use Rattle.place_automaton.proofs.placing.+place.Given as goal
@@ -26,7 +26,7 @@ abbrev pub invariant-place_parts-loop-k : goal.invariant-place_parts-loop-k
 invariant-place_parts-loop-k l = IsRow (in_turn (placers l.vars (take l.k (trees_of l.parts))) l.fn.draft.next) l.fn.draft l.draft l.fragments.items
 
 abbrev pub invariant-place_arms-loop-k : goal.invariant-place_arms-loop-k
-invariant-place_arms-loop-k l = HasPlaced (places_of l.vars (alt_all (take l.k (trees_of l.arms))) l.fn.draft.next) l.fn.draft l.draft l.all
+invariant-place_arms-loop-k l = IsRow (in_turn (placers l.vars (take l.k (trees_of l.arms))) l.fn.draft.next) l.fn.draft l.draft l.fragments.items
 
 abbrev pub invariant-place_repeat-loop-copy : goal.invariant-place_repeat-loop-copy
 invariant-place_repeat-loop-copy l = IsRow (copies (places_of l.vars (tree_of l.sub)) l._copy l.fn.draft.next) l.fn.draft l.draft l.fragments.items
