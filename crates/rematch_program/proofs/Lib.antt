@@ -17,6 +17,7 @@ pub mod SummaryLaws
 pub mod WorkedLaws
 pub mod Writing
 mod WithoutTestsLaws
+pub mod PassingJoins
 pub mod PassingPages
 pub mod TakingLaws
 pub mod Answered

@@ -1,30 +1,39 @@
 -- A page's own cursor stands for its end.
-use Rattle.std.proofs.Common.{◌≡◌, ℕ, ◌≤◌, List, [], ◌∷◌, Bool, length, get_or, Option, Some, None, IsTrue, inl, inr, refl, sym, subst, arith}
+use Rattle.std.proofs.Common.{◌≡◌, ℕ, zero, suc, ◌+◌, ◌-◌, ◌<◌, ◌≤◌, List, [], ◌∷◌, ◌++◌, Bool, length, take, drop, get_or, Option, Some, None, IsTrue, inl, inr, refl, sym, ap, ◌∙◌, subst, arith, length-drop}
+use Rattle.std.specs.Prelude.{◌↔◌}
 use Rattle.std.specs.List.{All}
+use Rattle.std.proofs.lemmas.List.{take_all}
 use Rattle.span_core.specs.declared.kept.Kept.{Kept}
 use Rattle.span_core.specs.Names.{is_name}
 use Rattle.command_line.specs.RequestView.{cursor_of}
 use Rattle.span_core.specs.Lists.{Has}
 use Rattle.spanner_model.specs.Captures.{VarName}
 use Rattle.spanner_model.specs.Expression.{QueryTree}
-use Rattle.spanner_model.specs.Answers.{SpanRow, IsPage, page_end}
+use Rattle.spanner_model.specs.Sound.{IsSound}
+use Rattle.spanner_model.specs.Answers.{SpanRow, AreAnswers, AreResultNames, IsRest, page_end}
 use Rattle.span_core.proofs.HasLaws.{Has-get_or, Has-take}
-use Rattle.spanner_model.proofs.RowOrder.{pages_join}
+use Rattle.spanner_model.proofs.RowOrder.{take_both}
 use Rattle.row_cursor.specs.CursorTexts.{cursor_text, IsC2Text, IsCursorText}
 use Rattle.spanner_engine.specs.Begun.{row_kept}
+use Rattle.spanner_engine.specs.Passing.{Check, ArePassing, IsPassingPage, passing}
+use Rattle.session_server.proofs.Giving.{has_passing}
 use Rattle.rematch_program.specs.declared.TheConstants.{DOCUMENT_LIMIT}
 use Rattle.rematch_program.specs.Pages.{AllFit, CursorFits, IsAfter}
-use Rattle.rematch_program.specs.Resume.{note_cursor, PagesResume}
+use Rattle.rematch_program.specs.Testing.{IsPassingPageOf}
+use Rattle.rematch_program.specs.Resume.{AreResumed, GiveInTurn, Paged, PagesGiveEachOnce, PagesResume, limits_of, note_cursor, rows_of}
 use Rattle.rematch_program.proofs.ResultNames.{result_named}
 use Rattle.rematch_program.proofs.Completeness.{after_one}
 use Rattle.rematch_program.proofs.Inside.{answers_fit}
+use Rattle.rematch_program.proofs.PassingJoins.{page_of, passing_in_order, passing_pages_meet}
 use Rattle.rematch_program.proofs.RestLaws.{Has-rest}
 
 -- ---- the rows of a page fit it
 
-page_fits : (q : QueryTree) (d : List ℕ) (names : List VarName) (after : Option SpanRow) (a : ℕ) (page : List SpanRow) (more : Bool) → IsPage q d names after a page more → AllFit (length names) (length d) page
-page_fits q d names after a page more p row has =
-    answers_fit q d names p.0 p.2 row (Has-rest after p.0 p.1 row p.3 (Has-take p.1 a row (subst (λ (rs : List SpanRow). Has rs row) p.4 has)))
+page_fits : (checks : List Check) (q : QueryTree) (d : List ℕ) (names : List VarName) (after : Option SpanRow) (a : ℕ) (page : List SpanRow) (more : Bool) →
+    IsPassingPage checks q d names after a page more → AllFit (length names) (length d) page
+page_fits checks q d names after a page more p row has =
+    let among = Has-rest after (passing checks names d p.0) p.1 row p.3 (Has-take p.1 a row (subst (λ (rs : List SpanRow). Has rs row) p.4 has)) in
+    answers_fit q d names p.0 p.2 row (has_passing checks names d p.0 row among)
 
 -- ---- the text of a cursor, read as that of `-a`
 
@@ -74,9 +83,9 @@ module _ (names : List VarName) (n : ℕ) (few : n ≤ DOCUMENT_LIMIT) (named : 
   same_place after (row ∷ page) = same_place (Some (kept_of row)) page
 
 pub pages_resume : PagesResume
-pages_resume q d names given after a page more sound few are begins fits p =
+pages_resume checks q d names given after a page more sound few are begins fits p =
     let named = λ (x : VarName) (h : Has names x). result_named q x sound ((are.1 x).0 h) in
-    let there = resumes names (length d) few named given after page begins (page_fits q d names (row_kept after) a page more p) in
+    let there = resumes names (length d) few named given after page begins (page_fits checks q d names (row_kept after) a page more p) in
     let place = same_place names (length d) few named after page in
     record {
       resumed = kept_at names (length d) few named after page;
@@ -85,5 +94,83 @@ pages_resume q d names given after a page more sound few are begins fits p =
       fits = still_fits names (length d) few named after page fits;
       place = place;
       joins = λ b next more' n.
-          pages_join q d names (row_kept after) a b page next more more' p (subst (λ (o : Option SpanRow). IsPage q d names o b next more') place n);
+          passing_pages_meet checks q d names (row_kept after) a b page next more more' p
+          (subst (λ (o : Option SpanRow). IsPassingPageOf checks q d names o b next more') place n);
     }
+
+-- ---- any number of pages
+
+module _ (checks : List Check) (q : QueryTree) (d : List ℕ) (names : List VarName) (sound : IsSound q) (few : length d ≤ DOCUMENT_LIMIT) (are : AreResultNames q names)
+    (all : List SpanRow) (answers : AreAnswers q d names all) where
+  abbrev those : List SpanRow
+  those = passing checks names d all
+
+  -- what a page gives of the rows that stood after its begin, and where the one that follows begins
+  record Gave (given : Option (List ℕ)) (p : Paged) (rest : List SpanRow) : Type 0 where
+    end : Option Kept
+    begins : IsAfter names (note_cursor names (length d) given p.rows) end
+    first : p.rows ≡ take p.limit rest
+    left : IsRest (row_kept end) those (drop p.limit rest)
+    counted : IsTrue p.more ↔ (p.limit < length rest)
+
+  gave : (given : Option (List ℕ)) (after other : Option Kept) (p : Paged) (rest : List SpanRow) → IsAfter names given after → IsRest (row_kept after) those rest →
+      IsAfter names given other → IsPassingPage checks q d names (row_kept other) p.limit p.rows p.more → Gave given p rest
+  gave given after other p rest begins is begun page' =
+      let same : other ≡ after = after_one names given after other begins begun in
+      let page = subst (λ (o : Option Kept). IsPassingPage checks q d names (row_kept o) p.limit p.rows p.more) same page' in
+      let leaves = page_of checks q d names (row_kept after) p.limit p.rows p.more all rest answers is page in
+      let named = λ (x : VarName) (h : Has names x). result_named q x sound ((are.1 x).0 h) in
+      record {
+        end = kept_at names (length d) few named after p.rows;
+        begins = resumes names (length d) few named given after p.rows begins (page_fits checks q d names (row_kept after) p.limit p.rows p.more page);
+        first = leaves.first;
+        left = subst (λ (o : Option SpanRow). IsRest o those (drop p.limit rest)) (sym (same_place names (length d) few named after p.rows)) leaves.left;
+        counted = leaves.counted;
+      }
+
+  give_first : (pages : List Paged) (given : Option (List ℕ)) (after : Option Kept) (rest : List SpanRow) → IsAfter names given after → IsRest (row_kept after) those rest →
+      AreResumed checks q d names given pages → rows_of pages ≡ take (limits_of pages) rest
+  give_first [] given after rest begins is h = refl
+  give_first (p ∷ pages) given after rest begins is h =
+      let g = gave given after h.0.0 p rest begins is h.0.1 h.0.2 in
+      let later = give_first pages (note_cursor names (length d) given p.rows) g.end (drop p.limit rest) g.begins g.left h.1 in
+      ap (λ (rs : List SpanRow). rs ++ rows_of pages) g.first ∙ ap (λ (rs : List SpanRow). take p.limit rest ++ rs) later ∙ take_both p.limit (limits_of pages) rest
+
+  give_more : (front : List Paged) (last : Paged) (given : Option (List ℕ)) (after : Option Kept) (rest : List SpanRow) → IsAfter names given after →
+      IsRest (row_kept after) those rest → AreResumed checks q d names given (front ++ last ∷ []) → IsTrue last.more ↔ (limits_of (front ++ last ∷ []) < length rest)
+  give_more [] last given after rest begins is h =
+      let g = gave given after h.0.0 last rest begins is h.0.1 h.0.2 in (
+        λ t. omega (arith, g.counted.0 t),
+        λ l. g.counted.1 (omega (arith, l)),
+      )
+  give_more (p ∷ front) last given after rest begins is h =
+      let g = gave given after h.0.0 p rest begins is h.0.1 h.0.2 in
+      let later = give_more front last (note_cursor names (length d) given p.rows) g.end (drop p.limit rest) g.begins g.left h.1 in
+      let count : length (drop p.limit rest) ≡ length rest - p.limit = length-drop p.limit rest in (
+        λ t. omega (arith, later.0 t, count),
+        λ l. later.1 (omega (arith, l, count)),
+      )
+
+-- pages of at least one row each have room for as many rows as they are
+many_limits : (pages : List Paged) → All (λ p. 1 ≤ p.limit) pages → length pages ≤ limits_of pages
+many_limits [] h = omega arith
+many_limits (p ∷ pages) h =
+    let here : 1 ≤ p.limit = h 0 p (omega arith) in
+    let later = many_limits pages (λ k e l. h (suc k) e (omega (arith, l))) in
+    omega (arith, here, later)
+
+pub pages_give_each_once : PagesGiveEachOnce
+pages_give_each_once checks q d names pages rows sound few are (all, answers, is) h =
+    let R : List SpanRow → Type 0 = λ rs. GiveInTurn pages rs in
+    let those = passing checks names d all in
+    let first = give_first checks q d names sound few are all answers pages None None those tt refl h in
+    subst R (sym is) (record {
+      in_order = passing_in_order checks names d all answers.in_order;
+      first = first;
+      more = λ front last split.
+          let resumed = subst (λ (ps : List Paged). AreResumed checks q d names None ps) split h in
+          let m = give_more checks q d names sound few are all answers front last None None those tt refl resumed in
+          let same : limits_of pages ≡ limits_of (front ++ last ∷ []) = ap limits_of split in
+          (λ t. omega (arith, m.0 t, same), λ l. m.1 (omega (arith, l, same)));
+      ends = λ least enough. first ∙ take_all (limits_of pages) those (let room = many_limits pages least in omega (arith, room, enough));
+    })

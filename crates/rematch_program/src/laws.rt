@@ -3,16 +3,20 @@ ghost use Rattle.rematch_program.specs.AsBefore.{FunctionalQueriesAreServedAsBef
 ghost use Rattle.rematch_program.specs.Complete.{CompletenessLaw};
 ghost use Rattle.rematch_program.specs.Examples.{NoteExamples, SizeExamples};
 ghost use Rattle.rematch_program.specs.Fetched.{FetchesInOrder, FetchesNothing, FetchesOnce};
-ghost use Rattle.rematch_program.specs.Resume.{PagesResume};
+ghost use Rattle.rematch_program.specs.Resume.{PagesGiveEachOnce, PagesResume};
 ghost use Rattle.rematch_program.specs.WithoutTests.{WithoutTests};
 
-/// Pages that are resumed at the cursors of their own notes join.
+/// Pages that are resumed at the cursors of their own notes join, with tests and without.
 ///
 /// The note of a page gives a text by which a run with the same query and document begins where the page ended. It is
 /// taken and fits the document, and the rows of both pages are those of one page of both limits. With a document of
 /// another length it is refused; a document of the same length with other bytes is the user's own matter.
+///
+/// So any number of pages, each begun at the note of the one before, has the first of the rows that pass: each once, in
+/// order, as many as the limits say. Where each limit is at least 1, as many pages as there are rows have them all.
 pub fn pages_resume()
-    ensures { PagesResume }
+    ensures join { PagesResume }
+    ensures each_once { PagesGiveEachOnce }
 {}
 
 /// Queries of functional formulas (Fagin et al. 2015), whose unions have equal variables, are accepted, answered and told as they
