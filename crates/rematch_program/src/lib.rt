@@ -22,6 +22,8 @@ mod outcome;
 mod page;
 mod page_writer;
 mod remaining;
+#[cfg(test)]
+mod serving_tests;
 mod summary;
 #[cfg(test)]
 mod tests;
