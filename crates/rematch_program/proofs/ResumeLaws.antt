@@ -1,5 +1,5 @@
 -- A page's own cursor stands for its end.
-use Rattle.std.proofs.Common.{◌≡◌, ℕ, zero, suc, ◌+◌, ◌-◌, ◌<◌, ◌≤◌, List, [], ◌∷◌, ◌++◌, Bool, length, take, drop, get_or, Option, Some, None, IsTrue, inl, inr, refl, sym, ap, ◌∙◌, subst, arith, length-drop}
+use Rattle.std.proofs.Common.{◌≡◌, ℕ, suc, ◌+◌, ◌-◌, ◌<◌, ◌≤◌, List, [], ◌∷◌, ◌++◌, Bool, length, take, drop, get_or, Option, Some, None, IsTrue, inl, inr, refl, sym, ap, ◌∙◌, subst, arith, length-drop}
 use Rattle.std.specs.Prelude.{◌↔◌}
 use Rattle.std.specs.List.{All}
 use Rattle.std.proofs.lemmas.List.{take_all}
@@ -15,7 +15,7 @@ use Rattle.span_core.proofs.HasLaws.{Has-get_or, Has-take}
 use Rattle.spanner_model.proofs.RowOrder.{take_both}
 use Rattle.row_cursor.specs.CursorTexts.{cursor_text, IsC2Text, IsCursorText}
 use Rattle.spanner_engine.specs.Begun.{row_kept}
-use Rattle.spanner_engine.specs.Passing.{Check, ArePassing, IsPassingPage, passing}
+use Rattle.spanner_engine.specs.Passing.{Check, IsPassingPage, passing}
 use Rattle.session_server.proofs.Giving.{has_passing}
 use Rattle.rematch_program.specs.declared.TheConstants.{DOCUMENT_LIMIT}
 use Rattle.rematch_program.specs.Pages.{AllFit, CursorFits, IsAfter}
