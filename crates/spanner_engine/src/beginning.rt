@@ -25,6 +25,7 @@ use span_core::{Kept, Steps};
 use spanner_model::Query;
 use std::alloc::Global;
 use std::sync::ledger::Ledger;
+use thiserror::Error;
 
 /// How a document is read.
 #[derive(Clone, Copy, Debug, PartialEq, Eq)]
@@ -37,17 +38,22 @@ pub struct Options {
 }
 
 /// Why no answers are begun; the first that applies is told.
-#[derive(Clone, Copy, Debug, PartialEq, Eq)]
+#[derive(Clone, Copy, Debug, PartialEq, Eq, Error)]
 pub enum BeginFault {
     /// The cursor keeps another length than the document's: it keeps `kept`, and the document has `found` bytes.
+    #[error("the cursor is of a document of {kept} bytes, and this one has {found}")]
     CursorOther { kept: u32, found: u32 },
     /// The cursor keeps no length, and a span of its row ends past the document.
+    #[error("a span of the cursor ends past the document")]
     CursorPlace,
     /// What the two readings of some atom meet weighs more than the limit: so much.
+    #[error("the filter of an atom would weigh {weight}, more than the limit")]
     Filter { weight: u64 },
     /// The table weighs more than the limit: so much.
+    #[error("the table would weigh {weight}, more than the limit")]
     Table { weight: u64 },
     /// Want of memory.
+    #[error("out of memory")]
     OutOfMemory,
 }
 
