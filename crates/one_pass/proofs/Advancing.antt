@@ -4,7 +4,7 @@ use Rattle.std.specs.Prelude.{IsTrue, ◌&&◌}
 use Rattle.std.specs.FinSet as bytes
 use Rattle.std.specs.FinSet.{contains-intersection}
 use Rattle.std.specs.Cmp.{nat_cmp_total}
-use Rattle.std.proofs.lemmas.List.{length-drop, length-take-le}
+use Rattle.std.proofs.lemmas.List.{length-drop, length-take-le, take-append-drop}
 use Rattle.std.proofs.Math.Seq.{take-length}
 use Rattle.span_core.specs.Lists.{Has}
 use Rattle.span_core.proofs.HasLaws.{Has-take_more_cases}
@@ -18,7 +18,7 @@ use Rattle.one_pass.specs.declared.known.Known.{Known}
 use Rattle.one_pass.specs.declared.search.Search.{Search}
 use Rattle.one_pass.specs.Ahead.{KnowsWaiting}
 use Rattle.one_pass.specs.Known.{Knows}
-use Rattle.one_pass.specs.Going.{GivesUp, GoesOn, Reads, come}
+use Rattle.one_pass.specs.Going.{GivesUp, GoesOn, IsAdvanced, Reads, come}
 use Rattle.one_pass.specs.Layers.{no_source, source_at}
 use Rattle.one_pass.specs.Places.{ReadingPlace, byte_at, bytes_at}
 use Rattle.one_pass.specs.Passes.{AllLeadBack}
@@ -26,11 +26,6 @@ use Rattle.one_pass.specs.Seen.{whole}
 use Rattle.one_pass.proofs.BackLaws.{back_read}
 use Rattle.one_pass.proofs.Faulting.{bytes_append, bytes_more, bytes_split, read_none, ready_later}
 use Rattle.one_pass.proofs.Goings.{both_reads, gives_up_before, then_gives_up}
-
--- so many bytes of the piece have been read
-pub record IsAdvanced (t0 : Tabled) (p0 : Pass) (n0 : ℕ) (piece : List ℕ) (i : ℕ) (t : Tabled) (p : Pass) (n : ℕ) : Type 0 where
-  pub reads : Reads (bytes_at p0.at (take i piece)) t0 p0 n0 t p n
-  pub at : p.at ≡ p0.at + i
 
 -- none, but of whole layers something else is known, and something else is searched for
 pub advanced_none : {t : Tabled} {p : Pass} {n : ℕ} {piece : List ℕ} {known : Known} {search : Search} → GoesOn t p → Knows t known → KnowsWaiting t.graph.ways search.ahead.waiting →
@@ -116,6 +111,30 @@ advanced_over {t0} {p0} {n0} {piece} {i} {j} {t} {p} {q} {n} past later within b
           (subst (λ k. Reads (bytes_at p.at d) t p n t (record { graph = p.graph; known = p.known; search = q.search; at = k }) n) end (over_reads d q.search waits past.reads.goes_on back)))));
       at = omega (arith, at, past.at, later);
     }
+
+-- some bytes behind those
+pub advanced_on : {t0 : Tabled} {p0 : Pass} {n0 : ℕ} {piece : List ℕ} {i j : ℕ} {t u : Tabled} {p q : Pass} {n m : ℕ} → IsAdvanced t0 p0 n0 piece i t p n → i ≤ length piece →
+    IsAdvanced t p n (drop i piece) j u q m → IsAdvanced t0 p0 n0 piece (i + j) u q m
+advanced_on {t0} {p0} {n0} {piece} {i} {j} {t} {u} {p} {q} {n} {m} past within later =
+    let d : List ℕ = take j (drop i piece) in
+    let before : length (take i piece) ≡ i = length-take-le i piece within in
+    let split : bytes_at p0.at (take (i + j) piece) ≡ bytes_at p0.at (take i piece) ++ bytes_at p.at d =
+    ap (bytes_at p0.at) (sym (take_both i j piece))
+    ∙ (bytes_append p0.at (take i piece) d ∙ ap (λ k. bytes_at p0.at (take i piece) ++ bytes_at k d) (ap (λ k. p0.at + k) before ∙ sym past.at)) in
+    record {
+      reads = subst (λ ps. Reads ps t0 p0 n0 u q m) (sym split) (both_reads (bytes_at p0.at (take i piece)) (bytes_at p.at d) past.reads later.reads);
+      at = omega (arith, past.at, later.at);
+    }
+
+-- or it was given up among them
+pub advanced_stops : {t0 : Tabled} {p0 : Pass} {n0 : ℕ} {piece : List ℕ} {i : ℕ} {t u : Tabled} {p : Pass} {n m : ℕ} {e : TableFault} → IsAdvanced t0 p0 n0 piece i t p n → i ≤ length piece →
+    GivesUp (bytes_at p.at (drop i piece)) t p n u m e → GivesUp (bytes_at p0.at piece) t0 p0 n0 u m e
+advanced_stops {t0} {p0} {n0} {piece} {i} {t} {u} {p} {n} {m} {e} past within up =
+    let before : length (take i piece) ≡ i = length-take-le i piece within in
+    let split : bytes_at p0.at piece ≡ bytes_at p0.at (take i piece) ++ bytes_at p.at (drop i piece) =
+    ap (bytes_at p0.at) (sym (take-append-drop i piece))
+    ∙ (bytes_append p0.at (take i piece) (drop i piece) ∙ ap (λ k. bytes_at p0.at (take i piece) ++ bytes_at k (drop i piece)) (ap (λ k. p0.at + k) before ∙ sym past.at)) in
+    subst (λ ps. GivesUp ps t0 p0 n0 u m e) (sym split) (then_gives_up (bytes_at p0.at (take i piece)) (bytes_at p.at (drop i piece)) past.reads up)
 
 -- ---- which bytes change nothing
 

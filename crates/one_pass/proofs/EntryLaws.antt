@@ -11,10 +11,18 @@ use Rattle.std.proofs.lemmas.Nat.{mul-add-lt}
 use Rattle.std.proofs.Math.Seq.{get_or-append_right}
 use Rattle.marked_automaton.proofs.Listed.{same_or_not}
 use Rattle.marked_automaton.proofs.Passing.{or_left, or_right}
-use Rattle.one_pass.specs.Entered.{has_entry, place_in}
+use Rattle.one_pass.specs.Entered.{has_entry, is_entered, place_in}
+use Rattle.one_pass.specs.declared.entries.Entry.{Entry}
+use Rattle.one_pass.specs.declared.entries.Entry.TheVariants.{Unknown}
 
 abbrev Sets : Type 0
 Sets = List (bytes.FinSet nat_cmp)
+
+abbrev IsEntered : Entry → Type 0
+IsEntered e = IsTrue (is_entered e)
+
+abbrev entry_in : List Entry → ℕ → Entry
+entry_in xs k = get_or xs k Unknown
 
 differ : false ≡ true → ⊥
 differ e = cc
@@ -94,100 +102,100 @@ rows_room count rows total wide wanted n later true is same room more enough = l
 
 -- ---- room for more layers
 
-module _ (asked new : Sets) (numbers wide : List ℕ) (count : ℕ) (classes : List ℕ) (small : (b : ℕ) → b < 256 → slice_index classes b < count) (room : count * length asked ≤ length numbers)
-    (same : (k : ℕ) → get_or new k bytes.empty ≡ get_or asked k bytes.empty) (kept : (j : ℕ) → j < length numbers → slice_index wide j ≡ slice_index numbers j) where
+module _ (asked new : Sets) (numbers wide : List Entry) (count : ℕ) (classes : List ℕ) (small : (b : ℕ) → b < 256 → slice_index classes b < count) (room : count * length asked ≤ length numbers)
+    (same : (k : ℕ) → get_or new k bytes.empty ≡ get_or asked k bytes.empty) (kept : (j : ℕ) → j < length numbers → entry_in wide j ≡ entry_in numbers j) where
   same_asked : (k b : ℕ) → has_entry new k b ≡ has_entry asked k b
   same_asked k b = ap (λ s. bytes.contains s b) (same k)
 
-  same_place : (k b : ℕ) → b < 256 → has_entry asked k b ≡ true → slice_index wide (place_in count classes k b) ≡ slice_index numbers (place_in count classes k b)
+  same_place : (k b : ℕ) → b < 256 → has_entry asked k b ≡ true → entry_in wide (place_in count classes k b) ≡ entry_in numbers (place_in count classes k b)
   same_place k b less has = kept (place_in count classes k b) (place_within count (slice_index classes b) k (length asked) (length numbers) (small b less) (within_asked asked k b has) room)
 
-  pub room_entry : (k b : ℕ) → b < 256 → (if has_entry new k b then slice_index wide (place_in count classes k b) else 0) ≡ (if has_entry asked k b then slice_index numbers (place_in count classes k b) else 0)
-  room_entry k b less = ap (λ v. if v then slice_index wide (place_in count classes k b) else 0) (same_asked k b) ∙ by (has_entry asked k b) refl
+  pub room_entry : (k b : ℕ) → b < 256 → (if has_entry new k b then entry_in wide (place_in count classes k b) else Unknown) ≡ (if has_entry asked k b then entry_in numbers (place_in count classes k b) else Unknown)
+  room_entry k b less = ap (λ v. if v then entry_in wide (place_in count classes k b) else Unknown) (same_asked k b) ∙ by (has_entry asked k b) refl
     where
-      by : (v : Bool) → has_entry asked k b ≡ v → (if v then slice_index wide (place_in count classes k b) else 0) ≡ (if v then slice_index numbers (place_in count classes k b) else 0)
+      by : (v : Bool) → has_entry asked k b ≡ v → (if v then entry_in wide (place_in count classes k b) else Unknown) ≡ (if v then entry_in numbers (place_in count classes k b) else Unknown)
       by false is = refl
       by true is = same_place k b less is
 
-  pub room_some : ((k b : ℕ) → b < 256 → IsTrue (has_entry asked k b) → 0 < slice_index numbers (place_in count classes k b)) → (k b : ℕ) → b < 256 → IsTrue (has_entry new k b) → 0 < slice_index wide (place_in count classes k b)
+  pub room_some : ((k b : ℕ) → b < 256 → IsTrue (has_entry asked k b) → IsEntered (entry_in numbers (place_in count classes k b))) → (k b : ℕ) → b < 256 → IsTrue (has_entry new k b) → IsEntered (entry_in wide (place_in count classes k b))
   room_some old k b less has =
       let was = sym (same_asked k b) ∙ has in
-      subst (λ n. 0 < n) (sym (same_place k b less was)) (old k b less was)
+      subst IsEntered (sym (same_place k b less was)) (old k b less was)
 
 -- ---- one entry more
 
-module _ (asked new : Sets) (numbers : List ℕ) (place : ℕ → ℕ → ℕ) (layer byte e : ℕ) (noted : (k b : ℕ) → IsTrue (has_entry new k b) ↔ (IsTrue (has_entry asked k b) ⊎ ((k ≡ layer) × (byte ≡ b)))) (within : place layer byte < length numbers)
-    (some : 0 < e) (had : (slice_index numbers (place layer byte) ≡ 0) ⊎ (slice_index numbers (place layer byte) ≡ e)) (old : (k b : ℕ) → b < 256 → IsTrue (has_entry asked k b) → 0 < slice_index numbers (place k b)) where
-  abbrev After : List ℕ
+module _ (asked new : Sets) (numbers : List Entry) (place : ℕ → ℕ → ℕ) (layer byte : ℕ) (e : Entry) (noted : (k b : ℕ) → IsTrue (has_entry new k b) ↔ (IsTrue (has_entry asked k b) ⊎ ((k ≡ layer) × (byte ≡ b)))) (within : place layer byte < length numbers)
+    (some : IsEntered e) (had : (entry_in numbers (place layer byte) ≡ Unknown) ⊎ (entry_in numbers (place layer byte) ≡ e)) (old : (k b : ℕ) → b < 256 → IsTrue (has_entry asked k b) → IsEntered (entry_in numbers (place k b))) where
+  abbrev After : List Entry
   After = put numbers (place layer byte) e
 
-  here : (k b : ℕ) → k ≡ layer → byte ≡ b → slice_index After (place k b) ≡ e
+  here : (k b : ℕ) → k ≡ layer → byte ≡ b → entry_in After (place k b) ≡ e
   here k b row same =
       let at : place k b ≡ place layer byte = ap (λ n. place n b) row ∙ ap (place layer) (sym same) in
-      ap (slice_index After) at ∙ get_or-set_same numbers (place layer byte) e 0 within
+      ap (entry_in After) at ∙ get_or-set_same numbers (place layer byte) e Unknown within
 
   -- what was entered is still there
-  there : (k b : ℕ) → b < 256 → IsTrue (has_entry asked k b) → slice_index After (place k b) ≡ slice_index numbers (place k b)
-  there k b less has = elim (cases_eq (place layer byte) (place k b)) as (λ _. slice_index After (place k b) ≡ slice_index numbers (place k b)) [
+  there : (k b : ℕ) → b < 256 → IsTrue (has_entry asked k b) → entry_in After (place k b) ≡ entry_in numbers (place k b)
+  there k b less has = elim (cases_eq (place layer byte) (place k b)) as (λ _. entry_in After (place k b) ≡ entry_in numbers (place k b)) [
     | inl same ↦
-        let more : 0 < slice_index numbers (place layer byte) = subst (λ n. 0 < slice_index numbers n) (sym same) (old k b less has) in
-        let is : slice_index numbers (place layer byte) ≡ e = elim had as (λ _. slice_index numbers (place layer byte) ≡ e) [ inl none ↦ absurd (omega (arith, more, none)) | inr one ↦ one ] in
-        ap (slice_index After) (sym same) ∙ (get_or-set_same numbers (place layer byte) e 0 within ∙ (sym is ∙ ap (slice_index numbers) same))
-    | inr other ↦ get_or-set_other numbers (place layer byte) (place k b) e 0 (λ back. other (sym back))
+        let more : IsEntered (entry_in numbers (place layer byte)) = subst (λ n. IsEntered (entry_in numbers n)) (sym same) (old k b less has) in
+        let is : entry_in numbers (place layer byte) ≡ e = elim had as (λ _. entry_in numbers (place layer byte) ≡ e) [ inl none ↦ absurd (differ (subst IsEntered none more)) | inr one ↦ one ] in
+        ap (entry_in After) (sym same) ∙ (get_or-set_same numbers (place layer byte) e Unknown within ∙ (sym is ∙ ap (entry_in numbers) same))
+    | inr other ↦ get_or-set_other numbers (place layer byte) (place k b) e Unknown (λ back. other (sym back))
   ]
 
-  pub more_some : (k b : ℕ) → b < 256 → IsTrue (has_entry new k b) → 0 < slice_index After (place k b)
-  more_some k b less has = elim ((noted k b).0 has) as (λ _. 0 < slice_index After (place k b)) [
-    | inl was ↦ subst (λ n. 0 < n) (sym (there k b less was)) (old k b less was)
-    | inr (row, same) ↦ subst (λ n. 0 < n) (sym (here k b row same)) some
+  pub more_some : (k b : ℕ) → b < 256 → IsTrue (has_entry new k b) → IsEntered (entry_in After (place k b))
+  more_some k b less has = elim ((noted k b).0 has) as (λ _. IsEntered (entry_in After (place k b))) [
+    | inl was ↦ subst IsEntered (sym (there k b less was)) (old k b less was)
+    | inr (row, same) ↦ subst IsEntered (sym (here k b row same)) some
   ]
 
-  abbrev Before_at : ℕ → ℕ → ℕ
-  Before_at k b = if has_entry asked k b then slice_index numbers (place k b) else 0
+  abbrev Before_at : ℕ → ℕ → Entry
+  Before_at k b = if has_entry asked k b then entry_in numbers (place k b) else Unknown
 
-  abbrev After_at : ℕ → ℕ → ℕ
-  After_at k b = if has_entry new k b then slice_index After (place k b) else 0
+  abbrev After_at : ℕ → ℕ → Entry
+  After_at k b = if has_entry new k b then entry_in After (place k b) else Unknown
 
   pub more_entered : (k b : ℕ) → b < 256 → (After_at k b ≡ Before_at k b) ⊎ ((k ≡ layer) × (b ≡ byte) × (After_at k b ≡ e))
   more_entered k b less = by (has_entry new k b) refl
     where
-      was : (v : Bool) → has_entry asked k b ≡ v → has_entry new k b ≡ false → Before_at k b ≡ 0
-      was false is none = ap (λ v. if v then slice_index numbers (place k b) else 0) is
+      was : (v : Bool) → has_entry asked k b ≡ v → has_entry new k b ≡ false → Before_at k b ≡ Unknown
+      was false is none = ap (λ v. if v then entry_in numbers (place k b) else Unknown) is
       was true is none = absurd (differ (sym none ∙ (noted k b).1 (inl is)))
 
       by : (v : Bool) → has_entry new k b ≡ v → (After_at k b ≡ Before_at k b) ⊎ ((k ≡ layer) × (b ≡ byte) × (After_at k b ≡ e))
-      by false is = inl (ap (λ v. if v then slice_index After (place k b) else 0) is ∙ sym (was (has_entry asked k b) refl is))
+      by false is = inl (ap (λ v. if v then entry_in After (place k b) else Unknown) is ∙ sym (was (has_entry asked k b) refl is))
       by true is =
-          let now : After_at k b ≡ slice_index After (place k b) = ap (λ v. if v then slice_index After (place k b) else 0) is in
+          let now : After_at k b ≡ entry_in After (place k b) = ap (λ v. if v then entry_in After (place k b) else Unknown) is in
           elim ((noted k b).0 is) as (λ _. (After_at k b ≡ Before_at k b) ⊎ ((k ≡ layer) × (b ≡ byte) × (After_at k b ≡ e))) [
-            | inl had ↦ inl (now ∙ (there k b less had ∙ sym (ap (λ v. if v then slice_index numbers (place k b) else 0) had)))
+            | inl had ↦ inl (now ∙ (there k b less had ∙ sym (ap (λ v. if v then entry_in numbers (place k b) else Unknown) had)))
             | inr (row, same) ↦ inr (row, sym same, now ∙ here k b row same)
           ]
 
 -- as the code enters it
-module _ (asked : Sets) (numbers : List ℕ) (count : ℕ) (classes : List ℕ) (layer byte e place had : ℕ) (was one with_one : bytes.FinSet nat_cmp) (in_asked : layer < length asked) (at : place ≡ place_in count classes layer byte)
-    (in_numbers : place < length numbers) (read : had ≡ get_or numbers place had) (free : (had ≡ 0) ⊎ (had ≡ e)) (some : 0 < e) (read_set : was ≡ get_or asked layer was) (single : one ≡ bytes.insert bytes.empty byte)
-    (joined : with_one ≡ bytes.union was one) (old : (k b : ℕ) → b < 256 → IsTrue (has_entry asked k b) → 0 < slice_index numbers (place_in count classes k b)) where
+module _ (asked : Sets) (numbers : List Entry) (count : ℕ) (classes : List ℕ) (layer byte : ℕ) (e : Entry) (place : ℕ) (had : Entry) (was one with_one : bytes.FinSet nat_cmp) (in_asked : layer < length asked) (at : place ≡ place_in count classes layer byte)
+    (in_numbers : place < length numbers) (read : had ≡ get_or numbers place had) (free : (had ≡ Unknown) ⊎ (had ≡ e)) (some : IsEntered e) (read_set : was ≡ get_or asked layer was) (single : one ≡ bytes.insert bytes.empty byte)
+    (joined : with_one ≡ bytes.union was one) (old : (k b : ℕ) → b < 256 → IsTrue (has_entry asked k b) → IsEntered (entry_in numbers (place_in count classes k b))) where
   noted : (k b : ℕ) → IsTrue (has_entry (put asked layer with_one) k b) ↔ (IsTrue (has_entry asked k b) ⊎ ((k ≡ layer) × (byte ≡ b)))
   noted = is_noted asked (put asked layer with_one) layer byte was in_asked read_set (ap (put asked layer) (joined ∙ ap (bytes.union was) single))
 
-  free_there : (slice_index numbers (place_in count classes layer byte) ≡ 0) ⊎ (slice_index numbers (place_in count classes layer byte) ≡ e)
+  free_there : (entry_in numbers (place_in count classes layer byte) ≡ Unknown) ⊎ (entry_in numbers (place_in count classes layer byte) ≡ e)
   free_there =
-      let is : slice_index numbers (place_in count classes layer byte) ≡ had = ap (slice_index numbers) (sym at) ∙ sym (get_or_read numbers place had in_numbers read 0) in
-      elim free as (λ _. (slice_index numbers (place_in count classes layer byte) ≡ 0) ⊎ (slice_index numbers (place_in count classes layer byte) ≡ e)) [ inl none ↦ inl (is ∙ none) | inr same ↦ inr (is ∙ same) ]
+      let is : entry_in numbers (place_in count classes layer byte) ≡ had = ap (entry_in numbers) (sym at) ∙ sym (get_or_read numbers place had in_numbers read Unknown) in
+      elim free as (λ _. (entry_in numbers (place_in count classes layer byte) ≡ Unknown) ⊎ (entry_in numbers (place_in count classes layer byte) ≡ e)) [ inl none ↦ inl (is ∙ none) | inr same ↦ inr (is ∙ same) ]
 
   within : place_in count classes layer byte < length numbers
   within = subst (λ n. n < length numbers) at in_numbers
 
-  pub entered_some : (k b : ℕ) → b < 256 → IsTrue (has_entry (put asked layer with_one) k b) → 0 < slice_index (put numbers place e) (place_in count classes k b)
+  pub entered_some : (k b : ℕ) → b < 256 → IsTrue (has_entry (put asked layer with_one) k b) → IsEntered (entry_in (put numbers place e) (place_in count classes k b))
   entered_some k b less has =
-      subst (λ n. 0 < slice_index (put numbers n e) (place_in count classes k b)) (sym at)
+      subst (λ n. IsEntered (entry_in (put numbers n e) (place_in count classes k b))) (sym at)
       (more_some asked (put asked layer with_one) numbers (place_in count classes) layer byte e noted within some free_there old k b less has)
 
   pub entered : (k b : ℕ) → b < 256 →
-      ((if has_entry (put asked layer with_one) k b then slice_index (put numbers place e) (place_in count classes k b) else 0) ≡ (if has_entry asked k b then slice_index numbers (place_in count classes k b) else 0)) ⊎ ((k ≡ layer) × (b ≡ byte) ×
-      ((if has_entry (put asked layer with_one) k b then slice_index (put numbers place e) (place_in count classes k b) else 0) ≡ e))
+      ((if has_entry (put asked layer with_one) k b then entry_in (put numbers place e) (place_in count classes k b) else Unknown) ≡ (if has_entry asked k b then entry_in numbers (place_in count classes k b) else Unknown)) ⊎ ((k ≡ layer) × (b ≡ byte) ×
+      ((if has_entry (put asked layer with_one) k b then entry_in (put numbers place e) (place_in count classes k b) else Unknown) ≡ e))
   entered k b less =
-      subst (λ n. ((if has_entry (put asked layer with_one) k b then slice_index (put numbers n e) (place_in count classes k b) else 0) ≡ (if has_entry asked k b then slice_index numbers (place_in count classes k b) else 0)) ⊎ ((k ≡ layer) × (b ≡ byte) ×
-      ((if has_entry (put asked layer with_one) k b then slice_index (put numbers n e) (place_in count classes k b) else 0) ≡ e))) (sym at)
+      subst (λ n. ((if has_entry (put asked layer with_one) k b then entry_in (put numbers n e) (place_in count classes k b) else Unknown) ≡ (if has_entry asked k b then entry_in numbers (place_in count classes k b) else Unknown)) ⊎ ((k ≡ layer) × (b ≡ byte) ×
+      ((if has_entry (put asked layer with_one) k b then entry_in (put numbers n e) (place_in count classes k b) else Unknown) ≡ e))) (sym at)
       (more_entered asked (put asked layer with_one) numbers (place_in count classes) layer byte e noted within some free_there old k b less)

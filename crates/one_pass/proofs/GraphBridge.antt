@@ -57,7 +57,7 @@ own_ends ws at ms w = (
       ((h.0, 0), h.2, there, refl, h.3, h.4),
 )
 
-numbers_are : (cells : List NamedLink) (layer : List (ℕ × ℕ)) → numbers_of (map (source_of cells) layer) ≡ sets_of layer
+pub numbers_are : (cells : List NamedLink) (layer : List (ℕ × ℕ)) → numbers_of (map (source_of cells) layer) ≡ sets_of layer
 numbers_are cells [] = refl
 numbers_are cells (p ∷ layer) = ap (λ xs. p.0 ∷ xs) (numbers_are cells layer)
 

@@ -1,28 +1,32 @@
 -- What is known of whole layers: it stays true while the table grows, and more may be entered.
-use Rattle.std.proofs.Common.{◌≡◌, ◌⊎◌, ℕ, zero, suc, ◌+◌, ◌<◌, ◌≤◌, Bool, true, false, List, [], ◌∷◌, ◌++◌, length, get_or, map, take, Some, inl, inr, refl, sym, ap, subst, arith, ◌∙◌, length-append, ◌-◌, add-one, if◌then◌else◌}
-use Rattle.std.specs.Prelude.{◌&&◌, ◌==◌, slice_get, slice_index}
+use Rattle.std.proofs.Common.{◌≡◌, ◌⊎◌, ℕ, zero, suc, ◌+◌, ◌<◌, ◌≤◌, Bool, true, false, List, [], ◌∷◌, ◌++◌, length, get_or, map, take, Some, inl, inr, refl, sym, ap, subst, arith, ◌∙◌, length-append, add-one, if◌then◌else◌}
+use Rattle.std.specs.Prelude.{◌&&◌, ◌==◌, slice_get}
 use Rattle.std.specs.Bool.{Decides}
 use Rattle.std.proofs.lemmas.Bool.{and_from, and_parts, eqb-true, eq-eqb}
 use Rattle.std.proofs.lemmas.List.{get_or_append_left, take_more}
 use Rattle.std.proofs.lemmas.Option.{slice_get_within, same_Some}
 use Rattle.std.specs.List.{list_any}
 use Rattle.std.specs.Str.{bytes_eq}
-use Rattle.span_core.proofs.HasLaws.{Has-take_more_cases}
+use Rattle.span_core.proofs.HasLaws.{Has-append_cases, Has-take_more_cases}
 use Rattle.span_core.specs.declared.edge.Edge.{Edge}
 use Rattle.marked_automaton.specs.Automaton.{Automaton}
-use Rattle.span_core.specs.Lists.{Has}
+use Rattle.span_core.specs.Lists.{AreDistinct, Has}
 use Rattle.span_core.proofs.ListLaws.{get_left, get_last}
-use Rattle.automaton_reading.specs.Reading.{LookUp, byte_read, Reach, edges}
+use Rattle.automaton_reading.specs.Reading.{LookUp, byte_read, edges}
+use Rattle.output_graph.specs.Named.{handing, handing_to}
+use Rattle.output_graph.specs.Sound.{edges_of}
 use Rattle.output_graph.specs.Source.{Edges}
 use Rattle.output_graph.proofs.HeldLaws.{take_next}
 use Rattle.one_pass.specs.declared.entries.Entries.{Entries}
+use Rattle.one_pass.specs.declared.entries.Entry.{Entry}
+use Rattle.one_pass.specs.declared.entries.Entry.TheVariants.{Unknown, Glide, Run}
 use Rattle.one_pass.specs.KnownSteps.{KnownStep}
-use Rattle.set_table.specs.Tabled.{HasEdges, Stays, Tabled, edge_named, look_up, set_at, with_set}
+use Rattle.set_table.specs.Tabled.{HasEdges, Tabled, edge_named, look_up, set_at, with_set}
 use Rattle.set_table.proofs.NamingLaws.{named_stay}
 use Rattle.one_pass.specs.Entered.{has_entry, place_in}
 use Rattle.one_pass.specs.Entries.{entry_at}
 use Rattle.one_pass.proofs.EntryLaws.{within_asked}
-use Rattle.one_pass.specs.Known.{AreAlike, AreLookUps, AreStill, IsAlike, IsEntry, IsKnown, IsLookUp, IsStepOf, layer_at}
+use Rattle.one_pass.specs.Known.{AreAlike, AreLookUps, IsAlike, IsEntry, IsKnown, IsLookUp, layer_at}
 use Rattle.one_pass.specs.Passes.{HasGrown}
 
 -- ---- a table that grows
@@ -64,17 +68,10 @@ module _ (t u : Tabled) (more : List (List ℕ)) (graph : u.graph ≡ t.graph) (
   look_ups_grown b (s ∷ sets) [] r = absurd r
   look_ups_grown b (s ∷ sets) (g ∷ groups) r = (look_up_grown b s g r.0, look_ups_grown b sets groups r.1)
 
-  still_grown : (b : ℕ) (sets : List ℕ) → AreStill t b sets → AreStill u b sets
-  still_grown b sets still s h =
-      let one = still s h in (
-        given_grown s one.0,
-        sym (edges_grown s b one.0) ∙ (one.1 ∙ ap (λ (set : List ℕ). let r : Reach = record { marks = 0; to = set } in r ∷ []) (sym (named_grown s one.0))),
-      )
-
-  entry_grown : (layers : List (List ℕ)) (steps : List KnownStep) (b : ℕ) (sets : List ℕ) (e : ℕ) → IsEntry t layers steps b sets e → IsEntry u layers steps b sets e
-  entry_grown layers steps b sets e (inl none) = inl none
-  entry_grown layers steps b sets e (inr (inl still)) = inr (inl (still.0, still_grown b sets still.1))
-  entry_grown layers steps b sets e (inr (inr (p, step, is, at, of))) = inr (inr (p, step, is, at, record { look_ups = look_ups_grown b sets step.program.groups of.look_ups; next = of.next }))
+  entry_grown : (layers : List (List ℕ)) (steps : List KnownStep) (b : ℕ) (sets : List ℕ) (e : Entry) → IsEntry t layers steps b sets e → IsEntry u layers steps b sets e
+  entry_grown layers steps b sets Unknown is = tt
+  entry_grown layers steps b sets (Glide next) is = record { to = is.to; there = is.there; look_ups = look_ups_grown b sets (handing is.to) is.look_ups; distinct = is.distinct }
+  entry_grown layers steps b sets (Run p) (step, at, of) = (step, at, record { look_ups = look_ups_grown b sets step.program.groups of.look_ups; next = of.next })
 
   pub known_grown : (layers : List (List ℕ)) (entries : Entries) (steps : List KnownStep) → IsKnown t layers entries steps → IsKnown u layers entries steps
   known_grown layers entries steps k = record {
@@ -87,8 +84,8 @@ known_read t u sets look_ups layers entries steps g k = known_grown t u g.kept.0
 
 -- ---- nothing is known
 
-pub known_none : (t : Tabled) (layers : List (List ℕ)) (entries : Entries) (steps : List KnownStep) → length entries.asked.items ≡ 0 → ((k b : ℕ) → entry_at entries k b ≡ 0) → IsKnown t layers entries steps
-known_none t layers entries steps none each = record { few = omega arith; each = λ k b small. inl (each k b) }
+pub known_none : (t : Tabled) (layers : List (List ℕ)) (entries : Entries) (steps : List KnownStep) → length entries.asked.items ≡ 0 → ((k b : ℕ) → entry_at entries k b ≡ Unknown) → IsKnown t layers entries steps
+known_none t layers entries steps none each = record { few = omega arith; each = λ k b small. subst (IsEntry t layers steps b (layer_at layers k)) (sym (each k b)) tt }
 
 -- ---- one layer more
 
@@ -113,14 +110,14 @@ with_layer layers s k h = by (list_any (bytes_eq s) layers)
     by true = refl
     by false = get_or_append_left layers (s ∷ []) [] k h
 
--- an entry is 0, or one of a layer within
-none_or_within : (entries : Entries) (k b : ℕ) → (entry_at entries k b ≡ 0) ⊎ (k < length entries.asked.items)
+-- there is no entry, or it is one of a layer within
+none_or_within : (entries : Entries) (k b : ℕ) → (entry_at entries k b ≡ Unknown) ⊎ (k < length entries.asked.items)
 none_or_within entries k b = by (has_entry entries.asked.items k b) refl
   where
-    n : ℕ
-    n = slice_index entries.numbers.items (place_in entries.classes.count entries.classes.numbers k b)
+    n : Entry
+    n = get_or entries.entered.items (place_in entries.classes.count entries.classes.numbers k b) Unknown
 
-    by : (v : Bool) → has_entry entries.asked.items k b ≡ v → ((if v then n else 0) ≡ 0) ⊎ (k < length entries.asked.items)
+    by : (v : Bool) → has_entry entries.asked.items k b ≡ v → ((if v then n else Unknown) ≡ Unknown) ⊎ (k < length entries.asked.items)
     by false is = inl refl
     by true is = inr (within_asked entries.asked.items k b is)
 
@@ -128,17 +125,17 @@ pub known_layer : (t : Tabled) (layers : List (List ℕ)) (entries : Entries) (s
 known_layer t layers entries steps s known = record {
   few = omega (arith, known.few, with_length layers s);
   each = λ k b small. elim (none_or_within entries k b) as (λ _. IsEntry t (with_set layers s) steps b (layer_at (with_set layers s) k) (entry_at entries k b)) [
-    | inl none ↦ inl none
+    | inl none ↦ subst (IsEntry t (with_set layers s) steps b (layer_at (with_set layers s) k)) (sym none) tt
     | inr row ↦
         let within : k < length layers = omega (arith, row, known.few) in
         subst (λ (sets : List ℕ). IsEntry t (with_set layers s) steps b sets (entry_at entries k b)) (sym (with_layer layers s k within)) (still_true b (layer_at layers k) (entry_at entries k b) (known.each k b small))
   ];
 }
   where
-    still_true : (b : ℕ) (sets : List ℕ) (e : ℕ) → IsEntry t layers steps b sets e → IsEntry t (with_set layers s) steps b sets e
-    still_true b sets e (inl none) = inl none
-    still_true b sets e (inr (inl still)) = inr (inl still)
-    still_true b sets e (inr (inr (p, step, is, at, of))) = inr (inr (p, step, is, at, record { look_ups = of.look_ups; next = with_keeps layers s step.next step.program.targets of.next }))
+    still_true : (b : ℕ) (sets : List ℕ) (e : Entry) → IsEntry t layers steps b sets e → IsEntry t (with_set layers s) steps b sets e
+    still_true b sets Unknown is = tt
+    still_true b sets (Glide next) is = record { to = is.to; there = with_keeps layers s next is.to is.there; look_ups = is.look_ups; distinct = is.distinct }
+    still_true b sets (Run p) (step, at, of) = (step, at, record { look_ups = of.look_ups; next = with_keeps layers s step.next step.program.targets of.next })
 
 -- ---- room for more layers
 
@@ -157,20 +154,20 @@ known_step t layers entries steps step known = record {
   each = λ k b small. still_true b (layer_at layers k) (entry_at entries k b) (known.each k b small);
 }
   where
-    still_true : (b : ℕ) (sets : List ℕ) (e : ℕ) → IsEntry t layers steps b sets e → IsEntry t layers (steps ++ step ∷ []) b sets e
-    still_true b sets e (inl none) = inl none
-    still_true b sets e (inr (inl still)) = inr (inl still)
-    still_true b sets e (inr (inr (p, old, is, at, of))) = inr (inr (p, old, is, get_left steps (step ∷ []) p old at, of))
+    still_true : (b : ℕ) (sets : List ℕ) (e : Entry) → IsEntry t layers steps b sets e → IsEntry t layers (steps ++ step ∷ []) b sets e
+    still_true b sets Unknown is = tt
+    still_true b sets (Glide next) is = is
+    still_true b sets (Run p) (old, at, of) = (old, get_left steps (step ∷ []) p old at, of)
 
 -- the step that came last
-pub entry_last : (t : Tabled) (layers : List (List ℕ)) (steps : List KnownStep) (step : KnownStep) (b : ℕ) (sets : List ℕ) (place e : ℕ) → place ≡ length steps → e ≡ place + 2 →
-    AreLookUps t b sets step.program.groups → slice_get layers step.next ≡ Some step.program.targets → IsEntry t layers (steps ++ step ∷ []) b sets e
-entry_last t layers steps step b sets place e is sum look_ups next =
-    inr (inr (length steps, step, omega arith, get_last steps step, record { look_ups = look_ups; next = next }))
+pub entry_last : (t : Tabled) (layers : List (List ℕ)) (steps : List KnownStep) (step : KnownStep) (b : ℕ) (sets : List ℕ) (place : ℕ) → place ≡ length steps →
+    AreLookUps t b sets step.program.groups → slice_get layers step.next ≡ Some step.program.targets → IsEntry t layers (steps ++ step ∷ []) b sets (Run place)
+entry_last t layers steps step b sets place is look_ups next =
+    (step, subst (λ k. slice_get (steps ++ step ∷ []) k ≡ Some step) (sym is) (get_last steps step), record { look_ups = look_ups; next = next })
 
 -- ---- one entry more
 
-pub known_entry : (t : Tabled) (layers : List (List ℕ)) (old new : Entries) (steps : List KnownStep) (layer byte e : ℕ) →
+pub known_entry : (t : Tabled) (layers : List (List ℕ)) (old new : Entries) (steps : List KnownStep) (layer byte : ℕ) (e : Entry) →
     ((k b : ℕ) → b < 256 → (entry_at new k b ≡ entry_at old k b) ⊎ ((k ≡ layer) × (b ≡ byte) × (entry_at new k b ≡ e))) → length new.asked.items ≡ length old.asked.items → IsEntry t layers steps byte (layer_at layers layer) e →
     IsKnown t layers old steps → IsKnown t layers new steps
 known_entry t layers old new steps layer byte e entered rows entry known = record {
@@ -201,12 +198,10 @@ look_ups_alike t b other (s ∷ sets) (g ∷ groups) alike all =
       look_ups_alike t b other sets groups (λ n h. alike n (inr h)) all.1,
     )
 
-pub entry_alike : (t : Tabled) (layers : List (List ℕ)) (steps : List KnownStep) (b other : ℕ) (sets : List ℕ) (e : ℕ) → AreAlike t b other sets → IsEntry t layers steps other sets e → IsEntry t layers steps b sets e
-entry_alike t layers steps b other sets e alike (inl none) = inl none
-entry_alike t layers steps b other sets e alike (inr (inl still)) =
-    inr (inl (still.0, λ s h. let one = alike s h in (one.given, one.same ∙ (still.1 s h).1)))
-entry_alike t layers steps b other sets e alike (inr (inr (p, step, is, at, of))) =
-    inr (inr (p, step, is, at, record { look_ups = look_ups_alike t b other sets step.program.groups alike of.look_ups; next = of.next }))
+pub entry_alike : (t : Tabled) (layers : List (List ℕ)) (steps : List KnownStep) (b other : ℕ) (sets : List ℕ) (e : Entry) → AreAlike t b other sets → IsEntry t layers steps other sets e → IsEntry t layers steps b sets e
+entry_alike t layers steps b other sets Unknown alike is = tt
+entry_alike t layers steps b other sets (Glide next) alike is = record { to = is.to; there = is.there; look_ups = look_ups_alike t b other sets (handing is.to) alike is.look_ups; distinct = is.distinct }
+entry_alike t layers steps b other sets (Run p) alike (step, at, of) = (step, at, record { look_ups = look_ups_alike t b other sets step.program.groups alike of.look_ups; next = of.next })
 
 -- what `==` says of two edges
 pub same_edge : (a b : Edge) → Decides ((a.marks == b.marks) && (a.to == b.to)) (a ≡ b)
@@ -242,32 +237,44 @@ look_ups_length t b [] (g ∷ groups) all = absurd all
 look_ups_length t b (s ∷ sets) [] all = absurd all
 look_ups_length t b (s ∷ sets) (g ∷ groups) all = ap suc (look_ups_length t b sets groups all.1)
 
--- ---- sets that are still, one after another
-
-pub still_more : (t : Tabled) (b : ℕ) (sets : List ℕ) (k x : ℕ) → k < length sets → x ≡ get_or sets k 0 → AreStill t b (take k sets) → AreStill t b (x ∷ []) → AreStill t b (take (k + 1) sets)
-still_more t b sets k x within is all one s h =
-    elim (Has-take_more_cases sets k 0 s within h) as (λ _. (s < length t.sets) × Stays t s b) [
-      | inl old ↦ all s old
-      | inr same ↦ one s (inl (is ∙ same))
-    ]
+-- ---- sets that hand their cells on, one after another
 
 lone_edge : (es : List Edge) (e : Edge) → length es ≡ 1 → e ≡ get_or es 0 e → es ≡ e ∷ []
 lone_edge [] e one first = absurd (omega (arith, one))
 lone_edge (x ∷ []) e one first = ap (λ (y : Edge). y ∷ []) (sym first)
 lone_edge (x ∷ y ∷ es) e one first = absurd (omega (arith, one))
 
--- the one edge of a set leads back to it
-pub still_is : (t : Tabled) (set b s : ℕ) (es : List Edge) (e : Edge) → (set < length t.sets) × HasEdges t (look_up t set (byte_read b)) es →
-    length es ≡ 1 → e ≡ get_or es 0 e → e ≡ record { marks = 0; to = set } → (set ≡ s) ⊎ ⊥ → (s < length t.sets) × Stays t s b
-still_is t set b s es e has one first back (inr none) = absurd none
-still_is t set b s es e has one first back (inl same) =
-    let only : es ≡ record { marks = 0; to = set } ∷ [] = lone_edge es e one first ∙ ap (λ (y : Edge). y ∷ []) back in
-    subst (λ n. (n < length t.sets) × Stays t n b) same
-    (has.0, sym has.1.named ∙ ap (map (edge_named t.sets)) only)
+-- the one edge of a set hands its cell on
+pub handed_is : (t : Tabled) (set b : ℕ) (es : List Edge) (e : Edge) → (set < length t.sets) × HasEdges t (look_up t set (byte_read b)) es → Has t.look_ups (look_up t set (byte_read b)) →
+    length es ≡ 1 → e ≡ get_or es 0 e → e.marks ≡ 0 → IsLookUp t b set (handing_to e.to)
+handed_is t set b es e has asked one first none = record {
+  given = has.0;
+  asked = asked;
+  by = es;
+  are = ap edges_of (lone_edge es e one first) ∙ ap (λ m. (m, e.to) ∷ []) none;
+  edges = has.1;
+}
+
+pub distinct_more : (xs : List ℕ) (x : ℕ) → AreDistinct xs → (Has xs x → ⊥) → AreDistinct (xs ++ x ∷ [])
+distinct_more [] x d new = (λ h. h, tt)
+distinct_more (y ∷ xs) x d new = (
+  λ h. elim (Has-append_cases xs (x ∷ []) y h) as (λ _. ⊥) [ inl old ↦ d.0 old | inr (inl e) ↦ new (inl (sym e)) | inr (inr none) ↦ none ],
+  distinct_more xs x d.1 (λ h. new (inr h)),
+)
+
+handing_more : (to : List ℕ) (s : ℕ) → handing (to ++ s ∷ []) ≡ handing to ++ handing_to s ∷ []
+handing_more [] s = refl
+handing_more (x ∷ to) s = ap (λ (gs : List Edges). handing_to x ∷ gs) (handing_more to s)
+
+-- ---- the sets that come next are distinct, and their number is that of the layer
+
+pub handing_length : (to : List ℕ) → length (handing to) ≡ length to
+handing_length [] = refl
+handing_length (x ∷ to) = ap suc (handing_length to)
 
 -- ---- layers keep their numbers
 
-layer_there : (layers : List (List ℕ)) (k : ℕ) → k < length layers → slice_get layers k ≡ Some (layer_at layers k)
+pub layer_there : (layers : List (List ℕ)) (k : ℕ) → k < length layers → slice_get layers k ≡ Some (layer_at layers k)
 layer_there [] k h = absurd (omega arith)
 layer_there (x ∷ layers) zero h = refl
 layer_there (x ∷ layers) (suc k) h = layer_there layers k (omega arith)
@@ -283,19 +290,6 @@ layer_kept old new k keeps within =
 
 -- ---- what an entry says
 
-pub entry_still : (t : Tabled) (layers : List (List ℕ)) (steps : List KnownStep) (b : ℕ) (sets : List ℕ) (e : ℕ) → e ≡ 1 → IsEntry t layers steps b sets e → AreStill t b sets
-entry_still t layers steps b sets e one (inl none) = absurd (omega arith)
-entry_still t layers steps b sets e one (inr (inl still)) = still.1
-entry_still t layers steps b sets e one (inr (inr (p, step, is, at, of))) = absurd (omega arith)
-
-pub entry_step : (t : Tabled) (layers : List (List ℕ)) (steps : List KnownStep) (b : ℕ) (sets : List ℕ) (e : ℕ) → (e ≡ 1 → ⊥) → (e ≡ 0 → ⊥) → IsEntry t layers steps b sets e →
-    (step : KnownStep) × (slice_get steps (e - 2) ≡ Some step) × IsStepOf t layers b sets step
-entry_step t layers steps b sets e not_one not_none (inl none) = absurd (not_none none)
-entry_step t layers steps b sets e not_one not_none (inr (inl still)) = absurd (not_one still.0)
-entry_step t layers steps b sets e not_one not_none (inr (inr (p, step, is, at, of))) =
-    let same : p ≡ e - 2 = omega arith in
-    (step, subst (λ n. slice_get steps n ≡ Some step) same at, of)
-
 pub step_is : (steps : List KnownStep) (k : ℕ) (x y : KnownStep) → slice_get steps k ≡ Some x → slice_get steps k ≡ Some y → x ≡ y
 step_is steps k x y at there = same_Some x y (sym at ∙ there)
 
@@ -309,3 +303,8 @@ pub look_ups_next : (t : Tabled) (b : ℕ) (sets : List ℕ) (k : ℕ) (groups l
 look_ups_next t b sets k groups later group within all one is =
     subst (λ (gs : List Edges). AreLookUps t b (take (k + 1) sets) gs) (sym is)
     (subst (λ (ss : List ℕ). AreLookUps t b ss (groups ++ group ∷ [])) (sym (take_more sets k 0 within)) (look_ups_more t b (take k sets) groups (get_or sets k 0) group all one))
+
+pub handed_next : (t : Tabled) (b : ℕ) (sets : List ℕ) (k : ℕ) (to later : List ℕ) (next : ℕ) → k < length sets → AreLookUps t b (take k sets) (handing to) → IsLookUp t b (get_or sets k 0) (handing_to next) →
+    later ≡ to ++ next ∷ [] → AreLookUps t b (take (k + 1) sets) (handing later)
+handed_next t b sets k to later next within all one is =
+    look_ups_next t b sets k (handing to) (handing later) (handing_to next) within all one (ap handing is ∙ handing_more to next)

@@ -30,3 +30,4 @@ pub mod WaitLaws
 pub mod Weighing
 pub mod Whole
 pub mod OpenLaws
+pub mod NumberedLaws

@@ -1,23 +1,18 @@
 -- A layer that is stepped by a program of its sets' edges has been read.
-use Rattle.std.proofs.Common.{◌≡◌, ℕ, zero, suc, ◌+◌, ◌-◌, ◌<◌, List, [], ◌∷◌, length, drop, Some, refl, sym, ap, subst, arith, ◌∙◌, add-one}
+use Rattle.std.proofs.Common.{◌≡◌, ℕ, zero, suc, ◌+◌, ◌<◌, List, [], ◌∷◌, length, drop, Some, refl, sym, ap, subst, arith, ◌∙◌, add-one}
 use Rattle.std.specs.Prelude.{slice_get}
 use Rattle.std.proofs.lemmas.List.{length-map}
 use Rattle.std.proofs.lemmas.Option.{slice_get_within}
-use Rattle.span_core.specs.Lists.{Has}
 use Rattle.span_core.specs.declared.edge.Edge.{Edge}
-use Rattle.span_core.proofs.HasLaws.{Has-map}
 use Rattle.automaton_reading.specs.Reading.{byte_read}
 use Rattle.set_table.specs.Tabled.{Tabled, look_up}
 use Rattle.set_table.proofs.OnceLaws.{once_is_same}
-use Rattle.output_graph.specs.Graph.{AreApart, Graph, IsCost, IsStepped, Source, sets_of, sources, targets}
+use Rattle.output_graph.specs.Graph.{AreApart, Graph, IsCost, IsStepped, sets_of, sources, targets}
 use Rattle.output_graph.specs.Programs.{AreStepped, IsRun}
 use Rattle.output_graph.specs.Source.{Edges}
-use Rattle.one_pass.specs.declared.known.Known.{Known}
-use Rattle.one_pass.specs.KnownSteps.{KnownStep, known_step_at}
-use Rattle.one_pass.proofs.KnownStepLaws.{step_there}
 use Rattle.one_pass.specs.declared.pass.Pass.{Pass}
 use Rattle.one_pass.specs.Going.{GoesOn, Reads, come}
-use Rattle.one_pass.specs.Known.{AreLookUps, AreStill, IsEntry, IsLookUp, IsStepOf, layer_at}
+use Rattle.one_pass.specs.Known.{AreLookUps, IsLookUp}
 use Rattle.one_pass.specs.Layers.{HasCost}
 use Rattle.one_pass.specs.Passes.{AllStayOn}
 use Rattle.one_pass.specs.Places.{byte_at}
@@ -25,7 +20,6 @@ use Rattle.one_pass.specs.Seen.{whole}
 use Rattle.one_pass.specs.Turned.{HasTurned}
 use Rattle.one_pass.proofs.Faulting.{ready_later}
 use Rattle.one_pass.proofs.GraphBridge.{own_cost, turned_count}
-use Rattle.one_pass.proofs.KnownLaws.{entry_step, layer_is}
 use Rattle.one_pass.proofs.PlaceLaws.{block_at, stays_read}
 use Rattle.one_pass.proofs.Telling.{stays_tells}
 use Rattle.one_pass.proofs.Sources.{IsSteppedTo, layer_count, stepped_all, stepped_more, stepped_none, turned_first}
@@ -94,24 +88,3 @@ module _ {t : Tabled} {p : Pass} {n b : ℕ} (goes : GoesOn t p) where
     read = stays_read t.graph (byte_at p.at b) (come t p n) (λ x h. (stays_tells t x.set b (goes.ready.given x h) (stay x h), stay x h));
     goes_on = record { ready = ready_later (p.at + 1) goes.ready (omega arith); known = goes.known; waits = goes.waits };
   }
-
-  -- where each set is still, nothing happens
-  pub still_reads : AreStill t b (sets_of p.graph.layer) → Reads (byte_at p.at b ∷ []) t p n t (record { graph = p.graph; known = p.known; search = p.search; at = p.at + 1 }) n
-  still_reads still =
-      let first = turned_first t p n goes in
-      stay_reads (λ x h. (still x.set (subst (λ (xs : List ℕ). Has xs x.set) (sym first.sets) (Has-map (λ (y : Source). y.set) (sources p.graph) x h))).1)
-
--- ---- the program that is entered for a byte of a layer
-
-module _ (known : Known) (layer : ℕ) {t : Tabled} {b e : ℕ} {sets : List ℕ} (there : slice_get known.layers layer ≡ Some sets) (not_still : e ≡ 1 → ⊥) (not_none : e ≡ 0 → ⊥)
-    (entry : IsEntry t known.layers known.steps b (layer_at known.layers layer) e) where
-  abbrev found : (step : KnownStep) × (slice_get known.steps (e - 2) ≡ Some step) × IsStepOf t known.layers b (layer_at known.layers layer) step
-  found = entry_step t known.layers known.steps b (layer_at known.layers layer) e not_still not_none entry
-
-  pub step_within : e - 2 < length known.steps
-  step_within = slice_get_within known.steps (e - 2) found.0 found.1
-
-  pub step_found : IsStepOf t known.layers b sets (known_step_at known.steps (e - 2))
-  step_found =
-      subst (λ (x : KnownStep). IsStepOf t known.layers b sets x) (sym (step_there known.steps (e - 2) found.0 found.1))
-      (subst (λ (xs : List ℕ). IsStepOf t known.layers b xs found.0) (layer_is known.layers layer sets there) found.2)

@@ -1,5 +1,5 @@
 -- A pass as a value, beside the table that it reads by: where it may go on, and what its acts do.
-use Rattle.std.specs.Prelude.{ℕ, List, [], ◌∷◌}
+use Rattle.std.specs.Prelude.{◌≡◌, ℕ, ◌+◌, List, [], ◌∷◌, take}
 use Rattle.automaton_reading.specs.Reading.{ended, look_ups_asked}
 use Rattle.output_graph.specs.Graph.{Graph, sources}
 use Rattle.set_table.specs.Tabled.{Tabled}
@@ -9,7 +9,7 @@ use Rattle.one_pass.specs.Faults.{IsFaultAt, IsFaultOf}
 use Rattle.one_pass.specs.Ahead.{KnowsWaiting}
 use Rattle.one_pass.specs.Known.{Knows}
 use Rattle.one_pass.specs.Passes.{HasEnded, HasRead, HasStopped, HasStoppedAt, IsReady, Progress, pass, sets_of, stop}
-use Rattle.one_pass.specs.Places.{ReadingPlace, end_at}
+use Rattle.one_pass.specs.Places.{ReadingPlace, bytes_at, end_at}
 use Rattle.one_pass.specs.Seen.{ending_from, whole}
 
 -- how far the pass has come
@@ -26,6 +26,11 @@ pub record GoesOn (t : Tabled) (p : Pass) : Type 0 where
 pub record Reads (ps : List ReadingPlace) (t : Tabled) (p : Pass) (n : ℕ) (u : Tabled) (q : Pass) (m : ℕ) : Type 0 where
   pub read : HasRead t.graph ps (come t p n) (come u q m)
   pub goes_on : GoesOn u q
+
+-- it has read so many bytes at the front of a piece
+pub record IsAdvanced (t0 : Tabled) (p0 : Pass) (n0 : ℕ) (piece : List ℕ) (i : ℕ) (t : Tabled) (p : Pass) (n : ℕ) : Type 0 where
+  pub reads : Reads (bytes_at p0.at (take i piece)) t0 p0 n0 t p n
+  pub at : p.at ≡ p0.at + i
 
 -- or it was given up at one of them
 pub record GivesUp (ps : List ReadingPlace) (t : Tabled) (p : Pass) (n : ℕ) (u : Tabled) (m : ℕ) (e : TableFault) : Type 0 where

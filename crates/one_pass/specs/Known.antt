@@ -1,15 +1,18 @@
 -- What is kept of whole layers: what each does on a byte.
-use Rattle.std.specs.Prelude.{◌≡◌, ◌⊎◌, ℕ, ◌+◌, ◌<◌, ◌≤◌, List, [], ◌∷◌, length, Option, Some, None, slice_get, slice_index_or, IsTrue}
+use Rattle.std.specs.Prelude.{◌≡◌, ℕ, ◌<◌, ◌≤◌, List, [], ◌∷◌, length, Option, Some, None, slice_get, slice_index_or, IsTrue}
 use Rattle.std.specs.FinSet as bytes
-use Rattle.span_core.specs.Lists.{Has}
+use Rattle.span_core.specs.Lists.{AreDistinct, Has}
 use Rattle.span_core.specs.declared.edge.Edge.{Edge}
 use Rattle.automaton_reading.specs.Reading.{byte_read, edges}
 use Rattle.output_graph.specs.Graph.{Graph, sets_of}
+use Rattle.output_graph.specs.Named.{handing}
 use Rattle.output_graph.specs.Source.{Edges}
 use Rattle.output_graph.specs.Sound.{edges_of}
 use Rattle.one_pass.specs.declared.entries.Entries.{Entries}
+use Rattle.one_pass.specs.declared.entries.Entry.{Entry}
+use Rattle.one_pass.specs.declared.entries.Entry.TheVariants.{Unknown, Glide, Run}
 use Rattle.one_pass.specs.declared.known.Known.{Known}
-use Rattle.set_table.specs.Tabled.{HasEdges, Stays, Tabled, look_up, set_at}
+use Rattle.set_table.specs.Tabled.{HasEdges, Tabled, look_up, set_at}
 use Rattle.one_pass.specs.Entries.{entry_at}
 use Rattle.one_pass.specs.KnownSteps.{KnownStep}
 use Rattle.one_pass.specs.Passes.{AllStayOn}
@@ -30,10 +33,6 @@ AreLookUps t b [] (group ∷ groups) = ⊥
 AreLookUps t b (s ∷ sets) [] = ⊥
 AreLookUps t b (s ∷ sets) (group ∷ groups) = IsLookUp t b s group × AreLookUps t b sets groups
 
--- each is the number of a set, which has one edge on the byte, without marks and to itself
-abbrev pub AreStill : Tabled → ℕ → List ℕ → Type 0
-AreStill t b sets = (s : ℕ) → Has sets s → (s < length t.sets) × Stays t s b
-
 -- the set of a number was asked for a byte, and has the same edges on it as on another
 pub record IsAlike (t : Tabled) (b other s : ℕ) : Type 0 where
   pub given : s < length t.sets
@@ -52,10 +51,18 @@ pub record IsStepOf (t : Tabled) (layers : List (List ℕ)) (b : ℕ) (sets : Li
   pub look_ups : AreLookUps t b sets step.program.groups
   pub next : slice_get layers step.next ≡ Some step.program.targets
 
--- what is entered for a byte of these sets: 0 nothing, 1 that they are still, and else 2 more than the place of a step
-abbrev pub IsEntry : Tabled → List (List ℕ) → List KnownStep → ℕ → List ℕ → ℕ → Type 0
-IsEntry t layers steps b sets e =
-    (e ≡ 0) ⊎ (((e ≡ 1) × AreStill t b sets) ⊎ ((p : ℕ) × (step : KnownStep) × (e ≡ p + 2) × (slice_get steps p ≡ Some step) × IsStepOf t layers b sets step))
+-- on a byte each of these sets hands its cell on to the set at its place in the layer of this number
+pub record IsGlide (t : Tabled) (layers : List (List ℕ)) (b : ℕ) (sets : List ℕ) (next : ℕ) : Type 0 where
+  pub to : List ℕ
+  pub there : slice_get layers next ≡ Some to
+  pub look_ups : AreLookUps t b sets (handing to)
+  pub distinct : AreDistinct to
+
+-- what is entered for a byte of these sets: nothing, the layer to whose sets they hand their cells on, or the place of a step
+abbrev pub IsEntry : Tabled → List (List ℕ) → List KnownStep → ℕ → List ℕ → Entry → Type 0
+IsEntry t layers steps b sets Unknown = Unit {0}
+IsEntry t layers steps b sets (Glide next) = IsGlide t layers b sets next
+IsEntry t layers steps b sets (Run p) = (step : KnownStep) × (slice_get steps p ≡ Some step) × IsStepOf t layers b sets step
 
 -- what is entered is true of the table
 pub record IsKnown (t : Tabled) (layers : List (List ℕ)) (entries : Entries) (steps : List KnownStep) : Type 0 where

@@ -5,18 +5,21 @@
 //! it follows from what the table of sets has answered, which never changes, so that it may be forgotten, or never kept, at
 //! any time.
 ghost use Rattle.std.specs.Prelude.{◌≡◌, ℕ, ◌+◌, ◌*◌, ◌<◌, ◌≤◌, [], ◌∷◌, ◌++◌, length, slice_get, Some, None, IfOk, IfSome, IsTrue};
+ghost use Rattle.span_core.specs.Lists.{AreDistinct};
 ghost use Rattle.output_graph.specs.Graph.{sets_of};
 ghost use Rattle.output_graph.specs.Source.{Edges};
 ghost use Rattle.set_table.specs.Tabled.{Tabled};
-ghost use Rattle.one_pass.specs.Known.{AreAlike, AreLookUps, AreStill, IsEntry, IsLookUp, IsStepOf, KeepsKnown, KeepsLayers, Knows, Stands, layer_at};
+ghost use Rattle.output_graph.specs.Named.{handing, handing_to};
+ghost use Rattle.one_pass.specs.Known.{AreAlike, AreLookUps, IsEntry, IsGlide, IsLookUp, IsStepOf, KeepsKnown, KeepsLayers, Knows, Stands, layer_at};
 ghost use Rattle.one_pass.specs.KnownSteps.{known_step_of};
 ghost use Rattle.one_pass.specs.Passes.{AreGiven};
 ghost use Rattle.one_pass.specs.Seen.{whole};
 
 use crate::classes::Classes;
-use crate::entries::Entries;
+use crate::entries::{Entries, Entry};
 use crate::known_steps::KnownSteps;
 use crate::places::stays_of;
+use crate::waiting::has;
 use output_graph::{OutputGraph, Program};
 use set_table::{NumberedLists, Table};
 use span_core::{ByteSet, Edge, OutOfMemory};
@@ -32,10 +35,7 @@ pub(crate) const MOST_WORDS: usize = 4_194_304;
 const STEP_WORDS: usize = 12;
 
 /// The words of the largest layer that is kept.
-const MOST_LAYER_WORDS: usize = 264 + MOST_SETS;
-
-/// Nothing changes.
-pub const STILL: u32 = 1;
+const MOST_LAYER_WORDS: usize = 520 + MOST_SETS;
 
 /// Layers with numbers, by their sets in their order, and what each does on the bytes that were read in it. All of it
 /// is true of the table, which never changes what it has answered; so it may be forgotten at any time, and want of
@@ -84,7 +84,7 @@ impl Known {
 
     /// What is entered for a byte of a layer.
     #[inline(always)]
-    pub(crate) fn entry(&self, layer: usize, byte: u8) -> u32
+    pub(crate) fn entry(&self, layer: usize, byte: u8) -> Entry
         requires { layer < length self.now.layers }
         ensures { (t : Tabled) → Knows t self.now → IsEntry t self.now.layers self.now.steps byte (layer_at self.now.layers layer) result }
     {
@@ -208,8 +208,8 @@ impl Known {
         requires within { layer < length self.old.layers }
         ensures { Knows table.now self.new }
     {
-        if are_still(table, self.layers.at(layer), byte) {
-            self.enter(table, layer, byte, STILL);
+        if let Some(to) = handed_on(self.alloc, table, self.layers.at(layer), byte) {
+            self.learn_glide(table, layer, byte, to);
             return;
         }
         if !self.has_room_for(table, layer, byte) {
@@ -217,6 +217,36 @@ impl Known {
         }
         if let Some(program) = program_of(self.alloc, table, self.layers.at(layer), byte) {
             self.learn_step(table, layer, byte, &program);
+        }
+    }
+
+    /// Keeps that the sets of a layer hand their cells on, on a byte, to these.
+    fn learn_glide(&mut self, table: &Table<'_>, layer: usize, byte: u8, to: Vec<u32>)
+        requires known { Knows table.now self.old }
+        requires within { layer < length self.old.layers }
+        requires look_ups { AreLookUps table.now byte (layer_at self.old.layers layer) (handing to.items) }
+        requires distinct { AreDistinct to.items }
+        ensures { Knows table.now self.new }
+    {
+        if are_same(&to, self.layers.at(layer)) {
+            self.enter_glide(table, layer, byte, layer);
+            return;
+        }
+        let Some(next) = self.number(to) else {
+            return;
+        };
+        self.enter_glide(table, layer, byte, next);
+    }
+
+    /// Enters that the sets of a layer hand their cells on, on a byte, to those of another, or of itself.
+    fn enter_glide(&mut self, table: &Table<'_>, layer: usize, byte: u8, next: usize)
+        requires known { Knows table.now self.old }
+        requires within { layer < length self.old.layers }
+        requires glide { IsGlide table.now self.old.layers byte (layer_at self.old.layers layer) next }
+        ensures { Knows table.now self.new }
+    {
+        if let Ok(number) = u32::try_from(next) {
+            self.enter(table, layer, byte, Entry::Glide(number));
         }
     }
 
@@ -269,13 +299,13 @@ impl Known {
             return;
         }
         match self.steps.add(program, next) {
-            Ok(()) => self.enter(table, layer, byte, place as u32 + 2),
+            Ok(()) => self.enter(table, layer, byte, Entry::Run(place as u32)),
             Err(_) => {}
         }
     }
 
     /// Enters what is known of a byte of a layer, where there is room for it.
-    fn enter(&mut self, table: &Table<'_>, layer: usize, byte: u8, entry: u32)
+    fn enter(&mut self, table: &Table<'_>, layer: usize, byte: u8, entry: Entry)
         requires known { Knows table.now self.old }
         requires within { layer < length self.old.layers }
         requires entry { IsEntry table.now self.old.layers self.old.steps byte (layer_at self.old.layers layer) entry }
@@ -321,33 +351,44 @@ fn sets_in(alloc: Global, graph: &OutputGraph) -> Result<Vec<u32>, OutOfMemory>
     Ok(sets)
 }
 
-/// Whether each of these sets was asked for the byte, and has one edge on it, without marks and to itself.
-fn are_still(table: &Table<'_>, sets: &[u32], byte: u8) -> bool
-    ensures { IsTrue result → AreStill table.now byte sets.now }
+/// The sets to which these sets hand their cells on, on a byte: each was asked for it and has one edge, without marks, and no
+/// two lead to one set.
+fn handed_on(alloc: Global, table: &Table<'_>, sets: &[u32], byte: u8) -> Option<Vec<u32>>
+    ensures { IfSome result (λ to. AreLookUps table.now byte sets.now (handing to.items) × AreDistinct to.items) }
 {
+    let mut to = Vec::new(alloc);
     for set in sets {
-        if !is_still(table, *set, byte) {
-            return false;
+        let next = handed_to(table, *set, byte)?;
+        if has(&to, next) {
+            return None;
+        }
+        if let Err(_) = to.push(next) {
+            return None;
         }
     }
-    true
+    Some(to)
 }
 
-/// Whether a set was asked for the byte, and has one edge on it, without marks and to itself.
-fn is_still(table: &Table<'_>, set: u32, byte: u8) -> bool
-    ensures { IsTrue result → AreStill table.now byte (set ∷ []) }
+/// The set to which a set hands its cell on, on a byte: it was asked for it and has one edge, without marks.
+fn handed_to(table: &Table<'_>, set: u32, byte: u8) -> Option<u32>
+    ensures { IfSome result (λ to. IsLookUp table.now byte set (handing_to to)) }
 {
-    match table.asked_row(set, byte) {
-        Some(edges) => edges.len() == 1 && leads_back(edges[0], set),
-        None => false,
+    let edges = table.asked_row(set, byte)?;
+    if edges.len() != 1 {
+        return None;
     }
+    let edge = edges[0];
+    if !edge.marks.is_none() {
+        return None;
+    }
+    Some(edge.to)
 }
 
-/// Whether an edge takes no marks and leads to the set.
-fn leads_back(edge: Edge, set: u32) -> bool
-    ensures { IsTrue result → edge ≡ record { marks = 0; to = set } }
+/// Whether these are the same sets, in the same order.
+fn are_same(sets: &[u32], others: &[u32]) -> bool
+    ensures { IsTrue result → sets.now ≡ others.now }
 {
-    edge.marks.is_none() && edge.to == set
+    sets == others
 }
 
 /// Whether each of these sets was asked for the byte, and has the same edges on it as on the other.

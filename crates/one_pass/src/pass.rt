@@ -4,11 +4,12 @@
 //! while, the next byte on which something may change is searched for (`byte_runs`); where the layer waits, the next place
 //! from which something may come through (`waiting`). A gap takes one step, in which each
 //! set goes to its idle members.
-ghost use Rattle.std.specs.Prelude.{◌≡◌, ℕ, ◌+◌, ◌-◌, ◌*◌, ◌^◌, ◌<◌, ◌≤◌, drop, length, take, IfErr, IfOk, OnErr, OnOk};
+ghost use Rattle.std.specs.Prelude.{◌≡◌, ℕ, ◌+◌, ◌-◌, ◌*◌, ◌^◌, ◌<◌, ◌≤◌, drop, length, take, IfErr, IfOk, IfSome, OnErr, OnOk};
 ghost use Rattle.set_table.specs.Tabled.{IsTabled};
 ghost use Rattle.one_pass.specs.Builds.{started};
 ghost use Rattle.one_pass.specs.Going.{GivesUp, GoesOn, Reads, come};
 ghost use Rattle.one_pass.specs.Ahead.{KnowsWaiting};
+ghost use Rattle.one_pass.specs.Numbered.{IsNumbered, StandsIn, as_layer, in_layer};
 ghost use Rattle.one_pass.specs.Passes.{AllLeadBack};
 ghost use Rattle.one_pass.specs.Places.{bytes_at, gap_at};
 ghost use Rattle.one_pass.specs.Seen.{whole};
@@ -91,24 +92,19 @@ impl Pass {
     {
         let mut layer = self.known.stand(table, &self.graph);
         self.search.quiet = quiet_in(layer, self.search.far, self.search.quiet);
+        self.graph.is_graph();
         let mut i = 0;
         while i < piece.len() {
             let here = self.read_on(table, layer, piece, i);
-            if here == piece.len() {
-                break;
-            }
-            let byte = piece[here];
-            let next = match self.run_known(table, layer, byte, steps) {
-                Some(next) => Some(next),
-                None => match self.read_unknown(table, layer, byte, steps) {
-                    Ok(next) => next,
-                    Err(fault) => return Err(fault),
-                },
+            let (_, rest) = piece.split_at(here);
+            let place = match self.read_some(table, layer, rest, steps) {
+                Ok(place) => place,
+                Err(fault) => return Err(fault),
             };
-            self.search.quiet = quiet_at(layer, next, self.search.far, self.search.quiet);
-            layer = next;
-            i = here + 1;
+            layer = place.layer;
+            i = here + place.bytes;
         }
+        self.name(layer);
         Ok(())
     }
 
@@ -116,21 +112,38 @@ impl Pass {
     /// number is told, has been the same for a while.
     #[inline(always)]
     fn read_on(&mut self, table: &Table<'_>, layer: Option<usize>, piece: &[u8], i: usize) -> usize
-        requires goes_on { GoesOn table.now self.old }
+        requires goes_on { GoesOn table.now (as_layer layer self.old) }
+        requires stands { StandsIn table.now self.old.graph self.old.known layer }
         requires few { self.old.at + length piece.now < 2 ^ 32 + i }
         requires place { i ≤ length piece.now }
-        ensures graph { self.new.graph ≡ self.old.graph }
+        ensures graph { in_layer self.old.known.layers layer self.new.graph ≡ in_layer self.old.known.layers layer self.old.graph }
+        ensures stands { StandsIn table.now self.new.graph self.new.known layer }
         ensures known { self.new.known ≡ self.old.known }
         ensures at { self.new.at + i ≡ self.old.at + result }
         ensures within { result ≤ length piece.now }
         ensures later { i ≤ result }
-        ensures back { AllLeadBack table.now (whole self.old.graph) (take (result - i) (drop i piece.now)) }
+        ensures back { AllLeadBack table.now (whole (in_layer self.old.known.layers layer self.old.graph)) (take (result - i) (drop i piece.now)) }
         ensures waits { KnowsWaiting table.now.graph.ways self.new.search.ahead.waiting }
     {
         if self.search.quiet < QUIET {
             return i;
         }
+        self.name(layer);
         self.pass_over(table, layer, piece, i)
+    }
+
+    /// Writes the names of the layer of a number, if it has one.
+    pub(crate) fn name(&mut self, layer: Option<usize>)
+        requires { IfSome layer (λ k. IsNumbered self.old.graph self.old.known.layers k) }
+        ensures graph { self.new.graph ≡ in_layer self.old.known.layers layer self.old.graph }
+        ensures known { self.new.known ≡ self.old.known }
+        ensures search { self.new.search ≡ self.old.search }
+        ensures at { self.new.at ≡ self.old.at }
+    {
+        match layer {
+            Some(number) => self.graph.rename(self.known.layers.at(number)),
+            None => {}
+        }
     }
 
     /// As `read_on`, where the layer has been the same for long enough.

@@ -153,15 +153,6 @@ next_is all new every cells layer next stepped = record {
   targets = ap (λ (l : Layer). map (source_of new.cells) l) next;
 }
 
--- a plan that does nothing to cells has been run before anything is done
-pub none_run : (p : Plan) (sources : Layer) (at was before after : ℕ) (cells : List NamedLink) (holds : Holds) → IsPlan p → IsSound (graph_of cells sources [] 0 was) holds →
-    IsPlaceOf (graph_of cells sources [] 0 was) at → length p.counts.items ≡ length sources → p.actions.items ≡ [] → after ≡ before + length p.counts.items →
-    HasRun (graph_of cells sources [] 0 was) at p before [] cells holds after
-none_run p sources at was before after cells holds is sound place every none counted =
-    let first : Graph = graph_of cells sources [] 0 was in
-    subst (λ (n : ℕ). HasRun first at p before [] cells holds n) (sym counted)
-    (subst (λ (xs : List Action). Leads sources at (Runs first at p before) xs (point [] cells holds before)) none (plan_leads p sources at was before cells holds is sound place every))
-
 -- a layer of which no source has been stepped
 pub layer_begun : (cells : List NamedLink) (layer next : Layer) (k was : ℕ) (holds : Holds) → IsSound (graph_of cells layer next k was) holds → k ≡ 0 → IsSound (graph_of cells layer [] 0 was) holds
 layer_begun cells layer next k was holds sound none =

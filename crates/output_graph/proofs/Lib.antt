@@ -31,3 +31,4 @@ pub mod CodeTurn
 pub mod TurnEnds
 pub mod TurnSteps
 pub mod CopyLaws
+pub mod NamedLaws

@@ -5,6 +5,7 @@ pub mod Forward
 pub mod Source
 pub mod Sets
 pub mod Graph
+pub mod Named
 pub mod Programs
 pub mod Plans
 pub mod Sound

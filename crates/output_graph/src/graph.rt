@@ -2,13 +2,14 @@
 //!
 //! The sources of a layer are stepped one after the other, each by its edges at one position; when all are, the next
 //! layer takes the place of this one. Room is made before a source is stepped, so that a refusal changes nothing.
-ghost use Rattle.std.specs.Prelude.{◌≡◌, ◌↔◌, ◌≤◌, ◌<◌, ◌+◌, ◌*◌, ℕ, [], ◌∷◌, map, drop, length, slice_get, Some, OnOk, OnErr, IfOk, IsTrue};
-ghost use Rattle.span_core.specs.Lists.{Has};
+ghost use Rattle.std.specs.Prelude.{◌≡◌, ◌↔◌, ◌≤◌, ◌<◌, ◌+◌, ◌*◌, ℕ, [], ◌∷◌, map, drop, length, slice_get, Some, OnOk, OnErr, IfOk};
+ghost use Rattle.span_core.specs.Lists.{AreDistinct, Has};
 ghost use Rattle.node_arena.specs.Cells.{NamedLink, HasCell};
 ghost use Rattle.output_graph.specs.Source.{Descend};
 ghost use Rattle.output_graph.specs.Graph.{HasWord, sources, targets, sets_of, IsPlace, IsStepped, IsCost, IsReached, AreApart};
 ghost use Rattle.output_graph.specs.Sound.{edges_of, edges_of_ends};
 ghost use Rattle.output_graph.specs.Loop.{AreListed};
+ghost use Rattle.output_graph.specs.Named.{renamed};
 ghost use Rattle.output_graph.specs.Plans.{IsPlan};
 ghost use Rattle.output_graph.specs.Pools.{AreOfPlan, meaning_of, program_at};
 ghost use Rattle.output_graph.specs.Programs.{IsRun};
@@ -19,7 +20,7 @@ use crate::program::Program;
 use crate::programs::Programs;
 use crate::registers::Registers;
 use crate::row_lists::RowLists;
-use crate::running::{PlanLists, count, lists_of, run_plan};
+use crate::running::{PlanLists, lists_of, run_plan};
 use crate::turning::turn_cells;
 use node_arena::Arena;
 use span_core::{Edge, Marks, OutOfMemory, Steps};
@@ -153,6 +154,15 @@ impl OutputGraph {
         self.stepped = 0;
     }
 
+    /// Gives the cells of the layer, in their order, to other sets, as many and distinct.
+    pub fn rename(&mut self, sets: &[u32])
+        requires distinct { AreDistinct sets.now }
+        requires every { length sets.now ≡ length self.old.layer }
+        ensures { self.new ≡ renamed sets.now self.old }
+    {
+        self.registers.rename(sets);
+    }
+
     /// Leads the words of source `k` on by its edges, all at this position, and gives up its hold. An edge adds
     /// one cell at most, and an edge without marks none where its target has no cell yet. After a refusal the
     /// graph is as it was. At most 2 steps for each edge, 2, and 1 for each cell that is given back.
@@ -245,10 +255,6 @@ impl OutputGraph {
         ensures refused { OnErr result (self.new ≡ self.old) }
         ensures uncounted { OnErr result (steps.new ≡ steps.old) }
     {
-        if lists.actions.is_empty() && lists.in_place {
-            self.hand_on(at, lists, steps);
-            return Ok(());
-        }
         self.arena.is_arena();
         self.arena.reserve(lists.actions.len())?;
         self.registers
@@ -264,27 +270,6 @@ impl OutputGraph {
         self.registers
             .settle(lists.targets, lists.held, lists.in_place);
         Ok(())
-    }
-
-    /// As `run_lists`, by a plan that makes no cell, lets none go and leaves each in its place: only names change. `at` is
-    /// read by the clauses alone.
-    #[inline(always)]
-    fn hand_on<L: Ledger>(&mut self, at: u32, lists: PlanLists<'_>, steps: &mut Steps<L>)
-        requires lists { AreOfPlan lists }
-        requires plan { IsPlan lists.plan.now.value }
-        requires none { lists.actions.now ≡ [] }
-        requires in_place { IsTrue lists.in_place }
-        requires begun { self.old.stepped ≡ 0 }
-        requires every { length (meaning_of lists.plan.now.value).groups ≡ length self.old.layer }
-        requires place { IsPlace self.old at }
-        ensures run { IsRun self.old at (meaning_of lists.entry.plan.now.value).groups self.new steps.old steps.new }
-        ensures targets { sets_of self.new.layer ≡ lists.entry.plan.now.value.targets.items }
-        ensures counted { steps.old + length (meaning_of lists.entry.plan.now.value).groups ≤ steps.new }
-    {
-        let _at = at;
-        self.arena.is_arena();
-        count(lists.sources, steps);
-        self.registers.rename(lists.targets, lists.held);
     }
 
     /// As `step_source`, by ends, which lead to the set 0.

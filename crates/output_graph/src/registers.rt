@@ -6,6 +6,7 @@ ghost use Rattle.std.specs.Prelude.{◌≡◌, ◌≤◌, ◌<◌, ◌+◌, ◌^
 ghost use Rattle.std.specs.Vec.{vec_capacity};
 ghost use Rattle.output_graph.specs.Forward.{Layer};
 ghost use Rattle.output_graph.specs.Graph.{sets_of};
+ghost use Rattle.output_graph.specs.Named.{named};
 ghost use Rattle.output_graph.specs.Plans.{AreInPlace, IsInPlace};
 ghost use Rattle.output_graph.specs.Running.{AreHeld, IsThere, also_in, cell_in};
 ghost use Rattle.output_graph.specs.Sets.{paired, cells_in};
@@ -106,16 +107,12 @@ impl Registers {
         }
     }
 
-    /// Gives each target the cell of its register, which is that of its own place, as nothing was made: only names are
-    /// written.
-    pub(crate) fn rename(&mut self, targets: &[u32], held: &[Register])
-        requires held { (next : Layer) × AreHeld self.old.sources.items [] held.now next × (sets_of next ≡ targets.now) }
-        requires in_place { AreInPlace 0 held.now }
-        requires within { length held.now ≤ length self.old.sources.items }
-        ensures held { AreHeld self.old.sources.items [] held.now self.new.sources.items }
-        ensures sets { sets_of self.new.sources.items ≡ targets.now }
+    /// Gives the cells, in their order, to other sets.
+    pub(crate) fn rename(&mut self, sets: &[u32])
+        requires { length sets.now ≡ length self.old.sources.items }
+        ensures { self.new.sources.items ≡ named sets.now self.old.sources.items }
     {
-        keep(&mut self.sources, &[], targets, held);
+        write_names(&mut self.sources, sets);
     }
 
     /// Gives each target the cell of its register, and makes them the sets of the layer. Where no cell moves, only names and
@@ -188,6 +185,17 @@ fn keep(sources: &mut Vec<(u32, Cell)>, made: &[Cell], targets: &[u32], held: &[
     }
     if held.len() < sources.len() {
         sources.truncate(held.len());
+    }
+}
+
+/// Gives the cells, in their order, to other sets.
+fn write_names(sources: &mut Vec<(u32, Cell)>, sets: &[u32])
+    requires { length sets.now ≡ length sources.old.items }
+    ensures { sources.new.items ≡ named sets.now sources.old.items }
+{
+    for k in 0..sets.len() {
+        let cell = sources[k].1;
+        sources[k] = (sets[k], cell);
     }
 }
 

@@ -77,7 +77,7 @@ pub(crate) fn run_plan<L: Ledger>(
 }
 
 /// Counts so many steps.
-pub(crate) fn count<L: Ledger>(number: usize, steps: &mut Steps<L>)
+fn count<L: Ledger>(number: usize, steps: &mut Steps<L>)
     ensures { steps.new ≡ steps.old + number }
 {
     for _ in 0..number {

@@ -1,6 +1,0 @@
-use Rattle.std.proofs.Common.{refl, arith}
-use Rattle.one_pass.proofs.KnownLaws.{still_more}
-use Rattle.one_pass.proofs.known.are_still.Goals as goal
-
-pub loop-set-preserved : goal.loop-set-preserved
-loop-set-preserved c = still_more c.args.table.now c.args.byte c.args.sets.now c.loop-set.set-index _ (omega arith) refl c.loop-set.invariant (c.if-not-is_still.ensures refl)

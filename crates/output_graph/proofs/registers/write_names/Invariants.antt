@@ -1,0 +1,10 @@
+use Rattle.std.proofs.Common.{◌≡◌, length}
+use Rattle.output_graph.proofs.NamedLaws.{named_first}
+use Rattle.output_graph.proofs.registers.write_names.Given as goal
+
+-- the first k have their names
+abbrev pub invariant-loop-k : goal.invariant-loop-k
+invariant-loop-k l = record {
+  names : l.sources.items ≡ named_first l.k l.sets l.initial.sources.items;
+  long : length l.sources.items ≡ length l.initial.sources.items;
+}
