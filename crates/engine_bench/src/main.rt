@@ -6,6 +6,7 @@
 //! `engine_bench trial LINES` makes the document of a trial;
 //! `engine_bench lines FORM ROWS` writes the lines of so many rows, where FORM is `rows` (rows are made, and no
 //! line), `spans`, `table`, `texts` (spans with their texts) or `json`;
+//! `engine_bench column LINES` opens so many documents of some 100 bytes, each by itself and then with a cache;
 //! `engine_bench growing BYTES PIECES` puts so many pieces of so many bytes `b` behind one another, and asks for one
 //! row of `/!x{a}c/` after each.
 //!
@@ -13,12 +14,14 @@
 //! is made.
 #![tactic(auto)]
 
+mod column;
 mod grown;
 mod lines;
 mod made;
 mod rows;
 mod slots;
 
+use column::measure_column;
 use grown::measure_growing;
 use lines::measure_lines;
 use made::measure_trial;
@@ -32,11 +35,12 @@ enum Part<'a> {
     Rows { bytes: usize },
     Trial { lines: u32 },
     Lines { form: &'a str, rows: u32 },
+    Column { lines: usize },
     Growing { bytes: usize, pieces: u32 },
 }
 
 /// A small run of each part, and of the lines one of each form.
-const SMALL: [Part<'static>; 9] = [
+const SMALL: [Part<'static>; 10] = [
     Part::Slots {
         values: 70_000,
         calls: 1_000,
@@ -63,6 +67,7 @@ const SMALL: [Part<'static>; 9] = [
         form: "json",
         rows: 3,
     },
+    Part::Column { lines: 30 },
     Part::Growing {
         bytes: 10,
         pieces: 20,
@@ -81,7 +86,7 @@ fn main(rt: HostRuntime) -> anyhow::Result<()> {
         Some(part) => measure(&rt, part)?,
         None => {
             println!(rt;
-                "usage: engine_bench [slots VALUES CALLS | rows BYTES | trial LINES | lines FORM ROWS | growing BYTES PIECES]"
+                "usage: engine_bench [slots VALUES CALLS | rows BYTES | trial LINES | lines FORM ROWS | column LINES | growing BYTES PIECES]"
             )?
         }
     }
@@ -94,6 +99,7 @@ fn measure(rt: &HostRuntime, part: Part<'_>) -> anyhow::Result<()> {
         Part::Rows { bytes } => measure_rows(rt, bytes),
         Part::Trial { lines } => measure_trial(rt, lines),
         Part::Lines { form, rows } => measure_lines(rt, form, rows),
+        Part::Column { lines } => measure_column(rt, lines),
         Part::Growing { bytes, pieces } => measure_growing(rt, bytes, pieces),
     }
 }
@@ -114,6 +120,9 @@ fn part_of<'a>(words: &'a [String]) -> Option<Part<'a>> {
         [word, form, rows] if word.as_str() == "lines" => Some(Part::Lines {
             form: form.as_str(),
             rows: rows.parse().ok()?,
+        }),
+        [word, lines] if word.as_str() == "column" => Some(Part::Column {
+            lines: lines.parse().ok()?,
         }),
         [word, bytes, pieces] if word.as_str() == "growing" => Some(Part::Growing {
             bytes: bytes.parse().ok()?,

@@ -1,6 +1,6 @@
 -- What the parts of a whole pass give.
-use Rattle.std.proofs.Common.{◌≡◌, ℕ, ◌+◌, ◌*◌, ◌≤◌, Bool, false, List, [], ◌∷◌, ◌++◌, length, sym, ap, subst, arith, ◌∙◌, refl}
-use Rattle.std.proofs.lemmas.List.{append-nil}
+use Rattle.std.proofs.Common.{◌≡◌, ℕ, ◌+◌, ◌*◌, ◌≤◌, Bool, false, List, [], ◌∷◌, ◌++◌, length, sym, ap, subst, arith, ◌∙◌, refl, IfErr, IfOk, Result, Ok, Err}
+use Rattle.std.proofs.lemmas.List.{append-nil, append_assoc}
 use Rattle.marked_automaton.specs.Automaton.{Automaton}
 use Rattle.span_core.specs.Intervals.{AreApart, Covers}
 use Rattle.automaton_reading.specs.Reading.{edges_K, ended, look_ups_asked}
@@ -20,7 +20,7 @@ use Rattle.one_pass.proofs.Composing.{excess_grown, ready_distinct, look_ups_fir
 use Rattle.one_pass.proofs.Faulting.{then_stopped}
 use Rattle.one_pass.proofs.PartLaws.{before_end, parts_all}
 use Rattle.one_pass.proofs.Weighing.{told_weighs}
-use Rattle.one_pass.proofs.Whole.{excess_weight, front_sets, look_ups_of_front, stopped_steps, whole_cells, whole_steps, whole_tells, whole_words}
+use Rattle.one_pass.proofs.Whole.{excess_weight, front_sets, look_ups_of_front, stopped_steps, tabled_start, whole_cells, whole_steps, whole_tells, whole_words}
 
 -- nothing has been done with the table
 pub new_kept : (t : Tabled) → IsTabled t → HasKept t t
@@ -30,10 +30,11 @@ new_kept t tabled = record { graph = refl; limit = refl; sets = ([], append-nil 
 pub record IsGivenUp (d : List ℕ) (K : ℕ → Bool) (t : Tabled) (before : ℕ) (u : Tabled) (after : ℕ) (e : TableFault) : Type 0 where
   pub steps : after + 1 ≤ before + build t.graph d K
   pub kept : HasKept t u
-  pub cause : IsReadFault t.graph K d t.limit e
+  -- of a reading by a new table
+  pub cause : IsNew t.graph t → IsReadFault t.graph K d t.limit e
 
 module _ (d : List ℕ) (parts : List (ℕ × ℕ)) (apart : AreApart parts) (within : (q : ℕ) → Covers parts q → q ≤ length d)
-    {t : Tabled} (new : IsNew t.graph t) (before : ℕ) (p : Pass) (n : ℕ) (begun : come t p n ≡ started t before) (xs : List (ℕ × ℕ)) (same : xs ≡ parts) where
+    {t : Tabled} (tabled : IsTabled t) (before : ℕ) (p : Pass) (n : ℕ) (begun : come t p n ≡ started t before) (xs : List (ℕ × ℕ)) (same : xs ≡ parts) where
   abbrev K : ℕ → Bool
   K = is_touched parts
 
@@ -46,20 +47,20 @@ module _ (d : List ℕ) (parts : List (ℕ × ℕ)) (apart : AreApart parts) (wi
       ap (λ qs. qs ++ end_at (length d) ∷ []) (parts_all parts d apart within)
       ∙ (ap (λ j. places_before K d 0 false ++ end_at j ∷ []) (sym e) ∙ before_end K d 0 false)
 
-  fault_read : (e : TableFault) → IsFaultAt ps (started t before) e → IsReadFault t.graph K d t.limit e
-  fault_read (Full weight) x =
-      excess_weight t.graph K d t new before (sets_met t.graph (sets_of (started t before)) (asks ps)) (look_ups_asked t.graph (sets_of (started t before)) (asks ps)) weight x
-      (front_sets t.graph K d t new before ps (end_at (length d)) [] all) (look_ups_of_front t.graph K d t new before ps (end_at (length d) ∷ []) all)
-  fault_read OutOfMemory x = tt
+  fault_read : IsNew t.graph t → (e : TableFault) → IsFaultAt ps (started t before) e → IsReadFault t.graph K d t.limit e
+  fault_read new (Full weight) x =
+      excess_weight t.graph K d t refl (tabled_start t tabled) before new (sets_met t.graph (sets_of (started t before)) (asks ps)) (look_ups_asked t.graph (sets_of (started t before)) (asks ps)) weight x
+      (front_sets t.graph K d t refl (tabled_start t tabled) before ps (end_at (length d)) [] all) (look_ups_of_front t.graph K d t refl (tabled_start t tabled) before ps (end_at (length d) ∷ []) all)
+  fault_read new OutOfMemory x = tt
 
   pub parts_give_up : {u : Tabled} {m : ℕ} {e : TableFault} → GivesUp (parts_places 0 xs d) t p n u m e → IsGivenUp d K t before u m e
   parts_give_up {u} {m} {e} given =
       let up = subst (λ ys. GivesUp (parts_places 0 ys d) t p n u m e) same given in
       let k = subst (λ P. HasStopped t.graph ps P (stop u m)) begun up.stopped in
       record {
-        steps = stopped_steps t.graph K d t new before ps (end_at (length d) ∷ []) all (stop u m) k;
+        steps = stopped_steps t.graph K d t refl (tabled_start t tabled) before ps (end_at (length d) ∷ []) all (stop u m) k;
         kept = record { graph = k.table.graph; limit = k.table.limit; sets = k.table.kept; sound = k.sound };
-        cause = fault_read e (subst (λ P. IsFaultOf t (sets_met t.graph (sets_of P) (asks ps)) (look_ups_asked t.graph (sets_of P) (asks ps)) e) begun up.cause);
+        cause = λ new. fault_read new e (subst (λ P. IsFaultOf t (sets_met t.graph (sets_of P) (asks ps)) (look_ups_asked t.graph (sets_of P) (asks ps)) e) begun up.cause);
       }
 
   module _ {u : Tabled} {q : Pass} {m : ℕ} (given : Reads (parts_places 0 xs d) t p n u q m) (end : q.at ≡ length d) where
@@ -72,28 +73,28 @@ module _ (d : List ℕ) (parts : List (ℕ × ℕ)) (apart : AreApart parts) (wi
     read_here : HasRead t.graph ps (started t before) Q
     read_here = subst (λ P. HasRead t.graph ps P Q) begun reads.read
 
-    end_fault : (e : TableFault) → IsFaultOf u [] (look_ups_asked u.graph (sets_of Q) (ended ∷ [])) e → IsReadFault t.graph K d t.limit e
-    end_fault (Full weight) x =
+    end_fault : IsNew t.graph t → (e : TableFault) → IsFaultOf u [] (look_ups_asked u.graph (sets_of Q) (ended ∷ [])) e → IsReadFault t.graph K d t.limit e
+    end_fault new (Full weight) x =
         let P = started t before in
         let same = subst (λ B. IsFaultOf u [] (look_ups_asked B (sets_of Q) (ended ∷ [])) (Full weight)) read_here.table.graph x in
         let met = sets_met t.graph (sets_of P) (asks ps) in
         let look_ups = look_ups_asked t.graph (sets_of P) (asks (ps ++ end_at (length d) ∷ [])) in
-        excess_weight t.graph K d t new before met look_ups weight
+        excess_weight t.graph K d t refl (tabled_start t tabled) before new met look_ups weight
         (excess_grown t u met [] met (look_ups_asked t.graph (sets_of P) (asks ps)) (look_ups_asked t.graph (sets_of Q) (ended ∷ [])) look_ups weight read_here.table same
         (λ set h. h) (λ set h. absurd h)
         (look_ups_first t.graph ps (end_at (length d) ∷ []) P Q read_here) (look_ups_then t.graph ps (end_at (length d) ∷ []) P Q read_here))
-        (front_sets t.graph K d t new before ps (end_at (length d)) [] all)
-        (look_ups_of_front t.graph K d t new before (ps ++ end_at (length d) ∷ []) [] (append-nil (ps ++ end_at (length d) ∷ []) ∙ all))
-    end_fault OutOfMemory x = tt
+        (front_sets t.graph K d t refl (tabled_start t tabled) before ps (end_at (length d)) [] all)
+        (look_ups_of_front t.graph K d t refl (tabled_start t tabled) before (ps ++ end_at (length d) ∷ []) [] (append-nil (ps ++ end_at (length d) ∷ []) ∙ all))
+    end_fault new OutOfMemory x = tt
 
     pub end_gives_up : {v : Tabled} {l : ℕ} {e : TableFault} → GivesUpEnd u q m v l e → IsGivenUp d K t before v l e
     end_gives_up {v} {l} {e} up =
         let at_end = subst (λ j. HasStoppedAt u.graph (end_at j) Q (stop v l)) end up.stopped in
         let k = then_stopped ps (end_at (length d) ∷ []) (started t before) Q q.at read_here reads.goes_on.ready (stop v l) (stopped_at u.graph (end_at (length d)) Q (stop v l) at_end) in
         record {
-          steps = stopped_steps t.graph K d t new before (ps ++ end_at (length d) ∷ []) [] (append-nil (ps ++ end_at (length d) ∷ []) ∙ all) (stop v l) k;
+          steps = stopped_steps t.graph K d t refl (tabled_start t tabled) before (ps ++ end_at (length d) ∷ []) [] (append-nil (ps ++ end_at (length d) ∷ []) ∙ all) (stop v l) k;
           kept = record { graph = k.table.graph; limit = k.table.limit; sets = k.table.kept; sound = k.sound };
-          cause = end_fault e up.cause;
+          cause = λ new. end_fault new e up.cause;
         }
 
     module _ {v : Tabled} (g : Graph) {l : ℕ} (done : Ends u q m v g l) where
@@ -103,19 +104,35 @@ module _ (d : List ℕ) (parts : List (ℕ × ℕ)) (apart : AreApart parts) (wi
       done_here : HasEnded t.graph (length d) Q R
       done_here = subst (λ B. HasEnded B (length d) Q R) read_here.table.graph (subst (λ j. HasEnded u.graph j Q R) end done)
 
+      pub pass_kept : HasKept t v
+      pass_kept =
+          let first = read_here.table in
+          let last = done_here.table in
+          record {
+            graph = last.graph ∙ first.graph;
+            limit = last.limit ∙ first.limit;
+            sets = (first.kept.0 ++ last.kept.0, sym (append_assoc t.sets first.kept.0 last.kept.0) ∙ (ap (λ ss. ss ++ last.kept.0) first.kept.1 ∙ last.kept.1));
+            sound = done_here.sound;
+          }
+
       pub pass_words : AreReadWords t.graph K d (accepted_words g)
-      pass_words = whole_words t.graph K d t new before ps all Q R read_here done_here
+      pass_words = whole_words t.graph K d t refl (tabled_start t tabled) before ps all Q R read_here done_here
 
       pub pass_steps : l + (2 * length g.cells + 2) + 1 ≤ before + build t.graph d K
-      pass_steps = whole_steps t.graph K d t new before ps all Q R read_here done_here (ready_distinct Q q.at reads.goes_on.ready)
+      pass_steps = whole_steps t.graph K d t refl (tabled_start t tabled) before ps all Q R read_here done_here (ready_distinct Q q.at reads.goes_on.ready)
 
       pub pass_cells : length g.cells ≤ edges_K t.graph d K + 1
-      pass_cells = whole_cells t.graph K d t new before ps all Q R read_here done_here (ready_distinct Q q.at reads.goes_on.ready)
+      pass_cells = whole_cells t.graph K d t refl (tabled_start t tabled) before ps all Q R read_here done_here (ready_distinct Q q.at reads.goes_on.ready)
 
       -- what has to be told of the reading weighs no more than the table's limit
       pub pass_weighs : WeighsWithin t.graph d K t.limit
       pass_weighs look_ups due =
           let graph : v.graph ≡ t.graph = done_here.table.graph ∙ read_here.table.graph in
           let limit : v.limit ≡ t.limit = done_here.table.limit ∙ read_here.table.limit in
-          let told = told_weighs v done_here.sound look_ups (λ r h. whole_tells t.graph K d t new before ps all Q R read_here done_here r (due r h)) in
+          let told = told_weighs v done_here.sound look_ups (λ r h. whole_tells t.graph K d t refl (tabled_start t tabled) before ps all Q R read_here done_here r (due r h)) in
           subst (λ l. least_weight t.graph look_ups ≤ l) limit (subst (λ (A : Automaton). least_weight A look_ups ≤ v.limit) graph told)
+
+-- what holds of a value and of an error
+pub either_way : {T E X : Type 0} (r : Result T E) → IfOk r (λ _. X) → IfErr r (λ _. X) → X
+either_way (Ok x) ok err = ok
+either_way (Err e) ok err = err

@@ -1,13 +1,14 @@
 -- A whole document, from the start states' set to the accepted words.
-use Rattle.std.proofs.Common.{◌≡◌, ℕ, suc, ◌+◌, ◌*◌, ◌≤◌, ◌<◌, ◌⊎◌, Bool, true, false, List, [], ◌∷◌, ◌++◌, length, get_or, map, inl, inr, refl, sym, ap, subst, arith, ◌∙◌, mul-le-mul_right}
+use Rattle.std.proofs.Common.{◌≡◌, ℕ, suc, ◌+◌, ◌*◌, ◌≤◌, ◌<◌, ◌⊎◌, Bool, true, false, List, [], ◌∷◌, ◌++◌, length, length-append, get_or, map, inl, inr, refl, sym, ap, subst, arith, ◌∙◌, mul-le-mul_right}
 use Rattle.std.specs.Prelude.{◌↔◌, ◌||◌, if◌then◌else◌}
+use Rattle.std.proofs.lemmas.Option.{get_or_from_slice_get}
 use Rattle.span_core.specs.Lists.{Has, AreDistinct}
 use Rattle.span_core.proofs.HasLaws.{Has-append_left, Has-append_right, Has-append_cases, Has-map, Has-map_cases, distinct-le}
 use Rattle.marked_automaton.specs.Automaton.{Automaton, size}
 use Rattle.automaton_reading.specs.Reading.{Question, byte_read, rest_taken, ended, LookUp, questions, edges_K, next_sets, once, look_up_same, look_ups_asked, look_ups_K, look_ups_read, set_of, weight_K}
 use Rattle.automaton_reading.proofs.Matching.{once_has}
 use Rattle.automaton_reading.proofs.MeasureLaws.{same_look_up, look_up_itself}
-use Rattle.set_table.specs.Tabled.{Tabled, set_at}
+use Rattle.set_table.specs.Tabled.{IsTabled, Tabled, set_at}
 use Rattle.one_pass.specs.Words.{Word}
 use Rattle.output_graph.specs.Graph.{Source}
 use Rattle.one_pass.specs.Builds.{IsNew, build, started}
@@ -74,15 +75,19 @@ met_asked A sets (b ∷ front) a later set h =
           (Has-map (λ (r : LookUp). r.set) all r.0 (Has-append_right (map look_up sets) (look_ups_asked A (next_sets A sets b) (front ++ a ∷ later)) r.0 r.1))
     ]
 
-module _ (A : Automaton) (K : ℕ → Bool) (d : List ℕ) (t : Tabled) (new : IsNew A t) (before : ℕ) where
+-- the first set of a table is that of the start states
+pub new_start : (A : Automaton) (t : Tabled) → IsNew A t → set_at t.sets 0 ≡ set_of A.starts
+new_start A t new = ap (λ (xs : List (List ℕ)). get_or xs 0 []) new.sets
+
+pub tabled_start : (t : Tabled) → IsTabled t → set_at t.sets 0 ≡ set_of t.graph.starts
+tabled_start t tabled = get_or_from_slice_get t.sets 0 (set_of t.graph.starts) [] tabled.start
+
+module _ (A : Automaton) (K : ℕ → Bool) (d : List ℕ) (t : Tabled) (graph : t.graph ≡ A) (start_named : set_at t.sets 0 ≡ set_of A.starts) (before : ℕ) where
   abbrev starts : List (List ℕ)
   starts = set_of A.starts ∷ []
 
   abbrev P : Progress
   P = started t before
-
-  start_named : set_at t.sets 0 ≡ set_of A.starts
-  start_named = ap (λ (xs : List (List ℕ)). get_or xs 0 []) new.sets
 
   pub starts_are : sets_of P ≡ starts
   starts_are = ap (λ s. s ∷ []) start_named
@@ -176,10 +181,17 @@ module _ (A : Automaton) (K : ℕ → Bool) (d : List ℕ) (t : Tabled) (new : I
   one_look_up : 1 ≤ look_ups_K A d K
   one_look_up = has_length (once look_up_same (look_ups_read A d K)) some_look_up.0 (once_has look_up_same same_look_up look_up_itself (look_ups_read A d K) some_look_up.0 some_look_up.1)
 
-  few_look_ups : (look_ups : List LookUp) → AreDistinct look_ups → Covers (look_ups_read A d K) look_ups → length look_ups ≤ look_ups_K A d K
+  -- those of a list that the table holds or the reading asks for are no more than both
+  few_look_ups : (look_ups : List LookUp) → AreDistinct look_ups → ((look_up : LookUp) → Has look_ups look_up → Has t.look_ups look_up ⊎ Has (look_ups_read A d K) look_up) →
+      length look_ups ≤ length t.look_ups + look_ups_K A d K
   few_look_ups look_ups distinct cover =
-      distinct-le look_ups (once look_up_same (look_ups_read A d K)) distinct
-      (λ look_up h. once_has look_up_same same_look_up look_up_itself (look_ups_read A d K) look_up (cover look_up h))
+      let all : List LookUp = once look_up_same (look_ups_read A d K) in
+      let less = distinct-le look_ups (t.look_ups ++ all) distinct
+          (λ look_up h. elim (cover look_up h) as (λ _. Has (t.look_ups ++ all) look_up) [
+            | inl old ↦ Has-append_left t.look_ups all look_up old
+            | inr n ↦ Has-append_right t.look_ups all look_up (once_has look_up_same same_look_up look_up_itself (look_ups_read A d K) look_up n)
+          ]) in
+      omega (arith, less, length-append t.look_ups all)
 
   times_more : (a b c : ℕ) → a ≤ b → a * c ≤ b * c
   times_more a b c h = mul-le-mul_right c h
@@ -187,22 +199,20 @@ module _ (A : Automaton) (K : ℕ → Bool) (d : List ℕ) (t : Tabled) (new : I
   -- what was given up took no more steps
   pub stopped_steps : (ps rest : List ReadingPlace) → ps ++ rest ≡ places K d 0 false → (after : Stop) → HasStopped A ps P after → after.steps + 1 ≤ before + build A d K
   stopped_steps ps rest all after s =
-      let none = ap length new.look_ups in
-      let zero_look_ups = ap (λ (look_ups : List LookUp). length look_ups * size A) new.look_ups in
       let few = few_look_ups s.made s.distinct (λ look_up h. made_look_up look_up (s.look_ups look_up h)) in
-      let product = times_more (length s.made) (look_ups_K A d K) (size A) few in
-      omega (arith, s.steps, zero_look_ups, few, product, front_edges ps rest all, one_look_up)
+      let product = times_more (length s.made) (length t.look_ups + look_ups_K A d K) (size A) few in
+      omega (arith, s.steps, few, product, front_edges ps rest all, one_look_up)
     where
-      made_look_up : (look_up : LookUp) → Has t.look_ups look_up ⊎ Has (look_ups_asked A (sets_of P) (asks ps)) look_up → Has (look_ups_read A d K) look_up
-      made_look_up look_up (inl old) = absurd (subst (λ look_ups. Has look_ups look_up) new.look_ups old)
-      made_look_up look_up (inr n) = front_look_ups ps rest all look_up n
+      made_look_up : (look_up : LookUp) → Has t.look_ups look_up ⊎ Has (look_ups_asked A (sets_of P) (asks ps)) look_up → Has t.look_ups look_up ⊎ Has (look_ups_read A d K) look_up
+      made_look_up look_up (inl old) = inl old
+      made_look_up look_up (inr n) = inr (front_look_ups ps rest all look_up n)
 
-  -- what was more than the limit is no more than the weight of the whole reading
-  pub excess_weight : (sets : List (List ℕ)) (look_ups : List LookUp) (weight : ℕ) → IsExcess t sets look_ups weight →
+  -- what was more than the limit is no more than the weight of the whole reading, where the table was new
+  pub excess_weight : IsNew A t → (sets : List (List ℕ)) (look_ups : List LookUp) (weight : ℕ) → IsExcess t sets look_ups weight →
       Covers (map (λ (r : LookUp). r.set) (look_ups_read A d K)) sets → Covers (look_ups_read A d K) look_ups → (t.limit < weight) × (weight ≤ weight_K A d K)
-  excess_weight sets look_ups weight x some_set some_look_up =
+  excess_weight new sets look_ups weight x some_set some_look_up =
       let less = weight_covers A (map (λ (r : LookUp). r.set) (look_ups_read A d K)) (t.sets ++ sets) (look_ups_read A d K) (t.look_ups ++ look_ups) all_sets all_look_ups in
-      let most : weight ≤ weight_of A (t.sets ++ sets) (t.look_ups ++ look_ups) = subst (λ B. weight ≤ weight_of B (t.sets ++ sets) (t.look_ups ++ look_ups)) new.graph x.most in
+      let most : weight ≤ weight_of A (t.sets ++ sets) (t.look_ups ++ look_ups) = subst (λ B. weight ≤ weight_of B (t.sets ++ sets) (t.look_ups ++ look_ups)) graph x.most in
       (x.more, omega (arith, less, most))
     where
       all_sets : Covers (map (λ (r : LookUp). r.set) (look_ups_read A d K)) (t.sets ++ sets)
@@ -238,10 +248,9 @@ module _ (A : Automaton) (K : ℕ → Bool) (d : List ℕ) (t : Tabled) (new : I
   pub whole_steps : (ps : List ReadingPlace) → ps ++ end_at (length d) ∷ [] ≡ places K d 0 false → (Q R : Progress) → HasRead A ps P Q → HasEnded A (length d) Q R →
       AreDistinct (sets_of Q) → R.steps + (2 * R.graph.live + 2) + 1 ≤ before + build A d K
   whole_steps ps all Q R read done distinct =
-      let zero_look_ups = ap (λ (look_ups : List LookUp). length look_ups * size A) new.look_ups in
       let few = few_look_ups R.table.look_ups done.sound.asked_apart look_ups_all in
-      let product = times_more (length R.table.look_ups) (look_ups_K A d K) (size A) few in
-      omega (arith, read.steps, read.cells, done.steps, done.cells, zero_look_ups, few, product, edges_all, one_look_up)
+      let product = times_more (length R.table.look_ups) (length t.look_ups + look_ups_K A d K) (size A) few in
+      omega (arith, read.steps, read.cells, done.steps, done.cells, few, product, edges_all, one_look_up)
     where
       last_look_ups : Covers (look_ups_read A d K) (look_ups_asked A (sets_of Q) (ended ∷ []))
       last_look_ups look_up h =
@@ -249,14 +258,14 @@ module _ (A : Automaton) (K : ℕ → Bool) (d : List ℕ) (t : Tabled) (new : I
           (look_ups_right A starts (asks ps) (ended ∷ []) look_up
           (look_ups_covers A (sets_after A starts (asks ps)) (sets_of Q) (ended ∷ []) (λ set k. (layer_sets ps Q read set).0 k) look_up h))
 
-      look_ups_all : Covers (look_ups_read A d K) R.table.look_ups
+      look_ups_all : (look_up : LookUp) → Has R.table.look_ups look_up → Has t.look_ups look_up ⊎ Has (look_ups_read A d K) look_up
       look_ups_all look_up h =
-          elim (done.table.look_ups look_up h) as (λ _. Has (look_ups_read A d K) look_up) [
-            | inl old ↦ elim (read.table.look_ups look_up old) as (λ _. Has (look_ups_read A d K) look_up) [
-              | inl o ↦ absurd (subst (λ rs. Has rs look_up) new.look_ups o)
-              | inr n ↦ front_look_ups ps (end_at (length d) ∷ []) all look_up n
+          elim (done.table.look_ups look_up h) as (λ _. Has t.look_ups look_up ⊎ Has (look_ups_read A d K) look_up) [
+            | inl old ↦ elim (read.table.look_ups look_up old) as (λ _. Has t.look_ups look_up ⊎ Has (look_ups_read A d K) look_up) [
+              | inl o ↦ inl o
+              | inr n ↦ inr (front_look_ups ps (end_at (length d) ∷ []) all look_up n)
             ]
-            | inr n ↦ last_look_ups look_up n
+            | inr n ↦ inr (last_look_ups look_up n)
           ]
 
       edges_all : edges_read A (sets_of P) (asks ps) + edges_read A (sets_of Q) (ended ∷ []) ≤ edges_K A d K

@@ -29,7 +29,7 @@ use std::alloc::Global;
 const MOST_SETS: usize = 256;
 
 /// How many words of four bytes are kept of one document at most, about.
-pub(crate) const MOST_WORDS: usize = 4_194_304;
+pub const MOST_WORDS: usize = 4_194_304;
 
 /// The words of a step beside those of its edges and sources.
 const STEP_WORDS: usize = 12;
@@ -73,6 +73,11 @@ impl Known {
         ensures { result ≡ length self.now.steps }
     {
         self.steps.len()
+    }
+
+    /// Whether more of whole layers may be kept.
+    pub fn has_room(&self) -> bool {
+        self.left >= MOST_LAYER_WORDS
     }
 
     /// How many bytes were read set by set, since nothing was known of them.

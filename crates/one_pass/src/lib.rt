@@ -6,8 +6,8 @@
 //! the automaton and the document alone.
 #![tactic(auto)]
 
-pub use known::Known;
-pub use listing::read_rows;
+pub use known::{Known, MOST_WORDS};
+pub use listing::{Listed, read_rows, read_rows_with};
 pub use pass::Pass;
 pub use pieces::{advance, finish};
 pub use reading::read;

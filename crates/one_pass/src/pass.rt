@@ -9,13 +9,14 @@ ghost use Rattle.set_table.specs.Tabled.{IsTabled};
 ghost use Rattle.one_pass.specs.Builds.{started};
 ghost use Rattle.one_pass.specs.Going.{GivesUp, GoesOn, Reads, come};
 ghost use Rattle.one_pass.specs.Ahead.{KnowsWaiting};
+ghost use Rattle.one_pass.specs.Known.{Knows};
 ghost use Rattle.one_pass.specs.Numbered.{IsNumbered, StandsIn, as_layer, in_layer};
 ghost use Rattle.one_pass.specs.Passes.{AllLeadBack};
 ghost use Rattle.one_pass.specs.Places.{bytes_at, gap_at};
 ghost use Rattle.one_pass.specs.Seen.{whole};
 
 use crate::known::Known;
-use crate::search::{FAR, QUIET, Search, bytes_over, quiet_at, quiet_in};
+use crate::search::{FAR, QUIET, Search, bytes_over, quiet_in};
 use output_graph::OutputGraph;
 use set_table::{Table, TableFault};
 use span_core::{OutOfMemory, Steps};
@@ -47,11 +48,28 @@ impl Pass {
         ensures at { IfOk result (λ p. p.at ≡ 0) }
         ensures refused { OnErr result (steps.new ≡ steps.old) }
     {
+        Pass::begin_with(alloc, Known::new(alloc, words), table, steps)
+    }
+
+    /// As `begin`, with what is known of the table's layers.
+    pub(crate) fn begin_with<L: Ledger>(
+        alloc: Global,
+        known: Known,
+        table: &Table<'_>,
+        steps: &mut Steps<L>,
+    ) -> Result<Pass, OutOfMemory>
+        requires known { Knows table.now known }
+        ensures tabled { IsTabled table.now }
+        ensures begun { IfOk result (λ p. come table.now p steps.new ≡ started table.now steps.old) }
+        ensures goes_on { IfOk result (GoesOn table.now) }
+        ensures at { IfOk result (λ p. p.at ≡ 0) }
+        ensures refused { OnErr result (steps.new ≡ steps.old) }
+    {
         let graph = OutputGraph::start(alloc, table.start(), steps)?;
         graph.is_graph();
         Ok(Pass {
             graph,
-            known: Known::new(alloc, words),
+            known,
             search: Search::new(alloc),
             at: 0,
         })

@@ -10,11 +10,13 @@ ghost use Rattle.output_graph.specs.Graph.{IsCost, IsPlace, IsStepped, sets_of};
 ghost use Rattle.output_graph.specs.Sound.{edges_of};
 ghost use Rattle.set_table.specs.Tabled.{IsRefusal, look_up, once_asked};
 ghost use Rattle.one_pass.specs.Going.{Ends, GivesUp, GivesUpEnd, GoesOn, Reads};
+ghost use Rattle.one_pass.specs.Known.{Knows};
 ghost use Rattle.one_pass.specs.Passes.{AllStayOn, AreGiven};
 ghost use Rattle.one_pass.specs.Places.{byte_at, rest_at};
 ghost use Rattle.one_pass.specs.Seen.{whole};
 ghost use Rattle.one_pass.specs.Turned.{HasNotTurned, HasTurned, HasTurnedEnd, rest_edges};
 
+use crate::known::Known;
 use crate::pass::Pass;
 use output_graph::OutputGraph;
 use set_table::{Table, TableFault};
@@ -89,9 +91,28 @@ impl Pass {
         ensures only { IfOk result (λ g. (s : ℕ) → Has (sets_of g.next) s → s ≡ 0) }
         ensures given_up { IfErr result (GivesUpEnd table.old self steps.old table.new steps.new) }
     {
+        match self.end_with(table, steps) {
+            Ok(ended) => Ok(ended.graph),
+            Err(fault) => Err(fault),
+        }
+    }
+
+    /// As `end`, and gives back what is known of the table's layers.
+    pub(crate) fn end_with<L: Ledger>(
+        self,
+        table: &mut Table<'_>,
+        steps: &mut Steps<L>,
+    ) -> Result<EndedPass, TableFault>
+        requires { GoesOn table.old self }
+        ensures ended { IfOk result (λ e. Ends table.old self steps.old table.new e.graph steps.new) }
+        ensures every { IfOk result (λ e. e.graph.stepped ≡ length e.graph.layer) }
+        ensures only { IfOk result (λ e. (s : ℕ) → Has (sets_of e.graph.next) s → s ≡ 0) }
+        ensures known { IfOk result (λ e. Knows table.new e.known) }
+        ensures given_up { IfErr result (GivesUpEnd table.old self steps.old table.new steps.new) }
+    {
         let Pass {
             mut graph,
-            known: _,
+            known,
             search: _,
             at,
         } = self;
@@ -101,8 +122,15 @@ impl Pass {
                 return Err(fault);
             }
         }
-        Ok(graph)
+        Ok(EndedPass { graph, known })
     }
+}
+
+/// What a pass leaves at the end of a document.
+#[derive(Drop)]
+pub(crate) struct EndedPass {
+    pub(crate) graph: OutputGraph,
+    pub(crate) known: Known,
 }
 
 /// Asks the set of a source, of which the place in the layer and the set are told, for its edges on a byte, and steps the

@@ -1,5 +1,5 @@
 -- From a document that is read at what the atoms of a query touch to the rows of an enumerator.
-use Rattle.std.proofs.Common.{◌≡◌, ℕ, ◌+◌, ◌<◌, ◌≤◌, Bool, List, length, sym, subst, arith, Fits, w8, slice_index_or}
+use Rattle.std.proofs.Common.{◌≡◌, ℕ, ◌+◌, ◌<◌, ◌≤◌, Bool, List, Option, None, Some, length, sym, subst, arith, Fits, w8, slice_index_or}
 use Rattle.std.proofs.lemmas.Option.{get_or_from_slice_get}
 use Rattle.span_core.specs.Lists.{Has}
 use Rattle.spanner_model.specs.Expression.{QueryTree}
@@ -18,6 +18,8 @@ use Rattle.one_pass.specs.Faults.{IsReadFault}
 use Rattle.one_pass.specs.Places.{AreReadWords}
 use Rattle.one_pass.specs.Words.{Word}
 use Rattle.spanner_engine.specs.Begun.{counted}
+use Rattle.spanner_engine.specs.Caching.{rebuild}
+use Rattle.spanner_engine.specs.declared.cache.KeptTable.{KeptTable}
 use Rattle.spanner_engine.specs.Laws.{CostsNoMore, ReadsAnswers}
 use Rattle.spanner_engine.proofs.Costs.{reduct_costs}
 use Rattle.spanner_engine.proofs.RowLaws.{rows_are_answers, words_are_of_rows}
@@ -27,8 +29,8 @@ bytes_of d fits i b e = let f = fits i in subst (λ (x : ℕ). x < 256) (get_or_
 
 -- ---- in the shapes of the code
 
-sums : (old new a b : ℕ) → new ≤ old + a → a ≤ b → new ≤ old + b
-sums old new a b le less = omega (arith, le, less)
+sums : (old new a b c e : ℕ) → new ≤ old + a + b → a ≤ c → b ≤ e → new ≤ old + c + e
+sums old new a b c e le first second = omega (arith, le, first, second)
 
 one_more : (cells many a b : ℕ) → cells ≡ many → many ≤ a + 1 → a ≤ b → cells ≤ b + 1
 one_more cells many a b is le less = omega (arith, is, le, less)
@@ -45,8 +47,14 @@ module _ (q : QueryTree) (A B : Marked) (made : IsCompiled q A) (is : B ≡ A) (
   read_fault limit (Full w) h = (let c = costs.weights in (h.0, omega (arith, h.1, c)))
   read_fault limit OutOfMemory h = tt
 
-  pub steps_within : (old new : ℕ) → new ≤ old + build B.graph d K → new ≤ old + build (counted q) d K
-  steps_within old new le = sums old new (build B.graph d K) (build (counted q) d K) le costs.steps
+  rebuild_within : (kept : Option KeptTable) → rebuild kept B.graph d K ≤ rebuild kept (counted q) d K
+  rebuild_within None = omega arith
+  rebuild_within (Some k) = costs.steps
+
+  pub steps_within : (kept : Option KeptTable) (old new : ℕ) → new ≤ old + rebuild kept B.graph d K + build B.graph d K →
+      new ≤ old + rebuild kept (counted q) d K + build (counted q) d K
+  steps_within kept old new le =
+      sums old new (rebuild kept B.graph d K) (build B.graph d K) (rebuild kept (counted q) d K) (build (counted q) d K) le (rebuild_within kept) costs.steps
 
   pub cells_within : (cells many : ℕ) → cells ≡ many → many ≤ edges_K B.graph d K + 1 → cells ≤ edges_K (counted q) d K + 1
   cells_within cells many is le = one_more cells many (edges_K B.graph d K) (edges_K (counted q) d K) is le costs.edges

@@ -9,3 +9,4 @@ pub mod RowLaws
 pub mod Starting
 pub mod WordLaws
 pub mod PassingLaws
+pub mod CacheLaws

@@ -18,7 +18,7 @@ use Rattle.span_core.specs.NameSets.{Ascending}
 use Rattle.spanner_model.proofs.RowLaws.{mapping_of-outside, mapping_of-at, row_length}
 use Rattle.span_tests.specs.Listed.{IsNamed, IsFirstNamed}
 use Rattle.spanner_engine.specs.Fitting.{AreLast, FitsRow}
-use Rattle.spanner_engine.specs.Left.{EndsIn}
+use Rattle.spanner_engine.specs.Left.{AreLeft, EndsIn}
 use Rattle.spanner_engine.specs.Passing.{AreKnown, Check, FirstUnknown, IsNextPassing, Known, check_of, checks_of, passes, passing, row_passes, span_passes}
 
 -- ---- tests one by one
@@ -207,3 +207,10 @@ module _ (q : QueryTree) (checks : List Check) (names : List VarName) (d : List 
   pub goes_left : (b : Bool) (P : Type 0) → OnTrue b (IsNextPassing checks names d old row new) → OnFalse b (P × (new ≡ [])) → EndsIn old new
   goes_left true P n none = next_ends checks names d old new row n
   goes_left false P n none = (old, sym (append-nil old) ∙ ap (λ (xs : List SpanRow). old ++ xs) (sym none.1))
+
+-- ---- what is left after a row
+
+-- those that are left after a row are the last of the answers
+pub left_last : (q : QueryTree) (d : List ℕ) (names : List VarName) (after : Option SpanRow) (rest : List SpanRow) → AreLeft q d names after rest → AreLast q d names rest
+left_last q d names None rest (rows, answers, is) = record { all = rows; answers = answers; front = []; joined = sym is }
+left_last q d names (Some after) rest (rows, answers, is) = record { all = rows; answers = answers; front = is.0; joined = is.1 }

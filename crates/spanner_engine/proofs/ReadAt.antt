@@ -15,6 +15,8 @@ use Rattle.one_pass.specs.Faults.{IsReadFault}
 use Rattle.one_pass.specs.Places.{is_touched}
 use Rattle.one_pass.specs.Weights.{WeighsWithin}
 use Rattle.one_pass.proofs.LawProofs.{touched_covers, covers_touched}
+use Rattle.spanner_engine.specs.Caching.{rebuild}
+use Rattle.spanner_engine.specs.declared.cache.KeptTable.{KeptTable}
 use Rattle.spanner_engine.specs.Begun.{AreRead, IsReadAt, IsReadWithin, begin_steps, cells_sought, counted, filter_steps, table_weight}
 
 -- ---- sets
@@ -97,19 +99,21 @@ module _ (filter : Bool) (q p : QueryTree) (is : p ≡ q) (d : List ℕ) (parts 
   first_steps old found le = subst (λ (r : QueryTree). found ≤ old + filter_steps filter r d) is le
 
   -- where reading ends early
-  pub steps_read : (old found new : ℕ) (after : Option SpanRow) → found ≤ old + filter_steps filter p d → new ≤ found + build (counted q) d (is_touched parts) →
-      (K : ℕ → Bool) → AreRead filter q d K → new ≤ old + begin_steps filter q d K after
-  steps_read old found new after first next =
-      let start = first_steps old found first in for_each (λ K. new ≤ old + begin_steps filter q d K after) (omega (arith, start, next))
+  pub steps_read : (kept : Option KeptTable) (old found new : ℕ) (after : Option SpanRow) → found ≤ old + filter_steps filter p d →
+      new ≤ found + rebuild kept (counted q) d (is_touched parts) + build (counted q) d (is_touched parts) →
+      (K : ℕ → Bool) → AreRead filter q d K → new ≤ old + rebuild kept (counted q) d K + begin_steps filter q d K after
+  steps_read kept old found new after first next =
+      let start = first_steps old found first in for_each (λ K. new ≤ old + rebuild kept (counted q) d K + begin_steps filter q d K after) (omega (arith, start, next))
 
   sought_most : (cells most : ℕ) (after : Option SpanRow) → cells ≤ most → cells_sought cells after ≤ cells_sought most after
   sought_most cells most None le = omega arith
   sought_most cells most (Some row) le = le
 
-  pub steps_sought : (old found built new cells : ℕ) (after : Option SpanRow) → found ≤ old + filter_steps filter p d → built ≤ found + build (counted q) d (is_touched parts) →
+  pub steps_sought : (kept : Option KeptTable) (old found built new cells : ℕ) (after : Option SpanRow) → found ≤ old + filter_steps filter p d →
+      built ≤ found + rebuild kept (counted q) d (is_touched parts) + build (counted q) d (is_touched parts) →
       cells ≤ edges_K (counted q) d (is_touched parts) + 1 → new ≤ built + cells_sought cells after →
-      (K : ℕ → Bool) → AreRead filter q d K → new ≤ old + begin_steps filter q d K after
-  steps_sought old found built new cells after first next few last =
+      (K : ℕ → Bool) → AreRead filter q d K → new ≤ old + rebuild kept (counted q) d K + begin_steps filter q d K after
+  steps_sought kept old found built new cells after first next few last =
       let start = first_steps old found first in
       let most = sought_most cells (edges_K (counted q) d (is_touched parts) + 1) after few in
-      for_each (λ K. new ≤ old + begin_steps filter q d K after) (omega (arith, start, next, last, most))
+      for_each (λ K. new ≤ old + rebuild kept (counted q) d K + begin_steps filter q d K after) (omega (arith, start, next, last, most))

@@ -5,3 +5,4 @@ pub mod Laws
 pub mod Left
 pub mod Fitting
 pub mod Passing
+pub mod Caching

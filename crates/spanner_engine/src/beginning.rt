@@ -7,13 +7,15 @@ ghost use Rattle.std.specs.Option.{ForSome, IfSome, option_copied};
 ghost use Rattle.spanner_model.specs.Answers.{IsRest};
 ghost use Rattle.spanner_model.specs.ExprView.{query_of};
 ghost use Rattle.query_automaton.specs.CompiledQuery.{IsCompiled};
-ghost use Rattle.spanner_engine.specs.Begun.{AreRead, IsBeginFault, IsPast, IsReadWithin, KeepsOther, begin_steps, cells_sought, row_kept};
+ghost use Rattle.spanner_engine.specs.Begun.{AreRead, IsBeginFault, IsPast, IsReadWithin, KeepsOther, begin_steps, cells_sought, counted, row_kept};
+ghost use Rattle.spanner_engine.specs.Caching.{IsCacheOf, rebuild};
 ghost use Rattle.spanner_engine.specs.Filtering.{AreWithin};
 ghost use Rattle.spanner_engine.specs.Left.{AreLeft};
 ghost use Rattle.spanner_engine.specs.declared.beginning.BeginFault.TheVariants.{CursorOther, CursorPlace};
 
 use crate::Answers;
 use crate::building::all_answers;
+use crate::cache::Cache;
 use crate::place::{is_past, other_length};
 use crate::positions::positions_read;
 use enumerator::Enumerator;
@@ -136,6 +138,42 @@ pub fn begin_by<L: Ledger>(
     ensures steps { (K : ℕ → Bool) → AreRead options.filter (query_of query.now) doc.now K →
         steps.new ≤ steps.old + begin_steps options.filter (query_of query.now) doc.now K (row_kept (option_copied after.entry)) }
 {
+    let mut cache = Cache::new(alloc, 0);
+    begin_with(query, automaton, &mut cache, doc, after, options, steps)
+}
+
+/// The same with a cache, which belongs to the automaton: what it keeps of documents before serves this one, and what is found
+/// out now serves the next.
+///
+/// The answers and refusals are those of `begin_by`: if a document is refused over what is kept, it is read once more by a new
+/// table, so that the weight of a refusal is of this document alone. That may take the steps of reading it twice.
+pub fn begin_with<L: Ledger>(
+    query: &Query,
+    automaton: &Automaton,
+    cache: &mut Cache,
+    doc: &[u8],
+    after: Option<&Kept>,
+    options: Options,
+    steps: &mut Steps<L>,
+) -> Result<Answers, BeginFault>
+    requires compiled { IsCompiled (query_of query.now) automaton.now }
+    requires cache { IsCacheOf automaton.now.graph cache.old }
+    requires few { length doc.now ≤ 2 ^ 28 }
+    requires row { IfSome (option_copied after) (λ kept. length kept.row ≡ length automaton.now.names) }
+    requires limit { options.limit ≤ 100000000 }
+    ensures cache { IsCacheOf automaton.now.graph cache.new }
+    ensures left { IfOk result (λ a. AreLeft (query_of query.now) doc.now automaton.now.names (row_kept (option_copied after.entry)) a.rest) }
+    ensures variables { IfOk result (λ a. a.variables ≡ length automaton.now.names) }
+    ensures other { (kept : ℕ) → KeepsOther (length doc.now) (option_copied after.entry) kept → IsErrOf result (CursorOther kept (length doc.now)) }
+    ensures place { IsPast (length doc.now) (option_copied after.entry) → IsErrOf result CursorPlace }
+    ensures still { (kept found : ℕ) → IsErrOf result CursorPlace ⊎ IsErrOf result (CursorOther kept found) → steps.new ≡ steps.old }
+    ensures fault { IfErr result (IsBeginFault (query_of query.now) doc.now options.filter (option_copied after.entry) options.limit) }
+    ensures weighs { OnOk result (IsReadWithin automaton.now.graph (query_of query.now) doc.now options.filter options.limit) }
+    ensures atoms { OnOk result (AreWithin (query_of query.now) doc.now options.filter options.limit) }
+    ensures steps { (K : ℕ → Bool) → AreRead options.filter (query_of query.now) doc.now K →
+        steps.new ≤ steps.old + rebuild cache.old.kept (counted (query_of query.now)) doc.now K
+            + begin_steps options.filter (query_of query.now) doc.now K (row_kept (option_copied after.entry)) }
+{
     let found = doc.len() as u32;
     if let Some(kept) = other_length(after, found) {
         return Err(BeginFault::CursorOther { kept, found });
@@ -143,13 +181,13 @@ pub fn begin_by<L: Ledger>(
     if is_past(after, doc.len()) {
         return Err(BeginFault::CursorPlace);
     }
-    let positions = match positions_read(alloc, query, doc, options, steps) {
+    let positions = match positions_read(cache.alloc(), query, doc, options, steps) {
         Ok(positions) => positions,
         Err(FilterFault::Full { weight }) => return Err(BeginFault::Filter { weight }),
         Err(FilterFault::OutOfMemory) => return Err(BeginFault::OutOfMemory),
     };
     let rows = match all_answers(
-        alloc,
+        cache,
         query,
         automaton,
         doc,

@@ -5,7 +5,8 @@
 #![tactic(auto)]
 
 pub use answers::Answers;
-pub use beginning::{BeginFault, Options, begin, begin_by};
+pub use beginning::{BeginFault, Options, begin, begin_by, begin_with};
+pub use cache::Cache;
 pub use query_automaton::{Compiled, compile};
 pub use rows::TestedRows;
 pub use tested::{advance_tested, bind, next_tested};
@@ -13,6 +14,7 @@ pub use tested::{advance_tested, bind, next_tested};
 mod answers;
 mod beginning;
 mod building;
+mod cache;
 mod differences;
 pub mod laws;
 mod place;

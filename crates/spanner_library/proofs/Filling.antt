@@ -1,5 +1,5 @@
 -- Rows that are being given.
-use Rattle.std.proofs.Common.{◌≡◌, ℕ, ◌+◌, ◌*◌, ◌<◌, ◌≤◌, List, [], ◌∷◌, ◌++◌, length, take, drop, refl, sym, ap, ◌∙◌, subst, arith, length-take}
+use Rattle.std.proofs.Common.{◌≡◌, ℕ, ◌+◌, ◌*◌, ◌<◌, ◌≤◌, List, [], ◌∷◌, ◌++◌, length, take, drop, refl, sym, ap, ◌∙◌, subst, arith, length-append, length-take}
 use Rattle.std.proofs.lemmas.List.{drop_all, take_all}
 use Rattle.spanner_model.specs.Captures.{VarName}
 use Rattle.spanner_model.specs.Answers.{SpanRow}
@@ -16,6 +16,7 @@ pub record Filling (checks : List Check) (names : List VarName) (d : List ℕ) (
   pub few : count ≤ length (passing checks names d old)
   pub left : passing checks names d now ≡ drop count (passing checks names d old)
   pub len : length after ≡ length before
+  pub fewer : length now + count ≤ length old
   pub put : take (count * (2 * length names)) after ≡ rows_cells (take count (passing checks names d old))
   pub behind : drop (count * (2 * length names)) after ≡ drop (count * (2 * length names)) before
 
@@ -23,7 +24,7 @@ module _ (checks : List Check) (names : List VarName) (d : List ℕ) (old : List
   pub begins : Filling checks names d old old before before most 0
   begins =
       let none : 0 * (2 * length names) ≡ 0 = omega arith in
-      record { within = omega arith; few = omega arith; left = refl; len = refl; put = ap (λ (k : ℕ). take k before) none; behind = refl }
+      record { within = omega arith; few = omega arith; left = refl; len = refl; fewer = omega arith; put = ap (λ (k : ℕ). take k before) none; behind = refl }
 
   module _ (now new : List SpanRow) (after then : List ℕ) (count : ℕ) (f : Filling checks names d old now before after most count) (row shown : SpanRow) (at : ℕ) (less : count < most)
       (n : IsNextPassing checks names d now row new) (fits : FitsRow (length names) (length d) row) (same : shown ≡ row) (place : at ≡ count * (2 * length names))
@@ -46,6 +47,7 @@ module _ (checks : List Check) (names : List VarName) (d : List ℕ) (old : List
       few = few_further (passing checks names d old) count row (passing checks names d new) comes;
       left = rest_further (passing checks names d old) count row (passing checks names d new) comes;
       len = len ∙ f.len;
+      fewer = omega (arith, f.fewer, ap (λ (rows : List SpanRow). length rows) n.joined, length-append n.tried (row ∷ new));
       put = ap (λ (k : ℕ). take k then) next_place ∙ put ∙ ap (λ (k : ℕ). take k after ++ row_cells shown) place ∙ ap (λ (xs : List ℕ). xs ++ row_cells shown) f.put
           ∙ ap (λ (r : SpanRow). rows_cells (take count (passing checks names d old)) ++ row_cells r) same
           ∙ sym (rows_further (passing checks names d old) count row (passing checks names d new) comes);

@@ -1,6 +1,8 @@
 -- What a prepared query is, what rows are still to come, and why a text is refused.
 use Rattle.std.specs.Prelude.{◌≡◌, ◌⊎◌, ℕ, ◌*◌, Bool, List, length, take, drop, refl}
 use Rattle.std.specs.Coded.{Coded, code_by, coded×, coded_list, coded_ℕ}
+use Rattle.marked_automaton.specs.Automaton.{Automaton}
+use Rattle.marked_automaton.specs.Codes.{automaton_code}
 use Rattle.query_parser.specs.contracts.asks.Tested.{the_row}
 use Rattle.spanner_model.specs.Captures.{VarName}
 use Rattle.spanner_model.specs.Answers.{SpanRow}
@@ -15,17 +17,19 @@ use Rattle.spanner_library.specs.Cells.{rows_cells}
 use Rattle.spanner_library.specs.declared.prepared.PrepareFault.{PrepareFault}
 use Rattle.spanner_library.specs.declared.prepared.PrepareFault.TheVariants as refused
 
--- a query with its tests, the tests that are known, and the names of its variables
+-- a query with its tests, the tests that are known, the names of its variables, and the automaton that documents are read by
 pub record PreparedQuery : Type 0 where
   pub tested : Tested
   pub tests : List (List ℕ × ℕ)
   pub names : List VarName
+  pub graph : Automaton
 
 -- it is stored as its parts
 abbrev pub prepared_code : Coded PreparedQuery
 prepared_code =
-    code_by (Tested × (List (List ℕ × ℕ) × List VarName)) (coded× the_row.coded (coded× (coded_list (coded× (coded_list coded_ℕ) coded_ℕ)) (coded_list (coded_list coded_ℕ))))
-    (λ p. (p.tested, (p.tests, p.names))) (λ t. record { tested = t.0; tests = t.1.0; names = t.1.1 }) (λ _. refl)
+    code_by (Tested × (List (List ℕ × ℕ) × (List VarName × Automaton)))
+    (coded× the_row.coded (coded× (coded_list (coded× (coded_list coded_ℕ) coded_ℕ)) (coded× (coded_list (coded_list coded_ℕ)) automaton_code)))
+    (λ p. (p.tested, (p.tests, (p.names, p.graph)))) (λ t. record { tested = t.0; tests = t.1.0; names = t.1.1.0; graph = t.1.1.1 }) (λ _. refl)
 
 -- the tree of its text
 abbrev pub tree : PreparedQuery → TestedTree

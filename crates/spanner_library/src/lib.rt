@@ -8,7 +8,7 @@
 pub use prepared::{PrepareFault, Prepared};
 pub use rows::Rows;
 pub use span_core::Kept;
-pub use spanner_engine::{BeginFault, Options};
+pub use spanner_engine::{BeginFault, Cache, Options};
 
 mod cells;
 mod prepared;

@@ -3,7 +3,9 @@ ghost use Rattle.std.specs.Prelude.{◌≡◌, ℕ, ◌+◌, ◌^◌, ◌≤◌,
 ghost use Rattle.std.specs.Option.{IfSome, option_copied};
 ghost use Rattle.spanner_model.specs.Answers.{AreResultNames};
 ghost use Rattle.query_automaton.specs.Parts.{AtomsAreSmall};
-ghost use Rattle.spanner_engine.specs.Begun.{AreRead, IsBeginFault, begin_steps, row_kept};
+ghost use Rattle.spanner_engine.specs.Begun.{AreRead, IsBeginFault, begin_steps, counted, row_kept};
+ghost use Rattle.spanner_engine.specs.Caching.{IsCacheOf, rebuild};
+ghost use Rattle.spanner_engine.specs.Fitting.{AreLast};
 ghost use Rattle.spanner_engine.specs.Left.{AreLeft};
 ghost use Rattle.spanner_engine.specs.Passing.{AreKnown, IsOnlyTested, known};
 ghost use Rattle.spanner_library.specs.Library.{IsRefused, tree};
@@ -13,7 +15,7 @@ use marked_automaton::{Automaton, SizeFault};
 use query_parser::{QueryFault, Tested, read_tested};
 use span_core::{Kept, Steps, VarSet};
 use span_tests::{Judge, Tests};
-use spanner_engine::{BeginFault, Options, begin_by, bind, compile};
+use spanner_engine::{BeginFault, Cache, Options, begin_by, begin_with, bind, compile};
 use std::alloc::Global;
 use std::marker::Model;
 use std::sync::ledger::Ledger;
@@ -41,13 +43,14 @@ impl<J: Judge> Model for Prepared<J> {
       tested = p.tested;
       tests = p.tests;
       names = p.automaton.names;
+      graph = p.automaton.graph;
     } };
 
     ghost invariant = { λ p. IsCompiled (query_of p.tested.query) p.automaton × AreKnown (known p.tests J.judges) p.tested.asked };
 }
 
 /// Why a text is not prepared.
-#[derive(Drop)]
+#[derive(Clone, Copy, Debug)]
 pub enum PrepareFault {
     /// The fault of the text, or want of memory.
     Text(QueryFault),
@@ -119,6 +122,7 @@ impl<J: Judge> Prepared<J> {
         requires row { IfSome (option_copied after) (λ kept. length kept.row ≡ length self.now.names) }
         requires limit { options.limit ≤ 100000000 }
         ensures left { IfOk result (λ r. AreLeft (tree self.now).query document.now self.now.names (row_kept (option_copied after.entry)) r.rest) }
+        ensures last { IfOk result (λ r. AreLast (tree self.now).query document.now self.now.names r.rest) }
         ensures variables { IfOk result (λ r. r.variables ≡ length self.now.names) }
         ensures fault { IfErr result (IsBeginFault (tree self.now).query document.now options.filter (option_copied after.entry) options.limit) }
         ensures steps { (K : ℕ → Bool) → AreRead options.filter (tree self.now).query document.now K →
@@ -128,6 +132,46 @@ impl<J: Judge> Prepared<J> {
             alloc,
             &self.tested.query,
             &self.automaton,
+            document,
+            after,
+            options,
+            steps,
+        ) {
+            Ok(answers) => Ok(Rows::over(answers)),
+            Err(fault) => Err(fault),
+        }
+    }
+
+    /// As `open`, with what a cache keeps of the documents before, and keeping in it what is found out now. A cache is `Cache::new`
+    /// at first, and belongs to one query from then on.
+    ///
+    /// The rows and refusals are those of `open`: if a document is refused over what is kept, it is read once more without it. So
+    /// it may take the steps of reading it twice.
+    pub fn open_with<L: Ledger>(
+        &self,
+        cache: &mut Cache,
+        document: &[u8],
+        after: Option<&Kept>,
+        options: Options,
+        steps: &mut Steps<L>,
+    ) -> Result<Rows, BeginFault>
+        requires cache { IsCacheOf self.now.graph cache.old }
+        requires few { length document.now ≤ 2 ^ 28 }
+        requires row { IfSome (option_copied after) (λ kept. length kept.row ≡ length self.now.names) }
+        requires limit { options.limit ≤ 100000000 }
+        ensures cache { IsCacheOf self.now.graph cache.new }
+        ensures left { IfOk result (λ r. AreLeft (tree self.now).query document.now self.now.names (row_kept (option_copied after.entry)) r.rest) }
+        ensures last { IfOk result (λ r. AreLast (tree self.now).query document.now self.now.names r.rest) }
+        ensures variables { IfOk result (λ r. r.variables ≡ length self.now.names) }
+        ensures fault { IfErr result (IsBeginFault (tree self.now).query document.now options.filter (option_copied after.entry) options.limit) }
+        ensures steps { (K : ℕ → Bool) → AreRead options.filter (tree self.now).query document.now K →
+            steps.new ≤ steps.old + rebuild cache.old.kept (counted (tree self.now).query) document.now K
+                + begin_steps options.filter (tree self.now).query document.now K (row_kept (option_copied after.entry)) }
+    {
+        match begin_with(
+            &self.tested.query,
+            &self.automaton,
+            cache,
             document,
             after,
             options,

@@ -1,5 +1,5 @@
 //! Rows that are still to come.
-ghost use Rattle.std.specs.Prelude.{◌≡◌, ◌*◌, ◌^◌, ◌≤◌, length};
+ghost use Rattle.std.specs.Prelude.{◌≡◌, ◌+◌, ◌*◌, ◌^◌, ◌≤◌, length};
 ghost use Rattle.spanner_model.specs.Answers.{AreResultNames};
 ghost use Rattle.spanner_model.specs.ExprView.{query_of};
 ghost use Rattle.spanner_engine.specs.Fitting.{AreLast};
@@ -62,6 +62,7 @@ impl Rows {
         ensures given { Given (checks_by J.judges query.now) query.now.names document.now self.old.rest self.new.rest out.old out.new most result }
         ensures last { AreLast (tree query.now).query document.now query.now.names self.new.rest }
         ensures variables { self.new.variables ≡ self.old.variables }
+        ensures fewer { length self.new.rest + result ≤ length self.old.rest }
         ensures len { length out.new ≡ length out.old }
     {
         fill_from(
@@ -96,6 +97,7 @@ fn fill_from<J: Judge, L: Ledger>(
     ensures given { Given (checks_of (known tests.now J.judges) tested.now.asked) vars.now document.now answers.old.rest answers.new.rest out.old out.new most result }
     ensures last { AreLast (query_of tested.now.query) document.now vars.now answers.new.rest }
     ensures variables { answers.new.variables ≡ answers.old.variables }
+    ensures fewer { length answers.new.rest + result ≤ length answers.old.rest }
     ensures len { length out.new ≡ length out.old }
 {
     let width = 2 * vars.len();

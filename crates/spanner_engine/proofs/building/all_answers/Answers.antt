@@ -19,7 +19,7 @@ returns-in_err-lists-clause-cause g c =
 pub returns-in_err-lists-clause-steps : goal.returns-in_err-lists-clause-steps
 returns-in_err-lists-clause-steps g c =
     steps_within (query_of c.args._query.now) c.args.automaton.now c.args.automaton.now c.requires.compiled refl c.is_marked.ensures
-    c.args.doc.now (is_touched c.args.positions) c.args.steps.now c.lists_of.new.steps c.lists_of.ensures.steps
+    c.args.doc.now (is_touched c.args.positions) c.args.cache.now.kept c.args.steps.now c.lists_over.new.steps c.lists_over.ensures.steps
 
 pub new-requires-clause-rows : goal.new-requires-clause-rows
 new-requires-clause-rows g c =
@@ -42,4 +42,4 @@ returns-clause-cells g c =
 pub returns-clause-steps : goal.returns-clause-steps
 returns-clause-steps g c =
     steps_within (query_of c.args._query.now) c.args.automaton.now c.args.automaton.now c.requires.compiled refl c.is_marked.ensures
-    c.args.doc.now (is_touched c.args.positions) c.args.steps.now c.lists_of.new.steps c.lists_of.ensures.steps
+    c.args.doc.now (is_touched c.args.positions) c.args.cache.now.kept c.args.steps.now c.lists_over.new.steps c.lists_over.ensures.steps

@@ -1,5 +1,5 @@
 use Rattle.one_pass.proofs.Sources.{IsEndedTo}
-use Rattle.one_pass.proofs.pass.Pass.end.Given as goal
+use Rattle.one_pass.proofs.pass.Pass.end_with.Given as goal
 
 -- the first k sources have been ended
 abbrev pub invariant-loop-k : goal.invariant-loop-k

@@ -1,6 +1,7 @@
 use Rattle.std.proofs.Common.{arith}
+use Rattle.one_pass.proofs.KnownLaws.{known_read}
 use Rattle.one_pass.proofs.Sources.{ended_all, ended_every, ended_given, ended_gives_up, ended_many, ended_more, ended_none}
-use Rattle.one_pass.proofs.pass.Pass.end.Goals as goal
+use Rattle.one_pass.proofs.pass.Pass.end_with.Goals as goal
 
 pub loop-k-init : goal.loop-k-init
 loop-k-init g c = ended_none c.requires
@@ -29,3 +30,8 @@ returns-clause-every g c = ended_every c.requires c.loop-k.invariant (omega arit
 
 pub returns-clause-only : goal.returns-clause-only
 returns-clause-only g c = c.loop-k.invariant.only
+
+pub returns-clause-known : goal.returns-clause-known
+returns-clause-known g c =
+    let done = ended_all c.requires c.loop-k.invariant (omega arith) in
+    known_read c.args.table.now c.loop-k.table _ _ c.args.self.known.layers c.args.self.known.entries c.args.self.known.steps done.table c.requires.known

@@ -1,6 +1,6 @@
 use Rattle.one_pass.specs.Places.{is_touched}
 use Rattle.spanner_engine.proofs.Starting.{start_fault}
-use Rattle.spanner_engine.proofs.building.lists_of.Goals as goal
+use Rattle.spanner_engine.proofs.cache.lists_anew.Goals as goal
 
 pub returns-in-Err-clause-cause : goal.returns-in-Err-clause-cause
 returns-in-Err-clause-cause g c =

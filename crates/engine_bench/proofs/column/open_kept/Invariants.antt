@@ -1,0 +1,6 @@
+use Rattle.spanner_engine.specs.Caching.{IsCacheOf}
+use Rattle.engine_bench.proofs.column.open_kept.Given as goal
+
+-- the cache belongs to the query
+abbrev pub invariant-loop-line : goal.invariant-loop-line
+invariant-loop-line g l = IsCacheOf l.query.graph l.cache

@@ -1,0 +1,6 @@
+use Rattle.spanner_engine.specs.Caching.{IsCacheOf}
+use Rattle.library_example.proofs.ask_all.Given as goal
+
+-- the cache belongs to the query
+abbrev pub invariant-loop-line : goal.invariant-loop-line
+invariant-loop-line g l = IsCacheOf l.query.graph l.cache

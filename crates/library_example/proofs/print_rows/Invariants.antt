@@ -1,0 +1,15 @@
+use Rattle.std.proofs.Common.{◌≡◌, ◌*◌, length}
+use Rattle.spanner_engine.specs.Fitting.{AreLast}
+use Rattle.spanner_library.specs.Library.{tree}
+use Rattle.library_example.specs.declared.TheConstants.{MOST_ROWS}
+use Rattle.library_example.proofs.print_rows.Given as goal
+
+-- the rows that are still to come are the last, and there is room for those of one call
+abbrev pub invariant-loop : goal.invariant-loop
+invariant-loop g l = record {
+  last : AreLast (tree l.query).query l.document l.query.names l.rows.rest;
+  room : length l.numbers.items ≡ MOST_ROWS * (2 * length l.query.names);
+}
+
+abbrev pub decreases-loop : goal.decreases-loop
+decreases-loop g l = length l.rows.rest

@@ -1,0 +1,23 @@
+use Rattle.std.proofs.Common.{◌+◌, ◌≤◌, ℕ, Bool, subst}
+use Rattle.std.specs.Option.{option_copied}
+use Rattle.spanner_engine.specs.Begun.{AreRead, begin_steps, counted, row_kept}
+use Rattle.spanner_engine.specs.Caching.{rebuild}
+use Rattle.spanner_engine.specs.Fitting.{AreLast}
+use Rattle.spanner_engine.proofs.PassingLaws.{left_last}
+use Rattle.spanner_library.specs.Library.{PreparedQuery, tree}
+use Rattle.spanner_library.proofs.prepared.Prepared.open_with.Goals as goal
+
+pub returns-in-Ok-clause-steps : goal.returns-in-Ok-clause-steps
+returns-in-Ok-clause-steps g c =
+    subst (λ (p : PreparedQuery). (K : ℕ → Bool) → AreRead c.args.options.filter (tree p).query c.args.document.now K → c.begin_with.new.steps ≤ c.args.steps.now + rebuild c.args.cache.now.kept (counted (tree p).query) c.args.document.now K + begin_steps c.args.options.filter (tree p).query c.args.document.now K (row_kept (option_copied c.args.after)))
+    c.self.view_is c.begin_with.ensures.steps
+
+pub returns-in-Err-clause-steps : goal.returns-in-Err-clause-steps
+returns-in-Err-clause-steps g c =
+    subst (λ (p : PreparedQuery). (K : ℕ → Bool) → AreRead c.args.options.filter (tree p).query c.args.document.now K → c.begin_with.new.steps ≤ c.args.steps.now + rebuild c.args.cache.now.kept (counted (tree p).query) c.args.document.now K + begin_steps c.args.options.filter (tree p).query c.args.document.now K (row_kept (option_copied c.args.after)))
+    c.self.view_is c.begin_with.ensures.steps
+
+pub returns-in-Ok-clause-last : goal.returns-in-Ok-clause-last
+returns-in-Ok-clause-last g c =
+    subst (λ (p : PreparedQuery). AreLast (tree p).query c.args.document.now p.names c.in-Ok.answers.rest) c.self.view_is
+    (left_last _ _ _ _ _ c.in-Ok.ensures.left)
