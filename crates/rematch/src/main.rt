@@ -8,7 +8,7 @@ ghost use Rattle.std.specs.Prelude.{◌≡◌, ◌<◌};
 
 use main_tests::program_tests;
 use rematch_program::run_all;
-use rm_outside::{FileShelf, LineInput, NoteSink, OutSink, Status};
+use rm_outside::{Counting, FileShelf, LineInput, NoteSink, OutSink, Status};
 use span_core::Steps;
 use std::env;
 use std::io::ErrorKind;
@@ -51,14 +51,14 @@ fn run_outside<L: Ledger>(rt: &HostRuntime, blank: Blank, words: &[String]) -> S
         Ok(tests) => tests,
         Err(_) => return Status::Memory,
     };
-    let mut source = match LineInput::new(rt.alloc(), rt.stdin()) {
+    let mut source = match LineInput::new(rt.alloc(), Counting::new(rt.stdin())) {
         Ok(source) => source,
         Err(_) => return Status::Memory,
     };
     let mut steps = Steps::<L>::new(blank);
     let mut shelf = FileShelf::new(rt);
-    let mut out = OutSink::new(rt.stdout());
-    let mut notes = NoteSink::new(rt.stderr());
+    let mut out = OutSink::new(Counting::new(rt.stdout()));
+    let mut notes = NoteSink::new(Counting::new(rt.stderr()));
     run_all(
         rt.alloc(),
         words,

@@ -1,5 +1,5 @@
 -- Known bytes over several reads or writes.
-use Rattle.std.proofs.Common.{◌≡◌, ◌+◌, ◌-◌, ◌≤◌, ℕ, Bool, true, false, List, ◌++◌, length, take, drop, Option, sym, ap, ◌∙◌, arith}
+use Rattle.std.proofs.Common.{◌≡◌, ◌+◌, ◌-◌, ◌≤◌, ℕ, Bool, true, false, List, [], ◌++◌, length, take, drop, Option, None, Some, sym, ap, ◌∙◌, arith, append-nil}
 use Rattle.std.specs.Prelude.{if◌then◌else◌}
 use Rattle.std.proofs.KnownBytes.{Appends-kept, Appends-trans}
 use Rattle.std.proofs.lemmas.List.{length-append, take-append-drop, take-append-le, take-take, take_all, take_rest}
@@ -17,6 +17,12 @@ appends_take a b c at count xs p q =
 -- a write, and then one that took nothing
 pub appends_kept : (a b c : Option (List ℕ)) (xs : List ℕ) → Appends a b xs → Keeps b c → Appends a c xs
 appends_kept = Appends-kept
+
+-- a write of no byte took nothing
+pub keeps_nothing : (a b : Option (List ℕ)) (n : ℕ) (xs : List ℕ) → n ≡ 0 → Appends a b (take n xs) → Keeps a b
+keeps_nothing None b n xs none h = tt
+keeps_nothing (Some old) None n xs none h = absurd h
+keeps_nothing (Some old) (Some new) n xs none h = let cut : take n xs ≡ [] = ap (λ (k : ℕ). take k xs) none in h ∙ ap (λ (ys : List ℕ). old ++ ys) cut ∙ append-nil old
 
 -- the first bytes are a part of all
 pub part_of : (a b : Option (List ℕ)) (at : ℕ) (xs : List ℕ) → Appends a b (take at xs) → AppendsPart a b xs

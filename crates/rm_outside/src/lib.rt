@@ -18,6 +18,7 @@ pub use sink::{Sink, SinkFailed, SureSink};
 pub use source::{LineFault, Source};
 pub use status::Status;
 pub use stream_sink::{NoteSink, OutSink};
+pub use streams::{Counting, Reads, Takes};
 
 mod file_shelf;
 mod line_input;
@@ -32,3 +33,4 @@ mod sink;
 mod source;
 mod status;
 mod stream_sink;
+mod streams;

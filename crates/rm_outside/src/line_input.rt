@@ -1,4 +1,4 @@
-//! A source over any reader of std.
+//! A source over whatever reads bytes on.
 ghost use Rattle.std.specs.Prelude.{◌≡◌, ◌≤◌, ◌<◌, ◌-◌, ℕ, List, Option, Ok, length, take, IfOk, IfErr, OnErr, IsErrOf, vec_len};
 ghost use Rattle.std.specs.Bool.{OnTrue, OnFalse};
 ghost use Rattle.std.specs.Io.KnownBytes.{IsAtEnd, Keeps};
@@ -8,33 +8,31 @@ ghost use Rattle.rm_outside.specs.Source.{AsksLine};
 ghost use Rattle.rm_outside.specs.LineInput.{IsLineFault, IsPartFault, TakesPart, left_of};
 
 use crate::lines::line_length;
-use crate::{LineFault, Source};
+use crate::{LineFault, Reads, Source};
 use span_core::OutOfMemory;
 use std::alloc::Global;
-use std::io::Read;
 
 /// The most bytes that one read asks for.
 const PIECE: usize = 65536;
 
 /// A source of the lines of a reader. It fails where a read fails, and where a signal interrupts one. What is left is told
-/// where the reader tells it; the system's streams do not.
+/// where the reader tells it; the system's streams do not. Its count of faults is the reader's, so that it never fails but by
+/// a read that failed.
 #[derive(Drop)]
 pub struct LineInput<R> {
     from: R,
     buffer: Vec<u8>,
     start: usize,
     end: usize,
-    faults: u64,
     ghost order: { start ≤ end },
     ghost within: { end ≤ vec_len buffer },
     ghost room: { 0 < vec_len buffer },
 }
 
-impl<R: Read + Drop> LineInput<R> {
-    /// The lines of this reader, with no fault so far.
+impl<R: Reads + Drop> LineInput<R> {
+    /// The lines of this reader.
     pub fn new(alloc: Global, from: R) -> Result<LineInput<R>, OutOfMemory>
-        ensures left { IfOk result (λ s. left_of s.start s.end s.buffer.items (R.remaining s.from) ≡ R.remaining from) }
-        ensures faults { IfOk result (λ s. s.faults ≡ 0) }
+        ensures left { IfOk result (λ s. left_of s.start s.end s.buffer.items (R.told s.from).bytes ≡ (R.told from).bytes) }
 
         // Nothing was read.
         ensures untouched { IfOk result (λ s. s.from ≡ from) }
@@ -45,7 +43,6 @@ impl<R: Read + Drop> LineInput<R> {
             buffer,
             start: 0,
             end: 0,
-            faults: 0,
         })
     }
 }
@@ -57,15 +54,16 @@ struct Part {
     ended: bool,
 }
 
-impl<R: Read> LineInput<R> {
+impl<R: Reads> LineInput<R> {
     /// Reads on, where all that was read is taken. False at the end.
     fn fill(&mut self) -> Result<bool, LineFault>
         ensures some { IfOk result (λ some. OnTrue some (self.new.start < self.new.end)) }
-        ensures none { IfOk result (λ some. OnFalse some (IsAtEnd (left_of self.new.start self.new.end self.new.buffer.items (R.remaining self.new.from)))) }
-        ensures kept { Keeps (left_of self.old.start self.old.end self.old.buffer.items (R.remaining self.old.from)) (left_of self.new.start self.new.end self.new.buffer.items (R.remaining self.new.from)) }
+        ensures none { IfOk result (λ some. OnFalse some (IsAtEnd (left_of self.new.start self.new.end self.new.buffer.items (R.told self.new.from).bytes))) }
+        ensures kept { Keeps (left_of self.old.start self.old.end self.old.buffer.items (R.told self.old.from).bytes) (left_of self.new.start self.new.end self.new.buffer.items (R.told self.new.from).bytes) }
         ensures fault { IfErr result (λ e. e ≡ LineFault.Failed) }
-        ensures quiet { IfOk result (λ _. self.new.faults ≡ self.old.faults) }
-        ensures failed { OnErr result (Rose self.old.faults self.new.faults) }
+        ensures later { (R.told self.old.from).faults ≤ (R.told self.new.from).faults }
+        ensures quiet { IfOk result (λ _. (R.told self.new.from).faults ≡ (R.told self.old.from).faults) }
+        ensures failed { OnErr result (Rose (R.told self.old.from).faults (R.told self.new.from).faults) }
     {
         if self.start < self.end {
             return Ok(true);
@@ -77,10 +75,7 @@ impl<R: Read> LineInput<R> {
                 self.end = count;
                 Ok(true)
             }
-            Err(_) => {
-                self.faults = self.faults.saturating_add(1);
-                Err(LineFault::Failed)
-            }
+            Err(_) => Err(LineFault::Failed),
         }
     }
 
@@ -95,12 +90,12 @@ impl<R: Read> LineInput<R> {
         requires within { seen ≤ limit }
         requires seen { seen ≤ vec_len into.old }
         ensures part { IfOk result (λ p. TakesPart (limit - seen)
-            (left_of self.old.start self.old.end self.old.buffer.items (R.remaining self.old.from))
-            (left_of self.new.start self.new.end self.new.buffer.items (R.remaining self.new.from))
+            (left_of self.old.start self.old.end self.old.buffer.items (R.told self.old.from).bytes)
+            (left_of self.new.start self.new.end self.new.buffer.items (R.told self.new.from).bytes)
             into.old.items into.new.items p.length p.ended) }
-        ensures fault { IfErr result (IsPartFault limit seen (left_of self.old.start self.old.end self.old.buffer.items (R.remaining self.old.from))) }
+        ensures fault { IfErr result (IsPartFault limit seen (left_of self.old.start self.old.end self.old.buffer.items (R.told self.old.from).bytes)) }
         ensures refused { OnErr result (into.new.items ≡ into.old.items) }
-        ensures faults { self.new.faults ≡ self.old.faults }
+        ensures faults { (R.told self.new.from).faults ≡ (R.told self.old.from).faults }
     {
         let piece = &self.buffer[self.start..self.end];
         let length = line_length(piece);
@@ -130,13 +125,13 @@ impl<R: Read> LineInput<R> {
     /// Appends a line, or a part of it.
     fn take_line(&mut self, limit: usize, into: &mut Vec<u8>) -> Result<bool, LineFault>
         ensures line { IfOk result (λ some. AsksLine limit
-            (left_of self.old.start self.old.end self.old.buffer.items (R.remaining self.old.from))
-            (left_of self.new.start self.new.end self.new.buffer.items (R.remaining self.new.from))
+            (left_of self.old.start self.old.end self.old.buffer.items (R.told self.old.from).bytes)
+            (left_of self.new.start self.new.end self.new.buffer.items (R.told self.new.from).bytes)
             into.old.items into.new.items (Ok some)) }
-        ensures fault { IfErr result (IsLineFault limit (left_of self.old.start self.old.end self.old.buffer.items (R.remaining self.old.from))) }
+        ensures fault { IfErr result (IsLineFault limit (left_of self.old.start self.old.end self.old.buffer.items (R.told self.old.from).bytes)) }
         ensures refused { OnErr result (take (vec_len into.old) into.new.items ≡ into.old.items) }
-        ensures later { self.old.faults ≤ self.new.faults }
-        ensures failed { IsErrOf result LineFault.Failed → Rose self.old.faults self.new.faults }
+        ensures later { (R.told self.old.from).faults ≤ (R.told self.new.from).faults }
+        ensures failed { IsErrOf result LineFault.Failed → Rose (R.told self.old.from).faults (R.told self.new.from).faults }
     {
         let mut seen = 0;
         loop {
@@ -158,8 +153,8 @@ impl<R: Read> LineInput<R> {
     }
 }
 
-impl<R: Read> Source for LineInput<R> {
-    ghost told = { λ s. flow (left_of s.start s.end s.buffer.items (R.remaining s.from)) s.faults };
+impl<R: Reads> Source for LineInput<R> {
+    ghost told = { λ s. flow (left_of s.start s.end s.buffer.items (R.told s.from).bytes) (R.told s.from).faults };
 
     fn line(&mut self, limit: usize, into: &mut Vec<u8>) -> Result<bool, LineFault> {
         let before = into.len();
@@ -174,8 +169,9 @@ impl<R: Read> Source for LineInput<R> {
 #[cfg(test)]
 mod tests {
     use super::*;
+    use crate::Counting;
     use std::io;
-    use std::io::ErrorKind;
+    use std::io::{ErrorKind, Read};
     use std::test::Fail;
 
     /// A reader that gives two bytes at a time, and fails once between.
@@ -202,10 +198,10 @@ mod tests {
             left: b"abcdefg\n\nhi\njkl",
             turn: 0,
         };
-        let mut lines = LineInput::new(alloc, reader)?;
+        let mut lines = LineInput::new(alloc, Counting::new(reader))?;
         let mut into = Vec::new(alloc);
         assert_eq!(rt; lines.line(9, &mut into), Err(LineFault::Failed));
-        assert_eq!(rt; lines.faults, 1);
+        assert_eq!(rt; lines.from.faults, 1);
         assert_eq!(rt; into.len(), 0);
         assert_eq!(rt; lines.line(3, &mut into), Ok(true));
         assert_eq!(rt; into.as_slice(), b"efg".as_slice());
@@ -217,7 +213,7 @@ mod tests {
             Err(LineFault::TooLong { seen: 3 })
         );
         assert_eq!(rt; into.as_slice(), b"efghi".as_slice());
-        assert_eq!(rt; lines.faults, 1);
+        assert_eq!(rt; lines.from.faults, 1);
         Ok(())
     }
 }

@@ -6,10 +6,10 @@ use Rattle.rm_outside.proofs.line_input.LineInput.take_line.Given as goal
 abbrev pub invariant-loop-fault : goal.invariant-loop-fault
 invariant-loop-fault g l = record {
   taking : IsTaking l.limit
-      (left_of l.fn.self.start l.fn.self.end l.fn.self.buffer.items (g.R.Read.remaining l.fn.self.from))
-      (left_of l.self.start l.self.end l.self.buffer.items (g.R.Read.remaining l.self.from))
+      (left_of l.fn.self.start l.fn.self.end l.fn.self.buffer.items (g.R.Reads.told l.fn.self.from).bytes)
+      (left_of l.self.start l.self.end l.self.buffer.items (g.R.Reads.told l.self.from).bytes)
       l.fn.into.items l.into.items l.seen;
-  faults : l.self.faults ≡ l.fn.self.faults;
+  faults : (g.R.Reads.told l.self.from).faults ≡ (g.R.Reads.told l.fn.self.from).faults;
 }
 
 abbrev pub decreases-loop-fault : goal.decreases-loop-fault
