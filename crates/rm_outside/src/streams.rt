@@ -46,8 +46,8 @@ pub trait Takes {
 /// only where the stream did.
 #[derive(Drop)]
 pub struct Counting<T> {
-    of: T,
-    faults: u64,
+    pub(crate) of: T,
+    pub(crate) faults: u64,
 }
 
 impl<T> Counting<T> {
