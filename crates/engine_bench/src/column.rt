@@ -11,7 +11,8 @@ use std::sync::ledger::{Blank, Ledger};
 use std::time::Instant;
 
 /// What is asked of each document; none has a row.
-const QUERY: &[u8] = b"/Failed password for (invalid user |)!user{\\w+} from !address{[\\d.]+} port /";
+const QUERY: &[u8] =
+    b"/Failed password for (invalid user |)!user{\\w+} from !address{[\\d.]+} port /";
 
 /// A document, in which digits are drawn.
 const LINE: &[u8] =

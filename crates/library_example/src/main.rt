@@ -21,7 +21,8 @@ use std::str;
 use std::sync::ledger::{Blank, Ledger};
 
 /// The address of each failed login, and the user's name where there is no such user.
-const QUERY: &str = "/Failed password for (invalid user !user{\\w+}|\\w+) from !address{[\\d.]+} port /";
+const QUERY: &str =
+    "/Failed password for (invalid user !user{\\w+}|\\w+) from !address{[\\d.]+} port /";
 
 /// The documents: each is a line of a log.
 const LINES: [&str; 4] = [
@@ -116,7 +117,12 @@ fn print_rows<L: Ledger>(
 }
 
 /// Prints so many rows: for each variable the numbers of its span, and `-` where it is absent.
-fn print_given(rt: &HostRuntime, vars: &VarSet, numbers: &[u32], given: usize) -> Result<(), Fault> {
+fn print_given(
+    rt: &HostRuntime,
+    vars: &VarSet,
+    numbers: &[u32],
+    given: usize,
+) -> Result<(), Fault> {
     let mut cells = numbers.iter();
     for _ in 0..given {
         for k in 0..vars.len() {

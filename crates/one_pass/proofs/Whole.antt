@@ -187,10 +187,10 @@ module _ (A : Automaton) (K : ℕ → Bool) (d : List ℕ) (t : Tabled) (graph :
   few_look_ups look_ups distinct cover =
       let all : List LookUp = once look_up_same (look_ups_read A d K) in
       let less = distinct-le look_ups (t.look_ups ++ all) distinct
-          (λ look_up h. elim (cover look_up h) as (λ _. Has (t.look_ups ++ all) look_up) [
-            | inl old ↦ Has-append_left t.look_ups all look_up old
-            | inr n ↦ Has-append_right t.look_ups all look_up (once_has look_up_same same_look_up look_up_itself (look_ups_read A d K) look_up n)
-          ]) in
+      (λ look_up h. elim (cover look_up h) as (λ _. Has (t.look_ups ++ all) look_up) [
+        | inl old ↦ Has-append_left t.look_ups all look_up old
+        | inr n ↦ Has-append_right t.look_ups all look_up (once_has look_up_same same_look_up look_up_itself (look_ups_read A d K) look_up n)
+      ]) in
       omega (arith, less, length-append t.look_ups all)
 
   times_more : (a b c : ℕ) → a ≤ b → a * c ≤ b * c

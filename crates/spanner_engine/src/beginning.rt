@@ -172,7 +172,7 @@ pub fn begin_with<L: Ledger>(
     ensures atoms { OnOk result (AreWithin (query_of query.now) doc.now options.filter options.limit) }
     ensures steps { (K : ℕ → Bool) → AreRead options.filter (query_of query.now) doc.now K →
         steps.new ≤ steps.old + rebuild cache.old.kept (counted (query_of query.now)) doc.now K
-            + begin_steps options.filter (query_of query.now) doc.now K (row_kept (option_copied after.entry)) }
+        + begin_steps options.filter (query_of query.now) doc.now K (row_kept (option_copied after.entry)) }
 {
     let found = doc.len() as u32;
     if let Some(kept) = other_length(after, found) {

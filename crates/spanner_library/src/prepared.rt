@@ -166,7 +166,7 @@ impl<J: Judge> Prepared<J> {
         ensures fault { IfErr result (IsBeginFault (tree self.now).query document.now options.filter (option_copied after.entry) options.limit) }
         ensures steps { (K : ℕ → Bool) → AreRead options.filter (tree self.now).query document.now K →
             steps.new ≤ steps.old + rebuild cache.old.kept (counted (tree self.now).query) document.now K
-                + begin_steps options.filter (tree self.now).query document.now K (row_kept (option_copied after.entry)) }
+            + begin_steps options.filter (tree self.now).query document.now K (row_kept (option_copied after.entry)) }
     {
         match begin_with(
             &self.tested.query,
