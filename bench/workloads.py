@@ -2,7 +2,7 @@
 """Eight workloads on rematch and on other tools, as tables.
 
     bench/workloads.py [--only ABCDEFGU] [--times N] [--seconds S] [--program PATH]
-                       [--engine PATH --bodies stay,layer] [--growth] [--instructions]
+                       [--engine PATH --bodies stay,layer] [--growth] [--instructions] [--texts]
 
 Each tool gets the same document; what it prints goes to /dev/null, and its rows are counted in a run of
 their own. The tools run in turn, N rounds of all of them, so that a busy hour meets each alike. A figure is the
@@ -17,8 +17,9 @@ seconds of processor time, the median of the N runs, and the least of them, with
     re2, rg, pcre2grep    the matches that they give: leftmost, not overlapping
 
 measure.c and others.cpp are built on the way (cc, g++; libpcre2-dev, libhyperscan-dev, libre2-dev of Debian);
-where others.cpp cannot be built, its three are left out. --growth measures rematch on A and C at 1, 2, 4 and 8 times the document, --instructions counts what
-rematch does for a byte and for a row by valgrind's callgrind. Python 3.8, standard library; Linux, a C compiler.
+where others.cpp cannot be built, its three are left out. --growth measures rematch on A and C at 1, 2, 4 and 8
+times the document, --instructions counts what rematch does for a byte and for a row by valgrind's callgrind,
+--texts measures queries with a text that is searched for. Python 3.8, standard library; Linux, a C compiler.
 """
 import argparse
 import hashlib
@@ -63,6 +64,21 @@ WORKLOADS = [
     Workload('G', 'determinising', 'letters', 2000000, 17, '/(a|b)*a(a|b){12}!x{c}/',
              '(?:a|b)*a(?:a|b){12}(c)', 'x=$-[1]-$+[1]'),
     Workload('U', 'letters of five scripts', 'scripts', 10000000, 1, r'/!x{\p{L}+}/u', r'(\p{L}+)', '', (), True),
+]
+
+ERRORS, LOG = ('errors', 64000000, 11), ('sparse', 1000000, 1)
+
+TEXTS = [
+    Workload('T1', 'a text', *ERRORS, '/!x{ERROR [A-Z]+}/', '(ERROR [A-Z]+)', 'x=$-[1]-$+[1]'),
+    Workload('T2', 'alternatives', *ERRORS, '/!x{(ERROR|FATAL|PANIC) [A-Z]+}/', '((?:ERROR|FATAL|PANIC) [A-Z]+)', 'x=$-[1]-$+[1]'),
+    Workload('T3', 'letters of either case', *ERRORS, '/[Ee][Rr][Rr][Oo][Rr] !x{[A-Z]+}/', '[Ee][Rr][Rr][Oo][Rr] ([A-Z]+)', 'x=$-[1]-$+[1]'),
+    Workload('T4', 'a text behind digits', *ERRORS, r'/!x{\d\d:\d\d:\d\d} ERROR/', r'(\d\d:\d\d:\d\d) ERROR', 'x=$-[1]-$+[1]'),
+    Workload('T5', 'a text in front', *LOG, r'/user!u{\d+} logged in from !a{[\d.]+}/', r'user(\d+) logged in from ([\d.]+)',
+             'a=$-[2]-$+[2] u=$-[1]-$+[1]'),
+    Workload('T6', 'a text inside', *LOG, r'/!user{\w+} logged in from !ip{\d+\.\d+\.\d+\.\d+}/',
+             r'(\w+) logged in from (\d+\.\d+\.\d+\.\d+)', 'ip=$-[2]-$+[2] user=$-[1]-$+[1]'),
+    Workload('T7', 'a text that is nowhere', 'letters', 60000000, 17, '/!x{zqq+}/', '(zqq+)', 'x=$-[1]-$+[1]'),
+    Workload('T8', 'a byte that is nowhere', *ERRORS, r'/!x{\x00}/', r'(\x00)', 'x=$-[1]-$+[1]'),
 ]
 
 PERL = r'''
@@ -215,6 +231,7 @@ def main():
     parser.add_argument('--seconds', type=float, default=25)
     parser.add_argument('--growth', action='store_true')
     parser.add_argument('--instructions', action='store_true')
+    parser.add_argument('--texts', action='store_true')
     given = parser.parse_args()
     given.program = os.path.abspath(given.program)
     print('load %.2f of %d processors' % (os.getloadavg()[0], os.cpu_count()))
@@ -225,8 +242,8 @@ def main():
         elif given.instructions:
             show_instructions(given)
         else:
-            for work in WORKLOADS:
-                if work.name in given.only:
+            for work in TEXTS if given.texts else WORKLOADS:
+                if given.texts or work.name in given.only:
                     show(work, given)
 
 
