@@ -14,10 +14,10 @@ REFUSED = 4  # of what has no reach, which is a refusal for its size
 
 
 def line_of(fault: Exception) -> str:
-    """What is told of a fault, with the name of its document before it."""
+    """What is told of a fault, with the name of its document before it: `NAME: REASON` of one that cannot be read."""
     name = getattr(fault, 'filename', None)
-    errno = getattr(fault, 'errno', None)
-    told = f'no reach: {fault}' if isinstance(fault, NoReach) else os.strerror(errno) if errno else str(fault)
+    reason = getattr(fault, 'reason', None)
+    told = f'no reach: {fault}' if isinstance(fault, NoReach) else reason or str(fault)
     return f'{name}: {told}' if name and name not in told else told
 
 
@@ -27,7 +27,7 @@ def run_told(run: Callable[[], None]) -> int:
         run()
         sys.stdout.flush()
     except RematchError as fault:
-        print(line_of(fault) if getattr(fault, 'errno', None) is None else fault, file=sys.stderr)
+        print(line_of(fault), file=sys.stderr)
         return fault.status if fault.status and fault.status > 0 else 1
     except NoReach as fault:
         print(line_of(fault), file=sys.stderr)

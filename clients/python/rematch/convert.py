@@ -4,16 +4,17 @@ from __future__ import annotations
 import os
 import sys
 from contextlib import contextmanager
-from itertools import islice
+from itertools import chain, islice
 from typing import Any, Callable, Dict, Iterable, Iterator, List, Optional, TextIO, Tuple
 
-from .advice import advise, is_of_rows
+from .advice import Advice, advise, is_of_rows
 from .command import line_of, run_told
 from .documents import Document
-from .expand import Expanded, expanded, with_iupac
+from .expand import Expanded, expanded
 from .faults import DocumentError, OutOfMemory, QueryError, RematchError, SizeError
-from .match import Row
 from .doubts import doubts_of, oddity_of
+from .match import Row
+from .nucleotides import small_letter, with_iupac
 from .packed import Given
 from .pieces import NoReach, reach
 from .progress import Progress
@@ -60,7 +61,7 @@ class Command:
 
     def read_query(self) -> Query:
         words = {'filter': bool(self.given.filter), 'max_table': self.given.max_table}
-        text = self.expansion.text
+        text = self.read_text()
         make = Query
         if len(self.names) >= _MANY and not self.given.filter and self.given.max_table is None and self.given.form not in _WHOLE:
             from .to_small import SmallDocuments
@@ -69,8 +70,6 @@ class Command:
             query = make(text, **words)
         except QueryError as fault:
             raise self.expansion.fault(fault) from None
-        if self.given.iupac:
-            query = Query(with_iupac(text), **words)
         if self.asks_for_lines() and not query.variables:
             from .to_lines import captured
             made = captured(text)
@@ -78,6 +77,17 @@ class Command:
                 refuse('the query has no capture, so no row has a place: put !name{..} around what the lines have')
             query = make(made, **words)
         return query
+
+    def read_text(self) -> bytes:
+        """The query as the program reads it, with its open letters where they are asked for."""
+        text = self.expansion.text
+        if not self.given.iupac:
+            return text
+        try:
+            Query(text)  # a fault has its place in the text as it was written
+            return with_iupac(text)
+        except QueryError as fault:
+            raise self.expansion.fault(fault) from None
 
     def close(self) -> None:
         """Ends what the command has begun."""
@@ -100,9 +110,19 @@ class Command:
         if is_told:
             self.tell('advice at 0: the query has no capture, so the count is 1 or 0: put !name{..} around what is counted, or count lines by --lines')
         are_rows_known = is_told or self.asks_for_lines() or self.given.form == 'any'
-        for advice in advise(self.expansion.text):
+        for advice in self.advice():
             if not (are_rows_known and is_of_rows(advice)):
-                self.tell(f'advice at {self.expansion.origin(advice.offset)}: {advice.message}')
+                self.tell(f'advice at {advice.offset}: {advice.message}')
+
+    def advice(self) -> List[Advice]:
+        """What is accepted and seldom meant, at the place where it was written."""
+        text, origin = self.expansion.text, self.expansion.origin
+        found = [Advice(origin(advice.offset), advice.message) for advice in advise(text)] + self.expansion.advice
+        small = small_letter(text) if self.given.form in ('bed', 'gff', 'fasta') else None
+        if small is not None:
+            found.append(Advice(origin(small.offset), 'a small letter fits no record, since the letters of records are raised to capitals: '
+                                f'write {small.meant}'))
+        return found
 
     # -- Documents, one after another
 
@@ -143,14 +163,27 @@ class Command:
             self.tell(f'{found.name}: no row, and {oddity}')
 
     def documents(self, form: Form) -> None:
-        """Writes what the form makes of each document."""
-        self.out.write(form.head())
+        """Writes what the form makes of each document; where none can be read it writes nothing."""
+        self.head: Optional[str] = form.head()
         jobs = 1 if self.given.most is not None and form.is_text else self.given.jobs or 1
+        has_read = False
         for part, value in self.values(form, jobs) if jobs > 1 else self.values_in_turn(form):
-            self.out.writelines(value if form.is_text else form.take(part, value))
+            has_read = True
+            self.out.writelines(self.begun(value if form.is_text else form.take(part, value)))
             if form.left == 0 and form.is_text:
                 break
-        self.out.writelines(form.end())
+        if has_read:
+            self.out.writelines(self.begun(chain(form.end(), ('',))))
+
+    def begun(self, texts: Iterable[str]) -> Iterator[str]:
+        """The texts, and before the first of all documents what is written before them."""
+        found = iter(texts)
+        for text in found:
+            if self.head is not None:
+                yield self.head
+                self.head = None
+            yield text
+            yield from found
 
     def values_in_turn(self, form: Form) -> Iterator[Tuple[Part, Any]]:
         for name in self.names:
@@ -158,7 +191,7 @@ class Command:
                 part = Part(name)
                 value = form.of(self.opened(part))
                 if form.is_text:
-                    self.out.writelines(value)  # here, so that a fault in the midst of it is this document's
+                    self.out.writelines(self.begun(value))  # here, so that a fault in the midst of it is this document's
                     value = ()
                 yield part, value
 
@@ -228,7 +261,10 @@ class Command:
                 if section is not None:
                     yield section
 
-        self.out.writelines(page(sections(), self.query.variables, ', '.join(self.names)))
+        found = sections()
+        first = next(found, None)
+        if first is not None or not self.has_failed:
+            self.out.writelines(page(chain(() if first is None else (first,), found), self.query.variables, ', '.join(self.names)))
 
     def follow(self) -> None:
         from .to_follow import follow
@@ -236,7 +272,7 @@ class Command:
 
     def check(self) -> None:
         if self.given.expanded:
-            text = self.expansion.text
+            text = self.read_text() if self.given.iupac else self.expansion.text
             self.out.write(text.decode('utf-8', 'surrogateescape') + ('' if text.endswith(b'\n') else '\n'))
             return
         self.out.write(self.query.explanation)
@@ -244,8 +280,8 @@ class Command:
             self.out.write(f'reach {reach(self.query)} line feeds\n')
         except NoReach as reason:
             self.out.write(f'no reach: {reason}\n')
-        for advice in advise(self.expansion.text):
-            self.out.write(f'advice at {self.expansion.origin(advice.offset)}: {advice.message}\n')
+        for advice in self.advice():
+            self.out.write(f'advice at {advice.offset}: {advice.message}\n')
 
     def run(self) -> None:
         """Writes all that is asked for; a fault has the name of its document."""

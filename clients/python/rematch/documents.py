@@ -303,7 +303,7 @@ def _warn_of_packed(path: Union[str, bytes]) -> None:
 def _unreadable(name: Optional[str], fault: Exception) -> DocumentError:
     reason = getattr(fault, 'strerror', None) or str(fault)
     found = DocumentError('read failed: document', 5)
-    found.filename = name
+    found.filename, found.reason = name, reason
     if isinstance(fault, OSError):
         found.errno = fault.errno
     found.hint = f'{name}: {reason}' if name else reason

@@ -14,10 +14,11 @@ import re
 from bisect import bisect_right
 from typing import Callable, Dict, List, NamedTuple, Optional, Tuple, Union
 
+from .advice import Advice
 from .faults import QueryError
-from .formula import Atom, Part, parts_of
+from .formula import Atom, Part, items_of, letter_of, parts_of
 
-__all__ = ['Expanded', 'expanded', 'with_iupac']
+__all__ = ['Expanded', 'expanded']
 
 _TOKEN = re.compile(rb'''
     (?P<atom>/(?P<body>(?:[^\\/]|\\.)*)/(?P<signs>[iu]{0,2}(?![A-Za-z0-9_]))?) | (?P<comment>\#[^\n]*) |
@@ -32,6 +33,7 @@ class Expanded:
 
     def __init__(self, source: bytes) -> None:
         self.source = source
+        self.advice: List[Advice] = []  # on its conveniences, at places of the source
         self._pieces: List[bytes] = []
         self._starts: List[int] = []  # of each piece, in the text
         self._origins: List[Tuple[int, bool]] = []  # where it was written, and whether byte for byte
@@ -179,12 +181,15 @@ class _Reader:
             raise QueryError(f'query: longer than {_MOST} bytes', 3, self.found.source)
         return [(b'(', place, False), *self.body(part.atom, is_both_cases or part.is_both_cases), (b')', place, False)]
 
-    @staticmethod
-    def plain(atom: Atom, start: int, end: int, is_both_cases: bool) -> List[Tuple[bytes, int, bool]]:
+    def plain(self, atom: Atom, start: int, end: int, is_both_cases: bool) -> List[Tuple[bytes, int, bool]]:
         text = atom.text[start:end]
         if not is_both_cases:
             return [(text, atom.offset + start, True)] if text else []
-        return _replaced(Atom(text, atom.offset + start, atom.is_over_characters), _both_cases)
+        shown = Atom(text, atom.offset + start, atom.is_over_characters)
+        if not self.found.advice:
+            self.found.advice += filter(None, (_one_case(part) for part in parts_of(shown)))
+            del self.found.advice[1:]
+        return _replaced(shown, _both_cases)
 
 
 def _replaced(atom: Atom, change: Callable[[Part], bytes]) -> List[Tuple[bytes, int, bool]]:
@@ -202,23 +207,34 @@ def _replaced(atom: Atom, change: Callable[[Part], bytes]) -> List[Tuple[bytes, 
 
 # -- Both cases
 
-_HEX = re.compile(rb'\\x[0-9A-Fa-f]{2}\Z')
+_CASED = re.compile(r'\\u\{([0-9A-Fa-f]{1,6})\}|(\\p\{L[ult]\})|([^\x00-\x7f])')
 
 
-def _letter_of(text: bytes) -> bytes:
-    """The ASCII letter that a sign stands for; nothing where it is none."""
-    sign = bytes([int(text[2:], 16)]) if _HEX.match(text) else text
-    return sign if len(sign) == 1 and sign.isalpha() and sign.isascii() else b''
+def _one_case(part: Part) -> Optional[Advice]:
+    """Advice on the first letter past ASCII of a part that has two cases, of which the part has one."""
+    text = part.text.decode('utf-8', 'replace')
+    for found in _CASED.finditer(text):
+        shown, sign = found[0], found[3] or ''
+        if found[1] is not None and int(found[1], 16) < 0x110000:
+            sign = chr(int(found[1], 16))
+        lower, upper = sign.lower(), sign.upper()
+        if found[2] is not None:
+            both = r'[\p{Lu}\p{Ll}\p{Lt}]'
+        elif sign.isascii() or lower == upper or (lower in text and upper in text):
+            continue
+        else:
+            both = f'[{lower}{upper}]' if len(lower) == len(upper) == 1 else f'({lower}|{upper})'
+        offset = part.offset + len(text[:found.start()].encode('utf-8'))
+        write = 'add the other case to the class' if part.kind == 'class' else f'for both cases write {both}, with the sign u'
+        return Advice(offset, f'i is for the letters of ASCII, and {shown} stays as it is: {write}')
+    return None
 
 
 def _both_cases(part: Part) -> bytes:
     if part.kind in ('literal', 'escape'):
-        letter = _letter_of(part.text)
+        letter = letter_of(part.text)
         return b'[' + letter.upper() + letter.lower() + b']' if letter else part.text
     return _class_of_both_cases(part.text) if part.kind == 'class' else part.text
-
-
-_ITEM = re.compile(rb'\\x[0-9A-Fa-f]{2}|\\[pu]\{\w+\}|(?s:\\.)|(?s:.)')
 
 
 def _class_of_both_cases(text: bytes) -> bytes:
@@ -228,25 +244,8 @@ def _class_of_both_cases(text: bytes) -> bytes:
     (b'[A-Fa-f_]', b'[^Xx-]', b'[0-9]')
     """
     start = 2 if text.startswith(b'[^') else 1
-    signs = _ITEM.findall(text[start:-1])
-    more, at = b'', 0
-    while at < len(signs):
-        low, high = _number(signs[at]), _number(signs[at])
-        if at + 2 < len(signs) and signs[at + 1] == b'-' and low is not None and _number(signs[at + 2]) is not None:
-            high = _number(signs[at + 2])
-            at += 2
-        at += 1
-        if low is not None and high is not None:
-            more += _other_case(low, high)
+    more = b''.join(_other_case(item.low, item.high) for item in items_of(text) if item.low is not None and item.high is not None)
     return text[:start] + more + text[start:] if more else text
-
-
-def _number(sign: bytes) -> Optional[int]:
-    if _HEX.match(sign):
-        return int(sign[2:], 16)
-    if sign.startswith(b'\\'):
-        return None if sign[1:2].isalnum() else sign[1]
-    return sign[0] if len(sign) == 1 else None
 
 
 def _other_case(low: int, high: int) -> bytes:
@@ -256,47 +255,3 @@ def _other_case(low: int, high: int) -> bytes:
         if begin <= end:
             found += bytes([begin + by]) + (b'-' + bytes([end + by]) if end > begin else b'')
     return found
-
-
-# -- Letters of sequences
-
-_MEANS = {b'R': b'AG', b'Y': b'CTU', b'S': b'CG', b'W': b'ATU', b'K': b'GTU', b'M': b'AC', b'B': b'CGTU', b'D': b'AGTU',
-          b'H': b'ACTU',
-          b'V': b'ACG', b'N': b'ACGTU'}
-
-
-def _iupac_class(letter: bytes) -> bytes:
-    """The letters that a letter of a pattern fits: those that mean no more than it does, itself among them."""
-    means = set(_MEANS[letter])
-    return b'[' + _MEANS[letter] + b''.join(sorted(open for open, of in _MEANS.items() if set(of) <= means)) + b']'
-
-
-def _iupac(part: Part) -> bytes:
-    return _iupac_class(part.text) if part.kind == 'literal' and part.text in _MEANS else part.text
-
-
-_ATOMS = re.compile(rb'/((?:[^\\/]|\\.)*)/', re.S)
-
-
-def with_iupac(text: bytes) -> bytes:
-    """The query with each open letter of nucleotides in it, as N or R, as a class of the letters that it means.
-
-    Letters in classes, and in names, stay as they are.
-
-    >>> with_iupac(b'/!N{GRC[NA]}/')
-    b'/!N{G[AGR]C[NA]}/'
-    """
-    def atom(found: 're.Match[bytes]') -> bytes:
-        return b'/' + b''.join(piece for piece, _, _ in _replaced(Atom(found[1], 0, False), _iupac)) + b'/'
-    return _ATOMS.sub(atom, text)
-
-
-def open_letters(text: bytes) -> bytes:
-    """The open letters of nucleotides that stand in the formulas of a query as plain letters.
-
-    >>> open_letters(b'/GGNCC!R{[N]}/ join /TATA/')
-    b'N'
-    """
-    found = {part.text for atom in _ATOMS.finditer(text) for part in parts_of(Atom(atom[1], 0, False))
-             if part.kind == 'literal' and part.text in _MEANS}
-    return b''.join(sorted(found))

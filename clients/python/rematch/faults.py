@@ -105,8 +105,11 @@ class SizeError(RematchError, ValueError):
 class DocumentError(RematchError, OSError):
     """The document cannot be read (status 5) or is too long (status 6).
 
-    ``filename`` is its name where it has one, and ``errno`` the system's number where the system told one.
+    ``filename`` is its name where it has one, ``reason`` why it cannot be read, and ``errno`` the system's number where the
+    system told one.
     """
+
+    reason: Optional[str] = None
 
 
 class CursorError(RematchError, ValueError):

@@ -98,9 +98,15 @@ HINTS: Tuple[Hint, ...] = (
     Hint('query: repeat after repeat at A', '/"!q{.*?}"/', 'there are no lazy repeats, since every match is told: drop the ? and say what '
           'stands behind, as in !q{[^"]*}"', rb'\?'),
     Hint('query: repeat after repeat at A', '/a++/', 'put the first repeat into a group, (a+)+; there are no possessive repeats'),
+    Hint('query: anchor at A', '/(^|,)!x{a}/', 'an anchor is of a whole formula and of no arm: write a union, /^!x{..}/ union /,!x{..}/', rb'\^',
+          rb'[(|]'),
+    Hint('query: anchor at A', '/!x{a}(,|$)/', 'an anchor is of a whole formula and of no arm: write a union, /!x{..}$/ union /!x{..},/',
+          rb'\$[|)]'),
+    Hint('query: anchor at A', '/!x{^a}/', 'write it before the capture, straight behind the opening slash: /^!x{..}/', rb'\^', rb'\{'),
+    Hint('query: anchor at A', '/!x{a$}/', 'write it behind the capture, straight before the closing slash: /!x{..}$/', rb'\$\}'),
     Hint('query: anchor at A', r'/a\n^b/', '^ stands straight behind the opening slash alone, and means the document: a line begins behind '
           r'\n; the sign itself is \^', rb'\^'),
-    Hint('query: anchor at A', '/a$|b/', '$ stands straight before the closing slash alone, and means the document: a line ends before '
+    Hint('query: anchor at A', '/a$b/', '$ stands straight before the closing slash alone, and means the document: a line ends before '
           r'\n; the sign itself is \$'),
     Hint('query: name too long at A', '/!n23456789_123456789_123456789_123{a}/', 'a name has at most 32 bytes'),
     Hint('query: reserved name at A', '/!none{a}/', 'none is the word for no variable: take another name'),

@@ -20,7 +20,7 @@ from .query import Query
 from ._reach import NoReach, length_of_printed
 
 __all__ = ['GFF_HEAD', 'Record', 'Site', 'are_proteins', 'bed_lines', 'each_record', 'fasta_lines', 'frame_of', 'gff_lines',
-           'has_anchor', 'in_order', 'once',
+           'has_anchor', 'has_records', 'in_order', 'once',
            'other_strand', 'records_of', 'sites', 'write_bed', 'write_gff']
 
 _BATCH = 64_000_000  # bytes of records that one run searches
@@ -71,13 +71,26 @@ def records_of(data: bytes) -> List[Record]:
 
 def each_record(data: bytes) -> Iterator[Record]:
     """The records of `records_of`, one after another."""
-    at = 0 if data[:1] == b'>' else data.find(b'\n>') + 1
-    if data[at:at + 1] != b'>':
+    at = _first_record(data)
+    if at < 0:
         raise DocumentError('no record of FASTA, which begins with > at the start of a line', 5)
     while at >= 0:
         end = data.find(b'\n>', at)
         yield _record(data, at, end if end >= 0 else len(data))
         at = end + 1 if end >= 0 else -1
+
+
+def _first_record(data: bytes) -> int:
+    return 0 if data[:1] == b'>' else data.find(b'\n>') + 1 or -1
+
+
+def has_records(data: bytes) -> bool:
+    """Whether a record of FASTA begins anywhere.
+
+    >>> has_records(b'; a note\\n>r\\nGAT\\n'), has_records(b'a > b\\n')
+    (True, False)
+    """
+    return _first_record(data) >= 0
 
 
 def _record(data: bytes, at: int, end: int) -> Record:

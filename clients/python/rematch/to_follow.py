@@ -11,7 +11,7 @@ import sys
 import time
 from typing import TYPE_CHECKING, IO, Iterator, List, Optional, Set
 
-from .documents import Document, _unreadable
+from .documents import Document, _unreadable, packed_by
 from .match import Row
 from .packed import Given
 from .pieces import reach
@@ -24,6 +24,7 @@ __all__ = ['Growing', 'follow']
 
 _EVERY = 0.1  # seconds between two looks at the file
 _READ = 1 << 22  # bytes that are taken at once
+_HEAD = 1 << 20  # bytes of the file's beginning that are looked at
 
 
 class Growing:
@@ -136,6 +137,13 @@ class _File:
         self._place += len(data)
         return data
 
+    def head(self) -> bytes:
+        """How the file begins, as far as it is there; nothing of a pipe."""
+        try:
+            return os.pread(self._file.fileno(), _HEAD, 0)
+        except OSError:
+            return b''
+
     def is_another(self) -> Optional[str]:
         """Why the file is to be read from its start; None where it goes on."""
         if self.name == '-':
@@ -194,6 +202,7 @@ def _news(file: _File, idle: Optional[float]) -> Iterator[Optional[bytes]]:
 
 def follow(command: 'Command') -> None:
     """Writes the rows of a file as they come, as lines of a table."""
+    from .doubts import doubts_of
     from .tables import Table
     from .to_forms import layout_of, refuse
     from .to_small import SmallDocuments
@@ -213,6 +222,10 @@ def follow(command: 'Command') -> None:
         query = SmallDocuments(command.query.text)
     file = _File(command.names[0], from_start=bool(command.given.from_start))
     growing, base = Growing(query, lines, file.start), file.line()
+    head = file.head()
+    packed = packed_by(head)
+    for doubt in doubts_of(head, query) if packed is None else [f'it is packed by {packed}, and its packed bytes are searched: csv unpacks it']:
+        command.tell(f'{file.name}: {doubt}')
     command.out.write(table.head())
     command.out.flush()
 

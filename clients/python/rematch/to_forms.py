@@ -270,11 +270,15 @@ class _Places(Form):
         return self.command.progress.counted(in_order(every, data) if self.given.sorted else every)
 
     def tell_letters(self, name: str, data: bytes) -> None:
-        from .expand import open_letters
-        from .sequences import are_proteins
+        from .nucleotides import open_letters
+        from .sequences import are_proteins, has_records
+        if not has_records(data):
+            return  # which is a fault, told alone
         is_protein = are_proteins(data)
         if is_protein and not self.given.forward:
             self.command.tell(f'{name}: it has letters of proteins, which have no other strand: --forward leaves it out')
+        if is_protein and self.given.iupac:
+            self.command.tell(f'{name}: it has letters of proteins, and --iupac reads those of the query as nucleotides: drop it')
         letters = b'' if is_protein or self.given.iupac else open_letters(self.query.text)
         if letters:
             shown = ' '.join(letters.decode())
@@ -283,7 +287,8 @@ class _Places(Form):
 
     def left_out(self, found: Given) -> Any:
         def tell(rows: int) -> None:
-            print(f'{found.name}: {rows} rows are left out, whose spans lie in several records or in none', file=sys.stderr)
+            are = 'row is' if rows == 1 else 'rows are'
+            print(f'{found.name}: {rows} {are} left out, whose spans lie in several records or in none', file=sys.stderr)
         return tell
 
 

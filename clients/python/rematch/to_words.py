@@ -99,7 +99,7 @@ _OPTIONS = (
     _option('--line-numbers', ('lines',), action='store_true', help='the number of each line before it'),
     _option('--lines', ('count',), action='store_true', help='count the lines that a row touches'),
     _option('--forward', _PLACES, action='store_true', help='the forward strand alone'),
-    _option('--iupac', _PLACES, action='store_true', help='letters such as N, R, Y in the query stand for what they mean, but in classes'),
+    _option('--iupac', (*_PLACES, 'check'), action='store_true', help='letters such as N, R, Y in the query stand for what they mean, in classes too'),
     _option('--sorted', _PLACES, action='store_true', help='by record and place, as bedtools wants it (all rows are held)'),
     _option('--strand-once', _PLACES, action='store_true', help='a palindrome, whose places both strands have, once'),
     _option('--frames', ('bed',), action='store_true', help='the reading frame in the name'),
@@ -355,7 +355,7 @@ def hint_of_words(words: Sequence[str]) -> Optional[str]:
 
 def _without_words_of_the_program(words: Sequence[str]) -> List[str]:
     """The words of check, without those that only the program has; what is wrong with them is told, with status 2."""
-    own = [word for word in words[1:] if word not in ('--quiet', '--expanded')]
+    own = [word for word in words[1:] if word not in ('--quiet', '--expanded', '--iupac')]
     if '-o' not in own:
         hint = hint_of_program_words(own)
         if hint is not None:

@@ -162,8 +162,24 @@ class Commands(Folder):
         gone = os.path.join(self.folder, 'gone')
         self.assertEqual(asked('csv', '-q', gone)[::2], (5, gone + ': No such file or directory\n'))
         status, out, told = asked('csv', '-e', '/!x{a}/', gone)
-        self.assertEqual((status, out.count('\n'), gone + ': No such file or directory' in told), (5, 1, True))
-        self.assertEqual(asked('csv', '-e', '/!x{a}/', self.folder)[0], 5)
+        self.assertEqual((status, out, told), (5, '', gone + ': No such file or directory\n'))
+
+    def test_what_cannot_be_read_is_told_in_one_form(self):
+        """Nothing but NAME: REASON, alone and among others, and nothing is written of a document that is not there."""
+        gone, broken = os.path.join(self.folder, 'gone'), self.file('c', gzip.compress(b'a' * 99)[:-9])
+        reasons = {gone: 'No such file or directory', self.folder: 'Is a directory',
+                   broken: 'Compressed file ended before the end-of-stream marker was reached'}
+        for form in ('csv', 'tsv', 'kwic', 'lines', 'freq', 'count', 'any', 'gff', 'html', 'ann', 'follow'):
+            for path, reason in reasons.items():
+                words = (form, '--quiet', '-e', '/!x{A}/', path)
+                if form != 'follow' or path != broken:
+                    self.assertEqual(asked(*words), (5, '', '%s: %s\n' % (path, reason)), words)
+                if form not in ('ann', 'follow'):
+                    status, out, told = asked(*words, path)
+                    self.assertEqual((status, out, told), (5 if form == 'any' else 1, '', 2 * ('%s: %s\n' % (path, reason))), words)
+        for jobs in ('1', '2'):
+            self.assertEqual(asked('csv', '--jobs', jobs, '--texts', '-e', '/!x{a}/', gone, self.file('d', b'a'))[1].split('\n')[0], 'document,line,x')
+        self.assertEqual(asked('csv', '--jobs', '2', '-e', '/!x{a}/', gone, gone)[:2], (1, ''))
 
     @needs_speed
     def test_a_document_that_the_program_refuses_is_named(self):

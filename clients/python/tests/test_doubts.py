@@ -6,7 +6,7 @@ import unittest
 from unittest import mock
 
 from rematch import packed, pieces
-from support import Folder
+from support import EXAMPLES, Folder
 from commands import asked, without
 
 FASTA = b'>one\n' + b'ACGT' * 15 + b'\nGATC\n'
@@ -84,6 +84,59 @@ class Sequences(Folder):
         # A letter fits those that mean no more than it does: W is A or T, so R, which may be G, does not fit it.
         self.assertEqual(asked('count', '--iupac', '-e', '/!x{a}/', path)[0], 2)
         self.assertEqual(asked('fasta', '--forward', '--iupac', '-e', '/!x{GWCC}/', path)[1], '>r:2-6(+) x\nGACC\n')
+
+    def test_iupac_in_classes(self):
+        """A class has what its open letters mean, and one that is negated nothing that may be one of them: counts of each letter."""
+        letters = 'ACGTURYSWKMBDHVN'
+        path = self.file('d', ('>r\n' + ''.join(letter + 'XX' for letter in letters) + '\n').encode())
+        for written, fits in (('R', 'AGR'), ('[R]', 'AGR'), ('[RC]', 'ACGRSMV'), ('[RY]', letters), ('[N]', letters), ('[^R]', 'CTUY'),
+                              ('[^RC]', 'TU'), ('[^N]', ''), ('[AG]', 'AG'), ('[^AG]', 'CTURYSWKMBDHVN'), ('[A-Z]', letters), ('[ACGTN]', 'ACGTN'),
+                              (r'[\x52]', 'R'), (r'[\wR]', letters)):
+            status, out, told = asked('fasta', '--forward', '--quiet', '--iupac', '-e', '/!x{%s}XX/' % written, path)
+            self.assertEqual((status, out.split('\n')[1::2]), (0, [letter for letter in letters if letter in fits]), written)
+
+    def test_iupac_in_classes_on_reads(self):
+        """As the query with the letters listed has it, on both strands of a real file."""
+        reads = os.path.join(EXAMPLES, 'reads.fasta')
+        for written, listed, rows in (('[R]GATC', '[AG]GATC', 31), ('[^R]GATC', '[CT]GATC', 20), ('[^Y]GATC', '[AG]GATC', 31), ('[RY]GATC', '[ACGT]GATC', 51),
+                                      ('G[N]{2}[^S]C', 'G[ACGT]{2}[AT]C', 121)):
+            found = asked('bed', '--iupac', '--quiet', '-e', '/!x{%s}/' % written, reads)[1]
+            self.assertEqual(found, asked('bed', '--quiet', '-e', '/!x{%s}/' % listed, reads)[1], written)
+            self.assertEqual(found.count('\n'), rows, written)
+
+    def test_iupac_refuses_a_range_of_some_letters(self):
+        path = self.file('d', FASTA)
+        for query, at in (('/!x{[A-F]C}/', 5), ('# R\n/!x{[^N-R]}/', 10), ('part p = /[K-M]/; /!x{%{p}}/', 11)):
+            status, out, told = asked('bed', '--iupac', '-e', query, path)
+            self.assertEqual((status, out, told.split('\n')[0]), (3, '', 'query: unexpected at %d' % at), query)
+            self.assertIn('list those of', told)
+        self.assertEqual(asked('bed', '--iupac', '-e', '/!x{R**}/', path)[2].split('\n')[:2], ['query: repeat after repeat at 6', '  /!x{R**}/'])
+        self.assertEqual(asked('check', '--iupac', '--expanded', '-e', '/!RY{[R]GATC}/')[:2], (0, '/!RY{[AGR]GATC}/\n'))
+        self.assertIn('--iupac reads those of the query as nucleotides', asked('bed', '--iupac', '--forward', '-e', '/!x{M}/', self.file('p', PROTEIN))[2])
+
+    def test_open_letters_in_classes(self):
+        path = self.file('d', FASTA)
+        for query, shown in (('/!x{[R]GATC}/', 'R'), ('/!x{[ACGTK]GA[YT]C}/', 'Y'), ('/!x{[ACGTN]C[AGR]}/', ''), ('/!x{[^N]C}/', 'N')):
+            told = asked('bed', '-e', query, path)[2]
+            self.assertEqual('the query has %s as plain letter' % shown in told, bool(shown), query)
+
+    def test_small_letters(self):
+        """Letters of records are raised, so that small ones of a query fit none."""
+        path = self.file('d', FASTA)
+        for query, at, meant in (('/!x{gatc}/', 4, 'GATC'), ('/!x{GAtc}[A]/', 6, 'TC'), ('/!x{G[acgt]}/', 6, 'A'), ('/!x{[a-z]}/', 5, 'A-Z'),
+                                 (r'# x\n'.encode().decode('unicode_escape') + r'/!x{\x67}/', 8, 'G')):
+            for form in ('bed', 'gff', 'fasta'):
+                told = asked(form, '-e', query, path)[2]
+                self.assertIn('advice at %d: a small letter fits no record' % at, told)
+                self.assertIn('write %s\n' % meant, told)
+        for words in (('/!gatc{GATC}/',), ('/!x{[Gg][a-zA-Z]\\w\\n[^a]}/',), ('/!x{gatc}/', '--quiet'), ('/!x{ga}/i',)):
+            self.assertNotIn('small letter', asked('bed', '-e', *words, path)[2], words)
+        self.assertNotIn('small letter', asked('csv', '-e', '/!x{gatc}/', path)[2])
+
+    def test_no_fasta_is_told_alone(self):
+        path = self.file('d', b'a line of letters\n')
+        for form in ('bed', 'gff', 'fasta'):
+            self.assertEqual(asked(form, '-e', '/!x{N}/', path), (5, '', path + ': no record of FASTA, which begins with > at the start of a line\n'))
 
 
 class Several(Folder):

@@ -92,6 +92,16 @@ class Written(unittest.TestCase):
         with self.assertRaisesRegex(rematch.QueryError, 'longer than 65536 bytes'):
             expand.expanded(query)
 
+    def test_letters_past_ascii_are_told(self):
+        """`i` is for the letters of ASCII alone, which is said of the first other letter that has two cases."""
+        for query, at, part in (('/aé/i', 2, 'é stays as it is: for both cases write [éÉ]'), ('/x!n{straße}/iu', 9, '(ß|SS)'),
+                                (r'/\u{e9}/iu', 1, '[éÉ]'), ('/a[b-dä]/iu', 6, 'add the other case to the class'), (r'/\p{Lu}/iu', 1, r'[\p{Lu}\p{Ll}\p{Lt}]'),
+                                ('part e = /é/; # é\n/%{e}a/i', 10, '[éÉ]')):
+            found = expand.expanded(query).advice
+            self.assertEqual([(advice.offset, part in advice.message) for advice in found], [(len(query[:at].encode()), True)], query)
+        for query in ('/é/', '/a/i', '/中/iu', '/[éÉ]/iu', r'/\p{L}\p{Nd}\d/iu', '/é/ union /a/i'):
+            self.assertEqual(expand.expanded(query).advice, [], query)
+
 
 class Places(Folder):
     def fault(self, query):
@@ -104,6 +114,13 @@ class Places(Folder):
             at = next(k for k, line in enumerate(told) if set(line) <= set(' ^') and '^' in line)
             self.assertEqual(told[at], '  ' + caret, query)
             self.assertTrue(told[at - 1][2:] in query, query)
+
+    def test_advice_is_told_with_every_form(self):
+        path = self.file('d', 'É'.encode())
+        for form in ('csv', 'count', 'lines', 'kwic'):
+            self.assertIn('advice at 4: i is for the letters of ASCII', asked(form, '-e', '/!x{é}/i', path)[2])
+            self.assertEqual(asked(form, '-e', '/!x{é}/i', '--quiet', path)[2], '')
+        self.assertIn('advice at 4: i is for', asked('check', '-e', '/!x{é}/i')[1])
 
     def test_check_shows_what_the_program_reads(self):
         for query, wanted in (('/a/i # x', '/[Aa]/ \n'), ('/!x{a}/\n', '/!x{a}/\n'), ('part p = /b/; /%{p}(/', '/(b)(/\n')):

@@ -19,7 +19,7 @@ BEGINNERS = [
     ('/(?:a)/', '(..)'), ('/(?=a)/', 'look-around'), ('/(?<!a)b/', 'look-around'), ('/(?P<x>a)/', '!name{..}'), ('/(?<x>a)/', '!name{..}'),
     ('/(?i)a/', '[Ff]'), ('/*a/', 'nothing before it'), ('/a/i', '[Aa]'), ('/a/gi', '[Aa]'), ('/usr/bin/', r'\/'), ('/[[:alpha:]]/', r'\['),
     ('/[é]/', 'u behind'), ('/a/ AND /b/', 'union, join'), ('/a/ or /b/', 'union, join'), ('/a/ | /b/', 'union'), ('a', 'between slashes'),
-    ('"a"', 'between slashes'), ('^a$', 'between slashes'), (r'/\p{Greek}/u', 'range'), ('/a$|b/', 'straight before'), (r'/a\n^b/', 'straight behind'),
+    ('"a"', 'between slashes'), ('^a$', 'between slashes'), (r'/\p{Greek}/u', 'range'), ('/a$|b/', '$/ union'), ('/a$b/', 'straight before'), ('/(^|,)!x{a}/', '/^!x{..}/ union'), ('/!x{a}(,|$)/', '$/ union'), ('/(,|^)a/', '/^!x{..}/ union'), ('/!x{^a}/', 'before the capture'), ('/!x{a$}/', 'behind the capture'), (r'/a\n^b/', 'straight behind'),
     ('/a', 'closing slash'), ('/a[/]/', r'\/'), ('/(a/', 'not ended'), ('/!x{a/', 'not ended'), ('/(!x{a})*/', 'row of its own'),
     ('/!x{a}!x{b}/', 'rename'), ('/!x{a}|b/ join /!x{.}/', 'every way'), ('project y (/!x{a}/)', 'no such variable'), ('/[z-a]/', 'lower'),
     (r'/[\w-z]/', 'last in the class'), ('/a/;', 'ends a let'), ('let w = /a/;', 'too early'), ('/a/ /b/', 'union, join'), ('/a]/', r'\]'),

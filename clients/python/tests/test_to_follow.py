@@ -1,4 +1,5 @@
 """rematch-to follow: each row of a growing document once, and files that grow, are cut, replaced or away."""
+import gzip
 import os
 import random
 import subprocess
@@ -120,6 +121,12 @@ class Followed(Folder):
     def test_standard_input(self):
         self.assertEqual(asked('follow', '-e', '/!x{a.}/', '--columns', 'x', '-', stdin=b'a1\nba2')[1], 'x\na1\na2\n')
         self.assertEqual(asked('follow', '-e', '/!x{a.}/', '--columns', 'x', stdin=b'a\xff\n')[1], 'x\na\\xff\n')
+
+    def test_what_may_hide_rows(self):
+        for data, part in ((gzip.compress(b'a1\n'), 'packed by gzip, and'), (b'\xff\xfea\0', 'UTF-16'), (b'>r\n' + b'ACGT' * 9 + b'\nACGT\n', 'FASTA')):
+            words = ('follow', '--idle', '0', '-e', '/!x{a1}/', self.file('d', data))
+            self.assertIn(part, asked(*words)[2])
+            self.assertEqual(asked(*words, '--quiet')[2], '')
 
     def test_refusals(self):
         path = self.file('d', b'')
