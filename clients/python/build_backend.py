@@ -17,7 +17,7 @@ HERE = os.path.dirname(os.path.abspath(__file__))
 ROOT = os.path.dirname(os.path.dirname(HERE))
 NAME = 'rematch_client'
 SCRIPTS = {'rematch-to': 'rematch.convert:main', 'rematch-cut': 'rematch.pieces:cut_main',
-           'rematch-piece': 'rematch.pieces:piece_main', 'rematch-play': 'rematch.play:main'}
+           'rematch-piece': 'rematch.pieces:piece_main', 'rematch-play': 'rematch.play:main', 'rematch-serve': 'rematch.relay:main'}
 GLIBC = (2, 34)  # the oldest C library that the program runs on
 
 

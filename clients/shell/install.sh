@@ -43,6 +43,7 @@ $bin/rematch-to
 $bin/rematch-cut
 $bin/rematch-piece
 $bin/rematch-play
+$bin/rematch-serve
 $share/man/man1/rematch.1
 $bash_file
 $share/bash-completion/completions/rematch-to
@@ -123,8 +124,9 @@ if command -v python3 >/dev/null 2>&1 && python3 -c 'import sys, zipapp; sys.exi
     link rematch-to "$bin/rematch-cut" "pieces of a document"
     link rematch-to "$bin/rematch-piece" "the rows of a piece"
     link rematch-to "$bin/rematch-play" "a page to write queries beside a document"
+    link rematch-to "$bin/rematch-serve" "sessions that tell back what is wrong with a request"
 else
-    echo "no Python 3.8: rematch-to, rematch-cut, rematch-piece and rematch-play are left out"
+    echo "no Python 3.8: rematch-to, rematch-cut, rematch-piece, rematch-play and rematch-serve are left out"
 fi
 
 case ":${PATH:-}:" in

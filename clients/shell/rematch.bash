@@ -40,7 +40,7 @@ _rematch() {
 
 _rematch_to_options=$(printf '%s ' \
     -e -q -o --quiet --filter --max-table --jobs -n --var --columns --texts --context --characters --sort --sample \
-    --color -C -v --line-numbers --lines --forward --iupac --sorted --strand-once --frames --most-rows --expanded \
+    --sentence --color -C -v --line-numbers --lines --forward --iupac --sorted --strand-once --frames --most-rows --expanded \
     --from-start --idle --version --help)
 
 _rematch_to() {

@@ -12,6 +12,8 @@ def run() -> int:
         from rematch.pieces import piece_main as main
     elif name == 'rematch-play':
         from rematch.play import main
+    elif name == 'rematch-serve':
+        from rematch.relay import main
     else:
         from rematch.convert import main
     return main()

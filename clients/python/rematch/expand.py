@@ -4,6 +4,7 @@
 - `i` behind the closing slash takes both cases of ASCII letters: `/error/i` is `/[Ee][Rr][Rr][Oo][Rr]/`. Behind a formula
   it is for the parts in it too, behind a part for that part alone.
 - `part ip = /[\\d.]+/;` names a part of formulas, which is used in those behind it as `%{ip}`, a group.
+- `~1{TATAAT}` in a formula is a word with at most so many letters other than these, 1 to 9.
 
 A text that has none of them is passed on byte for byte. The program's language is as it is: what it reads is the text
 that `rematch-to check --expanded` shows.
@@ -12,11 +13,12 @@ from __future__ import annotations
 
 import re
 from bisect import bisect_right
-from typing import Callable, Dict, List, NamedTuple, Optional, Tuple, Union
+from typing import Callable, Dict, List, NamedTuple, Optional, Sequence, Tuple, Union
 
 from .advice import Advice
 from .faults import QueryError
 from .formula import Atom, Part, items_of, letter_of, parts_of
+from .mismatches import MOST_UNITS, units_of, units_written, with_mismatches
 
 __all__ = ['Expanded', 'expanded']
 
@@ -24,7 +26,7 @@ _TOKEN = re.compile(rb'''
     (?P<atom>/(?P<body>(?:[^\\/]|\\.)*)/(?P<signs>[iu]{0,2}(?![A-Za-z0-9_]))?) | (?P<comment>\#[^\n]*) |
     (?P<part>\bpart\s+(?P<name>[A-Za-z_]\w*)\s*=\s*(?=/)) | (?P<end>;\s*) | (?P<word>\w+) | (?P<rest>.)
 ''', re.X | re.S)
-_USE = re.compile(rb'(?s:\\.)|(?P<class>\[(?:[^\\\]]|\\.)*\])|%\{([A-Za-z_]\w*)\}', re.S)
+_USE = re.compile(rb'(?s:\\.)|(?P<class>\[(?:[^\\\]]|\\.)*\])|%\{(?P<name>[A-Za-z_]\w*)\}|~(?P<most>\d)\{(?!\d+(?:,\d*)?\})', re.S)
 _MOST = 65536  # bytes of a query that the program reads
 
 
@@ -147,15 +149,71 @@ class _Reader:
     def body(self, atom: Atom, is_both_cases: bool) -> List[Tuple[bytes, int, bool]]:
         """What a formula is written out to, in pieces with their places."""
         pieces: List[Tuple[bytes, int, bool]] = []
-        at = 0
-        for use in _USE.finditer(atom.text):
-            if use[2] is None:
+        at, end = 0, 0
+        while True:
+            use = _USE.search(atom.text, end)
+            if use is None:
+                return pieces + self.plain(atom, at, len(atom.text), is_both_cases)
+            end = use.end()
+            if use['name'] is None and use['most'] is None:
                 self.refuse_in_class(use, atom)
                 continue
             pieces += self.plain(atom, at, use.start(), is_both_cases)
-            pieces += self.used(use, atom, is_both_cases)
-            at = use.end()
-        return pieces + self.plain(atom, at, len(atom.text), is_both_cases)
+            if use['most'] is None:
+                pieces += self.used(use, atom, is_both_cases)
+            else:
+                word, end = self.word(atom, use.start(), is_both_cases)
+                pieces.append((word, atom.offset + use.start(), False))
+            at = end
+
+    def word(self, atom: Atom, start: int, is_both_cases: bool) -> Tuple[bytes, int]:
+        """What a word with mismatches is written out to, and where it ends."""
+        most = int(atom.text[start + 1:start + 2])
+        units, end = self.units(atom, start + 3, is_both_cases)
+        if atom.text[end:end + 1] != b'}':
+            sign = atom.text[end:end + 1]
+            raise self.bad_word(atom.offset + (end if sign else start), 'in ~1{..} stand letters, classes, parts and {n}, up to the }: other signs stand '
+                                'outside of it' if sign else 'the word that begins here is not ended: ~1{..}')
+        if not 0 < most < len(units):
+            raise self.bad_word(atom.offset + start, f'a word of {len(units)} letters differs in 1 to {len(units) - 1} of them, and in 9 at most'
+                                if len(units) > 1 else 'a word with mismatches has two letters or more')
+        written = units_written(len(units), most)
+        if written > MOST_UNITS:
+            raise self.bad_word(atom.offset + start, f'{len(units)} letters with {most} mismatches are {written} letters written out, and '
+                                f'{MOST_UNITS} is the most: take fewer mismatches, or a shorter word')
+        return with_mismatches(units, most), end + 1
+
+    def bad_word(self, place: int, hint: str) -> QueryError:
+        fault = QueryError(f'query: unexpected at {place}', 3, self.found.source)
+        fault.hint = hint
+        return fault
+
+    def units(self, atom: Atom, start: int, is_both_cases: bool) -> Tuple[List[bytes], int]:
+        """What each place of a word fits, and where the word ends: at its }, or at what cannot stand in it."""
+        made: List[bytes] = []
+        end = start
+        for unit in units_of(atom.text, start):
+            if unit.kind == 'bad' or (unit.kind == 'times' and not made):
+                return made, unit.offset
+            if unit.kind == 'use':
+                part = self.part(unit.value, atom, unit.offset)
+                inner, inner_end = self.units(part.atom, 0, is_both_cases or part.is_both_cases)
+                if inner_end < len(part.atom.text):
+                    raise self.bad_word(atom.offset + unit.offset, 'the part is no word: in ~1{..} stand letters and classes')
+                made += inner
+            elif unit.kind == 'times':
+                made += (int(unit.value) - 1) * made[-1:] if int(unit.value) else []
+                made = made if int(unit.value) else made[:-1]
+            elif unit.kind == 'literal' and not unit.text.isascii() and not atom.is_over_characters:
+                raise self.bad_word(atom.offset + unit.offset, 'a letter past ASCII is several bytes: put the sign u behind the closing slash')
+            else:
+                part_of_it = Part(unit.kind, unit.text, atom.offset + unit.offset)
+                self.tell_one_case([part_of_it] if is_both_cases else [])
+                made.append(_both_cases(part_of_it) if is_both_cases else unit.text)
+            end = unit.offset + len(unit.text)
+            if len(made) > MOST_UNITS:
+                raise self.bad_word(atom.offset + start, f'a word has at most {MOST_UNITS} letters')
+        return made, end
 
     def refuse_in_class(self, use: 're.Match[bytes]', atom: Atom) -> None:
         for name in self.parts:
@@ -167,10 +225,16 @@ class _Reader:
 
     def used(self, use: 're.Match[bytes]', atom: Atom, is_both_cases: bool) -> List[Tuple[bytes, int, bool]]:
         place = atom.offset + use.start()
-        part = self.parts.get(use[2])
+        part = self.part(use['name'], atom, use.start())
+        return [(b'(', place, False), *self.body(part.atom, is_both_cases or part.is_both_cases), (b')', place, False)]
+
+    def part(self, name: bytes, atom: Atom, at: int) -> _Part:
+        """The part of that name, which is used at a place of a formula."""
+        place = atom.offset + at
+        part = self.parts.get(name)
         if part is None:
             fault = QueryError(f'query: unknown name at {place}', 3, self.found.source)
-            fault.hint = f'there is no part {use[2].decode()} before it, and %{{..}} uses one: the sign itself is \\{{'
+            fault.hint = f'there is no part {name.decode()} before it, and %{{..}} uses one: the sign itself is \\{{'
             raise fault
         if part.atom.is_over_characters and not atom.is_over_characters:
             fault = QueryError(f'query: unexpected at {place}', 3, self.found.source)
@@ -179,17 +243,21 @@ class _Reader:
         self.uses += 1
         if self.uses > _MOST:
             raise QueryError(f'query: longer than {_MOST} bytes', 3, self.found.source)
-        return [(b'(', place, False), *self.body(part.atom, is_both_cases or part.is_both_cases), (b')', place, False)]
+        return part
 
     def plain(self, atom: Atom, start: int, end: int, is_both_cases: bool) -> List[Tuple[bytes, int, bool]]:
         text = atom.text[start:end]
         if not is_both_cases:
             return [(text, atom.offset + start, True)] if text else []
         shown = Atom(text, atom.offset + start, atom.is_over_characters)
-        if not self.found.advice:
-            self.found.advice += filter(None, (_one_case(part) for part in parts_of(shown)))
-            del self.found.advice[1:]
+        self.tell_one_case(parts_of(shown))
         return _replaced(shown, _both_cases)
+
+    def tell_one_case(self, parts: Sequence[Part]) -> None:
+        """Tells the first letter past ASCII that has two cases, where both cases are asked for."""
+        if not self.found.advice:
+            self.found.advice += filter(None, map(_one_case, parts))
+            del self.found.advice[1:]
 
 
 def _replaced(atom: Atom, change: Callable[[Part], bytes]) -> List[Tuple[bytes, int, bool]]:

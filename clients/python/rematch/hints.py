@@ -93,6 +93,7 @@ HINTS: Tuple[Hint, ...] = (
     Hint('query: bad range at A', r'/[^\x00-\xff]/', 'nothing fits this class'),
     Hint(_REPEAT, '/a{,3}/', 'write {0,k}', rb'\{,'),
     Hint(_REPEAT, '/!1st{a}/', 'a name begins with a letter or _', b'', rb'!\d\w*'),
+    Hint(_REPEAT, '/~1{TATA}/', 'words with mismatches are written out by rematch-to and rematch-piece; the sign itself is \\{', rb'\{', rb'~\d'),
     Hint(_REPEAT, '/!x {a}/', r'a capture is !name{..}, with the ! and without a space; the sign itself is \{', rb'\{(?!\d)', rb'\w\s*'),
     Hint(_REPEAT, '/a{3,2}/', r'write {m}, {m,} or {m,k} with numbers up to 1,000 that do not fall; the sign itself is \{'),
     Hint('query: repeat after repeat at A', '/"!q{.*?}"/', 'there are no lazy repeats, since every match is told: drop the ? and say what '

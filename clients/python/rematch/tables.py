@@ -12,6 +12,7 @@ from .documents import _REST, Document
 from .match import Row
 from .packed import Given
 from .query import Query
+from .sentences import sentence_round
 
 __all__ = ['Characters', 'Context', 'Layout', 'Table', 'concordance', 'extent_of', 'line_numbers', 'sorted_contexts',
            'write_annotations']
@@ -71,11 +72,12 @@ class Characters:
 
 
 class Layout(NamedTuple):
-    """How a table is written: its columns (None: all), or the texts alone, the characters around a row, and how places are counted."""
+    """How a table is written: its columns (None: all), or the texts alone, what stands around a row, and how places are counted."""
 
     columns: Optional[Sequence[str]] = None
     is_texts_alone: bool = False
-    context: Optional[int] = None
+    context: Optional[int] = None  # so many characters on either side
+    is_sentence: bool = False  # the rest of its sentence instead
     middle: Optional[str] = None  # the variable whose context it is; None: the whole row
     is_in_characters: bool = False
     delimiter: str = ','
@@ -104,7 +106,7 @@ class Table:
     def __init__(self, query: Query, layout: Layout) -> None:
         self._query = query
         self._layout = layout
-        around = ['left', 'right'] if layout.context is not None else []
+        around = ['left', 'right'] if layout.context is not None or layout.is_sentence else []
         every = ['document', 'line'] + [name + end for name in query.variables for end in ('_start', '_end', '')] + around
         if layout.is_texts_alone:
             self._names: Sequence[str] = ['document', 'line', *query.variables, *around]
@@ -113,7 +115,7 @@ class Table:
         missing = next((name for name in self._names if name not in every), None)
         if missing is not None:
             raise ValueError(f'there is no column {missing!r}: there are {", ".join(every)}' + ('' if around
-                                                                                                else ', and with --context left and right'))
+                                                                                                else ', and with --context or --sentence left and right'))
         if layout.middle is not None and layout.middle not in query.variables:
             raise ValueError(f'the query has no variable {layout.middle}')
         self._is_usual = list(self._names) == every and not around and not layout.is_in_characters
@@ -171,6 +173,8 @@ class Table:
         if self._layout.middle is not None:
             at = 2 * self._query.variables.index(self._layout.middle)
             span = (row[at], row[at + 1]) if row[at] >= 0 else None
+        if span is not None and self._layout.is_sentence:
+            return _flat(sentence_round(data, *span)[side == 'right'])
         signs = self._layout.context or 0
         if span is None or not signs:
             return ''
@@ -200,10 +204,15 @@ class Context(NamedTuple):
     word: str
     right: str
 
-    def shown(self, columns: int, label: int, *, is_coloured: bool = False) -> str:
-        """The line with so many columns on either side of the span, and before it its place, so many columns wide."""
+    def shown(self, columns: Optional[int], label: int, *, is_coloured: bool = False) -> str:
+        """The line with so many columns on either side of the span, and before it its place, so many columns wide.
+
+        Without a number it has all that stands around the span, which is in brackets.
+        """
         place = f'{self.name}:{self.line}'
         word = coloured(self.word) if is_coloured else self.word
+        if columns is None:
+            return f'{place}  {self.left}[{word}]{self.right}'
         return f'{place:>{label}}  {_clipped(self.left, columns, True)}  {word}  {_clipped(self.right, columns, False)}'.rstrip()
 
 
@@ -242,8 +251,8 @@ def _clipped(text: str, columns: int, from_end: bool) -> str:
     return ' ' * left + ''.join(reversed(kept))
 
 
-def concordance(query: Query, given: Given, rows: Iterable[Row], name: str, columns: int = 35) -> Iterator[Context]:
-    """Each span of a variable with what stands around it, up to so many columns on either side.
+def concordance(query: Query, given: Given, rows: Iterable[Row], name: str, columns: Optional[int] = 35) -> Iterator[Context]:
+    """Each span of a variable with what stands around it, up to so many columns on either side; without a number the rest of its sentence.
 
     >>> query = Query('/ !w{b.} /')
     >>> given = Given('d', Document(b'aa bb cc'))
@@ -255,10 +264,14 @@ def concordance(query: Query, given: Given, rows: Iterable[Row], name: str, colu
     at = 2 * query.variables.index(name)
     for row in rows:
         start, end = row[at], row[at + 1]
-        if start >= 0:
+        if start < 0:
+            continue
+        if columns is None:
+            left, right = sentence_round(data, start, end)  # type: ignore[arg-type]
+        else:
             left = data[max(0, start - 4 * columns):start].decode('utf-8', 'ignore')
             right = data[end:end + 4 * columns].decode('utf-8', 'ignore')
-            yield Context(given.name, number(start), _flat(left), _flat(_shown(data[start:end])), _flat(right))
+        yield Context(given.name, number(start), _flat(left), _flat(_shown(data[start:end])), _flat(right))
 
 
 def sorted_contexts(found: Iterable[Context], by: Optional[str]) -> Iterable[Context]:

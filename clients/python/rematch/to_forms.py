@@ -66,7 +66,7 @@ class Form:
 def layout_of(given: Any, delimiter: str = ',') -> Layout:
     """The layout of a table that the words ask for."""
     columns = None if given.columns is None else [name.strip() for name in given.columns.split(',')]
-    return Layout(columns, bool(given.texts), given.context, given.var, bool(given.characters), delimiter)
+    return Layout(columns, bool(given.texts), given.context, bool(given.sentence), given.var, bool(given.characters), delimiter)
 
 
 class _Csv(Form):
@@ -74,8 +74,8 @@ class _Csv(Form):
 
     def __init__(self, command: 'Command') -> None:
         super().__init__(command)
-        if self.given.var is not None and self.given.context is None:
-            refuse('--var is for --context here: give --context N too')
+        if self.given.var is not None and self.given.context is None and not self.given.sentence:
+            refuse('--var is for --context and --sentence here: give one of them too')
         try:
             self.table = Table(self.query, layout_of(self.given, self.delimiter))
         except ValueError as reason:
@@ -128,7 +128,7 @@ class _Kwic(Form):
         if name not in self.query.variables:
             refuse(f'the query has no variable{" " + name if name else "s"}')
         self.name = name
-        self.columns = 35 if self.given.columns is None else int(self.given.columns)
+        self.columns: Optional[int] = None if self.given.sentence else 35 if self.given.columns is None else int(self.given.columns)
         self.label = max(map(len, self.command.names)) + 7
         self.is_text = self.given.sort is None and self.given.sample is None
         self.found: List[Context] = []

@@ -25,7 +25,10 @@ FORMS: Dict[str, Form] = {
     'tsv': Form('the same with tabs', "rematch-to tsv --texts -q failed.query auth.log | cut -f 3 | sort -u"),
     'kwic': Form('a concordance of one variable', "rematch-to kwic --sort right -e '/[^\\w]!w{the}[^\\w]/' text.txt\n"
                  "rematch-to kwic -n 20 --sample 7 -e '/[^\\w]!w{the}[^\\w]/' *.txt\n\n"
-                 '--sample draws -n lines from all of them, the same ones for the same number.'),
+                 "rematch-to kwic --sentence -e '/[^\\w]!w{tide}[^\\w]/' text.txt\n\n"
+                 '--sample draws -n lines from all of them, the same ones for the same number. --sentence writes the sentence round '
+                 'the text, which is in brackets: up to . ! ? before a capital letter, or an empty line, and at most 1000 characters on '
+                 'either side.'),
     'lines': Form('the whole lines that a row touches', "rematch-to lines -C 2 -q failed.query auth.log\n\n"
                   'A line is written once, as it is, from the first span of a row to its last. -v writes all other lines. '
                   'A query without a capture is taken as if all of each formula were captured.'),
@@ -81,13 +84,15 @@ _OPTIONS = (
     _option('--jobs', _JOBS, type=int, metavar='N', help='so many documents, and pieces of long ones, side by side (1)'),
     _option('-n', _FIRST, dest='most', type=int, metavar='N', help='at most so many rows, lines or texts'),
     _option('--var', ('csv', 'tsv', 'kwic', 'freq', 'follow'), metavar='X',
-            help='kwic, --context: the variable in the middle (the first one); freq: the variables that are counted, by commas '
+            help='kwic, --context, --sentence: the variable in the middle (the first one); freq: the variables that are counted, by commas '
                  '(all)'),
     _option('--columns', (*_TABLES, 'kwic'), metavar='A,B',
             help='tables: these columns in this order; kwic: a number, the columns on either side (35)'),
     _option('--texts', _TABLES, action='store_true', help='document, line and the texts alone'),
     _option('--context', _TABLES, type=int, metavar='N',
             help='the columns left and right: so many characters around the row, or around --var'),
+    _option('--sentence', ('csv', 'tsv', 'kwic'), action='store_true',
+            help='the sentence round the row, or round --var; in tables the columns left and right'),
     _option('--characters', _TABLES, action='store_true', help='places count characters'),
     _option('--sort', ('kwic',), choices=['left', 'right', 'word'], help='by the words before, behind, or by the text itself'),
     _option('--sample', ('kwic',), type=int, metavar='SEED',
@@ -111,8 +116,8 @@ _OPTIONS = (
 )
 
 _QUERY = ('The query may have comments (# to the end of the line), i behind the closing slash for both cases of ASCII letters, '
-          'and named parts: '
-          'part ip = /[\\d.]+/; is used in a formula as %%{ip}.')
+          'named parts (part ip = /[\\d.]+/; is used in a formula as %%{ip}), and words with mismatches: ~1{TATAAT} is a word with at most '
+          'one letter other than these.')
 _ABOUT = ('Write the rows of a query in many documents. Documents that are packed by gzip, bzip2 or xz are unpacked, by their '
           'content. Without '
           'a document, and as -, standard input is read. Where one of several documents cannot be read the others are, and the '
@@ -213,6 +218,8 @@ def _refuse_numbers(parser: _Parser, given: Words) -> None:
         parser.error(f'--columns of kwic is a number from 1 on, not {given.columns!r}')
     if given.sample is not None and given.most is None:
         parser.error('--sample draws so many lines as -n says: give -n N too')
+    if given.sentence and (given.context is not None or (given.form == 'kwic' and given.columns is not None)):
+        parser.error(f'--sentence and {"--columns" if given.context is None else "--context"} both say what stands around: give one of them')
     if given.texts and given.columns is not None:
         parser.error('--texts and --columns both say which columns there are: give one of them')
 

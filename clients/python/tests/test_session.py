@@ -48,6 +48,16 @@ class Sessions:
                                      [(match.row, match.spandict(), match.groupdict(), match.cursor) for match in wanted], (text, given))
                     self.assertEqual((served.count(given), served.any(given)), (len(wanted), bool(wanted)))
 
+    def test_many_texts(self):
+        """`map` gives what `findall` gives of each; what is no text is refused in its place."""
+        query, texts = self.server.query('/!x{a+}!y{b*}/'), ['aab', '', 'b', 'é', 'ab' * 9]
+        self.assertEqual([[match.row for match in found] for found in query.map(texts)],
+                         [[match.row for match in query.findall(text)] for text in texts])
+        rest = query.map(['a', 7])
+        self.assertEqual(len(next(rest)), 1)
+        with self.assertRaisesRegex(TypeError, 'text 1 is a str or bytes, not int'):
+            next(rest)
+
     def test_two_sessions(self):
         with self.server.open('/!x{a}/', 'aa') as first, self.server.open('/!x{a}/', 'ba') as second:
             self.assertEqual([match.span('x') for match in first.next(1)], [(0, 1)])

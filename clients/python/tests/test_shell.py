@@ -82,42 +82,37 @@ class Fish(Folder):
 
 
 class Zsh(Folder):
-    def complete(self, line):
-        """What a terminal shows after two tabs."""
+    def complete(self, line, words):
+        """What a terminal shows after two tabs, up to where it has all of these words."""
         master, slave = pty.openpty()
         environment = dict(os.environ, HOME=self.folder, ZDOTDIR=self.folder, TERM='dumb', PS1='> ')
         shell = subprocess.Popen(['zsh', '-f', '-i'], stdin=slave, stdout=slave, stderr=slave, cwd=EXAMPLES, env=environment, start_new_session=True)
         os.close(slave)
         try:
             os.write(master, ('fpath=(%s $fpath); autoload -U compinit; compinit -u -D; LISTMAX=999; echo rea""dy\n' % SHELL).encode())
-            self.read(master, 'ready')
+            self.read(master, ['ready'])
             os.write(master, (line + '\t\t').encode())
-            return self.read(master, None)
+            return self.read(master, words)
         finally:
             shell.kill()
             shell.wait()
             os.close(master)
 
-    def read(self, master, until):
-        shown, ends = '', time.monotonic() + (30 if until else 20)
-        while time.monotonic() < ends:
-            ready, _, _ = select.select([master], [], [], 3 if shown and not until else 20)
-            if not ready:
-                break
-            shown += os.read(master, 65536).decode('utf-8', 'replace')
-            if until and until in shown:
-                break
+    def read(self, master, words):
+        shown, ends = '', time.monotonic() + 60
+        while time.monotonic() < ends and not all(word in shown for word in words):
+            ready, _, _ = select.select([master], [], [], 1)
+            if ready:
+                shown += os.read(master, 65536).decode('utf-8', 'replace')
         return shown
 
     @needs('zsh')
     def test_it(self):
         self.assertEqual(run(['zsh', '-n', os.path.join(SHELL, '_rematch')]).stdout, '')
-        shown = self.complete('rematch -f ')
-        for word in ('spans', 'table', 'json'):
-            self.assertIn(word, shown)
-        shown = self.complete('rematch -')
-        for option in options():
-            self.assertIn(option, shown)
+        for line, words in (('rematch -f ', ['spans', 'table', 'json']), ('rematch -', options())):
+            shown = self.complete(line, words)
+            for word in words:
+                self.assertIn(word, shown)
 
 
 class Install(Folder):
