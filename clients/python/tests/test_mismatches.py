@@ -39,7 +39,7 @@ class Rows(unittest.TestCase):
                                     ('part w = /ab/i; /!x{~1{c%{w}}}-/', 'CAB- xAB- cxB-', [0, 5, 10]), ('/!x{~1{né}}/u', 'né nx xé xx', [0, 3, 6]),
                                     (r'/!x{~1{a\n}}b/', 'a\nb \n\nb axb xxb', [0, 8]), (r'/!x{~1{\}\{}}/', '}{ }x xx', [0, 3]),
                                     ('/!x{~2{a{3}b}}-/', 'aaab- axxb- xxxb-', [0, 6]), ('/!x{a~3}/', 'a~3', [0]), ('/!x{~3{2}}/', '~33', [0]),
-                                    ('/!x{~1{a[^\\n]c}}/', 'abc axx xxc', [0, 4])):
+                                    ('/!x{~1{a[^\\n]c}}/', 'abc axx xxx', [0, 4])):
             self.assertEqual(found(query, text), wanted, query)
 
     def test_reads(self):

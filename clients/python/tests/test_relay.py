@@ -1,14 +1,17 @@
 """rematch-serve: replies are those of the program, and what is no request is told back with its number and a reason."""
 import json
 import os
+import re
 import signal
+import socket
 import subprocess
 import sys
+import time
 import unittest
 
 import rematch
 from rematch import relay
-from support import CLIENTS, PROGRAM, Folder, needs_speed
+from support import CLIENTS, PROGRAM, Folder, needs, needs_speed
 from test_session import FAKE  # sessions where the program has none
 
 LONGEST = 1_048_576
@@ -97,6 +100,57 @@ class Real(Folder):
         self.assertIn(b'signal 9', shown.reply(b'{"op":"next","id":1,"n":1}'))
         self.assertEqual(shown.reply(b'{"op":"next","id":1,"n":1}'), b'{"error":"not open","id":1}')
         self.assertEqual(shown.close(), 'end')
+
+
+class OnASocket(Folder):
+    """The two ways of clients/README.md: a process for each connection, whose sessions are its own."""
+
+    def setUp(self):
+        super().setUp()
+        with open(os.path.join(CLIENTS, 'README.md'), encoding='utf-8') as file:
+            self.page = file.read()
+        self.environment = dict(os.environ, REMATCH=FAKE, PATH=os.pathsep.join([CLIENTS, os.environ['PATH']]))
+
+    def asked(self, connection, *requests):
+        connection.settimeout(120)
+        connection.sendall(b''.join(json.dumps(request).encode() + b'\n' for request in requests))
+        with connection.makefile('rb') as replies:
+            return [json.loads(replies.readline()) for _ in requests]
+
+    def test_as_systemd_begins_it(self):
+        command = os.path.basename(re.search('^    ExecStart=(.*)$', self.page, re.M)[1])
+        for part in ('Accept=yes', 'StandardInput=socket'):
+            self.assertIn('    %s\n' % part, self.page)
+        ours, theirs = socket.socketpair()
+        with ours, subprocess.Popen([command], stdin=theirs, stdout=theirs, stderr=subprocess.PIPE, env=self.environment) as run:
+            theirs.close()
+            replies = self.asked(ours, {'op': 'open', 'id': 1, 'query': '/!x{a}/', 'doc': 'a'}, {'op': 'next', 'id': 1, 'n': 0}, {'op': 'next', 'id': 1, 'n': 1})
+            self.assertEqual([reply.get('error') for reply in replies], [None, 'request', None])
+            ours.shutdown(socket.SHUT_WR)
+            self.assertEqual((run.wait(120), run.stderr.read()), (0, b'end\n'))
+
+    @needs('socat')
+    def test_socat(self):
+        words = re.search('^    (socat .*)$', self.page, re.M)[1].replace('/run/rematch.sock', os.path.join(self.folder, 's')).split()
+        with subprocess.Popen(words, env=self.environment, start_new_session=True) as run:
+            try:
+                opened = []
+                for document in ('a', 'aa'):
+                    connection = socket.socket(socket.AF_UNIX)
+                    for _ in range(600):
+                        try:
+                            connection.connect(os.path.join(self.folder, 's'))
+                            break
+                        except OSError:
+                            time.sleep(0.1)
+                    opened.append(connection)
+                    self.assertEqual(self.asked(connection, {'op': 'open', 'id': 1, 'query': '/!x{a}/', 'doc': document}), [{'id': 1, 'variables': ['x']}])
+                found = [len(self.asked(connection, {'op': 'next', 'id': 1, 'n': 9})[0]['rows']) for connection in opened]
+                self.assertEqual(found, [1, 2])
+                for connection in opened:
+                    connection.close()
+            finally:
+                os.killpg(run.pid, signal.SIGTERM)
 
 
 if __name__ == '__main__':

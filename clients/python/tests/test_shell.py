@@ -3,13 +3,14 @@ import os
 import pty
 import re
 import select
+import shutil
 import subprocess
 import sys
 import time
 import unittest
 
 from rematch.to_words import FORMS
-from support import CLIENTS, DOCS, EXAMPLES, PROGRAM, Folder, needs
+from support import CLIENTS, DOCS, EXAMPLES, PROGRAM, ROOT, Folder, needs
 
 SHELL = os.path.join(CLIENTS, 'shell')
 
@@ -113,6 +114,43 @@ class Zsh(Folder):
             shown = self.complete(line, words)
             for word in words:
                 self.assertIn(word, shown)
+
+
+class Launcher(Folder):
+    """./rematch: behind words and queries that are refused, a line on a terminal says where there is help."""
+
+    def started(self, *words, is_terminal):
+        """The status and standard error of a copy of the script beside a program that is built."""
+        out = os.path.join(self.folder, 'crates', 'rematch', 'out')
+        os.makedirs(out, exist_ok=True)
+        os.makedirs(os.path.join(self.folder, '.git'), exist_ok=True)
+        shutil.copy(os.path.join(ROOT, 'rematch'), self.folder)
+        self.file('.git/index')
+        self.script('crates/rematch/out/rematch', '#!/bin/sh\nexec %s "$@"\n' % PROGRAM)
+        self.file('crates/rematch/out/built_at')
+        os.utime(os.path.join(self.folder, '.git', 'index'), (0, 0))
+        master, slave = pty.openpty()
+        try:
+            done = subprocess.Popen([os.path.join(self.folder, 'rematch'), *words], stdin=subprocess.DEVNULL, stdout=subprocess.DEVNULL,
+                                    stderr=slave if is_terminal else subprocess.PIPE)
+            told = b'' if is_terminal else done.stderr.read()
+            status = done.wait(60)
+            if done.stderr is not None:
+                done.stderr.close()
+            while is_terminal and select.select([master], [], [], 0.2)[0]:
+                told += os.read(master, 65536)
+        finally:
+            os.close(slave)
+            os.close(master)
+        return status, told.decode().replace('\r', '').split('\n')[:-1]
+
+    def test_it(self):
+        line = 'rematch: `rematch-to check` with the same words says what to write instead'
+        for words, status, note in ((['-e', '/a**/', self.folder], 3, 'query: repeat after repeat at 3'), (['--help'], 2, 'bad command line')):
+            self.assertEqual(self.started(*words, is_terminal=True), (status, [note, line]))
+            self.assertEqual(self.started(*words, is_terminal=False), (status, [note]), 'in a pipe it is the program alone')
+        self.assertEqual(self.started('-e', '/!x{a}/', is_terminal=True), (0, ['end']))
+        self.assertEqual(self.started('-e', '/!x{a}/', self.folder, is_terminal=True), (5, ['read failed: document']))
 
 
 class Install(Folder):

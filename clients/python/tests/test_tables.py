@@ -40,6 +40,11 @@ class Columns(Folder):
         self.assertEqual([row[5:] for row in self.table('--columns', 'n_start,n,who,document,line,who_end', '--characters')],
                          [['who_end'], ['17'], ['34']])
 
+    def test_characters_of_what_is_no_text(self):
+        """A byte that begins no character belongs to the one before it, and nothing is lost."""
+        rows = self.table('--characters', '--columns', 'x_start,x_end,x', text=b'\xffa\x80a\xc3\xa9a', query='/!x{a}/')
+        self.assertEqual(rows[1:], [['1', '2', 'a'], ['2', '3', 'a'], ['4', '5', 'a']])
+
     def test_characters_of_long_texts(self):
         pick = random.Random(3)
         text = ''.join(pick.choice('aé漢😀\n') for _ in range(9000))
@@ -66,7 +71,7 @@ class Columns(Folder):
         for words, part in ((('--columns', 'n,whom'), "no column 'whom': there are document, line, n_start"),
                             (('--columns', ''), "no column ''"), (('--columns', 'left'), 'with --context'),
                             (('--context', '-1'), '0 or more'), (('--context', '3', '--var', 'q'), 'no variable q'),
-                            (('--var', 'n'), 'give --context N too')):
+                            (('--var', 'n'), 'give one of them too')):
             status, out, told = asked('csv', '-e', QUERY, *words, self.file('d', TEXT))
             self.assertEqual((status, out, part in told), (2, '', True), told)
 

@@ -35,6 +35,32 @@ class Wrong(Folder):
             self.assertTrue(told.startswith('rematch-to: '), words)
             self.assertIn(told.count('\n'), (1, 2), words)
 
+    def test_each_option_under_a_form_that_has_it_not(self):
+        """It is refused with the forms that have it, and not passed over."""
+        tried = 0
+        for option in to_words._OPTIONS:
+            for form in to_words.FORMS if option.forms else ():
+                if form in option.forms or (form == 'check' and option.name in ('-n', '-v', '-C', '--lines')):
+                    continue  # check takes the words of the program, and tells of its own
+                if option.words.get('action') == 'store_true':
+                    value = []
+                else:
+                    value = [option.words['choices'][0]] if 'choices' in option.words else ['1']
+                status, out, told = asked(form, '-e', '/!x{a}/', option.name, *value)
+                self.assertEqual((status, out), (2, ''), (form, option.name))
+                self.assertTrue('%s is of %s' % (option.name, ', '.join(option.forms)) in told or form == 'check', (form, told))
+                tried += 1
+        self.assertGreater(tried, 200)
+
+    def test_values_that_no_option_takes(self):
+        for form, name, values in (('lines', '-C', ['-1', 'x']), ('lines', '--color', ['blue']), ('kwic', '--sort', ['up']), ('kwic', '--sample', ['x']),
+                                   ('csv', '--context', ['x', '-3']), ('html', '--most-rows', ['0', 'x']), ('follow', '--idle', ['-1', 'x']),
+                                   ('csv', '--jobs', ['-2', '1.5']), ('kwic', '--columns', ['0', '-4']), ('csv', '--max-table', ['x', '100000001'])):
+            for value in values:
+                status, out, told = asked(form, '-e', '/!x{a}/', '-n', '3', name, value) if form in ('csv', 'kwic', 'lines') else asked(
+                    form, '-e', '/!x{a}/', name, value)
+                self.assertEqual((status, out, name in told), (2, '', True), (form, name, value, told))
+
     def test_words_of_the_program(self):
         for words, part in (
                 (('--help',), 'rematch-to --help'), (('-h',), 'rematch-to --help'), (('--version',), 'rematch-to --version'),
