@@ -15,6 +15,7 @@ from typing import Any, Dict, List, Optional, Tuple
 
 from .command import run_told
 from .documents import Document
+from .expand import expanded
 from .faults import DocumentError, ProgramError, QueryError, RematchError
 from .match import Row
 from .play_page import page
@@ -113,7 +114,7 @@ class Player:
                 old, self._session = self._session, None
                 old.close()
             self._rows = []
-            self._session = self._server.open(query, self.document)
+            self._session = self._opened(query)
             self._asked = (query, self.document)
         session = self._session
         first = max(0, first - first % _SCREEN)
@@ -124,6 +125,14 @@ class Player:
         html = section(_document(self.document), session.variables, shown, None, 1, first)
         return {'html': html, 'first': first, 'rows': len(shown), 'found': len(self._rows), 'more': has_more,
                 'all': not session.more}
+
+    def _opened(self, query: str) -> Session:
+        """A session of the query, whose conveniences are written out; a fault is at its place in the query."""
+        expansion = expanded(query.encode('utf-8', 'surrogatepass'))
+        try:
+            return self._server.open(expansion.text, self.document)
+        except QueryError as fault:
+            raise expansion.fault(fault) from None
 
 
 def _document(text: str) -> Document:

@@ -32,7 +32,7 @@ got=r.ok?await r.json():{fault:await r.text()};if(got.again){sent=null;if(mine==
 else if(got.known!=null){sent=own;known=got.known}}catch(e){got={fault:'rematch-play has ended: begin it anew'}}
 if(mine!==number||got.old)return;rows.setAttribute('aria-busy','false');reply=got;
 const told=query.value&&got.fault||'',k=told.indexOf('\\nhint: ');place.textContent=k<0?told:told.slice(0,k);
-hint.textContent=k<0?'':told.slice(k+1);there.hidden=!told||got.at==null;if(got.fault){say.textContent=told&&'fault';return}
+hint.textContent=k<0?'':told.slice(k+1);there.hidden=!told||got.at==null;if(got.fault){say.textContent=told&&(rows.firstChild?'fault; the rows are those of the query before':'fault');return}
 first=got.first;rows.innerHTML=got.html;
 say.textContent=got.rows?'rows '+(first+1)+' to '+(first+got.rows)+(got.all?' of '+got.found:', and more'):'no rows';
 $('back').disabled=!first;$('begin').disabled=!first;$('on').disabled=!got.more};

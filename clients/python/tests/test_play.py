@@ -107,6 +107,17 @@ class Asked(Served):
         self.assertIn('row </span>101<', got[1]['html'])
         self.assertIn('row 101', got[1]['html'])
 
+    def test_conveniences(self):
+        """They are written out, and a fault is at the place where it was written."""
+        player = play.Player('Error, err0r, none')
+        self.addCleanup(player.close)
+        found = player.ask('part e = /~1{error}/i; # any\n/!x{%{e}}/', None, 0)
+        self.assertEqual((found.get('fault'), found['rows']), (None, 2))
+        for query, at, part in (('# é\n/!x{a**}/', 10, 'repeat after repeat'), ('/a%{b}/', 2, 'no part b'), ('/é~1{a}/iu', 2, 'two letters')):
+            found = player.ask(query, None, 0)
+            self.assertEqual((found['at'], part in found['fault']), (at, True), found)
+        self.assertIn('not UTF-8 at 1', player.ask('/\ud800/', None, 0)['fault'])
+
     def test_two_pages(self):
         """A page is never answered about the document of another one."""
         http = self.begin('', 'a')
@@ -186,7 +197,7 @@ class Command(Folder):
         return run.returncode, run.stdout.decode(), run.stderr.decode()
 
     def test_refused(self):
-        self.assertEqual(self.run_it('/no/such/file')[::2], (5, 'read failed: document\nhint: /no/such/file: No such file or directory\n'))
+        self.assertEqual(self.run_it('/no/such/file')[::2], (5, '/no/such/file: No such file or directory\n'))
         path = self.file('latin', b'caf\xe9')
         self.assertEqual(self.run_it(path)[::2], (5, path + ': no UTF-8 at 3, and the page shows text\n'))
         path = self.file('long', b'a' * 16777217)
