@@ -166,7 +166,20 @@ def _quotes(atom: Atom, parts: Sequence[Part]) -> Optional[Advice]:
                   'tell them apart')
 
 
+def _anchored_arms(atom: Atom, parts: Sequence[Part]) -> Optional[Advice]:
+    """An anchor of a formula with arms is of all of them, and not of the nearest alone as in other tools."""
+    depth, has_arms = 0, False
+    for part in parts:
+        depth += (part.kind in ('open', 'capture')) - (part.kind == 'close')
+        has_arms = has_arms or (part.kind == 'bar' and depth == 0)
+    anchor = next((part for part in (*parts[:1], *parts[-1:]) if part.kind == 'anchor'), None)
+    if anchor is None or not has_arms:
+        return None
+    shown, example = anchor.text.decode(), '/^a/ union /b/' if anchor.text == b'^' else '/a/ union /b$/'
+    return Advice(anchor.offset, f'{shown} is of the whole formula, and so of each arm: for one arm alone write a union, {example}')
+
+
 _RULES: Sequence[Callable[[Atom, Sequence[Part]], Optional[Advice]]] = (
-    _plain_words, _named_class, _open_start, _open_end, _first_line, _edges, _line_feeds, _quotes)
+    _plain_words, _named_class, _anchored_arms, _open_start, _open_end, _first_line, _edges, _line_feeds, _quotes)
 _OF_ONE_ATOM = (_open_start, _open_end, _edges, _quotes)
 _OF_THE_ENDS = (_first_line, _edges)

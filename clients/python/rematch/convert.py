@@ -122,7 +122,7 @@ class Command:
         if small is not None:
             found.append(Advice(origin(small.offset), 'a small letter fits no record, since the letters of records are raised to capitals: '
                                 f'write {small.meant}'))
-        return found
+        return sorted(found, key=lambda advice: advice.offset)
 
     # -- Documents, one after another
 
@@ -282,6 +282,7 @@ class Command:
             self.out.write(f'no reach: {reason}\n')
         for advice in self.advice():
             self.out.write(f'advice at {advice.offset}: {advice.message}\n')
+        self.query.any(b'')  # which raises where an automaton is too large, as each document would
 
     def run(self) -> None:
         """Writes all that is asked for; a fault has the name of its document."""

@@ -234,7 +234,9 @@ class _Reader:
         part = self.parts.get(name)
         if part is None:
             fault = QueryError(f'query: unknown name at {place}', 3, self.found.source)
-            fault.hint = f'there is no part {name.decode()} before it, and %{{..}} uses one: the sign itself is \\{{'
+            is_let = re.search(rb'\blet\s+%s\s*=' % name, self.found.source) is not None
+            fault.hint = (f'{name.decode()} is a let, which names a query: for a part of formulas write part {name.decode()} = /../;' if is_let
+                          else f'there is no part {name.decode()} before it, and %{{..}} uses one: the sign itself is \\{{')
             raise fault
         if part.atom.is_over_characters and not atom.is_over_characters:
             fault = QueryError(f'query: unexpected at {place}', 3, self.found.source)

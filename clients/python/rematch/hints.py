@@ -60,6 +60,7 @@ HINTS: Tuple[Hint, ...] = (
     Hint(_UNEXPECTED, '/!x{a}/ where x > 5', 'behind where stand tests alone, with commas between them, as in where luhn(x), upper(y); what else is asked '
           'of a row is asked of its texts, by csv or in Python', b'', rb'\bwhere\b[^/;]*'),
     Hint(_UNEXPECTED, '/a/ AND /b/', _WORDS, _OTHER_WORDS),
+    Hint(_UNEXPECTED, 'let w = /a/ w', 'a ; ends each let, and the query comes behind it: let w = /a/; w', rb'[A-Za-z_/(]', rb'\blet\s+\w+\s*=\s*/(?:[^\\/]|\\.)*/u?\s+'),
     Hint(_UNEXPECTED, '/a/ | /b/', 'between atoms stands union for either and join for both; | is of a formula', rb'[|&]'),
     Hint(_UNEXPECTED, '# failed', 'there are no comments in a query; rematch-to leaves out what stands behind a #', rb'#|--|//'),
     Hint(_UNEXPECTED, '/a/;', 'a ; ends a let, and the query behind the lets has none', rb';'),

@@ -200,9 +200,16 @@ def _news(file: _File, idle: Optional[float]) -> Iterator[Optional[bytes]]:
         time.sleep(_EVERY)
 
 
+def _doubts(file: _File, query: Query) -> List[str]:
+    """What may hide rows of a file, from how it begins."""
+    from .doubts import doubts_of
+    head = file.head()
+    packed = packed_by(head)
+    return doubts_of(head, query) if packed is None else [f'it is packed by {packed}, and its packed bytes are searched: csv unpacks it']
+
+
 def follow(command: 'Command') -> None:
     """Writes the rows of a file as they come, as lines of a table."""
-    from .doubts import doubts_of
     from .tables import Table
     from .to_forms import layout_of, refuse
     from .to_small import SmallDocuments
@@ -222,9 +229,7 @@ def follow(command: 'Command') -> None:
         query = SmallDocuments(command.query.text)
     file = _File(command.names[0], from_start=bool(command.given.from_start))
     growing, base = Growing(query, lines, file.start), file.line()
-    head = file.head()
-    packed = packed_by(head)
-    for doubt in doubts_of(head, query) if packed is None else [f'it is packed by {packed}, and its packed bytes are searched: csv unpacks it']:
+    for doubt in _doubts(file, query):
         command.tell(f'{file.name}: {doubt}')
     command.out.write(table.head())
     command.out.flush()

@@ -151,6 +151,9 @@ class Commands(Folder):
         status, out, told = asked('check', '-e', '/a*?/')
         self.assertEqual((status, out, told.split('\n')[:3]), (3, '', ['query: repeat after repeat at 3', '  /a*?/', '     ^']))
         self.assertIn('hint: ', told)
+        for query, part in (('/(a{1000}){20}/', '20000 states'), ('/((a?){1000}){3}/', '2000000 ways')):
+            status, out, told = asked('check', '-e', query)
+            self.assertEqual((status, out.split('\n')[0], part in told, 'hint: ' in told), (4, 'query ' + query, True, True), query)
 
     def test_standard_input_and_query_files(self):
         name = self.file('q', b'/!x{a}/')

@@ -77,7 +77,7 @@ class Written(unittest.TestCase):
 
     def test_refused(self):
         for query, at, part in (('part x = /a/; /%{y}/', 15, 'no part y'), ('/%{x}/ union /a/; part x = /a/;', 1, 'no part x'),
-                                ('/a%{ip}/', 2, 'no part ip'), ('part x = /a/; part x = /b/; /a/', 19, 'rename'),
+                                ('/a%{ip}/', 2, 'no part ip'), ('let ip = /a/; /%{ip}/', 15, 'ip is a let'), ('part x = /a/; part x = /b/; /a/', 19, 'rename'),
                                 ('part x = /a/ /b/; /a/', 13, 'one formula'), ('part x = /a/', 12, 'one formula'),
                                 ('part x = /a/ union /b/; /c/', 13, 'one formula'),
                                 ('part x = /a/u; /%{x}/', 16, 'over characters'), ('part x = /a/; /[%{x}]/', 16, 'in no class'),
