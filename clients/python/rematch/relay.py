@@ -9,6 +9,7 @@ import json
 import re
 import subprocess
 import sys
+from threading import Timer
 from typing import IO, Any, Dict, Iterator, List, Optional, Tuple
 
 from .command import run_told
@@ -64,6 +65,8 @@ def _checked(line: _Line) -> Tuple[Optional[int], Optional[str]]:
 class Relay:
     """A program whose requests are looked at first; where it ends it is started anew, without the sessions that it had.
 
+    A request that takes more than so many seconds ends it.
+
     >>> relay = Relay()
     >>> relay.reply(b'{"op":"next","id":7,"n":5000}')
     b'{"error":"request","id":7,"reason":"n is a whole number from 1 to 1000, not 5000"}'
@@ -73,8 +76,9 @@ class Relay:
     'end'
     """
 
-    def __init__(self, program: Optional[str] = None) -> None:
+    def __init__(self, program: Optional[str] = None, seconds: Optional[float] = None) -> None:
         self.program = find_program() if program is None else program
+        self.seconds = seconds
         self._process: 'Optional[subprocess.Popen[bytes]]' = None
         self._begin()
 
@@ -94,15 +98,18 @@ class Relay:
         if reason is not None:
             return _told('request', number, reason)
         process = self._process or self._begin()
-        assert process.stdin is not None and process.stdout is not None
-        try:
-            process.stdin.write(line + b'\n')
-            process.stdin.flush()
-            found = process.stdout.readline()
-        except BrokenPipeError:
-            found = b''
+        late = Timer(self.seconds, process.kill) if self.seconds is not None else None
+        if late is not None:
+            late.daemon = True
+            late.start()
+        found = _asked(process, line)
+        is_late = late is not None and not late.is_alive()
+        if late is not None:
+            late.cancel()
         if not found.endswith(b'\n'):
-            return _told('ended', number, f'{self._why()}; its sessions are lost, and the next request starts it anew')
+            why = self._why()
+            why = f'the request took more than {self.seconds:g} seconds' if is_late else why
+            return _told('ended', number, f'{why}; its sessions are lost, and the next request starts it anew')
         if found == b'{"error":"request"}\n':
             return _told('request', number, 'the program does not know this request')
         return found[:-1]
@@ -131,6 +138,17 @@ class Relay:
         return told.decode('utf-8', 'backslashreplace').strip()
 
 
+def _asked(process: 'subprocess.Popen[bytes]', line: bytes) -> bytes:
+    """The reply with its line feed; where the program ends before it, less."""
+    assert process.stdin is not None and process.stdout is not None
+    try:
+        process.stdin.write(line + b'\n')
+        process.stdin.flush()
+        return process.stdout.readline()
+    except BrokenPipeError:
+        return b''
+
+
 def _told(error: str, number: Optional[int], reason: str) -> bytes:
     reply: Dict[str, Any] = {'error': error, **({} if number is None else {'id': number}), 'reason': reason}
     return json.dumps(reply, ensure_ascii=False, separators=(',', ':')).encode('utf-8', 'backslashreplace')
@@ -141,10 +159,18 @@ def main(words: Optional[List[str]] = None) -> int:
     from argparse import ArgumentParser
     parser = ArgumentParser(prog='rematch-serve', description='Answer requests as rematch --serve does, and tell back with its number and '
                             'a reason what is no request or is too long, which then ends nothing.')
-    parser.parse_args(words)
+    parser.add_argument('--seconds', type=float, metavar='N', help='end the program, with its sessions, where a request takes longer')
+    parser.add_argument('--version', action='store_true', help='which rematch-serve this is, and which program it runs')
+    given = parser.parse_args(words)
+    if given.seconds is not None and not 0 < given.seconds <= 1e6:
+        parser.error(f'--seconds is more than 0, and at most a million, not {given.seconds:g}')
 
     def run() -> None:
-        relay = Relay()
+        if given.version:
+            from .version import version_text
+            print(version_text())
+            return
+        relay = Relay(seconds=given.seconds)
         try:
             for line in requests_of(sys.stdin.buffer):
                 sys.stdout.buffer.write(relay.reply(line) + b'\n')

@@ -59,8 +59,8 @@ class Told(unittest.TestCase):
         self.assertEqual([place for row in replies[4]['rows'] for place in row['x']], [replies[3]['bytes'] - 1, replies[3]['bytes']])
 
     def test_errors_of_the_program(self):
-        replies, _, _ = talked([b'{"op":"open","id":1,"query":"/a**/","doc":""}', b'{"op":"next","id":1,"n":1}'])
-        self.assertEqual(replies, [{'error': 'query: repeat after repeat at 3', 'id': 1}, {'error': 'not open', 'id': 1}])
+        replies, _, _ = talked([b'{"op":"open","id":1,"query":"/a**/","doc":""}', b'{"op":"next","id":1,"n":1}', b'{"op":"close","id":9}'])
+        self.assertEqual(replies, [{'error': 'query: repeat after repeat at 3', 'id': 1}, {'error': 'not open', 'id': 1}, {'error': 'not open', 'id': 9}])
 
     def test_a_program_that_ends(self):
         """It is started anew for the next request."""
@@ -80,6 +80,13 @@ class Told(unittest.TestCase):
             relay.Relay('/no/program')
 
 
+    def test_bad_words(self):
+        for words, status, part in ((['--seconds', '0'], 2, 'more than 0'), (['--seconds', 'x'], 2, 'invalid float'), (['--version'], 0, 'rematch ')):
+            run = subprocess.run([sys.executable, os.path.join(CLIENTS, 'rematch-serve'), *words], stdin=subprocess.DEVNULL, stdout=subprocess.PIPE,
+                                 stderr=subprocess.STDOUT, env=dict(os.environ, REMATCH=PROGRAM))
+            self.assertEqual((run.returncode, part in run.stdout.decode()), (status, True), run.stdout)
+
+
 @needs_speed
 class Real(Folder):
     def test_replies_are_those_of_the_program(self):
@@ -91,6 +98,18 @@ class Real(Folder):
     def test_a_surrogate_alone(self):
         reply = talked([b'{"op":"open","id":3,"query":"/a/","doc":"\\ud800"}'], PROGRAM)[0][0]
         self.assertEqual((reply['error'], reply['id'], reply['reason']), ('request', 3, 'the program does not know this request'))
+
+    def test_a_request_that_takes_too_long(self):
+        shown = relay.Relay(PROGRAM, seconds=0.5)
+        heavy = json.dumps({'op': 'open', 'id': 4, 'query': '/!a{x*}!b{x*}!c{x*}!d{x*}(.|\\n)*e/', 'doc': 'x' * 200_000}).encode()
+        reply = json.loads(shown.reply(heavy))
+        if 'error' not in reply:  # which takes no time here; its rows do
+            reply = json.loads(shown.reply(b'{"op":"next","id":4,"n":1000}'))
+        self.assertEqual((reply.get('error'), reply.get('id')), ('ended', 4), str(reply)[:200])
+        self.assertIn('took more than 0.5 seconds', reply['reason'])
+        shown.seconds = 300
+        self.assertEqual(shown.reply(b'{"op":"open","id":4,"query":"/a/","doc":""}'), b'{"id":4,"variables":[]}')
+        self.assertEqual(shown.close(), 'end')
 
     def test_killed_from_outside(self):
         shown = relay.Relay(PROGRAM)
@@ -132,7 +151,7 @@ class OnASocket(Folder):
     @needs('socat')
     def test_socat(self):
         words = re.search('^    (socat .*)$', self.page, re.M)[1].replace('/run/rematch.sock', os.path.join(self.folder, 's')).split()
-        with subprocess.Popen(words, env=self.environment, start_new_session=True) as run:
+        with subprocess.Popen(words, env=self.environment, start_new_session=True, stderr=subprocess.DEVNULL) as run:
             try:
                 opened = []
                 for document in ('a', 'aa'):
