@@ -191,25 +191,27 @@ class _Reader:
     def units(self, atom: Atom, start: int, is_both_cases: bool) -> Tuple[List[bytes], int]:
         """What each place of a word fits, and where the word ends: at its }, or at what cannot stand in it."""
         made: List[bytes] = []
+        newest: Optional[List[bytes]] = None  # what a number of times is of
         end = start
         for unit in units_of(atom.text, start):
-            if unit.kind == 'bad' or (unit.kind == 'times' and not made):
+            if unit.kind == 'bad' or (unit.kind == 'times' and newest is None):
                 return made, unit.offset
             if unit.kind == 'use':
                 part = self.part(unit.value, atom, unit.offset)
                 inner, inner_end = self.units(part.atom, 0, is_both_cases or part.is_both_cases)
                 if inner_end < len(part.atom.text):
                     raise self.bad_word(atom.offset + unit.offset, 'the part is no word: in ~1{..} stand letters and classes')
-                made += inner
+                newest = inner
             elif unit.kind == 'times':
-                made += (int(unit.value) - 1) * made[-1:] if int(unit.value) else []
-                made = made if int(unit.value) else made[:-1]
+                assert newest is not None
+                made, newest = made[:len(made) - len(newest)] + int(unit.value) * newest, None
             elif unit.kind == 'literal' and not unit.text.isascii() and not atom.is_over_characters:
                 raise self.bad_word(atom.offset + unit.offset, 'a letter past ASCII is several bytes: put the sign u behind the closing slash')
             else:
                 part_of_it = Part(unit.kind, unit.text, atom.offset + unit.offset)
                 self.tell_one_case([part_of_it] if is_both_cases else [])
-                made.append(_both_cases(part_of_it) if is_both_cases else unit.text)
+                newest = [_both_cases(part_of_it) if is_both_cases else unit.text]
+            made += newest if unit.kind != 'times' and newest is not None else []
             end = unit.offset + len(unit.text)
             if len(made) > MOST_UNITS:
                 raise self.bad_word(atom.offset + start, f'a word has at most {MOST_UNITS} letters')

@@ -102,6 +102,13 @@ class Written(unittest.TestCase):
         for query in ('/é/', '/a/i', '/中/iu', '/[éÉ]/iu', r'/\p{L}\p{Nd}\d/iu', '/é/ union /a/i'):
             self.assertEqual(expand.expanded(query).advice, [], query)
 
+    def test_parts_in_one_another(self):
+        """A long chain is no fault of Python."""
+        for use in ('%%{a%d}', '~1{%%{a%d}b}'):
+            query = 'part a0 = /x/; ' + ''.join('part a%d = /%%{a%d}/; ' % (k, k - 1) for k in range(1, 2500)) + '/' + use % 2499 + '/'
+            with self.assertRaisesRegex(rematch.QueryError, 'longer than 65536 bytes'):
+                expand.expanded(query)
+
 
 class Places(Folder):
     def fault(self, query):

@@ -67,7 +67,7 @@ class Refused(Folder):
     def test_each(self):
         for query, at, part in (('/~1{a(b)}/', 5, 'stand letters'), ('/~1{a|b}/', 5, 'stand letters'), ('/~1{ab*}/', 6, 'stand letters'),
                                 ('/~1{a{1,2}}/', 5, 'stand letters'), ('/~1{!x{ab}}/', 4, 'stand letters'), ('/~1{{3}ab}/', 4, 'stand letters'),
-                                ('/~1{^ab}/', 4, 'stand letters'), ('/b~1{ab/', 2, 'not ended'), ('/~3{abc}/', 1, '1 to 2 of them'),
+                                ('/~1{^ab}/', 4, 'stand letters'), ('/~1{ba{2}{2}}/', 9, 'stand letters'), ('/b~1{ab/', 2, 'not ended'), ('/~3{abc}/', 1, '1 to 2 of them'),
                                 ('/~0{abc}/', 1, '1 to 2 of them'), ('/~1{a}/', 1, 'two letters'), ('/~1{}/', 1, 'two letters'),
                                 ('/~1{né}/', 5, 'sign u'), ('/~9{[ACGT]{40}}/', 1, '10000 is the most'), ('/~1{a{1000}b{1000}c{1000}}/', 1, '10000 is the most'),
                                 ('/~1{%{p}a}/', 4, 'no part p'), ('part p = /a|b/; /~1{%{p}a}/', 20, 'no word'),
