@@ -6,7 +6,7 @@ import unittest
 from unittest import mock
 
 from rematch import packed, pieces
-from support import EXAMPLES, Folder
+from support import EXAMPLES, Folder, needs_speed
 from commands import asked, without
 
 FASTA = b'>one\n' + b'ACGT' * 15 + b'\nGATC\n'
@@ -95,6 +95,7 @@ class Sequences(Folder):
             status, out, told = asked('fasta', '--forward', '--quiet', '--iupac', '-e', '/!x{%s}XX/' % written, path)
             self.assertEqual((status, out.split('\n')[1::2]), (0, [letter for letter in letters if letter in fits]), written)
 
+    @needs_speed
     def test_iupac_in_classes_on_reads(self):
         """As the query with the letters listed has it, on both strands of a real file."""
         reads = os.path.join(EXAMPLES, 'reads.fasta')

@@ -42,6 +42,7 @@ class Rows(unittest.TestCase):
                                     ('/!x{~1{a[^\\n]c}}/', 'abc axx xxx', [0, 4])):
             self.assertEqual(found(query, text), wanted, query)
 
+    @needs_speed
     def test_reads(self):
         """Both strands of a real file: as many sites as are counted by hand."""
         path = os.path.join(EXAMPLES, 'reads.fasta')

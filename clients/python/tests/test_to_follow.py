@@ -114,7 +114,7 @@ class Followed(Folder):
         thread = threading.Thread(target=lambda: [time.sleep(0.3), self.grow(path, b'a1\n'), time.sleep(0.3),
                                                   self.grow(path, 'aé\n'.encode())])
         thread.start()
-        status, out, _ = asked('follow', '--idle', '3', '-e', '/!x{a.}/u', '--texts', path)
+        status, out, _ = asked('follow', '--from-start', '--idle', '3', '-e', '/!x{a.}/u', '--texts', path)  # it may begin late
         thread.join()
         self.assertEqual((status, out.splitlines()[1:]), (0, [path + ',1,a1', path + ',2,aé']))
 
