@@ -14,7 +14,7 @@ ghost use Rattle.note_texts.specs.Notes.{fault_note, size_note, table_note};
 ghost use Rattle.session_server.specs.Replies.{Session as Spoken, asking, growing as growing_by, to_come};
 ghost use Rattle.session_server.specs.Standing.{GivesOne, GivesPage, HasGiven, IsBegun, IsGrowHalt, IsReadOn, IsRefusal, IsRowsHalt, IsSession, IsSessionOver, IsStartHalt, IsTooHeavy, IsWaiting, MatchNote, halt_of as halt_by, session_with};
 
-use crate::{MOST_GROWN, SESSION_TABLE};
+use crate::{MOST_AUTOMATON, MOST_GROWN, SESSION_TABLE};
 use growing_document::{GrowFault, Growing};
 use marked_automaton::{Automaton, SizeFault};
 use note_texts::{Note, push_note};
@@ -368,6 +368,18 @@ fn all_of<L: Ledger>(
     }
 }
 
+/// How many bytes a way takes, and an end.
+const WAY_BYTES: u64 = 48;
+
+const END_BYTES: u64 = 16;
+
+/// Whether the ways and ends take more memory than those of a session may.
+fn is_large(automaton: &Automaton) -> bool {
+    let ways = (automaton.ways().len() as u64).saturating_mul(WAY_BYTES);
+    let ends = (automaton.stops().len() as u64).saturating_mul(END_BYTES);
+    ways.saturating_add(ends) > MOST_AUTOMATON
+}
+
 /// A document that is read by this automaton, with its rows.
 fn read_by<L: Ledger>(
     alloc: Global,
@@ -380,6 +392,9 @@ fn read_by<L: Ledger>(
     ensures all { IfOk result (λ b. (q : QueryTree) → IsCompiled q automaton → AreAnswers q document.now automaton.names b.1.rest) }
     ensures halted { IfErr result (λ h. (q : QueryTree) → IsCompiled q automaton → IsStartHalt q document.now h) }
 {
+    if is_large(&automaton) {
+        return Err(Halt::OutOfMemory);
+    }
     let mut growing = match Growing::new(alloc, automaton, SESSION_TABLE, steps) {
         Ok(growing) => growing,
         Err(fault) => return Err(halt_of(fault)),
