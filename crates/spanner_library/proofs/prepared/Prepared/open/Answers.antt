@@ -1,6 +1,8 @@
-use Rattle.std.proofs.Common.{◌+◌, ◌≤◌, ℕ, Bool, subst}
+use Rattle.std.proofs.Common.{◌+◌, ◌≤◌, ℕ, Bool, List, subst, sym}
 use Rattle.std.specs.Option.{option_copied}
 use Rattle.spanner_engine.specs.Begun.{AreRead, begin_steps, row_kept}
+use Rattle.spanner_model.specs.Answers.{SpanRow}
+use Rattle.spanner_model.specs.ExprView.{query_of}
 use Rattle.spanner_engine.specs.Fitting.{AreLast}
 use Rattle.spanner_engine.proofs.PassingLaws.{left_last}
 use Rattle.spanner_library.specs.Library.{PreparedQuery, tree}
@@ -18,5 +20,5 @@ returns-in-Err-clause-steps g c =
 
 pub returns-in-Ok-clause-last : goal.returns-in-Ok-clause-last
 returns-in-Ok-clause-last g c =
-    subst (λ (p : PreparedQuery). AreLast (tree p).query c.args.document.now p.names c.in-Ok.answers.rest) c.self.view_is
-    (left_last _ _ _ _ _ c.in-Ok.ensures.left)
+    subst (λ (rows : List SpanRow). AreLast (query_of c.args.self.now.tested.query) c.args.document.now c.args.self.now.names rows) (sym c.over.ensures.rest)
+    (subst (λ (p : PreparedQuery). AreLast (tree p).query c.args.document.now p.names c.in-Ok.answers.rest) c.self.view_is (left_last _ _ _ _ _ c.in-Ok.ensures.left))
