@@ -1,6 +1,7 @@
 """Builds the wheel of the package, with nothing but Python: with the program inside where there is one, else pure.
 
-So `pip install clients/python` works without a network. The program is the one that the variable REMATCH names; else the one
+The library for C is inside too, as `rematch/bin/librematch.so.1`, which queries are answered by: the one that REMATCH_LIBRARY names,
+which may be `none`, else the released one, where it runs here. So `pip install clients/python` works without a network. The program is the one that the variable REMATCH names; else the one
 built in this checkout, where it is newer than the release; else the released one, where it runs here. The wheel has it as
 `rematch/bin/rematch`, which the package looks for first, and as the command `rematch`.
 """
@@ -10,6 +11,7 @@ import hashlib
 import os
 import re
 import sys
+import tarfile
 import zipfile
 import zlib
 
@@ -58,13 +60,29 @@ def _program():
     return program
 
 
+def _library():
+    """The bytes of the library for C, or None."""
+    named = os.environ.get('REMATCH_LIBRARY')
+    if named:
+        return None if named == 'none' else _read(named)
+    packed, sums = (os.path.join(ROOT, 'release', name) for name in ('librematch-x86_64-linux.tar.gz', 'LIBRARY'))
+    if not os.path.isfile(packed) or not os.path.isfile(sums) or not _runs_released():
+        return None
+    wanted = re.search('^librematch.so.1 (.+)$', _read(sums).decode(), re.M)
+    with tarfile.open(packed) as tar:
+        library = tar.extractfile('librematch.so.1').read()
+    if not wanted or hashlib.sha256(library).hexdigest() != wanted[1]:
+        raise RuntimeError('the release is damaged: librematch.so.1 is not the library that LIBRARY names')
+    return library
+
+
 def _tag(program):
     machine = os.uname().machine
     libc = 'manylinux_%d_%d' % GLIBC if machine == 'x86_64' else 'linux'
     return 'py3-none-any' if program is None else 'py3-none-%s_%s' % (libc, machine)
 
 
-def _entries(program, base):
+def _entries(program, library, base):
     package = os.path.join(HERE, 'rematch')
     for name in sorted(os.listdir(package)):
         if name.endswith('.py') or name == 'py.typed':
@@ -72,6 +90,8 @@ def _entries(program, base):
     if program is not None:
         yield 'rematch/bin/rematch', program, 0o755
         yield base + '.data/scripts/rematch', program, 0o755
+    if library is not None:
+        yield 'rematch/bin/librematch.so.1', library, 0o755
     lines = ['Metadata-Version: 2.1', 'Name: ' + NAME.replace('_', '-'), 'Version: ' + _version(), 'Requires-Python: >=3.8',
              'Summary: Every match of a query in a document: a client of the program rematch']
     yield base + '.dist-info/METADATA', '\n'.join([*lines, '']).encode(), 0o644
@@ -84,6 +104,7 @@ def _entries(program, base):
 
 def build_wheel(folder, config_settings=None, metadata_directory=None):
     program, base, record = _program(), '%s-%s' % (NAME, _version()), []
+    library = None if program is None else _library()
     name = '%s-%s.whl' % (base, _tag(program))
     with zipfile.ZipFile(os.path.join(folder, name), 'w', zipfile.ZIP_DEFLATED) as out:
         def put(path, data, mode):
@@ -91,7 +112,7 @@ def build_wheel(folder, config_settings=None, metadata_directory=None):
             entry.external_attr = (0o100000 | mode) << 16
             entry.compress_type = zipfile.ZIP_DEFLATED
             out.writestr(entry, data)
-        for path, data, mode in _entries(program, base):
+        for path, data, mode in _entries(program, library, base):
             put(path, data, mode)
             digest = base64.urlsafe_b64encode(hashlib.sha256(data).digest()).rstrip(b'=').decode()
             record.append('%s,sha256=%s,%d' % (path, digest, len(data)))

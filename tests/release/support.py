@@ -79,7 +79,7 @@ class Tree:
             self.put('crates/%s/src/lib.rt' % name, 'code of %s\n' % name)
         self.put('crates.txt', CRATES)
         self.put('.gitignore', 'out/\n*.log\n__pycache__/\n')
-        self.copy('rematch', 'release/build', 'release/update', 'release/verify', 'release/released.py')
+        self.copy('rematch', 'release/build', 'release/update', 'release/verify', 'release/released.py', 'release/libraries.py')
         self.rt = self.made('with rt')
         self.script(os.path.join(self.rt, 'rt'), RT)
         self.tools = self.made('tools')

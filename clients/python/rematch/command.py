@@ -5,6 +5,7 @@ import os
 import sys
 from typing import Callable
 
+from . import library
 from .faults import RematchError
 from ._reach import NoReach
 
@@ -23,6 +24,7 @@ def line_of(fault: Exception) -> str:
 
 def run_told(run: Callable[[], None]) -> int:
     """Runs, and gives the exit status: the program's own for its faults, 0 where the reader of the output has left."""
+    library.allowed = False  # so that Ctrl-C ends what is asked
     try:
         run()
         sys.stdout.flush()

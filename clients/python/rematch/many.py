@@ -3,11 +3,12 @@
 A fit that covers no separator lies in one text. So the texts are joined by a byte that no formula of the query reads, an
 anchor is a separator before or behind a formula, and a row belongs to the text in which its spans lie. Where there is no such
 byte, where the parts of a join share no variable, and of rows without spans, each text has a session of its own, and what no
-session takes has a run.
+session takes has a run. With the library in this process each text is asked of it.
 """
 from __future__ import annotations
 
 import re
+from itertools import repeat
 from typing import TYPE_CHECKING, Any, FrozenSet, Iterable, Iterator, List, Optional, Tuple, Union
 
 from ._reach import NoReach, _byte, reach_of_printed
@@ -17,10 +18,11 @@ from .formula import Atom, Part, parts_of
 from .match import Match, Matches
 
 if TYPE_CHECKING:
+    from .library import Compiled
     from .query import Query
     from .session import Served, Server
 
-__all__ = ['Mapped', 'bytes_read']
+__all__ = ['Mapped', 'bytes_read', 'each_within']
 
 Text = Union[str, bytes]
 
@@ -171,7 +173,7 @@ class Mapped:
             try:
                 one = self._apart(text, len(batch) == 1 and self._server is None)
             except RematchError as fault:
-                fault.hint = f'it is text {at}, counted from 0' + (f'; {fault.hint}' if fault.hint else '')
+                fault.hint = _placed(at, fault.hint)
                 raise
             yield one
 
@@ -251,6 +253,36 @@ class Mapped:
             return self.query.findall(_document(text, _encoded(text)))
 
 
+def each_within(query: 'Query', inside: 'Compiled', texts: Iterable[Text]) -> Iterator[Matches[Any]]:
+    """The rows of each text, in order, by the library in this process."""
+    rows = inside.empty()
+    for number, text in enumerate(texts):
+        if not isinstance(text, (str, bytes)):
+            raise _no_text(number, text)
+        data = _encoded(text)
+        try:
+            inside.read(data, rows)
+        except RematchError as fault:
+            fault.hint = _placed(number, fault.hint)
+            raise
+        found: Matches[Any] = Matches()
+        document: Optional[Document] = None
+        for count, numbers in rows.pages():
+            document = document or _document(text, data)
+            places = iter(numbers)
+            given = zip(*[places] * rows.width) if rows.width else repeat((), count)
+            found.extend(map(Match, repeat(query), repeat(document), given))
+        yield found
+
+
+def _no_text(number: int, text: Any) -> TypeError:
+    return TypeError(f'text {number} is a str or bytes, not {type(text).__name__}')
+
+
+def _placed(number: int, hint: Optional[str]) -> str:
+    return f'it is text {number}, counted from 0' + (f'; {hint}' if hint else '')
+
+
 def _encoded(text: Text) -> bytes:
     return text.encode('utf-8', 'surrogatepass') if isinstance(text, str) else text
 
@@ -269,7 +301,7 @@ def _batch(given: Iterator[Text], size: int, number: int) -> Tuple[List[Tuple[Te
     length = 0
     for text in given:
         if not isinstance(text, (str, bytes)):
-            return batch, TypeError(f'text {number + len(batch)} is a str or bytes, not {type(text).__name__}'), True
+            return batch, _no_text(number + len(batch), text), True
         batch.append((text, _encoded(text)))
         length += len(batch[-1][1]) + 1
         if len(batch) >= size or length >= _MOST_BYTES:

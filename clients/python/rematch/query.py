@@ -9,6 +9,7 @@ from typing import IO, TYPE_CHECKING, Any, Callable, Dict, Iterable, Iterator, L
 
 from .documents import Document, Source, open_document
 from .faults import ProgramError
+from .library import compiled, numbers_view
 from .match import Match, Matches, Page, Row, Variables
 from .program import Run, find_program
 
@@ -29,6 +30,10 @@ class Query(Variables):
     atom touches the document, and ``max_table`` (1 to 100,000,000) is the most that the table of a reading may weigh;
     neither changes an answer. ``program`` is the program's path, where it is not that of `find_program`.
 
+    Where the library ``librematch.so.1`` is beside the package, queries are answered by it in this process, with the same rows and
+    the same faults; a page that begins at a cursor still runs the program. ``program``, or REMATCH of the environment, has every
+    query run that program, and REMATCH_LIBRARY names another library, or ``none``.
+
     A text that is no query raises `QueryError`, and a program that is not there `ProgramNotFound`. A query whose
     automata are too large raises `SizeError` when it is asked.
 
@@ -46,15 +51,16 @@ class Query(Variables):
     def __init__(self, text: Union[str, bytes], *, filter: bool = False, max_table: Optional[int] = None,
                  program: Union[None, str, 'os.PathLike[str]'] = None) -> None:
         self.text: bytes = text if isinstance(text, bytes) else text.encode('utf-8', 'surrogateescape')
-        self.program: str = find_program() if program is None else os.fspath(program)
         self._given = (text, filter, max_table, program)
+        self._program: Optional[str] = None if program is None else os.fspath(program)
+        self._explanation: Optional[str] = None
         self._words: List[str] = ['--filter'] * bool(filter)
         if max_table is not None:
             if not 1 <= max_table <= 100_000_000:
                 raise ValueError(f'max_table is 1 to 100000000, not {max_table}')
             self._words.append(f'--max-table={max_table}')
-        self.explanation: str = self._explained()
-        super().__init__(self._names())
+        self._inside = compiled(self.text, bool(filter), max_table, program is not None)
+        super().__init__(self._names() if self._inside is None else self._inside.variables)
         self._head: bytes = '\t'.join(self.variables).encode() or b'()'
 
     @classmethod
@@ -77,6 +83,20 @@ class Query(Variables):
         return _again, self._given
 
     # -- What it is
+
+    @property
+    def program(self) -> str:
+        """The path of the program that it runs."""
+        if self._program is None:
+            self._program = find_program()
+        return self._program
+
+    @property
+    def explanation(self) -> str:
+        """What ``--explain`` writes of it."""
+        if self._explanation is None:
+            self._explanation = self._explained()
+        return self._explanation
 
     def _explained(self) -> str:
         run = Run(self.program, self.text, [*self._words, '--explain'], None)
@@ -142,6 +162,18 @@ class Query(Variables):
         places = iter(numbers if document is None else document.told(numbers))
         return zip(*[places] * (2 * len(self.variables)))
 
+    # -- In this process
+
+    def _within(self, document: Document, limit: Optional[int], is_told: bool) -> Iterator[Row]:
+        """The rows by the library; in bytes, or as the document counts."""
+        assert self._inside is not None
+        for rows, numbers in self._inside.open(document.data).pages(limit):
+            if not self.variables:
+                yield from repeat((), rows)
+                continue
+            places = iter(document.told(numbers) if is_told else numbers)
+            yield from zip(*[places] * (2 * len(self.variables)))
+
     # -- Asking
 
     @overload
@@ -164,9 +196,12 @@ class Query(Variables):
         <rematch.Match x=0-1>
         >>> rows.close()
         """
-        return self._matches(open_document(document), _asked(after, limit))
+        return self._matches(open_document(document), _asked(after, limit), after, limit)
 
-    def _matches(self, document: Document, words: Sequence[str]) -> Iterator[Match[Any]]:
+    def _matches(self, document: Document, words: Sequence[str], after: str, limit: Optional[int]) -> Iterator[Match[Any]]:
+        if self._inside is not None and after == 'start':
+            yield from map(Match, repeat(self), repeat(document), self._within(document, limit, False))
+            return
         run = self._run(document, words, keep=True)
         try:
             for lines in self._pieces(run):
@@ -240,7 +275,14 @@ class Query(Variables):
         ([<rematch.Match x=2-3>], None)
         """
         opened = open_document(document)
-        run = self._run(opened, _asked(after, size), keep=True)
+        words = _asked(after, size)
+        if self._inside is not None and after == 'start' and size > 0:
+            within = Page(self._matches(opened, words, after, size + 1))
+            if len(within) > size:
+                del within[size:]
+                within.cursor = within[-1].cursor
+            return within
+        run = self._run(opened, words, keep=True)
         try:
             page: Page[Any] = Page(Match(self, opened, row) for lines in self._pieces(run) for row in self._rows(lines, None))
         finally:
@@ -254,7 +296,10 @@ class Query(Variables):
         >>> Query('/aba/').any(b'xxabab'), Query('/aba/').any(b'xx')
         (True, False)
         """
-        run = self._run(open_document(document), _asked(after, 0), keep=False)
+        words = _asked(after, 0)
+        if self._inside is not None and after == 'start':
+            return next(self._within(open_document(document), 1, False), None) is not None
+        run = self._run(open_document(document), words, keep=False)
         try:
             run.output()
         finally:
@@ -267,6 +312,8 @@ class Query(Variables):
         >>> Query('/!x{a*}/').count(b'aaaa')
         15
         """
+        if self._inside is not None:
+            return self._inside.open(open_document(document).data).count()
         run = self._run(open_document(document), (), keep=False)
         try:
             return sum(lines.count(b'\n') for lines in self._pieces(run))
@@ -281,6 +328,9 @@ class Query(Variables):
         >>> [[match['x'] for match in found] for found in Query('/^!x{[a-z]+}=/').map(['one=1', 'two', 'three=3'])]
         [['one'], [], ['three']]
         """
+        if self._inside is not None:
+            from .many import each_within
+            return each_within(self, self._inside, texts)
         from .many import Mapped
         return Mapped(self).rows(texts)
 
@@ -312,9 +362,12 @@ class Query(Variables):
         >>> list(Query('/(!x{a})?!y{b}/').rows(b'ab'))
         [(0, 1, 1, 2), (-1, -1, 1, 2)]
         """
-        return self._flat(open_document(document), _asked(after, limit))
+        return self._flat(open_document(document), _asked(after, limit), after, limit)
 
-    def _flat(self, document: Document, words: Sequence[str]) -> Iterator[Row]:
+    def _flat(self, document: Document, words: Sequence[str], after: str, limit: Optional[int]) -> Iterator[Row]:
+        if self._inside is not None and after == 'start':
+            yield from self._within(document, limit, True)
+            return
         run = self._run(document, words, keep=False)
         try:
             for lines in self._pieces(run):
@@ -330,17 +383,45 @@ class Query(Variables):
         >>> Query('/(!x{a})?!y{b}/').columns(b'ab')
         {'x': (array('q', [0, -1]), array('q', [1, -1])), 'y': (array('q', [1, 1]), array('q', [2, 2]))}
         """
-        opened = open_document(document)
         flat = array('q')
-        run = self._run(opened, (), keep=False)
-        try:
-            for lines in self._pieces(run):
-                if self.variables:
-                    flat.extend(opened.told(self._numbers(lines)))
-        finally:
-            run.close()
+        for _, numbers in self._many_numbers(open_document(document)):
+            flat.extend(numbers)
         step = 2 * len(self.variables)
         return {name: (flat[at::step], flat[at + 1::step]) for name, at in self._index.items()}
+
+    def spans(self, document: Source) -> Any:
+        """All rows as one array of 32-bit numbers with a line a row: start and end of each variable in turn, -1 and -1 for an
+        absent one.
+
+        Where numpy is installed it is one of its arrays, else a ``memoryview``, of which an empty one has one dimension. With the
+        library, of bytes, it is the memory that the library wrote, which nobody else has.
+
+        >>> Query('/(!x{a})?!y{b}/').spans(b'ab').tolist()
+        [[0, 1, 1, 2], [-1, -1, 1, 2]]
+        """
+        opened = open_document(document)
+        width = 2 * len(self.variables)
+        if self._inside is not None and opened.places is None:
+            rows, numbers = self._inside.open(opened.data).all()
+            return numbers_view(rows, width, numbers)
+        flat, rows = array('i'), 0
+        for some, places in self._many_numbers(opened):
+            rows += some
+            flat.extend(places)
+        return numbers_view(rows, width, flat)
+
+    def _many_numbers(self, document: Document) -> Iterator[Tuple[int, List[int]]]:
+        """How many rows there are next, and their places, some at a time, as the document counts."""
+        if self._inside is not None:
+            for rows, numbers in self._inside.open(document.data).pages():
+                yield rows, document.told(numbers)
+            return
+        run = self._run(document, (), keep=False)
+        try:
+            for lines in self._pieces(run):
+                yield lines.count(b'\n'), document.told(self._numbers(lines)) if self.variables else []
+        finally:
+            run.close()
 
     def table(self, document: Source, *, encoding: Optional[str] = None) -> Dict[str, Sequence[Any]]:
         """The rows as columns of one table: of each variable x the columns ``x_start``, ``x_end`` and ``x``, its text.

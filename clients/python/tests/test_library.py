@@ -1,0 +1,160 @@
+"""Queries in this process, by the library: the same rows and faults as by the program, and what is let go."""
+import gc
+import os
+import pickle
+import sys
+import threading
+import unittest
+from pathlib import Path
+from unittest import mock
+
+import rematch
+import rematch.library
+from support import EXAMPLES, PROGRAM, Folder
+from drawing import Maker
+
+LIBRARY = os.environ.get('REMATCH_LIBRARY', 'none')
+with_library = unittest.skipIf(LIBRARY == 'none', 'no library is named')
+
+
+class Spans(unittest.TestCase):
+    """`Query.spans`, in this process or by the program."""
+
+    def test_rows_as_one_array(self):
+        query = rematch.Query('/(!x{a})?!y{b}/')
+        spans = query.spans(b'ab')
+        self.assertEqual(spans.tolist(), [[0, 1, 1, 2], [-1, -1, 1, 2]])
+        self.assertEqual((spans.itemsize, tuple(spans.shape)), (4, (2, 4)))
+        self.assertEqual(query.spans(b'').tolist(), [])
+        self.assertEqual(rematch.Query('/a/').spans(b'aa').tolist(), [])
+        self.assertEqual(query.spans('éab').tolist(), [[1, 2, 2, 3], [-1, -1, 2, 3]])
+
+    def test_many_rows(self):
+        query = rematch.Query('/!x{a+}/')
+        spans = query.spans(b'a' * 500)
+        self.assertEqual(tuple(spans.shape), (500 * 501 // 2, 2))
+        self.assertEqual(spans.tolist(), [list(row) for row in query.rows(b'a' * 500)])
+
+    def test_without_numpy(self):
+        with mock.patch.dict(sys.modules, numpy=None):
+            spans = rematch.Query('/!x{a}/').spans(b'aba')
+            self.assertIsInstance(spans, memoryview)
+            self.assertEqual((spans.format, spans.shape, spans.tolist()), ('i', (2, 2), [[0, 1], [2, 3]]))
+
+
+@with_library
+class Same(unittest.TestCase):
+    """The library beside the program."""
+
+    def ask(self, text, document, **words):
+        """What each says of a query and a document."""
+        said = []
+        for program in (None, PROGRAM):
+            try:
+                query = rematch.Query(text, program=program, **words)
+                self.assertEqual(query._inside is None, program is not None)
+                page = query.page(document, 3)
+                said.append((query.variables, list(query.rows(document)), query.findall(document), query.count(document),
+                             query.any(document), query.spans(document).tolist(), query.columns(document), page, page.cursor))
+            except rematch.RematchError as fault:
+                said.append((type(fault), fault.note, fault.status, str(fault)))
+        self.assertEqual(*said)
+        return said[0]
+
+    def test_documents(self):
+        text = Path(EXAMPLES, 'failed.query').read_bytes()
+        self.assertEqual(self.ask(text, Path(EXAMPLES, 'auth.log'))[3], 55)
+        for document in (b'', b'\0a\xff', 'été aé', bytearray(b'ab'), memoryview(b'ab')):
+            for query in ('/!x{.}/u', '/!x{a}(!y{b})?/', '/^a|b$/', '/!x{\\w+}/ where upper(x)'):
+                self.ask(query, document)
+        self.ask('/!x{a}/', b'aaa', filter=True, max_table=1000)
+
+    def test_drawn_queries(self):
+        maker = Maker(7)
+        for _ in range(60):
+            self.ask(maker.query(), maker.document())
+
+    def test_faults(self):
+        for text in ('/(/', '/!x{a}!x{b}/', 'a', b'/\xff/u', '/!x{a}/ where iban(x)', '/a{1000}{1000}/', '/!x{a}/ minus /!y{a}/'):
+            self.ask(text, b'a')
+        self.assertEqual(self.ask('/!x{(a|b)*}/', b'abab', max_table=1)[1], 'size: table past 1')
+        self.assertIn('size: ', self.ask('/(' + 'a{100}' * 40 + '){100}/', b'a')[1])
+
+    def test_documents_that_are_too_long(self):
+        with self.assertRaises(rematch.DocumentError) as caught:
+            rematch.Query('/a/').count(bytes(268_435_457))
+        self.assertEqual((caught.exception.status, caught.exception.note), (6, 'document longer than 268435456 bytes'))
+
+    def test_cursors_run_the_program(self):
+        query = rematch.Query('/!x{a}/')
+        page = query.page(b'aaa', 2)
+        self.assertEqual((page.cursor, [match.row for match in query.finditer(b'aaa', after=page.cursor)]), ('c2:3;x:1-2', [(2, 3)]))
+        self.assertEqual(query.page(b'aaa', 0).cursor, rematch.Query('/!x{a}/', program=PROGRAM).page(b'aaa', 0).cursor)
+        with self.assertRaises(rematch.CursorError):
+            query.findall(b'aaa', after='nowhere')
+
+    def test_printed_form(self):
+        self.assertEqual(rematch.Query('/!x{[cab]}/').printed, '/!x{[a-c]}/')
+
+
+@with_library
+class Handles(unittest.TestCase):
+    def test_rows_of_a_query_that_is_gone(self):
+        rows = rematch.Query('/!x{a+}/').rows(b'aaaa')
+        gc.collect()
+        self.assertEqual(len(list(rows)), 10)
+
+    def test_rows_that_are_left(self):
+        query = rematch.Query('/!x{a+}/')
+        for _ in range(50):
+            next(query.finditer(b'a' * 100))
+        self.assertEqual(query.count(b'aa'), 3)
+
+    def test_queries_in_threads(self):
+        query = rematch.Query('/!x{a+}!y{b+}/')
+        found = []
+
+        def ask():
+            for _ in range(100):
+                found.append(query.count(b'aabbab'))
+        threads = [threading.Thread(target=ask) for _ in range(4)]
+        for thread in threads:
+            thread.start()
+        for thread in threads:
+            thread.join()
+        self.assertEqual((len(found), len(set(found))), (400, 1))
+
+    def test_pickled(self):
+        query = pickle.loads(pickle.dumps(rematch.Query('/!x{a}/')))
+        self.assertEqual((query.count(b'aa'), query._inside is None), (2, False))
+
+
+class Chosen(Folder):
+    """Which of both is taken."""
+
+    def find(self, is_named=False, **environment):
+        kept = {name: value for name, value in os.environ.items() if name not in ('REMATCH', 'REMATCH_LIBRARY')}
+        with mock.patch.dict(os.environ, {**kept, **environment}, clear=True):
+            return rematch.library.find_library(is_named)
+
+    def test_what_is_named(self):
+        self.assertEqual(self.find(REMATCH_LIBRARY='/x/librematch.so.1', REMATCH='/x/rematch'), '/x/librematch.so.1')
+        self.assertIsNone(self.find(REMATCH_LIBRARY='none'))
+        self.assertIsNone(self.find(REMATCH='/x/rematch'))
+        self.assertIsNone(self.find(is_named=True, REMATCH_LIBRARY='/x/librematch.so.1'))
+
+    def test_what_is_beside(self):
+        path = self.file(rematch.library.NAME)
+        with mock.patch.object(rematch.library, '_beside', lambda: iter([self.folder + '/nothing', path])):
+            self.assertEqual((self.find(), self.find(is_named=True)), (path, None))
+            with mock.patch.object(rematch.library, 'allowed', False):
+                self.assertIsNone(self.find())
+
+    def test_program_in_its_place(self):
+        query = rematch.Query('/!x{a}/', program=PROGRAM)
+        self.assertIsNone(query._inside)
+        self.assertEqual(query.spans(b'aa').tolist(), [[0, 1], [1, 2]])
+
+
+if __name__ == '__main__':
+    unittest.main()

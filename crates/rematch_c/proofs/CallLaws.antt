@@ -1,0 +1,150 @@
+-- What each call is answered with, by what is held.
+use Rattle.std.proofs.Common.{◌≡◌, ◌⊎◌, inl, inr, ℕ, zero, suc, ◌*◌, ◌/◌, ◌<◌, ◌≤◌, min, Bool, cond, List, [], length, slice_get, Option, Some, None, refl, sym, ap, ◌∙◌, subst, arith}
+use Rattle.std.proofs.lemmas.Option.{slice_get_past}
+use Rattle.std.proofs.Math.Dec.{eqb-suc-zero}
+use Rattle.std.proofs.Math.Nat.{div-lt_iff_lt-mul}
+use Rattle.spanner_model.specs.Captures.{VarName}
+use Rattle.spanner_model.specs.Answers.{AreResultNames}
+use Rattle.spanner_engine.specs.Passing.{IsOnlyTested}
+use Rattle.spanner_library.specs.Library.{Given, PreparedQuery, checks_by, tree}
+use Rattle.main_tests.specs.Relations.{relation}
+use Rattle.rm_outside.specs.Status.{exit_status_of}
+use Rattle.rm_outside.specs.declared.status.Status.{Status}
+use Rattle.rm_outside.specs.declared.status.Status.TheVariants as status
+use Rattle.rematch_c.specs.declared.held.Held.{Held}
+use Rattle.rematch_c.specs.declared.held.Held.TheVariants.{Query, Rows}
+use Rattle.rematch_c.specs.declared.open_rows.ReadOptions.{ReadOptions}
+use Rattle.rematch_c.specs.declared.short_text.ShortText.{ShortText}
+use Rattle.rematch_c.specs.Calls.{Compiled, Counted, Filled, Holds, Named, Opened, Shared}
+use Rattle.rematch_c.specs.Refusals.{IsReadRefusal, IsTextRefusal, IsWant, program}
+use Rattle.rematch_c.specs.Rows.{AreRowsOf, QueryRows, rows_within}
+use Rattle.rematch_c.specs.Texts.{IsText}
+
+-- ---- a value is put into a slot
+
+pub holds : (held : Held) (home : Option Held) (note : ShortText) → home ≡ Some held → Holds held note home note status.Done
+holds held home note is = subst (λ (h : Option Held). Holds held note h note status.Done) (sym is) Holds.holds
+
+pub holds_none : (held : Held) (home : Option Held) (old note : ShortText) (how : Status) → home ≡ None → how ≡ status.Memory → IsWant note → Holds held old home note how
+holds_none held home old note how is same want =
+    subst (λ (h : Option Held). Holds held old h note how) (sym is) (subst (λ (s : Status). Holds held old None note s) (sym same) (Holds.want want))
+
+-- ---- a text
+
+pub compiled : (text : List ℕ) (p : PreparedQuery) (home : Option Held) (old note : ShortText) (how : Status) (number : ℕ) → IsOnlyTested program text (tree p) →
+    AreResultNames (tree p).query p.names → IsText old [] → Holds (Query p) old home note how → number ≡ exit_status_of how → Compiled text home note number
+compiled text p home old note how number only names silent Holds.holds is = subst (λ (n : ℕ). Compiled text (Some (Query p)) old n) (sym is) (Compiled.compiled only names silent)
+compiled text p home old note how number only names silent (Holds.want want) is = subst (λ (n : ℕ). Compiled text None note n) (sym is) (Compiled.refused status.Memory want)
+
+pub text_refused : (text : List ℕ) (home : Option Held) (note : ShortText) (how : Status) (number : ℕ) → home ≡ None → IsTextRefusal text how note →
+    number ≡ exit_status_of how → Compiled text home note number
+text_refused text home note how number empty refused is =
+    subst (λ (h : Option Held). Compiled text h note number) (sym empty) (subst (λ (n : ℕ). Compiled text None note n) (sym is) (Compiled.refused how refused))
+
+-- ---- variables
+
+pub counted_query : (held : Held) (p : PreparedQuery) (names : List VarName) (count : ℕ) → held ≡ Query p → names ≡ p.names → count ≡ length names → Counted (Some held) count 0
+counted_query held p names count is same counted =
+    subst (λ (h : Held). Counted (Some h) count 0) (sym is) (subst (λ (n : ℕ). Counted (Some (Query p)) n 0) (sym (counted ∙ ap length same)) Counted.counted)
+
+pub counted_rows : (held : Held) (r : QueryRows) → held ≡ Rows r → Counted (Some held) 0 2
+counted_rows held r is = subst (λ (h : Held). Counted (Some h) 0 2) (sym is) (Counted.no_query tt)
+
+pub counted_none : (home : Option Held) (number : ℕ) → home ≡ None → number ≡ 2 → Counted home 0 number
+counted_none home number empty is = subst (λ (h : Option Held). Counted h 0 number) (sym empty) (subst (λ (n : ℕ). Counted None 0 n) (sym is) (Counted.no_query tt))
+
+pub named_at : (held : Held) (p : PreparedQuery) (names : List VarName) (place : ℕ) (name : VarName) (text : ShortText) → held ≡ Query p → names ≡ p.names →
+    slice_get names place ≡ Some name → IsText text name → Named (Some held) place text 0
+named_at held p names place name text is same at said =
+    let found : slice_get p.names place ≡ Some name = subst (λ (ns : List VarName). slice_get ns place ≡ Some name) same at in
+    subst (λ (h : Held). Named (Some h) place text 0) (sym is) (Named.named found said)
+
+pub named_past : (held : Held) (p : PreparedQuery) (names : List VarName) (place : ℕ) (text : ShortText) → held ≡ Query p → names ≡ p.names → length names ≤ place →
+    IsText text [] → Named (Some held) place text 2
+named_past held p names place text is same past silent =
+    let none : slice_get p.names place ≡ None = subst (λ (ns : List VarName). slice_get ns place ≡ None) same (slice_get_past names place past) in
+    subst (λ (h : Held). Named (Some h) place text 2) (sym is) (Named.no_variable none silent)
+
+pub named_rows : (held : Held) (r : QueryRows) (place : ℕ) (text : ShortText) → held ≡ Rows r → IsText text [] → Named (Some held) place text 2
+named_rows held r place text is silent = subst (λ (h : Held). Named (Some h) place text 2) (sym is) (Named.no_query tt silent)
+
+pub named_none : (home : Option Held) (place : ℕ) (text : ShortText) (number : ℕ) → home ≡ None → number ≡ 2 → IsText text [] → Named home place text number
+named_none home place text number empty is silent =
+    subst (λ (h : Option Held). Named h place text number) (sym empty) (subst (λ (n : ℕ). Named None place text n) (sym is) (Named.no_query tt silent))
+
+-- ---- another slot
+
+pub shared : (held : Held) (p q : PreparedQuery) (other : Option Held) → held ≡ Query p → q ≡ p → other ≡ Some (Query q) → Shared (Some held) other 0
+shared held p q other is same home =
+    let both : other ≡ Some (Query p) = home ∙ ap (λ (x : PreparedQuery). Some (Query x)) same in
+    subst (λ (h : Held). Shared (Some h) other 0) (sym is) (subst (λ (o : Option Held). Shared (Some (Query p)) o 0) (sym both) Shared.shared)
+
+pub shared_want : (held : Held) (p : PreparedQuery) (other : Option Held) → held ≡ Query p → other ≡ None → Shared (Some held) other 9
+shared_want held p other is empty =
+    subst (λ (h : Held). Shared (Some h) other 9) (sym is) (subst (λ (o : Option Held). Shared (Some (Query p)) o 9) (sym empty) Shared.want)
+
+pub shared_rows : (held : Held) (r : QueryRows) (other : Option Held) → held ≡ Rows r → other ≡ None → Shared (Some held) other 2
+shared_rows held r other is empty =
+    subst (λ (h : Held). Shared (Some h) other 2) (sym is) (subst (λ (o : Option Held). Shared (Some (Rows r)) o 2) (sym empty) (Shared.no_query tt))
+
+pub shared_none : (home other : Option Held) (number : ℕ) → home ≡ None → other ≡ None → number ≡ 2 → Shared home other number
+shared_none home other number empty none is =
+    subst (λ (h : Option Held). Shared h other number) (sym empty) (subst (λ (o : Option Held). Shared None o number) (sym none)
+    (subst (λ (n : ℕ). Shared None None n) (sym is) (Shared.no_query tt)))
+
+-- ---- a document
+
+pub opened : (held : Held) (p : PreparedQuery) (d : List ℕ) (options : ReadOptions) (r : QueryRows) (home : Option Held) (old note : ShortText) (how : Status) → held ≡ Query p →
+    AreRowsOf p d r → IsText old [] → Holds (Rows r) old home note how → Opened (Some held) d options home note (exit_status_of how)
+opened held p d options r home old note how is rows silent Holds.holds = Opened.opened (ap Some is) rows silent
+opened held p d options r home old note how is rows silent (Holds.want want) = Opened.refused status.Memory (ap Some is) (inr want)
+
+pub open_refused : (held : Held) (p : PreparedQuery) (d : List ℕ) (options : ReadOptions) (home : Option Held) (note : ShortText) (how : Status) → held ≡ Query p → home ≡ None →
+    IsReadRefusal p d options how note → Opened (Some held) d options home note (exit_status_of how)
+open_refused held p d options home note how is empty refused =
+    subst (λ (h : Option Held). Opened (Some held) d options h note (exit_status_of how)) (sym empty) (Opened.refused how (ap Some is) refused)
+
+pub opened_rows : (held : Held) (r : QueryRows) (d : List ℕ) (options : ReadOptions) (home : Option Held) (note : ShortText) → held ≡ Rows r → home ≡ None → IsText note [] →
+    Opened (Some held) d options home note 2
+opened_rows held r d options home note is empty silent =
+    subst (λ (h : Held). Opened (Some h) d options home note 2) (sym is) (subst (λ (o : Option Held). Opened (Some (Rows r)) d options o note 2) (sym empty) (Opened.no_query tt silent))
+
+pub opened_none : (home rows : Option Held) (d : List ℕ) (options : ReadOptions) (note : ShortText) (number : ℕ) → home ≡ None → rows ≡ None → IsText note [] → number ≡ 2 →
+    Opened home d options rows note number
+opened_none home rows d options note number empty none silent is =
+    subst (λ (h : Option Held). Opened h d options rows note number) (sym empty) (subst (λ (o : Option Held). Opened None d options o note number) (sym none)
+    (subst (λ (n : ℕ). Opened None d options None note n) (sym is) (Opened.no_query tt silent)))
+
+-- ---- rows
+
+-- where none fits, there is no room for one
+none_fit : (most room width : ℕ) → rows_within most room width ≡ 0 → 0 < most → room < width
+none_fit most room zero is some = absurd (omega (arith, is, some))
+none_fit most room (suc width) is some =
+    let chosen : rows_within most room (suc width) ≡ min most (room / suc width) = ap (λ (b : Bool). cond b most (min most (room / suc width))) (eqb-suc-zero width) in
+    let least : min most (room / suc width) ≡ 0 = sym chosen ∙ is in
+    let small : room / suc width < 1 = omega (arith, least, some) in
+    let below : room < 1 * suc width = (div-lt_iff_lt-mul {k = suc width} {x = room} {y = 1} (omega arith)).0 small in
+    omega (arith, below)
+
+pub filled : (held : Held) (r new : QueryRows) (before after : List ℕ) (most fitting given : ℕ) → held ≡ Rows r → new.query ≡ r.query → new.document ≡ r.document →
+    fitting ≡ rows_within most (length before) (2 * length r.query.names) →
+    Given (checks_by relation r.query) r.query.names r.document r.rest new.rest before after fitting given → Filled (Some held) (Some (Rows new)) before after most given 0
+filled held r new before after most fitting given is query document fits rows =
+    subst (λ (h : Held). Filled (Some h) (Some (Rows new)) before after most given 0) (sym is)
+    (Filled.filled query document (subst (λ (n : ℕ). Given (checks_by relation r.query) r.query.names r.document r.rest new.rest before after n given) fits rows))
+
+pub filled_no_room : (held : Held) (r : QueryRows) (out : List ℕ) (most fitting given : ℕ) → held ≡ Rows r → given ≡ 0 → 0 < most → fitting ≡ 0 →
+    fitting ≡ rows_within most (length out) (2 * length r.query.names) → Filled (Some held) (Some (Rows r)) out out most given 8
+filled_no_room held r out most fitting given is none some empty fits =
+    subst (λ (h : Held). Filled (Some h) (Some (Rows r)) out out most given 8) (sym is) (subst (λ (n : ℕ). Filled (Some (Rows r)) (Some (Rows r)) out out most n 8) (sym none)
+    (Filled.no_room some (none_fit most (length out) (2 * length r.query.names) (sym fits ∙ empty) some)))
+
+pub filled_query : (held : Held) (p : PreparedQuery) (out : List ℕ) (most given : ℕ) → held ≡ Query p → given ≡ 0 → Filled (Some held) (Some held) out out most given 2
+filled_query held p out most given is none =
+    subst (λ (h : Held). Filled (Some h) (Some h) out out most given 2) (sym is) (subst (λ (n : ℕ). Filled (Some (Query p)) (Some (Query p)) out out most n 2) (sym none) (Filled.no_rows tt))
+
+pub filled_none : (home new : Option Held) (out : List ℕ) (most number : ℕ) → home ≡ None → new ≡ None → number ≡ 2 → Filled home new out out most 0 number
+filled_none home new out most number empty none is =
+    subst (λ (h : Option Held). Filled h new out out most 0 number) (sym empty) (subst (λ (o : Option Held). Filled None o out out most 0 number) (sym none)
+    (subst (λ (n : ℕ). Filled None None out out most 0 n) (sym is) (Filled.no_rows tt)))

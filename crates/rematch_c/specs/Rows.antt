@@ -1,0 +1,32 @@
+-- Rows of a query on a document.
+use Rattle.std.specs.Prelude.{◌≡◌, ℕ, ◌/◌, ◌^◌, ◌≤◌, List, length, None, min, nat_eq, cond, refl}
+use Rattle.std.specs.Coded.{Coded, code_by, coded×, coded_list, coded_option, coded_ℕ}
+use Rattle.span_core.specs.contracts.span.Span.{the_row as span_row}
+use Rattle.spanner_model.specs.Answers.{SpanRow}
+use Rattle.spanner_engine.specs.Fitting.{AreLast}
+use Rattle.spanner_engine.specs.Left.{AreLeft}
+use Rattle.spanner_library.specs.Library.{PreparedQuery, prepared_code, tree}
+
+-- the answers of a query on a document that were not tried yet
+pub record QueryRows : Type 0 where
+  pub query : PreparedQuery
+  pub document : List ℕ
+  pub rest : List SpanRow
+
+-- it is stored as its parts
+abbrev pub rows_code : Coded QueryRows
+rows_code =
+    code_by (PreparedQuery × (List ℕ × List SpanRow)) (coded× prepared_code (coded× (coded_list coded_ℕ) (coded_list (coded_list (coded_option span_row.coded)))))
+    (λ r. (r.query, (r.document, r.rest))) (λ t. record { query = t.0; document = t.1.0; rest = t.1.1 }) (λ _. refl)
+
+-- these are the last answers of the query on the document, which is not too long
+abbrev pub AreRows : PreparedQuery → List ℕ → List SpanRow → Type 0
+AreRows p d rest = (length d ≤ 2 ^ 28) × AreLast (tree p).query d p.names rest
+
+-- all answers of the query on the document are to come
+abbrev pub AreRowsOf : PreparedQuery → List ℕ → QueryRows → Type 0
+AreRowsOf p d r = (r.query ≡ p) × (r.document ≡ d) × AreLeft (tree p).query d p.names None r.rest
+
+-- so many rows at most, and as many as have room in so many numbers
+abbrev pub rows_within : ℕ → ℕ → ℕ → ℕ
+rows_within most room width = cond (nat_eq width 0) most (min most (room / width))

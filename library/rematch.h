@@ -1,0 +1,105 @@
+/* rematch in the caller's process: a query is compiled once and asked of many documents, and rows come as numbers.
+ *
+ * Results are those of the program `rematch`: every row of the query's meaning, each once, in block order, with the
+ * program's notes. The statuses are the program's exit statuses. docs/LANGUAGE.md has the language, docs/FORMATS.md
+ * the notes and limits, library/README.md examples.
+ *
+ * Slots. A slot is memory of the caller's that holds a handle: a compiled query, or the rows of one on a document. It
+ * begins as zeros (REMATCH_NONE). While it holds a handle it is not copied, and the caller does not write to it. A call
+ * that puts a handle into a slot closes what the slot held before. What a handle owns is freed by rematch_close, and by
+ * nothing else.
+ *
+ * Pointers. No call keeps a pointer that it is given. A null pointer is refused with REMATCH_CALL, where nothing else is
+ * said; a text or a document of length 0 may be null. Two pointers of one call do not overlap, but `query` and `other`
+ * or `rows` may be the same, which is refused.
+ *
+ * Threads. A handle is used by one call at a time. For several threads at once, rematch_share gives each its own slot
+ * of the same compiled query. That a handle may go from one thread to another, as under a lock, is tested and not proved.
+ * No call is made from a signal handler, nor in the forked child of a process with threads.
+ *
+ * Memory. It is that of malloc, realloc and free. Where it is wanting, the call is refused with REMATCH_MEMORY, and
+ * nothing of it is left.
+ */
+#ifndef REMATCH_H
+#define REMATCH_H
+#include <stdbool.h>
+#include <stddef.h>
+#include <stdint.h>
+#ifdef __cplusplus
+extern "C" {
+#endif
+
+#if defined __GNUC__
+#define REMATCH_API __attribute__((visibility("default")))
+#else
+#define REMATCH_API
+#endif
+
+/* What both numbers of an absent variable are. */
+#define REMATCH_ABSENT UINT32_MAX
+
+/* How a call ended. */
+enum {
+    REMATCH_DONE = 0,   /* all is done */
+    REMATCH_CALL = 2,   /* the call is refused: a null pointer, an empty slot, or one that holds the other kind */
+    REMATCH_QUERY = 3,  /* the query's text has a fault, which the note says with its place in bytes from 0 */
+    REMATCH_SIZE = 4,   /* the query, or reading the document, takes more than a limit allows, as the note says */
+    REMATCH_LONG = 6,   /* the document has more than 268,435,456 bytes */
+    REMATCH_ROOM = 8,   /* there is room for no row */
+    REMATCH_MEMORY = 9  /* memory is wanting */
+};
+
+struct rematch_slot {
+    void *at;
+    bool held;
+};
+#define REMATCH_NONE { NULL, false }
+typedef struct rematch_slot rematch_query;
+typedef struct rematch_slot rematch_rows;
+
+/* A note, as the program writes it without the line's end, or a name. A byte 0 stands behind its bytes. */
+typedef struct {
+    size_t length; /* 0 where there is none */
+    char bytes[248];
+} rematch_text;
+
+/* How a document is read. */
+typedef struct {
+    uint64_t max_table; /* the greatest weight of a table, as --max-table; more than 100,000,000 is taken as that */
+    bool filter;        /* as --filter */
+} rematch_options;
+#define REMATCH_OPTIONS { 1000000, false }
+
+/* Compiles the text of a query. Where it is refused, the slot holds nothing. `note` may be null. */
+REMATCH_API uint32_t rematch_compile(const void *text, size_t length, rematch_query *query, rematch_text *note);
+
+/* How many variables the rows of a query have. */
+REMATCH_API uint32_t rematch_variables(rematch_query *query, size_t *count);
+
+/* The name of variable `place`, from 0; names are in the order of the spans of a row. A place past the last is refused
+ * with REMATCH_CALL. */
+REMATCH_API uint32_t rematch_variable(rematch_query *query, size_t place, rematch_text *name);
+
+/* Puts the same compiled query into another slot. It is kept until the last slot of it, and of rows of it, is closed. */
+REMATCH_API uint32_t rematch_share(rematch_query *query, rematch_query *other);
+
+/* Reads a document. All work that grows with it is done here; the rows keep a copy of it and share the query, so both
+ * may go. Where it is refused, `rows` holds nothing. `options` may be null, for REMATCH_OPTIONS, and `note` too. */
+REMATCH_API uint32_t rematch_open(rematch_query *query, const void *document, size_t length,
+                                  const rematch_options *options, rematch_rows *rows, rematch_text *note);
+
+/* Gives the next rows: of each, for each variable, where its span starts and where it ends, or twice REMATCH_ABSENT.
+ * They are `most` at most, and as many as have room in `out`, which has `room` numbers. `*given` is how many they are;
+ * where it is less than both, no row remains. What stands in `out` behind them is as it was. It takes no memory. */
+REMATCH_API uint32_t rematch_fill(rematch_rows *rows, uint32_t *out, size_t room, size_t most, size_t *given);
+
+/* Frees what a slot holds, which then holds nothing. An empty slot and a null pointer are left as they are. */
+REMATCH_API void rematch_close(struct rematch_slot *slot);
+
+/* The version of the library, as "1.0.0". It is never freed. */
+REMATCH_API const char *rematch_version(void);
+
+#ifdef __cplusplus
+}
+#endif
+#endif

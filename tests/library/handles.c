@@ -1,0 +1,181 @@
+/* Each call with what it does and what it refuses, and handles that are opened and closed in all orders. */
+#include "check.h"
+
+static const rematch_options usual = REMATCH_OPTIONS;
+
+static void refuses_texts(void) {
+    rematch_query query = REMATCH_NONE;
+    rematch_text note;
+    CHECK(rematch_compile(TEXT("/!x{aba"), &query, &note) == REMATCH_QUERY);
+    CHECK(!query.held && strcmp(note.bytes, "query: not closed at 3") == 0 && note.length == strlen(note.bytes));
+    CHECK(rematch_compile(TEXT("/!x{a}/ where iban(x)"), &query, &note) == REMATCH_QUERY);
+    CHECK(strcmp(note.bytes, "query: unknown test at 14") == 0);
+    CHECK(rematch_compile(TEXT("/(a{1000}){1000}/"), &query, &note) == REMATCH_SIZE && !query.held);
+    CHECK(strncmp(note.bytes, "size: ", 6) == 0);
+    CHECK(rematch_compile(NULL, 0, &query, &note) == REMATCH_QUERY);
+    CHECK(rematch_compile(TEXT("/(/"), &query, NULL) == REMATCH_QUERY);
+    /* a refused text closes what the slot held */
+    compiled(&query, "/a/");
+    CHECK(rematch_compile(TEXT("/(/"), &query, &note) == REMATCH_QUERY && !query.held);
+}
+
+static void names_variables(void) {
+    rematch_query query = REMATCH_NONE;
+    rematch_text name;
+    size_t count = 7;
+    compiled(&query, "/!second{b}!first{a}/");
+    CHECK(rematch_variables(&query, &count) == REMATCH_DONE && count == 2);
+    CHECK(rematch_variable(&query, 0, &name) == REMATCH_DONE && strcmp(name.bytes, "first") == 0 && name.length == 5);
+    CHECK(rematch_variable(&query, 1, &name) == REMATCH_DONE && strcmp(name.bytes, "second") == 0);
+    CHECK(rematch_variable(&query, 2, &name) == REMATCH_CALL && name.length == 0 && name.bytes[0] == 0);
+    rematch_close(&query);
+    CHECK(rematch_variables(&query, &count) == REMATCH_CALL && count == 0);
+    CHECK(rematch_variable(&query, 0, &name) == REMATCH_CALL);
+}
+
+static void gives_rows(void) {
+    rematch_query query = REMATCH_NONE;
+    rematch_rows rows = REMATCH_NONE;
+    rematch_text note;
+    uint32_t out[9];
+    size_t given = 9;
+    compiled(&query, "/(a!x{b}|c)!y{}/");
+    CHECK(rematch_open(&query, TEXT("abc"), &usual, &rows, &note) == REMATCH_DONE && note.length == 0);
+    memset(out, 0x11, sizeof out);
+    CHECK(rematch_fill(&rows, out, 3, 9, &given) == REMATCH_ROOM && given == 0 && out[0] == 0x11111111);
+    CHECK(rematch_fill(&rows, out, 9, 0, &given) == REMATCH_DONE && given == 0);
+    CHECK(rematch_fill(&rows, NULL, 0, 0, &given) == REMATCH_DONE && given == 0);
+    CHECK(rematch_fill(&rows, out, 9, 1, &given) == REMATCH_DONE && given == 1);
+    CHECK(out[0] == 1 && out[1] == 2 && out[2] == 2 && out[3] == 2 && out[4] == 0x11111111);
+    CHECK(rematch_fill(&rows, out, 9, 9, &given) == REMATCH_DONE && given == 1);
+    CHECK(out[0] == REMATCH_ABSENT && out[1] == REMATCH_ABSENT && out[2] == 3 && out[3] == 3 && out[4] == 0x11111111);
+    CHECK(rematch_fill(&rows, out, 9, 9, &given) == REMATCH_DONE && given == 0);
+    /* rows without variables are counted, and take no room */
+    compiled(&query, "/a/");
+    CHECK(rematch_open(&query, TEXT("aaa"), NULL, &rows, NULL) == REMATCH_DONE);
+    CHECK(rematch_fill(&rows, NULL, 0, 9, &given) == REMATCH_DONE && given == 1);
+    rematch_close(&rows);
+    rematch_close(&query);
+}
+
+static void runs_tests_of_spans(void) {
+    rematch_query query = REMATCH_NONE;
+    rematch_rows rows = REMATCH_NONE;
+    char document[] = "79927398713 79927398710 AB";
+    compiled(&query, "/(^| )!x{\\d+}( |$)/ where luhn(x)");
+    CHECK(rematch_open(&query, TEXT(document), NULL, &rows, NULL) == REMATCH_DONE);
+    memset(document, '0', strlen(document)); /* the rows have a copy of their own */
+    uint32_t out[4];
+    size_t given;
+    CHECK(rematch_fill(&rows, out, 4, 2, &given) == REMATCH_DONE && given == 1 && out[0] == 0 && out[1] == 11);
+    rematch_close(&rows);
+    rematch_close(&query);
+}
+
+static void refuses_documents(void) {
+    rematch_query query = REMATCH_NONE;
+    rematch_rows rows = REMATCH_NONE;
+    rematch_options small = {1, false};
+    rematch_text note;
+    compiled(&query, "/!x{(a|b)*}/");
+    CHECK(rematch_open(&query, TEXT("aba"), &small, &rows, &note) == REMATCH_SIZE && !rows.held);
+    CHECK(strcmp(note.bytes, "size: table past 1") == 0);
+    size_t length = 268435457;
+    char *document = calloc(length, 1);
+    CHECK(document != NULL);
+    CHECK(rematch_open(&query, document, length, NULL, &rows, &note) == REMATCH_LONG && !rows.held);
+    CHECK(strcmp(note.bytes, "document longer than 268435456 bytes") == 0);
+    free(document);
+    CHECK(rematch_open(&query, NULL, 0, NULL, &rows, &note) == REMATCH_DONE && rest_of(&rows) == 1);
+    rematch_close(&rows);
+    rematch_close(&query);
+}
+
+static void refuses_calls(void) {
+    rematch_query query = REMATCH_NONE, other = REMATCH_NONE;
+    rematch_rows rows = REMATCH_NONE;
+    rematch_text note;
+    uint32_t out[4];
+    size_t count;
+    CHECK(rematch_compile(NULL, 1, &query, &note) == REMATCH_CALL && note.length == 0);
+    CHECK(rematch_compile(TEXT("/a/"), NULL, &note) == REMATCH_CALL);
+    CHECK(rematch_compile("/a/", (size_t)-1, &query, &note) == REMATCH_CALL);
+    CHECK(rematch_open(&query, TEXT("a"), NULL, &rows, &note) == REMATCH_CALL);
+    CHECK(rematch_fill(&rows, out, 4, 1, &count) == REMATCH_CALL && count == 0);
+    CHECK(rematch_share(&query, &other) == REMATCH_CALL);
+    compiled(&query, "/!x{a}/");
+    CHECK(rematch_open(&query, NULL, 1, NULL, &rows, &note) == REMATCH_CALL);
+    CHECK(rematch_open(&query, TEXT("a"), NULL, NULL, &note) == REMATCH_CALL);
+    CHECK(rematch_open(NULL, TEXT("a"), NULL, &rows, &note) == REMATCH_CALL);
+    CHECK(rematch_open(&query, TEXT("a"), NULL, &query, &note) == REMATCH_CALL && query.held);
+    CHECK(rematch_share(&query, &query) == REMATCH_CALL && rematch_share(NULL, &other) == REMATCH_CALL);
+    CHECK(rematch_variables(&query, NULL) == REMATCH_CALL && rematch_variable(&query, 0, NULL) == REMATCH_CALL);
+    /* a slot of the other kind */
+    CHECK(rematch_fill(&query, out, 4, 1, &count) == REMATCH_CALL && count == 0);
+    CHECK(rematch_open(&query, TEXT("aa"), NULL, &rows, &note) == REMATCH_DONE);
+    CHECK(rematch_variables(&rows, &count) == REMATCH_CALL && rematch_share(&rows, &other) == REMATCH_CALL);
+    CHECK(rematch_open(&rows, TEXT("a"), NULL, &other, &note) == REMATCH_CALL && rows.held);
+    CHECK(rematch_fill(&rows, NULL, 4, 1, &count) == REMATCH_CALL && rematch_fill(&rows, out, 4, 1, NULL) == REMATCH_CALL);
+    CHECK(rematch_fill(&rows, out, (size_t)-1, 1, &count) == REMATCH_CALL);
+    CHECK(rest_of(&rows) == 2);
+    rematch_close(NULL);
+    rematch_close(&rows);
+    rematch_close(&rows);
+    rematch_close(&query);
+}
+
+/* A query, another slot of it and two rows are closed in each of the 24 orders, and used until then. */
+static void closes_in_all_orders(void) {
+    for (int order = 0; order < 24; order++) {
+        struct rematch_slot slots[4] = {REMATCH_NONE, REMATCH_NONE, REMATCH_NONE, REMATCH_NONE};
+        compiled(&slots[0], "/!x{a+}/ where upper(x) union /!x{a}b/");
+        CHECK(rematch_share(&slots[0], &slots[1]) == REMATCH_DONE);
+        CHECK(rematch_open(&slots[0], TEXT("ab"), NULL, &slots[2], NULL) == REMATCH_DONE);
+        CHECK(rematch_open(&slots[1], TEXT("abab"), NULL, &slots[3], NULL) == REMATCH_DONE);
+        int left[4] = {0, 1, 2, 3};
+        for (int size = 4, rest = order; size > 0; size--) {
+            int at = rest % size;
+            rest /= size;
+            rematch_close(&slots[left[at]]);
+            CHECK(!slots[left[at]].held);
+            left[at] = left[size - 1];
+            for (int k = 0; k < size - 1; k++) {
+                uint32_t out[2];
+                size_t count;
+                CHECK(slots[left[k]].held);
+                if (left[k] < 2)
+                    CHECK(rematch_variables(&slots[left[k]], &count) == REMATCH_DONE && count == 1);
+                else
+                    CHECK(rematch_fill(&slots[left[k]], out, 2, 1, &count) == REMATCH_DONE);
+            }
+        }
+    }
+}
+
+static void asks_a_thousand_documents(void) {
+    rematch_query query = REMATCH_NONE;
+    rematch_rows rows = REMATCH_NONE;
+    rematch_options filter = {1000000, true};
+    compiled(&query, "/from !address{[0-9.]+} port/");
+    for (int k = 0; k < 1000; k++) {
+        char document[64];
+        int length = snprintf(document, sizeof document, "%d from 192.0.2.%d port 22; from 1 port", k, k % 256);
+        CHECK(rematch_open(&query, document, (size_t)length, k % 2 ? &filter : NULL, &rows, NULL) == REMATCH_DONE);
+        CHECK(rest_of(&rows) == 2);
+    }
+    rematch_close(&rows);
+    rematch_close(&query);
+}
+
+int main(void) {
+    CHECK(strcmp(rematch_version(), EXPECTED_VERSION) == 0);
+    refuses_texts();
+    names_variables();
+    gives_rows();
+    runs_tests_of_spans();
+    refuses_documents();
+    refuses_calls();
+    closes_in_all_orders();
+    asks_a_thousand_documents();
+    return 0;
+}

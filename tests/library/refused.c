@@ -1,0 +1,102 @@
+/* The n-th allocation of a run is refused, for each n until none is left: each call ends with its answer or with want of memory, and
+ * nothing is left of it. Linked with --wrap for malloc, realloc and free, of which the library alone is counted. */
+#include "check.h"
+
+void *__real_malloc(size_t size);
+void *__real_realloc(void *block, size_t size);
+void __real_free(void *block);
+
+static long live, made, refused_at;
+static bool counts;
+
+static bool refuses(void) {
+    return counts && ++made == refused_at;
+}
+
+void *__wrap_malloc(size_t size) {
+    void *block = refuses() ? NULL : __real_malloc(size);
+    live += counts && block != NULL;
+    return block;
+}
+
+void *__wrap_realloc(void *block, size_t size) {
+    void *moved = refuses() ? NULL : __real_realloc(block, size);
+    live += counts && block == NULL && moved != NULL;
+    return moved;
+}
+
+void __wrap_free(void *block) {
+    live -= counts && block != NULL;
+    __real_free(block);
+}
+
+/* Whether a call was refused for want of memory; otherwise it was done. */
+static bool wants(uint32_t status, const struct rematch_slot *slot, const rematch_text *note) {
+    CHECK(status == REMATCH_DONE || status == REMATCH_MEMORY);
+    CHECK(slot->held == (status == REMATCH_DONE));
+    if (note != NULL)
+        CHECK(strcmp(note->bytes, status == REMATCH_DONE ? "" : "out of memory") == 0);
+    return status == REMATCH_MEMORY;
+}
+
+/* One run, to its end or to the call that is refused; whether none was. */
+static bool run(const char *text, const char *document, bool filter, size_t expected) {
+    rematch_query query = REMATCH_NONE, other = REMATCH_NONE;
+    rematch_rows rows = REMATCH_NONE;
+    rematch_text note;
+    rematch_options options = {1000000, filter};
+    bool ended = !wants(rematch_compile(TEXT(text), &query, &note), &query, &note)
+        && !wants(rematch_share(&query, &other), &other, NULL)
+        && !wants(rematch_open(&other, TEXT(document), &options, &rows, &note), &rows, &note);
+    if (rows.held) {
+        long before = made;
+        CHECK(rest_of(&rows) == expected && made == before); /* rows take no memory */
+    }
+    CHECK(query.held || !ended);
+    rematch_close(&query);
+    rematch_close(&rows);
+    rematch_close(&other);
+    return ended;
+}
+
+int main(void) {
+    static const struct {
+        const char *text, *document;
+        bool filter;
+        size_t expected;
+    } runs[] = {
+        {"/!x{a+}!y{b+}/", "aabbab", false, 5},
+        {"/!x{[0-9]+}/ where luhn(x)", "79927398713", true, 0},
+        {"/!x{\\p{L}+}/u", "\xc3\xa9t\xc3\xa9", false, 6},
+        {"let w = /[^a-z]!x{[a-z]+}[^a-z]/; w join /!x{.*}/ minus /!x{the}/", " the tide ", false, 1},
+    };
+    long all = 0;
+    counts = true;
+    for (size_t k = 0; k < sizeof runs / sizeof *runs; k++) {
+        size_t expected = runs[k].expected;
+        refused_at = 0;
+        made = 0;
+        if (expected == 0) { /* those that pass are counted by the first run */
+            rematch_query query = REMATCH_NONE;
+            rematch_rows rows = REMATCH_NONE;
+            CHECK(rematch_compile(TEXT(runs[k].text), &query, NULL) == REMATCH_DONE);
+            CHECK(rematch_open(&query, TEXT(runs[k].document), NULL, &rows, NULL) == REMATCH_DONE);
+            expected = rest_of(&rows);
+            rematch_close(&rows);
+            rematch_close(&query);
+        }
+        bool ended;
+        do {
+            made = 0;
+            refused_at++;
+            ended = run(runs[k].text, runs[k].document, runs[k].filter, expected);
+            CHECK(live == 0);
+            CHECK(ended == (made < refused_at));
+        } while (!ended);
+        CHECK(refused_at > 10);
+        all += refused_at - 1;
+    }
+    counts = false;
+    printf("%ld refused\n", all);
+    return 0;
+}
