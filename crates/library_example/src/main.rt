@@ -4,7 +4,7 @@
 //! at a time, into memory of this program's.
 #![tactic(auto)]
 
-ghost use Rattle.std.specs.Prelude.{◌≡◌, ◌<◌};
+ghost use Rattle.std.specs.Prelude.{◌≡◌, ◌^◌, ◌<◌, ◌≤◌, length};
 ghost use Rattle.spanner_engine.specs.Caching.{IsCacheOf};
 ghost use Rattle.spanner_engine.specs.Fitting.{AreLast};
 ghost use Rattle.spanner_library.specs.Library.{tree};
@@ -59,7 +59,7 @@ fn ended_by(rt: &HostRuntime, fault: &Fault) -> ExitCode {
     ExitCode::from(1)
 }
 
-/// Compiles the query, and asks it of each line.
+/// Compiles the query, and asks it.
 fn ask_all<L: Ledger>(rt: &HostRuntime, blank: Blank) -> Result<(), Fault>
     requires name { blank.name ≡ L.name }
     requires parts { blank.parts ≡ L.parts }
@@ -67,10 +67,19 @@ fn ask_all<L: Ledger>(rt: &HostRuntime, blank: Blank) -> Result<(), Fault>
 {
     let mut steps = Steps::<L>::new(blank);
     let query = Prepared::read(rt.alloc(), program_tests(rt.alloc())?, QUERY.as_bytes())?;
+    ask_each(rt, &query, &mut steps)
+}
+
+/// Asks the query of each line, with what a cache keeps of the lines before.
+fn ask_each<L: Ledger>(
+    rt: &HostRuntime,
+    query: &Prepared<ProgramJudge>,
+    steps: &mut Steps<L>,
+) -> Result<(), Fault> {
     let mut cache = Cache::new(rt.alloc(), MOST_KEPT);
     for line in LINES {
         println!(rt; "{line}")?;
-        ask(rt, &query, &mut cache, line.as_bytes(), &mut steps)?;
+        ask(rt, query, &mut cache, line.as_bytes(), steps)?;
     }
     Ok(())
 }

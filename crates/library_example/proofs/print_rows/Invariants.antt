@@ -5,11 +5,11 @@ use Rattle.library_example.specs.declared.TheConstants.{MOST_ROWS}
 use Rattle.library_example.proofs.print_rows.Given as goal
 
 -- the rows that are still to come are the last, and there is room for those of one call
-abbrev pub invariant-loop : goal.invariant-loop
-invariant-loop g l = record {
+abbrev pub invariant-loop-numbers : goal.invariant-loop-numbers
+invariant-loop-numbers g l = record {
   last : AreLast (tree l.query).query l.document l.query.names l.rows.rest;
   room : length l.numbers.items ≡ MOST_ROWS * (2 * length l.query.names);
 }
 
-abbrev pub decreases-loop : goal.decreases-loop
-decreases-loop g l = length l.rows.rest
+abbrev pub decreases-loop-numbers : goal.decreases-loop-numbers
+decreases-loop-numbers g l = length l.rows.rest
