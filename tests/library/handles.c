@@ -7,7 +7,7 @@ static void refuses_texts(void) {
     rematch_query query = REMATCH_NONE;
     rematch_text note;
     CHECK(rematch_compile(TEXT("/!x{aba"), &query, &note) == REMATCH_QUERY);
-    CHECK(!query.held && strcmp(note.bytes, "query: not closed at 3") == 0 && note.length == strlen(note.bytes));
+    CHECK(!query.held && strcmp(note.bytes, "query: not closed at 1") == 0 && note.length == strlen(note.bytes));
     CHECK(rematch_compile(TEXT("/!x{a}/ where iban(x)"), &query, &note) == REMATCH_QUERY);
     CHECK(strcmp(note.bytes, "query: unknown test at 14") == 0);
     CHECK(rematch_compile(TEXT("/(a{1000}){1000}/"), &query, &note) == REMATCH_SIZE && !query.held);
@@ -61,13 +61,13 @@ static void gives_rows(void) {
 static void runs_tests_of_spans(void) {
     rematch_query query = REMATCH_NONE;
     rematch_rows rows = REMATCH_NONE;
-    char document[] = "79927398713 79927398710 AB";
-    compiled(&query, "/(^| )!x{\\d+}( |$)/ where luhn(x)");
+    char document[] = " 79927398713 79927398710 ";
+    compiled(&query, "/ !x{\\d+} / where luhn(x)");
     CHECK(rematch_open(&query, TEXT(document), NULL, &rows, NULL) == REMATCH_DONE);
     memset(document, '0', strlen(document)); /* the rows have a copy of their own */
     uint32_t out[4];
     size_t given;
-    CHECK(rematch_fill(&rows, out, 4, 2, &given) == REMATCH_DONE && given == 1 && out[0] == 0 && out[1] == 11);
+    CHECK(rematch_fill(&rows, out, 4, 2, &given) == REMATCH_DONE && given == 1 && out[0] == 1 && out[1] == 12);
     rematch_close(&rows);
     rematch_close(&query);
 }
@@ -128,10 +128,10 @@ static void refuses_calls(void) {
 static void closes_in_all_orders(void) {
     for (int order = 0; order < 24; order++) {
         struct rematch_slot slots[4] = {REMATCH_NONE, REMATCH_NONE, REMATCH_NONE, REMATCH_NONE};
-        compiled(&slots[0], "/!x{a+}/ where upper(x) union /!x{a}b/");
+        compiled(&slots[0], "/!x{A+}/ union /!x{A}B/ where upper(x)");
         CHECK(rematch_share(&slots[0], &slots[1]) == REMATCH_DONE);
-        CHECK(rematch_open(&slots[0], TEXT("ab"), NULL, &slots[2], NULL) == REMATCH_DONE);
-        CHECK(rematch_open(&slots[1], TEXT("abab"), NULL, &slots[3], NULL) == REMATCH_DONE);
+        CHECK(rematch_open(&slots[0], TEXT("AB"), NULL, &slots[2], NULL) == REMATCH_DONE);
+        CHECK(rematch_open(&slots[1], TEXT("ABAB"), NULL, &slots[3], NULL) == REMATCH_DONE);
         int left[4] = {0, 1, 2, 3};
         for (int size = 4, rest = order; size > 0; size--) {
             int at = rest % size;

@@ -59,7 +59,9 @@ static bool run(const char *text, const char *document, bool filter, size_t expe
     return ended;
 }
 
-int main(void) {
+/* With a word, as under valgrind, ever fewer of the later ones are refused. */
+int main(int words, char **word) {
+    (void)word;
     static const struct {
         const char *text, *document;
         bool filter;
@@ -70,7 +72,7 @@ int main(void) {
         {"/!x{\\p{L}+}/u", "\xc3\xa9t\xc3\xa9", false, 6},
         {"let w = /[^a-z]!x{[a-z]+}[^a-z]/; w join /!x{.*}/ minus /!x{the}/", " the tide ", false, 1},
     };
-    long all = 0;
+    long wanted = 0;
     counts = true;
     for (size_t k = 0; k < sizeof runs / sizeof *runs; k++) {
         size_t expected = runs[k].expected;
@@ -88,15 +90,16 @@ int main(void) {
         bool ended;
         do {
             made = 0;
-            refused_at++;
+            refused_at += words == 1 ? 1 : 1 + refused_at / 8;
             ended = run(runs[k].text, runs[k].document, runs[k].filter, expected);
             CHECK(live == 0);
-            CHECK(ended == (made < refused_at));
-        } while (!ended);
+            CHECK(ended || made >= refused_at);
+            wanted += !ended;
+        } while (made >= refused_at);
         CHECK(refused_at > 10);
-        all += refused_at - 1;
     }
     counts = false;
-    printf("%ld refused\n", all);
+    CHECK(wanted > 100); /* a block that is not made smaller, for want of memory, ends no call */
+    printf("%ld calls were refused\n", wanted);
     return 0;
 }

@@ -3,17 +3,17 @@
 A fit that covers no separator lies in one text. So the texts are joined by a byte that no formula of the query reads, an
 anchor is a separator before or behind a formula, and a row belongs to the text in which its spans lie. Where there is no such
 byte, where the parts of a join share no variable, and of rows without spans, each text has a session of its own, and what no
-session takes has a run. With the library in this process each text is asked of it.
+session takes has a run. With the library in this process it is asked in their place, of a few texts of each by itself.
 """
 from __future__ import annotations
 
 import re
-from itertools import repeat
+from itertools import chain, islice, repeat
 from typing import TYPE_CHECKING, Any, FrozenSet, Iterable, Iterator, List, Optional, Tuple, Union
 
 from ._reach import NoReach, _byte, reach_of_printed
 from .documents import Document
-from .faults import DocumentError, OutOfMemory, QueryError, RematchError, SizeError
+from .faults import DocumentError, OutOfMemory, ProgramNotFound, QueryError, RematchError, SizeError
 from .formula import Atom, Part, parts_of
 from .match import Match, Matches
 
@@ -22,7 +22,7 @@ if TYPE_CHECKING:
     from .query import Query
     from .session import Served, Server
 
-__all__ = ['Mapped', 'bytes_read', 'each_within']
+__all__ = ['Mapped', 'bytes_read', 'mapped']
 
 Text = Union[str, bytes]
 
@@ -241,7 +241,8 @@ class Mapped:
     def _apart(self, text: Text, is_only: bool = False) -> Matches[Any]:
         from .session import Server
         try:
-            if is_only or self.query._words or len(text) > _LONG:  # a session takes no such words, and is for short texts
+            # a session takes no such words, and is for short texts
+            if is_only or self.query._words or len(text) > _LONG or self.query._inside is not None:
                 return self.query.findall(_document(text, _encoded(text)))
             if self._server is None:
                 self._server = Server(self.query.program)
@@ -253,8 +254,26 @@ class Mapped:
             return self.query.findall(_document(text, _encoded(text)))
 
 
-def each_within(query: 'Query', inside: 'Compiled', texts: Iterable[Text]) -> Iterator[Matches[Any]]:
-    """The rows of each text, in order, by the library in this process."""
+def mapped(query: 'Query', inside: Optional['Compiled'], texts: Iterable[Text]) -> Iterator[Matches[Any]]:
+    """The rows of each text, in order."""
+    return Mapped(query).rows(texts) if inside is None else _within(query, inside, texts)
+
+
+def _within(query: 'Query', inside: 'Compiled', texts: Iterable[Text]) -> Iterator[Matches[Any]]:
+    """The rows of each text by the library in this process: of many texts together, where the program is there to print the query."""
+    given = iter(texts)
+    first = list(islice(given, _LEAST))
+    found: Optional[Mapped] = None
+    if len(first) == _LEAST:
+        try:
+            found = Mapped(query)
+        except ProgramNotFound:
+            pass
+    given = chain(first, given)
+    yield from _each_within(query, inside, given) if found is None else found.rows(given)
+
+
+def _each_within(query: 'Query', inside: 'Compiled', texts: Iterable[Text]) -> Iterator[Matches[Any]]:
     rows = inside.empty()
     for number, text in enumerate(texts):
         if not isinstance(text, (str, bytes)):

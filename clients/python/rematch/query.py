@@ -328,11 +328,8 @@ class Query(Variables):
         >>> [[match['x'] for match in found] for found in Query('/^!x{[a-z]+}=/').map(['one=1', 'two', 'three=3'])]
         [['one'], [], ['three']]
         """
-        if self._inside is not None:
-            from .many import each_within
-            return each_within(self, self._inside, texts)
-        from .many import Mapped
-        return Mapped(self).rows(texts)
+        from .many import mapped
+        return mapped(self, self._inside, texts)
 
     def follow(self, source: 'Union[str, os.PathLike[str], IO[bytes]]', *, from_end: bool = False, wait: float = 0.2,
                quiet: Optional[float] = None, until: Optional[Callable[[], bool]] = None) -> Iterator[Match[bytes]]:

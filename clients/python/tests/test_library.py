@@ -78,7 +78,12 @@ class Same(unittest.TestCase):
         for text in ('/(/', '/!x{a}!x{b}/', 'a', b'/\xff/u', '/!x{a}/ where iban(x)', '/a{1000}{1000}/', '/!x{a}/ minus /!y{a}/'):
             self.ask(text, b'a')
         self.assertEqual(self.ask('/!x{(a|b)*}/', b'abab', max_table=1)[1], 'size: table past 1')
-        self.assertIn('size: ', self.ask('/(' + 'a{100}' * 40 + '){100}/', b'a')[1])
+
+    def test_a_query_that_is_too_large(self):
+        query = rematch.Query('/(' + 'a{100}' * 40 + '){100}/')
+        self.assertIsNone(query._inside)
+        with self.assertRaisesRegex(rematch.SizeError, 'size: more than 20000 states'):
+            query.count(b'a')
 
     def test_documents_that_are_too_long(self):
         with self.assertRaises(rematch.DocumentError) as caught:
