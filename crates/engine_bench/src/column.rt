@@ -66,7 +66,7 @@ fn make_lines(alloc: Global, lines: usize) -> Option<Vec<u8>> {
 /// A digit that is drawn in the place of a digit; another byte as it is.
 fn drawn_byte(byte: u8, drawn: u32) -> u8 {
     if byte.is_ascii_digit() {
-        b'0' + (drawn >> 16) as u8 % 10
+        b'0' + ((drawn >> 16) % 10) as u8
     } else {
         byte
     }
@@ -98,11 +98,21 @@ fn open_kept<L: Ledger>(alloc: Global, blank: Blank, document: &[u8]) -> Option<
 {
     let mut steps = Steps::<L>::new(blank);
     let query = prepare(alloc)?;
+    open_lines(alloc, &query, document, &mut steps)
+}
+
+/// As `open_kept`, by a query that was prepared.
+fn open_lines<L: Ledger>(
+    alloc: Global,
+    query: &Prepared<ProgramJudge>,
+    document: &[u8],
+    steps: &mut Steps<L>,
+) -> Option<u64> {
     let mut cache = Cache::new(alloc, OPTIONS.limit);
     let mut opened: u64 = 0;
     for line in document.chunks(LINE.len()) {
         if line.len() <= LINE.len() {
-            open_line(&query, &mut cache, line, &mut steps)?;
+            open_line(query, &mut cache, line, steps)?;
             opened = opened.wrapping_add(1);
         }
     }

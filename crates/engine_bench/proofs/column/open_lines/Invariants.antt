@@ -1,5 +1,5 @@
 use Rattle.spanner_engine.specs.Caching.{IsCacheOf}
-use Rattle.engine_bench.proofs.column.open_kept.Given as goal
+use Rattle.engine_bench.proofs.column.open_lines.Given as goal
 
 -- the cache belongs to the query
 abbrev pub invariant-loop-line : goal.invariant-loop-line
