@@ -24,7 +24,7 @@ def line_of(fault: Exception) -> str:
 
 def run_told(run: Callable[[], None]) -> int:
     """Runs, and gives the exit status: the program's own for its faults, 0 where the reader of the output has left."""
-    library.allowed = False  # so that Ctrl-C ends what is asked
+    before, library.allowed = library.allowed, False  # so that Ctrl-C ends what is asked
     try:
         run()
         sys.stdout.flush()
@@ -45,6 +45,8 @@ def run_told(run: Callable[[], None]) -> int:
             return 5
         _drop_output()
         return 8
+    finally:
+        library.allowed = before
     return 0
 
 
