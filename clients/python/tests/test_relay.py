@@ -101,7 +101,7 @@ class Real(Folder):
 
     def test_a_request_that_takes_too_long(self):
         shown = relay.Relay(PROGRAM, seconds=0.5)
-        heavy = json.dumps({'op': 'open', 'id': 4, 'query': '/!a{x*}!b{x*}!c{x*}!d{x*}(.|\\n)*e/', 'doc': 'x' * 200_000}).encode()
+        heavy = json.dumps({'op': 'open', 'id': 4, 'query': '/!x{a*}/ where upper(x)', 'doc': 'a' * 500_000}).encode()
         reply = json.loads(shown.reply(heavy))
         if 'error' not in reply:  # which takes no time here; its rows do
             reply = json.loads(shown.reply(b'{"op":"next","id":4,"n":1000}'))
