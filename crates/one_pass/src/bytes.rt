@@ -84,10 +84,14 @@ impl Pass {
         }
         let byte = bytes[glided.bytes];
         match self.read_byte(table, glided.layer, glided.entry, byte, steps) {
-            Ok(next) => Ok(Place {
-                layer: next,
-                bytes: glided.bytes + 1,
-            }),
+            Ok(next) => {
+                let far = self.search.far;
+                self.search.quiet = quiet_at(Some(glided.layer), next, far, glided.quiet);
+                Ok(Place {
+                    layer: next,
+                    bytes: glided.bytes + 1,
+                })
+            }
             Err(fault) => Err(fault),
         }
     }

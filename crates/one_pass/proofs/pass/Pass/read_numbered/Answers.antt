@@ -37,7 +37,10 @@ returns-in-Ok-clause-read g c =
     let way = c.glide-glided.ensures.read c.args.steps.now in
     let past = searched (Some glided.layer) (moved glided.bytes p) search refl way.advanced in
     let within : glided.bytes < length c.args.bytes.now = omega (arith, c.glide-glided.ensures.within) in
-    record { advanced = advanced_more past within c.in-Ok.ensures.read c.in-Ok.ensures.at; stands = c.in-Ok.ensures.stands; within = omega (arith, within) }
+    let now = c.read_byte.new.self in
+    let then : Search = record { skipper = now.search.skipper; ahead = now.search.ahead; quiet = c.quiet_at-self.result; far = now.search.far } in
+    let more = advanced_more past within c.in-Ok.ensures.read c.in-Ok.ensures.at in
+    record { advanced = searched c.in-Ok.next now then refl more; stands = c.in-Ok.ensures.stands; within = omega (arith, within) }
 
 pub returns-in-Err-clause-given_up : goal.returns-in-Err-clause-given_up
 returns-in-Err-clause-given_up g c =
