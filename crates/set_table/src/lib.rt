@@ -20,3 +20,4 @@ mod state;
 mod staying;
 mod store;
 mod table;
+mod way_runs;
