@@ -1,14 +1,12 @@
 //! Programs in lists that they share.
 //!
 //! A program that stands alone has lists of its own, each somewhere else in memory. Here they lie one behind another, so
-//! that running one reads few places. Of a plan they have the code and the targets, which is all that a run reads.
+//! that running one reads few places; and of the edges, which no run reads, nothing is kept.
 ghost use Rattle.std.specs.Prelude.{◌≡◌, ◌<◌, ◌≤◌, ◌++◌, ◌∷◌, [], List, length, IfOk, OnErr, OnOk};
-ghost use Rattle.output_graph.specs.Codes.{IsCode};
 ghost use Rattle.output_graph.specs.Plans.{IsPlan};
 ghost use Rattle.output_graph.specs.Pools.{AreOfPlan, ArePooled, HasPiece, meaning_of, program_at, programs_in};
 
-use crate::code::{Instruction, code_of};
-use crate::program::{Plan, Program, small};
+use crate::program::{Action, Plan, Program, Register, small};
 use crate::running::PlanLists;
 use span_core::OutOfMemory;
 use std::alloc::Global;
@@ -26,23 +24,25 @@ pub(crate) struct Piece {
 #[derive(Drop)]
 pub(crate) struct Part {
     pub(crate) plan: Snapshot<Plan>,
-    pub(crate) code: Piece,
+    pub(crate) actions: Piece,
     pub(crate) targets: Piece,
+    pub(crate) held: Piece,
     pub(crate) sources: u32,
+    pub(crate) in_place: bool,
 }
 
 /// The lists of all programs, one behind another.
 #[derive(Drop)]
 pub(crate) struct Pool {
-    pub(crate) code: Vec<Instruction>,
+    pub(crate) actions: Vec<Action>,
     pub(crate) targets: Vec<u32>,
+    pub(crate) held: Vec<Register>,
     pub(crate) parts: Vec<Part>,
 }
 
 /// Programs, one behind another in lists that they share.
 #[derive(Drop)]
 pub struct Programs {
-    alloc: Global,
     pool: Pool,
 }
 
@@ -64,10 +64,10 @@ impl Programs {
         ensures { result ≡ [] }
     {
         Programs {
-            alloc,
             pool: Pool {
-                code: Vec::new(alloc),
+                actions: Vec::new(alloc),
                 targets: Vec::new(alloc),
+                held: Vec::new(alloc),
                 parts: Vec::new(alloc),
             },
         }
@@ -80,14 +80,13 @@ impl Programs {
         self.pool.parts.len()
     }
 
-    /// Adds a program, the last, and returns its number. It is refused for want of memory, or where no code of it is found.
+    /// Adds a program, the last, and tells its number.
     pub fn add(&mut self, program: &Program) -> Result<usize, OutOfMemory>
         ensures number { IfOk result (λ k. k ≡ length self.old) }
         ensures added { OnOk result (self.new ≡ self.old ++ program.now ∷ []) }
         ensures refused { OnErr result (self.new ≡ self.old) }
     {
-        let code = code_of(self.alloc, &program.plan)?;
-        add_plan(&mut self.pool, &program.plan, &code)
+        add_plan(&mut self.pool, &program.plan)
     }
 
     /// The sets of the next layer of program `k`, in their order.
@@ -120,9 +119,11 @@ fn lists_at(pool: &Pool, k: usize) -> PlanLists<'_>
     let part = &pool.parts[k];
     PlanLists {
         plan: &part.plan,
-        code: piece_of(pool.code.as_slice(), part.code),
+        actions: piece_of(pool.actions.as_slice(), part.actions),
         targets: piece_of(pool.targets.as_slice(), part.targets),
+        held: piece_of(pool.held.as_slice(), part.held),
         sources: part.sources as usize,
+        in_place: part.in_place,
     }
 }
 
@@ -134,25 +135,27 @@ fn piece_of<T>(list: &[T], piece: Piece) -> &[T]
     &list[piece.from as usize..piece.to as usize]
 }
 
-/// Adds the lists of a plan and its code, the last. If memory runs out, what was added of them is named by no part.
-fn add_plan(pool: &mut Pool, plan: &Plan, code: &[Instruction]) -> Result<usize, OutOfMemory>
+/// Adds the lists of a plan, the last. If memory runs out, what was added of them is named by no part.
+fn add_plan(pool: &mut Pool, plan: &Plan) -> Result<usize, OutOfMemory>
     requires pooled { ArePooled pool.old }
     requires plan { IsPlan plan.now }
-    requires code { IsCode plan.now code.now }
     ensures pooled { ArePooled pool.new }
     ensures number { IfOk result (λ k. k ≡ length pool.old.parts.items) }
     ensures added { OnOk result (programs_in pool.new.parts.items ≡ programs_in pool.old.parts.items ++ meaning_of plan.now ∷ []) }
     ensures refused { OnErr result (pool.new.parts.items ≡ pool.old.parts.items) }
 {
-    let code = append(&mut pool.code, code)?;
+    let actions = append(&mut pool.actions, plan.actions.as_slice())?;
     let targets = append(&mut pool.targets, plan.targets.as_slice())?;
+    let held = append(&mut pool.held, plan.held.as_slice())?;
     let sources = small(plan.counts.len())?;
     let number = pool.parts.len();
     pool.parts.push(Part {
         plan: Snapshot::of(plan),
-        code,
+        actions,
         targets,
+        held,
         sources,
+        in_place: plan.in_place,
     })?;
     Ok(number)
 }

@@ -8,7 +8,6 @@ pub mod CappedLaws
 pub mod CountLaws
 pub mod DraftRows
 mod EitherLaws
-pub mod EndLaws
 pub mod FineLaws
 pub mod FormulaShows
 pub mod FrontParts
@@ -37,4 +36,3 @@ pub mod Shows
 pub mod Unmarked
 pub mod Walks
 pub mod WholeLaws
-mod WithoutLaws

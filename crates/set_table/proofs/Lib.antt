@@ -7,7 +7,6 @@ pub mod NamingLaws
 pub mod AddsLaws
 pub mod HeldLaws
 pub mod StayingLaws
-pub mod WayRunLaws
 pub mod StayLaws
 pub mod SpreadLaws
 pub mod OnceLaws

@@ -20,4 +20,3 @@ mod state;
 mod staying;
 mod store;
 mod table;
-mod way_runs;

@@ -8,11 +8,9 @@ ghost use Rattle.span_core.specs.Lists.{Has, IsInOrder};
 ghost use Rattle.marked_automaton.specs.Automaton.{AreGrouped};
 ghost use Rattle.automaton_reading.specs.Reading.{is_among, set_of, ways_taken};
 ghost use Rattle.set_table.specs.Cut.{code_of, codes_among, codes_at, codes_on, marks_among};
-ghost use Rattle.set_table.specs.Runs.{AreIndexed, AreRuns};
 
-use crate::way_runs::{FEW_WAYS, WayRuns, first_run};
 use marked_automaton::{Automaton, Stop, Way};
-use span_core::{ByteSet, OutOfMemory};
+use span_core::OutOfMemory;
 use std::alloc::Global;
 
 /// The set of these states.
@@ -40,19 +38,16 @@ fn copy_of(alloc: Global, states: &[u32]) -> Result<Vec<u32>, OutOfMemory>
 /// each once. They take the place of what `codes` had.
 pub(crate) fn put_codes(
     codes: &mut Vec<u128>,
-    runs: &mut WayRuns,
     automaton: &Automaton,
     members: &[u32],
     byte: u8,
 ) -> Result<(), OutOfMemory>
-    requires order { IsInOrder ◌<◌ members.now }
-    requires indexed { AreIndexed automaton.now.graph.ways runs.old }
-    ensures codes { OnOk result (codes.new.items ≡ set_of (map code_of (ways_taken automaton.now.graph members.now byte))) }
-    ensures indexed { AreIndexed automaton.now.graph.ways runs.new }
+    requires { IsInOrder ◌<◌ members.now }
+    ensures { OnOk result (codes.new.items ≡ set_of (map code_of (ways_taken automaton.now.graph members.now byte))) }
 {
     codes.clear();
     if automaton.is_grouped() {
-        put_rows(codes, runs, automaton, members, byte)?;
+        put_rows(codes, automaton, members, byte)?;
     } else {
         put_among(codes, automaton.ways(), members, byte)?;
     }
@@ -118,64 +113,15 @@ fn put_row(codes: &mut Vec<u128>, ways: &[Way], byte: u8) -> Result<(), OutOfMem
 /// Appends the ways of the members that take the byte, where the ways stand in the order of states.
 fn put_rows(
     codes: &mut Vec<u128>,
-    runs: &mut WayRuns,
     automaton: &Automaton,
     members: &[u32],
     byte: u8,
 ) -> Result<(), OutOfMemory>
-    requires grouped { AreGrouped automaton.now.graph.ways }
-    requires indexed { AreIndexed automaton.now.graph.ways runs.old }
-    ensures codes { OnOk result (codes.new.items ≡ codes.old.items ++ flat_map (codes_at automaton.now.graph.ways byte) members.now) }
-    ensures indexed { AreIndexed automaton.now.graph.ways runs.new }
+    requires { AreGrouped automaton.now.graph.ways }
+    ensures { OnOk result (codes.new.items ≡ codes.old.items ++ flat_map (codes_at automaton.now.graph.ways byte) members.now) }
 {
     for state in members {
-        put_state(codes, runs, automaton, *state, byte)?;
-    }
-    Ok(())
-}
-
-/// Appends the ways of a state that take the byte, where the ways stand in the order of states. Of many ways only those runs
-/// are read of which some way takes it.
-fn put_state(
-    codes: &mut Vec<u128>,
-    runs: &mut WayRuns,
-    automaton: &Automaton,
-    state: u32,
-    byte: u8,
-) -> Result<(), OutOfMemory>
-    requires grouped { AreGrouped automaton.now.graph.ways }
-    requires indexed { AreIndexed automaton.now.graph.ways runs.old }
-    ensures codes { OnOk result (codes.new.items ≡ codes.old.items ++ codes_at automaton.now.graph.ways byte state) }
-    ensures indexed { AreIndexed automaton.now.graph.ways runs.new }
-{
-    let ways = automaton.ways_from(state);
-    if ways.len() <= FEW_WAYS {
-        return put_row(codes, ways, byte);
-    }
-    runs.lay(automaton, state);
-    match runs.of(state) {
-        Some(runs) => put_runs(codes, ways, runs, byte),
-        None => put_row(codes, ways, byte),
-    }
-}
-
-/// Appends the ways that take the byte, by their runs.
-fn put_runs(
-    codes: &mut Vec<u128>,
-    ways: &[Way],
-    runs: &[ByteSet],
-    byte: u8,
-) -> Result<(), OutOfMemory>
-    requires { AreRuns ways.now runs.now }
-    ensures { OnOk result (codes.new.items ≡ codes.old.items ++ codes_on byte ways.now) }
-{
-    let mut rest = ways;
-    for bytes in runs {
-        let (run, behind) = first_run(rest);
-        if bytes.contains(byte) {
-            put_row(codes, run, byte)?;
-        }
-        rest = behind;
+        put_row(codes, automaton.ways_from(*state), byte)?;
     }
     Ok(())
 }

@@ -6,14 +6,14 @@ use Rattle.set_table.proofs.Gathered.{by_members}
 use Rattle.set_table.proofs.reaching.put_codes.Goals.{then-is_grouped+in_ok-put_rows, else-is_grouped+in_ok-put_among}
 use Rattle.set_table.proofs.reaching.put_codes.Goals as goal
 
-pub returns-clause-codes : goal.returns-clause-codes
-returns-clause-codes c =
+pub returns : goal.returns
+returns c =
     let A = c.args.automaton.now.graph in
     let members = c.args.members.now in
     let b = c.args.byte in
     let gathered : set_of c.if-is_grouped.codes.items ≡ set_of (map code_of (ways_taken A members b)) = elim c.if-is_grouped.branch [
       | then-is_grouped+in_ok-put_rows w ↦
-          let e : c.if-is_grouped.codes.items ≡ flat_map (codes_at A.ways b) members = (λ i. (w.codes-is i).items) ∙ (w.in_ok-put_rows.ensures.codes ∙ (λ i. c.clear.ensures.items i ++ flat_map (codes_at A.ways b) members)) in
+          let e : c.if-is_grouped.codes.items ≡ flat_map (codes_at A.ways b) members = (λ i. (w.codes-is i).items) ∙ (w.in_ok-put_rows.ensures ∙ (λ i. c.clear.ensures.items i ++ flat_map (codes_at A.ways b) members)) in
           ap set_of e ∙ by_members A members b
       | else-is_grouped+in_ok-put_among w ↦
           let e : c.if-is_grouped.codes.items ≡ codes_among members b A.ways = (λ i. (w.codes-is i).items) ∙ (w.in_ok-put_among.ensures ∙ (λ i. c.clear.ensures.items i ++ codes_among members b (w.ways.ensures i))) in
