@@ -1,3 +1,2 @@
 pub mod Fixed
-pub mod ResultLaws
 pub mod Utf8

@@ -9,7 +9,7 @@ ghost use Rattle.std.specs.Prelude.{◌≡◌, ℕ, ◌<◌, ◌≤◌, ◌↔�
 ghost use Rattle.std.specs.FinSet as bytes;
 ghost use Rattle.span_core.specs.Lists.{Has};
 ghost use Rattle.output_graph.specs.Graph.{Source, sources};
-ghost use Rattle.numbered_lists.specs.Numbered.{set_at};
+ghost use Rattle.set_table.specs.Tabled.{set_at};
 ghost use Rattle.one_pass.specs.Ahead.{HasAdded, KnowsWaiting, LeaveBy};
 ghost use Rattle.one_pass.specs.Passes.{AllLeadBack, AreGiven};
 ghost use Rattle.one_pass.specs.Seen.{whole};

@@ -16,10 +16,11 @@ ghost use Rattle.output_graph.specs.Programs.{IsRun};
 
 use crate::edges::{ACCEPTED, make_edges, make_ends};
 use crate::layer::Layer;
+use crate::program::Program;
 use crate::programs::Programs;
 use crate::registers::Registers;
 use crate::row_lists::RowLists;
-use crate::running::{PlanLists, run_plan};
+use crate::running::{PlanLists, lists_of, run_plan};
 use crate::turning::turn_cells;
 use node_arena::Arena;
 use span_core::{Edge, Marks, OutOfMemory, Steps};
@@ -193,9 +194,29 @@ impl OutputGraph {
         Ok(())
     }
 
-    /// Leads the words of every source of the layer on by program `k` of a pool, all at this position, and goes to the next
-    /// layer, as `step_source` does for one source after another and `next_layer` behind them. After a refusal the graph is
-    /// as it was. At most 2 steps for each edge, 2 for each source, and 1 for each cell that is given back.
+    /// Leads the words of every source of the layer on by a program, all at this position, and goes to the next layer, as
+    /// `step_source` does for one source after another and `next_layer` behind them. After a refusal the graph is as
+    /// it was. At most 2 steps for each edge, 2 for each source, and 1 for each cell that is given back.
+    pub fn step_layer<L: Ledger>(
+        &mut self,
+        at: u32,
+        program: &Program,
+        steps: &mut Steps<L>,
+    ) -> Result<(), OutOfMemory>
+        requires begun { self.old.stepped ≡ 0 }
+        requires every { length program.now.groups ≡ length self.old.layer }
+        requires place { IsPlace self.old at }
+        ensures run { OnOk result (IsRun self.old at program.now.groups self.new steps.old steps.new) }
+        ensures targets { OnOk result (sets_of self.new.layer ≡ program.now.targets) }
+        ensures counted { OnOk result (steps.old + length program.now.groups ≤ steps.new) }
+        ensures refused { OnErr result (self.new ≡ self.old) }
+        ensures uncounted { OnErr result (steps.new ≡ steps.old) }
+    {
+        let same = Snapshot::of(&program.plan);
+        self.run_lists(at, lists_of(&program.plan, &same), steps)
+    }
+
+    /// As `step_layer`, by program `k` of those in a pool.
     pub fn run_program<L: Ledger>(
         &mut self,
         at: u32,
@@ -216,7 +237,7 @@ impl OutputGraph {
         self.run_lists(at, programs.lists(k), steps)
     }
 
-    /// As `run_program`, by the lists of a plan.
+    /// As `step_layer`, by the lists of a plan.
     fn run_lists<L: Ledger>(
         &mut self,
         at: u32,

@@ -89,6 +89,14 @@ impl Programs {
         add_plan(&mut self.pool, &program.plan)
     }
 
+    /// The sets of the next layer of program `k`, in their order.
+    pub fn targets(&self, k: usize) -> &[u32]
+        requires { k < length self.now }
+        ensures { result.now ≡ (program_at self.now k).targets }
+    {
+        self.lists(k).targets
+    }
+
     /// What running program `k` reads.
     pub(crate) fn lists(&self, k: usize) -> PlanLists<'_>
         requires { k < length self.now }

@@ -25,6 +25,22 @@ pub(crate) struct PlanLists<'a> {
     pub(crate) in_place: bool,
 }
 
+/// The lists of a plan.
+pub(crate) fn lists_of<'a>(plan: &'a Plan, same: &'a Snapshot<Plan>) -> PlanLists<'a>
+    requires { same.now.value ≡ plan.now }
+    ensures lists { AreOfPlan result }
+    ensures plan { result.plan.now.value ≡ plan.now }
+{
+    PlanLists {
+        plan: same,
+        actions: plan.actions.as_slice(),
+        targets: plan.targets.as_slice(),
+        held: plan.held.as_slice(),
+        sources: plan.counts.len(),
+        in_place: plan.in_place,
+    }
+}
+
 /// Does all actions of a plan, in their order, and counts a step for each source. `was` stands for the position of the
 /// layer before, which only the clauses read.
 pub(crate) fn run_plan<L: Ledger>(

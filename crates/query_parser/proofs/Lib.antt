@@ -32,4 +32,3 @@ pub mod TestedReading
 pub mod TestedFaults
 pub mod TestedCode
 pub mod EachTestedText
-pub mod BindLaws

@@ -3,8 +3,7 @@ use Rattle.std.specs.Prelude.{◌≡◌, ◌↔◌, ◌<◌, ◌⊎◌, ℕ, Lis
 use Rattle.spanner_model.specs.Expression.{QueryTree}
 use Rattle.query_parser.specs.declared.fault.QueryFault.{QueryFault}
 use Rattle.query_parser.specs.Faults.{HasFault, IsQueryText}
-use Rattle.query_parser.specs.Tested.{HasNoTests, IsTestedText, HasTestedFault}
-use Rattle.spanner_model.specs.Tested.{TestedTree}
+use Rattle.query_parser.specs.Tested.{TestedTree, HasNoTests, IsTestedText, HasTestedFault}
 
 -- a query without tests
 abbrev pub plain : QueryTree → TestedTree

@@ -2,7 +2,7 @@
 ghost use Rattle.std.specs.Prelude.{◌≡◌, ◌*◌, ◌^◌, ◌≤◌, ◌<◌, [], length, None, IfOk, IfErr, OnOk, codes};
 ghost use Rattle.spanner_engine.specs.Begun.{IsBeginFault};
 ghost use Rattle.spanner_engine.specs.Left.{AreLeft};
-ghost use Rattle.known_tests.specs.Relations.{relation};
+ghost use Rattle.main_tests.specs.Relations.{relation};
 ghost use Rattle.spanner_library.specs.Library.{Given, checks_by, tree};
 ghost use Rattle.rematch_c.specs.Refusals.{IsHeavyRefusal, IsLongRefusal, IsReadRefusal};
 ghost use Rattle.rematch_c.specs.Rows.{AreRowsOf, rows_within};

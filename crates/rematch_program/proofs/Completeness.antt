@@ -15,8 +15,8 @@ use Rattle.spanner_model.specs.Answers.{SpanRow, AreResultNames}
 use Rattle.spanner_model.proofs.NameLaws.{same_names}
 use Rattle.marked_automaton.specs.declared.fault.SizeFault.TheVariants.{States, Ways}
 use Rattle.query_automaton.specs.Parts.{HasLargePart}
-use Rattle.spanner_model.specs.Tested.{TestedTree}
-use Rattle.spanner_engine.specs.Touching.{HasMinus}
+use Rattle.query_parser.specs.Tested.{TestedTree}
+use Rattle.filter_laws.specs.Touching.{HasMinus}
 use Rattle.row_cursor.specs.CursorTexts.{IsCursorText}
 use Rattle.row_cursor.proofs.Whole.{one_cursor}
 use Rattle.trial_maker.specs.Trial.{trial_text}
@@ -25,10 +25,10 @@ use Rattle.rematch_program.specs.declared.TheConstants.{QUERY_LIMIT, DOCUMENT_LI
 use Rattle.rm_outside.specs.Change.{Change, Adds, Failed}
 use Rattle.rematch_program.specs.Work.{Clock, Work, StandsStill, clock, work}
 use Rattle.spanner_engine.specs.Begun.{AreRead, HasHeavyAtom, row_kept, table_weight}
-use Rattle.spanner_model.specs.Passing.{Check, Known, checks_of}
+use Rattle.spanner_engine.specs.Passing.{Check, Known, checks_of}
 use Rattle.rematch_program.specs.Limits.{PartsAreSmall}
 use Rattle.note_texts.specs.Notes.{line}
-use Rattle.rm_outside.proofs.FaultLaws.{rose_from}
+use Rattle.session_server.proofs.Lines.{rose_from}
 use Rattle.rematch_program.specs.Pages.{IsAfter, CursorFits, page_text, last_note}
 use Rattle.rematch_program.specs.Testing.{AreAllPassing, IsPassingPageOf, TrialKeeps, explain_tested}
 use Rattle.rematch_program.specs.Trials.{trial_summary}

@@ -14,8 +14,7 @@ use Rattle.spanner_model.specs.Captures.{VarName}
 use Rattle.spanner_model.specs.Expression.{QueryTree}
 use Rattle.spanner_model.specs.Answers.{SpanRow, AreResultNames}
 use Rattle.query_parser.specs.declared.fault.QueryFault.{QueryFault}
-use Rattle.query_parser.specs.Tested.{IsTestedText}
-use Rattle.spanner_model.specs.Tested.{TestedTree}
+use Rattle.query_parser.specs.Tested.{TestedTree, IsTestedText}
 use Rattle.row_cursor.specs.CursorTexts.{IsCursorText}
 use Rattle.rematch_program.specs.declared.TheConstants.{QUERY_LIMIT, DOCUMENT_LIMIT}
 use Rattle.marked_automaton.specs.declared.fault.SizeFault.TheVariants.{States, Ways}
@@ -23,14 +22,13 @@ use Rattle.marked_automaton.specs.Automaton.{Marked}
 use Rattle.query_automaton.specs.CompiledQuery.{IsCompiled}
 use Rattle.query_automaton.specs.Parts.{AtomsAreSmall, HasLargePart}
 use Rattle.trial_maker.specs.Trial.{trial_text}
-use Rattle.spanner_engine.specs.Touching.{HasMinus}
+use Rattle.filter_laws.specs.Touching.{HasMinus}
 use Rattle.rm_outside.specs.Change.{Change, IsQuiet, Adds, AddsPart, Failed}
 use Rattle.rematch_program.specs.Work.{Clock, Work, clock, work, StandsStill, DidNothing}
 use Rattle.rematch_program.specs.Testing.{AreAllPassing, IsPassingPageOf, PageKeeps, TrialKeeps, explain_tested}
 use Rattle.spanner_engine.specs.Begun.{AreRead, HasHeavyAtom, IsPast, IsReadWithin, KeepsOther, begin_steps, row_kept, table_weight}
 use Rattle.spanner_engine.specs.Filtering.{AreWithin}
-use Rattle.spanner_model.specs.Passing.{AreKnown, Check, Known, checks_of, known}
-use Rattle.query_parser.specs.Binding.{HasFaultUnder, IsOnlyTested}
+use Rattle.spanner_engine.specs.Passing.{AreKnown, Check, Known, HasFaultUnder, IsOnlyTested, checks_of, known}
 use Rattle.note_texts.specs.Notes.{counted, fault_note, filter_note, line, other_document_note, states_note, table_note, ways_note}
 use Rattle.rematch_program.specs.Steps.{KeepsWithin}
 use Rattle.rematch_program.specs.Trials.{trial_summary}

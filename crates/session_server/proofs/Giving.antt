@@ -1,9 +1,13 @@
 -- The rows that a session gives, one by one.
 use Rattle.std.proofs.Common.{arith, ◌≡◌, ◌≤◌, ◌+◌, ℕ, zero, suc, Bool, true, false, List, [], ◌∷◌, ◌++◌, length, drop, take, map, Option, Some, None, MatchOption, inl, inr, refl, sym, ap, ◌∙◌, subst}
+use Rattle.std.specs.List.{list_all}
 use Rattle.std.specs.Bool.{OnTrue}
+use Rattle.std.specs.Prelude.{filter, if◌then◌else◌}
 use Rattle.serde_json.specs.Data.{Data, Members, member, object}
 use Rattle.serde_json.specs.View.{view}
 use Rattle.serde_json.specs.declared.value.Value.{Value}
+use Rattle.cell_text.specs.Cells.{ends_by}
+use Rattle.span_core.specs.declared.span.Span.{Span}
 use Rattle.span_core.specs.Lists.{Has}
 use Rattle.growing_document.specs.Grown.{AreBytes}
 use Rattle.spanner_model.specs.Captures.{VarName}
@@ -13,7 +17,8 @@ use Rattle.row_writer.specs.JsonLines.{json_cell, json_members}
 use Rattle.spanner_engine.specs.Fitting.{AreLast, FitsRow}
 use Rattle.spanner_model.specs.Answers.{AreResultNames}
 use Rattle.std.specs.Prelude.{◌^◌}
-use Rattle.spanner_model.specs.Tested.{TestedTree, tested_of}
+use Rattle.query_parser.specs.Tested.{TestedTree}
+use Rattle.query_parser.specs.TestedView.{tested_of}
 use Rattle.session_server.specs.declared.session.Session.{Session as CodeSession}
 use Rattle.spanner_engine.specs.Left.{AnswersLeft}
 use Rattle.std.specs.Prelude.{is_some, nat_lt, ◌<◌}
@@ -22,9 +27,8 @@ use Rattle.std.proofs.lemmas.List.{take_all}
 use Rattle.std.proofs.lemmas.Bool.Decides.{nat_tests}
 use Rattle.session_server.specs.Replies.{Session, begun, giving, row_data, to_come}
 use Rattle.session_server.specs.Standing.{GivesOne, GivesSoFar, HasGiven, IsKept, IsReadOn, IsSession, IsSessionOver}
-use Rattle.spanner_model.specs.Passing.{AreKnown, Check, Known, checks_of, passing}
-use Rattle.spanner_engine.specs.Trying.{IsNextPassing}
-use Rattle.spanner_engine.proofs.PassingLaws.{has_passing, last_fit, next_passes}
+use Rattle.spanner_engine.specs.Passing.{AreKnown, Check, IsNextPassing, Known, checks_of, passes, passing}
+use Rattle.spanner_engine.proofs.PassingLaws.{last_fit, next_passes}
 
 -- the JSON object of a row does not look at the document
 pub same_members : (d : List ℕ) (names : List VarName) (row : SpanRow) → json_members d false names row ≡ json_members [] false names row
@@ -40,11 +44,33 @@ has_drop zero rows row h = h
 has_drop (suc n) [] row h = h
 has_drop (suc n) (r ∷ rows) row h = inr (has_drop n rows row h)
 
+pub has_filter : (f : SpanRow → Bool) (rows : List SpanRow) (row : SpanRow) → Has (filter f rows) row → Has rows row
+has_filter f [] row h = h
+has_filter f (r ∷ rows) row h = by (f r) h (has_filter f rows row)
+  where
+    by : (b : Bool) → Has (if b then r ∷ filter f rows else filter f rows) row → (Has (filter f rows) row → Has rows row) → Has (r ∷ rows) row
+    by true (inl e) later = inl e
+    by true (inr h) later = inr (later h)
+    by false h later = inr (later h)
+
+pub has_passing : (checks : List Check) (names : List VarName) (d : List ℕ) (rows : List SpanRow) (row : SpanRow) → Has (passing checks names d rows) row → Has rows row
+has_passing [] names d rows row h = h
+has_passing (c ∷ checks) names d rows row h = has_filter (passes (c ∷ checks) names d) rows row h
+
 pub comes_fits : (q : QueryTree) (d : List ℕ) (names : List VarName) (checks : List Check) (given : ℕ) (all rest : List SpanRow) (row : SpanRow) →
     AreAnswers q d names all → drop given (passing checks names d all) ≡ row ∷ rest → FitsRow (length names) (length d) row
 comes_fits q d names checks given all rest row answers is =
     let there : Has all row = has_passing checks names d all row (has_drop given (passing checks names d all) row (subst (λ (rs : List SpanRow). Has rs row) (sym is) (inl refl))) in
     last_fit q d names all row (record { all = all; answers = answers; front = []; joined = refl }) there
+
+pub all_inside : (n : ℕ) (row : SpanRow) → ((s : Span) → Has row (Some s) → s.end ≤ n) → list_all (ends_by n) row ≡ true
+all_inside n [] h = refl
+all_inside n (None ∷ row) h = all_inside n row (λ s has. h s (inr has))
+all_inside n (Some s ∷ row) h =
+    let le = h s (inl refl) in
+    let here : ends_by n (Some s) ≡ true = grind (arith, le) in
+    let later = all_inside n row (λ t has. h t (inr has)) in
+    simp (here, later) refl
 
 -- ---- the row behind it
 

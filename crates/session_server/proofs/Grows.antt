@@ -8,7 +8,8 @@ use Rattle.span_core.proofs.HasLaws.{Has-append_cases, Has-append_left, Has-appe
 use Rattle.spanner_model.specs.Captures.{VarName}
 use Rattle.spanner_model.specs.Expression.{QueryTree}
 use Rattle.spanner_model.specs.Answers.{AreAnswers, AreResultNames, SpanRow}
-use Rattle.spanner_model.specs.Tested.{TestedTree, tested_of}
+use Rattle.query_parser.specs.Tested.{TestedTree}
+use Rattle.query_parser.specs.TestedView.{tested_of}
 use Rattle.marked_automaton.specs.Automaton.{Automaton, Marked}
 use Rattle.automaton_reading.specs.Reading.{Question, LookUp}
 use Rattle.query_automaton.specs.CompiledQuery.{IsCompiled}
@@ -24,8 +25,7 @@ use Rattle.growing_document.proofs.Lengths.{lengths_law, reduct_weighs}
 use Rattle.spanner_engine.specs.Begun.{counted}
 use Rattle.spanner_engine.specs.Fitting.{AreLast}
 use Rattle.spanner_engine.specs.Left.{AnswersLeft}
-use Rattle.spanner_engine.specs.Trying.{IsNextPassing}
-use Rattle.spanner_model.specs.Passing.{Known, checks_of, passing}
+use Rattle.spanner_engine.specs.Passing.{IsNextPassing, Known, checks_of, passing}
 use Rattle.spanner_engine.proofs.RowLaws.{whole_rows}
 use Rattle.session_server.specs.declared.TheConstants.{MOST_GROWN, SESSION_TABLE}
 use Rattle.session_server.specs.declared.session.Session.{Session as CodeSession}

@@ -8,7 +8,7 @@ use Rattle.std.proofs.lemmas.Option.{slice_get_read}
 use Rattle.serde_json.specs.View.{items_view}
 use Rattle.serde_json.specs.Written.{compact_text, items_have_float}
 use Rattle.serde_json.specs.declared.value.Value.{Value}
-use Rattle.spanner_model.specs.Passing.{Known}
+use Rattle.spanner_engine.specs.Passing.{Known}
 use Rattle.session_server.specs.declared.answering.Opened.{Opened}
 use Rattle.session_server.specs.declared.session.Session.{Session as CodeSession}
 use Rattle.note_texts.specs.Notes.{line, table_note}

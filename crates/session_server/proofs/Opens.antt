@@ -1,6 +1,6 @@
 -- The code's open sessions and those that they stand for.
 use Rattle.std.proofs.Common.{arith, ◌≡◌, ◌≢◌, ◌<◌, ◌≤◌, ◌+◌, ℕ, zero, suc, Bool, true, false, List, [], ◌∷◌, ◌++◌, length, take, get_or, filter, Some, None, refl, sym, ap, ◌∙◌, subst}
-use Rattle.std.specs.Prelude.{not, ◌==◌, if◌then◌else◌, slice_get, string_bytes, String, Vec, Option, is_none, is_some, IfNone, IfSome, Result, Ok, Err, IfOk, codes}
+use Rattle.std.specs.Prelude.{not, ◌==◌, if◌then◌else◌, slice_get, string_bytes, String, Vec, Option, is_none, is_some, IfNone, IfSome, Result, Ok, Err, IfOk, OnErr, codes}
 use Rattle.std.specs.Option.{IsSomeAnd}
 use Rattle.std.specs.declared.alloc.Global.{Global}
 use Rattle.std.specs.Str.{IsUtf8}
@@ -11,7 +11,7 @@ use Rattle.session_server.specs.Asked.{IsNoObject, IsObjectOf}
 use Rattle.session_server.specs.declared.TheConstants.{MOST_SESSIONS}
 use Rattle.session_server.specs.declared.session.Session.{Session as CodeSession}
 use Rattle.std.proofs.lemmas.Bool.Decides.{nat_tests}
-use Rattle.spanner_model.specs.Passing.{Known}
+use Rattle.spanner_engine.specs.Passing.{Known}
 use Rattle.session_server.specs.declared.answering.Opened.{Opened}
 use Rattle.session_server.specs.Replies.{Answers, IsRefused, IsReply, begun, closes, closed, error_of, full, no_request, opened, opens, refused, taken, to_no_request, to_request, wants_memory, Reply, reply_text, Session, Sessions, session_of, with_session, without}
 use Rattle.session_server.specs.declared.session.Refusal.{Refusal}
@@ -66,6 +66,10 @@ filtered k (c ∷ cs) (s ∷ all) id o = both (not (c.id == id)) (not (s.0 == id
 
 pub loses_same : (k : Known) (cs : List Opened) (id : ℕ) → LosesOne k cs cs id
 loses_same k cs id = λ all o. filtered k cs all id o
+
+pub on_err : {T E : Type 0} (r : Result T E) (P : Type 0) → P → OnErr r P
+on_err (Ok x) P p = tt
+on_err (Err e) P p = p
 
 pub none_where : (r : Option ℕ) (P : Type 0) → is_none r ≡ true → IfNone r P → P
 none_where None P e h = h

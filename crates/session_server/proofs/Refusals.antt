@@ -6,14 +6,12 @@ use Rattle.spanner_model.specs.Captures.{VarName}
 use Rattle.spanner_model.specs.Expression.{QueryTree}
 use Rattle.query_parser.specs.declared.fault.QueryFault.{QueryFault}
 use Rattle.query_parser.specs.declared.fault.QueryFault.TheVariants as query
-use Rattle.query_parser.specs.Tested.{HasTestedFault, IsTestedText}
-use Rattle.spanner_model.specs.Tested.{TestedTree}
+use Rattle.query_parser.specs.Tested.{TestedTree, HasTestedFault, IsTestedText}
 use Rattle.query_parser.specs.TestedAnswers.{IsTestedAnswer}
 use Rattle.marked_automaton.specs.declared.fault.SizeFault.{SizeFault}
 use Rattle.marked_automaton.specs.declared.fault.SizeFault.TheVariants as size
 use Rattle.query_automaton.specs.Parts.{AtomsAreSmall, HasLargePart}
-use Rattle.spanner_model.specs.Passing.{Known}
-use Rattle.query_parser.specs.Binding.{FirstUnknown, HasFaultUnder, of_text, unknown_test, IsOnlyTested}
+use Rattle.spanner_engine.specs.Passing.{Known, FirstUnknown, HasFaultUnder, of_text, unknown_test, IsOnlyTested}
 use Rattle.session_server.specs.declared.TheConstants.{SESSION_TABLE}
 use Rattle.session_server.specs.declared.session.Ready.{Ready}
 use Rattle.session_server.specs.declared.session.Refusal.{Refusal}

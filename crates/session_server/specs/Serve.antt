@@ -4,7 +4,7 @@ use Rattle.rm_outside.specs.Change.{Change, Adds, AddsPart, Failed}
 use Rattle.rm_outside.specs.Source.{IsSpent, IsNextLong, TakesLine, TakesLines}
 use Rattle.rm_outside.specs.declared.status.Status.{Status}
 use Rattle.rm_outside.specs.declared.status.Status.TheVariants as status
-use Rattle.spanner_model.specs.Passing.{Known}
+use Rattle.spanner_engine.specs.Passing.{Known}
 use Rattle.session_server.specs.declared.TheConstants.{MOST_LINE_BYTES}
 use Rattle.note_texts.specs.Notes.{counted, line}
 use Rattle.session_server.specs.Replies.{Reply, Sessions, AreReplies, replies_text}

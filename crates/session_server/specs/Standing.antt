@@ -12,12 +12,12 @@ use Rattle.growing_document.specs.Lengths.{IsAskedAt}
 use Rattle.growing_document.specs.declared.fault.GrowFault.{GrowFault}
 use Rattle.growing_document.specs.declared.fault.GrowFault.TheVariants as fault
 use Rattle.spanner_model.specs.Captures.{VarName}
-use Rattle.spanner_model.specs.Tested.{tested_of, TestedTree}
+use Rattle.query_parser.specs.TestedView.{tested_of}
+use Rattle.query_parser.specs.Tested.{TestedTree}
 use Rattle.spanner_engine.specs.Fitting.{AreLast}
-use Rattle.spanner_model.specs.Passing.{Known, AreKnown, checks_of, passing}
-use Rattle.query_parser.specs.Binding.{IsOnlyTested}
+use Rattle.spanner_engine.specs.Passing.{Known, AreKnown, IsOnlyTested, checks_of, passing}
 use Rattle.session_server.specs.declared.session.Session.{Session as CodeSession}
-use Rattle.spanner_model.specs.declared.tested.Tested.{Tested}
+use Rattle.query_parser.specs.declared.asks.Tested.{Tested}
 use Rattle.session_server.specs.declared.session.Start.{Start}
 use Rattle.session_server.specs.declared.session.Refusal.{Refusal}
 use Rattle.session_server.specs.declared.session.Refusal.TheVariants.{Note, OutOfMemory}

@@ -1,7 +1,7 @@
 //! One line, and its reply.
 ghost use Rattle.std.specs.Prelude.{◌≡◌, ◌^◌, ◌≤◌, ◌<◌, ℕ, List, length, string_bytes, IfOk, OnErr, IfSome, IfNone, filter, not, ◌==◌};
 ghost use Rattle.std.specs.Str.{IsUtf8};
-ghost use Rattle.spanner_model.specs.Passing.{Known, known};
+ghost use Rattle.spanner_engine.specs.Passing.{Known, known};
 ghost use Rattle.note_texts.specs.Notes.{table_note};
 ghost use Rattle.session_server.specs.Asked.{request_of};
 ghost use Rattle.session_server.specs.Requests.{close_request, grow_request, next_request, open_request, session_id as id_of};

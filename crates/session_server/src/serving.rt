@@ -2,7 +2,7 @@
 ghost use Rattle.std.specs.Prelude.{◌≡◌, ◌⊎◌, codes};
 ghost use Rattle.note_texts.specs.Notes.{counted, note_bytes};
 ghost use Rattle.rm_outside.specs.Change.{change};
-ghost use Rattle.spanner_model.specs.Passing.{known};
+ghost use Rattle.spanner_engine.specs.Passing.{known};
 ghost use Rattle.session_server.specs.declared.TheConstants.{MOST_LINE_BYTES};
 ghost use Rattle.session_server.specs.Serve.{Is, Serves, ServesAll, ServesLines};
 

@@ -1,5 +1,7 @@
+pub mod Ascending
 pub mod CutLaws
 pub mod Gathered
+pub mod SetsLaws
 pub mod RunLaws
 pub mod NamingLaws
 pub mod AddsLaws

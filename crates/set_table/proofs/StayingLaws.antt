@@ -22,7 +22,7 @@ use Rattle.automaton_reading.proofs.Determined.{among_has, has_among, edge_way, 
 use Rattle.set_table.specs.declared.staying.Leading.{Leading}
 use Rattle.set_table.specs.Staying.{AreGathered, GoesElsewhere, GoesTo, IsInside, LeadsBackOn}
 use Rattle.set_table.specs.Tabled.{StaysOn}
-use Rattle.automaton_reading.proofs.Ascending.{blocks_are, set_is}
+use Rattle.set_table.proofs.Ascending.{blocks_are, set_is}
 
 abbrev pub Sets : Type 0
 Sets = List (bytes.FinSet nat_cmp)

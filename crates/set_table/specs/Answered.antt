@@ -13,8 +13,8 @@ use Rattle.set_table.specs.declared.answer.Answer.{Answer}
 use Rattle.set_table.specs.declared.lists.Added.{Added}
 use Rattle.set_table.specs.declared.lists.Lists.{Lists}
 use Rattle.set_table.specs.declared.store.Store.{Store}
-use Rattle.numbered_lists.specs.Numbered.{IsLongerBy, set_at, with_sets}
-use Rattle.set_table.specs.Tabled.{HasStayed, Tabled, IsStateSet, Stays, StaysOn, edge_named, look_up, look_ups_weight, one_edge, reached, sets_weight}
+use Rattle.set_table.specs.Named.{IsLongerBy}
+use Rattle.set_table.specs.Tabled.{HasStayed, Tabled, IsStateSet, Stays, StaysOn, edge_named, look_up, look_ups_weight, one_edge, reached, set_at, sets_weight, with_sets}
 
 abbrev pub question_of : TableQuestion → Question
 question_of (Byte b) = byte_read b

@@ -2,6 +2,7 @@
 pub mod Tabled
 pub mod Codes
 pub mod Cut
+pub mod Listed
 pub mod Named
 pub mod Answered
 pub mod Laid

@@ -5,6 +5,7 @@
 #![tactic(auto)]
 
 pub use fault::TableFault;
+pub use numbered_lists::NumberedLists;
 pub use state::TableState;
 pub use table::Table;
 
@@ -13,6 +14,7 @@ mod fault;
 mod index;
 mod lists;
 mod naming;
+mod numbered_lists;
 mod reaching;
 mod state;
 mod staying;

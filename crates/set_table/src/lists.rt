@@ -4,9 +4,9 @@ ghost use Rattle.set_table.specs.Answered.{AreLonger, HasAdded, IsReady};
 
 use crate::answer::TableQuestion;
 use crate::naming::{put_edges, put_ends, put_rest};
+use crate::numbered_lists::NumberedLists;
 use crate::reaching::{idle_members, put_codes, put_marks};
 use marked_automaton::Automaton;
-use numbered_lists::NumberedLists;
 use span_core::{Edge, Marks, OutOfMemory};
 use std::alloc::Global;
 

@@ -6,9 +6,9 @@
 ghost use Rattle.std.specs.Prelude.{◌≡◌, ℕ, ◌+◌, ◌*◌, ◌^◌, ◌<◌, ◌≤◌, ◌++◌, ◌∷◌, List, [], length, take, slice_set, slice_index_or, ◌↔◌, ◌⊎◌, IsTrue, OnOk, OnErr, IfOk, IfErr};
 ghost use Rattle.std.specs.FinSet as bytes;
 ghost use Rattle.set_table.specs.Answered.{AreLonger, IsNotAsked, IsNotedIn, IsQuestion, IsSound, question_of, part, place_in, tabled, with_places};
-ghost use Rattle.numbered_lists.specs.Numbered.{IsLongerBy, set_at};
+ghost use Rattle.set_table.specs.Named.{IsLongerBy};
 ghost use Rattle.span_core.specs.Lists.{IsInOrder};
-ghost use Rattle.set_table.specs.Tabled.{IsRefusal, asked_first, look_up, one_edge};
+ghost use Rattle.set_table.specs.Tabled.{IsRefusal, asked_first, look_up, one_edge, set_at};
 
 use crate::TableFault;
 use crate::answer::{Answer, TableQuestion};

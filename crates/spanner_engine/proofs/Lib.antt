@@ -2,8 +2,6 @@ pub mod AtomWalk
 pub mod Costs
 pub mod MinusWalk
 pub mod FromWords
-pub mod OperationsWait
-pub mod QueryWaiting
 pub mod Past
 pub mod ReadAt
 pub mod Results
@@ -12,6 +10,3 @@ pub mod Starting
 pub mod WordLaws
 pub mod PassingLaws
 pub mod CacheLaws
-pub mod Deciding
-pub mod PassDeciding
-pub mod ReadPositions

@@ -1,7 +1,7 @@
 use Rattle.std.proofs.Common.{inl, inr, refl, subst, sym}
 use Rattle.query_parser.specs.declared.fault.QueryFault.{QueryFault}
-use Rattle.spanner_model.specs.Tested.{tested_of}
-use Rattle.spanner_model.specs.Passing.{known}
+use Rattle.query_parser.specs.TestedView.{tested_of}
+use Rattle.spanner_engine.specs.Passing.{known}
 use Rattle.rematch_program.specs.Run.{IsOnlyFault, understood, query_refused, out_of_memory}
 use Rattle.rematch_program.proofs.QueryLaws.{only_tested, only_fault, unknown_fault}
 use Rattle.rematch_program.proofs.top.with_text.Goals as goal

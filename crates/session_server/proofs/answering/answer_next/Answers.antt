@@ -1,11 +1,10 @@
 use Rattle.std.proofs.Common.{rules, List, codes, subst}
-use Rattle.spanner_model.specs.Passing.{known}
+use Rattle.spanner_engine.specs.Passing.{known}
 use Rattle.session_server.specs.declared.answering.Opened.{Opened}
 use Rattle.session_server.specs.Requests.{next_request}
 use Rattle.session_server.specs.Replies.{heavy_next, next_of_none, error_of}
 use Rattle.session_server.specs.Open.{HasNone, IsPlaceOf}
-use Rattle.session_server.proofs.Opens.{loses_same, none_open, replies_same}
-use Rattle.note_texts.proofs.ResultLaws.{on_err}
+use Rattle.session_server.proofs.Opens.{loses_same, none_open, on_err, replies_same}
 use Rattle.session_server.proofs.NextRows.{heavy_closed, rows_heavy, here_at, loses_closed, loses_set, replies_given, stands_at}
 use Rattle.session_server.proofs.answering.answer_next.Goals as goal
 

@@ -1,12 +1,11 @@
 use Rattle.std.proofs.Common.{List, ℕ, sym, subst, ap, ◌∙◌}
-use Rattle.spanner_model.specs.Passing.{known}
+use Rattle.spanner_engine.specs.Passing.{known}
 use Rattle.spanner_model.specs.Captures.{VarName}
 use Rattle.session_server.specs.declared.answering.Opened.{Opened}
 use Rattle.session_server.specs.Requests.{open_request}
 use Rattle.session_server.specs.Open.{LosesOne}
 use Rattle.session_server.specs.Replies.{IsRefused, error_of, opened, reply_text}
-use Rattle.session_server.proofs.Opens.{is_refused, loses_same, replies_opened, replies_same, why_refused}
-use Rattle.note_texts.proofs.ResultLaws.{on_err}
+use Rattle.session_server.proofs.Opens.{is_refused, loses_same, on_err, replies_opened, replies_same, why_refused}
 use Rattle.session_server.proofs.answering.open_new.Goals as goal
 
 pub returns-in-Err-Note-clause-reply : goal.returns-in-Err-Note-clause-reply

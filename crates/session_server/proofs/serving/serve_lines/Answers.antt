@@ -2,12 +2,11 @@ use Rattle.std.proofs.Common.{rules, arith, true, false, ◌≡◌, ◌∙◌, L
 use Rattle.rm_outside.specs.Change.{change}
 use Rattle.rm_outside.specs.declared.status.Status.TheVariants as status
 use Rattle.note_texts.specs.Notes.{counted, line, note_bytes}
-use Rattle.spanner_model.specs.Passing.{known}
+use Rattle.spanner_engine.specs.Passing.{known}
 use Rattle.session_server.specs.declared.TheConstants.{MOST_LINE_BYTES}
 use Rattle.session_server.specs.declared.answering.Opened.{Opened}
 use Rattle.session_server.specs.Replies.{IsReply}
-use Rattle.session_server.proofs.Lines.{ServedSoFar, ended_as, ends_failed, ends_long, ends_many, ends_memory, ends_served, ends_write, is_long, is_spent, is_taken, none_served, one_served}
-use Rattle.rm_outside.proofs.FaultLaws.{rose_from}
+use Rattle.session_server.proofs.Lines.{ServedSoFar, ended_as, ends_failed, ends_long, ends_many, ends_memory, ends_served, ends_write, is_long, is_spent, is_taken, none_served, one_served, rose_from}
 use Rattle.session_server.proofs.serving.serve_lines.Goals as goal
 
 pub loop-line-init : goal.loop-line-init

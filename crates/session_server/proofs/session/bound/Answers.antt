@@ -1,6 +1,6 @@
 use Rattle.std.proofs.Common.{refl}
-use Rattle.spanner_model.specs.Tested.{tested_of}
-use Rattle.spanner_model.specs.Passing.{known}
+use Rattle.query_parser.specs.TestedView.{tested_of}
+use Rattle.spanner_engine.specs.Passing.{known}
 use Rattle.growing_document.proofs.Insides.{fits_bytes}
 use Rattle.session_server.specs.declared.session.Start.{Start}
 use Rattle.session_server.specs.Standing.{session_with}

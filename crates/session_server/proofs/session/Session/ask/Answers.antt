@@ -1,7 +1,7 @@
 use Rattle.std.proofs.Common.{◌∙◌, sym, subst}
 use Rattle.spanner_model.specs.Answers.{AreResultNames}
-use Rattle.spanner_model.specs.Tested.{TestedTree}
-use Rattle.spanner_model.specs.Passing.{AreKnown, known}
+use Rattle.query_parser.specs.Tested.{TestedTree}
+use Rattle.spanner_engine.specs.Passing.{AreKnown, known}
 use Rattle.session_server.proofs.Grows.{few_there, last_there, now_asked, rows_halt}
 use Rattle.session_server.proofs.session.Session.ask.Goals as goal
 

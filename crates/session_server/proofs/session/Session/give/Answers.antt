@@ -2,12 +2,11 @@ use Rattle.std.proofs.Common.{◌≡◌, ◌∙◌, List, ℕ, true, length, sym
 use Rattle.std.specs.List.{list_all}
 use Rattle.spanner_model.specs.Answers.{AreResultNames}
 use Rattle.cell_text.specs.Cells.{ends_by}
-use Rattle.spanner_model.specs.Tested.{TestedTree}
-use Rattle.spanner_model.specs.Passing.{known}
+use Rattle.query_parser.specs.Tested.{TestedTree}
+use Rattle.spanner_engine.specs.Passing.{known}
 use Rattle.session_server.specs.Replies.{Session}
 use Rattle.session_server.specs.Standing.{GivesOne, IsSessionOver}
-use Rattle.session_server.proofs.Giving.{as_stored, give_one, row_fits, same_session, with_left}
-use Rattle.cell_text.proofs.EndLaws.{all_inside}
+use Rattle.session_server.proofs.Giving.{all_inside, as_stored, give_one, row_fits, same_session, with_left}
 use Rattle.session_server.proofs.session.Session.give.Goals as goal
 
 pub json_object-requires-clause-lengths : goal.json_object-requires-clause-lengths

@@ -1,6 +1,6 @@
 use Rattle.std.proofs.Common.{rules, arith, ◌≡◌, ◌∙◌, true, false}
 use Rattle.rm_outside.proofs.InputLaws.{on_false}
-use Rattle.spanner_model.specs.Passing.{known}
+use Rattle.spanner_engine.specs.Passing.{known}
 use Rattle.session_server.specs.Replies.{giving}
 use Rattle.session_server.proofs.Giving.{end_given, full_given, on_true, one_given}
 use Rattle.session_server.proofs.session.Session.next_rows.Goals as goal

@@ -1,6 +1,6 @@
 use Rattle.std.proofs.Common.{◌≡◌, ◌≤◌, ◌-◌, List}
 use Rattle.spanner_model.specs.Answers.{SpanRow}
-use Rattle.spanner_model.specs.Passing.{known}
+use Rattle.spanner_engine.specs.Passing.{known}
 use Rattle.session_server.specs.Replies.{Session}
 use Rattle.session_server.specs.Standing.{GivesSoFar, IsSessionOver}
 use Rattle.session_server.proofs.session.Session.next_rows.Given as goal

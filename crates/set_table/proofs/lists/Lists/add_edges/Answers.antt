@@ -2,7 +2,7 @@ use Rattle.std.proofs.Common.{◌≡◌, ℕ, ◌<◌, ◌≤◌, List, length, 
 use Rattle.span_core.specs.Lists.{IsInOrder}
 use Rattle.automaton_reading.specs.Reading.{set_of, ways_taken}
 use Rattle.set_table.specs.Cut.{code_of, cut}
-use Rattle.numbered_lists.specs.Numbered.{set_at}
+use Rattle.set_table.specs.Tabled.{set_at}
 use Rattle.set_table.proofs.AddsLaws.{adds_edges, codes_few, edges_cut, ready_set}
 use Rattle.set_table.proofs.lists.Lists.add_edges.Goals as goal
 

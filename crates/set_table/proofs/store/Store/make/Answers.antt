@@ -3,7 +3,7 @@ use Rattle.set_table.specs.declared.answer.Answer.{Answer}
 use Rattle.set_table.specs.declared.lists.Lists.{Lists}
 use Rattle.set_table.specs.Answered.{AreStays, look_ups_of, place_in, tabled, with_places}
 use Rattle.set_table.specs.Tabled.{Tabled}
-use Rattle.numbered_lists.specs.Numbered.{IsLongerBy}
+use Rattle.set_table.specs.Named.{IsLongerBy}
 use Rattle.set_table.proofs.StayLaws.{longer_by_none, same_stays, stays_more, still_in_order}
 use Rattle.set_table.proofs.HeldLaws.{few_more, first_is, first_weighs, held_more, held_same}
 use Rattle.set_table.proofs.store.Store.make.Goals as goal

@@ -1,5 +1,0 @@
-//! The worked examples of the engine.
-#![tactic(auto)]
-
-#[cfg(test)]
-mod examples;
