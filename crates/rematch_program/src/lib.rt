@@ -18,7 +18,6 @@ mod explanation;
 mod gather;
 mod laws;
 mod lines;
-mod outcome;
 mod page;
 mod page_writer;
 mod remaining;
