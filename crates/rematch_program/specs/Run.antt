@@ -29,7 +29,6 @@ use Rattle.rematch_program.specs.Testing.{AreAllPassing, IsPassingPageOf, PageKe
 use Rattle.spanner_engine.specs.Begun.{AreRead, HasHeavyAtom, IsPast, IsReadWithin, KeepsOther, begin_steps, row_kept, table_weight}
 use Rattle.spanner_engine.specs.Filtering.{AreWithin}
 use Rattle.spanner_engine.specs.Passing.{AreKnown, Check, Known, HasFaultUnder, IsOnlyTested, checks_of, known}
-use Rattle.note_texts.specs.Outcomes.{Is, IsOutOfMemory, Reports}
 use Rattle.note_texts.specs.Notes.{counted, fault_note, filter_note, line, other_document_note, states_note, table_note, ways_note}
 use Rattle.rematch_program.specs.Steps.{KeepsWithin}
 use Rattle.rematch_program.specs.Trials.{trial_summary}
@@ -85,6 +84,14 @@ pub record IsOnlyFault (k : Known) (text : Text) (fault : QueryFault) : Type 0 w
   pub found : HasFaultUnder k text fault
   pub only : (other : QueryFault) → HasFaultUnder k text other → other ≡ fault
   pub unsound : (t : TestedTree) → IsTestedText text t → ¬ AreKnown k t.asked
+
+-- a status with its note, before the note is written
+pub record Is (end : Status) (note : Text) (wanted : Status) (text : Text) : Type 0 where
+  pub ends : end ≡ wanted
+  pub says : note ≡ line text
+
+abbrev pub IsOutOfMemory : Status → Text → Type 0
+IsOutOfMemory end note = Is end note status.Memory (codes "out of memory")
 
 -- an automaton of the query is too large, or memory is wanting
 pub data IsTooLarge (q : QueryTree) (end : Status) (note : Text) : Type 0 where
@@ -208,6 +215,16 @@ module _ (s : Shelved) (w : Work) (end : Status) (note : Text) where
       accepted : (a : RequestView) → requested words ≡ Some a → FromRequest a → FromWords words
 
 -- ---- the run
+
+-- a page whose note failed is a failed write
+abbrev pub status_without_note : Status → Status
+status_without_note status.Done = status.Write
+status_without_note end = end
+
+-- the note is written, or notes failed and a prefix of it is
+pub data Reports (end : Status) (note : Text) (notes : Change) (result : Status) : Type 0 where
+  whole : result ≡ end → Adds notes note → Reports end note notes result
+  cut : result ≡ status_without_note end → Failed notes → AddsPart notes note → Reports end note notes result
 
 -- a run under the tests that are known
 pub record RunTested (k : Known) (words : List Text) (s : Shelved) (out notes : Change) (steps : Clock) (result : Status) : Type 0 where

@@ -13,7 +13,8 @@ ghost use Rattle.note_texts.specs.Notes.{line, note_bytes};
 ghost use Rattle.rematch_program.specs.Run.{FromPage, IsExplained};
 ghost use Rattle.rematch_program.specs.Testing.{explain_tested};
 
-use note_texts::{FixedNote, Outcome};
+use crate::outcome::Outcome;
+use note_texts::FixedNote;
 use place_automaton::{Counts, count};
 use query_parser::Tested;
 use query_printer::print_tested;

@@ -18,6 +18,7 @@ mod explanation;
 mod gather;
 mod laws;
 mod lines;
+mod outcome;
 mod page;
 mod page_writer;
 mod remaining;

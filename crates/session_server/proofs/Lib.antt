@@ -1,8 +1,6 @@
 mod SessionLaws
 mod Apart
 mod Refusals
-mod RowTexts
-mod GivenText
 pub mod Giving
 mod Replied
 pub mod Opens

@@ -19,8 +19,7 @@ use Rattle.session_server.specs.declared.TheConstants.{MOST_LINE_BYTES}
 use Rattle.session_server.specs.declared.answering.Opened.{Opened}
 use Rattle.session_server.specs.Open.{AreOpen}
 use Rattle.session_server.specs.Replies.{AreReplies, IsReply, Reply, Sessions, first_line, no_line, replies_text, reply_text}
-use Rattle.session_server.specs.Serve.{AreShort, IsServed, Served, Serves, ServesAll, ServesLines, all_served, line_too_long, source_failed, too_many, wants_memory, write_failed}
-use Rattle.note_texts.specs.Outcomes.{Reports, cut, whole}
+use Rattle.session_server.specs.Serve.{AreShort, IsServed, Reports, Served, Serves, ServesAll, ServesLines, all_served, cut, line_too_long, source_failed, too_many, wants_memory, whole, write_failed}
 
 -- ---- one line more
 

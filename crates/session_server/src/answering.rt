@@ -1,19 +1,18 @@
 //! One line, and its reply.
-ghost use Rattle.std.specs.Prelude.{◌≡◌, ◌^◌, ◌≤◌, ◌<◌, ℕ, List, length, IfOk, OnErr, IfSome, IfNone, filter, not, ◌==◌};
+ghost use Rattle.std.specs.Prelude.{◌≡◌, ◌^◌, ◌≤◌, ◌<◌, ℕ, List, length, string_bytes, IfOk, OnErr, IfSome, IfNone, filter, not, ◌==◌};
 ghost use Rattle.std.specs.Str.{IsUtf8};
 ghost use Rattle.spanner_engine.specs.Passing.{Known, known};
 ghost use Rattle.note_texts.specs.Notes.{table_note};
-ghost use Rattle.session_server.specs.declared.TheConstants.{SESSION_TABLE};
 ghost use Rattle.session_server.specs.Asked.{request_of};
 ghost use Rattle.session_server.specs.Requests.{close_request, grow_request, next_request, open_request, session_id as id_of};
 ghost use Rattle.session_server.specs.Replies.{IsReply, Reply, Sessions, error_of as error_reply, reply_text};
 ghost use Rattle.session_server.specs.Open.{AreOpen, HasNone, IsPlaceOf, LosesOne, RepliesTo};
 
-use crate::MOST_SESSIONS;
 use crate::replies::{closed, error_of, given, grown, no_request, opened};
 use crate::requests::{SessionRequest, request_in, value_of};
-use crate::session::{Halt, Session, of_table};
-use note_texts::Refusal;
+use crate::session::{Halt, Refusal, Session};
+use crate::{MOST_SESSIONS, SESSION_TABLE};
+use note_texts::{Note, push_note};
 use span_core::{OutOfMemory, Steps};
 use span_tests::{Judge, Tests};
 use std::alloc::Global;
@@ -33,10 +32,10 @@ pub(crate) fn answer<J: Judge, L: Ledger>(
     sessions: &mut Vec<Opened>,
     line: &[u8],
     steps: &mut Steps<L>,
-) -> Result<Vec<u8>, OutOfMemory>
+) -> Result<String, OutOfMemory>
     requires stands { (all : Sessions) × AreOpen (known tests.now J.judges) sessions.old.items all }
     ensures reply { IfOk result (λ s. (all : Sessions) → AreOpen (known tests.now J.judges) sessions.old.items all →
-        (r : Reply) × (after : Sessions) × IsReply (known tests.now J.judges) all line.now r after × (s.items ≡ reply_text r)
+        (r : Reply) × (after : Sessions) × IsReply (known tests.now J.judges) all line.now r after × (string_bytes s ≡ reply_text r)
         × AreOpen (known tests.now J.judges) sessions.new.items after) }
 {
     let value = match value_of(alloc, line)? {
@@ -63,7 +62,7 @@ fn answer_request<J: Judge, L: Ledger>(
     sessions: &mut Vec<Opened>,
     request: SessionRequest<'_>,
     steps: &mut Steps<L>,
-) -> Result<Vec<u8>, OutOfMemory>
+) -> Result<String, OutOfMemory>
     requires stands { (all : Sessions) × AreOpen (known tests.now J.judges) sessions.old.items all }
     ensures reply { IfOk result (RepliesTo (known tests.now J.judges) sessions.old.items sessions.new.items (request_of request.entry)) }
     ensures memory { OnErr result (LosesOne (known tests.now J.judges) sessions.old.items sessions.new.items (id_of (request_of request.entry))) }
@@ -91,7 +90,7 @@ fn answer_open<J: Judge, L: Ledger>(
     query: &str,
     document: &str,
     steps: &mut Steps<L>,
-) -> Result<Vec<u8>, OutOfMemory>
+) -> Result<String, OutOfMemory>
     ensures reply { IfOk result (RepliesTo (known tests.now J.judges) sessions.old.items sessions.new.items (open_request id query.now document.now)) }
     ensures memory { OnErr result (LosesOne (known tests.now J.judges) sessions.old.items sessions.new.items id) }
 {
@@ -116,7 +115,7 @@ fn open_new<J: Judge, L: Ledger>(
     query: &str,
     document: &str,
     steps: &mut Steps<L>,
-) -> Result<Vec<u8>, OutOfMemory>
+) -> Result<String, OutOfMemory>
     requires none { HasNone sessions.old.items id }
     requires room { length sessions.old.items < MOST_SESSIONS }
     requires few { length document.now ≤ 2 ^ 28 }
@@ -139,9 +138,9 @@ fn open_new<J: Judge, L: Ledger>(
     }
 }
 
-fn refused(alloc: Global, id: u32, note: &[u8]) -> Result<Vec<u8>, OutOfMemory>
+fn refused(alloc: Global, id: u32, note: &[u8]) -> Result<String, OutOfMemory>
     requires { IsUtf8 note.now }
-    ensures { IfOk result (λ s. s.items ≡ reply_text (error_reply id note.now)) }
+    ensures { IfOk result (λ s. string_bytes s ≡ reply_text (error_reply id note.now)) }
 {
     match str::from_utf8(note) {
         Ok(text) => error_of(alloc, id, text),
@@ -156,7 +155,7 @@ fn answer_next<J: Judge, L: Ledger>(
     id: u32,
     most: u32,
     steps: &mut Steps<L>,
-) -> Result<Vec<u8>, OutOfMemory>
+) -> Result<String, OutOfMemory>
     requires stands { (all : Sessions) × AreOpen (known tests.now J.judges) sessions.old.items all }
     ensures reply { IfOk result (RepliesTo (known tests.now J.judges) sessions.old.items sessions.new.items (next_request id most)) }
     ensures memory { OnErr result (LosesOne (known tests.now J.judges) sessions.old.items sessions.new.items id) }
@@ -165,7 +164,7 @@ fn answer_next<J: Judge, L: Ledger>(
         return error_of(alloc, id, "not open");
     };
     match sessions[k].session.page(alloc, tests, most, steps) {
-        Ok(page) => given(alloc, id, page.more, &page.rows),
+        Ok(page) => given(alloc, id, page.more, page.rows),
         Err(Halt::Heavy) => close_heavy(alloc, sessions, id),
         Err(Halt::OutOfMemory) => Err(OutOfMemory),
     }
@@ -177,7 +176,7 @@ fn answer_grow<L: Ledger>(
     id: u32,
     text: &str,
     steps: &mut Steps<L>,
-) -> Result<Vec<u8>, OutOfMemory>
+) -> Result<String, OutOfMemory>
     ensures reply { (k : Known) → IfOk result (RepliesTo k sessions.old.items sessions.new.items (grow_request id text.now)) }
     ensures memory { (k : Known) → OnErr result (LosesOne k sessions.old.items sessions.new.items id) }
 {
@@ -197,18 +196,20 @@ fn answer_grow<L: Ledger>(
 }
 
 /// Closes the session of this number, since reading its document weighs too much.
-fn close_heavy(alloc: Global, sessions: &mut Vec<Opened>, id: u32) -> Result<Vec<u8>, OutOfMemory>
+fn close_heavy(alloc: Global, sessions: &mut Vec<Opened>, id: u32) -> Result<String, OutOfMemory>
     ensures closed { sessions.new.items ≡ filter (λ s. not (s.id == id)) sessions.old.items }
-    ensures text { IfOk result (λ s. s.items ≡ reply_text (error_reply id (table_note SESSION_TABLE))) }
+    ensures text { IfOk result (λ s. string_bytes s ≡ reply_text (error_reply id (table_note SESSION_TABLE))) }
 {
     close(sessions, id);
-    match of_table(alloc) {
-        Refusal::Note(note) => refused(alloc, id, &note),
-        Refusal::OutOfMemory => Err(OutOfMemory),
-    }
+    let heavy = Note::Table {
+        limit: SESSION_TABLE,
+    };
+    let mut note = Vec::new(alloc);
+    push_note(&heavy, &mut note)?;
+    refused(alloc, id, &note)
 }
 
-fn answer_close(alloc: Global, sessions: &mut Vec<Opened>, id: u32) -> Result<Vec<u8>, OutOfMemory>
+fn answer_close(alloc: Global, sessions: &mut Vec<Opened>, id: u32) -> Result<String, OutOfMemory>
     ensures reply { (k : Known) → IfOk result (RepliesTo k sessions.old.items sessions.new.items (close_request id)) }
     ensures memory { (k : Known) → OnErr result (LosesOne k sessions.old.items sessions.new.items id) }
 {

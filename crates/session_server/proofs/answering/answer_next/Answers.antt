@@ -32,7 +32,7 @@ returns-in-Ok-clause-reply g c =
     let cs = c.args.sessions.now.items in
     let at : IsPlaceOf cs c.args.id c.in-Some.k = subst (λ (xs : List Opened). IsPlaceOf xs c.args.id c.in-Some.k) c.deref.ensures.value c.in-Some.ensures.some in
     let (there, same) = here_at cs c.args.id c.in-Some.k c.index_mut.result.now at c.index_mut.ensures.value in
-    replies_given k c.given.result cs c.args.id c.in-Some.k c.args.most c.index_mut.result.now c.page.new.self c.in-Ok.page.rows.items c.deref-2.result.now c.in-Ok.page.more at there same c.in-Ok.ensures.given c.deref-2.ensures.value c.given.ensures
+    replies_given k c.given.result cs c.args.id c.in-Some.k c.args.most c.index_mut.result.now c.page.new.self c.in-Ok.page.rows.items c.in-Ok.page.more at there same c.in-Ok.ensures.given c.given.ensures
 
 pub returns-in-Ok-clause-memory : goal.returns-in-Ok-clause-memory
 returns-in-Ok-clause-memory g c =
