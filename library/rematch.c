@@ -1,6 +1,7 @@
 /* What stands between C and the proved library: memory for it, and refusals of null pointers. */
 #include "rematch.h"
 #include <stdlib.h>
+#include <string.h>
 
 /* ---- memory, which the library asks for by these three ---- */
 
@@ -38,6 +39,17 @@ uint32_t rematch_c_variable(rematch_query *query, size_t place, rematch_text *na
 uint32_t rematch_c_share(rematch_query *query, rematch_query *other);
 uint32_t rematch_c_open(rematch_query *query, const void *document, size_t length, const rematch_options *options,
                         rematch_rows *rows, rematch_text *note);
+uint32_t rematch_c_resume(rematch_query *query, const void *document, size_t length, const rematch_options *options,
+                          const void *cursor, size_t cursor_length, rematch_rows *rows, rematch_text *note);
+uint32_t rematch_c_cursor(rematch_rows *rows, const uint32_t *row, size_t numbers, char *text, size_t room, size_t *length);
+struct written {
+    size_t rows, notes;
+};
+uint32_t rematch_c_begin_run(struct rematch_slot *run);
+uint32_t rematch_c_add_word(struct rematch_slot *run, const void *word, size_t length);
+uint32_t rematch_c_add_document(struct rematch_slot *run, const void *name, size_t name_length, const void *bytes, size_t length);
+uint32_t rematch_c_run(struct rematch_slot *run, const void *input, size_t length, char *rows, size_t row_room, char *notes,
+                       size_t note_room, struct written *written);
 uint32_t rematch_c_fill(rematch_rows *rows, uint32_t *out, size_t room, size_t most, size_t *given);
 void rematch_c_close(struct rematch_slot *slot);
 
@@ -84,11 +96,101 @@ uint32_t rematch_open(rematch_query *query, const void *document, size_t length,
     return rematch_c_open(query, document, length, options != NULL ? options : &usual, rows, note != NULL ? note : &own);
 }
 
+/* Whether all rows are asked for. */
+static bool is_start(const char *cursor, size_t length) {
+    return cursor == NULL ? length == 0 : length == 5 && memcmp(cursor, "start", 5) == 0;
+}
+
+uint32_t rematch_open_after(rematch_query *query, const void *document, size_t length, const rematch_options *options,
+                            const char *cursor, size_t cursor_length, rematch_rows *rows, rematch_text *note) {
+    static const rematch_options usual = REMATCH_OPTIONS;
+    rematch_text own;
+    if (is_start(cursor, cursor_length))
+        return rematch_open(query, document, length, options, rows, note);
+    if (query == NULL || rows == NULL || query == rows || !stands(&document, length) || cursor == NULL || cursor_length > PTRDIFF_MAX)
+        return refused(note);
+    return rematch_c_resume(query, document, length, options != NULL ? options : &usual, cursor, cursor_length, rows,
+                            note != NULL ? note : &own);
+}
+
+uint32_t rematch_cursor(rematch_rows *rows, const uint32_t *row, size_t numbers, char *text, size_t room, size_t *length) {
+    static const uint32_t none;
+    static char nothing;
+    if (rows == NULL || length == NULL || (row == NULL && numbers != 0) || (text == NULL && room != 0)
+        || numbers > PTRDIFF_MAX / sizeof *row || room > PTRDIFF_MAX)
+        return REMATCH_CALL;
+    return rematch_c_cursor(rows, row != NULL ? row : &none, numbers, text != NULL ? text : &nothing, room, length);
+}
+
 uint32_t rematch_fill(rematch_rows *rows, uint32_t *out, size_t room, size_t most, size_t *given) {
     static uint32_t none;
     if (rows == NULL || given == NULL || (out == NULL && room != 0) || room > PTRDIFF_MAX / sizeof *out)
         return REMATCH_CALL;
     return rematch_c_fill(rows, out != NULL ? out : &none, room, most, given);
+}
+
+/* ---- a run of the program ---- */
+
+/* Whether there is a pointer to each thing that a run is given. */
+static bool is_whole(const rematch_command *command) {
+    const void *input = command->input;
+    if ((command->words == NULL && command->word_count != 0) || (command->documents == NULL && command->document_count != 0)
+        || !stands(&input, command->input_length))
+        return false;
+    for (size_t k = 0; k < command->word_count; k++)
+        if (command->words[k] == NULL)
+            return false;
+    for (size_t k = 0; k < command->document_count; k++) {
+        const void *bytes = command->documents[k].bytes;
+        if (command->documents[k].name == NULL || !stands(&bytes, command->documents[k].length))
+            return false;
+    }
+    return true;
+}
+
+/* Whether there is memory for an output, of which nothing is written yet. */
+static bool is_ready(rematch_output *output) {
+    if (output == NULL)
+        return false;
+    output->length = 0;
+    return (output->bytes != NULL || output->room == 0) && output->room <= PTRDIFF_MAX;
+}
+
+static char *memory_of(const rematch_output *output) {
+    static char none;
+    return output->bytes != NULL ? output->bytes : &none;
+}
+
+/* Gives a run its words and documents. */
+static uint32_t given(struct rematch_slot *run, const rematch_command *command) {
+    uint32_t status = rematch_c_begin_run(run);
+    for (size_t k = 0; status == REMATCH_DONE && k < command->word_count; k++)
+        status = rematch_c_add_word(run, command->words[k], strlen(command->words[k]));
+    for (size_t k = 0; status == REMATCH_DONE && k < command->document_count; k++) {
+        const rematch_document *document = &command->documents[k];
+        const void *bytes = document->bytes;
+        if (!stands(&bytes, document->length))
+            return REMATCH_CALL;
+        status = rematch_c_add_document(run, document->name, strlen(document->name), bytes, document->length);
+    }
+    return status;
+}
+
+uint32_t rematch_run(const rematch_command *command, rematch_output *rows, rematch_output *notes) {
+    struct rematch_slot run = REMATCH_NONE;
+    struct written written = {0, 0};
+    bool are_ready = is_ready(rows) & is_ready(notes);
+    if (command == NULL || !are_ready || rows == notes || !is_whole(command))
+        return REMATCH_CALL;
+    const void *input = command->input != NULL ? command->input : &nowhere;
+    uint32_t status = given(&run, command);
+    if (status == REMATCH_DONE) {
+        status = rematch_c_run(&run, input, command->input_length, memory_of(rows), rows->room, memory_of(notes), notes->room, &written);
+        rows->length = written.rows;
+        notes->length = written.notes;
+    }
+    rematch_c_close(&run);
+    return status;
 }
 
 void rematch_close(struct rematch_slot *slot) {

@@ -41,12 +41,16 @@ extern "C" {
 /* How a call ended. */
 enum {
     REMATCH_DONE = 0,   /* all is done */
-    REMATCH_CALL = 2,   /* the call is refused: a null pointer, an empty slot, or one that holds the other kind */
+    REMATCH_CALL = 2,   /* the call is refused: a null pointer, an empty slot, or one that holds the other kind; of
+                           rematch_run also the program's words, which the note says */
     REMATCH_QUERY = 3,  /* the query's text has a fault, which the note says with its place in bytes from 0 */
     REMATCH_SIZE = 4,   /* the query, or reading the document, takes more than a limit allows, as the note says */
+    REMATCH_READ = 5,   /* rematch_run: a name holds no document */
     REMATCH_LONG = 6,   /* the document has more than 268,435,456 bytes */
-    REMATCH_ROOM = 8,   /* there is room for no row */
-    REMATCH_MEMORY = 9  /* memory is wanting */
+    REMATCH_CURSOR = 7, /* the cursor is that of no row of this query and this document, as the note says */
+    REMATCH_ROOM = 8,   /* there is room for no row, or not for the whole cursor or output */
+    REMATCH_MEMORY = 9, /* memory is wanting */
+    REMATCH_TEXT = 10   /* rematch_run: a word or a name is no UTF-8 */
 };
 
 struct rematch_slot {
@@ -88,10 +92,59 @@ REMATCH_API uint32_t rematch_share(rematch_query *query, rematch_query *other);
 REMATCH_API uint32_t rematch_open(rematch_query *query, const void *document, size_t length,
                                   const rematch_options *options, rematch_rows *rows, rematch_text *note);
 
+/* Reads a document as rematch_open does, for the rows behind the one whose cursor this is, as -a of the program: of
+ * rows that were given in another process, say. A null `cursor` is none, and so is the text `start`: all rows are given then. A
+ * text that is no cursor, or one over other variables, is refused with REMATCH_CURSOR before the document is read, and
+ * so is one of a document of another length. `cursor` is not kept. */
+REMATCH_API uint32_t rematch_open_after(rematch_query *query, const void *document, size_t length,
+                                        const rematch_options *options, const char *cursor, size_t cursor_length,
+                                        rematch_rows *rows, rematch_text *note);
+
+/* The cursor of a row of a document, by the numbers that rematch_fill gave for it: `numbers` of them, two for each
+ * variable. It is written to `text`, which has `room` bytes; no byte 0 stands behind it. `*length` is how many bytes it
+ * has, also with REMATCH_ROOM, where nothing is written; REMATCH_MOST_CURSOR bytes are always enough. Numbers that are
+ * those of no row within the document are refused with REMATCH_CALL. */
+REMATCH_API uint32_t rematch_cursor(rematch_rows *rows, const uint32_t *row, size_t numbers, char *text, size_t room,
+                                    size_t *length);
+#define REMATCH_MOST_CURSOR 2048
+
 /* Gives the next rows: of each, for each variable, where its span starts and where it ends, or twice REMATCH_ABSENT.
  * They are `most` at most, and as many as have room in `out`, which has `room` numbers. `*given` is how many they are;
  * where it is less than both, no row remains. What stands in `out` behind them is as it was. It takes no memory. */
 REMATCH_API uint32_t rematch_fill(rematch_rows *rows, uint32_t *out, size_t room, size_t most, size_t *given);
+
+/* A document under its name, which is a text with a byte 0 behind it. */
+typedef struct {
+    const char *name;
+    const void *bytes; /* null where there are none */
+    size_t length;
+} rematch_document;
+
+/* What a run of the program is given. */
+typedef struct {
+    const char *const *words; /* the words after the program's name, as on a command line; each has a byte 0 behind it */
+    size_t word_count;
+    const rematch_document *documents; /* what the names hold; a name that none has cannot be read, and no file is */
+    size_t document_count;
+    const void *input; /* the standard input: what - names, or the requests of --serve */
+    size_t input_length;
+} rematch_command;
+
+/* Memory for what a run writes. */
+typedef struct {
+    char *bytes;
+    size_t room;   /* how many bytes it has */
+    size_t length; /* how many of them the run wrote, from the front on */
+} rematch_output;
+#define REMATCH_MOST_NOTE 4096
+
+/* Runs the whole program: `rows` is its standard output, `notes` its standard error, and the answer its exit status.
+ * Both outputs have memory of their own, and the call takes as much again. Output that has no room ends the run with
+ * REMATCH_ROOM, as a full disk does, and so does a note without room where all else is done; REMATCH_MOST_NOTE bytes
+ * are always enough for the note. Words and names are UTF-8, or the call is refused with REMATCH_TEXT. A name that
+ * two documents have is refused with REMATCH_CALL, and so is the name -. Where the call is refused, or memory is wanting
+ * for what it is given, nothing is written. It keeps nothing, and calls on several threads at once are no matter. */
+REMATCH_API uint32_t rematch_run(const rematch_command *command, rematch_output *rows, rematch_output *notes);
 
 /* Frees what a slot holds, which then holds nothing. An empty slot and a null pointer are left as they are. */
 REMATCH_API void rematch_close(struct rematch_slot *slot);

@@ -124,6 +124,65 @@ static void refuses_calls(void) {
     rematch_close(&query);
 }
 
+static void goes_on_behind_a_cursor(void) {
+    rematch_query query = REMATCH_NONE;
+    rematch_rows rows = REMATCH_NONE;
+    rematch_text note;
+    uint32_t out[4];
+    char cursor[REMATCH_MOST_CURSOR];
+    size_t given, length, other;
+    compiled(&query, "/!first{a}(!second{b})?/");
+    CHECK(rematch_open(&query, TEXT("abab"), NULL, &rows, NULL) == REMATCH_DONE);
+    CHECK(rematch_fill(&rows, out, 4, 1, &given) == REMATCH_DONE && given == 1);
+    memset(cursor, '#', sizeof cursor);
+    CHECK(rematch_cursor(&rows, out, 4, cursor, sizeof cursor, &length) == REMATCH_DONE && cursor[length] == '#');
+    CHECK(length == strlen("c2:4;first:0-1;second:1-2") && memcmp(cursor, "c2:4;first:0-1;second:1-2", length) == 0);
+    size_t rest = rest_of(&rows);
+    CHECK(rematch_open_after(&query, TEXT("abab"), NULL, cursor, length, &rows, &note) == REMATCH_DONE && note.length == 0);
+    CHECK(rest_of(&rows) == rest && rest == 3);
+    CHECK(rematch_open_after(&query, TEXT("abab"), NULL, NULL, 0, &rows, &note) == REMATCH_DONE && rest_of(&rows) == rest + 1);
+    CHECK(rematch_open_after(&query, TEXT("abab"), NULL, TEXT("start"), &rows, &note) == REMATCH_DONE && rest_of(&rows) == rest + 1);
+    /* too little room, and numbers of no row */
+    CHECK(rematch_cursor(&rows, out, 4, cursor, length - 1, &other) == REMATCH_ROOM && other == length);
+    CHECK(rematch_cursor(&rows, out, 4, NULL, 0, &other) == REMATCH_ROOM && other == length);
+    const uint32_t past[4] = {0, 5, 5, 5}, turned[4] = {1, 0, 1, 2}, half[4] = {0, 1, 1, REMATCH_ABSENT};
+    CHECK(rematch_cursor(&rows, past, 4, cursor, 99, &other) == REMATCH_CALL && other == 0);
+    CHECK(rematch_cursor(&rows, turned, 4, cursor, 99, &other) == REMATCH_CALL);
+    CHECK(rematch_cursor(&rows, half, 4, cursor, 99, &other) == REMATCH_CALL);
+    CHECK(rematch_cursor(&rows, out, 3, cursor, 99, &other) == REMATCH_CALL);
+    CHECK(rematch_cursor(&rows, NULL, 4, cursor, 99, &other) == REMATCH_CALL);
+    CHECK(rematch_cursor(&rows, out, 4, cursor, 99, NULL) == REMATCH_CALL);
+    CHECK(rematch_cursor(&query, out, 4, cursor, 99, &other) == REMATCH_CALL && other == 0);
+    /* an absent span */
+    const uint32_t alone[4] = {0, 1, REMATCH_ABSENT, REMATCH_ABSENT};
+    CHECK(rematch_cursor(&rows, alone, 4, cursor, 99, &length) == REMATCH_DONE);
+    CHECK(length == strlen("c2:4;first:0-1;second:-") && memcmp(cursor, "c2:4;first:0-1;second:-", length) == 0);
+    /* what is refused, with the program's notes */
+    static const struct {
+        const char *cursor, *note;
+    } faults[] = {
+        {"", "cursor: not a cursor"},
+        {"started", "cursor: not a cursor"},
+        {"c2:4;first:0-5;second:-", "cursor: not a cursor"},
+        {"c2:4;first:0-1", "cursor: other variables"},
+        {"c2:5;first:0-1;second:-", "cursor: document of 5 bytes, not 4"},
+        {"c1;first:0-5;second:5-6", "cursor: past the document"},
+    };
+    for (size_t k = 0; k < sizeof faults / sizeof *faults; k++) {
+        CHECK(rematch_open_after(&query, TEXT("abab"), NULL, TEXT(faults[k].cursor), &rows, &note) == REMATCH_CURSOR);
+        CHECK(!rows.held && strcmp(note.bytes, faults[k].note) == 0);
+    }
+    CHECK(rematch_open_after(&query, TEXT("abab"), NULL, NULL, 1, &rows, &note) == REMATCH_CALL && note.length == 0);
+    CHECK(rematch_cursor(&rows, out, 4, cursor, 99, &other) == REMATCH_CALL && other == 0);
+    /* a cursor of no variable */
+    compiled(&query, "/a/");
+    CHECK(rematch_open(&query, TEXT("aa"), NULL, &rows, NULL) == REMATCH_DONE);
+    CHECK(rematch_cursor(&rows, NULL, 0, cursor, 99, &length) == REMATCH_DONE && length == 4 && memcmp(cursor, "c2:2", 4) == 0);
+    CHECK(rematch_open_after(&query, TEXT("aa"), NULL, cursor, length, &rows, &note) == REMATCH_DONE && rest_of(&rows) == 0);
+    rematch_close(&rows);
+    rematch_close(&query);
+}
+
 /* A query, another slot of it and two rows are closed in each of the 24 orders, and used until then. */
 static void closes_in_all_orders(void) {
     for (int order = 0; order < 24; order++) {
@@ -175,6 +234,7 @@ int main(void) {
     runs_tests_of_spans();
     refuses_documents();
     refuses_calls();
+    goes_on_behind_a_cursor();
     closes_in_all_orders();
     asks_a_thousand_documents();
     return 0;

@@ -39,6 +39,30 @@ static bool wants(uint32_t status, const struct rematch_slot *slot, const rematc
     return status == REMATCH_MEMORY;
 }
 
+/* The cursor of the first row, and the rows behind it; whether no call was refused. */
+static bool went_on(rematch_query *query, const char *document, const rematch_options *options, rematch_rows *rows) {
+    uint32_t row[2 * 4];
+    char cursor[REMATCH_MOST_CURSOR];
+    size_t variables, given, length;
+    rematch_text note;
+    CHECK(rematch_variables(query, &variables) == REMATCH_DONE && variables <= 4);
+    if (wants(rematch_open(query, TEXT(document), options, rows, &note), rows, &note))
+        return false;
+    CHECK(rematch_fill(rows, row, 2 * variables, 1, &given) == REMATCH_DONE && given == 1);
+    uint32_t status = rematch_cursor(rows, row, 2 * variables, cursor, sizeof cursor, &length);
+    CHECK(rows->held && (status == REMATCH_DONE || (status == REMATCH_MEMORY && length == 0)));
+    if (status != REMATCH_DONE)
+        return false;
+    size_t rest = rest_of(rows);
+    if (wants(rematch_open_after(query, TEXT(document), options, cursor, length, rows, &note), rows, &note))
+        return false;
+    CHECK(rest_of(rows) == rest);
+    /* a document of another length, whose note takes memory */
+    status = rematch_open_after(query, TEXT("another document"), options, cursor, length, rows, &note);
+    CHECK(!rows->held && (status == REMATCH_CURSOR || status == REMATCH_MEMORY));
+    return status == REMATCH_CURSOR;
+}
+
 /* One run, to its end or to the call that is refused; whether none was. */
 static bool run(const char *text, const char *document, bool filter, size_t expected) {
     rematch_query query = REMATCH_NONE, other = REMATCH_NONE;
@@ -52,11 +76,28 @@ static bool run(const char *text, const char *document, bool filter, size_t expe
         long before = made;
         CHECK(rest_of(&rows) == expected && made == before); /* rows take no memory */
     }
+    ended = ended && went_on(&query, document, &options, &rows);
     CHECK(query.held || !ended);
     rematch_close(&query);
     rematch_close(&rows);
     rematch_close(&other);
     return ended;
+}
+
+/* One run of the program, over a query and a document in memory; whether no allocation was refused. */
+static bool ran(const char *text, const char *document) {
+    const char *words[] = {"-t", "-q", "query", "-"};
+    const rematch_document query = {"query", text, strlen(text)};
+    const rematch_command command = {words, 4, &query, 1, document, strlen(document)};
+    static char row_bytes[4096], note_bytes[REMATCH_MOST_NOTE];
+    rematch_output rows = {row_bytes, sizeof row_bytes, 0}, notes = {note_bytes, sizeof note_bytes, 0};
+    uint32_t status = rematch_run(&command, &rows, &notes);
+    CHECK(status == REMATCH_DONE || status == REMATCH_MEMORY);
+    if (status == REMATCH_DONE)
+        CHECK(notes.length == 4 && memcmp(note_bytes, "end\n", 4) == 0 && rows.length > 0);
+    else
+        CHECK(notes.length == 0 || memcmp(note_bytes, "out of memory\n", notes.length) == 0);
+    return status == REMATCH_DONE;
 }
 
 /* With a word, as under valgrind, ever fewer of the later ones are refused. */
@@ -92,6 +133,8 @@ int main(int words, char **word) {
             made = 0;
             refused_at += words == 1 ? 1 : 1 + refused_at / 8;
             ended = run(runs[k].text, runs[k].document, runs[k].filter, expected);
+            CHECK(live == 0);
+            ended = ended && ran(runs[k].text, runs[k].document);
             CHECK(live == 0);
             CHECK(ended || made >= refused_at);
             wanted += !ended;

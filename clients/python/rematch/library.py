@@ -6,7 +6,8 @@ from __future__ import annotations
 
 import os
 from ctypes import (CDLL, POINTER, Structure, addressof, byref, c_bool, c_char, c_char_p, c_int32, c_size_t, c_uint32, c_uint64,
-                    c_void_p, py_object, pythonapi)
+                    c_void_p, create_string_buffer, py_object, pythonapi)
+from itertools import chain
 from threading import Lock
 from typing import Any, Dict, Iterator, List, Optional, Tuple, Union
 
@@ -18,6 +19,8 @@ NAME = 'librematch.so.1'
 USUAL_TABLE = 1_000_000
 _HERE = os.path.dirname(os.path.abspath(__file__))
 _FIRST, _LAST = 64, 1 << 16  # rows that are asked for at once, at first and at most
+_NO_ROOM = 8  # the status of an output without room
+_LEAST_ROOM, _MOST_ROOM, _NOTE_ROOM = 1 << 12, 1 << 24, 1 << 12  # bytes for what the program writes
 
 allowed = True
 """Whether queries may use the library where nobody names it; the commands, which Ctrl-C ends, run the program."""
@@ -35,6 +38,15 @@ class _Options(Structure):
     _fields_ = [('max_table', c_uint64), ('filter', c_bool)]
 
 
+class _Command(Structure):
+    _fields_ = [('words', POINTER(c_char_p)), ('word_count', c_size_t), ('documents', c_void_p), ('document_count', c_size_t),
+                ('input', c_char_p), ('input_length', c_size_t)]
+
+
+class _Output(Structure):
+    _fields_ = [('bytes', c_void_p), ('room', c_size_t), ('length', c_size_t)]
+
+
 class _Buffer(Structure):
     """What CPython tells of the memory of an object."""
     _fields_ = [('buf', c_void_p), ('obj', c_void_p), ('len', c_size_t), ('rest', c_char * 128)]
@@ -47,6 +59,10 @@ _CALLS: Dict[str, Tuple[Any, ...]] = {
     'variable': (_SLOT, c_size_t, _TEXT),
     'open': (_SLOT, c_void_p, c_size_t, POINTER(_Options), _SLOT, _TEXT),
     'fill': (_SLOT, c_void_p, c_size_t, c_size_t, _SIZE),
+}
+_LATER: Dict[str, Tuple[Any, ...]] = {  # of version 1.2; a library without them leaves what they do to the program
+    'open_after': (_SLOT, c_void_p, c_size_t, POINTER(_Options), c_char_p, c_size_t, _SLOT, _TEXT),
+    'run': (POINTER(_Command), POINTER(_Output), POINTER(_Output)),
 }
 _loaded: Dict[str, CDLL] = {}
 
@@ -75,9 +91,10 @@ def _library(path: str) -> CDLL:
     found = _loaded.get(path)
     if found is None:
         found = CDLL(path)
-        for name, types in _CALLS.items():
-            call = getattr(found, 'rematch_' + name)
-            call.argtypes, call.restype = types, c_uint32
+        for name, types in chain(_CALLS.items(), _LATER.items()):
+            call = getattr(found, 'rematch_' + name, None) if name in _LATER else getattr(found, 'rematch_' + name)
+            if call is not None:
+                call.argtypes, call.restype = types, c_uint32
         found.rematch_close.argtypes, found.rematch_close.restype = (_SLOT,), None
         found.rematch_version.argtypes, found.rematch_version.restype = (), c_char_p
         _loaded[path] = found
@@ -131,27 +148,62 @@ class Compiled:
         if status:
             raise error_of(status, self._note.bytes.decode('utf-8', 'backslashreplace'), self._text)
 
+    def explanation(self) -> Optional[str]:
+        """What ``--explain`` writes of it; None where the library runs no program, or the query is no UTF-8 or holds a byte 0."""
+        try:
+            is_word = b'\0' not in self._text and self._text.decode('utf-8') is not None
+        except UnicodeDecodeError:
+            is_word = False
+        if not is_word or not hasattr(self._library, 'rematch_run'):
+            return None
+        words = (c_char_p * 2)(b'-e=' + self._text, b'--explain')
+        command = _Command(words, len(words), None, 0, None, 0)
+        room = _LEAST_ROOM
+        while True:
+            rows, notes = create_string_buffer(room), create_string_buffer(_NOTE_ROOM)
+            outputs = _Output(addressof(rows), room, 0), _Output(addressof(notes), _NOTE_ROOM, 0)
+            status = self._library.rematch_run(byref(command), byref(outputs[0]), byref(outputs[1]))
+            if status == _NO_ROOM and room < _MOST_ROOM:
+                room *= 16
+                continue
+            if status:
+                raise error_of(status, notes.raw[:outputs[1].length].decode('utf-8', 'backslashreplace').rstrip('\n'), self._text)
+            return rows.raw[:outputs[0].length].decode('utf-8', 'backslashreplace')
+
     def empty(self) -> 'Rows':
         """No rows, for `read`."""
         return Rows(self._library, 2 * len(self.variables))
 
-    def open(self, data: Any) -> 'Rows':
-        """The rows on a document, which may be let go."""
+    @property
+    def goes_on(self) -> bool:
+        """Whether the library takes cursors."""
+        return hasattr(self._library, 'rematch_open_after')
+
+    def open(self, data: Any, after: str = 'start') -> 'Rows':
+        """The rows on a document, which may be let go; those behind a cursor, where one is given."""
         rows = self.empty()
-        self.read(data, rows)
+        self.read(data, rows, after)
         return rows
 
-    def read(self, data: Any, rows: 'Rows') -> None:
+    def read(self, data: Any, rows: 'Rows', after: str = 'start') -> None:
         """Puts the rows on a document into those of another, which are given up."""
         with self._lock:
             if isinstance(data, bytes):
-                status = self._library.rematch_open(byref(self._slot), data, len(data), byref(self._options), byref(rows.slot),
-                                                    byref(self._note))
+                status = self._opened(data, len(data), after, rows)
             else:
                 with _Memory(data) as memory:
-                    status = self._library.rematch_open(byref(self._slot), memory.at, len(data), byref(self._options),
-                                                        byref(rows.slot), byref(self._note))
+                    status = self._opened(memory.at, len(data), after, rows)
             self._check(status)
+
+    def _opened(self, at: Any, length: int, after: str, rows: 'Rows') -> int:
+        slot, options, note = byref(self._slot), byref(self._options), byref(self._note)
+        status: int
+        if after == 'start':
+            status = self._library.rematch_open(slot, at, length, options, byref(rows.slot), note)
+        else:
+            cursor = after.encode('utf-8', 'surrogateescape')
+            status = self._library.rematch_open_after(slot, at, length, options, cursor, len(cursor), byref(rows.slot), note)
+        return status
 
     def __del__(self) -> None:
         if hasattr(self, '_slot'):

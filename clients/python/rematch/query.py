@@ -31,8 +31,8 @@ class Query(Variables):
     neither changes an answer. ``program`` is the program's path, where it is not that of `find_program`.
 
     Where the library ``librematch.so.1`` is beside the package, queries are answered by it in this process, with the same rows and
-    the same faults; a page that begins at a cursor still runs the program. ``program``, or REMATCH of the environment, has every
-    query run that program, and REMATCH_LIBRARY names another library, or ``none``.
+    the same faults. ``program``, or REMATCH of the environment, has every query run that program, and REMATCH_LIBRARY names
+    another library, or ``none``.
 
     A text that is no query raises `QueryError`, and a program that is not there `ProgramNotFound`. A query whose
     automata are too large raises `SizeError` when it is asked.
@@ -99,6 +99,9 @@ class Query(Variables):
         return self._explanation
 
     def _explained(self) -> str:
+        within = None if self._inside is None else self._inside.explanation()
+        if within is not None:
+            return within
         run = Run(self.program, self.text, [*self._words, '--explain'], None)
         try:
             return run.output().decode('utf-8', 'backslashreplace')
@@ -164,10 +167,14 @@ class Query(Variables):
 
     # -- In this process
 
-    def _within(self, document: Document, limit: Optional[int], is_told: bool) -> Iterator[Row]:
+    def _is_within(self, after: str) -> bool:
+        """Whether the library gives the rows behind this cursor."""
+        return self._inside is not None and (after == 'start' or self._inside.goes_on)
+
+    def _within(self, document: Document, after: str, limit: Optional[int], is_told: bool) -> Iterator[Row]:
         """The rows by the library; in bytes, or as the document counts."""
         assert self._inside is not None
-        for rows, numbers in self._inside.open(document.data).pages(limit):
+        for rows, numbers in self._inside.open(document.data, after).pages(limit):
             if not self.variables:
                 yield from repeat((), rows)
                 continue
@@ -199,8 +206,8 @@ class Query(Variables):
         return self._matches(open_document(document), _asked(after, limit), after, limit)
 
     def _matches(self, document: Document, words: Sequence[str], after: str, limit: Optional[int]) -> Iterator[Match[Any]]:
-        if self._inside is not None and after == 'start':
-            yield from map(Match, repeat(self), repeat(document), self._within(document, limit, False))
+        if self._is_within(after):
+            yield from map(Match, repeat(self), repeat(document), self._within(document, after, limit, False))
             return
         run = self._run(document, words, keep=True)
         try:
@@ -276,7 +283,7 @@ class Query(Variables):
         """
         opened = open_document(document)
         words = _asked(after, size)
-        if self._inside is not None and after == 'start' and size > 0:
+        if self._is_within(after) and size > 0:
             within = Page(self._matches(opened, words, after, size + 1))
             if len(within) > size:
                 del within[size:]
@@ -297,8 +304,8 @@ class Query(Variables):
         (True, False)
         """
         words = _asked(after, 0)
-        if self._inside is not None and after == 'start':
-            return next(self._within(open_document(document), 1, False), None) is not None
+        if self._is_within(after):
+            return next(self._within(open_document(document), after, 1, False), None) is not None
         run = self._run(open_document(document), words, keep=False)
         try:
             run.output()
@@ -362,8 +369,8 @@ class Query(Variables):
         return self._flat(open_document(document), _asked(after, limit), after, limit)
 
     def _flat(self, document: Document, words: Sequence[str], after: str, limit: Optional[int]) -> Iterator[Row]:
-        if self._inside is not None and after == 'start':
-            yield from self._within(document, limit, True)
+        if self._is_within(after):
+            yield from self._within(document, after, limit, True)
             return
         run = self._run(document, words, keep=False)
         try:
@@ -381,39 +388,42 @@ class Query(Variables):
         {'x': (array('q', [0, -1]), array('q', [1, -1])), 'y': (array('q', [1, 1]), array('q', [2, 2]))}
         """
         flat = array('q')
-        for _, numbers in self._many_numbers(open_document(document)):
+        for _, numbers in self._many_numbers(open_document(document), 'start'):
             flat.extend(numbers)
         step = 2 * len(self.variables)
         return {name: (flat[at::step], flat[at + 1::step]) for name, at in self._index.items()}
 
-    def spans(self, document: Source) -> Any:
+    def spans(self, document: Source, *, after: str = 'start') -> Any:
         """All rows as one array of 32-bit numbers with a line a row: start and end of each variable in turn, -1 and -1 for an
         absent one.
 
-        Where numpy is installed it is one of its arrays, else a ``memoryview``, of which an empty one has one dimension. With the
-        library, of bytes, it is the memory that the library wrote, which nobody else has.
+        ``after`` is a cursor, as of `finditer`: only rows behind it are given. Where numpy is installed the array is one of
+        its own, else a ``memoryview``, of which an empty one has one dimension. With the library, of bytes, it is the memory that
+        the library wrote, which nobody else has.
 
         >>> Query('/(!x{a})?!y{b}/').spans(b'ab').tolist()
         [[0, 1, 1, 2], [-1, -1, 1, 2]]
+        >>> Query('/!x{a}/').spans(b'aa', after='c2:2;x:0-1').tolist()
+        [[1, 2]]
         """
         opened = open_document(document)
         width = 2 * len(self.variables)
-        if self._inside is not None and opened.places is None:
-            rows, numbers = self._inside.open(opened.data).all()
+        if self._inside is not None and self._is_within(after) and opened.places is None:
+            rows, numbers = self._inside.open(opened.data, after).all()
             return numbers_view(rows, width, numbers)
         flat, rows = array('i'), 0
-        for some, places in self._many_numbers(opened):
+        for some, places in self._many_numbers(opened, after):
             rows += some
             flat.extend(places)
         return numbers_view(rows, width, flat)
 
-    def _many_numbers(self, document: Document) -> Iterator[Tuple[int, List[int]]]:
+    def _many_numbers(self, document: Document, after: str) -> Iterator[Tuple[int, List[int]]]:
         """How many rows there are next, and their places, some at a time, as the document counts."""
-        if self._inside is not None:
-            for rows, numbers in self._inside.open(document.data).pages():
+        if self._inside is not None and self._is_within(after):
+            for rows, numbers in self._inside.open(document.data, after).pages():
                 yield rows, document.told(numbers)
             return
-        run = self._run(document, (), keep=False)
+        run = self._run(document, _asked(after, None), keep=False)
         try:
             for lines in self._pieces(run):
                 yield lines.count(b'\n'), document.told(self._numbers(lines)) if self.variables else []

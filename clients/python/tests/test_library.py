@@ -35,6 +35,15 @@ class Spans(unittest.TestCase):
         self.assertEqual(tuple(spans.shape), (500 * 501 // 2, 2))
         self.assertEqual(spans.tolist(), [list(row) for row in query.rows(b'a' * 500)])
 
+    def test_behind_a_cursor(self):
+        query = rematch.Query('/(!x{a})?!y{b}/')
+        self.assertEqual(query.spans(b'ab', after='c2:2;x:0-1;y:1-2').tolist(), [[-1, -1, 1, 2]])
+        self.assertEqual(query.spans(b'ab', after='c2:2;x:-;y:1-2').tolist(), [])
+        self.assertEqual(query.spans('éab', after='c2:4;x:2-3;y:3-4').tolist(), [[-1, -1, 2, 3]])
+        for cursor in ('', 'nowhere', 'c2:2;y:1-2', 'c2:3;x:0-1;y:1-2'):
+            with self.assertRaises(rematch.CursorError):
+                query.spans(b'ab', after=cursor)
+
     def test_without_numpy(self):
         with mock.patch.dict(sys.modules, numpy=None):
             spans = rematch.Query('/!x{a}/').spans(b'aba')
@@ -56,6 +65,10 @@ class Same(unittest.TestCase):
                 page = query.page(document, 3)
                 said.append((query.variables, list(query.rows(document)), query.findall(document), query.count(document),
                              query.any(document), query.spans(document).tolist(), query.columns(document), page, page.cursor))
+                if page:
+                    last = page[-1].cursor
+                    said[-1] += (query.findall(document, after=last), query.any(document, after=last), query.page(document, 2, after=last),
+                                 query.spans(document, after=last).tolist(), list(query.rows(document, after=last, limit=2)))
             except rematch.RematchError as fault:
                 said.append((type(fault), fault.note, fault.status, str(fault)))
         self.assertEqual(*said)
@@ -90,16 +103,43 @@ class Same(unittest.TestCase):
             rematch.Query('/a/').count(bytes(268_435_457))
         self.assertEqual((caught.exception.status, caught.exception.note), (6, 'document longer than 268435456 bytes'))
 
-    def test_cursors_run_the_program(self):
+    def test_cursors(self):
         query = rematch.Query('/!x{a}/')
         page = query.page(b'aaa', 2)
         self.assertEqual((page.cursor, [match.row for match in query.finditer(b'aaa', after=page.cursor)]), ('c2:3;x:1-2', [(2, 3)]))
         self.assertEqual(query.page(b'aaa', 0).cursor, rematch.Query('/!x{a}/', program=PROGRAM).page(b'aaa', 0).cursor)
-        with self.assertRaises(rematch.CursorError):
-            query.findall(b'aaa', after='nowhere')
 
-    def test_printed_form(self):
+    def test_cursors_that_are_refused(self):
+        for cursor in ('', 'nowhere', 'c2:3;y:0-1', 'c2:4;x:0-1', 'c1;x:2-4', 'c2:3;x:0-4', 'c2:3;x:1-0'):
+            said = []
+            for program in (None, PROGRAM):
+                with self.assertRaises(rematch.CursorError) as caught:
+                    rematch.Query('/!x{a}/', program=program).findall(b'aaa', after=cursor)
+                said.append((caught.exception.note, caught.exception.status, str(caught.exception)))
+            self.assertEqual(*said)
+
+    def test_a_library_without_cursors(self):
+        query = rematch.Query('/!x{a}/')
+        with mock.patch.object(rematch.library.Compiled, 'goes_on', False):
+            self.assertEqual([match.row for match in query.finditer(b'aaa', after='c2:3;x:1-2')], [(2, 3)])
+            self.assertEqual(query.spans(b'aaa', after='c2:3;x:1-2').tolist(), [[2, 3]])
+
+    def test_explanations(self):
         self.assertEqual(rematch.Query('/!x{[cab]}/').printed, '/!x{[a-c]}/')
+        for text in ('/!x{[cab]}/', '/é/u', b'/\\xff/', '/a/ where upper(x)', b'/!x{a}\0/', '/!x{\\p{L}}/u', '/a/ union /!x{b}/ minus /c/'):
+            said = []
+            for program in (None, PROGRAM):
+                try:
+                    said.append(rematch.Query(text, program=program).explanation)
+                except rematch.RematchError as fault:
+                    said.append((type(fault), str(fault)))
+            self.assertEqual(*said)
+
+    def test_an_explanation_without_a_program(self):
+        query = rematch.Query('/!x{[cab]}/')
+        if hasattr(query._inside._library, 'rematch_run'):
+            with mock.patch.object(query, '_program', '/nowhere/rematch'):
+                self.assertEqual(query.printed, '/!x{[a-c]}/')
 
 
 @with_library

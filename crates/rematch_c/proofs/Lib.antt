@@ -1,3 +1,6 @@
 mod CallLaws
 mod Owner
+mod ReadLaws
+mod RowLaws
+mod RunLaws
 mod TextLaws

@@ -1,7 +1,8 @@
 -- What each call answers.
-use Rattle.std.specs.Prelude.{◌≡◌, ℕ, ◌*◌, ◌<◌, List, [], length, slice_get, Option, None, Some}
+use Rattle.std.specs.Prelude.{◌≡◌, ℕ, ◌*◌, ◌<◌, List, [], length, take, drop, slice_get, Option, None, Some}
 use Rattle.spanner_model.specs.Captures.{VarName}
-use Rattle.spanner_model.specs.Answers.{AreResultNames}
+use Rattle.row_cursor.specs.CursorTexts.{cursor_text}
+use Rattle.spanner_model.specs.Answers.{AreResultNames, SpanRow}
 use Rattle.spanner_engine.specs.Passing.{IsOnlyTested}
 use Rattle.spanner_library.specs.Library.{Given, PreparedQuery, checks_by, tree}
 use Rattle.main_tests.specs.Relations.{relation}
@@ -12,8 +13,8 @@ use Rattle.rematch_c.specs.declared.held.Held.{Held}
 use Rattle.rematch_c.specs.declared.held.Held.TheVariants.{Query, Rows}
 use Rattle.rematch_c.specs.declared.open_rows.ReadOptions.{ReadOptions}
 use Rattle.rematch_c.specs.declared.short_text.ShortText.{ShortText}
-use Rattle.rematch_c.specs.Refusals.{IsReadRefusal, IsTextRefusal, IsWant, program}
-use Rattle.rematch_c.specs.Rows.{AreRowsOf, QueryRows, rows_within}
+use Rattle.rematch_c.specs.Refusals.{IsReadRefusal, IsResumeRefusal, IsTextRefusal, IsWant, program}
+use Rattle.rematch_c.specs.Rows.{AreRowsBehind, AreRowsOf, IsRowIn, QueryRows, rows_within}
 use Rattle.rematch_c.specs.Texts.{IsText}
 
 -- no compiled query is held
@@ -59,9 +60,17 @@ pub data Shared : Option Held → Option Held → ℕ → Type 0 where
 pub data Opened (held : Option Held) (document : List ℕ) (options : ReadOptions) : Option Held → ShortText → ℕ → Type 0 where
   opened : {p : PreparedQuery} {r : QueryRows} {note : ShortText} → held ≡ Some (Query p) → AreRowsOf p document r → IsText note [] →
       Opened held document options (Some (Rows r)) note 0
-  refused : {p : PreparedQuery} {note : ShortText} (how : Status) → held ≡ Some (Query p) → IsReadRefusal p document options how note →
+  refused : {p : PreparedQuery} {note : ShortText} (how : Status) → held ≡ Some (Query p) → IsReadRefusal p document options None how note →
       Opened held document options None note (exit_status_of how)
   no_query : {note : ShortText} → IsNoQuery held → IsText note [] → Opened held document options None note 2
+
+-- a document was read for the rows behind a cursor, or refused
+pub data Resumed (held : Option Held) (document cursor : List ℕ) (options : ReadOptions) : Option Held → ShortText → ℕ → Type 0 where
+  resumed : {p : PreparedQuery} {r : QueryRows} {note : ShortText} → held ≡ Some (Query p) → AreRowsBehind p document cursor r → IsText note [] →
+      Resumed held document cursor options (Some (Rows r)) note 0
+  refused : {p : PreparedQuery} {note : ShortText} (how : Status) → held ≡ Some (Query p) → IsResumeRefusal p document cursor options how note →
+      Resumed held document cursor options None note (exit_status_of how)
+  no_query : {note : ShortText} → IsNoQuery held → IsText note [] → Resumed held document cursor options None note 2
 
 -- the next rows were given
 pub data Filled : Option Held → Option Held → List ℕ → List ℕ → ℕ → ℕ → ℕ → Type 0 where
@@ -71,3 +80,15 @@ pub data Filled : Option Held → Option Held → List ℕ → List ℕ → ℕ 
   no_room : {r : QueryRows} {out : List ℕ} {most : ℕ} → 0 < most → length out < 2 * length r.query.names →
       Filled (Some (Rows r)) (Some (Rows r)) out out most 0 8
   no_rows : {held : Option Held} {out : List ℕ} {most : ℕ} → IsNoRows held → Filled held held out out most 0 2
+
+-- the cursor of a row was printed, of which these are the numbers
+pub data Printed : Option Held → List ℕ → List ℕ → List ℕ → ℕ → ℕ → Type 0 where
+  printed : {r : QueryRows} {numbers before after : List ℕ} {count : ℕ} (row : SpanRow) → IsRowIn (length r.query.names) (length r.document) numbers row →
+      count ≡ length (cursor_text r.query.names row (length r.document)) → take count after ≡ cursor_text r.query.names row (length r.document) →
+      drop count after ≡ drop count before → Printed (Some (Rows r)) numbers before after count 0
+  no_room : {r : QueryRows} {numbers text : List ℕ} {count : ℕ} (row : SpanRow) → IsRowIn (length r.query.names) (length r.document) numbers row →
+      count ≡ length (cursor_text r.query.names row (length r.document)) → length text < count → Printed (Some (Rows r)) numbers text text count 8
+  no_row : {r : QueryRows} {numbers text : List ℕ} → ((row : SpanRow) → IsRowIn (length r.query.names) (length r.document) numbers row → ⊥) →
+      Printed (Some (Rows r)) numbers text text 0 2
+  want : {r : QueryRows} {numbers text : List ℕ} → Printed (Some (Rows r)) numbers text text 0 9
+  no_rows : {held : Option Held} {numbers text : List ℕ} → IsNoRows held → Printed held numbers text text 0 2

@@ -1,10 +1,15 @@
 -- Rows of a query on a document.
-use Rattle.std.specs.Prelude.{◌≡◌, ℕ, ◌/◌, ◌^◌, ◌≤◌, List, length, None, min, nat_eq, cond, refl}
+use Rattle.std.specs.Prelude.{◌≡◌, ℕ, ◌/◌, ◌^◌, ◌≤◌, List, length, Option, Some, None, min, nat_eq, cond, IsTrue, refl}
+use Rattle.std.specs.List.{list_all}
 use Rattle.std.specs.Coded.{Coded, code_by, coded×, coded_list, coded_option, coded_ℕ}
 use Rattle.span_core.specs.contracts.span.Span.{the_row as span_row}
+use Rattle.span_core.specs.declared.kept.Kept.{Kept}
+use Rattle.cell_text.specs.Cells.{ends_by}
+use Rattle.row_cursor.specs.CursorTexts.{IsCursorText}
 use Rattle.spanner_model.specs.Answers.{SpanRow}
 use Rattle.spanner_engine.specs.Fitting.{AreLast}
 use Rattle.spanner_engine.specs.Left.{AreLeft}
+use Rattle.spanner_library.specs.Cells.{row_cells}
 use Rattle.spanner_library.specs.Library.{PreparedQuery, prepared_code, tree}
 
 -- the answers of a query on a document that were not tried yet
@@ -23,9 +28,25 @@ rows_code =
 abbrev pub AreRows : PreparedQuery → List ℕ → List SpanRow → Type 0
 AreRows p d rest = (length d ≤ 2 ^ 28) × AreLast (tree p).query d p.names rest
 
+-- the answers of the query on the document behind this row are to come, or all
+abbrev pub AreRowsAfter : PreparedQuery → List ℕ → Option SpanRow → QueryRows → Type 0
+AreRowsAfter p d after r = (r.query ≡ p) × (r.document ≡ d) × AreLeft (tree p).query d p.names after r.rest
+
 -- all answers of the query on the document are to come
 abbrev pub AreRowsOf : PreparedQuery → List ℕ → QueryRows → Type 0
-AreRowsOf p d r = (r.query ≡ p) × (r.document ≡ d) × AreLeft (tree p).query d p.names None r.rest
+AreRowsOf p d = AreRowsAfter p d None
+
+-- the same behind the row that a cursor keeps
+pub record AreRowsBehind (p : PreparedQuery) (d cursor : List ℕ) (r : QueryRows) : Type 0 where
+  pub kept : Kept
+  pub text : IsCursorText p.names kept.row kept.length cursor
+  pub rows : AreRowsAfter p d (Some kept.row) r
+
+-- these are the numbers of a row of so many variables, of which no span ends past n
+pub record IsRowIn (variables n : ℕ) (numbers : List ℕ) (row : SpanRow) : Type 0 where
+  pub lengths : length row ≡ variables
+  pub cells : row_cells row ≡ numbers
+  pub inside : IsTrue (list_all (ends_by n) row)
 
 -- so many rows at most, and as many as have room in so many numbers
 abbrev pub rows_within : ℕ → ℕ → ℕ → ℕ

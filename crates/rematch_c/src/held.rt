@@ -1,11 +1,12 @@
 //! What a handle owns, and what it is asked.
 ghost use Rattle.std.specs.Prelude.{◌≡◌, Some, None, []};
 ghost use Rattle.rm_outside.specs.Status.{exit_status_of};
-ghost use Rattle.rematch_c.specs.Calls.{Counted, Filled, Holds, Named, Opened, Shared};
+ghost use Rattle.rematch_c.specs.Calls.{Counted, Filled, Holds, Named, Opened, Printed, Resumed, Shared};
 ghost use Rattle.rematch_c.specs.Texts.{IsText};
 
 use crate::shared_query::out_of_memory;
 use crate::{OpenRows, ReadOptions, SharedQuery, ShortText, Slot};
+use memory_run::MemoryRun;
 use rm_outside::Status;
 use std::alloc::Global;
 use std::marker::Brand;
@@ -18,6 +19,8 @@ pub enum Held {
     Query(SharedQuery),
     /// The rows of a query on a document.
     Rows(OpenRows),
+    /// What a run of the program is given.
+    Run(MemoryRun),
 }
 
 /// The number of a status, which is that of the program's exit status.
@@ -105,10 +108,62 @@ pub(crate) fn open(
     let Held::Query(query) = held else {
         return Status::Words;
     };
-    match OpenRows::read::<Brand>(alloc, Blank::new(1), query, document, options, note) {
+    match OpenRows::read::<Brand>(alloc, Blank::new(1), query, document, None, options, note) {
         Ok(read) => hold(alloc, rows, Held::Rows(read), note),
         Err(status) => status,
     }
+}
+
+/// Reads a document for a query, for the rows behind the one whose cursor this is.
+pub(crate) fn resume(
+    alloc: Global,
+    held: &Held,
+    document: &[u8],
+    cursor: &[u8],
+    options: &ReadOptions,
+    rows: &mut Slot,
+    note: &mut ShortText,
+) -> Status
+    requires empty { rows.old.handle.home ≡ None }
+    requires silent { IsText note.old [] }
+    ensures { Resumed (Some held.now) document.now cursor.now options.now rows.new.handle.home note.new (exit_status_of result) }
+{
+    let Held::Query(query) = held else {
+        return Status::Words;
+    };
+    match OpenRows::resume::<Brand>(alloc, Blank::new(1), query, document, cursor, options, note) {
+        Ok(read) => hold(alloc, rows, Held::Rows(read), note),
+        Err(status) => status,
+    }
+}
+
+/// Prints the cursor of a row, of which these are the numbers.
+pub(crate) fn print_cursor(
+    alloc: Global,
+    held: &Held,
+    row: &[u32],
+    text: &mut [u8],
+    length: &mut usize,
+) -> Status
+    requires none { length.old ≡ 0 }
+    ensures { Printed (Some held.now) row.now text.old text.new length.new (exit_status_of result) }
+{
+    let Held::Rows(rows) = held else {
+        return Status::Words;
+    };
+    let Some(row) = rows.row_of(row) else {
+        return Status::Words;
+    };
+    let Ok(cursor) = rows.cursor(alloc, &row) else {
+        return Status::Memory;
+    };
+    let count = cursor.len();
+    *length = count;
+    if count > text.len() {
+        return Status::Write;
+    }
+    text[..count].copy_from_slice(&cursor);
+    Status::Done
 }
 
 /// Gives the next rows.

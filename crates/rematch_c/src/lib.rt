@@ -1,4 +1,4 @@
-//! The library for C: queries that are compiled once, and rows as numbers, with handles that own.
+//! The library for C: queries that are compiled once, and rows as numbers, with handles that own; and runs of the program.
 //!
 //! A slot is memory of the caller's that holds a handle, or none. What a handle owns, a compiled query or the rows of one on a
 //! document, is on the heap, and is freed when the slot is closed. A call that is given a slot which holds nothing, or another
@@ -8,13 +8,15 @@
 #![tactic(auto)]
 
 ghost use Rattle.std.specs.Prelude.{◌≡◌, None};
-ghost use Rattle.rematch_c.specs.Calls.{Compiled, Counted, Filled, Named, Opened, Shared};
+ghost use Rattle.rematch_c.specs.Calls.{Compiled, Counted, Filled, Named, Opened, Printed, Resumed, Shared};
+ghost use Rattle.rematch_c.specs.Runs.{DocumentAdded, Ended, RunBegun, WordAdded, outputs};
 
 pub use handle::Handle;
 pub use held::Held;
 use held::{hold, number_of};
 pub use open_rows::{OpenRows, ReadOptions};
 use rm_outside::Status;
+pub use runs::Written;
 pub use shared_query::SharedQuery;
 pub use short_text::ShortText;
 pub use slot::Slot;
@@ -23,7 +25,9 @@ use std::alloc::Global;
 mod block;
 mod handle;
 mod held;
+mod numbers;
 mod open_rows;
+mod runs;
 mod shared_query;
 mod short_text;
 mod slot;
@@ -121,6 +125,53 @@ pub extern "C" fn rematch_c_open(
     number_of(status)
 }
 
+/// Reads a document, and holds the rows behind the one whose cursor this is. The refusals of the cursor are the program's, in its
+/// order: the cursor's text before the document.
+#[unsafe(no_mangle)]
+pub extern "C" fn rematch_c_resume(
+    alloc: Global,
+    query: &mut Slot,
+    document: &[u8],
+    options: &ReadOptions,
+    cursor: &[u8],
+    rows: &mut Slot,
+    note: &mut ShortText,
+) -> u32
+    ensures kept { query.new.handle.home ≡ query.old.handle.home }
+    ensures resumed { Resumed query.old.handle.home document.now cursor.now options.now rows.new.handle.home note.new result }
+{
+    drop(rows.take(alloc));
+    note.clear();
+    let Some(owned) = query.take(alloc) else {
+        return number_of(Status::Words);
+    };
+    let status = held::resume(alloc, &owned, document, cursor, options, rows, note);
+    query.put(owned);
+    number_of(status)
+}
+
+/// Prints the cursor of a row, which is given by its numbers, into memory of the caller's. `length` says how many bytes it has,
+/// also where there is no room for them. Numbers that are those of no row within the document are refused.
+#[unsafe(no_mangle)]
+pub extern "C" fn rematch_c_cursor(
+    alloc: Global,
+    rows: &mut Slot,
+    row: &[u32],
+    text: &mut [u8],
+    length: &mut usize,
+) -> u32
+    ensures kept { rows.new.handle.home ≡ rows.old.handle.home }
+    ensures printed { Printed rows.old.handle.home row.now text.old text.new length.new result }
+{
+    *length = 0;
+    let Some(owned) = rows.take(alloc) else {
+        return number_of(Status::Words);
+    };
+    let status = held::print_cursor(alloc, &owned, row, text, length);
+    rows.put(owned);
+    number_of(status)
+}
+
 /// Gives the next rows as numbers, so many at most and as many as there is room for: of each, for each variable, where its span
 /// starts and where it ends, or twice 4,294,967,295. `given` says how many; where it is less than both, no row remains.
 #[unsafe(no_mangle)]
@@ -139,6 +190,68 @@ pub extern "C" fn rematch_c_fill(
     };
     let status = held::fill(&mut owned, out, most, given);
     rows.put(owned);
+    number_of(status)
+}
+
+/// Begins a run of the program, which is given nothing yet. What the slot holds is closed first.
+#[unsafe(no_mangle)]
+pub extern "C" fn rematch_c_begin_run(alloc: Global, run: &mut Slot) -> u32
+    ensures { RunBegun run.new.handle.home result }
+{
+    drop(run.take(alloc));
+    number_of(runs::begin_run(alloc, run))
+}
+
+/// Gives a run one more word. A word that is no UTF-8 is refused.
+#[unsafe(no_mangle)]
+pub extern "C" fn rematch_c_add_word(alloc: Global, run: &mut Slot, word: &[u8]) -> u32
+    ensures { WordAdded run.old.handle.home word.now run.new.handle.home result }
+{
+    let Some(mut owned) = run.take(alloc) else {
+        return number_of(Status::Words);
+    };
+    let number = runs::add_word(&mut owned, word);
+    run.put(owned);
+    number
+}
+
+/// Gives a run a document under its name. A name that is no UTF-8 is refused, and so is `-`, and one that has a document.
+#[unsafe(no_mangle)]
+pub extern "C" fn rematch_c_add_document(
+    alloc: Global,
+    run: &mut Slot,
+    name: &[u8],
+    document: &[u8],
+) -> u32
+    ensures { DocumentAdded run.old.handle.home name.now document.now run.new.handle.home result }
+{
+    let Some(mut owned) = run.take(alloc) else {
+        return number_of(Status::Words);
+    };
+    let number = runs::add_document(&mut owned, name, document);
+    run.put(owned);
+    number
+}
+
+/// Runs the program on what was given and on a standard input. The run is given nothing any more then. What the program writes is
+/// copied to `rows` and to `notes`, and `written` says how much that is.
+#[unsafe(no_mangle)]
+pub extern "C" fn rematch_c_run(
+    alloc: Global,
+    run: &mut Slot,
+    input: &[u8],
+    rows: &mut [u8],
+    notes: &mut [u8],
+    written: &mut Written,
+) -> u32
+    ensures { Ended run.old.handle.home input.now run.new.handle.home (outputs rows.old rows.new notes.old notes.new written.new) result }
+{
+    *written = Written { rows: 0, notes: 0 };
+    let Some(mut owned) = run.take(alloc) else {
+        return number_of(Status::Words);
+    };
+    let status = runs::run_program(alloc, &mut owned, input, rows, notes, written);
+    run.put(owned);
     number_of(status)
 }
 
@@ -191,6 +304,58 @@ mod tests {
         assert_eq!(rt; out[1], 2);
         assert_eq!(rt; out[2], u32::MAX);
         assert_eq!(rt; out[4], 7);
+        rematch_c_close(alloc, &mut rows);
+    }
+
+    /// The rows behind a row, by its cursor.
+    #[test]
+    fn goes_on_behind_a_cursor(rt: HostRuntime) {
+        let alloc = rt.alloc();
+        let (mut query, mut rows) = (Slot::empty(alloc), Slot::empty(alloc));
+        let mut note = text();
+        rematch_c_compile(alloc, b"/!x{a}/", &mut query, &mut note);
+        let options = ReadOptions {
+            max_table: 1_000_000,
+            filter: false,
+        };
+        rematch_c_open(alloc, &mut query, b"aaa", &options, &mut rows, &mut note);
+        let (mut cursor, mut length) = ([0; 20], 0);
+        assert_eq!(rt;
+            rematch_c_cursor(alloc, &mut rows, &[1, 2], &mut cursor, &mut length),
+            0
+        );
+        assert_eq!(rt; &cursor[..length], b"c2:3;x:1-2".as_slice());
+        assert_eq!(rt;
+            rematch_c_cursor(alloc, &mut rows, &[1, 2], &mut cursor[..9], &mut length),
+            8
+        );
+        assert_eq!(rt; length, 10);
+        assert_eq!(rt;
+            rematch_c_cursor(alloc, &mut rows, &[1, 4], &mut cursor, &mut length),
+            2
+        );
+        let text = &cursor[..10];
+        assert_eq!(rt;
+            rematch_c_resume(
+                alloc, &mut query, b"aaa", &options, text, &mut rows, &mut note
+            ),
+            0
+        );
+        let (mut out, mut given) = ([7; 4], 0);
+        rematch_c_fill(alloc, &mut rows, &mut out, 2, &mut given);
+        assert_eq!(rt; given, 1);
+        assert_eq!(rt; out[0], 2);
+        assert_eq!(rt;
+            rematch_c_resume(
+                alloc, &mut query, b"aa", &options, text, &mut rows, &mut note
+            ),
+            7
+        );
+        assert_eq!(rt;
+            &note.bytes[..note.length],
+            b"cursor: document of 3 bytes, not 2".as_slice()
+        );
+        rematch_c_close(alloc, &mut query);
         rematch_c_close(alloc, &mut rows);
     }
 

@@ -1,18 +1,26 @@
 //! Rows of a query on a document.
-ghost use Rattle.std.specs.Prelude.{◌≡◌, ◌*◌, ◌^◌, ◌≤◌, ◌<◌, [], length, None, IfOk, IfErr, OnOk, codes};
-ghost use Rattle.spanner_engine.specs.Begun.{IsBeginFault};
-ghost use Rattle.spanner_engine.specs.Left.{AreLeft};
+ghost use Rattle.std.specs.Prelude.{◌≡◌, ◌*◌, ◌^◌, ◌≤◌, ◌<◌, [], length, IfOk, IfErr, IfNone, IfSome, IsTrue, OnOk, codes};
+ghost use Rattle.std.specs.List.{list_all};
+ghost use Rattle.std.specs.Option.{option_copied};
+ghost use Rattle.cell_text.specs.Cells.{ends_by};
+ghost use Rattle.row_cursor.specs.CursorTexts.{cursor_text};
+ghost use Rattle.spanner_model.specs.Answers.{SpanRow};
+ghost use Rattle.spanner_engine.specs.Begun.{row_kept};
+ghost use Rattle.spanner_engine.specs.Fitting.{AreLast};
 ghost use Rattle.main_tests.specs.Relations.{relation};
+ghost use Rattle.note_texts.specs.Notes.{note_text};
 ghost use Rattle.spanner_library.specs.Library.{Given, checks_by, tree};
-ghost use Rattle.rematch_c.specs.Refusals.{IsHeavyRefusal, IsLongRefusal, IsReadRefusal};
-ghost use Rattle.rematch_c.specs.Rows.{AreRowsOf, rows_within};
+ghost use Rattle.rematch_c.specs.Refusals.{IsLongRefusal, IsReadRefusal, IsResumeRefusal, IsUnread, Says};
+ghost use Rattle.rematch_c.specs.Rows.{AreRowsAfter, AreRowsBehind, IsRowIn, rows_within};
 ghost use Rattle.rematch_c.specs.Texts.{IsText};
 
 use crate::ShortText;
+use crate::numbers::row_of;
 use crate::shared_query::{SharedQuery, note_said, out_of_memory};
-use note_texts::Note;
+use note_texts::{FixedNote, Note};
 use rm_outside::Status;
-use span_core::{OutOfMemory, Steps};
+use row_cursor::CursorFault;
+use span_core::{Kept, OutOfMemory, Row, Steps};
 use spanner_library::{BeginFault, Options, Rows};
 use std::alloc::Global;
 use std::marker::Model;
@@ -60,21 +68,23 @@ impl Model for OpenRows {
 }
 
 impl OpenRows {
-    /// Reads a document.
+    /// Reads a document, for the rows behind the one that is kept, or for all.
     pub(crate) fn read<L: Ledger>(
         alloc: Global,
         blank: Blank,
         query: &SharedQuery,
         document: &[u8],
+        after: Option<&Kept>,
         options: &ReadOptions,
         note: &mut ShortText,
     ) -> Result<OpenRows, Status>
         requires name { blank.name ≡ L.name }
         requires parts { blank.parts ≡ L.parts }
         requires some { 0 < L.parts }
-        ensures rows { IfOk result (AreRowsOf query.now document.now) }
+        requires row { IfSome (option_copied after) (λ kept. length kept.row ≡ length query.now.names) }
+        ensures rows { IfOk result (AreRowsAfter query.now document.now (row_kept (option_copied after.entry))) }
         ensures silent { OnOk result (IsText note.new []) }
-        ensures refused { IfErr result (λ status. IsReadRefusal query.now document.now options.now status note.new) }
+        ensures refused { IfErr result (λ status. IsReadRefusal query.now document.now options.now (option_copied after.entry) status note.new) }
     {
         if document.len() as u64 > MOST_DOCUMENT {
             return Err(too_long(alloc, note));
@@ -86,11 +96,73 @@ impl OpenRows {
         let mut steps = Steps::<L>::new(blank);
         match query
             .prepared()
-            .open(alloc, document, None, options, &mut steps)
+            .open(alloc, document, after, options, &mut steps)
         {
             Ok(rows) => kept(alloc, query, document, rows, note),
-            Err(fault) => Err(unread(alloc, query, document, options, fault, note)),
+            Err(fault) => Err(unread(alloc, options.limit, fault, note)),
         }
+    }
+
+    /// Reads a document, for the rows behind the one whose cursor this is.
+    pub(crate) fn resume<L: Ledger>(
+        alloc: Global,
+        blank: Blank,
+        query: &SharedQuery,
+        document: &[u8],
+        cursor: &[u8],
+        options: &ReadOptions,
+        note: &mut ShortText,
+    ) -> Result<OpenRows, Status>
+        requires name { blank.name ≡ L.name }
+        requires parts { blank.parts ≡ L.parts }
+        requires some { 0 < L.parts }
+        ensures rows { IfOk result (AreRowsBehind query.now document.now cursor.now) }
+        ensures silent { OnOk result (IsText note.new []) }
+        ensures refused { IfErr result (λ status. IsResumeRefusal query.now document.now cursor.now options.now status note.new) }
+    {
+        match row_cursor::read(cursor, query.prepared().vars()) {
+            Ok(kept) => OpenRows::read::<L>(
+                alloc,
+                blank,
+                query,
+                document,
+                Some(&kept),
+                options,
+                note,
+            ),
+            Err(CursorFault::Syntax) => {
+                let none = Note::Fixed(FixedNote::NotACursor);
+                Err(said(alloc, Status::Cursor, &none, note))
+            }
+            Err(CursorFault::Variables) => {
+                let other = Note::Fixed(FixedNote::OtherVariables);
+                Err(said(alloc, Status::Cursor, &other, note))
+            }
+        }
+    }
+
+    /// The row of which these are the numbers, if they are those of a row within the document.
+    pub(crate) fn row_of(&self, numbers: &[u32]) -> Option<Row>
+        ensures some { IfSome result (IsRowIn (length self.now.query.names) (length self.now.document) numbers.now) }
+        ensures none { IfNone result ((row : SpanRow) → IsRowIn (length self.now.query.names) (length self.now.document) numbers.now row → ⊥) }
+    {
+        row_of(
+            numbers,
+            self.query.prepared().vars().len(),
+            self.document.len() as u32,
+        )
+    }
+
+    /// The cursor of a row within the document.
+    pub(crate) fn cursor(&self, alloc: Global, row: &Row) -> Result<Vec<u8>, OutOfMemory>
+        requires lengths { length row.now ≡ length self.now.query.names }
+        requires inside { IsTrue (list_all (ends_by (length self.now.document)) row.now) }
+        ensures { IfOk result (λ text. text.items ≡ cursor_text self.now.query.names row.now (length self.now.document)) }
+    {
+        let mut text = Vec::new(alloc);
+        let n = self.document.len() as u32;
+        row_cursor::print(row, self.query.prepared().vars(), n, &mut text)?;
+        Ok(text)
     }
 
     /// Gives the next rows, so many at most.
@@ -129,8 +201,10 @@ fn kept(
     note: &mut ShortText,
 ) -> Result<OpenRows, Status>
     requires few { length document.now ≤ 2 ^ 28 }
-    requires left { AreLeft (tree query.now).query document.now query.now.names None rows.rest }
-    ensures rows { IfOk result (AreRowsOf query.now document.now) }
+    requires last { AreLast (tree query.now).query document.now query.now.names rows.rest }
+    ensures query { IfOk result (λ r. r.query ≡ query.now) }
+    ensures document { IfOk result (λ r. r.document ≡ document.now) }
+    ensures rest { IfOk result (λ r. r.rest ≡ rows.rest) }
     ensures silent { OnOk result (IsText note.new []) }
     ensures refused { IfErr result (λ status. (status ≡ Status.Memory) × IsText note.new (codes "out of memory")) }
 {
@@ -161,27 +235,35 @@ fn too_long(alloc: Global, note: &mut ShortText) -> Status
     }
 }
 
-/// A table or a filter weighs too much, or memory is wanting.
-fn unread(
-    alloc: Global,
-    _query: &SharedQuery,
-    _document: &[u8],
-    options: Options,
-    fault: BeginFault,
-    note: &mut ShortText,
-) -> Status
-    requires fault { IsBeginFault (tree _query.now).query _document.now options.filter None options.limit fault }
-    ensures { IsHeavyRefusal (tree _query.now).query _document.now options.filter options.limit result note.new }
+/// Nothing is begun, where a table and a filter may weigh so much.
+fn unread(alloc: Global, limit: u64, fault: BeginFault, note: &mut ShortText) -> Status
+    ensures { IsUnread limit fault result note.new }
 {
-    let limit = options.limit;
-    let heavy = match fault {
-        BeginFault::Filter { .. } => Note::Filter { limit },
-        BeginFault::Table { .. } => Note::Table { limit },
-        BeginFault::OutOfMemory => return out_of_memory(note),
-        BeginFault::CursorOther { .. } | BeginFault::CursorPlace => unreachable!(),
-    };
-    match note_said(alloc, &heavy, note) {
-        Ok(()) => Status::Size,
+    match fault {
+        BeginFault::CursorOther { kept, found } => {
+            let other = Note::OtherDocument { kept, found };
+            said(alloc, Status::Cursor, &other, note)
+        }
+        BeginFault::CursorPlace => {
+            let past = Note::Fixed(FixedNote::PastTheDocument);
+            said(alloc, Status::Cursor, &past, note)
+        }
+        BeginFault::Filter { weight: _ } => {
+            said(alloc, Status::Size, &Note::Filter { limit }, note)
+        }
+        BeginFault::Table { weight: _ } => {
+            said(alloc, Status::Size, &Note::Table { limit }, note)
+        }
+        BeginFault::OutOfMemory => out_of_memory(note),
+    }
+}
+
+/// Says a note, which is that of this status.
+fn said(alloc: Global, status: Status, told: &Note<'_>, note: &mut ShortText) -> Status
+    ensures { Says status (note_text told.now) result note.new }
+{
+    match note_said(alloc, told, note) {
+        Ok(()) => status,
         Err(OutOfMemory) => out_of_memory(note),
     }
 }

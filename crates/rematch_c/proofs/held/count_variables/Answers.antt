@@ -1,10 +1,10 @@
 use Rattle.std.proofs.Common.{ap, ◌∙◌}
 use Rattle.spanner_library.specs.Library.{PreparedQuery}
-use Rattle.rematch_c.proofs.CallLaws.{counted_query, counted_rows}
+use Rattle.rematch_c.proofs.CallLaws.{counted_query, counted_other}
 use Rattle.rematch_c.proofs.held.count_variables.Goals as goal
 
 pub returns-in_default : goal.returns-in_default
-returns-in_default c = counted_rows c.args.held.now c.in_default.field-0 c.in_default.is
+returns-in_default c = counted_other c.args.held.now c.in_default.not-Query
 
 pub returns : goal.returns
 returns c =

@@ -1,9 +1,9 @@
 use Rattle.std.proofs.Common.{rules, ◌≡◌, ◌<◌}
-use Rattle.rematch_c.proofs.CallLaws.{filled, filled_no_room, filled_query}
+use Rattle.rematch_c.proofs.CallLaws.{filled, filled_no_room, filled_other}
 use Rattle.rematch_c.proofs.held.fill.Goals as goal
 
 pub returns-in_default : goal.returns-in_default
-returns-in_default c = filled_query c.args.held.now c.in_default.field-0 c.args.out.now c.args.most c.args.given.now c.in_default.is c.requires.none
+returns-in_default c = filled_other c.args.held.now c.args.out.now c.args.most c.args.given.now c.in_default.not-Rows c.requires.none
 
 pub returns-then-most-gt0 : goal.returns-then-most-gt0
 returns-then-most-gt0 c =

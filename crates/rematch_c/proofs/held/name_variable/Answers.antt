@@ -1,11 +1,11 @@
-use Rattle.std.proofs.Common.{rules, ◌≤◌, length, ℕ, List, ap, ◌∙◌, subst, arith}
+use Rattle.std.proofs.Common.{rules, ◌≤◌, length, ℕ, List, ap, ◌∙◌, subst}
 use Rattle.spanner_library.specs.Library.{PreparedQuery}
 use Rattle.rematch_c.specs.Texts.{IsText}
-use Rattle.rematch_c.proofs.CallLaws.{named_at, named_past, named_rows}
+use Rattle.rematch_c.proofs.CallLaws.{named_at, named_past, named_other}
 use Rattle.rematch_c.proofs.held.name_variable.Goals as goal
 
 pub returns-in_default : goal.returns-in_default
-returns-in_default c = named_rows c.args.held.now c.in_default.field-0 c.args.place c.args.name.now c.in_default.is c.requires.silent
+returns-in_default c = named_other c.args.held.now c.args.place c.args.name.now c.in_default.not-Query c.requires.silent
 
 pub returns-then-place-len : goal.returns-then-place-len
 returns-then-place-len c =

@@ -1,9 +1,9 @@
-use Rattle.rematch_c.proofs.CallLaws.{open_refused, opened, opened_rows}
+use Rattle.rematch_c.proofs.CallLaws.{open_refused, opened, opened_other}
 use Rattle.rematch_c.proofs.held.open.Goals as goal
 
 pub returns-in_default : goal.returns-in_default
 returns-in_default c =
-    opened_rows c.args.held.now c.in_default.field-0 c.args.document.now c.args.options.now c.args.rows.now.handle.home c.args.note.now c.in_default.is c.requires.empty c.requires.silent
+    opened_other c.args.held.now c.args.document.now c.args.options.now c.args.rows.now.handle.home c.args.note.now c.in_default.not-Query c.requires.empty c.requires.silent
 
 pub returns-in-Ok : goal.returns-in-Ok
 returns-in-Ok c =

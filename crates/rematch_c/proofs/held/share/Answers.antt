@@ -1,10 +1,10 @@
 use Rattle.std.proofs.Common.{Some, ap, ◌∙◌}
 use Rattle.rematch_c.specs.declared.held.Held.{Held}
-use Rattle.rematch_c.proofs.CallLaws.{shared, shared_rows, shared_want}
+use Rattle.rematch_c.proofs.CallLaws.{shared, shared_other, shared_want}
 use Rattle.rematch_c.proofs.held.share.Goals as goal
 
 pub returns-in_default : goal.returns-in_default
-returns-in_default c = shared_rows c.args.held.now c.in_default.field-0 c.args.other.now.handle.home c.in_default.is c.requires.empty
+returns-in_default c = shared_other c.args.held.now c.args.other.now.handle.home c.in_default.not-Query c.requires.empty
 
 pub returns-in_default-another : goal.returns-in_default-another
 returns-in_default-another c = shared_want c.args.held.now c.in-Query.query c.args.other.now.handle.home c.in-Query.is c.requires.empty

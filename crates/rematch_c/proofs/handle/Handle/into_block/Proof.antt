@@ -1,5 +1,5 @@
 -- `into_block` moves two fields, and the block owns what the handle owned.
-use Rattle.std.proofs.Common.{List, [], ◌∷◌, ◌++◌, refl, ◌≡◌, Option, Some, is_some, true}
+use Rattle.std.proofs.Common.{List, [], ◌∷◌, ◌++◌, refl, ◌≡◌, Option, is_some, true}
 use Rattle.std.proofs.raw_atomic.Walks.{proved_at}
 use mir.Val.{Val}
 use base.Logic.{id⊢}

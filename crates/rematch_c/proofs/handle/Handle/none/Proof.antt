@@ -1,5 +1,5 @@
 -- `none` makes a null pointer, which owns nothing.
-use Rattle.std.proofs.Common.{ℕ, lit<, List, [], ◌∷◌, ◌++◌, refl, None}
+use Rattle.std.proofs.Common.{lit<, List, [], ◌∷◌, ◌++◌, refl, None}
 use Rattle.std.proofs.raw_atomic.Walks.{proved_at}
 use mir.Syntax.{w64}
 use mir.Val.{Val, has_ty, vint, vstruct, vcons, vnil}

@@ -1,4 +1,4 @@
-use Rattle.std.proofs.Common.{rules, arith}
+use Rattle.std.proofs.Common.{rules}
 use Rattle.rematch_c.proofs.TextLaws.{said}
 use Rattle.rematch_c.proofs.short_text.ShortText.say.Goals as goal
 
