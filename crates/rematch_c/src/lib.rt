@@ -307,58 +307,6 @@ mod tests {
         rematch_c_close(alloc, &mut rows);
     }
 
-    /// The rows behind a row, by its cursor.
-    #[test]
-    fn goes_on_behind_a_cursor(rt: HostRuntime) {
-        let alloc = rt.alloc();
-        let (mut query, mut rows) = (Slot::empty(alloc), Slot::empty(alloc));
-        let mut note = text();
-        rematch_c_compile(alloc, b"/!x{a}/", &mut query, &mut note);
-        let options = ReadOptions {
-            max_table: 1_000_000,
-            filter: false,
-        };
-        rematch_c_open(alloc, &mut query, b"aaa", &options, &mut rows, &mut note);
-        let (mut cursor, mut length) = ([0; 20], 0);
-        assert_eq!(rt;
-            rematch_c_cursor(alloc, &mut rows, &[1, 2], &mut cursor, &mut length),
-            0
-        );
-        assert_eq!(rt; &cursor[..length], b"c2:3;x:1-2".as_slice());
-        assert_eq!(rt;
-            rematch_c_cursor(alloc, &mut rows, &[1, 2], &mut cursor[..9], &mut length),
-            8
-        );
-        assert_eq!(rt; length, 10);
-        assert_eq!(rt;
-            rematch_c_cursor(alloc, &mut rows, &[1, 4], &mut cursor, &mut length),
-            2
-        );
-        let text = &cursor[..10];
-        assert_eq!(rt;
-            rematch_c_resume(
-                alloc, &mut query, b"aaa", &options, text, &mut rows, &mut note
-            ),
-            0
-        );
-        let (mut out, mut given) = ([7; 4], 0);
-        rematch_c_fill(alloc, &mut rows, &mut out, 2, &mut given);
-        assert_eq!(rt; given, 1);
-        assert_eq!(rt; out[0], 2);
-        assert_eq!(rt;
-            rematch_c_resume(
-                alloc, &mut query, b"aa", &options, text, &mut rows, &mut note
-            ),
-            7
-        );
-        assert_eq!(rt;
-            &note.bytes[..note.length],
-            b"cursor: document of 3 bytes, not 2".as_slice()
-        );
-        rematch_c_close(alloc, &mut query);
-        rematch_c_close(alloc, &mut rows);
-    }
-
     /// A fault has the program's note and status.
     #[test]
     fn refuses_a_text(rt: HostRuntime) {
