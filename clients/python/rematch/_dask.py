@@ -17,7 +17,7 @@ __all__ = ['on_dask']
 def on_dask(client: Any, query: Query, paths: 'Union[_Path, Iterable[_Path]]', *, size: int = 8_000_000, frame: bool = False) -> Any:
     """The rows of documents, cut into pieces of ``size`` bytes that are searched on the workers of a Dask client.
 
-    The answer is a ``dask.bag`` of one ``dict`` a row, or with ``frame`` a ``dask.dataframe``, with these members or columns:
+    The answer is a ``dask.bag`` of one ``dict`` a row, or with ``frame`` a ``dask.dataframe``. Its members or columns are
     ``document``, and of each variable x ``x_start``, ``x_end`` (in bytes of the document; -1 where it is absent) and ``x``
     (a ``str``; None where it is absent). Rows stand in the order of the documents and of the program. Nothing is searched
     before the answer is computed.

@@ -47,7 +47,7 @@ class Document:
     A path of a packed file, and a text that is the name of a file, are taken as they are, with a warning: ``gzip.open`` and the
     like give open files.
 
-    A file is read once, when its texts or its length are first asked for or when it cannot be opened again; what a
+    A file is read once, when its texts or its length are first asked for or when it cannot be opened again. What a
     match tells is of what was read then, also where the file is changed meanwhile. A file that is missing or cannot be
     read raises `DocumentError`.
 

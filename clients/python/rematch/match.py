@@ -64,7 +64,7 @@ class Match(Generic[AnyStr]):
 
     Places are counted from 0, in bytes; where the document is a ``str``, in characters. A variable that the row leaves
     out is absent: its span, start, end and text are None. A name that is no variable of the query raises `NoVariable`,
-    a `KeyError`; so does a number, and a call without a name, since a row has no whole match as ``re`` has its group 0.
+    a `KeyError`. So does a number, and a call without a name: a row has no whole match, which ``re`` has as its group 0.
 
     >>> import rematch
     >>> match = rematch.Query('/(!x{a})?!y{b}/').findall(b'ab')[1]

@@ -32,9 +32,9 @@ def _beside() -> Iterator[str]:
 def find_program() -> str:
     """The path of the program rematch.
 
-    It is the one that the variable REMATCH of the environment names; else one beside this package, or beside the zip
-    file that holds it; else that of the checkout that this package stands in; else the first of the path. Where there
-    is none, or REMATCH names none, it raises `ProgramNotFound`.
+    It is the one that the variable REMATCH of the environment names. Else it is one beside this package, or beside the
+    zip file that holds it. Else it is that of the checkout that this package is in, or else the first of the path. Where
+    there is none, or REMATCH names none, it raises `ProgramNotFound`.
 
     >>> import os
     >>> os.access(find_program(), os.X_OK)

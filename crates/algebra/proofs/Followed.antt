@@ -218,7 +218,7 @@ module _ (is : Pair → Bool) where
       go false e m = none_before keys e ∙ omega (arith, l, m, length-append keys (k ∷ []))
 
 -- what a refusal says of the error that is handed on
-pub handed_on : {T : Type 0} (P : SizeFault → Type 0) (r : Result T SizeFault) (e : SizeFault) → IsErrAnd r (λ g. g ≡ e) → P e → IfErr r P
+pub handed_on : {T F : Type 0} (P : F → Type 0) (r : Result T F) (e : F) → IsErrAnd r (λ g. g ≡ e) → P e → IfErr r P
 handed_on P (Ok x) e h p = absurd h
 handed_on P (Err g) e h p = subst P (sym h) p
 

@@ -25,22 +25,25 @@ use Rattle.algebra.specs.declared.halves.HalfWay.{HalfWay}
 use Rattle.algebra.specs.declared.halves.HalfStop.{HalfStop}
 use Rattle.algebra.specs.declared.halves.Operand.{Operand}
 use Rattle.algebra.specs.declared.pairs.Pair.{Pair}
+use Rattle.algebra.specs.declared.fault.JoinFault.{JoinFault}
+use Rattle.algebra.specs.declared.fault.JoinFault.TheVariants.{Size, Ends, Spent}
 use Rattle.algebra.specs.JoinedMarks.{agree_on, joined}
 use Rattle.algebra.specs.JoinedNames.{all_names}
-use Rattle.algebra.specs.Joining.{IsJoinFault, IsJoinOf, join_over}
+use Rattle.algebra.specs.Joining.{IsJoinFault, IsJoinFaultWithin, IsJoinOf, join_over}
 use Rattle.algebra.specs.Operations.{ends_with, goes_with, has_some, join_of, meet, pair_stop, pair_way}
 use Rattle.algebra.specs.Pairs.{AreStarted, AreWithin, HaveSameRows, HaveSmallMarks, IsIdlePair, IsStopAt, IsWayBetween, LeadWithin, Matched, PairStop, PairWay, half_at, half_from, pair_of, pairs, stop_pair, stops_at_pair, stops_meet, those_at, way_pair, ways_at, ways_meet}
 use Rattle.algebra.specs.Renaming.{half_stop, half_way}
-use Rattle.algebra.specs.Sides.{IsAssembledOf, IsMadeOf, IsRefusedSearch, IsSearchOf, IsSearchRefusal, IsSideOf, graph_of, half_ways_of, shifts_of}
+use Rattle.algebra.specs.Sides.{IsAssembledOf, IsMadeOf, IsRefusedSearch, IsSearchOf, IsSearchRefusal, IsSideOf, IsTold, graph_of, half_ways_of, shifts_of, stops_tried}
 use Rattle.marked_automaton.proofs.Passing.{both_true, filter_cases, flat_map_cases, has_filter, has_flat_map, right_true}
 use Rattle.algebra.proofs.Followed.{no_bytes, pairs_few, some_bytes}
 use Rattle.algebra.proofs.Gathered.{gathered, one_of}
 use Rattle.marked_automaton.proofs.Segments.{filter_yes, filter_no}
-use Rattle.algebra.proofs.JoinResults.{join_by, within_more}
+use Rattle.algebra.proofs.JoinResults.{faults_more, join_by}
 use Rattle.algebra.proofs.Places.{match_from, match_len, match_of, place_there}
 use Rattle.algebra.proofs.Reached.{AreSides, IsOfFound, coded_stop, coded_way, found_reduces, of_pairs}
 use Rattle.algebra.proofs.RenamingLaws.{agree_is, joined_is, joined_small, moved_none, power_le}
 use Rattle.algebra.proofs.Searched.{gathered_ways, row_has}
+use Rattle.algebra.proofs.StepLaws.{tried_few, tried_same}
 
 -- pairs of images make what pairs make
 module _ {X Y U V R S : Type 0} (test : U → V → Bool) (make : U → V → R) (code : R → S) (hx : X → U) (hy : Y → V) (test0 : X → Y → Bool) (make0 : X → Y → S) where
@@ -148,6 +151,9 @@ module _ {A B : Marked} (a : IsMarked A) (b : IsMarked B) (all : List VarName) w
   ways_len : length R ≡ length J.ways
   ways_len = sym (length-map R (coded_way n2)) ∙ ap length ways_are
 
+  stops_len : length S ≡ length J.stops
+  stops_len = sym (length-map S (coded_stop n2)) ∙ ap length stops_are
+
   -- what the two bring together is small
   way_marks : (x y : HalfWay) → Has X x → Has Y y → x.way.marks + y.way.marks < 2 ^ (2 * length all)
   way_marks x y hx hy =
@@ -236,8 +242,15 @@ module _ {A B : Marked} (a : IsMarked A) (b : IsMarked B) (all : List VarName) w
     pub small_stop_marks : (x y : HalfStop) → Has sx x → Has sy y → x.stop.marks + y.stop.marks < 2 ^ (2 * length all)
     small_stop_marks x y hx hy = stop_marks x y (rows_has half_at sx SX left.stops x hx) (rows_has half_at sy SY right.stops y hy)
 
+    -- the steps for the ways are those of the two automata
+    pub ways_steps : 3 * (length xs * length ys) ≡ 3 * (length A.graph.ways * length B.graph.ways)
+    ways_steps =
+        let one : length xs ≡ length A.graph.ways = ap length left_ways ∙ length-map A.graph.ways (half_way own1 shared1) in
+        let two : length ys ≡ length B.graph.ways = ap length right_ways ∙ length-map B.graph.ways (half_way own2 shared2) in
+        (λ i. 3 * (one i * two i))
+
     -- a refusal of the search is one of the join
-    pub refusal : all ≡ all_names A.names B.names → (e : SizeFault) → IsSearchRefusal one two e → IsJoinFault A B e
+    refusal : all ≡ all_names A.names B.names → (e : SizeFault) → IsSearchRefusal one two e → IsJoinFault A B (Size e)
     refusal all_are e h =
         let of_both : IsRefusedSearch A.graph B.graph xs ys e =
         subst (λ (N : Marked). IsRefusedSearch A.graph N.graph xs ys e) right.automaton
@@ -247,6 +260,11 @@ module _ {A B : Marked} (a : IsMarked A) (b : IsMarked B) (all : List VarName) w
         (subst (λ (zs : List HalfWay). IsRefusedSearch A.graph B.graph zs ys e) left_ways of_both) in
         subst (λ ns. IsSizeFaultWithin (n1 * n2) (length (join_over A B ns).ways) e) all_are
         (all_ways (length J.ways) a.whole.starts b.whole.starts lead_within (omega (arith, ways_len)))
+
+    pub told_refusal : all ≡ all_names A.names B.names → (f : JoinFault) → IsTold (IsSearchRefusal one two) f → IsJoinFault A B f
+    told_refusal all_are (Size e) h = refusal all_are e h
+    told_refusal all_are (Ends count) h = absurd h
+    told_refusal all_are Spent h = tt
 
     module _ {keys : List Pair} {count : ℕ} {made : List Way} (s : IsSearchOf one two keys count made) where
       abbrev keys0 : List Pair
@@ -311,6 +329,23 @@ module _ {A B : Marked} (a : IsMarked A) (b : IsMarked B) (all : List VarName) w
           let few : length some ≤ length R = filter_no_more (λ (r : PairWay). one_of keys r.from) R in
           let match : length (flat_map (ways_at xs ys) keys) ≡ length made = match_len (IsWayBetween keys) (flat_map (ways_at xs ys) keys) made between in
           omega (arith, len, few, match, ap length rows, ways_len)
+
+      -- and no more ends
+      stops_few : length (flat_map (stops_at_pair sx sy) keys) ≤ length J.stops
+      stops_few =
+          let some = filter (λ (r : PairStop). one_of keys r.at) S in
+          let perm = gathered half_at half_at stops_meet stop_pair (λ (r : PairStop). r.at) (λ x y. refl) keys SY SX s.apart in
+          let len : length (flat_map (stops_at_pair SX SY) keys) ≡ length some = length_permutation some (flat_map (stops_at_pair SX SY) keys) perm in
+          let few : length some ≤ length S = filter_no_more (λ (r : PairStop). one_of keys r.at) S in
+          omega (arith, len, few, ap length stop_rows, stops_len)
+
+      -- and no more steps for the ends than there are pairs of them
+      pub stops_steps : length (stops_tried sx sy keys) ≤ length A.graph.stops * length B.graph.stops
+      stops_steps =
+          let one : length SX ≡ length A.graph.stops = length-map A.graph.stops (half_stop own1 shared1) in
+          let two : length SY ≡ length B.graph.stops = length-map B.graph.stops (half_stop own2 shared2) in
+          let all : length SX * length SY ≡ length A.graph.stops * length B.graph.stops = (λ i. one i * two i) in
+          omega (arith, ap length (tried_same half_at half_at sx SX sy SY keys left.stops right.stops), tried_few half_at half_at keys SX SY s.apart, all)
 
       one_place : (k : Pair) (i j : ℕ) → slice_get keys i ≡ Some k → slice_get keys j ≡ Some k → i ≡ j
       one_place k i j p q = some_same i j (sym (place_there keys k i s.apart p) ∙ place_there keys k j s.apart q)
@@ -408,15 +443,17 @@ module _ {A B : Marked} (a : IsMarked A) (b : IsMarked B) (all : List VarName) w
         join_reduces = subst (Reduces C) join_is
             (found_reduces n1 n2 A.graph.starts B.graph.starts R S A.graph.idle B.graph.idle sides keys within (flat_map (ways_at X Y) keys) (flat_map (stops_at_pair SX SY) keys) C of_found)
 
-      pub join_made : all ≡ all_names A.names B.names → (r : Result Marked SizeFault) → IfOk r (λ (j : Marked). j.names ≡ all) →
+      pub join_made : all ≡ all_names A.names B.names → (r : Result Marked JoinFault) → IfOk r (λ (j : Marked). j.names ≡ all) →
           IfOk r (λ (j : Marked). IsAssembledOf one two keys count made j.graph) → IfOk r (IsJoinOf A B)
       join_made all_are r names is =
           join_by A B all all_are r (λ C. IsMadeOf keys count made sx sy A.graph.idle B.graph.idle C) (λ C is. join_reduces is) (λ C is. reached is) names
           (subst (λ (N : Marked). IfOk r (λ (j : Marked). IsMadeOf keys count made sx sy A.graph.idle N.graph.idle j.graph)) right.automaton
           (subst (λ (M : Marked). IfOk r (λ (j : Marked). IsMadeOf keys count made sx sy M.graph.idle (graph_of two).idle j.graph)) left.automaton is))
 
-      pub fault_made : all ≡ all_names A.names B.names → (r : Result Marked SizeFault) → IfErr r (IsSizeFaultWithin (length keys) (length made)) → IfErr r (IsJoinFault A B)
+      pub fault_made : all ≡ all_names A.names B.names → (r : Result Marked JoinFault) →
+          IfErr r (IsJoinFaultWithin (length keys) (length made) (length (flat_map (stops_at_pair sx sy) keys))) → IfErr r (IsJoinFault A B)
       fault_made all_are r h =
-          IfErr-weaker r (IsSizeFaultWithin (length keys) (length made)) (IsJoinFault A B)
-          (λ e f. subst (λ ns. IsSizeFaultWithin (n1 * n2) (length (join_over A B ns).ways) e) all_are
-          (within_more (length keys) (n1 * n2) (length made) (length J.ways) e keys_few made_few f)) h
+          let ends = length (flat_map (stops_at_pair sx sy) keys) in
+          IfErr-weaker r (IsJoinFaultWithin (length keys) (length made) ends) (IsJoinFault A B)
+          (λ e f. subst (λ ns. IsJoinFaultWithin (n1 * n2) (length (join_over A B ns).ways) (length (join_over A B ns).stops) e) all_are
+          (faults_more (length keys) (n1 * n2) (length made) (length J.ways) ends (length J.stops) e keys_few made_few stops_few f)) h

@@ -1,6 +1,7 @@
 pub mod Alike
 pub mod Assembled
 pub mod Bytes
+pub mod EndLaws
 pub mod Followed
 pub mod Gathered
 pub mod JoinResults
@@ -17,6 +18,7 @@ pub mod RenamingLaws
 pub mod RowLaws
 pub mod Searched
 pub mod Stable
+pub mod StepLaws
 pub mod Unions
 pub mod United
 pub mod UnionsOver

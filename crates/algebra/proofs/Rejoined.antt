@@ -8,21 +8,20 @@ use Rattle.std.proofs.lemmas.Result.{IfOk-weaker, IfErr-weaker}
 use Rattle.spanner_model.specs.Captures.{VarName}
 use Rattle.span_core.proofs.HasLaws.{Has-map_cases}
 use Rattle.marked_automaton.specs.declared.way.Way.{Way}
-use Rattle.marked_automaton.specs.declared.fault.SizeFault.{SizeFault}
 use Rattle.marked_automaton.specs.Automaton.{Automaton, IsMarked, Marked}
-use Rattle.marked_automaton.specs.Faults.{IsSizeFaultWithin}
 use Rattle.marked_automaton.specs.Laws.{WaysHaveBytes}
 use Rattle.marked_automaton.specs.Reduct.{Reduces}
 use Rattle.marked_automaton.proofs.Passing.{filter_cases, flat_map_cases, right_true}
 use Rattle.marked_automaton.proofs.Rearranged.{reduct_of_itself}
 use Rattle.marked_automaton.proofs.Reducts.{reduct_of_reduct}
 use Rattle.marked_automaton.proofs.Sizes.{reduct_is_no_larger}
+use Rattle.algebra.specs.declared.fault.JoinFault.{JoinFault}
 use Rattle.algebra.specs.JoinedMarks.{agree_on, joined}
 use Rattle.algebra.specs.JoinedNames.{all_names}
-use Rattle.algebra.specs.Joining.{IsGroupedOf, IsJoinFault, IsJoinOf, join_over}
+use Rattle.algebra.specs.Joining.{IsGroupedOf, IsJoinFault, IsJoinFaultWithin, IsJoinOf, join_over}
 use Rattle.algebra.specs.Operations.{goes_with, has_some, join_of, meet, pair_way}
 use Rattle.algebra.proofs.Followed.{no_bytes}
-use Rattle.algebra.proofs.JoinResults.{within_more}
+use Rattle.algebra.proofs.JoinResults.{faults_more}
 use Rattle.algebra.proofs.ReductJoins.{reduct_of_join}
 use Rattle.algebra.proofs.Whole.{join_whole}
 
@@ -55,17 +54,18 @@ module _ (A1 A2 B1 B2 : Marked) (a1 : IsMarked A1) (a2 : IsMarked A2) (b1 : IsMa
     reached = j.reached;
   }
 
-  fault_more : (e : SizeFault) → IsJoinFault A1 A2 e → IsJoinFault B1 B2 e
+  fault_more : (e : JoinFault) → IsJoinFault A1 A2 e → IsJoinFault B1 B2 e
   fault_more e h =
       let all = all_names B1.names B2.names in
       let agree = agree_on A1.names A2.names all in
       let both = joined A1.names A2.names all in
       let few = reduct_is_no_larger (join_over A1 A2 all) (join_over B1 B2 all) (join_whole A1.graph A2.graph a1.whole a2.whole agree both) (join_bytes agree both A1.graph A2.graph) (over all) in
-      within_more (A1.graph.states * A2.graph.states) (B1.graph.states * B2.graph.states) (length (join_over A1 A2 all).ways) (length (join_over B1 B2 all).ways) e few.0 few.1
-      (subst (λ ns. IsSizeFaultWithin (A1.graph.states * A2.graph.states) (length (join_over A1 A2 ns).ways) e) names_are h)
+      faults_more (A1.graph.states * A2.graph.states) (B1.graph.states * B2.graph.states) (length (join_over A1 A2 all).ways) (length (join_over B1 B2 all).ways) (length (join_over A1 A2 all).stops)
+      (length (join_over B1 B2 all).stops) e few.0 few.1 few.2
+      (subst (λ ns. IsJoinFaultWithin (A1.graph.states * A2.graph.states) (length (join_over A1 A2 ns).ways) (length (join_over A1 A2 ns).stops) e) names_are h)
 
 -- the join with a first, or a second, automaton that is grouped first
-module _ (A B G : Marked) (r : Result Marked SizeFault) where
+module _ (A B G : Marked) (r : Result Marked JoinFault) where
   pub first_join : IsMarked B → IsGroupedOf A G → IfOk r (IsJoinOf G B) → IfOk r (IsJoinOf A B)
   first_join b g = IfOk-weaker r (IsJoinOf G B) (IsJoinOf A B) (join_more G B A B g.new b g.old b g.names refl g.reduct (reduct_of_itself B.graph b.whole))
 

@@ -1,5 +1,5 @@
 -- The pairs of states of a join, and the ways and ends between them.
-use Rattle.std.specs.Prelude.{◌≡◌, ℕ, ◌+◌, ◌*◌, ◌^◌, ◌<◌, ◌≤◌, ◌⊎◌, Bool, ◌&&◌, nat_eq, List, [], ◌∷◌, ◌++◌, length, map, slice_get, Some}
+use Rattle.std.specs.Prelude.{◌≡◌, ℕ, ◌+◌, ◌*◌, ◌^◌, ◌<◌, ◌≤◌, ◌⊎◌, Bool, true, ◌&&◌, nat_eq, List, [], ◌∷◌, ◌++◌, length, map, slice_get, Some}
 use Rattle.std.specs.List.{filter, flat_map}
 use Rattle.span_core.specs.Lists.{Has}
 use Rattle.marked_automaton.specs.declared.way.Way.{Way}
@@ -69,6 +69,14 @@ those_at at p xs = filter (λ x. nat_eq (at x) p) xs
 -- what the elements at the two states of a pair make
 abbrev pub pairs_at : {X Y R : Type 0} → (X → ℕ) → (Y → ℕ) → (X → Y → Bool) → (X → Y → R) → List X → List Y → Pair → List R
 pairs_at at1 at2 test make xs ys k = pairs test make (those_at at2 k.right ys) (those_at at1 k.left xs)
+
+-- all go together
+abbrev pub always : {X Y : Type 0} → X → Y → Bool
+always x y = true
+
+-- the pairs of elements at the two states of a pair, each told by the pair: as many as are tried there
+abbrev pub tried_at : {X Y : Type 0} → (X → ℕ) → (Y → ℕ) → List X → List Y → Pair → List Pair
+tried_at {X} {Y} at1 at2 xs ys k = pairs_at at1 at2 always (λ (x : X) (y : Y). pair_of (at1 x) (at2 y)) xs ys k
 
 -- these of the first and these of the second make what is made at the pair
 pub record AreRowsOf (xs ys : List HalfWay) (k : Pair) (lefts rights : List HalfWay) : Type 0 where

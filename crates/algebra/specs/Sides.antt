@@ -10,11 +10,13 @@ use Rattle.marked_automaton.specs.declared.fault.SizeFault.{SizeFault}
 use Rattle.marked_automaton.specs.declared.fault.SizeFault.TheVariants.{States}
 use Rattle.marked_automaton.specs.Faults.{IsSizeFaultWithin}
 use Rattle.marked_automaton.specs.Automaton.{AreGrouped, Automaton, Marked}
+use Rattle.algebra.specs.declared.fault.JoinFault.{JoinFault}
+use Rattle.algebra.specs.declared.fault.JoinFault.TheVariants.{Size, Ends, Spent}
 use Rattle.algebra.specs.declared.halves.HalfWay.{HalfWay}
 use Rattle.algebra.specs.declared.halves.HalfStop.{HalfStop}
 use Rattle.algebra.specs.declared.halves.Operand.{Operand}
 use Rattle.algebra.specs.declared.pairs.Pair.{Pair}
-use Rattle.algebra.specs.Pairs.{AreStarted, HaveSameRows, IsFollowed, IsIdlePair, IsRefusalOf, IsStopAt, LeadWithin, Matched, PairWay, half_at, pairs, stops_at_pair, way_pair, ways_at, ways_meet}
+use Rattle.algebra.specs.Pairs.{AreStarted, HaveSameRows, IsFollowed, IsIdlePair, IsRefusalOf, IsStopAt, LeadWithin, Matched, PairWay, half_at, half_from, pairs, stops_at_pair, tried_at, way_pair, ways_at, ways_meet}
 use Rattle.algebra.specs.Renaming.{AreShifts, half_stop, half_way, shift_of}
 
 -- for each of all names where its bits stand
@@ -86,3 +88,16 @@ IsProductRefusal A B e = (MOST_STATES < A.states * B.states) × (e ≡ States (A
 abbrev pub IsFollowRefusal : Operand → Operand → List Pair → List Way → SizeFault → Type 0
 IsFollowRefusal one two keys ways e =
     IsRefusalOf (pairs ways_meet way_pair (half_ways_of two) (half_ways_of one)) keys ways e ⊎ IsProductRefusal (graph_of one) (graph_of two) e
+
+-- what a size fault says, of the fault of a join
+abbrev pub IsTold : (SizeFault → Type 0) → JoinFault → Type 0
+IsTold P (Size fault) = P fault
+IsTold P (Ends count) = ⊥
+IsTold P Spent = Unit {0}
+
+-- the pairs of ways of two sides that are tried at these pairs of states, and the pairs of ends
+abbrev pub ways_tried : Operand → Operand → List Pair → List Pair
+ways_tried one two keys = flat_map (tried_at half_from half_from (half_ways_of one) (half_ways_of two)) keys
+
+abbrev pub stops_tried : List HalfStop → List HalfStop → List Pair → List Pair
+stops_tried xs ys keys = flat_map (tried_at half_at half_at xs ys) keys

@@ -7,20 +7,19 @@ ghost use Rattle.span_core.specs.Lists.{Has};
 ghost use Rattle.marked_automaton.specs.declared.way.Stop.{Stop as StopOf};
 ghost use Rattle.marked_automaton.specs.declared.TheConstants.{MOST_STATES};
 ghost use Rattle.marked_automaton.specs.Automaton.{HasGraphOf, IsWayOf, idle_way};
-ghost use Rattle.marked_automaton.specs.Faults.{IsSizeFaultWithin};
-ghost use Rattle.algebra.specs.Sides.{IsAssembledOf, graph_of};
+ghost use Rattle.algebra.specs.Joining.{IsJoinFaultWithin, IsSpentOn};
+ghost use Rattle.algebra.specs.Sides.{IsAssembledOf, graph_of, stops_tried};
 ghost use Rattle.algebra.specs.Pairs.{AreWithin, HasAllButStarts, HasAllButStops, IsIdleHere, IsIdlePair, IsStopAt, Matched, half_at, pairs, stop_at, stop_pair, stops_at_pair, stops_meet, stops_with};
 
+use crate::MOST_ENDS;
 use crate::effort::Effort;
+use crate::fault::JoinFault;
 use crate::halves::{HalfStop, Operand};
 use crate::pairs::{Pair, Search};
 use crate::rows::stops_from;
-use marked_automaton::{Automaton, SizeFault, Stop};
+use marked_automaton::{Automaton, Stop};
 use span_core::{Marks, OutOfMemory, VarSet};
 use std::alloc::Global;
-
-/// The most ends that a join has, some 130 MB. Where there are more, want of memory is answered, which needs no cause.
-const MOST_ENDS: usize = 8_000_000;
 
 /// The automaton over these variables whose states are the pairs that were found, the first `starts` of
 /// which are its starts, with the ways that were made.
@@ -32,7 +31,7 @@ pub(crate) fn assembled(
     left: &Operand<'_>,
     right: &Operand<'_>,
     effort: &mut Effort,
-) -> Result<Automaton, SizeFault>
+) -> Result<Automaton, JoinFault>
     requires few { length vars ≤ MOST_VARIABLES }
     requires few_states { length search.found.keys ≤ MOST_STATES }
     requires starts { starts ≤ length search.found.keys }
@@ -44,8 +43,10 @@ pub(crate) fn assembled(
     requires marks { (x y : HalfStop) → Has left.now.stops.items x → Has right.now.stops.items y → x.stop.marks + y.stop.marks < 2 ^ (2 * length vars) }
     ensures names { IfOk result (λ j. j.names ≡ vars) }
     ensures made { IfOk result (λ j. IsAssembledOf left.now right.now search.found.keys starts search.ways.items j.graph) }
-    ensures fault { IfErr result (λ e. IsSizeFaultWithin (length search.found.keys) (length search.ways.items) e) }
+    ensures fault { IfErr result (IsJoinFaultWithin (length search.found.keys) (length search.ways.items) (length (flat_map (stops_at_pair left.now.stops.items right.now.stops.items) search.found.keys))) }
     ensures effort { effort.new ≤ effort.old }
+    ensures spent { IfErr result (IsSpentOn effort.old (length (stops_tried left.now.stops.items right.now.stops.items search.found.keys))) }
+    ensures steps { OnOk result (effort.old ≤ effort.new + length (stops_tried left.now.stops.items right.now.stops.items search.found.keys)) }
 {
     let states = search.found.len() as u32;
     let mut automaton = Automaton::with_ways(alloc, vars, states, search.ways)?;
@@ -126,22 +127,26 @@ fn add_stops_at(
     xs: &[HalfStop],
     ys: &[HalfStop],
     effort: &mut Effort,
-) -> Result<(), OutOfMemory>
+) -> Result<(), JoinFault>
     requires state { state < automaton.old.graph.states }
     requires few { length automaton.old.names ≤ MOST_VARIABLES }
     requires marks { (x y : HalfStop) → Has xs.now x → Has ys.now y → x.stop.marks + y.stop.marks < 2 ^ (2 * length automaton.old.names) }
     ensures names { automaton.new.names ≡ automaton.old.names }
     ensures stops { OnOk result (automaton.new.graph.stops ≡ automaton.old.graph.stops ++ map (stop_at state) (pairs stops_meet stop_pair ys.now xs.now)) }
     ensures same { OnOk result (HasAllButStops automaton.new.graph automaton.old.graph) }
+    ensures fault { IfErr result (IsJoinFaultWithin 0 0 (length automaton.old.graph.stops + length (pairs stops_meet stop_pair ys.now xs.now))) }
     ensures effort { effort.new ≤ effort.old }
+    ensures spent { IfErr result (IsSpentOn effort.old (length xs.now * length ys.now)) }
+    ensures steps { OnOk result (effort.old ≤ effort.new + length xs.now * length ys.now) }
 {
     for x in xs {
         effort.spend(ys.len() as u64);
         if effort.is_spent() {
-            return Err(OutOfMemory);
+            return Err(JoinFault::Spent);
         }
-        if automaton.stops().len() > MOST_ENDS {
-            return Err(OutOfMemory);
+        let count = automaton.stops().len() as u64;
+        if count > MOST_ENDS {
+            return Err(JoinFault::Ends { count });
         }
         add_stops_with(automaton, state, x, ys)?;
     }
@@ -155,7 +160,7 @@ fn add_stops(
     xs: &[HalfStop],
     ys: &[HalfStop],
     effort: &mut Effort,
-) -> Result<(), OutOfMemory>
+) -> Result<(), JoinFault>
     requires states { automaton.old.graph.states ≡ length found.now }
     requires few_states { length found.now ≤ MOST_STATES }
     requires few { length automaton.old.names ≤ MOST_VARIABLES }
@@ -165,7 +170,10 @@ fn add_stops(
     ensures names { automaton.new.names ≡ automaton.old.names }
     ensures stops { OnOk result ((made : List StopOf) × (automaton.new.graph.stops ≡ automaton.old.graph.stops ++ made) × Matched (IsStopAt found.now) (flat_map (stops_at_pair xs.now ys.now) found.now) made) }
     ensures same { OnOk result (HasAllButStops automaton.new.graph automaton.old.graph) }
+    ensures fault { IfErr result (IsJoinFaultWithin 0 0 (length automaton.old.graph.stops + length (flat_map (stops_at_pair xs.now ys.now) found.now))) }
     ensures effort { effort.new ≤ effort.old }
+    ensures spent { IfErr result (IsSpentOn effort.old (length (stops_tried xs.now ys.now found.now))) }
+    ensures steps { OnOk result (effort.old ≤ effort.new + length (stops_tried xs.now ys.now found.now)) }
 {
     for state in 0..found.len() {
         let pair = found[state];

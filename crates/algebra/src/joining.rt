@@ -1,16 +1,17 @@
 //! Joins of automata whose ways are grouped by the states that they lead from.
-ghost use Rattle.std.specs.Prelude.{◌≤◌, length, IfErr, IfOk};
+ghost use Rattle.std.specs.Prelude.{◌+◌, ◌≤◌, length, IfErr, IfOk, OnOk};
 ghost use Rattle.span_core.specs.declared.TheConstants.{MOST_VARIABLES};
 ghost use Rattle.marked_automaton.specs.Automaton.{AreGrouped};
 ghost use Rattle.algebra.specs.JoinedNames.{all_names};
-ghost use Rattle.algebra.specs.Joining.{IsGroupedOf, IsJoinFault, IsJoinOf};
+ghost use Rattle.algebra.specs.Joining.{IsGroupedOf, IsJoinFault, IsJoinOf, IsSpentOn, most_steps};
 
 use crate::assembly::assembled;
 use crate::effort::Effort;
+use crate::fault::JoinFault;
 use crate::halves::Operand;
 use crate::pairs::searched;
 use crate::renaming::names_of_both;
-use marked_automaton::{Automaton, SizeFault};
+use marked_automaton::Automaton;
 use span_core::OutOfMemory;
 use std::alloc::Global;
 
@@ -31,12 +32,14 @@ pub(crate) fn join_to(
     a: &Automaton,
     b: &Automaton,
     effort: &mut Effort,
-) -> Result<Automaton, SizeFault>
+) -> Result<Automaton, JoinFault>
     requires first { AreGrouped a.now.graph.ways }
     requires few { length (all_names a.now.names b.now.names) ≤ MOST_VARIABLES }
     ensures join { IfOk result (IsJoinOf a.now b.now) }
     ensures fault { IfErr result (IsJoinFault a.now b.now) }
     ensures effort { effort.new ≤ effort.old }
+    ensures spent { IfErr result (IsSpentOn effort.old (most_steps a.now b.now)) }
+    ensures steps { OnOk result (effort.old ≤ effort.new + most_steps a.now b.now) }
 {
     a.is_marked();
     if b.is_grouped() {
@@ -52,13 +55,15 @@ fn join_grouped(
     a: &Automaton,
     b: &Automaton,
     effort: &mut Effort,
-) -> Result<Automaton, SizeFault>
+) -> Result<Automaton, JoinFault>
     requires first { AreGrouped a.now.graph.ways }
     requires second { AreGrouped b.now.graph.ways }
     requires few { length (all_names a.now.names b.now.names) ≤ MOST_VARIABLES }
     ensures join { IfOk result (IsJoinOf a.now b.now) }
     ensures fault { IfErr result (IsJoinFault a.now b.now) }
     ensures effort { effort.new ≤ effort.old }
+    ensures spent { IfErr result (IsSpentOn effort.old (most_steps a.now b.now)) }
+    ensures steps { OnOk result (effort.old ≤ effort.new + most_steps a.now b.now) }
 {
     a.is_marked();
     b.is_marked();

@@ -1,4 +1,7 @@
 //! Laws of the operations, each the contract of a function that does nothing.
+ghost use Rattle.std.specs.Prelude.{◌≡◌};
+ghost use Rattle.algebra.specs.declared.TheConstants.{MOST_ENDS};
+ghost use Rattle.algebra.specs.Joining.{JoinsOfFewEnds};
 ghost use Rattle.algebra.specs.Laws.{JoinLaws, ReductOfJoin, ReductOfUnion, UnionLaw};
 ghost use Rattle.algebra.specs.Rows.{BlocksAgree, BlocksAreJoined};
 ghost use Rattle.algebra.specs.Uniting.{UnionOverLaw, UnionOverSameNames};
@@ -41,4 +44,15 @@ pub fn blocks_agree_where_shared_spans_are_equal()
 /// What the blocks of two rows are together is the block of the row that has the spans of both.
 pub fn joined_blocks_are_those_of_the_merged_row()
     ensures { BlocksAreJoined }
+{}
+
+/// A join has no more ends than the product of the numbers of ends. It is not refused for its ends where that product
+/// is within `MOST_ENDS`.
+pub fn joins_of_few_ends_are_not_refused_for_them()
+    ensures { JoinsOfFewEnds }
+{}
+
+/// The guard of a join, as a number.
+pub fn limits()
+    ensures { MOST_ENDS ≡ 8000000 }
 {}

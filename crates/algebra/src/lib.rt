@@ -2,10 +2,12 @@
 #![tactic(auto)]
 
 pub use effort::Effort;
-pub use operations::{join, join_within, project, union, unite};
+pub use fault::JoinFault;
+pub use operations::{join, join_with_cause, join_within, project, union, unite};
 
 mod assembly;
 mod effort;
+mod fault;
 mod halves;
 mod joining;
 pub mod laws;
@@ -15,3 +17,7 @@ mod pairs;
 mod renaming;
 mod rows;
 mod uniting;
+
+/// The most ends of a join that is made, some 130 MB. Two automata have no more than the product of their numbers of
+/// ends.
+pub const MOST_ENDS: u64 = 8_000_000;

@@ -8,10 +8,12 @@ ghost use Rattle.marked_automaton.specs.Marks.{left_of, remarked};
 ghost use Rattle.marked_automaton.specs.Reduct.{IsReached, Reduces};
 ghost use Rattle.algebra.specs.JoinedMarks.{agree_on, joined};
 ghost use Rattle.algebra.specs.JoinedNames.{all_names};
+ghost use Rattle.algebra.specs.Joining.{IsJoinFault, IsJoinOf, IsSpentOn, most_steps};
 ghost use Rattle.algebra.specs.Operations.{join_of};
 ghost use Rattle.algebra.specs.Uniting.{union_over};
 
 use crate::effort::Effort;
+use crate::fault::JoinFault;
 use crate::joining::{grouped, join_to};
 use crate::renaming::names_of_both;
 use crate::uniting::{appended, fit_together, is_over, over};
@@ -90,7 +92,7 @@ pub fn join(alloc: Global, a: &Automaton, b: &Automaton) -> Result<Automaton, Si
 /// The join of `a` and `b`, as `join` makes it, with a bound on the work. Before it tries the ways at a pair
 /// of states with each other, it takes from `effort` one step for each two that it tries, one of each state,
 /// and one for each way at the two states. Where one of the states has no ways, it takes none. When all pairs are
-/// found, it takes one step for each two ends of a pair, and then no step that is left, or more than 8,000,000 ends,
+/// found, it takes one step for each two ends of a pair, and then no step that is left, or more than `MOST_ENDS` ends,
 /// is want of memory.
 ///
 /// Where no step is left then, the join is refused: with `States` if the product of the numbers of states is
@@ -110,6 +112,29 @@ pub fn join_within(
     ensures fault { IfErr result (λ e. IsSizeFaultWithin (a.now.graph.states * b.now.graph.states)
         (length (join_of (agree_on a.now.names b.now.names (all_names a.now.names b.now.names)) (joined a.now.names b.now.names (all_names a.now.names b.now.names)) a.now.graph b.now.graph).ways) e) }
     ensures effort { effort.new ≤ effort.old }
+{
+    match join_with_cause(alloc, a, b, effort) {
+        Ok(automaton) => Ok(automaton),
+        Err(JoinFault::Size(fault)) => Err(fault),
+        Err(JoinFault::Ends { .. } | JoinFault::Spent) => Err(SizeFault::OutOfMemory),
+    }
+}
+
+/// The join that `join_within` makes. `JoinFault::Ends` comes only where the join has more than `MOST_ENDS` ends: the
+/// count that it tells is more than that, and no more than the pairs of ends that go together. `JoinFault::Spent` comes
+/// only where the effort had no more steps than three for each pair of ways of the two, and one for each pair of ends.
+pub fn join_with_cause(
+    alloc: Global,
+    a: &Automaton,
+    b: &Automaton,
+    effort: &mut Effort,
+) -> Result<Automaton, JoinFault>
+    requires { length (all_names a.now.names b.now.names) ≤ MOST_VARIABLES }
+    ensures join { IfOk result (IsJoinOf a.now b.now) }
+    ensures fault { IfErr result (IsJoinFault a.now b.now) }
+    ensures effort { effort.new ≤ effort.old }
+    ensures spent { IfErr result (IsSpentOn effort.old (most_steps a.now b.now)) }
+    ensures steps { OnOk result (effort.old ≤ effort.new + most_steps a.now b.now) }
 {
     b.is_marked();
     if a.is_grouped() {

@@ -3,10 +3,12 @@ ghost use Rattle.std.specs.Prelude.{◌≡◌, ℕ, ◌+◌, ◌-◌, ◌*◌, �
 ghost use Rattle.span_core.specs.Lists.{AreDistinct, Has};
 ghost use Rattle.marked_automaton.specs.declared.TheConstants.{MOST_STATES, MOST_WAYS};
 ghost use Rattle.marked_automaton.specs.Faults.{IsSizeFaultWithin};
-ghost use Rattle.algebra.specs.Sides.{IsJoinable, IsProductRefusal, IsSearchOf, IsSearchRefusal, IsFollowRefusal, half_ways_of, ways_of_all};
-ghost use Rattle.algebra.specs.Pairs.{AreRowsOf, AreStarted, AreWithin, HaveSmallMarks, IsFollowed, IsRefusalOf, IsStartRefusal, pair_of, pairs, way_pair, ways_meet, ways_with};
+ghost use Rattle.algebra.specs.Joining.{IsSpentOn};
+ghost use Rattle.algebra.specs.Sides.{IsJoinable, IsProductRefusal, IsSearchOf, IsSearchRefusal, IsFollowRefusal, IsTold, half_ways_of, ways_of_all};
+ghost use Rattle.algebra.specs.Pairs.{AreRowsOf, AreStarted, AreWithin, HaveSmallMarks, IsFollowed, IsRefusalOf, IsStartRefusal, half_from, pair_of, pairs, tried_at, way_pair, ways_meet, ways_with};
 
 use crate::effort::Effort;
+use crate::fault::JoinFault;
 use crate::halves::{HalfWay, Operand, put_half_ways};
 use indexmap::IndexSet;
 use marked_automaton::{Automaton, MOST_STATES, MOST_WAYS, SizeFault, Way};
@@ -43,13 +45,15 @@ pub(crate) fn searched(
     left: &Operand<'_>,
     right: &Operand<'_>,
     effort: &mut Effort,
-) -> Result<(Search, u32), SizeFault>
+) -> Result<(Search, u32), JoinFault>
     requires left { IsJoinable left.now }
     requires right { IsJoinable right.now }
     requires marks { HaveSmallMarks (half_ways_of left.now) (half_ways_of right.now) }
     ensures searched { IfOk result (λ r. IsSearchOf left.now right.now r.0.found.keys r.1 r.0.ways.items) }
-    ensures fault { IfErr result (IsSearchRefusal left.now right.now) }
+    ensures fault { IfErr result (IsTold (IsSearchRefusal left.now right.now)) }
     ensures effort { effort.new ≤ effort.old }
+    ensures spent { IfErr result (IsSpentOn effort.old (3 * (length (half_ways_of left.now) * length (half_ways_of right.now)))) }
+    ensures steps { OnOk result (effort.old ≤ effort.new + 3 * (length (half_ways_of left.now) * length (half_ways_of right.now))) }
 {
     let mut search = Search::new(alloc);
     search.find_all(left.automaton.starts(), right.automaton.starts())?;
@@ -83,6 +87,8 @@ impl Rows {
         requires right { IsJoinable right.now }
         ensures rows { OnOk result (AreRowsOf (half_ways_of left.now) (half_ways_of right.now) pair self.new.left.items self.new.right.items) }
         ensures few { OnOk result ((length self.new.left.items ≤ MOST_WAYS) × (length self.new.right.items ≤ MOST_WAYS)) }
+        ensures steps { OnOk result (length self.new.left.items * length self.new.right.items + length self.new.left.items + length self.new.right.items
+            ≤ 3 * length (tried_at half_from half_from (half_ways_of left.now) (half_ways_of right.now) pair)) }
     {
         left.automaton.is_marked();
         right.automaton.is_marked();
@@ -113,6 +119,7 @@ impl Rows {
     fn steps(&self) -> u64
         requires left { length self.now.left.items ≤ MOST_WAYS }
         requires right { length self.now.right.items ≤ MOST_WAYS }
+        ensures { result ≡ length self.now.left.items * length self.now.right.items + length self.now.left.items + length self.now.right.items }
     {
         let lefts = self.left.len() as u64;
         let rights = self.right.len() as u64;
@@ -168,15 +175,17 @@ impl Search {
         left: &Operand<'_>,
         right: &Operand<'_>,
         effort: &mut Effort,
-    ) -> Result<(), SizeFault>
+    ) -> Result<(), JoinFault>
         requires left { IsJoinable left.now }
         requires right { IsJoinable right.now }
         requires marks { HaveSmallMarks (half_ways_of left.now) (half_ways_of right.now) }
         requires few { length self.old.found.keys ≤ MOST_STATES }
         ensures apart { OnOk result (AreDistinct self.new.found.keys) }
         ensures followed { OnOk result (IsFollowed (ways_of_all left.now right.now self.new.found.keys) self.old.found.keys self.old.ways.items self.new.found.keys self.new.ways.items) }
-        ensures fault { IfErr result (IsFollowRefusal left.now right.now self.old.found.keys self.old.ways.items) }
+        ensures fault { IfErr result (IsTold (IsFollowRefusal left.now right.now self.old.found.keys self.old.ways.items)) }
         ensures effort { effort.new ≤ effort.old }
+        ensures spent { IfErr result (IsSpentOn effort.old (3 * (length (half_ways_of left.now) * length (half_ways_of right.now)))) }
+        ensures steps { OnOk result (effort.old ≤ effort.new + 3 * (length (half_ways_of left.now) * length (half_ways_of right.now))) }
     {
         let mut rows = Rows {
             left: Vec::new(alloc),
@@ -189,7 +198,7 @@ impl Search {
             effort.spend(rows.steps());
             if effort.is_spent() {
                 fit_in_pairs(left.automaton, right.automaton)?;
-                return Err(SizeFault::OutOfMemory);
+                return Err(JoinFault::Spent);
             }
             self.follow_pair(done as u32, rows.left.as_slice(), rows.right.as_slice())?;
             done += 1;

@@ -4,8 +4,7 @@ use Rattle.std.specs.Global.{Vec}
 use Rattle.span_core.specs.Lists.{AreDistinct, Has, IsInOrder}
 use Rattle.marked_automaton.specs.Automaton.{Automaton, ByteClass, HasByte}
 use Rattle.automaton_reading.specs.Reading.{set_of}
-use Rattle.set_table.specs.Named.{IsLongerBy}
-use Rattle.set_table.specs.Tabled.{set_at}
+use Rattle.numbered_lists.specs.Numbered.{IsLongerBy, set_at}
 use Rattle.algebra_minus.specs.declared.pieces.Piece.{Piece}
 use Rattle.algebra_minus.specs.declared.partitions.Part.{Part}
 use Rattle.algebra_minus.specs.declared.partitions.Key.{Key}

@@ -1,3 +1,5 @@
 pub mod Determined
+pub mod Ascending
+pub mod Searched
 pub mod Matching
 pub mod MeasureLaws

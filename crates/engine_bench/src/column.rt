@@ -2,7 +2,7 @@
 ghost use Rattle.std.specs.Prelude.{◌≡◌, ◌^◌, ◌<◌, ◌≤◌, length};
 ghost use Rattle.spanner_engine.specs.Caching.{IsCacheOf};
 
-use main_tests::{ProgramJudge, program_tests};
+use known_tests::{ProgramJudge, program_tests};
 use span_core::Steps;
 use spanner_library::{Cache, Options, Prepared};
 use std::alloc::Global;

@@ -8,7 +8,7 @@ use Rattle.formula_parser.specs.declared.fault.FormulaFault.{FormulaFault}
 use Rattle.formula_parser.specs.declared.fault.FormulaFault.TheVariants.{OutOfMemory, NotUtf8}
 use Rattle.formula_parser.specs.Alphabet.{Alphabet, of_bytes, of_characters}
 use Rattle.formula_parser.specs.Dialect.{Dialect, plain_bytes, with_characters, alphabet_of, Speaks}
-use Rattle.formula_parser.specs.Nest.{Nest}
+use Rattle.formula_parser.specs.Nest.{Nest, outermost}
 use Rattle.formula_parser.specs.Step.{Body, goes, step, is_tied, start_at, Reading, Ends}
 use Rattle.formula_parser.specs.Signs.{HasSign, HasNoSign}
 use Rattle.formula_parser.specs.Spells.{IsAtomOver, IsAtomAt, over_bytes}
@@ -53,6 +53,12 @@ start_within text from some = by (is_tied text from) refl
     by true e =
         let front = byte_front 94 (drop (from + 1) text) e in
         subst (λ p. p ≤ length text) (tied_start text from e) (omega (arith, length-drop (from + 1) text, ap length front.1))
+
+-- what is read on from the formula's start, where nothing is open, is the reading of the atom
+pub reads_from_start : (lang : Dialect) (text : List ℕ) (from at : ℕ) (n : Nest) (r : Result (Atom × ℕ) FormulaFault) → at ≡ start_at text from → n ≡ outermost from →
+    AnswersBody r (Ends lang at (drop at text) n) → AnswersBody r (Reading lang text from)
+reads_from_start lang text from at n r here empty ends =
+    subst (λ p. AnswersBody r (Ends lang p (drop p text) (outermost from))) here (subst (λ m. AnswersBody r (Ends lang at (drop at text) m)) empty ends)
 
 -- what the code returns, over one alphabet
 pub answer_found : (lang : Dialect) → Speaks lang → (text : List ℕ) (from : ℕ) (r : Result (Atom × ℕ) FormulaFault) → AnswersBody r (Reading lang text from) →

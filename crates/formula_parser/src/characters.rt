@@ -23,6 +23,7 @@ use crate::char_class::class_at;
 use crate::fault::FormulaFault;
 use crate::nest::Nest;
 use crate::reader::{Turn, unit};
+use crate::room::Room;
 use crate::tokens::{Elem as ByteElem, begins_with, escape_at, hex_value, name_run};
 use span_core::{ByteSet, OutOfMemory};
 use spanner_model::Formula;
@@ -200,15 +201,20 @@ pub(crate) fn wide_at(at: usize, text: &[u8]) -> Result<(CharElem, usize), Formu
     }
 }
 
-/// The tree of a set; None where no character is in the set.
-pub(crate) fn tree(alloc: Global, set: &CharSet) -> Result<Option<Formula>, OutOfMemory>
+/// The tree of a set, for which room is taken; None where no character is in the set.
+pub(crate) fn tree(
+    alloc: Global,
+    room: &mut Room,
+    set: &CharSet,
+) -> Result<Option<Formula>, OutOfMemory>
     ensures { IfOk result (λ found. (trees : Bytes → Tree) → AreTrees trees → (s : Bytes) → Holds set.now s → AreAllCharacters s
         → MatchOption found (s ≡ sets.empty) (λ f. ¬ (s ≡ sets.empty) × (tree_of f ≡ trees s))) }
 {
-    let _ranges = set.ranges();
+    let ranges = set.ranges();
     if set.is_empty() {
         return Ok(None);
     }
+    room.take(ranges.len())?;
     Ok(Some(set.tree(alloc)?))
 }
 
@@ -219,7 +225,7 @@ pub(crate) fn dot(alloc: Global, nest: &mut Nest) -> Result<Turn, FormulaFault>
 {
     let newline = single(alloc, '\n')?;
     let others = newline.negation(alloc)?;
-    match tree(alloc, &others)? {
+    match tree(alloc, &mut nest.room, &others)? {
         Some(formula) => unit(formula, 1, nest),
         None => Err(FormulaFault::OutOfMemory),
     }
@@ -247,7 +253,7 @@ pub(crate) fn escape(
 {
     let (elem, len) = elem_at(alloc, at, others)?;
     let set = set_of(alloc, elem)?;
-    match tree(alloc, &set)? {
+    match tree(alloc, &mut nest.room, &set)? {
         Some(formula) => unit(formula, len, nest),
         None => Err(FormulaFault::BadRange { at }),
     }
@@ -264,7 +270,7 @@ pub(crate) fn class(
     ensures { (trees : Bytes → Tree) → AreTrees trees
         → IsStep result (classes (with_characters trees) (class_at (with_characters trees) at others.now) (nest_of nest.old)) (nest_of nest.new) }
 {
-    match class_at(alloc, at, others) {
+    match class_at(alloc, &mut nest.room, at, others) {
         Ok((formula, len)) => unit(formula, len, nest),
         Err(fault) => Err(fault),
     }

@@ -14,6 +14,7 @@ pub use laws::{
     no_text_has_two_trees, texts_without_the_sign_stay,
 };
 pub use reader::read_atom;
+pub use room::{MOST_RANGES, Room};
 
 mod alphabet;
 mod char_class;
@@ -23,6 +24,7 @@ mod fault;
 mod laws;
 mod nest;
 mod reader;
+mod room;
 mod sign;
 mod tokens;
 

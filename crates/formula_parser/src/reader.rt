@@ -24,6 +24,7 @@ use crate::alphabet::Alphabet;
 use crate::class::class_at;
 use crate::fault::FormulaFault;
 use crate::nest::{Last, Nest, Opener, put};
+use crate::room::Room;
 use crate::sign::sign_len;
 use crate::tokens::{begins_with, bounds_at, escape_at, head_at, tails};
 use crate::{MOST_OPEN, characters};
@@ -365,25 +366,24 @@ fn take_turn(
     }
 }
 
-/// Reads what follows the slash at `from`, from the place `at` on, one turn after another.
+/// Reads what follows the slash of the nest, from the place `at` on, one turn after another.
 fn read_by_turns(
     alloc: Global,
     alphabet: Alphabet,
     text: &[u8],
-    from: usize,
     at: usize,
     from_start: bool,
+    nest: &mut Nest,
 ) -> Result<(Atom, usize), FormulaFault>
     requires { at ≤ length text.now }
     ensures ends { (lang : Dialect) → Speaks lang → alphabet_of lang ≡ alphabet_seen alphabet
-        → AnswersBody result (Ends lang at (drop at text.now) (outermost from)) }
+        → AnswersBody result (Ends lang at (drop at text.now) (nest_of nest.old)) }
     ensures tied { IfOk result (λ x. x.0.from_start ≡ from_start) }
 {
-    let mut nest = Nest::new(alloc, from);
     let mut at = at;
     loop {
         let (_, rest) = text.split_at(at);
-        match take_turn(alloc, alphabet, at, rest, &mut nest)? {
+        match take_turn(alloc, alphabet, at, rest, nest)? {
             Turn::Took(len) => at += len,
             Turn::Done(formula, to_end) => {
                 let atom = Atom {
@@ -421,15 +421,16 @@ fn start_at(text: &[u8], from: usize) -> usize
     from + 1 + usize::from(is_tied(text, from))
 }
 
-/// Reads the atom over the alphabet whose opening slash stands at `from`, and gives the place after its
-/// closing slash.
-fn read_over(
+/// Reads the atom over the alphabet whose opening slash stands at `from`, into a nest in which nothing is read.
+fn read_nest(
     alloc: Global,
     alphabet: Alphabet,
     text: &[u8],
     from: usize,
+    nest: &mut Nest,
 ) -> Result<(Atom, usize), FormulaFault>
     requires slash { slice_get text.now from ≡ Some 47 }
+    requires nest { nest_of nest.old ≡ outermost from }
     ensures found { IfOk result (λ x. IsAtomOver (alphabet_seen alphabet) text.now from (atom_of x.0, x.1)) }
     ensures fault { IfErr result (λ e. (e ≡ FormulaFault.OutOfMemory) ⊎ HasFaultOver (alphabet_seen alphabet) text.now from e) }
     ensures built { IfOk result (λ x. IsWellBuilt (tree_of x.0.formula)) }
@@ -440,10 +441,31 @@ fn read_over(
         alloc,
         alphabet,
         text,
-        from,
         start_at(text, from),
         from_start,
+        nest,
     )
+}
+
+/// Reads the atom over the alphabet whose opening slash stands at `from`, and gives the place after its
+/// closing slash.
+fn read_over(
+    alloc: Global,
+    alphabet: Alphabet,
+    text: &[u8],
+    from: usize,
+    room: &mut Room,
+) -> Result<(Atom, usize), FormulaFault>
+    requires slash { slice_get text.now from ≡ Some 47 }
+    ensures found { IfOk result (λ x. IsAtomOver (alphabet_seen alphabet) text.now from (atom_of x.0, x.1)) }
+    ensures fault { IfErr result (λ e. (e ≡ FormulaFault.OutOfMemory) ⊎ HasFaultOver (alphabet_seen alphabet) text.now from e) }
+    ensures built { IfOk result (λ x. IsWellBuilt (tree_of x.0.formula)) }
+    ensures within { IfOk result (λ x. x.1 ≤ length text.now) }
+{
+    let mut nest = Nest::new(alloc, from, *room);
+    let read = read_nest(alloc, alphabet, text, from, &mut nest);
+    *room = nest.room;
+    read
 }
 
 /// The bytes after the slash at `from`, so many of them.
@@ -461,8 +483,14 @@ fn between(text: &[u8], from: usize, len: usize) -> &[u8]
 /// characters.
 ///
 /// Places count bytes from 0. The formula need not be sequential. But for the trees of sets of characters, the
-/// time is linear in the text's length.
-pub fn read_atom(alloc: Global, text: &[u8], from: usize) -> Result<(Atom, usize), FormulaFault>
+/// time is linear in the text's length. Those trees take from `room`. Where it is too small for the next one, the
+/// answer is want of memory, and what follows is not read.
+pub fn read_atom(
+    alloc: Global,
+    text: &[u8],
+    from: usize,
+    room: &mut Room,
+) -> Result<(Atom, usize), FormulaFault>
     requires slash { slice_get text.now from ≡ Some 47 }
     requires short { length text.now ≤ 65536 }
     // What is read is spelled so.
@@ -474,14 +502,14 @@ pub fn read_atom(alloc: Global, text: &[u8], from: usize) -> Result<(Atom, usize
     ensures built { IfOk result (λ x. IsWellBuilt (tree_of x.0.formula)) }
 {
     let Some(len) = sign_len(text, from) else {
-        return read_over(alloc, Alphabet::Bytes, text, from);
+        return read_over(alloc, Alphabet::Bytes, text, from, room);
     };
     if let Err(error) = str::from_utf8(between(text, from, len)) {
         return Err(FormulaFault::NotUtf8 {
             at: from + 1 + error.valid_up_to(),
         });
     }
-    match read_over(alloc, Alphabet::Characters, text, from) {
+    match read_over(alloc, Alphabet::Characters, text, from, room) {
         Ok((atom, place)) => Ok((atom, place + 1)),
         Err(fault) => Err(fault),
     }

@@ -12,7 +12,7 @@ ghost use Rattle.spanner_library.specs.Library.{tree};
 mod fault;
 
 use fault::Fault;
-use main_tests::{ProgramJudge, program_tests};
+use known_tests::{ProgramJudge, program_tests};
 use span_core::{Steps, VarSet};
 use spanner_library::{ABSENT, Cache, Options, Prepared, Rows};
 use std::marker::Brand;

@@ -1,13 +1,13 @@
 -- A run in memory has the contract of a run of the program.
 use Rattle.std.proofs.Common.{◌≡◌, ◌≢◌, ℕ, List, Option, Some, ◌∙◌, sym, subst}
-use Rattle.main_tests.specs.Relations.{known_tests, relation}
+use Rattle.known_tests.specs.Relations.{known_tests, relation}
 use Rattle.rm_outside.specs.Change.{Change}
 use Rattle.rm_outside.specs.Told.{Told}
 use Rattle.rm_outside.specs.declared.status.Status.{Status}
-use Rattle.spanner_engine.specs.Passing.{known}
+use Rattle.spanner_model.specs.Passing.{known}
 use Rattle.session_server.specs.Serve.{Serves, ServesAll}
-use Rattle.rematch_program.specs.declared.TheConstants.{MOST_REQUESTS}
-use Rattle.rematch_program.specs.All.{serving_words}
+use Rattle.whole_program.specs.declared.TheConstants.{MOST_REQUESTS}
+use Rattle.whole_program.specs.All.{serving_words}
 use Rattle.rematch_program.specs.Complete.{Completes}
 use Rattle.rematch_program.specs.Run.{RunTested, shelved}
 use Rattle.rematch_program.specs.Work.{Clock}

@@ -5,8 +5,8 @@ ghost use Rattle.rm_outside.specs.MemoryShelf.{failing_fetches, held_of};
 ghost use Rattle.rm_outside.specs.MemorySink.{written_of};
 ghost use Rattle.memory_run.specs.Input.{input_name};
 
-use main_tests::program_tests;
-use rematch_program::run_all;
+use known_tests::program_tests;
+use whole_program::run_all;
 use rm_outside::{FetchFault, MemoryShelf, MemorySink, MemorySource, Shelf, Status};
 use span_core::{OutOfMemory, Steps};
 use std::alloc::Global;

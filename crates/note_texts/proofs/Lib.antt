@@ -1,2 +1,3 @@
 pub mod Fixed
+pub mod ResultLaws
 pub mod Utf8

@@ -1,2 +1,4 @@
 -- what public contracts rest on
 pub mod Notes
+pub mod Outcomes
+pub mod Refusals

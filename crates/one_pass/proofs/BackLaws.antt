@@ -5,7 +5,8 @@ use Rattle.span_core.specs.Lists.{Has}
 use Rattle.span_core.proofs.HasLaws.{Has-map, Has-map_cases}
 use Rattle.marked_automaton.specs.Automaton.{Automaton}
 use Rattle.automaton_reading.specs.Reading.{Reach, byte_read, edges, look_ups_asked, next_sets}
-use Rattle.set_table.specs.Tabled.{StaysOn, Tabled, set_at}
+use Rattle.set_table.specs.Tabled.{StaysOn, Tabled}
+use Rattle.numbered_lists.specs.Numbered.{set_at}
 use Rattle.output_graph.specs.Graph.{Source}
 use Rattle.one_pass.specs.Layers.{GraphView}
 use Rattle.one_pass.specs.Passes.{AllLeadBack, AllStayOn, HasRead, Progress, Reaches, sets_of}

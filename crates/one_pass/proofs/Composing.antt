@@ -5,8 +5,9 @@ use Rattle.span_core.specs.Lists.{Has, AreDistinct}
 use Rattle.span_core.proofs.HasLaws.{Has-append_left, Has-append_right, Has-append_cases, Has-map, Has-map_cases}
 use Rattle.marked_automaton.specs.Automaton.{Automaton}
 use Rattle.automaton_reading.specs.Reading.{Question, byte_read, rest_taken, ended, LookUp, next_sets, look_ups_asked}
-use Rattle.set_table.specs.Tabled.{Tabled, set_at}
-use Rattle.set_table.proofs.SetsLaws.{number_told}
+use Rattle.set_table.specs.Tabled.{Tabled}
+use Rattle.numbered_lists.specs.Numbered.{set_at}
+use Rattle.numbered_lists.proofs.SetsLaws.{number_told}
 use Rattle.one_pass.specs.Words.{Word}
 use Rattle.output_graph.specs.Graph.{Source}
 use Rattle.one_pass.specs.Layers.{numbers_of}

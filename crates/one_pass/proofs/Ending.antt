@@ -7,7 +7,8 @@ use Rattle.span_core.proofs.HasLaws.{Has-append_left, Has-append_right, Has-appe
 use Rattle.marked_automaton.specs.Automaton.{Automaton}
 use Rattle.automaton_reading.specs.Reading.{ended, Reach, LookUp, edges, look_ups_asked}
 use Rattle.one_pass.specs.Turned.{HasLookedUp}
-use Rattle.set_table.specs.Tabled.{Tabled, look_up, set_at}
+use Rattle.set_table.specs.Tabled.{Tabled, look_up}
+use Rattle.numbered_lists.specs.Numbered.{set_at}
 use Rattle.one_pass.specs.Words.{Word, block_word}
 use Rattle.output_graph.specs.Graph.{Source}
 use Rattle.one_pass.specs.Layers.{GraphView, HasCost, BringsEnd}

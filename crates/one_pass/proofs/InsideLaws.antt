@@ -7,7 +7,8 @@ use Rattle.byte_runs.specs.Inner.{EndsNowhere, Inner, IsBehind, StandsAt}
 use Rattle.marked_automaton.specs.declared.way.Way.{Way}
 use Rattle.marked_automaton.specs.Automaton.{Automaton, HasByte}
 use Rattle.output_graph.specs.Graph.{Source}
-use Rattle.set_table.specs.Tabled.{IsTabled, Tabled, set_at}
+use Rattle.set_table.specs.Tabled.{IsTabled, Tabled}
+use Rattle.numbered_lists.specs.Numbered.{set_at}
 use Rattle.one_pass.specs.Inside.{Deepens, EndsIn, IsRegion, Kills, LastKills, NoneEnds, WaitsInside}
 use Rattle.one_pass.specs.Layers.{GraphView}
 use Rattle.one_pass.specs.Passes.{AllLeadBack, AreGiven}

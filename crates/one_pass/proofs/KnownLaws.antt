@@ -21,7 +21,8 @@ use Rattle.one_pass.specs.declared.entries.Entries.{Entries}
 use Rattle.one_pass.specs.declared.entries.Entry.{Entry}
 use Rattle.one_pass.specs.declared.entries.Entry.TheVariants.{Unknown, Glide, Run}
 use Rattle.one_pass.specs.KnownSteps.{KnownStep}
-use Rattle.set_table.specs.Tabled.{HasEdges, Tabled, edge_named, look_up, set_at, with_set}
+use Rattle.set_table.specs.Tabled.{HasEdges, Tabled, edge_named, look_up}
+use Rattle.numbered_lists.specs.Numbered.{set_at, with_set}
 use Rattle.set_table.proofs.NamingLaws.{named_stay}
 use Rattle.one_pass.specs.Entered.{has_entry, place_in}
 use Rattle.one_pass.specs.Entries.{entry_at}

@@ -126,27 +126,31 @@ module _ (t : Tabled) (p : Pass) (k b : ℕ) (goes : GoesOn t (as_layer (Some k)
       let back = past_named (sets_of p.graph.layer) (renamed sets p.graph) p.at goes.ready.fresh.0 (λ s w x h c. goes.ready.past h.0 w x h.1 h.3 c) in
       subst (λ g. IsPast (sources g) p.at) (renamed_again sets (sets_of p.graph.layer) p.graph number.every ∙ own_names (sets_of p.graph.layer) p.graph refl) back
 
-  module _ (step : KnownStep) (of : IsStepOf t p.known.layers b sets step) (h : Graph) (n m : ℕ) (run : IsRun p.graph p.at step.program.groups h n m) (targets_are : sets_of h.layer ≡ step.program.targets) where
-    next_is : layer_at p.known.layers step.next ≡ sets_of h.layer
-    next_is = layer_is p.known.layers step.next step.program.targets of.next ∙ sym targets_are
+  module _ (step : KnownStep) (of : IsStepOf t p.known.layers b sets step) (h : Graph) (n m : ℕ) (run : IsRun p.graph p.at step.program.groups (renamed step.program.targets h) n m) (distinct : AreDistinct step.program.targets)
+      (long : length step.program.targets ≡ length h.layer) where
+    next_is : layer_at p.known.layers step.next ≡ step.program.targets
+    next_is = layer_is p.known.layers step.next step.program.targets of.next
 
     abbrev Reads_so : Pass → Type 0
     Reads_so q = Reads (byte_at p.at b ∷ []) t (as_layer (Some k) p) n t q m
 
-    run_named_reads : Reads_so (record { graph = h; known = p.known; search = p.search; at = p.at + 1 })
+    run_named_reads : Reads_so (record { graph = renamed step.program.targets h; known = p.known; search = p.search; at = p.at + 1 })
     run_named_reads =
-        run_reads goes step.program.groups (subst (λ xs. AreLookUps t b xs step.program.groups) (sym sets_are) of.look_ups) (run_named sets step.program.groups p.graph h p.at n m number.every run)
+        run_reads goes step.program.groups (subst (λ xs. AreLookUps t b xs step.program.groups) (sym sets_are) of.look_ups)
+        (run_named sets step.program.groups p.graph (renamed step.program.targets h) p.at n m number.every run)
 
     pub run_numbered : IsNumbered h p.known.layers step.next
-    run_numbered =
-        let q : Pass = record { graph = h; known = p.known; search = p.search; at = p.at + 1 } in
-        stands_in t h p.known (Some step.next) (sets_distinct t q run_named_reads.goes_on) (of.next ∙ ap Some (sym targets_are))
+    run_numbered = record {
+      there = slice_get_within p.known.layers step.next step.program.targets of.next;
+      distinct = subst AreDistinct (sym next_is) distinct;
+      every = ap length next_is ∙ long;
+    }
 
     -- and something else may be searched for
     pub run_numbered_reads : (search : Search) → search.ahead ≡ p.search.ahead → Reads_so (as_layer (Some step.next) (record { graph = h; known = p.known; search = search; at = p.at + 1 }))
     run_numbered_reads search same =
         let done = run_named_reads in
-        subst (λ g. Reads_so (record { graph = g; known = p.known; search = search; at = p.at + 1 })) (sym (own_names (layer_at p.known.layers step.next) h next_is))
+        subst (λ xs. Reads_so (record { graph = renamed xs h; known = p.known; search = search; at = p.at + 1 })) (sym next_is)
         (record { read = done.read; goes_on = record { ready = done.goes_on.ready; known = done.goes_on.known; waits = subst (λ a. KnowsWaiting t.graph.ways a.waiting) (sym same) done.goes_on.waits } })
 
 -- ---- bytes of a piece, one after another

@@ -12,7 +12,8 @@ use Rattle.marked_automaton.specs.Automaton.{Automaton, size}
 use Rattle.automaton_reading.specs.Reading.{Question, byte_read, rest_taken, ended, Reach, LookUp, edges, next_sets, once as once_each, look_up_edges, look_up_same, look_ups_asked}
 use Rattle.automaton_reading.proofs.Matching.{cons_sum, once_has}
 use Rattle.automaton_reading.proofs.MeasureLaws.{bytes_itself, look_up_itself, same_bytes, same_look_up}
-use Rattle.set_table.specs.Tabled.{HasEdges, IsTabled, Tabled, edge_named, look_up, look_ups_weight, once_asked, reached, set_at, weight}
+use Rattle.set_table.specs.Tabled.{HasEdges, IsTabled, Tabled, edge_named, look_up, look_ups_weight, once_asked, reached, weight}
+use Rattle.numbered_lists.specs.Numbered.{set_at}
 use Rattle.set_table.proofs.OnceLaws.{HoldsOnce, holds_once, once_asked_apart, once_set, once_sets_count, once_stay, once_was}
 use Rattle.one_pass.specs.Words.{Word, block_word}
 use Rattle.output_graph.specs.Graph.{Source}

@@ -6,7 +6,8 @@ use Rattle.span_core.proofs.HasLaws.{Has-append_left, Has-get_or}
 use Rattle.marked_automaton.specs.Automaton.{Automaton}
 use Rattle.automaton_reading.specs.Reading.{LookUp, Reach, byte_read}
 use Rattle.automaton_reading.proofs.MeasureLaws.{bytes_itself}
-use Rattle.set_table.specs.Tabled.{IsTabled, Stays, Tabled, look_up, set_at}
+use Rattle.set_table.specs.Tabled.{IsTabled, Stays, Tabled, look_up}
+use Rattle.numbered_lists.specs.Numbered.{set_at}
 use Rattle.one_pass.specs.Passes.{HasGrown}
 use Rattle.one_pass.specs.Weights.{Tells, is_one_back, leads_back}
 

@@ -9,7 +9,8 @@ use Rattle.span_core.specs.declared.edge.Edge.{Edge}
 use Rattle.automaton_reading.specs.Reading.{ended, rest_taken, Reach, LookUp, edges, rest_edge, look_ups_asked}
 use Rattle.set_table.specs.declared.fault.TableFault.{TableFault}
 use Rattle.set_table.specs.declared.fault.TableFault.TheVariants.{Full, OutOfMemory}
-use Rattle.set_table.specs.Tabled.{HasEdges, HasEnds, HasRest, IsRefusal, Tabled, edge_named, idle_of, look_up, once_asked, set_at}
+use Rattle.set_table.specs.Tabled.{HasEdges, HasEnds, HasRest, IsRefusal, Tabled, edge_named, idle_of, look_up, once_asked}
+use Rattle.numbered_lists.specs.Numbered.{set_at}
 use Rattle.one_pass.specs.Words.{Word, block_word}
 use Rattle.output_graph.specs.Graph.{Source}
 use Rattle.one_pass.specs.Layers.{GraphView, Brings, BringsEnd, HasCost, HasEndedSource, HasStepped, HasWord, no_source, source_at}
@@ -20,7 +21,7 @@ use Rattle.one_pass.specs.Passes.{Progress, pass, sets_of, stop, IsReady, HasRea
 use Rattle.one_pass.proofs.Composing.{excess_grown, grown_length, grown_none}
 use Rattle.one_pass.proofs.Ending.{ending_more, IsEnding, marks_of}
 use Rattle.set_table.proofs.OnceLaws.{holds_once, once_set}
-use Rattle.set_table.proofs.SetsLaws.{at_place}
+use Rattle.numbered_lists.proofs.SetsLaws.{at_place}
 use Rattle.one_pass.proofs.PlaceLaws.{place_read, place_ready}
 use Rattle.one_pass.proofs.Stepping.{heavy_excess, met_here, named_before, source_edges, stepping_more, stopped_by_graph, stopped_by_table, IsSpending, IsStepping}
 

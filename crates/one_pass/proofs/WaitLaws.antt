@@ -12,8 +12,9 @@ use Rattle.marked_automaton.specs.Automaton.{Automaton, ByteClass, HasByte}
 use Rattle.marked_automaton.proofs.Passing.{has_filter}
 use Rattle.automaton_reading.specs.Reading.{Reach, blocks_down, byte_read, edges, reach_with, ways_taken}
 use Rattle.automaton_reading.proofs.Determined.{edge_way, has_block, set_has, way_edge}
-use Rattle.set_table.specs.Tabled.{IsTabled, Tabled, set_at}
-use Rattle.set_table.proofs.Ascending.{ascending_same, set_in_order}
+use Rattle.set_table.specs.Tabled.{IsTabled, Tabled}
+use Rattle.numbered_lists.specs.Numbered.{set_at}
+use Rattle.automaton_reading.proofs.Ascending.{ascending_same, set_in_order}
 use Rattle.byte_runs.specs.Chains.{AreLeftBy, IsInSet}
 use Rattle.output_graph.specs.Graph.{Source}
 use Rattle.one_pass.specs.Layers.{GraphView}

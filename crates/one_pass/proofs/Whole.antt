@@ -8,7 +8,8 @@ use Rattle.marked_automaton.specs.Automaton.{Automaton, size}
 use Rattle.automaton_reading.specs.Reading.{Question, byte_read, rest_taken, ended, LookUp, questions, edges_K, next_sets, once, look_up_same, look_ups_asked, look_ups_K, look_ups_read, set_of, weight_K}
 use Rattle.automaton_reading.proofs.Matching.{once_has}
 use Rattle.automaton_reading.proofs.MeasureLaws.{same_look_up, look_up_itself}
-use Rattle.set_table.specs.Tabled.{IsTabled, Tabled, set_at}
+use Rattle.set_table.specs.Tabled.{IsTabled, Tabled}
+use Rattle.numbered_lists.specs.Numbered.{set_at}
 use Rattle.one_pass.specs.Words.{Word}
 use Rattle.output_graph.specs.Graph.{Source}
 use Rattle.one_pass.specs.Builds.{IsNew, build, started}

@@ -12,7 +12,8 @@ use Rattle.one_pass.specs.declared.entries.Entries.{Entries}
 use Rattle.one_pass.specs.declared.entries.Entry.{Entry}
 use Rattle.one_pass.specs.declared.entries.Entry.TheVariants.{Unknown, Glide, Run}
 use Rattle.one_pass.specs.declared.known.Known.{Known}
-use Rattle.set_table.specs.Tabled.{HasEdges, Tabled, look_up, set_at}
+use Rattle.set_table.specs.Tabled.{HasEdges, Tabled, look_up}
+use Rattle.numbered_lists.specs.Numbered.{set_at}
 use Rattle.one_pass.specs.Entries.{entry_at}
 use Rattle.one_pass.specs.KnownSteps.{KnownStep}
 use Rattle.one_pass.specs.Passes.{AllStayOn}

@@ -4,7 +4,8 @@ use Rattle.std.specs.Str.{bytes_eq}
 use Rattle.span_core.specs.Lists.{Has, AreDistinct}
 use Rattle.marked_automaton.specs.Automaton.{Automaton, size}
 use Rattle.automaton_reading.specs.Reading.{LookUp, ended, once, look_up_same, look_ups_asked}
-use Rattle.set_table.specs.Tabled.{IsTabled, Stays, Tabled, look_ups_weight, set_at, sets_weight}
+use Rattle.set_table.specs.Tabled.{IsTabled, Stays, Tabled, look_ups_weight, sets_weight}
+use Rattle.numbered_lists.specs.Numbered.{set_at}
 use Rattle.one_pass.specs.Words.{Word}
 use Rattle.output_graph.specs.Graph.{Source}
 use Rattle.one_pass.specs.Layers.{GraphView, IsPast, numbers_of}

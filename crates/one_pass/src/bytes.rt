@@ -13,6 +13,7 @@ ghost use Rattle.one_pass.specs.Places.{byte_at, bytes_at};
 use crate::entries::Entry;
 use crate::pass::Pass;
 use crate::search::{QUIET, quiet_at};
+use crate::waiting::waits;
 use set_table::{Table, TableFault};
 use span_core::Steps;
 use std::sync::ledger::Ledger;
@@ -84,14 +85,10 @@ impl Pass {
         }
         let byte = bytes[glided.bytes];
         match self.read_byte(table, glided.layer, glided.entry, byte, steps) {
-            Ok(next) => {
-                let far = self.search.far;
-                self.search.quiet = quiet_at(Some(glided.layer), next, far, glided.quiet);
-                Ok(Place {
-                    layer: next,
-                    bytes: glided.bytes + 1,
-                })
-            }
+            Ok(next) => Ok(Place {
+                layer: next,
+                bytes: glided.bytes + 1,
+            }),
             Err(fault) => Err(fault),
         }
     }
@@ -262,7 +259,8 @@ impl Pass {
         }
     }
 
-    /// Reads a byte of which nothing is known of the layer: source by source, and what they do is kept.
+    /// Reads a byte of which nothing is known of the layer: source by source, and what they do is kept. A layer that is new, and
+    /// waits, is searched at once.
     #[cold]
     #[inline(never)]
     fn read_unknown<L: Ledger>(
@@ -280,13 +278,19 @@ impl Pass {
         ensures stands { IfOk result (λ next. StandsIn table.new self.new.graph self.new.known next) }
         ensures given_up { IfErr result (GivesUp (byte_at self.old.at byte ∷ []) table.old (as_layer layer self.old) steps.old table.new steps.new) }
     {
+        let layers = self.known.layers.len();
         self.name(layer);
         let next = match self.read_named(table, layer, byte, steps) {
             Ok(next) => next,
             Err(fault) => return Err(fault),
         };
         self.graph.is_graph();
-        self.search.quiet = quiet_at(layer, next, self.search.far, self.search.quiet);
+        let is_new = self.known.layers.len() > layers;
+        self.search.quiet = if is_new && waits(table, &self.graph) {
+            QUIET
+        } else {
+            quiet_at(layer, next, self.search.far, self.search.quiet)
+        };
         Ok(next)
     }
 

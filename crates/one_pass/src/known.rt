@@ -20,8 +20,9 @@ use crate::entries::{Entries, Entry};
 use crate::known_steps::KnownSteps;
 use crate::places::stays_of;
 use crate::waiting::has;
+use numbered_lists::NumberedLists;
 use output_graph::{OutputGraph, Program};
-use set_table::{NumberedLists, Table};
+use set_table::Table;
 use span_core::{ByteSet, Edge, OutOfMemory};
 use std::alloc::Global;
 

@@ -17,6 +17,7 @@ ghost use Rattle.one_pass.specs.Seen.{whole};
 
 use crate::known::Known;
 use crate::search::{FAR, QUIET, Search, bytes_over, quiet_in};
+use crate::waiting::is_known;
 use output_graph::OutputGraph;
 use set_table::{Table, TableFault};
 use span_core::{OutOfMemory, Steps};
@@ -146,6 +147,10 @@ impl Pass {
         if self.search.quiet < QUIET {
             return i;
         }
+        if self.search.is_paused(self.at) {
+            self.search.quiet = 0;
+            return i;
+        }
         self.name(layer);
         self.pass_over(table, layer, piece, i)
     }
@@ -187,8 +192,10 @@ impl Pass {
         let (_, rest) = piece.split_at(i);
         let at = self.at as usize;
         let over = bytes_over(table, &self.graph, &mut self.search, at, rest);
+        let waits = is_known(&self.search.ahead.waiting, table, &self.graph);
         self.search.quiet = 0;
-        self.search.far = if over >= FAR { layer } else { None };
+        self.search.waits = waits;
+        self.search.far = if waits || over >= FAR { layer } else { None };
         self.at += over as u32;
         i + over
     }

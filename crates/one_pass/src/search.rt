@@ -14,6 +14,9 @@ use std::alloc::Global;
 /// After so many bytes that left the layer as it was, the next one that may change something is searched for.
 pub(crate) const QUIET: u32 = 16;
 
+/// Behind a byte that leads back to where a search is made at once, the layer counts as unchanged for so many bytes.
+pub(crate) const BACK: u32 = u32::MAX;
+
 /// A search that passed over so many bytes went far.
 pub(crate) const FAR: usize = 32;
 
@@ -24,8 +27,10 @@ pub(crate) struct Search {
     pub(crate) ahead: Ahead,
     /// For how many bytes the layer counts as unchanged.
     pub(crate) quiet: u32,
-    /// The layer in which the last search went far, if it did.
+    /// The layer that is searched as soon as it comes back: in which the last search went far, or which waits.
     pub(crate) far: Option<usize>,
+    /// Whether that layer waits, and it is known how it is left.
+    pub(crate) waits: bool,
 }
 
 impl Search {
@@ -38,20 +43,26 @@ impl Search {
             ahead: Ahead::new(alloc),
             quiet: QUIET,
             far: None,
+            waits: false,
         }
+    }
+
+    /// Whether the layer has just come back, and no search is made at this position, since searching gained nothing.
+    pub(crate) fn is_paused(&self, at: u32) -> bool {
+        self.quiet == BACK && self.waits && self.ahead.is_paused(at as usize)
     }
 }
 
-/// For how many bytes a layer in which a piece begins counts as unchanged: for enough, where the last search went far in it.
+/// For how many bytes a layer in which a piece begins counts as unchanged: for enough, where it is searched at once.
 pub(crate) fn quiet_in(layer: Option<usize>, far: Option<usize>, quiet: u32) -> u32 {
     match (layer, far) {
-        (Some(layer), Some(kept)) if layer == kept => QUIET,
+        (Some(layer), Some(kept)) if layer == kept => BACK,
         _ => quiet,
     }
 }
 
-/// For how many bytes the layer counts as unchanged behind one more: at once for enough, where it comes back to one in
-/// which the last search went far.
+/// For how many bytes the layer counts as unchanged behind one more: at once for enough, where it comes back to one that is
+/// searched at once.
 #[inline(always)]
 pub(crate) fn quiet_at(
     before: Option<usize>,
@@ -63,7 +74,7 @@ pub(crate) fn quiet_at(
         return quiet.saturating_add(1);
     }
     match (after, far) {
-        (Some(layer), Some(kept)) if layer == kept => QUIET,
+        (Some(layer), Some(kept)) if layer == kept => BACK,
         _ => 0,
     }
 }

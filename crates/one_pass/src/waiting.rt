@@ -9,7 +9,7 @@ ghost use Rattle.std.specs.Prelude.{◌≡◌, ℕ, ◌<◌, ◌≤◌, ◌↔�
 ghost use Rattle.std.specs.FinSet as bytes;
 ghost use Rattle.span_core.specs.Lists.{Has};
 ghost use Rattle.output_graph.specs.Graph.{Source, sources};
-ghost use Rattle.set_table.specs.Tabled.{set_at};
+ghost use Rattle.numbered_lists.specs.Numbered.{set_at};
 ghost use Rattle.one_pass.specs.Ahead.{HasAdded, KnowsWaiting, LeaveBy};
 ghost use Rattle.one_pass.specs.Passes.{AllLeadBack, AreGiven};
 ghost use Rattle.one_pass.specs.Seen.{whole};
@@ -49,6 +49,12 @@ const MOST_WINDOW: usize = 1_048_576;
 
 /// More states than these are not looked at.
 const MOST_STATES: usize = 64;
+
+/// Of more ways than these no new layer is looked at.
+const MOST_WAYS: usize = 1024;
+
+/// Nor is a new layer with more sets or states in a set.
+const FEW_STATES: usize = 8;
 
 /// So many sets a chain has at most.
 const MOST_SETS: usize = 16;
@@ -134,14 +140,22 @@ impl Ahead {
         ensures within { result ≤ length bytes.now }
         ensures back { AllLeadBack table.now (whole graph.now) (take result bytes.now) }
     {
-        if at < self.paused || !are_long(&self.waiting, table, graph, bytes) {
+        if !are_long(&self.waiting, table, graph, bytes) {
             return 0;
         }
         self.work_out(table, graph, at.saturating_add(bytes.len()));
+        if self.is_paused(at) {
+            return 0;
+        }
         let (front, _) = bytes.split_at(bytes.len().min(self.window));
         let over = passed_by(&self.waiting, table, graph, front);
         self.count(at, over);
         over
+    }
+
+    /// Whether no search is made at a position, since searching gained nothing.
+    pub(crate) fn is_paused(&self, at: usize) -> bool {
+        at < self.paused
     }
 
     /// Works out how the graph's layer is left, unless it is known or would cost too much for so many bytes.
@@ -226,6 +240,25 @@ fn passed_from(waiting: &Waiting, table: &Table<'_>, graph: &OutputGraph, bytes:
     }
 }
 
+/// Whether the layer waits: it has few sets of few states, and each of these loops on every byte. Where there are many ways it
+/// is not looked at.
+pub(crate) fn waits(table: &Table<'_>, graph: &OutputGraph) -> bool
+    requires given { AreGiven table.now (whole graph.now) }
+    requires fresh { graph.now.stepped ≡ 0 }
+{
+    let ways = table.ways();
+    if ways.len() > MOST_WAYS || graph.layer_len() > FEW_STATES {
+        return false;
+    }
+    for k in 0..graph.layer_len() {
+        let states = table.members(graph.set_at(k));
+        if states.len() > FEW_STATES || !all_loop(ways, states) {
+            return false;
+        }
+    }
+    true
+}
+
 /// Whether there are enough bytes for a search.
 fn are_long(waiting: &Option<Waiting>, table: &Table<'_>, graph: &OutputGraph, bytes: &[u8]) -> bool
     requires given { AreGiven table.now (whole graph.now) }
@@ -238,7 +271,7 @@ fn are_long(waiting: &Option<Waiting>, table: &Table<'_>, graph: &OutputGraph, b
 }
 
 /// Whether the layer's states are among those of which something is known.
-fn is_known(waiting: &Option<Waiting>, table: &Table<'_>, graph: &OutputGraph) -> bool
+pub(crate) fn is_known(waiting: &Option<Waiting>, table: &Table<'_>, graph: &OutputGraph) -> bool
     requires given { AreGiven table.now (whole graph.now) }
     requires fresh { graph.now.stepped ≡ 0 }
 {

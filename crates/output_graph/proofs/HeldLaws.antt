@@ -8,7 +8,7 @@ use Rattle.output_graph.specs.declared.program.Register.{Register}
 use Rattle.output_graph.specs.declared.program.Register.TheVariants.{Kept, Made}
 use Rattle.output_graph.specs.Forward.{Layer, cell_of, set_cell}
 use Rattle.output_graph.specs.Graph.{sets_of}
-use Rattle.output_graph.specs.Plans.{AreInPlace, IsInPlace, put}
+use Rattle.output_graph.specs.Plans.{put}
 use Rattle.output_graph.specs.Programs.{place_in}
 use Rattle.output_graph.specs.Running.{AreHeld, IsThere, also_in, cell_in}
 use Rattle.output_graph.specs.Sets.{cells_in}
@@ -142,46 +142,6 @@ take_next [] k x e = cc
 take_next {A = A} (y ∷ xs) zero x e = ap (λ (z : A). z ∷ []) (same_Some y x e)
 take_next {A = A} (y ∷ xs) (suc k) x e = ap (λ (ys : List A). y ∷ ys) (take_next xs k x e)
 
--- ---- in place
-
-pub in_place_at : (j k n : ℕ) (held : List Register) (r : Register) → AreInPlace j held → slice_get held k ≡ Some r → n ≡ j + k → IsInPlace n r
-in_place_at j k n [] r are e is = cc
-in_place_at j zero n (x ∷ held) r are e is = subst (λ (m : ℕ). IsInPlace m r) (omega arith) (subst (λ (y : Register). IsInPlace j y) (same_Some x r e) are.0)
-in_place_at j (suc k) n (x ∷ held) r are e is = in_place_at (suc j) k n held r are.1 e (omega arith)
-
-pub write_take : (xs : Layer) (k : ℕ) (p : ℕ × ℕ) → k < length xs → take (suc k) (set xs k p) ≡ take k xs ++ p ∷ []
-write_take [] k p h = absurd (omega arith)
-write_take (x ∷ xs) zero p h = ap (λ (l : Layer). p ∷ l) (take_none xs)
-  where
-    take_none : (l : Layer) → take 0 l ≡ []
-    take_none [] = refl
-    take_none (y ∷ l) = refl
-write_take (x ∷ xs) (suc k) p h = ap (λ (l : Layer). x ∷ l) (write_take xs k p (omega arith))
-
-pub write_drop : (xs : Layer) (k : ℕ) (p : ℕ × ℕ) → drop (suc k) (set xs k p) ≡ drop (suc k) xs
-write_drop [] k p = refl
-write_drop (x ∷ xs) zero p = refl
-write_drop (x ∷ xs) (suc k) p = write_drop xs k p
-
-pub drop_less : (xs ys : Layer) (k : ℕ) → drop k xs ≡ drop k ys → drop (suc k) xs ≡ drop (suc k) ys
-drop_less xs ys k e = twice xs k ∙ (ap (λ (l : Layer). drop 1 l) e ∙ sym (twice ys k))
-  where
-    twice : (l : Layer) (n : ℕ) → drop (suc n) l ≡ drop 1 (drop n l)
-    twice [] zero = refl
-    twice [] (suc n) = refl
-    twice (x ∷ l) zero = refl
-    twice (x ∷ l) (suc n) = twice l n
-
--- what is behind k is there
-pub drop_there : (xs ys : Layer) (k : ℕ) (p : ℕ × ℕ) → drop k xs ≡ drop k ys → slice_get xs k ≡ Some p → slice_get ys k ≡ Some p
-drop_there xs ys k p e is = sym (first ys k) ∙ (ap (λ (l : Layer). slice_get l 0) (sym e) ∙ (first xs k ∙ is))
-  where
-    first : (l : Layer) (n : ℕ) → slice_get (drop n l) 0 ≡ slice_get l n
-    first [] zero = refl
-    first [] (suc n) = refl
-    first (x ∷ l) zero = refl
-    first (x ∷ l) (suc n) = first l n
-
 pub take_length : {A : Type 0} (xs : List A) (k : ℕ) → k ≤ length xs → length (take k xs) ≡ k
 take_length [] zero h = refl
 take_length [] (suc k) h = absurd (omega arith)
@@ -194,21 +154,3 @@ sets_length (p ∷ next) = ap suc (sets_length next)
 
 pub targets_long : (sources : Layer) (made : List ℕ) (held : List Register) (next : Layer) (targets : List ℕ) → AreHeld sources made held next → sets_of next ≡ targets → length targets ≡ length held
 targets_long sources made held next targets are is = ap length (sym is) ∙ (sets_length next ∙ sym (held_length sources made held next are))
-
--- one place more is settled
-module _ (sources : Layer) (made : List ℕ) (held : List Register) (targets : List ℕ) (now : Layer) (k : ℕ) (r : Register) (p : ℕ × ℕ) (within : k < length now) (at_held : slice_get held k ≡ Some r)
-    (at_targets : slice_get targets k ≡ Some p.0) where
-  pub settled_held : AreHeld sources made (take k held) (take k now) → cell_in sources made r ≡ Some p.1 → AreHeld sources made (take (k + 1) held) (take (k + 1) (set now k p))
-  settled_held are e =
-      rw add-one
-      (subst (λ (hs : List Register). AreHeld sources made hs (take (suc k) (set now k p))) (sym (take_next held k r at_held))
-      (subst (λ (l : Layer). AreHeld sources made (take k held ++ r ∷ []) l) (sym (write_take now k p within)) (held_snoc sources made (take k held) (take k now) r p are e)))
-
-  pub settled_sets : sets_of (take k now) ≡ take k targets → sets_of (take (k + 1) (set now k p)) ≡ take (k + 1) targets
-  settled_sets is =
-      rw add-one
-      (ap (λ (l : Layer). sets_of l) (write_take now k p within)
-      ∙ (sets_snoc (take k now) p ∙ (ap (λ (ss : List ℕ). ss ++ p.0 ∷ []) is ∙ sym (take_next targets k p.0 at_targets))))
-
-  pub settled_rest : drop k now ≡ drop k sources → drop (k + 1) (set now k p) ≡ drop (k + 1) sources
-  settled_rest e = rw add-one (write_drop now k p ∙ drop_less now sources k e)

@@ -19,7 +19,7 @@ pub mod PlanLaws
 pub mod PoolLaws
 pub mod HeldLaws
 pub mod RunLaws
-pub mod ActionLaws
+pub mod CodeLaws
 pub mod GoingLaws
 pub mod OrderLemmas
 pub mod Handing
@@ -32,3 +32,4 @@ pub mod TurnEnds
 pub mod TurnSteps
 pub mod CopyLaws
 pub mod NamedLaws
+pub mod ComeLaws

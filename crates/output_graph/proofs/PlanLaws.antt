@@ -9,7 +9,7 @@ use Rattle.output_graph.specs.declared.program.Plan.{Plan}
 use Rattle.output_graph.specs.declared.program.Register.{Register}
 use Rattle.output_graph.specs.Source.{Edges, Descend}
 use Rattle.output_graph.specs.Sound.{edges_of}
-use Rattle.output_graph.specs.Plans.{AreInPlace, HasEdge, HasEdges, IsInPlace, IsPlan, Places, actions_after, actions_of, acts, all_actions, all_places, hands_on, keeps, move_of, moved, nowhere, places_after, places_of, put, release_of}
+use Rattle.output_graph.specs.Plans.{HasEdge, HasEdges, IsPlan, Places, actions_after, actions_of, acts, all_actions, all_places, hands_on, keeps, move_of, moved, nowhere, places_after, places_of, put, release_of}
 use Rattle.output_graph.specs.Programs.{AllDescend, ArePlaced, AreCounted, cut, edges_in, place_in, targets_from, with_target}
 use Rattle.output_graph.proofs.ProgramLaws.{counted_more, cut_more, descend_more, drop_more, edges_drop, edges_length, edges_snoc, placed_more, take_more, take_whole, targets_more}
 
@@ -89,12 +89,6 @@ all_actions_more k s (m ∷ counts) moves more n j h e are =
     ∙ (ap (λ (xs : List Action). actions_of k s (take m moves) ++ xs)
     (all_actions_more (suc k) t counts (drop m moves) more n j h (omega arith) (subst (λ (es : Edges). AreCounted counts es) (sym (edges_drop moves m)) are.1))
     ∙ sym (append_assoc (actions_of k s (take m moves)) (all_actions (suc k) t counts (drop m moves)) (actions_of j (all_places k s (m ∷ counts) moves) more))))
-
--- ---- cells that stay in their places
-
-pub in_place_more : (k j : ℕ) (held : List Register) (r : Register) → AreInPlace k held → j ≡ k + length held → IsInPlace j r → AreInPlace k (held ++ r ∷ [])
-in_place_more k j [] r are e is = (subst (λ (n : ℕ). IsInPlace n r) (let a = e in omega arith) is, tt)
-in_place_more k j (x ∷ held) r are e is = (are.0, in_place_more (suc k) j held r are.1 (omega arith) is)
 
 -- ---- plans
 
@@ -183,7 +177,7 @@ module _ (k : ℕ) (old : Plan) (is : IsPlan old) (given : List Edge) (mid : Pla
 -- one source more
 module _ (k : ℕ) (old : Plan) (is : IsPlan old) (at : k ≡ length old.counts.items) (given : List Edge) (descend : Descend (edges_of given)) (mid : Plan) (on : Bool) (so : HasEdges k old given mid on) (new : Plan)
     (counts : new.counts.items ≡ old.counts.items ++ length given ∷ []) (moves : new.moves ≡ mid.moves) (targets : new.targets ≡ mid.targets) (held : new.held ≡ mid.held) (made : new.made ≡ mid.made)
-    (actions : new.actions.items ≡ mid.actions.items ++ release_of on k) (near : IsTrue new.in_place → AreInPlace 0 new.held.items × (length new.held.items ≤ length new.counts.items)) where
+    (actions : new.actions.items ≡ mid.actions.items ++ release_of on k) where
   abbrev begun : Places
   begun = places_of old.held.items old.made
 
@@ -239,5 +233,4 @@ module _ (k : ℕ) (old : Plan) (is : IsPlan old) (at : k ≡ length old.counts.
     places = places_next;
     actions = actions_next;
     few = (let f = so.few in let m = made in let l = ap length actions ∙ length-append mid.actions.items (release_of on k) in omega arith);
-    in_place = λ on_it. near on_it;
   }

@@ -30,21 +30,21 @@ piece_stays {A = A} xs ys these piece on has =
           ∙ (take_more (drop piece.from xs) on.0 (piece.to - piece.from) (omega arith) ∙ has.are));
     }
 
-pub part_stays : (old new : Pool) (part : Part) → GoesOn old.actions.items new.actions.items → GoesOn old.targets.items new.targets.items → GoesOn old.held.items new.held.items → IsPart old part → IsPart new part
-part_stays old new part actions targets held is = record {
+pub part_stays : (old new : Pool) (part : Part) → GoesOn old.code.items new.code.items → GoesOn old.targets.items new.targets.items → IsPart old part → IsPart new part
+part_stays old new part code targets is = record {
   is_plan = is.is_plan;
-  actions = piece_stays old.actions.items new.actions.items part.plan.value.actions.items part.actions actions is.actions;
+  code = is.code;
+  is_code = is.is_code;
+  there = piece_stays old.code.items new.code.items is.code part.code code is.there;
   targets = piece_stays old.targets.items new.targets.items part.plan.value.targets.items part.targets targets is.targets;
-  held = piece_stays old.held.items new.held.items part.plan.value.held.items part.held held is.held;
   sources = is.sources;
-  in_place = is.in_place;
 }
 
 -- the lists go on, and no part is added
-pub pool_stays : (old new : Pool) → ArePooled old → GoesOn old.actions.items new.actions.items → GoesOn old.targets.items new.targets.items → GoesOn old.held.items new.held.items →
+pub pool_stays : (old new : Pool) → ArePooled old → GoesOn old.code.items new.code.items → GoesOn old.targets.items new.targets.items →
     new.parts.items ≡ old.parts.items → ArePooled new
-pool_stays old new are actions targets held same k part at =
-    part_stays old new part actions targets held (are k part (subst (λ (ps : List Part). slice_get ps k ≡ Some part) same at))
+pool_stays old new are code targets same k part at =
+    part_stays old new part code targets (are k part (subst (λ (ps : List Part). slice_get ps k ≡ Some part) same at))
 
 last_or_before : (parts : List Part) (last : Part) (k : ℕ) (part : Part) → slice_get (parts ++ last ∷ []) k ≡ Some part → (slice_get parts k ≡ Some part) ⊎ (last ≡ part)
 last_or_before [] last zero part at = inr (same_Some last part at)
@@ -53,11 +53,11 @@ last_or_before (p ∷ parts) last zero part at = inl at
 last_or_before (p ∷ parts) last (suc k) part at = last_or_before parts last k part at
 
 -- and one part is
-pub pool_next : (old new : Pool) (last : Part) → ArePooled old → GoesOn old.actions.items new.actions.items → GoesOn old.targets.items new.targets.items → GoesOn old.held.items new.held.items →
+pub pool_next : (old new : Pool) (last : Part) → ArePooled old → GoesOn old.code.items new.code.items → GoesOn old.targets.items new.targets.items →
     new.parts.items ≡ old.parts.items ++ last ∷ [] → IsPart new last → ArePooled new
-pool_next old new last are actions targets held next is k part at =
+pool_next old new last are code targets next is k part at =
     elim (last_or_before old.parts.items last k part (subst (λ (ps : List Part). slice_get ps k ≡ Some part) next at)) as (λ _. IsPart new part) [
-      | inl before ↦ part_stays old new part actions targets held (are k part before)
+      | inl before ↦ part_stays old new part code targets (are k part before)
       | inr same ↦ subst (λ (p : Part). IsPart new p) same is
     ]
 

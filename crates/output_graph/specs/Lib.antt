@@ -8,6 +8,7 @@ pub mod Graph
 pub mod Named
 pub mod Programs
 pub mod Plans
+pub mod Codes
 pub mod Sound
 pub mod Running
 pub mod Pools

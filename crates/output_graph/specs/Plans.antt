@@ -1,5 +1,5 @@
 -- What a program does to cells: the actions in their order, and the register that has the cell of each place.
-use Rattle.std.specs.Prelude.{◌≡◌, ◌≤◌, ℕ, zero, suc, Bool, true, false, IsTrue, ◌&&◌, ◌||◌, List, [], ◌∷◌, ◌++◌, take, drop, length, nat_eq, slice_get}
+use Rattle.std.specs.Prelude.{◌≡◌, ◌≤◌, ℕ, zero, suc, Bool, true, false, ◌&&◌, ◌||◌, List, [], ◌∷◌, ◌++◌, take, drop, length, nat_eq, slice_get}
 use Rattle.output_graph.specs.declared.program.Action.{Action}
 use Rattle.output_graph.specs.declared.program.Action.TheVariants.{Make, Release}
 use Rattle.output_graph.specs.declared.program.Link.{Link}
@@ -71,16 +71,6 @@ abbrev pub all_places : ℕ → Places → List ℕ → List Move → Places
 all_places k s [] moves = s
 all_places k s (n ∷ counts) moves = all_places (suc k) (places_after k s (take n moves)) counts (drop n moves)
 
--- the place has the cell of the source of its number, or one that is made
-abbrev pub IsInPlace : ℕ → Register → Type 0
-IsInPlace k (Kept j) = j ≡ k
-IsInPlace k (Made j) = Unit {0}
-
--- so does each place from k on
-abbrev pub AreInPlace : ℕ → List Register → Type 0
-AreInPlace k [] = Unit {0}
-AreInPlace k (r ∷ held) = IsInPlace k r × AreInPlace (suc k) held
-
 abbrev pub nowhere : Places
 nowhere = places_of [] 0
 
@@ -93,7 +83,6 @@ pub record IsPlan (p : Plan) : Type 0 where
   pub places : all_places 0 nowhere p.counts.items p.moves.items ≡ places_of p.held.items p.made
   pub actions : all_actions 0 nowhere p.counts.items p.moves.items ≡ p.actions.items
   pub few : p.made ≤ length p.actions.items
-  pub in_place : IsTrue p.in_place → AreInPlace 0 p.held.items × (length p.held.items ≤ length p.counts.items)
 
 -- a plan with one edge of the source k more
 abbrev pub move_of : List ℕ → Edge → Move

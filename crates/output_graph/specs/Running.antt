@@ -1,5 +1,5 @@
 -- The actions of a plan, on registers.
-use Rattle.std.specs.Prelude.{◌≡◌, ℕ, ◌+◌, ◌-◌, ◌<◌, ◌≤◌, List, [], ◌∷◌, ◌++◌, length, Option, Some, None, IfSome, slice_get}
+use Rattle.std.specs.Prelude.{◌≡◌, ℕ, zero, suc, ◌+◌, ◌-◌, ◌<◌, ◌≤◌, List, [], ◌∷◌, ◌++◌, length, Option, Some, None, IfSome, slice_get}
 use Rattle.node_arena.specs.Cells.{HasCell, Holds, NamedLink, hold, less_hold, new_link, with_hold}
 use Rattle.node_arena.specs.Release.{Released}
 use Rattle.output_graph.specs.declared.program.Action.{Action}
@@ -24,6 +24,17 @@ IsThere sources made r = (c : ℕ) × (cell_in sources made r ≡ Some c)
 abbrev pub also_in : Layer → List ℕ → Option Register → Option ℕ
 also_in sources made None = None
 also_in sources made (Some r) = cell_in sources made r
+
+-- the cell of a register of the graph, if one is named
+abbrev pub cell_at : Layer → Option ℕ → Option ℕ
+cell_at registers None = None
+cell_at registers (Some r) = slice_get (cells_in registers) r
+
+-- the registers where one has another cell, and its name; one that is new is named 0
+abbrev pub with_cell : Layer → ℕ → ℕ → Layer
+with_cell [] r c = (0, c) ∷ []
+with_cell (p ∷ registers) zero c = (p.0, c) ∷ registers
+with_cell (p ∷ registers) (suc r) c = p ∷ with_cell registers r c
 
 -- each place has the cell of its register
 abbrev pub AreHeld : Layer → List ℕ → List Register → Layer → Type 0
@@ -64,6 +75,13 @@ pub record HasRun (first : Graph) (at : ℕ) (p : Plan) (before : ℕ) (made : L
   pub sound : IsSound (graph_of cells first.layer next (length p.counts.items) last) holds
   pub held : AreHeld first.layer made p.held.items next
   pub sets : sets_of next ≡ p.targets.items
+
+-- and the registers have those cells, behind which others may have any
+pub record HasCome (first : Graph) (at : ℕ) (p : Plan) (before : ℕ) (registers : Layer) (cells : List NamedLink) (holds : Holds) (after : ℕ) : Type 0 where
+  pub made : List ℕ
+  pub run : HasRun first at p before made cells holds after
+  pub rest : List Register
+  pub held : AreHeld first.layer made (p.held.items ++ rest) registers
 
 -- what is to hold behind all actions
 abbrev pub Runs : Graph → ℕ → Plan → ℕ → Point → Type 0

@@ -16,17 +16,15 @@ ghost use Rattle.output_graph.specs.Programs.{IsRun};
 
 use crate::edges::{ACCEPTED, make_edges, make_ends};
 use crate::layer::Layer;
-use crate::program::Program;
 use crate::programs::Programs;
 use crate::registers::Registers;
 use crate::row_lists::RowLists;
-use crate::running::{PlanLists, lists_of, run_plan};
+use crate::running::{PlanLists, run_code};
 use crate::turning::turn_cells;
 use node_arena::Arena;
 use span_core::{Edge, Marks, OutOfMemory, Steps};
 use std::alloc::Global;
 use std::marker::Model;
-use std::snapshot::Snapshot;
 use std::sync::ledger::Ledger;
 
 /// The words that lead to each set of a layer, and those that lead on from it so far.
@@ -73,7 +71,7 @@ impl OutputGraph {
         sources.push_reserved((set, root));
         Ok(OutputGraph {
             arena,
-            registers: Registers::of(alloc, sources),
+            registers: Registers::of(sources),
             next,
             stepped: 0,
             at: 0,
@@ -194,29 +192,10 @@ impl OutputGraph {
         Ok(())
     }
 
-    /// Leads the words of every source of the layer on by a program, all at this position, and goes to the next layer, as
-    /// `step_source` does for one source after another and `next_layer` behind them. After a refusal the graph is as
-    /// it was. At most 2 steps for each edge, 2 for each source, and 1 for each cell that is given back.
-    pub fn step_layer<L: Ledger>(
-        &mut self,
-        at: u32,
-        program: &Program,
-        steps: &mut Steps<L>,
-    ) -> Result<(), OutOfMemory>
-        requires begun { self.old.stepped ≡ 0 }
-        requires every { length program.now.groups ≡ length self.old.layer }
-        requires place { IsPlace self.old at }
-        ensures run { OnOk result (IsRun self.old at program.now.groups self.new steps.old steps.new) }
-        ensures targets { OnOk result (sets_of self.new.layer ≡ program.now.targets) }
-        ensures counted { OnOk result (steps.old + length program.now.groups ≤ steps.new) }
-        ensures refused { OnErr result (self.new ≡ self.old) }
-        ensures uncounted { OnErr result (steps.new ≡ steps.old) }
-    {
-        let same = Snapshot::of(&program.plan);
-        self.run_lists(at, lists_of(&program.plan, &same), steps)
-    }
-
-    /// As `step_layer`, by program `k` of those in a pool.
+    /// Leads the words of every source of the layer on by program `k` of a pool, all at this position, and goes to the next
+    /// layer, as `step_source` does for one source after another and `next_layer` behind them. The names of the next layer
+    /// are left for `rename`. After a refusal the graph is as it was. At most 2 steps for each edge, 2 for each source, and 1
+    /// for each cell that is given back.
     pub fn run_program<L: Ledger>(
         &mut self,
         at: u32,
@@ -228,8 +207,9 @@ impl OutputGraph {
         requires begun { self.old.stepped ≡ 0 }
         requires every { length (program_at programs.now k).groups ≡ length self.old.layer }
         requires place { IsPlace self.old at }
-        ensures run { OnOk result (IsRun self.old at (program_at programs.now k).groups self.new steps.old steps.new) }
-        ensures targets { OnOk result (sets_of self.new.layer ≡ (program_at programs.now k).targets) }
+        ensures run { OnOk result (IsRun self.old at (program_at programs.now k).groups (renamed (program_at programs.now k).targets self.new) steps.old steps.new) }
+        ensures distinct { OnOk result (AreDistinct (program_at programs.now k).targets) }
+        ensures long { OnOk result (length (program_at programs.now k).targets ≡ length self.new.layer) }
         ensures counted { OnOk result (steps.old + length (program_at programs.now k).groups ≤ steps.new) }
         ensures refused { OnErr result (self.new ≡ self.old) }
         ensures uncounted { OnErr result (steps.new ≡ steps.old) }
@@ -237,7 +217,7 @@ impl OutputGraph {
         self.run_lists(at, programs.lists(k), steps)
     }
 
-    /// As `step_layer`, by the lists of a plan.
+    /// As `run_program`, by the lists of a plan.
     fn run_lists<L: Ledger>(
         &mut self,
         at: u32,
@@ -249,17 +229,18 @@ impl OutputGraph {
         requires begun { self.old.stepped ≡ 0 }
         requires every { length (meaning_of lists.plan.now.value).groups ≡ length self.old.layer }
         requires place { IsPlace self.old at }
-        ensures run { OnOk result (IsRun self.old at (meaning_of lists.entry.plan.now.value).groups self.new steps.old steps.new) }
-        ensures targets { OnOk result (sets_of self.new.layer ≡ lists.entry.plan.now.value.targets.items) }
+        ensures run { OnOk result (IsRun self.old at (meaning_of lists.entry.plan.now.value).groups (renamed lists.entry.plan.now.value.targets.items self.new) steps.old steps.new) }
+        ensures distinct { OnOk result (AreDistinct lists.entry.plan.now.value.targets.items) }
+        ensures long { OnOk result (length lists.entry.plan.now.value.targets.items ≡ length self.new.layer) }
         ensures counted { OnOk result (steps.old + length (meaning_of lists.entry.plan.now.value).groups ≤ steps.new) }
         ensures refused { OnErr result (self.new ≡ self.old) }
         ensures uncounted { OnErr result (steps.new ≡ steps.old) }
     {
         self.arena.is_arena();
-        self.arena.reserve(lists.actions.len())?;
-        self.registers
-            .reserve(lists.actions.len(), lists.held.len())?;
-        run_plan(
+        let before = self.registers.len();
+        self.arena.reserve(lists.code.len())?;
+        self.registers.reserve(lists.code.len())?;
+        run_code(
             &mut self.arena,
             &mut self.registers,
             at,
@@ -267,8 +248,7 @@ impl OutputGraph {
             lists,
             steps,
         );
-        self.registers
-            .settle(lists.targets, lists.held, lists.in_place);
+        self.registers.settle(lists.targets, before);
         Ok(())
     }
 

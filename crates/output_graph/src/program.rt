@@ -2,10 +2,10 @@
 //!
 //! A program lists the edges of each source and, worked out from them, what they do to cells: so that running it looks up
 //! no set and touches no cell that is handed on. It goes where stepping the sources one after the other goes.
-ghost use Rattle.std.specs.Prelude.{◌≡◌, ◌≤◌, ◌<◌, ◌+◌, ℕ, [], ◌∷◌, ◌++◌, flat_map, length, slice_get, IfOk, IsTrue, OnOk};
+ghost use Rattle.std.specs.Prelude.{◌≡◌, ◌≤◌, ◌<◌, ◌+◌, ℕ, [], ◌∷◌, ◌++◌, flat_map, length, slice_get, IfOk, OnOk};
 ghost use Rattle.output_graph.specs.Source.{Descend};
 ghost use Rattle.output_graph.specs.Sound.{edges_of};
-ghost use Rattle.output_graph.specs.Plans.{AreInPlace, HasEdge, HasEdges, IsInPlace, IsPlan, hands_on, put, release_of};
+ghost use Rattle.output_graph.specs.Plans.{HasEdge, HasEdges, IsPlan, hands_on, put, release_of};
 ghost use Rattle.output_graph.specs.Programs.{cut, edges_in, place_in, steps_of, with_target};
 
 use span_core::{Edge, Marks, OutOfMemory};
@@ -56,7 +56,6 @@ pub(crate) struct Plan {
     pub(crate) actions: Vec<Action>,
     pub(crate) held: Vec<Register>,
     pub(crate) made: u32,
-    pub(crate) in_place: bool,
 }
 
 /// The edges of each source of a layer, in the order of the sources. What they do to cells is found once, when the program
@@ -90,7 +89,6 @@ impl Program {
                 actions: Vec::new(alloc),
                 held: Vec::new(alloc),
                 made: 0,
-                in_place: true,
             },
         }
     }
@@ -138,7 +136,6 @@ fn add_source(plan: &mut Plan, edges: &[Edge]) -> Result<(), OutOfMemory>
     let kept = add_edges(plan, source, edges)?;
     add_release(&mut plan.actions, source, kept)?;
     plan.counts.push(edges.len())?;
-    plan.in_place = is_in_place(plan.held.as_slice(), plan.counts.len());
     Ok(())
 }
 
@@ -151,28 +148,6 @@ fn add_release(actions: &mut Vec<Action>, source: u32, kept: bool) -> Result<(),
     }
     actions.push(Action::Release(source))?;
     Ok(())
-}
-
-/// Whether no cell moves: each place is that of the source whose cell it has, or has a cell that is made.
-fn is_in_place(held: &[Register], sources: usize) -> bool
-    ensures { IsTrue result → AreInPlace 0 held.now × (length held.now ≤ sources) }
-{
-    for k in 0..held.len() {
-        if !stays(held[k], k) {
-            return false;
-        }
-    }
-    held.len() <= sources
-}
-
-/// Whether a place has the cell of the source of its number, or one that is made.
-fn stays(register: Register, place: usize) -> bool
-    ensures { IsTrue result → IsInPlace place register }
-{
-    match register {
-        Register::Kept(source) => source as usize == place,
-        Register::Made(_) => true,
-    }
 }
 
 /// The edges of a source, and whether its cell is handed on.
@@ -226,7 +201,7 @@ fn is_handed_on(held: &[Register], step: &Move) -> bool
 }
 
 /// Gives a place this register, and tells which it had.
-fn put_register(
+pub(crate) fn put_register(
     held: &mut Vec<Register>,
     place: usize,
     register: Register,

@@ -1,12 +1,14 @@
 //! Programs in lists that they share.
 //!
 //! A program that stands alone has lists of its own, each somewhere else in memory. Here they lie one behind another, so
-//! that running one reads few places; and of the edges, which no run reads, nothing is kept.
+//! that running one reads few places. Of a plan they have the code and the targets, which is all that a run reads.
 ghost use Rattle.std.specs.Prelude.{◌≡◌, ◌<◌, ◌≤◌, ◌++◌, ◌∷◌, [], List, length, IfOk, OnErr, OnOk};
+ghost use Rattle.output_graph.specs.Codes.{IsCode};
 ghost use Rattle.output_graph.specs.Plans.{IsPlan};
 ghost use Rattle.output_graph.specs.Pools.{AreOfPlan, ArePooled, HasPiece, meaning_of, program_at, programs_in};
 
-use crate::program::{Action, Plan, Program, Register, small};
+use crate::code::{Instruction, code_of};
+use crate::program::{Plan, Program, small};
 use crate::running::PlanLists;
 use span_core::OutOfMemory;
 use std::alloc::Global;
@@ -24,25 +26,23 @@ pub(crate) struct Piece {
 #[derive(Drop)]
 pub(crate) struct Part {
     pub(crate) plan: Snapshot<Plan>,
-    pub(crate) actions: Piece,
+    pub(crate) code: Piece,
     pub(crate) targets: Piece,
-    pub(crate) held: Piece,
     pub(crate) sources: u32,
-    pub(crate) in_place: bool,
 }
 
 /// The lists of all programs, one behind another.
 #[derive(Drop)]
 pub(crate) struct Pool {
-    pub(crate) actions: Vec<Action>,
+    pub(crate) code: Vec<Instruction>,
     pub(crate) targets: Vec<u32>,
-    pub(crate) held: Vec<Register>,
     pub(crate) parts: Vec<Part>,
 }
 
 /// Programs, one behind another in lists that they share.
 #[derive(Drop)]
 pub struct Programs {
+    alloc: Global,
     pool: Pool,
 }
 
@@ -64,10 +64,10 @@ impl Programs {
         ensures { result ≡ [] }
     {
         Programs {
+            alloc,
             pool: Pool {
-                actions: Vec::new(alloc),
+                code: Vec::new(alloc),
                 targets: Vec::new(alloc),
-                held: Vec::new(alloc),
                 parts: Vec::new(alloc),
             },
         }
@@ -80,21 +80,14 @@ impl Programs {
         self.pool.parts.len()
     }
 
-    /// Adds a program, the last, and tells its number.
+    /// Adds a program, the last, and returns its number. It is refused for want of memory, or where no code of it is found.
     pub fn add(&mut self, program: &Program) -> Result<usize, OutOfMemory>
         ensures number { IfOk result (λ k. k ≡ length self.old) }
         ensures added { OnOk result (self.new ≡ self.old ++ program.now ∷ []) }
         ensures refused { OnErr result (self.new ≡ self.old) }
     {
-        add_plan(&mut self.pool, &program.plan)
-    }
-
-    /// The sets of the next layer of program `k`, in their order.
-    pub fn targets(&self, k: usize) -> &[u32]
-        requires { k < length self.now }
-        ensures { result.now ≡ (program_at self.now k).targets }
-    {
-        self.lists(k).targets
+        let code = code_of(self.alloc, &program.plan)?;
+        add_plan(&mut self.pool, &program.plan, &code)
     }
 
     /// What running program `k` reads.
@@ -119,11 +112,9 @@ fn lists_at(pool: &Pool, k: usize) -> PlanLists<'_>
     let part = &pool.parts[k];
     PlanLists {
         plan: &part.plan,
-        actions: piece_of(pool.actions.as_slice(), part.actions),
+        code: piece_of(pool.code.as_slice(), part.code),
         targets: piece_of(pool.targets.as_slice(), part.targets),
-        held: piece_of(pool.held.as_slice(), part.held),
         sources: part.sources as usize,
-        in_place: part.in_place,
     }
 }
 
@@ -135,27 +126,25 @@ fn piece_of<T>(list: &[T], piece: Piece) -> &[T]
     &list[piece.from as usize..piece.to as usize]
 }
 
-/// Adds the lists of a plan, the last. If memory runs out, what was added of them is named by no part.
-fn add_plan(pool: &mut Pool, plan: &Plan) -> Result<usize, OutOfMemory>
+/// Adds the lists of a plan and its code, the last. If memory runs out, what was added of them is named by no part.
+fn add_plan(pool: &mut Pool, plan: &Plan, code: &[Instruction]) -> Result<usize, OutOfMemory>
     requires pooled { ArePooled pool.old }
     requires plan { IsPlan plan.now }
+    requires code { IsCode plan.now code.now }
     ensures pooled { ArePooled pool.new }
     ensures number { IfOk result (λ k. k ≡ length pool.old.parts.items) }
     ensures added { OnOk result (programs_in pool.new.parts.items ≡ programs_in pool.old.parts.items ++ meaning_of plan.now ∷ []) }
     ensures refused { OnErr result (pool.new.parts.items ≡ pool.old.parts.items) }
 {
-    let actions = append(&mut pool.actions, plan.actions.as_slice())?;
+    let code = append(&mut pool.code, code)?;
     let targets = append(&mut pool.targets, plan.targets.as_slice())?;
-    let held = append(&mut pool.held, plan.held.as_slice())?;
     let sources = small(plan.counts.len())?;
     let number = pool.parts.len();
     pool.parts.push(Part {
         plan: Snapshot::of(plan),
-        actions,
+        code,
         targets,
-        held,
         sources,
-        in_place: plan.in_place,
     })?;
     Ok(number)
 }

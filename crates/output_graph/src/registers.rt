@@ -1,41 +1,30 @@
 //! The cells of a layer as the registers of a program.
 //!
-//! A program names a cell by its source, or by how many cells it made before it. So cells stay where they are while it
-//! runs, and only what is made is written.
-ghost use Rattle.std.specs.Prelude.{◌≡◌, ◌≤◌, ◌<◌, ◌+◌, ◌^◌, ℕ, [], length, slice_get, IfOk, IfSome, IsTrue, OnOk, Some};
-ghost use Rattle.std.specs.Vec.{vec_capacity};
-ghost use Rattle.output_graph.specs.Forward.{Layer};
+//! A register has a cell, and the name of a set. Programs read and write cells alone, so a name is that of a set of an
+//! earlier layer until the layer is named.
+ghost use Rattle.std.specs.Prelude.{◌≡◌, ◌⊎◌, ◌≤◌, ◌<◌, ◌+◌, ◌^◌, length, slice_get, take, IfOk, IfSome, OnOk, Some};
+ghost use Rattle.std.specs.Vec.{vec_capacity, vec_len};
 ghost use Rattle.output_graph.specs.Graph.{sets_of};
 ghost use Rattle.output_graph.specs.Named.{named};
-ghost use Rattle.output_graph.specs.Plans.{AreInPlace, IsInPlace};
-ghost use Rattle.output_graph.specs.Running.{AreHeld, IsThere, also_in, cell_in};
+ghost use Rattle.output_graph.specs.Running.{cell_at, with_cell};
 ghost use Rattle.output_graph.specs.Sets.{paired, cells_in};
 
-use crate::program::Register;
 use node_arena::Cell;
 use span_core::OutOfMemory;
 use std::alloc::Global;
-use std::mem;
 
-/// The sets of a layer, each with its cell; the cells that a program has made so far; and room for the sets of the next
-/// layer.
+/// The sets of a layer, each with its cell. While a program runs a register may have a cell that is let go.
 #[derive(Drop)]
 pub struct Registers {
     pub(crate) sources: Vec<(u32, Cell)>,
-    pub(crate) made: Vec<Cell>,
-    pub(crate) placed: Vec<(u32, Cell)>,
 }
 
 impl Registers {
     /// The registers of these sets.
-    pub fn of(alloc: Global, sources: Vec<(u32, Cell)>) -> Registers
+    pub fn of(sources: Vec<(u32, Cell)>) -> Registers
         ensures { result.sources ≡ sources }
     {
-        Registers {
-            sources,
-            made: Vec::new(alloc),
-            placed: Vec::new(alloc),
-        }
+        Registers { sources }
     }
 
     /// The number of sets.
@@ -67,43 +56,49 @@ impl Registers {
         ensures { IfOk result (λ registers. registers.sources.items ≡ paired self.now.sources.items cells.now) }
     {
         let sources = pairs_of(alloc, &self.sources, cells)?;
-        Ok(Registers::of(alloc, sources))
+        Ok(Registers::of(sources))
     }
 
-    /// Leaves no cell that was made, and makes room for so many and for so many sets.
-    pub fn reserve(&mut self, made: usize, sets: usize) -> Result<(), OutOfMemory>
-        ensures sources { self.new.sources ≡ self.old.sources }
-        ensures made { self.new.made.items ≡ [] }
-        ensures placed { self.new.placed.items ≡ [] }
-        ensures room { OnOk result (made ≤ vec_capacity self.new.made) }
-        ensures sets { OnOk result (sets ≤ vec_capacity self.new.placed) }
+    /// Makes room for so many registers more.
+    pub(crate) fn reserve(&mut self, more: usize) -> Result<(), OutOfMemory>
+        ensures sources { self.new.sources.items ≡ self.old.sources.items }
+        ensures room { OnOk result (vec_len self.new.sources + more ≤ vec_capacity self.new.sources) }
     {
-        make_empty(&mut self.made);
-        make_empty(&mut self.placed);
-        widen(&mut self.made, made)?;
-        widen(&mut self.placed, sets)?;
+        self.sources.reserve(more)?;
         Ok(())
     }
 
     /// The cell of a register.
-    pub(crate) fn cell(&self, register: Register) -> Cell
-        requires { IsThere self.now.sources.items self.now.made.items register }
-        ensures { cell_in self.now.sources.items self.now.made.items register ≡ Some result }
+    pub(crate) fn cell(&self, register: u32) -> Cell
+        requires { register < length self.now.sources.items }
+        ensures { slice_get (cells_in self.now.sources.items) register ≡ Some result }
     {
-        match register {
-            Register::Kept(k) => self.sources[k as usize].1,
-            Register::Made(k) => self.made[k as usize],
-        }
+        self.sources[register as usize].1
     }
 
-    /// The cell of a register, if there is one.
-    pub(crate) fn cell_of(&self, register: Option<Register>) -> Option<Cell>
-        requires { IfSome register (λ r. IsThere self.now.sources.items self.now.made.items r) }
-        ensures { result ≡ also_in self.now.sources.items self.now.made.items register }
+    /// The cell of a register, if one is named.
+    pub(crate) fn cell_of(&self, register: Option<u32>) -> Option<Cell>
+        requires { IfSome register (λ r. r < length self.now.sources.items) }
+        ensures { result ≡ cell_at self.now.sources.items register }
     {
         match register {
             Some(register) => Some(self.cell(register)),
             None => None,
+        }
+    }
+
+    /// Gives a register a cell. If it is not there, it is added behind all, and the cell has no set yet.
+    pub(crate) fn put(&mut self, register: u32, cell: Cell)
+        requires room { vec_len self.old.sources < vec_capacity self.old.sources }
+        ensures sources { self.new.sources.items ≡ with_cell self.old.sources.items register cell }
+        ensures room { vec_len self.new.sources + vec_capacity self.old.sources ≤ vec_len self.old.sources + vec_capacity self.new.sources + 1 }
+    {
+        let place = register as usize;
+        if place < self.sources.len() {
+            let name = self.sources[place].0;
+            self.sources[place] = (name, cell);
+        } else {
+            self.sources.push_reserved((0, cell));
         }
     }
 
@@ -115,76 +110,17 @@ impl Registers {
         write_names(&mut self.sources, sets);
     }
 
-    /// Gives each target the cell of its register, and makes them the sets of the layer. Where no cell moves, only names and
-    /// cells that were made are written.
-    pub(crate) fn settle(&mut self, targets: &[u32], held: &[Register], in_place: bool)
-        requires held { (next : Layer) × AreHeld self.old.sources.items self.old.made.items held.now next × (sets_of next ≡ targets.now) }
-        requires in_place { IsTrue in_place → AreInPlace 0 held.now × (length held.now ≤ length self.old.sources.items) }
-        requires empty { self.old.placed.items ≡ [] }
-        requires room { length held.now ≤ vec_capacity self.old.placed }
-        ensures held { AreHeld self.old.sources.items self.old.made.items held.now self.new.sources.items }
-        ensures sets { sets_of self.new.sources.items ≡ targets.now }
+    /// Leaves a register for each of these sets. Where these are more than there were sets before, they give the names.
+    pub(crate) fn settle(&mut self, sets: &[u32], before: usize)
+        requires { length sets.now ≤ length self.old.sources.items }
+        ensures cells { named sets.now self.new.sources.items ≡ named sets.now self.old.sources.items }
+        ensures every { length sets.now ≡ length self.new.sources.items }
+        ensures names { (sets_of self.new.sources.items ≡ sets.now) ⊎ ((length sets.now ≤ before) × (sets_of self.new.sources.items ≡ take (length sets.now) (sets_of self.old.sources.items))) }
     {
-        if in_place {
-            keep(&mut self.sources, self.made.as_slice(), targets, held);
-        } else {
-            place(self, targets, held);
-            mem::swap(&mut self.sources, &mut self.placed);
+        self.sources.truncate(sets.len());
+        if before < sets.len() {
+            write_names(&mut self.sources, sets);
         }
-    }
-}
-
-/// Leaves nothing. It looks first, as mostly nothing is there.
-fn make_empty<T: Drop>(list: &mut Vec<T>)
-    ensures { list.new.items ≡ [] }
-{
-    if list.is_empty() {
-        return;
-    }
-    list.clear();
-}
-
-/// Makes room for so many in all. It looks first, as mostly there is room.
-fn widen<T: Drop>(list: &mut Vec<T>, room: usize) -> Result<(), OutOfMemory>
-    ensures items { list.new.items ≡ list.old.items }
-    ensures room { OnOk result (room ≤ vec_capacity list.new) }
-{
-    if room <= list.capacity() {
-        return Ok(());
-    }
-    list.reserve(room)?;
-    Ok(())
-}
-
-/// Gives each target the cell of its register.
-fn place(registers: &mut Registers, targets: &[u32], held: &[Register])
-    requires held { (next : Layer) × AreHeld registers.old.sources.items registers.old.made.items held.now next × (sets_of next ≡ targets.now) }
-    requires empty { registers.old.placed.items ≡ [] }
-    requires room { length held.now ≤ vec_capacity registers.old.placed }
-    ensures sources { registers.new.sources ≡ registers.old.sources }
-    ensures held { AreHeld registers.old.sources.items registers.old.made.items held.now registers.new.placed.items }
-    ensures sets { sets_of registers.new.placed.items ≡ targets.now }
-{
-    for k in 0..held.len() {
-        let cell = registers.cell(held[k]);
-        registers.placed.push_reserved((targets[k], cell));
-    }
-}
-
-/// As `place`, where no cell moves.
-fn keep(sources: &mut Vec<(u32, Cell)>, made: &[Cell], targets: &[u32], held: &[Register])
-    requires held { (next : Layer) × AreHeld sources.old.items made.now held.now next × (sets_of next ≡ targets.now) }
-    requires in_place { AreInPlace 0 held.now }
-    requires within { length held.now ≤ length sources.old.items }
-    ensures held { AreHeld sources.old.items made.now held.now sources.new.items }
-    ensures sets { sets_of sources.new.items ≡ targets.now }
-{
-    for k in 0..held.len() {
-        let cell = settled(held[k], sources[k].1, made);
-        sources[k] = (targets[k], cell);
-    }
-    if held.len() < sources.len() {
-        sources.truncate(held.len());
     }
 }
 
@@ -196,17 +132,6 @@ fn write_names(sources: &mut Vec<(u32, Cell)>, sets: &[u32])
     for k in 0..sets.len() {
         let cell = sources[k].1;
         sources[k] = (sets[k], cell);
-    }
-}
-
-/// The cell of a place, which has this one or one that was made.
-fn settled(register: Register, own: Cell, made: &[Cell]) -> Cell
-    requires { (sources : Layer) × IsThere sources made.now register }
-    ensures { (sources : Layer) → (k : ℕ) → IsInPlace k register → slice_get (cells_in sources) k ≡ Some own → cell_in sources made.now register ≡ Some result }
-{
-    match register {
-        Register::Kept(_) => own,
-        Register::Made(k) => made[k as usize],
     }
 }
 

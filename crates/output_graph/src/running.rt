@@ -1,49 +1,33 @@
 //! Running a program.
 //!
-//! Only cells that are made or let go are touched; a cell that is handed on stays in its register.
-ghost use Rattle.std.specs.Prelude.{◌≡◌, ◌≤◌, ◌+◌, ◌*◌, [], length};
-ghost use Rattle.std.specs.Vec.{vec_capacity};
+//! Only cells that are made, let go or moved are touched; a cell that is handed on to its own place stays in its register.
+ghost use Rattle.std.specs.Prelude.{◌≡◌, ◌≤◌, ◌+◌, ◌*◌, [], length, take};
+ghost use Rattle.std.specs.Vec.{vec_capacity, vec_len};
+ghost use Rattle.output_graph.specs.Graph.{sets_of};
 ghost use Rattle.output_graph.specs.Pools.{AreOfPlan};
-ghost use Rattle.output_graph.specs.Running.{HasRun, Leads, Runs, point};
+ghost use Rattle.output_graph.specs.Running.{HasCome, Leads, Runs, point};
 ghost use Rattle.output_graph.specs.Sound.{graph_of};
 
-use crate::program::{Action, Plan, Register};
+use crate::code::Instruction;
+use crate::program::Plan;
 use crate::registers::Registers;
 use node_arena::Arena;
 use span_core::Steps;
 use std::snapshot::Snapshot;
 use std::sync::ledger::Ledger;
 
-/// What running a plan reads of it. `plan` stands for the plan itself, which only the clauses read.
+/// What running a plan reads. `plan` stands for the plan itself, which only the clauses read.
 #[derive(Clone, Copy)]
 pub(crate) struct PlanLists<'a> {
     pub(crate) plan: &'a Snapshot<Plan>,
-    pub(crate) actions: &'a [Action],
+    pub(crate) code: &'a [Instruction],
     pub(crate) targets: &'a [u32],
-    pub(crate) held: &'a [Register],
     pub(crate) sources: usize,
-    pub(crate) in_place: bool,
 }
 
-/// The lists of a plan.
-pub(crate) fn lists_of<'a>(plan: &'a Plan, same: &'a Snapshot<Plan>) -> PlanLists<'a>
-    requires { same.now.value ≡ plan.now }
-    ensures lists { AreOfPlan result }
-    ensures plan { result.plan.now.value ≡ plan.now }
-{
-    PlanLists {
-        plan: same,
-        actions: plan.actions.as_slice(),
-        targets: plan.targets.as_slice(),
-        held: plan.held.as_slice(),
-        sources: plan.counts.len(),
-        in_place: plan.in_place,
-    }
-}
-
-/// Does all actions of a plan, in their order, and counts a step for each source. `was` stands for the position of the
-/// layer before, which only the clauses read.
-pub(crate) fn run_plan<L: Ledger>(
+/// Runs the code of a plan, and counts a step for each source. `was` stands for the position of the layer before, which
+/// only the clauses read.
+pub(crate) fn run_code<L: Ledger>(
     arena: &mut Arena,
     registers: &mut Registers,
     at: u32,
@@ -52,25 +36,28 @@ pub(crate) fn run_plan<L: Ledger>(
     steps: &mut Steps<L>,
 )
     requires lists { AreOfPlan lists }
-    requires leads { Leads registers.old.sources.items at (Runs (graph_of arena.old.cells registers.old.sources.items [] 0 was) at lists.plan.now.value steps.old) lists.actions.now (point [] arena.old.cells arena.old.holds steps.old) }
-    requires none { registers.old.made.items ≡ [] }
-    requires spare { length lists.actions.now ≤ arena.old.spare }
-    requires room { length lists.actions.now ≤ vec_capacity registers.old.made }
-    ensures run { HasRun (graph_of arena.old.cells registers.old.sources.items [] 0 was) at lists.entry.plan.now.value steps.old registers.new.made.items arena.new.cells arena.new.holds steps.new }
-    ensures sources { registers.new.sources ≡ registers.old.sources }
-    ensures placed { registers.new.placed ≡ registers.old.placed }
+    requires leads { Leads registers.old.sources.items at (Runs (graph_of arena.old.cells registers.old.sources.items [] 0 was) at lists.plan.now.value steps.old) lists.plan.now.value.actions.items (point [] arena.old.cells arena.old.holds steps.old) }
+    requires every { length lists.plan.now.value.counts.items ≡ length registers.old.sources.items }
+    requires spare { length lists.code.now ≤ arena.old.spare }
+    requires room { vec_len registers.old.sources + length lists.code.now ≤ vec_capacity registers.old.sources }
+    ensures run { HasCome (graph_of arena.old.cells registers.old.sources.items [] 0 was) at lists.entry.plan.now.value steps.old registers.new.sources.items arena.new.cells arena.new.holds steps.new }
+    ensures names { take (length registers.old.sources.items) (sets_of registers.new.sources.items) ≡ sets_of registers.old.sources.items }
     ensures counted { steps.old + lists.entry.sources ≤ steps.new }
 {
     let _was = was;
-    for action in lists.actions {
-        match *action {
-            Action::Make(link) => {
-                let from = registers.sources[link.from as usize].1;
-                let also = registers.cell_of(link.also);
-                let cell = arena.link(at, link.marks, from, also, steps);
-                registers.made.push_reserved(cell);
+    for instruction in lists.code {
+        match *instruction {
+            Instruction::Create(making) => {
+                let from = registers.cell(making.from);
+                let also = registers.cell_of(making.also);
+                let cell = arena.link(at, making.marks, from, also, steps);
+                registers.put(making.to, cell);
             }
-            Action::Release(k) => arena.release(registers.sources[k as usize].1, steps),
+            Instruction::Free(register) => arena.release(registers.cell(register), steps),
+            Instruction::Shift(shifting) => {
+                let cell = registers.cell(shifting.from);
+                registers.put(shifting.to, cell);
+            }
         }
     }
     count(lists.sources, steps);

@@ -1,5 +1,6 @@
 -- The arms of an alternation, whose places are numbered one after another.
-use Rattle.std.proofs.Common.{◌≡◌, ℕ, ◌+◌, List, [], ◌∷◌, ◌++◌, map, refl, sym, ap, ◌∙◌, arith}
+use Rattle.std.proofs.Common.{◌≡◌, ℕ, ◌+◌, List, [], ◌∷◌, ◌++◌, map, inl, inr, refl, sym, ap, ◌∙◌, subst, arith}
+use Rattle.span_core.specs.Lists.{AreDistinct, Has}
 use Rattle.spanner_model.specs.Captures.{VarName}
 use Rattle.spanner_model.specs.Tree.{Tree, alt_all}
 use Rattle.place_automaton.specs.declared.placing.Draft.{Draft}
@@ -7,6 +8,8 @@ use Rattle.place_automaton.specs.Drafts.{places_of, HasPlaced}
 use Rattle.place_automaton.specs.Sides.{Sides, sides_of, any_sides}
 use Rattle.place_automaton.specs.Places.{either_once}
 use Rattle.place_automaton.proofs.DraftRows.{IsRow, placers}
+use Rattle.place_automaton.proofs.NullCounts.{IsCountable}
+use Rattle.place_automaton.proofs.NullSets.{null_set}
 use Rattle.place_automaton.proofs.Rows.{in_turn, total, follows}
 
 -- one part or the others
@@ -25,6 +28,14 @@ module _ (names : List VarName) where
   arms_follow : (ts : List Tree) (k : ℕ) → (places_of names (alt_all ts) k).follow ≡ follows (in_turn (placers names ts) k)
   arms_follow [] k = refl
   arms_follow (t ∷ ts) k = ap (λ ws. (places_of names t k).follow ++ ws) (arms_follow ts (k + (places_of names t k).count))
+
+  -- the sets of each arm are distinct
+  pub arms_distinct : (ts : List Tree) (k : ℕ) → ((t : Tree) → Has ts t → IsCountable names t) → (P : Sides) →
+      Has (map sides_of (in_turn (placers names ts) k)) P → AreDistinct P.null
+  arms_distinct [] k ok P h = absurd h
+  arms_distinct (t ∷ ts) k ok P (inl e) =
+      let all = ok t (inl refl) in subst (λ (P : Sides). AreDistinct P.null) e (null_set names t all.0 all.1 all.2 k).distinct
+  arms_distinct (t ∷ ts) k ok P (inr h) = arms_distinct ts (k + (places_of names t k).count) (λ u g. ok u (inr g)) P h
 
   -- arms that have come one after another, and are joined
   pub arms_done : (ts : List Tree) (k : ℕ) (a b c : Draft) (xs : List Sides) (p : Sides) → IsRow (in_turn (placers names ts) k) a b xs → p ≡ any_sides xs →

@@ -1,5 +1,5 @@
 -- The numbers of a formula are the lengths of the lists of its places.
-use Rattle.std.proofs.Common.{◌≡◌, ℕ, zero, suc, ◌+◌, ◌*◌, ◌-◌, Bool, true, false, List, [], ◌∷◌, ◌++◌, Option, Some, None, length, refl, sym, ap, arith, ◌∙◌}
+use Rattle.std.proofs.Common.{◌≡◌, ℕ, zero, suc, ◌+◌, ◌*◌, ◌-◌, ◌≤◌, Bool, true, false, List, [], ◌∷◌, ◌++◌, Option, Some, None, length, refl, sym, ap, arith, ◌∙◌}
 use Rattle.std.specs.Prelude.{map, if◌then◌else◌}
 use Rattle.std.specs.List.{flat_map}
 use Rattle.std.proofs.lemmas.List.{length-map}
@@ -12,6 +12,7 @@ use Rattle.place_automaton.specs.Atom.{way_from_first, way_after, stop_before, u
 use Rattle.place_automaton.specs.CountLaw.{CountLaw}
 use Rattle.place_automaton.specs.Counts.{PlaceCounts, counts_cat, counts_opt, counts_plus, counts_copies, counts_at_most, counts_repeated, counts, counts_over, count_ways, has_large_null, ways_of}
 use Rattle.place_automaton.specs.Places.{Places, Placed, add_once, either_once, sums, ways_between, way_into, entry_with, stop_with, cat_places, plus_places, cat_placed, opt_placed, plus_placed, copies_then, at_most, repeated, placed}
+use Rattle.place_automaton.specs.Refusals.{count_ends}
 use Rattle.place_automaton.specs.Variables.{with_vars}
 use Rattle.place_automaton.specs.Words.{opening_of, closing_of, atom_automaton}
 
@@ -178,6 +179,23 @@ all_ways a =
 -- the number of ways, where no null is large and where one is
 pub small_ways : (a : AtomTree) → has_large_null a.formula ≡ false → ways_of a.from_start a.to_end (counts_over (with_vars [] a.formula) a.formula) ≡ count_ways a
 small_ways a e = ap (λ (b : Bool). if b then MOST_WAYS + 1 else ways_of a.from_start a.to_end (counts_over (with_vars [] a.formula) a.formula)) (sym e)
+
+-- the ends: those of the last places and of Before, and one of After
+pub all_ends : (a : AtomTree) →
+    (counts_over (with_vars [] a.formula) a.formula).last + length (counts_over (with_vars [] a.formula) a.formula).null ≤ count_ends a
+all_ends a =
+    let f = a.formula in
+    let names = with_vars [] f in
+    let F = placed (opening_of names) (closing_of names) f 1 in
+    let r = lengths (opening_of names) (closing_of names) f 1 in
+    omega (
+      arith,
+      length_append (place_stops F) (unless a.to_end (record { state = suc F.count; marks = 0 } ∷ [])),
+      length_append F.last (map stop_before F.null),
+      length-map F.null stop_before,
+      r.last,
+      ap (λ (ms : List ℕ). length ms) r.null,
+    )
 
 pub count_law : CountLaw
 count_law a =

@@ -8,6 +8,7 @@ pub mod CappedLaws
 pub mod CountLaws
 pub mod DraftRows
 mod EitherLaws
+pub mod EndLaws
 pub mod FineLaws
 pub mod FormulaShows
 pub mod FrontParts
@@ -36,3 +37,4 @@ pub mod Shows
 pub mod Unmarked
 pub mod Walks
 pub mod WholeLaws
+mod WithoutLaws

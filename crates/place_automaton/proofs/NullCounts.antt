@@ -3,7 +3,7 @@ use Rattle.std.proofs.Common.{◌≡◌, ℕ, ◌+◌, List, inl, inr, refl, sym
 use Rattle.std.specs.Prelude.{bit_or}
 use Rattle.std.specs.Int.Bits.{or_zero_l}
 use Rattle.spanner_model.specs.Captures.{VarName}
-use Rattle.span_core.specs.Lists.{Has}
+use Rattle.span_core.specs.Lists.{AreDistinct, Has}
 use Rattle.spanner_model.specs.Tree.{Tree, cat, cap}
 use Rattle.place_automaton.specs.Counts.{counts_over}
 use Rattle.place_automaton.specs.Drafts.{AreNamed}
@@ -25,6 +25,10 @@ IsCountable names f = IsSequential f × HasOrderedRepeats f × AreNamed names f
 null_within : (names : List VarName) (f : Tree) → IsCountable names f → (m : ℕ) → Has (counts_over names f).null m → Within (VarBits names f) m
 null_within names f ok m h =
     (null_set names f ok.0 ok.1 ok.2 1).within m (subst (λ ms. Has ms m) (sym (lengths (opening_of names) (closing_of names) f 1).null) h)
+
+-- none is there twice
+pub null_distinct : (names : List VarName) (f : Tree) → IsCountable names f → AreDistinct (counts_over names f).null
+null_distinct names f ok = subst AreDistinct (lengths (opening_of names) (closing_of names) f 1).null (null_set names f ok.0 ok.1 ok.2 1).distinct
 
 -- of two parts they join as sums
 pub null_joins : (names : List VarName) (f g : Tree) → IsCountable names (cat f g) → (m n : ℕ) →

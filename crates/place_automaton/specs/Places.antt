@@ -42,6 +42,11 @@ abbrev pub either_once : List ℕ → List ℕ → List ℕ
 either_once [] ns = ns
 either_once (m ∷ ms) ns = add_once m (either_once ms ns)
 
+-- the elements that are not among the others
+abbrev pub without : List ℕ → List ℕ → List ℕ
+without others [] = []
+without others (m ∷ ms) = if list_any (nat_eq m) others then without others ms else m ∷ without others ms
+
 abbrev pub sums : List ℕ → List ℕ → List ℕ
 sums ms ns = flat_map (λ m. map (◌+◌ m) ns) ms
 

@@ -17,12 +17,12 @@ ghost use Rattle.marked_automaton.specs.Reduct.{Rearranges};
 ghost use Rattle.place_automaton.specs.Capped.{capped};
 ghost use Rattle.place_automaton.specs.Counts.{count_states, count_ways};
 ghost use Rattle.place_automaton.specs.Made.{IsFinished, IsMade, end_stops, outer_ways};
-ghost use Rattle.place_automaton.specs.Refusals.{IsRefusalOf};
+ghost use Rattle.place_automaton.specs.Refusals.{IsAtomRefusal, IsRefusalOf};
 ghost use Rattle.place_automaton.specs.Words.{atom_automaton};
 
 use crate::counting::{CountFault, TOO_MANY_WAYS, numbers_of, states_of_atom};
+use crate::fault::AtomFault;
 use crate::fragment::Fragment;
-use crate::null_sets::MOST_PAIRS;
 use crate::outer::{add_stop_unless, push_idle_unless, set_idle_unless};
 use crate::placing::{Draft, place};
 use crate::variables::vars_of;
@@ -41,7 +41,48 @@ use std::alloc::Global;
 ///
 /// `SizeFault::States` and then `SizeFault::Ways` come where `count` tells more than `MOST_STATES` and
 /// `MOST_WAYS`, with the number that it tells, and only there. Memory may be wanting before the ways are
-/// known; it is wanting past `MOST_ENDS` ends, which only captures that may be absent make.
+/// known. `AtomFault::Ends` comes only where it has more than `MOST_ENDS` ends, which only captures that may be
+/// absent make.
+pub fn automaton_of(alloc: Global, atom: &Atom) -> Result<Automaton, AtomFault>
+    requires built { IsWellBuilt (tree_of atom.now.formula) }
+    requires sequential { IsSequential (tree_of atom.now.formula) }
+    requires few { AtMost MOST_VARIABLES (HasVar (tree_of atom.now.formula)) }
+    ensures names { IfOk result (λ a. Ascending a.names × ((x : VarName) → Has a.names x ↔ HasVar (tree_of atom.now.formula) x)) }
+    ensures reduct { IfOk result (λ a. Rearranges a.graph (atom_automaton a.names (atom_of atom.now))) }
+    ensures ways { IfOk result (λ a. length a.graph.ways ≡ count_ways (atom_of atom.now)) }
+    ensures grouped { IfOk result (λ a. AreGrouped a.graph.ways) }
+    ensures ends { IfOk result (λ a. AreDistinct a.graph.stops) }
+    ensures small { OnOk result
+        ((count_states (atom_of atom.now) ≤ MOST_STATES)
+        × (count_ways (atom_of atom.now) ≤ MOST_WAYS)) }
+    ensures err { IfErr result (IsAtomRefusal (atom_of atom.now)) }
+{
+    let states = states_of_atom(atom);
+    if states > u64::from(MOST_STATES) {
+        return Err(AtomFault::Size(SizeFault::States { count: states }));
+    }
+    let numbers = match numbers_of(alloc, &atom.formula) {
+        Ok(numbers) => numbers,
+        Err(CountFault::LargeNull) => {
+            return Err(AtomFault::Size(SizeFault::Ways {
+                count: TOO_MANY_WAYS,
+            }));
+        }
+        Err(CountFault::OutOfMemory) => return Err(AtomFault::Size(SizeFault::OutOfMemory)),
+    };
+    let ways = numbers.ways(atom.from_start, atom.to_end);
+    if ways > MOST_WAYS as u64 {
+        return Err(AtomFault::Size(SizeFault::Ways { count: ways }));
+    }
+    let ends = numbers.ends();
+    if ends > MOST_ENDS {
+        return Err(AtomFault::Ends { count: ends });
+    }
+    let automaton = made(alloc, atom, ways as usize)?;
+    Ok(automaton)
+}
+
+/// The automaton that `automaton_of` makes. More ends than `MOST_ENDS` are told as want of memory.
 pub fn of_atom(alloc: Global, atom: &Atom) -> Result<Automaton, SizeFault>
     requires built { IsWellBuilt (tree_of atom.now.formula) }
     requires sequential { IsSequential (tree_of atom.now.formula) }
@@ -58,28 +99,11 @@ pub fn of_atom(alloc: Global, atom: &Atom) -> Result<Automaton, SizeFault>
         (capped (count_states (atom_of atom.now)))
         (capped (count_ways (atom_of atom.now))) e) }
 {
-    let states = states_of_atom(atom);
-    if states > u64::from(MOST_STATES) {
-        return Err(SizeFault::States { count: states });
+    match automaton_of(alloc, atom) {
+        Ok(automaton) => Ok(automaton),
+        Err(AtomFault::Size(fault)) => Err(fault),
+        Err(AtomFault::Ends { .. }) => Err(SizeFault::OutOfMemory),
     }
-    let numbers = match numbers_of(alloc, &atom.formula) {
-        Ok(numbers) => numbers,
-        Err(CountFault::LargeNull) => {
-            return Err(SizeFault::Ways {
-                count: TOO_MANY_WAYS,
-            });
-        }
-        Err(CountFault::OutOfMemory) => return Err(SizeFault::OutOfMemory),
-    };
-    let ways = numbers.ways(atom.from_start, atom.to_end);
-    if ways > MOST_WAYS as u64 {
-        return Err(SizeFault::Ways { count: ways });
-    }
-    if numbers.ends() > MOST_ENDS {
-        return Err(SizeFault::OutOfMemory);
-    }
-    let automaton = made(alloc, atom, ways as usize)?;
-    Ok(automaton)
 }
 
 /// The automaton of an atom that is not too large. Room for so many ways is made at once.
@@ -94,7 +118,6 @@ fn made(alloc: Global, atom: &Atom, room: usize) -> Result<Automaton, OutOfMemor
     let mut draft = Draft {
         next: 1,
         ways: Vec::with_capacity(alloc, room)?,
-        left: MOST_PAIRS,
     };
     let fragment = place(alloc, &vars, &atom.formula, &mut draft)?;
     let after = draft.next;

@@ -19,7 +19,6 @@ ghost use Rattle.place_automaton.specs.Sides.{JoinAsSum};
 ghost use Rattle.place_automaton.specs.Variables.{with_vars};
 ghost use Rattle.place_automaton.specs.Words.{opening_of, closing_of};
 
-use crate::null_sets::MOST_PAIRS;
 use crate::numbers::Numbers;
 use crate::place_count::count_places;
 use crate::placing::is_once;
@@ -62,9 +61,8 @@ impl From<OutOfMemory> for CountFault {
 ///
 /// It looks at each formula of the tree twice, and counts at most its greatest number of copies for each
 /// repetition. The sets of captures with which the empty string fits are listed, since two arms may have some
-/// in common; memory is taken for them, and is wanting too where too many of them meet in alternations. Where
-/// more than `MOST_SETS` would be listed of one part, or of the first parts of a concatenation, the ways are
-/// told as one more than `MOST_WAYS`.
+/// in common, and memory is taken for them. Where more than `MOST_SETS` would be listed of one part, or of the
+/// first parts of a concatenation, the ways are told as one more than `MOST_WAYS`.
 pub fn count(alloc: Global, atom: &Atom) -> Result<Counts, OutOfMemory>
     requires built { IsWellBuilt (tree_of atom.now.formula) }
     requires sequential { IsSequential (tree_of atom.now.formula) }
@@ -104,17 +102,11 @@ pub(crate) fn numbers_of(alloc: Global, formula: &Formula) -> Result<Numbers, Co
     ensures err { IfErr result (λ e. e ≡ LargeNull → has_large_null (tree_of formula.now) ≡ true) }
 {
     let vars = vars_of(formula);
-    let mut left = MOST_PAIRS;
-    count_formula(alloc, &vars, formula, &mut left)
+    count_formula(alloc, &vars, formula)
 }
 
 #[cycle(count)]
-fn count_formula(
-    alloc: Global,
-    vars: &VarSet,
-    formula: &Formula,
-    left: &mut u64,
-) -> Result<Numbers, CountFault>
+fn count_formula(alloc: Global, vars: &VarSet, formula: &Formula) -> Result<Numbers, CountFault>
     requires built { IsWellBuilt (tree_of formula.now) }
     requires sequential { IsSequential (tree_of formula.now) }
     requires distinct { AreDistinct vars.now }
@@ -126,17 +118,17 @@ fn count_formula(
     match formula {
         Formula::Empty => Ok(Numbers::nothing(alloc)?),
         Formula::One(_) => Ok(Numbers::one(alloc)),
-        Formula::Cat(parts) => count_parts(alloc, vars, parts, left),
-        Formula::Alt(arms) => count_arms(alloc, vars, arms, left),
+        Formula::Cat(parts) => count_parts(alloc, vars, parts),
+        Formula::Alt(arms) => count_arms(alloc, vars, arms),
         Formula::Rep(sub, least, most) => {
-            let numbers = count_formula(alloc, vars, sub, left)?;
+            let numbers = count_formula(alloc, vars, sub)?;
             if is_once(*most) {
                 return listed(numbers.opt_if(*least == 0)?);
             }
             listed(numbers.repeated(alloc, *least, *most)?)
         }
         Formula::Cap(name, sub) => {
-            let numbers = count_formula(alloc, vars, sub, left)?;
+            let numbers = count_formula(alloc, vars, sub)?;
             Ok(captured(vars, name, numbers))
         }
     }
@@ -156,12 +148,7 @@ fn listed(numbers: Numbers) -> Result<Numbers, CountFault>
 
 /// The numbers of a concatenation, whose parts are joined from left to right.
 #[cycle(count)]
-fn count_parts(
-    alloc: Global,
-    vars: &VarSet,
-    parts: &Parts,
-    left: &mut u64,
-) -> Result<Numbers, CountFault>
+fn count_parts(alloc: Global, vars: &VarSet, parts: &Parts) -> Result<Numbers, CountFault>
     requires built { (f : Tree) → Has (trees_of parts.now) f → IsWellBuilt f }
     requires sequential { IsSequential (cat_all (trees_of parts.now)) }
     requires distinct { AreDistinct vars.now }
@@ -172,7 +159,7 @@ fn count_parts(
 {
     let mut numbers = Numbers::nothing(alloc)?;
     for k in 0..parts.len() {
-        let part = count_formula(alloc, vars, parts.at(k), left)?;
+        let part = count_formula(alloc, vars, parts.at(k))?;
         if numbers.has_large_join(&part) {
             return Err(CountFault::LargeNull);
         }
@@ -183,12 +170,7 @@ fn count_parts(
 
 /// The numbers of an alternation.
 #[cycle(count)]
-fn count_arms(
-    alloc: Global,
-    vars: &VarSet,
-    arms: &Parts,
-    left: &mut u64,
-) -> Result<Numbers, CountFault>
+fn count_arms(alloc: Global, vars: &VarSet, arms: &Parts) -> Result<Numbers, CountFault>
     requires built { (f : Tree) → Has (trees_of arms.now) f → IsWellBuilt f }
     requires sequential { IsSequential (alt_all (trees_of arms.now)) }
     requires distinct { AreDistinct vars.now }
@@ -201,8 +183,8 @@ fn count_arms(
     let mut waiting = arms.len();
     while waiting > 0 {
         waiting -= 1;
-        let arm = count_formula(alloc, vars, arms.at(waiting), left)?;
-        numbers = listed(arm.alt(numbers, left)?)?;
+        let arm = count_formula(alloc, vars, arms.at(waiting))?;
+        numbers = listed(arm.alt(numbers)?)?;
     }
     Ok(numbers)
 }

@@ -3,7 +3,7 @@
 //! Joining two fragments adds a way from each end of the front one through each entry of the back one. A side passes a
 //! fragment that fits the empty string, once for each set of markers of such a fit, and takes these with it.
 ghost use Rattle.std.specs.Prelude.{◌≡◌, ℕ, ◌+◌, List, [], ◌∷◌, ◌++◌, ◌<◌, ◌≤◌, length, map, IfOk, OnOk, IsTrue, if◌then◌else◌};
-ghost use Rattle.span_core.specs.Lists.{Has};
+ghost use Rattle.span_core.specs.Lists.{AreDistinct, Has};
 ghost use Rattle.place_automaton.specs.Sides.{CanCapture, nothing_sides, one_sides, any_sides, cat_sides, opt_sides, cap_sides, JoinAsSums, IsUnmarked, Sides, RowJoins, again_sides, row_sides, row_ways};
 ghost use Rattle.marked_automaton.specs.declared.way.Stop.{Stop};
 ghost use Rattle.marked_automaton.specs.Automaton.{IsBlockOf};
@@ -17,7 +17,7 @@ ghost use Rattle.place_automaton.specs.Places.{ways_between};
 use crate::joins::{all_entries, all_stops, mark_entries, mark_stops, push_ways};
 use crate::moving::{moved_entries, moved_stops};
 use crate::null_sets::{
-    add_unless_there, copied_sets, either_of, joined_with, mark_each, only_none, spend,
+    add_unless_there, copied_sets, either_of, joined_with, mark_each, only_none,
 };
 use crate::outer::{add_last_stops, before_stops, push_from_before, push_into_after};
 use marked_automaton::{Automaton, Stop, Way};
@@ -218,14 +218,14 @@ impl Fragment {
     }
 }
 
-/// Any of the fragments. So many pairs of sets of markers may still be compared.
+/// Any of the fragments.
 ///
 /// The sets are joined from the last fragment to the first: those of each are looked up among those behind it.
 pub(crate) fn join_arms(
     alloc: Global,
     mut fragments: Vec<Fragment>,
-    left: &mut u64,
 ) -> Result<Fragment, OutOfMemory>
+    requires { (P : Sides) → Has fragments.items P → AreDistinct P.null }
     ensures { IfOk result (λ p. p ≡ any_sides fragments.items) }
 {
     let mut first = Vec::new(alloc);
@@ -236,7 +236,6 @@ pub(crate) fn join_arms(
     }
     let mut null = Vec::new(alloc);
     while let Some(fragment) = fragments.pop() {
-        spend(fragment.null.len(), null.len(), left)?;
         null = either_of(fragment.null, null)?;
     }
     Ok(Fragment { null, first, last })

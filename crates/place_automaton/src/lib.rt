@@ -6,13 +6,15 @@
 #![tactic(auto)]
 
 ghost use Rattle.std.specs.Prelude.{◌≡◌};
-ghost use Rattle.place_automaton.specs.declared.TheConstants.{MOST_SETS};
+ghost use Rattle.place_automaton.specs.declared.TheConstants.{MOST_ENDS, MOST_SETS};
 
-pub use building::of_atom;
+pub use building::{automaton_of, of_atom};
 pub use counting::{Counts, count};
+pub use fault::AtomFault;
 
 mod building;
 mod counting;
+mod fault;
 mod fragment;
 mod joins;
 pub mod laws;
@@ -31,11 +33,12 @@ pub(crate) const BEFORE: u32 = 0;
 /// concatenation, fits the empty string. Past it the ways are not counted, and the atom is refused for them.
 pub const MOST_SETS: usize = 65_536;
 
-/// The limit, as a number: a law.
+/// The limits, as numbers: a law.
 pub fn limits()
-    ensures { MOST_SETS ≡ 65536 }
+    ensures sets { MOST_SETS ≡ 65536 }
+    ensures ends { MOST_ENDS ≡ 8000000 }
 {}
 
 /// The most ends of an automaton that is made. Where captures may be absent, a place may have an end for each
-/// set of them.
-pub(crate) const MOST_ENDS: u64 = 8_000_000;
+/// set of them. One that is not tied to the end of the document never has more: each of its ends but one has a way.
+pub const MOST_ENDS: u64 = 8_000_000;

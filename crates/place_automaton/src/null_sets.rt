@@ -2,34 +2,17 @@
 ghost use Rattle.std.specs.Prelude.{◌≡◌, ℕ, ◌+◌, List, ◌++◌, ◌∷◌, [], map, reverse, nat_eq, IfOk, IsTrue, OnOk};
 ghost use Rattle.std.specs.HashSet.{contains};
 ghost use Rattle.std.specs.List.{list_any};
-ghost use Rattle.span_core.specs.Lists.{Has};
+ghost use Rattle.span_core.specs.Lists.{AreDistinct, Has};
 ghost use Rattle.place_automaton.specs.Sides.{JoinAsSum};
-ghost use Rattle.place_automaton.specs.Places.{add_once, either_once, sums};
+ghost use Rattle.place_automaton.specs.Places.{add_once, either_once, sums, without};
 
 use span_core::{Marks, OutOfMemory};
 use std::alloc::Global;
 use std::collections::HashSet;
 
-/// The most pairs of sets that are compared while an atom is counted, and again while it is placed. Past
-/// it memory is wanting. An alternation takes at most `PAIRS_TO_FIND * 2 * MOST_SETS` for each arm that fits
-/// the empty string, so that 900 such arms are always joined.
-pub(crate) const MOST_PAIRS: u64 = 2_000_000_000;
-
-/// The most sets of an arm that are each compared with all others. More are looked up by hash.
+/// The most sets on one side that are each compared with all of the other side. Where both sides have more, they are
+/// looked up by hash.
 const FEW_SETS: usize = 16;
-
-/// How many pairs a set that is looked up counts as.
-const PAIRS_TO_FIND: u64 = 16;
-
-/// Takes the pairs that `either_of` compares of lists of so many sets from those that may still be compared.
-pub(crate) fn spend(front: usize, behind: usize, left: &mut u64) -> Result<(), OutOfMemory> {
-    let sets = (front as u64).saturating_add(behind as u64);
-    let times = PAIRS_TO_FIND.min(front as u64);
-    *left = left
-        .checked_sub(sets.saturating_mul(times))
-        .ok_or(OutOfMemory)?;
-    Ok(())
-}
 
 /// The list of the one set without a marker.
 pub(crate) fn only_none(alloc: Global) -> Result<Vec<Marks>, OutOfMemory>
@@ -74,15 +57,19 @@ pub(crate) fn add_unless_there(marks: Marks, sets: &mut Vec<Marks>) -> Result<()
     Ok(())
 }
 
-/// Each set of the one or of the other, once.
+/// Each set of the one or of the other, once. So a set costs at most `FEW_SETS` comparisons, or one look-up.
 pub(crate) fn either_of(
     front: Vec<Marks>,
     mut behind: Vec<Marks>,
 ) -> Result<Vec<Marks>, OutOfMemory>
+    requires { AreDistinct front.items }
     ensures { IfOk result (λ v. v.items ≡ either_once front.items behind.items) }
 {
     if front.len() <= FEW_SETS {
         return either_of_few(front, behind);
+    }
+    if behind.len() <= FEW_SETS {
+        return either_before_few(front, behind);
     }
     let mut known = known_sets(&behind)?;
     let mut all = new_sets(front, &mut known)?;
@@ -100,6 +87,39 @@ fn either_of_few(mut front: Vec<Marks>, behind: Vec<Marks>) -> Result<Vec<Marks>
         add_unless_there(marks, &mut all)?;
     }
     Ok(all)
+}
+
+/// The same, where few are behind.
+#[tactic(auto, using(crate::proofs::WithoutLaws::either_without))]
+fn either_before_few(front: Vec<Marks>, mut behind: Vec<Marks>) -> Result<Vec<Marks>, OutOfMemory>
+    requires { AreDistinct front.items }
+    ensures { IfOk result (λ v. v.items ≡ either_once front.items behind.items) }
+{
+    let mut all = other_sets(&front, &behind)?;
+    all.append(&mut behind)?;
+    Ok(all)
+}
+
+/// The sets that are not among the others, in their order.
+fn other_sets(sets: &Vec<Marks>, others: &[Marks]) -> Result<Vec<Marks>, OutOfMemory>
+    ensures { IfOk result (λ v. v.items ≡ without others.now sets.now.items) }
+{
+    let mut left = Vec::new(*sets.allocator());
+    for set in sets {
+        push_other(*set, others, &mut left)?;
+    }
+    Ok(left)
+}
+
+/// Adds the set, unless it is among the others.
+fn push_other(set: Marks, others: &[Marks], left: &mut Vec<Marks>) -> Result<(), OutOfMemory>
+    ensures { OnOk result (left.new.items ≡ left.old.items ++ without others.now (set ∷ [])) }
+{
+    if has_set(others, set) {
+        return Ok(());
+    }
+    left.push(set)?;
+    Ok(())
 }
 
 /// The numbers of the sets, to be looked up.

@@ -4,7 +4,7 @@
 //! that stop at 2^64 - 1: sums and products that stop there tell the least of the true number and the greatest.
 ghost use Rattle.std.specs.Prelude.{◌≡◌, ◌↔◌, ◌<◌, ℕ, ◌+◌, ◌-◌, ◌*◌, Some, length, IfOk, IsTrue, if◌then◌else◌};
 ghost use Rattle.place_automaton.specs.declared.TheConstants.{MOST_SETS};
-ghost use Rattle.span_core.specs.Lists.{Has};
+ghost use Rattle.span_core.specs.Lists.{AreDistinct, Has};
 ghost use Rattle.place_automaton.specs.Capped.{AreCapped, capped};
 ghost use Rattle.place_automaton.specs.Counts.{PlaceCounts, counts_nothing, counts_never, counts_one, counts_cat, counts_alt, counts_opt, counts_plus, counts_cap, counts_copies, counts_at_most, counts_repeated, ways_of};
 ghost use Rattle.place_automaton.specs.Sides.{JoinAsSum};
@@ -12,7 +12,7 @@ ghost use Rattle.place_automaton.specs.Places.{add_once, sums};
 
 use crate::MOST_SETS;
 use crate::null_sets::{
-    add_unless_there, copied_sets, either_of, joined_with, mark_each, only_none, spend,
+    add_unless_there, copied_sets, either_of, joined_with, mark_each, only_none,
 };
 use span_core::{Marks, OutOfMemory};
 use std::alloc::Global;
@@ -117,11 +117,11 @@ impl Numbers {
         })
     }
 
-    /// Those of an alternation of this and the rest. So many pairs of sets may still be compared.
-    pub(crate) fn alt(self, rest: Numbers, left: &mut u64) -> Result<Numbers, OutOfMemory>
+    /// Those of an alternation of this and the rest.
+    pub(crate) fn alt(self, rest: Numbers) -> Result<Numbers, OutOfMemory>
+        requires { AreDistinct self.null.items }
         ensures { (a b : PlaceCounts) → AreCapped a self → AreCapped b rest → IfOk result (λ c. AreCapped (counts_alt a b) c) }
     {
-        spend(self.null.len(), rest.null.len(), left)?;
         let null = either_of(self.null, rest.null)?;
         Ok(Numbers {
             null,
@@ -249,7 +249,9 @@ impl Numbers {
     }
 
     /// How many ends the automaton of an atom with this formula has, but for that of After.
-    pub(crate) fn ends(&self) -> u64 {
+    pub(crate) fn ends(&self) -> u64
+        ensures { (a : PlaceCounts) → AreCapped a self.now → result ≡ capped (a.last + length a.null) }
+    {
         self.last.saturating_add(self.null.len() as u64)
     }
 }

@@ -33,8 +33,6 @@ pub(crate) struct Draft {
     pub(crate) next: u32,
     /// The ways between places.
     pub(crate) ways: Vec<Way>,
-    /// How many pairs of sets of markers may still be compared.
-    pub(crate) left: u64,
 }
 
 /// What placing a formula added to a draft.
@@ -179,7 +177,7 @@ fn place_arms(
         let fragment = place(alloc, vars, arms.at(k), draft)?;
         fragments.push(fragment)?;
     }
-    join_arms(alloc, fragments, &mut draft.left)
+    join_arms(alloc, fragments)
 }
 
 /// Places a formula that comes once, or that may be left out where `least` is 0. Captures may stand in it.

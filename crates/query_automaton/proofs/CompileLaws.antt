@@ -20,7 +20,7 @@ use Rattle.spanner_model.proofs.TreeLaws.{take_at_more}
 use Rattle.marked_automaton.specs.declared.way.Way.{Way}
 use Rattle.marked_automaton.specs.declared.fault.SizeFault.{SizeFault}
 use Rattle.marked_automaton.specs.declared.fault.SizeFault.TheVariants.{States, Ways, OutOfMemory}
-use Rattle.marked_automaton.specs.Automaton.{Automaton, IsWhole, IsMarked, Marked}
+use Rattle.marked_automaton.specs.Automaton.{Automaton, IsWhole, IsMarked, Marked, size}
 use Rattle.marked_automaton.specs.Laws.{WaysHaveBytes}
 use Rattle.marked_automaton.specs.Marks.{left_of, remarked_way}
 use Rattle.marked_automaton.specs.Reduct.{Reduces, ReducesMarked}
@@ -37,6 +37,7 @@ use Rattle.algebra.proofs.Rejoined.{join_bytes}
 use Rattle.algebra.proofs.NamesLaws.{all_ascend, all_are}
 use Rattle.query_automaton.specs.BegunQuery.{BegunQuery, CanCompile}
 use Rattle.query_automaton.specs.Compiling.{IsAsked, AreCompiled, IsCompiledFrom}
+use Rattle.query_automaton.specs.Held.{ArePartsWithin}
 use Rattle.query_automaton.specs.Parts.{HasLargePartOf, HasSmallAtoms, numbers_of}
 use Rattle.query_automaton.specs.QueryAutomaton.{of_union, of_join, automaton_of, united, together, of_lets}
 use Rattle.query_automaton.proofs.Combining.{AreTooLarge, HaveFewNames, Operation, Union, Join, all_of, of_two}
@@ -66,7 +67,7 @@ asked_sub q n names e a = record { sound = a.sound; sound_expr = a.sound_expr.0;
 
 -- ---- parts with small atoms
 
-all_small : (o : Operation) (es : List ExprTree) → ((e : ExprTree) → Has es e → HasSmallAtoms e) → HasSmallAtoms (all_of o es)
+pub all_small : (o : Operation) (es : List ExprTree) → ((e : ExprTree) → Has es e → HasSmallAtoms e) → HasSmallAtoms (all_of o es)
 all_small Union [] h = tt
 all_small Union (e ∷ es) h = (h e (inl refl), all_small Union es (λ g i. h g (inr i)))
 all_small Join [] h = tt
@@ -295,10 +296,14 @@ module _ (q : QueryTree) (lets : List Marked) (known : AreCompiled q lets) where
       }
 
       no_larger : ((of_two o a p).graph.states ≤ (of_two o A B).graph.states) × (length (of_two o a p).graph.ways ≤ length (of_two o A B).graph.ways)
+          × (length (of_two o a p).graph.stops ≤ length (of_two o A B).graph.stops)
       no_larger =
-          let less = reduct_is_no_larger (of_two o a p).graph (of_two o A B).graph
-          (two_whole o a p marked.0.whole marked.1.whole) (two_bytes o a p marked.0.some_byte marked.1.some_byte) reduce.1 in
-          (less.0, less.1)
+          reduct_is_no_larger (of_two o a p).graph (of_two o A B).graph
+          (two_whole o a p marked.0.whole marked.1.whole) (two_bytes o a p marked.0.some_byte marked.1.some_byte) reduce.1
+
+      -- what is made of the two is no larger than a part may be
+      pub two_size : (most : ℕ) → ArePartsWithin L (all_of o es) most → size (of_two o a p).graph ≤ most
+      two_size most within = omega (arith, within (numbers_of (of_two o A B)) (step_is_part L o es k y l at), no_larger.0, no_larger.1, no_larger.2)
 
       pub too_large : (fault : SizeFault) → AreTooLarge o a p fault → HasLargePartOf L (all_of o es) fault
       too_large (States count) h = (h.0, (numbers_of (of_two o A B), step_is_part L o es k y l at, omega (arith, h.1, no_larger.0)))

@@ -3,8 +3,12 @@ pub mod Combined
 pub mod Combining
 pub mod CompileLaws
 pub mod FarBack
+pub mod HeldLaws
+pub mod HeldQueries
 pub mod PartLaws
 pub mod PieceLaws
 pub mod QueryWords
+pub mod StepLaws
+pub mod StepQueries
 pub mod Words
 pub mod MinusLaws

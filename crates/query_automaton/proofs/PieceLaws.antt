@@ -27,7 +27,7 @@ use Rattle.marked_automaton.proofs.Reducts.{reduct_of_reduct}
 use Rattle.marked_automaton.proofs.ReductOperations.{reduct_of_projection}
 use Rattle.place_automaton.specs.Capped.{capped}
 use Rattle.place_automaton.specs.Counts.{count_states, count_ways}
-use Rattle.place_automaton.specs.Refusals.{IsRefusalOf}
+use Rattle.place_automaton.specs.Refusals.{IsRefusalOf, count_ends}
 use Rattle.place_automaton.specs.Variables.{with_vars}
 use Rattle.place_automaton.specs.Words.{atom_automaton}
 use Rattle.place_automaton.proofs.NameLists.{list_ascends, vars_are}
@@ -58,7 +58,7 @@ module _ (u : AtomTree) where
       (names ∙ same, reduct_of_reduct c.graph a.graph (of_atom u).graph left (subst (λ (ns : List VarName). Reduces a.graph (atom_automaton ns u)) same made))
 
   abbrev counted : PartNumbers
-  counted = record { states = count_states u; ways = count_ways u }
+  counted = record { states = count_states u; ways = count_ways u; ends = count_ends u }
 
   pub atom_fault : (L : ℕ → Marked) (fault : SizeFault) → IsRefusalOf (capped (count_states u)) (capped (count_ways u)) fault → HasLargePartOf L (atom u) fault
   atom_fault L (States count) h = (omega (arith, h.0, h.1), (counted, refl, omega (arith, h.1, min-le_left (count_states u) (2 ^ 64 - 1))))

@@ -1,4 +1,4 @@
--- The numbers of states and ways of all parts of a query: each step of a union or join counts as one.
+-- The numbers of states, ways and ends of all parts of a query: each step of a union or join counts as one.
 use Rattle.std.specs.Prelude.{ℕ, ◌<◌, ◌≤◌, ◌≡◌, ◌⊎◌, Some, slice_get, length}
 use Rattle.spanner_model.specs.Captures.{VarName}
 use Rattle.span_core.specs.Lists.{Has}
@@ -8,21 +8,23 @@ use Rattle.marked_automaton.specs.declared.fault.SizeFault.{SizeFault}
 use Rattle.marked_automaton.specs.declared.fault.SizeFault.TheVariants.{States, Ways, OutOfMemory}
 use Rattle.marked_automaton.specs.Automaton.{Marked}
 use Rattle.place_automaton.specs.Counts.{count_states, count_ways}
+use Rattle.place_automaton.specs.Refusals.{count_ends}
 use Rattle.query_automaton.specs.QueryAutomaton.{of_union, of_join, automaton_of, of_lets}
 
 pub record PartNumbers : Type 0 where
   pub states : ℕ
   pub ways : ℕ
+  pub ends : ℕ
 
 abbrev pub numbers_of : Marked → PartNumbers
-numbers_of M = record { states = M.graph.states; ways = length M.graph.ways }
+numbers_of M = record { states = M.graph.states; ways = length M.graph.ways; ends = length M.graph.stops }
 
 -- of a part of the expression these are the numbers: of an atom those that its formula is counted by, of another
 -- part those of its automaton
 module _ (L : ℕ → Marked) where
   abbrev mutual
     pub HasPart : ExprTree → PartNumbers → Type 0
-    HasPart (atom a) n = n ≡ record { states = count_states a; ways = count_ways a }
+    HasPart (atom a) n = n ≡ record { states = count_states a; ways = count_ways a; ends = count_ends a }
     HasPart (named k) n = n ≡ numbers_of (L k)
     HasPart union_end n = ⊥
     HasPart (union e rest) n = HasPart e n ⊎ HasUnionStep (automaton_of L e) rest n

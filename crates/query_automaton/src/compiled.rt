@@ -7,11 +7,15 @@ ghost use Rattle.spanner_model.specs.ExprView.{query_of};
 ghost use Rattle.spanner_model.specs.Sound.{IsSound};
 ghost use Rattle.marked_automaton.specs.Reduct.{IsUseful, ReducesMarked};
 ghost use Rattle.query_automaton.specs.CompiledQuery.{IsCompiled};
+ghost use Rattle.query_automaton.specs.Held.{HasCause};
 ghost use Rattle.query_automaton.specs.Laws.{AcceptsAnswersOf};
 ghost use Rattle.query_automaton.specs.Parts.{AtomsAreSmall, HasLargePart};
 ghost use Rattle.query_automaton.specs.QueryAutomaton.{of_query};
 
+use crate::effort::MOST_STEPS;
 use crate::expressions::Compiler;
+use crate::fault::CompileFault;
+use algebra::Effort;
 use marked_automaton::{Automaton, SizeFault};
 use span_core::VarSet;
 use spanner_model::Query;
@@ -64,9 +68,33 @@ pub fn compile<'q>(alloc: Global, query: &'q Query) -> Result<Compiled<'q>, Size
     ensures small { OnOk result (AtomsAreSmall (query_of query.now)) }
     ensures fault { IfErr result (HasLargePart (query_of query.now)) }
 {
+    match compile_with_cause(alloc, query) {
+        Ok(compiled) => Ok(compiled),
+        Err(CompileFault::Size(fault)) => Err(fault),
+        Err(CompileFault::Held { .. } | CompileFault::Ends { .. } | CompileFault::Spent) => {
+            Err(SizeFault::OutOfMemory)
+        }
+    }
+}
+
+/// What `compile` makes. `CompileFault::Held` comes only where more than `MOST_HELD` states, ways and ends would be held:
+/// the count that it tells is more than that. It is no more than the numbers of the largest part of the query, as often as
+/// there are `let`s and parts that wait at one time. `CompileFault::Ends` comes only where
+/// the automaton of an atom or of a join has too many ends. `CompileFault::Spent` comes only where more than `MOST_STEPS` steps are
+/// taken: in a query without `minus` each operation takes no more than the numbers of the largest part allow.
+pub fn compile_with_cause<'q>(alloc: Global, query: &'q Query) -> Result<Compiled<'q>, CompileFault>
+    requires { IsSound (query_of query.now) }
+    ensures made { IfOk result (λ c. ReducesMarked c.automaton (of_query (query_of query.now))) }
+    ensures words { IfOk result (λ c. AcceptsAnswersOf (query_of query.now) c.automaton) }
+    ensures useful { IfOk result (λ c. (p : ℕ) → p < c.automaton.graph.states → IsUseful c.automaton.graph p) }
+    ensures query { IfOk result (λ c. c.query ≡ query.now) }
+    ensures small { OnOk result (AtomsAreSmall (query_of query.now)) }
+    ensures fault { IfErr result (HasCause (query_of query.now)) }
+{
+    let mut effort = Effort::new(MOST_STEPS);
     let mut compiler = Compiler::new(alloc, query);
-    compiler.compile_lets()?;
-    let body = compiler.expression(&query.body)?;
+    compiler.compile_lets(&mut effort)?;
+    let body = compiler.expression(&query.body, &mut effort)?;
     drop(compiler);
     let automaton = body.take(alloc)?.trim(alloc)?;
     Ok(Compiled { query, automaton })

@@ -1,20 +1,20 @@
 //! What compiling a query may cost.
-ghost use Rattle.std.specs.Prelude.{◌≡◌, ◌+◌, ◌≤◌, IfOk};
+ghost use Rattle.std.specs.Prelude.{◌≡◌, ◌+◌, ◌*◌, ◌≤◌, IfErr, IfOk, OnErr, OnOk};
 ghost use Rattle.marked_automaton.specs.Automaton.{IsMarked, size};
 ghost use Rattle.query_automaton.specs.declared.effort.TheConstants.{MOST_HELD};
+ghost use Rattle.query_automaton.specs.Held.{IsHoldFault};
 
+use crate::fault::CompileFault;
 use algebra::Effort;
 use marked_automaton::{Automaton, MOST_STATES, MOST_WAYS};
-use span_core::OutOfMemory;
 
 /// The most steps that compiling one query takes, some seconds of work, so that no text of a query takes
-/// minutes. Where they are spent, want of memory is answered, which needs no cause and says nothing of the
-/// query.
+/// minutes. Where they are spent, `CompileFault::Spent` is told, which `compile` answers as want of memory.
 pub const MOST_STEPS: u64 = 2_000_000_000;
 
 /// The most states, ways and ends that are held at one time while a query is compiled: those of its `let`s,
 /// and of the parts in progress that wait for the next part of a union or join. They are some 350 MB. Where
-/// there are more, want of memory is answered, which needs no cause and says nothing of the query.
+/// there are more, `CompileFault::Held` is told, which `compile` answers as want of memory.
 pub const MOST_HELD: u64 = 8_000_000;
 
 /// What each state, way and end of an automaton costs that is made, in steps.
@@ -31,23 +31,27 @@ pub fn size_of(automaton: &Automaton) -> u64
 }
 
 /// What is held with so many states, ways and ends more. Refused where that is more than `MOST_HELD`.
-pub fn hold(held: u64, more: u64) -> Result<u64, OutOfMemory>
-    ensures { IfOk result (λ all. (all ≡ held + more) × (all ≤ MOST_HELD)) }
+pub fn hold(held: u64, more: u64) -> Result<u64, CompileFault>
+    ensures all { IfOk result (λ all. (all ≡ held + more) × (all ≤ MOST_HELD)) }
+    ensures fault { IfErr result (IsHoldFault (held + more)) }
 {
-    let all = held.saturating_add(more);
-    if all > MOST_HELD {
-        return Err(OutOfMemory);
+    let count = held.saturating_add(more);
+    if count > MOST_HELD {
+        return Err(CompileFault::Held { count });
     }
-    Ok(all)
+    Ok(count)
 }
 
 /// Spends what it costs to make this automaton. Refused where nothing is left.
-pub fn spend(effort: &mut Effort, automaton: &Automaton) -> Result<(), OutOfMemory>
+pub fn spend(effort: &mut Effort, automaton: &Automaton) -> Result<(), CompileFault>
     ensures marked { IsMarked automaton.now }
+    ensures fault { IfErr result (λ fault. fault ≡ CompileFault.Spent) }
+    ensures spent { OnErr result (effort.old ≤ 64 * size automaton.now.graph) }
+    ensures steps { OnOk result (effort.old ≤ effort.new + 64 * size automaton.now.graph) }
 {
     effort.spend(size_of(automaton).saturating_mul(STEPS_TO_MAKE));
     if effort.is_spent() {
-        return Err(OutOfMemory);
+        return Err(CompileFault::Spent);
     }
     Ok(())
 }

@@ -4,7 +4,7 @@
 //! are compiled is counted, and so is all that is made, against two guards. An automaton is a kilobyte and more, with the
 //! names of its variables: it is made in a method of its own, apart from the recursion, which keeps pointers alone, so
 //! that the stack that an expression takes is small however deep it nests.
-ghost use Rattle.std.specs.Prelude.{◌≡◌, ◌<◌, ◌≤◌, ◌++◌, [], ◌∷◌, length, slice_get, Some, IfOk, IfErr, OnOk};
+ghost use Rattle.std.specs.Prelude.{◌≡◌, ℕ, ◌+◌, ◌*◌, ◌<◌, ◌≤◌, ◌++◌, [], ◌∷◌, length, slice_get, Some, IfOk, IfErr, OnOk};
 ghost use Rattle.span_core.specs.declared.TheConstants.{MOST_VARIABLES};
 ghost use Rattle.spanner_model.specs.Captures.{VarName};
 ghost use Rattle.spanner_model.specs.Expression.{atom as atom_expr, join_all, union_all};
@@ -14,29 +14,33 @@ ghost use Rattle.spanner_model.specs.Sound.{IsSound};
 ghost use Rattle.span_core.specs.Lists.{AtMost, Has};
 ghost use Rattle.spanner_model.specs.View.{tree_of, atom_of};
 ghost use Rattle.spanner_model.specs.WellBuilt.{IsWellBuilt};
-ghost use Rattle.marked_automaton.specs.Automaton.{IsMarked};
+ghost use Rattle.marked_automaton.specs.Automaton.{IsMarked, size};
 ghost use Rattle.marked_automaton.specs.Faults.{IsSizeFaultWithin};
 ghost use Rattle.marked_automaton.specs.Marks.{left_of, remarked};
 ghost use Rattle.marked_automaton.specs.Reduct.{Reduces, ReducesMarked};
 ghost use Rattle.algebra.specs.JoinedNames.{all_names};
-ghost use Rattle.query_automaton.specs.BegunQuery.{CanCompile, HasLargePartIn, IsCompiledIn};
+ghost use Rattle.query_automaton.specs.BegunQuery.{CanCompile, HasCauseBeside, HasCauseIn, IsCompiledIn, TakesIn};
 ghost use Rattle.query_automaton.specs.Compiling.{AreCompiled};
-ghost use Rattle.query_automaton.specs.Parts.{HasLargePart};
+ghost use Rattle.query_automaton.specs.Held.{HasCause, IsHoldFault, IsWithin};
+ghost use Rattle.query_automaton.specs.Steps.{QueryHasNoMinus, join_steps, operations_of_lets, steps_of, union_steps};
+ghost use Rattle.query_automaton.specs.Told.{IsTold, IsToldOf};
+ghost use Rattle.query_automaton.specs.declared.effort.TheConstants.{MOST_STEPS};
 ghost use Rattle.query_automaton.specs.QueryAutomaton.{of_join, of_minus, of_union};
 
-use crate::effort::{MOST_STEPS, hold, spend};
+use crate::effort::{hold, spend};
+use crate::fault::CompileFault;
 use crate::shared::Shared;
-use algebra::{Effort, join_within, project, unite};
+use algebra::{Effort, join_with_cause, project, unite};
 use algebra_minus::minus_within;
 use marked_automaton::{Automaton, MOST_STATES, SizeFault};
-use place_automaton::of_atom;
+use place_automaton::automaton_of;
 use span_core::{MOST_VARIABLES, OutOfMemory, VarSet};
 use spanner_model::{Atom, Expr, Exprs, Query};
 use std::alloc::Global;
 use std::marker::Model;
 
-/// What the expressions of a query are compiled with: the query, the automata of its first `let`s, how much is held, and
-/// how much work is left. It is seen as the query with these automata.
+/// What the expressions of a query are compiled with: the query, the automata of its first `let`s, and how much is
+/// held. It is seen as the query with these automata, and with what is held.
 #[derive(Drop)]
 pub struct Compiler<'q> {
     alloc: Global,
@@ -44,7 +48,6 @@ pub struct Compiler<'q> {
     lets: Vec<Shared>,
     /// The states, ways and ends that are held: those of the `let`s, and of the parts that wait.
     held: u64,
-    effort: Effort,
 }
 
 impl<'q> Model for Compiler<'q> {
@@ -57,6 +60,7 @@ impl<'q> Model for Compiler<'q> {
     ghost view = { λ c. record {
       query = c.query.now;
       lets = c.lets.items;
+      held = c.held;
     } };
 }
 
@@ -65,38 +69,45 @@ impl<'q> Compiler<'q> {
     pub fn new(alloc: Global, query: &'q Query) -> Compiler<'q>
         ensures query { result.query ≡ query.now }
         ensures lets { result.lets ≡ [] }
+        ensures held { result.held ≡ 0 }
     {
         Compiler {
             alloc,
             query,
             lets: Vec::new(alloc),
             held: 0,
-            effort: Effort::new(MOST_STEPS),
         }
     }
 
     /// Compiles the `let`s, in their order; their automata count as held.
-    pub fn compile_lets(&mut self) -> Result<(), SizeFault>
+    pub fn compile_lets(&mut self, effort: &mut Effort) -> Result<(), CompileFault>
         requires sound { IsSound (query_of self.old.query) }
         requires none { self.old.lets ≡ [] }
+        requires nothing { self.old.held ≡ 0 }
+        requires all { effort.old ≡ MOST_STEPS }
         ensures query { self.new.query ≡ self.old.query }
         ensures long { OnOk result (length self.new.lets ≡ length (query_of self.old.query).lets) }
         ensures made { OnOk result (AreCompiled (query_of self.old.query) self.new.lets) }
-        ensures fault { IfErr result (HasLargePart (query_of self.old.query)) }
+        ensures held { OnOk result ((most : ℕ) → IsWithin (query_of self.old.query) most → self.new.held ≤ length (query_of self.old.query).lets * most) }
+        ensures steps { OnOk result ((most : ℕ) → QueryHasNoMinus (query_of self.old.query) → IsWithin (query_of self.old.query) most →
+            MOST_STEPS ≤ effort.new + operations_of_lets (query_of self.old.query).lets * steps_of most) }
+        ensures fault { IfErr result (HasCause (query_of self.old.query)) }
     {
         let query = self.query;
         for k in 0..query.lets.len() {
-            let automaton = self.expression(&query.lets.at(k).1)?;
+            let automaton = self.expression(&query.lets.at(k).1, effort)?;
             self.keep(automaton)?;
         }
         Ok(())
     }
 
     /// Keeps the automaton of one `let` more, which counts as held.
-    fn keep(&mut self, automaton: Shared) -> Result<(), SizeFault>
+    fn keep(&mut self, automaton: Shared) -> Result<(), CompileFault>
         ensures query { self.new.query ≡ self.old.query }
         ensures lets { OnOk result (self.new.lets ≡ self.old.lets ++ automaton ∷ []) }
-        ensures fault { IfErr result (λ fault. fault ≡ SizeFault.OutOfMemory) }
+        ensures marked { IsMarked automaton }
+        ensures held { OnOk result (self.new.held ≤ self.old.held + size automaton.graph) }
+        ensures fault { IfErr result (IsHoldFault (self.old.held + size automaton.graph)) }
     {
         self.held = hold(self.held, automaton.own_size())?;
         self.lets.push(automaton)?;
@@ -105,89 +116,100 @@ impl<'q> Compiler<'q> {
 
     /// The automaton of an expression of the query.
     #[cycle(compiling)]
-    pub fn expression(&mut self, expr: &Expr) -> Result<Shared, SizeFault>
+    pub fn expression(&mut self, expr: &Expr, effort: &mut Effort) -> Result<Shared, CompileFault>
         requires { CanCompile self.old (expr_of expr.now) }
         ensures same { self.new ≡ self.old }
         ensures made { IfOk result (IsCompiledIn self.old (expr_of expr.now)) }
-        ensures fault { IfErr result (HasLargePartIn self.old (expr_of expr.now)) }
+        ensures steps { OnOk result (TakesIn self.old (expr_of expr.now) effort.old effort.new) }
+        ensures fault { IfErr result (HasCauseIn self.old effort.old (expr_of expr.now)) }
     {
         match expr {
-            Expr::Atom(atom) => self.atom(atom),
+            Expr::Atom(atom) => self.atom(atom, effort),
             Expr::Named(k) => Ok(self.named(*k)?),
-            Expr::Union(parts) => self.union(parts),
-            Expr::Join(parts) => self.join(parts),
+            Expr::Union(parts) => self.union(parts, effort),
+            Expr::Join(parts) => self.join(parts, effort),
             Expr::Project(names, sub) => {
-                let inner = self.expression(sub)?;
-                Ok(self.projected(inner, names)?)
+                let inner = self.expression(sub, effort)?;
+                Ok(self.projected(inner, names, effort)?)
             }
             Expr::Minus(left, right) => {
-                let first = self.expression(left)?;
-                let second = self.beside(&first, right)?;
-                self.differing(first.as_automaton(), second.as_automaton())
+                let first = self.expression(left, effort)?;
+                let second = self.beside(&first, right, effort)?;
+                Ok(self.differing(first.as_automaton(), second.as_automaton(), effort)?)
             }
         }
     }
 
     /// The automaton of an expression that is compiled while another waits, which counts as held.
     #[cycle(compiling)]
-    fn beside(&mut self, waiting: &Shared, expr: &Expr) -> Result<Shared, SizeFault>
+    fn beside(
+        &mut self,
+        waiting: &Shared,
+        expr: &Expr,
+        effort: &mut Effort,
+    ) -> Result<Shared, CompileFault>
         requires { CanCompile self.old (expr_of expr.now) }
         ensures same { self.new ≡ self.old }
         ensures made { IfOk result (IsCompiledIn self.old (expr_of expr.now)) }
-        ensures fault { IfErr result (HasLargePartIn self.old (expr_of expr.now)) }
+        ensures steps { OnOk result (TakesIn self.old (expr_of expr.now) effort.old effort.new) }
+        ensures marked { IsMarked waiting.now }
+        ensures fault { IfErr result (HasCauseBeside self.old waiting.now effort.old (expr_of expr.now)) }
     {
         let held = self.held;
         self.held = hold(held, waiting.own_size())?;
-        let automaton = self.expression(expr)?;
+        let made = self.expression(expr, effort);
         self.held = held;
-        Ok(automaton)
+        made
     }
 
     /// The automaton of a union, each part put behind those before it.
     #[cycle(compiling)]
-    fn union(&mut self, parts: &Exprs) -> Result<Shared, SizeFault>
+    fn union(&mut self, parts: &Exprs, effort: &mut Effort) -> Result<Shared, CompileFault>
         requires { CanCompile self.old (union_all (exprs_of parts.now)) }
         ensures same { self.new ≡ self.old }
         ensures made { IfOk result (IsCompiledIn self.old (union_all (exprs_of parts.now))) }
-        ensures fault { IfErr result (HasLargePartIn self.old (union_all (exprs_of parts.now))) }
+        ensures steps { OnOk result (TakesIn self.old (union_all (exprs_of parts.now)) effort.old effort.new) }
+        ensures fault { IfErr result (HasCauseIn self.old effort.old (union_all (exprs_of parts.now))) }
     {
-        let mut all = self.expression(parts.at(0))?;
-        self.spend(all.as_automaton())?;
+        let mut all = self.expression(parts.at(0), effort)?;
+        spend(effort, all.as_automaton())?;
         for k in 1..parts.len() {
-            let part = self.beside(&all, parts.at(k))?;
-            all = self.united(all, part.as_automaton())?;
+            let part = self.beside(&all, parts.at(k), effort)?;
+            all = self.united(all, part.as_automaton(), effort)?;
         }
         Ok(all)
     }
 
     /// The automaton of a join, its parts taken from left to right.
     #[cycle(compiling)]
-    fn join(&mut self, parts: &Exprs) -> Result<Shared, SizeFault>
+    fn join(&mut self, parts: &Exprs, effort: &mut Effort) -> Result<Shared, CompileFault>
         requires { CanCompile self.old (join_all (exprs_of parts.now)) }
         ensures same { self.new ≡ self.old }
         ensures made { IfOk result (IsCompiledIn self.old (join_all (exprs_of parts.now))) }
-        ensures fault { IfErr result (HasLargePartIn self.old (join_all (exprs_of parts.now))) }
+        ensures steps { OnOk result (TakesIn self.old (join_all (exprs_of parts.now)) effort.old effort.new) }
+        ensures fault { IfErr result (HasCauseIn self.old effort.old (join_all (exprs_of parts.now))) }
     {
-        let mut all = self.expression(parts.at(0))?;
+        let mut all = self.expression(parts.at(0), effort)?;
         for k in 1..parts.len() {
-            let part = self.beside(&all, parts.at(k))?;
-            all = self.joined(all.as_automaton(), part.as_automaton())?;
+            let part = self.beside(&all, parts.at(k), effort)?;
+            all = self.joined(all.as_automaton(), part.as_automaton(), effort)?;
         }
         Ok(all)
     }
 
     /// The automaton of an atom, with what leads to no end left out.
     #[inline(never)]
-    fn atom(&mut self, atom: &Atom) -> Result<Shared, SizeFault>
+    fn atom(&mut self, atom: &Atom, effort: &mut Effort) -> Result<Shared, CompileFault>
         requires built { IsWellBuilt (tree_of atom.now.formula) }
         requires sequential { IsSequential (tree_of atom.now.formula) }
         requires few { AtMost MOST_VARIABLES (HasVar (tree_of atom.now.formula)) }
         ensures same { self.new ≡ self.old }
         ensures made { IfOk result (IsCompiledIn self.old (atom_expr (atom_of atom.now))) }
-        ensures fault { IfErr result (HasLargePartIn self.old (atom_expr (atom_of atom.now))) }
+        ensures steps { OnOk result (TakesIn self.old (atom_expr (atom_of atom.now)) effort.old effort.new) }
+        ensures fault { IfErr result (HasCauseIn self.old effort.old (atom_expr (atom_of atom.now))) }
     {
-        let whole = of_atom(self.alloc, atom)?;
-        spend(&mut self.effort, &whole)?;
+        let whole = automaton_of(self.alloc, atom)?;
+        spend(effort, &whole)?;
         Ok(Shared::new(self.alloc, whole.trim(self.alloc)?)?)
     }
 
@@ -202,80 +224,96 @@ impl<'q> Compiler<'q> {
     /// What is left of an automaton on the kept variables. Where these are all that it has, it is the
     /// automaton itself, and nothing is copied.
     #[inline(never)]
-    fn projected(&mut self, inner: Shared, names: &VarSet) -> Result<Shared, OutOfMemory>
+    fn projected(
+        &mut self,
+        inner: Shared,
+        names: &VarSet,
+        effort: &mut Effort,
+    ) -> Result<Shared, CompileFault>
         requires { (x : VarName) → Has names.now x → Has inner.names x }
         ensures same { self.new ≡ self.old }
         ensures names { IfOk result (λ p. p.names ≡ names.now) }
         ensures reduct { IfOk result (λ p. Reduces p.graph (remarked (left_of inner.names names.now) inner.graph)) }
+        ensures marked { IsMarked inner }
+        ensures steps { OnOk result (effort.old ≤ effort.new + 64 * size inner.graph) }
+        ensures fault { IfErr result (IsTold (λ fault. fault ≡ SizeFault.OutOfMemory) 0 effort.old (64 * size inner.graph)) }
     {
         let whole = inner.as_automaton();
         prove!(whole.states() <= MOST_STATES);
         if names.len() == whole.vars().len() {
             return Ok(inner);
         }
-        spend(&mut self.effort, whole)?;
+        spend(effort, whole)?;
         Ok(Shared::new(self.alloc, project(self.alloc, whole, names)?)?)
     }
 
     /// The union of the parts so far with one part more, made in place; what a `let` has is copied.
     #[inline(never)]
-    fn united(&mut self, all: Shared, part: &Automaton) -> Result<Shared, SizeFault>
+    fn united(
+        &mut self,
+        all: Shared,
+        part: &Automaton,
+        effort: &mut Effort,
+    ) -> Result<Shared, CompileFault>
         requires { length (all_names all.names part.now.names) ≤ MOST_VARIABLES }
         ensures same { self.new ≡ self.old }
         ensures marked { IsMarked all × IsMarked part.now }
         ensures made { IfOk result (λ both. ReducesMarked both (of_union all part.now)) }
-        ensures fault { IfErr result (IsSizeFaultWithin (of_union all part.now).graph.states (length (of_union all part.now).graph.ways)) }
+        ensures steps { OnOk result (effort.old ≤ effort.new + union_steps all part.now) }
+        ensures fault { IfErr result (IsTold (IsSizeFaultWithin (of_union all part.now).graph.states (length (of_union all part.now).graph.ways)) (length (of_union all part.now).graph.stops) effort.old (union_steps all part.now)) }
     {
         let own = all.as_automaton();
         prove!(own.states() <= MOST_STATES);
-        spend(&mut self.effort, part)?;
+        spend(effort, part)?;
         let before = own.vars().len();
         let both = unite(self.alloc, all.take(self.alloc)?, part)?;
         // Over more variables each way is marked anew.
         if both.vars().len() > before {
-            spend(&mut self.effort, &both)?;
+            spend(effort, &both)?;
         }
         Ok(Shared::new(self.alloc, both)?)
     }
 
     /// The join of the parts so far with one part more, with what leads to no end left out.
     #[inline(never)]
-    fn joined(&mut self, all: &Automaton, part: &Automaton) -> Result<Shared, SizeFault>
+    fn joined(
+        &mut self,
+        all: &Automaton,
+        part: &Automaton,
+        effort: &mut Effort,
+    ) -> Result<Shared, CompileFault>
         requires { length (all_names all.now.names part.now.names) ≤ MOST_VARIABLES }
         ensures same { self.new ≡ self.old }
         ensures marked { IsMarked all.now × IsMarked part.now }
         ensures made { IfOk result (λ both. ReducesMarked both (of_join all.now part.now)) }
-        ensures fault { IfErr result (IsSizeFaultWithin (of_join all.now part.now).graph.states (length (of_join all.now part.now).graph.ways)) }
+        ensures steps { OnOk result (effort.old ≤ effort.new + join_steps all.now part.now) }
+        ensures fault { IfErr result (IsTold (IsSizeFaultWithin (of_join all.now part.now).graph.states (length (of_join all.now part.now).graph.ways)) (length (of_join all.now part.now).graph.stops) effort.old (join_steps all.now part.now)) }
     {
-        // The ways that it tries `join_within` counts.
-        self.effort
-            .spend(u64::from(all.states()) + u64::from(part.states()));
-        let pairs = join_within(self.alloc, all, part, &mut self.effort)?;
-        spend(&mut self.effort, &pairs)?;
+        // The ways that it tries `join_with_cause` counts.
+        effort.spend(u64::from(all.states()) + u64::from(part.states()));
+        let pairs = join_with_cause(self.alloc, all, part, effort)?;
+        spend(effort, &pairs)?;
         Ok(Shared::new(self.alloc, pairs.trim(self.alloc)?)?)
     }
 
     /// The difference of two parts, with what leads to no end left out.
     #[inline(never)]
-    fn differing(&mut self, left: &Automaton, right: &Automaton) -> Result<Shared, SizeFault>
+    fn differing(
+        &mut self,
+        left: &Automaton,
+        right: &Automaton,
+        effort: &mut Effort,
+    ) -> Result<Shared, CompileFault>
         requires { left.now.names ≡ right.now.names }
         ensures same { self.new ≡ self.old }
         ensures marked { IsMarked left.now × IsMarked right.now }
         ensures made { IfOk result (λ alone. ReducesMarked alone (of_minus left.now right.now)) }
-        ensures fault { IfErr result (IsSizeFaultWithin (of_minus left.now right.now).graph.states (length (of_minus left.now right.now).graph.ways)) }
+        ensures fault { IfErr result (IsToldOf (IsSizeFaultWithin (of_minus left.now right.now).graph.states (length (of_minus left.now right.now).graph.ways))) }
     {
         // What is tried `minus_within` counts.
-        self.effort
-            .spend(u64::from(left.states()) + u64::from(right.states()));
-        let alone = minus_within(self.alloc, left, right, &mut self.effort)?;
-        spend(&mut self.effort, &alone)?;
+        effort.spend(u64::from(left.states()) + u64::from(right.states()));
+        let alone = minus_within(self.alloc, left, right, effort)?;
+        spend(effort, &alone)?;
         Ok(Shared::new(self.alloc, alone.trim(self.alloc)?)?)
-    }
-
-    /// Spends what it costs to make this automaton. Refused where nothing is left.
-    fn spend(&mut self, automaton: &Automaton) -> Result<(), OutOfMemory>
-        ensures { self.new ≡ self.old }
-    {
-        spend(&mut self.effort, automaton)
     }
 }

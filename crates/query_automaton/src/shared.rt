@@ -3,7 +3,7 @@
 //! A counted pointer that is seen as the automaton itself, so that no definition above speaks of owners. It is taken
 //! out where it has one owner, and copied only where it has more.
 ghost use Rattle.std.specs.Prelude.{◌≡◌, ◌≤◌, IfOk};
-ghost use Rattle.marked_automaton.specs.Automaton.{size};
+ghost use Rattle.marked_automaton.specs.Automaton.{IsMarked, size};
 
 use crate::effort::size_of;
 use marked_automaton::Automaton;
@@ -58,12 +58,14 @@ impl Shared {
 
     /// How many states, ways and ends it has, if this is its one owner, and else 0.
     pub fn own_size(&self) -> u64
-        ensures { result ≤ size self.now.graph }
+        ensures marked { IsMarked self.now }
+        ensures most { result ≤ size self.now.graph }
     {
+        let own = size_of(Rc::as_ref(&self.automaton));
         if Rc::strong_count(&self.automaton) > 1 {
             return 0;
         }
-        size_of(Rc::as_ref(&self.automaton))
+        own
     }
 
     /// The automaton itself where this is its one owner, and else a copy.

@@ -13,7 +13,7 @@ use Rattle.spanner_model.specs.Sound.{NameOf, IsSound}
 use Rattle.spanner_model.proofs.Deciding.{Told, told_of, told_lets}
 use Rattle.formula_parser.proofs.BuiltLaws.{IsText}
 use Rattle.query_parser.specs.declared.TheConstants.{MOST_TEXT_BYTES}
-use Rattle.query_parser.specs.declared.asks.Asked.{Asked}
+use Rattle.spanner_model.specs.declared.tested.Asked.{Asked}
 use Rattle.query_parser.specs.declared.fault.QueryFault.{QueryFault}
 use Rattle.query_parser.specs.declared.fault.QueryFault.TheVariants.{TooManyVariables, TooLong, TestVariable}
 use Rattle.query_parser.specs.Spells.{SpellsQuery}
@@ -23,7 +23,8 @@ use Rattle.query_parser.specs.Faults as plain_fault
 use Rattle.query_parser.specs.Nest.{Nest, reading_of, outermost}
 use Rattle.query_parser.specs.Step.{word_at, EndsAfter, Ends}
 use Rattle.query_parser.specs.TokenRuns.{Run, run_ends, IsReadTo}
-use Rattle.query_parser.specs.Tested.{TestedTree, where_word, Placed, HasPlaced, SpellsWhere, no_test, tests_follow, SpellsTested, ends_tests, HasNoTests, of_query, without_tests, with_tests, FirstMissing, HasTestedFault, too_long, unreadable, too_many_kept, too_many_captured, not_sound, no_variable, IsTestedText}
+use Rattle.query_parser.specs.Tested.{where_word, Placed, HasPlaced, SpellsWhere, no_test, tests_follow, SpellsTested, ends_tests, HasNoTests, of_query, without_tests, with_tests, FirstMissing, HasTestedFault, too_long, unreadable, too_many_kept, too_many_captured, not_sound, no_variable, IsTestedText}
+use Rattle.spanner_model.specs.Tested.{TestedTree}
 use Rattle.query_parser.specs.TestSteps.{after_test, TestsRead, tests_at, no_test_read, test_mark, test_move, TestNext, test_goes, test_stops, test_step, TestsStop, end_stops, TestsBegin, IsReadAs, without_where, with_where}
 use Rattle.query_parser.specs.TestedLaws.{plain, QueriesAreAsBefore, EachTextIsTold}
 use Rattle.query_parser.proofs.TextLaws.{spelled_ends, ends_spelled}

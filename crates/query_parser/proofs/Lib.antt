@@ -32,3 +32,4 @@ pub mod TestedReading
 pub mod TestedFaults
 pub mod TestedCode
 pub mod EachTestedText
+pub mod BindLaws

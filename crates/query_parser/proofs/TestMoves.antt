@@ -4,7 +4,7 @@ use Rattle.std.proofs.lemmas.List.{append-nil}
 use Rattle.span_core.specs.Names.{is_name}
 use Rattle.spanner_model.specs.Captures.{VarName}
 use Rattle.spanner_model.specs.Sound.{IsFreeName}
-use Rattle.query_parser.specs.declared.asks.Asked.{Asked}
+use Rattle.spanner_model.specs.declared.tested.Asked.{Asked}
 use Rattle.query_parser.specs.Tokens.{Token, name_token, open_paren, close_paren, comma, HasTokens, text_ends, blank_first, token_first}
 use Rattle.query_parser.specs.Reads.{Refusal, name_too_long}
 use Rattle.query_parser.specs.Nest.{Nest}

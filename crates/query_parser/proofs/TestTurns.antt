@@ -6,7 +6,7 @@ use Rattle.span_core.specs.Names.{is_name, is_name_start, is_name_byte}
 use Rattle.spanner_model.specs.Captures.{VarName}
 use Rattle.formula_parser.proofs.RunLaws.{run_of}
 use Rattle.formula_parser.proofs.HeadLaws.{start_continues}
-use Rattle.query_parser.specs.declared.asks.Asked.{Asked}
+use Rattle.spanner_model.specs.declared.tested.Asked.{Asked}
 use Rattle.query_parser.specs.declared.fault.QueryFault.{QueryFault}
 use Rattle.query_parser.specs.declared.fault.QueryFault.TheVariants.{Unexpected, OutOfMemory}
 use Rattle.query_parser.specs.Tokens.{Token, name_token, open_paren, close_paren, comma, sign_token, is_blank, TokenAt, atom_at, word_at, sign_at}

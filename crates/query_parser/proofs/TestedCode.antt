@@ -19,8 +19,8 @@ use Rattle.spanner_model.specs.Answer.{IsResultVar}
 use Rattle.spanner_model.specs.Sound.{NameOf, IsSound}
 use Rattle.formula_parser.proofs.BuiltLaws.{IsText}
 use Rattle.query_parser.specs.declared.TheConstants.{MOST_TEXT_BYTES}
-use Rattle.query_parser.specs.declared.asks.Asked.{Asked}
-use Rattle.query_parser.specs.declared.asks.Tested.{Tested}
+use Rattle.spanner_model.specs.declared.tested.Asked.{Asked}
+use Rattle.spanner_model.specs.declared.tested.Tested.{Tested}
 use Rattle.query_parser.specs.declared.fault.QueryFault.{QueryFault}
 use Rattle.query_parser.specs.declared.fault.QueryFault.TheVariants.{Unexpected, TooManyVariables, TestVariable, OutOfMemory}
 use Rattle.query_parser.specs.Tokens.{Token, name_token, word_token, IsWordAt, TokenAt, atom_at, word_at, sign_at}
@@ -32,11 +32,11 @@ use Rattle.query_parser.specs.Step.{step, stops, ends, EndsAfter}
 use Rattle.query_parser.specs.Step as code
 use Rattle.query_parser.specs.Turn.{IsTurn, IsEnd}
 use Rattle.query_parser.specs.TokenRuns.{Run, run_ends, query_step, IsReadTo}
-use Rattle.query_parser.specs.Tested.{TestedTree, Placed, where_word, SpellsTested, ends_tests, FirstMissing, of_query, HasNoTests, HasTestedFault, too_long, unreadable, too_many_kept, too_many_captured, not_sound, no_variable, IsTestedText}
+use Rattle.query_parser.specs.Tested.{Placed, where_word, SpellsTested, ends_tests, FirstMissing, of_query, HasNoTests, HasTestedFault, too_long, unreadable, too_many_kept, too_many_captured, not_sound, no_variable, IsTestedText}
+use Rattle.spanner_model.specs.Tested.{TestedTree, tested_of}
 use Rattle.query_parser.specs.TestSteps.{TestLast, after_test, TestsRead, tests_at, no_test_read, test_mark, test_move, StopsFrom, TestsStop, atom_stops, token_stops, stray_stops, end_stops, TestsBegin, HasTestsFrom, IsReadAs, without_where}
 use Rattle.query_parser.specs.TestAnswers.{AreReadFrom, IsReadThrough, IsTestedRead}
 use Rattle.query_parser.specs.TestedAnswers.{IsTestedAnswer}
-use Rattle.query_parser.specs.TestedView.{tested_of}
 use Rattle.query_parser.proofs.FaultLaws.{ends_fault}
 use Rattle.query_parser.proofs.StepLaws.{IsSign, is_equals, is_semicolon, is_open, is_close, is_comma, sign_is, word_here}
 use Rattle.query_parser.proofs.ReadLaws.{memory_fault, read_memory, refused_memory, tree_memory}

@@ -7,7 +7,7 @@ use Rattle.spanner_model.specs.Expression.{QueryTree}
 use Rattle.spanner_model.specs.Answer.{IsResultVar}
 use Rattle.spanner_model.specs.Sound.{NameOf, IsSound}
 use Rattle.query_parser.specs.declared.TheConstants.{MOST_TEXT_BYTES}
-use Rattle.query_parser.specs.declared.asks.Asked.{Asked}
+use Rattle.spanner_model.specs.declared.tested.Asked.{Asked}
 use Rattle.query_parser.specs.declared.fault.QueryFault.{QueryFault}
 use Rattle.query_parser.specs.declared.fault.QueryFault.TheVariants.{Unexpected, TooManyVariables, TooLong, TestVariable}
 use Rattle.query_parser.specs.Tokens.{name_token, TokenAt}
@@ -17,7 +17,8 @@ use Rattle.query_parser.specs.TreeFaults.{IsTreeFault}
 use Rattle.query_parser.specs.Nest.{Nest, Body, reading_of, outermost, whole_query}
 use Rattle.query_parser.specs.Step.{Ends}
 use Rattle.query_parser.specs.TokenRuns.{Run, query_step}
-use Rattle.query_parser.specs.Tested.{TestedTree, where_word, ReadsTests, ends_tests, HasNoTests, IsTestedReadFault, IsReadWhole, without_tests, with_tests, FirstMissing, HasTestedFault, too_long, unreadable, too_many_kept, too_many_captured, not_sound, no_variable, IsTestedText}
+use Rattle.query_parser.specs.Tested.{where_word, ReadsTests, ends_tests, HasNoTests, IsTestedReadFault, IsReadWhole, without_tests, with_tests, FirstMissing, HasTestedFault, too_long, unreadable, too_many_kept, too_many_captured, not_sound, no_variable, IsTestedText}
+use Rattle.spanner_model.specs.Tested.{TestedTree}
 use Rattle.query_parser.specs.TestSteps.{TestLast, after_test, TestsRead, tests_at, no_test_read, test_mark, test_move, TestsStop, atom_stops, token_stops, stray_stops, end_stops, TestsBegin, HasTestsFrom, IsReadAs, without_where, with_where}
 use Rattle.query_parser.proofs.TokensSpelled.{whole_many}
 use Rattle.query_parser.proofs.TextLaws.{Answer}

@@ -5,7 +5,7 @@ use Rattle.spanner_model.specs.Captures.{VarName}
 use Rattle.spanner_model.specs.Expression.{AtomTree, QueryTree}
 use Rattle.formula_parser.specs.Spells.{IsAtomAt}
 use Rattle.formula_parser.proofs.AtomLaws.{no_tree_with_fault}
-use Rattle.query_parser.specs.declared.asks.Asked.{Asked}
+use Rattle.spanner_model.specs.declared.tested.Asked.{Asked}
 use Rattle.query_parser.specs.declared.fault.QueryFault.{QueryFault}
 use Rattle.query_parser.specs.declared.fault.QueryFault.TheVariants.{Unexpected, OutOfMemory}
 use Rattle.query_parser.specs.Tokens.{Token, name_token, TokenAt, atom_at, HasTokens}
@@ -17,7 +17,8 @@ use Rattle.query_parser.specs.Nest.{Nest, Move, Body, Last, unit, mark_of, readi
 use Rattle.query_parser.specs.Step.{step, goes, reads_atom, moved, EndsAfter, Ends}
 use Rattle.query_parser.specs.Turn.{IsTurn}
 use Rattle.query_parser.specs.TokenRuns.{Run, run_ends, run_blank, run_token, query_step, IsReadTo}
-use Rattle.query_parser.specs.Tested.{TestedTree, where_word, Placed, HasPlaced, SpellsTests, SpellsWhere, no_test, tests_follow, SpellsTested, BeginsTests, HasNoTests}
+use Rattle.query_parser.specs.Tested.{where_word, Placed, HasPlaced, SpellsTests, SpellsWhere, no_test, tests_follow, SpellsTested, BeginsTests, HasNoTests}
+use Rattle.spanner_model.specs.Tested.{TestedTree}
 use Rattle.query_parser.specs.Tested as placed
 use Rattle.query_parser.specs.TestSteps.{after_test, tests_at, no_test_read, test_move, TestsBegin, IsReadAs, without_where, with_where}
 use Rattle.query_parser.proofs.MoveLaws.{seen, shape}

@@ -9,8 +9,8 @@ pub mod Laws
 pub mod Answers
 pub mod Formed
 pub mod Tested
-pub mod TestedView
 pub mod TestedAnswers
+pub mod Binding
 pub mod TestedLaws
 -- what the functions inside promise each other
 pub mod Nest

@@ -2,8 +2,8 @@
 use Rattle.std.specs.Prelude.{◌≡◌, ◌⊎◌, ℕ, Bool, List, Result, Ok, Err}
 use Rattle.spanner_model.specs.declared.query.Query.{Query}
 use Rattle.spanner_model.specs.ExprView.{query_of}
-use Rattle.query_parser.specs.declared.asks.Asked.{Asked}
-use Rattle.query_parser.specs.declared.asks.Tested.{Tested}
+use Rattle.spanner_model.specs.declared.tested.Asked.{Asked}
+use Rattle.spanner_model.specs.declared.tested.Tested.{Tested}
 use Rattle.query_parser.specs.declared.tests_read.Mark.{Mark}
 use Rattle.query_parser.specs.declared.tests_read.Mark.TheVariants as code_mark
 use Rattle.query_parser.specs.declared.tests_read.SoFar.{SoFar}
@@ -11,7 +11,7 @@ use Rattle.query_parser.specs.declared.fault.QueryFault.{QueryFault}
 use Rattle.query_parser.specs.declared.fault.QueryFault.TheVariants.{OutOfMemory}
 use Rattle.query_parser.specs.TestSteps.{TestLast, at_test, after_test_name, after_test_open, after_test_var, after_test, TestsRead, TestNext, test_goes, test_stops, HasTestsFrom, StopsFrom, IsReadAs}
 use Rattle.query_parser.specs.Tested.{IsTestedText, HasTestedFault, IsTestedReadFault}
-use Rattle.query_parser.specs.TestedView.{tested_of}
+use Rattle.spanner_model.specs.Tested.{tested_of}
 
 abbrev pub test_last_of : Mark → TestLast
 test_last_of code_mark.Before = at_test

@@ -4,7 +4,7 @@ use Rattle.span_core.specs.Names.{is_name, is_name_start}
 use Rattle.spanner_model.specs.Captures.{VarName}
 use Rattle.spanner_model.specs.Expression.{QueryTree}
 use Rattle.formula_parser.specs.Runs.{StandsAt}
-use Rattle.query_parser.specs.declared.asks.Asked.{Asked}
+use Rattle.spanner_model.specs.declared.tested.Asked.{Asked}
 use Rattle.query_parser.specs.declared.fault.QueryFault.{QueryFault}
 use Rattle.query_parser.specs.declared.fault.QueryFault.TheVariants.{Unexpected}
 use Rattle.query_parser.specs.Tokens.{Token, name_token, open_paren, close_paren, comma, word_token, sign_token, is_blank, TokenAt, IsStray}

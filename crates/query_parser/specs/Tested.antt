@@ -6,12 +6,11 @@ use Rattle.span_core.specs.declared.TheConstants.{MOST_VARIABLES}
 use Rattle.span_core.specs.Names.{is_name}
 use Rattle.span_core.specs.Lists.{AtMost, Has}
 use Rattle.spanner_model.specs.Captures.{VarName}
-use Rattle.spanner_model.specs.Expression.{QueryTree}
 use Rattle.spanner_model.specs.Answer.{IsResultVar}
 use Rattle.spanner_model.specs.Sound.{NameOf, IsFreeName, IsSound}
 use Rattle.formula_parser.specs.Runs.{StandsAt}
 use Rattle.query_parser.specs.declared.TheConstants.{MOST_TEXT_BYTES}
-use Rattle.query_parser.specs.declared.asks.Asked.{Asked}
+use Rattle.spanner_model.specs.declared.tested.Asked.{Asked}
 use Rattle.query_parser.specs.declared.fault.QueryFault.{QueryFault}
 use Rattle.query_parser.specs.declared.fault.QueryFault.TheVariants.{Unexpected, TooManyVariables, TooLong, TestVariable}
 use Rattle.query_parser.specs.Tokens.{Token, name_token, open_paren, close_paren, comma, TokenAt, BlankAt, IsStray}
@@ -19,11 +18,7 @@ use Rattle.query_parser.specs.Spells.{Spells}
 use Rattle.query_parser.specs.Reads.{Reading, Refusal, unexpected, name_too_long, is_whole, ReadsQuery}
 use Rattle.query_parser.specs.Faults.{IsReadFault, refused}
 use Rattle.query_parser.specs.TreeFaults.{IsTreeFault}
-
--- a query with its tests: each with its name, the place of that name in the text, and its variable
-pub record TestedTree : Type 0 where
-  pub query : QueryTree
-  pub asked : List Asked
+use Rattle.spanner_model.specs.Tested.{TestedTree}
 
 abbrev pub asked_of : VarName → ℕ → VarName → Asked
 asked_of test at var = record { test = test; at = at; var = var }

@@ -3,7 +3,8 @@ use Rattle.std.specs.Prelude.{◌≡◌, ◌↔◌, ◌<◌, ◌⊎◌, ℕ, Lis
 use Rattle.spanner_model.specs.Expression.{QueryTree}
 use Rattle.query_parser.specs.declared.fault.QueryFault.{QueryFault}
 use Rattle.query_parser.specs.Faults.{HasFault, IsQueryText}
-use Rattle.query_parser.specs.Tested.{TestedTree, HasNoTests, IsTestedText, HasTestedFault}
+use Rattle.query_parser.specs.Tested.{HasNoTests, IsTestedText, HasTestedFault}
+use Rattle.spanner_model.specs.Tested.{TestedTree}
 
 -- a query without tests
 abbrev pub plain : QueryTree → TestedTree

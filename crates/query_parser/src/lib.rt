@@ -7,7 +7,7 @@
 ghost use Rattle.std.specs.Prelude.{◌≡◌};
 ghost use Rattle.query_parser.specs.declared.TheConstants.{MOST_MINUSES, MOST_OPEN, MOST_TEXT_BYTES};
 
-pub use asks::{Asked, Asks, Tested};
+pub use binding::bind;
 pub use fault::QueryFault;
 pub use laws::{
     each_text_has_a_query_or_a_fault, each_text_is_read_or_refused, each_text_with_tests_is_told,
@@ -16,9 +16,10 @@ pub use laws::{
     queries_without_tests_are_as_before,
 };
 pub use reader::read_query;
+pub use spanner_model::{Asked, Asks, Tested};
 pub use tested::read_tested;
 
-mod asks;
+mod binding;
 mod check;
 mod fault;
 mod laws;

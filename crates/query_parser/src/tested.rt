@@ -17,13 +17,12 @@ ghost use Rattle.query_parser.specs.View.{nest_of};
 ghost use Rattle.query_parser.specs.TokenRuns.{IsReadTo};
 ghost use Rattle.query_parser.specs.TestSteps.{IsReadAs};
 ghost use Rattle.query_parser.specs.TestAnswers.{AreReadFrom, IsReadThrough, IsTestedRead};
-ghost use Rattle.query_parser.specs.Tested.{where_word, FirstMissing, HasTestedFault, IsTestedText, SpellsTested, TestedTree};
+ghost use Rattle.query_parser.specs.Tested.{where_word, FirstMissing, HasTestedFault, IsTestedText, SpellsTested};
+ghost use Rattle.spanner_model.specs.Tested.{TestedTree, tested_of};
 ghost use Rattle.query_parser.specs.TestedAnswers.{IsTestedAnswer};
-ghost use Rattle.query_parser.specs.TestedView.{tested_of};
-ghost use Rattle.query_parser.specs.declared.asks.Asked.{Asked as AskedValue};
+ghost use Rattle.spanner_model.specs.declared.tested.Asked.{Asked as AskedValue};
 
 use crate::MOST_TEXT_BYTES;
-use crate::asks::{Asks, Tested};
 use crate::check::{check_query, names_of};
 use crate::fault::QueryFault;
 use crate::nest::Nest;
@@ -32,7 +31,7 @@ use crate::tokens::word_at;
 use crate::turns::{finish, take_turn};
 use functional_check::names::has;
 use span_core::{Name, VarSet};
-use spanner_model::{Query, variables};
+use spanner_model::{Asks, Query, Tested, variables};
 use std::alloc::Global;
 
 /// The tests from a place on, to the text's end.

@@ -5,10 +5,10 @@ ghost use Rattle.query_parser.specs.TestSteps.{no_test_read, test_mark, test_nam
 ghost use Rattle.query_parser.specs.Tested.{ends_tests};
 ghost use Rattle.query_parser.specs.TestAnswers.{tests_of, IsTestStep};
 
-use crate::asks::{Asked, Asks};
 use crate::fault::QueryFault;
 use crate::tokens::{Sign, Word, is_blank, sign_of, word_at, word_of};
 use span_core::{Name, is_name_start};
+use spanner_model::{Asked, Asks};
 use std::alloc::Global;
 
 /// The name of a test, and its place.

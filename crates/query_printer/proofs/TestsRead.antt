@@ -6,10 +6,11 @@ use Rattle.span_core.specs.Lists.{Has}
 use Rattle.spanner_model.specs.Captures.{VarName}
 use Rattle.spanner_model.specs.Answer.{IsResultVar}
 use Rattle.spanner_model.specs.Sound.{IsFreeName}
-use Rattle.query_parser.specs.declared.asks.Asked.{Asked}
+use Rattle.spanner_model.specs.declared.tested.Asked.{Asked}
 use Rattle.query_parser.specs.Tokens.{Token, name_token, open_paren, close_paren, comma}
 use Rattle.query_parser.specs.Spells.{Spells}
-use Rattle.query_parser.specs.Tested.{TestedTree, asked_of, where_word, Placed, HasPlaced, SpellsTest, one_test, SpellsTests, first_test, more_tests, SpellsWhere, no_test, tests_follow, SpellsTested}
+use Rattle.query_parser.specs.Tested.{asked_of, where_word, Placed, HasPlaced, SpellsTest, one_test, SpellsTests, first_test, more_tests, SpellsWhere, no_test, tests_follow, SpellsTested}
+use Rattle.spanner_model.specs.Tested.{TestedTree}
 use Rattle.query_parser.proofs.TestMoves.{tokens_of, tokens_placed}
 use Rattle.query_printer.specs.PrintedQuery.{further, query_text}
 use Rattle.query_printer.specs.PrintedTested.{test_text, tests_text, tested_text, asks, AreFreeTests, IsPrintable, TestedAreRead}

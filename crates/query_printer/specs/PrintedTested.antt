@@ -5,8 +5,9 @@ use Rattle.spanner_model.specs.Captures.{VarName}
 use Rattle.spanner_model.specs.Expression.{QueryTree}
 use Rattle.spanner_model.specs.Sound.{IsFreeName, IsSound}
 use Rattle.query_parser.specs.declared.TheConstants.{MOST_TEXT_BYTES}
-use Rattle.query_parser.specs.declared.asks.Asked.{Asked}
-use Rattle.query_parser.specs.Tested.{TestedTree, AreOfResult, IsTestedText}
+use Rattle.spanner_model.specs.declared.tested.Asked.{Asked}
+use Rattle.query_parser.specs.Tested.{AreOfResult, IsTestedText}
+use Rattle.spanner_model.specs.Tested.{TestedTree}
 use Rattle.query_printer.specs.PrintedQuery.{joined, query_text, IsShallowQuery}
 
 abbrev pub test_text : Asked → List ℕ

@@ -8,8 +8,8 @@ ghost use Rattle.query_printer.specs.PrintedTested.{test_text, tests_text, teste
 
 use crate::queries::{push_given, push_query};
 use cell_text::push_bytes;
-use query_parser::{Asked, Asks, Tested};
 use span_core::OutOfMemory;
+use spanner_model::{Asked, Asks, Tested};
 
 /// Appends the printed form of a query with its tests, or answers that memory ran out and leaves `out` as
 /// it was.

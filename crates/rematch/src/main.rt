@@ -1,13 +1,12 @@
 //! `rematch`: regular document spanners on a file or on standard input.
 //!
-//! The words are taken from the system, and the run is that of `rematch_program` with the program's tests over the files, the
+//! The words are taken from the system, and the run is that of `whole_program` with the program's tests over the files, the
 //! standard input, the standard output for rows or replies, and the standard error for the one note.
 #![tactic(auto)]
 
 ghost use Rattle.std.specs.Prelude.{◌≡◌, ◌<◌};
 
-use main_tests::program_tests;
-use rematch_program::run_all;
+use known_tests::program_tests;
 use rm_outside::{Counting, FileShelf, LineInput, NoteSink, OutSink, Status};
 use span_core::Steps;
 use std::env;
@@ -15,6 +14,7 @@ use std::io::ErrorKind;
 use std::marker::Brand;
 use std::process::ExitCode;
 use std::sync::ledger::{Blank, Ledger};
+use whole_program::run_all;
 
 /// The exit status where the words cannot be had from the system, and memory is not wanting.
 const NO_WORDS: u8 = 10;

@@ -3,9 +3,9 @@ use Rattle.std.specs.Prelude.{◌≡◌, ℕ, ◌*◌, ◌<◌, List, [], length
 use Rattle.spanner_model.specs.Captures.{VarName}
 use Rattle.row_cursor.specs.CursorTexts.{cursor_text}
 use Rattle.spanner_model.specs.Answers.{AreResultNames, SpanRow}
-use Rattle.spanner_engine.specs.Passing.{IsOnlyTested}
+use Rattle.query_parser.specs.Binding.{IsOnlyTested}
 use Rattle.spanner_library.specs.Library.{Given, PreparedQuery, checks_by, tree}
-use Rattle.main_tests.specs.Relations.{relation}
+use Rattle.known_tests.specs.Relations.{relation}
 use Rattle.rm_outside.specs.Status.{exit_status_of}
 use Rattle.rm_outside.specs.declared.status.Status.{Status}
 use Rattle.rm_outside.specs.declared.status.Status.TheVariants as status

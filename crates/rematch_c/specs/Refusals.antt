@@ -1,6 +1,6 @@
 -- Why a query or a document is refused.
 use Rattle.std.specs.Prelude.{◌≡◌, ◌≢◌, ◌⊎◌, ℕ, ◌^◌, ◌<◌, List, length, Option, Some, min, codes}
-use Rattle.query_parser.specs.Tested.{TestedTree}
+use Rattle.spanner_model.specs.Tested.{TestedTree}
 use Rattle.query_parser.specs.declared.fault.QueryFault.{QueryFault}
 use Rattle.marked_automaton.specs.declared.fault.SizeFault.{SizeFault}
 use Rattle.query_automaton.specs.Parts.{HasLargePart}
@@ -11,9 +11,10 @@ use Rattle.row_cursor.specs.CursorTexts.{IsCursorText}
 use Rattle.spanner_engine.specs.Begun.{IsBeginFault}
 use Rattle.spanner_engine.specs.declared.beginning.BeginFault.{BeginFault}
 use Rattle.spanner_engine.specs.declared.beginning.BeginFault.TheVariants.{CursorOther, CursorPlace, Filter, Table, OutOfMemory}
-use Rattle.spanner_engine.specs.Passing.{Known, HasFaultUnder, IsOnlyTested, known}
+use Rattle.spanner_model.specs.Passing.{Known, known}
+use Rattle.query_parser.specs.Binding.{HasFaultUnder, IsOnlyTested}
 use Rattle.spanner_library.specs.Library.{PreparedQuery, tree}
-use Rattle.main_tests.specs.Relations.{known_tests, relation}
+use Rattle.known_tests.specs.Relations.{known_tests, relation}
 use Rattle.note_texts.specs.Notes.{counted, fault_note, filter_note, other_document_note, size_note, table_note}
 use Rattle.rm_outside.specs.declared.status.Status.{Status}
 use Rattle.rm_outside.specs.declared.status.Status.TheVariants as status

@@ -7,7 +7,7 @@ ghost use Rattle.row_cursor.specs.CursorTexts.{cursor_text};
 ghost use Rattle.spanner_model.specs.Answers.{SpanRow};
 ghost use Rattle.spanner_engine.specs.Begun.{row_kept};
 ghost use Rattle.spanner_engine.specs.Fitting.{AreLast};
-ghost use Rattle.main_tests.specs.Relations.{relation};
+ghost use Rattle.known_tests.specs.Relations.{relation};
 ghost use Rattle.note_texts.specs.Notes.{note_text};
 ghost use Rattle.spanner_library.specs.Library.{Given, checks_by, tree};
 ghost use Rattle.rematch_c.specs.Refusals.{IsLongRefusal, IsReadRefusal, IsResumeRefusal, IsUnread, Says};

@@ -1,16 +1,16 @@
 //! Compiled queries that are shared.
 ghost use Rattle.std.specs.Prelude.{◌≡◌, ◌⊎◌, [], IfOk, IfErr, OnOk, codes};
 ghost use Rattle.spanner_model.specs.Answers.{AreResultNames};
-ghost use Rattle.query_parser.specs.Tested.{TestedTree};
+ghost use Rattle.spanner_model.specs.Tested.{TestedTree};
 ghost use Rattle.query_automaton.specs.Parts.{HasLargePart};
-ghost use Rattle.spanner_engine.specs.Passing.{HasFaultUnder, IsOnlyTested};
+ghost use Rattle.query_parser.specs.Binding.{HasFaultUnder, IsOnlyTested};
 ghost use Rattle.note_texts.specs.Notes.{note_text};
 ghost use Rattle.spanner_library.specs.Library.{IsRefused, tree};
 ghost use Rattle.rematch_c.specs.Refusals.{IsTextRefusal, program};
 ghost use Rattle.rematch_c.specs.Texts.{IsText};
 
 use crate::ShortText;
-use main_tests::{ProgramJudge, program_tests};
+use known_tests::{ProgramJudge, program_tests};
 use marked_automaton::SizeFault;
 use note_texts::{Note, push_note};
 use query_parser::QueryFault;

@@ -15,8 +15,8 @@ use Rattle.spanner_model.specs.Answers.{SpanRow, AreResultNames}
 use Rattle.spanner_model.proofs.NameLaws.{same_names}
 use Rattle.marked_automaton.specs.declared.fault.SizeFault.TheVariants.{States, Ways}
 use Rattle.query_automaton.specs.Parts.{HasLargePart}
-use Rattle.query_parser.specs.Tested.{TestedTree}
-use Rattle.filter_laws.specs.Touching.{HasMinus}
+use Rattle.spanner_model.specs.Tested.{TestedTree}
+use Rattle.spanner_engine.specs.Touching.{HasMinus}
 use Rattle.row_cursor.specs.CursorTexts.{IsCursorText}
 use Rattle.row_cursor.proofs.Whole.{one_cursor}
 use Rattle.trial_maker.specs.Trial.{trial_text}
@@ -25,16 +25,17 @@ use Rattle.rematch_program.specs.declared.TheConstants.{QUERY_LIMIT, DOCUMENT_LI
 use Rattle.rm_outside.specs.Change.{Change, Adds, Failed}
 use Rattle.rematch_program.specs.Work.{Clock, Work, StandsStill, clock, work}
 use Rattle.spanner_engine.specs.Begun.{AreRead, HasHeavyAtom, row_kept, table_weight}
-use Rattle.spanner_engine.specs.Passing.{Check, Known, checks_of}
+use Rattle.spanner_model.specs.Passing.{Check, Known, checks_of}
 use Rattle.rematch_program.specs.Limits.{PartsAreSmall}
 use Rattle.note_texts.specs.Notes.{line}
-use Rattle.session_server.proofs.Lines.{rose_from}
+use Rattle.rm_outside.proofs.FaultLaws.{rose_from}
 use Rattle.rematch_program.specs.Pages.{IsAfter, CursorFits, page_text, last_note}
 use Rattle.rematch_program.specs.Testing.{AreAllPassing, IsPassingPageOf, TrialKeeps, explain_tested}
 use Rattle.rematch_program.specs.Trials.{trial_summary}
-use Rattle.rematch_program.specs.Run.{Text, Shelved, shelved, HasFaults, FromPage, FromAnswers, FromDocument, FromPlace, FromCursor, FromCompiled, FromQuery, FromText, FromRequest, FromWords, IsExplained, IsNotBegun, IsTooLarge, Reports, RunTested, WantsAnswers}
+use Rattle.rematch_program.specs.Run.{Text, Shelved, shelved, HasFaults, FromPage, FromAnswers, FromDocument, FromPlace, FromCursor, FromCompiled, FromQuery, FromText, FromRequest, FromWords, IsExplained, IsNotBegun, IsTooLarge, RunTested, WantsAnswers}
 use Rattle.rematch_program.specs.Run.{whole, write_failed, out_of_memory, paged, summed, other_document, past_the_document, filter_full, table_full, not_begun, by_states, by_ways, by_memory, answered, document_failed, document_too_long, found, no_cursor, other_variables, placed, page_asked, trial_asked}
-use Rattle.rematch_program.specs.Run.{explained, told_names, too_large, compiled, query_refused, understood, given, query_failed, query_too_long, fetched, refused, accepted, cut}
+use Rattle.rematch_program.specs.Run.{explained, told_names, too_large, compiled, query_refused, understood, given, query_failed, query_too_long, fetched, refused, accepted}
+use Rattle.note_texts.specs.Outcomes.{Reports, cut, whole as put_whole}
 use Rattle.rematch_program.specs.Complete.{IsTextOf, IsClear, IsWithinLimits, HasDocument, Completes, PlainCompletes, TrialCompletes, ExplainCompletes}
 
 -- a text and a note are whole, or memory was wanting
@@ -272,12 +273,12 @@ module _ (k : Known) (words : List Text) (a : RequestView) (text : Text) (t : Te
 
 -- with the note
 reported : (text last : Text) (w : Work) (notes : Change) (end result : Status) (note : Text) → ¬ Failed notes → Reports end note notes result → AreWhole text last w end note → (result ≡ status.Done) × Adds w.out text × Adds notes last
-reported text last w notes end result note fine (whole is adds) are =
+reported text last w notes end result note fine (put_whole is adds) are =
     let P : Text → Type 0 = λ t. Adds notes t in (is ∙ are.done, are.wrote, subst P are.says adds)
 reported text last w notes end result note fine (cut is failed part) are = absurd (fine failed)
 
 memory_reported : (notes : Change) (end result : Status) (note : Text) → ¬ Failed notes → Reports end note notes result → end ≡ status.Memory → result ≡ status.Memory
-memory_reported notes end result note fine (whole is adds) memory = is ∙ memory
+memory_reported notes end result note fine (put_whole is adds) memory = is ∙ memory
 memory_reported notes end result note fine (cut is failed part) memory = absurd (fine failed)
 
 module _ (k : Known) (words : List Text) (s : Shelved) (out notes : Change) (steps : Clock) (result : Status) (run : RunTested k words s out notes steps result) where

@@ -15,8 +15,8 @@ use Rattle.command_line.specs.declared.request.Mode.TheVariants as mode
 use Rattle.span_core.specs.declared.kept.Kept.{Kept}
 use Rattle.spanner_model.specs.Captures.{VarName}
 use Rattle.spanner_model.specs.Expression.{QueryTree}
-use Rattle.query_parser.specs.Tested.{TestedTree}
-use Rattle.spanner_engine.specs.Passing.{Check, Known}
+use Rattle.spanner_model.specs.Tested.{TestedTree}
+use Rattle.spanner_model.specs.Passing.{Check, Known}
 use Rattle.rematch_program.specs.Work.{Work}
 use Rattle.rematch_program.specs.Run.{Text, Shelved, shelved, IsUntouched, FromPlace, FromCursor, FromCompiled, FromQuery, FromText, FromRequest, FromWords}
 use Rattle.rematch_program.specs.Run.{out_of_memory, document_failed, document_too_long, found, no_cursor, other_variables, placed, page_asked, trial_asked}

@@ -1,7 +1,7 @@
 -- What holds of some atom of a query.
 use Rattle.std.proofs.Common.{ℕ, ◌<◌, ◌≤◌, inl, inr, List, arith}
 use Rattle.spanner_model.specs.Expression.{AtomTree, ExprTree, QueryTree, atom, named, union_end, union, join_end, join, minus, project}
-use Rattle.filter_laws.specs.Touching.{SomeAtom, SomeAtomOf}
+use Rattle.spanner_engine.specs.Touching.{SomeAtom, SomeAtomOf}
 use Rattle.segment_filter.specs.Costs.{atom_weight}
 use Rattle.spanner_engine.specs.Begun.{HasHeavyAtom}
 

@@ -10,7 +10,7 @@ use Rattle.spanner_model.specs.Answers.{SpanRow, AreAnswers}
 use Rattle.spanner_model.proofs.Ends.{EndsBy, query_ends}
 use Rattle.cell_text.specs.Cells.{ends_by}
 use Rattle.spanner_engine.specs.Fitting.{FitsRow}
-use Rattle.session_server.proofs.Giving.{all_inside}
+use Rattle.cell_text.proofs.EndLaws.{all_inside}
 use Rattle.rematch_program.specs.Pages.{FitsPage}
 
 pub span_inside : (n : ℕ) (o : Option Span) → ((s : Span) → o ≡ Some s → s.end ≤ n) → ends_by n o ≡ true

@@ -9,7 +9,8 @@ use Rattle.spanner_model.specs.Captures.{VarName}
 use Rattle.spanner_model.specs.Answers.{SpanRow, page_end}
 use Rattle.spanner_engine.specs.Fitting.{FitsRow}
 use Rattle.spanner_engine.specs.Left.{EndsIn, Source, checks_over, passing_over}
-use Rattle.spanner_engine.specs.Passing.{Check, known, passing, trying_steps}
+use Rattle.spanner_model.specs.Passing.{Check, known, passing}
+use Rattle.spanner_engine.specs.Trying.{trying_steps}
 use Rattle.spanner_engine.proofs.PassingLaws.{passing_append}
 use Rattle.rm_outside.specs.declared.status.Status.{Status}
 use Rattle.rm_outside.specs.Change.{Change}

@@ -7,7 +7,7 @@ use Rattle.spanner_model.specs.Captures.{VarName}
 use Rattle.spanner_model.specs.Expression.{QueryTree}
 use Rattle.spanner_model.specs.Answers.{SpanRow, AreAnswers, AreInBlockOrder, IsRest, page_end}
 use Rattle.spanner_model.proofs.RowOrder.{answers_one, page_leaves, rest_one, take_both}
-use Rattle.spanner_engine.specs.Passing.{Check, IsPassingPage, passes, passing}
+use Rattle.spanner_model.specs.Passing.{Check, IsPassingPage, passes, passing}
 use Rattle.rematch_program.specs.Testing.{IsPassingPageOf}
 use Rattle.rematch_program.specs.Resume.{with_limit}
 

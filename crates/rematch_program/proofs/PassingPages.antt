@@ -4,13 +4,12 @@ use Rattle.std.proofs.lemmas.List.{take_all}
 use Rattle.spanner_model.specs.Captures.{VarName}
 use Rattle.spanner_model.specs.Expression.{QueryTree}
 use Rattle.spanner_model.specs.Answers.{SpanRow, AreAnswers, IsRest}
-use Rattle.query_parser.specs.declared.asks.Asked.{Asked}
+use Rattle.spanner_model.specs.declared.tested.Asked.{Asked}
 use Rattle.spanner_engine.specs.Begun.{begin_steps}
 use Rattle.spanner_engine.specs.Fitting.{AreLast}
 use Rattle.spanner_engine.specs.Left.{AreLeft}
-use Rattle.spanner_engine.specs.Passing.{Check, Known, checks_of, passing}
-use Rattle.spanner_engine.proofs.PassingLaws.{passing_append}
-use Rattle.session_server.proofs.Giving.{has_passing}
+use Rattle.spanner_model.specs.Passing.{Check, Known, checks_of, passing}
+use Rattle.spanner_engine.proofs.PassingLaws.{passing_append, has_passing}
 use Rattle.rematch_program.specs.Work.{clock}
 use Rattle.rematch_program.specs.Pages.{first_rows}
 use Rattle.rematch_program.specs.Steps.{KeepsWithin}

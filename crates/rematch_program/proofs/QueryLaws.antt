@@ -1,13 +1,14 @@
 -- What the answers of the queries' reader, and of the look for the tests, tell.
 use Rattle.std.proofs.Common.{◌≡◌, ◌⊎◌, List, [], ◌∷◌, ℕ, Result, Ok, Err, inl, inr, refl, sym, ◌∙◌, subst}
-use Rattle.query_parser.specs.declared.asks.Asked.{Asked}
-use Rattle.query_parser.specs.declared.asks.Tested.{Tested}
+use Rattle.spanner_model.specs.declared.tested.Asked.{Asked}
+use Rattle.spanner_model.specs.declared.tested.Tested.{Tested}
 use Rattle.query_parser.specs.declared.fault.QueryFault.{QueryFault}
 use Rattle.query_parser.specs.declared.fault.QueryFault.TheVariants.{Formula, Check, Unexpected, UnknownName, NameTwice, NameTooLong, UnknownVariable, TooManyVariables, TooLong, TooDeep, OutOfMemory, JoinUnsure, UnknownTest, TestVariable, MinusVariables}
-use Rattle.query_parser.specs.Tested.{HasTestedFault, IsTestedText, TestedTree}
+use Rattle.query_parser.specs.Tested.{HasTestedFault, IsTestedText}
+use Rattle.spanner_model.specs.Tested.{TestedTree, tested_of}
 use Rattle.query_parser.specs.TestedAnswers.{IsTestedAnswer}
-use Rattle.query_parser.specs.TestedView.{tested_of}
-use Rattle.spanner_engine.specs.Passing.{AreKnown, FirstUnknown, HasFaultUnder, IsOnlyTested, Known, of_text, unknown_test}
+use Rattle.spanner_model.specs.Passing.{AreKnown, Known}
+use Rattle.query_parser.specs.Binding.{FirstUnknown, HasFaultUnder, IsOnlyTested, of_text, unknown_test}
 use Rattle.rematch_program.specs.Run.{IsOnlyFault}
 
 abbrev is_query : TestedTree → Result TestedTree QueryFault

@@ -15,8 +15,8 @@ use Rattle.span_core.proofs.HasLaws.{Has-get_or, Has-take}
 use Rattle.spanner_model.proofs.RowOrder.{take_both}
 use Rattle.row_cursor.specs.CursorTexts.{cursor_text, IsC2Text, IsCursorText}
 use Rattle.spanner_engine.specs.Begun.{row_kept}
-use Rattle.spanner_engine.specs.Passing.{Check, IsPassingPage, passing}
-use Rattle.session_server.proofs.Giving.{has_passing}
+use Rattle.spanner_model.specs.Passing.{Check, IsPassingPage, passing}
+use Rattle.spanner_engine.proofs.PassingLaws.{has_passing}
 use Rattle.rematch_program.specs.declared.TheConstants.{DOCUMENT_LIMIT}
 use Rattle.rematch_program.specs.Pages.{AllFit, CursorFits, IsAfter}
 use Rattle.rematch_program.specs.Testing.{IsPassingPageOf}

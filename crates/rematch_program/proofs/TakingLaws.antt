@@ -2,7 +2,7 @@
 use Rattle.std.proofs.Common.{◌≡◌, ℕ, ◌+◌, ◌-◌, ◌*◌, ◌≤◌, Bool, true, false, List, [], ◌∷◌, ◌++◌, length, take, if◌then◌else◌, refl, sym, ap, ◌∙◌, subst, arith, length-append}
 use Rattle.spanner_model.specs.Captures.{VarName}
 use Rattle.spanner_model.specs.Answers.{SpanRow}
-use Rattle.spanner_engine.specs.Passing.{Check, passing}
+use Rattle.spanner_model.specs.Passing.{Check, passing}
 use Rattle.rematch_program.specs.Work.{clock}
 use Rattle.rematch_program.specs.Steps.{next_steps}
 use Rattle.rematch_program.specs.Taking.{PageTakes, TrialTakes}

@@ -6,9 +6,11 @@ use Rattle.spanner_model.specs.Captures.{VarName}
 use Rattle.spanner_model.specs.Expression.{QueryTree}
 use Rattle.spanner_model.specs.Answers.{SpanRow}
 use Rattle.query_parser.specs.declared.fault.QueryFault.{QueryFault}
-use Rattle.query_parser.specs.Tested.{TestedTree, IsTestedText}
+use Rattle.query_parser.specs.Tested.{IsTestedText}
+use Rattle.spanner_model.specs.Tested.{TestedTree}
 use Rattle.query_parser.specs.TestedLaws.{plain}
-use Rattle.spanner_engine.specs.Passing.{Known, FirstUnknown, HasFaultUnder, of_text, unknown_test, IsOnlyTested, checks_of}
+use Rattle.spanner_model.specs.Passing.{Known, checks_of}
+use Rattle.query_parser.specs.Binding.{FirstUnknown, HasFaultUnder, of_text, unknown_test, IsOnlyTested}
 use Rattle.rematch_program.specs.Work.{Work}
 use Rattle.rematch_program.specs.Pages.{IsPageOf}
 use Rattle.rematch_program.specs.Testing.{IsPassingPageOf}

@@ -8,14 +8,15 @@ use Rattle.span_core.specs.declared.kept.Kept.{Kept}
 use Rattle.spanner_model.specs.Captures.{VarName}
 use Rattle.spanner_model.specs.Expression.{QueryTree}
 use Rattle.spanner_model.specs.Answers.{SpanRow, AreResultNames}
-use Rattle.query_parser.specs.Tested.{TestedTree, IsTestedText}
-use Rattle.filter_laws.specs.Touching.{HasMinus}
+use Rattle.query_parser.specs.Tested.{IsTestedText}
+use Rattle.spanner_model.specs.Tested.{TestedTree}
+use Rattle.spanner_engine.specs.Touching.{HasMinus}
 use Rattle.trial_maker.specs.Trial.{trial_text}
 use Rattle.rematch_program.specs.declared.TheConstants.{QUERY_LIMIT, DOCUMENT_LIMIT}
 use Rattle.rm_outside.specs.Change.{Change, Adds, Failed}
 use Rattle.rematch_program.specs.Work.{Clock}
 use Rattle.spanner_engine.specs.Begun.{AreRead, HasHeavyAtom, row_kept, table_weight}
-use Rattle.spanner_engine.specs.Passing.{AreKnown, Check, Known, checks_of}
+use Rattle.spanner_model.specs.Passing.{AreKnown, Check, Known, checks_of}
 use Rattle.rematch_program.specs.Limits.{PartsAreSmall}
 use Rattle.note_texts.specs.Notes.{line}
 use Rattle.rematch_program.specs.Pages.{IsAfter, CursorFits, page_text, last_note}

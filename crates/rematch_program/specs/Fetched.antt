@@ -6,7 +6,7 @@ use Rattle.span_core.specs.Lists.{AreDistinct}
 use Rattle.command_line.specs.RequestView.{RequestView, Query, Itself, HeldBy, requested}
 use Rattle.command_line.specs.declared.request.Mode.{Mode}
 use Rattle.command_line.specs.declared.request.Mode.TheVariants as mode
-use Rattle.spanner_engine.specs.Passing.{Known}
+use Rattle.spanner_model.specs.Passing.{Known}
 use Rattle.rm_outside.specs.Change.{Change}
 use Rattle.rematch_program.specs.Work.{Clock}
 use Rattle.rematch_program.specs.Run.{Text, Shelved, IsUntouched, RunTested}

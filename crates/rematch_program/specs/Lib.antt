@@ -13,7 +13,6 @@ pub mod Resume
 pub mod Examples
 pub mod Testing
 pub mod WithoutTests
-pub mod All
 -- what the functions inside promise each other
 pub mod Kept
 pub mod Taking

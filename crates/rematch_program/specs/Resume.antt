@@ -4,7 +4,7 @@ use Rattle.std.specs.List.{All}
 use Rattle.command_line.specs.RequestView.{cursor_of}
 use Rattle.span_core.specs.declared.kept.Kept.{Kept}
 use Rattle.spanner_engine.specs.Begun.{row_kept}
-use Rattle.spanner_engine.specs.Passing.{Check, ArePassing, IsPassingPage}
+use Rattle.spanner_model.specs.Passing.{Check, ArePassing, IsPassingPage}
 use Rattle.spanner_model.specs.Captures.{VarName}
 use Rattle.spanner_model.specs.Expression.{QueryTree}
 use Rattle.spanner_model.specs.Sound.{IsSound}

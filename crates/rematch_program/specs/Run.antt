@@ -14,7 +14,8 @@ use Rattle.spanner_model.specs.Captures.{VarName}
 use Rattle.spanner_model.specs.Expression.{QueryTree}
 use Rattle.spanner_model.specs.Answers.{SpanRow, AreResultNames}
 use Rattle.query_parser.specs.declared.fault.QueryFault.{QueryFault}
-use Rattle.query_parser.specs.Tested.{TestedTree, IsTestedText}
+use Rattle.query_parser.specs.Tested.{IsTestedText}
+use Rattle.spanner_model.specs.Tested.{TestedTree}
 use Rattle.row_cursor.specs.CursorTexts.{IsCursorText}
 use Rattle.rematch_program.specs.declared.TheConstants.{QUERY_LIMIT, DOCUMENT_LIMIT}
 use Rattle.marked_automaton.specs.declared.fault.SizeFault.TheVariants.{States, Ways}
@@ -22,13 +23,15 @@ use Rattle.marked_automaton.specs.Automaton.{Marked}
 use Rattle.query_automaton.specs.CompiledQuery.{IsCompiled}
 use Rattle.query_automaton.specs.Parts.{AtomsAreSmall, HasLargePart}
 use Rattle.trial_maker.specs.Trial.{trial_text}
-use Rattle.filter_laws.specs.Touching.{HasMinus}
+use Rattle.spanner_engine.specs.Touching.{HasMinus}
 use Rattle.rm_outside.specs.Change.{Change, IsQuiet, Adds, AddsPart, Failed}
 use Rattle.rematch_program.specs.Work.{Clock, Work, clock, work, StandsStill, DidNothing}
 use Rattle.rematch_program.specs.Testing.{AreAllPassing, IsPassingPageOf, PageKeeps, TrialKeeps, explain_tested}
 use Rattle.spanner_engine.specs.Begun.{AreRead, HasHeavyAtom, IsPast, IsReadWithin, KeepsOther, begin_steps, row_kept, table_weight}
 use Rattle.spanner_engine.specs.Filtering.{AreWithin}
-use Rattle.spanner_engine.specs.Passing.{AreKnown, Check, Known, HasFaultUnder, IsOnlyTested, checks_of, known}
+use Rattle.spanner_model.specs.Passing.{AreKnown, Check, Known, checks_of, known}
+use Rattle.query_parser.specs.Binding.{HasFaultUnder, IsOnlyTested}
+use Rattle.note_texts.specs.Outcomes.{Is, IsOutOfMemory, Reports}
 use Rattle.note_texts.specs.Notes.{counted, fault_note, filter_note, line, other_document_note, states_note, table_note, ways_note}
 use Rattle.rematch_program.specs.Steps.{KeepsWithin}
 use Rattle.rematch_program.specs.Trials.{trial_summary}
@@ -84,14 +87,6 @@ pub record IsOnlyFault (k : Known) (text : Text) (fault : QueryFault) : Type 0 w
   pub found : HasFaultUnder k text fault
   pub only : (other : QueryFault) → HasFaultUnder k text other → other ≡ fault
   pub unsound : (t : TestedTree) → IsTestedText text t → ¬ AreKnown k t.asked
-
--- a status with its note, before the note is written
-pub record Is (end : Status) (note : Text) (wanted : Status) (text : Text) : Type 0 where
-  pub ends : end ≡ wanted
-  pub says : note ≡ line text
-
-abbrev pub IsOutOfMemory : Status → Text → Type 0
-IsOutOfMemory end note = Is end note status.Memory (codes "out of memory")
 
 -- an automaton of the query is too large, or memory is wanting
 pub data IsTooLarge (q : QueryTree) (end : Status) (note : Text) : Type 0 where
@@ -215,16 +210,6 @@ module _ (s : Shelved) (w : Work) (end : Status) (note : Text) where
       accepted : (a : RequestView) → requested words ≡ Some a → FromRequest a → FromWords words
 
 -- ---- the run
-
--- a page whose note failed is a failed write
-abbrev pub status_without_note : Status → Status
-status_without_note status.Done = status.Write
-status_without_note end = end
-
--- the note is written, or notes failed and a prefix of it is
-pub data Reports (end : Status) (note : Text) (notes : Change) (result : Status) : Type 0 where
-  whole : result ≡ end → Adds notes note → Reports end note notes result
-  cut : result ≡ status_without_note end → Failed notes → AddsPart notes note → Reports end note notes result
 
 -- a run under the tests that are known
 pub record RunTested (k : Known) (words : List Text) (s : Shelved) (out notes : Change) (steps : Clock) (result : Status) : Type 0 where

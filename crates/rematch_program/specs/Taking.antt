@@ -4,7 +4,7 @@ use Rattle.command_line.specs.RequestView.{RequestView}
 use Rattle.spanner_model.specs.Captures.{VarName}
 use Rattle.spanner_model.specs.Answers.{SpanRow}
 use Rattle.spanner_engine.specs.Left.{RowsLeft, checks_over, passing_over}
-use Rattle.spanner_engine.specs.Passing.{Check, passing}
+use Rattle.spanner_model.specs.Passing.{Check, passing}
 use Rattle.rematch_program.specs.Work.{Clock, TakesAtMost}
 use Rattle.rematch_program.specs.Pages.{first_rows, last_note, page_text}
 use Rattle.rematch_program.specs.Steps.{row_steps}

@@ -4,11 +4,11 @@ use Rattle.std.specs.Prelude.{◌≡◌, ℕ, ◌+◌, ◌*◌, ◌≤◌, Bool,
 use Rattle.spanner_model.specs.Captures.{VarName}
 use Rattle.spanner_model.specs.Expression.{QueryTree}
 use Rattle.spanner_model.specs.Answers.{SpanRow, AreAnswers}
-use Rattle.query_parser.specs.Tested.{TestedTree}
+use Rattle.spanner_model.specs.Tested.{TestedTree}
 use Rattle.query_printer.specs.PrintedTested.{tested_text}
 use Rattle.spanner_engine.specs.Begun.{begin_steps}
 use Rattle.spanner_engine.specs.Left.{AreLeft}
-use Rattle.spanner_engine.specs.Passing.{Check, ArePassing, IsPassingPage, passing}
+use Rattle.spanner_model.specs.Passing.{Check, ArePassing, IsPassingPage, passing}
 use Rattle.rematch_program.specs.Work.{Clock}
 use Rattle.rematch_program.specs.Explained.{atom_lines, names_text, query_atoms}
 use Rattle.note_texts.specs.Notes.{line}

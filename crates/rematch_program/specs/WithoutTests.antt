@@ -7,7 +7,7 @@ use Rattle.spanner_model.specs.Expression.{QueryTree}
 use Rattle.spanner_model.specs.Answers.{SpanRow, AreAnswers}
 use Rattle.query_parser.specs.Tested.{IsTestedText}
 use Rattle.query_parser.specs.TestedLaws.{plain}
-use Rattle.spanner_engine.specs.Passing.{Known}
+use Rattle.spanner_model.specs.Passing.{Known}
 use Rattle.rematch_program.specs.Work.{Clock, Work}
 use Rattle.rematch_program.specs.Explained.{explain_text}
 use Rattle.rematch_program.specs.Pages.{IsPageOf}

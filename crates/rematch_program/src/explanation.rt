@@ -5,7 +5,7 @@ ghost use Rattle.spanner_model.specs.ExprView.{expr_of, exprs_of, query_of};
 ghost use Rattle.spanner_model.specs.View.{tree_of, atom_of};
 ghost use Rattle.spanner_model.specs.Sound.{IsSound};
 ghost use Rattle.spanner_model.specs.Answers.{AreResultNames};
-ghost use Rattle.query_parser.specs.TestedView.{tested_of};
+ghost use Rattle.spanner_model.specs.Tested.{tested_of};
 ghost use Rattle.rm_outside.specs.Change.{change};
 ghost use Rattle.rematch_program.specs.Work.{work, clock, StandsStill};
 ghost use Rattle.rematch_program.specs.Explained.{AreCounted, HasLines, IsCounted, atoms_among, atoms_in, atoms_of, names_text};
@@ -13,14 +13,12 @@ ghost use Rattle.note_texts.specs.Notes.{line, note_bytes};
 ghost use Rattle.rematch_program.specs.Run.{FromPage, IsExplained};
 ghost use Rattle.rematch_program.specs.Testing.{explain_tested};
 
-use crate::outcome::Outcome;
-use note_texts::FixedNote;
+use note_texts::{FixedNote, Outcome};
 use place_automaton::{Counts, count};
-use query_parser::Tested;
 use query_printer::print_tested;
 use rm_outside::{Sink, SinkFailed, Status};
 use span_core::{OutOfMemory, VarSet};
-use spanner_model::{Atom, Expr, Exprs, Query, variables};
+use spanner_model::{Atom, Expr, Exprs, Query, Tested, variables};
 use std::alloc::Global;
 
 /// Puts the lines that explain a query with its tests, all at once. No automaton is made.

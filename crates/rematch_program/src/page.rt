@@ -12,11 +12,10 @@ ghost use Rattle.rematch_program.specs.Taking.{PageTaken, coming, page_note as n
 ghost use Rattle.rematch_program.specs.Work.{clock, work, Passes};
 ghost use Rattle.rematch_program.specs.Written.{EndsPage, IsOver, lines_of};
 
-use crate::outcome::Outcome;
 use crate::page_writer::{PageFault, PageWriter};
 use crate::remaining::Remaining;
 use command_line::Request;
-use note_texts::{FixedNote, Note, NoteLine};
+use note_texts::{FixedNote, Note, NoteLine, Outcome};
 use rm_outside::{Sink, SinkFailed, Status};
 use span_core::{OutOfMemory, Row, Steps, VarSet};
 use span_tests::Judge;

@@ -10,8 +10,7 @@ ghost use Rattle.rematch_program.specs.Taking.{AllTaken, coming};
 ghost use Rattle.rematch_program.specs.Trials.{last_of, summary_row, trial_summary};
 ghost use Rattle.trial_maker.specs.Summary.{number_line, row_line};
 
-use crate::outcome::Outcome;
-use note_texts::FixedNote;
+use note_texts::{FixedNote, Outcome};
 use rm_outside::{Sink, SinkFailed, Status};
 use row_writer::spans_line;
 use span_core::{OutOfMemory, Row, Steps, VarSet};

@@ -2,47 +2,44 @@
 //!
 //! One function a stage, each with the type of its stage in `specs/Run.antt` as its one clause; a stage either ends the
 //! run with a status and a note or hands what it has to the next.
-ghost use Rattle.std.specs.Prelude.{◌≡◌, ◌≤◌, ◌⊎◌, None, map, string_bytes, length, true, IfErr, IfOk, IfSome, IsErrOf, OnOk};
-ghost use Rattle.std.specs.Bool.{OnFalse};
+ghost use Rattle.std.specs.Prelude.{◌≡◌, ◌≤◌, None, map, string_bytes, length, true, IfErr, IfOk, IfSome, IsErrOf, OnOk};
 ghost use Rattle.std.specs.Option.{option_copied};
 ghost use Rattle.rm_outside.specs.Shelf.{ByLength};
 ghost use Rattle.command_line.specs.RequestView.{request_view};
 ghost use Rattle.spanner_model.specs.ExprView.{query_of};
 ghost use Rattle.spanner_model.specs.Sound.{IsSound};
 ghost use Rattle.spanner_model.specs.Answers.{AreResultNames};
-ghost use Rattle.query_parser.specs.Tested.{IsTestedText, TestedTree};
-ghost use Rattle.query_parser.specs.TestedView.{tested_of};
+ghost use Rattle.query_parser.specs.Tested.{IsTestedText};
+ghost use Rattle.spanner_model.specs.Tested.{TestedTree, tested_of};
 ghost use Rattle.query_automaton.specs.Parts.{AtomsAreSmall};
 ghost use Rattle.spanner_engine.specs.Begun.{begin_steps, row_kept};
 ghost use Rattle.spanner_engine.specs.Left.{AreLeft};
-ghost use Rattle.spanner_engine.specs.Passing.{AreKnown, checks_of, known};
+ghost use Rattle.spanner_model.specs.Passing.{AreKnown, checks_of, known};
 ghost use Rattle.trial_maker.specs.Trial.{trial_text};
 ghost use Rattle.command_line.specs.declared.TheConstants.{MOST_TRIAL_LINES};
 ghost use Rattle.rematch_program.specs.declared.TheConstants.{DOCUMENT_LIMIT};
 ghost use Rattle.rm_outside.specs.Change.{change};
 ghost use Rattle.rematch_program.specs.Work.{clock, work};
-ghost use Rattle.note_texts.specs.Notes.{fault_note, note_bytes, size_note};
+ghost use Rattle.note_texts.specs.Notes.{note_bytes};
 ghost use Rattle.rematch_program.specs.Steps.{KeepsWithin};
 ghost use Rattle.rematch_program.specs.Pages.{CursorFits, HasWidth, IsAfter};
 ghost use Rattle.rematch_program.specs.Complete.{Completes};
-ghost use Rattle.rematch_program.specs.Run.{FetchFailed, Fetches, FromRequest, FromCursor, FromDocument, FromPlace, FromQuery, FromText, FromWords, Gives, Is, IsHeldWithin, IsNotBegun, IsOutOfMemory, IsTooLarge, Reports, Run, RunTested, none_known, shelved};
+ghost use Rattle.rematch_program.specs.Run.{FetchFailed, Fetches, FromRequest, FromCursor, FromDocument, FromPlace, FromQuery, FromText, FromWords, Gives, IsHeldWithin, IsNotBegun, IsTooLarge, Run, RunTested, none_known, shelved};
 
 use crate::explanation::write_explanation;
-use crate::outcome::Outcome;
 use crate::page::write_page;
 use crate::summary::write_summary;
 use crate::untested::NoJudge;
 use crate::{DOCUMENT_LIMIT, QUERY_LIMIT};
 use command_line::{Mode, QuerySource, Request, WordsFault, read_request};
-use marked_automaton::SizeFault;
-use note_texts::{FixedNote, Note};
-use query_parser::{QueryFault, Tested, read_tested};
+use note_texts::{FixedNote, Note, Outcome};
+use query_parser::{bind, read_tested};
 use rm_outside::{FetchFault, Shelf, Sink, Status};
 use row_cursor::CursorFault;
 use span_core::{Kept, OutOfMemory, Steps};
 use span_tests::{Judge, Tests};
-use spanner_engine::{Answers, BeginFault, Compiled, Options, TestedRows, begin, bind, compile};
-use spanner_model::Query;
+use spanner_engine::{Answers, BeginFault, Compiled, Options, TestedRows, begin, compile};
+use spanner_model::{Query, Tested};
 use std::alloc::Global;
 use std::sync::ledger::Ledger;
 use trial_maker::trial;
@@ -107,19 +104,7 @@ pub fn run_tested<S: Shelf, O: Sink, N: Sink, J: Judge, L: Ledger>(
         result }
 {
     let outcome = with_words(alloc, words, tests, shelf, out, steps);
-    report(&outcome, notes)
-}
-
-/// Writes the note.
-fn report<N: Sink>(outcome: &Outcome, notes: &mut N) -> Status
-    ensures { Reports outcome.now.status (note_bytes outcome.now.note)
-        (change (N.told notes.old) (N.told notes.new))
-        result }
-{
-    match (notes.put(outcome.note.as_bytes()), outcome.status) {
-        (Err(_), Status::Done) => Status::Write,
-        (_, status) => status,
-    }
+    outcome.report(notes)
 }
 
 /// All the work but the note.
@@ -189,28 +174,12 @@ fn with_text<S: Shelf, O: Sink, J: Judge, L: Ledger>(
 {
     let tested = match read_tested(alloc, text) {
         Ok(tested) => tested,
-        Err(fault) => return refused(alloc, fault),
+        Err(fault) => return Outcome::of_query(alloc, &fault),
     };
     match bind(&tested, tests) {
         Ok(()) => with_query(alloc, request, &tested, tests, shelf, out, steps),
-        Err(fault) => refused(alloc, fault),
+        Err(fault) => Outcome::of_query(alloc, &fault),
     }
-}
-
-/// The query's text has a fault, which the note tells.
-fn refused(alloc: Global, fault: QueryFault) -> Outcome
-    ensures { ((¬ (fault ≡ QueryFault.OutOfMemory)) × Is result.status (note_bytes result.note) Status.Query (fault_note fault)) ⊎ IsOutOfMemory result.status (note_bytes result.note) }
-{
-    if wants_memory(&fault) {
-        return Outcome::out_of_memory();
-    }
-    Outcome::with(alloc, Status::Query, &Note::Query(&fault))
-}
-
-fn wants_memory(fault: &QueryFault) -> bool
-    ensures { OnFalse result (¬ (fault.now ≡ QueryFault.OutOfMemory)) }
-{
-    matches!(fault, QueryFault::OutOfMemory)
 }
 
 /// What the query is, or the answers that are asked for.
@@ -277,24 +246,8 @@ fn compiled_query<'q>(alloc: Global, query: &'q Query) -> Result<Compiled<'q>, O
 {
     match compile(alloc, query) {
         Ok(compiled) => Ok(compiled),
-        Err(fault) => Err(too_large(alloc, &fault)),
+        Err(fault) => Err(Outcome::of_size(alloc, &fault)),
     }
-}
-
-/// An automaton of the query is too large, which the note tells.
-fn too_large(alloc: Global, fault: &SizeFault) -> Outcome
-    ensures { ((¬ (fault.now ≡ SizeFault.OutOfMemory)) × Is result.status (note_bytes result.note) Status.Size (size_note fault.now)) ⊎ IsOutOfMemory result.status (note_bytes result.note) }
-{
-    if size_wants_memory(fault) {
-        return Outcome::out_of_memory();
-    }
-    Outcome::with(alloc, Status::Size, &Note::Size(fault))
-}
-
-fn size_wants_memory(fault: &SizeFault) -> bool
-    ensures { OnFalse result (¬ (fault.now ≡ SizeFault.OutOfMemory)) }
-{
-    matches!(fault, SizeFault::OutOfMemory)
 }
 
 /// The cursor is read.

@@ -23,7 +23,7 @@ use Rattle.place_automaton.specs.Words.{atom_automaton, closing_of, opening_of}
 use Rattle.place_automaton.proofs.Ranges.{places_lie}
 use Rattle.place_automaton.specs.Variables.{with_vars}
 use Rattle.place_automaton.proofs.NameLists.{list_ascends, vars_are}
-use Rattle.filter_laws.specs.Sharing.{from_the_start}
+use Rattle.segment_filter.specs.Sharing.{from_the_start}
 use Rattle.segment_filter.specs.Costs.{CostAs, backward_of, forward_of}
 use Rattle.segment_filter.specs.Readings.{CanEnd, HasStepsOf, StepsTo, moves_on, turned}
 use Rattle.segment_filter.specs.Sets.{TakesNone}

@@ -7,7 +7,8 @@ use Rattle.span_core.specs.Lists.{Has}
 use Rattle.span_core.proofs.ListLaws.{get_set_same, zeros, either_part}
 use Rattle.marked_automaton.proofs.Listed.{some_same}
 use Rattle.automaton_reading.specs.Reading.{Reach, LookUp, byte_read, edges}
-use Rattle.set_table.specs.Tabled.{Tabled, look_up, once_asked, set_at}
+use Rattle.set_table.specs.Tabled.{Tabled, look_up, once_asked}
+use Rattle.numbered_lists.specs.Numbered.{set_at}
 use Rattle.set_table.proofs.OnceLaws.{holds_once, once_stay}
 use Rattle.segment_filter.specs.Dense.{AreTold, GoesTo, target_told}
 use Rattle.segment_filter.specs.Next.{IsNext, IsTarget}

@@ -4,7 +4,8 @@ use Rattle.set_table.proofs.OnceLaws.{holds_once}
 use Rattle.span_core.specs.declared.edge.Edge.{Edge}
 use Rattle.span_core.specs.Lists.{Has}
 use Rattle.automaton_reading.specs.Reading.{Reach, LookUp, byte_read, edges}
-use Rattle.set_table.specs.Tabled.{HasEdges, IsTabled, Tabled, asked_first, edge_named, look_up, once_asked, set_at, was_asked, weight}
+use Rattle.set_table.specs.Tabled.{HasEdges, IsTabled, Tabled, asked_first, edge_named, look_up, once_asked, was_asked, weight}
+use Rattle.numbered_lists.specs.Numbered.{set_at}
 use Rattle.segment_filter.specs.Next.{IsNext, IsTarget, first_target}
 
 target_is : (t : Tabled) (es : List Edge) (rs : List Reach) → map (edge_named t.sets) es ≡ rs → ((e : Edge) → Has es e → e.to < length t.sets) → IsTarget t.sets rs (first_target es)

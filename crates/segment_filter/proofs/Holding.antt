@@ -12,7 +12,8 @@ use Rattle.marked_automaton.proofs.Listed.{some_same}
 use Rattle.automaton_reading.specs.Reading.{Question, Reach, LookUp, byte_read, edges, next_sets, once, reach_with, look_up_edges, look_up_same, look_ups_asked, set_of, ways_taken}
 use Rattle.automaton_reading.proofs.Matching.{has_once, match_sum, once_distinct}
 use Rattle.automaton_reading.proofs.MeasureLaws.{bytes_itself, look_up_itself, same_bytes, same_look_up}
-use Rattle.set_table.specs.Tabled.{Tabled, look_up, look_ups_weight, once_asked, set_at, weight}
+use Rattle.set_table.specs.Tabled.{Tabled, look_up, look_ups_weight, once_asked, weight}
+use Rattle.numbered_lists.specs.Numbered.{set_at}
 use Rattle.set_table.proofs.OnceLaws.{HoldsOnce, holds_once, once_sets_stay, once_stay}
 use Rattle.segment_filter.specs.Next.{IsNext, IsTarget}
 use Rattle.segment_filter.specs.Sets.{TakesNone}

@@ -1,5 +1,10 @@
 pub mod Shares
 pub mod SetLaws
+pub mod PassLaws
+pub mod AtomParts
+pub mod GapReading
+pub mod AtomWaiting
+pub mod SharingLaws
 pub mod ReadingLaws
 pub mod Holding
 pub mod WeightLaws

@@ -8,12 +8,13 @@ use Rattle.span_core.specs.Lists.{Has, IsInOrder}
 use Rattle.marked_automaton.specs.Automaton.{Automaton}
 use Rattle.marked_automaton.proofs.Listed.{compared}
 use Rattle.automaton_reading.specs.Reading.{byte_read}
-use Rattle.filter_laws.specs.Idling.{IsLed}
+use Rattle.segment_filter.specs.Idling.{IsLed}
 use Rattle.segment_filter.specs.declared.comparing.Compared.{Compared}
 use Rattle.segment_filter.specs.Remembered.{AreRemembered, IsRemembered}
 use Rattle.segment_filter.specs.Sets.{Extends, Grows, HaveShared, IsAt, MeetAt, ReadsAll, TakesNone}
 use Rattle.segment_filter.specs.Next.{IsNext}
-use Rattle.set_table.specs.Tabled.{IsTabled, Tabled, look_up, once_asked, set_at}
+use Rattle.set_table.specs.Tabled.{IsTabled, Tabled, look_up, once_asked}
+use Rattle.numbered_lists.specs.Numbered.{set_at}
 use Rattle.segment_filter.proofs.SetLaws.{AreLed, at_next, at_none, at_start, byte_back, grows_asked, grows_twice, led_grows, led_more, meet_is}
 
 -- ---- from the end

@@ -28,13 +28,13 @@ use Rattle.place_automaton.proofs.WholeLaws.{whole_law}
 use Rattle.place_automaton.specs.Atom.{AreBytes, after_ways, automaton_of_places, place_stops, way_after}
 use Rattle.place_automaton.proofs.AtomRuns.{after_there, first_there, follow_there, way_cases}
 use Rattle.place_automaton.proofs.Ranges.{LiesFrom, places_lie}
-use Rattle.filter_laws.specs.Idling.{IsLed, LeadsOut, Passes}
+use Rattle.segment_filter.specs.Idling.{IsLed, LeadsOut, Passes}
 use Rattle.segment_filter.specs.Readings.{CanEnd, HasStepsOf, StepsTo, moves_on, turned}
 use Rattle.segment_filter.specs.Sets.{AreReadingsOf, MeetAt, TakesNone}
-use Rattle.filter_laws.specs.Sharing.{places_of}
-use Rattle.filter_laws.specs.Touching.{IsTouchedBy}
-use Rattle.filter_laws.proofs.PassLaws.{pass_on}
-use Rattle.filter_laws.proofs.SharingLaws.{sharing_law}
+use Rattle.segment_filter.specs.Sharing.{places_of}
+use Rattle.segment_filter.specs.Touching.{IsTouchedBy}
+use Rattle.segment_filter.proofs.PassLaws.{pass_on}
+use Rattle.segment_filter.proofs.SharingLaws.{sharing_law}
 
 -- ---- walks by steps
 

@@ -14,12 +14,13 @@ use Rattle.marked_automaton.proofs.Listed.{some_same}
 use Rattle.marked_automaton.proofs.Passing.{filter_cases}
 use Rattle.automaton_reading.specs.Reading.{Reach, LookUp, blocks_down, byte_read, edges, is_among, put_down, reach_with, set_of, ways_taken}
 use Rattle.automaton_reading.proofs.Determined.{edge_way, has_block, has_set, set_has, way_edge}
-use Rattle.filter_laws.specs.Idling.{IsLed, Passes}
+use Rattle.segment_filter.specs.Idling.{IsLed, Passes}
 use Rattle.segment_filter.specs.Sets.{Extends, Grows, HaveShared, IsAt, MeetAt, ReadsAll, TakesNone}
 use Rattle.segment_filter.specs.Next.{IsNext, IsTarget}
-use Rattle.set_table.specs.Tabled.{IsTabled, Tabled, once_asked, set_at}
+use Rattle.set_table.specs.Tabled.{IsTabled, Tabled, once_asked}
+use Rattle.numbered_lists.specs.Numbered.{set_at}
 use Rattle.set_table.proofs.OnceLaws.{holds_once, once_set, once_sets_count}
-use Rattle.filter_laws.proofs.PassLaws.{led_on, pass_cut}
+use Rattle.segment_filter.proofs.PassLaws.{led_on, pass_cut}
 
 -- a way leads from a member to q on the byte
 abbrev pub LeadsTo : Automaton → List ℕ → ℕ → ℕ → Type 0

@@ -17,7 +17,8 @@ use Rattle.segment_filter.specs.declared.fault.FilterFault.{FilterFault}
 use Rattle.segment_filter.specs.declared.fault.FilterFault.TheVariants.{Full, OutOfMemory}
 use Rattle.segment_filter.specs.Sets.{IsFullBy, TakesNone}
 use Rattle.segment_filter.specs.Next.{IsNext, IsTarget}
-use Rattle.set_table.specs.Tabled.{IsTabled, Tabled, asked_first, fresh, look_up, look_ups_weight, once_asked, reached, set_at, sets_weight, was_asked, weight}
+use Rattle.set_table.specs.Tabled.{IsTabled, Tabled, asked_first, fresh, look_up, look_ups_weight, once_asked, reached, sets_weight, was_asked, weight}
+use Rattle.numbered_lists.specs.Numbered.{set_at}
 use Rattle.set_table.proofs.OnceLaws.{holds_once, once_asked_apart, once_was}
 use Rattle.segment_filter.specs.Weights.{IsFullWithin, bytes_read, reading_look_ups, reading_weight, sets_asked, sets_read}
 use Rattle.segment_filter.proofs.Holding.{HoldsAll, IsHolding, holding_all, holding_ends, holding_next, holding_starts, weight_no_less}

@@ -9,7 +9,7 @@ use Rattle.marked_automaton.specs.Marks.{remarked}
 use Rattle.automaton_reading.specs.Reading.{Question, byte_read, next_sets, once, set_of}
 use Rattle.place_automaton.specs.Words.{atom_automaton}
 use Rattle.place_automaton.specs.Variables.{with_vars}
-use Rattle.filter_laws.specs.Sharing.{from_the_start}
+use Rattle.segment_filter.specs.Sharing.{from_the_start}
 use Rattle.segment_filter.specs.Weights.{both_weigh, reading_look_ups, reading_weight}
 
 -- forwards: the atom's automaton without markers

@@ -1,7 +1,7 @@
 -- What comparing sets told.
 use Rattle.std.specs.Prelude.{ℕ, ◌<◌, Bool, List, length, get_or, ◌↔◌, Some, Option, None, IsTrue}
 use Rattle.segment_filter.specs.declared.comparing.Compared.{Compared}
-use Rattle.set_table.specs.Tabled.{set_at}
+use Rattle.numbered_lists.specs.Numbered.{set_at}
 use Rattle.segment_filter.specs.Sets.{HaveShared}
 
 abbrev pub compared : ℕ → ℕ → Bool → Compared

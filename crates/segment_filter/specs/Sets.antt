@@ -5,12 +5,13 @@ use Rattle.marked_automaton.specs.declared.way.Way.{Way}
 use Rattle.marked_automaton.specs.Automaton.{Automaton}
 use Rattle.segment_filter.specs.declared.fault.FilterFault.{FilterFault}
 use Rattle.segment_filter.specs.declared.fault.FilterFault.TheVariants.{Full, OutOfMemory}
-use Rattle.filter_laws.specs.Idling.{IsLed}
+use Rattle.segment_filter.specs.Idling.{IsLed}
 use Rattle.spanner_model.specs.Expression.{AtomTree}
 use Rattle.place_automaton.specs.Atom.{AreBytes}
-use Rattle.filter_laws.specs.Touching.{IsTouchedBy}
+use Rattle.segment_filter.specs.Touching.{IsTouchedBy}
 use Rattle.automaton_reading.specs.Reading.{LookUp}
-use Rattle.set_table.specs.Tabled.{Tabled, asked_first, set_at, was_asked, weight}
+use Rattle.set_table.specs.Tabled.{Tabled, asked_first, was_asked, weight}
+use Rattle.numbered_lists.specs.Numbered.{set_at}
 
 -- no way takes markers, so that a set has one edge at most on a byte
 abbrev pub TakesNone : Automaton → Type 0

@@ -3,7 +3,7 @@
 //! A document has few pairs of sets and many positions, so what a comparison told is remembered, in one of 4,096
 //! places that its two numbers choose. A pair that finds another in its place takes it.
 ghost use Rattle.std.specs.Prelude.{◌≡◌, ◌<◌, ◌↔◌, ℕ, List, length, IfOk, IfSome, IsTrue, Some};
-ghost use Rattle.set_table.specs.Tabled.{set_at};
+ghost use Rattle.numbered_lists.specs.Numbered.{set_at};
 ghost use Rattle.segment_filter.specs.Sets.{HaveShared};
 ghost use Rattle.segment_filter.specs.declared.comparing.TheConstants.{PLACES};
 ghost use Rattle.segment_filter.specs.Remembered.{AreRemembered, compared};

@@ -7,7 +7,8 @@ ghost use Rattle.marked_automaton.specs.Automaton.{size};
 ghost use Rattle.automaton_reading.specs.Reading.{byte_read};
 ghost use Rattle.segment_filter.specs.Sets.{IsFullBy};
 ghost use Rattle.segment_filter.specs.Next.{IsNext};
-ghost use Rattle.set_table.specs.Tabled.{IsRefusal, IsStateSet, IsTabled, fresh, look_up, once_asked, set_at, was_asked, weight};
+ghost use Rattle.set_table.specs.Tabled.{IsRefusal, IsStateSet, IsTabled, fresh, look_up, once_asked, was_asked, weight};
+ghost use Rattle.numbered_lists.specs.Numbered.{set_at};
 
 use crate::FilterFault;
 use crate::targets::asked_target;

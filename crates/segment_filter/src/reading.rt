@@ -6,7 +6,8 @@ ghost use Rattle.std.specs.Prelude.{◌≡◌, ℕ, ◌+◌, ◌*◌, ◌^◌, �
 ghost use Rattle.span_core.specs.Intervals.{Covers};
 ghost use Rattle.span_core.specs.Lists.{IsInOrder};
 ghost use Rattle.marked_automaton.specs.Automaton.{size};
-ghost use Rattle.set_table.specs.Tabled.{fresh, set_at, weight};
+ghost use Rattle.set_table.specs.Tabled.{fresh, weight};
+ghost use Rattle.numbered_lists.specs.Numbered.{set_at};
 ghost use Rattle.segment_filter.specs.Weights.{IsFullWithin, reading_look_ups, reading_weight};
 ghost use Rattle.segment_filter.specs.SetNumbers.{numbers_of};
 ghost use Rattle.segment_filter.specs.declared.comparing.TheConstants.{PLACES};

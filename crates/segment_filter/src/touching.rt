@@ -12,7 +12,7 @@ ghost use Rattle.span_core.specs.Lists.{AtMost};
 ghost use Rattle.spanner_model.specs.View.{tree_of, atom_of};
 ghost use Rattle.spanner_model.specs.WellBuilt.{IsWellBuilt};
 ghost use Rattle.segment_filter.specs.Costs.{atom_weight, readings_weight, touching_steps};
-ghost use Rattle.filter_laws.specs.Touching.{IsTouchedBy};
+ghost use Rattle.segment_filter.specs.Touching.{IsTouchedBy};
 
 use crate::FilterFault;
 use crate::dense::DenseTable;

@@ -8,9 +8,10 @@ use Rattle.serde_json.specs.Find.{get, as_number, as_u64}
 use Rattle.span_core.specs.Lists.{Has}
 use Rattle.spanner_model.specs.Captures.{VarName}
 use Rattle.spanner_model.specs.Answers.{SpanRow, AreResultNames, AreAnswers}
-use Rattle.query_parser.specs.Tested.{TestedTree}
+use Rattle.spanner_model.specs.Tested.{TestedTree}
 use Rattle.query_automaton.specs.Parts.{AtomsAreSmall}
-use Rattle.spanner_engine.specs.Passing.{Known, IsOnlyTested}
+use Rattle.spanner_model.specs.Passing.{Known}
+use Rattle.query_parser.specs.Binding.{IsOnlyTested}
 use Rattle.note_texts.specs.Notes.{table_note}
 use Rattle.session_server.specs.declared.TheConstants.{MOST_GROWN, SESSION_TABLE}
 use Rattle.session_server.specs.Requests.{SessionRequest, open_request, next_request, grow_request, close_request, session_id, request_object, IsRequest}

@@ -1,7 +1,7 @@
 -- No more sessions are open than there may be.
 use Rattle.std.proofs.Common.{arith, ◌<◌, ◌≤◌, ℕ, Bool, true, false, List, [], ◌∷◌, length, take, length-append}
 use Rattle.std.specs.Prelude.{not, ◌==◌, if◌then◌else◌}
-use Rattle.spanner_engine.specs.Passing.{Known}
+use Rattle.spanner_model.specs.Passing.{Known}
 use Rattle.session_server.specs.declared.TheConstants.{MOST_SESSIONS}
 use Rattle.session_server.specs.Requests.{SessionRequest, session_id}
 use Rattle.session_server.specs.Replies.{Session, Sessions, without, with_session, changed, begun, giving, growing, asking, to_come, Reply, Answers, taken, full, refused, opens, gives, heavy_next, grows, long, heavy_grown, closes, next_of_none, grow_of_none, close_of_none, wants_memory, to_request, to_no_request, AreReplies, no_line, first_line, FewAreOpen}

@@ -1,15 +1,15 @@
 -- What is held of reading a session's document.
-use Rattle.std.proofs.Common.{arith, zero, suc, ◌≡◌, ◌+◌, ◌<◌, ◌≤◌, ◌^◌, ℕ, Bool, true, false, List, [], ◌∷◌, ◌++◌, length, take, drop, Option, MatchOption, inl, inr, refl, sym, ap, ◌∙◌, subst, length-append}
-use Rattle.std.specs.Prelude.{if◌then◌else◌, map, nat_lt}
-use Rattle.serde_json.specs.View.{view}
-use Rattle.serde_json.specs.declared.value.Value.{Value}
+use Rattle.std.proofs.Common.{arith, zero, suc, ◌≡◌, ◌+◌, ◌<◌, ◌≤◌, ◌^◌, ℕ, Bool, true, false, List, [], ◌∷◌, ◌++◌, length, take, drop, Option, None, Some, MatchOption, inl, inr, refl, sym, ap, ◌∙◌, subst, length-append}
+use Rattle.std.specs.Prelude.{if◌then◌else◌, nat_lt}
+use Rattle.std.specs.Bool.{OnTrue, OnFalse}
+use Rattle.serde_json.specs.Data.{array}
+use Rattle.serde_json.specs.Written.{compact_text}
 use Rattle.span_core.specs.Lists.{Has}
 use Rattle.span_core.proofs.HasLaws.{Has-append_cases, Has-append_left, Has-append_right}
 use Rattle.spanner_model.specs.Captures.{VarName}
 use Rattle.spanner_model.specs.Expression.{QueryTree}
 use Rattle.spanner_model.specs.Answers.{AreAnswers, AreResultNames, SpanRow}
-use Rattle.query_parser.specs.Tested.{TestedTree}
-use Rattle.query_parser.specs.TestedView.{tested_of}
+use Rattle.spanner_model.specs.Tested.{TestedTree, tested_of}
 use Rattle.marked_automaton.specs.Automaton.{Automaton, Marked}
 use Rattle.automaton_reading.specs.Reading.{Question, LookUp}
 use Rattle.query_automaton.specs.CompiledQuery.{IsCompiled}
@@ -25,14 +25,15 @@ use Rattle.growing_document.proofs.Lengths.{lengths_law, reduct_weighs}
 use Rattle.spanner_engine.specs.Begun.{counted}
 use Rattle.spanner_engine.specs.Fitting.{AreLast}
 use Rattle.spanner_engine.specs.Left.{AnswersLeft}
-use Rattle.spanner_engine.specs.Passing.{IsNextPassing, Known, checks_of, passing}
+use Rattle.spanner_engine.specs.Trying.{IsNextPassing}
+use Rattle.spanner_model.specs.Passing.{Known, checks_of, passing}
 use Rattle.spanner_engine.proofs.RowLaws.{whole_rows}
 use Rattle.session_server.specs.declared.TheConstants.{MOST_GROWN, SESSION_TABLE}
 use Rattle.session_server.specs.declared.session.Session.{Session as CodeSession}
 use Rattle.session_server.specs.declared.session.Halt.{Halt}
-use Rattle.session_server.specs.Replies.{IsHeavy, Session, asking, giving, growing, row_data, to_come}
+use Rattle.session_server.specs.Replies.{IsHeavy, Session, asking, giving, growing, json_rows, to_come}
 use Rattle.session_server.specs.Standing.{GivesPage, HasGiven, IsGrowHalt, IsKept, IsReadOn, IsRowsHalt, IsSession, IsSessionOver, IsStartHalt, IsWaiting, halt_of}
-use Rattle.session_server.proofs.Giving.{comes_first}
+use Rattle.session_server.proofs.Giving.{as_option, comes_first}
 
 -- ---- what is held
 
@@ -198,12 +199,15 @@ module _ (k : Known) (c : CodeSession) (s : Session) (h : Grown) (whole old : Li
       subst (λ (t : TestedTree). AreLast t.query e c.vars old) (sym w.kept.query)
       (subst (λ (x : List ℕ). AreLast s.query.query x c.vars old) (sym same) (record { all = old; answers = all_of_them; front = []; joined = refl }))
 
-  pub now_asked : (left : AnswersLeft) (next : Option SpanRow) → AreLast (tested_of c.tested).query e c.vars left.rest →
-      MatchOption next ((passing (checks_of k (tested_of c.tested).asked) c.vars e old ≡ []) × (left.rest ≡ [])) (λ r. IsNextPassing (checks_of k (tested_of c.tested).asked) c.vars e old r left.rest) →
-      (rows : List SpanRow) × IsSessionOver k (record c { growing = h; answers = left; next = next; grown = false }) (asking s) rows
-  now_asked left next last found =
+  pub now_asked : (left : AnswersLeft) (some : Bool) → AreLast (tested_of c.tested).query e c.vars left.rest →
+      OnTrue some (IsNextPassing (checks_of k (tested_of c.tested).asked) c.vars e old left.row left.rest) →
+      OnFalse some ((passing (checks_of k (tested_of c.tested).asked) c.vars e old ≡ []) × (left.rest ≡ [])) →
+      (rows : List SpanRow) × IsSessionOver k (record c { growing = h; answers = left; some = some; grown = false }) (asking s) rows
+  now_asked left some last next_one none =
       let o = w.kept in
       let t = s.query in
+      let next : Option SpanRow = if some then Some left.row else None in
+      let found = as_option some left.row _ _ next_one none in
       let N : TestedTree → List ℕ → Type 0 = λ u x. MatchOption next ((passing (checks_of k u.asked) c.vars x old ≡ []) × (left.rest ≡ [])) (λ r. IsNextPassing (checks_of k u.asked) c.vars x old r left.rest) in
       let here = comes_first (checks_of k t.asked) c.vars s.document old left.rest next (subst (N t) same (subst (λ (u : TestedTree). N u e) o.query found)) in
       let P : ℕ → Type 0 = λ n. MatchOption next (drop n (passing (checks_of k t.asked) c.vars s.document old) ≡ []) (λ r. drop n (passing (checks_of k t.asked) c.vars s.document old) ≡ r ∷ passing (checks_of k t.asked) c.vars s.document left.rest) in (
@@ -226,11 +230,11 @@ module _ (k : Known) (c : CodeSession) (s : Session) (h : Grown) (whole old : Li
       )
 
 -- rows are given of what was asked for
-pub page_given : (k : Known) (old mid new : CodeSession) (most : ℕ) (values : List Value) (more : Bool) (s : Session) (all : List SpanRow) → mid.vars ≡ old.vars → IsSessionOver k mid (asking s) all →
-    HasGiven k mid new most values more (asking s) all → GivesPage k old new most values more s
-page_given k old mid new most values more s all same o h =
+pub page_given : (k : Known) (old mid new : CodeSession) (most : ℕ) (written : List ℕ) (more : Bool) (s : Session) (all : List SpanRow) → mid.vars ≡ old.vars → IsSessionOver k mid (asking s) all →
+    HasGiven k mid new most written more (asking s) all → GivesPage k old new most written more s
+page_given k old mid new most written more s all same o h =
     let t = asking s in
-    let P : List VarName → Type 0 = λ vs. AreResultNames s.query.query vs × AreAnswers s.query.query s.document vs all × (map view values ≡ map (row_data vs) (take most (to_come k t vs all)))
+    let P : List VarName → Type 0 = λ vs. AreResultNames s.query.query vs × AreAnswers s.query.query s.document vs all × (written ≡ compact_text (array (json_rows vs (take most (to_come k t vs all)))))
     × (more ≡ nat_lt most (length (to_come k t vs all))) × IsSessionOver k new (giving (length (take most (to_come k t vs all))) t) all in
     let here : P mid.vars = (o.kept.names, o.answers, h.rows, h.tells, h.now) in
     let (names, answers, shown, tells, now) = subst P same here in

@@ -1,6 +1,8 @@
 mod SessionLaws
 mod Apart
 mod Refusals
+mod RowTexts
+mod GivenText
 pub mod Giving
 mod Replied
 pub mod Opens

@@ -5,7 +5,6 @@ use Rattle.std.specs.Io.KnownBytes.{Appends}
 use Rattle.std.proofs.KnownBytes.{Appends-nil, Appends-trans}
 use Rattle.std.proofs.lemmas.List.Concat.{flat_map-append}
 use Rattle.rm_outside.specs.Change.{Adds, Change, Failed}
-use Rattle.rm_outside.specs.Faults.{Rose}
 use Rattle.rm_outside.specs.Sink.{AppendsPart}
 use Rattle.rm_outside.specs.Source.{AsksLine, IsNextLong, IsSpent, LineTaken, NextLine, TakesLine, TakesLines}
 use Rattle.rm_outside.specs.declared.source.LineFault.{LineFault}
@@ -14,12 +13,13 @@ use Rattle.rm_outside.proofs.LineLaws.{next_is}
 use Rattle.rm_outside.specs.declared.status.Status.{Status}
 use Rattle.rm_outside.specs.declared.status.Status.TheVariants as status
 use Rattle.note_texts.specs.Notes.{counted, line}
-use Rattle.spanner_engine.specs.Passing.{Known}
+use Rattle.spanner_model.specs.Passing.{Known}
 use Rattle.session_server.specs.declared.TheConstants.{MOST_LINE_BYTES}
 use Rattle.session_server.specs.declared.answering.Opened.{Opened}
 use Rattle.session_server.specs.Open.{AreOpen}
 use Rattle.session_server.specs.Replies.{AreReplies, IsReply, Reply, Sessions, first_line, no_line, replies_text, reply_text}
-use Rattle.session_server.specs.Serve.{AreShort, IsServed, Reports, Served, Serves, ServesAll, ServesLines, all_served, cut, line_too_long, source_failed, too_many, wants_memory, whole, write_failed}
+use Rattle.session_server.specs.Serve.{AreShort, IsServed, Served, Serves, ServesAll, ServesLines, all_served, line_too_long, source_failed, too_many, wants_memory, write_failed}
+use Rattle.note_texts.specs.Outcomes.{Reports, cut, whole}
 
 -- ---- one line more
 
@@ -50,9 +50,6 @@ pub record ServedSoFar (k : Known) (most : ℕ) (start now before after : Option
 
 pub none_served : (k : Known) (most : ℕ) (start before : Option (List ℕ)) → ServedSoFar k most start start before before 0 []
 none_served k most start before = record { texts = []; replies = []; all = []; taken = refl; count = refl; few = omega arith; replied = no_line; stands = tt; wrote = Appends-nil before }
-
-pub rose_from : (a b c : ℕ) → a ≤ b → Rose b c → Rose a c
-rose_from a b c le rose = omega (arith, le, rose)
 
 module _ (k : Known) (most : ℕ) (start now before after : Option (List ℕ)) (served : ℕ) (cs : List Opened) (s : ServedSoFar k most start now before after served cs) where
   few_texts : length s.texts ≤ most

@@ -1,14 +1,13 @@
 -- A session that gave its next rows, among those that are open.
 use Rattle.std.proofs.Common.{arith, ◌≡◌, ◌+◌, ◌<◌, ◌≤◌, ℕ, zero, suc, Bool, true, false, List, [], ◌∷◌, length, take, filter, slice_set, get_or, Some, inl, refl, sym, ap, ◌∙◌, subst}
-use Rattle.std.specs.Prelude.{not, ◌==◌, nat_lt, if◌then◌else◌, slice_get, string_bytes, String, Result, Ok, Err, IfOk, codes}
+use Rattle.std.specs.Prelude.{not, ◌==◌, nat_lt, if◌then◌else◌, slice_get, Vec, Result, Ok, Err, IfOk, codes}
 use Rattle.std.specs.Option.{IsSomeAnd}
 use Rattle.std.specs.declared.alloc.Global.{Global}
 use Rattle.std.proofs.lemmas.Bool.Decides.{nat_tests}
 use Rattle.std.proofs.lemmas.Option.{slice_get_read}
-use Rattle.serde_json.specs.View.{items_view}
-use Rattle.serde_json.specs.Written.{compact_text, items_have_float}
-use Rattle.serde_json.specs.declared.value.Value.{Value}
-use Rattle.spanner_engine.specs.Passing.{Known}
+use Rattle.serde_json.specs.Data.{Items, array}
+use Rattle.serde_json.specs.Written.{compact_text}
+use Rattle.spanner_model.specs.Passing.{Known}
 use Rattle.session_server.specs.declared.answering.Opened.{Opened}
 use Rattle.session_server.specs.declared.session.Session.{Session as CodeSession}
 use Rattle.note_texts.specs.Notes.{line, table_note}
@@ -16,12 +15,11 @@ use Rattle.session_server.specs.declared.TheConstants.{MOST_GROWN, SESSION_TABLE
 use Rattle.session_server.specs.declared.session.Halt.{Halt}
 use Rattle.session_server.specs.declared.session.Halt.TheVariants as halt
 use Rattle.session_server.specs.Requests.{SessionRequest, grow_request, next_request}
-use Rattle.session_server.specs.Replies.{Answers, asking, error_of, gives, given_rows, growing, grown_to, grows, heavy_grown, long, session_of, giving, reply_text, rows_object, Session, Sessions, changed, to_come, without}
+use Rattle.session_server.specs.Replies.{Answers, asking, error_of, gives, given_rows, growing, grown_to, grows, heavy_grown, long, session_of, giving, json_rows, reply_text, rows_object, Session, Sessions, changed, to_come, without}
 use Rattle.session_server.specs.Standing.{GivesPage, IsGrowHalt, IsRowsHalt, IsSession}
 use Rattle.session_server.specs.Open.{AreOpen, HasNone, IsPlaceOf, LosesOne, RepliesTo}
 use Rattle.session_server.proofs.Grows.{kept_of}
 use Rattle.session_server.proofs.Opens.{filtered, found_open, loses_filtered}
-use Rattle.session_server.proofs.Replied.{given_text}
 
 pub set_open : (k : Known) (cs : List Opened) (all : Sessions) (id p : ℕ) (c : Opened) (s : Session) → AreOpen k cs all → HasNone (take p cs) id → IsSomeAnd (slice_get cs p) (λ d. d.id ≡ id) →
     c.id ≡ id → IsSession k c.session s → AreOpen k (slice_set cs p c) (changed id s all)
@@ -70,29 +68,28 @@ stands_here k cs all id p c o at there =
 pub stands_at : (k : Known) (cs : List Opened) (all : Sessions) (id p : ℕ) (c : Opened) → AreOpen k cs all → IsPlaceOf cs id p → slice_get cs p ≡ Some c → (s : Session) × IsSession k c.session s
 stands_at k cs all id p c o at there = let (s, found, here) = stands_here k cs all id p c o at there in (s, here)
 
-pub replies_given : {E : Type 0} (k : Known) (r : Result (String Global) E) (cs : List Opened) (id p most : ℕ) (c : Opened) (new : CodeSession) (values : List Value) (more : Bool) →
-    IsPlaceOf cs id p → slice_get cs p ≡ Some c → c.id ≡ id → ((s : Session) → IsSession k c.session s → GivesPage k c.session new most values more s) →
-    IfOk r (λ s. items_have_float (items_view values) ≡ false → string_bytes s ≡ line (compact_text (rows_object id more (items_view values)))) →
+pub replies_given : {E : Type 0} (k : Known) (r : Result (Vec ℕ Global) E) (cs : List Opened) (id p most : ℕ) (c : Opened) (new : CodeSession) (written told : List ℕ) (more : Bool) →
+    IsPlaceOf cs id p → slice_get cs p ≡ Some c → c.id ≡ id → ((s : Session) → IsSession k c.session s → GivesPage k c.session new most written more s) → told ≡ written →
+    IfOk r (λ s. (items : Items) → told ≡ compact_text (array items) → s.items ≡ line (compact_text (rows_object id more items))) →
     IfOk r (RepliesTo k cs (slice_set cs p (record { id = c.id; session = new })) (next_request id most))
-replies_given k (Err e) cs id p most c new values more at there same given text = tt
-replies_given {E} k (Ok s) cs id p most c new values more at there same given text = λ open_all o.
+replies_given k (Err e) cs id p most c new written told more at there same given is text = tt
+replies_given k (Ok s) cs id p most c new written told more at there same given is text = λ open_all o.
     let (t, found, here) = stands_here k cs open_all id p c o at there in
     let (all, (names, answers), g) = given t here in
-    let rows = take most (to_come k t c.session.vars all) in
-    let told : string_bytes s ≡ reply_text (given_rows id more c.session.vars rows) = given_text {E = E} (Ok s) id more c.session.vars rows values g.rows text in (
+    let rows = take most (to_come k t c.session.vars all) in (
       given_rows id (nat_lt most (length (to_come k t c.session.vars all))) c.session.vars rows,
       changed id (giving (length rows) (asking t)) open_all,
       gives t c.session.vars all found names answers,
-      subst (λ (b : Bool). string_bytes s ≡ reply_text (given_rows id b c.session.vars rows)) g.tells told,
+      subst (λ (b : Bool). s.items ≡ reply_text (given_rows id b c.session.vars rows)) g.tells (text (json_rows c.session.vars rows) (is ∙ g.rows)),
       set_open k cs open_all id p (record { id = c.id; session = new }) (giving (length rows) (asking t)) o at.none_before at.here same (inl (all, g.now)),
     )
 
 -- ---- a session that is closed since it weighs too much
 
-pub heavy_closed : {E : Type 0} (k : Known) (r : Result (String Global) E) (cs new : List Opened) (id p : ℕ) (c d : Opened) (request : SessionRequest) →
+pub heavy_closed : {E : Type 0} (k : Known) (r : Result (Vec ℕ Global) E) (cs new : List Opened) (id p : ℕ) (c d : Opened) (request : SessionRequest) →
     IsPlaceOf cs id p → slice_get cs p ≡ Some c → d.id ≡ id → new ≡ filter (λ c. not (c.id == id)) (slice_set cs p d) →
     ((all : Sessions) (s : Session) → session_of all id ≡ Some s → IsSession k c.session s → Answers k all request (error_of id (table_note SESSION_TABLE)) (without id all)) →
-    IfOk r (λ s. string_bytes s ≡ reply_text (error_of id (table_note SESSION_TABLE))) → IfOk r (RepliesTo k cs new request)
+    IfOk r (λ s. s.items ≡ reply_text (error_of id (table_note SESSION_TABLE))) → IfOk r (RepliesTo k cs new request)
 heavy_closed k (Err e) cs new id p c d request at there same is step text = tt
 heavy_closed k (Ok s) cs new id p c d request at there same is step text = λ open_all o.
     let (t, found, here) = stands_here k cs open_all id p c o at there in (
@@ -114,10 +111,10 @@ grow_heavy s text h is why = subst (IsGrowHalt s text) is why
 
 -- ---- a document that grows
 
-pub replies_grown : {E : Type 0} (k : Known) (r : Result (String Global) E) (cs : List Opened) (id p n : ℕ) (text bytes : List ℕ) (c : Opened) (new : CodeSession) →
+pub replies_grown : {E : Type 0} (k : Known) (r : Result (Vec ℕ Global) E) (cs : List Opened) (id p n : ℕ) (text bytes : List ℕ) (c : Opened) (new : CodeSession) →
     IsPlaceOf cs id p → slice_get cs p ≡ Some c → c.id ≡ id → bytes ≡ text → n ≡ length c.session.growing.document + length bytes → n ≤ MOST_GROWN →
     ((s : Session) → IsSession k c.session s → IsSession k new (growing bytes s)) →
-    IfOk r (λ s. string_bytes s ≡ reply_text (grown_to id n)) → IfOk r (RepliesTo k cs (slice_set cs p (record { id = c.id; session = new })) (grow_request id text))
+    IfOk r (λ s. s.items ≡ reply_text (grown_to id n)) → IfOk r (RepliesTo k cs (slice_set cs p (record { id = c.id; session = new })) (grow_request id text))
 replies_grown k (Err e) cs id p n text bytes c new at there same is sum few grew told = tt
 replies_grown k (Ok s) cs id p n text bytes c new at there same is sum few grew told = λ open_all o.
     let (t, found, here) = stands_here k cs open_all id p c o at there in
@@ -127,7 +124,7 @@ replies_grown k (Ok s) cs id p n text bytes c new at there same is sum few grew 
       grown_to id (length t.document + length text),
       changed id (growing text t) open_all,
       grows t found (omega (arith, all_bytes, few)),
-      subst (λ (m : ℕ). string_bytes s ≡ reply_text (grown_to id m)) all_bytes told,
+      subst (λ (m : ℕ). s.items ≡ reply_text (grown_to id m)) all_bytes told,
       set_open k cs open_all id p (record { id = c.id; session = new }) (growing text t) o at.none_before at.here same (subst (λ (x : List ℕ). IsSession k new (growing x t)) is (grew t here)),
     )
 

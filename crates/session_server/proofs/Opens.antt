@@ -1,6 +1,6 @@
 -- The code's open sessions and those that they stand for.
 use Rattle.std.proofs.Common.{arith, ◌≡◌, ◌≢◌, ◌<◌, ◌≤◌, ◌+◌, ℕ, zero, suc, Bool, true, false, List, [], ◌∷◌, ◌++◌, length, take, get_or, filter, Some, None, refl, sym, ap, ◌∙◌, subst}
-use Rattle.std.specs.Prelude.{not, ◌==◌, if◌then◌else◌, slice_get, string_bytes, String, Vec, Option, is_none, is_some, IfNone, IfSome, Result, Ok, Err, IfOk, OnErr, codes}
+use Rattle.std.specs.Prelude.{not, ◌==◌, if◌then◌else◌, slice_get, Vec, Option, is_none, is_some, IfNone, IfSome, Result, Ok, Err, IfOk, OnErr, OnOk, codes}
 use Rattle.std.specs.Option.{IsSomeAnd}
 use Rattle.std.specs.declared.alloc.Global.{Global}
 use Rattle.std.specs.Str.{IsUtf8}
@@ -11,11 +11,11 @@ use Rattle.session_server.specs.Asked.{IsNoObject, IsObjectOf}
 use Rattle.session_server.specs.declared.TheConstants.{MOST_SESSIONS}
 use Rattle.session_server.specs.declared.session.Session.{Session as CodeSession}
 use Rattle.std.proofs.lemmas.Bool.Decides.{nat_tests}
-use Rattle.spanner_engine.specs.Passing.{Known}
+use Rattle.spanner_model.specs.Passing.{Known}
 use Rattle.session_server.specs.declared.answering.Opened.{Opened}
 use Rattle.session_server.specs.Replies.{Answers, IsRefused, IsReply, begun, closes, closed, error_of, full, no_request, opened, opens, refused, taken, to_no_request, to_request, wants_memory, Reply, reply_text, Session, Sessions, session_of, with_session, without}
-use Rattle.session_server.specs.declared.session.Refusal.{Refusal}
-use Rattle.session_server.specs.declared.session.Refusal.TheVariants.{Note}
+use Rattle.note_texts.specs.declared.refusals.Refusal.{Refusal}
+use Rattle.note_texts.specs.declared.refusals.Refusal.TheVariants.{Note}
 use Rattle.session_server.specs.Standing.{IsBegun, IsRefusal, IsSession}
 use Rattle.session_server.specs.Open.{AreOpen, HasNone, IsPlaceOf, LosesOne, RepliesTo}
 
@@ -67,10 +67,6 @@ filtered k (c ∷ cs) (s ∷ all) id o = both (not (c.id == id)) (not (s.0 == id
 pub loses_same : (k : Known) (cs : List Opened) (id : ℕ) → LosesOne k cs cs id
 loses_same k cs id = λ all o. filtered k cs all id o
 
-pub on_err : {T E : Type 0} (r : Result T E) (P : Type 0) → P → OnErr r P
-on_err (Ok x) P p = tt
-on_err (Err e) P p = p
-
 pub none_where : (r : Option ℕ) (P : Type 0) → is_none r ≡ true → IfNone r P → P
 none_where None P e h = h
 none_where (Some n) P e h = absurd (cc)
@@ -105,13 +101,13 @@ found_open k (c ∷ cs) (s ∷ all) id (suc p) o none here =
 
 -- ---- replies that leave the sessions as they are, and a close
 
-pub replies_same : {E : Type 0} (k : Known) (r : Result (String Global) E) (cs : List Opened) (request : SessionRequest) (reply : Reply) → ((all : Sessions) → AreOpen k cs all → Answers k all request reply all) →
-    IfOk r (λ s. string_bytes s ≡ reply_text reply) → IfOk r (RepliesTo k cs cs request)
+pub replies_same : {E : Type 0} (k : Known) (r : Result (Vec ℕ Global) E) (cs : List Opened) (request : SessionRequest) (reply : Reply) → ((all : Sessions) → AreOpen k cs all → Answers k all request reply all) →
+    IfOk r (λ s. s.items ≡ reply_text reply) → IfOk r (RepliesTo k cs cs request)
 replies_same k (Ok s) cs request reply f is = λ all o. (reply, all, f all o, is, o)
 replies_same k (Err e) cs request reply f is = tt
 
-pub replies_closed : {E : Type 0} (k : Known) (r : Result (String Global) E) (cs new : List Opened) (id p : ℕ) → IsPlaceOf cs id p → new ≡ filter (λ c. not (c.id == id)) cs →
-    IfOk r (λ s. string_bytes s ≡ reply_text (closed id)) → IfOk r (RepliesTo k cs new (close_request id))
+pub replies_closed : {E : Type 0} (k : Known) (r : Result (Vec ℕ Global) E) (cs new : List Opened) (id p : ℕ) → IsPlaceOf cs id p → new ≡ filter (λ c. not (c.id == id)) cs →
+    IfOk r (λ s. s.items ≡ reply_text (closed id)) → IfOk r (RepliesTo k cs new (close_request id))
 replies_closed k (Ok s) cs new id p at is text = λ all o.
     let (c, t, there, found, stands) = found_open k cs all id p o at.none_before at.here in
     (closed id, without id all, closes t found, text, subst (λ (xs : List Opened). AreOpen k xs (without id all)) (sym is) (filtered k cs all id o))
@@ -151,8 +147,8 @@ is_refused k cs all id text document note t d none room same held why o =
 pub why_refused : (k : Known) (t d : List ℕ) (r : Refusal) (note : Vec ℕ Global) → r ≡ Note note → IsRefusal k t d r → IsRefused k t d note.items
 why_refused k t d r note is why = let P : Refusal → Type 0 = IsRefusal k t d in (subst P is why).0
 
-pub replies_opened : (k : Known) (cs new : List Opened) (id : ℕ) (text document t d : List ℕ) (c : CodeSession) (line : String Global) → HasNone cs id → length cs < MOST_SESSIONS → t ≡ text → d ≡ document →
-    new ≡ cs ++ record { id = id; session = c } ∷ [] → IsBegun k t d c → string_bytes line ≡ reply_text (opened id c.vars) → RepliesTo k cs new (open_request id text document) line
+pub replies_opened : (k : Known) (cs new : List Opened) (id : ℕ) (text document t d : List ℕ) (c : CodeSession) (line : Vec ℕ Global) → HasNone cs id → length cs < MOST_SESSIONS → t ≡ text → d ≡ document →
+    new ≡ cs ++ record { id = id; session = c } ∷ [] → IsBegun k t d c → line.items ≡ reply_text (opened id c.vars) → RepliesTo k cs new (open_request id text document) line
 replies_opened k cs new id text document t d c line none room same held pushed_on begins told = λ all o.
     let long = same_length k cs all o in
     let here : IsBegun k text document c = subst (λ (x : List ℕ). IsBegun k x document c) same (subst (λ (x : List ℕ). IsBegun k t x c) held begins) in
@@ -165,20 +161,30 @@ replies_opened k cs new id text document t d c line none room same held pushed_o
       subst (λ (xs : List Opened). AreOpen k xs (with_session id (begun q document) all)) (sym pushed_on) (pushed k cs all e (begun q document) o stands),
     )
 
+pub replies_put : {E : Type 0} (k : Known) (r : Result (Vec ℕ Global) E) (cs new : List Opened) (id : ℕ) (text document t d : List ℕ) (c : CodeSession) → HasNone cs id → length cs < MOST_SESSIONS →
+    t ≡ text → d ≡ document → OnOk r (new ≡ cs ++ record { id = id; session = c } ∷ []) → IsBegun k t d c → IfOk r (λ s. s.items ≡ reply_text (opened id c.vars)) →
+    IfOk r (RepliesTo k cs new (open_request id text document))
+replies_put k (Ok line) cs new id text document t d c none room same held put begins told = replies_opened k cs new id text document t d c line none room same held put begins told
+replies_put k (Err e) cs new id text document t d c none room same held put begins told = tt
+
+pub loses_put : {E : Type 0} (k : Known) (r : Result (Vec ℕ Global) E) (cs new : List Opened) (id : ℕ) → OnErr r (new ≡ cs) → OnErr r (LosesOne k cs new id)
+loses_put k (Ok line) cs new id same = tt
+loses_put k (Err e) cs new id same = subst (λ (xs : List Opened). LosesOne k cs xs id) (sym same) (loses_same k cs id)
+
 -- ---- a line and its reply
 
-abbrev pub RepliesTo_line : Known → List Opened → List Opened → List ℕ → String Global → Type 0
-RepliesTo_line k old new text line = (all : Sessions) → AreOpen k old all → (r : Reply) × (after : Sessions) × IsReply k all text r after × (string_bytes line ≡ reply_text r) × AreOpen k new after
+abbrev pub RepliesTo_line : Known → List Opened → List Opened → List ℕ → Vec ℕ Global → Type 0
+RepliesTo_line k old new text line = (all : Sessions) → AreOpen k old all → (r : Reply) × (after : Sessions) × IsReply k all text r after × (line.items ≡ reply_text r) × AreOpen k new after
 
-pub line_of_request : (k : Known) (old new : List Opened) (text : List ℕ) (request : SessionRequest) (line : String Global) → IsRequest text request → RepliesTo k old new request line → RepliesTo_line k old new text line
+pub line_of_request : (k : Known) (old new : List Opened) (text : List ℕ) (request : SessionRequest) (line : Vec ℕ Global) → IsRequest text request → RepliesTo k old new request line → RepliesTo_line k old new text line
 line_of_request k old new text request line is replies = λ all o. let (r, after, answers, told, stands) = replies all o in (r, after, to_request is answers, told, stands)
 
-pub line_of_none : {E : Type 0} (k : Known) (cs : List Opened) (text : List ℕ) (r : Result (String Global) E) → IsNoRequest text → IfOk r (λ s. string_bytes s ≡ reply_text no_request) → IfOk r (RepliesTo_line k cs cs text)
+pub line_of_none : {E : Type 0} (k : Known) (cs : List Opened) (text : List ℕ) (r : Result (Vec ℕ Global) E) → IsNoRequest text → IfOk r (λ s. s.items ≡ reply_text no_request) → IfOk r (RepliesTo_line k cs cs text)
 line_of_none k cs text (Err e) none told = tt
 line_of_none k cs text (Ok s) none told = λ all o. (no_request, all, to_no_request none, told, o)
 
-pub line_of_memory : {E : Type 0} (k : Known) (old mid new : List Opened) (text : List ℕ) (request : SessionRequest) (id : ℕ) (r : Result (String Global) E) → IsRequest text request → id ≡ session_id request →
-    LosesOne k old mid (session_id request) → new ≡ filter (λ c. not (c.id == id)) mid → IfOk r (λ s. string_bytes s ≡ reply_text (error_of id (codes "memory"))) → IfOk r (RepliesTo_line k old new text)
+pub line_of_memory : {E : Type 0} (k : Known) (old mid new : List Opened) (text : List ℕ) (request : SessionRequest) (id : ℕ) (r : Result (Vec ℕ Global) E) → IsRequest text request → id ≡ session_id request →
+    LosesOne k old mid (session_id request) → new ≡ filter (λ c. not (c.id == id)) mid → IfOk r (λ s. s.items ≡ reply_text (error_of id (codes "memory"))) → IfOk r (RepliesTo_line k old new text)
 line_of_memory k old mid new text request id (Err e) is same loses closed_now told = tt
 line_of_memory k old mid new text request id (Ok s) is same loses closed_now told = λ all o.
     let n = session_id request in

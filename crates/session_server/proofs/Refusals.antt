@@ -6,19 +6,22 @@ use Rattle.spanner_model.specs.Captures.{VarName}
 use Rattle.spanner_model.specs.Expression.{QueryTree}
 use Rattle.query_parser.specs.declared.fault.QueryFault.{QueryFault}
 use Rattle.query_parser.specs.declared.fault.QueryFault.TheVariants as query
-use Rattle.query_parser.specs.Tested.{TestedTree, HasTestedFault, IsTestedText}
+use Rattle.query_parser.specs.Tested.{HasTestedFault, IsTestedText}
+use Rattle.spanner_model.specs.Tested.{TestedTree}
 use Rattle.query_parser.specs.TestedAnswers.{IsTestedAnswer}
 use Rattle.marked_automaton.specs.declared.fault.SizeFault.{SizeFault}
 use Rattle.marked_automaton.specs.declared.fault.SizeFault.TheVariants as size
 use Rattle.query_automaton.specs.Parts.{AtomsAreSmall, HasLargePart}
-use Rattle.spanner_engine.specs.Passing.{Known, FirstUnknown, HasFaultUnder, of_text, unknown_test, IsOnlyTested}
+use Rattle.spanner_model.specs.Passing.{Known}
+use Rattle.query_parser.specs.Binding.{FirstUnknown, HasFaultUnder, of_text, unknown_test, IsOnlyTested}
 use Rattle.session_server.specs.declared.TheConstants.{SESSION_TABLE}
 use Rattle.session_server.specs.declared.session.Ready.{Ready}
-use Rattle.session_server.specs.declared.session.Refusal.{Refusal}
-use Rattle.session_server.specs.declared.session.Refusal.TheVariants.{Note, OutOfMemory}
+use Rattle.note_texts.specs.declared.refusals.Refusal.{Refusal}
+use Rattle.note_texts.specs.declared.refusals.Refusal.TheVariants.{Note, OutOfMemory}
 use Rattle.note_texts.specs.Notes.{fault_note, size_note, table_note}
 use Rattle.session_server.specs.Replies.{IsHeavy, by_states, by_table, by_ways, by_text, by_size}
-use Rattle.session_server.specs.Standing.{IsRefusal, IsTooHeavy, MatchNote}
+use Rattle.note_texts.specs.Refusals.{MatchNote}
+use Rattle.session_server.specs.Standing.{IsRefusal, IsTooHeavy}
 
 -- a fault of a text
 pub refused_by : (k : Known) (text document : List ℕ) (r : Refusal) (fault : QueryFault) → MatchNote r (fault_note fault) → HasFaultUnder k text fault → IsRefusal k text document r

@@ -10,13 +10,14 @@ use Rattle.spanner_model.specs.Captures.{VarName}
 use Rattle.spanner_model.specs.Expression.{QueryTree}
 use Rattle.spanner_model.specs.Answers.{SpanRow, AreResultNames, AreAnswers}
 use Rattle.query_parser.specs.declared.fault.QueryFault.{QueryFault}
-use Rattle.query_parser.specs.Tested.{TestedTree}
+use Rattle.spanner_model.specs.Tested.{TestedTree}
 use Rattle.marked_automaton.specs.declared.fault.SizeFault.TheVariants.{States, Ways}
 use Rattle.query_automaton.specs.Parts.{AtomsAreSmall, HasLargePart}
 use Rattle.row_writer.specs.JsonLines.{json_members}
 use Rattle.spanner_engine.specs.Begun.{counted}
 use Rattle.growing_document.specs.Lengths.{weight_at}
-use Rattle.spanner_engine.specs.Passing.{Known, HasFaultUnder, IsOnlyTested, checks_of, passing}
+use Rattle.spanner_model.specs.Passing.{Known, checks_of, passing}
+use Rattle.query_parser.specs.Binding.{HasFaultUnder, IsOnlyTested}
 use Rattle.session_server.specs.declared.TheConstants.{MOST_GROWN, MOST_SESSIONS, SESSION_TABLE}
 use Rattle.note_texts.specs.Notes.{line, fault_note, states_note, ways_note, table_note}
 use Rattle.session_server.specs.Requests.{SessionRequest, open_request, next_request, grow_request, close_request, session_id, IsRequest, IsNoRequest}

@@ -4,15 +4,11 @@ use Rattle.rm_outside.specs.Change.{Change, Adds, AddsPart, Failed}
 use Rattle.rm_outside.specs.Source.{IsSpent, IsNextLong, TakesLine, TakesLines}
 use Rattle.rm_outside.specs.declared.status.Status.{Status}
 use Rattle.rm_outside.specs.declared.status.Status.TheVariants as status
-use Rattle.spanner_engine.specs.Passing.{Known}
+use Rattle.spanner_model.specs.Passing.{Known}
 use Rattle.session_server.specs.declared.TheConstants.{MOST_LINE_BYTES}
 use Rattle.note_texts.specs.Notes.{counted, line}
+use Rattle.note_texts.specs.Outcomes.{Is, IsOutOfMemory, Reports}
 use Rattle.session_server.specs.Replies.{Reply, Sessions, AreReplies, replies_text}
-
--- a status with its note, before the note is written
-pub record Is (end : Status) (note : List ℕ) (wanted : Status) (text : List ℕ) : Type 0 where
-  pub ends : end ≡ wanted
-  pub says : note ≡ line text
 
 -- these lines have these replies, in sessions of which none is open before
 pub record Served (k : Known) (texts : List (List ℕ)) (replies : List Reply) : Type 0 where
@@ -38,18 +34,8 @@ pub data ServesLines (k : Known) (most : ℕ) (source out : Change) (end : Statu
       Served k texts replies → AddsPart out (replies_text replies) → Failed out → Is end note status.Write (codes "write failed") →
       ServesLines k most source out end note
   wants_memory : (texts : List (List ℕ)) (replies : List Reply) (now : Option (List ℕ)) → TakesLines source.old.bytes texts now → length texts ≤ most →
-      Served k texts replies → Adds out (replies_text replies) → Is end note status.Memory (codes "out of memory") →
+      Served k texts replies → Adds out (replies_text replies) → IsOutOfMemory end note →
       ServesLines k most source out end note
-
--- whose note failed is a failed write, where all else went well
-abbrev pub status_without_note : Status → Status
-status_without_note status.Done = status.Write
-status_without_note end = end
-
--- the note is written, or notes failed and a prefix of it is
-pub data Reports (end : Status) (note : List ℕ) (notes : Change) (result : Status) : Type 0 where
-  whole : result ≡ end → Adds notes note → Reports end note notes result
-  cut : result ≡ status_without_note end → Failed notes → AddsPart notes note → Reports end note notes result
 
 -- serving
 pub record Serves (k : Known) (most : ℕ) (source out notes : Change) (result : Status) : Type 0 where

@@ -1,8 +1,8 @@
 -- What the code's sessions stand for.
-use Rattle.std.specs.Prelude.{◌≡◌, ◌≤◌, ◌^◌, ◌⊎◌, ℕ, Bool, true, false, List, [], ◌∷◌, ◌++◌, length, take, map, nat_lt, MatchOption}
+use Rattle.std.specs.Prelude.{◌≡◌, ◌≤◌, ◌^◌, ◌⊎◌, ℕ, Bool, true, false, if◌then◌else◌, List, [], ◌∷◌, ◌++◌, length, take, nat_lt, Option, None, Some, MatchOption}
 use Rattle.std.specs.Str.{IsUtf8}
-use Rattle.serde_json.specs.View.{view}
-use Rattle.serde_json.specs.declared.value.Value.{Value}
+use Rattle.serde_json.specs.Data.{array}
+use Rattle.serde_json.specs.Written.{compact_text}
 use Rattle.spanner_model.specs.Answers.{SpanRow, AreResultNames, AreAnswers}
 use Rattle.spanner_model.specs.Expression.{QueryTree}
 use Rattle.query_automaton.specs.CompiledQuery.{IsCompiled}
@@ -12,19 +12,18 @@ use Rattle.growing_document.specs.Lengths.{IsAskedAt}
 use Rattle.growing_document.specs.declared.fault.GrowFault.{GrowFault}
 use Rattle.growing_document.specs.declared.fault.GrowFault.TheVariants as fault
 use Rattle.spanner_model.specs.Captures.{VarName}
-use Rattle.query_parser.specs.TestedView.{tested_of}
-use Rattle.query_parser.specs.Tested.{TestedTree}
+use Rattle.spanner_model.specs.Tested.{tested_of, TestedTree}
 use Rattle.spanner_engine.specs.Fitting.{AreLast}
-use Rattle.spanner_engine.specs.Passing.{Known, AreKnown, IsOnlyTested, checks_of, passing}
+use Rattle.spanner_model.specs.Passing.{Known, AreKnown, checks_of, passing}
+use Rattle.query_parser.specs.Binding.{IsOnlyTested}
 use Rattle.session_server.specs.declared.session.Session.{Session as CodeSession}
-use Rattle.query_parser.specs.declared.asks.Tested.{Tested}
-use Rattle.session_server.specs.declared.session.Start.{Start}
-use Rattle.session_server.specs.declared.session.Refusal.{Refusal}
-use Rattle.session_server.specs.declared.session.Refusal.TheVariants.{Note, OutOfMemory}
+use Rattle.note_texts.specs.declared.refusals.Refusal.{Refusal}
+use Rattle.note_texts.specs.declared.refusals.Refusal.TheVariants.{Note, OutOfMemory}
 use Rattle.session_server.specs.declared.session.Halt.{Halt}
 use Rattle.session_server.specs.declared.session.Halt.TheVariants as halt
 use Rattle.session_server.specs.declared.TheConstants.{SESSION_TABLE}
-use Rattle.session_server.specs.Replies.{Session, HeavyNote, IsHeavy, IsRefused, asking, begun, giving, row_data, to_come}
+use Rattle.session_server.specs.Replies.{Session, HeavyNote, IsHeavy, IsRefused, asking, begun, giving, json_rows, row_data, to_come}
+use Rattle.session_server.specs.Rows.{rows_text, with_row}
 
 -- the code's document is read by the query's automaton, and its rows were asked for at these lengths
 pub record IsReadOn (q : QueryTree) (document asked : List ℕ) (names : List VarName) (g : Grown) : Type 0 where
@@ -44,6 +43,10 @@ pub record IsKept (k : Known) (c : CodeSession) (s : Session) : Type 0 where
   pub names : AreResultNames s.query.query c.vars
   pub tests_known : AreKnown k s.query.asked
 
+-- the row that the code gives next, where one remains
+abbrev pub next_row : CodeSession → Option SpanRow
+next_row c = if c.some then Some c.answers.row else None
+
 -- the rows that the code has still to give are those to come, where these are all answers
 pub record IsSessionOver (k : Known) (c : CodeSession) (s : Session) (all : List SpanRow) : Type 0 where
   pub kept : IsKept k c s
@@ -51,7 +54,7 @@ pub record IsSessionOver (k : Known) (c : CodeSession) (s : Session) (all : List
   pub same : s.grown ≡ false
   pub answers : AreAnswers s.query.query s.document c.vars all
   pub last : AreLast s.query.query s.document c.vars c.answers.rest
-  pub next : MatchOption c.next (to_come k s c.vars all ≡ [])
+  pub next : MatchOption (next_row c) (to_come k s c.vars all ≡ [])
       (λ row. to_come k s c.vars all ≡ row ∷ passing (checks_of k s.query.asked) c.vars s.document c.answers.rest)
 
 -- its document has grown, and its rows are not asked for yet
@@ -74,14 +77,14 @@ IsBegun k text document c =
     (t : TestedTree) × IsOnlyTested k text t × AtomsAreSmall t.query × AreResultNames t.query c.vars × IsSession k c (begun t document)
 
 -- it gave these rows, so many at most, and tells whether more remain
-pub record HasGiven (k : Known) (old new : CodeSession) (most : ℕ) (values : List Value) (more : Bool) (s : Session) (all : List SpanRow) : Type 0 where
-  pub rows : map view values ≡ map (row_data old.vars) (take most (to_come k s old.vars all))
+pub record HasGiven (k : Known) (old new : CodeSession) (most : ℕ) (written : List ℕ) (more : Bool) (s : Session) (all : List SpanRow) : Type 0 where
+  pub rows : written ≡ compact_text (array (json_rows old.vars (take most (to_come k s old.vars all))))
   pub tells : more ≡ nat_lt most (length (to_come k s old.vars all))
   pub now : IsSessionOver k new (giving (length (take most (to_come k s old.vars all))) s) all
 
 -- the code's session gave rows of a session that may have grown
-abbrev pub GivesPage : Known → CodeSession → CodeSession → ℕ → List Value → Bool → Session → Type 0
-GivesPage k old new most values more s = (all : List SpanRow) × AreAll s old.vars all × HasGiven k old new most values more (asking s) all
+abbrev pub GivesPage : Known → CodeSession → CodeSession → ℕ → List ℕ → Bool → Session → Type 0
+GivesPage k old new most written more s = (all : List SpanRow) × AreAll s old.vars all × HasGiven k old new most written more (asking s) all
 
 -- a refusal of a document that grows; two of them never come of a session's
 abbrev pub halt_of : GrowFault → Halt
@@ -104,18 +107,18 @@ IsGrowHalt s text halt.Heavy = IsHeavy s.query.query (s.document ++ text) s.aske
 IsGrowHalt s text halt.OutOfMemory = Unit {0}
 
 -- one row more
-pub record GivesOne (k : Known) (old new : CodeSession) (before after : List Value) (s : Session) (all : List SpanRow) : Type 0 where
+pub record GivesOne (k : Known) (old new : CodeSession) (before after : List ℕ) (s : Session) (all : List SpanRow) : Type 0 where
   pub row : SpanRow
   pub rest : List SpanRow
   pub comes : to_come k s old.vars all ≡ row ∷ rest
-  pub value : map view after ≡ map view before ++ row_data old.vars row ∷ []
+  pub written : after ≡ with_row before (compact_text (row_data old.vars row))
   pub now : IsSessionOver k new (giving 1 s) all
 
 -- so far
-pub record GivesSoFar (k : Known) (old new : CodeSession) (count : ℕ) (values : List Value) (s : Session) (all : List SpanRow) : Type 0 where
+pub record GivesSoFar (k : Known) (old new : CodeSession) (count : ℕ) (written : List ℕ) (s : Session) (all : List SpanRow) : Type 0 where
   pub vars : new.vars ≡ old.vars
   pub few : count ≤ length (to_come k s old.vars all)
-  pub rows : map view values ≡ map (row_data old.vars) (take count (to_come k s old.vars all))
+  pub rows : written ≡ rows_text old.vars (take count (to_come k s old.vars all))
   pub now : IsSessionOver k new (giving count s) all
 
 -- why no session was opened; want of memory has no cause
@@ -123,16 +126,7 @@ abbrev pub IsRefusal : Known → List ℕ → List ℕ → Refusal → Type 0
 IsRefusal k text document (Note note) = IsRefused k text document note.items × IsUtf8 note.items
 IsRefusal k text document OutOfMemory = Unit {0}
 
--- a refusal with this note, or without one for want of memory
-abbrev pub MatchNote : Refusal → List ℕ → Type 0
-MatchNote (Note note) text = (note.items ≡ text) × IsUtf8 text
-MatchNote OutOfMemory text = Unit {0}
-
 -- why no answers are begun, of a query that is read
 abbrev pub IsTooHeavy : QueryTree → List ℕ → Refusal → Type 0
 IsTooHeavy q document (Note note) = HeavyNote q document note.items × IsUtf8 note.items
 IsTooHeavy q document OutOfMemory = Unit {0}
-
--- the session of a query with its tests that was so begun
-abbrev pub session_with : Tested → Start → CodeSession
-session_with t s = record { tested = t; vars = s.vars; growing = s.growing; answers = s.answers; next = s.next; grown = false }

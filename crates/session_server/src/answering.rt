@@ -1,18 +1,19 @@
 //! One line, and its reply.
-ghost use Rattle.std.specs.Prelude.{◌≡◌, ◌^◌, ◌≤◌, ◌<◌, ℕ, List, length, string_bytes, IfOk, OnErr, IfSome, IfNone, filter, not, ◌==◌};
+ghost use Rattle.std.specs.Prelude.{◌≡◌, ◌^◌, ◌≤◌, ◌<◌, ℕ, List, length, IfOk, OnErr, OnOk, IfSome, IfNone, filter, not, ◌==◌, ◌++◌, ◌∷◌, []};
 ghost use Rattle.std.specs.Str.{IsUtf8};
-ghost use Rattle.spanner_engine.specs.Passing.{Known, known};
+ghost use Rattle.spanner_model.specs.Passing.{Known, known};
 ghost use Rattle.note_texts.specs.Notes.{table_note};
+ghost use Rattle.session_server.specs.declared.TheConstants.{SESSION_TABLE};
 ghost use Rattle.session_server.specs.Asked.{request_of};
 ghost use Rattle.session_server.specs.Requests.{close_request, grow_request, next_request, open_request, session_id as id_of};
-ghost use Rattle.session_server.specs.Replies.{IsReply, Reply, Sessions, error_of as error_reply, reply_text};
+ghost use Rattle.session_server.specs.Replies.{IsReply, Reply, Sessions, error_of as error_reply, opened as opened_reply, reply_text};
 ghost use Rattle.session_server.specs.Open.{AreOpen, HasNone, IsPlaceOf, LosesOne, RepliesTo};
 
+use crate::MOST_SESSIONS;
 use crate::replies::{closed, error_of, given, grown, no_request, opened};
 use crate::requests::{SessionRequest, request_in, value_of};
-use crate::session::{Halt, Refusal, Session};
-use crate::{MOST_SESSIONS, SESSION_TABLE};
-use note_texts::{Note, push_note};
+use crate::session::{Halt, Session, of_table};
+use note_texts::Refusal;
 use span_core::{OutOfMemory, Steps};
 use span_tests::{Judge, Tests};
 use std::alloc::Global;
@@ -32,10 +33,10 @@ pub(crate) fn answer<J: Judge, L: Ledger>(
     sessions: &mut Vec<Opened>,
     line: &[u8],
     steps: &mut Steps<L>,
-) -> Result<String, OutOfMemory>
+) -> Result<Vec<u8>, OutOfMemory>
     requires stands { (all : Sessions) × AreOpen (known tests.now J.judges) sessions.old.items all }
     ensures reply { IfOk result (λ s. (all : Sessions) → AreOpen (known tests.now J.judges) sessions.old.items all →
-        (r : Reply) × (after : Sessions) × IsReply (known tests.now J.judges) all line.now r after × (string_bytes s ≡ reply_text r)
+        (r : Reply) × (after : Sessions) × IsReply (known tests.now J.judges) all line.now r after × (s.items ≡ reply_text r)
         × AreOpen (known tests.now J.judges) sessions.new.items after) }
 {
     let value = match value_of(alloc, line)? {
@@ -62,7 +63,7 @@ fn answer_request<J: Judge, L: Ledger>(
     sessions: &mut Vec<Opened>,
     request: SessionRequest<'_>,
     steps: &mut Steps<L>,
-) -> Result<String, OutOfMemory>
+) -> Result<Vec<u8>, OutOfMemory>
     requires stands { (all : Sessions) × AreOpen (known tests.now J.judges) sessions.old.items all }
     ensures reply { IfOk result (RepliesTo (known tests.now J.judges) sessions.old.items sessions.new.items (request_of request.entry)) }
     ensures memory { OnErr result (LosesOne (known tests.now J.judges) sessions.old.items sessions.new.items (id_of (request_of request.entry))) }
@@ -90,7 +91,7 @@ fn answer_open<J: Judge, L: Ledger>(
     query: &str,
     document: &str,
     steps: &mut Steps<L>,
-) -> Result<String, OutOfMemory>
+) -> Result<Vec<u8>, OutOfMemory>
     ensures reply { IfOk result (RepliesTo (known tests.now J.judges) sessions.old.items sessions.new.items (open_request id query.now document.now)) }
     ensures memory { OnErr result (LosesOne (known tests.now J.judges) sessions.old.items sessions.new.items id) }
 {
@@ -115,7 +116,7 @@ fn open_new<J: Judge, L: Ledger>(
     query: &str,
     document: &str,
     steps: &mut Steps<L>,
-) -> Result<String, OutOfMemory>
+) -> Result<Vec<u8>, OutOfMemory>
     requires none { HasNone sessions.old.items id }
     requires room { length sessions.old.items < MOST_SESSIONS }
     requires few { length document.now ≤ 2 ^ 28 }
@@ -123,11 +124,24 @@ fn open_new<J: Judge, L: Ledger>(
     ensures memory { OnErr result (LosesOne (known tests.now J.judges) sessions.old.items sessions.new.items id) }
 {
     let (query, document) = (query.as_bytes(), document.as_bytes());
-    let session = match Session::open(alloc, tests, query, document, steps) {
-        Ok(session) => session,
-        Err(Refusal::Note(note)) => return refused(alloc, id, &note),
-        Err(Refusal::OutOfMemory) => return Err(OutOfMemory),
-    };
+    match Session::open(alloc, tests, query, document, steps) {
+        Ok(session) => put_opened(alloc, sessions, id, session),
+        Err(Refusal::Note(note)) => refused(alloc, id, &note),
+        Err(Refusal::OutOfMemory) => Err(OutOfMemory),
+    }
+}
+
+/// Adds a session to those that are open, and tells the variables of its rows.
+fn put_opened(
+    alloc: Global,
+    sessions: &mut Vec<Opened>,
+    id: u32,
+    session: Session,
+) -> Result<Vec<u8>, OutOfMemory>
+    ensures put { OnOk result (sessions.new.items ≡ sessions.old.items ++ record { id = id; session = session } ∷ []) }
+    ensures reply { IfOk result (λ s. s.items ≡ reply_text (opened_reply id session.vars)) }
+    ensures same { OnErr result (sessions.new.items ≡ sessions.old.items) }
+{
     let reply = match opened(alloc, id, session.vars()) {
         Ok(reply) => reply,
         Err(OutOfMemory) => return Err(OutOfMemory),
@@ -138,9 +152,9 @@ fn open_new<J: Judge, L: Ledger>(
     }
 }
 
-fn refused(alloc: Global, id: u32, note: &[u8]) -> Result<String, OutOfMemory>
+fn refused(alloc: Global, id: u32, note: &[u8]) -> Result<Vec<u8>, OutOfMemory>
     requires { IsUtf8 note.now }
-    ensures { IfOk result (λ s. string_bytes s ≡ reply_text (error_reply id note.now)) }
+    ensures { IfOk result (λ s. s.items ≡ reply_text (error_reply id note.now)) }
 {
     match str::from_utf8(note) {
         Ok(text) => error_of(alloc, id, text),
@@ -155,7 +169,7 @@ fn answer_next<J: Judge, L: Ledger>(
     id: u32,
     most: u32,
     steps: &mut Steps<L>,
-) -> Result<String, OutOfMemory>
+) -> Result<Vec<u8>, OutOfMemory>
     requires stands { (all : Sessions) × AreOpen (known tests.now J.judges) sessions.old.items all }
     ensures reply { IfOk result (RepliesTo (known tests.now J.judges) sessions.old.items sessions.new.items (next_request id most)) }
     ensures memory { OnErr result (LosesOne (known tests.now J.judges) sessions.old.items sessions.new.items id) }
@@ -164,7 +178,7 @@ fn answer_next<J: Judge, L: Ledger>(
         return error_of(alloc, id, "not open");
     };
     match sessions[k].session.page(alloc, tests, most, steps) {
-        Ok(page) => given(alloc, id, page.more, page.rows),
+        Ok(page) => given(alloc, id, page.more, &page.rows),
         Err(Halt::Heavy) => close_heavy(alloc, sessions, id),
         Err(Halt::OutOfMemory) => Err(OutOfMemory),
     }
@@ -176,7 +190,7 @@ fn answer_grow<L: Ledger>(
     id: u32,
     text: &str,
     steps: &mut Steps<L>,
-) -> Result<String, OutOfMemory>
+) -> Result<Vec<u8>, OutOfMemory>
     ensures reply { (k : Known) → IfOk result (RepliesTo k sessions.old.items sessions.new.items (grow_request id text.now)) }
     ensures memory { (k : Known) → OnErr result (LosesOne k sessions.old.items sessions.new.items id) }
 {
@@ -196,20 +210,18 @@ fn answer_grow<L: Ledger>(
 }
 
 /// Closes the session of this number, since reading its document weighs too much.
-fn close_heavy(alloc: Global, sessions: &mut Vec<Opened>, id: u32) -> Result<String, OutOfMemory>
+fn close_heavy(alloc: Global, sessions: &mut Vec<Opened>, id: u32) -> Result<Vec<u8>, OutOfMemory>
     ensures closed { sessions.new.items ≡ filter (λ s. not (s.id == id)) sessions.old.items }
-    ensures text { IfOk result (λ s. string_bytes s ≡ reply_text (error_reply id (table_note SESSION_TABLE))) }
+    ensures text { IfOk result (λ s. s.items ≡ reply_text (error_reply id (table_note SESSION_TABLE))) }
 {
     close(sessions, id);
-    let heavy = Note::Table {
-        limit: SESSION_TABLE,
-    };
-    let mut note = Vec::new(alloc);
-    push_note(&heavy, &mut note)?;
-    refused(alloc, id, &note)
+    match of_table(alloc) {
+        Refusal::Note(note) => refused(alloc, id, &note),
+        Refusal::OutOfMemory => Err(OutOfMemory),
+    }
 }
 
-fn answer_close(alloc: Global, sessions: &mut Vec<Opened>, id: u32) -> Result<String, OutOfMemory>
+fn answer_close(alloc: Global, sessions: &mut Vec<Opened>, id: u32) -> Result<Vec<u8>, OutOfMemory>
     ensures reply { (k : Known) → IfOk result (RepliesTo k sessions.old.items sessions.new.items (close_request id)) }
     ensures memory { (k : Known) → OnErr result (LosesOne k sessions.old.items sessions.new.items id) }
 {

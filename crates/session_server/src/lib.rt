@@ -11,7 +11,7 @@ pub use note_texts::{query_note, size_note, table_note};
 pub use serving::serve;
 
 mod answering;
-mod ending;
+mod json_rows;
 pub mod laws;
 mod replies;
 mod requests;

@@ -1,15 +1,15 @@
 //! Serving: a line with a reply for each line with a request.
 ghost use Rattle.std.specs.Prelude.{◌≡◌, ◌⊎◌, codes};
 ghost use Rattle.note_texts.specs.Notes.{counted, note_bytes};
+ghost use Rattle.note_texts.specs.Outcomes.{Is, IsOutOfMemory};
 ghost use Rattle.rm_outside.specs.Change.{change};
-ghost use Rattle.spanner_engine.specs.Passing.{known};
+ghost use Rattle.spanner_model.specs.Passing.{known};
 ghost use Rattle.session_server.specs.declared.TheConstants.{MOST_LINE_BYTES};
-ghost use Rattle.session_server.specs.Serve.{Is, Serves, ServesAll, ServesLines};
+ghost use Rattle.session_server.specs.Serve.{Serves, ServesAll, ServesLines};
 
 use crate::MOST_LINE_BYTES;
 use crate::answering::answer;
-use crate::ending::{Ending, report};
-use note_texts::{FixedNote, Note};
+use note_texts::{FixedNote, Note, Outcome};
 use rm_outside::{LineFault, Sink, Source, Status};
 use span_core::{OutOfMemory, Steps};
 use span_tests::{Judge, Tests};
@@ -37,8 +37,8 @@ pub fn serve<R: Source, O: Sink, N: Sink, J: Judge, L: Ledger>(
         (change (N.told notes.old) (N.told notes.new))
         result }
 {
-    let ending = serve_lines(alloc, most, tests, source, out, steps);
-    report(&ending, notes)
+    let outcome = serve_lines(alloc, most, tests, source, out, steps);
+    outcome.report(notes)
 }
 
 fn serve_lines<R: Source, O: Sink, J: Judge, L: Ledger>(
@@ -48,7 +48,7 @@ fn serve_lines<R: Source, O: Sink, J: Judge, L: Ledger>(
     source: &mut R,
     out: &mut O,
     steps: &mut Steps<L>,
-) -> Ending
+) -> Outcome
     ensures serves { ServesLines (known tests.now J.judges) most
         (change (R.told source.old) (R.told source.new))
         (change (O.told out.old) (O.told out.new))
@@ -61,31 +61,32 @@ fn serve_lines<R: Source, O: Sink, J: Judge, L: Ledger>(
         line.clear();
         match source.line(MOST_LINE_BYTES, &mut line) {
             Ok(true) => {}
-            Ok(false) => return Ending::fixed(Status::Done, FixedNote::End),
-            Err(LineFault::Failed) => return Ending::fixed(Status::Read, FixedNote::RequestsUnread),
+            Ok(false) => return Outcome::fixed(Status::Done, FixedNote::End),
+            Err(LineFault::Failed) => return Outcome::fixed(
+                Status::Read,
+                FixedNote::RequestsUnread,
+            ),
             Err(LineFault::TooLong { seen: _ }) => return too_long(alloc),
-            Err(LineFault::OutOfMemory) => {
-                return Ending::fixed(Status::Memory, FixedNote::OutOfMemory);
-            }
+            Err(LineFault::OutOfMemory) => return Outcome::out_of_memory(),
         }
         if served >= most {
-            return Ending::fixed(Status::Long, FixedNote::TooManyRequests);
+            return Outcome::fixed(Status::Long, FixedNote::TooManyRequests);
         }
         let reply = match answer(alloc, tests, &mut sessions, &line, steps) {
             Ok(reply) => reply,
-            Err(OutOfMemory) => return Ending::fixed(Status::Memory, FixedNote::OutOfMemory),
+            Err(OutOfMemory) => return Outcome::out_of_memory(),
         };
-        match out.put(reply.as_bytes()) {
+        match out.put(&reply) {
             Ok(()) => served += 1,
-            Err(_) => return Ending::fixed(Status::Write, FixedNote::WriteFailed),
+            Err(_) => return Outcome::fixed(Status::Write, FixedNote::WriteFailed),
         }
     }
 }
 
 /// A request is longer than any that is answered.
-fn too_long(alloc: Global) -> Ending
-    ensures { Is result.status (note_bytes result.note) Status.Long (counted (codes "request longer than ") MOST_LINE_BYTES (codes " bytes")) ⊎ Is result.status (note_bytes result.note) Status.Memory (codes "out of memory") }
+fn too_long(alloc: Global) -> Outcome
+    ensures { Is result.status (note_bytes result.note) Status.Long (counted (codes "request longer than ") MOST_LINE_BYTES (codes " bytes")) ⊎ IsOutOfMemory result.status (note_bytes result.note) }
 {
     let most = MOST_LINE_BYTES as u64;
-    Ending::with(alloc, Status::Long, &Note::RequestTooLong { most })
+    Outcome::with(alloc, Status::Long, &Note::RequestTooLong { most })
 }

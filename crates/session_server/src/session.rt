@@ -5,26 +5,28 @@ ghost use Rattle.spanner_model.specs.Answers.{SpanRow, AreResultNames, AreAnswer
 ghost use Rattle.spanner_model.specs.Expression.{QueryTree};
 ghost use Rattle.spanner_model.specs.ExprView.{query_of};
 ghost use Rattle.spanner_model.specs.Sound.{IsSound};
-ghost use Rattle.query_parser.specs.Tested.{TestedTree, IsTestedText};
-ghost use Rattle.query_parser.specs.TestedView.{tested_of};
+ghost use Rattle.query_parser.specs.Tested.{IsTestedText};
+ghost use Rattle.spanner_model.specs.Tested.{TestedTree, tested_of};
 ghost use Rattle.query_automaton.specs.CompiledQuery.{IsCompiled};
 ghost use Rattle.query_automaton.specs.Parts.{AtomsAreSmall};
-ghost use Rattle.spanner_engine.specs.Passing.{IsOnlyTested, Known, known};
-ghost use Rattle.note_texts.specs.Notes.{fault_note, size_note, table_note};
+ghost use Rattle.query_parser.specs.Binding.{IsOnlyTested};
+ghost use Rattle.spanner_model.specs.Passing.{Known, known};
+ghost use Rattle.row_writer.specs.Kept.{json_kept};
+ghost use Rattle.note_texts.specs.Notes.{table_note};
+ghost use Rattle.note_texts.specs.Refusals.{MatchNote};
 ghost use Rattle.session_server.specs.Replies.{Session as Spoken, asking, growing as growing_by, to_come};
-ghost use Rattle.session_server.specs.Standing.{GivesOne, GivesPage, HasGiven, IsBegun, IsGrowHalt, IsReadOn, IsRefusal, IsRowsHalt, IsSession, IsSessionOver, IsStartHalt, IsTooHeavy, IsWaiting, MatchNote, halt_of as halt_by, session_with};
+ghost use Rattle.session_server.specs.Standing.{GivesOne, GivesPage, HasGiven, IsBegun, IsGrowHalt, IsReadOn, IsRefusal, IsRowsHalt, IsSession, IsSessionOver, IsStartHalt, IsTooHeavy, IsWaiting, halt_of as halt_by};
 
+use crate::json_rows::JsonRows;
 use crate::{MOST_AUTOMATON, MOST_GROWN, SESSION_TABLE};
 use growing_document::{GrowFault, Growing};
-use marked_automaton::{Automaton, SizeFault};
-use note_texts::{Note, push_note};
-use query_parser::{QueryFault, Tested, read_tested};
-use row_writer::json_object;
-use serde_json::{Value, push};
-use span_core::{OutOfMemory, Row, Steps, VarSet};
+use marked_automaton::Automaton;
+use note_texts::{Note, Refusal};
+use query_parser::{bind, read_tested};
+use span_core::{OutOfMemory, Steps, VarSet};
 use span_tests::{Judge, Tests};
-use spanner_engine::{Answers, Compiled, bind, compile, next_tested};
-use spanner_model::Query;
+use spanner_engine::{Answers, Compiled, advance_tested, compile};
+use spanner_model::{Query, Tested};
 use std::alloc::Global;
 use std::sync::ledger::Ledger;
 
@@ -35,18 +37,10 @@ pub(crate) struct Session {
     vars: VarSet,
     growing: Growing,
     answers: Answers,
-    /// The next row, where one remains.
-    next: Option<Row>,
+    /// Whether a row remains; it is the one that `answers` has gone to.
+    some: bool,
     /// Whether the document has grown since its rows were asked for.
     grown: bool,
-}
-
-/// Why no session is opened.
-#[derive(Drop)]
-pub(crate) enum Refusal {
-    /// What the note says.
-    Note(Vec<u8>),
-    OutOfMemory,
 }
 
 /// Why a session is not gone on with.
@@ -57,10 +51,10 @@ pub(crate) enum Halt {
     OutOfMemory,
 }
 
-/// The rows of a session, as JSON, and whether more remain.
+/// The rows of a session, as a JSON array, and whether more remain.
 #[derive(Drop)]
 pub(crate) struct Page {
-    pub(crate) rows: Vec<Value>,
+    pub(crate) rows: Vec<u8>,
     pub(crate) more: bool,
 }
 
@@ -79,19 +73,9 @@ impl Session {
     {
         let tested = match read_tested(alloc, text) {
             Ok(tested) => tested,
-            Err(fault) => return Err(of_query(alloc, &fault)),
+            Err(fault) => return Err(Refusal::of_query(alloc, &fault)),
         };
-        match started(alloc, tests, text, &tested, document, steps) {
-            Ok(start) => Ok(Session {
-                tested,
-                vars: start.vars,
-                growing: start.growing,
-                answers: start.answers,
-                next: start.next,
-                grown: false,
-            }),
-            Err(refusal) => Err(refusal),
-        }
+        started(alloc, tests, text, tested, document, steps)
     }
 
     /// The variables of its rows.
@@ -156,7 +140,7 @@ impl Session {
             Err(fault) => return Err(halt_of(fault)),
         };
         self.answers = Answers::over(rows);
-        self.next = next_tested(
+        self.some = advance_tested(
             &mut self.answers,
             &self.tested,
             &self.vars,
@@ -208,39 +192,46 @@ impl Session {
             HasGiven (known tests.now J.judges) self.old self.new most page.rows.items page.more s all) }
         ensures vars { self.new.vars ≡ self.old.vars }
     {
-        let mut rows = Vec::new(alloc);
+        let mut rows = JsonRows::new(alloc, &self.vars)?;
         let mut count = 0u32;
         while count < most {
-            if !self.give(alloc, tests, &mut rows, steps)? {
-                return Ok(Page { rows, more: false });
+            if !self.give(tests, &mut rows, steps)? {
+                let array = rows.into_array()?;
+                return Ok(Page {
+                    rows: array,
+                    more: false,
+                });
             }
             count += 1;
         }
-        let more = self.next.is_some();
-        Ok(Page { rows, more })
+        let array = rows.into_array()?;
+        Ok(Page {
+            rows: array,
+            more: self.some,
+        })
     }
 
     /// Gives the next row, where one remains, behind those before it.
     fn give<J: Judge, L: Ledger>(
         &mut self,
-        alloc: Global,
         tests: &Tests<J>,
-        rows: &mut Vec<Value>,
+        rows: &mut JsonRows,
         steps: &mut Steps<L>,
     ) -> Result<bool, OutOfMemory>
+        requires line { rows.old.line ≡ json_kept self.old.vars }
         requires stands { (s : Spoken) × (all : List SpanRow) × IsSessionOver (known tests.now J.judges) self.old s all }
         ensures some { IfOk result (λ some. OnTrue some ((s : Spoken) (all : List SpanRow) → IsSessionOver (known tests.now J.judges) self.old s all →
-            GivesOne (known tests.now J.judges) self.old self.new rows.old.items rows.new.items s all)) }
-        ensures none { IfOk result (λ some. OnFalse some ((rows.new.items ≡ rows.old.items) × (self.new ≡ self.old)
+            GivesOne (known tests.now J.judges) self.old self.new rows.old.text.items rows.new.text.items s all)) }
+        ensures none { IfOk result (λ some. OnFalse some ((rows.new ≡ rows.old) × (self.new ≡ self.old)
             × ((s : Spoken) (all : List SpanRow) → IsSessionOver (known tests.now J.judges) self.old s all → to_come (known tests.now J.judges) s self.old.vars all ≡ []))) }
         ensures vars { self.new.vars ≡ self.old.vars }
+        ensures line { rows.new.line ≡ rows.old.line }
     {
-        let Some(row) = &self.next else {
+        if !self.some {
             return Ok(false);
-        };
-        let value = json_object(alloc, &self.vars, row, self.growing.document(), false)?;
-        push(rows, value)?;
-        self.next = next_tested(
+        }
+        rows.add(self.answers.spans(), self.growing.document())?;
+        self.some = advance_tested(
             &mut self.answers,
             &self.tested,
             &self.vars,
@@ -252,33 +243,24 @@ impl Session {
     }
 }
 
-/// What a session has beside its query.
-#[derive(Drop)]
-pub(crate) struct Start {
-    vars: VarSet,
-    growing: Growing,
-    answers: Answers,
-    next: Option<Row>,
-}
-
 /// Begins the rows of a query with its tests on a document.
 fn started<J: Judge, L: Ledger>(
     alloc: Global,
     tests: &Tests<J>,
     _text: &[u8],
-    tested: &Tested,
+    tested: Tested,
     document: &[u8],
     steps: &mut Steps<L>,
-) -> Result<Start, Refusal>
+) -> Result<Session, Refusal>
     requires few { length document.now ≤ 2 ^ 28 }
-    requires spelled { IsTestedText _text.now (tested_of tested.now) }
-    requires only { (other : TestedTree) → IsTestedText _text.now other → other ≡ tested_of tested.now }
-    ensures opened { IfOk result (λ s. IsBegun (known tests.now J.judges) _text.now document.now (session_with tested.now s)) }
+    requires spelled { IsTestedText _text.now (tested_of tested) }
+    requires only { (other : TestedTree) → IsTestedText _text.now other → other ≡ tested_of tested }
+    ensures opened { IfOk result (IsBegun (known tests.now J.judges) _text.now document.now) }
     ensures refused { IfErr result (IsRefusal (known tests.now J.judges) _text.now document.now) }
 {
-    match bind(tested, tests) {
+    match bind(&tested, tests) {
         Ok(()) => bound(alloc, tests, _text, tested, document, steps),
-        Err(fault) => Err(of_query(alloc, &fault)),
+        Err(fault) => Err(Refusal::of_query(alloc, &fault)),
     }
 }
 
@@ -287,13 +269,13 @@ fn bound<J: Judge, L: Ledger>(
     alloc: Global,
     tests: &Tests<J>,
     _text: &[u8],
-    tested: &Tested,
+    tested: Tested,
     document: &[u8],
     steps: &mut Steps<L>,
-) -> Result<Start, Refusal>
+) -> Result<Session, Refusal>
     requires few { length document.now ≤ 2 ^ 28 }
-    requires spelled { IsOnlyTested (known tests.now J.judges) _text.now (tested_of tested.now) }
-    ensures opened { IfOk result (λ s. IsBegun (known tests.now J.judges) _text.now document.now (session_with tested.now s)) }
+    requires spelled { IsOnlyTested (known tests.now J.judges) _text.now (tested_of tested) }
+    ensures opened { IfOk result (IsBegun (known tests.now J.judges) _text.now document.now) }
     ensures refused { IfErr result (IsRefusal (known tests.now J.judges) _text.now document.now) }
 {
     let Ready {
@@ -304,12 +286,14 @@ fn bound<J: Judge, L: Ledger>(
         Ok(begun) => begun,
         Err(refusal) => return Err(refusal),
     };
-    let next = next_tested(&mut answers, tested, &vars, tests, document, steps);
-    Ok(Start {
+    let some = advance_tested(&mut answers, &tested, &vars, tests, document, steps);
+    Ok(Session {
+        tested,
         vars,
         growing,
         answers,
-        next,
+        some,
+        grown: false,
     })
 }
 
@@ -338,7 +322,7 @@ fn begun<L: Ledger>(
 {
     match compile(alloc, query) {
         Ok(compiled) => all_of(alloc, compiled, document, steps),
-        Err(fault) => Err(of_size(alloc, &fault)),
+        Err(fault) => Err(Refusal::of_size(alloc, &fault)),
     }
 }
 
@@ -420,55 +404,12 @@ fn halt_of(fault: GrowFault) -> Halt
     }
 }
 
-/// The note of the fault of a query's text.
-fn of_query(alloc: Global, fault: &QueryFault) -> Refusal
-    ensures note { MatchNote result (fault_note fault.now) }
-    ensures memory { fault.now ≡ QueryFault.OutOfMemory → result ≡ Refusal.OutOfMemory }
-{
-    if wants_memory(fault) {
-        return Refusal::OutOfMemory;
-    }
-    let mut note = Vec::new(alloc);
-    match push_note(&Note::Query(fault), &mut note) {
-        Ok(()) => Refusal::Note(note),
-        Err(OutOfMemory) => Refusal::OutOfMemory,
-    }
-}
-
-fn wants_memory(fault: &QueryFault) -> bool
-    ensures not { OnFalse result (¬ (fault.now ≡ QueryFault.OutOfMemory)) }
-    ensures is { OnTrue result (fault.now ≡ QueryFault.OutOfMemory) }
-{
-    matches!(fault, QueryFault::OutOfMemory)
-}
-
-/// The note of a size.
-fn of_size(alloc: Global, fault: &SizeFault) -> Refusal
-    ensures note { MatchNote result (size_note fault.now) }
-    ensures memory { fault.now ≡ SizeFault.OutOfMemory → result ≡ Refusal.OutOfMemory }
-{
-    match fault {
-        SizeFault::OutOfMemory => Refusal::OutOfMemory,
-        SizeFault::States { count: _ } | SizeFault::Ways { count: _ } => {
-            let mut note = Vec::new(alloc);
-            match push_note(&Note::Size(fault), &mut note) {
-                Ok(()) => Refusal::Note(note),
-                Err(OutOfMemory) => Refusal::OutOfMemory,
-            }
-        }
-    }
-}
-
-/// The note of a table.
-fn of_table(alloc: Global) -> Refusal
+/// Reading a session's document weighs too much.
+pub(crate) fn of_table(alloc: Global) -> Refusal
     ensures { MatchNote result (table_note SESSION_TABLE) }
 {
     let heavy = Note::Table {
         limit: SESSION_TABLE,
     };
-    let mut note = Vec::new(alloc);
-    match push_note(&heavy, &mut note) {
-        Ok(()) => Refusal::Note(note),
-        Err(OutOfMemory) => Refusal::OutOfMemory,
-    }
+    Refusal::of_note(alloc, &heavy)
 }

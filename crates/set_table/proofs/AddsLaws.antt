@@ -20,13 +20,14 @@ use Rattle.set_table.specs.declared.answer.Answer.{Answer}
 use Rattle.set_table.specs.declared.answer.TableQuestion.TheVariants.{Ends}
 use Rattle.set_table.specs.declared.lists.Lists.{Lists}
 use Rattle.set_table.specs.Cut.{code_of, cut, mark_of, marks_among, marks_code}
-use Rattle.set_table.specs.Named.{IsLongerBy, PutsEdges}
-use Rattle.set_table.specs.Tabled.{IsStateSet, edge_named, reached, set_at, sets_weight, with_set, with_sets}
+use Rattle.set_table.specs.Named.{PutsEdges}
+use Rattle.numbered_lists.specs.Numbered.{IsLongerBy, set_at, with_set, with_sets}
+use Rattle.set_table.specs.Tabled.{IsStateSet, edge_named, reached, sets_weight}
 use Rattle.set_table.specs.Answered.{Adds, IsReady, answer_in, question_of, end_reach, part, room}
-use Rattle.set_table.proofs.Ascending.{Above, has_all, blocks_are, set_in_order}
+use Rattle.automaton_reading.proofs.Ascending.{Above, has_all, blocks_are, set_in_order}
 use Rattle.set_table.proofs.CutLaws.{AreNarrow, cut_is}
 use Rattle.set_table.proofs.NamingLaws.{weight_with}
-use Rattle.set_table.proofs.SetsLaws.{at_place, longer_itself}
+use Rattle.numbered_lists.proofs.SetsLaws.{at_place, longer_itself}
 
 -- ---- lists
 

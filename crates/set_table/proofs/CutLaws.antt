@@ -11,7 +11,7 @@ use Rattle.automaton_reading.specs.Reading.{Reach, reach_with, set_of, blocks_do
 use Rattle.automaton_reading.proofs.Determined.{set_has, has_set}
 use Rattle.marked_automaton.proofs.Passing.{filter_cases, has_filter}
 use Rattle.set_table.specs.Cut.{code, code_of, marks_of, to_of, one_reach, join, cut}
-use Rattle.set_table.proofs.Ascending.{has_all, Above, set_is, blocks_are, set_in_order}
+use Rattle.automaton_reading.proofs.Ascending.{has_all, Above, set_is, blocks_are, set_in_order}
 
 abbrev pub marks_in : List Reach → List ℕ
 marks_in es = map (λ (e : Reach). e.marks) es

@@ -24,12 +24,12 @@ use Rattle.set_table.specs.declared.answer.TableQuestion.TheVariants.{Byte, Rest
 use Rattle.set_table.specs.declared.answer.Answer.{Answer}
 use Rattle.set_table.specs.declared.lists.Lists.{Lists}
 use Rattle.set_table.specs.declared.store.Store.{Store}
-use Rattle.set_table.specs.Named.{IsLongerBy}
-use Rattle.set_table.specs.Tabled.{HasEdges, HasEnds, idle_of, IsStateSet, IsTabled, Tabled, asked_first, look_up, look_ups_weight, weight, edge_named, reached, set_at, sets_weight}
+use Rattle.numbered_lists.specs.Numbered.{IsLongerBy, set_at}
+use Rattle.set_table.specs.Tabled.{HasEdges, HasEnds, idle_of, IsStateSet, IsTabled, Tabled, asked_first, look_up, look_ups_weight, weight, edge_named, reached, sets_weight}
 use Rattle.set_table.specs.Answered.{Adds, IsAnswer, IsHeld, IsQuestion, IsSound, tabled, answer_in, question_of, end_reach, look_up_of, look_ups_of, part, place_in, place_of, room, with_places}
-use Rattle.set_table.proofs.Ascending.{Above, has_all, blocks_in_order, set_in_order}
+use Rattle.automaton_reading.proofs.Ascending.{Above, has_all, blocks_in_order, set_in_order}
 use Rattle.set_table.proofs.NamingLaws.{named_stay}
-use Rattle.set_table.proofs.SetsLaws.{has_with_sets, number_told, set_stays, with_sets_apart, with_sets_longer}
+use Rattle.numbered_lists.proofs.SetsLaws.{has_with_sets, number_told, set_stays, with_sets_apart, with_sets_longer, at_number}
 
 -- ---- questions and their places
 
@@ -554,9 +554,6 @@ rest_is_one (p ∷ ps) r rs e = ((let f : r ≡ record { marks = 0; to = p ∷ p
   where
     differ : p ∷ ps ≡ [] → ⊥
     differ f = cc
-
-pub at_number : (sets : List (List ℕ)) (k : ℕ) → k < length sets → slice_get sets k ≡ Some (set_at sets k)
-at_number sets k l = slice_get-get_or sets k [] l
 
 pub some_rest : (t : Tabled) (k : ℕ) (es : List Edge) (f : Edge) → HasEdges t (look_up t k rest_taken) es → (length es ≡ 0 → ⊥) → f ≡ get_or es 0 f → (slice_get t.sets f.to ≡ Some (idle_of t k)) × (idle_of t k ≡ [] → ⊥)
 some_rest t k [] f h o at = absurd (o refl)

@@ -1,12 +1,12 @@
-pub mod Ascending
 pub mod CutLaws
 pub mod Gathered
-pub mod SetsLaws
 pub mod RunLaws
 pub mod NamingLaws
 pub mod AddsLaws
 pub mod HeldLaws
 pub mod StayingLaws
+pub mod PartLaws
+pub mod WayRunLaws
 pub mod StayLaws
 pub mod SpreadLaws
 pub mod OnceLaws

@@ -8,9 +8,10 @@ use Rattle.span_core.specs.Lists.{Has}
 use Rattle.span_core.proofs.HasLaws.{Has-append_cases}
 use Rattle.automaton_reading.specs.Reading.{Reach}
 use Rattle.set_table.specs.Cut.{cut}
-use Rattle.set_table.specs.Named.{IsLongerBy, PutsRun, run}
-use Rattle.set_table.specs.Tabled.{edge_named, sets_weight, with_set, with_sets}
-use Rattle.set_table.proofs.SetsLaws.{at_place, longer_then, set_stays, with_set_cases, with_set_longer}
+use Rattle.set_table.specs.Named.{PutsRun, run}
+use Rattle.numbered_lists.specs.Numbered.{IsLongerBy, with_set, with_sets}
+use Rattle.set_table.specs.Tabled.{edge_named, sets_weight}
+use Rattle.numbered_lists.proofs.SetsLaws.{at_place, longer_then, set_stays, with_set_cases, with_set_longer}
 
 -- what a set weighs where it is put in
 pub weight_with : (sets new : List (List ℕ)) (s : List ℕ) (n w : ℕ) → new ≡ with_set sets s → length s ≡ n →

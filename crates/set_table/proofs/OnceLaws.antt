@@ -9,9 +9,9 @@ use Rattle.automaton_reading.specs.Reading.{LookUp, look_up_same}
 use Rattle.automaton_reading.proofs.MeasureLaws.{look_up_itself, same_look_up}
 use Rattle.set_table.specs.declared.fault.TableFault.{TableFault}
 use Rattle.set_table.specs.Lending.{Gives}
-use Rattle.set_table.specs.Named.{IsLongerBy}
-use Rattle.set_table.specs.Tabled.{IsRefusal, Tabled, asked_first, once_asked, reached, set_at, was_asked}
-use Rattle.set_table.proofs.SetsLaws.{apart_more, has_with_sets, longer_itself, set_stays, with_sets_apart, with_sets_longer}
+use Rattle.numbered_lists.specs.Numbered.{IsLongerBy, set_at}
+use Rattle.set_table.specs.Tabled.{IsRefusal, Tabled, asked_first, once_asked, reached, was_asked}
+use Rattle.numbered_lists.proofs.SetsLaws.{apart_more, has_with_sets, longer_itself, set_stays, with_sets_apart, with_sets_longer}
 
 -- ---- whether it was asked
 

@@ -16,12 +16,12 @@ use Rattle.std.proofs.lemmas.List.{append-nil, get_or-set_same, get_or-set_other
 use Rattle.set_table.specs.declared.answer.TableQuestion.TheVariants.{Byte, Ends}
 use Rattle.set_table.specs.declared.answer.TableQuestion.{TableQuestion}
 use Rattle.set_table.specs.declared.answer.Answer.{Answer}
-use Rattle.set_table.specs.Named.{IsLongerBy}
+use Rattle.numbered_lists.specs.Numbered.{IsLongerBy, set_at}
 use Rattle.set_table.specs.Answered.{AreStays, IsHeld, IsNoted, LeadsBack, question_of, look_up_of, look_ups_of, part}
 use Rattle.set_table.proofs.HeldLaws.{edges_are, same_question}
-use Rattle.set_table.proofs.SetsLaws.{number_told}
+use Rattle.numbered_lists.proofs.SetsLaws.{number_told}
 use Rattle.set_table.proofs.StayingLaws.{Sets}
-use Rattle.set_table.specs.Tabled.{HasEdges, HasStayed, IsStateSet, Stays, Tabled, edge_named, look_up, one_edge, set_at}
+use Rattle.set_table.specs.Tabled.{HasEdges, HasStayed, IsStateSet, Stays, Tabled, edge_named, look_up, one_edge}
 
 -- one edge that goes to the set itself
 pub stays_there : (t : Tabled) (k b : ℕ) (es : List Edge) → HasEdges t (look_up t k (byte_read b)) es → es ≡ one_edge k ∷ [] → Stays t k b

@@ -14,15 +14,16 @@ use Rattle.span_core.specs.Lists.{Has, IsInOrder}
 use Rattle.span_core.proofs.HasLaws.{Has-map, Has-map_cases, Has-append_cases, Has-append_left, Has-append_right, Has-get_or}
 use Rattle.span_core.proofs.ListLaws.{all_has}
 use Rattle.marked_automaton.specs.declared.way.Way.{Way}
-use Rattle.marked_automaton.specs.Automaton.{Automaton, ways_from}
+use Rattle.marked_automaton.specs.Automaton.{Automaton, ByteClass, ways_from}
 use Rattle.marked_automaton.proofs.Listed.{same_or_not}
 use Rattle.marked_automaton.proofs.Passing.{filter_cases, has_filter, has_flat_map, flat_map_cases, both_true, left_true, right_true, or_left, or_right}
 use Rattle.automaton_reading.specs.Reading.{Reach, is_among, set_of, ways_taken, reach_with, blocks_down}
 use Rattle.automaton_reading.proofs.Determined.{among_has, has_among, edge_way, way_edge, has_block}
 use Rattle.set_table.specs.declared.staying.Leading.{Leading}
+use Rattle.set_table.specs.Runs.{Bounds}
 use Rattle.set_table.specs.Staying.{AreGathered, GoesElsewhere, GoesTo, IsInside, LeadsBackOn}
 use Rattle.set_table.specs.Tabled.{StaysOn}
-use Rattle.set_table.proofs.Ascending.{blocks_are, set_is}
+use Rattle.automaton_reading.proofs.Ascending.{blocks_are, set_is}
 
 abbrev pub Sets : Type 0
 Sets = List (bytes.FinSet nat_cmp)
@@ -110,7 +111,7 @@ pub gathered_at : (members : List ℕ) (y : Way) (old new : Leading) (k : ℕ) (
     (ways : List Way) → AreGathered members ways old → AreGathered members (ways ++ y ∷ []) new
 gathered_at members y old new k s u up within at marks read union is same_else same_count ways g = record {
   count = same_count ∙ g.count;
-  to_members = λ j b l. each j b l (same_or_not j k);
+  to_members = λ j b l clear. each j b l (λ h. clear (else_before members ways y b h)) (same_or_not j k);
   elsewhere = λ b. (
     (λ t. else_before members ways y b ((g.elsewhere b).0 (sym (ap (λ v. bytes.contains v b) same_else) ∙ t))),
     (λ h. ap (λ v. bytes.contains v b) same_else ∙ elim (else_more members ways y b h) as (λ _. IsTrue (bytes.contains old.elsewhere b)) [
@@ -123,26 +124,26 @@ gathered_at members y old new k s u up within at marks read union is same_else s
     within_old : k < length old.to_members.items
     within_old = omega (arith, within, g.count)
 
-    each : (j b : ℕ) → j < length members → (j ≡ k) ⊎ (j ≡ k → ⊥) → IsTrue (bytes.contains (get_or new.to_members.items j bytes.empty) b) ↔ GoesTo (ways ++ y ∷ []) (get_or members j 0) b
-    each j b l (inl e) =
+    each : (j b : ℕ) → j < length members → ¬ GoesElsewhere ways members b → (j ≡ k) ⊎ (j ≡ k → ⊥) → IsTrue (bytes.contains (get_or new.to_members.items j bytes.empty) b) ↔ GoesTo (ways ++ y ∷ []) (get_or members j 0) b
+    each j b l clear (inl e) =
         let here : get_or new.to_members.items j bytes.empty ≡ bytes.union s y.bytes =
         ap (λ v. get_or new.to_members.items v bytes.empty) e ∙ (ap (λ v. get_or v k bytes.empty) is ∙ (get_or-set_same old.to_members.items k u bytes.empty within_old ∙ union)) in
         let before : get_or old.to_members.items j bytes.empty ≡ s = ap (λ v. get_or old.to_members.items v bytes.empty) e ∙ sym (get_or_read old.to_members.items k s within_old read bytes.empty) in
         let to : y.to ≡ get_or members j 0 = sym at ∙ ap (λ v. get_or members v 0) (sym e) in (
           (λ t. elim ((in_union s y.bytes b).0 (sym (ap (λ v. bytes.contains v b) here) ∙ t)) as (λ _. GoesTo (ways ++ y ∷ []) (get_or members j 0) b) [
-            | inl f ↦ to_before members ways y (get_or members j 0) b ((g.to_members j b l).0 (ap (λ v. bytes.contains v b) before ∙ f))
+            | inl f ↦ to_before members ways y (get_or members j 0) b ((g.to_members j b l clear).0 (ap (λ v. bytes.contains v b) before ∙ f))
             | inr f ↦ to_here members ways y (get_or members j 0) b f marks to
           ]),
           (λ h. ap (λ v. bytes.contains v b) here ∙ (in_union s y.bytes b).1 (elim (to_more members ways y (get_or members j 0) b h) as (λ _. IsTrue (bytes.contains s b) ⊎ IsTrue (bytes.contains y.bytes b)) [
-            | inl f ↦ inl (sym (ap (λ v. bytes.contains v b) before) ∙ (g.to_members j b l).1 f)
+            | inl f ↦ inl (sym (ap (λ v. bytes.contains v b) before) ∙ (g.to_members j b l clear).1 f)
             | inr f ↦ inr f.0
           ])),
         )
-    each j b l (inr other) =
+    each j b l clear (inr other) =
         let same : get_or new.to_members.items j bytes.empty ≡ get_or old.to_members.items j bytes.empty = ap (λ v. get_or v j bytes.empty) is ∙ get_or-set_other old.to_members.items k j u bytes.empty other in (
-          (λ t. to_before members ways y (get_or members j 0) b ((g.to_members j b l).0 (sym (ap (λ v. bytes.contains v b) same) ∙ t))),
+          (λ t. to_before members ways y (get_or members j 0) b ((g.to_members j b l clear).0 (sym (ap (λ v. bytes.contains v b) same) ∙ t))),
           (λ h. ap (λ v. bytes.contains v b) same ∙ elim (to_more members ways y (get_or members j 0) b h) as (λ _. IsTrue (bytes.contains (get_or old.to_members.items j bytes.empty) b)) [
-            | inl f ↦ (g.to_members j b l).1 f
+            | inl f ↦ (g.to_members j b l clear).1 f
             | inr f ↦ absurd (other (one_place members up j k l within (sym f.2 ∙ sym at)))
           ]),
         )
@@ -152,11 +153,12 @@ pub gathered_elsewhere : (members : List ℕ) (y : Way) (old new : Leading) → 
     (ways : List Way) → AreGathered members ways old → AreGathered members (ways ++ y ∷ []) new
 gathered_elsewhere members y old new out is union ways g = record {
   count = ap length is ∙ g.count;
-  to_members = λ j b l.
+  to_members = λ j b l clear.
+      let clear_before : ¬ GoesElsewhere ways members b = λ h. clear (else_before members ways y b h) in
       let same : bytes.contains (get_or new.to_members.items j bytes.empty) b ≡ bytes.contains (get_or old.to_members.items j bytes.empty) b = ap (λ v. bytes.contains (get_or v j bytes.empty) b) is in (
-        (λ t. to_before members ways y (get_or members j 0) b ((g.to_members j b l).0 (sym same ∙ t))),
+        (λ t. to_before members ways y (get_or members j 0) b ((g.to_members j b l clear_before).0 (sym same ∙ t))),
         (λ h. same ∙ elim (to_more members ways y (get_or members j 0) b h) as (λ _. IsTrue (bytes.contains (get_or old.to_members.items j bytes.empty) b)) [
-          | inl f ↦ (g.to_members j b l).1 f
+          | inl f ↦ (g.to_members j b l clear_before).1 f
           | inr f ↦ absurd (out (f.1, subst (Has members) (sym f.2) (Has-get_or members j 0 l)))
         ]),
       );
@@ -176,7 +178,7 @@ gathered_elsewhere members y old new out is union ways g = record {
 pub gathered_none : (members : List ℕ) (x : Leading) → length x.to_members.items ≡ length members → ((k : ℕ) → get_or x.to_members.items k bytes.empty ≡ bytes.empty) → x.elsewhere ≡ bytes.empty → AreGathered members [] x
 gathered_none members x count none nowhere = record {
   count = count;
-  to_members = λ k b l. ((λ t. absurd (differ (sym (ap (λ v. bytes.contains v b) (none k) ∙ contains-empty nat_cmp b) ∙ t))), (λ h. absurd h.1));
+  to_members = λ k b l clear. ((λ t. absurd (differ (sym (ap (λ v. bytes.contains v b) (none k) ∙ contains-empty nat_cmp b) ∙ t))), (λ h. absurd h.1));
   elsewhere = λ b. ((λ t. absurd (differ (sym (ap (λ v. bytes.contains v b) nowhere ∙ contains-empty nat_cmp b) ∙ t))), (λ h. absurd h.1));
 }
   where
@@ -223,7 +225,7 @@ module _ (A : Automaton) (members : List ℕ) (ways : List Way) (x : Leading) (u
       led : (q : ℕ) → Has members q → (y : Way) × Has taken y × (y.marks ≡ 0) × (y.to ≡ q)
       led q h =
           let k = some_place members q h in
-          let y = (g.to_members k.0 b k.1).0 (back_on.to_each k.0 (omega (arith, k.1, g.count))) in
+          let y = (g.to_members k.0 b k.1 (λ e. back_on.nowhere_else ((g.elsewhere b).1 e))).0 (back_on.to_each k.0 (omega (arith, k.1, g.count))) in
           (y.0, way_taken y.0 y.1 y.2, y.3, y.4 ∙ k.2)
 
       no_marks : 0 ∷ [] ≡ blocks_down (map (λ (y : Way). y.marks) taken)
@@ -257,13 +259,6 @@ module _ (A : Automaton) (members : List ℕ) (ways : List Way) (x : Leading) (u
       only e (inl f) = f
       only e (inr m) = absurd m
 
-      all : (k : ℕ) → k < length x.to_members.items → IsTrue (bytes.contains (get_or x.to_members.items k bytes.empty) b)
-      all k l =
-          let within : k < length members = omega (arith, l, g.count) in
-          let q = get_or members k 0 in
-          let y = edge_way A members b back q (subst (λ (es : List Reach). Has es back) (sym h) (inl refl)) (Has-get_or members k 0 within) in
-          (g.to_members k b within).1 (y.0, (are y.0).1 (y.1, y.2), y.3, y.4, y.5)
-
       nowhere : IsTrue (bytes.contains x.elsewhere b) → ⊥
       nowhere t =
           let y = (g.elsewhere b).0 t in
@@ -271,6 +266,13 @@ module _ (A : Automaton) (members : List ℕ) (ways : List Way) (x : Leading) (u
           let e = way_edge A members b y.0 r.0 r.1 y.2 in
           let f = only e.0 (subst (λ (es : List Reach). Has es e.0) h e.1) in
           y.3 (sym e.2 ∙ sym (ap (λ (r : Reach). r.marks) f), subst (λ (r : Reach). Has r.to y.0.to) (sym f) e.3)
+
+      all : (k : ℕ) → k < length x.to_members.items → IsTrue (bytes.contains (get_or x.to_members.items k bytes.empty) b)
+      all k l =
+          let within : k < length members = omega (arith, l, g.count) in
+          let q = get_or members k 0 in
+          let y = edge_way A members b back q (subst (λ (es : List Reach). Has es back) (sym h) (inl refl)) (Has-get_or members k 0 within) in
+          (g.to_members k b within (λ e. nowhere ((g.elsewhere b).1 e))).1 (y.0, (are y.0).1 (y.1, y.2), y.3, y.4, y.5)
 
 -- no state stays on no byte
 pub none_stays : (A : Automaton) (b : ℕ) → StaysOn A [] b → ⊥
@@ -374,6 +376,40 @@ in_difference s e t b is = (
     by : (v : Bool) → bytes.contains e b ≡ v → (IsTrue (bytes.contains e b) → ⊥) → not v ≡ true
     by true f n = absurd (n f)
     by false f n = refl
+
+-- a run of ways whose bytes lead elsewhere already may be passed over
+pub gathered_skipped : (members : List ℕ) (before run : List Way) (bound : ByteClass) (x : Leading) → Bounds bound run → bytes.difference bound x.elsewhere ≡ bytes.empty → AreGathered members before x →
+    AreGathered members (before ++ run) x
+gathered_skipped members before run bound x bounds none g = record {
+  count = g.count;
+  to_members = λ k b l clear.
+      let clear_before : ¬ GoesElsewhere before members b = λ h. clear (h.0, Has-append_left before run h.0 h.1, h.2, h.3) in (
+        (λ t. let y = (g.to_members k b l clear_before).0 t in (y.0, Has-append_left before run y.0 y.1, y.2, y.3, y.4)),
+        (λ y. elim (Has-append_cases before run y.0 y.1) as (λ _. IsTrue (bytes.contains (get_or x.to_members.items k bytes.empty) b)) [
+          | inl m ↦ (g.to_members k b l clear_before).1 (y.0, m, y.2, y.3, y.4)
+          | inr m ↦ absurd (clear_before ((g.elsewhere b).0 (already y.0 b m y.2)))
+        ]),
+      );
+  elsewhere = λ b. (
+    (λ t. let y = (g.elsewhere b).0 t in (y.0, Has-append_left before run y.0 y.1, y.2, y.3)),
+    (λ y. elim (Has-append_cases before run y.0 y.1) as (λ _. IsTrue (bytes.contains x.elsewhere b)) [
+      | inl m ↦ (g.elsewhere b).1 (y.0, m, y.2, y.3)
+      | inr m ↦ already y.0 b m y.2
+    ]),
+  );
+}
+  where
+    differ : false ≡ true → ⊥
+    differ e = cc
+
+    already : (y : Way) (b : ℕ) → Has run y → IsTrue (bytes.contains y.bytes b) → IsTrue (bytes.contains x.elsewhere b)
+    already y b m byte = by (bytes.contains x.elsewhere b) refl
+      where
+        by : (v : Bool) → bytes.contains x.elsewhere b ≡ v → IsTrue (bytes.contains x.elsewhere b)
+        by true e = e
+        by false e =
+            let left = (in_difference bound x.elsewhere (bytes.difference bound x.elsewhere) b refl).1 (bounds y b m byte, λ t. differ (sym e ∙ t)) in
+            absurd (differ (sym (ap (λ v. bytes.contains v b) none ∙ contains-empty nat_cmp b) ∙ left))
 
 -- and what is left of all of them without another set
 pub met_told : (x : Leading) (n : ℕ) (s t : bytes.FinSet nat_cmp) → 0 < length x.to_members.items → n ≡ length x.to_members.items → AreMet x.to_members.items n s → t ≡ bytes.difference s x.elsewhere →

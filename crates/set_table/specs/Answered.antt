@@ -13,8 +13,9 @@ use Rattle.set_table.specs.declared.answer.Answer.{Answer}
 use Rattle.set_table.specs.declared.lists.Added.{Added}
 use Rattle.set_table.specs.declared.lists.Lists.{Lists}
 use Rattle.set_table.specs.declared.store.Store.{Store}
-use Rattle.set_table.specs.Named.{IsLongerBy}
-use Rattle.set_table.specs.Tabled.{HasStayed, Tabled, IsStateSet, Stays, StaysOn, edge_named, look_up, look_ups_weight, one_edge, reached, set_at, sets_weight, with_sets}
+use Rattle.numbered_lists.specs.Numbered.{IsLongerBy, set_at, with_sets}
+use Rattle.set_table.specs.Runs.{AreIndexed}
+use Rattle.set_table.specs.Tabled.{HasStayed, Tabled, IsStateSet, Stays, StaysOn, edge_named, look_up, look_ups_weight, one_edge, reached, sets_weight}
 
 abbrev pub question_of : TableQuestion → Question
 question_of (Byte b) = byte_read b
@@ -121,6 +122,7 @@ pub record IsSound (M : Marked) (limit w : ℕ) (s : Store) : Type 0 where
   pub light : w ≤ limit
   pub held : Holds M.graph s w
   pub stays : AreStays (tabled M.graph limit s) s.stays.items
+  pub indexed : AreIndexed M.graph.ways s.lists.runs
 
 -- what is there once an answer is made, before it is kept
 pub record Adds (A : Automaton) (old new : Lists) (x : Answer) (w : ℕ) : Type 0 where
@@ -155,3 +157,4 @@ pub record IsReady (M : Marked) (lists : Lists) (k : ℕ) : Type 0 where
   pub few_sets : length lists.sets ≤ 100000000
   pub few_edges : length lists.edges.items ≤ 100000000
   pub few_ends : length lists.ends.items ≤ 100000000
+  pub indexed : AreIndexed M.graph.ways lists.runs

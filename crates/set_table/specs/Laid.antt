@@ -3,6 +3,7 @@ use Rattle.std.specs.Prelude.{◌≤◌}
 use Rattle.marked_automaton.specs.Automaton.{Automaton}
 use Rattle.set_table.specs.declared.state.TableState.{TableState}
 use Rattle.set_table.specs.Answered.{AreStays, Holds, tabled}
+use Rattle.set_table.specs.Runs.{AreIndexed}
 use Rattle.set_table.specs.Tabled.{Tabled}
 
 -- the table as which a state is taken up with this automaton
@@ -15,3 +16,4 @@ pub record IsStateOf (A : Automaton) (x : TableState) : Type 0 where
   pub light : x.weight ≤ x.limit
   pub held : Holds A x.store x.weight
   pub stays : AreStays (taken_up A x) x.store.stays.items
+  pub indexed : AreIndexed A.ways x.store.lists.runs

@@ -2,8 +2,8 @@
 pub mod Tabled
 pub mod Codes
 pub mod Cut
-pub mod Listed
 pub mod Named
+pub mod Runs
 pub mod Answered
 pub mod Laid
 pub mod Lending

@@ -4,11 +4,8 @@ use Rattle.span_core.specs.declared.edge.Edge.{Edge}
 use Rattle.span_core.specs.Lists.{Has}
 use Rattle.automaton_reading.specs.Reading.{Reach}
 use Rattle.set_table.specs.Cut.{cut, marks_of, to_of}
-use Rattle.set_table.specs.Tabled.{edge_named, sets_weight, with_set, with_sets}
-
--- the list, and then more
-abbrev pub IsLongerBy : {X : Type 0} → List X → List X → Type 0
-IsLongerBy {X} old new = (more : List X) × (new ≡ old ++ more)
+use Rattle.set_table.specs.Tabled.{edge_named, sets_weight}
+use Rattle.numbered_lists.specs.Numbered.{with_set, with_sets}
 
 -- the first n numbers, of the marks of the first
 abbrev pub run : List ℕ → ℕ → Reach

@@ -22,8 +22,8 @@ pub record LeadsBackOn (x : Leading) (b : ℕ) : Type 0 where
   pub to_each : (k : ℕ) → k < length x.to_members.items → IsTrue (bytes.contains (slice_index_or x.to_members.items k bytes.empty) b)
   pub nowhere_else : ¬ IsTrue (bytes.contains x.elsewhere b)
 
--- gathered from these ways: for each member the bytes that lead to it, and those that lead elsewhere
+-- gathered from these ways: the bytes that lead elsewhere, and for each member those of the others that lead to it
 pub record AreGathered (members : List ℕ) (ways : List Way) (x : Leading) : Type 0 where
   pub count : length x.to_members.items ≡ length members
-  pub to_members : (k b : ℕ) → k < length members → IsTrue (bytes.contains (slice_index_or x.to_members.items k bytes.empty) b) ↔ GoesTo ways (slice_index_or members k 0) b
+  pub to_members : (k b : ℕ) → k < length members → ¬ GoesElsewhere ways members b → IsTrue (bytes.contains (slice_index_or x.to_members.items k bytes.empty) b) ↔ GoesTo ways (slice_index_or members k 0) b
   pub elsewhere : (b : ℕ) → IsTrue (bytes.contains x.elsewhere b) ↔ GoesElsewhere ways members b

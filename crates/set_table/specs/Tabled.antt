@@ -1,13 +1,13 @@
 -- A table of the sets of states that are reached, and of what was asked of each.
-use Rattle.std.specs.Prelude.{◌≡◌, ℕ, ◌+◌, ◌<◌, ◌≤◌, Bool, List, [], ◌∷◌, ◌++◌, map, length, slice_get, slice_index_or, Option, None, Some, if◌then◌else◌}
+use Rattle.std.specs.Prelude.{◌≡◌, ℕ, ◌+◌, ◌<◌, ◌≤◌, Bool, List, [], ◌∷◌, ◌++◌, map, length, slice_get, Option, None, Some, if◌then◌else◌}
 use Rattle.std.specs.List.{filter, list_any, sum_by}
-use Rattle.std.specs.Str.{bytes_eq}
 use Rattle.span_core.specs.declared.edge.Edge.{Edge}
 use Rattle.set_table.specs.declared.fault.TableFault.{TableFault}
 use Rattle.set_table.specs.declared.fault.TableFault.TheVariants.{Full, OutOfMemory}
 use Rattle.span_core.specs.Lists.{Has, AreDistinct, IsInOrder}
 use Rattle.marked_automaton.specs.Automaton.{Automaton}
 use Rattle.automaton_reading.specs.Reading.{Question, byte_read, rest_taken, ended, Reach, LookUp, edges, is_among, look_up_edges, look_up_same, set_of}
+use Rattle.numbered_lists.specs.Numbered.{set_at, with_sets}
 
 -- the automaton that is read, the greatest weight, the sets in the order of their numbers, and what
 -- was asked of which set, in the order in which it was
@@ -16,10 +16,6 @@ pub record Tabled : Type 0 where
   pub limit : ℕ
   pub sets : List (List ℕ)
   pub look_ups : List LookUp
-
--- the set of this number
-abbrev pub set_at : List (List ℕ) → ℕ → List ℕ
-set_at sets k = slice_index_or sets k []
 
 -- what is asked of the set of this number
 abbrev pub look_up : Tabled → ℕ → Question → LookUp
@@ -30,14 +26,6 @@ abbrev pub reached : Automaton → List ℕ → Question → List (List ℕ)
 reached A set (byte_read b) = map (λ (e : Reach). e.to) (edges A set (byte_read b))
 reached A set rest_taken = map (λ (e : Reach). e.to) (edges A set rest_taken)
 reached A set ended = []
-
--- the sets with this one, which comes last if it is new
-abbrev pub with_set : List (List ℕ) → List ℕ → List (List ℕ)
-with_set sets s = if list_any (bytes_eq s) sets then sets else sets ++ s ∷ []
-
-abbrev pub with_sets : List (List ℕ) → List (List ℕ) → List (List ℕ)
-with_sets sets [] = sets
-with_sets sets (s ∷ more) = with_sets (with_set sets s) more
 
 -- the table of the set of the start states alone
 abbrev pub fresh : Automaton → ℕ → Tabled

@@ -5,7 +5,6 @@
 #![tactic(auto)]
 
 pub use fault::TableFault;
-pub use numbered_lists::NumberedLists;
 pub use state::TableState;
 pub use table::Table;
 
@@ -14,9 +13,12 @@ mod fault;
 mod index;
 mod lists;
 mod naming;
-mod numbered_lists;
+mod parts;
 mod reaching;
 mod state;
 mod staying;
 mod store;
 mod table;
+#[cfg(test)]
+mod tests;
+mod way_runs;

@@ -1,12 +1,15 @@
 //! What answers are made of: sets, edges and the marks of ends, in lists that only grow.
-ghost use Rattle.std.specs.Prelude.{◌≡◌, [], ◌∷◌, IfOk};
+ghost use Rattle.std.specs.Prelude.{◌≡◌, [], ◌∷◌, List, IfOk};
+ghost use Rattle.marked_automaton.specs.declared.way.Way.{Way as WayOf};
 ghost use Rattle.set_table.specs.Answered.{AreLonger, HasAdded, IsReady};
+ghost use Rattle.set_table.specs.Runs.{AreIndexed};
 
 use crate::answer::TableQuestion;
 use crate::naming::{put_edges, put_ends, put_rest};
-use crate::numbered_lists::NumberedLists;
 use crate::reaching::{idle_members, put_codes, put_marks};
+use crate::way_runs::WayRuns;
 use marked_automaton::Automaton;
+use numbered_lists::NumberedLists;
 use span_core::{Edge, Marks, OutOfMemory};
 use std::alloc::Global;
 
@@ -16,6 +19,8 @@ pub(crate) struct Lists {
     pub(crate) sets: NumberedLists,
     pub(crate) edges: Vec<Edge>,
     pub(crate) ends: Vec<Marks>,
+    /// The ways of states with many of them.
+    pub(crate) runs: WayRuns,
     /// Room for what members reach.
     codes: Vec<u128>,
 }
@@ -34,6 +39,7 @@ impl Lists {
         ensures sets { IfOk result (λ lists. lists.sets ≡ start.items ∷ []) }
         ensures edges { IfOk result (λ lists. lists.edges.items ≡ []) }
         ensures ends { IfOk result (λ lists. lists.ends.items ≡ []) }
+        ensures indexed { IfOk result (λ lists. (ways : List WayOf) → AreIndexed ways lists.runs) }
     {
         let mut sets = NumberedLists::new(alloc);
         sets.number_of(start)?;
@@ -41,6 +47,7 @@ impl Lists {
             sets,
             edges: Vec::new(alloc),
             ends: Vec::new(alloc),
+            runs: WayRuns::new(alloc),
             codes: Vec::new(alloc),
         })
     }
@@ -57,6 +64,7 @@ impl Lists {
         requires { IsReady automaton.now self.old set }
         ensures added { IfOk result (HasAdded automaton.now.graph self.old self.new set question) }
         ensures longer { AreLonger self.old self.new }
+        ensures indexed { AreIndexed automaton.now.graph.ways self.new.runs }
     {
         match question {
             TableQuestion::Byte(byte) => self.add_edges(alloc, automaton, set, byte),
@@ -76,8 +84,15 @@ impl Lists {
         requires { IsReady automaton.now self.old set }
         ensures added { IfOk result (HasAdded automaton.now.graph self.old self.new set (TableQuestion.Byte byte)) }
         ensures longer { AreLonger self.old self.new }
+        ensures indexed { AreIndexed automaton.now.graph.ways self.new.runs }
     {
-        put_codes(&mut self.codes, automaton, self.sets.at(set as usize), byte)?;
+        put_codes(
+            &mut self.codes,
+            &mut self.runs,
+            automaton,
+            self.sets.at(set as usize),
+            byte,
+        )?;
         let first = self.edges.len();
         let added = put_edges(
             alloc,
@@ -102,6 +117,7 @@ impl Lists {
         requires { IsReady automaton.now self.old set }
         ensures added { IfOk result (HasAdded automaton.now.graph self.old self.new set TableQuestion.Rest) }
         ensures longer { AreLonger self.old self.new }
+        ensures indexed { AreIndexed automaton.now.graph.ways self.new.runs }
     {
         let idle = idle_members(alloc, automaton, self.sets.at(set as usize))?;
         let first = self.edges.len();
@@ -118,6 +134,7 @@ impl Lists {
         requires { IsReady automaton.now self.old set }
         ensures added { IfOk result (HasAdded automaton.now.graph self.old self.new set TableQuestion.Ends) }
         ensures longer { AreLonger self.old self.new }
+        ensures indexed { AreIndexed automaton.now.graph.ways self.new.runs }
     {
         put_marks(
             &mut self.codes,

@@ -4,9 +4,10 @@
 ghost use Rattle.std.specs.Prelude.{◌≡◌, ℕ, ◌+◌, ◌<◌, ◌≤◌, ◌++◌, ◌∷◌, List, [], length, map, take, drop, slice_index, OnOk, IfOk};
 ghost use Rattle.automaton_reading.specs.Reading.{Reach, rest_edge};
 ghost use Rattle.set_table.specs.Cut.{cut, mark_of, marks_of, to_of};
-ghost use Rattle.set_table.specs.Named.{IsLongerBy, PutsEdges, PutsRun, run};
+ghost use Rattle.set_table.specs.Named.{PutsEdges, PutsRun, run};
+ghost use Rattle.numbered_lists.specs.Numbered.{IsLongerBy};
 
-use crate::numbered_lists::NumberedLists;
+use numbered_lists::NumberedLists;
 use span_core::{Edge, Marks, OutOfMemory};
 use std::alloc::Global;
 

@@ -8,10 +8,17 @@ ghost use Rattle.span_core.specs.Lists.{Has, IsInOrder};
 ghost use Rattle.marked_automaton.specs.Automaton.{AreGrouped};
 ghost use Rattle.automaton_reading.specs.Reading.{is_among, set_of, ways_taken};
 ghost use Rattle.set_table.specs.Cut.{code_of, codes_among, codes_at, codes_on, marks_among};
+ghost use Rattle.set_table.specs.Runs.{AreIndexed, AreRuns, AreSeen, Gains};
 
+use crate::parts::{put_in_order, put_parts};
+use crate::way_runs::{FEW_WAYS, WayRuns, first_run};
+use indexmap::IndexMap;
 use marked_automaton::{Automaton, Stop, Way};
-use span_core::OutOfMemory;
+use span_core::{ByteSet, OutOfMemory};
 use std::alloc::Global;
+
+/// The most numbers of a state's ways that take a byte which are read anew each time.
+const FEW_CODES: usize = 64;
 
 /// The set of these states.
 pub(crate) fn start_set(alloc: Global, starts: &[u32]) -> Result<Vec<u32>, OutOfMemory>
@@ -38,16 +45,19 @@ fn copy_of(alloc: Global, states: &[u32]) -> Result<Vec<u32>, OutOfMemory>
 /// each once. They take the place of what `codes` had.
 pub(crate) fn put_codes(
     codes: &mut Vec<u128>,
+    runs: &mut WayRuns,
     automaton: &Automaton,
     members: &[u32],
     byte: u8,
 ) -> Result<(), OutOfMemory>
-    requires { IsInOrder ◌<◌ members.now }
-    ensures { OnOk result (codes.new.items ≡ set_of (map code_of (ways_taken automaton.now.graph members.now byte))) }
+    requires order { IsInOrder ◌<◌ members.now }
+    requires indexed { AreIndexed automaton.now.graph.ways runs.old }
+    ensures codes { OnOk result (codes.new.items ≡ set_of (map code_of (ways_taken automaton.now.graph members.now byte))) }
+    ensures indexed { AreIndexed automaton.now.graph.ways runs.new }
 {
     codes.clear();
     if automaton.is_grouped() {
-        put_rows(codes, automaton, members, byte)?;
+        put_rows(codes, runs, automaton, members, byte)?;
     } else {
         put_among(codes, automaton.ways(), members, byte)?;
     }
@@ -110,18 +120,102 @@ fn put_row(codes: &mut Vec<u128>, ways: &[Way], byte: u8) -> Result<(), OutOfMem
     Ok(())
 }
 
-/// Appends the ways of the members that take the byte, where the ways stand in the order of states.
+/// Appends the ways of the members that take the byte, where the ways stand in the order of states. What is appended may have
+/// less repeats.
 fn put_rows(
     codes: &mut Vec<u128>,
+    runs: &mut WayRuns,
     automaton: &Automaton,
     members: &[u32],
     byte: u8,
 ) -> Result<(), OutOfMemory>
-    requires { AreGrouped automaton.now.graph.ways }
-    ensures { OnOk result (codes.new.items ≡ codes.old.items ++ flat_map (codes_at automaton.now.graph.ways byte) members.now) }
+    requires grouped { AreGrouped automaton.now.graph.ways }
+    requires indexed { AreIndexed automaton.now.graph.ways runs.old }
+    ensures codes { OnOk result (Gains codes.old.items codes.new.items (Has (flat_map (codes_at automaton.now.graph.ways byte) members.now))) }
+    ensures indexed { AreIndexed automaton.now.graph.ways runs.new }
 {
+    let mut seen = runs.nothing_seen();
     for state in members {
-        put_row(codes, automaton.ways_from(*state), byte)?;
+        put_state(codes, &mut seen, runs, automaton, *state, byte)?;
+    }
+    Ok(())
+}
+
+/// Appends the ways of a state that take the byte, where the ways stand in the order of states, but for what was seen.
+fn put_state(
+    codes: &mut Vec<u128>,
+    seen: &mut IndexMap<u128, ByteSet>,
+    runs: &mut WayRuns,
+    automaton: &Automaton,
+    state: u32,
+    byte: u8,
+) -> Result<(), OutOfMemory>
+    requires grouped { AreGrouped automaton.now.graph.ways }
+    requires indexed { AreIndexed automaton.now.graph.ways runs.old }
+    requires seen { AreSeen seen.old codes.old.items }
+    ensures codes { OnOk result (Gains codes.old.items codes.new.items (Has (codes_at automaton.now.graph.ways byte state))) }
+    ensures seen { OnOk result (AreSeen seen.new codes.new.items) }
+    ensures indexed { AreIndexed automaton.now.graph.ways runs.new }
+{
+    if let Some(parts) = runs.parts(state, byte) {
+        return put_parts(codes, seen, parts);
+    }
+    let first = codes.len();
+    put_read(codes, runs, automaton, state, byte)?;
+    if codes.len() - first <= FEW_CODES {
+        return Ok(());
+    }
+    let (_, found) = codes.as_slice().split_at(first);
+    runs.keep(state, byte, found);
+    if let Some(parts) = runs.parts(state, byte) {
+        codes.truncate(first);
+        return put_parts(codes, seen, parts);
+    }
+    Ok(())
+}
+
+/// Appends the ways of a state that take the byte, where the ways stand in the order of states. Of many ways only those runs
+/// are read of which some way takes it.
+fn put_read(
+    codes: &mut Vec<u128>,
+    runs: &mut WayRuns,
+    automaton: &Automaton,
+    state: u32,
+    byte: u8,
+) -> Result<(), OutOfMemory>
+    requires grouped { AreGrouped automaton.now.graph.ways }
+    requires indexed { AreIndexed automaton.now.graph.ways runs.old }
+    ensures codes { OnOk result (codes.new.items ≡ codes.old.items ++ codes_at automaton.now.graph.ways byte state) }
+    ensures indexed { AreIndexed automaton.now.graph.ways runs.new }
+{
+    let ways = automaton.ways_from(state);
+    if ways.len() <= FEW_WAYS {
+        return put_row(codes, ways, byte);
+    }
+    runs.lay(automaton, state);
+    match runs.of(state) {
+        Some(runs) => put_runs(codes, ways, runs, byte),
+        None => put_row(codes, ways, byte),
+    }
+}
+
+/// Appends the ways that take the byte, by their runs.
+fn put_runs(
+    codes: &mut Vec<u128>,
+    ways: &[Way],
+    runs: &[ByteSet],
+    byte: u8,
+) -> Result<(), OutOfMemory>
+    requires { AreRuns ways.now runs.now }
+    ensures { OnOk result (codes.new.items ≡ codes.old.items ++ codes_on byte ways.now) }
+{
+    let mut rest = ways;
+    for bytes in runs {
+        let (run, behind) = first_run(rest);
+        if bytes.contains(byte) {
+            put_row(codes, run, byte)?;
+        }
+        rest = behind;
     }
     Ok(())
 }
@@ -163,12 +257,4 @@ pub(crate) fn has_state(members: &[u32], state: u32) -> bool
     ensures { result ≡ is_among members.now state }
 {
     members.binary_search(&state).is_ok()
-}
-
-/// Puts numbers in order, each once.
-fn put_in_order(codes: &mut Vec<u128>)
-    ensures { codes.new.items ≡ set_of codes.old.items }
-{
-    codes.sort_unstable();
-    codes.dedup();
 }

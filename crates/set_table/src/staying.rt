@@ -10,11 +10,13 @@ ghost use Rattle.marked_automaton.specs.declared.way.Way.{Way as WayOf};
 ghost use Rattle.std.specs.List.{filter, flat_map};
 ghost use Rattle.automaton_reading.specs.Reading.{is_among};
 ghost use Rattle.marked_automaton.specs.Automaton.{ways_from};
+ghost use Rattle.set_table.specs.Runs.{AreIndexed, AreRuns, Bounds};
 ghost use Rattle.set_table.specs.Staying.{AreGathered, IsInside, LeadsBackOn};
 ghost use Rattle.set_table.specs.Tabled.{StaysOn};
 
 use crate::reaching::has_state;
 use crate::store::put_empty;
+use crate::way_runs::{FEW_WAYS, WayRuns, first_run};
 use marked_automaton::{Automaton, Way};
 use span_core::{ByteSet, OutOfMemory};
 use std::alloc::Global;
@@ -33,8 +35,10 @@ pub(crate) fn stays_of(
     alloc: Global,
     automaton: &Automaton,
     members: &[u32],
+    runs: &WayRuns,
 ) -> Result<ByteSet, OutOfMemory>
-    requires { IsInOrder ◌<◌ members.now }
+    requires order { IsInOrder ◌<◌ members.now }
+    requires indexed { AreIndexed automaton.now.graph.ways runs.now }
     ensures { IfOk result (λ s. (b : ℕ) → IsTrue (bytes.contains s b) ↔ StaysOn automaton.now.graph members.now b) }
 {
     if members.is_empty() {
@@ -42,7 +46,7 @@ pub(crate) fn stays_of(
     }
     let mut leading = Leading::nowhere(alloc, members.len())?;
     if automaton.is_grouped() {
-        leading.add_from(members, automaton);
+        leading.add_from(members, automaton, runs);
     } else {
         leading.add_among(members, automaton.ways());
     }
@@ -91,15 +95,66 @@ impl Leading {
     }
 
     /// Adds the ways from each member, where the ways stand in the order of states.
-    fn add_from(&mut self, members: &[u32], automaton: &Automaton)
+    fn add_from(&mut self, members: &[u32], automaton: &Automaton, runs: &WayRuns)
         requires order { IsInOrder ◌<◌ members.now }
         requires grouped { AreGrouped automaton.now.graph.ways }
+        requires indexed { AreIndexed automaton.now.graph.ways runs.now }
         requires none { AreGathered members.now [] self.old }
         ensures { AreGathered members.now (flat_map (ways_from automaton.now.graph.ways) members.now) self.new }
     {
         for state in members {
-            self.add_all(members, automaton.ways_from(*state));
+            self.add_state(members, automaton, runs, *state);
         }
+    }
+
+    /// Adds the ways from a member, where the ways stand in the order of states.
+    fn add_state(&mut self, members: &[u32], automaton: &Automaton, runs: &WayRuns, state: u32)
+        requires order { IsInOrder ◌<◌ members.now }
+        requires grouped { AreGrouped automaton.now.graph.ways }
+        requires indexed { AreIndexed automaton.now.graph.ways runs.now }
+        requires count { length self.old.to_members.items ≡ length members.now }
+        ensures count { length self.new.to_members.items ≡ length members.now }
+        ensures gathered { (before : List WayOf) → AreGathered members.now before self.old → AreGathered members.now (before ++ ways_from automaton.now.graph.ways state) self.new }
+    {
+        let ways = automaton.ways_from(state);
+        if ways.len() <= FEW_WAYS {
+            return self.add_all(members, ways);
+        }
+        match runs.of(state) {
+            Some(runs) => self.add_runs(members, ways, runs),
+            None => self.add_all(members, ways),
+        }
+    }
+
+    /// Adds ways from members, by their runs.
+    fn add_runs(&mut self, members: &[u32], ways: &[Way], runs: &[ByteSet])
+        requires order { IsInOrder ◌<◌ members.now }
+        requires runs { AreRuns ways.now runs.now }
+        requires count { length self.old.to_members.items ≡ length members.now }
+        ensures count { length self.new.to_members.items ≡ length members.now }
+        ensures gathered { (before : List WayOf) → AreGathered members.now before self.old → AreGathered members.now (before ++ ways.now) self.new }
+    {
+        let mut rest = ways;
+        for bytes in runs {
+            let (run, behind) = first_run(rest);
+            self.add_run(members, bytes, run);
+            rest = behind;
+        }
+    }
+
+    /// Adds ways from members that take no other bytes than these, unless all of the bytes lead elsewhere already: on such bytes no
+    /// set stays.
+    fn add_run(&mut self, members: &[u32], bytes: &ByteSet, run: &[Way])
+        requires order { IsInOrder ◌<◌ members.now }
+        requires bounds { Bounds bytes.now run.now }
+        requires count { length self.old.to_members.items ≡ length members.now }
+        ensures count { length self.new.to_members.items ≡ length members.now }
+        ensures gathered { (before : List WayOf) → AreGathered members.now before self.old → AreGathered members.now (before ++ run.now) self.new }
+    {
+        if bytes.without(&self.elsewhere).is_empty() {
+            return;
+        }
+        self.add_all(members, run);
     }
 
     /// Adds those of all ways that lead from members.

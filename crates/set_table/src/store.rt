@@ -6,9 +6,11 @@
 ghost use Rattle.std.specs.Prelude.{◌≡◌, ℕ, ◌+◌, ◌*◌, ◌^◌, ◌<◌, ◌≤◌, ◌++◌, ◌∷◌, List, [], length, take, slice_set, slice_index_or, ◌↔◌, ◌⊎◌, IsTrue, OnOk, OnErr, IfOk, IfErr};
 ghost use Rattle.std.specs.FinSet as bytes;
 ghost use Rattle.set_table.specs.Answered.{AreLonger, IsNotAsked, IsNotedIn, IsQuestion, IsSound, question_of, part, place_in, tabled, with_places};
-ghost use Rattle.set_table.specs.Named.{IsLongerBy};
+ghost use Rattle.marked_automaton.specs.declared.way.Way.{Way as WayOf};
+ghost use Rattle.set_table.specs.Runs.{AreIndexed};
+ghost use Rattle.numbered_lists.specs.Numbered.{IsLongerBy, set_at};
 ghost use Rattle.span_core.specs.Lists.{IsInOrder};
-ghost use Rattle.set_table.specs.Tabled.{IsRefusal, asked_first, look_up, one_edge, set_at};
+ghost use Rattle.set_table.specs.Tabled.{IsRefusal, asked_first, look_up, one_edge};
 
 use crate::TableFault;
 use crate::answer::{Answer, TableQuestion};
@@ -47,6 +49,7 @@ impl Store {
         ensures numbers { IfOk result (λ s. s.numbers ≡ with_places 272 []) }
         ensures stays { IfOk result (λ s. (k : ℕ) → slice_index_or s.stays.items k bytes.empty ≡ bytes.empty) }
         ensures stay_of_each { IfOk result (λ s. length s.stays.items ≡ 1) }
+        ensures indexed { IfOk result (λ s. (ways : List WayOf) → AreIndexed ways s.lists.runs) }
     {
         let lists = Lists::new(alloc, start)?;
         let mut numbers = Index::new(alloc)?;
@@ -114,6 +117,7 @@ impl Store {
         ensures answers { OnErr result (self.new.answers.items ≡ self.old.answers.items) }
         ensures numbers { OnErr result (IsLongerBy self.old.numbers self.new.numbers) }
         ensures stays { OnErr result (IsLongerBy self.old.stays.items self.new.stays.items) }
+        ensures indexed { AreIndexed automaton.now.graph.ways self.new.lists.runs }
     {
         let added = self.lists.add(self.alloc, automaton, set, question)?;
         let weight = weight + added.weight;
@@ -140,6 +144,7 @@ impl Store {
         requires stays { length self.now.stays.items ≡ length self.now.lists.sets }
         requires question { IsQuestion answer.question }
         requires within { answer.question ≡ TableQuestion.Ends ⊎ (answer.first + answer.count ≤ length self.now.lists.edges.items) }
+        requires indexed { AreIndexed automaton.now.graph.ways self.now.lists.runs }
         ensures { IfOk result (IsNotedIn automaton.now.graph self.now answer) }
     {
         let noted = self.stays[answer.set as usize];
@@ -158,6 +163,7 @@ impl Store {
             self.alloc,
             automaton,
             self.lists.sets.at(answer.set as usize),
+            &self.lists.runs,
         )
     }
 
@@ -170,6 +176,7 @@ impl Store {
         ensures numbers { self.new.numbers ≡ take (272 * sets) self.old.numbers }
         ensures stays { self.new.stays.items ≡ take sets self.old.stays.items }
         ensures answers { self.new.answers.items ≡ self.old.answers.items }
+        ensures runs { self.new.lists.runs ≡ self.old.lists.runs }
     {
         self.lists.sets.truncate(sets);
         self.lists.edges.truncate(edges);

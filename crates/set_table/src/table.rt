@@ -8,7 +8,8 @@ ghost use Rattle.std.specs.FinSet as bytes;
 ghost use Rattle.std.specs.Borrow.{sem};
 ghost use Rattle.set_table.specs.Lending.{Gives, Leaves};
 ghost use Rattle.span_core.specs.Lists.{Has};
-ghost use Rattle.set_table.specs.Tabled.{HasEdges, HasEnds, HasStayed, HasRest, IsRefusal, IsStateSet, IsTabled, Stays, asked_first, fresh, look_up, once_asked, set_at, weight};
+ghost use Rattle.set_table.specs.Tabled.{HasEdges, HasEnds, HasStayed, HasRest, IsRefusal, IsStateSet, IsTabled, Stays, asked_first, fresh, look_up, once_asked, weight};
+ghost use Rattle.numbered_lists.specs.Numbered.{set_at};
 ghost use Rattle.set_table.specs.Laid.{IsStateOf, taken_up};
 ghost use Rattle.set_table.specs.Answered.{IsQuestion, question_of, part};
 

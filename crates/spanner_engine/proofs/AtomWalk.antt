@@ -15,7 +15,8 @@ use Rattle.automaton_reading.proofs.Matching.{cons_sum}
 use Rattle.query_automaton.proofs.Combining.{Join, Union}
 use Rattle.query_automaton.proofs.CompileLaws.{asked_part}
 use Rattle.query_automaton.proofs.PieceLaws.{asked_body, asked_let}
-use Rattle.filter_laws.specs.Touching.{HasMinus, IsTouchedBy, SomeAtom, SomeAtomOf, TouchedOf, sum_atoms}
+use Rattle.spanner_engine.specs.Touching.{HasMinus, SomeAtom, SomeAtomOf, TouchedOf, sum_atoms}
+use Rattle.segment_filter.specs.Touching.{IsTouchedBy}
 use Rattle.segment_filter.specs.declared.fault.FilterFault.{FilterFault}
 use Rattle.segment_filter.specs.declared.fault.FilterFault.TheVariants.{Full, OutOfMemory}
 use Rattle.segment_filter.specs.Costs.{touching_steps}

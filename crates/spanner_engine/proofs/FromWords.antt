@@ -11,8 +11,9 @@ use Rattle.query_automaton.specs.CompiledQuery.{IsCompiled}
 use Rattle.set_table.specs.declared.fault.TableFault.{TableFault}
 use Rattle.set_table.specs.declared.fault.TableFault.TheVariants.{Full, OutOfMemory}
 use Rattle.enumerator.specs.Enumeration.{AreInBlockOrder, AreRowsOf, IsWordOfRow}
-use Rattle.filter_laws.specs.Touching.{Contains, TouchedOf}
-use Rattle.filter_laws.proofs.QueryWaiting.{query_reading}
+use Rattle.segment_filter.specs.Touching.{Contains}
+use Rattle.spanner_engine.specs.Touching.{TouchedOf}
+use Rattle.spanner_engine.proofs.QueryWaiting.{query_reading}
 use Rattle.one_pass.specs.Builds.{build}
 use Rattle.one_pass.specs.Faults.{IsReadFault}
 use Rattle.one_pass.specs.Places.{AreReadWords}

@@ -2,6 +2,8 @@ pub mod AtomWalk
 pub mod Costs
 pub mod MinusWalk
 pub mod FromWords
+pub mod OperationsWait
+pub mod QueryWaiting
 pub mod Past
 pub mod ReadAt
 pub mod Results
@@ -10,3 +12,6 @@ pub mod Starting
 pub mod WordLaws
 pub mod PassingLaws
 pub mod CacheLaws
+pub mod Deciding
+pub mod PassDeciding
+pub mod ReadPositions

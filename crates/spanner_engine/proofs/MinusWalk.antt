@@ -7,7 +7,7 @@ use Rattle.span_core.proofs.HasLaws.{Has-append_cases}
 use Rattle.spanner_model.specs.Captures.{VarName}
 use Rattle.spanner_model.specs.Expression.{ExprTree, QueryTree, join_all, union_all}
 use Rattle.spanner_model.proofs.TreeLaws.{take_at_more}
-use Rattle.filter_laws.specs.Touching.{HasMinus, HasMinusIn}
+use Rattle.spanner_engine.specs.Touching.{HasMinus, HasMinusIn}
 
 -- none of these is P
 abbrev pub NoneIs : {X : Type 0} → (X → Type 0) → List X → Type 0

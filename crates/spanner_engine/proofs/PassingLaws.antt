@@ -9,42 +9,20 @@ use Rattle.spanner_model.specs.Captures.{VarName, Mapping, row_of}
 use Rattle.spanner_model.specs.Expression.{QueryTree}
 use Rattle.spanner_model.specs.Answers.{SpanRow}
 use Rattle.spanner_model.proofs.Ends.{EndsBy, query_ends}
-use Rattle.query_parser.specs.declared.asks.Asked.{Asked}
-use Rattle.std.specs.Prelude.{IfSome, IfNone, is_none, Contains}
+use Rattle.spanner_model.specs.declared.tested.Asked.{Asked}
+use Rattle.std.specs.Prelude.{Contains}
 use Rattle.std.proofs.lemmas.List.Elements.{filter-append}
 use Rattle.std.proofs.lemmas.List.{length_push}
 use Rattle.spanner_model.proofs.NameLaws.{ascending-distinct}
 use Rattle.span_core.specs.NameSets.{Ascending}
 use Rattle.spanner_model.proofs.RowLaws.{mapping_of-outside, mapping_of-at, row_length}
-use Rattle.span_tests.specs.Listed.{IsNamed, IsFirstNamed}
+use Rattle.span_tests.specs.Listed.{IsNamed}
 use Rattle.spanner_engine.specs.Fitting.{AreLast, FitsRow}
 use Rattle.spanner_engine.specs.Left.{AreLeft, EndsIn}
-use Rattle.spanner_engine.specs.Passing.{AreKnown, Check, FirstUnknown, IsNextPassing, Known, check_of, checks_of, passes, passing, row_passes, span_passes}
+use Rattle.spanner_model.specs.Passing.{AreKnown, Check, Known, check_of, checks_of, passes, passing, row_passes, span_passes}
+use Rattle.spanner_engine.specs.Trying.{IsNextPassing}
 
 -- ---- tests one by one
-
-pub unknown_at : (k : Known) (asked : List Asked) (i : ℕ) (a : Asked) → AreKnown k (take i asked) → slice_get asked i ≡ Some a → ¬ IsNamed k.tests a.test → FirstUnknown k asked a.at
-unknown_at k [] i a before is not = absurd (cc)
-unknown_at k (b ∷ asked) zero a before is not =
-    let same : b ≡ a = cc in
-    inl (subst (λ (c : Asked). ¬ IsNamed k.tests c.test × (c.at ≡ a.at)) (sym same) (not, refl))
-unknown_at k (b ∷ asked) (suc i) a before is not =
-    inr (before b (inl refl), unknown_at k asked i a (λ c h. before c (inr h)) is not)
-
-known_next : (k : Known) (asked : List Asked) (i : ℕ) (a : Asked) → AreKnown k (take i asked) → slice_get asked i ≡ Some a → IsNamed k.tests a.test → AreKnown k (take (suc i) asked)
-known_next k [] i a before is there = absurd (cc)
-known_next k (b ∷ asked) zero a before is there = λ c h. elim h [
-  | inl e ↦ (let same : a ≡ c = cc in subst (λ (x : Asked). IsNamed k.tests x.test) same there)
-  | inr h ↦ absurd h
-]
-known_next k (b ∷ asked) (suc i) a before is there =
-    let later = known_next k asked i a (λ c h. before c (inr h)) is there in
-    λ c h. elim h [ inl e ↦ before c (inl e) | inr h ↦ later c h ]
-
-pub known_more : (k : Known) (asked : List Asked) (i : ℕ) (a : Asked) → AreKnown k (take i asked) → slice_get asked i ≡ Some a → IsNamed k.tests a.test → AreKnown k (take (i + 1) asked)
-known_more k asked i a before is there =
-    let e : suc i ≡ i + 1 = omega arith in
-    subst (λ (n : ℕ). AreKnown k (take n asked)) e (known_next k asked i a before is there)
 
 pub known_at : (k : Known) (asked : List Asked) (i : ℕ) (a : Asked) → AreKnown k asked → slice_get asked i ≡ Some a → IsNamed k.tests a.test
 known_at k asked i a all is = all a (Has-slice_get asked i a is)
@@ -125,16 +103,6 @@ last_rest q d names tried rest old is last = record {
     joins [] b c = refl
     joins (x ∷ a) b c = ap (λ (xs : List SpanRow). x ∷ xs) (joins a b c)
 
--- ---- what a search for a name tells
-
-pub named_of : (tests : List (List ℕ × ℕ)) (name : List ℕ) (r : Option ℕ) → is_none r ≡ false → IfSome r (IsFirstNamed tests name) → IsNamed tests name
-named_of tests name None some first = absurd (cc)
-named_of tests name (Some k) some first = (k, first.here)
-
-pub not_named : (tests : List (List ℕ × ℕ)) (name : List ℕ) (r : Option ℕ) → is_none r ≡ true → IfNone r (¬ IsNamed tests name) → ¬ IsNamed tests name
-not_named tests name None none not = not
-not_named tests name (Some k) none not = absurd (cc)
-
 -- what a test says of a row is what it says of the span at the place of its variable
 module _ (k : Known) (names : List VarName) (d : List ℕ) (row : SpanRow) (a : Asked) where
   pub passes_at : (place : ℕ) (o : Option Span) (b : Bool) → Ascending names → slice_get names place ≡ Some a.var → slice_get row place ≡ Some o → b ≡ span_passes (check_of k a).1 d o →
@@ -214,3 +182,18 @@ module _ (q : QueryTree) (checks : List Check) (names : List VarName) (d : List 
 pub left_last : (q : QueryTree) (d : List ℕ) (names : List VarName) (after : Option SpanRow) (rest : List SpanRow) → AreLeft q d names after rest → AreLast q d names rest
 left_last q d names None rest (rows, answers, is) = record { all = rows; answers = answers; front = []; joined = sym is }
 left_last q d names (Some after) rest (rows, answers, is) = record { all = rows; answers = answers; front = is.0; joined = is.1 }
+
+-- ---- a row that passes is one of the rows
+
+pub has_filter : (f : SpanRow → Bool) (rows : List SpanRow) (row : SpanRow) → Has (filter f rows) row → Has rows row
+has_filter f [] row h = h
+has_filter f (r ∷ rows) row h = by (f r) h (has_filter f rows row)
+  where
+    by : (b : Bool) → Has (if b then r ∷ filter f rows else filter f rows) row → (Has (filter f rows) row → Has rows row) → Has (r ∷ rows) row
+    by true (inl e) later = inl e
+    by true (inr h) later = inr (later h)
+    by false h later = inr (later h)
+
+pub has_passing : (checks : List Check) (names : List VarName) (d : List ℕ) (rows : List SpanRow) (row : SpanRow) → Has (passing checks names d rows) row → Has rows row
+has_passing [] names d rows row h = h
+has_passing (c ∷ checks) names d rows row h = has_filter (passes (c ∷ checks) names d) rows row h

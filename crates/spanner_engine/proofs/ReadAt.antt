@@ -7,7 +7,8 @@ use Rattle.spanner_model.specs.Answers.{SpanRow}
 use Rattle.spanner_model.specs.Expression.{AtomTree, ExprTree, QueryTree, atom, join, join_end, minus, named, project, union, union_end}
 use Rattle.marked_automaton.specs.Automaton.{Automaton}
 use Rattle.automaton_reading.specs.Reading.{edges_K}
-use Rattle.filter_laws.specs.Touching.{Contains, HasMinus, IsSetOf, SomeAtom, TouchedOf}
+use Rattle.segment_filter.specs.Touching.{Contains, IsSetOf}
+use Rattle.spanner_engine.specs.Touching.{HasMinus, SomeAtom, TouchedOf}
 use Rattle.set_table.specs.declared.fault.TableFault.{TableFault}
 use Rattle.set_table.specs.declared.fault.TableFault.TheVariants.{Full}
 use Rattle.one_pass.specs.Builds.{build}

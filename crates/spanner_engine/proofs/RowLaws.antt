@@ -21,7 +21,7 @@ use Rattle.one_pass.specs.Words.{Word}
 use Rattle.automaton_reading.proofs.Determined.{reading_law}
 use Rattle.place_automaton.specs.Atom.{AreBytes}
 use Rattle.query_automaton.specs.CompiledQuery.{IsCompiled}
-use Rattle.set_table.proofs.Ascending.{has_all}
+use Rattle.automaton_reading.proofs.Ascending.{has_all}
 use Rattle.spanner_engine.specs.Laws.{CompiledAcceptsRows, ReadsAnswers, RowsAfterAreTheRest, RowsAreAnswers, WholeRowsAreAnswers, WordsAreOfRows}
 use Rattle.spanner_engine.proofs.WordLaws.{word_ends, word_is_block_list, word_lists}
 

@@ -10,7 +10,8 @@ use Rattle.automaton_reading.specs.Reading.{edges_K, weight_K}
 use Rattle.query_automaton.specs.QueryAutomaton.{of_query}
 use Rattle.one_pass.specs.Builds.{build}
 use Rattle.one_pass.specs.Weights.{WeighsWithin}
-use Rattle.filter_laws.specs.Touching.{HasMinus, IsSetOf, SomeAtomOf, TouchedOf, sum_atoms_of}
+use Rattle.spanner_engine.specs.Touching.{HasMinus, SomeAtomOf, TouchedOf, sum_atoms_of}
+use Rattle.segment_filter.specs.Touching.{IsSetOf}
 use Rattle.segment_filter.specs.Costs.{atom_weight, touching_steps}
 use Rattle.spanner_engine.specs.declared.beginning.BeginFault.{BeginFault}
 use Rattle.spanner_engine.specs.declared.beginning.BeginFault.TheVariants.{CursorOther, CursorPlace, Filter, Table, OutOfMemory}

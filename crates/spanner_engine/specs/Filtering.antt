@@ -3,7 +3,8 @@ use Rattle.std.specs.Prelude.{ℕ, ◌<◌, ◌≤◌, ◌⊎◌, ◌↔◌, Boo
 use Rattle.span_core.specs.Intervals.{Covers}
 use Rattle.spanner_model.specs.Expression.{AtomTree, ExprTree, QueryTree}
 use Rattle.query_automaton.specs.Compiling.{IsAsked}
-use Rattle.filter_laws.specs.Touching.{HasMinus, IsTouchedBy, SomeAtom, SomeAtomOf, sum_atoms}
+use Rattle.spanner_engine.specs.Touching.{HasMinus, SomeAtom, SomeAtomOf, sum_atoms}
+use Rattle.segment_filter.specs.Touching.{IsTouchedBy}
 use Rattle.segment_filter.specs.Costs.{atom_weight, readings_weight, touching_steps}
 use Rattle.segment_filter.specs.declared.fault.FilterFault.{FilterFault}
 use Rattle.segment_filter.specs.declared.fault.FilterFault.TheVariants.{Full, OutOfMemory}

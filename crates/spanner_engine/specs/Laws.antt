@@ -5,6 +5,7 @@ use Rattle.spanner_model.specs.Captures.{Mapping, row_of}
 use Rattle.spanner_model.specs.Expression.{QueryTree}
 use Rattle.spanner_model.specs.Answer.{IsAnswer}
 use Rattle.spanner_model.specs.Answers.{AreAnswers, IsRest}
+use Rattle.spanner_model.specs.Sound.{IsSound}
 use Rattle.marked_automaton.specs.Automaton.{Accepts, Automaton, IsMarked, Marked, size}
 use Rattle.marked_automaton.specs.Reduct.{Reduces}
 use Rattle.automaton_reading.specs.Chosen.{IsReadWith}
@@ -16,6 +17,7 @@ use Rattle.enumerator.specs.Enumeration.{AreInBlockOrder, AreRowsOf, IsRestAfter
 use Rattle.one_pass.specs.Builds.{build}
 use Rattle.one_pass.specs.Places.{AreReadWords, word_of}
 use Rattle.one_pass.specs.Words.{Word}
+use Rattle.spanner_engine.specs.Begun.{AreRead}
 
 -- reading at the positions of K finds the words of the rows of the query's answers, and no others
 abbrev pub ReadsAnswers : QueryTree → Marked → List ℕ → (ℕ → Bool) → Type 0
@@ -60,3 +62,7 @@ abbrev pub WholeRowsAreAnswers : Type 0
 WholeRowsAreAnswers =
     (q : QueryTree) (A : Marked) → IsCompiled q A → (d : List ℕ) → AreBytes d → (words : List Word) → AreReadWords A.graph (λ i. true) d words →
     (rows : List SpanRow) → AreRowsOf (length A.names) words rows → AreInBlockOrder rows → AreAnswers q d A.names rows
+
+-- there is a set of the positions that are read, for each sound query on each document
+abbrev pub ReadAreASet : Type 0
+ReadAreASet = (filter : Bool) (q : QueryTree) → IsSound q → (d : List ℕ) → AreBytes d → (K : ℕ → Bool) × AreRead filter q d K

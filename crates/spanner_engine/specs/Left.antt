@@ -3,8 +3,8 @@ use Rattle.std.specs.Prelude.{◌≡◌, ℕ, Bool, List, ◌++◌, Option}
 use Rattle.spanner_model.specs.Captures.{VarName}
 use Rattle.spanner_model.specs.Expression.{QueryTree}
 use Rattle.spanner_model.specs.Answers.{AreAnswers, IsRest, SpanRow}
-use Rattle.query_parser.specs.declared.asks.Asked.{Asked}
-use Rattle.spanner_engine.specs.Passing.{Check, checks_of, known, passing}
+use Rattle.spanner_model.specs.declared.tested.Asked.{Asked}
+use Rattle.spanner_model.specs.Passing.{Check, checks_of, known, passing}
 
 -- how many variables a row has, the rows that are still to come, and the one that was gone to
 pub record AnswersLeft : Type 0 where

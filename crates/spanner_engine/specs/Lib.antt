@@ -1,8 +1,10 @@
 -- what public contracts rest on
 pub mod Begun
 pub mod Filtering
+pub mod Touching
+pub mod Waiting
 pub mod Laws
 pub mod Left
 pub mod Fitting
-pub mod Passing
+pub mod Trying
 pub mod Caching

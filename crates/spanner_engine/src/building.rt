@@ -12,7 +12,8 @@ ghost use Rattle.one_pass.specs.Builds.{build};
 ghost use Rattle.one_pass.specs.Faults.{IsReadFault};
 ghost use Rattle.one_pass.specs.Places.{is_touched};
 ghost use Rattle.one_pass.specs.Weights.{WeighsWithin};
-ghost use Rattle.filter_laws.specs.Touching.{Contains, TouchedOf};
+ghost use Rattle.segment_filter.specs.Touching.{Contains};
+ghost use Rattle.spanner_engine.specs.Touching.{TouchedOf};
 ghost use Rattle.spanner_engine.specs.Begun.{counted};
 ghost use Rattle.spanner_engine.specs.Caching.{IsCacheOf, rebuild};
 

@@ -2,7 +2,7 @@
 ghost use Rattle.std.specs.Prelude.{◌↔◌, IsTrue};
 ghost use Rattle.spanner_model.specs.Expression.{join_all};
 ghost use Rattle.spanner_model.specs.ExprView.{expr_of, exprs_of, query_of};
-ghost use Rattle.filter_laws.specs.Touching.{HasMinus, HasMinusIn};
+ghost use Rattle.spanner_engine.specs.Touching.{HasMinus, HasMinusIn};
 
 use spanner_model::{Expr, Exprs, Query};
 

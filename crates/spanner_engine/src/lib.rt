@@ -9,7 +9,7 @@ pub use beginning::{BeginFault, Options, begin, begin_by, begin_with};
 pub use cache::Cache;
 pub use query_automaton::{Compiled, compile};
 pub use rows::TestedRows;
-pub use tested::{advance_tested, bind, next_tested};
+pub use tested::{advance_tested, next_tested};
 
 mod answers;
 mod beginning;
@@ -21,5 +21,3 @@ mod place;
 mod positions;
 mod rows;
 mod tested;
-#[cfg(test)]
-mod tests;

@@ -10,7 +10,7 @@ ghost use Rattle.spanner_model.specs.Expression.{ExprTree, atom as atom_expr, jo
 ghost use Rattle.spanner_model.specs.ExprView.{expr_of, exprs_of, query_of};
 ghost use Rattle.spanner_model.specs.Sound.{IsSound};
 ghost use Rattle.spanner_model.specs.View.{atom_of};
-ghost use Rattle.filter_laws.specs.Touching.{HasMinus, SomeAtom, SomeAtomOf};
+ghost use Rattle.spanner_engine.specs.Touching.{HasMinus, SomeAtom, SomeAtomOf};
 ghost use Rattle.spanner_engine.specs.Begun.{IsReadAt, filter_steps};
 ghost use Rattle.spanner_engine.specs.Filtering.{AddsTouched, AreWithin, HasFullAtom, IsFilterFault, IsHeavy, IsInSound, steps_in};
 

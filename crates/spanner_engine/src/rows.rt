@@ -5,13 +5,14 @@ ghost use Rattle.spanner_model.specs.ExprView.{query_of};
 ghost use Rattle.spanner_model.specs.Answers.{AreResultNames};
 ghost use Rattle.spanner_engine.specs.Fitting.{AreLast, FitsRow};
 ghost use Rattle.spanner_engine.specs.Left.{EndsIn, over, passing_over};
-ghost use Rattle.spanner_engine.specs.Passing.{AreKnown, known, trying_steps};
+ghost use Rattle.spanner_model.specs.Passing.{AreKnown, known};
+ghost use Rattle.spanner_engine.specs.Trying.{trying_steps};
 
 use crate::Answers;
 use crate::tested::advance_tested;
-use query_parser::Tested;
 use span_core::{Row, Span, Steps, VarSet};
 use span_tests::{Judge, Tests};
+use spanner_model::Tested;
 use std::marker::Model;
 use std::sync::ledger::Ledger;
 
@@ -33,7 +34,7 @@ impl<'r, J: Judge> Model for TestedRows<'r, J> {
     ghost use Rattle.spanner_model.specs.Answers.{AreResultNames};
     ghost use Rattle.spanner_engine.specs.Fitting.{AreLast};
     ghost use Rattle.spanner_engine.specs.Left.{RowsLeft, over};
-    ghost use Rattle.spanner_engine.specs.Passing.{AreKnown, known};
+    ghost use Rattle.spanner_model.specs.Passing.{AreKnown, known};
 
     ghost Value = { RowsLeft };
 

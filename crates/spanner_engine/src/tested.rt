@@ -1,36 +1,21 @@
 //! The answers for which all tests of a query hold.
-ghost use Rattle.std.specs.Prelude.{◌≡◌, ℕ, ◌+◌, ◌*◌, ◌-◌, ◌^◌, ◌<◌, ◌≤◌, ◌++◌, [], ◌∷◌, length, List, MatchOption, Some, OnOk, IfErr, IfSome, slice_get, slice_range, true, is_some};
+ghost use Rattle.std.specs.Prelude.{◌≡◌, ◌+◌, ◌*◌, ◌-◌, ◌^◌, ◌<◌, ◌≤◌, ◌++◌, [], ◌∷◌, length, List, MatchOption, Some, IfSome, slice_get, slice_range, true, is_some};
 ghost use Rattle.std.specs.Bool.{OnTrue, OnFalse};
 ghost use Rattle.span_core.specs.Lists.{Has};
 ghost use Rattle.span_core.specs.declared.span.Span.{Span};
 ghost use Rattle.span_core.specs.NameSets.{Ascending};
 ghost use Rattle.spanner_model.specs.ExprView.{query_of};
 ghost use Rattle.spanner_model.specs.Answers.{AreAnswers, AreResultNames, SpanRow};
-ghost use Rattle.spanner_engine.specs.Passing.{AreKnown, FirstUnknown, IsNextPassing, check_of, checks_of, known, passes, passing, row_passes, trying_steps};
+ghost use Rattle.spanner_model.specs.Passing.{AreKnown, check_of, checks_of, known, passes, passing, row_passes};
+ghost use Rattle.spanner_engine.specs.Trying.{IsNextPassing, trying_steps};
 ghost use Rattle.spanner_engine.specs.Fitting.{AreLast, FitsRow};
 ghost use Rattle.span_tests.specs.Listed.{IsNamed, number_named};
 
 use crate::Answers;
-use query_parser::{Asked, Asks, QueryFault, Tested};
 use span_core::{Name, Row, Span, Steps, VarSet};
 use span_tests::{Judge, Tests};
+use spanner_model::{Asked, Asks, Tested};
 use std::sync::ledger::Ledger;
-
-/// Whether each test of the query is in the list; else the fault of the first that is not.
-pub fn bind<J: Judge>(tested: &Tested, tests: &Tests<J>) -> Result<(), QueryFault>
-    ensures known { OnOk result (AreKnown (known tests.now J.judges) tested.now.asked) }
-    ensures fault { IfErr result (λ e. (at : ℕ) × FirstUnknown (known tests.now J.judges) tested.now.asked at × (e ≡ QueryFault.UnknownTest at)) }
-{
-    let mut k = 0;
-    while k < tested.asked.len() {
-        let asked = tested.asked.at(k);
-        if tests.find(&asked.test).is_none() {
-            return Err(QueryFault::UnknownTest { at: asked.at });
-        }
-        k += 1;
-    }
-    Ok(())
-}
 
 /// The span at a place.
 fn span_at(spans: &[Option<Span>], place: usize) -> Option<Span>

@@ -4,7 +4,8 @@ use Rattle.std.proofs.lemmas.List.{drop_all, take_all}
 use Rattle.spanner_model.specs.Captures.{VarName}
 use Rattle.spanner_model.specs.Answers.{SpanRow}
 use Rattle.spanner_engine.specs.Fitting.{FitsRow}
-use Rattle.spanner_engine.specs.Passing.{Check, IsNextPassing, passing}
+use Rattle.spanner_model.specs.Passing.{Check, passing}
+use Rattle.spanner_engine.specs.Trying.{IsNextPassing}
 use Rattle.spanner_engine.proofs.PassingLaws.{next_passes}
 use Rattle.spanner_library.specs.Cells.{row_cells, rows_cells}
 use Rattle.spanner_library.specs.Library.{Given}

@@ -1,12 +1,13 @@
 -- Why a text is not prepared.
 use Rattle.std.proofs.Common.{◌≡◌, ◌⊎◌, inl, inr, List, ℕ, Ok, Err, sym, subst, refl}
-use Rattle.query_parser.specs.declared.asks.Tested.{Tested}
+use Rattle.spanner_model.specs.declared.tested.Tested.{Tested}
 use Rattle.query_parser.specs.declared.fault.QueryFault.{QueryFault}
 use Rattle.query_parser.specs.declared.fault.QueryFault.TheVariants as query
-use Rattle.query_parser.specs.Tested.{TestedTree, HasTestedFault, IsTestedText}
+use Rattle.query_parser.specs.Tested.{HasTestedFault, IsTestedText}
+use Rattle.spanner_model.specs.Tested.{TestedTree, tested_of}
 use Rattle.query_parser.specs.TestedAnswers.{IsTestedAnswer}
-use Rattle.query_parser.specs.TestedView.{tested_of}
-use Rattle.spanner_engine.specs.Passing.{Known, FirstUnknown, HasFaultUnder, of_text, unknown_test}
+use Rattle.spanner_model.specs.Passing.{Known}
+use Rattle.query_parser.specs.Binding.{FirstUnknown, HasFaultUnder, of_text, unknown_test}
 
 -- want of memory, or a fault of a text that is none of a query
 memory_or : (e : QueryFault) → (e ≡ query.OutOfMemory) ⊎ ((t : TestedTree) → IsTestedAnswer (Err e) (Ok t) → ⊥)

@@ -3,16 +3,16 @@ use Rattle.std.specs.Prelude.{◌≡◌, ◌⊎◌, ℕ, ◌*◌, Bool, List, le
 use Rattle.std.specs.Coded.{Coded, code_by, coded×, coded_list, coded_ℕ}
 use Rattle.marked_automaton.specs.Automaton.{Automaton}
 use Rattle.marked_automaton.specs.Codes.{automaton_code}
-use Rattle.query_parser.specs.contracts.asks.Tested.{the_row}
+use Rattle.spanner_model.specs.contracts.tested.Tested.{the_row}
 use Rattle.spanner_model.specs.Captures.{VarName}
 use Rattle.spanner_model.specs.Answers.{SpanRow}
-use Rattle.query_parser.specs.Tested.{TestedTree}
-use Rattle.query_parser.specs.TestedView.{tested_of}
-use Rattle.query_parser.specs.declared.asks.Tested.{Tested}
+use Rattle.spanner_model.specs.Tested.{TestedTree, tested_of}
+use Rattle.spanner_model.specs.declared.tested.Tested.{Tested}
 use Rattle.query_parser.specs.declared.fault.QueryFault.{QueryFault}
 use Rattle.query_parser.specs.declared.fault.QueryFault.TheVariants as text_fault
 use Rattle.query_automaton.specs.Parts.{HasLargePart}
-use Rattle.spanner_engine.specs.Passing.{Check, Known, HasFaultUnder, IsOnlyTested, checks_of, known, passing}
+use Rattle.spanner_model.specs.Passing.{Check, Known, checks_of, known, passing}
+use Rattle.query_parser.specs.Binding.{HasFaultUnder, IsOnlyTested}
 use Rattle.spanner_library.specs.Cells.{rows_cells}
 use Rattle.spanner_library.specs.declared.prepared.PrepareFault.{PrepareFault}
 use Rattle.spanner_library.specs.declared.prepared.PrepareFault.TheVariants as refused

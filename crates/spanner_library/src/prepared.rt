@@ -7,15 +7,17 @@ ghost use Rattle.spanner_engine.specs.Begun.{AreRead, IsBeginFault, begin_steps,
 ghost use Rattle.spanner_engine.specs.Caching.{IsCacheOf, rebuild};
 ghost use Rattle.spanner_engine.specs.Fitting.{AreLast};
 ghost use Rattle.spanner_engine.specs.Left.{AreLeft};
-ghost use Rattle.spanner_engine.specs.Passing.{AreKnown, IsOnlyTested, known};
+ghost use Rattle.spanner_model.specs.Passing.{AreKnown, known};
+ghost use Rattle.query_parser.specs.Binding.{IsOnlyTested};
 ghost use Rattle.spanner_library.specs.Library.{IsRefused, tree};
 
 use crate::Rows;
 use marked_automaton::{Automaton, SizeFault};
-use query_parser::{QueryFault, Tested, read_tested};
+use query_parser::{QueryFault, bind, read_tested};
 use span_core::{Kept, Steps, VarSet};
 use span_tests::{Judge, Tests};
-use spanner_engine::{BeginFault, Cache, Options, begin_by, begin_with, bind, compile};
+use spanner_engine::{BeginFault, Cache, Options, begin_by, begin_with, compile};
+use spanner_model::Tested;
 use std::alloc::Global;
 use std::marker::Model;
 use std::sync::ledger::Ledger;
@@ -37,7 +39,7 @@ impl<J: Judge> Model for Prepared<J> {
 
     ghost use Rattle.spanner_model.specs.ExprView.{query_of};
     ghost use Rattle.query_automaton.specs.CompiledQuery.{IsCompiled};
-    ghost use Rattle.spanner_engine.specs.Passing.{AreKnown, known};
+    ghost use Rattle.spanner_model.specs.Passing.{AreKnown, known};
 
     ghost view = { λ p. record {
       tested = p.tested;

@@ -3,15 +3,15 @@ ghost use Rattle.std.specs.Prelude.{◌≡◌, ◌+◌, ◌*◌, ◌^◌, ◌≤
 ghost use Rattle.spanner_model.specs.Answers.{AreResultNames};
 ghost use Rattle.spanner_model.specs.ExprView.{query_of};
 ghost use Rattle.spanner_engine.specs.Fitting.{AreLast};
-ghost use Rattle.spanner_engine.specs.Passing.{AreKnown, checks_of, known};
+ghost use Rattle.spanner_model.specs.Passing.{AreKnown, checks_of, known};
 ghost use Rattle.spanner_library.specs.Library.{Given, checks_by, tree};
 
 use crate::Prepared;
 use crate::cells::put_row;
-use query_parser::Tested;
 use span_core::{Steps, VarSet};
 use span_tests::{Judge, Tests};
 use spanner_engine::{Answers, advance_tested};
+use spanner_model::Tested;
 use std::marker::Model;
 use std::sync::ledger::Ledger;
 

@@ -9,8 +9,10 @@ pub mod Fit
 pub mod Functional
 pub mod Gathered
 pub mod Laws
+pub mod Passing
 pub mod Sequential
 pub mod Sound
+pub mod Tested
 pub mod Tree
 pub mod View
 pub mod WellBuilt

@@ -1,4 +1,4 @@
-//! Formulas and queries, and what they mean.
+//! Formulas and queries with their tests, and what they mean.
 #![tactic(auto)]
 
 ghost use Rattle.std.specs.Prelude.{◌≡◌};
@@ -8,6 +8,7 @@ pub use expression::{Expr, Exprs};
 pub use formula::{Atom, Formula, Parts};
 pub use gathering::{gather, variables};
 pub use query::{Lets, Query};
+pub use tested::{Asked, Asks, Tested};
 
 pub mod examples;
 mod expression;
@@ -15,6 +16,7 @@ mod formula;
 mod gathering;
 pub mod laws;
 mod query;
+mod tested;
 
 /// The largest number of a repetition.
 pub const MOST_REPEATS: u16 = 1_000;

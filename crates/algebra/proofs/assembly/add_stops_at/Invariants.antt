@@ -1,4 +1,4 @@
-use Rattle.std.proofs.Common.{◌≡◌, ◌≤◌, ◌++◌, take, map}
+use Rattle.std.proofs.Common.{◌≡◌, ◌+◌, ◌*◌, ◌≤◌, ◌++◌, length, take, map}
 use Rattle.algebra.specs.Pairs.{HasAllButStops, pairs, stop_at, stop_pair, stops_meet}
 use Rattle.algebra.proofs.assembly.add_stops_at.Given as goal
 
@@ -8,4 +8,5 @@ invariant-loop-x l = record {
   stops : l.automaton.graph.stops ≡ l.initial.automaton.graph.stops ++ map (stop_at l.state) (pairs stops_meet stop_pair l.ys (take l.x-index l.xs));
   same : HasAllButStops l.automaton.graph l.initial.automaton.graph;
   effort : l.effort ≤ l.initial.effort;
+  steps : l.initial.effort ≤ l.effort + l.x-index * length l.ys;
 }

@@ -1,6 +1,9 @@
 use Rattle.std.proofs.Common.{◌≤◌, length, ap, arith}
+use Rattle.std.proofs.lemmas.Result.{IfErr-weaker, on_ok_weaker}
 use Rattle.span_core.specs.declared.TheConstants.{MOST_VARIABLES}
-use Rattle.algebra.specs.Joining.{IsJoinFault}
+use Rattle.algebra.specs.Joining.{IsJoinFault, IsSpentOn, most_steps}
+use Rattle.algebra.specs.Sides.{stops_tried}
+use Rattle.algebra.proofs.StepLaws.{spent_by, spent_more}
 use Rattle.algebra.proofs.Followed.{handed_on}
 use Rattle.algebra.proofs.JoinTheory as of
 use Rattle.algebra.proofs.NamesLaws.{names_by}
@@ -17,7 +20,7 @@ returns-in_err-search-clause-fault c =
     let all_are = names_by c.names_of_both-all.ensures c.vars.ensures c.vars-2.ensures in
     let e = c.in_err-search.field-0.0 in
     handed_on (IsJoinFault c.args.a.now c.args.b.now) c.from_residual-in_err-search.result e c.from_residual-in_err-search.ensures.1
-    (of.refusal c.is_marked.ensures c.is_marked-2.ensures c.names_of_both-all.result c.in_ok-left.ensures.side c.in_ok-right.ensures.side all_are e c.in_err-search.ensures.fault)
+    (of.told_refusal c.is_marked.ensures c.is_marked-2.ensures c.names_of_both-all.result c.in_ok-left.ensures.side c.in_ok-right.ensures.side all_are e c.in_err-search.ensures.fault)
 
 pub assembled-requires-clause-starts : goal.assembled-requires-clause-starts
 assembled-requires-clause-starts c =
@@ -50,3 +53,26 @@ returns-clause-fault c =
     let all_are = names_by c.names_of_both-all.ensures c.vars.ensures c.vars-2.ensures in
     of.fault_made c.is_marked.ensures c.is_marked-2.ensures c.names_of_both-all.result c.in_ok-left.ensures.side c.in_ok-right.ensures.side c.in_ok-search.ensures.searched
     all_are c.assembled.result c.assembled.ensures.fault
+
+pub returns-in_err-search-clause-spent : goal.returns-in_err-search-clause-spent
+returns-in_err-search-clause-spent c =
+    let most = most_steps c.args.a.now c.args.b.now in
+    let e = c.in_err-search.field-0.0 in
+    let ways = of.ways_steps c.is_marked.ensures c.is_marked-2.ensures c.names_of_both-all.result c.in_ok-left.ensures.side c.in_ok-right.ensures.side in
+    handed_on (IsSpentOn c.args.effort.now most) c.from_residual-in_err-search.result e c.from_residual-in_err-search.ensures.1
+    (spent_more c.args.effort.now _ most e (omega (arith, ways)) c.in_err-search.ensures.spent)
+
+pub returns-clause-spent : goal.returns-clause-spent
+returns-clause-spent c =
+    let ways = of.ways_steps c.is_marked.ensures c.is_marked-2.ensures c.names_of_both-all.result c.in_ok-left.ensures.side c.in_ok-right.ensures.side in
+    let ends = of.stops_steps c.is_marked.ensures c.is_marked-2.ensures c.names_of_both-all.result c.in_ok-left.ensures.side c.in_ok-right.ensures.side c.in_ok-search.ensures.searched in
+    let after = c.searched.new.effort in
+    let tried = length (stops_tried c.in_ok-left.left.stops.items c.in_ok-right.right.stops.items c.in_ok-search.search.found.keys) in
+    IfErr-weaker c.assembled.result (IsSpentOn after tried) (IsSpentOn c.args.effort.now (most_steps c.args.a.now c.args.b.now))
+    (λ e h. spent_by c.args.effort.now after tried (most_steps c.args.a.now c.args.b.now) e (λ le. omega (arith, le, ways, ends, c.in_ok-search.ensures.steps)) h) c.assembled.ensures.spent
+
+pub returns-clause-steps : goal.returns-clause-steps
+returns-clause-steps c =
+    let ways = of.ways_steps c.is_marked.ensures c.is_marked-2.ensures c.names_of_both-all.result c.in_ok-left.ensures.side c.in_ok-right.ensures.side in
+    let ends = of.stops_steps c.is_marked.ensures c.is_marked-2.ensures c.names_of_both-all.result c.in_ok-left.ensures.side c.in_ok-right.ensures.side c.in_ok-search.ensures.searched in
+    on_ok_weaker c.assembled.result (λ le. omega (arith, le, ways, ends, c.in_ok-search.ensures.steps)) c.assembled.ensures.steps

@@ -3,7 +3,7 @@ use Rattle.std.proofs.Math.Seq.{take-length}
 use Rattle.span_core.specs.Lists.{Has}
 use Rattle.span_core.proofs.HasLaws.{Has-get_or, Has-take_more_cases}
 use Rattle.output_graph.specs.Graph.{Source, sources}
-use Rattle.set_table.specs.Tabled.{set_at}
+use Rattle.numbered_lists.specs.Numbered.{set_at}
 use Rattle.one_pass.specs.Layers.{no_source, source_at}
 use Rattle.one_pass.specs.Waiting.{IsOf}
 use Rattle.one_pass.proofs.GraphBridge.{whole_count, whole_set}

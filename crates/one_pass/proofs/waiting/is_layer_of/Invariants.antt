@@ -1,7 +1,7 @@
 use Rattle.std.proofs.Common.{take}
 use Rattle.span_core.specs.Lists.{Has}
 use Rattle.output_graph.specs.Graph.{Source, sources}
-use Rattle.set_table.specs.Tabled.{set_at}
+use Rattle.numbered_lists.specs.Numbered.{set_at}
 use Rattle.one_pass.specs.Waiting.{IsOf}
 use Rattle.one_pass.proofs.waiting.is_layer_of.Given as goal
 

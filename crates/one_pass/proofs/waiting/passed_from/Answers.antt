@@ -1,5 +1,5 @@
 use Rattle.std.proofs.Common.{List, ℕ, arith, subst}
-use Rattle.set_table.specs.Tabled.{set_at}
+use Rattle.numbered_lists.specs.Numbered.{set_at}
 use Rattle.one_pass.specs.Ahead.{LeaveBy}
 use Rattle.one_pass.specs.Seen.{whole}
 use Rattle.one_pass.specs.Waiting.{IsOf}

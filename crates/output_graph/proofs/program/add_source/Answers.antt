@@ -1,7 +1,5 @@
 use Rattle.std.proofs.Common.{◌≡◌, ◌++◌, [], ◌∷◌, length, refl, ap, ◌∙◌, subst, arith, List}
 use Rattle.output_graph.specs.declared.program.Plan.{Plan}
-use Rattle.output_graph.specs.declared.program.Register.{Register}
-use Rattle.output_graph.specs.Plans.{AreInPlace}
 use Rattle.output_graph.proofs.PlanLaws.{groups_next, plan_next}
 use Rattle.output_graph.proofs.program.add_source.Goals as goal
 
@@ -15,12 +13,6 @@ returns-clause-plan c =
     let source : c.in_ok-source.source ≡ length old.counts.items = omega arith in
     let counts : c.push.new.self.items ≡ old.counts.items ++ length c.args.edges.now ∷ [] = c.in_ok-push.ensures.items ∙ ap (λ v. v.items ++ length c.args.edges.now ∷ []) so.counts in
     plan_next c.in_ok-source.source old c.requires.plan source c.args.edges.now c.requires.descend c.add_edges.new.plan c.in_ok-kept.kept so _ counts refl refl refl refl c.in_ok-add_release.ensures
-    (λ on_it.
-    let r = c.is_in_place-plan.ensures on_it in
-    let few = r.1 in
-    let more = c.len-2.ensures in
-    let now = c.push.new.self.ok.0 in
-    (subst (λ (hs : List Register). AreInPlace 0 hs) c.as_slice.ensures.value r.0, (let l = ap length c.as_slice.ensures.value in omega arith)))
 
 pub returns-clause-groups : goal.returns-clause-groups
 returns-clause-groups c =

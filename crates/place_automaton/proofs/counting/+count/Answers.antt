@@ -3,7 +3,7 @@ use Rattle.std.specs.Prelude.{◌==◌, ◌*◌, if◌then◌else◌}
 use Rattle.spanner_model.specs.View.{tree_of, trees_of}
 use Rattle.spanner_model.specs.Tree.{rep, cap, cat_all, alt_all}
 use Rattle.spanner_model.specs.WellBuilt.{IsWellBuilt}
-use Rattle.span_core.specs.Lists.{Has}
+use Rattle.span_core.specs.Lists.{AreDistinct, Has}
 use Rattle.span_core.proofs.HasLaws.{Has-slice_get}
 use Rattle.span_core.proofs.ListLaws.{at_drop}
 use Rattle.spanner_model.proofs.Nodes.{nodes}
@@ -22,7 +22,7 @@ use Rattle.place_automaton.proofs.JoinedCounts.{counts_more}
 use Rattle.place_automaton.proofs.LargestNull.{arm_largest, arms_largest, front_at, largest_more, part_largest, size_more}
 use Rattle.place_automaton.proofs.LargeFaults.{IsCounted, IsLargeFault, counted_repeat, handed_on, not_large, sizes_product}
 use Rattle.place_automaton.proofs.MarkBits.{apart_sum, own_apart}
-use Rattle.place_automaton.proofs.NullCounts.{IsCountable, null_bare, null_captured, null_joins}
+use Rattle.place_automaton.proofs.NullCounts.{IsCountable, null_bare, null_captured, null_distinct, null_joins}
 use Rattle.place_automaton.proofs.OncePlaces.{counts_once}
 use Rattle.place_automaton.proofs.PartBuilt.{all_ordered}
 use Rattle.place_automaton.proofs.counting.+count.Goals as goal
@@ -72,6 +72,15 @@ count_parts-count_formula-requires t c =
         (sequential_part ts f has c.requires.sequential, (c.requires.distinct, λ x v. c.requires.named x (part_has ts f x has v))),
       ),
     )
+
+pub count_arms-alt-requires : goal.count_arms-alt-requires
+count_arms-alt-requires t c =
+    let names = c.args.vars.now in
+    let ts = trees_of c.args.arms.now in
+    let f = tree_of c.at.result.now in
+    let has = Has-slice_get ts (c.loop-waiting.waiting - 1) f c.at.ensures in
+    let named : AreNamed names f = λ x v. c.requires.named x ((arms_have ts x).1 (part_has ts f x has v)) in
+    subst AreDistinct (sym c.in_ok-arm.ensures.ok.null) (null_distinct names f (sequential_arm ts f has c.requires.sequential, ordered_repeats f (c.requires.built f has), named))
 
 pub count_arms-loop-waiting-preserved : goal.count_arms-loop-waiting-preserved
 count_arms-loop-waiting-preserved t c =

@@ -19,7 +19,7 @@ use Rattle.place_automaton.specs.Moves.{places_moved}
 use Rattle.place_automaton.specs.Places.{Places, repeated, ways_between}
 use Rattle.spanner_model.specs.Sequential.{IsSequential}
 use Rattle.place_automaton.specs.Words.{opening_of, closing_of}
-use Rattle.place_automaton.proofs.ArmLaws.{arms_done}
+use Rattle.place_automaton.proofs.ArmLaws.{arms_distinct, arms_done}
 use Rattle.place_automaton.proofs.BuiltRepeats.{ordered_repeats}
 use Rattle.place_automaton.proofs.CapPlaces.{can_capture}
 use Rattle.place_automaton.proofs.DraftRows.{IsRow, copies_next, ok_both, parts_next, parts_joins, placers, row_done}
@@ -114,6 +114,17 @@ place_arms-loop-k-preserved t c =
     parts_next c.args.vars.now ts c.loop-k.k c.args.draft.now.next (tree_of c.at.result.now) c.args.draft.now c.loop-k.draft c.place.new.draft
     c.loop-k.fragments.items c.push.new.self.items c.in_ok-fragment.fragment c.at.ensures refl c.loop-k.invariant c.in_ok-fragment.ensures c.in_ok-push.ensures.items
 
+pub place_arms-join_arms-requires : goal.place_arms-join_arms-requires
+place_arms-join_arms-requires t c = λ P h.
+    let names = c.args.vars.now in
+    let ts = trees_of c.args.arms.now in
+    let at : c.loop-k.k ≡ length ts = omega (arith, c.len-k-end.ensures) in
+    let all : take c.loop-k.k ts ≡ ts = ap (λ k. take k ts) at ∙ take-length ts in
+    let fragments = c.loop-k.invariant.fragments ∙ ap (λ us. map sides_of (in_turn (placers names us) c.args.draft.now.next)) all in
+    arms_distinct names ts c.args.draft.now.next
+    (λ f has. (sequential_arm ts f has c.requires.sequential, ordered_repeats f (c.requires.built f has), λ x v. c.requires.named x ((arms_have ts x).1 (part_has ts f x has v))))
+    P (subst (λ (Qs : List Sides). Has Qs P) fragments h)
+
 pub place_arms-returns : goal.place_arms-returns
 place_arms-returns t c =
     let names = c.args.vars.now in
@@ -122,7 +133,7 @@ place_arms-returns t c =
     let at : c.loop-k.k ≡ length ts = omega (arith, c.len-k-end.ensures) in
     let all : take c.loop-k.k ts ≡ ts = ap (λ k. take k ts) at ∙ take-length ts in
     let row = subst (λ us. IsRow (in_turn (placers names us) a.next) a c.loop-k.draft c.loop-k.fragments.items) all c.loop-k.invariant in
-    let new : Draft = record { next = c.loop-k.draft.next; ways = c.loop-k.draft.ways; left = c.join_arms.new.left } in
+    let new : Draft = record { next = c.loop-k.draft.next; ways = c.loop-k.draft.ways } in
     let xs = c.loop-k.fragments.items in
     IfOk-weaker c.join_arms.result (λ (p : Sides). p ≡ any_sides xs) (λ (p : Sides). HasPlaced (places_of names (alt_all ts) a.next) a new p)
     (λ p is. arms_done names ts a.next a c.loop-k.draft new xs p row is refl refl) c.join_arms.ensures
@@ -176,7 +187,7 @@ place_parts-returns t c =
     let at : c.loop-k.k ≡ length ts = omega (arith, c.len-k-end.ensures) in
     let all : take c.loop-k.k ts ≡ ts = ap (λ k. take k ts) at ∙ take-length ts in
     let row = subst (λ us. IsRow (in_turn (placers names us) a.next) a c.loop-k.draft c.loop-k.fragments.items) all c.loop-k.invariant in
-    let new : Draft = record { next = c.loop-k.draft.next; ways = c.join_row.new.ways; left = c.loop-k.draft.left } in
+    let new : Draft = record { next = c.loop-k.draft.next; ways = c.join_row.new.ways } in
     let xs = c.loop-k.fragments.items in
     ok_both c.join_row.result (λ (p : Sides). p ≡ row_sides c.len-2.result xs c.in_ok-rest.rest) (λ (p : Sides). HasPlaced (places_of names (cat_all ts) a.next) a new p)
     (c.join_row.new.ways.items ≡ c.loop-k.draft.ways.items ++ row_ways c.len-2.result xs c.in_ok-rest.rest)
@@ -363,7 +374,7 @@ place_repeat-returns-in_ok-rest-in-Some t c =
     let at : c.loop-copy._copy ≡ m = omega (arith, many, c.loop-copy-test.false, c.loop-copy.auto._copy-end some) in
     let xs = c.loop-copy.fragments.items in
     let row = subst (λ (j : ℕ). IsRow (copies F j a.next) a c.loop-copy.draft xs) at c.loop-copy.invariant in
-    let new : Draft = record { next = c.loop-copy.draft.next; ways = c.join_row.new.ways; left = c.loop-copy.draft.left } in
+    let new : Draft = record { next = c.loop-copy.draft.next; ways = c.join_row.new.ways } in
     let W = repeated least most F a.next in
     let is = ap (λ (o : Option ℕ). repeated least o F a.next) c.in-Some.is ∙ bounded_places F least m a.next le in
     let r = c.from-required.result in
@@ -385,7 +396,7 @@ place_repeat-returns-in-None t c =
     let many : n ≡ max least 1 = c.copies_of-copies.ensures ∙ ap (copies_of least) c.in-None.is in
     let at : c.loop-copy._copy ≡ max least 1 = omega (arith, many, c.loop-copy-test.false, c.loop-copy.auto._copy-end (omega (arith, many))) in
     let xs = c.loop-copy.fragments.items in
-    let new : Draft = record { next = b.next; ways = c.join_again.new.ways; left = b.left } in
+    let new : Draft = record { next = b.next; ways = c.join_again.new.ways } in
     let r = c.from-required.result in
     let is = ap (λ (o : Option ℕ). repeated least o F a.next) c.in-None.is in
     let Ends' : ℕ → Sides → Type 0 = λ r p. (front : List Sides) (last : Sides) → xs ≡ front ++ last ∷ [] → p ≡ row_sides r front (again_sides r last) in

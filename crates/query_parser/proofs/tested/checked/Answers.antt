@@ -4,7 +4,7 @@ use Rattle.span_core.specs.Lists.{AtMost}
 use Rattle.spanner_model.specs.Sound.{NameOf}
 use Rattle.spanner_model.specs.ExprView.{query_of}
 use Rattle.formula_parser.proofs.BuiltLaws.{text_of}
-use Rattle.query_parser.specs.TestedView.{tested_of}
+use Rattle.spanner_model.specs.Tested.{tested_of}
 use Rattle.query_parser.proofs.TestedCode.{names_many, tested_formed, tested_sound, tree_fails}
 use Rattle.query_parser.proofs.tested.checked.Goals as goal
 

@@ -1,4 +1,4 @@
-use Rattle.query_parser.specs.TestedView.{tested_of}
+use Rattle.spanner_model.specs.Tested.{tested_of}
 use Rattle.query_parser.proofs.TestedCode.{variable_missing}
 use Rattle.query_parser.proofs.tested.with_tests.Goals as goal
 

@@ -2,7 +2,7 @@ use Rattle.std.proofs.Common.{List, ℕ, ap, ◌∙◌, length, subst}
 use Rattle.command_line.specs.RequestView.{request_view}
 use Rattle.rm_outside.specs.Change.{change, Adds, AddsPart}
 use Rattle.spanner_engine.specs.Left.{Source}
-use Rattle.session_server.proofs.Opens.{on_err}
+use Rattle.note_texts.proofs.ResultLaws.{on_err}
 use Rattle.rematch_program.specs.Taking.{coming, page_rows}
 use Rattle.rematch_program.proofs.Gathers.{part_nothing, passes_part, passes_whole}
 use Rattle.rematch_program.proofs.Writing.{begun_over, begun_text, note_fits, note_told}

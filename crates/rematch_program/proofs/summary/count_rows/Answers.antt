@@ -2,7 +2,7 @@ use Rattle.std.proofs.Common.{◌≡◌, ◌+◌, ◌-◌, ◌^◌, ℕ, List, [
 use Rattle.std.specs.Prelude.{slice_get}
 use Rattle.spanner_model.specs.Answers.{SpanRow, page_end}
 use Rattle.spanner_engine.specs.Left.{checks_over, passing_over}
-use Rattle.spanner_engine.specs.Passing.{known}
+use Rattle.spanner_model.specs.Passing.{known}
 use Rattle.rematch_program.specs.Trials.{last_of}
 use Rattle.rematch_program.specs.Taking.{coming}
 use Rattle.rematch_program.proofs.Inside.{fits_of}

@@ -3,8 +3,9 @@ use Rattle.std.specs.Option.{option_copied}
 use Rattle.spanner_model.specs.ExprView.{query_of}
 use Rattle.spanner_engine.specs.Begun.{IsBeginFault}
 use Rattle.spanner_engine.specs.declared.beginning.BeginFault.{BeginFault}
-use Rattle.rematch_program.specs.Run.{Is, other_document, past_the_document, filter_full, table_full, by_memory}
+use Rattle.rematch_program.specs.Run.{other_document, past_the_document, filter_full, table_full, by_memory}
 use Rattle.note_texts.specs.Notes.{note_bytes, other_document_note}
+use Rattle.note_texts.specs.Outcomes.{Is}
 use Rattle.rm_outside.specs.declared.status.Status.TheVariants as status
 use Rattle.rematch_program.proofs.Fits.{fits_unless, wide_enough}
 use Rattle.rematch_program.proofs.HeavyAtoms.{heavy_atom}

@@ -4,10 +4,11 @@ use Rattle.spanner_model.specs.Expression.{QueryTree}
 use Rattle.marked_automaton.specs.declared.fault.SizeFault.{SizeFault}
 use Rattle.marked_automaton.specs.declared.fault.SizeFault.TheVariants.{States, Ways, OutOfMemory}
 use Rattle.note_texts.specs.Notes.{note_bytes, size_note}
+use Rattle.note_texts.specs.Outcomes.{Is, IsOutOfMemory}
 use Rattle.query_automaton.specs.Parts.{HasLargePart}
 use Rattle.rm_outside.specs.declared.status.Status.{Status}
 use Rattle.rm_outside.specs.declared.status.Status.TheVariants as status
-use Rattle.rematch_program.specs.Run.{Is, IsOutOfMemory, IsTooLarge, by_states, by_ways, by_memory}
+use Rattle.rematch_program.specs.Run.{IsTooLarge, by_states, by_ways, by_memory}
 use Rattle.rematch_program.proofs.top.compiled_query.Goals as goal
 
 told : (q : QueryTree) (fault : SizeFault) (end : Status) (note : List ℕ) → HasLargePart q fault →
@@ -18,4 +19,4 @@ told q OutOfMemory end note large (inl h) = absurd (h.0 refl)
 told q fault end note large (inr is) = by_memory is
 
 pub returns-in-Err-clause-outcome : goal.returns-in-Err-clause-outcome
-returns-in-Err-clause-outcome c = told (query_of c.args.query.now) c.in-Err.fault c.too_large.result.status (note_bytes c.too_large.result.note) c.in-Err.ensures.fault c.too_large.ensures
+returns-in-Err-clause-outcome c = told (query_of c.args.query.now) c.in-Err.fault c.of_size.result.status (note_bytes c.of_size.result.note) c.in-Err.ensures.fault c.of_size.ensures

@@ -3,7 +3,7 @@ use Rattle.command_line.specs.RequestView.{request_view}
 use Rattle.spanner_model.specs.declared.query.Query.{Query}
 use Rattle.spanner_model.specs.ExprView.{query_of}
 use Rattle.spanner_model.specs.Answers.{AreResultNames}
-use Rattle.spanner_engine.specs.Passing.{checks_of, known}
+use Rattle.spanner_model.specs.Passing.{checks_of, known}
 use Rattle.trial_maker.specs.Trial.{trial_text}
 use Rattle.std.proofs.Common.{None}
 use Rattle.rm_outside.specs.Change.{change}

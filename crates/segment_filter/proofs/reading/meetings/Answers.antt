@@ -5,7 +5,7 @@ use Rattle.marked_automaton.specs.Automaton.{Automaton}
 use Rattle.automaton_reading.specs.Reading.{byte_read}
 use Rattle.set_table.specs.Tabled.{look_up}
 use Rattle.span_core.specs.Intervals.{Covers}
-use Rattle.filter_laws.specs.Idling.{IsLed}
+use Rattle.segment_filter.specs.Idling.{IsLed}
 use Rattle.segment_filter.specs.Sets.{IsAt, MeetAt}
 use Rattle.segment_filter.specs.SetNumbers.{numbers_of}
 use Rattle.segment_filter.proofs.SetLaws.{at_start, grows_asked, grows_not}

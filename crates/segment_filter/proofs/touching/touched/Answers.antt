@@ -10,7 +10,7 @@ use Rattle.place_automaton.specs.Variables.{with_vars}
 use Rattle.spanner_model.specs.View.{atom_of}
 use Rattle.segment_filter.specs.Costs.{backward_of, filter_weight, forward_of, pairs_met}
 use Rattle.segment_filter.specs.Sets.{MeetAt}
-use Rattle.filter_laws.specs.Touching.{IsTouchedBy}
+use Rattle.segment_filter.specs.Touching.{IsTouchedBy}
 use Rattle.segment_filter.specs.Weights.{IsFullWithin, reading_look_ups, reading_weight}
 use Rattle.segment_filter.proofs.CostLaws.{steps_within}
 use Rattle.segment_filter.proofs.WeightLaws.{full_wider}

@@ -1,6 +1,8 @@
-use Rattle.std.proofs.Common.{◌≡◌, ◌+◌, refl, subst, arith}
+use Rattle.std.proofs.Common.{◌≡◌, ◌+◌, ◌≤◌, ◌↔◌, ℕ, IfOk, length, refl, subst, arith}
 use Rattle.std.specs.Prelude.{reverse}
 use Rattle.std.proofs.lemmas.Result.{on_ok_weaker, IfErr-weaker}
+use Rattle.span_core.specs.Intervals.{Covers}
+use Rattle.segment_filter.specs.Sets.{MeetAt}
 use Rattle.segment_filter.specs.Weights.{IsFullWithin, reading_weight}
 use Rattle.set_table.specs.Tabled.{Tabled, fresh, weight}
 use Rattle.segment_filter.proofs.WeightLaws.{fresh_weighs, full_wider}
@@ -39,3 +41,11 @@ returns-clause-within g c =
     let spent = weight c.read_back.new.table in
     let weighs = subst (λ (t : Tabled). spent ≡ reading_weight t.graph (reverse d)) c.in-Ok.ensures.ok c.in-Ok-read_back.ensures.weight in
     on_ok_weaker c.touched_ahead.result (λ within. omega (arith, within, weighs)) c.touched_ahead.ensures.within
+
+pub returns-clause-ok : goal.returns-clause-ok
+returns-clause-ok g c =
+    let forward = c.args.readings.now.forward.graph in
+    let most = c.args.readings.now.most in
+    let d = c.args.doc.now in
+    let same = subst (λ (t : Tabled). c.read_back.new.table.graph ≡ t.graph) c.in-Ok.ensures.ok c.in-Ok-read_back.ensures.grows.graph in
+    subst (λ backward. IfOk c.touched_ahead.result (λ t. (i : ℕ) → Covers t i ↔ ((i ≤ length d) × MeetAt forward backward most d i))) same c.touched_ahead.ensures.ok

@@ -2,7 +2,7 @@ use Rattle.std.proofs.Common.{◌≡◌, Some}
 use Rattle.std.specs.Str.{IsUtf8}
 use Rattle.serde_json.specs.Read.{read}
 use Rattle.serde_json.specs.View.{view}
-use Rattle.spanner_engine.specs.Passing.{known}
+use Rattle.spanner_model.specs.Passing.{known}
 use Rattle.session_server.specs.Asked.{request_of}
 use Rattle.session_server.proofs.Opens.{is_no_object, is_no_value, is_request, line_of_memory, line_of_none, line_of_request, none_is, some_is}
 use Rattle.session_server.proofs.answering.answer.Goals as goal

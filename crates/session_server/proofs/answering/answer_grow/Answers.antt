@@ -3,7 +3,8 @@ use Rattle.session_server.specs.declared.answering.Opened.{Opened}
 use Rattle.session_server.specs.Requests.{grow_request}
 use Rattle.session_server.specs.Replies.{error_of, grow_of_none}
 use Rattle.session_server.specs.Open.{HasNone, IsPlaceOf, RepliesTo}
-use Rattle.session_server.proofs.Opens.{loses_same, none_open, on_err, replies_same}
+use Rattle.session_server.proofs.Opens.{loses_same, none_open, replies_same}
+use Rattle.note_texts.proofs.ResultLaws.{on_err}
 use Rattle.session_server.proofs.NextRows.{grow_heavy, heavy_closed, here_at, loses_closed, loses_set, replies_grown, set_same, too_heavy, too_long}
 use Rattle.session_server.proofs.answering.answer_grow.Goals as goal
 

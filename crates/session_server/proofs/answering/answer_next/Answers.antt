@@ -1,10 +1,11 @@
 use Rattle.std.proofs.Common.{rules, List, codes, subst}
-use Rattle.spanner_engine.specs.Passing.{known}
+use Rattle.spanner_model.specs.Passing.{known}
 use Rattle.session_server.specs.declared.answering.Opened.{Opened}
 use Rattle.session_server.specs.Requests.{next_request}
 use Rattle.session_server.specs.Replies.{heavy_next, next_of_none, error_of}
 use Rattle.session_server.specs.Open.{HasNone, IsPlaceOf}
-use Rattle.session_server.proofs.Opens.{loses_same, none_open, on_err, replies_same}
+use Rattle.session_server.proofs.Opens.{loses_same, none_open, replies_same}
+use Rattle.note_texts.proofs.ResultLaws.{on_err}
 use Rattle.session_server.proofs.NextRows.{heavy_closed, rows_heavy, here_at, loses_closed, loses_set, replies_given, stands_at}
 use Rattle.session_server.proofs.answering.answer_next.Goals as goal
 
@@ -32,7 +33,7 @@ returns-in-Ok-clause-reply g c =
     let cs = c.args.sessions.now.items in
     let at : IsPlaceOf cs c.args.id c.in-Some.k = subst (λ (xs : List Opened). IsPlaceOf xs c.args.id c.in-Some.k) c.deref.ensures.value c.in-Some.ensures.some in
     let (there, same) = here_at cs c.args.id c.in-Some.k c.index_mut.result.now at c.index_mut.ensures.value in
-    replies_given k c.given.result cs c.args.id c.in-Some.k c.args.most c.index_mut.result.now c.page.new.self c.in-Ok.page.rows.items c.in-Ok.page.more at there same c.in-Ok.ensures.given c.given.ensures
+    replies_given k c.given.result cs c.args.id c.in-Some.k c.args.most c.index_mut.result.now c.page.new.self c.in-Ok.page.rows.items c.deref-in-Ok.result.now c.in-Ok.page.more at there same c.in-Ok.ensures.given c.deref-in-Ok.ensures.value c.given.ensures
 
 pub returns-in-Ok-clause-memory : goal.returns-in-Ok-clause-memory
 returns-in-Ok-clause-memory g c =

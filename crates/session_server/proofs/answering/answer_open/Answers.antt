@@ -1,11 +1,12 @@
 use Rattle.std.proofs.Common.{rules, arith, ◌≤◌, List, codes, length, subst}
-use Rattle.spanner_engine.specs.Passing.{known}
+use Rattle.spanner_model.specs.Passing.{known}
 use Rattle.session_server.specs.declared.TheConstants.{MOST_SESSIONS}
 use Rattle.session_server.specs.declared.answering.Opened.{Opened}
 use Rattle.session_server.specs.Requests.{open_request}
 use Rattle.session_server.specs.Replies.{error_of}
 use Rattle.session_server.specs.Open.{HasNone, IsPlaceOf}
-use Rattle.session_server.proofs.Opens.{is_full, is_taken, loses_same, not_some, on_err, replies_same, some_where}
+use Rattle.session_server.proofs.Opens.{is_full, is_taken, loses_same, not_some, replies_same, some_where}
+use Rattle.note_texts.proofs.ResultLaws.{on_err}
 use Rattle.session_server.proofs.answering.answer_open.Goals as goal
 
 pub returns-then-is_some-clause-reply : goal.returns-then-is_some-clause-reply

@@ -1,11 +1,9 @@
-use Rattle.std.proofs.Common.{List, ℕ, sym, subst, ap, ◌∙◌}
-use Rattle.spanner_engine.specs.Passing.{known}
-use Rattle.spanner_model.specs.Captures.{VarName}
-use Rattle.session_server.specs.declared.answering.Opened.{Opened}
+use Rattle.std.proofs.Common.{List, ℕ, sym, subst}
+use Rattle.spanner_model.specs.Passing.{known}
 use Rattle.session_server.specs.Requests.{open_request}
-use Rattle.session_server.specs.Open.{LosesOne}
-use Rattle.session_server.specs.Replies.{IsRefused, error_of, opened, reply_text}
-use Rattle.session_server.proofs.Opens.{is_refused, loses_same, on_err, replies_opened, replies_same, why_refused}
+use Rattle.session_server.specs.Replies.{IsRefused, error_of}
+use Rattle.session_server.proofs.Opens.{is_refused, loses_put, loses_same, replies_put, replies_same, why_refused}
+use Rattle.note_texts.proofs.ResultLaws.{on_err}
 use Rattle.session_server.proofs.answering.open_new.Goals as goal
 
 pub returns-in-Err-Note-clause-reply : goal.returns-in-Err-Note-clause-reply
@@ -32,23 +30,12 @@ returns-in-Err-OutOfMemory-clause-memory g c =
     let cs = c.args.sessions.now.items in
     loses_same k cs c.args.id
 
-pub returns-in-Err-clause-memory : goal.returns-in-Err-clause-memory
-returns-in-Err-clause-memory g c =
+pub returns-in-Ok-clause-reply : goal.returns-in-Ok-clause-reply
+returns-in-Ok-clause-reply g c =
     let k = known c.args.tests.now g.J.Judge.judges in
-    loses_same k c.args.sessions.now.items c.args.id
+    replies_put k c.put_opened.result c.args.sessions.now.items c.put_opened.new.sessions.items c.args.id c.args.query.now c.args.document.now c.as_bytes-query.result.now c.as_bytes-document.result.now
+    c.in-Ok.session c.requires.none c.requires.room c.as_bytes-query.ensures.value c.as_bytes-document.ensures.value c.put_opened.ensures.put c.in-Ok.ensures.opened c.put_opened.ensures.reply
 
-pub returns-in-Ok-push-clause-reply : goal.returns-in-Ok-push-clause-reply
-returns-in-Ok-push-clause-reply g c =
-    let k = known c.args.tests.now g.J.Judge.judges in
-    let cs = c.args.sessions.now.items in
-    let q = c.as_bytes-query.result.now in
-    let d = c.as_bytes-document.result.now in
-    replies_opened k cs c.push.new.self.items c.args.id c.args.query.now c.args.document.now q d c.in-Ok.session c.in-Ok-opened.reply c.requires.none c.requires.room
-    c.as_bytes-query.ensures.value c.as_bytes-document.ensures.value c.in-Ok-push.ensures.items c.in-Ok.ensures.opened
-    (c.in-Ok-opened.ensures ∙ ap (λ (vs : List VarName). reply_text (opened c.args.id vs)) c.vars.ensures)
-
-pub returns-in-Err-push-clause-memory : goal.returns-in-Err-push-clause-memory
-returns-in-Err-push-clause-memory g c =
-    let k = known c.args.tests.now g.J.Judge.judges in
-    let cs = c.args.sessions.now.items in
-    subst (λ (xs : List Opened). LosesOne k cs xs c.args.id) (sym c.in-Err-push.ensures.items) (loses_same k cs c.args.id)
+pub returns-in-Ok-clause-memory : goal.returns-in-Ok-clause-memory
+returns-in-Ok-clause-memory g c =
+    loses_put (known c.args.tests.now g.J.Judge.judges) c.put_opened.result c.args.sessions.now.items c.put_opened.new.sessions.items c.args.id c.put_opened.ensures.same

@@ -2,11 +2,12 @@ use Rattle.std.proofs.Common.{rules, arith, true, false, ◌≡◌, ◌∙◌, L
 use Rattle.rm_outside.specs.Change.{change}
 use Rattle.rm_outside.specs.declared.status.Status.TheVariants as status
 use Rattle.note_texts.specs.Notes.{counted, line, note_bytes}
-use Rattle.spanner_engine.specs.Passing.{known}
+use Rattle.spanner_model.specs.Passing.{known}
 use Rattle.session_server.specs.declared.TheConstants.{MOST_LINE_BYTES}
 use Rattle.session_server.specs.declared.answering.Opened.{Opened}
 use Rattle.session_server.specs.Replies.{IsReply}
-use Rattle.session_server.proofs.Lines.{ServedSoFar, ended_as, ends_failed, ends_long, ends_many, ends_memory, ends_served, ends_write, is_long, is_spent, is_taken, none_served, one_served, rose_from}
+use Rattle.session_server.proofs.Lines.{ServedSoFar, ended_as, ends_failed, ends_long, ends_many, ends_memory, ends_served, ends_write, is_long, is_spent, is_taken, none_served, one_served}
+use Rattle.rm_outside.proofs.FaultLaws.{rose_from}
 use Rattle.session_server.proofs.serving.serve_lines.Goals as goal
 
 pub loop-line-init : goal.loop-line-init
@@ -62,7 +63,7 @@ returns-in-Err-OutOfMemory g c =
     let k = known c.args.tests.now g.J.Judge.judges in
     let so = c.loop-line.invariant.so_far in
     record {
-      serves = ended_as k c.args.most (change (g.R.Source.told c.args.source.now) (g.R.Source.told c.line.new.self)) (change (g.O.Sink.told c.args.out.now) (g.O.Sink.told c.loop-line.out)) c.fixed-in-Err-OutOfMemory.result.status status.Memory (note_bytes c.fixed-in-Err-OutOfMemory.result.note) (line (codes "out of memory")) c.fixed-in-Err-OutOfMemory.ensures.status c.fixed-in-Err-OutOfMemory.ensures.note
+      serves = ended_as k c.args.most (change (g.R.Source.told c.args.source.now) (g.R.Source.told c.line.new.self)) (change (g.O.Sink.told c.args.out.now) (g.O.Sink.told c.loop-line.out)) c.out_of_memory.result.status status.Memory (note_bytes c.out_of_memory.result.note) (line (codes "out of memory")) c.out_of_memory.ensures.status c.out_of_memory.ensures.note
           (ends_memory k c.args.most (g.R.Source.told c.args.source.now).bytes (g.R.Source.told c.loop-line.source).bytes (g.O.Sink.told c.args.out.now).bytes (g.O.Sink.told c.loop-line.out).bytes c.loop-line.served c.loop-line.sessions.items so (change (g.R.Source.told c.args.source.now) (g.R.Source.told c.line.new.self)) (change (g.O.Sink.told c.args.out.now) (g.O.Sink.told c.loop-line.out)) refl refl refl);
     }
 
@@ -82,7 +83,7 @@ returns-in-Err g c =
     let k = known c.args.tests.now g.J.Judge.judges in
     let so = c.loop-line.invariant.so_far in
     record {
-      serves = ended_as k c.args.most (change (g.R.Source.told c.args.source.now) (g.R.Source.told c.line.new.self)) (change (g.O.Sink.told c.args.out.now) (g.O.Sink.told c.loop-line.out)) c.fixed-in-Err.result.status status.Memory (note_bytes c.fixed-in-Err.result.note) (line (codes "out of memory")) c.fixed-in-Err.ensures.status c.fixed-in-Err.ensures.note
+      serves = ended_as k c.args.most (change (g.R.Source.told c.args.source.now) (g.R.Source.told c.line.new.self)) (change (g.O.Sink.told c.args.out.now) (g.O.Sink.told c.loop-line.out)) c.out_of_memory-in-Err.result.status status.Memory (note_bytes c.out_of_memory-in-Err.result.note) (line (codes "out of memory")) c.out_of_memory-in-Err.ensures.status c.out_of_memory-in-Err.ensures.note
           (ends_memory k c.args.most (g.R.Source.told c.args.source.now).bytes (g.R.Source.told c.loop-line.source).bytes (g.O.Sink.told c.args.out.now).bytes (g.O.Sink.told c.loop-line.out).bytes c.loop-line.served c.loop-line.sessions.items so (change (g.R.Source.told c.args.source.now) (g.R.Source.told c.line.new.self)) (change (g.O.Sink.told c.args.out.now) (g.O.Sink.told c.loop-line.out)) refl refl refl);
     }
 
@@ -95,11 +96,11 @@ returns-in-Err-put g c =
     let is : c.deref.result.now ≡ taken.0 = c.deref.ensures.value ∙ taken.2 ∙ ap (λ (xs : List ℕ). xs ++ taken.0) c.clear.ensures.items in
     let (reply, all, answers, told, stands) = c.in-Ok.ensures.reply so.all so.stands in
     let said : IsReply k so.all taken.0 reply all = subst (λ (text : List ℕ). IsReply k so.all text reply all) is answers in
-    let shown = c.as_bytes.ensures.value ∙ told in
+    let shown = c.deref-in-loop-line.ensures.value ∙ told in
     let rose = rose_from (g.O.Sink.told c.args.out.now).faults (g.O.Sink.told c.loop-line.out).faults (g.O.Sink.told c.put.new.self).faults c.loop-line.invariant.puts c.in-Err-put.ensures.failed in
     record {
       serves = ended_as k c.args.most (change (g.R.Source.told c.args.source.now) (g.R.Source.told c.line.new.self)) (change (g.O.Sink.told c.args.out.now) (g.O.Sink.told c.put.new.self)) c.fixed-in-Err-put.result.status status.Write (note_bytes c.fixed-in-Err-put.result.note) (line (codes "write failed")) c.fixed-in-Err-put.ensures.status c.fixed-in-Err-put.ensures.note
-          (ends_write k c.args.most (g.R.Source.told c.args.source.now).bytes (g.R.Source.told c.loop-line.source).bytes (g.O.Sink.told c.args.out.now).bytes (g.O.Sink.told c.loop-line.out).bytes c.loop-line.served c.loop-line.sessions.items so (g.R.Source.told c.line.new.self).bytes taken.0 c.as_bytes.result.now reply all taken.3 c.if-served-most.false said shown (change (g.R.Source.told c.args.source.now) (g.R.Source.told c.line.new.self)) (change (g.O.Sink.told c.args.out.now) (g.O.Sink.told c.put.new.self)) refl refl refl c.in-Err-put.ensures.part rose);
+          (ends_write k c.args.most (g.R.Source.told c.args.source.now).bytes (g.R.Source.told c.loop-line.source).bytes (g.O.Sink.told c.args.out.now).bytes (g.O.Sink.told c.loop-line.out).bytes c.loop-line.served c.loop-line.sessions.items so (g.R.Source.told c.line.new.self).bytes taken.0 c.deref-in-loop-line.result.now reply all taken.3 c.if-served-most.false said shown (change (g.R.Source.told c.args.source.now) (g.R.Source.told c.line.new.self)) (change (g.O.Sink.told c.args.out.now) (g.O.Sink.told c.put.new.self)) refl refl refl c.in-Err-put.ensures.part rose);
     }
 
 pub loop-line-preserved : goal.loop-line-preserved
@@ -111,9 +112,9 @@ loop-line-preserved g c =
     let is : c.deref.result.now ≡ taken.0 = c.deref.ensures.value ∙ taken.2 ∙ ap (λ (xs : List ℕ). xs ++ taken.0) c.clear.ensures.items in
     let (reply, all, answers, told, stands) = c.in-Ok.ensures.reply so.all so.stands in
     let said : IsReply k so.all taken.0 reply all = subst (λ (text : List ℕ). IsReply k so.all text reply all) is answers in
-    let shown = c.as_bytes.ensures.value ∙ told in
+    let shown = c.deref-in-loop-line.ensures.value ∙ told in
     record {
-      so_far = one_served k c.args.most (g.R.Source.told c.args.source.now).bytes (g.R.Source.told c.loop-line.source).bytes (g.O.Sink.told c.args.out.now).bytes (g.O.Sink.told c.loop-line.out).bytes c.loop-line.served c.loop-line.sessions.items so (g.R.Source.told c.line.new.self).bytes taken.0 c.as_bytes.result.now reply all taken.3 c.if-served-most.false said shown (g.O.Sink.told c.put.new.self).bytes c.answer.new.sessions.items stands c.in-Ok-put.ensures.ok;
+      so_far = one_served k c.args.most (g.R.Source.told c.args.source.now).bytes (g.R.Source.told c.loop-line.source).bytes (g.O.Sink.told c.args.out.now).bytes (g.O.Sink.told c.loop-line.out).bytes c.loop-line.served c.loop-line.sessions.items so (g.R.Source.told c.line.new.self).bytes taken.0 c.deref-in-loop-line.result.now reply all taken.3 c.if-served-most.false said shown (g.O.Sink.told c.put.new.self).bytes c.answer.new.sessions.items stands c.in-Ok-put.ensures.ok;
       faults = omega (arith, c.loop-line.invariant.faults, c.line.ensures.later);
       puts = omega (arith, c.loop-line.invariant.puts, c.put.ensures.later);
     }

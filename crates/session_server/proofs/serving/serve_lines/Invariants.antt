@@ -1,5 +1,5 @@
 use Rattle.std.proofs.Common.{◌≤◌, ◌-◌}
-use Rattle.spanner_engine.specs.Passing.{known}
+use Rattle.spanner_model.specs.Passing.{known}
 use Rattle.session_server.proofs.Lines.{ServedSoFar}
 use Rattle.session_server.proofs.serving.serve_lines.Given as goal
 

@@ -1,7 +1,7 @@
 use Rattle.std.proofs.Common.{sym, subst}
 use Rattle.std.specs.Option.{IfNone}
 use Rattle.set_table.specs.Staying.{IsInside}
-use Rattle.set_table.proofs.Gathered.{searched_at}
+use Rattle.automaton_reading.proofs.Searched.{searched_at}
 use Rattle.set_table.proofs.StayingLaws.{none_at}
 use Rattle.set_table.proofs.staying.member_at.Goals as goal
 

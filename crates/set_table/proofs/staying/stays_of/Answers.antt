@@ -19,10 +19,10 @@ returns c =
     let some : 0 < length members = some_there (length members) (eqb-false (length members) 0 (sym c.is_empty.ensures ∙ c.if-is_empty.false)) in
     elim c.if-is_grouped.branch [
       | then-is_grouped w ↦
-          stays_told A members (flat_map (ways_from A.ways) members) c.if-is_grouped.leading c.stays.result c.requires some
+          stays_told A members (flat_map (ways_from A.ways) members) c.if-is_grouped.leading c.stays.result c.requires.order some
           (subst (AreGathered members _) (sym w.leading-is) w.add_from.ensures) (from_each A members) c.stays.ensures
       | else-is_grouped w ↦
-          stays_told A members (filter (λ (y : Way). is_among members y.from) A.ways) c.if-is_grouped.leading c.stays.result c.requires some
+          stays_told A members (filter (λ (y : Way). is_among members y.from) A.ways) c.if-is_grouped.leading c.stays.result c.requires.order some
           (subst (AreGathered members _) (sym w.leading-is) (subst (λ ws. AreGathered members (filter (λ (y : Way). is_among members y.from) ws) w.add_among.new.self) w.ways.ensures w.add_among.ensures)) (from_all A members) c.stays.ensures
     ]
   where

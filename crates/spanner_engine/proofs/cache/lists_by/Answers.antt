@@ -33,3 +33,8 @@ returns-clause-weighs g c =
 pub returns-clause-cache : goal.returns-clause-cache
 returns-clause-cache g c =
     subst (λ (A : Automaton). IsCacheOf A c.keep.new.self) (c.read_rows_with.ensures.kept.graph ∙ ap (λ (t : Tabled). t.graph) c.take_up-table.ensures) c.keep.ensures
+
+pub returns-clause-words : goal.returns-clause-words
+returns-clause-words g c =
+    let lists = c.in-Ok.listed.lists in
+    subst (λ (t : Tabled). AreReadWords t.graph (is_touched c.args.positions.now) c.args.doc.now (rows lists.store lists.first)) c.take_up-table.ensures c.in-Ok.ensures.words

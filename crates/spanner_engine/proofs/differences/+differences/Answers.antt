@@ -5,7 +5,7 @@ use Rattle.spanner_model.specs.ExprView.{expr_of, exprs_of}
 use Rattle.spanner_model.proofs.ExprLaws.{part_size, union_size}
 use Rattle.spanner_model.proofs.ExprTrees.{expr_of-Join, expr_of-Union}
 use Rattle.spanner_model.proofs.Nodes.{expr_nodes}
-use Rattle.filter_laws.specs.Touching.{HasMinusIn}
+use Rattle.spanner_engine.specs.Touching.{HasMinusIn}
 use Rattle.spanner_engine.proofs.MinusWalk.{minus_none, minus_part, minus_union, none_all, none_more, not_of}
 use Rattle.spanner_engine.proofs.differences.+differences.Goals as goal
 

@@ -2,7 +2,7 @@ use Rattle.std.proofs.Common.{◌+◌, ◌*◌, take}
 use Rattle.spanner_model.specs.Expression.{join_all}
 use Rattle.spanner_model.specs.ExprView.{expr_of, exprs_of}
 use Rattle.spanner_model.proofs.Nodes.{expr_nodes}
-use Rattle.filter_laws.specs.Touching.{HasMinusIn}
+use Rattle.spanner_engine.specs.Touching.{HasMinusIn}
 use Rattle.spanner_engine.proofs.MinusWalk.{NoneIs}
 use Rattle.spanner_engine.proofs.differences.+differences.Given as goal
 

@@ -3,7 +3,7 @@ use Rattle.span_core.proofs.HasLaws.{Has-slice_get}
 use Rattle.spanner_model.specs.Captures.{VarName}
 use Rattle.spanner_model.specs.Expression.{ExprTree}
 use Rattle.spanner_model.specs.ExprView.{expr_of, query_of}
-use Rattle.filter_laws.specs.Touching.{HasMinusIn}
+use Rattle.spanner_engine.specs.Touching.{HasMinusIn}
 use Rattle.spanner_engine.proofs.MinusWalk.{minus_body, none_all, none_more, not_of}
 use Rattle.spanner_engine.proofs.differences.has_minus.Goals as goal
 

@@ -2,7 +2,7 @@ use Rattle.std.proofs.Common.{take}
 use Rattle.spanner_model.specs.Captures.{VarName}
 use Rattle.spanner_model.specs.Expression.{ExprTree}
 use Rattle.spanner_model.specs.ExprView.{query_of}
-use Rattle.filter_laws.specs.Touching.{HasMinusIn}
+use Rattle.spanner_engine.specs.Touching.{HasMinusIn}
 use Rattle.spanner_engine.proofs.MinusWalk.{NoneIs}
 use Rattle.spanner_engine.proofs.differences.has_minus.Given as goal
 

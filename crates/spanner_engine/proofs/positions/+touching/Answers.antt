@@ -7,7 +7,7 @@ use Rattle.spanner_model.specs.ExprView.{expr_of, exprs_of}
 use Rattle.spanner_model.proofs.ExprLaws.{part_size, union_size}
 use Rattle.spanner_model.proofs.ExprTrees.{expr_of-Join, expr_of-Union}
 use Rattle.spanner_model.proofs.Nodes.{expr_nodes}
-use Rattle.filter_laws.specs.Touching.{SomeAtom}
+use Rattle.spanner_engine.specs.Touching.{SomeAtom}
 use Rattle.spanner_engine.specs.Filtering.{AddsTouched, HasFullAtom, IsHeavy, IsInSound, steps_in}
 use Rattle.spanner_engine.proofs.AtomWalk.{full_part, full_union, join_sound, none_all, none_more, none_union, steps_first, steps_more, steps_part, steps_union, touched_all, touched_more, touched_none, touched_union, union_sound}
 use Rattle.spanner_engine.proofs.Results.{handed_on}

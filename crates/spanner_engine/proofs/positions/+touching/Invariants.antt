@@ -2,7 +2,7 @@ use Rattle.std.proofs.Common.{◌+◌, ◌*◌, ◌≤◌, take}
 use Rattle.spanner_model.specs.Expression.{join_all}
 use Rattle.spanner_model.specs.ExprView.{expr_of, exprs_of}
 use Rattle.spanner_model.proofs.Nodes.{expr_nodes}
-use Rattle.filter_laws.specs.Touching.{SomeAtom}
+use Rattle.spanner_engine.specs.Touching.{SomeAtom}
 use Rattle.spanner_engine.specs.Filtering.{AddsTouched, IsHeavy, steps_in}
 use Rattle.spanner_engine.proofs.positions.+touching.Given as goal
 

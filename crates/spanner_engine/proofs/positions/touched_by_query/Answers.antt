@@ -3,7 +3,7 @@ use Rattle.std.proofs.lemmas.Result.{IfOk-weaker, on_ok_weaker, IfErr-weaker}
 use Rattle.spanner_model.specs.Captures.{VarName}
 use Rattle.spanner_model.specs.Expression.{ExprTree}
 use Rattle.spanner_model.specs.ExprView.{expr_of, query_of}
-use Rattle.filter_laws.specs.Touching.{TouchedOf}
+use Rattle.spanner_engine.specs.Touching.{TouchedOf}
 use Rattle.span_core.specs.Intervals.{Covers}
 use Rattle.spanner_engine.specs.Filtering.{AddsTouched, HasFullAtom, IsFilterFault, IsHeavy}
 use Rattle.spanner_engine.proofs.AtomWalk.{body_sound, full_body, full_let, let_at, let_exprs, let_sound, none_more, none_of, steps_body, steps_let, steps_more, touched_more, touched_of}

@@ -1,7 +1,7 @@
 use Rattle.std.proofs.Common.{◌+◌, ◌≤◌, [], take}
 use Rattle.spanner_model.specs.Expression.{join_all}
 use Rattle.spanner_model.specs.ExprView.{query_of}
-use Rattle.filter_laws.specs.Touching.{SomeAtom}
+use Rattle.spanner_engine.specs.Touching.{SomeAtom}
 use Rattle.spanner_engine.specs.Filtering.{AddsTouched, IsHeavy, steps_in}
 use Rattle.spanner_engine.proofs.AtomWalk.{let_exprs}
 use Rattle.spanner_engine.proofs.positions.touched_by_query.Given as goal

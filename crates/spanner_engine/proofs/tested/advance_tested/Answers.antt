@@ -1,6 +1,6 @@
 use Rattle.std.proofs.Common.{◌≡◌, ◌∙◌, ◌∷◌, ◌++◌, [], sym, length, false}
 use Rattle.spanner_model.specs.ExprView.{query_of}
-use Rattle.spanner_engine.specs.Passing.{checks_of, known}
+use Rattle.spanner_model.specs.Passing.{checks_of, known}
 use Rattle.spanner_engine.proofs.PassingLaws.{first_fits, last_further, last_rest, more_fail, one_tried, steps_more}
 use Rattle.spanner_engine.proofs.tested.advance_tested.Goals as goal
 

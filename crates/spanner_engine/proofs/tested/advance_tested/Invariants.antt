@@ -1,6 +1,6 @@
 use Rattle.std.proofs.Common.{◌≡◌, ◌+◌, ◌*◌, ◌≤◌, List, [], ◌++◌, length}
 use Rattle.spanner_model.specs.Answers.{SpanRow}
-use Rattle.spanner_engine.specs.Passing.{checks_of, known, passing}
+use Rattle.spanner_model.specs.Passing.{checks_of, known, passing}
 use Rattle.spanner_engine.proofs.tested.advance_tested.Given as goal
 
 abbrev pub invariant-loop-answers : goal.invariant-loop-answers

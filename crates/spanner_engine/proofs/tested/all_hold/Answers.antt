@@ -1,5 +1,5 @@
 use Rattle.std.proofs.Common.{rules, arith, ◌≡◌, sym, ◌∙◌, true, false}
-use Rattle.spanner_engine.specs.Passing.{known}
+use Rattle.spanner_model.specs.Passing.{known}
 use Rattle.spanner_engine.proofs.PassingLaws.{fails_at, known_at, passes_more}
 use Rattle.spanner_engine.proofs.tested.all_hold.Goals as goal
 

@@ -1,5 +1,5 @@
 use Rattle.std.proofs.Common.{◌≡◌, ◌+◌, ◌≤◌, ◌-◌, true, length, take}
-use Rattle.spanner_engine.specs.Passing.{checks_of, known, passes}
+use Rattle.spanner_model.specs.Passing.{checks_of, known, passes}
 use Rattle.spanner_engine.proofs.tested.all_hold.Given as goal
 
 abbrev pub invariant-loop-k : goal.invariant-loop-k

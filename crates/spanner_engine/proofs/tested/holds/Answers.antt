@@ -1,7 +1,7 @@
 use Rattle.std.proofs.Common.{Some, None, Option, ap, ◌∙◌, refl, false}
 use Rattle.span_core.specs.declared.span.Span.{Span}
 use Rattle.span_core.proofs.HasLaws.{Has-slice_get}
-use Rattle.spanner_engine.specs.Passing.{known}
+use Rattle.spanner_model.specs.Passing.{known}
 use Rattle.spanner_engine.proofs.PassingLaws.{fails_outside, passes_at}
 use Rattle.spanner_engine.proofs.tested.holds.Goals as goal
 

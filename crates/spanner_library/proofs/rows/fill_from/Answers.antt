@@ -1,7 +1,7 @@
 use Rattle.std.proofs.Common.{◌∙◌, ◌*◌, ℕ, length, true, ap}
 use Rattle.spanner_model.specs.ExprView.{query_of}
 use Rattle.spanner_model.specs.Answers.{SpanRow}
-use Rattle.spanner_engine.specs.Passing.{checks_of, known}
+use Rattle.spanner_model.specs.Passing.{checks_of, known}
 use Rattle.spanner_engine.proofs.PassingLaws.{goes_within}
 use Rattle.spanner_library.proofs.Filling.{further, room_here}
 use Rattle.spanner_library.proofs.rows.fill_from.Goals as goal

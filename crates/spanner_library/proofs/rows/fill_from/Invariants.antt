@@ -1,7 +1,7 @@
 use Rattle.std.proofs.Common.{◌≡◌, ◌-◌}
 use Rattle.spanner_model.specs.ExprView.{query_of}
 use Rattle.spanner_engine.specs.Fitting.{AreLast}
-use Rattle.spanner_engine.specs.Passing.{checks_of, known}
+use Rattle.spanner_model.specs.Passing.{checks_of, known}
 use Rattle.spanner_library.proofs.Filling.{Filling}
 use Rattle.spanner_library.proofs.rows.fill_from.Given as goal
 

@@ -4,16 +4,20 @@ use Rattle.std.specs.List.{flat_map}
 use Rattle.std.proofs.lemmas.List.{append-nil}
 use Rattle.std.proofs.lemmas.Option.{slice_get-get_or}
 use Rattle.span_core.specs.Lists.{Has}
+use Rattle.marked_automaton.specs.declared.fault.SizeFault.TheVariants.{OutOfMemory}
+use Rattle.algebra.specs.declared.fault.JoinFault.TheVariants.{Size}
 use Rattle.algebra.specs.declared.halves.HalfWay.{HalfWay}
 use Rattle.algebra.specs.declared.pairs.Pair.{Pair}
-use Rattle.algebra.specs.Pairs.{PairWay, IsFollowed, IsRefusalOf, pair_of, pairs, way_pair, ways_at, ways_meet}
-use Rattle.algebra.specs.Sides.{IsFollowRefusal, half_ways_of}
+use Rattle.algebra.specs.Pairs.{PairWay, IsFollowed, IsRefusalOf, half_from, pair_of, pairs, tried_at, way_pair, ways_at, ways_meet}
+use Rattle.algebra.specs.Sides.{IsFollowRefusal, IsTold, half_ways_of}
+use Rattle.algebra.proofs.StepLaws.{tried_few, tried_more}
+use Rattle.algebra.proofs.EndLaws.{first_no_more}
 use Rattle.algebra.proofs.Followed.{followed_none, followed_then, refusal_then, handed_on, keys_apart}
 use Rattle.algebra.proofs.Searched.{rows_more, apart_take, refusal_of_all, read_pair}
 use Rattle.algebra.proofs.pairs.Search.follow_all.Goals as goal
 
 pub loop-done-init : goal.loop-done-init
-loop-done-init c = record { followed = followed_none c.args.self.now.found.keys c.args.self.now.ways.items; within = omega arith; effort = omega arith }
+loop-done-init c = record { followed = followed_none c.args.self.now.found.keys c.args.self.now.ways.items; within = omega arith; effort = omega arith; steps = omega arith }
 
 pub follow_pair-requires-clause-from : goal.follow_pair-requires-clause-from
 follow_pair-requires-clause-from c = λ x y hx hy.
@@ -49,7 +53,7 @@ returns-in_err-follow_pair-clause-fault c =
     ap (λ zs. flat_map (ways_at xs ys) (take (done + 1) zs)) (sym (append-nil keys)) ∙ rows_more (ways_at xs ys) keys [] done k within is in
     let apart = apart_take (done + 1) keys (keys_apart _ (λ k. search rules) keys c.len.ensures.unique) in
     let e = c.in_err-follow_pair.field-0.0 in
-    handed_on (IsFollowRefusal c.args.left.now c.args.right.now k0 w0) c.from_residual-in_err-follow_pair.result e
+    handed_on (IsTold (IsFollowRefusal c.args.left.now c.args.right.now k0 w0)) c.from_residual-in_err-follow_pair.result (Size e)
     c.from_residual-in_err-follow_pair.ensures.1
     (inl (refusal_of_all xs ys (take (done + 1) keys) k0 w0 e apart
     (subst (λ (r : List PairWay). IsRefusalOf r k0 w0 e) (ap (λ zs. before ++ zs) (append-nil (ways_at xs ys k)) ∙ sym more)
@@ -81,11 +85,57 @@ loop-done-preserved c =
           (subst (λ (r : List PairWay). IsFollowed r keys c.loop-done.self.ways.items new.found.keys new.ways.items) rows f));
       within = omega (arith, within, len);
       effort = omega (arith, c.spend.ensures, c.loop-done.invariant.effort);
+      steps = omega (
+        arith,
+        c.spend.ensures,
+        c.steps.ensures,
+        c.in_ok-put.ensures.steps,
+        c.loop-done.invariant.steps,
+        tried_more half_from half_from xs ys keys f.found done k within is,
+        ap (λ zs. length (flat_map (tried_at half_from half_from xs ys) (take (done + 1) zs))) f.keys,
+      );
     }
 
 pub returns-clause-apart : goal.returns-clause-apart
 returns-clause-apart c = keys_apart _ (λ k. search rules) c.loop-done.self.found.keys c.len.ensures.unique
 
--- no step is left, and there are not too many states: want of memory, which has no cause
-pub returns-then-is_spent-clause-fault : goal.returns-then-is_spent-clause-fault
-returns-then-is_spent-clause-fault c = inl (λ n1 n2 w within lead few. search rules)
+pub returns-then-is_spent-clause-spent : goal.returns-then-is_spent-clause-spent
+returns-then-is_spent-clause-spent c =
+    let xs = half_ways_of c.args.left.now in
+    let ys = half_ways_of c.args.right.now in
+    let keys = c.loop-done.self.found.keys in
+    let done = c.loop-done.done in
+    let k : Pair = get_or c.as_slice.result.now done (pair_of 0 0) in
+    let within : done < length keys = omega (arith, c.loop-done-test.true, c.len.ensures.len) in
+    let is : k ≡ get_or keys done k = read_pair c.as_slice.result.now keys done (pair_of 0 0) k c.as_slice.ensures.keys within in
+    let apart = apart_take (done + 1) keys (keys_apart _ (λ k. search rules) keys c.len.ensures.unique) in
+    omega (
+      arith,
+      c.is_spent.ensures.0 c.if-is_spent.true,
+      c.spend.ensures,
+      c.steps.ensures,
+      c.in_ok-put.ensures.steps,
+      c.loop-done.invariant.steps,
+      tried_more half_from half_from xs ys keys [] done k within is,
+      ap (λ zs. length (flat_map (tried_at half_from half_from xs ys) (take (done + 1) zs))) (append-nil keys),
+      tried_few half_from half_from (take (done + 1) keys) xs ys apart,
+    )
+
+pub returns-clause-steps : goal.returns-clause-steps
+returns-clause-steps c =
+    let xs = half_ways_of c.args.left.now in
+    let ys = half_ways_of c.args.right.now in
+    let keys = c.loop-done.self.found.keys in
+    let apart = keys_apart _ (λ k. search rules) keys c.len.ensures.unique in
+    omega (
+      arith,
+      c.loop-done.invariant.steps,
+      first_no_more (tried_at half_from half_from xs ys) c.loop-done.done keys,
+      tried_few half_from half_from keys xs ys apart,
+    )
+
+-- want of memory has no cause
+pub returns-in_err-put-clause-fault : goal.returns-in_err-put-clause-fault
+returns-in_err-put-clause-fault c =
+    handed_on (IsTold (IsFollowRefusal c.args.left.now c.args.right.now c.args.self.now.found.keys c.args.self.now.ways.items)) c.from_residual.result (Size OutOfMemory) c.from_residual.ensures.1
+    (inl (λ n1 n2 w within lead few. tt))

@@ -9,7 +9,7 @@ pub returns-then-glided-bytes-clause-read : goal.returns-then-glided-bytes-claus
 returns-then-glided-bytes-clause-read g c =
     let p = c.args.self.now in
     let glided = c.glide-glided.result in
-    let search : Search = record { skipper = p.search.skipper; ahead = p.search.ahead; quiet = glided.quiet; far = p.search.far } in
+    let search : Search = record { skipper = p.search.skipper; ahead = p.search.ahead; quiet = glided.quiet; far = p.search.far; waits = p.search.waits } in
     let way = c.glide-glided.ensures.read c.args.steps.now in
     let past = searched (Some glided.layer) (moved glided.bytes p) search refl way.advanced in
     record { advanced = past; stands = way.stands; within = c.glide-glided.ensures.within }
@@ -18,7 +18,7 @@ pub read_byte-requires-clause-goes_on : goal.read_byte-requires-clause-goes_on
 read_byte-requires-clause-goes_on g c =
     let p = c.args.self.now in
     let glided = c.glide-glided.result in
-    let search : Search = record { skipper = p.search.skipper; ahead = p.search.ahead; quiet = glided.quiet; far = p.search.far } in
+    let search : Search = record { skipper = p.search.skipper; ahead = p.search.ahead; quiet = glided.quiet; far = p.search.far; waits = p.search.waits } in
     let way = c.glide-glided.ensures.read c.args.steps.now in
     let past = searched (Some glided.layer) (moved glided.bytes p) search refl way.advanced in
     past.reads.goes_on
@@ -33,20 +33,17 @@ pub returns-in-Ok-clause-read : goal.returns-in-Ok-clause-read
 returns-in-Ok-clause-read g c =
     let p = c.args.self.now in
     let glided = c.glide-glided.result in
-    let search : Search = record { skipper = p.search.skipper; ahead = p.search.ahead; quiet = glided.quiet; far = p.search.far } in
+    let search : Search = record { skipper = p.search.skipper; ahead = p.search.ahead; quiet = glided.quiet; far = p.search.far; waits = p.search.waits } in
     let way = c.glide-glided.ensures.read c.args.steps.now in
     let past = searched (Some glided.layer) (moved glided.bytes p) search refl way.advanced in
     let within : glided.bytes < length c.args.bytes.now = omega (arith, c.glide-glided.ensures.within) in
-    let now = c.read_byte.new.self in
-    let then : Search = record { skipper = now.search.skipper; ahead = now.search.ahead; quiet = c.quiet_at-self.result; far = now.search.far } in
-    let more = advanced_more past within c.in-Ok.ensures.read c.in-Ok.ensures.at in
-    record { advanced = searched c.in-Ok.next now then refl more; stands = c.in-Ok.ensures.stands; within = omega (arith, within) }
+    record { advanced = advanced_more past within c.in-Ok.ensures.read c.in-Ok.ensures.at; stands = c.in-Ok.ensures.stands; within = omega (arith, within) }
 
 pub returns-in-Err-clause-given_up : goal.returns-in-Err-clause-given_up
 returns-in-Err-clause-given_up g c =
     let p = c.args.self.now in
     let glided = c.glide-glided.result in
-    let search : Search = record { skipper = p.search.skipper; ahead = p.search.ahead; quiet = glided.quiet; far = p.search.far } in
+    let search : Search = record { skipper = p.search.skipper; ahead = p.search.ahead; quiet = glided.quiet; far = p.search.far; waits = p.search.waits } in
     let way = c.glide-glided.ensures.read c.args.steps.now in
     let past = searched (Some glided.layer) (moved glided.bytes p) search refl way.advanced in
     let within : glided.bytes < length c.args.bytes.now = omega (arith, c.glide-glided.ensures.within) in

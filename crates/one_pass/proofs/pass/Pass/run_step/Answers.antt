@@ -37,10 +37,11 @@ returns-in-Ok-clause-read g c =
     let entry = c.requires.entry in
     let there = step_there k.steps c.args.step entry.0 entry.1 in
     let run = rw (c.programs.ensures, program_is k.steps c.args.step, there) at c.in-Ok.ensures.run in
-    let targets = rw (c.programs.ensures, program_is k.steps c.args.step, there) at c.in-Ok.ensures.targets in
+    let distinct = rw (c.programs.ensures, program_is k.steps c.args.step, there) at c.in-Ok.ensures.distinct in
+    let long = rw (c.programs.ensures, program_is k.steps c.args.step, there) at c.in-Ok.ensures.long in
     let next = c.next-next.ensures ∙ ap (λ (s : KnownStep). s.next) there in
     rw next
-    (run_numbered_reads c.args.table.now c.args.self.now c.args.layer c.args.byte c.requires.goes_on c.requires.stands entry.0 entry.2 c.run_program.new.self c.args.steps.now c.run_program.new.steps run targets _ refl)
+    (run_numbered_reads c.args.table.now c.args.self.now c.args.layer c.args.byte c.requires.goes_on c.requires.stands entry.0 entry.2 c.run_program.new.self c.args.steps.now c.run_program.new.steps run distinct long _ refl)
 
 pub returns-in-Ok-clause-stands : goal.returns-in-Ok-clause-stands
 returns-in-Ok-clause-stands g c =
@@ -48,7 +49,8 @@ returns-in-Ok-clause-stands g c =
     let entry = c.requires.entry in
     let there = step_there k.steps c.args.step entry.0 entry.1 in
     let run = rw (c.programs.ensures, program_is k.steps c.args.step, there) at c.in-Ok.ensures.run in
-    let targets = rw (c.programs.ensures, program_is k.steps c.args.step, there) at c.in-Ok.ensures.targets in
+    let distinct = rw (c.programs.ensures, program_is k.steps c.args.step, there) at c.in-Ok.ensures.distinct in
+    let long = rw (c.programs.ensures, program_is k.steps c.args.step, there) at c.in-Ok.ensures.long in
     let next = c.next-next.ensures ∙ ap (λ (s : KnownStep). s.next) there in
     rw next
-    (run_numbered c.args.table.now c.args.self.now c.args.layer c.args.byte c.requires.goes_on c.requires.stands entry.0 entry.2 c.run_program.new.self c.args.steps.now c.run_program.new.steps run targets)
+    (run_numbered c.args.table.now c.args.self.now c.args.layer c.args.byte c.requires.goes_on c.requires.stands entry.0 entry.2 c.run_program.new.self c.args.steps.now c.run_program.new.steps run distinct long)

@@ -1,5 +1,5 @@
 use Rattle.std.proofs.Common.{arith, refl}
-use Rattle.set_table.specs.Tabled.{set_at}
+use Rattle.numbered_lists.specs.Numbered.{set_at}
 use Rattle.one_pass.proofs.PlaceLaws.{no_marks}
 use Rattle.one_pass.proofs.ReadWords.{rest_marks}
 use Rattle.one_pass.proofs.Sources.{stepped_all, stepped_given, stepped_gives_up, stepped_more, stepped_none}

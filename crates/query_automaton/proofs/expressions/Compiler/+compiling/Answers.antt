@@ -1,19 +1,25 @@
-use Rattle.std.proofs.Common.{◌≡◌, length, inl, inr, sym, ap, ◌∙◌, subst, arith}
-use Rattle.std.proofs.lemmas.Result.{IfOk-weaker, IfErr-weaker}
+use Rattle.std.proofs.Common.{◌≡◌, ◌+◌, ◌*◌, ◌≤◌, take, length, sym, ap, ◌∙◌, subst, arith, inl}
+use Rattle.std.specs.Prelude.{IfErr, OnOk}
+use Rattle.std.proofs.lemmas.Nat.{mul-le}
+use Rattle.std.proofs.lemmas.Result.{IfErr-weaker}
+use Rattle.marked_automaton.specs.Automaton.{size}
 use Rattle.spanner_model.specs.Expression.{ExprTree, join_all, minus, project, union_all}
 use Rattle.spanner_model.specs.ExprView.{expr_of, exprs_of, query_of}
 use Rattle.spanner_model.specs.Answer.{vars_of_lets}
 use Rattle.spanner_model.specs.Sound.{sure_of_lets}
-use Rattle.spanner_model.proofs.ExprTrees.{expr_of-Minus, expr_of-Named, expr_of-Project}
+use Rattle.spanner_model.proofs.ExprTrees.{expr_of-Atom, expr_of-Join, expr_of-Minus, expr_of-Named, expr_of-Project, expr_of-Union}
 use Rattle.algebra.proofs.Followed.{handed_on}
-use Rattle.marked_automaton.specs.Reduct.{ReducesMarked}
-use Rattle.query_automaton.specs.BegunQuery.{BegunQuery, CanCompile, HasLargePartIn, IsCompiledIn}
-use Rattle.query_automaton.specs.QueryAutomaton.{of_lets, of_minus}
-use Rattle.query_automaton.proofs.Combined.{large_part_at, two_parts}
+use Rattle.query_automaton.specs.BegunQuery.{BegunQuery, CanCompile, HasCauseBeside, HasCauseIn, IsCompiledIn, TakesIn}
+use Rattle.query_automaton.specs.QueryAutomaton.{of_lets}
+use Rattle.query_automaton.proofs.Combined.{two_parts}
 use Rattle.query_automaton.proofs.Combining.{Union, Join}
-use Rattle.query_automaton.proofs.CompileLaws.{SoFar, combine, part_can, so_far_all, so_far_first, so_far_next, too_large}
+use Rattle.query_automaton.proofs.CompileLaws.{SoFar, combine, part_can, so_far_all, so_far_first, so_far_next}
+use Rattle.query_automaton.proofs.HeldLaws.{cause_first, cause_inside, cause_minus, cause_project, cause_up, cause_left, cause_next, cause_right, compiled_size, so_far_size}
+use Rattle.query_automaton.specs.Held.{ArePartsWithin}
+use Rattle.query_automaton.specs.Steps.{HasNoMinus, operations, steps_of}
+use Rattle.query_automaton.proofs.StepLaws.{made_cost, operations_first, step_more}
+use Rattle.query_automaton.proofs.StepQueries.{first_cost, first_spent, first_takes, next_takes, two_fault}
 use Rattle.query_automaton.proofs.MinusLaws.{asked_right, differed, minus_too_large, names_agree}
-use Rattle.query_automaton.proofs.PartLaws.{large_part}
 use Rattle.spanner_model.proofs.Nodes.{expr_nodes}
 use Rattle.query_automaton.proofs.PieceLaws.{kept_there, projected}
 use Rattle.query_automaton.proofs.expressions.Compiler.+compiling.Goals as goal
@@ -56,6 +62,52 @@ expression-returns-in_ok-projected-in-Project-clause-made t c =
     subst (λ (w : ExprTree). IsCompiledIn b w p.field-0) (sym e)
     (projected q b.lets can.known names (expr_of c.deref.result.now) can.asked inner.inner inner.ensures.made p.field-0 p.ensures.names p.ensures.reduct)
 
+pub expression-returns-in_err-inner-in-Project-clause-fault : goal.expression-returns-in_err-inner-in-Project-clause-fault
+expression-returns-in_err-inner-in-Project-clause-fault t c =
+    let E = c.args.effort.now in
+    let b = c.args.self.now in
+    let q = query_of b.query in
+    let names = c.in-Project.names in
+    let e = ap expr_of c.in-Project.is ∙ (expr_of-Project names c.in-Project.sub ∙ ap (λ x. project names (expr_of x)) (sym c.deref.ensures)) in
+    let fault = c.in_err-inner-in-Project.field-0.0 in
+    handed_on (HasCauseIn b E (expr_of c.args.expr.now)) c.from_residual-in_err-inner-in-Project.result fault c.from_residual-in_err-inner-in-Project.ensures.1
+    (subst (λ (w : ExprTree). HasCauseIn b E w fault) (sym e)
+    (cause_inside (of_lets q.lets (length b.lets)) b.held E names (expr_of c.deref.result.now) fault c.in_err-inner-in-Project.ensures.fault))
+
+pub expression-returns-in_ok-named-in-Named-clause-steps : goal.expression-returns-in_ok-named-in-Named-clause-steps
+expression-returns-in_ok-named-in-Named-clause-steps t c = λ most plain within. omega arith
+
+pub expression-returns-in_ok-projected-in-Project-clause-steps : goal.expression-returns-in_ok-projected-in-Project-clause-steps
+expression-returns-in_ok-projected-in-Project-clause-steps t c =
+    let b = c.args.self.now in
+    let q = query_of b.query in
+    let names = c.in-Project.names in
+    let e = ap expr_of c.in-Project.is ∙ (expr_of-Project names c.in-Project.sub ∙ ap (λ x. project names (expr_of x)) (sym c.deref.ensures)) in
+    let inner = c.in_ok-inner-in-Project in
+    let g = expr_of c.deref.result.now in
+    let p = c.in_ok-projected-in-Project in
+    subst (λ (w : ExprTree). TakesIn b w c.args.effort.now c.projected.new.effort) (sym e)
+    (λ most plain within.
+    let inside : ArePartsWithin (of_lets q.lets (length b.lets)) g most = λ n h. within n (inl h) in
+    step_more c.args.effort.now c.expression.new.effort c.projected.new.effort (operations g) 1 (1 + operations g) (steps_of most) (inner.ensures.steps most plain inside)
+    (omega (arith, p.ensures.steps, made_cost (size inner.inner.graph) most (compiled_size q (length b.lets) g inner.inner inner.ensures.made p.ensures.marked most inside))) (omega arith))
+
+pub expression-returns-in_err-projected-in-Project-clause-fault : goal.expression-returns-in_err-projected-in-Project-clause-fault
+expression-returns-in_err-projected-in-Project-clause-fault t c =
+    let b = c.args.self.now in
+    let q = query_of b.query in
+    let E = c.args.effort.now in
+    let names = c.in-Project.names in
+    let e = ap expr_of c.in-Project.is ∙ (expr_of-Project names c.in-Project.sub ∙ ap (λ x. project names (expr_of x)) (sym c.deref.ensures)) in
+    let inner = c.in_ok-inner-in-Project in
+    let g = expr_of c.deref.result.now in
+    let p = c.in_err-projected-in-Project in
+    let fault = p.field-0.0 in
+    handed_on (HasCauseIn b E (expr_of c.args.expr.now)) c.from_residual-in_err-projected-in-Project.result fault c.from_residual-in_err-projected-in-Project.ensures.1
+    (subst (λ (w : ExprTree). HasCauseIn b E w fault) (sym e)
+    (cause_project (of_lets q.lets (length b.lets)) b.held E c.expression.new.effort (64 * size inner.inner.graph) names g
+    (λ most inside. made_cost (size inner.inner.graph) most (compiled_size q (length b.lets) g inner.inner inner.ensures.made p.ensures.marked most inside)) inner.ensures.steps fault p.ensures.fault))
+
 -- ---- a difference
 
 pub expression-beside-requires : goal.expression-beside-requires
@@ -72,17 +124,20 @@ expression-beside-requires t c =
 
 pub expression-returns-in_err-second-in-Minus-clause-fault : goal.expression-returns-in_err-second-in-Minus-clause-fault
 expression-returns-in_err-second-in-Minus-clause-fault t c =
+    let E = c.args.effort.now in
     let b = c.args.self.now in
     let q = query_of b.query in
     let f = expr_of c.deref-in-Minus.result.now in
     let g = expr_of c.deref-in-Minus-2.result.now in
     let e : expr_of c.args.expr.now ≡ minus f g =
     ap expr_of c.in-Minus.is ∙ (expr_of-Minus c.in-Minus.left c.in-Minus.right ∙ (λ i. minus (expr_of (sym c.deref-in-Minus.ensures i)) (expr_of (sym c.deref-in-Minus-2.ensures i)))) in
-    let can = subst (CanCompile b) e c.requires in
+    let L = of_lets q.lets (length b.lets) in
+    let first = c.in_ok-first-in-Minus.first in
     let fault = c.in_err-second-in-Minus.field-0.0 in
-    let part = subst (λ (d : BegunQuery). HasLargePartIn d g fault) c.in_ok-first-in-Minus.ensures.same c.in_err-second-in-Minus.ensures.fault in
-    handed_on (HasLargePartIn b (expr_of c.args.expr.now)) c.from_residual-in_err-second-in-Minus.result fault c.from_residual-in_err-second-in-Minus.ensures.1
-    (subst (λ (w : ExprTree). HasLargePartIn b w fault) (sym e) (large_part (of_lets q.lets (length b.lets)) g (minus f g) fault (λ n p. inr (inl p)) part))
+    let part = subst (λ (d : BegunQuery). HasCauseBeside d first c.expression-in-Minus.new.effort g fault) c.in_ok-first-in-Minus.ensures.same c.in_err-second-in-Minus.ensures.fault in
+    handed_on (HasCauseIn b E (expr_of c.args.expr.now)) c.from_residual-in_err-second-in-Minus.result fault c.from_residual-in_err-second-in-Minus.ensures.1
+    (subst (λ (w : ExprTree). HasCauseIn b E w fault) (sym e)
+    (cause_right L b.held E c.expression-in-Minus.new.effort f g first fault (compiled_size q (length b.lets) f first c.in_ok-first-in-Minus.ensures.made c.in_err-second-in-Minus.ensures.marked) part))
 
 pub expression-differing-requires : goal.expression-differing-requires
 expression-differing-requires t c =
@@ -100,8 +155,8 @@ expression-differing-requires t c =
     let right = subst (IsCompiledIn b g) (sym c.as_automaton-in-Minus.ensures) made in
     names_agree q b.lets can.known f g can.asked a p left right
 
-pub expression-returns-in_ok-second-in-Minus-clause-made : goal.expression-returns-in_ok-second-in-Minus-clause-made
-expression-returns-in_ok-second-in-Minus-clause-made t c =
+pub expression-returns-in_ok-differing-in-Minus-clause-made : goal.expression-returns-in_ok-differing-in-Minus-clause-made
+expression-returns-in_ok-differing-in-Minus-clause-made t c =
     let b = c.args.self.now in
     let q = query_of b.query in
     let f = expr_of c.deref-in-Minus.result.now in
@@ -114,12 +169,13 @@ expression-returns-in_ok-second-in-Minus-clause-made t c =
     let left = subst (IsCompiledIn b f) (sym c.as_automaton.ensures) c.in_ok-first-in-Minus.ensures.made in
     let made = subst (λ (d : BegunQuery). IsCompiledIn d g c.in_ok-second-in-Minus.second) c.in_ok-first-in-Minus.ensures.same c.in_ok-second-in-Minus.ensures.made in
     let right = subst (IsCompiledIn b g) (sym c.as_automaton-in-Minus.ensures) made in
-    IfOk-weaker c.differing.result (λ alone. ReducesMarked alone (of_minus a p)) (IsCompiledIn b (expr_of c.args.expr.now))
-    (λ alone h. subst (λ (w : ExprTree). IsCompiledIn b w alone) (sym e)
-    (differed q b.lets can.known f g can.asked a p left right c.differing.ensures.marked alone h)) c.differing.ensures.made
+    let alone = c.in_ok-differing-in-Minus.field-0 in
+    subst (λ (w : ExprTree). IsCompiledIn b w alone) (sym e)
+    (differed q b.lets can.known f g can.asked a p left right c.in_ok-differing-in-Minus.ensures.marked alone c.in_ok-differing-in-Minus.ensures.made)
 
-pub expression-returns-in_ok-second-in-Minus-clause-fault : goal.expression-returns-in_ok-second-in-Minus-clause-fault
-expression-returns-in_ok-second-in-Minus-clause-fault t c =
+pub expression-returns-in_err-differing-in-Minus-clause-fault : goal.expression-returns-in_err-differing-in-Minus-clause-fault
+expression-returns-in_err-differing-in-Minus-clause-fault t c =
+    let E = c.args.effort.now in
     let b = c.args.self.now in
     let q = query_of b.query in
     let f = expr_of c.deref-in-Minus.result.now in
@@ -132,19 +188,82 @@ expression-returns-in_ok-second-in-Minus-clause-fault t c =
     let left = subst (IsCompiledIn b f) (sym c.as_automaton.ensures) c.in_ok-first-in-Minus.ensures.made in
     let made = subst (λ (d : BegunQuery). IsCompiledIn d g c.in_ok-second-in-Minus.second) c.in_ok-first-in-Minus.ensures.same c.in_ok-second-in-Minus.ensures.made in
     let right = subst (IsCompiledIn b g) (sym c.as_automaton-in-Minus.ensures) made in
-    IfErr-weaker c.differing.result _ (HasLargePartIn b (expr_of c.args.expr.now))
-    (λ fault h. subst (λ (w : ExprTree). HasLargePartIn b w fault) (sym e)
-    (minus_too_large q b.lets can.known f g can.asked a p left right c.differing.ensures.marked fault h)) c.differing.ensures.fault
+    let fault = c.in_err-differing-in-Minus.field-0.0 in
+    handed_on (HasCauseIn b E (expr_of c.args.expr.now)) c.from_residual-in_err-differing-in-Minus.result fault c.from_residual-in_err-differing-in-Minus.ensures.1
+    (subst (λ (w : ExprTree). HasCauseIn b E w fault) (sym e)
+    (cause_minus (of_lets q.lets (length b.lets)) _ b.held E f g (minus_too_large q b.lets can.known f g can.asked a p left right c.in_err-differing-in-Minus.ensures.marked) fault
+    c.in_err-differing-in-Minus.ensures.fault))
+
+pub expression-returns-in_err-first-in-Minus-clause-fault : goal.expression-returns-in_err-first-in-Minus-clause-fault
+expression-returns-in_err-first-in-Minus-clause-fault t c =
+    let E = c.args.effort.now in
+    let b = c.args.self.now in
+    let L = of_lets (query_of b.query).lets (length b.lets) in
+    let f = expr_of c.deref-in-Minus.result.now in
+    let g = expr_of c.in-Minus.right.value in
+    let e : expr_of c.args.expr.now ≡ minus f g =
+    ap expr_of c.in-Minus.is ∙ (expr_of-Minus c.in-Minus.left c.in-Minus.right ∙ (λ i. minus (expr_of (sym c.deref-in-Minus.ensures i)) g)) in
+    let fault = c.in_err-first-in-Minus.field-0.0 in
+    handed_on (HasCauseIn b E (expr_of c.args.expr.now)) c.from_residual-in_err-first-in-Minus.result fault c.from_residual-in_err-first-in-Minus.ensures.1
+    (subst (λ (w : ExprTree). HasCauseIn b E w fault) (sym e) (cause_left L b.held E f g fault c.in_err-first-in-Minus.ensures.fault))
+
+pub expression-returns-in_ok-differing-in-Minus-clause-steps : goal.expression-returns-in_ok-differing-in-Minus-clause-steps
+expression-returns-in_ok-differing-in-Minus-clause-steps t c = λ most plain within.
+    let e = ap expr_of c.in-Minus.is ∙ expr_of-Minus c.in-Minus.left c.in-Minus.right in
+    absurd (subst HasNoMinus e plain)
+
+-- ---- an atom, a union or a join as it is met
+
+pub expression-returns-in-Atom-clause-fault : goal.expression-returns-in-Atom-clause-fault
+expression-returns-in-Atom-clause-fault t c =
+    let e = ap expr_of c.in-Atom.is ∙ expr_of-Atom c.in-Atom.atom in
+    subst (λ (w : ExprTree). IfErr c.atom.result (HasCauseIn c.args.self.now c.args.effort.now w)) (sym e) c.atom.ensures.fault
+
+pub expression-returns-in-Atom-clause-steps : goal.expression-returns-in-Atom-clause-steps
+expression-returns-in-Atom-clause-steps t c =
+    let e = ap expr_of c.in-Atom.is ∙ expr_of-Atom c.in-Atom.atom in
+    subst (λ (w : ExprTree). OnOk c.atom.result (TakesIn c.args.self.now w c.args.effort.now c.atom.new.effort)) (sym e) c.atom.ensures.steps
+
+pub expression-returns-in-Union-clause-fault : goal.expression-returns-in-Union-clause-fault
+expression-returns-in-Union-clause-fault t c =
+    let e = ap expr_of c.in-Union.is ∙ expr_of-Union c.in-Union.parts in
+    subst (λ (w : ExprTree). IfErr c.union.result (HasCauseIn c.args.self.now c.args.effort.now w)) (sym e) c.union.ensures.fault
+
+pub expression-returns-in-Union-clause-steps : goal.expression-returns-in-Union-clause-steps
+expression-returns-in-Union-clause-steps t c =
+    let e = ap expr_of c.in-Union.is ∙ expr_of-Union c.in-Union.parts in
+    subst (λ (w : ExprTree). OnOk c.union.result (TakesIn c.args.self.now w c.args.effort.now c.union.new.effort)) (sym e) c.union.ensures.steps
+
+pub expression-returns-in-Join-clause-fault : goal.expression-returns-in-Join-clause-fault
+expression-returns-in-Join-clause-fault t c =
+    let e = ap expr_of c.in-Join.is ∙ expr_of-Join c.in-Join.parts in
+    subst (λ (w : ExprTree). IfErr c.join.result (HasCauseIn c.args.self.now c.args.effort.now w)) (sym e) c.join.ensures.fault
+
+pub expression-returns-in-Join-clause-steps : goal.expression-returns-in-Join-clause-steps
+expression-returns-in-Join-clause-steps t c =
+    let e = ap expr_of c.in-Join.is ∙ expr_of-Join c.in-Join.parts in
+    subst (λ (w : ExprTree). OnOk c.join.result (TakesIn c.args.self.now w c.args.effort.now c.join.new.effort)) (sym e) c.join.ensures.steps
 
 -- ---- an expression beside one that waits
 
-pub beside-returns-in_err-automaton-clause-fault : goal.beside-returns-in_err-automaton-clause-fault
-beside-returns-in_err-automaton-clause-fault t c =
+pub beside-returns-clause-fault : goal.beside-returns-clause-fault
+beside-returns-clause-fault t c =
+    let E = c.args.effort.now in
     let b = c.args.self.now in
+    let w = c.args.waiting.now in
     let e = expr_of c.args.expr.now in
-    let fault = c.in_err-automaton.field-0.0 in
-    handed_on (HasLargePartIn b e) c.from_residual-in_err-automaton.result fault c.from_residual-in_err-automaton.ensures.1
-    (subst (λ (d : BegunQuery). HasLargePartIn d e fault) c.self.view_is c.in_err-automaton.ensures.fault)
+    let more = c.in_ok-self-inside.field-0 in
+    let at : BegunQuery → BegunQuery = λ d. record { query = d.query; lets = d.lets; held = more } in
+    let held : more ≤ b.held + size w.graph = omega (arith, c.in_ok-self-inside.ensures.all.0, ap (λ (d : BegunQuery). d.held) c.self.view_is, c.own_size.ensures.most) in
+    let made : IfErr c.expression-made.result (HasCauseIn (at b) E e) =
+    subst (λ (d : BegunQuery). IfErr c.expression-made.result (HasCauseIn (at d) E e)) c.self.view_is c.expression-made.ensures.fault in
+    IfErr-weaker c.expression-made.result (HasCauseIn (at b) E e) (HasCauseBeside b w E e)
+    (λ fault h. cause_up (of_lets (query_of b.query).lets (length b.lets)) (b.held + size w.graph) more E E e e fault (λ n p. p) (λ most within. omega (arith, held)) (λ most plain within. (plain, λ le. le)) h) made
+
+pub beside-returns-clause-steps : goal.beside-returns-clause-steps
+beside-returns-clause-steps t c =
+    let e = expr_of c.args.expr.now in
+    subst (λ (d : BegunQuery). OnOk c.expression-made.result (TakesIn d e c.args.effort.now c.expression-made.new.effort)) c.self.view_is c.expression-made.ensures.steps
 
 -- ---- a union
 
@@ -155,19 +274,34 @@ union-expression-requires t c =
 
 pub union-returns-in_err-all-clause-fault : goal.union-returns-in_err-all-clause-fault
 union-returns-in_err-all-clause-fault t c =
+    let E = c.args.effort.now in
     let b = c.args.self.now in
     let es = exprs_of c.args.parts.now in
     let fault = c.in_err-all.field-0.0 in
-    handed_on (HasLargePartIn b (union_all es)) c.from_residual.result fault c.from_residual.ensures.1
-    (large_part_at (of_lets (query_of b.query).lets (length b.lets)) Union es 0 (expr_of c.at.result.now) c.at.ensures fault c.in_err-all.ensures.fault)
+    handed_on (HasCauseIn b E (union_all es)) c.from_residual.result fault c.from_residual.ensures.1
+    (cause_first (of_lets (query_of b.query).lets (length b.lets)) b.held E Union es 0 (expr_of c.at.result.now) c.at.ensures fault c.in_err-all.ensures.fault)
+
+pub union-returns-in_err-spend-clause-fault : goal.union-returns-in_err-spend-clause-fault
+union-returns-in_err-spend-clause-fault t c =
+    let b = c.args.self.now in
+    let es = exprs_of c.args.parts.now in
+    let y = expr_of c.at.result.now in
+    let fault = c.in_err-spend.field-0.0 in
+    handed_on (HasCauseIn b c.args.effort.now (union_all es)) c.from_residual-in_err-spend.result fault c.from_residual-in_err-spend.ensures.1
+    (first_spent (query_of b.query) b.lets c.requires.known Union es y c.at.ensures c.args.effort.now c.expression.new.effort c.in_ok-all.ensures.steps b.held _ c.in_err-spend.ensures.spent
+    (first_cost (query_of b.query) b.lets c.requires.known Union es y c.at.ensures c.as_automaton.result.now (subst (IsCompiledIn b y) (sym c.as_automaton.ensures) c.in_ok-all.ensures.made)
+    c.in_err-spend.ensures.marked) fault c.in_err-spend.ensures.fault)
 
 pub union-loop-k-init : goal.union-loop-k-init
 union-loop-k-init t c =
     let b = c.args.self.now in
     record {
       begun = omega arith;
-      same = c.in_ok-spend.ensures ∙ c.in_ok-all.ensures.same;
+      same = c.in_ok-all.ensures.same;
       so_far = so_far_first (query_of b.query) b.lets c.requires.known Union (exprs_of c.args.parts.now) (expr_of c.at.result.now) c.in_ok-all.all c.at.ensures c.in_ok-all.ensures.made;
+      steps = first_takes (query_of b.query) b.lets c.requires.known Union (exprs_of c.args.parts.now) (expr_of c.at.result.now) c.at.ensures c.args.effort.now c.expression.new.effort c.in_ok-all.ensures.steps _ _ c.in_ok-spend.ensures.steps
+          (first_cost (query_of b.query) b.lets c.requires.known Union (exprs_of c.args.parts.now) (expr_of c.at.result.now) c.at.ensures c.as_automaton.result.now
+          (subst (IsCompiledIn b (expr_of c.at.result.now)) (sym c.as_automaton.ensures) c.in_ok-all.ensures.made) c.in_ok-spend.ensures.marked);
     }
 
 pub union-beside-requires : goal.union-beside-requires
@@ -178,13 +312,17 @@ union-beside-requires t c =
 
 pub union-returns-in_err-part-clause-fault : goal.union-returns-in_err-part-clause-fault
 union-returns-in_err-part-clause-fault t c =
+    let E = c.args.effort.now in
     let b = c.args.self.now in
+    let q = query_of b.query in
+    let n = length b.lets in
     let es = exprs_of c.args.parts.now in
     let y = expr_of c.at-in-loop-k.result.now in
     let fault = c.in_err-part.field-0.0 in
-    handed_on (HasLargePartIn b (union_all es)) c.from_residual-in_err-part.result fault c.from_residual-in_err-part.ensures.1
-    (large_part_at (of_lets (query_of b.query).lets (length b.lets)) Union es c.loop-k.k y c.at-in-loop-k.ensures fault
-    (subst (λ (d : BegunQuery). HasLargePartIn d y fault) c.loop-k.invariant.same c.in_err-part.ensures.fault))
+    handed_on (HasCauseIn b E (union_all es)) c.from_residual-in_err-part.result fault c.from_residual-in_err-part.ensures.1
+    (cause_next (of_lets q.lets n) b.held E c.loop-k.effort Union es c.loop-k.k y c.loop-k.all c.at-in-loop-k.ensures fault
+    (so_far_size q n Union es c.loop-k.k c.loop-k.all c.loop-k.invariant.so_far c.in_err-part.ensures.marked) c.loop-k.invariant.steps
+    (subst (λ (d : BegunQuery). HasCauseBeside d c.loop-k.all c.loop-k.effort y fault) c.loop-k.invariant.same c.in_err-part.ensures.fault))
 
 pub union-united-requires : goal.union-united-requires
 union-united-requires t c =
@@ -199,6 +337,7 @@ union-united-requires t c =
 
 pub union-returns-in_err-all-2-clause-fault : goal.union-returns-in_err-all-2-clause-fault
 union-returns-in_err-all-2-clause-fault t c =
+    let E = c.args.effort.now in
     let b = c.args.self.now in
     let q = query_of b.query in
     let es = exprs_of c.args.parts.now in
@@ -207,9 +346,10 @@ union-returns-in_err-all-2-clause-fault t c =
     let made = subst (λ (d : BegunQuery). IsCompiledIn d y c.in_ok-part.part) c.loop-k.invariant.same c.in_ok-part.ensures.made in
     let part = subst (IsCompiledIn b y) (sym c.as_automaton-in-loop-k.ensures) made in
     let fault = c.in_err-all-2.field-0.0 in
-    handed_on (HasLargePartIn b (union_all es)) c.from_residual-in_err-all-2.result fault c.from_residual-in_err-all-2.ensures.1
-    (too_large q b.lets c.requires.known Union es c.requires.asked k c.loop-k.invariant.begun y c.at-in-loop-k.ensures c.loop-k.all c.as_automaton-in-loop-k.result.now c.loop-k.invariant.so_far part
-    c.in_err-all-2.ensures.marked fault c.in_err-all-2.ensures.fault)
+    let takes = subst (λ (d : BegunQuery). TakesIn d y c.loop-k.effort c.beside.new.effort) c.loop-k.invariant.same c.in_ok-part.ensures.steps in
+    handed_on (HasCauseIn b E (union_all es)) c.from_residual-in_err-all-2.result fault c.from_residual-in_err-all-2.ensures.1
+    (two_fault q b.lets c.requires.known Union es c.requires.asked k c.loop-k.invariant.begun y c.at-in-loop-k.ensures c.loop-k.all c.as_automaton-in-loop-k.result.now c.loop-k.invariant.so_far part c.in_err-all-2.ensures.marked E c.loop-k.effort c.beside.new.effort c.loop-k.invariant.steps takes b.held fault
+    c.in_err-all-2.ensures.fault)
 
 pub union-loop-k-preserved : goal.union-loop-k-preserved
 union-loop-k-preserved t c =
@@ -220,11 +360,13 @@ union-loop-k-preserved t c =
     let y = expr_of c.at-in-loop-k.result.now in
     let made = subst (λ (d : BegunQuery). IsCompiledIn d y c.in_ok-part.part) c.loop-k.invariant.same c.in_ok-part.ensures.made in
     let part = subst (IsCompiledIn b y) (sym c.as_automaton-in-loop-k.ensures) made in
+    let takes = subst (λ (d : BegunQuery). TakesIn d y c.loop-k.effort c.beside.new.effort) c.loop-k.invariant.same c.in_ok-part.ensures.steps in
     record {
       begun = omega arith;
       same = c.in_ok-all-2.ensures.same ∙ (c.in_ok-part.ensures.same ∙ c.loop-k.invariant.same);
       so_far = so_far_next q b.lets c.requires.known Union es c.requires.asked k c.loop-k.invariant.begun y c.at-in-loop-k.ensures c.loop-k.all c.as_automaton-in-loop-k.result.now c.loop-k.invariant.so_far part
           c.in_ok-all-2.ensures.marked c.in_ok-all-2.all c.in_ok-all-2.ensures.made;
+      steps = next_takes q b.lets c.requires.known Union es c.requires.asked k c.loop-k.invariant.begun y c.at-in-loop-k.ensures c.loop-k.all c.as_automaton-in-loop-k.result.now c.loop-k.invariant.so_far part c.in_ok-all-2.ensures.marked c.args.effort.now c.loop-k.effort c.beside.new.effort c.loop-k.invariant.steps takes _ c.in_ok-all-2.ensures.steps;
     }
 
 pub union-returns-clause-made : goal.union-returns-clause-made
@@ -236,6 +378,15 @@ union-returns-clause-made t c =
     let two = two_parts (vars_of_lets q.lets n) (sure_of_lets q.lets n) n Union es c.requires.asked.sound_expr in
     so_far_all q b.lets c.requires.known Union es c.loop-k.all c.loop-k.k (omega (arith, two)) c.loop-k.invariant.so_far
 
+pub union-returns-clause-steps : goal.union-returns-clause-steps
+union-returns-clause-steps t c = λ most plain within.
+    let es = exprs_of c.args.parts.now in
+    omega (
+      arith,
+      c.loop-k.invariant.steps most plain within,
+      mul-le (operations (union_all (take c.loop-k.k es))) (steps_of most) (operations (union_all es)) (steps_of most) (operations_first Union c.loop-k.k es) (omega arith),
+    )
+
 -- ---- a join
 
 pub join-expression-requires : goal.join-expression-requires
@@ -245,11 +396,12 @@ join-expression-requires t c =
 
 pub join-returns-in_err-all-clause-fault : goal.join-returns-in_err-all-clause-fault
 join-returns-in_err-all-clause-fault t c =
+    let E = c.args.effort.now in
     let b = c.args.self.now in
     let es = exprs_of c.args.parts.now in
     let fault = c.in_err-all.field-0.0 in
-    handed_on (HasLargePartIn b (join_all es)) c.from_residual.result fault c.from_residual.ensures.1
-    (large_part_at (of_lets (query_of b.query).lets (length b.lets)) Join es 0 (expr_of c.at.result.now) c.at.ensures fault c.in_err-all.ensures.fault)
+    handed_on (HasCauseIn b E (join_all es)) c.from_residual.result fault c.from_residual.ensures.1
+    (cause_first (of_lets (query_of b.query).lets (length b.lets)) b.held E Join es 0 (expr_of c.at.result.now) c.at.ensures fault c.in_err-all.ensures.fault)
 
 pub join-loop-k-init : goal.join-loop-k-init
 join-loop-k-init t c =
@@ -258,6 +410,8 @@ join-loop-k-init t c =
       begun = omega arith;
       same = c.in_ok-all.ensures.same;
       so_far = so_far_first (query_of b.query) b.lets c.requires.known Join (exprs_of c.args.parts.now) (expr_of c.at.result.now) c.in_ok-all.all c.at.ensures c.in_ok-all.ensures.made;
+      steps = first_takes (query_of b.query) b.lets c.requires.known Join (exprs_of c.args.parts.now) (expr_of c.at.result.now) c.at.ensures c.args.effort.now c.expression.new.effort c.in_ok-all.ensures.steps _ 0 (omega arith)
+          (λ most within. omega arith);
     }
 
 pub join-beside-requires : goal.join-beside-requires
@@ -268,13 +422,17 @@ join-beside-requires t c =
 
 pub join-returns-in_err-part-clause-fault : goal.join-returns-in_err-part-clause-fault
 join-returns-in_err-part-clause-fault t c =
+    let E = c.args.effort.now in
     let b = c.args.self.now in
+    let q = query_of b.query in
+    let n = length b.lets in
     let es = exprs_of c.args.parts.now in
     let y = expr_of c.at-in-loop-k.result.now in
     let fault = c.in_err-part.field-0.0 in
-    handed_on (HasLargePartIn b (join_all es)) c.from_residual-in_err-part.result fault c.from_residual-in_err-part.ensures.1
-    (large_part_at (of_lets (query_of b.query).lets (length b.lets)) Join es c.loop-k.k y c.at-in-loop-k.ensures fault
-    (subst (λ (d : BegunQuery). HasLargePartIn d y fault) c.loop-k.invariant.same c.in_err-part.ensures.fault))
+    handed_on (HasCauseIn b E (join_all es)) c.from_residual-in_err-part.result fault c.from_residual-in_err-part.ensures.1
+    (cause_next (of_lets q.lets n) b.held E c.loop-k.effort Join es c.loop-k.k y c.loop-k.all c.at-in-loop-k.ensures fault
+    (so_far_size q n Join es c.loop-k.k c.loop-k.all c.loop-k.invariant.so_far c.in_err-part.ensures.marked) c.loop-k.invariant.steps
+    (subst (λ (d : BegunQuery). HasCauseBeside d c.loop-k.all c.loop-k.effort y fault) c.loop-k.invariant.same c.in_err-part.ensures.fault))
 
 pub join-joined-requires : goal.join-joined-requires
 join-joined-requires t c =
@@ -289,6 +447,7 @@ join-joined-requires t c =
 
 pub join-returns-in_err-all-2-clause-fault : goal.join-returns-in_err-all-2-clause-fault
 join-returns-in_err-all-2-clause-fault t c =
+    let E = c.args.effort.now in
     let b = c.args.self.now in
     let q = query_of b.query in
     let es = exprs_of c.args.parts.now in
@@ -297,9 +456,10 @@ join-returns-in_err-all-2-clause-fault t c =
     let made = subst (λ (d : BegunQuery). IsCompiledIn d y c.in_ok-part.part) c.loop-k.invariant.same c.in_ok-part.ensures.made in
     let part = subst (IsCompiledIn b y) (sym c.as_automaton-in-loop-k.ensures) made in
     let fault = c.in_err-all-2.field-0.0 in
-    handed_on (HasLargePartIn b (join_all es)) c.from_residual-in_err-all-2.result fault c.from_residual-in_err-all-2.ensures.1
-    (too_large q b.lets c.requires.known Join es c.requires.asked k c.loop-k.invariant.begun y c.at-in-loop-k.ensures c.as_automaton.result.now c.as_automaton-in-loop-k.result.now (subst (SoFar q (length b.lets) Join es k) (sym c.as_automaton.ensures) c.loop-k.invariant.so_far) part
-    c.in_err-all-2.ensures.marked fault c.in_err-all-2.ensures.fault)
+    let takes = subst (λ (d : BegunQuery). TakesIn d y c.loop-k.effort c.beside.new.effort) c.loop-k.invariant.same c.in_ok-part.ensures.steps in
+    handed_on (HasCauseIn b E (join_all es)) c.from_residual-in_err-all-2.result fault c.from_residual-in_err-all-2.ensures.1
+    (two_fault q b.lets c.requires.known Join es c.requires.asked k c.loop-k.invariant.begun y c.at-in-loop-k.ensures c.as_automaton.result.now c.as_automaton-in-loop-k.result.now (subst (SoFar q (length b.lets) Join es k) (sym c.as_automaton.ensures) c.loop-k.invariant.so_far) part c.in_err-all-2.ensures.marked E c.loop-k.effort c.beside.new.effort c.loop-k.invariant.steps takes b.held fault
+    c.in_err-all-2.ensures.fault)
 
 pub join-loop-k-preserved : goal.join-loop-k-preserved
 join-loop-k-preserved t c =
@@ -310,11 +470,13 @@ join-loop-k-preserved t c =
     let y = expr_of c.at-in-loop-k.result.now in
     let made = subst (λ (d : BegunQuery). IsCompiledIn d y c.in_ok-part.part) c.loop-k.invariant.same c.in_ok-part.ensures.made in
     let part = subst (IsCompiledIn b y) (sym c.as_automaton-in-loop-k.ensures) made in
+    let takes = subst (λ (d : BegunQuery). TakesIn d y c.loop-k.effort c.beside.new.effort) c.loop-k.invariant.same c.in_ok-part.ensures.steps in
     record {
       begun = omega arith;
       same = c.in_ok-all-2.ensures.same ∙ (c.in_ok-part.ensures.same ∙ c.loop-k.invariant.same);
       so_far = so_far_next q b.lets c.requires.known Join es c.requires.asked k c.loop-k.invariant.begun y c.at-in-loop-k.ensures c.as_automaton.result.now c.as_automaton-in-loop-k.result.now (subst (SoFar q (length b.lets) Join es k) (sym c.as_automaton.ensures) c.loop-k.invariant.so_far) part
           c.in_ok-all-2.ensures.marked c.in_ok-all-2.all c.in_ok-all-2.ensures.made;
+      steps = next_takes q b.lets c.requires.known Join es c.requires.asked k c.loop-k.invariant.begun y c.at-in-loop-k.ensures c.as_automaton.result.now c.as_automaton-in-loop-k.result.now (subst (SoFar q (length b.lets) Join es k) (sym c.as_automaton.ensures) c.loop-k.invariant.so_far) part c.in_ok-all-2.ensures.marked c.args.effort.now c.loop-k.effort c.beside.new.effort c.loop-k.invariant.steps takes _ c.in_ok-all-2.ensures.steps;
     }
 
 pub join-returns-clause-made : goal.join-returns-clause-made
@@ -325,3 +487,12 @@ join-returns-clause-made t c =
     let es = exprs_of c.args.parts.now in
     let two = two_parts (vars_of_lets q.lets n) (sure_of_lets q.lets n) n Join es c.requires.asked.sound_expr in
     so_far_all q b.lets c.requires.known Join es c.loop-k.all c.loop-k.k (omega (arith, two)) c.loop-k.invariant.so_far
+
+pub join-returns-clause-steps : goal.join-returns-clause-steps
+join-returns-clause-steps t c = λ most plain within.
+    let es = exprs_of c.args.parts.now in
+    omega (
+      arith,
+      c.loop-k.invariant.steps most plain within,
+      mul-le (operations (join_all (take c.loop-k.k es))) (steps_of most) (operations (join_all es)) (steps_of most) (operations_first Join c.loop-k.k es) (omega arith),
+    )

@@ -3,7 +3,9 @@ use Rattle.spanner_model.specs.Expression.{join_all, union_all}
 use Rattle.spanner_model.specs.ExprView.{expr_of, exprs_of, query_of}
 use Rattle.spanner_model.proofs.Nodes.{expr_nodes}
 use Rattle.query_automaton.proofs.Combining.{Union, Join}
+use Rattle.query_automaton.specs.QueryAutomaton.{of_lets}
 use Rattle.query_automaton.proofs.CompileLaws.{SoFar}
+use Rattle.query_automaton.proofs.HeldLaws.{TakesFirst}
 use Rattle.query_automaton.proofs.expressions.Compiler.+compiling.Given as goal
 
 abbrev pub decreases-expression : goal.decreases-expression
@@ -23,6 +25,7 @@ invariant-union-loop-k l = record {
   begun : 1 ≤ l.k;
   same : l.self ≡ l.fn.self;
   so_far : SoFar (query_of l.fn.self.query) (length l.fn.self.lets) Union (exprs_of l.parts) l.k l.all;
+  steps : TakesFirst (of_lets (query_of l.fn.self.query).lets (length l.fn.self.lets)) Union (exprs_of l.parts) l.k l.fn.effort l.effort;
 }
 
 abbrev pub invariant-join-loop-k : goal.invariant-join-loop-k
@@ -30,4 +33,5 @@ invariant-join-loop-k l = record {
   begun : 1 ≤ l.k;
   same : l.self ≡ l.fn.self;
   so_far : SoFar (query_of l.fn.self.query) (length l.fn.self.lets) Join (exprs_of l.parts) l.k l.all;
+  steps : TakesFirst (of_lets (query_of l.fn.self.query).lets (length l.fn.self.lets)) Join (exprs_of l.parts) l.k l.fn.effort l.effort;
 }

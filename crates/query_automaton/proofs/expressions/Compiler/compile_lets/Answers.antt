@@ -1,15 +1,19 @@
-use Rattle.std.proofs.Common.{◌≡◌, List, [], ◌∷◌, ◌++◌, Some, rules, length, length-append, sym, ap, ◌∙◌, subst, arith}
+use Rattle.std.proofs.Common.{◌≡◌, ◌+◌, ◌≤◌, List, [], ◌∷◌, ◌++◌, Some, rules, length, take, length-append, sym, ap, ◌∙◌, subst, arith}
 use Rattle.std.specs.Prelude.{slice_get}
+use Rattle.std.proofs.lemmas.Nat.{mul-le}
+use Rattle.query_automaton.specs.Steps.{operations_of_lets, steps_of}
 use Rattle.spanner_model.specs.Captures.{VarName}
 use Rattle.spanner_model.specs.declared.query.Query.{Query}
 use Rattle.spanner_model.specs.Expression.{ExprTree}
 use Rattle.spanner_model.specs.ExprView.{expr_of, query_of}
-use Rattle.marked_automaton.specs.Automaton.{Marked}
+use Rattle.marked_automaton.specs.Automaton.{Marked, size}
 use Rattle.algebra.proofs.Followed.{handed_on}
 use Rattle.query_automaton.specs.BegunQuery.{BegunQuery}
 use Rattle.query_automaton.specs.Compiling.{AreCompiled}
-use Rattle.query_automaton.specs.Parts.{HasLargePart}
-use Rattle.query_automaton.proofs.PieceLaws.{let_can, let_fault, let_more, none_compiled}
+use Rattle.query_automaton.specs.Held.{HasCause, IsHoldFault}
+use Rattle.query_automaton.proofs.PieceLaws.{let_can, let_more, none_compiled}
+use Rattle.query_automaton.proofs.HeldQueries.{let_cause, let_held, let_kept, let_takes}
+use Rattle.query_automaton.proofs.StepLaws.{lets_first}
 use Rattle.query_automaton.proofs.expressions.Compiler.compile_lets.Goals as goal
 
 pub loop-k-init : goal.loop-k-init
@@ -18,6 +22,8 @@ loop-k-init c =
     record {
       query = search rules;
       long = omega (arith, ap length c.requires.none);
+      held = λ most within. omega (arith, c.requires.nothing);
+      steps = λ most plain within. omega (arith, c.requires.all);
       made = subst (λ (ls : List Marked). AreCompiled q ls) (sym c.requires.none) (none_compiled q);
     }
 
@@ -40,8 +46,23 @@ returns-in_err-automaton-clause-fault c =
     subst (λ (q : Query). slice_get (query_of q).lets k ≡ Some l) (ap (λ (d : BegunQuery). d.query) c.self.view_is) c.at.ensures in
     let inv = c.loop-k.invariant in
     let fault = c.in_err-automaton.field-0.0 in
-    handed_on (HasLargePart (query_of first.query)) c.from_residual.result fault c.from_residual.ensures.1
-    (let_fault first c.loop-k.self inv.query k inv.long inv.made l at fault c.in_err-automaton.ensures.fault)
+    handed_on (HasCause (query_of first.query)) c.from_residual.result fault c.from_residual.ensures.1
+    (let_cause first c.loop-k.self inv.query k inv.long inv.made l at inv.held c.loop-k.effort inv.steps fault c.in_err-automaton.ensures.fault)
+
+pub returns-in_err-keep-clause-fault : goal.returns-in_err-keep-clause-fault
+returns-in_err-keep-clause-fault c =
+    let first = c.args.self.now in
+    let k = c.loop-k.k in
+    let b = c.loop-k.self in
+    let l : VarName × ExprTree = (c.at.result.now.0, expr_of c.at.result.now.1) in
+    let at : slice_get (query_of first.query).lets k ≡ Some l =
+    subst (λ (q : Query). slice_get (query_of q).lets k ≡ Some l) (ap (λ (d : BegunQuery). d.query) c.self.view_is) c.at.ensures in
+    let inv = c.loop-k.invariant in
+    let a = c.in_ok-automaton.automaton in
+    let fault = c.in_err-keep.field-0.0 in
+    handed_on (HasCause (query_of first.query)) c.from_residual-in_err-keep.result fault c.from_residual-in_err-keep.ensures.1
+    (let_kept first b inv.query k inv.long inv.made l at inv.held c.loop-k.effort inv.steps a c.in_ok-automaton.ensures.made c.in_err-keep.ensures.marked fault
+    (subst (λ (d : BegunQuery). IsHoldFault (d.held + size a.graph) fault) c.in_ok-automaton.ensures.same c.in_err-keep.ensures.fault))
 
 pub loop-k-preserved : goal.loop-k-preserved
 loop-k-preserved c =
@@ -58,5 +79,17 @@ loop-k-preserved c =
     record {
       query = c.in_ok-keep.ensures.query ∙ (ap (λ (d : BegunQuery). d.query) c.in_ok-automaton.ensures.same ∙ inv.query);
       long = omega (arith, ap length lets, length-append b.lets (a ∷ []), inv.long);
+      held = let_held first b inv.query k inv.long inv.made l at inv.held c.loop-k.effort inv.steps a c.in_ok-automaton.ensures.made c.in_ok-keep.ensures.marked new.held
+          (subst (λ (d : BegunQuery). new.held ≤ d.held + size a.graph) c.in_ok-automaton.ensures.same c.in_ok-keep.ensures.held);
+      steps = let_takes first b inv.query k inv.long inv.made l at inv.held c.loop-k.effort inv.steps _ c.in_ok-automaton.ensures.steps;
       made = subst (λ (ls : List Marked). AreCompiled (query_of first.query) ls) (sym lets) (let_more first b inv.query k inv.long inv.made l at a c.in_ok-automaton.ensures.made);
     }
+
+pub returns-clause-steps : goal.returns-clause-steps
+returns-clause-steps c = λ most plain within.
+    let lets = (query_of c.args.self.now.query).lets in
+    omega (
+      arith,
+      c.loop-k.invariant.steps most plain within,
+      mul-le (operations_of_lets (take c.loop-k.k lets)) (steps_of most) (operations_of_lets lets) (steps_of most) (lets_first c.loop-k.k lets) (omega arith),
+    )

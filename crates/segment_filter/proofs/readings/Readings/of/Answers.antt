@@ -1,7 +1,7 @@
 use Rattle.std.proofs.Common.{◌≡◌, ◌+◌, ◌-◌, ◌⊎◌, true, false, inl, inr, ◌∙◌}
 use Rattle.std.specs.Prelude.{if◌then◌else◌}
 use Rattle.spanner_model.specs.View.{atom_of}
-use Rattle.filter_laws.specs.Sharing.{places_of}
+use Rattle.segment_filter.specs.Sharing.{places_of}
 use Rattle.segment_filter.proofs.ReadingLaws.{last_place, plain_states, readings_made}
 use Rattle.segment_filter.proofs.CostLaws.{costs_made}
 use Rattle.segment_filter.proofs.readings.Readings.of.Goals as goal

@@ -1,6 +1,7 @@
-use Rattle.std.proofs.Common.{rules, arith, ◌≡◌, ◌∙◌, true, false}
+use Rattle.std.proofs.Common.{rules, arith, ◌≡◌, ◌∙◌, ap, refl, true, false}
 use Rattle.rm_outside.proofs.InputLaws.{on_false}
-use Rattle.spanner_engine.specs.Passing.{known}
+use Rattle.spanner_model.specs.Passing.{known}
+use Rattle.session_server.specs.declared.json_rows.JsonRows.{JsonRows}
 use Rattle.session_server.specs.Replies.{giving}
 use Rattle.session_server.proofs.Giving.{end_given, full_given, on_true, one_given}
 use Rattle.session_server.proofs.session.Session.next_rows.Goals as goal
@@ -12,8 +13,8 @@ returns-then-not-branch-clause-given g c =
     let end = on_false c.in_ok-give.field-0 _ no c.in_ok-give.ensures.none in
     λ s all o.
     let so = c.loop-count.invariant.so_far s all o in
-    end_given k c.args.self.now c.loop-count.self c.give.new.self s all c.loop-count.count c.args.most c.loop-count.rows.items c.give.new.rows.items so c.loop-count.invariant.few
-    end.0 end.1 (end.2 (giving c.loop-count.count s) all so.now)
+    end_given k c.args.self.now c.loop-count.self c.give.new.self s all c.loop-count.count c.args.most c.loop-count.rows.text.items c.give.new.rows.text.items c.in_ok-array.array.items so c.loop-count.invariant.few
+    (ap (λ (r : JsonRows). r.text.items) end.0) c.in_ok-array.ensures end.1 (end.2 (giving c.loop-count.count s) all so.now)
 
 pub loop-count-preserved : goal.loop-count-preserved
 loop-count-preserved g c =
@@ -23,9 +24,10 @@ loop-count-preserved g c =
     record {
       few = omega (arith, c.loop-count-test.true);
       vars = c.give.ensures.vars ∙ c.loop-count.invariant.vars;
+      line = c.give.ensures.line ∙ c.loop-count.invariant.line;
       so_far = λ s all o.
           (let so = c.loop-count.invariant.so_far s all o in
-          one_given k c.args.self.now s all c.loop-count.self c.give.new.self c.loop-count.count c.loop-count.rows.items c.give.new.rows.items so c.give.ensures.vars (one (giving c.loop-count.count s) all so.now));
+          one_given k c.args.self.now s all c.loop-count.self c.give.new.self c.loop-count.count c.loop-count.rows.text.items c.give.new.rows.text.items so c.give.ensures.vars (one (giving c.loop-count.count s) all so.now));
     }
 
 pub returns-clause-given : goal.returns-clause-given
@@ -33,4 +35,4 @@ returns-clause-given g c =
     let k = known c.args.tests.now g.J.Judge.judges in
     let at : c.loop-count.count ≡ c.args.most = omega (arith, c.loop-count-test.false, c.loop-count.invariant.few) in
     λ s all o.
-    full_given k c.args.self.now c.loop-count.self s all c.loop-count.count c.args.most c.loop-count.rows.items c.is_some-more.result (c.loop-count.invariant.so_far s all o) at c.is_some-more.ensures
+    full_given k c.args.self.now c.loop-count.self s all c.loop-count.count c.args.most c.loop-count.rows.text.items c.in_ok-array-2.array.items c.loop-count.self.some (c.loop-count.invariant.so_far s all o) at c.in_ok-array-2.ensures refl

@@ -1,4 +1,4 @@
-use Rattle.spanner_engine.specs.Passing.{known}
+use Rattle.spanner_model.specs.Passing.{known}
 use Rattle.session_server.specs.Replies.{asking}
 use Rattle.session_server.proofs.Grows.{page_given}
 use Rattle.session_server.proofs.session.Session.page.Goals as goal

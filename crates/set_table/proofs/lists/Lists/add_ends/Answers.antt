@@ -2,7 +2,7 @@ use Rattle.std.proofs.Common.{◌≡◌, ◌<◌, refl, sym, subst, rules, ◌�
 use Rattle.span_core.specs.Lists.{IsInOrder}
 use Rattle.automaton_reading.specs.Reading.{set_of}
 use Rattle.set_table.specs.Cut.{marks_among}
-use Rattle.set_table.specs.Tabled.{set_at}
+use Rattle.numbered_lists.specs.Numbered.{set_at}
 use Rattle.set_table.proofs.AddsLaws.{adds_ends, ready_set}
 use Rattle.set_table.proofs.lists.Lists.add_ends.Goals as goal
 

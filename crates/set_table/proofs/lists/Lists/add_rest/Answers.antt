@@ -3,7 +3,7 @@ use Rattle.std.specs.List.{filter}
 use Rattle.span_core.specs.Lists.{Has}
 use Rattle.span_core.proofs.ListLaws.{filter_no_more}
 use Rattle.automaton_reading.specs.Reading.{is_among, rest_edge}
-use Rattle.set_table.specs.Tabled.{set_at}
+use Rattle.numbered_lists.specs.Numbered.{set_at}
 use Rattle.set_table.proofs.AddsLaws.{adds_edges, below_few, ready_set}
 use Rattle.set_table.proofs.lists.Lists.add_rest.Goals as goal
 

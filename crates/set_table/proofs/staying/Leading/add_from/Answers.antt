@@ -1,7 +1,6 @@
-use Rattle.std.proofs.Common.{◌++◌, get_or, refl, subst, take}
+use Rattle.std.proofs.Common.{get_or, refl, take}
 use Rattle.std.specs.List.{flat_map}
 use Rattle.marked_automaton.specs.Automaton.{ways_from}
-use Rattle.set_table.specs.Staying.{AreGathered}
 use Rattle.set_table.proofs.StayingLaws.{gathered_from}
 use Rattle.set_table.proofs.staying.Leading.add_from.Goals as goal
 
@@ -11,5 +10,4 @@ loop-state-preserved c =
     let members = c.args.members.now in
     let i = c.loop-state.state-index in
     let before = flat_map (ways_from A.ways) (take i members) in
-    gathered_from A members i (get_or members i 0) c.add_all.new.self c.loop-state-test.true refl
-    (subst (λ ws. AreGathered members (before ++ ws) c.add_all.new.self) c.ways_from.ensures (c.add_all.ensures.gathered before c.loop-state.invariant))
+    gathered_from A members i (get_or members i 0) c.add_state.new.self c.loop-state-test.true refl (c.add_state.ensures.gathered before c.loop-state.invariant)

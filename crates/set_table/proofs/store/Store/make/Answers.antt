@@ -1,9 +1,10 @@
-use Rattle.std.proofs.Common.{◌≡◌, ◌+◌, ◌*◌, [], ◌∷◌, ◌++◌, length, length-append, length-set, set, sym, ap, arith, ◌∙◌}
+use Rattle.std.proofs.Common.{◌≡◌, ◌+◌, ◌*◌, [], ◌∷◌, ◌++◌, length, length-append, length-set, set, sym, ap, subst, arith, ◌∙◌}
 use Rattle.set_table.specs.declared.answer.Answer.{Answer}
 use Rattle.set_table.specs.declared.lists.Lists.{Lists}
 use Rattle.set_table.specs.Answered.{AreStays, look_ups_of, place_in, tabled, with_places}
 use Rattle.set_table.specs.Tabled.{Tabled}
-use Rattle.set_table.specs.Named.{IsLongerBy}
+use Rattle.numbered_lists.specs.Numbered.{IsLongerBy}
+use Rattle.set_table.specs.Runs.{AreIndexed}
 use Rattle.set_table.proofs.StayLaws.{longer_by_none, same_stays, stays_more, still_in_order}
 use Rattle.set_table.proofs.HeldLaws.{few_more, first_is, first_weighs, held_more, held_same}
 use Rattle.set_table.proofs.store.Store.make.Goals as goal
@@ -79,6 +80,7 @@ returns-clause-sound c =
           sets answers (ap (λ (l : Lists). l.edges.items) lists) (ap (λ (l : Lists). l.ends.items) lists)
           (sym c.in_ok-keep.ensures.numbers) held;
       stays = same_stays M.graph c.args.limit n.sets k.lists.sets (s.answers.items ++ x ∷ []) k.answers.items (set k.stays.items c.args.set c.in_ok-stays.stays) sets answers more;
+      indexed = subst (λ (l : Lists). AreIndexed M.graph.ways l.runs) lists c.in_ok-added.ensures.indexed;
     }
 
 pub noted-requires-clause-order : goal.noted-requires-clause-order
@@ -89,3 +91,6 @@ returns-in_err-put_empty-clause-numbers c = longer_by_none c.from_residual-in_er
 
 pub returns-in_err-stays-clause-numbers : goal.returns-in_err-stays-clause-numbers
 returns-in_err-stays-clause-numbers c = longer_by_none c.from_residual-in_err-stays.result c.args.self.now.numbers
+
+pub returns-clause-indexed : goal.returns-clause-indexed
+returns-clause-indexed c = subst (λ (l : Lists). AreIndexed c.args.automaton.now.graph.ways l.runs) (sym c.in_ok-keep.ensures.lists) c.in_ok-added.ensures.indexed

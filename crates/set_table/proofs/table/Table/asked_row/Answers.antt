@@ -4,7 +4,8 @@ use Rattle.std.proofs.lemmas.Option.{slice_get_within}
 use Rattle.automaton_reading.specs.Reading.{Question, LookUp, byte_read, ended}
 use Rattle.set_table.specs.declared.answer.TableQuestion.{TableQuestion}
 use Rattle.set_table.specs.declared.answer.TableQuestion.TheVariants.{Byte}
-use Rattle.set_table.specs.Tabled.{Tabled, look_up, set_at}
+use Rattle.set_table.specs.Tabled.{Tabled, look_up}
+use Rattle.numbered_lists.specs.Numbered.{set_at}
 use Rattle.set_table.specs.Answered.{place_in}
 use Rattle.span_core.specs.Lists.{Has}
 use Rattle.span_core.proofs.HasLaws.{Has-slice_get}

@@ -1,6 +1,7 @@
 use Rattle.std.proofs.Common.{◌<◌, length, [], sym, subst}
 use Rattle.span_core.proofs.HasLaws.{Has-get_or}
-use Rattle.set_table.specs.Tabled.{IsStateSet, Tabled, set_at}
+use Rattle.set_table.specs.Tabled.{IsStateSet, Tabled}
+use Rattle.numbered_lists.specs.Numbered.{set_at}
 use Rattle.set_table.proofs.table.Table.members.Goals as goal
 
 pub returns-clause-states : goal.returns-clause-states

@@ -17,4 +17,5 @@ invariant_of-result g c =
           (c.in_ok-start.ensures ∙ ap set_of c.starts.ensures) c.in_ok-store.ensures.sets c.in_ok-store.ensures.answers c.in_ok-store.ensures.edges c.in_ok-store.ensures.ends c.in_ok-store.ensures.numbers
           (omega (arith, c.len.ensures, c.in_ok-start.start.ok));
       stays = no_stays M.graph c.args.limit s.lists.sets s.answers.items s.stays.items c.in_ok-store.ensures.answers (c.in_ok-store.ensures.stay_of_each ∙ sym (ap length c.in_ok-store.ensures.sets)) c.in_ok-store.ensures.stays;
+      indexed = c.in_ok-store.ensures.indexed M.graph.ways;
     }

@@ -3,8 +3,8 @@ use Rattle.spanner_model.specs.declared.query.Query.{Query}
 use Rattle.spanner_model.specs.ExprView.{query_of}
 use Rattle.spanner_model.specs.Answers.{AreResultNames}
 use Rattle.marked_automaton.specs.Automaton.{Marked}
-use Rattle.query_parser.specs.TestedView.{tested_of}
-use Rattle.spanner_engine.specs.Passing.{known}
+use Rattle.spanner_model.specs.Tested.{tested_of}
+use Rattle.spanner_model.specs.Passing.{known}
 use Rattle.spanner_library.proofs.Refused.{only_of, refused_text, refused_unknown}
 use Rattle.spanner_library.proofs.prepared.Prepared.read.Goals as goal
 

@@ -1,7 +1,7 @@
 use Rattle.std.proofs.Common.{List, ℕ, sym, subst}
 use Rattle.spanner_model.specs.ExprView.{query_of}
 use Rattle.spanner_model.specs.Answers.{AreResultNames}
-use Rattle.query_parser.specs.declared.asks.Tested.{Tested}
+use Rattle.spanner_model.specs.declared.tested.Tested.{Tested}
 use Rattle.spanner_library.specs.Library.{tree}
 use Rattle.spanner_library.proofs.rows.Rows.fill.Goals as goal
 

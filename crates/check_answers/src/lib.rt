@@ -1,0 +1,5 @@
+//! The worked examples of the engine.
+#![tactic(auto)]
+
+#[cfg(test)]
+mod examples;

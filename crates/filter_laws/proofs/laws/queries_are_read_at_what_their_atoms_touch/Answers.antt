@@ -1,5 +1,0 @@
-use Rattle.filter_laws.proofs.QueryWaiting.{query_reading}
-use Rattle.filter_laws.proofs.laws.queries_are_read_at_what_their_atoms_touch.Goals as goal
-
-pub returns : goal.returns
-returns c = query_reading

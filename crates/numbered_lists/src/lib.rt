@@ -1,0 +1,6 @@
+//! Lists of numbers, each with a number of its own.
+#![tactic(auto)]
+
+pub use numbering::NumberedLists;
+
+mod numbering;

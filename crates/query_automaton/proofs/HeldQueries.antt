@@ -1,0 +1,167 @@
+-- What is held when the lets and the body of a query are compiled.
+use Rattle.std.proofs.Common.{◌≡◌, ℕ, ◌+◌, ◌*◌, ◌≤◌, ◌↔◌, List, Some, length, take, refl, sym, subst, arith}
+use Rattle.std.specs.Prelude.{slice_get}
+use Rattle.std.proofs.lemmas.Option.{slice_get_within}
+use Rattle.spanner_model.specs.Captures.{VarName}
+use Rattle.span_core.specs.Lists.{Has}
+use Rattle.span_core.specs.NameSets.{Ascending}
+use Rattle.spanner_model.specs.Expression.{AtomTree, ExprTree, QueryTree, atom}
+use Rattle.spanner_model.specs.Sequential.{HasVar}
+use Rattle.spanner_model.specs.declared.query.Query.{Query}
+use Rattle.spanner_model.specs.ExprView.{query_of}
+use Rattle.marked_automaton.specs.Automaton.{IsMarked, Marked, size}
+use Rattle.marked_automaton.specs.declared.fault.SizeFault.{SizeFault}
+use Rattle.marked_automaton.specs.Faults.{IsSizeFaultWithin}
+use Rattle.marked_automaton.specs.Reduct.{Reduces}
+use Rattle.place_automaton.specs.Words.{atom_automaton}
+use Rattle.algebra.specs.declared.fault.JoinFault.{JoinFault}
+use Rattle.algebra.specs.declared.fault.JoinFault.TheVariants as join
+use Rattle.algebra.specs.JoinedMarks.{agree_on, joined}
+use Rattle.algebra.specs.Joining.{IsJoinFault, IsJoinOf, IsSpentOn, most_steps}
+use Rattle.algebra.specs.JoinedNames.{all_names}
+use Rattle.algebra.specs.Operations.{join_of}
+use Rattle.algebra.specs.Uniting.{union_over}
+use Rattle.query_automaton.proofs.Combined.{united_made}
+use Rattle.query_automaton.specs.declared.effort.TheConstants.{MOST_STEPS}
+use Rattle.query_automaton.specs.declared.fault.CompileFault.{CompileFault}
+use Rattle.query_automaton.specs.declared.fault.CompileFault.TheVariants.{Size, Held, Ends, Spent}
+use Rattle.query_automaton.specs.BegunQuery.{BegunQuery, HasCauseIn, IsCompiledIn, TakesIn}
+use Rattle.query_automaton.specs.Compiling.{AreCompiled, IsCompiledFrom}
+use Rattle.query_automaton.specs.Held.{ArePartsWithin, HasCause, HasCauseOf, IsHoldFault, IsWithin, Takes}
+use Rattle.query_automaton.specs.QueryAutomaton.{of_atom, of_join, of_lets, of_union}
+use Rattle.query_automaton.specs.Steps.{QueryHasNoMinus, join_steps, operations, operations_of, operations_of_lets, steps_of}
+use Rattle.query_automaton.specs.Parts.{HasSmallAtoms}
+use Rattle.query_automaton.specs.Told.{IsTold, IsToldOf, atom_fault_of, compile_fault}
+use Rattle.place_automaton.specs.declared.TheConstants as place
+use Rattle.place_automaton.specs.declared.fault.AtomFault.{AtomFault}
+use Rattle.place_automaton.specs.declared.fault.AtomFault.TheVariants as of
+use Rattle.place_automaton.specs.Counts.{count_states, count_ways}
+use Rattle.place_automaton.specs.Refusals.{IsAtomRefusal, count_ends}
+use Rattle.algebra.specs.declared.TheConstants.{MOST_ENDS}
+use Rattle.query_automaton.proofs.StepLaws.{lets_first, lets_more, made_cost, step_le, step_more}
+use Rattle.query_automaton.proofs.HeldLaws.{held_more, held_of_body, held_of_let, kept_fault, part_size, reduced_size}
+use Rattle.query_automaton.proofs.PieceLaws.{atom_fault, atom_names, body_fault, let_fault}
+
+-- the steps of the first lets
+abbrev pub TakesLets : QueryTree → ℕ → ℕ → Type 0
+TakesLets q k effort = (most : ℕ) → QueryHasNoMinus q → IsWithin q most → MOST_STEPS ≤ effort + operations_of_lets (take k q.lets) * steps_of most
+
+-- ---- the next let
+
+module _ (first b : BegunQuery) (same : b.query ≡ first.query) (k : ℕ) (long : length b.lets ≡ k) (known : AreCompiled (query_of first.query) b.lets) (l : VarName × ExprTree)
+    (at : slice_get (query_of first.query).lets k ≡ Some l) (so_far : (most : ℕ) → IsWithin (query_of first.query) most → b.held ≤ k * most) (effort : ℕ)
+    (takes : TakesLets (query_of first.query) k effort) where
+  abbrev Q : QueryTree
+  Q = query_of first.query
+
+  few : k ≤ length Q.lets
+  few = omega (arith, slice_get_within Q.lets k l at)
+
+  pub let_cause : (fault : CompileFault) → HasCauseIn b effort l.1 fault → HasCause Q fault
+  let_cause (Size fault) h = let_fault first b same k long known l at fault h
+  let_cause (Held count) h =
+      let here = subst (λ (q : Query). HasCauseOf (of_lets (query_of q).lets (length b.lets)) b.held effort l.1 (Held count)) same h in
+      held_of_let Q b.held effort k few so_far l at count (subst (λ n. HasCauseOf (of_lets Q.lets n) b.held effort l.1 (Held count)) long here)
+  let_cause (Ends count) h =
+      let here = subst (λ (q : Query). HasCauseOf (of_lets (query_of q).lets (length b.lets)) b.held effort l.1 (Ends count)) same h in
+      let one = subst (λ n. HasCauseOf (of_lets Q.lets n) b.held effort l.1 (Ends count)) long here in
+      (one.0, λ most within. one.1 most (within.0 k l at))
+  let_cause Spent h = λ most plain within.
+      let here = subst (λ (q : Query). HasCauseOf (of_lets (query_of q).lets (length b.lets)) b.held effort l.1 Spent) same h in
+      let one = subst (λ n. HasCauseOf (of_lets Q.lets n) b.held effort l.1 Spent) long here in
+      step_le MOST_STEPS effort (operations_of_lets (take k Q.lets)) (operations l.1) (operations_of Q) (steps_of most) (takes most plain within) (one most (plain.0 k l at) (within.0 k l at))
+      (omega (arith, lets_more Q.lets k l at, lets_first (k + 1) Q.lets))
+
+  -- after the let
+  pub let_takes : (after : ℕ) → TakesIn b l.1 effort after → TakesLets Q (k + 1) after
+  let_takes after h most plain within =
+      let here = subst (λ (q : Query). Takes (of_lets (query_of q).lets (length b.lets)) l.1 effort after) same h in
+      let one = subst (λ n. Takes (of_lets Q.lets n) l.1 effort after) long here in
+      step_more MOST_STEPS effort after (operations_of_lets (take k Q.lets)) (operations l.1) (operations_of_lets (take (k + 1) Q.lets)) (steps_of most) (takes most plain within)
+      (one most (plain.0 k l at) (within.0 k l at)) (omega (arith, lets_more Q.lets k l at))
+
+  module _ (a : Marked) (made : IsCompiledIn b l.1 a) (marked : IsMarked a) where
+    made_here : IsCompiledFrom Q k l.1 a
+    made_here = subst (λ n. IsCompiledFrom Q n l.1 a) long (subst (λ (q : Query). IsCompiledFrom (query_of q) (length b.lets) l.1 a) same made)
+
+    pub let_kept : (fault : CompileFault) → IsHoldFault (b.held + size a.graph) fault → HasCause Q fault
+    let_kept fault h = kept_fault Q b.held effort k few so_far l at a made_here marked fault h
+
+    pub let_held : (new : ℕ) → new ≤ b.held + size a.graph → (most : ℕ) → IsWithin Q most → new ≤ (k + 1) * most
+    let_held new le most within = held_more Q b.held effort k few so_far l at a made_here marked new le most within
+
+-- ---- the body
+
+module _ (q : Query) (b : BegunQuery) (same : b.query ≡ q) (long : length b.lets ≡ length (query_of q).lets)
+    (so_far : (most : ℕ) → IsWithin (query_of q) most → b.held ≤ length (query_of q).lets * most) (effort : ℕ)
+    (takes : (most : ℕ) → QueryHasNoMinus (query_of q) → IsWithin (query_of q) most → MOST_STEPS ≤ effort + operations_of_lets (query_of q).lets * steps_of most) where
+  abbrev N : ℕ
+  N = length (query_of q).lets
+
+  pub body_cause : (fault : CompileFault) → HasCauseIn b effort (query_of q).body fault → HasCause (query_of q) fault
+  body_cause (Size fault) h = body_fault q b same long fault h
+  body_cause (Held count) h =
+      let here = subst (λ (x : Query). HasCauseOf (of_lets (query_of x).lets (length b.lets)) b.held effort (query_of q).body (Held count)) same h in
+      held_of_body (query_of q) b.held effort N (omega arith) so_far refl count (subst (λ n. HasCauseOf (of_lets (query_of q).lets n) b.held effort (query_of q).body (Held count)) long here)
+  body_cause (Ends count) h =
+      let here = subst (λ (x : Query). HasCauseOf (of_lets (query_of x).lets (length b.lets)) b.held effort (query_of q).body (Ends count)) same h in
+      let one = subst (λ n. HasCauseOf (of_lets (query_of q).lets n) b.held effort (query_of q).body (Ends count)) long here in
+      (one.0, λ most within. one.1 most within.1)
+  body_cause Spent h = λ most plain within.
+      let here = subst (λ (x : Query). HasCauseOf (of_lets (query_of x).lets (length b.lets)) b.held effort (query_of q).body Spent) same h in
+      let one = subst (λ n. HasCauseOf (of_lets (query_of q).lets n) b.held effort (query_of q).body Spent) long here in
+      step_le MOST_STEPS effort (operations_of_lets (query_of q).lets) (operations (query_of q).body) (operations_of (query_of q)) (steps_of most) (takes most plain within)
+      (one most plain.1 within.1) (omega arith)
+
+-- ---- an atom
+
+-- what is made of an atom is no larger than its part may be
+pub atom_within : (L : ℕ → Marked) (u : AtomTree) (whole : Marked) → Ascending whole.names → ((x : VarName) → Has whole.names x ↔ HasVar u.formula x) →
+    Reduces whole.graph (atom_automaton whole.names u) → IsMarked whole → HasSmallAtoms (atom u) → (most : ℕ) → ArePartsWithin L (atom u) most → size whole.graph ≤ most
+atom_within L u whole up all reduces marked small most within =
+    let same = atom_names u whole.names up all in
+    let made : Reduces whole.graph (of_atom u).graph = subst (λ (ns : List VarName). Reduces whole.graph (atom_automaton ns u)) same reduces in
+    omega (arith, reduced_size whole (of_atom u) marked made, part_size L most (atom u) within small)
+
+pub atom_takes : (L : ℕ → Marked) (u : AtomTree) (before after cost : ℕ) → before ≤ after + 64 * cost → ((most : ℕ) → ArePartsWithin L (atom u) most → cost ≤ most) → Takes L (atom u) before after
+atom_takes L u before after cost spent few most plain within = omega (arith, spent, few most within, made_cost cost most (few most within))
+
+pub atom_spent : (L : ℕ → Marked) (u : AtomTree) (held before cost : ℕ) → before ≤ 64 * cost → ((most : ℕ) → ArePartsWithin L (atom u) most → cost ≤ most) → (fault : CompileFault) →
+    fault ≡ Spent → HasCauseOf L held before (atom u) fault
+atom_spent L u held before cost spent few fault is =
+    subst (HasCauseOf L held before (atom u)) (sym is) (λ most plain within. omega (arith, spent, made_cost cost most (few most within)))
+
+-- a refusal of an atom
+pub atom_cause : (L : ℕ → Marked) (u : AtomTree) (held effort : ℕ) (fault : AtomFault) → IsAtomRefusal u fault → HasCauseOf L held effort (atom u) (atom_fault_of fault)
+atom_cause L u held effort (of.Size fault) h = atom_fault u L fault h
+atom_cause L u held effort (of.Ends count) h =
+    let most_ends : place.MOST_ENDS ≡ 8000000 = refl in
+    let most_here : MOST_ENDS ≡ 8000000 = refl in
+    (omega (arith, h.1, most_ends, most_here), λ most within. omega (arith, h.2, within (record { states = count_states u; ways = count_ways u; ends = count_ends u }) refl))
+
+-- ---- a join
+
+-- a refusal of the operation
+pub join_refused : (A B : Marked) (before after : ℕ) → before ≤ after + (A.graph.states + B.graph.states) → (fault : JoinFault) → IsJoinFault A B fault → IsSpentOn after (most_steps A B) fault →
+    IsTold (IsSizeFaultWithin (of_join A B).graph.states (length (of_join A B).graph.ways)) (length (of_join A B).graph.stops) before (join_steps A B) (compile_fault fault)
+join_refused A B before after le (join.Size fault) h spent = h
+join_refused A B before after le (join.Ends count) h spent = h
+join_refused A B before after le join.Spent h spent = omega (arith, le, spent)
+
+pub joined_size : (A B J : Marked) → IsJoinOf A B J → IsMarked J → size J.graph ≤ size (of_join A B).graph
+joined_size A B J of marked =
+    reduced_size J (of_join A B) marked (subst (λ (ns : List VarName). Reduces J.graph (join_of (agree_on A.names B.names ns) (joined A.names B.names ns) A.graph B.graph)) of.names of.reduct)
+
+-- ---- a union
+
+pub united_size : (A B taken u : Marked) → taken ≡ A → u.names ≡ all_names taken.names B.names → Reduces u.graph (union_over taken B u.names) → IsMarked u →
+    size u.graph ≤ size (of_union A B).graph
+united_size A B taken u is names reduct marked =
+    reduced_size u (of_union A B) marked (subst (λ (a : Marked). Reduces u.graph (of_union a B).graph) is (united_made taken B u names reduct).1)
+
+-- what is left where an operation is refused for want of steps
+pub told_spent : (P : SizeFault → Type 0) (ends before most : ℕ) → before ≤ most → (fault : CompileFault) → fault ≡ Spent → IsTold P ends before most fault
+told_spent P ends before most le fault is = subst (IsTold P ends before most) (sym is) le
+
+pub told_of_spent : (P : SizeFault → Type 0) (fault : CompileFault) → fault ≡ Spent → IsToldOf P fault
+told_of_spent P fault is = subst (IsToldOf P) (sym is) tt

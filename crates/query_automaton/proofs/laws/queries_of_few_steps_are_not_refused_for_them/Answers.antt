@@ -1,0 +1,5 @@
+use Rattle.query_automaton.proofs.HeldLaws.{queries_of_few_steps}
+use Rattle.query_automaton.proofs.laws.queries_of_few_steps_are_not_refused_for_them.Goals as goal
+
+pub returns : goal.returns
+returns c = queries_of_few_steps
