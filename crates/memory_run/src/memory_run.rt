@@ -6,11 +6,11 @@ ghost use Rattle.rm_outside.specs.MemorySink.{written_of};
 ghost use Rattle.memory_run.specs.Input.{input_name};
 
 use known_tests::program_tests;
-use whole_program::run_all;
 use rm_outside::{FetchFault, MemoryShelf, MemorySink, MemorySource, Shelf, Status};
 use span_core::{OutOfMemory, Steps};
 use std::alloc::Global;
 use std::sync::ledger::{Blank, Ledger};
+use whole_program::run_all;
 
 /// What a run of the program is given: the words after its name, and documents under their names.
 #[derive(Drop)]
