@@ -34,9 +34,17 @@ pub(crate) struct Grown {
 /// Grows it piece by piece, and asks for one row after each.
 pub(crate) fn grow_long<L: Ledger>(alloc: Global, steps: &mut Steps<L>) -> Result<Grown, Fault> {
     let mut growing = begin_text(alloc, TEXT, LIMIT, steps)?;
-    let rows = append_pieces(alloc, &mut growing, steps)?;
+    grow_to_last(alloc, &mut growing, steps)
+}
+
+fn grow_to_last<L: Ledger>(
+    alloc: Global,
+    growing: &mut Growing,
+    steps: &mut Steps<L>,
+) -> Result<Grown, Fault> {
+    let rows = append_pieces(alloc, growing, steps)?;
     let live = growing.live();
-    let last = last_span(&mut growing, steps)?;
+    let last = last_span(growing, steps)?;
     Ok(Grown {
         rows,
         live,

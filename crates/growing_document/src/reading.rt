@@ -10,7 +10,6 @@ ghost use Rattle.one_pass.specs.Going.{GoesOn};
 ghost use Rattle.one_pass.specs.Known.{Knows};
 ghost use Rattle.one_pass.specs.Passes.{IsReady, pass};
 ghost use Rattle.one_pass.specs.Places.{bytes_at};
-ghost use Rattle.one_pass.specs.Seen.{whole};
 ghost use Rattle.growing_document.specs.Reading.{AreEnded, HasBegun, HasEndedCopy, HasReadOn, IsEndFault, pass_at};
 
 use marked_automaton::Automaton;
@@ -130,11 +129,11 @@ fn lists_of<L: Ledger>(
     at: u32,
     steps: &mut Steps<L>,
 ) -> Result<RowLists, TableFault>
-    requires ready { IsReady table.old (whole graph.now) at }
+    requires ready { IsReady table.old graph.now at }
     requires few { at ≤ 2 ^ 28 }
-    ensures ended { HasEndedCopy table.old.graph (pass table.old (whole graph.now) steps.old) (pass table.new (whole graph.now) steps.new) }
-    ensures lists { IfOk result (AreEnded table.old.graph at (pass table.old (whole graph.now) steps.old)) }
-    ensures cause { IfErr result (IsEndFault (pass table.old (whole graph.now) steps.old)) }
+    ensures ended { HasEndedCopy table.old.graph (pass table.old graph.now steps.old) (pass table.new graph.now steps.new) }
+    ensures lists { IfOk result (AreEnded table.old.graph at (pass table.old graph.now steps.old)) }
+    ensures cause { IfErr result (IsEndFault (pass table.old graph.now steps.old)) }
 {
     let copy = match graph.copy(alloc, steps) {
         Ok(copy) => copy,

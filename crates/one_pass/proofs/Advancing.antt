@@ -22,7 +22,6 @@ use Rattle.one_pass.specs.Going.{GivesUp, GoesOn, IsAdvanced, Reads, come}
 use Rattle.one_pass.specs.Layers.{no_source, source_at}
 use Rattle.one_pass.specs.Places.{ReadingPlace, byte_at, bytes_at}
 use Rattle.one_pass.specs.Passes.{AllLeadBack}
-use Rattle.one_pass.specs.Seen.{whole}
 use Rattle.one_pass.proofs.BackLaws.{back_read}
 use Rattle.one_pass.proofs.Faulting.{bytes_append, bytes_more, bytes_split, read_none, ready_later}
 use Rattle.one_pass.proofs.Goings.{both_reads, gives_up_before, then_gives_up}
@@ -74,7 +73,7 @@ module _ {t0 : Tabled} {p0 : Pass} {n0 : ℕ} {piece : List ℕ} {i : ℕ} {t : 
         (then_gives_up front here past.reads (subst (λ j. GivesUp (byte_at j b ∷ []) t p n u m e) past.at up)))
 
 -- bytes over which each set of the layer leads back to itself
-over_reads : {t : Tabled} {p : Pass} {n : ℕ} (d : List ℕ) (search : Search) → KnowsWaiting t.graph.ways search.ahead.waiting → GoesOn t p → AllLeadBack t (whole p.graph) d →
+over_reads : {t : Tabled} {p : Pass} {n : ℕ} (d : List ℕ) (search : Search) → KnowsWaiting t.graph.ways search.ahead.waiting → GoesOn t p → AllLeadBack t p.graph d →
     Reads (bytes_at p.at d) t p n t (record { graph = p.graph; known = p.known; search = search; at = p.at + length d }) n
 over_reads {t} {p} {n} d search waits goes back = record {
   read = back_read (come t p n) p.at d back;
@@ -89,7 +88,7 @@ take_both (suc i) k (x ∷ xs) = let e : suc (i + k) ≡ suc i + k = omega arith
 
 -- up to a later place, from which each set of the layer leads back to itself
 pub advanced_over : {t0 : Tabled} {p0 : Pass} {n0 : ℕ} {piece : List ℕ} {i j : ℕ} {t : Tabled} {p q : Pass} {n : ℕ} → IsAdvanced t0 p0 n0 piece i t p n → i ≤ j → j ≤ length piece →
-    AllLeadBack t (whole p.graph) (take (j - i) (drop i piece)) → q.graph ≡ p.graph → q.known ≡ p.known → q.at + i ≡ p.at + j →
+    AllLeadBack t p.graph (take (j - i) (drop i piece)) → q.graph ≡ p.graph → q.known ≡ p.known → q.at + i ≡ p.at + j →
     KnowsWaiting t.graph.ways q.search.ahead.waiting → IsAdvanced t0 p0 n0 piece j t q n
 advanced_over {t0} {p0} {n0} {piece} {i} {j} {t} {p} {q} {n} past later within back graph known at waits =
     let d : List ℕ = take (j - i) (drop i piece) in

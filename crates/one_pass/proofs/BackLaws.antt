@@ -7,12 +7,12 @@ use Rattle.marked_automaton.specs.Automaton.{Automaton}
 use Rattle.automaton_reading.specs.Reading.{Reach, byte_read, edges, look_ups_asked, next_sets}
 use Rattle.set_table.specs.Tabled.{StaysOn, Tabled}
 use Rattle.numbered_lists.specs.Numbered.{set_at}
-use Rattle.output_graph.specs.Graph.{Source}
-use Rattle.one_pass.specs.Layers.{GraphView}
+use Rattle.output_graph.specs.Graph.{Graph, Source, sources}
 use Rattle.one_pass.specs.Passes.{AllLeadBack, AllStayOn, HasRead, Progress, Reaches, sets_of}
 use Rattle.one_pass.specs.Places.{Leads, ReadingPlace, asks, bytes_at, sets_after, sets_met}
 use Rattle.one_pass.specs.Waiting.{LeadsBack, LeadsHome}
-use Rattle.one_pass.specs.Words.{Word, block_word}
+use Rattle.node_arena.specs.Words.{Word}
+use Rattle.output_graph.specs.Forward.{mark_block}
 use Rattle.one_pass.proofs.Composing.{grown_none}
 use Rattle.one_pass.proofs.Due.{none_due}
 use Rattle.one_pass.proofs.Sets.{has_next, next_cases}
@@ -25,7 +25,7 @@ after_cases A [] sets set h = (set, h, [], (refl, refl))
 after_cases A (p ∷ ps) sets set h =
     let later = after_cases A ps (next_sets A sets p.ask) set h in
     let e = next_cases A sets p.ask later.0 later.1 in
-    (e.0, e.1, block_word p.at e.2.marks ++ later.2, (e.2, e.3, later.2, refl, subst (λ s. Leads A ps s later.2 set) (sym e.4) later.3))
+    (e.0, e.1, mark_block p.at e.2.marks ++ later.2, (e.2, e.3, later.2, refl, subst (λ s. Leads A ps s later.2 set) (sym e.4) later.3))
 
 pub has_after : (A : Automaton) (ps : List ReadingPlace) (sets : List (List ℕ)) (from : List ℕ) → Has sets from → (w : Word) (set : List ℕ) → Leads A ps from w set → Has (sets_after A sets (asks ps)) set
 has_after A [] sets from h w set l = subst (Has sets) l.1 h
@@ -51,15 +51,15 @@ module _ (P : Progress) (i : ℕ) (d : List ℕ) (back : AllLeadBack P.table P.g
     rise = omega arith;
   }
     where
-      leads : (x : Source) → Has P.graph.layer x → Leads A ps (set_at P.table.sets x.set) [] (set_at P.table.sets x.set)
+      leads : (x : Source) → Has (sources P.graph) x → Leads A ps (set_at P.table.sets x.set) [] (set_at P.table.sets x.set)
       leads x h = (back x h i [] (set_at P.table.sets x.set)).1 (refl, refl)
 
-      only : (x : Source) → Has P.graph.layer x → (from : List ℕ) → set_at P.table.sets x.set ≡ from → (w : Word) (to : List ℕ) → Leads A ps from w to → (w ≡ []) × (to ≡ set_at P.table.sets x.set)
+      only : (x : Source) → Has (sources P.graph) x → (from : List ℕ) → set_at P.table.sets x.set ≡ from → (w : Word) (to : List ℕ) → Leads A ps from w to → (w ≡ []) × (to ≡ set_at P.table.sets x.set)
       only x h from is w to l = (back x h i w to).0 (subst (λ s. Leads A ps s w to) (sym is) l)
 
       home : (s : List ℕ) → Has (sets_of P) s → LeadsHome A ps s
       home s h =
-          let x = Has-map_cases (λ (x : Source). set_at P.table.sets x.set) P.graph.layer s h in
+          let x = Has-map_cases (λ (x : Source). set_at P.table.sets x.set) (sources P.graph) s h in
           subst (LeadsHome A ps) x.2 (back x.0 x.1 i)
 
       there : (set : List ℕ) (w : Word) → Reaches P set w → (from : List ℕ) × (u v : Word) × Reaches P from u × Leads A ps from v set × (u ++ v ≡ w)
@@ -74,15 +74,15 @@ module _ (P : Progress) (i : ℕ) (d : List ℕ) (back : AllLeadBack P.table P.g
 
       set_there : (set : List ℕ) → Has (sets_of P) set → Has (sets_after A (sets_of P) (asks ps)) set
       set_there set h =
-          let x = Has-map_cases (λ (x : Source). set_at P.table.sets x.set) P.graph.layer set h in
+          let x = Has-map_cases (λ (x : Source). set_at P.table.sets x.set) (sources P.graph) set h in
           has_after A ps (sets_of P) set h [] set (subst (λ s. Leads A ps s [] s) x.2 (leads x.0 x.1))
 
       set_here : (set : List ℕ) → Has (sets_after A (sets_of P) (asks ps)) set → Has (sets_of P) set
       set_here set h =
           let f = after_cases A ps (sets_of P) set h in
-          let x = Has-map_cases (λ (x : Source). set_at P.table.sets x.set) P.graph.layer f.0 f.1 in
+          let x = Has-map_cases (λ (x : Source). set_at P.table.sets x.set) (sources P.graph) f.0 f.1 in
           let o = only x.0 x.1 f.0 x.2 f.2 set f.3 in
-          subst (Has (sets_of P)) (sym o.1) (Has-map (λ (x : Source). set_at P.table.sets x.set) P.graph.layer x.0 x.1)
+          subst (Has (sets_of P)) (sym o.1) (Has-map (λ (x : Source). set_at P.table.sets x.set) (sources P.graph) x.0 x.1)
 
 -- ---- where each set stays on each byte
 
@@ -93,7 +93,7 @@ stays_back A set (b ∷ d) stays i w to =
       λ l.
           let e = one l.0 l.1 in
           let rest = (later (suc i) l.2 to).0 (subst (λ s. Leads A (bytes_at (suc i) d) s l.2 to) (ap (λ (r : Reach). r.to) e) l.4) in
-          (sym l.3 ∙ (ap (λ (r : Reach). block_word i r.marks ++ l.2) e ∙ rest.0), rest.1),
+          (sym l.3 ∙ (ap (λ (r : Reach). mark_block i r.marks ++ l.2) e ∙ rest.0), rest.1),
       λ is. (
         back_edge,
         subst (λ es. Has es back_edge) (sym (stays 0 (omega arith))) (inl refl),
@@ -109,15 +109,15 @@ stays_back A set (b ∷ d) stays i w to =
     one : (e : Reach) → Has (edges A set (byte_read b)) e → e ≡ back_edge
     one e h = elim (subst (λ es. Has es e) (stays 0 (omega arith)) h) as (λ _. e ≡ back_edge) [ inl same ↦ sym same | inr n ↦ absurd n ]
 
-pub all_stay_back : (t : Tabled) (g : GraphView) (d : List ℕ) → ((k : ℕ) → k < length d → AllStayOn t g (get_or d k 0)) → AllLeadBack t g d
+pub all_stay_back : (t : Tabled) (g : Graph) (d : List ℕ) → ((k : ℕ) → k < length d → AllStayOn t g (get_or d k 0)) → AllLeadBack t g d
 all_stay_back t g d still x h = stays_back t.graph (set_at t.sets x.set) d (λ k less. still k less x h)
 
 -- over no bytes
-pub none_back : (t : Tabled) (g : GraphView) → AllLeadBack t g []
+pub none_back : (t : Tabled) (g : Graph) → AllLeadBack t g []
 none_back t g = all_stay_back t g [] (λ k less. absurd (omega (arith, less)))
 
 -- over the front of bytes, on each of which each set stays
-pub front_back : (t : Tabled) (g : GraphView) (d : List ℕ) (n : ℕ) → n ≤ length d → ((k : ℕ) → k < n → AllStayOn t g (get_or d k 0)) → AllLeadBack t g (take n d)
+pub front_back : (t : Tabled) (g : Graph) (d : List ℕ) (n : ℕ) → n ≤ length d → ((k : ℕ) → k < n → AllStayOn t g (get_or d k 0)) → AllLeadBack t g (take n d)
 front_back t g d n le still =
     let long : length (take n d) ≡ n = length-take-le n d le in
     all_stay_back t g (take n d) (λ k less.

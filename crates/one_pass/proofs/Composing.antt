@@ -8,14 +8,14 @@ use Rattle.automaton_reading.specs.Reading.{Question, byte_read, rest_taken, end
 use Rattle.set_table.specs.Tabled.{Tabled}
 use Rattle.numbered_lists.specs.Numbered.{set_at}
 use Rattle.numbered_lists.proofs.SetsLaws.{number_told}
-use Rattle.one_pass.specs.Words.{Word}
-use Rattle.output_graph.specs.Graph.{Source}
-use Rattle.one_pass.specs.Layers.{numbers_of}
+use Rattle.node_arena.specs.Words.{Word}
+use Rattle.output_graph.specs.Graph.{Source, sources}
 use Rattle.one_pass.specs.Places.{ReadingPlace, Leads, asks, edges_read, sets_after, sets_met, sets_on}
 use Rattle.one_pass.specs.Passes.{Progress, sets_of, Reaches, IsReady, HasGrown, HasRead, HasStopped, HasStoppedAt, Stop, IsExcess, weight_of}
 use Rattle.one_pass.specs.Making.{making_read}
 use Rattle.one_pass.specs.Weights.{IsDue, Tells}
 use Rattle.one_pass.proofs.Due.{due_cases}
+use Rattle.one_pass.proofs.GraphLaws.{whole_sets}
 use Rattle.one_pass.proofs.Making.{making_append, making_covers}
 use Rattle.one_pass.proofs.ReadWords.{leads_then, then_leads}
 use Rattle.one_pass.proofs.Telling.{tells_grown}
@@ -28,18 +28,18 @@ asks_append (p ∷ ps) qs = ap (λ questions. p.ask ∷ questions) (asks_append 
 -- ---- the sets of a layer are distinct
 
 layer_distinct : (t : Tabled) (layer : List Source) → AreDistinct t.sets → ((x : Source) → Has layer x → x.set < length t.sets) →
-    AreDistinct (numbers_of layer) → AreDistinct (map (λ (x : Source). set_at t.sets x.set) layer)
+    AreDistinct (map (λ (x : Source). x.set) layer) → AreDistinct (map (λ (x : Source). set_at t.sets x.set) layer)
 layer_distinct t [] sound given apart = tt
 layer_distinct t (x ∷ layer) sound given apart = (
   λ h.
       let y = Has-map_cases (λ (y : Source). set_at t.sets y.set) layer (set_at t.sets x.set) h in
       let same = number_told t.sets y.0.set x.set sound (given y.0 (inr y.1)) (given x (inl refl)) y.2 in
-      apart.0 (subst (Has (numbers_of layer)) same (Has-map (λ (y : Source). y.set) layer y.0 y.1)),
+      apart.0 (subst (Has (map (λ (y : Source). y.set) layer)) same (Has-map (λ (y : Source). y.set) layer y.0 y.1)),
   layer_distinct t layer sound (λ y h. given y (inr h)) apart.1,
 )
 
 pub ready_distinct : (P : Progress) (at : ℕ) → IsReady P.table P.graph at → AreDistinct (sets_of P)
-ready_distinct P at r = layer_distinct P.table P.graph.layer r.sound.sets_apart r.given r.apart
+ready_distinct P at r = layer_distinct P.table (sources P.graph) r.sound.sets_apart r.given (rw (whole_sets P.graph r.fresh.0) r.apart)
 
 -- ---- what a table holds
 

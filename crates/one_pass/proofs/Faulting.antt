@@ -9,7 +9,7 @@ use Rattle.set_table.specs.declared.fault.TableFault.{TableFault}
 use Rattle.set_table.specs.declared.fault.TableFault.TheVariants.{Full, OutOfMemory}
 use Rattle.set_table.specs.Tabled.{Tabled}
 use Rattle.one_pass.specs.Faults.{IsFaultAt, IsFaultOf}
-use Rattle.one_pass.specs.Layers.{GraphView}
+use Rattle.output_graph.specs.Graph.{Graph}
 use Rattle.one_pass.specs.Places.{ReadingPlace, asks, byte_at, bytes_at, sets_met}
 use Rattle.one_pass.specs.Passes.{Progress, sets_of, IsReady, HasRead, HasStopped, Stop}
 use Rattle.one_pass.proofs.Composing.{asks_append, excess_grown, grown_none, met_first, met_then, read_then, ready_distinct, look_ups_first, look_ups_then, stopped_then}
@@ -17,13 +17,13 @@ use Rattle.one_pass.proofs.Due.{due_asked}
 use Rattle.one_pass.proofs.Sets.{Covers, met_left, look_ups_left}
 
 -- ready for a position, and so for a later one
-pub ready_later : {t : Tabled} {g : GraphView} {at : ℕ} (later : ℕ) → IsReady t g at → at ≤ later → IsReady t g later
+pub ready_later : {t : Tabled} {g : Graph} {at : ℕ} (later : ℕ) → IsReady t g at → at ≤ later → IsReady t g later
 ready_later later r le = record {
   sound = r.sound;
   given = r.given;
   apart = r.apart;
   fresh = r.fresh;
-  past = λ x w b h hw hb. let l = r.past x w b h hw hb in omega (arith, l, le);
+  past = λ s w b h hb. let l = r.past s w b h hb in omega (arith, l, le);
 }
 
 -- no place has been read

@@ -6,11 +6,10 @@ use Rattle.span_core.proofs.HasLaws.{Has-get_or}
 use Rattle.byte_runs.specs.Inner.{EndsNowhere, Inner, IsBehind, StandsAt}
 use Rattle.marked_automaton.specs.declared.way.Way.{Way}
 use Rattle.marked_automaton.specs.Automaton.{Automaton, HasByte}
-use Rattle.output_graph.specs.Graph.{Source}
+use Rattle.output_graph.specs.Graph.{Graph, Source, sources}
 use Rattle.set_table.specs.Tabled.{IsTabled, Tabled}
 use Rattle.numbered_lists.specs.Numbered.{set_at}
 use Rattle.one_pass.specs.Inside.{Deepens, EndsIn, IsRegion, Kills, LastKills, NoneEnds, WaitsInside}
-use Rattle.one_pass.specs.Layers.{GraphView}
 use Rattle.one_pass.specs.Passes.{AllLeadBack, AreGiven}
 use Rattle.one_pass.specs.Waiting.{IsLoop, IsLooping, IsOf, LeadsBack}
 use Rattle.one_pass.proofs.BackLaws.{none_back}
@@ -120,8 +119,8 @@ last_kills ways states region (b ∷ d) zero less kills = kills
 last_kills ways states region (b ∷ []) (suc k) less kills = absurd (omega (arith, less))
 last_kills ways states region (b ∷ c ∷ d) (suc k) less kills = last_kills ways states region (c ∷ d) k (omega (arith, less)) kills
 
-pub passed_inside : (t : Tabled) → IsTabled t → (g : GraphView) → AreGiven t g → (states : List ℕ) (inner : Inner) → WaitsInside t.graph.ways states inner →
-    ((x : Source) → Has g.layer x → IsOf states (set_at t.sets x.set)) → (d : List ℕ) → ((i : ℕ) → get_or d i 0 < 256) → (q : ℕ) → q ≤ length d →
+pub passed_inside : (t : Tabled) → IsTabled t → (g : Graph) → AreGiven t g → (states : List ℕ) (inner : Inner) → WaitsInside t.graph.ways states inner →
+    ((x : Source) → Has (sources g) x → IsOf states (set_at t.sets x.set)) → (d : List ℕ) → ((i : ℕ) → get_or d i 0 < 256) → (q : ℕ) → q ≤ length d →
     EndsNowhere inner.text d q → IsBehind inner.kills d q → AllLeadBack t g (take q d)
 passed_inside t tabled g given states inner waits of d small zero le nowhere behind = none_back t g
 passed_inside t tabled g given states inner waits of d small (suc k) le nowhere behind = λ x h.

@@ -8,7 +8,7 @@ pub mod Ending
 pub mod EntryLaws
 pub mod Faulting
 pub mod Goings
-pub mod GraphBridge
+pub mod GraphLaws
 pub mod InsideLaws
 pub mod KnownLaws
 pub mod KnownStepLaws

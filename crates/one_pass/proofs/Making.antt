@@ -6,7 +6,7 @@ use Rattle.std.specs.Str.{bytes_eq}
 use Rattle.std.proofs.lemmas.Bool.{cases_eq, cases_lt, lt-ltb, ltb-true, or_left, or_right}
 use Rattle.std.proofs.lemmas.List.Sums.{sum_by-append, sum_by-le-sum_by}
 use Rattle.span_core.specs.Lists.{Has, AreDistinct}
-use Rattle.span_core.specs.declared.edge.Edge.{Edge}
+use Rattle.output_graph.specs.Source.{Edges}
 use Rattle.marked_automaton.specs.Automaton.{Automaton}
 use Rattle.automaton_reading.specs.Reading.{Question, Reach, edges, next_sets}
 use Rattle.automaton_reading.proofs.Matching.{cons_sum}
@@ -55,9 +55,9 @@ led_twice A sets a to {X} f done x left all split are y h one two =
     omega (arith, same, parts, first, some, one, two)
 
 -- one edge is the edge of its marks and target
-pub lone_edge : (es : List Edge) (e : Edge) → length es ≡ 1 → Has es e → e.marks ≡ 0 → es ≡ record { marks = 0; to = e.to } ∷ []
+pub lone_edge : (es : Edges) (e : ℕ × ℕ) → length es ≡ 1 → Has es e → e.0 ≡ 0 → es ≡ (0, e.1) ∷ []
 lone_edge [] e n h none = absurd h
-lone_edge (f ∷ []) e n (inl is) none = ap (λ (x : Edge). x ∷ []) (is ∙ (λ i. let y : Edge = record { marks = none i; to = e.to } in y))
+lone_edge (f ∷ []) e n (inl is) none = ap (λ (x : ℕ × ℕ). x ∷ []) (is ∙ (λ i. let y : ℕ × ℕ = (none i, e.1) in y))
 lone_edge (f ∷ []) e n (inr h) none = absurd h
 lone_edge (f ∷ g ∷ es) e n h none = absurd (omega (arith, n))
 

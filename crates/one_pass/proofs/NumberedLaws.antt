@@ -1,32 +1,33 @@
 -- A pass in a layer that is told by its number: its own names, gliding, and running a program.
-use Rattle.std.proofs.Common.{◌≡◌, ℕ, ◌+◌, ◌-◌, ◌<◌, ◌≤◌, List, [], ◌∷◌, length, get_or, map, drop, take, Option, Some, None, IfSome, refl, sym, ap, subst, arith, ◌∙◌}
+use Rattle.std.proofs.Common.{◌≡◌, ℕ, ◌+◌, ◌-◌, ◌<◌, ◌≤◌, List, [], ◌∷◌, ◌++◌, length, get_or, slice_get, map, drop, take, Option, Some, None, IfSome, inl, refl, sym, ap, subst, arith, ◌∙◌}
 use Rattle.std.proofs.lemmas.List.{length-map}
 use Rattle.std.proofs.lemmas.Option.{slice_get_within}
 use Rattle.span_core.specs.Lists.{AreDistinct}
 use Rattle.output_graph.specs.Cells.{NamedLink}
-use Rattle.output_graph.specs.Graph.{AreApart, Graph, IsPast, Source, sets_of, source_of, sources}
+use Rattle.output_graph.specs.declared.planned.Planned.{Planned}
+use Rattle.output_graph.specs.Graph.{AreApart, Graph, IsPast, IsPlace, Source, sets_of, source_of, sources}
 use Rattle.output_graph.specs.Named.{handing, renamed}
-use Rattle.output_graph.specs.Programs.{IsRun}
+use Rattle.output_graph.specs.Planned.{AreRun, IsRunBy}
+use Rattle.output_graph.specs.Pools.{program_at}
+use Rattle.output_graph.specs.Programs.{IsRun, Steps}
 use Rattle.output_graph.specs.Source.{Edges}
 use Rattle.output_graph.proofs.NamedLaws.{hand_run, named_length, named_own, named_sets, past_named, renamed_again, run_named}
+use Rattle.output_graph.proofs.PlannedLaws.{may_more, run_split, within_more}
 use Rattle.set_table.specs.Tabled.{Tabled}
-use Rattle.one_pass.specs.declared.entries.Entry.{Entry}
-use Rattle.one_pass.specs.declared.entries.Entry.TheVariants.{Unknown, Glide, Run}
 use Rattle.one_pass.specs.declared.known.Known.{Known}
 use Rattle.one_pass.specs.declared.pass.Pass.{Pass}
 use Rattle.one_pass.specs.declared.search.Search.{Search}
 use Rattle.one_pass.specs.Ahead.{KnowsWaiting}
 use Rattle.one_pass.specs.Going.{GoesOn, IsAdvanced, Reads, come}
-use Rattle.one_pass.specs.Known.{AreLookUps, IsEntry, IsGlide, IsStepOf, Knows, Stands, layer_at}
-use Rattle.one_pass.specs.KnownSteps.{KnownStep}
-use Rattle.one_pass.specs.Numbered.{IsNumbered, IsToRun, StandsIn, as_layer, in_layer, moved}
+use Rattle.one_pass.specs.Known.{AreLookUps, IsGlide, IsStepOf, Knows, Stands, layer_at}
+use Rattle.one_pass.specs.KnownSteps.{KnownStep, programs_of}
+use Rattle.one_pass.specs.Numbered.{IsAhead, IsLed, IsNumbered, StandsIn, as_layer, in_layer, moved}
 use Rattle.one_pass.specs.Passes.{AllLeadBack}
 use Rattle.one_pass.specs.Places.{ReadingPlace, byte_at}
-use Rattle.one_pass.specs.Seen.{whole}
 use Rattle.one_pass.proofs.Advancing.{advanced_more, advanced_none, advanced_over}
 use Rattle.one_pass.proofs.Faulting.{read_none}
-use Rattle.one_pass.proofs.GraphBridge.{numbers_are}
 use Rattle.one_pass.proofs.KnownLaws.{handing_length, layer_is, layer_there, look_ups_length}
+use Rattle.one_pass.proofs.KnownStepLaws.{program_is, step_there}
 use Rattle.one_pass.proofs.Running.{run_reads}
 
 -- ---- its own names
@@ -71,15 +72,7 @@ named_twice t g known k stands = own_layer t (in_layer known.layers k g) known k
 
 -- the sets of a graph that goes on are distinct
 pub sets_distinct : (t : Tabled) (p : Pass) → GoesOn t p → AreDistinct (sets_of p.graph.layer)
-sets_distinct t p goes =
-    subst AreDistinct (numbers_are p.graph.cells (drop p.graph.stepped p.graph.layer) ∙ ap (λ n. sets_of (drop n p.graph.layer)) goes.ready.fresh.0) goes.ready.apart
-
-none_mapped : (cells : List NamedLink) (layer : List (ℕ × ℕ)) → map (source_of cells) layer ≡ [] → layer ≡ []
-none_mapped cells [] e = refl
-none_mapped cells (p ∷ layer) e = absurd (differ (source_of cells p) (map (source_of cells) layer) e)
-  where
-    differ : (x : Source) (xs : List Source) → x ∷ xs ≡ [] → ⊥
-    differ x xs e = cc
+sets_distinct t p goes = goes.ready.apart
 
 -- ---- gliding
 
@@ -91,7 +84,7 @@ module _ (t : Tabled) (p : Pass) (k b : ℕ) (goes : GoesOn t (as_layer (Some k)
   sets_are = named_sets sets p.graph.layer number.every
 
   pub no_next : p.graph.next ≡ []
-  no_next = none_mapped p.graph.cells p.graph.next goes.ready.fresh.1
+  no_next = goes.ready.fresh.1
 
   module _ (next : ℕ) (glide : IsGlide t p.known.layers b sets next) where
     to_is : layer_at p.known.layers next ≡ glide.to
@@ -107,7 +100,7 @@ module _ (t : Tabled) (p : Pass) (k b : ℕ) (goes : GoesOn t (as_layer (Some k)
       every = ap length to_is ∙ to_many;
     }
 
-    pub glide_reads : AreApart (sources p.graph) → (n : ℕ) → Reads (byte_at p.at b ∷ []) t (as_layer (Some k) p) n t (as_layer (Some next) (moved 1 p)) n
+    pub glide_reads : AreApart (sources p.graph) → (n : ℕ) → Reads (byte_at p.at b ∷ []) t (as_layer (Some k) p) n t (as_layer (Some next) (moved p.graph 1 p)) n
     glide_reads apart n =
         let handed = run_named sets (handing glide.to) p.graph (renamed glide.to p.graph) p.at n n number.every
         (hand_run p.graph glide.to p.at n goes.ready.fresh.0 no_next apart glide.distinct to_many) in
@@ -123,7 +116,7 @@ module _ (t : Tabled) (p : Pass) (k b : ℕ) (goes : GoesOn t (as_layer (Some k)
   -- under its own names too, the words are past
   pub place_here : IsPast (sources p.graph) p.at
   place_here =
-      let back = past_named (sets_of p.graph.layer) (renamed sets p.graph) p.at goes.ready.fresh.0 (λ s w x h c. goes.ready.past h.0 w x h.1 h.3 c) in
+      let back = past_named (sets_of p.graph.layer) (renamed sets p.graph) p.at goes.ready.fresh.0 goes.ready.past in
       subst (λ g. IsPast (sources g) p.at) (renamed_again sets (sets_of p.graph.layer) p.graph number.every ∙ own_names (sets_of p.graph.layer) p.graph refl) back
 
   module _ (step : KnownStep) (of : IsStepOf t p.known.layers b sets step) (h : Graph) (n m : ℕ) (run : IsRun p.graph p.at step.program.groups (renamed step.program.targets h) n m) (distinct : AreDistinct step.program.targets)
@@ -161,20 +154,94 @@ module _ {t0 : Tabled} {p0 : Pass} {n0 : ℕ} {bytes : List ℕ} where
   advanced_start goes = record { reads = record { read = read_none t0.graph (come t0 p0 n0); goes_on = goes }; at = omega arith }
 
 -- none, in a layer
-pub glided_none : {t : Tabled} (k : Option ℕ) (p : Pass) {n : ℕ} {bytes : List ℕ} → GoesOn t (as_layer k p) → IsAdvanced t (as_layer k p) n bytes 0 t (as_layer k (moved 0 p)) n
-glided_none {t} k p {n} {bytes} goes =
+advanced_here : {t : Tabled} (k : ℕ) (p : Pass) {n : ℕ} {bytes : List ℕ} → GoesOn t (as_layer (Some k) p) →
+    IsAdvanced t (as_layer (Some k) p) n bytes 0 t (as_layer (Some k) (moved p.graph 0 p)) n
+advanced_here {t} k p {n} {bytes} goes =
     let same : p.at ≡ p.at + 0 = omega arith in
-    subst (λ a. IsAdvanced t (as_layer k p) n bytes 0 t (as_layer k (record { graph = p.graph; known = p.known; search = p.search; at = a })) n) same
+    subst (λ a. IsAdvanced t (as_layer (Some k) p) n bytes 0 t (as_layer (Some k) (record { graph = p.graph; known = p.known; search = p.search; at = a })) n) same
     (advanced_start {n0 = n} {bytes = bytes} goes)
 
--- one byte more was glided over
-pub glided_more : {t : Tabled} {q : Pass} {bytes : List ℕ} (p : Pass) (j k next n : ℕ) → IsAdvanced t q n bytes j t (as_layer (Some k) (moved j p)) n → IsNumbered p.graph p.known.layers k → j < length bytes →
-    IsGlide t p.known.layers (get_or bytes j 0) (layer_at p.known.layers k) next → AreApart (sources p.graph) → IsAdvanced t q n bytes (j + 1) t (as_layer (Some next) (moved (j + 1) p)) n
-glided_more {t} {q} {bytes} p j k next n past number within glide apart =
-    let one = glide_reads t (moved j p) k (get_or bytes j 0) past.reads.goes_on number next glide apart n in
+-- one byte more
+advanced_by : {t : Tabled} {q : Pass} {bytes : List ℕ} (p : Pass) (g h : Graph) (k next : ℕ) {j n c m : ℕ} → IsAdvanced t q n bytes j t (as_layer (Some k) (moved g j p)) c → j < length bytes →
+    Reads (byte_at (p.at + j) (get_or bytes j 0) ∷ []) t (as_layer (Some k) (moved g j p)) c t (as_layer (Some next) (record { graph = h; known = p.known; search = p.search; at = p.at + j + 1 })) m →
+    IsAdvanced t q n bytes (j + 1) t (as_layer (Some next) (moved h (j + 1) p)) m
+advanced_by {t} {q} {bytes} p g h k next {j} {n} {c} {m} past within one =
     let same : p.at + j + 1 ≡ p.at + (j + 1) = omega arith in
-    subst (λ a. IsAdvanced t q n bytes (j + 1) t (as_layer (Some next) (record { graph = p.graph; known = p.known; search = p.search; at = a })) n) same
+    subst (λ a. IsAdvanced t q n bytes (j + 1) t (as_layer (Some next) (record { graph = h; known = p.known; search = p.search; at = a })) m) same
     (advanced_more past within one (omega arith))
+
+-- ---- looking ahead
+
+module _ {bytes : List ℕ} {t : Tabled} {k : ℕ} {p : Pass} where
+  pub ahead_none : GoesOn t (as_layer (Some k) p) → IsNumbered p.graph p.known.layers k → AreApart (sources p.graph) → IsAhead bytes t k p [] k 0
+  ahead_none goes number apart = record {
+    there = number.there;
+    within = tt;
+    may = λ n. tt;
+    led = λ g n m run.
+        subst (λ c. IsLed bytes t k p n g k 0 c) run.1 (subst (λ f. IsLed bytes t k p n f k 0 n) run.0 (record { advanced = advanced_here k p goes; stands = number; apart = apart }));
+  }
+
+  module _ {plan : List Planned} {next j : ℕ} (ahead : IsAhead bytes t k p plan next j) (left : j < length bytes) where
+    abbrev byte : ℕ
+    byte = get_or bytes j 0
+
+    -- cells are handed on
+    pub ahead_glides : (to : ℕ) → IsGlide t p.known.layers byte (layer_at p.known.layers next) to → IsAhead bytes t k p plan to (j + 1)
+    ahead_glides to glide = record {
+      there = slice_get_within p.known.layers to glide.to glide.there;
+      within = ahead.within;
+      may = ahead.may;
+      led = λ g n m run.
+          let l = ahead.led g n m run in
+          let q : Pass = moved g j p in
+          let goes = l.advanced.reads.goes_on in
+          record {
+            advanced = advanced_by p g g next to l.advanced left (glide_reads t q next byte goes l.stands to glide l.apart m);
+            stands = glide_numbered t q next byte goes l.stands to glide;
+            apart = l.apart;
+          };
+    }
+
+    -- a program is to be run
+    module _ (x : Planned) (here : x.at ≡ p.at + j) (step : KnownStep) (there : slice_get p.known.steps x.program ≡ Some step)
+        (of : IsStepOf t p.known.layers byte (layer_at p.known.layers next) step) where
+      program_so : program_at (programs_of p.known.steps) x.program ≡ step.program
+      program_so = program_is p.known.steps x.program ∙ ap (λ (s : KnownStep). s.program) (step_there p.known.steps x.program step there)
+
+      may_here : (n : ℕ) (g : Graph) (m : ℕ) → AreRun (programs_of p.known.steps) plan p.graph g n m →
+          (length (program_at (programs_of p.known.steps) x.program).groups ≡ length g.layer) × IsPlace g x.at
+      may_here n g m run =
+          let l = ahead.led g n m run in
+          let q : Pass = moved g j p in
+          let goes = l.advanced.reads.goes_on in
+          let past = subst (λ a. IsPast (sources g) a) (sym here) (place_here t q next byte goes l.stands) in
+          (ap (λ (s : Steps). length s.groups) program_so ∙ groups_many t q next byte goes l.stands step.program.groups of.look_ups, inl (goes.ready.fresh.0, past))
+
+      led_here : (g : Graph) (n m : ℕ) → AreRun (programs_of p.known.steps) (plan ++ x ∷ []) p.graph g n m → IsLed bytes t k p n g step.next (j + 1) m
+      led_here g n m run =
+          let s = run_split (programs_of p.known.steps) plan x p.graph g n m run in
+          let l = ahead.led s.0 n s.1 s.2 in
+          let q : Pass = moved s.0 j p in
+          let goes = l.advanced.reads.goes_on in
+          let so = subst (λ (a : ℕ). IsRunBy (program_at (programs_of p.known.steps) x.program) a s.0 g s.1 m) here s.3 in
+          let last = subst (λ (f : Steps). IsRunBy f (p.at + j) s.0 g s.1 m) program_so so in
+          record {
+            advanced = advanced_by p s.0 g next step.next l.advanced left (run_numbered_reads t q next byte goes l.stands step of g s.1 m last.run last.distinct last.long p.search refl);
+            stands = run_numbered t q next byte goes l.stands step of g s.1 m last.run last.distinct last.long;
+            apart = last.apart;
+          }
+
+      pub ahead_runs : IsAhead bytes t k p (plan ++ x ∷ []) step.next (j + 1)
+      ahead_runs =
+          let within = slice_get_within p.known.steps x.program step there in
+          let many = length-map p.known.steps (λ (s : KnownStep). s.program) in
+          record {
+            there = slice_get_within p.known.layers step.next step.program.targets of.next;
+            within = within_more _ plan x ahead.within (omega arith);
+            may = λ n. may_more (programs_of p.known.steps) plan x p.graph n (ahead.may n) (may_here n);
+            led = led_here;
+          }
 
 -- ---- names and searches
 
@@ -183,7 +250,7 @@ same_pass p q g k s a = λ i. (let r : Pass = record { graph = g i; known = k i;
 
 -- where the same bytes are passed over, in the layer
 pub read_over : {t0 : Tabled} {p0 : Pass} {n0 : ℕ} {piece : List ℕ} {i j : ℕ} {t : Tabled} (k : Option ℕ) (p q : Pass) {n : ℕ} → IsAdvanced t0 p0 n0 piece i t (as_layer k p) n → i ≤ j → j ≤ length piece →
-    AllLeadBack t (whole (in_layer p.known.layers k p.graph)) (take (j - i) (drop i piece)) → in_layer p.known.layers k q.graph ≡ in_layer p.known.layers k p.graph → q.known ≡ p.known → q.at + i ≡ p.at + j →
+    AllLeadBack t (in_layer p.known.layers k p.graph) (take (j - i) (drop i piece)) → in_layer p.known.layers k q.graph ≡ in_layer p.known.layers k p.graph → q.known ≡ p.known → q.at + i ≡ p.at + j →
     KnowsWaiting t.graph.ways q.search.ahead.waiting → IsAdvanced t0 p0 n0 piece j t (as_layer k q) n
 read_over k p q past later within back graph known at waits =
     advanced_over {p = as_layer k p} {q = as_layer k q} past later within back (ap (λ (x : Known). in_layer x.layers k q.graph) known ∙ graph) known at waits
@@ -200,13 +267,6 @@ pub named_reads : {ps : List ReadingPlace} {t u : Tabled} {p q : Pass} {n m : �
 named_reads {ps} {t} {u} {p} {q} {n} {m} k search same stands done =
     subst (λ graph. Reads ps t p n u (let r : Pass = record { graph = graph; known = q.known; search = search; at = q.at } in r) m) (sym (own_layer u q.graph q.known k stands))
     (record { read = done.read; goes_on = record { ready = done.goes_on.ready; known = done.goes_on.known; waits = subst (λ a. KnowsWaiting u.graph.ways a.waiting) (sym same) done.goes_on.waits } })
-
--- ---- where gliding ends
-
-pub to_run : (t : Tabled) (known : Known) (b k : ℕ) (e : Entry) → IsEntry t known.layers known.steps b (layer_at known.layers k) e → IsToRun t known k b e
-to_run t known b k Unknown is = tt
-to_run t known b k (Glide next) is = tt
-to_run t known b k (Run step) is = is
 
 -- something else may be searched for
 pub searched : {t0 t : Tabled} {p0 : Pass} {n0 n : ℕ} {bytes : List ℕ} {j : ℕ} (k : Option ℕ) (p : Pass) (search : Search) → search.ahead ≡ p.search.ahead → IsAdvanced t0 p0 n0 bytes j t (as_layer k p) n →

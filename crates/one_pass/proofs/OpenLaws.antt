@@ -1,40 +1,35 @@
 -- What a caller knows between two places, and what is always true there.
-use Rattle.std.proofs.Common.{◌≡◌, ℕ, ◌+◌, ◌<◌, ◌≤◌, List, [], ◌∷◌, length, map, inl, inr, refl, sym, ap, subst, arith, ◌∙◌}
+use Rattle.std.proofs.Common.{◌≡◌, ℕ, ◌+◌, ◌<◌, ◌≤◌, List, [], ◌∷◌, length, inl, inr, sym, ap, subst, arith, ◌∙◌}
 use Rattle.std.proofs.lemmas.Option.{slice_get_within}
 use Rattle.span_core.specs.Lists.{Has}
 use Rattle.span_core.specs.Intervals.{Covers}
 use Rattle.automaton_reading.specs.Reading.{set_of}
 use Rattle.set_table.specs.Tabled.{IsTabled, Tabled}
-use Rattle.output_graph.specs.Graph.{AreApart, Graph, Source, source_of, sources}
-use Rattle.one_pass.specs.Builds.{started}
-use Rattle.one_pass.specs.Layers.{first_layer}
+use Rattle.output_graph.specs.Graph.{AreApart, Graph, Source, sources}
+use Rattle.one_pass.specs.Builds.{IsStarted}
+use Rattle.one_pass.specs.Layers.{first_source}
 use Rattle.one_pass.specs.Passes.{IsOpen, IsReady, pass}
-use Rattle.one_pass.specs.Seen.{whole}
-use Rattle.one_pass.specs.Words.{Word}
-use Rattle.one_pass.proofs.GraphBridge.{first_is_whole}
+use Rattle.node_arena.specs.Words.{Word}
+use Rattle.one_pass.proofs.GraphLaws.{whole_sets}
 
-pub open_ready : (t : Tabled) (g : Graph) (at : ℕ) → IsTabled t → AreApart (sources g) → IsOpen t (whole g) at → IsReady t (whole g) at
-open_ready t g at tabled apart open_here = record {
+pub open_ready : {t : Tabled} {g : Graph} {at : ℕ} → IsTabled t → AreApart (sources g) → IsOpen t g at → IsReady t g at
+open_ready {g = g} tabled apart open_here = record {
   sound = tabled;
   given = open_here.given;
-  apart = apart.distinct;
-  fresh = (open_here.fresh.0, open_here.fresh.1, refl);
+  apart = rw (whole_sets g open_here.fresh.0) at apart.distinct;
+  fresh = open_here.fresh;
   past = open_here.past;
 }
 
-pub ready_open : (t : Tabled) (g : Graph) (at : ℕ) → IsReady t (whole g) at → IsOpen t (whole g) at
-ready_open t g at r = record { fresh = (r.fresh.0, r.fresh.1); given = r.given; past = r.past }
-
--- the one source, which the empty word leads to
-abbrev pub first_source : ℕ → Source
-first_source s = record { set = s; words = [] ∷ [] }
+pub ready_open : {t : Tabled} {g : Graph} {at : ℕ} → IsReady t g at → IsOpen t g at
+ready_open r = record { fresh = r.fresh; given = r.given; past = r.past }
 
 -- a graph that was begun at the first set of a table
-pub open_first : (t : Tabled) (g : Graph) (s : ℕ) → IsTabled t → s ≡ 0 → sources g ≡ first_source s ∷ [] → g.next ≡ [] → g.stepped ≡ 0 → IsOpen t (whole g) 0
-open_first t g s tabled zero_set is none begun = record {
-  fresh = (begun, ap (map (source_of g.cells)) none);
+pub open_first : {t : Tabled} {g : Graph} {s : ℕ} → IsTabled t → s ≡ 0 → sources g ≡ first_source s ∷ [] → g.next ≡ [] → g.stepped ≡ 0 → IsOpen t g 0
+open_first {t} {g} {s} tabled zero_set is none begun = record {
+  fresh = (begun, none);
   given = λ x h. by_given x (subst (λ (xs : List Source). Has xs x) is h);
-  past = λ x w b h m n. absurd (by_past x w b (subst (λ (xs : List Source). Has xs x) is h) m n);
+  past = λ s w b h n. absurd (by_past h.0 w b (subst (λ (xs : List Source). Has xs h.0) is h.1) h.3 n);
 }
   where
     some : 0 < length t.sets
@@ -61,7 +56,5 @@ covers_all ps n m q is le h = by (subst (λ (xs : List (ℕ × ℕ)). Covers xs 
     by (inr k) = absurd k
 
 -- which is how a whole reading begins
-pub begun_is : (t : Tabled) (g : Graph) (s before after : ℕ) → sources g ≡ first_source s ∷ [] → g.next ≡ [] → g.stepped ≡ 0 → length g.cells ≡ 1 → s ≡ 0 → after ≡ before + 1 →
-    pass t (whole g) after ≡ started t before
-begun_is t g s before after is none begun one zero_set step =
-    ap (λ h. pass t h after) (first_is_whole g s is none begun one) ∙ (ap (λ k. pass t (first_layer k) after) zero_set ∙ ap (pass t (first_layer 0)) step)
+pub begun_is : {t : Tabled} {g : Graph} {s before after : ℕ} → sources g ≡ first_source s ∷ [] → length g.cells ≡ 1 → s ≡ 0 → after ≡ before + 1 → IsStarted before (pass t g after)
+begun_is is one zero_set step = record { layer = is ∙ ap (λ k. first_source k ∷ []) zero_set; cells = one; steps = step }

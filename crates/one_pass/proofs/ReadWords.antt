@@ -11,7 +11,8 @@ use Rattle.marked_automaton.specs.declared.way.Stop.{Stop}
 use Rattle.marked_automaton.specs.Automaton.{Automaton}
 use Rattle.automaton_reading.specs.Reading.{Reach, byte_read, rest_taken, ended, edges, rest_edge, is_among, blocks_down, set_of}
 use Rattle.automaton_reading.specs.Chosen.{EndsWith, IsReadFrom, IsReadWith}
-use Rattle.one_pass.specs.Words.{Word, block_word}
+use Rattle.node_arena.specs.Words.{Word}
+use Rattle.output_graph.specs.Forward.{mark_block}
 use Rattle.one_pass.specs.Places.{ReadingPlace, places, byte_at, rest_at, end_at, Leads, word_from, word_of}
 
 -- an end leads to no state
@@ -29,8 +30,8 @@ rest_marks A set e h = go (filter (is_among A.idle) set) h
     go (p ∷ ps) (inl i) = ap (λ (r : Reach). r.marks) (sym i)
     go (p ∷ ps) (inr h) = absurd h
 
-no_block : (i m : ℕ) (u : Word) → m ≡ 0 → block_word i m ++ u ≡ u
-no_block i m u e = ap (λ k. block_word i k ++ u) e
+no_block : (i m : ℕ) (u : Word) → m ≡ 0 → mark_block i m ++ u ≡ u
+no_block i m u e = ap (λ k. mark_block i k ++ u) e
 
 module _ (A : Automaton) (K : ℕ → Bool) where
   -- what is read with blocks is led to by their word
@@ -38,23 +39,23 @@ module _ (A : Automaton) (K : ℕ → Bool) where
       IsReadFrom A K w d i gap set → Leads A (places K d i gap) set (word_from w i (length d)) []
   read_leads w [] i gap set h = go (K i || gap) h
     where
-      at_end : (from : List ℕ) → EndsWith A w i from → Leads A (end_at i ∷ []) from (block_word i (w i)) []
+      at_end : (from : List ℕ) → EndsWith A w i from → Leads A (end_at i ∷ []) from (mark_block i (w i)) []
       at_end from h = (
         h.0,
         h.1,
         [],
-        append-nil (block_word i h.0.marks) ∙ ap (block_word i) h.2,
+        append-nil (mark_block i h.0.marks) ∙ ap (mark_block i) h.2,
         (refl, end_to A from h.0 h.1),
       )
 
       go : (c : Bool) → MatchBool c (EndsWith A w i set) ((e : Reach) × Has (edges A set rest_taken) e × EndsWith A w i e.to) →
-          Leads A (if c then end_at i ∷ [] else rest_at i ∷ end_at i ∷ []) set (block_word i (w i)) []
+          Leads A (if c then end_at i ∷ [] else rest_at i ∷ end_at i ∷ []) set (mark_block i (w i)) []
       go true h = at_end set h
       go false h = (
         h.0,
         h.1,
-        block_word i (w i),
-        no_block i h.0.marks (block_word i (w i)) (rest_marks A set h.0 h.1),
+        mark_block i (w i),
+        no_block i h.0.marks (mark_block i (w i)) (rest_marks A set h.0 h.1),
         at_end h.0.to h.2,
       )
   read_leads w (b ∷ d) i gap set h = go (read_leads w d (suc i)) (K i) gap h
@@ -64,12 +65,12 @@ module _ (A : Automaton) (K : ℕ → Bool) where
           MatchBool k ((e : Reach) × Has (edges A set (byte_read b)) e × (e.marks ≡ w i) × IsReadFrom A K w d (suc i) false e.to)
           ((w i ≡ 0) × MatchBool g (IsReadFrom A K w d (suc i) true set) ((e : Reach) × Has (edges A set rest_taken) e × IsReadFrom A K w d (suc i) true e.to)) →
           Leads A (if k then byte_at i b ∷ places K d (suc i) false else (if g then places K d (suc i) true else rest_at i ∷ places K d (suc i) true))
-          set (block_word i (w i) ++ word_from w (suc i) (length d)) []
+          set (mark_block i (w i) ++ word_from w (suc i) (length d)) []
       go rest true g h = (
         h.0,
         h.1,
         word_from w (suc i) (length d),
-        ap (λ m. block_word i m ++ word_from w (suc i) (length d)) h.2,
+        ap (λ m. mark_block i m ++ word_from w (suc i) (length d)) h.2,
         rest false h.0.to h.3,
       )
       go rest false true h =
@@ -111,10 +112,10 @@ module _ (A : Automaton) (K : ℕ → Bool) where
       go rest false false h = (sym (same i (omega arith)) ∙ h.0, (h.1.0, h.1.1, rest true h.1.0.to h.1.2))
 
   word_alike : (w v : ℕ → ℕ) (i n : ℕ) → SameFrom i w v → word_from w i n ≡ word_from v i n
-  word_alike w v i zero same = ap (block_word i) (same i (omega arith))
+  word_alike w v i zero same = ap (mark_block i) (same i (omega arith))
   word_alike w v i (suc n) same =
-      ap (λ m. block_word i m ++ word_from w (suc i) n) (same i (omega arith))
-      ∙ ap (λ u. block_word i (v i) ++ u) (word_alike w v (suc i) n (λ j le. same j (omega arith)))
+      ap (λ m. mark_block i m ++ word_from w (suc i) n) (same i (omega arith))
+      ∙ ap (λ u. mark_block i (v i) ++ u) (word_alike w v (suc i) n (λ j le. same j (omega arith)))
 
   -- w, with the block m at i
   abbrev put : ℕ → ℕ → (ℕ → ℕ) → ℕ → ℕ
@@ -130,24 +131,24 @@ module _ (A : Automaton) (K : ℕ → Bool) where
       go true e = let same = eqb-true j i e in absurd (omega arith)
       go false e = refl
 
-  with_front : (w v : ℕ → ℕ) (i m n : ℕ) → w i ≡ m → SameFrom (suc i) v w → block_word i (w i) ++ word_from w (suc i) n ≡ block_word i m ++ word_from v (suc i) n
+  with_front : (w v : ℕ → ℕ) (i m n : ℕ) → w i ≡ m → SameFrom (suc i) v w → mark_block i (w i) ++ word_from w (suc i) n ≡ mark_block i m ++ word_from v (suc i) n
   with_front w v i m n here later =
-      ap (λ k. block_word i k ++ word_from w (suc i) n) here ∙ ap (λ u. block_word i m ++ u) (sym (word_alike v w (suc i) n later))
+      ap (λ k. mark_block i k ++ word_from w (suc i) n) here ∙ ap (λ u. mark_block i m ++ u) (sym (word_alike v w (suc i) n later))
 
   -- what is led to at the places of a document is read, with the blocks of the choice
   pub leads_read : (d : List ℕ) (i : ℕ) (gap : Bool) (set : List ℕ) (u : Word) → Leads A (places K d i gap) set u [] →
       (w : ℕ → ℕ) × IsReadFrom A K w d i gap set × (word_from w i (length d) ≡ u)
   leads_read [] i gap set u h = go (K i || gap) h
     where
-      at_end : (from : List ℕ) (v : Word) → Leads A (end_at i ∷ []) from v [] → (m : ℕ) × EndsWith A (λ j. m) i from × (block_word i m ≡ v)
+      at_end : (from : List ℕ) (v : Word) → Leads A (end_at i ∷ []) from v [] → (m : ℕ) × EndsWith A (λ j. m) i from × (mark_block i m ≡ v)
       at_end from v h = (
         h.0.marks,
         (h.0, h.1, refl),
-        sym (append-nil (block_word i h.0.marks)) ∙ (ap (λ x. block_word i h.0.marks ++ x) (sym h.4.0) ∙ h.3),
+        sym (append-nil (mark_block i h.0.marks)) ∙ (ap (λ x. mark_block i h.0.marks ++ x) (sym h.4.0) ∙ h.3),
       )
 
       go : (c : Bool) → Leads A (if c then end_at i ∷ [] else rest_at i ∷ end_at i ∷ []) set u [] →
-          (w : ℕ → ℕ) × MatchBool c (EndsWith A w i set) ((e : Reach) × Has (edges A set rest_taken) e × EndsWith A w i e.to) × (block_word i (w i) ≡ u)
+          (w : ℕ → ℕ) × MatchBool c (EndsWith A w i set) ((e : Reach) × Has (edges A set rest_taken) e × EndsWith A w i e.to) × (mark_block i (w i) ≡ u)
       go true h = let r = at_end set u h in (λ j. r.0, r.1, r.2)
       go false h =
           let r = at_end h.0.to h.2 h.4 in
@@ -160,13 +161,13 @@ module _ (A : Automaton) (K : ℕ → Bool) where
           (w : ℕ → ℕ) ×
           MatchBool k ((e : Reach) × Has (edges A set (byte_read b)) e × (e.marks ≡ w i) × IsReadFrom A K w d (suc i) false e.to)
           ((w i ≡ 0) × MatchBool g (IsReadFrom A K w d (suc i) true set) ((e : Reach) × Has (edges A set rest_taken) e × IsReadFrom A K w d (suc i) true e.to))
-          × (block_word i (w i) ++ word_from w (suc i) (length d) ≡ u)
+          × (mark_block i (w i) ++ word_from w (suc i) (length d) ≡ u)
       go rest true g h =
           let r = rest false h.0.to h.2 h.4 in
           let w : ℕ → ℕ = put i h.0.marks r.0 in (
             w,
             (h.0, h.1, sym (put_here i h.0.marks r.0), read_alike r.0 w d (suc i) false h.0.to (put_later i h.0.marks r.0) r.1),
-            with_front w r.0 i h.0.marks (length d) (put_here i h.0.marks r.0) (put_later i h.0.marks r.0) ∙ (ap (λ v. block_word i h.0.marks ++ v) r.2 ∙ h.3),
+            with_front w r.0 i h.0.marks (length d) (put_here i h.0.marks r.0) (put_later i h.0.marks r.0) ∙ (ap (λ v. mark_block i h.0.marks ++ v) r.2 ∙ h.3),
           )
       go rest false true h =
           let r = rest true set u h in
@@ -200,7 +201,7 @@ leads_then A (p ∷ ps) qs from to on u v h k = (
   h.0,
   h.1,
   h.2 ++ v,
-  sym (append_assoc (block_word p.at h.0.marks) h.2 v) ∙ ap (λ x. x ++ v) h.3,
+  sym (append_assoc (mark_block p.at h.0.marks) h.2 v) ∙ ap (λ x. x ++ v) h.3,
   leads_then A ps qs h.0.to to on h.2 v h.4 k,
 )
 
@@ -210,9 +211,9 @@ then_leads A [] qs from to w h = (from, [], w, (refl, refl), h, refl)
 then_leads A (p ∷ ps) qs from to w h =
     let r = then_leads A ps qs h.0.to to h.2 h.4 in (
       r.0,
-      block_word p.at h.0.marks ++ r.1,
+      mark_block p.at h.0.marks ++ r.1,
       r.2,
       (h.0, h.1, r.1, refl, r.3),
       r.4,
-      append_assoc (block_word p.at h.0.marks) r.1 r.2 ∙ (ap (λ x. block_word p.at h.0.marks ++ x) r.5 ∙ h.3),
+      append_assoc (mark_block p.at h.0.marks) r.1 r.2 ∙ (ap (λ x. mark_block p.at h.0.marks ++ x) r.5 ∙ h.3),
     )

@@ -15,23 +15,25 @@ use Rattle.automaton_reading.proofs.MeasureLaws.{bytes_itself, look_up_itself, s
 use Rattle.set_table.specs.Tabled.{HasEdges, IsTabled, Tabled, edge_named, look_up, look_ups_weight, once_asked, reached, weight}
 use Rattle.numbered_lists.specs.Numbered.{set_at}
 use Rattle.set_table.proofs.OnceLaws.{HoldsOnce, holds_once, once_asked_apart, once_set, once_sets_count, once_stay, once_was}
-use Rattle.one_pass.specs.Words.{Word, block_word}
-use Rattle.output_graph.specs.Graph.{Source}
-use Rattle.one_pass.specs.Layers.{GraphView, HasWord, HasCost, Brings, numbers_of}
+use Rattle.node_arena.specs.Words.{Word}
+use Rattle.output_graph.specs.Forward.{mark_block}
+use Rattle.output_graph.specs.Graph.{Brings, Graph, HasWord, IsCost, IsStepped, LeadsTo, Source, sets_of as numbers_in, sources, targets}
+use Rattle.output_graph.specs.Sound.{edges_of}
 use Rattle.one_pass.specs.Turned.{HasLookedUp}
 use Rattle.one_pass.specs.Places.{ReadingPlace, edges_read, sets_met, sets_on}
 use Rattle.one_pass.specs.Passes.{Progress, pass, sets_of, stop, IsReady, HasGrown, HasStoppedAt, IsExcess}
 use Rattle.one_pass.specs.Making.{edges_to, making_of, making_read}
+use Rattle.one_pass.proofs.GraphLaws.{word_number}
 use Rattle.one_pass.proofs.Making.{leads_once, led_twice, lone_edge, making_step}
 use Rattle.one_pass.proofs.Sets.{Covers, has_next, sum_covers, sum_map}
 use Rattle.one_pass.proofs.Composing.{grown_more, grown_named, on_met}
 
 -- a set of the next layer, and a word of it
 abbrev pub Arrives : Progress → List ℕ → Word → Type 0
-Arrives Q set w = (s : ℕ) × (set_at Q.table.sets s ≡ set) × HasWord Q.graph.next s w
+Arrives Q set w = (s : ℕ) × (set_at Q.table.sets s ≡ set) × HasWord (targets Q.graph) s w
 
 abbrev pub HasNext : Progress → List ℕ → Type 0
-HasNext Q set = (s : ℕ) × (set_at Q.table.sets s ≡ set) × Has (numbers_of Q.graph.next) s
+HasNext Q set = (s : ℕ) × (set_at Q.table.sets s ≡ set) × Has (numbers_in Q.graph.next) s
 
 module _ (A : Automaton) (p : ReadingPlace) (P : Progress) where
   -- the edges of a source
@@ -46,10 +48,10 @@ module _ (A : Automaton) (p : ReadingPlace) (P : Progress) where
   abbrev pub LeadsWith : List Source → List ℕ → Word → Type 0
   LeadsWith done set w =
       (x : Source) × Has done x × (e : Reach) × Has (source_edges x) e × (e.to ≡ set)
-      × (u : Word) × Has x.words u × (u ++ block_word p.at e.marks ≡ w)
+      × (u : Word) × Has x.words u × (u ++ mark_block p.at e.marks ≡ w)
 
-  abbrev pub edges_of : List Source → ℕ
-  edges_of done = sum_by (λ (x : Source). length (source_edges x)) done
+  abbrev pub edges_by : List Source → ℕ
+  edges_by done = sum_by (λ (x : Source). length (source_edges x)) done
 
   -- the making edges of these sources
   abbrev pub making_by : List Source → ℕ
@@ -57,28 +59,25 @@ module _ (A : Automaton) (p : ReadingPlace) (P : Progress) where
 
   -- these sources have been asked, and the graph has taken what came
   pub record IsSpending (done : List Source) (Q : Progress) : Type 0 where
-    pub layer : Q.graph.layer ≡ P.graph.layer
-    pub stepped : Q.graph.stepped ≡ length done
     pub table : HasGrown P.table Q.table (sets_on A (sets_of P) p.ask) (map (λ set. let r : LookUp = record { set = set; ask = p.ask } in r) (sets_of P))
     pub holds : (x : Source) → Has done x → Has Q.table.look_ups (look_up P.table x.set p.ask)
     pub sound : IsTabled Q.table
     pub steps :
-        Q.steps + Q.graph.live + length P.table.look_ups * size A
-        ≤ P.steps + P.graph.live + 3 * length done + 3 * edges_of done + length Q.table.look_ups * size A
-    pub cells : Q.graph.live ≤ P.graph.live + edges_of done
+        Q.steps + length Q.graph.cells + length P.table.look_ups * size A
+        ≤ P.steps + length P.graph.cells + 3 * length done + 3 * edges_by done + length Q.table.look_ups * size A
+    pub cells : length Q.graph.cells ≤ length P.graph.cells + edges_by done
 
   -- and they have been stepped
   pub record IsStepping (done : List Source) (Q : Progress) : Type 0 where
     pub spent : IsSpending done Q
-    pub accepted : Q.graph.accepted ≡ []
     pub words : (set : List ℕ) (w : Word) → Arrives Q set w ↔ LeadsWith done set w
     pub sets : (set : List ℕ) → HasNext Q set ↔ LeadsOn done set
-    pub apart : AreDistinct (numbers_of Q.graph.next)
-    pub given : (s : ℕ) → Has (numbers_of Q.graph.next) s → s < length Q.table.sets
-    pub few : length Q.graph.next ≤ edges_of done
-    pub rise : Q.graph.live ≤ P.graph.live + making_by done
+    pub apart : AreDistinct (numbers_in Q.graph.next)
+    pub given : (s : ℕ) → Has (numbers_in Q.graph.next) s → s < length Q.table.sets
+    pub few : length Q.graph.next ≤ edges_by done
+    pub rise : length Q.graph.cells ≤ length P.graph.cells + making_by done
 
-  snoc_edges : (done : List Source) (x : Source) → edges_of (done ++ x ∷ []) ≡ edges_of done + length (source_edges x)
+  snoc_edges : (done : List Source) (x : Source) → edges_by (done ++ x ∷ []) ≡ edges_by done + length (source_edges x)
   snoc_edges done x =
       let f : Source → ℕ = λ y. length (source_edges y) in
       let one = cons_sum f x [] in
@@ -97,25 +96,25 @@ module _ (A : Automaton) (p : ReadingPlace) (P : Progress) where
   asked_look_ups = map (λ set. let r : LookUp = record { set = set; ask = p.ask } in r) (sets_of P)
 
   -- what the sources' edges count is what reading this place counts
-  pub place_edges : edges_read A (sets_of P) (p.ask ∷ []) ≡ edges_of P.graph.layer
+  pub place_edges : edges_read A (sets_of P) (p.ask ∷ []) ≡ edges_by (sources P.graph)
   place_edges =
       let look_ups : List LookUp = asked_look_ups in
       ap (sum_by (look_up_edges A)) (append-nil look_ups)
       ∙ (sum_map (look_up_edges A) (λ set. let r : LookUp = record { set = set; ask = p.ask } in r) (sets_of P)
-      ∙ sum_map (λ set. length (edges A set p.ask)) (λ (x : Source). set_at P.table.sets x.set) P.graph.layer)
+      ∙ sum_map (λ set. length (edges A set p.ask)) (λ (x : Source). set_at P.table.sets x.set) (sources P.graph))
 
-  pub place_making : making_read A (sets_of P) (p.ask ∷ []) ≡ making_by P.graph.layer
+  pub place_making : making_read A (sets_of P) (p.ask ∷ []) ≡ making_by (sources P.graph)
   place_making =
-      let same = sum_map (making_of A (sets_of P) p.ask) (λ (x : Source). set_at P.table.sets x.set) P.graph.layer in
+      let same = sum_map (making_of A (sets_of P) p.ask) (λ (x : Source). set_at P.table.sets x.set) (sources P.graph) in
       omega (arith, same)
 
   -- what is true of the look-up of each set of the layer is true of each that reading this place asks for
-  pub each_look_up : (T : LookUp → Type 0) → ((x : Source) → Has P.graph.layer x → T (look_up P.table x.set p.ask)) →
+  pub each_look_up : (T : LookUp → Type 0) → ((x : Source) → Has (sources P.graph) x → T (look_up P.table x.set p.ask)) →
       (r : LookUp) → Has (look_ups_asked A (sets_of P) (p.ask ∷ [])) r → T r
   each_look_up T each look_up h =
       let look_up_at : List ℕ → LookUp = λ set. record { set = set; ask = p.ask } in
       let s = Has-map_cases look_up_at (sets_of P) look_up (subst (λ (rs : List LookUp). Has rs look_up) (append-nil asked_look_ups) h) in
-      let x = Has-map_cases (λ (x : Source). set_at P.table.sets x.set) P.graph.layer s.0 s.1 in
+      let x = Has-map_cases (λ (x : Source). set_at P.table.sets x.set) (sources P.graph) s.0 s.1 in
       subst T (ap look_up_at x.2 ∙ s.2) (each x.0 x.1)
 
   pub met_here : Covers (sets_met A (sets_of P) (p.ask ∷ [])) (sets_on A (sets_of P) p.ask)
@@ -130,8 +129,6 @@ module _ (A : Automaton) (p : ReadingPlace) (P : Progress) where
   -- nothing has been stepped
   pub spending_none : (at : ℕ) → IsReady P.table P.graph at → IsSpending [] P
   spending_none at r = record {
-    layer = refl;
-    stepped = r.fresh.0;
     table = record { graph = refl; limit = refl; kept = ([], append-nil P.table.sets); sets = λ set h. inl h; look_ups = λ look_up h. inl h; stay = λ look_up h. h };
     holds = λ x h. absurd h;
     sound = r.sound;
@@ -142,24 +139,20 @@ module _ (A : Automaton) (p : ReadingPlace) (P : Progress) where
   pub stepping_none : (at : ℕ) → IsReady P.table P.graph at → IsStepping [] P
   stepping_none at r = record {
     spent = spending_none at r;
-    accepted = r.fresh.2;
-    words = λ set w. (λ h. absurd (none_has h.2.0 (subst (λ xs. Has xs h.2.0) r.fresh.1 h.2.1)), λ h. absurd h.1);
-    sets = λ set. (λ h. absurd (none_has_number h.0 (subst (λ xs. Has (numbers_of xs) h.0) r.fresh.1 h.2)), λ h. absurd h.1);
-    apart = subst (λ xs. AreDistinct (numbers_of xs)) (sym r.fresh.1) tt;
-    given = λ s h. absurd (none_has_number s (subst (λ xs. Has (numbers_of xs) s) r.fresh.1 h));
-    few = subst (λ (xs : List Source). length xs ≤ 0) (sym r.fresh.1) (omega arith);
+    words = λ set w. (λ h. absurd (none_there h.0 (word_number P.graph.cells P.graph.next h.0 w h.2)), λ h. absurd h.1);
+    sets = λ set. (λ h. absurd (none_there h.0 h.2), λ h. absurd h.1);
+    apart = subst (λ xs. AreDistinct (numbers_in xs)) (sym r.fresh.1) tt;
+    given = λ s h. absurd (none_there s h);
+    few = let none = ap length r.fresh.1 in omega (arith, none);
     rise = omega arith;
   }
     where
-      none_has : (x : Source) → Has [] x → ⊥
-      none_has x h = h
-
-      none_has_number : (s : ℕ) → Has [] s → ⊥
-      none_has_number s h = h
+      none_there : (s : ℕ) → Has (numbers_in P.graph.next) s → ⊥
+      none_there s h = rw r.fresh.1 at h
 
   -- ---- one source more
 
-  module _ (done : List Source) (Q : Progress) (x : Source) (is : P.table.graph ≡ A) (spent : IsSpending done Q) (there : Has P.graph.layer x)
+  module _ (done : List Source) (Q : Progress) (x : Source) (is : P.table.graph ≡ A) (spent : IsSpending done Q) (there : Has (sources P.graph) x)
       (known : x.set < length P.table.sets) where
     pub named_before : set_at Q.table.sets x.set ≡ set_at P.table.sets x.set
     named_before = grown_named P.table Q.table (sets_on A (sets_of P) p.ask) asked_look_ups spent.table x.set known
@@ -171,7 +164,7 @@ module _ (A : Automaton) (p : ReadingPlace) (P : Progress) where
     look_up_here = look_up Q.table x.set p.ask
 
     set_there : Has (sets_of P) (set_at P.table.sets x.set)
-    set_there = Has-map (λ (y : Source). set_at P.table.sets y.set) P.graph.layer x there
+    set_there = Has-map (λ (y : Source). set_at P.table.sets y.set) (sources P.graph) x there
 
     look_up_there : Has asked_look_ups look_up_here
     look_up_there =
@@ -248,27 +241,23 @@ module _ (A : Automaton) (p : ReadingPlace) (P : Progress) where
               omega (arith, e, l, made.steps)
 
       -- the graph has taken what came
-      module _ (e : ℕ) (count : e ≡ length (source_edges x)) (g : GraphView) (m : ℕ) (cost : HasCost e Q.graph.live g.live n m) where
+      module _ (e : ℕ) (count : e ≡ length (source_edges x)) (g : Graph) (m : ℕ) (cost : IsCost e (length Q.graph.cells) (length g.cells) n m) where
         paid :
-            m + g.live + length P.table.look_ups * size A
-            ≤ P.steps + P.graph.live + 3 * length (done ++ x ∷ []) + 3 * edges_of (done ++ x ∷ []) + length t.look_ups * size A
-        paid =
-            let c = cost in
-            omega (arith, c.2, c.3, c.4, made_steps, spent.steps, count, snoc_edges done x, snoc_length done x)
+            m + length g.cells + length P.table.look_ups * size A
+            ≤ P.steps + length P.graph.cells + 3 * length (done ++ x ∷ []) + 3 * edges_by (done ++ x ∷ []) + length t.look_ups * size A
+        paid = omega (arith, cost.few, cost.balance, cost.bound, made_steps, spent.steps, count, snoc_edges done x, snoc_length done x)
 
-        pub spending_more : g.layer ≡ Q.graph.layer → g.stepped ≡ suc Q.graph.stepped → IsSpending (done ++ x ∷ []) (pass t g m)
-        spending_more layer stepped = record {
-          layer = layer ∙ spent.layer;
-          stepped = stepped ∙ (ap suc spent.stepped ∙ (let e = snoc_length done x in omega (arith, e)));
+        pub spending_more : IsSpending (done ++ x ∷ []) (pass t g m)
+        spending_more = record {
           table = grown_here;
           holds = made_holds;
           sound = made.tabled;
           steps = paid;
-          cells = let c = cost in omega (arith, c.2, c.3, spent.cells, count, snoc_edges done x);
+          cells = omega (arith, cost.few, cost.balance, spent.cells, count, snoc_edges done x);
         }
 
         -- it was given up
-        pub stopped_by_graph : (left : List Source) → done ++ x ∷ left ≡ P.graph.layer → HasStoppedAt A p P (stop t m)
+        pub stopped_by_graph : (left : List Source) → done ++ x ∷ left ≡ sources P.graph → HasStoppedAt A p P (stop t m)
         stopped_by_graph left all = record {
           table = grown_at P.table t grown_here;
           sound = made.tabled;
@@ -284,18 +273,18 @@ module _ (A : Automaton) (p : ReadingPlace) (P : Progress) where
               let f : Source → ℕ = λ y. length (source_edges y) in
               let s = sum_by-append f (done ++ x ∷ []) left in
               let a = ap length (append_assoc done (x ∷ []) left ∙ all) in
-              let b = ap edges_of (append_assoc done (x ∷ []) left ∙ all) in
+              let b = ap edges_by (append_assoc done (x ∷ []) left ∙ all) in
               omega (arith, paid, l, s, a, b, place_edges);
         }
 
     -- the table refused the look-up
-    pub stopped_by_table : (left : List Source) (n : ℕ) → done ++ x ∷ left ≡ P.graph.layer → n ≤ Q.steps + 1 → HasStoppedAt A p P (stop Q.table n)
+    pub stopped_by_table : (left : List Source) (n : ℕ) → done ++ x ∷ left ≡ sources P.graph → n ≤ Q.steps + 1 → HasStoppedAt A p P (stop Q.table n)
     stopped_by_table left n all one = by one
       where
         l : length (done ++ x ∷ left) ≡ length done + suc (length left)
         l = length-append done (x ∷ left)
 
-        s : edges_of (done ++ x ∷ left) ≡ edges_of done + edges_of (x ∷ left)
+        s : edges_by (done ++ x ∷ left) ≡ edges_by done + edges_by (x ∷ left)
         s = sum_by-append (λ (y : Source). length (source_edges y)) done (x ∷ left)
 
         before : (look_up : LookUp) → Has Q.table.look_ups look_up → Has P.table.look_ups look_up ⊎ Has (look_ups_asked A (sets_of P) (p.ask ∷ [])) look_up
@@ -314,7 +303,7 @@ module _ (A : Automaton) (p : ReadingPlace) (P : Progress) where
           look_ups = before;
           steps =
               let a = ap length all in
-              let b = ap edges_of all in
+              let b = ap edges_by all in
               omega (arith, spent.steps, less, l, s, a, b, place_edges);
         }
 
@@ -373,121 +362,120 @@ module _ (A : Automaton) (p : ReadingPlace) (P : Progress) where
         pub edges_count : length es ≡ length (source_edges x)
         edges_count = let l = length-map es (edge_named t.sets) in let e = ap length edges_are in omega (arith, l, e)
 
-        module _ (past : IsStepping done Q) (g : GraphView) (m : ℕ)
-            (layer : g.layer ≡ Q.graph.layer) (accepted : g.accepted ≡ Q.graph.accepted) (stepped : g.stepped ≡ suc Q.graph.stepped)
-            (words : (s : ℕ) (w : Word) → HasWord g.next s w ↔ (HasWord Q.graph.next s w ⊎ Brings x.words p.at es s w))
-            (sets : (s : ℕ) → Has (numbers_of g.next) s ↔ (Has (numbers_of Q.graph.next) s ⊎ Has (map (λ (e : Edge). e.to) es) s))
-            (few : length g.next ≤ length Q.graph.next + length es)
-            (apart : AreDistinct (numbers_of Q.graph.next) → AreDistinct (numbers_of g.next))
-            (hands_on : (to : ℕ) → es ≡ record { marks = 0; to = to } ∷ [] → (Has (numbers_of Q.graph.next) to → ⊥) → g.live ≤ Q.graph.live)
-            (left : List Source) (all : done ++ x ∷ left ≡ P.graph.layer)
-            (cost : HasCost (length es) Q.graph.live g.live n m) where
-          word_number : (next : List Source) (s : ℕ) (w : Word) → HasWord next s w → Has (numbers_of next) s
-          word_number next s w h = subst (Has (numbers_of next)) h.2 (Has-map (λ (y : Source). y.set) next h.0 h.1)
+        module _ (past : IsStepping done Q) (g : Graph) (m : ℕ) (step : IsStepped Q.graph p.at (edges_of es) g) (source : step.left.0 ≡ x)
+            (apart : AreDistinct (numbers_in g.next)) (left : List Source) (all : done ++ x ∷ left ≡ sources P.graph)
+            (cost : IsCost (length es) (length Q.graph.cells) (length g.cells) n m) where
+          words : (s : ℕ) (w : Word) → HasWord (targets g) s w ↔ (HasWord (targets Q.graph) s w ⊎ Brings x.words p.at (edges_of es) s w)
+          words s w = subst (λ (y : Source). HasWord (targets g) s w ↔ (HasWord (targets Q.graph) s w ⊎ Brings y.words p.at (edges_of es) s w)) source (step.left.2 s w)
 
           -- an edge leads to the set of its number
-          edge_to : (e : Edge) → Has es e → (r : Reach) × Has (source_edges x) r × (e.marks ≡ r.marks) × (e.to < length t.sets) × (set_at t.sets e.to ≡ r.to)
-          edge_to e h = (edge_named t.sets e, subst (λ (rs : List Reach). Has rs (edge_named t.sets e)) edges_are (Has-map (edge_named t.sets) es e h), refl, has.targets e h, refl)
+          edge_to : (e : ℕ × ℕ) → Has (edges_of es) e → (r : Reach) × Has (source_edges x) r × (e.0 ≡ r.marks) × (e.1 < length t.sets) × (set_at t.sets e.1 ≡ r.to)
+          edge_to e h =
+              let g = Has-map_cases (λ (e : Edge). (e.marks, e.to)) es e h in (
+                edge_named t.sets g.0,
+                subst (λ (rs : List Reach). Has rs (edge_named t.sets g.0)) edges_are (Has-map (edge_named t.sets) es g.0 g.1),
+                ap (λ (p : ℕ × ℕ). p.0) (sym g.2),
+                subst (λ (p : ℕ × ℕ). p.1 < length t.sets) g.2 (has.targets g.0 g.1),
+                ap (λ (p : ℕ × ℕ). set_at t.sets p.1) (sym g.2),
+              )
 
-          to_edge : (r : Reach) → Has (source_edges x) r → (e : Edge) × Has es e × (e.marks ≡ r.marks) × (set_at t.sets e.to ≡ r.to)
+          to_edge : (r : Reach) → Has (source_edges x) r → (e : ℕ × ℕ) × Has (edges_of es) e × (e.0 ≡ r.marks) × (set_at t.sets e.1 ≡ r.to)
           to_edge r h =
               let e = Has-map_cases (edge_named t.sets) es r (subst (λ (rs : List Reach). Has rs r) (sym edges_are) h) in
-              (e.0, e.1, ap (λ (y : Reach). y.marks) e.2, ap (λ (y : Reach). y.to) e.2)
+              ((e.0.marks, e.0.to), Has-map (λ (e : Edge). (e.marks, e.to)) es e.0 e.1, ap (λ (y : Reach). y.marks) e.2, ap (λ (y : Reach). y.to) e.2)
+
+          edges_many : length (edges_of es) ≡ length (source_edges x)
+          edges_many = length-map {B = ℕ × ℕ} es (λ (e : Edge). (e.marks, e.to)) ∙ edges_count
 
           pub stepping_more : IsStepping (done ++ x ∷ []) (pass t g m)
           stepping_more = record {
-            spent = spending_more t n made (length es) edges_count g m cost layer stepped;
-            accepted = accepted ∙ past.accepted;
+            spent = spending_more t n made (length es) edges_count g m cost;
             words = λ set w. (word_there set w, word_back set w);
             sets = λ set. (set_here set, set_back set);
-            apart = apart past.apart;
-            given = λ s h. given_now s ((sets s).0 h);
-            few = omega (arith, few, past.few, edges_count, snoc_edges done x);
+            apart = apart;
+            given = λ s h. given_now s ((step.reached s).0 h);
+            few = omega (arith, step.few, past.few, edges_many, snoc_edges done x);
             rise = omega (arith, past.rise, made_here, snoc_making done x);
           }
             where
               -- an edge of an earlier source leads to each set of the next layer, so that the lone edge of this one is no making
               -- edge only where its target is new
-              is_new : (r : Reach) → source_edges x ≡ r ∷ [] → r.marks ≡ 0 → edges_to A (sets_of P) p.ask r.to ≤ 1 → g.live ≤ Q.graph.live
+              is_new : (r : Reach) → source_edges x ≡ r ∷ [] → r.marks ≡ 0 → edges_to A (sets_of P) p.ask r.to ≤ 1 → length g.cells ≤ length Q.graph.cells
               is_new r lone none few =
                   let e = to_edge r (subst (λ (rs : List Reach). Has rs r) (sym lone) (inl refl)) in
-                  hands_on e.0.to (lone_edge es (e.0) (edges_count ∙ ap length lone) e.1 (e.2 ∙ none)) (λ h.
-                  let k = past.given e.0.to h in
-                  let l = (past.sets r.to).0 (e.0.to, sym (named_now t n made e.0.to k) ∙ e.3, h) in
-                  let two = led_twice A (sets_of P) p.ask r.to (λ (y : Source). set_at P.table.sets y.set) done x left P.graph.layer all refl l.0 l.1
+                  step.hands_on e.0.1 (lone_edge (edges_of es) e.0 (edges_many ∙ ap length lone) e.1 (e.2 ∙ none)) (λ h.
+                  let k = past.given e.0.1 h in
+                  let l = (past.sets r.to).0 (e.0.1, sym (named_now t n made e.0.1 k) ∙ e.3, h) in
+                  let two = led_twice A (sets_of P) p.ask r.to (λ (y : Source). set_at P.table.sets y.set) done x left (sources P.graph) all refl l.0 l.1
                   (leads_once A p.ask r.to (set_at P.table.sets l.0.set) l.2 l.3 l.4) (leads_once A p.ask r.to (set_at P.table.sets x.set) r (subst (λ (rs : List Reach). Has rs r) (sym lone) (inl refl)) refl) in
                   omega (arith, two, few))
 
-              made_here : g.live ≤ Q.graph.live + making_of A (sets_of P) p.ask (set_at P.table.sets x.set)
+              made_here : length g.cells ≤ length Q.graph.cells + making_of A (sets_of P) p.ask (set_at P.table.sets x.set)
               made_here =
-                  let c = cost in
-                  making_step A (sets_of P) p.ask (set_at P.table.sets x.set) (source_edges x) refl Q.graph.live g.live (omega (arith, c.2, c.3, edges_count)) is_new
+                  making_step A (sets_of P) p.ask (set_at P.table.sets x.set) (source_edges x) refl (length Q.graph.cells) (length g.cells)
+                  (omega (arith, cost.few, cost.balance, edges_count)) is_new
 
-              given_now : (s : ℕ) → Has (numbers_of Q.graph.next) s ⊎ Has (map (λ (e : Edge). e.to) es) s → s < length t.sets
+              given_now : (s : ℕ) → Has (numbers_in Q.graph.next) s ⊎ LeadsTo (edges_of es) s → s < length t.sets
               given_now s (inl old) = let l = past.given s old in omega (arith, l, kept_length t n made)
-              given_now s (inr new) =
-                  let e = Has-map_cases (λ (e : Edge). e.to) es s new in
-                  let r = edge_to e.0 e.1 in
-                  subst (λ k. k < length t.sets) e.2 r.3
+              given_now s (inr new) = let r = edge_to new.0 new.1 in subst (λ k. k < length t.sets) new.2 r.3
 
               word_there : (set : List ℕ) (w : Word) → Arrives (pass t g m) set w → LeadsWith (done ++ x ∷ []) set w
               word_there set w h = by ((words h.0 w).0 h.2)
                 where
-                  by : HasWord Q.graph.next h.0 w ⊎ Brings x.words p.at es h.0 w → LeadsWith (done ++ x ∷ []) set w
+                  by : HasWord (targets Q.graph) h.0 w ⊎ Brings x.words p.at (edges_of es) h.0 w → LeadsWith (done ++ x ∷ []) set w
                   by (inl old) =
-                      let k = past.given h.0 (word_number Q.graph.next h.0 w old) in
+                      let k = past.given h.0 (word_number Q.graph.cells Q.graph.next h.0 w old) in
                       let l = (past.words set w).0 (h.0, sym (named_now t n made h.0 k) ∙ h.1, old) in
                       (l.0, Has-append_left done (x ∷ []) l.0 l.1, l.2, l.3, l.4, l.5, l.6, l.7)
                   by (inr new) =
-                      let r = edge_to new.0 new.1 in (
+                      let r = edge_to new.0 new.2 in (
                         x,
                         Has-append_right done (x ∷ []) x (inl refl),
                         r.0,
                         r.1,
-                        sym r.4 ∙ (ap (set_at t.sets) new.2 ∙ h.1),
-                        new.3,
+                        sym r.4 ∙ (ap (set_at t.sets) new.3 ∙ h.1),
+                        new.1,
                         new.4,
-                        ap (λ k. new.3 ++ block_word p.at k) (sym r.2) ∙ new.5,
+                        ap (λ k. new.1 ++ mark_block p.at k) (sym r.2) ∙ new.5,
                       )
 
               word_back : (set : List ℕ) (w : Word) → LeadsWith (done ++ x ∷ []) set w → Arrives (pass t g m) set w
               word_back set w h = by (Has-append_cases done (x ∷ []) h.0 h.1)
                 where
-                  here : (y : Source) → x ≡ y → (r : Reach) → Has (source_edges y) r → r.to ≡ set → (u : Word) → Has y.words u → u ++ block_word p.at r.marks ≡ w → Arrives (pass t g m) set w
+                  here : (y : Source) → x ≡ y → (r : Reach) → Has (source_edges y) r → r.to ≡ set → (u : Word) → Has y.words u → u ++ mark_block p.at r.marks ≡ w → Arrives (pass t g m) set w
                   here y same r hr to u hu eq =
                       let e = to_edge r (subst (λ (z : Source). Has (source_edges z) r) (sym same) hr) in (
-                        e.0.to,
+                        e.0.1,
                         e.3 ∙ to,
-                        (words e.0.to w).1 (inr (
+                        (words e.0.1 w).1 (inr (
                           e.0,
+                          u,
                           e.1,
                           refl,
-                          u,
                           subst (λ (z : Source). Has z.words u) (sym same) hu,
-                          ap (λ k. u ++ block_word p.at k) e.2 ∙ eq,
+                          ap (λ k. u ++ mark_block p.at k) e.2 ∙ eq,
                         )),
                       )
 
                   by : Has done h.0 ⊎ Has (x ∷ []) h.0 → Arrives (pass t g m) set w
                   by (inl old) =
                       let a = (past.words set w).1 (h.0, old, h.2, h.3, h.4, h.5, h.6, h.7) in
-                      let k = past.given a.0 (word_number Q.graph.next a.0 w a.2) in
+                      let k = past.given a.0 (word_number Q.graph.cells Q.graph.next a.0 w a.2) in
                       (a.0, named_now t n made a.0 k ∙ a.1, (words a.0 w).1 (inl a.2))
                   by (inr (inl same)) = here h.0 same h.2 h.3 h.4 h.5 h.6 h.7
                   by (inr (inr none)) = absurd none
 
               set_here : (set : List ℕ) → HasNext (pass t g m) set → LeadsOn (done ++ x ∷ []) set
-              set_here set h = by ((sets h.0).0 h.2)
+              set_here set h = by ((step.reached h.0).0 h.2)
                 where
-                  by : Has (numbers_of Q.graph.next) h.0 ⊎ Has (map (λ (e : Edge). e.to) es) h.0 → LeadsOn (done ++ x ∷ []) set
+                  by : Has (numbers_in Q.graph.next) h.0 ⊎ LeadsTo (edges_of es) h.0 → LeadsOn (done ++ x ∷ []) set
                   by (inl old) =
                       let k = past.given h.0 old in
                       let l = (past.sets set).0 (h.0, sym (named_now t n made h.0 k) ∙ h.1, old) in
                       (l.0, Has-append_left done (x ∷ []) l.0 l.1, l.2, l.3, l.4)
                   by (inr new) =
-                      let e = Has-map_cases (λ (e : Edge). e.to) es h.0 new in
-                      let r = edge_to e.0 e.1 in
-                      (x, Has-append_right done (x ∷ []) x (inl refl), r.0, r.1, sym r.4 ∙ (ap (set_at t.sets) e.2 ∙ h.1))
+                      let r = edge_to new.0 new.1 in
+                      (x, Has-append_right done (x ∷ []) x (inl refl), r.0, r.1, sym r.4 ∙ (ap (set_at t.sets) new.2 ∙ h.1))
 
               set_back : (set : List ℕ) → LeadsOn (done ++ x ∷ []) set → HasNext (pass t g m) set
               set_back set h = by (Has-append_cases done (x ∷ []) h.0 h.1)
@@ -495,12 +483,12 @@ module _ (A : Automaton) (p : ReadingPlace) (P : Progress) where
                   here : (y : Source) → x ≡ y → (r : Reach) → Has (source_edges y) r → r.to ≡ set → HasNext (pass t g m) set
                   here y same r hr to =
                       let e = to_edge r (subst (λ (z : Source). Has (source_edges z) r) (sym same) hr) in
-                      (e.0.to, e.3 ∙ to, (sets e.0.to).1 (inr (Has-map (λ (e : Edge). e.to) es e.0 e.1)))
+                      (e.0.1, e.3 ∙ to, (step.reached e.0.1).1 (inr (e.0, e.1, refl)))
 
                   by : Has done h.0 ⊎ Has (x ∷ []) h.0 → HasNext (pass t g m) set
                   by (inl old) =
                       let a = (past.sets set).1 (h.0, old, h.2, h.3, h.4) in
                       let k = past.given a.0 a.2 in
-                      (a.0, named_now t n made a.0 k ∙ a.1, (sets a.0).1 (inl a.2))
+                      (a.0, named_now t n made a.0 k ∙ a.1, (step.reached a.0).1 (inl a.2))
                   by (inr (inl same)) = here h.0 same h.2 h.3 h.4
                   by (inr (inr none)) = absurd none

@@ -16,12 +16,12 @@ use Rattle.set_table.specs.Tabled.{IsTabled, Tabled}
 use Rattle.numbered_lists.specs.Numbered.{set_at}
 use Rattle.automaton_reading.proofs.Ascending.{ascending_same, set_in_order}
 use Rattle.byte_runs.specs.Chains.{AreLeftBy, IsInSet}
-use Rattle.output_graph.specs.Graph.{Source}
-use Rattle.one_pass.specs.Layers.{GraphView}
+use Rattle.output_graph.specs.Graph.{Graph, Source, sources}
 use Rattle.one_pass.specs.Passes.{AllLeadBack, AreGiven}
 use Rattle.one_pass.specs.Places.{Leads, bytes_at}
 use Rattle.one_pass.specs.Waiting.{Forces, IsLoop, IsLooping, IsOf, LeadsBack, Waits}
-use Rattle.one_pass.specs.Words.{Word, block_word}
+use Rattle.node_arena.specs.Words.{Word}
+use Rattle.output_graph.specs.Forward.{mark_block}
 
 differ : false ≡ true → ⊥
 differ e = cc
@@ -157,7 +157,7 @@ module _ (A : Automaton) (S : List ℕ) (order : IsInOrder ◌<◌ S) (some : (p
       elim (zero_or l.0.marks) as (λ _. (w ≡ []) × (to ≡ S)) [
         | inl none ↦
             let rest = leads_there d (suc i) l.0.to small.1 departs.1 (near_next set b d near small.0 departs l.0 l.1 none) l.2 to l.4 in
-            (sym l.3 ∙ (ap (λ m. block_word i m ++ l.2) none ∙ rest.0), rest.1)
+            (sym l.3 ∙ (ap (λ m. mark_block i m ++ l.2) none ∙ rest.0), rest.1)
         | inr marked ↦
             let x = edge_some A set b l.0 l.1 in
             absurd (none_lead A d (suc i) l.0.to (marked_dies set b d near departs l.0 l.1 marked) x.0 x.1 l.2 to l.4)
@@ -167,7 +167,7 @@ module _ (A : Automaton) (S : List ℕ) (order : IsInOrder ◌<◌ S) (some : (p
   there_leads [] i set small departs near = (refl, near_end set near)
   there_leads (b ∷ d) i set small departs near =
       let e = near_edge set b d near small.0 some.0 some.1 in
-      (e.0, e.1, [], ap (λ m. block_word i m ++ []) e.2, there_leads d (suc i) e.0.to small.1 departs.1 (near_next set b d near small.0 departs e.0 e.1 e.2))
+      (e.0, e.1, [], ap (λ m. mark_block i m ++ []) e.2, there_leads d (suc i) e.0.to small.1 departs.1 (near_next set b d near small.0 departs e.0 e.1 e.2))
 
   pub departs_back : (d : List ℕ) → AreSmall d → Departs d → LeadsBack A S d
   departs_back d small departs i w to = (
@@ -242,8 +242,8 @@ left_taken chain d q le left =
     subst (λ n. AreLeftBy chain (take q d) n) (sym long)
     (λ j less keep. left j less (λ k few within. subst (λ b. HasByte (get_or chain k bytes.empty) b) (get_or-take q d (j + k) 0 within) (keep k few within)))
 
-pub passed_back : (t : Tabled) → IsTabled t → (g : GraphView) → AreGiven t g → (states : List ℕ) (chain : List ByteClass) → Waits t.graph.ways states chain →
-    ((x : Source) → Has g.layer x → IsOf states (set_at t.sets x.set)) → (d : List ℕ) → ((i : ℕ) → get_or d i 0 < 256) → (q : ℕ) → q ≤ length d → AreLeftBy chain d q → AllLeadBack t g (take q d)
+pub passed_back : (t : Tabled) → IsTabled t → (g : Graph) → AreGiven t g → (states : List ℕ) (chain : List ByteClass) → Waits t.graph.ways states chain →
+    ((x : Source) → Has (sources g) x → IsOf states (set_at t.sets x.set)) → (d : List ℕ) → ((i : ℕ) → get_or d i 0 < 256) → (q : ℕ) → q ≤ length d → AreLeftBy chain d q → AllLeadBack t g (take q d)
 passed_back t tabled g given states chain waits of d small q le left x h =
     waits_back t.graph states chain waits (set_at t.sets x.set) (tabled.sets (set_at t.sets x.set) (Has-get_or t.sets x.set [] (given x h))).order (of x h) (take q d) (small_taken d q small) (left_taken chain d q le left)
 

@@ -10,9 +10,11 @@ use Rattle.automaton_reading.proofs.Matching.{once_has}
 use Rattle.automaton_reading.proofs.MeasureLaws.{same_look_up, look_up_itself}
 use Rattle.set_table.specs.Tabled.{IsTabled, Tabled}
 use Rattle.numbered_lists.specs.Numbered.{set_at}
-use Rattle.one_pass.specs.Words.{Word}
-use Rattle.output_graph.specs.Graph.{Source}
-use Rattle.one_pass.specs.Builds.{IsNew, build, started}
+use Rattle.node_arena.specs.Words.{Word}
+use Rattle.output_graph.specs.Graph.{Source, sources, targets}
+use Rattle.one_pass.specs.Builds.{IsNew, IsStarted, build}
+use Rattle.one_pass.specs.Layers.{first_source}
+use Rattle.one_pass.specs.Seen.{accepted_words}
 use Rattle.one_pass.specs.Places.{ReadingPlace, AreReadWords, Leads, asks, byte_at, edges_read, end_at, places, rest_at, sets_after, sets_met}
 use Rattle.one_pass.specs.Passes.{Progress, sets_of, Reaches, HasEnded, HasRead, HasStopped, Stop, IsExcess, weight_of}
 use Rattle.one_pass.specs.Weights.{IsDue, Tells}
@@ -20,6 +22,7 @@ use Rattle.one_pass.proofs.ReadWords.{leads_then, read_words, then_leads}
 use Rattle.one_pass.proofs.Sets.{Covers, edges_append, edges_covers, look_ups_covers, look_ups_left, look_ups_right, weight_covers}
 use Rattle.one_pass.proofs.Composing.{asks_append}
 use Rattle.one_pass.proofs.Due.{due_asked, due_cases}
+use Rattle.one_pass.proofs.GraphLaws.{words_have}
 use Rattle.one_pass.proofs.Telling.{held_tells, tells_grown}
 
 -- the places ask what reading asks
@@ -83,35 +86,36 @@ new_start A t new = ap (λ (xs : List (List ℕ)). get_or xs 0 []) new.sets
 pub tabled_start : (t : Tabled) → IsTabled t → set_at t.sets 0 ≡ set_of t.graph.starts
 tabled_start t tabled = get_or_from_slice_get t.sets 0 (set_of t.graph.starts) [] tabled.start
 
-module _ (A : Automaton) (K : ℕ → Bool) (d : List ℕ) (t : Tabled) (graph : t.graph ≡ A) (start_named : set_at t.sets 0 ≡ set_of A.starts) (before : ℕ) where
+module _ (A : Automaton) (K : ℕ → Bool) (d : List ℕ) (P : Progress) (graph : P.table.graph ≡ A) (start_named : set_at P.table.sets 0 ≡ set_of A.starts)
+    (before : ℕ) (started : IsStarted before P) where
   abbrev starts : List (List ℕ)
   starts = set_of A.starts ∷ []
 
-  abbrev P : Progress
-  P = started t before
-
   pub starts_are : sets_of P ≡ starts
-  starts_are = ap (λ s. s ∷ []) start_named
+  starts_are = ap (λ (xs : List Source). map (λ (x : Source). set_at P.table.sets x.set) xs) started.layer ∙ ap (λ s. s ∷ []) start_named
+
+  one_source : length (sources P.graph) ≡ 1
+  one_source = ap length started.layer
 
   first_word : (set : List ℕ) (w : Word) → Reaches P set w ↔ ((set_of A.starts ≡ set) × ([] ≡ w))
   first_word set w = (there, back)
     where
       there : Reaches P set w → (set_of A.starts ≡ set) × ([] ≡ w)
-      there h = by h.1
+      there h = by (subst (λ (xs : List Source). Has xs h.0) started.layer h.1)
         where
           word : ([] ≡ w) ⊎ ⊥ → [] ≡ w
           word (inl e) = e
           word (inr n) = absurd n
 
-          by : (record { set = 0; words = [] ∷ [] } ≡ h.0) ⊎ ⊥ → (set_of A.starts ≡ set) × ([] ≡ w)
+          by : (first_source 0 ≡ h.0) ⊎ ⊥ → (set_of A.starts ≡ set) × ([] ≡ w)
           by (inl e) = (
-            sym start_named ∙ (ap (λ (y : Source). set_at t.sets y.set) e ∙ h.2),
+            sym start_named ∙ (ap (λ (y : Source). set_at P.table.sets y.set) e ∙ h.2),
             word (subst (λ (y : Source). Has y.words w) (sym e) h.3),
           )
           by (inr n) = absurd n
 
       back : (set_of A.starts ≡ set) × ([] ≡ w) → Reaches P set w
-      back h = (record { set = 0; words = [] ∷ [] }, inl refl, start_named ∙ h.0, inl h.1)
+      back h = (first_source 0, subst (λ (xs : List Source). Has xs (first_source 0)) (sym started.layer) (inl refl), start_named ∙ h.0, inl h.1)
 
   -- the layer after some places has the words of the choices there, and the sets that are reached
   pub layer_words : (ps : List ReadingPlace) (Q : Progress) → HasRead A ps P Q → (set : List ℕ) (w : Word) → Reaches Q set w ↔ Leads A ps (set_of A.starts) w set
@@ -130,24 +134,24 @@ module _ (A : Automaton) (K : ℕ → Bool) (d : List ℕ) (t : Tabled) (graph :
   -- ---- the end
 
   module _ (ps : List ReadingPlace) (all : ps ++ end_at (length d) ∷ [] ≡ places K d 0 false) (Q R : Progress) (read : HasRead A ps P Q) (done : HasEnded A (length d) Q R) where
-    pub whole_words : AreReadWords A K d R.graph.accepted
+    pub whole_words : AreReadWords A K d (accepted_words R.graph)
     whole_words u = (
       λ h. (read_words A K d u).0 (to_choice h),
       λ h. from_choice ((read_words A K d u).1 h),
     )
       where
-        to_choice : Has R.graph.accepted u → Leads A (places K d 0 false) (set_of A.starts) u []
+        to_choice : Has (accepted_words R.graph) u → Leads A (places K d 0 false) (set_of A.starts) u []
         to_choice h =
-            let e = (done.words u).0 h in
+            let e = (done.words u).0 ((words_have 0 (targets R.graph) u).0 h) in
             let l = (layer_words ps Q read e.0 e.1).0 e.3 in
             subst (λ qs. Leads A qs (set_of A.starts) u []) all
             (subst (λ v. Leads A (ps ++ end_at (length d) ∷ []) (set_of A.starts) v []) e.5
             (leads_then A ps (end_at (length d) ∷ []) (set_of A.starts) [] e.0 e.1 e.2 l e.4))
 
-        from_choice : Leads A (places K d 0 false) (set_of A.starts) u [] → Has R.graph.accepted u
+        from_choice : Leads A (places K d 0 false) (set_of A.starts) u [] → Has (accepted_words R.graph) u
         from_choice h =
             let s = then_leads A ps (end_at (length d) ∷ []) (set_of A.starts) [] u (subst (λ qs. Leads A qs (set_of A.starts) u []) (sym all) h) in
-            (done.words u).1 (s.0, s.1, s.2, (layer_words ps Q read s.0 s.1).1 s.3, s.4, s.5)
+            (words_have 0 (targets R.graph) u).1 ((done.words u).1 (s.0, s.1, s.2, (layer_words ps Q read s.0 s.1).1 s.3, s.4, s.5))
 
   -- ---- the numbers
 
@@ -183,16 +187,16 @@ module _ (A : Automaton) (K : ℕ → Bool) (d : List ℕ) (t : Tabled) (graph :
   one_look_up = has_length (once look_up_same (look_ups_read A d K)) some_look_up.0 (once_has look_up_same same_look_up look_up_itself (look_ups_read A d K) some_look_up.0 some_look_up.1)
 
   -- those of a list that the table holds or the reading asks for are no more than both
-  few_look_ups : (look_ups : List LookUp) → AreDistinct look_ups → ((look_up : LookUp) → Has look_ups look_up → Has t.look_ups look_up ⊎ Has (look_ups_read A d K) look_up) →
-      length look_ups ≤ length t.look_ups + look_ups_K A d K
+  few_look_ups : (look_ups : List LookUp) → AreDistinct look_ups → ((look_up : LookUp) → Has look_ups look_up → Has P.table.look_ups look_up ⊎ Has (look_ups_read A d K) look_up) →
+      length look_ups ≤ length P.table.look_ups + look_ups_K A d K
   few_look_ups look_ups distinct cover =
       let all : List LookUp = once look_up_same (look_ups_read A d K) in
-      let less = distinct-le look_ups (t.look_ups ++ all) distinct
-      (λ look_up h. elim (cover look_up h) as (λ _. Has (t.look_ups ++ all) look_up) [
-        | inl old ↦ Has-append_left t.look_ups all look_up old
-        | inr n ↦ Has-append_right t.look_ups all look_up (once_has look_up_same same_look_up look_up_itself (look_ups_read A d K) look_up n)
+      let less = distinct-le look_ups (P.table.look_ups ++ all) distinct
+      (λ look_up h. elim (cover look_up h) as (λ _. Has (P.table.look_ups ++ all) look_up) [
+        | inl old ↦ Has-append_left P.table.look_ups all look_up old
+        | inr n ↦ Has-append_right P.table.look_ups all look_up (once_has look_up_same same_look_up look_up_itself (look_ups_read A d K) look_up n)
       ]) in
-      omega (arith, less, length-append t.look_ups all)
+      omega (arith, less, length-append P.table.look_ups all)
 
   times_more : (a b c : ℕ) → a ≤ b → a * c ≤ b * c
   times_more a b c h = mul-le-mul_right c h
@@ -201,24 +205,24 @@ module _ (A : Automaton) (K : ℕ → Bool) (d : List ℕ) (t : Tabled) (graph :
   pub stopped_steps : (ps rest : List ReadingPlace) → ps ++ rest ≡ places K d 0 false → (after : Stop) → HasStopped A ps P after → after.steps + 1 ≤ before + build A d K
   stopped_steps ps rest all after s =
       let few = few_look_ups s.made s.distinct (λ look_up h. made_look_up look_up (s.look_ups look_up h)) in
-      let product = times_more (length s.made) (length t.look_ups + look_ups_K A d K) (size A) few in
-      omega (arith, s.steps, few, product, front_edges ps rest all, one_look_up)
+      let product = times_more (length s.made) (length P.table.look_ups + look_ups_K A d K) (size A) few in
+      omega (arith, s.steps, few, product, front_edges ps rest all, one_look_up, one_source)
     where
-      made_look_up : (look_up : LookUp) → Has t.look_ups look_up ⊎ Has (look_ups_asked A (sets_of P) (asks ps)) look_up → Has t.look_ups look_up ⊎ Has (look_ups_read A d K) look_up
+      made_look_up : (look_up : LookUp) → Has P.table.look_ups look_up ⊎ Has (look_ups_asked A (sets_of P) (asks ps)) look_up → Has P.table.look_ups look_up ⊎ Has (look_ups_read A d K) look_up
       made_look_up look_up (inl old) = inl old
       made_look_up look_up (inr n) = inr (front_look_ups ps rest all look_up n)
 
   -- what was more than the limit is no more than the weight of the whole reading, where the table was new
-  pub excess_weight : IsNew A t → (sets : List (List ℕ)) (look_ups : List LookUp) (weight : ℕ) → IsExcess t sets look_ups weight →
-      Covers (map (λ (r : LookUp). r.set) (look_ups_read A d K)) sets → Covers (look_ups_read A d K) look_ups → (t.limit < weight) × (weight ≤ weight_K A d K)
+  pub excess_weight : IsNew A P.table → (sets : List (List ℕ)) (look_ups : List LookUp) (weight : ℕ) → IsExcess P.table sets look_ups weight →
+      Covers (map (λ (r : LookUp). r.set) (look_ups_read A d K)) sets → Covers (look_ups_read A d K) look_ups → (P.table.limit < weight) × (weight ≤ weight_K A d K)
   excess_weight new sets look_ups weight x some_set some_look_up =
-      let less = weight_covers A (map (λ (r : LookUp). r.set) (look_ups_read A d K)) (t.sets ++ sets) (look_ups_read A d K) (t.look_ups ++ look_ups) all_sets all_look_ups in
-      let most : weight ≤ weight_of A (t.sets ++ sets) (t.look_ups ++ look_ups) = subst (λ B. weight ≤ weight_of B (t.sets ++ sets) (t.look_ups ++ look_ups)) graph x.most in
+      let less = weight_covers A (map (λ (r : LookUp). r.set) (look_ups_read A d K)) (P.table.sets ++ sets) (look_ups_read A d K) (P.table.look_ups ++ look_ups) all_sets all_look_ups in
+      let most : weight ≤ weight_of A (P.table.sets ++ sets) (P.table.look_ups ++ look_ups) = subst (λ B. weight ≤ weight_of B (P.table.sets ++ sets) (P.table.look_ups ++ look_ups)) graph x.most in
       (x.more, omega (arith, less, most))
     where
-      all_sets : Covers (map (λ (r : LookUp). r.set) (look_ups_read A d K)) (t.sets ++ sets)
+      all_sets : Covers (map (λ (r : LookUp). r.set) (look_ups_read A d K)) (P.table.sets ++ sets)
       all_sets set h =
-          elim (Has-append_cases t.sets sets set h) [
+          elim (Has-append_cases P.table.sets sets set h) [
             | inl old ↦ met_first set (subst (λ ss. Has ss set) new.sets old)
             | inr n ↦ some_set set n
           ]
@@ -228,9 +232,9 @@ module _ (A : Automaton) (K : ℕ → Bool) (d : List ℕ) (t : Tabled) (graph :
               let s = some_asked K d 0 in
               subst (λ these. Has (map (λ (r : LookUp). r.set) (look_ups_asked A starts these)) set) (sym s.2) (met_asked A starts [] s.0 s.1 set h)
 
-      all_look_ups : Covers (look_ups_read A d K) (t.look_ups ++ look_ups)
+      all_look_ups : Covers (look_ups_read A d K) (P.table.look_ups ++ look_ups)
       all_look_ups look_up h =
-          elim (Has-append_cases t.look_ups look_ups look_up h) [
+          elim (Has-append_cases P.table.look_ups look_ups look_up h) [
             | inl old ↦ absurd (subst (λ rs. Has rs look_up) new.look_ups old)
             | inr n ↦ some_look_up look_up n
           ]
@@ -247,11 +251,11 @@ module _ (A : Automaton) (K : ℕ → Bool) (d : List ℕ) (t : Tabled) (graph :
 
   -- reading and turning take no more than is built
   pub whole_steps : (ps : List ReadingPlace) → ps ++ end_at (length d) ∷ [] ≡ places K d 0 false → (Q R : Progress) → HasRead A ps P Q → HasEnded A (length d) Q R →
-      AreDistinct (sets_of Q) → R.steps + (2 * R.graph.live + 2) + 1 ≤ before + build A d K
+      AreDistinct (sets_of Q) → R.steps + (2 * length R.graph.cells + 2) + 1 ≤ before + build A d K
   whole_steps ps all Q R read done distinct =
       let few = few_look_ups R.table.look_ups done.sound.asked_apart look_ups_all in
-      let product = times_more (length R.table.look_ups) (length t.look_ups + look_ups_K A d K) (size A) few in
-      omega (arith, read.steps, read.cells, done.steps, done.cells, few, product, edges_all, one_look_up)
+      let product = times_more (length R.table.look_ups) (length P.table.look_ups + look_ups_K A d K) (size A) few in
+      omega (arith, read.steps, read.cells, done.steps, done.cells, few, product, edges_all, one_look_up, one_source)
     where
       last_look_ups : Covers (look_ups_read A d K) (look_ups_asked A (sets_of Q) (ended ∷ []))
       last_look_ups look_up h =
@@ -259,10 +263,10 @@ module _ (A : Automaton) (K : ℕ → Bool) (d : List ℕ) (t : Tabled) (graph :
           (look_ups_right A starts (asks ps) (ended ∷ []) look_up
           (look_ups_covers A (sets_after A starts (asks ps)) (sets_of Q) (ended ∷ []) (λ set k. (layer_sets ps Q read set).0 k) look_up h))
 
-      look_ups_all : (look_up : LookUp) → Has R.table.look_ups look_up → Has t.look_ups look_up ⊎ Has (look_ups_read A d K) look_up
+      look_ups_all : (look_up : LookUp) → Has R.table.look_ups look_up → Has P.table.look_ups look_up ⊎ Has (look_ups_read A d K) look_up
       look_ups_all look_up h =
-          elim (done.table.look_ups look_up h) as (λ _. Has t.look_ups look_up ⊎ Has (look_ups_read A d K) look_up) [
-            | inl old ↦ elim (read.table.look_ups look_up old) as (λ _. Has t.look_ups look_up ⊎ Has (look_ups_read A d K) look_up) [
+          elim (done.table.look_ups look_up h) as (λ _. Has P.table.look_ups look_up ⊎ Has (look_ups_read A d K) look_up) [
+            | inl old ↦ elim (read.table.look_ups look_up old) as (λ _. Has P.table.look_ups look_up ⊎ Has (look_ups_read A d K) look_up) [
               | inl o ↦ inl o
               | inr n ↦ inr (front_look_ups ps (end_at (length d) ∷ []) all look_up n)
             ]
@@ -290,7 +294,7 @@ module _ (A : Automaton) (K : ℕ → Bool) (d : List ℕ) (t : Tabled) (graph :
 
   -- no more cells are live than edges were read, and one
   pub whole_cells : (ps : List ReadingPlace) → ps ++ end_at (length d) ∷ [] ≡ places K d 0 false → (Q R : Progress) → HasRead A ps P Q → HasEnded A (length d) Q R →
-      AreDistinct (sets_of Q) → R.graph.live ≤ edges_K A d K + 1
+      AreDistinct (sets_of Q) → length R.graph.cells ≤ edges_K A d K + 1
   whole_cells ps all Q R read done distinct =
       let a = ap (λ sets. edges_read A sets (asks ps)) starts_are in
       let b = edges_append A starts (asks ps) (ended ∷ []) in

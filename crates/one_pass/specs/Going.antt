@@ -1,7 +1,7 @@
 -- A pass as a value, beside the table that it reads by: where it may go on, and what its acts do.
 use Rattle.std.specs.Prelude.{◌≡◌, ℕ, ◌+◌, List, [], ◌∷◌, take}
 use Rattle.automaton_reading.specs.Reading.{ended, look_ups_asked}
-use Rattle.output_graph.specs.Graph.{Graph, sources}
+use Rattle.output_graph.specs.Graph.{Graph}
 use Rattle.set_table.specs.Tabled.{Tabled}
 use Rattle.set_table.specs.declared.fault.TableFault.{TableFault}
 use Rattle.one_pass.specs.declared.pass.Pass.{Pass}
@@ -10,15 +10,14 @@ use Rattle.one_pass.specs.Ahead.{KnowsWaiting}
 use Rattle.one_pass.specs.Known.{Knows}
 use Rattle.one_pass.specs.Passes.{HasEnded, HasRead, HasStopped, HasStoppedAt, IsReady, Progress, pass, sets_of, stop}
 use Rattle.one_pass.specs.Places.{ReadingPlace, bytes_at, end_at}
-use Rattle.one_pass.specs.Seen.{ending_from, whole}
 
 -- how far the pass has come
 abbrev pub come : Tabled → Pass → ℕ → Progress
-come t p n = pass t (whole p.graph) n
+come t p n = pass t p.graph n
 
 -- it may go on with the table: it stands between two places, and what it knows of layers, and of states that wait, is true
 pub record GoesOn (t : Tabled) (p : Pass) : Type 0 where
-  pub ready : IsReady t (whole p.graph) p.at
+  pub ready : IsReady t p.graph p.at
   pub known : Knows t p.known
   pub waits : KnowsWaiting t.graph.ways p.search.ahead.waiting
 
@@ -39,7 +38,7 @@ pub record GivesUp (ps : List ReadingPlace) (t : Tabled) (p : Pass) (n : ℕ) (u
 
 -- its sources have been ended where it stands, which left this graph
 abbrev pub Ends : Tabled → Pass → ℕ → Tabled → Graph → ℕ → Type 0
-Ends t p n u g m = HasEnded t.graph p.at (come t p n) (pass u (ending_from (sources p.graph) g) m)
+Ends t p n u g m = HasEnded t.graph p.at (come t p n) (pass u g m)
 
 -- or it was given up there
 pub record GivesUpEnd (t : Tabled) (p : Pass) (n : ℕ) (u : Tabled) (m : ℕ) (e : TableFault) : Type 0 where

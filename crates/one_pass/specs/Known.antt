@@ -17,7 +17,6 @@ use Rattle.numbered_lists.specs.Numbered.{set_at}
 use Rattle.one_pass.specs.Entries.{entry_at}
 use Rattle.one_pass.specs.KnownSteps.{KnownStep}
 use Rattle.one_pass.specs.Passes.{AllStayOn}
-use Rattle.one_pass.specs.Seen.{whole}
 
 -- the set of a number was asked for a byte, and these are its edges on it
 pub record IsLookUp (t : Tabled) (b s : ℕ) (group : Edges) : Type 0 where
@@ -83,5 +82,5 @@ KeepsKnown old new = (t : Tabled) → Knows t old → Knows t new
 
 -- the layer of the graph has this number; or else its sets stay on the bytes that are kept of it
 abbrev pub Stands : Tabled → Graph → Known → Option ℕ → Type 0
-Stands t g known None = (b : ℕ) → b < 256 → IsTrue (bytes.contains known.stays b) → AllStayOn t (whole g) b
+Stands t g known None = (b : ℕ) → b < 256 → IsTrue (bytes.contains known.stays b) → AllStayOn t g b
 Stands t g known (Some k) = slice_get known.layers k ≡ Some (sets_of g.layer)

@@ -5,10 +5,10 @@ use Rattle.span_core.specs.Intervals.{AreApart, Covers}
 use Rattle.marked_automaton.specs.Automaton.{Automaton}
 use Rattle.automaton_reading.specs.Reading.{questions, edges_K, look_ups_asked, set_of, weight_K}
 use Rattle.automaton_reading.specs.Chosen.{IsReadWith}
-use Rattle.set_table.specs.Tabled.{Tabled}
-use Rattle.one_pass.specs.Words.{Word}
-use Rattle.one_pass.specs.Builds.{IsNew, build, started}
+use Rattle.node_arena.specs.Words.{Word}
+use Rattle.one_pass.specs.Builds.{IsNew, IsStarted, build}
 use Rattle.one_pass.specs.Places.{ReadingPlace, AreReadWords, Leads, asks, byte_at, bytes_at, end_at, is_touched, parts_places, places, sets_after, sets_met, word_of}
+use Rattle.one_pass.specs.Seen.{accepted_words}
 use Rattle.one_pass.specs.Passes.{AllLeadBack, AllStayOn, AreGiven, Progress, Stop, sets_of, HasEnded, HasRead, HasStopped, IsExcess, IsReady, Reaches}
 
 -- choices of edges at the places of a document make the words that are read
@@ -29,8 +29,8 @@ pub record IsLayerLaw (A : Automaton) (ps : List ReadingPlace) (Q : Progress) : 
 
 abbrev pub LayerLaw : Type 0
 LayerLaw =
-    (A : Automaton) (t : Tabled) (before : ℕ) (ps : List ReadingPlace) (Q : Progress) →
-    IsNew A t → HasRead A ps (started t before) Q → IsLayerLaw A ps Q
+    (A : Automaton) (before : ℕ) (ps : List ReadingPlace) (P Q : Progress) →
+    IsNew A P.table → IsStarted before P → HasRead A ps P Q → IsLayerLaw A ps Q
 
 -- places may be read one after another
 abbrev pub StepLaw : Type 0
@@ -50,29 +50,29 @@ BackLaw = (P : Progress) (i : ℕ) (bytes : List ℕ) → AllLeadBack P.table P.
 
 -- the whole document: the words, the steps with those of turning, and the cells
 pub record IsWholeLaw (A : Automaton) (K : ℕ → Bool) (d : List ℕ) (before : ℕ) (R : Progress) : Type 0 where
-  pub words : AreReadWords A K d R.graph.accepted
-  pub steps : R.steps + (2 * R.graph.live + 2) + 1 ≤ before + build A d K
-  pub cells : R.graph.live ≤ edges_K A d K + 1
+  pub words : AreReadWords A K d (accepted_words R.graph)
+  pub steps : R.steps + (2 * length R.graph.cells + 2) + 1 ≤ before + build A d K
+  pub cells : length R.graph.cells ≤ edges_K A d K + 1
 
 abbrev pub WholeLaw : Type 0
 WholeLaw =
-    (A : Automaton) (K : ℕ → Bool) (d : List ℕ) (t : Tabled) (before : ℕ) (ps : List ReadingPlace) (Q R : Progress) →
-    IsNew A t → ps ++ end_at (length d) ∷ [] ≡ places K d 0 false → HasRead A ps (started t before) Q → IsReady Q.table Q.graph (length d) →
+    (A : Automaton) (K : ℕ → Bool) (d : List ℕ) (before : ℕ) (ps : List ReadingPlace) (P Q R : Progress) →
+    IsNew A P.table → IsStarted before P → ps ++ end_at (length d) ∷ [] ≡ places K d 0 false → HasRead A ps P Q → IsReady Q.table Q.graph (length d) →
     HasEnded A (length d) Q R → IsWholeLaw A K d before R
 
 -- what was given up took no more steps
 abbrev pub StopLaw : Type 0
 StopLaw =
-    (A : Automaton) (K : ℕ → Bool) (d : List ℕ) (t : Tabled) (before : ℕ) (after : Stop) (ps rest : List ReadingPlace) →
-    IsNew A t → ps ++ rest ≡ places K d 0 false → HasStopped A ps (started t before) after → after.steps + 1 ≤ before + build A d K
+    (A : Automaton) (K : ℕ → Bool) (d : List ℕ) (before : ℕ) (P : Progress) (after : Stop) (ps rest : List ReadingPlace) →
+    IsNew A P.table → IsStarted before P → ps ++ rest ≡ places K d 0 false → HasStopped A ps P after → after.steps + 1 ≤ before + build A d K
 
 -- what the table would have weighed when it refused is more than its limit, and no more than the whole reading weighs
 abbrev pub FullLaw : Type 0
 FullLaw =
-    (A : Automaton) (K : ℕ → Bool) (d : List ℕ) (t : Tabled) (before : ℕ) (ps : List ReadingPlace) (q : ReadingPlace) (rest : List ReadingPlace) (weight : ℕ) →
-    IsNew A t → ps ++ q ∷ rest ≡ places K d 0 false →
-    IsExcess t (sets_met A (sets_of (started t before)) (asks ps)) (look_ups_asked A (sets_of (started t before)) (asks ps)) weight →
-    (t.limit < weight) × (weight ≤ weight_K A d K)
+    (A : Automaton) (K : ℕ → Bool) (d : List ℕ) (before : ℕ) (P : Progress) (ps : List ReadingPlace) (q : ReadingPlace) (rest : List ReadingPlace) (weight : ℕ) →
+    IsNew A P.table → IsStarted before P → ps ++ q ∷ rest ≡ places K d 0 false →
+    IsExcess P.table (sets_met A (sets_of P) (asks ps)) (look_ups_asked A (sets_of P) (asks ps)) weight →
+    (P.table.limit < weight) × (weight ≤ weight_K A d K)
 
 -- a document is read by its intervals, whose positions are those that they cover
 pub record ArePartLaws (parts : List (ℕ × ℕ)) (d : List ℕ) : Type 0 where

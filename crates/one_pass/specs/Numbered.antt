@@ -1,17 +1,17 @@
 -- A pass in a layer that is told by its number: its graph has the cells, but may name the sets of a layer before.
-use Rattle.std.specs.Prelude.{◌≡◌, ℕ, ◌+◌, ◌<◌, ◌≤◌, List, length, slice_index, Option, Some, None}
+use Rattle.std.specs.Prelude.{◌≡◌, ℕ, ◌+◌, ◌<◌, ◌≤◌, List, length, Option, Some, None}
 use Rattle.span_core.specs.Lists.{AreDistinct}
-use Rattle.output_graph.specs.Graph.{Graph}
+use Rattle.output_graph.specs.declared.planned.Planned.{Planned}
+use Rattle.output_graph.specs.Graph.{AreApart, Graph, sources}
 use Rattle.output_graph.specs.Named.{renamed}
+use Rattle.output_graph.specs.Planned.{AreRun, AreWithin, MayRun}
 use Rattle.set_table.specs.Tabled.{Tabled}
-use Rattle.one_pass.specs.declared.bytes.Glided.{Glided}
 use Rattle.one_pass.specs.declared.bytes.Place.{Place}
-use Rattle.one_pass.specs.declared.entries.Entry.{Entry}
-use Rattle.one_pass.specs.declared.entries.Entry.TheVariants.{Unknown, Glide, Run}
 use Rattle.one_pass.specs.declared.known.Known.{Known}
 use Rattle.one_pass.specs.declared.pass.Pass.{Pass}
 use Rattle.one_pass.specs.Going.{IsAdvanced}
-use Rattle.one_pass.specs.Known.{IsEntry, Stands, layer_at}
+use Rattle.one_pass.specs.Known.{Stands, layer_at}
+use Rattle.one_pass.specs.KnownSteps.{programs_of}
 
 -- the graph with the sets of the layer of this number, if there is one
 abbrev pub in_layer : List (List ℕ) → Option ℕ → Graph → Graph
@@ -39,18 +39,19 @@ pub record IsReadTo (bytes : List ℕ) (t : Tabled) (k : Option ℕ) (p : Pass) 
   pub stands : StandsIn u q.graph q.known place.layer
   pub within : place.bytes ≤ length bytes
 
--- the pass behind so many bytes more
-abbrev pub moved : ℕ → Pass → Pass
-moved j p = record { graph = p.graph; known = p.known; search = p.search; at = p.at + j }
+-- the pass with another graph, behind so many bytes more
+abbrev pub moved : Graph → ℕ → Pass → Pass
+moved g j p = record { graph = g; known = p.known; search = p.search; at = p.at + j }
 
--- an entry of the layer of this number for a byte, if it is to be run, is true
-abbrev pub IsToRun : Tabled → Known → ℕ → ℕ → Entry → Type 0
-IsToRun t known k b Unknown = Unit {0}
-IsToRun t known k b (Glide next) = Unit {0}
-IsToRun t known k b (Run step) = IsEntry t known.layers known.steps b (layer_at known.layers k) (Run step)
+-- once programs have been run, which left this graph, so many bytes at the front of these are read
+pub record IsLed (bytes : List ℕ) (t : Tabled) (k : ℕ) (p : Pass) (n : ℕ) (g : Graph) (next j m : ℕ) : Type 0 where
+  pub advanced : IsAdvanced t (as_layer (Some k) p) n bytes j t (as_layer (Some next) (moved g j p)) m
+  pub stands : IsNumbered g p.known.layers next
+  pub apart : AreApart (sources g)
 
--- it has glided over some bytes at the front of these, in the layer of a number, and ended on an entry
-pub record IsGlidedTo (bytes : List ℕ) (t : Tabled) (k : ℕ) (p : Pass) (n : ℕ) (g : Glided) : Type 0 where
-  pub advanced : IsAdvanced t (as_layer (Some k) p) n bytes g.bytes t (as_layer (Some g.layer) (moved g.bytes p)) n
-  pub stands : IsNumbered p.graph p.known.layers g.layer
-  pub entry : g.bytes < length bytes → IsToRun t p.known g.layer (slice_index bytes g.bytes) g.entry
+-- it has looked ahead over so many bytes at the front of these, from the layer of a number to that of another, by these programs
+pub record IsAhead (bytes : List ℕ) (t : Tabled) (k : ℕ) (p : Pass) (plan : List Planned) (next j : ℕ) : Type 0 where
+  pub there : next < length p.known.layers
+  pub within : AreWithin (length (programs_of p.known.steps)) plan
+  pub may : (n : ℕ) → MayRun (programs_of p.known.steps) plan p.graph n
+  pub led : (g : Graph) (n m : ℕ) → AreRun (programs_of p.known.steps) plan p.graph g n m → IsLed bytes t k p n g next j m

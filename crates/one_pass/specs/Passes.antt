@@ -6,9 +6,8 @@ use Rattle.marked_automaton.specs.Automaton.{Automaton, size}
 use Rattle.automaton_reading.specs.Reading.{LookUp, ended, once, look_up_same, look_ups_asked}
 use Rattle.set_table.specs.Tabled.{IsTabled, Stays, Tabled, look_ups_weight, sets_weight}
 use Rattle.numbered_lists.specs.Numbered.{set_at}
-use Rattle.one_pass.specs.Words.{Word}
-use Rattle.output_graph.specs.Graph.{Source}
-use Rattle.one_pass.specs.Layers.{GraphView, IsPast, numbers_of}
+use Rattle.node_arena.specs.Words.{Word}
+use Rattle.output_graph.specs.Graph.{Graph, HasWord, IsPast, Source, sets_of as numbers_in, sources, targets}
 use Rattle.one_pass.specs.Making.{making_read}
 use Rattle.one_pass.specs.Places.{ReadingPlace, Leads, asks, edges_read, end_at, sets_after, sets_met, sets_on}
 use Rattle.one_pass.specs.Waiting.{LeadsBack}
@@ -17,46 +16,46 @@ use Rattle.one_pass.specs.Weights.{IsDue, Tells}
 -- how far a pass has come: the table, the graph, and the steps that were taken
 pub record Progress : Type 0 where
   pub table : Tabled
-  pub graph : GraphView
+  pub graph : Graph
   pub steps : ℕ
 
-abbrev pub pass : Tabled → GraphView → ℕ → Progress
+abbrev pub pass : Tabled → Graph → ℕ → Progress
 pass t g n = record { table = t; graph = g; steps = n }
 
 -- the sets of the layer
 abbrev pub sets_of : Progress → List (List ℕ)
-sets_of P = map (λ (x : Source). set_at P.table.sets x.set) P.graph.layer
+sets_of P = map (λ (x : Source). set_at P.table.sets x.set) (sources P.graph)
 
 -- the word reaches the set
 abbrev pub Reaches : Progress → List ℕ → Word → Type 0
-Reaches P set w = (x : Source) × Has P.graph.layer x × (set_at P.table.sets x.set ≡ set) × Has x.words w
+Reaches P set w = (x : Source) × Has (sources P.graph) x × (set_at P.table.sets x.set ≡ set) × Has x.words w
 
 -- the sets of the layer are sets of the table
-abbrev pub AreGiven : Tabled → GraphView → Type 0
-AreGiven t g = (x : Source) → Has g.layer x → x.set < length t.sets
+abbrev pub AreGiven : Tabled → Graph → Type 0
+AreGiven t g = (x : Source) → Has (sources g) x → x.set < length t.sets
 
 -- each of them has one edge on the byte, without marks and to itself
-abbrev pub AllStayOn : Tabled → GraphView → ℕ → Type 0
-AllStayOn t g b = (x : Source) → Has g.layer x → Stays t x.set b
+abbrev pub AllStayOn : Tabled → Graph → ℕ → Type 0
+AllStayOn t g b = (x : Source) → Has (sources g) x → Stays t x.set b
 
 -- each of them leads over these bytes to itself alone, without marks
-abbrev pub AllLeadBack : Tabled → GraphView → List ℕ → Type 0
-AllLeadBack t g bytes = (x : Source) → Has g.layer x → LeadsBack t.graph (set_at t.sets x.set) bytes
+abbrev pub AllLeadBack : Tabled → Graph → List ℕ → Type 0
+AllLeadBack t g bytes = (x : Source) → Has (sources g) x → LeadsBack t.graph (set_at t.sets x.set) bytes
 
 -- between two places: no source of the layer has been stepped, and all that it has stands before `at`
-pub record IsReady (t : Tabled) (g : GraphView) (at : ℕ) : Type 0 where
+pub record IsReady (t : Tabled) (g : Graph) (at : ℕ) : Type 0 where
   pub sound : IsTabled t
   pub given : AreGiven t g
-  pub apart : AreDistinct (numbers_of g.layer)
-  pub fresh : (g.stepped ≡ 0) × (g.next ≡ []) × (g.accepted ≡ [])
-  pub past : IsPast g.layer at
+  pub apart : AreDistinct (numbers_in g.layer)
+  pub fresh : (g.stepped ≡ 0) × (g.next ≡ [])
+  pub past : IsPast (sources g) at
 
 -- what a caller knows between two places: no source of the layer has been stepped, its sets are sets of the table, and
 -- all that it has stands before `at`
-pub record IsOpen (t : Tabled) (g : GraphView) (at : ℕ) : Type 0 where
+pub record IsOpen (t : Tabled) (g : Graph) (at : ℕ) : Type 0 where
   pub fresh : (g.stepped ≡ 0) × (g.next ≡ [])
   pub given : AreGiven t g
-  pub past : IsPast g.layer at
+  pub past : IsPast (sources g) at
 
 -- the table has these sets and look-ups more, or some of them
 pub record HasGrown (old new : Tabled) (more_sets : List (List ℕ)) (more_look_ups : List LookUp) : Type 0 where
@@ -89,11 +88,11 @@ pub record HasRead (A : Automaton) (ps : List ReadingPlace) (P Q : Progress) : T
   -- the sizes of the layers and of the graph pay for the steps, with 6 for each edge and the automaton's size
   -- for each look-up that was made
   pub steps :
-      Q.steps + Q.graph.live + 3 * length Q.graph.layer + length P.table.look_ups * size A
-      ≤ P.steps + P.graph.live + 3 * length P.graph.layer + 6 * edges_read A (sets_of P) (asks ps) + length Q.table.look_ups * size A
-  pub cells : Q.graph.live ≤ P.graph.live + edges_read A (sets_of P) (asks ps)
+      Q.steps + length Q.graph.cells + 3 * length (sources Q.graph) + length P.table.look_ups * size A
+      ≤ P.steps + length P.graph.cells + 3 * length (sources P.graph) + 6 * edges_read A (sets_of P) (asks ps) + length Q.table.look_ups * size A
+  pub cells : length Q.graph.cells ≤ length P.graph.cells + edges_read A (sets_of P) (asks ps)
   -- only making edges let the number of live cells rise
-  pub rise : Q.graph.live ≤ P.graph.live + making_read A (sets_of P) (asks ps)
+  pub rise : length Q.graph.cells ≤ length P.graph.cells + making_read A (sets_of P) (asks ps)
 
 -- what is left where reading was given up
 pub record Stop : Type 0 where
@@ -114,7 +113,7 @@ pub record StopsWithin (A : Automaton) (ps : List ReadingPlace) (P : Progress) (
   pub look_ups : (look_up : LookUp) → Has made look_up → Has P.table.look_ups look_up ⊎ Has (look_ups_asked A (sets_of P) (asks ps)) look_up
   pub steps :
       S.steps + length P.table.look_ups * size A
-      ≤ P.steps + P.graph.live + 3 * length P.graph.layer + for_edges + length made * size A
+      ≤ P.steps + length P.graph.cells + 3 * length (sources P.graph) + for_edges + length made * size A
 
 -- with 6 for each edge where places are read
 abbrev pub HasStopped : Automaton → List ReadingPlace → Progress → Stop → Type 0
@@ -133,16 +132,16 @@ pub record IsExcess (t : Tabled) (sets : List (List ℕ)) (look_ups : List LookU
   pub more : t.limit < weight
   pub most : weight ≤ weight_of t.graph (t.sets ++ sets) (t.look_ups ++ look_ups)
 
--- the sources of the layer have been ended at n
+-- the sources of the layer have been ended at n, by edges to the set 0
 pub record HasEnded (A : Automaton) (n : ℕ) (P Q : Progress) : Type 0 where
   pub words :
       (w : Word) →
-      Has Q.graph.accepted w ↔ ((from : List ℕ) × (u v : Word) × Reaches P from u × Leads A (end_at n ∷ []) from v [] × (u ++ v ≡ w))
-  pub every : Q.graph.stepped ≡ length Q.graph.layer
+      HasWord (targets Q.graph) 0 w ↔ ((from : List ℕ) × (u v : Word) × Reaches P from u × Leads A (end_at n ∷ []) from v [] × (u ++ v ≡ w))
+  pub every : Q.graph.stepped ≡ length (sources P.graph)
   pub table : HasGrown P.table Q.table [] (look_ups_asked A (sets_of P) (ended ∷ []))
   pub holds : (look_up : LookUp) → Has (look_ups_asked A (sets_of P) (ended ∷ [])) look_up → Has Q.table.look_ups look_up
   pub sound : IsTabled Q.table
   pub steps :
-      Q.steps + Q.graph.live + length P.table.look_ups * size A
-      ≤ P.steps + P.graph.live + 3 * length P.graph.layer + 3 * edges_read A (sets_of P) (ended ∷ []) + length Q.table.look_ups * size A
-  pub cells : Q.graph.live ≤ P.graph.live + edges_read A (sets_of P) (ended ∷ [])
+      Q.steps + length Q.graph.cells + length P.table.look_ups * size A
+      ≤ P.steps + length P.graph.cells + 3 * length (sources P.graph) + 3 * edges_read A (sets_of P) (ended ∷ []) + length Q.table.look_ups * size A
+  pub cells : length Q.graph.cells ≤ length P.graph.cells + edges_read A (sets_of P) (ended ∷ [])

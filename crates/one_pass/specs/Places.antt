@@ -5,7 +5,8 @@ use Rattle.span_core.specs.Lists.{Has}
 use Rattle.marked_automaton.specs.Automaton.{Automaton}
 use Rattle.automaton_reading.specs.Reading.{Question, byte_read, rest_taken, ended, Reach, edges, next_sets, look_ups_asked, look_up_edges}
 use Rattle.automaton_reading.specs.Chosen.{IsReadWith}
-use Rattle.one_pass.specs.Words.{Word, block_word}
+use Rattle.node_arena.specs.Words.{Word}
+use Rattle.output_graph.specs.Forward.{mark_block}
 
 -- a position, and what is asked there of each set
 pub record ReadingPlace : Type 0 where
@@ -47,12 +48,12 @@ asks ps = map (λ (p : ReadingPlace). p.ask) ps
 abbrev pub Leads : Automaton → List ReadingPlace → List ℕ → Word → List ℕ → Type 0
 Leads A [] from word to = (word ≡ []) × (from ≡ to)
 Leads A (p ∷ later) from word to =
-    (e : Reach) × Has (edges A from p.ask) e × (rest : Word) × (block_word p.at e.marks ++ rest ≡ word) × Leads A later e.to rest to
+    (e : Reach) × Has (edges A from p.ask) e × (rest : Word) × (mark_block p.at e.marks ++ rest ≡ word) × Leads A later e.to rest to
 
 -- the blocks that w has at the position i and at so many behind it
 abbrev pub word_from : (ℕ → ℕ) → ℕ → ℕ → Word
-word_from w i zero = block_word i (w i)
-word_from w i (suc n) = block_word i (w i) ++ word_from w (suc i) n
+word_from w i zero = mark_block i (w i)
+word_from w i (suc n) = mark_block i (w i) ++ word_from w (suc i) n
 
 -- the word of a document of length n whose position i has the block w i
 abbrev pub word_of : (ℕ → ℕ) → ℕ → Word

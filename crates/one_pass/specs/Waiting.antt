@@ -4,7 +4,7 @@ use Rattle.span_core.specs.Lists.{Has}
 use Rattle.marked_automaton.specs.declared.way.Way.{Way}
 use Rattle.marked_automaton.specs.Automaton.{Automaton, ByteClass, HasByte}
 use Rattle.one_pass.specs.Places.{Leads, ReadingPlace, bytes_at}
-use Rattle.one_pass.specs.Words.{Word}
+use Rattle.node_arena.specs.Words.{Word}
 
 -- over these places the set leads to itself alone, without marks
 abbrev pub LeadsHome : Automaton → List ReadingPlace → List ℕ → Type 0

@@ -2,18 +2,19 @@
 //!
 //! Where it is known what the layer does on a byte, one look-up tells it. Where each set hands its cell on, only the number of
 //! the layer changes: the names of its sets are written when something looks at them. Else a program steps all
-//! sets at once; or, where nothing is known, the sources are stepped one by one, and what they did is kept.
-ghost use Rattle.std.specs.Prelude.{◌≡◌, ℕ, ◌+◌, ◌*◌, ◌^◌, ◌<◌, ◌≤◌, [], ◌∷◌, length, IfErr, IfOk, IfSome, OnErr, OnOk, Some, None};
-ghost use Rattle.one_pass.specs.declared.entries.Entry.TheVariants.{Run as run};
+//! sets at once: programs are noted over some bytes, and then run one behind another, so that room for cells is asked for once.
+//! Where nothing is known, the sources are stepped one by one, and what they did is kept.
+ghost use Rattle.std.specs.Prelude.{◌≡◌, ℕ, ◌+◌, ◌*◌, ◌^◌, ◌<◌, ◌≤◌, [], ◌∷◌, length, take, IfErr, IfOk, IfSome, OnOk, Some, None};
 ghost use Rattle.one_pass.specs.Going.{GivesUp, GoesOn, Reads};
-ghost use Rattle.one_pass.specs.Known.{IsEntry, Stands, layer_at};
-ghost use Rattle.one_pass.specs.Numbered.{IsGlidedTo, IsNumbered, IsReadTo, IsToRun, StandsIn, as_layer};
+ghost use Rattle.one_pass.specs.Known.{Stands};
+ghost use Rattle.one_pass.specs.Numbered.{IsAhead, IsNumbered, IsReadTo, StandsIn, as_layer};
 ghost use Rattle.one_pass.specs.Places.{byte_at, bytes_at};
 
 use crate::entries::Entry;
 use crate::pass::Pass;
-use crate::search::{QUIET, quiet_at};
+use crate::search::QUIET;
 use crate::waiting::waits;
+use output_graph::Planned;
 use set_table::{Table, TableFault};
 use span_core::Steps;
 use std::sync::ledger::Ledger;
@@ -25,15 +26,18 @@ pub(crate) struct Place {
     pub(crate) bytes: usize,
 }
 
-/// Where gliding has come to: behind so many of some bytes, in the layer of this number. It ended on this entry: that of the
-/// byte behind them, or of the last of them, where the layer has been the same for a while.
+/// Where looking ahead has come to: behind so many of some bytes, in the layer of this number, which counts as unchanged for so
+/// many bytes; so many programs have been noted.
 #[derive(Clone, Copy, Drop)]
-pub(crate) struct Glided {
+pub(crate) struct Outlook {
     pub(crate) layer: usize,
     pub(crate) bytes: usize,
     pub(crate) quiet: u32,
-    pub(crate) entry: Entry,
+    pub(crate) count: usize,
 }
+
+/// So many programs are noted before they are run.
+const MOST_PLANNED: usize = 16;
 
 impl Pass {
     /// Reads some bytes at the front of these, in the layer of a number, if it has one: at least one, if there is one.
@@ -58,7 +62,7 @@ impl Pass {
         }
     }
 
-    /// As `read_some`, where the layer has a number.
+    /// As `read_some`, where the layer has a number. If memory runs out, no program is run.
     #[inline(always)]
     fn read_numbered<L: Ledger>(
         &mut self,
@@ -74,20 +78,58 @@ impl Pass {
         ensures some { IfOk result (λ place. 0 < length bytes.now → 0 < place.bytes) }
         ensures given_up { IfErr result (GivesUp (bytes_at self.old.at bytes.now) table.old (as_layer (Some layer) self.old) steps.old table.new steps.new) }
     {
-        let glided = self.glide(table, layer, bytes);
-        self.at += glided.bytes as u32;
-        self.search.quiet = glided.quiet;
-        if glided.bytes == bytes.len() || (glided.bytes > 0 && is_glide(glided.entry)) {
+        let mut planned = [Planned { at: 0, program: 0 }; MOST_PLANNED];
+        let outlook = self.look_ahead(table, layer, bytes, &mut planned);
+        if outlook.bytes == 0 {
+            return self.read_next(table, layer, bytes, steps);
+        }
+        let noted = &planned[..outlook.count];
+        match self
+            .graph
+            .run_programs(self.known.steps.programs(), noted, steps)
+        {
+            Ok(()) => {
+                self.at += outlook.bytes as u32;
+                self.search.quiet = outlook.quiet;
+                Ok(Place {
+                    layer: Some(outlook.layer),
+                    bytes: outlook.bytes,
+                })
+            }
+            Err(_) => self.read_next(table, layer, bytes, steps),
+        }
+    }
+
+    /// As `read_numbered`, but runs no program: the first byte on which cells are not only handed on is read source by source.
+    #[cold]
+    #[inline(never)]
+    fn read_next<L: Ledger>(
+        &mut self,
+        table: &mut Table<'_>,
+        layer: usize,
+        bytes: &[u8],
+        steps: &mut Steps<L>,
+    ) -> Result<Place, TableFault>
+        requires goes_on { GoesOn table.old (as_layer (Some layer) self.old) }
+        requires stands { IsNumbered self.old.graph self.old.known.layers layer }
+        requires few { self.old.at + length bytes.now < 2 ^ 32 }
+        ensures read { IfOk result (λ place. IsReadTo bytes.now table.old (Some layer) self.old steps.old place table.new self.new steps.new) }
+        ensures some { IfOk result (λ place. 0 < length bytes.now → 0 < place.bytes) }
+        ensures given_up { IfErr result (GivesUp (bytes_at self.old.at bytes.now) table.old (as_layer (Some layer) self.old) steps.old table.new steps.new) }
+    {
+        let outlook = self.look_ahead(table, layer, bytes, &mut []);
+        self.at += outlook.bytes as u32;
+        self.search.quiet = outlook.quiet;
+        if outlook.bytes == bytes.len() {
             return Ok(Place {
-                layer: Some(glided.layer),
-                bytes: glided.bytes,
+                layer: Some(outlook.layer),
+                bytes: outlook.bytes,
             });
         }
-        let byte = bytes[glided.bytes];
-        match self.read_byte(table, glided.layer, glided.entry, byte, steps) {
+        match self.read_unknown(table, Some(outlook.layer), bytes[outlook.bytes], steps) {
             Ok(next) => Ok(Place {
                 layer: next,
-                bytes: glided.bytes + 1,
+                bytes: outlook.bytes + 1,
             }),
             Err(fault) => Err(fault),
         }
@@ -122,140 +164,96 @@ impl Pass {
         }
     }
 
-    /// How far cells are only handed on, over bytes at the front of these. It ends where the layer has been the same for a
-    /// while.
+    /// Follows what is entered for the bytes at the front of these, and notes the programs, as far as there is room for them.
+    /// It ends where nothing is entered, and where the layer has been the same for a while.
     #[inline(always)]
-    fn glide(&self, table: &Table<'_>, layer: usize, bytes: &[u8]) -> Glided
+    fn look_ahead(
+        &self,
+        table: &Table<'_>,
+        layer: usize,
+        bytes: &[u8],
+        planned: &mut [Planned],
+    ) -> Outlook
         requires goes_on { GoesOn table.now (as_layer (Some layer) self.now) }
         requires stands { IsNumbered self.now.graph self.now.known.layers layer }
         requires few { self.now.at + length bytes.now < 2 ^ 32 }
-        ensures read { (n : ℕ) → IsGlidedTo bytes.now table.now layer self.now n result }
+        ensures ahead { IsAhead bytes.now table.now layer self.now (take result.count planned.new) result.layer result.bytes }
         ensures within { result.bytes ≤ length bytes.now }
+        ensures noted { result.count ≤ length planned.old }
     {
         self.graph.is_graph();
-        let far = self.search.far;
-        let mut quiet = self.search.quiet;
-        let mut number = layer;
-        for k in 0..bytes.len() {
-            let entry = self.known.entry(number, bytes[k]);
-            let Entry::Glide(next) = entry else {
-                return Glided {
-                    layer: number,
-                    bytes: k,
-                    quiet,
-                    entry,
-                };
-            };
-            quiet = quiet_at(Some(number), Some(next as usize), far, quiet);
-            number = next as usize;
-            if quiet >= QUIET {
-                return Glided {
-                    layer: number,
-                    bytes: k + 1,
-                    quiet,
-                    entry: Entry::Glide(next),
-                };
+        let mut outlook = Outlook {
+            layer,
+            bytes: 0,
+            quiet: self.search.quiet,
+            count: 0,
+        };
+        while outlook.bytes < bytes.len() && outlook.quiet < QUIET {
+            match self.follow(table, layer, bytes, outlook, planned) {
+                Some(next) => outlook = next,
+                None => return outlook,
             }
         }
-        Glided {
-            layer: number,
-            bytes: bytes.len(),
-            quiet,
-            entry: Entry::Unknown,
-        }
+        outlook
     }
 
-    /// Reads a byte, for which this is entered of the layer of a number, and tells the number of the next one, if it has one. If
-    /// memory runs out, or no program is entered, it is read source by source.
+    /// Follows what is entered for the next byte, if something is, and notes its program, if it is one and there is room.
     #[inline(always)]
-    fn read_byte<L: Ledger>(
-        &mut self,
-        table: &mut Table<'_>,
-        layer: usize,
-        entry: Entry,
-        byte: u8,
-        steps: &mut Steps<L>,
-    ) -> Result<Option<usize>, TableFault>
-        requires goes_on { GoesOn table.old (as_layer (Some layer) self.old) }
-        requires stands { IsNumbered self.old.graph self.old.known.layers layer }
-        requires entry { IsToRun table.old self.old.known layer byte entry }
-        requires few { self.old.at + 1 < 2 ^ 32 }
-        ensures read { IfOk result (λ next. Reads (byte_at self.old.at byte ∷ []) table.old (as_layer (Some layer) self.old) steps.old table.new (as_layer next self.new) steps.new) }
-        ensures at { OnOk result (self.new.at ≡ self.old.at + 1) }
-        ensures stands { IfOk result (λ next. StandsIn table.new self.new.graph self.new.known next) }
-        ensures given_up { IfErr result (GivesUp (byte_at self.old.at byte ∷ []) table.old (as_layer (Some layer) self.old) steps.old table.new steps.new) }
-    {
-        if let Some(next) = self.run_known(table, layer, entry, byte, steps) {
-            return Ok(Some(next));
-        }
-        self.read_unknown(table, Some(layer), byte, steps)
-    }
-
-    /// Reads a byte by the program that is entered for it, if one is, and tells the number of the next layer. If memory runs
-    /// out, nothing is done.
-    #[inline(always)]
-    fn run_known<L: Ledger>(
-        &mut self,
+    fn follow(
+        &self,
         table: &Table<'_>,
         layer: usize,
-        entry: Entry,
-        byte: u8,
-        steps: &mut Steps<L>,
-    ) -> Option<usize>
-        requires goes_on { GoesOn table.now (as_layer (Some layer) self.old) }
-        requires stands { IsNumbered self.old.graph self.old.known.layers layer }
-        requires entry { IsToRun table.now self.old.known layer byte entry }
-        requires few { self.old.at + 1 < 2 ^ 32 }
-        ensures read { IfSome result (λ next. Reads (byte_at self.old.at byte ∷ []) table.now (as_layer (Some layer) self.old) steps.old table.now (as_layer (Some next) self.new) steps.new) }
-        ensures at { IfSome result (λ _. self.new.at ≡ self.old.at + 1) }
-        ensures stands { IfSome result (λ next. IsNumbered self.new.graph self.new.known.layers next) }
-        ensures nothing { result ≡ None → self.new ≡ self.old }
-        ensures steps { result ≡ None → steps.new ≡ steps.old }
+        bytes: &[u8],
+        outlook: Outlook,
+        planned: &mut [Planned],
+    ) -> Option<Outlook>
+        requires goes_on { GoesOn table.now (as_layer (Some layer) self.now) }
+        requires ahead { IsAhead bytes.now table.now layer self.now (take outlook.count planned.old) outlook.layer outlook.bytes }
+        requires left { outlook.bytes < length bytes.now }
+        requires noted { outlook.count ≤ length planned.old }
+        requires few { self.now.at + length bytes.now < 2 ^ 32 }
+        ensures ahead { IfSome result (λ o. IsAhead bytes.now table.now layer self.now (take o.count planned.new) o.layer o.bytes) }
+        ensures next { IfSome result (λ o. o.bytes ≡ outlook.bytes + 1) }
+        ensures noted { IfSome result (λ o. o.count ≤ length planned.old) }
+        ensures nothing { result ≡ None → planned.new ≡ planned.old }
     {
-        match entry {
-            Entry::Run(step) => self.run_step(table, layer, step, byte, steps),
-            Entry::Glide(_) => None,
+        match self.known.entry(outlook.layer, bytes[outlook.bytes]) {
+            Entry::Glide(next) => Some(self.led(outlook, next as usize, outlook.count)),
+            Entry::Run(step) => {
+                if outlook.count >= planned.len() {
+                    return None;
+                }
+                planned[outlook.count] = Planned {
+                    at: self.at + outlook.bytes as u32,
+                    program: step,
+                };
+                let next = self.known.steps.next(step as usize);
+                Some(self.led(outlook, next, outlook.count + 1))
+            }
             Entry::Unknown => None,
         }
     }
 
-    /// As `run_known`, by the step of a number. `table` and `byte` are read by the clauses alone.
+    /// One byte further, in the layer of this number, where so many programs have been noted.
     #[inline(always)]
-    fn run_step<L: Ledger>(
-        &mut self,
-        table: &Table<'_>,
-        layer: usize,
-        step: u32,
-        byte: u8,
-        steps: &mut Steps<L>,
-    ) -> Option<usize>
-        requires goes_on { GoesOn table.now (as_layer (Some layer) self.old) }
-        requires stands { IsNumbered self.old.graph self.old.known.layers layer }
-        requires entry { IsEntry table.now self.old.known.layers self.old.known.steps byte (layer_at self.old.known.layers layer) (run step) }
-        requires few { self.old.at + 1 < 2 ^ 32 }
-        ensures read { IfSome result (λ next. Reads (byte_at self.old.at byte ∷ []) table.now (as_layer (Some layer) self.old) steps.old table.now (as_layer (Some next) self.new) steps.new) }
-        ensures at { IfSome result (λ _. self.new.at ≡ self.old.at + 1) }
-        ensures stands { IfSome result (λ next. IsNumbered self.new.graph self.new.known.layers next) }
-        ensures nothing { result ≡ None → self.new ≡ self.old }
-        ensures steps { result ≡ None → steps.new ≡ steps.old }
+    fn led(&self, outlook: Outlook, layer: usize, count: usize) -> Outlook
+        requires { self.now.at + outlook.bytes < 2 ^ 32 }
+        ensures layer { result.layer ≡ layer }
+        ensures bytes { result.bytes ≡ outlook.bytes + 1 }
+        ensures count { result.count ≡ count }
     {
-        let k = step as usize;
-        match self
-            .graph
-            .run_program(self.at, self.known.steps.programs(), k, steps)
-        {
-            Ok(()) => {
-                let next = self.known.steps.next(k);
-                self.at += 1;
-                self.search.quiet = quiet_at(
-                    Some(layer),
-                    Some(next),
-                    self.search.far,
-                    self.search.quiet,
-                );
-                Some(next)
-            }
-            Err(_) => None,
+        let bytes = outlook.bytes + 1;
+        let quiet = self.search.quiet_at(
+            Some(outlook.layer),
+            Some(layer),
+            outlook.quiet,
+            self.at as usize + bytes,
+        );
+        Outlook {
+            layer,
+            bytes,
+            quiet,
+            count,
         }
     }
 
@@ -289,7 +287,8 @@ impl Pass {
         self.search.quiet = if is_new && waits(table, &self.graph) {
             QUIET
         } else {
-            quiet_at(layer, next, self.search.far, self.search.quiet)
+            let at = self.at as usize;
+            self.search.quiet_at(layer, next, self.search.quiet, at)
         };
         Ok(next)
     }
@@ -323,15 +322,5 @@ impl Pass {
             return Err(fault);
         }
         Ok(self.known.note(table, &self.graph, layer, byte))
-    }
-}
-
-/// Whether an entry is that of a byte on which cells are only handed on.
-#[inline(always)]
-fn is_glide(entry: Entry) -> bool {
-    match entry {
-        Entry::Glide(_) => true,
-        Entry::Run(_) => false,
-        Entry::Unknown => false,
     }
 }

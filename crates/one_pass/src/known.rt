@@ -13,7 +13,6 @@ ghost use Rattle.output_graph.specs.Named.{handing, handing_to};
 ghost use Rattle.one_pass.specs.Known.{AreAlike, AreLookUps, IsEntry, IsGlide, IsLookUp, IsStepOf, KeepsKnown, KeepsLayers, Knows, Stands, layer_at};
 ghost use Rattle.one_pass.specs.KnownSteps.{known_step_of};
 ghost use Rattle.one_pass.specs.Passes.{AreGiven};
-ghost use Rattle.one_pass.specs.Seen.{whole};
 
 use crate::classes::Classes;
 use crate::entries::{Entries, Entry};
@@ -107,7 +106,7 @@ impl Known {
         byte: u8,
     ) -> Option<usize>
         requires known { Knows table.now self.old }
-        requires given { AreGiven table.now (whole graph.now) }
+        requires given { AreGiven table.now graph.now }
         requires fresh { graph.now.stepped ≡ 0 }
         ensures known { Knows table.now self.new }
         ensures stands { Stands table.now graph.now self.new result }
@@ -122,7 +121,7 @@ impl Known {
     /// The number of the graph's layer. If it has none, the bytes on which the layer stays are kept.
     pub(crate) fn stand(&mut self, table: &Table<'_>, graph: &OutputGraph) -> Option<usize>
         requires known { Knows table.now self.old }
-        requires given { AreGiven table.now (whole graph.now) }
+        requires given { AreGiven table.now graph.now }
         requires fresh { graph.now.stepped ≡ 0 }
         ensures known { Knows table.now self.new }
         ensures stands { Stands table.now graph.now self.new result }

@@ -6,17 +6,16 @@
 //! set goes to its idle members.
 ghost use Rattle.std.specs.Prelude.{◌≡◌, ℕ, ◌+◌, ◌-◌, ◌*◌, ◌^◌, ◌<◌, ◌≤◌, drop, length, take, IfErr, IfOk, IfSome, OnErr, OnOk};
 ghost use Rattle.set_table.specs.Tabled.{IsTabled};
-ghost use Rattle.one_pass.specs.Builds.{started};
+ghost use Rattle.one_pass.specs.Builds.{IsStarted};
 ghost use Rattle.one_pass.specs.Going.{GivesUp, GoesOn, Reads, come};
 ghost use Rattle.one_pass.specs.Ahead.{KnowsWaiting};
 ghost use Rattle.one_pass.specs.Known.{Knows};
 ghost use Rattle.one_pass.specs.Numbered.{IsNumbered, StandsIn, as_layer, in_layer};
 ghost use Rattle.one_pass.specs.Passes.{AllLeadBack};
 ghost use Rattle.one_pass.specs.Places.{bytes_at, gap_at};
-ghost use Rattle.one_pass.specs.Seen.{whole};
 
 use crate::known::Known;
-use crate::search::{FAR, QUIET, Search, bytes_over, quiet_in};
+use crate::search::{FAR, QUIET, Search, bytes_over};
 use crate::waiting::is_known;
 use output_graph::OutputGraph;
 use set_table::{Table, TableFault};
@@ -44,7 +43,7 @@ impl Pass {
         steps: &mut Steps<L>,
     ) -> Result<Pass, OutOfMemory>
         ensures tabled { IsTabled table.now }
-        ensures begun { IfOk result (λ p. come table.now p steps.new ≡ started table.now steps.old) }
+        ensures begun { IfOk result (λ p. IsStarted steps.old (come table.now p steps.new)) }
         ensures goes_on { IfOk result (GoesOn table.now) }
         ensures at { IfOk result (λ p. p.at ≡ 0) }
         ensures refused { OnErr result (steps.new ≡ steps.old) }
@@ -61,7 +60,7 @@ impl Pass {
     ) -> Result<Pass, OutOfMemory>
         requires known { Knows table.now known }
         ensures tabled { IsTabled table.now }
-        ensures begun { IfOk result (λ p. come table.now p steps.new ≡ started table.now steps.old) }
+        ensures begun { IfOk result (λ p. IsStarted steps.old (come table.now p steps.new)) }
         ensures goes_on { IfOk result (GoesOn table.now) }
         ensures at { IfOk result (λ p. p.at ≡ 0) }
         ensures refused { OnErr result (steps.new ≡ steps.old) }
@@ -110,7 +109,7 @@ impl Pass {
         ensures given_up { IfErr result (GivesUp (bytes_at self.old.at piece.now) table.old self.old steps.old table.new steps.new) }
     {
         let mut layer = self.known.stand(table, &self.graph);
-        self.search.quiet = quiet_in(layer, self.search.far, self.search.quiet);
+        self.search.quiet = self.search.quiet_in(layer, self.at as usize);
         self.graph.is_graph();
         let mut i = 0;
         while i < piece.len() {
@@ -141,14 +140,10 @@ impl Pass {
         ensures at { self.new.at + i ≡ self.old.at + result }
         ensures within { result ≤ length piece.now }
         ensures later { i ≤ result }
-        ensures back { AllLeadBack table.now (whole (in_layer self.old.known.layers layer self.old.graph)) (take (result - i) (drop i piece.now)) }
+        ensures back { AllLeadBack table.now (in_layer self.old.known.layers layer self.old.graph) (take (result - i) (drop i piece.now)) }
         ensures waits { KnowsWaiting table.now.graph.ways self.new.search.ahead.waiting }
     {
         if self.search.quiet < QUIET {
-            return i;
-        }
-        if self.search.is_paused(self.at) {
-            self.search.quiet = 0;
             return i;
         }
         self.name(layer);
@@ -186,7 +181,7 @@ impl Pass {
         ensures at { self.new.at + i ≡ self.old.at + result }
         ensures within { result ≤ length piece.now }
         ensures later { i ≤ result }
-        ensures back { AllLeadBack table.now (whole self.old.graph) (take (result - i) (drop i piece.now)) }
+        ensures back { AllLeadBack table.now self.old.graph (take (result - i) (drop i piece.now)) }
         ensures waits { KnowsWaiting table.now.graph.ways self.new.search.ahead.waiting }
     {
         let (_, rest) = piece.split_at(i);

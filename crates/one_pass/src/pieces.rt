@@ -5,11 +5,10 @@
 ghost use Rattle.std.specs.Prelude.{◌≡◌, ℕ, ◌+◌, ◌^◌, ◌≤◌, [], ◌∷◌, length, IfErr, IfOk, OnErr, OnOk};
 ghost use Rattle.span_core.specs.Lists.{Has};
 ghost use Rattle.automaton_reading.specs.Reading.{ended, look_ups_asked};
-ghost use Rattle.output_graph.specs.Graph.{sets_of as numbers_in, sources};
+ghost use Rattle.output_graph.specs.Graph.{sets_of as numbers_in};
 ghost use Rattle.one_pass.specs.Faults.{IsFaultAt, IsFaultOf};
 ghost use Rattle.one_pass.specs.Passes.{HasEnded, HasRead, HasStopped, HasStoppedAt, IsOpen, pass, sets_of, stop};
 ghost use Rattle.one_pass.specs.Places.{bytes_at, end_at};
-ghost use Rattle.one_pass.specs.Seen.{ending_from, whole};
 
 use crate::known::{Known, MOST_WORDS};
 use crate::pass::Pass;
@@ -36,12 +35,12 @@ pub fn advance<L: Ledger>(
     piece: &[u8],
     steps: &mut Steps<L>,
 ) -> Result<OutputGraph, TableFault>
-    requires open { IsOpen table.old (whole graph) at }
+    requires open { IsOpen table.old graph at }
     requires few { at + length piece.now ≤ 2 ^ 28 }
-    ensures read { IfOk result (λ g. HasRead table.old.graph (bytes_at at piece.now) (pass table.old (whole graph) steps.old) (pass table.new (whole g) steps.new)) }
-    ensures open { IfOk result (λ g. IsOpen table.new (whole g) (at + length piece.now)) }
-    ensures stopped { OnErr result (HasStopped table.old.graph (bytes_at at piece.now) (pass table.old (whole graph) steps.old) (stop table.new steps.new)) }
-    ensures cause { IfErr result (λ e. IsFaultAt (bytes_at at piece.now) (pass table.old (whole graph) steps.old) e) }
+    ensures read { IfOk result (λ g. HasRead table.old.graph (bytes_at at piece.now) (pass table.old graph steps.old) (pass table.new g steps.new)) }
+    ensures open { IfOk result (λ g. IsOpen table.new g (at + length piece.now)) }
+    ensures stopped { OnErr result (HasStopped table.old.graph (bytes_at at piece.now) (pass table.old graph steps.old) (stop table.new steps.new)) }
+    ensures cause { IfErr result (λ e. IsFaultAt (bytes_at at piece.now) (pass table.old graph steps.old) e) }
 {
     table.is_table();
     graph.is_graph();
@@ -67,13 +66,13 @@ pub fn finish<L: Ledger>(
     at: u32,
     steps: &mut Steps<L>,
 ) -> Result<OutputGraph, TableFault>
-    requires open { IsOpen table.old (whole graph) at }
+    requires open { IsOpen table.old graph at }
     requires few { at ≤ 2 ^ 28 }
-    ensures ended { IfOk result (λ g. HasEnded table.old.graph at (pass table.old (whole graph) steps.old) (pass table.new (ending_from (sources graph) g) steps.new)) }
+    ensures ended { IfOk result (λ g. HasEnded table.old.graph at (pass table.old graph steps.old) (pass table.new g steps.new)) }
     ensures every { IfOk result (λ g. g.stepped ≡ length g.layer) }
     ensures only { IfOk result (λ g. (s : ℕ) → Has (numbers_in g.next) s → s ≡ 0) }
-    ensures stopped { OnErr result (HasStoppedAt table.old.graph (end_at at) (pass table.old (whole graph) steps.old) (stop table.new steps.new)) }
-    ensures cause { IfErr result (λ e. IsFaultOf table.old [] (look_ups_asked table.old.graph (sets_of (pass table.old (whole graph) steps.old)) (ended ∷ [])) e) }
+    ensures stopped { OnErr result (HasStoppedAt table.old.graph (end_at at) (pass table.old graph steps.old) (stop table.new steps.new)) }
+    ensures cause { IfErr result (λ e. IsFaultOf table.old [] (look_ups_asked table.old.graph (sets_of (pass table.old graph steps.old)) (ended ∷ [])) e) }
 {
     table.is_table();
     graph.is_graph();

@@ -13,7 +13,6 @@ ghost use Rattle.one_pass.specs.Going.{Ends, GivesUp, GivesUpEnd, GoesOn, Reads}
 ghost use Rattle.one_pass.specs.Known.{Knows};
 ghost use Rattle.one_pass.specs.Passes.{AllStayOn, AreGiven};
 ghost use Rattle.one_pass.specs.Places.{byte_at, rest_at};
-ghost use Rattle.one_pass.specs.Seen.{whole};
 ghost use Rattle.one_pass.specs.Turned.{HasNotTurned, HasTurned, HasTurnedEnd, rest_edges};
 
 use crate::known::Known;
@@ -240,9 +239,9 @@ fn turn_end<L: Ledger>(
 /// The bytes that change nothing: each set of the layer has one edge on them, without marks and to itself. So the
 /// layer, its words and the table are the same after such a byte.
 pub fn stays_of(table: &Table<'_>, graph: &OutputGraph) -> ByteSet
-    requires given { AreGiven table.now (whole graph.now) }
+    requires given { AreGiven table.now graph.now }
     requires fresh { graph.now.stepped ≡ 0 }
-    ensures { (b : ℕ) → b < 256 → IsTrue (bytes.contains result b) → AllStayOn table.now (whole graph.now) b }
+    ensures { (b : ℕ) → b < 256 → IsTrue (bytes.contains result b) → AllStayOn table.now graph.now b }
 {
     let mut stays = ByteSet::all();
     for k in 0..graph.layer_len() {

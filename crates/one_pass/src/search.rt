@@ -2,7 +2,6 @@
 ghost use Rattle.std.specs.Prelude.{◌≡◌, ℕ, ◌<◌, ◌≤◌, None, length, slice_index, take};
 ghost use Rattle.one_pass.specs.Ahead.{KnowsWaiting};
 ghost use Rattle.one_pass.specs.Passes.{AllLeadBack, AllStayOn, AreGiven};
-ghost use Rattle.one_pass.specs.Seen.{whole};
 
 use crate::places::stays_of;
 use crate::waiting::Ahead;
@@ -15,7 +14,7 @@ use std::alloc::Global;
 pub(crate) const QUIET: u32 = 16;
 
 /// Behind a byte that leads back to where a search is made at once, the layer counts as unchanged for so many bytes.
-pub(crate) const BACK: u32 = u32::MAX;
+const BACK: u32 = u32::MAX;
 
 /// A search that passed over so many bytes went far.
 pub(crate) const FAR: usize = 32;
@@ -47,35 +46,42 @@ impl Search {
         }
     }
 
-    /// Whether the layer has just come back, and no search is made at this position, since searching gained nothing.
-    pub(crate) fn is_paused(&self, at: u32) -> bool {
-        self.quiet == BACK && self.waits && self.ahead.is_paused(at as usize)
+    /// For how many bytes the layer in which a piece begins, at a position, counts as unchanged: for enough, where it is
+    /// searched at once.
+    pub(crate) fn quiet_in(&self, layer: Option<usize>, at: usize) -> u32 {
+        match (layer, self.far) {
+            (Some(layer), Some(kept)) if layer == kept => self.quiet_back(at),
+            _ => self.quiet,
+        }
     }
-}
 
-/// For how many bytes a layer in which a piece begins counts as unchanged: for enough, where it is searched at once.
-pub(crate) fn quiet_in(layer: Option<usize>, far: Option<usize>, quiet: u32) -> u32 {
-    match (layer, far) {
-        (Some(layer), Some(kept)) if layer == kept => BACK,
-        _ => quiet,
+    /// For how many bytes the layer counts as unchanged behind one more, at a position: at once for enough, where it comes
+    /// back to one that is searched at once.
+    #[inline(always)]
+    pub(crate) fn quiet_at(
+        &self,
+        before: Option<usize>,
+        after: Option<usize>,
+        quiet: u32,
+        at: usize,
+    ) -> u32 {
+        if before == after {
+            return quiet.saturating_add(1);
+        }
+        match (after, self.far) {
+            (Some(layer), Some(kept)) if layer == kept => self.quiet_back(at),
+            _ => 0,
+        }
     }
-}
 
-/// For how many bytes the layer counts as unchanged behind one more: at once for enough, where it comes back to one that is
-/// searched at once.
-#[inline(always)]
-pub(crate) fn quiet_at(
-    before: Option<usize>,
-    after: Option<usize>,
-    far: Option<usize>,
-    quiet: u32,
-) -> u32 {
-    if before == after {
-        return quiet.saturating_add(1);
-    }
-    match (after, far) {
-        (Some(layer), Some(kept)) if layer == kept => BACK,
-        _ => 0,
+    /// For how many bytes the layer that is searched at once counts as unchanged where it comes back: for none, if no search
+    /// is made at this position, since searching gained nothing.
+    fn quiet_back(&self, at: usize) -> u32 {
+        if self.waits && self.ahead.is_paused(at) {
+            0
+        } else {
+            BACK
+        }
     }
 }
 
@@ -88,11 +94,11 @@ pub(crate) fn bytes_over(
     at: usize,
     bytes: &[u8],
 ) -> usize
-    requires given { AreGiven table.now (whole graph.now) }
+    requires given { AreGiven table.now graph.now }
     requires fresh { graph.now.stepped ≡ 0 }
     requires waits { KnowsWaiting table.now.graph.ways search.old.ahead.waiting }
     ensures within { result ≤ length bytes.now }
-    ensures back { AllLeadBack table.now (whole graph.now) (take result bytes.now) }
+    ensures back { AllLeadBack table.now graph.now (take result bytes.now) }
     ensures waits { KnowsWaiting table.now.graph.ways search.new.ahead.waiting }
 {
     let over = search.ahead.passed(table, graph, at, bytes);
@@ -104,10 +110,10 @@ pub(crate) fn bytes_over(
 
 /// How many bytes at the front of a piece change nothing.
 fn still_bytes(table: &Table<'_>, graph: &OutputGraph, skipper: &mut Skipper, piece: &[u8]) -> usize
-    requires given { AreGiven table.now (whole graph.now) }
+    requires given { AreGiven table.now graph.now }
     requires fresh { graph.now.stepped ≡ 0 }
     ensures within { result ≤ length piece.now }
-    ensures still { (k : ℕ) → k < result → AllStayOn table.now (whole graph.now) (slice_index piece.now k) }
+    ensures still { (k : ℕ) → k < result → AllStayOn table.now graph.now (slice_index piece.now k) }
 {
     let stays = stays_of(table, graph);
     skipper.first_outside(&stays, piece).unwrap_or(piece.len())

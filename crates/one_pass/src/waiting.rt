@@ -12,7 +12,6 @@ ghost use Rattle.output_graph.specs.Graph.{Source, sources};
 ghost use Rattle.numbered_lists.specs.Numbered.{set_at};
 ghost use Rattle.one_pass.specs.Ahead.{HasAdded, KnowsWaiting, LeaveBy};
 ghost use Rattle.one_pass.specs.Passes.{AllLeadBack, AreGiven};
-ghost use Rattle.one_pass.specs.Seen.{whole};
 ghost use Rattle.one_pass.specs.Waiting.{Forces, IsLevel, IsLoop, IsLooping, IsOf};
 
 use crate::inside::inside_of;
@@ -133,12 +132,12 @@ impl Ahead {
         at: usize,
         bytes: &[u8],
     ) -> usize
-        requires given { AreGiven table.now (whole graph.now) }
+        requires given { AreGiven table.now graph.now }
         requires fresh { graph.now.stepped ≡ 0 }
         requires waits { KnowsWaiting table.now.graph.ways self.old.waiting }
         ensures waits { KnowsWaiting table.now.graph.ways self.new.waiting }
         ensures within { result ≤ length bytes.now }
-        ensures back { AllLeadBack table.now (whole graph.now) (take result bytes.now) }
+        ensures back { AllLeadBack table.now graph.now (take result bytes.now) }
     {
         if !are_long(&self.waiting, table, graph, bytes) {
             return 0;
@@ -160,7 +159,7 @@ impl Ahead {
 
     /// Works out how the graph's layer is left, unless it is known or would cost too much for so many bytes.
     fn work_out(&mut self, table: &Table<'_>, graph: &OutputGraph, bytes: usize)
-        requires given { AreGiven table.now (whole graph.now) }
+        requires given { AreGiven table.now graph.now }
         requires fresh { graph.now.stepped ≡ 0 }
         requires waits { KnowsWaiting table.now.graph.ways self.old.waiting }
         ensures waits { KnowsWaiting table.now.graph.ways self.new.waiting }
@@ -210,11 +209,11 @@ fn passed_by(
     graph: &OutputGraph,
     bytes: &[u8],
 ) -> usize
-    requires given { AreGiven table.now (whole graph.now) }
+    requires given { AreGiven table.now graph.now }
     requires fresh { graph.now.stepped ≡ 0 }
     requires waits { KnowsWaiting table.now.graph.ways waiting.now }
     ensures within { result ≤ length bytes.now }
-    ensures back { AllLeadBack table.now (whole graph.now) (take result bytes.now) }
+    ensures back { AllLeadBack table.now graph.now (take result bytes.now) }
 {
     match waiting {
         Some(waiting) => passed_from(waiting, table, graph, bytes),
@@ -224,11 +223,11 @@ fn passed_by(
 
 /// As `passed_by`, where something is known.
 fn passed_from(waiting: &Waiting, table: &Table<'_>, graph: &OutputGraph, bytes: &[u8]) -> usize
-    requires given { AreGiven table.now (whole graph.now) }
+    requires given { AreGiven table.now graph.now }
     requires fresh { graph.now.stepped ≡ 0 }
     requires waits { LeaveBy table.now.graph.ways waiting.now.states.items waiting.now.exit }
     ensures within { result ≤ length bytes.now }
-    ensures back { AllLeadBack table.now (whole graph.now) (take result bytes.now) }
+    ensures back { AllLeadBack table.now graph.now (take result bytes.now) }
 {
     table.is_table();
     if !is_layer_of(waiting.states.as_slice(), table, graph) {
@@ -243,7 +242,7 @@ fn passed_from(waiting: &Waiting, table: &Table<'_>, graph: &OutputGraph, bytes:
 /// Whether the layer waits: it has few sets of few states, and each of these loops on every byte. Where there are many ways it
 /// is not looked at.
 pub(crate) fn waits(table: &Table<'_>, graph: &OutputGraph) -> bool
-    requires given { AreGiven table.now (whole graph.now) }
+    requires given { AreGiven table.now graph.now }
     requires fresh { graph.now.stepped ≡ 0 }
 {
     let ways = table.ways();
@@ -261,7 +260,7 @@ pub(crate) fn waits(table: &Table<'_>, graph: &OutputGraph) -> bool
 
 /// Whether there are enough bytes for a search.
 fn are_long(waiting: &Option<Waiting>, table: &Table<'_>, graph: &OutputGraph, bytes: &[u8]) -> bool
-    requires given { AreGiven table.now (whole graph.now) }
+    requires given { AreGiven table.now graph.now }
     requires fresh { graph.now.stepped ≡ 0 }
 {
     if bytes.len() >= LONG {
@@ -272,7 +271,7 @@ fn are_long(waiting: &Option<Waiting>, table: &Table<'_>, graph: &OutputGraph, b
 
 /// Whether the layer's states are among those of which something is known.
 pub(crate) fn is_known(waiting: &Option<Waiting>, table: &Table<'_>, graph: &OutputGraph) -> bool
-    requires given { AreGiven table.now (whole graph.now) }
+    requires given { AreGiven table.now graph.now }
     requires fresh { graph.now.stepped ≡ 0 }
 {
     match waiting {
@@ -283,7 +282,7 @@ pub(crate) fn is_known(waiting: &Option<Waiting>, table: &Table<'_>, graph: &Out
 
 /// Whether each set of the layer has a member, and all of them are among these states.
 fn is_layer_of(states: &[u32], table: &Table<'_>, graph: &OutputGraph) -> bool
-    requires given { AreGiven table.now (whole graph.now) }
+    requires given { AreGiven table.now graph.now }
     requires fresh { graph.now.stepped ≡ 0 }
     ensures { IsTrue result → (x : Source) → Has (sources graph.now) x → IsOf states.now (set_at table.now.sets x.set) }
 {
@@ -324,7 +323,7 @@ pub(crate) fn has(states: &[u32], state: u32) -> bool
 
 /// The states of the layer and how they are left, if all of them wait and it can be searched for.
 fn waiting_of(alloc: Global, table: &Table<'_>, graph: &OutputGraph) -> Option<Waiting>
-    requires given { AreGiven table.now (whole graph.now) }
+    requires given { AreGiven table.now graph.now }
     requires fresh { graph.now.stepped ≡ 0 }
     ensures { IfSome result (λ w. LeaveBy table.now.graph.ways w.states.items w.exit) }
 {
@@ -399,7 +398,7 @@ fn front_of(alloc: Global, ways: &[Way], states: &[u32]) -> Option<Chain>
 
 /// The states of the layer's sets, if they are few.
 fn states_of(alloc: Global, table: &Table<'_>, graph: &OutputGraph) -> Option<Vec<u32>>
-    requires given { AreGiven table.now (whole graph.now) }
+    requires given { AreGiven table.now graph.now }
     requires fresh { graph.now.stepped ≡ 0 }
 {
     let mut states = Vec::new(alloc);

@@ -17,6 +17,7 @@ pub mod GraphLaws
 pub mod ProgramLaws
 pub mod PlanLaws
 pub mod PoolLaws
+pub mod PlannedLaws
 pub mod HeldLaws
 pub mod RunLaws
 pub mod CodeLaws

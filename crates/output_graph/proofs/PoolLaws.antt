@@ -1,6 +1,6 @@
 -- Lists that programs share: what stands in them stays as they grow.
 use Rattle.std.proofs.Common.{◌≡◌, ◌⊎◌, ℕ, zero, suc, ◌-◌, List, [], ◌∷◌, ◌++◌, take, drop, length, Some, inl, inr, sym, ap, ◌∙◌, subst, arith, slice_get, append-nil, length-append}
-use Rattle.std.proofs.lemmas.List.{length-drop}
+use Rattle.std.proofs.lemmas.List.{length-drop, length-take-le}
 use Rattle.std.proofs.lemmas.Option.{same_Some}
 use Rattle.output_graph.specs.declared.programs.Part.{Part}
 use Rattle.output_graph.specs.declared.programs.Piece.{Piece}
@@ -65,3 +65,10 @@ pool_next old new last are code targets next is k part at =
 pub same_piece : {A : Type 0} (xs ys these those : List A) (piece : Piece) → HasPiece xs piece these → HasPiece ys piece those → xs ≡ ys → these ≡ those
 same_piece {A = A} xs ys these those piece one two same =
     sym one.are ∙ (ap (λ (zs : List A). take (piece.to - piece.from) (drop piece.from zs)) same ∙ two.are)
+
+-- how long a piece is
+pub piece_long : {A : Type 0} (xs these : List A) (piece : Piece) → HasPiece xs piece these → length these ≡ piece.to - piece.from
+piece_long {A = A} xs these piece has =
+    let within = has.within in
+    let left = length-drop piece.from xs in
+    sym (ap length has.are) ∙ length-take-le (piece.to - piece.from) (drop piece.from xs) (omega arith)

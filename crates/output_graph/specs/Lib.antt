@@ -12,6 +12,7 @@ pub mod Codes
 pub mod Sound
 pub mod Running
 pub mod Pools
+pub mod Planned
 pub mod Turn
 pub mod RowLists
 pub mod Loop

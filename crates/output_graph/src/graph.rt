@@ -10,16 +10,14 @@ ghost use Rattle.output_graph.specs.Graph.{HasWord, sources, targets, sets_of, I
 ghost use Rattle.output_graph.specs.Sound.{edges_of, edges_of_ends};
 ghost use Rattle.output_graph.specs.Loop.{AreListed};
 ghost use Rattle.output_graph.specs.Named.{renamed};
-ghost use Rattle.output_graph.specs.Plans.{IsPlan};
-ghost use Rattle.output_graph.specs.Pools.{AreOfPlan, meaning_of, program_at};
-ghost use Rattle.output_graph.specs.Programs.{IsRun};
+ghost use Rattle.output_graph.specs.Planned.{AreRun, AreWithin, MayRun};
 
 use crate::edges::{ACCEPTED, make_edges, make_ends};
 use crate::layer::Layer;
+use crate::planned::{Planned, room_for, run_planned};
 use crate::programs::Programs;
 use crate::registers::Registers;
 use crate::row_lists::RowLists;
-use crate::running::{PlanLists, run_code};
 use crate::turning::turn_cells;
 use node_arena::Arena;
 use span_core::{Edge, Marks, OutOfMemory, Steps};
@@ -192,63 +190,35 @@ impl OutputGraph {
         Ok(())
     }
 
-    /// Leads the words of every source of the layer on by program `k` of a pool, all at this position, and goes to the next
-    /// layer, as `step_source` does for one source after another and `next_layer` behind them. The names of the next layer
-    /// are left for `rename`. After a refusal the graph is as it was. At most 2 steps for each edge, 2 for each source, and 1
-    /// for each cell that is given back.
-    pub fn run_program<L: Ledger>(
+    /// Leads the words of every source of the layer on by programs of a pool, one behind another: by each at its position,
+    /// and then to the next layer, as `step_source` does for one source after another and `next_layer` behind them. Room is
+    /// asked for once for all. The names of the last layer are left for `rename`. After a refusal the graph is as it was. At
+    /// most 2 steps for each edge, 2 for each source, and 1 for each cell that is given back.
+    pub fn run_programs<L: Ledger>(
         &mut self,
-        at: u32,
         programs: &Programs,
-        k: usize,
+        planned: &[Planned],
         steps: &mut Steps<L>,
     ) -> Result<(), OutOfMemory>
-        requires within { k < length programs.now }
+        requires within { AreWithin (length programs.now) planned.now }
         requires begun { self.old.stepped ≡ 0 }
-        requires every { length (program_at programs.now k).groups ≡ length self.old.layer }
-        requires place { IsPlace self.old at }
-        ensures run { OnOk result (IsRun self.old at (program_at programs.now k).groups (renamed (program_at programs.now k).targets self.new) steps.old steps.new) }
-        ensures distinct { OnOk result (AreDistinct (program_at programs.now k).targets) }
-        ensures long { OnOk result (length (program_at programs.now k).targets ≡ length self.new.layer) }
-        ensures counted { OnOk result (steps.old + length (program_at programs.now k).groups ≤ steps.new) }
+        requires may { MayRun programs.now planned.now self.old steps.old }
+        ensures run { OnOk result (AreRun programs.now planned.now self.old self.new steps.old steps.new) }
         ensures refused { OnErr result (self.new ≡ self.old) }
         ensures uncounted { OnErr result (steps.new ≡ steps.old) }
     {
-        self.run_lists(at, programs.lists(k), steps)
-    }
-
-    /// As `run_program`, by the lists of a plan.
-    fn run_lists<L: Ledger>(
-        &mut self,
-        at: u32,
-        lists: PlanLists<'_>,
-        steps: &mut Steps<L>,
-    ) -> Result<(), OutOfMemory>
-        requires lists { AreOfPlan lists }
-        requires plan { IsPlan lists.plan.now.value }
-        requires begun { self.old.stepped ≡ 0 }
-        requires every { length (meaning_of lists.plan.now.value).groups ≡ length self.old.layer }
-        requires place { IsPlace self.old at }
-        ensures run { OnOk result (IsRun self.old at (meaning_of lists.entry.plan.now.value).groups (renamed lists.entry.plan.now.value.targets.items self.new) steps.old steps.new) }
-        ensures distinct { OnOk result (AreDistinct lists.entry.plan.now.value.targets.items) }
-        ensures long { OnOk result (length lists.entry.plan.now.value.targets.items ≡ length self.new.layer) }
-        ensures counted { OnOk result (steps.old + length (meaning_of lists.entry.plan.now.value).groups ≤ steps.new) }
-        ensures refused { OnErr result (self.new ≡ self.old) }
-        ensures uncounted { OnErr result (steps.new ≡ steps.old) }
-    {
-        self.arena.is_arena();
-        let before = self.registers.len();
-        self.arena.reserve(lists.code.len())?;
-        self.registers.reserve(lists.code.len())?;
-        run_code(
+        let pool = programs.pool();
+        let room = room_for(pool, planned)?;
+        self.arena.reserve(room)?;
+        self.registers.reserve(room)?;
+        run_planned(
             &mut self.arena,
             &mut self.registers,
-            at,
             self.at,
-            lists,
+            pool,
+            planned,
             steps,
         );
-        self.registers.settle(lists.targets, before);
         Ok(())
     }
 

@@ -2,8 +2,9 @@
 //!
 //! A program that stands alone has lists of its own, each somewhere else in memory. Here they lie one behind another, so
 //! that running one reads few places. Of a plan they have the code and the targets, which is all that a run reads.
-ghost use Rattle.std.specs.Prelude.{◌≡◌, ◌<◌, ◌≤◌, ◌++◌, ◌∷◌, [], List, length, IfOk, OnErr, OnOk};
+ghost use Rattle.std.specs.Prelude.{◌≡◌, ◌<◌, ◌≤◌, ◌++◌, ◌∷◌, [], List, length, slice_get, IfOk, OnErr, OnOk};
 ghost use Rattle.output_graph.specs.Codes.{IsCode};
+ghost use Rattle.output_graph.specs.Planned.{code_long};
 ghost use Rattle.output_graph.specs.Plans.{IsPlan};
 ghost use Rattle.output_graph.specs.Pools.{AreOfPlan, ArePooled, HasPiece, meaning_of, program_at, programs_in};
 
@@ -90,24 +91,24 @@ impl Programs {
         add_plan(&mut self.pool, &program.plan, &code)
     }
 
-    /// What running program `k` reads.
-    pub(crate) fn lists(&self, k: usize) -> PlanLists<'_>
-        requires { k < length self.now }
-        ensures lists { AreOfPlan result }
-        ensures plan { IsPlan result.plan.now.value }
-        ensures program { meaning_of result.plan.now.value ≡ program_at self.now k }
+    /// Where they stand.
+    pub(crate) fn pool(&self) -> &Pool
+        ensures pooled { ArePooled result.now }
+        ensures programs { programs_in result.now.parts.items ≡ self.now }
+        ensures many { length result.now.parts.items ≡ length self.now }
     {
-        lists_at(&self.pool, k)
+        &self.pool
     }
 }
 
 /// What running program `k` reads.
-fn lists_at(pool: &Pool, k: usize) -> PlanLists<'_>
+pub(crate) fn lists_at(pool: &Pool, k: usize) -> PlanLists<'_>
     requires pooled { ArePooled pool.now }
     requires within { k < length pool.now.parts.items }
     ensures lists { AreOfPlan result }
     ensures plan { IsPlan result.plan.now.value }
     ensures program { meaning_of result.plan.now.value ≡ program_at (programs_in pool.now.parts.items) k }
+    ensures code { length result.code.now ≡ code_long (slice_get pool.now.parts.items k) }
 {
     let part = &pool.parts[k];
     PlanLists {

@@ -116,6 +116,7 @@ impl Registers {
         ensures cells { named sets.now self.new.sources.items ≡ named sets.now self.old.sources.items }
         ensures every { length sets.now ≡ length self.new.sources.items }
         ensures names { (sets_of self.new.sources.items ≡ sets.now) ⊎ ((length sets.now ≤ before) × (sets_of self.new.sources.items ≡ take (length sets.now) (sets_of self.old.sources.items))) }
+        ensures room { vec_len self.new.sources + vec_capacity self.old.sources ≤ vec_len self.old.sources + vec_capacity self.new.sources }
     {
         self.sources.truncate(sets.len());
         if before < sets.len() {
@@ -127,7 +128,9 @@ impl Registers {
 /// Gives the cells, in their order, to other sets.
 fn write_names(sources: &mut Vec<(u32, Cell)>, sets: &[u32])
     requires { length sets.now ≡ length sources.old.items }
-    ensures { sources.new.items ≡ named sets.now sources.old.items }
+    ensures names { sources.new.items ≡ named sets.now sources.old.items }
+    ensures len { vec_len sources.new ≡ vec_len sources.old }
+    ensures capacity { vec_capacity sources.new ≡ vec_capacity sources.old }
 {
     for k in 0..sets.len() {
         let cell = sources[k].1;

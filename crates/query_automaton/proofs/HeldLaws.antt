@@ -25,9 +25,9 @@ use Rattle.query_automaton.specs.Parts.{HasJoinStep, HasLargePart, HasLargePartO
 use Rattle.query_automaton.specs.QueryAutomaton.{automaton_of, of_join, of_lets, of_union, together, united}
 use Rattle.query_automaton.proofs.Combining.{Operation, Union, Join, all_of}
 use Rattle.query_automaton.proofs.CompileLaws.{SoFar, all_small}
-use Rattle.query_automaton.specs.Steps.{HasNoMinus, operations, steps_of}
-use Rattle.query_automaton.specs.Told.{IsTold, IsToldOf}
-use Rattle.query_automaton.proofs.StepLaws.{no_minus_part, operations_next, operations_part, step_le}
+use Rattle.query_automaton.specs.Steps.{minus_steps_of, steps_of, steps_within}
+use Rattle.query_automaton.specs.Told.{IsTold}
+use Rattle.query_automaton.proofs.StepLaws.{step_le, step_more, steps_next, steps_part}
 use Rattle.query_automaton.proofs.PartLaws.{join_part_of, large_part, union_part_of}
 
 -- ---- what waits
@@ -154,7 +154,7 @@ module _ (L : ℕ → Marked) where
   -- the steps of a part and of the whole, where the parts of the whole are within a number
   abbrev pub AreSteps : ℕ → ℕ → ExprTree → ExprTree → Type 0
   AreSteps effort after e w =
-      (most : ℕ) → HasNoMinus w → ArePartsWithin L w most → HasNoMinus e × (after ≤ operations e * steps_of most → effort ≤ operations w * steps_of most)
+      (most : ℕ) → ArePartsWithin L w most → after ≤ steps_within most e → effort ≤ steps_within most w
 
   -- the cause of a part is one of the whole
   pub cause_up : (held more effort after : ℕ) (e w : ExprTree) (fault : CompileFault) → ((n : PartNumbers) → HasPart L e n → HasPart L w n) →
@@ -162,7 +162,7 @@ module _ (L : ℕ → Marked) where
   cause_up held more effort after e w (Size fault) up le steps h = large_part L e w fault up h
   cause_up held more effort after e w (Held count) up le steps h = (h.0, λ most within. omega (arith, h.1 most (λ n p. within n (up n p)), le most within))
   cause_up held more effort after e w (Ends count) up le steps h = (h.0, λ most within. h.1 most (λ n p. within n (up n p)))
-  cause_up held more effort after e w Spent up le steps h = λ most plain within. let s = steps most plain within in s.1 (h most s.0 (λ n p. within n (up n p)))
+  cause_up held more effort after e w Spent up le steps h = λ most within. steps most within (h most (λ n p. within n (up n p)))
 
   -- of the first of several
   pub cause_first : (held effort : ℕ) (o : Operation) (es : List ExprTree) (k : ℕ) (e : ExprTree) → slice_get es k ≡ Some e → (fault : CompileFault) → HasCauseOf L held effort e fault →
@@ -171,12 +171,12 @@ module _ (L : ℕ → Marked) where
       let has = Has-slice_get es k e at in
       cause_up held held effort effort e (all_of o es) fault (λ n p. part_of_one L o es e n has p)
       (λ most within. omega (arith, mul-le (waits e) most (waits (all_of o es)) most (omega (arith, waits_part o es e has)) (omega arith)))
-      (λ most plain within. (no_minus_part o es e has plain, λ le. step_le effort effort 0 (operations e) (operations (all_of o es)) (steps_of most) (omega arith) le (omega (arith, operations_part o es e has)))) h
+      (λ most within le. omega (arith, le, steps_part most o es e has)) h
 
   -- the steps of the first k parts
   abbrev pub TakesFirst : Operation → List ExprTree → ℕ → ℕ → ℕ → Type 0
   TakesFirst o es k before after =
-      (most : ℕ) → HasNoMinus (all_of o es) → ArePartsWithin L (all_of o es) most → before ≤ after + operations (all_of o (take k es)) * steps_of most
+      (most : ℕ) → ArePartsWithin L (all_of o es) most → before ≤ after + steps_within most (all_of o (take k es))
 
   -- of another, where what was made of those before waits
   pub cause_next : (held effort after : ℕ) (o : Operation) (es : List ExprTree) (k : ℕ) (e : ExprTree) (A : Marked) → slice_get es k ≡ Some e → (fault : CompileFault) →
@@ -186,57 +186,72 @@ module _ (L : ℕ → Marked) where
       let has = Has-slice_get es k e at in
       cause_up held (held + size A.graph) effort after e (all_of o es) fault (λ n p. part_of_one L o es e n has p)
       (λ most within. omega (arith, fits most within, mul-le (1 + waits e) most (waits (all_of o es)) most (waits_part o es e has) (omega arith)))
-      (λ most plain within. (
-        no_minus_part o es e has plain,
-        λ le. step_le effort after (operations (all_of o (take k es))) (operations e) (operations (all_of o es)) (steps_of most) (takes most plain within) le (omega (arith, operations_next o es k e at)),
-      )) h
+      (λ most within le.
+      step_le effort after (steps_within most (all_of o (take k es))) (steps_within most e) (steps_within most (all_of o es)) (takes most within) le (omega (arith, steps_next most o es k e at))) h
 
   -- where an operation on the first parts and the next is refused
   pub cause_of_two : (P : SizeFault → Type 0) (held effort after cost ends : ℕ) (o : Operation) (es : List ExprTree) (k : ℕ) (e : ExprTree) → slice_get es k ≡ Some e →
       ((fault : SizeFault) → P fault → HasLargePartOf L (all_of o es) fault) → ((most : ℕ) → ArePartsWithin L (all_of o es) most → ends ≤ most) →
       ((most : ℕ) → ArePartsWithin L (all_of o es) most → cost ≤ steps_of most) →
-      ((most : ℕ) → HasNoMinus (all_of o es) → ArePartsWithin L (all_of o es) most → effort ≤ after + (operations (all_of o (take k es)) + operations e) * steps_of most) →
+      ((most : ℕ) → ArePartsWithin L (all_of o es) most → effort ≤ after + (steps_within most (all_of o (take k es)) + steps_within most e)) →
       (fault : CompileFault) → IsTold P ends after cost fault → HasCauseOf L held effort (all_of o es) fault
   cause_of_two P held effort after cost ends o es k e at large few costs takes (Size fault) h = large fault h
   cause_of_two P held effort after cost ends o es k e at large few costs takes (Held count) h = absurd h
   cause_of_two P held effort after cost ends o es k e at large few costs takes (Ends count) h = (h.0, λ most within. omega (arith, h.1, few most within))
-  cause_of_two P held effort after cost ends o es k e at large few costs takes Spent h = λ most plain within.
-      step_le effort after (operations (all_of o (take k es)) + operations e) 1 (operations (all_of o es)) (steps_of most) (takes most plain within) (omega (arith, h, costs most within))
-      (omega (arith, operations_next o es k e at))
+  cause_of_two P held effort after cost ends o es k e at large few costs takes Spent h = λ most within.
+      step_le effort after (steps_within most (all_of o (take k es)) + steps_within most e) (steps_of most) (steps_within most (all_of o es)) (takes most within) (omega (arith, h, costs most within))
+      (omega (arith, steps_next most o es k e at))
 
   -- of the two sides of a difference
   pub cause_left : (held effort : ℕ) (e g : ExprTree) (fault : CompileFault) → HasCauseOf L held effort e fault → HasCauseOf L held effort (minus e g) fault
   cause_left held effort e g fault h =
       cause_up held held effort effort e (minus e g) fault (λ n p. inl p)
-      (λ most within. omega (arith, mul-le (waits e) most (waits (minus e g)) most (le-max_left (waits e) (1 + waits g)) (omega arith))) (λ most plain within. absurd plain) h
+      (λ most within. omega (arith, mul-le (waits e) most (waits (minus e g)) most (le-max_left (waits e) (1 + waits g)) (omega arith)))
+      (λ most within le. omega (arith, le)) h
 
   pub cause_right : (held effort after : ℕ) (e g : ExprTree) (A : Marked) (fault : CompileFault) → ((most : ℕ) → ArePartsWithin L e most → size A.graph ≤ most) →
-      HasCauseOf L (held + size A.graph) after g fault → HasCauseOf L held effort (minus e g) fault
-  cause_right held effort after e g A fault fits h =
+      Takes L e effort after → HasCauseOf L (held + size A.graph) after g fault → HasCauseOf L held effort (minus e g) fault
+  cause_right held effort after e g A fault fits takes h =
       cause_up held (held + size A.graph) effort after g (minus e g) fault (λ n p. inr (inl p))
       (λ most within. omega (arith, fits most (λ n p. within n (inl p)), mul-le (1 + waits g) most (waits (minus e g)) most (le-max_right (waits e) (1 + waits g)) (omega arith)))
-      (λ most plain within. absurd plain) h
+      (λ most within le. step_le effort after (steps_within most e) (steps_within most g) (steps_within most (minus e g)) (takes most (λ n p. within n (inl p))) le (omega arith)) h
 
-  pub cause_minus : (P : SizeFault → Type 0) (held effort : ℕ) (e g : ExprTree) → ((fault : SizeFault) → P fault → HasLargePartOf L (minus e g) fault) →
-      (fault : CompileFault) → IsToldOf P fault → HasCauseOf L held effort (minus e g) fault
-  cause_minus P held effort e g large (Size fault) h = large fault h
-  cause_minus P held effort e g large (Held count) h = absurd h
-  cause_minus P held effort e g large (Ends count) h = absurd h
-  cause_minus P held effort e g large Spent h = λ most plain within. absurd plain
+  -- what both sides take
+  pub sides_take : (before middle after : ℕ) (e g : ExprTree) → Takes L e before middle → Takes L g middle after → (most : ℕ) → ArePartsWithin L (minus e g) most →
+      before ≤ after + (steps_within most e + steps_within most g)
+  sides_take before middle after e g first second most within =
+      step_more before middle after (steps_within most e) (steps_within most g) (steps_within most e + steps_within most g) (first most (λ n p. within n (inl p)))
+      (second most (λ n p. within n (inr (inl p)))) (omega arith)
+
+  pub cause_minus : (P : SizeFault → Type 0) (held before middle after cost : ℕ) (e g : ExprTree) → Takes L e before middle → Takes L g middle after →
+      ((most : ℕ) → ArePartsWithin L (minus e g) most → cost ≤ minus_steps_of most) → ((fault : SizeFault) → P fault → HasLargePartOf L (minus e g) fault) →
+      (fault : CompileFault) → IsTold P 0 after cost fault → HasCauseOf L held before (minus e g) fault
+  cause_minus P held before middle after cost e g first second costs large (Size fault) h = large fault h
+  cause_minus P held before middle after cost e g first second costs large (Held count) h = absurd h
+  cause_minus P held before middle after cost e g first second costs large (Ends count) h = absurd (omega (arith, h.0, h.1))
+  cause_minus P held before middle after cost e g first second costs large Spent h = λ most within.
+      step_le before after (steps_within most e + steps_within most g) (minus_steps_of most) (steps_within most (minus e g)) (sides_take before middle after e g first second most within)
+      (omega (arith, h, costs most within)) (omega arith)
+
+  pub takes_minus : (before middle after last cost : ℕ) (e g : ExprTree) → Takes L e before middle → Takes L g middle after →
+      ((most : ℕ) → ArePartsWithin L (minus e g) most → cost ≤ minus_steps_of most) → after ≤ last + cost → Takes L (minus e g) before last
+  takes_minus before middle after last cost e g first second costs spent most within =
+      step_more before after last (steps_within most e + steps_within most g) (minus_steps_of most) (steps_within most (minus e g)) (sides_take before middle after e g first second most within)
+      (omega (arith, spent, costs most within)) (omega arith)
 
   pub cause_inside : (held effort : ℕ) (names : List VarName) (e : ExprTree) (fault : CompileFault) → HasCauseOf L held effort e fault → HasCauseOf L held effort (project names e) fault
   cause_inside held effort names e fault h =
       cause_up held held effort effort e (project names e) fault (λ n p. inl p) (λ most within. omega arith)
-      (λ most plain within. (plain, λ le. step_le effort effort 0 (operations e) (1 + operations e) (steps_of most) (omega arith) le (omega arith))) h
+      (λ most within le. omega (arith, le)) h
 
   pub cause_project : (held effort after cost : ℕ) (names : List VarName) (e : ExprTree) → ((most : ℕ) → ArePartsWithin L e most → cost ≤ steps_of most) → Takes L e effort after →
       (fault : CompileFault) → IsTold (λ f. f ≡ OutOfMemory) 0 after cost fault → HasCauseOf L held effort (project names e) fault
   cause_project held effort after cost names e costs takes (Size fault) h = subst (λ (f : SizeFault). HasLargePartOf L (project names e) f) (sym h) tt
   cause_project held effort after cost names e costs takes (Held count) h = absurd h
   cause_project held effort after cost names e costs takes (Ends count) h = absurd (omega (arith, h.0, h.1))
-  cause_project held effort after cost names e costs takes Spent h = λ most plain within.
+  cause_project held effort after cost names e costs takes Spent h = λ most within.
       let inside : ArePartsWithin L e most = λ n p. within n (inl p) in
-      step_le effort after (operations e) 1 (1 + operations e) (steps_of most) (takes most plain inside) (omega (arith, h, costs most inside)) (omega arith)
+      step_le effort after (steps_within most e) (steps_of most) (steps_of most + steps_within most e) (takes most inside) (omega (arith, h, costs most inside)) (omega arith)
 
 -- ---- queries
 
@@ -282,7 +297,7 @@ pub queries_of_few_ends : QueriesOfFewEnds
 queries_of_few_ends q most count within few h = omega (arith, h.0, h.1 most within, few)
 
 pub queries_of_few_steps : QueriesOfFewSteps
-queries_of_few_steps q most plain within few h = omega (arith, h most plain within, few)
+queries_of_few_steps q most within few h = omega (arith, h most within, few)
 
 pub queries_of_small_parts : QueriesOfSmallParts
 queries_of_small_parts q most count within few h = omega (arith, h.0, h.1 most within, few)

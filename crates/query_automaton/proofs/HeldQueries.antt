@@ -16,6 +16,9 @@ use Rattle.marked_automaton.specs.Reduct.{Reduces}
 use Rattle.place_automaton.specs.Words.{atom_automaton}
 use Rattle.algebra.specs.declared.fault.JoinFault.{JoinFault}
 use Rattle.algebra.specs.declared.fault.JoinFault.TheVariants as join
+use Rattle.algebra_minus.specs.declared.fault.MinusFault.{MinusFault}
+use Rattle.algebra_minus.specs.declared.fault.MinusFault.TheVariants as minus
+use Rattle.algebra_minus.specs.Steps.{IsMinusRefusal, IsRefusedWithin}
 use Rattle.algebra.specs.JoinedMarks.{agree_on, joined}
 use Rattle.algebra.specs.Joining.{IsJoinFault, IsJoinOf, IsSpentOn, most_steps}
 use Rattle.algebra.specs.JoinedNames.{all_names}
@@ -28,10 +31,10 @@ use Rattle.query_automaton.specs.declared.fault.CompileFault.TheVariants.{Size, 
 use Rattle.query_automaton.specs.BegunQuery.{BegunQuery, HasCauseIn, IsCompiledIn, TakesIn}
 use Rattle.query_automaton.specs.Compiling.{AreCompiled, IsCompiledFrom}
 use Rattle.query_automaton.specs.Held.{ArePartsWithin, HasCause, HasCauseOf, IsHoldFault, IsWithin, Takes}
-use Rattle.query_automaton.specs.QueryAutomaton.{of_atom, of_join, of_lets, of_union}
-use Rattle.query_automaton.specs.Steps.{QueryHasNoMinus, join_steps, operations, operations_of, operations_of_lets, steps_of}
+use Rattle.query_automaton.specs.QueryAutomaton.{of_atom, of_join, of_lets, of_minus, of_union}
+use Rattle.query_automaton.specs.Steps.{join_steps, minus_steps, steps_of_lets, steps_of_query, steps_within}
 use Rattle.query_automaton.specs.Parts.{HasSmallAtoms}
-use Rattle.query_automaton.specs.Told.{IsTold, IsToldOf, atom_fault_of, compile_fault}
+use Rattle.query_automaton.specs.Told.{IsTold, atom_fault_of, compile_fault, minus_fault}
 use Rattle.place_automaton.specs.declared.TheConstants as place
 use Rattle.place_automaton.specs.declared.fault.AtomFault.{AtomFault}
 use Rattle.place_automaton.specs.declared.fault.AtomFault.TheVariants as of
@@ -44,7 +47,7 @@ use Rattle.query_automaton.proofs.PieceLaws.{atom_fault, atom_names, body_fault,
 
 -- the steps of the first lets
 abbrev pub TakesLets : QueryTree → ℕ → ℕ → Type 0
-TakesLets q k effort = (most : ℕ) → QueryHasNoMinus q → IsWithin q most → MOST_STEPS ≤ effort + operations_of_lets (take k q.lets) * steps_of most
+TakesLets q k effort = (most : ℕ) → IsWithin q most → MOST_STEPS ≤ effort + steps_of_lets most (take k q.lets)
 
 -- ---- the next let
 
@@ -66,19 +69,19 @@ module _ (first b : BegunQuery) (same : b.query ≡ first.query) (k : ℕ) (long
       let here = subst (λ (q : Query). HasCauseOf (of_lets (query_of q).lets (length b.lets)) b.held effort l.1 (Ends count)) same h in
       let one = subst (λ n. HasCauseOf (of_lets Q.lets n) b.held effort l.1 (Ends count)) long here in
       (one.0, λ most within. one.1 most (within.0 k l at))
-  let_cause Spent h = λ most plain within.
+  let_cause Spent h = λ most within.
       let here = subst (λ (q : Query). HasCauseOf (of_lets (query_of q).lets (length b.lets)) b.held effort l.1 Spent) same h in
       let one = subst (λ n. HasCauseOf (of_lets Q.lets n) b.held effort l.1 Spent) long here in
-      step_le MOST_STEPS effort (operations_of_lets (take k Q.lets)) (operations l.1) (operations_of Q) (steps_of most) (takes most plain within) (one most (plain.0 k l at) (within.0 k l at))
-      (omega (arith, lets_more Q.lets k l at, lets_first (k + 1) Q.lets))
+      step_le MOST_STEPS effort (steps_of_lets most (take k Q.lets)) (steps_within most l.1) (steps_of_query most Q) (takes most within) (one most (within.0 k l at))
+      (omega (arith, lets_more most Q.lets k l at, lets_first most (k + 1) Q.lets))
 
   -- after the let
   pub let_takes : (after : ℕ) → TakesIn b l.1 effort after → TakesLets Q (k + 1) after
-  let_takes after h most plain within =
+  let_takes after h most within =
       let here = subst (λ (q : Query). Takes (of_lets (query_of q).lets (length b.lets)) l.1 effort after) same h in
       let one = subst (λ n. Takes (of_lets Q.lets n) l.1 effort after) long here in
-      step_more MOST_STEPS effort after (operations_of_lets (take k Q.lets)) (operations l.1) (operations_of_lets (take (k + 1) Q.lets)) (steps_of most) (takes most plain within)
-      (one most (plain.0 k l at) (within.0 k l at)) (omega (arith, lets_more Q.lets k l at))
+      step_more MOST_STEPS effort after (steps_of_lets most (take k Q.lets)) (steps_within most l.1) (steps_of_lets most (take (k + 1) Q.lets)) (takes most within)
+      (one most (within.0 k l at)) (omega (arith, lets_more most Q.lets k l at))
 
   module _ (a : Marked) (made : IsCompiledIn b l.1 a) (marked : IsMarked a) where
     made_here : IsCompiledFrom Q k l.1 a
@@ -94,7 +97,7 @@ module _ (first b : BegunQuery) (same : b.query ≡ first.query) (k : ℕ) (long
 
 module _ (q : Query) (b : BegunQuery) (same : b.query ≡ q) (long : length b.lets ≡ length (query_of q).lets)
     (so_far : (most : ℕ) → IsWithin (query_of q) most → b.held ≤ length (query_of q).lets * most) (effort : ℕ)
-    (takes : (most : ℕ) → QueryHasNoMinus (query_of q) → IsWithin (query_of q) most → MOST_STEPS ≤ effort + operations_of_lets (query_of q).lets * steps_of most) where
+    (takes : (most : ℕ) → IsWithin (query_of q) most → MOST_STEPS ≤ effort + steps_of_lets most (query_of q).lets) where
   abbrev N : ℕ
   N = length (query_of q).lets
 
@@ -107,11 +110,11 @@ module _ (q : Query) (b : BegunQuery) (same : b.query ≡ q) (long : length b.le
       let here = subst (λ (x : Query). HasCauseOf (of_lets (query_of x).lets (length b.lets)) b.held effort (query_of q).body (Ends count)) same h in
       let one = subst (λ n. HasCauseOf (of_lets (query_of q).lets n) b.held effort (query_of q).body (Ends count)) long here in
       (one.0, λ most within. one.1 most within.1)
-  body_cause Spent h = λ most plain within.
+  body_cause Spent h = λ most within.
       let here = subst (λ (x : Query). HasCauseOf (of_lets (query_of x).lets (length b.lets)) b.held effort (query_of q).body Spent) same h in
       let one = subst (λ n. HasCauseOf (of_lets (query_of q).lets n) b.held effort (query_of q).body Spent) long here in
-      step_le MOST_STEPS effort (operations_of_lets (query_of q).lets) (operations (query_of q).body) (operations_of (query_of q)) (steps_of most) (takes most plain within)
-      (one most plain.1 within.1) (omega arith)
+      step_le MOST_STEPS effort (steps_of_lets most (query_of q).lets) (steps_within most (query_of q).body) (steps_of_query most (query_of q)) (takes most within)
+      (one most within.1) (omega arith)
 
 -- ---- an atom
 
@@ -124,12 +127,12 @@ atom_within L u whole up all reduces marked small most within =
     omega (arith, reduced_size whole (of_atom u) marked made, part_size L most (atom u) within small)
 
 pub atom_takes : (L : ℕ → Marked) (u : AtomTree) (before after cost : ℕ) → before ≤ after + 64 * cost → ((most : ℕ) → ArePartsWithin L (atom u) most → cost ≤ most) → Takes L (atom u) before after
-atom_takes L u before after cost spent few most plain within = omega (arith, spent, few most within, made_cost cost most (few most within))
+atom_takes L u before after cost spent few most within = omega (arith, spent, few most within, made_cost cost most (few most within))
 
 pub atom_spent : (L : ℕ → Marked) (u : AtomTree) (held before cost : ℕ) → before ≤ 64 * cost → ((most : ℕ) → ArePartsWithin L (atom u) most → cost ≤ most) → (fault : CompileFault) →
     fault ≡ Spent → HasCauseOf L held before (atom u) fault
 atom_spent L u held before cost spent few fault is =
-    subst (HasCauseOf L held before (atom u)) (sym is) (λ most plain within. omega (arith, spent, made_cost cost most (few most within)))
+    subst (HasCauseOf L held before (atom u)) (sym is) (λ most within. omega (arith, spent, made_cost cost most (few most within)))
 
 -- a refusal of an atom
 pub atom_cause : (L : ℕ → Marked) (u : AtomTree) (held effort : ℕ) (fault : AtomFault) → IsAtomRefusal u fault → HasCauseOf L held effort (atom u) (atom_fault_of fault)
@@ -152,6 +155,14 @@ pub joined_size : (A B J : Marked) → IsJoinOf A B J → IsMarked J → size J.
 joined_size A B J of marked =
     reduced_size J (of_join A B) marked (subst (λ (ns : List VarName). Reduces J.graph (join_of (agree_on A.names B.names ns) (joined A.names B.names ns) A.graph B.graph)) of.names of.reduct)
 
+-- ---- a difference
+
+pub minus_refused : (A B : Marked) (before after : ℕ) → before ≤ after + (A.graph.states + B.graph.states) → (fault : MinusFault) →
+    IsRefusedWithin (of_minus A B).graph.states (length (of_minus A B).graph.ways) fault → IsMinusRefusal A.graph B.graph after fault →
+    IsTold (IsSizeFaultWithin (of_minus A B).graph.states (length (of_minus A B).graph.ways)) 0 before (minus_steps A B) (minus_fault fault)
+minus_refused A B before after le (minus.Size fault) within cause = within
+minus_refused A B before after le minus.Spent within cause = omega (arith, le, cause)
+
 -- ---- a union
 
 pub united_size : (A B taken u : Marked) → taken ≡ A → u.names ≡ all_names taken.names B.names → Reduces u.graph (union_over taken B u.names) → IsMarked u →
@@ -162,6 +173,3 @@ united_size A B taken u is names reduct marked =
 -- what is left where an operation is refused for want of steps
 pub told_spent : (P : SizeFault → Type 0) (ends before most : ℕ) → before ≤ most → (fault : CompileFault) → fault ≡ Spent → IsTold P ends before most fault
 told_spent P ends before most le fault is = subst (IsTold P ends before most) (sym is) le
-
-pub told_of_spent : (P : SizeFault → Type 0) (fault : CompileFault) → fault ≡ Spent → IsToldOf P fault
-told_of_spent P fault is = subst (IsToldOf P) (sym is) tt

@@ -14,9 +14,13 @@ use Rattle.algebra_minus.proofs.Alike.{ways_have_bytes}
 use Rattle.algebra_minus.proofs.DifferenceMade.{difference_made}
 use Rattle.algebra_minus.proofs.Reducts.{reduct_of_difference}
 use Rattle.query_automaton.specs.Compiling.{AreCompiled, IsAsked, IsCompiledFrom}
+use Rattle.query_automaton.specs.Held.{ArePartsWithin}
+use Rattle.query_automaton.specs.Steps.{minus_steps, minus_steps_of}
 use Rattle.query_automaton.specs.Parts.{HasLargePartOf, numbers_of}
 use Rattle.query_automaton.specs.QueryAutomaton.{automaton_of, of_lets, of_minus}
 use Rattle.query_automaton.proofs.CompileLaws.{shape}
+use Rattle.query_automaton.proofs.HeldLaws.{compiled_size}
+use Rattle.query_automaton.proofs.StepLaws.{minus_cost}
 
 pub asked_left : (q : QueryTree) (n : ℕ) (e g : ExprTree) → IsAsked q n (minus e g) → IsAsked q n e
 asked_left q n e g a = record { sound = a.sound; sound_expr = a.sound_expr.0; named = λ x v. a.named x (inl v) }
@@ -67,3 +71,12 @@ module _ (q : QueryTree) (lets : List Marked) (known : AreCompiled q lets) (e g 
     minus_too_large (States count) h = (h.0, (numbers_of (of_minus A B), inr (inr refl), omega (arith, h.1, no_larger.0)))
     minus_too_large (Ways count) h = (h.0, (numbers_of (of_minus A B), inr (inr refl), omega (arith, h.1, no_larger.1)))
     minus_too_large OutOfMemory h = tt
+
+    -- what the difference takes, where each part is within a number
+    pub minus_within : (most : ℕ) → ArePartsWithin (of_lets q.lets (length lets)) (minus e g) most → minus_steps a p ≤ minus_steps_of most
+    minus_within most within =
+        let made = difference_made a.graph p.graph marked.0.whole marked.1.whole in
+        let less = reduct_is_no_larger (of_minus a p).graph (of_minus A B).graph made.4.whole (ways_have_bytes a.graph p.graph (difference_of a.graph p.graph) made) reduce.1 in
+        let both = within (numbers_of (of_minus A B)) (inr (inr refl)) in
+        minus_cost a p most (compiled_size q (length lets) e a left marked.0 most (λ n h. within n (inl h))) (compiled_size q (length lets) g p right marked.1 most (λ n h. within n (inr (inl h))))
+        (omega (arith, less.0, less.1, less.2, both))

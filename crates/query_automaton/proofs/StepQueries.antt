@@ -9,12 +9,12 @@ use Rattle.query_automaton.specs.declared.fault.CompileFault.TheVariants.{Spent}
 use Rattle.query_automaton.specs.Compiling.{AreCompiled, IsAsked, IsCompiledFrom}
 use Rattle.query_automaton.specs.Held.{ArePartsWithin, HasCauseOf, Takes}
 use Rattle.query_automaton.specs.QueryAutomaton.{of_lets}
-use Rattle.query_automaton.specs.Steps.{HasNoMinus, join_steps, operations, steps_of, union_steps}
+use Rattle.query_automaton.specs.Steps.{join_steps, steps_of, steps_within, union_steps}
 use Rattle.query_automaton.specs.Told.{IsTold}
 use Rattle.query_automaton.proofs.Combining.{AreTooLarge, Operation, Union, Join, all_of, of_two}
 use Rattle.query_automaton.proofs.CompileLaws.{SoFar, too_large, two_size}
 use Rattle.query_automaton.proofs.HeldLaws.{TakesFirst, cause_of_two, compiled_size, part_of_one, so_far_size}
-use Rattle.query_automaton.proofs.StepLaws.{join_cost, made_cost, no_minus_part, operations_more, operations_next, step_le, step_more, union_cost}
+use Rattle.query_automaton.proofs.StepLaws.{join_cost, made_cost, step_le, step_more, steps_more, steps_next, union_cost}
 
 abbrev pub two_steps : Operation → Marked → Marked → ℕ
 two_steps Union A B = union_steps A B
@@ -24,9 +24,9 @@ cost_of_two : (o : Operation) (a p : Marked) (most : ℕ) → size a.graph ≤ m
 cost_of_two Union a p most one two both = union_cost a p most two both
 cost_of_two Join a p most one two both = join_cost a p most one two both
 
-no_operations : (o : Operation) (es : List ExprTree) → operations (all_of o (take 0 es)) ≡ 0
-no_operations Union es = omega arith
-no_operations Join es = omega arith
+no_steps : (most : ℕ) (o : Operation) (es : List ExprTree) → steps_within most (all_of o (take 0 es)) ≡ 0
+no_steps most Union es = omega arith
+no_steps most Join es = omega arith
 
 module _ (q : QueryTree) (lets : List Marked) (known : AreCompiled q lets) (o : Operation) (es : List ExprTree) where
   abbrev L : ℕ → Marked
@@ -35,22 +35,20 @@ module _ (q : QueryTree) (lets : List Marked) (known : AreCompiled q lets) (o : 
   -- ---- the first part
 
   module _ (y : ExprTree) (at : slice_get es 0 ≡ Some y) (before middle : ℕ) (takes : Takes L y before middle) where
-    first_inside : (most : ℕ) → HasNoMinus (all_of o es) → ArePartsWithin L (all_of o es) most → before ≤ middle + operations y * steps_of most
-    first_inside most plain within =
-        let has = Has-slice_get es 0 y at in
-        takes most (no_minus_part o es y has plain) (λ n p. within n (part_of_one L o es y n has p))
+    first_inside : (most : ℕ) → ArePartsWithin L (all_of o es) most → before ≤ middle + steps_within most y
+    first_inside most within = takes most (λ n p. within n (part_of_one L o es y n (Has-slice_get es 0 y at) p))
 
     pub first_takes : (after cost : ℕ) → middle ≤ after + cost → ((most : ℕ) → ArePartsWithin L (all_of o es) most → cost ≤ steps_of most) → TakesFirst L o es 1 before after
-    first_takes after cost spent few most plain within =
-        step_more before middle after (operations y) 1 (operations (all_of o (take 1 es))) (steps_of most) (first_inside most plain within) (omega (arith, spent, few most within))
-        (omega (arith, operations_more o es 0 y at, no_operations o es))
+    first_takes after cost spent few most within =
+        step_more before middle after (steps_within most y) (steps_of most) (steps_within most (all_of o (take 1 es))) (first_inside most within) (omega (arith, spent, few most within))
+        (omega (arith, steps_more most o es 0 y at, no_steps most o es))
 
     pub first_spent : (held cost : ℕ) → middle ≤ cost → ((most : ℕ) → ArePartsWithin L (all_of o es) most → cost ≤ steps_of most) → (fault : CompileFault) → fault ≡ Spent →
         HasCauseOf L held before (all_of o es) fault
     first_spent held cost spent few fault is =
         subst (HasCauseOf L held before (all_of o es)) (sym is)
-        (λ most plain within. step_le before middle (operations y) 1 (operations (all_of o es)) (steps_of most) (first_inside most plain within) (omega (arith, spent, few most within))
-        (omega (arith, operations_next o es 0 y at, no_operations o es)))
+        (λ most within. step_le before middle (steps_within most y) (steps_of most) (steps_within most (all_of o es)) (first_inside most within) (omega (arith, spent, few most within))
+        (omega (arith, steps_next most o es 0 y at, no_steps most o es)))
 
   pub first_cost : (y : ExprTree) → slice_get es 0 ≡ Some y → (a : Marked) → IsCompiledFrom q (length lets) y a → IsMarked a → (most : ℕ) → ArePartsWithin L (all_of o es) most →
       64 * size a.graph ≤ steps_of most
@@ -68,12 +66,10 @@ module _ (q : QueryTree) (lets : List Marked) (known : AreCompiled q lets) (o : 
         (two_size q lets known o es asked k l y at a p so_far part marked most within)
 
     module _ (before before_part after_part : ℕ) (first : TakesFirst L o es k before before_part) (takes : Takes L y before_part after_part) where
-      two_takes : (most : ℕ) → HasNoMinus (all_of o es) → ArePartsWithin L (all_of o es) most →
-          before ≤ after_part + (operations (all_of o (take k es)) + operations y) * steps_of most
-      two_takes most plain within =
-          let has = Has-slice_get es k y at in
-          step_more before before_part after_part (operations (all_of o (take k es))) (operations y) (operations (all_of o (take k es)) + operations y) (steps_of most)
-          (first most plain within) (takes most (no_minus_part o es y has plain) (λ n h. within n (part_of_one L o es y n has h))) (omega arith)
+      two_takes : (most : ℕ) → ArePartsWithin L (all_of o es) most → before ≤ after_part + (steps_within most (all_of o (take k es)) + steps_within most y)
+      two_takes most within =
+          step_more before before_part after_part (steps_within most (all_of o (take k es))) (steps_within most y) (steps_within most (all_of o (take k es)) + steps_within most y)
+          (first most within) (takes most (λ n h. within n (part_of_one L o es y n (Has-slice_get es k y at) h))) (omega arith)
 
       pub two_fault : (held : ℕ) (fault : CompileFault) → IsTold (AreTooLarge o a p) (length (of_two o a p).graph.stops) after_part (two_steps o a p) fault → HasCauseOf L held before (all_of o es) fault
       two_fault held fault h =
@@ -81,6 +77,6 @@ module _ (q : QueryTree) (lets : List Marked) (known : AreCompiled q lets) (o : 
           (λ f g. too_large q lets known o es asked k l y at a p so_far part marked f g) (λ most within. omega (arith, two_size q lets known o es asked k l y at a p so_far part marked most within)) two_cost two_takes fault h
 
       pub next_takes : (after : ℕ) → after_part ≤ after + two_steps o a p → TakesFirst L o es (k + 1) before after
-      next_takes after spent most plain within =
-          step_more before after_part after (operations (all_of o (take k es)) + operations y) 1 (operations (all_of o (take (k + 1) es))) (steps_of most) (two_takes most plain within)
-          (omega (arith, spent, two_cost most within)) (omega (arith, operations_more o es k y at))
+      next_takes after spent most within =
+          step_more before after_part after (steps_within most (all_of o (take k es)) + steps_within most y) (steps_of most) (steps_within most (all_of o (take (k + 1) es))) (two_takes most within)
+          (omega (arith, spent, two_cost most within)) (omega (arith, steps_more most o es k y at))

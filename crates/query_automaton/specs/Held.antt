@@ -10,7 +10,7 @@ use Rattle.query_automaton.specs.declared.fault.CompileFault.{CompileFault}
 use Rattle.query_automaton.specs.declared.fault.CompileFault.TheVariants.{Size, Held, Ends, Spent}
 use Rattle.query_automaton.specs.Parts.{HasLargePart, HasLargePartOf, HasPart, PartNumbers}
 use Rattle.query_automaton.specs.QueryAutomaton.{of_lets}
-use Rattle.query_automaton.specs.Steps.{HasNoMinus, QueryHasNoMinus, operations, operations_of, steps_of}
+use Rattle.query_automaton.specs.Steps.{steps_of_query, steps_within}
 
 -- how many automata wait, at most, while the expression is compiled: for each union, join and difference that its innermost
 -- part is in, what was made of the parts before
@@ -52,33 +52,32 @@ IsHoldFault all Spent = ⊥
 -- an expression is refused, where so much is held before and so many steps are left, only for a part that is too large, or
 -- because too much would be held, or one automaton would have too many ends, or too many steps would be taken. Where each
 -- part is within a number, what is held is no more than the number for each automaton that waits, the ends are no more than
--- it, and the steps no more than it allows for each operation
+-- it, and the steps no more than it allows
 abbrev pub HasCauseOf : (ℕ → Marked) → ℕ → ℕ → ExprTree → CompileFault → Type 0
 HasCauseOf L held effort e (Size fault) = HasLargePartOf L e fault
 HasCauseOf L held effort e (Held count) = (MOST_HELD < count) × ((most : ℕ) → ArePartsWithin L e most → count ≤ held + waits e * most)
 HasCauseOf L held effort e (Ends count) = (MOST_ENDS < count) × ((most : ℕ) → ArePartsWithin L e most → count ≤ most)
-HasCauseOf L held effort e Spent = (most : ℕ) → HasNoMinus e → ArePartsWithin L e most → effort ≤ operations e * steps_of most
+HasCauseOf L held effort e Spent = (most : ℕ) → ArePartsWithin L e most → effort ≤ steps_within most e
 
 -- and takes no more steps than that
 abbrev pub Takes : (ℕ → Marked) → ExprTree → ℕ → ℕ → Type 0
-Takes L e before after = (most : ℕ) → HasNoMinus e → ArePartsWithin L e most → before ≤ after + operations e * steps_of most
+Takes L e before after = (most : ℕ) → ArePartsWithin L e most → before ≤ after + steps_within most e
 
 -- the same of a query
 abbrev pub HasCause : QueryTree → CompileFault → Type 0
 HasCause q (Size fault) = HasLargePart q fault
 HasCause q (Held count) = (MOST_HELD < count) × ((most : ℕ) → IsWithin q most → count ≤ most_held q * most)
 HasCause q (Ends count) = (MOST_ENDS < count) × ((most : ℕ) → IsWithin q most → count ≤ most)
-HasCause q Spent = (most : ℕ) → QueryHasNoMinus q → IsWithin q most → MOST_STEPS ≤ operations_of q * steps_of most
+HasCause q Spent = (most : ℕ) → IsWithin q most → MOST_STEPS ≤ steps_of_query most q
 
 -- so a query is never refused for what it holds, where each part is within a number that is within the limit as often as
 -- automata are held
 abbrev pub QueriesOfSmallParts : Type 0
 QueriesOfSmallParts = (q : QueryTree) (most count : ℕ) → IsWithin q most → most_held q * most ≤ MOST_HELD → ¬ HasCause q (Held count)
 
--- and a query without minus is never refused for its steps, where those that the number allows for each operation are fewer
--- than the limit
+-- and never for its steps, where those that the number allows are fewer than the limit
 abbrev pub QueriesOfFewSteps : Type 0
-QueriesOfFewSteps = (q : QueryTree) (most : ℕ) → QueryHasNoMinus q → IsWithin q most → operations_of q * steps_of most < MOST_STEPS → ¬ HasCause q Spent
+QueriesOfFewSteps = (q : QueryTree) (most : ℕ) → IsWithin q most → steps_of_query most q < MOST_STEPS → ¬ HasCause q Spent
 
 -- nor is any query refused for the ends of one automaton, where each part is within a number that is within the limit
 abbrev pub QueriesOfFewEnds : Type 0

@@ -6,6 +6,8 @@ use Rattle.place_automaton.specs.declared.fault.AtomFault.TheVariants as atom
 use Rattle.algebra.specs.declared.TheConstants.{MOST_ENDS}
 use Rattle.algebra.specs.declared.fault.JoinFault.{JoinFault}
 use Rattle.algebra.specs.declared.fault.JoinFault.TheVariants as join
+use Rattle.algebra_minus.specs.declared.fault.MinusFault.{MinusFault}
+use Rattle.algebra_minus.specs.declared.fault.MinusFault.TheVariants as minus
 use Rattle.query_automaton.specs.declared.fault.CompileFault.{CompileFault}
 use Rattle.query_automaton.specs.declared.fault.CompileFault.TheVariants.{Size, Held, Ends, Spent}
 
@@ -13,6 +15,10 @@ abbrev pub compile_fault : JoinFault → CompileFault
 compile_fault (join.Size fault) = Size fault
 compile_fault (join.Ends count) = Ends count
 compile_fault join.Spent = Spent
+
+abbrev pub minus_fault : MinusFault → CompileFault
+minus_fault (minus.Size fault) = Size fault
+minus_fault minus.Spent = Spent
 
 abbrev pub atom_fault_of : AtomFault → CompileFault
 atom_fault_of (atom.Size fault) = Size fault
@@ -25,10 +31,3 @@ IsTold P ends effort most (Size fault) = P fault
 IsTold P ends effort most (Held count) = ⊥
 IsTold P ends effort most (Ends count) = (MOST_ENDS < count) × (count ≤ ends)
 IsTold P ends effort most Spent = effort ≤ most
-
--- the same, of steps that are not bounded
-abbrev pub IsToldOf : (SizeFault → Type 0) → CompileFault → Type 0
-IsToldOf P (Size fault) = P fault
-IsToldOf P (Held count) = ⊥
-IsToldOf P (Ends count) = ⊥
-IsToldOf P Spent = Unit {0}

@@ -80,8 +80,8 @@ pub fn compile<'q>(alloc: Global, query: &'q Query) -> Result<Compiled<'q>, Size
 /// What `compile` makes. `CompileFault::Held` comes only where more than `MOST_HELD` states, ways and ends would be held:
 /// the count that it tells is more than that. It is no more than the numbers of the largest part of the query, as often as
 /// there are `let`s and parts that wait at one time. `CompileFault::Ends` comes only where
-/// the automaton of an atom or of a join has too many ends. `CompileFault::Spent` comes only where more than `MOST_STEPS` steps are
-/// taken: in a query without `minus` each operation takes no more than the numbers of the largest part allow.
+/// the automaton of an atom or of a join has too many ends. `CompileFault::Spent` comes only where `MOST_STEPS` steps are
+/// taken: they are no more than the numbers of the largest part allow.
 pub fn compile_with_cause<'q>(alloc: Global, query: &'q Query) -> Result<Compiled<'q>, CompileFault>
     requires { IsSound (query_of query.now) }
     ensures made { IfOk result (λ c. ReducesMarked c.automaton (of_query (query_of query.now))) }

@@ -22,8 +22,8 @@ ghost use Rattle.algebra.specs.JoinedNames.{all_names};
 ghost use Rattle.query_automaton.specs.BegunQuery.{CanCompile, HasCauseBeside, HasCauseIn, IsCompiledIn, TakesIn};
 ghost use Rattle.query_automaton.specs.Compiling.{AreCompiled};
 ghost use Rattle.query_automaton.specs.Held.{HasCause, IsHoldFault, IsWithin};
-ghost use Rattle.query_automaton.specs.Steps.{QueryHasNoMinus, join_steps, operations_of_lets, steps_of, union_steps};
-ghost use Rattle.query_automaton.specs.Told.{IsTold, IsToldOf};
+ghost use Rattle.query_automaton.specs.Steps.{join_steps, minus_steps, steps_of_lets, union_steps};
+ghost use Rattle.query_automaton.specs.Told.{IsTold};
 ghost use Rattle.query_automaton.specs.declared.effort.TheConstants.{MOST_STEPS};
 ghost use Rattle.query_automaton.specs.QueryAutomaton.{of_join, of_minus, of_union};
 
@@ -31,7 +31,7 @@ use crate::effort::{hold, spend};
 use crate::fault::CompileFault;
 use crate::shared::Shared;
 use algebra::{Effort, join_with_cause, project, unite};
-use algebra_minus::minus_within;
+use algebra_minus::minus_with_cause;
 use marked_automaton::{Automaton, MOST_STATES, SizeFault};
 use place_automaton::automaton_of;
 use span_core::{MOST_VARIABLES, OutOfMemory, VarSet};
@@ -89,8 +89,8 @@ impl<'q> Compiler<'q> {
         ensures long { OnOk result (length self.new.lets ≡ length (query_of self.old.query).lets) }
         ensures made { OnOk result (AreCompiled (query_of self.old.query) self.new.lets) }
         ensures held { OnOk result ((most : ℕ) → IsWithin (query_of self.old.query) most → self.new.held ≤ length (query_of self.old.query).lets * most) }
-        ensures steps { OnOk result ((most : ℕ) → QueryHasNoMinus (query_of self.old.query) → IsWithin (query_of self.old.query) most →
-            MOST_STEPS ≤ effort.new + operations_of_lets (query_of self.old.query).lets * steps_of most) }
+        ensures steps { OnOk result ((most : ℕ) → IsWithin (query_of self.old.query) most →
+            MOST_STEPS ≤ effort.new + steps_of_lets most (query_of self.old.query).lets) }
         ensures fault { IfErr result (HasCause (query_of self.old.query)) }
     {
         let query = self.query;
@@ -308,11 +308,12 @@ impl<'q> Compiler<'q> {
         ensures same { self.new ≡ self.old }
         ensures marked { IsMarked left.now × IsMarked right.now }
         ensures made { IfOk result (λ alone. ReducesMarked alone (of_minus left.now right.now)) }
-        ensures fault { IfErr result (IsToldOf (IsSizeFaultWithin (of_minus left.now right.now).graph.states (length (of_minus left.now right.now).graph.ways))) }
+        ensures steps { OnOk result (effort.old ≤ effort.new + minus_steps left.now right.now) }
+        ensures fault { IfErr result (IsTold (IsSizeFaultWithin (of_minus left.now right.now).graph.states (length (of_minus left.now right.now).graph.ways)) 0 effort.old (minus_steps left.now right.now)) }
     {
-        // What is tried `minus_within` counts.
+        // What is tried `minus_with_cause` counts.
         effort.spend(u64::from(left.states()) + u64::from(right.states()));
-        let alone = minus_within(self.alloc, left, right, effort)?;
+        let alone = minus_with_cause(self.alloc, left, right, effort)?;
         spend(effort, &alone)?;
         Ok(Shared::new(self.alloc, alone.trim(self.alloc)?)?)
     }

@@ -2,10 +2,11 @@
 ghost use Rattle.std.specs.Prelude.{◌≡◌};
 ghost use Rattle.marked_automaton.specs.declared.fault.SizeFault.TheVariants.{OutOfMemory};
 ghost use Rattle.query_automaton.specs.declared.fault.CompileFault.TheVariants.{Size};
-ghost use Rattle.query_automaton.specs.Told.{atom_fault_of, compile_fault};
+ghost use Rattle.query_automaton.specs.Told.{atom_fault_of, compile_fault, minus_fault};
 
 use crate::effort::{MOST_HELD, MOST_STEPS};
 use algebra::{JoinFault, MOST_ENDS};
+use algebra_minus::MinusFault;
 use marked_automaton::SizeFault;
 use place_automaton::AtomFault;
 use span_core::OutOfMemory;
@@ -61,6 +62,17 @@ impl From<JoinFault> for CompileFault {
             JoinFault::Size(fault) => CompileFault::Size(fault),
             JoinFault::Ends { count } => CompileFault::Ends { count },
             JoinFault::Spent => CompileFault::Spent,
+        }
+    }
+}
+
+impl From<MinusFault> for CompileFault {
+    ghost from_gives = { λ fault e. e ≡ minus_fault fault };
+
+    fn from(fault: MinusFault) -> CompileFault {
+        match fault {
+            MinusFault::Size(fault) => CompileFault::Size(fault),
+            MinusFault::Spent => CompileFault::Spent,
         }
     }
 }

@@ -22,8 +22,8 @@ pub fn queries_of_small_parts_hold_little()
     ensures { QueriesOfSmallParts }
 {}
 
-/// A query without `minus`, of which each part has at most a number of states, ways and ends together, is never refused for
-/// its steps, where those that the number allows for each operation are fewer than `MOST_STEPS`.
+/// A query of which each part has at most a number of states, ways and ends together is never refused for its steps, where
+/// those that the number allows are fewer than `MOST_STEPS`.
 pub fn queries_of_few_steps_are_not_refused_for_them()
     ensures { QueriesOfFewSteps }
 {}

@@ -5,7 +5,8 @@ use Rattle.std.proofs.lemmas.List.{append-nil}
 use Rattle.std.proofs.lemmas.Bool.{cases_lt, cases_eq, eqb-false, eqb-true}
 use Rattle.span_core.specs.Blocks.{IsBlockList, listed}
 use Rattle.one_pass.specs.Places.{word_from, word_of}
-use Rattle.one_pass.specs.Words.{Word, block_word}
+use Rattle.one_pass.specs.Words.{Word}
+use Rattle.output_graph.specs.Forward.{mark_block}
 use Rattle.enumerator.proofs.Words.{AreSome, AscendsFrom, listed_before}
 
 -- ---- a block in front of others
@@ -13,7 +14,7 @@ use Rattle.enumerator.proofs.Words.{AreSome, AscendsFrom, listed_before}
 abbrev front_of : Bool → ℕ → ℕ → Word
 front_of b at m = let one : Word = (at, m) ∷ [] in if b then [] else one
 
-block_alone : (at m : ℕ) → block_word at m ++ [] ≡ block_word at m
+block_alone : (at m : ℕ) → mark_block at m ++ [] ≡ mark_block at m
 block_alone at m = (let one : Word = (at, m) ∷ [] in by (nat_eq m 0) one)
   where
     by : (b : Bool) (one : Word) → (if b then [] else one) ++ [] ≡ (if b then [] else one)
@@ -24,7 +25,7 @@ from_later : (n m : ℕ) (w : Word) → n ≤ m → AscendsFrom m w → AscendsF
 from_later n m [] le up = tt
 from_later n m (x ∷ w) le up = let first : m ≤ x.0 = up.0 in (omega arith, up.1)
 
-front_ascends : (at m : ℕ) (w : Word) → AscendsFrom (suc at) w → AscendsFrom at (block_word at m ++ w)
+front_ascends : (at m : ℕ) (w : Word) → AscendsFrom (suc at) w → AscendsFrom at (mark_block at m ++ w)
 front_ascends at m w up = by (nat_eq m 0)
   where
     next : suc at ≡ at + 1
@@ -34,21 +35,21 @@ front_ascends at m w up = by (nat_eq m 0)
     by true = from_later at (suc at) w (omega arith) up
     by false = (omega arith, subst (λ (k : ℕ). AscendsFrom k w) next up)
 
-front_some : (at m : ℕ) (w : Word) → AreSome w → AreSome (block_word at m ++ w)
+front_some : (at m : ℕ) (w : Word) → AreSome w → AreSome (mark_block at m ++ w)
 front_some at m w some = by (nat_eq m 0) (eqb-false m 0)
   where
     by : (b : Bool) → (b ≡ false → m ≡ 0 → ⊥) → AreSome (front_of b at m ++ w)
     by true ne = some
     by false ne = (elim (cases_lt 0 m) [ inl lt ↦ lt | inr ge ↦ absurd (ne refl (omega (arith, ge))) ], some)
 
-front_other : (at m : ℕ) (w : Word) (i : ℕ) → (at ≡ i → ⊥) → listed (block_word at m ++ w) i ≡ listed w i
+front_other : (at m : ℕ) (w : Word) (i : ℕ) → (at ≡ i → ⊥) → listed (mark_block at m ++ w) i ≡ listed w i
 front_other at m w i ne = by (nat_eq m 0)
   where
     by : (b : Bool) → listed (front_of b at m ++ w) i ≡ listed w i
     by true = refl
     by false = ap (λ b. if b then m else listed w i) (ne_eqb at i ne)
 
-front_here : (at m : ℕ) (w : Word) → listed w at ≡ 0 → listed (block_word at m ++ w) at ≡ m
+front_here : (at m : ℕ) (w : Word) → listed w at ≡ 0 → listed (mark_block at m ++ w) at ≡ m
 front_here at m w none = by (nat_eq m 0) (eqb-true m 0)
   where
     by : (b : Bool) → (b ≡ true → m ≡ 0) → listed (front_of b at m ++ w) at ≡ m
@@ -70,7 +71,7 @@ pub word_lists : (w : ℕ → ℕ) (i n at : ℕ) → i ≤ at → at ≤ i + n 
 word_lists w i zero at low high =
     let e : i ≡ at = omega arith in
     ap (λ (u : Word). listed u at) (sym (block_alone i (w i)))
-    ∙ subst (λ (k : ℕ). listed (block_word i (w i) ++ []) k ≡ w k) e (front_here i (w i) [] refl)
+    ∙ subst (λ (k : ℕ). listed (mark_block i (w i) ++ []) k ≡ w k) e (front_here i (w i) [] refl)
 word_lists w i (suc n) at low high = elim (cases_eq i at) [
   | inl e ↦ subst (λ (k : ℕ). listed (word_from w i (suc n)) k ≡ w k) e
       (front_here i (w i) (word_from w (suc i) n) (listed_before (suc i) (word_from w (suc i) n) i (word_ascends w (suc i) n) (omega arith)))

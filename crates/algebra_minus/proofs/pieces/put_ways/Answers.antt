@@ -27,7 +27,8 @@ loop-state-preserved c =
       known = c.in_ok-put_taken.ensures.known;
       ways = alike_then c.put_taken.new.taken.items (xs ++ ways) (flat_map f (take (i + 1) members)) c.in_ok-put_taken.ensures.ways
           (subst (λ (ws : List Way). LeadAlike (xs ++ ways) ws) all (alike_both xs (flat_map f (take i members)) ways c.loop-state.invariant.ways));
-      effort = omega (arith, c.spend.ensures, c.loop-state.invariant.effort);
+      effort = omega (arith, c.charge.ensures.effort, c.loop-state.invariant.effort);
+      room = omega (arith, c.charge.ensures.room, c.loop-state.invariant.room);
     }
 
 pub returns-clause-ways : goal.returns-clause-ways

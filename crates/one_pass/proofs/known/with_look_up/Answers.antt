@@ -1,6 +1,6 @@
 use Rattle.std.proofs.Common.{refl}
 use Rattle.output_graph.specs.Sound.{edges_of}
-use Rattle.one_pass.proofs.GraphBridge.{descend_edges}
+use Rattle.one_pass.proofs.GraphLaws.{descend_edges}
 use Rattle.one_pass.proofs.known.with_look_up.Goals as goal
 
 pub with_source-requires : goal.with_source-requires

@@ -1,5 +1,5 @@
 use Rattle.output_graph.specs.Rows.{rows}
-use Rattle.one_pass.proofs.GraphBridge.{accepted_listed}
+use Rattle.one_pass.proofs.GraphLaws.{accepted_listed}
 use Rattle.one_pass.proofs.listing.read_rows_with.Goals as goal
 
 pub returns-clause-words : goal.returns-clause-words

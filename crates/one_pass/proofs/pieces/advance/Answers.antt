@@ -1,13 +1,12 @@
 use Rattle.std.proofs.Common.{sym, subst}
 use Rattle.one_pass.specs.Ahead.{KnowsWaiting}
 use Rattle.one_pass.specs.Passes.{IsOpen}
-use Rattle.one_pass.specs.Seen.{whole}
 use Rattle.one_pass.proofs.OpenLaws.{open_ready, ready_open}
 use Rattle.one_pass.proofs.pieces.advance.Goals as goal
 
 pub read-requires-clause-goes_on : goal.read-requires-clause-goes_on
 read-requires-clause-goes_on g c = record {
-  ready = open_ready c.args.table.now c.args.graph c.args.at c.is_table.ensures c.is_graph.ensures.sources c.requires.open;
+  ready = open_ready c.is_table.ensures c.is_graph.ensures.sources c.requires.open;
   known = c.new.ensures c.args.table.now;
   waits = subst (KnowsWaiting c.args.table.now.graph.ways) (sym c.new-2.ensures) tt;
 }
@@ -23,5 +22,5 @@ returns-clause-read g c = c.in_default.ensures.read.read
 
 pub returns-clause-open : goal.returns-clause-open
 returns-clause-open g c =
-    subst (λ j. IsOpen c.read.new.table (whole c.read.new.self.graph) j) c.in_default.ensures.at
-    (ready_open c.read.new.table c.read.new.self.graph c.read.new.self.at c.in_default.ensures.read.goes_on.ready)
+    subst (λ j. IsOpen c.read.new.table c.read.new.self.graph j) c.in_default.ensures.at
+    (ready_open c.in_default.ensures.read.goes_on.ready)

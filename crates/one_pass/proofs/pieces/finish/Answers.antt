@@ -6,7 +6,7 @@ use Rattle.one_pass.proofs.pieces.finish.Goals as goal
 
 pub end-requires : goal.end-requires
 end-requires g c = record {
-  ready = open_ready c.args.table.now c.args.graph c.args.at c.is_table.ensures c.is_graph.ensures.sources c.requires.open;
+  ready = open_ready c.is_table.ensures c.is_graph.ensures.sources c.requires.open;
   known = c.new.ensures c.args.table.now;
   waits = subst (KnowsWaiting c.args.table.now.graph.ways) (sym c.new-2.ensures) tt;
 }

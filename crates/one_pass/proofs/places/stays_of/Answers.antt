@@ -7,7 +7,7 @@ use Rattle.span_core.proofs.HasLaws.{Has-get_or}
 use Rattle.output_graph.specs.Graph.{sources}
 use Rattle.one_pass.specs.Layers.{no_source, source_at}
 use Rattle.one_pass.proofs.Advancing.{stay_more}
-use Rattle.one_pass.proofs.GraphBridge.{whole_count, whole_set}
+use Rattle.one_pass.proofs.GraphLaws.{whole_count, whole_set}
 use Rattle.one_pass.proofs.places.stays_of.Goals as goal
 
 pub stays-requires : goal.stays-requires

@@ -6,7 +6,7 @@ use Rattle.output_graph.specs.Graph.{Source, sources}
 use Rattle.numbered_lists.specs.Numbered.{set_at}
 use Rattle.one_pass.specs.Layers.{no_source, source_at}
 use Rattle.one_pass.specs.Waiting.{IsOf}
-use Rattle.one_pass.proofs.GraphBridge.{whole_count, whole_set}
+use Rattle.one_pass.proofs.GraphLaws.{whole_count, whole_set}
 use Rattle.one_pass.proofs.waiting.is_layer_of.Goals as goal
 
 pub members-requires : goal.members-requires

@@ -2,7 +2,7 @@ use Rattle.std.proofs.Common.{◌<◌, length, arith, subst, sym}
 use Rattle.span_core.proofs.HasLaws.{Has-get_or}
 use Rattle.output_graph.specs.Graph.{sources}
 use Rattle.one_pass.specs.Layers.{no_source, source_at}
-use Rattle.one_pass.proofs.GraphBridge.{whole_set}
+use Rattle.one_pass.proofs.GraphLaws.{whole_set}
 use Rattle.one_pass.proofs.waiting.states_of.Goals as goal
 
 pub members-requires : goal.members-requires

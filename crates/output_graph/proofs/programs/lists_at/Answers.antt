@@ -1,7 +1,7 @@
 use Rattle.std.proofs.Common.{arith}
 use Rattle.std.proofs.lemmas.Option.{slice_get_read}
 use Rattle.output_graph.specs.Pools.{IsPart}
-use Rattle.output_graph.proofs.PoolLaws.{same_piece}
+use Rattle.output_graph.proofs.PoolLaws.{piece_long, same_piece}
 use Rattle.output_graph.proofs.programs.lists_at.Goals as goal
 
 pub piece_of-requires : goal.piece_of-requires
@@ -31,3 +31,8 @@ returns-clause-plan c =
     let has = c.args.pool.now.parts.ok.0 in
     let is : IsPart c.args.pool.now c.index-part.result.now = c.requires.pooled c.args.k _ (slice_get_read _ _ _ _ has (omega arith) c.index-part.ensures) in
     is.is_plan
+
+pub returns-clause-code : goal.returns-clause-code
+returns-clause-code c =
+    let has = c.args.pool.now.parts.ok.0 in
+    rw (slice_get_read _ _ _ _ has (omega arith) c.index-part.ensures) (piece_long _ _ c.index-part.result.now.code c.piece_of.ensures)

@@ -22,10 +22,12 @@ loop-k-preserved c =
           ap (λ (l : Layer). set l k (n, p.1)) c.loop-k.invariant.names
           ∙ (named_more k names old n p at_names there ∙ ap (λ j. named_first j names old) (sym (add-one k)));
       long = length-set {A = ℕ × ℕ} _ _ _ ∙ c.loop-k.invariant.long;
+      len = c.loop-k.invariant.len;
+      capacity = c.loop-k.invariant.capacity;
     }
 
-pub returns : goal.returns
-returns c =
+pub returns-clause-names : goal.returns-clause-names
+returns-clause-names c =
     let names = c.args.sets.now in
     let old : Layer = c.args.sources.now.items in
     c.loop-k.invariant.names ∙ named_all c.loop-k.k names old c.loop-k-test.false (omega (arith, c.loop-k-test.false, c.requires))

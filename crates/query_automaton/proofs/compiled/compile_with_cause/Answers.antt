@@ -10,7 +10,7 @@ use Rattle.algebra.proofs.Followed.{handed_on}
 use Rattle.query_automaton.specs.CompiledQuery.{IsCompiled}
 use Rattle.query_automaton.specs.Compiling.{AreCompiled, IsCompiledFrom}
 use Rattle.query_automaton.specs.Held.{HasCause, IsWithin}
-use Rattle.query_automaton.specs.Steps.{QueryHasNoMinus, operations_of_lets, steps_of}
+use Rattle.query_automaton.specs.Steps.{steps_of_lets}
 use Rattle.query_automaton.specs.declared.effort.TheConstants.{MOST_STEPS}
 use Rattle.query_automaton.specs.QueryAutomaton.{of_query}
 use Rattle.query_automaton.proofs.PieceLaws.{all_lets_small, body_can, body_made}
@@ -44,8 +44,8 @@ returns-in_err-body-clause-fault c =
     let fault = c.in_err-body.field-0.0 in
     let so_far : (most : ℕ) → IsWithin (query_of q) most → b.held ≤ length (query_of q).lets * most =
     subst (λ (x : Query). (most : ℕ) → IsWithin (query_of x) most → b.held ≤ length (query_of x).lets * most) at c.in_ok-compile_lets.ensures.held in
-    let takes : (most : ℕ) → QueryHasNoMinus (query_of q) → IsWithin (query_of q) most → MOST_STEPS ≤ c.compile_lets.new.effort + operations_of_lets (query_of q).lets * steps_of most =
-    subst (λ (x : Query). (most : ℕ) → QueryHasNoMinus (query_of x) → IsWithin (query_of x) most → MOST_STEPS ≤ c.compile_lets.new.effort + operations_of_lets (query_of x).lets * steps_of most) at
+    let takes : (most : ℕ) → IsWithin (query_of q) most → MOST_STEPS ≤ c.compile_lets.new.effort + steps_of_lets most (query_of q).lets =
+    subst (λ (x : Query). (most : ℕ) → IsWithin (query_of x) most → MOST_STEPS ≤ c.compile_lets.new.effort + steps_of_lets most (query_of x).lets) at
     c.in_ok-compile_lets.ensures.steps in
     handed_on (HasCause (query_of q)) c.from_residual-in_err-body.result fault c.from_residual-in_err-body.ensures.1
     (body_cause q b (c.in_ok-compile_lets.ensures.query ∙ at) long so_far c.compile_lets.new.effort takes fault c.in_err-body.ensures.fault)

@@ -1,12 +1,11 @@
 use Rattle.std.proofs.Common.{◌≡◌, ◌+◌, ◌-◌, List, ℕ, take, drop, arith, subst}
 use Rattle.one_pass.specs.Passes.{AllLeadBack}
-use Rattle.one_pass.specs.Seen.{whole}
 use Rattle.one_pass.proofs.pass.Pass.pass_over.Goals as goal
 
 pub returns-clause-back : goal.returns-clause-back
 returns-clause-back c =
     let t = c.args.table.now in
-    let g = whole c.args.self.now.graph in
+    let g = c.args.self.now.graph in
     let i = c.args.i in
     let over = c.bytes_over-over.result in
     let same : over ≡ (i + over) - i = omega arith in

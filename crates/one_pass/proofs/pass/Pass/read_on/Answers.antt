@@ -4,7 +4,6 @@ use Rattle.one_pass.specs.declared.pass.Pass.{Pass}
 use Rattle.one_pass.specs.Going.{GoesOn}
 use Rattle.one_pass.specs.Numbered.{StandsIn, as_layer, in_layer}
 use Rattle.one_pass.specs.Passes.{AllLeadBack}
-use Rattle.one_pass.specs.Seen.{whole}
 use Rattle.one_pass.proofs.BackLaws.{none_back}
 use Rattle.one_pass.proofs.NumberedLaws.{named_in, named_twice, numbered_if, same_pass}
 use Rattle.one_pass.proofs.pass.Pass.read_on.Goals as goal
@@ -13,7 +12,7 @@ pub returns-then-self-lt-QUIET-clause-back : goal.returns-then-self-lt-QUIET-cla
 returns-then-self-lt-QUIET-clause-back c =
     let t = c.args.table.now in
     let p = c.args.self.now in
-    let g = whole (in_layer p.known.layers c.args.layer p.graph) in
+    let g = in_layer p.known.layers c.args.layer p.graph in
     let none : c.args.i - c.args.i ≡ 0 = omega arith in
     subst (λ (n : ℕ). AllLeadBack t g (take n (drop c.args.i c.args.piece.now))) (sym none) (none_back t g)
 
@@ -39,4 +38,4 @@ returns-clause-stands c =
 
 pub returns-clause-back : goal.returns-clause-back
 returns-clause-back c =
-    subst (λ g. AllLeadBack c.args.table.now (whole g) (take (c.pass_over.result - c.args.i) (drop c.args.i c.args.piece.now))) c.name.ensures.graph c.pass_over.ensures.back
+    subst (λ g. AllLeadBack c.args.table.now g (take (c.pass_over.result - c.args.i) (drop c.args.i c.args.piece.now))) c.name.ensures.graph c.pass_over.ensures.back

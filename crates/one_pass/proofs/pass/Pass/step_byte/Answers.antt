@@ -1,4 +1,4 @@
-use Rattle.std.proofs.Common.{arith, refl}
+use Rattle.std.proofs.Common.{arith}
 use Rattle.one_pass.proofs.PlaceLaws.{block_at}
 use Rattle.one_pass.proofs.Sources.{stepped_all, stepped_given, stepped_gives_up, stepped_more, stepped_none}
 use Rattle.one_pass.proofs.pass.Pass.step_byte.Goals as goal
@@ -15,9 +15,9 @@ returns-in-Err-clause-given_up g c =
 
 pub loop-k-preserved : goal.loop-k-preserved
 loop-k-preserved g c =
-    stepped_more c.requires.goes_on c.loop-k.invariant (omega arith) c.set_at-set.ensures refl c.in_default.ensures.turned c.is_graph.ensures.targets.distinct
+    stepped_more c.requires.goes_on c.loop-k.invariant (omega arith) c.set_at-set.ensures c.in_default.ensures.turned c.is_graph.ensures.targets
 
 pub returns-clause-read : goal.returns-clause-read
 returns-clause-read g c =
-    stepped_all c.requires.goes_on c.loop-k.invariant (omega arith) c.next_layer.new.self c.next_layer.ensures.sources c.next_layer.ensures.cells c.next_layer.ensures.stepped c.next_layer.ensures.targets
+    stepped_all c.requires.goes_on c.loop-k.invariant (omega arith) c.next_layer.new.self c.next_layer.ensures.sources c.next_layer.ensures.cells c.next_layer.ensures.stepped c.next_layer.ensures.next
     _ (omega arith) (λ x e b h k w. let same = block_at c.args.self.now.at e.marks b w in omega (arith, same))

@@ -1,7 +1,7 @@
-use Rattle.one_pass.specs.Places.{byte_at}
+use Rattle.automaton_reading.specs.Reading.{byte_read}
 use Rattle.one_pass.proofs.Sources.{IsSteppedTo}
 use Rattle.one_pass.proofs.pass.Pass.step_byte.Given as goal
 
 -- the first k sources have been stepped
 abbrev pub invariant-loop-k : goal.invariant-loop-k
-invariant-loop-k g l = IsSteppedTo (byte_at l.fn.self.at l.byte) l.fn.table l.fn.self l.fn.steps l.k l.table l.self l.steps
+invariant-loop-k g l = IsSteppedTo (byte_read l.byte) l.fn.table l.fn.self l.fn.steps l.k l.table l.self l.steps

@@ -1,7 +1,6 @@
 use Rattle.std.proofs.Common.{◌≤◌, ℕ, List, length, take, arith, subst, ap, ◌∙◌}
 use Rattle.std.proofs.lemmas.List.{length-take-le}
 use Rattle.one_pass.specs.Passes.{AllLeadBack}
-use Rattle.one_pass.specs.Seen.{whole}
 use Rattle.one_pass.proofs.WaitLaws.{front_of}
 use Rattle.one_pass.proofs.waiting.Ahead.passed.Goals as goal
 
@@ -12,4 +11,4 @@ returns-clause-back c =
     let over = c.passed_by-over.result in
     let front = ap (take over) c.split_at.ensures.front in
     let few : over ≤ w = omega (arith, c.passed_by-over.ensures.within, ap length c.split_at.ensures.front, length-take-le w bytes (omega (arith, c.min.ensures))) in
-    subst (λ (d : List ℕ). AllLeadBack c.args.table.now (whole c.args.graph.now) d) (front ∙ front_of over w bytes few) c.passed_by-over.ensures.back
+    subst (λ (d : List ℕ). AllLeadBack c.args.table.now c.args.graph.now d) (front ∙ front_of over w bytes few) c.passed_by-over.ensures.back

@@ -15,21 +15,21 @@ returns-then-before-sets-clause-cells c =
     let sets : List ℕ = c.args.sets.now in
     let left : Layer = c.truncate.new.self.items in
     let long : length sets ≡ length left = sym (ap length c.truncate.ensures.items ∙ take_length c.args.self.now.sources.items (length sets) c.requires) in
-    ap (named sets) c.write_names.ensures ∙ (named_again sets sets left long ∙ (ap (named sets) c.truncate.ensures.items ∙ named_take sets c.args.self.now.sources.items))
+    ap (named sets) c.write_names.ensures.names ∙ (named_again sets sets left long ∙ (ap (named sets) c.truncate.ensures.items ∙ named_take sets c.args.self.now.sources.items))
 
 pub returns-then-before-sets-clause-every : goal.returns-then-before-sets-clause-every
 returns-then-before-sets-clause-every c =
     let sets : List ℕ = c.args.sets.now in
     let left : Layer = c.truncate.new.self.items in
     let long : length sets ≡ length left = sym (ap length c.truncate.ensures.items ∙ take_length c.args.self.now.sources.items (length sets) c.requires) in
-    long ∙ sym (ap length c.write_names.ensures ∙ named_length sets left long)
+    long ∙ sym (ap length c.write_names.ensures.names ∙ named_length sets left long)
 
 pub returns-then-before-sets-clause-names : goal.returns-then-before-sets-clause-names
 returns-then-before-sets-clause-names c =
     let sets : List ℕ = c.args.sets.now in
     let left : Layer = c.truncate.new.self.items in
     let long : length sets ≡ length left = sym (ap length c.truncate.ensures.items ∙ take_length c.args.self.now.sources.items (length sets) c.requires) in
-    inl (ap (λ (l : Layer). sets_of l) c.write_names.ensures ∙ named_sets sets left long)
+    inl (ap (λ (l : Layer). sets_of l) c.write_names.ensures.names ∙ named_sets sets left long)
 
 pub returns-else-before-sets-clause-cells : goal.returns-else-before-sets-clause-cells
 returns-else-before-sets-clause-cells c = ap (named c.args.sets.now) c.truncate.ensures.items ∙ named_take c.args.sets.now c.args.self.now.sources.items

@@ -1,6 +1,5 @@
-use Rattle.std.proofs.Common.{◌≡◌, ◌+◌, ◌*◌, ◌≤◌, take, length, sym, ap, ◌∙◌, subst, arith, inl}
+use Rattle.std.proofs.Common.{◌≡◌, ◌+◌, ◌*◌, ◌≤◌, length, sym, ap, ◌∙◌, subst, arith, inl}
 use Rattle.std.specs.Prelude.{IfErr, OnOk}
-use Rattle.std.proofs.lemmas.Nat.{mul-le}
 use Rattle.std.proofs.lemmas.Result.{IfErr-weaker}
 use Rattle.marked_automaton.specs.Automaton.{size}
 use Rattle.spanner_model.specs.Expression.{ExprTree, join_all, minus, project, union_all}
@@ -14,12 +13,12 @@ use Rattle.query_automaton.specs.QueryAutomaton.{of_lets}
 use Rattle.query_automaton.proofs.Combined.{two_parts}
 use Rattle.query_automaton.proofs.Combining.{Union, Join}
 use Rattle.query_automaton.proofs.CompileLaws.{SoFar, combine, part_can, so_far_all, so_far_first, so_far_next}
-use Rattle.query_automaton.proofs.HeldLaws.{cause_first, cause_inside, cause_minus, cause_project, cause_up, cause_left, cause_next, cause_right, compiled_size, so_far_size}
+use Rattle.query_automaton.proofs.HeldLaws.{cause_first, cause_inside, cause_minus, cause_project, cause_up, cause_left, cause_next, cause_right, compiled_size, so_far_size, takes_minus}
 use Rattle.query_automaton.specs.Held.{ArePartsWithin}
-use Rattle.query_automaton.specs.Steps.{HasNoMinus, operations, steps_of}
-use Rattle.query_automaton.proofs.StepLaws.{made_cost, operations_first, step_more}
+use Rattle.query_automaton.specs.Steps.{minus_steps, steps_of, steps_within}
+use Rattle.query_automaton.proofs.StepLaws.{made_cost, step_more, steps_first}
 use Rattle.query_automaton.proofs.StepQueries.{first_cost, first_spent, first_takes, next_takes, two_fault}
-use Rattle.query_automaton.proofs.MinusLaws.{asked_right, differed, minus_too_large, names_agree}
+use Rattle.query_automaton.proofs.MinusLaws.{asked_right, differed, minus_too_large, minus_within, names_agree}
 use Rattle.spanner_model.proofs.Nodes.{expr_nodes}
 use Rattle.query_automaton.proofs.PieceLaws.{kept_there, projected}
 use Rattle.query_automaton.proofs.expressions.Compiler.+compiling.Goals as goal
@@ -75,7 +74,7 @@ expression-returns-in_err-inner-in-Project-clause-fault t c =
     (cause_inside (of_lets q.lets (length b.lets)) b.held E names (expr_of c.deref.result.now) fault c.in_err-inner-in-Project.ensures.fault))
 
 pub expression-returns-in_ok-named-in-Named-clause-steps : goal.expression-returns-in_ok-named-in-Named-clause-steps
-expression-returns-in_ok-named-in-Named-clause-steps t c = λ most plain within. omega arith
+expression-returns-in_ok-named-in-Named-clause-steps t c = λ most within. omega arith
 
 pub expression-returns-in_ok-projected-in-Project-clause-steps : goal.expression-returns-in_ok-projected-in-Project-clause-steps
 expression-returns-in_ok-projected-in-Project-clause-steps t c =
@@ -87,9 +86,9 @@ expression-returns-in_ok-projected-in-Project-clause-steps t c =
     let g = expr_of c.deref.result.now in
     let p = c.in_ok-projected-in-Project in
     subst (λ (w : ExprTree). TakesIn b w c.args.effort.now c.projected.new.effort) (sym e)
-    (λ most plain within.
+    (λ most within.
     let inside : ArePartsWithin (of_lets q.lets (length b.lets)) g most = λ n h. within n (inl h) in
-    step_more c.args.effort.now c.expression.new.effort c.projected.new.effort (operations g) 1 (1 + operations g) (steps_of most) (inner.ensures.steps most plain inside)
+    step_more c.args.effort.now c.expression.new.effort c.projected.new.effort (steps_within most g) (steps_of most) (steps_of most + steps_within most g) (inner.ensures.steps most inside)
     (omega (arith, p.ensures.steps, made_cost (size inner.inner.graph) most (compiled_size q (length b.lets) g inner.inner inner.ensures.made p.ensures.marked most inside))) (omega arith))
 
 pub expression-returns-in_err-projected-in-Project-clause-fault : goal.expression-returns-in_err-projected-in-Project-clause-fault
@@ -137,7 +136,8 @@ expression-returns-in_err-second-in-Minus-clause-fault t c =
     let part = subst (λ (d : BegunQuery). HasCauseBeside d first c.expression-in-Minus.new.effort g fault) c.in_ok-first-in-Minus.ensures.same c.in_err-second-in-Minus.ensures.fault in
     handed_on (HasCauseIn b E (expr_of c.args.expr.now)) c.from_residual-in_err-second-in-Minus.result fault c.from_residual-in_err-second-in-Minus.ensures.1
     (subst (λ (w : ExprTree). HasCauseIn b E w fault) (sym e)
-    (cause_right L b.held E c.expression-in-Minus.new.effort f g first fault (compiled_size q (length b.lets) f first c.in_ok-first-in-Minus.ensures.made c.in_err-second-in-Minus.ensures.marked) part))
+    (cause_right L b.held E c.expression-in-Minus.new.effort f g first fault (compiled_size q (length b.lets) f first c.in_ok-first-in-Minus.ensures.made c.in_err-second-in-Minus.ensures.marked)
+    c.in_ok-first-in-Minus.ensures.steps part))
 
 pub expression-differing-requires : goal.expression-differing-requires
 expression-differing-requires t c =
@@ -189,10 +189,12 @@ expression-returns-in_err-differing-in-Minus-clause-fault t c =
     let made = subst (λ (d : BegunQuery). IsCompiledIn d g c.in_ok-second-in-Minus.second) c.in_ok-first-in-Minus.ensures.same c.in_ok-second-in-Minus.ensures.made in
     let right = subst (IsCompiledIn b g) (sym c.as_automaton-in-Minus.ensures) made in
     let fault = c.in_err-differing-in-Minus.field-0.0 in
+    let second = subst (λ (d : BegunQuery). TakesIn d g c.expression-in-Minus.new.effort c.beside.new.effort) c.in_ok-first-in-Minus.ensures.same c.in_ok-second-in-Minus.ensures.steps in
     handed_on (HasCauseIn b E (expr_of c.args.expr.now)) c.from_residual-in_err-differing-in-Minus.result fault c.from_residual-in_err-differing-in-Minus.ensures.1
     (subst (λ (w : ExprTree). HasCauseIn b E w fault) (sym e)
-    (cause_minus (of_lets q.lets (length b.lets)) _ b.held E f g (minus_too_large q b.lets can.known f g can.asked a p left right c.in_err-differing-in-Minus.ensures.marked) fault
-    c.in_err-differing-in-Minus.ensures.fault))
+    (cause_minus (of_lets q.lets (length b.lets)) _ b.held E c.expression-in-Minus.new.effort c.beside.new.effort (minus_steps a p) f g c.in_ok-first-in-Minus.ensures.steps second
+    (minus_within q b.lets can.known f g can.asked a p left right c.in_err-differing-in-Minus.ensures.marked)
+    (minus_too_large q b.lets can.known f g can.asked a p left right c.in_err-differing-in-Minus.ensures.marked) fault c.in_err-differing-in-Minus.ensures.fault))
 
 pub expression-returns-in_err-first-in-Minus-clause-fault : goal.expression-returns-in_err-first-in-Minus-clause-fault
 expression-returns-in_err-first-in-Minus-clause-fault t c =
@@ -208,9 +210,23 @@ expression-returns-in_err-first-in-Minus-clause-fault t c =
     (subst (λ (w : ExprTree). HasCauseIn b E w fault) (sym e) (cause_left L b.held E f g fault c.in_err-first-in-Minus.ensures.fault))
 
 pub expression-returns-in_ok-differing-in-Minus-clause-steps : goal.expression-returns-in_ok-differing-in-Minus-clause-steps
-expression-returns-in_ok-differing-in-Minus-clause-steps t c = λ most plain within.
-    let e = ap expr_of c.in-Minus.is ∙ expr_of-Minus c.in-Minus.left c.in-Minus.right in
-    absurd (subst HasNoMinus e plain)
+expression-returns-in_ok-differing-in-Minus-clause-steps t c =
+    let b = c.args.self.now in
+    let q = query_of b.query in
+    let f = expr_of c.deref-in-Minus.result.now in
+    let g = expr_of c.deref-in-Minus-2.result.now in
+    let e : expr_of c.args.expr.now ≡ minus f g =
+    ap expr_of c.in-Minus.is ∙ (expr_of-Minus c.in-Minus.left c.in-Minus.right ∙ (λ i. minus (expr_of (sym c.deref-in-Minus.ensures i)) (expr_of (sym c.deref-in-Minus-2.ensures i)))) in
+    let can = subst (CanCompile b) e c.requires in
+    let a = c.as_automaton.result.now in
+    let p = c.as_automaton-in-Minus.result.now in
+    let left = subst (IsCompiledIn b f) (sym c.as_automaton.ensures) c.in_ok-first-in-Minus.ensures.made in
+    let made = subst (λ (d : BegunQuery). IsCompiledIn d g c.in_ok-second-in-Minus.second) c.in_ok-first-in-Minus.ensures.same c.in_ok-second-in-Minus.ensures.made in
+    let right = subst (IsCompiledIn b g) (sym c.as_automaton-in-Minus.ensures) made in
+    let second = subst (λ (d : BegunQuery). TakesIn d g c.expression-in-Minus.new.effort c.beside.new.effort) c.in_ok-first-in-Minus.ensures.same c.in_ok-second-in-Minus.ensures.steps in
+    subst (λ (w : ExprTree). TakesIn b w c.args.effort.now c.differing.new.effort) (sym e)
+    (takes_minus (of_lets q.lets (length b.lets)) c.args.effort.now c.expression-in-Minus.new.effort c.beside.new.effort c.differing.new.effort (minus_steps a p) f g
+    c.in_ok-first-in-Minus.ensures.steps second (minus_within q b.lets can.known f g can.asked a p left right c.in_ok-differing-in-Minus.ensures.marked) c.in_ok-differing-in-Minus.ensures.steps)
 
 -- ---- an atom, a union or a join as it is met
 
@@ -258,7 +274,7 @@ beside-returns-clause-fault t c =
     let made : IfErr c.expression-made.result (HasCauseIn (at b) E e) =
     subst (λ (d : BegunQuery). IfErr c.expression-made.result (HasCauseIn (at d) E e)) c.self.view_is c.expression-made.ensures.fault in
     IfErr-weaker c.expression-made.result (HasCauseIn (at b) E e) (HasCauseBeside b w E e)
-    (λ fault h. cause_up (of_lets (query_of b.query).lets (length b.lets)) (b.held + size w.graph) more E E e e fault (λ n p. p) (λ most within. omega (arith, held)) (λ most plain within. (plain, λ le. le)) h) made
+    (λ fault h. cause_up (of_lets (query_of b.query).lets (length b.lets)) (b.held + size w.graph) more E E e e fault (λ n p. p) (λ most within. omega (arith, held)) (λ most within le. le) h) made
 
 pub beside-returns-clause-steps : goal.beside-returns-clause-steps
 beside-returns-clause-steps t c =
@@ -379,13 +395,7 @@ union-returns-clause-made t c =
     so_far_all q b.lets c.requires.known Union es c.loop-k.all c.loop-k.k (omega (arith, two)) c.loop-k.invariant.so_far
 
 pub union-returns-clause-steps : goal.union-returns-clause-steps
-union-returns-clause-steps t c = λ most plain within.
-    let es = exprs_of c.args.parts.now in
-    omega (
-      arith,
-      c.loop-k.invariant.steps most plain within,
-      mul-le (operations (union_all (take c.loop-k.k es))) (steps_of most) (operations (union_all es)) (steps_of most) (operations_first Union c.loop-k.k es) (omega arith),
-    )
+union-returns-clause-steps t c = λ most within. omega (arith, c.loop-k.invariant.steps most within, steps_first most Union c.loop-k.k (exprs_of c.args.parts.now))
 
 -- ---- a join
 
@@ -489,10 +499,4 @@ join-returns-clause-made t c =
     so_far_all q b.lets c.requires.known Join es c.loop-k.all c.loop-k.k (omega (arith, two)) c.loop-k.invariant.so_far
 
 pub join-returns-clause-steps : goal.join-returns-clause-steps
-join-returns-clause-steps t c = λ most plain within.
-    let es = exprs_of c.args.parts.now in
-    omega (
-      arith,
-      c.loop-k.invariant.steps most plain within,
-      mul-le (operations (join_all (take c.loop-k.k es))) (steps_of most) (operations (join_all es)) (steps_of most) (operations_first Join c.loop-k.k es) (omega arith),
-    )
+join-returns-clause-steps t c = λ most within. omega (arith, c.loop-k.invariant.steps most within, steps_first most Join c.loop-k.k (exprs_of c.args.parts.now))

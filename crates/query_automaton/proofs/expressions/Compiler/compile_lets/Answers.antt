@@ -1,7 +1,5 @@
-use Rattle.std.proofs.Common.{◌≡◌, ◌+◌, ◌≤◌, List, [], ◌∷◌, ◌++◌, Some, rules, length, take, length-append, sym, ap, ◌∙◌, subst, arith}
+use Rattle.std.proofs.Common.{◌≡◌, ◌+◌, ◌≤◌, List, [], ◌∷◌, ◌++◌, Some, rules, length, length-append, sym, ap, ◌∙◌, subst, arith}
 use Rattle.std.specs.Prelude.{slice_get}
-use Rattle.std.proofs.lemmas.Nat.{mul-le}
-use Rattle.query_automaton.specs.Steps.{operations_of_lets, steps_of}
 use Rattle.spanner_model.specs.Captures.{VarName}
 use Rattle.spanner_model.specs.declared.query.Query.{Query}
 use Rattle.spanner_model.specs.Expression.{ExprTree}
@@ -23,7 +21,7 @@ loop-k-init c =
       query = search rules;
       long = omega (arith, ap length c.requires.none);
       held = λ most within. omega (arith, c.requires.nothing);
-      steps = λ most plain within. omega (arith, c.requires.all);
+      steps = λ most within. omega (arith, c.requires.all);
       made = subst (λ (ls : List Marked). AreCompiled q ls) (sym c.requires.none) (none_compiled q);
     }
 
@@ -86,10 +84,4 @@ loop-k-preserved c =
     }
 
 pub returns-clause-steps : goal.returns-clause-steps
-returns-clause-steps c = λ most plain within.
-    let lets = (query_of c.args.self.now.query).lets in
-    omega (
-      arith,
-      c.loop-k.invariant.steps most plain within,
-      mul-le (operations_of_lets (take c.loop-k.k lets)) (steps_of most) (operations_of_lets lets) (steps_of most) (lets_first c.loop-k.k lets) (omega arith),
-    )
+returns-clause-steps c = λ most within. omega (arith, c.loop-k.invariant.steps most within, lets_first most c.loop-k.k (query_of c.args.self.now.query).lets)
