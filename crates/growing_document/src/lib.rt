@@ -11,3 +11,4 @@ pub use growing::Growing;
 mod fault;
 mod growing;
 pub mod laws;
+mod reading;
