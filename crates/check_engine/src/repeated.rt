@@ -2,10 +2,9 @@
 ghost use Rattle.std.specs.Prelude.{◌≡◌, ◌^◌, ◌<◌, ◌≤◌, length};
 
 use crate::fault::Fault;
-use one_pass::Pass;
+use one_pass::Reading;
 use query_automaton::compile;
 use query_parser::read_query;
-use set_table::Table;
 use span_core::Steps;
 use std::alloc::Global;
 use std::marker::Brand;
@@ -65,23 +64,11 @@ fn kept_of<L: Ledger>(alloc: Global, blank: Blank, query: &[u8], line: &[u8]) ->
     for _ in 0..LINES {
         document.extend_from_slice(line)?;
     }
-    let mut table = Table::new(alloc, compiled.automaton(), LIMIT, &mut steps)?;
-    kept_in(alloc, &mut table, &document, &mut steps)
-}
-
-/// What is kept of layers where a document is read by a table.
-fn kept_in<L: Ledger>(
-    alloc: Global,
-    table: &mut Table<'_>,
-    document: &[u8],
-    steps: &mut Steps<L>,
-) -> Result<Kept, Fault>
-    requires few { length document.now < 2 ^ 32 }
-{
-    let mut pass = Pass::begin(alloc, WORDS, table, steps)?;
-    pass.read(table, document, steps)?;
+    let reading = Reading::begin(alloc, compiled.automaton(), LIMIT, WORDS, &mut steps)?;
+    let reading = reading.read(&document, &mut steps)?;
+    let known = reading.known();
     Ok(Kept {
-        programs: pass.known().programs(),
-        anew: pass.known().anew(),
+        programs: known.programs(),
+        anew: known.anew(),
     })
 }

@@ -4,10 +4,10 @@ pub mod Asked
 pub mod Beginning
 pub mod Causes
 pub mod Coming
-pub mod Ending
 pub mod Insides
 pub mod Lengths
 pub mod Parts
+pub mod Resumed
 pub mod Totals
 pub mod WordsRead
 pub mod Wholes

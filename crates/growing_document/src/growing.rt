@@ -1,4 +1,4 @@
-//! Documents, and what is held of reading them.
+//! Documents, and what is held of reading them: the reading is laid down between two calls, so that it stands beside its automaton.
 //!
 //! The methods hand their fields on to functions, so that what is held may be taken out and put back while the automaton is lent.
 ghost use Rattle.std.specs.Prelude.{◌≡◌, ℕ, ◌+◌, ◌*◌, ◌^◌, ◌<◌, ◌≤◌, [], true, false, length, IfOk, IfErr, IsErrOf, OnOk, OnErr};
@@ -11,9 +11,9 @@ ghost use Rattle.growing_document.specs.Numbers.{end_look_ups};
 
 use crate::GrowFault;
 use crate::fault::grown_fault;
-use crate::reading::{Ended, Reading, begin, end_copy, read_on};
 use enumerator::Enumerator;
 use marked_automaton::Automaton;
+use one_pass::{Laid, Reading};
 use span_core::Steps;
 use std::alloc::Global;
 use std::marker::Model;
@@ -22,6 +22,10 @@ use std::sync::ledger::Ledger;
 
 /// How many bytes a document may have.
 const MOST_BYTES: u64 = 268_435_456;
+
+/// How many words of four bytes are kept of whole layers, about. Many documents may grow at once, so it is far less than one document
+/// that is read at once may keep.
+const KNOWN_WORDS: usize = 65_536;
 
 /// A document that grows at its end, read as far as it goes.
 ///
@@ -33,7 +37,7 @@ pub struct Growing {
     automaton: Automaton,
     limit: u64,
     document: Vec<u8>,
-    reading: Option<Reading>,
+    reading: Option<Laid>,
 }
 
 impl Model for Growing {
@@ -64,16 +68,19 @@ impl Growing {
         ensures steps { OnOk result (steps.new ≡ steps.old + 2) }
         ensures fault { IfErr result (IsWeightFault automaton.graph limit [] []) }
     {
-        match begin(alloc, &automaton, limit, steps) {
-            Ok(reading) => Ok(Growing {
-                alloc,
-                automaton,
-                limit,
-                document: Vec::new(alloc),
-                reading: Some(reading),
-            }),
-            Err(fault) => Err(grown_fault(fault)),
-        }
+        let begun = match Reading::begin(alloc, &automaton, limit, KNOWN_WORDS, steps) {
+            Ok(begun) => begun,
+            Err(fault) => return Err(grown_fault(fault)),
+        };
+        let reading = begun.lay_down();
+        let document = Vec::new(alloc);
+        Ok(Growing {
+            alloc,
+            automaton,
+            limit,
+            document,
+            reading: Some(reading),
+        })
     }
 
     /// Puts a piece behind the document, and reads it. `Spent` comes exactly where an append was refused before by `Full` or
@@ -145,7 +152,7 @@ fn append_to<L: Ledger>(
     automaton: &Automaton,
     limit: u64,
     document: &mut Vec<u8>,
-    reading: &mut Option<Reading>,
+    reading: &mut Option<Laid>,
     piece: &[u8],
     steps: &mut Steps<L>,
 ) -> Result<(), GrowFault>
@@ -169,10 +176,12 @@ fn append_to<L: Ledger>(
     let Some(before) = mem::replace(reading, None) else {
         return Err(GrowFault::Spent);
     };
-    let after = match read_on(automaton, before, piece, steps) {
-        Ok(after) => after,
+    let old = before.take_up(automaton);
+    let new = match old.read(piece, steps) {
+        Ok(new) => new,
         Err(fault) => return Err(grown_fault(fault)),
     };
+    let after = new.lay_down();
     if let Err(_full) = document.extend_from_slice(piece) {
         return Err(GrowFault::OutOfMemory);
     }
@@ -181,7 +190,7 @@ fn append_to<L: Ledger>(
 }
 
 /// How many cells are live.
-fn live_of(automaton: &Automaton, limit: u64, document: &Vec<u8>, reading: &Option<Reading>) -> u64
+fn live_of(automaton: &Automaton, limit: u64, document: &Vec<u8>, reading: &Option<Laid>) -> u64
     requires { IsInside automaton.now limit document.now.items reading.now }
     ensures value { result ≡ (seen automaton.now limit document.now.items reading.now).live }
     ensures grown { IsGrown (seen automaton.now limit document.now.items reading.now) }
@@ -189,7 +198,7 @@ fn live_of(automaton: &Automaton, limit: u64, document: &Vec<u8>, reading: &Opti
     automaton.is_marked();
     let _seen = (limit, document.len());
     match reading {
-        Some(reading) => reading.pass.graph().live(),
+        Some(reading) => reading.live(),
         None => 0,
     }
 }
@@ -200,7 +209,7 @@ fn rows_of<L: Ledger>(
     automaton: &Automaton,
     limit: u64,
     document: &Vec<u8>,
-    reading: &mut Option<Reading>,
+    reading: &mut Option<Laid>,
     steps: &mut Steps<L>,
 ) -> Result<Enumerator, GrowFault>
     requires { IsInside automaton.now limit document.now.items reading.old }
@@ -214,16 +223,15 @@ fn rows_of<L: Ledger>(
     ensures fault { IfErr result (IsRowsFault (seen automaton.now limit document.now.items reading.old)) }
 {
     automaton.is_marked();
-    let _seen = limit;
+    let _seen = (limit, document.len());
     let Some(before) = mem::replace(reading, None) else {
         return Err(GrowFault::Spent);
     };
-    let Ended {
-        reading: after,
-        lists: ended,
-    } = end_copy(alloc, automaton, before, document.len() as u32, steps);
+    let mut going = before.take_up(automaton);
+    let listed = going.rows_so_far(alloc, steps);
+    let after = going.lay_down();
     *reading = Some(after);
-    match ended {
+    match listed {
         Ok(lists) => Ok(Enumerator::new(lists, automaton.vars().len())),
         Err(fault) => Err(grown_fault(fault)),
     }

@@ -11,4 +11,3 @@ pub use growing::Growing;
 mod fault;
 mod growing;
 pub mod laws;
-mod reading;

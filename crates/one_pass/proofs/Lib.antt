@@ -4,6 +4,7 @@ pub mod Due
 pub mod BackLaws
 pub mod ClassLaws
 pub mod Composing
+pub mod CopyLaws
 pub mod Ending
 pub mod EntryLaws
 pub mod Faulting
@@ -19,6 +20,7 @@ pub mod PartLaws
 pub mod Parting
 pub mod PlaceLaws
 pub mod ReadLaws
+pub mod ReadingLaws
 pub mod ReadWords
 pub mod Running
 pub mod Sets

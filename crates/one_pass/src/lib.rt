@@ -7,10 +7,11 @@
 #![tactic(auto)]
 
 pub use known::{Known, MOST_WORDS};
-pub use listing::{Listed, read_rows, read_rows_with};
-pub use pass::Pass;
+pub use known_table::{KeptTable, KnownTable, Listed};
+pub use listing::read_rows;
 pub use pieces::{advance, finish};
 pub use reading::read;
+pub use readings::{Laid, Reading};
 
 mod bytes;
 mod classes;
@@ -18,6 +19,7 @@ mod entries;
 mod inside;
 mod known;
 mod known_steps;
+mod known_table;
 pub mod laws;
 mod listing;
 mod parts;
@@ -25,6 +27,7 @@ mod pass;
 mod pieces;
 mod places;
 mod reading;
+mod readings;
 mod regions;
 mod search;
 mod waiting;

@@ -26,7 +26,7 @@ use std::sync::ledger::Ledger;
 /// The forward pass: the graph with its layer, what is known of whole layers, what is searched for, and where it stands. It
 /// goes with one table, and may be kept between the pieces of a document that come.
 #[derive(Drop)]
-pub struct Pass {
+pub(crate) struct Pass {
     pub(crate) graph: OutputGraph,
     pub(crate) known: Known,
     pub(crate) search: Search,
@@ -36,7 +36,7 @@ pub struct Pass {
 impl Pass {
     /// Stands before the first byte, with a table's first set. Of whole layers about so many words of four bytes may be
     /// kept. It takes 1 step.
-    pub fn begin<L: Ledger>(
+    pub(crate) fn begin<L: Ledger>(
         alloc: Global,
         words: usize,
         table: &Table<'_>,
@@ -75,20 +75,6 @@ impl Pass {
         })
     }
 
-    /// The graph as it stands.
-    pub fn graph(&self) -> &OutputGraph
-        ensures { result.now ≡ self.now.graph }
-    {
-        &self.graph
-    }
-
-    /// What is known of whole layers.
-    pub fn known(&self) -> &Known
-        ensures { result.now ≡ self.now.known }
-    {
-        &self.known
-    }
-
     /// Reads a piece of the document, which stands where the pass does, at each of its positions. After a refusal the pass is
     /// of no more use, and the table keeps what it holds.
     ///
@@ -96,7 +82,7 @@ impl Pass {
     /// read and r look-ups that the table makes first, or refuses, it takes at most g - g' + 3(l - l') + 6e + r * size
     /// steps. `TableFault::Full` comes only where what the table holds and what reading the piece asks for weigh more
     /// than its limit.
-    pub fn read<L: Ledger>(
+    pub(crate) fn read<L: Ledger>(
         &mut self,
         table: &mut Table<'_>,
         piece: &[u8],
@@ -196,7 +182,7 @@ impl Pass {
     }
 
     /// Skips the positions before `to`, by one step to the idle members, if there are any. The refusals are those of `read`.
-    pub fn skip<L: Ledger>(
+    pub(crate) fn skip<L: Ledger>(
         &mut self,
         table: &mut Table<'_>,
         to: u32,

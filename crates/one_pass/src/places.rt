@@ -79,7 +79,7 @@ impl Pass {
     /// Ends each source of the layer at the end of the document, which is where the pass stands. No set but that of the ends
     /// is reached, so that the graph may be turned. It takes at most g - g' + 3l + 3e + r * size steps, as told at `read`; so
     /// are the refusals.
-    pub fn end<L: Ledger>(
+    pub(crate) fn end<L: Ledger>(
         self,
         table: &mut Table<'_>,
         steps: &mut Steps<L>,

@@ -1,24 +1,20 @@
 -- What is kept from document to document.
 use Rattle.std.proofs.Common.{◌≡◌, ℕ, ◌+◌, ◌≤◌, Bool, List, Option, None, Some, ap, arith, subst, sym, ◌∙◌}
 use Rattle.std.specs.Option.{IfSome}
-use Rattle.set_table.specs.Laid.{IsStateOf, taken_up}
-use Rattle.set_table.specs.Tabled.{Tabled, fresh}
-use Rattle.set_table.specs.declared.state.TableState.{TableState}
-use Rattle.one_pass.specs.Known.{Knows}
-use Rattle.one_pass.specs.declared.known.Known.{Known}
 use Rattle.marked_automaton.specs.Automaton.{Automaton}
 use Rattle.one_pass.specs.Builds.{build}
-use Rattle.spanner_engine.specs.Caching.{IsCacheOf, IsKeptOf, rebuild}
+use Rattle.one_pass.specs.Readings.{IsKeptOf}
+use Rattle.spanner_engine.specs.Caching.{IsCacheOf, rebuild}
 use Rattle.spanner_engine.specs.declared.cache.Cache.{Cache}
-use Rattle.spanner_engine.specs.declared.cache.KeptTable.{KeptTable}
+use Rattle.one_pass.specs.declared.known_table.KeptTable.{KeptTable}
 
 -- a cache that keeps nothing goes with each automaton
 pub empty_goes : (A : Automaton) (cache : Cache) → cache.kept ≡ None → IsCacheOf A cache
-empty_goes A cache is = subst (λ (k : Option KeptTable). IfSome k (λ kept. IsKeptOf A kept.limit kept)) (sym is) tt
+empty_goes A cache is = subst (λ (k : Option KeptTable). IfSome k (IsKeptOf A)) (sym is) tt
 
 -- what is taken out is of the automaton
-pub kept_of : (A : Automaton) (cache : Cache) (kept : KeptTable) → IsCacheOf A cache → cache.kept ≡ Some kept → IsKeptOf A kept.limit kept
-kept_of A cache kept goes is = subst (λ (k : Option KeptTable). IfSome k (λ kept. IsKeptOf A kept.limit kept)) is goes
+pub kept_of : (A : Automaton) (cache : Cache) (kept : KeptTable) → IsCacheOf A cache → cache.kept ≡ Some kept → IsKeptOf A kept
+kept_of A cache kept goes is = subst (λ (k : Option KeptTable). IfSome k (IsKeptOf A)) is goes
 
 -- and what it may cost is one more reading
 pub rebuilt : (o : Option KeptTable) (kept : KeptTable) (A : Automaton) (d : List ℕ) (K : ℕ → Bool) → o ≡ Some kept → rebuild o A d K ≡ build A d K
@@ -29,12 +25,3 @@ pub alone : (o : Option KeptTable) (A : Automaton) (d : List ℕ) (K : ℕ → B
 alone o A d K old new s is le =
     let none : rebuild o A d K ≡ 0 = ap (λ (k : Option KeptTable). rebuild k A d K) is in
     omega (arith, le, none)
-
--- a new table, of whose layers nothing is known, may be kept
-pub new_kept : (A : Automaton) (limit : ℕ) (t : Tabled) (state : TableState) (known : Known) → t ≡ fresh A limit → IsStateOf t.graph state → taken_up t.graph state ≡ t → ((u : Tabled) → Knows u known) →
-    IsKeptOf A limit (record { state = state; limit = limit; known = known })
-new_kept A limit t state known is of same all = record {
-  state = subst (λ (G : Automaton). IsStateOf G state) (ap (λ (u : Tabled). u.graph) is) of;
-  limit_is = ap (λ (u : Tabled). u.limit) (subst (λ (G : Automaton). taken_up G state ≡ t) (ap (λ (u : Tabled). u.graph) is) same ∙ is);
-  known = all (taken_up A state);
-}

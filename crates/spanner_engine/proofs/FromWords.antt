@@ -20,7 +20,7 @@ use Rattle.one_pass.specs.Places.{AreReadWords}
 use Rattle.one_pass.specs.Words.{Word}
 use Rattle.spanner_engine.specs.Begun.{counted}
 use Rattle.spanner_engine.specs.Caching.{rebuild}
-use Rattle.spanner_engine.specs.declared.cache.KeptTable.{KeptTable}
+use Rattle.one_pass.specs.declared.known_table.KeptTable.{KeptTable}
 use Rattle.spanner_engine.specs.Laws.{CostsNoMore, ReadsAnswers}
 use Rattle.spanner_engine.proofs.Costs.{reduct_costs}
 use Rattle.spanner_engine.proofs.RowLaws.{rows_are_answers, words_are_of_rows}

@@ -17,7 +17,7 @@ use Rattle.one_pass.specs.Places.{is_touched}
 use Rattle.one_pass.specs.Weights.{WeighsWithin}
 use Rattle.one_pass.proofs.LawProofs.{touched_covers, covers_touched}
 use Rattle.spanner_engine.specs.Caching.{rebuild}
-use Rattle.spanner_engine.specs.declared.cache.KeptTable.{KeptTable}
+use Rattle.one_pass.specs.declared.known_table.KeptTable.{KeptTable}
 use Rattle.spanner_engine.specs.Begun.{AreRead, IsReadAt, IsReadWithin, begin_steps, cells_sought, counted, filter_steps, table_weight}
 
 -- ---- sets

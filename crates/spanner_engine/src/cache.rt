@@ -11,17 +11,14 @@ ghost use Rattle.automaton_reading.specs.Reading.{edges_K};
 ghost use Rattle.output_graph.specs.Rows.{rows};
 ghost use Rattle.one_pass.specs.Builds.{IsNew, build};
 ghost use Rattle.one_pass.specs.Faults.{IsReadFault};
-ghost use Rattle.one_pass.specs.Known.{Knows};
 ghost use Rattle.one_pass.specs.Places.{AreReadWords, is_touched};
 ghost use Rattle.one_pass.specs.Weights.{WeighsWithin};
-ghost use Rattle.set_table.specs.Laid.{taken_up};
-ghost use Rattle.set_table.specs.Tabled.{IsRefusal, fresh};
-ghost use Rattle.spanner_engine.specs.Caching.{IsCacheOf, IsKeptOf, rebuild};
+ghost use Rattle.spanner_engine.specs.Caching.{IsCacheOf, rebuild};
 
 use marked_automaton::Automaton;
-use one_pass::{Known, Listed, MOST_WORDS, read_rows_with};
+use one_pass::{KeptTable, KnownTable, Listed};
 use output_graph::RowLists;
-use set_table::{Table, TableFault, TableState};
+use set_table::TableFault;
 use span_core::{Steps, Touched};
 use std::alloc::Global;
 use std::mem;
@@ -37,14 +34,6 @@ pub struct Cache {
     alloc: Global,
     most: u64,
     kept: Option<KeptTable>,
-}
-
-/// A table that is laid down, its limit, and what is known of its layers.
-#[derive(Drop)]
-pub(crate) struct KeptTable {
-    state: TableState,
-    limit: u64,
-    known: Known,
 }
 
 impl Cache {
@@ -81,27 +70,20 @@ impl Cache {
         let Some(kept) = mem::replace(&mut self.kept, None) else {
             return None;
         };
-        if kept.limit != limit {
+        if kept.limit() != limit {
             return None;
         }
         Some(kept)
     }
 
-    /// Keeps a table and what is known of its layers, if it is light enough and there is room for more.
-    fn keep(&mut self, table: Table<'_>, limit: u64, known: Known)
-        requires limit { table.limit ≡ limit }
-        requires known { Knows table known }
+    /// Keeps a table with what is known of its layers, if it is light enough and there is room for more.
+    fn keep(&mut self, table: KnownTable<'_>)
         requires empty { self.old.kept ≡ None }
         ensures { IsCacheOf table.entry.graph self.new }
     {
-        if table.weight() > self.most || !known.has_room() {
-            return;
+        if table.may_grow(self.most) {
+            self.kept = Some(table.lay_down());
         }
-        self.kept = Some(KeptTable {
-            state: table.lay_down(),
-            limit,
-            known,
-        });
     }
 }
 
@@ -130,7 +112,8 @@ pub(crate) fn lists_over<L: Ledger>(
     let Some(kept) = cache.take(limit) else {
         return lists_anew(cache, automaton, doc, positions, limit, steps);
     };
-    if let Ok(lists) = lists_by(cache, automaton, kept, doc, positions, steps) {
+    let table = KnownTable::take_up(automaton, kept);
+    if let Ok(lists) = lists_by(cache, table, doc, positions, steps) {
         return Ok(lists);
     }
     lists_anew(cache, automaton, doc, positions, limit, steps)
@@ -156,72 +139,37 @@ fn lists_anew<L: Ledger>(
     ensures cause { IfErr result (IsReadFault automaton.now.graph (is_touched positions.now) doc.now limit) }
     ensures steps { steps.new ≤ steps.old + build automaton.now.graph doc.now (is_touched positions.now) }
 {
-    let kept = match new_table(cache.alloc, automaton, limit, steps) {
-        Ok(kept) => kept,
-        Err(fault) => return Err(fault),
-    };
-    lists_by(cache, automaton, kept, doc, positions, steps)
-}
-
-/// A new table, of whose layers nothing is known. 1 step.
-fn new_table<L: Ledger>(
-    alloc: Global,
-    automaton: &Automaton,
-    limit: u64,
-    steps: &mut Steps<L>,
-) -> Result<KeptTable, TableFault>
-    requires limit { limit ≤ 100000000 }
-    ensures kept { IfOk result (λ kept. IsKeptOf automaton.now.graph limit kept × (kept.limit ≡ limit)) }
-    ensures new { IfOk result (λ kept. taken_up automaton.now.graph kept.state ≡ fresh automaton.now.graph limit) }
-    ensures refused { IfErr result (IsRefusal (fresh automaton.now.graph limit)) }
-    ensures steps { steps.new ≡ steps.old + 1 }
-{
-    let table = match Table::new(alloc, automaton, limit, steps) {
+    let table = match KnownTable::new(cache.alloc, automaton, limit, steps) {
         Ok(table) => table,
         Err(fault) => return Err(fault),
     };
-    let state = table.lay_down();
-    let known = Known::new(alloc, MOST_WORDS);
-    Ok(KeptTable {
-        state,
-        limit,
-        known,
-    })
+    lists_by(cache, table, doc, positions, steps)
 }
 
 /// The same by this table, which is kept with what is known then. If it is refused, nothing is kept.
 fn lists_by<L: Ledger>(
     cache: &mut Cache,
-    automaton: &Automaton,
-    kept: KeptTable,
+    table: KnownTable<'_>,
     doc: &[u8],
     positions: &Touched,
     steps: &mut Steps<L>,
 ) -> Result<RowLists, TableFault>
     requires empty { cache.old.kept ≡ None }
-    requires kept { IsKeptOf automaton.now.graph kept.limit kept }
     requires few { length doc.now ≤ 2 ^ 28 }
     requires within { (q : ℕ) → Covers positions.now q → q ≤ length doc.now }
-    ensures cache { OnOk result (IsCacheOf automaton.now.graph cache.new) }
+    ensures cache { OnOk result (IsCacheOf table.entry.graph cache.new) }
     ensures empty { OnErr result (cache.new.kept ≡ None) }
-    ensures words { IfOk result (λ lists. AreReadWords automaton.now.graph (is_touched positions.now) doc.now (rows lists.store lists.first)) }
-    ensures cells { IfOk result (λ lists. length lists.store ≤ edges_K automaton.now.graph doc.now (is_touched positions.now) + 1) }
-    ensures weighs { OnOk result (WeighsWithin automaton.now.graph doc.now (is_touched positions.now) kept.limit) }
-    ensures cause { IfErr result (λ e. IsNew automaton.now.graph (taken_up automaton.now.graph kept.state) →
-        IsReadFault automaton.now.graph (is_touched positions.now) doc.now kept.limit e) }
-    ensures steps { steps.new + 1 ≤ steps.old + build automaton.now.graph doc.now (is_touched positions.now) }
+    ensures words { IfOk result (λ lists. AreReadWords table.entry.graph (is_touched positions.now) doc.now (rows lists.store lists.first)) }
+    ensures cells { IfOk result (λ lists. length lists.store ≤ edges_K table.entry.graph doc.now (is_touched positions.now) + 1) }
+    ensures weighs { OnOk result (WeighsWithin table.entry.graph doc.now (is_touched positions.now) table.entry.limit) }
+    ensures cause { IfErr result (λ e. IsNew table.entry.graph table.entry → IsReadFault table.entry.graph (is_touched positions.now) doc.now table.entry.limit e) }
+    ensures steps { steps.new + 1 ≤ steps.old + build table.entry.graph doc.now (is_touched positions.now) }
 {
-    let KeptTable {
-        state,
-        limit,
-        known,
-    } = kept;
-    let mut table = Table::take_up(automaton, state);
-    let listed = match read_rows_with(cache.alloc, &mut table, known, doc, positions, steps) {
+    let listed = match table.list(cache.alloc, doc, positions, steps) {
         Ok(listed) => listed,
         Err(fault) => return Err(fault),
     };
-    let Listed { lists, known } = listed;
-    cache.keep(table, limit, known);
+    let Listed { lists, table } = listed;
+    cache.keep(table);
     Ok(lists)
 }

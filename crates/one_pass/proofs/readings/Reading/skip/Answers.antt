@@ -1,0 +1,6 @@
+use Rattle.one_pass.specs.Places.{gap_at}
+use Rattle.one_pass.proofs.ReadingLaws.{refused_here}
+use Rattle.one_pass.proofs.readings.Reading.skip.Goals as goal
+
+pub returns-in-Err-clause-refused : goal.returns-in-Err-clause-refused
+returns-in-Err-clause-refused g c = refused_here (λ at. gap_at at c.args.to) c.self.view_is c.in-Err.ensures.given_up

@@ -1,0 +1,204 @@
+//! A reading of a document as one value: a table, and the pass that goes on with it.
+//!
+//! A caller keeps it between the pieces that come; laid down, it stands beside its automaton.
+ghost use Rattle.std.specs.Prelude.{◌≡◌, ℕ, ◌+◌, ◌^◌, ◌<◌, ◌≤◌, length, IfErr, IfOk, OnOk};
+ghost use Rattle.set_table.specs.Tabled.{IsRefusal, fresh};
+ghost use Rattle.one_pass.specs.Passes.{IsReady, pass};
+ghost use Rattle.one_pass.specs.Places.{bytes_at, gap_at};
+ghost use Rattle.one_pass.specs.Readings.{AreEnded, HasBegun, HasEndedCopy, HasListed, HasReadOn, IsEndFault, IsLaidOf, IsRefused, come_to, resumed};
+
+use crate::known::Known;
+use crate::pass::Pass;
+use crate::pieces::finish;
+use marked_automaton::Automaton;
+use output_graph::{OutputGraph, RowLists};
+use set_table::{Table, TableFault, TableState};
+use span_core::{OutOfMemory, Steps};
+use std::alloc::Global;
+use std::marker::Model;
+use std::sync::ledger::Ledger;
+
+/// A reading of a document: the table, the graph with its layer, what is known of whole layers, and where it stands, as an offset
+/// in bytes.
+///
+/// It is seen as its table, its graph and its position. After a refusal it is of no more use, so what may be refused takes it and
+/// gives it back.
+#[derive(Drop)]
+pub struct Reading<'a> {
+    table: Table<'a>,
+    pass: Pass,
+}
+
+impl<'a> Model for Reading<'a> {
+    ghost use Rattle.one_pass.specs.SoFar.{SoFar, so_far_code};
+
+    ghost Value = { SoFar };
+
+    ghost coded = { so_far_code };
+
+    ghost use Rattle.one_pass.specs.Going.{GoesOn};
+    ghost use Rattle.one_pass.specs.Readings.{so_far};
+
+    ghost view = { λ r. so_far r.table r.pass };
+
+    ghost invariant = { λ r. GoesOn r.table r.pass };
+}
+
+/// A reading that is laid down, without its automaton: `Reading::lay_down` gives it, and `Laid::take_up` goes on with it.
+#[derive(Drop)]
+pub struct Laid {
+    pub(crate) state: TableState,
+    pub(crate) pass: Pass,
+}
+
+impl<'a> Reading<'a> {
+    /// Stands before the first byte, with a new table. Of whole layers about so many words of four bytes may be kept. 2 steps.
+    ///
+    /// `TableFault::Full` comes exactly where the set of the start states weighs more than the limit, and tells its weight.
+    pub fn begin<L: Ledger>(
+        alloc: Global,
+        automaton: &'a Automaton,
+        limit: u64,
+        words: usize,
+        steps: &mut Steps<L>,
+    ) -> Result<Reading<'a>, TableFault>
+        requires limit { limit ≤ 100000000 }
+        ensures begun { IfOk result (λ r. HasBegun automaton.now.graph limit (steps.old + 1) r steps.new) }
+        ensures steps { OnOk result (steps.new ≡ steps.old + 2) }
+        ensures refused { IfErr result (IsRefusal (fresh automaton.now.graph limit)) }
+    {
+        let table = match Table::new(alloc, automaton, limit, steps) {
+            Ok(table) => table,
+            Err(fault) => return Err(fault),
+        };
+        match Pass::begin(alloc, words, &table, steps) {
+            Ok(pass) => Ok(Reading { table, pass }),
+            Err(OutOfMemory) => Err(TableFault::OutOfMemory),
+        }
+    }
+
+    /// Reads a piece of the document, which stands where the reading does, at each of its positions.
+    ///
+    /// With g live cells and l sets in the layer before, g' and l' after (0 where it is refused), e edges that are
+    /// read and r look-ups that the table makes first, or refuses, it takes at most g - g' + 3(l - l') + 6e + r * size
+    /// steps. `TableFault::Full` comes only where what the table holds and what reading the piece asks for weigh more
+    /// than its limit.
+    pub fn read<L: Ledger>(
+        self,
+        piece: &[u8],
+        steps: &mut Steps<L>,
+    ) -> Result<Reading<'a>, TableFault>
+        requires few { self.at + length piece.now < 2 ^ 32 }
+        ensures read { IfOk result (λ r. HasReadOn (bytes_at self.entry.at piece.now) self.entry steps.old r steps.new) }
+        ensures at { IfOk result (λ r. r.at ≡ self.entry.at + length piece.now) }
+        ensures refused { IfErr result (IsRefused (bytes_at self.entry.at piece.now) self.entry steps.old steps.new) }
+    {
+        let Reading {
+            mut table,
+            mut pass,
+        } = self;
+        if let Err(fault) = pass.read(&mut table, piece, steps) {
+            return Err(fault);
+        }
+        Ok(Reading { table, pass })
+    }
+
+    /// Skips the positions before `to`, by one step to the idle members of each set, if there are any. The refusals are those of
+    /// `read`.
+    pub fn skip<L: Ledger>(self, to: u32, steps: &mut Steps<L>) -> Result<Reading<'a>, TableFault>
+        requires later { self.at ≤ to }
+        ensures read { IfOk result (λ r. HasReadOn (gap_at self.entry.at to) self.entry steps.old r steps.new) }
+        ensures at { IfOk result (λ r. r.at ≡ to) }
+        ensures refused { IfErr result (IsRefused (gap_at self.entry.at to) self.entry steps.old steps.new) }
+    {
+        let Reading {
+            mut table,
+            mut pass,
+        } = self;
+        if let Err(fault) = pass.skip(&mut table, to, steps) {
+            return Err(fault);
+        }
+        Ok(Reading { table, pass })
+    }
+
+    /// The lists of the rows of the document as far as it was read, from a copy of the graph that is ended where the reading
+    /// stands, and turned. It goes on as it was, but for the end look-ups that the table holds then.
+    ///
+    /// `TableFault::Full` comes only where what the table holds and the end look-ups of the layer weigh more than its limit.
+    pub fn rows_so_far<L: Ledger>(
+        &mut self,
+        alloc: Global,
+        steps: &mut Steps<L>,
+    ) -> Result<RowLists, TableFault>
+        requires few { self.old.at ≤ 2 ^ 28 }
+        ensures listed { HasListed self.old steps.old self.new steps.new }
+        ensures lists { IfOk result (AreEnded self.old.table.graph self.old.at (come_to self.old steps.old)) }
+        ensures cause { IfErr result (IsEndFault (come_to self.old steps.old)) }
+    {
+        let at = self.pass.at;
+        lists_of(alloc, &mut self.table, &self.pass.graph, at, steps)
+    }
+
+    /// What is known of whole layers.
+    pub fn known(&self) -> &Known {
+        &self.pass.known
+    }
+
+    /// Lays the reading down, so that its automaton is free. It takes no memory.
+    pub fn lay_down(self) -> Laid
+        ensures laid { IsLaidOf self.entry.table.graph result }
+        ensures same { resumed self.entry.table.graph result ≡ self.entry }
+    {
+        let Reading { table, pass } = self;
+        Laid {
+            state: table.lay_down(),
+            pass,
+        }
+    }
+}
+
+impl Laid {
+    /// The reading that was laid down, as it was; its automaton was equal to this one. It takes no memory.
+    pub fn take_up<'a>(self, automaton: &'a Automaton) -> Reading<'a>
+        requires { IsLaidOf automaton.now.graph self }
+        ensures { result ≡ resumed automaton.now.graph self }
+    {
+        let Laid { state, pass } = self;
+        Reading {
+            table: Table::take_up(automaton, state),
+            pass,
+        }
+    }
+
+    /// How many cells are live.
+    pub fn live(&self) -> u64
+        ensures { result ≡ length self.now.pass.graph.cells }
+    {
+        self.pass.graph.live()
+    }
+}
+
+/// The lists of a copy of the graph, ended at `at` and turned.
+fn lists_of<L: Ledger>(
+    alloc: Global,
+    table: &mut Table<'_>,
+    graph: &OutputGraph,
+    at: u32,
+    steps: &mut Steps<L>,
+) -> Result<RowLists, TableFault>
+    requires ready { IsReady table.old graph.now at }
+    requires few { at ≤ 2 ^ 28 }
+    ensures ended { HasEndedCopy table.old.graph (pass table.old graph.now steps.old) (pass table.new graph.now steps.new) }
+    ensures lists { IfOk result (AreEnded table.old.graph at (pass table.old graph.now steps.old)) }
+    ensures cause { IfErr result (IsEndFault (pass table.old graph.now steps.old)) }
+{
+    let copy = match graph.copy(alloc, steps) {
+        Ok(copy) => copy,
+        Err(OutOfMemory) => return Err(TableFault::OutOfMemory),
+    };
+    let ended = match finish(alloc, table, copy, at, steps) {
+        Ok(ended) => ended,
+        Err(fault) => return Err(fault),
+    };
+    Ok(ended.turn(steps))
+}
